@@ -1,0 +1,137 @@
+//! Items: what one peer sends to another as a whole (fi_msg(3), fi_tagged(3), fi_rma(3), fi_atomic(3)).
+use crate::buffers::Buf;
+
+/// What an item is: a message, a request to the target's memory, or the reply to either.
+#[derive(Clone, Copy, Debug, Drop, Eq, PartialEq)]
+pub enum Kind {
+    /// An untagged message, fi_msg(3).
+    Msg,
+    /// A tagged message, fi_tagged(3).
+    TagMsg,
+    /// A remote write, fi_rma(3).
+    WriteReq,
+    /// A remote read, fi_rma(3).
+    ReadReq,
+    /// An atomic operation, fi_atomic(3).
+    AtomicReq,
+    /// The answer to a request, or to a message that asked for one.
+    Reply,
+}
+
+/// When the target owes a reply to a message: never, when it is delivered, or when a receive took it
+/// (FI_DELIVERY_COMPLETE, FI_MATCH_COMPLETE of fi_cq(3)).
+#[derive(Clone, Copy, Debug, Drop, Eq, PartialEq)]
+pub enum Ack {
+    Nothing,
+    Delivery,
+    Match,
+}
+
+/// What became of a request at its target.
+#[derive(Clone, Copy, Debug, Drop, Eq, PartialEq)]
+pub enum Outcome {
+    Done,
+    BadKey,
+    BadAccess,
+    BadRange,
+}
+
+/// The operation of an atomic, fi_atomic(3).
+#[derive(Clone, Copy, Debug, Drop, Eq, PartialEq)]
+pub enum AtomicOp {
+    Min,
+    Max,
+    Sum,
+    Prod,
+    Lor,
+    Land,
+    Lxor,
+    Bor,
+    Band,
+    Bxor,
+    AtomicRead,
+    AtomicWrite,
+    Cswap,
+    CswapNe,
+    CswapLe,
+    CswapLt,
+    CswapGe,
+    CswapGt,
+    Mswap,
+}
+
+/// The type of an element: an integer of 8 to 64 bits, signed or not.
+#[derive(Clone, Copy, Debug, Drop, Eq, PartialEq)]
+pub enum Num {
+    I8,
+    I16,
+    I32,
+    I64,
+    U8,
+    U16,
+    U32,
+    U64,
+}
+
+/// The form of an atomic: without a result, with the old elements as its result, or comparing first.
+#[derive(Clone, Copy, Debug, Drop, Eq, PartialEq)]
+pub enum Form {
+    Base,
+    Fetch,
+    Compare,
+}
+
+/// The atomic that a request asks for.
+#[derive(Clone, Copy, Debug, Drop, Eq, PartialEq)]
+pub struct Atom {
+    pub op: AtomicOp,
+    pub num: Num,
+    pub form: Form,
+}
+
+/// All of an item but its bytes. A field that a kind does not use is 0, `None`, `Nothing` or `Done`.
+#[derive(Clone, Copy, Debug, Drop, Eq, PartialEq)]
+pub struct ItemHead {
+    pub kind: Kind,
+    /// The number of the initiator's operation, from 0, below 2^62. A reply has that of the
+    /// operation that it answers.
+    pub op: u64,
+    pub tag: u64,
+    /// The remote data (FI_REMOTE_CQ_DATA).
+    pub imm: Option<u64>,
+    pub ack: Ack,
+    /// The region's key.
+    pub key: u64,
+    /// The offset from the region's start, in bytes.
+    pub at: u64,
+    /// How many bytes a read asks for, or an atomic reaches.
+    pub count: u32,
+    pub atom: Option<Atom>,
+    pub outcome: Outcome,
+    /// How many bytes the item has.
+    pub total: u32,
+}
+
+/// An item with its bytes. Those of an atomic are the operand followed by the compare.
+#[derive(Debug, Drop)]
+pub struct Item {
+    pub head: ItemHead,
+    pub bytes: Buf,
+}
+
+/// The rights that a region gives to other peers (FI_REMOTE_READ, FI_REMOTE_WRITE of fi_mr(3)).
+#[derive(Clone, Copy, Debug, Drop, Eq, PartialEq)]
+pub struct Access {
+    pub remote_read: bool,
+    pub remote_write: bool,
+}
+
+/// What a receive asks of a message (fi_tagged(3)): tagged or untagged, the tag in every bit where
+/// `ignore` is 0, and the peer that it comes from, where one is named.
+#[derive(Clone, Copy, Debug, Drop, Eq, PartialEq)]
+pub struct Want {
+    pub tagged: bool,
+    pub tag: u64,
+    pub ignore: u64,
+    pub source: Option<u32>,
+}

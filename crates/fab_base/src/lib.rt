@@ -1,0 +1,32 @@
+//! The plain types of fabric: what calls, scripts and definitions speak of.
+//!
+//! Nothing here has behaviour beyond holding a value. Contracts see a [`Buf`] and a [`Text`] as
+//! their bytes, a [`List`] as the list of its members, a [`Caps`] as sixteen truth values, and every
+//! other type as the record of its fields. A number is a natural number in contracts, with no wrap.
+//! The crates above add the meaning: `fab_model` the definitions, the others the code.
+//!
+//! A type stands in the file of its subject: buffers, faults, capabilities, items and frames, what
+//! an endpoint keeps of its operations, completions, peers, and the lines of a script.
+#![tactic(auto)]
+
+mod buffers;
+mod caps;
+mod entries;
+mod faults;
+mod frames;
+mod items;
+mod operations;
+mod peers;
+mod script;
+mod status;
+
+pub use buffers::{Buf, List, Text};
+pub use caps::{Cap, Caps, Hints, Info};
+pub use entries::{Class, Entry, ErrEntry, ErrKind, Kept, PeekHow, Taken};
+pub use faults::{Busy, Fault, NoMemory, Refused};
+pub use frames::{Frame, FrameHead, FrameRef};
+pub use items::{Access, Ack, Atom, AtomicOp, Form, Item, ItemHead, Kind, Num, Outcome, Want};
+pub use operations::{Arrival, Coming, Operation, Receive, Tally, Written};
+pub use peers::{Flags, Gate, Level, LineResult, Step};
+pub use script::{Bound, BytesWord, Conf, Line, LineOp, Payload, Script};
+pub use status::{Status, Why};
