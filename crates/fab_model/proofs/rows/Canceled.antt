@@ -1,0 +1,24 @@
+-- The final cancel.
+use Rattle.std.specs.Prelude.{List, [], ◌∷◌, ℕ, Some, None, true, false, codes, refl}
+use Rattle.fab_base.specs.declared.entries.Class.{Class}
+use Rattle.fab_base.specs.declared.items.AtomicOp.{AtomicOp}
+use Rattle.fab_base.specs.declared.items.Num.{Num}
+use Rattle.fab_base.specs.declared.peers.Level.{Level}
+use Rattle.fab_base.specs.declared.script.Bound.{Bound}
+use Rattle.fab_base.specs.declared.script.BytesWord.TheVariants.{Text, Hex, Zero}
+use Rattle.fab_base.specs.declared.script.LineOp.{LineOp}
+use Rattle.fab_model.specs.Machine.{machine}
+use Rattle.fab_model.proofs.Scripts.{script_of, line, Shows}
+
+pub script : Bound
+script = script_of (
+    (line 4 (LineOp.TRecv 1 None 0 0 4) ∷ [])
+    ∷ []
+    )
+
+pub text : List ℕ
+text = codes "fabric 1 peers 1\npeer 0\n4 trecv ok\nleft 1 error FI_ECANCELED\ntrace D X R\nend done\n"
+
+pub row : Shows script text
+unfolding script text machine
+row = record { report_is = refl; lawful = refl; rest = refl }

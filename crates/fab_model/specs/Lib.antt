@@ -1,0 +1,15 @@
+pub mod Matching
+pub mod State
+pub mod Complete
+pub mod Receiving
+pub mod Sending
+pub mod Target
+pub mod Calls
+pub mod Arrivals
+pub mod Orders
+pub mod Views
+pub mod Peers
+pub mod Replay
+pub mod Words
+pub mod Report
+pub mod Machine

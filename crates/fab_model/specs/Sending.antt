@@ -1,0 +1,243 @@
+-- What a peer transmits (fi_msg(3), fi_tagged(3), fi_rma(3), fi_atomic(3)): the transmit calls, the transmission of an item, the end of an operation.
+--     Order      a transmit call
+--     transmit_fault s o, transmit s o      why the call is refused; the state after it is Ok
+--     do_sent s t      the oldest item for t that is not transmitted is transmitted
+--     do_answer s source head bytes      a reply is whole
+use Rattle.std.specs.Prelude.{ℕ, ◌+◌, ◌%◌, Bool, true, false, not, ◌&&◌, ◌||◌, ◌==◌, nat_lt, nat_le, List, [], ◌∷◌, ◌++◌, length, Option, Some, None, slice_set, slice_index, is_none, find, unwrap_or, cond}
+use Rattle.fab_base.specs.declared.items.Kind.{Kind}
+use Rattle.fab_base.specs.declared.items.Kind.TheVariants.{Msg, TagMsg, WriteReq, ReadReq, AtomicReq, Reply}
+use Rattle.fab_base.specs.declared.items.Ack.{Ack}
+use Rattle.fab_base.specs.declared.items.Ack.TheVariants.{Nothing, Delivery, Match}
+use Rattle.fab_base.specs.declared.items.Outcome.{Outcome}
+use Rattle.fab_base.specs.declared.items.Outcome.TheVariants.{Done, BadKey, BadAccess, BadRange}
+use Rattle.fab_base.specs.declared.items.Atom.{Atom}
+use Rattle.fab_base.specs.declared.items.Form.TheVariants.{Base, Fetch, Compare}
+use Rattle.fab_base.specs.declared.items.AtomicOp.TheVariants.{AtomicRead}
+use Rattle.fab_base.specs.declared.items.ItemHead.{ItemHead}
+use Rattle.fab_base.specs.declared.caps.Caps.{Caps}
+use Rattle.fab_base.specs.declared.peers.Level.{Level}
+use Rattle.fab_base.specs.declared.faults.Fault.{Fault}
+use Rattle.fab_base.specs.declared.faults.Fault.TheVariants.{Again, NotSupported, MsgSize, Invalid}
+use Rattle.fab_base.specs.declared.faults.Busy.TheVariants.{TxFull}
+use Rattle.fab_base.specs.declared.entries.Taken.TheVariants.{Success}
+use Rattle.fab_base.specs.declared.entries.Entry.{Entry}
+use Rattle.fab_base.specs.declared.entries.Entry.TheVariants.{Sent, Wrote, Updated, Fetched}
+use Rattle.fab_base.specs.declared.entries.ErrKind.{ErrKind}
+use Rattle.fab_base.specs.declared.entries.ErrKind.TheVariants.{NoKey, Access, Range}
+use Rattle.fab_base.specs.declared.entries.Class.{Class}
+use Rattle.fab_base.specs.declared.entries.Class.TheVariants.{Send}
+use Rattle.fab_model.specs.Matching.{is_message, is_tagged, remove_first}
+use Rattle.fab_base.specs.Elements.{element_size, is_of_form}
+use Rattle.fab_base.specs.declared.items.Item.{Item}
+use Rattle.fab_base.specs.declared.operations.Operation.{Operation}
+use Rattle.fab_model.specs.State.{State, Transmitting, accepted_for, awaits, in_use, lookup, raise, with_tx, write, count}
+use Rattle.fab_model.specs.Complete.{error}
+
+-- a transmit call. `injected` says that it is one of the inject calls, and `length compared` of its bytes are compares
+pub record Order : Type 0 where
+  pub kind : Kind
+  pub injected : Bool
+  pub dest : ℕ
+  pub tag : ℕ
+  pub imm : Option ℕ
+  pub key : ℕ
+  pub at : ℕ
+  pub count : ℕ
+  pub atom : Option Atom
+  pub bytes : List ℕ
+  pub compared : List ℕ
+  pub ctx : Option ℕ
+  pub level : Level
+  pub completion : Bool
+  pub buf : Option (List ℕ)
+
+-- the fault of the first test that holds
+abbrev pub first_fault : List (Bool × Fault) → Option Fault
+first_fault [] = None
+first_fault (x ∷ xs) = cond x.0 (Some x.1) (first_fault xs)
+
+-- the capabilities that an atomic needs besides Atomic
+abbrev pub atom_is_granted : Caps → Option Atom → Bool
+atom_is_granted caps None = false
+atom_is_granted caps (Some atom) = elim atom.form [
+  | Base ↦ caps.write
+  | Fetch ↦ elim atom.op [ AtomicRead ↦ caps.read | _ ↦ caps.read && caps.write ]
+  | Compare ↦ caps.read && caps.write
+]
+
+abbrev pub is_granted : Caps → Kind → Option Atom → Bool
+is_granted caps Msg atom = caps.msg && caps.send
+is_granted caps TagMsg atom = caps.tagged && caps.send
+is_granted caps ReadReq atom = caps.rma && caps.read
+is_granted caps WriteReq atom = caps.rma && caps.write
+is_granted caps AtomicReq atom = caps.atomic && atom_is_granted caps atom
+is_granted caps Reply atom = false
+
+-- the most bytes of a call, its operand, compare and buffer included
+abbrev pub most_bytes : Kind → Bool → ℕ
+most_bytes AtomicReq injected = 4_096
+most_bytes kind true = 4_096
+most_bytes kind false = 16_777_216
+
+abbrev pub is_too_long : Order → Bool
+is_too_long o = let most = most_bytes o.kind o.injected in nat_lt most (length o.bytes + length o.compared) || nat_lt most o.count
+
+-- at and all lengths are multiples of the element's size and agree, and the operation belongs to the form
+abbrev pub is_well_formed : Order → Option Atom → Bool
+is_well_formed o None = true
+is_well_formed o (Some atom) =
+    let size = element_size atom.num in
+    (o.at % size == 0) && (o.count % size == 0) && is_of_form atom.op atom.form
+    && (length o.bytes == elim atom.op [ AtomicRead ↦ 0 | _ ↦ o.count ])
+    && (length o.compared == elim atom.form [ Base ↦ 0 | Fetch ↦ 0 | Compare ↦ o.count ])
+
+-- the refusals in their order
+unfoldable pub transmit_fault : State → Order → Option Fault
+transmit_fault s o = first_fault (
+    (not (is_granted s.caps o.kind o.atom), NotSupported)
+    ∷ (is_too_long o, MsgSize)
+    ∷ (is_none (lookup s.av o.dest) || nat_le 4_611_686_018_427_387_904 s.tx.ops || not (is_well_formed o o.atom), Invalid)
+    ∷ (nat_le s.most_tx (in_use s.tx), Again (TxFull s.most_tx))
+    ∷ []
+    )
+
+-- when the target owes a reply: messages ask for it by their level
+abbrev pub ack_of : Kind → Level → Ack
+ack_of kind level = elim (is_message kind) [
+  | true ↦ elim level [ Level.Inject ↦ Nothing | Level.Transmit ↦ Nothing | Level.Delivery ↦ Delivery | Level.Match ↦ Match ]
+  | false ↦ Nothing
+]
+
+abbrev pub head_of : ℕ → Order → ItemHead
+head_of op o = record {
+  kind = o.kind;
+  op = op;
+  tag = o.tag;
+  imm = o.imm;
+  ack = ack_of o.kind o.level;
+  key = o.key;
+  at = o.at;
+  count = o.count;
+  atom = o.atom;
+  outcome = Done;
+  total = length o.bytes + length o.compared;
+}
+
+-- no entry is written on success
+abbrev pub is_silent : State → Order → Bool
+is_silent s o = o.injected || (s.selective && not o.completion)
+
+abbrev pub item_of : ℕ → Order → Item
+item_of op o = record { head = head_of op o; bytes = o.bytes ++ o.compared }
+
+abbrev pub operation_of : State → Order → ℕ → Operation
+operation_of s o t = record {
+  call = s.calls;
+  dest = t;
+  place = length (accepted_for s.tx t);
+  head = head_of s.tx.ops o;
+  level = o.level;
+  ctx = o.ctx;
+  buf = o.buf;
+  silent = is_silent s o;
+}
+
+-- the item joins those accepted for t, and the operation those that have not ended
+unfoldable pub accepting : ℕ → Item → Operation → Transmitting → Transmitting
+accepting t item operation tx = record {
+  accepted = slice_set tx.accepted t (accepted_for tx t ++ item ∷ []);
+  sent = tx.sent;
+  live = tx.live ++ operation ∷ [];
+  ops = tx.ops + 1;
+}
+
+unfoldable pub transmit_to : ℕ → State → Order → State
+transmit_to t s o = record s { tx = accepting t (item_of s.tx.ops o) (operation_of s o t) s.tx; calls = s.calls + 1 }
+
+unfoldable pub transmit : State → Order → State
+transmit s o = elim (lookup s.av o.dest) [ None ↦ s | Some t ↦ transmit_to t s o ]
+
+-- a read, or a fetching or comparing atomic: its reply has bytes
+abbrev pub is_answered : ItemHead → Bool
+is_answered head = elim head.kind [
+  | ReadReq ↦ true
+  | AtomicReq ↦ elim head.atom [ None ↦ false | Some atom ↦ elim atom.form [ Base ↦ false | Fetch ↦ true | Compare ↦ true ] ]
+  | _ ↦ false
+]
+
+abbrev pub class_of : ItemHead → Class
+class_of head = elim (is_message head.kind) [
+  | true ↦ Send
+  | false ↦ elim (is_answered head) [ true ↦ Class.Read | false ↦ Class.Write ]
+]
+
+-- the success entry of an operation whose reply has these bytes
+unfoldable pub success_of : Operation → List ℕ → Entry
+success_of o bytes =
+    let ctx = unwrap_or o.ctx 0 in
+    let buf = unwrap_or o.buf [] in
+    elim o.head.kind [
+      | ReadReq ↦ Entry.Read ctx bytes
+      | WriteReq ↦ Wrote ctx buf
+      | AtomicReq ↦ elim (is_answered o.head) [ true ↦ Fetched ctx bytes | false ↦ Updated ctx ]
+      | _ ↦ Sent ctx (is_tagged o.head.kind) buf
+    ]
+
+abbrev pub refusal_of : Outcome → Option ErrKind
+refusal_of Done = None
+refusal_of BadKey = Some NoKey
+refusal_of BadAccess = Some Access
+refusal_of BadRange = Some Range
+
+-- what the end of an operation leaves: it counts, and its entry is written unless it is silent and succeeds
+unfoldable pub end_with : Outcome → List ℕ → Operation → State → State
+end_with outcome bytes o s = elim (refusal_of outcome) [
+  | Some kind ↦ write (Some o.call) (error o.ctx kind o.buf) (count (class_of o.head) false s)
+  | None ↦ elim o.silent [
+    | true ↦ count (class_of o.head) true s
+    | false ↦ write (Some o.call) (Success (success_of o bytes)) (count (class_of o.head) true s)
+  ]
+]
+
+-- the message completes when it is transmitted
+abbrev pub ends_at_sent : Operation → Bool
+ends_at_sent o = is_message o.head.kind && elim o.head.ack [ Nothing ↦ true | Delivery ↦ false | Match ↦ false ]
+
+abbrev pub is_of_item : ℕ → ℕ → Operation → Bool
+is_of_item t place o = (o.dest == t) && (o.place == place) && ends_at_sent o
+
+-- the operation that ends when the next item for t is transmitted
+abbrev pub ending : ℕ → Transmitting → Option Operation
+ending t tx = find (is_of_item t (slice_index tx.sent t)) tx.live
+
+-- one more item for t is transmitted, and the operation that ends then is not live any more
+unfoldable pub transmitting : ℕ → Transmitting → Transmitting
+transmitting t tx = record {
+  accepted = tx.accepted;
+  sent = raise tx.sent t;
+  live = remove_first (is_of_item t (slice_index tx.sent t)) tx.live;
+  ops = tx.ops;
+}
+
+unfoldable pub do_sent : State → ℕ → State
+do_sent s t = elim (ending t s.tx) [ None ↦ with_tx (transmitting t s.tx) s | Some o ↦ end_with Done [] o (with_tx (transmitting t s.tx) s) ]
+
+-- the length of the reply that the operation expects, and whether it expects the outcome
+unfoldable pub expects : Operation → Outcome → ℕ → Bool
+expects o Done len = len == cond (is_answered o.head) o.head.count 0
+expects o BadKey len = not (is_message o.head.kind) && (len == 0)
+expects o BadAccess len = not (is_message o.head.kind) && (len == 0)
+expects o BadRange len = not (is_message o.head.kind) && (len == 0)
+
+abbrev pub is_answered_by : Transmitting → ℕ → ItemHead → Operation → Bool
+is_answered_by tx source reply o = (o.dest == source) && (o.head.op == reply.op) && awaits tx o && expects o reply.outcome reply.total
+
+-- the operation that the reply answers is not live any more
+unfoldable pub answering : ℕ → ItemHead → Transmitting → Transmitting
+answering source reply tx = record tx { live = remove_first (is_answered_by tx source reply) tx.live }
+
+unfoldable pub do_answer : State → ℕ → ItemHead → List ℕ → State
+do_answer s source reply bytes = elim (find (is_answered_by s.tx source reply) s.tx.live) [
+  | None ↦ s
+  | Some o ↦ end_with reply.outcome bytes o (with_tx (answering source reply s.tx) s)
+]

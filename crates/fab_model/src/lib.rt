@@ -1,0 +1,2 @@
+//! The definitions of the matching machine, and the laws over them.
+#![tactic(auto)]
