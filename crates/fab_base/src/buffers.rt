@@ -1,5 +1,5 @@
 //! Owned bytes, owned texts and owned lists. Contracts see a `Buf` and a `Text` as their bytes, and a `List` as its members.
-ghost use Rattle.std.specs.Prelude.{◌≡◌, ◌+◌, ◌≤◌, ◌++◌, IfOk, []};
+ghost use Rattle.std.specs.Prelude.{◌≡◌, ◌+◌, ◌≤◌, ◌++◌, ◌∷◌, IfOk, OnErr, []};
 ghost use Rattle.std.specs.Prelude.{replicate, take, drop, length};
 
 use crate::faults::NoMemory;
@@ -195,6 +195,25 @@ impl<T> Model for List<T> {
 }
 
 impl<T> List<T> {
+    /// No members. Takes no memory.
+    pub fn empty(alloc: Global) -> List<T>
+        ensures { result ≡ [] }
+    {
+        List {
+            members: Vec::new(alloc),
+        }
+    }
+
+    /// Appends a member.
+    pub fn push(&mut self, member: T) -> Result<(), NoMemory>
+        where T: Drop
+        ensures ok { IfOk result (λ _. self.new ≡ self.old ++ member ∷ []) }
+        ensures err { OnErr result (self.new ≡ self.old) }
+    {
+        self.members.push(member)?;
+        Ok(())
+    }
+
     /// A list of these members. Takes no memory.
     pub fn from_vec(items: Vec<T>) -> List<T>
         ensures { result ≡ items.items }
