@@ -1,4 +1,7 @@
 //! Why a call is refused (fi_errno(3)).
+ghost use Rattle.std.specs.Prelude.{◌≡◌};
+ghost use Rattle.fab_base.specs.declared.faults.Fault.TheVariants.{NoMemory as LacksMemory};
+
 use crate::buffers::Buf;
 use std::alloc::{AllocError, AllocFailed};
 
@@ -54,6 +57,14 @@ pub enum Fault {
     NoEntry,
     /// The next completion is an error: FI_EAVAIL.
     Avail,
+}
+
+impl From<NoMemory> for Fault {
+    ghost from_gives = { λ _ fault. fault ≡ LacksMemory };
+
+    fn from(_error: NoMemory) -> Fault {
+        Fault::NoMemory
+    }
 }
 
 /// A refusal that hands the buffer back, equal to what came.

@@ -12,4 +12,5 @@ pub mod Peers
 pub mod Replay
 pub mod Words
 pub mod Report
+pub mod Laws
 pub mod Machine

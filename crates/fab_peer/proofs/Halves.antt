@@ -1,6 +1,9 @@
 -- What holds of the halves of an endpoint still holds after a change.
-use Rattle.std.proofs.Common.{◌≡◌, ◌<◌, ◌≤◌, ◌+◌, ℕ, List, [], length, get_or, set, Some, Option, None, inl, inr, refl, sym, ap, ◌∙◌, arith, length-set, get_or-set_other, get_or-set_same, subst}
-use Rattle.std.specs.Prelude.{IsSome, slice_get, slice_index}
+use Rattle.std.proofs.Common.{rules, Bool, true, false, cond, ◌∷◌, ◌≡◌, ◌<◌, ◌≤◌, ◌+◌, ℕ, List, [], length, get_or, set, Some, Option, None, inl, inr, refl, sym, ap, ◌∙◌, arith, length-set, get_or-set_other, get_or-set_same, subst}
+use Rattle.std.specs.Prelude.{IsSome, IfSome, find, slice_get, slice_index}
+use Rattle.fab_base.specs.declared.operations.Operation.{Operation}
+use Rattle.fab_model.specs.Matching.{is_message}
+use Rattle.fab_model.specs.Sending.{is_of_item}
 use Rattle.std.proofs.lemmas.Bool.{cases_eq}
 use Rattle.std.proofs.lemmas.Option.{slice_get_cases}
 use Rattle.fab_base.specs.declared.items.Item.{Item}
@@ -22,3 +25,19 @@ IsOutbox-send accepted sent d lt is waits = record {
     | inr other ↦ rw (get_or-set_other sent d k (slice_index sent d + 1) 0 (λ e. other e)) (is.within k)
   ];
 }
+
+-- an operation that ends with an item is that of a message
+message_step : (dest place : ℕ) (o : Operation) → is_of_item dest place o ≡ true → is_message o.head.kind ≡ true
+message_step dest place o e = grind (rules, e)
+
+found_message : (dest place : ℕ) (live : List Operation) → IfSome (find (is_of_item dest place) live) (λ o. is_message o.head.kind ≡ true)
+found_message dest place [] = tt
+found_message dest place (o ∷ live) = found_step dest place o live (is_of_item dest place o) refl (found_message dest place live)
+  where
+    found_step : (dest place : ℕ) (o : Operation) (live : List Operation) (b : Bool) → is_of_item dest place o ≡ b → IfSome (find (is_of_item dest place) live) (λ o. is_message o.head.kind ≡ true)
+        → IfSome (cond b (Some o) (find (is_of_item dest place) live)) (λ o. is_message o.head.kind ≡ true)
+    found_step dest place o live true e more = message_step dest place o e
+    found_step dest place o live false e more = more
+
+pub ends_message : (dest place : ℕ) (live : List Operation) (found : Option Operation) → found ≡ find (is_of_item dest place) live → IfSome found (λ o. is_message o.head.kind ≡ true)
+ends_message dest place live found e = rw e (found_message dest place live)

@@ -1,9 +1,8 @@
 //! The completion queue of an endpoint (fi_cq(3)): all entries that were written, those that were read first.
-ghost use Rattle.std.specs.Prelude.{◌≡◌, ◌-◌, ◌<◌, ◌≤◌, [], length, nat_lt, IfOk, OnErr, IfSome, IfNone, Some, None, Option, IsTrue};
+ghost use Rattle.std.specs.Prelude.{◌≡◌, ℕ, [], IfOk, OnErr, Option, IsTrue};
 ghost use Rattle.fab_base.specs.declared.entries.Taken.{Taken};
 ghost use Rattle.fab_model.specs.State.{writing, fits};
-ghost use Rattle.fab_model.specs.Peers.{unread};
-ghost use Rattle.fab_peer.specs.Endpoints.{has_room, taking_out, Reads};
+ghost use Rattle.fab_peer.specs.Endpoints.{has_room, Reads};
 
 use fab_base::{NoMemory, Taken, Written};
 use std::alloc::Global;
@@ -44,6 +43,7 @@ impl Queue {
     pub fn has_room(&self) -> bool
         ensures room { result ≡ has_room self.now }
         ensures fits { IsTrue (fits self.now) }
+        ensures next { (call : Option ℕ) (entry : Taken) → fits (writing call entry self.now) ≡ result }
     {
         self.written.len() - self.taken_out < self.size as usize
     }

@@ -2,10 +2,9 @@
 #![tactic(auto)]
 
 mod completions;
+mod endpoint;
 mod entries;
 mod receiving;
 mod transmitting;
 
-pub use completions::Queue;
-pub use receiving::Inbox;
-pub use transmitting::Outbox;
+pub use endpoint::Endpoint;

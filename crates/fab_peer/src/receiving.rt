@@ -1,10 +1,10 @@
 //! The receiving half of an endpoint: posted receives and unexpected messages (fi_msg(3), fi_tagged(3)).
-ghost use Rattle.std.specs.Prelude.{◌≡◌, ◌+◌, ◌<◌, ◌^◌, ℕ, [], ◌∷◌, ◌++◌, length, replicate, IfOk, OnErr, IfSome, None, find, position, is_some, slice_index, IsSome};
+ghost use Rattle.std.specs.Prelude.{◌≡◌, ◌+◌, ◌<◌, ◌^◌, ℕ, [], ◌∷◌, ◌++◌, length, replicate, IfOk, OnErr, IfSome, None, false, find, position, is_some, slice_index, IsSome};
 ghost use Rattle.fab_base.specs.declared.operations.Receive.{Receive};
 ghost use Rattle.fab_model.specs.Matching.{matches, takes, remove_first};
 ghost use Rattle.fab_model.specs.Arrivals.{is_wanted, taker};
-ghost use Rattle.fab_model.specs.Receiving.{without_first, joining_posted};
-ghost use Rattle.fab_peer.specs.Endpoints.{IsSingle, IsWhole, nothing_yet, took, kept_whole, counted};
+ghost use Rattle.fab_model.specs.Receiving.{draw_due, without_first, joining_posted};
+ghost use Rattle.fab_peer.specs.Endpoints.{IsQuiet, IsSingle, IsWhole, nothing_yet, took, kept_whole, counted};
 
 use fab_base::{Ack, Arrival, Buf, ItemHead, Kind, NoMemory, Receive, Want};
 use std::alloc::Global;
@@ -122,7 +122,9 @@ impl Inbox {
 
     /// Whether a posted receive matches the message.
     pub fn is_wanted(&self, source: u32, head: &ItemHead) -> bool
-        ensures { result ≡ is_some (taker source head.now self.now) }
+        ensures found { result ≡ is_some (taker source head.now self.now) }
+        ensures still { draw_due self.now ≡ false }
+        ensures quiet { IsQuiet self.now }
     {
         place_of_receive(&self.posted, source, head).is_some()
     }
@@ -165,7 +167,9 @@ impl Inbox {
 
     /// Whether an unexpected message matches.
     pub fn has(&self, want: &Want) -> bool
-        ensures { result ≡ is_some (find (takes want.now) self.now.unexpected) }
+        ensures found { result ≡ is_some (find (takes want.now) self.now.unexpected) }
+        ensures still { draw_due self.now ≡ false }
+        ensures whole { IfSome (find (takes want.now) self.now.unexpected) IsWhole }
     {
         place_of_arrival(&self.unexpected, want).is_some()
     }

@@ -1,7 +1,7 @@
 //! The transmitting half of an endpoint: the items accepted for each peer, and the operations that have not ended.
 ghost use Rattle.std.specs.Prelude.{find, ◌≡◌, ◌+◌, ◌<◌, ◌≤◌, ◌^◌, ℕ, [], length, replicate, IfOk, OnErr, IfSome, IfNone, Some, None, slice_get, slice_index, position, true, IsSome};
 ghost use Rattle.fab_model.specs.State.{accepted_for, in_use};
-ghost use Rattle.fab_model.specs.Matching.{remove_first};
+ghost use Rattle.fab_model.specs.Matching.{is_message, remove_first};
 ghost use Rattle.fab_model.specs.Sending.{accepting, transmitting, ending, is_of_item};
 
 use fab_base::{Ack, Item, Kind, List, NoMemory, Operation};
@@ -113,6 +113,7 @@ impl Outbox {
         requires counts { self.old.ops + 1 < 2 ^ 64 }
         ensures ok { IfOk result (λ _. self.new ≡ accepting dest item operation self.old) }
         ensures err { OnErr result (self.new ≡ self.old) }
+        ensures peers { length self.new.accepted ≡ length self.old.accepted }
     {
         self.live.reserve(1)?;
         self.accepted[dest as usize].push(item)?;
@@ -151,7 +152,9 @@ impl Outbox {
         requires below { dest < length self.old.accepted }
         requires waits { IsSome (slice_get (accepted_for self.old dest) (slice_index self.old.sent dest)) }
         ensures ended { result ≡ ending dest self.old }
+        ensures message { IfSome result (λ operation. is_message operation.head.kind ≡ true) }
         ensures sent { self.new ≡ transmitting dest self.old }
+        ensures peers { length self.new.accepted ≡ length self.old.accepted }
     {
         let count = self.accepted(dest);
         let place = self.sent[dest as usize];

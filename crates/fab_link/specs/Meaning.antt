@@ -1,0 +1,75 @@
+-- What a port means, and what its calls do to that meaning.
+use Rattle.std.specs.Prelude.{◌≡◌, ◌≢◌, ℕ, ◌+◌, ◌^◌, ◌<◌, ◌≤◌, ◌⊎◌, List, [], ◌∷◌, ◌++◌, length, Option, Some, None, ⊤}
+use Rattle.std.specs.Borrow.{follows_so, Fml, RattleType, MutBor}
+use mathlib.Core.Option.{none}
+use Rattle.fab_base.specs.declared.frames.FrameHead.{FrameHead}
+use Rattle.fab_base.specs.declared.frames.Frame.{Frame}
+use Rattle.fab_base.specs.declared.frames.FrameRef.{FrameRef}
+use Rattle.fab_wire.specs.Frames.{lent_frame, last_head, MayCome}
+
+-- one direction of a port towards one peer: what was posted to it
+pub record Outgoing : Type 0 where
+  -- the head of the last frame before the list
+  pub after : Option FrameHead
+  -- the frames posted
+  pub frames : List Frame
+  pub lane_full_seen : ℕ
+  pub pool_full_seen : ℕ
+  -- how many frames were posted when one of the two counts last rose
+  pub full_at : ℕ
+
+-- the other direction: what came from the peer
+pub record Incoming : Type 0 where
+  -- the head of the last frame before the list
+  pub after : Option FrameHead
+  -- the frames advanced over
+  pub taken : List Frame
+  -- the frame that `front` gave and that was not advanced over
+  pub lent : Option Frame
+  pub empty_seen : ℕ
+  -- how many frames were taken when the count last rose
+  pub empty_at : ℕ
+
+-- a stored count rose, or stands at its last value
+abbrev pub Rose : ℕ → ℕ → Type 0
+Rose old new = (old < new) ⊎ (2 ^ 64 ≤ new + 1)
+
+-- P holds of the value behind s once the result's borrow of it ends
+abbrev pub Rests : (R : RattleType) → MutBor R.Denot → (R.Denot → Type 0) → Fml
+Rests R s P = follows_so R R s.ghost_name none (λ _ _. ⊤) P
+
+-- the two agree at every peer but this one
+abbrev pub Others : {A : Type 0} → ℕ → (ℕ → A) → (ℕ → A) → Type 0
+Others peer old new = (d : ℕ) → d ≢ peer → new d ≡ old d
+
+-- the head that the next frame posted has to follow
+abbrev pub end_of : Outgoing → Option FrameHead
+end_of o = last_head o.after o.frames
+
+-- the head that the next frame taken has to follow
+abbrev pub taken_end : Incoming → Option FrameHead
+taken_end i = last_head i.after i.taken
+
+-- what a call of `post` may do to the lane to its peer besides appending
+pub record Noticed (old new : Outgoing) : Type 0 where
+  pub after : new.after ≡ old.after
+  pub lane_full : old.lane_full_seen ≤ new.lane_full_seen
+  pub pool_full : old.pool_full_seen ≤ new.pool_full_seen
+  -- `full_at` changes only with a count, and then to the number of frames posted before
+  pub full_at : ((new.lane_full_seen ≡ old.lane_full_seen) × (new.pool_full_seen ≡ old.pool_full_seen) × (new.full_at ≡ old.full_at))
+      ⊎ (new.full_at ≡ length old.frames)
+
+-- what `front` gave: a frame that may come next, and the one already lent where there was one
+abbrev pub Gives : Incoming → FrameRef → Type 0
+Gives old f = MayCome (taken_end old) (lent_frame f) × ((g : Frame) → old.lent ≡ Some g → lent_frame f ≡ g)
+
+-- what `front` left of the lane from the peer that it named
+abbrev pub Fronted : Incoming → Incoming → Option FrameRef → Type 0
+Fronted old new None =
+    (new ≡ record old { empty_seen = new.empty_seen; empty_at = length old.taken })
+    × Rose old.empty_seen new.empty_seen
+Fronted old new (Some f) = new ≡ record old { lent = Some (lent_frame f) }
+
+-- the lent frame counts as taken
+abbrev pub advanced : Incoming → Incoming
+advanced i = elim i.lent [ None ↦ i | Some f ↦ record i { taken = i.taken ++ f ∷ []; lent = None } ]

@@ -1,0 +1,4 @@
+pub mod Lanes
+pub mod Joining
+pub mod Parts
+pub mod Merging

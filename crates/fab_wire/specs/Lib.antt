@@ -1,0 +1,4 @@
+pub mod Frames
+pub mod Cut
+pub mod Joined
+pub mod Merged
