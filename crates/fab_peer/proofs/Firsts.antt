@@ -77,3 +77,13 @@ module _ {X : Type 0} (test : X → Bool) where
   -- a member has a place exactly where it is found
   pub is_some-position : (xs : List X) → is_some (position test xs) ≡ is_some (find test xs)
   is_some-position xs = some_step xs (position test xs) refl
+
+module _ {X : Type 0} (test : X → Bool) where
+  stays_step : (x : X) (xs : List X) (b : Bool) → test x ≡ b → cond b (Some x) (find test xs) ≡ None → (find test xs ≡ None → remove_first test xs ≡ xs) → remove_first test (x ∷ xs) ≡ x ∷ xs
+  stays_step x xs true t e more = absurd (cc)
+  stays_step x xs false t e more = rw (t, remove_first) (ap (λ ys. x ∷ ys) (more e))
+
+  -- where none is found, none is removed
+  pub not_found : (xs : List X) → find test xs ≡ None → remove_first test xs ≡ xs
+  not_found [] e = refl
+  not_found (x ∷ xs) e = stays_step x xs (test x) refl e (not_found xs)

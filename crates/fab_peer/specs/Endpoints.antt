@@ -27,7 +27,7 @@ use Rattle.fab_model.specs.Receiving.{Posting, without_first, draw_due}
 use Rattle.fab_model.specs.Complete.{entry_of, has_space}
 use Rattle.fab_model.specs.Sending.{accepting, end_with, do_sent}
 use Rattle.fab_model.specs.State.{State, fits, Completions, Receiving, Transmitting, raise, lookup, called, with_rx, with_tx, accepted_for, write, count}
-use Rattle.fab_model.specs.Peers.{unread, reading}
+use Rattle.fab_model.specs.Peers.{unread, reading, part_of}
 
 abbrev pub has_room : Completions → Bool
 has_room cq = nat_lt (length cq.written - cq.taken_out) cq.size
@@ -35,10 +35,14 @@ has_room cq = nat_lt (length cq.written - cq.taken_out) cq.size
 abbrev pub taking_out : Completions → Completions
 taking_out cq = record cq { taken_out = cq.taken_out + 1 }
 
+-- no part of a multi-receive
+abbrev pub IsPlainEntry : Written → Type 0
+IsPlainEntry w = part_of w.entry ≡ None
+
 -- the first unread entry is taken, or there is none
 abbrev pub Reads : Completions → Completions → Option Taken → Type 0
 Reads old new None = (unread old ≡ None) × (new ≡ old)
-Reads old new (Some entry) = (w : Written) × (unread old ≡ Some w) × (w.entry ≡ entry) × (new ≡ taking_out old)
+Reads old new (Some entry) = (w : Written) × (unread old ≡ Some w) × (w.entry ≡ entry) × (new ≡ taking_out old) × (part_of entry ≡ None)
 
 -- ---- the transmitting half
 
@@ -149,7 +153,7 @@ ended o e = record e { state = end_with Done [] o e.state }
 -- the first unread entry is read, or there is none
 abbrev pub ReadsHeld : Held → Held → Option Taken → Type 0
 ReadsHeld old new None = (unread old.state.cq ≡ None) × (new ≡ old)
-ReadsHeld old new (Some entry) = (w : Written) × (unread old.state.cq ≡ Some w) × (w.entry ≡ entry) × (new ≡ record { state = reading old.state; log = old.log ++ ReadStep ∷ [] })
+ReadsHeld old new (Some entry) = (w : Written) × (unread old.state.cq ≡ Some w) × (w.entry ≡ entry) × (new ≡ record { state = reading old.state; log = old.log ++ ReadStep ∷ [] }) × (part_of entry ≡ None)
 
 -- the first unexpected message that the want takes has left
 abbrev pub without_held : Want → Held → Held

@@ -1,1 +1,3 @@
 pub mod Endpoints
+pub mod Moves
+pub mod Turns

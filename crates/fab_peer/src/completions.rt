@@ -1,7 +1,8 @@
 //! The completion queue of an endpoint (fi_cq(3)): all entries that were written, those that were read first.
-ghost use Rattle.std.specs.Prelude.{◌≡◌, ℕ, [], IfOk, OnErr, Option, IsTrue};
+ghost use Rattle.std.specs.Prelude.{◌≡◌, ℕ, [], IfOk, OnErr, Option, None, IsTrue};
 ghost use Rattle.fab_base.specs.declared.entries.Taken.{Taken};
 ghost use Rattle.fab_model.specs.State.{writing, fits};
+ghost use Rattle.fab_model.specs.Peers.{part_of};
 ghost use Rattle.fab_peer.specs.Endpoints.{has_room, Reads};
 
 use fab_base::{NoMemory, Taken, Written};
@@ -17,14 +18,15 @@ pub struct Queue {
 }
 
 impl Model for Queue {
-    ghost use Rattle.std.specs.Prelude.{◌-◌, ◌≤◌, length};
+    ghost use Rattle.std.specs.Prelude.{All, ◌-◌, ◌≤◌, length};
     ghost use Rattle.fab_model.specs.State.{Completions};
+    ghost use Rattle.fab_peer.specs.Endpoints.{IsPlainEntry};
 
     ghost Value = { Completions };
 
     ghost view = { λ q. record { written = q.written.items; taken_out = q.taken_out; size = q.size } };
 
-    ghost invariant = { λ q. (q.taken_out ≤ length q.written.items) × (length q.written.items - q.taken_out ≤ q.size) };
+    ghost invariant = { λ q. (q.taken_out ≤ length q.written.items) × (length q.written.items - q.taken_out ≤ q.size) × All IsPlainEntry q.written.items };
 }
 
 impl Queue {
@@ -50,12 +52,18 @@ impl Queue {
 
     /// Writes an entry of this call.
     pub fn write(&mut self, call: Option<u64>, entry: Taken) -> Result<(), NoMemory>
-        requires { IsTrue (has_room self.old) }
+        requires room { IsTrue (has_room self.old) }
+        requires plain { part_of entry ≡ None }
         ensures ok { IfOk result (λ _. self.new ≡ writing call entry self.old) }
         ensures err { OnErr result (self.new ≡ self.old) }
     {
         self.written.push(Written { call, entry })?;
         Ok(())
+    }
+
+    /// How many entries are unread.
+    pub fn unread(&self) -> usize {
+        self.written.len() - self.taken_out
     }
 
     /// Takes the first unread entry, or says that there is none. It stays among those written.

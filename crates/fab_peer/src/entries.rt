@@ -2,6 +2,7 @@
 ghost use Rattle.std.specs.Prelude.{◌≡◌, ◌^◌, ◌<◌, ◌≤◌, length, None};
 ghost use Rattle.fab_model.specs.Complete.{entry_of, tag_of, has_space, paste};
 ghost use Rattle.fab_model.specs.Sending.{ack_of};
+ghost use Rattle.fab_model.specs.Peers.{part_of};
 ghost use Rattle.fab_peer.specs.Endpoints.{message_head};
 
 use fab_base::{Ack, Buf, Entry, ErrEntry, ErrKind, ItemHead, Kind, Level, Outcome, Receive, Taken};
@@ -38,7 +39,8 @@ pub fn has_space(receive: &Receive, head: &ItemHead) -> bool
 #[tactic(auto, unfolding(fab_model::specs::Complete::entry_of, fab_model::specs::Complete::received, fab_model::specs::Complete::truncated))]
 pub fn entry_of(receive: Receive, source: u32, head: &ItemHead, bytes: &[u8]) -> Taken
     requires single { receive.least ≡ None }
-    ensures { result ≡ entry_of receive 0 source head.now bytes.now }
+    ensures entry { result ≡ entry_of receive 0 source head.now bytes.now }
+    ensures plain { part_of result ≡ None }
 {
     let free = receive.buf.as_slice().len();
     let Receive { ctx, buf, .. } = receive;

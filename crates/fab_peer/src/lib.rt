@@ -4,7 +4,9 @@
 mod completions;
 mod endpoint;
 mod entries;
+mod moves;
+mod peer;
 mod receiving;
 mod transmitting;
 
-pub use endpoint::Endpoint;
+pub use peer::Peer;

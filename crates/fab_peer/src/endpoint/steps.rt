@@ -61,6 +61,16 @@ impl Endpoint {
         self.tx.next(dest)
     }
 
+    /// How many transmit operations are live.
+    pub fn in_use(&self) -> usize {
+        self.tx.in_use()
+    }
+
+    /// How many completions are unread.
+    pub fn unread(&self) -> usize {
+        self.cq.unread()
+    }
+
     /// Whether the completion queue has room for one more entry.
     pub fn has_room(&self) -> bool
         ensures { result ≡ has_room self.now.state.cq }

@@ -1,0 +1,163 @@
+-- Steps of a peer, one after another.
+use Rattle.std.proofs.Common.{◌≡◌, ◌≢◌, ℕ, Bool, true, false, List, [], ◌∷◌, ◌++◌, length, slice_get, Option, Some, None, Result, Ok, Err, refl, sym, ap, subst, ◌∙◌, append-nil, append_assoc, option_map}
+use Rattle.std.specs.Prelude.{find, replicate, IfOk, OnOk}
+use Rattle.fab_base.specs.declared.entries.Kept.{Kept}
+use Rattle.fab_base.specs.declared.entries.Taken.{Taken}
+use Rattle.fab_base.specs.declared.faults.Fault.{Fault}
+use Rattle.fab_base.specs.declared.faults.Fault.TheVariants.{Again, NoMemory as LacksMemory}
+use Rattle.fab_base.specs.declared.items.Item.{Item}
+use Rattle.fab_base.specs.declared.items.Kind.TheVariants.{TagMsg}
+use Rattle.fab_base.specs.declared.operations.Written.{Written}
+use Rattle.fab_base.specs.declared.peers.Level.{Level}
+use Rattle.fab_base.specs.declared.peers.LineResult.{LineResult}
+use Rattle.fab_base.specs.declared.peers.LineResult.TheVariants.{Done, Refused, Waited}
+use Rattle.fab_base.specs.declared.peers.Step.{Step}
+use Rattle.fab_base.specs.declared.peers.Step.TheVariants.{Do, Read}
+use Rattle.fab_base.specs.declared.script.BytesWord.{BytesWord}
+use Rattle.fab_base.specs.declared.script.Line.{Line}
+use Rattle.fab_base.specs.declared.script.LineOp.{LineOp}
+use Rattle.fab_base.specs.declared.script.LineOp.TheVariants.{Wait, TRecv, TSend}
+use Rattle.fab_link.specs.Plain.{Plain}
+use Rattle.fab_model.specs.Matching.{remove_first}
+use Rattle.fab_model.specs.State.{State}
+use Rattle.fab_model.specs.Calls.{Call, Post, do_call, call_of, message, word_bytes}
+use Rattle.fab_model.specs.Peers.{Actor, fabric, step, next_line, do_next, do_line, wait_line, call_line, after_call, is_again, is_of_ctx, with_result, with_state, read_next, bytes_kept, part_of, unread, reading}
+use Rattle.fab_model.specs.Views.{View, Walk}
+use Rattle.fab_model.proofs.Passes.{Passes, same, call_passes}
+use Rattle.fab_peer.specs.Endpoints.{Held, Answers, ReadsHeld, logged, any_source}
+use Rattle.fab_peer.specs.Moves.{Shows, taken_of, IsTied, Ported, Went}
+use Rattle.fab_peer.specs.Turns.{actor_of, schedule_of, Does, Turned, Answered, next_op, SendsNext}
+use Rattle.fab_peer.specs.declared.peer.Peer.{Peer}
+use Rattle.fab_peer.proofs.Going.{tied_passes, ported_same, ported_then, shows_less, walk_append}
+
+-- ---- joining
+
+pub does_same : (a b : Peer) → actor_of b ≡ actor_of a → schedule_of b ≡ schedule_of a → Does a b
+does_same a b actor log = record {
+  steps = [];
+  log = log ∙ sym (append-nil (schedule_of a));
+  walk = λ v. sym actor;
+  tied = λ p tied. subst (λ (x : Actor). IsTied x.state p) (sym actor) tied;
+}
+
+pub does_then : (a b c : Peer) → Does a b → Does b c → Does a c
+does_then a b c x y = record {
+  steps = x.steps ++ y.steps;
+  log = y.log ∙ ap (λ xs. xs ++ y.steps) x.log ∙ append_assoc (schedule_of a) x.steps y.steps;
+  walk = λ v. walk_append v (actor_of a) (actor_of b) (actor_of c) x.steps y.steps (x.walk v) (y.walk v);
+  tied = λ p tied. y.tied p (x.tied p tied);
+}
+
+pub turned_does : (a b : Peer) (p : Plain) → Does a b → Turned a p b p
+turned_does a b p does = record { steps = does.steps; log = does.log; walk = λ v shows. does.walk v; ported = ported_same p }
+
+pub turned_went : (a b : Peer) (p q : Plain) → Went a.endpoint p b.endpoint q → b.lines ≡ a.lines → b.results ≡ a.results → b.kept ≡ a.kept → Turned a p b q
+turned_went a b p q went lines results kept = record {
+  steps = went.steps;
+  log = went.log;
+  walk = λ v shows. rw (lines, results, kept) (went.walk (actor_of a) v shows);
+  ported = went.ported;
+}
+
+pub turned_then : (a b c : Peer) (p q r : Plain) → Turned a p b q → Turned b q c r → Turned a p c r
+turned_then a b c p q r x y = record {
+  steps = x.steps ++ y.steps;
+  log = y.log ∙ ap (λ xs. xs ++ y.steps) x.log ∙ append_assoc (schedule_of a) x.steps y.steps;
+  walk = λ v shows. walk_append v (actor_of a) (actor_of b) (actor_of c) x.steps y.steps (x.walk v (shows_less q r v y.ported shows)) (y.walk v shows);
+  ported = ported_then p q r x.ported y.ported;
+}
+
+-- ---- one step
+
+does_step : (a b : Peer) (x : Step) → schedule_of b ≡ schedule_of a ++ x ∷ [] → ((v : View Item) → step v (actor_of a) x ≡ Some (actor_of b)) → Passes a.endpoint.state b.endpoint.state → Does a b
+unfolding fabric
+does_step a b x log stands passes = record {
+  steps = x ∷ [];
+  log = log;
+  walk = λ v. (actor_of b, stands v, refl);
+  tied = λ p tied. tied_passes a.endpoint.state b.endpoint.state p passes tied;
+}
+
+reads_next : (a : Actor) (w : Written) (entry : Taken) → unread a.state.cq ≡ Some w → w.entry ≡ entry → part_of entry ≡ None
+    → read_next a ≡ Some (record a { state = reading a.state; kept = a.kept ++ record { entry = entry; bytes = None } ∷ [] })
+unfolding read_next bytes_kept
+reads_next a w entry there is plain = rw (there, read_next, is, plain, bytes_kept) refl
+
+pub does_read : (a b : Peer) (entry : Taken) → ReadsHeld a.endpoint b.endpoint (Some entry) → b.lines ≡ a.lines → b.results ≡ a.results → b.kept.items ≡ a.kept.items ++ record { entry = entry; bytes = None } ∷ [] → Does a b
+unfolding step
+does_read a b entry (w, there, is, new, plain) lines results kept =
+    does_step a b Read (ap (λ (h : Held). h.log) new)
+    (λ v. reads_next (actor_of a) w entry there is plain
+      ∙ (let state = ap (λ (h : Held). h.state) new in rw (lines, results, kept, state) refl))
+    (rw new (same refl refl))
+
+-- ---- lines
+
+next_is : (a : Peer) (op : LineOp) → next_op a ≡ Some op → do_next (actor_of a) ≡ do_line (actor_of a) op
+unfolding do_next
+next_is a op e = by_line (next_line (actor_of a)) refl e
+  where
+    by_line : (o : Option Line) → next_line (actor_of a) ≡ o → option_map (λ (line : Line). line.op) o ≡ Some op → do_next (actor_of a) ≡ do_line (actor_of a) op
+    by_line None there e = absurd (cc)
+    by_line (Some line) there e = let is : line.op ≡ op = cc in rw (there, do_next, is) refl
+
+waits : (a : Actor) (ctx : Option ℕ) (k : Kept) → find (is_of_ctx ctx) a.kept ≡ Some k → do_line a (Wait ctx) ≡ Some (with_result (Waited k) (record a { kept = remove_first (is_of_ctx ctx) a.kept }))
+unfolding do_line wait_line
+waits a ctx k found = rw (found, wait_line) refl
+
+pub does_wait : (a b : Peer) (ctx : Option ℕ) (k : Kept) → next_op a ≡ Some (Wait ctx) → find (is_of_ctx ctx) a.kept.items ≡ Some k → b.kept.items ≡ remove_first (is_of_ctx ctx) a.kept.items
+    → b.endpoint ≡ logged (Do ∷ []) a.endpoint → b.lines ≡ a.lines → b.results.items ≡ a.results.items ++ Waited k ∷ [] → Does a b
+unfolding step
+does_wait a b ctx k next found rest log lines results =
+    does_step a b Do (ap (λ (h : Held). h.log) log)
+    (λ v. next_is a (Wait ctx) next ∙ waits (actor_of a) ctx k found ∙ (let state = ap (λ (h : Held). h.state) log in rw (lines, results, rest, state) refl))
+    (let state = ap (λ (h : Held). h.state) log in rw state (same refl refl))
+
+after_answer : (a : Actor) (outcome : LineResult) (s : State) → is_again outcome ≡ false → after_call a (outcome, s) ≡ Some (with_result outcome (with_state a s))
+after_answer a outcome s again = rw (again, after_call) refl
+
+-- a line that is a call, and was answered
+calls : (a : Peer) (op : LineOp) (c : Call) (outcome : LineResult) (s : State) → next_op a ≡ Some op → do_line (actor_of a) op ≡ call_line (actor_of a) c → do_call a.endpoint.state c ≡ (outcome, s) → is_again outcome ≡ false
+    → do_next (actor_of a) ≡ Some (with_result outcome (with_state (actor_of a) s))
+unfolding call_line
+calls a op c outcome s next line answer again = next_is a op next ∙ line ∙ ap (after_call (actor_of a)) answer ∙ after_answer (actor_of a) outcome s again
+
+pub does_call : {T : Type 0} (a m b : Peer) (op : LineOp) (c : Call) (r : Result T Fault) (done : Bool) → next_op a ≡ Some op → do_line (actor_of a) op ≡ call_line (actor_of a) c
+    → Answers c a.endpoint m.endpoint r → m.lines ≡ a.lines → m.results ≡ a.results → m.kept ≡ a.kept → Answered r m b done → Does a b
+unfolding step
+does_call a m b op c (Ok _) done next line answers lines results kept (all, is, more) =
+    let endpoint : b.endpoint ≡ m.endpoint = ap (λ (x : Peer). x.endpoint) is in
+    does_step a b Do (ap (λ (h : Held). h.log) endpoint ∙ answers.1)
+    (λ v. calls a op c Done m.endpoint.state next line answers.0 refl
+      ∙ (let l : b.lines ≡ a.lines = ap (λ (x : Peer). x.lines) is ∙ lines in
+        let k : b.kept ≡ a.kept = ap (λ (x : Peer). x.kept) is ∙ kept in
+        rw (endpoint, l, k, more, results) refl))
+    (rw endpoint (subst (λ (x : State). Passes a.endpoint.state x) (ap (λ x. x.1) answers.0) (call_passes a.endpoint.state c)))
+does_call a m b op c (Err fault) false next line answers lines results kept (is, busy, again) =
+    let free : fault ≢ LacksMemory = (λ e. cc (again, e)) in
+    let stays = (answers free).1 in
+    does_same a b (rw (is, stays, lines, results, kept) refl) (rw (is, stays) refl)
+does_call a m b op c (Err fault) true next line answers lines results kept (is, more, again, free) =
+    let stays = (answers free).1 in
+    let endpoint : b.endpoint ≡ logged (Do ∷ []) a.endpoint = ap (λ (x : Peer). x.endpoint) is ∙ ap (logged (Do ∷ [])) stays in
+    does_step a b Do (ap (λ (h : Held). h.log) endpoint)
+    (λ v. calls a op c (Refused fault) a.endpoint.state next line ((answers free).0) again
+      ∙ (let l : b.lines ≡ a.lines = ap (λ (x : Peer). x.lines) is ∙ lines in
+        let k : b.kept ≡ a.kept = ap (λ (x : Peer). x.kept) is ∙ kept in
+        rw (endpoint, l, k, more, results) refl))
+    (rw endpoint (same refl refl))
+
+-- the same of the result of a call's answer, where it is at hand
+pub does_answered : {T E : Type 0} (a m b : Peer) (op : LineOp) (c : Call) (r : Result T Fault) (done : Result Bool E) → next_op a ≡ Some op → do_line (actor_of a) op ≡ call_line (actor_of a) c
+    → Answers c a.endpoint m.endpoint r → m.lines ≡ a.lines → m.results ≡ a.results → m.kept ≡ a.kept → IfOk done (Answered r m b) → OnOk done (Does a b)
+does_answered a m b op c r (Ok done) next line answers lines results kept answered = does_call a m b op c r done next line answers lines results kept answered
+does_answered a m b op c r (Err e) next line answers lines results kept answered = _
+
+pub line_trecv : (a : Actor) (ctx tag ignore len : ℕ) → do_line a (TRecv ctx None tag ignore len) ≡ call_line a (Post (any_source tag ignore (replicate len 0) ctx))
+unfolding do_line call_of
+line_trecv a ctx tag ignore len = refl
+
+pub line_tsend : (a : Actor) (ctx dest tag : ℕ) (word : BytesWord) (imm : Option ℕ) (level : Level) (completion : Bool)
+    → do_line a (TSend ctx dest tag word imm level completion) ≡ call_line a (message TagMsg (Some ctx) dest tag (word_bytes word) imm level completion)
+unfolding do_line call_of
+line_tsend a ctx dest tag word imm level completion = refl

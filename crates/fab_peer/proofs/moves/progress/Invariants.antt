@@ -1,0 +1,8 @@
+use Rattle.fab_peer.specs.Moves.{IsTied, Went}
+use Rattle.fab_peer.proofs.moves.progress.Given as goal
+
+abbrev pub invariant-loop-turn : goal.invariant-loop-turn
+invariant-loop-turn l = record {
+  tied : IsTied l.endpoint.state l.port;
+  went : Went l.fn.endpoint l.fn.port l.endpoint l.port;
+}

@@ -1,0 +1,13 @@
+use Rattle.std.proofs.Common.{◌<◌, length, arith}
+use Rattle.fab_peer.proofs.Going.{went_then}
+use Rattle.fab_peer.proofs.moves.push.Goals as goal
+
+pub loop-item-preserved : goal.loop-item-preserved
+loop-item-preserved c = record {
+  tied = c.in_ok-post_one.ensures.tied;
+  went = went_then _ _ _ _ _ _ c.loop-item.invariant.went c.in_ok-post_one.ensures.went;
+  below = let peers = c.in_ok-post_one.ensures.went.ported.peers in omega (arith, peers, c.loop-item.invariant.below);
+}
+
+pub returns-then-not-branch-clause-went : goal.returns-then-not-branch-clause-went
+returns-then-not-branch-clause-went c = went_then _ _ _ _ _ _ c.loop-item.invariant.went c.in_ok-post_one.ensures.went

@@ -1,0 +1,62 @@
+-- What a peer does: the steps that it takes.
+--     actor_of peer        the peer as the machine knows it
+--     Does a b             some steps that need no other peer lead from the one to the other
+--     Turned a p b q       some steps lead from the one to the other, wherever the frames taken are shown
+use Rattle.std.specs.Prelude.{◌≡◌, ◌≢◌, ◌++◌, ◌∷◌, ℕ, Bool, true, false, List, [], Option, Some, Result, Ok, Err}
+use Rattle.std.specs.Option.{option_map}
+use Rattle.fab_base.specs.declared.faults.Busy.{Busy}
+use Rattle.fab_base.specs.declared.faults.Fault.{Fault}
+use Rattle.fab_base.specs.declared.faults.Fault.TheVariants.{Again, NoMemory as LacksMemory}
+use Rattle.fab_base.specs.declared.items.Item.{Item}
+use Rattle.fab_base.specs.declared.peers.Level.{Level}
+use Rattle.fab_base.specs.declared.peers.LineResult.TheVariants.{Done, Refused}
+use Rattle.fab_base.specs.declared.peers.Step.{Step}
+use Rattle.fab_base.specs.declared.peers.Step.TheVariants.{Do}
+use Rattle.fab_base.specs.declared.script.BytesWord.{BytesWord}
+use Rattle.fab_base.specs.declared.script.LineOp.{LineOp}
+use Rattle.fab_base.specs.declared.script.LineOp.TheVariants.{TSend}
+use Rattle.fab_link.specs.Plain.{Plain}
+use Rattle.fab_model.specs.Calls.{word_bytes}
+use Rattle.fab_model.specs.Peers.{Actor, fabric, next_line, is_again}
+use Rattle.fab_model.specs.Views.{View, Walk}
+use Rattle.fab_peer.specs.Moves.{Shows, taken_of, IsTied, Ported}
+use Rattle.fab_peer.specs.Endpoints.{logged}
+use Rattle.fab_peer.specs.declared.peer.Peer.{Peer}
+
+abbrev pub actor_of : Peer → Actor
+actor_of peer = record { state = peer.endpoint.state; lines = peer.lines.items; results = peer.results.items; kept = peer.kept.items }
+
+abbrev pub schedule_of : Peer → List Step
+schedule_of peer = peer.endpoint.log
+
+-- the peer alone: its steps stand in every view
+pub record Does (a b : Peer) : Type 0 where
+  pub steps : List Step
+  pub log : schedule_of b ≡ schedule_of a ++ steps
+  pub walk : (v : View Item) → Walk fabric v (actor_of a) steps (actor_of b)
+  pub tied : (p : Plain) → IsTied a.endpoint.state p → IsTied b.endpoint.state p
+
+-- the peer with its port
+pub record Turned (a : Peer) (p : Plain) (b : Peer) (q : Plain) : Type 0 where
+  pub steps : List Step
+  pub log : schedule_of b ≡ schedule_of a ++ steps
+  pub walk : (v : View Item) → Shows (taken_of q) v → Walk fabric v (actor_of a) steps (actor_of b)
+  pub ported : Ported p q
+
+-- ---- lines
+
+-- what the next line asks for, if there is one
+abbrev pub next_op : Peer → Option LineOp
+next_op peer = option_map (λ line. line.op) (next_line (actor_of peer))
+
+-- the next line is a send of these bytes
+abbrev pub SendsNext : ℕ → ℕ → ℕ → List ℕ → Option ℕ → Level → Bool → Peer → Type 0
+SendsNext ctx dest tag bytes imm level completion peer = (word : BytesWord) × (next_op peer ≡ Some (TSend ctx dest tag word imm level completion)) × (bytes ≡ word_bytes word)
+
+-- the peer with one more result, and a step more where its call was refused
+abbrev pub Answered : {T : Type 0} → Result T Fault → Peer → Peer → Bool → Type 0
+Answered (Ok _) a b done = (done ≡ true) × (b ≡ record a { results = b.results }) × (b.results.items ≡ a.results.items ++ Done ∷ [])
+Answered (Err fault) a b false = (b ≡ a) × (busy : Busy) × (fault ≡ Again busy)
+Answered (Err fault) a b true =
+    (b ≡ record a { results = b.results; endpoint = logged (Do ∷ []) a.endpoint }) × (b.results.items ≡ a.results.items ++ Refused fault ∷ [])
+    × (is_again (Refused fault) ≡ false) × (fault ≢ LacksMemory)
