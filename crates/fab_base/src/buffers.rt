@@ -206,7 +206,8 @@ impl<T> List<T> {
 
     /// Appends a member.
     pub fn push(&mut self, member: T) -> Result<(), NoMemory>
-        where T: Drop
+    where
+        T: Drop,
         ensures ok { IfOk result (λ _. self.new ≡ self.old ++ member ∷ []) }
         ensures err { OnErr result (self.new ≡ self.old) }
     {

@@ -1,5 +1,5 @@
 -- One frame is carried: what came and what is left stay the same, one after the other.
-use Rattle.std.proofs.Common.{◌≡◌, ◌≢◌, ℕ, ◌<◌, ◌≤◌, ◌+◌, List, [], ◌∷◌, ◌++◌, length, refl, sym, ap, subst, ◌∙◌, inl, inr, get_or-set_other, get_or-set_same, append_assoc, get_or, length-set, arith, None}
+use Rattle.std.proofs.Common.{◌≡◌, ◌≢◌, ℕ, ◌<◌, ◌≤◌, ◌+◌, List, [], ◌∷◌, ◌++◌, length, take, refl, sym, ap, subst, ◌∙◌, inl, inr, get_or-set_other, get_or-set_same, append_assoc, get_or, length-set, arith, None}
 use Rattle.std.specs.Prelude.{◌⊎◌, slice_set, slice_index_or}
 use Rattle.std.proofs.lemmas.Bool.{cases_eq}
 use Rattle.std.proofs.lemmas.List.{get_or_default}
@@ -9,7 +9,7 @@ use Rattle.std.specs.List.{sum_by, All}
 use Rattle.fab_base.specs.declared.frames.Frame.{Frame}
 use Rattle.fab_wire.specs.Frames.{last_head, IsLane}
 use Rattle.fab_wire.proofs.Lanes.{last_head-push}
-use Rattle.fab_link.specs.Plain.{Lane, Plain, lane_at, with_lane, left, fresh_lane}
+use Rattle.fab_link.specs.Plain.{Lane, Plain, lane_at, with_lane, left, fresh_lane, incoming}
 use Rattle.fab_link.specs.Carry.{lane_of, pipe, left_count, AreAll, Continued}
 use Rattle.fab_link.proofs.Looks.{same_lane, other_lane}
 
@@ -140,6 +140,21 @@ went_of ports from to x a b y c d f g rest l m all ai bi ci di first =
       out = ap (λ (x : Plain). left (lane_at x to)) (sym ct) ∙ (di.0 ∙ ap (λ (x : Lane). g ∷ left x) d_lane);
     }
 
+-- what was taken of the lane stays when a frame is brought to it
+pub taken_of : (ports : List Plain) (from to : ℕ) (x a b : Plain) (f : Frame)
+    → from < length ports → to < length ports
+    → ((k : ℕ) → k < length ports → length (port_at ports k).lanes ≡ length ports)
+    → a ≡ get_or ports to x
+    → b ≡ with_lane a from (record (lane_at a from) { in_list = (lane_at a from).in_list ++ f ∷ [] })
+    → (incoming (lane_at b from)).taken ≡ (incoming (lane_at a from)).taken
+    → take (lane_at a from).taken ((lane_at a from).in_list ++ f ∷ []) ≡ (incoming (lane_of ports to from)).taken
+taken_of ports from to x a b f l m all ai bi h =
+    let at : a ≡ port_at ports to = ai ∙ get_or_default ports to x (record { number = 0; lanes = [] }) m in
+    let brought : Lane = record (lane_at a from) { in_list = (lane_at a from).in_list ++ f ∷ [] } in
+    let wide : from < length a.lanes = rw at (rw (all to m) l) in
+    let lane : lane_at b from ≡ brought = ap (λ (p : Plain). lane_at p from) bi ∙ same_lane a from brought wide in
+    ap (λ (y : Lane). (incoming y).taken) (sym lane) ∙ h ∙ ap (λ (p : Plain). (incoming (lane_at p from)).taken) at
+
 module _ (ports mid new : List Plain) (from to : ℕ) (f g : Frame) (rest : List Frame) (brought taken : Lane)
     (w : Went ports mid new from to f g rest brought taken) where
   left_mid : (j e : ℕ) → left (lane_of mid j e) ≡ left (lane_of ports j e)
@@ -175,6 +190,21 @@ module _ (ports mid new : List Plain) (from to : ℕ) (f g : Frame) (rest : List
       let b : left (lane_of new s r) ≡ left (lane_of mid s r) =
       rw w.new_is (ap (λ (x : Lane). left x) (set_other mid from to s r taken w.from_in n)) in
       cc (in_new r s, a, b, left_mid s r)
+
+  pub went_others : (s r : ℕ) → (s ≢ from) ⊎ (r ≢ to) → (left (lane_of new s r) ≡ left (lane_of ports s r)) × ((lane_of new r s).in_list ≡ (lane_of ports r s).in_list)
+  went_others s r n =
+      let m : (r ≢ to) ⊎ (s ≢ from) = elim n [ inl x ↦ inr x | inr x ↦ inl x ] in
+      let a : (lane_of mid r s).in_list ≡ (lane_of ports r s).in_list =
+      rw w.mid_is (ap (λ (x : Lane). x.in_list) (set_other ports to from r s brought w.to_in m)) in
+      let b : left (lane_of new s r) ≡ left (lane_of mid s r) =
+      rw w.new_is (ap (λ (x : Lane). left x) (set_other mid from to s r taken w.from_in n)) in
+      (b ∙ left_mid s r, in_new r s ∙ a)
+
+  pub went_taken : (incoming brought).taken ≡ (incoming (lane_of ports to from)).taken → (k d : ℕ) → (incoming (lane_of new k d)).taken ≡ (incoming (lane_of ports k d)).taken
+  went_taken h k d =
+      let a : (incoming (lane_of new k d)).taken ≡ (incoming (lane_of mid k d)).taken =
+      rw w.new_is (set_kept (λ (x : Lane). (incoming x).taken) mid from to taken w.from_in w.to_lane (rw w.taken_is refl) k d) in
+      a ∙ rw w.mid_is (set_kept (λ (x : Lane). (incoming x).taken) ports to from brought w.to_in w.from_lane h k d)
 
   pub went_kept : (s r : ℕ) → pipe new s r ≡ pipe ports s r
   went_kept s r = elim (cases_eq s from) [

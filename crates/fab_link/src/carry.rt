@@ -1,6 +1,6 @@
 //! What plain ports posted is carried to their receivers.
 ghost use Rattle.std.specs.Prelude.{◌≡◌, ◌≢◌, ℕ, ◌+◌, ◌-◌, ◌^◌, ◌<◌, ◌≤◌, ◌⊎◌, length, min, [], true, false, Ok, IfOk, OnOk, OnErr};
-ghost use Rattle.fab_link.specs.Plain.{left};
+ghost use Rattle.fab_link.specs.Plain.{left, incoming};
 ghost use Rattle.fab_link.specs.Carry.{lane_of, pipe, left_count, AreAll, Continued, SameBeside};
 
 use crate::plain::PlainPort;
@@ -17,6 +17,7 @@ fn carry_one(alloc: Global, ports: &mut [PlainPort], from: u32, to: u32) -> Resu
     ensures all { AreAll ports.new }
     ensures kept { (s r : ℕ) → pipe ports.new s r ≡ pipe ports.old s r }
     ensures same { (k d : ℕ) → SameBeside (lane_of ports.old k d) (lane_of ports.new k d) }
+    ensures taken { (k d : ℕ) → (incoming (lane_of ports.new k d)).taken ≡ (incoming (lane_of ports.old k d)).taken }
     ensures others { (s r : ℕ) → (s ≢ from) ⊎ (r ≢ to)
         → (left (lane_of ports.new s r) ≡ left (lane_of ports.old s r))
         × ((lane_of ports.new r s).in_list ≡ (lane_of ports.old r s).in_list) }
@@ -48,6 +49,7 @@ fn carry_lane(alloc: Global, ports: &mut [PlainPort], from: u32, to: u32) -> Res
     ensures all { AreAll ports.new }
     ensures kept { (s r : ℕ) → pipe ports.new s r ≡ pipe ports.old s r }
     ensures same { (k d : ℕ) → SameBeside (lane_of ports.old k d) (lane_of ports.new k d) }
+    ensures taken { (k d : ℕ) → (incoming (lane_of ports.new k d)).taken ≡ (incoming (lane_of ports.old k d)).taken }
     ensures others { (s r : ℕ) → (s ≢ from) ⊎ (r ≢ to)
         → (left (lane_of ports.new s r) ≡ left (lane_of ports.old s r))
         × ((lane_of ports.new r s).in_list ≡ (lane_of ports.old r s).in_list) }
@@ -73,6 +75,7 @@ fn carry_from(alloc: Global, ports: &mut [PlainPort], from: u32) -> Result<u64, 
     ensures all { AreAll ports.new }
     ensures kept { (s r : ℕ) → pipe ports.new s r ≡ pipe ports.old s r }
     ensures same { (k d : ℕ) → SameBeside (lane_of ports.old k d) (lane_of ports.new k d) }
+    ensures taken { (k d : ℕ) → (incoming (lane_of ports.new k d)).taken ≡ (incoming (lane_of ports.old k d)).taken }
     ensures others { (s r : ℕ) → s ≢ from → left (lane_of ports.new s r) ≡ left (lane_of ports.old s r) }
     ensures continued { (s r : ℕ) → s < length ports.new → r < length ports.new → Continued ports.new s r }
     ensures none { OnOk result ((r : ℕ) → r < length ports.new → left (lane_of ports.new from r) ≡ []) }
@@ -92,14 +95,15 @@ fn carry_from(alloc: Global, ports: &mut [PlainPort], from: u32) -> Result<u64, 
 /// many it moved: all that were left, or `u64::MAX` where there were more.
 ///
 /// These are the ports of all peers, in order. For each pair the receiver's in list, followed by
-/// what the sender has left for it, stays the same, also after want of memory; then the call may be
-/// made again.
+/// what the sender has left for it, stays the same, and so does what was taken, also after want of
+/// memory; then the call may be made again.
 pub fn carry(alloc: Global, ports: &mut [PlainPort]) -> Result<u64, NoMemory>
     requires all { AreAll ports.old }
     requires continued { (s r : ℕ) → s < length ports.old → r < length ports.old → Continued ports.old s r }
     ensures all { AreAll ports.new }
     ensures kept { (s r : ℕ) → pipe ports.new s r ≡ pipe ports.old s r }
     ensures same { (k d : ℕ) → SameBeside (lane_of ports.old k d) (lane_of ports.new k d) }
+    ensures taken { (k d : ℕ) → (incoming (lane_of ports.new k d)).taken ≡ (incoming (lane_of ports.old k d)).taken }
     ensures continued { (s r : ℕ) → s < length ports.new → r < length ports.new → Continued ports.new s r }
     ensures none { OnOk result ((s r : ℕ) → s < length ports.new → r < length ports.new
         → left (lane_of ports.new s r) ≡ []) }

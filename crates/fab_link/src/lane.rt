@@ -132,6 +132,7 @@ impl PlainLane {
     pub fn bring(&mut self, frame: Frame) -> Result<(), Frame>
         requires { MayCome (last_head self.old.in_after self.old.in_list) frame }
         ensures ok { OnOk result (self.new ≡ record self.old { in_list = self.old.in_list ++ frame ∷ [] }) }
+        ensures taken { (incoming self.new).taken ≡ (incoming self.old).taken }
         ensures back { IfErr result (λ f. f ≡ frame) }
         ensures err { OnErr result (self.new ≡ self.old) }
     {

@@ -87,6 +87,7 @@ impl PlainPort {
         requires continues { MayCome (last_head (lane_at self.old src).in_after (lane_at self.old src).in_list) frame }
         ensures ok { OnOk result (self.new ≡ with_lane self.old src
             (record (lane_at self.old src) { in_list = (lane_at self.old src).in_list ++ frame ∷ [] })) }
+        ensures taken { (s : ℕ) → (in_of self.new s).taken ≡ (in_of self.old s).taken }
         ensures back { IfErr result (λ f. f ≡ frame) }
         ensures err { OnErr result (self.new ≡ self.old) }
     {

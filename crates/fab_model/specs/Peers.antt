@@ -2,7 +2,7 @@
 --     Actor      a peer: its machine, its lines, the results of those done, and the entries that it read and no wait took
 --     step v a step      the peer after the step, in this view; None where the step does not stand
 --     fabric     the machine whose states are actors, whose steps are those of a schedule, and whose items go between peers
-use Rattle.std.specs.Prelude.{ℕ, zero, suc, ◌+◌, Bool, true, false, not, ◌&&◌, ◌||◌, ◌==◌, nat_lt, nat_le, List, [], ◌∷◌, ◌++◌, length, take, drop, Option, Some, None, slice_get, slice_index, slice_index_or, is_some, is_none, find, zip, count_by, map, unwrap_or}
+use Rattle.std.specs.Prelude.{ℕ, zero, suc, ◌+◌, Bool, true, false, not, ◌&&◌, ◌==◌, nat_lt, nat_le, List, [], ◌∷◌, ◌++◌, length, take, drop, Option, Some, None, slice_get, slice_index, slice_index_or, is_some, is_none, find, zip, count_by, map, unwrap_or}
 use Rattle.std.specs.List.{list_all}
 use Rattle.std.specs.Option.{option_map_or}
 use Rattle.fab_base.specs.declared.items.Item.{Item}

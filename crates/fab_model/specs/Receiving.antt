@@ -1,7 +1,7 @@
 -- What a receive call does (fi_msg(3), fi_tagged(3)): posting, looking, taking, dropping, cancelling.
 --     Posting      a call of recv, trecv or recv_multi
 --     draw_due rx      a posted multi-receive matches an unexpected message
-use Rattle.std.specs.Prelude.{ℕ, ◌+◌, Bool, true, false, not, ◌&&◌, ◌||◌, ◌==◌, nat_lt, nat_le, List, [], ◌∷◌, ◌++◌, length, Option, Some, None, slice_set, is_some, is_none, find, cond}
+use Rattle.std.specs.Prelude.{ℕ, Bool, true, false, not, ◌&&◌, ◌||◌, ◌==◌, nat_lt, nat_le, List, [], ◌∷◌, ◌++◌, length, Option, Some, None, slice_set, is_some, is_none, find, cond}
 use Rattle.std.specs.List.{list_any}
 use Rattle.fab_base.specs.declared.items.Want.{Want}
 use Rattle.fab_base.specs.declared.faults.Fault.{Fault}

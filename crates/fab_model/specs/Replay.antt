@@ -3,7 +3,7 @@
 --     replayed bound schedule      the moment at which the replay ends
 --     Lawful bound schedule      no step is left over
 --     at_rest all, is_drained all      tests of the peers' states
-use Rattle.std.specs.Prelude.{◌≡◌, ℕ, zero, suc, ◌+◌, Bool, true, false, not, ◌&&◌, ◌==◌, List, [], ◌∷◌, length, take, drop, Option, Some, None, slice_index, slice_index_or, map, replicate}
+use Rattle.std.specs.Prelude.{◌≡◌, ℕ, ◌+◌, Bool, true, false, not, ◌&&◌, ◌==◌, List, [], ◌∷◌, length, take, drop, Some, None, slice_index, slice_index_or, map, replicate}
 use Rattle.std.specs.List.{list_all, list_any}
 use Rattle.fab_base.specs.declared.peers.Step.{Step}
 use Rattle.fab_base.specs.declared.script.Bound.{Bound}

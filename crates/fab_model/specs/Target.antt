@@ -10,7 +10,6 @@ use Rattle.fab_base.specs.declared.items.AtomicOp.{AtomicOp}
 use Rattle.fab_base.specs.declared.items.AtomicOp.TheVariants.{Min, Max, Sum, Prod, Lor, Land, Lxor, Bor, Band, Bxor, AtomicRead, AtomicWrite, Cswap, CswapNe, CswapLe, CswapLt, CswapGe, CswapGt, Mswap}
 use Rattle.fab_base.specs.declared.items.Num.{Num}
 use Rattle.fab_base.specs.declared.items.Num.TheVariants.{I8, I16, I32, I64, U8, U16, U32, U64}
-use Rattle.fab_base.specs.declared.items.Form.{Form}
 use Rattle.fab_base.specs.declared.items.Form.TheVariants.{Base, Fetch, Compare}
 use Rattle.fab_base.specs.declared.items.Atom.{Atom}
 use Rattle.fab_base.specs.declared.items.Access.{Access}

@@ -3,7 +3,7 @@
 --     Machine    what a state shows, and what a step makes of the state of its peer
 --     rule machine states p step      the state of peer p after the step, in these states
 --     Walk machine v s steps last     the steps of one peer lead from s to last, in this view
-use Rattle.std.specs.Prelude.{◌≡◌, ◌≤◌, ℕ, Bool, true, List, [], ◌∷◌, ◌++◌, slice_get, Option, Some, None, is_some}
+use Rattle.std.specs.Prelude.{◌≡◌, ◌≤◌, ℕ, Bool, true, List, [], ◌∷◌, ◌++◌, slice_get, Option, Some, is_some}
 use Rattle.std.specs.Option.{option_and_then, option_map_or}
 
 -- what a peer sees: what it may take of each sender, in order; a number that each sender shows it; and whether all peers are calm

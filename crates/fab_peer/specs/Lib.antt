@@ -1,3 +1,4 @@
 pub mod Endpoints
 pub mod Moves
 pub mod Turns
+pub mod Joined

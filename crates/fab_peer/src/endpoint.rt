@@ -3,6 +3,9 @@
 //! It carries messages of one frame, and keeps everything that it ever accepted and wrote.
 ghost use Rattle.std.specs.Prelude.{◌≡◌, ◌+◌, ◌^◌, ◌<◌, ◌∷◌, ℕ, [], Some, length, true, unwrap_or, IfOk, OnOk, IsTrue};
 ghost use Rattle.fab_base.specs.declared.peers.Step.TheVariants.{Do, Head, Tail};
+ghost use Rattle.std.specs.Prelude.{map};
+ghost use Rattle.fab_model.specs.Calls.{upto};
+ghost use Rattle.fab_model.specs.Replay.{fresh};
 ghost use Rattle.fab_model.specs.State.{lookup, counting};
 ghost use Rattle.fab_base.specs.declared.entries.Class.{Class};
 ghost use Rattle.fab_model.specs.Matching.{is_message, is_tagged};
@@ -16,7 +19,7 @@ use crate::entries::{entry_of, has_space};
 use crate::receiving::Inbox;
 use crate::transmitting::Outbox;
 use fab_base::{
-    Buf, Caps, Class, Entry, Item, ItemHead, Kind, Level, NoMemory, Operation, Receive, Step, Taken,
+    Buf, Caps, Class, Conf, Entry, Item, ItemHead, Kind, Level, NoMemory, Operation, Receive, Step, Taken,
     Tally,
 };
 use std::alloc::Global;
@@ -104,7 +107,40 @@ fn buf_or_none(alloc: Global, buf: Option<Buf>) -> Buf
     }
 }
 
+/// The address vector at the start: each peer under its own number.
+fn all_peers(alloc: Global, peers: u32) -> Result<Vec<Option<u32>>, NoMemory>
+    ensures { IfOk result (λ av. av.items ≡ map Some (upto peers)) }
+{
+    let mut av = Vec::new(alloc);
+    for peer in 0..peers {
+        av.push(Some(peer))?;
+    }
+    Ok(av)
+}
+
 impl Endpoint {
+    /// An endpoint with what the settings grant, at its start.
+    pub fn new(alloc: Global, conf: &Conf) -> Result<Endpoint, NoMemory>
+        ensures { IfOk result (λ e. e ≡ record { state = fresh conf.now; log = [] }) }
+    {
+        let info = &conf.info;
+        Ok(Endpoint {
+            caps: info.caps,
+            selective: conf.selective,
+            most_tx: info.tx,
+            most_rx: info.rx,
+            most_unread: info.cq,
+            av: all_peers(alloc, conf.peers)?,
+            rx: Inbox::new(alloc, conf.peers)?,
+            tx: Outbox::new(alloc, conf.peers)?,
+            cq: Queue::new(alloc, info.cq),
+            counters: [Tally { ok: 0, err: 0 }; 6],
+            calls: 0,
+            log: Vec::new(alloc),
+            alloc,
+        })
+    }
+
     /// The peer that stands at this index of the address vector.
     fn peer_at(&self, index: u32) -> Option<u32>
         ensures peer { result ≡ lookup self.now.state.av index }

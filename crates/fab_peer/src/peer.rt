@@ -1,15 +1,17 @@
 //! A peer: the lines of its part of a script, done in order over an endpoint.
-ghost use Rattle.std.specs.Prelude.{◌≡◌, Some, None, IfOk, OnOk, find, position};
+ghost use Rattle.std.specs.Prelude.{◌≡◌, Some, None, IfOk, OnOk, find, position, []};
 ghost use Rattle.fab_base.specs.declared.script.LineOp.TheVariants.{Wait, TRecv};
 ghost use Rattle.fab_model.specs.Matching.{remove_first};
 ghost use Rattle.fab_model.specs.Calls.{word_bytes};
 ghost use Rattle.fab_model.specs.Peers.{ctx_of, is_of_ctx, is_finished};
+ghost use Rattle.fab_model.specs.Replay.{newly};
+ghost use Rattle.fab_model.specs.Report.{pending_of};
 ghost use Rattle.fab_peer.specs.Moves.{IsTied};
 
 use crate::endpoint::Endpoint;
 use crate::moves::{progress, push};
 use fab_base::{
-    Buf, BytesWord, Entry, Fault, Kept, Level, Line, LineOp, LineResult, NoMemory, Step, Taken,
+    Buf, BytesWord, Conf, Entry, Fault, Kept, Level, Line, LineOp, LineResult, NoMemory, Step, Taken,
 };
 use fab_link::PlainPort;
 use std::alloc::Global;
@@ -86,6 +88,20 @@ fn word_bytes(alloc: Global, word: &BytesWord) -> Result<Buf, NoMemory>
 
 impl Peer {
     ghost use Rattle.fab_peer.specs.Turns.{Turned, actor_of, schedule_of, Does, Answered, next_op, SendsNext};
+
+    /// A peer that is to do these lines.
+    pub fn new(alloc: Global, conf: &Conf, lines: Vec<Line>) -> Result<Peer, NoMemory>
+        ensures actor { IfOk result (λ p. actor_of p ≡ newly conf.now lines.items) }
+        ensures schedule { IfOk result (λ p. schedule_of p ≡ []) }
+    {
+        Ok(Peer {
+            endpoint: Endpoint::new(alloc, conf)?,
+            lines,
+            results: Vec::new(alloc),
+            kept: Vec::new(alloc),
+            alloc,
+        })
+    }
 
     /// Reads completions until there is none, and keeps them.
     fn read_all(&mut self) -> Result<(), NoMemory>
@@ -237,6 +253,13 @@ impl Peer {
             self.read_all()?;
         }
         Ok(())
+    }
+
+    /// How many operations were transmitted and are not complete yet.
+    pub fn pending(&self) -> u64
+        ensures { result ≡ pending_of (actor_of self.now) }
+    {
+        self.endpoint.pending()
     }
 
     /// The steps taken so far, in order.

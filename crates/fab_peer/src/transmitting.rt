@@ -1,6 +1,6 @@
 //! The transmitting half of an endpoint: the items accepted for each peer, and the operations that have not ended.
-ghost use Rattle.std.specs.Prelude.{find, ◌≡◌, ◌+◌, ◌<◌, ◌≤◌, ◌^◌, ℕ, [], length, replicate, IfOk, OnErr, IfSome, IfNone, Some, None, slice_get, slice_index, position, true, IsSome};
-ghost use Rattle.fab_model.specs.State.{accepted_for, in_use};
+ghost use Rattle.std.specs.Prelude.{count_by, find, ◌≡◌, ◌+◌, ◌<◌, ◌≤◌, ◌^◌, ℕ, [], length, replicate, IfOk, OnErr, IfSome, IfNone, Some, None, slice_get, slice_index, position, true, IsSome};
+ghost use Rattle.fab_model.specs.State.{accepted_for, in_use, awaits};
 ghost use Rattle.fab_model.specs.Matching.{is_message, remove_first};
 ghost use Rattle.fab_model.specs.Sending.{accepting, transmitting, ending, is_of_item};
 
@@ -89,6 +89,23 @@ impl Outbox {
         ensures { result ≡ in_use self.now }
     {
         self.live.len()
+    }
+
+    /// Whether the operation's item is transmitted.
+    fn awaits(&self, operation: &Operation) -> bool
+        ensures { result ≡ awaits self.now operation.now }
+    {
+        match self.sent.get(operation.dest as usize) {
+            Some(sent) => operation.place < *sent,
+            None => false,
+        }
+    }
+
+    /// How many live operations' items are transmitted.
+    pub fn pending(&self) -> u64
+        ensures { result ≡ count_by (awaits self.now) self.now.live }
+    {
+        self.live.iter().filter(|o| self.awaits(o)).count() as u64
     }
 
     /// How many transmit calls were accepted.

@@ -2,3 +2,4 @@ pub mod Lanes
 pub mod Joining
 pub mod Parts
 pub mod Merging
+mod Samples

@@ -1,5 +1,5 @@
 -- Stamped posts and takes merge, where the numbers taken are the first of those posted.
-use Rattle.std.proofs.Common.{◌≡◌, ◌≢◌, ℕ, zero, suc, ◌+◌, ◌<◌, ◌≤◌, max, cond, eqb, Bool, true, false, List, [], ◌∷◌, ◌++◌, length, sum_by, slice_get, set, get_or, Some, None, refl, sym, ap, ◌∙◌, subst, arith, inl, inr, append_assoc, length-append, length-set, get_or-set_other, get_or-set_same, eq-eqb, ne_eqb}
+use Rattle.std.proofs.Common.{◌≡◌, ◌≢◌, ℕ, zero, suc, ◌+◌, ◌<◌, ◌≤◌, max, cond, eqb, Bool, true, false, List, [], ◌∷◌, ◌++◌, length, sum_by, slice_get, set, get_or, Some, None, refl, sym, ap, ◌∙◌, subst, arith, inl, inr, append_assoc, length-append, get_or-set_other, get_or-set_same, eq-eqb, ne_eqb}
 use Rattle.std.specs.Prelude.{Option, All, ◌⊎◌, unwrap_or, ◌&&◌}
 use Rattle.std.specs.List.{list_all}
 use Rattle.std.specs.Option.{option_or, option_map}
@@ -10,7 +10,7 @@ use Rattle.std.proofs.lemmas.Option.{unwrap_or-slice_get, slice_get_within, slic
 use mathlib.Core.List.{IsPrefix}
 use Rattle.fab_wire.specs.declared.moves.Move.{Move}
 use Rattle.fab_wire.specs.declared.moves.Move.TheVariants.{Post, Take}
-use Rattle.fab_wire.specs.Merged.{IsStampedAbove, IsStamped, posts_to, takes_of, Merging, with_inside, after_take, after_move, turn_with, turn, lowest_turn, merged_for, merges}
+use Rattle.fab_wire.specs.Merged.{IsStampedAbove, IsStamped, posts_to, takes_of, Merging, with_inside, after_take, turn_with, turn, lowest_turn, merged_for, merges}
 
 -- the moves that a peer has left
 abbrev moves_of : List (List Move) → ℕ → List Move

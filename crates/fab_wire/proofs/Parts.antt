@@ -1,6 +1,6 @@
 -- What the heads of a lane's frames tell.
-use Rattle.std.proofs.Common.{◌≡◌, ◌≢◌, ℕ, zero, suc, ◌+◌, ◌-◌, ◌<◌, ◌≤◌, Bool, true, false, eqb, List, [], ◌∷◌, ◌++◌, length, map, take, drop, min, Some, None, refl, sym, ap, ◌∙◌, subst, arith, inl, inr, length-take-le, length-drop}
-use Rattle.std.specs.Prelude.{Option, All, fold, is_none, IfSome, ◌⊎◌}
+use Rattle.std.proofs.Common.{◌≡◌, ℕ, zero, suc, ◌+◌, ◌-◌, ◌<◌, ◌≤◌, Bool, true, false, eqb, List, [], ◌∷◌, ◌++◌, length, map, take, drop, min, Some, None, refl, sym, ap, ◌∙◌, arith, inl, inr, length-take-le, length-drop}
+use Rattle.std.specs.Prelude.{Option, All, fold, is_none, IfSome}
 use Rattle.std.proofs.lemmas.Bool.Decides.{nat_tests}
 use Rattle.std.proofs.lemmas.List.Sums.{fold-append}
 use Rattle.std.proofs.lemmas.List.Elements.{All-head, All-tail}
@@ -9,8 +9,8 @@ use Rattle.fab_base.specs.declared.frames.Frame.{Frame}
 use Rattle.fab_base.specs.declared.items.Item.{Item}
 use Rattle.fab_base.specs.declared.items.ItemHead.{ItemHead}
 use Rattle.fab_wire.specs.Frames.{IsLast, last_head, Follows, Continues, MayCome, IsSound, IsLane}
-use Rattle.fab_wire.specs.Cut.{frame_count, heads_from, frame_of, cut, cut_all, IsBetweenItems, IsItem}
-use Rattle.fab_wire.specs.Joined.{is_last, part_of, begins, ends, Gathered, nothing, grown, with_frame, joined, Tells}
+use Rattle.fab_wire.specs.Cut.{frame_count, heads_from, frame_of, cut_all, IsBetweenItems, IsItem}
+use Rattle.fab_wire.specs.Joined.{is_last, part_of, begins, ends, Gathered, nothing, with_frame, joined, Tells}
 
 -- the end of a lane and what its frames join to agree on whether an item is unfinished
 abbrev Agrees : Option FrameHead → Option Item → Type 0

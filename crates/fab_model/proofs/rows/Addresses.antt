@@ -1,11 +1,8 @@
 -- Addresses.
-use Rattle.std.specs.Prelude.{List, [], ◌∷◌, ℕ, Some, None, true, false, codes, refl}
-use Rattle.fab_base.specs.declared.entries.Class.{Class}
-use Rattle.fab_base.specs.declared.items.AtomicOp.{AtomicOp}
-use Rattle.fab_base.specs.declared.items.Num.{Num}
+use Rattle.std.specs.Prelude.{List, [], ◌∷◌, ℕ, None, false, codes, refl}
 use Rattle.fab_base.specs.declared.peers.Level.{Level}
 use Rattle.fab_base.specs.declared.script.Bound.{Bound}
-use Rattle.fab_base.specs.declared.script.BytesWord.TheVariants.{Text, Hex, Zero}
+use Rattle.fab_base.specs.declared.script.BytesWord.TheVariants.{Text}
 use Rattle.fab_base.specs.declared.script.LineOp.{LineOp}
 use Rattle.fab_model.specs.Machine.{machine}
 use Rattle.fab_model.proofs.Scripts.{script_of, line, Shows}

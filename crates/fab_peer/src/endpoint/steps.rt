@@ -1,7 +1,8 @@
 //! The steps that an endpoint takes by itself: arrivals, and what is transmitted.
 ghost use Rattle.std.specs.Prelude.{◌≡◌, ◌<◌, length, Some, is_some, OnOk, IfOk, IfSome, IsTrue, IsSome, slice_get, slice_index};
 ghost use Rattle.fab_model.specs.Arrivals.{taker};
-ghost use Rattle.fab_model.specs.State.{accepted_for};
+ghost use Rattle.std.specs.Prelude.{count_by};
+ghost use Rattle.fab_model.specs.State.{accepted_for, awaits};
 ghost use Rattle.fab_peer.specs.Endpoints.{has_room, IsCarried, Arrives, IntoReceive, Unexpected, Transmits};
 
 use super::Endpoint;
@@ -64,6 +65,13 @@ impl Endpoint {
     /// How many transmit operations are live.
     pub fn in_use(&self) -> usize {
         self.tx.in_use()
+    }
+
+    /// How many operations are transmitted and live.
+    pub fn pending(&self) -> u64
+        ensures { result ≡ count_by (awaits self.now.state.tx) self.now.state.tx.live }
+    {
+        self.tx.pending()
     }
 
     /// How many completions are unread.

@@ -1,6 +1,6 @@
 use Rattle.std.proofs.Common.{get_or, refl, rules}
 use Rattle.std.specs.Prelude.{slice_set}
-use Rattle.fab_link.proofs.Carrying.{first_of, went_of, went_kept, went_continued, went_counted}
+use Rattle.fab_link.proofs.Carrying.{first_of, went_of, went_kept, went_others, went_taken, taken_of, went_continued, went_counted}
 use Rattle.fab_link.proofs.carry.carry_one.Goals as goal
 
 pub returns : goal.returns
@@ -15,7 +15,8 @@ returns c =
       all = search rules;
       kept = went_kept _ _ _ _ _ _ _ _ _ _ went;
       same = search rules;
-      others = search rules;
+      taken = went_taken _ _ _ _ _ _ _ _ _ _ went (taken_of c.args.ports.now c.args.from c.args.to c.index-ports-to.result _ c.bring.new.self c.in-Some.copy c.requires.from c.requires.to c.requires.all.lanes refl c.in_default-bring.ensures.ok (c.bring.ensures.taken c.args.from));
+      others = went_others _ _ _ _ _ _ _ _ _ _ went;
       continued = went_continued _ _ _ _ _ _ _ _ _ _ went c.requires.continued;
       none = search rules;
       one = search rules;

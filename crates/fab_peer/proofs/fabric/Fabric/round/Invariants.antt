@@ -1,0 +1,10 @@
+use Rattle.std.proofs.Common.{◌≡◌, length}
+use Rattle.fab_peer.specs.Joined.{IsJoined, GoesOn}
+use Rattle.fab_peer.proofs.fabric.Fabric.round.Given as goal
+
+abbrev pub invariant-loop-number : goal.invariant-loop-number
+invariant-loop-number l = record {
+  joined : IsJoined l.self;
+  on : GoesOn l.fn.self l.self;
+  count : length l.self.peers.items ≡ l.number-end;
+}

@@ -1,0 +1,120 @@
+//! All peers of a script, over plain ports: they take turns, and what they posted is carried after each round.
+ghost use Rattle.std.specs.Prelude.{◌≡◌, ◌<◌, ◌^◌, drop, length, slice_index_or, [], IfOk, OnOk, map};
+ghost use Rattle.fab_base.specs.declared.script.Bound.{Bound};
+ghost use Rattle.fab_model.specs.Orders.{Reached};
+ghost use Rattle.fab_model.specs.Peers.{fabric};
+ghost use Rattle.fab_model.specs.Views.{rule};
+ghost use Rattle.fab_model.specs.Replay.{opening};
+ghost use Rattle.fab_peer.specs.Turns.{actor_of, schedule_of};
+ghost use Rattle.fab_peer.specs.Joined.{IsJoined, Opens, GoesOn};
+
+use crate::binding::bind_lines;
+use crate::peer::Peer;
+use fab_base::{Bound, Buf, Conf, Line, List, NoMemory, Payload, Script};
+use fab_link::PlainPort;
+use fab_link::carry::carry;
+use std::alloc::Global;
+
+/// All peers with their ports, by number.
+#[derive(Drop)]
+struct Fabric {
+    peers: Vec<Peer>,
+    ports: Vec<PlainPort>,
+    alloc: Global,
+}
+
+/// Takes the first list, or an empty one where there is none.
+fn take_first(alloc: Global, lists: &mut Vec<List<Line>>) -> Vec<Line>
+    ensures first { result.items ≡ slice_index_or lists.old.items 0 [] }
+    ensures rest { lists.new.items ≡ drop 1 lists.old.items }
+{
+    if lists.is_empty() {
+        return Vec::new(alloc);
+    }
+    lists.remove(0).into_vec()
+}
+
+impl Fabric {
+    /// All peers at the start of their lines.
+    fn open(
+        alloc: Global,
+        conf: &Conf,
+        payloads: &[Payload],
+        files: &[Buf],
+        mut lists: Vec<List<Line>>,
+    ) -> Result<Fabric, NoMemory>
+        ensures { (b : Bound) → b.script.conf ≡ conf.now → b.script.payloads ≡ payloads.now → b.script.peers ≡ lists.items → b.files ≡ files.now
+            → IfOk result (Opens b) }
+    {
+        let mut peers = Vec::new(alloc);
+        let mut ports = Vec::new(alloc);
+        for number in 0..conf.peers {
+            let lines = take_first(alloc, &mut lists);
+            let lines = bind_lines(alloc, payloads, files, lines)?;
+            peers.push(Peer::new(alloc, conf, lines)?)?;
+            ports.push(PlainPort::new(alloc, number, conf.peers)?)?;
+        }
+        Ok(Fabric {
+            peers,
+            ports,
+            alloc,
+        })
+    }
+
+    /// One peer's turn. Whether it took a step.
+    fn turn(&mut self, number: usize) -> Result<bool, NoMemory>
+        requires below { number < length self.old.peers.items }
+        requires joined { IsJoined self.old }
+        ensures joined { OnOk result (IsJoined self.new) }
+        ensures on { OnOk result (GoesOn self.old self.new) }
+        ensures count { length self.new.peers.items ≡ length self.old.peers.items }
+    {
+        self.peers[number].quantum(&mut self.ports[number])
+    }
+
+    /// Each peer's turn, and then what they posted is carried. Whether anything moved.
+    fn round(&mut self) -> Result<bool, NoMemory>
+        requires joined { IsJoined self.old }
+        ensures joined { OnOk result (IsJoined self.new) }
+        ensures on { OnOk result (GoesOn self.old self.new) }
+    {
+        let mut moved = false;
+        for number in 0..self.peers.len() {
+            let stepped = self.turn(number)?;
+            moved = moved || stepped;
+        }
+        let carried = carry(self.alloc, self.ports.as_mut_slice())?;
+        Ok(moved || carried != 0)
+    }
+
+    /// Rounds until one moves nothing.
+    fn finish(&mut self) -> Result<(), NoMemory>
+        requires joined { IsJoined self.old }
+        ensures on { OnOk result (GoesOn self.old self.new) }
+    {
+        for _round in 0..u64::MAX {
+            if !self.round()? {
+                break;
+            }
+        }
+        Ok(())
+    }
+}
+
+/// Runs all peers of a script until none can go on, and hands them back: some order of turns took the
+/// steps of their schedules from the script's opening to their states.
+pub fn run_peers(alloc: Global, bound: Bound) -> Result<Vec<Peer>, NoMemory>
+    ensures { IfOk result (λ peers. Reached (rule fabric) (opening bound) (map schedule_of peers.items) (map actor_of peers.items)) }
+{
+    let Bound { script, files } = bound;
+    let Script {
+        conf,
+        payloads,
+        peers,
+        ..
+    } = script;
+    let lists = peers.into_vec();
+    let mut fabric = Fabric::open(alloc, &conf, payloads.as_slice(), files.as_slice(), lists)?;
+    fabric.finish()?;
+    Ok(fabric.peers)
+}

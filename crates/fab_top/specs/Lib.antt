@@ -1,0 +1,4 @@
+pub mod Outside
+pub mod Refused
+pub mod Texts
+pub mod Memory

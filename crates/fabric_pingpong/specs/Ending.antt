@@ -1,0 +1,43 @@
+-- How the program tells its end.
+--     status_number status   the exit status
+--     line_of_end status     the line on standard error
+use Rattle.std.specs.Prelude.{ℕ, List, [], ◌++◌, codes, decimal}
+use Rattle.fab_base.specs.declared.status.Status.{Status}
+use Rattle.fab_base.specs.declared.status.Status.TheVariants.{Done, Stuck, Usage, ScriptRefused, TooLong, ReadFault, WriteFault, NoMemory}
+use Rattle.fab_base.specs.declared.status.Why.{Why}
+use Rattle.fab_base.specs.declared.status.Why.TheVariants.{NotText, Header, Verb, Unbuilt, Order, Twice, Words, Number, Peer, Limit, NoData, Missing, FileRange}
+
+abbrev pub status_number : Status → ℕ
+status_number Done = 0
+status_number Stuck = 1
+status_number Usage = 2
+status_number (ScriptRefused line why) = 3
+status_number (TooLong name) = 4
+status_number (ReadFault name) = 5
+status_number WriteFault = 6
+status_number NoMemory = 7
+
+abbrev pub why_name : Why → List ℕ
+why_name NotText = codes "NotText"
+why_name Header = codes "Header"
+why_name Verb = codes "Verb"
+why_name Unbuilt = codes "Unbuilt"
+why_name Order = codes "Order"
+why_name Twice = codes "Twice"
+why_name Words = codes "Words"
+why_name Number = codes "Number"
+why_name Peer = codes "Peer"
+why_name Limit = codes "Limit"
+why_name NoData = codes "NoData"
+why_name Missing = codes "Missing"
+why_name FileRange = codes "FileRange"
+
+abbrev pub line_of_end : Status → List ℕ
+line_of_end Done = []
+line_of_end Stuck = []
+line_of_end Usage = codes "usage: fabric_pingpong script FILE"
+line_of_end (ScriptRefused line why) = codes "script refused at line " ++ decimal line ++ codes ": " ++ why_name why
+line_of_end (TooLong name) = codes "too long: " ++ name
+line_of_end (ReadFault name) = codes "read fault: " ++ name
+line_of_end WriteFault = codes "write fault"
+line_of_end NoMemory = codes "out of memory"
