@@ -1,2 +1,4 @@
 pub mod Blanks
 pub mod Pieces
+pub mod Parts
+pub mod Telling

@@ -9,10 +9,12 @@
 //! text of a report.
 #![tactic(auto)]
 
+mod loading;
 mod memory;
 mod outside;
 mod report;
 mod running;
+mod whole;
 mod writing;
 
 pub use memory::{MemoryClock, MemoryDepot, MemorySink};

@@ -17,7 +17,7 @@ use fab_base::{
 };
 
 /// The first line of a report over this many peers.
-pub fn add_first(out: &mut String, peers: u32) -> Result<(), NoMemory>
+pub fn add_first(out: &mut String, peers: usize) -> Result<(), NoMemory>
     ensures { OnOk result (string_bytes out.new ≡ string_bytes out.old ++ line_of (first_line peers)) }
 {
     writeln!(out, "fabric 1 peers {peers}")?;
@@ -484,7 +484,7 @@ fn add_lefts(out: &mut String, kept: &[Kept]) -> Result<(), NoMemory>
     Ok(())
 }
 
-fn add_pending(out: &mut String, pending: u32) -> Result<(), NoMemory>
+fn add_pending(out: &mut String, pending: u64) -> Result<(), NoMemory>
     ensures { OnOk result (string_bytes out.new ≡ string_bytes out.old ++ text_of (pending_line pending)) }
 {
     if pending != 0 {
@@ -532,11 +532,11 @@ fn add_trace(out: &mut String, steps: &[Step]) -> Result<(), NoMemory>
 /// operations await a reply, and the steps of its schedule.
 pub fn add_peer(
     out: &mut String,
-    number: u32,
+    number: usize,
     lines: &[Line],
     results: &[LineResult],
     kept: &[Kept],
-    pending: u32,
+    pending: u64,
     steps: &[Step],
 ) -> Result<(), NoMemory>
     ensures { OnOk result (string_bytes out.new ≡ string_bytes out.old

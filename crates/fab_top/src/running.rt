@@ -1,16 +1,108 @@
-//! The top call.
-use crate::outside::{Clock, Depot, Sink};
-use fab_base::{Gate, Status, Text};
+//! The top call: a command from its words to its report.
+ghost use Rattle.std.specs.Prelude.{◌≡◌, ◌<◌, ◌≤◌, ◌↔◌, ℕ, List, true, false, None, Some, IfOk, string_bytes, option_map, length, take};
+ghost use Rattle.std.specs.Io.KnownBytes.{append_known};
+ghost use Rattle.fab_base.specs.declared.status.Status.TheVariants.{Done, Stuck, Usage, TooLong, ReadFault, WriteFault};
+ghost use Rattle.fab_script.specs.Grammar.{script_of};
+ghost use Rattle.fab_top.specs.Outside.{Rose, IsFile, BeginsFile};
+ghost use Rattle.fab_top.specs.Runs.{command_of, alone, script_max, Reports, IsRead, IsUnread, Writes, WritesPart, IsSilent, IsScriptRefused, WritesReport};
+
+use crate::loading::load_script;
+use crate::outside::{Clock, Depot, Failed, Sink};
+use crate::whole::{all_done, report};
+use crate::writing::write_all;
+use fab_base::{Bound, Gate, List, NoMemory, Script, Status, Text};
+use fab_peer::run_peers;
 use std::alloc::Global;
 
-/// Runs the command that these words are.
+/// The file that is to be run, where the words are `script FILE`.
+fn command(words: &[Text]) -> Option<&Text>
+    ensures { option_map (λ file. file.now) result ≡ command_of words.now }
+{
+    if words.len() != 2 || words[0].as_str() != "script" {
+        return None;
+    }
+    Some(&words[1])
+}
+
+/// What a script leads to.
+#[derive(Drop)]
+struct Ran {
+    text: String,
+    done: bool,
+}
+
+/// Runs a script's peers until none can go on, and reports what they did.
+fn run_script(alloc: Global, script: Script) -> Result<Ran, NoMemory>
+    ensures { IfOk result (λ ran. Reports (alone script) (string_bytes ran.text) ran.done) }
+{
+    let files = List::empty(alloc);
+    let peers = run_peers(alloc, Bound { script, files })?;
+    Ok(Ran {
+        text: report(alloc, &peers)?,
+        done: all_done(&peers),
+    })
+}
+
+/// Writes the report, and says how the run ends.
+fn write_report<S: Sink>(sink: &mut S, ran: &Ran) -> Status
+    ensures done { result ≡ Done → (ran.now.done ≡ true) × (S.bytes sink.new ≡ append_known (S.bytes sink.old) (string_bytes ran.now.text)) }
+    ensures stuck { result ≡ Stuck → (ran.now.done ≡ false) × (S.bytes sink.new ≡ append_known (S.bytes sink.old) (string_bytes ran.now.text)) }
+    ensures write_fault { result ≡ WriteFault → Rose (S.faults sink.old) (S.faults sink.new)
+        × ((n : ℕ) × (n < length (string_bytes ran.now.text)) × (S.bytes sink.new ≡ append_known (S.bytes sink.old) (take n (string_bytes ran.now.text)))) }
+    ensures written { WritesReport result }
+{
+    match write_all(sink, ran.text.as_bytes()) {
+        Err(Failed) => Status::WriteFault,
+        Ok(()) => {
+            if ran.done {
+                Status::Done
+            } else {
+                Status::Stuck
+            }
+        }
+    }
+}
+
+/// Runs the command that these words are: `script FILE` loads the file, runs the peers of the script
+/// that it spells, and writes their report.
+///
+/// The report is that of one lawful schedule, the one that its own trace lines tell: in some order of
+/// turns the peers' steps led from the script's opening to the states that it reports. At `Done` all
+/// lines are done in them, and at `Stuck` some line is not. At `WriteFault` the first bytes of such a
+/// report are written, and at every other status none. The files stay as they are. `NoMemory` may come
+/// before anything is written. The clock is not read, and the gate is not told, while the peers take
+/// turns in the caller's thread.
 pub fn run<D: Depot, S: Sink, C: Clock, G: Gate>(
-    _alloc: Global,
-    _words: &[Text],
-    _depot: &mut D,
-    _sink: &mut S,
+    alloc: Global,
+    words: &[Text],
+    depot: &mut D,
+    sink: &mut S,
     _clock: &mut C,
     _gate: &G,
-) -> Status {
-    Status::Usage
+) -> Status
+    ensures usage { (result ≡ Usage) ↔ (command_of words.now ≡ None) }
+    ensures refused { IsScriptRefused result → (name : List ℕ) × (command_of words.now ≡ Some name)
+        × ((bytes : List ℕ) × IsFile (D.files depot.old) name bytes × (length bytes ≤ script_max) × (script_of bytes ≡ None)) }
+    ensures too_long { (name : List ℕ) → result ≡ TooLong name → (command_of words.now ≡ Some name)
+        × ((bytes : List ℕ) × BeginsFile (D.files depot.old) name bytes × (script_max < length bytes)) }
+    ensures read_fault { (name : List ℕ) → result ≡ ReadFault name → (command_of words.now ≡ Some name)
+        × Rose (D.faults depot.old) (D.faults depot.new) × (D.failed_name depot.new ≡ Some name) }
+    ensures done { result ≡ Done → Writes (D.files depot.old) words.now true (S.bytes sink.old) (S.bytes sink.new) }
+    ensures stuck { result ≡ Stuck → Writes (D.files depot.old) words.now false (S.bytes sink.old) (S.bytes sink.new) }
+    ensures write_fault { result ≡ WriteFault → Rose (S.faults sink.old) (S.faults sink.new)
+        × WritesPart (D.files depot.old) words.now (S.bytes sink.old) (S.bytes sink.new) }
+    ensures silent { IsSilent result → S.bytes sink.new ≡ S.bytes sink.old }
+    ensures files { D.files depot.new ≡ D.files depot.old }
+{
+    let Some(name) = command(words) else {
+        return Status::Usage;
+    };
+    let script = match load_script(alloc, depot, name) {
+        Ok(script) => script,
+        Err(status) => return status,
+    };
+    match run_script(alloc, script) {
+        Ok(ran) => write_report(sink, &ran),
+        Err(NoMemory) => Status::NoMemory,
+    }
 }

@@ -1,0 +1,28 @@
+//! The reader of scripts: from the bytes of a file to the lines of each peer.
+//!
+//! [`parse`] reads a text by the grammar of docs/SCRIPT.md, as far as its lines are carried out today.
+//! The grammar itself is in specs/: `Rows` cuts a text into lines and words, `Words` says what one word
+//! says, `Lines` what one line asks for, and `Grammar` puts a script together. The code goes over the
+//! text once, line by line; `cause` looks for the reason only once a line is refused.
+//!
+//! A new kind of line has its definition in specs/Lines.antt, its reader in lines.rt, and its form in
+//! cause.rt.
+#![tactic(auto)]
+
+mod cause;
+mod conf;
+mod cut;
+mod grammar;
+mod items;
+mod lines;
+mod parts;
+mod refused;
+mod rows;
+mod unread;
+mod words;
+
+pub use grammar::parse;
+pub use refused::ParseRefused;
+
+#[cfg(test)]
+mod tests;

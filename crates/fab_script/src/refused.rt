@@ -1,0 +1,40 @@
+//! Why a script was not read.
+ghost use Rattle.std.specs.Prelude.{◌≡◌};
+ghost use Rattle.fab_script.specs.declared.refused.ParseRefused.TheVariants.{NoMemory as OutOfMemory};
+
+use fab_base::Why;
+use std::alloc::{AllocError, AllocFailed};
+
+/// Why `parse` gives no script.
+#[derive(Debug, Drop)]
+pub enum ParseRefused {
+    /// The text is not in the grammar. `line` is the first line that breaks a rule, numbered from 1
+    /// (0 where the file has no line with words), and `why` is the first rule that it breaks.
+    Script { line: u32, why: Why },
+    /// Want of memory. Nothing is known of the text.
+    NoMemory,
+}
+
+impl From<fab_base::NoMemory> for ParseRefused {
+    ghost from_gives = { λ _ e. e ≡ OutOfMemory };
+
+    fn from(_error: fab_base::NoMemory) -> ParseRefused {
+        ParseRefused::NoMemory
+    }
+}
+
+impl From<AllocError> for ParseRefused {
+    ghost from_gives = { λ _ e. e ≡ OutOfMemory };
+
+    fn from(_error: AllocError) -> ParseRefused {
+        ParseRefused::NoMemory
+    }
+}
+
+impl<T: Drop> From<AllocFailed<T>> for ParseRefused {
+    ghost from_gives = { λ _ e. e ≡ OutOfMemory };
+
+    fn from(_error: AllocFailed<T>) -> ParseRefused {
+        ParseRefused::NoMemory
+    }
+}

@@ -1,0 +1,322 @@
+//! Which line is named, and for which reason; and scripts that are read whole.
+use super::*;
+use fab_base::{BytesWord, Level, Line, LineOp, Script, Why};
+use std::alloc::Global;
+use std::process::Abort;
+use std::test::Fail;
+
+/// The header and one peer.
+const ONE: &[u8] = b"fabric 1\npeers 1\npeer 0\n";
+
+fn read(alloc: Global, text: &[u8]) -> Result<Script, Fail> {
+    Ok(parse(alloc, text)?)
+}
+
+/// The line and the reason for which a text is refused.
+fn refusal(alloc: Global, text: &[u8]) -> Option<(u32, Why)> {
+    match parse(alloc, text) {
+        Err(ParseRefused::Script { line, why }) => Some((line, why)),
+        _ => None,
+    }
+}
+
+/// Whether a line is this receive of any source.
+fn is_trecv(line: &Line, number: u32, want: (u64, u64, u64, u32)) -> bool {
+    match line.op {
+        LineOp::TRecv {
+            ctx,
+            source,
+            tag,
+            ignore,
+            len,
+        } => line.number == number && source.is_none() && (ctx, tag, ignore, len) == want,
+        _ => false,
+    }
+}
+
+/// Whether a line is this send of a text, without remote data.
+fn is_tsend(line: &Line, number: u32, want: (u64, u32, u64), text: &[u8]) -> bool {
+    match &line.op {
+        LineOp::TSend {
+            ctx,
+            dest,
+            tag,
+            bytes: BytesWord::Text(bytes),
+            imm,
+            level,
+            completion,
+        } => {
+            line.number == number
+                && (*ctx, *dest, *tag) == want
+                && bytes.as_slice() == text
+                && imm.is_none()
+                && *level == Level::Transmit
+                && !*completion
+        }
+        _ => false,
+    }
+}
+
+fn is_wait(line: &Line, number: u32, context: u64) -> bool {
+    match line.op {
+        LineOp::Wait { ctx } => line.number == number && ctx == Some(context),
+        _ => false,
+    }
+}
+
+/// The lines of a script of two peers.
+fn two_peers<'a>(rt: &impl Abort, script: &'a Script) -> (&'a [Line], &'a [Line]) {
+    let peers = script.peers.as_slice();
+    assert_eq!(rt; peers.len(), 2);
+    (peers[0].as_slice(), peers[1].as_slice())
+}
+
+#[test]
+fn one_message(rt: HostRuntime) -> Result<(), Fail> {
+    let text =
+        b"fabric 1\npeers 2\npeer 0\ntrecv 1 * 7 0 16\nwait 1\npeer 1\ntsend 2 0 7 text:hello\n";
+    let script = read(rt.alloc(), text)?;
+    assert_eq!(rt; script.version, 1);
+    assert!(rt; script.payloads.as_slice().is_empty());
+    let (first, second) = two_peers(&rt, &script);
+    assert_eq!(rt; first.len(), 2);
+    assert!(rt; is_trecv(&first[0], 4, (1, 7, 0, 16)));
+    assert!(rt; is_wait(&first[1], 5, 1));
+    assert_eq!(rt; second.len(), 1);
+    assert!(rt; is_tsend(&second[0], 7, (2, 0, 7), b"hello"));
+    Ok(())
+}
+
+#[test]
+fn sizes_are_the_defaults(rt: HostRuntime) -> Result<(), Fail> {
+    let script = read(rt.alloc(), b"fabric 1\npeers 32\n")?;
+    let conf = script.conf;
+    assert_eq!(rt; conf.peers, 32);
+    assert!(rt; !conf.selective);
+    let hints = conf.hints.ok_or("a script has hints")?;
+    assert!(rt; hints.caps == fab_base::Caps::none());
+    assert_eq!(rt; hints.peers, Some(32));
+    assert_eq!(rt; hints.lane, None);
+    let info = conf.info;
+    assert_eq!(rt;
+        (info.peers, info.lane, info.pool, info.tx),
+        (32, 64, 32, 64)
+    );
+    assert_eq!(rt;
+        (info.rx, info.cq, info.log, info.inject),
+        (256, 1024, 4096, 4096)
+    );
+    assert_eq!(rt; info.message, 16_777_216);
+    assert!(rt; info.caps.msg && info.caps.local_comm && !info.caps.rma_event && !info.caps.fence);
+    assert_eq!(rt; script.peers.as_slice().len(), 32);
+    Ok(())
+}
+
+#[test]
+fn spaces_empty_lines_and_order_of_peers(rt: HostRuntime) -> Result<(), Fail> {
+    let text =
+        b"\n   \n fabric   1 \n\npeers 2\n\n peer 1\nwait 18446744073709551615\n\npeer  0\n  tsend 00 4294967295 0 text:";
+    let script = read(rt.alloc(), text)?;
+    let (first, second) = two_peers(&rt, &script);
+    assert_eq!(rt; first.len(), 1);
+    assert!(rt; is_tsend(&first[0], 11, (0, 4_294_967_295, 0), b""));
+    assert_eq!(rt; second.len(), 1);
+    assert!(rt; is_wait(&second[0], 8, u64::MAX));
+    Ok(())
+}
+
+/// Texts that are refused whole.
+#[test]
+fn refused_texts(rt: HostRuntime) {
+    let table: [(&[u8], u32, Why); 24] = [
+        (b"", 0, Why::Header),
+        (b"\n \n", 0, Why::Header),
+        (b"fabric 1", 1, Why::Missing),
+        (b"fabric 1\n\n\n", 3, Why::Missing),
+        (b"fabric 2\n", 1, Why::Header),
+        (b"fabric 01\n", 1, Why::Header),
+        (b"fabric 1 1\n", 1, Why::Header),
+        (b"\npeers 2\n", 2, Why::Header),
+        (b"jump\n", 1, Why::Header),
+        (b"fabric 1\npeers 33\n", 2, Why::Limit),
+        (b"fabric 1\npeers 0\n", 2, Why::Limit),
+        (b"fabric 1\npeers\n", 2, Why::Words),
+        (b"fabric 1\npeers 2 2\n", 2, Why::Words),
+        (b"fabric 1\npeers x\n", 2, Why::Number),
+        (b"fabric 1\npeers 2\npeers 2\n", 3, Why::Twice),
+        (b"fabric 1\nfabric 1\n", 2, Why::Verb),
+        (b"fabric 1\nwait 1\n", 2, Why::Order),
+        (b"fabric 1\npeers 1\nwait 1\n", 3, Why::Order),
+        (b"fabric 1\npeer 0\n", 2, Why::Peer),
+        (b"fabric 1\npeers 1\npeer 1\n", 3, Why::Peer),
+        (
+            b"fabric 1\npeers 2\npeer 0\npeer 1\npeer 0\n",
+            5,
+            Why::Twice,
+        ),
+        (b"fabric 1\npeers 1\npeer 0\npeers 1\n", 4, Why::Order),
+        (b"fabric 1\npeers 1\npeer 0 0\n", 3, Why::Words),
+        (b"fabric 1\npeers 1\ncq 1\n", 3, Why::Unbuilt),
+    ];
+    for (text, line, why) in table {
+        assert_eq!(rt; refusal(rt.alloc(), text), Some((line, why)));
+    }
+}
+
+/// The reason for which the line is refused that follows the opening of a peer.
+fn refusal_of(rt: &impl Abort, alloc: Global, line: &[u8]) -> Result<Option<(u32, Why)>, Fail> {
+    let mut text = Vec::from_slice(alloc, ONE)?;
+    text.extend_from_slice(line)?;
+    Ok(refusal(alloc, &text))
+}
+
+/// Lines of a peer, each the fourth line of its script. None: the script is read.
+#[test]
+fn lines_of_a_peer(rt: HostRuntime) -> Result<(), Fail> {
+    let table: [(&[u8], Option<Why>); 29] = [
+        (b"jump 1\n", Some(Why::Verb)),
+        (b"Wait 1\n", Some(Why::Verb)),
+        (b"wait 1\x7f\n", Some(Why::NotText)),
+        (b"wait 1\r", Some(Why::NotText)),
+        (b"wait\n", Some(Why::Words)),
+        (b"wait 1 2\n", Some(Why::Words)),
+        (b"wait x\n", Some(Why::Number)),
+        (b"wait -1\n", Some(Why::Number)),
+        (b"wait 18446744073709551615", None),
+        (b"wait 18446744073709551616", Some(Why::Number)),
+        (b"wait 00000000000000000001", None),
+        (b"wait 000000000000000000001", Some(Why::Number)),
+        (b"tsend 1 0 7\n", Some(Why::Words)),
+        (b"tsend 1 0 7 text:a b\n", Some(Why::Words)),
+        (b"tsend 1 4294967295 7 text:a\n", None),
+        (b"tsend 1 4294967296 7 text:a\n", Some(Why::Limit)),
+        (b"tsend 1 4294967296 x text:a\n", Some(Why::Number)),
+        (b"trecv 1 * 7 0\n", Some(Why::Words)),
+        (b"trecv 1 * 7 0 16 0\n", Some(Why::Words)),
+        (b"trecv 1 * 7 0 x\n", Some(Why::Number)),
+        (b"trecv 1 * 7 0 33554432\n", None),
+        (b"trecv 1 * 7 0 33554433\n", Some(Why::Limit)),
+        (b"trecv 1 * 7 18446744073709551615 0\n", None),
+        (b"peer 0\n", Some(Why::Twice)),
+        (b"peer 1\n", Some(Why::Peer)),
+        (b"peer\n", Some(Why::Words)),
+        (b"peers 1\n", Some(Why::Order)),
+        (b"fabric 1\n", Some(Why::Verb)),
+        (b"     \n", None),
+    ];
+    for (line, why) in table {
+        assert_eq!(rt; refusal_of(&rt, rt.alloc(), line)?, why.map(|why| (4, why)));
+    }
+    Ok(())
+}
+
+/// Each form that is not built yet.
+#[test]
+fn lines_that_are_not_built(rt: HostRuntime) -> Result<(), Fail> {
+    let table: [&[u8]; 24] = [
+        b"send 1 0 text:a\n",
+        b"caps FI_TAGGED\n",
+        b"payload 1 file\n",
+        b"reach send 1\n",
+        b"tsend 1 0 7 text:a data=1\n",
+        b"tsend 1 0 7 text:a level=match\n",
+        b"tsend 1 0 7 text:a completion\n",
+        b"tsend 1 0 7 hex:61\n",
+        b"tsend 1 0 7 zero:1\n",
+        b"tsend 1 0 7 file:1:0:1\n",
+        b"tsend 0x1 0 7 text:a\n",
+        b"tsend 1 0x0 7 text:a\n",
+        b"tsend 1 0 0x7 text:a\n",
+        b"trecv 1 0 7 0 16\n",
+        b"trecv 0x1 * 7 0 16\n",
+        b"trecv 1 * 0x7 0 16\n",
+        b"trecv 1 * 7 0xff 16\n",
+        b"trecv 1 * 7 0 0x10\n",
+        b"wait *\n",
+        b"wait 0x1\n",
+        b"wait\t1\n",
+        b"wait 1\r\n",
+        b"# a remark\n",
+        b"peer 0x0\n",
+    ];
+    for line in table {
+        assert_eq!(rt; refusal_of(&rt, rt.alloc(), line)?, Some((4, Why::Unbuilt)));
+    }
+    assert_eq!(rt;
+        refusal(rt.alloc(), b"fabric 1\r\n"),
+        Some((1, Why::Unbuilt))
+    );
+    assert_eq!(rt;
+        refusal(rt.alloc(), b"# a remark\n"),
+        Some((1, Why::Unbuilt))
+    );
+    assert_eq!(rt;
+        refusal(rt.alloc(), b"fabric 1\npeers 0x1\n"),
+        Some((2, Why::Unbuilt))
+    );
+    Ok(())
+}
+
+/// A text of this many bytes, and the line that sends it.
+fn send_of(alloc: Global, len: usize) -> Result<Vec<u8>, Fail> {
+    let mut text = Vec::from_slice(alloc, ONE)?;
+    text.extend_from_slice(b"tsend 1 0 7 text:")?;
+    for _ in 0..len {
+        text.push(b'a')?;
+    }
+    Ok(text)
+}
+
+#[test]
+fn longest_text(rt: HostRuntime) -> Result<(), Fail> {
+    let script = read(rt.alloc(), &send_of(rt.alloc(), 4096)?)?;
+    assert_eq!(rt; script.peers.as_slice().len(), 1);
+    let longer = send_of(rt.alloc(), 4097)?;
+    assert_eq!(rt; refusal(rt.alloc(), &longer), Some((4, Why::Unbuilt)));
+    Ok(())
+}
+
+#[test]
+fn sum_of_bytes(rt: HostRuntime) -> Result<(), Fail> {
+    let mut text = Vec::from_slice(rt.alloc(), ONE)?;
+    text.extend_from_slice(b"trecv 1 * 7 0 33554432\ntrecv 2 * 7 0 33554432\n")?;
+    assert_eq!(rt; refusal(rt.alloc(), &text), None);
+    text.extend_from_slice(b"tsend 3 0 7 text:a\n")?;
+    assert_eq!(rt; refusal(rt.alloc(), &text), Some((6, Why::Limit)));
+    Ok(())
+}
+
+/// This many lines, all but the first four empty.
+fn lines_of(alloc: Global, count: usize) -> Result<Vec<u8>, Fail> {
+    let mut text = Vec::from_slice(alloc, ONE)?;
+    text.extend_from_slice(b"wait 1\n")?;
+    for _ in 4..count {
+        text.push(b'\n')?;
+    }
+    Ok(text)
+}
+
+#[test]
+fn number_of_lines(rt: HostRuntime) -> Result<(), Fail> {
+    let mut text = lines_of(rt.alloc(), 100_000)?;
+    assert_eq!(rt; refusal(rt.alloc(), &text), None);
+    text.push(b' ')?;
+    assert_eq!(rt; refusal(rt.alloc(), &text), Some((100_001, Why::Limit)));
+    text.extend_from_slice(b"jump")?;
+    assert_eq!(rt; refusal(rt.alloc(), &text), Some((100_001, Why::Verb)));
+    Ok(())
+}
+
+/// 99,997 lines of a peer are read in one go.
+#[test]
+fn many_lines(rt: HostRuntime) -> Result<(), Fail> {
+    let mut text = Vec::from_slice(rt.alloc(), ONE)?;
+    for _ in 3..100_000 {
+        text.extend_from_slice(b"tsend 1 0 7 text:abc\n")?;
+    }
+    let script = read(rt.alloc(), &text)?;
+    let peers = script.peers.as_slice();
+    assert_eq!(rt; peers.len(), 1);
+    assert_eq!(rt; peers[0].as_slice().len(), 99_997);
+    Ok(())
+}

@@ -1,0 +1,33 @@
+-- A report of what peers did tells the schedule that led there.
+use Rattle.std.proofs.Common.{◌≡◌, ◌≤◌, ◌^◌, ℕ, Bool, List, [], map, length, sym, ap, subst, ◌∙◌, arith}
+use Rattle.std.proofs.lemmas.List.{length-map}
+use Rattle.fab_base.specs.declared.peers.Step.{Step}
+use Rattle.fab_base.specs.declared.script.Script.{Script}
+use Rattle.fab_model.specs.Orders.{Reached}
+use Rattle.fab_model.specs.Peers.{Actor, fabric}
+use Rattle.fab_model.specs.Replay.{Lawful, opening, replayed, all_done}
+use Rattle.fab_model.specs.Report.{report, report_of, traces}
+use Rattle.fab_model.specs.Views.{rule}
+use Rattle.fab_model.proofs.Replays.{reached_lawful, reached_sound}
+use Rattle.fab_model.proofs.Names.{lawful_report_tells}
+use Rattle.fab_peer.specs.Turns.{actor_of, schedule_of}
+use Rattle.fab_peer.specs.declared.peer.Peer.{Peer}
+use Rattle.fab_top.specs.Runs.{alone, Reports}
+
+pub reports : (script : Script) (peers : List Peer) (text : List ℕ) (done : Bool) → Reached (rule fabric) (opening (alone script)) (map schedule_of peers) (map actor_of peers)
+    → length peers ≤ 10 ^ 64 → text ≡ report_of (map actor_of peers) (map schedule_of peers) → done ≡ all_done (map actor_of peers) → Reports (alone script) text done
+unfolding report
+reports script peers text done reached few is ends =
+    let bound = alone script in
+    let schedule = map schedule_of peers in
+    let states = map actor_of peers in
+    let lawful = reached_lawful bound schedule states reached in
+    let count : length states ≡ script.conf.peers = (reached_sound bound schedule states reached).count in
+    let many : length schedule ≡ script.conf.peers = length-map peers schedule_of ∙ sym (length-map peers actor_of) ∙ count in
+    let whole : text ≡ report bound schedule = is ∙ ap (λ xs. report_of xs schedule) (sym lawful.1) in
+    let told : traces text ≡ schedule = ap traces whole ∙ lawful_report_tells bound schedule lawful.0 many (omega (arith, few, count, length-map peers actor_of)) in
+    record {
+      lawful = subst (λ x. Lawful bound x) (sym told) lawful.0;
+      text_is = whole ∙ ap (report bound) (sym told);
+      done_is = ap (λ x. all_done (replayed bound x).states) told ∙ ap all_done lawful.1 ∙ sym ends;
+    }

@@ -1,0 +1,91 @@
+-- What a run of a command does.
+--     command_of words        the file that is to be run, where the words are `script FILE`
+--     alone script            a script that has no payload files
+--     Reports bound text      the text is the report of the lawful schedule that its trace lines tell
+--     IsRead, IsUnread        what was loaded is a script, or why it is none
+--     Writes, WritesPart      the report is written, or a part of it
+use Rattle.std.specs.Prelude.{◌≡◌, ℕ, ◌+◌, ◌<◌, ◌≤◌, Bool, List, [], ◌∷◌, ◌++◌, length, take, map, bytes_eq, codes, Option, Some, None, if◌then◌else◌}
+use Rattle.std.specs.Io.KnownBytes.{append_known}
+use Rattle.fab_base.specs.declared.peers.Step.{Step}
+use Rattle.fab_base.specs.declared.script.Bound.{Bound}
+use Rattle.fab_base.specs.declared.script.Script.{Script}
+use Rattle.fab_base.specs.declared.status.Status.{Status}
+use Rattle.fab_base.specs.declared.status.Status.TheVariants.{Done, Stuck, Usage, ScriptRefused, TooLong, ReadFault, WriteFault, NoMemory}
+use Rattle.fab_model.specs.Replay.{Lawful, replayed, all_done}
+use Rattle.fab_model.specs.Report.{report, traces}
+use Rattle.fab_script.specs.Grammar.{script_of}
+use Rattle.fab_top.specs.Outside.{Rose, IsFile, BeginsFile}
+
+-- the greatest length of a script, in bytes
+abbrev pub script_max : ℕ
+script_max = 67108864
+
+-- `script FILE`
+abbrev pub command_of : List (List ℕ) → Option (List ℕ)
+command_of (verb ∷ file ∷ []) = if bytes_eq verb (codes "script") then Some file else None
+command_of _ = None
+
+abbrev pub alone : Script → Bound
+alone script = record { script = script; files = [] }
+
+-- the text is the report of the schedule that its own trace lines tell, and this schedule is lawful; whether all lines are done at its end
+pub record Reports (bound : Bound) (text : List ℕ) (done : Bool) : Type 0 where
+  pub lawful : Lawful bound (traces text)
+  pub text_is : text ≡ report bound (traces text)
+  pub done_is : all_done (replayed bound (traces text)).states ≡ done
+
+-- the file, if files are told, is within the limit and in the grammar: it spells this script
+abbrev pub IsRead : Option (List ℕ → Option (List ℕ)) → List ℕ → Script → Type 0
+IsRead files name script = (bytes : List ℕ) × IsFile files name bytes × (length bytes ≤ script_max) × (script_of bytes ≡ Some script)
+
+-- why there is no script
+abbrev pub IsUnread : Option (List ℕ → Option (List ℕ)) → List ℕ → ℕ → ℕ → Option (List ℕ) → Status → Type 0
+IsUnread files name faults faults' failed (ScriptRefused line why) = (bytes : List ℕ) × IsFile files name bytes × (length bytes ≤ script_max) × (script_of bytes ≡ None)
+IsUnread files name faults faults' failed (TooLong file) = (file ≡ name) × (bytes : List ℕ) × BeginsFile files name bytes × (script_max < length bytes)
+IsUnread files name faults faults' failed (ReadFault file) = (file ≡ name) × Rose faults faults' × (failed ≡ Some name)
+IsUnread files name faults faults' failed NoMemory = Unit {0}
+IsUnread files name faults faults' failed Done = ⊥
+IsUnread files name faults faults' failed Stuck = ⊥
+IsUnread files name faults faults' failed Usage = ⊥
+IsUnread files name faults faults' failed WriteFault = ⊥
+
+-- the words name a file that spells a script, and a report of it is written
+pub record Writes (files : Option (List ℕ → Option (List ℕ))) (words : List (List ℕ)) (done : Bool) (before after : Option (List ℕ)) : Type 0 where
+  pub name : List ℕ
+  pub command : command_of words ≡ Some name
+  pub script : Script
+  pub read : IsRead files name script
+  pub text : List ℕ
+  pub reports : Reports (alone script) text done
+  pub written : after ≡ append_known before text
+
+-- the same, of which only the first bytes are written
+pub record WritesPart (files : Option (List ℕ → Option (List ℕ))) (words : List (List ℕ)) (before after : Option (List ℕ)) : Type 0 where
+  pub name : List ℕ
+  pub command : command_of words ≡ Some name
+  pub script : Script
+  pub read : IsRead files name script
+  pub text : List ℕ
+  pub done : Bool
+  pub reports : Reports (alone script) text done
+  pub some : ℕ
+  pub fewer : some < length text
+  pub written : after ≡ append_known before (take some text)
+
+-- the statuses at which a report is written, or a part of one
+abbrev pub WritesReport : Status → Type 0
+WritesReport Done = Unit {0}
+WritesReport Stuck = Unit {0}
+WritesReport WriteFault = Unit {0}
+WritesReport status = ⊥
+
+-- the statuses at which nothing is written
+abbrev pub IsSilent : Status → Type 0
+IsSilent Done = ⊥
+IsSilent Stuck = ⊥
+IsSilent WriteFault = ⊥
+IsSilent status = Unit {0}
+
+abbrev pub IsScriptRefused : Status → Type 0
+IsScriptRefused (ScriptRefused line why) = Unit {0}
+IsScriptRefused status = ⊥

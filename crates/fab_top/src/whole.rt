@@ -1,0 +1,57 @@
+//! The whole report of all peers.
+ghost use Rattle.std.specs.Prelude.{◌≡◌, ◌++◌, map, IfOk, OnOk, string_bytes};
+ghost use Rattle.std.specs.List.{list_all};
+ghost use Rattle.fab_model.specs.Words.{text_of};
+ghost use Rattle.fab_model.specs.Peers.{is_finished};
+ghost use Rattle.fab_model.specs.Report.{all_lines, report_of};
+ghost use Rattle.fab_model.specs.Replay.{all_done};
+ghost use Rattle.fab_peer.specs.Turns.{actor_of, schedule_of};
+
+use crate::report::{add_first, add_last, add_peer};
+use fab_base::NoMemory;
+use fab_peer::Peer;
+use std::alloc::Global;
+
+fn all_finished(peers: &[Peer]) -> bool
+    ensures { result ≡ list_all (λ peer. is_finished (actor_of peer)) peers.now }
+{
+    peers.iter().all(|peer| peer.finished())
+}
+
+/// Whether all lines of all peers are done.
+pub fn all_done(peers: &[Peer]) -> bool
+    ensures { result ≡ all_done (map actor_of peers.now) }
+{
+    all_finished(peers)
+}
+
+/// The parts of all peers, in order.
+fn add_peers(out: &mut String, peers: &[Peer]) -> Result<(), NoMemory>
+    ensures { OnOk result (string_bytes out.new ≡ string_bytes out.old
+        ++ text_of (all_lines 0 (map actor_of peers.now) (map schedule_of peers.now))) }
+{
+    for number in 0..peers.len() {
+        let peer = &peers[number];
+        add_peer(
+            out,
+            number,
+            peer.lines(),
+            peer.results(),
+            peer.kept(),
+            peer.pending(),
+            peer.schedule(),
+        )?;
+    }
+    Ok(())
+}
+
+/// The report of these peers, in their states and with their schedules.
+pub fn report(alloc: Global, peers: &[Peer]) -> Result<String, NoMemory>
+    ensures { IfOk result (λ text. string_bytes text ≡ report_of (map actor_of peers.now) (map schedule_of peers.now)) }
+{
+    let mut out = String::new(alloc);
+    add_first(&mut out, peers.len())?;
+    add_peers(&mut out, peers)?;
+    add_last(&mut out, all_done(peers))?;
+    Ok(out)
+}
