@@ -1,5 +1,5 @@
 -- What the machine makes of a message of one frame, which arrives and is whole at once.
-use Rattle.std.proofs.Common.{◌≡◌, ◌<◌, ℕ, suc, zero, true, false, List, [], ◌∷◌, ◌++◌, length, map, replicate, set, get_or, Option, Some, None, refl, sym, ap, ap₂, ◌∙◌, arith, rules, get_or-set_same, length-set, length-append}
+use Rattle.std.proofs.Common.{◌≡◌, ◌<◌, ℕ, suc, zero, true, false, List, [], ◌∷◌, ◌++◌, length, map, replicate, set, Option, Some, None, refl, sym, ap, ap₂, ◌∙◌, arith, rules, get_or-set_same, length-append}
 use Rattle.std.proofs.lemmas.List.{set-set, map-append, length-replicate}
 use Rattle.std.specs.Prelude.{All, IsSomeAnd, slice_index, ◌==◌, is_some}
 use Rattle.std.proofs.lemmas.Bool.Decides.{nat_tests}
@@ -48,14 +48,14 @@ module _ (s : State) (source : ℕ) (head : ItemHead) (bytes : List ℕ) (quiet 
     heading_into = rw (taken, single.least, single.used, quiet.closing) refl
 
     headed_into : do_head s source head ≡ with_rx (record {
-        posted = remove_first (is_wanted source head) s.rx.posted;
-        closing = [];
-        coming = set s.rx.coming source (Some (Into r 0));
-        unexpected = s.rx.unexpected;
-        claimed = s.rx.claimed;
-        heads = raise s.rx.heads source;
-        tails = s.rx.tails;
-      }) s
+      posted = remove_first (is_wanted source head) s.rx.posted;
+      closing = [];
+      coming = set s.rx.coming source (Some (Into r 0));
+      unexpected = s.rx.unexpected;
+      claimed = s.rx.claimed;
+      heads = raise s.rx.heads source;
+      tails = s.rx.tails;
+    }) s
     unfolding do_head
     headed_into = rw (message, do_head) (ap (λ rx. with_rx rx s) heading_into)
 
@@ -80,14 +80,14 @@ module _ (s : State) (source : ℕ) (head : ItemHead) (bytes : List ℕ) (quiet 
     heading_kept = rw none refl
 
     headed_kept : do_head s source head ≡ with_rx (record {
-        posted = s.rx.posted;
-        closing = s.rx.closing;
-        coming = set s.rx.coming source (Some Keep);
-        unexpected = s.rx.unexpected ++ newcomer source (slice_index s.rx.heads source) head ∷ [];
-        claimed = s.rx.claimed;
-        heads = raise s.rx.heads source;
-        tails = s.rx.tails;
-      }) s
+      posted = s.rx.posted;
+      closing = s.rx.closing;
+      coming = set s.rx.coming source (Some Keep);
+      unexpected = s.rx.unexpected ++ newcomer source (slice_index s.rx.heads source) head ∷ [];
+      claimed = s.rx.claimed;
+      heads = raise s.rx.heads source;
+      tails = s.rx.tails;
+    }) s
     unfolding do_head
     headed_kept = rw (message, do_head) (ap (λ rx. with_rx rx s) heading_kept)
 
@@ -107,8 +107,17 @@ module _ (s : State) (source : ℕ) (head : ItemHead) (bytes : List ℕ) (quiet 
     pub arrives_kept : do_tail (do_head s source head) source head bytes ≡ with_rx (counted source (kept_whole source head bytes s.rx)) s
     unfolding do_head do_tail tail_to book made_whole keeping
     arrives_kept =
-        rw (headed_kept, do_tail, none_again s.rx source (Some Keep) quiet.coming, get_or-set_same s.rx.coming source (Some Keep) None within,
-        map-append (completed source bytes) s.rx.unexpected, all_stay s.rx.unexpected quiet.whole, newcomer_completed, quiet.claimed, silent)
+        rw (
+          headed_kept,
+          do_tail,
+          none_again s.rx source (Some Keep) quiet.coming,
+          get_or-set_same s.rx.coming source (Some Keep) None within,
+          map-append (completed source bytes) s.rx.unexpected,
+          all_stay s.rx.unexpected quiet.whole,
+          newcomer_completed,
+          quiet.claimed,
+          silent,
+        )
         (rw (← quiet.claimed, quiet.even) refl)
 
 -- ---- room

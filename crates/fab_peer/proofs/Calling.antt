@@ -1,5 +1,5 @@
 -- What the machine answers to the calls of the lines that are built.
-use Rattle.std.proofs.Common.{◌≡◌, ◌<◌, ◌≤◌, ℕ, suc, zero, Bool, true, false, List, [], ◌∷◌, ◌++◌, length, Option, Some, None, refl, sym, ap, ◌∙◌, arith, rules, append-nil, add-zero}
+use Rattle.std.proofs.Common.{◌≡◌, ℕ, suc, Bool, true, false, List, [], ◌∷◌, ◌++◌, length, Option, Some, None, refl, sym, ap, ◌∙◌, arith, append-nil, add-zero}
 use Rattle.std.specs.Prelude.{IfSome, IsSomeAnd, All, find, nat_lt, nat_le, is_some, not, ◌&&◌}
 use Rattle.std.specs.List.{list_any}
 use Rattle.fab_base.specs.declared.items.Want.{Want}
@@ -132,15 +132,15 @@ module _ (s : State) (dest tag : ℕ) (bytes : List ℕ) (imm : Option ℕ) (ctx
   -- the state after the message was accepted
   abbrev pub after_sending : State
   after_sending = called (with_tx (accepting to (record { head = item_head; bytes = bytes }) (record {
-      call = s.calls;
-      dest = to;
-      place = length (accepted_for s.tx to);
-      head = item_head;
-      level = level;
-      ctx = Some ctx;
-      buf = Some bytes;
-      silent = s.selective && not completion;
-    }) s.tx) s)
+    call = s.calls;
+    dest = to;
+    place = length (accepted_for s.tx to);
+    head = item_head;
+    level = level;
+    ctx = Some ctx;
+    buf = Some bytes;
+    silent = s.selective && not completion;
+  }) s.tx) s)
 
   transmits : lookup s.av dest ≡ Some to → transmit s (order_of dest tag bytes imm ctx level completion) ≡ after_sending
   unfolding transmit transmit_to

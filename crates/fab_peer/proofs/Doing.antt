@@ -1,10 +1,10 @@
 -- Steps of a peer, one after another.
-use Rattle.std.proofs.Common.{◌≡◌, ◌≢◌, ℕ, Bool, true, false, List, [], ◌∷◌, ◌++◌, length, slice_get, Option, Some, None, Result, Ok, Err, refl, sym, ap, subst, ◌∙◌, append-nil, append_assoc, option_map}
+use Rattle.std.proofs.Common.{◌≡◌, ◌≢◌, ℕ, Bool, true, false, [], ◌∷◌, ◌++◌, Option, Some, None, Result, Ok, Err, refl, sym, ap, subst, ◌∙◌, append-nil, append_assoc, option_map}
 use Rattle.std.specs.Prelude.{find, replicate, IfOk, OnOk}
 use Rattle.fab_base.specs.declared.entries.Kept.{Kept}
 use Rattle.fab_base.specs.declared.entries.Taken.{Taken}
 use Rattle.fab_base.specs.declared.faults.Fault.{Fault}
-use Rattle.fab_base.specs.declared.faults.Fault.TheVariants.{Again, NoMemory as LacksMemory}
+use Rattle.fab_base.specs.declared.faults.Fault.TheVariants.{NoMemory as LacksMemory}
 use Rattle.fab_base.specs.declared.items.Item.{Item}
 use Rattle.fab_base.specs.declared.items.Kind.TheVariants.{TagMsg}
 use Rattle.fab_base.specs.declared.operations.Written.{Written}
@@ -22,11 +22,11 @@ use Rattle.fab_model.specs.Matching.{remove_first}
 use Rattle.fab_model.specs.State.{State}
 use Rattle.fab_model.specs.Calls.{Call, Post, do_call, call_of, message, word_bytes}
 use Rattle.fab_model.specs.Peers.{Actor, fabric, step, next_line, do_next, do_line, wait_line, call_line, after_call, is_again, is_of_ctx, with_result, with_state, read_next, bytes_kept, part_of, unread, reading}
-use Rattle.fab_model.specs.Views.{View, Walk}
+use Rattle.fab_model.specs.Views.{View}
 use Rattle.fab_model.proofs.Passes.{Passes, same, call_passes}
 use Rattle.fab_peer.specs.Endpoints.{Held, Answers, ReadsHeld, logged, any_source}
-use Rattle.fab_peer.specs.Moves.{Shows, taken_of, IsTied, Ported, Went}
-use Rattle.fab_peer.specs.Turns.{actor_of, schedule_of, Does, Turned, Answered, next_op, SendsNext}
+use Rattle.fab_peer.specs.Moves.{IsTied, Went}
+use Rattle.fab_peer.specs.Turns.{actor_of, schedule_of, Does, Turned, Answered, next_op}
 use Rattle.fab_peer.specs.declared.peer.Peer.{Peer}
 use Rattle.fab_peer.proofs.Going.{tied_passes, ported_same, ported_then, shows_less, walk_append}
 
@@ -88,7 +88,7 @@ unfolding step
 does_read a b entry (w, there, is, new, plain) lines results kept =
     does_step a b Read (ap (λ (h : Held). h.log) new)
     (λ v. reads_next (actor_of a) w entry there is plain
-      ∙ (let state = ap (λ (h : Held). h.state) new in rw (lines, results, kept, state) refl))
+    ∙ (let state = ap (λ (h : Held). h.state) new in rw (lines, results, kept, state) refl))
     (rw new (same refl refl))
 
 -- ---- lines
@@ -129,9 +129,9 @@ does_call a m b op c (Ok _) done next line answers lines results kept (all, is, 
     let endpoint : b.endpoint ≡ m.endpoint = ap (λ (x : Peer). x.endpoint) is in
     does_step a b Do (ap (λ (h : Held). h.log) endpoint ∙ answers.1)
     (λ v. calls a op c Done m.endpoint.state next line answers.0 refl
-      ∙ (let l : b.lines ≡ a.lines = ap (λ (x : Peer). x.lines) is ∙ lines in
-        let k : b.kept ≡ a.kept = ap (λ (x : Peer). x.kept) is ∙ kept in
-        rw (endpoint, l, k, more, results) refl))
+    ∙ (let l : b.lines ≡ a.lines = ap (λ (x : Peer). x.lines) is ∙ lines in
+    let k : b.kept ≡ a.kept = ap (λ (x : Peer). x.kept) is ∙ kept in
+    rw (endpoint, l, k, more, results) refl))
     (rw endpoint (subst (λ (x : State). Passes a.endpoint.state x) (ap (λ x. x.1) answers.0) (call_passes a.endpoint.state c)))
 does_call a m b op c (Err fault) false next line answers lines results kept (is, busy, again) =
     let free : fault ≢ LacksMemory = (λ e. cc (again, e)) in
@@ -142,9 +142,9 @@ does_call a m b op c (Err fault) true next line answers lines results kept (is, 
     let endpoint : b.endpoint ≡ logged (Do ∷ []) a.endpoint = ap (λ (x : Peer). x.endpoint) is ∙ ap (logged (Do ∷ [])) stays in
     does_step a b Do (ap (λ (h : Held). h.log) endpoint)
     (λ v. calls a op c (Refused fault) a.endpoint.state next line ((answers free).0) again
-      ∙ (let l : b.lines ≡ a.lines = ap (λ (x : Peer). x.lines) is ∙ lines in
-        let k : b.kept ≡ a.kept = ap (λ (x : Peer). x.kept) is ∙ kept in
-        rw (endpoint, l, k, more, results) refl))
+    ∙ (let l : b.lines ≡ a.lines = ap (λ (x : Peer). x.lines) is ∙ lines in
+    let k : b.kept ≡ a.kept = ap (λ (x : Peer). x.kept) is ∙ kept in
+    rw (endpoint, l, k, more, results) refl))
     (rw endpoint (same refl refl))
 
 -- the same of the result of a call's answer, where it is at hand

@@ -1,5 +1,5 @@
 -- What holds of the halves of an endpoint still holds after a change.
-use Rattle.std.proofs.Common.{rules, Bool, true, false, cond, ◌∷◌, ◌≡◌, ◌<◌, ◌≤◌, ◌+◌, ℕ, List, [], length, get_or, set, Some, Option, None, inl, inr, refl, sym, ap, ◌∙◌, arith, length-set, get_or-set_other, get_or-set_same, subst}
+use Rattle.std.proofs.Common.{rules, Bool, true, false, cond, ◌∷◌, ◌≡◌, ◌<◌, ◌+◌, ℕ, List, [], length, get_or, set, Some, Option, inl, inr, refl, ◌∙◌, arith, length-set, get_or-set_other, get_or-set_same}
 use Rattle.std.specs.Prelude.{IsSome, IfSome, find, slice_get, slice_index}
 use Rattle.fab_base.specs.declared.operations.Operation.{Operation}
 use Rattle.fab_model.specs.Matching.{is_message}

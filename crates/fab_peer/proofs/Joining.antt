@@ -1,20 +1,19 @@
 -- All peers with their ports: one takes its turn, and what they posted is carried.
-use Rattle.std.proofs.Common.{◌≡◌, ◌≢◌, ◌<◌, ◌≤◌, ◌+◌, ◌^◌, ℕ, zero, suc, true, false, List, [], ◌∷◌, ◌++◌, length, take, map, slice_get, get_or, set, Option, Some, None, inl, inr, refl, sym, ap, subst, ◌∙◌, arith, append_assoc, length-set, get_or-set_same, get_or-set_other}
+use Rattle.std.proofs.Common.{◌≡◌, ◌≢◌, ◌<◌, ◌≤◌, ℕ, zero, suc, false, List, [], ◌∷◌, ◌++◌, length, take, map, slice_get, get_or, Option, Some, None, inl, inr, refl, sym, ap, subst, ◌∙◌, arith, append_assoc, length-set, get_or-set_same, get_or-set_other}
 use Rattle.std.specs.Prelude.{slice_set, slice_index, slice_index_or, Result, Ok, Err, OnOk}
-use Rattle.std.specs.Option.{option_map, option_map_or}
+use Rattle.std.specs.Option.{option_map}
 use Rattle.std.proofs.lemmas.Bool.{cases_eq, cases_lt}
 use Rattle.std.proofs.lemmas.List.{map-set, length-map}
 use Rattle.std.proofs.lemmas.Option.{slice_get-map, slice_get_within, get_or_from_slice_get}
 use Rattle.fab_base.specs.declared.frames.Frame.{Frame}
 use Rattle.fab_base.specs.declared.frames.FrameHead.{FrameHead}
 use Rattle.fab_base.specs.declared.items.Item.{Item}
-use Rattle.fab_base.specs.declared.peers.Step.{Step}
 use Rattle.fab_wire.specs.Frames.{last_head, IsLane}
-use Rattle.fab_link.specs.Plain.{Lane, Plain, Posted, PlainHome, lane_at, left, fresh_lane, out_of, in_of, home_of, take_prefix}
+use Rattle.fab_link.specs.Plain.{Lane, Plain, Posted, PlainHome, lane_at, left, fresh_lane, take_prefix}
 use Rattle.fab_link.specs.Carry.{lane_of, pipe, AreAll, Continued, SameBeside}
 use Rattle.fab_model.specs.State.{accepted_for}
 use Rattle.fab_model.specs.Orders.{Leads, Reached, by}
-use Rattle.fab_model.specs.Peers.{Actor, fabric}
+use Rattle.fab_model.specs.Peers.{fabric}
 use Rattle.fab_model.specs.Views.{View, More, rule, seen}
 use Rattle.fab_model.proofs.Parts.{prefix_get}
 use Rattle.fab_model.proofs.Turns.{slice_get-set_other, slice_get-set_same}
@@ -69,18 +68,18 @@ posted_shows : (f : Fabric) (k : ℕ) → IsJoined f → (s i : ℕ) (fr : Frame
 unfolding fabric
 posted_shows f k joined s i fr has = elim (cases_lt s (length f.ports.items)) [
   | inr past ↦ (let e : (lane_of f.ports.items s k).out.frames ≡ [] = ap (λ (l : Lane). l.out.frames) (no_lane f.ports.items s k past) in
-    let none : slice_get {X = Frame} [] i ≡ Some fr = subst (λ xs. slice_get xs i ≡ Some fr) e has in absurd (cc))
+      let none : slice_get {X = Frame} [] i ≡ Some fr = subst (λ xs. slice_get xs i ≡ Some fr) e has in absurd (cc))
   | inl below ↦ (
-    let a = member f.peers.items s (omega (arith, below, joined.count)) in
-    let p = member f.ports.items s below in
-    let tied = joined.tied s a.0 p.0 a.1 p.1 in
-    let port : port_at f.ports.items s ≡ p.0 = get_or_from_slice_get f.ports.items s p.0 nobody p.1 in
-    let frames : slice_get (map frame_of (take (slice_index (a.0).endpoint.state.tx.sent k) (accepted_for (a.0).endpoint.state.tx k))) i ≡ Some fr =
-    subst (λ xs. slice_get xs i ≡ Some fr) (ap (λ (x : Plain). (lane_at x k).out.frames) port ∙ tied.frames k) has in
-    let actor : slice_get (actors f) s ≡ Some (actor_of a.0) = slice_get-map actor_of f.peers.items s ∙ ap (option_map actor_of) a.1 in
-    let r = among (accepted_for (a.0).endpoint.state.tx k) (slice_index (a.0).endpoint.state.tx.sent k) i fr frames in
-    (r.0, rw actor (r.1), rw actor (r.2), r.3)
-  )
+      let a = member f.peers.items s (omega (arith, below, joined.count)) in
+      let p = member f.ports.items s below in
+      let tied = joined.tied s a.0 p.0 a.1 p.1 in
+      let port : port_at f.ports.items s ≡ p.0 = get_or_from_slice_get f.ports.items s p.0 nobody p.1 in
+      let frames : slice_get (map frame_of (take (slice_index (a.0).endpoint.state.tx.sent k) (accepted_for (a.0).endpoint.state.tx k))) i ≡ Some fr =
+      subst (λ xs. slice_get xs i ≡ Some fr) (ap (λ (x : Plain). (lane_at x k).out.frames) port ∙ tied.frames k) has in
+      let actor : slice_get (actors f) s ≡ Some (actor_of a.0) = slice_get-map actor_of f.peers.items s ∙ ap (option_map actor_of) a.1 in
+      let r = among (accepted_for (a.0).endpoint.state.tx k) (slice_index (a.0).endpoint.state.tx.sent k) i fr frames in
+      (r.0, rw actor (r.1), rw actor (r.2), r.3)
+      )
 ]
 
 -- what a port took is what came to it, which was posted
@@ -156,14 +155,14 @@ module _ (f g : Fabric) (k : ℕ) (a b : Peer) (p q : Plain) (joined : IsJoined 
   tied_after : IsTied b.endpoint.state q → (j : ℕ) (x : Peer) (y : Plain) → slice_get g.peers.items j ≡ Some x → slice_get g.ports.items j ≡ Some y → IsTied x.endpoint.state y
   tied_after tied j x y hx hy = elim (cases_eq j k) [
     | inl here ↦ (
-      let hx' : Some x ≡ Some b = sym hx ∙ ap (λ xs. slice_get xs j) peers ∙ rw here (slice_get-set_same f.peers.items k b k_peer) in
-      let hy' : Some y ≡ Some q = sym hy ∙ ap (λ xs. slice_get xs j) ports ∙ rw here (slice_get-set_same f.ports.items k q k_port) in
-      let ex : x ≡ b = cc in
-      let ey : y ≡ q = cc in
-      rw (ex, ey) tied
-    )
+        let hx' : Some x ≡ Some b = sym hx ∙ ap (λ xs. slice_get xs j) peers ∙ rw here (slice_get-set_same f.peers.items k b k_peer) in
+        let hy' : Some y ≡ Some q = sym hy ∙ ap (λ xs. slice_get xs j) ports ∙ rw here (slice_get-set_same f.ports.items k q k_port) in
+        let ex : x ≡ b = cc in
+        let ey : y ≡ q = cc in
+        rw (ex, ey) tied
+        )
     | inr there ↦ joined.tied j x y (sym (slice_get-set_other f.peers.items k j b (λ e. there (sym e))) ∙ ap (λ xs. slice_get xs j) (sym peers) ∙ hx)
-      (sym (slice_get-set_other f.ports.items k j q (λ e. there (sym e))) ∙ ap (λ xs. slice_get xs j) (sym ports) ∙ hy)
+        (sym (slice_get-set_other f.ports.items k j q (λ e. there (sym e))) ∙ ap (λ xs. slice_get xs j) (sym ports) ∙ hy)
   ]
 
   pub turn_joined : IsTied b.endpoint.state q → IsJoined g
@@ -243,7 +242,6 @@ module _ (f g : Fabric) (joined : IsJoined f) (peers : g.peers ≡ f.peers) (all
     fresh_out = λ s r. ap (λ (x : _). x.after) (out_same s r) ∙ joined.fresh_out s r;
     fresh_in = λ s r. ap (λ (l : Lane). l.in_after) (same r s) ∙ joined.fresh_in s r;
   }
-
 
 -- the same of a slice of the ports, and what stands there after it
 pub carried_joined : (f g : Fabric) (now new : List Plain) → IsJoined f → g.peers ≡ f.peers → now ≡ f.ports.items → g.ports.items ≡ new → length new ≡ length now → AreAll new

@@ -8,7 +8,6 @@ pub mod Open
 pub mod Posting
 pub mod Sending
 pub mod Taking
-
 pub mod Joining
 pub mod Payloads
 pub mod Opening

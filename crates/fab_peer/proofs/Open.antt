@@ -1,10 +1,10 @@
 -- An endpoint's addresses and halves still agree after a change.
-use Rattle.std.proofs.Common.{◌≡◌, ℕ, List, length, refl, sym, ◌∙◌, arith, length-set, length-append}
+use Rattle.std.proofs.Common.{◌≡◌, ℕ, List, length, sym, ◌∙◌, arith, length-set}
 use Rattle.std.specs.Prelude.{Option}
 use Rattle.fab_base.specs.declared.items.Item.{Item}
 use Rattle.fab_base.specs.declared.operations.Operation.{Operation}
 use Rattle.fab_model.specs.State.{Completions, Receiving, Transmitting}
-use Rattle.fab_model.specs.Sending.{accepting, transmitting}
+use Rattle.fab_model.specs.Sending.{accepting}
 use Rattle.fab_peer.specs.Endpoints.{IsOpen}
 
 pub accepting-length : (to : ℕ) (item : Item) (o : Operation) (tx : Transmitting) → length (accepting to item o tx).accepted ≡ length tx.accepted

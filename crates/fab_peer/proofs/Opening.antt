@@ -1,6 +1,6 @@
 -- All peers with their ports at the opening of a script.
 use Rattle.std.proofs.Common.{◌≡◌, ◌<◌, ◌≤◌, ◌+◌, ◌^◌, ℕ, zero, suc, List, [], ◌∷◌, ◌++◌, length, map, drop, slice_get, get_or, replicate, Option, Some, None, inl, inr, refl, sym, ap, subst, ◌∙◌, arith, length-append}
-use Rattle.std.specs.Prelude.{slice_index, slice_index_or}
+use Rattle.std.specs.Prelude.{slice_index_or}
 use Rattle.std.specs.Option.{option_map}
 use Rattle.std.proofs.lemmas.Bool.{cases_lt}
 use Rattle.std.proofs.lemmas.List.{map-append, length-map, get_or-drop}
@@ -20,10 +20,10 @@ use Rattle.fab_base.specs.declared.peers.Step.{Step}
 use Rattle.fab_model.specs.Replay.{opening, newly, fresh, lines_of, bind_line}
 use Rattle.fab_peer.specs.Moves.{IsTied}
 use Rattle.fab_peer.specs.Turns.{actor_of, schedule_of}
-use Rattle.fab_peer.specs.Joined.{actors, schedules, IsJoined, Opens}
+use Rattle.fab_peer.specs.Joined.{actors, schedules, Opens}
 use Rattle.fab_peer.specs.declared.fabric.Fabric.{Fabric}
 use Rattle.fab_peer.specs.declared.peer.Peer.{Peer}
-use Rattle.fab_peer.proofs.Joining.{nobody, no_lane, member}
+use Rattle.fab_peer.proofs.Joining.{nobody, no_lane}
 
 -- the port of a peer among so many, at the start
 abbrev pub port_of : ℕ → ℕ → Plain
@@ -53,7 +53,7 @@ upto_at zero k l = absurd (omega arith)
 upto_at (suc n) k l = elim (cases_lt k n) [
   | inl below ↦ get-front (upto n) n k (omega (arith, below, length-upto n)) ∙ upto_at n k below
   | inr past ↦ (let e : k ≡ n = omega (arith, l, past) in let m : k ≡ length (upto n) = omega (arith, e, length-upto n) in
-    ap (slice_get (upto n ++ n ∷ [])) m ∙ get-back (upto n) n ∙ ap Some (sym e))
+      ap (slice_get (upto n ++ n ∷ [])) m ∙ get-back (upto n) n ∙ ap Some (sym e))
 ]
 
 -- what f gives of the number k

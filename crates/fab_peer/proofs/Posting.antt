@@ -1,6 +1,6 @@
 -- An item is posted, and so transmitted.
-use Rattle.std.proofs.Common.{◌≡◌, ◌≢◌, ◌<◌, ◌≤◌, ◌+◌, ℕ, Bool, true, false, List, [], ◌∷◌, ◌++◌, length, take, map, slice_get, get_or, set, Option, Some, None, inl, inr, refl, sym, ap, subst, ◌∙◌, arith, rules, append-nil, zero-add, length-append, length-set, get_or-set_same, get_or-set_other}
-use Rattle.std.specs.Prelude.{slice_index, nat_lt, ◌⊎◌, IsNone}
+use Rattle.std.proofs.Common.{◌≡◌, ◌≢◌, ◌<◌, ◌+◌, ℕ, true, [], ◌∷◌, ◌++◌, length, take, slice_get, Option, Some, None, inl, inr, refl, sym, ap, subst, ◌∙◌, arith, append-nil, zero-add, length-set, get_or-set_same, get_or-set_other}
+use Rattle.std.specs.Prelude.{slice_index, nat_lt}
 use Rattle.std.proofs.lemmas.Bool.{cases_eq}
 use Rattle.std.proofs.lemmas.Bool.Decides.{nat_tests}
 use Rattle.std.proofs.lemmas.Option.{slice_get_within, get_or_from_slice_get}
@@ -11,9 +11,8 @@ use Rattle.fab_base.specs.declared.items.Item.{Item}
 use Rattle.fab_base.specs.declared.items.ItemHead.{ItemHead}
 use Rattle.fab_base.specs.declared.items.Kind.{Kind}
 use Rattle.fab_base.specs.declared.items.Kind.TheVariants.{Msg, TagMsg, WriteReq, ReadReq, AtomicReq, Reply}
-use Rattle.fab_base.specs.declared.peers.Step.{Step}
 use Rattle.fab_base.specs.declared.peers.Step.TheVariants.{Sent}
-use Rattle.fab_wire.specs.Frames.{IsLane, IsLast, IsSound, IsSoundAs, Continues, MayCome, last_head}
+use Rattle.fab_wire.specs.Frames.{IsLane, IsSoundAs, Continues}
 use Rattle.fab_wire.proofs.Lanes.{last_head-push, IsLane-push}
 use Rattle.fab_link.specs.Meaning.{Outgoing, Incoming, Others, end_of}
 use Rattle.fab_link.specs.Plain.{Plain, lane_at, left, out_of, in_of, home_of}
@@ -21,11 +20,10 @@ use Rattle.fab_model.specs.State.{State, accepted_for, raise, with_tx, fits}
 use Rattle.fab_model.specs.Matching.{is_message}
 use Rattle.fab_model.specs.Sending.{transmitting, do_sent}
 use Rattle.fab_model.specs.Peers.{Actor, fabric, with_state, step, sent_step}
-use Rattle.fab_model.specs.Views.{View, Walk, IsPrefixOf}
 use Rattle.fab_model.proofs.Views.{prefix_self}
-use Rattle.fab_model.proofs.Passes.{Passes, sent_passes}
-use Rattle.fab_peer.specs.Endpoints.{Held, IsCarried, Transmits}
-use Rattle.fab_peer.specs.Moves.{frame_of, Shows, taken_of, IsFrame, IsBetween, IsTied, Ported, Went}
+use Rattle.fab_model.proofs.Passes.{sent_passes}
+use Rattle.fab_peer.specs.Endpoints.{Held, Transmits}
+use Rattle.fab_peer.specs.Moves.{frame_of, IsFrame, IsBetween, IsTied, Ported, Went}
 use Rattle.fab_peer.proofs.Going.{tied_passes}
 
 -- ---- the port

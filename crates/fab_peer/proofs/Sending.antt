@@ -1,9 +1,9 @@
 -- What the machine makes of the transmission of an item.
-use Rattle.std.proofs.Common.{◌≡◌, ℕ, Bool, true, false, List, [], ◌∷◌, ◌++◌, Option, Some, None, refl, sym, ap, ◌∙◌, rules}
+use Rattle.std.proofs.Common.{◌≡◌, ℕ, Bool, true, false, [], ◌∷◌, ◌++◌, Some, None, refl, sym, ap, ◌∙◌}
 use Rattle.fab_base.specs.declared.items.Outcome.TheVariants.{Done}
 use Rattle.fab_base.specs.declared.operations.Operation.{Operation}
 use Rattle.fab_base.specs.declared.peers.Step.TheVariants.{Sent}
-use Rattle.fab_model.specs.State.{State, Completions, fits, with_tx}
+use Rattle.fab_model.specs.State.{State, fits, with_tx}
 use Rattle.fab_model.specs.Sending.{ending, transmitting, end_with, do_sent}
 use Rattle.fab_peer.specs.Endpoints.{Held, has_room, ended, Transmits}
 use Rattle.fab_peer.proofs.Arriving.{fits_writing, fits_room}

@@ -1,28 +1,26 @@
 -- A frame is taken: the item arrives and is whole.
-use Rattle.std.proofs.Common.{◌≡◌, ◌≢◌, ◌<◌, ◌≤◌, ◌+◌, ℕ, Bool, true, false, List, [], ◌∷◌, ◌++◌, length, take, map, slice_get, get_or, set, Option, Some, None, inl, inr, refl, sym, ap, subst, ◌∙◌, arith, rules, append-nil, length-append, length-set, get_or-set_same, get_or-set_other}
-use Rattle.std.specs.Prelude.{slice_index, ◌==◌, nat_lt, not}
+use Rattle.std.proofs.Common.{◌≡◌, ◌≢◌, ◌<◌, ◌+◌, ℕ, true, false, List, [], ◌∷◌, ◌++◌, length, slice_get, Some, None, inl, inr, refl, sym, ap, subst, ◌∙◌, arith, append-nil, length-append, length-set, get_or-set_same, get_or-set_other}
+use Rattle.std.specs.Prelude.{slice_index, ◌==◌, nat_lt}
 use Rattle.std.proofs.lemmas.Bool.{cases_eq}
 use Rattle.std.proofs.lemmas.Bool.Decides.{nat_tests}
 use Rattle.fab_base.specs.declared.frames.Frame.{Frame}
-use Rattle.fab_base.specs.declared.frames.FrameHead.{FrameHead}
 use Rattle.fab_base.specs.declared.frames.FrameRef.{FrameRef}
 use Rattle.fab_base.specs.declared.items.Item.{Item}
 use Rattle.fab_base.specs.declared.items.ItemHead.{ItemHead}
-use Rattle.fab_base.specs.declared.peers.Step.{Step}
 use Rattle.fab_base.specs.declared.peers.Step.TheVariants.{Head, Tail}
 use Rattle.fab_wire.specs.Frames.{lent_frame, IsLane}
 use Rattle.fab_link.specs.Meaning.{Outgoing, Incoming, Others, advanced, end_of}
-use Rattle.fab_link.specs.Plain.{Plain, lane_at, out_of, in_of, home_of}
-use Rattle.fab_model.specs.State.{State, Receiving, raise, with_rx, accepted_for, fits}
+use Rattle.fab_link.specs.Plain.{Plain, out_of, in_of, home_of}
+use Rattle.fab_model.specs.State.{State, raise, with_rx, fits}
 use Rattle.fab_model.specs.Matching.{is_message}
 use Rattle.fab_model.specs.Receiving.{draw_due}
 use Rattle.fab_model.specs.Arrivals.{do_head, do_tail, heading_message, made_whole}
-use Rattle.fab_model.specs.Peers.{Actor, fabric, with_state, step, head_step, tail_step, only_if}
-use Rattle.fab_model.specs.Views.{View, Walk, IsPrefixOf}
-use Rattle.fab_model.proofs.Passes.{Passes, head_passes, tail_passes}
-use Rattle.fab_peer.specs.Endpoints.{Held, IsCarried, Arrives}
-use Rattle.fab_peer.specs.Moves.{frame_of, Shows, taken_of, IsFrame, IsBetween, IsTied, Ported, Went}
-use Rattle.fab_peer.proofs.Going.{Looked, ported_in, tied_passes, tied_looked}
+use Rattle.fab_model.specs.Peers.{Actor, fabric, with_state, step, head_step, tail_step}
+use Rattle.fab_model.specs.Views.{View, Walk}
+use Rattle.fab_model.proofs.Passes.{head_passes, tail_passes}
+use Rattle.fab_peer.specs.Endpoints.{Held, Arrives}
+use Rattle.fab_peer.specs.Moves.{taken_of, IsFrame, IsBetween, IsTied, Ported, Went}
+use Rattle.fab_peer.proofs.Going.{Looked, ported_in, tied_passes}
 
 -- ---- the port
 
@@ -56,9 +54,9 @@ took_frame p m q source f l lent taken others outs number peers home =
 
 took_ported : (p q : Plain) (source : ℕ) (f : Frame) → TookFrame p q source f → Ported p q
 took_ported p q source f t = ported_in p q t.number t.peers t.home t.outs (λ s. (
-      t.after s,
-      elim (cases_eq s source) [ inl same ↦ rw same (f ∷ [], sym t.taken) | inr other ↦ ([], append-nil _ ∙ sym (t.others s other)) ],
-    ))
+  t.after s,
+  elim (cases_eq s source) [ inl same ↦ rw same (f ∷ [], sym t.taken) | inr other ↦ ([], append-nil _ ∙ sym (t.others s other)) ],
+))
 
 -- ---- the machine
 

@@ -127,15 +127,15 @@ queued to head bytes ctx level completion e =
     let s = e.state in
     record e {
       state = with_tx (accepting to (record { head = head; bytes = bytes }) (record {
-          call = s.calls;
-          dest = to;
-          place = length (accepted_for s.tx to);
-          head = head;
-          level = level;
-          ctx = Some ctx;
-          buf = Some bytes;
-          silent = s.selective && not completion;
-        }) s.tx) s;
+        call = s.calls;
+        dest = to;
+        place = length (accepted_for s.tx to);
+        head = head;
+        level = level;
+        ctx = Some ctx;
+        buf = Some bytes;
+        silent = s.selective && not completion;
+      }) s.tx) s;
     }
 
 -- the message is placed in the receive: its entry is written, and the receive counts

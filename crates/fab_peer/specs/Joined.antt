@@ -2,7 +2,7 @@
 --     IsJoined f        the ports belong to the peers, and each lane brings what its sender posted
 --     Opens b f         the peers stand at the opening of the script
 --     GoesOn f g        what led to the one leads to the other
-use Rattle.std.specs.Prelude.{◌≡◌, ◌<◌, ℕ, List, [], map, length, replicate, None, Some, slice_get}
+use Rattle.std.specs.Prelude.{◌≡◌, ℕ, List, [], map, length, replicate, None, Some, slice_get}
 use Rattle.fab_base.specs.declared.peers.Step.{Step}
 use Rattle.fab_base.specs.declared.script.Bound.{Bound}
 use Rattle.fab_link.specs.Plain.{Plain}

@@ -3,7 +3,7 @@
 --     Shows taken v      in this view, the frames taken are those of what the senders transmitted
 --     IsTied s p         the port has what the machine's state says
 --     Went e p e' p'     some steps led from the one endpoint and port to the other
-use Rattle.std.specs.Prelude.{◌≡◌, ◌<◌, ◌≤◌, ℕ, List, [], ◌∷◌, ◌++◌, length, take, map, slice_get, slice_index, Option, Some, None}
+use Rattle.std.specs.Prelude.{◌≡◌, ◌<◌, ◌≤◌, ℕ, List, ◌++◌, length, take, map, slice_get, slice_index, Option, Some, None}
 use Rattle.fab_base.specs.declared.frames.Frame.{Frame}
 use Rattle.fab_base.specs.declared.frames.FrameHead.{FrameHead}
 use Rattle.fab_base.specs.declared.items.Item.{Item}

@@ -69,29 +69,97 @@ fn bind_op(
     ensures { (b : Bound) → b.script.payloads ≡ payloads.now → b.files ≡ files.now → IfOk result (λ r. r ≡ bind_op b op) }
 {
     Ok(match op {
-        LineOp::Send { ctx, dest, bytes, imm, level, completion } => {
+        LineOp::Send {
+            ctx,
+            dest,
+            bytes,
+            imm,
+            level,
+            completion,
+        } => {
             let bytes = bind_word(alloc, payloads, files, bytes)?;
-            LineOp::Send { ctx, dest, bytes, imm, level, completion }
+            LineOp::Send {
+                ctx,
+                dest,
+                bytes,
+                imm,
+                level,
+                completion,
+            }
         }
-        LineOp::TSend { ctx, dest, tag, bytes, imm, level, completion } => {
+        LineOp::TSend {
+            ctx,
+            dest,
+            tag,
+            bytes,
+            imm,
+            level,
+            completion,
+        } => {
             let bytes = bind_word(alloc, payloads, files, bytes)?;
-            LineOp::TSend { ctx, dest, tag, bytes, imm, level, completion }
+            LineOp::TSend {
+                ctx,
+                dest,
+                tag,
+                bytes,
+                imm,
+                level,
+                completion,
+            }
         }
         LineOp::Inject { dest, bytes, imm } => {
             let bytes = bind_word(alloc, payloads, files, bytes)?;
             LineOp::Inject { dest, bytes, imm }
         }
-        LineOp::TInject { dest, tag, bytes, imm } => {
+        LineOp::TInject {
+            dest,
+            tag,
+            bytes,
+            imm,
+        } => {
             let bytes = bind_word(alloc, payloads, files, bytes)?;
-            LineOp::TInject { dest, tag, bytes, imm }
+            LineOp::TInject {
+                dest,
+                tag,
+                bytes,
+                imm,
+            }
         }
-        LineOp::Write { ctx, dest, key, at, bytes, imm, completion } => {
+        LineOp::Write {
+            ctx,
+            dest,
+            key,
+            at,
+            bytes,
+            imm,
+            completion,
+        } => {
             let bytes = bind_word(alloc, payloads, files, bytes)?;
-            LineOp::Write { ctx, dest, key, at, bytes, imm, completion }
+            LineOp::Write {
+                ctx,
+                dest,
+                key,
+                at,
+                bytes,
+                imm,
+                completion,
+            }
         }
-        LineOp::WInject { dest, key, at, bytes, imm } => {
+        LineOp::WInject {
+            dest,
+            key,
+            at,
+            bytes,
+            imm,
+        } => {
             let bytes = bind_word(alloc, payloads, files, bytes)?;
-            LineOp::WInject { dest, key, at, bytes, imm }
+            LineOp::WInject {
+                dest,
+                key,
+                at,
+                bytes,
+                imm,
+            }
         }
         LineOp::Reg { key, access, bytes } => {
             let bytes = bind_word(alloc, payloads, files, bytes)?;

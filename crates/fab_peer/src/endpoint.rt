@@ -19,8 +19,8 @@ use crate::entries::{entry_of, has_space};
 use crate::receiving::Inbox;
 use crate::transmitting::Outbox;
 use fab_base::{
-    Buf, Caps, Class, Conf, Entry, Item, ItemHead, Kind, Level, NoMemory, Operation, Receive, Step, Taken,
-    Tally,
+    Buf, Caps, Class, Conf, Entry, Item, ItemHead, Kind, Level, NoMemory, Operation, Receive, Step,
+    Taken, Tally,
 };
 use std::alloc::Global;
 use std::marker::Model;

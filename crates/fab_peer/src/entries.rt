@@ -5,7 +5,9 @@ ghost use Rattle.fab_model.specs.Sending.{ack_of};
 ghost use Rattle.fab_model.specs.Peers.{part_of};
 ghost use Rattle.fab_peer.specs.Endpoints.{message_head};
 
-use fab_base::{Ack, Buf, Entry, ErrEntry, ErrKind, ItemHead, Kind, Level, Outcome, Receive, Taken};
+use fab_base::{
+    Ack, Buf, Entry, ErrEntry, ErrKind, ItemHead, Kind, Level, Outcome, Receive, Taken,
+};
 
 /// The tag that a completion tells: that of a tagged message.
 fn tag_of(head: &ItemHead) -> Option<u64>

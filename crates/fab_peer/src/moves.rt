@@ -79,11 +79,7 @@ fn post_one(endpoint: &mut Endpoint, port: &mut PlainPort, dest: u32) -> Result<
 
 /// One turn: for each peer in order, posts the next item for it and takes its next frame, where that
 /// may be and while `left` is above 0. Whether anything moved.
-fn turn(
-    endpoint: &mut Endpoint,
-    port: &mut PlainPort,
-    left: &mut u32,
-) -> Result<bool, NoMemory>
+fn turn(endpoint: &mut Endpoint, port: &mut PlainPort, left: &mut u32) -> Result<bool, NoMemory>
     requires { IsTied endpoint.old.state port.old }
     ensures tied { OnOk result (IsTied endpoint.new.state port.new) }
     ensures went { OnOk result (Went endpoint.old port.old endpoint.new port.new) }
@@ -103,11 +99,7 @@ fn turn(
 }
 
 /// Posts and takes frames in turns, until a turn moves nothing or about `budget` frames have moved.
-pub fn progress(
-    endpoint: &mut Endpoint,
-    port: &mut PlainPort,
-    budget: u32,
-) -> Result<(), NoMemory>
+pub fn progress(endpoint: &mut Endpoint, port: &mut PlainPort, budget: u32) -> Result<(), NoMemory>
     requires { IsTied endpoint.old.state port.old }
     ensures tied { OnOk result (IsTied endpoint.new.state port.new) }
     ensures went { OnOk result (Went endpoint.old port.old endpoint.new port.new) }

@@ -11,7 +11,8 @@ ghost use Rattle.fab_peer.specs.Moves.{IsTied};
 use crate::endpoint::Endpoint;
 use crate::moves::{progress, push};
 use fab_base::{
-    Buf, BytesWord, Conf, Entry, Fault, Kept, Level, Line, LineOp, LineResult, NoMemory, Step, Taken,
+    Buf, BytesWord, Conf, Entry, Fault, Kept, Level, Line, LineOp, LineResult, NoMemory, Step,
+    Taken,
 };
 use fab_link::PlainPort;
 use std::alloc::Global;

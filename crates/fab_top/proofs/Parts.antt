@@ -6,7 +6,6 @@ use Rattle.fab_base.specs.declared.entries.Kept.{Kept}
 use Rattle.fab_base.specs.declared.peers.LineResult.{LineResult}
 use Rattle.fab_base.specs.declared.peers.Step.{Step}
 use Rattle.fab_base.specs.declared.script.Line.{Line}
-use Rattle.fab_model.specs.Peers.{Actor}
 use Rattle.fab_model.specs.Report.{all_lines, actor_lines, peer_lines, pending_of, report_of, report_lines, first_line, last_line}
 use Rattle.fab_model.specs.Replay.{all_done}
 use Rattle.fab_model.specs.Words.{text_of, line_of}

@@ -1,10 +1,9 @@
 -- A report of what peers did tells the schedule that led there.
-use Rattle.std.proofs.Common.{◌≡◌, ◌≤◌, ◌^◌, ℕ, Bool, List, [], map, length, sym, ap, subst, ◌∙◌, arith}
+use Rattle.std.proofs.Common.{◌≡◌, ◌≤◌, ◌^◌, ℕ, Bool, List, map, length, sym, ap, subst, ◌∙◌, arith}
 use Rattle.std.proofs.lemmas.List.{length-map}
-use Rattle.fab_base.specs.declared.peers.Step.{Step}
 use Rattle.fab_base.specs.declared.script.Script.{Script}
 use Rattle.fab_model.specs.Orders.{Reached}
-use Rattle.fab_model.specs.Peers.{Actor, fabric}
+use Rattle.fab_model.specs.Peers.{fabric}
 use Rattle.fab_model.specs.Replay.{Lawful, opening, replayed, all_done}
 use Rattle.fab_model.specs.Report.{report, report_of, traces}
 use Rattle.fab_model.specs.Views.{rule}

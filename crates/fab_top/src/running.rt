@@ -106,3 +106,6 @@ pub fn run<D: Depot, S: Sink, C: Clock, G: Gate>(
         Err(NoMemory) => Status::NoMemory,
     }
 }
+
+#[cfg(test)]
+mod tests;

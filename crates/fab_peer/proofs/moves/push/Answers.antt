@@ -1,4 +1,4 @@
-use Rattle.std.proofs.Common.{◌<◌, length, arith}
+use Rattle.std.proofs.Common.{arith}
 use Rattle.fab_peer.proofs.Going.{went_then}
 use Rattle.fab_peer.proofs.moves.push.Goals as goal
 

@@ -1,4 +1,3 @@
-use Rattle.std.proofs.Common.{refl, sym, ap, ◌∙◌, None, Some}
 use Rattle.fab_peer.proofs.Going.{Looked, looked_by, looked_ported, tied_looked, went_none}
 use Rattle.fab_peer.proofs.Taking.{TookFrame, took_frame, went_takes, tied_takes}
 use Rattle.fab_wire.specs.Frames.{lent_frame}

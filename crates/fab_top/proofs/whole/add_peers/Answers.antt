@@ -1,4 +1,4 @@
-use Rattle.std.proofs.Common.{◌≡◌, ◌++◌, ap, ◌∙◌, arith, get_or, length, string_bytes}
+use Rattle.std.proofs.Common.{◌≡◌, ◌++◌, ap, ◌∙◌, arith, get_or, string_bytes}
 use Rattle.fab_model.specs.Report.{actor_lines}
 use Rattle.fab_model.specs.Words.{text_of}
 use Rattle.fab_peer.specs.Turns.{actor_of, schedule_of}

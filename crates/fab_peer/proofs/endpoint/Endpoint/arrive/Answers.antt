@@ -1,4 +1,4 @@
-use Rattle.std.proofs.Common.{◌≡◌, ◌<◌, false, true, length, sym, ◌∙◌}
+use Rattle.std.proofs.Common.{◌≡◌, false, true, sym, ◌∙◌}
 use Rattle.std.specs.Prelude.{is_some}
 use Rattle.fab_model.specs.State.{fits}
 use Rattle.fab_model.specs.Receiving.{draw_due}

@@ -1,6 +1,4 @@
-use Rattle.std.proofs.Common.{refl, ◌≡◌, ◌∙◌, sym, ap, length}
-use Rattle.fab_peer.specs.Endpoints.{IsOpen}
-use Rattle.fab_peer.proofs.Opening.{some_of, opens_at}
+use Rattle.fab_peer.proofs.Opening.{opens_at}
 use Rattle.fab_peer.proofs.endpoint.Endpoint.new.Goals as goal
 
 pub invariant_of-result : goal.invariant_of-result

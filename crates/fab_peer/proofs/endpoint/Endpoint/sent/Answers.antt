@@ -1,7 +1,7 @@
-use Rattle.std.proofs.Common.{◌≡◌, true, ap, ◌∙◌, sym, refl, None, Some, [], ◌∷◌, ◌++◌, rules}
+use Rattle.std.proofs.Common.{◌≡◌, ap, ◌∙◌, refl, None, Some, [], ◌∷◌, ◌++◌, rules}
 use Rattle.fab_base.specs.declared.peers.Step.TheVariants.{Sent}
 use Rattle.fab_model.specs.Sending.{ending}
-use Rattle.fab_peer.specs.Endpoints.{Held, has_room, ended}
+use Rattle.fab_peer.specs.Endpoints.{Held}
 use Rattle.fab_peer.proofs.Sending.{sent_none, sent_some}
 use Rattle.fab_peer.proofs.endpoint.Endpoint.sent.Goals as goal
 

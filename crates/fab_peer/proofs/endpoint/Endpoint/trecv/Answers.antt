@@ -1,4 +1,4 @@
-use Rattle.std.proofs.Common.{◌≡◌, ℕ, true, false, length, None, Option, arith, refl, ap, sym, ◌∙◌, subst}
+use Rattle.std.proofs.Common.{◌≡◌, ℕ, true, false, length, None, Option, arith, refl, ap, sym, ◌∙◌}
 use Rattle.std.specs.Prelude.{nat_lt, nat_le, is_some, find, IfSome}
 use Rattle.std.proofs.lemmas.Bool.Decides.{nat_tests}
 use Rattle.fab_base.specs.declared.entries.Taken.{Taken}

@@ -1,4 +1,4 @@
-use Rattle.std.proofs.Common.{◌≡◌, ◌<◌, ◌^◌, rules, arith, refl, sym, ap, ◌∙◌}
+use Rattle.std.proofs.Common.{◌≡◌, ◌<◌, ◌^◌, rules, arith, sym, ap, ◌∙◌}
 use Rattle.std.specs.Prelude.{map}
 use Rattle.fab_peer.specs.Turns.{actor_of}
 use Rattle.fab_base.specs.declared.script.Conf.{Conf}

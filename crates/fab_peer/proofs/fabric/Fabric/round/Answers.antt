@@ -1,9 +1,8 @@
-use Rattle.std.proofs.Common.{◌≡◌, length, arith, refl, sym, ◌∙◌, ap, subst, List, ℕ, ◌<◌}
+use Rattle.std.proofs.Common.{◌≡◌, length, refl, sym, ◌∙◌, subst, List, ℕ, ◌<◌}
 use Rattle.std.specs.Vec.{with_items}
 use Rattle.std.proofs.lemmas.List.{with_items_is}
 use Rattle.fab_link.specs.Carry.{Continued}
 use Rattle.fab_link.specs.Plain.{Plain}
-use Rattle.fab_peer.specs.Joined.{IsJoined}
 use Rattle.fab_peer.specs.declared.fabric.Fabric.{Fabric}
 use Rattle.fab_peer.proofs.Joining.{is_continued, carried_joined}
 use Rattle.fab_peer.proofs.fabric.Fabric.round.Goals as goal

@@ -1,7 +1,7 @@
 use Rattle.std.proofs.Common.{◌<◌, length, arith, refl}
 use Rattle.std.specs.Vec.{with_item}
 use Rattle.fab_peer.specs.declared.fabric.Fabric.{Fabric}
-use Rattle.fab_peer.proofs.Joining.{is_at, turn_joined, turn_goes_on, turned_all}
+use Rattle.fab_peer.proofs.Joining.{is_at, turned_all}
 use Rattle.fab_peer.proofs.fabric.Fabric.turn.Goals as goal
 
 pub quantum-requires : goal.quantum-requires

@@ -1,4 +1,4 @@
-use Rattle.std.proofs.Common.{refl, None, sym, subst}
+use Rattle.std.proofs.Common.{refl, None}
 use Rattle.std.specs.Prelude.{replicate}
 use Rattle.fab_base.specs.declared.script.LineOp.TheVariants.{TRecv}
 use Rattle.fab_model.specs.Calls.{Post}

@@ -1,4 +1,4 @@
-use Rattle.std.proofs.Common.{◌≡◌, None, Some, refl, rules, sym, ◌∙◌}
+use Rattle.std.proofs.Common.{◌≡◌, None, Some, refl, rules, ◌∙◌}
 use Rattle.std.specs.Prelude.{find}
 use Rattle.fab_model.specs.Peers.{is_of_ctx}
 use Rattle.fab_peer.proofs.Firsts.{not_found}

@@ -3,7 +3,6 @@ use Rattle.std.specs.Prelude.{is_some}
 use Rattle.fab_model.specs.Arrivals.{is_wanted}
 use Rattle.fab_peer.proofs.Firsts.{is_some-position}
 use Rattle.fab_peer.proofs.Calling.{none_draws}
-use Rattle.fab_peer.proofs.Arriving.{arrives_into}
 use Rattle.fab_peer.proofs.receiving.Inbox.is_wanted.Goals as goal
 
 pub returns-clause-found : goal.returns-clause-found

@@ -1,4 +1,4 @@
-use Rattle.std.proofs.Common.{rules, Some, None, ◌≡◌, ◌<◌, [], length, arith, sym, ap, ◌∙◌}
+use Rattle.std.proofs.Common.{rules, Some, None, ◌≡◌, ◌<◌, length, arith, sym, ap, ◌∙◌}
 use Rattle.std.specs.Prelude.{position, slice_index}
 use Rattle.std.proofs.lemmas.List.{get_or_default}
 use Rattle.fab_model.specs.Sending.{is_of_item}
