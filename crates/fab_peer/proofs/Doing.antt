@@ -21,7 +21,7 @@ use Rattle.fab_link.specs.Plain.{Plain}
 use Rattle.fab_model.specs.Matching.{remove_first}
 use Rattle.fab_model.specs.State.{State}
 use Rattle.fab_model.specs.Calls.{Call, Post, do_call, call_of, message, word_bytes}
-use Rattle.fab_model.specs.Peers.{Actor, fabric, step, next_line, do_next, do_line, wait_line, call_line, after_call, is_again, is_of_ctx, with_result, with_state, read_next, bytes_kept, part_of, unread, reading}
+use Rattle.fab_model.specs.Peers.{Actor, fabric, facts, step, next_line, do_next, do_line, wait_line, call_line, after_call, is_again, is_of_ctx, with_result, with_state, read_next, bytes_kept, part_of, unread, reading}
 use Rattle.fab_model.specs.Views.{View}
 use Rattle.fab_model.proofs.Passes.{Passes, same, call_passes}
 use Rattle.fab_peer.specs.Endpoints.{Held, Answers, ReadsHeld, logged, any_source}
@@ -90,6 +90,10 @@ does_read a b entry (w, there, is, new, plain) lines results kept =
     (λ v. reads_next (actor_of a) w entry there is plain
     ∙ (let state = ap (λ (h : Held). h.state) new in rw (lines, results, kept, state) refl))
     (rw new (same refl refl))
+
+-- a read changes nothing that the calm asks of a peer
+pub read_facts : (a b : Peer) (entry : Taken) → ReadsHeld a.endpoint b.endpoint (Some entry) → b.lines ≡ a.lines → b.results ≡ a.results → facts (actor_of b) ≡ facts (actor_of a)
+read_facts a b entry (w, there, is, new, plain) lines results = let state = ap (λ (h : Held). h.state) new in rw (lines, results, state) refl
 
 -- ---- lines
 

@@ -11,3 +11,4 @@ pub mod Taking
 pub mod Joining
 pub mod Payloads
 pub mod Opening
+pub mod Ending

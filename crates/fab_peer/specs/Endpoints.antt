@@ -15,7 +15,7 @@ use Rattle.fab_model.specs.Sending.{ack_of}
 use Rattle.fab_model.specs.Matching.{remove_first, takes, is_message}
 use Rattle.fab_model.specs.Arrivals.{is_wanted, taker, do_head, do_tail}
 use Rattle.fab_base.specs.declared.peers.Step.{Step}
-use Rattle.fab_base.specs.declared.peers.Step.TheVariants.{Do, Head, Tail, Read as ReadStep, Sent as SentStep}
+use Rattle.fab_base.specs.declared.peers.Step.TheVariants.{Do, Head, Tail, Final, Read as ReadStep, Sent as SentStep}
 use Rattle.fab_base.specs.declared.entries.Class.TheVariants.{Recv}
 use Rattle.fab_base.specs.declared.operations.Operation.{Operation}
 use Rattle.fab_base.specs.declared.faults.Fault.{Fault}
@@ -23,8 +23,9 @@ use Rattle.fab_base.specs.declared.faults.Fault.TheVariants.{NoMemory as LacksMe
 use Rattle.fab_base.specs.declared.peers.LineResult.TheVariants.{Done as Accepted, Refused}
 use Rattle.fab_model.specs.Calls.{Call, do_call}
 use Rattle.fab_base.specs.declared.items.Want.{Want}
-use Rattle.fab_model.specs.Receiving.{Posting, without_first, draw_due}
-use Rattle.fab_model.specs.Complete.{entry_of, has_space}
+use Rattle.fab_base.specs.declared.entries.ErrKind.TheVariants.{Canceled}
+use Rattle.fab_model.specs.Receiving.{Posting, without_first, draw_due, cancellable, without_posted}
+use Rattle.fab_model.specs.Complete.{entry_of, has_space, error}
 use Rattle.fab_model.specs.Sending.{accepting, end_with, do_sent}
 use Rattle.fab_model.specs.State.{State, fits, Completions, Receiving, Transmitting, raise, lookup, called, with_rx, with_tx, accepted_for, write, count}
 use Rattle.fab_model.specs.Peers.{unread, reading, part_of}
@@ -219,3 +220,14 @@ message_head op tag imm level total = record {
   outcome = Done;
   total = total;
 }
+
+-- the receive has left: its entry is written, it counts as an error, and the cancel is a call
+abbrev pub given_back : Receive → Held → Held
+given_back r e = record { state = write (Some r.call) (error (Some r.ctx) Canceled (Some r.buf)) (count Recv false (called e.state)); log = e.log ++ Final ∷ [] }
+
+-- the first posted receive that may leave has left and is given back, and its entry had room; or nothing changed. No draw is due before or after
+abbrev pub Cancels : Held → Held → Bool → Type 0
+Cancels old new false = new ≡ old
+Cancels old new true =
+    (r : Receive) × (cancellable (λ r. true) old.state.rx ≡ Some r) × (new ≡ given_back r (record old { state = with_rx (without_posted (λ r. true) old.state.rx) old.state }))
+    × (fits new.state.cq ≡ true) × (draw_due old.state.rx ≡ false) × (draw_due new.state.rx ≡ false)

@@ -8,7 +8,7 @@ use Rattle.fab_base.specs.declared.script.Bound.{Bound}
 use Rattle.fab_link.specs.Plain.{Plain}
 use Rattle.fab_link.specs.Carry.{lane_of, pipe, AreAll}
 use Rattle.fab_model.specs.Orders.{Reached}
-use Rattle.fab_model.specs.Peers.{Actor, fabric}
+use Rattle.fab_model.specs.Peers.{Actor, Facts, facts, fabric}
 use Rattle.fab_model.specs.Replay.{opening}
 use Rattle.fab_model.specs.Views.{rule}
 use Rattle.fab_peer.specs.Moves.{IsTied}
@@ -38,3 +38,11 @@ pub record Opens (b : Bound) (f : Fabric) : Type 0 where
 
 abbrev pub GoesOn : Fabric → Fabric → Type 0
 GoesOn f g = (first : List Actor) → Reached (rule fabric) first (schedules f) (actors f) → Reached (rule fabric) first (schedules g) (actors g)
+
+-- what the calm asks of all peers
+abbrev pub all_facts : Fabric → List Facts
+all_facts f = map facts (actors f)
+
+-- what led from a script's opening to the one leads to the other
+abbrev pub Ends : Fabric → Fabric → Type 0
+Ends f g = (b : Bound) → Reached (rule fabric) (opening b) (schedules f) (actors f) → Reached (rule fabric) (opening b) (schedules g) (actors g)

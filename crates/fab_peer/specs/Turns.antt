@@ -17,7 +17,7 @@ use Rattle.fab_base.specs.declared.script.LineOp.{LineOp}
 use Rattle.fab_base.specs.declared.script.LineOp.TheVariants.{TSend}
 use Rattle.fab_link.specs.Plain.{Plain}
 use Rattle.fab_model.specs.Calls.{word_bytes}
-use Rattle.fab_model.specs.Peers.{Actor, fabric, next_line, is_again}
+use Rattle.fab_model.specs.Peers.{Actor, fabric, facts, next_line, is_again}
 use Rattle.fab_model.specs.Views.{View, Walk}
 use Rattle.fab_peer.specs.Moves.{Shows, taken_of, IsTied, Ported}
 use Rattle.fab_peer.specs.Endpoints.{logged}
@@ -42,6 +42,13 @@ pub record Turned (a : Peer) (p : Plain) (b : Peer) (q : Plain) : Type 0 where
   pub log : schedule_of b ≡ schedule_of a ++ steps
   pub walk : (v : View Item) → Shows (taken_of q) v → Walk fabric v (actor_of a) steps (actor_of b)
   pub ported : Ported p q
+
+-- the peer alone at the end: its steps stand where all is calm, and what the calm asks of it stays
+pub record Ended (a b : Peer) : Type 0 where
+  pub steps : List Step
+  pub log : schedule_of b ≡ schedule_of a ++ steps
+  pub walk : (v : View Item) → v.calm ≡ true → Walk fabric v (actor_of a) steps (actor_of b)
+  pub facts_are : facts (actor_of b) ≡ facts (actor_of a)
 
 -- ---- lines
 

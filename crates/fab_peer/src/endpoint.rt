@@ -12,6 +12,7 @@ ghost use Rattle.fab_model.specs.Matching.{is_message, is_tagged};
 ghost use Rattle.fab_peer.specs.Endpoints.{Held, has_room, IsSingle, accepted_call, queued, delivered, arrived, ended, logged, ReadsHeld};
 
 mod calls;
+mod finals;
 mod steps;
 
 use crate::completions::Queue;

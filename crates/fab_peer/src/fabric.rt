@@ -2,11 +2,14 @@
 ghost use Rattle.std.specs.Prelude.{◌≡◌, ◌<◌, ◌^◌, drop, length, slice_index_or, [], IfOk, OnOk, map};
 ghost use Rattle.fab_base.specs.declared.script.Bound.{Bound};
 ghost use Rattle.fab_model.specs.Orders.{Reached};
-ghost use Rattle.fab_model.specs.Peers.{fabric};
+ghost use Rattle.std.specs.Prelude.{◌&&◌, not, true};
+ghost use Rattle.std.specs.List.{list_all};
+ghost use Rattle.fab_model.specs.Peers.{fabric, is_finished, has_all, all_below, is_calm};
+ghost use Rattle.fab_model.specs.Receiving.{draw_due};
 ghost use Rattle.fab_model.specs.Views.{rule};
 ghost use Rattle.fab_model.specs.Replay.{opening};
 ghost use Rattle.fab_peer.specs.Turns.{actor_of, schedule_of};
-ghost use Rattle.fab_peer.specs.Joined.{IsJoined, Opens, GoesOn};
+ghost use Rattle.fab_peer.specs.Joined.{IsJoined, Opens, GoesOn, Ends, all_facts};
 
 use crate::binding::bind_lines;
 use crate::peer::Peer;
@@ -87,6 +90,67 @@ impl Fabric {
         Ok(moved || carried != 0)
     }
 
+    /// Whether every item that a peer accepted for another is whole there.
+    fn has_all(&self, sender: usize, receiver: usize) -> bool
+        requires sender { sender < length self.now.peers.items }
+        requires receiver { receiver < length self.now.peers.items }
+        ensures { result ≡ has_all (all_facts self.now) sender receiver }
+    {
+        self.peers[receiver].whole(sender) == self.peers[sender].accepted_for(receiver)
+    }
+
+    /// Whether every item that this peer accepted is whole at its receiver.
+    fn all_have_of(&self, sender: usize) -> bool
+        requires { sender < length self.now.peers.items }
+        ensures { result ≡ true → all_below (has_all (all_facts self.now) sender) (length self.now.peers.items) ≡ true }
+    {
+        for receiver in 0..self.peers.len() {
+            if !self.has_all(sender, receiver) {
+                return false;
+            }
+        }
+        true
+    }
+
+    /// Whether every item that was accepted is whole at its receiver.
+    fn all_have_all(&self) -> bool
+        ensures { result ≡ true → all_below (λ sender. all_below (has_all (all_facts self.now) sender) (length self.now.peers.items)) (length self.now.peers.items) ≡ true }
+    {
+        for sender in 0..self.peers.len() {
+            if !self.all_have_of(sender) {
+                return false;
+            }
+        }
+        true
+    }
+
+    /// Whether all lines are done and nothing that is posted could go on by itself.
+    fn all_still(&self) -> bool
+        ensures { result ≡ list_all (λ p. is_finished (actor_of p) && not (draw_due (actor_of p).state.rx)) self.now.peers.items }
+    {
+        self.peers.iter().all(|peer| peer.is_still())
+    }
+
+    /// Whether all lines are done and everything accepted is whole at its peer.
+    fn is_calm(&self) -> bool
+        ensures { result ≡ true → is_calm (all_facts self.now) ≡ true }
+    {
+        self.all_still() && self.all_have_all()
+    }
+
+    /// Where all lines are done, each peer cancels the receives that are still posted.
+    fn cancel_posted(&mut self) -> Result<(), NoMemory>
+        ensures { OnOk result (Ends self.old self.new) }
+    {
+        if !self.is_calm() {
+            return Ok(());
+        }
+        for number in 0..self.peers.len() {
+            self.peers[number].cancel_posted()?;
+        }
+        Ok(())
+    }
+
     /// Rounds until one moves nothing.
     fn finish(&mut self) -> Result<(), NoMemory>
         requires joined { IsJoined self.old }
@@ -102,7 +166,8 @@ impl Fabric {
 }
 
 /// Runs all peers of a script until none can go on, and hands them back: some order of turns took the
-/// steps of their schedules from the script's opening to their states.
+/// steps of their schedules from the script's opening to their states. Where all lines are done, each
+/// peer then cancelled the receives that were still posted (fi_cancel of fi_endpoint(3)).
 pub fn run_peers(alloc: Global, bound: Bound) -> Result<Vec<Peer>, NoMemory>
     ensures { IfOk result (λ peers. Reached (rule fabric) (opening bound) (map schedule_of peers.items) (map actor_of peers.items)) }
 {
@@ -116,5 +181,6 @@ pub fn run_peers(alloc: Global, bound: Bound) -> Result<Vec<Peer>, NoMemory>
     let lists = peers.into_vec();
     let mut fabric = Fabric::open(alloc, &conf, payloads.as_slice(), files.as_slice(), lists)?;
     fabric.finish()?;
+    fabric.cancel_posted()?;
     Ok(fabric.peers)
 }

@@ -3,9 +3,12 @@ ghost use Rattle.std.specs.Prelude.{◌≡◌, Some, None, IfOk, OnOk, find, pos
 ghost use Rattle.fab_base.specs.declared.script.LineOp.TheVariants.{Wait, TRecv};
 ghost use Rattle.fab_model.specs.Matching.{remove_first};
 ghost use Rattle.fab_model.specs.Calls.{word_bytes};
-ghost use Rattle.fab_model.specs.Peers.{ctx_of, is_of_ctx, is_finished};
+ghost use Rattle.fab_model.specs.Peers.{ctx_of, is_of_ctx, is_finished, facts};
 ghost use Rattle.fab_model.specs.Replay.{newly};
 ghost use Rattle.fab_model.specs.Report.{pending_of};
+ghost use Rattle.fab_model.specs.State.{accepted_for};
+ghost use Rattle.fab_model.specs.Receiving.{draw_due};
+ghost use Rattle.std.specs.Prelude.{◌&&◌, not, length, slice_index};
 ghost use Rattle.fab_peer.specs.Moves.{IsTied};
 
 use crate::endpoint::Endpoint;
@@ -88,7 +91,7 @@ fn word_bytes(alloc: Global, word: &BytesWord) -> Result<Buf, NoMemory>
 }
 
 impl Peer {
-    ghost use Rattle.fab_peer.specs.Turns.{Turned, actor_of, schedule_of, Does, Answered, next_op, SendsNext};
+    ghost use Rattle.fab_peer.specs.Turns.{Turned, Ended, actor_of, schedule_of, Does, Answered, next_op, SendsNext};
 
     /// A peer that is to do these lines.
     pub fn new(alloc: Global, conf: &Conf, lines: Vec<Line>) -> Result<Peer, NoMemory>
@@ -106,7 +109,8 @@ impl Peer {
 
     /// Reads completions until there is none, and keeps them.
     fn read_all(&mut self) -> Result<(), NoMemory>
-        ensures { OnOk result (Does self.old self.new) }
+        ensures does { OnOk result (Does self.old self.new) }
+        ensures facts { OnOk result (facts (actor_of self.new) ≡ facts (actor_of self.old)) }
     {
         let unread = self.endpoint.unread();
         for _entry in 0..unread {
@@ -254,6 +258,41 @@ impl Peer {
             self.read_all()?;
         }
         Ok(())
+    }
+
+    /// Cancels the receives that are still posted, in order, and reads all completions after each.
+    pub fn cancel_posted(&mut self) -> Result<(), NoMemory>
+        ensures { OnOk result (Ended self.old self.new) }
+    {
+        let posted = self.endpoint.posted();
+        for _receive in 0..posted {
+            if !self.endpoint.cancel_first()? {
+                return Ok(());
+            }
+            self.read_all()?;
+        }
+        Ok(())
+    }
+
+    /// Whether all lines are done, and no multi-receive could go on.
+    pub fn is_still(&self) -> bool
+        ensures { result ≡ (is_finished (actor_of self.now) && not (draw_due (actor_of self.now).state.rx)) }
+    {
+        self.finished() && !self.endpoint.draws()
+    }
+
+    /// How many items of a peer have arrived.
+    pub fn whole(&self, source: usize) -> u64
+        ensures { result ≡ slice_index (actor_of self.now).state.rx.tails source }
+    {
+        self.endpoint.whole(source)
+    }
+
+    /// How many items were accepted for a peer.
+    pub fn accepted_for(&self, dest: usize) -> u64
+        ensures { result ≡ length (accepted_for (actor_of self.now).state.tx dest) }
+    {
+        self.endpoint.accepted_for(dest)
     }
 
     /// How many operations were transmitted and are not complete yet.

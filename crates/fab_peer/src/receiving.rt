@@ -1,9 +1,10 @@
 //! The receiving half of an endpoint: posted receives and unexpected messages (fi_msg(3), fi_tagged(3)).
-ghost use Rattle.std.specs.Prelude.{◌≡◌, ◌+◌, ◌<◌, ◌^◌, ℕ, [], ◌∷◌, ◌++◌, length, replicate, IfOk, OnErr, IfSome, None, false, find, position, is_some, slice_index, IsSome};
+ghost use Rattle.std.specs.Prelude.{◌≡◌, ◌+◌, ◌<◌, ◌^◌, ℕ, [], ◌∷◌, ◌++◌, length, replicate, IfOk, OnErr, IfSome, None, true, false, find, position, is_some, slice_index, IsSome};
+ghost use Rattle.std.specs.List.{list_any};
 ghost use Rattle.fab_base.specs.declared.operations.Receive.{Receive};
 ghost use Rattle.fab_model.specs.Matching.{matches, takes, remove_first};
 ghost use Rattle.fab_model.specs.Arrivals.{is_wanted, taker};
-ghost use Rattle.fab_model.specs.Receiving.{draw_due, without_first, joining_posted};
+ghost use Rattle.fab_model.specs.Receiving.{draw_due, cancellable, without_posted, without_first, joining_posted};
 ghost use Rattle.fab_peer.specs.Endpoints.{IsQuiet, IsSingle, IsWhole, nothing_yet, took, kept_whole, counted};
 
 use fab_base::{Ack, Arrival, Buf, ItemHead, Kind, NoMemory, Receive, Want};
@@ -93,6 +94,12 @@ fn take_arrival(unexpected: &mut Vec<Arrival>, want: &Want) -> Option<Arrival>
     Some(unexpected.remove(at))
 }
 
+fn has_multi(posted: &[Receive]) -> bool
+    ensures { result ≡ list_any (λ r. is_some r.least) posted.now }
+{
+    posted.iter().any(|receive| receive.least.is_some())
+}
+
 impl Inbox {
     /// Nothing has arrived of any of `peers` peers, and nothing is posted.
     pub fn new(alloc: Global, peers: u32) -> Result<Inbox, NoMemory>
@@ -118,6 +125,16 @@ impl Inbox {
         ensures { result ≡ slice_index self.now.tails source }
     {
         self.whole[source as usize]
+    }
+
+    /// How many items of a source have arrived, or none where there is no such peer.
+    pub fn all_whole(&self, source: usize) -> u64
+        ensures { result ≡ slice_index self.now.tails source }
+    {
+        match self.whole.get(source) {
+            Some(items) => *items,
+            None => 0,
+        }
     }
 
     /// Whether a posted receive matches the message.
@@ -181,6 +198,26 @@ impl Inbox {
         ensures whole { IfSome result IsWhole }
     {
         take_arrival(&mut self.unexpected, want)
+    }
+
+    /// Takes the first posted receive, which has nothing under way into it.
+    pub fn take_first(&mut self) -> Option<Receive>
+        ensures found { result ≡ cancellable (λ r. true) self.old }
+        ensures rest { self.new ≡ without_posted (λ r. true) self.old }
+        ensures still { draw_due self.old ≡ false }
+        ensures still_after { draw_due self.new ≡ false }
+    {
+        if self.posted.is_empty() {
+            return None;
+        }
+        Some(self.posted.remove(0))
+    }
+
+    /// Whether a multi-receive is posted, so that it might draw an unexpected message.
+    pub fn draws(&self) -> bool
+        ensures { result ≡ draw_due self.now }
+    {
+        has_multi(&self.posted)
     }
 
     /// A receive joins those posted.

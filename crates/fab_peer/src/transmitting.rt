@@ -123,6 +123,16 @@ impl Outbox {
         self.accepted[dest as usize].as_slice().len() as u64
     }
 
+    /// How many items were accepted for a peer, or none where there is no such peer.
+    pub fn all_accepted(&self, dest: usize) -> u64
+        ensures { result ≡ length (accepted_for self.now dest) }
+    {
+        match self.accepted.get(dest) {
+            Some(items) => items.as_slice().len() as u64,
+            None => 0,
+        }
+    }
+
     /// The item joins those accepted for the peer, and its operation the live ones.
     #[tactic(auto, unfolding(fab_model::specs::Sending::accepting))]
     pub fn accept(&mut self, dest: u32, item: Item, operation: Operation) -> Result<(), NoMemory>

@@ -85,6 +85,11 @@ fn scripts_run_to_their_reports(rt: HostRuntime) -> Result<(), Fail> {
             "fabric 1 peers 2\npeer 0\ntrace\npeer 1\ntrace\nend done\n",
             Status::Done,
         ),
+        (
+            "fabric 1\npeers 1\npeer 0\ntrecv 1 * 0 0 4\n",
+            "fabric 1 peers 1\npeer 0\n4 trecv ok\nleft 1 error FI_ECANCELED\ntrace D X R\nend done\n",
+            Status::Done,
+        ),
         (HELLO, HELLO_REPORT, Status::Done),
         (ITSELF, ITSELF_REPORT, Status::Done),
         (WAITING, WAITING_REPORT, Status::Stuck),

@@ -10,4 +10,4 @@ finish-requires c = let opens : Opens c.args.bound c.in_ok-fabric.fabric = c.in_
 pub returns : goal.returns
 returns c =
     let opens : Opens c.args.bound c.in_ok-fabric.fabric = c.in_ok-fabric.ensures c.args.bound refl (sym c.as_slice.ensures) (sym c.into_vec-lists.ensures) (sym c.as_slice-2.ensures) in
-    c.in_ok-finish.ensures.on (opening c.args.bound) (opened c.args.bound c.in_ok-fabric.fabric opens)
+    c.in_ok-cancel_posted.ensures c.args.bound (c.in_ok-finish.ensures.on (opening c.args.bound) (opened c.args.bound c.in_ok-fabric.fabric opens))

@@ -6,7 +6,7 @@ returns-then-not-branch-clause-turned c = turned_then _ _ _ _ _ _ c.loop-line.in
 
 pub loop-line-preserved : goal.loop-line-preserved
 loop-line-preserved c =
-    let does = c.in_ok-read_all.ensures in
+    let does = c.in_ok-read_all.ensures.does in
     let first = turned_then _ _ _ _ _ _ c.loop-line.invariant.turned c.in_ok-do_line.ensures.turned in
     record {
       tied = does.tied c.do_line.new.port c.in_ok-do_line.ensures.tied;

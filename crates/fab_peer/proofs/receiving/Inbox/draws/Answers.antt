@@ -1,0 +1,9 @@
+use Rattle.std.proofs.Common.{sym, ◌∙◌}
+use Rattle.fab_peer.proofs.Calling.{none_draws}
+use Rattle.fab_peer.proofs.Ending.{no_multi}
+use Rattle.fab_peer.proofs.receiving.Inbox.draws.Goals as goal
+
+pub returns : goal.returns
+returns c =
+    rw (← c.self.view_is)
+    (rw c.deref.ensures.value at c.has_multi.ensures ∙ no_multi c.self.inside.posted.items c.self.invariant.single ∙ sym (none_draws c.self.inside.unexpected.items c.self.inside.posted.items c.self.invariant.single))
