@@ -1,2 +1,4 @@
 pub mod Elements
 pub mod Granted
+pub mod Offer
+pub mod Counts

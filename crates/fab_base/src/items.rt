@@ -135,3 +135,12 @@ pub struct Want {
     pub ignore: u64,
     pub source: Option<u32>,
 }
+
+/// What a message shows of itself to the receives that may take it: tagged or untagged, its tag, and
+/// the peer that it comes from.
+#[derive(Clone, Copy, Debug, Drop, Eq, PartialEq)]
+pub struct Sign {
+    pub tagged: bool,
+    pub tag: u64,
+    pub source: u32,
+}

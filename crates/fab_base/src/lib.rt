@@ -5,7 +5,7 @@
 //! other type as the record of its fields. A number is a natural number in contracts, with no wrap.
 //! The crates above add the meaning: `fab_model` the definitions, the others the code.
 //!
-//! A type stands in the file of its subject: buffers, faults, capabilities, items and frames, what
+//! A type stands in the file of its subject: buffers, faults, capabilities, limits, items and frames, what
 //! an endpoint keeps of its operations, completions, peers, and the lines of a script.
 #![tactic(auto)]
 
@@ -15,6 +15,7 @@ mod entries;
 mod faults;
 mod frames;
 mod items;
+mod limits;
 mod operations;
 mod peers;
 mod script;
@@ -25,7 +26,8 @@ pub use caps::{Cap, Caps, Hints, Info};
 pub use entries::{Class, Entry, ErrEntry, ErrKind, Kept, PeekHow, Taken};
 pub use faults::{Busy, Fault, NoMemory, Refused};
 pub use frames::{Frame, FrameHead, FrameRef};
-pub use items::{Access, Ack, Atom, AtomicOp, Form, Item, ItemHead, Kind, Num, Outcome, Want};
+pub use items::{Access, Ack, Atom, AtomicOp, Form, Item, ItemHead, Kind, Num, Outcome, Sign, Want};
+pub use limits::{Limits, Size};
 pub use operations::{Arrival, Coming, Operation, Receive, Tally, Written};
 pub use peers::{Flags, Gate, Level, LineResult, Step};
 pub use script::{Bound, BytesWord, Conf, Line, LineOp, Payload, Script};

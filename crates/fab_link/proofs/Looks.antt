@@ -11,8 +11,10 @@ use Rattle.fab_base.specs.declared.frames.Frame.{Frame}
 use Rattle.fab_base.specs.declared.frames.FrameRef.{FrameRef}
 use Rattle.fab_wire.specs.Frames.{lent_frame, MayCome, last_head, IsLane}
 use Rattle.fab_wire.proofs.Lanes.{IsLane-at}
-use Rattle.fab_link.specs.Meaning.{Fronted, Gives, Rose, advanced}
-use Rattle.fab_link.specs.Plain.{Lane, IsSoundLane, Plain, outgoing, incoming, looked, lent_frames, counted, lane_at, with_lane, in_of, out_of, home_of}
+use Rattle.fab_link.specs.Meaning.{Fronted, Gives, advanced}
+use Rattle.fab_base.specs.Counts.{Rose}
+use Rattle.fab_link.specs.Plain.{Lane, IsSoundLane, Plain, outgoing, incoming, looked, lent_frames, lane_at, with_lane, in_of, out_of, home_of}
+use Rattle.fab_base.specs.Counts.{counted}
 
 -- the next frame of a lane may come
 next_may_come : (lane : Lane) (f : Frame) → IsLane lane.in_after lane.in_list → slice_get lane.in_list lane.taken ≡ Some f

@@ -2,6 +2,7 @@
 use Rattle.std.specs.Prelude.{◌≡◌, ◌≢◌, ℕ, ◌+◌, ◌^◌, ◌<◌, ◌≤◌, ◌⊎◌, List, [], ◌∷◌, ◌++◌, length, Option, Some, None, ⊤}
 use Rattle.std.specs.Borrow.{follows_so, Fml, RattleType, MutBor}
 use mathlib.Core.Option.{none}
+use Rattle.fab_base.specs.Counts.{Rose}
 use Rattle.fab_base.specs.declared.frames.FrameHead.{FrameHead}
 use Rattle.fab_base.specs.declared.frames.Frame.{Frame}
 use Rattle.fab_base.specs.declared.frames.FrameRef.{FrameRef}
@@ -29,10 +30,6 @@ pub record Incoming : Type 0 where
   pub empty_seen : ℕ
   -- how many frames were taken when the count last rose
   pub empty_at : ℕ
-
--- a stored count rose, or stands at its last value
-abbrev pub Rose : ℕ → ℕ → Type 0
-Rose old new = (old < new) ⊎ (2 ^ 64 ≤ new + 1)
 
 -- P holds of the value behind s once the result's borrow of it ends
 abbrev pub Rests : (R : RattleType) → MutBor R.Denot → (R.Denot → Type 0) → Fml

@@ -2,6 +2,7 @@
 use Rattle.std.specs.Prelude.{◌≡◌, ℕ, ◌+◌, ◌<◌, ◌≤◌, ◌^◌, Bool, true, false, List, [], length, take, drop, Option, Some, None, slice_get, slice_index_or, slice_set, if◌then◌else◌, nat_lt, min, ◌-◌}
 use mathlib.Core.List.{IsPrefix}
 use Rattle.std.proofs.lemmas.List.{take-append-drop}
+use Rattle.fab_base.specs.Counts.{counted}
 use Rattle.fab_base.specs.declared.frames.FrameHead.{FrameHead}
 use Rattle.fab_base.specs.declared.frames.Frame.{Frame}
 use Rattle.fab_base.specs.declared.frames.FrameRef.{FrameRef}
@@ -64,10 +65,6 @@ pub record IsSoundLane (lane : Lane) : Type 0 where
   pub taken : lane.taken ≤ length lane.in_list
   pub lent : lane.is_lent ≡ true → lane.taken < length lane.in_list
   pub cut : IsLane lane.in_after lane.in_list
-
--- a stored count one further, or at its last value
-abbrev pub counted : ℕ → ℕ
-counted n = min (n + 1) (2 ^ 64 - 1)
 
 -- the lane after a look at its next frame
 abbrev pub looked : Lane → Lane

@@ -4,7 +4,8 @@ ghost use Rattle.std.specs.Borrow.{sem};
 ghost use mathlib.Core.List.{IsPrefix};
 ghost use Rattle.fab_base.specs.declared.frames.Frame.{Frame};
 ghost use Rattle.fab_wire.specs.Frames.{frame, Continues};
-ghost use Rattle.fab_link.specs.Meaning.{Outgoing, Incoming, Rose, Rests, Others, end_of, Noticed, Gives, Fronted, advanced};
+ghost use Rattle.fab_link.specs.Meaning.{Outgoing, Incoming, Rests, Others, end_of, Noticed, Gives, Fronted, advanced};
+ghost use Rattle.fab_base.specs.Counts.{Rose};
 
 use fab_base::{FrameHead, FrameRef};
 

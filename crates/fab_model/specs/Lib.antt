@@ -1,3 +1,4 @@
+pub mod Negotiation
 pub mod Matching
 pub mod State
 pub mod Complete

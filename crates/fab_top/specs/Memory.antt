@@ -3,7 +3,8 @@ use Rattle.std.specs.Prelude.{◌≡◌, ℕ, ◌⊎◌, List, None, Contains, B
 use Rattle.fab_top.specs.declared.memory.MemoryDepot.{MemoryDepot}
 use Rattle.fab_top.specs.declared.outside.LoadRefused.{LoadRefused}
 use Rattle.fab_top.specs.declared.outside.LoadRefused.TheVariants.{Failed, TooLong, NoMemory}
-use Rattle.fab_top.specs.Outside.{counted, file_of}
+use Rattle.fab_top.specs.Outside.{file_of}
+use Rattle.fab_base.specs.Counts.{counted}
 
 -- this load's number is listed, or no file has the name
 abbrev pub IsToldToFail : MemoryDepot → List ℕ → Type 0

@@ -1,24 +1,15 @@
 -- What the files, the output and the clock outside tell, and how a call changes it.
---     Rose old new                a count of faults rose
 --     Next old new                one more, in a count that may be stored
 --     CountsUnder name ..         a load left the count and the name, or counted a fault under its name
 --     IsFile files name bytes     the file of that name is this
 --     BeginsFile files name bytes that file begins so
---     counted n                   one more in 64 bits, which stays at its last value
 --     file_of files name          the file of that name in a list of files
-use Rattle.std.specs.Prelude.{◌≡◌, ℕ, ◌+◌, ◌^◌, ◌-◌, ◌<◌, ◌≤◌, ◌⊎◌, List, ◌++◌, min, Option, Some, None, bytes_eq, option_map, find}
-
--- a count that may be stored in 64 bits rose, or stands at its last value
-abbrev pub Rose : ℕ → ℕ → Type 0
-Rose old new = (old < new) ⊎ (2 ^ 64 ≤ new + 1)
+use Rattle.std.specs.Prelude.{◌≡◌, ℕ, ◌+◌, ◌^◌, ◌≤◌, ◌⊎◌, List, ◌++◌, Option, Some, None, bytes_eq, option_map, find}
+use Rattle.fab_base.specs.Counts.{Rose}
 
 -- one more, in a count that stays at its last value where it is stored in 64 bits
 abbrev pub Next : ℕ → ℕ → Type 0
 Next old new = (new ≡ old + 1) ⊎ ((2 ^ 64 ≤ old + 1) × (new ≡ old))
-
--- one more in 64 bits, which stays at its last value
-abbrev pub counted : ℕ → ℕ
-counted n = min (n + 1) (2 ^ 64 - 1)
 
 -- the count and the name stay, or the count rose and the name is that of this load
 abbrev pub CountsUnder : List ℕ → ℕ → ℕ → Option (List ℕ) → Option (List ℕ) → Type 0

@@ -13,7 +13,8 @@ use Rattle.fab_base.specs.declared.status.Status.TheVariants.{Done, Stuck, Usage
 use Rattle.fab_model.specs.Replay.{Lawful, replayed, all_done}
 use Rattle.fab_model.specs.Report.{report, traces}
 use Rattle.fab_script.specs.Grammar.{script_of}
-use Rattle.fab_top.specs.Outside.{Rose, IsFile, BeginsFile}
+use Rattle.fab_top.specs.Outside.{IsFile, BeginsFile}
+use Rattle.fab_base.specs.Counts.{Rose}
 
 -- the greatest length of a script, in bytes
 abbrev pub script_max : ℕ

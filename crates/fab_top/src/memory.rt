@@ -1,7 +1,8 @@
 //! A depot, a sink and a clock over memory. They tell everything, and fail where they are told to.
 ghost use Rattle.std.specs.Prelude.{◌≡◌, ◌≢◌, ℕ, ◌+◌, ◌-◌, ◌^◌, ◌<◌, ◌≤◌, ◌⊎◌, ◌++◌, if◌then◌else◌, is_ok, slice_index, IfOk, IsOk, IsErr, OnOk, OnErr, IsErrOf, IfSome, Some, None, List, [], length, take, drop, min, Contains};
 ghost use Rattle.std.specs.Option.{option_copied};
-ghost use Rattle.fab_top.specs.Outside.{counted, file_of};
+ghost use Rattle.fab_top.specs.Outside.{file_of};
+ghost use Rattle.fab_base.specs.Counts.{counted};
 
 use crate::outside::{Clock, Depot, Failed, LoadRefused, Sink};
 use fab_base::{Buf, Text};
@@ -39,7 +40,8 @@ impl MemoryDepot {
 }
 
 impl Depot for MemoryDepot {
-    ghost use Rattle.fab_top.specs.Outside.{Rose, CountsUnder, IsFile, BeginsFile, file_of};
+    ghost use Rattle.fab_top.specs.Outside.{CountsUnder, IsFile, BeginsFile, file_of};
+    ghost use Rattle.fab_base.specs.Counts.{Rose};
     ghost use Rattle.fab_top.specs.Refused.{IfTooLong};
     ghost use Rattle.fab_top.specs.Memory.{IsToldToFail, is_failed};
 
@@ -108,7 +110,7 @@ pub struct MemorySink {
 }
 
 impl Sink for MemorySink {
-    ghost use Rattle.fab_top.specs.Outside.{Rose};
+    ghost use Rattle.fab_base.specs.Counts.{Rose};
 
     ghost bytes = { λ sink. Some sink.bytes.items };
 

@@ -1,6 +1,7 @@
 //! What lies outside the program: files, the output, the time, and what each tells of itself.
 ghost use Rattle.std.specs.Prelude.{◌≡◌, ◌≢◌, ℕ, ◌+◌, ◌^◌, ◌<◌, ◌≤◌, IfOk, IfErr, OnErr, IsErrOf, List, length, take, Option, Some};
-ghost use Rattle.fab_top.specs.Outside.{Rose, Next, CountsUnder, IsFile, BeginsFile};
+ghost use Rattle.fab_top.specs.Outside.{Next, CountsUnder, IsFile, BeginsFile};
+ghost use Rattle.fab_base.specs.Counts.{Rose};
 ghost use Rattle.std.specs.Io.KnownBytes.{append_known};
 ghost use Rattle.fab_top.specs.Refused.{IfTooLong};
 

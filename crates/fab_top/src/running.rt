@@ -3,7 +3,8 @@ ghost use Rattle.std.specs.Prelude.{◌≡◌, ◌<◌, ◌≤◌, ◌↔◌, �
 ghost use Rattle.std.specs.Io.KnownBytes.{append_known};
 ghost use Rattle.fab_base.specs.declared.status.Status.TheVariants.{Done, Stuck, Usage, TooLong, ReadFault, WriteFault};
 ghost use Rattle.fab_script.specs.Grammar.{script_of};
-ghost use Rattle.fab_top.specs.Outside.{Rose, IsFile, BeginsFile};
+ghost use Rattle.fab_top.specs.Outside.{IsFile, BeginsFile};
+ghost use Rattle.fab_base.specs.Counts.{Rose};
 ghost use Rattle.fab_top.specs.Runs.{command_of, alone, script_max, Reports, IsRead, IsUnread, Writes, WritesPart, IsSilent, IsScriptRefused, WritesReport};
 
 use crate::loading::load_script;

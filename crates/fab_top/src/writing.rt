@@ -1,6 +1,6 @@
 //! Writing a whole text to a sink that takes some bytes at a time.
 ghost use Rattle.std.specs.Prelude.{◌≡◌, ℕ, ◌<◌, ◌≤◌, OnOk, OnErr, length, take};
-ghost use Rattle.fab_top.specs.Outside.{Rose};
+ghost use Rattle.fab_base.specs.Counts.{Rose};
 ghost use Rattle.std.specs.Io.KnownBytes.{append_known};
 
 use crate::outside::{Failed, Sink};

@@ -1,7 +1,7 @@
 //! The real files, output and clock, as the run sees them. They tell no contents, and count their faults.
 ghost use Rattle.std.specs.Prelude.{◌≡◌, ◌+◌, ◌^◌, ◌<◌, ◌≤◌, IfOk, IfSome, OnErr, is_ok, if◌then◌else◌, None, length, take, vec_len};
 ghost use Rattle.std.specs.Io.KnownBytes.{Appends};
-ghost use Rattle.fab_top.specs.Outside.{Rose, counted};
+ghost use Rattle.fab_base.specs.Counts.{Rose, counted};
 ghost use Rattle.fab_top.specs.Refused.{IfTooLong};
 
 use fab_base::{Buf, Gate, NoMemory, Text};
