@@ -1,0 +1,17 @@
+//! The matching store: the receives that are posted and the messages that none of them took, and
+//! the first of either that matches (fi_msg(3), fi_tagged(3)).
+//!
+//! [`Matcher`] is the contract: two lists in order, each member under an id. [`ListMatcher`] meets
+//! it by going over its lists. [`take_posted`] and [`take_unexpected`] take the first match out of
+//! any store.
+#![tactic(auto)]
+
+pub mod list_matcher;
+pub mod matcher;
+pub mod signs;
+pub mod taking;
+
+pub use list_matcher::ListMatcher;
+pub use matcher::Matcher;
+pub use signs::{fits, sign_of};
+pub use taking::{take_posted, take_unexpected};
