@@ -1,3 +1,3 @@
 pub mod Signs
-pub mod Store
-pub mod Lists
+pub mod Matcher
+pub mod ListMatcher

@@ -1,6 +1,6 @@
 //! The matching store over plain lists.
 ghost use Rattle.std.specs.Prelude.{◌≡◌, ◌≤◌, ◌==◌, false, position, vec_len, vec_capacity};
-ghost use Rattle.fab_match.specs.Store.{has_id, without, HasDistinctIds};
+ghost use Rattle.fab_match.specs.Matcher.{has_id, without, HasDistinctIds};
 
 use crate::matcher::Matcher;
 use crate::signs::fits;
@@ -17,11 +17,11 @@ pub struct ListMatcher {
 }
 
 impl Model for ListMatcher {
-    ghost use Rattle.fab_match.specs.Store.{Store};
+    ghost use Rattle.fab_match.specs.Matcher.{Store};
 
     ghost Value = { Store };
 
-    ghost use Rattle.fab_match.specs.Lists.{IsKept};
+    ghost use Rattle.fab_match.specs.ListMatcher.{IsKept};
 
     ghost view = { λ m. record { posted = m.posted.items; unexpected = m.unexpected.items; room = m.room } };
 

@@ -3,7 +3,7 @@ ghost use Rattle.std.specs.Prelude.{◌≡◌, ◌<◌, ◌≤◌, ◌↔◌, �
 ghost use Rattle.fab_base.specs.declared.items.Want.{Want};
 ghost use Rattle.fab_base.specs.declared.items.Sign.{Sign};
 ghost use Rattle.fab_match.specs.Signs.{fits};
-ghost use Rattle.fab_match.specs.Store.{first_id, has_id, without, HasDistinctIds};
+ghost use Rattle.fab_match.specs.Matcher.{first_id, has_id, without, HasDistinctIds};
 
 use fab_base::{NoMemory, Sign, Want};
 use std::alloc::Global;

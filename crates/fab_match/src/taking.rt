@@ -2,7 +2,7 @@
 ghost use Rattle.std.specs.Prelude.{◌≡◌};
 ghost use Rattle.fab_model.specs.Matching.{remove_first};
 ghost use Rattle.fab_match.specs.Signs.{fits};
-ghost use Rattle.fab_match.specs.Store.{first_id};
+ghost use Rattle.fab_match.specs.Matcher.{first_id};
 
 use crate::matcher::Matcher;
 use fab_base::{Sign, Want};

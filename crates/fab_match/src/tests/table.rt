@@ -1,6 +1,6 @@
-//! Forty lists of calls of a store with room for four receives. The answers of the first two and the
-//! rules are those of fi_tagged(3), "fi_trecv"; all answers were computed by a script that keeps
-//! plain lists and compares tags bit by bit. The last twenty-six lists are random.
+//! Forty lists of calls of a store with room for four receives. The first two were worked by hand
+//! from fi_tagged(3), "fi_trecv". All answers were computed by a script that keeps plain lists and
+//! compares tags bit by bit. The last twenty-six lists are random.
 use super::Answer::{Id, No, Nothing, Yes};
 use super::Call::{
     Arrive, FirstPosted, FirstUnexpected, Post, RemovePosted, RemoveUnexpected, TakePosted,

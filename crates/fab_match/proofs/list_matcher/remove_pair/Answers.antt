@@ -1,4 +1,4 @@
-use Rattle.std.proofs.Common.{rules, ◌≡◌, ◌==◌, ◌≢◌, ◌∙◌, ℕ, ap, sym, Some, None}
+use Rattle.std.proofs.Common.{rules, ◌≡◌, ◌==◌, ◌≢◌, ◌∙◌, sym, Some, None}
 use Rattle.std.specs.Prelude.{position}
 use Rattle.std.proofs.lemmas.List.Folds.{list_any_at}
 use Rattle.std.proofs.lemmas.List.Quantifiers.{all_pairs_remove, position-Some}

@@ -1,6 +1,5 @@
-use Rattle.std.proofs.Common.{sym, ◌∙◌, ◌≡◌, Some, None, rules}
+use Rattle.std.proofs.Common.{sym, ◌∙◌}
 use Rattle.fab_match.specs.Signs.{fits}
-use Rattle.fab_match.specs.Store.{first_id}
 use Rattle.fab_match.proofs.Pairs.{without-first, remove_first-no_id}
 use Rattle.fab_match.proofs.taking.take_posted.Goals as goal
 

@@ -1,5 +1,5 @@
 use Rattle.std.proofs.Common.{◌≡◌, ◌<◌, ◌∙◌, ap, sym, subst, false, length, arith, length-append}
-use Rattle.fab_match.specs.Store.{Store, has_id}
+use Rattle.fab_match.specs.Matcher.{Store, has_id}
 use Rattle.fab_match.proofs.Pairs.{HasDistinctIds-push}
 use Rattle.fab_match.proofs.list_matcher.ListMatcherMatcher.add_posted.Goals as goal
 

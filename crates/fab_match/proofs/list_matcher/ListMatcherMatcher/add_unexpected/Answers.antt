@@ -1,5 +1,5 @@
 use Rattle.std.proofs.Common.{◌≡◌, ◌∙◌, ap, false}
-use Rattle.fab_match.specs.Store.{Store, has_id}
+use Rattle.fab_match.specs.Matcher.{Store, has_id}
 use Rattle.fab_match.proofs.Pairs.{HasDistinctIds-push}
 use Rattle.fab_match.proofs.list_matcher.ListMatcherMatcher.add_unexpected.Goals as goal
 

@@ -1,7 +1,7 @@
 -- What holds of the lists of a `ListMatcher` at all times.
 use Rattle.std.specs.Prelude.{◌≤◌, length, vec_capacity}
 use Rattle.fab_match.specs.declared.list_matcher.ListMatcher.TheInside.{Inside}
-use Rattle.fab_match.specs.Store.{HasDistinctIds}
+use Rattle.fab_match.specs.Matcher.{HasDistinctIds}
 
 pub record IsKept (m : Inside) : Type 0 where
   pub posted : HasDistinctIds m.posted.items
