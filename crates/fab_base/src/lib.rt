@@ -26,7 +26,9 @@ pub use caps::{Cap, Caps, Hints, Info};
 pub use entries::{Class, Entry, ErrEntry, ErrKind, Kept, PeekHow, Taken};
 pub use faults::{Busy, Fault, NoMemory, Refused};
 pub use frames::{Frame, FrameHead, FrameRef};
-pub use items::{Access, Ack, Atom, AtomicOp, Form, Item, ItemHead, Kind, Num, Outcome, Sign, Want};
+pub use items::{
+    Access, Ack, Atom, AtomicOp, Form, Item, ItemHead, Kind, Num, Outcome, Sign, Want,
+};
 pub use limits::{Limits, Size};
 pub use operations::{Arrival, Coming, Operation, Receive, Tally, Written};
 pub use peers::{Flags, Gate, Level, LineResult, Step};

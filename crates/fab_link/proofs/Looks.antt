@@ -42,6 +42,7 @@ none_lent false o f n q = cc
 -- what `front` says of the frame that it gives, and of the lane afterwards
 pub record Looks (lane after : Lane) (r : Option FrameRef) : Type 0 where
   pub gives : IfSome r (λ f. Gives (incoming lane) f)
+  pub next : IfSome r (λ f. slice_get lane.in_list (length (take lane.taken lane.in_list)) ≡ Some (lent_frame f))
   pub lent : IsSome (incoming lane).lent → IsSome r
   pub all_taken : IfNone r (take lane.taken lane.in_list ≡ lane.in_list)
   pub fronted : Fronted (incoming lane) (incoming after) r
@@ -57,6 +58,7 @@ looks_by true lane after (Some f) l e s h =
     let sound = rw e at s in
     record {
       gives = (next_may_come lane (lent_frame f) sound.cut (sym next), λ g q. again lane.is_lent _ _ _ next q);
+      next = rw (length-take-le lane.taken lane.in_list sound.taken) (sym next);
       lent = λ _. refl;
       all_taken = tt;
       fronted = rw (e, next) refl;
@@ -66,6 +68,7 @@ looks_by false lane after None l e s h =
     let sound = rw e at s in
     record {
       gives = tt;
+      next = tt;
       lent = rw (← next) (λ x. x);
       all_taken = take_all lane.taken lane.in_list (grind (arith, nat_tests));
       fronted = (rw (e, length-take-le lane.taken lane.in_list sound.taken) refl, rw e (Rose-counted lane.empty_seen));
@@ -104,6 +107,7 @@ home_kept p i new l e e' =
 -- what `front` of a plain port says
 pub record Fronts (p q : Plain) (i : ℕ) (r : Option FrameRef) : Type 0 where
   pub gives : IfSome r (λ f. Gives (in_of p i) f)
+  pub next : IfSome r (λ f. slice_get (lane_at p i).in_list (length (take (lane_at p i).taken (lane_at p i).in_list)) ≡ Some (lent_frame f))
   pub lent : IsSome (in_of p i).lent → IsSome r
   pub all_taken : IfNone r (take (lane_at p i).taken (lane_at p i).in_list ≡ (lane_at p i).in_list)
   pub fronted : Fronted (in_of p i) (in_of q i) r
@@ -133,6 +137,7 @@ fronts p q i r l e s h =
     let all = looks (lane_at p i) (lane_at q i) r there s h in
     record {
       gives = all.gives;
+      next = all.next;
       lent = all.lent;
       all_taken = all.all_taken;
       fronted = all.fronted;

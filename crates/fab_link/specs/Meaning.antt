@@ -1,5 +1,5 @@
 -- What a port means, and what its calls do to that meaning.
-use Rattle.std.specs.Prelude.{◌≡◌, ◌≢◌, ℕ, ◌+◌, ◌^◌, ◌<◌, ◌≤◌, ◌⊎◌, List, [], ◌∷◌, ◌++◌, length, Option, Some, None, ⊤}
+use Rattle.std.specs.Prelude.{◌≡◌, ◌≢◌, ℕ, ◌≤◌, ◌⊎◌, List, [], ◌∷◌, ◌++◌, length, Option, Some, None, ⊤}
 use Rattle.std.specs.Borrow.{follows_so, Fml, RattleType, MutBor}
 use mathlib.Core.Option.{none}
 use Rattle.fab_base.specs.Counts.{Rose}

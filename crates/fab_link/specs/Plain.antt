@@ -1,5 +1,5 @@
 -- What a plain port holds.
-use Rattle.std.specs.Prelude.{◌≡◌, ℕ, ◌+◌, ◌<◌, ◌≤◌, ◌^◌, Bool, true, false, List, [], length, take, drop, Option, Some, None, slice_get, slice_index_or, slice_set, if◌then◌else◌, nat_lt, min, ◌-◌}
+use Rattle.std.specs.Prelude.{◌≡◌, ℕ, ◌<◌, ◌≤◌, Bool, true, false, List, [], length, take, drop, Option, Some, None, slice_get, slice_index_or, slice_set, if◌then◌else◌, nat_lt}
 use mathlib.Core.List.{IsPrefix}
 use Rattle.std.proofs.lemmas.List.{take-append-drop}
 use Rattle.fab_base.specs.Counts.{counted}

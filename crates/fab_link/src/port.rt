@@ -1,9 +1,9 @@
 //! The trait of all ports.
-ghost use Rattle.std.specs.Prelude.{◌≡◌, ◌≢◌, ℕ, ◌<◌, ◌++◌, ◌∷◌, [], length, Bool, true, IsSome, IfSome, IfNone, Option, List, IsErrOf, OnOk, OnErr};
+ghost use Rattle.std.specs.Prelude.{◌≡◌, ◌≢◌, ℕ, ◌<◌, ◌++◌, ◌∷◌, [], length, Bool, true, IsSome, IfSome, IfNone, Option, Some, List, slice_get, IsErrOf, OnOk, OnErr};
 ghost use Rattle.std.specs.Borrow.{sem};
 ghost use mathlib.Core.List.{IsPrefix};
 ghost use Rattle.fab_base.specs.declared.frames.Frame.{Frame};
-ghost use Rattle.fab_wire.specs.Frames.{frame, Continues};
+ghost use Rattle.fab_wire.specs.Frames.{frame, lent_frame, Continues};
 ghost use Rattle.fab_link.specs.Meaning.{Outgoing, Incoming, Rests, Others, end_of, Noticed, Gives, Fronted, advanced};
 ghost use Rattle.fab_base.specs.Counts.{Rose};
 
@@ -85,11 +85,14 @@ pub trait Port {
 
     /// Lends the next frame of a peer, without a copy, or answers `None` where the call itself saw
     /// that there is none. Called again before [`advance`](Port::advance), it lends the same frame.
+    /// Where the port has in lists, it is the first of those that came and were not stepped over.
     fn front(&mut self, src: u32) -> Option<FrameRef<'_>>
         requires below { src < peer_count self.old }
 
         // Known while the frame is lent.
         ensures gives { IfSome result (λ f. Gives (ins self.old src) f) }
+        ensures next { IfSome result (λ f. IfSome (in_list (home self.old) src)
+            (λ xs. slice_get xs (length (ins self.old src).taken) ≡ Some (lent_frame f))) }
         ensures lent { IsSome (ins self.old src).lent → IsSome result }
         ensures all_taken { IfNone result (IfSome (in_list (home self.old) src)
             (λ xs. (ins self.old src).taken ≡ xs)) }

@@ -40,8 +40,8 @@ op_passes a b (Some c) e = call_passes_to a b (do_call a.state c) (call_passes a
 
 line_passes : (a b : Actor) (op : LineOp) → do_line a op ≡ Some b → Passes a.state b.state
 unfolding do_line wait_line
-line_passes a b (Wait ctx) e = let i = some_is (find (is_of_ctx ctx) a.kept) _ b e in passes_to a.state _ b (some_same _ b i.2) (same refl refl)
-line_passes a b (Reach class n) e = let i = if_is _ _ b e in passes_to a.state _ b i.1 (same refl refl)
+line_passes a b (Wait ctx) e = let i = some_is (find (is_of_ctx ctx) a.kept) _ b e in passes_to a.state _ b (some_same _ b i.2) (same refl refl refl)
+line_passes a b (Reach class n) e = let i = if_is _ _ b e in passes_to a.state _ b i.1 (same refl refl refl)
 line_passes a b op e = op_passes a b (call_of op) e
 
 do_is : (a b : Actor) → do_next a ≡ Some b → (line : Line) × (next_line a ≡ Some line) × Passes a.state b.state
@@ -56,7 +56,7 @@ unfolding read_next
 read_is a b e =
     let i = some_is (unread a.state.cq) _ b e in
     let is = some_same _ b i.2 in
-    (subst (λ (x : Actor). facts x ≡ facts a) is refl, passes_to a.state _ b is (same refl refl))
+    (subst (λ (x : Actor). facts x ≡ facts a) is refl, passes_to a.state _ b is (same refl refl refl))
 
 abbrev pub heads_of : Actor → ℕ → ℕ
 heads_of a source = slice_index a.state.rx.heads source

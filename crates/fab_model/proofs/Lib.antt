@@ -6,6 +6,7 @@ pub mod Parts
 pub mod Waits
 pub mod Passes
 pub mod Grows
+pub mod Lasting
 pub mod Walks
 pub mod Patient
 pub mod Replays

@@ -1,10 +1,12 @@
 -- Steps of a peer, one after another.
 use Rattle.std.proofs.Common.{◌≡◌, ◌≢◌, ℕ, Bool, true, false, [], ◌∷◌, ◌++◌, Option, Some, None, Result, Ok, Err, refl, sym, ap, subst, ◌∙◌, append-nil, append_assoc, option_map}
 use Rattle.std.specs.Prelude.{find, replicate, IfOk, OnOk}
+use Rattle.fab_base.specs.Built.{is_built}
 use Rattle.fab_base.specs.declared.entries.Kept.{Kept}
 use Rattle.fab_base.specs.declared.entries.Taken.{Taken}
 use Rattle.fab_base.specs.declared.faults.Fault.{Fault}
-use Rattle.fab_base.specs.declared.faults.Fault.TheVariants.{NoMemory as LacksMemory}
+use Rattle.fab_base.specs.declared.faults.Busy.{Busy}
+use Rattle.fab_base.specs.declared.faults.Fault.TheVariants.{Again, NoMemory as LacksMemory}
 use Rattle.fab_base.specs.declared.items.Item.{Item}
 use Rattle.fab_base.specs.declared.items.Kind.TheVariants.{TagMsg}
 use Rattle.fab_base.specs.declared.operations.Written.{Written}
@@ -26,7 +28,7 @@ use Rattle.fab_model.specs.Views.{View}
 use Rattle.fab_model.proofs.Passes.{Passes, same, call_passes}
 use Rattle.fab_peer.specs.Endpoints.{Held, Answers, ReadsHeld, logged, any_source}
 use Rattle.fab_peer.specs.Moves.{IsTied, Went}
-use Rattle.fab_peer.specs.Turns.{actor_of, schedule_of, Does, Turned, Answered, next_op}
+use Rattle.fab_peer.specs.Turns.{actor_of, schedule_of, Does, Turned, Answered, Waits, Stays, next_op}
 use Rattle.fab_peer.specs.declared.peer.Peer.{Peer}
 use Rattle.fab_peer.proofs.Going.{tied_passes, ported_same, ported_then, shows_less, walk_append}
 
@@ -89,7 +91,7 @@ does_read a b entry (w, there, is, new, plain) lines results kept =
     does_step a b Read (ap (λ (h : Held). h.log) new)
     (λ v. reads_next (actor_of a) w entry there is plain
     ∙ (let state = ap (λ (h : Held). h.state) new in rw (lines, results, kept, state) refl))
-    (rw new (same refl refl))
+    (rw new (same refl refl refl))
 
 -- a read changes nothing that the calm asks of a peer
 pub read_facts : (a b : Peer) (entry : Taken) → ReadsHeld a.endpoint b.endpoint (Some entry) → b.lines ≡ a.lines → b.results ≡ a.results → facts (actor_of b) ≡ facts (actor_of a)
@@ -115,7 +117,7 @@ unfolding step
 does_wait a b ctx k next found rest log lines results =
     does_step a b Do (ap (λ (h : Held). h.log) log)
     (λ v. next_is a (Wait ctx) next ∙ waits (actor_of a) ctx k found ∙ (let state = ap (λ (h : Held). h.state) log in rw (lines, results, rest, state) refl))
-    (let state = ap (λ (h : Held). h.state) log in rw state (same refl refl))
+    (let state = ap (λ (h : Held). h.state) log in rw state (same refl refl refl))
 
 after_answer : (a : Actor) (outcome : LineResult) (s : State) → is_again outcome ≡ false → after_call a (outcome, s) ≡ Some (with_result outcome (with_state a s))
 after_answer a outcome s again = rw (again, after_call) refl
@@ -149,7 +151,7 @@ does_call a m b op c (Err fault) true next line answers lines results kept (is, 
     ∙ (let l : b.lines ≡ a.lines = ap (λ (x : Peer). x.lines) is ∙ lines in
     let k : b.kept ≡ a.kept = ap (λ (x : Peer). x.kept) is ∙ kept in
     rw (endpoint, l, k, more, results) refl))
-    (rw endpoint (same refl refl))
+    (rw endpoint (same refl refl refl))
 
 -- the same of the result of a call's answer, where it is at hand
 pub does_answered : {T E : Type 0} (a m b : Peer) (op : LineOp) (c : Call) (r : Result T Fault) (done : Result Bool E) → next_op a ≡ Some op → do_line (actor_of a) op ≡ call_line (actor_of a) c
@@ -165,3 +167,57 @@ pub line_tsend : (a : Actor) (ctx dest tag : ℕ) (word : BytesWord) (imm : Opti
     → do_line a (TSend ctx dest tag word imm level completion) ≡ call_line a (message TagMsg (Some ctx) dest tag (word_bytes word) imm level completion)
 unfolding do_line call_of
 line_tsend a ctx dest tag word imm level completion = refl
+
+-- ---- a line that can't be done
+
+pub held_wait : (a b : Peer) (ctx : Option ℕ) → next_op a ≡ Some (Wait ctx) → find (is_of_ctx ctx) a.kept.items ≡ None → actor_of b ≡ actor_of a → Waits a b
+unfolding do_line wait_line
+held_wait a b ctx next none same = record { same = same; held = next_is a (Wait ctx) next ∙ rw (none, wait_line) refl }
+
+-- the call is told to come again
+again_held : (a : Actor) (c : Call) (busy : Busy) → do_call a.state c ≡ (Refused (Again busy), a.state) → call_line a c ≡ None
+unfolding call_line
+again_held a c busy answer = ap (after_call a) answer
+
+pub held_call : {T : Type 0} (a m b : Peer) (op : LineOp) (c : Call) (r : Result T Fault) → next_op a ≡ Some op → do_line (actor_of a) op ≡ call_line (actor_of a) c
+    → Answers c a.endpoint m.endpoint r → m.lines ≡ a.lines → m.results ≡ a.results → m.kept ≡ a.kept → Answered r m b false → Waits a b
+held_call a m b op c (Ok _) next line answers lines results kept (done, is, more) = absurd (cc done)
+held_call a m b op c (Err fault) next line answers lines results kept (is, busy, again) =
+    let free : fault ≢ LacksMemory = (λ e. cc (again, e)) in
+    let told = answers free in
+    let answer : do_call a.endpoint.state c ≡ (Refused (Again busy), a.endpoint.state) = told.0 ∙ ap (λ (f : Fault). (Refused f, a.endpoint.state)) again in
+    record {
+      same = (let stays = told.1 in rw (is, stays, lines, results, kept) refl);
+      held = next_is a op next ∙ line ∙ again_held (actor_of a) c busy answer;
+    }
+
+-- the same of the result of a call's answer
+pub held_answered : {T E : Type 0} (a m b : Peer) (op : LineOp) (c : Call) (r : Result T Fault) (done : Result Bool E) → next_op a ≡ Some op → do_line (actor_of a) op ≡ call_line (actor_of a) c
+    → Answers c a.endpoint m.endpoint r → m.lines ≡ a.lines → m.results ≡ a.results → m.kept ≡ a.kept → IfOk done (Answered r m b) → done ≡ Ok false → Waits a b
+held_answered a m b op c r (Ok false) next line answers lines results kept answered e = held_call a m b op c r next line answers lines results kept answered
+held_answered a m b op c r (Ok true) next line answers lines results kept answered e = absurd (cc e)
+held_answered a m b op c r (Err x) next line answers lines results kept answered e = absurd (cc e)
+
+-- where the next line is this one, and it can't be done, it is held
+pub stays_held : (a b : Peer) → Waits a b → Stays a b
+unfolding do_next
+stays_held a b waits = record {
+  same = waits.same;
+  held = λ line next built. (let e = waits.held in rw (next, do_next) at e);
+}
+
+-- a line of another kind is not one that the program carries out
+none_built : (op : LineOp) → ((ctx dest tag : ℕ) (bytes : BytesWord) (imm : Option ℕ) (level : Level) (completion : Bool) → op ≡ TSend ctx dest tag bytes imm level completion → ⊥)
+    → ((ctx : ℕ) (source : Option ℕ) (tag ignore len : ℕ) → op ≡ TRecv ctx source tag ignore len → ⊥) → ((ctx : Option ℕ) → op ≡ Wait ctx → ⊥) → is_built op ≡ true → ⊥
+none_built (TSend ctx dest tag bytes imm level completion) no_send no_receive no_wait built = no_send ctx dest tag bytes imm level completion refl
+none_built (TRecv ctx source tag ignore len) no_send no_receive no_wait built = no_receive ctx source tag ignore len refl
+none_built (Wait ctx) no_send no_receive no_wait built = no_wait ctx refl
+none_built op no_send no_receive no_wait built = cc built
+
+pub stays_other : (a b : Peer) (next : Line) → next_line (actor_of a) ≡ Some next
+    → ((ctx dest tag : ℕ) (bytes : BytesWord) (imm : Option ℕ) (level : Level) (completion : Bool) → next.op ≡ TSend ctx dest tag bytes imm level completion → ⊥)
+    → ((ctx : ℕ) (source : Option ℕ) (tag ignore len : ℕ) → next.op ≡ TRecv ctx source tag ignore len → ⊥) → ((ctx : Option ℕ) → next.op ≡ Wait ctx → ⊥) → actor_of b ≡ actor_of a → Stays a b
+stays_other a b next is no_send no_receive no_wait same = record {
+  same = same;
+  held = λ line there built. let e : line ≡ next = cc (is, there) in absurd (none_built next.op no_send no_receive no_wait (subst (λ (l : Line). is_built l.op ≡ true) e built));
+}

@@ -1,5 +1,6 @@
 -- The end of a peer: what is still posted is cancelled.
-use Rattle.std.proofs.Common.{◌≡◌, ◌<◌, ◌&&◌, ℕ, zero, suc, Bool, true, false, not, List, [], ◌∷◌, ◌++◌, length, map, get_or, replicate, slice_get, Option, Some, None, refl, sym, ap, subst, ◌∙◌, arith, append-nil, append_assoc}
+use Rattle.std.proofs.Common.{◌≡◌, ◌<◌, ◌&&◌, ℕ, zero, suc, Bool, true, false, not, List, [], ◌∷◌, ◌++◌, length, map, get_or, replicate, slice_get, Option, Some, None, inl, inr, refl, sym, ap, subst, ◌∙◌, arith, append-nil, append_assoc}
+use Rattle.std.proofs.lemmas.Bool.{cases_eq}
 use Rattle.std.specs.Prelude.{◌==◌, find, remove, is_some, All, slice_set, slice_index_or, slice_index}
 use Rattle.std.specs.List.{list_any, list_all}
 use Rattle.std.specs.Option.{option_map}
@@ -101,7 +102,7 @@ final_is v a calm some still room = rw (calm, some, room, call_is a.state some s
 -- ---- a peer
 
 pub ended_same : (a : Peer) → Ended a a
-ended_same a = record { steps = []; log = sym (append-nil (schedule_of a)); walk = λ v calm. refl; facts_are = refl }
+ended_same a = record { steps = []; log = sym (append-nil (schedule_of a)); walk = λ v calm. refl; facts_are = refl; tx = refl }
 
 pub ended_then : (a b c : Peer) → Ended a b → Ended b c → Ended a c
 ended_then a b c x y = record {
@@ -109,10 +110,11 @@ ended_then a b c x y = record {
   log = y.log ∙ ap (λ xs. xs ++ y.steps) x.log ∙ append_assoc (schedule_of a) x.steps y.steps;
   walk = λ v calm. walk_append v (actor_of a) (actor_of b) (actor_of c) x.steps y.steps (x.walk v calm) (y.walk v calm);
   facts_are = y.facts_are ∙ x.facts_are;
+  tx = y.tx ∙ x.tx;
 }
 
-pub ended_does : (a b : Peer) → Does a b → facts (actor_of b) ≡ facts (actor_of a) → Ended a b
-ended_does a b does same = record { steps = does.steps; log = does.log; walk = λ v calm. does.walk v; facts_are = same }
+pub ended_does : (a b : Peer) → Does a b → facts (actor_of b) ≡ facts (actor_of a) → b.endpoint.state.tx ≡ a.endpoint.state.tx → Ended a b
+ended_does a b does same tx = record { steps = does.steps; log = does.log; walk = λ v calm. does.walk v; facts_are = same; tx = tx }
 
 pub ended_cancel : (a b : Peer) → Cancels a.endpoint b.endpoint true → b.lines ≡ a.lines → b.results ≡ a.results → b.kept ≡ a.kept → Ended a b
 unfolding fabric step
@@ -128,6 +130,7 @@ ended_cancel a b (r, found, is, room, before, after) lines results kept =
           let accepted : b.endpoint.state.tx.accepted ≡ a.endpoint.state.tx.accepted = ap (λ (h : Held). h.state.tx.accepted) is in
           let tails : b.endpoint.state.rx.tails ≡ a.endpoint.state.rx.tails = ap (λ (h : Held). h.state.rx.tails) is in
           rw (accepted, tails, lines, results, after, before) refl;
+      tx = ap (λ (h : Held). h.state.tx) is;
     }
 
 -- ---- all peers
@@ -143,14 +146,35 @@ pub has_all_is : (f : Fabric) (s r : ℕ) (a b : Peer) (m n : ℕ) → slice_get
     → n ≡ length (accepted_for (actor_of b).state.tx r) → (m == n) ≡ has_all (all_facts f) s r
 has_all_is f s r a b m n ha hb em en = rw (facts_at f r a ha, facts_at f s b hb, em, en) refl
 
-pub calm_is : (f : Fabric) → list_all (λ p. is_finished (actor_of p) && not (draw_due (actor_of p).state.rx)) f.peers.items ≡ true
-    → all_below (λ sender. all_below (has_all (all_facts f) sender) (length f.peers.items)) (length f.peers.items) ≡ true → is_calm (all_facts f) ≡ true
+-- a test that fails at one number below n
+pub fails_below : (test : ℕ → Bool) (n k : ℕ) → k < n → test k ≡ false → all_below test n ≡ false
+fails_below test zero k lt fails = absurd (omega arith)
+fails_below test (suc n) k lt fails = elim (cases_eq k n) [
+  | inl same ↦ rw (← same, fails) (none_and (all_below test k))
+  | inr other ↦ rw (fails_below test n k (omega arith) fails) refl
+]
+  where
+    none_and : (b : Bool) → (b && false) ≡ false
+    none_and true = refl
+    none_and false = refl
+
+-- the calm in the words of the peers
+pub calm_is : (f : Fabric) → is_calm (all_facts f) ≡ (list_all (λ p. is_finished (actor_of p) && not (draw_due (actor_of p).state.rx)) f.peers.items
+    && all_below (λ sender. all_below (has_all (all_facts f) sender) (length f.peers.items)) (length f.peers.items))
 unfolding is_calm
-calm_is f still have =
+calm_is f =
     let long : length (all_facts f) ≡ length f.peers.items = length-map (actors f) facts ∙ length-map f.peers.items actor_of in
-    let first : list_all (λ (x : Facts). x.finished && not x.draw_due) (all_facts f) ≡ true =
-    sym (list_all-map (λ (x : Facts). x.finished && not x.draw_due) facts (actors f)) ∙ sym (list_all-map (λ (x : Actor). is_finished x && not (draw_due x.state.rx)) actor_of f.peers.items) ∙ still in
-    rw (first, long) have
+    let first : list_all (λ (x : Facts). x.finished && not x.draw_due) (all_facts f) ≡ list_all (λ p. is_finished (actor_of p) && not (draw_due (actor_of p).state.rx)) f.peers.items =
+    sym (list_all-map (λ (x : Facts). x.finished && not x.draw_due) facts (actors f)) ∙ sym (list_all-map (λ (x : Actor). is_finished x && not (draw_due x.state.rx)) actor_of f.peers.items) in
+    rw (first, long) refl
+
+-- where nothing could go on by itself, the calm is that all is whole; where something could, there is none
+pub calm_rest : (f : Fabric) (still have : Bool) → still ≡ list_all (λ p. is_finished (actor_of p) && not (draw_due (actor_of p).state.rx)) f.peers.items → still ≡ true
+    → have ≡ all_below (λ sender. all_below (has_all (all_facts f) sender) (length f.peers.items)) (length f.peers.items) → have ≡ is_calm (all_facts f)
+calm_rest f still have is_still t is_have = is_have ∙ sym (calm_is f ∙ rw (← is_still, t) refl)
+
+pub calm_not : (f : Fabric) (still : Bool) → still ≡ list_all (λ p. is_finished (actor_of p) && not (draw_due (actor_of p).state.rx)) f.peers.items → still ≡ false → still ≡ is_calm (all_facts f)
+calm_not f still is_still e = e ∙ sym (calm_is f ∙ rw (← is_still, e) refl)
 
 module _ (f g : Fabric) (k : ℕ) (a b : Peer) (is_a : slice_get f.peers.items k ≡ Some a) (peers : g.peers.items ≡ slice_set f.peers.items k b) (ended : Ended a b) where
   here : k < length f.peers.items

@@ -16,7 +16,7 @@ use Rattle.fab_model.proofs.Parts.{prefix_get}
 use Rattle.fab_model.proofs.Passes.{Passes}
 use Rattle.fab_peer.specs.Endpoints.{Held}
 use Rattle.fab_wire.specs.Frames.{IsLane}
-use Rattle.fab_peer.specs.Moves.{frame_of, Shows, taken_of, IsBetween, IsTied, Ported, Went}
+use Rattle.fab_peer.specs.Moves.{frame_of, Shows, taken_of, IsBetween, AreFrames, IsTied, Ported, Went}
 
 -- ---- ports
 
@@ -108,6 +108,8 @@ tied_looked s p q source l tied = record {
   frames = λ d. ap (λ (o : ℕ → Outgoing). (o d).frames) l.outs ∙ tied.frames d;
   between = λ d. subst (λ (o : ℕ → Outgoing). IsBetween (end_of (o d))) (sym l.outs) (tied.between d);
   cut = λ d. subst (λ (o : ℕ → Outgoing). IsLane (o d).after (o d).frames) (sym l.outs) (tied.cut d);
+  posted = λ d. subst (λ (o : ℕ → Outgoing). AreFrames (o d).frames) (sym l.outs) (tied.posted d);
+  came = λ k. subst (λ (h : PlainHome). AreFrames (h.in_lists k)) (sym l.home) (tied.came k);
 }
 
 -- what calls leave of the state keeps the tie
@@ -129,6 +131,8 @@ tied_passes s u p passes tied = record {
       tied.frames d ∙ ap (map frame_of) (sym same) ∙ ap (λ xs. map frame_of (take (slice_index s.tx.sent d) xs)) grown ∙ ap (λ n. map frame_of (take n (accepted_for u.tx d))) (sym sent);
   between = tied.between;
   cut = tied.cut;
+  posted = tied.posted;
+  came = tied.came;
 }
 
 -- ---- steps

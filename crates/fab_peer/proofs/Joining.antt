@@ -1,5 +1,5 @@
 -- All peers with their ports: one takes its turn, and what they posted is carried.
-use Rattle.std.proofs.Common.{◌≡◌, ◌≢◌, ◌<◌, ◌≤◌, ℕ, zero, suc, false, List, [], ◌∷◌, ◌++◌, length, take, map, slice_get, get_or, Option, Some, None, inl, inr, refl, sym, ap, subst, ◌∙◌, arith, append_assoc, length-set, get_or-set_same, get_or-set_other}
+use Rattle.std.proofs.Common.{◌≡◌, ◌≢◌, ◌<◌, ◌≤◌, ℕ, zero, suc, Bool, false, List, [], ◌∷◌, ◌++◌, length, take, map, slice_get, get_or, Option, Some, None, inl, inr, refl, sym, ap, subst, ◌∙◌, arith, append_assoc, length-set, get_or-set_same, get_or-set_other}
 use Rattle.std.specs.Prelude.{slice_set, slice_index, slice_index_or, Result, Ok, Err, OnOk}
 use Rattle.std.specs.Option.{option_map}
 use Rattle.std.proofs.lemmas.Bool.{cases_eq, cases_lt}
@@ -13,15 +13,15 @@ use Rattle.fab_link.specs.Plain.{Lane, Plain, Posted, PlainHome, lane_at, left, 
 use Rattle.fab_link.specs.Carry.{lane_of, pipe, AreAll, Continued, SameBeside}
 use Rattle.fab_model.specs.State.{accepted_for}
 use Rattle.fab_model.specs.Orders.{Leads, Reached, by}
-use Rattle.fab_model.specs.Peers.{fabric}
+use Rattle.fab_model.specs.Peers.{Actor, fabric}
 use Rattle.fab_model.specs.Views.{View, More, rule, seen}
 use Rattle.fab_model.proofs.Parts.{prefix_get}
 use Rattle.fab_model.proofs.Turns.{slice_get-set_other, slice_get-set_same}
 use Rattle.fab_model.proofs.Views.{prefix_self}
 use Rattle.fab_model.proofs.Walks.{walk_leads, reached_more}
-use Rattle.fab_peer.specs.Moves.{frame_of, Shows, taken_of, IsBetween, IsTied, Ported}
-use Rattle.fab_peer.specs.Turns.{actor_of, schedule_of, Turned}
-use Rattle.fab_peer.specs.Joined.{actors, schedules, IsJoined, GoesOn}
+use Rattle.fab_peer.specs.Moves.{frame_of, Shows, taken_of, IsBetween, AreFrames, IsTied, Ported}
+use Rattle.fab_peer.specs.Turns.{actor_of, schedule_of, Turned, IsStill, came_to}
+use Rattle.fab_peer.specs.Joined.{actors, schedules, IsJoined, GoesOn, IsStillAt, Unmoved, came}
 use Rattle.fab_peer.specs.declared.fabric.Fabric.{Fabric}
 use Rattle.fab_peer.specs.declared.peer.Peer.{Peer}
 
@@ -50,6 +50,12 @@ member (x ∷ xs) (suc k) l = member xs k (omega arith)
 -- the element at the place, where a look-up with itself as the default gave it
 pub is_at : {X : Type 0} (xs : List X) (k : ℕ) (x : X) → k < length xs → x ≡ get_or xs k x → slice_get xs k ≡ Some x
 is_at xs k x below e = let m = member xs k below in m.1 ∙ ap Some (sym (e ∙ get_or_from_slice_get xs k m.0 x m.1))
+
+-- a member that is written over with itself
+set_itself : {X : Type 0} (xs : List X) (k : ℕ) (x : X) → slice_get xs k ≡ Some x → slice_set xs k x ≡ xs
+set_itself [] k x e = refl
+set_itself {X} (y ∷ xs) zero x e = let is : y ≡ x = cc in ap (λ (z : X). z ∷ xs) (sym is)
+set_itself (y ∷ xs) (suc k) x e = ap (λ zs. y ∷ zs) (set_itself xs k x e)
 
 pub no_lane : (ports : List Plain) (s d : ℕ) → length ports ≤ s → lane_of ports s d ≡ fresh_lane None None
 no_lane [] s d l = refl
@@ -152,6 +158,23 @@ module _ (f g : Fabric) (k : ℕ) (a b : Peer) (p q : Plain) (joined : IsJoined 
       ap (λ xs. xs ++ left (lane_of g.ports.items s r)) (came_same r s)
       ∙ subst (λ (x : Plain). was ++ left (lane_at x r) ≡ (lane_at x r).out.frames) (sym (port_other s n)) (joined.lanes s r)
 
+  -- the peer changed nothing
+  pub turn_unmoved : actor_of b ≡ actor_of a → Unmoved f g
+  turn_unmoved same =
+      let has : slice_get (actors f) k ≡ Some (actor_of a) = slice_get-map actor_of f.peers.items k ∙ ap (option_map actor_of) is_a in
+      record {
+        actors_are = ap (map actor_of) peers ∙ map-set actor_of f.peers.items k b ∙ ap (slice_set (actors f) k) same ∙ set_itself (actors f) k (actor_of a) has;
+        came_is = came_same;
+      }
+
+  -- and can do nothing
+  pub turn_still : (0 < (actor_of b).state.cq.size → IsStill (actor_of b) (came_to q)) → IsStillAt g k
+  turn_still still x has some =
+      let own : slice_get (actors g) k ≡ Some (actor_of b) = slice_get-map actor_of g.peers.items k ∙ ap (option_map actor_of) (ap (λ xs. slice_get xs k) peers ∙ slice_get-set_same f.peers.items k b k_peer) in
+      let is : actor_of b ≡ x = cc (own, has) in
+      let here : came g k ≡ came_to q = ap came_to port_own in
+      subst (λ y. IsStill x y) (sym here) (subst (λ (y : Actor). IsStill y (came_to q)) is (still (subst (λ (y : Actor). 0 < y.state.cq.size) (sym is) some)))
+
   tied_after : IsTied b.endpoint.state q → (j : ℕ) (x : Peer) (y : Plain) → slice_get g.peers.items j ≡ Some x → slice_get g.ports.items j ≡ Some y → IsTied x.endpoint.state y
   tied_after tied j x y hx hy = elim (cases_eq j k) [
     | inl here ↦ (
@@ -180,6 +203,14 @@ module _ (f g : Fabric) (k : ℕ) (a b : Peer) (p q : Plain) (joined : IsJoined 
         fresh_out = λ s r. every_port (λ (x : Plain). (lane_at x r).out.after) (turned.ported.before r) s ∙ joined.fresh_out s r;
         fresh_in = λ s r. every_port (λ (x : Plain). (lane_at x s).in_after) (turned.ported.after s) r ∙ joined.fresh_in s r;
       }
+
+-- what a turn that moved nothing says, where it answered so
+pub still_turn : {E : Type 0} (r : Result Bool E) (f g : Fabric) (k : ℕ) (a b : Peer) (p q : Plain) → IsJoined f → slice_get f.peers.items k ≡ Some a → slice_get f.ports.items k ≡ Some p
+    → g.peers.items ≡ slice_set f.peers.items k b → g.ports.items ≡ slice_set f.ports.items k q → OnOk r (Turned a p b q)
+    → (r ≡ Ok false → actor_of b ≡ actor_of a) → (r ≡ Ok false → 0 < (actor_of b).state.cq.size → IsStill (actor_of b) (came_to q)) → r ≡ Ok false → Unmoved f g × IsStillAt g k
+still_turn (Ok x) f g k a b p q joined is_a is_p peers ports turned same still e =
+    (turn_unmoved f g k a b p q joined is_a is_p peers ports turned (same e), turn_still f g k a b p q joined is_a is_p peers ports turned (still e))
+still_turn (Err x) f g k a b p q joined is_a is_p peers ports turned same still e = absurd (cc e)
 
 -- both, where the turn succeeded
 pub turned_all : {T E : Type 0} (r : Result T E) (f g : Fabric) (k : ℕ) (a b : Peer) (p q : Plain) → IsJoined f → slice_get f.peers.items k ≡ Some a → slice_get f.ports.items k ≡ Some p
@@ -212,6 +243,22 @@ module _ (f g : Fabric) (joined : IsJoined f) (peers : g.peers ≡ f.peers) (all
   out_same : (k d : ℕ) → (lane_of g.ports.items k d).out ≡ (lane_of f.ports.items k d).out
   out_same k d = ap (λ (l : Lane). l.out) (same k d)
 
+  -- what came in the end was posted
+  came_carried : (s r : ℕ) → AreFrames (lane_of g.ports.items r s).in_list
+  came_carried s r i fr has =
+      let piped : slice_get (pipe f.ports.items s r) i ≡ Some fr =
+      subst (λ xs. slice_get xs i ≡ Some fr) (kept s r) (prefix_get (lane_of g.ports.items r s).in_list (left (lane_of g.ports.items s r)) i fr has) in
+      let posted : slice_get (lane_of f.ports.items s r).out.frames i ≡ Some fr = subst (λ xs. slice_get xs i ≡ Some fr) (joined.lanes s r) piped in
+      elim (cases_lt s (length f.ports.items)) [
+        | inr past ↦ (let none : slice_get {X = Frame} [] i ≡ Some fr = subst (λ xs. slice_get xs i ≡ Some fr) (ap (λ (l : Lane). l.out.frames) (no_lane f.ports.items s r past)) posted in absurd (cc none))
+        | inl below ↦ (
+            let a = member f.peers.items s (omega (arith, below, joined.count)) in
+            let p = member f.ports.items s below in
+            let port : port_at f.ports.items s ≡ p.0 = get_or_from_slice_get f.ports.items s p.0 nobody p.1 in
+            (joined.tied s a.0 p.0 a.1 p.1).posted r i fr (subst (λ (x : Plain). slice_get (lane_at x r).out.frames i ≡ Some fr) port posted)
+            )
+      ]
+
   tied_carried : (k : ℕ) (a : Peer) (q : Plain) → slice_get g.peers.items k ≡ Some a → slice_get g.ports.items k ≡ Some q → IsTied a.endpoint.state q
   tied_carried k a q ha hq =
       let was : slice_get f.peers.items k ≡ Some a = subst (λ (x : _). slice_get x.items k ≡ Some a) peers ha in
@@ -231,6 +278,8 @@ module _ (f g : Fabric) (joined : IsJoined f) (peers : g.peers ≡ f.peers) (all
         frames = λ d. ap (λ (x : _). x.frames) (outs d) ∙ tied.frames d;
         between = λ d. subst (λ (o : Posted). IsBetween (last_head o.after o.frames)) (sym (outs d)) (tied.between d);
         cut = λ d. subst (λ (o : Posted). IsLane o.after o.frames) (sym (outs d)) (tied.cut d);
+        posted = λ d. subst (λ (o : Posted). AreFrames o.frames) (sym (outs d)) (tied.posted d);
+        came = λ s. subst (λ (x : Plain). AreFrames (lane_at x s).in_list) now (came_carried s k);
       }
 
   pub carry_joined : IsJoined g

@@ -6,6 +6,11 @@ pub mod Going
 pub mod Halves
 pub mod Open
 pub mod Posting
+pub mod Moving
+pub mod Standing
+pub mod Resting
+pub mod Ends
+pub mod Clearing
 pub mod Sending
 pub mod Taking
 pub mod Joining

@@ -5,6 +5,7 @@ use Rattle.std.specs.Option.{option_map}
 use Rattle.std.proofs.lemmas.Bool.{cases_lt}
 use Rattle.std.proofs.lemmas.List.{map-append, length-map, get_or-drop}
 use Rattle.std.proofs.lemmas.Option.{slice_get-map, slice_get_within, get_or_from_slice_get}
+use Rattle.fab_base.specs.declared.frames.Frame.{Frame}
 use Rattle.fab_base.specs.declared.script.Bound.{Bound}
 use Rattle.fab_base.specs.declared.script.Line.{Line}
 use Rattle.fab_link.specs.Plain.{Lane, Plain, lane_at, fresh_lane}
@@ -87,6 +88,8 @@ fresh_tied b k =
       frames = λ d. rw (lane d, same_at {X = ℕ} n d 0) refl;
       between = λ d. rw (lane d) tt;
       cut = λ d. rw (lane d) tt;
+      posted = λ d i f has. absurd (let none : slice_get {X = Frame} [] i ≡ Some f = rw (lane d) at has in cc none);
+      came = λ s i f has. absurd (let none : slice_get {X = Frame} [] i ≡ Some f = rw (lane s) at has in cc none);
     }
 
 module _ (b : Bound) (f : Fabric) (n : ℕ) (all : n ≡ b.script.conf.peers) (few : n < 2 ^ 32)

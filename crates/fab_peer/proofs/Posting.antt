@@ -15,16 +15,17 @@ use Rattle.fab_base.specs.declared.peers.Step.TheVariants.{Sent}
 use Rattle.fab_wire.specs.Frames.{IsLane, IsSoundAs, Continues}
 use Rattle.fab_wire.proofs.Lanes.{last_head-push, IsLane-push}
 use Rattle.fab_link.specs.Meaning.{Outgoing, Incoming, Others, end_of}
-use Rattle.fab_link.specs.Plain.{Plain, lane_at, left, out_of, in_of, home_of}
+use Rattle.fab_link.specs.Plain.{Plain, PlainHome, lane_at, left, out_of, in_of, home_of}
 use Rattle.fab_model.specs.State.{State, accepted_for, raise, with_tx, fits}
 use Rattle.fab_model.specs.Matching.{is_message}
 use Rattle.fab_model.specs.Sending.{transmitting, do_sent}
 use Rattle.fab_model.specs.Peers.{Actor, fabric, with_state, step, sent_step}
 use Rattle.fab_model.proofs.Views.{prefix_self}
 use Rattle.fab_model.proofs.Passes.{sent_passes}
-use Rattle.fab_peer.specs.Endpoints.{Held, Transmits}
-use Rattle.fab_peer.specs.Moves.{frame_of, IsFrame, IsBetween, IsTied, Ported, Went}
+use Rattle.fab_peer.specs.Endpoints.{Held, IsCarried, Transmits}
+use Rattle.fab_peer.specs.Moves.{frame_of, IsFrame, IsBetween, AreFrames, IsTied, Ported, Went}
 use Rattle.fab_peer.proofs.Going.{tied_passes}
+use Rattle.fab_peer.proofs.Halves.{at_end}
 
 -- ---- the port
 
@@ -56,6 +57,10 @@ posted_ported p q dest f t = record {
 
 -- ---- the frame
 
+-- an item that goes in one frame makes one that is a whole message
+pub carried_frame : (item : Item) → IsCarried item.head (length item.bytes) → IsFrame (frame_of item).head (length item.bytes)
+carried_frame item carried = record { carried = carried; from = refl; whole = refl }
+
 sound_by : (kind : Kind) (item : ItemHead) → is_message kind ≡ true → item.atom ≡ None → IsSoundAs kind item
 sound_by Msg item m n = rw n refl
 sound_by TagMsg item m n = rw n refl
@@ -65,8 +70,8 @@ sound_by AtomicReq item m n = absurd (cc)
 sound_by Reply item m n = absurd (cc)
 
 follows_by : (before : Option FrameHead) (head : FrameHead) (len : ℕ) → IsBetween before → IsFrame head len → len ≡ head.len → Continues before head
-follows_by None head len between f full = (f.from, omega (arith, f.from, f.whole, f.carried.short), sound_by head.item.kind head.item f.carried.message f.atom)
-follows_by (Some p) head len between f full = (inl (between, f.from), omega (arith, f.from, f.whole, f.carried.short), sound_by head.item.kind head.item f.carried.message f.atom)
+follows_by None head len between f full = (f.from, omega (arith, f.from, f.whole, f.carried.short), sound_by head.item.kind head.item f.carried.message f.carried.atom)
+follows_by (Some p) head len between f full = (inl (between, f.from), omega (arith, f.from, f.whole, f.carried.short), sound_by head.item.kind head.item f.carried.message f.carried.atom)
 
 -- ---- the endpoint with its port
 
@@ -125,6 +130,16 @@ module _ (e e' : Held) (p q : Plain) (dest : ℕ) (item : Item) (tied : IsTied e
               (follows_by (end_of (out_of p dest)) (frame_of item).head (length item.bytes) (tied.between dest) is_frame is_frame.carried.total, is_frame.carried.total))
           | inr other ↦ subst (λ (o : Outgoing). IsLane o.after o.frames) (sym (posted.others d other)) (tied.cut d)
         ];
+        posted = λ d i x has. elim (cases_eq d dest) [
+          | inl same ↦
+              let here : slice_get ((out_of p dest).frames ++ frame_of item ∷ []) i ≡ Some x = rw (same, posted.frames) at has in
+              elim (at_end (out_of p dest).frames (frame_of item) x i here) [
+                | inl before ↦ tied.posted dest i x before
+                | inr last ↦ subst (λ (y : Frame). IsFrame y.head (length y.bytes)) last is_frame
+              ]
+          | inr other ↦ tied.posted d i x (subst (λ (o : Outgoing). slice_get o.frames i ≡ Some x) (posted.others d other) has)
+        ];
+        came = λ k. subst (λ (h : PlainHome). AreFrames (h.in_lists k)) (sym posted.home) (tied.came k);
       }
 
   pub tied_posts : IsTied e'.state q

@@ -10,7 +10,7 @@ use Rattle.fab_base.specs.declared.items.ItemHead.{ItemHead}
 use Rattle.fab_base.specs.declared.peers.Step.TheVariants.{Head, Tail}
 use Rattle.fab_wire.specs.Frames.{lent_frame, IsLane}
 use Rattle.fab_link.specs.Meaning.{Outgoing, Incoming, Others, advanced, end_of}
-use Rattle.fab_link.specs.Plain.{Plain, out_of, in_of, home_of}
+use Rattle.fab_link.specs.Plain.{Plain, PlainHome, out_of, in_of, home_of}
 use Rattle.fab_model.specs.State.{State, raise, with_rx, fits}
 use Rattle.fab_model.specs.Matching.{is_message}
 use Rattle.fab_model.specs.Receiving.{draw_due}
@@ -19,7 +19,7 @@ use Rattle.fab_model.specs.Peers.{Actor, fabric, with_state, step, head_step, ta
 use Rattle.fab_model.specs.Views.{View, Walk}
 use Rattle.fab_model.proofs.Passes.{head_passes, tail_passes}
 use Rattle.fab_peer.specs.Endpoints.{Held, Arrives}
-use Rattle.fab_peer.specs.Moves.{taken_of, IsFrame, IsBetween, IsTied, Ported, Went}
+use Rattle.fab_peer.specs.Moves.{taken_of, IsFrame, IsBetween, AreFrames, IsTied, Ported, Went}
 use Rattle.fab_peer.proofs.Going.{Looked, ported_in, tied_passes}
 
 -- ---- the port
@@ -156,6 +156,8 @@ module _ (e e' : Held) (p q : Plain) (source : ℕ) (f : Frame) (tied : IsTied e
     frames = λ d. ap (λ (o : ℕ → Outgoing). (o d).frames) took.outs ∙ t.frames d;
     between = λ d. subst (λ (o : ℕ → Outgoing). IsBetween (end_of (o d))) (sym took.outs) (t.between d);
     cut = λ d. subst (λ (o : ℕ → Outgoing). IsLane (o d).after (o d).frames) (sym took.outs) (t.cut d);
+    posted = λ d. subst (λ (o : ℕ → Outgoing). AreFrames (o d).frames) (sym took.outs) (t.posted d);
+    came = λ k. subst (λ (h : PlainHome). AreFrames (h.in_lists k)) (sym took.home) (t.came k);
   }
 
   pub tied_takes : IsTied e'.state q

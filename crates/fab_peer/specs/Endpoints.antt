@@ -1,6 +1,6 @@
 -- The parts of an endpoint, and how its calls go on.
 --     Reads old new entry      what a read of the completion queue gives
-use Rattle.std.specs.Prelude.{find, Result, Ok, Err, ◌≢◌, true, false, not, ◌&&◌, IsSomeAnd, All, replicate, ◌∷◌, ◌++◌, ◌≡◌, ◌≤◌, ◌<◌, ℕ, ◌+◌, ◌-◌, Bool, nat_lt, List, [], length, Option, Some, None, slice_index, slice_index_or}
+use Rattle.std.specs.Prelude.{find, Result, Ok, Err, ◌≢◌, true, false, not, ◌&&◌, IsSomeAnd, All, replicate, ◌∷◌, ◌++◌, ◌≡◌, ◌≤◌, ◌<◌, ℕ, ◌+◌, ◌-◌, Bool, nat_lt, List, [], length, Option, Some, None, slice_get, slice_index, slice_index_or}
 use Rattle.fab_base.specs.declared.items.Item.{Item}
 use Rattle.fab_base.specs.declared.entries.Taken.{Taken}
 use Rattle.fab_base.specs.declared.operations.Written.{Written}
@@ -40,17 +40,26 @@ taking_out cq = record cq { taken_out = cq.taken_out + 1 }
 abbrev pub IsPlainEntry : Written → Type 0
 IsPlainEntry w = part_of w.entry ≡ None
 
--- the first unread entry is taken, or there is none
+-- the first unread entry is taken, or all are read
 abbrev pub Reads : Completions → Completions → Option Taken → Type 0
-Reads old new None = (unread old ≡ None) × (new ≡ old)
+Reads old new None = (old.taken_out ≡ length old.written) × (new ≡ old)
 Reads old new (Some entry) = (w : Written) × (unread old ≡ Some w) × (w.entry ≡ entry) × (new ≡ taking_out old) × (part_of entry ≡ None)
 
 -- ---- the transmitting half
 
--- of each peer no more items are sent than were accepted
+-- an item that goes in one frame: a message that asks for no reply
+pub record IsCarried (head : ItemHead) (len : ℕ) : Type 0 where
+  pub message : is_message head.kind ≡ true
+  pub silent : head.ack ≡ Nothing
+  pub atom : head.atom ≡ None
+  pub total : len ≡ head.total
+  pub short : len ≤ 4096
+
+-- of each peer no more items are sent than were accepted, and each goes in one frame
 pub record IsOutbox (accepted : List (List Item)) (sent : List ℕ) : Type 0 where
   pub count : length sent ≡ length accepted
   pub within : (d : ℕ) → slice_index sent d ≤ length (slice_index_or accepted d [])
+  pub carried : (d k : ℕ) (item : Item) → slice_get (slice_index_or accepted d []) k ≡ Some item → IsCarried item.head (length item.bytes)
 
 -- ---- the receiving half
 
@@ -151,9 +160,9 @@ arrived source e = record { state = (let s = e.state in with_rx (counted source 
 abbrev pub ended : Operation → Held → Held
 ended o e = record e { state = end_with Done [] o e.state }
 
--- the first unread entry is read, or there is none
+-- the first unread entry is read, or all are read
 abbrev pub ReadsHeld : Held → Held → Option Taken → Type 0
-ReadsHeld old new None = (unread old.state.cq ≡ None) × (new ≡ old)
+ReadsHeld old new None = (old.state.cq.taken_out ≡ length old.state.cq.written) × (new ≡ old)
 ReadsHeld old new (Some entry) = (w : Written) × (unread old.state.cq ≡ Some w) × (w.entry ≡ entry) × (new ≡ record { state = reading old.state; log = old.log ++ ReadStep ∷ [] }) × (part_of entry ≡ None)
 
 -- the first unexpected message that the want takes has left
@@ -171,13 +180,6 @@ abbrev pub Answers : {T : Type 0} → Call → Held → Held → Result T Fault 
 Answers call old new (Ok _) = (do_call old.state call ≡ (Accepted, new.state)) × (new.log ≡ old.log ++ Do ∷ [])
 Answers call old new (Err fault) = fault ≢ LacksMemory → (do_call old.state call ≡ (Refused fault, old.state)) × (new ≡ old)
 
--- an item that goes in one frame: a message that asks for no reply
-pub record IsCarried (head : ItemHead) (len : ℕ) : Type 0 where
-  pub message : is_message head.kind ≡ true
-  pub silent : head.ack ≡ Nothing
-  pub total : len ≡ head.total
-  pub short : len ≤ 4096
-
 -- the message went to the first posted receive that matches
 abbrev pub IntoReceive : ℕ → ItemHead → List ℕ → Held → Held → Type 0
 IntoReceive source head bytes old new =
@@ -188,9 +190,9 @@ IntoReceive source head bytes old new =
 abbrev pub Unexpected : ℕ → ItemHead → List ℕ → Held → Held → Type 0
 Unexpected source head bytes old new = new ≡ arrived source (record old { state = (let s = old.state in with_rx (kept_whole source head bytes s.rx) s) })
 
--- the message has arrived and is whole, as the machine's two steps have it, or nothing changed
+-- the message has arrived and is whole, as the machine's two steps have it; or nothing changed, since its entry has no room
 abbrev pub Arrives : ℕ → ItemHead → List ℕ → Held → Held → Bool → Type 0
-Arrives source head bytes old new false = new ≡ old
+Arrives source head bytes old new false = (new ≡ old) × (has_room old.state.cq ≡ false)
 Arrives source head bytes old new true =
     (new ≡ record { state = do_tail (do_head old.state source head) source head bytes; log = old.log ++ Head source ∷ Tail source ∷ [] })
     × (draw_due old.state.rx ≡ false) × (old.state.rx.heads ≡ old.state.rx.tails) × (fits new.state.cq ≡ true)
@@ -225,9 +227,9 @@ message_head op tag imm level total = record {
 abbrev pub given_back : Receive → Held → Held
 given_back r e = record { state = write (Some r.call) (error (Some r.ctx) Canceled (Some r.buf)) (count Recv false (called e.state)); log = e.log ++ Final ∷ [] }
 
--- the first posted receive that may leave has left and is given back, and its entry had room; or nothing changed. No draw is due before or after
+-- the first posted receive that may leave has left and is given back, and its entry had room; or nothing changed, since none is posted or its entry has no room. No draw is due before or after
 abbrev pub Cancels : Held → Held → Bool → Type 0
-Cancels old new false = new ≡ old
+Cancels old new false = (new ≡ old) × (has_room old.state.cq ≡ true → old.state.rx.posted ≡ [])
 Cancels old new true =
     (r : Receive) × (cancellable (λ r. true) old.state.rx ≡ Some r) × (new ≡ given_back r (record old { state = with_rx (without_posted (λ r. true) old.state.rx) old.state }))
     × (fits new.state.cq ≡ true) × (draw_due old.state.rx ≡ false) × (draw_due new.state.rx ≡ false)

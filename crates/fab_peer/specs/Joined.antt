@@ -2,17 +2,23 @@
 --     IsJoined f        the ports belong to the peers, and each lane brings what its sender posted
 --     Opens b f         the peers stand at the opening of the script
 --     GoesOn f g        what led to the one leads to the other
-use Rattle.std.specs.Prelude.{◌≡◌, ℕ, List, [], map, length, replicate, None, Some, slice_get}
+--     AreStill f        no peer can do anything, and nothing is left to be carried
+--     Rest all          the peers are at rest, as `at_rest` tests it
+use Rattle.std.specs.Prelude.{◌≡◌, ◌<◌, ℕ, true, false, List, [], map, length, replicate, None, Some, slice_get, slice_index}
+use Rattle.fab_base.specs.Built.{all_built}
+use Rattle.fab_base.specs.declared.frames.Frame.{Frame}
 use Rattle.fab_base.specs.declared.peers.Step.{Step}
 use Rattle.fab_base.specs.declared.script.Bound.{Bound}
-use Rattle.fab_link.specs.Plain.{Plain}
+use Rattle.fab_link.specs.Plain.{Plain, left}
 use Rattle.fab_link.specs.Carry.{lane_of, pipe, AreAll}
 use Rattle.fab_model.specs.Orders.{Reached}
 use Rattle.fab_model.specs.Peers.{Actor, Facts, facts, fabric}
-use Rattle.fab_model.specs.Replay.{opening}
+use Rattle.fab_model.specs.Receiving.{draw_due}
+use Rattle.fab_model.specs.Replay.{opening, can_do}
+use Rattle.fab_model.specs.State.{accepted_for}
 use Rattle.fab_model.specs.Views.{rule}
 use Rattle.fab_peer.specs.Moves.{IsTied}
-use Rattle.fab_peer.specs.Turns.{actor_of, schedule_of}
+use Rattle.fab_peer.specs.Turns.{actor_of, schedule_of, IsStill}
 use Rattle.fab_peer.specs.declared.fabric.Fabric.{Fabric}
 use Rattle.fab_peer.specs.declared.peer.Peer.{Peer}
 
@@ -46,3 +52,44 @@ all_facts f = map facts (actors f)
 -- what led from a script's opening to the one leads to the other
 abbrev pub Ends : Fabric → Fabric → Type 0
 Ends f g = (b : Bound) → Reached (rule fabric) (opening b) (schedules f) (actors f) → Reached (rule fabric) (opening b) (schedules g) (actors g)
+
+-- ---- at rest
+
+-- every line is one that the program carries out, and completions have room
+pub record CanRun (b : Bound) : Type 0 where
+  pub lines : all_built b.script.peers ≡ true
+  pub sized : 0 < b.script.conf.info.cq
+
+-- what came to a peer of each other
+abbrev pub came : Fabric → ℕ → ℕ → List Frame
+came f receiver sender = (lane_of f.ports.items receiver sender).in_list
+
+-- the peer of this number can do nothing
+abbrev pub IsStillAt : Fabric → ℕ → Type 0
+IsStillAt f k = (a : Actor) → slice_get (actors f) k ≡ Some a → 0 < a.state.cq.size → IsStill a (came f k)
+
+-- neither the peers changed nor what came to them
+pub record Unmoved (f g : Fabric) : Type 0 where
+  pub actors_are : actors g ≡ actors f
+  pub came_is : (receiver sender : ℕ) → came g receiver sender ≡ came f receiver sender
+
+-- no peer can do anything, and nothing is left to be carried
+pub record AreStill (f : Fabric) : Type 0 where
+  pub each : (k : ℕ) → IsStillAt f k
+  pub carried : (s r : ℕ) → left (lane_of f.ports.items s r) ≡ []
+
+-- The peers are at rest: all completions are read, no draw is due, no line can be done, and of each pair everything accepted is sent and whole.
+pub record Rest (all : List Actor) : Type 0 where
+  pub read : (p : ℕ) (a : Actor) → slice_get all p ≡ Some a → a.state.cq.taken_out ≡ length a.state.cq.written
+  pub draws : (p : ℕ) (a : Actor) → slice_get all p ≡ Some a → draw_due a.state.rx ≡ false
+  pub lines : (p : ℕ) (a : Actor) → slice_get all p ≡ Some a → can_do a ≡ false
+  pub whole : (p s : ℕ) (a b : Actor) → slice_get all p ≡ Some a → slice_get all s ≡ Some b → slice_index a.state.rx.tails s ≡ length (accepted_for b.state.tx p)
+  pub sent : (p s : ℕ) (a b : Actor) → slice_get all p ≡ Some a → slice_get all s ≡ Some b → slice_index b.state.tx.sent p ≡ length (accepted_for b.state.tx p)
+
+-- completions of each peer have room
+abbrev pub AreSized : List Actor → Type 0
+AreSized all = (p : ℕ) (a : Actor) → slice_get all p ≡ Some a → 0 < a.state.cq.size
+
+-- no receive of any peer is posted
+abbrev pub AreCleared : List Actor → Type 0
+AreCleared all = (p : ℕ) (a : Actor) → slice_get all p ≡ Some a → a.state.rx.posted ≡ []

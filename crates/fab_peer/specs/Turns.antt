@@ -2,22 +2,28 @@
 --     actor_of peer        the peer as the machine knows it
 --     Does a b             some steps that need no other peer lead from the one to the other
 --     Turned a p b q       some steps lead from the one to the other, wherever the frames taken are shown
-use Rattle.std.specs.Prelude.{◌≡◌, ◌≢◌, ◌++◌, ◌∷◌, ℕ, Bool, true, false, List, [], Option, Some, Result, Ok, Err}
+--     IsStill a came       the peer can do nothing
+use Rattle.std.specs.Prelude.{◌≡◌, ◌≢◌, ◌++◌, ◌∷◌, ℕ, Bool, true, false, List, [], length, slice_index, Option, Some, None, Result, Ok, Err}
 use Rattle.std.specs.Option.{option_map}
+use Rattle.fab_base.specs.Built.{is_built}
 use Rattle.fab_base.specs.declared.faults.Busy.{Busy}
 use Rattle.fab_base.specs.declared.faults.Fault.{Fault}
 use Rattle.fab_base.specs.declared.faults.Fault.TheVariants.{Again, NoMemory as LacksMemory}
+use Rattle.fab_base.specs.declared.frames.Frame.{Frame}
 use Rattle.fab_base.specs.declared.items.Item.{Item}
 use Rattle.fab_base.specs.declared.peers.Level.{Level}
 use Rattle.fab_base.specs.declared.peers.LineResult.TheVariants.{Done, Refused}
 use Rattle.fab_base.specs.declared.peers.Step.{Step}
 use Rattle.fab_base.specs.declared.peers.Step.TheVariants.{Do}
 use Rattle.fab_base.specs.declared.script.BytesWord.{BytesWord}
+use Rattle.fab_base.specs.declared.script.Line.{Line}
 use Rattle.fab_base.specs.declared.script.LineOp.{LineOp}
 use Rattle.fab_base.specs.declared.script.LineOp.TheVariants.{TSend}
-use Rattle.fab_link.specs.Plain.{Plain}
+use Rattle.fab_link.specs.Plain.{Plain, home_of}
 use Rattle.fab_model.specs.Calls.{word_bytes}
-use Rattle.fab_model.specs.Peers.{Actor, fabric, facts, next_line, is_again}
+use Rattle.fab_model.specs.Peers.{Actor, fabric, facts, next_line, do_line, do_next, is_again}
+use Rattle.fab_model.specs.Receiving.{draw_due}
+use Rattle.fab_model.specs.State.{accepted_for}
 use Rattle.fab_model.specs.Views.{View, Walk}
 use Rattle.fab_peer.specs.Moves.{Shows, taken_of, IsTied, Ported}
 use Rattle.fab_peer.specs.Endpoints.{logged}
@@ -43,12 +49,45 @@ pub record Turned (a : Peer) (p : Plain) (b : Peer) (q : Plain) : Type 0 where
   pub walk : (v : View Item) → Shows (taken_of q) v → Walk fabric v (actor_of a) steps (actor_of b)
   pub ported : Ported p q
 
--- the peer alone at the end: its steps stand where all is calm, and what the calm asks of it stays
+-- the peer alone at the end: its steps stand where all is calm, and what the calm asks of it stays, as does what it transmitted
 pub record Ended (a b : Peer) : Type 0 where
   pub steps : List Step
   pub log : schedule_of b ≡ schedule_of a ++ steps
   pub walk : (v : View Item) → v.calm ≡ true → Walk fabric v (actor_of a) steps (actor_of b)
   pub facts_are : facts (actor_of b) ≡ facts (actor_of a)
+  pub tx : b.endpoint.state.tx ≡ a.endpoint.state.tx
+
+-- ---- standing still
+
+-- all completions are read
+abbrev pub IsRead : Peer → Type 0
+IsRead a = a.endpoint.state.cq.taken_out ≡ length a.endpoint.state.cq.written
+
+-- the next line, where it is one that the program carries out, can't be done
+abbrev pub IsHeld : Actor → Type 0
+IsHeld a = (line : Line) → next_line a ≡ Some line → is_built line.op ≡ true → do_line a line.op ≡ None
+
+-- nothing changed, and the next line can't be done
+pub record Waits (a b : Peer) : Type 0 where
+  pub same : actor_of b ≡ actor_of a
+  pub held : do_next (actor_of a) ≡ None
+
+-- the same of whatever the next line is
+pub record Stays (a b : Peer) : Type 0 where
+  pub same : actor_of b ≡ actor_of a
+  pub held : IsHeld (actor_of a)
+
+-- The peer can do nothing: all is read, its next line can't be done, no draw is due, all that it accepted is transmitted, and of each peer all is whole that came.
+pub record IsStill (a : Actor) (came : ℕ → List Frame) : Type 0 where
+  pub read : a.state.cq.taken_out ≡ length a.state.cq.written
+  pub held : IsHeld a
+  pub draws : draw_due a.state.rx ≡ false
+  pub sent : (peer : ℕ) → slice_index a.state.tx.sent peer ≡ length (accepted_for a.state.tx peer)
+  pub whole : (peer : ℕ) → slice_index a.state.rx.tails peer ≡ length (came peer)
+
+-- what came to a port
+abbrev pub came_to : Plain → ℕ → List Frame
+came_to p = (home_of p).in_lists
 
 -- ---- lines
 

@@ -61,11 +61,6 @@ impl Queue {
         Ok(())
     }
 
-    /// How many entries are unread.
-    pub fn unread(&self) -> usize {
-        self.written.len() - self.taken_out
-    }
-
     /// Takes the first unread entry, or says that there is none. It stays among those written.
     pub fn read(&mut self) -> Result<Option<Taken>, NoMemory>
         ensures ok { IfOk result (λ entry. Reads self.old self.new entry) }

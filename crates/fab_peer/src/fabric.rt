@@ -2,14 +2,14 @@
 ghost use Rattle.std.specs.Prelude.{◌≡◌, ◌<◌, ◌^◌, drop, length, slice_index_or, [], IfOk, OnOk, map};
 ghost use Rattle.fab_base.specs.declared.script.Bound.{Bound};
 ghost use Rattle.fab_model.specs.Orders.{Reached};
-ghost use Rattle.std.specs.Prelude.{◌&&◌, not, true};
+ghost use Rattle.std.specs.Prelude.{◌&&◌, not, true, false, Ok};
 ghost use Rattle.std.specs.List.{list_all};
 ghost use Rattle.fab_model.specs.Peers.{fabric, is_finished, has_all, all_below, is_calm};
 ghost use Rattle.fab_model.specs.Receiving.{draw_due};
 ghost use Rattle.fab_model.specs.Views.{rule};
-ghost use Rattle.fab_model.specs.Replay.{opening};
+ghost use Rattle.fab_model.specs.Replay.{opening, at_rest, all_done};
 ghost use Rattle.fab_peer.specs.Turns.{actor_of, schedule_of};
-ghost use Rattle.fab_peer.specs.Joined.{IsJoined, Opens, GoesOn, Ends, all_facts};
+ghost use Rattle.fab_peer.specs.Joined.{IsJoined, Opens, GoesOn, Ends, CanRun, IsStillAt, Unmoved, AreStill, Rest, AreSized, AreCleared, actors, all_facts};
 
 use crate::binding::bind_lines;
 use crate::peer::Peer;
@@ -64,22 +64,26 @@ impl Fabric {
         })
     }
 
-    /// One peer's turn. Whether it took a step.
+    /// One peer's turn. Whether it took a step: if not, it can do nothing.
     fn turn(&mut self, number: usize) -> Result<bool, NoMemory>
         requires below { number < length self.old.peers.items }
         requires joined { IsJoined self.old }
         ensures joined { OnOk result (IsJoined self.new) }
         ensures on { OnOk result (GoesOn self.old self.new) }
         ensures count { length self.new.peers.items ≡ length self.old.peers.items }
+        ensures unmoved { result ≡ Ok false → Unmoved self.old self.new }
+        ensures still { result ≡ Ok false → IsStillAt self.new number }
     {
         self.peers[number].quantum(&mut self.ports[number])
     }
 
-    /// Each peer's turn, and then what they posted is carried. Whether anything moved.
+    /// Each peer's turn, and then what they posted is carried. Whether anything moved: if not, no peer
+    /// can do anything.
     fn round(&mut self) -> Result<bool, NoMemory>
         requires joined { IsJoined self.old }
         ensures joined { OnOk result (IsJoined self.new) }
         ensures on { OnOk result (GoesOn self.old self.new) }
+        ensures still { result ≡ Ok false → AreStill self.new }
     {
         let mut moved = false;
         for number in 0..self.peers.len() {
@@ -102,7 +106,7 @@ impl Fabric {
     /// Whether every item that this peer accepted is whole at its receiver.
     fn all_have_of(&self, sender: usize) -> bool
         requires { sender < length self.now.peers.items }
-        ensures { result ≡ true → all_below (has_all (all_facts self.now) sender) (length self.now.peers.items) ≡ true }
+        ensures { result ≡ all_below (has_all (all_facts self.now) sender) (length self.now.peers.items) }
     {
         for receiver in 0..self.peers.len() {
             if !self.has_all(sender, receiver) {
@@ -114,7 +118,7 @@ impl Fabric {
 
     /// Whether every item that was accepted is whole at its receiver.
     fn all_have_all(&self) -> bool
-        ensures { result ≡ true → all_below (λ sender. all_below (has_all (all_facts self.now) sender) (length self.now.peers.items)) (length self.now.peers.items) ≡ true }
+        ensures { result ≡ all_below (λ sender. all_below (has_all (all_facts self.now) sender) (length self.now.peers.items)) (length self.now.peers.items) }
     {
         for sender in 0..self.peers.len() {
             if !self.all_have_of(sender) {
@@ -133,14 +137,18 @@ impl Fabric {
 
     /// Whether all lines are done and everything accepted is whole at its peer.
     fn is_calm(&self) -> bool
-        ensures { result ≡ true → is_calm (all_facts self.now) ≡ true }
+        ensures { result ≡ is_calm (all_facts self.now) }
     {
         self.all_still() && self.all_have_all()
     }
 
-    /// Where all lines are done, each peer cancels the receives that are still posted.
+    /// Where all lines are done and everything accepted is whole, each peer cancels the receives that
+    /// are still posted.
     fn cancel_posted(&mut self) -> Result<(), NoMemory>
-        ensures { OnOk result (Ends self.old self.new) }
+        ensures ends { OnOk result (Ends self.old self.new) }
+        ensures rest { OnOk result (Rest (actors self.old) → Rest (actors self.new)) }
+        ensures done { OnOk result (all_done (actors self.new) ≡ all_done (actors self.old)) }
+        ensures cleared { OnOk result (Rest (actors self.old) → AreSized (actors self.old) → all_done (actors self.old) ≡ true → AreCleared (actors self.new)) }
     {
         if !self.is_calm() {
             return Ok(());
@@ -151,25 +159,33 @@ impl Fabric {
         Ok(())
     }
 
-    /// Rounds until one moves nothing.
+    /// Rounds until one moves nothing. Each round that goes on leaves a step or a frame more in memory,
+    /// so memory ends before so many rounds do.
     fn finish(&mut self) -> Result<(), NoMemory>
         requires joined { IsJoined self.old }
+        ensures joined { OnOk result (IsJoined self.new) }
         ensures on { OnOk result (GoesOn self.old self.new) }
+        ensures still { OnOk result (AreStill self.new) }
     {
         for _round in 0..u64::MAX {
             if !self.round()? {
-                break;
+                return Ok(());
             }
         }
-        Ok(())
+        Err(NoMemory)
     }
 }
 
 /// Runs all peers of a script until none can go on, and hands them back: some order of turns took the
 /// steps of their schedules from the script's opening to their states. Where all lines are done, each
 /// peer then cancelled the receives that were still posted (fi_cancel of fi_endpoint(3)).
+///
+/// Where all lines of the script are ones that the program carries out, the peers are at rest then:
+/// nothing is on its way, no completion is unread, and no line can be done.
 pub fn run_peers(alloc: Global, bound: Bound) -> Result<Vec<Peer>, NoMemory>
-    ensures { IfOk result (λ peers. Reached (rule fabric) (opening bound) (map schedule_of peers.items) (map actor_of peers.items)) }
+    ensures reached { IfOk result (λ peers. Reached (rule fabric) (opening bound) (map schedule_of peers.items) (map actor_of peers.items)) }
+    ensures rest { CanRun bound → IfOk result (λ peers. at_rest (map actor_of peers.items) ≡ true) }
+    ensures cleared { CanRun bound → IfOk result (λ peers. all_done (map actor_of peers.items) ≡ true → AreCleared (map actor_of peers.items)) }
 {
     let Bound { script, files } = bound;
     let Script {

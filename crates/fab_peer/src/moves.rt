@@ -1,45 +1,27 @@
 //! Frames between an endpoint and its port.
-ghost use Rattle.std.specs.Prelude.{◌≡◌, ◌<◌, length, true, Ok, OnOk};
-ghost use Rattle.fab_peer.specs.Moves.{IsTied, Went, IsFrame};
+ghost use Rattle.std.specs.Prelude.{◌≡◌, ◌<◌, length, slice_index, true, false, Ok, OnOk};
+ghost use Rattle.fab_link.specs.Plain.{lane_at};
+ghost use Rattle.fab_model.specs.State.{accepted_for};
+ghost use Rattle.fab_peer.specs.Endpoints.{has_room};
+ghost use Rattle.fab_peer.specs.Moves.{IsTied, Went, IsMoved, StaysMoved};
 
 use crate::endpoint::Endpoint;
-use fab_base::{Ack, FrameHead, Kind, NoMemory};
+use fab_base::{FrameHead, NoMemory};
 use fab_link::{PlainPort, Port, PostRefused};
 
-/// Whether the frame is a whole message that asks for no reply.
-fn is_carried(head: &FrameHead, len: usize) -> bool
-    ensures { result ≡ true → IsFrame head.now len }
-{
-    let is_message = match head.item.kind {
-        Kind::Msg | Kind::TagMsg => true,
-        Kind::WriteReq | Kind::ReadReq | Kind::AtomicReq | Kind::Reply => false,
-    };
-    let is_silent = match head.item.ack {
-        Ack::Nothing => true,
-        Ack::Delivery | Ack::Match => false,
-    };
-    is_message
-        && is_silent
-        && head.item.atom.is_none()
-        && head.from == 0
-        && head.len == head.item.total
-        && len == head.len as usize
-        && len <= 4096
-}
-
-/// Takes the next frame of a peer, where that may be.
+/// Takes the next frame of a peer. False where none came that is not taken, or its completion has no
+/// room; then nothing changes.
 fn take_one(endpoint: &mut Endpoint, port: &mut PlainPort, source: u32) -> Result<bool, NoMemory>
     requires below { source < length port.old.lanes }
     requires tied { IsTied endpoint.old.state port.old }
     ensures tied { OnOk result (IsTied endpoint.new.state port.new) }
     ensures went { OnOk result (Went endpoint.old port.old endpoint.new port.new) }
+    ensures still { result ≡ Ok false → (endpoint.new ≡ endpoint.old)
+        × (has_room endpoint.old.state.cq ≡ true → slice_index endpoint.old.state.rx.tails source ≡ length (lane_at port.old source).in_list) }
 {
     let Some(frame) = port.front(source) else {
         return Ok(false);
     };
-    if !is_carried(&frame.head, frame.bytes.len()) {
-        return Ok(false);
-    }
     if !endpoint.arrive(source, &frame.head.item, frame.bytes)? {
         return Ok(false);
     }
@@ -47,12 +29,15 @@ fn take_one(endpoint: &mut Endpoint, port: &mut PlainPort, source: u32) -> Resul
     Ok(true)
 }
 
-/// Posts the next item for a peer, where that may be.
+/// Posts the next item for a peer. False where none waits, or its completion has no room; then nothing
+/// changes.
 fn post_one(endpoint: &mut Endpoint, port: &mut PlainPort, dest: u32) -> Result<bool, NoMemory>
     requires below { dest < length port.old.lanes }
     requires tied { IsTied endpoint.old.state port.old }
     ensures tied { OnOk result (IsTied endpoint.new.state port.new) }
     ensures went { OnOk result (Went endpoint.old port.old endpoint.new port.new) }
+    ensures still { result ≡ Ok false → (endpoint.new ≡ endpoint.old)
+        × (has_room endpoint.old.state.cq ≡ true → slice_index endpoint.old.state.tx.sent dest ≡ length (accepted_for endpoint.old.state.tx dest)) }
 {
     if !endpoint.has_room() {
         return Ok(false);
@@ -65,9 +50,6 @@ fn post_one(endpoint: &mut Endpoint, port: &mut PlainPort, dest: u32) -> Result<
         from: 0,
         len: item.head.total,
     };
-    if !is_carried(&head, item.bytes.as_slice().len()) {
-        return Ok(false);
-    }
     match port.post(dest, head, item.bytes.as_slice()) {
         Ok(()) => {}
         Err(PostRefused::NoMemory) => return Err(NoMemory),
@@ -77,12 +59,28 @@ fn post_one(endpoint: &mut Endpoint, port: &mut PlainPort, dest: u32) -> Result<
     Ok(true)
 }
 
+/// Posts the next item for a peer and takes its next frame, where that may be. How many frames moved:
+/// none only where nothing is left to move, or no completion has room.
+fn move_one(endpoint: &mut Endpoint, port: &mut PlainPort, peer: u32) -> Result<u32, NoMemory>
+    requires below { peer < length port.old.lanes }
+    requires tied { IsTied endpoint.old.state port.old }
+    ensures tied { OnOk result (IsTied endpoint.new.state port.new) }
+    ensures went { OnOk result (Went endpoint.old port.old endpoint.new port.new) }
+    ensures still { result ≡ Ok 0 → (endpoint.new ≡ endpoint.old)
+        × (has_room endpoint.old.state.cq ≡ true → IsMoved endpoint.old.state port.old peer) }
+{
+    let posted = post_one(endpoint, port, peer)?;
+    let taken = take_one(endpoint, port, peer)?;
+    Ok(u32::from(posted) + u32::from(taken))
+}
+
 /// One turn: for each peer in order, posts the next item for it and takes its next frame, where that
 /// may be and while `left` is above 0. Whether anything moved.
 fn turn(endpoint: &mut Endpoint, port: &mut PlainPort, left: &mut u32) -> Result<bool, NoMemory>
     requires { IsTied endpoint.old.state port.old }
     ensures tied { OnOk result (IsTied endpoint.new.state port.new) }
     ensures went { OnOk result (Went endpoint.old port.old endpoint.new port.new) }
+    ensures still { result ≡ Ok false → 0 < left.old → StaysMoved endpoint.old port.old endpoint.new }
 {
     let peers = port.peers();
     let mut moved = false;
@@ -90,27 +88,34 @@ fn turn(endpoint: &mut Endpoint, port: &mut PlainPort, left: &mut u32) -> Result
         if *left == 0 {
             break;
         }
-        let posted = post_one(endpoint, port, peer)?;
-        let taken = take_one(endpoint, port, peer)?;
-        *left = left.saturating_sub(u32::from(posted) + u32::from(taken));
-        moved = moved || posted || taken;
+        let here = move_one(endpoint, port, peer)?;
+        *left = left.saturating_sub(here);
+        moved = moved || here != 0;
     }
     Ok(moved)
 }
 
 /// Posts and takes frames in turns, until a turn moves nothing or about `budget` frames have moved.
-pub fn progress(endpoint: &mut Endpoint, port: &mut PlainPort, budget: u32) -> Result<(), NoMemory>
+/// Whether anything moved: if not, nothing is left to move, or no completion has room.
+pub fn progress(
+    endpoint: &mut Endpoint,
+    port: &mut PlainPort,
+    budget: u32,
+) -> Result<bool, NoMemory>
     requires { IsTied endpoint.old.state port.old }
     ensures tied { OnOk result (IsTied endpoint.new.state port.new) }
     ensures went { OnOk result (Went endpoint.old port.old endpoint.new port.new) }
+    ensures still { result ≡ Ok false → 0 < budget → StaysMoved endpoint.old port.old endpoint.new }
 {
     let mut left = budget;
+    let mut moved = false;
     for _turn in 0..budget {
         if !turn(endpoint, port, &mut left)? {
             break;
         }
+        moved = true;
     }
-    Ok(())
+    Ok(moved)
 }
 
 /// Posts what waits for a peer, as far as that may be.

@@ -1,5 +1,9 @@
 //! A peer: the lines of its part of a script, done in order over an endpoint.
-ghost use Rattle.std.specs.Prelude.{◌≡◌, Some, None, IfOk, OnOk, find, position, []};
+ghost use Rattle.std.specs.Prelude.{◌≡◌, ◌≤◌, ◌<◌, Some, None, Ok, IfOk, OnOk, find, position, [], true, false};
+ghost use Rattle.fab_base.specs.Built.{is_at_transmit};
+ghost use Rattle.fab_base.specs.declared.items.Ack.TheVariants.{Nothing};
+ghost use Rattle.fab_base.specs.declared.items.Kind.TheVariants.{TagMsg};
+ghost use Rattle.fab_model.specs.Sending.{ack_of};
 ghost use Rattle.fab_base.specs.declared.script.LineOp.TheVariants.{Wait, TRecv};
 ghost use Rattle.fab_model.specs.Matching.{remove_first};
 ghost use Rattle.fab_model.specs.Calls.{word_bytes};
@@ -90,8 +94,21 @@ fn word_bytes(alloc: Global, word: &BytesWord) -> Result<Buf, NoMemory>
     }
 }
 
+/// Whether a message of these bytes goes in one frame and completes when it is transmitted.
+fn goes_in_one(level: Level, bytes: &Buf) -> bool
+    ensures short { result ≡ true → length bytes.now ≤ 4096 }
+    ensures silent { result ≡ true → ack_of TagMsg level ≡ Nothing }
+    ensures built { length bytes.now ≤ 4096 → is_at_transmit level ≡ true → result ≡ true }
+{
+    let is_early = match level {
+        Level::Inject | Level::Transmit => true,
+        Level::Delivery | Level::Match => false,
+    };
+    is_early && bytes.as_slice().len() <= 4096
+}
+
 impl Peer {
-    ghost use Rattle.fab_peer.specs.Turns.{Turned, Ended, actor_of, schedule_of, Does, Answered, next_op, SendsNext};
+    ghost use Rattle.fab_peer.specs.Turns.{Turned, Ended, IsRead, Waits, Stays, IsStill, came_to, actor_of, schedule_of, Does, Answered, next_op, SendsNext};
 
     /// A peer that is to do these lines.
     pub fn new(alloc: Global, conf: &Conf, lines: Vec<Line>) -> Result<Peer, NoMemory>
@@ -107,19 +124,22 @@ impl Peer {
         })
     }
 
-    /// Reads completions until there is none, and keeps them.
-    fn read_all(&mut self) -> Result<(), NoMemory>
+    /// Reads completions until there is none, and keeps them. Whether there was one.
+    fn read_all(&mut self) -> Result<bool, NoMemory>
         ensures does { OnOk result (Does self.old self.new) }
         ensures facts { OnOk result (facts (actor_of self.new) ≡ facts (actor_of self.old)) }
+        ensures tx { OnOk result (self.new.endpoint.state.tx ≡ self.old.endpoint.state.tx) }
+        ensures rx { OnOk result (self.new.endpoint.state.rx ≡ self.old.endpoint.state.rx) }
+        ensures size { OnOk result (self.new.endpoint.state.cq.size ≡ self.old.endpoint.state.cq.size) }
+        ensures read { OnOk result (IsRead self.new) }
+        ensures still { result ≡ Ok false → actor_of self.new ≡ actor_of self.old }
     {
-        let unread = self.endpoint.unread();
-        for _entry in 0..unread {
-            let Some(entry) = self.endpoint.read()? else {
-                return Ok(());
-            };
+        let mut any = false;
+        'entries: while let Some(entry) = self.endpoint.read()? {
             self.kept.push(Kept { entry, bytes: None })?;
+            any = true;
         }
-        Ok(())
+        Ok(any)
     }
 
     /// A call was answered: its line is done, unless the answer is to come again.
@@ -144,7 +164,8 @@ impl Peer {
     /// The line `wait`: takes the oldest kept completion of this context, if there is one.
     fn wait(&mut self, ctx: Option<u64>) -> Result<bool, NoMemory>
         requires { next_op self.old ≡ Some (Wait ctx) }
-        ensures { OnOk result (Does self.old self.new) }
+        ensures does { OnOk result (Does self.old self.new) }
+        ensures still { result ≡ Ok false → Waits self.old self.new }
     {
         let Some(kept) = take_kept(&mut self.kept, ctx) else {
             return Ok(false);
@@ -157,7 +178,8 @@ impl Peer {
     /// The line `trecv` of any source.
     fn trecv(&mut self, ctx: u64, tag: u64, ignore: u64, len: u32) -> Result<bool, NoMemory>
         requires { next_op self.old ≡ Some (TRecv ctx None tag ignore len) }
-        ensures { OnOk result (Does self.old self.new) }
+        ensures does { OnOk result (Does self.old self.new) }
+        ensures still { result ≡ Ok false → Waits self.old self.new }
     {
         let buf = Buf::zeros(self.alloc, len as u64)?;
         let answer = self.endpoint.trecv(tag, ignore, buf, ctx);
@@ -175,8 +197,11 @@ impl Peer {
         level: Level,
         completion: bool,
     ) -> Result<bool, NoMemory>
-        requires { SendsNext ctx dest tag bytes imm level completion self.old }
-        ensures { OnOk result (Does self.old self.new) }
+        requires next { SendsNext ctx dest tag bytes imm level completion self.old }
+        requires short { length bytes ≤ 4096 }
+        requires silent { ack_of TagMsg level ≡ Nothing }
+        ensures does { OnOk result (Does self.old self.new) }
+        ensures still { result ≡ Ok false → Waits self.old self.new }
     {
         let answer = self
             .endpoint
@@ -184,11 +209,13 @@ impl Peer {
         self.answered(answer)
     }
 
-    /// Does the next line, if there is one and it can be done; what it sends is posted.
+    /// Does the next line, if there is one and it can be done; what it sends is posted. A line that the
+    /// program does not carry out yet can't be done.
     fn do_line(&mut self, port: &mut PlainPort) -> Result<bool, NoMemory>
         requires { IsTied self.old.endpoint.state port.old }
         ensures tied { OnOk result (IsTied self.new.endpoint.state port.new) }
         ensures turned { OnOk result (Turned self.old port.old self.new port.new) }
+        ensures still { result ≡ Ok false → Stays self.old self.new }
     {
         let Some(line) = self.lines.get(self.results.len()) else {
             return Ok(false);
@@ -200,11 +227,14 @@ impl Peer {
             }
             LineOp::TRecv {
                 ctx,
-                source: None,
+                source,
                 tag,
                 ignore,
                 len,
             } => {
+                if source.is_some() {
+                    return Ok(false);
+                }
                 let (ctx, tag, ignore, len) = (*ctx, *tag, *ignore, *len);
                 self.trecv(ctx, tag, ignore, len)
             }
@@ -220,6 +250,9 @@ impl Peer {
                 let bytes = word_bytes(self.alloc, bytes)?;
                 let (ctx, dest, tag, imm) = (*ctx, *dest, *tag, *imm);
                 let (level, completion) = (*level, *completion);
+                if !goes_in_one(level, &bytes) {
+                    return Ok(false);
+                }
                 if !self.tsend(ctx, dest, tag, bytes, imm, level, completion)? {
                     return Ok(false);
                 }
@@ -231,44 +264,49 @@ impl Peer {
     }
 
     /// A turn of the peer: it reads all completions, does up to 16 lines and reads after each, makes
-    /// progress with up to 64 frames, and reads again. Whether it took a step.
+    /// progress with up to 64 frames, and reads again. Whether it took a step or has one to take.
     pub fn quantum(&mut self, port: &mut PlainPort) -> Result<bool, NoMemory>
         requires { IsTied self.old.endpoint.state port.old }
         ensures tied { OnOk result (IsTied self.new.endpoint.state port.new) }
         ensures turned { OnOk result (Turned self.old port.old self.new port.new) }
+        ensures same { result ≡ Ok false → actor_of self.new ≡ actor_of self.old }
+        ensures still { result ≡ Ok false → 0 < (actor_of self.new).state.cq.size → IsStill (actor_of self.new) (came_to port.new) }
     {
-        let before = self.endpoint.steps().len();
-        self.read_all()?;
-        self.do_lines(port)?;
-        progress(&mut self.endpoint, port, 64)?;
-        self.read_all()?;
-        Ok(self.endpoint.steps().len() != before)
+        let read = self.read_all()?;
+        let done = self.do_lines(port)?;
+        let moved = progress(&mut self.endpoint, port, 64)?;
+        let again = self.read_all()?;
+        let draws = self.endpoint.draws();
+        Ok(read || done || moved || again || draws)
     }
 
     /// Does lines while the next one can be done, at most 16, and reads all completions after each.
-    fn do_lines(&mut self, port: &mut PlainPort) -> Result<(), NoMemory>
+    /// Whether it did one.
+    fn do_lines(&mut self, port: &mut PlainPort) -> Result<bool, NoMemory>
         requires { IsTied self.old.endpoint.state port.old }
         ensures tied { OnOk result (IsTied self.new.endpoint.state port.new) }
         ensures turned { OnOk result (Turned self.old port.old self.new port.new) }
+        ensures still { result ≡ Ok false → Stays self.old self.new }
     {
-        for _line in 0..16 {
+        let mut done = false;
+        for _line in 0..16_u32 {
             if !self.do_line(port)? {
-                return Ok(());
+                break;
             }
             self.read_all()?;
+            done = true;
         }
-        Ok(())
+        Ok(done)
     }
 
     /// Cancels the receives that are still posted, in order, and reads all completions after each.
     pub fn cancel_posted(&mut self) -> Result<(), NoMemory>
-        ensures { OnOk result (Ended self.old self.new) }
+        ensures ended { OnOk result (Ended self.old self.new) }
+        ensures size { OnOk result ((actor_of self.new).state.cq.size ≡ (actor_of self.old).state.cq.size) }
+        ensures read { OnOk result (IsRead self.old → IsRead self.new) }
+        ensures cleared { OnOk result (IsRead self.old → 0 < (actor_of self.old).state.cq.size → (actor_of self.new).state.rx.posted ≡ []) }
     {
-        let posted = self.endpoint.posted();
-        for _receive in 0..posted {
-            if !self.endpoint.cancel_first()? {
-                return Ok(());
-            }
+        'receives: while self.endpoint.cancel_first()? {
             self.read_all()?;
         }
         Ok(())

@@ -1,5 +1,5 @@
 //! The receiving half of an endpoint: posted receives and unexpected messages (fi_msg(3), fi_tagged(3)).
-ghost use Rattle.std.specs.Prelude.{◌≡◌, ◌+◌, ◌<◌, ◌^◌, ℕ, [], ◌∷◌, ◌++◌, length, replicate, IfOk, OnErr, IfSome, None, true, false, find, position, is_some, slice_index, IsSome};
+ghost use Rattle.std.specs.Prelude.{◌≡◌, ◌+◌, ◌<◌, ◌^◌, ℕ, [], ◌∷◌, ◌++◌, length, replicate, IfOk, OnErr, IfSome, IfNone, None, true, false, find, position, is_some, slice_index, IsSome};
 ghost use Rattle.std.specs.List.{list_any};
 ghost use Rattle.fab_base.specs.declared.operations.Receive.{Receive};
 ghost use Rattle.fab_model.specs.Matching.{matches, takes, remove_first};
@@ -204,6 +204,8 @@ impl Inbox {
     pub fn take_first(&mut self) -> Option<Receive>
         ensures found { result ≡ cancellable (λ r. true) self.old }
         ensures rest { self.new ≡ without_posted (λ r. true) self.old }
+        ensures fewer { IfSome result (λ r. length self.new.posted + 1 ≡ length self.old.posted) }
+        ensures none { IfNone result (self.old.posted ≡ []) }
         ensures still { draw_due self.old ≡ false }
         ensures still_after { draw_due self.new ≡ false }
     {

@@ -8,3 +8,4 @@ pub mod ItemLemmas
 pub mod HoldsLemmas
 pub mod GrammarLemmas
 mod Worked
+pub mod BuiltLemmas

@@ -1,5 +1,6 @@
 //! From the bytes of a file to its script.
-ghost use Rattle.std.specs.Prelude.{◌≡◌, Some, None, ◌∷◌, map, IfOk, IfErr, MatchResult};
+ghost use Rattle.std.specs.Prelude.{◌≡◌, ◌<◌, true, Some, None, ◌∷◌, map, IfOk, IfErr, MatchResult};
+ghost use Rattle.fab_base.specs.Built.{all_built};
 ghost use Rattle.fab_script.specs.Lines.{item_of};
 ghost use Rattle.fab_script.specs.Grammar.{is_header, peers_of, items_of, script_with, script_from, settings_and_parts, script_of_rows, script_of, said_of};
 ghost use Rattle.fab_script.specs.Parts.{Takes, HoldsAll};
@@ -24,6 +25,8 @@ const PEERS_MAX: u32 = 32;
 pub fn parse(alloc: Global, bytes: &[u8]) -> Result<Script, ParseRefused>
     ensures script { IfOk result (λ script. script_of bytes.now ≡ Some script) }
     ensures refused { IfErr result (λ e. IsScript e → script_of bytes.now ≡ None) }
+    ensures built { IfOk result (λ script. all_built script.peers ≡ true) }
+    ensures sized { IfOk result (λ script. 0 < script.conf.info.cq) }
 {
     let mut rows = Rows::new(bytes);
     header(&mut rows)?;

@@ -1,22 +1,29 @@
 -- A report of what peers did tells the schedule that led there.
-use Rattle.std.proofs.Common.{◌≡◌, ◌≤◌, ◌^◌, ℕ, Bool, List, map, length, sym, ap, subst, ◌∙◌, arith}
+use Rattle.std.proofs.Common.{◌≡◌, ◌≤◌, ◌^◌, ℕ, suc, Bool, true, List, [], ◌∷◌, map, length, refl, sym, ap, subst, ◌∙◌, arith}
+use Rattle.std.proofs.lemmas.Bool.{and_from}
 use Rattle.std.proofs.lemmas.List.{length-map}
 use Rattle.fab_base.specs.declared.script.Script.{Script}
 use Rattle.fab_model.specs.Orders.{Reached}
-use Rattle.fab_model.specs.Peers.{fabric}
-use Rattle.fab_model.specs.Replay.{Lawful, opening, replayed, all_done}
+use Rattle.fab_model.specs.Peers.{Actor, fabric}
+use Rattle.fab_model.specs.Replay.{Lawful, opening, replayed, at_rest, all_done, is_empty}
 use Rattle.fab_model.specs.Report.{report, report_of, traces}
 use Rattle.fab_model.specs.Views.{rule}
 use Rattle.fab_model.proofs.Replays.{reached_lawful, reached_sound}
 use Rattle.fab_model.proofs.Names.{lawful_report_tells}
 use Rattle.fab_peer.specs.Turns.{actor_of, schedule_of}
+use Rattle.fab_peer.specs.Joined.{AreCleared}
 use Rattle.fab_peer.specs.declared.peer.Peer.{Peer}
-use Rattle.fab_top.specs.Runs.{alone, Reports}
+use Rattle.fab_top.specs.Runs.{alone, nothing_posted, Reports}
+
+none_posted : (all : List Actor) → AreCleared all → nothing_posted all ≡ true
+none_posted [] cleared = refl
+none_posted (a ∷ all) cleared = and_from _ _ (ap is_empty (cleared 0 a refl)) (none_posted all (λ p x has. cleared (suc p) x has))
 
 pub reports : (script : Script) (peers : List Peer) (text : List ℕ) (done : Bool) → Reached (rule fabric) (opening (alone script)) (map schedule_of peers) (map actor_of peers)
-    → length peers ≤ 10 ^ 64 → text ≡ report_of (map actor_of peers) (map schedule_of peers) → done ≡ all_done (map actor_of peers) → Reports (alone script) text done
+    → at_rest (map actor_of peers) ≡ true → (all_done (map actor_of peers) ≡ true → AreCleared (map actor_of peers)) → length peers ≤ 10 ^ 64 → text ≡ report_of (map actor_of peers) (map schedule_of peers)
+    → done ≡ all_done (map actor_of peers) → Reports (alone script) text done
 unfolding report
-reports script peers text done reached few is ends =
+reports script peers text done reached rest cleared few is ends =
     let bound = alone script in
     let schedule = map schedule_of peers in
     let states = map actor_of peers in
@@ -28,5 +35,7 @@ reports script peers text done reached few is ends =
     record {
       lawful = subst (λ x. Lawful bound x) (sym told) lawful.0;
       text_is = whole ∙ ap (report bound) (sym told);
+      rest = ap (λ x. at_rest (replayed bound x).states) told ∙ ap at_rest lawful.1 ∙ rest;
       done_is = ap (λ x. all_done (replayed bound x).states) told ∙ ap all_done lawful.1 ∙ sym ends;
+      cleared = λ all. ap (λ x. nothing_posted (replayed bound x).states) told ∙ ap nothing_posted lawful.1 ∙ none_posted states (cleared (sym ends ∙ all));
     }

@@ -1,16 +1,18 @@
 -- What a run of a command does.
 --     command_of words        the file that is to be run, where the words are `script FILE`
 --     alone script            a script that has no payload files
---     Reports bound text      the text is the report of the lawful schedule that its trace lines tell
+--     Reports bound text      the text is the report of the lawful schedule that its trace lines tell, and at its end the peers are at rest
 --     IsRead, IsUnread        what was loaded is a script, or why it is none
 --     Writes, WritesPart      the report is written, or a part of it
-use Rattle.std.specs.Prelude.{◌≡◌, ℕ, ◌<◌, ◌≤◌, Bool, List, [], ◌∷◌, length, take, bytes_eq, codes, Option, Some, None, if◌then◌else◌}
+use Rattle.std.specs.Prelude.{◌≡◌, ℕ, ◌<◌, ◌≤◌, Bool, true, List, [], ◌∷◌, length, take, bytes_eq, codes, Option, Some, None, if◌then◌else◌}
 use Rattle.std.specs.Io.KnownBytes.{append_known}
+use Rattle.std.specs.List.{list_all}
 use Rattle.fab_base.specs.declared.script.Bound.{Bound}
 use Rattle.fab_base.specs.declared.script.Script.{Script}
 use Rattle.fab_base.specs.declared.status.Status.{Status}
 use Rattle.fab_base.specs.declared.status.Status.TheVariants.{Done, Stuck, Usage, ScriptRefused, TooLong, ReadFault, WriteFault, NoMemory}
-use Rattle.fab_model.specs.Replay.{Lawful, replayed, all_done}
+use Rattle.fab_model.specs.Peers.{Actor}
+use Rattle.fab_model.specs.Replay.{Lawful, replayed, at_rest, all_done, is_empty}
 use Rattle.fab_model.specs.Report.{report, traces}
 use Rattle.fab_script.specs.Grammar.{script_of}
 use Rattle.fab_top.specs.Outside.{IsFile, BeginsFile}
@@ -28,11 +30,17 @@ command_of _ = None
 abbrev pub alone : Script → Bound
 alone script = record { script = script; files = [] }
 
--- the text is the report of the schedule that its own trace lines tell, and this schedule is lawful; whether all lines are done at its end
+-- no receive of any peer is posted
+abbrev pub nothing_posted : List Actor → Bool
+nothing_posted all = list_all (λ (a : Actor). is_empty a.state.rx.posted) all
+
+-- The text is the report of the schedule that its own trace lines tell, and this schedule is lawful. At its end the peers are at rest; whether all lines are done then, and if so, nothing is posted.
 pub record Reports (bound : Bound) (text : List ℕ) (done : Bool) : Type 0 where
   pub lawful : Lawful bound (traces text)
   pub text_is : text ≡ report bound (traces text)
+  pub rest : at_rest (replayed bound (traces text)).states ≡ true
   pub done_is : all_done (replayed bound (traces text)).states ≡ done
+  pub cleared : done ≡ true → nothing_posted (replayed bound (traces text)).states ≡ true
 
 -- the file, if files are told, is within the limit and in the grammar: it spells this script
 abbrev pub IsRead : Option (List ℕ → Option (List ℕ)) → List ℕ → Script → Type 0

@@ -1,6 +1,7 @@
 //! The top call: a command from its words to its report.
 ghost use Rattle.std.specs.Prelude.{◌≡◌, ◌<◌, ◌≤◌, ◌↔◌, ℕ, List, true, false, None, Some, IfOk, string_bytes, option_map, length, take};
 ghost use Rattle.std.specs.Io.KnownBytes.{append_known};
+ghost use Rattle.fab_base.specs.Built.{all_built};
 ghost use Rattle.fab_base.specs.declared.status.Status.TheVariants.{Done, Stuck, Usage, TooLong, ReadFault, WriteFault};
 ghost use Rattle.fab_script.specs.Grammar.{script_of};
 ghost use Rattle.fab_top.specs.Outside.{IsFile, BeginsFile};
@@ -34,6 +35,8 @@ struct Ran {
 
 /// Runs a script's peers until none can go on, and reports what they did.
 fn run_script(alloc: Global, script: Script) -> Result<Ran, NoMemory>
+    requires lines { all_built script.peers ≡ true }
+    requires sized { 0 < script.conf.info.cq }
     ensures { IfOk result (λ ran. Reports (alone script) (string_bytes ran.text) ran.done) }
 {
     let files = List::empty(alloc);
@@ -68,11 +71,12 @@ fn write_report<S: Sink>(sink: &mut S, ran: &Ran) -> Status
 /// that it spells, and writes their report.
 ///
 /// The report is that of one lawful schedule, the one that its own trace lines tell: in some order of
-/// turns the peers' steps led from the script's opening to the states that it reports. At `Done` all
-/// lines are done in them, and at `Stuck` some line is not. At `WriteFault` the first bytes of such a
-/// report are written, and at every other status none. The files stay as they are. `NoMemory` may come
-/// before anything is written. The clock is not read, and the gate is not told, while the peers take
-/// turns in the caller's thread.
+/// turns the peers' steps led from the script's opening to the states that it reports. In these the
+/// peers are at rest: nothing is on its way, no completion is unread, and no line can be done. At `Done`
+/// all lines are done, and no receive is posted any more; at `Stuck` some line is not done. At
+/// `WriteFault` the first bytes of such a report are written, and at every other status none. The files
+/// stay as they are. `NoMemory` may come before anything is written. The clock is not read, and the gate
+/// is not told, while the peers take turns in the caller's thread.
 pub fn run<D: Depot, S: Sink, C: Clock, G: Gate>(
     alloc: Global,
     words: &[Text],

@@ -1,5 +1,5 @@
 //! The end of an endpoint: what is still posted is cancelled (fi_cancel of fi_endpoint(3)).
-ghost use Rattle.std.specs.Prelude.{◌≡◌, length, IfOk, OnOk, IsTrue};
+ghost use Rattle.std.specs.Prelude.{◌≡◌, ◌+◌, length, true, Ok, IfOk, OnOk, IsTrue};
 ghost use Rattle.fab_model.specs.State.{accepted_for};
 ghost use Rattle.std.specs.Prelude.{slice_index};
 ghost use Rattle.fab_model.specs.Receiving.{draw_due};
@@ -12,7 +12,8 @@ impl Endpoint {
     /// Cancels the first posted receive, and gives its buffer back by a completion. False where none is
     /// posted or the completion has no room, and then nothing changes.
     pub fn cancel_first(&mut self) -> Result<bool, NoMemory>
-        ensures { IfOk result (λ done. Cancels self.old self.new done) }
+        ensures cancels { IfOk result (λ done. Cancels self.old self.new done) }
+        ensures fewer { result ≡ Ok true → length self.new.state.rx.posted + 1 ≡ length self.old.state.rx.posted }
     {
         let room = self.cq.has_room();
         if !room {
@@ -50,11 +51,6 @@ impl Endpoint {
         self.log.push(Step::Final)?;
         self.calls = calls;
         Ok(())
-    }
-
-    /// How many receives are posted.
-    pub fn posted(&self) -> usize {
-        self.rx.posted()
     }
 
     /// Whether a posted multi-receive matches an unexpected message.

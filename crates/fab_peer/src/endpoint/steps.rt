@@ -1,5 +1,5 @@
 //! The steps that an endpoint takes by itself: arrivals, and what is transmitted.
-ghost use Rattle.std.specs.Prelude.{◌≡◌, ◌<◌, length, Some, is_some, OnOk, IfOk, IfSome, IsTrue, IsSome, slice_get, slice_index};
+ghost use Rattle.std.specs.Prelude.{◌≡◌, ◌<◌, length, Some, None, is_some, OnOk, IfOk, IfSome, IfNone, IsTrue, IsSome, slice_get, slice_index};
 ghost use Rattle.fab_model.specs.Arrivals.{taker};
 ghost use Rattle.std.specs.Prelude.{count_by};
 ghost use Rattle.fab_model.specs.State.{accepted_for, awaits};
@@ -58,6 +58,8 @@ impl Endpoint {
     pub fn next(&self, dest: u32) -> Option<&Item>
         requires { dest < length self.now.state.tx.accepted }
         ensures some { IfSome result (λ item. slice_get (accepted_for self.now.state.tx dest) (slice_index self.now.state.tx.sent dest) ≡ Some item.now) }
+        ensures carried { IfSome result (λ item. IsCarried item.now.head (length item.now.bytes)) }
+        ensures none { IfNone result (slice_get (accepted_for self.now.state.tx dest) (slice_index self.now.state.tx.sent dest) ≡ None) }
     {
         self.tx.next(dest)
     }
@@ -72,11 +74,6 @@ impl Endpoint {
         ensures { result ≡ count_by (awaits self.now.state.tx) self.now.state.tx.live }
     {
         self.tx.pending()
-    }
-
-    /// How many completions are unread.
-    pub fn unread(&self) -> usize {
-        self.cq.unread()
     }
 
     /// Whether the completion queue has room for one more entry.

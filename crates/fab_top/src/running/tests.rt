@@ -24,6 +24,23 @@ const WAITING: &str =
 const WAITING_REPORT: &str =
     "fabric 1 peers 2\npeer 0\n4 trecv ok\nstuck at 5\ntrace D\npeer 1\n7 trecv ok\nstuck at 8\ntrace D\nend stuck\n";
 
+const IN_ORDER: &str =
+    "fabric 1\npeers 2\npeer 0\ntrecv 1 * 5 0 4\ntrecv 2 * 0 18446744073709551615 4\nwait 1\nwait 2\npeer 1\ntsend 3 0 7 text:x\ntsend 4 0 5 text:y\n";
+
+const IN_ORDER_REPORT: &str =
+    "fabric 1 peers 2\npeer 0\n4 trecv ok\n5 trecv ok\n6 wait 1 FI_TAGGED FI_RECV from 1 tag 5 len 1 bytes 79\n7 wait 2 FI_TAGGED FI_RECV from 1 tag 7 len 1 bytes 78\ntrace D D H1 T1 H1 T1 R R D D\npeer 1\n9 tsend ok\n10 tsend ok\nleft 3 FI_TAGGED FI_SEND\nleft 4 FI_TAGGED FI_SEND\ntrace D S0 R D S0 R\nend done\n";
+
+const TOO_LONG: &str =
+    "fabric 1\npeers 2\npeer 0\ntrecv 1 * 3 0 4\nwait 1\npeer 1\ntsend 2 0 3 text:0123456789\n";
+
+const TOO_LONG_REPORT: &str =
+    "fabric 1 peers 2\npeer 0\n4 trecv ok\n5 wait 1 error FI_ETRUNC from 1 tag 3 len 4 olen 6 bytes 30313233\ntrace D H1 T1 R D\npeer 1\n7 tsend ok\nleft 2 FI_TAGGED FI_SEND\ntrace D S0 R\nend done\n";
+
+const NO_BYTES: &str = "fabric 1\npeers 1\npeer 0\ntrecv 1 * 1 0 0\ntsend 2 0 1 text:\nwait 1\n";
+
+const NO_BYTES_REPORT: &str =
+    "fabric 1 peers 1\npeer 0\n4 trecv ok\n5 tsend ok\n6 wait 1 FI_TAGGED FI_RECV from 0 tag 1 len 0 bytes -\nleft 2 FI_TAGGED FI_SEND\ntrace D D S0 R H0 T0 R D\nend done\n";
+
 struct OpenGate;
 
 impl Gate for OpenGate {
@@ -92,6 +109,9 @@ fn scripts_run_to_their_reports(rt: HostRuntime) -> Result<(), Fail> {
         ),
         (HELLO, HELLO_REPORT, Status::Done),
         (ITSELF, ITSELF_REPORT, Status::Done),
+        (IN_ORDER, IN_ORDER_REPORT, Status::Done),
+        (TOO_LONG, TOO_LONG_REPORT, Status::Done),
+        (NO_BYTES, NO_BYTES_REPORT, Status::Done),
         (WAITING, WAITING_REPORT, Status::Stuck),
     ];
     for (script, report, status) in rows {

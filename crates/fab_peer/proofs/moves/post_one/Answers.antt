@@ -1,15 +1,11 @@
 use Rattle.std.proofs.Common.{length}
 use Rattle.fab_peer.specs.Moves.{frame_of, IsFrame}
-use Rattle.fab_peer.proofs.Going.{went_none, ported_same}
-use Rattle.fab_peer.proofs.Posting.{PostedFrame, went_posts, tied_posts}
+use Rattle.fab_peer.proofs.Posting.{PostedFrame, carried_frame, went_posts, tied_posts}
 use Rattle.fab_peer.proofs.moves.post_one.Goals as goal
-
-pub returns-then-not-is_carried-clause-went : goal.returns-then-not-is_carried-clause-went
-returns-then-not-is_carried-clause-went c = went_none c.args.endpoint.now c.args.port.now c.args.port.now (ported_same c.args.port.now)
 
 pub returns-clause-tied : goal.returns-clause-tied
 returns-clause-tied c =
-    let bytes = c.as_slice-2.ensures in
+    let bytes = c.as_slice.ensures in
     let then = c.in-Ok.ensures in
     let posted : PostedFrame c.args.port.now c.post.new.self c.args.dest (frame_of c.in-Some.item.now) = record {
       number = c.post.ensures.number;
@@ -22,12 +18,12 @@ returns-clause-tied c =
       lefts = rw bytes at then.left;
       others_left = c.post.ensures.others_left;
     } in
-    let is_frame : IsFrame (frame_of c.in-Some.item.now).head (length c.in-Some.item.now.bytes) = rw c.as_slice.ensures at (c.is_carried.ensures c.if-not-is_carried.false) in
+    let is_frame : IsFrame (frame_of c.in-Some.item.now).head (length c.in-Some.item.now.bytes) = carried_frame c.in-Some.item.now c.in-Some.ensures.carried in
     tied_posts c.args.endpoint.now c.sent.new.self c.args.port.now c.post.new.self c.args.dest c.in-Some.item.now c.requires.tied c.requires.below posted is_frame c.in-Some.ensures.some c.in_ok-sent.ensures
 
 pub returns-clause-went : goal.returns-clause-went
 returns-clause-went c =
-    let bytes = c.as_slice-2.ensures in
+    let bytes = c.as_slice.ensures in
     let then = c.in-Ok.ensures in
     let posted : PostedFrame c.args.port.now c.post.new.self c.args.dest (frame_of c.in-Some.item.now) = record {
       number = c.post.ensures.number;
@@ -40,5 +36,5 @@ returns-clause-went c =
       lefts = rw bytes at then.left;
       others_left = c.post.ensures.others_left;
     } in
-    let is_frame : IsFrame (frame_of c.in-Some.item.now).head (length c.in-Some.item.now.bytes) = rw c.as_slice.ensures at (c.is_carried.ensures c.if-not-is_carried.false) in
+    let is_frame : IsFrame (frame_of c.in-Some.item.now).head (length c.in-Some.item.now.bytes) = carried_frame c.in-Some.item.now c.in-Some.ensures.carried in
     went_posts c.args.endpoint.now c.sent.new.self c.args.port.now c.post.new.self c.args.dest c.in-Some.item.now c.requires.tied c.requires.below posted is_frame c.in-Some.ensures.some c.in_ok-sent.ensures

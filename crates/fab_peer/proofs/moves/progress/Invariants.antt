@@ -1,3 +1,4 @@
+use Rattle.std.proofs.Common.{◌≡◌, false}
 use Rattle.fab_peer.specs.Moves.{IsTied, Went}
 use Rattle.fab_peer.proofs.moves.progress.Given as goal
 
@@ -5,4 +6,8 @@ abbrev pub invariant-loop-turn : goal.invariant-loop-turn
 invariant-loop-turn l = record {
   tied : IsTied l.endpoint.state l.port;
   went : Went l.fn.endpoint l.fn.port l.endpoint l.port;
+  turns : l.moved ≡ false → l._turn ≡ 0;
+  same : l.moved ≡ false → l.endpoint ≡ l.fn.endpoint;
+  port : l.moved ≡ false → l.port ≡ l.fn.port;
+  left : l.moved ≡ false → l.left ≡ l.budget;
 }

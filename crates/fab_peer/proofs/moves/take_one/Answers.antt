@@ -1,7 +1,10 @@
+use Rattle.std.proofs.Common.{length, refl, ◌∙◌, ap}
+use Rattle.fab_wire.specs.Frames.{lent_frame}
 use Rattle.fab_peer.proofs.Going.{Looked, looked_by, looked_ported, tied_looked, went_none}
 use Rattle.fab_peer.proofs.Taking.{TookFrame, took_frame, went_takes, tied_takes}
-use Rattle.fab_wire.specs.Frames.{lent_frame}
 use Rattle.fab_peer.proofs.moves.take_one.Goals as goal
+
+-- no frame came that is not taken
 
 pub returns-in_default-clause-tied : goal.returns-in_default-clause-tied
 returns-in_default-clause-tied c =
@@ -15,31 +18,32 @@ returns-in_default-clause-went c =
     let looked : Looked c.args.port.now c.front.follows.lender-at-none c.args.source = looked_by _ _ c.args.source _ after.0 after.1 after.2 after.3 after.4 after.5 in
     went_none c.args.endpoint.now _ _ (looked_ported _ _ c.args.source looked)
 
-pub returns-then-not-is_carried-clause-tied : goal.returns-then-not-is_carried-clause-tied
-returns-then-not-is_carried-clause-tied c =
-    let after = c.front.follows.holds-at-none in
-    let looked : Looked c.args.port.now c.front.follows.lender-at-none c.args.source = looked_by _ _ c.args.source _ after.0 after.1 after.2 after.3 after.4 after.5 in
-    tied_looked c.args.endpoint.now.state _ _ c.args.source looked c.requires.tied
+pub returns-in_default-clause-still : goal.returns-in_default-clause-still
+returns-in_default-clause-still c e = (refl, λ room. c.requires.tied.tails c.args.source ∙ ap length c.in_default.ensures.all_taken)
 
-pub returns-then-not-is_carried-clause-went : goal.returns-then-not-is_carried-clause-went
-returns-then-not-is_carried-clause-went c =
-    let after = c.front.follows.holds-at-none in
-    let looked : Looked c.args.port.now c.front.follows.lender-at-none c.args.source = looked_by _ _ c.args.source _ after.0 after.1 after.2 after.3 after.4 after.5 in
-    went_none c.args.endpoint.now _ _ (looked_ported _ _ c.args.source looked)
+-- the completion has no room
 
 pub returns-then-not-branch-clause-tied : goal.returns-then-not-branch-clause-tied
 returns-then-not-branch-clause-tied c =
     let after = c.front.follows.holds-at-none in
     let looked : Looked c.args.port.now c.front.follows.lender-at-none c.args.source = looked_by _ _ c.args.source _ after.0 after.1 after.2 after.3 after.4 after.5 in
     let same = rw c.if-not-branch.true at c.in_ok-arrive.ensures in
-    rw same (tied_looked c.args.endpoint.now.state _ _ c.args.source looked c.requires.tied)
+    rw same.0 (tied_looked c.args.endpoint.now.state _ _ c.args.source looked c.requires.tied)
 
 pub returns-then-not-branch-clause-went : goal.returns-then-not-branch-clause-went
 returns-then-not-branch-clause-went c =
     let after = c.front.follows.holds-at-none in
     let looked : Looked c.args.port.now c.front.follows.lender-at-none c.args.source = looked_by _ _ c.args.source _ after.0 after.1 after.2 after.3 after.4 after.5 in
     let same = rw c.if-not-branch.true at c.in_ok-arrive.ensures in
-    rw same (went_none c.args.endpoint.now _ _ (looked_ported _ _ c.args.source looked))
+    rw same.0 (went_none c.args.endpoint.now _ _ (looked_ported _ _ c.args.source looked))
+
+pub returns-then-not-branch-clause-still : goal.returns-then-not-branch-clause-still
+returns-then-not-branch-clause-still c e = let same = rw c.if-not-branch.true at c.in_ok-arrive.ensures in (same.0, λ room. absurd (cc (room, same.1)))
+
+-- the frame is taken
+
+pub arrive-requires-clause-carried : goal.arrive-requires-clause-carried
+arrive-requires-clause-carried c = (c.requires.tied.came c.args.source _ _ c.in-Some.ensures.next).carried
 
 pub returns-clause-tied : goal.returns-clause-tied
 returns-clause-tied c =
@@ -51,7 +55,7 @@ returns-clause-tied c =
     took_frame _ _ _ c.args.source c.in-Some.frame looked lent then.taken then.others then.outgoing then.number then.peers then.home in
     let arrives = rw c.if-not-branch.false at c.in_ok-arrive.ensures in
     tied_takes c.args.endpoint.now c.arrive.new.self c.args.port.now c.advance.new.self c.args.source (lent_frame c.in-Some.frame) c.requires.tied c.requires.below took
-    (c.is_carried.ensures c.if-not-is_carried.false) arrives
+    (c.requires.tied.came c.args.source _ _ c.in-Some.ensures.next) arrives
 
 pub returns-clause-went : goal.returns-clause-went
 returns-clause-went c =
@@ -63,4 +67,4 @@ returns-clause-went c =
     took_frame _ _ _ c.args.source c.in-Some.frame looked lent then.taken then.others then.outgoing then.number then.peers then.home in
     let arrives = rw c.if-not-branch.false at c.in_ok-arrive.ensures in
     went_takes c.args.endpoint.now c.arrive.new.self c.args.port.now c.advance.new.self c.args.source (lent_frame c.in-Some.frame) c.requires.tied c.requires.below took
-    (c.is_carried.ensures c.if-not-is_carried.false) arrives
+    (c.requires.tied.came c.args.source _ _ c.in-Some.ensures.next) arrives

@@ -4,11 +4,14 @@ use Rattle.fab_peer.specs.Endpoints.{has_room}
 use Rattle.fab_peer.proofs.Ending.{kept_all, cancels}
 use Rattle.fab_peer.proofs.endpoint.Endpoint.cancel_first.Goals as goal
 
-pub returns-in_default : goal.returns-in_default
-returns-in_default c = rw (← c.self.view_is, kept_all c.self.inside.rx c.take_first.new.self (sym c.take_first.ensures.found ∙ c.in_default.is) c.take_first.ensures.rest) refl
+pub returns-in_default-clause-cancels : goal.returns-in_default-clause-cancels
+returns-in_default-clause-cancels c = (
+  rw (← c.self.view_is, kept_all c.self.inside.rx c.take_first.new.self (sym c.take_first.ensures.found ∙ c.in_default.is) c.take_first.ensures.rest) refl,
+  λ room. rw (← c.self.view_is) c.in_default.ensures.none,
+)
 
-pub returns : goal.returns
-returns c =
+pub returns-clause-cancels : goal.returns-clause-cancels
+returns-clause-cancels c =
     let e = c.args.self.now in
     let found : cancellable (λ r. true) e.state.rx ≡ Some c.in-Some.receive = rw (← c.self.view_is) (sym c.take_first.ensures.found ∙ c.in-Some.is) in
     let room : has_room e.state.cq ≡ true = rw (← c.self.view_is) (sym c.has_room-room.ensures.room ∙ c.if-not-room.false) in

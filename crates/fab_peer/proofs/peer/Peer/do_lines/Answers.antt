@@ -1,8 +1,25 @@
+use Rattle.std.proofs.Common.{◌≡◌, false, Ok, ap, ◌∙◌, arith, subst}
+use Rattle.fab_model.specs.Peers.{Actor}
+use Rattle.fab_peer.specs.Turns.{IsHeld}
 use Rattle.fab_peer.proofs.Doing.{turned_then, turned_does}
 use Rattle.fab_peer.proofs.peer.Peer.do_lines.Goals as goal
 
 pub returns-then-not-branch-clause-turned : goal.returns-then-not-branch-clause-turned
 returns-then-not-branch-clause-turned c = turned_then _ _ _ _ _ _ c.loop-line.invariant.turned c.in_ok-do_line.ensures.turned
+
+-- the first line can't be done
+pub returns-then-not-branch-clause-still : goal.returns-then-not-branch-clause-still
+returns-then-not-branch-clause-still c none =
+    let still : c.loop-line.done ≡ false = cc none in
+    let here = c.in_ok-do_line.ensures.still (ap Ok c.if-not-branch.true) in
+    let before = c.loop-line.invariant.same still in
+    record { same = here.same ∙ before; held = subst (λ (a : Actor). IsHeld a) before here.held }
+
+pub returns-after-loop-line-clause-still : goal.returns-after-loop-line-clause-still
+returns-after-loop-line-clause-still c none =
+    let still : c.loop-line.done ≡ false = cc none in
+    let count = c.loop-line.invariant.count still in
+    absurd (omega (arith, count, c.loop-line-test.false))
 
 pub loop-line-preserved : goal.loop-line-preserved
 loop-line-preserved c =
@@ -11,4 +28,6 @@ loop-line-preserved c =
     record {
       tied = does.tied c.do_line.new.port c.in_ok-do_line.ensures.tied;
       turned = turned_then _ _ _ _ _ _ first (turned_does _ _ c.do_line.new.port does);
+      count = λ none. absurd (cc none);
+      same = λ none. absurd (cc none);
     }

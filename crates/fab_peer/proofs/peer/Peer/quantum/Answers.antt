@@ -1,17 +1,36 @@
-use Rattle.std.proofs.Common.{refl}
+use Rattle.std.proofs.Common.{refl, sym, ap, Ok, ◌∙◌, arith}
 use Rattle.fab_peer.proofs.Doing.{turned_then, turned_does, turned_went}
+use Rattle.fab_peer.proofs.Standing.{same_as_read, still_by}
 use Rattle.fab_peer.proofs.peer.Peer.quantum.Goals as goal
 
 pub do_lines-requires : goal.do_lines-requires
-do_lines-requires c = c.in_ok-read_all.ensures.does.tied c.args.port.now c.requires
+do_lines-requires c = c.in_ok-read.ensures.does.tied c.args.port.now c.requires
 
-pub returns-clause-tied : goal.returns-clause-tied
-returns-clause-tied c = c.in_ok-read_all-2.ensures.does.tied c.progress.new.port c.in_ok-progress.ensures.tied
-
-pub returns-clause-turned : goal.returns-clause-turned
-returns-clause-turned c =
-    let read = turned_does _ _ c.args.port.now c.in_ok-read_all.ensures.does in
-    let lines = c.in_ok-do_lines.ensures.turned in
-    let went = turned_went c.do_lines.new.self (record c.do_lines.new.self { endpoint = c.progress.new.endpoint }) c.do_lines.new.port c.progress.new.port c.in_ok-progress.ensures.went refl refl refl in
-    let again = turned_does _ _ c.progress.new.port c.in_ok-read_all-2.ensures.does in
+pub returns-then-again-clause-turned : goal.returns-then-again-clause-turned
+returns-then-again-clause-turned c =
+    let read = turned_does _ _ c.args.port.now c.in_ok-read.ensures.does in
+    let lines = c.in_ok-done.ensures.turned in
+    let went = turned_went c.do_lines.new.self (record c.do_lines.new.self { endpoint = c.progress.new.endpoint }) c.do_lines.new.port c.progress.new.port c.in_ok-moved.ensures.went refl refl refl in
+    let again = turned_does _ _ c.progress.new.port c.in_ok-again.ensures.does in
     turned_then _ _ _ _ _ _ read (turned_then _ _ _ _ _ _ lines (turned_then _ _ _ _ _ _ went again))
+
+pub returns-else-again-clause-turned : goal.returns-else-again-clause-turned
+returns-else-again-clause-turned c =
+    let read = turned_does _ _ c.args.port.now c.in_ok-read.ensures.does in
+    let lines = c.in_ok-done.ensures.turned in
+    let went = turned_went c.do_lines.new.self (record c.do_lines.new.self { endpoint = c.progress.new.endpoint }) c.do_lines.new.port c.progress.new.port c.in_ok-moved.ensures.went refl refl refl in
+    let again = turned_does _ _ c.progress.new.port c.in_ok-again.ensures.does in
+    turned_then _ _ _ _ _ _ read (turned_then _ _ _ _ _ _ lines (turned_then _ _ _ _ _ _ went again))
+
+pub returns-else-again-clause-same : goal.returns-else-again-clause-same
+returns-else-again-clause-same c e =
+    let none = c.if-again.false in
+    same_as_read c.read_all.new.self c.do_lines.new.self c.read_all-2.new.self c.progress.new.endpoint c.do_lines.new.port c.progress.new.port c.in_ok-read.ensures.read (c.in_ok-done.ensures.still (ap Ok none.1))
+    (c.in_ok-moved.ensures.still (ap Ok none.2) (omega arith)) c.in_ok-moved.ensures.went.ported.home (c.in_ok-again.ensures.still (ap Ok none.3))
+    ∙ c.in_ok-read.ensures.still (ap Ok none.0)
+
+pub returns-else-again-clause-still : goal.returns-else-again-clause-still
+returns-else-again-clause-still c e some =
+    let none = c.if-again.false in
+    still_by c.read_all.new.self c.do_lines.new.self c.read_all-2.new.self c.progress.new.endpoint c.do_lines.new.port c.progress.new.port c.in_ok-read.ensures.read (c.in_ok-done.ensures.still (ap Ok none.1))
+    (c.in_ok-moved.ensures.still (ap Ok none.2) (omega arith)) c.in_ok-moved.ensures.went.ported.home (c.in_ok-again.ensures.still (ap Ok none.3)) (sym c.draws-draws.ensures ∙ cc e) some
