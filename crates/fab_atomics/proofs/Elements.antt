@@ -11,7 +11,7 @@ use Rattle.fab_base.specs.declared.items.Form.{Form}
 use Rattle.fab_base.specs.declared.items.Num.{Num}
 use Rattle.fab_base.specs.Elements.{element_size}
 use Rattle.fab_model.specs.Target.{element, elements, number_of, bytes_of}
-use Rattle.fab_atomics.specs.Operands.{atom, element_at}
+use Rattle.fab_atomics.specs.Operands.{atom, number_at, element_at}
 
 length-bytes_of : (k n : ℕ) → length (bytes_of k n) ≡ k
 length-bytes_of zero n = refl
@@ -24,14 +24,10 @@ take-drop-front p size before after other within =
     ap (take size) (drop-append-le p before after (omega arith)) ∙ take-append-le size (drop p before) after room
     ∙ sym (ap (take size) (drop-append-le p before other (omega arith)) ∙ take-append-le size (drop p before) other room)
 
--- the first element of these bytes, done
-abbrev pub first_done : Atom → List ℕ → List ℕ → List ℕ → List ℕ
-first_done a old operand compares =
-    let size = element_size a.num in
-    bytes_of size (element a.op a.num (number_of (take size old)) (number_of (take size operand)) (number_of (take size compares)))
-
+-- the first element of these bytes is done, and then the others
 elements-some : (left : ℕ) (a : Atom) (old operand compares : List ℕ) → 0 < length old
-    → elements (suc left) a old operand compares ≡ first_done a old operand compares ++ elements left a (drop (element_size a.num) old) (drop (element_size a.num) operand) (drop (element_size a.num) compares)
+    → elements (suc left) a old operand compares ≡ bytes_of (element_size a.num) (element a.op a.num (number_at a.num old 0) (number_at a.num operand 0) (number_at a.num compares 0))
+    ++ elements left a (drop (element_size a.num) old) (drop (element_size a.num) operand) (drop (element_size a.num) compares)
 unfolding elements
 elements-some left a [] operand compares some = absurd (omega arith)
 elements-some left a (t ∷ ts) operand compares some = refl
@@ -49,31 +45,31 @@ pub record Done (op : AtomicOp) (num : Num) (old operand compares : List ℕ) (i
   pub each : (j : ℕ) → j < i → element_at num target j ≡ element op num (element_at num old j) (element_at num operand j) (element_at num compares j)
 
 module _ (op : AtomicOp) (num : Num) (old operand compares : List ℕ) where
+  -- what the element at this offset becomes, as the range stands
+  abbrev pub becomes : List ℕ → ℕ → ℕ
+  becomes target at = element op num (number_at num target at) (number_at num operand at) (number_at num compares at)
+
   -- one more
   module _ (i at : ℕ) (target new : List ℕ) (at_is : at ≡ i * element_size num) (size : 0 < element_size num) (within : at + element_size num ≤ length old) (len : length target ≡ length old)
-      (changed : new ≡ take at target ++ bytes_of (element_size num) (element op num (number_of (take (element_size num) (drop at target)))
-      (number_of (take (element_size num) (drop at operand))) (number_of (take (element_size num) (drop at compares)))) ++ drop (at + element_size num) target)
-      (value : number_of (take (element_size num) (drop at new)) ≡ element op num (number_of (take (element_size num) (drop at target)))
-      (number_of (take (element_size num) (drop at operand))) (number_of (take (element_size num) (drop at compares)))) where
+      (changed : new ≡ take at target ++ bytes_of (element_size num) (becomes target at) ++ drop (at + element_size num) target)
+      (value : number_at num new at ≡ becomes target at) where
     -- what is done of the new range
-    abbrev front : List ℕ → List ℕ
-    front from = take at target ++ bytes_of (element_size num) (element op num (number_of (take (element_size num) from)) (number_of (take (element_size num) (drop at operand))) (number_of (take (element_size num) (drop at compares))))
+    abbrev front : List ℕ
+    front = take at target ++ bytes_of (element_size num) (becomes target at)
 
-    length-front : (from : List ℕ) → length (front from) ≡ at + element_size num
-    length-front from = omega (
+    length-front : length front ≡ at + element_size num
+    length-front = omega (
       arith,
-      length-append (take at target) (bytes_of (element_size num) (element op num (number_of (take (element_size num) from)) (number_of (take (element_size num) (drop at operand))) (number_of (take (element_size num) (drop at compares))))),
+      length-append (take at target) (bytes_of (element_size num) (becomes target at)),
       length-take-le at target (omega arith),
-      length-bytes_of (element_size num) (element op num (number_of (take (element_size num) from)) (number_of (take (element_size num) (drop at operand))) (number_of (take (element_size num) (drop at compares)))),
+      length-bytes_of (element_size num) (becomes target at),
     )
 
     new_rest : drop (at + element_size num) new ≡ drop (at + element_size num) target
-    new_rest = ap (drop (at + element_size num)) changed ∙ ap (λ k. drop k (front (drop at target) ++ drop (at + element_size num) target)) (sym (length-front (drop at target)))
-        ∙ drop-append_seam (front (drop at target)) (drop (at + element_size num) target)
+    new_rest = ap (drop (at + element_size num)) changed ∙ ap (λ k. drop k (front ++ drop (at + element_size num) target)) (sym length-front) ∙ drop-append_seam front (drop (at + element_size num) target)
 
-    new_front : take (at + element_size num) new ≡ front (drop at target)
-    new_front = ap (take (at + element_size num)) changed ∙ ap (λ k. take k (front (drop at target) ++ drop (at + element_size num) target)) (sym (length-front (drop at target)))
-        ∙ take-append_seam (front (drop at target)) (drop (at + element_size num) target)
+    new_front : take (at + element_size num) new ≡ front
+    new_front = ap (take (at + element_size num)) changed ∙ ap (λ k. take k (front ++ drop (at + element_size num) target)) (sym length-front) ∙ take-append_seam front (drop (at + element_size num) target)
 
     next : (i + 1) * element_size num ≡ at + element_size num
     next = omega (arith, add-mul i 1 (element_size num), at_is)
@@ -84,8 +80,9 @@ module _ (op : AtomicOp) (num : Num) (old operand compares : List ℕ) where
     same_rest : Done op num old operand compares i target → drop at target ≡ drop at old
     same_rest d = rw (sym at_is) at d.rest
 
+    -- the element is the first of those left over
     step : (form : Form) → elements (length old - i) (atom op num form) (drop at old) (drop at operand) (drop at compares)
-        ≡ first_done (atom op num form) (drop at old) (drop at operand) (drop at compares)
+        ≡ bytes_of (element_size num) (becomes old at)
         ++ elements (length old - (i + 1)) (atom op num form) (drop (at + element_size num) old) (drop (at + element_size num) operand) (drop (at + element_size num) compares)
     step form =
         let one : length old - i ≡ suc (length old - (i + 1)) = omega (arith, before_end) in
@@ -99,24 +96,28 @@ module _ (op : AtomicOp) (num : Num) (old operand compares : List ℕ) where
     kept j before =
         let up = mul-le-mul_right {m = j + 1} {n = i} (element_size num) (omega arith) in
         let room : j * element_size num + element_size num ≤ length (take at target) = omega (arith, up, add-mul j 1 (element_size num), at_is, length-take-le at target (omega arith)) in
-        let tail = bytes_of (element_size num) (element op num (number_of (take (element_size num) (drop at target))) (number_of (take (element_size num) (drop at operand))) (number_of (take (element_size num) (drop at compares)))) ++ drop (at + element_size num) target in
-        ap (λ xs. number_of (take (element_size num) (drop (j * element_size num) xs))) (changed ∙ append_assoc (take at target) _ _)
+        let tail = bytes_of (element_size num) (becomes target at) ++ drop (at + element_size num) target in
+        ap (λ xs. element_at num xs j) (changed ∙ append_assoc (take at target) _ _)
         ∙ ap number_of (take-drop-front (j * element_size num) (element_size num) (take at target) tail (drop at target) room)
-        ∙ ap (λ xs. number_of (take (element_size num) (drop (j * element_size num) xs))) (take-append-drop at target)
+        ∙ ap (λ xs. element_at num xs j) (take-append-drop at target)
 
-    at_this : Done op num old operand compares i target → (j : ℕ) → j ≡ i → element_at num new j ≡ element op num (element_at num old j) (element_at num operand j) (element_at num compares j)
+    -- in an element that is not done yet the range stands as it was
+    becomes_old : Done op num old operand compares i target → becomes target at ≡ becomes old at
+    becomes_old d = ap (λ xs. element op num (number_of (take (element_size num) xs)) (number_at num operand at) (number_at num compares at)) (same_rest d)
+
+    at_this : Done op num old operand compares i target → (j : ℕ) → j ≡ i → element_at num new j ≡ becomes old (j * element_size num)
     at_this d j e =
         let place : j * element_size num ≡ at = rw e (sym at_is) in
-        rw place (value ∙ ap (λ xs. element op num (number_of (take (element_size num) xs)) (number_of (take (element_size num) (drop at operand))) (number_of (take (element_size num) (drop at compares)))) (same_rest d))
+        rw place (value ∙ becomes_old d)
 
     pub one_more : Done op num old operand compares i target → Done op num old operand compares (i + 1) new
     one_more d = record {
       rest = rw next (new_rest ∙ sym (drop-drop (element_size num) at target) ∙ ap (drop (element_size num)) (same_rest d) ∙ drop-drop (element_size num) at old);
       done = λ form. rw next (
           let so_far = rw (sym at_is) at (d.done form) in
-          let moved = ap (λ from. front from) (sym (same_rest d)) ∙ sym new_front in
+          let moved = ap (λ n. take at target ++ bytes_of (element_size num) n) (sym (becomes_old d)) ∙ sym new_front in
           so_far ∙ ap (λ xs. take at target ++ xs) (step form)
-          ∙ sym (append_assoc (take at target) (first_done (atom op num form) (drop at old) (drop at operand) (drop at compares)) _)
+          ∙ sym (append_assoc (take at target) (bytes_of (element_size num) (becomes old at)) _)
           ∙ ap (λ xs. xs ++ elements (length old - (i + 1)) (atom op num form) (drop (at + element_size num) old) (drop (at + element_size num) operand) (drop (at + element_size num) compares)) moved);
       each = λ j below. elim (cases_lt j i) [ inl before ↦ kept j before ∙ d.each j before | inr behind ↦ at_this d j (omega arith) ];
     }

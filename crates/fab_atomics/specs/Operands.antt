@@ -2,6 +2,7 @@
 --     operand_len op n      how many bytes the operand has for a range of n bytes: none for FI_ATOMIC_READ
 --     compare_len op n      and how many the compare has: none for an operation that does not compare
 --     atom op num form      the operation on elements of this type, in this form
+--     number_at num bytes at      the element that stands at this offset, as a number
 --     element_at num bytes i      element i of the bytes, as a number
 use Rattle.std.specs.Prelude.{ℕ, ◌*◌, List, take, drop, if◌then◌else◌}
 use Rattle.fab_base.specs.declared.items.Atom.{Atom}
@@ -23,5 +24,8 @@ compare_len op n = if is_of_form op Compare then n else 0
 abbrev pub atom : AtomicOp → Num → Form → Atom
 atom op num form = record { op = op; num = num; form = form }
 
+abbrev pub number_at : Num → List ℕ → ℕ → ℕ
+number_at num bytes at = number_of (take (element_size num) (drop at bytes))
+
 abbrev pub element_at : Num → List ℕ → ℕ → ℕ
-element_at num bytes i = number_of (take (element_size num) (drop (i * element_size num) bytes))
+element_at num bytes i = number_at num bytes (i * element_size num)

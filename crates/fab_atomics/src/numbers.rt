@@ -1,7 +1,8 @@
 //! Numbers of up to 64 bits as the elements of an atomic.
-ghost use Rattle.std.specs.Prelude.{◌≡◌, ◌+◌, ◌%◌, ◌^◌, ◌<◌, ◌≤◌, ◌⊎◌, [], length, take, drop};
+ghost use Rattle.std.specs.Prelude.{◌≡◌, ◌+◌, ◌%◌, ◌^◌, ◌<◌, ◌≤◌, ◌⊎◌, [], length};
 ghost use Rattle.fab_base.specs.Elements.{element_size};
-ghost use Rattle.fab_model.specs.Target.{is_signed, span, rank, below, element, number_of};
+ghost use Rattle.fab_model.specs.Target.{is_signed, span, rank, below, element};
+ghost use Rattle.fab_atomics.specs.Operands.{number_at};
 
 use byteorder::{ByteOrder, LittleEndian};
 use fab_base::{AtomicOp, Num};
@@ -101,7 +102,7 @@ pub(crate) fn element(op: AtomicOp, num: Num, t: u64, b: u64, c: u64) -> u64
 /// The element that stands at this place, or 0 where there are no bytes at all.
 pub(crate) fn number_at(bytes: &[u8], at: usize, num: Num) -> u64
     requires { (bytes.now ≡ []) ⊎ (at + element_size num ≤ length bytes.now) }
-    ensures value { result ≡ number_of (take (element_size num) (drop at bytes.now)) }
+    ensures value { result ≡ number_at num bytes.now at }
     ensures fits { result < span num }
 {
     if bytes.is_empty() {

@@ -2,8 +2,8 @@
 ghost use Rattle.std.specs.Prelude.{◌≡◌, ℕ, ◌+◌, ◌*◌, ◌%◌, ◌<◌, ◌≤◌, ◌++◌, length, take, drop};
 ghost use Rattle.fab_base.specs.declared.items.Form.{Form};
 ghost use Rattle.fab_base.specs.Elements.{element_size};
-ghost use Rattle.fab_model.specs.Target.{span, element, elements, number_of, bytes_of};
-ghost use Rattle.fab_atomics.specs.Operands.{operand_len, compare_len, atom, element_at};
+ghost use Rattle.fab_model.specs.Target.{span, element, elements, bytes_of};
+ghost use Rattle.fab_atomics.specs.Operands.{operand_len, compare_len, atom, number_at, element_at};
 
 use crate::numbers::{element, element_size, number_at};
 use byteorder::{ByteOrder, LittleEndian};
@@ -15,10 +15,9 @@ fn change(op: AtomicOp, num: Num, target: &mut [u8], at: usize, b: u64, c: u64)
     requires operand { b < span num }
     requires compare { c < span num }
     ensures bytes { target.new ≡ take at target.old
-        ++ bytes_of (element_size num) (element op num (number_of (take (element_size num) (drop at target.old))) b c)
+        ++ bytes_of (element_size num) (element op num (number_at num target.old at) b c)
         ++ drop (at + element_size num) target.old }
-    ensures value { number_of (take (element_size num) (drop at target.new))
-        ≡ element op num (number_of (take (element_size num) (drop at target.old))) b c }
+    ensures value { number_at num target.new at ≡ element op num (number_at num target.old at) b c }
 {
     let old = number_at(target, at, num);
     let new = element(op, num, old, b, c);
