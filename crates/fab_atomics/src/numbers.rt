@@ -1,5 +1,5 @@
 //! Numbers of up to 64 bits as the elements of an atomic.
-ghost use Rattle.std.specs.Prelude.{◌≡◌, ◌+◌, ◌%◌, ◌^◌, ◌<◌, ◌≤◌, ◌⊎◌, [], length};
+ghost use Rattle.std.specs.Prelude.{◌≡◌, ◌+◌, ◌%◌, ◌<◌, ◌≤◌, ◌⊎◌, [], length};
 ghost use Rattle.fab_base.specs.Elements.{element_size};
 ghost use Rattle.fab_model.specs.Target.{is_signed, span, rank, below, element};
 ghost use Rattle.fab_atomics.specs.Operands.{number_at};

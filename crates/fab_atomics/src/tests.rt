@@ -6,8 +6,7 @@
 //! signed), `b` fastest, taken modulo 2 to the number of bits. A letter names each element: `0`, `1`,
 //! `2`, `G` the greatest, `g` one less, `L` the least, `l` one more, `M` -1 and `N` -2. The script
 //! checked that the four widths give the same letters.
-ghost use Rattle.std.specs.Prelude.{◌≡◌, ◌^◌, ◌<◌, ◌≤◌};
-ghost use Rattle.fab_base.specs.Elements.{element_size};
+ghost use Rattle.std.specs.Prelude.{◌≡◌};
 ghost use Rattle.fab_atomics.specs.Operands.{operand_len, compare_len};
 
 use crate::{apply, element_size};

@@ -1,5 +1,5 @@
 //! Regions under their keys (fi_mr(3)).
-ghost use Rattle.std.specs.Prelude.{◌≡◌, ◌++◌, ◌∷◌, ◌+◌, [], length, take, drop, IfErr, OnOk, OnErr, IfSome, MatchOption, None, Some, nat_lt, if◌then◌else◌};
+ghost use Rattle.std.specs.Prelude.{◌≡◌, ◌++◌, ◌∷◌, ◌+◌, [], length, take, drop, IfErr, OnOk, OnErr, IfSome, MatchOption, nat_lt, if◌then◌else◌};
 ghost use Rattle.std.specs.Option.{option_map, ok_or};
 ghost use Rattle.fab_model.specs.Matching.{change_first, remove_first};
 ghost use Rattle.fab_model.specs.Target.{is_keyed, put_range};
