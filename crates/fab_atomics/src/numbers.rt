@@ -1,7 +1,7 @@
 //! Numbers of up to 64 bits as the elements of an atomic.
-ghost use Rattle.std.specs.Prelude.{◌≡◌, ◌+◌, ◌%◌, ◌<◌, ◌≤◌, ◌⊎◌, [], length};
+ghost use Rattle.std.specs.Prelude.{◌≡◌, ◌+◌, ◌%◌, ◌<◌, ◌≤◌, ◌⊎◌, ◌++◌, [], length, take, drop};
 ghost use Rattle.fab_base.specs.Elements.{element_size};
-ghost use Rattle.fab_model.specs.Target.{is_signed, span, rank, below, element};
+ghost use Rattle.fab_model.specs.Target.{is_signed, span, rank, below, element, bytes_of};
 ghost use Rattle.fab_atomics.specs.Operands.{number_at};
 
 use byteorder::{ByteOrder, LittleEndian};
@@ -108,5 +108,25 @@ pub(crate) fn number_at(bytes: &[u8], at: usize, num: Num) -> u64
     if bytes.is_empty() {
         return 0;
     }
-    LittleEndian::read_uint(&bytes[at..], element_size(num))
+    match num {
+        Num::I8 | Num::U8 => bytes[at] as u64,
+        Num::I16 | Num::U16 => LittleEndian::read_u16(&bytes[at..]) as u64,
+        Num::I32 | Num::U32 => LittleEndian::read_u32(&bytes[at..]) as u64,
+        Num::I64 | Num::U64 => LittleEndian::read_u64(&bytes[at..]),
+    }
+}
+
+/// Writes an element over the one that stands at this place.
+pub(crate) fn put_number(bytes: &mut [u8], at: usize, num: Num, x: u64)
+    requires within { at + element_size num ≤ length bytes.old }
+    requires fits { x < span num }
+    ensures bytes { bytes.new ≡ take at bytes.old ++ bytes_of (element_size num) x ++ drop (at + element_size num) bytes.old }
+    ensures value { number_at num bytes.new at ≡ x }
+{
+    match num {
+        Num::I8 | Num::U8 => bytes[at] = x as u8,
+        Num::I16 | Num::U16 => LittleEndian::write_u16(&mut bytes[at..], x as u16),
+        Num::I32 | Num::U32 => LittleEndian::write_u32(&mut bytes[at..], x as u32),
+        Num::I64 | Num::U64 => LittleEndian::write_u64(&mut bytes[at..], x),
+    }
 }

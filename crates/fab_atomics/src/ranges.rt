@@ -5,8 +5,7 @@ ghost use Rattle.fab_base.specs.Elements.{element_size};
 ghost use Rattle.fab_model.specs.Target.{span, element, elements, bytes_of};
 ghost use Rattle.fab_atomics.specs.Operands.{operand_len, compare_len, atom, number_at, element_at};
 
-use crate::numbers::{element, element_size, number_at};
-use byteorder::{ByteOrder, LittleEndian};
+use crate::numbers::{element, element_size, number_at, put_number};
 use fab_base::{AtomicOp, Num};
 
 /// Changes the element that stands at this place, by the operand's `b` and the compare's `c`.
@@ -21,7 +20,7 @@ fn change(op: AtomicOp, num: Num, target: &mut [u8], at: usize, b: u64, c: u64)
 {
     let old = number_at(target, at, num);
     let new = element(op, num, old, b, c);
-    LittleEndian::write_uint(&mut target[at..], new, element_size(num));
+    put_number(target, at, num, new);
 }
 
 /// Does an atomic to every element of `target` (fi_atomic(3)), and puts the old elements into
