@@ -1,0 +1,4 @@
+pub mod Tables
+pub mod Machines
+pub mod Naming
+pub mod Reporting

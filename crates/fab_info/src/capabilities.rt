@@ -1,0 +1,111 @@
+//! The capabilities that are granted (fi_getinfo(3), "Capabilities").
+ghost use Rattle.std.specs.Prelude.{◌≡◌};
+ghost use Rattle.std.specs.List.{list_any};
+ghost use Rattle.fab_base.specs.Offer.{is_offered};
+ghost use Rattle.fab_model.specs.Negotiation.{all_caps, has_any, modifier, grants, grants_of, caps_of, is_not_offered};
+
+use fab_base::{Cap, Caps};
+
+const ALL: [Cap; 16] = [
+    Cap::Msg,
+    Cap::Tagged,
+    Cap::Rma,
+    Cap::Atomic,
+    Cap::DirectedRecv,
+    Cap::Send,
+    Cap::Recv,
+    Cap::Read,
+    Cap::Write,
+    Cap::RemoteRead,
+    Cap::RemoteWrite,
+    Cap::MultiRecv,
+    Cap::Source,
+    Cap::RmaEvent,
+    Cap::Fence,
+    Cap::LocalComm,
+];
+
+/// What is modified, and by which modifiers: of messages, and of remote memory access and atomics.
+const MESSAGES: [Cap; 2] = [Cap::Msg, Cap::Tagged];
+
+const MESSAGE_MODIFIERS: [Cap; 2] = [Cap::Send, Cap::Recv];
+
+const MEMORY: [Cap; 2] = [Cap::Rma, Cap::Atomic];
+
+const MEMORY_MODIFIERS: [Cap; 4] = [Cap::Read, Cap::Write, Cap::RemoteRead, Cap::RemoteWrite];
+
+/// Whether one of these is asked for.
+fn has_any(asked: &Caps, caps: &[Cap]) -> bool
+    ensures { result ≡ has_any asked.now caps.now }
+{
+    caps.iter().any(|cap| asked.has(*cap))
+}
+
+/// Whether a modifier is granted: it is asked for, or something is that it modifies and no modifier of its kind.
+fn modifies(asked: &Caps, modified: &[Cap], modifiers: &[Cap], cap: Cap) -> bool
+    ensures { result ≡ modifier asked.now modified.now modifiers.now cap }
+{
+    asked.has(cap) || (has_any(asked, modified) && !has_any(asked, modifiers))
+}
+
+/// Whether something is asked for that is not on offer.
+pub(crate) fn is_refused(asked: &Caps) -> bool
+    ensures { result ≡ list_any (is_not_offered asked.now) all_caps }
+{
+    ALL.iter().any(|cap| asked.has(*cap) && !cap.is_offered())
+}
+
+/// All that is on offer.
+fn offer() -> Caps
+    ensures { result ≡ caps_of is_offered }
+{
+    Caps {
+        msg: Cap::Msg.is_offered(),
+        tagged: Cap::Tagged.is_offered(),
+        rma: Cap::Rma.is_offered(),
+        atomic: Cap::Atomic.is_offered(),
+        directed_recv: Cap::DirectedRecv.is_offered(),
+        send: Cap::Send.is_offered(),
+        recv: Cap::Recv.is_offered(),
+        read: Cap::Read.is_offered(),
+        write: Cap::Write.is_offered(),
+        remote_read: Cap::RemoteRead.is_offered(),
+        remote_write: Cap::RemoteWrite.is_offered(),
+        multi_recv: Cap::MultiRecv.is_offered(),
+        source: Cap::Source.is_offered(),
+        rma_event: Cap::RmaEvent.is_offered(),
+        fence: Cap::Fence.is_offered(),
+        local_comm: Cap::LocalComm.is_offered(),
+    }
+}
+
+/// What is granted to whoever asks for something: the secondary ones as they are on offer.
+fn share(asked: &Caps) -> Caps
+    ensures { result ≡ caps_of (grants_of asked.now) }
+{
+    Caps {
+        msg: asked.msg,
+        tagged: asked.tagged,
+        rma: asked.rma,
+        atomic: asked.atomic,
+        directed_recv: asked.directed_recv,
+        send: modifies(asked, &MESSAGES, &MESSAGE_MODIFIERS, Cap::Send),
+        recv: modifies(asked, &MESSAGES, &MESSAGE_MODIFIERS, Cap::Recv),
+        read: modifies(asked, &MEMORY, &MEMORY_MODIFIERS, Cap::Read),
+        write: modifies(asked, &MEMORY, &MEMORY_MODIFIERS, Cap::Write),
+        remote_read: modifies(asked, &MEMORY, &MEMORY_MODIFIERS, Cap::RemoteRead),
+        remote_write: modifies(asked, &MEMORY, &MEMORY_MODIFIERS, Cap::RemoteWrite),
+        ..offer()
+    }
+}
+
+/// What is granted to whoever asks for these.
+pub(crate) fn granted(asked: &Caps) -> Caps
+    ensures { result ≡ caps_of (grants asked.now) }
+{
+    if has_any(asked, &ALL) {
+        share(asked)
+    } else {
+        offer()
+    }
+}

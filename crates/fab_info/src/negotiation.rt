@@ -1,0 +1,108 @@
+//! Hints in, and what is granted out.
+ghost use Rattle.std.specs.Prelude.{◌≡◌, IfOk, IfErr, OnErr, IsTrue, IsFalse, Some, None, option_copied};
+ghost use Rattle.fab_base.specs.declared.faults.Fault.TheVariants.{NoData};
+ghost use Rattle.fab_base.specs.Offer.{is_offered};
+ghost use Rattle.fab_base.specs.declared.limits.Size.{Size};
+ghost use Rattle.fab_model.specs.Negotiation.{all_caps, has_any, caps_of, grant, grant_of, is_refused, granted_info, no_hints};
+ghost use Rattle.fab_info.specs.Negotiation.{asked, number, is_primary, Includes, IsOffered, SameIn, IsWithin, CannotBeHad};
+
+use crate::{capabilities, sizes};
+use fab_base::{Caps, Fault, Hints, Info, Size};
+
+fn no_hints() -> Hints
+    ensures { result ≡ no_hints }
+{
+    Hints {
+        caps: Caps::none(),
+        peers: None,
+        lane: None,
+        pool: None,
+        tx: None,
+        rx: None,
+        cq: None,
+        log: None,
+        inject: None,
+        message: None,
+    }
+}
+
+/// Whether something asked for can't be had.
+fn is_refused(hints: &Hints) -> bool
+    ensures { result ≡ is_refused hints.now }
+{
+    capabilities::is_refused(&hints.caps)
+        || sizes::is_refused(Size::Peers, hints.peers)
+        || sizes::is_refused(Size::Lane, hints.lane)
+        || sizes::is_refused(Size::Pool, hints.pool)
+        || sizes::is_refused(Size::Tx, hints.tx)
+        || sizes::is_refused(Size::Rx, hints.rx)
+        || sizes::is_refused(Size::Cq, hints.cq)
+        || sizes::is_refused(Size::Log, hints.log)
+        || sizes::is_refused(Size::Inject, hints.inject)
+        || sizes::is_refused(Size::Message, hints.message)
+}
+
+/// What these hints are granted if they are not refused.
+fn granted(hints: &Hints) -> Info
+    ensures { result ≡ granted_info hints.now }
+{
+    Info {
+        caps: capabilities::granted(&hints.caps),
+        peers: sizes::granted(Size::Peers, hints.peers),
+        lane: sizes::granted(Size::Lane, hints.lane),
+        pool: sizes::granted(Size::Pool, hints.pool),
+        tx: sizes::granted(Size::Tx, hints.tx),
+        rx: sizes::granted(Size::Rx, hints.rx),
+        cq: sizes::granted(Size::Cq, hints.cq),
+        log: sizes::granted(Size::Log, hints.log),
+        inject: Size::Inject.limits().default,
+        message: Size::Message.limits().default,
+    }
+}
+
+/// What these hints are granted.
+#[tactic(auto, unfolding(fab_model::specs::Negotiation::grant_of))]
+fn grant(hints: &Hints) -> Result<Info, Fault>
+    ensures granted { IfOk result (λ info. grant_of hints.now ≡ Some info) }
+    ensures refused { OnErr result (grant_of hints.now ≡ None) }
+    ensures no_data { IfErr result (λ fault. fault ≡ NoData) }
+
+    ensures asked { IfOk result (λ info. Includes info.caps hints.now.caps) }
+    ensures offered { IfOk result (λ info. IsOffered info.caps) }
+    ensures primary { IsTrue (has_any hints.now.caps all_caps) → IfOk result (λ info. SameIn is_primary info.caps hints.now.caps) }
+    ensures whole { IsFalse (has_any hints.now.caps all_caps) → IfOk result (λ info. info.caps ≡ caps_of is_offered) }
+    ensures limits { IfOk result (λ info. (size : Size) → IsWithin size (number info size)) }
+    ensures reason { OnErr result (CannotBeHad (Some hints.now)) }
+{
+    if is_refused(hints) {
+        return Err(Fault::NoData);
+    }
+    Ok(granted(hints))
+}
+
+/// What is granted to an application with these hints (fi_getinfo(3)). Takes no memory.
+///
+/// Whoever asks for nothing is granted all that is on offer. A wish is granted as it is, but for the bytes of an
+/// inject call and of a message, which are answered with the offer.
+#[tactic(auto, unfolding(fab_model::specs::Negotiation::grant))]
+pub fn getinfo(hints: Option<&Hints>) -> Result<Info, Fault>
+    // Ok with exactly what is granted, and NoData exactly where nothing is.
+    ensures granted { IfOk result (λ info. grant (option_copied hints.entry) ≡ Some info) }
+    ensures refused { OnErr result (grant (option_copied hints.entry) ≡ None) }
+    ensures no_data { IfErr result (λ fault. fault ≡ NoData) }
+
+    // What that means for the one who asks.
+    ensures asked { IfOk result (λ info. Includes info.caps (asked (option_copied hints.entry))) }
+    ensures offered { IfOk result (λ info. IsOffered info.caps) }
+    ensures primary { let asks = asked (option_copied hints.entry) in
+        IsTrue (has_any asks all_caps) → IfOk result (λ info. SameIn is_primary info.caps asks) }
+    ensures whole { IsFalse (has_any (asked (option_copied hints.entry)) all_caps) →
+        IfOk result (λ info. info.caps ≡ caps_of is_offered) }
+    ensures limits { IfOk result (λ info. (size : Size) → IsWithin size (number info size)) }
+    ensures reason { OnErr result (CannotBeHad (option_copied hints.entry)) }
+{
+    match hints {
+        Some(hints) => grant(hints),
+        None => grant(&no_hints()),
+    }
+}
