@@ -17,3 +17,4 @@ pub mod Joining
 pub mod Payloads
 pub mod Opening
 pub mod Ending
+pub mod Working
