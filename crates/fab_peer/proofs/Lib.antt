@@ -18,3 +18,5 @@ pub mod Payloads
 pub mod Opening
 pub mod Ending
 pub mod Working
+pub mod Sums
+pub mod Falling

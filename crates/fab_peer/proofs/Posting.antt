@@ -26,7 +26,8 @@ use Rattle.fab_peer.specs.Endpoints.{Held, IsCarried, Transmits}
 use Rattle.fab_peer.specs.Moves.{frame_of, IsFrame, IsBetween, AreFrames, IsTied, Ported, Went}
 use Rattle.fab_peer.specs.Work.{held_work, state_work, port_work, uncarried}
 use Rattle.fab_peer.proofs.Going.{tied_passes}
-use Rattle.fab_peer.proofs.Working.{sum_more, untaken_same, sent_work}
+use Rattle.fab_peer.proofs.Sums.{sum_more}
+use Rattle.fab_peer.proofs.Working.{untaken_same, sent_work}
 use Rattle.fab_peer.proofs.Halves.{at_end}
 
 -- ---- the port

@@ -20,9 +20,10 @@ use Rattle.fab_model.specs.Views.{View, Walk}
 use Rattle.fab_model.proofs.Passes.{head_passes, tail_passes}
 use Rattle.fab_peer.specs.Endpoints.{Held, Arrives}
 use Rattle.fab_peer.specs.Moves.{taken_of, IsFrame, IsBetween, AreFrames, IsTied, Ported, Went}
-use Rattle.fab_peer.specs.Work.{held_work, state_work, port_work, untaken, unsent, Writes}
+use Rattle.fab_peer.specs.Work.{held_work, port_work, untaken, unsent, Writes}
 use Rattle.fab_peer.proofs.Going.{Looked, left_same, ported_in, tied_passes}
-use Rattle.fab_peer.proofs.Working.{sum_less, uncarried_same, writes_read}
+use Rattle.fab_peer.proofs.Sums.{sum_less}
+use Rattle.fab_peer.proofs.Working.{uncarried_same, writes_read}
 
 -- ---- the port
 

@@ -1,5 +1,5 @@
--- Sums over numbers, and the work that single steps leave.
-use Rattle.std.proofs.Common.{◌≡◌, ◌≢◌, ◌<◌, ◌≤◌, ◌+◌, ◌-◌, ◌*◌, ℕ, zero, suc, Bool, true, false, [], ◌∷◌, ◌++◌, length, Option, Some, None, inl, inr, refl, sym, ap, subst, ◌∙◌, arith, length-append, length-set, get_or-set_same, get_or-set_other}
+-- The work that single steps leave.
+use Rattle.std.proofs.Common.{◌≡◌, ◌<◌, ◌≤◌, ◌+◌, ◌-◌, ℕ, Bool, true, false, [], ◌∷◌, ◌++◌, length, Option, Some, None, refl, ap, arith, length-append, length-set, get_or-set_same, get_or-set_other}
 use Rattle.std.specs.Prelude.{slice_index}
 use Rattle.std.proofs.lemmas.Option.{slice_get_within}
 use Rattle.fab_base.specs.declared.entries.Taken.{Taken}
@@ -13,45 +13,8 @@ use Rattle.fab_model.specs.Peers.{Actor, unread, reading}
 use Rattle.fab_model.specs.State.{State, Completions, Transmitting, accepted_for, raise, with_tx, writing}
 use Rattle.fab_model.specs.Sending.{accepting, transmitting, ending, end_with, success_of, do_sent}
 use Rattle.fab_peer.specs.Moves.{taken_of}
-use Rattle.fab_peer.specs.Work.{sum_below, unsent, not_read, uncarried, untaken, line_work, state_work, actor_work, port_work, Writes}
-
--- ---- sums
-
-pub sum_le : (n : ℕ) (f g : ℕ → ℕ) → ((k : ℕ) → f k ≤ g k) → sum_below n f ≤ sum_below n g
-sum_le zero f g le = omega arith
-sum_le (suc n) f g le =
-    let first = le 0 in
-    let rest = sum_le n (λ k. f (suc k)) (λ k. g (suc k)) (λ k. le (suc k)) in
-    omega (arith, first, rest)
-
-pub sum_same : (n : ℕ) (f g : ℕ → ℕ) → ((k : ℕ) → f k ≡ g k) → sum_below n f ≡ sum_below n g
-sum_same zero f g same = refl
-sum_same (suc n) f g same =
-    let first = same 0 in
-    let rest = sum_same n (λ k. f (suc k)) (λ k. g (suc k)) (λ k. same (suc k)) in
-    omega (arith, first, rest)
-
--- one number may be larger by m
-pub sum_more : (n i m : ℕ) (f g : ℕ → ℕ) → ((k : ℕ) → k ≢ i → f k ≤ g k) → f i ≤ g i + m → sum_below n f ≤ sum_below n g + m
-sum_more zero i m f g others here = omega arith
-sum_more (suc n) zero m f g others here =
-    let rest = sum_le n (λ k. f (suc k)) (λ k. g (suc k)) (λ k. others (suc k) (λ e. omega (arith, e))) in
-    omega (arith, here, rest)
-sum_more (suc n) (suc i) m f g others here =
-    let first = others 0 (λ e. omega (arith, e)) in
-    let rest = sum_more n i m (λ k. f (suc k)) (λ k. g (suc k)) (λ k other. others (suc k) (λ e. other (omega (arith, e)))) here in
-    omega (arith, first, rest)
-
--- one number is smaller by m
-pub sum_less : (n i m : ℕ) (f g : ℕ → ℕ) → i < n → ((k : ℕ) → k ≢ i → f k ≤ g k) → f i + m ≤ g i → sum_below n f + m ≤ sum_below n g
-sum_less zero i m f g below others here = absurd (omega (arith, below))
-sum_less (suc n) zero m f g below others here =
-    let rest = sum_le n (λ k. f (suc k)) (λ k. g (suc k)) (λ k. others (suc k) (λ e. omega (arith, e))) in
-    omega (arith, here, rest)
-sum_less (suc n) (suc i) m f g below others here =
-    let first = others 0 (λ e. omega (arith, e)) in
-    let rest = sum_less n i m (λ k. f (suc k)) (λ k. g (suc k)) (omega (arith, below)) (λ k other. others (suc k) (λ e. other (omega (arith, e)))) here in
-    omega (arith, first, rest)
+use Rattle.fab_peer.specs.Work.{unsent, not_read, uncarried, untaken, line_work, state_work, actor_work, Writes}
+use Rattle.fab_peer.proofs.Sums.{sum_same, sum_more, sum_less}
 
 -- ---- entries
 

@@ -59,10 +59,10 @@ returns-then-not-goes_in_one-clause-still c e =
     let next : next_line (actor_of c.args.self.now) ≡ Some c.in-Some.line.now = rw (c.deref.ensures.value, count) at there in
     stays_unbuilt c.args.self.now _ c.in-Some.line.now (TSend c.in-TSend.ctx c.in-TSend.dest c.in-TSend.tag c.in-TSend.bytes c.in-TSend.imm c.in-TSend.level c.in-TSend.completion) next c.in-TSend.is
     (λ built.
-        let send = built_send c.in-TSend.bytes c.in-TSend.level built in
-        let count = ap length c.in_ok-bytes-in-TSend.ensures in
-        let goes = c.if-not-goes_in_one.ensures.built (omega (arith, count, send.0)) send.1 in
-        cc goes)
+    let send = built_send c.in-TSend.bytes c.in-TSend.level built in
+    let count = ap length c.in_ok-bytes-in-TSend.ensures in
+    let goes = c.if-not-goes_in_one.ensures.built (omega (arith, count, send.0)) send.1 in
+    cc goes)
     refl
 
 pub tsend-requires-clause-next : goal.tsend-requires-clause-next

@@ -1,4 +1,4 @@
-use Rattle.std.proofs.Common.{◌≡◌, true, inl, inr, refl, rules, sym, ap, Ok, ◌∙◌, arith}
+use Rattle.std.proofs.Common.{◌≡◌, true, inl, inr, refl, rules, ap, Ok, ◌∙◌, arith}
 use Rattle.fab_peer.proofs.Doing.{turned_then, turned_does, turned_went}
 use Rattle.fab_peer.proofs.Standing.{same_as_read, still_by}
 use Rattle.fab_peer.proofs.peer.Peer.quantum.Goals.{then-moved, else-moved}
