@@ -1,5 +1,5 @@
 -- What the machine answers to the calls of the lines that are built.
-use Rattle.std.proofs.Common.{◌≡◌, ℕ, suc, Bool, true, false, List, [], ◌∷◌, ◌++◌, length, Option, Some, None, refl, sym, ap, ◌∙◌, arith, append-nil, add-zero}
+use Rattle.std.proofs.Common.{◌≡◌, ◌<◌, ◌+◌, ℕ, suc, Bool, true, false, List, [], ◌∷◌, ◌++◌, length, Option, Some, None, refl, sym, ap, ◌∙◌, arith, append-nil, add-zero}
 use Rattle.std.specs.Prelude.{IfSome, IsSomeAnd, All, find, nat_lt, nat_le, is_some, not, ◌&&◌}
 use Rattle.std.specs.List.{list_any}
 use Rattle.fab_base.specs.declared.items.Want.{Want}
@@ -21,7 +21,9 @@ use Rattle.fab_model.specs.Complete.{entry_of, has_space, fill, book}
 use Rattle.fab_model.specs.Sending.{Order, transmit_fault, transmit, transmit_to, accepting}
 use Rattle.fab_model.specs.Receiving.{draws, draw_due, without_first, joining_posted, post, post_fault, give}
 use Rattle.fab_model.specs.Calls.{Post, do_call, message}
-use Rattle.fab_peer.specs.Endpoints.{Held, Took, IsSingle, IsWhole, any_source, message_head}
+use Rattle.fab_peer.specs.Endpoints.{Held, Took, IsSingle, IsWhole, accepted_call, any_source, message_head, queued}
+use Rattle.fab_peer.specs.Work.{state_work, line_work}
+use Rattle.fab_peer.proofs.Working.{costs_entry, writes_one, accepting_unsent}
 
 -- ---- draws
 
@@ -163,3 +165,26 @@ takes_now e e' tag ignore buf ctx may room (a, bytes, found, whole, silent, is) 
   takes_first e.state tag ignore buf ctx may a bytes found whole silent (room _ _) ∙ ap (λ (x : Held). (Done, x.state)) (sym is),
   ap (λ (x : Held). x.log) is,
 )
+
+-- it writes an entry
+pub took_costs : (r : Receive) (e e' : Held) → Took r e e' → state_work e'.state < state_work e.state + line_work
+took_costs r e e' (a, bytes, found, whole, silent, is) =
+    costs_entry e.state e'.state (ap (λ (x : Held). x.state.tx) is) (writes_one e.state.cq e'.state.cq (Some r.call) (entry_of r 0 a.source a.head bytes) (ap (λ (x : Held). x.state.cq) is))
+
+-- a send that is accepted is an item more
+pub queued_costs : (to : ℕ) (head : ItemHead) (bytes : List ℕ) (ctx : ℕ) (level : Level) (completion : Bool) (e e' : Held) → to < length e.state.tx.accepted
+    → e' ≡ accepted_call (queued to head bytes ctx level completion e) → state_work e'.state < state_work e.state + line_work
+queued_costs to head bytes ctx level completion e e' below is =
+    let s = e.state in
+    let more = accepting_unsent s.tx to (record { head = head; bytes = bytes }) (record {
+      call = s.calls;
+      dest = to;
+      place = length (accepted_for s.tx to);
+      head = head;
+      level = level;
+      ctx = Some ctx;
+      buf = Some bytes;
+      silent = s.selective && not completion;
+    }) below in
+    let state = ap (λ (x : Held). state_work x.state) is in
+    omega (arith, more, state)

@@ -1,7 +1,9 @@
 -- Steps of a peer, one after another.
-use Rattle.std.proofs.Common.{◌≡◌, ◌≢◌, ℕ, Bool, true, false, [], ◌∷◌, ◌++◌, Option, Some, None, Result, Ok, Err, refl, sym, ap, subst, ◌∙◌, append-nil, append_assoc, option_map}
-use Rattle.std.specs.Prelude.{find, replicate, IfOk, OnOk}
-use Rattle.fab_base.specs.Built.{is_built}
+use Rattle.std.proofs.Common.{◌≡◌, ◌≢◌, ◌<◌, ◌≤◌, ◌+◌, ℕ, Bool, true, false, [], ◌∷◌, ◌++◌, Option, Some, None, Result, Ok, Err, refl, sym, ap, subst, ◌∙◌, arith, length, append-nil, append_assoc, length-append, option_map}
+use Rattle.std.specs.Prelude.{find, replicate, is_some, is_none, nat_le, ◌&&◌, IfOk, OnOk}
+use Rattle.std.proofs.lemmas.Option.{slice_get_within}
+use Rattle.std.proofs.lemmas.Bool.Decides.{nat_tests}
+use Rattle.fab_base.specs.Built.{is_built, is_short_text, is_at_transmit}
 use Rattle.fab_base.specs.declared.entries.Kept.{Kept}
 use Rattle.fab_base.specs.declared.entries.Taken.{Taken}
 use Rattle.fab_base.specs.declared.faults.Fault.{Fault}
@@ -16,6 +18,7 @@ use Rattle.fab_base.specs.declared.peers.LineResult.TheVariants.{Done, Refused, 
 use Rattle.fab_base.specs.declared.peers.Step.{Step}
 use Rattle.fab_base.specs.declared.peers.Step.TheVariants.{Do, Read}
 use Rattle.fab_base.specs.declared.script.BytesWord.{BytesWord}
+use Rattle.fab_base.specs.declared.script.BytesWord.TheVariants.{Text, Hex, Zero, File}
 use Rattle.fab_base.specs.declared.script.Line.{Line}
 use Rattle.fab_base.specs.declared.script.LineOp.{LineOp}
 use Rattle.fab_base.specs.declared.script.LineOp.TheVariants.{Wait, TRecv, TSend}
@@ -29,8 +32,10 @@ use Rattle.fab_model.proofs.Passes.{Passes, same, call_passes}
 use Rattle.fab_peer.specs.Endpoints.{Held, Answers, ReadsHeld, logged, any_source}
 use Rattle.fab_peer.specs.Moves.{IsTied, Went}
 use Rattle.fab_peer.specs.Turns.{actor_of, schedule_of, Does, Turned, Answered, Waits, Stays, next_op}
+use Rattle.fab_peer.specs.Work.{line_work, state_work, actor_work}
 use Rattle.fab_peer.specs.declared.peer.Peer.{Peer}
 use Rattle.fab_peer.proofs.Going.{tied_passes, ported_same, ported_then, shows_less, walk_append}
+use Rattle.fab_peer.proofs.Working.{line_less, read_less}
 
 -- ---- joining
 
@@ -40,6 +45,7 @@ does_same a b actor log = record {
   log = log ∙ sym (append-nil (schedule_of a));
   walk = λ v. sym actor;
   tied = λ p tied. subst (λ (x : Actor). IsTied x.state p) (sym actor) tied;
+  spends = (let same = ap actor_work actor in omega (arith, same));
 }
 
 pub does_then : (a b c : Peer) → Does a b → Does b c → Does a c
@@ -48,10 +54,11 @@ does_then a b c x y = record {
   log = y.log ∙ ap (λ xs. xs ++ y.steps) x.log ∙ append_assoc (schedule_of a) x.steps y.steps;
   walk = λ v. walk_append v (actor_of a) (actor_of b) (actor_of c) x.steps y.steps (x.walk v) (y.walk v);
   tied = λ p tied. y.tied p (x.tied p tied);
+  spends = omega (arith, x.spends, y.spends);
 }
 
 pub turned_does : (a b : Peer) (p : Plain) → Does a b → Turned a p b p
-turned_does a b p does = record { steps = does.steps; log = does.log; walk = λ v shows. does.walk v; ported = ported_same p }
+turned_does a b p does = record { steps = does.steps; log = does.log; walk = λ v shows. does.walk v; ported = ported_same p; spends = omega (arith, does.spends) }
 
 pub turned_went : (a b : Peer) (p q : Plain) → Went a.endpoint p b.endpoint q → b.lines ≡ a.lines → b.results ≡ a.results → b.kept ≡ a.kept → Turned a p b q
 turned_went a b p q went lines results kept = record {
@@ -59,6 +66,7 @@ turned_went a b p q went lines results kept = record {
   log = went.log;
   walk = λ v shows. rw (lines, results, kept) (went.walk (actor_of a) v shows);
   ported = went.ported;
+  spends = (let count = ap (λ (x : _). length x.items) lines in let done = ap (λ (x : _). length x.items) results in omega (arith, count, done, went.spends));
 }
 
 pub turned_then : (a b c : Peer) (p q r : Plain) → Turned a p b q → Turned b q c r → Turned a p c r
@@ -67,23 +75,31 @@ turned_then a b c p q r x y = record {
   log = y.log ∙ ap (λ xs. xs ++ y.steps) x.log ∙ append_assoc (schedule_of a) x.steps y.steps;
   walk = λ v shows. walk_append v (actor_of a) (actor_of b) (actor_of c) x.steps y.steps (x.walk v (shows_less q r v y.ported shows)) (y.walk v shows);
   ported = ported_then p q r x.ported y.ported;
+  spends = omega (arith, x.spends, y.spends);
 }
 
 -- ---- one step
 
-does_step : (a b : Peer) (x : Step) → schedule_of b ≡ schedule_of a ++ x ∷ [] → ((v : View Item) → step v (actor_of a) x ≡ Some (actor_of b)) → Passes a.endpoint.state b.endpoint.state → Does a b
+does_step : (a b : Peer) (x : Step) → schedule_of b ≡ schedule_of a ++ x ∷ [] → ((v : View Item) → step v (actor_of a) x ≡ Some (actor_of b)) → Passes a.endpoint.state b.endpoint.state
+    → actor_work (actor_of b) < actor_work (actor_of a) → Does a b
 unfolding fabric
-does_step a b x log stands passes = record {
+does_step a b x log stands passes less = record {
   steps = x ∷ [];
   log = log;
   walk = λ v. (actor_of b, stands v, refl);
   tied = λ p tied. tied_passes a.endpoint.state b.endpoint.state p passes tied;
+  spends = omega (arith, less);
 }
 
 reads_next : (a : Actor) (w : Written) (entry : Taken) → unread a.state.cq ≡ Some w → w.entry ≡ entry → part_of entry ≡ None
     → read_next a ≡ Some (record a { state = reading a.state; kept = a.kept ++ record { entry = entry; bytes = None } ∷ [] })
 unfolding read_next bytes_kept
 reads_next a w entry there is plain = rw (there, read_next, is, plain, bytes_kept) refl
+
+-- a read leaves less work
+pub read_work : (a b : Peer) (entry : Taken) → ReadsHeld a.endpoint b.endpoint (Some entry) → b.lines ≡ a.lines → b.results ≡ a.results → actor_work (actor_of b) < actor_work (actor_of a)
+read_work a b entry (w, there, is, new, plain) lines results =
+    read_less (actor_of a) (actor_of b) w there (ap (λ (h : Held). h.state) new) (ap (λ (x : _). x.items) lines) (ap (λ (x : _). x.items) results)
 
 pub does_read : (a b : Peer) (entry : Taken) → ReadsHeld a.endpoint b.endpoint (Some entry) → b.lines ≡ a.lines → b.results ≡ a.results → b.kept.items ≡ a.kept.items ++ record { entry = entry; bytes = None } ∷ [] → Does a b
 unfolding step
@@ -92,6 +108,7 @@ does_read a b entry (w, there, is, new, plain) lines results kept =
     (λ v. reads_next (actor_of a) w entry there is plain
     ∙ (let state = ap (λ (h : Held). h.state) new in rw (lines, results, kept, state) refl))
     (rw new (same refl refl refl))
+    (read_work a b entry (w, there, is, new, plain) lines results)
 
 -- a read changes nothing that the calm asks of a peer
 pub read_facts : (a b : Peer) (entry : Taken) → ReadsHeld a.endpoint b.endpoint (Some entry) → b.lines ≡ a.lines → b.results ≡ a.results → facts (actor_of b) ≡ facts (actor_of a)
@@ -107,9 +124,34 @@ next_is a op e = by_line (next_line (actor_of a)) refl e
     by_line None there e = absurd (cc)
     by_line (Some line) there e = let is : line.op ≡ op = cc in rw (there, do_next, is) refl
 
+-- what the next line asks for
+pub next_by : (a : Peer) (line : Line) (op : LineOp) → next_line (actor_of a) ≡ Some line → line.op ≡ op → next_op a ≡ Some op
+next_by a line op next is = ap (option_map (λ (x : Line). x.op)) next ∙ ap Some is
+
+-- where there is a next line, fewer are done than there are
+next_within : (a : Peer) (op : LineOp) → next_op a ≡ Some op → length a.results.items < length a.lines.items
+next_within a op e = by_line (next_line (actor_of a)) refl e
+  where
+    by_line : (o : Option Line) → next_line (actor_of a) ≡ o → option_map (λ (line : Line). line.op) o ≡ Some op → length a.results.items < length a.lines.items
+    by_line None there e = absurd (cc)
+    by_line (Some line) there e = slice_get_within a.lines.items (length a.results.items) line there
+
+-- a line that is done leaves less work
+done_work : (a b : Peer) (op : LineOp) (outcome : LineResult) → next_op a ≡ Some op → b.lines ≡ a.lines → b.results.items ≡ a.results.items ++ outcome ∷ []
+    → state_work b.endpoint.state < state_work a.endpoint.state + line_work → actor_work (actor_of b) < actor_work (actor_of a)
+done_work a b op outcome next lines results costs =
+    let more = ap length results in
+    line_less (actor_of a) (actor_of b) (ap (λ (x : _). x.items) lines) (omega (arith, more, length-append a.results.items (outcome ∷ []))) (next_within a op next) costs
+
 waits : (a : Actor) (ctx : Option ℕ) (k : Kept) → find (is_of_ctx ctx) a.kept ≡ Some k → do_line a (Wait ctx) ≡ Some (with_result (Waited k) (record a { kept = remove_first (is_of_ctx ctx) a.kept }))
 unfolding do_line wait_line
 waits a ctx k found = rw (found, wait_line) refl
+
+pub wait_work : (a b : Peer) (ctx : Option ℕ) (k : Kept) → next_op a ≡ Some (Wait ctx) → b.endpoint ≡ logged (Do ∷ []) a.endpoint → b.lines ≡ a.lines → b.results.items ≡ a.results.items ++ Waited k ∷ []
+    → actor_work (actor_of b) < actor_work (actor_of a)
+wait_work a b ctx k next log lines results =
+    let state = ap (λ (h : Held). state_work h.state) log in
+    done_work a b (Wait ctx) (Waited k) next lines results (omega (arith, state))
 
 pub does_wait : (a b : Peer) (ctx : Option ℕ) (k : Kept) → next_op a ≡ Some (Wait ctx) → find (is_of_ctx ctx) a.kept.items ≡ Some k → b.kept.items ≡ remove_first (is_of_ctx ctx) a.kept.items
     → b.endpoint ≡ logged (Do ∷ []) a.endpoint → b.lines ≡ a.lines → b.results.items ≡ a.results.items ++ Waited k ∷ [] → Does a b
@@ -118,6 +160,7 @@ does_wait a b ctx k next found rest log lines results =
     does_step a b Do (ap (λ (h : Held). h.log) log)
     (λ v. next_is a (Wait ctx) next ∙ waits (actor_of a) ctx k found ∙ (let state = ap (λ (h : Held). h.state) log in rw (lines, results, rest, state) refl))
     (let state = ap (λ (h : Held). h.state) log in rw state (same refl refl refl))
+    (wait_work a b ctx k next log lines results)
 
 after_answer : (a : Actor) (outcome : LineResult) (s : State) → is_again outcome ≡ false → after_call a (outcome, s) ≡ Some (with_result outcome (with_state a s))
 after_answer a outcome s again = rw (again, after_call) refl
@@ -128,10 +171,30 @@ calls : (a : Peer) (op : LineOp) (c : Call) (outcome : LineResult) (s : State) �
 unfolding call_line
 calls a op c outcome s next line answer again = next_is a op next ∙ line ∙ ap (after_call (actor_of a)) answer ∙ after_answer (actor_of a) outcome s again
 
+-- a call that is answered leaves less work than a line pays for
+call_work : {T : Type 0} (a m b : Peer) (op : LineOp) (c : Call) (r : Result T Fault) (done : Bool) → next_op a ≡ Some op → Answers c a.endpoint m.endpoint r → m.lines ≡ a.lines → m.results ≡ a.results
+    → OnOk r (state_work m.endpoint.state < state_work a.endpoint.state + line_work) → Answered r m b done → done ≡ true → actor_work (actor_of b) < actor_work (actor_of a)
+call_work a m b op c (Ok _) done next answers lines results costs (all, is, more) e =
+    let state = ap (λ (x : Peer). state_work x.endpoint.state) is in
+    done_work a b op Done next (ap (λ (x : Peer). x.lines) is ∙ lines) (more ∙ ap (λ (x : _). x.items ++ Done ∷ []) results) (omega (arith, state, costs))
+call_work a m b op c (Err fault) false next answers lines results costs answered e = absurd (cc e)
+call_work a m b op c (Err fault) true next answers lines results costs (is, more, again, free) e =
+    let stays = ap (λ (h : Held). state_work h.state) ((answers free).1) in
+    let state = ap (λ (x : Peer). state_work x.endpoint.state) is in
+    done_work a b op (Refused fault) next (ap (λ (x : Peer). x.lines) is ∙ lines) (more ∙ ap (λ (x : _). x.items ++ Refused fault ∷ []) results) (omega (arith, state, stays))
+
+-- the same of the result of a call's answer
+pub answered_work : {T E : Type 0} (a m b : Peer) (op : LineOp) (c : Call) (r : Result T Fault) (done : Result Bool E) → next_op a ≡ Some op → Answers c a.endpoint m.endpoint r → m.lines ≡ a.lines → m.results ≡ a.results
+    → OnOk r (state_work m.endpoint.state < state_work a.endpoint.state + line_work) → IfOk done (Answered r m b) → done ≡ Ok true → actor_work (actor_of b) < actor_work (actor_of a)
+answered_work a m b op c r (Ok true) next answers lines results costs answered e = call_work a m b op c r true next answers lines results costs answered refl
+answered_work a m b op c r (Ok false) next answers lines results costs answered e = absurd (cc e)
+answered_work a m b op c r (Err x) next answers lines results costs answered e = absurd (cc e)
+
 pub does_call : {T : Type 0} (a m b : Peer) (op : LineOp) (c : Call) (r : Result T Fault) (done : Bool) → next_op a ≡ Some op → do_line (actor_of a) op ≡ call_line (actor_of a) c
-    → Answers c a.endpoint m.endpoint r → m.lines ≡ a.lines → m.results ≡ a.results → m.kept ≡ a.kept → Answered r m b done → Does a b
+    → Answers c a.endpoint m.endpoint r → m.lines ≡ a.lines → m.results ≡ a.results → m.kept ≡ a.kept
+    → OnOk r (state_work m.endpoint.state < state_work a.endpoint.state + line_work) → Answered r m b done → Does a b
 unfolding step
-does_call a m b op c (Ok _) done next line answers lines results kept (all, is, more) =
+does_call {T} a m b op c (Ok x) done next line answers lines results kept costs (all, is, more) =
     let endpoint : b.endpoint ≡ m.endpoint = ap (λ (x : Peer). x.endpoint) is in
     does_step a b Do (ap (λ (h : Held). h.log) endpoint ∙ answers.1)
     (λ v. calls a op c Done m.endpoint.state next line answers.0 refl
@@ -139,11 +202,12 @@ does_call a m b op c (Ok _) done next line answers lines results kept (all, is, 
     let k : b.kept ≡ a.kept = ap (λ (x : Peer). x.kept) is ∙ kept in
     rw (endpoint, l, k, more, results) refl))
     (rw endpoint (subst (λ (x : State). Passes a.endpoint.state x) (ap (λ x. x.1) answers.0) (call_passes a.endpoint.state c)))
-does_call a m b op c (Err fault) false next line answers lines results kept (is, busy, again) =
+    (call_work {T = T} a m b op c (Ok x) done next answers lines results costs (all, is, more) all)
+does_call a m b op c (Err fault) false next line answers lines results kept costs (is, busy, again) =
     let free : fault ≢ LacksMemory = (λ e. cc (again, e)) in
     let stays = (answers free).1 in
     does_same a b (rw (is, stays, lines, results, kept) refl) (rw (is, stays) refl)
-does_call a m b op c (Err fault) true next line answers lines results kept (is, more, again, free) =
+does_call {T} a m b op c (Err fault) true next line answers lines results kept costs (is, more, again, free) =
     let stays = (answers free).1 in
     let endpoint : b.endpoint ≡ logged (Do ∷ []) a.endpoint = ap (λ (x : Peer). x.endpoint) is ∙ ap (logged (Do ∷ [])) stays in
     does_step a b Do (ap (λ (h : Held). h.log) endpoint)
@@ -152,12 +216,14 @@ does_call a m b op c (Err fault) true next line answers lines results kept (is, 
     let k : b.kept ≡ a.kept = ap (λ (x : Peer). x.kept) is ∙ kept in
     rw (endpoint, l, k, more, results) refl))
     (rw endpoint (same refl refl refl))
+    (call_work {T = T} a m b op c (Err fault) true next answers lines results costs (is, more, again, free) refl)
 
 -- the same of the result of a call's answer, where it is at hand
 pub does_answered : {T E : Type 0} (a m b : Peer) (op : LineOp) (c : Call) (r : Result T Fault) (done : Result Bool E) → next_op a ≡ Some op → do_line (actor_of a) op ≡ call_line (actor_of a) c
-    → Answers c a.endpoint m.endpoint r → m.lines ≡ a.lines → m.results ≡ a.results → m.kept ≡ a.kept → IfOk done (Answered r m b) → OnOk done (Does a b)
-does_answered a m b op c r (Ok done) next line answers lines results kept answered = does_call a m b op c r done next line answers lines results kept answered
-does_answered a m b op c r (Err e) next line answers lines results kept answered = _
+    → Answers c a.endpoint m.endpoint r → m.lines ≡ a.lines → m.results ≡ a.results → m.kept ≡ a.kept
+    → OnOk r (state_work m.endpoint.state < state_work a.endpoint.state + line_work) → IfOk done (Answered r m b) → OnOk done (Does a b)
+does_answered a m b op c r (Ok done) next line answers lines results kept costs answered = does_call a m b op c r done next line answers lines results kept costs answered
+does_answered a m b op c r (Err e) next line answers lines results kept costs answered = _
 
 pub line_trecv : (a : Actor) (ctx tag ignore len : ℕ) → do_line a (TRecv ctx None tag ignore len) ≡ call_line a (Post (any_source tag ignore (replicate len 0) ctx))
 unfolding do_line call_of
@@ -221,3 +287,31 @@ stays_other a b next is no_send no_receive no_wait same = record {
   same = same;
   held = λ line there built. let e : line ≡ next = cc (is, there) in absurd (none_built next.op no_send no_receive no_wait (subst (λ (l : Line). is_built l.op ≡ true) e built));
 }
+
+-- where there is no next line, none is held
+pub stays_finished : (a b : Peer) → next_line (actor_of a) ≡ None → actor_of b ≡ actor_of a → Stays a b
+stays_finished a b none same = record { same = same; held = λ line there built. absurd (cc (none, there)) }
+
+-- the next line is not one that the program carries out
+pub stays_unbuilt : (a b : Peer) (next : Line) (op : LineOp) → next_line (actor_of a) ≡ Some next → next.op ≡ op → (is_built op ≡ true → ⊥) → actor_of b ≡ actor_of a → Stays a b
+stays_unbuilt a b next op is op_is unbuilt same = record {
+  same = same;
+  held = λ line there built. let e : line ≡ next = cc (is, there) in absurd (unbuilt (subst (λ (o : LineOp). is_built o ≡ true) op_is (subst (λ (l : Line). is_built l.op ≡ true) e built)));
+}
+
+-- a receive of one source is not carried out yet
+pub some_source : (o : Option ℕ) → is_some o ≡ true → is_none o ≡ true → ⊥
+some_source None some none = cc some
+some_source (Some source) some none = cc none
+
+both : (a b : Bool) → (a && b) ≡ true → (a ≡ true) × (b ≡ true)
+both true true e = (refl, refl)
+both true false e = absurd (cc e)
+both false b e = absurd (cc e)
+
+-- a send that is carried out goes in one frame and completes when it is transmitted
+pub built_send : (word : BytesWord) (level : Level) → (is_short_text word && is_at_transmit level) ≡ true → (length (word_bytes word) ≤ 4096) × (is_at_transmit level ≡ true)
+built_send (Text bytes) level e = let parts = both (nat_le (length bytes) 4096) (is_at_transmit level) e in let short = parts.0 in (grind (arith, nat_tests), parts.1)
+built_send (Hex bytes) level e = absurd (cc e)
+built_send (Zero n) level e = absurd (cc e)
+built_send (File id at len) level e = absurd (cc e)

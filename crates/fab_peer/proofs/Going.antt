@@ -17,6 +17,8 @@ use Rattle.fab_model.proofs.Passes.{Passes}
 use Rattle.fab_peer.specs.Endpoints.{Held}
 use Rattle.fab_wire.specs.Frames.{IsLane}
 use Rattle.fab_peer.specs.Moves.{frame_of, Shows, taken_of, IsBetween, AreFrames, IsTied, Ported, Went}
+use Rattle.fab_peer.specs.Work.{port_work}
+use Rattle.fab_peer.proofs.Working.{uncarried_same, untaken_same}
 
 -- ---- ports
 
@@ -93,6 +95,13 @@ looked_by p q source o fronted others outs number peers home = record {
   ];
 }
 
+-- nor the work
+pub looked_work : (p q : Plain) (source : ℕ) → Looked p q source → port_work q ≤ port_work p
+looked_work p q source l =
+    let frames = uncarried_same p q l.peers (left_same p q l.outs l.home) in
+    let came = untaken_same p q l.peers l.home (λ s. (l.ins s).1) in
+    omega (arith, frames, came)
+
 pub looked_ported : (p q : Plain) (source : ℕ) → Looked p q source → Ported p q
 looked_ported p q source l = ported_in p q l.number l.peers l.home l.outs (λ s. ((l.ins s).0, prefix_self _ _ (sym ((l.ins s).1))))
 
@@ -145,8 +154,11 @@ pub walk_append : (v : View Item) (a b c : Actor) (xs ys : List Step) → Walk f
 walk_append v a b c [] ys first then = subst (λ x. Walk fabric v x ys c) (sym first) then
 walk_append v a b c (x ∷ xs) ys (next, step, rest) then = (next, step, walk_append v next b c xs ys rest then)
 
-pub went_none : (e : Held) (p q : Plain) → Ported p q → Went e p e q
-went_none e p q ported = record { steps = []; log = sym (append-nil e.log); walk = λ a v shows. refl; ported = ported }
+pub went_none : (e : Held) (p q : Plain) → Ported p q → port_work q ≤ port_work p → Went e p e q
+went_none e p q ported spends = record { steps = []; log = sym (append-nil e.log); walk = λ a v shows. refl; ported = ported; spends = omega (arith, spends) }
+
+pub went_same : (e : Held) (p : Plain) → Went e p e p
+went_same e p = went_none e p p (ported_same p) (omega arith)
 
 pub went_then : (e f g : Held) (p q r : Plain) → Went e p f q → Went f q g r → Went e p g r
 went_then e f g p q r a b = record {
@@ -154,4 +166,5 @@ went_then e f g p q r a b = record {
   log = b.log ∙ ap (λ xs. xs ++ b.steps) a.log ∙ append_assoc e.log a.steps b.steps;
   walk = λ x v shows. walk_append v (with_state x e.state) (with_state x f.state) (with_state x g.state) a.steps b.steps (a.walk x v (shows_less q r v b.ported shows)) (b.walk x v shows);
   ported = ported_then p q r a.ported b.ported;
+  spends = omega (arith, a.spends, b.spends);
 }

@@ -17,3 +17,6 @@ pub mod Joining
 pub mod Payloads
 pub mod Opening
 pub mod Ending
+pub mod Working
+pub mod Sums
+pub mod Falling

@@ -1,7 +1,7 @@
 -- Nothing moved: the endpoint stays, and nothing is left to move where a completion has room.
 use Rattle.std.proofs.Common.{◌≡◌, ◌<◌, ◌≤◌, ◌+◌, ℕ, zero, suc, Bool, true, false, List, [], ◌∷◌, length, get_or, None, Ok, inl, inr, refl, sym, ap, subst, ◌∙◌, arith}
 use mir.Val.{bool_byte}
-use Rattle.std.specs.Prelude.{slice_index, Result}
+use Rattle.std.specs.Prelude.{◌⊎◌, slice_index, Result}
 use Rattle.std.proofs.lemmas.Bool.{cases_lt}
 use Rattle.fab_link.specs.Plain.{Lane, Plain, PlainHome, lane_at, fresh_lane}
 use Rattle.fab_model.specs.State.{State, accepted_for}
@@ -13,6 +13,12 @@ pub neither : {E : Type 0} (a b : Bool) (m n : ℕ) → m ≡ bool_byte a → n 
 neither false false m n is_m is_n none = (refl, refl)
 neither true b m n is_m is_n none = let sum : m + n ≡ 0 = cc in absurd (omega (arith, sum, is_m))
 neither false true m n is_m is_n none = let sum : m + n ≡ 0 = cc in absurd (omega (arith, sum, is_n))
+
+-- where one of them happened
+pub either : (a b : Bool) (m n : ℕ) → m ≡ bool_byte a → n ≡ bool_byte b → 0 < m + n → (a ≡ true) ⊎ (b ≡ true)
+either true b m n is_m is_n some = inl refl
+either false true m n is_m is_n some = inr refl
+either false false m n is_m is_n some = absurd (omega (arith, some, is_m, is_n))
 
 abbrev pub Idle : Held → Plain → ℕ → Held → Type 0
 Idle e p peer e' = (e' ≡ e) × (has_room e.state.cq ≡ true → IsMoved e.state p peer)

@@ -1,5 +1,5 @@
 -- An item is posted, and so transmitted.
-use Rattle.std.proofs.Common.{◌≡◌, ◌≢◌, ◌<◌, ◌+◌, ℕ, true, [], ◌∷◌, ◌++◌, length, take, slice_get, Option, Some, None, inl, inr, refl, sym, ap, subst, ◌∙◌, arith, append-nil, zero-add, length-set, get_or-set_same, get_or-set_other}
+use Rattle.std.proofs.Common.{◌≡◌, ◌≢◌, ◌<◌, ◌≤◌, ◌+◌, ℕ, zero, suc, true, List, [], ◌∷◌, ◌++◌, length, take, slice_get, Option, Some, None, inl, inr, refl, sym, ap, subst, ◌∙◌, arith, append-nil, zero-add, length-append, length-set, get_or-set_same, get_or-set_other}
 use Rattle.std.specs.Prelude.{slice_index, nat_lt}
 use Rattle.std.proofs.lemmas.Bool.{cases_eq}
 use Rattle.std.proofs.lemmas.Bool.Decides.{nat_tests}
@@ -24,7 +24,10 @@ use Rattle.fab_model.proofs.Views.{prefix_self}
 use Rattle.fab_model.proofs.Passes.{sent_passes}
 use Rattle.fab_peer.specs.Endpoints.{Held, IsCarried, Transmits}
 use Rattle.fab_peer.specs.Moves.{frame_of, IsFrame, IsBetween, AreFrames, IsTied, Ported, Went}
+use Rattle.fab_peer.specs.Work.{held_work, state_work, port_work, uncarried}
 use Rattle.fab_peer.proofs.Going.{tied_passes}
+use Rattle.fab_peer.proofs.Sums.{sum_more}
+use Rattle.fab_peer.proofs.Working.{untaken_same, sent_work}
 use Rattle.fab_peer.proofs.Halves.{at_end}
 
 -- ---- the port
@@ -54,6 +57,23 @@ posted_ported p q dest f t = record {
     | inr other ↦ ([], ap (λ (o : Outgoing). o.frames) (t.others d other) ∙ sym (append-nil _), t.others_left d other ∙ sym (append-nil _))
   ];
 }
+
+-- one more frame is to be carried
+posted_work : (p q : Plain) (dest : ℕ) (f : Frame) → PostedFrame p q dest f → port_work q ≤ port_work p + 3
+posted_work p q dest f t =
+    let came = untaken_same p q t.peers t.home (λ s. ap (λ (i : ℕ → Incoming). (i s).taken) t.ins) in
+    let one = ap length t.lefts in
+    let frames : uncarried q ≤ uncarried p + 1 =
+    rw t.peers (sum_more (length p.lanes) dest 1 (λ d. length (left (lane_at q d))) (λ d. length (left (lane_at p d)))
+    (λ d other. let e = ap length (t.others_left d other) in omega (arith, e))
+    (omega (arith, one, length-append (left (lane_at p dest)) (f ∷ [])))) in
+    omega (arith, came, frames)
+
+-- the place where nothing stands, and which is not past the end, is the end
+pub ends_at : {X : Type 0} (xs : List X) (n : ℕ) → slice_get xs n ≡ None → n ≤ length xs → n ≡ length xs
+ends_at [] n none within = omega (arith, within)
+ends_at (x ∷ xs) zero none within = absurd (cc none)
+ends_at (x ∷ xs) (suc n) none within = let rest = ends_at xs n none (omega (arith, within)) in omega (arith, rest)
 
 -- ---- the frame
 
@@ -86,6 +106,13 @@ module _ (e e' : Held) (p q : Plain) (dest : ℕ) (item : Item) (tied : IsTied e
       let lt : nat_lt (slice_index e.state.tx.sent dest) (length (accepted_for e.state.tx dest)) ≡ true = let h = waits in grind (arith, nat_tests) in
       rw (lt, sent_step, room) refl
 
+  -- an item less is to be sent, for a frame more to be carried and an entry more to be read
+  pub posts_work : held_work e'.state q < held_work e.state p
+  posts_work =
+      let state = ap (λ (h : Held). state_work h.state) transmits.0 in
+      let sent = sent_work e.state dest (omega (arith, below, tied.peers)) tied.counts waits in
+      omega (arith, state, sent, posted_work p q dest (frame_of item) posted)
+
   pub went_posts : Went e p e' q
   unfolding fabric step
   went_posts = record {
@@ -96,6 +123,7 @@ module _ (e e' : Held) (p q : Plain) (dest : ℕ) (item : Item) (tied : IsTied e
         let room : fits (do_sent e.state dest).cq ≡ true = subst (λ (x : State). fits x.cq ≡ true) state transmits.1 in
         (with_state a (do_sent e.state dest), stands a room, ap (λ (x : State). with_state a x) (sym state));
     ported = posted_ported p q dest (frame_of item) posted;
+    spends = (let less = posts_work in omega (arith, less));
   }
 
   tied_raised : IsTied (with_tx (transmitting dest e.state.tx) e.state) q

@@ -1,5 +1,5 @@
 -- A frame is taken: the item arrives and is whole.
-use Rattle.std.proofs.Common.{◌≡◌, ◌≢◌, ◌<◌, ◌+◌, ℕ, true, false, List, [], ◌∷◌, ◌++◌, length, slice_get, Some, None, inl, inr, refl, sym, ap, subst, ◌∙◌, arith, append-nil, length-append, length-set, get_or-set_same, get_or-set_other}
+use Rattle.std.proofs.Common.{◌≡◌, ◌≢◌, ◌<◌, ◌≤◌, ◌+◌, ◌-◌, ℕ, true, false, List, [], ◌∷◌, ◌++◌, length, slice_get, Some, None, inl, inr, refl, sym, ap, subst, ◌∙◌, arith, append-nil, length-append, length-set, get_or-set_same, get_or-set_other}
 use Rattle.std.specs.Prelude.{slice_index, ◌==◌, nat_lt}
 use Rattle.std.proofs.lemmas.Bool.{cases_eq}
 use Rattle.std.proofs.lemmas.Bool.Decides.{nat_tests}
@@ -10,7 +10,7 @@ use Rattle.fab_base.specs.declared.items.ItemHead.{ItemHead}
 use Rattle.fab_base.specs.declared.peers.Step.TheVariants.{Head, Tail}
 use Rattle.fab_wire.specs.Frames.{lent_frame, IsLane}
 use Rattle.fab_link.specs.Meaning.{Outgoing, Incoming, Others, advanced, end_of}
-use Rattle.fab_link.specs.Plain.{Plain, PlainHome, out_of, in_of, home_of}
+use Rattle.fab_link.specs.Plain.{Plain, PlainHome, lane_at, out_of, in_of, home_of, take_prefix}
 use Rattle.fab_model.specs.State.{State, raise, with_rx, fits}
 use Rattle.fab_model.specs.Matching.{is_message}
 use Rattle.fab_model.specs.Receiving.{draw_due}
@@ -20,7 +20,10 @@ use Rattle.fab_model.specs.Views.{View, Walk}
 use Rattle.fab_model.proofs.Passes.{head_passes, tail_passes}
 use Rattle.fab_peer.specs.Endpoints.{Held, Arrives}
 use Rattle.fab_peer.specs.Moves.{taken_of, IsFrame, IsBetween, AreFrames, IsTied, Ported, Went}
-use Rattle.fab_peer.proofs.Going.{Looked, ported_in, tied_passes}
+use Rattle.fab_peer.specs.Work.{held_work, port_work, untaken, unsent, Writes}
+use Rattle.fab_peer.proofs.Going.{Looked, left_same, ported_in, tied_passes}
+use Rattle.fab_peer.proofs.Sums.{sum_less}
+use Rattle.fab_peer.proofs.Working.{uncarried_same, writes_read}
 
 -- ---- the port
 
@@ -57,6 +60,29 @@ took_ported p q source f t = ported_in p q t.number t.peers t.home t.outs (λ s.
   t.after s,
   elim (cases_eq s source) [ inl same ↦ rw same (f ∷ [], sym t.taken) | inr other ↦ ([], append-nil _ ∙ sym (t.others s other)) ],
 ))
+
+-- as many frames were taken as came, at most
+taken_within : (q : Plain) (source : ℕ) → length (taken_of q source) ≤ length (lane_at q source).in_list
+taken_within q source =
+    let whole = take_prefix (lane_at q source).taken (lane_at q source).in_list in
+    let count = ap length whole.1 in
+    omega (arith, count, length-append (taken_of q source) whole.0)
+
+-- a frame less is to be taken
+took_work : (p q : Plain) (source : ℕ) (f : Frame) → source < length p.lanes → TookFrame p q source f → port_work q + 2 ≤ port_work p
+took_work p q source f below t =
+    let frames = uncarried_same p q t.peers (left_same p q t.outs t.home) in
+    let list : (s : ℕ) → length (lane_at q s).in_list ≡ length (lane_at p s).in_list = (λ s. ap (λ (h : PlainHome). length (h.in_lists s)) t.home) in
+    let one = ap length t.taken in
+    let here = list source in
+    let came : untaken q + 1 ≤ untaken p =
+    rw t.peers (sum_less (length p.lanes) source 1
+    (λ s. length (lane_at q s).in_list - length (taken_of q s))
+    (λ s. length (lane_at p s).in_list - length (taken_of p s))
+    below
+    (λ s other. let long = list s in let took = ap length (t.others s other) in omega (arith, long, took))
+    (omega (arith, here, one, length-append (taken_of p source) (f ∷ []), taken_within q source))) in
+    omega (arith, frames, came)
 
 -- ---- the machine
 
@@ -115,9 +141,15 @@ end_is [] x = refl
 end_is (y ∷ xs) x = end_is xs x
 
 module _ (e e' : Held) (p q : Plain) (source : ℕ) (f : Frame) (tied : IsTied e.state p) (below : source < length p.lanes) (took : TookFrame p q source f) (is_frame : IsFrame f.head (length f.bytes))
-    (arrives : Arrives source f.head.item f.bytes e e' true) where
+    (arrives : Arrives source f.head.item f.bytes e e' true) (tx : e'.state.tx ≡ e.state.tx) (writes : Writes e.state.cq e'.state.cq) where
   known : source < length e.state.rx.tails
   known = omega (arith, tied.peers, tied.sources)
+
+  -- a frame less is to be taken, for an entry more to be read
+  pub takes_work : held_work e'.state q < held_work e.state p
+  takes_work =
+      let items = ap unsent tx in
+      omega (arith, items, writes_read e.state.cq e'.state.cq writes, took_work p q source f below took)
 
   pub went_takes : Went e p e' q
   went_takes = record {
@@ -138,6 +170,7 @@ module _ (e e' : Held) (p q : Plain) (source : ℕ) (f : Frame) (tied : IsTied e
         subst (λ (x : State). Walk fabric v (with_state a e.state) (Head source ∷ Tail source ∷ []) (with_state a x)) (sym state)
         (walk_arrives a e.state source f.head.item f.bytes v shown.0 next is_frame.carried.message arrives.1 arrives.2 known room);
     ported = took_ported p q source f took;
+    spends = (let less = takes_work in omega (arith, less));
   }
 
   tied_raised : (s : State) → IsTied s p → IsTied (with_rx (made_whole source s.rx) s) q

@@ -3,8 +3,10 @@
 --     Opens b f         the peers stand at the opening of the script
 --     GoesOn f g        what led to the one leads to the other
 --     AreStill f        no peer can do anything, and nothing is left to be carried
+--     work f            the work that is left of all peers and their ports
 --     Rest all          the peers are at rest, as `at_rest` tests it
-use Rattle.std.specs.Prelude.{◌≡◌, ◌<◌, ℕ, true, false, List, [], map, length, replicate, None, Some, slice_get, slice_index}
+use Rattle.std.specs.Prelude.{◌≡◌, ◌<◌, ℕ, ◌+◌, true, false, List, [], map, length, replicate, None, Some, slice_get, slice_index}
+use Rattle.std.specs.List.{sum_by}
 use Rattle.fab_base.specs.Built.{all_built}
 use Rattle.fab_base.specs.declared.frames.Frame.{Frame}
 use Rattle.fab_base.specs.declared.peers.Step.{Step}
@@ -19,6 +21,7 @@ use Rattle.fab_model.specs.State.{accepted_for}
 use Rattle.fab_model.specs.Views.{rule}
 use Rattle.fab_peer.specs.Moves.{IsTied}
 use Rattle.fab_peer.specs.Turns.{actor_of, schedule_of, IsStill}
+use Rattle.fab_peer.specs.Work.{actor_work, port_work}
 use Rattle.fab_peer.specs.declared.fabric.Fabric.{Fabric}
 use Rattle.fab_peer.specs.declared.peer.Peer.{Peer}
 
@@ -52,6 +55,10 @@ all_facts f = map facts (actors f)
 -- what led from a script's opening to the one leads to the other
 abbrev pub Ends : Fabric → Fabric → Type 0
 Ends f g = (b : Bound) → Reached (rule fabric) (opening b) (schedules f) (actors f) → Reached (rule fabric) (opening b) (schedules g) (actors g)
+
+-- the work that is left
+abbrev pub work : Fabric → ℕ
+work f = sum_by (λ a. actor_work (actor_of a)) f.peers.items + sum_by port_work f.ports.items
 
 -- ---- at rest
 

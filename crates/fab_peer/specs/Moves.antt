@@ -16,6 +16,7 @@ use Rattle.fab_model.specs.State.{State, accepted_for}
 use Rattle.fab_model.specs.Peers.{Actor, fabric, with_state}
 use Rattle.fab_model.specs.Views.{View, Walk, IsPrefixOf}
 use Rattle.fab_peer.specs.Endpoints.{Held, IsCarried, has_room}
+use Rattle.fab_peer.specs.Work.{held_work}
 
 abbrev pub frame_of : Item → Frame
 frame_of item = frame (record { item = item.head; from = 0; len = item.head.total }) item.bytes
@@ -65,12 +66,13 @@ pub record Ported (p q : Plain) : Type 0 where
   pub before : (d : ℕ) → (out_of q d).after ≡ (out_of p d).after
   pub posted : (d : ℕ) → (more : List Frame) × ((out_of q d).frames ≡ (out_of p d).frames ++ more) × (left (lane_at q d) ≡ left (lane_at p d) ++ more)
 
--- the steps logged lead from the old state to the new one, wherever the frames taken are shown
+-- the steps logged lead from the old state to the new one, wherever the frames taken are shown, and leave no more work
 pub record Went (e : Held) (p : Plain) (e' : Held) (q : Plain) : Type 0 where
   pub steps : List Step
   pub log : e'.log ≡ e.log ++ steps
   pub walk : (a : Actor) (v : View Item) → Shows (taken_of q) v → Walk fabric v (with_state a e.state) steps (with_state a e'.state)
   pub ported : Ported p q
+  pub spends : held_work e'.state q ≤ held_work e.state p
 
 -- ---- nothing left to move
 

@@ -3,7 +3,7 @@
 --     Does a b             some steps that need no other peer lead from the one to the other
 --     Turned a p b q       some steps lead from the one to the other, wherever the frames taken are shown
 --     IsStill a came       the peer can do nothing
-use Rattle.std.specs.Prelude.{◌≡◌, ◌≢◌, ◌++◌, ◌∷◌, ℕ, Bool, true, false, List, [], length, slice_index, Option, Some, None, Result, Ok, Err}
+use Rattle.std.specs.Prelude.{◌≡◌, ◌≢◌, ◌≤◌, ◌++◌, ◌∷◌, ℕ, Bool, true, false, List, [], length, slice_index, Option, Some, None, Result, Ok, Err}
 use Rattle.std.specs.Option.{option_map}
 use Rattle.fab_base.specs.Built.{is_built}
 use Rattle.fab_base.specs.declared.faults.Busy.{Busy}
@@ -27,6 +27,7 @@ use Rattle.fab_model.specs.State.{accepted_for}
 use Rattle.fab_model.specs.Views.{View, Walk}
 use Rattle.fab_peer.specs.Moves.{Shows, taken_of, IsTied, Ported}
 use Rattle.fab_peer.specs.Endpoints.{logged}
+use Rattle.fab_peer.specs.Work.{actor_work, peer_work}
 use Rattle.fab_peer.specs.declared.peer.Peer.{Peer}
 
 abbrev pub actor_of : Peer → Actor
@@ -35,19 +36,21 @@ actor_of peer = record { state = peer.endpoint.state; lines = peer.lines.items; 
 abbrev pub schedule_of : Peer → List Step
 schedule_of peer = peer.endpoint.log
 
--- the peer alone: its steps stand in every view
+-- the peer alone: its steps stand in every view, and leave no more work
 pub record Does (a b : Peer) : Type 0 where
   pub steps : List Step
   pub log : schedule_of b ≡ schedule_of a ++ steps
   pub walk : (v : View Item) → Walk fabric v (actor_of a) steps (actor_of b)
   pub tied : (p : Plain) → IsTied a.endpoint.state p → IsTied b.endpoint.state p
+  pub spends : actor_work (actor_of b) ≤ actor_work (actor_of a)
 
--- the peer with its port
+-- the peer with its port: its steps leave no more work
 pub record Turned (a : Peer) (p : Plain) (b : Peer) (q : Plain) : Type 0 where
   pub steps : List Step
   pub log : schedule_of b ≡ schedule_of a ++ steps
   pub walk : (v : View Item) → Shows (taken_of q) v → Walk fabric v (actor_of a) steps (actor_of b)
   pub ported : Ported p q
+  pub spends : peer_work (actor_of b) q ≤ peer_work (actor_of a) p
 
 -- the peer alone at the end: its steps stand where all is calm, and what the calm asks of it stays, as does what it transmitted
 pub record Ended (a b : Peer) : Type 0 where

@@ -1,5 +1,5 @@
 //! All peers of a script, over plain ports: they take turns, and what they posted is carried after each round.
-ghost use Rattle.std.specs.Prelude.{◌≡◌, ◌<◌, ◌^◌, drop, length, slice_index_or, [], IfOk, OnOk, map};
+ghost use Rattle.std.specs.Prelude.{◌≡◌, ◌<◌, ◌≤◌, drop, length, slice_index_or, [], IfOk, OnOk, map};
 ghost use Rattle.fab_base.specs.declared.script.Bound.{Bound};
 ghost use Rattle.fab_model.specs.Orders.{Reached};
 ghost use Rattle.std.specs.Prelude.{◌&&◌, not, true, false, Ok};
@@ -9,7 +9,7 @@ ghost use Rattle.fab_model.specs.Receiving.{draw_due};
 ghost use Rattle.fab_model.specs.Views.{rule};
 ghost use Rattle.fab_model.specs.Replay.{opening, at_rest, all_done};
 ghost use Rattle.fab_peer.specs.Turns.{actor_of, schedule_of};
-ghost use Rattle.fab_peer.specs.Joined.{IsJoined, Opens, GoesOn, Ends, CanRun, IsStillAt, Unmoved, AreStill, Rest, AreSized, AreCleared, actors, all_facts};
+ghost use Rattle.fab_peer.specs.Joined.{IsJoined, Opens, GoesOn, Ends, CanRun, IsStillAt, Unmoved, AreStill, Rest, AreSized, AreCleared, actors, all_facts, work};
 
 use crate::binding::bind_lines;
 use crate::peer::Peer;
@@ -71,6 +71,8 @@ impl Fabric {
         ensures joined { OnOk result (IsJoined self.new) }
         ensures on { OnOk result (GoesOn self.old self.new) }
         ensures count { length self.new.peers.items ≡ length self.old.peers.items }
+        ensures spends { OnOk result (work self.new ≤ work self.old) }
+        ensures falls { result ≡ Ok true → work self.new < work self.old }
         ensures unmoved { result ≡ Ok false → Unmoved self.old self.new }
         ensures still { result ≡ Ok false → IsStillAt self.new number }
     {
@@ -83,6 +85,7 @@ impl Fabric {
         requires joined { IsJoined self.old }
         ensures joined { OnOk result (IsJoined self.new) }
         ensures on { OnOk result (GoesOn self.old self.new) }
+        ensures falls { result ≡ Ok true → work self.new < work self.old }
         ensures still { result ≡ Ok false → AreStill self.new }
     {
         let mut moved = false;
@@ -159,20 +162,15 @@ impl Fabric {
         Ok(())
     }
 
-    /// Rounds until one moves nothing. Each round that goes on leaves a step or a frame more in memory,
-    /// so memory ends before so many rounds do.
+    /// Rounds until one moves nothing. Each round that goes on leaves less work, so there is a last one.
     fn finish(&mut self) -> Result<(), NoMemory>
         requires joined { IsJoined self.old }
         ensures joined { OnOk result (IsJoined self.new) }
         ensures on { OnOk result (GoesOn self.old self.new) }
         ensures still { OnOk result (AreStill self.new) }
     {
-        for _round in 0..u64::MAX {
-            if !self.round()? {
-                return Ok(());
-            }
-        }
-        Err(NoMemory)
+        'rounds: while self.round()? {}
+        Ok(())
     }
 }
 

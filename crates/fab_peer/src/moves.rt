@@ -1,9 +1,10 @@
 //! Frames between an endpoint and its port.
-ghost use Rattle.std.specs.Prelude.{◌≡◌, ◌<◌, length, slice_index, true, false, Ok, OnOk};
+ghost use Rattle.std.specs.Prelude.{◌≡◌, ◌<◌, length, slice_index, true, false, Ok, IfOk, OnOk};
 ghost use Rattle.fab_link.specs.Plain.{lane_at};
 ghost use Rattle.fab_model.specs.State.{accepted_for};
 ghost use Rattle.fab_peer.specs.Endpoints.{has_room};
 ghost use Rattle.fab_peer.specs.Moves.{IsTied, Went, IsMoved, StaysMoved};
+ghost use Rattle.fab_peer.specs.Work.{held_work};
 
 use crate::endpoint::Endpoint;
 use fab_base::{FrameHead, NoMemory};
@@ -16,6 +17,7 @@ fn take_one(endpoint: &mut Endpoint, port: &mut PlainPort, source: u32) -> Resul
     requires tied { IsTied endpoint.old.state port.old }
     ensures tied { OnOk result (IsTied endpoint.new.state port.new) }
     ensures went { OnOk result (Went endpoint.old port.old endpoint.new port.new) }
+    ensures falls { result ≡ Ok true → held_work endpoint.new.state port.new < held_work endpoint.old.state port.old }
     ensures still { result ≡ Ok false → (endpoint.new ≡ endpoint.old)
         × (has_room endpoint.old.state.cq ≡ true → slice_index endpoint.old.state.rx.tails source ≡ length (lane_at port.old source).in_list) }
 {
@@ -36,6 +38,7 @@ fn post_one(endpoint: &mut Endpoint, port: &mut PlainPort, dest: u32) -> Result<
     requires tied { IsTied endpoint.old.state port.old }
     ensures tied { OnOk result (IsTied endpoint.new.state port.new) }
     ensures went { OnOk result (Went endpoint.old port.old endpoint.new port.new) }
+    ensures falls { result ≡ Ok true → held_work endpoint.new.state port.new < held_work endpoint.old.state port.old }
     ensures still { result ≡ Ok false → (endpoint.new ≡ endpoint.old)
         × (has_room endpoint.old.state.cq ≡ true → slice_index endpoint.old.state.tx.sent dest ≡ length (accepted_for endpoint.old.state.tx dest)) }
 {
@@ -66,6 +69,7 @@ fn move_one(endpoint: &mut Endpoint, port: &mut PlainPort, peer: u32) -> Result<
     requires tied { IsTied endpoint.old.state port.old }
     ensures tied { OnOk result (IsTied endpoint.new.state port.new) }
     ensures went { OnOk result (Went endpoint.old port.old endpoint.new port.new) }
+    ensures falls { IfOk result (λ moved. 0 < moved → held_work endpoint.new.state port.new < held_work endpoint.old.state port.old) }
     ensures still { result ≡ Ok 0 → (endpoint.new ≡ endpoint.old)
         × (has_room endpoint.old.state.cq ≡ true → IsMoved endpoint.old.state port.old peer) }
 {
@@ -80,6 +84,7 @@ fn turn(endpoint: &mut Endpoint, port: &mut PlainPort, left: &mut u32) -> Result
     requires { IsTied endpoint.old.state port.old }
     ensures tied { OnOk result (IsTied endpoint.new.state port.new) }
     ensures went { OnOk result (Went endpoint.old port.old endpoint.new port.new) }
+    ensures falls { result ≡ Ok true → held_work endpoint.new.state port.new < held_work endpoint.old.state port.old }
     ensures still { result ≡ Ok false → 0 < left.old → StaysMoved endpoint.old port.old endpoint.new }
 {
     let peers = port.peers();
@@ -105,6 +110,7 @@ pub fn progress(
     requires { IsTied endpoint.old.state port.old }
     ensures tied { OnOk result (IsTied endpoint.new.state port.new) }
     ensures went { OnOk result (Went endpoint.old port.old endpoint.new port.new) }
+    ensures falls { result ≡ Ok true → held_work endpoint.new.state port.new < held_work endpoint.old.state port.old }
     ensures still { result ≡ Ok false → 0 < budget → StaysMoved endpoint.old port.old endpoint.new }
 {
     let mut left = budget;

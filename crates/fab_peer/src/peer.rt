@@ -14,6 +14,7 @@ ghost use Rattle.fab_model.specs.State.{accepted_for};
 ghost use Rattle.fab_model.specs.Receiving.{draw_due};
 ghost use Rattle.std.specs.Prelude.{◌&&◌, not, length, slice_index};
 ghost use Rattle.fab_peer.specs.Moves.{IsTied};
+ghost use Rattle.fab_peer.specs.Work.{actor_work, peer_work};
 
 use crate::endpoint::Endpoint;
 use crate::moves::{progress, push};
@@ -132,6 +133,7 @@ impl Peer {
         ensures rx { OnOk result (self.new.endpoint.state.rx ≡ self.old.endpoint.state.rx) }
         ensures size { OnOk result (self.new.endpoint.state.cq.size ≡ self.old.endpoint.state.cq.size) }
         ensures read { OnOk result (IsRead self.new) }
+        ensures falls { result ≡ Ok true → actor_work (actor_of self.new) < actor_work (actor_of self.old) }
         ensures still { result ≡ Ok false → actor_of self.new ≡ actor_of self.old }
     {
         let mut any = false;
@@ -165,6 +167,7 @@ impl Peer {
     fn wait(&mut self, ctx: Option<u64>) -> Result<bool, NoMemory>
         requires { next_op self.old ≡ Some (Wait ctx) }
         ensures does { OnOk result (Does self.old self.new) }
+        ensures falls { result ≡ Ok true → actor_work (actor_of self.new) < actor_work (actor_of self.old) }
         ensures still { result ≡ Ok false → Waits self.old self.new }
     {
         let Some(kept) = take_kept(&mut self.kept, ctx) else {
@@ -179,6 +182,7 @@ impl Peer {
     fn trecv(&mut self, ctx: u64, tag: u64, ignore: u64, len: u32) -> Result<bool, NoMemory>
         requires { next_op self.old ≡ Some (TRecv ctx None tag ignore len) }
         ensures does { OnOk result (Does self.old self.new) }
+        ensures falls { result ≡ Ok true → actor_work (actor_of self.new) < actor_work (actor_of self.old) }
         ensures still { result ≡ Ok false → Waits self.old self.new }
     {
         let buf = Buf::zeros(self.alloc, len as u64)?;
@@ -201,6 +205,7 @@ impl Peer {
         requires short { length bytes ≤ 4096 }
         requires silent { ack_of TagMsg level ≡ Nothing }
         ensures does { OnOk result (Does self.old self.new) }
+        ensures falls { result ≡ Ok true → actor_work (actor_of self.new) < actor_work (actor_of self.old) }
         ensures still { result ≡ Ok false → Waits self.old self.new }
     {
         let answer = self
@@ -215,6 +220,7 @@ impl Peer {
         requires { IsTied self.old.endpoint.state port.old }
         ensures tied { OnOk result (IsTied self.new.endpoint.state port.new) }
         ensures turned { OnOk result (Turned self.old port.old self.new port.new) }
+        ensures falls { result ≡ Ok true → peer_work (actor_of self.new) port.new < peer_work (actor_of self.old) port.old }
         ensures still { result ≡ Ok false → Stays self.old self.new }
     {
         let Some(line) = self.lines.get(self.results.len()) else {
@@ -269,6 +275,7 @@ impl Peer {
         requires { IsTied self.old.endpoint.state port.old }
         ensures tied { OnOk result (IsTied self.new.endpoint.state port.new) }
         ensures turned { OnOk result (Turned self.old port.old self.new port.new) }
+        ensures falls { result ≡ Ok true → peer_work (actor_of self.new) port.new < peer_work (actor_of self.old) port.old }
         ensures same { result ≡ Ok false → actor_of self.new ≡ actor_of self.old }
         ensures still { result ≡ Ok false → 0 < (actor_of self.new).state.cq.size → IsStill (actor_of self.new) (came_to port.new) }
     {
@@ -286,6 +293,7 @@ impl Peer {
         requires { IsTied self.old.endpoint.state port.old }
         ensures tied { OnOk result (IsTied self.new.endpoint.state port.new) }
         ensures turned { OnOk result (Turned self.old port.old self.new port.new) }
+        ensures falls { result ≡ Ok true → peer_work (actor_of self.new) port.new < peer_work (actor_of self.old) port.old }
         ensures still { result ≡ Ok false → Stays self.old self.new }
     {
         let mut done = false;

@@ -217,7 +217,8 @@ impl Inbox {
 
     /// Whether a multi-receive is posted, so that it might draw an unexpected message.
     pub fn draws(&self) -> bool
-        ensures { result ≡ draw_due self.now }
+        ensures due { result ≡ draw_due self.now }
+        ensures none { draw_due self.now ≡ false }
     {
         has_multi(&self.posted)
     }

@@ -1,9 +1,10 @@
 //! The calls of a script's lines on an endpoint (fi_tagged(3)).
-ghost use Rattle.std.specs.Prelude.{◌≡◌, ◌≤◌, length, Some, IsTrue, OnOk, is_some, find};
+ghost use Rattle.std.specs.Prelude.{◌≡◌, ◌<◌, ◌≤◌, ◌+◌, length, Some, IsTrue, OnOk, is_some, find};
 ghost use Rattle.fab_model.specs.Sending.{ack_of};
 ghost use Rattle.fab_model.specs.Matching.{takes};
 ghost use Rattle.fab_model.specs.Calls.{message, Post};
 ghost use Rattle.fab_peer.specs.Endpoints.{Answers, any_source, IsSingle, has_room, Took};
+ghost use Rattle.fab_peer.specs.Work.{line_work, state_work};
 
 use super::Endpoint;
 use crate::entries::message_head;
@@ -25,7 +26,8 @@ impl Endpoint {
     ) -> Result<(), Fault>
         requires short { length bytes ≤ 4096 }
         requires silent { ack_of Kind.TagMsg level ≡ Ack.Nothing }
-        ensures { Answers (message Kind.TagMsg (Some ctx) dest tag bytes imm level completion) self.old self.new result }
+        ensures answers { Answers (message Kind.TagMsg (Some ctx) dest tag bytes imm level completion) self.old self.new result }
+        ensures costs { OnOk result (state_work self.new.state < state_work self.old.state + line_work) }
     {
         if !self.caps.tagged {
             return Err(Fault::NotSupported);
@@ -54,7 +56,8 @@ impl Endpoint {
     /// endpoint unusable, any other refusal leaves it as it was.
     #[tactic(auto, unfolding(fab_model::specs::Receiving::post_fault, fab_model::specs::Calls::do_call))]
     pub fn trecv(&mut self, tag: u64, ignore: u64, buf: Buf, ctx: u64) -> Result<(), Fault>
-        ensures { Answers (Post (any_source tag ignore buf ctx)) self.old self.new result }
+        ensures answers { Answers (Post (any_source tag ignore buf ctx)) self.old self.new result }
+        ensures costs { OnOk result (state_work self.new.state < state_work self.old.state + line_work) }
     {
         if !self.caps.recv {
             return Err(Fault::NotSupported);

@@ -1,5 +1,5 @@
 //! The end of an endpoint: what is still posted is cancelled (fi_cancel of fi_endpoint(3)).
-ghost use Rattle.std.specs.Prelude.{◌≡◌, ◌+◌, length, true, Ok, IfOk, OnOk, IsTrue};
+ghost use Rattle.std.specs.Prelude.{◌≡◌, ◌+◌, length, true, false, Ok, IfOk, OnOk, IsTrue};
 ghost use Rattle.fab_model.specs.State.{accepted_for};
 ghost use Rattle.std.specs.Prelude.{slice_index};
 ghost use Rattle.fab_model.specs.Receiving.{draw_due};
@@ -55,7 +55,8 @@ impl Endpoint {
 
     /// Whether a posted multi-receive matches an unexpected message.
     pub fn draws(&self) -> bool
-        ensures { result ≡ draw_due self.now.state.rx }
+        ensures due { result ≡ draw_due self.now.state.rx }
+        ensures none { draw_due self.now.state.rx ≡ false }
     {
         self.rx.draws()
     }

@@ -4,6 +4,7 @@ ghost use Rattle.fab_model.specs.Arrivals.{taker};
 ghost use Rattle.std.specs.Prelude.{count_by};
 ghost use Rattle.fab_model.specs.State.{accepted_for, awaits};
 ghost use Rattle.fab_peer.specs.Endpoints.{has_room, IsCarried, Arrives, IntoReceive, Unexpected, Transmits};
+ghost use Rattle.fab_peer.specs.Work.{Writes};
 
 use super::Endpoint;
 use fab_base::{Buf, Item, ItemHead, NoMemory, Step};
@@ -15,7 +16,9 @@ impl Endpoint {
     pub fn arrive(&mut self, source: u32, head: &ItemHead, bytes: &[u8]) -> Result<bool, NoMemory>
         requires below { source < length self.old.state.rx.tails }
         requires carried { IsCarried head.now (length bytes.now) }
-        ensures { IfOk result (λ taken. Arrives source head.now bytes.now self.old self.new taken) }
+        ensures arrives { IfOk result (λ taken. Arrives source head.now bytes.now self.old self.new taken) }
+        ensures tx { OnOk result (self.new.state.tx ≡ self.old.state.tx) }
+        ensures writes { OnOk result (Writes self.old.state.cq self.new.state.cq) }
     {
         let room = self.cq.has_room();
         if !self.rx.is_wanted(source, head) {

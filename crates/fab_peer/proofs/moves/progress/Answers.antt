@@ -1,14 +1,26 @@
-use Rattle.std.proofs.Common.{◌≡◌, false, Ok, arith, ap, subst}
+use Rattle.std.proofs.Common.{◌≡◌, false, Ok, refl, arith, ap, subst}
 use Rattle.fab_peer.specs.Endpoints.{Held}
 use Rattle.fab_peer.specs.Moves.{StaysMoved}
 use Rattle.fab_link.specs.Plain.{Plain}
-use Rattle.fab_peer.proofs.Going.{went_then}
+use Rattle.fab_peer.proofs.Going.{went_same, went_then}
 use Rattle.fab_peer.proofs.moves.progress.Goals as goal
+
+pub loop-turn-init : goal.loop-turn-init
+loop-turn-init c = record {
+  tied = c.requires;
+  went = went_same c.args.endpoint.now c.args.port.now;
+  falls = λ some. absurd (cc some);
+  turns = λ none. refl;
+  same = λ none. refl;
+  port = λ none. refl;
+  left = λ none. refl;
+}
 
 pub loop-turn-preserved : goal.loop-turn-preserved
 loop-turn-preserved c = record {
   tied = c.in_ok-turn.ensures.tied;
   went = went_then _ _ _ _ _ _ c.loop-turn.invariant.went c.in_ok-turn.ensures.went;
+  falls = λ some. (let less = c.in_ok-turn.ensures.falls (ap Ok c.if-not-branch.false) in omega (arith, less, c.loop-turn.invariant.went.spends));
   turns = λ none. absurd (cc none);
   same = λ none. absurd (cc none);
   port = λ none. absurd (cc none);

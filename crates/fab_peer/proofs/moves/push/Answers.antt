@@ -1,6 +1,13 @@
 use Rattle.std.proofs.Common.{arith}
-use Rattle.fab_peer.proofs.Going.{went_then}
+use Rattle.fab_peer.proofs.Going.{went_same, went_then}
 use Rattle.fab_peer.proofs.moves.push.Goals as goal
+
+pub loop-item-init : goal.loop-item-init
+loop-item-init c = record {
+  tied = c.requires;
+  went = went_same c.args.endpoint.now c.args.port.now;
+  below = omega (arith, c.if-peers-dest.false, c.peers.ensures);
+}
 
 pub loop-item-preserved : goal.loop-item-preserved
 loop-item-preserved c = record {

@@ -1,9 +1,20 @@
-use Rattle.std.proofs.Common.{◌≡◌, false, Ok, ◌∙◌, sym, ap, arith}
+use Rattle.std.proofs.Common.{◌≡◌, false, Ok, refl, ◌∙◌, sym, ap, arith}
 use Rattle.std.proofs.lemmas.Bool.Decides.{nat_tests}
-use Rattle.fab_peer.proofs.Going.{went_then}
+use Rattle.fab_peer.proofs.Going.{went_same, went_then}
 use Rattle.fab_peer.proofs.Moving.{idle_more, stays_moved}
 use Rattle.fab_peer.proofs.moves.turn.Goals.{then-moved, else-moved}
 use Rattle.fab_peer.proofs.moves.turn.Goals as goal
+
+pub loop-peer-init : goal.loop-peer-init
+loop-peer-init c = record {
+  tied = c.requires;
+  went = went_same c.args.endpoint.now c.args.port.now;
+  count = c.peers-peers.ensures;
+  left = λ none. refl;
+  same = λ none. refl;
+  falls = λ some. absurd (cc some);
+  still = λ none k below. absurd (omega (arith, below));
+}
 
 pub loop-peer-preserved : goal.loop-peer-preserved
 loop-peer-preserved c =
@@ -16,6 +27,10 @@ loop-peer-preserved c =
       tied = c.in_ok-here.ensures.tied;
       went = went_then _ _ _ _ _ _ before.went c.in_ok-here.ensures.went;
       count = before.count ∙ sym c.in_ok-here.ensures.went.ported.peers;
+      falls = λ some. elim c.if-moved.branch [
+        | then-moved w ↦ (let less = before.falls w.if-moved.true in omega (arith, less, c.in_ok-here.ensures.went.spends))
+        | else-moved w ↦ (let less = c.in_ok-here.ensures.falls (let is = sym w.moved-is ∙ some in grind (arith, nat_tests)) in omega (arith, less, before.went.spends))
+      ];
       left = λ none. let q = quiet none in let left = before.left q.0 in omega (arith, c.saturating_sub.ensures, q.1, left);
       same = λ none. let q = quiet none in (c.in_ok-here.ensures.still (ap Ok q.1)).0 ∙ before.same q.0;
       still = λ none k below room.

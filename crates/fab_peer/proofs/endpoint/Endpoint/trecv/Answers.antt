@@ -8,11 +8,11 @@ use Rattle.fab_base.specs.declared.peers.LineResult.TheVariants.{Refused}
 use Rattle.fab_model.specs.State.{fits, writing}
 use Rattle.fab_model.specs.Matching.{takes}
 use Rattle.fab_peer.specs.Endpoints.{IsWhole}
-use Rattle.fab_peer.proofs.Calling.{May, any_want, joins, full, takes_now, refuses_room, none_found}
+use Rattle.fab_peer.proofs.Calling.{May, any_want, joins, full, takes_now, took_costs, refuses_room, none_found}
 use Rattle.fab_peer.proofs.endpoint.Endpoint.trecv.Goals as goal
 
-pub returns-then-not-room : goal.returns-then-not-room
-returns-then-not-room c differs =
+pub returns-then-not-room-clause-answers : goal.returns-then-not-room-clause-answers
+returns-then-not-room-clause-answers c differs =
     let s = c.args.self.now.state in
     let short : nat_lt 16_777_216 (length c.args.buf) ≡ false = grind (arith, nat_tests, c.as_slice.ensures) in
     let may : May s c.args.tag c.args.ignore c.args.buf c.args.ctx =
@@ -26,8 +26,8 @@ returns-then-not-room c differs =
       refl,
     )
 
-pub returns-then-has : goal.returns-then-has
-returns-then-has c =
+pub returns-then-has-clause-answers : goal.returns-then-has-clause-answers
+returns-then-has-clause-answers c =
     let s = c.args.self.now.state in
     let short : nat_lt 16_777_216 (length c.args.buf) ≡ false = grind (arith, nat_tests, c.as_slice.ensures) in
     let may : May s c.args.tag c.args.ignore c.args.buf c.args.ctx =
@@ -37,8 +37,8 @@ returns-then-has c =
     takes_now c.args.self.now c.receive_now.new.self c.args.tag c.args.ignore c.args.buf c.args.ctx may room
     (let calls : c.self.inside.calls ≡ s.calls = rw (← c.self.view_is) refl in rw calls at c.in_ok-receive_now.ensures)
 
-pub returns-then-posted-self : goal.returns-then-posted-self
-returns-then-posted-self c differs =
+pub returns-then-posted-self-clause-answers : goal.returns-then-posted-self-clause-answers
+returns-then-posted-self-clause-answers c differs =
     let s = c.args.self.now.state in
     let short : nat_lt 16_777_216 (length c.args.buf) ≡ false = grind (arith, nat_tests, c.as_slice.ensures) in
     let may : May s c.args.tag c.args.ignore c.args.buf c.args.ctx =
@@ -49,8 +49,8 @@ returns-then-posted-self c differs =
     let most : s.most_rx ≡ c.self.inside.most_rx = rw (← c.self.view_is) refl in
     (full s c.args.tag c.args.ignore c.args.buf c.args.ctx may none room few ∙ ap (λ most. (Refused (Again (PostedFull most)), s)) most, refl)
 
-pub returns : goal.returns
-returns c =
+pub returns-clause-answers : goal.returns-clause-answers
+returns-clause-answers c =
     let s = c.args.self.now.state in
     let short : nat_lt 16_777_216 (length c.args.buf) ≡ false = grind (arith, nat_tests, c.as_slice.ensures) in
     let may : May s c.args.tag c.args.ignore c.args.buf c.args.ctx =
@@ -62,3 +62,11 @@ returns c =
     let is = c.in_ok-accepted.ensures in
     let rx = c.in_ok-post.ensures.ok in
     rw (← c.self.view_is) (rw (is, rx) (rw (← c.self.view_is) at done, refl))
+
+pub returns-then-has-clause-costs : goal.returns-then-has-clause-costs
+returns-then-has-clause-costs c = took_costs _ _ _ c.in_ok-receive_now.ensures
+
+pub returns-clause-costs : goal.returns-clause-costs
+returns-clause-costs c =
+    let is = c.in_ok-accepted.ensures in
+    rw (← c.self.view_is) (rw is (omega arith))

@@ -1,13 +1,13 @@
-use Rattle.std.proofs.Common.{◌≡◌, false, true, length, Some, arith, refl, ap, sym, ◌∙◌}
+use Rattle.std.proofs.Common.{◌≡◌, ◌<◌, false, true, length, Some, arith, refl, ap, sym, ◌∙◌}
 use Rattle.std.specs.Prelude.{nat_lt, nat_le}
 use Rattle.std.proofs.lemmas.Bool.Decides.{nat_tests}
 use Rattle.fab_model.specs.State.{lookup, in_use}
-use Rattle.fab_peer.specs.Endpoints.{message_head}
-use Rattle.fab_peer.proofs.Calling.{sends}
+use Rattle.fab_peer.specs.Endpoints.{accepted_call, message_head}
+use Rattle.fab_peer.proofs.Calling.{sends, queued_costs}
 use Rattle.fab_peer.proofs.endpoint.Endpoint.tsend.Goals as goal
 
-pub returns : goal.returns
-returns c =
+pub returns-clause-answers : goal.returns-clause-answers
+returns-clause-answers c =
     let s = c.args.self.now.state in
     let short : nat_lt 16_777_216 (length c.args.bytes) ≡ false = grind (arith, nat_tests, c.as_slice-len.ensures) in
     let tagged : s.caps.tagged ≡ true = rw (← c.self.view_is) c.if-not-self.false in
@@ -22,3 +22,9 @@ returns c =
     let is = c.in_ok-accepted.ensures in
     let queued = c.in_ok-queue.ensures in
     rw (is, queued, head) (done, refl)
+
+pub returns-clause-costs : goal.returns-clause-costs
+returns-clause-costs c =
+    let e = c.args.self.now in
+    let below : c.in-Some.to < length e.state.tx.accepted = c.in-Some.ensures.below c.in-Some.to (sym c.in-Some.ensures.peer) in
+    queued_costs c.in-Some.to c.message_head-head.result c.args.bytes c.args.ctx c.args.level c.args.completion e c.accepted.new.self below (c.in_ok-accepted.ensures ∙ ap accepted_call c.in_ok-queue.ensures)

@@ -1,6 +1,7 @@
-use Rattle.std.proofs.Common.{refl, sym, ap, Ok, ◌∙◌, arith}
+use Rattle.std.proofs.Common.{◌≡◌, true, inl, inr, refl, rules, ap, Ok, ◌∙◌, arith}
 use Rattle.fab_peer.proofs.Doing.{turned_then, turned_does, turned_went}
 use Rattle.fab_peer.proofs.Standing.{same_as_read, still_by}
+use Rattle.fab_peer.proofs.peer.Peer.quantum.Goals.{then-moved, else-moved}
 use Rattle.fab_peer.proofs.peer.Peer.quantum.Goals as goal
 
 pub do_lines-requires : goal.do_lines-requires
@@ -33,4 +34,25 @@ pub returns-else-again-clause-still : goal.returns-else-again-clause-still
 returns-else-again-clause-still c e some =
     let none = c.if-again.false in
     still_by c.read_all.new.self c.do_lines.new.self c.read_all-2.new.self c.progress.new.endpoint c.do_lines.new.port c.progress.new.port c.in_ok-read.ensures.read (c.in_ok-done.ensures.still (ap Ok none.1))
-    (c.in_ok-moved.ensures.still (ap Ok none.2) (omega arith)) c.in_ok-moved.ensures.went.ported.home (c.in_ok-again.ensures.still (ap Ok none.3)) (sym c.draws-draws.ensures ∙ cc e) some
+    (c.in_ok-moved.ensures.still (ap Ok none.2) (omega arith)) c.in_ok-moved.ensures.went.ported.home (c.in_ok-again.ensures.still (ap Ok none.3)) c.draws-draws.ensures.none some
+
+pub returns-then-again-clause-falls : goal.returns-then-again-clause-falls
+returns-then-again-clause-falls c e =
+    let read = c.in_ok-read.ensures.does.spends in
+    let lines = c.in_ok-done.ensures.turned.spends in
+    let went = c.in_ok-moved.ensures.went.spends in
+    let again = c.in_ok-again.ensures.does.spends in
+    elim c.if-moved.branch [
+      | then-moved w ↦ elim w.if-moved.either [
+        | inl is ↦ (let less = c.in_ok-read.ensures.falls (ap Ok is) in omega (arith, less, lines, went, again))
+        | inr other ↦ elim other [
+          | inl is ↦ (let less = c.in_ok-done.ensures.falls (ap Ok is.1) in omega (arith, read, less, went, again))
+          | inr is ↦ (let less = c.in_ok-moved.ensures.falls (ap Ok is.2) in omega (arith, read, lines, less, again))
+        ]
+      ]
+      | else-moved w ↦ (let is : c.in_ok-again.again ≡ true = search rules in let less = c.in_ok-again.ensures.falls (ap Ok is) in omega (arith, read, lines, went, less))
+    ]
+
+-- no draw is due
+pub returns-else-again-clause-falls : goal.returns-else-again-clause-falls
+returns-else-again-clause-falls c e = absurd (cc (e, c.draws-draws.ensures.due, c.draws-draws.ensures.none))

@@ -1,8 +1,8 @@
-use Rattle.std.proofs.Common.{◌≡◌, refl, ap, ◌∙◌}
+use Rattle.std.proofs.Common.{◌≡◌, refl, ap, ◌∙◌, arith}
 use Rattle.fab_model.specs.State.{State}
 use Rattle.fab_model.specs.Peers.{reading}
 use Rattle.fab_peer.specs.Endpoints.{Held}
-use Rattle.fab_peer.proofs.Doing.{does_then, does_read, read_facts}
+use Rattle.fab_peer.proofs.Doing.{does_then, does_read, read_facts, read_work}
 use Rattle.fab_peer.proofs.peer.Peer.read_all.Goals as goal
 
 pub entries-preserved : goal.entries-preserved
@@ -16,5 +16,6 @@ entries-preserved c =
       tx = ap (λ (s : State). s.tx) state ∙ before.tx;
       rx = ap (λ (s : State). s.rx) state ∙ before.rx;
       size = ap (λ (s : State). s.cq.size) state ∙ before.size;
+      falls = λ some. (let less = read_work c.entries.self (record c.entries.self { endpoint = c.read.new.self }) c.in-Some.entry read refl refl in omega (arith, less, before.does.spends));
       same = λ none. absurd (cc none);
     }

@@ -1,6 +1,7 @@
-use Rattle.std.proofs.Common.{◌≡◌, ◌-◌, false, length}
+use Rattle.std.proofs.Common.{◌≡◌, ◌<◌, ◌-◌, true, false, length}
 use Rattle.fab_model.specs.Peers.{facts}
 use Rattle.fab_peer.specs.Turns.{Does, actor_of}
+use Rattle.fab_peer.specs.Work.{actor_work}
 use Rattle.fab_peer.proofs.peer.Peer.read_all.Given as goal
 
 abbrev pub invariant-entries : goal.invariant-entries
@@ -10,6 +11,7 @@ invariant-entries l = record {
   tx : l.self.endpoint.state.tx ≡ l.fn.self.endpoint.state.tx;
   rx : l.self.endpoint.state.rx ≡ l.fn.self.endpoint.state.rx;
   size : l.self.endpoint.state.cq.size ≡ l.fn.self.endpoint.state.cq.size;
+  falls : l.any ≡ true → actor_work (actor_of l.self) < actor_work (actor_of l.fn.self);
   same : l.any ≡ false → actor_of l.self ≡ actor_of l.fn.self;
 }
 
