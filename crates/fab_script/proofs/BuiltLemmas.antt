@@ -1,151 +1,253 @@
 -- Every line of a script is one that the program carries out, and its completion queue has room.
-use Rattle.std.proofs.Common.{◌≡◌, ℕ, ◌<◌, ◌^◌, Bool, true, false, cond, ◌&&◌, eqb, leb, List, [], ◌∷◌, length, map, take, drop, Option, Some, None, sym, ap, subst, ◌∙◌, refl, arith}
-use Rattle.std.specs.Prelude.{codes, bytes_eq, IfSome, option_map, is_none}
+use Rattle.std.proofs.Common.{◌≡◌, ℕ, ◌+◌, ◌<◌, ◌≤◌, Bool, true, false, cond, not, ◌&&◌, eqb, leb, ltb, List, [], ◌∷◌, ◌++◌, length, map, take, drop, Option, Some, None, sym, ap, subst, ◌∙◌, refl, arith}
+use Rattle.std.specs.Prelude.{codes, bytes_eq, is_none, Result, Ok, Err, IfOk}
+use Rattle.std.specs.Result.{result_ok}
 use Rattle.std.specs.List.{list_all, range_with_len}
-use Rattle.fab_base.specs.Built.{is_built, all_built, is_short_text}
+use Rattle.std.proofs.lemmas.Bool.Decides.{nat_tests}
+use Rattle.std.proofs.lemmas.List.Folds.{list_all-append}
+use Rattle.fab_base.specs.Built.{is_built as is_carried_out, all_built, is_short_text}
+use Rattle.fab_base.specs.declared.script.BytesWord.{BytesWord}
 use Rattle.fab_base.specs.declared.script.BytesWord.TheVariants.{Text}
 use Rattle.fab_base.specs.declared.script.Line.{Line}
 use Rattle.fab_base.specs.declared.script.LineOp.{LineOp}
+use Rattle.fab_base.specs.declared.script.LineOp.TheVariants.{Wait}
 use Rattle.fab_base.specs.declared.script.Script.{Script}
+use Rattle.fab_base.specs.declared.status.Why.{Why}
+use Rattle.fab_base.specs.declared.status.Why.TheVariants as why
+use Rattle.fab_script.specs.declared.fault.Fault.{Fault}
+use Rattle.fab_script.specs.declared.fault.Fault.TheVariants.{Words, Limit}
 use Rattle.fab_script.specs.declared.items.Item.{Item}
 use Rattle.fab_script.specs.declared.items.Item.TheVariants.{Peer, Does}
+use Rattle.fab_script.specs.declared.language.Form.{Form}
+use Rattle.fab_script.specs.declared.language.Form.TheVariants.{Line as LineForm, Index, Long}
+use Rattle.fab_script.specs.declared.language.Language.TheVariants.{Built}
+use Rattle.fab_script.specs.declared.settings.Setting.{Setting}
+use Rattle.fab_script.specs.declared.verbs.Kind.{Kind}
+use Rattle.fab_script.specs.declared.verbs.Kind.TheVariants as kind
+use Rattle.fab_script.specs.declared.verbs.Verb.{Verb}
+use Rattle.fab_script.specs.declared.verbs.Verb.TheVariants as verb
+use Rattle.fab_script.specs.Before.{Before, nothing, peers_in, is_selective, until_peer, part_of, parts_of}
 use Rattle.fab_script.specs.Conf.{conf_for, info_for}
-use Rattle.fab_script.specs.Rows.{Row, rows_of}
-use Rattle.fab_script.specs.Words.{◌>>=◌, only_if, text_of, number_of, number_below, number_up_to}
-use Rattle.fab_script.specs.Lines.{tsend_of, trecv_of, wait_of, op_of, peer_of, item_of}
+use Rattle.fab_script.specs.Faults.{◌&◌, map_ok}
+use Rattle.fab_script.specs.Grammar.{Refusal, read_lines, script_with, script_said, then_script, verdict, script_of}
+use Rattle.fab_script.specs.Language.{has, has_form, other_forms, form_of_word, source_form, wait_form, is_any, is_built}
+use Rattle.fab_script.specs.Lines.{a_tsend, a_trecv, tsend_of, trecv_of, wait_of, op_of}
+use Rattle.fab_script.specs.declared.refused.ParseRefused.{ParseRefused}
+use Rattle.fab_script.specs.Refused.{IsVerdict}
+use Rattle.fab_script.specs.Rows.{is_text, words_of, lines_of}
+use Rattle.fab_script.specs.Rules.{Rules, is_header, header_rules, kind_rules, verb_rules, word_rules, why_of, with_setting, with_peer, with_call, with_kind, with_verb, with_words, with_line}
+use Rattle.fab_script.specs.Settings.{setting_of, peer_of}
+use Rattle.fab_script.specs.Verbs.{verb_of, kind_of}
+use Rattle.fab_script.specs.Words.{first_of, only_if, begins_with, read_number, read_index, read_len, read_source, read_bytes}
 use Rattle.fab_script.proofs.PartLemmas.{and_true}
-use Rattle.fab_script.specs.Grammar.{peers_of, items_of, until_peer, part_of, parts_of, is_sound, script_with, script_of_items, script_from, settings_and_parts, is_header, script_of_rows, script_of}
+use Rattle.fab_script.proofs.RuleLemmas.{rest_of, first_fails}
 
--- what holds of each value of the second holds of the value of both
-then : {A B : Type 0} (P : B → Type 0) (o : Option A) (f : A → Option B) → ((a : A) → o ≡ Some a → IfSome (f a) P) → IfSome (o >>= f) P
-then P None f h = tt
-then P (Some a) f h = h a refl
+-- ---- what both words say, each says
+both_said : {A B : Type 0} (a : Result A Fault) (b : Result B Fault) (x : A) (y : B) → (a & b) ≡ Ok (x, y) → (a ≡ Ok x) × (b ≡ Ok y)
+both_said {A} {B} (Ok a) (Ok b) x y e =
+    let p : ◌≡◌ {A = A × B} (a, b) (x, y) = cc in
+    (ap (λ q. Ok q.0) p, ap (λ q. Ok q.1) p)
+both_said (Ok a) (Err g) x y e = cc
+both_said (Err f) (Ok b) x y e = cc
+both_said (Err f) (Err g) x y e = cc
 
-only : {A : Type 0} (P : A → Type 0) (test : Bool) (a : A) → (test ≡ true → P a) → IfSome (only_if test a) P
-only P true a h = h refl
-only P false a h = tt
+said_by : {A B : Type 0} (f : A → B) (r : Result A Fault) (y : B) → map_ok f r ≡ Ok y → (x : A) × (r ≡ Ok x) × (f x ≡ y)
+said_by f (Ok x) y e = (x, refl, cc)
+said_by f (Err fault) y e = cc
 
-abbrev Built : Option LineOp → Type 0
-Built said = IfSome said (λ op. is_built op ≡ true)
+-- ---- a text that is not too long
+bytes_if : Bool → Bool → List ℕ → Result BytesWord Fault
+bytes_if is_a_text fits bytes = cond is_a_text (cond fits (Ok (Text bytes)) (Err Limit)) (Err Words)
 
--- the bytes of a word are at most 4,096
-short_text : (b : Bool) (bytes : List ℕ) → (b && leb (length bytes) 4096) ≡ true → leb (length bytes) 4096 ≡ true
-short_text true bytes e = e
-short_text false bytes e = cc
+short_bytes : (is_a_text is_long fits : Bool) (bytes : List ℕ) (said : BytesWord) → bytes_if is_a_text fits bytes ≡ Ok said → is_long ≡ ltb 4096 (length bytes) → (is_a_text && is_long) ≡ false → is_short_text said ≡ true
+unfolding bytes_if
+short_bytes false is_long fits bytes said e l built = cc
+short_bytes true true fits bytes said e l built = cc
+short_bytes true false false bytes said e l built = cc
+short_bytes true false true bytes said e l built =
+    let text : Text bytes ≡ said = cc in
+    let short : leb (length bytes) 4096 ≡ true = grind (arith, nat_tests) in
+    subst (λ s. is_short_text s ≡ true) text short
 
-text_short : (word : List ℕ) → IfSome (text_of word) (λ bytes. leb (length bytes) 4096 ≡ true)
-unfolding text_of
-text_short word = only (λ bytes. leb (length bytes) 4096 ≡ true) (bytes_eq (take 5 word) (codes "text:") && leb (length (drop 5 word)) 4096) (drop 5 word) (λ e. short_text (bytes_eq (take 5 word) (codes "text:")) (drop 5 word) e)
+not_long : (test : Bool) (rest : List (Bool × Form)) → has_form Built (first_of ((test, Long) ∷ rest)) ≡ true → test ≡ false
+not_long true rest e = cc
+not_long false rest e = refl
 
--- a choice of two
-either : {A : Type 0} (P : A → Type 0) (test : Bool) (a b : A) → P a → P b → P (cond test a b)
-either P true a b h k = h
-either P false a b h k = k
+bytes_built : (word : List ℕ) (said : BytesWord) → read_bytes word ≡ Ok said → has_form Built (form_of_word word) ≡ true → is_short_text said ≡ true
+unfolding read_bytes bytes_if
+bytes_built word said e built =
+    short_bytes (begins_with (codes "text:") word) (ltb 4096 (length (drop 5 word))) (leb (length (drop 5 word)) 33554432) (drop 5 word) said e refl
+    (not_long (begins_with (codes "text:") word && ltb 4096 (length (drop 5 word))) (other_forms word) built)
 
-tsend_built : (args : List (List ℕ)) → Built (tsend_of args)
+-- ---- the lines that are carried out
+tsend_built : (args : List (List ℕ)) (op : LineOp) → list_all (λ word. has_form Built (form_of_word word)) args ≡ true → tsend_of args ≡ Ok op → is_carried_out op ≡ true
 unfolding tsend_of
-tsend_built (ctx ∷ dest ∷ tag ∷ bytes ∷ []) =
-    then (λ op. is_built op ≡ true) (number_of ctx) _ (λ c _. then (λ op. is_built op ≡ true) (number_below (2 ^ 32) dest) _ (λ d _. then (λ op. is_built op ≡ true) (number_of tag) _ (λ t _. then (λ op. is_built op ≡ true) (text_of bytes) _ (λ b e.
-    let short : IfSome (Some b) (λ bytes. leb (length bytes) 4096 ≡ true) = subst (λ o. IfSome o (λ bytes. leb (length bytes) 4096 ≡ true)) e (text_short bytes) in
-    rw short refl))))
-tsend_built _ = tt
+tsend_built (ctx ∷ dest ∷ tag ∷ bytes ∷ []) op forms e =
+    let said = said_by a_tsend _ op e in
+    let word = (both_said (read_number ctx & read_index dest & read_number tag) (read_bytes bytes) said.0.0 said.0.1 said.1).1 in
+    let last = and_true (has_form Built (form_of_word bytes)) true (and_true (has_form Built (form_of_word tag)) _ (and_true (has_form Built (form_of_word dest)) _ (and_true (has_form Built (form_of_word ctx)) _ forms).1).1).1 in
+    let short : is_short_text said.0.1 ≡ true = bytes_built bytes said.0.1 word last.0 in
+    subst (λ o. is_carried_out o ≡ true) said.2 (rw short refl)
+tsend_built _ op forms e = cc
 
-trecv_built : (args : List (List ℕ)) → Built (trecv_of args)
-unfolding trecv_of
-trecv_built (ctx ∷ source ∷ tag ∷ ignore ∷ len ∷ []) =
-    then (λ op. is_built op ≡ true) (number_of ctx) _ (λ c _. then (λ op. is_built op ≡ true) (only_if (bytes_eq source (codes "*")) None) _ (λ s e. then (λ op. is_built op ≡ true) (number_of tag) _ (λ t _. then (λ op. is_built op ≡ true) (number_of ignore) _ (λ i _. then (λ op. is_built op ≡ true) (number_up_to 33554432 len) _ (λ l _.
-    none (bytes_eq source (codes "*")) s e)))))
-  where
-    none : (test : Bool) (s : Option ℕ) → only_if test None ≡ Some s → is_none s ≡ true
-    none true s e = cc
-    none false s e = cc
-trecv_built _ = tt
+source_built : (any : Bool) (index : Result (Option ℕ) Fault) (said : Option ℕ) → cond any (Ok None) index ≡ Ok said → has_form Built (only_if (true && not any) Index) ≡ true → is_none said ≡ true
+source_built true index said e built = cc
+source_built false index said e built = cc
 
-wait_built : (args : List (List ℕ)) → Built (wait_of args)
+trecv_built : (args : List (List ℕ)) (op : LineOp) → has_form Built (source_form verb.TRecv args) ≡ true → trecv_of args ≡ Ok op → is_carried_out op ≡ true
+unfolding trecv_of read_source
+trecv_built (ctx ∷ source ∷ tag ∷ ignore ∷ len ∷ []) op built e =
+    let said = said_by a_trecv _ op e in
+    let words = said.0 in
+    let four = (both_said (read_number ctx & read_source source & read_number tag & read_number ignore) (read_len len) words.0 words.1 said.1).0 in
+    let three = (both_said (read_number ctx & read_source source & read_number tag) (read_number ignore) words.0.0 words.0.1 four).0 in
+    let two = (both_said (read_number ctx & read_source source) (read_number tag) words.0.0.0 words.0.0.1 three).0 in
+    let from = (both_said (read_number ctx) (read_source source) words.0.0.0.0 words.0.0.0.1 two).1 in
+    subst (λ o. is_carried_out o ≡ true) said.2 (source_built (is_any source) _ words.0.0.0.1 from built)
+trecv_built _ op built e = cc
+
+wait_built : (args : List (List ℕ)) (op : LineOp) → wait_of args ≡ Ok op → is_carried_out op ≡ true
 unfolding wait_of
-wait_built (ctx ∷ []) = then (λ op. is_built op ≡ true) (number_of ctx) _ (λ c _. refl)
-wait_built _ = tt
+wait_built (ctx ∷ []) op e = subst (λ o. is_carried_out o ≡ true) (said_by (λ n. Wait (Some n)) (read_number ctx) op e).2 refl
+wait_built _ op e = cc
 
-op_built : (verb : List ℕ) (args : List (List ℕ)) → Built (op_of verb args)
+-- what a line is of whose forms are all built
+pub record Forms (verb : Verb) (args : List (List ℕ)) : Type 0 where
+  pub line : has Built (LineForm verb) ≡ true
+  pub source : has_form Built (source_form verb args) ≡ true
+  pub words : list_all (λ word. has_form Built (form_of_word word)) args ≡ true
+
+forms_of : (verb : Verb) (args : List (List ℕ)) → is_built Built verb args ≡ true → Forms verb args
+unfolding is_built
+forms_of verb args e =
+    let words = and_true (has Built (LineForm verb) && has_form Built (source_form verb args) && has_form Built (wait_form verb args)) (list_all (λ word. has_form Built (form_of_word word)) args) e in
+    let wait = and_true (has Built (LineForm verb) && has_form Built (source_form verb args)) (has_form Built (wait_form verb args)) words.0 in
+    let source = and_true (has Built (LineForm verb)) (has_form Built (source_form verb args)) wait.0 in
+    record { line = source.0; source = source.1; words = words.1 }
+
+op_built : (verb : Verb) (args : List (List ℕ)) (op : LineOp) → Forms verb args → op_of verb args ≡ Ok op → is_carried_out op ≡ true
 unfolding op_of
-op_built verb args = either Built (bytes_eq verb (codes "tsend")) (tsend_of args) _ (tsend_built args)
-    (either Built (bytes_eq verb (codes "trecv")) (trecv_of args) _ (trecv_built args)
-    (either Built (bytes_eq verb (codes "wait")) (wait_of args) None (wait_built args) tt))
+op_built verb.TSend args op f e = tsend_built args op f.words e
+op_built verb.TRecv args op f e = trecv_built args op f.source e
+op_built verb.Wait args op f e = wait_built args op e
+op_built _ args op f e = cc
 
--- each line among the items is built
+-- ---- each line among the items is built
 abbrev built_item : Item → Bool
 built_item (Peer k) = true
-built_item (Does line) = is_built line.op
+built_item (Does line) = is_carried_out line.op
 
-item_built : (row : Row) → IfSome (item_of row) (λ item. built_item item ≡ true)
-unfolding item_of peer_of
-item_built (number, []) = tt
-item_built (number, verb ∷ args) = either (λ o. IfSome o (λ item. built_item item ≡ true)) (bytes_eq verb (codes "peer")) _ _ (peer args) (line (op_of verb args) (op_built verb args))
+abbrev AreBuilt : List Item → Type 0
+AreBuilt items = list_all built_item items ≡ true
+
+one_more : (items : List Item) (item : Item) → AreBuilt items → built_item item ≡ true → AreBuilt (items ++ item ∷ [])
+one_more items item all one = list_all-append built_item items (item ∷ []) ∙ rw (all, one) refl
+
+with_setting_built : (before : Before) (said : Result Setting Fault) → AreBuilt before.items → AreBuilt (with_setting before said).items
+with_setting_built before (Ok setting) all = all
+with_setting_built before (Err fault) all = all
+
+with_peer_built : (before : Before) (said : Result ℕ Fault) → AreBuilt before.items → AreBuilt (with_peer before said).items
+with_peer_built before (Ok k) all = one_more before.items (Peer k) all refl
+with_peer_built before (Err fault) all = all
+
+with_call_built : (before : Before) (number : ℕ) (said : Result LineOp Fault) → AreBuilt before.items → ((op : LineOp) → said ≡ Ok op → is_carried_out op ≡ true) → AreBuilt (with_call before number said).items
+with_call_built before number (Ok op) all built = one_more before.items (Does (record { number = number; op = op })) all (built op refl)
+with_call_built before number (Err fault) all built = all
+
+with_kind_built : (k : Kind) (before : Before) (number : ℕ) (verb : Verb) (args : List (List ℕ)) → AreBuilt before.items → is_built Built verb args ≡ true → AreBuilt (with_kind k before number verb args).items
+with_kind_built kind.Setting before number verb args all e = with_setting_built before (setting_of verb args) all
+with_kind_built kind.Peer before number verb args all e = with_peer_built before (peer_of args) all
+with_kind_built kind.Call before number verb args all e = with_call_built before number (op_of verb args) all (λ op said. op_built verb args op (forms_of verb args e) said)
+
+not_false : (b : Bool) → not b ≡ false → b ≡ true
+not_false true e = refl
+not_false false e = cc
+
+with_verb_built : (before : Before) (number : ℕ) (verb : Option Verb) (args : List (List ℕ)) → AreBuilt before.items → first_of (verb_rules Built before number verb args) ≡ None → AreBuilt (with_verb before number verb args).items
+with_verb_built before number None args all e = all
+with_verb_built before number (Some verb) args all e =
+    with_kind_built (kind_of verb) before number verb args all (not_false (is_built Built verb args) (first_fails (not (is_built Built verb args)) why.Unbuilt (kind_rules (kind_of verb) before number verb args) e))
+
+either_built : (test : Bool) (a b : Rules) (x y : Before) → (first_of a ≡ None → AreBuilt x.items) → AreBuilt y.items → first_of (cond test a b) ≡ None → AreBuilt (cond test x y).items
+either_built true a b x y f all e = f e
+either_built false a b x y f all e = all
+
+with_words_built : (before : Before) (number : ℕ) (words : List (List ℕ)) → AreBuilt before.items → first_of (word_rules Built before number words) ≡ None → AreBuilt (with_words before number words).items
+with_words_built before number [] all e = all
+with_words_built before number (word ∷ args) all e =
+    either_built before.has_header (verb_rules Built before number (verb_of word) args) (header_rules number (word ∷ args)) (with_verb before number (verb_of word) args) (record before { has_header = true })
+    (with_verb_built before number (verb_of word) args all) all e
+
+with_line_built : (before : Before) (number : ℕ) (line : List ℕ) → AreBuilt before.items → why_of Built before number line ≡ None → AreBuilt (with_line before number line).items
+unfolding why_of with_line
+with_line_built before number line all e = with_words_built before number (words_of line) all (rest_of (not (is_text line)) why.NotText (word_rules Built before number (words_of line)) e)
+
+read_built : (before : Before) (number : ℕ) (lines : List (List ℕ)) (after : Before) → AreBuilt before.items → read_lines Built before number lines ≡ Ok after → AreBuilt after.items
+unfolding read_lines
+read_built before number [] after all e =
+    let same : before ≡ after = cc in
+    ap (λ b. list_all built_item b.items) (sym same) ∙ all
+read_built before number (line ∷ lines) after all e =
+    by_why (why_of Built before number line) refl (λ none f. read_built (with_line before number line) (number + 1) lines after (with_line_built before number line all none) f) e
   where
-    peer : (args : List (List ℕ)) → IfSome (peer_of args) (λ item. built_item item ≡ true)
-    peer (n ∷ []) = opened (number_of n)
-      where
-        opened : (o : Option ℕ) → IfSome (option_map Peer o) (λ item. built_item item ≡ true)
-        opened None = tt
-        opened (Some k) = refl
-    peer _ = tt
+    by_why : (rules : Option Why) → why_of Built before number line ≡ rules → (why_of Built before number line ≡ None → read_lines Built (with_line before number line) (number + 1) lines ≡ Ok after → AreBuilt after.items) → elim rules as (λ _. Result Before Refusal) [ Some why ↦ Err (number, why) | None ↦ read_lines Built (with_line before number line) (number + 1) lines ] ≡ Ok after → AreBuilt after.items
+    by_why (Some why) f rest e = cc
+    by_why None f rest e = rest f e
 
-    line : (o : Option LineOp) → Built o → IfSome (option_map (λ op. Does (record { number = number; op = op })) o) (λ item. built_item item ≡ true)
-    line None b = tt
-    line (Some op) b = b
-
-items_built : (rows : List Row) → IfSome (items_of rows) (λ items. list_all built_item items ≡ true)
-unfolding items_of
-items_built [] = refl
-items_built (row ∷ rows) =
-    then (λ items. list_all built_item items ≡ true) (item_of row) _ (λ item e. then (λ items. list_all built_item items ≡ true) (items_of rows) _ (λ items f.
-    let first : built_item item ≡ true = subst (λ o. IfSome o (λ item. built_item item ≡ true)) e (item_built row) in
-    let rest : list_all built_item items ≡ true = subst (λ o. IfSome o (λ items. list_all built_item items ≡ true)) f (items_built rows) in
-    rw (first, rest) refl))
-
+-- ---- the parts
 abbrev lines_built : List Line → Bool
-lines_built lines = list_all (λ line. is_built line.op) lines
+lines_built lines = list_all (λ line. is_carried_out line.op) lines
 
-until_built : (items : List Item) → list_all built_item items ≡ true → lines_built (until_peer items) ≡ true
+until_built : (items : List Item) → AreBuilt items → lines_built (until_peer items) ≡ true
 until_built [] e = refl
 until_built (Peer k ∷ items) e = refl
 until_built (Does line ∷ items) e =
-    let both = and_true (is_built line.op) (list_all built_item items) e in
+    let both = and_true (is_carried_out line.op) (list_all built_item items) e in
     rw (both.0, until_built items both.1) refl
 
-part_built : (k : ℕ) (items : List Item) → list_all built_item items ≡ true → lines_built (part_of k items) ≡ true
-part_built k [] e = refl
-part_built k (Does line ∷ items) e = part_built k items (and_true (is_built line.op) (list_all built_item items) e).1
-part_built k (Peer j ∷ items) e = either (λ lines. lines_built lines ≡ true) (eqb j k) (until_peer items) (part_of k items) (until_built items e) (part_built k items e)
+either : (test : Bool) (a b : List Line) → lines_built a ≡ true → lines_built b ≡ true → lines_built (cond test a b) ≡ true
+either true a b h k = h
+either false a b h k = k
 
-all_parts_built : (items : List Item) (peers : List ℕ) → list_all built_item items ≡ true → all_built (map (λ k. part_of k items) peers) ≡ true
+part_built : (k : ℕ) (items : List Item) → AreBuilt items → lines_built (part_of k items) ≡ true
+part_built k [] e = refl
+part_built k (Does line ∷ items) e = part_built k items (and_true (is_carried_out line.op) (list_all built_item items) e).1
+part_built k (Peer j ∷ items) e = either (eqb j k) (until_peer items) (part_of k items) (until_built items e) (part_built k items e)
+
+all_parts_built : (items : List Item) (peers : List ℕ) → AreBuilt items → all_built (map (λ k. part_of k items) peers) ≡ true
 all_parts_built items [] e = refl
 all_parts_built items (k ∷ peers) e = rw (part_built k items e, all_parts_built items peers e) refl
 
-abbrev CarriedOut : Script → Type 0
+abbrev pub CarriedOut : Script → Type 0
 CarriedOut script = (all_built script.peers ≡ true) × (0 < script.conf.info.cq)
 
-abbrev IsCarriedOut : Option Script → Type 0
-IsCarriedOut said = IfSome said CarriedOut
-
-of_items : (n : ℕ) (items : List Item) → list_all built_item items ≡ true → IsCarriedOut (script_of_items n items)
-unfolding script_of_items script_with conf_for info_for
-of_items n items e = only _ (is_sound n items) _ (λ _. (all_parts_built items (range_with_len 0 n) e, omega arith))
-
-of_rows : (rows : List Row) → IsCarriedOut (script_of_rows rows)
-unfolding script_of_rows settings_and_parts script_from
-of_rows [] = tt
-of_rows (header ∷ rows) = then CarriedOut (only_if (is_header header.1) rows) _ (λ rows _. settings rows)
+said_built : (count : ℕ) (before : Before) (script : Script) → AreBuilt before.items → script_said count before ≡ Ok script → CarriedOut script
+unfolding script_said script_with conf_for info_for
+said_built count before script all e = by_header before.has_header (peers_in before.settings) e
   where
-    settings : (rows : List Row) → IsCarriedOut (settings_and_parts rows)
-    settings [] = tt
-    settings (setting ∷ rows) = then CarriedOut (peers_of setting.1) _ (λ n _. then (λ script. (all_built script.peers ≡ true) × (0 < script.conf.info.cq)) (items_of rows) _ (λ items e.
-        of_items n items (subst (λ o. IfSome o (λ items. list_all built_item items ≡ true)) e (items_built rows))))
+    by_header : (b : Bool) (peers : Option ℕ) → cond b (elim peers as (λ _. Result Script Refusal) [ None ↦ Err (count, why.Missing) | Some n ↦ Ok (script_with n (is_selective before.settings) (parts_of n before.items)) ]) (Err (0, why.Header)) ≡ Ok script → CarriedOut script
+    by_header false peers e = cc
+    by_header true None e = cc
+    by_header true (Some n) e =
+        let same : script_with n (is_selective before.settings) (parts_of n before.items) ≡ script = cc in
+        subst CarriedOut same (all_parts_built before.items (range_with_len 0 n) all, omega arith)
 
-of_bytes : (bytes : List ℕ) → IsCarriedOut (script_of bytes)
-unfolding script_of
-of_bytes bytes = then CarriedOut (rows_of bytes) _ (λ rows _. of_rows rows)
+then_built : (count : ℕ) (read : Result Before Refusal) (script : Script) → ((after : Before) → read ≡ Ok after → AreBuilt after.items) → then_script count read ≡ Ok script → CarriedOut script
+then_built count (Ok after) script all e = said_built count after script (all after refl) e
+then_built count (Err refusal) script all e = cc
+
+ok_of : {A E : Type 0} (r : Result A E) (x : A) → result_ok r ≡ Some x → r ≡ Ok x
+ok_of (Ok a) x e = cc
+ok_of (Err f) x e = cc
 
 -- what the program can rely on
-pub carried_out : (bytes : List ℕ) (script : Script) → script_of bytes ≡ Some script → (all_built script.peers ≡ true) × (0 < script.conf.info.cq)
-carried_out bytes script e = subst IsCarriedOut e (of_bytes bytes)
+pub carried_out : (bytes : List ℕ) (script : Script) → script_of bytes ≡ Some script → CarriedOut script
+unfolding script_of verdict
+carried_out bytes script e =
+    then_built (length (lines_of bytes)) (read_lines Built nothing 1 (lines_of bytes)) script (λ after said. read_built nothing 1 (lines_of bytes) after refl said) (ok_of (verdict Built bytes) script e)
+
+pub is_verdict : (bytes : List ℕ) (result : Result Script ParseRefused) → IsVerdict (verdict Built bytes) result → IfOk result CarriedOut
+unfolding script_of
+is_verdict bytes (Ok script) e = carried_out bytes script (ap result_ok e)
+is_verdict bytes (Err refused) e = tt

@@ -1,5 +1,5 @@
 -- A list, cut at the first element that passes a test.
-use Rattle.std.proofs.Common.{◌≡◌, ℕ, ◌+◌, ◌-◌, ◌<◌, ◌≤◌, Bool, true, false, cond, List, [], ◌∷◌, ◌⊎◌, inl, inr, length, take, drop, Some, None, sym, ap, ◌∙◌, refl, arith, length-drop}
+use Rattle.std.proofs.Common.{◌≡◌, ℕ, ◌+◌, ◌-◌, ◌<◌, ◌≤◌, Bool, true, false, cond, List, [], ◌∷◌, ◌⊎◌, inl, inr, length, take, drop, Some, None, sym, ap, ◌∙◌, refl, arith, length-drop, length-take}
 use Rattle.std.specs.List.{position, position_or_len, before_first, after_first, slice_split, All}
 use Rattle.std.proofs.lemmas.Bool.Decides.{nat_tests}
 use Rattle.std.proofs.lemmas.List.{take_all, drop_all}
@@ -35,6 +35,7 @@ cut_nowhere p xs e =
 -- the parts are the part before the cut, and those of what is after it
 pub record CutOff (p : ℕ → Bool) (xs : List ℕ) : Type 0 where
   pub parts : slice_split p xs ≡ before_first p xs ∷ slice_split p (after_first p xs)
+  pub ended : length (before_first p xs) < length xs
 
 pub record CutNowhere (p : ℕ → Bool) (xs : List ℕ) : Type 0 where
   pub parts : slice_split p xs ≡ before_first p xs ∷ []
@@ -44,7 +45,7 @@ pub record CutNowhere (p : ℕ → Bool) (xs : List ℕ) : Type 0 where
 pub parts_of_cut : (p : ℕ → Bool) (xs : List ℕ) → CutOff p xs ⊎ CutNowhere p xs
 parts_of_cut p xs =
     elim (cases_lt (position_or_len p xs) (length xs)) [
-      | inl within ↦ inl (record { parts = slice_split_first p xs 0 within })
+      | inl within ↦ inl (record { parts = slice_split_first p xs 0 within; ended = omega (arith, length-take (position_or_len p xs) xs) })
       | inr past ↦
           let beyond : length xs ≤ position_or_len p xs + 1 = omega arith in
           let all = take_all _ xs past in

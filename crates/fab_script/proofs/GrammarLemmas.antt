@@ -1,158 +1,97 @@
--- What the rows that are left say, row by row.
-use Rattle.std.proofs.Common.{◌≡◌, ◌≢◌, ℕ, true, false, List, [], ◌∷◌, ◌++◌, length, map, Option, Some, None, option_map, sym, ap, ◌∙◌, refl, arith, append_assoc, append-nil}
-use Rattle.std.proofs.lemmas.Bool.{true≢false}
-use Rattle.fab_script.specs.declared.items.Item.{Item}
-use Rattle.fab_script.specs.declared.parts.Parts.{Parts}
-use Rattle.fab_script.specs.Rows.{Row, lines_of, rows_left}
-use Rattle.fab_script.specs.Words.{◌>>=◌}
-use Rattle.fab_script.specs.Lines.{item_of}
-use Rattle.fab_script.specs.Grammar.{is_header, peers_of, items_of, is_sound, parts_of, script_with, script_of_items, script_from, settings_and_parts, script_of_rows, script_of, said_of}
-use Rattle.fab_script.specs.Parts.{Holds, Takes, HoldsAll}
-use Rattle.fab_script.proofs.PartLemmas.{unsound_front}
+-- The lines that are left, read one after another.
+use Rattle.std.proofs.Common.{◌≡◌, ℕ, ◌+◌, ◌≤◌, List, [], ◌∷◌, length, map, true, false, Option, Some, None, sym, ap, ◌∙◌, refl, arith}
+use Rattle.std.specs.Prelude.{Result, Ok, Err, unwrap_or}
+use Rattle.fab_base.specs.declared.script.Script.{Script}
+use Rattle.fab_base.specs.declared.status.Why.{Why}
+use Rattle.fab_script.specs.declared.language.Language.{Language}
+use Rattle.fab_script.specs.declared.reader.Reader.{Reader}
+use Rattle.fab_script.specs.declared.refused.Refused.TheVariants.{Why as Because}
+use Rattle.fab_script.specs.Before.{Before, nothing, peers_in, parts_of}
+use Rattle.fab_script.specs.Rows.{lines_of}
+use Rattle.fab_script.specs.Rules.{is_late, why_of, with_line}
+use Rattle.std.proofs.lemmas.Bool.Decides.{nat_tests}
+use Rattle.fab_script.proofs.RuleLemmas.{in_time}
+use Rattle.fab_script.specs.Parts.{Holds, Answers}
+use Rattle.fab_script.specs.Grammar.{script_with, read_lines, verdict, then_script, script_said, Refusal}
 
-pub peers_of_other : (name : List ℕ) (args : List (List ℕ)) → length args ≢ 1 → peers_of (name ∷ args) ≡ None
-unfolding peers_of
-peers_of_other name (a ∷ []) h = absurd (h (omega arith))
-peers_of_other name _ h = refl
+-- The lines before are taken: what they say, which the reader has, and what the lines that are left make of it.
+pub record Progress (language : Language) (bytes : List ℕ) (left : ℕ × List (List ℕ)) (reader : Reader) : Type 0 where
+  pub before : Before
+  pub holds : Holds reader before
+  pub rest : read_lines language nothing 1 (lines_of bytes) ≡ read_lines language before (left.0 + 1) left.1
+  pub count : length (lines_of bytes) ≡ left.0 + length left.1
+  pub few : left.0 ≤ 100000
 
-abbrev Left : Type 0
-Left = ℕ × List (List ℕ)
+-- where no line is refused
+pub script_made : (count n : ℕ) (reader : Reader) (before : Before) → Holds reader before → reader.has_header ≡ true → reader.peers ≡ Some n → script_said count before ≡ Ok (script_with n reader.is_selective (map (λ part. part.items) reader.parts.lines.items))
+unfolding script_said
+script_made count n reader before h header peers =
+    let said : peers_in before.settings ≡ Some n = sym h.peers ∙ peers in
+    let parts : map (λ part. part.items) reader.parts.lines.items ≡ parts_of n before.items =
+    h.parts.lines ∙ ap (λ o. parts_of (unwrap_or o 0) before.items) said in
+    rw (sym h.header, header, said, sym h.selective) (ap (λ lists. Ok (script_with n reader.is_selective lists)) (sym parts))
 
--- a row before the rows that are left
-abbrev onto : Row → Option (List Row) → Option (List Row)
-onto row rows = option_map (λ more. row ∷ more) rows
+no_line : (language : Language) (before : Before) (number : ℕ) → read_lines language before number [] ≡ Ok before
+unfolding read_lines
+no_line language before number = refl
 
-header_onto : (row : Row) (rows : Option (List Row)) → is_header row.1 ≡ true → (onto row rows >>= script_of_rows) ≡ (rows >>= settings_and_parts)
-unfolding script_of_rows
-header_onto row None e = refl
-header_onto row (Some rows) e = rw e refl
+line_taken : (language : Language) (before : Before) (number : ℕ) (line : List ℕ) (lines : List (List ℕ)) → why_of language before number line ≡ None → read_lines language before number (line ∷ lines) ≡ read_lines language (with_line before number line) (number + 1) lines
+unfolding read_lines
+line_taken language before number line lines e = rw (e, read_lines) refl
 
-pub header_taken : (row : Row) (old new : Left) → rows_left old ≡ onto row (rows_left new) → is_header row.1 ≡ true → said_of script_of_rows old ≡ said_of settings_and_parts new
-header_taken row old new left e = ap (λ rows. rows >>= script_of_rows) left ∙ header_onto row (rows_left new) e
+line_refused : (language : Language) (before : Before) (number : ℕ) (line : List ℕ) (lines : List (List ℕ)) (why : Why) → why_of language before number line ≡ Some why → read_lines language before number (line ∷ lines) ≡ Err (number, why)
+unfolding read_lines
+line_refused language before number line lines why e = rw (e, read_lines) refl
 
-header_none : (row : Row) (rows : Option (List Row)) → is_header row.1 ≡ false → (onto row rows >>= script_of_rows) ≡ None
-unfolding script_of_rows
-header_none row None e = refl
-header_none row (Some rows) e = rw e refl
+pub progress_none : (language : Language) (bytes : List ℕ) (left : ℕ × List (List ℕ)) (reader : Reader) → left ≡ (0, lines_of bytes) → Holds reader nothing → Progress language bytes left reader
+progress_none language bytes left reader e h = record {
+  before = nothing;
+  holds = h;
+  rest = ap (λ l. read_lines language nothing (l.0 + 1) l.1) (sym e);
+  count = omega (arith, ap (λ l. l.0) e, ap (λ l. length l.1) e);
+  few = omega (arith, ap (λ l. l.0) e);
+}
 
-pub header_refused : (row : Row) (old new : Left) → rows_left old ≡ onto row (rows_left new) → is_header row.1 ≡ false → said_of script_of_rows old ≡ None
-header_refused row old new left e = ap (λ rows. rows >>= script_of_rows) left ∙ header_none row (rows_left new) e
+number_next : (number left next : ℕ) → number ≡ left + 1 → next ≡ left + 1 → number + 1 ≡ next + 1
+number_next number left next n m = omega arith
 
-pub header_missing : (old : Left) → rows_left old ≡ Some [] → said_of script_of_rows old ≡ None
-unfolding script_of_rows
-header_missing old e = rw e refl
+-- a line that breaks no rule is not late
+below : (n : ℕ) → is_late n ≡ false → n ≤ 100000
+below n e = grind (arith, nat_tests)
 
-settings_onto : (row : Row) (n : ℕ) (rows : Option (List Row)) → peers_of row.1 ≡ Some n → (onto row rows >>= settings_and_parts) ≡ (rows >>= script_from n)
-unfolding settings_and_parts
-settings_onto row n None e = refl
-settings_onto row n (Some rows) e = rw e refl
+few_lines : (left number next : ℕ) → number ≡ left + 1 → next ≡ left + 1 → is_late number ≡ false → next ≤ 100000
+few_lines left number next n m late =
+    let few = below number late in
+    omega arith
 
-pub settings_taken : (row : Row) (n : ℕ) (old new : Left) → rows_left old ≡ onto row (rows_left new) → peers_of row.1 ≡ Some n → said_of settings_and_parts old ≡ said_of (script_from n) new
-settings_taken row n old new left e = ap (λ rows. rows >>= settings_and_parts) left ∙ settings_onto row n (rows_left new) e
-
-settings_none : (row : Row) (rows : Option (List Row)) → peers_of row.1 ≡ None → (onto row rows >>= settings_and_parts) ≡ None
-unfolding settings_and_parts
-settings_none row None e = refl
-settings_none row (Some rows) e = rw e refl
-
-pub settings_refused : (row : Row) (old new : Left) → rows_left old ≡ onto row (rows_left new) → peers_of row.1 ≡ None → said_of settings_and_parts old ≡ None
-settings_refused row old new left e = ap (λ rows. rows >>= settings_and_parts) left ∙ settings_none row (rows_left new) e
-
-pub settings_missing : (old : Left) → rows_left old ≡ Some [] → said_of settings_and_parts old ≡ None
-unfolding settings_and_parts
-settings_missing old e = rw e refl
-
--- The parts are read up to some row: the items so far, which the parts hold, and what the rows that are left say.
-pub record Progress (n : ℕ) (all left : Left) (parts : Parts) : Type 0 where
-  pub items : List Item
-  pub holds : Holds n parts items
-  pub rest : said_of items_of all ≡ option_map (λ more. items ++ more) (said_of items_of left)
-
-same_option : {A : Type 0} (o : Option (List A)) → o ≡ option_map (λ more. [] ++ more) o
-same_option None = refl
-same_option (Some xs) = refl
-
-pub progress_none : (n : ℕ) (left : Left) (parts : Parts) → Holds n parts [] → Progress n left left parts
-progress_none n left parts h = record { items = []; holds = h; rest = same_option (said_of items_of left) }
-
-pub progress_all : (n : ℕ) (all left : Left) (parts : Parts) (p : Progress n all left parts) → rows_left left ≡ Some [] → said_of items_of all ≡ Some p.items
-unfolding items_of
-progress_all n all left parts p e = p.rest ∙ rw e (ap Some (append-nil p.items))
-
--- what the script is, of the items
-script_of_said : (n : ℕ) (rows : Option (List Row)) → (rows >>= script_from n) ≡ ((rows >>= items_of) >>= script_of_items n)
-unfolding script_from
-script_of_said n None = refl
-script_of_said n (Some rows) = refl
-
-no_script : (n : ℕ) (all : Left) → said_of items_of all ≡ None → said_of (script_from n) all ≡ None
-no_script n all e = script_of_said n (rows_left all) ∙ rw e refl
-
-pub progress_bad : (n : ℕ) (all left : Left) (parts : Parts) → Progress n all left parts → rows_left left ≡ None → said_of (script_from n) all ≡ None
-progress_bad n all left parts p e = no_script n all (p.rest ∙ rw e refl)
-
-items_onto_none : (row : Row) (rows : Option (List Row)) → item_of row ≡ None → (onto row rows >>= items_of) ≡ None
-unfolding items_of
-items_onto_none row None e = refl
-items_onto_none row (Some rows) e = rw e refl
-
-then_some : {A B : Type 0} (f : A → B) (o : Option A) → (o >>= λ x. Some (f x)) ≡ option_map f o
-then_some f None = refl
-then_some f (Some x) = refl
-
-items_onto : (row : Row) (item : Item) (rows : Option (List Row)) → item_of row ≡ Some item → (onto row rows >>= items_of) ≡ option_map (λ more. item ∷ more) (rows >>= items_of)
-unfolding items_of
-items_onto row item None e = refl
-items_onto row item (Some rows) e = rw e (then_some (λ more. item ∷ more) (items_of rows))
-
-one_more : (xs : List Item) (item : Item) (o : Option (List Item)) → option_map (λ more. xs ++ more) (option_map (λ more. item ∷ more) o) ≡ option_map (λ more. (xs ++ item ∷ []) ++ more) o
-one_more xs item None = refl
-one_more xs item (Some more) = ap Some (sym (append_assoc xs (item ∷ []) more))
-
--- the items of the rows that are left, the first of which says this
-left_items : (row : Row) (item : Item) (left next : Left) → rows_left left ≡ onto row (rows_left next) → item_of row ≡ Some item → said_of items_of left ≡ option_map (λ more. item ∷ more) (said_of items_of next)
-left_items row item left next e said = ap (λ rows. rows >>= items_of) e ∙ items_onto row item (rows_left next) said
-
-pub progress_taken : (n : ℕ) (all left next : Left) (old new : Parts) (row : Row) (p : Progress n all left old) → rows_left left ≡ onto row (rows_left next) → Takes old new (item_of row) true → Progress n all next new
-progress_taken n all left next old new row p e takes = by_item (item_of row) refl takes
+-- a line that is taken, one that is refused, and the end
+pub progress_taken : (language : Language) (bytes : List ℕ) (left next : ℕ × List (List ℕ)) (old new : Reader) (number : ℕ) (line : List ℕ) (p : Progress language bytes left old) → number ≡ left.0 + 1 → next.0 ≡ left.0 + 1 → left.1 ≡ line ∷ next.1 → Answers (why_of language p.before number line) (with_line p.before number line) new (Ok tt) → Progress language bytes next new
+progress_taken language bytes left next old new number line p n m lines answer = by_rule (why_of language p.before number line) refl answer
   where
-    by_item : (said : Option Item) → item_of row ≡ said → Takes old new said true → Progress n all next new
-    by_item None said t = absurd (true≢false t)
-    by_item (Some item) said t = record {
-      items = p.items ++ item ∷ [];
-      holds = t n p.items p.holds;
-      rest = p.rest ∙ (ap (option_map (λ more. p.items ++ more)) (left_items row item left next e said) ∙ one_more p.items item (said_of items_of next));
+    by_rule : (rules : Option Why) → why_of language p.before number line ≡ rules → Answers rules (with_line p.before number line) new (Ok tt) → Progress language bytes next new
+    by_rule (Some why) e a = absurd a
+    by_rule None e a = record {
+      before = with_line p.before number line;
+      holds = a;
+      rest = p.rest ∙ (ap (λ k. read_lines language p.before k left.1) (sym n) ∙ (ap (read_lines language p.before number) lines
+          ∙ (line_taken language p.before number line next.1 e ∙ ap (λ k. read_lines language (with_line p.before number line) k next.1) (number_next number left.0 next.0 n m))));
+      count = omega (arith, p.count, ap length lines);
+      few = few_lines left.0 number next.0 n m (in_time language p.before number line e);
     }
 
-unsound_all : (n : ℕ) (xs : List Item) (item : Item) (o : Option (List Item)) → is_sound n (xs ++ item ∷ []) ≡ false → (option_map (λ more. (xs ++ item ∷ []) ++ more) o >>= script_of_items n) ≡ None
-unfolding script_of_items
-unsound_all n xs item None e = refl
-unsound_all n xs item (Some more) e = rw (unsound_front n (xs ++ item ∷ []) more e) refl
-
-pub progress_refused : (n : ℕ) (all left next : Left) (old new : Parts) (row : Row) (p : Progress n all left old) → rows_left left ≡ onto row (rows_left next) → Takes old new (item_of row) false → said_of (script_from n) all ≡ None
-progress_refused n all left next old new row p e takes = by_item (item_of row) refl takes
+pub progress_refused : (language : Language) (bytes : List ℕ) (left : ℕ × List (List ℕ)) (rest : List (List ℕ)) (old new : Reader) (number : ℕ) (line : List ℕ) (why : Why) (p : Progress language bytes left old) → number ≡ left.0 + 1 → left.1 ≡ line ∷ rest → Answers (why_of language p.before number line) (with_line p.before number line) new (Err (Because why)) → verdict language bytes ≡ Err (number, why)
+unfolding verdict
+progress_refused language bytes left rest old new number line why p n lines answer = by_rule (why_of language p.before number line) refl answer
   where
-    by_item : (said : Option Item) → item_of row ≡ said → Takes old new said false → said_of (script_from n) all ≡ None
-    by_item None said t =
-        let none = ap (λ rows. rows >>= items_of) e ∙ items_onto_none row (rows_left next) said in
-        no_script n all (p.rest ∙ ap (option_map (λ more. p.items ++ more)) none)
-    by_item (Some item) said t =
-        let items = p.rest ∙ (ap (option_map (λ more. p.items ++ more)) (left_items row item left next e said) ∙ one_more p.items item (said_of items_of next)) in
-        script_of_said n (rows_left all) ∙ (ap (λ o. o >>= script_of_items n) items ∙ unsound_all n p.items item (said_of items_of next) (t n p.items p.holds))
+    by_rule : (rules : Option Why) → why_of language p.before number line ≡ rules → Answers rules (with_line p.before number line) new (Err (Because why)) → verdict language bytes ≡ Err (number, why)
+    by_rule None e a = absurd a
+    by_rule (Some given) e a =
+        let all = p.rest ∙ (ap (λ k. read_lines language p.before k left.1) (sym n) ∙ (ap (read_lines language p.before number) lines ∙ line_refused language p.before number line rest given e)) in
+        ap (then_script (length (lines_of bytes))) all ∙ ap (λ w. Err (number, w)) (sym a)
 
--- what the script is, of all lines
-pub script_of_left : (bytes : List ℕ) (left : Left) → left ≡ (0, lines_of bytes) → script_of bytes ≡ said_of script_of_rows left
-unfolding script_of
-script_of_left bytes left e = ap (said_of script_of_rows) (sym e)
-
-finished_sound : (n : ℕ) (items : List Item) → is_sound n items ≡ true → script_of_items n items ≡ Some (script_with n (parts_of n items))
-unfolding script_of_items
-finished_sound n items e = rw e refl
-
--- where the parts have what all rows say, they are the script
-pub script_held : (n : ℕ) (parts : Parts) (left : Left) → HoldsAll n parts (said_of items_of left) → said_of (script_from n) left ≡ Some (script_with n (map (λ part. part.items) parts.lines.items))
-script_held n parts left h =
-    let items = h.0 in
-    script_of_said n (rows_left left)
-    ∙ (ap (λ o. o >>= script_of_items n) h.1
-    ∙ (finished_sound n items h.2.sound ∙ ap (λ lists. Some (script_with n lists)) (sym h.2.lines)))
+pub progress_done : (language : Language) (bytes : List ℕ) (left : ℕ × List (List ℕ)) (reader : Reader) (p : Progress language bytes left reader) → left.1 ≡ [] → verdict language bytes ≡ script_said left.0 p.before
+unfolding verdict
+progress_done language bytes left reader p none =
+    let all = p.rest ∙ (ap (read_lines language p.before (left.0 + 1)) none ∙ no_line language p.before (left.0 + 1)) in
+    let count : length (lines_of bytes) ≡ left.0 = omega (arith, p.count, ap length none) in
+    ap (then_script (length (lines_of bytes))) all ∙ ap (λ n. script_said n p.before) count

@@ -5,6 +5,7 @@ use Rattle.std.proofs.lemmas.Grind.{get_or-set_at}
 use Rattle.std.proofs.lemmas.List.FromFn.{length-map-range_with_len, get_or-map-range_with_len}
 use Rattle.std.proofs.Math.Bool.{and-true}
 use Rattle.std.specs.Prelude.{slice_get}
+use Rattle.std.proofs.lemmas.Option.{slice_get-get_or}
 use Rattle.std.specs.List.{list_any, list_all, last_or, sum_by}
 use Rattle.std.proofs.lemmas.Bool.Decides.{nat_tests}
 use Rattle.std.proofs.lemmas.List.Folds.{list_all-append}
@@ -12,9 +13,10 @@ use Rattle.std.proofs.lemmas.List.Sums.{sum_by-append}
 use Rattle.fab_base.specs.declared.script.Line.{Line}
 use Rattle.fab_script.specs.declared.items.Item.{Item}
 use Rattle.fab_script.specs.declared.items.Item.TheVariants.{Peer, Does}
-use Rattle.fab_script.specs.Lines.{size_of, op_size}
-use Rattle.fab_script.specs.Grammar.{opened_by, until_peer, part_of, parts_of, begins_with_peer, is_distinct, is_sound}
-use Rattle.fab_script.proofs.PartLemmas.{Sound, and_true, or_false, not_sound, opened_by-append, distinct_first, distinct_push, distinct_again}
+use Rattle.fab_script.specs.Lines.{op_size}
+use Rattle.fab_script.specs.Before.{opened_by, until_peer, part_of, parts_of, size_of}
+use Rattle.fab_script.specs.Parts.{is_distinct}
+use Rattle.fab_script.proofs.PartLemmas.{or_false, opened_by-append, distinct_first}
 
 -- `peer K` at the end: no part changes
 until_peer_open : (xs : List Item) (k : ℕ) → until_peer (xs ++ Peer k ∷ []) ≡ until_peer xs
@@ -31,39 +33,8 @@ part_of_open [] j k = either (eqb k j)
 part_of_open (Peer i ∷ xs) j k = rw (until_peer_open xs k, part_of_open xs j k) refl
 part_of_open (Does line ∷ xs) j k = part_of_open xs j k
 
-begins_push : (xs : List Item) (k : ℕ) → begins_with_peer xs ≡ true → begins_with_peer (xs ++ Peer k ∷ []) ≡ true
-begins_push [] k e = refl
-begins_push (Peer j ∷ xs) k e = refl
-begins_push (Does line ∷ xs) k e = e
-
-all_push : (n k : ℕ) (ks : List ℕ) → list_all (λ j. ltb j n) (ks ++ k ∷ []) ≡ (list_all (λ j. ltb j n) ks && ltb k n)
-all_push n k ks = list_all-append (λ j. ltb j n) ks (k ∷ []) ∙ ap (λ b. list_all (λ j. ltb j n) ks && b) (and-true (ltb k n))
-
 pub sum_open : (xs : List Item) (k : ℕ) → sum_by size_of (xs ++ Peer k ∷ []) ≡ sum_by size_of xs
 sum_open xs k = sum_by-append size_of xs (Peer k ∷ []) ∙ add-zero (sum_by size_of xs)
-
-pub sound_open : (n k : ℕ) (xs : List Item) → Sound n xs → k < n → list_any (λ j. eqb j k) (opened_by xs) ≡ false → Sound n (xs ++ Peer k ∷ [])
-sound_open n k xs s below new =
-    let opened = opened_by-append xs (Peer k ∷ []) in
-    let within : ltb k n ≡ true = grind (arith, nat_tests) in
-    record {
-      begins = begins_push xs k s.begins;
-      in_range = ap (list_all (λ j. ltb j n)) opened ∙ (all_push n k (opened_by xs) ∙ rw (s.in_range, within) refl);
-      distinct = ap is_distinct opened ∙ distinct_push (opened_by xs) k s.distinct new;
-      few = ap (λ m. leb m 67108864) (sum_open xs k) ∙ s.few;
-    }
-
-pub unsound_beyond : (n k : ℕ) (xs : List Item) → n ≤ k → is_sound n (xs ++ Peer k ∷ []) ≡ false
-unsound_beyond n k xs beyond = not_sound n (xs ++ Peer k ∷ []) (λ s.
-    let in_range = ap (list_all (λ j. ltb j n)) (sym (opened_by-append xs (Peer k ∷ []))) ∙ s.in_range in
-    let within = and_true (list_all (λ j. ltb j n) (opened_by xs)) (ltb k n) (sym (all_push n k (opened_by xs)) ∙ in_range) in
-    let past : ltb k n ≡ false = grind (arith, nat_tests) in
-    cc)
-
-pub unsound_again : (n k : ℕ) (xs : List Item) → list_any (λ j. eqb j k) (opened_by xs) ≡ true → is_sound n (xs ++ Peer k ∷ []) ≡ false
-unsound_again n k xs again = not_sound n (xs ++ Peer k ∷ []) (λ s.
-    let none = distinct_again (opened_by xs) k (ap is_distinct (sym (opened_by-append xs (Peer k ∷ []))) ∙ s.distinct) in
-    cc)
 
 -- A line at the end: it joins the part of the peer that was opened last.
 pub last_is : (ks : List ℕ) → slice_get ks (length ks - 1) ≡ last_or None ks
@@ -75,6 +46,9 @@ last_is (k ∷ ks) =
     at_last : (k : ℕ) (ks : List ℕ) → slice_get (k ∷ ks) (length ks) ≡ last_or (Some k) ks
     at_last k [] = refl
     at_last k (j ∷ js) = at_last j js
+
+pub last_at : (ks : List ℕ) (k : ℕ) → 0 < length ks → k ≡ get_or ks (length ks - 1) k → last_or None ks ≡ Some k
+last_at ks k h e = sym (last_is ks) ∙ (slice_get-get_or ks (length ks - 1) k (omega arith) ∙ ap Some (sym e))
 
 -- the lines after the last `peer` are those that a line at the end follows
 until_peer_add : (xs : List Item) (line : Line) → opened_by xs ≡ [] → until_peer (xs ++ Does line ∷ []) ≡ until_peer xs ++ line ∷ []
@@ -88,7 +62,7 @@ until_peer_past (Peer k ∷ xs) line h = refl
 until_peer_past (Does other ∷ xs) line h = ap (λ lines. other ∷ lines) (until_peer_past xs line h)
 
 -- where no peer is opened, no part has lines
-part_of_none : (xs : List Item) (j : ℕ) → opened_by xs ≡ [] → part_of j xs ≡ []
+pub part_of_none : (xs : List Item) (j : ℕ) → opened_by xs ≡ [] → part_of j xs ≡ []
 part_of_none [] j e = refl
 part_of_none (Peer k ∷ xs) j e = cc
 part_of_none (Does line ∷ xs) j e = part_of_none xs j e
@@ -147,44 +121,11 @@ part_of_add (Peer i ∷ xs) j k line d e = by_opened (λ d' e'. part_of_add xs j
         passed_by (eqb i j) i j k line (until_peer xs) (until_peer (xs ++ Does line ∷ [])) (part_of j xs) (part_of j (xs ++ Does line ∷ [])) refl
         (last_apart i k (opened_by xs) last first.0) (until_peer_past xs line filled) (rest first.1 last)
 
--- Soundness, with a line at the end.
-begins_add : (xs : List Item) (line : Line) → begins_with_peer xs ≡ true → 0 < length (opened_by xs) → begins_with_peer (xs ++ Does line ∷ []) ≡ true
-begins_add [] line e h = absurd (omega arith)
-begins_add (Peer k ∷ xs) line e h = refl
-begins_add (Does other ∷ xs) line e h = e
-
 pub opened_add : (xs : List Item) (line : Line) → opened_by (xs ++ Does line ∷ []) ≡ opened_by xs
 opened_add xs line = opened_by-append xs (Does line ∷ []) ∙ append-nil (opened_by xs)
 
 pub sum_add : (xs : List Item) (line : Line) → sum_by size_of (xs ++ Does line ∷ []) ≡ sum_by size_of xs + op_size line.op
 sum_add xs line = sum_by-append size_of xs (Does line ∷ []) ∙ ap (λ m. sum_by size_of xs + m) (zero-add (op_size line.op))
-
-pub sound_add : (n : ℕ) (xs : List Item) (line : Line) → Sound n xs → 0 < length (opened_by xs) → sum_by size_of xs + op_size line.op ≤ 67108864 → Sound n (xs ++ Does line ∷ [])
-sound_add n xs line s some few =
-    let within : leb (sum_by size_of xs + op_size line.op) 67108864 ≡ true = grind (arith, nat_tests) in
-    record {
-      begins = begins_add xs line s.begins some;
-      in_range = ap (list_all (λ k. ltb k n)) (opened_add xs line) ∙ s.in_range;
-      distinct = ap is_distinct (opened_add xs line) ∙ s.distinct;
-      few = ap (λ m. leb m 67108864) (sum_add xs line) ∙ within;
-    }
-
-begins_unopened : (xs : List Item) (line : Line) → opened_by xs ≡ [] → begins_with_peer (xs ++ Does line ∷ []) ≡ false
-begins_unopened [] line e = refl
-begins_unopened (Peer k ∷ xs) line e = cc
-begins_unopened (Does other ∷ xs) line e = refl
-
-pub unsound_unopened : (n : ℕ) (xs : List Item) (line : Line) → opened_by xs ≡ [] → is_sound n (xs ++ Does line ∷ []) ≡ false
-unsound_unopened n xs line e = not_sound n (xs ++ Does line ∷ []) (λ s.
-    let other = begins_unopened xs line e in
-    let begins = s.begins in
-    cc)
-
-pub unsound_many : (n : ℕ) (xs : List Item) (line : Line) → 67108864 < sum_by size_of xs + op_size line.op → is_sound n (xs ++ Does line ∷ []) ≡ false
-unsound_many n xs line many = not_sound n (xs ++ Does line ∷ []) (λ s.
-    let few = ap (λ m. leb m 67108864) (sym (sum_add xs line)) ∙ s.few in
-    let past : leb (sum_by size_of xs + op_size line.op) 67108864 ≡ false = grind (arith, nat_tests) in
-    cc)
 
 -- All parts: no part changes at `peer K`, and one at a line.
 pub parts_of_open : (n k : ℕ) (xs : List Item) → parts_of n (xs ++ Peer k ∷ []) ≡ parts_of n xs

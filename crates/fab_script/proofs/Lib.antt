@@ -6,6 +6,8 @@ pub mod RowLemmas
 pub mod PartLemmas
 pub mod ItemLemmas
 pub mod HoldsLemmas
+pub mod RuleLemmas
 pub mod GrammarLemmas
-mod Worked
+pub mod ReaderLemmas
 pub mod BuiltLemmas
+mod Worked

@@ -1,10 +1,11 @@
 -- Texts whose scripts are worked out by the definitions alone.
 use Rattle.std.proofs.Common.{◌≡◌, ℕ, List, [], ◌∷◌, ◌++◌, Some, None, false, refl}
 use Rattle.std.specs.Prelude.{codes}
+use Rattle.fab_base.specs.declared.status.Why.TheVariants as why
 use Rattle.fab_base.specs.declared.peers.Level.TheVariants.{Transmit}
 use Rattle.fab_base.specs.declared.script.BytesWord.TheVariants.{Text}
 use Rattle.fab_base.specs.declared.script.LineOp.TheVariants.{TSend, TRecv, Wait}
-use Rattle.fab_script.specs.Grammar.{script_of, script_with}
+use Rattle.fab_script.specs.Grammar.{script_of, script_with, refusal_of}
 use Rattle.fab_script.specs.Opened.{grammar}
 
 abbrev line : List ℕ → List ℕ → List ℕ
@@ -12,11 +13,25 @@ line text rest = text ++ 10 ∷ rest
 
 -- one tagged message, the last line without its line feed
 hello : script_of (line (codes "fabric 1") (line (codes "peers 2") (line (codes "peer 0") (line (codes "trecv 1 * 7 0 16") (line (codes "wait 1") (line (codes " peer  1 ") (codes "tsend 2 0 7 text:hello")))))))
-    ≡ Some (script_with 2 ((record { number = 4; op = TRecv 1 None 7 0 16 } ∷ record { number = 5; op = Wait (Some 1) } ∷ []) ∷ (record { number = 7; op = TSend 2 0 7 (Text (codes "hello")) None Transmit false } ∷ []) ∷ []))
+    ≡ Some (script_with 2 false ((record { number = 4; op = TRecv 1 None 7 0 16 } ∷ record { number = 5; op = Wait (Some 1) } ∷ []) ∷ (record { number = 7; op = TSend 2 0 7 (Text (codes "hello")) None Transmit false } ∷ []) ∷ []))
 unfolding grammar
 hello = refl
 
--- a peer that is opened twice
-twice : script_of (line (codes "fabric 1") (line (codes "peers 2") (line (codes "peer 1") (line (codes "peer 1") [])))) ≡ None
+-- a peer that is opened twice: the line, and why
+twice : refusal_of (line (codes "fabric 1") (line (codes "peers 2") (line (codes "peer 1") (line (codes "peer 1") [])))) ≡ Some (4, why.Twice)
 unfolding grammar
 twice = refl
+
+-- a comment counts as a line
+late : refusal_of (line (codes "# a remark") (line (codes "fabric 1") (line (codes "peers 33") (line (codes "jump") [])))) ≡ Some (3, why.Limit)
+unfolding grammar
+late = refl
+
+-- no line at all, and no number of peers
+none : refusal_of [] ≡ Some (0, why.Header)
+unfolding grammar
+none = refl
+
+missing : refusal_of (line (codes "fabric 1") (line [] [])) ≡ Some (2, why.Missing)
+unfolding grammar
+missing = refl

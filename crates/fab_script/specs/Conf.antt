@@ -1,6 +1,6 @@
 -- What a script of n peers asks for, and what it is granted.
---     conf_for n      no capability is asked for, which is granted the whole offer; every size has its default
-use Rattle.std.specs.Prelude.{ℕ, true, false, Some, None}
+--     conf_for n selective      no capability is asked for, which is granted the whole offer; every size has its default
+use Rattle.std.specs.Prelude.{ℕ, Bool, true, false, Some, None}
 use Rattle.fab_base.specs.declared.caps.Caps.{Caps}
 use Rattle.fab_base.specs.declared.caps.Hints.{Hints}
 use Rattle.fab_base.specs.declared.caps.Info.{Info}
@@ -74,5 +74,5 @@ info_for n = record {
   message = 16777216;
 }
 
-unfoldable pub conf_for : ℕ → Conf
-conf_for n = record { hints = Some (hints_for n); info = info_for n; peers = n; selective = false }
+unfoldable pub conf_for : ℕ → Bool → Conf
+conf_for n selective = record { hints = Some (hints_for n); info = info_for n; peers = n; selective = selective }

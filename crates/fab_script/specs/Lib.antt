@@ -1,8 +1,14 @@
+pub mod Before
 pub mod Conf
+pub mod Faults
 pub mod Grammar
+pub mod Language
 pub mod Lines
 pub mod Opened
 pub mod Parts
 pub mod Refused
 pub mod Rows
+pub mod Rules
+pub mod Settings
+pub mod Verbs
 pub mod Words

@@ -1,18 +1,18 @@
 -- What one line asks for.
---     tsend_of, trecv_of, wait_of      what the words after the verb say
---     op_of verb args                  what a peer's line asks for
---     item_of row                      `peer K`, or a line with its number
---     size_of item                     the bytes that it sends, or makes room for
-use Rattle.std.specs.Prelude.{ℕ, ◌^◌, false, if◌then◌else◌, List, [], ◌∷◌, length, codes, bytes_eq, Option, Some, None, option_map}
+--     op_of verb args      what a line that a peer does asks for, of the words after its verb
+--     op_size op           the bytes that it sends, or makes room for
+use Rattle.std.specs.Prelude.{ℕ, false, if◌then◌else◌, List, [], ◌∷◌, length, Option, Some, None, Result, Ok, Err}
 use Rattle.fab_base.specs.declared.peers.Level.TheVariants.{Transmit}
 use Rattle.fab_base.specs.declared.script.BytesWord.{BytesWord}
 use Rattle.fab_base.specs.declared.script.BytesWord.TheVariants.{Text}
 use Rattle.fab_base.specs.declared.script.LineOp.{LineOp}
 use Rattle.fab_base.specs.declared.script.LineOp.TheVariants.{TSend, TRecv, Wait}
-use Rattle.fab_script.specs.declared.items.Item.{Item}
-use Rattle.fab_script.specs.declared.items.Item.TheVariants.{Peer, Does}
-use Rattle.fab_script.specs.Rows.{Row}
-use Rattle.fab_script.specs.Words.{◌>>=◌, only_if, number_of, number_below, number_up_to, text_of}
+use Rattle.fab_script.specs.declared.fault.Fault.{Fault}
+use Rattle.fab_script.specs.declared.fault.Fault.TheVariants.{Words}
+use Rattle.fab_script.specs.declared.verbs.Verb.{Verb}
+use Rattle.fab_script.specs.declared.verbs.Verb.TheVariants as verb
+use Rattle.fab_script.specs.Faults.{◌&◌, map_ok}
+use Rattle.fab_script.specs.Words.{read_number, read_index, read_len, read_source, read_bytes}
 
 -- the bytes of `text:`
 abbrev pub bytes_size : BytesWord → ℕ
@@ -26,54 +26,29 @@ op_size (TRecv ctx source tag ignore len) = len
 op_size _ = 0
 
 -- `tsend C D TAG BYTES`
-unfoldable pub tsend_of : List (List ℕ) → Option LineOp
-tsend_of (ctx ∷ dest ∷ tag ∷ bytes ∷ []) = do
-  ctx ← number_of ctx
-  dest ← number_below (2 ^ 32) dest
-  tag ← number_of tag
-  bytes ← text_of bytes
-  Some (TSend ctx dest tag (Text bytes) None Transmit false)
-tsend_of _ = None
+abbrev pub a_tsend : ((ℕ × ℕ) × ℕ) × BytesWord → LineOp
+a_tsend (((ctx, dest), tag), bytes) = TSend ctx dest tag bytes None Transmit false
 
--- `trecv C * TAG IGNORE LEN`
-unfoldable pub trecv_of : List (List ℕ) → Option LineOp
-trecv_of (ctx ∷ source ∷ tag ∷ ignore ∷ len ∷ []) = do
-  ctx ← number_of ctx
-  source ← only_if (bytes_eq source (codes "*")) None
-  tag ← number_of tag
-  ignore ← number_of ignore
-  len ← number_up_to 33554432 len
-  Some (TRecv ctx source tag ignore len)
-trecv_of _ = None
+unfoldable pub tsend_of : List (List ℕ) → Result LineOp Fault
+tsend_of (ctx ∷ dest ∷ tag ∷ bytes ∷ []) = map_ok a_tsend (read_number ctx & read_index dest & read_number tag & read_bytes bytes)
+tsend_of _ = Err Words
+
+-- `trecv C SRC TAG IGNORE LEN`
+abbrev pub a_trecv : (((ℕ × Option ℕ) × ℕ) × ℕ) × ℕ → LineOp
+a_trecv ((((ctx, source), tag), ignore), len) = TRecv ctx source tag ignore len
+
+unfoldable pub trecv_of : List (List ℕ) → Result LineOp Fault
+trecv_of (ctx ∷ source ∷ tag ∷ ignore ∷ len ∷ []) =
+    map_ok a_trecv (read_number ctx & read_source source & read_number tag & read_number ignore & read_len len)
+trecv_of _ = Err Words
 
 -- `wait C`
-unfoldable pub wait_of : List (List ℕ) → Option LineOp
-wait_of (ctx ∷ []) = do
-  ctx ← number_of ctx
-  Some (Wait (Some ctx))
-wait_of _ = None
+unfoldable pub wait_of : List (List ℕ) → Result LineOp Fault
+wait_of (ctx ∷ []) = map_ok (λ n. Wait (Some n)) (read_number ctx)
+wait_of _ = Err Words
 
--- what the verb asks for, of the words after it
-unfoldable pub op_of : List ℕ → List (List ℕ) → Option LineOp
-op_of verb args =
-    if bytes_eq verb (codes "tsend") then tsend_of args
-    else (if bytes_eq verb (codes "trecv") then trecv_of args
-    else (if bytes_eq verb (codes "wait") then wait_of args
-    else None))
-
--- `peer K`
-unfoldable pub peer_of : List (List ℕ) → Option Item
-peer_of (number ∷ []) = option_map Peer (number_of number)
-peer_of _ = None
-
--- a peer's line keeps its number in the file
-unfoldable pub item_of : Row → Option Item
-item_of (number, []) = None
-item_of (number, verb ∷ args) =
-    if bytes_eq verb (codes "peer") then peer_of args
-    else option_map (λ op. Does (record { number = number; op = op })) (op_of verb args)
-
--- the bytes that a line sends or makes room for
-abbrev pub size_of : Item → ℕ
-size_of (Does line) = op_size line.op
-size_of (Peer number) = 0
+unfoldable pub op_of : Verb → List (List ℕ) → Result LineOp Fault
+op_of verb.TSend args = tsend_of args
+op_of verb.TRecv args = trecv_of args
+op_of verb.Wait args = wait_of args
+op_of _ args = Err Words

@@ -1,26 +1,37 @@
--- The parts of the peers, as they are gathered.
---     Holds n parts items          of n peers, the parts have what these items say, and the items are sound
---     Takes old new said taken     what becomes of the parts at one more row, which says this
---     HoldsAll n parts said        the parts have what all rows say
-use Rattle.std.specs.Prelude.{◌≡◌, ℕ, Bool, true, false, ◌∷◌, [], ◌++◌, List, Option, Some, None, map, sum_by, vec_len, MatchBool}
+-- What was read so far, against what the lines say.
+--     HoldsParts n parts items      of n peers, the parts have what these items say
+--     Holds reader before           the reader has what the lines before say
+--     Answers why after reader result      the reader takes a line that breaks no rule, and refuses one that breaks this rule
+use Rattle.std.specs.Prelude.{◌≡◌, ℕ, Bool, true, false, not, ◌&&◌, ◌==◌, ◌∷◌, [], List, Option, Some, None, map, sum_by, vec_len, Result, Ok, Err}
+use Rattle.std.specs.List.{list_any}
+use Rattle.fab_base.specs.declared.status.Why.{Why}
 use Rattle.fab_script.specs.declared.items.Item.{Item}
 use Rattle.fab_script.specs.declared.parts.Parts.{Parts}
-use Rattle.fab_script.specs.Lines.{size_of}
-use Rattle.fab_script.specs.Grammar.{opened_by, parts_of, is_sound}
+use Rattle.fab_script.specs.declared.reader.Reader.{Reader}
+use Rattle.fab_script.specs.declared.refused.Refused.{Refused}
+use Rattle.fab_script.specs.declared.refused.Refused.TheVariants as refused
+use Rattle.fab_script.specs.Before.{Before, peers_in, is_selective, count_in, opened_by, parts_of, size_of}
 
-pub record Holds (n : ℕ) (parts : Parts) (items : List Item) : Type 0 where
+abbrev pub is_distinct : List ℕ → Bool
+is_distinct [] = true
+is_distinct (k ∷ ks) = not (list_any (λ j. j == k) ks) && is_distinct ks
+
+pub record HoldsParts (n : ℕ) (parts : Parts) (items : List Item) : Type 0 where
   pub count : vec_len parts.lines ≡ n
   pub lines : map (λ part. part.items) parts.lines.items ≡ parts_of n items
   pub opened : parts.opened.items ≡ opened_by items
   pub size : parts.size ≡ sum_by size_of items
-  pub sound : is_sound n items ≡ true
+  pub distinct : is_distinct (opened_by items) ≡ true
 
--- what becomes of the parts at one more row, which says this: true where the items are sound with it, and the parts have it then
-abbrev pub Takes : Parts → Parts → Option Item → Bool → Type 0
-Takes old new None taken = taken ≡ false
-Takes old new (Some item) taken =
-    (n : ℕ) (items : List Item) → Holds n old items → MatchBool taken (Holds n new (items ++ item ∷ [])) (is_sound n (items ++ item ∷ []) ≡ false)
+pub record Holds (reader : Reader) (before : Before) : Type 0 where
+  pub header : reader.has_header ≡ before.has_header
+  pub peers : reader.peers ≡ peers_in before.settings
+  pub selective : reader.is_selective ≡ is_selective before.settings
+  pub parts : HoldsParts (count_in before) reader.parts before.items
 
--- the parts have what all rows say
-abbrev pub HoldsAll : ℕ → Parts → Option (List Item) → Type 0
-HoldsAll n parts said = (items : List Item) × (said ≡ Some items) × Holds n parts items
+abbrev pub Answers : Option Why → Before → Reader → Result (Unit {0}) Refused → Type 0
+Answers None after reader (Ok done) = Holds reader after
+Answers None after reader (Err (refused.Why why)) = ⊥
+Answers (Some why) after reader (Ok done) = ⊥
+Answers (Some why) after reader (Err (refused.Why given)) = given ≡ why
+Answers _ after reader (Err refused.NoMemory) = Unit {0}

@@ -1,17 +1,22 @@
--- What a reader answers, against what the grammar says.
---     Reads result said     a line: Ok gives what the grammar says, and Refused comes where it says nothing
---     IsScript e            the script is refused; the other answer is want of memory
-use Rattle.std.specs.Prelude.{◌≡◌, Option, Some, None, Result, Ok, Err}
+-- Why a script is refused.
+--     IsScript e             the script is refused; the other answer is want of memory
+--     IsRefusal e said       the line and the reason are those that are said
+--     IsVerdict said result  what is read is what is said; want of memory aside
+use Rattle.std.specs.Prelude.{◌≡◌, ℕ, Option, Some, None, Result, Ok, Err}
+use Rattle.fab_base.specs.declared.status.Why.{Why}
+use Rattle.fab_base.specs.declared.script.Script.{Script}
 use Rattle.fab_script.specs.declared.refused.ParseRefused.{ParseRefused}
-use Rattle.fab_script.specs.declared.refused.ParseRefused.TheVariants as script
-use Rattle.fab_script.specs.declared.unread.Unread.{Unread}
-use Rattle.fab_script.specs.declared.unread.Unread.TheVariants as line
-
-abbrev pub Reads : {A : Type 0} → Result A Unread → Option A → Type 0
-Reads (Ok value) said = said ≡ Some value
-Reads (Err line.Refused) said = said ≡ None
-Reads (Err line.NoMemory) said = Unit {0}
+use Rattle.fab_script.specs.declared.refused.ParseRefused.TheVariants as parse
 
 abbrev pub IsScript : ParseRefused → Type 0
-IsScript (script.Script line why) = Unit {0}
-IsScript script.NoMemory = ⊥
+IsScript (parse.Script line why) = Unit {0}
+IsScript parse.NoMemory = ⊥
+
+abbrev pub IsRefusal : ParseRefused → Option (ℕ × Why) → Type 0
+IsRefusal (parse.Script line why) said = said ≡ Some (line, why)
+IsRefusal parse.NoMemory said = Unit {0}
+
+abbrev pub IsVerdict : Result Script (ℕ × Why) → Result Script ParseRefused → Type 0
+IsVerdict said (Ok script) = said ≡ Ok script
+IsVerdict said (Err (parse.Script line why)) = said ≡ Err (line, why)
+IsVerdict said (Err parse.NoMemory) = Unit {0}

@@ -92,13 +92,13 @@ fn info(peers: u32) -> Info
 /// What a script of this many peers asks for and is granted (fi_getinfo(3)): no capability is asked for,
 /// which is granted the whole offer, and every size has its default.
 #[tactic(auto, unfolding(crate::specs::Conf::conf_for))]
-pub(crate) fn conf(peers: u32) -> Conf
-    ensures { result ≡ conf_for peers }
+pub(crate) fn conf(peers: u32, selective: bool) -> Conf
+    ensures { result ≡ conf_for peers selective }
 {
     Conf {
         hints: Some(hints(peers)),
         info: info(peers),
         peers,
-        selective: false,
+        selective,
     }
 }

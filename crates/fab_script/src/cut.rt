@@ -1,20 +1,45 @@
 //! A text, cut at a byte.
-ghost use Rattle.std.specs.Prelude.{◌≡◌, ◌==◌, position};
+ghost use Rattle.std.specs.Prelude.{◌≡◌, position};
 ghost use Rattle.std.specs.List.{before_first, after_first};
+ghost use Rattle.fab_script.specs.Rows.{is_line_feed, is_blank};
 
-fn place_of(byte: u8, text: &[u8]) -> Option<usize>
-    ensures { result ≡ position (λ b. b == byte) text.now }
+fn is_blank(byte: u8) -> bool
+    ensures { result ≡ is_blank byte }
 {
-    text.iter().position(|b| *b == byte)
+    byte == b' ' || byte == b'\t'
 }
 
-/// What stands before the first such byte, and what stands after it: all and nothing where there is none.
-#[tactic(auto, using(crate::proofs::CutLemmas::cuts))]
-pub(crate) fn cut(text: &[u8], byte: u8) -> (&[u8], &[u8])
-    ensures before { result.0.now ≡ before_first (λ b. b == byte) text.now }
-    ensures after { result.1.now ≡ after_first (λ b. b == byte) text.now }
+fn feed_in(text: &[u8]) -> Option<usize>
+    ensures { result ≡ position is_line_feed text.now }
 {
-    match place_of(byte, text) {
+    text.iter().position(|byte| *byte == b'\n')
+}
+
+fn blank_in(text: &[u8]) -> Option<usize>
+    ensures { result ≡ position is_blank text.now }
+{
+    text.iter().position(|byte| is_blank(*byte))
+}
+
+/// What stands before the first line feed, and what stands after it: all and nothing where there is none.
+#[tactic(auto, using(crate::proofs::CutLemmas::cuts))]
+pub(crate) fn cut_line(text: &[u8]) -> (&[u8], &[u8])
+    ensures before { result.0.now ≡ before_first is_line_feed text.now }
+    ensures after { result.1.now ≡ after_first is_line_feed text.now }
+{
+    match feed_in(text) {
+        Some(end) => (&text[..end], &text[end + 1..]),
+        None => (text, &[]),
+    }
+}
+
+/// What stands before the first blank, and what stands after it: all and nothing where there is none.
+#[tactic(auto, using(crate::proofs::CutLemmas::cuts))]
+pub(crate) fn cut_word(text: &[u8]) -> (&[u8], &[u8])
+    ensures before { result.0.now ≡ before_first is_blank text.now }
+    ensures after { result.1.now ≡ after_first is_blank text.now }
+{
+    match blank_in(text) {
         Some(end) => (&text[..end], &text[end + 1..]),
         None => (text, &[]),
     }

@@ -9,16 +9,19 @@
 //! cause.rt.
 #![tactic(auto)]
 
-mod cause;
 mod conf;
 mod cut;
+mod fault;
 mod grammar;
 mod items;
+mod language;
 mod lines;
 mod parts;
+mod reader;
 mod refused;
 mod rows;
-mod unread;
+mod settings;
+mod verbs;
 mod words;
 
 pub use grammar::parse;

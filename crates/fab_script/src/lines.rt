@@ -1,55 +1,53 @@
-//! What one line of a peer's part says.
-ghost use Rattle.std.specs.Prelude.{◌≡◌, ◌∷◌};
-ghost use Rattle.fab_script.specs.Lines.{tsend_of, trecv_of, wait_of, op_of, peer_of, item_of};
-ghost use Rattle.fab_script.specs.Refused.{Reads};
+//! What a line asks for that a peer does.
+ghost use Rattle.std.specs.Prelude.{◌≡◌, IfOk, Ok};
+ghost use Rattle.fab_script.specs.Lines.{tsend_of, trecv_of, wait_of, op_of};
 
-use crate::items::Item;
-use crate::rows::Row;
-use crate::unread::Unread;
-use crate::words::{Words, is, number, short, text, up_to};
-use fab_base::{BytesWord, Level, Line, LineOp};
+use crate::fault::{Fault, Read, both};
+use crate::verbs::Verb;
+use crate::words::{Words, read_bytes, read_index, read_len, read_number, read_source};
+use fab_base::{Level, LineOp, NoMemory};
 use std::alloc::Global;
 
-/// The greatest length of a buffer, in bytes.
-const BUFFER_MAX: u32 = 33_554_432;
-
-/// `tsend C D TAG text:BYTES` (fi_tsend of fi_tagged(3)).
+/// `tsend C D TAG BYTES` (fi_tsend of fi_tagged(3)).
 #[tactic(auto, using(crate::proofs::LineLemmas::tsend_of_other), unfolding(crate::specs::Lines::tsend_of))]
-fn tsend(alloc: Global, args: &mut Words) -> Result<LineOp, Unread>
-    ensures { Reads result (tsend_of args.old) }
+fn tsend(alloc: Global, args: &mut Words) -> Result<Read<LineOp>, NoMemory>
+    ensures { IfOk result (λ read. read ≡ tsend_of args.old) }
 {
-    let (ctx, dest, tag, bytes) = args.four()?;
-    let ctx = number(ctx).ok_or(Unread::Refused)?;
-    let dest = short(dest).ok_or(Unread::Refused)?;
-    let tag = number(tag).ok_or(Unread::Refused)?;
-    let bytes = text(alloc, bytes)?.ok_or(Unread::Refused)?;
-    Ok(LineOp::TSend {
+    let Some((ctx, dest, tag, bytes)) = args.four() else {
+        return Ok(Err(Fault::Words));
+    };
+    let bytes = read_bytes(alloc, bytes)?;
+    let start = both(both(read_number(ctx), read_index(dest)), read_number(tag));
+    Ok(both(start, bytes).map(|(((ctx, dest), tag), bytes)| LineOp::TSend {
         ctx,
         dest,
         tag,
-        bytes: BytesWord::Text(bytes),
+        bytes,
         imm: None,
         level: Level::Transmit,
         completion: false,
-    })
+    }))
 }
 
-/// `trecv C * TAG IGNORE LEN` (fi_trecv of fi_tagged(3)).
+/// `trecv C SRC TAG IGNORE LEN` (fi_trecv of fi_tagged(3)).
 #[tactic(auto, using(crate::proofs::LineLemmas::trecv_of_other), unfolding(crate::specs::Lines::trecv_of))]
-fn trecv(args: &mut Words) -> Result<LineOp, Unread>
-    ensures { Reads result (trecv_of args.old) }
+fn trecv(args: &mut Words) -> Read<LineOp>
+    ensures { result ≡ trecv_of args.old }
 {
-    let (ctx, source, tag, ignore, len) = args.five()?;
-    let ctx = number(ctx).ok_or(Unread::Refused)?;
-    if !is(source, "*") {
-        return Err(Unread::Refused);
-    }
-    let tag = number(tag).ok_or(Unread::Refused)?;
-    let ignore = number(ignore).ok_or(Unread::Refused)?;
-    let len = up_to(BUFFER_MAX, len).ok_or(Unread::Refused)?;
+    let Some((ctx, source, tag, ignore, len)) = args.five() else {
+        return Err(Fault::Words);
+    };
+    let start = both(
+        both(read_number(ctx), read_source(source)),
+        read_number(tag),
+    );
+    let ((((ctx, source), tag), ignore), len) = both(
+        both(start, read_number(ignore)),
+        read_len(len),
+    )?;
     Ok(LineOp::TRecv {
         ctx,
-        source: None,
+        source,
         tag,
         ignore,
         len,
@@ -58,49 +56,22 @@ fn trecv(args: &mut Words) -> Result<LineOp, Unread>
 
 /// `wait C`.
 #[tactic(auto, using(crate::proofs::LineLemmas::wait_of_other), unfolding(crate::specs::Lines::wait_of))]
-fn wait(args: &mut Words) -> Result<LineOp, Unread>
-    ensures { Reads result (wait_of args.old) }
+fn wait(args: &mut Words) -> Read<LineOp>
+    ensures { result ≡ wait_of args.old }
 {
-    let ctx = number(args.one()?).ok_or(Unread::Refused)?;
+    let ctx = read_number(args.one().ok_or(Fault::Words)?)?;
     Ok(LineOp::Wait { ctx: Some(ctx) })
 }
 
-/// A line that a peer does.
+/// What a line asks for, of the words after its verb.
 #[tactic(auto, unfolding(crate::specs::Lines::op_of))]
-fn op(alloc: Global, verb: &[u8], args: &mut Words) -> Result<LineOp, Unread>
-    ensures { Reads result (op_of verb.now args.old) }
+pub(crate) fn read_op(alloc: Global, verb: Verb, args: &mut Words) -> Result<Read<LineOp>, NoMemory>
+    ensures { IfOk result (λ read. read ≡ op_of verb args.old) }
 {
-    if is(verb, "tsend") {
-        tsend(alloc, args)
-    } else if is(verb, "trecv") {
-        trecv(args)
-    } else if is(verb, "wait") {
-        wait(args)
-    } else {
-        Err(Unread::Refused)
+    match verb {
+        Verb::TSend => tsend(alloc, args),
+        Verb::TRecv => Ok(trecv(args)),
+        Verb::Wait => Ok(wait(args)),
+        _ => Ok(Err(Fault::Words)),
     }
-}
-
-/// `peer K`.
-#[tactic(auto, using(crate::proofs::LineLemmas::peer_of_other), unfolding(crate::specs::Lines::peer_of))]
-fn peer(args: &mut Words) -> Result<Item, Unread>
-    ensures { Reads result (peer_of args.old) }
-{
-    let number = number(args.one()?).ok_or(Unread::Refused)?;
-    Ok(Item::Peer(number))
-}
-
-/// What a row of the peers' parts says.
-#[tactic(auto, unfolding(crate::specs::Lines::item_of))]
-pub(crate) fn item(alloc: Global, row: &mut Row) -> Result<Item, Unread>
-    ensures { Reads result (item_of (row.old.number, row.old.verb.now ∷ row.old.args)) }
-{
-    if is(row.verb, "peer") {
-        return peer(&mut row.args);
-    }
-    let op = op(alloc, row.verb, &mut row.args)?;
-    Ok(Item::Does(Line {
-        number: row.number,
-        op,
-    }))
 }

@@ -1,13 +1,12 @@
 //! The lines of each peer, as they are gathered.
-ghost use Rattle.std.specs.Prelude.{◌≡◌, ◌<◌, ◌≤◌, [], Some, All, IfOk, vec_len};
+ghost use Rattle.std.specs.Prelude.{◌≡◌, ◌<◌, ◌≤◌, ◌+◌, ◌∷◌, [], ◌++◌, ◌==◌, ℕ, List, false, nat_lt, All, IfOk, vec_len};
 ghost use Rattle.fab_script.specs.Lines.{op_size};
 
-use crate::items::Item;
 use fab_base::{BytesWord, Line, LineOp, NoMemory};
 use std::alloc::Global;
 
 /// The greatest sum of the bytes that the lines send or make room for.
-const BYTES_MAX: u64 = 67_108_864;
+const SUM_MAX: u64 = 67_108_864;
 
 /// The lines of each peer, the peers that are opened, in order, and the sum of the lines' bytes.
 #[derive(Drop)]
@@ -20,61 +19,83 @@ pub(crate) struct Parts {
 }
 
 impl Parts {
-    ghost use Rattle.fab_script.specs.Parts.{Holds, Takes};
+    ghost use Rattle.std.specs.List.{list_any};
+    ghost use Rattle.fab_script.specs.Before.{is_filled, opened_by};
+    ghost use Rattle.fab_script.specs.Parts.{HoldsParts};
     ghost use Rattle.fab_script.specs.declared.items.Item.{Item};
+    ghost use Rattle.fab_script.specs.declared.items.Item.TheVariants.{Peer, Does};
 
-    /// The parts of this many peers, none of which is opened.
-    pub(crate) fn new(alloc: Global, peers: u32) -> Result<Parts, NoMemory>
-        ensures { IfOk result (λ parts. Holds peers parts []) }
+    /// No peer and no line.
+    pub(crate) fn new(alloc: Global) -> Parts
+        ensures { HoldsParts 0 result [] }
     {
-        let mut lines = Vec::new(alloc);
-        for _ in 0..peers {
-            lines.push(Vec::new(alloc))?;
-        }
-        Ok(Parts {
-            lines,
+        Parts {
+            lines: Vec::new(alloc),
             opened: Vec::new(alloc),
             size: 0,
-        })
-    }
-
-    /// Opens the part of a peer. False where the peer is not there, or was opened before.
-    fn open(&mut self, peer: u64) -> Result<bool, NoMemory>
-        ensures { IfOk result (λ taken. Takes self.old self.new (Some (Item.Peer peer)) taken) }
-    {
-        let peer = peer as usize;
-        if peer >= self.lines.len() || self.opened.contains(&peer) {
-            return Ok(false);
         }
-        self.opened.push(peer)?;
-        Ok(true)
     }
 
-    /// Adds a line to the part of the peer that was opened last. False where none is opened, or where the
-    /// lines would have too many bytes.
-    fn add(&mut self, line: Line) -> Result<bool, NoMemory>
-        ensures { IfOk result (λ taken. Takes self.old self.new (Some (Item.Does line)) taken) }
+    /// Makes room for the lines of this many peers, where none is opened.
+    pub(crate) fn grow(&mut self, alloc: Global, peers: u32) -> Result<(), NoMemory>
+        requires { self.old.opened.items ≡ [] }
+        ensures { (items : List Item) → HoldsParts 0 self.old items → IfOk result (λ _. HoldsParts peers self.new items) }
     {
-        let Some(peer) = self.opened.last().copied() else {
-            return Ok(false);
-        };
+        for _ in 0..peers {
+            self.lines.push(Vec::new(alloc))?;
+        }
+        Ok(())
+    }
+
+    /// Whether a peer is opened.
+    pub(crate) fn has_opened(&self) -> bool
+        ensures { result ≡ is_filled self.now.opened.items }
+    {
+        !self.opened.is_empty()
+    }
+
+    /// Whether this peer is opened.
+    pub(crate) fn is_opened(&self, peer: u64) -> bool
+        ensures { result ≡ list_any (λ j. j == peer) self.now.opened.items }
+    {
+        self.opened.contains(&(peer as usize))
+    }
+
+    /// Whether there is this peer.
+    pub(crate) fn has(&self, peer: u64) -> bool
+        ensures { result ≡ nat_lt peer (vec_len self.now.lines) }
+    {
+        peer < self.lines.len() as u64
+    }
+
+    /// Opens the part of a peer.
+    pub(crate) fn open(&mut self, peer: u64) -> Result<(), NoMemory>
+        requires there { peer < vec_len self.old.lines }
+        requires fresh { list_any (λ j. j == peer) self.old.opened.items ≡ false }
+        ensures { (n : ℕ) (items : List Item) → HoldsParts n self.old items → IfOk result (λ _. HoldsParts n self.new (items ++ Peer peer ∷ [])) }
+    {
+        self.opened.push(peer as usize)?;
+        Ok(())
+    }
+
+    /// Whether the lines would have too many bytes with this one.
+    pub(crate) fn is_too_much(&self, op: &LineOp) -> bool
+        ensures { result ≡ nat_lt 67108864 (self.now.size + op_size op.now) }
+    {
+        size_of(op) > SUM_MAX - self.size
+    }
+
+    /// Adds a line to the part of the peer that was opened last.
+    pub(crate) fn add(&mut self, line: Line) -> Result<(), NoMemory>
+        requires some { 0 < vec_len self.old.opened }
+        requires few { self.old.size + op_size line.op ≤ 67108864 }
+        ensures { (n : ℕ) (items : List Item) → HoldsParts n self.old items → IfOk result (λ _. HoldsParts n self.new (items ++ Does line ∷ [])) }
+    {
+        let peer = self.opened[self.opened.len() - 1];
         let size = size_of(&line.op);
-        if size > BYTES_MAX - self.size {
-            return Ok(false);
-        }
         self.lines[peer].push(line)?;
         self.size += size;
-        Ok(true)
-    }
-
-    /// Takes an item. False where the items are not sound with it.
-    pub(crate) fn take(&mut self, item: Item) -> Result<bool, NoMemory>
-        ensures { IfOk result (λ taken. Takes self.old self.new (Some item) taken) }
-    {
-        match item {
-            Item::Peer(peer) => self.open(peer),
-            Item::Does(line) => self.add(line),
-        }
+        Ok(())
     }
 }
 

@@ -1,7 +1,10 @@
 //! Why a script was not read.
 ghost use Rattle.std.specs.Prelude.{◌≡◌};
 ghost use Rattle.fab_script.specs.declared.refused.ParseRefused.TheVariants.{NoMemory as OutOfMemory};
+ghost use Rattle.fab_script.specs.declared.refused.Refused.TheVariants.{NoMemory as LineOutOfMemory, Why as Because};
+ghost use Rattle.fab_script.specs.Rules.{why_from};
 
+use crate::fault::Fault;
 use fab_base::Why;
 use std::alloc::{AllocError, AllocFailed};
 
@@ -36,5 +39,33 @@ impl<T: Drop> From<AllocFailed<T>> for ParseRefused {
 
     fn from(_error: AllocFailed<T>) -> ParseRefused {
         ParseRefused::NoMemory
+    }
+}
+
+/// Why a line is not taken.
+#[derive(Debug, Drop)]
+pub(crate) enum Refused {
+    /// The line breaks a rule.
+    Why(Why),
+    NoMemory,
+}
+
+impl From<fab_base::NoMemory> for Refused {
+    ghost from_gives = { λ _ e. e ≡ LineOutOfMemory };
+
+    fn from(_error: fab_base::NoMemory) -> Refused {
+        Refused::NoMemory
+    }
+}
+
+impl From<Fault> for Refused {
+    ghost from_gives = { λ fault e. e ≡ Because (why_from fault) };
+
+    fn from(fault: Fault) -> Refused {
+        Refused::Why(match fault {
+            Fault::Words => Why::Words,
+            Fault::Number => Why::Number,
+            Fault::Limit => Why::Limit,
+        })
     }
 }

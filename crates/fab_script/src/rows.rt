@@ -1,105 +1,88 @@
-//! The lines of a file that have words.
-ghost use Rattle.std.specs.Prelude.{◌≡◌, [], ◌∷◌, Some, None, MatchOption, MatchResult, option_map};
-ghost use Rattle.fab_script.specs.Rows.{is_text};
+//! The lines of a file.
+ghost use Rattle.std.specs.Prelude.{◌≡◌};
+ghost use Rattle.std.specs.List.{after_first};
+ghost use Rattle.fab_script.specs.Rows.{is_text, is_line_feed, first_line, without_return};
 
-use crate::cut::cut;
-use crate::words::Words;
+use crate::cut::cut_line;
 use std::marker::Model;
 
-/// The greatest number of lines.
-const LINES_MAX: u32 = 100_000;
-
-/// A line that has words: its number, its bytes, its first word, and the other words.
+/// The lines that are left of a file. Contracts see how many were read, and the lines that are left.
 #[derive(Drop)]
-pub(crate) struct Row<'a> {
-    pub number: u32,
-    pub line: &'a [u8],
-    pub verb: &'a [u8],
-    pub args: Words<'a>,
-}
-
-/// A line that is no text, or one too many.
-#[derive(Drop)]
-pub(crate) struct BadLine<'a> {
-    pub number: u32,
-    pub line: &'a [u8],
-    /// Whether a line feed ends it.
-    pub is_ended: bool,
-}
-
-/// The rows that are left of a file. Contracts see how many lines were read, and the lines that are left.
-#[derive(Drop)]
-pub(crate) struct Rows<'a> {
+pub(crate) struct Lines<'a> {
     rest: &'a [u8],
     before: u32,
 }
 
-impl<'a> Model for Rows<'a> {
-    ghost use Rattle.std.specs.Prelude.{List, ℕ, ◌≤◌};
+impl<'a> Model for Lines<'a> {
+    ghost use Rattle.std.specs.Prelude.{List, ℕ};
     ghost use Rattle.fab_script.specs.Rows.{lines_of};
 
     ghost Value = { ℕ × List (List ℕ) };
 
     ghost view = { λ r. (r.before, lines_of r.rest.now) };
-
-    ghost invariant = { λ r. r.before ≤ 100000 };
 }
 
-impl<'a> Rows<'a> {
-    ghost use Rattle.std.specs.Prelude.{◌<◌, OnSome, length, IfOk};
-    ghost use Rattle.fab_script.specs.Rows.{lines_of, rows_left};
+impl<'a> Lines<'a> {
+    ghost use Rattle.std.specs.Prelude.{◌≤◌, ◌+◌, [], ◌∷◌, MatchOption};
+    ghost use Rattle.fab_script.specs.Rows.{lines_of};
 
-    pub(crate) fn new(bytes: &'a [u8]) -> Rows<'a>
+    pub(crate) fn new(bytes: &'a [u8]) -> Lines<'a>
         ensures { result ≡ (0, lines_of bytes.now) }
     {
-        Rows {
+        Lines {
             rest: bytes,
             before: 0,
         }
     }
 
     /// How many lines were read.
-    pub(crate) fn lines(&self) -> u32 {
+    pub(crate) fn count(&self) -> u32
+        ensures { result ≡ self.now.0 }
+    {
         self.before
     }
 
-    /// The next row.
-    #[tactic(auto, using(crate::proofs::RowLemmas::next_row))]
-    pub(crate) fn next(&mut self) -> Result<Option<Row<'a>>, BadLine<'a>>
-        ensures row { MatchResult result
-            (λ row. MatchOption row (rows_left self.old ≡ Some [])
-            (λ r. rows_left self.old ≡ option_map (λ rows. (r.number, r.verb.now ∷ r.args) ∷ rows) (rows_left self.new)))
-            (λ _. rows_left self.old ≡ None) }
-        ensures shorter { IfOk result (λ row. OnSome row (length self.new.1 < length self.old.1)) }
+    /// The next line, with its number.
+    #[tactic(auto, using(crate::proofs::RowLemmas::next_line))]
+    pub(crate) fn next(&mut self) -> Option<(u32, &'a [u8])>
+        requires { self.old.0 ≤ 100000 }
+        ensures { MatchOption result ((self.old.1 ≡ []) × (self.new ≡ self.old))
+            (λ line. (line.0 ≡ self.old.0 + 1) × (self.new.0 ≡ self.old.0 + 1) × (self.old.1 ≡ line.1.now ∷ self.new.1)) }
     {
-        while !self.rest.is_empty() {
-            let (line, after) = cut(self.rest, b'\n');
-            if self.before == LINES_MAX || !all_text(line) {
-                return Err(BadLine {
-                    number: self.before + 1,
-                    line,
-                    is_ended: line.len() < self.rest.len(),
-                });
-            }
-            self.rest = after;
-            self.before += 1;
-            let mut args = Words::new(line);
-            if let Some(verb) = args.next() {
-                return Ok(Some(Row {
-                    number: self.before,
-                    line,
-                    verb,
-                    args,
-                }));
-            }
+        if self.rest.is_empty() {
+            return None;
         }
-        Ok(None)
+        let (line, after) = first_line(self.rest);
+        self.rest = after;
+        self.before += 1;
+        Some((self.before, line))
     }
 }
 
-/// Whether every byte is a printable character or a space.
-fn all_text(line: &[u8]) -> bool
+/// The first line, and what follows it.
+fn first_line(text: &[u8]) -> (&[u8], &[u8])
+    ensures line { result.0.now ≡ first_line text.now }
+    ensures after { result.1.now ≡ after_first is_line_feed text.now }
+{
+    let (line, after) = cut_line(text);
+    let is_ended = line.len() < text.len();
+    if is_ended {
+        (without_return(line), after)
+    } else {
+        (line, after)
+    }
+}
+
+fn without_return(line: &[u8]) -> &[u8]
+    ensures { result.now ≡ without_return line.now }
+{
+    line.strip_suffix(b"\r").unwrap_or(line)
+}
+
+/// Whether every byte is a printable character, a space or a tab.
+pub(crate) fn all_text(line: &[u8]) -> bool
     ensures { result ≡ is_text line.now }
 {
-    line.iter().all(|byte| *byte >= 32 && *byte <= 126)
+    line.iter()
+        .all(|byte| *byte == b'\t' || (*byte >= 32 && *byte <= 126))
 }

@@ -1,12 +1,15 @@
 //! The words of a line, and what one word says.
-ghost use Rattle.std.specs.Prelude.{◌≡◌, ◌≤◌, [], ◌∷◌, ◌^◌, MatchOption, MatchResult, bytes_eq, length, ◌≢◌, IfOk, IfSome, IsTrue, ◌↔◌};
-ghost use Rattle.fab_script.specs.Words.{number_of, number_below, number_up_to, text_of};
+ghost use Rattle.std.specs.Prelude.{◌≡◌, ◌≤◌, [], ◌∷◌, ◌^◌, MatchOption, bytes_eq, length, ◌≢◌, IfOk, IsTrue, ◌↔◌};
+ghost use Rattle.fab_script.specs.Words.{numeral_of, number_of, read_number, read_up_to, read_index, read_len, read_source, read_bytes};
 
-use crate::cut::cut;
-use crate::unread::Unread;
-use fab_base::{Buf, NoMemory};
+use crate::cut::cut_word;
+use crate::fault::{Fault, Read};
+use fab_base::{Buf, BytesWord, NoMemory};
 use std::alloc::Global;
 use std::marker::Model;
+
+/// The most bytes of a line, or of a buffer.
+const BYTES_MAX: u32 = 33_554_432;
 
 /// The words that are left of a line.
 #[derive(Drop)]
@@ -16,20 +19,36 @@ pub(crate) struct Words<'a> {
 
 impl<'a> Model for Words<'a> {
     ghost use Rattle.std.specs.Prelude.{List, ℕ};
-    ghost use Rattle.fab_script.specs.Rows.{words_of};
+    ghost use Rattle.fab_script.specs.Rows.{blank_split};
 
     ghost Value = { List (List ℕ) };
 
-    ghost view = { λ w. words_of w.rest.now };
+    ghost view = { λ w. blank_split w.rest.now };
 }
 
 impl<'a> Words<'a> {
-    ghost use Rattle.fab_script.specs.Rows.{words_of};
+    ghost use Rattle.fab_script.specs.Rows.{words_of, is_comment};
 
-    pub(crate) fn new(line: &'a [u8]) -> Words<'a>
+    /// The words of a line: none where the line is a comment.
+    #[tactic(auto, using(crate::proofs::WordLemmas::next_word))]
+    pub(crate) fn of_line(line: &'a [u8]) -> Words<'a>
         ensures { result ≡ words_of line.now }
     {
-        Words { rest: line }
+        let words = Words { rest: line };
+        if words.is_comment() {
+            Words { rest: &[] }
+        } else {
+            words
+        }
+    }
+
+    /// Whether the first word begins with `#`.
+    fn is_comment(&self) -> bool
+        ensures { result ≡ is_comment self.now }
+    {
+        Words { rest: self.rest }
+            .next()
+            .is_some_and(|word| word.starts_with(b"#"))
     }
 
     /// The next word.
@@ -38,7 +57,7 @@ impl<'a> Words<'a> {
         ensures { MatchOption result ((self.old ≡ []) × (self.new ≡ [])) (λ word. self.old ≡ word.now ∷ self.new) }
     {
         while !self.rest.is_empty() {
-            let (word, after) = cut(self.rest, b' ');
+            let (word, after) = cut_word(self.rest);
             self.rest = after;
             if !word.is_empty() {
                 return Some(word);
@@ -47,37 +66,40 @@ impl<'a> Words<'a> {
         None
     }
 
-    /// The one word that is left.
-    pub(crate) fn one(&mut self) -> Result<&'a [u8], Unread>
-        ensures { MatchResult result (λ a. self.old ≡ a.now ∷ []) (λ _. length self.old ≢ 1) }
+    /// The same words once more.
+    pub(crate) fn again(&self) -> Words<'a>
+        ensures { result ≡ self.now }
     {
-        let word = self.next().ok_or(Unread::Refused)?;
-        self.end()?;
-        Ok(word)
+        Words { rest: self.rest }
+    }
+
+    /// The one word that is left.
+    pub(crate) fn one(&mut self) -> Option<&'a [u8]>
+        ensures { MatchOption result (length self.old ≢ 1) (λ a. self.old ≡ a.now ∷ []) }
+    {
+        let word = self.next()?;
+        self.is_empty().then_some(word)
     }
 
     /// The four words that are left.
-    pub(crate) fn four(&mut self) -> Result<(&'a [u8], &'a [u8], &'a [u8], &'a [u8]), Unread>
-        ensures { MatchResult result (λ w. self.old ≡ w.0.now ∷ w.1.now ∷ w.2.now ∷ w.3.now ∷ []) (λ _. length self.old ≢ 4) }
+    pub(crate) fn four(&mut self) -> Option<(&'a [u8], &'a [u8], &'a [u8], &'a [u8])>
+        ensures { MatchOption result (length self.old ≢ 4) (λ w. self.old ≡ w.0.now ∷ w.1.now ∷ w.2.now ∷ w.3.now ∷ []) }
     {
-        let first = self.next().ok_or(Unread::Refused)?;
-        let second = self.next().ok_or(Unread::Refused)?;
-        let third = self.next().ok_or(Unread::Refused)?;
+        let first = self.next()?;
+        let second = self.next()?;
+        let third = self.next()?;
         let fourth = self.one()?;
-        Ok((first, second, third, fourth))
+        Some((first, second, third, fourth))
     }
 
     /// The five words that are left.
-    pub(crate) fn five(
-        &mut self,
-    ) -> Result<(&'a [u8], &'a [u8], &'a [u8], &'a [u8], &'a [u8]), Unread>
-        ensures { MatchResult result
-            (λ w. self.old ≡ w.0.now ∷ w.1.now ∷ w.2.now ∷ w.3.now ∷ w.4.now ∷ [])
-            (λ _. length self.old ≢ 5) }
+    pub(crate) fn five(&mut self) -> Option<(&'a [u8], &'a [u8], &'a [u8], &'a [u8], &'a [u8])>
+        ensures { MatchOption result (length self.old ≢ 5)
+            (λ w. self.old ≡ w.0.now ∷ w.1.now ∷ w.2.now ∷ w.3.now ∷ w.4.now ∷ []) }
     {
-        let first = self.next().ok_or(Unread::Refused)?;
+        let first = self.next()?;
         let (second, third, fourth, fifth) = self.four()?;
-        Ok((first, second, third, fourth, fifth))
+        Some((first, second, third, fourth, fifth))
     }
 
     /// Whether no word is left.
@@ -85,12 +107,6 @@ impl<'a> Words<'a> {
         ensures { IsTrue result ↔ (self.now ≡ []) }
     {
         Words { rest: self.rest }.next().is_none()
-    }
-
-    fn end(&self) -> Result<(), Unread>
-        ensures { MatchResult result (λ _. self.now ≡ []) (λ _. length self.now ≢ 0) }
-    {
-        self.is_empty().then_some(()).ok_or(Unread::Refused)
     }
 }
 
@@ -101,48 +117,94 @@ pub(crate) fn is(word: &[u8], name: &str) -> bool
     word == name.as_bytes()
 }
 
-/// The number that 1 to 20 decimal digits say, below 2^64.
+/// The number that digits of this radix say, where there are one or more, at most `most`, and it is below 2^64.
 #[tactic(auto, using(crate::proofs::NumberLemmas::no_number))]
-pub(crate) fn number(word: &[u8]) -> Option<u64>
-    ensures { result ≡ number_of word.now }
+fn numeral(radix: u32, most: usize, digits: &[u8]) -> Option<u64>
+    requires least { 2 ≤ radix }
+    requires greatest { radix ≤ 36 }
+    ensures { result ≡ numeral_of radix most digits.now }
 {
-    if word.is_empty() || word.len() > 20 {
+    if digits.is_empty() || digits.len() > most {
         return None;
     }
     let mut value: u64 = 0;
-    for byte in word {
-        if !byte.is_ascii_digit() {
-            return None;
-        }
-        value = value.checked_mul(10)?.checked_add(u64::from(*byte - b'0'))?;
+    for byte in digits {
+        let digit = char::from(*byte).to_digit(radix)?;
+        value = value
+            .checked_mul(u64::from(radix))?
+            .checked_add(u64::from(digit))?;
     }
     Some(value)
 }
 
-/// Such a number below 2^32.
-#[tactic(auto, unfolding(crate::specs::Words::number_below))]
-pub(crate) fn short(word: &[u8]) -> Option<u32>
-    ensures { result ≡ number_below (2 ^ 32) word.now }
+/// The number that 1 to 20 decimal digits say, or `0x` and 1 to 16 hexadecimal digits, below 2^64.
+#[tactic(auto, unfolding(crate::specs::Words::number_of))]
+pub(crate) fn number(word: &[u8]) -> Option<u64>
+    ensures { result ≡ number_of word.now }
 {
-    u32::try_from(number(word)?).ok()
+    match word.strip_prefix(b"0x") {
+        Some(digits) => numeral(16, 16, digits),
+        None => numeral(10, 20, word),
+    }
 }
 
-/// Such a number, at most `most`.
-#[tactic(auto, unfolding(crate::specs::Words::number_below))]
-pub(crate) fn up_to(most: u32, word: &[u8]) -> Option<u32>
-    ensures { result ≡ number_up_to most word.now }
+/// A number in a number's place.
+#[tactic(auto, unfolding(crate::specs::Words::read_number))]
+pub(crate) fn read_number(word: &[u8]) -> Result<u64, Fault>
+    ensures { result ≡ read_number word.now }
 {
-    let number = short(word)?;
-    (number <= most).then_some(number)
+    number(word).ok_or(Fault::Number)
 }
 
-/// The bytes after `text:`, at most 4,096.
-#[tactic(auto, unfolding(crate::specs::Words::text_of))]
-pub(crate) fn text(alloc: Global, word: &[u8]) -> Result<Option<Buf>, NoMemory>
-    ensures { IfOk result (λ bytes. bytes ≡ text_of word.now) }
+/// A number of at most `most`.
+#[tactic(auto, unfolding(crate::specs::Words::read_up_to))]
+fn read_up_to(most: u32, word: &[u8]) -> Result<u32, Fault>
+    ensures { result ≡ read_up_to most word.now }
+{
+    let number = read_number(word)?;
+    if number <= u64::from(most) {
+        Ok(number as u32)
+    } else {
+        Err(Fault::Limit)
+    }
+}
+
+/// An index of the address vector.
+#[tactic(auto, unfolding(crate::specs::Words::read_index))]
+pub(crate) fn read_index(word: &[u8]) -> Result<u32, Fault>
+    ensures { result ≡ read_index word.now }
+{
+    read_up_to(u32::MAX, word)
+}
+
+/// A number of bytes.
+#[tactic(auto, unfolding(crate::specs::Words::read_len))]
+pub(crate) fn read_len(word: &[u8]) -> Result<u32, Fault>
+    ensures { result ≡ read_len word.now }
+{
+    read_up_to(BYTES_MAX, word)
+}
+
+/// `*`, or an index of the address vector.
+#[tactic(auto, unfolding(crate::specs::Words::read_source))]
+pub(crate) fn read_source(word: &[u8]) -> Result<Option<u32>, Fault>
+    ensures { result ≡ read_source word.now }
+{
+    if is(word, "*") {
+        Ok(None)
+    } else {
+        Ok(Some(read_index(word)?))
+    }
+}
+
+/// `text:` and the bytes.
+#[tactic(auto, unfolding(crate::specs::Words::read_bytes))]
+pub(crate) fn read_bytes(alloc: Global, word: &[u8]) -> Result<Read<BytesWord>, NoMemory>
+    ensures { IfOk result (λ read. read ≡ read_bytes word.now) }
 {
     match word.strip_prefix(b"text:") {
-        Some(bytes) if bytes.len() <= 4096 => Ok(Some(Buf::copy(alloc, bytes)?)),
-        _ => Ok(None),
+        Some(bytes) if bytes.len() > BYTES_MAX as usize => Ok(Err(Fault::Limit)),
+        Some(bytes) => Ok(Ok(BytesWord::Text(Buf::copy(alloc, bytes)?))),
+        None => Ok(Err(Fault::Words)),
     }
 }

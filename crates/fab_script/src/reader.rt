@@ -1,0 +1,232 @@
+//! The lines of a file, taken one after another.
+ghost use Rattle.std.specs.Prelude.{◌≡◌, ℕ, List, [], ◌∷◌, true, false, MatchResult};
+ghost use Rattle.fab_script.specs.Before.{Before, nothing, has_opened};
+ghost use Rattle.fab_script.specs.Parts.{Holds, Answers};
+ghost use Rattle.fab_script.specs.Words.{first_of};
+ghost use Rattle.fab_script.specs.Rules.{is_late, is_header, is_set, is_made, is_again, setting_rules, peer_rules, call_rules, word_rules, verb_rules, why_of, with_setting, with_peer, with_call, with_verb, with_words, with_line};
+ghost use Rattle.fab_script.specs.Settings.{setting_of, peer_of};
+ghost use Rattle.fab_script.specs.Lines.{op_of};
+ghost use Rattle.fab_script.specs.Verbs.{verb_of};
+ghost use Rattle.fab_base.specs.declared.status.Why.TheVariants.{Limit};
+ghost use Rattle.fab_script.specs.declared.refused.Refused.TheVariants.{Why as Because};
+ghost use Rattle.fab_script.specs.declared.language.Language.{Language};
+
+use crate::fault::Fault;
+use crate::language::Language;
+use crate::lines::read_op;
+use crate::parts::Parts;
+use crate::refused::Refused;
+use crate::rows::all_text;
+use crate::settings::{Setting, read_peer, read_setting};
+use crate::verbs::{Kind, Verb};
+use crate::words::{Words, is, number};
+use fab_base::{Line, Why};
+use std::alloc::Global;
+
+/// The greatest number of lines.
+const LINES_MAX: u32 = 100_000;
+
+/// What the lines before a line say.
+#[derive(Drop)]
+pub(crate) struct Reader {
+    pub has_header: bool,
+    /// How many peers there are, where that was said.
+    pub peers: Option<u32>,
+    pub is_selective: bool,
+    pub parts: Parts,
+}
+
+impl Reader {
+    /// No line is taken.
+    pub(crate) fn new(alloc: Global) -> Reader
+        ensures { Holds result nothing }
+    {
+        Reader {
+            has_header: false,
+            peers: None,
+            is_selective: false,
+            parts: Parts::new(alloc),
+        }
+    }
+
+    /// Takes a line, or says which rule it breaks.
+    #[tactic(auto, unfolding(crate::specs::Rules::why_of, crate::specs::Rules::with_line))]
+    pub(crate) fn take(
+        &mut self,
+        alloc: Global,
+        language: Language,
+        number: u32,
+        line: &[u8],
+    ) -> Result<(), Refused>
+        ensures { (before : Before) → Holds self.old before →
+            Answers (why_of language before number line.now) (with_line before number line.now) self.new result }
+    {
+        if !all_text(line) {
+            return Err(Refused::Why(Why::NotText));
+        }
+        let mut words = Words::of_line(line);
+        match words.next() {
+            None => in_time(number),
+            Some(word) if self.has_header => self.take_line(
+                alloc, language, number, word, &mut words,
+            ),
+            Some(word) => self.take_header(number, word, &mut words),
+        }
+    }
+
+    /// Takes the header.
+    fn take_header(&mut self, number: u32, word: &[u8], args: &mut Words) -> Result<(), Refused>
+        ensures { (before : Before) → Holds self.old before → before.has_header ≡ false → (language : Language) →
+            Answers (first_of (word_rules language before number (word.now ∷ args.old))) (with_words before number (word.now ∷ args.old)) self.new result }
+    {
+        if !is_header(word, args) {
+            return Err(Refused::Why(Why::Header));
+        }
+        in_time(number)?;
+        self.has_header = true;
+        Ok(())
+    }
+
+    /// Takes a line after the header.
+    fn take_line(
+        &mut self,
+        alloc: Global,
+        language: Language,
+        number: u32,
+        word: &[u8],
+        args: &mut Words,
+    ) -> Result<(), Refused>
+        ensures { (before : Before) → Holds self.old before →
+            Answers (first_of (verb_rules language before number (verb_of word.now) args.old)) (with_verb before number (verb_of word.now) args.old) self.new result }
+    {
+        let Some(verb) = Verb::of(word) else {
+            return Err(Refused::Why(Why::Verb));
+        };
+        if !language.has_line(verb, args) {
+            return Err(Refused::Why(Why::Unbuilt));
+        }
+        match verb.kind() {
+            Kind::Setting => self.take_setting(alloc, number, verb, args),
+            Kind::Peer => self.take_peer(number, args),
+            Kind::Call => self.take_call(alloc, number, verb, args),
+        }
+    }
+
+    /// Takes a setting.
+    #[tactic(auto, unfolding(crate::specs::Rules::setting_rules))]
+    fn take_setting(
+        &mut self,
+        alloc: Global,
+        number: u32,
+        verb: Verb,
+        args: &mut Words,
+    ) -> Result<(), Refused>
+        ensures { (before : Before) → Holds self.old before →
+            Answers (first_of (setting_rules before number verb args.old)) (with_setting before (setting_of verb args.old)) self.new result }
+    {
+        if self.parts.has_opened() {
+            return Err(Refused::Why(Why::Order));
+        }
+        if self.is_set(verb) {
+            return Err(Refused::Why(Why::Twice));
+        }
+        let setting = read_setting(verb, args)?;
+        in_time(number)?;
+        self.set(alloc, setting)
+    }
+
+    /// Whether a setting was made.
+    fn is_set(&self, verb: Verb) -> bool
+        ensures { (before : Before) (args : List (List ℕ)) → Holds self.now before → result ≡ is_set before verb args }
+    {
+        match verb {
+            Verb::Peers => self.peers.is_some(),
+            Verb::Selective => self.is_selective,
+            _ => false,
+        }
+    }
+
+    fn set(&mut self, alloc: Global, setting: Setting) -> Result<(), Refused>
+        requires { self.old.parts.opened.items ≡ [] }
+        ensures { (before : Before) → Holds self.old before → is_made before.settings setting ≡ false → Answers None (with_setting before (Ok setting)) self.new result }
+    {
+        match setting {
+            Setting::Peers(peers) => {
+                self.peers = Some(peers);
+                self.parts.grow(alloc, peers)?;
+            }
+            Setting::Selective => self.is_selective = true,
+        }
+        Ok(())
+    }
+
+    /// Takes a `peer` line.
+    #[tactic(auto, unfolding(crate::specs::Rules::peer_rules))]
+    fn take_peer(&mut self, number: u32, args: &mut Words) -> Result<(), Refused>
+        ensures { (before : Before) → Holds self.old before →
+            Answers (first_of (peer_rules before number args.old)) (with_peer before (peer_of args.old)) self.new result }
+    {
+        if self.is_again(args) {
+            return Err(Refused::Why(Why::Twice));
+        }
+        let peer = read_peer(args)?;
+        if !self.parts.has(peer) {
+            return Err(Refused::Why(Why::Peer));
+        }
+        in_time(number)?;
+        self.parts.open(peer)?;
+        Ok(())
+    }
+
+    /// Whether the line names a peer that is opened.
+    fn is_again(&self, args: &Words) -> bool
+        ensures { result ≡ is_again self.now.parts.opened.items args.now }
+    {
+        args.again()
+            .next()
+            .and_then(number)
+            .is_some_and(|peer| self.parts.is_opened(peer))
+    }
+
+    /// Takes a line that a peer does.
+    #[tactic(auto, unfolding(crate::specs::Rules::call_rules))]
+    fn take_call(
+        &mut self,
+        alloc: Global,
+        number: u32,
+        verb: Verb,
+        args: &mut Words,
+    ) -> Result<(), Refused>
+        ensures { (before : Before) → Holds self.old before →
+            Answers (first_of (call_rules before number verb args.old)) (with_call before number (op_of verb args.old)) self.new result }
+    {
+        if !self.parts.has_opened() {
+            return Err(Refused::Why(Why::Order));
+        }
+        let op = read_op(alloc, verb, args)??;
+        in_time(number)?;
+        if self.parts.is_too_much(&op) {
+            return Err(Refused::Why(Why::Limit));
+        }
+        self.parts.add(Line { number, op })?;
+        Ok(())
+    }
+}
+
+/// Whether the line is `fabric 1`.
+fn is_header(word: &[u8], args: &mut Words) -> bool
+    ensures { result ≡ is_header (word.now ∷ args.old) }
+{
+    is(word, "fabric") && args.one().is_some_and(|version| is(version, "1"))
+}
+
+/// A script has at most 100,000 lines.
+fn in_time(number: u32) -> Result<(), Refused>
+    ensures { MatchResult result (λ _. is_late number ≡ false) (λ e. (is_late number ≡ true) × (e ≡ Because Limit)) }
+{
+    if number > LINES_MAX {
+        Err(Refused::Why(Why::Limit))
+    } else {
+        Ok(())
+    }
+}
