@@ -14,7 +14,7 @@ use Rattle.fab_base.specs.declared.status.Status.TheVariants.{Done, Stuck, Usage
 use Rattle.fab_model.specs.Peers.{Actor}
 use Rattle.fab_model.specs.Replay.{Lawful, replayed, at_rest, all_done, is_empty}
 use Rattle.fab_model.specs.Report.{report, traces}
-use Rattle.fab_script.specs.Grammar.{script_of}
+use Rattle.fab_script.specs.Grammar.{script_of, refusal_of}
 use Rattle.fab_top.specs.Outside.{IsFile, BeginsFile}
 use Rattle.fab_base.specs.Counts.{Rose}
 
@@ -48,7 +48,7 @@ IsRead files name script = (bytes : List ℕ) × IsFile files name bytes × (len
 
 -- why there is no script
 abbrev pub IsUnread : Option (List ℕ → Option (List ℕ)) → List ℕ → ℕ → ℕ → Option (List ℕ) → Status → Type 0
-IsUnread files name faults faults' failed (ScriptRefused line why) = (bytes : List ℕ) × IsFile files name bytes × (length bytes ≤ script_max) × (script_of bytes ≡ None)
+IsUnread files name faults faults' failed (ScriptRefused line why) = (bytes : List ℕ) × IsFile files name bytes × (length bytes ≤ script_max) × (refusal_of bytes ≡ Some (line, why))
 IsUnread files name faults faults' failed (TooLong file) = (file ≡ name) × (bytes : List ℕ) × BeginsFile files name bytes × (script_max < length bytes)
 IsUnread files name faults faults' failed (ReadFault file) = (file ≡ name) × Rose faults faults' × (failed ≡ Some name)
 IsUnread files name faults faults' failed NoMemory = Unit {0}
@@ -93,7 +93,3 @@ IsSilent Done = ⊥
 IsSilent Stuck = ⊥
 IsSilent WriteFault = ⊥
 IsSilent status = Unit {0}
-
-abbrev pub IsScriptRefused : Status → Type 0
-IsScriptRefused (ScriptRefused line why) = Unit {0}
-IsScriptRefused status = ⊥

@@ -2,11 +2,12 @@
 ghost use Rattle.std.specs.Prelude.{◌≡◌, ◌<◌, ◌≤◌, ◌↔◌, ℕ, List, true, false, None, Some, IfOk, string_bytes, option_map, length, take};
 ghost use Rattle.std.specs.Io.KnownBytes.{append_known};
 ghost use Rattle.fab_base.specs.Built.{all_built};
-ghost use Rattle.fab_base.specs.declared.status.Status.TheVariants.{Done, Stuck, Usage, TooLong, ReadFault, WriteFault};
-ghost use Rattle.fab_script.specs.Grammar.{script_of};
+ghost use Rattle.fab_base.specs.declared.status.Status.TheVariants.{Done, Stuck, Usage, ScriptRefused, TooLong, ReadFault, WriteFault};
+ghost use Rattle.fab_base.specs.declared.status.Why.{Why};
+ghost use Rattle.fab_script.specs.Grammar.{refusal_of};
 ghost use Rattle.fab_top.specs.Outside.{IsFile, BeginsFile};
 ghost use Rattle.fab_base.specs.Counts.{Rose};
-ghost use Rattle.fab_top.specs.Runs.{command_of, alone, script_max, Reports, IsRead, IsUnread, Writes, WritesPart, IsSilent, IsScriptRefused, WritesReport};
+ghost use Rattle.fab_top.specs.Runs.{command_of, alone, script_max, Reports, IsRead, IsUnread, Writes, WritesPart, IsSilent, WritesReport};
 
 use crate::loading::load_script;
 use crate::outside::{Clock, Depot, Failed, Sink};
@@ -75,7 +76,8 @@ fn write_report<S: Sink>(sink: &mut S, ran: &Ran) -> Status
 /// peers are at rest: nothing is on its way, no completion is unread, and no line can be done. At `Done`
 /// all lines are done, and no receive is posted any more; at `Stuck` some line is not done. At
 /// `WriteFault` the first bytes of such a report are written, and at every other status none. The files
-/// stay as they are. `NoMemory` may come before anything is written. The clock is not read, and the gate
+/// stay as they are. `ScriptRefused` names the first line that breaks a rule of the language, and the
+/// first rule that it breaks. `NoMemory` may come before anything is written. The clock is not read, and the gate
 /// is not told, while the peers take turns in the caller's thread.
 pub fn run<D: Depot, S: Sink, C: Clock, G: Gate>(
     alloc: Global,
@@ -86,8 +88,8 @@ pub fn run<D: Depot, S: Sink, C: Clock, G: Gate>(
     _gate: &G,
 ) -> Status
     ensures usage { (result ≡ Usage) ↔ (command_of words.now ≡ None) }
-    ensures refused { IsScriptRefused result → (name : List ℕ) × (command_of words.now ≡ Some name)
-        × ((bytes : List ℕ) × IsFile (D.files depot.old) name bytes × (length bytes ≤ script_max) × (script_of bytes ≡ None)) }
+    ensures refused { (line : ℕ) (why : Why) → result ≡ ScriptRefused line why → (name : List ℕ) × (command_of words.now ≡ Some name)
+        × ((bytes : List ℕ) × IsFile (D.files depot.old) name bytes × (length bytes ≤ script_max) × (refusal_of bytes ≡ Some (line, why))) }
     ensures too_long { (name : List ℕ) → result ≡ TooLong name → (command_of words.now ≡ Some name)
         × ((bytes : List ℕ) × BeginsFile (D.files depot.old) name bytes × (script_max < length bytes)) }
     ensures read_fault { (name : List ℕ) → result ≡ ReadFault name → (command_of words.now ≡ Some name)
