@@ -1,5 +1,5 @@
 -- Steps of a peer, one after another.
-use Rattle.std.proofs.Common.{◌≡◌, ◌≢◌, ◌<◌, ◌≤◌, ◌+◌, ℕ, Bool, true, false, [], ◌∷◌, ◌++◌, Option, Some, None, Result, Ok, Err, refl, sym, ap, subst, ◌∙◌, arith, length, append-nil, append_assoc, length-append, option_map}
+use Rattle.std.proofs.Common.{◌≡◌, ◌≢◌, ◌<◌, ◌≤◌, ◌+◌, ℕ, Bool, true, false, List, [], ◌∷◌, ◌++◌, Option, Some, None, Result, Ok, Err, refl, sym, ap, subst, ◌∙◌, arith, length, get_or, append-nil, append_assoc, length-append, option_map}
 use Rattle.std.specs.Prelude.{find, replicate, is_some, is_none, nat_le, ◌&&◌, IfOk, OnOk}
 use Rattle.std.proofs.lemmas.Option.{slice_get_within}
 use Rattle.std.proofs.lemmas.Bool.Decides.{nat_tests}
@@ -35,6 +35,7 @@ use Rattle.fab_peer.specs.Turns.{actor_of, schedule_of, Does, Turned, Answered, 
 use Rattle.fab_peer.specs.Work.{line_work, state_work, actor_work}
 use Rattle.fab_peer.specs.declared.peer.Peer.{Peer}
 use Rattle.fab_peer.proofs.Going.{tied_passes, ported_same, ported_then, shows_less, walk_append}
+use Rattle.fab_peer.proofs.Joining.{is_at}
 use Rattle.fab_peer.proofs.Working.{line_less, read_less}
 
 -- ---- joining
@@ -123,6 +124,10 @@ next_is a op e = by_line (next_line (actor_of a)) refl e
     by_line : (o : Option Line) → next_line (actor_of a) ≡ o → option_map (λ (line : Line). line.op) o ≡ Some op → do_next (actor_of a) ≡ do_line (actor_of a) op
     by_line None there e = absurd (cc)
     by_line (Some line) there e = let is : line.op ≡ op = cc in rw (there, do_next, is) refl
+
+-- the next line, where a look-up found it
+pub next_there : (a : Peer) (lines : List Line) (n : ℕ) (line : Line) → lines ≡ a.lines.items → n ≡ length a.results.items → n < length lines → line ≡ get_or lines n line → next_line (actor_of a) ≡ Some line
+next_there a lines n line all count within found = rw (← all, ← count) (is_at lines n line within found)
 
 -- what the next line asks for
 pub next_by : (a : Peer) (line : Line) (op : LineOp) → next_line (actor_of a) ≡ Some line → line.op ≡ op → next_op a ≡ Some op

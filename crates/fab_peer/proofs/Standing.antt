@@ -1,5 +1,5 @@
 -- A turn in which nothing happened: the peer can do nothing.
-use Rattle.std.proofs.Common.{◌≡◌, ◌<◌, true, false, length, sym, ap, subst, ◌∙◌, arith}
+use Rattle.std.proofs.Common.{◌≡◌, ◌<◌, Bool, true, false, length, refl, sym, ap, subst, ◌∙◌, arith}
 use Rattle.std.specs.Prelude.{slice_index}
 use Rattle.std.proofs.lemmas.Bool.Decides.{nat_tests}
 use Rattle.fab_link.specs.Plain.{Plain, PlainHome, home_of}
@@ -35,3 +35,10 @@ module _ (r l f : Peer) (e : Held) (p q : Plain) (read : IsRead r) (stays : Stay
         whole = λ peer. subst (λ (a : Actor). slice_index a.state.rx.tails peer ≡ length (came_to q peer)) (sym after_moves)
             ((moved.moved room peer).whole ∙ sym (ap (λ (h : PlainHome). length (h.in_lists peer)) home));
       }
+
+-- where one of four things happened
+pub one_of : {P : Type 0} (a b c d : Bool) → (a ≡ true → P) → (b ≡ true → P) → (c ≡ true → P) → (d ≡ true → P) → (a ≡ false → b ≡ false → c ≡ false → d ≡ true) → P
+one_of true b c d first second third fourth last = first refl
+one_of false true c d first second third fourth last = second refl
+one_of false false true d first second third fourth last = third refl
+one_of false false false d first second third fourth last = fourth (last refl refl refl)

@@ -1,12 +1,11 @@
-use Rattle.std.proofs.Common.{◌≡◌, ◌≤◌, ◌∙◌, refl, rules, sym, length, Some, None, Ok, ap, arith}
+use Rattle.std.proofs.Common.{◌≡◌, ◌≤◌, ◌∙◌, refl, rules, sym, length, None, Ok, ap, arith}
 use Rattle.std.proofs.lemmas.Bool.{ltb-true, ltb-false}
 use Rattle.std.proofs.lemmas.Option.{slice_get_past}
 use Rattle.fab_base.specs.declared.script.LineOp.TheVariants.{Wait, TRecv, TSend}
 use Rattle.fab_model.specs.Peers.{next_line}
 use Rattle.fab_peer.specs.Turns.{actor_of}
-use Rattle.fab_peer.proofs.Doing.{turned_then, turned_does, turned_went, does_same, stays_held, stays_other, stays_finished, stays_unbuilt, next_by, some_source, built_send}
+use Rattle.fab_peer.proofs.Doing.{turned_then, turned_does, turned_went, does_same, stays_held, stays_other, stays_finished, stays_unbuilt, next_there, next_by, some_source, built_send}
 use Rattle.fab_peer.proofs.Calling.{none_found}
-use Rattle.fab_peer.proofs.Joining.{is_at}
 use Rattle.fab_peer.proofs.peer.Peer.do_line.Goals as goal
 
 pub returns-in_default-clause-turned : goal.returns-in_default-clause-turned
@@ -22,10 +21,9 @@ returns-in_default-clause-still c e =
 
 pub wait-requires : goal.wait-requires
 wait-requires c =
-    let count : c.len.result ≡ length c.args.self.now.results.items = search rules in
     let found = c.in-Some.ensures.lookup in
-    let there = is_at c.deref.result.now c.len.result c.in-Some.line.now (ltb-true _ _ (sym found.0)) found.1 in
-    let next : next_line (actor_of c.args.self.now) ≡ Some c.in-Some.line.now = rw (c.deref.ensures.value, count) at there in
+    let count : c.len.result ≡ length c.args.self.now.results.items = search rules in
+    let next = next_there c.args.self.now c.deref.result.now c.len.result c.in-Some.line.now c.deref.ensures.value count (ltb-true _ _ (sym found.0)) found.1 in
     next_by c.args.self.now c.in-Some.line.now (Wait c.in-Wait.ctx) next c.in-Wait.is
 
 pub returns-then-is_some-clause-turned : goal.returns-then-is_some-clause-turned
@@ -33,18 +31,16 @@ returns-then-is_some-clause-turned c = turned_does c.args.self.now c.args.self.n
 
 pub returns-then-is_some-clause-still : goal.returns-then-is_some-clause-still
 returns-then-is_some-clause-still c e =
-    let count : c.len.result ≡ length c.args.self.now.results.items = search rules in
     let found = c.in-Some.ensures.lookup in
-    let there = is_at c.deref.result.now c.len.result c.in-Some.line.now (ltb-true _ _ (sym found.0)) found.1 in
-    let next : next_line (actor_of c.args.self.now) ≡ Some c.in-Some.line.now = rw (c.deref.ensures.value, count) at there in
+    let count : c.len.result ≡ length c.args.self.now.results.items = search rules in
+    let next = next_there c.args.self.now c.deref.result.now c.len.result c.in-Some.line.now c.deref.ensures.value count (ltb-true _ _ (sym found.0)) found.1 in
     stays_unbuilt c.args.self.now _ c.in-Some.line.now (TRecv c.in-TRecv.ctx c.in-TRecv.source c.in-TRecv.tag c.in-TRecv.ignore c.in-TRecv.len) next c.in-TRecv.is (some_source c.in-TRecv.source (sym c.is_some.ensures ∙ c.if-is_some.true)) refl
 
 pub trecv-requires : goal.trecv-requires
 trecv-requires c =
-    let count : c.len.result ≡ length c.args.self.now.results.items = search rules in
     let found = c.in-Some.ensures.lookup in
-    let there = is_at c.deref.result.now c.len.result c.in-Some.line.now (ltb-true _ _ (sym found.0)) found.1 in
-    let next : next_line (actor_of c.args.self.now) ≡ Some c.in-Some.line.now = rw (c.deref.ensures.value, count) at there in
+    let count : c.len.result ≡ length c.args.self.now.results.items = search rules in
+    let next = next_there c.args.self.now c.deref.result.now c.len.result c.in-Some.line.now c.deref.ensures.value count (ltb-true _ _ (sym found.0)) found.1 in
     let none : c.in-TRecv.source ≡ None = none_found c.in-TRecv.source (sym c.is_some.ensures ∙ c.if-is_some.false) in
     next_by c.args.self.now c.in-Some.line.now (TRecv c.in-TRecv.ctx None c.in-TRecv.tag c.in-TRecv.ignore c.in-TRecv.len) next (rw (← none) c.in-TRecv.is)
 
@@ -53,10 +49,9 @@ returns-then-not-goes_in_one-clause-turned c = turned_does c.args.self.now c.arg
 
 pub returns-then-not-goes_in_one-clause-still : goal.returns-then-not-goes_in_one-clause-still
 returns-then-not-goes_in_one-clause-still c e =
-    let count : c.len.result ≡ length c.args.self.now.results.items = search rules in
     let found = c.in-Some.ensures.lookup in
-    let there = is_at c.deref.result.now c.len.result c.in-Some.line.now (ltb-true _ _ (sym found.0)) found.1 in
-    let next : next_line (actor_of c.args.self.now) ≡ Some c.in-Some.line.now = rw (c.deref.ensures.value, count) at there in
+    let count : c.len.result ≡ length c.args.self.now.results.items = search rules in
+    let next = next_there c.args.self.now c.deref.result.now c.len.result c.in-Some.line.now c.deref.ensures.value count (ltb-true _ _ (sym found.0)) found.1 in
     stays_unbuilt c.args.self.now _ c.in-Some.line.now (TSend c.in-TSend.ctx c.in-TSend.dest c.in-TSend.tag c.in-TSend.bytes c.in-TSend.imm c.in-TSend.level c.in-TSend.completion) next c.in-TSend.is
     (λ built.
     let send = built_send c.in-TSend.bytes c.in-TSend.level built in
@@ -67,10 +62,9 @@ returns-then-not-goes_in_one-clause-still c e =
 
 pub tsend-requires-clause-next : goal.tsend-requires-clause-next
 tsend-requires-clause-next c =
-    let count : c.len.result ≡ length c.args.self.now.results.items = search rules in
     let found = c.in-Some.ensures.lookup in
-    let there = is_at c.deref.result.now c.len.result c.in-Some.line.now (ltb-true _ _ (sym found.0)) found.1 in
-    let next : next_line (actor_of c.args.self.now) ≡ Some c.in-Some.line.now = rw (c.deref.ensures.value, count) at there in
+    let count : c.len.result ≡ length c.args.self.now.results.items = search rules in
+    let next = next_there c.args.self.now c.deref.result.now c.len.result c.in-Some.line.now c.deref.ensures.value count (ltb-true _ _ (sym found.0)) found.1 in
     (c.in-TSend.bytes, next_by c.args.self.now c.in-Some.line.now _ next c.in-TSend.is, c.in_ok-bytes-in-TSend.ensures)
 
 pub returns-in_ok-push-in-TSend-clause-turned : goal.returns-in_ok-push-in-TSend-clause-turned
@@ -108,7 +102,6 @@ returns-in_default-op c = record {
   still = λ e.
       let count : c.len.result ≡ length c.args.self.now.results.items = search rules in
       let found = c.in-Some.ensures.lookup in
-      let there = is_at c.deref.result.now c.len.result c.in-Some.line.now (ltb-true _ _ (sym found.0)) found.1 in
-      let next : next_line (actor_of c.args.self.now) ≡ Some c.in-Some.line.now = rw (c.deref.ensures.value, count) at there in
+      let next = next_there c.args.self.now c.deref.result.now c.len.result c.in-Some.line.now c.deref.ensures.value count (ltb-true _ _ (sym found.0)) found.1 in
       stays_other _ _ c.in-Some.line.now next c.in_default-op.not-TSend c.in_default-op.not-TRecv c.in_default-op.not-Wait refl;
 }

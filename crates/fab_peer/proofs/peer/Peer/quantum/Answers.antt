@@ -1,7 +1,6 @@
-use Rattle.std.proofs.Common.{◌≡◌, true, inl, inr, refl, rules, ap, Ok, ◌∙◌, arith}
+use Rattle.std.proofs.Common.{refl, rules, ap, Ok, ◌∙◌, arith}
 use Rattle.fab_peer.proofs.Doing.{turned_then, turned_does, turned_went}
-use Rattle.fab_peer.proofs.Standing.{same_as_read, still_by}
-use Rattle.fab_peer.proofs.peer.Peer.quantum.Goals.{then-moved, else-moved}
+use Rattle.fab_peer.proofs.Standing.{same_as_read, still_by, one_of}
 use Rattle.fab_peer.proofs.peer.Peer.quantum.Goals as goal
 
 pub do_lines-requires : goal.do_lines-requires
@@ -42,16 +41,12 @@ returns-then-again-clause-falls c e =
     let lines = c.in_ok-done.ensures.turned.spends in
     let went = c.in_ok-moved.ensures.went.spends in
     let again = c.in_ok-again.ensures.does.spends in
-    elim c.if-moved.branch [
-      | then-moved w ↦ elim w.if-moved.either [
-        | inl is ↦ (let less = c.in_ok-read.ensures.falls (ap Ok is) in omega (arith, less, lines, went, again))
-        | inr other ↦ elim other [
-          | inl is ↦ (let less = c.in_ok-done.ensures.falls (ap Ok is.1) in omega (arith, read, less, went, again))
-          | inr is ↦ (let less = c.in_ok-moved.ensures.falls (ap Ok is.2) in omega (arith, read, lines, less, again))
-        ]
-      ]
-      | else-moved w ↦ (let is : c.in_ok-again.again ≡ true = search rules in let less = c.in_ok-again.ensures.falls (ap Ok is) in omega (arith, read, lines, went, less))
-    ]
+    one_of c.in_ok-read.read c.in_ok-done.done c.in_ok-moved.moved c.in_ok-again.again
+    (λ is. let less = c.in_ok-read.ensures.falls (ap Ok is) in omega (arith, less, lines, went, again))
+    (λ is. let less = c.in_ok-done.ensures.falls (ap Ok is) in omega (arith, read, less, went, again))
+    (λ is. let less = c.in_ok-moved.ensures.falls (ap Ok is) in omega (arith, read, lines, less, again))
+    (λ is. let less = c.in_ok-again.ensures.falls (ap Ok is) in omega (arith, read, lines, went, less))
+    (λ none_a none_b none_c. search rules)
 
 -- no draw is due
 pub returns-else-again-clause-falls : goal.returns-else-again-clause-falls
