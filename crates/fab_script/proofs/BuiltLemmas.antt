@@ -14,6 +14,11 @@ use Rattle.fab_base.specs.declared.script.LineOp.TheVariants.{Wait}
 use Rattle.fab_base.specs.declared.script.Script.{Script}
 use Rattle.fab_base.specs.declared.status.Why.{Why}
 use Rattle.fab_base.specs.declared.status.Why.TheVariants as why
+use Rattle.fab_base.specs.declared.caps.Hints.{Hints}
+use Rattle.fab_base.specs.declared.caps.Info.{Info}
+use Rattle.fab_base.specs.declared.limits.Size.TheVariants as size
+use Rattle.fab_model.specs.Negotiation.{is_refused, granted_info, grant_of, grant}
+use Rattle.fab_model.specs.Negotiation.{size_of as granted_size}
 use Rattle.fab_script.specs.declared.fault.Fault.{Fault}
 use Rattle.fab_script.specs.declared.fault.Fault.TheVariants.{Words, Limit}
 use Rattle.fab_script.specs.declared.items.Item.{Item}
@@ -22,21 +27,22 @@ use Rattle.fab_script.specs.declared.language.Form.{Form}
 use Rattle.fab_script.specs.declared.language.Form.TheVariants.{Line as LineForm, Index, Long}
 use Rattle.fab_script.specs.declared.language.Language.TheVariants.{Built}
 use Rattle.fab_script.specs.declared.settings.Setting.{Setting}
+use Rattle.fab_script.specs.declared.settings.Setting.TheVariants.{Peers, Wish, Capabilities, Selective, File}
 use Rattle.fab_script.specs.declared.verbs.Kind.{Kind}
 use Rattle.fab_script.specs.declared.verbs.Kind.TheVariants as kind
 use Rattle.fab_script.specs.declared.verbs.Verb.{Verb}
 use Rattle.fab_script.specs.declared.verbs.Verb.TheVariants as verb
-use Rattle.fab_script.specs.Before.{Before, nothing, peers_in, is_selective, until_peer, part_of, parts_of}
-use Rattle.fab_script.specs.Conf.{conf_for, info_for}
+use Rattle.fab_script.specs.Before.{Before, nothing, until_peer, part_of, parts_of}
+use Rattle.fab_script.specs.Conf.{conf_of}
 use Rattle.fab_script.specs.Faults.{◌&◌, map_ok}
-use Rattle.fab_script.specs.Grammar.{Refusal, read_lines, script_with, script_said, then_script, verdict, script_of}
+use Rattle.fab_script.specs.Grammar.{Refusal, read_lines, script_with, granted, of_peers, script_said, then_script, verdict, script_of}
 use Rattle.fab_script.specs.Language.{has, has_form, other_forms, form_of_word, source_form, wait_form, is_any, is_built}
 use Rattle.fab_script.specs.Lines.{a_tsend, a_trecv, tsend_of, trecv_of, wait_of, op_of}
 use Rattle.fab_script.specs.declared.refused.ParseRefused.{ParseRefused}
 use Rattle.fab_script.specs.Refused.{IsVerdict}
 use Rattle.fab_script.specs.Rows.{is_text, words_of, lines_of}
 use Rattle.fab_script.specs.Rules.{Rules, is_header, header_rules, kind_rules, verb_rules, word_rules, why_of, with_setting, with_peer, with_call, with_kind, with_verb, with_words, with_line}
-use Rattle.fab_script.specs.Settings.{setting_of, peer_of}
+use Rattle.fab_script.specs.Settings.{setting_of, peer_of, hints_of}
 use Rattle.fab_script.specs.Verbs.{verb_of, kind_of}
 use Rattle.fab_script.specs.Words.{first_of, only_if, begins_with, read_number, read_index, read_len, read_source, read_bytes}
 use Rattle.fab_script.proofs.PartLemmas.{and_true}
@@ -144,7 +150,11 @@ one_more : (items : List Item) (item : Item) → AreBuilt items → built_item i
 one_more items item all one = list_all-append built_item items (item ∷ []) ∙ rw (all, one) refl
 
 with_setting_built : (before : Before) (said : Result Setting Fault) → AreBuilt before.items → AreBuilt (with_setting before said).items
-with_setting_built before (Ok setting) all = all
+with_setting_built before (Ok (File payload)) all = all
+with_setting_built before (Ok (Peers n)) all = all
+with_setting_built before (Ok (Wish size n)) all = all
+with_setting_built before (Ok (Capabilities caps)) all = all
+with_setting_built before (Ok Selective) all = all
 with_setting_built before (Err fault) all = all
 
 with_peer_built : (before : Before) (said : Result ℕ Fault) → AreBuilt before.items → AreBuilt (with_peer before said).items
@@ -222,16 +232,45 @@ all_parts_built items (k ∷ peers) e = rw (part_built k items e, all_parts_buil
 abbrev pub CarriedOut : Script → Type 0
 CarriedOut script = (all_built script.peers ≡ true) × (0 < script.conf.info.cq)
 
+-- a wish that is granted is not 0
+abbrev wished : Bool → ℕ → Option ℕ
+wished b n = elim b as (λ _. Option ℕ) [ true ↦ None | false ↦ Some n ]
+
+abbrev sized : Option ℕ → ℕ
+sized o = elim o as (λ _. ℕ) [ None ↦ 1024 | Some n ↦ n ]
+
+wished_positive : (b : Bool) (n : ℕ) → eqb n 0 ≡ b → 0 < sized (wished b n)
+wished_positive true n e = omega arith
+wished_positive false n e = grind (arith, nat_tests)
+
+size_positive : (wanted : Option ℕ) → 0 < granted_size size.Cq wanted
+size_positive None = omega arith
+size_positive (Some n) = wished_positive (eqb n 0) n refl
+
+granted_positive : (refused : Bool) (h : Hints) (info : Info) → elim refused as (λ _. Option Info) [ true ↦ None | false ↦ Some (granted_info h) ] ≡ Some info → 0 < info.cq
+granted_positive true h info e = cc
+granted_positive false h info e =
+    let same : granted_info h ≡ info = cc in
+    subst (λ i. 0 < i.cq) same (size_positive h.cq)
+
+info_sized : (h : Hints) (info : Info) → grant (Some h) ≡ Some info → 0 < info.cq
+unfolding grant grant_of
+info_sized h info e = granted_positive (is_refused h) h info e
+
 said_built : (count : ℕ) (before : Before) (script : Script) → AreBuilt before.items → script_said count before ≡ Ok script → CarriedOut script
-unfolding script_said script_with conf_for info_for
-said_built count before script all e = by_header before.has_header (peers_in before.settings) e
+unfolding script_said
+said_built count before script all e = by_header before.has_header before.settings.peers e
   where
-    by_header : (b : Bool) (peers : Option ℕ) → cond b (elim peers as (λ _. Result Script Refusal) [ None ↦ Err (count, why.Missing) | Some n ↦ Ok (script_with n (is_selective before.settings) (parts_of n before.items)) ]) (Err (0, why.Header)) ≡ Ok script → CarriedOut script
+    by_grant : (n : ℕ) (o : Option Info) → grant (Some (hints_of before.settings)) ≡ o → granted count before n o ≡ Ok script → CarriedOut script
+    by_grant n None g e = cc
+    by_grant n (Some info) g e =
+        let same : script_with (conf_of before.settings n info) before.payloads (parts_of n before.items) ≡ script = cc in
+        subst CarriedOut same (all_parts_built before.items (range_with_len 0 n) all, info_sized (hints_of before.settings) info g)
+
+    by_header : (b : Bool) (peers : Option ℕ) → cond b (of_peers count before peers) (Err (0, why.Header)) ≡ Ok script → CarriedOut script
     by_header false peers e = cc
     by_header true None e = cc
-    by_header true (Some n) e =
-        let same : script_with n (is_selective before.settings) (parts_of n before.items) ≡ script = cc in
-        subst CarriedOut same (all_parts_built before.items (range_with_len 0 n) all, omega arith)
+    by_header true (Some n) e = by_grant n (grant (Some (hints_of before.settings))) refl e
 
 then_built : (count : ℕ) (read : Result Before Refusal) (script : Script) → ((after : Before) → read ≡ Ok after → AreBuilt after.items) → then_script count read ≡ Ok script → CarriedOut script
 then_built count (Ok after) script all e = said_built count after script (all after refl) e

@@ -53,6 +53,24 @@ parts_of_cut p xs =
           inr (record { parts = slice_split_none p xs none ∙ ap (λ ys. ys ∷ []) (sym all); all = all; rest = drop_all _ xs beyond })
     ]
 
+-- the parts, where the cut is given by its place
+pub split_at : (p : ℕ → Bool) (xs : List ℕ) (i : ℕ) → position p xs ≡ Some i → slice_split p xs ≡ take i xs ∷ slice_split p (take (length xs - (i + 1)) (drop (i + 1) xs))
+split_at p xs i e =
+    let place = picked _ _ _ e in
+    let cuts = cut_at p xs i e in
+    let first : position_or_len p xs ≡ i = place.1 in
+    let within : position_or_len p xs < length xs = omega (arith, cuts.2) in
+    rw (cuts.0, cuts.1) (slice_split_first p xs 0 within)
+
+pub split_nowhere : (p : ℕ → Bool) (xs : List ℕ) → position p xs ≡ None → slice_split p xs ≡ xs ∷ []
+split_nowhere p xs e =
+    let over = passed_over _ _ e in
+    let past : length xs ≤ position_or_len p xs = grind (arith, nat_tests, over) in
+    slice_split_none p xs (λ k d h. fails_before_first p xs k d (omega arith))
+
+-- what `first_name` gives
+pub ruleset splits = (split_at, split_nowhere)
+
 -- what is after the cut is shorter
 pub after_first_shorter : (p : ℕ → Bool) (xs : List ℕ) → 0 < length xs → length (after_first p xs) < length xs
 after_first_shorter p xs h = omega (arith, length-drop (position_or_len p xs + 1) xs)

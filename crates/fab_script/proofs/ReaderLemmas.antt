@@ -1,9 +1,7 @@
 -- What becomes of one line.
 use Rattle.std.proofs.Common.{◌≡◌, ℕ, ◌+◌, ◌≤◌, Bool, true, false, eqb, List, [], ◌∷◌, ◌++◌, ◌||◌, length, map, Option, Some, None, sym, ap, ◌∙◌, refl, arith}
-use Rattle.std.specs.Prelude.{Result, Ok, Err, ok_or, is_some}
+use Rattle.std.specs.Prelude.{Result, Ok, Err, ok_or, is_some, is_none}
 use Rattle.std.specs.List.{list_any}
-use Rattle.std.proofs.lemmas.List.{map-append}
-use Rattle.std.proofs.lemmas.List.Folds.{list_any-append}
 use Rattle.fab_base.specs.declared.script.LineOp.{LineOp}
 use Rattle.fab_base.specs.declared.status.Why.{Why}
 use Rattle.fab_base.specs.declared.status.Why.TheVariants as why
@@ -16,24 +14,21 @@ use Rattle.fab_script.specs.declared.reader.Reader.{Reader}
 use Rattle.fab_script.specs.declared.refused.Refused.{Refused}
 use Rattle.fab_script.specs.declared.refused.Refused.TheVariants.{Why as Because}
 use Rattle.fab_script.specs.declared.settings.Setting.{Setting}
-use Rattle.fab_script.specs.declared.settings.Setting.TheVariants.{Peers, Selective}
+use Rattle.fab_script.specs.declared.settings.Setting.TheVariants.{Peers, Wish, Capabilities, Selective, File}
+use Rattle.fab_script.specs.declared.settings.Settings.{Settings}
+use Rattle.fab_base.specs.declared.caps.Caps.{Caps}
+use Rattle.fab_base.specs.declared.limits.Size.{Size}
+use Rattle.fab_base.specs.declared.limits.Size.TheVariants as size
+use Rattle.fab_script.specs.Capabilities.{caps_of}
 use Rattle.fab_script.specs.declared.verbs.Verb.{Verb}
 use Rattle.fab_script.specs.declared.verbs.Verb.TheVariants as verb
-use Rattle.fab_script.specs.Faults.{map_ok}
-use Rattle.fab_script.specs.Before.{Before, peers_in, is_selective, is_selective_setting, peers_said, first_some, has_opened, opened_by}
+use Rattle.fab_script.specs.Faults.{map_ok, ◌&◌}
+use Rattle.fab_script.specs.Before.{Before, has_opened, opened_by}
 use Rattle.fab_script.specs.Lines.{op_of}
-use Rattle.fab_script.specs.Settings.{setting_of, peers_of, peer_of}
-use Rattle.fab_script.specs.Words.{first_of, number_of, read_number}
-use Rattle.fab_script.specs.Rules.{why_from, is_late, is_set, is_made, setting_rules, with_setting, names_one, is_again, is_no_peer, peer_rules, is_too_much, call_rules, word_rules, with_words, why_of, with_line}
+use Rattle.fab_script.specs.Settings.{a_file, size_of, caps_setting, selective_setting, payload_setting, wish_of, setting_of, peer_of}
+use Rattle.fab_script.specs.Words.{first_of, number_of, read_number, read_text}
+use Rattle.fab_script.specs.Rules.{why_from, is_late, is_set, is_fresh, is_one_too_many, is_refused, setting_rules, with_setting, names_one, is_again, is_no_peer, peer_rules, is_too_much, call_rules, word_rules, with_words, why_of, with_line}
 use Rattle.fab_script.specs.Parts.{Answers, Holds}
-
-or-false : (b : Bool) → (b || false) ≡ b
-or-false true = refl
-or-false false = refl
-
-or-true : (b : Bool) → (b || true) ≡ true
-or-true true = refl
-or-true false = refl
 
 pub answers_err : (rules : Option Why) (after : Before) (reader : Reader) (result : Result (Unit {0}) Refused) (why : Why) → result ≡ Err (Because why) → rules ≡ Some why → Answers rules after reader result
 answers_err rules after reader result why e f = rw (e, f) refl
@@ -70,59 +65,81 @@ unfolding call_rules
 call_taken before number verb args op opened e late few = rw (opened, e, late, few) refl
 
 -- a setting
-pub setting_fresh : (before : Before) (verb : Verb) (args : List (List ℕ)) (setting : Setting) → setting_of verb args ≡ Ok setting → is_set before verb args ≡ false → is_made before.settings setting ≡ false
-unfolding setting_of
-setting_fresh before verb.Peers args setting e fresh = of_peers (peers_of args) setting e
-  where
-    of_peers : (r : Result ℕ Fault) (setting : Setting) → map_ok Peers r ≡ Ok setting → is_made before.settings setting ≡ false
-    of_peers (Ok n) (Peers m) e = fresh
-    of_peers (Ok n) Selective e = cc
-    of_peers (Err fault) setting e = cc
-setting_fresh before verb.Selective [] Selective e fresh = fresh
-setting_fresh before verb.Selective [] (Peers n) e fresh = cc
+fresh_unless_made : (settings : Settings) (o : Option ℕ) → settings.peers ≡ o → is_some o ≡ false → is_none settings.peers ≡ true
+fresh_unless_made settings None e f = rw e refl
+fresh_unless_made settings (Some n) e f = cc
+
+-- what says the number of peers is a `peers` line
+says_peers : (r : Result ℕ Fault) (fresh : Bool) (settings : Settings) (setting : Setting) → map_ok Peers r ≡ Ok setting → is_none settings.peers ≡ true → is_fresh settings setting ≡ true
+says_peers (Ok n) fresh settings (Peers m) e f = f
+says_peers (Ok n) fresh settings (Wish size m) e f = cc
+says_peers (Ok n) fresh settings (Capabilities caps) e f = cc
+says_peers (Ok n) fresh settings Selective e f = cc
+says_peers (Ok n) fresh settings (File payload) e f = cc
+says_peers (Err fault) fresh settings setting e f = cc
+
+says_wish : (size : Size) (r : Result ℕ Fault) (settings : Settings) (setting : Setting) → map_ok (Wish size) r ≡ Ok setting → is_fresh settings setting ≡ true
+says_wish size (Ok n) settings (Peers m) e = cc
+says_wish size (Ok n) settings (Wish other m) e = refl
+says_wish size (Ok n) settings (Capabilities caps) e = cc
+says_wish size (Ok n) settings Selective e = cc
+says_wish size (Ok n) settings (File payload) e = cc
+says_wish size (Err fault) settings setting e = cc
+
+says_caps : (r : Result Caps Fault) (settings : Settings) (setting : Setting) → map_ok Capabilities r ≡ Ok setting → is_fresh settings setting ≡ true
+says_caps (Ok n) settings (Peers m) e = cc
+says_caps (Ok n) settings (Wish other m) e = cc
+says_caps (Ok n) settings (Capabilities caps) e = refl
+says_caps (Ok n) settings Selective e = cc
+says_caps (Ok n) settings (File payload) e = cc
+says_caps (Err fault) settings setting e = cc
+
+says_file : (r : Result (ℕ × List ℕ) Fault) (settings : Settings) (setting : Setting) → map_ok a_file r ≡ Ok setting → is_fresh settings setting ≡ true
+says_file (Ok (id, name)) settings (Peers m) e = cc
+says_file (Ok (id, name)) settings (Wish other m) e = cc
+says_file (Ok (id, name)) settings (Capabilities caps) e = cc
+says_file (Ok (id, name)) settings Selective e = cc
+says_file (Ok (id, name)) settings (File payload) e = refl
+says_file (Err fault) settings setting e = cc
+
+caps_fresh : (args : List (List ℕ)) (settings : Settings) (setting : Setting) → caps_setting args ≡ Ok setting → is_fresh settings setting ≡ true
+unfolding caps_setting
+caps_fresh (list ∷ []) settings setting e = says_caps (caps_of list) settings setting e
+caps_fresh _ settings setting e = cc
+
+payload_fresh : (args : List (List ℕ)) (settings : Settings) (setting : Setting) → payload_setting args ≡ Ok setting → is_fresh settings setting ≡ true
+unfolding payload_setting
+payload_fresh (id ∷ name ∷ []) settings setting e = says_file (read_number id & read_text name) settings setting e
+payload_fresh _ settings setting e = cc
+
+selective_fresh : (args : List (List ℕ)) (settings : Settings) (setting : Setting) → selective_setting args ≡ Ok setting → is_fresh settings setting ≡ true
+unfolding selective_setting
+selective_fresh [] settings setting e =
+    let same : Selective ≡ setting = cc in
+    ap (is_fresh settings) (sym same)
+selective_fresh (a ∷ args) settings setting e = cc
+
+pub setting_fresh : (before : Before) (verb : Verb) (args : List (List ℕ)) (setting : Setting) → setting_of verb args ≡ Ok setting → is_set before verb args ≡ false → is_fresh before.settings setting ≡ true
+unfolding setting_of wish_of
+setting_fresh before verb.Peers args setting e fresh = says_peers (size_of size.Peers args) true before.settings setting e (fresh_unless_made before.settings before.settings.peers refl fresh)
+setting_fresh before verb.Lane args setting e fresh = says_wish size.Lane (size_of size.Lane args) before.settings setting e
+setting_fresh before verb.Pool args setting e fresh = says_wish size.Pool (size_of size.Pool args) before.settings setting e
+setting_fresh before verb.Tx args setting e fresh = says_wish size.Tx (size_of size.Tx args) before.settings setting e
+setting_fresh before verb.Rx args setting e fresh = says_wish size.Rx (size_of size.Rx args) before.settings setting e
+setting_fresh before verb.Cq args setting e fresh = says_wish size.Cq (size_of size.Cq args) before.settings setting e
+setting_fresh before verb.Caps args setting e fresh = caps_fresh args before.settings setting e
+setting_fresh before verb.Selective args setting e fresh = selective_fresh args before.settings setting e
+setting_fresh before verb.Payload args setting e fresh = payload_fresh args before.settings setting e
 setting_fresh before _ args setting e fresh = cc
 
-setting_rules_none : (before : Before) (number : ℕ) (verb : Verb) (args : List (List ℕ)) (setting : Setting) → has_opened before ≡ false → is_set before verb args ≡ false → setting_of verb args ≡ Ok setting → is_late number ≡ false → first_of (setting_rules before number verb args) ≡ None
+setting_rules_none : (before : Before) (number : ℕ) (verb : Verb) (args : List (List ℕ)) (setting : Setting) → has_opened before ≡ false → is_set before verb args ≡ false → setting_of verb args ≡ Ok setting → is_late number ≡ false → is_one_too_many before (Ok setting) ≡ false → is_refused (Ok setting) ≡ false → first_of (setting_rules before number verb args) ≡ None
 unfolding setting_rules
-setting_rules_none before number verb args setting closed unset said late = rw (closed, unset, said, late) refl
+setting_rules_none before number verb args setting closed unset said late few granted = rw (closed, unset, said, late, few, granted) refl
 
-pub setting_answer : (before : Before) (number : ℕ) (verb : Verb) (args : List (List ℕ)) (setting : Setting) (reader : Reader) (result : Result (Unit {0}) Refused) → has_opened before ≡ false → is_set before verb args ≡ false → setting_of verb args ≡ Ok setting → is_late number ≡ false → Answers None (with_setting before (Ok setting)) reader result → Answers (first_of (setting_rules before number verb args)) (with_setting before (setting_of verb args)) reader result
-setting_answer before number verb args setting reader result closed unset said late answer =
-    let none = setting_rules_none before number verb args setting closed unset said late in
+pub setting_answer : (before : Before) (number : ℕ) (verb : Verb) (args : List (List ℕ)) (setting : Setting) (reader : Reader) (result : Result (Unit {0}) Refused) → has_opened before ≡ false → is_set before verb args ≡ false → setting_of verb args ≡ Ok setting → is_late number ≡ false → is_one_too_many before (Ok setting) ≡ false → is_refused (Ok setting) ≡ false → Answers None (with_setting before (Ok setting)) reader result → Answers (first_of (setting_rules before number verb args)) (with_setting before (setting_of verb args)) reader result
+setting_answer before number verb args setting reader result closed unset said late few granted answer =
+    let none = setting_rules_none before number verb args setting closed unset said late few granted in
     rw (none, said) answer
-
-first_some-append : (xs ys : List (Option ℕ)) → first_some xs ≡ None → first_some (xs ++ ys) ≡ first_some ys
-first_some-append [] ys e = refl
-first_some-append (Some n ∷ xs) ys e = cc
-first_some-append (None ∷ xs) ys e = first_some-append xs ys e
-
-not_some : (o : Option ℕ) → is_some o ≡ false → o ≡ None
-not_some None e = refl
-not_some (Some n) e = cc
-
-pub peers_made : (settings : List Setting) (n : ℕ) → is_some (peers_in settings) ≡ false → (peers_in settings ≡ None) × (peers_in (settings ++ Peers n ∷ []) ≡ Some n)
-unfolding peers_in
-peers_made settings n e =
-    let none = not_some (first_some (map peers_said settings)) e in
-    (none, ap first_some (map-append peers_said settings (Peers n ∷ [])) ∙ first_some-append (map peers_said settings) (Some n ∷ []) none)
-
--- what one setting more leaves of the others
-pub peers_kept : (settings : List Setting) → peers_in (settings ++ Selective ∷ []) ≡ peers_in settings
-unfolding peers_in
-peers_kept settings = ap first_some (map-append peers_said settings (Selective ∷ [])) ∙ first_some-none (map peers_said settings)
-  where
-    first_some-none : (xs : List (Option ℕ)) → first_some (xs ++ None ∷ []) ≡ first_some xs
-    first_some-none [] = refl
-    first_some-none (Some n ∷ xs) = refl
-    first_some-none (None ∷ xs) = first_some-none xs
-
-pub selective_kept : (settings : List Setting) (n : ℕ) → is_selective (settings ++ Peers n ∷ []) ≡ is_selective settings
-unfolding is_selective
-selective_kept settings n = list_any-append is_selective_setting settings (Peers n ∷ []) ∙ or-false (list_any is_selective_setting settings)
-
-pub selective_made : (settings : List Setting) → is_selective (settings ++ Selective ∷ []) ≡ true
-unfolding is_selective
-selective_made settings = list_any-append is_selective_setting settings (Selective ∷ []) ∙ or-true (list_any is_selective_setting settings)
 
 -- a line of text, by its words
 pub line_answer : (language : Language) (before : Before) (number : ℕ) (line : List ℕ) (words : List (List ℕ)) (reader : Reader) (result : Result (Unit {0}) Refused) → is_text line ≡ true → words_of line ≡ words → Answers (first_of (word_rules language before number words)) (with_words before number words) reader result → Answers (why_of language before number line) (with_line before number line) reader result

@@ -17,7 +17,7 @@ use Rattle.fab_script.specs.Rows.{is_text, words_of}
 use Rattle.fab_script.specs.Settings.{setting_of, peer_of}
 use Rattle.fab_script.specs.Verbs.{verb_of, kind_of}
 use Rattle.fab_script.specs.Words.{first_of}
-use Rattle.fab_script.specs.Rules.{Rules, is_late, is_header, is_limit, is_too_much, setting_rules, peer_rules, call_rules, kind_rules, verb_rules, header_rules, word_rules, why_of}
+use Rattle.fab_script.specs.Rules.{Rules, is_late, is_header, is_limit, is_one_too_many, is_too_much, setting_rules, peer_rules, call_rules, kind_rules, verb_rules, header_rules, word_rules, why_of}
 use Rattle.fab_script.proofs.PartLemmas.{or_false}
 
 -- where no test holds, the last does not
@@ -42,6 +42,17 @@ last_fails ((test, reason) ∷ []) e = only_rule test reason e
 last_fails ((true, reason) ∷ y ∷ xs) e = cc
 last_fails ((false, reason) ∷ y ∷ xs) e = last_fails (y ∷ xs) e
 
+abbrev but_last : Rules → Rules
+but_last [] = []
+but_last (x ∷ []) = []
+but_last (x ∷ y ∷ xs) = x ∷ but_last (y ∷ xs)
+
+but_last_none : (rules : Rules) → first_of rules ≡ None → first_of (but_last rules) ≡ None
+but_last_none [] e = refl
+but_last_none (x ∷ []) e = refl
+but_last_none ((true, reason) ∷ y ∷ xs) e = cc
+but_last_none ((false, reason) ∷ y ∷ xs) e = but_last_none (y ∷ xs) e
+
 pub first_fails : (a : Bool) (u : Why) (rules : Rules) → first_of ((a, u) ∷ rules) ≡ None → a ≡ false
 first_fails true u rules e = cc
 first_fails false u rules e = refl
@@ -53,8 +64,8 @@ rest_of false u rules e = e
 setting_in_time : (before : Before) (number : ℕ) (verb : Verb) (args : List (List ℕ)) → first_of (setting_rules before number verb args) ≡ None → is_late number ≡ false
 unfolding setting_rules
 setting_in_time before number verb args e =
-    let limit = last_fails (setting_rules before number verb args) e in
-    (or_false (is_limit (setting_of verb args)) (is_late number) limit).1
+    let limit = last_fails (but_last (setting_rules before number verb args)) (but_last_none (setting_rules before number verb args) e) in
+    (or_false (is_limit (setting_of verb args)) (is_late number) (or_false (is_limit (setting_of verb args) || is_late number) (is_one_too_many before (setting_of verb args)) limit).0).1
 
 peer_in_time : (before : Before) (number : ℕ) (args : List (List ℕ)) → first_of (peer_rules before number args) ≡ None → is_late number ≡ false
 unfolding peer_rules

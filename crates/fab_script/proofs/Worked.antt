@@ -6,14 +6,23 @@ use Rattle.fab_base.specs.declared.peers.Level.TheVariants.{Transmit}
 use Rattle.fab_base.specs.declared.script.BytesWord.TheVariants.{Text}
 use Rattle.fab_base.specs.declared.script.LineOp.TheVariants.{TSend, TRecv, Wait}
 use Rattle.fab_script.specs.Grammar.{script_of, script_with, refusal_of}
+use Rattle.fab_script.specs.Conf.{conf_of}
+use Rattle.fab_script.specs.Settings.{no_settings}
+use Rattle.fab_base.specs.declared.caps.Info.{Info}
+use Rattle.fab_base.specs.Offer.{is_offered}
+use Rattle.fab_model.specs.Negotiation.{caps_of}
 use Rattle.fab_script.specs.Opened.{grammar}
 
 abbrev line : List ℕ → List ℕ → List ℕ
 line text rest = text ++ 10 ∷ rest
 
+-- what is granted to 2 peers that ask for nothing else
+abbrev whole : Info
+whole = record { caps = caps_of is_offered; peers = 2; lane = 64; pool = 32; tx = 64; rx = 256; cq = 1024; log = 4096; inject = 4096; message = 16777216 }
+
 -- one tagged message, the last line without its line feed
 hello : script_of (line (codes "fabric 1") (line (codes "peers 2") (line (codes "peer 0") (line (codes "trecv 1 * 7 0 16") (line (codes "wait 1") (line (codes " peer  1 ") (codes "tsend 2 0 7 text:hello")))))))
-    ≡ Some (script_with 2 false ((record { number = 4; op = TRecv 1 None 7 0 16 } ∷ record { number = 5; op = Wait (Some 1) } ∷ []) ∷ (record { number = 7; op = TSend 2 0 7 (Text (codes "hello")) None Transmit false } ∷ []) ∷ []))
+    ≡ Some (script_with (conf_of (record no_settings { peers = Some 2 }) 2 whole) [] ((record { number = 4; op = TRecv 1 None 7 0 16 } ∷ record { number = 5; op = Wait (Some 1) } ∷ []) ∷ (record { number = 7; op = TSend 2 0 7 (Text (codes "hello")) None Transmit false } ∷ []) ∷ []))
 unfolding grammar
 hello = refl
 

@@ -1,49 +1,31 @@
 -- What the lines before a line say.
---     peers_in settings            how many peers there are, where that was said
+--     count_in before              how many peers there are
 --     has_opened before            some peer is opened
 --     part_of k items              the lines of peer k
 --     parts_of n items             the lines of each of n peers
 use Rattle.std.specs.Prelude.{ℕ, Bool, true, false, not, ◌==◌, if◌then◌else◌, List, [], ◌∷◌, map, filter_map, Option, Some, None, unwrap_or}
-use Rattle.std.specs.List.{list_any, range_with_len}
+use Rattle.std.specs.List.{range_with_len}
 use Rattle.fab_base.specs.declared.script.Line.{Line}
 use Rattle.fab_script.specs.declared.items.Item.{Item}
 use Rattle.fab_script.specs.declared.items.Item.TheVariants.{Peer, Does}
-use Rattle.fab_script.specs.declared.settings.Setting.{Setting}
-use Rattle.fab_script.specs.declared.settings.Setting.TheVariants.{Peers, Selective}
+use Rattle.fab_base.specs.declared.script.Payload.{Payload}
+use Rattle.fab_script.specs.declared.settings.Settings.{Settings}
+use Rattle.fab_script.specs.Settings.{no_settings}
 use Rattle.fab_script.specs.Lines.{op_size}
 
--- whether the header was there, the settings, and the lines of the peers' parts
+-- whether the header was there, the settings, the payload files, and the lines of the peers' parts
 pub record Before : Type 0 where
   pub has_header : Bool
-  pub settings : List Setting
+  pub settings : Settings
+  pub payloads : List Payload
   pub items : List Item
 
 abbrev pub nothing : Before
-nothing = record { has_header = false; settings = []; items = [] }
-
-abbrev pub peers_said : Setting → Option ℕ
-peers_said (Peers n) = Some n
-peers_said _ = None
-
-abbrev pub first_some : List (Option ℕ) → Option ℕ
-first_some [] = None
-first_some (Some n ∷ more) = Some n
-first_some (None ∷ more) = first_some more
-
-unfoldable pub peers_in : List Setting → Option ℕ
-peers_in settings = first_some (map peers_said settings)
-
--- endpoints are opened with selective completion
-abbrev pub is_selective_setting : Setting → Bool
-is_selective_setting Selective = true
-is_selective_setting _ = false
-
-unfoldable pub is_selective : List Setting → Bool
-is_selective settings = list_any is_selective_setting settings
+nothing = record { has_header = false; settings = no_settings; payloads = []; items = [] }
 
 -- no peer is below it where their number was not said
 abbrev pub count_in : Before → ℕ
-count_in before = unwrap_or (peers_in before.settings) 0
+count_in before = unwrap_or before.settings.peers 0
 
 -- the peers that are opened, in order
 abbrev pub opened : Item → Option ℕ

@@ -2,16 +2,21 @@
 --     verdict language bytes      the script, or the first line that breaks a rule and the first rule that it breaks
 --     script_of bytes             the script, where the bytes are one
 --     refusal_of bytes            why they are none
-use Rattle.std.specs.Prelude.{ℕ, ◌+◌, Bool, if◌then◌else◌, List, [], ◌∷◌, length, Option, Some, None, Result, Ok, Err}
+use Rattle.std.specs.Prelude.{ℕ, ◌+◌, if◌then◌else◌, List, [], ◌∷◌, length, Option, Some, None, Result, Ok, Err}
 use Rattle.std.specs.Result.{result_ok, result_err}
 use Rattle.fab_base.specs.declared.status.Why.{Why}
 use Rattle.fab_base.specs.declared.status.Why.TheVariants as why
+use Rattle.fab_base.specs.declared.caps.Info.{Info}
+use Rattle.fab_base.specs.declared.script.Conf.{Conf}
 use Rattle.fab_base.specs.declared.script.Line.{Line}
+use Rattle.fab_base.specs.declared.script.Payload.{Payload}
 use Rattle.fab_base.specs.declared.script.Script.{Script}
+use Rattle.fab_model.specs.Negotiation.{grant}
 use Rattle.fab_script.specs.declared.language.Language.{Language}
 use Rattle.fab_script.specs.declared.language.Language.TheVariants.{Built}
-use Rattle.fab_script.specs.Before.{Before, nothing, peers_in, is_selective, parts_of}
-use Rattle.fab_script.specs.Conf.{conf_for}
+use Rattle.fab_script.specs.Before.{Before, nothing, parts_of}
+use Rattle.fab_script.specs.Conf.{conf_of}
+use Rattle.fab_script.specs.Settings.{hints_of}
 use Rattle.fab_script.specs.Rows.{lines_of}
 use Rattle.fab_script.specs.Rules.{why_of, with_line}
 
@@ -26,18 +31,21 @@ read_lines language before number (line ∷ lines) = elim (why_of language befor
   | None ↦ read_lines language (with_line before number line) (number + 1) lines
 ]
 
--- the script of n peers with these lines
-unfoldable pub script_with : ℕ → Bool → List (List Line) → Script
-script_with n selective parts = record { version = 1; conf = conf_for n selective; payloads = []; peers = parts }
+abbrev pub script_with : Conf → List Payload → List (List Line) → Script
+script_with conf payloads parts = record { version = 1; conf = conf; payloads = payloads; peers = parts }
+
+-- what the provider answers to the settings; that it refuses is seen at a line before
+abbrev pub granted : ℕ → Before → ℕ → Option Info → Result Script Refusal
+granted count before n (Some info) = Ok (script_with (conf_of before.settings n info) before.payloads (parts_of n before.items))
+granted count before n None = Err (count, why.NoData)
+
+abbrev pub of_peers : ℕ → Before → Option ℕ → Result Script Refusal
+of_peers count before (Some n) = granted count before n (grant (Some (hints_of before.settings)))
+of_peers count before None = Err (count, why.Missing)
 
 -- A file of so many lines, none of which is refused: line 0 where none has words, and the last line where the number of peers is missing.
 unfoldable pub script_said : ℕ → Before → Result Script Refusal
-script_said count before =
-    if before.has_header then elim (peers_in before.settings) [
-      | None ↦ Err (count, why.Missing)
-      | Some n ↦ Ok (script_with n (is_selective before.settings) (parts_of n before.items))
-    ]
-    else Err (0, why.Header)
+script_said count before = if before.has_header then of_peers count before before.settings.peers else Err (0, why.Header)
 
 abbrev pub then_script : ℕ → Result Before Refusal → Result Script Refusal
 then_script count (Ok before) = script_said count before

@@ -1,4 +1,5 @@
 pub mod Before
+pub mod Capabilities
 pub mod Conf
 pub mod Faults
 pub mod Grammar

@@ -10,7 +10,7 @@ use Rattle.fab_script.specs.declared.parts.Parts.{Parts}
 use Rattle.fab_script.specs.declared.reader.Reader.{Reader}
 use Rattle.fab_script.specs.declared.refused.Refused.{Refused}
 use Rattle.fab_script.specs.declared.refused.Refused.TheVariants as refused
-use Rattle.fab_script.specs.Before.{Before, peers_in, is_selective, count_in, opened_by, parts_of, size_of}
+use Rattle.fab_script.specs.Before.{Before, count_in, opened_by, parts_of, size_of}
 
 abbrev pub is_distinct : List ℕ → Bool
 is_distinct [] = true
@@ -25,8 +25,8 @@ pub record HoldsParts (n : ℕ) (parts : Parts) (items : List Item) : Type 0 whe
 
 pub record Holds (reader : Reader) (before : Before) : Type 0 where
   pub header : reader.has_header ≡ before.has_header
-  pub peers : reader.peers ≡ peers_in before.settings
-  pub selective : reader.is_selective ≡ is_selective before.settings
+  pub settings : reader.settings ≡ before.settings
+  pub payloads : reader.payloads.items ≡ before.payloads
   pub parts : HoldsParts (count_in before) reader.parts before.items
 
 abbrev pub Answers : Option Why → Before → Reader → Result (Unit {0}) Refused → Type 0

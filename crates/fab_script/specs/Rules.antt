@@ -2,27 +2,30 @@
 --     setting_rules, peer_rules, call_rules      of a setting, of `peer K`, and of a line that a peer does
 --     why_of language before number line         the first rule that a line breaks; None where it breaks none
 --     with_line before number line               what is said with this line, where it breaks none
-use Rattle.std.specs.Prelude.{ℕ, ◌+◌, Bool, true, false, not, ◌||◌, ◌&&◌, ◌==◌, nat_lt, nat_le, if◌then◌else◌, List, [], ◌∷◌, ◌++◌, sum_by, codes, bytes_eq, Option, Some, None, is_some, Result, Ok, Err}
+use Rattle.std.specs.Prelude.{ℕ, ◌+◌, Bool, true, false, not, ◌||◌, ◌&&◌, ◌==◌, nat_lt, nat_le, if◌then◌else◌, List, [], ◌∷◌, ◌++◌, length, sum_by, codes, bytes_eq, Option, Some, None, is_none, Result, Ok, Err}
 use Rattle.std.specs.List.{list_any}
 use Rattle.fab_base.specs.declared.status.Why.{Why}
 use Rattle.fab_base.specs.declared.status.Why.TheVariants as why
 use Rattle.fab_base.specs.declared.script.LineOp.{LineOp}
+use Rattle.fab_base.specs.declared.script.Payload.{Payload}
+use Rattle.fab_model.specs.Negotiation.{grant}
 use Rattle.fab_script.specs.declared.fault.Fault.{Fault}
 use Rattle.fab_script.specs.declared.fault.Fault.TheVariants.{Words, Number, Limit}
 use Rattle.fab_script.specs.declared.items.Item.{Item}
 use Rattle.fab_script.specs.declared.items.Item.TheVariants.{Peer, Does}
 use Rattle.fab_script.specs.declared.language.Language.{Language}
 use Rattle.fab_script.specs.declared.settings.Setting.{Setting}
-use Rattle.fab_script.specs.declared.settings.Setting.TheVariants.{Peers, Selective}
+use Rattle.fab_script.specs.declared.settings.Setting.TheVariants.{Peers, Capabilities, File}
+use Rattle.fab_script.specs.declared.settings.Settings.{Settings}
 use Rattle.fab_script.specs.declared.verbs.Kind.{Kind}
 use Rattle.fab_script.specs.declared.verbs.Kind.TheVariants as kind
 use Rattle.fab_script.specs.declared.verbs.Verb.{Verb}
 use Rattle.fab_script.specs.declared.verbs.Verb.TheVariants as verb
-use Rattle.fab_script.specs.Before.{Before, peers_in, is_selective, count_in, has_opened, opened_by, size_of}
+use Rattle.fab_script.specs.Before.{Before, count_in, has_opened, opened_by, size_of}
 use Rattle.fab_script.specs.Language.{is_built}
 use Rattle.fab_script.specs.Lines.{op_of, op_size}
 use Rattle.fab_script.specs.Rows.{is_text, words_of}
-use Rattle.fab_script.specs.Settings.{setting_of, peer_of}
+use Rattle.fab_script.specs.Settings.{setting_of, peer_of, is_made, making, asking}
 use Rattle.fab_script.specs.Verbs.{verb_of, kind_of}
 use Rattle.fab_script.specs.Words.{first_of, number_of}
 
@@ -51,15 +54,42 @@ is_limit _ = false
 abbrev pub is_late : ℕ → Bool
 is_late number = nat_lt 100000 number
 
--- the setting was made before
-abbrev pub is_set : Before → Verb → List (List ℕ) → Bool
-is_set before verb.Peers args = is_some (peers_in before.settings)
-is_set before verb.Selective args = is_selective before.settings
-is_set before _ args = false
+-- the line names one of these numbers
+abbrev pub names_one : List ℕ → Option ℕ → Bool
+names_one numbers None = false
+names_one numbers (Some k) = list_any (λ j. j == k) numbers
 
-abbrev pub is_made : List Setting → Setting → Bool
-is_made settings (Peers n) = is_some (peers_in settings)
-is_made settings Selective = is_selective settings
+abbrev pub is_again : List ℕ → List (List ℕ) → Bool
+is_again numbers [] = false
+is_again numbers (word ∷ args) = names_one numbers (number_of word)
+
+abbrev pub has_id : List Payload → Option ℕ → Bool
+has_id payloads None = false
+has_id payloads (Some id) = list_any (λ p. p.id == id) payloads
+
+abbrev pub is_declared : List Payload → List (List ℕ) → Bool
+is_declared payloads [] = false
+is_declared payloads (word ∷ args) = has_id payloads (number_of word)
+
+-- the setting was made before; a payload, under the same number
+abbrev pub is_set : Before → Verb → List (List ℕ) → Bool
+is_set before verb.Payload args = is_declared before.payloads args
+is_set before verb args = is_made before.settings verb
+
+-- the number of peers is not said yet, where this says it
+abbrev pub is_fresh : Settings → Setting → Bool
+is_fresh settings (Peers n) = is_none settings.peers
+is_fresh settings _ = true
+
+-- a script has at most 64 payload files
+abbrev pub is_one_too_many : Before → Result Setting Fault → Bool
+is_one_too_many before (Ok (File payload)) = nat_le 64 (length before.payloads)
+is_one_too_many before _ = false
+
+-- the provider does not grant these capabilities
+abbrev pub is_refused : Result Setting Fault → Bool
+is_refused (Ok (Capabilities caps)) = is_none (grant (Some (asking caps)))
+is_refused _ = false
 
 unfoldable pub setting_rules : Before → ℕ → Verb → List (List ℕ) → Rules
 setting_rules before number verb args = let said = setting_of verb args in
@@ -67,17 +97,9 @@ setting_rules before number verb args = let said = setting_of verb args in
     ∷ (is_set before verb args, why.Twice)
     ∷ (is_words said, why.Words)
     ∷ (is_number said, why.Number)
-    ∷ (is_limit said || is_late number, why.Limit)
+    ∷ (is_limit said || is_late number || is_one_too_many before said, why.Limit)
+    ∷ (is_refused said, why.NoData)
     ∷ []
-
--- the line names one of these peers
-abbrev pub names_one : List ℕ → Option ℕ → Bool
-names_one peers None = false
-names_one peers (Some k) = list_any (λ j. j == k) peers
-
-abbrev pub is_again : List ℕ → List (List ℕ) → Bool
-is_again peers [] = false
-is_again peers (word ∷ args) = names_one peers (number_of word)
 
 -- the peer is not there
 abbrev pub is_no_peer : Before → Result ℕ Fault → Bool
@@ -132,7 +154,8 @@ why_of language before number line = first_of ((not (is_text line), why.NotText)
 
 -- what is said with one setting more, one peer more, or one line more of a peer
 abbrev pub with_setting : Before → Result Setting Fault → Before
-with_setting before (Ok setting) = record before { settings = before.settings ++ setting ∷ [] }
+with_setting before (Ok (File payload)) = record before { payloads = before.payloads ++ payload ∷ [] }
+with_setting before (Ok setting) = record before { settings = making before.settings setting }
 with_setting before (Err fault) = before
 
 abbrev pub with_peer : Before → Result ℕ Fault → Before

@@ -10,6 +10,7 @@ use Rattle.fab_script.specs.declared.fault.Fault.{Fault}
 use Rattle.fab_script.specs.Faults.{map_ok}
 use Rattle.fab_script.specs.declared.fault.Fault.TheVariants.{Words, Number, Limit}
 use Rattle.std.specs.Char.{is_digit}
+use Rattle.std.specs.Str.{is_utf8}
 use Rattle.std.specs.Str.Parse.{digits_value}
 
 -- what stands beside the first test that holds
@@ -67,3 +68,7 @@ unfoldable pub read_bytes : List ℕ → Result BytesWord Fault
 read_bytes word =
     if begins_with (codes "text:") word then (if nat_le (length (drop 5 word)) 33554432 then Ok (Text (drop 5 word)) else Err Limit)
     else Err Words
+
+-- a text, as it is written
+unfoldable pub read_text : List ℕ → Result (List ℕ) Fault
+read_text word = if is_utf8 word then Ok word else Err Words

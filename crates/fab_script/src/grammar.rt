@@ -7,13 +7,13 @@ ghost use Rattle.fab_script.specs.Parts.{Holds};
 ghost use Rattle.fab_script.specs.Refused.{IsScript, IsRefusal, IsVerdict};
 ghost use Rattle.fab_script.specs.declared.language.Language.TheVariants.{Built};
 
-use crate::conf::conf;
 use crate::language::Language;
 use crate::parts::Parts;
 use crate::reader::Reader;
 use crate::refused::{ParseRefused, Refused};
 use crate::rows::Lines;
-use fab_base::{Line, List, NoMemory, Script, Why};
+use fab_base::{Conf, Line, List, NoMemory, Payload, Script, Why};
+use fab_info::getinfo;
 use std::alloc::Global;
 
 /// Reads a script (docs/SCRIPT.md). An `Err` that is not `NoMemory` says that the text is no script; it
@@ -55,26 +55,43 @@ fn script(alloc: Global, count: u32, reader: Reader) -> Result<Script, ParseRefu
             why: Why::Header,
         });
     }
-    match reader.peers {
-        Some(peers) => Ok(script_with(alloc, peers, reader.is_selective, reader.parts)?),
-        None => Err(ParseRefused::Script {
+    let Some(peers) = reader.settings.peers else {
+        return Err(ParseRefused::Script {
             line: count,
             why: Why::Missing,
-        }),
-    }
+        });
+    };
+    let hints = reader.settings.hints();
+    let Ok(info) = getinfo(Some(&hints)) else {
+        return Err(ParseRefused::Script {
+            line: count,
+            why: Why::NoData,
+        });
+    };
+    let conf = Conf {
+        hints: Some(hints),
+        info,
+        peers,
+        selective: reader.settings.is_selective,
+    };
+    Ok(script_with(alloc, conf, reader.payloads, reader.parts)?)
 }
 
-/// The script of these parts.
-#[tactic(auto, unfolding(crate::specs::Grammar::script_with))]
-fn script_with(alloc: Global, peers: u32, selective: bool, parts: Parts) -> Result<Script, NoMemory>
-    ensures { IfOk result (λ s. s ≡ script_with peers selective (map (λ part. part.items) parts.lines.items)) }
+/// The script with these parts.
+fn script_with(
+    alloc: Global,
+    conf: Conf,
+    payloads: Vec<Payload>,
+    parts: Parts,
+) -> Result<Script, NoMemory>
+    ensures { IfOk result (λ s. s ≡ script_with conf payloads.items (map (λ part. part.items) parts.lines.items)) }
 {
     let Parts { lines, .. } = parts;
     let parts = lists(alloc, lines)?;
     Ok(Script {
         version: 1,
-        conf: conf(peers, selective),
-        payloads: List::from_vec(Vec::new(alloc)),
+        conf,
+        payloads: List::from_vec(payloads),
         peers: List::from_vec(parts),
     })
 }

@@ -9,7 +9,7 @@
 //! cause.rt.
 #![tactic(auto)]
 
-mod conf;
+mod capabilities;
 mod cut;
 mod fault;
 mod grammar;

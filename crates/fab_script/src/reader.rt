@@ -1,9 +1,10 @@
 //! The lines of a file, taken one after another.
-ghost use Rattle.std.specs.Prelude.{◌≡◌, ℕ, List, [], ◌∷◌, true, false, MatchResult};
+ghost use Rattle.std.specs.Prelude.{◌≡◌, ◌==◌, ℕ, List, [], ◌∷◌, true, false, MatchResult};
+ghost use Rattle.std.specs.List.{list_any};
 ghost use Rattle.fab_script.specs.Before.{Before, nothing, has_opened};
 ghost use Rattle.fab_script.specs.Parts.{Holds, Answers};
 ghost use Rattle.fab_script.specs.Words.{first_of};
-ghost use Rattle.fab_script.specs.Rules.{is_late, is_header, is_set, is_made, is_again, setting_rules, peer_rules, call_rules, word_rules, verb_rules, why_of, with_setting, with_peer, with_call, with_verb, with_words, with_line};
+ghost use Rattle.fab_script.specs.Rules.{is_late, is_header, is_set, is_fresh, is_again, is_declared, is_one_too_many, is_refused, setting_rules, peer_rules, call_rules, word_rules, verb_rules, why_of, with_setting, with_peer, with_call, with_verb, with_words, with_line};
 ghost use Rattle.fab_script.specs.Settings.{setting_of, peer_of};
 ghost use Rattle.fab_script.specs.Lines.{op_of};
 ghost use Rattle.fab_script.specs.Verbs.{verb_of};
@@ -17,22 +18,25 @@ use crate::lines::read_op;
 use crate::parts::Parts;
 use crate::refused::Refused;
 use crate::rows::all_text;
-use crate::settings::{Setting, read_peer, read_setting};
+use crate::settings::{Setting, Settings, asking, read_peer, read_setting};
 use crate::verbs::{Kind, Verb};
 use crate::words::{Words, is, number};
-use fab_base::{Line, Why};
+use fab_base::{Line, Payload, Why};
+use fab_info::getinfo;
 use std::alloc::Global;
 
 /// The greatest number of lines.
 const LINES_MAX: u32 = 100_000;
 
+/// The greatest number of payload files.
+const PAYLOADS_MAX: usize = 64;
+
 /// What the lines before a line say.
 #[derive(Drop)]
 pub(crate) struct Reader {
     pub has_header: bool,
-    /// How many peers there are, where that was said.
-    pub peers: Option<u32>,
-    pub is_selective: bool,
+    pub settings: Settings,
+    pub payloads: Vec<Payload>,
     pub parts: Parts,
 }
 
@@ -43,8 +47,8 @@ impl Reader {
     {
         Reader {
             has_header: false,
-            peers: None,
-            is_selective: false,
+            settings: Settings::new(),
+            payloads: Vec::new(alloc),
             parts: Parts::new(alloc),
         }
     }
@@ -127,35 +131,60 @@ impl Reader {
         if self.parts.has_opened() {
             return Err(Refused::Why(Why::Order));
         }
-        if self.is_set(verb) {
+        if self.is_set(verb, args) {
             return Err(Refused::Why(Why::Twice));
         }
-        let setting = read_setting(verb, args)?;
+        let setting = read_setting(alloc, verb, args)??;
         in_time(number)?;
+        if self.is_one_too_many(&setting) {
+            return Err(Refused::Why(Why::Limit));
+        }
+        if is_refused(&setting) {
+            return Err(Refused::Why(Why::NoData));
+        }
         self.set(alloc, setting)
     }
 
-    /// Whether a setting was made.
-    fn is_set(&self, verb: Verb) -> bool
-        ensures { (before : Before) (args : List (List ℕ)) → Holds self.now before → result ≡ is_set before verb args }
+    /// Whether the setting was made before; a payload, under the same number.
+    fn is_set(&self, verb: Verb, args: &Words) -> bool
+        ensures { (before : Before) → Holds self.now before → result ≡ is_set before verb args.now }
     {
         match verb {
-            Verb::Peers => self.peers.is_some(),
-            Verb::Selective => self.is_selective,
-            _ => false,
+            Verb::Payload => self.has_payload(args),
+            _ => self.settings.is_made(verb),
         }
+    }
+
+    /// Whether the line names a payload file that is there.
+    fn has_payload(&self, args: &Words) -> bool
+        ensures { result ≡ is_declared self.now.payloads.items args.now }
+    {
+        args.again()
+            .next()
+            .and_then(number)
+            .is_some_and(|id| has_id(&self.payloads, id))
+    }
+
+    /// A script has at most 64 payload files.
+    fn is_one_too_many(&self, setting: &Setting) -> bool
+        ensures { (before : Before) → Holds self.now before → result ≡ is_one_too_many before (Ok setting.now) }
+    {
+        matches!(setting, Setting::File(_)) && self.payloads.len() >= PAYLOADS_MAX
     }
 
     fn set(&mut self, alloc: Global, setting: Setting) -> Result<(), Refused>
         requires { self.old.parts.opened.items ≡ [] }
-        ensures { (before : Before) → Holds self.old before → is_made before.settings setting ≡ false → Answers None (with_setting before (Ok setting)) self.new result }
+        ensures { (before : Before) → Holds self.old before → is_fresh before.settings setting ≡ true → Answers None (with_setting before (Ok setting)) self.new result }
     {
         match setting {
             Setting::Peers(peers) => {
-                self.peers = Some(peers);
                 self.parts.grow(alloc, peers)?;
+                self.settings.peers = Some(peers);
             }
-            Setting::Selective => self.is_selective = true,
+            Setting::Wish(size, value) => self.settings.wish(size, value),
+            Setting::Capabilities(caps) => self.settings.caps = Some(caps),
+            Setting::Selective => self.settings.is_selective = true,
+            Setting::File(payload) => self.payloads.push(payload)?,
         }
         Ok(())
     }
@@ -228,5 +257,21 @@ fn in_time(number: u32) -> Result<(), Refused>
         Err(Refused::Why(Why::Limit))
     } else {
         Ok(())
+    }
+}
+
+fn has_id(payloads: &[Payload], id: u64) -> bool
+    ensures { result ≡ list_any (λ p. p.id == id) payloads.now }
+{
+    payloads.iter().any(|payload| payload.id == id)
+}
+
+/// Whether the provider does not grant the capabilities.
+fn is_refused(setting: &Setting) -> bool
+    ensures { result ≡ is_refused (Ok setting.now) }
+{
+    match setting {
+        Setting::Capabilities(caps) => getinfo(Some(&asking(*caps))).is_err(),
+        _ => false,
     }
 }

@@ -58,6 +58,14 @@ impl From<fab_base::NoMemory> for Refused {
     }
 }
 
+impl<T: Drop> From<AllocFailed<T>> for Refused {
+    ghost from_gives = { λ _ e. e ≡ LineOutOfMemory };
+
+    fn from(_error: AllocFailed<T>) -> Refused {
+        Refused::NoMemory
+    }
+}
+
 impl From<Fault> for Refused {
     ghost from_gives = { λ fault e. e ≡ Because (why_from fault) };
 

@@ -1,10 +1,10 @@
 //! The words of a line, and what one word says.
 ghost use Rattle.std.specs.Prelude.{◌≡◌, ◌≤◌, [], ◌∷◌, ◌^◌, MatchOption, bytes_eq, length, ◌≢◌, IfOk, IsTrue, ◌↔◌};
-ghost use Rattle.fab_script.specs.Words.{numeral_of, number_of, read_number, read_up_to, read_index, read_len, read_source, read_bytes};
+ghost use Rattle.fab_script.specs.Words.{numeral_of, number_of, read_number, read_up_to, read_index, read_len, read_source, read_bytes, read_text};
 
 use crate::cut::cut_word;
 use crate::fault::{Fault, Read};
-use fab_base::{Buf, BytesWord, NoMemory};
+use fab_base::{Buf, BytesWord, NoMemory, Text};
 use std::alloc::Global;
 use std::marker::Model;
 
@@ -79,6 +79,15 @@ impl<'a> Words<'a> {
     {
         let word = self.next()?;
         self.is_empty().then_some(word)
+    }
+
+    /// The two words that are left.
+    pub(crate) fn two(&mut self) -> Option<(&'a [u8], &'a [u8])>
+        ensures { MatchOption result (length self.old ≢ 2) (λ w. self.old ≡ w.0.now ∷ w.1.now ∷ []) }
+    {
+        let first = self.next()?;
+        let second = self.one()?;
+        Some((first, second))
     }
 
     /// The four words that are left.
@@ -206,5 +215,17 @@ pub(crate) fn read_bytes(alloc: Global, word: &[u8]) -> Result<Read<BytesWord>, 
         Some(bytes) if bytes.len() > BYTES_MAX as usize => Ok(Err(Fault::Limit)),
         Some(bytes) => Ok(Ok(BytesWord::Text(Buf::copy(alloc, bytes)?))),
         None => Ok(Err(Fault::Words)),
+    }
+}
+
+/// A text, as it is written.
+#[tactic(auto, using(crate::proofs::WordLemmas::texts), unfolding(crate::specs::Words::read_text))]
+pub(crate) fn read_text(alloc: Global, word: &[u8]) -> Result<Read<Text>, NoMemory>
+    ensures { IfOk result (λ read. read ≡ read_text word.now) }
+{
+    match str::from_utf8(word) {
+        Ok(text) => Ok(Ok(Text::copy(alloc, text)?)),
+        // Not reached: each byte of a line of text is a character.
+        Err(_) => Ok(Err(Fault::Words)),
     }
 }

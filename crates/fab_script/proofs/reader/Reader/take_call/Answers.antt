@@ -13,4 +13,4 @@ returns c = λ before h.
     let said : op_of c.args.verb c.args.args.now ≡ Ok op = sym c.in_ok-read_op.ensures ∙ c.in_ok-op.was in
     let few : is_too_much before (Ok op) ≡ false = ap (λ m. nat_lt 67108864 (m + op_size op)) (sym h.parts.size) ∙ sym c.if-is_too_much.ensures in
     let none = call_taken before c.args.number c.args.verb c.args.args.now op some said c.in_ok-in_time.ensures few in
-    rw (none, said) (record { header = h.header; peers = h.peers; selective = h.selective; parts = c.in_ok-add.ensures (count_in before) before.items h.parts })
+    rw (none, said) (record { header = h.header; settings = h.settings; payloads = h.payloads; parts = c.in_ok-add.ensures (count_in before) before.items h.parts })

@@ -25,4 +25,4 @@ returns c = λ before h.
     let said : peer_of args ≡ Ok k = sym c.in_ok-peer.ensures in
     let there : is_no_peer before (Ok k) ≡ false = grind (arith, nat_tests, c.if-not-has.ensures, h.parts.count) in
     let none = peer_taken before c.args.number args k fresh said there c.in_ok-in_time.ensures in
-    rw (none, said) (record { header = h.header; peers = h.peers; selective = h.selective; parts = c.in_ok-open.ensures (count_in before) before.items h.parts })
+    rw (none, said) (record { header = h.header; settings = h.settings; payloads = h.payloads; parts = c.in_ok-open.ensures (count_in before) before.items h.parts })
