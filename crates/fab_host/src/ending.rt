@@ -1,6 +1,6 @@
 //! How the program ends: its line on standard error and its exit status.
 ghost use Rattle.std.specs.Prelude.{◌≡◌};
-ghost use Rattle.fabric_pingpong.specs.Ending.{status_number, why_name};
+ghost use Rattle.fab_host.specs.Ending.{status_number, why_name};
 
 use fab_base::{Status, Why};
 use std::{fmt, io};
@@ -35,7 +35,7 @@ struct Told<'a>(&'a Status);
 
 impl fmt::Display for Told<'_> {
     ghost use Rattle.std.specs.Prelude.{Some};
-    ghost use Rattle.fabric_pingpong.specs.Ending.{line_of_end};
+    ghost use Rattle.fab_host.specs.Ending.{line_of_end};
 
     ghost output = { λ told. Some (line_of_end told.0.now) };
 

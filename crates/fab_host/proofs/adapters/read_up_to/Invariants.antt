@@ -1,6 +1,6 @@
 use Rattle.std.proofs.Common.{◌≡◌, ◌≤◌, ◌-◌, vec_len, length}
 use Rattle.std.specs.Io.KnownBytes.{Consumes}
-use Rattle.fabric_pingpong.proofs.adapters.read_up_to.Given as goal
+use Rattle.fab_host.proofs.adapters.read_up_to.Given as goal
 
 abbrev pub invariant-loop-chunk : goal.invariant-loop-chunk
 invariant-loop-chunk g l =

@@ -4,7 +4,7 @@ use Rattle.std.specs.Iterator.Adapters.{skip_source, skip_count}
 use Rattle.std.proofs.lemmas.Iterator.Adapters.{YieldsList-from_vec, YieldsList-from_skip}
 use Rattle.std.proofs.lemmas.List.{map-id}
 use Rattle.std.proofs.lemmas.Iterator.Consumers.{YieldsList-end}
-use Rattle.fabric_pingpong.proofs.texts_of.Goals as goal
+use Rattle.fab_host.proofs.command.texts_of.Goals as goal
 
 pub returns : goal.returns
 returns c =

@@ -1,5 +1,5 @@
 use Rattle.std.proofs.Common.{◌≡◌, map, string_bytes}
-use Rattle.fabric_pingpong.proofs.texts_of.Given as goal
+use Rattle.fab_host.proofs.command.texts_of.Given as goal
 
 abbrev pub invariant-loop-arg : goal.invariant-loop-arg
 invariant-loop-arg l = l.words.items ≡ map string_bytes l.yielded

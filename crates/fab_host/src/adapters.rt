@@ -19,7 +19,7 @@ enum ReadRefused {
 }
 
 impl From<AllocError> for ReadRefused {
-    ghost use Rattle.fabric_pingpong.specs.declared.adapters.ReadRefused.{ReadRefused};
+    ghost use Rattle.fab_host.specs.declared.adapters.ReadRefused.{ReadRefused};
 
     ghost from_gives = { λ _ refused. refused ≡ ReadRefused.NoMemory };
 
