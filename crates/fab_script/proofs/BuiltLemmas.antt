@@ -2,12 +2,12 @@
 use Rattle.std.proofs.Common.{◌≡◌, ℕ, ◌+◌, ◌<◌, ◌≤◌, Bool, true, false, cond, not, ◌&&◌, eqb, leb, ltb, List, [], ◌∷◌, ◌++◌, length, map, take, drop, Option, Some, None, sym, ap, subst, ◌∙◌, refl, arith}
 use Rattle.std.specs.Prelude.{codes, bytes_eq, is_none, Result, Ok, Err, IfOk}
 use Rattle.std.specs.Result.{result_ok}
-use Rattle.std.specs.List.{list_all, range_with_len}
+use Rattle.std.specs.List.{list_all, range_with_len, slice_split}
 use Rattle.std.proofs.lemmas.Bool.Decides.{nat_tests}
 use Rattle.std.proofs.lemmas.List.Folds.{list_all-append}
-use Rattle.fab_base.specs.Built.{is_built as is_carried_out, all_built, is_short_text}
+use Rattle.fab_base.specs.Built.{is_built as is_carried_out, all_built, is_short_text, is_at_transmit}
 use Rattle.fab_base.specs.declared.script.BytesWord.{BytesWord}
-use Rattle.fab_base.specs.declared.script.BytesWord.TheVariants.{Text}
+use Rattle.fab_base.specs.declared.script.BytesWord.TheVariants.{Text, Zero}
 use Rattle.fab_base.specs.declared.script.Line.{Line}
 use Rattle.fab_base.specs.declared.script.LineOp.{LineOp}
 use Rattle.fab_base.specs.declared.script.LineOp.TheVariants.{Wait}
@@ -24,7 +24,7 @@ use Rattle.fab_script.specs.declared.fault.Fault.TheVariants.{Words, Limit}
 use Rattle.fab_script.specs.declared.items.Item.{Item}
 use Rattle.fab_script.specs.declared.items.Item.TheVariants.{Peer, Does}
 use Rattle.fab_script.specs.declared.language.Form.{Form}
-use Rattle.fab_script.specs.declared.language.Form.TheVariants.{Line as LineForm, Index, Long}
+use Rattle.fab_script.specs.declared.language.Form.TheVariants.{Line as LineForm, Index, Any, Long, Hex as HexForm, Zero as ZeroForm, File as FileForm, Data, Level as LevelForm, Completion as CompletionForm}
 use Rattle.fab_script.specs.declared.language.Language.TheVariants.{Built}
 use Rattle.fab_script.specs.declared.settings.Setting.{Setting}
 use Rattle.fab_script.specs.declared.settings.Setting.TheVariants.{Peers, Wish, Capabilities, Selective, File}
@@ -36,15 +36,21 @@ use Rattle.fab_script.specs.Before.{Before, nothing, until_peer, part_of, parts_
 use Rattle.fab_script.specs.Conf.{conf_of}
 use Rattle.fab_script.specs.Faults.{◌&◌, map_ok}
 use Rattle.fab_script.specs.Grammar.{Refusal, read_lines, script_with, granted, of_peers, script_said, then_script, verdict, script_of}
-use Rattle.fab_script.specs.Language.{has, has_form, other_forms, form_of_word, source_form, wait_form, is_any, is_built}
-use Rattle.fab_script.specs.Lines.{a_tsend, a_trecv, tsend_of, trecv_of, wait_of, op_of}
+use Rattle.fab_script.specs.Language.{has, has_form, optional_forms, form_of_word, source_form, wait_form, is_any, is_built}
+use Rattle.fab_script.specs.Sends.{a_tsend, read_tagged, for_send, tsend_of}
+use Rattle.fab_script.specs.Options.{are_options, value_after, read_if, level_after, level_in, the_options, read_options}
+use Rattle.fab_script.specs.declared.options.Allowed.{Allowed}
+use Rattle.fab_script.specs.declared.options.Options.{Options}
+use Rattle.fab_script.specs.Lines.{a_trecv, trecv_of, wait_of, op_of}
 use Rattle.fab_script.specs.declared.refused.ParseRefused.{ParseRefused}
 use Rattle.fab_script.specs.Refused.{IsVerdict}
 use Rattle.fab_script.specs.Rows.{is_text, words_of, lines_of}
 use Rattle.fab_script.specs.Rules.{Rules, is_header, header_rules, kind_rules, verb_rules, word_rules, why_of, with_setting, with_peer, with_call, with_kind, with_verb, with_words, with_line}
 use Rattle.fab_script.specs.Settings.{setting_of, peer_of, hints_of}
 use Rattle.fab_script.specs.Verbs.{verb_of, kind_of}
-use Rattle.fab_script.specs.Words.{first_of, only_if, begins_with, read_number, read_index, read_len, read_source, read_bytes}
+use Rattle.fab_script.specs.Words.{first_of, only_if, begins_with, read_number, read_index, read_len, read_source}
+use Rattle.fab_script.specs.Bytes.{few_bytes, of_hex, file_range, is_colon, read_bytes}
+use Rattle.hex.specs.Hex.{decode_of}
 use Rattle.fab_script.proofs.PartLemmas.{and_true}
 use Rattle.fab_script.proofs.RuleLemmas.{rest_of, first_fails}
 
@@ -62,38 +68,73 @@ said_by f (Ok x) y e = (x, refl, cc)
 said_by f (Err fault) y e = cc
 
 -- ---- a text that is not too long
-bytes_if : Bool → Bool → List ℕ → Result BytesWord Fault
-bytes_if is_a_text fits bytes = cond is_a_text (cond fits (Ok (Text bytes)) (Err Limit)) (Err Words)
-
-short_bytes : (is_a_text is_long fits : Bool) (bytes : List ℕ) (said : BytesWord) → bytes_if is_a_text fits bytes ≡ Ok said → is_long ≡ ltb 4096 (length bytes) → (is_a_text && is_long) ≡ false → is_short_text said ≡ true
-unfolding bytes_if
-short_bytes false is_long fits bytes said e l built = cc
-short_bytes true true fits bytes said e l built = cc
-short_bytes true false false bytes said e l built = cc
-short_bytes true false true bytes said e l built =
+fits_short : (fits : Bool) (bytes : List ℕ) (said : BytesWord) → leb (length bytes) 4096 ≡ true → cond fits (Ok (Text bytes)) (Err Limit) ≡ Ok said → is_short_text said ≡ true
+fits_short true bytes said short e =
     let text : Text bytes ≡ said = cc in
-    let short : leb (length bytes) 4096 ≡ true = grind (arith, nat_tests) in
     subst (λ s. is_short_text s ≡ true) text short
+fits_short false bytes said short e = cc
 
-not_long : (test : Bool) (rest : List (Bool × Form)) → has_form Built (first_of ((test, Long) ∷ rest)) ≡ true → test ≡ false
-not_long true rest e = cc
-not_long false rest e = refl
+-- bytes that are written in another form are not built
+others_built : (hex zero file : Bool) (a b c : Result BytesWord Fault) (more : List (Bool × Form)) (said : BytesWord) → has_form Built (first_of ((hex, HexForm) ∷ (zero, ZeroForm) ∷ (file, FileForm) ∷ more)) ≡ true → cond hex a (cond zero b (cond file c (Err Words))) ≡ Ok said → is_short_text said ≡ true
+others_built true zero file a b c more said built e = cc
+others_built false true file a b c more said built e = cc
+others_built false false true a b c more said built e = cc
+others_built false false false a b c more said built e = cc
+
+word_built : (text long : Bool) (bytes : List ℕ) (hex zero file : Bool) (a b c : Result BytesWord Fault) (more : List (Bool × Form)) (said : BytesWord) → ltb 4096 (length bytes) ≡ long → has_form Built (first_of ((text && long, Long) ∷ (hex, HexForm) ∷ (zero, ZeroForm) ∷ (file, FileForm) ∷ more)) ≡ true → cond text (few_bytes bytes (Text bytes)) (cond hex a (cond zero b (cond file c (Err Words)))) ≡ Ok said → is_short_text said ≡ true
+word_built true true bytes hex zero file a b c more said l built e = cc
+word_built true false bytes hex zero file a b c more said l built e =
+    let short : leb (length bytes) 4096 ≡ true = grind (arith, nat_tests) in
+    fits_short (leb (length bytes) 33554432) bytes said short e
+word_built false long bytes hex zero file a b c more said l built e = others_built hex zero file a b c more said built e
 
 bytes_built : (word : List ℕ) (said : BytesWord) → read_bytes word ≡ Ok said → has_form Built (form_of_word word) ≡ true → is_short_text said ≡ true
-unfolding read_bytes bytes_if
+unfolding read_bytes
 bytes_built word said e built =
-    short_bytes (begins_with (codes "text:") word) (ltb 4096 (length (drop 5 word))) (leb (length (drop 5 word)) 33554432) (drop 5 word) said e refl
-    (not_long (begins_with (codes "text:") word && ltb 4096 (length (drop 5 word))) (other_forms word) built)
+    word_built (begins_with (codes "text:") word) (ltb 4096 (length (drop 5 word))) (drop 5 word) (begins_with (codes "hex:") word) (begins_with (codes "zero:") word) (begins_with (codes "file:") word)
+    (of_hex (decode_of (drop 4 word))) (map_ok Zero (read_len (drop 5 word))) (file_range (slice_split is_colon (drop 5 word)))
+    (optional_forms word) said refl built e
 
 -- ---- the lines that are carried out
+-- a word that is built says no level
+no_level_word : (a b c d e f : Bool) (more : List (Bool × Form)) → has_form Built (first_of ((a, Long) ∷ (b, HexForm) ∷ (c, ZeroForm) ∷ (d, FileForm) ∷ (e, Data) ∷ (f, LevelForm) ∷ more)) ≡ true → f ≡ false
+no_level_word false false false false false false more built = refl
+no_level_word false false false false false true more built = cc
+no_level_word false false false false true f more built = cc
+no_level_word false false false true e f more built = cc
+no_level_word false false true d e f more built = cc
+no_level_word false true c d e f more built = cc
+no_level_word true b c d e f more built = cc
+
+no_level : (words : List (List ℕ)) → list_all (λ word. has_form Built (form_of_word word)) words ≡ true → value_after (codes "level=") words ≡ None
+no_level [] built = refl
+no_level (word ∷ words) built =
+    let both = and_true (has_form Built (form_of_word word)) (list_all (λ word. has_form Built (form_of_word word)) words) built in
+    let none : begins_with (codes "level=") word ≡ false =
+    no_level_word (begins_with (codes "text:") word && ltb 4096 (length (drop 5 word))) (begins_with (codes "hex:") word) (begins_with (codes "zero:") word) (begins_with (codes "file:") word) (begins_with (codes "data=") word) (begins_with (codes "level=") word) ((bytes_eq word (codes "completion"), CompletionForm) ∷ []) both.0 in
+    rw none (no_level words both.1)
+
+options_built : (allowed : Allowed) (words : List (List ℕ)) (o : Options) → list_all (λ word. has_form Built (form_of_word word)) words ≡ true → read_options allowed words ≡ Ok o → is_at_transmit o.level ≡ true
+unfolding read_options level_in
+options_built allowed words o built e = of_test (are_options allowed words) e
+  where
+    of_test : (test : Bool) → cond test (map_ok (the_options words) (read_if read_number (value_after (codes "data=") words) & read_if read_index (value_after (codes "min=") words))) (Err Words) ≡ Ok o → is_at_transmit o.level ≡ true
+    of_test false e = cc
+    of_test true e =
+        let said = said_by (the_options words) (read_if read_number (value_after (codes "data=") words) & read_if read_index (value_after (codes "min=") words)) o e in
+        subst (λ (p : Options). is_at_transmit p.level ≡ true) said.2 (ap (λ v. is_at_transmit (level_after v)) (no_level words built))
+
 tsend_built : (args : List (List ℕ)) (op : LineOp) → list_all (λ word. has_form Built (form_of_word word)) args ≡ true → tsend_of args ≡ Ok op → is_carried_out op ≡ true
 unfolding tsend_of
-tsend_built (ctx ∷ dest ∷ tag ∷ bytes ∷ []) op forms e =
-    let said = said_by a_tsend _ op e in
-    let word = (both_said (read_number ctx & read_index dest & read_number tag) (read_bytes bytes) said.0.0 said.0.1 said.1).1 in
-    let last = and_true (has_form Built (form_of_word bytes)) true (and_true (has_form Built (form_of_word tag)) _ (and_true (has_form Built (form_of_word dest)) _ (and_true (has_form Built (form_of_word ctx)) _ forms).1).1).1 in
-    let short : is_short_text said.0.1 ≡ true = bytes_built bytes said.0.1 word last.0 in
-    subst (λ o. is_carried_out o ≡ true) said.2 (rw short refl)
+tsend_built (ctx ∷ dest ∷ tag ∷ bytes ∷ options) op forms e =
+    let said = said_by a_tsend (read_tagged ctx dest tag & read_bytes bytes & read_options for_send options) op e in
+    let words = said.0 in
+    let all = both_said (read_tagged ctx dest tag & read_bytes bytes) (read_options for_send options) words.0 words.1 said.1 in
+    let word = (both_said (read_tagged ctx dest tag) (read_bytes bytes) words.0.0 words.0.1 all.0).1 in
+    let rest = and_true (has_form Built (form_of_word bytes)) _ (and_true (has_form Built (form_of_word tag)) _ (and_true (has_form Built (form_of_word dest)) _ (and_true (has_form Built (form_of_word ctx)) _ forms).1).1).1 in
+    let short : is_short_text words.0.1 ≡ true = bytes_built bytes words.0.1 word rest.0 in
+    let transmit : is_at_transmit words.1.level ≡ true = options_built for_send options words.1 rest.1 all.1 in
+    subst (λ o. is_carried_out o ≡ true) said.2 (rw (short, transmit) refl)
 tsend_built _ op forms e = cc
 
 source_built : (any : Bool) (index : Result (Option ℕ) Fault) (said : Option ℕ) → cond any (Ok None) index ≡ Ok said → has_form Built (only_if (true && not any) Index) ≡ true → is_none said ≡ true
@@ -112,15 +153,20 @@ trecv_built (ctx ∷ source ∷ tag ∷ ignore ∷ len ∷ []) op built e =
     subst (λ o. is_carried_out o ≡ true) said.2 (source_built (is_any source) _ words.0.0.0.1 from built)
 trecv_built _ op built e = cc
 
-wait_built : (args : List (List ℕ)) (op : LineOp) → wait_of args ≡ Ok op → is_carried_out op ≡ true
+one_context : (any : Bool) (said : Result ℕ Fault) (op : LineOp) → has_form Built (only_if any Any) ≡ true → cond any (Ok (Wait None)) (map_ok (λ n. Wait (Some n)) said) ≡ Ok op → is_carried_out op ≡ true
+one_context true said op built e = cc
+one_context false said op built e = subst (λ o. is_carried_out o ≡ true) (said_by (λ n. Wait (Some n)) said op e).2 refl
+
+wait_built : (args : List (List ℕ)) (op : LineOp) → has_form Built (wait_form verb.Wait args) ≡ true → wait_of args ≡ Ok op → is_carried_out op ≡ true
 unfolding wait_of
-wait_built (ctx ∷ []) op e = subst (λ o. is_carried_out o ≡ true) (said_by (λ n. Wait (Some n)) (read_number ctx) op e).2 refl
-wait_built _ op e = cc
+wait_built (ctx ∷ []) op built e = one_context (is_any ctx) (read_number ctx) op built e
+wait_built _ op built e = cc
 
 -- what a line is of whose forms are all built
 pub record Forms (verb : Verb) (args : List (List ℕ)) : Type 0 where
   pub line : has Built (LineForm verb) ≡ true
   pub source : has_form Built (source_form verb args) ≡ true
+  pub wait : has_form Built (wait_form verb args) ≡ true
   pub words : list_all (λ word. has_form Built (form_of_word word)) args ≡ true
 
 forms_of : (verb : Verb) (args : List (List ℕ)) → is_built Built verb args ≡ true → Forms verb args
@@ -129,14 +175,19 @@ forms_of verb args e =
     let words = and_true (has Built (LineForm verb) && has_form Built (source_form verb args) && has_form Built (wait_form verb args)) (list_all (λ word. has_form Built (form_of_word word)) args) e in
     let wait = and_true (has Built (LineForm verb) && has_form Built (source_form verb args)) (has_form Built (wait_form verb args)) words.0 in
     let source = and_true (has Built (LineForm verb)) (has_form Built (source_form verb args)) wait.0 in
-    record { line = source.0; source = source.1; words = words.1 }
+    record { line = source.0; source = source.1; wait = wait.1; words = words.1 }
+
+not_built : false ≡ true → ⊥
+not_built e = cc
 
 op_built : (verb : Verb) (args : List (List ℕ)) (op : LineOp) → Forms verb args → op_of verb args ≡ Ok op → is_carried_out op ≡ true
 unfolding op_of
 op_built verb.TSend args op f e = tsend_built args op f.words e
 op_built verb.TRecv args op f e = trecv_built args op f.source e
-op_built verb.Wait args op f e = wait_built args op e
-op_built _ args op f e = cc
+op_built verb.Wait args op f e = wait_built args op f.wait e
+op_built verb.Peers args op f e = cc
+op_built verb.Peer args op f e = cc
+op_built _ args op f e = absurd (not_built f.line)
 
 -- ---- each line among the items is built
 abbrev built_item : Item → Bool

@@ -1,10 +1,13 @@
 -- A list, cut at the first element that passes a test.
-use Rattle.std.proofs.Common.{◌≡◌, ℕ, ◌+◌, ◌-◌, ◌<◌, ◌≤◌, Bool, true, false, cond, List, [], ◌∷◌, ◌⊎◌, inl, inr, length, take, drop, Some, None, sym, ap, ◌∙◌, refl, arith, length-drop, length-take}
+use Rattle.std.proofs.Common.{◌≡◌, ◌≢◌, ℕ, ◌+◌, ◌-◌, ◌<◌, ◌≤◌, Bool, true, false, cond, List, [], ◌∷◌, ◌⊎◌, inl, inr, length, take, drop, Some, None, sym, ap, ◌∙◌, refl, arith, length-drop, length-take}
 use Rattle.std.specs.List.{position, position_or_len, before_first, after_first, slice_split, All}
 use Rattle.std.proofs.lemmas.Bool.Decides.{nat_tests}
 use Rattle.std.proofs.lemmas.List.{take_all, drop_all}
 use Rattle.std.proofs.lemmas.List.Sums.{fails_before_first}
-use Rattle.std.proofs.lemmas.List.Splits.{slice_split_first, slice_split_none}
+use Rattle.std.proofs.lemmas.List.Splits.{slice_split_first, slice_split_none, length-slice_split}
+use Rattle.std.specs.Prelude.{Err}
+use Rattle.fab_script.specs.declared.fault.Fault.TheVariants.{Words}
+use Rattle.fab_script.specs.Bytes.{file_range}
 use Rattle.std.proofs.lemmas.Bool.{cases_lt}
 
 picked : (b : Bool) (m i : ℕ) → cond b (Some m) None ≡ Some i → (b ≡ true) × (m ≡ i)
@@ -77,3 +80,12 @@ after_first_shorter p xs h = omega (arith, length-drop (position_or_len p xs + 1
 
 -- what `cut` gives
 pub ruleset cuts = (cut_at, cut_nowhere)
+
+-- a text has at least one part
+pub parts_filled : (p : ℕ → Bool) (xs : List ℕ) → 0 < length (slice_split p xs)
+parts_filled p xs = omega (arith, length-slice_split p xs)
+
+-- a range of another number of parts
+pub file_range_other : (parts : List (List ℕ)) → length parts ≢ 3 → file_range parts ≡ Err Words
+file_range_other (a ∷ b ∷ c ∷ []) h = absurd (h (omega arith))
+file_range_other _ h = refl

@@ -1,18 +1,14 @@
 -- A line with another number of words.
-use Rattle.std.proofs.Common.{◌≡◌, ◌≢◌, ℕ, List, [], ◌∷◌, length, ap, refl, arith}
+use Rattle.std.proofs.Common.{◌≡◌, ◌≢◌, ◌<◌, ℕ, List, [], ◌∷◌, length, ap, refl, arith}
 use Rattle.std.specs.Prelude.{Err}
 use Rattle.fab_base.specs.declared.limits.Size.{Size}
 use Rattle.fab_script.specs.declared.fault.Fault.{Fault}
 use Rattle.fab_script.specs.declared.fault.Fault.TheVariants.{Words}
 use Rattle.fab_script.specs.Faults.{◌&◌, map_ok}
+use Rattle.fab_script.specs.Sends.{send_of, tsend_of, inject_of, tinject_of, mrecv_of, write_of, winject_of}
 use Rattle.fab_script.specs.Words.{read_number, read_source, read_len}
-use Rattle.fab_script.specs.Lines.{a_trecv, tsend_of, trecv_of, wait_of}
+use Rattle.fab_script.specs.Lines.{a_trecv, trecv_of, wait_of, recv_of, look_of, take_of, number_line, remove_of, insert_of, read_of, reg_of, put_of, count_of, reach_of}
 use Rattle.fab_script.specs.Settings.{size_of, caps_setting, selective_setting, payload_setting, peer_of}
-
-pub tsend_of_other : (args : List (List ℕ)) → length args ≢ 4 → tsend_of args ≡ Err Words
-unfolding tsend_of
-tsend_of_other (a ∷ b ∷ c ∷ d ∷ []) h = absurd (h (omega arith))
-tsend_of_other _ h = refl
 
 pub trecv_of_other : (args : List (List ℕ)) → length args ≢ 5 → trecv_of args ≡ Err Words
 unfolding trecv_of
@@ -23,6 +19,96 @@ pub wait_of_other : (args : List (List ℕ)) → length args ≢ 1 → wait_of a
 unfolding wait_of
 wait_of_other (a ∷ []) h = absurd (h (omega arith))
 wait_of_other _ h = refl
+
+pub recv_of_other : (args : List (List ℕ)) → length args ≢ 3 → recv_of args ≡ Err Words
+unfolding recv_of
+recv_of_other (a ∷ b ∷ c ∷ []) h = absurd (h (omega arith))
+recv_of_other _ h = refl
+
+pub look_of_other : (args : List (List ℕ)) → length args ≢ 4 → look_of args ≡ Err Words
+unfolding look_of
+look_of_other (a ∷ b ∷ c ∷ d ∷ []) h = absurd (h (omega arith))
+look_of_other _ h = refl
+
+pub take_of_other : (args : List (List ℕ)) → length args ≢ 2 → take_of args ≡ Err Words
+unfolding take_of
+take_of_other (a ∷ b ∷ []) h = absurd (h (omega arith))
+take_of_other _ h = refl
+
+pub number_line_other : (args : List (List ℕ)) → length args ≢ 1 → number_line args ≡ Err Words
+unfolding number_line
+number_line_other (a ∷ []) h = absurd (h (omega arith))
+number_line_other _ h = refl
+
+pub remove_of_other : (args : List (List ℕ)) → length args ≢ 1 → remove_of args ≡ Err Words
+unfolding remove_of
+remove_of_other (a ∷ []) h = absurd (h (omega arith))
+remove_of_other _ h = refl
+
+pub insert_of_other : (args : List (List ℕ)) → length args ≢ 1 → insert_of args ≡ Err Words
+unfolding insert_of
+insert_of_other (a ∷ []) h = absurd (h (omega arith))
+insert_of_other _ h = refl
+
+pub read_of_other : (args : List (List ℕ)) → length args ≢ 5 → read_of args ≡ Err Words
+unfolding read_of
+read_of_other (a ∷ b ∷ c ∷ d ∷ e ∷ []) h = absurd (h (omega arith))
+read_of_other _ h = refl
+
+pub reg_of_other : (args : List (List ℕ)) → length args ≢ 3 → reg_of args ≡ Err Words
+unfolding reg_of
+reg_of_other (a ∷ b ∷ c ∷ []) h = absurd (h (omega arith))
+reg_of_other _ h = refl
+
+pub put_of_other : (args : List (List ℕ)) → length args ≢ 3 → put_of args ≡ Err Words
+unfolding put_of
+put_of_other (a ∷ b ∷ c ∷ []) h = absurd (h (omega arith))
+put_of_other _ h = refl
+
+pub count_of_other : (args : List (List ℕ)) → length args ≢ 1 → count_of args ≡ Err Words
+unfolding count_of
+count_of_other (a ∷ []) h = absurd (h (omega arith))
+count_of_other _ h = refl
+
+pub reach_of_other : (args : List (List ℕ)) → length args ≢ 2 → reach_of args ≡ Err Words
+unfolding reach_of
+reach_of_other (a ∷ b ∷ []) h = absurd (h (omega arith))
+reach_of_other _ h = refl
+
+pub send_of_other : (args : List (List ℕ)) → length args < 3 → send_of args ≡ Err Words
+unfolding send_of
+send_of_other (a ∷ b ∷ c ∷ options) h = absurd (omega arith)
+send_of_other _ h = refl
+
+pub tsend_of_other : (args : List (List ℕ)) → length args < 4 → tsend_of args ≡ Err Words
+unfolding tsend_of
+tsend_of_other (a ∷ b ∷ c ∷ d ∷ options) h = absurd (omega arith)
+tsend_of_other _ h = refl
+
+pub inject_of_other : (args : List (List ℕ)) → length args < 2 → inject_of args ≡ Err Words
+unfolding inject_of
+inject_of_other (a ∷ b ∷ options) h = absurd (omega arith)
+inject_of_other _ h = refl
+
+pub tinject_of_other : (args : List (List ℕ)) → length args < 3 → tinject_of args ≡ Err Words
+unfolding tinject_of
+tinject_of_other (a ∷ b ∷ c ∷ options) h = absurd (omega arith)
+tinject_of_other _ h = refl
+
+pub mrecv_of_other : (args : List (List ℕ)) → length args < 3 → mrecv_of args ≡ Err Words
+unfolding mrecv_of
+mrecv_of_other (a ∷ b ∷ c ∷ options) h = absurd (omega arith)
+mrecv_of_other _ h = refl
+
+pub write_of_other : (args : List (List ℕ)) → length args < 5 → write_of args ≡ Err Words
+unfolding write_of
+write_of_other (a ∷ b ∷ c ∷ d ∷ e ∷ options) h = absurd (omega arith)
+write_of_other _ h = refl
+
+pub winject_of_other : (args : List (List ℕ)) → length args < 4 → winject_of args ≡ Err Words
+unfolding winject_of
+winject_of_other (a ∷ b ∷ c ∷ d ∷ options) h = absurd (omega arith)
+winject_of_other _ h = refl
 
 pub size_of_other : (size : Size) (args : List (List ℕ)) → length args ≢ 1 → size_of size args ≡ Err Words
 unfolding size_of

@@ -57,10 +57,5 @@ add_names caps (name ∷ names) = elim (cap_named name) [ None ↦ Err Words | S
 abbrev pub is_comma : ℕ → Bool
 is_comma byte = byte == 44
 
--- the names after a comma, where there is one
-abbrev pub names_left : Option (List ℕ) → List (List ℕ)
-names_left None = []
-names_left (Some list) = slice_split is_comma list
-
 unfoldable pub caps_of : List ℕ → Result Caps Fault
 caps_of word = add_names no_hints.caps (slice_split is_comma word)

@@ -1,7 +1,7 @@
 -- Which lines are read.
 --     has language form                a line may have this form
 --     form_of_word word                the form that a word has wherever it stands
---     form_in_place verb args          the form of a word that has it only in its place
+--     source_form verb args, wait_form verb args      the form of a word that has it only in its place
 --     is_built language verb args      all forms of the line are read
 use Rattle.std.specs.Prelude.{ℕ, Bool, true, false, not, ◌&&◌, nat_lt, List, [], ◌∷◌, length, drop, codes, bytes_eq, Option, Some, None}
 use Rattle.std.specs.List.{list_all}
@@ -23,16 +23,13 @@ has Built (Line verb.Wait) = true
 has Built _ = false
 has Whole form = true
 
+-- optional words
+abbrev pub optional_forms : List ℕ → List (Bool × Form)
+optional_forms word = (begins_with (codes "data=") word, Data) ∷ (begins_with (codes "level=") word, Level) ∷ (bytes_eq word (codes "completion"), Completion) ∷ []
+
 -- bytes that are written otherwise than by `text:`, and optional words
 abbrev pub other_forms : List ℕ → List (Bool × Form)
-other_forms word =
-    (begins_with (codes "hex:") word, Hex)
-    ∷ (begins_with (codes "zero:") word, Zero)
-    ∷ (begins_with (codes "file:") word, File)
-    ∷ (begins_with (codes "data=") word, Data)
-    ∷ (begins_with (codes "level=") word, Level)
-    ∷ (bytes_eq word (codes "completion"), Completion)
-    ∷ []
+other_forms word = (begins_with (codes "hex:") word, Hex) ∷ (begins_with (codes "zero:") word, Zero) ∷ (begins_with (codes "file:") word, File) ∷ optional_forms word
 
 -- the same, or a text of more than 4,096 bytes
 abbrev pub form_of_word : List ℕ → Option Form

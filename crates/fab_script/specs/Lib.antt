@@ -1,4 +1,5 @@
 pub mod Before
+pub mod Bytes
 pub mod Capabilities
 pub mod Conf
 pub mod Faults
@@ -6,10 +7,12 @@ pub mod Grammar
 pub mod Language
 pub mod Lines
 pub mod Opened
+pub mod Options
 pub mod Parts
 pub mod Refused
 pub mod Rows
 pub mod Rules
+pub mod Sends
 pub mod Settings
 pub mod Verbs
 pub mod Words

@@ -52,3 +52,8 @@ words_of line = words_if (blank_split line)
 
 abbrev pub is_text : List ℕ → Bool
 is_text line = list_all (λ byte. byte == 9 || (nat_le 32 byte && nat_le byte 126)) line
+
+-- the parts after a byte, where there is one
+abbrev pub parts_left : ℕ → Option (List ℕ) → List (List ℕ)
+parts_left byte None = []
+parts_left byte (Some text) = slice_split (λ b. b == byte) text

@@ -1,11 +1,9 @@
 -- What one word says.
 --     number_of word      1 to 20 decimal digits, or `0x` and 1 to 16 hexadecimal digits, below 2 ^ 64
 --     read_number word, read_up_to n word      a number, or a number of at most n
---     read_index word, read_len word, read_source word, read_bytes word      what stands in these places
+--     read_index word, read_len word, read_source word      what stands in these places
 use Rattle.std.specs.Prelude.{ℕ, ◌+◌, ◌^◌, Bool, ◌&&◌, nat_lt, nat_le, if◌then◌else◌, List, [], ◌∷◌, length, drop, take, codes, bytes_eq, Option, Some, None, option_and_then, Result, Ok, Err, ok_or}
 use Rattle.std.specs.List.{list_all}
-use Rattle.fab_base.specs.declared.script.BytesWord.{BytesWord}
-use Rattle.fab_base.specs.declared.script.BytesWord.TheVariants.{Text}
 use Rattle.fab_script.specs.declared.fault.Fault.{Fault}
 use Rattle.fab_script.specs.Faults.{map_ok}
 use Rattle.fab_script.specs.declared.fault.Fault.TheVariants.{Words, Number, Limit}
@@ -62,12 +60,6 @@ read_len word = read_up_to 33554432 word
 -- `*`, or an index
 unfoldable pub read_source : List ℕ → Result (Option ℕ) Fault
 read_source word = if bytes_eq word (codes "*") then Ok None else map_ok Some (read_index word)
-
--- `text:` and the bytes
-unfoldable pub read_bytes : List ℕ → Result BytesWord Fault
-read_bytes word =
-    if begins_with (codes "text:") word then (if nat_le (length (drop 5 word)) 33554432 then Ok (Text (drop 5 word)) else Err Limit)
-    else Err Words
 
 -- a text, as it is written
 unfoldable pub read_text : List ℕ → Result (List ℕ) Fault

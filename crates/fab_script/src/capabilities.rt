@@ -1,9 +1,9 @@
 //! The capabilities that `caps` asks for.
-ghost use Rattle.std.specs.Prelude.{◌≡◌, ◌<◌, ◌∷◌, length, position, option_copied, IfSome};
-ghost use Rattle.std.specs.List.{slice_split};
+ghost use Rattle.std.specs.Prelude.{◌≡◌};
 ghost use Rattle.fab_model.specs.Negotiation.{no_hints};
-ghost use Rattle.fab_script.specs.Capabilities.{cap_name, cap_named, with_cap, is_comma, names_left, caps_of};
+ghost use Rattle.fab_script.specs.Capabilities.{cap_name, cap_named, with_cap, caps_of};
 
+use crate::cut::first_part;
 use crate::fault::{Fault, Read};
 use crate::words::is;
 use fab_base::{Cap, Caps};
@@ -85,24 +85,6 @@ fn with(cap: Cap, mut caps: Caps) -> Caps
     caps
 }
 
-/// The first name of a list, and the list after its comma where there is one.
-#[tactic(auto, using(crate::proofs::CutLemmas::splits))]
-fn first_name(list: &[u8]) -> (&[u8], Option<&[u8]>)
-    ensures names { slice_split is_comma list.now ≡ result.0.now ∷ names_left (option_copied result.1) }
-    ensures shorter { IfSome result.1 (λ rest. length rest.now < length list.now) }
-{
-    match comma_in(list) {
-        Some(end) => (&list[..end], Some(&list[end + 1..])),
-        None => (list, None),
-    }
-}
-
-fn comma_in(list: &[u8]) -> Option<usize>
-    ensures { result ≡ position is_comma list.now }
-{
-    list.iter().position(|byte| *byte == b',')
-}
-
 /// The capabilities whose names the commas join.
 #[tactic(auto, unfolding(crate::specs::Capabilities::caps_of))]
 pub(crate) fn read_caps(word: &[u8]) -> Read<Caps>
@@ -111,7 +93,7 @@ pub(crate) fn read_caps(word: &[u8]) -> Read<Caps>
     let mut caps = none();
     let mut list = word;
     loop {
-        let (name, rest) = first_name(list);
+        let (name, rest) = first_part(list, b',');
         caps = with(named(name).ok_or(Fault::Words)?, caps);
         match rest {
             Some(rest) => list = rest,

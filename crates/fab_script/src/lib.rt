@@ -9,6 +9,7 @@
 //! cause.rt.
 #![tactic(auto)]
 
+mod bytes;
 mod capabilities;
 mod cut;
 mod fault;
@@ -16,10 +17,12 @@ mod grammar;
 mod items;
 mod language;
 mod lines;
+mod options;
 mod parts;
 mod reader;
 mod refused;
 mod rows;
+mod sends;
 mod settings;
 mod verbs;
 mod words;

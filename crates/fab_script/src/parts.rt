@@ -2,7 +2,8 @@
 ghost use Rattle.std.specs.Prelude.{◌≡◌, ◌<◌, ◌≤◌, ◌+◌, ◌∷◌, [], ◌++◌, ◌==◌, ℕ, List, false, nat_lt, All, IfOk, vec_len};
 ghost use Rattle.fab_script.specs.Lines.{op_size};
 
-use fab_base::{BytesWord, Line, LineOp, NoMemory};
+use crate::bytes::bytes_size;
+use fab_base::{Line, LineOp, NoMemory};
 use std::alloc::Global;
 
 /// The greatest sum of the bytes that the lines send or make room for.
@@ -104,11 +105,19 @@ fn size_of(op: &LineOp) -> u64
     ensures { result ≡ op_size op.now }
 {
     match op {
-        LineOp::TSend {
-            bytes: BytesWord::Text(bytes),
-            ..
-        } => bytes.as_slice().len() as u64,
-        LineOp::TRecv { len, .. } => u64::from(*len),
+        LineOp::Send { bytes, .. }
+        | LineOp::TSend { bytes, .. }
+        | LineOp::Inject { bytes, .. }
+        | LineOp::TInject { bytes, .. }
+        | LineOp::Write { bytes, .. }
+        | LineOp::WInject { bytes, .. }
+        | LineOp::Reg { bytes, .. }
+        | LineOp::Put { bytes, .. } => bytes_size(bytes),
+        LineOp::Recv { len, .. }
+        | LineOp::TRecv { len, .. }
+        | LineOp::MRecv { len, .. }
+        | LineOp::Take { len, .. }
+        | LineOp::Read { len, .. } => u64::from(*len),
         _ => 0,
     }
 }

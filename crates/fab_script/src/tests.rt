@@ -1,5 +1,7 @@
 //! Which line is named, and for which reason; and scripts that are read whole.
 use super::*;
+use crate::grammar::read as read_in;
+use crate::language::Language;
 use fab_base::{BytesWord, Level, Line, LineOp, Script, Why};
 use std::alloc::Global;
 use std::process::Abort;
@@ -310,5 +312,171 @@ fn many_lines(rt: HostRuntime) -> Result<(), Fail> {
     let peers = script.peers.as_slice();
     assert_eq!(rt; peers.len(), 1);
     assert_eq!(rt; peers[0].as_slice().len(), 99_997);
+    Ok(())
+}
+
+/// The line and the reason for which a text of the whole language is refused.
+fn whole_refusal(alloc: Global, text: &[u8]) -> Option<(u32, Why)> {
+    match read_in(alloc, Language::Whole, text) {
+        Err(ParseRefused::Script { line, why }) => Some((line, why)),
+        _ => None,
+    }
+}
+
+/// Each reason at the least text that has it, and where another reason would come later.
+#[test]
+fn reasons_in_their_order(rt: HostRuntime) {
+    let table: [(&[u8], Option<(u32, Why)>); 32] = [
+        (b"fabric 1\npeers 2\npeers 2", Some((3, Why::Twice))),
+        (b"fabric 1\njump\x7f", Some((2, Why::NotText))),
+        (b"#\xc8\nfabric 2", Some((1, Why::NotText))),
+        (b"jump\n", Some((1, Why::Header))),
+        (b"fabric 1\nfabric 1", Some((2, Why::Verb))),
+        (b"fabric 1\njump\nwait x", Some((2, Why::Verb))),
+        (b"fabric 1\nwait x", Some((2, Why::Order))),
+        (b"fabric 1\npeers 1\npeer 0\npeers 1", Some((4, Why::Order))),
+        (b"fabric 1\npeers 1\npeers", Some((3, Why::Twice))),
+        (b"fabric 1\nselective\nselective", Some((3, Why::Twice))),
+        (b"fabric 1\ncaps FI_MSG\ncaps x", Some((3, Why::Twice))),
+        (b"fabric 1\npayload 1 a\npayload 0x1", Some((3, Why::Twice))),
+        (b"fabric 1\npayload 1 a\npayload 2 a\npeers 1", None),
+        (b"fabric 1\npayload x", Some((2, Why::Words))),
+        (b"fabric 1\npayload x a", Some((2, Why::Number))),
+        (b"fabric 1\npeers x", Some((2, Why::Number))),
+        (b"fabric 1\npeer x", Some((2, Why::Number))),
+        (b"fabric 1\npeer 0", Some((2, Why::Peer))),
+        (b"fabric 1\npeers 1\npeer 1", Some((3, Why::Peer))),
+        (b"fabric 1\nlane 0", Some((2, Why::Limit))),
+        (b"fabric 1\nlane 1025", Some((2, Why::Limit))),
+        (b"fabric 1\ncq 1", Some((2, Why::Limit))),
+        (b"fabric 1\nrx 4097", Some((2, Why::Limit))),
+        (b"fabric 1\ncaps FI_FENCE", Some((2, Why::NoData))),
+        (
+            b"fabric 1\ncaps FI_MSG,FI_RMA_EVENT",
+            Some((2, Why::NoData)),
+        ),
+        (b"fabric 1\ncaps FI_MSG,,FI_TAGGED", Some((2, Why::Words))),
+        (b"fabric 1\ncaps FI_NONE", Some((2, Why::Words))),
+        (b"fabric 1\ncaps", Some((2, Why::Words))),
+        (b"fabric 1\ncaps FI_MSG,FI_MSG\npeers 1", None),
+        (b"fabric 1\nlane 1\npool 1\n", Some((3, Why::Missing))),
+        (
+            b"fabric 1\npeers 1\nlane 1024\npool 1024\ntx 1024\nrx 4096\ncq 65536",
+            None,
+        ),
+        (
+            b"fabric 1\npeers 1\nlane 1\npool 1\ntx 1\nrx 1\ncq 2\nselective",
+            None,
+        ),
+    ];
+    for (text, refused) in table {
+        assert_eq!(rt; whole_refusal(rt.alloc(), text), refused);
+    }
+}
+
+/// Lines of the whole language, each the fourth line of its script. None: the script is read.
+#[test]
+fn lines_of_the_whole_language(rt: HostRuntime) -> Result<(), Fail> {
+    let table: [(&[u8], Option<Why>); 62] = [
+        (b"lane 2", Some(Why::Order)),
+        (b"wait", Some(Why::Words)),
+        (b"tsend 1 0 0x10000000000000000 text:a", Some(Why::Number)),
+        (b"trecv 1 * 0 0 33554433", Some(Why::Limit)),
+        (b"wait \xc8", Some(Why::NotText)),
+        (b"send 1 0 text:a", None),
+        (b"send 1 0 hex:6Aff data=1 level=match completion", None),
+        (
+            b"send 1 0 zero:33554432 completion level=delivery data=0x1",
+            None,
+        ),
+        (b"send 1 0 zero:33554433", Some(Why::Limit)),
+        (b"send 1 0 zero:x", Some(Why::Number)),
+        (b"send 1 0 hex:6", Some(Why::Words)),
+        (b"send 1 0 hex:6g", Some(Why::Words)),
+        (b"send 1 0 file:1:2:3", None),
+        (b"send 1 0 file:1:2", Some(Why::Words)),
+        (b"send 1 0 file:1:2:3:4", Some(Why::Words)),
+        (b"send 1 0 file:1:x:3", Some(Why::Number)),
+        (b"send 1 0 file:1:2:33554433", Some(Why::Limit)),
+        (b"send 1 0 blah", Some(Why::Words)),
+        (b"send 1 0 text:a data=1 data=2", Some(Why::Words)),
+        (b"send 1 0 text:a data=x data=2", Some(Why::Words)),
+        (b"send 1 0 text:a completion completion", Some(Why::Words)),
+        (b"send 1 0 text:a level=match level=match", Some(Why::Words)),
+        (b"send 1 0 text:a level=none", Some(Why::Words)),
+        (b"send 1 0 text:a data=x", Some(Why::Number)),
+        (b"send 1 0 text:a min=1", Some(Why::Words)),
+        (b"send x 0 blah", Some(Why::Words)),
+        (b"send x 4294967296 text:a", Some(Why::Number)),
+        (b"send 1 4294967296 text:a", Some(Why::Limit)),
+        (b"tsend 1 0 2 text: level=inject", None),
+        (b"inject 0 text:a data=5", None),
+        (b"inject 0 text:a completion", Some(Why::Words)),
+        (b"tinject 0 7 text:a data=5", None),
+        (b"recv 1 0 5", None),
+        (b"recv 1 * 5", None),
+        (b"recv 1 x 5", Some(Why::Number)),
+        (b"recv 1 4294967296 5", Some(Why::Limit)),
+        (b"trecv 1 3 7 0 5", None),
+        (b"mrecv 1 * 100 min=10", None),
+        (b"mrecv 1 * 100", None),
+        (b"mrecv 1 * 100 min=4294967296", Some(Why::Limit)),
+        (b"peek 1 * 7 0", None),
+        (b"claim 1 2 7 0", None),
+        (b"discard 1 * 7 0", None),
+        (b"take 1 5", None),
+        (b"drop 1", None),
+        (b"cancel 1", None),
+        (b"read 1 0 10 0 8", None),
+        (b"write 1 0 10 0 text:a data=1 completion", None),
+        (b"write 1 0 10 0 text:a level=match", Some(Why::Words)),
+        (b"winject 0 10 0 text:a data=1", None),
+        (b"reg 10 rw zero:8", None),
+        (b"reg 10 - zero:8", None),
+        (b"reg 10 wr zero:8", Some(Why::Words)),
+        (b"close 10", None),
+        (b"put 10 0 text:a", None),
+        (b"show 10", None),
+        (b"insert shm://0", None),
+        (b"remove 0", None),
+        (b"wait *", None),
+        (b"count remote_write", None),
+        (b"reach send 3", None),
+        (b"reach sent 3", Some(Why::Words)),
+    ];
+    for (line, why) in table {
+        let mut text = Vec::from_slice(rt.alloc(), ONE)?;
+        text.extend_from_slice(line)?;
+        assert_eq!(rt; whole_refusal(rt.alloc(), &text), why.map(|why| (4, why)));
+    }
+    Ok(())
+}
+
+#[test]
+fn settings_and_their_info(rt: HostRuntime) -> Result<(), Fail> {
+    let text =
+        b"fabric 1\ncaps FI_TAGGED,FI_SEND\ncq 2\npeers 3\ntx 5\npayload 9 name\nselective\n";
+    let script = read_in(rt.alloc(), Language::Whole, text)?;
+    let info = script.conf.info;
+    assert_eq!(rt; (info.peers, info.lane, info.tx, info.cq), (3, 64, 5, 2));
+    assert!(rt; info.caps.tagged && info.caps.send && !info.caps.recv && !info.caps.msg);
+    assert!(rt; script.conf.selective);
+    let payloads = script.payloads.as_slice();
+    assert_eq!(rt; payloads.len(), 1);
+    assert_eq!(rt; payloads[0].id, 9);
+    assert_eq!(rt; payloads[0].name.as_str(), "name");
+    Ok(())
+}
+
+/// 64 payload files, and one more.
+#[test]
+fn number_of_payloads(rt: HostRuntime) -> Result<(), Fail> {
+    let mut text = Vec::from_slice(rt.alloc(), b"fabric 1\npeers 1\n")?;
+    for id in 10..74 {
+        text.extend_from_slice(format!(in rt.alloc(); "payload {id} f\n")?.as_bytes())?;
+    }
+    assert_eq!(rt; whole_refusal(rt.alloc(), &text), None);
+    text.extend_from_slice(b"payload 9 f\n")?;
+    assert_eq!(rt; whole_refusal(rt.alloc(), &text), Some((67, Why::Limit)));
     Ok(())
 }

@@ -1,15 +1,15 @@
 //! The words of a line, and what one word says.
-ghost use Rattle.std.specs.Prelude.{◌≡◌, ◌≤◌, [], ◌∷◌, ◌^◌, MatchOption, bytes_eq, length, ◌≢◌, IfOk, IsTrue, ◌↔◌};
-ghost use Rattle.fab_script.specs.Words.{numeral_of, number_of, read_number, read_up_to, read_index, read_len, read_source, read_bytes, read_text};
+ghost use Rattle.std.specs.Prelude.{◌≡◌, ◌<◌, ◌≤◌, [], ◌∷◌, ◌^◌, MatchOption, bytes_eq, length, ◌≢◌, IfOk, IsTrue, ◌↔◌};
+ghost use Rattle.fab_script.specs.Words.{numeral_of, number_of, read_number, read_up_to, read_index, read_len, read_source, read_text};
 
 use crate::cut::cut_word;
 use crate::fault::{Fault, Read};
-use fab_base::{Buf, BytesWord, NoMemory, Text};
+use fab_base::{NoMemory, Text};
 use std::alloc::Global;
 use std::marker::Model;
 
 /// The most bytes of a line, or of a buffer.
-const BYTES_MAX: u32 = 33_554_432;
+pub(crate) const BYTES_MAX: u32 = 33_554_432;
 
 /// The words that are left of a line.
 #[derive(Drop)]
@@ -90,6 +90,16 @@ impl<'a> Words<'a> {
         Some((first, second))
     }
 
+    /// The three words that are left.
+    pub(crate) fn three(&mut self) -> Option<(&'a [u8], &'a [u8], &'a [u8])>
+        ensures { MatchOption result (length self.old ≢ 3) (λ w. self.old ≡ w.0.now ∷ w.1.now ∷ w.2.now ∷ []) }
+    {
+        let first = self.next()?;
+        let second = self.next()?;
+        let third = self.one()?;
+        Some((first, second, third))
+    }
+
     /// The four words that are left.
     pub(crate) fn four(&mut self) -> Option<(&'a [u8], &'a [u8], &'a [u8], &'a [u8])>
         ensures { MatchOption result (length self.old ≢ 4) (λ w. self.old ≡ w.0.now ∷ w.1.now ∷ w.2.now ∷ w.3.now ∷ []) }
@@ -108,6 +118,44 @@ impl<'a> Words<'a> {
     {
         let first = self.next()?;
         let (second, third, fourth, fifth) = self.four()?;
+        Some((first, second, third, fourth, fifth))
+    }
+
+    /// The first two words; the others are left.
+    pub(crate) fn first_two(&mut self) -> Option<(&'a [u8], &'a [u8])>
+        ensures { MatchOption result (length self.old < 2) (λ w. self.old ≡ w.0.now ∷ w.1.now ∷ self.new) }
+    {
+        let first = self.next()?;
+        let second = self.next()?;
+        Some((first, second))
+    }
+
+    /// The first three words; the others are left.
+    pub(crate) fn first_three(&mut self) -> Option<(&'a [u8], &'a [u8], &'a [u8])>
+        ensures { MatchOption result (length self.old < 3) (λ w. self.old ≡ w.0.now ∷ w.1.now ∷ w.2.now ∷ self.new) }
+    {
+        let first = self.next()?;
+        let (second, third) = self.first_two()?;
+        Some((first, second, third))
+    }
+
+    /// The first four words; the others are left.
+    pub(crate) fn first_four(&mut self) -> Option<(&'a [u8], &'a [u8], &'a [u8], &'a [u8])>
+        ensures { MatchOption result (length self.old < 4) (λ w. self.old ≡ w.0.now ∷ w.1.now ∷ w.2.now ∷ w.3.now ∷ self.new) }
+    {
+        let first = self.next()?;
+        let (second, third, fourth) = self.first_three()?;
+        Some((first, second, third, fourth))
+    }
+
+    /// The first five words; the others are left.
+    pub(crate) fn first_five(
+        &mut self,
+    ) -> Option<(&'a [u8], &'a [u8], &'a [u8], &'a [u8], &'a [u8])>
+        ensures { MatchOption result (length self.old < 5) (λ w. self.old ≡ w.0.now ∷ w.1.now ∷ w.2.now ∷ w.3.now ∷ w.4.now ∷ self.new) }
+    {
+        let first = self.next()?;
+        let (second, third, fourth, fifth) = self.first_four()?;
         Some((first, second, third, fourth, fifth))
     }
 
@@ -203,18 +251,6 @@ pub(crate) fn read_source(word: &[u8]) -> Result<Option<u32>, Fault>
         Ok(None)
     } else {
         Ok(Some(read_index(word)?))
-    }
-}
-
-/// `text:` and the bytes.
-#[tactic(auto, unfolding(crate::specs::Words::read_bytes))]
-pub(crate) fn read_bytes(alloc: Global, word: &[u8]) -> Result<Read<BytesWord>, NoMemory>
-    ensures { IfOk result (λ read. read ≡ read_bytes word.now) }
-{
-    match word.strip_prefix(b"text:") {
-        Some(bytes) if bytes.len() > BYTES_MAX as usize => Ok(Err(Fault::Limit)),
-        Some(bytes) => Ok(Ok(BytesWord::Text(Buf::copy(alloc, bytes)?))),
-        None => Ok(Err(Fault::Words)),
     }
 }
 
