@@ -5,6 +5,7 @@ use Rattle.fab_base.specs.declared.limits.Size.{Size}
 use Rattle.fab_script.specs.declared.fault.Fault.{Fault}
 use Rattle.fab_script.specs.declared.fault.Fault.TheVariants.{Words}
 use Rattle.fab_script.specs.Faults.{◌&◌, map_ok}
+use Rattle.fab_script.specs.Atomics.{atomic_of, fetch_of, compare_of}
 use Rattle.fab_script.specs.Sends.{send_of, tsend_of, inject_of, tinject_of, mrecv_of, write_of, winject_of}
 use Rattle.fab_script.specs.Words.{read_number, read_source, read_len}
 use Rattle.fab_script.specs.Lines.{a_trecv, trecv_of, wait_of, recv_of, look_of, take_of, number_line, remove_of, insert_of, read_of, reg_of, put_of, count_of, reach_of}
@@ -109,6 +110,43 @@ pub winject_of_other : (args : List (List ℕ)) → length args < 4 → winject_
 unfolding winject_of
 winject_of_other (a ∷ b ∷ c ∷ d ∷ options) h = absurd (omega arith)
 winject_of_other _ h = refl
+
+-- atomics: less than four words, or another number after these
+pub atomic_of_other : (args : List (List ℕ)) → length args < 4 → atomic_of args ≡ Err Words
+unfolding atomic_of
+atomic_of_other (a ∷ b ∷ c ∷ d ∷ rest) h = absurd (omega arith)
+atomic_of_other _ h = refl
+
+pub atomic_of_short : (a b c d : List ℕ) (rest : List (List ℕ)) → length rest < 3 → atomic_of (a ∷ b ∷ c ∷ d ∷ rest) ≡ Err Words
+unfolding atomic_of
+atomic_of_short a b c d (e ∷ f ∷ g ∷ more) h = absurd (omega arith)
+atomic_of_short a b c d _ h = refl
+
+pub ruleset atomic_other = (atomic_of_other, atomic_of_short)
+
+pub fetch_of_other : (args : List (List ℕ)) → length args < 4 → fetch_of args ≡ Err Words
+unfolding fetch_of
+fetch_of_other (a ∷ b ∷ c ∷ d ∷ rest) h = absurd (omega arith)
+fetch_of_other _ h = refl
+
+pub fetch_of_rest : (a b c d : List ℕ) (rest : List (List ℕ)) → length rest ≢ 3 → fetch_of (a ∷ b ∷ c ∷ d ∷ rest) ≡ Err Words
+unfolding fetch_of
+fetch_of_rest a b c d (e ∷ f ∷ g ∷ []) h = absurd (h (omega arith))
+fetch_of_rest a b c d _ h = refl
+
+pub ruleset fetch_other = (fetch_of_other, fetch_of_rest)
+
+pub compare_of_other : (args : List (List ℕ)) → length args < 4 → compare_of args ≡ Err Words
+unfolding compare_of
+compare_of_other (a ∷ b ∷ c ∷ d ∷ rest) h = absurd (omega arith)
+compare_of_other _ h = refl
+
+pub compare_of_rest : (a b c d : List ℕ) (rest : List (List ℕ)) → length rest ≢ 4 → compare_of (a ∷ b ∷ c ∷ d ∷ rest) ≡ Err Words
+unfolding compare_of
+compare_of_rest a b c d (e ∷ f ∷ g ∷ i ∷ []) h = absurd (h (omega arith))
+compare_of_rest a b c d _ h = refl
+
+pub ruleset compare_other = (compare_of_other, compare_of_rest)
 
 pub size_of_other : (size : Size) (args : List (List ℕ)) → length args ≢ 1 → size_of size args ≡ Err Words
 unfolding size_of

@@ -1,3 +1,4 @@
+pub mod Atomics
 pub mod Before
 pub mod Bytes
 pub mod Capabilities

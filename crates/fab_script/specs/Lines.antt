@@ -12,6 +12,7 @@ use Rattle.fab_script.specs.declared.fault.Fault.{Fault}
 use Rattle.fab_script.specs.declared.fault.Fault.TheVariants.{Words}
 use Rattle.fab_script.specs.declared.verbs.Verb.{Verb}
 use Rattle.fab_script.specs.declared.verbs.Verb.TheVariants as verb
+use Rattle.fab_script.specs.Atomics.{atomic_of, fetch_of, compare_of}
 use Rattle.fab_script.specs.Bytes.{read_bytes, bytes_size}
 use Rattle.fab_script.specs.Faults.{◌&◌, map_ok}
 use Rattle.fab_script.specs.Sends.{read_target, send_of, tsend_of, inject_of, tinject_of, mrecv_of, write_of, winject_of}
@@ -179,6 +180,9 @@ op_of verb.Take args = take_of args
 op_of verb.DropClaimed args = map_ok op.DropClaimed (number_line args)
 op_of verb.Cancel args = map_ok op.Cancel (number_line args)
 op_of verb.Read args = read_of args
+op_of verb.Atomic args = atomic_of args
+op_of verb.Fetch args = fetch_of args
+op_of verb.Compare args = compare_of args
 op_of verb.Reg args = reg_of args
 op_of verb.Close args = map_ok op.Close (number_line args)
 op_of verb.Put args = put_of args

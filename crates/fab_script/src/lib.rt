@@ -9,6 +9,7 @@
 //! cause.rt.
 #![tactic(auto)]
 
+mod atomics;
 mod bytes;
 mod capabilities;
 mod cut;

@@ -3,6 +3,7 @@ ghost use Rattle.std.specs.Prelude.{◌≡◌, IfOk, Ok};
 ghost use Rattle.fab_script.specs.Faults.{map_ok};
 ghost use Rattle.fab_script.specs.Lines.{recv_of, trecv_of, look_of, a_peek, a_claim, a_discard, take_of, number_line, remove_of, insert_of, read_of, read_rights, reg_of, put_of, wait_of, class_name, class_named, read_class, count_of, reach_of, op_of};
 
+use crate::atomics::{atomic, compare, fetch};
 use crate::bytes::read_bytes;
 use crate::fault::{Fault, Read, both};
 use crate::sends::{inject, mrecv, read_target, send, tinject, tsend, winject, write};
@@ -298,6 +299,9 @@ pub(crate) fn read_op(alloc: Global, verb: Verb, args: &mut Words) -> Result<Rea
         Verb::TInject => tinject(alloc, args),
         Verb::Write => write(alloc, args),
         Verb::WInject => winject(alloc, args),
+        Verb::Atomic => atomic(alloc, args),
+        Verb::Fetch => fetch(alloc, args),
+        Verb::Compare => compare(alloc, args),
         Verb::Reg => reg(alloc, args),
         Verb::Put => put(alloc, args),
         Verb::Insert => insert(alloc, args),

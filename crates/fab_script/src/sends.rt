@@ -35,7 +35,12 @@ fn read_tagged(ctx: &[u8], dest: &[u8], tag: &[u8]) -> Read<((u64, u32), u64)>
 
 /// `C D KEY AT`.
 #[tactic(auto, unfolding(crate::specs::Sends::read_remote))]
-fn read_remote(ctx: &[u8], dest: &[u8], key: &[u8], at: &[u8]) -> Read<(u64, ((u32, u64), u64))>
+pub(crate) fn read_remote(
+    ctx: &[u8],
+    dest: &[u8],
+    key: &[u8],
+    at: &[u8],
+) -> Read<(u64, ((u32, u64), u64))>
     ensures { result ≡ read_remote ctx.now dest.now key.now at.now }
 {
     both(read_number(ctx), read_target(dest, key, at))

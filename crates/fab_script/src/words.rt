@@ -176,7 +176,7 @@ pub(crate) fn is(word: &[u8], name: &str) -> bool
 
 /// The number that digits of this radix say, where there are one or more, at most `most`, and it is below 2^64.
 #[tactic(auto, using(crate::proofs::NumberLemmas::no_number))]
-fn numeral(radix: u32, most: usize, digits: &[u8]) -> Option<u64>
+pub(crate) fn numeral(radix: u32, most: usize, digits: &[u8]) -> Option<u64>
     requires least { 2 ≤ radix }
     requires greatest { radix ≤ 36 }
     ensures { result ≡ numeral_of radix most digits.now }
@@ -215,7 +215,7 @@ pub(crate) fn read_number(word: &[u8]) -> Result<u64, Fault>
 
 /// A number of at most `most`.
 #[tactic(auto, unfolding(crate::specs::Words::read_up_to))]
-fn read_up_to(most: u32, word: &[u8]) -> Result<u32, Fault>
+pub(crate) fn read_up_to(most: u32, word: &[u8]) -> Result<u32, Fault>
     ensures { result ≡ read_up_to most word.now }
 {
     let number = read_number(word)?;
