@@ -377,7 +377,34 @@ fn reasons_in_their_order(rt: HostRuntime) {
 /// Lines of the whole language, each the fourth line of its script. None: the script is read.
 #[test]
 fn lines_of_the_whole_language(rt: HostRuntime) -> Result<(), Fail> {
-    let table: [(&[u8], Option<Why>); 62] = [
+    let table: [(&[u8], Option<Why>); 83] = [
+        (b"atomic 1 0 1 0 FI_SUM u8 256", Some(Why::Number)),
+        (b"atomic 1 0 1 0 FI_SUM u8 255,0", None),
+        (b"atomic 1 0 1 0 FI_SUM u8 255 completion", None),
+        (b"atomic 1 0 1 0 FI_SUM u8 -1", Some(Why::Number)),
+        (b"atomic 1 0 1 0 FI_SUM u8 0x1", Some(Why::Number)),
+        (b"atomic 1 0 1 0 FI_SUM u8 1,", Some(Why::Number)),
+        (b"atomic 1 0 1 0 FI_SUM i8 -128,127,-0", None),
+        (b"atomic 1 0 1 0 FI_SUM i8 -129", Some(Why::Number)),
+        (b"atomic 1 0 1 0 FI_SUM i8 128", Some(Why::Number)),
+        (b"atomic 1 0 1 0 FI_SUM i64 -9223372036854775808", None),
+        (
+            b"atomic 1 0 1 0 FI_SUM u64 18446744073709551616",
+            Some(Why::Number),
+        ),
+        (b"atomic 1 0 1 0 FI_SUM u9 1", Some(Why::Words)),
+        (b"atomic x 0 1 0 FI_NONE u8 1", Some(Why::Words)),
+        (b"atomic 1 0 1 0 FI_SUM u8", Some(Why::Words)),
+        (b"fetch 1 0 1 0 FI_SUM u8 *3", Some(Why::Number)),
+        (b"fetch 1 0 1 0 FI_ATOMIC_READ u8 3", Some(Why::Words)),
+        (b"fetch 1 0 1 0 FI_ATOMIC_READ u8 *x", Some(Why::Number)),
+        (b"fetch 1 0 1 0 FI_ATOMIC_READ u8 *4194304", None),
+        (
+            b"fetch 1 0 1 0 FI_ATOMIC_READ u8 *4194305",
+            Some(Why::Limit),
+        ),
+        (b"compare 1 0 1 0 FI_CSWAP u32 1,2 3,4", None),
+        (b"compare 1 0 1 0 FI_CSWAP u32 1,2", Some(Why::Words)),
         (b"lane 2", Some(Why::Order)),
         (b"wait", Some(Why::Words)),
         (b"tsend 1 0 0x10000000000000000 text:a", Some(Why::Number)),
@@ -478,5 +505,27 @@ fn number_of_payloads(rt: HostRuntime) -> Result<(), Fail> {
     assert_eq!(rt; whole_refusal(rt.alloc(), &text), None);
     text.extend_from_slice(b"payload 9 f\n")?;
     assert_eq!(rt; whole_refusal(rt.alloc(), &text), Some((67, Why::Limit)));
+    Ok(())
+}
+
+/// Elements are little-endian, in two's complement: the bytes are worked out by hand.
+#[test]
+fn elements_of_an_atomic(rt: HostRuntime) -> Result<(), Fail> {
+    let mut text = Vec::from_slice(rt.alloc(), ONE)?;
+    text.extend_from_slice(b"atomic 1 0 1 0 FI_SUM i16 -2,300\n")?;
+    let script = read_in(rt.alloc(), Language::Whole, &text)?;
+    let lines = script.peers.as_slice()[0].as_slice();
+    match &lines[0].op {
+        LineOp::Atomic {
+            values,
+            completion,
+            ..
+        } => {
+            let bytes: &[u8] = b"\xfe\xff\x2c\x01";
+            assert_eq!(rt; values.as_slice(), bytes);
+            assert!(rt; !*completion);
+        }
+        _ => return Err("the line is an atomic".into()),
+    }
     Ok(())
 }
