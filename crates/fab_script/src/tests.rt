@@ -514,13 +514,16 @@ fn elements_of_an_atomic(rt: HostRuntime) -> Result<(), Fail> {
     let mut text = Vec::from_slice(rt.alloc(), ONE)?;
     text.extend_from_slice(b"atomic 1 0 1 0 FI_SUM i16 -2,300\n")?;
     let script = read_in(rt.alloc(), Language::Whole, &text)?;
-    let lines = script.peers.as_slice()[0].as_slice();
-    match &lines[0].op {
-        LineOp::Atomic {
-            values,
-            completion,
-            ..
-        } => {
+    let lines = script.peers.as_slice().first();
+    let line = lines.and_then(|lines| lines.as_slice().first());
+    match line.map(|line| &line.op) {
+        Some(
+            LineOp::Atomic {
+                values,
+                completion,
+                ..
+            },
+        ) => {
             let bytes: &[u8] = b"\xfe\xff\x2c\x01";
             assert_eq!(rt; values.as_slice(), bytes);
             assert!(rt; !*completion);
