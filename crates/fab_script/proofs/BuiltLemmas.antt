@@ -19,40 +19,40 @@ use Rattle.fab_base.specs.declared.caps.Info.{Info}
 use Rattle.fab_base.specs.declared.limits.Size.TheVariants as size
 use Rattle.fab_model.specs.Negotiation.{is_refused, granted_info, grant_of, grant}
 use Rattle.fab_model.specs.Negotiation.{size_of as granted_size}
-use Rattle.fab_script.specs.declared.fault.Fault.{Fault}
-use Rattle.fab_script.specs.declared.fault.Fault.TheVariants.{Words, Limit}
-use Rattle.fab_script.specs.declared.items.Item.{Item}
-use Rattle.fab_script.specs.declared.items.Item.TheVariants.{Peer, Does}
-use Rattle.fab_script.specs.declared.language.Form.{Form}
-use Rattle.fab_script.specs.declared.language.Form.TheVariants.{Line as LineForm, Index, Any, Long, Hex as HexForm, Zero as ZeroForm, File as FileForm, Data, Level as LevelForm, Completion as CompletionForm}
-use Rattle.fab_script.specs.declared.language.Language.TheVariants.{Built}
-use Rattle.fab_script.specs.declared.settings.Setting.{Setting}
-use Rattle.fab_script.specs.declared.settings.Setting.TheVariants.{Peers, Wish, Capabilities, Selective, File}
-use Rattle.fab_script.specs.declared.verbs.Kind.{Kind}
-use Rattle.fab_script.specs.declared.verbs.Kind.TheVariants as kind
-use Rattle.fab_script.specs.declared.verbs.Verb.{Verb}
-use Rattle.fab_script.specs.declared.verbs.Verb.TheVariants as verb
-use Rattle.fab_script.specs.Before.{Before, nothing, until_peer, part_of, parts_of}
-use Rattle.fab_script.specs.Conf.{conf_of}
-use Rattle.fab_script.specs.Faults.{◌&◌, map_ok}
-use Rattle.fab_script.specs.Grammar.{Refusal, read_lines, script_with, granted, of_peers, script_said, then_script, verdict, script_of}
-use Rattle.fab_script.specs.Language.{has, has_form, optional_forms, form_of_word, source_form, wait_form, is_any, is_built}
-use Rattle.fab_script.specs.Sends.{a_tsend, read_tagged, for_send, tsend_of}
-use Rattle.fab_script.specs.Options.{are_options, value_after, read_if, level_after, level_in, the_options, read_options}
-use Rattle.fab_script.specs.declared.options.Allowed.{Allowed}
-use Rattle.fab_script.specs.declared.options.Options.{Options}
-use Rattle.fab_script.specs.Lines.{a_trecv, trecv_of, wait_of, op_of}
+use Rattle.fab_words.specs.declared.fault.Fault.{Fault}
+use Rattle.fab_words.specs.declared.fault.Fault.TheVariants.{Words, Limit}
+use Rattle.fab_grammar.specs.declared.items.Item.{Item}
+use Rattle.fab_grammar.specs.declared.items.Item.TheVariants.{Peer, Does}
+use Rattle.fab_grammar.specs.declared.language.Form.{Form}
+use Rattle.fab_grammar.specs.declared.language.Form.TheVariants.{Line as LineForm, Index, Any, Long, Hex as HexForm, Zero as ZeroForm, File as FileForm, Data, Level as LevelForm, Completion as CompletionForm}
+use Rattle.fab_grammar.specs.declared.language.Language.TheVariants.{Built}
+use Rattle.fab_grammar.specs.declared.settings.Setting.{Setting}
+use Rattle.fab_grammar.specs.declared.settings.Setting.TheVariants.{Peers, Wish, Capabilities, Selective, File}
+use Rattle.fab_grammar.specs.declared.verbs.Kind.{Kind}
+use Rattle.fab_grammar.specs.declared.verbs.Kind.TheVariants as kind
+use Rattle.fab_grammar.specs.declared.verbs.Verb.{Verb}
+use Rattle.fab_grammar.specs.declared.verbs.Verb.TheVariants as verb
+use Rattle.fab_grammar.specs.Before.{Before, nothing, until_peer, part_of, parts_of}
+use Rattle.fab_grammar.specs.Conf.{conf_of}
+use Rattle.fab_words.specs.Faults.{◌&◌, map_ok}
+use Rattle.fab_grammar.specs.Grammar.{Refusal, read_lines, script_with, granted, of_peers, script_said, then_script, verdict, script_of}
+use Rattle.fab_grammar.specs.Language.{has, has_form, optional_forms, form_of_word, source_form, wait_form, is_any, is_built}
+use Rattle.fab_grammar.specs.Sends.{a_tsend, read_tagged, for_send, tsend_of}
+use Rattle.fab_grammar.specs.Options.{are_options, value_after, read_if, level_after, level_in, the_options, read_options}
+use Rattle.fab_grammar.specs.declared.options.Allowed.{Allowed}
+use Rattle.fab_grammar.specs.declared.options.Options.{Options}
+use Rattle.fab_grammar.specs.Lines.{a_trecv, trecv_of, wait_of, op_of}
 use Rattle.fab_script.specs.declared.refused.ParseRefused.{ParseRefused}
 use Rattle.fab_script.specs.Refused.{IsVerdict}
-use Rattle.fab_script.specs.Rows.{is_text, words_of, lines_of}
-use Rattle.fab_script.specs.Rules.{Rules, is_header, header_rules, kind_rules, verb_rules, word_rules, why_of, with_setting, with_peer, with_call, with_kind, with_verb, with_words, with_line}
-use Rattle.fab_script.specs.Settings.{setting_of, peer_of, hints_of}
-use Rattle.fab_script.specs.Verbs.{verb_of, kind_of}
-use Rattle.fab_script.specs.Words.{first_of, only_if, begins_with, read_number, read_index, read_len, read_source}
-use Rattle.fab_script.specs.Bytes.{few_bytes, of_hex, file_range, is_colon, read_bytes}
+use Rattle.fab_words.specs.Rows.{is_text, words_of, lines_of}
+use Rattle.fab_grammar.specs.Rules.{Rules, is_header, header_rules, kind_rules, verb_rules, word_rules, why_of, with_setting, with_peer, with_call, with_kind, with_verb, with_words, with_line}
+use Rattle.fab_grammar.specs.Settings.{setting_of, peer_of, hints_of}
+use Rattle.fab_grammar.specs.Verbs.{verb_of, kind_of}
+use Rattle.fab_words.specs.Words.{first_of, only_if, begins_with, read_number, read_index, read_len, read_source}
+use Rattle.fab_words.specs.Bytes.{few_bytes, of_hex, file_range, is_colon, read_bytes}
 use Rattle.hex.specs.Hex.{decode_of}
-use Rattle.fab_script.proofs.PartLemmas.{and_true}
-use Rattle.fab_script.proofs.RuleLemmas.{rest_of, first_fails}
+use Rattle.fab_grammar.proofs.PartLemmas.{and_true}
+use Rattle.fab_grammar.proofs.RuleLemmas.{rest_of, first_fails}
 
 -- ---- what both words say, each says
 both_said : {A B : Type 0} (a : Result A Fault) (b : Result B Fault) (x : A) (y : B) → (a & b) ≡ Ok (x, y) → (a ≡ Ok x) × (b ≡ Ok y)

@@ -6,18 +6,18 @@ use Rattle.fab_base.specs.declared.caps.Info.{Info}
 use Rattle.fab_base.specs.declared.status.Why.{Why}
 use Rattle.fab_base.specs.declared.status.Why.TheVariants as why
 use Rattle.fab_model.specs.Negotiation.{grant}
-use Rattle.fab_script.specs.Conf.{conf_of}
-use Rattle.fab_script.specs.Settings.{hints_of}
-use Rattle.fab_script.specs.declared.language.Language.{Language}
+use Rattle.fab_grammar.specs.Conf.{conf_of}
+use Rattle.fab_grammar.specs.Settings.{hints_of}
+use Rattle.fab_grammar.specs.declared.language.Language.{Language}
 use Rattle.fab_script.specs.declared.reader.Reader.{Reader}
 use Rattle.fab_script.specs.declared.refused.Refused.TheVariants.{Why as Because}
-use Rattle.fab_script.specs.Before.{Before, nothing, parts_of}
-use Rattle.fab_script.specs.Rows.{lines_of}
-use Rattle.fab_script.specs.Rules.{is_late, why_of, with_line}
+use Rattle.fab_grammar.specs.Before.{Before, nothing, parts_of}
+use Rattle.fab_words.specs.Rows.{lines_of}
+use Rattle.fab_grammar.specs.Rules.{is_late, why_of, with_line}
 use Rattle.std.proofs.lemmas.Bool.Decides.{nat_tests}
-use Rattle.fab_script.proofs.RuleLemmas.{in_time}
+use Rattle.fab_grammar.proofs.RuleLemmas.{in_time}
 use Rattle.fab_script.specs.Parts.{Holds, Answers}
-use Rattle.fab_script.specs.Grammar.{script_with, granted, of_peers, read_lines, verdict, then_script, script_said, Refusal}
+use Rattle.fab_grammar.specs.Grammar.{script_with, granted, of_peers, read_lines, verdict, then_script, script_said, Refusal}
 
 -- The lines before are taken: what they say, which the reader has, and what the lines that are left make of it.
 pub record Progress (language : Language) (bytes : List ℕ) (left : ℕ × List (List ℕ)) (reader : Reader) : Type 0 where

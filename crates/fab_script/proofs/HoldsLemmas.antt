@@ -5,13 +5,13 @@ use Rattle.std.proofs.lemmas.List.{map-set, map-append, same_lists}
 use Rattle.std.proofs.Math.ListN.{get_or-map}
 use Rattle.std.proofs.lemmas.List.FromFn.{length-map-range_with_len, get_or-map-range_with_len, map-range_with_len_more}
 use Rattle.fab_base.specs.declared.script.Line.{Line}
-use Rattle.fab_script.specs.declared.items.Item.{Item}
-use Rattle.fab_script.specs.declared.items.Item.TheVariants.{Peer, Does}
+use Rattle.fab_grammar.specs.declared.items.Item.{Item}
+use Rattle.fab_grammar.specs.declared.items.Item.TheVariants.{Peer, Does}
 use Rattle.fab_script.specs.declared.parts.Parts.{Parts}
-use Rattle.fab_script.specs.Lines.{op_size}
-use Rattle.fab_script.specs.Before.{opened_by, part_of, parts_of, size_of}
-use Rattle.fab_script.specs.Parts.{HoldsParts, is_distinct}
-use Rattle.fab_script.proofs.PartLemmas.{opened_by-append, distinct_push}
+use Rattle.fab_grammar.specs.Lines.{op_size}
+use Rattle.fab_grammar.specs.Before.{is_distinct, opened_by, part_of, parts_of, size_of}
+use Rattle.fab_script.specs.Parts.{HoldsParts}
+use Rattle.fab_grammar.proofs.PartLemmas.{opened_by-append, distinct_push}
 use Rattle.fab_script.proofs.ItemLemmas.{sum_open, parts_of_open, parts_of_add, part_of_none, last_at, opened_add, sum_add}
 
 pub holds_open : (n k : ℕ) (old new : Parts) (xs : List Item) → HoldsParts n old xs → new.lines ≡ old.lines → new.opened.items ≡ old.opened.items ++ k ∷ [] → new.size ≡ old.size → list_any (λ j. eqb j k) old.opened.items ≡ false → HoldsParts n new (xs ++ Peer k ∷ [])

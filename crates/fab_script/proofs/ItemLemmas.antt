@@ -11,12 +11,11 @@ use Rattle.std.proofs.lemmas.Bool.Decides.{nat_tests}
 use Rattle.std.proofs.lemmas.List.Folds.{list_all-append}
 use Rattle.std.proofs.lemmas.List.Sums.{sum_by-append}
 use Rattle.fab_base.specs.declared.script.Line.{Line}
-use Rattle.fab_script.specs.declared.items.Item.{Item}
-use Rattle.fab_script.specs.declared.items.Item.TheVariants.{Peer, Does}
-use Rattle.fab_script.specs.Lines.{op_size}
-use Rattle.fab_script.specs.Before.{opened_by, until_peer, part_of, parts_of, size_of}
-use Rattle.fab_script.specs.Parts.{is_distinct}
-use Rattle.fab_script.proofs.PartLemmas.{or_false, opened_by-append, distinct_first}
+use Rattle.fab_grammar.specs.declared.items.Item.{Item}
+use Rattle.fab_grammar.specs.declared.items.Item.TheVariants.{Peer, Does}
+use Rattle.fab_grammar.specs.Lines.{op_size}
+use Rattle.fab_grammar.specs.Before.{is_distinct, opened_by, part_of, parts_of, size_of, until_peer}
+use Rattle.fab_grammar.proofs.PartLemmas.{or_false, opened_by-append, distinct_first}
 
 -- `peer K` at the end: no part changes
 until_peer_open : (xs : List Item) (k : ℕ) → until_peer (xs ++ Peer k ∷ []) ≡ until_peer xs

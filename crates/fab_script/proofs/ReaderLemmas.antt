@@ -5,29 +5,29 @@ use Rattle.std.specs.List.{list_any}
 use Rattle.fab_base.specs.declared.script.LineOp.{LineOp}
 use Rattle.fab_base.specs.declared.status.Why.{Why}
 use Rattle.fab_base.specs.declared.status.Why.TheVariants as why
-use Rattle.fab_script.specs.declared.fault.Fault.{Fault}
-use Rattle.fab_script.specs.declared.fault.Fault.TheVariants.{Words, Number, Limit}
-use Rattle.fab_script.specs.declared.items.Item.{Item}
-use Rattle.fab_script.specs.declared.language.Language.{Language}
-use Rattle.fab_script.specs.Rows.{is_text, words_of}
+use Rattle.fab_words.specs.declared.fault.Fault.{Fault}
+use Rattle.fab_words.specs.declared.fault.Fault.TheVariants.{Words, Number, Limit}
+use Rattle.fab_grammar.specs.declared.items.Item.{Item}
+use Rattle.fab_grammar.specs.declared.language.Language.{Language}
+use Rattle.fab_words.specs.Rows.{is_text, words_of}
 use Rattle.fab_script.specs.declared.reader.Reader.{Reader}
 use Rattle.fab_script.specs.declared.refused.Refused.{Refused}
 use Rattle.fab_script.specs.declared.refused.Refused.TheVariants.{Why as Because}
-use Rattle.fab_script.specs.declared.settings.Setting.{Setting}
-use Rattle.fab_script.specs.declared.settings.Setting.TheVariants.{Peers, Wish, Capabilities, Selective, File}
-use Rattle.fab_script.specs.declared.settings.Settings.{Settings}
+use Rattle.fab_grammar.specs.declared.settings.Setting.{Setting}
+use Rattle.fab_grammar.specs.declared.settings.Setting.TheVariants.{Peers, Wish, Capabilities, Selective, File}
+use Rattle.fab_grammar.specs.declared.settings.Settings.{Settings}
 use Rattle.fab_base.specs.declared.caps.Caps.{Caps}
 use Rattle.fab_base.specs.declared.limits.Size.{Size}
 use Rattle.fab_base.specs.declared.limits.Size.TheVariants as size
-use Rattle.fab_script.specs.Capabilities.{caps_of}
-use Rattle.fab_script.specs.declared.verbs.Verb.{Verb}
-use Rattle.fab_script.specs.declared.verbs.Verb.TheVariants as verb
-use Rattle.fab_script.specs.Faults.{map_ok, ◌&◌}
-use Rattle.fab_script.specs.Before.{Before, has_opened, opened_by}
-use Rattle.fab_script.specs.Lines.{op_of}
-use Rattle.fab_script.specs.Settings.{a_file, size_of, caps_setting, selective_setting, payload_setting, wish_of, setting_of, peer_of}
-use Rattle.fab_script.specs.Words.{first_of, number_of, read_number, read_text}
-use Rattle.fab_script.specs.Rules.{why_from, is_late, is_set, is_fresh, is_one_too_many, is_refused, setting_rules, with_setting, names_one, is_again, is_no_peer, peer_rules, is_too_much, call_rules, word_rules, with_words, why_of, with_line}
+use Rattle.fab_grammar.specs.Capabilities.{caps_of}
+use Rattle.fab_grammar.specs.declared.verbs.Verb.{Verb}
+use Rattle.fab_grammar.specs.declared.verbs.Verb.TheVariants as verb
+use Rattle.fab_words.specs.Faults.{map_ok, ◌&◌}
+use Rattle.fab_grammar.specs.Before.{Before, has_opened, opened_by}
+use Rattle.fab_grammar.specs.Lines.{op_of}
+use Rattle.fab_grammar.specs.Settings.{a_file, size_of, caps_setting, selective_setting, payload_setting, wish_of, setting_of, peer_of}
+use Rattle.fab_words.specs.Words.{first_of, number_of, read_number, read_text}
+use Rattle.fab_grammar.specs.Rules.{why_from, is_late, is_set, is_fresh, is_one_too_many, is_refused, setting_rules, with_setting, names_one, is_again, is_no_peer, peer_rules, is_too_much, call_rules, word_rules, with_words, why_of, with_line}
 use Rattle.fab_script.specs.Parts.{Answers, Holds}
 
 pub answers_err : (rules : Option Why) (after : Before) (reader : Reader) (result : Result (Unit {0}) Refused) (why : Why) → result ≡ Err (Because why) → rules ≡ Some why → Answers rules after reader result

@@ -2,19 +2,14 @@
 --     HoldsParts n parts items      of n peers, the parts have what these items say
 --     Holds reader before           the reader has what the lines before say
 --     Answers why after reader result      the reader takes a line that breaks no rule, and refuses one that breaks this rule
-use Rattle.std.specs.Prelude.{◌≡◌, ℕ, Bool, true, false, not, ◌&&◌, ◌==◌, ◌∷◌, [], List, Option, Some, None, map, sum_by, vec_len, Result, Ok, Err}
-use Rattle.std.specs.List.{list_any}
+use Rattle.std.specs.Prelude.{◌≡◌, ℕ, true, List, Option, Some, None, map, sum_by, vec_len, Result, Ok, Err}
 use Rattle.fab_base.specs.declared.status.Why.{Why}
-use Rattle.fab_script.specs.declared.items.Item.{Item}
+use Rattle.fab_grammar.specs.declared.items.Item.{Item}
 use Rattle.fab_script.specs.declared.parts.Parts.{Parts}
 use Rattle.fab_script.specs.declared.reader.Reader.{Reader}
 use Rattle.fab_script.specs.declared.refused.Refused.{Refused}
 use Rattle.fab_script.specs.declared.refused.Refused.TheVariants as refused
-use Rattle.fab_script.specs.Before.{Before, count_in, opened_by, parts_of, size_of}
-
-abbrev pub is_distinct : List ℕ → Bool
-is_distinct [] = true
-is_distinct (k ∷ ks) = not (list_any (λ j. j == k) ks) && is_distinct ks
+use Rattle.fab_grammar.specs.Before.{Before, count_in, is_distinct, opened_by, parts_of, size_of}
 
 pub record HoldsParts (n : ℕ) (parts : Parts) (items : List Item) : Type 0 where
   pub count : vec_len parts.lines ≡ n

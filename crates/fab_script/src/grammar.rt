@@ -1,24 +1,24 @@
 //! From the bytes of a file to its script.
 ghost use Rattle.std.specs.Prelude.{◌≡◌, ◌<◌, true, Some, None, map, IfOk, IfErr};
 ghost use Rattle.fab_base.specs.Built.{all_built};
-ghost use Rattle.fab_script.specs.Before.{Before};
-ghost use Rattle.fab_script.specs.Grammar.{script_with, script_said, verdict, script_of, refusal_of};
+ghost use Rattle.fab_grammar.specs.Before.{Before};
+ghost use Rattle.fab_grammar.specs.Grammar.{script_with, script_said, verdict, script_of, refusal_of};
 ghost use Rattle.fab_script.specs.Parts.{Holds};
 ghost use Rattle.fab_script.specs.Refused.{IsScript, IsRefusal, IsVerdict};
-ghost use Rattle.fab_script.specs.declared.language.Language.TheVariants.{Built};
+ghost use Rattle.fab_grammar.specs.declared.language.Language.TheVariants.{Built};
 
-use crate::language::Language;
+use fab_grammar::Language;
 use crate::parts::Parts;
 use crate::reader::Reader;
 use crate::refused::{ParseRefused, Refused};
-use crate::rows::Lines;
+use fab_words::Lines;
 use fab_base::{Conf, Line, List, NoMemory, Payload, Script, Why};
 use fab_info::getinfo;
 use std::alloc::Global;
 
 /// Reads a script (docs/SCRIPT.md). An `Err` that is not `NoMemory` says that the text is no script; it
 /// names the first line that breaks a rule, and the first rule that this line breaks.
-#[tactic(auto, unfolding(crate::specs::Grammar::script_of, crate::specs::Grammar::refusal_of))]
+#[tactic(auto, unfolding(fab_grammar::specs::Grammar::script_of, fab_grammar::specs::Grammar::refusal_of))]
 pub fn parse(alloc: Global, bytes: &[u8]) -> Result<Script, ParseRefused>
     ensures script { IfOk result (λ script. script_of bytes.now ≡ Some script) }
     ensures refused { IfErr result (λ e. IsScript e → script_of bytes.now ≡ None) }

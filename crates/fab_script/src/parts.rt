@@ -1,8 +1,8 @@
 //! The lines of each peer, as they are gathered.
 ghost use Rattle.std.specs.Prelude.{◌≡◌, ◌<◌, ◌≤◌, ◌+◌, ◌∷◌, [], ◌++◌, ◌==◌, ℕ, List, false, nat_lt, All, IfOk, vec_len};
-ghost use Rattle.fab_script.specs.Lines.{op_size};
+ghost use Rattle.fab_grammar.specs.Lines.{op_size};
 
-use crate::bytes::bytes_size;
+use fab_words::bytes_size;
 use fab_base::{Line, LineOp, NoMemory};
 use std::alloc::Global;
 
@@ -21,10 +21,10 @@ pub(crate) struct Parts {
 
 impl Parts {
     ghost use Rattle.std.specs.List.{list_any};
-    ghost use Rattle.fab_script.specs.Before.{is_filled, opened_by};
+    ghost use Rattle.fab_grammar.specs.Before.{is_filled, opened_by};
     ghost use Rattle.fab_script.specs.Parts.{HoldsParts};
-    ghost use Rattle.fab_script.specs.declared.items.Item.{Item};
-    ghost use Rattle.fab_script.specs.declared.items.Item.TheVariants.{Peer, Does};
+    ghost use Rattle.fab_grammar.specs.declared.items.Item.{Item};
+    ghost use Rattle.fab_grammar.specs.declared.items.Item.TheVariants.{Peer, Does};
 
     /// No peer and no line.
     pub(crate) fn new(alloc: Global) -> Parts

@@ -1,26 +1,21 @@
 //! The lines of a file, taken one after another.
 ghost use Rattle.std.specs.Prelude.{◌≡◌, ◌==◌, ℕ, List, [], ◌∷◌, true, false, MatchResult};
 ghost use Rattle.std.specs.List.{list_any};
-ghost use Rattle.fab_script.specs.Before.{Before, nothing, has_opened};
+ghost use Rattle.fab_grammar.specs.Before.{Before, nothing, has_opened};
 ghost use Rattle.fab_script.specs.Parts.{Holds, Answers};
-ghost use Rattle.fab_script.specs.Words.{first_of};
-ghost use Rattle.fab_script.specs.Rules.{is_late, is_header, is_set, is_fresh, is_again, is_declared, is_one_too_many, is_refused, setting_rules, peer_rules, call_rules, word_rules, verb_rules, why_of, with_setting, with_peer, with_call, with_verb, with_words, with_line};
-ghost use Rattle.fab_script.specs.Settings.{setting_of, peer_of};
-ghost use Rattle.fab_script.specs.Lines.{op_of};
-ghost use Rattle.fab_script.specs.Verbs.{verb_of};
+ghost use Rattle.fab_words.specs.Words.{first_of};
+ghost use Rattle.fab_grammar.specs.Rules.{is_late, is_header, is_set, is_fresh, is_again, is_declared, is_one_too_many, is_refused, setting_rules, peer_rules, call_rules, word_rules, verb_rules, why_of, with_setting, with_peer, with_call, with_verb, with_words, with_line};
+ghost use Rattle.fab_grammar.specs.Settings.{setting_of, peer_of};
+ghost use Rattle.fab_grammar.specs.Lines.{op_of};
+ghost use Rattle.fab_grammar.specs.Verbs.{verb_of};
 ghost use Rattle.fab_base.specs.declared.status.Why.TheVariants.{Limit};
 ghost use Rattle.fab_script.specs.declared.refused.Refused.TheVariants.{Why as Because};
-ghost use Rattle.fab_script.specs.declared.language.Language.{Language};
+ghost use Rattle.fab_grammar.specs.declared.language.Language.{Language};
 
-use crate::fault::Fault;
-use crate::language::Language;
-use crate::lines::read_op;
+use fab_words::{Fault, Words, all_text, is, number};
+use fab_grammar::{Kind, Language, Setting, Settings, Verb, asking, read_op, read_peer, read_setting};
 use crate::parts::Parts;
 use crate::refused::Refused;
-use crate::rows::all_text;
-use crate::settings::{Setting, Settings, asking, read_peer, read_setting};
-use crate::verbs::{Kind, Verb};
-use crate::words::{Words, is, number};
 use fab_base::{Line, Payload, Why};
 use fab_info::getinfo;
 use std::alloc::Global;
@@ -54,7 +49,7 @@ impl Reader {
     }
 
     /// Takes a line, or says which rule it breaks.
-    #[tactic(auto, unfolding(crate::specs::Rules::why_of, crate::specs::Rules::with_line))]
+    #[tactic(auto, unfolding(fab_grammar::specs::Rules::why_of, fab_grammar::specs::Rules::with_line))]
     pub(crate) fn take(
         &mut self,
         alloc: Global,
@@ -117,7 +112,7 @@ impl Reader {
     }
 
     /// Takes a setting.
-    #[tactic(auto, unfolding(crate::specs::Rules::setting_rules))]
+    #[tactic(auto, unfolding(fab_grammar::specs::Rules::setting_rules))]
     fn take_setting(
         &mut self,
         alloc: Global,
@@ -190,7 +185,7 @@ impl Reader {
     }
 
     /// Takes a `peer` line.
-    #[tactic(auto, unfolding(crate::specs::Rules::peer_rules))]
+    #[tactic(auto, unfolding(fab_grammar::specs::Rules::peer_rules))]
     fn take_peer(&mut self, number: u32, args: &mut Words) -> Result<(), Refused>
         ensures { (before : Before) → Holds self.old before →
             Answers (first_of (peer_rules before number args.old)) (with_peer before (peer_of args.old)) self.new result }
@@ -218,7 +213,7 @@ impl Reader {
     }
 
     /// Takes a line that a peer does.
-    #[tactic(auto, unfolding(crate::specs::Rules::call_rules))]
+    #[tactic(auto, unfolding(fab_grammar::specs::Rules::call_rules))]
     fn take_call(
         &mut self,
         alloc: Global,

@@ -2,9 +2,9 @@
 ghost use Rattle.std.specs.Prelude.{◌≡◌};
 ghost use Rattle.fab_script.specs.declared.refused.ParseRefused.TheVariants.{NoMemory as OutOfMemory};
 ghost use Rattle.fab_script.specs.declared.refused.Refused.TheVariants.{NoMemory as LineOutOfMemory, Why as Because};
-ghost use Rattle.fab_script.specs.Rules.{why_from};
+ghost use Rattle.fab_grammar.specs.Rules.{why_from};
 
-use crate::fault::Fault;
+use fab_words::Fault;
 use fab_base::Why;
 use std::alloc::{AllocError, AllocFailed};
 

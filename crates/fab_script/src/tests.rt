@@ -1,7 +1,7 @@
 //! Which line is named, and for which reason; and scripts that are read whole.
 use super::*;
 use crate::grammar::read as read_in;
-use crate::language::Language;
+use fab_grammar::Language;
 use fab_base::{BytesWord, Level, Line, LineOp, Script, Why};
 use std::alloc::Global;
 use std::process::Abort;

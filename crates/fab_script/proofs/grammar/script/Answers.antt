@@ -1,6 +1,6 @@
 use Rattle.std.proofs.Common.{Some, map, sym, ap, ◌∙◌, refl}
 use Rattle.std.specs.Prelude.{Ok}
-use Rattle.fab_script.specs.Grammar.{script_said, script_with}
+use Rattle.fab_grammar.specs.Grammar.{script_said, script_with}
 use Rattle.fab_model.specs.Negotiation.{grant}
 use Rattle.fab_script.proofs.GrammarLemmas.{script_made, script_not_granted, script_without_peers}
 use Rattle.fab_script.proofs.grammar.script.Goals as goal

@@ -1,5 +1,5 @@
 use Rattle.std.proofs.Common.{◌≡◌, ◌∷◌, true, false, sym, ◌∙◌}
-use Rattle.fab_script.specs.Rows.{is_text, words_of}
+use Rattle.fab_words.specs.Rows.{is_text, words_of}
 use Rattle.fab_script.proofs.ReaderLemmas.{line_answer}
 use Rattle.fab_script.proofs.reader.Reader.take.Goals as goal
 

@@ -1,10 +1,10 @@
 use Rattle.std.proofs.Common.{◌≡◌, false, sym, ap, ◌∙◌, arith}
 use Rattle.std.specs.Prelude.{Ok, Err}
 use Rattle.std.proofs.lemmas.Result.{err_from_is_err_and}
-use Rattle.fab_script.specs.Before.{opened_by, count_in}
-use Rattle.fab_script.specs.Settings.{peer_of}
+use Rattle.fab_grammar.specs.Before.{opened_by, count_in}
+use Rattle.fab_grammar.specs.Settings.{peer_of}
 use Rattle.std.proofs.lemmas.Bool.Decides.{nat_tests}
-use Rattle.fab_script.specs.Rules.{is_again, is_no_peer, why_from}
+use Rattle.fab_grammar.specs.Rules.{is_again, is_no_peer, why_from}
 use Rattle.fab_script.proofs.ReaderLemmas.{answers_err, peer_fault, peer_taken, named_fresh}
 use Rattle.fab_script.proofs.reader.Reader.take_peer.Goals as goal
 

@@ -1,8 +1,8 @@
 use Rattle.std.proofs.Common.{◌≡◌, true, false, sym, ap, ◌∙◌}
 use Rattle.std.specs.Prelude.{Ok}
-use Rattle.fab_script.specs.Before.{has_opened, is_filled}
-use Rattle.fab_script.specs.Rules.{is_fresh, is_set, is_one_too_many, is_refused}
-use Rattle.fab_script.specs.Settings.{setting_of}
+use Rattle.fab_grammar.specs.Before.{has_opened, is_filled}
+use Rattle.fab_grammar.specs.Rules.{is_fresh, is_set, is_one_too_many, is_refused}
+use Rattle.fab_grammar.specs.Settings.{setting_of}
 use Rattle.fab_script.proofs.ReaderLemmas.{setting_fresh, setting_answer}
 use Rattle.fab_script.proofs.reader.Reader.take_setting.Goals as goal
 

@@ -1,0 +1,4 @@
+pub mod LineLemmas
+pub mod PartLemmas
+pub mod RuleLemmas
+mod Worked

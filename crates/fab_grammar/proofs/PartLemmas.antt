@@ -1,0 +1,47 @@
+-- The items of the parts, with one item more.
+use Rattle.std.proofs.Common.{◌≡◌, ℕ, Bool, true, false, ◌&&◌, ◌||◌, not, eqb, ltb, leb, List, [], ◌∷◌, ◌++◌, sym, ap, ◌∙◌, refl, arith}
+use Rattle.std.specs.List.{list_any, list_all, sum_by}
+use Rattle.std.proofs.lemmas.Bool.Decides.{nat_tests}
+use Rattle.std.proofs.lemmas.List.Elements.{filter_map-append}
+use Rattle.std.proofs.lemmas.List.Folds.{list_all-append, list_any-append}
+use Rattle.std.proofs.lemmas.List.Sums.{sum_by-append}
+use Rattle.fab_grammar.specs.declared.items.Item.{Item}
+use Rattle.fab_grammar.specs.declared.items.Item.TheVariants.{Peer, Does}
+use Rattle.fab_grammar.specs.Before.{is_distinct, opened, opened_by}
+
+pub and_true : (a b : Bool) → (a && b) ≡ true → (a ≡ true) × (b ≡ true)
+and_true true b e = (refl, e)
+and_true false b e = cc
+
+pub or_false : (a b : Bool) → (a || b) ≡ false → (a ≡ false) × (b ≡ false)
+or_false true b e = cc
+or_false false b e = (refl, e)
+
+not_true : (a : Bool) → not a ≡ true → a ≡ false
+not_true true e = cc
+not_true false e = refl
+
+pub opened_by-append : (xs ys : List Item) → opened_by (xs ++ ys) ≡ opened_by xs ++ opened_by ys
+opened_by-append xs ys = filter_map-append opened xs ys
+
+-- Distinct numbers: the first is none of the others.
+pub distinct_first : (k : ℕ) (ks : List ℕ) → is_distinct (k ∷ ks) ≡ true → (list_any (λ j. eqb j k) ks ≡ false) × (is_distinct ks ≡ true)
+distinct_first k ks e =
+    let both = and_true (not (list_any (λ j. eqb j k) ks)) (is_distinct ks) e in
+    (not_true (list_any (λ j. eqb j k) ks) both.0, both.1)
+
+distinct_onto : (k : ℕ) (ks : List ℕ) → list_any (λ j. eqb j k) ks ≡ false → is_distinct ks ≡ true → is_distinct (k ∷ ks) ≡ true
+distinct_onto k ks none distinct = rw (none, distinct) refl
+
+any_push : (k j : ℕ) (js : List ℕ) → list_any (λ i. eqb i j) js ≡ false → eqb k j ≡ false → list_any (λ i. eqb i j) (js ++ k ∷ []) ≡ false
+any_push k j js none other = list_any-append (λ i. eqb i j) js (k ∷ []) ∙ rw (none, other) refl
+
+eqb_other : (j k : ℕ) → eqb j k ≡ false → eqb k j ≡ false
+eqb_other j k e = grind (arith, nat_tests)
+
+pub distinct_push : (ks : List ℕ) (k : ℕ) → is_distinct ks ≡ true → list_any (λ j. eqb j k) ks ≡ false → is_distinct (ks ++ k ∷ []) ≡ true
+distinct_push [] k d h = refl
+distinct_push (j ∷ js) k d h =
+    let first = distinct_first j js d in
+    let none = or_false (eqb j k) (list_any (λ i. eqb i k) js) h in
+    distinct_onto j (js ++ k ∷ []) (any_push k j js first.0 (eqb_other j k none.0)) (distinct_push js k first.1 none.1)

@@ -1,0 +1,46 @@
+-- Texts whose scripts are worked out by the definitions alone.
+use Rattle.std.proofs.Common.{◌≡◌, ℕ, List, [], ◌∷◌, ◌++◌, Some, None, false, refl}
+use Rattle.std.specs.Prelude.{codes}
+use Rattle.fab_base.specs.declared.status.Why.TheVariants as why
+use Rattle.fab_base.specs.declared.peers.Level.TheVariants.{Transmit}
+use Rattle.fab_base.specs.declared.script.BytesWord.TheVariants.{Text}
+use Rattle.fab_base.specs.declared.script.LineOp.TheVariants.{TSend, TRecv, Wait}
+use Rattle.fab_grammar.specs.Grammar.{script_of, script_with, refusal_of}
+use Rattle.fab_grammar.specs.Conf.{conf_of}
+use Rattle.fab_grammar.specs.Settings.{no_settings}
+use Rattle.fab_base.specs.declared.caps.Info.{Info}
+use Rattle.fab_base.specs.Offer.{is_offered}
+use Rattle.fab_model.specs.Negotiation.{caps_of}
+use Rattle.fab_grammar.specs.Opened.{grammar}
+
+abbrev line : List ℕ → List ℕ → List ℕ
+line text rest = text ++ 10 ∷ rest
+
+-- what is granted to 2 peers that ask for nothing else
+abbrev whole : Info
+whole = record { caps = caps_of is_offered; peers = 2; lane = 64; pool = 32; tx = 64; rx = 256; cq = 1024; log = 4096; inject = 4096; message = 16777216 }
+
+-- one tagged message, the last line without its line feed
+hello : script_of (line (codes "fabric 1") (line (codes "peers 2") (line (codes "peer 0") (line (codes "trecv 1 * 7 0 16") (line (codes "wait 1") (line (codes " peer  1 ") (codes "tsend 2 0 7 text:hello")))))))
+    ≡ Some (script_with (conf_of (record no_settings { peers = Some 2 }) 2 whole) [] ((record { number = 4; op = TRecv 1 None 7 0 16 } ∷ record { number = 5; op = Wait (Some 1) } ∷ []) ∷ (record { number = 7; op = TSend 2 0 7 (Text (codes "hello")) None Transmit false } ∷ []) ∷ []))
+unfolding grammar
+hello = refl
+
+-- a peer that is opened twice: the line, and why
+twice : refusal_of (line (codes "fabric 1") (line (codes "peers 2") (line (codes "peer 1") (line (codes "peer 1") [])))) ≡ Some (4, why.Twice)
+unfolding grammar
+twice = refl
+
+-- a comment counts as a line
+late : refusal_of (line (codes "# a remark") (line (codes "fabric 1") (line (codes "peers 33") (line (codes "jump") [])))) ≡ Some (3, why.Limit)
+unfolding grammar
+late = refl
+
+-- no line at all, and no number of peers
+none : refusal_of [] ≡ Some (0, why.Header)
+unfolding grammar
+none = refl
+
+missing : refusal_of (line (codes "fabric 1") (line [] [])) ≡ Some (2, why.Missing)
+unfolding grammar
+missing = refl

@@ -1,0 +1,14 @@
+pub mod Atomics
+pub mod Before
+pub mod Capabilities
+pub mod Conf
+pub mod Grammar
+pub mod Language
+pub mod Lines
+pub mod Opened
+pub mod Options
+pub mod Reads
+pub mod Rules
+pub mod Sends
+pub mod Settings
+pub mod Verbs

@@ -1,0 +1,125 @@
+//! The capabilities that `caps` asks for.
+ghost use Rattle.std.specs.Prelude.{◌≡◌};
+ghost use Rattle.fab_model.specs.Negotiation.{no_hints};
+ghost use Rattle.fab_grammar.specs.Capabilities.{cap_name, cap_named, with_cap, caps_of};
+
+use fab_words::{Fault, Read, first_part, is};
+use fab_base::{Cap, Caps};
+
+/// All capabilities.
+const CAPS: [Cap; 16] = [
+    Cap::Msg,
+    Cap::Tagged,
+    Cap::Rma,
+    Cap::Atomic,
+    Cap::DirectedRecv,
+    Cap::Send,
+    Cap::Recv,
+    Cap::Read,
+    Cap::Write,
+    Cap::RemoteRead,
+    Cap::RemoteWrite,
+    Cap::MultiRecv,
+    Cap::Source,
+    Cap::RmaEvent,
+    Cap::Fence,
+    Cap::LocalComm,
+];
+
+/// The capability as it is written (fi_getinfo(3)).
+fn name(cap: Cap) -> &'static str
+    ensures { result.now ≡ cap_name cap }
+{
+    match cap {
+        Cap::Msg => "FI_MSG",
+        Cap::Tagged => "FI_TAGGED",
+        Cap::Rma => "FI_RMA",
+        Cap::Atomic => "FI_ATOMIC",
+        Cap::DirectedRecv => "FI_DIRECTED_RECV",
+        Cap::Send => "FI_SEND",
+        Cap::Recv => "FI_RECV",
+        Cap::Read => "FI_READ",
+        Cap::Write => "FI_WRITE",
+        Cap::RemoteRead => "FI_REMOTE_READ",
+        Cap::RemoteWrite => "FI_REMOTE_WRITE",
+        Cap::MultiRecv => "FI_MULTI_RECV",
+        Cap::Source => "FI_SOURCE",
+        Cap::RmaEvent => "FI_RMA_EVENT",
+        Cap::Fence => "FI_FENCE",
+        Cap::LocalComm => "FI_LOCAL_COMM",
+    }
+}
+
+/// The capability of this name.
+#[tactic(auto, unfolding(crate::specs::Capabilities::cap_named))]
+fn named(word: &[u8]) -> Option<Cap>
+    ensures { result ≡ cap_named word.now }
+{
+    CAPS.iter().copied().find(|cap| is(word, name(*cap)))
+}
+
+/// The set with one capability more.
+fn with(cap: Cap, mut caps: Caps) -> Caps
+    ensures { result ≡ with_cap cap caps }
+{
+    match cap {
+        Cap::Msg => caps.msg = true,
+        Cap::Tagged => caps.tagged = true,
+        Cap::Rma => caps.rma = true,
+        Cap::Atomic => caps.atomic = true,
+        Cap::DirectedRecv => caps.directed_recv = true,
+        Cap::Send => caps.send = true,
+        Cap::Recv => caps.recv = true,
+        Cap::Read => caps.read = true,
+        Cap::Write => caps.write = true,
+        Cap::RemoteRead => caps.remote_read = true,
+        Cap::RemoteWrite => caps.remote_write = true,
+        Cap::MultiRecv => caps.multi_recv = true,
+        Cap::Source => caps.source = true,
+        Cap::RmaEvent => caps.rma_event = true,
+        Cap::Fence => caps.fence = true,
+        Cap::LocalComm => caps.local_comm = true,
+    }
+    caps
+}
+
+/// The capabilities whose names the commas join.
+#[tactic(auto, unfolding(crate::specs::Capabilities::caps_of))]
+pub(crate) fn read_caps(word: &[u8]) -> Read<Caps>
+    ensures { result ≡ caps_of word.now }
+{
+    let mut caps = none();
+    let mut list = word;
+    loop {
+        let (name, rest) = first_part(list, b',');
+        caps = with(named(name).ok_or(Fault::Words)?, caps);
+        match rest {
+            Some(rest) => list = rest,
+            None => return Ok(caps),
+        }
+    }
+}
+
+/// No capability.
+pub(crate) fn none() -> Caps
+    ensures { result ≡ no_hints.caps }
+{
+    Caps {
+        msg: false,
+        tagged: false,
+        rma: false,
+        atomic: false,
+        directed_recv: false,
+        send: false,
+        recv: false,
+        read: false,
+        write: false,
+        remote_read: false,
+        remote_write: false,
+        multi_recv: false,
+        source: false,
+        rma_event: false,
+        fence: false,
+        local_comm: false,
+    }
+}

@@ -1,0 +1,26 @@
+//! The grammar of scripts (docs/SCRIPT.md), and what one line says.
+//!
+//! The grammar is in specs/: `Verbs` has the first words of lines, `Settings` and `Lines` say what one line asks
+//! for (with `Options`, `Sends`, `Atomics` and `Capabilities`), `Rules` for which reason a line is refused,
+//! `Language` which lines are carried out, and `Grammar` puts a script together. The code reads one line.
+//!
+//! A new kind of line has its definition in specs/Lines.antt and its reader in lines.rt, or in the files of its
+//! subject, as Atomics and Sends.
+#![tactic(auto)]
+
+mod atomics;
+mod capabilities;
+mod items;
+mod language;
+mod lines;
+mod options;
+mod sends;
+mod settings;
+mod verbs;
+
+pub use items::Item;
+pub use language::{Form, Language};
+pub use lines::read_op;
+pub use options::{Allowed, Optional, Options};
+pub use settings::{Setting, Settings, asking, read_peer, read_setting};
+pub use verbs::{Kind, Verb};

@@ -1,0 +1,2 @@
+//! A script, written so that it reads again.
+#![tactic(auto)]

@@ -1,6 +1,0 @@
-use Rattle.std.proofs.Common.{◌≡◌, ◌-◌, ◌++◌}
-use Rattle.fab_script.specs.Atomics.{le_bytes}
-use Rattle.fab_script.proofs.atomics.push_bytes.Given as goal
-
-abbrev pub invariant-loop : goal.invariant-loop
-invariant-loop l = l.bytes.items ++ le_bytes (l.count - l.counter) l.rest ≡ l.fn.bytes.items ++ le_bytes l.count l.value

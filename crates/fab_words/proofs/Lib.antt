@@ -1,0 +1,4 @@
+pub mod CutLemmas
+pub mod WordLemmas
+pub mod NumberLemmas
+pub mod RowLemmas

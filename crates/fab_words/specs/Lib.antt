@@ -1,0 +1,5 @@
+pub mod Bytes
+pub mod Faults
+pub mod Rows
+pub mod Words
+pub mod Written
