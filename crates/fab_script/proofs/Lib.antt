@@ -3,3 +3,5 @@ pub mod HoldsLemmas
 pub mod GrammarLemmas
 pub mod ReaderLemmas
 pub mod BuiltLemmas
+pub mod Payloads
+pub mod BindingLemmas

@@ -7,13 +7,13 @@ ghost use Rattle.fab_script.specs.Parts.{Holds};
 ghost use Rattle.fab_script.specs.Refused.{IsScript, IsRefusal, IsVerdict};
 ghost use Rattle.fab_grammar.specs.declared.language.Language.TheVariants.{Built};
 
-use fab_grammar::Language;
 use crate::parts::Parts;
 use crate::reader::Reader;
 use crate::refused::{ParseRefused, Refused};
-use fab_words::Lines;
 use fab_base::{Conf, Line, List, NoMemory, Payload, Script, Why};
+use fab_grammar::Language;
 use fab_info::getinfo;
+use fab_words::Lines;
 use std::alloc::Global;
 
 /// Reads a script (docs/SCRIPT.md). An `Err` that is not `NoMemory` says that the text is no script; it

@@ -4,11 +4,15 @@
 //! itself is in the crate `fab_grammar`. The code goes over the text once, line by line.
 #![tactic(auto)]
 
+mod binding;
+mod bound_lines;
 mod grammar;
 mod parts;
 mod reader;
 mod refused;
 
+pub use binding::bind;
+pub use bound_lines::lines;
 pub use grammar::parse;
 pub use refused::ParseRefused;
 

@@ -2,8 +2,8 @@
 ghost use Rattle.std.specs.Prelude.{◌≡◌, ◌<◌, ◌≤◌, ◌+◌, ◌∷◌, [], ◌++◌, ◌==◌, ℕ, List, false, nat_lt, All, IfOk, vec_len};
 ghost use Rattle.fab_grammar.specs.Lines.{op_size};
 
-use fab_words::bytes_size;
 use fab_base::{Line, LineOp, NoMemory};
+use fab_words::bytes_size;
 use std::alloc::Global;
 
 /// The greatest sum of the bytes that the lines send or make room for.

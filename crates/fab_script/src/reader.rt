@@ -12,12 +12,14 @@ ghost use Rattle.fab_base.specs.declared.status.Why.TheVariants.{Limit};
 ghost use Rattle.fab_script.specs.declared.refused.Refused.TheVariants.{Why as Because};
 ghost use Rattle.fab_grammar.specs.declared.language.Language.{Language};
 
-use fab_words::{Fault, Words, all_text, is, number};
-use fab_grammar::{Kind, Language, Setting, Settings, Verb, asking, read_op, read_peer, read_setting};
 use crate::parts::Parts;
 use crate::refused::Refused;
 use fab_base::{Line, Payload, Why};
+use fab_grammar::{
+    Kind, Language, Setting, Settings, Verb, asking, read_op, read_peer, read_setting,
+};
 use fab_info::getinfo;
+use fab_words::{Fault, Words, all_text, is, number};
 use std::alloc::Global;
 
 /// The greatest number of lines.
@@ -156,7 +158,7 @@ impl Reader {
     {
         args.again()
             .next()
-            .and_then(number)
+            .and_then(|word| number(word))
             .is_some_and(|id| has_id(&self.payloads, id))
     }
 
@@ -208,7 +210,7 @@ impl Reader {
     {
         args.again()
             .next()
-            .and_then(number)
+            .and_then(|word| number(word))
             .is_some_and(|peer| self.parts.is_opened(peer))
     }
 

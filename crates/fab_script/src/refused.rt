@@ -4,8 +4,8 @@ ghost use Rattle.fab_script.specs.declared.refused.ParseRefused.TheVariants.{NoM
 ghost use Rattle.fab_script.specs.declared.refused.Refused.TheVariants.{NoMemory as LineOutOfMemory, Why as Because};
 ghost use Rattle.fab_grammar.specs.Rules.{why_from};
 
-use fab_words::Fault;
 use fab_base::Why;
+use fab_words::Fault;
 use std::alloc::{AllocError, AllocFailed};
 
 /// Why `parse` gives no script.

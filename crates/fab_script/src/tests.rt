@@ -1,8 +1,8 @@
 //! Which line is named, and for which reason; and scripts that are read whole.
 use super::*;
 use crate::grammar::read as read_in;
-use fab_grammar::Language;
 use fab_base::{BytesWord, Level, Line, LineOp, Script, Why};
+use fab_grammar::Language;
 use std::alloc::Global;
 use std::process::Abort;
 use std::test::Fail;
