@@ -110,6 +110,10 @@ module _ (payloads : List Payload) (files : List (List ℕ)) where
       let both = both_empty (lines_outside payloads files lines) (concat (map (lines_outside payloads files) peers)) e in
       rw (lines_inside lines both.0, all_inside peers both.1) refl
 
+-- the least of the first of each peer is the line that is named
+pub first_is_outside : (script : Script) (files : List (List ℕ)) (first : Option ℕ) → reduce min (filter_map (λ lines. reduce min (lines_outside script.payloads files lines)) script.peers) ≡ first → outside script files ≡ option_map at_range first
+first_is_outside script files first e = ap (option_map at_range) (sym (least_of_all (lines_outside script.payloads files) script.peers) ∙ e)
+
 -- ---- what the lines before keep: no ID stands twice, and there is a peer
 
 abbrev ids : List Payload → List ℕ

@@ -109,7 +109,6 @@ fn first_of_all(payloads: &[Payload], files: &[Buf], peers: &[List<Line>]) -> Op
 ///
 /// An `Err` is never `NoMemory`: it names, as `FileRange`, the first line whose `file:` word names a file that was
 /// not declared, or goes beyond its file.
-#[tactic(auto, using(crate::proofs::BindingLemmas::least_of_all))]
 pub fn bind(script: Script, files: Vec<Buf>) -> Result<Bound, ParseRefused>
     requires { length files.items ≡ length script.payloads }
     ensures bound { IfOk result (λ b. b ≡ record { script = script; files = files.items }) }

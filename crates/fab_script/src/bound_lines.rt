@@ -1,9 +1,9 @@
 //! The lines of a bound script's peers, with the bytes of its payload files in them.
-ghost use Rattle.std.specs.Prelude.{◌≡◌, take, drop, map, IfOk};
+ghost use Rattle.std.specs.Prelude.{◌≡◌, [], take, drop, map, slice_index_or, IfOk};
 ghost use Rattle.fab_model.specs.Replay.{bind_word, bind_op, bind_line, lines_of};
 
 use crate::binding::payload;
-use fab_base::{Bound, Buf, BytesWord, Line, LineOp, NoMemory, Text};
+use fab_base::{Bound, Buf, BytesWord, Line, LineOp, List, NoMemory, Text};
 use std::alloc::Global;
 
 /// At most `len` bytes from the place `at` on.
@@ -284,16 +284,31 @@ fn bind_line(alloc: Global, bound: &Bound, line: &Line) -> Result<Line, NoMemory
     })
 }
 
-/// The lines of a peer, copied, in which each `file:` word is the bytes that it names. A peer that is not there
-/// has none.
+/// Copies of these lines, with their bytes in them.
+fn bind_lines(alloc: Global, bound: &Bound, lines: &[Line]) -> Result<Vec<Line>, NoMemory>
+    ensures { IfOk result (λ copies. copies.items ≡ map (bind_line bound.now) lines.now) }
+{
+    let mut copies = Vec::new(alloc);
+    for line in lines {
+        copies.push(bind_line(alloc, bound, line)?)?;
+    }
+    Ok(copies)
+}
+
+/// The lines of a peer, or none where there is no such peer.
+fn lines_at(peers: &[List<Line>], peer: u32) -> &[Line]
+    ensures { result.now ≡ slice_index_or peers.now peer [] }
+{
+    match peers.get(peer as usize) {
+        Some(lines) => lines.as_slice(),
+        None => &[],
+    }
+}
+
+/// Copies of the lines of a peer, in which each `file:` word is the bytes that it names. A peer that is
+/// not there has none.
 pub fn lines(alloc: Global, bound: &Bound, peer: u32) -> Result<Vec<Line>, NoMemory>
     ensures { IfOk result (λ lines. lines.items ≡ lines_of bound.now peer) }
 {
-    let mut copies = Vec::new(alloc);
-    if let Some(lines) = bound.script.peers.as_slice().get(peer as usize) {
-        for line in lines.as_slice() {
-            copies.push(bind_line(alloc, bound, line)?)?;
-        }
-    }
-    Ok(copies)
+    bind_lines(alloc, bound, lines_at(bound.script.peers.as_slice(), peer))
 }
