@@ -169,7 +169,7 @@ pub record Forms (verb : Verb) (args : List (List ℕ)) : Type 0 where
   pub wait : has_form Built (wait_form verb args) ≡ true
   pub words : list_all (λ word. has_form Built (form_of_word word)) args ≡ true
 
-forms_of : (verb : Verb) (args : List (List ℕ)) → is_built Built verb args ≡ true → Forms verb args
+pub forms_of : (verb : Verb) (args : List (List ℕ)) → is_built Built verb args ≡ true → Forms verb args
 unfolding is_built
 forms_of verb args e =
     let words = and_true (has Built (LineForm verb) && has_form Built (source_form verb args) && has_form Built (wait_form verb args)) (list_all (λ word. has_form Built (form_of_word word)) args) e in
@@ -221,7 +221,7 @@ with_kind_built kind.Setting before number verb args all e = with_setting_built 
 with_kind_built kind.Peer before number verb args all e = with_peer_built before (peer_of args) all
 with_kind_built kind.Call before number verb args all e = with_call_built before number (op_of verb args) all (λ op said. op_built verb args op (forms_of verb args e) said)
 
-not_false : (b : Bool) → not b ≡ false → b ≡ true
+pub not_false : (b : Bool) → not b ≡ false → b ≡ true
 not_false true e = refl
 not_false false e = cc
 

@@ -5,3 +5,4 @@ pub mod ReaderLemmas
 pub mod BuiltLemmas
 pub mod Payloads
 pub mod BindingLemmas
+pub mod AloneLemmas

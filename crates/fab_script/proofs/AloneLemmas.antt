@@ -1,0 +1,170 @@
+-- A script whose lines are all carried out has no payload file, and none of its lines names one.
+use Rattle.std.proofs.Common.{◌≡◌, ℕ, ◌+◌, min, Bool, true, false, cond, not, ◌&&◌, List, [], ◌∷◌, ◌++◌, length, map, Option, Some, None, option_map, sym, ap, subst, ◌∙◌, refl}
+use Rattle.std.specs.Prelude.{filter, Result, Ok, Err, IfOk}
+use Rattle.std.specs.List.{concat, list_all, reduce}
+use Rattle.fab_base.specs.Built.{is_built as is_carried_out, all_built, is_short_text, is_at_transmit}
+use Rattle.fab_base.specs.declared.peers.Level.{Level}
+use Rattle.fab_base.specs.declared.script.BytesWord.{BytesWord}
+use Rattle.fab_base.specs.declared.script.BytesWord.TheVariants.{Text}
+use Rattle.fab_base.specs.declared.script.Line.{Line}
+use Rattle.fab_base.specs.declared.script.LineOp.{LineOp}
+use Rattle.fab_base.specs.declared.script.LineOp.TheVariants.{TSend, TRecv, Wait}
+use Rattle.fab_base.specs.declared.script.Payload.{Payload}
+use Rattle.fab_base.specs.declared.script.Script.{Script}
+use Rattle.fab_base.specs.declared.status.Why.{Why}
+use Rattle.fab_base.specs.declared.status.Why.TheVariants as why
+use Rattle.fab_base.specs.declared.caps.Info.{Info}
+use Rattle.fab_base.specs.declared.limits.Size.TheVariants as size
+use Rattle.fab_model.specs.Negotiation.{grant}
+use Rattle.fab_grammar.specs.declared.language.Form.TheVariants.{Line as LineForm}
+use Rattle.fab_grammar.specs.declared.language.Language.TheVariants.{Built}
+use Rattle.fab_grammar.specs.declared.settings.Setting.{Setting}
+use Rattle.fab_grammar.specs.declared.settings.Setting.TheVariants.{Peers, Wish, Capabilities, Selective, File}
+use Rattle.fab_grammar.specs.declared.verbs.Kind.{Kind}
+use Rattle.fab_grammar.specs.declared.verbs.Kind.TheVariants as kind
+use Rattle.fab_grammar.specs.declared.verbs.Verb.{Verb}
+use Rattle.fab_grammar.specs.declared.verbs.Verb.TheVariants as verb
+use Rattle.fab_grammar.specs.Before.{Before, nothing, parts_of}
+use Rattle.fab_grammar.specs.Conf.{conf_of}
+use Rattle.fab_grammar.specs.Grammar.{Refusal, read_lines, script_with, granted, of_peers, script_said, then_script, verdict}
+use Rattle.fab_grammar.specs.Language.{has, is_built}
+use Rattle.fab_grammar.specs.Lines.{op_of}
+use Rattle.fab_grammar.specs.Rules.{header_rules, kind_rules, verb_rules, word_rules, why_of, with_setting, with_peer, with_call, with_kind, with_verb, with_words, with_line}
+use Rattle.fab_grammar.specs.Settings.{size_of, wish_of, setting_of, peer_of, hints_of}
+use Rattle.fab_grammar.specs.Verbs.{verb_of, kind_of}
+use Rattle.fab_grammar.proofs.PartLemmas.{and_true}
+use Rattle.fab_grammar.proofs.RuleLemmas.{rest_of, first_fails}
+use Rattle.fab_words.specs.Faults.{map_ok}
+use Rattle.fab_words.specs.declared.fault.Fault.{Fault}
+use Rattle.fab_words.specs.Rows.{is_text, lines_of, words_of}
+use Rattle.fab_words.specs.Words.{first_of}
+use Rattle.fab_script.specs.Bound.{has_bytes, is_inside, lines_outside, at_range, outside}
+use Rattle.fab_script.proofs.BuiltLemmas.{Forms, forms_of, not_false}
+
+-- ---- no line names a file
+
+text_inside : (payloads : List Payload) (files : List (List ℕ)) (word : BytesWord) (test : Bool) → (is_short_text word && test) ≡ true → has_bytes payloads files (Some word) ≡ true
+text_inside payloads files (Text bytes) test e = refl
+text_inside payloads files _ test e = cc
+
+op_inside : (payloads : List Payload) (files : List (List ℕ)) (op : LineOp) → is_carried_out op ≡ true → is_inside payloads files op ≡ true
+op_inside payloads files (TSend ctx dest tag word imm level completion) e = text_inside payloads files word (is_at_transmit level) e
+op_inside payloads files (TRecv ctx source tag ignore len) e = refl
+op_inside payloads files (Wait ctx) e = refl
+op_inside payloads files _ e = cc
+
+none_outside : (payloads : List Payload) (files : List (List ℕ)) (lines : List Line) → list_all (λ line. is_carried_out line.op) lines ≡ true → lines_outside payloads files lines ≡ []
+none_outside payloads files [] e = refl
+none_outside payloads files (line ∷ lines) e =
+    let both = and_true (is_carried_out line.op) (list_all (λ (l : Line). is_carried_out l.op) lines) e in
+    rw (op_inside payloads files line.op both.0) (none_outside payloads files lines both.1)
+
+none_outside_all : (payloads : List Payload) (files : List (List ℕ)) (peers : List (List Line)) → all_built peers ≡ true → concat (map (lines_outside payloads files) peers) ≡ []
+none_outside_all payloads files [] e = refl
+none_outside_all payloads files (lines ∷ peers) e =
+    let both = and_true (list_all (λ (line : Line). is_carried_out line.op) lines) (all_built peers) e in
+    rw (none_outside payloads files lines both.0) (none_outside_all payloads files peers both.1)
+
+pub nothing_outside : (script : Script) (files : List (List ℕ)) → all_built script.peers ≡ true → outside script files ≡ None
+nothing_outside script files e = ap (λ numbers. option_map at_range (reduce min numbers)) (none_outside_all script.payloads files script.peers e)
+
+-- ---- no payload file is declared
+
+abbrev IsNoFile : Setting → Type 0
+IsNoFile (File payload) = ⊥
+IsNoFile setting = Unit {0}
+
+peers_alone : (said : Result ℕ Fault) (s : Setting) → map_ok Peers said ≡ Ok s → IsNoFile s
+peers_alone (Ok n) s e =
+    let same : Peers n ≡ s = cc in
+    subst IsNoFile same tt
+peers_alone (Err fault) s e = cc
+
+not_built : false ≡ true → ⊥
+not_built e = cc
+
+-- of the settings, `peers` alone is built
+setting_alone : (verb : Verb) (args : List (List ℕ)) (s : Setting) → has Built (LineForm verb) ≡ true → setting_of verb args ≡ Ok s → IsNoFile s
+unfolding setting_of wish_of
+setting_alone verb.Peers args s built e = peers_alone (size_of size.Peers args) s e
+setting_alone verb.Peer args s built e = cc
+setting_alone verb.TSend args s built e = cc
+setting_alone verb.TRecv args s built e = cc
+setting_alone verb.Wait args s built e = cc
+setting_alone _ args s built e = absurd (not_built built)
+
+with_setting_alone : (before : Before) (said : Result Setting Fault) → before.payloads ≡ [] → ((s : Setting) → said ≡ Ok s → IsNoFile s) → (with_setting before said).payloads ≡ []
+with_setting_alone before (Ok (File payload)) none alone = absurd (alone (File payload) refl)
+with_setting_alone before (Ok (Peers n)) none alone = none
+with_setting_alone before (Ok (Wish size n)) none alone = none
+with_setting_alone before (Ok (Capabilities caps)) none alone = none
+with_setting_alone before (Ok Selective) none alone = none
+with_setting_alone before (Err fault) none alone = none
+
+with_peer_alone : (before : Before) (said : Result ℕ Fault) → (with_peer before said).payloads ≡ before.payloads
+with_peer_alone before (Ok k) = refl
+with_peer_alone before (Err fault) = refl
+
+with_call_alone : (before : Before) (number : ℕ) (said : Result LineOp Fault) → (with_call before number said).payloads ≡ before.payloads
+with_call_alone before number (Ok op) = refl
+with_call_alone before number (Err fault) = refl
+
+with_kind_alone : (k : Kind) (before : Before) (number : ℕ) (verb : Verb) (args : List (List ℕ)) → before.payloads ≡ [] → is_built Built verb args ≡ true → (with_kind k before number verb args).payloads ≡ []
+with_kind_alone kind.Setting before number verb args none e = with_setting_alone before (setting_of verb args) none (λ s. setting_alone verb args s (forms_of verb args e).line)
+with_kind_alone kind.Peer before number verb args none e = with_peer_alone before (peer_of args) ∙ none
+with_kind_alone kind.Call before number verb args none e = with_call_alone before number (op_of verb args) ∙ none
+
+with_verb_alone : (before : Before) (number : ℕ) (verb : Option Verb) (args : List (List ℕ)) → before.payloads ≡ [] → first_of (verb_rules Built before number verb args) ≡ None → (with_verb before number verb args).payloads ≡ []
+with_verb_alone before number None args none e = none
+with_verb_alone before number (Some verb) args none e =
+    with_kind_alone (kind_of verb) before number verb args none (not_false (is_built Built verb args) (first_fails (not (is_built Built verb args)) why.Unbuilt (kind_rules (kind_of verb) before number verb args) e))
+
+either_alone : (test : Bool) (a b : List (Bool × Why)) (x y : Before) → (first_of a ≡ None → x.payloads ≡ []) → y.payloads ≡ [] → first_of (cond test a b) ≡ None → (cond test x y).payloads ≡ []
+either_alone true a b x y f none e = f e
+either_alone false a b x y f none e = none
+
+with_words_alone : (before : Before) (number : ℕ) (words : List (List ℕ)) → before.payloads ≡ [] → first_of (word_rules Built before number words) ≡ None → (with_words before number words).payloads ≡ []
+with_words_alone before number [] none e = none
+with_words_alone before number (word ∷ args) none e =
+    either_alone before.has_header (verb_rules Built before number (verb_of word) args) (header_rules number (word ∷ args)) (with_verb before number (verb_of word) args) (record before { has_header = true })
+    (with_verb_alone before number (verb_of word) args none) none e
+
+with_line_alone : (before : Before) (number : ℕ) (line : List ℕ) → before.payloads ≡ [] → why_of Built before number line ≡ None → (with_line before number line).payloads ≡ []
+unfolding why_of with_line
+with_line_alone before number line none e = with_words_alone before number (words_of line) none (rest_of (not (is_text line)) why.NotText (word_rules Built before number (words_of line)) e)
+
+read_alone : (before : Before) (number : ℕ) (lines : List (List ℕ)) (after : Before) → before.payloads ≡ [] → read_lines Built before number lines ≡ Ok after → after.payloads ≡ []
+unfolding read_lines
+read_alone before number [] after none e =
+    let same : before ≡ after = cc in
+    ap (λ b. b.payloads) (sym same) ∙ none
+read_alone before number (line ∷ lines) after none e =
+    by_why (why_of Built before number line) refl (λ taken f. read_alone (with_line before number line) (number + 1) lines after (with_line_alone before number line none taken) f) e
+  where
+    by_why : (rules : Option Why) → why_of Built before number line ≡ rules → (why_of Built before number line ≡ None → read_lines Built (with_line before number line) (number + 1) lines ≡ Ok after → after.payloads ≡ []) → elim rules as (λ _. Result Before Refusal) [ Some why ↦ Err (number, why) | None ↦ read_lines Built (with_line before number line) (number + 1) lines ] ≡ Ok after → after.payloads ≡ []
+    by_why (Some why) f rest e = cc
+    by_why None f rest e = rest f e
+
+said_alone : (count : ℕ) (before : Before) (script : Script) → before.payloads ≡ [] → script_said count before ≡ Ok script → script.payloads ≡ []
+unfolding script_said
+said_alone count before script none e = by_header before.has_header before.settings.peers e
+  where
+    by_grant : (n : ℕ) (o : Option Info) → granted count before n o ≡ Ok script → script.payloads ≡ []
+    by_grant n None e = cc
+    by_grant n (Some info) e =
+        let same : script_with (conf_of before.settings n info) before.payloads (parts_of n before.items) ≡ script = cc in
+        ap (λ (s : Script). s.payloads) (sym same) ∙ none
+
+    by_header : (b : Bool) (peers : Option ℕ) → cond b (of_peers count before peers) (Err (0, why.Header)) ≡ Ok script → script.payloads ≡ []
+    by_header false peers e = cc
+    by_header true None e = cc
+    by_header true (Some n) e = by_grant n (grant (Some (hints_of before.settings))) e
+
+then_alone : (count : ℕ) (read : Result Before Refusal) (script : Script) → ((after : Before) → read ≡ Ok after → after.payloads ≡ []) → then_script count read ≡ Ok script → script.payloads ≡ []
+then_alone count (Ok after) script all e = said_alone count after script (all after refl) e
+then_alone count (Err refusal) script all e = cc
+
+pub no_payloads : (bytes : List ℕ) (script : Script) → verdict Built bytes ≡ Ok script → script.payloads ≡ []
+unfolding verdict
+no_payloads bytes script e =
+    then_alone (length (lines_of bytes)) (read_lines Built nothing 1 (lines_of bytes)) script (λ after said. read_alone nothing 1 (lines_of bytes) after refl said) e
