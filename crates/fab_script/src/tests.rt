@@ -270,6 +270,43 @@ fn longest_text(rt: HostRuntime) -> Result<(), Fail> {
     Ok(())
 }
 
+/// A text of the whole language that sends this many bytes, each written by this text.
+fn whole_send_of(alloc: Global, front: &[u8], byte: &[u8], len: usize) -> Result<Vec<u8>, Fail> {
+    let mut text = Vec::from_slice(alloc, ONE)?;
+    text.extend_from_slice(b"send 1 0 ")?;
+    text.extend_from_slice(front)?;
+    for _ in 0..len {
+        text.extend_from_slice(byte)?;
+    }
+    Ok(text)
+}
+
+/// 33,554,432 bytes, and one more.
+#[test]
+fn most_bytes_of_a_word(rt: HostRuntime) -> Result<(), Fail> {
+    let table: [(&[u8], &[u8]); 2] = [(b"text:", b"a"), (b"hex:", b"6a")];
+    for (front, byte) in table {
+        let mut text = whole_send_of(rt.alloc(), front, byte, 33_554_432)?;
+        assert_eq!(rt; whole_refusal(rt.alloc(), &text), None);
+        text.extend_from_slice(byte)?;
+        assert_eq!(rt; whole_refusal(rt.alloc(), &text), Some((4, Why::Limit)));
+    }
+    Ok(())
+}
+
+/// `zero:` and `file:` count by their length; what an atomic has does not count.
+#[test]
+fn sum_of_named_bytes(rt: HostRuntime) -> Result<(), Fail> {
+    let mut text = Vec::from_slice(rt.alloc(), ONE)?;
+    text.extend_from_slice(
+        b"inject 0 zero:33554431\nput 1 0 file:1:0:33554431\nread 1 0 1 0 1\ntake 1 1\nfetch 1 0 1 0 FI_ATOMIC_READ u64 *4194304\n",
+    )?;
+    assert_eq!(rt; whole_refusal(rt.alloc(), &text), None);
+    text.extend_from_slice(b"mrecv 1 * 1\n")?;
+    assert_eq!(rt; whole_refusal(rt.alloc(), &text), Some((9, Why::Limit)));
+    Ok(())
+}
+
 #[test]
 fn sum_of_bytes(rt: HostRuntime) -> Result<(), Fail> {
     let mut text = Vec::from_slice(rt.alloc(), ONE)?;
@@ -301,6 +338,27 @@ fn number_of_lines(rt: HostRuntime) -> Result<(), Fail> {
     Ok(())
 }
 
+/// At the 100,001st line the reasons that come before the limit are looked at, and those after it are not.
+#[test]
+fn reasons_beyond_the_last_line(rt: HostRuntime) -> Result<(), Fail> {
+    let table: [(&[u8], Why); 4] = [
+        (b"caps FI_FENCE", Why::Limit),
+        (b"caps x", Why::Words),
+        (b"peers 1", Why::Twice),
+        (b"peer 1", Why::Peer),
+    ];
+    let mut lines = Vec::from_slice(rt.alloc(), b"fabric 1\npeers 1\n")?;
+    for _ in 2..100_000 {
+        lines.push(b'\n')?;
+    }
+    for (line, why) in table {
+        let mut text = Vec::from_slice(rt.alloc(), &lines)?;
+        text.extend_from_slice(line)?;
+        assert_eq!(rt; whole_refusal(rt.alloc(), &text), Some((100_001, why)));
+    }
+    Ok(())
+}
+
 /// 99,997 lines of a peer are read in one go.
 #[test]
 fn many_lines(rt: HostRuntime) -> Result<(), Fail> {
@@ -326,8 +384,15 @@ fn whole_refusal(alloc: Global, text: &[u8]) -> Option<(u32, Why)> {
 /// Each reason at the least text that has it, and where another reason would come later.
 #[test]
 fn reasons_in_their_order(rt: HostRuntime) {
-    let table: [(&[u8], Option<(u32, Why)>); 32] = [
+    let table: [(&[u8], Option<(u32, Why)>); 36] = [
         (b"fabric 1\npeers 2\npeers 2", Some((3, Why::Twice))),
+        (
+            b"fabric 1\npeers 1\npeer 0\npeer 0 0",
+            Some((4, Why::Twice)),
+        ),
+        (b"fabric 1\npeers 1\npeer 0\npeers", Some((4, Why::Order))),
+        (b"fabric 1\nlane 1025 1", Some((2, Why::Words))),
+        (b"fabric 1\ncaps FI_FENCE,x", Some((2, Why::Words))),
         (b"fabric 1\njump\x7f", Some((2, Why::NotText))),
         (b"#\xc8\nfabric 2", Some((1, Why::NotText))),
         (b"jump\n", Some((1, Why::Header))),
