@@ -1,0 +1,5 @@
+pub mod Decimals
+pub mod Commas
+pub mod Elements
+pub mod CapsNames
+pub mod Headings
