@@ -5,4 +5,9 @@ pub mod Elements
 pub mod HexDigits
 pub mod Numbers
 pub mod Optional
+pub mod Own
+pub mod Receives
+pub mod Remote
 pub mod Said
+pub mod Sends
+pub mod Spelt

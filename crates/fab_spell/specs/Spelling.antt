@@ -7,6 +7,9 @@
 use Rattle.std.specs.Prelude.{ℕ, Bool, true, false, if◌then◌else◌, List, [], ◌∷◌, ◌++◌, Option, Some, None, codes, decimal}
 use Rattle.std.specs.Str.{is_utf8}
 use Rattle.fab_base.specs.declared.items.Access.{Access}
+use Rattle.fab_base.specs.declared.items.AtomicOp.{AtomicOp}
+use Rattle.fab_base.specs.declared.items.AtomicOp.TheVariants as atom
+use Rattle.fab_base.specs.declared.items.Num.{Num}
 use Rattle.fab_base.specs.declared.peers.Level.{Level}
 use Rattle.fab_base.specs.declared.peers.Level.TheVariants as level
 use Rattle.fab_base.specs.declared.script.BytesWord.{BytesWord}
@@ -15,10 +18,12 @@ use Rattle.fab_base.specs.declared.script.LineOp.{LineOp}
 use Rattle.fab_base.specs.declared.script.LineOp.TheVariants as op
 use Rattle.fab_grammar.specs.declared.verbs.Verb.{Verb}
 use Rattle.fab_grammar.specs.declared.verbs.Verb.TheVariants as verb
+use Rattle.fab_grammar.specs.Atomics.{atom_name, num_name}
 use Rattle.fab_grammar.specs.Lines.{class_name}
 use Rattle.fab_grammar.specs.Options.{level_name}
 use Rattle.fab_grammar.specs.Verbs.{name_of}
 use Rattle.fab_model.specs.Words.{Word, hex}
+use Rattle.fab_spell.specs.Elements.{values_word, count_word}
 
 abbrev pub after_blanks : List Word → List ℕ
 after_blanks [] = []
@@ -44,6 +49,11 @@ right_word false false = codes "-"
 
 abbrev pub rights_word : Access → Word
 rights_word access = right_word access.remote_read access.remote_write
+
+-- elements, or how many of them where the operation takes none
+abbrev pub operand_word : AtomicOp → Num → List ℕ → ℕ → Word
+operand_word atom.AtomicRead num values count = count_word count
+operand_word atom num values count = values_word num values
 
 -- ---- optional words
 abbrev pub imm_words : Option ℕ → List Word
@@ -113,6 +123,12 @@ remote_args (op.Read ctx dest key at len) = decimal ctx ∷ decimal dest ∷ dec
 remote_args (op.Write ctx dest key at bytes imm completion) =
     decimal ctx ∷ decimal dest ∷ decimal key ∷ decimal at ∷ bytes_word bytes ∷ imm_words imm ++ completion_words completion
 remote_args (op.WInject dest key at bytes imm) = decimal dest ∷ decimal key ∷ decimal at ∷ bytes_word bytes ∷ imm_words imm
+remote_args (op.Atomic ctx dest key at atom num values completion) =
+    decimal ctx ∷ decimal dest ∷ decimal key ∷ decimal at ∷ atom_name atom ∷ num_name num ∷ operand_word atom num values 0 ∷ completion_words completion
+remote_args (op.Fetch ctx dest key at atom num values count) =
+    decimal ctx ∷ decimal dest ∷ decimal key ∷ decimal at ∷ atom_name atom ∷ num_name num ∷ operand_word atom num values count ∷ []
+remote_args (op.Compare ctx dest key at atom num values compares) =
+    decimal ctx ∷ decimal dest ∷ decimal key ∷ decimal at ∷ atom_name atom ∷ num_name num ∷ operand_word atom num values 0 ∷ operand_word atom num compares 0 ∷ []
 remote_args op = own_args op
 
 -- of receives, and of claimed messages
