@@ -1,3 +1,5 @@
 pub mod Rules
 pub mod Saying
+pub mod Settings
+pub mod Stepping
 pub mod Written
