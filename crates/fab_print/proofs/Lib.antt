@@ -1,3 +1,5 @@
+pub mod Parts
+pub mod Peers
 pub mod Rules
 pub mod Saying
 pub mod Settings
