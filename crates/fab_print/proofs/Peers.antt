@@ -1,5 +1,5 @@
 -- The rows of the peers break no rule.
-use Rattle.std.proofs.Common.{◌≡◌, ℕ, ◌+◌, ◌^◌, ◌<◌, ◌≤◌, true, false, not, ◌||◌, eqb, ltb, leb, List, [], ◌∷◌, ◌++◌, map, decimal, Some, None, sym, ap, subst, ◌∙◌, refl, arith, append_assoc}
+use Rattle.std.proofs.Common.{◌≡◌, ◌&&◌, ℕ, ◌+◌, ◌^◌, ◌<◌, ◌≤◌, true, false, not, ◌||◌, eqb, ltb, leb, List, [], ◌∷◌, ◌++◌, map, decimal, Some, None, sym, ap, subst, ◌∙◌, refl, arith, append_assoc}
 use Rattle.std.specs.Prelude.{Ok, unwrap_or}
 use Rattle.std.specs.List.{list_all, list_any, sum_by}
 use Rattle.std.proofs.lemmas.Bool.Decides.{nat_tests}
@@ -10,6 +10,7 @@ use Rattle.fab_base.specs.declared.script.Line.{Line}
 use Rattle.fab_base.specs.declared.script.LineOp.{LineOp}
 use Rattle.fab_base.specs.declared.script.Payload.{Payload}
 use Rattle.fab_words.specs.Words.{first_of}
+use Rattle.fab_words.specs.Written.{is_word}
 use Rattle.fab_grammar.specs.declared.items.Item.{Item}
 use Rattle.fab_grammar.specs.declared.items.Item.TheVariants.{Peer, Does}
 use Rattle.fab_grammar.specs.declared.language.Language.{Language}
@@ -28,15 +29,18 @@ use Rattle.fab_grammar.specs.Verbs.{kind_of}
 use Rattle.fab_grammar.proofs.PartLemmas.{and_true, opened_by-append}
 use Rattle.fab_spell.specs.Again.{Again}
 use Rattle.fab_spell.specs.Spelling.{verb_for, args_for, row_of}
-use Rattle.fab_spell.proofs.Decimals.{number_again, read_number_decimal, decimal_form}
+use Rattle.fab_spell.proofs.Decimals.{number_again, read_number_decimal, decimal_is_word, decimal_form}
 use Rattle.fab_print.specs.Print.{item_row, without_number}
 use Rattle.fab_print.proofs.Rules.{none_first}
-use Rattle.fab_print.proofs.Stepping.{Rest, take_row, take_none, verb_fits, verb_said}
+use Rattle.fab_print.proofs.Stepping.{Rest, take_row, take_none, verb_row, verb_fits, verb_said}
 
 -- ---- `peer K`
 peer_again : (k : ℕ) → k < 2 ^ 64 → peer_of (decimal k ∷ []) ≡ Ok k
 unfolding peer_of
 peer_again k small = read_number_decimal k small
+
+peer_words : (k : ℕ) → k < 2 ^ 64 → list_all is_word (decimal k ∷ []) ≡ true
+peer_words k small = ap (λ b. b && true) (decimal_is_word k small)
 
 built_form : (language : Language) (k : ℕ) → k < 2 ^ 64 → is_built language verb.Peer (decimal k ∷ []) ≡ true
 unfolding is_built
@@ -54,7 +58,7 @@ peer_rule before number k small new below late =
 
 take_peer : (language : Language) (before : Before) (k : ℕ) (rows : List (List (List ℕ))) (Goal : Before → Type 0) → before.has_header ≡ true → k < 2 ^ 64 → list_any (λ j. eqb j k) (opened_by before.items) ≡ false → k < count_in before
     → Rest language (record before { items = before.items ++ Peer k ∷ [] }) rows Goal → Rest language before (item_row (Peer k) ∷ rows) Goal
-take_peer language before k rows Goal header small new below rest = take_row language before (item_row (Peer k)) rows Goal (λ number late.
+take_peer language before k rows Goal header small new below rest = take_row language before (item_row (Peer k)) rows Goal (verb_row verb.Peer (decimal k ∷ []) (peer_words k small)) (λ number late.
     let args : List (List ℕ) = decimal k ∷ [] in
     let next : with_words before number (item_row (Peer k)) ≡ record before { items = before.items ++ Peer k ∷ [] } = verb_said before number verb.Peer args header ∙ ap (with_peer before) (peer_again k small) in
     (verb_fits language before number verb.Peer args header (built_form language k small) (peer_rule before number k small new below late), subst (λ b. Rest language b rows Goal) (sym next) rest))
@@ -77,7 +81,7 @@ kind_said before number verb args op k e = ap (λ l. with_kind l before number v
 -- the line has the number at which it stands
 take_call : (language : Language) (before : Before) (op : LineOp) (rows : List (List (List ℕ))) (Goal : Before → Type 0) → before.has_header ≡ true → Again language op → has_opened before ≡ true → sum_by size_of before.items + op_size op ≤ 67108864
     → ((number : ℕ) → Rest language (with_call before number (Ok op)) rows Goal) → Rest language before (row_of op ∷ rows) Goal
-take_call language before op rows Goal header again opened few rest = take_row language before (row_of op) rows Goal (λ number late.
+take_call language before op rows Goal header again opened few rest = take_row language before (row_of op) rows Goal (verb_row (verb_for op) (args_for op) again.words) (λ number late.
     let v = verb_for op in
     let args = args_for op in
     let rules = call_rule before number v args op again.reads opened few late in

@@ -28,7 +28,7 @@ use Rattle.fab_spell.specs.Headings.{setting_verb, setting_args, setting_row, Se
 use Rattle.fab_print.specs.Print.{asked, wished, selected}
 use Rattle.fab_print.proofs.Rules.{none_first}
 use Rattle.fab_print.proofs.Saying.{id_of, any_id, file_declared}
-use Rattle.fab_print.proofs.Stepping.{Rest, take_row, verb_fits, verb_said}
+use Rattle.fab_print.proofs.Stepping.{Rest, take_row, verb_row, verb_fits, verb_said}
 
 -- ---- one setting
 -- what the rules ask of a setting, where the row says it
@@ -55,7 +55,7 @@ kind_said : (before : Before) (number : ℕ) (verb : Verb) (args : List (List �
 kind_said before number verb args s k e = ap (λ l. with_kind l before number verb args) k ∙ ap (with_setting before) e
 
 pub take_setting : (language : Language) (before : Before) (s : Setting) (rows : List (List (List ℕ))) (Goal : Before → Type 0) → Fits language before s → Rest language (with_setting before (Ok s)) rows Goal → Rest language before (setting_row s ∷ rows) Goal
-take_setting language before s rows Goal f rest = take_row language before (setting_row s) rows Goal (λ number late.
+take_setting language before s rows Goal f rest = take_row language before (setting_row s) rows Goal (verb_row (setting_verb s) (setting_args s) f.again.words) (λ number late.
     let v = setting_verb s in
     let args = setting_args s in
     let rules = rules_kept before number v args s f.again.reads f.early f.unset f.few f.granted late in

@@ -1,6 +1,6 @@
 -- Rows that are read one after another.
---     Rest language before rows Goal      from what is said before, these rows break no rule wherever they stand within 100,000 lines, and of what is said then the goal holds
-use Rattle.std.proofs.Common.{◌≡◌, ℕ, ◌+◌, ◌≤◌, true, false, cond, not, List, [], ◌∷◌, length, Some, None, sym, ap, subst, ◌∙◌, refl, arith}
+--     Rest language before rows Goal      from what is said before, these rows can be written and break no rule wherever they stand within 100,000 lines, and the goal holds of what is said then
+use Rattle.std.proofs.Common.{◌≡◌, ◌&&◌, ℕ, ◌+◌, ◌≤◌, true, false, cond, not, List, [], ◌∷◌, length, Some, None, sym, ap, subst, ◌∙◌, refl, arith}
 use Rattle.std.specs.Prelude.{codes}
 use Rattle.std.specs.List.{list_all}
 use Rattle.std.proofs.lemmas.Bool.Decides.{nat_tests}
@@ -20,6 +20,7 @@ use Rattle.fab_print.proofs.Rules.{none_first}
 
 pub record Outcome (language : Language) (before : Before) (number : ℕ) (rows : List (List (List ℕ))) (Goal : Before → Type 0) : Type 0 where
   pub after : Before
+  pub written : list_all is_row rows ≡ true
   pub reads : Reads language before number rows after
   pub goal : Goal after
 
@@ -30,16 +31,16 @@ in_time : (number more : ℕ) → number + (more + 1) ≤ 100001 → is_late num
 in_time number more h = grind (arith, nat_tests)
 
 -- one row, and what follows it
-pub take_row : (language : Language) (before : Before) (row : List (List ℕ)) (rows : List (List (List ℕ))) (Goal : Before → Type 0) → ((number : ℕ) → is_late number ≡ false → (first_of (word_rules language before number row) ≡ None) × Rest language (with_words before number row) rows Goal) → Rest language before (row ∷ rows) Goal
-take_row language before row rows Goal fits = λ number bound.
+pub take_row : (language : Language) (before : Before) (row : List (List ℕ)) (rows : List (List (List ℕ))) (Goal : Before → Type 0) → is_row row ≡ true → ((number : ℕ) → is_late number ≡ false → (first_of (word_rules language before number row) ≡ None) × Rest language (with_words before number row) rows Goal) → Rest language before (row ∷ rows) Goal
+take_row language before row rows Goal words fits = λ number bound.
     let late : is_late number ≡ false = in_time number (length rows) (omega arith) in
     let here = fits number late in
     let rest = here.1 (number + 1) (omega arith) in
-    record { after = rest.after; reads = (here.0, rest.reads); goal = rest.goal }
+    record { after = rest.after; written = ap (λ b. b && list_all is_row rows) words ∙ rest.written; reads = (here.0, rest.reads); goal = rest.goal }
 
 -- no row is left
 pub take_none : (language : Language) (before : Before) (Goal : Before → Type 0) → Goal before → Rest language before [] Goal
-take_none language before Goal g = λ number bound. record { after = before; reads = refl; goal = g }
+take_none language before Goal g = λ number bound. record { after = before; written = refl; reads = refl; goal = g }
 
 -- ---- verbs
 pub verb_named : (verb : Verb) → verb_of (name_of verb) ≡ Some verb
@@ -65,7 +66,7 @@ verb_said before number verb args header =
 
 -- ---- the header
 pub take_header : (language : Language) (before : Before) (rows : List (List (List ℕ))) (Goal : Before → Type 0) → before.has_header ≡ false → Rest language (record before { has_header = true }) rows Goal → Rest language before (header_row ∷ rows) Goal
-take_header language before rows Goal none rest = take_row language before header_row rows Goal (λ number late.
+take_header language before rows Goal none rest = take_row language before header_row rows Goal refl (λ number late.
     let verb = verb_of (codes "fabric") in
     let args : List (List ℕ) = codes "1" ∷ [] in
     let fits : first_of (word_rules language before number header_row) ≡ None =

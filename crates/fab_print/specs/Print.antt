@@ -37,10 +37,16 @@ wished size (Some n) = Wish size n ∷ []
 abbrev pub selected : Bool → List Setting
 selected is_selective = if is_selective then Selective ∷ [] else []
 
+-- the lists, joined
+abbrev pub joined : List (List Setting) → List Setting
+joined [] = []
+joined (settings ∷ others) = settings ++ joined others
+
 abbrev pub settings_for : Hints → Conf → List Payload → List Setting
-settings_for h conf payloads =
-    asked h.caps ++ Peers conf.peers ∷ wished size.Lane h.lane ++ wished size.Pool h.pool ++ wished size.Tx h.tx ++ wished size.Rx h.rx ++ wished size.Cq h.cq
-    ++ selected conf.selective ++ map File payloads
+settings_for h conf payloads = joined (
+    asked h.caps ∷ (Peers conf.peers ∷ [])
+    ∷ wished size.Lane h.lane ∷ wished size.Pool h.pool ∷ wished size.Tx h.tx ∷ wished size.Rx h.rx ∷ wished size.Cq h.cq
+    ∷ selected conf.selective ∷ map File payloads ∷ [])
 
 abbrev pub settings_of : Script → List Setting
 settings_of script = settings_for (unwrap_or script.conf.hints no_hints) script.conf script.payloads
