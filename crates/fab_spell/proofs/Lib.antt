@@ -1,9 +1,11 @@
+pub mod BuiltLines
 pub mod ByteWords
 pub mod Commas
 pub mod Decimals
 pub mod Elements
 pub mod HexDigits
 pub mod Numbers
+pub mod Operations
 pub mod Optional
 pub mod Own
 pub mod Receives

@@ -129,7 +129,7 @@ pub are_words-append : (xs ys : List (List ℕ)) → list_all is_word xs ≡ tru
 are_words-append xs ys e f = list_all-append is_word xs ys ∙ and_from _ _ e f
 
 -- ---- in the language that is carried out there are none
-abbrev AllBuilt : List (List ℕ) → Type 0
+abbrev pub AllBuilt : List (List ℕ) → Type 0
 AllBuilt words = list_all (λ word. has_form Built (form_of_word word)) words ≡ true
 
 pub record NoOptions (o : Options) : Type 0 where
