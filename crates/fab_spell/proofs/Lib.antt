@@ -1,8 +1,10 @@
 pub mod BuiltLines
 pub mod ByteWords
+pub mod CapsNames
 pub mod Commas
 pub mod Decimals
 pub mod Elements
+pub mod Headings
 pub mod HexDigits
 pub mod Numbers
 pub mod Operations
