@@ -1,3 +1,4 @@
+pub mod Blanks
 pub mod BuiltLines
 pub mod ByteWords
 pub mod CapsNames

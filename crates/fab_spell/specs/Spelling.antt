@@ -35,8 +35,11 @@ source_word None = codes "*"
 source_word (Some index) = decimal index
 
 -- bytes that are no text have digits; a text that was read is one
+abbrev pub text_word : List ℕ → Word
+text_word bytes = if is_utf8 bytes then codes "text:" ++ bytes else codes "hex:" ++ hex bytes
+
 unfoldable pub bytes_word : BytesWord → Word
-bytes_word (Text bytes) = if is_utf8 bytes then codes "text:" ++ bytes else codes "hex:" ++ hex bytes
+bytes_word (Text bytes) = text_word bytes
 bytes_word (Hex bytes) = codes "hex:" ++ hex bytes
 bytes_word (Zero len) = codes "zero:" ++ decimal len
 bytes_word (File id at len) = codes "file:" ++ (decimal id ++ 58 ∷ (decimal at ++ 58 ∷ decimal len))

@@ -1,3 +1,10 @@
 //! How a line of a script is written (docs/SCRIPT.md): the words of an operation and of a setting, such that they
 //! read as they were read.
 #![tactic(auto)]
+
+mod bytes;
+mod lines;
+mod words;
+
+pub use bytes::add_bytes;
+pub use lines::add_line;

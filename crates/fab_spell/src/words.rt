@@ -1,0 +1,115 @@
+//! The words of a line, each with a blank before it.
+ghost use Rattle.std.specs.Prelude.{◌≡◌, ◌++◌, [], ◌∷◌, OnOk, string_bytes, codes, decimal, map};
+ghost use Rattle.fab_grammar.specs.Options.{level_name};
+ghost use Rattle.fab_spell.specs.Spelling.{after_blanks, source_word, bytes_word, rights_word, imm_words, level_words, completion_words, min_words};
+
+use crate::bytes::add_bytes;
+use fab_base::{Access, BytesWord, Level, NoMemory};
+
+pub(crate) fn add_word(out: &mut String, word: &str) -> Result<(), NoMemory>
+    ensures { OnOk result (string_bytes out.new ≡ string_bytes out.old ++ 32 ∷ word.now) }
+{
+    out.push(' ')?;
+    out.push_str(word)?;
+    Ok(())
+}
+
+fn add_number(out: &mut String, n: u64) -> Result<(), NoMemory>
+    ensures { OnOk result (string_bytes out.new ≡ string_bytes out.old ++ 32 ∷ decimal n) }
+{
+    write!(out, " {n}")?;
+    Ok(())
+}
+
+pub(crate) fn add_numbers(out: &mut String, numbers: &[u64]) -> Result<(), NoMemory>
+    ensures { OnOk result (string_bytes out.new ≡ string_bytes out.old ++ after_blanks (map decimal numbers.now)) }
+{
+    for n in numbers {
+        add_number(out, *n)?;
+    }
+    Ok(())
+}
+
+/// `*`, or an index.
+pub(crate) fn add_source(out: &mut String, source: Option<u32>) -> Result<(), NoMemory>
+    ensures { OnOk result (string_bytes out.new ≡ string_bytes out.old ++ 32 ∷ source_word source) }
+{
+    match source {
+        None => add_word(out, "*"),
+        Some(index) => add_number(out, u64::from(index)),
+    }
+}
+
+/// `*`, or a context.
+pub(crate) fn add_context(out: &mut String, ctx: Option<u64>) -> Result<(), NoMemory>
+    ensures { OnOk result (string_bytes out.new ≡ string_bytes out.old ++ 32 ∷ source_word ctx) }
+{
+    match ctx {
+        None => add_word(out, "*"),
+        Some(n) => add_number(out, n),
+    }
+}
+
+/// The word that names bytes.
+pub(crate) fn add_data(out: &mut String, bytes: &BytesWord) -> Result<(), NoMemory>
+    ensures { OnOk result (string_bytes out.new ≡ string_bytes out.old ++ 32 ∷ bytes_word bytes.now) }
+{
+    out.push(' ')?;
+    add_bytes(out, bytes)
+}
+
+/// `r`, `w`, `rw` or `-`.
+pub(crate) fn add_rights(out: &mut String, access: Access) -> Result<(), NoMemory>
+    ensures { OnOk result (string_bytes out.new ≡ string_bytes out.old ++ 32 ∷ rights_word access) }
+{
+    let rights = match (access.remote_read, access.remote_write) {
+        (true, true) => "rw",
+        (true, false) => "r",
+        (false, true) => "w",
+        (false, false) => "-",
+    };
+    add_word(out, rights)
+}
+
+/// `data=N`, where remote data goes along.
+pub(crate) fn add_imm(out: &mut String, imm: Option<u64>) -> Result<(), NoMemory>
+    ensures { OnOk result (string_bytes out.new ≡ string_bytes out.old ++ after_blanks (imm_words imm)) }
+{
+    if let Some(n) = imm {
+        write!(out, " data={n}")?;
+    }
+    Ok(())
+}
+
+/// `min=N`, where it is given.
+pub(crate) fn add_min(out: &mut String, min: Option<u32>) -> Result<(), NoMemory>
+    ensures { OnOk result (string_bytes out.new ≡ string_bytes out.old ++ after_blanks (min_words min)) }
+{
+    if let Some(n) = min {
+        write!(out, " min={n}")?;
+    }
+    Ok(())
+}
+
+/// `level=L`, where it is another than that without the word.
+pub(crate) fn add_level(out: &mut String, level: Level) -> Result<(), NoMemory>
+    ensures { OnOk result (string_bytes out.new ≡ string_bytes out.old ++ after_blanks (level_words level)) }
+{
+    match level {
+        Level::Inject => add_word(out, "level=inject"),
+        Level::Transmit => Ok(()),
+        Level::Delivery => add_word(out, "level=delivery"),
+        Level::Match => add_word(out, "level=match"),
+    }
+}
+
+/// `completion`, where it is asked for.
+pub(crate) fn add_completion(out: &mut String, completion: bool) -> Result<(), NoMemory>
+    ensures { OnOk result (string_bytes out.new ≡ string_bytes out.old ++ after_blanks (completion_words completion)) }
+{
+    if completion {
+        add_word(out, "completion")
+    } else {
+        Ok(())
+    }
+}
