@@ -3,3 +3,4 @@ pub mod Commas
 pub mod Elements
 pub mod CapsNames
 pub mod Headings
+pub mod LowFirst
