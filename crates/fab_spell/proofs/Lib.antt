@@ -7,6 +7,7 @@ pub mod Decimals
 pub mod Elements
 pub mod Headings
 pub mod HexDigits
+pub mod LowFirst
 pub mod Numbers
 pub mod Operations
 pub mod Optional

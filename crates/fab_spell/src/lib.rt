@@ -4,7 +4,9 @@
 
 mod bytes;
 mod lines;
+mod values;
 mod words;
 
 pub use bytes::add_bytes;
 pub use lines::add_line;
+pub use values::add_values;
