@@ -34,13 +34,16 @@ abbrev pub source_word : Option ℕ → Word
 source_word None = codes "*"
 source_word (Some index) = decimal index
 
+abbrev pub digits_word : List ℕ → Word
+digits_word bytes = codes "hex:" ++ hex bytes
+
 -- bytes that are no text have digits; a text that was read is one
 abbrev pub text_word : List ℕ → Word
-text_word bytes = if is_utf8 bytes then codes "text:" ++ bytes else codes "hex:" ++ hex bytes
+text_word bytes = if is_utf8 bytes then codes "text:" ++ bytes else digits_word bytes
 
 unfoldable pub bytes_word : BytesWord → Word
 bytes_word (Text bytes) = text_word bytes
-bytes_word (Hex bytes) = codes "hex:" ++ hex bytes
+bytes_word (Hex bytes) = digits_word bytes
 bytes_word (Zero len) = codes "zero:" ++ decimal len
 bytes_word (File id at len) = codes "file:" ++ (decimal id ++ 58 ∷ (decimal at ++ 58 ∷ decimal len))
 
@@ -120,19 +123,23 @@ own_args (op.Count class) = class_name class ∷ []
 own_args (op.Reach class n) = class_name class ∷ decimal n ∷ []
 own_args _ = []
 
+-- of atomics
+abbrev pub atomic_args : LineOp → List Word
+atomic_args (op.Atomic ctx dest key at atom num values completion) =
+    decimal ctx ∷ decimal dest ∷ decimal key ∷ decimal at ∷ atom_name atom ∷ num_name num ∷ operand_word atom num values 0 ∷ completion_words completion
+atomic_args (op.Fetch ctx dest key at atom num values count) =
+    decimal ctx ∷ decimal dest ∷ decimal key ∷ decimal at ∷ atom_name atom ∷ num_name num ∷ operand_word atom num values count ∷ []
+atomic_args (op.Compare ctx dest key at atom num values compares) =
+    decimal ctx ∷ decimal dest ∷ decimal key ∷ decimal at ∷ atom_name atom ∷ num_name num ∷ operand_word atom num values 0 ∷ operand_word atom num compares 0 ∷ []
+atomic_args op = own_args op
+
 -- of another peer's regions
 abbrev pub remote_args : LineOp → List Word
 remote_args (op.Read ctx dest key at len) = decimal ctx ∷ decimal dest ∷ decimal key ∷ decimal at ∷ decimal len ∷ []
 remote_args (op.Write ctx dest key at bytes imm completion) =
     decimal ctx ∷ decimal dest ∷ decimal key ∷ decimal at ∷ bytes_word bytes ∷ imm_words imm ++ completion_words completion
 remote_args (op.WInject dest key at bytes imm) = decimal dest ∷ decimal key ∷ decimal at ∷ bytes_word bytes ∷ imm_words imm
-remote_args (op.Atomic ctx dest key at atom num values completion) =
-    decimal ctx ∷ decimal dest ∷ decimal key ∷ decimal at ∷ atom_name atom ∷ num_name num ∷ operand_word atom num values 0 ∷ completion_words completion
-remote_args (op.Fetch ctx dest key at atom num values count) =
-    decimal ctx ∷ decimal dest ∷ decimal key ∷ decimal at ∷ atom_name atom ∷ num_name num ∷ operand_word atom num values count ∷ []
-remote_args (op.Compare ctx dest key at atom num values compares) =
-    decimal ctx ∷ decimal dest ∷ decimal key ∷ decimal at ∷ atom_name atom ∷ num_name num ∷ operand_word atom num values 0 ∷ operand_word atom num compares 0 ∷ []
-remote_args op = own_args op
+remote_args op = atomic_args op
 
 -- of receives, and of claimed messages
 abbrev pub receive_args : LineOp → List Word

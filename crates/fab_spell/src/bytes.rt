@@ -1,7 +1,7 @@
 //! How bytes are written.
-ghost use Rattle.std.specs.Prelude.{◌≡◌, ◌++◌, [], ◌∷◌, ◌<◌, OnOk, string_bytes, codes};
+ghost use Rattle.std.specs.Prelude.{◌≡◌, ◌++◌, [], ◌∷◌, ◌<◌, OnOk, string_bytes};
 ghost use Rattle.fab_model.specs.Words.{hex_digit, hex};
-ghost use Rattle.fab_spell.specs.Spelling.{text_word, bytes_word};
+ghost use Rattle.fab_spell.specs.Spelling.{digits_word, text_word, bytes_word};
 
 use fab_base::{BytesWord, NoMemory};
 
@@ -28,7 +28,7 @@ fn add_byte(out: &mut String, byte: u8) -> Result<(), NoMemory>
 
 /// Two hexadecimal digits a byte.
 fn add_digits(out: &mut String, bytes: &[u8]) -> Result<(), NoMemory>
-    ensures { OnOk result (string_bytes out.new ≡ string_bytes out.old ++ codes "hex:" ++ hex bytes.now) }
+    ensures { OnOk result (string_bytes out.new ≡ string_bytes out.old ++ digits_word bytes.now) }
 {
     out.push_str("hex:")?;
     for byte in bytes {

@@ -2,11 +2,11 @@
 ghost use Rattle.std.specs.Prelude.{◌≡◌, ◌++◌, OnOk, string_bytes};
 ghost use Rattle.fab_grammar.specs.Lines.{class_name};
 ghost use Rattle.fab_model.specs.Words.{line_of};
-ghost use Rattle.fab_spell.specs.Spelling.{after_blanks, verb_for, own_args, remote_args, receive_args, args_for, row_of};
+ghost use Rattle.fab_spell.specs.Spelling.{after_blanks, verb_for, own_args, atomic_args, remote_args, receive_args, args_for, row_of};
 
 use crate::words::{
-    add_completion, add_context, add_data, add_imm, add_level, add_min, add_numbers, add_rights,
-    add_source, add_word,
+    add_atom, add_completion, add_context, add_data, add_imm, add_level, add_min, add_numbers,
+    add_operand, add_rights, add_source, add_word,
 };
 use fab_base::{Class, LineOp, NoMemory};
 use fab_grammar::Verb;
@@ -123,6 +123,57 @@ fn add_receive_args(out: &mut String, op: &LineOp) -> Result<(), NoMemory>
         }
         LineOp::Take { ctx, len } => add_numbers(out, &[*ctx, u64::from(*len)]),
         LineOp::DropClaimed { ctx } | LineOp::Cancel { ctx } => add_numbers(out, &[*ctx]),
+        _ => add_remote_args(out, op),
+    }
+}
+
+/// The words of lines on another peer's regions.
+#[tactic(auto, using(crate::proofs::Blanks::blanks))]
+fn add_remote_args(out: &mut String, op: &LineOp) -> Result<(), NoMemory>
+    ensures { OnOk result (string_bytes out.new ≡ string_bytes out.old ++ after_blanks (remote_args op.now)) }
+{
+    match op {
+        LineOp::Read { ctx, dest, key, at, len } => {
+            add_numbers(out, &[*ctx, u64::from(*dest), *key, *at, u64::from(*len)])
+        }
+        LineOp::Write { ctx, dest, key, at, bytes, imm, completion } => {
+            add_numbers(out, &[*ctx, u64::from(*dest), *key, *at])?;
+            add_data(out, bytes)?;
+            add_imm(out, *imm)?;
+            add_completion(out, *completion)
+        }
+        LineOp::WInject { dest, key, at, bytes, imm } => {
+            add_numbers(out, &[u64::from(*dest), *key, *at])?;
+            add_data(out, bytes)?;
+            add_imm(out, *imm)
+        }
+        _ => add_atomic_args(out, op),
+    }
+}
+
+/// The words of atomics.
+#[tactic(auto, using(crate::proofs::Blanks::blanks))]
+fn add_atomic_args(out: &mut String, op: &LineOp) -> Result<(), NoMemory>
+    ensures { OnOk result (string_bytes out.new ≡ string_bytes out.old ++ after_blanks (atomic_args op.now)) }
+{
+    match op {
+        LineOp::Atomic { ctx, dest, key, at, op, num, values, completion } => {
+            add_numbers(out, &[*ctx, u64::from(*dest), *key, *at])?;
+            add_atom(out, *op, *num)?;
+            add_operand(out, *op, *num, values, 0)?;
+            add_completion(out, *completion)
+        }
+        LineOp::Fetch { ctx, dest, key, at, op, num, values, count } => {
+            add_numbers(out, &[*ctx, u64::from(*dest), *key, *at])?;
+            add_atom(out, *op, *num)?;
+            add_operand(out, *op, *num, values, *count)
+        }
+        LineOp::Compare { ctx, dest, key, at, op, num, values, compares } => {
+            add_numbers(out, &[*ctx, u64::from(*dest), *key, *at])?;
+            add_atom(out, *op, *num)?;
+            add_operand(out, *op, *num, values, 0)?;
+            add_operand(out, *op, *num, compares, 0)
+        }
         _ => add_own_args(out, op),
     }
 }

@@ -1,10 +1,12 @@
 //! The words of a line, each with a blank before it.
 ghost use Rattle.std.specs.Prelude.{◌≡◌, ◌++◌, [], ◌∷◌, OnOk, string_bytes, codes, decimal, map};
-ghost use Rattle.fab_grammar.specs.Options.{level_name};
-ghost use Rattle.fab_spell.specs.Spelling.{after_blanks, source_word, bytes_word, rights_word, imm_words, level_words, completion_words, min_words};
+ghost use Rattle.fab_grammar.specs.Atomics.{atom_name, num_name};
+ghost use Rattle.fab_spell.specs.Spelling.{after_blanks, source_word, bytes_word, rights_word, operand_word, imm_words, level_words, completion_words, min_words};
 
 use crate::bytes::add_bytes;
-use fab_base::{Access, BytesWord, Level, NoMemory};
+use crate::values::add_values;
+use fab_base::{Access, AtomicOp, Buf, BytesWord, Level, NoMemory, Num};
+use fab_grammar::{atom_name, num_name};
 
 pub(crate) fn add_word(out: &mut String, word: &str) -> Result<(), NoMemory>
     ensures { OnOk result (string_bytes out.new ≡ string_bytes out.old ++ 32 ∷ word.now) }
@@ -69,6 +71,32 @@ pub(crate) fn add_rights(out: &mut String, access: Access) -> Result<(), NoMemor
         (false, false) => "-",
     };
     add_word(out, rights)
+}
+
+/// The elements of an operand, or how many of them where the operation takes none.
+pub(crate) fn add_operand(
+    out: &mut String,
+    op: AtomicOp,
+    num: Num,
+    values: &Buf,
+    count: u32,
+) -> Result<(), NoMemory>
+    ensures { OnOk result (string_bytes out.new ≡ string_bytes out.old ++ 32 ∷ operand_word op num values.now count) }
+{
+    out.push(' ')?;
+    match op {
+        AtomicOp::AtomicRead => write!(out, "*{count}")?,
+        _ => add_values(out, num, values.as_slice())?,
+    }
+    Ok(())
+}
+
+/// The operation of an atomic, and the kind of its elements.
+pub(crate) fn add_atom(out: &mut String, op: AtomicOp, num: Num) -> Result<(), NoMemory>
+    ensures { OnOk result (string_bytes out.new ≡ string_bytes out.old ++ after_blanks (atom_name op ∷ num_name num ∷ [])) }
+{
+    add_word(out, atom_name(op))?;
+    add_word(out, num_name(num))
 }
 
 /// `data=N`, where remote data goes along.
