@@ -1,9 +1,8 @@
 -- The lines of the language that is carried out are written as lines of it.
-use Rattle.std.proofs.Common.{◌≡◌, ℕ, Bool, true, false, cond, not, ◌&&◌, ltb, leb, List, [], ◌∷◌, ◌++◌, length, drop, Option, Some, None, codes, decimal, ap, subst, ◌∙◌, refl}
-use Rattle.std.specs.Prelude.{bytes_eq, Result, Ok, Err}
+use Rattle.std.proofs.Common.{◌≡◌, ℕ, Bool, true, false, cond, not, ◌&&◌, ltb, List, [], ◌∷◌, length, drop, Option, Some, None, codes, subst, refl}
+use Rattle.std.specs.Prelude.{Result, Ok, Err}
 use Rattle.std.specs.List.{list_all, slice_split}
 use Rattle.std.proofs.lemmas.Bool.{and_parts}
-use Rattle.fab_base.specs.declared.peers.Level.TheVariants as level
 use Rattle.fab_base.specs.declared.script.BytesWord.{BytesWord}
 use Rattle.fab_base.specs.declared.script.BytesWord.TheVariants.{Text, Zero}
 use Rattle.fab_base.specs.declared.script.LineOp.{LineOp}

@@ -1,5 +1,5 @@
 -- Bytes that a word named are named again.
-use Rattle.std.proofs.Common.{◌≡◌, ℕ, zero, suc, ◌+◌, ◌%◌, ◌<◌, ◌≤◌, Bool, true, false, cond, ◌&&◌, eqb, ltb, leb, List, [], ◌∷◌, ◌++◌, length, drop, Option, Some, None, codes, decimal, sym, ap, subst, ◌∙◌, refl, arith}
+use Rattle.std.proofs.Common.{◌≡◌, ℕ, zero, suc, ◌%◌, ◌<◌, ◌≤◌, Bool, true, false, cond, eqb, ltb, leb, List, [], ◌∷◌, ◌++◌, length, drop, codes, decimal, ap, subst, ◌∙◌, refl, arith}
 use Rattle.std.specs.Prelude.{Result, Ok, Err}
 use Rattle.std.specs.List.{list_all, slice_split, All}
 use Rattle.std.specs.Str.{is_utf8, IsAscii}
@@ -11,17 +11,12 @@ use Rattle.std.proofs.lemmas.Str.{is_utf8-from_IsUtf8, IsUtf8-from_ascii}
 use Rattle.std.proofs.lemmas.Str.Ascii.{IsAscii-nil, IsAscii-cons}
 use Rattle.fab_base.specs.declared.script.BytesWord.{BytesWord}
 use Rattle.fab_base.specs.declared.script.BytesWord.TheVariants.{Text, Hex, Zero, File}
-use Rattle.fab_grammar.specs.declared.language.Form.{Form}
-use Rattle.fab_grammar.specs.declared.language.Form.TheVariants.{Long, Hex as HexForm, Zero as ZeroForm, File as FileForm}
-use Rattle.fab_grammar.specs.declared.language.Language.TheVariants.{Built}
-use Rattle.fab_grammar.specs.Language.{has, has_form, optional_forms, form_of_word}
-use Rattle.fab_model.specs.Words.{hex}
 use Rattle.fab_words.specs.declared.fault.Fault.{Fault}
 use Rattle.fab_words.specs.declared.fault.Fault.TheVariants.{Words, Limit}
 use Rattle.fab_words.specs.Bytes.{few_bytes, of_hex, a_file_range, file_range, is_colon, read_bytes}
 use Rattle.fab_words.specs.Faults.{◌&◌, map_ok}
 use Rattle.fab_words.specs.Rows.{is_filled}
-use Rattle.fab_words.specs.Words.{first_of, begins_with, read_number, read_len}
+use Rattle.fab_words.specs.Words.{begins_with, read_number, read_len}
 use Rattle.fab_words.specs.Written.{is_word}
 use Rattle.fab_spell.specs.Spelling.{bytes_word}
 use Rattle.fab_spell.proofs.Decimals.{read_number_again, read_len_again}

@@ -1,5 +1,5 @@
 -- Lines on another peer's regions ask again.
-use Rattle.std.proofs.Common.{◌≡◌, ℕ, Bool, true, List, [], ◌∷◌, ◌++◌, ◌^◌, ◌<◌, Option, Some, decimal, arith, ap, subst, ◌∙◌, refl}
+use Rattle.std.proofs.Common.{◌≡◌, ℕ, true, List, [], ◌∷◌, Some, decimal, arith, ap, subst, refl}
 use Rattle.std.specs.Prelude.{Result, Ok, Err, ok_or}
 use Rattle.std.specs.List.{list_all}
 use Rattle.fab_base.specs.declared.items.AtomicOp.{AtomicOp}
@@ -7,7 +7,7 @@ use Rattle.fab_base.specs.declared.items.AtomicOp.TheVariants as atom
 use Rattle.fab_base.specs.declared.items.Num.{Num}
 use Rattle.fab_base.specs.declared.items.Num.TheVariants as num
 use Rattle.fab_base.specs.declared.script.LineOp.{LineOp}
-use Rattle.fab_grammar.specs.Atomics.{Operand, Request, atom_name, atom_named, num_name, num_named, read_elements, read_elements_count, values_alone, count_alone, read_values, with_kind, operand_of, read_operand, read_request, for_atomic, an_atomic, atomic_of, a_fetch, fetch_of, a_compare, compare_of}
+use Rattle.fab_grammar.specs.Atomics.{Operand, atom_name, atom_named, num_name, num_named, read_elements, read_elements_count, values_alone, count_alone, read_values, with_kind, operand_of, read_operand, read_request, for_atomic, an_atomic, atomic_of, a_fetch, fetch_of, a_compare, compare_of}
 use Rattle.fab_grammar.specs.Lines.{a_read, read_of, op_of}
 use Rattle.fab_grammar.specs.Options.{read_options}
 use Rattle.fab_grammar.specs.Sends.{for_inject, for_write, read_target, read_remote, a_write, write_of, a_winject, winject_of}
@@ -15,7 +15,7 @@ use Rattle.fab_words.specs.declared.fault.Fault.{Fault}
 use Rattle.fab_words.specs.declared.fault.Fault.TheVariants.{Words}
 use Rattle.fab_words.specs.Bytes.{read_bytes}
 use Rattle.fab_words.specs.Faults.{◌&◌, map_ok}
-use Rattle.fab_words.specs.Words.{numeral_of, number_of, read_number, read_up_to, read_index, read_len}
+use Rattle.fab_words.specs.Words.{read_number, read_up_to, read_index, read_len}
 use Rattle.fab_words.specs.Written.{is_word}
 use Rattle.fab_spell.specs.Elements.{values_word, count_word}
 use Rattle.fab_spell.specs.Spelling.{verb_for, args_for, operand_word, imm_words, completion_words}
@@ -24,7 +24,7 @@ use Rattle.fab_spell.proofs.Decimals.{read_number_decimal, read_number_again, re
 use Rattle.fab_spell.proofs.Elements.{values_again, count_again}
 use Rattle.fab_spell.proofs.Numbers.{is_word-decimal}
 use Rattle.fab_spell.proofs.Optional.{options_said, imm_again, inject_options, write_options, atomic_options, are_words-imm, are_words-completion, are_words-append}
-use Rattle.fab_spell.proofs.Said.{both_said, said_by, some_said}
+use Rattle.fab_spell.proofs.Said.{both_said, said_by}
 use Rattle.fab_spell.proofs.Sends.{first_word, other_words}
 use Rattle.fab_spell.proofs.Spelt.{Spelt}
 
@@ -69,7 +69,7 @@ write_spelt (ctx ∷ dest ∷ key ∷ at ∷ bytes ∷ options) op are e =
     subst Spelt said.2 (record {
       call = refl;
       words = rw (is_word-decimal r.0, is_word-decimal r.1.0.0, is_word-decimal r.1.0.1, is_word-decimal r.1.1, again.word)
-        (are_words-append (imm_words p.1.imm) (completion_words p.1.completion) (are_words-imm p.1.imm) (are_words-completion p.1.completion));
+          (are_words-append (imm_words p.1.imm) (completion_words p.1.completion) (are_words-imm p.1.imm) (are_words-completion p.1.completion));
       reads = rw (remote_again ctx dest key at r two.0, again.reads, write_options p.1.imm p.1.completion imm) refl;
     })
 write_spelt _ op are e = cc

@@ -64,14 +64,29 @@ fn add_args(out: &mut String, op: &LineOp) -> Result<(), NoMemory>
     ensures { OnOk result (string_bytes out.new ≡ string_bytes out.old ++ after_blanks (args_for op.now)) }
 {
     match op {
-        LineOp::Send { ctx, dest, bytes, imm, level, completion } => {
+        LineOp::Send {
+            ctx,
+            dest,
+            bytes,
+            imm,
+            level,
+            completion,
+        } => {
             add_numbers(out, &[*ctx, u64::from(*dest)])?;
             add_data(out, bytes)?;
             add_imm(out, *imm)?;
             add_level(out, *level)?;
             add_completion(out, *completion)
         }
-        LineOp::TSend { ctx, dest, tag, bytes, imm, level, completion } => {
+        LineOp::TSend {
+            ctx,
+            dest,
+            tag,
+            bytes,
+            imm,
+            level,
+            completion,
+        } => {
             add_numbers(out, &[*ctx, u64::from(*dest), *tag])?;
             add_data(out, bytes)?;
             add_imm(out, *imm)?;
@@ -83,7 +98,12 @@ fn add_args(out: &mut String, op: &LineOp) -> Result<(), NoMemory>
             add_data(out, bytes)?;
             add_imm(out, *imm)
         }
-        LineOp::TInject { dest, tag, bytes, imm } => {
+        LineOp::TInject {
+            dest,
+            tag,
+            bytes,
+            imm,
+        } => {
             add_numbers(out, &[u64::from(*dest), *tag])?;
             add_data(out, bytes)?;
             add_imm(out, *imm)
@@ -103,20 +123,46 @@ fn add_receive_args(out: &mut String, op: &LineOp) -> Result<(), NoMemory>
             add_source(out, *source)?;
             add_numbers(out, &[u64::from(*len)])
         }
-        LineOp::TRecv { ctx, source, tag, ignore, len } => {
+        LineOp::TRecv {
+            ctx,
+            source,
+            tag,
+            ignore,
+            len,
+        } => {
             add_numbers(out, &[*ctx])?;
             add_source(out, *source)?;
             add_numbers(out, &[*tag, *ignore, u64::from(*len)])
         }
-        LineOp::MRecv { ctx, source, len, min } => {
+        LineOp::MRecv {
+            ctx,
+            source,
+            len,
+            min,
+        } => {
             add_numbers(out, &[*ctx])?;
             add_source(out, *source)?;
             add_numbers(out, &[u64::from(*len)])?;
             add_min(out, *min)
         }
-        LineOp::Peek { ctx, source, tag, ignore }
-        | LineOp::Claim { ctx, source, tag, ignore }
-        | LineOp::Discard { ctx, source, tag, ignore } => {
+        LineOp::Peek {
+            ctx,
+            source,
+            tag,
+            ignore,
+        }
+        | LineOp::Claim {
+            ctx,
+            source,
+            tag,
+            ignore,
+        }
+        | LineOp::Discard {
+            ctx,
+            source,
+            tag,
+            ignore,
+        } => {
             add_numbers(out, &[*ctx])?;
             add_source(out, *source)?;
             add_numbers(out, &[*tag, *ignore])
@@ -133,16 +179,34 @@ fn add_remote_args(out: &mut String, op: &LineOp) -> Result<(), NoMemory>
     ensures { OnOk result (string_bytes out.new ≡ string_bytes out.old ++ after_blanks (remote_args op.now)) }
 {
     match op {
-        LineOp::Read { ctx, dest, key, at, len } => {
-            add_numbers(out, &[*ctx, u64::from(*dest), *key, *at, u64::from(*len)])
-        }
-        LineOp::Write { ctx, dest, key, at, bytes, imm, completion } => {
+        LineOp::Read {
+            ctx,
+            dest,
+            key,
+            at,
+            len,
+        } => { add_numbers(out, &[*ctx, u64::from(*dest), *key, *at, u64::from(*len)]) }
+        LineOp::Write {
+            ctx,
+            dest,
+            key,
+            at,
+            bytes,
+            imm,
+            completion,
+        } => {
             add_numbers(out, &[*ctx, u64::from(*dest), *key, *at])?;
             add_data(out, bytes)?;
             add_imm(out, *imm)?;
             add_completion(out, *completion)
         }
-        LineOp::WInject { dest, key, at, bytes, imm } => {
+        LineOp::WInject {
+            dest,
+            key,
+            at,
+            bytes,
+            imm,
+        } => {
             add_numbers(out, &[u64::from(*dest), *key, *at])?;
             add_data(out, bytes)?;
             add_imm(out, *imm)
@@ -157,18 +221,45 @@ fn add_atomic_args(out: &mut String, op: &LineOp) -> Result<(), NoMemory>
     ensures { OnOk result (string_bytes out.new ≡ string_bytes out.old ++ after_blanks (atomic_args op.now)) }
 {
     match op {
-        LineOp::Atomic { ctx, dest, key, at, op, num, values, completion } => {
+        LineOp::Atomic {
+            ctx,
+            dest,
+            key,
+            at,
+            op,
+            num,
+            values,
+            completion,
+        } => {
             add_numbers(out, &[*ctx, u64::from(*dest), *key, *at])?;
             add_atom(out, *op, *num)?;
             add_operand(out, *op, *num, values, 0)?;
             add_completion(out, *completion)
         }
-        LineOp::Fetch { ctx, dest, key, at, op, num, values, count } => {
+        LineOp::Fetch {
+            ctx,
+            dest,
+            key,
+            at,
+            op,
+            num,
+            values,
+            count,
+        } => {
             add_numbers(out, &[*ctx, u64::from(*dest), *key, *at])?;
             add_atom(out, *op, *num)?;
             add_operand(out, *op, *num, values, *count)
         }
-        LineOp::Compare { ctx, dest, key, at, op, num, values, compares } => {
+        LineOp::Compare {
+            ctx,
+            dest,
+            key,
+            at,
+            op,
+            num,
+            values,
+            compares,
+        } => {
             add_numbers(out, &[*ctx, u64::from(*dest), *key, *at])?;
             add_atom(out, *op, *num)?;
             add_operand(out, *op, *num, values, 0)?;

@@ -1,5 +1,5 @@
 -- A text passes the test of UTF-8, and other bytes do not.
-use Rattle.std.proofs.Common.{◌≡◌, ℕ, true, false, List, ◌++◌, OnOk, string_bytes, codes, sym, ap, ◌∙◌, append_assoc}
+use Rattle.std.proofs.Common.{◌≡◌, ℕ, true, false, List, ◌++◌, string_bytes, codes, ap, ◌∙◌, append_assoc}
 use Rattle.std.specs.Str.{is_utf8}
 use Rattle.fab_words.proofs.WordLemmas.{is_text_utf8, not_text_utf8}
 use Rattle.fab_spell.specs.Spelling.{text_word}
