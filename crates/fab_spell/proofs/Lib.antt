@@ -4,3 +4,4 @@ pub mod Elements
 pub mod CapsNames
 pub mod Headings
 pub mod LowFirst
+pub mod CapsText

@@ -2,6 +2,8 @@
 //! read as they were read.
 #![tactic(auto)]
 
+mod settings;
 mod values;
 
+pub use settings::{add_caps_line, add_payload, add_peers, add_selective, add_size};
 pub use values::add_values;
