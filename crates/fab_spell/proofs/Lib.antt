@@ -2,6 +2,7 @@ pub mod Blanks
 pub mod BuiltLines
 pub mod ByteWords
 pub mod CapsNames
+pub mod CapsText
 pub mod Commas
 pub mod Decimals
 pub mod Elements
