@@ -141,26 +141,34 @@ remote_args (op.Write ctx dest key at bytes imm completion) =
 remote_args (op.WInject dest key at bytes imm) = decimal dest ∷ decimal key ∷ decimal at ∷ bytes_word bytes ∷ imm_words imm
 remote_args op = atomic_args op
 
--- of receives, and of claimed messages
+-- of looks at messages, and of claimed messages
+abbrev pub look_args : LineOp → List Word
+look_args (op.Peek ctx source tag ignore) = decimal ctx ∷ source_word source ∷ decimal tag ∷ decimal ignore ∷ []
+look_args (op.Claim ctx source tag ignore) = decimal ctx ∷ source_word source ∷ decimal tag ∷ decimal ignore ∷ []
+look_args (op.Discard ctx source tag ignore) = decimal ctx ∷ source_word source ∷ decimal tag ∷ decimal ignore ∷ []
+look_args (op.Take ctx len) = decimal ctx ∷ decimal len ∷ []
+look_args (op.DropClaimed ctx) = decimal ctx ∷ []
+look_args (op.Cancel ctx) = decimal ctx ∷ []
+look_args op = remote_args op
+
+-- of receives
 abbrev pub receive_args : LineOp → List Word
 receive_args (op.Recv ctx source len) = decimal ctx ∷ source_word source ∷ decimal len ∷ []
 receive_args (op.TRecv ctx source tag ignore len) =
     decimal ctx ∷ source_word source ∷ decimal tag ∷ decimal ignore ∷ decimal len ∷ []
 receive_args (op.MRecv ctx source len min) = decimal ctx ∷ source_word source ∷ decimal len ∷ min_words min
-receive_args (op.Peek ctx source tag ignore) = decimal ctx ∷ source_word source ∷ decimal tag ∷ decimal ignore ∷ []
-receive_args (op.Claim ctx source tag ignore) = decimal ctx ∷ source_word source ∷ decimal tag ∷ decimal ignore ∷ []
-receive_args (op.Discard ctx source tag ignore) = decimal ctx ∷ source_word source ∷ decimal tag ∷ decimal ignore ∷ []
-receive_args (op.Take ctx len) = decimal ctx ∷ decimal len ∷ []
-receive_args (op.DropClaimed ctx) = decimal ctx ∷ []
-receive_args (op.Cancel ctx) = decimal ctx ∷ []
-receive_args op = remote_args op
+receive_args op = look_args op
+
+-- the words of a send after those that say where it goes
+abbrev pub message_words : BytesWord → Option ℕ → Level → Bool → List Word
+message_words bytes imm level completion = bytes_word bytes ∷ imm_words imm ++ level_words level ++ completion_words completion
 
 -- of sends; the other lines follow by their kinds
 unfoldable pub args_for : LineOp → List Word
 args_for (op.Send ctx dest bytes imm level completion) =
-    decimal ctx ∷ decimal dest ∷ bytes_word bytes ∷ imm_words imm ++ level_words level ++ completion_words completion
+    decimal ctx ∷ decimal dest ∷ message_words bytes imm level completion
 args_for (op.TSend ctx dest tag bytes imm level completion) =
-    decimal ctx ∷ decimal dest ∷ decimal tag ∷ bytes_word bytes ∷ imm_words imm ++ level_words level ++ completion_words completion
+    decimal ctx ∷ decimal dest ∷ decimal tag ∷ message_words bytes imm level completion
 args_for (op.Inject dest bytes imm) = decimal dest ∷ bytes_word bytes ∷ imm_words imm
 args_for (op.TInject dest tag bytes imm) = decimal dest ∷ decimal tag ∷ bytes_word bytes ∷ imm_words imm
 args_for op = receive_args op

@@ -2,10 +2,10 @@
 ghost use Rattle.std.specs.Prelude.{◌≡◌, ◌++◌, OnOk, string_bytes};
 ghost use Rattle.fab_grammar.specs.Lines.{class_name};
 ghost use Rattle.fab_model.specs.Words.{line_of};
-ghost use Rattle.fab_spell.specs.Spelling.{after_blanks, verb_for, own_args, atomic_args, remote_args, receive_args, args_for, row_of};
+ghost use Rattle.fab_spell.specs.Spelling.{after_blanks, verb_for, own_args, atomic_args, remote_args, look_args, receive_args, args_for, row_of};
 
 use crate::words::{
-    add_atom, add_completion, add_context, add_data, add_imm, add_level, add_min, add_numbers,
+    add_atom, add_completion, add_context, add_data, add_imm, add_message, add_min, add_numbers,
     add_operand, add_rights, add_source, add_word,
 };
 use fab_base::{Class, LineOp, NoMemory};
@@ -73,10 +73,7 @@ fn add_args(out: &mut String, op: &LineOp) -> Result<(), NoMemory>
             completion,
         } => {
             add_numbers(out, &[*ctx, u64::from(*dest)])?;
-            add_data(out, bytes)?;
-            add_imm(out, *imm)?;
-            add_level(out, *level)?;
-            add_completion(out, *completion)
+            add_message(out, bytes, *imm, *level, *completion)
         }
         LineOp::TSend {
             ctx,
@@ -88,10 +85,7 @@ fn add_args(out: &mut String, op: &LineOp) -> Result<(), NoMemory>
             completion,
         } => {
             add_numbers(out, &[*ctx, u64::from(*dest), *tag])?;
-            add_data(out, bytes)?;
-            add_imm(out, *imm)?;
-            add_level(out, *level)?;
-            add_completion(out, *completion)
+            add_message(out, bytes, *imm, *level, *completion)
         }
         LineOp::Inject { dest, bytes, imm } => {
             add_numbers(out, &[u64::from(*dest)])?;
@@ -112,7 +106,7 @@ fn add_args(out: &mut String, op: &LineOp) -> Result<(), NoMemory>
     }
 }
 
-/// The words of receives and of claimed messages.
+/// The words of receives.
 #[tactic(auto, using(crate::proofs::Blanks::blanks))]
 fn add_receive_args(out: &mut String, op: &LineOp) -> Result<(), NoMemory>
     ensures { OnOk result (string_bytes out.new ≡ string_bytes out.old ++ after_blanks (receive_args op.now)) }
@@ -145,6 +139,16 @@ fn add_receive_args(out: &mut String, op: &LineOp) -> Result<(), NoMemory>
             add_numbers(out, &[u64::from(*len)])?;
             add_min(out, *min)
         }
+        _ => add_look_args(out, op),
+    }
+}
+
+/// The words of looks at messages, and of claimed messages.
+#[tactic(auto, using(crate::proofs::Blanks::blanks))]
+fn add_look_args(out: &mut String, op: &LineOp) -> Result<(), NoMemory>
+    ensures { OnOk result (string_bytes out.new ≡ string_bytes out.old ++ after_blanks (look_args op.now)) }
+{
+    match op {
         LineOp::Peek {
             ctx,
             source,

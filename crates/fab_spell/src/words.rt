@@ -1,7 +1,7 @@
 //! The words of a line, each with a blank before it.
 ghost use Rattle.std.specs.Prelude.{◌≡◌, ◌++◌, [], ◌∷◌, OnOk, string_bytes, codes, decimal, map};
 ghost use Rattle.fab_grammar.specs.Atomics.{atom_name, num_name};
-ghost use Rattle.fab_spell.specs.Spelling.{after_blanks, source_word, bytes_word, rights_word, operand_word, imm_words, level_words, completion_words, min_words};
+ghost use Rattle.fab_spell.specs.Spelling.{after_blanks, source_word, bytes_word, rights_word, operand_word, imm_words, level_words, completion_words, min_words, message_words};
 
 use crate::bytes::add_bytes;
 use crate::values::add_values;
@@ -120,7 +120,7 @@ pub(crate) fn add_min(out: &mut String, min: Option<u32>) -> Result<(), NoMemory
 }
 
 /// `level=L`, where it is another than that without the word.
-pub(crate) fn add_level(out: &mut String, level: Level) -> Result<(), NoMemory>
+fn add_level(out: &mut String, level: Level) -> Result<(), NoMemory>
     ensures { OnOk result (string_bytes out.new ≡ string_bytes out.old ++ after_blanks (level_words level)) }
 {
     match level {
@@ -140,4 +140,21 @@ pub(crate) fn add_completion(out: &mut String, completion: bool) -> Result<(), N
     } else {
         Ok(())
     }
+}
+
+/// The bytes of a send, and its optional words.
+#[tactic(auto, using(crate::proofs::Blanks::blanks))]
+pub(crate) fn add_message(
+    out: &mut String,
+    bytes: &BytesWord,
+    imm: Option<u64>,
+    level: Level,
+    completion: bool,
+) -> Result<(), NoMemory>
+    ensures { OnOk result (string_bytes out.new ≡ string_bytes out.old ++ after_blanks (message_words bytes.now imm level completion)) }
+{
+    add_data(out, bytes)?;
+    add_imm(out, imm)?;
+    add_level(out, level)?;
+    add_completion(out, completion)
 }
