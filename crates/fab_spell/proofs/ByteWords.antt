@@ -1,5 +1,5 @@
 -- Bytes that a word named are named again.
-use Rattle.std.proofs.Common.{◌≡◌, ℕ, zero, suc, ◌+◌, ◌%◌, ◌<◌, ◌≤◌, Bool, true, false, cond, ◌&&◌, eqb, ltb, leb, List, [], ◌∷◌, ◌++◌, length, drop, Option, Some, None, codes, decimal, sym, ap, subst, ◌∙◌, refl, arith}
+use Rattle.std.proofs.Common.{◌≡◌, ℕ, zero, suc, ◌%◌, ◌<◌, ◌≤◌, Bool, true, false, cond, eqb, ltb, leb, List, [], ◌∷◌, ◌++◌, length, drop, codes, decimal, ap, subst, ◌∙◌, refl, arith}
 use Rattle.std.specs.Prelude.{Result, Ok, Err}
 use Rattle.std.specs.List.{list_all, slice_split, All}
 use Rattle.std.specs.Str.{is_utf8, IsAscii}
@@ -11,17 +11,12 @@ use Rattle.std.proofs.lemmas.Str.{is_utf8-from_IsUtf8, IsUtf8-from_ascii}
 use Rattle.std.proofs.lemmas.Str.Ascii.{IsAscii-nil, IsAscii-cons}
 use Rattle.fab_base.specs.declared.script.BytesWord.{BytesWord}
 use Rattle.fab_base.specs.declared.script.BytesWord.TheVariants.{Text, Hex, Zero, File}
-use Rattle.fab_grammar.specs.declared.language.Form.{Form}
-use Rattle.fab_grammar.specs.declared.language.Form.TheVariants.{Long, Hex as HexForm, Zero as ZeroForm, File as FileForm}
-use Rattle.fab_grammar.specs.declared.language.Language.TheVariants.{Built}
-use Rattle.fab_grammar.specs.Language.{has, has_form, optional_forms, form_of_word}
-use Rattle.fab_model.specs.Words.{hex}
 use Rattle.fab_words.specs.declared.fault.Fault.{Fault}
 use Rattle.fab_words.specs.declared.fault.Fault.TheVariants.{Words, Limit}
 use Rattle.fab_words.specs.Bytes.{few_bytes, of_hex, a_file_range, file_range, is_colon, read_bytes}
 use Rattle.fab_words.specs.Faults.{◌&◌, map_ok}
 use Rattle.fab_words.specs.Rows.{is_filled}
-use Rattle.fab_words.specs.Words.{first_of, begins_with, read_number, read_len}
+use Rattle.fab_words.specs.Words.{begins_with, read_number, read_len}
 use Rattle.fab_words.specs.Written.{is_word}
 use Rattle.fab_spell.specs.Spelling.{bytes_word}
 use Rattle.fab_spell.proofs.Decimals.{read_number_again, read_len_again}
@@ -38,7 +33,7 @@ pub record BytesAgain (bytes : BytesWord) : Type 0 where
   pub word : is_word (bytes_word bytes) ≡ true
 
 -- ---- texts
-printable-drop : (n : ℕ) (word : List ℕ) → list_all is_printable word ≡ true → list_all is_printable (drop n word) ≡ true
+pub printable-drop : (n : ℕ) (word : List ℕ) → list_all is_printable word ≡ true → list_all is_printable (drop n word) ≡ true
 printable-drop zero word all = all
 printable-drop (suc n) [] all = refl
 printable-drop (suc n) (b ∷ word) all = printable-drop n word (and_parts (is_printable b) (list_all is_printable word) all).1
@@ -50,10 +45,10 @@ ascii-printable (b ∷ word) all =
     let small : b ≤ 126 = leb-true b 126 (and_parts (ltb 32 b) (leb b 126) parts.0).1 in
     IsAscii-cons b word (omega arith) (ascii-printable word parts.1)
 
-utf8-printable : (word : List ℕ) → list_all is_printable word ≡ true → is_utf8 word ≡ true
+pub utf8-printable : (word : List ℕ) → list_all is_printable word ≡ true → is_utf8 word ≡ true
 utf8-printable word all = is_utf8-from_IsUtf8 word (IsUtf8-from_ascii word (ascii-printable word all))
 
-few : (bytes : List ℕ) (said word : BytesWord) → few_bytes bytes word ≡ Ok said → (leb (length bytes) 33554432 ≡ true) × (word ≡ said)
+pub few : (bytes : List ℕ) (said word : BytesWord) → few_bytes bytes word ≡ Ok said → (leb (length bytes) 33554432 ≡ true) × (word ≡ said)
 few bytes said word e =
     let fits = said_if (leb (length bytes) 33554432) (Ok word) Limit said e in
     let same : word ≡ said = cc (fits.1) in
@@ -138,7 +133,7 @@ of_form false false true file a b c d said f g h k e = h e
 of_form false false false true a b c d said f g h k e = k e
 of_form false false false false a b c d said f g h k e = cc
 
-printable-word : (word : List ℕ) → is_word word ≡ true → list_all is_printable word ≡ true
+pub printable-word : (word : List ℕ) → is_word word ≡ true → list_all is_printable word ≡ true
 printable-word word e = (and_parts (is_filled word) (list_all is_printable word) e).1
 
 pub bytes_again : (word : List ℕ) (said : BytesWord) → is_word word ≡ true → read_bytes word ≡ Ok said → BytesAgain said

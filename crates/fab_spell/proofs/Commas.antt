@@ -1,5 +1,5 @@
 -- Words that commas join, cut again at the commas.
-use Rattle.std.proofs.Common.{◌≡◌, ℕ, ◌<◌, Bool, true, false, cond, ◌&&◌, not, leb, ltb, eqb, List, [], ◌∷◌, ◌++◌, decimal, ◌^◌, ap, ◌∙◌, refl, arith, ne_eqb}
+use Rattle.std.proofs.Common.{◌≡◌, ℕ, ◌<◌, Bool, true, false, cond, ◌&&◌, not, leb, ltb, eqb, List, [], ◌∷◌, ◌++◌, decimal, codes, append_assoc, append-nil, sym, ◌^◌, ap, ◌∙◌, refl, arith, ne_eqb}
 use Rattle.std.specs.List.{list_all, slice_split, onto_first, join_with_byte}
 use Rattle.std.specs.Str.Parse.{AllDigits}
 use Rattle.std.proofs.lemmas.List.Folds.{list_all-append}
@@ -68,3 +68,26 @@ digits_lack (c ∷ cs) d =
 
 pub decimal_lacks : (n : ℕ) → n < 2 ^ 64 → lacks_comma (decimal n) ≡ true
 decimal_lacks n h = digits_lack (decimal n) (decimal_digits n h)
+
+-- words that are joined one after another: a separator before each, where it is empty before the first
+
+abbrev pub after_separator : List ℕ → List (List ℕ) → List ℕ
+after_separator separator [] = []
+after_separator separator (word ∷ words) = separator ++ join_with_byte 44 (word ∷ words)
+
+joined_more : (word : List ℕ) (words : List (List ℕ)) → join_with_byte 44 (word ∷ words) ≡ word ++ after_separator (codes ",") words
+joined_more word [] = sym (append-nil word)
+joined_more word (next ∷ words) = refl
+
+-- a word more
+pub word_added : (from out begun now whole separator word : List ℕ) (words : List (List ℕ)) → begun ≡ out ++ separator → now ≡ begun ++ word → out ++ after_separator separator (word ∷ words) ≡ from ++ whole → now ++ after_separator (codes ",") words ≡ from ++ whole
+word_added from out begun now whole separator word words first then is =
+    ap (λ text. text ++ after_separator (codes ",") words) (then ∙ ap (λ text. text ++ word) first)
+    ∙ append_assoc (out ++ separator) word (after_separator (codes ",") words)
+    ∙ append_assoc out separator (word ++ after_separator (codes ",") words)
+    ∙ ap (λ text. out ++ (separator ++ text)) (sym (joined_more word words)) ∙ is
+
+-- at the beginning nothing is joined
+pub none_added : (from : List ℕ) (words : List (List ℕ)) → from ++ after_separator [] words ≡ from ++ join_with_byte 44 words
+none_added from [] = refl
+none_added from (word ∷ words) = refl

@@ -1,5 +1,5 @@
 -- The operand of an atomic reads again as it is written.
-use Rattle.std.proofs.Common.{◌≡◌, ℕ, zero, suc, ◌+◌, ◌-◌, ◌*◌, ◌/◌, ◌^◌, ◌<◌, ◌≤◌, inl, Bool, true, false, cond, ◌&&◌, leb, List, [], ◌∷◌, ◌++◌, map, length, take, drop, codes, decimal, Option, Some, None, Result, Ok, Err, sym, ap, subst, ◌∙◌, refl, arith, le-leb, leb-true, ne_eqb, length-append, append_assoc, append-nil}
+use Rattle.std.proofs.Common.{◌≡◌, ℕ, zero, suc, ◌+◌, ◌-◌, ◌*◌, ◌/◌, ◌^◌, ◌<◌, ◌≤◌, inl, Bool, true, false, cond, ◌&&◌, leb, List, [], ◌∷◌, ◌++◌, map, length, take, drop, codes, decimal, Option, Some, None, Result, Ok, Err, sym, ap, subst, ◌∙◌, refl, arith, le-leb, leb-true, ne_eqb, length-append, length-drop, append_assoc, append-nil}
 use Rattle.std.specs.List.{list_all, slice_split, join_with_byte}
 use Rattle.std.proofs.Math.Nat.{pow-suc, mul-div_cancel}
 use Rattle.std.proofs.Math.Seq.{take-append_seam, drop-append_seam}
@@ -189,6 +189,24 @@ sized U64 = omega arith
 
 count_elements : (num : Num) (ns : List ℕ) → length (all_elements num ns) / element_size num ≡ length ns
 count_elements num ns = ap (λ n. n / element_size num) (length-all_elements num ns) ∙ mul-div_cancel (length ns) (sized num)
+
+-- elements one after another
+count_step : (num : Num) (n : ℕ) → element_size num ≤ n → n / element_size num ≡ suc ((n - element_size num) / element_size num)
+count_step I8 n h = omega arith
+count_step I16 n h = omega arith
+count_step I32 n h = omega arith
+count_step I64 n h = omega arith
+count_step U8 n h = omega arith
+count_step U16 n h = omega arith
+count_step U32 n h = omega arith
+count_step U64 n h = omega arith
+
+pub words_step : (num : Num) (rest : List ℕ) → element_size num ≤ length rest
+    → value_words (length rest / element_size num) num rest ≡ value_word num (number_of (take (element_size num) rest)) ∷ value_words (length (drop (element_size num) rest) / element_size num) num (drop (element_size num) rest)
+words_step num rest enough =
+    let left : length rest / element_size num ≡ suc (length (drop (element_size num) rest) / element_size num) =
+    count_step num (length rest) enough ∙ ap (λ n. suc (n / element_size num)) (sym (length-drop (element_size num) rest)) in
+    ap (λ count. value_words count num rest) left
 
 -- the numbers that were read
 record Numbers (num : Num) (before bytes : List ℕ) (words : List (List ℕ)) : Type 0 where

@@ -1,11 +1,16 @@
+pub mod Blanks
+pub mod BuiltLines
 pub mod ByteWords
 pub mod CapsNames
+pub mod CapsText
 pub mod Commas
 pub mod Decimals
 pub mod Elements
 pub mod Headings
 pub mod HexDigits
+pub mod LowFirst
 pub mod Numbers
+pub mod Operations
 pub mod Optional
 pub mod Own
 pub mod Receives

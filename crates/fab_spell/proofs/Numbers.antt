@@ -1,11 +1,10 @@
 -- The words of numbers and sources.
-use Rattle.std.proofs.Common.{◌≡◌, ℕ, ◌+◌, ◌<◌, ◌≤◌, Bool, true, false, cond, ◌&&◌, ltb, leb, List, [], ◌∷◌, length, Option, Some, None, codes, decimal, ap, ◌∙◌, refl, arith}
-use Rattle.std.specs.Prelude.{Result, Ok}
+use Rattle.std.proofs.Common.{◌≡◌, ℕ, ◌<◌, Bool, true, false, cond, ◌&&◌, ltb, leb, List, [], ◌∷◌, length, Option, Some, None, decimal, ap, ◌∙◌, refl, arith}
+use Rattle.std.specs.Prelude.{Ok}
 use Rattle.std.specs.List.{list_all}
 use Rattle.std.proofs.lemmas.Bool.{and_parts, and_from, ne_eqb, lt-ltb, ltb-true, le-leb}
 use Rattle.fab_grammar.specs.Language.{form_of_word, is_any}
 use Rattle.fab_model.proofs.Plain.{decimal_digits, decimal_some}
-use Rattle.fab_words.specs.declared.fault.Fault.{Fault}
 use Rattle.fab_words.specs.Faults.{map_ok}
 use Rattle.fab_words.specs.Words.{read_index, read_source}
 use Rattle.fab_words.specs.Written.{is_word}

@@ -1,17 +1,16 @@
 -- Optional words that were read are read again.
-use Rattle.std.proofs.Common.{◌≡◌, ℕ, ◌+◌, Bool, true, false, cond, ◌&&◌, ◌||◌, ltb, List, [], ◌∷◌, ◌++◌, length, drop, Option, Some, None, codes, decimal, sym, ap, subst, ◌∙◌, refl}
-use Rattle.std.specs.Prelude.{bytes_eq, Result, Ok, Err}
+use Rattle.std.proofs.Common.{◌≡◌, ℕ, Bool, true, false, ◌&&◌, ltb, List, [], ◌∷◌, ◌++◌, length, drop, Option, Some, None, codes, decimal, sym, ap, subst, ◌∙◌, refl}
+use Rattle.std.specs.Prelude.{bytes_eq, Result, Ok}
 use Rattle.std.specs.List.{list_all, list_any}
 use Rattle.std.proofs.lemmas.Bool.{and_parts, and_from}
 use Rattle.std.proofs.lemmas.List.Folds.{list_all-append}
 use Rattle.fab_base.specs.declared.peers.Level.{Level}
 use Rattle.fab_base.specs.declared.peers.Level.TheVariants as level
-use Rattle.fab_grammar.specs.declared.language.Form.{Form}
 use Rattle.fab_grammar.specs.declared.language.Form.TheVariants.{Long, Hex, Zero, File, Data, Level as LevelForm, Completion}
 use Rattle.fab_grammar.specs.declared.language.Language.TheVariants.{Built}
 use Rattle.fab_grammar.specs.declared.options.Allowed.{Allowed}
 use Rattle.fab_grammar.specs.declared.options.Options.{Options}
-use Rattle.fab_grammar.specs.Language.{has, has_form, form_of_word}
+use Rattle.fab_grammar.specs.Language.{has_form, form_of_word}
 use Rattle.fab_grammar.specs.Options.{level_named, optional_of, are_options, value_after, read_if, level_after, level_in, has_completion, the_options, read_options}
 use Rattle.fab_grammar.specs.Sends.{for_send, for_inject, for_write, for_multi}
 use Rattle.fab_grammar.specs.Atomics.{for_atomic}
@@ -129,7 +128,7 @@ pub are_words-append : (xs ys : List (List ℕ)) → list_all is_word xs ≡ tru
 are_words-append xs ys e f = list_all-append is_word xs ys ∙ and_from _ _ e f
 
 -- ---- in the language that is carried out there are none
-abbrev AllBuilt : List (List ℕ) → Type 0
+abbrev pub AllBuilt : List (List ℕ) → Type 0
 AllBuilt words = list_all (λ word. has_form Built (form_of_word word)) words ≡ true
 
 pub record NoOptions (o : Options) : Type 0 where

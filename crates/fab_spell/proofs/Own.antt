@@ -1,24 +1,22 @@
 -- Lines on a peer's own regions, address vector, completions and counters ask again.
-use Rattle.std.proofs.Common.{◌≡◌, ℕ, Bool, true, false, cond, List, [], ◌∷◌, ◌++◌, Option, Some, None, codes, decimal, ap, subst, ◌∙◌, refl}
-use Rattle.std.specs.Prelude.{bytes_eq, Result, Ok, Err}
+use Rattle.std.proofs.Common.{◌≡◌, ℕ, Bool, true, false, cond, List, [], ◌∷◌, Some, None, codes, ap, subst, refl}
+use Rattle.std.specs.Prelude.{bytes_eq, Ok, Err}
 use Rattle.std.specs.List.{list_all}
 use Rattle.std.specs.Str.{is_utf8}
 use Rattle.fab_base.specs.declared.entries.Class.{Class}
 use Rattle.fab_base.specs.declared.entries.Class.TheVariants as class
-use Rattle.fab_base.specs.declared.items.Access.{Access}
 use Rattle.fab_base.specs.declared.script.LineOp.{LineOp}
 use Rattle.fab_base.specs.declared.script.LineOp.TheVariants.{Close, Show, Insert, Remove, Wait, Count}
 use Rattle.fab_grammar.specs.Lines.{rights, read_rights, a_reg, reg_of, a_put, put_of, number_line, insert_of, remove_of, wait_of, class_name, class_named, read_class, count_of, a_reach, reach_of, op_of}
-use Rattle.fab_words.specs.declared.fault.Fault.{Fault}
 use Rattle.fab_words.specs.declared.fault.Fault.TheVariants.{Words}
 use Rattle.fab_words.specs.Bytes.{read_bytes}
 use Rattle.fab_words.specs.Faults.{◌&◌, map_ok}
 use Rattle.fab_words.specs.Words.{read_number, read_index, read_text}
 use Rattle.fab_words.specs.Written.{is_word}
-use Rattle.fab_spell.specs.Spelling.{verb_for, args_for, source_word, right_word, rights_word}
+use Rattle.fab_spell.specs.Spelling.{verb_for, args_for, right_word}
 use Rattle.fab_spell.proofs.ByteWords.{bytes_again}
 use Rattle.fab_spell.proofs.Decimals.{read_number_again, read_index_again}
-use Rattle.fab_spell.proofs.Numbers.{is_word-decimal, is_word-source, any-decimal}
+use Rattle.fab_spell.proofs.Numbers.{is_word-decimal, any-decimal}
 use Rattle.fab_spell.proofs.Receives.{number_line_again}
 use Rattle.fab_spell.proofs.Said.{both_said, said_by, said_if}
 use Rattle.fab_spell.proofs.Sends.{first_word, other_words}

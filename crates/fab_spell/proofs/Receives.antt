@@ -1,6 +1,6 @@
 -- Receives and claims ask again.
-use Rattle.std.proofs.Common.{◌≡◌, ℕ, Bool, true, List, [], ◌∷◌, ◌++◌, Option, decimal, ap, subst, ◌∙◌, refl}
-use Rattle.std.specs.Prelude.{Result, Ok}
+use Rattle.std.proofs.Common.{◌≡◌, ℕ, List, [], ◌∷◌, Option, decimal, ap, subst, refl}
+use Rattle.std.specs.Prelude.{Ok}
 use Rattle.fab_base.specs.declared.script.LineOp.{LineOp}
 use Rattle.fab_base.specs.declared.script.LineOp.TheVariants.{DropClaimed, Cancel}
 use Rattle.fab_grammar.specs.Lines.{a_trecv, trecv_of, a_recv, recv_of, look_of, a_peek, a_claim, a_discard, a_take, take_of, number_line, op_of}
@@ -8,7 +8,6 @@ use Rattle.fab_grammar.specs.Sends.{for_multi, an_mrecv, mrecv_of}
 use Rattle.fab_grammar.specs.Options.{read_options}
 use Rattle.fab_words.specs.Faults.{◌&◌, map_ok}
 use Rattle.fab_words.specs.Words.{read_number, read_source, read_len}
-use Rattle.fab_words.specs.Written.{is_word}
 use Rattle.fab_spell.specs.Spelling.{verb_for, args_for, source_word}
 use Rattle.fab_spell.proofs.Decimals.{read_number_again, read_len_again}
 use Rattle.fab_spell.proofs.Numbers.{is_word-decimal, is_word-source, source_again}

@@ -2,7 +2,6 @@
 use Rattle.std.proofs.Common.{◌≡◌, Bool, true, false, cond, Option, Some, None, ap, refl}
 use Rattle.std.specs.Prelude.{Result, Ok, Err, ok_or}
 use Rattle.fab_words.specs.declared.fault.Fault.{Fault}
-use Rattle.fab_words.specs.declared.fault.Fault.TheVariants.{Limit}
 use Rattle.fab_words.specs.Faults.{◌&◌, map_ok}
 
 pub both_said : {A B : Type 0} (a : Result A Fault) (b : Result B Fault) (p : A × B) → (a & b) ≡ Ok p → (a ≡ Ok p.0) × (b ≡ Ok p.1)

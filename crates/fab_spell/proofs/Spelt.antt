@@ -1,5 +1,5 @@
 -- An operation whose line asks for it again, in the whole language.
-use Rattle.std.proofs.Common.{◌≡◌, ℕ, true, List}
+use Rattle.std.proofs.Common.{◌≡◌, true}
 use Rattle.std.specs.Prelude.{Ok}
 use Rattle.std.specs.List.{list_all}
 use Rattle.fab_base.specs.declared.script.LineOp.{LineOp}

@@ -34,10 +34,16 @@ abbrev pub source_word : Option ℕ → Word
 source_word None = codes "*"
 source_word (Some index) = decimal index
 
+abbrev pub digits_word : List ℕ → Word
+digits_word bytes = codes "hex:" ++ hex bytes
+
 -- bytes that are no text have digits; a text that was read is one
+abbrev pub text_word : List ℕ → Word
+text_word bytes = if is_utf8 bytes then codes "text:" ++ bytes else digits_word bytes
+
 unfoldable pub bytes_word : BytesWord → Word
-bytes_word (Text bytes) = if is_utf8 bytes then codes "text:" ++ bytes else codes "hex:" ++ hex bytes
-bytes_word (Hex bytes) = codes "hex:" ++ hex bytes
+bytes_word (Text bytes) = text_word bytes
+bytes_word (Hex bytes) = digits_word bytes
 bytes_word (Zero len) = codes "zero:" ++ decimal len
 bytes_word (File id at len) = codes "file:" ++ (decimal id ++ 58 ∷ (decimal at ++ 58 ∷ decimal len))
 
@@ -117,40 +123,52 @@ own_args (op.Count class) = class_name class ∷ []
 own_args (op.Reach class n) = class_name class ∷ decimal n ∷ []
 own_args _ = []
 
+-- of atomics
+abbrev pub atomic_args : LineOp → List Word
+atomic_args (op.Atomic ctx dest key at atom num values completion) =
+    decimal ctx ∷ decimal dest ∷ decimal key ∷ decimal at ∷ atom_name atom ∷ num_name num ∷ operand_word atom num values 0 ∷ completion_words completion
+atomic_args (op.Fetch ctx dest key at atom num values count) =
+    decimal ctx ∷ decimal dest ∷ decimal key ∷ decimal at ∷ atom_name atom ∷ num_name num ∷ operand_word atom num values count ∷ []
+atomic_args (op.Compare ctx dest key at atom num values compares) =
+    decimal ctx ∷ decimal dest ∷ decimal key ∷ decimal at ∷ atom_name atom ∷ num_name num ∷ operand_word atom num values 0 ∷ operand_word atom num compares 0 ∷ []
+atomic_args op = own_args op
+
 -- of another peer's regions
 abbrev pub remote_args : LineOp → List Word
 remote_args (op.Read ctx dest key at len) = decimal ctx ∷ decimal dest ∷ decimal key ∷ decimal at ∷ decimal len ∷ []
 remote_args (op.Write ctx dest key at bytes imm completion) =
     decimal ctx ∷ decimal dest ∷ decimal key ∷ decimal at ∷ bytes_word bytes ∷ imm_words imm ++ completion_words completion
 remote_args (op.WInject dest key at bytes imm) = decimal dest ∷ decimal key ∷ decimal at ∷ bytes_word bytes ∷ imm_words imm
-remote_args (op.Atomic ctx dest key at atom num values completion) =
-    decimal ctx ∷ decimal dest ∷ decimal key ∷ decimal at ∷ atom_name atom ∷ num_name num ∷ operand_word atom num values 0 ∷ completion_words completion
-remote_args (op.Fetch ctx dest key at atom num values count) =
-    decimal ctx ∷ decimal dest ∷ decimal key ∷ decimal at ∷ atom_name atom ∷ num_name num ∷ operand_word atom num values count ∷ []
-remote_args (op.Compare ctx dest key at atom num values compares) =
-    decimal ctx ∷ decimal dest ∷ decimal key ∷ decimal at ∷ atom_name atom ∷ num_name num ∷ operand_word atom num values 0 ∷ operand_word atom num compares 0 ∷ []
-remote_args op = own_args op
+remote_args op = atomic_args op
 
--- of receives, and of claimed messages
+-- of looks at messages, and of claimed messages
+abbrev pub look_args : LineOp → List Word
+look_args (op.Peek ctx source tag ignore) = decimal ctx ∷ source_word source ∷ decimal tag ∷ decimal ignore ∷ []
+look_args (op.Claim ctx source tag ignore) = decimal ctx ∷ source_word source ∷ decimal tag ∷ decimal ignore ∷ []
+look_args (op.Discard ctx source tag ignore) = decimal ctx ∷ source_word source ∷ decimal tag ∷ decimal ignore ∷ []
+look_args (op.Take ctx len) = decimal ctx ∷ decimal len ∷ []
+look_args (op.DropClaimed ctx) = decimal ctx ∷ []
+look_args (op.Cancel ctx) = decimal ctx ∷ []
+look_args op = remote_args op
+
+-- of receives
 abbrev pub receive_args : LineOp → List Word
 receive_args (op.Recv ctx source len) = decimal ctx ∷ source_word source ∷ decimal len ∷ []
 receive_args (op.TRecv ctx source tag ignore len) =
     decimal ctx ∷ source_word source ∷ decimal tag ∷ decimal ignore ∷ decimal len ∷ []
 receive_args (op.MRecv ctx source len min) = decimal ctx ∷ source_word source ∷ decimal len ∷ min_words min
-receive_args (op.Peek ctx source tag ignore) = decimal ctx ∷ source_word source ∷ decimal tag ∷ decimal ignore ∷ []
-receive_args (op.Claim ctx source tag ignore) = decimal ctx ∷ source_word source ∷ decimal tag ∷ decimal ignore ∷ []
-receive_args (op.Discard ctx source tag ignore) = decimal ctx ∷ source_word source ∷ decimal tag ∷ decimal ignore ∷ []
-receive_args (op.Take ctx len) = decimal ctx ∷ decimal len ∷ []
-receive_args (op.DropClaimed ctx) = decimal ctx ∷ []
-receive_args (op.Cancel ctx) = decimal ctx ∷ []
-receive_args op = remote_args op
+receive_args op = look_args op
+
+-- the words of a send after those that say where it goes
+abbrev pub message_words : BytesWord → Option ℕ → Level → Bool → List Word
+message_words bytes imm level completion = bytes_word bytes ∷ imm_words imm ++ level_words level ++ completion_words completion
 
 -- of sends; the other lines follow by their kinds
 unfoldable pub args_for : LineOp → List Word
 args_for (op.Send ctx dest bytes imm level completion) =
-    decimal ctx ∷ decimal dest ∷ bytes_word bytes ∷ imm_words imm ++ level_words level ++ completion_words completion
+    decimal ctx ∷ decimal dest ∷ message_words bytes imm level completion
 args_for (op.TSend ctx dest tag bytes imm level completion) =
-    decimal ctx ∷ decimal dest ∷ decimal tag ∷ bytes_word bytes ∷ imm_words imm ++ level_words level ++ completion_words completion
+    decimal ctx ∷ decimal dest ∷ decimal tag ∷ message_words bytes imm level completion
 args_for (op.Inject dest bytes imm) = decimal dest ∷ bytes_word bytes ∷ imm_words imm
 args_for (op.TInject dest tag bytes imm) = decimal dest ∷ decimal tag ∷ bytes_word bytes ∷ imm_words imm
 args_for op = receive_args op
