@@ -38,6 +38,7 @@ use Rattle.fab_grammar.proofs.PartLemmas.{or_false}
 use Rattle.fab_spell.specs.Again.{WasRead, Again}
 use Rattle.fab_spell.specs.Headings.{setting_row, SettingRead, SettingAgain}
 use Rattle.fab_spell.proofs.Headings.{setting_again}
+use Rattle.fab_spell.proofs.Operations.{op_again}
 use Rattle.fab_print.specs.Print.{asked, wished, selected, settings_for, item_row, items_of, rows_of, printed, without_number, unnumbered, IsSame}
 use Rattle.fab_print.proofs.Parts.{LinesAgain, PartsAgain, parts_size, written_count, written_size, items_fit, parts_written, parts_plain}
 use Rattle.fab_print.proofs.Peers.{Ends, take_items}
@@ -313,3 +314,6 @@ then_again language again count (Ok after) script said e =
 pub reads_if_again : (language : Language) → OpsAgain language → (bytes : List ℕ) (script : Script) → verdict language bytes ≡ Ok script → IsSame script (verdict language (printed script))
 unfolding verdict
 reads_if_again language again bytes script e = then_again language again (length (lines_of bytes)) (read_lines language nothing 1 (lines_of bytes)) script (all_said language (lines_of bytes)) e
+
+pub reads_again : (language : Language) (bytes : List ℕ) (script : Script) → verdict language bytes ≡ Ok script → IsSame script (verdict language (printed script))
+reads_again language bytes script e = reads_if_again language (op_again language) bytes script e
