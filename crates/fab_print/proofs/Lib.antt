@@ -5,4 +5,5 @@ pub mod Rules
 pub mod Saying
 pub mod Settings
 pub mod Stepping
+pub mod Texts
 pub mod Written

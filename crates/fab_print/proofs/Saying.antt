@@ -1,6 +1,6 @@
 -- What holds of all that is said by lines of which none is refused.
 use Rattle.std.proofs.Common.{◌≡◌, ℕ, ◌+◌, ◌<◌, ◌≤◌, Bool, true, false, cond, not, ◌||◌, eqb, List, [], ◌∷◌, ◌++◌, length, map, Option, Some, None, sym, ap, subst, ◌∙◌, refl, arith, length-append}
-use Rattle.std.specs.Prelude.{Result, Ok, Err, ok_or}
+use Rattle.std.specs.Prelude.{Result, Ok, Err}
 use Rattle.std.specs.List.{list_all, list_any, sum_by}
 use Rattle.std.specs.Option.{IfSome}
 use Rattle.std.proofs.lemmas.Bool.Decides.{nat_tests}
@@ -41,6 +41,7 @@ use Rattle.fab_grammar.proofs.PartLemmas.{and_true, or_false, distinct_push}
 use Rattle.fab_grammar.proofs.RuleLemmas.{rest_of, first_fails}
 use Rattle.fab_spell.specs.Again.{WasRead}
 use Rattle.fab_spell.specs.Headings.{SettingRead}
+use Rattle.fab_spell.proofs.Said.{both_said, some_said}
 use Rattle.fab_print.proofs.Rules.{all_fail, words_of_text}
 
 -- ---- settings that were made were read
@@ -130,23 +131,9 @@ not_file f (Err fault) payload other e = cc
 size_no_file : (size : Size) (n : ℕ) (payload : Payload) → Wish size n ≡ File payload → ⊥
 size_no_file size n payload e = cc
 
-number_said : (o : Option ℕ) (n : ℕ) → ok_or o Number ≡ Ok n → o ≡ Some n
-number_said None n e = cc
-number_said (Some m) n e =
-    let same : m ≡ n = cc in
-    ap Some same
-
 number_read : (word : List ℕ) (n : ℕ) → read_number word ≡ Ok n → number_of word ≡ Some n
 unfolding read_number
-number_read word n e = number_said (number_of word) n e
-
-both_said : {A B : Type 0} (a : Result A Fault) (b : Result B Fault) (x : A) (y : B) → (a & b) ≡ Ok (x, y) → (a ≡ Ok x) × (b ≡ Ok y)
-both_said {A} {B} (Ok a) (Ok b) x y e =
-    let p : ◌≡◌ {A = A × B} (a, b) (x, y) = cc in
-    (ap (λ q. Ok q.0) p, ap (λ q. Ok q.1) p)
-both_said (Ok a) (Err g) x y e = cc
-both_said (Err f) (Ok b) x y e = cc
-both_said (Err f) (Err g) x y e = cc
+number_read word n e = some_said (number_of word) Number n e
 
 file_said : (r : Result (ℕ × List ℕ) Fault) (payload : Payload) → map_ok a_file r ≡ Ok (File payload) → r ≡ Ok (payload.id, payload.name)
 file_said (Ok (id, name)) payload e =
@@ -157,7 +144,7 @@ file_said (Err fault) payload e = cc
 payload_declared : (args : List (List ℕ)) (payload : Payload) (payloads : List Payload) → payload_setting args ≡ Ok (File payload) → is_declared payloads args ≡ list_any (λ (p : Payload). eqb p.id payload.id) payloads
 unfolding payload_setting
 payload_declared (id ∷ name ∷ []) payload payloads e =
-    let words = both_said (read_number id) (read_text name) payload.id payload.name (file_said (read_number id & read_text name) payload e) in
+    let words = both_said (read_number id) (read_text name) (payload.id, payload.name) (file_said (read_number id & read_text name) payload e) in
     ap (has_id payloads) (number_read id payload.id words.0)
 payload_declared _ payload payloads e = cc
 

@@ -3,6 +3,7 @@
 --     items_of k parts        the lines of these parts, the first of which is that of peer k; a peer without lines has none
 --     rows_of script          the lines of the text, by their words
 --     printed script          the text
+--     settings_text settings, items_text items      the text of some of its lines
 --     unnumbered script       the script without the numbers of its lines
 --     IsSame script result    what is read is this script, up to the numbers of its lines
 use Rattle.std.specs.Prelude.{◌≡◌, ℕ, ◌+◌, Bool, if◌then◌else◌, List, [], ◌∷◌, ◌++◌, map, codes, decimal, Option, Some, None, unwrap_or, Result, Ok, Err}
@@ -42,14 +43,25 @@ abbrev pub joined : List (List Setting) → List Setting
 joined [] = []
 joined (settings ∷ others) = settings ++ joined others
 
+-- the sizes that are wished for
+abbrev pub sizes : Hints → List Setting
+sizes h = joined (wished size.Lane h.lane ∷ wished size.Pool h.pool ∷ wished size.Tx h.tx ∷ wished size.Rx h.rx ∷ wished size.Cq h.cq ∷ [])
+
 abbrev pub settings_for : Hints → Conf → List Payload → List Setting
 settings_for h conf payloads = joined (
     asked h.caps ∷ (Peers conf.peers ∷ [])
     ∷ wished size.Lane h.lane ∷ wished size.Pool h.pool ∷ wished size.Tx h.tx ∷ wished size.Rx h.rx ∷ wished size.Cq h.cq
     ∷ selected conf.selective ∷ map File payloads ∷ [])
 
+-- no hints are hints that ask for nothing
+abbrev pub hints_for : Conf → Hints
+hints_for conf = unwrap_or conf.hints no_hints
+
 abbrev pub settings_of : Script → List Setting
-settings_of script = settings_for (unwrap_or script.conf.hints no_hints) script.conf script.payloads
+settings_of script = settings_for (hints_for script.conf) script.conf script.payloads
+
+abbrev pub settings_text : List Setting → List ℕ
+settings_text settings = text_of (map setting_row settings)
 
 -- ---- parts of peers
 abbrev pub part_items : ℕ → List Line → List Item
@@ -63,6 +75,9 @@ items_of k (part ∷ parts) = part_items k part ++ items_of (k + 1) parts
 abbrev pub item_row : Item → List (List ℕ)
 item_row (Peer k) = name_of verb.Peer ∷ decimal k ∷ []
 item_row (Does line) = row_of line.op
+
+abbrev pub items_text : List Item → List ℕ
+items_text items = text_of (map item_row items)
 
 -- ---- the whole
 abbrev pub header_row : List (List ℕ)
