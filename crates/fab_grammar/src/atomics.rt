@@ -46,7 +46,8 @@ const NUMS: [Num; 8] = [
     Num::U64,
 ];
 
-fn atom_name(atom: AtomicOp) -> &'static str
+/// The operation as it is written.
+pub fn atom_name(atom: AtomicOp) -> &'static str
     ensures { result.now ≡ atom_name atom }
 {
     match atom {
@@ -83,7 +84,8 @@ fn atom_named(word: &[u8]) -> Option<AtomicOp>
         .find(|atom| is(word, atom_name(*atom)))
 }
 
-fn num_name(num: Num) -> &'static str
+/// The kind of elements as it is written.
+pub fn num_name(num: Num) -> &'static str
     ensures { result.now ≡ num_name num }
 {
     match num {
@@ -107,7 +109,7 @@ fn num_named(word: &[u8]) -> Option<Num>
 }
 
 /// The greatest element.
-fn greatest(num: Num) -> u64
+pub fn greatest(num: Num) -> u64
     ensures { result ≡ greatest num }
 {
     match num {
@@ -142,7 +144,7 @@ fn is_signed(num: Num) -> bool
 }
 
 /// How many bytes an element has.
-fn element_size(num: Num) -> u32
+pub fn element_size(num: Num) -> u32
     ensures { result ≡ element_size num }
 {
     match num {

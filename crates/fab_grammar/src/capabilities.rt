@@ -7,7 +7,7 @@ use fab_words::{Fault, Read, first_part, is};
 use fab_base::{Cap, Caps};
 
 /// All capabilities.
-const CAPS: [Cap; 16] = [
+pub const CAPS: [Cap; 16] = [
     Cap::Msg,
     Cap::Tagged,
     Cap::Rma,
@@ -27,7 +27,7 @@ const CAPS: [Cap; 16] = [
 ];
 
 /// The capability as it is written (fi_getinfo(3)).
-fn name(cap: Cap) -> &'static str
+pub fn cap_name(cap: Cap) -> &'static str
     ensures { result.now ≡ cap_name cap }
 {
     match cap {
@@ -55,7 +55,7 @@ fn name(cap: Cap) -> &'static str
 fn named(word: &[u8]) -> Option<Cap>
     ensures { result ≡ cap_named word.now }
 {
-    CAPS.iter().copied().find(|cap| is(word, name(*cap)))
+    CAPS.iter().copied().find(|cap| is(word, cap_name(*cap)))
 }
 
 /// The set with one capability more.

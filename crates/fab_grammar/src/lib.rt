@@ -18,6 +18,8 @@ mod sends;
 mod settings;
 mod verbs;
 
+pub use atomics::{atom_name, element_size, greatest, num_name};
+pub use capabilities::{CAPS, cap_name};
 pub use items::Item;
 pub use language::{Form, Language};
 pub use lines::read_op;

@@ -1,0 +1,4 @@
+pub mod Again
+pub mod Elements
+pub mod Headings
+pub mod Spelling

@@ -1,0 +1,220 @@
+-- A setting reads again as it is written.
+use Rattle.std.proofs.Common.{◌≡◌, ℕ, ◌^◌, ◌<◌, Bool, true, false, cond, ◌&&◌, leb, Option, Some, None, List, [], ◌∷◌, decimal, Result, Ok, Err, sym, ap, subst, ◌∙◌, refl}
+use Rattle.std.specs.List.{list_all}
+use Rattle.std.specs.Str.{is_utf8}
+use Rattle.fab_base.specs.Offer.{limits_of}
+use Rattle.fab_base.specs.declared.limits.Limits.{Limits}
+use Rattle.fab_base.specs.declared.limits.Size.{Size}
+use Rattle.fab_base.specs.declared.limits.Size.TheVariants as size
+use Rattle.fab_words.specs.declared.fault.Fault.{Fault}
+use Rattle.fab_words.specs.declared.fault.Fault.TheVariants.{Words, Limit}
+use Rattle.fab_words.specs.Faults.{◌&◌, map_ok}
+use Rattle.fab_words.specs.Words.{read_number, read_text}
+use Rattle.fab_words.specs.Written.{is_word}
+use Rattle.fab_grammar.specs.declared.language.Form.{Form}
+use Rattle.fab_grammar.specs.declared.language.Language.{Language}
+use Rattle.fab_grammar.specs.declared.language.Language.TheVariants.{Built, Whole}
+use Rattle.fab_grammar.specs.declared.settings.Setting.{Setting}
+use Rattle.fab_grammar.specs.declared.settings.Setting.TheVariants.{Peers, Wish, Capabilities, Selective}
+use Rattle.fab_grammar.specs.declared.verbs.Kind.TheVariants as kind
+use Rattle.fab_grammar.specs.declared.verbs.Verb.{Verb}
+use Rattle.fab_grammar.specs.declared.verbs.Verb.TheVariants as verb
+use Rattle.fab_grammar.specs.Capabilities.{caps_of}
+use Rattle.fab_grammar.specs.Language.{has_form, form_of_word, source_form, wait_form, is_built}
+use Rattle.fab_grammar.specs.Settings.{between, size_of, caps_setting, selective_setting, a_file, payload_setting, wish_of, setting_of}
+use Rattle.fab_grammar.specs.Verbs.{kind_of}
+use Rattle.fab_grammar.proofs.PartLemmas.{and_true}
+use Rattle.fab_spell.specs.Headings.{caps_word, setting_verb, setting_args, SettingRead, SettingAgain}
+use Rattle.fab_spell.proofs.Decimals.{and_both, decimal_is_word, decimal_form, read_number_again, read_number_small}
+use Rattle.fab_spell.proofs.CapsNames.{caps_again}
+
+-- what holds of the written line in each language
+record Spelled (s : Setting) : Type 0 where
+  kind : kind_of (setting_verb s) ≡ kind.Setting
+  words : list_all is_word (setting_args s) ≡ true
+  reads : setting_of (setting_verb s) (setting_args s) ≡ Ok s
+
+alone : (word : List ℕ) → is_word word ≡ true → list_all is_word (word ∷ []) ≡ true
+alone word e = and_both (is_word word) true e refl
+
+-- what a part said
+made_of : {A B : Type 0} (f : A → B) (r : Result A Fault) (b : B) → map_ok f r ≡ Ok b → (a : A) × (r ≡ Ok a) × (f a ≡ b)
+made_of f (Ok a) b e = (a, refl, cc)
+made_of f (Err fault) b e = cc
+
+-- sizes
+
+between_said : (limits : Limits) (r : Result ℕ Fault) (n : ℕ) → between limits r ≡ Ok n → r ≡ Ok n
+between_said limits (Ok m) n e = ap Ok (by (leb limits.least m && leb m limits.greatest) e)
+  where
+    by : (b : Bool) → cond b (Ok m) (Err Limit) ≡ Ok n → m ≡ n
+    by true f = cc
+    by false f = cc
+between_said limits (Err fault) n e = cc
+
+size_small : (size : Size) (args : List (List ℕ)) (n : ℕ) → size_of size args ≡ Ok n → n < 2 ^ 64
+unfolding size_of
+size_small size [] n e = cc
+size_small size (word ∷ []) n e = read_number_small word n (between_said (limits_of size) (read_number word) n e)
+size_small size (word ∷ next ∷ more) n e = cc
+
+record SizeAgain (size : Size) (n : ℕ) : Type 0 where
+  reads : size_of size (decimal n ∷ []) ≡ Ok n
+  words : list_all is_word (decimal n ∷ []) ≡ true
+
+size_again : (size : Size) (args : List (List ℕ)) (n : ℕ) → size_of size args ≡ Ok n → SizeAgain size n
+unfolding size_of
+size_again size [] n e = cc
+size_again size (word ∷ []) n e =
+    let said = between_said (limits_of size) (read_number word) n e in
+    record {
+      reads = ap (between (limits_of size)) (read_number_again word n said ∙ sym said) ∙ e;
+      words = alone (decimal n) (decimal_is_word n (read_number_small word n said));
+    }
+size_again size (word ∷ next ∷ more) n e = cc
+
+-- payloads
+
+both_said : {A B : Type 0} (a : Result A Fault) (b : Result B Fault) (p : A × B) → (a & b) ≡ Ok p → (a ≡ Ok p.0) × (b ≡ Ok p.1)
+both_said {A} {B} (Ok a) (Ok b) p e = let same : ◌≡◌ {A = A × B} (a, b) p = cc in (ap (λ q. Ok q.0) same, ap (λ q. Ok q.1) same)
+both_said (Ok a) (Err g) p e = cc
+both_said (Err f) (Ok b) p e = cc
+both_said (Err f) (Err g) p e = cc
+
+text_said : (word text : List ℕ) → read_text word ≡ Ok text → text ≡ word
+unfolding read_text
+text_said word text e = by (is_utf8 word) e
+  where
+    by : (b : Bool) → cond b (Ok word) (Err Words) ≡ Ok text → text ≡ word
+    by true f = cc
+    by false f = cc
+
+file_again : (id name : List ℕ) (p : ℕ × List ℕ) → list_all is_word (id ∷ name ∷ []) ≡ true → (read_number id & read_text name) ≡ Ok p → Spelled (a_file p)
+unfolding setting_of payload_setting
+file_again id name p words e =
+    let said = both_said (read_number id) (read_text name) p e in
+    let same = text_said name p.1 said.1 in
+    let number = read_number_again id p.0 said.0 in
+    let text = ap read_text same ∙ said.1 in
+    let rest = and_true (is_word id) (list_all is_word (name ∷ [])) words in
+    record {
+      kind = refl;
+      words = and_both (is_word (decimal p.0)) (list_all is_word (p.1 ∷ [])) (decimal_is_word p.0 (read_number_small id p.0 said.0)) (ap (λ w. list_all is_word (w ∷ [])) same ∙ rest.1);
+      reads = ap (λ r. map_ok a_file (r & read_text p.1)) number ∙ ap (λ r. map_ok a_file (Ok p.0 & r)) text;
+    }
+
+-- each setting
+
+peers_spelled : (args : List (List ℕ)) (s : Setting) → map_ok Peers (size_of size.Peers args) ≡ Ok s → Spelled s
+unfolding setting_of wish_of
+peers_spelled args s e =
+    let made = made_of Peers (size_of size.Peers args) s e in
+    let again = size_again size.Peers args made.0 made.1 in
+    subst Spelled made.2 (record { kind = refl; words = again.words; reads = ap (map_ok Peers) again.reads })
+
+lane_spelled : (args : List (List ℕ)) (s : Setting) → map_ok (Wish size.Lane) (size_of size.Lane args) ≡ Ok s → Spelled s
+unfolding setting_of wish_of
+lane_spelled args s e =
+    let made = made_of (Wish size.Lane) (size_of size.Lane args) s e in
+    let again = size_again size.Lane args made.0 made.1 in
+    subst Spelled made.2 (record { kind = refl; words = again.words; reads = ap (map_ok (Wish size.Lane)) again.reads })
+
+pool_spelled : (args : List (List ℕ)) (s : Setting) → map_ok (Wish size.Pool) (size_of size.Pool args) ≡ Ok s → Spelled s
+unfolding setting_of wish_of
+pool_spelled args s e =
+    let made = made_of (Wish size.Pool) (size_of size.Pool args) s e in
+    let again = size_again size.Pool args made.0 made.1 in
+    subst Spelled made.2 (record { kind = refl; words = again.words; reads = ap (map_ok (Wish size.Pool)) again.reads })
+
+tx_spelled : (args : List (List ℕ)) (s : Setting) → map_ok (Wish size.Tx) (size_of size.Tx args) ≡ Ok s → Spelled s
+unfolding setting_of wish_of
+tx_spelled args s e =
+    let made = made_of (Wish size.Tx) (size_of size.Tx args) s e in
+    let again = size_again size.Tx args made.0 made.1 in
+    subst Spelled made.2 (record { kind = refl; words = again.words; reads = ap (map_ok (Wish size.Tx)) again.reads })
+
+rx_spelled : (args : List (List ℕ)) (s : Setting) → map_ok (Wish size.Rx) (size_of size.Rx args) ≡ Ok s → Spelled s
+unfolding setting_of wish_of
+rx_spelled args s e =
+    let made = made_of (Wish size.Rx) (size_of size.Rx args) s e in
+    let again = size_again size.Rx args made.0 made.1 in
+    subst Spelled made.2 (record { kind = refl; words = again.words; reads = ap (map_ok (Wish size.Rx)) again.reads })
+
+cq_spelled : (args : List (List ℕ)) (s : Setting) → map_ok (Wish size.Cq) (size_of size.Cq args) ≡ Ok s → Spelled s
+unfolding setting_of wish_of
+cq_spelled args s e =
+    let made = made_of (Wish size.Cq) (size_of size.Cq args) s e in
+    let again = size_again size.Cq args made.0 made.1 in
+    subst Spelled made.2 (record { kind = refl; words = again.words; reads = ap (map_ok (Wish size.Cq)) again.reads })
+
+caps_spelled : (args : List (List ℕ)) (s : Setting) → caps_setting args ≡ Ok s → Spelled s
+unfolding setting_of caps_setting
+caps_spelled [] s e = cc
+caps_spelled (word ∷ []) s e =
+    let made = made_of Capabilities (caps_of word) s e in
+    let again = caps_again word made.0 made.1 in
+    subst Spelled made.2 (record { kind = refl; words = alone (caps_word made.0) again.1; reads = ap (map_ok Capabilities) again.0 })
+caps_spelled (word ∷ next ∷ more) s e = cc
+
+selective_spelled : (args : List (List ℕ)) (s : Setting) → selective_setting args ≡ Ok s → Spelled s
+unfolding setting_of selective_setting
+selective_spelled [] s e = let same : Selective ≡ s = cc in subst Spelled same (record { kind = refl; words = refl; reads = refl })
+selective_spelled (word ∷ more) s e = cc
+
+payload_spelled : (args : List (List ℕ)) (s : Setting) → list_all is_word args ≡ true → payload_setting args ≡ Ok s → Spelled s
+unfolding payload_setting
+payload_spelled [] s words e = cc
+payload_spelled (id ∷ []) s words e = cc
+payload_spelled (id ∷ name ∷ []) s words e =
+    let made = made_of a_file (read_number id & read_text name) s e in
+    subst Spelled made.2 (file_again id name made.0 words made.1)
+payload_spelled (id ∷ name ∷ next ∷ more) s words e = cc
+
+spelled : (verb : Verb) (args : List (List ℕ)) (s : Setting) → list_all is_word args ≡ true → setting_of verb args ≡ Ok s → Spelled s
+unfolding setting_of wish_of
+spelled verb.Peers args s words e = peers_spelled args s e
+spelled verb.Lane args s words e = lane_spelled args s e
+spelled verb.Pool args s words e = pool_spelled args s e
+spelled verb.Tx args s words e = tx_spelled args s e
+spelled verb.Rx args s words e = rx_spelled args s e
+spelled verb.Cq args s words e = cq_spelled args s e
+spelled verb.Caps args s words e = caps_spelled args s e
+spelled verb.Selective args s words e = selective_spelled args s e
+spelled verb.Payload args s words e = payload_spelled args s words e
+spelled _ args s words e = cc
+
+-- the language
+
+whole_form : (o : Option Form) → has_form Whole o ≡ true
+whole_form None = refl
+whole_form (Some form) = refl
+
+whole_words : (args : List (List ℕ)) → list_all (λ word. has_form Whole (form_of_word word)) args ≡ true
+whole_words [] = refl
+whole_words (word ∷ words) = and_both _ _ (whole_form (form_of_word word)) (whole_words words)
+
+whole_built : (verb : Verb) (args : List (List ℕ)) → is_built Whole verb args ≡ true
+unfolding is_built
+whole_built verb args = rw (whole_form (source_form verb args), whole_form (wait_form verb args)) (whole_words args)
+
+number_built : (n : ℕ) → n < 2 ^ 64 → is_built Built verb.Peers (decimal n ∷ []) ≡ true
+unfolding is_built
+number_built n h = ap (λ o. has_form Built o && true) (decimal_form n h)
+
+peers_built : (args : List (List ℕ)) (s : Setting) → map_ok Peers (size_of size.Peers args) ≡ Ok s → is_built Built (setting_verb s) (setting_args s) ≡ true
+peers_built args s e =
+    let made = made_of Peers (size_of size.Peers args) s e in
+    subst (λ x. is_built Built (setting_verb x) (setting_args x) ≡ true) made.2 (number_built made.0 (size_small size.Peers args made.0 made.1))
+
+built_again : (verb : Verb) (args : List (List ℕ)) (s : Setting) → kind_of verb ≡ kind.Setting → is_built Built verb args ≡ true → setting_of verb args ≡ Ok s → is_built Built (setting_verb s) (setting_args s) ≡ true
+unfolding is_built setting_of wish_of
+built_again verb.Peers args s k built e = peers_built args s e
+built_again _ args s k built e = cc
+
+pub setting_again : (language : Language) (s : Setting) → SettingRead language s → SettingAgain language s
+setting_again Whole s read =
+    let again = spelled read.verb read.args s read.words read.reads in
+    record { kind = again.kind; words = again.words; built = whole_built (setting_verb s) (setting_args s); reads = again.reads }
+setting_again Built s read =
+    let again = spelled read.verb read.args s read.words read.reads in
+    record { kind = again.kind; words = again.words; built = built_again read.verb read.args s read.kind read.built read.reads; reads = again.reads }
