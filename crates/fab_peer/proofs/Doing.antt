@@ -3,7 +3,7 @@ use Rattle.std.proofs.Common.{◌≡◌, ◌≢◌, ◌<◌, ◌≤◌, ◌+◌,
 use Rattle.std.specs.Prelude.{find, replicate, is_some, is_none, nat_le, ◌&&◌, IfOk, OnOk}
 use Rattle.std.proofs.lemmas.Option.{slice_get_within}
 use Rattle.std.proofs.lemmas.Bool.Decides.{nat_tests}
-use Rattle.fab_base.specs.Built.{is_built, is_short_text, is_at_transmit}
+use Rattle.fab_base.specs.Built.{is_built}
 use Rattle.fab_base.specs.declared.entries.Kept.{Kept}
 use Rattle.fab_base.specs.declared.entries.Taken.{Taken}
 use Rattle.fab_base.specs.declared.faults.Fault.{Fault}
@@ -18,7 +18,6 @@ use Rattle.fab_base.specs.declared.peers.LineResult.TheVariants.{Done, Refused, 
 use Rattle.fab_base.specs.declared.peers.Step.{Step}
 use Rattle.fab_base.specs.declared.peers.Step.TheVariants.{Do, Read}
 use Rattle.fab_base.specs.declared.script.BytesWord.{BytesWord}
-use Rattle.fab_base.specs.declared.script.BytesWord.TheVariants.{Text, Hex, Zero, File}
 use Rattle.fab_base.specs.declared.script.Line.{Line}
 use Rattle.fab_base.specs.declared.script.LineOp.{LineOp}
 use Rattle.fab_base.specs.declared.script.LineOp.TheVariants.{Wait, TRecv, TSend}
@@ -31,9 +30,10 @@ use Rattle.fab_model.specs.Views.{View}
 use Rattle.fab_model.proofs.Passes.{Passes, same, call_passes}
 use Rattle.fab_peer.specs.Endpoints.{Held, Answers, ReadsHeld, logged, any_source}
 use Rattle.fab_peer.specs.Moves.{IsTied, Went}
-use Rattle.fab_peer.specs.Turns.{actor_of, schedule_of, Does, Turned, Answered, Waits, Stays, next_op}
+use Rattle.fab_peer.specs.Turns.{actor_of, schedule_of, Carries, Does, Turned, Answered, Waits, Stays, next_op}
 use Rattle.fab_peer.specs.Work.{line_work, state_work, actor_work}
 use Rattle.fab_peer.specs.declared.peer.Peer.{Peer}
+use Rattle.fab_peer.proofs.Carrying.{Keeps, carries_same}
 use Rattle.fab_peer.proofs.Going.{tied_passes, ported_same, ported_then, shows_less, walk_append}
 use Rattle.fab_peer.proofs.Joining.{is_at}
 use Rattle.fab_peer.proofs.Working.{line_less, read_less}
@@ -46,6 +46,7 @@ does_same a b actor log = record {
   log = log ∙ sym (append-nil (schedule_of a));
   walk = λ v. sym actor;
   tied = λ p tied. subst (λ (x : Actor). IsTied x.state p) (sym actor) tied;
+  carries = λ carries. subst (λ (x : Actor). Carries x) (sym actor) carries;
   spends = (let same = ap actor_work actor in omega (arith, same));
 }
 
@@ -55,11 +56,12 @@ does_then a b c x y = record {
   log = y.log ∙ ap (λ xs. xs ++ y.steps) x.log ∙ append_assoc (schedule_of a) x.steps y.steps;
   walk = λ v. walk_append v (actor_of a) (actor_of b) (actor_of c) x.steps y.steps (x.walk v) (y.walk v);
   tied = λ p tied. y.tied p (x.tied p tied);
+  carries = λ carries. y.carries (x.carries carries);
   spends = omega (arith, x.spends, y.spends);
 }
 
 pub turned_does : (a b : Peer) (p : Plain) → Does a b → Turned a p b p
-turned_does a b p does = record { steps = does.steps; log = does.log; walk = λ v shows. does.walk v; ported = ported_same p; spends = omega (arith, does.spends) }
+turned_does a b p does = record { steps = does.steps; log = does.log; walk = λ v shows. does.walk v; ported = ported_same p; carries = does.carries; spends = omega (arith, does.spends) }
 
 pub turned_went : (a b : Peer) (p q : Plain) → Went a.endpoint p b.endpoint q → b.lines ≡ a.lines → b.results ≡ a.results → b.kept ≡ a.kept → Turned a p b q
 turned_went a b p q went lines results kept = record {
@@ -67,6 +69,7 @@ turned_went a b p q went lines results kept = record {
   log = went.log;
   walk = λ v shows. rw (lines, results, kept) (went.walk (actor_of a) v shows);
   ported = went.ported;
+  carries = carries_same (actor_of a) (actor_of b) (ap (λ (x : _). x.items) lines) went.accepted;
   spends = (let count = ap (λ (x : _). length x.items) lines in let done = ap (λ (x : _). length x.items) results in omega (arith, count, done, went.spends));
 }
 
@@ -76,19 +79,21 @@ turned_then a b c p q r x y = record {
   log = y.log ∙ ap (λ xs. xs ++ y.steps) x.log ∙ append_assoc (schedule_of a) x.steps y.steps;
   walk = λ v shows. walk_append v (actor_of a) (actor_of b) (actor_of c) x.steps y.steps (x.walk v (shows_less q r v y.ported shows)) (y.walk v shows);
   ported = ported_then p q r x.ported y.ported;
+  carries = λ carries. y.carries (x.carries carries);
   spends = omega (arith, x.spends, y.spends);
 }
 
 -- ---- one step
 
 does_step : (a b : Peer) (x : Step) → schedule_of b ≡ schedule_of a ++ x ∷ [] → ((v : View Item) → step v (actor_of a) x ≡ Some (actor_of b)) → Passes a.endpoint.state b.endpoint.state
-    → actor_work (actor_of b) < actor_work (actor_of a) → Does a b
+    → (Carries (actor_of a) → Carries (actor_of b)) → actor_work (actor_of b) < actor_work (actor_of a) → Does a b
 unfolding fabric
-does_step a b x log stands passes less = record {
+does_step a b x log stands passes carries less = record {
   steps = x ∷ [];
   log = log;
   walk = λ v. (actor_of b, stands v, refl);
   tied = λ p tied. tied_passes a.endpoint.state b.endpoint.state p passes tied;
+  carries = carries;
   spends = omega (arith, less);
 }
 
@@ -109,6 +114,7 @@ does_read a b entry (w, there, is, new, plain) lines results kept =
     (λ v. reads_next (actor_of a) w entry there is plain
     ∙ (let state = ap (λ (h : Held). h.state) new in rw (lines, results, kept, state) refl))
     (rw new (same refl refl refl))
+    (carries_same (actor_of a) (actor_of b) (ap (λ (x : _). x.items) lines) (ap (λ (h : Held). h.state.tx.accepted) new))
     (read_work a b entry (w, there, is, new, plain) lines results)
 
 -- a read changes nothing that the calm asks of a peer
@@ -165,6 +171,7 @@ does_wait a b ctx k next found rest log lines results =
     does_step a b Do (ap (λ (h : Held). h.log) log)
     (λ v. next_is a (Wait ctx) next ∙ waits (actor_of a) ctx k found ∙ (let state = ap (λ (h : Held). h.state) log in rw (lines, results, rest, state) refl))
     (let state = ap (λ (h : Held). h.state) log in rw state (same refl refl refl))
+    (carries_same (actor_of a) (actor_of b) (ap (λ (x : _). x.items) lines) (ap (λ (h : Held). h.state.tx.accepted) log))
     (wait_work a b ctx k next log lines results)
 
 after_answer : (a : Actor) (outcome : LineResult) (s : State) → is_again outcome ≡ false → after_call a (outcome, s) ≡ Some (with_result outcome (with_state a s))
@@ -197,9 +204,9 @@ answered_work a m b op c r (Err x) next answers lines results costs answered e =
 
 pub does_call : {T : Type 0} (a m b : Peer) (op : LineOp) (c : Call) (r : Result T Fault) (done : Bool) → next_op a ≡ Some op → do_line (actor_of a) op ≡ call_line (actor_of a) c
     → Answers c a.endpoint m.endpoint r → m.lines ≡ a.lines → m.results ≡ a.results → m.kept ≡ a.kept
-    → OnOk r (state_work m.endpoint.state < state_work a.endpoint.state + line_work) → Answered r m b done → Does a b
+    → OnOk r (state_work m.endpoint.state < state_work a.endpoint.state + line_work) → OnOk r (Keeps (actor_of a) m.endpoint.state) → Answered r m b done → Does a b
 unfolding step
-does_call {T} a m b op c (Ok x) done next line answers lines results kept costs (all, is, more) =
+does_call {T} a m b op c (Ok x) done next line answers lines results kept costs keeps (all, is, more) =
     let endpoint : b.endpoint ≡ m.endpoint = ap (λ (x : Peer). x.endpoint) is in
     does_step a b Do (ap (λ (h : Held). h.log) endpoint ∙ answers.1)
     (λ v. calls a op c Done m.endpoint.state next line answers.0 refl
@@ -207,12 +214,13 @@ does_call {T} a m b op c (Ok x) done next line answers lines results kept costs 
     let k : b.kept ≡ a.kept = ap (λ (x : Peer). x.kept) is ∙ kept in
     rw (endpoint, l, k, more, results) refl))
     (rw endpoint (subst (λ (x : State). Passes a.endpoint.state x) (ap (λ x. x.1) answers.0) (call_passes a.endpoint.state c)))
+    (λ carries. carries_same (with_state (actor_of a) m.endpoint.state) (actor_of b) (ap (λ (x : Peer). x.lines.items) is ∙ ap (λ (x : _). x.items) lines) (ap (λ (h : Held). h.state.tx.accepted) endpoint) (keeps carries))
     (call_work {T = T} a m b op c (Ok x) done next answers lines results costs (all, is, more) all)
-does_call a m b op c (Err fault) false next line answers lines results kept costs (is, busy, again) =
+does_call a m b op c (Err fault) false next line answers lines results kept costs keeps (is, busy, again) =
     let free : fault ≢ LacksMemory = (λ e. cc (again, e)) in
     let stays = (answers free).1 in
     does_same a b (rw (is, stays, lines, results, kept) refl) (rw (is, stays) refl)
-does_call {T} a m b op c (Err fault) true next line answers lines results kept costs (is, more, again, free) =
+does_call {T} a m b op c (Err fault) true next line answers lines results kept costs keeps (is, more, again, free) =
     let stays = (answers free).1 in
     let endpoint : b.endpoint ≡ logged (Do ∷ []) a.endpoint = ap (λ (x : Peer). x.endpoint) is ∙ ap (logged (Do ∷ [])) stays in
     does_step a b Do (ap (λ (h : Held). h.log) endpoint)
@@ -221,14 +229,15 @@ does_call {T} a m b op c (Err fault) true next line answers lines results kept c
     let k : b.kept ≡ a.kept = ap (λ (x : Peer). x.kept) is ∙ kept in
     rw (endpoint, l, k, more, results) refl))
     (rw endpoint (same refl refl refl))
+    (carries_same (actor_of a) (actor_of b) (ap (λ (x : Peer). x.lines.items) is ∙ ap (λ (x : _). x.items) lines) (ap (λ (h : Held). h.state.tx.accepted) endpoint))
     (call_work {T = T} a m b op c (Err fault) true next answers lines results costs (is, more, again, free) refl)
 
 -- the same of the result of a call's answer, where it is at hand
 pub does_answered : {T E : Type 0} (a m b : Peer) (op : LineOp) (c : Call) (r : Result T Fault) (done : Result Bool E) → next_op a ≡ Some op → do_line (actor_of a) op ≡ call_line (actor_of a) c
     → Answers c a.endpoint m.endpoint r → m.lines ≡ a.lines → m.results ≡ a.results → m.kept ≡ a.kept
-    → OnOk r (state_work m.endpoint.state < state_work a.endpoint.state + line_work) → IfOk done (Answered r m b) → OnOk done (Does a b)
-does_answered a m b op c r (Ok done) next line answers lines results kept costs answered = does_call a m b op c r done next line answers lines results kept costs answered
-does_answered a m b op c r (Err e) next line answers lines results kept costs answered = _
+    → OnOk r (state_work m.endpoint.state < state_work a.endpoint.state + line_work) → OnOk r (Keeps (actor_of a) m.endpoint.state) → IfOk done (Answered r m b) → OnOk done (Does a b)
+does_answered a m b op c r (Ok done) next line answers lines results kept costs keeps answered = does_call a m b op c r done next line answers lines results kept costs keeps answered
+does_answered a m b op c r (Err e) next line answers lines results kept costs keeps answered = _
 
 pub line_trecv : (a : Actor) (ctx tag ignore len : ℕ) → do_line a (TRecv ctx None tag ignore len) ≡ call_line a (Post (any_source tag ignore (replicate len 0) ctx))
 unfolding do_line call_of
@@ -308,15 +317,3 @@ stays_unbuilt a b next op is op_is unbuilt same = record {
 pub some_source : (o : Option ℕ) → is_some o ≡ true → is_none o ≡ true → ⊥
 some_source None some none = cc some
 some_source (Some source) some none = cc none
-
-both : (a b : Bool) → (a && b) ≡ true → (a ≡ true) × (b ≡ true)
-both true true e = (refl, refl)
-both true false e = absurd (cc e)
-both false b e = absurd (cc e)
-
--- a send that is carried out goes in one frame and completes when it is transmitted
-pub built_send : (word : BytesWord) (level : Level) → (is_short_text word && is_at_transmit level) ≡ true → (length (word_bytes word) ≤ 4096) × (is_at_transmit level ≡ true)
-built_send (Text bytes) level e = let parts = both (nat_le (length bytes) 4096) (is_at_transmit level) e in let short = parts.0 in (grind (arith, nat_tests), parts.1)
-built_send (Hex bytes) level e = absurd (cc e)
-built_send (Zero n) level e = absurd (cc e)
-built_send (File id at len) level e = absurd (cc e)

@@ -26,9 +26,10 @@ use Rattle.fab_model.specs.Replay.{opening, newly, lines_of, bind_word, bind_op,
 use Rattle.fab_model.specs.Views.{rule}
 use Rattle.fab_model.proofs.Lasting.{leads_lasts}
 use Rattle.fab_peer.specs.Moves.{frame_of}
-use Rattle.fab_peer.specs.Turns.{actor_of, IsHeld, IsStill}
+use Rattle.fab_peer.specs.Turns.{actor_of, AreBuilt, Carries, IsHeld, CanGo, IsStill}
 use Rattle.fab_peer.specs.Joined.{actors, schedules, IsJoined, CanRun, AreStill, Rest, AreSized, came}
 use Rattle.fab_peer.specs.declared.fabric.Fabric.{Fabric}
+use Rattle.fab_peer.proofs.Carrying.{member_built}
 use Rattle.fab_peer.proofs.Joining.{nobody, member}
 
 -- ---- lines
@@ -44,11 +45,6 @@ built_bound b (TSend ctx dest tag word imm level completion) e = let parts = and
 built_bound b (TRecv ctx source tag ignore len) e = e
 built_bound b (Wait ctx) e = e
 built_bound b op e = absurd (cc e)
-
-member_built : (lines : List Line) (k : ℕ) (line : Line) → list_all (λ (l : Line). is_built l.op) lines ≡ true → slice_get lines k ≡ Some line → is_built line.op ≡ true
-member_built [] k line all has = absurd (cc has)
-member_built (l ∷ lines) zero line all has = let is : l ≡ line = cc has in subst (λ (x : Line). is_built x.op ≡ true) is (and_parts (is_built l.op) _ all).0
-member_built (l ∷ lines) (suc k) line all has = member_built lines k line (and_parts (is_built l.op) _ all).1 has
 
 lines_bound : (b : Bound) (lines : List Line) → list_all (λ (l : Line). is_built l.op) lines ≡ true → list_all (λ (l : Line). is_built l.op) (map (bind_line b) lines) ≡ true
 lines_bound b [] all = refl
@@ -77,13 +73,18 @@ module _ (b : Bound) (can : CanRun b) (all : List Actor) (steps : List (List Ste
   pub sized : AreSized all
   sized p a has = let o = opened p a has in subst (λ n. 0 < n) (sym o.2) can.sized
 
+  built_lines : (p : ℕ) (a : Actor) → slice_get all p ≡ Some a → AreBuilt a.lines
+  built_lines p a has =
+      let o = opened p a has in
+      subst (λ (lines : List Line). AreBuilt lines) (sym o.1) (lines_bound b (slice_index_or b.script.peers o.0 []) (part_built b.script.peers o.0 can.lines))
+
+  -- what such peers accepted can go
+  go_all : ((p : ℕ) (a : Actor) → slice_get all p ≡ Some a → Carries a) → (p : ℕ) (a : Actor) → slice_get all p ≡ Some a → CanGo a
+  go_all carries p a has = (sized p a has, carries p a has (built_lines p a has))
+
   held_lines : (p : ℕ) (a : Actor) → slice_get all p ≡ Some a → IsHeld a → can_do a ≡ false
   unfolding do_next
-  held_lines p a has held =
-      let o = opened p a has in
-      let built : list_all (λ (l : Line). is_built l.op) a.lines ≡ true =
-      subst (λ lines. list_all (λ (l : Line). is_built l.op) lines ≡ true) (sym o.1) (lines_bound b (slice_index_or b.script.peers o.0 []) (part_built b.script.peers o.0 can.lines)) in
-      go (next_line a) refl built
+  held_lines p a has held = go (next_line a) refl (built_lines p a has)
     where
       go : (o : Option Line) → next_line a ≡ o → list_all (λ (l : Line). is_built l.op) a.lines ≡ true → can_do a ≡ false
       go None next built = rw (next, do_next, can_do) refl
@@ -91,9 +92,9 @@ module _ (b : Bound) (can : CanRun b) (all : List Actor) (steps : List (List Ste
 
 -- ---- peers that can do nothing
 
-module _ (f : Fabric) (joined : IsJoined f) (still : AreStill f) (some : AreSized (actors f)) where
+module _ (f : Fabric) (joined : IsJoined f) (still : AreStill f) (go : (p : ℕ) (a : Actor) → slice_get (actors f) p ≡ Some a → CanGo a) where
   still_at : (p : ℕ) (a : Actor) → slice_get (actors f) p ≡ Some a → IsStill a (came f p)
-  still_at p a has = still.each p a has (some p a has)
+  still_at p a has = still.each p a has (go p a has)
 
   -- what came is all that was sent
   came_sent : (p s : ℕ) (b : Actor) → slice_get (actors f) s ≡ Some b → length (came f p s) ≡ slice_index b.state.tx.sent p
@@ -122,7 +123,7 @@ module _ (f : Fabric) (joined : IsJoined f) (still : AreStill f) (some : AreSize
 
 -- at the end of the rounds of a script whose lines are all built
 pub rests : (b : Bound) (f : Fabric) → CanRun b → Reached (rule fabric) (opening b) (schedules f) (actors f) → IsJoined f → AreStill f → Rest (actors f)
-rests b f can reached joined still = rest_by f joined still (sized b can (actors f) (schedules f) reached) (held_lines b can (actors f) (schedules f) reached)
+rests b f can reached joined still = rest_by f joined still (go_all b can (actors f) (schedules f) reached joined.carries) (held_lines b can (actors f) (schedules f) reached)
 
 -- ---- the test
 

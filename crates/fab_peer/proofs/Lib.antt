@@ -1,5 +1,6 @@
 pub mod Arriving
 pub mod Calling
+pub mod Carrying
 pub mod Doing
 pub mod Firsts
 pub mod Going

@@ -6,6 +6,7 @@ use Rattle.std.proofs.lemmas.Bool.{cases_lt}
 use Rattle.std.proofs.lemmas.List.{map-append, length-map, get_or-drop}
 use Rattle.std.proofs.lemmas.Option.{slice_get-map, slice_get_within, get_or_from_slice_get}
 use Rattle.fab_base.specs.declared.frames.Frame.{Frame}
+use Rattle.fab_base.specs.declared.items.Item.{Item}
 use Rattle.fab_base.specs.declared.script.Bound.{Bound}
 use Rattle.fab_base.specs.declared.script.Line.{Line}
 use Rattle.fab_link.specs.Plain.{Lane, Plain, lane_at, fresh_lane}
@@ -13,14 +14,14 @@ use Rattle.fab_link.specs.Carry.{lane_of}
 use Rattle.fab_model.specs.Calls.{upto}
 use Rattle.fab_model.specs.Orders.{AreSteps, Reached}
 use Rattle.fab_model.specs.Peers.{Actor, fabric}
-use Rattle.fab_model.specs.State.{lookup, Receiving, Transmitting, Completions}
+use Rattle.fab_model.specs.State.{lookup, accepted_for, Receiving, Transmitting, Completions}
 use Rattle.fab_peer.specs.Endpoints.{IsOpen, nothing_yet}
 use Rattle.fab_model.specs.Views.{rule}
 use Rattle.fab_model.proofs.Walks.{none_taken, reached_opening}
 use Rattle.fab_base.specs.declared.peers.Step.{Step}
 use Rattle.fab_model.specs.Replay.{opening, newly, fresh, lines_of, bind_line}
 use Rattle.fab_peer.specs.Moves.{IsTied}
-use Rattle.fab_peer.specs.Turns.{actor_of, schedule_of}
+use Rattle.fab_peer.specs.Turns.{actor_of, schedule_of, Carries}
 use Rattle.fab_peer.specs.Joined.{actors, schedules, Opens}
 use Rattle.fab_peer.specs.declared.fabric.Fabric.{Fabric}
 use Rattle.fab_peer.specs.declared.peer.Peer.{Peer}
@@ -123,6 +124,16 @@ module _ (b : Bound) (f : Fabric) (n : ℕ) (all : n ≡ b.script.conf.peers) (f
       let tied : IsTied (fresh b.script.conf) (port_of n k) = subst (λ m. IsTied (fresh b.script.conf) (port_of m k)) (sym all) (fresh_tied b k) in
       subst (λ x. IsTied a.endpoint.state x) (sym is) (subst (λ x. IsTied x (port_of n k)) (sym state) tied)
 
+  -- nothing is accepted yet
+  carries_at : (k : ℕ) (a : Actor) → slice_get (actors f) k ≡ Some a → Carries a
+  carries_at k a has built d i x there =
+      let below : k < n = omega (arith, count_peers, slice_get_within (actors f) k a has, length-map f.peers.items actor_of) in
+      let is : Some a ≡ Some (first_actor b k) = sym has ∙ ap (λ xs. slice_get xs k) are ∙ map_upto (first_actor b) n k below in
+      let same : a ≡ first_actor b k = cc is in
+      let none : accepted_for a.state.tx d ≡ [] = ap (λ (y : Actor). accepted_for y.state.tx d) same ∙ same_at b.script.conf.peers d [] in
+      let empty : slice_get {X = Item} [] i ≡ Some x = subst (λ xs. slice_get xs i ≡ Some x) none there in
+      absurd (cc empty)
+
   pub opens : Opens b f
   unfolding opening
   opens = record {
@@ -137,6 +148,7 @@ module _ (b : Bound) (f : Fabric) (n : ℕ) (all : n ≡ b.script.conf.peers) (f
       lanes = λ s r. rw (lane_is s r, lane_is r s) refl;
       fresh_out = λ s r. ap (λ (l : Lane). l.out.after) (lane_is s r);
       fresh_in = λ s r. ap (λ (l : Lane). l.in_after) (lane_is r s);
+      carries = carries_at;
     };
     actors_are = are ∙ ap (λ m. map (first_actor b) (upto m)) all;
     schedules_are = steps;

@@ -2,8 +2,10 @@
 --     actor_of peer        the peer as the machine knows it
 --     Does a b             some steps that need no other peer lead from the one to the other
 --     Turned a p b q       some steps lead from the one to the other, wherever the frames taken are shown
+--     Carries a            where all lines are built, each item accepted goes in one frame
 --     IsStill a came       the peer can do nothing
-use Rattle.std.specs.Prelude.{◌≡◌, ◌≢◌, ◌≤◌, ◌++◌, ◌∷◌, ℕ, Bool, true, false, List, [], length, slice_index, Option, Some, None, Result, Ok, Err}
+use Rattle.std.specs.Prelude.{◌≡◌, ◌≢◌, ◌<◌, ◌≤◌, ◌++◌, ◌∷◌, ℕ, Bool, true, false, List, [], length, slice_index, Option, Some, None, Result, Ok, Err}
+use Rattle.std.specs.List.{list_all}
 use Rattle.std.specs.Option.{option_map}
 use Rattle.fab_base.specs.Built.{is_built}
 use Rattle.fab_base.specs.declared.faults.Busy.{Busy}
@@ -26,7 +28,7 @@ use Rattle.fab_model.specs.Receiving.{draw_due}
 use Rattle.fab_model.specs.State.{accepted_for}
 use Rattle.fab_model.specs.Views.{View, Walk}
 use Rattle.fab_peer.specs.Moves.{Shows, taken_of, IsTied, Ported}
-use Rattle.fab_peer.specs.Endpoints.{logged}
+use Rattle.fab_peer.specs.Endpoints.{logged, AreCarried}
 use Rattle.fab_peer.specs.Work.{actor_work, peer_work}
 use Rattle.fab_peer.specs.declared.peer.Peer.{Peer}
 
@@ -36,12 +38,20 @@ actor_of peer = record { state = peer.endpoint.state; lines = peer.lines.items; 
 abbrev pub schedule_of : Peer → List Step
 schedule_of peer = peer.endpoint.log
 
+-- every line is one that the program carries out
+abbrev pub AreBuilt : List Line → Type 0
+AreBuilt lines = list_all (λ (line : Line). is_built line.op) lines ≡ true
+
+abbrev pub Carries : Actor → Type 0
+Carries a = AreBuilt a.lines → AreCarried a.state.tx.accepted
+
 -- the peer alone: its steps stand in every view, and leave no more work
 pub record Does (a b : Peer) : Type 0 where
   pub steps : List Step
   pub log : schedule_of b ≡ schedule_of a ++ steps
   pub walk : (v : View Item) → Walk fabric v (actor_of a) steps (actor_of b)
   pub tied : (p : Plain) → IsTied a.endpoint.state p → IsTied b.endpoint.state p
+  pub carries : Carries (actor_of a) → Carries (actor_of b)
   pub spends : actor_work (actor_of b) ≤ actor_work (actor_of a)
 
 -- the peer with its port: its steps leave no more work
@@ -50,6 +60,7 @@ pub record Turned (a : Peer) (p : Plain) (b : Peer) (q : Plain) : Type 0 where
   pub log : schedule_of b ≡ schedule_of a ++ steps
   pub walk : (v : View Item) → Shows (taken_of q) v → Walk fabric v (actor_of a) steps (actor_of b)
   pub ported : Ported p q
+  pub carries : Carries (actor_of a) → Carries (actor_of b)
   pub spends : peer_work (actor_of b) q ≤ peer_work (actor_of a) p
 
 -- the peer alone at the end: its steps stand where all is calm, and what the calm asks of it stays, as does what it transmitted
@@ -79,6 +90,10 @@ pub record Waits (a b : Peer) : Type 0 where
 pub record Stays (a b : Peer) : Type 0 where
   pub same : actor_of b ≡ actor_of a
   pub held : IsHeld (actor_of a)
+
+-- completions have room, and each item accepted goes in one frame
+abbrev pub CanGo : Actor → Type 0
+CanGo a = (0 < a.state.cq.size) × AreCarried a.state.tx.accepted
 
 -- The peer can do nothing: all is read, its next line can't be done, no draw is due, all that it accepted is transmitted, and of each peer all is whole that came.
 pub record IsStill (a : Actor) (came : ℕ → List Frame) : Type 0 where

@@ -1,9 +1,5 @@
 //! A peer: the lines of its part of a script, done in order over an endpoint.
-ghost use Rattle.std.specs.Prelude.{◌≡◌, ◌≤◌, ◌<◌, Some, None, Ok, IfOk, OnOk, find, position, [], true, false};
-ghost use Rattle.fab_base.specs.Built.{is_at_transmit};
-ghost use Rattle.fab_base.specs.declared.items.Ack.TheVariants.{Nothing};
-ghost use Rattle.fab_base.specs.declared.items.Kind.TheVariants.{TagMsg};
-ghost use Rattle.fab_model.specs.Sending.{ack_of};
+ghost use Rattle.std.specs.Prelude.{◌≡◌, ◌<◌, Some, None, Ok, IfOk, OnOk, find, position, [], true, false};
 ghost use Rattle.fab_base.specs.declared.script.LineOp.TheVariants.{Wait, TRecv};
 ghost use Rattle.fab_model.specs.Matching.{remove_first};
 ghost use Rattle.fab_model.specs.Calls.{word_bytes};
@@ -95,21 +91,8 @@ fn word_bytes(alloc: Global, word: &BytesWord) -> Result<Buf, NoMemory>
     }
 }
 
-/// Whether a message of these bytes goes in one frame and completes when it is transmitted.
-fn goes_in_one(level: Level, bytes: &Buf) -> bool
-    ensures short { result ≡ true → length bytes.now ≤ 4096 }
-    ensures silent { result ≡ true → ack_of TagMsg level ≡ Nothing }
-    ensures built { length bytes.now ≤ 4096 → is_at_transmit level ≡ true → result ≡ true }
-{
-    let is_early = match level {
-        Level::Inject | Level::Transmit => true,
-        Level::Delivery | Level::Match => false,
-    };
-    is_early && bytes.as_slice().len() <= 4096
-}
-
 impl Peer {
-    ghost use Rattle.fab_peer.specs.Turns.{Turned, Ended, IsRead, Waits, Stays, IsStill, came_to, actor_of, schedule_of, Does, Answered, next_op, SendsNext};
+    ghost use Rattle.fab_peer.specs.Turns.{Turned, Ended, IsRead, Waits, Stays, IsStill, CanGo, came_to, actor_of, schedule_of, Does, Answered, next_op, SendsNext};
 
     /// A peer that is to do these lines.
     pub fn new(alloc: Global, conf: &Conf, lines: Vec<Line>) -> Result<Peer, NoMemory>
@@ -202,8 +185,6 @@ impl Peer {
         completion: bool,
     ) -> Result<bool, NoMemory>
         requires next { SendsNext ctx dest tag bytes imm level completion self.old }
-        requires short { length bytes ≤ 4096 }
-        requires silent { ack_of TagMsg level ≡ Nothing }
         ensures does { OnOk result (Does self.old self.new) }
         ensures falls { result ≡ Ok true → actor_work (actor_of self.new) < actor_work (actor_of self.old) }
         ensures still { result ≡ Ok false → Waits self.old self.new }
@@ -256,9 +237,6 @@ impl Peer {
                 let bytes = word_bytes(self.alloc, bytes)?;
                 let (ctx, dest, tag, imm) = (*ctx, *dest, *tag, *imm);
                 let (level, completion) = (*level, *completion);
-                if !goes_in_one(level, &bytes) {
-                    return Ok(false);
-                }
                 if !self.tsend(ctx, dest, tag, bytes, imm, level, completion)? {
                     return Ok(false);
                 }
@@ -277,7 +255,7 @@ impl Peer {
         ensures turned { OnOk result (Turned self.old port.old self.new port.new) }
         ensures falls { result ≡ Ok true → peer_work (actor_of self.new) port.new < peer_work (actor_of self.old) port.old }
         ensures same { result ≡ Ok false → actor_of self.new ≡ actor_of self.old }
-        ensures still { result ≡ Ok false → 0 < (actor_of self.new).state.cq.size → IsStill (actor_of self.new) (came_to port.new) }
+        ensures still { result ≡ Ok false → CanGo (actor_of self.new) → IsStill (actor_of self.new) (came_to port.new) }
     {
         let read = self.read_all()?;
         let done = self.do_lines(port)?;
