@@ -1,6 +1,6 @@
 -- Where all lines of a peer are built, each item that it accepts goes in one frame.
-use Rattle.std.proofs.Common.{◌≡◌, ◌≤◌, ℕ, zero, suc, Bool, true, false, List, [], ◌∷◌, ◌++◌, length, set, get_or, slice_get, Option, Some, None, ◌⊎◌, inl, inr, refl, sym, ap, subst, arith, length-append, option_map}
-use Rattle.std.specs.Prelude.{Result, Ok, Err, OnOk, nat_le, ◌&&◌}
+use Rattle.std.proofs.Common.{◌≡◌, ◌≤◌, ℕ, zero, suc, Bool, true, List, [], ◌∷◌, ◌++◌, length, set, get_or, slice_get, Option, Some, None, ◌⊎◌, inl, inr, refl, sym, ap, subst, arith, length-append, option_map}
+use Rattle.std.specs.Prelude.{Result, Ok, Err, OnOk}
 use Rattle.std.proofs.lemmas.Bool.{and_parts}
 use Rattle.std.proofs.lemmas.Bool.Decides.{nat_tests}
 use Rattle.fab_base.specs.Built.{is_built, is_short_text, is_at_transmit}
@@ -18,7 +18,7 @@ use Rattle.fab_base.specs.declared.script.LineOp.{LineOp}
 use Rattle.fab_base.specs.declared.script.LineOp.TheVariants.{TSend}
 use Rattle.fab_model.specs.Calls.{answer, do_call, message, word_bytes}
 use Rattle.fab_model.specs.Peers.{Actor, next_line, with_state}
-use Rattle.fab_model.specs.Sending.{Order, ack_of, accepting, head_of, item_of, operation_of, transmit, transmit_to, transmit_fault}
+use Rattle.fab_model.specs.Sending.{Order, ack_of, accepting, head_of, item_of, transmit, transmit_to, transmit_fault}
 use Rattle.fab_model.specs.State.{State, lookup}
 use Rattle.fab_peer.specs.Endpoints.{Answers, IsCarried, AreCarried}
 use Rattle.fab_peer.specs.Turns.{actor_of, AreBuilt, Carries, next_op}

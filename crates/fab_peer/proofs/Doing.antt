@@ -1,9 +1,7 @@
 -- Steps of a peer, one after another.
-use Rattle.std.proofs.Common.{◌≡◌, ◌≢◌, ◌<◌, ◌≤◌, ◌+◌, ℕ, Bool, true, false, List, [], ◌∷◌, ◌++◌, Option, Some, None, Result, Ok, Err, refl, sym, ap, subst, ◌∙◌, arith, length, get_or, append-nil, append_assoc, length-append, option_map}
-use Rattle.std.specs.Prelude.{find, replicate, is_some, is_none, nat_le, ◌&&◌, IfOk, OnOk}
+use Rattle.std.proofs.Common.{◌≡◌, ◌≢◌, ◌<◌, ◌+◌, ℕ, Bool, true, false, List, [], ◌∷◌, ◌++◌, Option, Some, None, Result, Ok, Err, refl, sym, ap, subst, ◌∙◌, arith, length, get_or, append-nil, append_assoc, length-append, option_map}
+use Rattle.std.specs.Prelude.{find, replicate, is_some, is_none, IfOk, OnOk}
 use Rattle.std.proofs.lemmas.Option.{slice_get_within}
-use Rattle.std.proofs.lemmas.Bool.Decides.{nat_tests}
-use Rattle.fab_base.specs.Built.{is_built}
 use Rattle.fab_base.specs.declared.entries.Kept.{Kept}
 use Rattle.fab_base.specs.declared.entries.Taken.{Taken}
 use Rattle.fab_base.specs.declared.faults.Fault.{Fault}
@@ -30,7 +28,7 @@ use Rattle.fab_model.specs.Views.{View}
 use Rattle.fab_model.proofs.Passes.{Passes, same, call_passes}
 use Rattle.fab_peer.specs.Endpoints.{Held, Answers, ReadsHeld, logged, any_source}
 use Rattle.fab_peer.specs.Moves.{IsTied, Went}
-use Rattle.fab_peer.specs.Turns.{actor_of, schedule_of, Carries, Does, Turned, Answered, Waits, Stays, next_op}
+use Rattle.fab_peer.specs.Turns.{actor_of, schedule_of, Carries, Does, Turned, Answered, Waits, Stays, is_tried, next_op}
 use Rattle.fab_peer.specs.Work.{line_work, state_work, actor_work}
 use Rattle.fab_peer.specs.declared.peer.Peer.{Peer}
 use Rattle.fab_peer.proofs.Carrying.{Keeps, carries_same}
@@ -283,37 +281,37 @@ pub stays_held : (a b : Peer) → Waits a b → Stays a b
 unfolding do_next
 stays_held a b waits = record {
   same = waits.same;
-  held = λ line next built. (let e = waits.held in rw (next, do_next) at e);
+  held = λ line next tried. (let e = waits.held in rw (next, do_next) at e);
 }
 
--- a line of another kind is not one that the program carries out
-none_built : (op : LineOp) → ((ctx dest tag : ℕ) (bytes : BytesWord) (imm : Option ℕ) (level : Level) (completion : Bool) → op ≡ TSend ctx dest tag bytes imm level completion → ⊥)
-    → ((ctx : ℕ) (source : Option ℕ) (tag ignore len : ℕ) → op ≡ TRecv ctx source tag ignore len → ⊥) → ((ctx : Option ℕ) → op ≡ Wait ctx → ⊥) → is_built op ≡ true → ⊥
-none_built (TSend ctx dest tag bytes imm level completion) no_send no_receive no_wait built = no_send ctx dest tag bytes imm level completion refl
-none_built (TRecv ctx source tag ignore len) no_send no_receive no_wait built = no_receive ctx source tag ignore len refl
-none_built (Wait ctx) no_send no_receive no_wait built = no_wait ctx refl
-none_built op no_send no_receive no_wait built = cc built
+-- a line of another kind is not one that a peer does
+none_tried : (op : LineOp) → ((ctx dest tag : ℕ) (bytes : BytesWord) (imm : Option ℕ) (level : Level) (completion : Bool) → op ≡ TSend ctx dest tag bytes imm level completion → ⊥)
+    → ((ctx : ℕ) (source : Option ℕ) (tag ignore len : ℕ) → op ≡ TRecv ctx source tag ignore len → ⊥) → ((ctx : Option ℕ) → op ≡ Wait ctx → ⊥) → is_tried op ≡ true → ⊥
+none_tried (TSend ctx dest tag bytes imm level completion) no_send no_receive no_wait tried = no_send ctx dest tag bytes imm level completion refl
+none_tried (TRecv ctx source tag ignore len) no_send no_receive no_wait tried = no_receive ctx source tag ignore len refl
+none_tried (Wait ctx) no_send no_receive no_wait tried = no_wait ctx refl
+none_tried op no_send no_receive no_wait tried = cc tried
 
 pub stays_other : (a b : Peer) (next : Line) → next_line (actor_of a) ≡ Some next
     → ((ctx dest tag : ℕ) (bytes : BytesWord) (imm : Option ℕ) (level : Level) (completion : Bool) → next.op ≡ TSend ctx dest tag bytes imm level completion → ⊥)
     → ((ctx : ℕ) (source : Option ℕ) (tag ignore len : ℕ) → next.op ≡ TRecv ctx source tag ignore len → ⊥) → ((ctx : Option ℕ) → next.op ≡ Wait ctx → ⊥) → actor_of b ≡ actor_of a → Stays a b
 stays_other a b next is no_send no_receive no_wait same = record {
   same = same;
-  held = λ line there built. let e : line ≡ next = cc (is, there) in absurd (none_built next.op no_send no_receive no_wait (subst (λ (l : Line). is_built l.op ≡ true) e built));
+  held = λ line there tried. let e : line ≡ next = cc (is, there) in absurd (none_tried next.op no_send no_receive no_wait (subst (λ (l : Line). is_tried l.op ≡ true) e tried));
 }
 
 -- where there is no next line, none is held
 pub stays_finished : (a b : Peer) → next_line (actor_of a) ≡ None → actor_of b ≡ actor_of a → Stays a b
-stays_finished a b none same = record { same = same; held = λ line there built. absurd (cc (none, there)) }
+stays_finished a b none same = record { same = same; held = λ line there tried. absurd (cc (none, there)) }
 
--- the next line is not one that the program carries out
-pub stays_unbuilt : (a b : Peer) (next : Line) (op : LineOp) → next_line (actor_of a) ≡ Some next → next.op ≡ op → (is_built op ≡ true → ⊥) → actor_of b ≡ actor_of a → Stays a b
-stays_unbuilt a b next op is op_is unbuilt same = record {
+-- the next line is not one that a peer does
+pub stays_untried : (a b : Peer) (next : Line) (op : LineOp) → next_line (actor_of a) ≡ Some next → next.op ≡ op → (is_tried op ≡ true → ⊥) → actor_of b ≡ actor_of a → Stays a b
+stays_untried a b next op is op_is untried same = record {
   same = same;
-  held = λ line there built. let e : line ≡ next = cc (is, there) in absurd (unbuilt (subst (λ (o : LineOp). is_built o ≡ true) op_is (subst (λ (l : Line). is_built l.op ≡ true) e built)));
+  held = λ line there tried. let e : line ≡ next = cc (is, there) in absurd (untried (subst (λ (o : LineOp). is_tried o ≡ true) op_is (subst (λ (l : Line). is_tried l.op ≡ true) e tried)));
 }
 
--- a receive of one source is not carried out yet
+-- a receive of one source is not done yet
 pub some_source : (o : Option ℕ) → is_some o ≡ true → is_none o ≡ true → ⊥
 some_source None some none = cc some
 some_source (Some source) some none = cc none

@@ -1,5 +1,5 @@
 -- The end of a run: peers that can do nothing, of a script whose lines are all built, are at rest.
-use Rattle.std.proofs.Common.{◌≡◌, ◌<◌, ◌+◌, ℕ, zero, suc, true, false, not, List, [], ◌∷◌, ◌++◌, length, take, map, slice_get, Option, Some, None, refl, sym, ap, subst, ◌∙◌, arith, append-nil, length-take-le}
+use Rattle.std.proofs.Common.{◌≡◌, ◌<◌, ◌≤◌, ◌+◌, ℕ, zero, suc, true, false, not, List, [], ◌∷◌, ◌++◌, length, take, map, slice_get, Option, Some, None, refl, sym, ap, subst, ◌∙◌, arith, append-nil, length-take-le}
 use Rattle.std.specs.Prelude.{slice_index, slice_index_or, ◌==◌}
 use Rattle.std.specs.List.{list_all}
 use Rattle.std.specs.Option.{option_map}
@@ -8,6 +8,7 @@ use Rattle.std.proofs.lemmas.Bool.Decides.{nat_tests}
 use Rattle.std.proofs.lemmas.List.{length-map}
 use Rattle.std.proofs.lemmas.Option.{slice_get-map, slice_get_within, get_or_from_slice_get}
 use Rattle.fab_base.specs.Built.{is_short_text, is_at_transmit, is_built, all_built}
+use Rattle.fab_base.specs.declared.items.Item.{Item}
 use Rattle.fab_base.specs.declared.peers.Step.{Step}
 use Rattle.fab_base.specs.declared.script.Bound.{Bound}
 use Rattle.fab_base.specs.declared.script.BytesWord.{BytesWord}
@@ -25,12 +26,14 @@ use Rattle.fab_model.specs.Receiving.{draw_due}
 use Rattle.fab_model.specs.Replay.{opening, newly, lines_of, bind_word, bind_op, bind_line, can_do, agree_all, all_idle, at_rest}
 use Rattle.fab_model.specs.Views.{rule}
 use Rattle.fab_model.proofs.Lasting.{leads_lasts}
+use Rattle.fab_peer.specs.Endpoints.{AreCarried}
 use Rattle.fab_peer.specs.Moves.{frame_of}
-use Rattle.fab_peer.specs.Turns.{actor_of, AreBuilt, Carries, IsHeld, CanGo, IsStill}
+use Rattle.fab_peer.specs.Turns.{actor_of, AreBuilt, Carries, is_tried, IsHeld, IsStill}
 use Rattle.fab_peer.specs.Joined.{actors, schedules, IsJoined, CanRun, AreStill, Rest, AreSized, came}
 use Rattle.fab_peer.specs.declared.fabric.Fabric.{Fabric}
 use Rattle.fab_peer.proofs.Carrying.{member_built}
 use Rattle.fab_peer.proofs.Joining.{nobody, member}
+use Rattle.fab_peer.proofs.Posting.{ends_at}
 
 -- ---- lines
 
@@ -45,6 +48,12 @@ built_bound b (TSend ctx dest tag word imm level completion) e = let parts = and
 built_bound b (TRecv ctx source tag ignore len) e = e
 built_bound b (Wait ctx) e = e
 built_bound b op e = absurd (cc e)
+
+built_tried : (op : LineOp) → is_built op ≡ true → is_tried op ≡ true
+built_tried (TSend ctx dest tag word imm level completion) e = refl
+built_tried (TRecv ctx source tag ignore len) e = e
+built_tried (Wait ctx) e = refl
+built_tried op e = absurd (cc e)
 
 lines_bound : (b : Bound) (lines : List Line) → list_all (λ (l : Line). is_built l.op) lines ≡ true → list_all (λ (l : Line). is_built l.op) (map (bind_line b) lines) ≡ true
 lines_bound b [] all = refl
@@ -78,9 +87,9 @@ module _ (b : Bound) (can : CanRun b) (all : List Actor) (steps : List (List Ste
       let o = opened p a has in
       subst (λ (lines : List Line). AreBuilt lines) (sym o.1) (lines_bound b (slice_index_or b.script.peers o.0 []) (part_built b.script.peers o.0 can.lines))
 
-  -- what such peers accepted can go
-  go_all : ((p : ℕ) (a : Actor) → slice_get all p ≡ Some a → Carries a) → (p : ℕ) (a : Actor) → slice_get all p ≡ Some a → CanGo a
-  go_all carries p a has = (sized p a has, carries p a has (built_lines p a has))
+  -- all that such peers accepted goes in one frame
+  all_carried : ((p : ℕ) (a : Actor) → slice_get all p ≡ Some a → Carries a) → (p : ℕ) (a : Actor) → slice_get all p ≡ Some a → AreCarried a.state.tx.accepted
+  all_carried carries p a has = carries p a has (built_lines p a has)
 
   held_lines : (p : ℕ) (a : Actor) → slice_get all p ≡ Some a → IsHeld a → can_do a ≡ false
   unfolding do_next
@@ -88,13 +97,29 @@ module _ (b : Bound) (can : CanRun b) (all : List Actor) (steps : List (List Ste
     where
       go : (o : Option Line) → next_line a ≡ o → list_all (λ (l : Line). is_built l.op) a.lines ≡ true → can_do a ≡ false
       go None next built = rw (next, do_next, can_do) refl
-      go (Some line) next built = rw (next, do_next, can_do, held line next (member_built a.lines _ line built next)) refl
+      go (Some line) next built = rw (next, do_next, can_do, held line next (built_tried line.op (member_built a.lines _ line built next))) refl
 
 -- ---- peers that can do nothing
 
-module _ (f : Fabric) (joined : IsJoined f) (still : AreStill f) (go : (p : ℕ) (a : Actor) → slice_get (actors f) p ≡ Some a → CanGo a) where
+module _ (f : Fabric) (joined : IsJoined f) (still : AreStill f) (some : AreSized (actors f)) (carried : (p : ℕ) (a : Actor) → slice_get (actors f) p ≡ Some a → AreCarried a.state.tx.accepted) where
   still_at : (p : ℕ) (a : Actor) → slice_get (actors f) p ≡ Some a → IsStill a (came f p)
-  still_at p a has = still.each p a has (go p a has)
+  still_at p a has = still.each p a has (some p a has)
+
+  -- all that was accepted is sent
+  sent_all : (s : ℕ) (b : Actor) → slice_get (actors f) s ≡ Some b → (p : ℕ) → slice_index b.state.tx.sent p ≡ length (accepted_for b.state.tx p)
+  sent_all s b has p =
+      let below : s < length f.peers.items = omega (arith, slice_get_within (actors f) s b has, length-map f.peers.items actor_of) in
+      let x = member f.peers.items s below in
+      let y = member f.ports.items s (omega (arith, below, joined.count)) in
+      let is : actor_of x.0 ≡ b = cc (slice_get-map actor_of f.peers.items s ∙ ap (option_map actor_of) x.1, has) in
+      let within : slice_index b.state.tx.sent p ≤ length (accepted_for b.state.tx p) =
+      subst (λ (a : Actor). slice_index a.state.tx.sent p ≤ length (accepted_for a.state.tx p)) is ((joined.tied s x.0 y.0 x.1 y.1).within p) in
+      by_next (slice_get (accepted_for b.state.tx p) (slice_index b.state.tx.sent p)) refl within
+    where
+      by_next : (o : Option Item) → slice_get (accepted_for b.state.tx p) (slice_index b.state.tx.sent p) ≡ o → slice_index b.state.tx.sent p ≤ length (accepted_for b.state.tx p)
+          → slice_index b.state.tx.sent p ≡ length (accepted_for b.state.tx p)
+      by_next None e within = ends_at (accepted_for b.state.tx p) (slice_index b.state.tx.sent p) e within
+      by_next (Some item) e within = absurd ((still_at s b has).sent p item e (carried s b has p (slice_index b.state.tx.sent p) item e))
 
   -- what came is all that was sent
   came_sent : (p s : ℕ) (b : Actor) → slice_get (actors f) s ≡ Some b → length (came f p s) ≡ slice_index b.state.tx.sent p
@@ -117,13 +142,13 @@ module _ (f : Fabric) (joined : IsJoined f) (still : AreStill f) (go : (p : ℕ)
     read = λ p a has. (still_at p a has).read;
     draws = λ p a has. (still_at p a has).draws;
     lines = λ p a has. lines p a has (still_at p a has).held;
-    whole = λ p s a b has there. (still_at p a has).whole s ∙ came_sent p s b there ∙ (still_at s b there).sent p;
-    sent = λ p s a b has there. (still_at s b there).sent p;
+    whole = λ p s a b has there. (still_at p a has).whole s ∙ came_sent p s b there ∙ sent_all s b there p;
+    sent = λ p s a b has there. sent_all s b there p;
   }
 
 -- at the end of the rounds of a script whose lines are all built
 pub rests : (b : Bound) (f : Fabric) → CanRun b → Reached (rule fabric) (opening b) (schedules f) (actors f) → IsJoined f → AreStill f → Rest (actors f)
-rests b f can reached joined still = rest_by f joined still (go_all b can (actors f) (schedules f) reached joined.carries) (held_lines b can (actors f) (schedules f) reached)
+rests b f can reached joined still = rest_by f joined still (sized b can (actors f) (schedules f) reached) (all_carried b can (actors f) (schedules f) reached joined.carries) (held_lines b can (actors f) (schedules f) reached)
 
 -- ---- the test
 

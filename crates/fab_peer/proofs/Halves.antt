@@ -1,5 +1,5 @@
 -- What holds of the halves of an endpoint still holds after a change.
-use Rattle.std.proofs.Common.{rules, Bool, true, false, cond, ◌∷◌, ◌++◌, ◌≡◌, ◌<◌, ◌+◌, ℕ, zero, suc, List, [], length, get_or, set, Some, Option, ◌⊎◌, inl, inr, refl, sym, subst, ◌∙◌, arith, replicate, length-append, length-set, get_or-set_other, get_or-set_same}
+use Rattle.std.proofs.Common.{rules, Bool, true, false, cond, ◌∷◌, ◌++◌, ◌≡◌, ◌<◌, ◌+◌, ℕ, zero, suc, List, [], length, get_or, set, Some, Option, ◌⊎◌, inl, inr, refl, sym, ◌∙◌, arith, replicate, length-append, length-set, get_or-set_other, get_or-set_same}
 use Rattle.std.proofs.lemmas.List.{length-replicate}
 use Rattle.std.specs.Prelude.{IsSome, IfSome, find, slice_get, slice_index}
 use Rattle.fab_base.specs.declared.operations.Operation.{Operation}

@@ -20,7 +20,7 @@ use Rattle.fab_model.proofs.Turns.{slice_get-set_other, slice_get-set_same}
 use Rattle.fab_model.proofs.Views.{prefix_self}
 use Rattle.fab_model.proofs.Walks.{walk_leads, reached_more}
 use Rattle.fab_peer.specs.Moves.{frame_of, Shows, taken_of, IsBetween, AreFrames, IsTied, Ported}
-use Rattle.fab_peer.specs.Turns.{actor_of, schedule_of, Turned, Carries, CanGo, IsStill, came_to}
+use Rattle.fab_peer.specs.Turns.{actor_of, schedule_of, Turned, Carries, IsStill, came_to}
 use Rattle.fab_peer.specs.Joined.{actors, schedules, IsJoined, GoesOn, IsStillAt, Unmoved, came}
 use Rattle.fab_peer.specs.declared.fabric.Fabric.{Fabric}
 use Rattle.fab_peer.specs.declared.peer.Peer.{Peer}
@@ -168,12 +168,12 @@ module _ (f g : Fabric) (k : ℕ) (a b : Peer) (p q : Plain) (joined : IsJoined 
       }
 
   -- and can do nothing
-  pub turn_still : (CanGo (actor_of b) → IsStill (actor_of b) (came_to q)) → IsStillAt g k
+  pub turn_still : (0 < (actor_of b).state.cq.size → IsStill (actor_of b) (came_to q)) → IsStillAt g k
   turn_still still x has some =
       let own : slice_get (actors g) k ≡ Some (actor_of b) = slice_get-map actor_of g.peers.items k ∙ ap (option_map actor_of) (ap (λ xs. slice_get xs k) peers ∙ slice_get-set_same f.peers.items k b k_peer) in
       let is : actor_of b ≡ x = cc (own, has) in
       let here : came g k ≡ came_to q = ap came_to port_own in
-      subst (λ y. IsStill x y) (sym here) (subst (λ (y : Actor). IsStill y (came_to q)) is (still (subst (λ (y : Actor). CanGo y) (sym is) some)))
+      subst (λ y. IsStill x y) (sym here) (subst (λ (y : Actor). IsStill y (came_to q)) is (still (subst (λ (y : Actor). 0 < y.state.cq.size) (sym is) some)))
 
   carries_after : (j : ℕ) (x : Actor) → slice_get (actors g) j ≡ Some x → Carries x
   carries_after j x has = elim (cases_eq j k) [
@@ -221,7 +221,7 @@ module _ (f g : Fabric) (k : ℕ) (a b : Peer) (p q : Plain) (joined : IsJoined 
 -- what a turn that moved nothing says, where it answered so
 pub still_turn : {E : Type 0} (r : Result Bool E) (f g : Fabric) (k : ℕ) (a b : Peer) (p q : Plain) → IsJoined f → slice_get f.peers.items k ≡ Some a → slice_get f.ports.items k ≡ Some p
     → g.peers.items ≡ slice_set f.peers.items k b → g.ports.items ≡ slice_set f.ports.items k q → OnOk r (Turned a p b q)
-    → (r ≡ Ok false → actor_of b ≡ actor_of a) → (r ≡ Ok false → CanGo (actor_of b) → IsStill (actor_of b) (came_to q)) → r ≡ Ok false → Unmoved f g × IsStillAt g k
+    → (r ≡ Ok false → actor_of b ≡ actor_of a) → (r ≡ Ok false → 0 < (actor_of b).state.cq.size → IsStill (actor_of b) (came_to q)) → r ≡ Ok false → Unmoved f g × IsStillAt g k
 still_turn (Ok x) f g k a b p q joined is_a is_p peers ports turned same still e =
     (turn_unmoved f g k a b p q joined is_a is_p peers ports turned (same e), turn_still f g k a b p q joined is_a is_p peers ports turned (still e))
 still_turn (Err x) f g k a b p q joined is_a is_p peers ports turned same still e = absurd (cc e)

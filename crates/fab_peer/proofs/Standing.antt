@@ -3,12 +3,12 @@ use Rattle.std.proofs.Common.{◌≡◌, ◌<◌, Bool, true, false, length, ref
 use Rattle.std.specs.Prelude.{slice_index}
 use Rattle.std.proofs.lemmas.Bool.Decides.{nat_tests}
 use Rattle.fab_link.specs.Plain.{Plain, PlainHome, home_of}
-use Rattle.fab_model.specs.State.{Completions, accepted_for}
+use Rattle.fab_model.specs.State.{Completions}
 use Rattle.fab_model.specs.Peers.{Actor}
 use Rattle.fab_model.specs.Receiving.{draw_due}
-use Rattle.fab_peer.specs.Endpoints.{Held, has_room}
-use Rattle.fab_peer.specs.Moves.{CanMove, StaysMoved}
-use Rattle.fab_peer.specs.Turns.{actor_of, IsRead, IsHeld, Stays, CanGo, IsStill, came_to}
+use Rattle.fab_peer.specs.Endpoints.{Held, NoneGoes, has_room}
+use Rattle.fab_peer.specs.Moves.{StaysMoved}
+use Rattle.fab_peer.specs.Turns.{actor_of, IsRead, IsHeld, Stays, IsStill, came_to}
 use Rattle.fab_peer.specs.declared.peer.Peer.{Peer}
 
 -- a queue of which all is read has room for an entry
@@ -23,17 +23,17 @@ module _ (r l f : Peer) (e : Held) (p q : Plain) (read : IsRead r) (stays : Stay
   pub same_as_read : actor_of f ≡ actor_of r
   same_as_read = after_moves ∙ stays.same
 
-  pub still_by : draw_due f.endpoint.state.rx ≡ false → CanGo (actor_of f) → IsStill (actor_of f) (came_to q)
-  still_by draws go =
+  pub still_by : draw_due f.endpoint.state.rx ≡ false → 0 < f.endpoint.state.cq.size → IsStill (actor_of f) (came_to q)
+  still_by draws some =
       let read_f : f.endpoint.state.cq.taken_out ≡ length f.endpoint.state.cq.written = subst (λ (a : Actor). a.state.cq.taken_out ≡ length a.state.cq.written) (sym same_as_read) read in
-      let can : CanMove l.endpoint.state = subst (λ (a : Actor). CanMove a.state) after_moves (room_of f.endpoint.state.cq read_f go.0, go.1) in
+      let room : has_room l.endpoint.state.cq ≡ true = subst (λ (a : Actor). has_room a.state.cq ≡ true) after_moves (room_of f.endpoint.state.cq read_f some) in
       record {
         read = read_f;
         held = subst (λ (a : Actor). IsHeld a) (sym same_as_read) stays.held;
         draws = draws;
-        sent = λ peer. subst (λ (a : Actor). slice_index a.state.tx.sent peer ≡ length (accepted_for a.state.tx peer)) (sym after_moves) ((moved.moved can peer).sent);
+        sent = λ peer. subst (λ (a : Actor). NoneGoes a.state.tx peer) (sym after_moves) ((moved.moved room peer).sent);
         whole = λ peer. subst (λ (a : Actor). slice_index a.state.rx.tails peer ≡ length (came_to q peer)) (sym after_moves)
-            ((moved.moved can peer).whole ∙ sym (ap (λ (h : PlainHome). length (h.in_lists peer)) home));
+            ((moved.moved room peer).whole ∙ sym (ap (λ (h : PlainHome). length (h.in_lists peer)) home));
       }
 
 -- where one of four things happened

@@ -64,6 +64,10 @@ pub record IsOutbox (accepted : List (List Item)) (sent : List ℕ) : Type 0 whe
 abbrev pub AreCarried : List (List Item) → Type 0
 AreCarried accepted = (d k : ℕ) (item : Item) → slice_get (slice_index_or accepted d []) k ≡ Some item → IsCarried item.head (length item.bytes)
 
+-- no item is next for the peer, or one that does not go in one frame
+abbrev pub NoneGoes : Transmitting → ℕ → Type 0
+NoneGoes tx peer = (item : Item) → slice_get (accepted_for tx peer) (slice_index tx.sent peer) ≡ Some item → IsCarried item.head (length item.bytes) → ⊥
+
 -- ---- the receiving half
 
 -- no multi-receive, and nothing is in it

@@ -20,7 +20,7 @@ use Rattle.fab_model.specs.Replay.{opening, can_do}
 use Rattle.fab_model.specs.State.{accepted_for}
 use Rattle.fab_model.specs.Views.{rule}
 use Rattle.fab_peer.specs.Moves.{IsTied}
-use Rattle.fab_peer.specs.Turns.{actor_of, schedule_of, Carries, CanGo, IsStill}
+use Rattle.fab_peer.specs.Turns.{actor_of, schedule_of, Carries, IsStill}
 use Rattle.fab_peer.specs.Work.{actor_work, port_work}
 use Rattle.fab_peer.specs.declared.fabric.Fabric.{Fabric}
 use Rattle.fab_peer.specs.declared.peer.Peer.{Peer}
@@ -72,9 +72,9 @@ pub record CanRun (b : Bound) : Type 0 where
 abbrev pub came : Fabric → ℕ → ℕ → List Frame
 came f receiver sender = (lane_of f.ports.items receiver sender).in_list
 
--- the peer of this number can do nothing, where what it accepted can go
+-- the peer of this number can do nothing
 abbrev pub IsStillAt : Fabric → ℕ → Type 0
-IsStillAt f k = (a : Actor) → slice_get (actors f) k ≡ Some a → CanGo a → IsStill a (came f k)
+IsStillAt f k = (a : Actor) → slice_get (actors f) k ≡ Some a → 0 < a.state.cq.size → IsStill a (came f k)
 
 -- neither the peers changed nor what came to them
 pub record Unmoved (f g : Fabric) : Type 0 where

@@ -3,7 +3,6 @@
 --     Shows taken v      in this view, the frames taken are those of what the senders transmitted
 --     IsTied s p         the port has what the machine's state says
 --     Went e p e' p'     some steps led from the one endpoint and port to the other
---     CanMove s          a completion has room, and each item accepted goes in one frame
 --     IsMoved s p peer   nothing is left to move to or from this peer
 use Rattle.std.specs.Prelude.{◌≡◌, ◌<◌, ◌≤◌, ℕ, true, List, ◌++◌, length, take, map, slice_get, slice_index, Option, Some, None}
 use Rattle.fab_base.specs.declared.frames.Frame.{Frame}
@@ -16,7 +15,7 @@ use Rattle.fab_link.specs.Plain.{Plain, lane_at, left, out_of, in_of, home_of}
 use Rattle.fab_model.specs.State.{State, accepted_for}
 use Rattle.fab_model.specs.Peers.{Actor, fabric, with_state}
 use Rattle.fab_model.specs.Views.{View, Walk, IsPrefixOf}
-use Rattle.fab_peer.specs.Endpoints.{Held, IsCarried, AreCarried, has_room}
+use Rattle.fab_peer.specs.Endpoints.{Held, IsCarried, NoneGoes, has_room}
 use Rattle.fab_peer.specs.Work.{held_work}
 
 abbrev pub frame_of : Item → Frame
@@ -78,15 +77,12 @@ pub record Went (e : Held) (p : Plain) (e' : Held) (q : Plain) : Type 0 where
 
 -- ---- nothing left to move
 
-abbrev pub CanMove : State → Type 0
-CanMove s = (has_room s.cq ≡ true) × AreCarried s.tx.accepted
-
--- everything accepted for the peer is transmitted, and everything that came from it is taken
+-- nothing that goes in one frame is next for the peer, and everything that came from it is taken
 pub record IsMoved (s : State) (p : Plain) (peer : ℕ) : Type 0 where
-  pub sent : slice_index s.tx.sent peer ≡ length (accepted_for s.tx peer)
+  pub sent : NoneGoes s.tx peer
   pub whole : slice_index s.rx.tails peer ≡ length (lane_at p peer).in_list
 
--- nothing changed; and where everything can move, nothing is left to move
+-- nothing changed; and where a completion has room, nothing is left to move
 pub record StaysMoved (e : Held) (p : Plain) (e' : Held) : Type 0 where
   pub same : e' ≡ e
-  pub moved : CanMove e.state → (peer : ℕ) → IsMoved e.state p peer
+  pub moved : has_room e.state.cq ≡ true → (peer : ℕ) → IsMoved e.state p peer

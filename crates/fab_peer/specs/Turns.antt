@@ -4,7 +4,7 @@
 --     Turned a p b q       some steps lead from the one to the other, wherever the frames taken are shown
 --     Carries a            where all lines are built, each item accepted goes in one frame
 --     IsStill a came       the peer can do nothing
-use Rattle.std.specs.Prelude.{◌≡◌, ◌≢◌, ◌<◌, ◌≤◌, ◌++◌, ◌∷◌, ℕ, Bool, true, false, List, [], length, slice_index, Option, Some, None, Result, Ok, Err}
+use Rattle.std.specs.Prelude.{◌≡◌, ◌≢◌, ◌≤◌, ◌++◌, ◌∷◌, ℕ, Bool, true, false, List, [], length, slice_index, Option, Some, None, is_none, Result, Ok, Err}
 use Rattle.std.specs.List.{list_all}
 use Rattle.std.specs.Option.{option_map}
 use Rattle.fab_base.specs.Built.{is_built}
@@ -20,15 +20,14 @@ use Rattle.fab_base.specs.declared.peers.Step.TheVariants.{Do}
 use Rattle.fab_base.specs.declared.script.BytesWord.{BytesWord}
 use Rattle.fab_base.specs.declared.script.Line.{Line}
 use Rattle.fab_base.specs.declared.script.LineOp.{LineOp}
-use Rattle.fab_base.specs.declared.script.LineOp.TheVariants.{TSend}
+use Rattle.fab_base.specs.declared.script.LineOp.TheVariants.{TSend, TRecv, Wait}
 use Rattle.fab_link.specs.Plain.{Plain, home_of}
 use Rattle.fab_model.specs.Calls.{word_bytes}
 use Rattle.fab_model.specs.Peers.{Actor, fabric, facts, next_line, do_line, do_next, is_again}
 use Rattle.fab_model.specs.Receiving.{draw_due}
-use Rattle.fab_model.specs.State.{accepted_for}
 use Rattle.fab_model.specs.Views.{View, Walk}
 use Rattle.fab_peer.specs.Moves.{Shows, taken_of, IsTied, Ported}
-use Rattle.fab_peer.specs.Endpoints.{logged, AreCarried}
+use Rattle.fab_peer.specs.Endpoints.{logged, AreCarried, NoneGoes}
 use Rattle.fab_peer.specs.Work.{actor_work, peer_work}
 use Rattle.fab_peer.specs.declared.peer.Peer.{Peer}
 
@@ -77,9 +76,16 @@ pub record Ended (a b : Peer) : Type 0 where
 abbrev pub IsRead : Peer → Type 0
 IsRead a = a.endpoint.state.cq.taken_out ≡ length a.endpoint.state.cq.written
 
--- the next line, where it is one that the program carries out, can't be done
+-- a line that a peer does: any tagged send, a tagged receive of any source, or any wait
+abbrev pub is_tried : LineOp → Bool
+is_tried (TSend ctx dest tag bytes imm level completion) = true
+is_tried (TRecv ctx source tag ignore len) = is_none source
+is_tried (Wait ctx) = true
+is_tried _ = false
+
+-- the next line, where it is one that a peer does, can't be done
 abbrev pub IsHeld : Actor → Type 0
-IsHeld a = (line : Line) → next_line a ≡ Some line → is_built line.op ≡ true → do_line a line.op ≡ None
+IsHeld a = (line : Line) → next_line a ≡ Some line → is_tried line.op ≡ true → do_line a line.op ≡ None
 
 -- nothing changed, and the next line can't be done
 pub record Waits (a b : Peer) : Type 0 where
@@ -91,16 +97,12 @@ pub record Stays (a b : Peer) : Type 0 where
   pub same : actor_of b ≡ actor_of a
   pub held : IsHeld (actor_of a)
 
--- completions have room, and each item accepted goes in one frame
-abbrev pub CanGo : Actor → Type 0
-CanGo a = (0 < a.state.cq.size) × AreCarried a.state.tx.accepted
-
--- The peer can do nothing: all is read, its next line can't be done, no draw is due, all that it accepted is transmitted, and of each peer all is whole that came.
+-- The peer can do nothing: all is read, its next line can't be done, no draw is due, nothing that goes in one frame is next for any peer, and of each peer all is whole that came.
 pub record IsStill (a : Actor) (came : ℕ → List Frame) : Type 0 where
   pub read : a.state.cq.taken_out ≡ length a.state.cq.written
   pub held : IsHeld a
   pub draws : draw_due a.state.rx ≡ false
-  pub sent : (peer : ℕ) → slice_index a.state.tx.sent peer ≡ length (accepted_for a.state.tx peer)
+  pub sent : (peer : ℕ) → NoneGoes a.state.tx peer
   pub whole : (peer : ℕ) → slice_index a.state.rx.tails peer ≡ length (came peer)
 
 -- what came to a port

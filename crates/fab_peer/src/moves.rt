@@ -1,9 +1,8 @@
 //! Frames between an endpoint and its port.
 ghost use Rattle.std.specs.Prelude.{◌≡◌, ◌<◌, length, slice_index, true, false, Ok, IfOk, OnOk};
 ghost use Rattle.fab_link.specs.Plain.{lane_at};
-ghost use Rattle.fab_model.specs.State.{accepted_for};
-ghost use Rattle.fab_peer.specs.Endpoints.{has_room, IsCarried};
-ghost use Rattle.fab_peer.specs.Moves.{IsTied, Went, CanMove, IsMoved, StaysMoved};
+ghost use Rattle.fab_peer.specs.Endpoints.{has_room, IsCarried, NoneGoes};
+ghost use Rattle.fab_peer.specs.Moves.{IsTied, Went, IsMoved, StaysMoved};
 ghost use Rattle.fab_peer.specs.Work.{held_work};
 
 use crate::endpoint::Endpoint;
@@ -59,7 +58,7 @@ fn post_one(endpoint: &mut Endpoint, port: &mut PlainPort, dest: u32) -> Result<
     ensures went { OnOk result (Went endpoint.old port.old endpoint.new port.new) }
     ensures falls { result ≡ Ok true → held_work endpoint.new.state port.new < held_work endpoint.old.state port.old }
     ensures still { result ≡ Ok false → (endpoint.new ≡ endpoint.old)
-        × (CanMove endpoint.old.state → slice_index endpoint.old.state.tx.sent dest ≡ length (accepted_for endpoint.old.state.tx dest)) }
+        × (has_room endpoint.old.state.cq ≡ true → NoneGoes endpoint.old.state.tx dest) }
 {
     if !endpoint.has_room() {
         return Ok(false);
@@ -94,7 +93,7 @@ fn move_one(endpoint: &mut Endpoint, port: &mut PlainPort, peer: u32) -> Result<
     ensures went { OnOk result (Went endpoint.old port.old endpoint.new port.new) }
     ensures falls { IfOk result (λ moved. 0 < moved → held_work endpoint.new.state port.new < held_work endpoint.old.state port.old) }
     ensures still { result ≡ Ok 0 → (endpoint.new ≡ endpoint.old)
-        × (CanMove endpoint.old.state → IsMoved endpoint.old.state port.old peer) }
+        × (has_room endpoint.old.state.cq ≡ true → IsMoved endpoint.old.state port.old peer) }
 {
     let posted = post_one(endpoint, port, peer)?;
     let taken = take_one(endpoint, port, peer)?;

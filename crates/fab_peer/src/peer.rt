@@ -92,7 +92,7 @@ fn word_bytes(alloc: Global, word: &BytesWord) -> Result<Buf, NoMemory>
 }
 
 impl Peer {
-    ghost use Rattle.fab_peer.specs.Turns.{Turned, Ended, IsRead, Waits, Stays, IsStill, CanGo, came_to, actor_of, schedule_of, Does, Answered, next_op, SendsNext};
+    ghost use Rattle.fab_peer.specs.Turns.{Turned, Ended, IsRead, Waits, Stays, IsStill, came_to, actor_of, schedule_of, Does, Answered, next_op, SendsNext};
 
     /// A peer that is to do these lines.
     pub fn new(alloc: Global, conf: &Conf, lines: Vec<Line>) -> Result<Peer, NoMemory>
@@ -255,7 +255,7 @@ impl Peer {
         ensures turned { OnOk result (Turned self.old port.old self.new port.new) }
         ensures falls { result ≡ Ok true → peer_work (actor_of self.new) port.new < peer_work (actor_of self.old) port.old }
         ensures same { result ≡ Ok false → actor_of self.new ≡ actor_of self.old }
-        ensures still { result ≡ Ok false → CanGo (actor_of self.new) → IsStill (actor_of self.new) (came_to port.new) }
+        ensures still { result ≡ Ok false → 0 < (actor_of self.new).state.cq.size → IsStill (actor_of self.new) (came_to port.new) }
     {
         let read = self.read_all()?;
         let done = self.do_lines(port)?;

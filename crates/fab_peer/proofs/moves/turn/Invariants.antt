@@ -1,5 +1,6 @@
 use Rattle.std.proofs.Common.{◌≡◌, ◌<◌, ℕ, true, false, length}
-use Rattle.fab_peer.specs.Moves.{IsTied, Went, CanMove, IsMoved}
+use Rattle.fab_peer.specs.Endpoints.{has_room}
+use Rattle.fab_peer.specs.Moves.{IsTied, Went, IsMoved}
 use Rattle.fab_peer.specs.Work.{held_work}
 use Rattle.fab_peer.proofs.moves.turn.Given as goal
 
@@ -11,5 +12,5 @@ invariant-loop-peer l = record {
   left : l.moved ≡ false → l.left ≡ l.fn.left;
   same : l.moved ≡ false → l.endpoint ≡ l.fn.endpoint;
   falls : l.moved ≡ true → held_work l.endpoint.state l.port < held_work l.fn.endpoint.state l.fn.port;
-  still : l.moved ≡ false → (k : ℕ) → k < l.peer → CanMove l.fn.endpoint.state → IsMoved l.fn.endpoint.state l.fn.port k;
+  still : l.moved ≡ false → (k : ℕ) → k < l.peer → has_room l.fn.endpoint.state.cq ≡ true → IsMoved l.fn.endpoint.state l.fn.port k;
 }

@@ -1,10 +1,10 @@
 use Rattle.std.proofs.Common.{◌≡◌, ◌≤◌, ◌∙◌, refl, rules, sym, length, None, Ok, ap, arith}
 use Rattle.std.proofs.lemmas.Bool.{ltb-true, ltb-false}
 use Rattle.std.proofs.lemmas.Option.{slice_get_past}
-use Rattle.fab_base.specs.declared.script.LineOp.TheVariants.{Wait, TRecv, TSend}
+use Rattle.fab_base.specs.declared.script.LineOp.TheVariants.{Wait, TRecv}
 use Rattle.fab_model.specs.Peers.{next_line}
 use Rattle.fab_peer.specs.Turns.{actor_of}
-use Rattle.fab_peer.proofs.Doing.{turned_then, turned_does, turned_went, does_same, stays_held, stays_other, stays_finished, stays_unbuilt, next_there, next_by, some_source}
+use Rattle.fab_peer.proofs.Doing.{turned_then, turned_does, turned_went, does_same, stays_held, stays_other, stays_finished, stays_untried, next_there, next_by, some_source}
 use Rattle.fab_peer.proofs.Calling.{none_found}
 use Rattle.fab_peer.proofs.peer.Peer.do_line.Goals as goal
 
@@ -34,7 +34,7 @@ returns-then-is_some-clause-still c e =
     let found = c.in-Some.ensures.lookup in
     let count : c.len.result ≡ length c.args.self.now.results.items = search rules in
     let next = next_there c.args.self.now c.deref.result.now c.len.result c.in-Some.line.now c.deref.ensures.value count (ltb-true _ _ (sym found.0)) found.1 in
-    stays_unbuilt c.args.self.now _ c.in-Some.line.now (TRecv c.in-TRecv.ctx c.in-TRecv.source c.in-TRecv.tag c.in-TRecv.ignore c.in-TRecv.len) next c.in-TRecv.is (some_source c.in-TRecv.source (sym c.is_some.ensures ∙ c.if-is_some.true)) refl
+    stays_untried c.args.self.now _ c.in-Some.line.now (TRecv c.in-TRecv.ctx c.in-TRecv.source c.in-TRecv.tag c.in-TRecv.ignore c.in-TRecv.len) next c.in-TRecv.is (some_source c.in-TRecv.source (sym c.is_some.ensures ∙ c.if-is_some.true)) refl
 
 pub trecv-requires : goal.trecv-requires
 trecv-requires c =
