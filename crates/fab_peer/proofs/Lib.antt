@@ -15,7 +15,6 @@ pub mod Clearing
 pub mod Sending
 pub mod Taking
 pub mod Joining
-pub mod Payloads
 pub mod Opening
 pub mod Ending
 pub mod Working
