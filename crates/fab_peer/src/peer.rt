@@ -207,11 +207,8 @@ impl Peer {
         let Some(line) = self.lines.get(self.results.len()) else {
             return Ok(false);
         };
-        match &line.op {
-            LineOp::Wait { ctx } => {
-                let ctx = *ctx;
-                self.wait(ctx)
-            }
+        match line.op {
+            LineOp::Wait { ctx } => self.wait(ctx),
             LineOp::TRecv {
                 ctx,
                 source,
@@ -222,21 +219,18 @@ impl Peer {
                 if source.is_some() {
                     return Ok(false);
                 }
-                let (ctx, tag, ignore, len) = (*ctx, *tag, *ignore, *len);
                 self.trecv(ctx, tag, ignore, len)
             }
             LineOp::TSend {
                 ctx,
                 dest,
                 tag,
-                bytes,
+                ref bytes,
                 imm,
                 level,
                 completion,
             } => {
                 let bytes = word_bytes(self.alloc, bytes)?;
-                let (ctx, dest, tag, imm) = (*ctx, *dest, *tag, *imm);
-                let (level, completion) = (*level, *completion);
                 if !self.tsend(ctx, dest, tag, bytes, imm, level, completion)? {
                     return Ok(false);
                 }
