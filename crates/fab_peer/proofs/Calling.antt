@@ -166,6 +166,10 @@ takes_now e e' tag ignore buf ctx may room (a, bytes, found, whole, silent, is) 
   ap (λ (x : Held). x.log) is,
 )
 
+-- it accepts nothing to transmit
+pub took_tx : (r : Receive) (e e' : Held) → Took r e e' → e'.state.tx ≡ e.state.tx
+took_tx r e e' (a, bytes, found, whole, silent, is) = ap (λ (x : Held). x.state.tx) is
+
 -- it writes an entry
 pub took_costs : (r : Receive) (e e' : Held) → Took r e e' → state_work e'.state < state_work e.state + line_work
 took_costs r e e' (a, bytes, found, whole, silent, is) =

@@ -1,9 +1,7 @@
 -- Steps of a peer, one after another.
-use Rattle.std.proofs.Common.{◌≡◌, ◌≢◌, ◌<◌, ◌≤◌, ◌+◌, ℕ, Bool, true, false, List, [], ◌∷◌, ◌++◌, Option, Some, None, Result, Ok, Err, refl, sym, ap, subst, ◌∙◌, arith, length, get_or, append-nil, append_assoc, length-append, option_map}
-use Rattle.std.specs.Prelude.{find, replicate, is_some, is_none, nat_le, ◌&&◌, IfOk, OnOk}
+use Rattle.std.proofs.Common.{◌≡◌, ◌≢◌, ◌<◌, ◌+◌, ℕ, Bool, true, false, List, [], ◌∷◌, ◌++◌, Option, Some, None, Result, Ok, Err, refl, sym, ap, subst, ◌∙◌, arith, length, get_or, append-nil, append_assoc, length-append, option_map}
+use Rattle.std.specs.Prelude.{find, replicate, is_some, is_none, IfOk, OnOk}
 use Rattle.std.proofs.lemmas.Option.{slice_get_within}
-use Rattle.std.proofs.lemmas.Bool.Decides.{nat_tests}
-use Rattle.fab_base.specs.Built.{is_built, is_short_text, is_at_transmit}
 use Rattle.fab_base.specs.declared.entries.Kept.{Kept}
 use Rattle.fab_base.specs.declared.entries.Taken.{Taken}
 use Rattle.fab_base.specs.declared.faults.Fault.{Fault}
@@ -18,7 +16,6 @@ use Rattle.fab_base.specs.declared.peers.LineResult.TheVariants.{Done, Refused, 
 use Rattle.fab_base.specs.declared.peers.Step.{Step}
 use Rattle.fab_base.specs.declared.peers.Step.TheVariants.{Do, Read}
 use Rattle.fab_base.specs.declared.script.BytesWord.{BytesWord}
-use Rattle.fab_base.specs.declared.script.BytesWord.TheVariants.{Text, Hex, Zero, File}
 use Rattle.fab_base.specs.declared.script.Line.{Line}
 use Rattle.fab_base.specs.declared.script.LineOp.{LineOp}
 use Rattle.fab_base.specs.declared.script.LineOp.TheVariants.{Wait, TRecv, TSend}
@@ -31,9 +28,10 @@ use Rattle.fab_model.specs.Views.{View}
 use Rattle.fab_model.proofs.Passes.{Passes, same, call_passes}
 use Rattle.fab_peer.specs.Endpoints.{Held, Answers, ReadsHeld, logged, any_source}
 use Rattle.fab_peer.specs.Moves.{IsTied, Went}
-use Rattle.fab_peer.specs.Turns.{actor_of, schedule_of, Does, Turned, Answered, Waits, Stays, next_op}
+use Rattle.fab_peer.specs.Turns.{actor_of, schedule_of, Carries, Does, Turned, Answered, Waits, Stays, is_tried, next_op}
 use Rattle.fab_peer.specs.Work.{line_work, state_work, actor_work}
 use Rattle.fab_peer.specs.declared.peer.Peer.{Peer}
+use Rattle.fab_peer.proofs.Carrying.{Keeps, carries_same}
 use Rattle.fab_peer.proofs.Going.{tied_passes, ported_same, ported_then, shows_less, walk_append}
 use Rattle.fab_peer.proofs.Joining.{is_at}
 use Rattle.fab_peer.proofs.Working.{line_less, read_less}
@@ -46,6 +44,7 @@ does_same a b actor log = record {
   log = log ∙ sym (append-nil (schedule_of a));
   walk = λ v. sym actor;
   tied = λ p tied. subst (λ (x : Actor). IsTied x.state p) (sym actor) tied;
+  carries = λ carries. subst (λ (x : Actor). Carries x) (sym actor) carries;
   spends = (let same = ap actor_work actor in omega (arith, same));
 }
 
@@ -55,11 +54,12 @@ does_then a b c x y = record {
   log = y.log ∙ ap (λ xs. xs ++ y.steps) x.log ∙ append_assoc (schedule_of a) x.steps y.steps;
   walk = λ v. walk_append v (actor_of a) (actor_of b) (actor_of c) x.steps y.steps (x.walk v) (y.walk v);
   tied = λ p tied. y.tied p (x.tied p tied);
+  carries = λ carries. y.carries (x.carries carries);
   spends = omega (arith, x.spends, y.spends);
 }
 
 pub turned_does : (a b : Peer) (p : Plain) → Does a b → Turned a p b p
-turned_does a b p does = record { steps = does.steps; log = does.log; walk = λ v shows. does.walk v; ported = ported_same p; spends = omega (arith, does.spends) }
+turned_does a b p does = record { steps = does.steps; log = does.log; walk = λ v shows. does.walk v; ported = ported_same p; carries = does.carries; spends = omega (arith, does.spends) }
 
 pub turned_went : (a b : Peer) (p q : Plain) → Went a.endpoint p b.endpoint q → b.lines ≡ a.lines → b.results ≡ a.results → b.kept ≡ a.kept → Turned a p b q
 turned_went a b p q went lines results kept = record {
@@ -67,6 +67,7 @@ turned_went a b p q went lines results kept = record {
   log = went.log;
   walk = λ v shows. rw (lines, results, kept) (went.walk (actor_of a) v shows);
   ported = went.ported;
+  carries = carries_same (actor_of a) (actor_of b) (ap (λ (x : _). x.items) lines) went.accepted;
   spends = (let count = ap (λ (x : _). length x.items) lines in let done = ap (λ (x : _). length x.items) results in omega (arith, count, done, went.spends));
 }
 
@@ -76,19 +77,21 @@ turned_then a b c p q r x y = record {
   log = y.log ∙ ap (λ xs. xs ++ y.steps) x.log ∙ append_assoc (schedule_of a) x.steps y.steps;
   walk = λ v shows. walk_append v (actor_of a) (actor_of b) (actor_of c) x.steps y.steps (x.walk v (shows_less q r v y.ported shows)) (y.walk v shows);
   ported = ported_then p q r x.ported y.ported;
+  carries = λ carries. y.carries (x.carries carries);
   spends = omega (arith, x.spends, y.spends);
 }
 
 -- ---- one step
 
 does_step : (a b : Peer) (x : Step) → schedule_of b ≡ schedule_of a ++ x ∷ [] → ((v : View Item) → step v (actor_of a) x ≡ Some (actor_of b)) → Passes a.endpoint.state b.endpoint.state
-    → actor_work (actor_of b) < actor_work (actor_of a) → Does a b
+    → (Carries (actor_of a) → Carries (actor_of b)) → actor_work (actor_of b) < actor_work (actor_of a) → Does a b
 unfolding fabric
-does_step a b x log stands passes less = record {
+does_step a b x log stands passes carries less = record {
   steps = x ∷ [];
   log = log;
   walk = λ v. (actor_of b, stands v, refl);
   tied = λ p tied. tied_passes a.endpoint.state b.endpoint.state p passes tied;
+  carries = carries;
   spends = omega (arith, less);
 }
 
@@ -109,6 +112,7 @@ does_read a b entry (w, there, is, new, plain) lines results kept =
     (λ v. reads_next (actor_of a) w entry there is plain
     ∙ (let state = ap (λ (h : Held). h.state) new in rw (lines, results, kept, state) refl))
     (rw new (same refl refl refl))
+    (carries_same (actor_of a) (actor_of b) (ap (λ (x : _). x.items) lines) (ap (λ (h : Held). h.state.tx.accepted) new))
     (read_work a b entry (w, there, is, new, plain) lines results)
 
 -- a read changes nothing that the calm asks of a peer
@@ -165,6 +169,7 @@ does_wait a b ctx k next found rest log lines results =
     does_step a b Do (ap (λ (h : Held). h.log) log)
     (λ v. next_is a (Wait ctx) next ∙ waits (actor_of a) ctx k found ∙ (let state = ap (λ (h : Held). h.state) log in rw (lines, results, rest, state) refl))
     (let state = ap (λ (h : Held). h.state) log in rw state (same refl refl refl))
+    (carries_same (actor_of a) (actor_of b) (ap (λ (x : _). x.items) lines) (ap (λ (h : Held). h.state.tx.accepted) log))
     (wait_work a b ctx k next log lines results)
 
 after_answer : (a : Actor) (outcome : LineResult) (s : State) → is_again outcome ≡ false → after_call a (outcome, s) ≡ Some (with_result outcome (with_state a s))
@@ -197,9 +202,9 @@ answered_work a m b op c r (Err x) next answers lines results costs answered e =
 
 pub does_call : {T : Type 0} (a m b : Peer) (op : LineOp) (c : Call) (r : Result T Fault) (done : Bool) → next_op a ≡ Some op → do_line (actor_of a) op ≡ call_line (actor_of a) c
     → Answers c a.endpoint m.endpoint r → m.lines ≡ a.lines → m.results ≡ a.results → m.kept ≡ a.kept
-    → OnOk r (state_work m.endpoint.state < state_work a.endpoint.state + line_work) → Answered r m b done → Does a b
+    → OnOk r (state_work m.endpoint.state < state_work a.endpoint.state + line_work) → OnOk r (Keeps (actor_of a) m.endpoint.state) → Answered r m b done → Does a b
 unfolding step
-does_call {T} a m b op c (Ok x) done next line answers lines results kept costs (all, is, more) =
+does_call {T} a m b op c (Ok x) done next line answers lines results kept costs keeps (all, is, more) =
     let endpoint : b.endpoint ≡ m.endpoint = ap (λ (x : Peer). x.endpoint) is in
     does_step a b Do (ap (λ (h : Held). h.log) endpoint ∙ answers.1)
     (λ v. calls a op c Done m.endpoint.state next line answers.0 refl
@@ -207,12 +212,13 @@ does_call {T} a m b op c (Ok x) done next line answers lines results kept costs 
     let k : b.kept ≡ a.kept = ap (λ (x : Peer). x.kept) is ∙ kept in
     rw (endpoint, l, k, more, results) refl))
     (rw endpoint (subst (λ (x : State). Passes a.endpoint.state x) (ap (λ x. x.1) answers.0) (call_passes a.endpoint.state c)))
+    (λ carries. carries_same (with_state (actor_of a) m.endpoint.state) (actor_of b) (ap (λ (x : Peer). x.lines.items) is ∙ ap (λ (x : _). x.items) lines) (ap (λ (h : Held). h.state.tx.accepted) endpoint) (keeps carries))
     (call_work {T = T} a m b op c (Ok x) done next answers lines results costs (all, is, more) all)
-does_call a m b op c (Err fault) false next line answers lines results kept costs (is, busy, again) =
+does_call a m b op c (Err fault) false next line answers lines results kept costs keeps (is, busy, again) =
     let free : fault ≢ LacksMemory = (λ e. cc (again, e)) in
     let stays = (answers free).1 in
     does_same a b (rw (is, stays, lines, results, kept) refl) (rw (is, stays) refl)
-does_call {T} a m b op c (Err fault) true next line answers lines results kept costs (is, more, again, free) =
+does_call {T} a m b op c (Err fault) true next line answers lines results kept costs keeps (is, more, again, free) =
     let stays = (answers free).1 in
     let endpoint : b.endpoint ≡ logged (Do ∷ []) a.endpoint = ap (λ (x : Peer). x.endpoint) is ∙ ap (logged (Do ∷ [])) stays in
     does_step a b Do (ap (λ (h : Held). h.log) endpoint)
@@ -221,14 +227,15 @@ does_call {T} a m b op c (Err fault) true next line answers lines results kept c
     let k : b.kept ≡ a.kept = ap (λ (x : Peer). x.kept) is ∙ kept in
     rw (endpoint, l, k, more, results) refl))
     (rw endpoint (same refl refl refl))
+    (carries_same (actor_of a) (actor_of b) (ap (λ (x : Peer). x.lines.items) is ∙ ap (λ (x : _). x.items) lines) (ap (λ (h : Held). h.state.tx.accepted) endpoint))
     (call_work {T = T} a m b op c (Err fault) true next answers lines results costs (is, more, again, free) refl)
 
 -- the same of the result of a call's answer, where it is at hand
 pub does_answered : {T E : Type 0} (a m b : Peer) (op : LineOp) (c : Call) (r : Result T Fault) (done : Result Bool E) → next_op a ≡ Some op → do_line (actor_of a) op ≡ call_line (actor_of a) c
     → Answers c a.endpoint m.endpoint r → m.lines ≡ a.lines → m.results ≡ a.results → m.kept ≡ a.kept
-    → OnOk r (state_work m.endpoint.state < state_work a.endpoint.state + line_work) → IfOk done (Answered r m b) → OnOk done (Does a b)
-does_answered a m b op c r (Ok done) next line answers lines results kept costs answered = does_call a m b op c r done next line answers lines results kept costs answered
-does_answered a m b op c r (Err e) next line answers lines results kept costs answered = _
+    → OnOk r (state_work m.endpoint.state < state_work a.endpoint.state + line_work) → OnOk r (Keeps (actor_of a) m.endpoint.state) → IfOk done (Answered r m b) → OnOk done (Does a b)
+does_answered a m b op c r (Ok done) next line answers lines results kept costs keeps answered = does_call a m b op c r done next line answers lines results kept costs keeps answered
+does_answered a m b op c r (Err e) next line answers lines results kept costs keeps answered = _
 
 pub line_trecv : (a : Actor) (ctx tag ignore len : ℕ) → do_line a (TRecv ctx None tag ignore len) ≡ call_line a (Post (any_source tag ignore (replicate len 0) ctx))
 unfolding do_line call_of
@@ -274,49 +281,37 @@ pub stays_held : (a b : Peer) → Waits a b → Stays a b
 unfolding do_next
 stays_held a b waits = record {
   same = waits.same;
-  held = λ line next built. (let e = waits.held in rw (next, do_next) at e);
+  held = λ line next tried. (let e = waits.held in rw (next, do_next) at e);
 }
 
--- a line of another kind is not one that the program carries out
-none_built : (op : LineOp) → ((ctx dest tag : ℕ) (bytes : BytesWord) (imm : Option ℕ) (level : Level) (completion : Bool) → op ≡ TSend ctx dest tag bytes imm level completion → ⊥)
-    → ((ctx : ℕ) (source : Option ℕ) (tag ignore len : ℕ) → op ≡ TRecv ctx source tag ignore len → ⊥) → ((ctx : Option ℕ) → op ≡ Wait ctx → ⊥) → is_built op ≡ true → ⊥
-none_built (TSend ctx dest tag bytes imm level completion) no_send no_receive no_wait built = no_send ctx dest tag bytes imm level completion refl
-none_built (TRecv ctx source tag ignore len) no_send no_receive no_wait built = no_receive ctx source tag ignore len refl
-none_built (Wait ctx) no_send no_receive no_wait built = no_wait ctx refl
-none_built op no_send no_receive no_wait built = cc built
+-- a line of another kind is not one that a peer does
+none_tried : (op : LineOp) → ((ctx dest tag : ℕ) (bytes : BytesWord) (imm : Option ℕ) (level : Level) (completion : Bool) → op ≡ TSend ctx dest tag bytes imm level completion → ⊥)
+    → ((ctx : ℕ) (source : Option ℕ) (tag ignore len : ℕ) → op ≡ TRecv ctx source tag ignore len → ⊥) → ((ctx : Option ℕ) → op ≡ Wait ctx → ⊥) → is_tried op ≡ true → ⊥
+none_tried (TSend ctx dest tag bytes imm level completion) no_send no_receive no_wait tried = no_send ctx dest tag bytes imm level completion refl
+none_tried (TRecv ctx source tag ignore len) no_send no_receive no_wait tried = no_receive ctx source tag ignore len refl
+none_tried (Wait ctx) no_send no_receive no_wait tried = no_wait ctx refl
+none_tried op no_send no_receive no_wait tried = cc tried
 
 pub stays_other : (a b : Peer) (next : Line) → next_line (actor_of a) ≡ Some next
     → ((ctx dest tag : ℕ) (bytes : BytesWord) (imm : Option ℕ) (level : Level) (completion : Bool) → next.op ≡ TSend ctx dest tag bytes imm level completion → ⊥)
     → ((ctx : ℕ) (source : Option ℕ) (tag ignore len : ℕ) → next.op ≡ TRecv ctx source tag ignore len → ⊥) → ((ctx : Option ℕ) → next.op ≡ Wait ctx → ⊥) → actor_of b ≡ actor_of a → Stays a b
 stays_other a b next is no_send no_receive no_wait same = record {
   same = same;
-  held = λ line there built. let e : line ≡ next = cc (is, there) in absurd (none_built next.op no_send no_receive no_wait (subst (λ (l : Line). is_built l.op ≡ true) e built));
+  held = λ line there tried. let e : line ≡ next = cc (is, there) in absurd (none_tried next.op no_send no_receive no_wait (subst (λ (l : Line). is_tried l.op ≡ true) e tried));
 }
 
 -- where there is no next line, none is held
 pub stays_finished : (a b : Peer) → next_line (actor_of a) ≡ None → actor_of b ≡ actor_of a → Stays a b
-stays_finished a b none same = record { same = same; held = λ line there built. absurd (cc (none, there)) }
+stays_finished a b none same = record { same = same; held = λ line there tried. absurd (cc (none, there)) }
 
--- the next line is not one that the program carries out
-pub stays_unbuilt : (a b : Peer) (next : Line) (op : LineOp) → next_line (actor_of a) ≡ Some next → next.op ≡ op → (is_built op ≡ true → ⊥) → actor_of b ≡ actor_of a → Stays a b
-stays_unbuilt a b next op is op_is unbuilt same = record {
+-- the next line is not one that a peer does
+pub stays_untried : (a b : Peer) (next : Line) (op : LineOp) → next_line (actor_of a) ≡ Some next → next.op ≡ op → (is_tried op ≡ true → ⊥) → actor_of b ≡ actor_of a → Stays a b
+stays_untried a b next op is op_is untried same = record {
   same = same;
-  held = λ line there built. let e : line ≡ next = cc (is, there) in absurd (unbuilt (subst (λ (o : LineOp). is_built o ≡ true) op_is (subst (λ (l : Line). is_built l.op ≡ true) e built)));
+  held = λ line there tried. let e : line ≡ next = cc (is, there) in absurd (untried (subst (λ (o : LineOp). is_tried o ≡ true) op_is (subst (λ (l : Line). is_tried l.op ≡ true) e tried)));
 }
 
--- a receive of one source is not carried out yet
+-- a receive of one source is not done yet
 pub some_source : (o : Option ℕ) → is_some o ≡ true → is_none o ≡ true → ⊥
 some_source None some none = cc some
 some_source (Some source) some none = cc none
-
-both : (a b : Bool) → (a && b) ≡ true → (a ≡ true) × (b ≡ true)
-both true true e = (refl, refl)
-both true false e = absurd (cc e)
-both false b e = absurd (cc e)
-
--- a send that is carried out goes in one frame and completes when it is transmitted
-pub built_send : (word : BytesWord) (level : Level) → (is_short_text word && is_at_transmit level) ≡ true → (length (word_bytes word) ≤ 4096) × (is_at_transmit level ≡ true)
-built_send (Text bytes) level e = let parts = both (nat_le (length bytes) 4096) (is_at_transmit level) e in let short = parts.0 in (grind (arith, nat_tests), parts.1)
-built_send (Hex bytes) level e = absurd (cc e)
-built_send (Zero n) level e = absurd (cc e)
-built_send (File id at len) level e = absurd (cc e)

@@ -20,19 +20,18 @@ use Rattle.fab_model.specs.Receiving.{may_leave, cancellable, without_posted, ca
 use Rattle.fab_model.specs.Calls.{CancelFirst, do_call}
 use Rattle.fab_model.specs.Orders.{Leads, Reached, by}
 use Rattle.fab_model.specs.Peers.{Actor, Facts, fabric, facts, step, final_step, with_state, has_all, all_below, is_calm, is_finished}
-use Rattle.fab_model.specs.Replay.{opening}
 use Rattle.fab_model.specs.Views.{View, rule, seen}
 use Rattle.fab_model.proofs.Views.{more_self}
-use Rattle.fab_model.proofs.Replays.{reached_walk_leads}
 use Rattle.fab_model.proofs.Walks.{reached_more}
 use Rattle.fab_peer.specs.Endpoints.{Held, Cancels, IsSingle, given_back, has_room}
 use Rattle.fab_peer.specs.Turns.{actor_of, schedule_of, Does, Ended}
-use Rattle.fab_peer.specs.Joined.{actors, schedules, all_facts, Ends}
+use Rattle.fab_peer.specs.Joined.{actors, schedules, all_facts, opened, Ends}
 use Rattle.fab_peer.specs.declared.fabric.Fabric.{Fabric}
 use Rattle.fab_peer.specs.declared.peer.Peer.{Peer}
 use Rattle.fab_peer.proofs.Arriving.{fits_writing}
 use Rattle.fab_peer.proofs.Firsts.{not_found}
 use Rattle.fab_peer.proofs.Going.{walk_append}
+use Rattle.fab_peer.proofs.Opening.{start_walk_leads}
 
 -- ---- the first receive
 
@@ -191,14 +190,14 @@ module _ (f g : Fabric) (k : ℕ) (a b : Peer) (is_a : slice_get f.peers.items k
 
   pub end_goes_on : is_calm (all_facts f) ≡ true → Ends f g
   unfolding fabric
-  end_goes_on calm bound reached =
+  end_goes_on calm conf lists reached =
       let v = seen fabric (actors f) k in
       let leads : Leads (rule fabric) (actors f) (by k ended.steps) (slice_set (actors f) k (actor_of b)) =
-      reached_walk_leads bound (schedules f) ended.steps (actors f) k v (actor_of a) (actor_of b) reached has (more_self v) (ended.walk v calm) in
-      let more = reached_more (opening bound) (actors f) (slice_set (actors f) k (actor_of b)) (schedules f) k ended.steps (omega (arith, here, length-map f.peers.items schedule_of)) reached leads in
+      start_walk_leads conf lists (schedules f) ended.steps (actors f) k v (actor_of a) (actor_of b) reached has (more_self v) (ended.walk v calm) in
+      let more = reached_more (opened conf lists) (actors f) (slice_set (actors f) k (actor_of b)) (schedules f) k ended.steps (omega (arith, here, length-map f.peers.items schedule_of)) reached leads in
       let states : slice_set (actors f) k (actor_of b) ≡ actors g = sym (map-set actor_of f.peers.items k b) ∙ ap (map actor_of) (sym peers) in
       let logs : slice_get (schedules f) k ≡ Some (schedule_of a) = slice_get-map schedule_of f.peers.items k ∙ ap (option_map schedule_of) is_a in
       let own : slice_index_or (schedules f) k [] ≡ schedule_of a = get_or_from_slice_get (schedules f) k (schedule_of a) [] logs in
       let steps : slice_set (schedules f) k (slice_index_or (schedules f) k [] ++ ended.steps) ≡ schedules g =
       ap (λ xs. slice_set (schedules f) k (xs ++ ended.steps)) own ∙ ap (slice_set (schedules f) k) (sym ended.log) ∙ sym (map-set schedule_of f.peers.items k b) ∙ ap (map schedule_of) (sym peers) in
-      subst (λ x. Reached (rule fabric) (opening bound) x (actors g)) steps (subst (λ x. Reached (rule fabric) (opening bound) (slice_set (schedules f) k (slice_index_or (schedules f) k [] ++ ended.steps)) x) states more)
+      subst (λ x. Reached (rule fabric) (opened conf lists) x (actors g)) steps (subst (λ x. Reached (rule fabric) (opened conf lists) (slice_set (schedules f) k (slice_index_or (schedules f) k [] ++ ended.steps)) x) states more)

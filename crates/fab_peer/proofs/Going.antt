@@ -155,7 +155,7 @@ walk_append v a b c [] ys first then = subst (λ x. Walk fabric v x ys c) (sym f
 walk_append v a b c (x ∷ xs) ys (next, step, rest) then = (next, step, walk_append v next b c xs ys rest then)
 
 pub went_none : (e : Held) (p q : Plain) → Ported p q → port_work q ≤ port_work p → Went e p e q
-went_none e p q ported spends = record { steps = []; log = sym (append-nil e.log); walk = λ a v shows. refl; ported = ported; spends = omega (arith, spends) }
+went_none e p q ported spends = record { steps = []; log = sym (append-nil e.log); walk = λ a v shows. refl; ported = ported; accepted = refl; spends = omega (arith, spends) }
 
 pub went_same : (e : Held) (p : Plain) → Went e p e p
 went_same e p = went_none e p p (ported_same p) (omega arith)
@@ -166,5 +166,6 @@ went_then e f g p q r a b = record {
   log = b.log ∙ ap (λ xs. xs ++ b.steps) a.log ∙ append_assoc e.log a.steps b.steps;
   walk = λ x v shows. walk_append v (with_state x e.state) (with_state x f.state) (with_state x g.state) a.steps b.steps (a.walk x v (shows_less q r v b.ported shows)) (b.walk x v shows);
   ported = ported_then p q r a.ported b.ported;
+  accepted = b.accepted ∙ a.accepted;
   spends = omega (arith, a.spends, b.spends);
 }

@@ -1,5 +1,5 @@
 -- What holds of the halves of an endpoint still holds after a change.
-use Rattle.std.proofs.Common.{rules, Bool, true, false, cond, ◌∷◌, ◌++◌, ◌≡◌, ◌<◌, ◌+◌, ℕ, zero, suc, List, [], length, get_or, set, Some, Option, ◌⊎◌, inl, inr, refl, sym, subst, ◌∙◌, arith, replicate, length-append, length-set, get_or-set_other, get_or-set_same}
+use Rattle.std.proofs.Common.{rules, Bool, true, false, cond, ◌∷◌, ◌++◌, ◌≡◌, ◌<◌, ◌+◌, ℕ, zero, suc, List, [], length, get_or, set, Some, Option, ◌⊎◌, inl, inr, refl, sym, ◌∙◌, arith, replicate, length-append, length-set, get_or-set_other, get_or-set_same}
 use Rattle.std.proofs.lemmas.List.{length-replicate}
 use Rattle.std.specs.Prelude.{IsSome, IfSome, find, slice_get, slice_index}
 use Rattle.fab_base.specs.declared.operations.Operation.{Operation}
@@ -8,7 +8,7 @@ use Rattle.fab_model.specs.Sending.{is_of_item}
 use Rattle.std.proofs.lemmas.Bool.{cases_eq}
 use Rattle.std.proofs.lemmas.Option.{slice_get_cases}
 use Rattle.fab_base.specs.declared.items.Item.{Item}
-use Rattle.fab_peer.specs.Endpoints.{IsOutbox, IsCarried}
+use Rattle.fab_peer.specs.Endpoints.{IsOutbox}
 
 -- an index at which there is a member is within the list
 pub is_within : {X : Type 0} (xs : List X) (i : ℕ) → IsSome (slice_get xs i) → i < length xs
@@ -25,7 +25,6 @@ IsOutbox-send accepted sent d lt is waits = record {
         rw (same, get_or-set_same sent d (slice_index sent d + 1) 0 here) (omega (arith, is_within (get_or accepted d []) (slice_index sent d) waits))
     | inr other ↦ rw (get_or-set_other sent d k (slice_index sent d + 1) 0 (λ e. other e)) (is.within k)
   ];
-  carried = is.carried;
 }
 
 -- the members of a list with one more behind it
@@ -35,25 +34,16 @@ at_end [] x y (suc k) e = absurd (cc)
 at_end (z ∷ xs) x y zero e = inl e
 at_end (z ∷ xs) x y (suc k) e = at_end xs x y k e
 
--- one more item that goes in one frame is accepted
+-- one more item is accepted
 pub IsOutbox-accept : (accepted : List (List Item)) (sent : List ℕ) (d : ℕ) (item : Item) (items : List Item) → items ≡ get_or accepted d [] ++ item ∷ [] → d < length accepted → IsOutbox accepted sent
-    → IsCarried item.head (length item.bytes) → IsOutbox (set accepted d items) sent
-IsOutbox-accept accepted sent d item items is_items lt is carried = record {
+    → IsOutbox (set accepted d items) sent
+IsOutbox-accept accepted sent d item items is_items lt is = record {
   count = is.count ∙ sym (length-set accepted d items);
   within = λ k. elim (cases_eq k d) [
     | inl same ↦
         let grown = length-append (get_or accepted d []) (item ∷ []) in
         rw (same, get_or-set_same accepted d items [] lt, is_items, grown) (omega (arith, is.within d))
     | inr other ↦ rw (get_or-set_other accepted d k items [] other) (is.within k)
-  ];
-  carried = λ k i x has. elim (cases_eq k d) [
-    | inl same ↦
-        let here : slice_get (get_or accepted d [] ++ item ∷ []) i ≡ Some x = rw (same, get_or-set_same accepted d items [] lt, is_items) at has in
-        elim (at_end (get_or accepted d []) item x i here) [
-          | inl before ↦ is.carried d i x before
-          | inr last ↦ subst (λ (y : Item). IsCarried y.head (length y.bytes)) last carried
-        ]
-    | inr other ↦ is.carried k i x (rw (get_or-set_other accepted d k items [] other) at has)
   ];
 }
 
@@ -62,7 +52,6 @@ pub IsOutbox-new : (n : ℕ) → IsOutbox (replicate n []) (replicate n 0)
 IsOutbox-new n = record {
   count = length-replicate {A = ℕ} n 0 ∙ sym (length-replicate {A = List Item} n []);
   within = λ d. omega (arith, none_at {X = ℕ} n d 0);
-  carried = λ d k x has. absurd (let here : slice_get {X = Item} [] k ≡ Some x = rw (none_at {X = List Item} n d []) at has in cc here);
 }
   where
     none_at : {X : Type 0} (n k : ℕ) (x : X) → get_or (replicate n x) k x ≡ x

@@ -20,7 +20,7 @@ use Rattle.fab_model.proofs.Turns.{slice_get-set_other, slice_get-set_same}
 use Rattle.fab_model.proofs.Views.{prefix_self}
 use Rattle.fab_model.proofs.Walks.{walk_leads, reached_more}
 use Rattle.fab_peer.specs.Moves.{frame_of, Shows, taken_of, IsBetween, AreFrames, IsTied, Ported}
-use Rattle.fab_peer.specs.Turns.{actor_of, schedule_of, Turned, IsStill, came_to}
+use Rattle.fab_peer.specs.Turns.{actor_of, schedule_of, Turned, Carries, IsStill, came_to}
 use Rattle.fab_peer.specs.Joined.{actors, schedules, IsJoined, GoesOn, IsStillAt, Unmoved, came}
 use Rattle.fab_peer.specs.declared.fabric.Fabric.{Fabric}
 use Rattle.fab_peer.specs.declared.peer.Peer.{Peer}
@@ -175,6 +175,19 @@ module _ (f g : Fabric) (k : ℕ) (a b : Peer) (p q : Plain) (joined : IsJoined 
       let here : came g k ≡ came_to q = ap came_to port_own in
       subst (λ y. IsStill x y) (sym here) (subst (λ (y : Actor). IsStill y (came_to q)) is (still (subst (λ (y : Actor). 0 < y.state.cq.size) (sym is) some)))
 
+  carries_after : (j : ℕ) (x : Actor) → slice_get (actors g) j ≡ Some x → Carries x
+  carries_after j x has = elim (cases_eq j k) [
+    | inl here ↦ (
+        let own : slice_get (actors g) k ≡ Some (actor_of b) = slice_get-map actor_of g.peers.items k ∙ ap (option_map actor_of) (ap (λ xs. slice_get xs k) peers ∙ slice_get-set_same f.peers.items k b k_peer) in
+        let is : actor_of b ≡ x = cc (own, subst (λ i. slice_get (actors g) i ≡ Some x) here has) in
+        subst (λ (y : Actor). Carries y) is (turned.carries (joined.carries k (actor_of a) (slice_get-map actor_of f.peers.items k ∙ ap (option_map actor_of) is_a)))
+        )
+    | inr there ↦
+        let was : slice_get (actors f) j ≡ slice_get (actors g) j =
+        slice_get-map actor_of f.peers.items j ∙ ap (option_map actor_of) (sym (slice_get-set_other f.peers.items k j b (λ e. there (sym e))) ∙ ap (λ xs. slice_get xs j) (sym peers)) ∙ sym (slice_get-map actor_of g.peers.items j) in
+        joined.carries j x (was ∙ has)
+  ]
+
   tied_after : IsTied b.endpoint.state q → (j : ℕ) (x : Peer) (y : Plain) → slice_get g.peers.items j ≡ Some x → slice_get g.ports.items j ≡ Some y → IsTied x.endpoint.state y
   tied_after tied j x y hx hy = elim (cases_eq j k) [
     | inl here ↦ (
@@ -202,6 +215,7 @@ module _ (f g : Fabric) (k : ℕ) (a b : Peer) (p q : Plain) (joined : IsJoined 
         lanes = λ s r. elim (cases_eq s k) [ inl here ↦ rw here (lanes_own r) | inr there ↦ lanes_other s r there ];
         fresh_out = λ s r. every_port (λ (x : Plain). (lane_at x r).out.after) (turned.ported.before r) s ∙ joined.fresh_out s r;
         fresh_in = λ s r. every_port (λ (x : Plain). (lane_at x s).in_after) (turned.ported.after s) r ∙ joined.fresh_in s r;
+        carries = carries_after;
       }
 
 -- what a turn that moved nothing says, where it answered so
@@ -290,6 +304,7 @@ module _ (f g : Fabric) (joined : IsJoined f) (peers : g.peers ≡ f.peers) (all
     lanes = λ s r. kept s r ∙ joined.lanes s r ∙ ap (λ (x : _). x.frames) (sym (out_same s r));
     fresh_out = λ s r. ap (λ (x : _). x.after) (out_same s r) ∙ joined.fresh_out s r;
     fresh_in = λ s r. ap (λ (l : Lane). l.in_after) (same r s) ∙ joined.fresh_in s r;
+    carries = λ k a has. joined.carries k a (subst (λ (x : _). slice_get (map actor_of x.items) k ≡ Some a) peers has);
   }
 
 -- the same of a slice of the ports, and what stands there after it

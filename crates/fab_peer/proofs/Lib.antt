@@ -1,5 +1,6 @@
 pub mod Arriving
 pub mod Calling
+pub mod Carrying
 pub mod Doing
 pub mod Firsts
 pub mod Going
@@ -14,7 +15,6 @@ pub mod Clearing
 pub mod Sending
 pub mod Taking
 pub mod Joining
-pub mod Payloads
 pub mod Opening
 pub mod Ending
 pub mod Working

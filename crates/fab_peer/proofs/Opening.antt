@@ -1,27 +1,32 @@
--- All peers with their ports at the opening of a script.
+-- All peers with their ports at the start of their lines.
 use Rattle.std.proofs.Common.{◌≡◌, ◌<◌, ◌≤◌, ◌+◌, ◌^◌, ℕ, zero, suc, List, [], ◌∷◌, ◌++◌, length, map, drop, slice_get, get_or, replicate, Option, Some, None, inl, inr, refl, sym, ap, subst, ◌∙◌, arith, length-append}
-use Rattle.std.specs.Prelude.{slice_index_or}
+use Rattle.std.specs.Prelude.{slice_index_or, slice_set}
 use Rattle.std.specs.Option.{option_map}
 use Rattle.std.proofs.lemmas.Bool.{cases_lt}
-use Rattle.std.proofs.lemmas.List.{map-append, length-map, get_or-drop}
+use Rattle.std.proofs.lemmas.List.{map-append, length-map, get_or-drop, drop-map}
 use Rattle.std.proofs.lemmas.Option.{slice_get-map, slice_get_within, get_or_from_slice_get}
 use Rattle.fab_base.specs.declared.frames.Frame.{Frame}
-use Rattle.fab_base.specs.declared.script.Bound.{Bound}
+use Rattle.fab_base.specs.declared.items.Item.{Item}
+use Rattle.fab_base.specs.declared.script.Conf.{Conf}
 use Rattle.fab_base.specs.declared.script.Line.{Line}
 use Rattle.fab_link.specs.Plain.{Lane, Plain, lane_at, fresh_lane}
 use Rattle.fab_link.specs.Carry.{lane_of}
 use Rattle.fab_model.specs.Calls.{upto}
-use Rattle.fab_model.specs.Orders.{AreSteps, Reached}
+use Rattle.fab_model.specs.Orders.{AreSteps, Leads, Reached, by}
 use Rattle.fab_model.specs.Peers.{Actor, fabric}
-use Rattle.fab_model.specs.State.{lookup, Receiving, Transmitting, Completions}
+use Rattle.fab_model.specs.State.{lookup, accepted_for, Receiving, Transmitting, Completions}
 use Rattle.fab_peer.specs.Endpoints.{IsOpen, nothing_yet}
-use Rattle.fab_model.specs.Views.{rule}
+use Rattle.fab_model.specs.Views.{More, View, Walk, rule, seen}
+use Rattle.fab_model.proofs.Orders as orders
+use Rattle.fab_model.proofs.Patient.{Own, fabric_patient}
+use Rattle.fab_model.proofs.Views.{Sound}
+use Rattle.fab_model.proofs.Views as views
 use Rattle.fab_model.proofs.Walks.{none_taken, reached_opening}
 use Rattle.fab_base.specs.declared.peers.Step.{Step}
-use Rattle.fab_model.specs.Replay.{opening, newly, fresh, lines_of, bind_line}
+use Rattle.fab_model.specs.Replay.{newly, fresh}
 use Rattle.fab_peer.specs.Moves.{IsTied}
-use Rattle.fab_peer.specs.Turns.{actor_of, schedule_of}
-use Rattle.fab_peer.specs.Joined.{actors, schedules, Opens}
+use Rattle.fab_peer.specs.Turns.{actor_of, schedule_of, Carries}
+use Rattle.fab_peer.specs.Joined.{actors, schedules, opened, Opens}
 use Rattle.fab_peer.specs.declared.fabric.Fabric.{Fabric}
 use Rattle.fab_peer.specs.declared.peer.Peer.{Peer}
 use Rattle.fab_peer.proofs.Joining.{nobody, no_lane}
@@ -30,9 +35,9 @@ use Rattle.fab_peer.proofs.Joining.{nobody, no_lane}
 abbrev pub port_of : ℕ → ℕ → Plain
 port_of n k = record { number = k; lanes = replicate n (fresh_lane None None) }
 
--- a peer of a script at the start
-abbrev pub first_actor : Bound → ℕ → Actor
-first_actor b p = newly b.script.conf (lines_of b p)
+-- a peer at the start of its lines
+abbrev pub first_actor : Conf → List (List Line) → ℕ → Actor
+first_actor conf lists p = newly conf (slice_index_or lists p [])
 
 -- ---- lists by place
 
@@ -75,9 +80,9 @@ long (suc n) x = ap suc (long n x)
 fresh_lane_at : (n k d : ℕ) → lane_at (port_of n k) d ≡ fresh_lane None None
 fresh_lane_at n k d = same_at n d (fresh_lane None None)
 
-fresh_tied : (b : Bound) (k : ℕ) → IsTied (fresh b.script.conf) (port_of b.script.conf.peers k)
-fresh_tied b k =
-    let n = b.script.conf.peers in
+fresh_tied : (conf : Conf) (k : ℕ) → IsTied (fresh conf) (port_of conf.peers k)
+fresh_tied conf k =
+    let n = conf.peers in
     let lane : (d : ℕ) → lane_at (port_of n k) d ≡ fresh_lane None None = fresh_lane_at n k in
     record {
       peers = long n (fresh_lane None None) ∙ sym (long n []);
@@ -92,13 +97,13 @@ fresh_tied b k =
       came = λ s i f has. absurd (let none : slice_get {X = Frame} [] i ≡ Some f = rw (lane s) at has in cc none);
     }
 
-module _ (b : Bound) (f : Fabric) (n : ℕ) (all : n ≡ b.script.conf.peers) (few : n < 2 ^ 32)
-    (are : actors f ≡ map (first_actor b) (upto n)) (ports : f.ports.items ≡ map (port_of n) (upto n)) (steps : schedules f ≡ replicate (length f.peers.items) []) where
+module _ (conf : Conf) (lists : List (List Line)) (f : Fabric) (n : ℕ) (all : n ≡ conf.peers) (few : n < 2 ^ 32)
+    (are : actors f ≡ map (first_actor conf lists) (upto n)) (ports : f.ports.items ≡ map (port_of n) (upto n)) (steps : schedules f ≡ replicate (length f.peers.items) []) where
   count_ports : length f.ports.items ≡ n
   count_ports = ap length ports ∙ length-map (upto n) (port_of n) ∙ length-upto n
 
   count_peers : length f.peers.items ≡ n
-  count_peers = sym (length-map f.peers.items actor_of) ∙ ap length are ∙ length-map (upto n) (first_actor b) ∙ length-upto n
+  count_peers = sym (length-map f.peers.items actor_of) ∙ ap length are ∙ length-map (upto n) (first_actor conf lists) ∙ length-upto n
 
   port_is : (k : ℕ) → k < n → slice_get f.ports.items k ≡ Some (port_of n k)
   port_is k l = ap (λ xs. slice_get xs k) ports ∙ map_upto (port_of n) n k l
@@ -115,16 +120,25 @@ module _ (b : Bound) (f : Fabric) (n : ℕ) (all : n ≡ b.script.conf.peers) (f
   tied_at : (k : ℕ) (a : Peer) (p : Plain) → slice_get f.peers.items k ≡ Some a → slice_get f.ports.items k ≡ Some p → IsTied a.endpoint.state p
   tied_at k a p ha hp =
       let below : k < n = omega (arith, count_peers, slice_get_within f.peers.items k a ha) in
-      let actor : Some (actor_of a) ≡ Some (first_actor b k) = sym (slice_get-map actor_of f.peers.items k ∙ ap (option_map actor_of) ha) ∙ ap (λ xs. slice_get xs k) are ∙ map_upto (first_actor b) n k below in
+      let actor : Some (actor_of a) ≡ Some (first_actor conf lists k) = sym (slice_get-map actor_of f.peers.items k ∙ ap (option_map actor_of) ha) ∙ ap (λ xs. slice_get xs k) are ∙ map_upto (first_actor conf lists) n k below in
       let port : Some p ≡ Some (port_of n k) = sym hp ∙ port_is k below in
-      let same : actor_of a ≡ first_actor b k = cc in
-      let state : a.endpoint.state ≡ fresh b.script.conf = ap (λ (x : Actor). x.state) same in
+      let same : actor_of a ≡ first_actor conf lists k = cc in
+      let state : a.endpoint.state ≡ fresh conf = ap (λ (x : Actor). x.state) same in
       let is : p ≡ port_of n k = cc in
-      let tied : IsTied (fresh b.script.conf) (port_of n k) = subst (λ m. IsTied (fresh b.script.conf) (port_of m k)) (sym all) (fresh_tied b k) in
+      let tied : IsTied (fresh conf) (port_of n k) = subst (λ m. IsTied (fresh conf) (port_of m k)) (sym all) (fresh_tied conf k) in
       subst (λ x. IsTied a.endpoint.state x) (sym is) (subst (λ x. IsTied x (port_of n k)) (sym state) tied)
 
-  pub opens : Opens b f
-  unfolding opening
+  -- nothing is accepted yet
+  carries_at : (k : ℕ) (a : Actor) → slice_get (actors f) k ≡ Some a → Carries a
+  carries_at k a has built d i x there =
+      let below : k < n = omega (arith, count_peers, slice_get_within (actors f) k a has, length-map f.peers.items actor_of) in
+      let is : Some a ≡ Some (first_actor conf lists k) = sym has ∙ ap (λ xs. slice_get xs k) are ∙ map_upto (first_actor conf lists) n k below in
+      let same : a ≡ first_actor conf lists k = cc is in
+      let none : accepted_for a.state.tx d ≡ [] = ap (λ (y : Actor). accepted_for y.state.tx d) same ∙ same_at conf.peers d [] in
+      let empty : slice_get {X = Item} [] i ≡ Some x = subst (λ xs. slice_get xs i ≡ Some x) none there in
+      absurd (cc empty)
+
+  pub opens : Opens conf lists f
   opens = record {
     joined = record {
       all = record {
@@ -137,26 +151,26 @@ module _ (b : Bound) (f : Fabric) (n : ℕ) (all : n ≡ b.script.conf.peers) (f
       lanes = λ s r. rw (lane_is s r, lane_is r s) refl;
       fresh_out = λ s r. ap (λ (l : Lane). l.out.after) (lane_is s r);
       fresh_in = λ s r. ap (λ (l : Lane). l.in_after) (lane_is r s);
+      carries = carries_at;
     };
-    actors_are = are ∙ ap (λ m. map (first_actor b) (upto m)) all;
+    actors_are = are ∙ ap (λ m. map (first_actor conf lists) (upto m)) all;
     schedules_are = steps;
   }
 
 -- ---- one peer more
 
 -- the peer's lines are those of its number
-pub more_actors : (b : Bound) (peers : List Peer) (p : Peer) (n : ℕ) (lists rest : List (List Line)) (lines bound : List Line) → map actor_of peers ≡ map (first_actor b) (upto n)
-    → b.script.peers ≡ lists → rest ≡ drop n lists → lines ≡ get_or rest 0 [] → bound ≡ map (bind_line b) lines → actor_of p ≡ newly b.script.conf bound
-    → map actor_of (peers ++ p ∷ []) ≡ map (first_actor b) (upto (n + 1))
-more_actors b peers p n lists rest lines bound are whole left first binds actor =
+pub more_actors : {X : Type 0} (of : X → List Line) (conf : Conf) (peers : List Peer) (p : Peer) (n : ℕ) (lists rest : List X) (lines : List Line) → map actor_of peers ≡ map (first_actor conf (map of lists)) (upto n)
+    → rest ≡ drop n lists → lines ≡ get_or (map of rest) 0 [] → actor_of p ≡ newly conf lines → map actor_of (peers ++ p ∷ []) ≡ map (first_actor conf (map of lists)) (upto (n + 1))
+more_actors of conf peers p n lists rest lines are left first actor =
     let none : n + 0 ≡ n = omega arith in
-    let place : get_or (drop n lists) 0 [] ≡ get_or b.script.peers n [] = get_or-drop n lists 0 [] ∙ ap (λ k. get_or lists k []) none ∙ ap (λ xs. get_or xs n []) (sym whole) in
-    let own : bound ≡ lines_of b n = binds ∙ ap (map (bind_line b)) (first ∙ ap (λ xs. get_or xs 0 []) left ∙ place) in
-    let is : actor_of p ≡ first_actor b n = actor ∙ ap (newly b.script.conf) own in
+    let place : get_or (map of rest) 0 [] ≡ get_or (map of lists) n [] =
+    ap (λ xs. get_or (map of xs) 0 []) left ∙ ap (λ xs. get_or xs 0 []) (sym (drop-map of n lists)) ∙ get_or-drop n (map of lists) 0 [] ∙ ap (λ k. get_or (map of lists) k []) none in
+    let is : actor_of p ≡ first_actor conf (map of lists) n = actor ∙ ap (newly conf) (first ∙ place) in
     let one : n + 1 ≡ suc n = omega arith in
     let next : upto (n + 1) ≡ upto n ++ n ∷ [] = ap upto one in
-    map-append actor_of peers (p ∷ []) ∙ ap (λ xs. xs ++ actor_of p ∷ []) are ∙ ap (λ x. map (first_actor b) (upto n) ++ x ∷ []) is
-    ∙ sym (map-append (first_actor b) (upto n) (n ∷ [])) ∙ ap (map (first_actor b)) (sym next)
+    map-append actor_of peers (p ∷ []) ∙ ap (λ xs. xs ++ actor_of p ∷ []) are ∙ ap (λ x. map (first_actor conf (map of lists)) (upto n) ++ x ∷ []) is
+    ∙ sym (map-append (first_actor conf (map of lists)) (upto n) (n ∷ [])) ∙ ap (map (first_actor conf (map of lists))) (sym next)
 
 pub more_ports : (m n : ℕ) (ports : List Plain) (p : Plain) → ports ≡ map (port_of m) (upto n) → p ≡ port_of m n → ports ++ p ∷ [] ≡ map (port_of m) (upto (n + 1))
 more_ports m n ports p are is =
@@ -184,11 +198,55 @@ drop_more n xs rest next e f =
     let one : suc n ≡ n + 1 = omega arith in
     f ∙ ap (drop 1) e ∙ drop_one n xs ∙ ap (λ m. drop m xs) one
 
--- at the opening no step is taken
-pub opened : (b : Bound) (f : Fabric) → Opens b f → Reached (rule fabric) (opening b) (schedules f) (actors f)
-opened b f opens =
+-- the start, where the lines of each peer are known by its number
+pub opened_is : (conf : Conf) (lists : List (List Line)) (lines : ℕ → List Line) → ((p : ℕ) → p < conf.peers → slice_index_or lists p [] ≡ lines p) → opened conf lists ≡ map (λ p. newly conf (lines p)) (upto conf.peers)
+opened_is conf lists lines each = below conf.peers each
+  where
+    below : (n : ℕ) → ((p : ℕ) → p < n → slice_index_or lists p [] ≡ lines p) → map (first_actor conf lists) (upto n) ≡ map (λ p. newly conf (lines p)) (upto n)
+    below zero each = refl
+    below (suc n) each =
+        map-append (first_actor conf lists) (upto n) (n ∷ []) ∙ ap (λ xs. xs ++ first_actor conf lists n ∷ []) (below n (λ p lt. each p (omega (arith, lt))))
+        ∙ ap (λ own. map (λ p. newly conf (lines p)) (upto n) ++ newly conf own ∷ []) (each n (omega arith)) ∙ sym (map-append (λ p. newly conf (lines p)) (upto n) (n ∷ []))
+
+-- at the start no step is taken
+pub start_reached : (conf : Conf) (lists : List (List Line)) (f : Fabric) → Opens conf lists f → Reached (rule fabric) (opened conf lists) (schedules f) (actors f)
+start_reached conf lists f opens =
     let none : AreSteps (schedules f) [] = subst (λ (x : List (List Step)). AreSteps x []) (sym opens.schedules_are) (none_taken (length f.peers.items)) in
-    subst (λ (x : List Actor). Reached (rule fabric) (opening b) (schedules f) x) (sym opens.actors_are) (reached_opening (opening b) (schedules f) none)
+    subst (λ (x : List Actor). Reached (rule fabric) (opened conf lists) (schedules f) x) (sym opens.actors_are) (reached_opening (opened conf lists) (schedules f) none)
+
+-- ---- what is reached from there
+
+-- the peer that stands at a place at the start
+pub starts_at : (conf : Conf) (lists : List (List Line)) (p : ℕ) (a : Actor) → slice_get (opened conf lists) p ≡ Some a → (q : ℕ) × (a ≡ first_actor conf lists q)
+starts_at conf lists p a has = mapped (first_actor conf lists) (upto conf.peers) p a has
+  where
+    mapped : {X Y : Type 0} (f : X → Y) (xs : List X) (k : ℕ) (y : Y) → slice_get (map f xs) k ≡ Some y → (x : X) × (y ≡ f x)
+    mapped f [] k y e = absurd (cc e)
+    mapped f (x ∷ xs) zero y e = (x, cc e)
+    mapped f (x ∷ xs) (suc k) y e = mapped f xs k y e
+
+start_sound : (conf : Conf) (lists : List (List Line)) → Sound fabric conf.peers (Own conf.peers) (opened conf lists)
+start_sound conf lists =
+    let n = conf.peers in
+    record {
+      count = length-map (upto n) (first_actor conf lists) ∙ length-upto n;
+      own = λ p a has. rw ((starts_at conf lists p a has).1) (record {
+        count = omega (arith, long {X = List Item} n []);
+        whole = λ source. omega (arith, same_at {X = ℕ} n source 0);
+        sent = λ t. omega (arith, same_at {X = ℕ} n t 0);
+      });
+    }
+
+-- what a peer did in a view that shows no more than the states that are reached, final cancels too, it can do in these states
+pub start_walk_leads :
+    (conf : Conf) (lists : List (List Line)) (schedule : List (List Step)) (steps : List Step) (states : List Actor) (p : ℕ) (v : View Item) (a last : Actor) → Reached (rule fabric) (opened conf lists) schedule states
+    → slice_get states p ≡ Some a → More v (seen fabric states p) → Walk fabric v a steps last → Leads (rule fabric) states (by p steps) (slice_set states p last)
+start_walk_leads conf lists schedule steps states p v a last reached has more walk =
+    let n = conf.peers in
+    let sound = orders.leads_sound (rule fabric) (Sound fabric n (Own n)) (views.commutes fabric n (Own n) (fabric_patient n)) reached.0 (opened conf lists) states (start_sound conf lists) reached.1 in
+    views.sound_walk_leads fabric n (Own n) (fabric_patient n) steps states p v a last sound has more walk
+
+-- ---- an endpoint at its start
 
 past_end : {X : Type 0} (xs : List X) (k : ℕ) (d : X) → length xs ≤ k → get_or xs k d ≡ d
 past_end [] k d l = refl

@@ -27,7 +27,7 @@ use Rattle.fab_peer.specs.Moves.{frame_of, IsFrame, IsBetween, AreFrames, IsTied
 use Rattle.fab_peer.specs.Work.{held_work, state_work, port_work, uncarried}
 use Rattle.fab_peer.proofs.Going.{tied_passes}
 use Rattle.fab_peer.proofs.Sums.{sum_more}
-use Rattle.fab_peer.proofs.Working.{untaken_same, sent_work}
+use Rattle.fab_peer.proofs.Working.{untaken_same, sent_accepted, sent_work}
 use Rattle.fab_peer.proofs.Halves.{at_end}
 
 -- ---- the port
@@ -123,6 +123,7 @@ module _ (e e' : Held) (p q : Plain) (dest : ℕ) (item : Item) (tied : IsTied e
         let room : fits (do_sent e.state dest).cq ≡ true = subst (λ (x : State). fits x.cq ≡ true) state transmits.1 in
         (with_state a (do_sent e.state dest), stands a room, ap (λ (x : State). with_state a x) (sym state));
     ported = posted_ported p q dest (frame_of item) posted;
+    accepted = ap (λ (h : Held). h.state.tx.accepted) transmits.0 ∙ sent_accepted e.state dest;
     spends = (let less = posts_work in omega (arith, less));
   }
 

@@ -3,10 +3,10 @@ use Rattle.std.proofs.Common.{◌≡◌, ◌<◌, Bool, true, false, length, ref
 use Rattle.std.specs.Prelude.{slice_index}
 use Rattle.std.proofs.lemmas.Bool.Decides.{nat_tests}
 use Rattle.fab_link.specs.Plain.{Plain, PlainHome, home_of}
-use Rattle.fab_model.specs.State.{Completions, accepted_for}
+use Rattle.fab_model.specs.State.{Completions}
 use Rattle.fab_model.specs.Peers.{Actor}
 use Rattle.fab_model.specs.Receiving.{draw_due}
-use Rattle.fab_peer.specs.Endpoints.{Held, has_room}
+use Rattle.fab_peer.specs.Endpoints.{Held, NoneGoes, has_room}
 use Rattle.fab_peer.specs.Moves.{StaysMoved}
 use Rattle.fab_peer.specs.Turns.{actor_of, IsRead, IsHeld, Stays, IsStill, came_to}
 use Rattle.fab_peer.specs.declared.peer.Peer.{Peer}
@@ -31,7 +31,7 @@ module _ (r l f : Peer) (e : Held) (p q : Plain) (read : IsRead r) (stays : Stay
         read = read_f;
         held = subst (λ (a : Actor). IsHeld a) (sym same_as_read) stays.held;
         draws = draws;
-        sent = λ peer. subst (λ (a : Actor). slice_index a.state.tx.sent peer ≡ length (accepted_for a.state.tx peer)) (sym after_moves) ((moved.moved room peer).sent);
+        sent = λ peer. subst (λ (a : Actor). NoneGoes a.state.tx peer) (sym after_moves) ((moved.moved room peer).sent);
         whole = λ peer. subst (λ (a : Actor). slice_index a.state.rx.tails peer ≡ length (came_to q peer)) (sym after_moves)
             ((moved.moved room peer).whole ∙ sym (ap (λ (h : PlainHome). length (h.in_lists peer)) home));
       }

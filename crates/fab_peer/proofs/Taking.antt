@@ -170,6 +170,7 @@ module _ (e e' : Held) (p q : Plain) (source : ℕ) (f : Frame) (tied : IsTied e
         subst (λ (x : State). Walk fabric v (with_state a e.state) (Head source ∷ Tail source ∷ []) (with_state a x)) (sym state)
         (walk_arrives a e.state source f.head.item f.bytes v shown.0 next is_frame.carried.message arrives.1 arrives.2 known room);
     ported = took_ported p q source f took;
+    accepted = ap (λ t. t.accepted) tx;
     spends = (let less = takes_work in omega (arith, less));
   }
 

@@ -69,6 +69,15 @@ end_writes o s = by_silent o.silent refl
     by_silent true e = rw (e, end_with) (refl, writes_none s.cq s.cq refl)
     by_silent false e = rw (e, end_with) (refl, writes_one s.cq _ (Some o.call) (Success (success_of o [])) refl)
 
+-- a send accepts nothing
+pub sent_accepted : (s : State) (to : ℕ) → (do_sent s to).tx.accepted ≡ s.tx.accepted
+unfolding do_sent transmitting
+sent_accepted s to = by_end (ending to s.tx) refl
+  where
+    by_end : (o : Option Operation) → ending to s.tx ≡ o → (do_sent s to).tx.accepted ≡ s.tx.accepted
+    by_end None e = rw (e, do_sent) refl
+    by_end (Some o) e = rw (e, do_sent) (ap (λ (tx : Transmitting). tx.accepted) (end_writes o (with_tx (transmitting to s.tx) s)).0)
+
 -- what is left once an item is sent
 pub sent_work : (s : State) (to : ℕ) → to < length s.tx.accepted → length s.tx.sent ≡ length s.tx.accepted → slice_index s.tx.sent to < length (accepted_for s.tx to)
     → state_work (do_sent s to) + 4 ≤ state_work s

@@ -55,11 +55,18 @@ pub record IsCarried (head : ItemHead) (len : ℕ) : Type 0 where
   pub total : len ≡ head.total
   pub short : len ≤ 4096
 
--- of each peer no more items are sent than were accepted, and each goes in one frame
+-- of each peer no more items are sent than were accepted
 pub record IsOutbox (accepted : List (List Item)) (sent : List ℕ) : Type 0 where
   pub count : length sent ≡ length accepted
   pub within : (d : ℕ) → slice_index sent d ≤ length (slice_index_or accepted d [])
-  pub carried : (d k : ℕ) (item : Item) → slice_get (slice_index_or accepted d []) k ≡ Some item → IsCarried item.head (length item.bytes)
+
+-- every item accepted for any peer goes in one frame
+abbrev pub AreCarried : List (List Item) → Type 0
+AreCarried accepted = (d k : ℕ) (item : Item) → slice_get (slice_index_or accepted d []) k ≡ Some item → IsCarried item.head (length item.bytes)
+
+-- no item is next for the peer, or one that does not go in one frame
+abbrev pub NoneGoes : Transmitting → ℕ → Type 0
+NoneGoes tx peer = (item : Item) → slice_get (accepted_for tx peer) (slice_index tx.sent peer) ≡ Some item → IsCarried item.head (length item.bytes) → ⊥
 
 -- ---- the receiving half
 

@@ -1,26 +1,29 @@
 -- All peers with their ports: what is on its way between them is what was transmitted and not yet taken.
 --     IsJoined f        the ports belong to the peers, and each lane brings what its sender posted
---     Opens b f         the peers stand at the opening of the script
+--     opened conf lists each peer at the start of its lines
+--     Opens conf lists f     the peers stand there
 --     GoesOn f g        what led to the one leads to the other
 --     AreStill f        no peer can do anything, and nothing is left to be carried
 --     work f            the work that is left of all peers and their ports
 --     Rest all          the peers are at rest, as `at_rest` tests it
-use Rattle.std.specs.Prelude.{◌≡◌, ◌<◌, ℕ, ◌+◌, true, false, List, [], map, length, replicate, None, Some, slice_get, slice_index}
+use Rattle.std.specs.Prelude.{◌≡◌, ◌<◌, ℕ, ◌+◌, true, false, List, [], map, length, replicate, None, Some, slice_get, slice_index, slice_index_or}
 use Rattle.std.specs.List.{sum_by}
 use Rattle.fab_base.specs.Built.{all_built}
 use Rattle.fab_base.specs.declared.frames.Frame.{Frame}
 use Rattle.fab_base.specs.declared.peers.Step.{Step}
-use Rattle.fab_base.specs.declared.script.Bound.{Bound}
+use Rattle.fab_base.specs.declared.script.Conf.{Conf}
+use Rattle.fab_base.specs.declared.script.Line.{Line}
 use Rattle.fab_link.specs.Plain.{Plain, left}
 use Rattle.fab_link.specs.Carry.{lane_of, pipe, AreAll}
 use Rattle.fab_model.specs.Orders.{Reached}
 use Rattle.fab_model.specs.Peers.{Actor, Facts, facts, fabric}
 use Rattle.fab_model.specs.Receiving.{draw_due}
-use Rattle.fab_model.specs.Replay.{opening, can_do}
+use Rattle.fab_model.specs.Calls.{upto}
+use Rattle.fab_model.specs.Replay.{newly, can_do}
 use Rattle.fab_model.specs.State.{accepted_for}
 use Rattle.fab_model.specs.Views.{rule}
 use Rattle.fab_peer.specs.Moves.{IsTied}
-use Rattle.fab_peer.specs.Turns.{actor_of, schedule_of, IsStill}
+use Rattle.fab_peer.specs.Turns.{actor_of, schedule_of, Carries, IsStill}
 use Rattle.fab_peer.specs.Work.{actor_work, port_work}
 use Rattle.fab_peer.specs.declared.fabric.Fabric.{Fabric}
 use Rattle.fab_peer.specs.declared.peer.Peer.{Peer}
@@ -39,10 +42,15 @@ pub record IsJoined (f : Fabric) : Type 0 where
   pub lanes : (s r : ℕ) → pipe f.ports.items s r ≡ (lane_of f.ports.items s r).out.frames
   pub fresh_out : (s r : ℕ) → (lane_of f.ports.items s r).out.after ≡ None
   pub fresh_in : (s r : ℕ) → (lane_of f.ports.items r s).in_after ≡ None
+  pub carries : (k : ℕ) (a : Actor) → slice_get (actors f) k ≡ Some a → Carries a
 
-pub record Opens (b : Bound) (f : Fabric) : Type 0 where
+-- each peer at the start of its lines; a peer without a list has none
+abbrev pub opened : Conf → List (List Line) → List Actor
+opened conf lists = map (λ p. newly conf (slice_index_or lists p [])) (upto conf.peers)
+
+pub record Opens (conf : Conf) (lists : List (List Line)) (f : Fabric) : Type 0 where
   pub joined : IsJoined f
-  pub actors_are : actors f ≡ opening b
+  pub actors_are : actors f ≡ opened conf lists
   pub schedules_are : schedules f ≡ replicate (length f.peers.items) []
 
 abbrev pub GoesOn : Fabric → Fabric → Type 0
@@ -52,9 +60,10 @@ GoesOn f g = (first : List Actor) → Reached (rule fabric) first (schedules f) 
 abbrev pub all_facts : Fabric → List Facts
 all_facts f = map facts (actors f)
 
--- what led from a script's opening to the one leads to the other
+-- what led from the start of some lines to the one leads to the other
 abbrev pub Ends : Fabric → Fabric → Type 0
-Ends f g = (b : Bound) → Reached (rule fabric) (opening b) (schedules f) (actors f) → Reached (rule fabric) (opening b) (schedules g) (actors g)
+Ends f g =
+    (conf : Conf) (lists : List (List Line)) → Reached (rule fabric) (opened conf lists) (schedules f) (actors f) → Reached (rule fabric) (opened conf lists) (schedules g) (actors g)
 
 -- the work that is left
 abbrev pub work : Fabric → ℕ
@@ -63,9 +72,9 @@ work f = sum_by (λ a. actor_work (actor_of a)) f.peers.items + sum_by port_work
 -- ---- at rest
 
 -- every line is one that the program carries out, and completions have room
-pub record CanRun (b : Bound) : Type 0 where
-  pub lines : all_built b.script.peers ≡ true
-  pub sized : 0 < b.script.conf.info.cq
+pub record CanRun (conf : Conf) (lists : List (List Line)) : Type 0 where
+  pub lines : all_built lists ≡ true
+  pub sized : 0 < conf.info.cq
 
 -- what came to a peer of each other
 abbrev pub came : Fabric → ℕ → ℕ → List Frame

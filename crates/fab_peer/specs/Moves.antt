@@ -15,7 +15,7 @@ use Rattle.fab_link.specs.Plain.{Plain, lane_at, left, out_of, in_of, home_of}
 use Rattle.fab_model.specs.State.{State, accepted_for}
 use Rattle.fab_model.specs.Peers.{Actor, fabric, with_state}
 use Rattle.fab_model.specs.Views.{View, Walk, IsPrefixOf}
-use Rattle.fab_peer.specs.Endpoints.{Held, IsCarried, has_room}
+use Rattle.fab_peer.specs.Endpoints.{Held, IsCarried, NoneGoes, has_room}
 use Rattle.fab_peer.specs.Work.{held_work}
 
 abbrev pub frame_of : Item → Frame
@@ -66,19 +66,20 @@ pub record Ported (p q : Plain) : Type 0 where
   pub before : (d : ℕ) → (out_of q d).after ≡ (out_of p d).after
   pub posted : (d : ℕ) → (more : List Frame) × ((out_of q d).frames ≡ (out_of p d).frames ++ more) × (left (lane_at q d) ≡ left (lane_at p d) ++ more)
 
--- the steps logged lead from the old state to the new one, wherever the frames taken are shown, and leave no more work
+-- the steps logged lead from the old state to the new one, wherever the frames taken are shown. They accept nothing, and leave no more work
 pub record Went (e : Held) (p : Plain) (e' : Held) (q : Plain) : Type 0 where
   pub steps : List Step
   pub log : e'.log ≡ e.log ++ steps
   pub walk : (a : Actor) (v : View Item) → Shows (taken_of q) v → Walk fabric v (with_state a e.state) steps (with_state a e'.state)
   pub ported : Ported p q
+  pub accepted : e'.state.tx.accepted ≡ e.state.tx.accepted
   pub spends : held_work e'.state q ≤ held_work e.state p
 
 -- ---- nothing left to move
 
--- everything accepted for the peer is transmitted, and everything that came from it is taken
+-- nothing that goes in one frame is next for the peer, and everything that came from it is taken
 pub record IsMoved (s : State) (p : Plain) (peer : ℕ) : Type 0 where
-  pub sent : slice_index s.tx.sent peer ≡ length (accepted_for s.tx peer)
+  pub sent : NoneGoes s.tx peer
   pub whole : slice_index s.rx.tails peer ≡ length (lane_at p peer).in_list
 
 -- nothing changed; and where a completion has room, nothing is left to move

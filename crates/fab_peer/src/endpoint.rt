@@ -9,7 +9,7 @@ ghost use Rattle.fab_model.specs.Replay.{fresh};
 ghost use Rattle.fab_model.specs.State.{lookup, counting};
 ghost use Rattle.fab_base.specs.declared.entries.Class.{Class};
 ghost use Rattle.fab_model.specs.Matching.{is_message, is_tagged};
-ghost use Rattle.fab_peer.specs.Endpoints.{Held, has_room, IsSingle, IsCarried, accepted_call, queued, delivered, arrived, ended, logged, ReadsHeld};
+ghost use Rattle.fab_peer.specs.Endpoints.{Held, has_room, IsSingle, accepted_call, queued, delivered, arrived, ended, logged, ReadsHeld};
 
 mod calls;
 mod finals;
@@ -177,7 +177,6 @@ impl Endpoint {
     ) -> Result<(), NoMemory>
         requires below { to < length self.old.state.tx.accepted }
         requires few { self.old.state.tx.ops + 1 < 2 ^ 64 }
-        requires carried { IsCarried head (length bytes) }
         ensures { OnOk result (self.new ≡ queued to head bytes ctx level completion self.old) }
     {
         let operation = Operation {

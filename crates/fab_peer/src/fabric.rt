@@ -1,19 +1,17 @@
 //! All peers of a script, over plain ports: they take turns, and what they posted is carried after each round.
 ghost use Rattle.std.specs.Prelude.{◌≡◌, ◌<◌, ◌≤◌, drop, length, slice_index_or, [], IfOk, OnOk, map};
-ghost use Rattle.fab_base.specs.declared.script.Bound.{Bound};
 ghost use Rattle.fab_model.specs.Orders.{Reached};
 ghost use Rattle.std.specs.Prelude.{◌&&◌, not, true, false, Ok};
 ghost use Rattle.std.specs.List.{list_all};
 ghost use Rattle.fab_model.specs.Peers.{fabric, is_finished, has_all, all_below, is_calm};
 ghost use Rattle.fab_model.specs.Receiving.{draw_due};
 ghost use Rattle.fab_model.specs.Views.{rule};
-ghost use Rattle.fab_model.specs.Replay.{opening, at_rest, all_done};
+ghost use Rattle.fab_model.specs.Replay.{at_rest, all_done};
 ghost use Rattle.fab_peer.specs.Turns.{actor_of, schedule_of};
-ghost use Rattle.fab_peer.specs.Joined.{IsJoined, Opens, GoesOn, Ends, CanRun, IsStillAt, Unmoved, AreStill, Rest, AreSized, AreCleared, actors, all_facts, work};
+ghost use Rattle.fab_peer.specs.Joined.{IsJoined, opened, Opens, GoesOn, Ends, CanRun, IsStillAt, Unmoved, AreStill, Rest, AreSized, AreCleared, actors, all_facts, work};
 
-use crate::binding::bind_lines;
 use crate::peer::Peer;
-use fab_base::{Bound, Buf, Conf, Line, List, NoMemory, Payload, Script};
+use fab_base::{Conf, Line, NoMemory};
 use fab_link::PlainPort;
 use fab_link::carry::carry;
 use std::alloc::Global;
@@ -27,33 +25,25 @@ struct Fabric {
 }
 
 /// Takes the first list, or an empty one where there is none.
-fn take_first(alloc: Global, lists: &mut Vec<List<Line>>) -> Vec<Line>
-    ensures first { result.items ≡ slice_index_or lists.old.items 0 [] }
+fn take_first(alloc: Global, lists: &mut Vec<Vec<Line>>) -> Vec<Line>
+    ensures first { result.items ≡ slice_index_or (map (λ l. l.items) lists.old.items) 0 [] }
     ensures rest { lists.new.items ≡ drop 1 lists.old.items }
 {
     if lists.is_empty() {
         return Vec::new(alloc);
     }
-    lists.remove(0).into_vec()
+    lists.remove(0)
 }
 
 impl Fabric {
     /// All peers at the start of their lines.
-    fn open(
-        alloc: Global,
-        conf: &Conf,
-        payloads: &[Payload],
-        files: &[Buf],
-        mut lists: Vec<List<Line>>,
-    ) -> Result<Fabric, NoMemory>
-        ensures { (b : Bound) → b.script.conf ≡ conf.now → b.script.payloads ≡ payloads.now → b.script.peers ≡ lists.items → b.files ≡ files.now
-            → IfOk result (Opens b) }
+    fn open(alloc: Global, conf: &Conf, mut lists: Vec<Vec<Line>>) -> Result<Fabric, NoMemory>
+        ensures { IfOk result (Opens conf.now (map (λ l. l.items) lists.items)) }
     {
         let mut peers = Vec::new(alloc);
         let mut ports = Vec::new(alloc);
         for number in 0..conf.peers {
             let lines = take_first(alloc, &mut lists);
-            let lines = bind_lines(alloc, payloads, files, lines)?;
             peers.push(Peer::new(alloc, conf, lines)?)?;
             ports.push(PlainPort::new(alloc, number, conf.peers)?)?;
         }
@@ -174,26 +164,19 @@ impl Fabric {
     }
 }
 
-/// Runs all peers of a script until none can go on, and hands them back: some order of turns took the
-/// steps of their schedules from the script's opening to their states. Where all lines are done, each
+/// Runs peers that do these lists of lines until none can go on, and hands them back: some order of
+/// turns took the steps of their schedules from the start of their lines to their states. The peers
+/// have the lists in their order; a peer without a list has no lines. Where all lines are done, each
 /// peer then cancelled the receives that were still posted (fi_cancel of fi_endpoint(3)).
 ///
-/// Where all lines of the script are ones that the program carries out, the peers are at rest then:
-/// nothing is on its way, no completion is unread, and no line can be done.
-pub fn run_peers(alloc: Global, bound: Bound) -> Result<Vec<Peer>, NoMemory>
-    ensures reached { IfOk result (λ peers. Reached (rule fabric) (opening bound) (map schedule_of peers.items) (map actor_of peers.items)) }
-    ensures rest { CanRun bound → IfOk result (λ peers. at_rest (map actor_of peers.items) ≡ true) }
-    ensures cleared { CanRun bound → IfOk result (λ peers. all_done (map actor_of peers.items) ≡ true → AreCleared (map actor_of peers.items)) }
+/// Where all lines are ones that the program carries out, the peers are at rest then: nothing is on its
+/// way, no completion is unread, and no line can be done.
+pub fn run_peers(alloc: Global, conf: &Conf, lists: Vec<Vec<Line>>) -> Result<Vec<Peer>, NoMemory>
+    ensures reached { IfOk result (λ peers. Reached (rule fabric) (opened conf.now (map (λ l. l.items) lists.items)) (map schedule_of peers.items) (map actor_of peers.items)) }
+    ensures rest { CanRun conf.now (map (λ l. l.items) lists.items) → IfOk result (λ peers. at_rest (map actor_of peers.items) ≡ true) }
+    ensures cleared { CanRun conf.now (map (λ l. l.items) lists.items) → IfOk result (λ peers. all_done (map actor_of peers.items) ≡ true → AreCleared (map actor_of peers.items)) }
 {
-    let Bound { script, files } = bound;
-    let Script {
-        conf,
-        payloads,
-        peers,
-        ..
-    } = script;
-    let lists = peers.into_vec();
-    let mut fabric = Fabric::open(alloc, &conf, payloads.as_slice(), files.as_slice(), lists)?;
+    let mut fabric = Fabric::open(alloc, conf, lists)?;
     fabric.finish()?;
     fabric.cancel_posted()?;
     Ok(fabric.peers)

@@ -1,7 +1,6 @@
 //! Peers: each does the lines of its part of a script over an endpoint, and keeps its schedule.
 #![tactic(auto)]
 
-mod binding;
 mod completions;
 mod endpoint;
 mod entries;

@@ -1,13 +1,12 @@
 //! Frames between an endpoint and its port.
 ghost use Rattle.std.specs.Prelude.{◌≡◌, ◌<◌, length, slice_index, true, false, Ok, IfOk, OnOk};
 ghost use Rattle.fab_link.specs.Plain.{lane_at};
-ghost use Rattle.fab_model.specs.State.{accepted_for};
-ghost use Rattle.fab_peer.specs.Endpoints.{has_room};
+ghost use Rattle.fab_peer.specs.Endpoints.{has_room, IsCarried, NoneGoes};
 ghost use Rattle.fab_peer.specs.Moves.{IsTied, Went, IsMoved, StaysMoved};
 ghost use Rattle.fab_peer.specs.Work.{held_work};
 
 use crate::endpoint::Endpoint;
-use fab_base::{FrameHead, NoMemory};
+use fab_base::{Ack, FrameHead, Item, Kind, NoMemory};
 use fab_link::{PlainPort, Port, PostRefused};
 
 /// Takes the next frame of a peer. False where none came that is not taken, or its completion has no
@@ -31,8 +30,27 @@ fn take_one(endpoint: &mut Endpoint, port: &mut PlainPort, source: u32) -> Resul
     Ok(true)
 }
 
-/// Posts the next item for a peer. False where none waits, or its completion has no room; then nothing
-/// changes.
+/// Whether the item is a message that goes in one frame and asks for no reply.
+fn goes_in_one(item: &Item) -> bool
+    ensures carried { result ≡ true → IsCarried item.now.head (length item.now.bytes) }
+    ensures all { IsCarried item.now.head (length item.now.bytes) → result ≡ true }
+{
+    let head = &item.head;
+    let is_message = match head.kind {
+        Kind::Msg | Kind::TagMsg => true,
+        _ => false,
+    };
+    let asks_for_none = match head.ack {
+        Ack::Nothing => true,
+        Ack::Delivery | Ack::Match => false,
+    };
+    let len = item.bytes.as_slice().len();
+    let is_whole = len == head.total as usize && len <= 4096;
+    is_message && asks_for_none && head.atom.is_none() && is_whole
+}
+
+/// Posts the next item for a peer. False where none waits, it does not go in one frame, or its
+/// completion has no room; then nothing changes.
 fn post_one(endpoint: &mut Endpoint, port: &mut PlainPort, dest: u32) -> Result<bool, NoMemory>
     requires below { dest < length port.old.lanes }
     requires tied { IsTied endpoint.old.state port.old }
@@ -40,7 +58,7 @@ fn post_one(endpoint: &mut Endpoint, port: &mut PlainPort, dest: u32) -> Result<
     ensures went { OnOk result (Went endpoint.old port.old endpoint.new port.new) }
     ensures falls { result ≡ Ok true → held_work endpoint.new.state port.new < held_work endpoint.old.state port.old }
     ensures still { result ≡ Ok false → (endpoint.new ≡ endpoint.old)
-        × (has_room endpoint.old.state.cq ≡ true → slice_index endpoint.old.state.tx.sent dest ≡ length (accepted_for endpoint.old.state.tx dest)) }
+        × (has_room endpoint.old.state.cq ≡ true → NoneGoes endpoint.old.state.tx dest) }
 {
     if !endpoint.has_room() {
         return Ok(false);
@@ -48,6 +66,9 @@ fn post_one(endpoint: &mut Endpoint, port: &mut PlainPort, dest: u32) -> Result<
     let Some(item) = endpoint.next(dest) else {
         return Ok(false);
     };
+    if !goes_in_one(item) {
+        return Ok(false);
+    }
     let head = FrameHead {
         item: item.head,
         from: 0,
@@ -63,7 +84,8 @@ fn post_one(endpoint: &mut Endpoint, port: &mut PlainPort, dest: u32) -> Result<
 }
 
 /// Posts the next item for a peer and takes its next frame, where that may be. How many frames moved:
-/// none only where nothing is left to move, or no completion has room.
+/// none only where nothing is left to move, the next item does not go in one frame, or no completion
+/// has room.
 fn move_one(endpoint: &mut Endpoint, port: &mut PlainPort, peer: u32) -> Result<u32, NoMemory>
     requires below { peer < length port.old.lanes }
     requires tied { IsTied endpoint.old.state port.old }
@@ -101,7 +123,8 @@ fn turn(endpoint: &mut Endpoint, port: &mut PlainPort, left: &mut u32) -> Result
 }
 
 /// Posts and takes frames in turns, until a turn moves nothing or about `budget` frames have moved.
-/// Whether anything moved: if not, nothing is left to move, or no completion has room.
+/// Whether anything moved: if not, nothing is left to move but items behind one that does not go in one
+/// frame, or no completion has room.
 pub fn progress(
     endpoint: &mut Endpoint,
     port: &mut PlainPort,

@@ -1,9 +1,5 @@
 //! A peer: the lines of its part of a script, done in order over an endpoint.
-ghost use Rattle.std.specs.Prelude.{◌≡◌, ◌≤◌, ◌<◌, Some, None, Ok, IfOk, OnOk, find, position, [], true, false};
-ghost use Rattle.fab_base.specs.Built.{is_at_transmit};
-ghost use Rattle.fab_base.specs.declared.items.Ack.TheVariants.{Nothing};
-ghost use Rattle.fab_base.specs.declared.items.Kind.TheVariants.{TagMsg};
-ghost use Rattle.fab_model.specs.Sending.{ack_of};
+ghost use Rattle.std.specs.Prelude.{◌≡◌, ◌<◌, Some, None, Ok, IfOk, OnOk, find, position, [], true, false};
 ghost use Rattle.fab_base.specs.declared.script.LineOp.TheVariants.{Wait, TRecv};
 ghost use Rattle.fab_model.specs.Matching.{remove_first};
 ghost use Rattle.fab_model.specs.Calls.{word_bytes};
@@ -93,19 +89,6 @@ fn word_bytes(alloc: Global, word: &BytesWord) -> Result<Buf, NoMemory>
         BytesWord::Zero(n) => Buf::zeros(alloc, *n),
         BytesWord::File { .. } => Ok(Buf::empty(alloc)),
     }
-}
-
-/// Whether a message of these bytes goes in one frame and completes when it is transmitted.
-fn goes_in_one(level: Level, bytes: &Buf) -> bool
-    ensures short { result ≡ true → length bytes.now ≤ 4096 }
-    ensures silent { result ≡ true → ack_of TagMsg level ≡ Nothing }
-    ensures built { length bytes.now ≤ 4096 → is_at_transmit level ≡ true → result ≡ true }
-{
-    let is_early = match level {
-        Level::Inject | Level::Transmit => true,
-        Level::Delivery | Level::Match => false,
-    };
-    is_early && bytes.as_slice().len() <= 4096
 }
 
 impl Peer {
@@ -202,8 +185,6 @@ impl Peer {
         completion: bool,
     ) -> Result<bool, NoMemory>
         requires next { SendsNext ctx dest tag bytes imm level completion self.old }
-        requires short { length bytes ≤ 4096 }
-        requires silent { ack_of TagMsg level ≡ Nothing }
         ensures does { OnOk result (Does self.old self.new) }
         ensures falls { result ≡ Ok true → actor_work (actor_of self.new) < actor_work (actor_of self.old) }
         ensures still { result ≡ Ok false → Waits self.old self.new }
@@ -226,11 +207,8 @@ impl Peer {
         let Some(line) = self.lines.get(self.results.len()) else {
             return Ok(false);
         };
-        match &line.op {
-            LineOp::Wait { ctx } => {
-                let ctx = *ctx;
-                self.wait(ctx)
-            }
+        match line.op {
+            LineOp::Wait { ctx } => self.wait(ctx),
             LineOp::TRecv {
                 ctx,
                 source,
@@ -241,24 +219,18 @@ impl Peer {
                 if source.is_some() {
                     return Ok(false);
                 }
-                let (ctx, tag, ignore, len) = (*ctx, *tag, *ignore, *len);
                 self.trecv(ctx, tag, ignore, len)
             }
             LineOp::TSend {
                 ctx,
                 dest,
                 tag,
-                bytes,
+                ref bytes,
                 imm,
                 level,
                 completion,
             } => {
                 let bytes = word_bytes(self.alloc, bytes)?;
-                let (ctx, dest, tag, imm) = (*ctx, *dest, *tag, *imm);
-                let (level, completion) = (*level, *completion);
-                if !goes_in_one(level, &bytes) {
-                    return Ok(false);
-                }
                 if !self.tsend(ctx, dest, tag, bytes, imm, level, completion)? {
                     return Ok(false);
                 }

@@ -3,15 +3,13 @@ ghost use Rattle.std.specs.Prelude.{count_by, find, ◌≡◌, ◌+◌, ◌<◌,
 ghost use Rattle.fab_model.specs.State.{accepted_for, in_use, awaits};
 ghost use Rattle.fab_model.specs.Matching.{is_message, remove_first};
 ghost use Rattle.fab_model.specs.Sending.{accepting, transmitting, ending, is_of_item};
-ghost use Rattle.fab_peer.specs.Endpoints.{IsCarried};
 
 use fab_base::{Ack, Item, Kind, List, NoMemory, Operation};
 use std::alloc::Global;
 use std::marker::Model;
 
 /// The transmitting half. Contracts see all items ever accepted for each peer, in order, how many of
-/// these are transmitted, the live operations, and how many transmit calls were accepted. Each item
-/// goes in one frame.
+/// these are transmitted, the live operations, and how many transmit calls were accepted.
 #[derive(Drop)]
 pub struct Outbox {
     accepted: Vec<List<Item>>,
@@ -140,7 +138,6 @@ impl Outbox {
     pub fn accept(&mut self, dest: u32, item: Item, operation: Operation) -> Result<(), NoMemory>
         requires below { dest < length self.old.accepted }
         requires counts { self.old.ops + 1 < 2 ^ 64 }
-        requires carried { IsCarried item.head (length item.bytes) }
         ensures ok { IfOk result (λ _. self.new ≡ accepting dest item operation self.old) }
         ensures err { OnErr result (self.new ≡ self.old) }
         ensures peers { length self.new.accepted ≡ length self.old.accepted }
@@ -156,7 +153,6 @@ impl Outbox {
     pub fn next(&self, dest: u32) -> Option<&Item>
         requires { dest < length self.now.accepted }
         ensures some { IfSome result (λ item. slice_get (accepted_for self.now dest) (slice_index self.now.sent dest) ≡ Some item.now) }
-        ensures carried { IfSome result (λ item. IsCarried item.now.head (length item.now.bytes)) }
         ensures none { IfNone result (slice_get (accepted_for self.now dest) (slice_index self.now.sent dest) ≡ None) }
     {
         self.accepted[dest as usize]

@@ -1,6 +1,5 @@
 //! The calls of a script's lines on an endpoint (fi_tagged(3)).
-ghost use Rattle.std.specs.Prelude.{◌≡◌, ◌<◌, ◌≤◌, ◌+◌, length, Some, IsTrue, OnOk, is_some, find};
-ghost use Rattle.fab_model.specs.Sending.{ack_of};
+ghost use Rattle.std.specs.Prelude.{◌≡◌, ◌<◌, ◌+◌, Some, IsTrue, OnOk, is_some, find};
 ghost use Rattle.fab_model.specs.Matching.{takes};
 ghost use Rattle.fab_model.specs.Calls.{message, Post};
 ghost use Rattle.fab_peer.specs.Endpoints.{Answers, any_source, IsSingle, has_room, Took};
@@ -8,11 +7,12 @@ ghost use Rattle.fab_peer.specs.Work.{line_work, state_work};
 
 use super::Endpoint;
 use crate::entries::message_head;
-use fab_base::{Ack, Arrival, Buf, Busy, Fault, Kind, Level, NoMemory, Receive, Want};
+use fab_base::{Arrival, Buf, Busy, Fault, Kind, Level, NoMemory, Receive, Want};
 
 impl Endpoint {
-    /// Sends a tagged message of one frame that asks for no reply to the peer at this index (fi_tsend).
-    /// `NoMemory` leaves the endpoint unusable, any other refusal leaves it as it was.
+    /// Sends a tagged message to the peer at this index (fi_tsend). `NoMemory` leaves the endpoint
+    /// unusable, any other refusal leaves it as it was. A message that does not go in one frame, or that
+    /// asks for a reply, is accepted and waits: this provider does not transmit it yet.
     #[tactic(auto, unfolding(fab_model::specs::Sending::transmit_fault, fab_model::specs::Calls::do_call))]
     pub fn tsend(
         &mut self,
@@ -24,8 +24,6 @@ impl Endpoint {
         level: Level,
         completion: bool,
     ) -> Result<(), Fault>
-        requires short { length bytes ≤ 4096 }
-        requires silent { ack_of Kind.TagMsg level ≡ Ack.Nothing }
         ensures answers { Answers (message Kind.TagMsg (Some ctx) dest tag bytes imm level completion) self.old self.new result }
         ensures costs { OnOk result (state_work self.new.state < state_work self.old.state + line_work) }
     {
@@ -36,6 +34,9 @@ impl Endpoint {
             return Err(Fault::NotSupported);
         }
         let len = bytes.as_slice().len();
+        if len > 16_777_216 {
+            return Err(Fault::MsgSize);
+        }
         let Some(to) = self.peer_at(dest) else {
             return Err(Fault::Invalid);
         };
@@ -57,6 +58,7 @@ impl Endpoint {
     #[tactic(auto, unfolding(fab_model::specs::Receiving::post_fault, fab_model::specs::Calls::do_call))]
     pub fn trecv(&mut self, tag: u64, ignore: u64, buf: Buf, ctx: u64) -> Result<(), Fault>
         ensures answers { Answers (Post (any_source tag ignore buf ctx)) self.old self.new result }
+        ensures tx { OnOk result (self.new.state.tx ≡ self.old.state.tx) }
         ensures costs { OnOk result (state_work self.new.state < state_work self.old.state + line_work) }
     {
         if !self.caps.recv {

@@ -61,7 +61,6 @@ impl Endpoint {
     pub fn next(&self, dest: u32) -> Option<&Item>
         requires { dest < length self.now.state.tx.accepted }
         ensures some { IfSome result (λ item. slice_get (accepted_for self.now.state.tx dest) (slice_index self.now.state.tx.sent dest) ≡ Some item.now) }
-        ensures carried { IfSome result (λ item. IsCarried item.now.head (length item.now.bytes)) }
         ensures none { IfNone result (slice_get (accepted_for self.now.state.tx dest) (slice_index self.now.state.tx.sent dest) ≡ None) }
     {
         self.tx.next(dest)

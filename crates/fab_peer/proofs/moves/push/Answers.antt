@@ -2,6 +2,9 @@ use Rattle.std.proofs.Common.{arith}
 use Rattle.fab_peer.proofs.Going.{went_same, went_then}
 use Rattle.fab_peer.proofs.moves.push.Goals as goal
 
+pub returns-then-peers-dest-clause-went : goal.returns-then-peers-dest-clause-went
+returns-then-peers-dest-clause-went c = went_same c.args.endpoint.now c.args.port.now
+
 pub loop-item-init : goal.loop-item-init
 loop-item-init c = record {
   tied = c.requires;

@@ -8,7 +8,7 @@ use Rattle.fab_base.specs.declared.peers.LineResult.TheVariants.{Refused}
 use Rattle.fab_model.specs.State.{fits, writing}
 use Rattle.fab_model.specs.Matching.{takes}
 use Rattle.fab_peer.specs.Endpoints.{IsWhole}
-use Rattle.fab_peer.proofs.Calling.{May, any_want, joins, full, takes_now, took_costs, refuses_room, none_found}
+use Rattle.fab_peer.proofs.Calling.{May, any_want, joins, full, takes_now, took_tx, took_costs, refuses_room, none_found}
 use Rattle.fab_peer.proofs.endpoint.Endpoint.trecv.Goals as goal
 
 pub returns-then-not-room-clause-answers : goal.returns-then-not-room-clause-answers
@@ -70,3 +70,6 @@ pub returns-clause-costs : goal.returns-clause-costs
 returns-clause-costs c =
     let is = c.in_ok-accepted.ensures in
     rw (← c.self.view_is) (rw is (omega arith))
+
+pub returns-then-has-clause-tx : goal.returns-then-has-clause-tx
+returns-then-has-clause-tx c = took_tx _ _ _ c.in_ok-receive_now.ensures

@@ -17,7 +17,7 @@ returns-then-not-is_calm-clause-cleared c rest some done = let calm = rest_calm 
 
 pub loop-number-init : goal.loop-number-init
 loop-number-init c = record {
-  ends = λ b reached. reached;
+  ends = λ conf lists reached. reached;
   calm = sym c.is_calm.ensures ∙ c.if-not-is_calm.false;
   count = search rules;
   cancelled = cancelled_self (actors c.args.self.now);
@@ -39,7 +39,7 @@ loop-number-preserved c =
     let here : Cancelled (actor_of a) (actor_of b) = record { facts_are = does.ended.facts_are; tx = does.ended.tx; size = does.size; read = does.read } in
     let all = actors c.args.self.now in
     record {
-      ends = λ bound reached. end_goes_on f g k a b has refl does.ended before.calm bound (before.ends bound reached);
+      ends = λ conf lists reached. end_goes_on f g k a b has refl does.ended before.calm conf lists (before.ends conf lists reached);
       calm = ap is_calm same ∙ before.calm;
       count = length-set f.peers.items k b ∙ before.count;
       cancelled = cancelled_more all f g k a b before.cancelled has refl here;

@@ -1,10 +1,10 @@
 use Rattle.std.proofs.Common.{◌≡◌, ◌≤◌, ◌∙◌, refl, rules, sym, length, None, Ok, ap, arith}
 use Rattle.std.proofs.lemmas.Bool.{ltb-true, ltb-false}
 use Rattle.std.proofs.lemmas.Option.{slice_get_past}
-use Rattle.fab_base.specs.declared.script.LineOp.TheVariants.{Wait, TRecv, TSend}
+use Rattle.fab_base.specs.declared.script.LineOp.TheVariants.{Wait, TRecv}
 use Rattle.fab_model.specs.Peers.{next_line}
 use Rattle.fab_peer.specs.Turns.{actor_of}
-use Rattle.fab_peer.proofs.Doing.{turned_then, turned_does, turned_went, does_same, stays_held, stays_other, stays_finished, stays_unbuilt, next_there, next_by, some_source, built_send}
+use Rattle.fab_peer.proofs.Doing.{turned_then, turned_does, turned_went, does_same, stays_held, stays_other, stays_finished, stays_untried, next_there, next_by, some_source}
 use Rattle.fab_peer.proofs.Calling.{none_found}
 use Rattle.fab_peer.proofs.peer.Peer.do_line.Goals as goal
 
@@ -34,7 +34,7 @@ returns-then-is_some-clause-still c e =
     let found = c.in-Some.ensures.lookup in
     let count : c.len.result ≡ length c.args.self.now.results.items = search rules in
     let next = next_there c.args.self.now c.deref.result.now c.len.result c.in-Some.line.now c.deref.ensures.value count (ltb-true _ _ (sym found.0)) found.1 in
-    stays_unbuilt c.args.self.now _ c.in-Some.line.now (TRecv c.in-TRecv.ctx c.in-TRecv.source c.in-TRecv.tag c.in-TRecv.ignore c.in-TRecv.len) next c.in-TRecv.is (some_source c.in-TRecv.source (sym c.is_some.ensures ∙ c.if-is_some.true)) refl
+    stays_untried c.args.self.now _ c.in-Some.line.now (TRecv c.in-TRecv.ctx c.in-TRecv.source c.in-TRecv.tag c.in-TRecv.ignore c.in-TRecv.len) next c.in-TRecv.is (some_source c.in-TRecv.source (sym c.is_some.ensures ∙ c.if-is_some.true)) refl
 
 pub trecv-requires : goal.trecv-requires
 trecv-requires c =
@@ -44,28 +44,12 @@ trecv-requires c =
     let none : c.in-TRecv.source ≡ None = none_found c.in-TRecv.source (sym c.is_some.ensures ∙ c.if-is_some.false) in
     next_by c.args.self.now c.in-Some.line.now (TRecv c.in-TRecv.ctx None c.in-TRecv.tag c.in-TRecv.ignore c.in-TRecv.len) next (rw (← none) c.in-TRecv.is)
 
-pub returns-then-not-goes_in_one-clause-turned : goal.returns-then-not-goes_in_one-clause-turned
-returns-then-not-goes_in_one-clause-turned c = turned_does c.args.self.now c.args.self.now c.args.port.now (does_same _ _ refl refl)
-
-pub returns-then-not-goes_in_one-clause-still : goal.returns-then-not-goes_in_one-clause-still
-returns-then-not-goes_in_one-clause-still c e =
+pub tsend-requires : goal.tsend-requires
+tsend-requires c =
     let found = c.in-Some.ensures.lookup in
     let count : c.len.result ≡ length c.args.self.now.results.items = search rules in
     let next = next_there c.args.self.now c.deref.result.now c.len.result c.in-Some.line.now c.deref.ensures.value count (ltb-true _ _ (sym found.0)) found.1 in
-    stays_unbuilt c.args.self.now _ c.in-Some.line.now (TSend c.in-TSend.ctx c.in-TSend.dest c.in-TSend.tag c.in-TSend.bytes c.in-TSend.imm c.in-TSend.level c.in-TSend.completion) next c.in-TSend.is
-    (λ built.
-    let send = built_send c.in-TSend.bytes c.in-TSend.level built in
-    let count = ap length c.in_ok-bytes-in-TSend.ensures in
-    let goes = c.if-not-goes_in_one.ensures.built (omega (arith, count, send.0)) send.1 in
-    cc goes)
-    refl
-
-pub tsend-requires-clause-next : goal.tsend-requires-clause-next
-tsend-requires-clause-next c =
-    let found = c.in-Some.ensures.lookup in
-    let count : c.len.result ≡ length c.args.self.now.results.items = search rules in
-    let next = next_there c.args.self.now c.deref.result.now c.len.result c.in-Some.line.now c.deref.ensures.value count (ltb-true _ _ (sym found.0)) found.1 in
-    (c.in-TSend.bytes, next_by c.args.self.now c.in-Some.line.now _ next c.in-TSend.is, c.in_ok-bytes-in-TSend.ensures)
+    record { next = (c.in-TSend.bytes, next_by c.args.self.now c.in-Some.line.now _ next c.in-TSend.is, c.in_ok-bytes-in-TSend.ensures) }
 
 pub returns-in_ok-push-in-TSend-clause-turned : goal.returns-in_ok-push-in-TSend-clause-turned
 returns-in_ok-push-in-TSend-clause-turned c =

@@ -10,4 +10,4 @@ invariant_of-self-2 c =
     let before : get_or c.self.inside.accepted.items c.args.dest [] ≡ c.index_mut.result.now =
     get_or_default c.self.inside.accepted.items c.args.dest [] c.index_mut.result.now below ∙ sym c.index_mut.ensures.value in
     IsOutbox-accept c.self.inside.accepted.items c.self.inside.sent.items c.args.dest c.args.item c.push.new.self
-    (c.in_ok-push.ensures.ok ∙ ap (λ (xs : List Item). xs ++ c.args.item ∷ []) (sym before)) below c.self.invariant c.requires.carried
+    (c.in_ok-push.ensures.ok ∙ ap (λ (xs : List Item). xs ++ c.args.item ∷ []) (sym before)) below c.self.invariant
