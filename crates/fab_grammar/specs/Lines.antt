@@ -1,7 +1,7 @@
 -- What one line asks for.
 --     op_of verb args      what a line that a peer does asks for, of the words after its verb
 --     op_size op           the bytes that it sends, or makes room for
-use Rattle.std.specs.Prelude.{ℕ, Bool, true, false, ◌||◌, if◌then◌else◌, List, [], ◌∷◌, codes, bytes_eq, find, Option, Some, None, Result, Ok, Err, ok_or}
+use Rattle.std.specs.Prelude.{ℕ, Bool, true, false, if◌then◌else◌, List, [], ◌∷◌, codes, bytes_eq, find, Option, Some, None, Result, Ok, Err, ok_or}
 use Rattle.fab_base.specs.declared.entries.Class.{Class}
 use Rattle.fab_base.specs.declared.entries.Class.TheVariants as class
 use Rattle.fab_base.specs.declared.items.Access.{Access}

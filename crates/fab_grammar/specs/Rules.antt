@@ -11,7 +11,6 @@ use Rattle.fab_base.specs.declared.script.Payload.{Payload}
 use Rattle.fab_model.specs.Negotiation.{grant}
 use Rattle.fab_words.specs.declared.fault.Fault.{Fault}
 use Rattle.fab_words.specs.declared.fault.Fault.TheVariants.{Words, Number, Limit}
-use Rattle.fab_grammar.specs.declared.items.Item.{Item}
 use Rattle.fab_grammar.specs.declared.items.Item.TheVariants.{Peer, Does}
 use Rattle.fab_grammar.specs.declared.language.Language.{Language}
 use Rattle.fab_grammar.specs.declared.settings.Setting.{Setting}

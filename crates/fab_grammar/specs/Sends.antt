@@ -2,7 +2,7 @@
 --     send_of, tsend_of, inject_of, tinject_of      fi_msg(3) and fi_tagged(3)
 --     write_of, winject_of                          fi_rma(3)
 --     mrecv_of                                      FI_MULTI_RECV of fi_msg(3)
-use Rattle.std.specs.Prelude.{ℕ, true, false, List, [], ◌∷◌, Option, Result, Ok, Err}
+use Rattle.std.specs.Prelude.{ℕ, true, false, List, ◌∷◌, Option, Result, Err}
 use Rattle.fab_base.specs.declared.script.BytesWord.{BytesWord}
 use Rattle.fab_base.specs.declared.script.LineOp.{LineOp}
 use Rattle.fab_base.specs.declared.script.LineOp.TheVariants as op

@@ -4,10 +4,10 @@ ghost use Rattle.fab_base.specs.Elements.{element_size};
 ghost use Rattle.fab_words.specs.Faults.{map_ok};
 ghost use Rattle.fab_grammar.specs.Atomics.{atom_name, atom_named, num_name, num_named, greatest, least, is_signed, negated, minus_value, plain_value, value_of, le_bytes, element, read_elements, read_elements_count, read_values, read_operand, read_request, for_atomic, atomic_of, fetch_of, compare_of};
 
-use fab_words::{Fault, Read, Words, both, first_part, is, numeral, read_up_to};
 use crate::options::{Allowed, read_options};
 use crate::sends::read_remote;
 use fab_base::{AtomicOp, Buf, LineOp, NoMemory, Num};
+use fab_words::{Fault, Read, Words, both, first_part, is, numeral, read_up_to};
 use std::alloc::Global;
 
 /// The most elements that `*N` names.

@@ -3,8 +3,8 @@ ghost use Rattle.std.specs.Prelude.{◌≡◌};
 ghost use Rattle.fab_model.specs.Negotiation.{no_hints};
 ghost use Rattle.fab_grammar.specs.Capabilities.{cap_name, cap_named, with_cap, caps_of};
 
-use fab_words::{Fault, Read, first_part, is};
 use fab_base::{Cap, Caps};
+use fab_words::{Fault, Read, first_part, is};
 
 /// All capabilities.
 pub const CAPS: [Cap; 16] = [

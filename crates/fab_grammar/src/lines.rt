@@ -4,10 +4,13 @@ ghost use Rattle.fab_words.specs.Faults.{map_ok};
 ghost use Rattle.fab_grammar.specs.Lines.{recv_of, trecv_of, look_of, a_peek, a_claim, a_discard, take_of, number_line, remove_of, insert_of, read_of, read_rights, reg_of, put_of, wait_of, class_name, class_named, read_class, count_of, reach_of, op_of};
 
 use crate::atomics::{atomic, compare, fetch};
-use fab_words::{Fault, Read, Words, both, is, read_bytes, read_index, read_len, read_number, read_source, read_text};
 use crate::sends::{inject, mrecv, read_target, send, tinject, tsend, winject, write};
 use crate::verbs::Verb;
 use fab_base::{Access, Class, LineOp, NoMemory};
+use fab_words::{
+    Fault, Read, Words, both, is, read_bytes, read_index, read_len, read_number, read_source,
+    read_text,
+};
 use std::alloc::Global;
 
 /// `trecv C SRC TAG IGNORE LEN` (fi_trecv of fi_tagged(3)).

@@ -3,8 +3,8 @@ ghost use Rattle.std.specs.Prelude.{◌≡◌, length, codes, option_copied};
 ghost use Rattle.fab_grammar.specs.Options.{level_name, level_named, optional_of, allows, without, are_options, value_after, read_if, level_in, has_completion, read_options, allowing};
 ghost use Rattle.fab_words.specs.Words.{begins_with, read_number as a_number, read_index as an_index};
 
-use fab_words::{Fault, Read, Words, both, is, read_index, read_number};
 use fab_base::Level;
+use fab_words::{Fault, Read, Words, both, is, read_index, read_number};
 
 /// An optional word.
 #[derive(Clone, Copy, Debug, Drop)]

@@ -2,9 +2,11 @@
 ghost use Rattle.std.specs.Prelude.{◌≡◌, IfOk};
 ghost use Rattle.fab_grammar.specs.Sends.{read_target, read_to, read_tagged, read_remote, for_send, for_inject, for_write, for_multi, send_of, tsend_of, inject_of, tinject_of, mrecv_of, write_of, winject_of};
 
-use fab_words::{Fault, Read, Words, both, read_bytes, read_index, read_len, read_number, read_source};
 use crate::options::{Allowed, read_options};
 use fab_base::{LineOp, NoMemory};
+use fab_words::{
+    Fault, Read, Words, both, read_bytes, read_index, read_len, read_number, read_source,
+};
 use std::alloc::Global;
 
 /// `D KEY AT`: where at another peer.

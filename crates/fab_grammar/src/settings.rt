@@ -3,9 +3,9 @@ ghost use Rattle.std.specs.Prelude.{◌≡◌, IfOk, Ok};
 ghost use Rattle.fab_grammar.specs.Settings.{between, size_of, caps_setting, selective_setting, payload_setting, setting_of, peer_of, no_settings, is_made, wishing, asked_caps, asking, hints_of, wish_of};
 
 use crate::capabilities::{none, read_caps};
-use fab_words::{Fault, Read, Words, both, read_number, read_text};
 use crate::verbs::Verb;
 use fab_base::{Caps, Hints, Limits, NoMemory, Payload, Size};
+use fab_words::{Fault, Read, Words, both, read_number, read_text};
 use std::alloc::Global;
 
 /// What one setting asks for.
@@ -178,11 +178,7 @@ fn read_payload(alloc: Global, args: &mut Words) -> Result<Read<Setting>, NoMemo
 
 /// What a setting asks for, of the words after its verb.
 #[tactic(auto, unfolding(crate::specs::Settings::setting_of))]
-pub fn read_setting(
-    alloc: Global,
-    verb: Verb,
-    args: &mut Words,
-) -> Result<Read<Setting>, NoMemory>
+pub fn read_setting(alloc: Global, verb: Verb, args: &mut Words) -> Result<Read<Setting>, NoMemory>
     ensures { IfOk result (λ read. read ≡ setting_of verb args.old) }
 {
     match verb {

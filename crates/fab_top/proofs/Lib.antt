@@ -1,4 +1,5 @@
 pub mod Blanks
 pub mod Pieces
 pub mod Parts
+pub mod Bounding
 pub mod Telling

@@ -2,7 +2,7 @@
 use Rattle.std.proofs.Common.{◌≡◌, ◌≤◌, ◌^◌, ℕ, suc, Bool, true, List, [], ◌∷◌, map, length, refl, sym, ap, subst, ◌∙◌, arith}
 use Rattle.std.proofs.lemmas.Bool.{and_from}
 use Rattle.std.proofs.lemmas.List.{length-map}
-use Rattle.fab_base.specs.declared.script.Script.{Script}
+use Rattle.fab_base.specs.declared.script.Bound.{Bound}
 use Rattle.fab_model.specs.Orders.{Reached}
 use Rattle.fab_model.specs.Peers.{Actor, fabric}
 use Rattle.fab_model.specs.Replay.{Lawful, opening, replayed, at_rest, all_done, is_empty}
@@ -13,23 +13,22 @@ use Rattle.fab_model.proofs.Names.{lawful_report_tells}
 use Rattle.fab_peer.specs.Turns.{actor_of, schedule_of}
 use Rattle.fab_peer.specs.Joined.{AreCleared}
 use Rattle.fab_peer.specs.declared.peer.Peer.{Peer}
-use Rattle.fab_top.specs.Runs.{alone, nothing_posted, Reports}
+use Rattle.fab_top.specs.Runs.{nothing_posted, Reports}
 
 none_posted : (all : List Actor) → AreCleared all → nothing_posted all ≡ true
 none_posted [] cleared = refl
 none_posted (a ∷ all) cleared = and_from _ _ (ap is_empty (cleared 0 a refl)) (none_posted all (λ p x has. cleared (suc p) x has))
 
-pub reports : (script : Script) (peers : List Peer) (text : List ℕ) (done : Bool) → Reached (rule fabric) (opening (alone script)) (map schedule_of peers) (map actor_of peers)
+pub reports : (bound : Bound) (peers : List Peer) (text : List ℕ) (done : Bool) → Reached (rule fabric) (opening bound) (map schedule_of peers) (map actor_of peers)
     → at_rest (map actor_of peers) ≡ true → (all_done (map actor_of peers) ≡ true → AreCleared (map actor_of peers)) → length peers ≤ 10 ^ 64 → text ≡ report_of (map actor_of peers) (map schedule_of peers)
-    → done ≡ all_done (map actor_of peers) → Reports (alone script) text done
+    → done ≡ all_done (map actor_of peers) → Reports bound text done
 unfolding report
-reports script peers text done reached rest cleared few is ends =
-    let bound = alone script in
+reports bound peers text done reached rest cleared few is ends =
     let schedule = map schedule_of peers in
     let states = map actor_of peers in
     let lawful = reached_lawful bound schedule states reached in
-    let count : length states ≡ script.conf.peers = (reached_sound bound schedule states reached).count in
-    let many : length schedule ≡ script.conf.peers = length-map peers schedule_of ∙ sym (length-map peers actor_of) ∙ count in
+    let count : length states ≡ bound.script.conf.peers = (reached_sound bound schedule states reached).count in
+    let many : length schedule ≡ bound.script.conf.peers = length-map peers schedule_of ∙ sym (length-map peers actor_of) ∙ count in
     let whole : text ≡ report bound schedule = is ∙ ap (λ xs. report_of xs schedule) (sym lawful.1) in
     let told : traces text ≡ schedule = ap traces whole ∙ lawful_report_tells bound schedule lawful.0 many (omega (arith, few, count, length-map peers actor_of)) in
     record {

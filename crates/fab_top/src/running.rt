@@ -1,20 +1,23 @@
 //! The top call: a command from its words to its report.
-ghost use Rattle.std.specs.Prelude.{◌≡◌, ◌<◌, ◌≤◌, ◌↔◌, ℕ, List, true, false, None, Some, IfOk, string_bytes, option_map, length, take};
+ghost use Rattle.std.specs.Prelude.{◌≡◌, ◌<◌, ◌≤◌, ◌↔◌, ℕ, List, true, false, None, Some, IfOk, string_bytes, option_map, length, map, take};
 ghost use Rattle.std.specs.Io.KnownBytes.{append_known};
 ghost use Rattle.fab_base.specs.Built.{all_built};
 ghost use Rattle.fab_base.specs.declared.status.Status.TheVariants.{Done, Stuck, Usage, ScriptRefused, TooLong, ReadFault, WriteFault};
 ghost use Rattle.fab_base.specs.declared.status.Why.{Why};
+ghost use Rattle.fab_model.specs.Calls.{upto};
+ghost use Rattle.fab_model.specs.Replay.{lines_of};
 ghost use Rattle.fab_script.specs.Grammar.{refusal_of};
 ghost use Rattle.fab_top.specs.Outside.{IsFile, BeginsFile};
 ghost use Rattle.fab_base.specs.Counts.{Rose};
-ghost use Rattle.fab_top.specs.Runs.{command_of, alone, script_max, Reports, IsRead, IsUnread, Writes, WritesPart, IsSilent, WritesReport};
+ghost use Rattle.fab_top.specs.Runs.{command_of, script_max, Reports, IsRead, IsUnread, Writes, WritesPart, IsSilent, WritesReport};
 
 use crate::loading::load_script;
 use crate::outside::{Clock, Depot, Failed, Sink};
 use crate::whole::{all_done, report};
 use crate::writing::write_all;
-use fab_base::{Bound, Gate, List, NoMemory, Script, Status, Text};
+use fab_base::{Bound, Gate, Line, NoMemory, Status, Text};
 use fab_peer::run_peers;
+use fab_script::lines;
 use std::alloc::Global;
 
 /// The file that is to be run, where the words are `script FILE`.
@@ -34,14 +37,25 @@ struct Ran {
     done: bool,
 }
 
-/// Runs a script's peers until none can go on, and reports what they did.
-fn run_script(alloc: Global, script: Script) -> Result<Ran, NoMemory>
-    requires lines { all_built script.peers ≡ true }
-    requires sized { 0 < script.conf.info.cq }
-    ensures { IfOk result (λ ran. Reports (alone script) (string_bytes ran.text) ran.done) }
+/// The lines of each peer of a bound script.
+fn lines_of_all(alloc: Global, bound: &Bound) -> Result<Vec<Vec<Line>>, NoMemory>
+    ensures { IfOk result (λ lists. map (λ lines. lines.items) lists.items ≡ map (lines_of bound.now) (upto bound.now.script.conf.peers)) }
 {
-    let files = List::empty(alloc);
-    let peers = run_peers(alloc, Bound { script, files })?;
+    let mut lists = Vec::new(alloc);
+    for peer in 0..bound.script.conf.peers {
+        lists.push(lines(alloc, bound, peer)?)?;
+    }
+    Ok(lists)
+}
+
+/// Runs a bound script's peers until none can go on, and reports what they did.
+fn run_script(alloc: Global, bound: &Bound) -> Result<Ran, NoMemory>
+    requires lines { all_built bound.now.script.peers ≡ true }
+    requires sized { 0 < bound.now.script.conf.info.cq }
+    ensures { IfOk result (λ ran. Reports bound.now (string_bytes ran.text) ran.done) }
+{
+    let lists = lines_of_all(alloc, bound)?;
+    let peers = run_peers(alloc, &bound.script.conf, lists)?;
     Ok(Ran {
         text: report(alloc, &peers)?,
         done: all_done(&peers),
@@ -104,11 +118,11 @@ pub fn run<D: Depot, S: Sink, C: Clock, G: Gate>(
     let Some(name) = command(words) else {
         return Status::Usage;
     };
-    let script = match load_script(alloc, depot, name) {
-        Ok(script) => script,
+    let bound = match load_script(alloc, depot, name) {
+        Ok(bound) => bound,
         Err(status) => return status,
     };
-    match run_script(alloc, script) {
+    match run_script(alloc, &bound) {
         Ok(ran) => write_report(sink, &ran),
         Err(NoMemory) => Status::NoMemory,
     }

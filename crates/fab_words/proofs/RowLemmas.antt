@@ -1,10 +1,10 @@
 -- The lines of a file, taken one after another.
-use Rattle.std.proofs.Common.{◌≡◌, ℕ, ◌+◌, ◌<◌, ◌≤◌, Bool, true, false, cond, ◌&&◌, leb, ltb, List, [], ◌∷◌, inl, inr, length, Option, Some, None, option_map, sym, ap, ◌∙◌, refl, arith}
-use Rattle.std.specs.List.{before_first, after_first, slice_split, list_all}
+use Rattle.std.proofs.Common.{◌≡◌, ℕ, ◌<◌, true, false, ltb, List, [], ◌∷◌, inl, inr, length, sym, ap, ◌∙◌, refl, arith}
+use Rattle.std.specs.List.{before_first, after_first, slice_split}
 use Rattle.std.proofs.lemmas.Bool.Decides.{nat_tests}
 use Rattle.std.proofs.lemmas.List.Splits.{length-slice_split}
 use Rattle.fab_words.specs.Rows.{is_line_feed, lines_of_parts, without_return, first_line, lines_of}
-use Rattle.fab_words.proofs.CutLemmas.{parts_of_cut, after_first_shorter}
+use Rattle.fab_words.proofs.CutLemmas.{parts_of_cut}
 
 -- the first of several parts is a line, without its carriage return
 parts_more : (part : List ℕ) (parts : List (List ℕ)) → 0 < length parts → lines_of_parts (part ∷ parts) ≡ without_return part ∷ lines_of_parts parts

@@ -2,8 +2,8 @@
 --     lines_of bytes      what the line feeds end; the last line may lack its line feed
 --     words_of line       what stands between spaces and tabs; a line that begins with `#` has none
 --     is_text line        every byte is a printable character, a space or a tab
-use Rattle.std.specs.Prelude.{ℕ, ◌+◌, ◌-◌, Bool, true, false, ◌&&◌, ◌||◌, nat_le, nat_lt, ◌==◌, if◌then◌else◌, List, [], ◌∷◌, length, map, filter, take, drop, codes, bytes_eq, Option, Some, None}
-use Rattle.std.specs.List.{slice_split, before_first, list_all, enumerate_from}
+use Rattle.std.specs.Prelude.{ℕ, ◌-◌, Bool, true, false, ◌&&◌, ◌||◌, nat_le, nat_lt, ◌==◌, if◌then◌else◌, List, [], ◌∷◌, length, filter, take, drop, codes, bytes_eq, Option, Some, None}
+use Rattle.std.specs.List.{slice_split, before_first, list_all}
 
 abbrev pub is_line_feed : ℕ → Bool
 is_line_feed byte = byte == 10

@@ -2,7 +2,7 @@
 --     number_of word      1 to 20 decimal digits, or `0x` and 1 to 16 hexadecimal digits, below 2 ^ 64
 --     read_number word, read_up_to n word      a number, or a number of at most n
 --     read_index word, read_len word, read_source word      what stands in these places
-use Rattle.std.specs.Prelude.{ℕ, ◌+◌, ◌^◌, Bool, ◌&&◌, nat_lt, nat_le, if◌then◌else◌, List, [], ◌∷◌, length, drop, take, codes, bytes_eq, Option, Some, None, option_and_then, Result, Ok, Err, ok_or}
+use Rattle.std.specs.Prelude.{ℕ, ◌^◌, Bool, ◌&&◌, nat_lt, nat_le, if◌then◌else◌, List, [], ◌∷◌, length, drop, take, codes, bytes_eq, Option, Some, None, option_and_then, Result, Ok, Err, ok_or}
 use Rattle.std.specs.List.{list_all}
 use Rattle.fab_words.specs.declared.fault.Fault.{Fault}
 use Rattle.fab_words.specs.Faults.{map_ok}

@@ -1,7 +1,7 @@
 -- Words that a line can be written with.
 --     is_word word      one or more printable characters, no blank among them
 --     is_row words      a line that is not empty: words, the first of which begins with no `#`
-use Rattle.std.specs.Prelude.{ℕ, Bool, true, false, not, ◌&&◌, nat_lt, nat_le, List, [], ◌∷◌}
+use Rattle.std.specs.Prelude.{ℕ, Bool, false, not, ◌&&◌, nat_lt, nat_le, List, [], ◌∷◌}
 use Rattle.std.specs.List.{list_all}
 use Rattle.fab_words.specs.Rows.{is_comment, is_filled}
 

@@ -149,9 +149,7 @@ impl<'a> Words<'a> {
     }
 
     /// The first five words; the others are left.
-    pub fn first_five(
-        &mut self,
-    ) -> Option<(&'a [u8], &'a [u8], &'a [u8], &'a [u8], &'a [u8])>
+    pub fn first_five(&mut self) -> Option<(&'a [u8], &'a [u8], &'a [u8], &'a [u8], &'a [u8])>
         ensures { MatchOption result (length self.old < 5) (λ w. self.old ≡ w.0.now ∷ w.1.now ∷ w.2.now ∷ w.3.now ∷ w.4.now ∷ self.new) }
     {
         let first = self.next()?;
