@@ -79,7 +79,7 @@ abbrev pub min_words : Option ℕ → List Word
 min_words None = []
 min_words (Some n) = (codes "min=" ++ decimal n) ∷ []
 
--- ---- lines
+-- ---- lines: the verb, and the words after it, of one kind of lines after the other
 unfoldable pub verb_for : LineOp → Verb
 verb_for (op.Send ctx dest bytes imm level completion) = verb.Send
 verb_for (op.TSend ctx dest tag bytes imm level completion) = verb.TSend
@@ -123,7 +123,7 @@ own_args (op.Count class) = class_name class ∷ []
 own_args (op.Reach class n) = class_name class ∷ decimal n ∷ []
 own_args _ = []
 
--- of atomics
+-- of atomics; only a `fetch` keeps how many elements are read
 abbrev pub atomic_args : LineOp → List Word
 atomic_args (op.Atomic ctx dest key at atom num values completion) =
     decimal ctx ∷ decimal dest ∷ decimal key ∷ decimal at ∷ atom_name atom ∷ num_name num ∷ operand_word atom num values 0 ∷ completion_words completion
@@ -163,7 +163,7 @@ receive_args op = look_args op
 abbrev pub message_words : BytesWord → Option ℕ → Level → Bool → List Word
 message_words bytes imm level completion = bytes_word bytes ∷ imm_words imm ++ level_words level ++ completion_words completion
 
--- of sends; the other lines follow by their kinds
+-- of sends, and of all other lines
 unfoldable pub args_for : LineOp → List Word
 args_for (op.Send ctx dest bytes imm level completion) =
     decimal ctx ∷ decimal dest ∷ message_words bytes imm level completion
