@@ -236,7 +236,8 @@ const CLASSES: [Class; 6] = [
     Class::RemoteWrite,
 ];
 
-fn class_name(class: Class) -> &'static str
+/// The class of a counter as it is written (fi_cntr(3)).
+pub fn class_name(class: Class) -> &'static str
     ensures { result.now ≡ class_name class }
 {
     match class {

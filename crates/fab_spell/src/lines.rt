@@ -1,6 +1,5 @@
 //! How the line of an operation is written.
 ghost use Rattle.std.specs.Prelude.{◌≡◌, ◌++◌, OnOk, string_bytes};
-ghost use Rattle.fab_grammar.specs.Lines.{class_name};
 ghost use Rattle.fab_model.specs.Words.{line_of};
 ghost use Rattle.fab_spell.specs.Spelling.{after_blanks, verb_for, own_args, atomic_args, remote_args, look_args, receive_args, args_for, row_of};
 
@@ -8,8 +7,8 @@ use crate::words::{
     add_atom, add_completion, add_context, add_data, add_imm, add_message, add_min, add_numbers,
     add_operand, add_rights, add_source, add_word,
 };
-use fab_base::{Class, LineOp, NoMemory};
-use fab_grammar::Verb;
+use fab_base::{LineOp, NoMemory};
+use fab_grammar::{Verb, class_name};
 
 /// The first word.
 #[tactic(auto, unfolding(crate::specs::Spelling::verb_for))]
@@ -298,20 +297,6 @@ fn add_own_args(out: &mut String, op: &LineOp) -> Result<(), NoMemory>
             add_numbers(out, &[*n])
         }
         _ => Ok(()),
-    }
-}
-
-/// The class of a counter.
-fn class_name(class: Class) -> &'static str
-    ensures { result.now ≡ class_name class }
-{
-    match class {
-        Class::Send => "send",
-        Class::Recv => "recv",
-        Class::Read => "read",
-        Class::Write => "write",
-        Class::RemoteRead => "remote_read",
-        Class::RemoteWrite => "remote_write",
     }
 }
 
