@@ -314,3 +314,6 @@ fn class_name(class: Class) -> &'static str
         Class::RemoteWrite => "remote_write",
     }
 }
+
+#[cfg(test)]
+mod tests;
