@@ -4,6 +4,8 @@
 //! lines of each peer that has some. Each line is written by `fab_spell`.
 #![tactic(auto)]
 
+#[cfg(test)]
+mod tests;
 mod writing;
 
 pub use writing::print;
