@@ -14,7 +14,7 @@ use Rattle.fab_base.specs.declared.status.Status.TheVariants.{Done, Stuck, Usage
 use Rattle.fab_model.specs.Peers.{Actor}
 use Rattle.fab_model.specs.Replay.{Lawful, replayed, at_rest, all_done, is_empty}
 use Rattle.fab_model.specs.Report.{report, traces}
-use Rattle.fab_script.specs.Grammar.{script_of, refusal_of}
+use Rattle.fab_grammar.specs.Grammar.{script_of, refusal_of}
 use Rattle.fab_top.specs.Outside.{IsFile, BeginsFile}
 use Rattle.fab_base.specs.Counts.{Rose}
 

@@ -6,7 +6,7 @@ ghost use Rattle.fab_base.specs.declared.status.Status.TheVariants.{Done, Stuck,
 ghost use Rattle.fab_base.specs.declared.status.Why.{Why};
 ghost use Rattle.fab_model.specs.Calls.{upto};
 ghost use Rattle.fab_model.specs.Replay.{lines_of};
-ghost use Rattle.fab_script.specs.Grammar.{refusal_of};
+ghost use Rattle.fab_grammar.specs.Grammar.{refusal_of};
 ghost use Rattle.fab_top.specs.Outside.{IsFile, BeginsFile};
 ghost use Rattle.fab_base.specs.Counts.{Rose};
 ghost use Rattle.fab_top.specs.Runs.{command_of, script_max, Reports, IsRead, IsUnread, Writes, WritesPart, IsSilent, WritesReport};
