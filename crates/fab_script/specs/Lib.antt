@@ -1,3 +1,4 @@
 pub mod Bound
+pub mod LineKinds
 pub mod Parts
 pub mod Refused

@@ -1,5 +1,6 @@
 //! The lines of a bound script's peers, with the bytes of its payload files in them.
-ghost use Rattle.std.specs.Prelude.{◌≡◌, [], take, drop, map, slice_index_or, IfOk};
+ghost use Rattle.std.specs.Prelude.{◌≡◌, [], true, take, drop, map, slice_index_or, IfOk};
+ghost use Rattle.fab_script.specs.LineKinds.{is_send, is_inject, is_write, is_atomic, is_compare, is_receive, is_look, is_own};
 ghost use Rattle.fab_model.specs.Replay.{bind_word, bind_op, bind_line, lines_of};
 
 use crate::binding::payload;
@@ -30,8 +31,9 @@ fn bind_word(alloc: Global, bound: &Bound, word: &BytesWord) -> Result<BytesWord
     })
 }
 
-/// A copy of what a line asks for, with its bytes in it.
-fn bind_op(alloc: Global, bound: &Bound, op: &LineOp) -> Result<LineOp, NoMemory>
+/// A copy of a send, with its bytes in it.
+fn bind_send(alloc: Global, bound: &Bound, op: &LineOp) -> Result<LineOp, NoMemory>
+    requires { is_send op.now ≡ true }
     ensures { IfOk result (λ r. r ≡ bind_op bound.now op.now) }
 {
     Ok(match *op {
@@ -67,6 +69,16 @@ fn bind_op(alloc: Global, bound: &Bound, op: &LineOp) -> Result<LineOp, NoMemory
             level,
             completion,
         },
+        _ => unreachable!(),
+    })
+}
+
+/// A copy of an inject, with its bytes in it.
+fn bind_inject(alloc: Global, bound: &Bound, op: &LineOp) -> Result<LineOp, NoMemory>
+    requires { is_inject op.now ≡ true }
+    ensures { IfOk result (λ r. r ≡ bind_op bound.now op.now) }
+{
+    Ok(match *op {
         LineOp::Inject {
             dest,
             ref bytes,
@@ -87,80 +99,29 @@ fn bind_op(alloc: Global, bound: &Bound, op: &LineOp) -> Result<LineOp, NoMemory
             bytes: bind_word(alloc, bound, bytes)?,
             imm,
         },
-        LineOp::Recv { ctx, source, len } => LineOp::Recv { ctx, source, len },
-        LineOp::TRecv {
-            ctx,
-            source,
-            tag,
-            ignore,
-            len,
-        } => LineOp::TRecv {
-            ctx,
-            source,
-            tag,
-            ignore,
-            len,
-        },
-        LineOp::MRecv {
-            ctx,
-            source,
-            len,
-            min,
-        } => LineOp::MRecv {
-            ctx,
-            source,
-            len,
-            min,
-        },
-        LineOp::Peek {
-            ctx,
-            source,
-            tag,
-            ignore,
-        } => LineOp::Peek {
-            ctx,
-            source,
-            tag,
-            ignore,
-        },
-        LineOp::Claim {
-            ctx,
-            source,
-            tag,
-            ignore,
-        } => LineOp::Claim {
-            ctx,
-            source,
-            tag,
-            ignore,
-        },
-        LineOp::Discard {
-            ctx,
-            source,
-            tag,
-            ignore,
-        } => LineOp::Discard {
-            ctx,
-            source,
-            tag,
-            ignore,
-        },
-        LineOp::Take { ctx, len } => LineOp::Take { ctx, len },
-        LineOp::DropClaimed { ctx } => LineOp::DropClaimed { ctx },
-        LineOp::Cancel { ctx } => LineOp::Cancel { ctx },
-        LineOp::Read {
-            ctx,
+        LineOp::WInject {
             dest,
             key,
             at,
-            len,
-        } => LineOp::Read {
-            ctx,
+            ref bytes,
+            imm,
+        } => LineOp::WInject {
             dest,
             key,
             at,
-            len,
+            bytes: bind_word(alloc, bound, bytes)?,
+            imm,
         },
+        _ => unreachable!(),
+    })
+}
+
+/// A copy of a line that puts bytes into a region, with the bytes in it.
+fn bind_write(alloc: Global, bound: &Bound, op: &LineOp) -> Result<LineOp, NoMemory>
+    requires { is_write op.now ≡ true }
+    ensures { IfOk result (λ r. r ≡ bind_op bound.now op.now) }
+{
+    Ok(match *op {
         LineOp::Write {
             ctx,
             dest,
@@ -178,19 +139,30 @@ fn bind_op(alloc: Global, bound: &Bound, op: &LineOp) -> Result<LineOp, NoMemory
             imm,
             completion,
         },
-        LineOp::WInject {
-            dest,
+        LineOp::Reg {
             key,
-            at,
+            access,
             ref bytes,
-            imm,
-        } => LineOp::WInject {
-            dest,
+        } => LineOp::Reg {
+            key,
+            access,
+            bytes: bind_word(alloc, bound, bytes)?,
+        },
+        LineOp::Put { key, at, ref bytes } => LineOp::Put {
             key,
             at,
             bytes: bind_word(alloc, bound, bytes)?,
-            imm,
         },
+        _ => unreachable!(),
+    })
+}
+
+/// A copy of an atomic, or of one that fetches.
+fn copy_atomic(alloc: Global, op: &LineOp) -> Result<LineOp, NoMemory>
+    requires { is_atomic op.now ≡ true }
+    ensures { IfOk result (λ r. r ≡ op.now) }
+{
+    Ok(match *op {
         LineOp::Atomic {
             ctx,
             dest,
@@ -229,6 +201,16 @@ fn bind_op(alloc: Global, bound: &Bound, op: &LineOp) -> Result<LineOp, NoMemory
             values: Buf::copy(alloc, values.as_slice())?,
             count,
         },
+        _ => unreachable!(),
+    })
+}
+
+/// A copy of an atomic that compares.
+fn copy_compare(alloc: Global, op: &LineOp) -> Result<LineOp, NoMemory>
+    requires { is_compare op.now ≡ true }
+    ensures { IfOk result (λ r. r ≡ op.now) }
+{
+    Ok(match *op {
         LineOp::Compare {
             ctx,
             dest,
@@ -248,21 +230,111 @@ fn bind_op(alloc: Global, bound: &Bound, op: &LineOp) -> Result<LineOp, NoMemory
             values: Buf::copy(alloc, values.as_slice())?,
             compares: Buf::copy(alloc, compares.as_slice())?,
         },
-        LineOp::Reg {
-            key,
-            access,
-            ref bytes,
-        } => LineOp::Reg {
-            key,
-            access,
-            bytes: bind_word(alloc, bound, bytes)?,
+        _ => unreachable!(),
+    })
+}
+
+/// A copy of a line that makes room for bytes.
+fn copy_receive(op: &LineOp) -> LineOp
+    requires { is_receive op.now ≡ true }
+    ensures { result ≡ op.now }
+{
+    match *op {
+        LineOp::Recv { ctx, source, len } => LineOp::Recv { ctx, source, len },
+        LineOp::TRecv {
+            ctx,
+            source,
+            tag,
+            ignore,
+            len,
+        } => LineOp::TRecv {
+            ctx,
+            source,
+            tag,
+            ignore,
+            len,
         },
-        LineOp::Close { key } => LineOp::Close { key },
-        LineOp::Put { key, at, ref bytes } => LineOp::Put {
+        LineOp::MRecv {
+            ctx,
+            source,
+            len,
+            min,
+        } => LineOp::MRecv {
+            ctx,
+            source,
+            len,
+            min,
+        },
+        LineOp::Take { ctx, len } => LineOp::Take { ctx, len },
+        LineOp::Read {
+            ctx,
+            dest,
             key,
             at,
-            bytes: bind_word(alloc, bound, bytes)?,
+            len,
+        } => LineOp::Read {
+            ctx,
+            dest,
+            key,
+            at,
+            len,
         },
+        _ => unreachable!(),
+    }
+}
+
+/// A copy of a look at messages, or of what ends a receive.
+fn copy_look(op: &LineOp) -> LineOp
+    requires { is_look op.now ≡ true }
+    ensures { result ≡ op.now }
+{
+    match *op {
+        LineOp::Peek {
+            ctx,
+            source,
+            tag,
+            ignore,
+        } => LineOp::Peek {
+            ctx,
+            source,
+            tag,
+            ignore,
+        },
+        LineOp::Claim {
+            ctx,
+            source,
+            tag,
+            ignore,
+        } => LineOp::Claim {
+            ctx,
+            source,
+            tag,
+            ignore,
+        },
+        LineOp::Discard {
+            ctx,
+            source,
+            tag,
+            ignore,
+        } => LineOp::Discard {
+            ctx,
+            source,
+            tag,
+            ignore,
+        },
+        LineOp::DropClaimed { ctx } => LineOp::DropClaimed { ctx },
+        LineOp::Cancel { ctx } => LineOp::Cancel { ctx },
+        _ => unreachable!(),
+    }
+}
+
+/// A copy of a line on what is the peer's own.
+fn copy_own(alloc: Global, op: &LineOp) -> Result<LineOp, NoMemory>
+    requires { is_own op.now ≡ true }
+    ensures { IfOk result (λ r. r ≡ op.now) }
+{
+    Ok(match *op {
+        LineOp::Close { key } => LineOp::Close { key },
         LineOp::Show { key } => LineOp::Show { key },
         LineOp::Insert { ref name } => LineOp::Insert {
             name: Text::copy(alloc, name.as_str())?,
@@ -271,7 +343,42 @@ fn bind_op(alloc: Global, bound: &Bound, op: &LineOp) -> Result<LineOp, NoMemory
         LineOp::Wait { ctx } => LineOp::Wait { ctx },
         LineOp::Count { class } => LineOp::Count { class },
         LineOp::Reach { class, n } => LineOp::Reach { class, n },
+        _ => unreachable!(),
     })
+}
+
+/// A copy of what a line asks for, with its bytes in it.
+fn bind_op(alloc: Global, bound: &Bound, op: &LineOp) -> Result<LineOp, NoMemory>
+    ensures { IfOk result (λ r. r ≡ bind_op bound.now op.now) }
+{
+    match op {
+        LineOp::Send { .. } | LineOp::TSend { .. } => bind_send(alloc, bound, op),
+        LineOp::Inject { .. } | LineOp::TInject { .. } | LineOp::WInject { .. } => bind_inject(
+            alloc, bound, op,
+        ),
+        LineOp::Write { .. } | LineOp::Reg { .. } | LineOp::Put { .. } => bind_write(
+            alloc, bound, op,
+        ),
+        LineOp::Atomic { .. } | LineOp::Fetch { .. } => copy_atomic(alloc, op),
+        LineOp::Compare { .. } => copy_compare(alloc, op),
+        LineOp::Recv { .. }
+        | LineOp::TRecv { .. }
+        | LineOp::MRecv { .. }
+        | LineOp::Take { .. }
+        | LineOp::Read { .. } => Ok(copy_receive(op)),
+        LineOp::Peek { .. }
+        | LineOp::Claim { .. }
+        | LineOp::Discard { .. }
+        | LineOp::DropClaimed { .. }
+        | LineOp::Cancel { .. } => Ok(copy_look(op)),
+        LineOp::Close { .. }
+        | LineOp::Show { .. }
+        | LineOp::Insert { .. }
+        | LineOp::Remove { .. }
+        | LineOp::Wait { .. }
+        | LineOp::Count { .. }
+        | LineOp::Reach { .. } => copy_own(alloc, op),
+    }
 }
 
 /// A copy of a line, with its bytes in it.
