@@ -20,4 +20,6 @@ pub use grammar::parse;
 pub use refused::ParseRefused;
 
 #[cfg(test)]
+mod printing_tests;
+#[cfg(test)]
 mod tests;
