@@ -597,3 +597,126 @@ fn elements_of_an_atomic(rt: HostRuntime) -> Result<(), Fail> {
     }
     Ok(())
 }
+
+/// A text that ends in this line.
+fn ending_in(alloc: Global, front: &[u8], line: &[u8]) -> Result<Vec<u8>, Fail> {
+    let mut text = Vec::from_slice(alloc, front)?;
+    text.extend_from_slice(line)?;
+    Ok(text)
+}
+
+/// The lines of a peer that docs/SCRIPT.md has as examples, but for those that are carried out. All are read in the
+/// whole language, and none is carried out.
+#[test]
+fn examples_of_the_manual(rt: HostRuntime) -> Result<(), Fail> {
+    let table: [&[u8]; 50] = [
+        b"send 1 0 text:hello",
+        b"send 1 0 hex:68656C6c6f",
+        b"send 1 0 zero:8",
+        b"send 1 0 file:1:0:5",
+        b"send 1 0 text:hello data=9",
+        b"send 1 0 text:hello level=inject",
+        b"send 1 0 text:hello level=transmit",
+        b"send 1 0 text:hello level=delivery",
+        b"send 1 0 text:hello level=match",
+        b"send 1 0 text:hello completion",
+        b"send 1 0 text:hello data=9 level=delivery completion",
+        b"tsend 2 0 7 hex:6869",
+        b"tsend 2 0 7 text:hello completion level=match data=9",
+        b"inject 0 text:hello",
+        b"inject 0 text:hello data=9",
+        b"tinject 0 7 text:hello",
+        b"tinject 0 7 text:hello data=9",
+        b"recv 1 * 16",
+        b"recv 1 0 16",
+        b"trecv 1 0 7 0 16",
+        b"mrecv 1 * 4096",
+        b"mrecv 1 * 4096 min=256",
+        b"peek 1 * 7 0",
+        b"claim 1 * 7 0",
+        b"take 1 16",
+        b"drop 1",
+        b"discard 1 * 7 0",
+        b"cancel 1",
+        b"read 1 0 9 0 8",
+        b"write 1 0 9 0 text:hello",
+        b"write 1 0 9 0 text:hello data=9 completion",
+        b"winject 0 9 0 text:hello",
+        b"winject 0 9 0 text:hello data=9",
+        b"atomic 1 0 9 0 FI_SUM i32 5,-1",
+        b"atomic 1 0 9 0 FI_SUM i32 5,-1 completion",
+        b"fetch 1 0 9 0 FI_BOR u8 1,2,4",
+        b"fetch 1 0 9 0 FI_ATOMIC_READ u64 *2",
+        b"compare 1 0 9 0 FI_CSWAP u64 7 0",
+        b"reg 9 rw zero:64",
+        b"reg 9 r text:hello",
+        b"reg 9 w zero:64",
+        b"reg 9 - zero:64",
+        b"put 9 8 text:hello",
+        b"show 9",
+        b"close 9",
+        b"insert shm://1",
+        b"remove 1",
+        b"wait *",
+        b"count recv",
+        b"reach recv 3",
+    ];
+    for line in table {
+        let text = ending_in(rt.alloc(), ONE, line)?;
+        assert_eq!(rt; whole_refusal(rt.alloc(), &text), None);
+        assert_eq!(rt; refusal(rt.alloc(), &text), Some((4, Why::Unbuilt)));
+    }
+    Ok(())
+}
+
+/// The settings of docs/SCRIPT.md.
+#[test]
+fn settings_of_the_manual(rt: HostRuntime) -> Result<(), Fail> {
+    let table: [&[u8]; 8] = [
+        b"caps FI_TAGGED,FI_SEND",
+        b"lane 128",
+        b"pool 64",
+        b"tx 16",
+        b"rx 512",
+        b"cq 4096",
+        b"selective",
+        b"payload 1 words.txt",
+    ];
+    for line in table {
+        let text = ending_in(rt.alloc(), b"fabric 1\npeers 2\n", line)?;
+        assert_eq!(rt; whole_refusal(rt.alloc(), &text), None);
+        assert_eq!(rt; refusal(rt.alloc(), &text), Some((3, Why::Unbuilt)));
+    }
+    Ok(())
+}
+
+/// The refusals of docs/SCRIPT.md that no other table has.
+#[test]
+fn refusals_of_the_manual(rt: HostRuntime) {
+    let table: [(&[u8], u32, Why); 4] = [
+        (b"fabric 1\n\n# no peers\n", 3, Why::Missing),
+        (
+            b"fabric 1\npeers 1\npeer 0\nwait x\njump 1\n",
+            4,
+            Why::Number,
+        ),
+        (b"fabric 1\npeers 1\npeer 0\nwait +7\n", 4, Why::Number),
+        (b"fabric 1\npeers 1\npeer 0\ntsend 1 0 7 a\n", 4, Why::Words),
+    ];
+    for (text, line, why) in table {
+        assert_eq!(rt; refusal(rt.alloc(), text), Some((line, why)));
+    }
+}
+
+/// The script of docs/SCRIPT.md that is printed, and its print.
+#[test]
+fn printing_of_the_manual(rt: HostRuntime) -> Result<(), Fail> {
+    let before =
+        b"# as it was written\nfabric 1\nselective\ncq 0x10\npayload 05 words.txt\npeers 3\ncaps FI_SEND,FI_TAGGED\n\npeer 2\n  tsend 0x1 0 007 hex:6A6B  completion level=transmit data=0x10\npeer 1\npeer 0\nmrecv 1 * 64 min=8\nsend 2 1 file:5:0:4 level=delivery\nwait *\n";
+    let after =
+        "fabric 1\ncaps FI_TAGGED,FI_SEND\npeers 3\ncq 16\nselective\npayload 5 words.txt\npeer 0\nmrecv 1 * 64 min=8\nsend 2 1 file:5:0:4 level=delivery\nwait *\npeer 2\ntsend 1 0 7 hex:6a6b data=16 completion\n";
+    let script = read_in(rt.alloc(), Language::Whole, before)?;
+    let text = print(rt.alloc(), &script)?;
+    assert_eq!(rt; text.as_str(), after);
+    Ok(())
+}
