@@ -1,9 +1,8 @@
 -- A script whose lines are all carried out has no payload file, and none of its lines names one.
-use Rattle.std.proofs.Common.{◌≡◌, ℕ, ◌+◌, min, Bool, true, false, cond, not, ◌&&◌, List, [], ◌∷◌, ◌++◌, length, map, Option, Some, None, option_map, sym, ap, subst, ◌∙◌, refl}
-use Rattle.std.specs.Prelude.{filter, Result, Ok, Err, IfOk}
+use Rattle.std.proofs.Common.{◌≡◌, ℕ, ◌+◌, min, Bool, true, false, cond, not, ◌&&◌, List, [], ◌∷◌, length, map, Option, Some, None, option_map, sym, ap, subst, ◌∙◌, refl}
+use Rattle.std.specs.Prelude.{Result, Ok, Err}
 use Rattle.std.specs.List.{concat, list_all, reduce}
 use Rattle.fab_base.specs.Built.{is_built as is_carried_out, all_built, is_short_text, is_at_transmit}
-use Rattle.fab_base.specs.declared.peers.Level.{Level}
 use Rattle.fab_base.specs.declared.script.BytesWord.{BytesWord}
 use Rattle.fab_base.specs.declared.script.BytesWord.TheVariants.{Text}
 use Rattle.fab_base.specs.declared.script.Line.{Line}
@@ -39,7 +38,7 @@ use Rattle.fab_words.specs.declared.fault.Fault.{Fault}
 use Rattle.fab_words.specs.Rows.{is_text, lines_of, words_of}
 use Rattle.fab_words.specs.Words.{first_of}
 use Rattle.fab_script.specs.Bound.{has_bytes, is_inside, lines_outside, at_range, outside}
-use Rattle.fab_script.proofs.BuiltLemmas.{Forms, forms_of, not_false}
+use Rattle.fab_script.proofs.BuiltLemmas.{forms_of, not_false}
 
 -- ---- no line names a file
 

@@ -1,7 +1,7 @@
 -- The first line whose bytes are not there; and a script that was read is sound with its files.
-use Rattle.std.proofs.Common.{◌≡◌, ℕ, min, ◌+◌, ◌<◌, ◌≤◌, Bool, true, false, cond, not, ◌&&◌, ◌||◌, eqb, leb, List, [], ◌∷◌, ◌++◌, length, map, fold, Option, Some, None, option_map, sym, ap, subst, ◌∙◌, refl, arith}
-use Rattle.std.specs.Prelude.{filter, filter_map, Result, Ok, Err, IfOk, ok_or}
-use Rattle.std.specs.List.{concat, reduce, list_all, list_any, range_with_len}
+use Rattle.std.proofs.Common.{◌≡◌, ℕ, min, ◌+◌, ◌<◌, Bool, true, false, cond, not, ◌&&◌, ◌||◌, eqb, leb, List, [], ◌∷◌, ◌++◌, length, map, fold, Option, Some, None, option_map, sym, ap, subst, ◌∙◌, refl, arith}
+use Rattle.std.specs.Prelude.{filter, filter_map, Result, Ok, Err, ok_or}
+use Rattle.std.specs.List.{concat, reduce, list_all, list_any}
 use Rattle.std.proofs.lemmas.Bool.Decides.{nat_tests}
 use Rattle.std.proofs.lemmas.List.{map-append}
 use Rattle.std.proofs.lemmas.List.FromFn.{length-map-range_with_len}
@@ -10,7 +10,6 @@ use Rattle.fab_base.specs.declared.caps.Hints.{Hints}
 use Rattle.fab_base.specs.declared.caps.Info.{Info}
 use Rattle.fab_base.specs.declared.limits.Size.{Size}
 use Rattle.fab_base.specs.declared.limits.Size.TheVariants as size
-use Rattle.fab_base.specs.declared.script.Bound.{Bound}
 use Rattle.fab_base.specs.declared.script.Line.{Line}
 use Rattle.fab_base.specs.declared.script.LineOp.{LineOp}
 use Rattle.fab_base.specs.declared.script.Payload.{Payload}
@@ -33,16 +32,16 @@ use Rattle.fab_grammar.specs.Grammar.{Refusal, read_lines, script_with, granted,
 use Rattle.fab_grammar.specs.Language.{is_built}
 use Rattle.fab_grammar.specs.Lines.{op_of}
 use Rattle.fab_grammar.specs.Rules.{has_id, is_declared, is_set, is_words, is_number, is_limit, is_late, is_one_too_many, is_refused as is_not_granted, header_rules, kind_rules, setting_rules, verb_rules, word_rules, why_of, with_setting, with_peer, with_call, with_kind, with_verb, with_words, with_line}
-use Rattle.fab_grammar.specs.Settings.{a_file, between, making, wishing, size_of, payload_setting, caps_setting, selective_setting, wish_of, setting_of, peer_of, hints_of}
+use Rattle.fab_grammar.specs.Settings.{a_file, between, wishing, size_of, payload_setting, caps_setting, selective_setting, wish_of, setting_of, peer_of, hints_of}
 use Rattle.fab_grammar.specs.Verbs.{verb_of, kind_of}
 use Rattle.fab_grammar.proofs.PartLemmas.{and_true, distinct_push}
 use Rattle.fab_grammar.proofs.RuleLemmas.{rest_of, first_fails}
 use Rattle.fab_words.specs.Faults.{◌&◌, map_ok}
 use Rattle.fab_words.specs.declared.fault.Fault.{Fault}
-use Rattle.fab_words.specs.declared.fault.Fault.TheVariants.{Words, Number, Limit}
+use Rattle.fab_words.specs.declared.fault.Fault.TheVariants.{Number, Limit}
 use Rattle.fab_words.specs.Rows.{is_text, lines_of, words_of}
 use Rattle.fab_words.specs.Words.{first_of, number_of, read_number, read_text}
-use Rattle.fab_script.specs.Bound.{is_inside, lines_outside, at_range, outside, IsComplete, IsSound}
+use Rattle.fab_script.specs.Bound.{is_inside, lines_outside, at_range, outside, IsSound}
 
 -- ---- the least of several lists
 

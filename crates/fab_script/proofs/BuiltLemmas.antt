@@ -1,5 +1,5 @@
 -- Every line of a script is one that the program carries out, and its completion queue has room.
-use Rattle.std.proofs.Common.{◌≡◌, ℕ, ◌+◌, ◌<◌, ◌≤◌, Bool, true, false, cond, not, ◌&&◌, eqb, leb, ltb, List, [], ◌∷◌, ◌++◌, length, map, take, drop, Option, Some, None, sym, ap, subst, ◌∙◌, refl, arith}
+use Rattle.std.proofs.Common.{◌≡◌, ℕ, ◌+◌, ◌<◌, Bool, true, false, cond, not, ◌&&◌, eqb, leb, ltb, List, [], ◌∷◌, ◌++◌, length, map, drop, Option, Some, None, sym, ap, subst, ◌∙◌, refl, arith}
 use Rattle.std.specs.Prelude.{codes, bytes_eq, is_none, Result, Ok, Err, IfOk}
 use Rattle.std.specs.Result.{result_ok}
 use Rattle.std.specs.List.{list_all, range_with_len, slice_split}
@@ -45,7 +45,7 @@ use Rattle.fab_grammar.specs.Lines.{a_trecv, trecv_of, wait_of, op_of}
 use Rattle.fab_script.specs.declared.refused.ParseRefused.{ParseRefused}
 use Rattle.fab_script.specs.Refused.{IsVerdict}
 use Rattle.fab_words.specs.Rows.{is_text, words_of, lines_of}
-use Rattle.fab_grammar.specs.Rules.{Rules, is_header, header_rules, kind_rules, verb_rules, word_rules, why_of, with_setting, with_peer, with_call, with_kind, with_verb, with_words, with_line}
+use Rattle.fab_grammar.specs.Rules.{Rules, header_rules, kind_rules, verb_rules, word_rules, why_of, with_setting, with_peer, with_call, with_kind, with_verb, with_words, with_line}
 use Rattle.fab_grammar.specs.Settings.{setting_of, peer_of, hints_of}
 use Rattle.fab_grammar.specs.Verbs.{verb_of, kind_of}
 use Rattle.fab_words.specs.Words.{first_of, only_if, begins_with, read_number, read_index, read_len, read_source}

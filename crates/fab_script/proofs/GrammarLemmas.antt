@@ -1,7 +1,6 @@
 -- The lines that are left, read one after another.
 use Rattle.std.proofs.Common.{◌≡◌, ℕ, ◌+◌, ◌≤◌, List, [], ◌∷◌, cond, length, map, true, false, Option, Some, None, sym, ap, ◌∙◌, refl, arith}
-use Rattle.std.specs.Prelude.{Result, Ok, Err, unwrap_or}
-use Rattle.fab_base.specs.declared.script.Script.{Script}
+use Rattle.std.specs.Prelude.{Ok, Err, unwrap_or}
 use Rattle.fab_base.specs.declared.caps.Info.{Info}
 use Rattle.fab_base.specs.declared.status.Why.{Why}
 use Rattle.fab_base.specs.declared.status.Why.TheVariants as why
@@ -17,7 +16,7 @@ use Rattle.fab_grammar.specs.Rules.{is_late, why_of, with_line}
 use Rattle.std.proofs.lemmas.Bool.Decides.{nat_tests}
 use Rattle.fab_grammar.proofs.RuleLemmas.{in_time}
 use Rattle.fab_script.specs.Parts.{Holds, Answers}
-use Rattle.fab_grammar.specs.Grammar.{script_with, granted, of_peers, read_lines, verdict, then_script, script_said, Refusal}
+use Rattle.fab_grammar.specs.Grammar.{script_with, granted, of_peers, read_lines, verdict, then_script, script_said}
 
 -- The lines before are taken: what they say, which the reader has, and what the lines that are left make of it.
 pub record Progress (language : Language) (bytes : List ℕ) (left : ℕ × List (List ℕ)) (reader : Reader) : Type 0 where

@@ -1,6 +1,6 @@
 -- What the parts hold after one item more.
-use Rattle.std.proofs.Common.{◌≡◌, ℕ, ◌+◌, ◌-◌, ◌<◌, ◌≤◌, true, false, eqb, Vec, Global, vec_len, List, [], ◌∷◌, ◌++◌, length, map, get_or, set, Option, Some, None, sym, ap, subst, ◌∙◌, refl, arith}
-use Rattle.std.specs.List.{list_any, last_or, sum_by}
+use Rattle.std.proofs.Common.{◌≡◌, ℕ, ◌+◌, ◌-◌, ◌<◌, false, eqb, Vec, Global, vec_len, List, [], ◌∷◌, ◌++◌, length, map, get_or, set, Some, None, sym, ap, ◌∙◌, refl, arith}
+use Rattle.std.specs.List.{list_any, last_or}
 use Rattle.std.proofs.lemmas.List.{map-set, map-append, same_lists}
 use Rattle.std.proofs.Math.ListN.{get_or-map}
 use Rattle.std.proofs.lemmas.List.FromFn.{length-map-range_with_len, get_or-map-range_with_len, map-range_with_len_more}
@@ -9,7 +9,7 @@ use Rattle.fab_grammar.specs.declared.items.Item.{Item}
 use Rattle.fab_grammar.specs.declared.items.Item.TheVariants.{Peer, Does}
 use Rattle.fab_script.specs.declared.parts.Parts.{Parts}
 use Rattle.fab_grammar.specs.Lines.{op_size}
-use Rattle.fab_grammar.specs.Before.{is_distinct, opened_by, part_of, parts_of, size_of}
+use Rattle.fab_grammar.specs.Before.{is_distinct, opened_by, part_of, parts_of}
 use Rattle.fab_script.specs.Parts.{HoldsParts}
 use Rattle.fab_grammar.proofs.PartLemmas.{opened_by-append, distinct_push}
 use Rattle.fab_script.proofs.ItemLemmas.{sum_open, parts_of_open, parts_of_add, part_of_none, last_at, opened_add, sum_add}

@@ -1,5 +1,5 @@
 -- What becomes of one line.
-use Rattle.std.proofs.Common.{◌≡◌, ℕ, ◌+◌, ◌≤◌, Bool, true, false, eqb, List, [], ◌∷◌, ◌++◌, ◌||◌, length, map, Option, Some, None, sym, ap, ◌∙◌, refl, arith}
+use Rattle.std.proofs.Common.{◌≡◌, ℕ, Bool, true, false, eqb, List, [], ◌∷◌, Option, Some, None, sym, ap, ◌∙◌, refl}
 use Rattle.std.specs.Prelude.{Result, Ok, Err, ok_or, is_some, is_none}
 use Rattle.std.specs.List.{list_any}
 use Rattle.fab_base.specs.declared.script.LineOp.{LineOp}
@@ -7,7 +7,6 @@ use Rattle.fab_base.specs.declared.status.Why.{Why}
 use Rattle.fab_base.specs.declared.status.Why.TheVariants as why
 use Rattle.fab_words.specs.declared.fault.Fault.{Fault}
 use Rattle.fab_words.specs.declared.fault.Fault.TheVariants.{Words, Number, Limit}
-use Rattle.fab_grammar.specs.declared.items.Item.{Item}
 use Rattle.fab_grammar.specs.declared.language.Language.{Language}
 use Rattle.fab_words.specs.Rows.{is_text, words_of}
 use Rattle.fab_script.specs.declared.reader.Reader.{Reader}
@@ -28,7 +27,7 @@ use Rattle.fab_grammar.specs.Lines.{op_of}
 use Rattle.fab_grammar.specs.Settings.{a_file, size_of, caps_setting, selective_setting, payload_setting, wish_of, setting_of, peer_of}
 use Rattle.fab_words.specs.Words.{first_of, number_of, read_number, read_text}
 use Rattle.fab_grammar.specs.Rules.{why_from, is_late, is_set, is_fresh, is_one_too_many, is_refused, setting_rules, with_setting, names_one, is_again, is_no_peer, peer_rules, is_too_much, call_rules, word_rules, with_words, why_of, with_line}
-use Rattle.fab_script.specs.Parts.{Answers, Holds}
+use Rattle.fab_script.specs.Parts.{Answers}
 
 pub answers_err : (rules : Option Why) (after : Before) (reader : Reader) (result : Result (Unit {0}) Refused) (why : Why) → result ≡ Err (Because why) → rules ≡ Some why → Answers rules after reader result
 answers_err rules after reader result why e f = rw (e, f) refl

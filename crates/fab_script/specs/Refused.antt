@@ -2,7 +2,7 @@
 --     IsScript e             the script is refused; the other answer is want of memory
 --     IsRefusal e said       the line and the reason are those that are said
 --     IsVerdict said result  what is read is what is said; want of memory aside
-use Rattle.std.specs.Prelude.{◌≡◌, ℕ, Option, Some, None, Result, Ok, Err}
+use Rattle.std.specs.Prelude.{◌≡◌, ℕ, Option, Some, Result, Ok, Err}
 use Rattle.fab_base.specs.declared.status.Why.{Why}
 use Rattle.fab_base.specs.declared.script.Script.{Script}
 use Rattle.fab_script.specs.declared.refused.ParseRefused.{ParseRefused}

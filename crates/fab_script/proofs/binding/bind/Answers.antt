@@ -1,6 +1,4 @@
-use Rattle.std.proofs.Common.{◌≡◌, ℕ, min, Option, Some, None, sym, ap, ◌∙◌, option_map, rules}
-use Rattle.std.specs.List.{filter_map, reduce}
-use Rattle.fab_script.specs.Bound.{at_range, lines_outside, outside}
+use Rattle.std.proofs.Common.{Some, None, rules}
 use Rattle.fab_script.proofs.BindingLemmas.{first_is_outside, was_read, sound_with}
 use Rattle.fab_script.proofs.binding.bind.Goals as goal
 

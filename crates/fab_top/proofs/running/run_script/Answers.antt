@@ -1,6 +1,5 @@
-use Rattle.std.proofs.Common.{◌≡◌, ◌≤◌, ◌^◌, ℕ, true, List, length, map, subst, sym, ap, ◌∙◌, string_bytes, rules}
+use Rattle.std.proofs.Common.{◌≡◌, ◌≤◌, ◌^◌, List, length, map, subst, ap, ◌∙◌, string_bytes, rules}
 use Rattle.fab_base.specs.Built.{all_built}
-use Rattle.fab_base.specs.declared.script.Line.{Line}
 use Rattle.fab_model.specs.Calls.{upto}
 use Rattle.fab_model.specs.Orders.{Reached}
 use Rattle.fab_model.specs.Peers.{fabric}

@@ -1,5 +1,4 @@
-use Rattle.std.proofs.Common.{◌≡◌, ℕ, arith, ap, sym, subst, refl, ◌∙◌, vec_len, map}
-use Rattle.fab_grammar.specs.Before.{parts_of}
+use Rattle.std.proofs.Common.{◌≡◌, ℕ, arith, subst, refl}
 use Rattle.fab_script.proofs.HoldsLemmas.{AreEmpty, empty_none, empty_more, holds_grown}
 use Rattle.fab_script.proofs.parts.Parts.grow.Goals as goal
 

@@ -1,6 +1,6 @@
 use Rattle.std.proofs.Common.{◌≡◌, ◌+◌, true, false, sym, ap, ◌∙◌}
-use Rattle.std.specs.Prelude.{Ok, nat_lt, sum_by}
-use Rattle.fab_grammar.specs.Before.{has_opened, is_filled, count_in, size_of}
+use Rattle.std.specs.Prelude.{Ok, nat_lt}
+use Rattle.fab_grammar.specs.Before.{has_opened, is_filled, count_in}
 use Rattle.fab_grammar.specs.Lines.{op_of, op_size}
 use Rattle.fab_grammar.specs.Rules.{is_too_much}
 use Rattle.fab_script.proofs.ReaderLemmas.{call_taken}
