@@ -130,7 +130,10 @@ fn spaces_empty_lines_and_order_of_peers(rt: HostRuntime) -> Result<(), Fail> {
 /// Texts that are refused whole.
 #[test]
 fn refused_texts(rt: HostRuntime) {
-    let table: [(&[u8], u32, Why); 24] = [
+    let table: [(&[u8], u32, Why); 27] = [
+        (b"fabric 1\njump hex:61\n", 2, Why::Verb),
+        (b"fabric 1\nsend 1 0 text:a\n", 2, Why::Unbuilt),
+        (b"fabric 1\npeers 1\npeer 0\nselective 1\n", 4, Why::Unbuilt),
         (b"", 0, Why::Header),
         (b"\n \n", 0, Why::Header),
         (b"fabric 1", 1, Why::Missing),

@@ -1,6 +1,5 @@
 -- The lines of a bound script's peers: its opening, and that they are carried out where the script's are.
 use Rattle.std.proofs.Common.{◌≡◌, ◌<◌, ℕ, zero, suc, true, List, [], ◌∷◌, ◌++◌, length, map, get_or, inl, inr, refl, sym, ap, ◌∙◌, arith}
-use Rattle.std.specs.Prelude.{slice_index_or}
 use Rattle.std.specs.List.{list_all}
 use Rattle.std.proofs.lemmas.Bool.{and_from, and_parts, cases_lt}
 use Rattle.std.proofs.lemmas.List.{map-append, length-append, length-map}
@@ -13,8 +12,9 @@ use Rattle.fab_base.specs.declared.script.Line.{Line}
 use Rattle.fab_base.specs.declared.script.LineOp.{LineOp}
 use Rattle.fab_base.specs.declared.script.LineOp.TheVariants.{TSend, TRecv, Wait}
 use Rattle.fab_model.specs.Calls.{upto}
-use Rattle.fab_model.specs.Replay.{opening, newly, lines_of, bind_word, bind_op, bind_line}
+use Rattle.fab_model.specs.Replay.{opening, lines_of, bind_word, bind_op, bind_line}
 use Rattle.fab_peer.specs.Joined.{opened}
+use Rattle.fab_peer.proofs.Opening.{opened_is}
 
 -- ---- the opening
 
@@ -44,18 +44,10 @@ at_upto f d (suc n) k below =
       | inr past ↦ (let is : k ≡ n = omega (arith, past, below) in back_of (map f (upto n)) (f n) d k (omega (arith, is, count)) ∙ ap f (sym is))
     ]
 
--- what is the same at each number below n
-same_upto : {X : Type 0} (f g : ℕ → X) (n : ℕ) → ((k : ℕ) → k < n → f k ≡ g k) → map f (upto n) ≡ map g (upto n)
-same_upto f g zero each = refl
-same_upto f g (suc n) each =
-    map-append f (upto n) (n ∷ []) ∙ ap (λ xs. xs ++ f n ∷ []) (same_upto f g n (λ k below. each k (omega (arith, below)))) ∙ ap (λ x. map g (upto n) ++ x ∷ []) (each n (omega (arith))) ∙ sym (map-append g (upto n) (n ∷ []))
-
 -- the peers with these lines are those of the script's opening
 pub opening_is : (b : Bound) → opened b.script.conf (map (lines_of b) (upto b.script.conf.peers)) ≡ opening b
 unfolding opening
-opening_is b =
-    let n = b.script.conf.peers in
-    same_upto (λ p. newly b.script.conf (slice_index_or (map (lines_of b) (upto n)) p [])) (λ p. newly b.script.conf (lines_of b p)) n (λ k below. ap (newly b.script.conf) (at_upto (lines_of b) [] n k below))
+opening_is b = opened_is b.script.conf (map (lines_of b) (upto b.script.conf.peers)) (lines_of b) (λ p below. at_upto (lines_of b) [] b.script.conf.peers p below)
 
 -- ---- lines that are carried out
 
