@@ -387,7 +387,8 @@ fn whole_refusal(alloc: Global, text: &[u8]) -> Option<(u32, Why)> {
 /// Each reason at the least text that has it, and where another reason would come later.
 #[test]
 fn reasons_in_their_order(rt: HostRuntime) {
-    let table: [(&[u8], Option<(u32, Why)>); 36] = [
+    let table: [(&[u8], Option<(u32, Why)>); 37] = [
+        (b"fabric 1\npeers 1\ncq 1", Some((3, Why::Limit))),
         (b"fabric 1\npeers 2\npeers 2", Some((3, Why::Twice))),
         (
             b"fabric 1\npeers 1\npeer 0\npeer 0 0",
@@ -445,7 +446,14 @@ fn reasons_in_their_order(rt: HostRuntime) {
 /// Lines of the whole language, each the fourth line of its script. None: the script is read.
 #[test]
 fn lines_of_the_whole_language(rt: HostRuntime) -> Result<(), Fail> {
-    let table: [(&[u8], Option<Why>); 83] = [
+    let table: [(&[u8], Option<Why>); 90] = [
+        (b"remove 4294967295", None),
+        (b"remove 4294967296", Some(Why::Limit)),
+        (b"mrecv 1 * 100 min=4294967295", None),
+        (b"recv 1 4294967295 5", None),
+        (b"take 1 33554432", None),
+        (b"take 1 33554433", Some(Why::Limit)),
+        (b"read 1 0 10 0 33554433", Some(Why::Limit)),
         (b"atomic 1 0 1 0 FI_SUM u8 256", Some(Why::Number)),
         (b"atomic 1 0 1 0 FI_SUM u8 255,0", None),
         (b"atomic 1 0 1 0 FI_SUM u8 255 completion", None),
