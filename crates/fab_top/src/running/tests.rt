@@ -127,8 +127,9 @@ fn scripts_run_to_their_reports(rt: HostRuntime) -> Result<(), Fail> {
 
 #[test]
 fn other_words_are_no_command(rt: HostRuntime) -> Result<(), Fail> {
-    let rows: [&[&str]; 4] = [
+    let rows: [&[&str]; 5] = [
         &[],
+        &["pingpong", "f", "4096", "0"],
         &["script"],
         &["scripts", "it"],
         &["script", "it", "it"],
