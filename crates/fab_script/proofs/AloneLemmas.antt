@@ -1,5 +1,5 @@
 -- A script whose lines are all carried out has no payload file, and none of its lines names one.
-use Rattle.std.proofs.Common.{◌≡◌, ℕ, ◌+◌, min, Bool, true, false, cond, not, ◌&&◌, List, [], ◌∷◌, length, map, Option, Some, None, option_map, sym, ap, subst, ◌∙◌, refl}
+use Rattle.std.proofs.Common.{◌≡◌, ℕ, min, Bool, true, false, ◌&&◌, List, [], ◌∷◌, map, Some, None, option_map, sym, ap, subst, ◌∙◌, refl}
 use Rattle.std.specs.Prelude.{Result, Ok, Err}
 use Rattle.std.specs.List.{concat, list_all, reduce}
 use Rattle.fab_base.specs.Built.{is_built as is_carried_out, all_built, is_short_text, is_at_transmit}
@@ -10,11 +10,7 @@ use Rattle.fab_base.specs.declared.script.LineOp.{LineOp}
 use Rattle.fab_base.specs.declared.script.LineOp.TheVariants.{TSend, TRecv, Wait}
 use Rattle.fab_base.specs.declared.script.Payload.{Payload}
 use Rattle.fab_base.specs.declared.script.Script.{Script}
-use Rattle.fab_base.specs.declared.status.Why.{Why}
-use Rattle.fab_base.specs.declared.status.Why.TheVariants as why
-use Rattle.fab_base.specs.declared.caps.Info.{Info}
 use Rattle.fab_base.specs.declared.limits.Size.TheVariants as size
-use Rattle.fab_model.specs.Negotiation.{grant}
 use Rattle.fab_grammar.specs.declared.language.Form.TheVariants.{Line as LineForm}
 use Rattle.fab_grammar.specs.declared.language.Language.TheVariants.{Built}
 use Rattle.fab_grammar.specs.declared.settings.Setting.{Setting}
@@ -23,22 +19,20 @@ use Rattle.fab_grammar.specs.declared.verbs.Kind.{Kind}
 use Rattle.fab_grammar.specs.declared.verbs.Kind.TheVariants as kind
 use Rattle.fab_grammar.specs.declared.verbs.Verb.{Verb}
 use Rattle.fab_grammar.specs.declared.verbs.Verb.TheVariants as verb
-use Rattle.fab_grammar.specs.Before.{Before, nothing, parts_of}
-use Rattle.fab_grammar.specs.Conf.{conf_of}
-use Rattle.fab_grammar.specs.Grammar.{Refusal, read_lines, script_with, granted, of_peers, script_said, then_script, verdict}
+use Rattle.fab_grammar.specs.Before.{Before, nothing}
+use Rattle.fab_grammar.specs.Grammar.{verdict}
 use Rattle.fab_grammar.specs.Language.{has, is_built}
 use Rattle.fab_grammar.specs.Lines.{op_of}
-use Rattle.fab_grammar.specs.Rules.{header_rules, kind_rules, verb_rules, word_rules, why_of, with_setting, with_peer, with_call, with_kind, with_verb, with_words, with_line}
-use Rattle.fab_grammar.specs.Settings.{size_of, wish_of, setting_of, peer_of, hints_of}
-use Rattle.fab_grammar.specs.Verbs.{verb_of, kind_of}
+use Rattle.fab_grammar.specs.Rules.{with_setting, with_peer, with_call, with_kind}
+use Rattle.fab_grammar.specs.Settings.{size_of, wish_of, setting_of, peer_of}
+use Rattle.fab_grammar.specs.Verbs.{kind_of}
 use Rattle.fab_grammar.proofs.PartLemmas.{and_true}
-use Rattle.fab_grammar.proofs.RuleLemmas.{rest_of, first_fails}
 use Rattle.fab_words.specs.Faults.{map_ok}
 use Rattle.fab_words.specs.declared.fault.Fault.{Fault}
-use Rattle.fab_words.specs.Rows.{is_text, lines_of, words_of}
-use Rattle.fab_words.specs.Words.{first_of}
+use Rattle.fab_words.specs.Rows.{lines_of}
 use Rattle.fab_script.specs.Bound.{has_bytes, is_inside, lines_outside, at_range, outside}
-use Rattle.fab_script.proofs.BuiltLemmas.{forms_of, not_false}
+use Rattle.fab_script.proofs.BuiltLemmas.{forms_of}
+use Rattle.fab_script.proofs.KeptLemmas.{lines_keep, spelt}
 
 -- ---- no line names a file
 
@@ -113,57 +107,12 @@ with_kind_alone kind.Setting before number verb args none e = with_setting_alone
 with_kind_alone kind.Peer before number verb args none e = with_peer_alone before (peer_of args) ∙ none
 with_kind_alone kind.Call before number verb args none e = with_call_alone before number (op_of verb args) ∙ none
 
-with_verb_alone : (before : Before) (number : ℕ) (verb : Option Verb) (args : List (List ℕ)) → before.payloads ≡ [] → first_of (verb_rules Built before number verb args) ≡ None → (with_verb before number verb args).payloads ≡ []
-with_verb_alone before number None args none e = none
-with_verb_alone before number (Some verb) args none e =
-    with_kind_alone (kind_of verb) before number verb args none (not_false (is_built Built verb args) (first_fails (not (is_built Built verb args)) why.Unbuilt (kind_rules (kind_of verb) before number verb args) e))
-
-either_alone : (test : Bool) (a b : List (Bool × Why)) (x y : Before) → (first_of a ≡ None → x.payloads ≡ []) → y.payloads ≡ [] → first_of (cond test a b) ≡ None → (cond test x y).payloads ≡ []
-either_alone true a b x y f none e = f e
-either_alone false a b x y f none e = none
-
-with_words_alone : (before : Before) (number : ℕ) (words : List (List ℕ)) → before.payloads ≡ [] → first_of (word_rules Built before number words) ≡ None → (with_words before number words).payloads ≡ []
-with_words_alone before number [] none e = none
-with_words_alone before number (word ∷ args) none e =
-    either_alone before.has_header (verb_rules Built before number (verb_of word) args) (header_rules number (word ∷ args)) (with_verb before number (verb_of word) args) (record before { has_header = true })
-    (with_verb_alone before number (verb_of word) args none) none e
-
-with_line_alone : (before : Before) (number : ℕ) (line : List ℕ) → before.payloads ≡ [] → why_of Built before number line ≡ None → (with_line before number line).payloads ≡ []
-unfolding why_of with_line
-with_line_alone before number line none e = with_words_alone before number (words_of line) none (rest_of (not (is_text line)) why.NotText (word_rules Built before number (words_of line)) e)
-
-read_alone : (before : Before) (number : ℕ) (lines : List (List ℕ)) (after : Before) → before.payloads ≡ [] → read_lines Built before number lines ≡ Ok after → after.payloads ≡ []
-unfolding read_lines
-read_alone before number [] after none e =
-    let same : before ≡ after = cc in
-    ap (λ b. b.payloads) (sym same) ∙ none
-read_alone before number (line ∷ lines) after none e =
-    by_why (why_of Built before number line) refl (λ taken f. read_alone (with_line before number line) (number + 1) lines after (with_line_alone before number line none taken) f) e
-  where
-    by_why : (rules : Option Why) → why_of Built before number line ≡ rules → (why_of Built before number line ≡ None → read_lines Built (with_line before number line) (number + 1) lines ≡ Ok after → after.payloads ≡ []) → elim rules as (λ _. Result Before Refusal) [ Some why ↦ Err (number, why) | None ↦ read_lines Built (with_line before number line) (number + 1) lines ] ≡ Ok after → after.payloads ≡ []
-    by_why (Some why) f rest e = cc
-    by_why None f rest e = rest f e
-
-said_alone : (count : ℕ) (before : Before) (script : Script) → before.payloads ≡ [] → script_said count before ≡ Ok script → script.payloads ≡ []
-unfolding script_said
-said_alone count before script none e = by_header before.has_header before.settings.peers e
-  where
-    by_grant : (n : ℕ) (o : Option Info) → granted count before n o ≡ Ok script → script.payloads ≡ []
-    by_grant n None e = cc
-    by_grant n (Some info) e =
-        let same : script_with (conf_of before.settings n info) before.payloads (parts_of n before.items) ≡ script = cc in
-        ap (λ (s : Script). s.payloads) (sym same) ∙ none
-
-    by_header : (b : Bool) (peers : Option ℕ) → cond b (of_peers count before peers) (Err (0, why.Header)) ≡ Ok script → script.payloads ≡ []
-    by_header false peers e = cc
-    by_header true None e = cc
-    by_header true (Some n) e = by_grant n (grant (Some (hints_of before.settings))) e
-
-then_alone : (count : ℕ) (read : Result Before Refusal) (script : Script) → ((after : Before) → read ≡ Ok after → after.payloads ≡ []) → then_script count read ≡ Ok script → script.payloads ≡ []
-then_alone count (Ok after) script all e = said_alone count after script (all after refl) e
-then_alone count (Err refusal) script all e = cc
+abbrev Alone : Before → Type 0
+Alone before = before.payloads ≡ []
 
 pub no_payloads : (bytes : List ℕ) (script : Script) → verdict Built bytes ≡ Ok script → script.payloads ≡ []
-unfolding verdict
 no_payloads bytes script e =
-    then_alone (length (lines_of bytes)) (read_lines Built nothing 1 (lines_of bytes)) script (λ after said. read_alone nothing 1 (lines_of bytes) after refl said) e
+    let s = spelt Built bytes script e in
+    let none : s.after.payloads ≡ [] =
+    lines_keep Built Alone (λ before kept. kept) (λ before number verb args kept built none. with_kind_alone (kind_of verb) before number verb args kept built) nothing 1 (lines_of bytes) s.after refl s.lines in
+    ap (λ (x : Script). x.payloads) (sym s.is) ∙ none

@@ -1,6 +1,6 @@
 -- The first line whose bytes are not there; and a script that was read is sound with its files.
-use Rattle.std.proofs.Common.{◌≡◌, ℕ, min, ◌+◌, ◌<◌, Bool, true, false, cond, not, ◌&&◌, ◌||◌, eqb, leb, List, [], ◌∷◌, ◌++◌, length, map, fold, Option, Some, None, option_map, sym, ap, subst, ◌∙◌, refl, arith}
-use Rattle.std.specs.Prelude.{filter, filter_map, Result, Ok, Err, ok_or}
+use Rattle.std.proofs.Common.{◌≡◌, ℕ, min, ◌<◌, Bool, true, false, cond, not, ◌&&◌, ◌||◌, eqb, leb, List, [], ◌∷◌, ◌++◌, length, map, fold, Option, Some, None, option_map, sym, ap, subst, ◌∙◌, refl, arith}
+use Rattle.std.specs.Prelude.{filter, filter_map, Result, Ok, Err}
 use Rattle.std.specs.List.{concat, reduce, list_all, list_any}
 use Rattle.std.proofs.lemmas.Bool.Decides.{nat_tests}
 use Rattle.std.proofs.lemmas.List.{map-append}
@@ -26,21 +26,21 @@ use Rattle.fab_grammar.specs.declared.verbs.Kind.TheVariants as kind
 use Rattle.fab_grammar.specs.declared.verbs.Verb.{Verb}
 use Rattle.fab_grammar.specs.declared.verbs.Verb.TheVariants as verb
 use Rattle.fab_grammar.specs.Capabilities.{caps_of}
-use Rattle.fab_grammar.specs.Before.{Before, nothing, has_opened, is_distinct, part_of, parts_of}
-use Rattle.fab_grammar.specs.Conf.{conf_of}
-use Rattle.fab_grammar.specs.Grammar.{Refusal, read_lines, script_with, granted, of_peers, script_said, then_script, verdict}
-use Rattle.fab_grammar.specs.Language.{is_built}
+use Rattle.fab_grammar.specs.Before.{Before, nothing, has_opened, is_distinct, part_of}
+use Rattle.fab_grammar.specs.Grammar.{verdict}
 use Rattle.fab_grammar.specs.Lines.{op_of}
-use Rattle.fab_grammar.specs.Rules.{has_id, is_declared, is_set, is_words, is_number, is_limit, is_late, is_one_too_many, is_refused as is_not_granted, header_rules, kind_rules, setting_rules, verb_rules, word_rules, why_of, with_setting, with_peer, with_call, with_kind, with_verb, with_words, with_line}
+use Rattle.fab_grammar.specs.Rules.{has_id, is_declared, is_set, is_words, is_number, is_limit, is_late, is_one_too_many, is_refused as is_not_granted, kind_rules, setting_rules, with_setting, with_peer, with_call, with_kind}
 use Rattle.fab_grammar.specs.Settings.{a_file, between, wishing, size_of, payload_setting, caps_setting, selective_setting, wish_of, setting_of, peer_of, hints_of}
-use Rattle.fab_grammar.specs.Verbs.{verb_of, kind_of}
+use Rattle.fab_grammar.specs.Verbs.{kind_of}
 use Rattle.fab_grammar.proofs.PartLemmas.{and_true, distinct_push}
 use Rattle.fab_grammar.proofs.RuleLemmas.{rest_of, first_fails}
 use Rattle.fab_words.specs.Faults.{◌&◌, map_ok}
 use Rattle.fab_words.specs.declared.fault.Fault.{Fault}
 use Rattle.fab_words.specs.declared.fault.Fault.TheVariants.{Number, Limit}
-use Rattle.fab_words.specs.Rows.{is_text, lines_of, words_of}
+use Rattle.fab_words.specs.Rows.{lines_of}
 use Rattle.fab_words.specs.Words.{first_of, number_of, read_number, read_text}
+use Rattle.fab_spell.proofs.Said.{both_said, some_said}
+use Rattle.fab_script.proofs.KeptLemmas.{lines_keep, spelt}
 use Rattle.fab_script.specs.Bound.{is_inside, lines_outside, at_range, outside, IsSound}
 
 -- ---- the least of several lists
@@ -140,24 +140,12 @@ made payloads f (Ok x) s each e =
     subst (Fits payloads) same (each x refl)
 made payloads f (Err fault) s each e = cc
 
-first_said : {A B : Type 0} (a : Result A Fault) (b : Result B Fault) (x : A) (y : B) → (a & b) ≡ Ok (x, y) → a ≡ Ok x
-first_said {A} {B} (Ok a) (Ok b) x y e =
-    let p : ◌≡◌ {A = A × B} (a, b) (x, y) = cc in
-    ap (λ q. Ok q.0) p
-first_said (Ok a) (Err g) x y e = cc
-first_said (Err f) (Ok b) x y e = cc
-first_said (Err f) (Err g) x y e = cc
-
-number_there : (o : Option ℕ) (n : ℕ) → ok_or o Number ≡ Ok n → o ≡ Some n
-number_there (Some m) n e = cc
-number_there None n e = cc
-
 -- a payload has the number of its word
 payload_fits : (args : List (List ℕ)) (payloads : List Payload) (s : Setting) → is_declared payloads args ≡ false → payload_setting args ≡ Ok s → Fits payloads s
 unfolding payload_setting read_number
 payload_fits (id ∷ name ∷ []) payloads s fresh e =
     made payloads a_file (read_number id & read_text name) s (λ x said.
-    let number = number_there (number_of id) x.0 (first_said (read_number id) (read_text name) x.0 x.1 said) in
+    let number = some_said (number_of id) Number x.0 (both_said (read_number id) (read_text name) x said).0 in
     sym (any_id payloads x.0) ∙ ap (has_id payloads) (sym number) ∙ fresh) e
 payload_fits _ payloads s fresh e = cc
 
@@ -251,37 +239,8 @@ with_kind_kept kind.Setting before number verb args kept e =
 with_kind_kept kind.Peer before number verb args kept e = with_peer_kept before (peer_of args) kept
 with_kind_kept kind.Call before number verb args kept e = with_call_kept before number (op_of verb args) kept
 
-module _ (language : Language) where
-  with_verb_kept : (before : Before) (number : ℕ) (verb : Option Verb) (args : List (List ℕ)) → Kept before → first_of (verb_rules language before number verb args) ≡ None → Kept (with_verb before number verb args)
-  with_verb_kept before number None args kept e = kept
-  with_verb_kept before number (Some verb) args kept e =
-      with_kind_kept (kind_of verb) before number verb args kept (rest_of (not (is_built language verb args)) why.Unbuilt (kind_rules (kind_of verb) before number verb args) e)
-
-  by_header : (test : Bool) (a b : List (Bool × Why)) (x y : Before) → (first_of a ≡ None → Kept x) → Kept y → first_of (cond test a b) ≡ None → Kept (cond test x y)
-  by_header true a b x y f kept e = f e
-  by_header false a b x y f kept e = kept
-
-  with_words_kept : (before : Before) (number : ℕ) (words : List (List ℕ)) → Kept before → first_of (word_rules language before number words) ≡ None → Kept (with_words before number words)
-  with_words_kept before number [] kept e = kept
-  with_words_kept before number (word ∷ args) kept e =
-      by_header before.has_header (verb_rules language before number (verb_of word) args) (header_rules number (word ∷ args)) (with_verb before number (verb_of word) args) (record before { has_header = true })
-      (with_verb_kept before number (verb_of word) args kept) (record { distinct = kept.distinct; some = kept.some }) e
-
-  with_line_kept : (before : Before) (number : ℕ) (line : List ℕ) → Kept before → why_of language before number line ≡ None → Kept (with_line before number line)
-  unfolding why_of with_line
-  with_line_kept before number line kept e = with_words_kept before number (words_of line) kept (rest_of (not (is_text line)) why.NotText (word_rules language before number (words_of line)) e)
-
-  lines_kept : (before : Before) (number : ℕ) (lines : List (List ℕ)) (after : Before) → Kept before → read_lines language before number lines ≡ Ok after → Kept after
-  unfolding read_lines
-  lines_kept before number [] after kept e =
-      let same : before ≡ after = cc in
-      subst Kept same kept
-  lines_kept before number (line ∷ lines) after kept e =
-      by_why (why_of language before number line) refl (λ none f. lines_kept (with_line before number line) (number + 1) lines after (with_line_kept before number line kept none) f) e
-    where
-      by_why : (rules : Option Why) → why_of language before number line ≡ rules → (why_of language before number line ≡ None → read_lines language (with_line before number line) (number + 1) lines ≡ Ok after → Kept after) → elim rules as (λ _. Result Before Refusal) [ Some why ↦ Err (number, why) | None ↦ read_lines language (with_line before number line) (number + 1) lines ] ≡ Ok after → Kept after
-      by_why (Some why) f rest e = cc
-      by_why None f rest e = rest f e
+header_kept : (before : Before) → Kept before → Kept (record before { has_header = true })
+header_kept before kept = record { distinct = kept.distinct; some = kept.some }
 
 -- ---- the script
 
@@ -315,36 +274,18 @@ pub record IsRead (script : Script) : Type 0 where
   pub granted : grant script.conf.hints ≡ Some script.conf.info
   pub peers : script.conf.peers ≡ script.conf.info.peers
 
-said_read : (count : ℕ) (before : Before) (script : Script) → Kept before → script_said count before ≡ Ok script → IsRead script
-unfolding script_said
-said_read count before script kept e = has_header before.has_header before.settings.peers refl e
-  where
-    by_grant : (n : ℕ) (o : Option Info) → before.settings.peers ≡ Some n → grant (Some (hints_of before.settings)) ≡ o → granted count before n o ≡ Ok script → IsRead script
-    by_grant n None peers g e = cc
-    by_grant n (Some info) peers g e =
-        let same : script_with (conf_of before.settings n info) before.payloads (parts_of n before.items) ≡ script = cc in
-        subst IsRead same (record {
-          lists = length-map-range_with_len (λ k. part_of k before.items) 0 n;
-          distinct = kept.distinct;
-          version = refl;
-          granted = g;
-          peers = grants_peers (hints_of before.settings) n info (hints_peers before.settings ∙ peers) (kept.some n peers) g;
-        })
-
-    has_header : (b : Bool) (peers : Option ℕ) → before.settings.peers ≡ peers → cond b (of_peers count before peers) (Err (0, why.Header)) ≡ Ok script → IsRead script
-    has_header false peers p e = cc
-    has_header true None p e = cc
-    has_header true (Some n) p e = by_grant n (grant (Some (hints_of before.settings))) p refl e
-
-then_read : (count : ℕ) (read : Result Before Refusal) (script : Script) → ((after : Before) → read ≡ Ok after → Kept after) → then_script count read ≡ Ok script → IsRead script
-then_read count (Ok after) script all e = said_read count after script (all after refl) e
-then_read count (Err refusal) script all e = cc
-
 pub was_read : (language : Language) (text : List ℕ) (script : Script) → verdict language text ≡ Ok script → IsRead script
-unfolding verdict
 was_read language text script e =
-    let start : Kept nothing = record { distinct = refl; some = λ n none. cc none } in
-    then_read (length (lines_of text)) (read_lines language nothing 1 (lines_of text)) script (λ after said. lines_kept language nothing 1 (lines_of text) after start said) e
+    let s = spelt language text script e in
+    let kept : Kept s.after =
+    lines_keep language Kept header_kept (λ before number verb args kept built none. with_kind_kept (kind_of verb) before number verb args kept none) nothing 1 (lines_of text) s.after (record { distinct = refl; some = λ n none. cc none }) s.lines in
+    subst IsRead s.is (record {
+      lists = length-map-range_with_len (λ k. part_of k s.after.items) 0 s.count;
+      distinct = kept.distinct;
+      version = refl;
+      granted = s.granted;
+      peers = grants_peers (hints_of s.after.settings) s.count s.info (hints_peers s.after.settings ∙ s.peers) (kept.some s.count s.peers) s.granted;
+    })
 
 -- a script that was read, with one file for each payload, none of whose lines is outside
 pub sound_with : (script : Script) (files : List (List ℕ)) → IsRead script → length files ≡ length script.payloads → outside script files ≡ None → IsSound (record { script = script; files = files })

@@ -1,5 +1,5 @@
 -- Every line of a script is one that the program carries out, and its completion queue has room.
-use Rattle.std.proofs.Common.{◌≡◌, ℕ, ◌+◌, ◌<◌, Bool, true, false, cond, not, ◌&&◌, eqb, leb, ltb, List, [], ◌∷◌, ◌++◌, length, map, drop, Option, Some, None, sym, ap, subst, ◌∙◌, refl, arith}
+use Rattle.std.proofs.Common.{◌≡◌, ℕ, ◌<◌, Bool, true, false, cond, not, ◌&&◌, eqb, leb, ltb, List, [], ◌∷◌, ◌++◌, length, map, drop, Option, Some, None, ap, subst, ◌∙◌, refl, arith}
 use Rattle.std.specs.Prelude.{codes, bytes_eq, is_none, Result, Ok, Err, IfOk}
 use Rattle.std.specs.Result.{result_ok}
 use Rattle.std.specs.List.{list_all, range_with_len, slice_split}
@@ -12,8 +12,6 @@ use Rattle.fab_base.specs.declared.script.Line.{Line}
 use Rattle.fab_base.specs.declared.script.LineOp.{LineOp}
 use Rattle.fab_base.specs.declared.script.LineOp.TheVariants.{Wait}
 use Rattle.fab_base.specs.declared.script.Script.{Script}
-use Rattle.fab_base.specs.declared.status.Why.{Why}
-use Rattle.fab_base.specs.declared.status.Why.TheVariants as why
 use Rattle.fab_base.specs.declared.caps.Hints.{Hints}
 use Rattle.fab_base.specs.declared.caps.Info.{Info}
 use Rattle.fab_base.specs.declared.limits.Size.TheVariants as size
@@ -32,10 +30,9 @@ use Rattle.fab_grammar.specs.declared.verbs.Kind.{Kind}
 use Rattle.fab_grammar.specs.declared.verbs.Kind.TheVariants as kind
 use Rattle.fab_grammar.specs.declared.verbs.Verb.{Verb}
 use Rattle.fab_grammar.specs.declared.verbs.Verb.TheVariants as verb
-use Rattle.fab_grammar.specs.Before.{Before, nothing, until_peer, part_of, parts_of}
-use Rattle.fab_grammar.specs.Conf.{conf_of}
+use Rattle.fab_grammar.specs.Before.{Before, nothing, until_peer, part_of}
 use Rattle.fab_words.specs.Faults.{◌&◌, map_ok}
-use Rattle.fab_grammar.specs.Grammar.{Refusal, read_lines, script_with, granted, of_peers, script_said, then_script, verdict, script_of}
+use Rattle.fab_grammar.specs.Grammar.{verdict, script_of}
 use Rattle.fab_grammar.specs.Language.{has, has_form, optional_forms, form_of_word, source_form, wait_form, is_any, is_built}
 use Rattle.fab_grammar.specs.Sends.{a_tsend, read_tagged, for_send, tsend_of}
 use Rattle.fab_grammar.specs.Options.{are_options, value_after, read_if, level_after, level_in, the_options, read_options}
@@ -44,28 +41,16 @@ use Rattle.fab_grammar.specs.declared.options.Options.{Options}
 use Rattle.fab_grammar.specs.Lines.{a_trecv, trecv_of, wait_of, op_of}
 use Rattle.fab_script.specs.declared.refused.ParseRefused.{ParseRefused}
 use Rattle.fab_script.specs.Refused.{IsVerdict}
-use Rattle.fab_words.specs.Rows.{is_text, words_of, lines_of}
-use Rattle.fab_grammar.specs.Rules.{Rules, header_rules, kind_rules, verb_rules, word_rules, why_of, with_setting, with_peer, with_call, with_kind, with_verb, with_words, with_line}
+use Rattle.fab_words.specs.Rows.{lines_of}
+use Rattle.fab_grammar.specs.Rules.{with_setting, with_peer, with_call, with_kind}
 use Rattle.fab_grammar.specs.Settings.{setting_of, peer_of, hints_of}
-use Rattle.fab_grammar.specs.Verbs.{verb_of, kind_of}
+use Rattle.fab_grammar.specs.Verbs.{kind_of}
 use Rattle.fab_words.specs.Words.{first_of, only_if, begins_with, read_number, read_index, read_len, read_source}
 use Rattle.fab_words.specs.Bytes.{few_bytes, of_hex, file_range, is_colon, read_bytes}
 use Rattle.hex.specs.Hex.{decode_of}
 use Rattle.fab_grammar.proofs.PartLemmas.{and_true}
-use Rattle.fab_grammar.proofs.RuleLemmas.{rest_of, first_fails}
-
--- ---- what both words say, each says
-both_said : {A B : Type 0} (a : Result A Fault) (b : Result B Fault) (x : A) (y : B) → (a & b) ≡ Ok (x, y) → (a ≡ Ok x) × (b ≡ Ok y)
-both_said {A} {B} (Ok a) (Ok b) x y e =
-    let p : ◌≡◌ {A = A × B} (a, b) (x, y) = cc in
-    (ap (λ q. Ok q.0) p, ap (λ q. Ok q.1) p)
-both_said (Ok a) (Err g) x y e = cc
-both_said (Err f) (Ok b) x y e = cc
-both_said (Err f) (Err g) x y e = cc
-
-said_by : {A B : Type 0} (f : A → B) (r : Result A Fault) (y : B) → map_ok f r ≡ Ok y → (x : A) × (r ≡ Ok x) × (f x ≡ y)
-said_by f (Ok x) y e = (x, refl, cc)
-said_by f (Err fault) y e = cc
+use Rattle.fab_spell.proofs.Said.{both_said, said_by}
+use Rattle.fab_script.proofs.KeptLemmas.{lines_keep, spelt}
 
 -- ---- a text that is not too long
 fits_short : (fits : Bool) (bytes : List ℕ) (said : BytesWord) → leb (length bytes) 4096 ≡ true → cond fits (Ok (Text bytes)) (Err Limit) ≡ Ok said → is_short_text said ≡ true
@@ -129,8 +114,8 @@ unfolding tsend_of
 tsend_built (ctx ∷ dest ∷ tag ∷ bytes ∷ options) op forms e =
     let said = said_by a_tsend (read_tagged ctx dest tag & read_bytes bytes & read_options for_send options) op e in
     let words = said.0 in
-    let all = both_said (read_tagged ctx dest tag & read_bytes bytes) (read_options for_send options) words.0 words.1 said.1 in
-    let word = (both_said (read_tagged ctx dest tag) (read_bytes bytes) words.0.0 words.0.1 all.0).1 in
+    let all = both_said (read_tagged ctx dest tag & read_bytes bytes) (read_options for_send options) words said.1 in
+    let word = (both_said (read_tagged ctx dest tag) (read_bytes bytes) words.0 all.0).1 in
     let rest = and_true (has_form Built (form_of_word bytes)) _ (and_true (has_form Built (form_of_word tag)) _ (and_true (has_form Built (form_of_word dest)) _ (and_true (has_form Built (form_of_word ctx)) _ forms).1).1).1 in
     let short : is_short_text words.0.1 ≡ true = bytes_built bytes words.0.1 word rest.0 in
     let transmit : is_at_transmit words.1.level ≡ true = options_built for_send options words.1 rest.1 all.1 in
@@ -146,10 +131,10 @@ unfolding trecv_of read_source
 trecv_built (ctx ∷ source ∷ tag ∷ ignore ∷ len ∷ []) op built e =
     let said = said_by a_trecv _ op e in
     let words = said.0 in
-    let four = (both_said (read_number ctx & read_source source & read_number tag & read_number ignore) (read_len len) words.0 words.1 said.1).0 in
-    let three = (both_said (read_number ctx & read_source source & read_number tag) (read_number ignore) words.0.0 words.0.1 four).0 in
-    let two = (both_said (read_number ctx & read_source source) (read_number tag) words.0.0.0 words.0.0.1 three).0 in
-    let from = (both_said (read_number ctx) (read_source source) words.0.0.0.0 words.0.0.0.1 two).1 in
+    let four = (both_said (read_number ctx & read_source source & read_number tag & read_number ignore) (read_len len) words said.1).0 in
+    let three = (both_said (read_number ctx & read_source source & read_number tag) (read_number ignore) words.0 four).0 in
+    let two = (both_said (read_number ctx & read_source source) (read_number tag) words.0.0 three).0 in
+    let from = (both_said (read_number ctx) (read_source source) words.0.0.0 two).1 in
     subst (λ o. is_carried_out o ≡ true) said.2 (source_built (is_any source) _ words.0.0.0.1 from built)
 trecv_built _ op built e = cc
 
@@ -221,41 +206,6 @@ with_kind_built kind.Setting before number verb args all e = with_setting_built 
 with_kind_built kind.Peer before number verb args all e = with_peer_built before (peer_of args) all
 with_kind_built kind.Call before number verb args all e = with_call_built before number (op_of verb args) all (λ op said. op_built verb args op (forms_of verb args e) said)
 
-pub not_false : (b : Bool) → not b ≡ false → b ≡ true
-not_false true e = refl
-not_false false e = cc
-
-with_verb_built : (before : Before) (number : ℕ) (verb : Option Verb) (args : List (List ℕ)) → AreBuilt before.items → first_of (verb_rules Built before number verb args) ≡ None → AreBuilt (with_verb before number verb args).items
-with_verb_built before number None args all e = all
-with_verb_built before number (Some verb) args all e =
-    with_kind_built (kind_of verb) before number verb args all (not_false (is_built Built verb args) (first_fails (not (is_built Built verb args)) why.Unbuilt (kind_rules (kind_of verb) before number verb args) e))
-
-either_built : (test : Bool) (a b : Rules) (x y : Before) → (first_of a ≡ None → AreBuilt x.items) → AreBuilt y.items → first_of (cond test a b) ≡ None → AreBuilt (cond test x y).items
-either_built true a b x y f all e = f e
-either_built false a b x y f all e = all
-
-with_words_built : (before : Before) (number : ℕ) (words : List (List ℕ)) → AreBuilt before.items → first_of (word_rules Built before number words) ≡ None → AreBuilt (with_words before number words).items
-with_words_built before number [] all e = all
-with_words_built before number (word ∷ args) all e =
-    either_built before.has_header (verb_rules Built before number (verb_of word) args) (header_rules number (word ∷ args)) (with_verb before number (verb_of word) args) (record before { has_header = true })
-    (with_verb_built before number (verb_of word) args all) all e
-
-with_line_built : (before : Before) (number : ℕ) (line : List ℕ) → AreBuilt before.items → why_of Built before number line ≡ None → AreBuilt (with_line before number line).items
-unfolding why_of with_line
-with_line_built before number line all e = with_words_built before number (words_of line) all (rest_of (not (is_text line)) why.NotText (word_rules Built before number (words_of line)) e)
-
-read_built : (before : Before) (number : ℕ) (lines : List (List ℕ)) (after : Before) → AreBuilt before.items → read_lines Built before number lines ≡ Ok after → AreBuilt after.items
-unfolding read_lines
-read_built before number [] after all e =
-    let same : before ≡ after = cc in
-    ap (λ b. list_all built_item b.items) (sym same) ∙ all
-read_built before number (line ∷ lines) after all e =
-    by_why (why_of Built before number line) refl (λ none f. read_built (with_line before number line) (number + 1) lines after (with_line_built before number line all none) f) e
-  where
-    by_why : (rules : Option Why) → why_of Built before number line ≡ rules → (why_of Built before number line ≡ None → read_lines Built (with_line before number line) (number + 1) lines ≡ Ok after → AreBuilt after.items) → elim rules as (λ _. Result Before Refusal) [ Some why ↦ Err (number, why) | None ↦ read_lines Built (with_line before number line) (number + 1) lines ] ≡ Ok after → AreBuilt after.items
-    by_why (Some why) f rest e = cc
-    by_why None f rest e = rest f e
-
 -- ---- the parts
 abbrev lines_built : List Line → Bool
 lines_built lines = list_all (λ line. is_carried_out line.op) lines
@@ -308,34 +258,21 @@ info_sized : (h : Hints) (info : Info) → grant (Some h) ≡ Some info → 0 < 
 unfolding grant grant_of
 info_sized h info e = granted_positive (is_refused h) h info e
 
-said_built : (count : ℕ) (before : Before) (script : Script) → AreBuilt before.items → script_said count before ≡ Ok script → CarriedOut script
-unfolding script_said
-said_built count before script all e = by_header before.has_header before.settings.peers e
-  where
-    by_grant : (n : ℕ) (o : Option Info) → grant (Some (hints_of before.settings)) ≡ o → granted count before n o ≡ Ok script → CarriedOut script
-    by_grant n None g e = cc
-    by_grant n (Some info) g e =
-        let same : script_with (conf_of before.settings n info) before.payloads (parts_of n before.items) ≡ script = cc in
-        subst CarriedOut same (all_parts_built before.items (range_with_len 0 n) all, info_sized (hints_of before.settings) info g)
-
-    by_header : (b : Bool) (peers : Option ℕ) → cond b (of_peers count before peers) (Err (0, why.Header)) ≡ Ok script → CarriedOut script
-    by_header false peers e = cc
-    by_header true None e = cc
-    by_header true (Some n) e = by_grant n (grant (Some (hints_of before.settings))) refl e
-
-then_built : (count : ℕ) (read : Result Before Refusal) (script : Script) → ((after : Before) → read ≡ Ok after → AreBuilt after.items) → then_script count read ≡ Ok script → CarriedOut script
-then_built count (Ok after) script all e = said_built count after script (all after refl) e
-then_built count (Err refusal) script all e = cc
-
 ok_of : {A E : Type 0} (r : Result A E) (x : A) → result_ok r ≡ Some x → r ≡ Ok x
 ok_of (Ok a) x e = cc
 ok_of (Err f) x e = cc
 
+abbrev AllBuilt : Before → Type 0
+AllBuilt before = AreBuilt before.items
+
 -- what the program can rely on
 pub carried_out : (bytes : List ℕ) (script : Script) → script_of bytes ≡ Some script → CarriedOut script
-unfolding script_of verdict
+unfolding script_of
 carried_out bytes script e =
-    then_built (length (lines_of bytes)) (read_lines Built nothing 1 (lines_of bytes)) script (λ after said. read_built nothing 1 (lines_of bytes) after refl said) (ok_of (verdict Built bytes) script e)
+    let s = spelt Built bytes script (ok_of (verdict Built bytes) script e) in
+    let all : AreBuilt s.after.items =
+    lines_keep Built AllBuilt (λ before kept. kept) (λ before number verb args kept built none. with_kind_built (kind_of verb) before number verb args kept built) nothing 1 (lines_of bytes) s.after refl s.lines in
+    subst CarriedOut s.is (all_parts_built s.after.items (range_with_len 0 s.count) all, info_sized (hints_of s.after.settings) s.info s.granted)
 
 pub is_verdict : (bytes : List ℕ) (result : Result Script ParseRefused) → IsVerdict (verdict Built bytes) result → IfOk result CarriedOut
 unfolding script_of

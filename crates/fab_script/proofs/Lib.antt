@@ -2,6 +2,7 @@ pub mod ItemLemmas
 pub mod HoldsLemmas
 pub mod GrammarLemmas
 pub mod ReaderLemmas
+pub mod KeptLemmas
 pub mod BuiltLemmas
 pub mod Payloads
 pub mod BindingLemmas
