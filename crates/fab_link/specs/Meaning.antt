@@ -6,6 +6,7 @@ use Rattle.fab_base.specs.Counts.{Rose}
 use Rattle.fab_base.specs.declared.frames.FrameHead.{FrameHead}
 use Rattle.fab_base.specs.declared.frames.Frame.{Frame}
 use Rattle.fab_base.specs.declared.frames.FrameRef.{FrameRef}
+use Rattle.fab_wire.specs.declared.moves.Move.{Move}
 use Rattle.fab_wire.specs.Frames.{lent_frame, last_head, MayCome}
 
 -- one direction of a port towards one peer: what was posted to it
@@ -70,3 +71,8 @@ Fronted old new (Some f) = new ≡ record old { lent = Some (lent_frame f) }
 -- the lent frame counts as taken
 abbrev pub advanced : Incoming → Incoming
 advanced i = elim i.lent [ None ↦ i | Some f ↦ record i { taken = i.taken ++ f ∷ []; lent = None } ]
+
+-- where moves are told, there is one more of this kind, with some number; a port that tells none goes on telling none
+abbrev pub GrewBy : (ℕ → Move) → Option (List Move) → Option (List Move) → Type 0
+GrewBy move None new = new ≡ None
+GrewBy move (Some moves) new = (number : ℕ) × (new ≡ Some (moves ++ move number ∷ []))

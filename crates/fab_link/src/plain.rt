@@ -1,7 +1,8 @@
 //! The port over lists.
 ghost use Rattle.std.specs.Prelude.{IsErrOf, ◌≡◌, ◌≢◌, ℕ, ◌+◌, ◌<◌, ◌≤◌, ◌++◌, ◌∷◌, [], length, replicate, true, false, None, Some, IfSome, IfNone, MatchOption, drop, slice_index_or, IfOk, IfErr, OnOk, OnErr, slice_set};
 ghost use Rattle.fab_wire.specs.Frames.{frame, last_head, MayCome, Continues};
-ghost use Rattle.fab_link.specs.Meaning.{Others, end_of, Noticed};
+ghost use Rattle.fab_wire.specs.declared.moves.Move.TheVariants.{Post};
+ghost use Rattle.fab_link.specs.Meaning.{Others, end_of, Noticed, GrewBy};
 ghost use Rattle.fab_base.specs.Counts.{Rose};
 ghost use Rattle.fab_link.specs.Plain.{lane_at, with_lane, left, fresh_lane, looked, lent_frames, IsSoundLane, out_of, in_of, PlainHome, home_of, take_prefix};
 
@@ -161,6 +162,8 @@ impl Port for PlainPort {
 
     ghost ins = { in_of };
 
+    ghost moves = { λ _. None };
+
     ghost Home = { PlainHome };
 
     ghost home = { home_of };
@@ -191,6 +194,7 @@ impl Port for PlainPort {
             × ((out_of self.new dest).full_at ≡ length (out_of self.old dest).frames) }
         ensures no_memory { IsErrOf result PostRefused.NoMemory → false ≢ true }
         ensures noticed { Noticed (out_of self.old dest) (out_of self.new dest) }
+        ensures moves { OnOk result (GrewBy (Post dest) None None) }
         ensures others { Others dest (out_of self.old) (out_of self.new) }
         ensures incoming { in_of self.new ≡ in_of self.old }
         ensures number { self.new.number ≡ self.old.number }
