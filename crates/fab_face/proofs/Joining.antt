@@ -6,13 +6,15 @@ use Rattle.std.specs.List.{list_all, flat_map}
 use Rattle.fab_base.specs.declared.frames.Frame.{Frame}
 use Rattle.fab_base.specs.declared.peers.LineResult.TheVariants.{Done}
 use Rattle.fab_wire.specs.declared.moves.Move.{Move}
+use Rattle.fab_wire.specs.declared.moves.Move.TheVariants.{Post as Out, Take as In}
+use Rattle.fab_link.specs.Meaning.{GrewBy}
 use Rattle.fab_wire.specs.Joined.{is_last}
 use Rattle.fab_model.specs.State.{State}
 use Rattle.fab_model.specs.Calls.{Call, do_call}
 use Rattle.fab_face.specs.declared.events.Event.{Event}
 use Rattle.fab_face.specs.declared.events.Event.TheVariants.{Call as Called, Sent as Transmitted}
 use Rattle.fab_face.specs.Held.{Held, Lanes, Seen, next_frame}
-use Rattle.fab_face.specs.Acts.{Act, Did, Took, Posted, Drew, Had, Goes, GoesBy, Departs, Went, Ported, MovedBy, Way, way, events, logged, taken_of, taken_by, posted_to, posted_by, ways_by, ways_of, only, is_move, is_post, is_draw, does}
+use Rattle.fab_face.specs.Acts.{Act, Did, Took, Posted, Drew, Had, Goes, GoesBy, Departs, Went, Ported, MovedBy, Way, To, From, way, events, logged, taken_of, taken_by, posted_to, posted_by, ways_by, ways_of, only, is_move, is_post, is_draw, does}
 use Rattle.fab_face.specs.Answers.{AllAre}
 
 -- ---- kinds
@@ -44,6 +46,20 @@ moved_then (Some moves) b c xs ys (more, is, ways) q =
 pub moved_none : (a : Option (List Move)) → MovedBy a a []
 moved_none None = refl
 moved_none (Some moves) = ([], ap Some (sym (append-nil moves)), refl)
+
+pub moved_same : (a b : Option (List Move)) → b ≡ a → MovedBy a b []
+moved_same a b is = subst (λ (x : Option (List Move)). MovedBy a x []) (sym is) (moved_none a)
+
+moved_one : (a b : Option (List Move)) (move : ℕ → Move) (w : Way) → ((n : ℕ) → way (move n) ≡ w) → GrewBy move a b → MovedBy a b (w ∷ [])
+moved_one None b move w is grew = grew
+moved_one (Some moves) b move w is (n, grew) = (move n ∷ [], grew, ap (λ x. x ∷ []) (is n))
+
+-- one frame is taken, and one is posted
+pub moved_took : (a m b : Option (List Move)) (source : ℕ) → m ≡ a → GrewBy (In source) m b → MovedBy a b (From source ∷ [])
+moved_took a m b source is grew = moved_one a b (In source) (From source) (λ n. refl) (subst (λ (x : Option (List Move)). GrewBy (In source) x b) is grew)
+
+pub moved_posted : (a b : Option (List Move)) (dest : ℕ) → GrewBy (Out dest) a b → MovedBy a b (To dest ∷ [])
+moved_posted a b dest grew = moved_one a b (Out dest) (To dest) (λ n. refl) grew
 
 module _ {Home : Type 0} where
   pub ported_same : (a b : Lanes Home) → b ≡ a → Ported a b []

@@ -39,6 +39,7 @@ pub struct Ask {
 }
 
 /// The item that goes out next to a peer.
+#[derive(Clone, Copy, Drop)]
 pub struct Next<'a> {
     pub head: ItemHead,
     pub bytes: &'a [u8],

@@ -1,0 +1,6 @@
+mod Turning
+mod Posting
+mod Taking
+mod Sent
+mod Pushing
+mod Staying
