@@ -4,3 +4,4 @@ mod Taking
 mod Sent
 mod Pushing
 mod Staying
+mod Falling

@@ -10,7 +10,7 @@ use Rattle.fab_wire.specs.Frames.{last_head}
 use Rattle.fab_wire.specs.Joined.{is_last}
 use Rattle.fab_wire.proofs.Lanes.{last_head-push}
 use Rattle.fab_link.specs.Meaning.{Outgoing, Incoming, Noticed, Others, end_of, taken_end}
-use Rattle.fab_face.specs.Held.{IsOut, IsOpen, Held, Lanes, Seen, IsPlaced, IsGathered, piece, next_item, begun_of}
+use Rattle.fab_face.specs.Held.{IsOut, IsOpen, Held, Lanes, Seen, IsPlaced, IsGathered, piece, next_item, next_frame, begun_of}
 use Rattle.fab_face.specs.Acts.{Act, Posted, Took, Ported, only}
 use Rattle.fab_face.proofs.Joining.{moved_same}
 use Rattle.fab_face.proofs.Tied.{placed_last, placed_more}
@@ -45,6 +45,10 @@ place_within h d item place at out next = elim (out d) [
       let less = part.2 in
       omega (arith, at, total, less)
 ]
+
+-- where an item is next, so is a frame
+pub some_next : (h : Held) (d : ℕ) (item : Item) → next_item h.state d ≡ Some item → next_frame h d ≢ None
+some_next h d item next none = absurd (cc (rw next at none))
 
 module _ {Home : Type 0} (a b : Lanes Home) where
   -- nothing was posted or taken

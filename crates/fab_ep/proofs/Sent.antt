@@ -60,10 +60,10 @@ pub transmitting_parts : (t : ℕ) (tx : Transmitting) → ((transmitting t tx).
 unfolding transmitting
 transmitting_parts t tx = (refl, refl)
 
-sent_accepted : (s : State) (t : ℕ) → (do_sent s t).tx.accepted ≡ s.tx.accepted
+pub sent_accepted : (s : State) (t : ℕ) → (do_sent s t).tx.accepted ≡ s.tx.accepted
 sent_accepted s t = ap (λ (x : Transmitting). x.accepted) (let k = keeps_sent s t in k.tx) ∙ (transmitting_parts t s.tx).0
 
-sent_sent : (s : State) (t : ℕ) → (do_sent s t).tx.sent ≡ raise s.tx.sent t
+pub sent_sent : (s : State) (t : ℕ) → (do_sent s t).tx.sent ≡ raise s.tx.sent t
 sent_sent s t = ap (λ (x : Transmitting). x.sent) (let k = keeps_sent s t in k.tx) ∙ (transmitting_parts t s.tx).1
 
 pub sent_next : (s : State) (t d : ℕ) → d ≢ t → next_item (do_sent s t) d ≡ next_item s d

@@ -1,7 +1,8 @@
 -- What waits for other peers while one is pushed to.
-use Rattle.std.proofs.Common.{◌⊎◌, inl, inr, ◌≡◌, ◌≢◌, ◌<◌, ◌≤◌, ◌+◌, ◌-◌, ℕ, Bool, true, false, List, [], ◌∷◌, ◌++◌, length, length-append, append-nil, get_or-set_other, cond, Option, Some, None, Result, Ok, Err, refl, sym, ap, ◌∙◌, subst, arith, rules}
+use Rattle.std.proofs.Common.{◌⊎◌, inl, inr, ◌≡◌, ◌≢◌, ◌<◌, ◌≤◌, ◌+◌, ◌-◌, ℕ, Bool, true, false, ◌||◌, List, [], ◌∷◌, ◌++◌, length, length-append, append-nil, get_or-set_other, cond, Option, Some, None, Result, Ok, Err, refl, sym, ap, ◌∙◌, subst, arith, rules}
 use Rattle.std.specs.Prelude.{find, slice_index, slice_set, ◌==◌, ◌&&◌, nat_le}
 use Rattle.std.specs.Option.{option_map}
+use Rattle.std.specs.List.{list_any}
 use Rattle.std.proofs.lemmas.Bool.{eqb-true}
 use Rattle.std.proofs.lemmas.List.Folds.{list_all-append}
 use Rattle.std.proofs.lemmas.Bool.{and_from, and_parts, cases_eq}
@@ -27,6 +28,7 @@ use Rattle.fab_ep.specs.declared.endpoint.Tried.TheVariants.{Moved, Nothing, Hel
 use Rattle.fab_ep.specs.Tries.{Calm, CalmOut, TriesOut, PushesOut, PushesTo, PushedTo, Pushed, Pushes, HeldStays, IsTried}
 use Rattle.fab_ep.proofs.Sent.{sent_is_none, sent_is_some, sent_next, keeps_sent}
 use Rattle.fab_ep.proofs.Turning.{full_on}
+use Rattle.fab_ep.proofs.Pushing.{or_false, or_assoc, any_append}
 
 -- ---- the operation that ends with an item for another peer
 
@@ -136,16 +138,18 @@ module _ {Home : Type 0} where
     pub acts : List Act
     pub push : AllAre is_post acts
     pub went : Went None a e acts
+    pub pushed : e.pushed ≡ (a.pushed || list_any is_post acts)
     pub tried : (d : ℕ) → d < k → IsTried a e d
 
   pub pushing_none : (a : Seen Home) → PushingOn a a 0
-  pushing_none a = record { acts = []; push = refl; went = went_none None a a refl refl refl (ported_same a.lanes a.lanes refl); tried = λ d below. absurd (omega (arith, below)) }
+  pushing_none a = record { acts = []; push = refl; went = went_none None a a refl refl refl (ported_same a.lanes a.lanes refl); pushed = sym (or_false a.pushed); tried = λ d below. absurd (omega (arith, below)) }
 
   pub pushing_on : (a e e1 : Seen Home) (k : ℕ) → PushingOn a e k → PushedTo e e1 k true → ((d : ℕ) → d ≢ k → e1.lanes.outs d ≡ e.lanes.outs d) → HeldStays e e1 k → PushingOn a e1 (k + 1)
   pushing_on a e e1 k was one others stays = record {
     acts = was.acts ++ one.acts;
     push = list_all-append is_post was.acts one.acts ∙ and_from _ _ was.push one.push;
     went = went_then None a e e1 was.acts one.acts was.went one.went;
+    pushed = one.pushed ∙ ap (λ b. b || list_any is_post one.acts) was.pushed ∙ or_assoc a.pushed (list_any is_post was.acts) (list_any is_post one.acts) ∙ sym (ap (λ b. a.pushed || b) (any_append is_post was.acts one.acts));
     tried = λ d below. elim (cases_eq d k) [
       | inl same ↦ rw same (λ f next. elim (one.tried refl f next) [ inl full ↦ inl (full_on a e e1 was.acts k was.went full) | inr held ↦ inr held ])
       | inr other ↦ (λ f next. (
@@ -162,11 +166,12 @@ module _ {Home : Type 0} where
     acts = was.acts ++ one.acts;
     push = list_all-append is_post was.acts one.acts ∙ and_from _ _ was.push one.push;
     went = went_then None a e e1 was.acts one.acts was.went one.went;
+    pushed = one.pushed ∙ ap (λ b. b || list_any is_post one.acts) was.pushed ∙ or_assoc a.pushed (list_any is_post was.acts) (list_any is_post one.acts) ∙ sym (ap (λ b. a.pushed || b) (any_append is_post was.acts one.acts));
     tried = λ yes_. absurd (cc);
   })
 
   pub pushing_all : (a e : Seen Home) (k : ℕ) → PushingOn a e k → k ≡ e.lanes.peers → Pushed a e true
-  pushing_all a e k was all = record { acts = was.acts; push = was.push; went = was.went; tried = λ yes_ d below. was.tried d (omega (arith, below, all)) }
+  pushing_all a e k was all = record { acts = was.acts; push = was.push; went = was.went; pushed = was.pushed; tried = λ yes_ d below. was.tried d (omega (arith, below, all)) }
 
   pub pushing_peers : (a e : Seen Home) (k : ℕ) → PushingOn a e k → e.lanes.peers ≡ a.lanes.peers
   pushing_peers a e k was = was.went.ported.peers

@@ -1,5 +1,7 @@
 -- What a step of progress does: one frame posted or taken, or none, and why.
-use Rattle.std.specs.Prelude.{◌≡◌, ◌≢◌, ℕ, ◌+◌, ◌<◌, ◌≤◌, ◌⊎◌, Bool, true, false, ◌||◌, List, [], ◌∷◌, length, Option, Some, None, Result, Ok, Err, count_by, slice_index}
+use Rattle.std.specs.Prelude.{◌≡◌, ◌≢◌, ℕ, ◌+◌, ◌<◌, ◌≤◌, ◌⊎◌, Bool, true, false, ◌||◌, List, [], ◌∷◌, length, Option, Some, None, Result, Ok, Err, count_by, slice_index, drop, ◌-◌}
+use Rattle.std.specs.List.{list_any, sum_by}
+use Rattle.fab_model.specs.State.{accepted_for}
 use Rattle.fab_base.specs.declared.faults.NoMemory.{NoMemory}
 use Rattle.fab_base.specs.declared.frames.Frame.{Frame}
 use Rattle.fab_base.specs.declared.items.Item.{Item}
@@ -44,6 +46,14 @@ pub record CalmIn {Home : Type 0} (old new : Seen Home) (source : ℕ) : Type 0 
   pub ins : (s : ℕ) → s ≢ source → new.lanes.ins s ≡ old.lanes.ins s
   pub outs : new.lanes.outs ≡ old.lanes.outs
 
+-- the next frame for a peer was asked for: it was posted, or there is none or the port refused it, or its entry has no room
+abbrev pub PostsOut : {Home : Type 0} → Seen Home → Seen Home → ℕ → Result Tried NoMemory → Type 0
+PostsOut old new d (Ok Moved) = (f : Frame) × Went None old new (Posted d f ∷ [])
+PostsOut old new d (Ok Nothing) = CalmOut old new d × (next_frame new.held d ≢ None → SawFull old.lanes new.lanes d)
+PostsOut old new d (Ok HeldBack) = CalmOut old new d × NextLacks new d
+PostsOut old new d (Ok Short) = ⊥
+PostsOut old new d (Err _) = Calm old new
+
 abbrev pub TriesOut : {Home : Type 0} → Seen Home → Seen Home → ℕ → Result Tried NoMemory → Type 0
 TriesOut old new d (Ok Moved) = (f : Frame) × Went None old new (Posted d f ∷ [])
 TriesOut old new d (Ok Nothing) = CalmOut old new d × (next_frame new.held d ≢ None → SawFull old.lanes new.lanes d)
@@ -57,6 +67,10 @@ TriesIn old new s (Ok Nothing) = CalmIn old new s × SawEmpty old.lanes new.lane
 TriesIn old new s (Ok HeldBack) = CalmIn old new s × LentLacks new s
 TriesIn old new s (Ok Short) = Calm old new × IsShort old
 TriesIn old new s (Err _) = Calm old new
+
+abbrev pub has_moved : Tried → Bool
+has_moved Moved = true
+has_moved _ = false
 
 abbrev pub moved_one : Tried → ℕ
 moved_one Moved = 1
@@ -117,11 +131,29 @@ PushesOut old new d (Ok HeldBack) = CalmOut old new d × ((f : Frame) × (next_f
 PushesOut old new d (Ok Short) = ⊥
 PushesOut old new d (Err _) = Calm old new
 
+-- what is next for the peer was refused in this call, or is held back
+abbrev pub IsTried : {Home : Type 0} → Seen Home → Seen Home → ℕ → Type 0
+IsTried old new d = (f : Frame) → next_frame new.held d ≡ Some f → SawFull old.lanes new.lanes d ⊎ IsHeld new d f
+
+-- the same; `moved` says whether one was posted, and it is remembered
+abbrev pub PushesOn : {Home : Type 0} → Seen Home → Seen Home → ℕ → Result Bool NoMemory → Type 0
+PushesOn old new d (Ok true) = ((f : Frame) × Went None old new (Posted d f ∷ [])) × (new.pushed ≡ true)
+PushesOn old new d (Ok false) = CalmOut old new d × IsTried old new d × (new.pushed ≡ old.pushed)
+PushesOn old new d (Err _) = Calm old new × (new.pushed ≡ old.pushed)
+
+-- what waits for a peer: a number that falls with each frame posted to it
+abbrev pub left_of : List Item → ℕ → ℕ
+left_of items place = sum_by (λ item. item.head.total + 1) items - place
+
+abbrev pub left_for : Held → ℕ → ℕ
+left_for h d = left_of (drop (slice_index h.state.tx.sent d) (accepted_for h.state.tx d)) (slice_index h.places d)
+
 -- all frames of this peer that may go are posted
 pub record PushedTo {Home : Type 0} (old new : Seen Home) (d : ℕ) (whole : Bool) : Type 0 where
   pub acts : List Act
   pub push : AllAre is_post acts
   pub went : Went None old new acts
+  pub pushed : new.pushed ≡ (old.pushed || list_any is_post acts)
   pub tried : whole ≡ true → (f : Frame) → next_frame new.held d ≡ Some f → SawFull old.lanes new.lanes d ⊎ IsHeld new d f
 
 abbrev pub PushesTo : {Home : Type 0} → Seen Home → Seen Home → ℕ → Result (Unit {0}) NoMemory → Type 0
@@ -132,14 +164,11 @@ PushesTo old new d (Err _) = PushedTo old new d false
 abbrev pub HeldStays : {Home : Type 0} → Seen Home → Seen Home → ℕ → Type 0
 HeldStays a b d = (k : ℕ) → k ≢ d → (next_frame b.held k ≡ next_frame a.held k) × ((f : Frame) → IsHeld a k f → IsHeld b k f)
 
--- what is next for the peer was refused in this call, or is held back
-abbrev pub IsTried : {Home : Type 0} → Seen Home → Seen Home → ℕ → Type 0
-IsTried old new d = (f : Frame) → next_frame new.held d ≡ Some f → SawFull old.lanes new.lanes d ⊎ IsHeld new d f
-
 pub record Pushed {Home : Type 0} (old new : Seen Home) (whole : Bool) : Type 0 where
   pub acts : List Act
   pub push : AllAre is_post acts
   pub went : Went None old new acts
+  pub pushed : new.pushed ≡ (old.pushed || list_any is_post acts)
   pub tried : whole ≡ true → (d : ℕ) → d < new.lanes.peers → IsTried old new d
 
 abbrev pub Pushes : {Home : Type 0} → Seen Home → Seen Home → Result (Unit {0}) NoMemory → Type 0

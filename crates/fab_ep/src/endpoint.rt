@@ -1,5 +1,5 @@
 //! An endpoint over any port: frames posted and taken, and progress.
-ghost use Rattle.std.specs.Prelude.{◌≡◌, ◌<◌, ◌≤◌, ◌+◌, ◌∷◌, ◌++◌, [], ℕ, Bool, true, false, ◌||◌, ◌&&◌, length, IfOk, IfErr, IfSome, IfNone, Ok, OnErr, Some};
+ghost use Rattle.std.specs.Prelude.{◌≡◌, ◌≢◌, None, ◌<◌, ◌≤◌, ◌+◌, ◌∷◌, ◌++◌, [], ℕ, Bool, true, false, ◌||◌, ◌&&◌, length, IfOk, IfErr, IfSome, IfNone, Ok, OnErr, Some};
 ghost use Rattle.std.specs.VecDeque.{deque_len, deque_capacity};
 ghost use Rattle.fab_base.specs.declared.frames.Frame.{Frame};
 ghost use Rattle.fab_wire.specs.Joined.{is_last};
@@ -9,7 +9,7 @@ ghost use Rattle.fab_face.specs.Held.{IsOpen, next_frame};
 ghost use Rattle.fab_face.specs.Acts.{only};
 ghost use Rattle.fab_face.specs.Answers.{IsShort, HasPlaces, Progressed};
 ghost use Rattle.fab_face.specs.Ports.{seen, IsFresh};
-ghost use Rattle.fab_ep.specs.Tries.{HeldStays, Pushes, PushesOut, PushesTo, IsTied, TriesOut, TriesIn, Turns, moved_one, is_held, is_short};
+ghost use Rattle.fab_ep.specs.Tries.{HeldStays, Pushes, PushesOut, PushesOn, PushesTo, IsTied, PostsOut, TriesOut, TriesIn, Turns, has_moved, moved_one, is_held, is_short, left_for};
 
 use crate::frames::post_next;
 use fab_base::NoMemory;
@@ -89,6 +89,15 @@ fn moved_one(tried: &Tried) -> u32
     }
 }
 
+fn has_moved(tried: &Tried) -> bool
+    ensures { result ≡ has_moved tried.now }
+{
+    match tried {
+        Tried::Moved => true,
+        _ => false,
+    }
+}
+
 fn is_held(tried: &Tried) -> bool
     ensures { result ≡ is_held tried.now }
 {
@@ -155,23 +164,22 @@ impl<P: Port, C: Machine> Endpoint<P, C> {
         self.core.known();
     }
 
-    /// Posts the next frame for a peer, where that may be.
-    fn post_one(&mut self, dest: u32) -> Result<Tried, NoMemory>
+    /// Posts the next frame for a peer, where the port and the completion queue allow it. The log has a
+    /// place for what is transmitted with it.
+    fn post_here(&mut self, dest: u32) -> Result<Tried, NoMemory>
         requires below { dest < P.peer_count self.old.port }
-        ensures tries { TriesOut (seen P.Port self.old) (seen P.Port self.new) dest result }
+        requires place { next_frame self.old.held dest ≢ None → length self.old.log + 1 ≤ self.old.log_size }
+        ensures posts { PostsOut (seen P.Port self.old) (seen P.Port self.new) dest result }
         ensures others { Others dest (P.outs self.old.port) (P.outs self.new.port) }
+        ensures memory { OnErr result (P.FIXED ≢ true) }
         ensures pushed { self.new.pushed ≡ self.old.pushed }
     {
         let Endpoint {
             port,
             core,
             log,
-            log_size,
             ..
         } = self;
-        if is_short(log, *log_size) {
-            return Ok(Tried::Short);
-        }
         core.known();
         let place = core.place(dest);
         let Some(item) = core.next(dest) else {
@@ -195,6 +203,20 @@ impl<P: Port, C: Machine> Endpoint<P, C> {
         core.finish(dest);
         log.push_back_reserved(Event::Sent(dest));
         Ok(Tried::Moved)
+    }
+
+    /// The same where the log has two free places; it is short where it has fewer.
+    fn post_one(&mut self, dest: u32) -> Result<Tried, NoMemory>
+        requires below { dest < P.peer_count self.old.port }
+        ensures tries { TriesOut (seen P.Port self.old) (seen P.Port self.new) dest result }
+        ensures others { Others dest (P.outs self.old.port) (P.outs self.new.port) }
+        ensures memory { OnErr result (P.FIXED ≢ true) }
+        ensures pushed { self.new.pushed ≡ self.old.pushed }
+    {
+        if is_short(&self.log, self.log_size) {
+            return Ok(Tried::Short);
+        }
+        self.post_here(dest)
     }
 
     /// Whether the next frame for a peer is the last of its item.
@@ -227,6 +249,7 @@ impl<P: Port, C: Machine> Endpoint<P, C> {
         ensures others { Others dest (P.outs self.old.port) (P.outs self.new.port) }
         ensures stays { HeldStays (seen P.Port self.old) (seen P.Port self.new) dest }
         ensures places { HasPlaces (seen P.Port self.new) }
+        ensures memory { OnErr result (P.FIXED ≢ true) }
         ensures pushed { self.new.pushed ≡ self.old.pushed }
     {
         let tight = self.is_tight();
@@ -237,6 +260,24 @@ impl<P: Port, C: Machine> Endpoint<P, C> {
         self.post_one(dest)
     }
 
+    /// The same; whether it posted one is told, and remembered.
+    fn push_on(&mut self, dest: u32) -> Result<bool, NoMemory>
+        requires below { dest < P.peer_count self.old.port }
+        requires places { HasPlaces (seen P.Port self.old) }
+        ensures tries { PushesOn (seen P.Port self.old) (seen P.Port self.new) dest result }
+        ensures others { Others dest (P.outs self.old.port) (P.outs self.new.port) }
+        ensures stays { HeldStays (seen P.Port self.old) (seen P.Port self.new) dest }
+        ensures places { HasPlaces (seen P.Port self.new) }
+        ensures memory { OnErr result (P.FIXED ≢ true) }
+        ensures less { result ≡ Ok true → left_for self.new.held dest < left_for self.old.held dest }
+    {
+        self.core.known();
+        let tried = self.push_one(dest)?;
+        let moved = has_moved(&tried);
+        self.pushed = either(self.pushed, moved);
+        Ok(moved)
+    }
+
     /// Posts all frames for a peer that may go.
     fn push_to(&mut self, dest: u32) -> Result<(), NoMemory>
         requires below { dest < P.peer_count self.old.port }
@@ -245,16 +286,10 @@ impl<P: Port, C: Machine> Endpoint<P, C> {
         ensures others { Others dest (P.outs self.old.port) (P.outs self.new.port) }
         ensures stays { HeldStays (seen P.Port self.old) (seen P.Port self.new) dest }
         ensures places { HasPlaces (seen P.Port self.new) }
-        ensures pushed { self.new.pushed ≡ self.old.pushed }
+        ensures memory { OnErr result (P.FIXED ≢ true) }
     {
-        for _frame in 0..u64::MAX {
-            let tried = self.push_one(dest)?;
-            if moved_one(&tried) == 0 {
-                return Ok(());
-            }
-        }
-        // Never: fewer frames than that wait.
-        Err(NoMemory)
+        while self.push_on(dest)? {}
+        Ok(())
     }
 
     /// Posts all frames that may go, to each peer in order; two places of the log stay free.
@@ -262,7 +297,7 @@ impl<P: Port, C: Machine> Endpoint<P, C> {
         requires places { HasPlaces (seen P.Port self.old) }
         ensures pushes { Pushes (seen P.Port self.old) (seen P.Port self.new) result }
         ensures places { HasPlaces (seen P.Port self.new) }
-        ensures pushed { self.new.pushed ≡ self.old.pushed }
+        ensures memory { OnErr result (P.FIXED ≢ true) }
     {
         let peers = self.port.peers();
         for dest in 0..peers {

@@ -7,7 +7,6 @@ pub loop-dest-init : goal.loop-dest-init
 loop-dest-init g c = record {
   pushing = pushing_none (seen g.P.Port c.args.self.now);
   places = c.requires.places;
-  pushed = refl;
   peers = search rules;
 }
 
@@ -21,7 +20,6 @@ loop-dest-preserved g c =
     record {
       pushing = on;
       places = c.in_ok-push_to.ensures.places;
-      pushed = c.in_ok-push_to.ensures.pushed ∙ was.pushed;
       peers = was.peers ∙ pushing_peers a e _ was.pushing ∙ sym (pushing_peers a e1 _ on);
     }
 

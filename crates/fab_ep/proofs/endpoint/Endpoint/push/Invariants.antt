@@ -8,6 +8,5 @@ abbrev pub invariant-loop-dest : goal.invariant-loop-dest
 invariant-loop-dest g l = record {
   pushing : PushingOn (seen g.P.Port l.fn.self) (seen g.P.Port l.self) l.dest;
   places : HasPlaces (seen g.P.Port l.self);
-  pushed : l.self.pushed ≡ l.fn.self.pushed;
   peers : l.peers ≡ g.P.Port.peer_count l.self.port;
 }
