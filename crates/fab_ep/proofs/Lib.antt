@@ -5,3 +5,4 @@ mod Sent
 mod Pushing
 mod Staying
 mod Falling
+mod Admitting

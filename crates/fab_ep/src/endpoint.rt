@@ -41,11 +41,11 @@ pub struct Turn {
 
 /// An endpoint over a port, with the machine that keeps its state.
 pub struct Endpoint<P: Port, C: Machine> {
-    port: P,
-    core: C,
-    log: VecDeque<Event>,
-    log_size: u32,
-    pushed: bool,
+    pub(crate) port: P,
+    pub(crate) core: C,
+    pub(crate) log: VecDeque<Event>,
+    pub(crate) log_size: u32,
+    pub(crate) pushed: bool,
 }
 
 impl<P: Port, C: Machine> Model for Endpoint<P, C> {
@@ -62,7 +62,7 @@ impl<P: Port, C: Machine> Model for Endpoint<P, C> {
 }
 
 /// Whether the log has fewer than two free places.
-fn is_short(log: &VecDeque<Event>, log_size: u32) -> bool
+pub(crate) fn is_short(log: &VecDeque<Event>, log_size: u32) -> bool
     ensures short { result ≡ true → log_size < length log.now.items + 2 }
     ensures room { result ≡ false → length log.now.items + 2 ≤ log_size }
 {
@@ -293,7 +293,7 @@ impl<P: Port, C: Machine> Endpoint<P, C> {
     }
 
     /// Posts all frames that may go, to each peer in order; two places of the log stay free.
-    fn push(&mut self) -> Result<(), NoMemory>
+    pub(crate) fn push(&mut self) -> Result<(), NoMemory>
         requires places { HasPlaces (seen P.Port self.old) }
         ensures pushes { Pushes (seen P.Port self.old) (seen P.Port self.new) result }
         ensures places { HasPlaces (seen P.Port self.new) }

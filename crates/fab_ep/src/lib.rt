@@ -8,3 +8,4 @@
 
 pub mod endpoint;
 mod frames;
+mod sending;
