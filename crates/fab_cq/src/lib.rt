@@ -9,6 +9,8 @@
 
 mod counters;
 mod queue;
+#[cfg(test)]
+mod tests;
 
 pub use counters::Counters;
 pub use queue::Queue;
