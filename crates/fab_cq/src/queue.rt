@@ -1,10 +1,10 @@
 //! The completion queue.
-ghost use Rattle.std.specs.Prelude.{◌≡◌, ℕ, ◌+◌, ◌-◌, ◌≤◌, length, IfOk, IfSome, IfNone, IsTrue, None};
+ghost use Rattle.std.specs.Prelude.{◌≡◌, ℕ, ◌+◌, ◌-◌, ◌≤◌, length, IfOk, OnOk, OnErr, IfSome, IfNone, IsTrue, None};
 ghost use Rattle.fab_model.specs.State.{Completions, writing, fits};
 ghost use Rattle.fab_model.specs.Peers.{unread};
-ghost use Rattle.fab_cq.specs.Queues.{nothing_written, has_room, IsNext, taking_out};
+ghost use Rattle.fab_cq.specs.Queues.{nothing_written, has_room, IsNext, taking_out, success_of, error_of};
 
-use fab_base::{NoMemory, Taken};
+use fab_base::{Entry, ErrEntry, Fault, NoMemory, Taken};
 use fab_record::caller::Caller;
 use fab_record::record::{Begins, Change, Record};
 use std::alloc::Global;
@@ -134,5 +134,40 @@ impl Queue {
         let entry = unread.pop_front()?;
         past.note::<(), Reads>(&());
         Some(entry)
+    }
+
+    /// Takes the oldest unread entry out where it is a success (fi_cq_read). It answers `NoEntry` exactly where there
+    /// is none, and `Avail` exactly where it is an error; then nothing changes.
+    pub fn read(&mut self) -> Result<Entry, Fault>
+        ensures answer { result ≡ success_of (unread self.old) }
+        ensures ok { OnOk result (self.new ≡ taking_out self.old) }
+        ensures err { OnErr result (self.new ≡ self.old) }
+    {
+        match self.first() {
+            None => return Err(Fault::NoEntry),
+            Some(Taken::Failure(_)) => return Err(Fault::Avail),
+            Some(Taken::Success(_)) => {}
+        }
+        match self.pop() {
+            Some(Taken::Success(entry)) => Ok(entry),
+            _ => unreachable!(),
+        }
+    }
+
+    /// Takes the oldest unread entry out where it is an error (fi_cq_readerr). It answers `NoEntry` exactly where there
+    /// is none or it is a success; then nothing changes.
+    pub fn read_err(&mut self) -> Result<ErrEntry, Fault>
+        ensures answer { result ≡ error_of (unread self.old) }
+        ensures ok { OnOk result (self.new ≡ taking_out self.old) }
+        ensures err { OnErr result (self.new ≡ self.old) }
+    {
+        match self.first() {
+            None | Some(Taken::Success(_)) => return Err(Fault::NoEntry),
+            Some(Taken::Failure(_)) => {}
+        }
+        match self.pop() {
+            Some(Taken::Failure(entry)) => Ok(entry),
+            _ => unreachable!(),
+        }
     }
 }

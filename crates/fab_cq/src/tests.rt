@@ -3,7 +3,7 @@ ghost use Rattle.std.specs.Prelude.{◌≡◌, ◌^◌, ◌∷◌, [], None, Som
 ghost use Rattle.fab_base.specs.declared.operations.Written.{Written};
 
 use crate::{Counters, Queue};
-use fab_base::{Class, Entry, NoMemory, Taken};
+use fab_base::{Class, Entry, ErrEntry, ErrKind, Fault, NoMemory, Taken};
 use fab_record::caller::Caller;
 use std::alloc::Global;
 use std::snapshot::Snapshot;
@@ -30,6 +30,20 @@ fn updated(ctx: u64) -> Taken {
     Taken::Success(Entry::Updated { ctx })
 }
 
+fn no_message(ctx: u64) -> Taken {
+    Taken::Failure(ErrEntry {
+        ctx: Some(ctx),
+        kind: ErrKind::NoMsg,
+        source: None,
+        tag: None,
+        imm: None,
+        at: None,
+        len: 0,
+        olen: 0,
+        buf: None,
+    })
+}
+
 fn context_of(entry: Option<&Taken>) -> Option<u64> {
     match entry {
         Some(Taken::Success(Entry::Updated { ctx })) => Some(*ctx),
@@ -54,6 +68,20 @@ fn a_queue_of_two_is_filled_and_read(rt: HostRuntime) -> Result<(), NoMemory> {
     assert_eq!(rt; context_of(queue.pop().as_ref()), Some(8));
     assert_eq!(rt; context_of(queue.pop().as_ref()), Some(9));
     assert!(rt; queue.pop().is_none() && queue.has_room(2));
+    Ok(())
+}
+
+#[test]
+fn an_error_is_read_as_an_error_alone(rt: HostRuntime) -> Result<(), NoMemory> {
+    let mut queue = Queue::new(rt.alloc(), 2)?;
+    assert!(rt; matches!(queue.read(), Err(Fault::NoEntry)));
+    assert!(rt; matches!(queue.read_err(), Err(Fault::NoEntry)));
+    queue.write::<(), NoCall>(&(), no_message(7));
+    queue.write::<(), NoCall>(&(), updated(8));
+    assert!(rt; matches!(queue.read(), Err(Fault::Avail)) && !queue.has_room(1));
+    assert!(rt; queue.read_err().is_ok_and(|entry| entry.ctx == Some(7)));
+    assert!(rt; matches!(queue.read_err(), Err(Fault::NoEntry)));
+    assert!(rt; matches!(queue.read(), Ok(Entry::Updated { ctx: 8 })));
     Ok(())
 }
 
