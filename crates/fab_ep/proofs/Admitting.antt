@@ -140,8 +140,6 @@ module _ {Home : Type 0} where
   judged_early call a e short NoEntry early is = absurd (cc)
   judged_early call a e short Avail early is = absurd (cc)
 
-
-
   pub faulted : (fixed : Bool) (a : Seen Home) (o : Order) (why : Fault) → do_call a.held.state (Transmit o) ≡ (Refused why, a.held.state) → is_final (Refused why) ≡ true → SendsNot fixed (Transmit o) a (unpushed a) why
   faulted fixed a o why is last =
       let early = early_is a.held.state o why is last in
@@ -184,7 +182,6 @@ module _ {Home : Type 0} where
     granted = granted;
     room = room;
   }
-
 
   -- after the push
   pub unable : (fixed : Bool) (a b : Seen Home) (o : Order) → HasPlaces a → is_final (do_call a.held.state (Transmit o)).0 ≡ false → nat_le a.held.state.most_tx (in_use a.held.state.tx) ≡ true

@@ -6,3 +6,5 @@ mod Pushing
 mod Staying
 mod Falling
 mod Admitting
+mod Letting
+mod Accepting

@@ -28,7 +28,7 @@ last_by item place within short = last_is item place (at place item.head.total w
     at : (p t : ℕ) → p ≤ t → nat_le (t - p) 4096 ≡ true → p + min 4096 (t - p) ≡ t
     at p t within short = grind (arith, nat_tests, within, short)
 
-or_true : (b : Bool) → (b || true) ≡ true
+pub or_true : (b : Bool) → (b || true) ≡ true
 or_true true = refl
 or_true false = refl
 

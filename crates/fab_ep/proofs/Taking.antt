@@ -151,7 +151,7 @@ pub next_comes : (end : Option FrameHead) (u : Option Item) (f : Frame) → IsGa
 next_comes end None f gathered comes = gathered_first end f gathered comes
 next_comes end (Some item) f gathered comes = gathered_next end item f gathered comes
 
-placed_next : (end : Option FrameHead) (n : ℕ) (o o' : Option Item) → ((item : Item) → o ≡ Some item → o' ≡ Some item) → IsPlaced end n o → IsPlaced end n o'
+pub placed_next : (end : Option FrameHead) (n : ℕ) (o o' : Option Item) → ((item : Item) → o ≡ Some item → o' ≡ Some item) → IsPlaced end n o → IsPlaced end n o'
 placed_next end zero o o' stays placed = placed
 placed_next end (suc k) None o' stays placed = absurd placed
 placed_next end (suc k) (Some item) o' stays placed = rw (stays item refl) placed

@@ -38,7 +38,7 @@ count_no test xs act is = sum_by_push (λ a. cond (test a) 1 0) xs act ∙ ap (�
 
 -- ---- counts
 
-rose_on : (a b c : ℕ) → a ≤ b → Rose b c → Rose a c
+pub rose_on : (a b c : ℕ) → a ≤ b → Rose b c → Rose a c
 rose_on a b c le (inl less) = inl (omega (arith, less, le))
 rose_on a b c le (inr last) = (let same = last.0 in elim (cases_eq a c) [
   | inl at ↦ inr (at, last.1)

@@ -89,7 +89,7 @@ fn moved_one(tried: &Tried) -> u32
     }
 }
 
-fn has_moved(tried: &Tried) -> bool
+pub(crate) fn has_moved(tried: &Tried) -> bool
     ensures { result ≡ has_moved tried.now }
 {
     match tried {
@@ -116,7 +116,7 @@ fn was_short(tried: &Tried) -> bool
     }
 }
 
-fn either(a: bool, b: bool) -> bool
+pub(crate) fn either(a: bool, b: bool) -> bool
     ensures { result ≡ (a || b) }
 {
     a || b
@@ -166,7 +166,7 @@ impl<P: Port, C: Machine> Endpoint<P, C> {
 
     /// Posts the next frame for a peer, where the port and the completion queue allow it. The log has a
     /// place for what is transmitted with it.
-    fn post_here(&mut self, dest: u32) -> Result<Tried, NoMemory>
+    pub(crate) fn post_here(&mut self, dest: u32) -> Result<Tried, NoMemory>
         requires below { dest < P.peer_count self.old.port }
         requires place { next_frame self.old.held dest ≢ None → length self.old.log + 1 ≤ self.old.log_size }
         ensures posts { PostsOut (seen P.Port self.old) (seen P.Port self.new) dest result }

@@ -9,7 +9,7 @@ use Rattle.fab_base.specs.declared.items.Kind.{Kind}
 use Rattle.fab_base.specs.declared.items.Kind.TheVariants.{Msg, TagMsg}
 use Rattle.fab_base.specs.declared.items.Item.{Item}
 use Rattle.fab_base.specs.declared.frames.Frame.{Frame}
-use Rattle.fab_model.specs.State.{State}
+use Rattle.fab_model.specs.State.{State, lookup}
 use Rattle.fab_model.specs.Receiving.{draw_due}
 use Rattle.fab_model.specs.Sending.{do_sent}
 use Rattle.fab_model.specs.Calls.{Call, Cancel, CancelFirst, message}
@@ -19,7 +19,7 @@ use Rattle.fab_face.specs.Held.{Held, begun_of, next_item, AreItems, IsOut, coun
 use Rattle.fab_face.specs.Acts.{is_first}
 use Rattle.fab_face.specs.Answers.{receive_call}
 
--- the sizes make sense, every list by peer has a member for each, and no draw is due
+-- the sizes make sense, every list by peer has a member for each, addresses are of peers, and no draw is due
 pub record IsSteady (h : Held) : Type 0 where
   pub cq : 2 ≤ h.state.cq.size
   pub read : h.state.cq.taken_out ≤ length h.state.cq.written
@@ -33,6 +33,7 @@ pub record IsSteady (h : Held) : Type 0 where
   pub under_way : (s : ℕ) → s < length h.places → slice_index h.state.rx.heads s ≡ slice_index h.state.rx.tails s + count_begun (begun_of h s)
   pub items : AreItems h
   pub out : IsOut h
+  pub addressed : (i t : ℕ) → lookup h.state.av i ≡ Some t → t < length h.places
   pub still : draw_due h.state.rx ≡ false
 
 abbrev pub IsNext : Option Item → Frame → Type 0

@@ -149,6 +149,7 @@ pub trait Machine {
     fn post(&mut self, ask: &Ask, buf: Buf) -> Result<(), Refused>
         requires granted { is_final (do_call (held self.old).state (asking ask.now buf)).0 ≡ false }
         ensures ok { OnOk result (DoesCall (Some (asking ask.now buf)) (held self.old) (held self.new)) }
+        ensures next { StayNext (held self.old).state (held self.new).state }
         ensures err { IfErr result (λ r. (r.buf ≡ buf) × (do_call (held self.old).state (asking ask.now buf) ≡ (Answer r.why, (held self.old).state))) }
         ensures stays { OnErr result (held self.new ≡ held self.old) };
 
@@ -161,6 +162,7 @@ pub trait Machine {
     fn cancel(&mut self, ctx: Option<u64>) -> Result<(), Fault>
         requires there { is_final (do_call (held self.old).state (cancelling ctx)).0 ≡ false }
         ensures ok { OnOk result (DoesCall (Some (cancelling ctx)) (held self.old) (held self.new)) }
+        ensures next { StayNext (held self.old).state (held self.new).state }
         ensures err { IfErr result (λ why. do_call (held self.old).state (cancelling ctx) ≡ (Answer why, (held self.old).state)) }
         ensures stays { OnErr result (held self.new ≡ held self.old) };
 
