@@ -8,3 +8,4 @@ mod Falling
 mod Admitting
 mod Letting
 mod Accepting
+mod Reading

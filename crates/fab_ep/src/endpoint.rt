@@ -33,10 +33,10 @@ pub enum Tried {
 /// What came of a turn.
 #[derive(Clone, Copy, Debug, Drop)]
 pub struct Turn {
-    taken: u32,
-    posted: u32,
-    held: bool,
-    short: bool,
+    pub(crate) taken: u32,
+    pub(crate) posted: u32,
+    pub(crate) held: bool,
+    pub(crate) short: bool,
 }
 
 /// An endpoint over a port, with the machine that keeps its state.
@@ -148,13 +148,6 @@ impl<P: Port, C: Machine> Endpoint<P, C> {
             log_size,
             pushed: false,
         })
-    }
-
-    /// Does nothing, and tells what holds of an endpoint between its calls.
-    pub fn known(&self)
-        ensures { IsOpen (seen P.Port self.now) }
-    {
-        self.core.known();
     }
 
     /// No draw is due.
@@ -306,28 +299,6 @@ impl<P: Port, C: Machine> Endpoint<P, C> {
         Ok(())
     }
 
-    /// Takes the oldest event.
-    pub fn log_pop(&mut self) -> Option<Event>
-        ensures some { IfSome result (λ event. seen P.Port self.old ≡ record (seen P.Port self.new) { log = event ∷ self.new.log }) }
-        ensures none { IfNone result ((self.old.log ≡ []) × (self.new ≡ self.old)) }
-    {
-        self.log.pop_front()
-    }
-
-    /// Forgets all events.
-    pub fn log_clear(&mut self)
-        ensures { seen P.Port self.new ≡ record (seen P.Port self.old) { log = [] } }
-    {
-        self.log.clear();
-    }
-
-    /// Whether the last transmit call posted a frame.
-    pub fn pushed(&self) -> bool
-        ensures { result ≡ self.now.pushed }
-    {
-        self.pushed
-    }
-
     /// Takes the next frame of a peer, where that may be.
     fn take_one(&mut self, source: u32) -> Result<Tried, NoMemory>
         requires below { source < P.peer_count self.old.port }
@@ -362,7 +333,7 @@ impl<P: Port, C: Machine> Endpoint<P, C> {
 
     /// One turn: for each peer in order, posts a frame and takes one, where that may be and while
     /// fewer than `left` have moved.
-    fn turn(&mut self, left: u32) -> Result<Turn, NoMemory>
+    pub(crate) fn turn(&mut self, left: u32) -> Result<Turn, NoMemory>
         requires some { 0 < left }
         ensures turns { Turns left (seen P.Port self.old) (seen P.Port self.new) result }
         ensures pushed { self.new.pushed ≡ self.old.pushed }
@@ -426,7 +397,7 @@ impl<P: Port, C: Machine> Endpoint<P, C> {
 
     /// Posts and takes frames in turns, until a turn moves nothing, `budget` frames have moved, or the
     /// log is short.
-    pub fn progress(&mut self, budget: u32) -> Result<Moved, NoMemory>
+    pub(crate) fn move_frames(&mut self, budget: u32) -> Result<Moved, NoMemory>
         ensures { Progressed budget (seen P.Port self.old) (seen P.Port self.new) result }
     {
         let mut taken = 0;

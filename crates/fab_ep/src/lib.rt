@@ -6,6 +6,7 @@
 //! `fab_face`.
 #![tactic(auto)]
 
+mod calls;
 pub mod endpoint;
 mod frames;
 mod sending;

@@ -14,10 +14,17 @@ ghost use Rattle.fab_ep.specs.Tries.{left_for};
 ghost use Rattle.fab_ep.specs.Sends.{Admits, LetsOutOne, LetsOut, IsOnly, IsFree, logging};
 
 use crate::endpoint::{Endpoint, either, has_moved, is_short};
-use fab_base::{Buf, Busy, Fault, Refused};
+use fab_base::{Buf, Busy, Fault, Flags, Level, Refused};
+use fab_face::calls::Messages;
 use fab_face::events::Event;
 use fab_face::machine::{Machine, Message};
 use fab_link::Port;
+
+/// The flags of an inject call: it completes when it is transmitted, and writes no completion.
+const SILENT: Flags = Flags {
+    completion: false,
+    level: Level::Inject,
+};
 
 impl<P: Port, C: Machine> Endpoint<P, C> {
     /// Whether a message may be accepted now. Where all transmit entries are in use, what waits is posted
@@ -123,5 +130,106 @@ impl<P: Port, C: Machine> Endpoint<P, C> {
         };
         self.let_out(peer);
         Ok(())
+    }
+
+    /// Accepts a message whose bytes are copied, and logs the call.
+    fn accept_copy(&mut self, message: &Message, bytes: &[u8])
+        requires granted { is_final (do_call self.old.held.state (sending message.now bytes.now)).0 ≡ false }
+        requires injected { message.now.ctx ≡ None }
+        requires room { nat_le self.old.held.state.most_tx (in_use self.old.held.state.tx) ≡ false }
+        requires place { length self.old.log + 1 ≤ self.old.log_size }
+        ensures did { Went (Some (sending message.now bytes.now)) (seen P.Port self.old) (seen P.Port self.new) (Did ∷ []) }
+        ensures pushed { self.new.pushed ≡ self.old.pushed }
+    {
+        self.core.known();
+        self.core.inject(message, bytes);
+        self.log_call();
+    }
+
+    /// Sends a message whose bytes are copied, and which completes in silence.
+    pub(crate) fn inject_message(&mut self, message: &Message, bytes: &[u8]) -> Result<(), Fault>
+        requires injected { message.now.ctx ≡ None }
+        ensures ok { OnOk result (Sends P.FIXED (sending message.now bytes.now) message.now.dest (seen P.Port self.old) (seen P.Port self.new)) }
+        ensures err { IfErr result (λ why. SendsNot P.FIXED (sending message.now bytes.now) (seen P.Port self.old) (seen P.Port self.new) why) }
+    {
+        self.admit(message, bytes)?;
+        let free = self.free_peer(message.dest);
+        self.accept_copy(message, bytes);
+        let Some(peer) = free else {
+            return Ok(());
+        };
+        self.let_out(peer);
+        Ok(())
+    }
+}
+
+impl<P: Port, C: Machine> Messages for Endpoint<P, C> {
+    fn send(
+        &mut self,
+        dest: u32,
+        buf: Buf,
+        imm: Option<u64>,
+        ctx: u64,
+        flags: Flags,
+    ) -> Result<(), Refused> {
+        let message = Message {
+            tagged: false,
+            dest,
+            tag: 0,
+            imm,
+            ctx: Some(ctx),
+            flags,
+        };
+        self.send_message(&message, buf)
+    }
+
+    fn tsend(
+        &mut self,
+        dest: u32,
+        tag: u64,
+        buf: Buf,
+        imm: Option<u64>,
+        ctx: u64,
+        flags: Flags,
+    ) -> Result<(), Refused> {
+        let message = Message {
+            tagged: true,
+            dest,
+            tag,
+            imm,
+            ctx: Some(ctx),
+            flags,
+        };
+        self.send_message(&message, buf)
+    }
+
+    fn inject(&mut self, dest: u32, bytes: &[u8], imm: Option<u64>) -> Result<(), Fault> {
+        let message = Message {
+            tagged: false,
+            dest,
+            tag: 0,
+            imm,
+            ctx: None,
+            flags: SILENT,
+        };
+        self.inject_message(&message, bytes)
+    }
+
+    fn tinject(
+        &mut self,
+        dest: u32,
+        tag: u64,
+        bytes: &[u8],
+        imm: Option<u64>,
+    ) -> Result<(), Fault> {
+        let message = Message {
+            tagged: true,
+            dest,
+            tag,
+            imm,
+            ctx: None,
+            flags: SILENT,
+        };
+        self.inject_message(&message, bytes)
     }
 }

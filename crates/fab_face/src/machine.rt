@@ -129,10 +129,10 @@ pub trait Machine {
         requires room { nat_le (held self.old).state.most_tx (in_use (held self.old).state.tx) ≡ false }
         ensures { DoesCall (Some (sending message.now buf)) (held self.old) (held self.new) };
 
-    /// Accepts a message whose bytes are copied.
+    /// Accepts a message whose bytes are copied: at most 4,096, as no more are granted.
     fn inject(&mut self, message: &Message, bytes: &[u8])
         requires granted { is_final (do_call (held self.old).state (sending message.now bytes.now)).0 ≡ false }
-        requires few { length bytes.now ≤ 4_096 }
+        requires injected { message.now.ctx ≡ None }
         requires room { nat_le (held self.old).state.most_tx (in_use (held self.old).state.tx) ≡ false }
         ensures { DoesCall (Some (sending message.now bytes.now)) (held self.old) (held self.new) };
 

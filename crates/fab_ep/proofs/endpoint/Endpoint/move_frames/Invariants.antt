@@ -1,7 +1,7 @@
 use Rattle.std.proofs.Common.{◌≡◌, ◌≤◌, ◌<◌, ◌+◌, ◌⊎◌}
 use Rattle.fab_face.specs.Ports.{seen}
 use Rattle.fab_ep.proofs.Turning.{Going}
-use Rattle.fab_ep.proofs.endpoint.Endpoint.progress.Given as goal
+use Rattle.fab_ep.proofs.endpoint.Endpoint.move_frames.Given as goal
 
 abbrev pub invariant-loop-turn : goal.invariant-loop-turn
 invariant-loop-turn g l = record {

@@ -1,7 +1,0 @@
-use Rattle.std.proofs.Common.{rules, refl, ◌≡◌, ◌∙◌, sym, ap}
-use Rattle.fab_face.specs.Ports.{seen}
-use Rattle.fab_ep.proofs.Posting.{open_of}
-use Rattle.fab_ep.proofs.endpoint.Endpoint.known.Goals as goal
-
-pub returns : goal.returns
-returns g c = rw (← c.self.view_is) (open_of _ c.self.invariant.1 c.known.ensures)
