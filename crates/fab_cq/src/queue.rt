@@ -105,10 +105,12 @@ impl Queue {
         self.unread.len() + entries as usize <= self.size as usize
     }
 
-    /// Writes an entry behind the others. Its call is the one that `C` names by what `about` tells.
+    /// Writes an entry behind the others. Its call is the one that `C` names by what `about` tells. Then there is room
+    /// for one entry less.
     pub fn write<X, C: Caller<X>>(&mut self, about: &X, entry: Taken)
         requires { IsTrue (has_room 1 self.old) }
-        ensures { self.new ≡ writing (C.call about.now) entry self.old }
+        ensures written { self.new ≡ writing (C.call about.now) entry self.old }
+        ensures room { (n : ℕ) → has_room n self.new ≡ has_room (n + 1) self.old }
     {
         let Queue { past, unread, .. } = self;
         past.note::<(&X, &Taken), Writes<C>>(&(about, &entry));

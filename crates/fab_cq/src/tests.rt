@@ -1,5 +1,6 @@
 //! A queue of two entries, entries of numbered calls, and counters at their ends.
 ghost use Rattle.std.specs.Prelude.{◌≡◌, ◌^◌, ◌∷◌, [], None, Some, IfOk, map};
+ghost use Rattle.fab_cq.specs.Queues.{has_room};
 ghost use Rattle.fab_base.specs.declared.operations.Written.{Written};
 
 use crate::{Counters, Queue};
@@ -82,6 +83,26 @@ fn an_error_is_read_as_an_error_alone(rt: HostRuntime) -> Result<(), NoMemory> {
     assert!(rt; queue.read_err().is_ok_and(|entry| entry.ctx == Some(7)));
     assert!(rt; matches!(queue.read_err(), Err(Fault::NoEntry)));
     assert!(rt; matches!(queue.read(), Ok(Entry::Updated { ctx: 8 })));
+    Ok(())
+}
+
+/// Writes two entries or, where both have no room, nothing.
+fn write_both(queue: &mut Queue) -> bool
+    ensures { result ≡ has_room 2 queue.old }
+{
+    if !queue.has_room(2) {
+        return false;
+    }
+    queue.write::<(), NoCall>(&(), updated(1));
+    queue.write::<(), NoCall>(&(), updated(2));
+    true
+}
+
+#[test]
+fn two_entries_are_written_where_both_have_room(rt: HostRuntime) -> Result<(), NoMemory> {
+    let mut queue = Queue::new(rt.alloc(), 3)?;
+    assert!(rt; write_both(&mut queue));
+    assert!(rt; !write_both(&mut queue) && queue.has_room(1));
     Ok(())
 }
 
