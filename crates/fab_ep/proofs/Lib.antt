@@ -9,3 +9,4 @@ mod Admitting
 mod Letting
 mod Accepting
 mod Reading
+mod Answering

@@ -151,7 +151,7 @@ impl<P: Port, C: Machine> Endpoint<P, C> {
     }
 
     /// No draw is due.
-    fn steady(&self)
+    pub(crate) fn steady(&self)
         ensures { draw_due self.now.held.state.rx ≡ false }
     {
         self.core.known();

@@ -9,4 +9,5 @@
 mod calls;
 pub mod endpoint;
 mod frames;
+mod receiving;
 mod sending;

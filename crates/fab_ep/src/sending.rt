@@ -95,7 +95,7 @@ impl<P: Port, C: Machine> Endpoint<P, C> {
     }
 
     /// The message was accepted: the call is logged.
-    fn log_call(&mut self)
+    pub(crate) fn log_call(&mut self)
         requires place { length self.old.log + 1 ≤ self.old.log_size }
         ensures { seen P.Port self.new ≡ logging Called (seen P.Port self.old) }
     {
