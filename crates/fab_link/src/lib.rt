@@ -16,6 +16,3 @@ pub mod port;
 
 pub use plain::PlainPort;
 pub use port::{Port, PostRefused};
-
-#[cfg(test)]
-mod tests;

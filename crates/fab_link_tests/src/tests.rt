@@ -1,10 +1,11 @@
-//! Frames between plain ports.
+//! Frames between plain ports, and a port that is full.
 ghost use Rattle.std.specs.Prelude.{◌≡◌, ◌≤◌, None, length, IfOk};
 ghost use Rattle.fab_wire.specs.Frames.{IsSound, MayCome};
 
-use crate::carry::carry;
-use crate::{PlainPort, Port};
+use crate::narrow::NarrowPort;
 use fab_base::{Ack, Buf, Frame, FrameHead, ItemHead, Kind, Outcome};
+use fab_link::carry::carry;
+use fab_link::{PlainPort, Port, PostRefused};
 use std::alloc::Global;
 use std::test::Fail;
 
@@ -145,5 +146,28 @@ fn the_oldest_frame_is_taken_out_first(rt: HostRuntime) -> Result<(), Fail> {
         b"b".as_slice()
     );
     assert!(rt; port.take_out(1).is_none());
+    Ok(())
+}
+
+#[test]
+fn a_full_lane_takes_no_frame(rt: HostRuntime) -> Result<(), Fail> {
+    let mut port = NarrowPort::new(rt.alloc(), 0)?;
+    assert_eq!(rt; (port.me(), port.peers()), (0, 1));
+    assert_eq!(rt; port.post(0, whole(1, 0), b""), Err(PostRefused::LaneFull));
+    assert!(rt; port.front(0).is_none());
+    Ok(())
+}
+
+#[test]
+fn a_lane_with_room_takes_a_frame(rt: HostRuntime) -> Result<(), Fail> {
+    let mut port = NarrowPort::new(rt.alloc(), 1)?;
+    assert_eq!(rt; port.post(0, whole(1, 0), b""), Ok(()));
+    Ok(())
+}
+
+#[test]
+fn without_a_pool_no_bytes_are_taken(rt: HostRuntime) -> Result<(), Fail> {
+    let mut port = NarrowPort::new(rt.alloc(), 1)?;
+    assert_eq!(rt; port.post(0, whole(1, 1), b"a"), Err(PostRefused::PoolFull));
     Ok(())
 }
