@@ -13,7 +13,7 @@ use Rattle.fab_words.proofs.CutLemmas.{parts_filled}
 use Rattle.fab_grammar.specs.Capabilities.{cap_name, cap_named, add_names, is_comma, caps_of}
 use Rattle.fab_spell.specs.Headings.{caps_word}
 use Rattle.fab_spell.proofs.Commas.{lacks_comma, split_joined, joined_is_word}
-use Rattle.fab_spell.proofs.Decimals.{and_both}
+use Rattle.std.proofs.lemmas.Bool.{and_from}
 
 -- each name
 
@@ -233,11 +233,11 @@ not_none caps c e none =
 
 each_lacks : (cs : List Cap) → list_all lacks_comma (map cap_name cs) ≡ true
 each_lacks [] = refl
-each_lacks (c ∷ cs) = and_both (lacks_comma (cap_name c)) (list_all lacks_comma (map cap_name cs)) (good_name c).lacks (each_lacks cs)
+each_lacks (c ∷ cs) = and_from (lacks_comma (cap_name c)) (list_all lacks_comma (map cap_name cs)) (good_name c).lacks (each_lacks cs)
 
 each_word : (cs : List Cap) → list_all is_word (map cap_name cs) ≡ true
 each_word [] = refl
-each_word (c ∷ cs) = and_both (is_word (cap_name c)) (list_all is_word (map cap_name cs)) (good_name c).word (each_word cs)
+each_word (c ∷ cs) = and_from (is_word (cap_name c)) (list_all is_word (map cap_name cs)) (good_name c).word (each_word cs)
 
 record GoodNames (cs : List Cap) : Type 0 where
   cut : slice_split is_comma (join_with_byte 44 (map cap_name cs)) ≡ map cap_name cs
