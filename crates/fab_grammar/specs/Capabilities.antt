@@ -1,7 +1,7 @@
 -- The capabilities that `caps` asks for (fi_getinfo(3), "Capabilities").
 --     cap_name cap       the capability as it is written
 --     caps_of word       those whose names the commas join
-use Rattle.std.specs.Prelude.{ℕ, Bool, true, ◌==◌, List, [], ◌∷◌, codes, bytes_eq, find, Option, Some, None, Result, Ok, Err}
+use Rattle.std.specs.Prelude.{ℕ, Bool, ◌==◌, List, [], ◌∷◌, codes, bytes_eq, find, Option, Some, None, Result, Ok, Err}
 use Rattle.std.specs.List.{slice_split}
 use Rattle.fab_base.specs.Granted.{with_cap}
 use Rattle.fab_base.specs.declared.caps.Cap.{Cap}

@@ -1,5 +1,5 @@
 -- A number that is written in decimal reads again.
-use Rattle.std.proofs.Common.{◌≡◌, ℕ, ◌^◌, ◌<◌, ◌≤◌, ◌⊎◌, inl, inr, Bool, true, false, cond, ◌&&◌, leb, ltb, eqb, List, [], ◌∷◌, length, take, drop, codes, bytes_eq, decimal, Option, Some, None, Result, Ok, Err, ok_or, ap, ◌∙◌, refl, arith, lt-ltb, le-leb, leb-true, ne_eqb}
+use Rattle.std.proofs.Common.{◌≡◌, ℕ, ◌^◌, ◌<◌, ◌≤◌, ◌⊎◌, inl, inr, Bool, true, false, cond, ◌&&◌, leb, eqb, List, [], ◌∷◌, length, take, drop, codes, bytes_eq, decimal, Option, Some, None, Result, Ok, Err, ok_or, ap, ◌∙◌, refl, arith, lt-ltb, le-leb, leb-true, ne_eqb}
 use Rattle.std.proofs.lemmas.Bool.{and_from}
 use Rattle.std.specs.Char.{is_digit, digit_value}
 use Rattle.std.specs.List.{list_all}
@@ -9,10 +9,7 @@ use Rattle.std.proofs.lemmas.Fmt.{decimal_is_IsNumeral, length-decimal-le}
 use Rattle.std.proofs.lemmas.Str.Parse.{digit_from_value}
 use Rattle.fab_words.specs.declared.fault.Fault.{Fault}
 use Rattle.fab_words.specs.declared.fault.Fault.TheVariants.{Number, Limit}
-use Rattle.fab_words.specs.Rows.{is_filled}
 use Rattle.fab_words.specs.Words.{only_if, is_numeral, numeral_of, begins_with, number_of, read_number, within, read_up_to, read_index, read_len}
-use Rattle.fab_words.specs.Written.{is_word}
-use Rattle.fab_grammar.specs.Language.{form_of_word, is_any}
 use Rattle.fab_words.proofs.NumberLemmas.{numeral_of_digits}
 
 -- digits
