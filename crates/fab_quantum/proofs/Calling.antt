@@ -1,0 +1,445 @@
+-- A line whose call was answered, and what it makes of a peer.
+use Rattle.std.proofs.Common.{◌≡◌, ◌≢◌, ◌<◌, ◌≤◌, ◌+◌, ◌-◌, ◌⊎◌, inl, inr, ℕ, zero, suc, Bool, true, false, ◌||◌, List, [], ◌∷◌, ◌++◌, length, map, get_or, Option, Some, None, Result, Ok, Err, OnOk, IfErr, refl, sym, ap, ◌∙◌, subst, subst₂, arith, append-nil, append_assoc}
+use Rattle.std.specs.Prelude.{slice_get, replicate, find, is_some}
+use Rattle.std.proofs.lemmas.Option.{slice_get_within}
+use Rattle.fab_base.specs.declared.entries.Taken.{Taken}
+use Rattle.fab_model.specs.Matching.{remove_first}
+use Rattle.std.specs.Option.{option_map}
+use Rattle.std.specs.List.{list_any}
+use Rattle.std.proofs.lemmas.Grind.{flat_map-append}
+use Rattle.fab_base.specs.declared.entries.Kept.{Kept}
+use Rattle.fab_base.specs.declared.faults.Fault.{Fault}
+use Rattle.fab_base.specs.declared.faults.Fault.TheVariants.{Again, NoMemory as LacksMemory, NoData, Invalid, NoKey, Range, MsgSize, NotSupported, NoEntry, Avail}
+use Rattle.fab_base.specs.declared.faults.Busy.{Busy}
+use Rattle.fab_base.specs.declared.faults.Busy.TheVariants.{TxFull, PostedFull, CqFull, LogFull}
+use Rattle.fab_base.specs.declared.faults.Refused.{Refused as RefusedWith}
+use Rattle.fab_base.specs.declared.items.Kind.TheVariants.{TagMsg}
+use Rattle.fab_base.specs.declared.peers.Level.{Level}
+use Rattle.fab_base.specs.declared.peers.LineResult.{LineResult}
+use Rattle.fab_base.specs.declared.peers.LineResult.TheVariants.{Done, Refused, Waited}
+use Rattle.fab_base.specs.declared.peers.Step.{Step}
+use Rattle.fab_base.specs.declared.peers.Step.TheVariants.{Do, Read}
+use Rattle.fab_base.specs.declared.script.BytesWord.{BytesWord}
+use Rattle.fab_base.specs.declared.script.Line.{Line}
+use Rattle.fab_base.specs.declared.script.LineOp.{LineOp}
+use Rattle.fab_base.specs.declared.script.LineOp.TheVariants.{TSend, TRecv, Wait, Cancel as CancelLine}
+use Rattle.fab_model.specs.Receiving.{draw_due}
+use Rattle.fab_model.specs.State.{State}
+use Rattle.fab_model.specs.Calls.{Call, Cancel, do_call, call_of, message, word_bytes}
+use Rattle.fab_model.specs.Peers.{Actor, do_next, do_line, call_line, after_call, is_again, is_of_ctx, next_line, with_result, with_state, wait_line, read_next, bytes_kept, part_of, unread}
+use Rattle.fab_face.specs.Held.{Held, Lanes, Seen, IsOpen}
+use Rattle.fab_face.specs.Acts.{Act, Did, Had, GoesBy, Went, Ported, steps_of, steps_by, taken_of, events, is_post, is_draw, is_move}
+use Rattle.fab_face.specs.Answers.{AllAre, Judged, IsShort, HasPlaces, Sends, SendsNot, Receives, ReceivesNot, Pops, receive_call}
+use Rattle.fab_quantum.specs.Turns.{Told, Living, living_of, actor_in, actor_of, SameParts, Lives, LivesBy, Lived, WentOn, Answered, why_of, drained, with_seen, is_some_act, is_some_event, next_op, step_of, ReadOn, IsRead}
+use Rattle.fab_face.proofs.Joining.{posts_move, draws_move, ported_same, ported_then}
+use Rattle.fab_quantum.proofs.Paths.{living, lives_append, goes_split, moves_live, posts_some, draws_some, some_did, none_acts, steps_told, steps_called, some_append, lived_then}
+
+-- ---- one line
+
+after_answer : (a : Actor) (outcome : LineResult) (s : State) → is_again outcome ≡ false → after_call a (outcome, s) ≡ Some (with_result outcome (with_state a s))
+after_answer a outcome s again = rw (again, after_call) refl
+
+after_again : (a : Actor) (outcome : LineResult) (s : State) → is_again outcome ≡ true → after_call a (outcome, s) ≡ None
+after_again a outcome s again = rw (again, after_call) refl
+
+-- whatever is held, the next line is this call
+abbrev pub IsCalled : List Line → List LineResult → List Kept → Call → Type 0
+IsCalled lines results kept call = (m : Held) → do_next (actor_in (living m lines results kept)) ≡ call_line (actor_in (living m lines results kept)) call
+
+pub did_lives : (m k : Held) (lines : List Line) (results : List LineResult) (kept : List Kept) (call : Call) (outcome : LineResult)
+    → IsCalled lines results kept call → do_call m.state call ≡ (outcome, k.state) → is_again outcome ≡ false → SameParts m k
+    → Lives (living m lines results kept) Did (living k lines (results ++ outcome ∷ []) kept)
+unfolding call_line
+did_lives m k lines results kept call outcome next done again same =
+    (next m ∙ ap (after_call (actor_in (living m lines results kept))) done ∙ after_answer (actor_in (living m lines results kept)) outcome k.state again, same)
+
+pub again_held : (m : Held) (lines : List Line) (results : List LineResult) (kept : List Kept) (call : Call) (outcome : LineResult)
+    → IsCalled lines results kept call → do_call m.state call ≡ (outcome, m.state) → is_again outcome ≡ true → do_next (actor_in (living m lines results kept)) ≡ None
+unfolding call_line
+again_held m lines results kept call outcome next done again =
+    next m ∙ ap (after_call (actor_in (living m lines results kept))) done ∙ after_again (actor_in (living m lines results kept)) outcome m.state again
+
+next_is : (a : Actor) (op : LineOp) → option_map (λ (line : Line). line.op) (next_line a) ≡ Some op → do_next a ≡ do_line a op
+unfolding do_next
+next_is a op e = by_line (next_line a) refl e
+  where
+    by_line : (o : Option Line) → next_line a ≡ o → option_map (λ (line : Line). line.op) o ≡ Some op → do_next a ≡ do_line a op
+    by_line None there e = absurd (cc)
+    by_line (Some line) there e = let is : line.op ≡ op = cc in rw (there, do_next, is) refl
+
+pub calls_tsend : {Home : Type 0} (a : Told Home) (ctx dest tag : ℕ) (word : BytesWord) (imm : Option ℕ) (level : Level) (completion : Bool) (bytes : List ℕ)
+    → next_op a ≡ Some (TSend ctx dest tag word imm level completion) → bytes ≡ word_bytes word
+    → IsCalled a.lines a.results a.kept (message TagMsg (Some ctx) dest tag bytes imm level completion)
+unfolding do_line call_of
+calls_tsend a ctx dest tag word imm level completion bytes next is m =
+    next_is (actor_in (living m a.lines a.results a.kept)) _ next
+    ∙ ap (λ bs. call_line (actor_in (living m a.lines a.results a.kept)) (message TagMsg (Some ctx) dest tag bs imm level completion)) (sym is)
+
+pub calls_trecv : {Home : Type 0} (a : Told Home) (ctx : ℕ) (source : Option ℕ) (tag ignore len : ℕ) (buf : List ℕ)
+    → next_op a ≡ Some (TRecv ctx source tag ignore len) → buf ≡ replicate len 0 → IsCalled a.lines a.results a.kept (receive_call true source tag ignore buf None ctx)
+unfolding do_line call_of
+calls_trecv a ctx source tag ignore len buf next is m =
+    next_is (actor_in (living m a.lines a.results a.kept)) _ next
+    ∙ ap (λ bs. call_line (actor_in (living m a.lines a.results a.kept)) (receive_call true source tag ignore bs None ctx)) (sym is)
+
+pub calls_cancel : {Home : Type 0} (a : Told Home) (ctx : ℕ) → next_op a ≡ Some (CancelLine ctx) → IsCalled a.lines a.results a.kept (Cancel ctx)
+unfolding do_line call_of
+calls_cancel a ctx next m = next_is (actor_in (living m a.lines a.results a.kept)) _ next
+
+-- ---- why a call is refused
+
+module _ {Home : Type 0} (call : Call) (old new : Seen Home) (short : Type 0) where
+  pub judged_final : (f : Fault) → Judged call old new short f → is_again (Refused f) ≡ false → f ≢ LacksMemory → do_call new.held.state call ≡ (Refused f, new.held.state)
+  judged_final (Again busy) j again memory = absurd (cc)
+  judged_final LacksMemory j again memory = absurd (memory refl)
+  judged_final NoData j again memory = j
+  judged_final Invalid j again memory = j
+  judged_final NoKey j again memory = j
+  judged_final Range j again memory = j
+  judged_final MsgSize j again memory = j
+  judged_final NotSupported j again memory = j
+  judged_final NoEntry j again memory = j
+  judged_final Avail j again memory = j
+
+  pub judged_again : (f : Fault) → Judged call old new short f → is_again (Refused f) ≡ true → (short → ⊥) → do_call new.held.state call ≡ (Refused f, new.held.state)
+  judged_again (Again (TxFull n)) j again long = j.0
+  judged_again (Again (PostedFull n)) j again long = j.0
+  judged_again (Again (CqFull n)) j again long = j.0
+  judged_again (Again (LogFull n)) j again long = absurd (long j.1)
+  judged_again LacksMemory j again long = absurd (cc)
+  judged_again NoData j again long = absurd (cc)
+  judged_again Invalid j again long = absurd (cc)
+  judged_again NoKey j again long = absurd (cc)
+  judged_again Range j again long = absurd (cc)
+  judged_again MsgSize j again long = absurd (cc)
+  judged_again NotSupported j again long = absurd (cc)
+  judged_again NoEntry j again long = absurd (cc)
+  judged_again Avail j again long = absurd (cc)
+
+-- an answer leaves the endpoint as it is
+pub answered_seen : {Home : Type 0} (r : Result (Unit {0}) Fault) (a b : Told Home) (done : Bool) → Answered r a b done → b.seen ≡ a.seen
+answered_seen (Ok u) a b done (was, is) = ap (λ (x : Told _). x.seen) is
+answered_seen (Err f) a b true (final, memory, is) = ap (λ (x : Told _). x.seen) is
+answered_seen (Err f) a b false (again, is) = ap (λ (x : Told _). x.seen) is
+
+-- ---- a call of a line
+
+module _ {Home : Type 0} (a : Told Home) (e : Seen Home) (call : Call) (next : IsCalled a.lines a.results a.kept call) (none : a.seen.log ≡ []) where
+  logged_is : (acts : List Act) (steps : List Step) → e.log ≡ a.seen.log ++ events acts → map step_of (events acts) ≡ steps → a.schedule ++ map step_of e.log ≡ a.schedule ++ steps
+  logged_is acts steps log told = ap (λ l. a.schedule ++ map step_of l) (log ∙ ap (λ l. l ++ events acts) none) ∙ ap (λ s. a.schedule ++ s) told
+
+  -- moves alone
+  pub lived_moves : (acts : List Act) (o : Option Call) → AllAre is_move acts → Went o a.seen e acts → Lived a (drained (with_seen a e)) acts
+  lived_moves acts o are went = record {
+    lives = moves_live o acts a.seen.held e.held a.lines a.results a.kept are went.goes;
+    schedule = logged_is acts (steps_of acts) went.log (steps_told acts are);
+    ported = went.ported;
+  }
+
+  pub lived_done : (before after : List Act) → AllAre is_move before → AllAre is_move after → Went (Some call) a.seen e (before ++ Did ∷ after)
+      → Lived a (let d = drained (with_seen a e) in record d { results = d.results ++ Done ∷ [] }) (before ++ Did ∷ after)
+  lived_done before after b f went =
+      let s = goes_split (Some call) before (Did ∷ after) a.seen.held e.held went.goes in
+      record {
+        lives = lives_append _ (living s.0 a.lines a.results a.kept) _ before (Did ∷ after) (moves_live (Some call) before a.seen.held s.0 a.lines a.results a.kept b s.1) (
+          living s.2.0 a.lines (a.results ++ Done ∷ []) a.kept,
+          did_lives s.0 s.2.0 a.lines a.results a.kept call Done next s.2.1.0 refl (ap (λ (x : Held). x.places) s.2.1.1, ap (λ (x : Held). x.begun) s.2.1.1),
+          moves_live (Some call) after s.2.0 e.held a.lines (a.results ++ Done ∷ []) a.kept f s.2.2,
+        );
+        schedule = logged_is (before ++ Did ∷ after) (steps_of (before ++ Did ∷ after)) went.log (steps_called before after b f);
+        ported = went.ported;
+      }
+
+  pub lived_refused : (acts : List Act) (f : Fault) → AllAre is_move acts → Went (Some call) a.seen e acts → do_call e.held.state call ≡ (Refused f, e.held.state) → is_again (Refused f) ≡ false
+      → Lived a (let d = drained (with_seen a e) in record d { results = d.results ++ Refused f ∷ []; schedule = d.schedule ++ Do ∷ [] }) (acts ++ Did ∷ [])
+  lived_refused acts f are went done again = record {
+    lives = lives_append _ (living e.held a.lines a.results a.kept) _ acts (Did ∷ []) (moves_live (Some call) acts a.seen.held e.held a.lines a.results a.kept are went.goes)
+        (living e.held a.lines (a.results ++ Refused f ∷ []) a.kept, did_lives e.held e.held a.lines a.results a.kept call (Refused f) next done again (refl, refl), refl);
+    schedule = ap (λ l. l ++ Do ∷ []) (logged_is acts (steps_of acts) went.log (steps_told acts are)) ∙ append_assoc a.schedule (steps_of acts) (Do ∷ [])
+        ∙ ap (λ steps. a.schedule ++ steps) (sym (flat_map-append steps_by acts (Did ∷ [])));
+    ported = ported_then a.seen.lanes e.lanes e.lanes acts (Did ∷ []) went.ported (ported_did e.lanes);
+  }
+    where
+      ported_did : (x : Lanes Home) → Ported x x (Did ∷ [])
+      ported_did x = let p = ported_same x x refl in record {
+        taken = p.taken;
+        posted = p.posted;
+        moves = p.moves;
+        empty_seen = p.empty_seen;
+        lane_full = p.lane_full;
+        pool_full = p.pool_full;
+        number = refl;
+        peers = refl;
+        home = refl;
+        in_list = refl;
+        in_after = p.in_after;
+        out_after = p.out_after;
+      }
+
+  -- where nothing moved, the log is empty
+  still_log : (acts : List Act) → acts ≡ [] → e.log ≡ a.seen.log ++ events acts → e.log ≡ []
+  still_log acts is log = log ∙ ap (λ xs. a.seen.log ++ events xs) is ∙ append-nil a.seen.log ∙ none
+
+  pub sends_on : (fixed : Bool) (dest : ℕ) (buf : List ℕ) (r : Result (Unit {0}) RefusedWith) (b : Told Home) (done : Bool) → IsOpen a.seen
+      → OnOk r (Sends fixed call dest a.seen e) → IfErr r (λ x. (x.buf ≡ buf) × SendsNot fixed call a.seen e x.why)
+      → Answered (why_of r) (drained (with_seen a e)) b done → WentOn a b done (done || e.pushed)
+  sends_on fixed dest buf (Ok u) b done sound ok err (was, is) =
+      let before = posts_move ok.before ok.push in
+      let after = posts_move ok.after ok.posts in
+      rw (was, is) (record {
+        acts = ok.before ++ Did ∷ ok.after;
+        lived = lived_done ok.before ok.after before after ok.went;
+        moved_is = sym (some_did ok.before ok.after);
+        held = λ nay. absurd (cc nay);
+        log = refl;
+        is_done = λ was. refl;
+        lines = refl;
+      })
+  sends_on fixed dest buf (Err r) b true sound ok err (final, memory, is) =
+      let nay = err.1 in
+      let moves = posts_move nay.acts nay.push in
+      rw is (record {
+        acts = nay.acts ++ Did ∷ [];
+        lived = lived_refused nay.acts r.why moves nay.went (judged_final call a.seen e (IsShort a.seen) r.why nay.judged final memory) final;
+        moved_is = sym (some_did nay.acts []);
+        held = λ nay. absurd (cc nay);
+        log = refl;
+        is_done = λ was. refl;
+        lines = refl;
+      })
+  sends_on fixed dest buf (Err r) b false sound ok err (again, is) =
+      let nay = err.1 in
+      let moves = posts_move nay.acts nay.push in
+      rw is (record {
+        acts = nay.acts;
+        lived = lived_moves nay.acts (Some call) moves nay.went;
+        moved_is = nay.pushed ∙ posts_some nay.acts nay.push;
+        held = λ d m. again_held e.held a.lines a.results a.kept call (Refused r.why) next
+            (judged_again call a.seen e (IsShort a.seen) r.why nay.judged again (λ short. (let l : length a.seen.log ≡ 0 = ap length none in omega (arith, short, l, sound.log)))) again;
+        log = refl;
+        is_done = λ was. absurd (cc was);
+        lines = refl;
+      })
+
+  pub receives_on : (r : Result (Unit {0}) Fault) (b : Told Home) (done : Bool) → IsOpen a.seen → IsOpen e
+      → OnOk r (Receives call a.seen e) → IfErr r (λ f. ReceivesNot call a.seen e f)
+      → Answered r (drained (with_seen a e)) b done → WentOn a b done (done || is_some_event e.log)
+  receives_on (Ok u) b done sound opened ok err (was, is) =
+      let before = draws_move ok.before ok.draws in
+      let after = draws_move ok.after ok.then_draws in
+      rw (was, is) (record {
+        acts = ok.before ++ Did ∷ ok.after;
+        lived = lived_done ok.before ok.after before after ok.went;
+        moved_is = sym (some_did ok.before ok.after);
+        held = λ nay. absurd (cc nay);
+        log = refl;
+        is_done = λ was. refl;
+        lines = refl;
+      })
+  receives_on (Err f) b true sound opened ok nay (final, memory, is) =
+      let moves = draws_move nay.acts nay.draws in
+      rw is (record {
+        acts = nay.acts ++ Did ∷ [];
+        lived = lived_refused nay.acts f moves nay.went (judged_final call a.seen e _ f nay.judged final memory) final;
+        moved_is = sym (some_did nay.acts []);
+        held = λ nay. absurd (cc nay);
+        log = refl;
+        is_done = λ was. refl;
+        lines = refl;
+      })
+  receives_on (Err f) b false sound opened ok nay (again, is) =
+      let moves = draws_move nay.acts nay.draws in
+      let moved : is_some_event e.log ≡ is_some_act nay.acts = ap is_some_event (nay.went.log ∙ ap (λ l. l ++ events nay.acts) none) ∙ draws_some nay.acts nay.draws in
+      rw is (record {
+        acts = nay.acts;
+        lived = lived_moves nay.acts (Some call) moves nay.went;
+        moved_is = moved;
+        held = λ d m. again_held e.held a.lines a.results a.kept call (Refused f) next
+            (judged_again call a.seen e _ f nay.judged again (λ short. not_short nay.acts (none_acts nay.acts (sym moved ∙ m)) nay.went.log short)) again;
+        log = refl;
+        is_done = λ was. absurd (cc was);
+        lines = refl;
+      })
+    where
+      not_short : (acts : List Act) → acts ≡ [] → e.log ≡ a.seen.log ++ events acts → (IsShort a.seen ⊎ ((draw_due e.held.state.rx ≡ true) × (e.log_size ≡ length e.log + 1))) → ⊥
+      not_short acts is log (inl short) = let l : length a.seen.log ≡ 0 = ap length none in omega (arith, short, l, sound.log)
+      not_short acts is log (inr left) = let l : length e.log ≡ 0 = ap length (still_log acts is log) in omega (arith, left.1, l, opened.log)
+
+  -- the same, as a function of a peer sees them
+  pub sends_line : (fixed : Bool) (dest : ℕ) (buf : List ℕ) (r : Result (Unit {0}) RefusedWith) (why : Result (Unit {0}) Fault) (d b : Told Home) (done pushed moved : Bool) → IsOpen a.seen
+      → OnOk r (Sends fixed call dest a.seen e) → IfErr r (λ x. (x.buf ≡ buf) × SendsNot fixed call a.seen e x.why)
+      → why ≡ why_of r → d ≡ drained (with_seen a e) → Answered why d b done → pushed ≡ b.seen.pushed → moved ≡ (done || pushed) → WentOn a b done moved
+  sends_line fixed dest buf r why d b done pushed moved sound ok err is_why is_d answered is_pushed is_moved =
+      let told : Answered (why_of r) (drained (with_seen a e)) b done = subst₂ (λ x y. Answered x y b done) is_why is_d answered in
+      let same : b.seen.pushed ≡ e.pushed = ap (λ (x : Seen Home). x.pushed) (answered_seen (why_of r) (drained (with_seen a e)) b done told) in
+      subst (λ m. WentOn a b done m) (sym (is_moved ∙ ap (λ x. done || x) (is_pushed ∙ same))) (sends_on fixed dest buf r b done sound ok err told)
+
+  pub receives_line : (r : Result (Unit {0}) Fault) (why : Result (Unit {0}) Fault) (d b : Told Home) (done drew moved : Bool) → IsOpen a.seen → IsOpen e
+      → OnOk r (Receives call a.seen e) → IfErr r (λ f. ReceivesNot call a.seen e f)
+      → why ≡ r → d ≡ drained (with_seen a e) → Answered why d b done → drew ≡ is_some_event e.log → moved ≡ (done || drew) → WentOn a b done moved
+  receives_line r why d b done drew moved sound opened ok err is_why is_d answered is_drew is_moved =
+      let told : Answered r (drained (with_seen a e)) b done = subst₂ (λ x y. Answered x y b done) is_why is_d answered in
+      subst (λ m. WentOn a b done m) (sym (is_moved ∙ ap (λ x. done || x) is_drew)) (receives_on r b done sound opened ok err told)
+
+pub why_err : (Q : Fault → Type 0) (buf : List ℕ) (r : Result (Unit {0}) RefusedWith) → IfErr r (λ x. (x.buf ≡ buf) × Q x.why) → IfErr (why_of r) Q
+why_err Q buf (Ok u) err = tt
+why_err Q buf (Err x) err = err.1
+
+pub why_ok : (Q : Type 0) (r : Result (Unit {0}) RefusedWith) → OnOk r Q → OnOk (why_of r) Q
+why_ok Q (Ok u) ok = ok
+why_ok Q (Err x) ok = ok
+
+-- ---- waits and reads
+
+module _ {Home : Type 0} where
+  pub told_is : (a b : Told Home) → b.seen ≡ a.seen → b.lines ≡ a.lines → b.results ≡ a.results → b.kept ≡ a.kept → b.schedule ≡ a.schedule → b ≡ a
+  told_is a b seen lines results kept schedule = λ i. record { seen = seen i; lines = lines i; results = results i; kept = kept i; schedule = schedule i }
+
+  pub lived_same : (a : Told Home) → Lived a a []
+  lived_same a = record { lives = refl; schedule = sym (append-nil a.schedule); ported = ported_same a.seen.lanes a.seen.lanes refl }
+
+  pub wait_none : (a b : Told Home) (ctx : Option ℕ) → next_op a ≡ Some (Wait ctx) → find (is_of_ctx ctx) a.kept ≡ None → a.seen.log ≡ [] → b ≡ a → WentOn a b false false
+  unfolding do_line wait_line
+  wait_none a b ctx next none log same = rw same (record {
+    acts = [];
+    lived = lived_same a;
+    moved_is = refl;
+    held = λ d m. next_is (actor_of a) (Wait ctx) next ∙ rw (none, wait_line) refl;
+    log = log;
+    is_done = λ was. absurd (cc was);
+    lines = refl;
+  })
+
+  pub wait_done : (a b : Told Home) (ctx : Option ℕ) (k : Kept) → next_op a ≡ Some (Wait ctx) → find (is_of_ctx ctx) a.kept ≡ Some k → a.seen.log ≡ []
+      → b ≡ record a { kept = remove_first (is_of_ctx ctx) a.kept; results = a.results ++ Waited k ∷ []; schedule = a.schedule ++ Do ∷ [] } → WentOn a b true true
+  unfolding do_line wait_line
+  wait_done a b ctx k next found log is =
+      let after = living a.seen.held a.lines (a.results ++ Waited k ∷ []) (remove_first (is_of_ctx ctx) a.kept) in
+      let step : do_next (actor_of a) ≡ Some (actor_in after) = next_is (actor_of a) (Wait ctx) next ∙ rw (found, wait_line) refl in
+      rw is (record {
+        acts = Did ∷ [];
+        lived = record {
+          lives = (after, (step, (refl, refl)), refl);
+          schedule = refl;
+          ported = (let p = ported_same a.seen.lanes a.seen.lanes refl in record {
+            taken = p.taken;
+            posted = p.posted;
+            moves = p.moves;
+            empty_seen = p.empty_seen;
+            lane_full = p.lane_full;
+            pool_full = p.pool_full;
+            number = refl;
+            peers = refl;
+            home = refl;
+            in_list = refl;
+            in_after = p.in_after;
+            out_after = p.out_after;
+          });
+        };
+        moved_is = refl;
+        held = λ nay. absurd (cc nay);
+        log = log;
+        is_done = λ was. refl;
+        lines = refl;
+      })
+
+  -- an entry that is no part is read and kept
+  read_lives : (a : Told Home) (entry : Taken) (e : Seen Home) → Pops entry a.seen e → part_of entry ≡ None
+      → Lives (living_of a) Had (living_of (record a { seen = e; kept = a.kept ++ record { entry = entry; bytes = None } ∷ [] }))
+  unfolding read_next bytes_kept
+  read_lives a entry e pops plain =
+      let is : part_of pops.written.entry ≡ None = ap part_of pops.is ∙ plain in
+      let held = ap (λ (x : Seen Home). x.held) pops.read in
+      let step : read_next (actor_of a) ≡ Some (actor_of (record a { seen = e; kept = a.kept ++ record { entry = entry; bytes = None } ∷ [] })) =
+      rw (pops.first, read_next) (rw (bytes_kept, is) (λ i. Some (record { state = sym (ap (λ (h : Held). h.state) held) i; lines = a.lines; results = a.results; kept = a.kept ++ record { entry = pops.is i; bytes = None } ∷ [] }))) in
+      (step, (ap (λ (h : Held). h.places) held, ap (λ (h : Held). h.begun) held))
+
+  pub reads_none : (a : Told Home) → ReadOn a a false
+  reads_none a = record { acts = []; lived = lived_same a; any_is = refl; lanes = refl; log = refl; lines = refl; results = refl }
+
+  -- with each entry read, fewer are unread
+  pub reads_less : (a b : Seen Home) (entry : Taken) → Pops entry a b → length b.held.state.cq.written - b.held.state.cq.taken_out < length a.held.state.cq.written - a.held.state.cq.taken_out
+  reads_less a b entry pops =
+      let within = slice_get_within a.held.state.cq.written a.held.state.cq.taken_out pops.written pops.first in
+      rw pops.read (omega (arith, within))
+
+  pub reads_on : (a b c : Told Home) (any : Bool) (entry : Taken) (e : Seen Home) → ReadOn a b any → Pops entry b.seen e → part_of entry ≡ None
+      → c ≡ record b { seen = e; kept = b.kept ++ record { entry = entry; bytes = None } ∷ []; schedule = b.schedule ++ Read ∷ [] } → ReadOn a c true
+  reads_on a b c any entry e on pops plain is = rw is (record {
+    acts = on.acts ++ Had ∷ [];
+    lived = lived_then a b _ on.acts (Had ∷ []) on.lived (record {
+      lives = (_, read_lives b entry e pops plain, refl);
+      schedule = refl;
+      ported = ported_had b.seen.lanes e.lanes (ap (λ (x : Seen Home). x.lanes) pops.read);
+    });
+    any_is = sym (some_append on.acts (Had ∷ []) ∙ or_true (is_some_act on.acts));
+    lanes = ap (λ (x : Seen Home). x.lanes) pops.read ∙ on.lanes;
+    log = ap (λ (x : Seen Home). x.log) pops.read ∙ on.log;
+    lines = on.lines;
+    results = on.results;
+  })
+    where
+      or_true : (b : Bool) → (b || true) ≡ true
+      or_true true = refl
+      or_true false = refl
+
+      ported_had : (x y : Lanes Home) → y ≡ x → Ported x y (Had ∷ [])
+      ported_had x y same = let p = ported_same x y same in record {
+        taken = p.taken;
+        posted = p.posted;
+        moves = p.moves;
+        empty_seen = p.empty_seen;
+        lane_full = p.lane_full;
+        pool_full = p.pool_full;
+        number = p.number;
+        peers = p.peers;
+        home = p.home;
+        in_list = p.in_list;
+        in_after = p.in_after;
+        out_after = p.out_after;
+      }
+
+  -- a read leaves fewer entries unread
+  pub read_less : (entry : Taken) (a b : Seen Home) → Pops entry a b → length b.held.state.cq.written - b.held.state.cq.taken_out < length a.held.state.cq.written - a.held.state.cq.taken_out
+  read_less entry a b pops =
+      let within = slice_get_within a.held.state.cq.written a.held.state.cq.taken_out pops.written pops.first in
+      let w : length b.held.state.cq.written ≡ length a.held.state.cq.written = ap (λ (x : Seen Home). length x.held.state.cq.written) pops.read in
+      let t : b.held.state.cq.taken_out ≡ a.held.state.cq.taken_out + 1 = ap (λ (x : Seen Home). x.held.state.cq.taken_out) pops.read in
+      omega (arith, within, w, t)
+
+  -- where there is no first unread entry, all are read
+  pub none_unread : (e : Seen Home) → IsOpen e → unread e.held.state.cq ≡ None → IsRead e
+  none_unread e sound none = let past = none_past e.held.state.cq.written e.held.state.cq.taken_out none in omega (arith, past, sound.read)
+    where
+      none_past : {X : Type 0} (xs : List X) (k : ℕ) → slice_get xs k ≡ None → length xs ≤ k
+      none_past [] k none = omega arith
+      none_past (x ∷ xs) zero none = absurd (cc)
+      none_past (x ∷ xs) (suc k) none = let more = none_past xs k none in omega (arith, more)
+
+pub none_of : {X : Type 0} (o : Option X) → is_some o ≡ false → o ≡ None
+none_of None e = refl
+none_of (Some x) e = absurd (cc)
+
+is_at : {X : Type 0} (xs : List X) (n : ℕ) (x : X) → n < length xs → x ≡ get_or xs n x → slice_get xs n ≡ Some x
+is_at [] n x within found = absurd (omega (arith, within))
+is_at (y ∷ ys) zero x within found = ap Some (sym found)
+is_at (y ∷ ys) (suc n) x within found = is_at ys n x (omega (arith, within)) found
+
+-- what the next line asks for, where a look-up found it
+pub next_by : {Home : Type 0} (a : Told Home) (lines : List Line) (n : ℕ) (line : Line) (op : LineOp) → lines ≡ a.lines → n ≡ length a.results → n < length lines → line ≡ get_or lines n line → line.op ≡ op → next_op a ≡ Some op
+next_by a lines n line op all count within found is =
+    let there : slice_get a.lines (length a.results) ≡ Some line = rw (← all, ← count) (is_at lines n line within found) in
+    ap (option_map (λ (x : Line). x.op)) there ∙ ap Some is
+
+-- all lines are done
+pub finished_on : {Home : Type 0} (a : Told Home) → slice_get a.lines (length a.results) ≡ None → a.seen.log ≡ [] → WentOn a a false false
+unfolding do_next
+finished_on a none log = record {
+  acts = [];
+  lived = lived_same a;
+  moved_is = refl;
+  held = λ d m. rw (none, do_next) refl;
+  log = log;
+  is_done = λ was. absurd (cc was);
+  lines = refl;
+}

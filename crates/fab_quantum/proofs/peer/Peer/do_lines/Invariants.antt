@@ -1,0 +1,14 @@
+use Rattle.std.proofs.Common.{◌≡◌, ◌<◌, true, [], List}
+use Rattle.fab_face.specs.Acts.{Act}
+use Rattle.fab_quantum.specs.Turns.{Lived, told, is_some_act}
+use Rattle.fab_quantum.proofs.peer.Peer.do_lines.Given as goal
+
+abbrev pub invariant-loop-round : goal.invariant-loop-round
+invariant-loop-round g l =
+    let seen = g.E.Sees.seen in
+    record {
+      lived : (acts : List Act) × Lived (told seen l.fn.self) (told seen l.self) acts × (l.moved ≡ is_some_act acts);
+      log : (seen l.self.endpoint).log ≡ [];
+      lines : l.self.lines.items ≡ l.fn.self.lines.items;
+      moved : 0 < l.round → l.moved ≡ true;
+    }

@@ -1,0 +1,387 @@
+//! A small peer over any endpoint: it does lines of a few kinds, in turns.
+ghost use Rattle.std.specs.Prelude.{◌≡◌, ◌||◌, ℕ, Some, None, Ok, IfOk, OnOk, IfSome, IfNone, find, position, is_some, nat_lt, ◌+◌, [], true, false, Bool};
+ghost use Rattle.fab_base.specs.declared.script.LineOp.TheVariants.{Wait, TRecv, TSend, Cancel};
+ghost use Rattle.fab_model.specs.Matching.{remove_first};
+ghost use Rattle.fab_model.specs.Calls.{word_bytes};
+ghost use Rattle.fab_model.specs.Peers.{ctx_of, is_of_ctx, part_of, unread};
+ghost use Rattle.fab_face.specs.Answers.{Pops};
+ghost use Rattle.fab_quantum.specs.Turns.{step_of, why_of};
+
+use fab_base::{
+    Buf, BytesWord, Entry, Fault, Flags, Kept, Level, Line, LineOp, LineResult, NoMemory, Refused,
+    Step, Taken,
+};
+use fab_face::calls::{Logs, Messages, Progress, Receives};
+use fab_face::events::Event;
+use std::alloc::Global;
+
+/// A peer with its endpoint, its lines, the results of those done, the completions kept, and its schedule.
+pub struct Peer<E: Messages + Receives + Progress + Logs> {
+    endpoint: E,
+    lines: Vec<Line>,
+    results: Vec<LineResult>,
+    kept: Vec<Kept>,
+    schedule: Vec<Step>,
+    alloc: Global,
+}
+
+/// What became of a line: whether it is done, and whether anything moved.
+#[derive(Clone, Copy, Drop)]
+struct Outcome {
+    done: bool,
+    moved: bool,
+}
+
+fn step_of(event: Event) -> Step
+    ensures { result ≡ step_of event }
+{
+    match event {
+        Event::Call => Step::Do,
+        Event::Head(source) => Step::Head(source),
+        Event::Tail(source) => Step::Tail(source),
+        Event::Sent(dest) => Step::Sent(dest),
+        Event::Draw => Step::Draw,
+    }
+}
+
+fn why_of(answer: Result<(), Refused>) -> Result<(), Fault>
+    ensures { result ≡ why_of answer }
+{
+    match answer {
+        Ok(()) => Ok(()),
+        Err(refused) => Err(refused.why),
+    }
+}
+
+fn either(a: bool, b: bool) -> bool
+    ensures { result ≡ (a || b) }
+{
+    a || b
+}
+
+fn is_above_zero(a: u32) -> bool
+    ensures { result ≡ nat_lt 0 a }
+{
+    a > 0
+}
+
+/// Whether the entry is a part of a multi-receive.
+fn is_part(entry: &Taken) -> bool
+    ensures { result ≡ is_some (part_of entry.now) }
+{
+    match entry {
+        Taken::Failure(error) => error.at.is_some(),
+        Taken::Success(entry) => match entry {
+            Entry::Part { .. } => true,
+            _ => false,
+        },
+    }
+}
+
+/// The context under which a completion comes.
+fn ctx_of(entry: &Taken) -> Option<u64>
+    ensures { result ≡ ctx_of entry.now }
+{
+    match entry {
+        Taken::Failure(error) => error.ctx,
+        Taken::Success(entry) => match entry {
+            Entry::Sent { ctx, .. }
+            | Entry::Received { ctx, .. }
+            | Entry::Part { ctx, .. }
+            | Entry::Released { ctx, .. }
+            | Entry::Peeked { ctx, .. }
+            | Entry::Read { ctx, .. }
+            | Entry::Wrote { ctx, .. }
+            | Entry::Updated { ctx }
+            | Entry::Fetched { ctx, .. } => Some(*ctx),
+            Entry::RemoteData { .. } => None,
+        },
+    }
+}
+
+fn is_of_ctx(kept: &Kept, ctx: Option<u64>) -> bool
+    ensures { result ≡ is_of_ctx ctx kept.now }
+{
+    match (ctx, ctx_of(&kept.entry)) {
+        (None, None) => true,
+        (Some(wanted), Some(is)) => wanted == is,
+        (None, Some(_)) | (Some(_), None) => false,
+    }
+}
+
+fn place_of(kept: &[Kept], ctx: Option<u64>) -> Option<usize>
+    ensures { result ≡ position (is_of_ctx ctx) kept.now }
+{
+    kept.iter().position(|k| is_of_ctx(k, ctx))
+}
+
+/// Takes the oldest kept completion of this context.
+fn take_kept(kept: &mut Vec<Kept>, ctx: Option<u64>) -> Option<Kept>
+    ensures found { result ≡ find (is_of_ctx ctx) kept.old.items }
+    ensures rest { kept.new.items ≡ remove_first (is_of_ctx ctx) kept.old.items }
+{
+    let Some(at) = place_of(kept, ctx) else {
+        return None;
+    };
+    Some(kept.remove(at))
+}
+
+/// The bytes of a line's word.
+fn word_bytes(alloc: Global, word: &BytesWord) -> Result<Buf, NoMemory>
+    ensures { IfOk result (λ b. b ≡ word_bytes word.now) }
+{
+    match word {
+        BytesWord::Text(bytes) | BytesWord::Hex(bytes) => Buf::copy(alloc, bytes.as_slice()),
+        BytesWord::Zero(n) => Buf::zeros(alloc, *n),
+        BytesWord::File { .. } => Ok(Buf::empty(alloc)),
+    }
+}
+
+/// Reads the first completion, a success or an error.
+fn next_entry<E: Progress>(endpoint: &mut E) -> Option<Taken>
+    ensures some { IfSome result (λ entry. Pops entry (E.seen endpoint.old) (E.seen endpoint.new)) }
+    ensures none { IfNone result ((E.seen endpoint.new ≡ E.seen endpoint.old) × (unread (E.seen endpoint.old).held.state.cq ≡ None)) }
+{
+    match endpoint.cq_readerr() {
+        Ok(error) => Some(Taken::Failure(error)),
+        Err(_) => match endpoint.cq_pop() {
+            Ok(entry) => Some(Taken::Success(entry)),
+            Err(_) => None,
+        },
+    }
+}
+
+impl<E: Messages + Receives + Progress + Logs> Peer<E> {
+    ghost use Rattle.std.specs.Prelude.{List};
+    ghost use Rattle.fab_face.specs.Acts.{Act};
+    ghost use Rattle.fab_quantum.specs.Turns.{MovedOn, told, drained, is_some_event, ReadOn, IsRead, WentOn, Answered, Lived, IsStill, is_some_act, next_op, SendsNext, Turned};
+    ghost use Rattle.fab_face.specs.Answers.{IsIdle};
+
+    /// Empties the endpoint's log into the schedule. Whether there was an event.
+    fn drain(&mut self) -> Result<bool, NoMemory>
+        ensures drained { OnOk result (told E.seen self.new ≡ drained (told E.seen self.old)) }
+        ensures any { IfOk result (λ any. any ≡ is_some_event (E.seen self.old.endpoint).log) }
+    {
+        let mut any = false;
+        'events: while let Some(event) = self.endpoint.log_pop() {
+            self.schedule.push(step_of(event))?;
+            any = true;
+        }
+        Ok(any)
+    }
+
+    /// Reads completions until there is none, and keeps them. Whether there was one. This peer gives up
+    /// at a part of a multi-receive.
+    fn read_all(&mut self) -> Result<bool, NoMemory>
+        ensures on { IfOk result (λ any. ReadOn (told E.seen self.old) (told E.seen self.new) any) }
+        ensures read { OnOk result (IsRead (E.seen self.new.endpoint)) }
+    {
+        let mut any = false;
+        'entries: while let Some(entry) = next_entry(&mut self.endpoint) {
+            if is_part(&entry) {
+                return Err(NoMemory);
+            }
+            self.kept.push(Kept { entry, bytes: None })?;
+            self.schedule.push(Step::Read)?;
+            any = true;
+        }
+        self.endpoint.known();
+        Ok(any)
+    }
+
+    /// A call was answered: its line is done, unless the answer is to come again.
+    fn answered(&mut self, answer: Result<(), Fault>) -> Result<bool, NoMemory>
+        ensures { IfOk result (λ done. Answered answer (told E.seen self.old) (told E.seen self.new) done) }
+    {
+        match answer {
+            Ok(()) => {
+                self.results.push(LineResult::Done)?;
+                Ok(true)
+            }
+            Err(Fault::NoMemory) => Err(NoMemory),
+            Err(Fault::Again(_)) => Ok(false),
+            Err(fault) => {
+                self.schedule.push(Step::Do)?;
+                self.results.push(LineResult::Refused(fault))?;
+                Ok(true)
+            }
+        }
+    }
+
+    /// The line `wait`.
+    fn wait(&mut self, ctx: Option<u64>) -> Result<Outcome, NoMemory>
+        requires log { (E.seen self.old.endpoint).log ≡ [] }
+        requires next { next_op (told E.seen self.old) ≡ Some (Wait ctx) }
+        ensures { IfOk result (λ o. WentOn (told E.seen self.old) (told E.seen self.new) o.done o.moved) }
+    {
+        let Some(kept) = take_kept(&mut self.kept, ctx) else {
+            return Ok(Outcome {
+                done: false,
+                moved: false,
+            });
+        };
+        self.schedule.push(Step::Do)?;
+        self.results.push(LineResult::Waited(kept))?;
+        Ok(Outcome {
+            done: true,
+            moved: true,
+        })
+    }
+
+    /// The line `tsend`.
+    fn tsend(
+        &mut self,
+        ctx: u64,
+        dest: u32,
+        tag: u64,
+        buf: Buf,
+        imm: Option<u64>,
+        level: Level,
+        completion: bool,
+    ) -> Result<Outcome, NoMemory>
+        requires log { (E.seen self.old.endpoint).log ≡ [] }
+        requires next { SendsNext ctx dest tag buf imm level completion (told E.seen self.old) }
+        ensures { IfOk result (λ o. WentOn (told E.seen self.old) (told E.seen self.new) o.done o.moved) }
+    {
+        self.endpoint.known();
+        let answer = self
+            .endpoint
+            .tsend(dest, tag, buf, imm, ctx, Flags { completion, level });
+        let why = why_of(answer);
+        self.drain()?;
+        let done = self.answered(why)?;
+        let pushed = self.endpoint.pushed();
+        Ok(Outcome {
+            done,
+            moved: either(done, pushed),
+        })
+    }
+
+    /// The line `trecv`.
+    fn trecv(
+        &mut self,
+        ctx: u64,
+        source: Option<u32>,
+        tag: u64,
+        ignore: u64,
+        len: u32,
+    ) -> Result<Outcome, NoMemory>
+        requires log { (E.seen self.old.endpoint).log ≡ [] }
+        requires next { next_op (told E.seen self.old) ≡ Some (TRecv ctx source tag ignore len) }
+        ensures { IfOk result (λ o. WentOn (told E.seen self.old) (told E.seen self.new) o.done o.moved) }
+    {
+        let buf = Buf::zeros(self.alloc, len as u64)?;
+        self.endpoint.known();
+        let answer = self.endpoint.trecv(source, tag, ignore, buf, ctx);
+        self.endpoint.known();
+        let why = why_of(answer);
+        let drew = self.drain()?;
+        let done = self.answered(why)?;
+        Ok(Outcome {
+            done,
+            moved: either(done, drew),
+        })
+    }
+
+    /// The line `cancel`.
+    fn cancel(&mut self, ctx: u64) -> Result<Outcome, NoMemory>
+        requires log { (E.seen self.old.endpoint).log ≡ [] }
+        requires next { next_op (told E.seen self.old) ≡ Some (Cancel ctx) }
+        ensures { IfOk result (λ o. WentOn (told E.seen self.old) (told E.seen self.new) o.done o.moved) }
+    {
+        self.endpoint.known();
+        let answer = self.endpoint.cancel(ctx);
+        self.endpoint.known();
+        let drew = self.drain()?;
+        let done = self.answered(answer)?;
+        Ok(Outcome {
+            done,
+            moved: either(done, drew),
+        })
+    }
+
+    /// Does the next line, if there is one and it can be done. This peer gives up at a line of another kind.
+    fn do_line(&mut self) -> Result<Outcome, NoMemory>
+        requires log { (E.seen self.old.endpoint).log ≡ [] }
+        ensures { IfOk result (λ o. WentOn (told E.seen self.old) (told E.seen self.new) o.done o.moved) }
+    {
+        let Some(line) = self.lines.get(self.results.len()) else {
+            return Ok(Outcome {
+                done: false,
+                moved: false,
+            });
+        };
+        match line.op {
+            LineOp::Wait { ctx } => self.wait(ctx),
+            LineOp::Cancel { ctx } => self.cancel(ctx),
+            LineOp::TRecv {
+                ctx,
+                source,
+                tag,
+                ignore,
+                len,
+            } => self.trecv(ctx, source, tag, ignore, len),
+            LineOp::TSend {
+                ctx,
+                dest,
+                tag,
+                ref bytes,
+                imm,
+                level,
+                completion,
+            } => {
+                let buf = word_bytes(self.alloc, bytes)?;
+                self.tsend(ctx, dest, tag, buf, imm, level, completion)
+            }
+            _ => Err(NoMemory),
+        }
+    }
+
+    /// Does lines while the next one can be done, at most 16, and reads all completions after each. Whether
+    /// anything moved.
+    fn do_lines(&mut self) -> Result<bool, NoMemory>
+        requires log { (E.seen self.old.endpoint).log ≡ [] }
+        ensures { IfOk result (λ moved. WentOn (told E.seen self.old) (told E.seen self.new) false moved) }
+    {
+        let mut moved = false;
+        for round in 0..16_u32 {
+            let outcome = self.do_line()?;
+            moved = either(moved, outcome.moved);
+            if !outcome.done {
+                return Ok(moved);
+            }
+            self.read_all()?;
+        }
+        Ok(moved)
+    }
+
+    /// Takes and posts up to 64 frames. Whether anything moved.
+    fn go_on(&mut self) -> Result<bool, NoMemory>
+        requires log { (E.seen self.old.endpoint).log ≡ [] }
+        ensures { IfOk result (λ moved. MovedOn (told E.seen self.old) (told E.seen self.new) moved) }
+    {
+        let moved = self.endpoint.progress(64)?;
+        self.endpoint.known();
+        let logged = self.drain()?;
+        let took = is_above_zero(moved.taken);
+        let posted = is_above_zero(moved.posted);
+        Ok(either(either(took, posted), logged))
+    }
+
+    /// A turn of the peer: it reads all completions, does up to 16 lines and reads after each, makes
+    /// progress with up to 64 frames, and reads again. Whether anything moved.
+    pub fn quantum(&mut self) -> Result<bool, NoMemory>
+        requires log { (E.seen self.old.endpoint).log ≡ [] }
+        ensures log { OnOk result ((E.seen self.new.endpoint).log ≡ []) }
+        ensures turned { IfOk result (λ moved. (acts : List Act) × Turned (told E.seen self.old) (told E.seen self.new) acts × (moved ≡ is_some_act acts)) }
+        ensures still { result ≡ Ok false → IsStill (told E.seen self.old) (told E.seen self.new) }
+    {
+        self.endpoint.known();
+        let read = self.read_all()?;
+        let done = self.do_lines()?;
+        let went = self.go_on()?;
+        let again = self.read_all()?;
+        self.endpoint.known();
+        Ok(either(either(read, done), either(went, again)))
+    }
+}
