@@ -13,7 +13,7 @@ use Rattle.fab_base.specs.declared.faults.Fault.TheVariants.{Again, NoMemory as 
 use Rattle.fab_base.specs.declared.faults.Busy.{Busy}
 use Rattle.fab_base.specs.declared.faults.Busy.TheVariants.{TxFull, PostedFull, CqFull, LogFull}
 use Rattle.fab_base.specs.declared.faults.Refused.{Refused as RefusedWith}
-use Rattle.fab_base.specs.declared.items.Kind.TheVariants.{TagMsg}
+use Rattle.fab_base.specs.declared.items.Kind.TheVariants.{Msg, TagMsg}
 use Rattle.fab_base.specs.declared.peers.Level.{Level}
 use Rattle.fab_base.specs.declared.peers.LineResult.{LineResult}
 use Rattle.fab_base.specs.declared.peers.LineResult.TheVariants.{Done, Refused, Waited}
@@ -22,7 +22,7 @@ use Rattle.fab_base.specs.declared.peers.Step.TheVariants.{Do, Read}
 use Rattle.fab_base.specs.declared.script.BytesWord.{BytesWord}
 use Rattle.fab_base.specs.declared.script.Line.{Line}
 use Rattle.fab_base.specs.declared.script.LineOp.{LineOp}
-use Rattle.fab_base.specs.declared.script.LineOp.TheVariants.{TSend, TRecv, Wait, Cancel as CancelLine}
+use Rattle.fab_base.specs.declared.script.LineOp.TheVariants.{Send, TSend, Inject, TInject, Recv, TRecv, Wait, Cancel as CancelLine}
 use Rattle.fab_model.specs.Receiving.{draw_due}
 use Rattle.fab_model.specs.State.{State}
 use Rattle.fab_model.specs.Calls.{Call, Cancel, do_call, call_of, message, word_bytes}
@@ -81,6 +81,35 @@ unfolding do_line call_of
 calls_trecv a ctx source tag ignore len buf next is m =
     next_is (actor_in (living m a.lines a.results a.kept)) _ next
     ∙ ap (λ bs. call_line (actor_in (living m a.lines a.results a.kept)) (receive_call true source tag ignore bs None ctx)) (sym is)
+
+pub calls_send : {Home : Type 0} (a : Told Home) (ctx dest : ℕ) (word : BytesWord) (imm : Option ℕ) (level : Level) (completion : Bool) (bytes : List ℕ)
+    → next_op a ≡ Some (Send ctx dest word imm level completion) → bytes ≡ word_bytes word
+    → IsCalled a.lines a.results a.kept (message Msg (Some ctx) dest 0 bytes imm level completion)
+unfolding do_line call_of
+calls_send a ctx dest word imm level completion bytes next is m =
+    next_is (actor_in (living m a.lines a.results a.kept)) _ next
+    ∙ ap (λ bs. call_line (actor_in (living m a.lines a.results a.kept)) (message Msg (Some ctx) dest 0 bs imm level completion)) (sym is)
+
+pub calls_inject : {Home : Type 0} (a : Told Home) (dest : ℕ) (word : BytesWord) (imm : Option ℕ) (bytes : List ℕ)
+    → next_op a ≡ Some (Inject dest word imm) → bytes ≡ word_bytes word → IsCalled a.lines a.results a.kept (message Msg None dest 0 bytes imm Level.Inject false)
+unfolding do_line call_of
+calls_inject a dest word imm bytes next is m =
+    next_is (actor_in (living m a.lines a.results a.kept)) _ next
+    ∙ ap (λ bs. call_line (actor_in (living m a.lines a.results a.kept)) (message Msg None dest 0 bs imm Level.Inject false)) (sym is)
+
+pub calls_tinject : {Home : Type 0} (a : Told Home) (dest tag : ℕ) (word : BytesWord) (imm : Option ℕ) (bytes : List ℕ)
+    → next_op a ≡ Some (TInject dest tag word imm) → bytes ≡ word_bytes word → IsCalled a.lines a.results a.kept (message TagMsg None dest tag bytes imm Level.Inject false)
+unfolding do_line call_of
+calls_tinject a dest tag word imm bytes next is m =
+    next_is (actor_in (living m a.lines a.results a.kept)) _ next
+    ∙ ap (λ bs. call_line (actor_in (living m a.lines a.results a.kept)) (message TagMsg None dest tag bs imm Level.Inject false)) (sym is)
+
+pub calls_recv : {Home : Type 0} (a : Told Home) (ctx : ℕ) (source : Option ℕ) (len : ℕ) (buf : List ℕ)
+    → next_op a ≡ Some (Recv ctx source len) → buf ≡ replicate len 0 → IsCalled a.lines a.results a.kept (receive_call false source 0 0 buf None ctx)
+unfolding do_line call_of
+calls_recv a ctx source len buf next is m =
+    next_is (actor_in (living m a.lines a.results a.kept)) _ next
+    ∙ ap (λ bs. call_line (actor_in (living m a.lines a.results a.kept)) (receive_call false source 0 0 bs None ctx)) (sym is)
 
 pub calls_cancel : {Home : Type 0} (a : Told Home) (ctx : ℕ) → next_op a ≡ Some (CancelLine ctx) → IsCalled a.lines a.results a.kept (Cancel ctx)
 unfolding do_line call_of
@@ -273,6 +302,14 @@ module _ {Home : Type 0} (a : Told Home) (e : Seen Home) (call : Call) (next : I
       let told : Answered (why_of r) (drained (with_seen a e)) b done = subst₂ (λ x y. Answered x y b done) is_why is_d answered in
       let same : b.seen.pushed ≡ e.pushed = ap (λ (x : Seen Home). x.pushed) (answered_seen (why_of r) (drained (with_seen a e)) b done told) in
       subst (λ m. WentOn a b done m) (sym (is_moved ∙ ap (λ x. done || x) (is_pushed ∙ same))) (sends_on fixed dest buf r b done sound ok err told)
+
+  pub injects_line : (fixed : Bool) (dest : ℕ) (why : Result (Unit {0}) Fault) (d b : Told Home) (done pushed moved : Bool) → IsOpen a.seen
+      → OnOk why (Sends fixed call dest a.seen e) → IfErr why (λ x. SendsNot fixed call a.seen e x)
+      → d ≡ drained (with_seen a e) → Answered why d b done → pushed ≡ b.seen.pushed → moved ≡ (done || pushed) → WentOn a b done moved
+  injects_line fixed dest (Ok u) d b done pushed moved sound ok err is_d answered is_pushed is_moved =
+      sends_line fixed dest [] (Ok u) (Ok u) d b done pushed moved sound ok tt refl is_d answered is_pushed is_moved
+  injects_line fixed dest (Err fault) d b done pushed moved sound ok err is_d answered is_pushed is_moved =
+      sends_line fixed dest [] (Err (record { why = fault; buf = [] })) (Err fault) d b done pushed moved sound tt (refl, err) refl is_d answered is_pushed is_moved
 
   pub receives_line : (r : Result (Unit {0}) Fault) (why : Result (Unit {0}) Fault) (d b : Told Home) (done drew moved : Bool) → IsOpen a.seen → IsOpen e
       → OnOk r (Receives call a.seen e) → IfErr r (λ f. ReceivesNot call a.seen e f)

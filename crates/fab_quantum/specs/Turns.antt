@@ -199,10 +199,6 @@ pub record ReadOn {Home : Type 0} (a b : Told Home) (any : Bool) : Type 0 where
 abbrev pub IsRead : {Home : Type 0} → Seen Home → Type 0
 IsRead e = e.held.state.cq.taken_out ≡ length e.held.state.cq.written
 
--- the next line is a send of these bytes
-abbrev pub SendsNext : {Home : Type 0} → ℕ → ℕ → ℕ → List ℕ → Option ℕ → Level → Bool → Told Home → Type 0
-SendsNext ctx dest tag bytes imm level completion a = (word : BytesWord) × (next_op a ≡ Some (TSend ctx dest tag word imm level completion)) × (bytes ≡ word_bytes word)
-
 -- frames were moved and draws made, and nothing else was done
 pub record MovedOn {Home : Type 0} (a b : Told Home) (moved : Bool) : Type 0 where
   pub acts : List Act

@@ -1,6 +1,7 @@
 //! A small peer over any endpoint: it does lines of a few kinds, in turns.
 ghost use Rattle.std.specs.Prelude.{◌≡◌, ◌||◌, ℕ, Some, None, Ok, IfOk, OnOk, IfSome, IfNone, find, position, is_some, nat_lt, ◌+◌, [], true, false, Bool};
-ghost use Rattle.fab_base.specs.declared.script.LineOp.TheVariants.{Wait, TRecv, TSend, Cancel};
+ghost use Rattle.fab_base.specs.declared.script.LineOp.TheVariants.{Wait, Recv, TRecv, Send, TSend, Inject, TInject, Cancel};
+ghost use Rattle.fab_base.specs.declared.script.BytesWord.{BytesWord};
 ghost use Rattle.fab_model.specs.Matching.{remove_first};
 ghost use Rattle.fab_model.specs.Calls.{word_bytes};
 ghost use Rattle.fab_model.specs.Peers.{ctx_of, is_of_ctx, part_of, unread};
@@ -8,8 +9,8 @@ ghost use Rattle.fab_face.specs.Answers.{Pops};
 ghost use Rattle.fab_quantum.specs.Turns.{step_of, why_of};
 
 use fab_base::{
-    Buf, BytesWord, Entry, Fault, Flags, Kept, Level, Line, LineOp, LineResult, NoMemory, Refused,
-    Step, Taken,
+    Buf, BytesWord, Entry, Fault, Flags, Kept, Line, LineOp, LineResult, NoMemory, Refused, Step,
+    Taken,
 };
 use fab_face::calls::{Logs, Messages, Progress, Receives};
 use fab_face::events::Event;
@@ -154,7 +155,7 @@ fn next_entry<E: Progress>(endpoint: &mut E) -> Option<Taken>
 impl<E: Messages + Receives + Progress + Logs> Peer<E> {
     ghost use Rattle.std.specs.Prelude.{List};
     ghost use Rattle.fab_face.specs.Acts.{Act};
-    ghost use Rattle.fab_quantum.specs.Turns.{MovedOn, told, drained, is_some_event, ReadOn, IsRead, WentOn, Answered, Lived, IsStill, is_some_act, next_op, SendsNext, Turned};
+    ghost use Rattle.fab_quantum.specs.Turns.{MovedOn, told, drained, is_some_event, ReadOn, IsRead, WentOn, Answered, Lived, IsStill, is_some_act, next_op, Turned};
     ghost use Rattle.fab_face.specs.Answers.{IsIdle};
 
     /// Empties the endpoint's log into the schedule. Whether there was an event.
@@ -228,6 +229,31 @@ impl<E: Messages + Receives + Progress + Logs> Peer<E> {
         })
     }
 
+    /// The line `send`.
+    fn send(
+        &mut self,
+        ctx: u64,
+        dest: u32,
+        buf: Buf,
+        imm: Option<u64>,
+        flags: Flags,
+    ) -> Result<Outcome, NoMemory>
+        requires log { (E.seen self.old.endpoint).log ≡ [] }
+        requires next { (word : BytesWord) × (next_op (told E.seen self.old) ≡ Some (Send ctx dest word imm flags.level flags.completion)) × (buf ≡ word_bytes word) }
+        ensures { IfOk result (λ o. WentOn (told E.seen self.old) (told E.seen self.new) o.done o.moved) }
+    {
+        self.endpoint.known();
+        let answer = self.endpoint.send(dest, buf, imm, ctx, flags);
+        let why = why_of(answer);
+        self.drain()?;
+        let done = self.answered(why)?;
+        let pushed = self.endpoint.pushed();
+        Ok(Outcome {
+            done,
+            moved: either(done, pushed),
+        })
+    }
+
     /// The line `tsend`.
     fn tsend(
         &mut self,
@@ -236,18 +262,55 @@ impl<E: Messages + Receives + Progress + Logs> Peer<E> {
         tag: u64,
         buf: Buf,
         imm: Option<u64>,
-        level: Level,
-        completion: bool,
+        flags: Flags,
     ) -> Result<Outcome, NoMemory>
         requires log { (E.seen self.old.endpoint).log ≡ [] }
-        requires next { SendsNext ctx dest tag buf imm level completion (told E.seen self.old) }
+        requires next { (word : BytesWord) × (next_op (told E.seen self.old) ≡ Some (TSend ctx dest tag word imm flags.level flags.completion)) × (buf ≡ word_bytes word) }
         ensures { IfOk result (λ o. WentOn (told E.seen self.old) (told E.seen self.new) o.done o.moved) }
     {
         self.endpoint.known();
-        let answer = self
-            .endpoint
-            .tsend(dest, tag, buf, imm, ctx, Flags { completion, level });
+        let answer = self.endpoint.tsend(dest, tag, buf, imm, ctx, flags);
         let why = why_of(answer);
+        self.drain()?;
+        let done = self.answered(why)?;
+        let pushed = self.endpoint.pushed();
+        Ok(Outcome {
+            done,
+            moved: either(done, pushed),
+        })
+    }
+
+    /// The line `inject`.
+    fn inject(&mut self, dest: u32, buf: &Buf, imm: Option<u64>) -> Result<Outcome, NoMemory>
+        requires log { (E.seen self.old.endpoint).log ≡ [] }
+        requires next { (word : BytesWord) × (next_op (told E.seen self.old) ≡ Some (Inject dest word imm)) × (buf.now ≡ word_bytes word) }
+        ensures { IfOk result (λ o. WentOn (told E.seen self.old) (told E.seen self.new) o.done o.moved) }
+    {
+        self.endpoint.known();
+        let why = self.endpoint.inject(dest, buf.as_slice(), imm);
+        self.drain()?;
+        let done = self.answered(why)?;
+        let pushed = self.endpoint.pushed();
+        Ok(Outcome {
+            done,
+            moved: either(done, pushed),
+        })
+    }
+
+    /// The line `tinject`.
+    fn tinject(
+        &mut self,
+        dest: u32,
+        tag: u64,
+        buf: &Buf,
+        imm: Option<u64>,
+    ) -> Result<Outcome, NoMemory>
+        requires log { (E.seen self.old.endpoint).log ≡ [] }
+        requires next { (word : BytesWord) × (next_op (told E.seen self.old) ≡ Some (TInject dest tag word imm)) × (buf.now ≡ word_bytes word) }
+        ensures { IfOk result (λ o. WentOn (told E.seen self.old) (told E.seen self.new) o.done o.moved) }
+    {
+        self.endpoint.known();
+        let why = self.endpoint.tinject(dest, tag, buf.as_slice(), imm);
         self.drain()?;
         let done = self.answered(why)?;
         let pushed = self.endpoint.pushed();
@@ -273,6 +336,25 @@ impl<E: Messages + Receives + Progress + Logs> Peer<E> {
         let buf = Buf::zeros(self.alloc, len as u64)?;
         self.endpoint.known();
         let answer = self.endpoint.trecv(source, tag, ignore, buf, ctx);
+        self.endpoint.known();
+        let why = why_of(answer);
+        let drew = self.drain()?;
+        let done = self.answered(why)?;
+        Ok(Outcome {
+            done,
+            moved: either(done, drew),
+        })
+    }
+
+    /// The line `recv`.
+    fn recv(&mut self, ctx: u64, source: Option<u32>, len: u32) -> Result<Outcome, NoMemory>
+        requires log { (E.seen self.old.endpoint).log ≡ [] }
+        requires next { next_op (told E.seen self.old) ≡ Some (Recv ctx source len) }
+        ensures { IfOk result (λ o. WentOn (told E.seen self.old) (told E.seen self.new) o.done o.moved) }
+    {
+        let buf = Buf::zeros(self.alloc, len as u64)?;
+        self.endpoint.known();
+        let answer = self.endpoint.recv(source, buf, ctx);
         self.endpoint.known();
         let why = why_of(answer);
         let drew = self.drain()?;
@@ -321,6 +403,18 @@ impl<E: Messages + Receives + Progress + Logs> Peer<E> {
                 ignore,
                 len,
             } => self.trecv(ctx, source, tag, ignore, len),
+            LineOp::Recv { ctx, source, len } => self.recv(ctx, source, len),
+            LineOp::Send {
+                ctx,
+                dest,
+                ref bytes,
+                imm,
+                level,
+                completion,
+            } => {
+                let buf = word_bytes(self.alloc, bytes)?;
+                self.send(ctx, dest, buf, imm, Flags { completion, level })
+            }
             LineOp::TSend {
                 ctx,
                 dest,
@@ -331,7 +425,24 @@ impl<E: Messages + Receives + Progress + Logs> Peer<E> {
                 completion,
             } => {
                 let buf = word_bytes(self.alloc, bytes)?;
-                self.tsend(ctx, dest, tag, buf, imm, level, completion)
+                self.tsend(ctx, dest, tag, buf, imm, Flags { completion, level })
+            }
+            LineOp::Inject {
+                dest,
+                ref bytes,
+                imm,
+            } => {
+                let buf = word_bytes(self.alloc, bytes)?;
+                self.inject(dest, &buf, imm)
+            }
+            LineOp::TInject {
+                dest,
+                tag,
+                ref bytes,
+                imm,
+            } => {
+                let buf = word_bytes(self.alloc, bytes)?;
+                self.tinject(dest, tag, &buf, imm)
             }
             _ => Err(NoMemory),
         }

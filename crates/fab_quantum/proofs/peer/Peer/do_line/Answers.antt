@@ -32,6 +32,21 @@ trecv-requires-clause-next g c =
     let count : c.len.result ≡ length c.args.self.now.results.items = search rules in
     next_by (told g.E.Sees.seen c.args.self.now) c.deref.result.now c.len.result c.in-Some.line.now _ c.deref.ensures.value count (ltb-true _ _ (sym found.0)) found.1 c.in-TRecv.is
 
+pub recv-requires-clause-next : goal.recv-requires-clause-next
+recv-requires-clause-next g c =
+    let found = c.in-Some.ensures.lookup in
+    let count : c.len.result ≡ length c.args.self.now.results.items = search rules in
+    next_by (told g.E.Sees.seen c.args.self.now) c.deref.result.now c.len.result c.in-Some.line.now _ c.deref.ensures.value count (ltb-true _ _ (sym found.0)) found.1 c.in-Recv.is
+
+pub send-requires-clause-next : goal.send-requires-clause-next
+send-requires-clause-next g c =
+    let found = c.in-Some.ensures.lookup in
+    let count : c.len.result ≡ length c.args.self.now.results.items = search rules in (
+      c.in-Send.bytes,
+      next_by (told g.E.Sees.seen c.args.self.now) c.deref.result.now c.len.result c.in-Some.line.now _ c.deref.ensures.value count (ltb-true _ _ (sym found.0)) found.1 c.in-Send.is,
+      c.in_ok-buf-in-Send.ensures,
+    )
+
 pub tsend-requires-clause-next : goal.tsend-requires-clause-next
 tsend-requires-clause-next g c =
     let found = c.in-Some.ensures.lookup in
@@ -39,4 +54,22 @@ tsend-requires-clause-next g c =
       c.in-TSend.bytes,
       next_by (told g.E.Sees.seen c.args.self.now) c.deref.result.now c.len.result c.in-Some.line.now _ c.deref.ensures.value count (ltb-true _ _ (sym found.0)) found.1 c.in-TSend.is,
       c.in_ok-buf-in-TSend.ensures,
+    )
+
+pub inject-requires-clause-next : goal.inject-requires-clause-next
+inject-requires-clause-next g c =
+    let found = c.in-Some.ensures.lookup in
+    let count : c.len.result ≡ length c.args.self.now.results.items = search rules in (
+      c.in-Inject.bytes,
+      next_by (told g.E.Sees.seen c.args.self.now) c.deref.result.now c.len.result c.in-Some.line.now _ c.deref.ensures.value count (ltb-true _ _ (sym found.0)) found.1 c.in-Inject.is,
+      c.in_ok-buf-in-Inject.ensures,
+    )
+
+pub tinject-requires-clause-next : goal.tinject-requires-clause-next
+tinject-requires-clause-next g c =
+    let found = c.in-Some.ensures.lookup in
+    let count : c.len.result ≡ length c.args.self.now.results.items = search rules in (
+      c.in-TInject.bytes,
+      next_by (told g.E.Sees.seen c.args.self.now) c.deref.result.now c.len.result c.in-Some.line.now _ c.deref.ensures.value count (ltb-true _ _ (sym found.0)) found.1 c.in-TInject.is,
+      c.in_ok-buf-in-TInject.ensures,
     )
