@@ -10,4 +10,5 @@ mod calls;
 pub mod endpoint;
 mod frames;
 mod receiving;
+pub mod seats;
 mod sending;

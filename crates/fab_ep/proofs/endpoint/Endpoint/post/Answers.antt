@@ -18,7 +18,7 @@ pub invariant_of-self-2 : goal.invariant_of-self-2
 invariant_of-self-2 g c = (
   c.self.invariant.0,
   tied_received (seen g.P.Port (record { port = c.self.inside.port; held = g.C.Machine.held c.self.inside.core; log = c.self.inside.log.items; log_size = c.self.inside.log_size; pushed = c.self.inside.pushed })) _ _
-  c.self.invariant.1 c.in_ok-post.ensures.ok c.in_ok-post.ensures.next refl refl refl,
+      c.self.invariant.1 c.in_ok-post.ensures.ok c.in_ok-post.ensures.next refl refl refl,
 )
 
 pub returns-clause-ok : goal.returns-clause-ok
