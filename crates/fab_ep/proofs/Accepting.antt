@@ -1,22 +1,18 @@
 -- A message is accepted, and goes out as far as it may.
 use Rattle.std.proofs.Common.{◌⊎◌, inl, inr, ◌≡◌, ◌≢◌, ◌<◌, ◌≤◌, ◌+◌, ℕ, zero, suc, Bool, true, false, ◌||◌, List, [], ◌∷◌, ◌++◌, length, length-append, get_or-set_same, get_or-set_other, append-nil, Option, Some, None, refl, sym, ap, ◌∙◌, subst, arith}
-use Rattle.std.specs.Prelude.{slice_index, slice_index_or, slice_get, slice_set}
+use Rattle.std.specs.Prelude.{slice_index, slice_get}
 use Rattle.std.specs.List.{list_any}
 use Rattle.std.proofs.lemmas.Bool.{cases_eq}
-use Rattle.std.proofs.lemmas.Option.{slice_get_within}
 use Rattle.fab_base.specs.declared.faults.Fault.{Fault}
-use Rattle.fab_base.specs.declared.frames.Frame.{Frame}
 use Rattle.fab_base.specs.declared.items.Item.{Item}
-use Rattle.fab_base.specs.declared.peers.LineResult.{LineResult}
-use Rattle.fab_base.specs.declared.peers.LineResult.TheVariants.{Done, Refused}
+use Rattle.fab_base.specs.declared.peers.LineResult.TheVariants.{Done}
 use Rattle.fab_wire.specs.Joined.{is_last}
-use Rattle.fab_model.specs.State.{State, accepted_for, fits, lookup}
-use Rattle.fab_model.specs.Sending.{Order, item_of, transmit_fault, transmit, transmit_to, accepting, do_sent}
-use Rattle.fab_model.specs.Calls.{Call, Transmit, answer, do_call}
+use Rattle.fab_model.specs.State.{State, accepted_for, lookup}
+use Rattle.fab_model.specs.Sending.{Order, item_of, transmit_fault, transmit, transmit_to, accepting}
+use Rattle.fab_model.specs.Calls.{Transmit, answer, do_call}
 use Rattle.fab_face.specs.Held.{Held, Lanes, Seen, next_item, next_frame}
-use Rattle.fab_face.specs.Acts.{Act, Did, Took, Posted, Drew, Had, Departs, DoesCall, GoesBy, Ported, Went, is_post, posted_to}
+use Rattle.fab_face.specs.Acts.{Act, Did, Took, Posted, Drew, Had, Departs, DoesCall, GoesBy, Ported, Went, is_post}
 use Rattle.fab_face.specs.Answers.{AllAre, SawFull, Sends}
-use Rattle.fab_face.specs.Machine.{StayNext}
 use Rattle.fab_face.proofs.Joining.{went_then}
 use Rattle.fab_ep.specs.Tries.{IsTied}
 use Rattle.fab_ep.specs.Sends.{Admits, LetsOut, IsOnly, IsFree}

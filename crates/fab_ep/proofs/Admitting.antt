@@ -1,22 +1,19 @@
 -- A transmit call before its message is accepted.
-use Rattle.std.proofs.Common.{◌⊎◌, inl, inr, ◌≡◌, ◌≢◌, ◌<◌, ◌≤◌, ◌+◌, ℕ, Bool, true, false, ◌||◌, List, [], ◌∷◌, length, cond, Option, Some, None, Result, Ok, Err, refl, sym, ap, ◌∙◌, subst, arith}
-use Rattle.std.specs.Prelude.{nat_le, not, OnErr}
-use Rattle.std.specs.List.{list_any}
+use Rattle.std.proofs.Common.{◌≡◌, ◌≢◌, ◌≤◌, ◌+◌, ℕ, Bool, true, false, ◌||◌, List, [], ◌∷◌, Option, Some, None, Result, Ok, Err, refl, sym, ap, ◌∙◌, subst, arith}
+use Rattle.std.specs.Prelude.{nat_le, OnErr}
 use Rattle.std.proofs.lemmas.Bool.Decides.{nat_tests}
 use Rattle.fab_base.specs.declared.faults.Fault.{Fault}
 use Rattle.fab_base.specs.declared.faults.Fault.TheVariants.{Again, NotSupported, MsgSize, Invalid, NoData, NoKey, Range, NoEntry, Avail, NoMemory as LacksMemory}
 use Rattle.fab_base.specs.declared.faults.Busy.TheVariants.{TxFull, LogFull}
 use Rattle.fab_base.specs.declared.faults.NoMemory.{NoMemory}
-use Rattle.fab_base.specs.declared.frames.Frame.{Frame}
-use Rattle.fab_base.specs.declared.peers.LineResult.{LineResult}
-use Rattle.fab_base.specs.declared.peers.LineResult.TheVariants.{Done, Refused}
+use Rattle.fab_base.specs.declared.peers.LineResult.TheVariants.{Refused}
 use Rattle.fab_wire.specs.Joined.{is_last}
-use Rattle.fab_model.specs.State.{State, in_use, lookup}
-use Rattle.fab_model.specs.Sending.{Order, first_fault, transmit_fault, transmit, is_granted, is_too_long, is_well_formed, do_sent}
+use Rattle.fab_model.specs.State.{State, in_use}
+use Rattle.fab_model.specs.Sending.{Order, first_fault, transmit_fault, transmit}
 use Rattle.fab_model.specs.Calls.{Call, Transmit, answer, do_call}
 use Rattle.fab_face.specs.Held.{Held, Seen}
-use Rattle.fab_face.specs.Acts.{Act, Did, Took, Posted, Drew, Had, Departs, Goes, GoesBy, Went, is_post}
-use Rattle.fab_face.specs.Answers.{AllAre, HasPlaces, IsShort, IsFull, Judged, SendsNot, is_final, is_early}
+use Rattle.fab_face.specs.Acts.{Act, Did, Took, Posted, Drew, Had, Departs, GoesBy, Went, is_post}
+use Rattle.fab_face.specs.Answers.{AllAre, HasPlaces, IsShort, Judged, SendsNot, is_final, is_early}
 use Rattle.fab_face.proofs.Joining.{went_none, ported_same}
 use Rattle.fab_ep.specs.Tries.{Pushes, Pushed}
 use Rattle.fab_ep.specs.Sends.{Admits}

@@ -1,21 +1,18 @@
 -- A receive call: while no draw is due, it is the machine's call and nothing else.
-use Rattle.std.proofs.Common.{◌⊎◌, inl, inr, ◌≡◌, ◌≢◌, ◌<◌, ◌≤◌, ◌+◌, ℕ, Bool, true, false, List, [], ◌∷◌, length, Option, Some, None, refl, sym, ap, ◌∙◌, subst, arith}
+use Rattle.std.proofs.Common.{◌⊎◌, inl, inr, ◌≡◌, ◌≢◌, ◌+◌, ℕ, Bool, true, false, [], ◌∷◌, length, Option, Some, None, refl, sym, ap, subst, arith}
 use Rattle.std.specs.Prelude.{◌==◌}
 use Rattle.fab_base.specs.declared.faults.Fault.{Fault}
 use Rattle.fab_base.specs.declared.faults.Fault.TheVariants.{Again, NotSupported, MsgSize, Invalid, NoData, NoKey, Range, NoEntry, Avail, NoMemory as LacksMemory}
-use Rattle.fab_base.specs.declared.faults.Busy.{Busy}
 use Rattle.fab_base.specs.declared.faults.Busy.TheVariants.{TxFull, PostedFull, CqFull, LogFull}
-use Rattle.fab_base.specs.declared.items.Item.{Item}
 use Rattle.fab_base.specs.declared.operations.Receive.{Receive}
-use Rattle.fab_base.specs.declared.peers.LineResult.{LineResult}
-use Rattle.fab_base.specs.declared.peers.LineResult.TheVariants.{Done, Refused}
+use Rattle.fab_base.specs.declared.peers.LineResult.TheVariants.{Refused}
 use Rattle.fab_model.specs.State.{State}
 use Rattle.fab_model.specs.Receiving.{Posting, draw_due, post, post_fault, cancel, cancel_fault}
 use Rattle.fab_model.specs.Sending.{first_fault}
-use Rattle.fab_model.specs.Calls.{Call, Post, Cancel, CancelFirst, answer, do_call}
-use Rattle.fab_face.specs.Held.{Held, Seen, next_item}
-use Rattle.fab_face.specs.Acts.{Act, Did, DoesCall, Went}
-use Rattle.fab_face.specs.Answers.{HasPlaces, IsShort, Judged, Drawn, Receives, ReceivesNot, is_final, is_early}
+use Rattle.fab_model.specs.Calls.{Call, Post, answer, do_call}
+use Rattle.fab_face.specs.Held.{Held, Seen}
+use Rattle.fab_face.specs.Acts.{Did, DoesCall, Went}
+use Rattle.fab_face.specs.Answers.{HasPlaces, IsShort, Judged, Drawn, Receives, ReceivesNot, is_final}
 use Rattle.fab_face.specs.Machine.{StayNext, cancelling}
 use Rattle.std.specs.Prelude.{Result, Err, IfErr}
 use Rattle.fab_face.specs.declared.events.Event.TheVariants.{Call as Called}

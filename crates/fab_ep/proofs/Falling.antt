@@ -1,19 +1,18 @@
 -- With each frame posted to a peer, less waits for it.
-use Rattle.std.proofs.Common.{◌⊎◌, inl, inr, ◌≡◌, ◌≢◌, ◌<◌, ◌≤◌, ◌+◌, ◌-◌, min, ℕ, suc, Bool, true, false, List, [], ◌∷◌, length, drop, get_or-set_same, Option, Some, None, refl, sym, ap, ◌∙◌, subst, arith}
-use Rattle.std.specs.Prelude.{slice_get, slice_index, slice_set}
+use Rattle.std.proofs.Common.{◌≡◌, ◌≢◌, ◌<◌, ◌+◌, ◌-◌, min, ℕ, suc, Bool, true, false, List, [], ◌∷◌, length, drop, get_or-set_same, Option, Some, None, refl, sym, ap, ◌∙◌, subst, arith}
+use Rattle.std.specs.Prelude.{slice_get, slice_index}
 use Rattle.std.specs.List.{sum_by}
 use Rattle.std.proofs.Math.Seq.{drop-cons}
 use Rattle.std.proofs.lemmas.Option.{slice_get_within, get_or_from_slice_get}
 use Rattle.std.proofs.lemmas.List.Sums.{sum_by-cons}
 use Rattle.std.proofs.lemmas.Bool.{eqb-false}
-use Rattle.std.specs.Option.{option_map}
 use Rattle.fab_base.specs.declared.frames.Frame.{Frame}
 use Rattle.fab_base.specs.declared.items.Item.{Item}
 use Rattle.fab_wire.specs.Joined.{is_last}
-use Rattle.fab_model.specs.State.{State, accepted_for}
+use Rattle.fab_model.specs.State.{accepted_for}
 use Rattle.fab_model.specs.Sending.{do_sent}
 use Rattle.fab_face.specs.Held.{Held, IsOut, piece, next_item, next_frame}
-use Rattle.fab_face.specs.Acts.{Departs, Goes, GoesBy, Posted, Went}
+use Rattle.fab_face.specs.Acts.{Departs, Goes, Posted, Went}
 use Rattle.fab_face.specs.Held.{Seen}
 use Rattle.std.proofs.Common.{Ok}
 use Rattle.fab_ep.specs.declared.endpoint.Tried.{Tried}

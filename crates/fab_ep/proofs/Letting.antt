@@ -1,7 +1,7 @@
 -- What goes out at once of an item that was just accepted.
-use Rattle.std.proofs.Common.{◌⊎◌, inl, inr, ◌≡◌, ◌≢◌, ◌<◌, ◌≤◌, ◌+◌, ℕ, Bool, true, false, ◌||◌, List, [], ◌∷◌, ◌++◌, length, length-append, get_or-set_same, append-nil, Option, Some, None, Result, Ok, Err, refl, sym, ap, ◌∙◌, subst, arith}
-use Rattle.std.specs.Prelude.{slice_index, slice_get, OnErr}
-use Rattle.std.specs.List.{list_any, flat_map}
+use Rattle.std.proofs.Common.{inl, inr, ◌≡◌, ◌≢◌, ◌<◌, ◌≤◌, ◌+◌, ℕ, Bool, true, false, ◌||◌, List, [], ◌∷◌, ◌++◌, length, get_or-set_same, append-nil, Option, Some, None, Result, Ok, Err, refl, sym, ap, ◌∙◌, subst, arith}
+use Rattle.std.specs.Prelude.{slice_index, OnErr}
+use Rattle.std.specs.List.{list_any}
 use Rattle.std.proofs.lemmas.Grind.{flat_map-append}
 use Rattle.std.proofs.lemmas.Bool.{and_from}
 use Rattle.std.proofs.lemmas.List.Folds.{list_all-append}
@@ -9,18 +9,17 @@ use Rattle.std.proofs.lemmas.Option.{slice_get_past}
 use Rattle.fab_base.specs.declared.faults.NoMemory.{NoMemory}
 use Rattle.fab_base.specs.declared.frames.Frame.{Frame}
 use Rattle.fab_wire.specs.Joined.{is_last}
-use Rattle.fab_model.specs.State.{State, accepted_for, fits}
+use Rattle.fab_model.specs.State.{accepted_for}
 use Rattle.fab_model.specs.Sending.{do_sent}
-use Rattle.fab_face.specs.declared.events.Event.{Event}
 use Rattle.fab_face.specs.declared.events.Event.TheVariants.{Sent as Transmitted}
 use Rattle.fab_face.specs.Held.{Held, Seen, next_item, next_frame}
 use Rattle.fab_face.specs.Acts.{Act, Posted, Departs, Goes, Went, only, is_post, posted_to, posted_by}
-use Rattle.fab_face.specs.Answers.{AllAre, SawFull, NextLacks}
+use Rattle.fab_face.specs.Answers.{AllAre}
 use Rattle.fab_face.proofs.Joining.{went_none, went_then, ported_same}
 use Rattle.fab_ep.specs.declared.endpoint.Tried.{Tried}
 use Rattle.fab_ep.specs.declared.endpoint.Tried.TheVariants.{Moved, Nothing, Held as HeldBack, Short}
-use Rattle.fab_ep.specs.Tries.{Calm, PostsOut, has_moved, left_for}
-use Rattle.fab_ep.specs.Sends.{IsOnly, IsHeldOut, LetsOutOne, LetsOut}
+use Rattle.fab_ep.specs.Tries.{PostsOut, has_moved, left_for}
+use Rattle.fab_ep.specs.Sends.{IsOnly, LetsOutOne, LetsOut}
 use Rattle.fab_ep.proofs.Posting.{other_peer}
 use Rattle.fab_ep.proofs.Pushing.{or_true, or_false, any_append}
 use Rattle.fab_ep.proofs.Sent.{sent_accepted, sent_sent}

@@ -1,17 +1,15 @@
 -- A frame is posted: the log and the ends of the port's lists.
-use Rattle.std.proofs.Common.{◌⊎◌, inl, inr, ◌≡◌, ◌≢◌, ◌<◌, ◌≤◌, ◌+◌, ◌-◌, min, ℕ, zero, suc, Bool, true, false, List, [], ◌∷◌, ◌++◌, length, length-set, get_or-set_same, get_or-set_other, append-nil, Option, Some, None, refl, sym, ap, ◌∙◌, subst, arith}
+use Rattle.std.proofs.Common.{inl, inr, ◌≡◌, ◌≢◌, ◌<◌, ◌≤◌, ◌+◌, ◌-◌, min, ℕ, true, false, [], ◌∷◌, ◌++◌, length, length-set, get_or-set_same, get_or-set_other, append-nil, Some, None, refl, sym, ap, ◌∙◌, subst, arith}
 use Rattle.std.specs.Prelude.{slice_index, slice_set, ◌==◌}
 use Rattle.std.proofs.lemmas.Bool.{cases_eq, eq-eqb}
 use Rattle.std.proofs.lemmas.Bool.Decides.{nat_tests}
 use Rattle.fab_base.specs.declared.frames.Frame.{Frame}
-use Rattle.fab_base.specs.declared.frames.FrameHead.{FrameHead}
 use Rattle.fab_base.specs.declared.items.Item.{Item}
-use Rattle.fab_wire.specs.Frames.{last_head}
 use Rattle.fab_wire.specs.Joined.{is_last}
 use Rattle.fab_wire.proofs.Lanes.{last_head-push}
 use Rattle.fab_link.specs.Meaning.{Outgoing, Incoming, Noticed, Others, end_of, taken_end}
-use Rattle.fab_face.specs.Held.{IsOut, IsOpen, Held, Lanes, Seen, IsPlaced, IsGathered, piece, next_item, next_frame, begun_of}
-use Rattle.fab_face.specs.Acts.{Act, Posted, Took, Ported, only}
+use Rattle.fab_face.specs.Held.{IsOut, IsOpen, Held, Lanes, Seen, IsPlaced, piece, next_item, next_frame}
+use Rattle.fab_face.specs.Acts.{Posted, Took, Ported, only}
 use Rattle.fab_face.proofs.Joining.{moved_same}
 use Rattle.fab_face.proofs.Tied.{placed_last, placed_more}
 use Rattle.fab_face.specs.Machine.{finished, gone_on, IsSteady}

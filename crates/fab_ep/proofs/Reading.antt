@@ -1,5 +1,5 @@
 -- A read of the completion queue after progress.
-use Rattle.std.proofs.Common.{◌≡◌, ℕ, Bool, true, false, Option, None, Result, Ok, Err, refl, sym, ap, ◌∙◌, subst}
+use Rattle.std.proofs.Common.{◌≡◌, ℕ, Bool, Result, Ok, Err, ap}
 use Rattle.std.specs.Prelude.{Some, IfOk, IfErr, OnErr, is_err}
 use Rattle.fab_base.specs.declared.entries.Entry.{Entry}
 use Rattle.fab_base.specs.declared.entries.Taken.TheVariants.{Success}
@@ -11,7 +11,7 @@ use Rattle.fab_model.specs.Peers.{unread}
 use Rattle.fab_face.specs.declared.events.Moved.{Moved}
 use Rattle.fab_face.specs.Held.{Held, Seen}
 use Rattle.fab_face.specs.Acts.{has_read}
-use Rattle.fab_face.specs.Answers.{Progressed, Pops, PopsNot, ReadsAs, ReadsOn}
+use Rattle.fab_face.specs.Answers.{Progressed, PopsNot, ReadsAs, ReadsOn}
 use Rattle.fab_ep.specs.Reads.{read_as, fault_as}
 
 module _ {Home : Type 0} where

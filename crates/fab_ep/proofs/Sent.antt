@@ -1,19 +1,12 @@
 -- What the transmission of an item makes of what is held.
-use Rattle.std.proofs.Common.{◌⊎◌, inl, inr, ◌≡◌, ◌≢◌, ◌<◌, ◌≤◌, ◌+◌, ◌-◌, ℕ, Bool, true, false, List, [], ◌∷◌, ◌++◌, length, length-set, length-append, get_or-set_same, get_or-set_other, Option, Some, None, refl, sym, ap, ◌∙◌, subst, arith}
-use Rattle.std.specs.Prelude.{slice_index, slice_set, slice_get, IsTrue, nat_lt, nat_le}
-use Rattle.std.proofs.lemmas.Bool.{cases_eq}
-use Rattle.std.proofs.lemmas.Bool.Decides.{nat_tests}
-use Rattle.fab_base.specs.declared.entries.Class.TheVariants.{Send}
+use Rattle.std.proofs.Common.{◌≡◌, ◌≢◌, ◌≤◌, ◌+◌, ℕ, Bool, true, false, [], ◌∷◌, length, length-append, get_or-set_other, Option, Some, None, refl, ap, ◌∙◌, arith}
+use Rattle.std.specs.Prelude.{slice_index}
 use Rattle.fab_base.specs.declared.entries.Taken.{Taken}
-use Rattle.fab_base.specs.declared.entries.Taken.TheVariants.{Success}
-use Rattle.fab_base.specs.declared.items.Item.{Item}
 use Rattle.fab_base.specs.declared.items.Outcome.TheVariants.{Done}
 use Rattle.fab_base.specs.declared.operations.Operation.{Operation}
-use Rattle.fab_base.specs.declared.operations.Tally.{Tally}
-use Rattle.fab_model.specs.Matching.{is_message}
-use Rattle.fab_model.specs.State.{State, Completions, Transmitting, accepted_for, fits, writing, write, count, counting, with_tx, raise}
-use Rattle.fab_model.specs.Sending.{ending, transmitting, end_with, do_sent, class_of, success_of}
-use Rattle.fab_face.specs.Held.{Held, next_item, begun_of, AreItems, IsOut}
+use Rattle.fab_model.specs.State.{State, Transmitting, write, count, with_tx, raise}
+use Rattle.fab_model.specs.Sending.{ending, transmitting, end_with, do_sent, class_of}
+use Rattle.fab_face.specs.Held.{next_item}
 
 -- the parts that an end keeps, and the entries only become more
 pub record Keeps (s u : State) : Type 0 where

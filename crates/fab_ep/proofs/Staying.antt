@@ -1,31 +1,25 @@
 -- What waits for other peers while one is pushed to.
-use Rattle.std.proofs.Common.{◌⊎◌, inl, inr, ◌≡◌, ◌≢◌, ◌<◌, ◌≤◌, ◌+◌, ◌-◌, ℕ, Bool, true, false, ◌||◌, List, [], ◌∷◌, ◌++◌, length, length-append, append-nil, get_or-set_other, cond, Option, Some, None, Result, Ok, Err, refl, sym, ap, ◌∙◌, subst, arith, rules}
-use Rattle.std.specs.Prelude.{find, slice_index, slice_set, ◌==◌, ◌&&◌, nat_le}
-use Rattle.std.specs.Option.{option_map}
+use Rattle.std.proofs.Common.{inl, inr, ◌≡◌, ◌≢◌, ◌<◌, ◌+◌, ◌-◌, ℕ, Bool, true, false, ◌||◌, List, [], ◌∷◌, ◌++◌, length, length-append, get_or-set_other, cond, Option, Some, None, Result, Ok, Err, refl, sym, ap, ◌∙◌, subst, arith, rules}
+use Rattle.std.specs.Prelude.{find, slice_index}
 use Rattle.std.specs.List.{list_any}
-use Rattle.std.proofs.lemmas.Bool.{eqb-true}
 use Rattle.std.proofs.lemmas.List.Folds.{list_all-append}
-use Rattle.std.proofs.lemmas.Bool.{and_from, and_parts, cases_eq}
+use Rattle.std.proofs.lemmas.Bool.{and_from, cases_eq}
 use Rattle.std.proofs.lemmas.Bool.Decides.{nat_tests}
-use Rattle.fab_base.specs.Counts.{Rose}
 use Rattle.fab_base.specs.declared.faults.NoMemory.{NoMemory}
-use Rattle.fab_base.specs.declared.frames.Frame.{Frame}
-use Rattle.fab_base.specs.declared.items.Item.{Item}
 use Rattle.fab_base.specs.declared.items.Outcome.TheVariants.{Done}
 use Rattle.fab_base.specs.declared.operations.Operation.{Operation}
-use Rattle.fab_link.specs.Meaning.{Outgoing}
 use Rattle.fab_model.specs.Matching.{remove_first}
 use Rattle.fab_model.specs.State.{State, Completions, Transmitting, fits, with_tx}
 use Rattle.fab_model.specs.Sending.{ending, is_of_item, transmitting, end_with, do_sent}
 use Rattle.fab_wire.specs.Joined.{is_last}
-use Rattle.fab_face.specs.Held.{Held, Seen, piece, next_item, next_frame}
-use Rattle.fab_face.specs.Acts.{Act, Posted, Went, Departs, is_post}
-use Rattle.fab_face.specs.Answers.{AllAre, HasPlaces, IsHeld, SawFull}
+use Rattle.fab_face.specs.Held.{Held, Seen, next_frame}
+use Rattle.fab_face.specs.Acts.{Act, Went, Departs, is_post}
+use Rattle.fab_face.specs.Answers.{AllAre, HasPlaces}
 use Rattle.fab_face.proofs.Joining.{went_none, went_then}
 use Rattle.fab_face.proofs.Joining.{ported_same}
 use Rattle.fab_ep.specs.declared.endpoint.Tried.{Tried}
 use Rattle.fab_ep.specs.declared.endpoint.Tried.TheVariants.{Moved, Nothing, Held as HeldBack, Short}
-use Rattle.fab_ep.specs.Tries.{Calm, CalmOut, TriesOut, PushesOut, PushesTo, PushedTo, Pushed, Pushes, HeldStays, IsTried}
+use Rattle.fab_ep.specs.Tries.{Calm, TriesOut, PushedTo, Pushed, Pushes, HeldStays, IsTried}
 use Rattle.fab_ep.proofs.Sent.{sent_is_none, sent_is_some, sent_next, keeps_sent}
 use Rattle.fab_ep.proofs.Turning.{full_on}
 use Rattle.fab_ep.proofs.Pushing.{or_false, or_assoc, any_append}

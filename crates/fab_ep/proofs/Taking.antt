@@ -1,19 +1,19 @@
 -- A frame is looked at, and taken.
-use Rattle.std.proofs.Common.{◌⊎◌, inl, inr, ◌≡◌, ◌≢◌, ◌<◌, ◌≤◌, ◌+◌, ◌-◌, ◌^◌, min, ℕ, zero, suc, Bool, true, false, List, [], ◌∷◌, ◌++◌, length, length-set, length-append, get_or-set_same, get_or-set_other, append-nil, append_assoc, Option, Some, None, Result, Err, refl, sym, ap, ◌∙◌, subst, arith}
-use Rattle.std.specs.Prelude.{slice_index, slice_set, ◌==◌, IfSome}
-use Rattle.std.proofs.lemmas.Bool.{cases_eq, eq-eqb, eqb-true}
+use Rattle.std.proofs.Common.{inl, inr, ◌≡◌, ◌<◌, ◌≤◌, ◌+◌, ℕ, zero, suc, Bool, true, false, List, [], ◌∷◌, ◌++◌, length, length-append, get_or-set_same, get_or-set_other, append-nil, append_assoc, Option, Some, None, Result, Err, refl, sym, ap, ◌∙◌, subst, arith}
+use Rattle.std.specs.Prelude.{slice_index, slice_set, IfSome}
+use Rattle.std.proofs.lemmas.Bool.{cases_eq, eqb-true}
 use Rattle.fab_base.specs.Counts.{Rose}
 use Rattle.fab_base.specs.declared.frames.Frame.{Frame}
 use Rattle.fab_base.specs.declared.frames.FrameRef.{FrameRef}
 use Rattle.fab_base.specs.declared.frames.FrameHead.{FrameHead}
 use Rattle.fab_base.specs.declared.items.Item.{Item}
 use Rattle.fab_base.specs.declared.items.ItemHead.{ItemHead}
-use Rattle.fab_wire.specs.Frames.{last_head, lent_frame, MayCome}
-use Rattle.fab_wire.specs.Joined.{is_last, grown, bytes_of}
+use Rattle.fab_wire.specs.Frames.{lent_frame, MayCome}
+use Rattle.fab_wire.specs.Joined.{is_last, grown}
 use Rattle.fab_link.specs.Meaning.{Outgoing, Incoming, Others, Fronted, advanced, end_of, taken_end}
 use Rattle.fab_model.specs.State.{State}
-use Rattle.fab_face.specs.Held.{Held, Lanes, Seen, IsPlaced, IsGathered, IsWithin, next_item, begun_of}
-use Rattle.fab_face.specs.Acts.{Act, Took, Posted, Ported, MovedBy, Went, Goes, Ends, only, events, is_first, taken_of, headed, ways_of}
+use Rattle.fab_face.specs.Held.{Held, Lanes, Seen, IsPlaced, IsGathered, next_item, begun_of}
+use Rattle.fab_face.specs.Acts.{Took, Ported, MovedBy, Went, Goes, Ends, only, is_first, ways_of}
 use Rattle.fab_face.specs.Answers.{SawEmpty, LentLacks, FrameLacks}
 use Rattle.fab_face.specs.declared.events.Event.{Event}
 use Rattle.fab_face.specs.declared.events.Event.TheVariants.{Head as Headed, Tail as Tailed}
@@ -21,7 +21,7 @@ use Rattle.fab_face.proofs.Tied.{gathered_first, gathered_next, gathered_last, g
 use Rattle.fab_face.specs.Machine.{IsNext, StayNext}
 use Rattle.fab_base.specs.declared.faults.NoMemory.{NoMemory}
 use Rattle.fab_ep.specs.declared.endpoint.Tried.{Tried}
-use Rattle.fab_ep.specs.Tries.{IsTied, Calm, CalmIn, TriesIn}
+use Rattle.fab_ep.specs.Tries.{IsTied, CalmIn, TriesIn}
 use Rattle.fab_ep.proofs.Posting.{same_peer, other_peer, still_out, still_in, in_here, in_other, out_still}
 
 -- ---- looking

@@ -1,5 +1,5 @@
 -- Steps of progress, one after another.
-use Rattle.std.proofs.Common.{◌≡◌, ◌≢◌, ◌<◌, ◌≤◌, ◌+◌, ◌-◌, ◌⊎◌, ◌^◌, inl, inr, ℕ, Bool, true, false, ◌||◌, ◌&&◌, List, [], ◌∷◌, ◌++◌, length, append-nil, Option, Some, None, Result, Ok, Err, refl, sym, ap, ◌∙◌, subst, arith, cond}
+use Rattle.std.proofs.Common.{◌≡◌, ◌<◌, ◌≤◌, ◌+◌, ◌⊎◌, inl, inr, ℕ, Bool, true, false, ◌||◌, List, [], ◌∷◌, ◌++◌, append-nil, Some, None, Result, Ok, Err, refl, sym, ap, ◌∙◌, subst, arith, cond}
 use Rattle.std.specs.Prelude.{count_by, ◌↔◌}
 use Rattle.std.proofs.lemmas.Bool.{cases_eq, and_from}
 use Rattle.std.proofs.lemmas.List.Sums.{sum_by-append, sum_by_push}
@@ -11,10 +11,10 @@ use Rattle.fab_link.specs.Meaning.{Outgoing, Incoming}
 use Rattle.fab_model.specs.Receiving.{draw_due}
 use Rattle.fab_face.specs.declared.events.Moved.{Moved as Answer}
 use Rattle.fab_face.specs.declared.events.Stop.{Stop}
-use Rattle.fab_face.specs.declared.events.Stop.TheVariants.{Idle, Budget, CqFull as StoppedCqFull, LogFull as StoppedLogFull}
-use Rattle.fab_face.specs.Held.{Held, Lanes, Seen, next_frame}
-use Rattle.fab_face.specs.Acts.{Act, Took, Posted, Went, Ported, is_move, is_take, is_post}
-use Rattle.fab_face.specs.Answers.{AllAre, IsShort, SawEmpty, SawFull, LentLacks, NextLacks, FrameLacks, SentLacks, IsIdle, IsHeldBack, StopsAs, Progressed}
+use Rattle.fab_face.specs.declared.events.Stop.TheVariants.{Idle, Budget, CqFull as StoppedCqFull}
+use Rattle.fab_face.specs.Held.{Held, Seen, next_frame}
+use Rattle.fab_face.specs.Acts.{Act, Took, Posted, Went, is_move, is_take, is_post}
+use Rattle.fab_face.specs.Answers.{AllAre, IsShort, SawEmpty, SawFull, LentLacks, NextLacks, FrameLacks, SentLacks, StopsAs, Progressed}
 use Rattle.fab_face.proofs.Joining.{went_none, went_then}
 use Rattle.fab_face.proofs.Joining.{ported_same}
 use Rattle.fab_ep.specs.declared.endpoint.Tried.{Tried}

@@ -1,5 +1,5 @@
 -- What a read of the completion queue answers after progress.
-use Rattle.std.specs.Prelude.{Bool, true, false, Result, Ok, Err}
+use Rattle.std.specs.Prelude.{Bool, true, Result, Ok, Err}
 use Rattle.fab_base.specs.declared.entries.Entry.{Entry}
 use Rattle.fab_base.specs.declared.faults.Fault.{Fault}
 use Rattle.fab_base.specs.declared.faults.Fault.TheVariants.{NoEntry, NoMemory}

@@ -1,10 +1,10 @@
 -- What a transmit call does before and after its message is accepted.
 --     Admits call old new      the message may be accepted in `new`: what waited was posted, where all entries were in use
-use Rattle.std.specs.Prelude.{◌≡◌, ◌≢◌, ℕ, ◌+◌, ◌≤◌, ◌<◌, ◌⊎◌, Bool, true, false, ◌||◌, List, [], ◌∷◌, ◌++◌, nat_le, length, Option, Some, None, slice_index}
+use Rattle.std.specs.Prelude.{◌≡◌, ◌≢◌, ℕ, ◌+◌, ◌≤◌, ◌<◌, ◌⊎◌, Bool, true, false, ◌||◌, List, [], ◌∷◌, ◌++◌, nat_le, length, Some, None, slice_index}
 use Rattle.std.specs.List.{list_any}
 use Rattle.fab_base.specs.declared.frames.Frame.{Frame}
 use Rattle.fab_wire.specs.Joined.{is_last}
-use Rattle.fab_model.specs.State.{State, accepted_for, fits, in_use, lookup}
+use Rattle.fab_model.specs.State.{accepted_for, fits, in_use, lookup}
 use Rattle.fab_model.specs.Sending.{do_sent}
 use Rattle.fab_model.specs.Calls.{Call, do_call}
 use Rattle.fab_face.specs.Held.{Held, Seen, next_item, next_frame}

@@ -1,5 +1,5 @@
 -- What a step of progress does: one frame posted or taken, or none, and why.
-use Rattle.std.specs.Prelude.{◌≡◌, ◌≢◌, ℕ, ◌+◌, ◌<◌, ◌≤◌, ◌⊎◌, Bool, true, false, ◌||◌, List, [], ◌∷◌, length, Option, Some, None, Result, Ok, Err, count_by, slice_index, drop, ◌-◌}
+use Rattle.std.specs.Prelude.{◌≡◌, ◌≢◌, ℕ, ◌+◌, ◌<◌, ◌≤◌, ◌⊎◌, Bool, true, false, ◌||◌, List, [], ◌∷◌, length, Some, None, Result, Ok, Err, count_by, slice_index, drop, ◌-◌}
 use Rattle.std.specs.List.{list_any, sum_by}
 use Rattle.fab_model.specs.State.{accepted_for}
 use Rattle.fab_base.specs.declared.faults.NoMemory.{NoMemory}
@@ -8,7 +8,7 @@ use Rattle.fab_base.specs.declared.items.Item.{Item}
 use Rattle.fab_face.specs.declared.machine.Next.{Next}
 use Rattle.fab_link.specs.Meaning.{end_of, taken_end}
 use Rattle.fab_model.specs.Receiving.{draw_due}
-use Rattle.fab_face.specs.Held.{Held, Lanes, Seen, IsPlaced, IsGathered, next_frame, next_item, begun_of}
+use Rattle.fab_face.specs.Held.{Held, Seen, IsPlaced, IsGathered, next_frame, next_item, begun_of}
 use Rattle.fab_face.specs.Acts.{Act, Posted, Took, Ported, Went, is_move, is_take, is_post}
 use Rattle.fab_face.specs.Answers.{AllAre, IsShort, SawEmpty, SawFull, LentLacks, NextLacks, IsHeld}
 use Rattle.fab_ep.specs.declared.endpoint.Tried.{Tried}

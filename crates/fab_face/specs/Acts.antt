@@ -4,8 +4,8 @@
 --     GoesBy call h acts t  the acts, one after another, lead from h to t
 --     steps_of acts         the steps of a schedule that they are
 --     Went call old new acts      the acts lead from the endpoint old to new, and they are all that its log and its port grew by
-use Rattle.std.specs.Prelude.{◌≡◌, ℕ, ◌+◌, ◌-◌, ◌≤◌, Bool, true, false, not, ◌&&◌, ◌==◌, List, [], ◌∷◌, ◌++◌, length, map, Option, Some, None, slice_get, slice_index, slice_set, ◌<◌, fold}
-use Rattle.std.specs.List.{flat_map, list_any, list_all}
+use Rattle.std.specs.Prelude.{◌≡◌, ℕ, ◌+◌, ◌≤◌, Bool, true, false, ◌&&◌, ◌==◌, List, [], ◌∷◌, ◌++◌, length, map, Option, Some, None, slice_index, slice_set, ◌<◌}
+use Rattle.std.specs.List.{flat_map}
 use Rattle.fab_base.specs.declared.items.Item.{Item}
 use Rattle.fab_base.specs.declared.items.ItemHead.{ItemHead}
 use Rattle.fab_base.specs.declared.frames.Frame.{Frame}
@@ -15,7 +15,7 @@ use Rattle.fab_base.specs.declared.peers.Step.{Step}
 use Rattle.fab_base.specs.declared.peers.Step.TheVariants.{Do, Head, Tail, Draw, Read as ReadStep, Sent as SentStep}
 use Rattle.fab_wire.specs.declared.moves.Move.{Move}
 use Rattle.fab_wire.specs.declared.moves.Move.TheVariants.{Post as Out, Take as In}
-use Rattle.fab_wire.specs.Joined.{is_last, grown, with_frame, Gathered, AreFirst}
+use Rattle.fab_wire.specs.Joined.{is_last, grown}
 use Rattle.fab_model.specs.State.{State, fits}
 use Rattle.fab_model.specs.Receiving.{draw_due}
 use Rattle.fab_model.specs.Sending.{do_sent}
@@ -26,7 +26,6 @@ use Rattle.fab_base.specs.declared.entries.ErrKind.TheVariants.{Canceled}
 use Rattle.fab_model.specs.Matching.{remove_first}
 use Rattle.fab_model.specs.Calls.{Call, Post as CallPost, do_call}
 use Rattle.fab_model.specs.Peers.{unread, reading, same_ctx}
-use Rattle.fab_model.specs.Views.{View, IsPrefixOf}
 use Rattle.fab_face.specs.declared.events.Event.{Event}
 use Rattle.fab_face.specs.declared.events.Event.TheVariants.{Call as Called, Head as Headed, Tail as Tailed, Sent as Transmitted, Draw as Drawn}
 use Rattle.fab_face.specs.Held.{Held, Lanes, Seen, with_machine, begun_of, next_frame}

@@ -19,12 +19,11 @@ use Rattle.fab_base.specs.declared.faults.Busy.TheVariants.{TxFull, LogFull}
 use Rattle.fab_base.specs.declared.frames.Frame.{Frame}
 use Rattle.fab_base.specs.declared.operations.Written.{Written}
 use Rattle.fab_base.specs.declared.peers.LineResult.{LineResult}
-use Rattle.fab_base.specs.declared.peers.LineResult.TheVariants.{Done, Refused, Index}
+use Rattle.fab_base.specs.declared.peers.LineResult.TheVariants.{Refused, Index}
 use Rattle.fab_wire.specs.Joined.{is_last, grown}
-use Rattle.fab_link.specs.Meaning.{Outgoing, Incoming}
-use Rattle.fab_model.specs.State.{State, Completions, accepted_for, fits, in_use, lookup, class_place, tally_of, add_capped}
+use Rattle.fab_model.specs.State.{State, Completions, fits, in_use, lookup, class_place, tally_of, add_capped}
 use Rattle.fab_model.specs.Receiving.{draw_due}
-use Rattle.fab_model.specs.Sending.{Order, do_sent}
+use Rattle.fab_model.specs.Sending.{do_sent}
 use Rattle.fab_model.specs.Arrivals.{do_draw, do_tail}
 use Rattle.fab_model.specs.Calls.{Call, Post, do_call}
 use Rattle.fab_base.specs.declared.items.Atom.{Atom}
@@ -39,7 +38,7 @@ use Rattle.fab_base.specs.declared.operations.Coming.{Coming}
 use Rattle.fab_base.specs.declared.operations.Coming.TheVariants.{Into}
 use Rattle.fab_av.specs.Addresses.{inserting}
 use Rattle.fab_av.specs.declared.addresses.InsertReport.{InsertReport}
-use Rattle.fab_model.specs.Peers.{is_again, unread, reading, multi_buf}
+use Rattle.fab_model.specs.Peers.{unread, multi_buf}
 use Rattle.fab_face.specs.declared.events.Moved.{Moved}
 use Rattle.fab_face.specs.declared.events.Stop.{Stop}
 use Rattle.fab_face.specs.declared.events.Stop.TheVariants.{Idle, Budget, CqFull as StoppedCqFull, LogFull as StoppedLogFull}

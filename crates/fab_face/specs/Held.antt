@@ -4,7 +4,7 @@
 --     Seen      an endpoint: what is held, the log, and the port
 --     next_frame h d      the frame that goes to peer d next
 --     IsOpen e  what holds of an endpoint between its calls
-use Rattle.std.specs.Prelude.{◌≡◌, ◌≢◌, ℕ, ◌+◌, ◌-◌, ◌<◌, ◌≤◌, ◌⊎◌, min, Bool, true, false, List, [], ◌∷◌, length, zero, suc, Option, Some, None, slice_get, slice_index, slice_index_or, IfSome}
+use Rattle.std.specs.Prelude.{◌≡◌, ℕ, ◌+◌, ◌-◌, ◌<◌, ◌≤◌, ◌⊎◌, min, Bool, List, length, zero, suc, Option, Some, None, slice_get, slice_index, slice_index_or}
 use Rattle.std.specs.Option.{option_map}
 use Rattle.fab_base.specs.declared.items.Item.{Item}
 use Rattle.fab_base.specs.declared.frames.FrameHead.{FrameHead}
@@ -13,7 +13,7 @@ use Rattle.fab_wire.specs.declared.moves.Move.{Move}
 use Rattle.fab_wire.specs.Cut.{frame_of, IsBetweenItems, IsItem}
 use Rattle.fab_wire.specs.Frames.{IsSound}
 use Rattle.fab_link.specs.Meaning.{Outgoing, Incoming, end_of, taken_end}
-use Rattle.fab_model.specs.State.{State, accepted_for, lookup}
+use Rattle.fab_model.specs.State.{State, accepted_for}
 use Rattle.fab_face.specs.declared.events.Event.{Event}
 
 -- ---- what is held

@@ -4,7 +4,7 @@
 --     StayNext s t      what is next for a peer in s is so in t
 --     gone_on, finished a piece of the next item is posted: another one, the last one
 --     sending, asking, cancelling      the machine's call of a message, of a receive, of a cancel
-use Rattle.std.specs.Prelude.{◌≡◌, ℕ, ◌+◌, ◌-◌, ◌<◌, ◌≤◌, Bool, true, false, List, [], length, Option, Some, None, slice_index, slice_set, cond}
+use Rattle.std.specs.Prelude.{◌≡◌, ℕ, ◌+◌, ◌-◌, ◌<◌, ◌≤◌, Bool, true, false, List, length, Option, Some, None, slice_index, slice_set, cond}
 use Rattle.fab_base.specs.declared.items.Kind.{Kind}
 use Rattle.fab_base.specs.declared.items.Kind.TheVariants.{Msg, TagMsg}
 use Rattle.fab_base.specs.declared.items.Item.{Item}

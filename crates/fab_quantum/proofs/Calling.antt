@@ -5,12 +5,10 @@ use Rattle.std.proofs.lemmas.Option.{slice_get_within}
 use Rattle.fab_base.specs.declared.entries.Taken.{Taken}
 use Rattle.fab_model.specs.Matching.{remove_first}
 use Rattle.std.specs.Option.{option_map}
-use Rattle.std.specs.List.{list_any}
 use Rattle.std.proofs.lemmas.Grind.{flat_map-append}
 use Rattle.fab_base.specs.declared.entries.Kept.{Kept}
 use Rattle.fab_base.specs.declared.faults.Fault.{Fault}
 use Rattle.fab_base.specs.declared.faults.Fault.TheVariants.{Again, NoMemory as LacksMemory, NoData, Invalid, NoKey, Range, MsgSize, NotSupported, NoEntry, Avail}
-use Rattle.fab_base.specs.declared.faults.Busy.{Busy}
 use Rattle.fab_base.specs.declared.faults.Busy.TheVariants.{TxFull, PostedFull, CqFull, LogFull}
 use Rattle.fab_base.specs.declared.faults.Refused.{Refused as RefusedWith}
 use Rattle.fab_base.specs.declared.items.Kind.TheVariants.{Msg, TagMsg}
@@ -28,9 +26,9 @@ use Rattle.fab_model.specs.State.{State}
 use Rattle.fab_model.specs.Calls.{Call, Cancel, do_call, call_of, message, word_bytes}
 use Rattle.fab_model.specs.Peers.{Actor, do_next, do_line, call_line, after_call, is_again, is_of_ctx, next_line, with_result, with_state, wait_line, read_next, bytes_kept, part_of, unread}
 use Rattle.fab_face.specs.Held.{Held, Lanes, Seen, IsOpen}
-use Rattle.fab_face.specs.Acts.{Act, Did, Had, GoesBy, Went, Ported, steps_of, steps_by, taken_of, events, is_post, is_draw, is_move}
-use Rattle.fab_face.specs.Answers.{AllAre, Judged, IsShort, HasPlaces, Sends, SendsNot, Receives, ReceivesNot, Pops, receive_call}
-use Rattle.fab_quantum.specs.Turns.{Told, Living, living_of, actor_in, actor_of, SameParts, Lives, LivesBy, Lived, WentOn, Answered, why_of, drained, with_seen, is_some_act, is_some_event, next_op, step_of, ReadOn, IsRead}
+use Rattle.fab_face.specs.Acts.{Act, Did, Had, Went, Ported, steps_of, steps_by, events, is_move}
+use Rattle.fab_face.specs.Answers.{AllAre, Judged, IsShort, Sends, SendsNot, Receives, ReceivesNot, Pops, receive_call}
+use Rattle.fab_quantum.specs.Turns.{Told, living_of, actor_in, actor_of, SameParts, Lives, Lived, WentOn, Answered, why_of, drained, with_seen, is_some_act, is_some_event, next_op, step_of, ReadOn, IsRead}
 use Rattle.fab_face.proofs.Joining.{posts_move, draws_move, ported_same, ported_then}
 use Rattle.fab_quantum.proofs.Paths.{living, lives_append, goes_split, moves_live, posts_some, draws_some, some_did, none_acts, steps_told, steps_called, some_append, lived_then}
 

@@ -1,7 +1,7 @@
 -- When nothing moved, nothing can.
-use Rattle.std.proofs.Common.{◌≡◌, ◌≢◌, ◌<◌, ◌≤◌, ◌+◌, ◌-◌, ◌⊎◌, inl, inr, ◌^◌, ℕ, Bool, true, false, ◌||◌, List, [], ◌∷◌, ◌++◌, length, length-append, append-nil, map, Option, Some, None, Result, Ok, Err, refl, sym, ap, ◌∙◌, subst, arith, rules}
+use Rattle.std.proofs.Common.{◌≡◌, ◌≤◌, ◌+◌, ◌-◌, inl, inr, ◌^◌, ℕ, Bool, true, false, ◌||◌, List, [], ◌∷◌, ◌++◌, length, length-append, append-nil, map, Option, Some, None, Ok, refl, sym, ap, ◌∙◌, subst, arith, rules}
 use Rattle.std.proofs.lemmas.List.Sums.{sum_by-cons}
-use Rattle.std.specs.Prelude.{cond, find, count_by, nat_lt, nat_le}
+use Rattle.std.specs.Prelude.{cond, find, count_by, nat_lt}
 use Rattle.std.proofs.lemmas.Bool.{le-leb, lt-ltb, cases_eq}
 use Rattle.fab_face.proofs.Joining.{ported_same}
 use Rattle.fab_quantum.proofs.Paths.{moves_live, steps_told, none_acts}
@@ -12,7 +12,6 @@ use Rattle.fab_base.specs.declared.entries.Entry.TheVariants.{RemoteData}
 use Rattle.fab_base.specs.declared.items.Kind.{Kind}
 use Rattle.fab_base.specs.declared.items.Kind.TheVariants.{WriteReq}
 use Rattle.fab_wire.specs.Joined.{grown}
-use Rattle.fab_base.specs.declared.faults.NoMemory.{NoMemory}
 use Rattle.fab_base.specs.declared.items.ItemHead.{ItemHead}
 use Rattle.fab_base.specs.declared.items.Outcome.{Outcome}
 use Rattle.fab_base.specs.declared.items.Outcome.TheVariants.{Done as Good}
@@ -21,20 +20,19 @@ use Rattle.fab_base.specs.declared.operations.Arrival.{Arrival}
 use Rattle.fab_base.specs.declared.operations.Operation.{Operation}
 use Rattle.fab_base.specs.declared.operations.Coming.{Coming}
 use Rattle.fab_base.specs.declared.operations.Coming.TheVariants.{Into, Keep, Throw, Request, Answer}
-use Rattle.fab_base.specs.declared.peers.LineResult.{LineResult}
 use Rattle.fab_model.specs.State.{State, Completions, coming_from, fits, with_rx, with_tx, write, count, under_way}
 use Rattle.fab_model.specs.Complete.{fill, release, release_multi, let_go, is_made_by, reply, book, at_delivery, at_either, at_match}
 use Rattle.fab_model.specs.Sending.{do_sent, do_answer, end_with, ending, transmitting, answering, is_answered_by, refusal_of, class_of}
 use Rattle.fab_model.specs.Receiving.{draw_due, draws, give, without_first}
 use Rattle.fab_model.specs.Matching.{takes}
 use Rattle.fab_model.specs.Target.{perform}
-use Rattle.fab_model.specs.Arrivals.{do_head, heading_message, heading_other, do_draw, seating, keeping, remote_data, with_regions, do_request, tail_to, made_whole, do_tail}
+use Rattle.fab_model.specs.Arrivals.{do_head, do_draw, seating, keeping, remote_data, with_regions, do_request, tail_to, made_whole, do_tail}
 use Rattle.fab_face.specs.declared.events.Moved.{Moved}
 use Rattle.fab_face.specs.declared.events.Stop.{Stop}
 use Rattle.fab_face.specs.declared.events.Stop.TheVariants.{Idle, Budget, CqFull as StoppedCqFull, LogFull as StoppedLogFull}
-use Rattle.fab_face.specs.Held.{Held, Lanes, Seen, IsOpen, begun_of}
-use Rattle.fab_face.specs.Acts.{Act, Did, Took, Posted, Drew, Had, GoesBy, Went, Ported, events, headed, is_first, is_move, is_take, is_post}
-use Rattle.fab_face.specs.Answers.{AllAre, Progressed, StopsAs, Counted, IsIdle, IsHeldBack, IsShort, SawEmpty, SawFull, DrawLacks, FrameLacks, SentLacks, LentLacks, NextLacks}
+use Rattle.fab_face.specs.Held.{Held, Seen, IsOpen, begun_of}
+use Rattle.fab_face.specs.Acts.{Act, Did, Took, Posted, Drew, Had, GoesBy, Ported, events, headed, is_first, is_move, is_take, is_post}
+use Rattle.fab_face.specs.Answers.{AllAre, Progressed, StopsAs, IsIdle, IsHeldBack}
 use Rattle.fab_quantum.specs.Turns.{Told, MovedOn, IsRead, drained, with_seen, step_of, is_some_act, is_some_event}
 
 -- ---- at most n entries are written, and none is read

@@ -1,21 +1,19 @@
 -- How the acts of a peer join, and what they tell.
-use Rattle.std.proofs.Common.{inl, inr, ◌≡◌, ℕ, Bool, true, false, ◌||◌, List, [], ◌∷◌, ◌++◌, map, Option, Some, None, refl, sym, ap, ◌∙◌, subst, append_assoc, append-nil, arith}
+use Rattle.std.proofs.Common.{◌≡◌, Bool, true, false, ◌||◌, List, [], ◌∷◌, ◌++◌, map, Option, refl, sym, ap, ◌∙◌, subst, append_assoc}
 use Rattle.std.proofs.lemmas.List.{map-append}
 use Rattle.std.proofs.lemmas.Grind.{flat_map-append}
-use Rattle.std.specs.List.{list_all, list_any, flat_map}
+use Rattle.std.specs.List.{list_any}
 use Rattle.fab_base.specs.declared.entries.Kept.{Kept}
-use Rattle.fab_base.specs.declared.frames.Frame.{Frame}
 use Rattle.fab_base.specs.declared.peers.LineResult.{LineResult}
 use Rattle.fab_base.specs.declared.script.Line.{Line}
 use Rattle.fab_model.specs.Calls.{Call}
-use Rattle.fab_wire.specs.declared.moves.Move.{Move}
 use Rattle.fab_face.specs.declared.events.Event.{Event}
-use Rattle.fab_face.specs.Held.{Held, Lanes, Seen}
+use Rattle.fab_face.specs.Held.{Held}
 use Rattle.fab_face.proofs.Joining.{ported_then}
-use Rattle.fab_face.specs.Acts.{Act, Did, Took, Posted, Drew, Had, Goes, GoesBy, Ported, MovedBy, Way, way, events, logged, steps_by, steps_of, taken_of, taken_by, posted_to, posted_by, ways_by, ways_of, only, is_first, is_move, is_post, is_draw}
+use Rattle.fab_face.specs.Acts.{Act, Did, Took, Posted, Drew, Had, GoesBy, events, logged, steps_by, steps_of, only, is_first, is_move, is_post, is_draw}
 use Rattle.fab_wire.specs.Joined.{is_last}
 use Rattle.fab_face.specs.Answers.{AllAre}
-use Rattle.fab_quantum.specs.Turns.{Told, Living, living_of, Lives, LivesBy, Lived, step_of, is_some_act, is_some_event}
+use Rattle.fab_quantum.specs.Turns.{Told, Living, living_of, LivesBy, Lived, step_of, is_some_act, is_some_event}
 
 abbrev pub living : Held → List Line → List LineResult → List Kept → Living
 living held lines results kept = record { held = held; lines = lines; results = results; kept = kept }

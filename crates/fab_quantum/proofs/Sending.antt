@@ -1,28 +1,27 @@
 -- What the frames posted join to: the items that were accepted, in order.
-use Rattle.std.proofs.Common.{◌≡◌, ◌≢◌, ◌<◌, ◌≤◌, ◌+◌, ◌-◌, ◌⊎◌, inl, inr, min, ℕ, zero, suc, Bool, true, false, ◌==◌, List, [], ◌∷◌, ◌++◌, length, length-append, length-drop, take, drop, get_or, Option, Some, None, refl, sym, ap, ◌∙◌, subst, arith, append-nil, get_or-set_same, get_or-set_other}
-use Rattle.std.specs.Prelude.{slice_get, slice_index, slice_set, fold}
+use Rattle.std.proofs.Common.{◌≡◌, ◌≢◌, ◌<◌, ◌≤◌, ◌+◌, ◌-◌, ◌⊎◌, inl, inr, min, ℕ, zero, suc, Bool, true, false, ◌==◌, List, [], ◌∷◌, ◌++◌, length, length-append, take, Option, Some, None, refl, sym, ap, ◌∙◌, subst, arith, get_or-set_same, get_or-set_other}
+use Rattle.std.specs.Prelude.{slice_get, slice_index, slice_set}
 use Rattle.std.specs.Option.{option_map}
 use Rattle.std.proofs.Math.Seq.{take-add}
-use Rattle.std.proofs.lemmas.Bool.{eq-eqb, eqb-true, eqb-false}
+use Rattle.std.proofs.lemmas.Bool.{eqb-true, eqb-false}
 use Rattle.fab_base.specs.declared.frames.Frame.{Frame}
 use Rattle.fab_base.specs.declared.items.Item.{Item}
 use Rattle.fab_base.specs.declared.items.ItemHead.{ItemHead}
-use Rattle.fab_base.specs.declared.peers.Step.{Step}
 use Rattle.fab_base.specs.declared.peers.Step.TheVariants.{Do, Read as ReadStep}
 use Rattle.fab_wire.specs.Cut.{IsItem}
-use Rattle.fab_wire.specs.Joined.{is_last, grown, with_frame, bytes_of, Gathered}
-use Rattle.fab_model.specs.State.{State, accepted_for, raise, with_rx, with_tx}
+use Rattle.fab_wire.specs.Joined.{is_last, grown, bytes_of, Gathered}
+use Rattle.fab_model.specs.State.{State, accepted_for, raise}
 use Rattle.fab_model.specs.Sending.{do_sent, transmitting}
-use Rattle.fab_model.specs.Arrivals.{do_head, do_draw, do_tail, made_whole}
+use Rattle.fab_model.specs.Arrivals.{do_draw, do_tail}
 use Rattle.fab_model.specs.Peers.{Actor, fabric, step, do_next, read_next}
 use Rattle.fab_model.specs.Views.{View, IsPrefixOf}
 use Rattle.fab_model.proofs.Views.{prefix_self, prefix_prefix}
 use Rattle.fab_model.proofs.Grows.{step_is}
 use Rattle.fab_model.proofs.Parts.{prefix_get}
 use Rattle.fab_model.proofs.Passes.{Passes, head_passes, tail_passes, sent_passes, draw_passes}
-use Rattle.fab_face.specs.Held.{Held, begun_of, next_frame, next_item, piece, IsOut, IsOutAt, AreItems}
+use Rattle.fab_face.specs.Held.{Held, next_frame, next_item, piece, IsOut, IsOutAt, AreItems}
 use Rattle.fab_face.specs.Acts.{Act, Did, Took, Posted, Drew, Had, Ends, Departs, headed, is_first, only, posted_by, posted_to}
-use Rattle.fab_quantum.specs.Turns.{Living, actor_in, Lives, LivesBy, SameParts, Transmits, joined_from, part_at, posted_part}
+use Rattle.fab_quantum.specs.Turns.{Living, actor_in, Lives, LivesBy, Transmits, joined_from, part_at, posted_part}
 use Rattle.fab_quantum.proofs.Showing.{joined_append}
 
 -- ---- what other acts leave

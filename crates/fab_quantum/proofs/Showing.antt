@@ -1,30 +1,29 @@
 -- What frames join to, and that a peer's acts are steps of the machine wherever their frames are shown.
-use Rattle.std.proofs.Common.{◌≡◌, ◌≢◌, ◌<◌, ◌≤◌, ◌+◌, ℕ, zero, suc, Bool, true, false, not, ◌&&◌, ◌==◌, List, [], ◌∷◌, ◌++◌, length, length-append, drop, get_or, set, Option, Some, None, refl, sym, ap, ◌∙◌, subst, arith, append-nil, append_assoc, get_or-set_same, get_or-set_other}
-use Rattle.std.specs.Prelude.{slice_get, slice_index, slice_index_or, fold, nat_lt}
-use Rattle.std.specs.List.{flat_map}
+use Rattle.std.proofs.Common.{◌≡◌, ◌<◌, ◌≤◌, ◌+◌, ℕ, zero, suc, Bool, true, false, not, ◌&&◌, ◌==◌, List, [], ◌∷◌, ◌++◌, length, length-append, drop, Option, Some, None, refl, sym, ap, ◌∙◌, subst, arith, append-nil, append_assoc, get_or-set_same, get_or-set_other}
+use Rattle.std.specs.Prelude.{slice_get, slice_index, slice_index_or, fold}
 use Rattle.std.specs.Option.{option_map}
 use Rattle.std.proofs.lemmas.Bool.{eq-eqb, eqb-true, eqb-false, lt-ltb}
 use Rattle.std.proofs.lemmas.Grind.{fold-append}
 use Rattle.std.proofs.lemmas.Option.{slice_get_within}
-use Rattle.std.proofs.Math.Seq.{drop-append-add, drop-append_seam}
+use Rattle.std.proofs.Math.Seq.{drop-append_seam}
 use Rattle.fab_base.specs.declared.frames.Frame.{Frame}
 use Rattle.fab_base.specs.declared.items.Item.{Item}
 use Rattle.fab_base.specs.declared.items.ItemHead.{ItemHead}
 use Rattle.fab_base.specs.declared.peers.Step.{Step}
 use Rattle.fab_base.specs.declared.peers.Step.TheVariants.{Do, Head, Tail, Draw, Read as ReadStep, Sent as SentStep}
 use Rattle.fab_wire.specs.Joined.{is_last, grown, with_frame, Gathered, AreFirst, IsBegun}
-use Rattle.fab_model.specs.State.{State, fits, accepted_for, raise, with_rx}
+use Rattle.fab_model.specs.State.{State, fits, accepted_for, raise}
 use Rattle.fab_model.specs.Receiving.{draw_due}
 use Rattle.fab_model.specs.Sending.{do_sent}
 use Rattle.fab_model.specs.Arrivals.{do_head, do_draw, do_tail, made_whole}
-use Rattle.fab_model.specs.Peers.{Actor, fabric, step, do_next, read_next, with_state, head_step, tail_step, sent_step, draw_step, only_if}
+use Rattle.fab_model.specs.Peers.{Actor, fabric, step, do_next, read_next, with_state, head_step, tail_step, sent_step, draw_step}
 use Rattle.fab_model.specs.Views.{View, Walk}
 use Rattle.fab_model.proofs.Grows.{step_is}
 use Rattle.fab_model.proofs.Parts.{some_gives, if_gives}
-use Rattle.fab_model.proofs.Passes.{Passes, head_passes, tail_passes, sent_passes, draw_passes}
+use Rattle.fab_model.proofs.Passes.{head_passes, tail_passes, sent_passes, draw_passes}
 use Rattle.fab_face.specs.Held.{Held, begun_of, next_frame, next_item, piece}
 use Rattle.fab_face.specs.Acts.{Act, Did, Took, Posted, Drew, Had, Comes, Ends, Departs, headed, is_first, only, steps_by, steps_of, taken_by, taken_of}
-use Rattle.fab_quantum.specs.Turns.{Living, actor_in, Lives, LivesBy, SameParts, Moves, Shows, Joins, joined_from}
+use Rattle.fab_quantum.specs.Turns.{Living, actor_in, Lives, LivesBy, Shows, Joins, joined_from}
 
 -- ---- joining
 

@@ -1,12 +1,11 @@
 -- How the parts of a turn join.
-use Rattle.std.proofs.Common.{◌≡◌, ◌≤◌, ◌<◌, ◌+◌, ℕ, Bool, true, false, not, ◌||◌, List, [], ◌∷◌, ◌++◌, length, Option, Some, None, Result, Ok, Err, refl, sym, ap, ◌∙◌, subst, arith}
-use Rattle.fab_base.specs.declared.faults.NoMemory.{NoMemory}
-use Rattle.fab_model.specs.Peers.{Actor, do_next}
-use Rattle.fab_face.specs.Held.{Held, Lanes, Seen, IsOpen}
+use Rattle.std.proofs.Common.{◌≡◌, Bool, true, false, not, ◌||◌, List, [], ◌++◌, length, None, refl, sym, ap, ◌∙◌, subst}
+use Rattle.fab_model.specs.Peers.{do_next}
+use Rattle.fab_face.specs.Held.{Held, IsOpen}
 use Rattle.fab_quantum.proofs.Sending.{transmits_by}
-use Rattle.fab_face.specs.Acts.{Act, Ported}
-use Rattle.fab_quantum.specs.Turns.{Told, Living, living_of, actor_in, actor_of, LivesBy, Lived, WentOn, ReadOn, MovedOn, IsRead, IsStill, Turned, is_some_act}
-use Rattle.fab_face.proofs.Joining.{ported_then, ported_same}
+use Rattle.fab_face.specs.Acts.{Act}
+use Rattle.fab_quantum.specs.Turns.{Told, Living, living_of, actor_in, Lived, WentOn, ReadOn, MovedOn, IsRead, IsStill, Turned, is_some_act}
+use Rattle.fab_face.proofs.Joining.{ported_then}
 use Rattle.fab_quantum.proofs.Paths.{lived_then, lived_none, some_append, none_acts}
 use Rattle.fab_quantum.proofs.Idling.{idle_then}
 use Rattle.fab_quantum.proofs.Showing.{joins_by, walk_shown}

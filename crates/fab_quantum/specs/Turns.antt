@@ -4,7 +4,7 @@
 --     Shows v h frames  in this view, these frames are of what the senders accepted, and what is whole with them is transmitted
 --     Turned a b acts   the schedule grew by the steps of these acts, they lead from a to b wherever the frames taken are shown, and they are all that the port moved
 --     IsStill a b       nothing can be done, as the turn from a to b itself saw
-use Rattle.std.specs.Prelude.{◌≡◌, ◌≢◌, ℕ, ◌+◌, ◌≤◌, Bool, true, false, ◌||◌, List, [], ◌∷◌, ◌++◌, zero, suc, take, drop, length, map, fold, Option, Some, None, Result, Ok, Err, slice_index, slice_get}
+use Rattle.std.specs.Prelude.{◌≡◌, ◌≢◌, ℕ, ◌+◌, ◌≤◌, Bool, true, false, List, [], ◌∷◌, ◌++◌, zero, suc, take, drop, length, map, fold, Option, Some, None, Result, Ok, Err, slice_index, slice_get}
 use Rattle.std.specs.Option.{option_map}
 use Rattle.fab_base.specs.declared.script.LineOp.{LineOp}
 use Rattle.fab_base.specs.declared.entries.Kept.{Kept}
@@ -19,10 +19,6 @@ use Rattle.fab_base.specs.declared.peers.Step.{Step}
 use Rattle.fab_base.specs.declared.peers.Step.TheVariants.{Do, Head, Tail, Draw, Sent as SentStep}
 use Rattle.fab_base.specs.declared.script.Line.{Line}
 use Rattle.fab_wire.specs.Joined.{with_frame, Gathered, AreFirst}
-use Rattle.fab_model.specs.Calls.{Call, word_bytes}
-use Rattle.fab_base.specs.declared.peers.Level.{Level}
-use Rattle.fab_base.specs.declared.script.BytesWord.{BytesWord}
-use Rattle.fab_base.specs.declared.script.LineOp.TheVariants.{TSend}
 use Rattle.fab_model.specs.Peers.{Actor, fabric, do_next, read_next, is_again}
 use Rattle.fab_model.specs.State.{accepted_for}
 use Rattle.fab_model.specs.Views.{View, Walk}

@@ -1,4 +1,4 @@
-use Rattle.std.proofs.Common.{rules, refl, ap}
+use Rattle.std.proofs.Common.{rules, ap}
 use Rattle.fab_face.specs.Ports.{lanes_in}
 use Rattle.fab_ep.proofs.Posting.{not_posted}
 use Rattle.fab_ep.proofs.frames.post_next.Goals as goal

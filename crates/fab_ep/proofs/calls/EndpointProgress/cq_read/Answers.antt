@@ -1,4 +1,3 @@
-use Rattle.std.proofs.Common.{rules, refl, ◌≡◌}
 use Rattle.fab_face.specs.Ports.{seen}
 use Rattle.fab_ep.proofs.Reading.{reads_in}
 use Rattle.fab_ep.proofs.calls.EndpointProgress.cq_read.Goals as goal

@@ -1,4 +1,3 @@
-use Rattle.std.proofs.Common.{rules, refl, ◌≡◌}
 use Rattle.fab_ep.proofs.Posting.{open_of}
 use Rattle.fab_ep.proofs.calls.EndpointSees.known.Goals as goal
 

@@ -1,4 +1,4 @@
-use Rattle.std.proofs.Common.{rules, refl, ◌≡◌, ap}
+use Rattle.std.proofs.Common.{refl}
 use Rattle.fab_face.specs.Ports.{seen}
 use Rattle.fab_ep.proofs.Accepting.{tied_accepted}
 use Rattle.fab_ep.proofs.endpoint.Endpoint.accept_copy.Goals as goal

@@ -1,6 +1,4 @@
-use Rattle.std.proofs.Common.{rules, refl, ◌≡◌, ap, sym, ◌∙◌, true, false}
-use Rattle.fab_face.specs.Ports.{seen}
-use Rattle.fab_ep.specs.Tries.{Pushed, Pushes}
+use Rattle.std.proofs.Common.{rules, refl}
 use Rattle.fab_ep.proofs.Admitting.{faulted, shortened, admitted_at_once, unable_as, still_full, admitted}
 use Rattle.fab_ep.proofs.endpoint.Endpoint.admit.Goals as goal
 

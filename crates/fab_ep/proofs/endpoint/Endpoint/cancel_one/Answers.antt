@@ -1,5 +1,4 @@
-use Rattle.std.proofs.Common.{rules, refl, ◌≡◌, ap, inl, inr}
-use Rattle.fab_face.specs.Ports.{seen}
+use Rattle.std.proofs.Common.{rules, refl, inl}
 use Rattle.fab_ep.proofs.Answering.{if_err, refused_by, received, receives_not, receives_short, cancels_ours}
 use Rattle.fab_ep.proofs.endpoint.Endpoint.cancel_one.Goals as goal
 

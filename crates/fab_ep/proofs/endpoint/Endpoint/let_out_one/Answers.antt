@@ -1,7 +1,7 @@
-use Rattle.std.proofs.Common.{rules, refl, ◌≡◌, ◌<◌, ap}
+use Rattle.std.proofs.Common.{rules, ◌<◌}
 use Rattle.fab_face.specs.Ports.{seen}
 use Rattle.fab_ep.specs.Tries.{left_for}
-use Rattle.fab_ep.proofs.Letting.{lets_out, lets_none, falls_out}
+use Rattle.fab_ep.proofs.Letting.{falls_out}
 use Rattle.fab_ep.proofs.endpoint.Endpoint.let_out_one.Goals as goal
 
 pub returns-clause-less : goal.returns-clause-less

@@ -1,7 +1,7 @@
-use Rattle.std.proofs.Common.{rules, ◌≡◌, ◌<◌, ◌≤◌, ◌+◌, ◌∙◌, inl, inr, refl, arith, true, false}
+use Rattle.std.proofs.Common.{rules, ◌≡◌, ◌<◌, ◌+◌, ◌∙◌, inl, inr, refl, arith}
 use Rattle.fab_face.specs.declared.events.Stop.TheVariants.{Idle, Budget, CqFull, LogFull}
 use Rattle.fab_face.specs.Ports.{seen}
-use Rattle.fab_ep.proofs.Turning.{Going, going_none, going_on, progress_err_of, progress_ok, stops_at, room_left}
+use Rattle.fab_ep.proofs.Turning.{going_none, going_on, progress_err_of, progress_ok, stops_at, room_left}
 use Rattle.fab_ep.proofs.endpoint.Endpoint.move_frames.Goals as goal
 
 pub loop-turn-init : goal.loop-turn-init

@@ -1,6 +1,5 @@
-use Rattle.std.proofs.Common.{rules, refl, ◌≡◌, ◌≤◌, Some}
-use Rattle.std.specs.Prelude.{slice_index}
-use Rattle.fab_face.specs.Held.{piece, next_frame}
+use Rattle.std.proofs.Common.{rules}
+use Rattle.fab_face.specs.Held.{piece}
 use Rattle.fab_ep.proofs.Posting.{place_within}
 use Rattle.fab_ep.specs.Tries.{next_of}
 use Rattle.fab_ep.proofs.Pushing.{last_by}

@@ -1,4 +1,4 @@
-use Rattle.std.proofs.Common.{rules, refl, ◌≡◌, ap, inl, inr}
+use Rattle.std.proofs.Common.{rules, refl, inl}
 use Rattle.fab_face.specs.Ports.{seen}
 use Rattle.fab_ep.proofs.Answering.{if_err, refused_by, received, receives_not, receives_short, tied_received, posts_ours}
 use Rattle.fab_ep.proofs.endpoint.Endpoint.post.Goals as goal

@@ -1,8 +1,7 @@
-use Rattle.std.proofs.Common.{rules, refl, arith, ◌≡◌, ◌<◌, ◌≤◌, ◌+◌, ◌-◌, ◌∙◌, min, sym, ap, Ok, Some, length, length-append, ◌∷◌, [], true}
-use Rattle.std.specs.Prelude.{slice_index}
-use Rattle.fab_face.specs.Held.{Held, piece, next_item}
+use Rattle.std.proofs.Common.{rules, refl, arith, ◌≡◌, ◌∙◌, ap, Ok, length-append, ◌∷◌, [], true}
+use Rattle.fab_face.specs.Held.{piece}
 use Rattle.fab_face.specs.Ports.{seen}
-use Rattle.fab_face.specs.Machine.{gone_on, finished}
+use Rattle.fab_face.specs.Machine.{gone_on}
 use Rattle.fab_wire.specs.Joined.{is_last}
 use Rattle.fab_face.specs.declared.events.Event.TheVariants.{Sent}
 use Rattle.fab_ep.specs.Tries.{next_of}

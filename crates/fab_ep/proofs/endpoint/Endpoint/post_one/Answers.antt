@@ -1,4 +1,3 @@
-use Rattle.std.proofs.Common.{rules, refl, ◌≡◌}
 use Rattle.fab_ep.proofs.Pushing.{tries_of}
 use Rattle.fab_ep.proofs.endpoint.Endpoint.post_one.Goals as goal
 

@@ -1,6 +1,6 @@
-use Rattle.std.proofs.Common.{rules, refl, ◌≡◌, ◌<◌, Ok, ap}
+use Rattle.std.proofs.Common.{rules, ◌<◌}
 use Rattle.fab_face.specs.Ports.{seen}
-use Rattle.fab_ep.specs.Tries.{has_moved, left_for, PushesOut}
+use Rattle.fab_ep.specs.Tries.{left_for}
 use Rattle.fab_ep.proofs.Falling.{falls_pushed}
 use Rattle.fab_ep.proofs.endpoint.Endpoint.push_on.Goals as goal
 

@@ -1,4 +1,4 @@
-use Rattle.std.proofs.Common.{rules, refl, ◌≡◌, ◌≤◌, ◌∙◌, sym, Some}
+use Rattle.std.proofs.Common.{◌∙◌, sym}
 use Rattle.fab_face.specs.Ports.{seen}
 use Rattle.fab_ep.proofs.Staying.{stays_of}
 use Rattle.fab_ep.proofs.Pushing.{pushes_of, places_of, why_not}

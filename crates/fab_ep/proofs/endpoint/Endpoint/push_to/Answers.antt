@@ -1,7 +1,7 @@
-use Rattle.std.proofs.Common.{rules, refl, ◌≡◌, ◌∙◌, Ok, true, false}
+use Rattle.std.proofs.Common.{rules, refl, ◌∙◌}
 use Rattle.fab_face.specs.Ports.{seen}
 use Rattle.fab_ep.proofs.Staying.{stays_then, stays_none}
-use Rattle.fab_ep.proofs.Pushing.{posting_none, posting_on, pushed_end, pushed_err}
+use Rattle.fab_ep.proofs.Pushing.{posting_none, posting_on, pushed_err}
 use Rattle.fab_ep.proofs.endpoint.Endpoint.push_to.Goals as goal
 
 pub loop-init : goal.loop-init

@@ -1,4 +1,4 @@
-use Rattle.std.proofs.Common.{◌≡◌, ◌≤◌, ◌+◌, false}
+use Rattle.std.proofs.Common.{◌≡◌, false}
 use Rattle.fab_face.specs.Answers.{HasPlaces}
 use Rattle.fab_face.specs.Ports.{seen}
 use Rattle.fab_link.specs.Meaning.{Others}

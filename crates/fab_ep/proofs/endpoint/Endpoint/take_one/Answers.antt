@@ -1,12 +1,10 @@
-use Rattle.std.proofs.Common.{rules, refl, arith, ◌≡◌, ◌<◌, ◌≤◌, ◌+◌, ◌∙◌, sym, ap, Ok, Some, length, length-append, ◌∷◌, ◌++◌, []}
+use Rattle.std.proofs.Common.{rules, refl, ap, Ok, ◌∷◌, []}
 use Rattle.fab_wire.specs.Frames.{lent_frame}
-use Rattle.fab_wire.specs.Joined.{is_last}
-use Rattle.fab_face.specs.Acts.{only, is_first, Ported, Took}
+use Rattle.fab_face.specs.Acts.{Ported, Took}
 use Rattle.fab_face.specs.Ports.{seen, lanes_in}
-use Rattle.fab_face.specs.declared.events.Event.{Event}
 use Rattle.fab_face.specs.declared.events.Event.TheVariants.{Head, Tail}
 use Rattle.fab_face.proofs.Joining.{moved_same, moved_took}
-use Rattle.fab_ep.proofs.Taking.{Same, took_none, saw_lent, took_ported, tied_took, went_took, most_two}
+use Rattle.fab_ep.proofs.Taking.{took_none, saw_lent, took_ported, tied_took, went_took, most_two}
 use Rattle.fab_ep.proofs.endpoint.Endpoint.take_one.Goals as goal
 
 pub returns-then-not-branch-clause-tries : goal.returns-then-not-branch-clause-tries

@@ -1,7 +1,6 @@
-use Rattle.std.proofs.Common.{rules, refl, arith, ◌≡◌, ◌<◌, ◌≤◌, ◌+◌, ◌∙◌, sym, ap, false, true, ◌||◌, Ok, ◌^◌, length}
-use Rattle.std.proofs.lemmas.Bool.Decides.{nat_tests}
+use Rattle.std.proofs.Common.{rules, refl, arith, ◌≡◌, ◌≤◌, ◌+◌, ◌∙◌, sym, false}
 use Rattle.fab_face.specs.Ports.{seen}
-use Rattle.fab_ep.specs.Tries.{Turning, moved_one, is_held}
+use Rattle.fab_ep.specs.Tries.{Turning}
 use Rattle.fab_ep.proofs.Turning.{turning_none, on_out, on_in, turned_to, out_short, in_short, turning_err, one_at_most, peers_same, err_of}
 use Rattle.fab_ep.proofs.endpoint.Endpoint.turn.Goals as goal
 

@@ -1,4 +1,4 @@
-use Rattle.std.proofs.Common.{◌≡◌, ◌||◌, true, false, ap, ◌∙◌, rules}
+use Rattle.std.proofs.Common.{◌≡◌, ◌||◌, true, ap, ◌∙◌}
 use Rattle.fab_quantum.specs.Turns.{told}
 use Rattle.fab_quantum.proofs.Turning.{lines_end, lines_go_on, or_true, not_true, not_false}
 use Rattle.fab_quantum.proofs.peer.Peer.do_lines.Goals as goal

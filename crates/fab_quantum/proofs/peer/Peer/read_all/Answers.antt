@@ -1,7 +1,7 @@
 use Rattle.std.proofs.Common.{◌≡◌, None, refl, sym, ◌∙◌, subst}
 use Rattle.fab_model.specs.Peers.{part_of, unread}
 use Rattle.fab_face.specs.Held.{Seen}
-use Rattle.fab_quantum.specs.Turns.{told, IsRead}
+use Rattle.fab_quantum.specs.Turns.{told}
 use Rattle.fab_quantum.proofs.Calling.{reads_on, reads_none, reads_less, told_is, none_unread, none_of}
 use Rattle.fab_quantum.proofs.peer.Peer.read_all.Goals as goal
 
