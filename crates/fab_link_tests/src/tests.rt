@@ -56,7 +56,7 @@ fn a_frame_is_carried(rt: HostRuntime) -> Result<(), Fail> {
         return Err("no frame")?;
     };
     assert_eq!(rt; frame.bytes, b"a".as_slice());
-    assert_eq!(rt; frame.head, whole(7, 1));
+    assert!(rt; frame.head == whole(7, 1));
     Ok(())
 }
 
@@ -93,7 +93,7 @@ fn a_port_goes_on_behind_a_frame(rt: HostRuntime) -> Result<(), Fail> {
     let Some(frame) = port.front(0) else {
         return Err("no frame")?;
     };
-    assert_eq!(rt; frame.head, head);
+    assert!(rt; frame.head == head);
     assert_eq!(rt; frame.bytes.len(), 904);
     Ok(())
 }
