@@ -278,7 +278,7 @@ fn letter(x: u64, ones: u64, is_signed: bool) -> u8 {
 
 #[test]
 fn elements_are_those_of_the_table(rt: HostRuntime) -> Result<(), Fail> {
-    for (op, place, signed, unsigned) in ROWS {
+    for (line, (op, place, signed, unsigned)) in ROWS.into_iter().enumerate() {
         for (num, ones, is_signed) in NUMS {
             let values = [0, 1, ones / 2, ones / 2 + 1, ones];
             let values = if is_signed {
@@ -299,7 +299,11 @@ fn elements_are_those_of_the_table(rt: HostRuntime) -> Result<(), Fail> {
                     letters.push(letter(new, ones, is_signed))?;
                 }
             }
-            assert_eq!(rt; letters.as_slice(), row, "{op:?} {num:?} {place}");
+            assert_eq!(rt;
+                letters.as_slice(),
+                row,
+                "row {line}, up to {ones}, signed: {is_signed}"
+            );
         }
     }
     Ok(())

@@ -37,7 +37,7 @@ impl Model for Av {
 }
 
 /// What an insertion answers: the index of each name, or none (FI_ADDR_NOTAVAIL), and how many have one.
-#[derive(Debug, Drop)]
+#[derive(Drop)]
 pub struct InsertReport {
     pub indices: List<Option<u32>>,
     pub inserted: u32,

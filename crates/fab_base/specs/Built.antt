@@ -1,7 +1,7 @@
 -- The lines of a script that the program carries out so far.
 --     is_built op      a tagged message of at most 4,096 bytes of text that completes when it is transmitted, a tagged receive of any source, or a wait for a context
 --     all_built peers  all lines of all peers are
-use Rattle.std.specs.Prelude.{ℕ, Bool, true, false, ◌&&◌, nat_le, List, length, Option, Some, None, is_some, is_none}
+use Rattle.std.specs.Prelude.{Bool, true, false, ◌&&◌, nat_le, List, length, is_some, is_none}
 use Rattle.std.specs.List.{list_all}
 use Rattle.fab_base.specs.declared.peers.Level.{Level}
 use Rattle.fab_base.specs.declared.script.BytesWord.{BytesWord}

@@ -181,7 +181,7 @@ impl Eq for Text {
 }
 
 /// An owned list.
-#[derive(Debug, Drop)]
+#[derive(Drop)]
 pub struct List<T> {
     members: Vec<T>,
 }

@@ -5,7 +5,7 @@ use crate::buffers::Buf;
 use std::alloc::AllocError;
 
 /// What a look at the unexpected messages does with the one that it finds (fi_tagged(3)).
-#[derive(Clone, Copy, Debug, Drop, Eq, PartialEq)]
+#[derive(Clone, Copy, Drop, Eq, PartialEq)]
 pub enum PeekHow {
     Peek,
     Claim,
@@ -14,7 +14,7 @@ pub enum PeekHow {
 
 /// A success. `ctx` is the context of the call, `imm` the remote data, `source` the sender's number,
 /// `len` the bytes received, and `buf` the operation's buffer, which comes back.
-#[derive(Debug, Drop)]
+#[derive(Drop)]
 pub enum Entry {
     Sent {
         ctx: u64,
@@ -71,7 +71,7 @@ pub enum Entry {
 }
 
 /// Why an operation failed.
-#[derive(Clone, Copy, Debug, Drop, Eq, PartialEq)]
+#[derive(Clone, Copy, Drop, Eq, PartialEq)]
 pub enum ErrKind {
     Truncated,
     NoMsg,
@@ -83,7 +83,7 @@ pub enum ErrKind {
 
 /// An error. All but `ctx`, `kind` and `buf` are filled for `Truncated` alone: `len` the bytes placed,
 /// `olen` the bytes cut off, `at` the place in a multi-receive.
-#[derive(Debug, Drop)]
+#[derive(Drop)]
 pub struct ErrEntry {
     pub ctx: Option<u64>,
     pub kind: ErrKind,
@@ -97,21 +97,21 @@ pub struct ErrEntry {
 }
 
 /// An entry as it was read.
-#[derive(Debug, Drop)]
+#[derive(Drop)]
 pub enum Taken {
     Success(Entry),
     Failure(ErrEntry),
 }
 
 /// An entry that was read, with the bytes that were copied for a part.
-#[derive(Debug, Drop)]
+#[derive(Drop)]
 pub struct Kept {
     pub entry: Taken,
     pub bytes: Option<Buf>,
 }
 
 /// What a counter counts.
-#[derive(Clone, Copy, Debug, Drop, Eq, PartialEq)]
+#[derive(Clone, Copy, Drop, Eq, PartialEq)]
 pub enum Class {
     Send,
     Recv,

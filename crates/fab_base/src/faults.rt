@@ -68,7 +68,7 @@ impl From<NoMemory> for Fault {
 }
 
 /// A refusal that hands the buffer back, equal to what came.
-#[derive(Debug, Drop)]
+#[derive(Drop)]
 pub struct Refused {
     pub why: Fault,
     pub buf: Buf,

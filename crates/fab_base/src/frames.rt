@@ -4,7 +4,7 @@ use crate::items::ItemHead;
 
 /// The head of a frame: its item's head, the place of its first byte among the item's bytes, and
 /// how many bytes it has, at most 4,096.
-#[derive(Clone, Copy, Debug, Drop, Eq, PartialEq)]
+#[derive(Clone, Copy, Drop, Eq, PartialEq)]
 pub struct FrameHead {
     pub item: ItemHead,
     pub from: u32,
@@ -12,14 +12,14 @@ pub struct FrameHead {
 }
 
 /// A frame with its bytes.
-#[derive(Debug, Drop)]
+#[derive(Drop)]
 pub struct Frame {
     pub head: FrameHead,
     pub bytes: Buf,
 }
 
 /// A frame that a port lends until it is advanced over.
-#[derive(Clone, Copy, Debug)]
+#[derive(Clone, Copy)]
 pub struct FrameRef<'a> {
     pub head: FrameHead,
     pub bytes: &'a [u8],

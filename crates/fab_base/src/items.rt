@@ -2,7 +2,7 @@
 use crate::buffers::Buf;
 
 /// What an item is: a message, a request to the target's memory, or the reply to either.
-#[derive(Clone, Copy, Debug, Drop, Eq, PartialEq)]
+#[derive(Clone, Copy, Drop, Eq, PartialEq)]
 pub enum Kind {
     /// An untagged message, fi_msg(3).
     Msg,
@@ -20,7 +20,7 @@ pub enum Kind {
 
 /// When the target owes a reply to a message: never, when it is delivered, or when a receive took it
 /// (FI_DELIVERY_COMPLETE, FI_MATCH_COMPLETE of fi_cq(3)).
-#[derive(Clone, Copy, Debug, Drop, Eq, PartialEq)]
+#[derive(Clone, Copy, Drop, Eq, PartialEq)]
 pub enum Ack {
     Nothing,
     Delivery,
@@ -28,7 +28,7 @@ pub enum Ack {
 }
 
 /// What became of a request at its target.
-#[derive(Clone, Copy, Debug, Drop, Eq, PartialEq)]
+#[derive(Clone, Copy, Drop, Eq, PartialEq)]
 pub enum Outcome {
     Done,
     BadKey,
@@ -37,7 +37,7 @@ pub enum Outcome {
 }
 
 /// The operation of an atomic, fi_atomic(3).
-#[derive(Clone, Copy, Debug, Drop, Eq, PartialEq)]
+#[derive(Clone, Copy, Drop, Eq, PartialEq)]
 pub enum AtomicOp {
     Min,
     Max,
@@ -61,7 +61,7 @@ pub enum AtomicOp {
 }
 
 /// The type of an element: an integer of 8 to 64 bits, signed or not.
-#[derive(Clone, Copy, Debug, Drop, Eq, PartialEq)]
+#[derive(Clone, Copy, Drop, Eq, PartialEq)]
 pub enum Num {
     I8,
     I16,
@@ -74,7 +74,7 @@ pub enum Num {
 }
 
 /// The form of an atomic: without a result, with the old elements as its result, or comparing first.
-#[derive(Clone, Copy, Debug, Drop, Eq, PartialEq)]
+#[derive(Clone, Copy, Drop, Eq, PartialEq)]
 pub enum Form {
     Base,
     Fetch,
@@ -82,7 +82,7 @@ pub enum Form {
 }
 
 /// The atomic that a request asks for.
-#[derive(Clone, Copy, Debug, Drop, Eq, PartialEq)]
+#[derive(Clone, Copy, Drop, Eq, PartialEq)]
 pub struct Atom {
     pub op: AtomicOp,
     pub num: Num,
@@ -90,7 +90,7 @@ pub struct Atom {
 }
 
 /// All of an item but its bytes. A field that a kind does not use is 0, `None`, `Nothing` or `Done`.
-#[derive(Clone, Copy, Debug, Drop, Eq, PartialEq)]
+#[derive(Clone, Copy, Drop, Eq, PartialEq)]
 pub struct ItemHead {
     pub kind: Kind,
     /// The number of the initiator's operation, from 0, below 2^62. A reply has that of the
@@ -113,7 +113,7 @@ pub struct ItemHead {
 }
 
 /// An item with its bytes. Those of an atomic are the operand followed by the compare.
-#[derive(Debug, Drop)]
+#[derive(Drop)]
 pub struct Item {
     pub head: ItemHead,
     pub bytes: Buf,
@@ -128,7 +128,7 @@ pub struct Access {
 
 /// What a receive asks of a message (fi_tagged(3)): tagged or untagged, the tag in every bit where
 /// `ignore` is 0, and the peer that it comes from, where one is named.
-#[derive(Clone, Copy, Debug, Drop, Eq, PartialEq)]
+#[derive(Clone, Copy, Drop, Eq, PartialEq)]
 pub struct Want {
     pub tagged: bool,
     pub tag: u64,
@@ -138,7 +138,7 @@ pub struct Want {
 
 /// What a message shows of itself to the receives that may take it: tagged or untagged, its tag, and
 /// the peer that it comes from.
-#[derive(Clone, Copy, Debug, Drop, Eq, PartialEq)]
+#[derive(Clone, Copy, Drop, Eq, PartialEq)]
 pub struct Sign {
     pub tagged: bool,
     pub tag: u64,

@@ -5,7 +5,7 @@ ghost use Rattle.fab_base.specs.Offer.{limits_of, is_offered};
 use crate::caps::Cap;
 
 /// A number that an application may ask for when it negotiates (fi_getinfo(3)).
-#[derive(Clone, Copy, Debug, Drop, Eq, PartialEq)]
+#[derive(Clone, Copy, Drop, Eq, PartialEq)]
 pub enum Size {
     /// How many peers there are.
     Peers,
@@ -28,7 +28,7 @@ pub enum Size {
 }
 
 /// The least and the greatest value of a size, and the one that is granted without a wish.
-#[derive(Clone, Copy, Debug, Drop, Eq, PartialEq)]
+#[derive(Clone, Copy, Drop, Eq, PartialEq)]
 pub struct Limits {
     pub least: u32,
     pub default: u32,

@@ -8,7 +8,7 @@ use crate::peers::Level;
 ///
 /// A multi-receive (FI_MULTI_RECV) has in `least` the free space below which it is given up, and in
 /// `used` how many bytes from its start are given away.
-#[derive(Debug, Drop)]
+#[derive(Drop)]
 pub struct Receive {
     pub call: u64,
     pub want: Want,
@@ -20,7 +20,7 @@ pub struct Receive {
 
 /// A message that has arrived and went to no receive. `place` is its number among the items that
 /// its source accepted for this peer, from 0. It has its bytes once it is whole.
-#[derive(Debug, Drop)]
+#[derive(Drop)]
 pub struct Arrival {
     pub source: u32,
     pub place: u64,
@@ -30,7 +30,7 @@ pub struct Arrival {
 
 /// Where an item goes that has arrived and is not whole: into a receive from a place on, to the
 /// unexpected messages, nowhere, to the memory regions, or to the operation that it answers.
-#[derive(Debug, Drop)]
+#[derive(Drop)]
 pub enum Coming {
     Into(Receive, u32),
     Keep,
@@ -41,7 +41,7 @@ pub enum Coming {
 
 /// A transmit operation that has not ended. `place` is its item's number among those accepted for
 /// `dest`, from 0. A silent one writes no completion when it succeeds.
-#[derive(Debug, Drop)]
+#[derive(Drop)]
 pub struct Operation {
     pub call: u64,
     pub dest: u32,
@@ -54,14 +54,14 @@ pub struct Operation {
 }
 
 /// A completion with the number of the call that it belongs to, if any.
-#[derive(Debug, Drop)]
+#[derive(Drop)]
 pub struct Written {
     pub call: Option<u64>,
     pub entry: Taken,
 }
 
 /// The two numbers of a counter, successes and errors (fi_cntr(3)). Each stays at 2^64 - 1.
-#[derive(Clone, Copy, Debug, Drop, Eq, PartialEq)]
+#[derive(Clone, Copy, Drop, Eq, PartialEq)]
 pub struct Tally {
     pub ok: u64,
     pub err: u64,

@@ -5,7 +5,7 @@ use crate::faults::Fault;
 
 /// When a message operation completes (fi_cq(3)): at `Inject` and `Transmit` when it is transmitted,
 /// at `Delivery` when it is whole at the target, at `Match` when a receive took it besides.
-#[derive(Clone, Copy, Debug, Drop, Eq, PartialEq)]
+#[derive(Clone, Copy, Drop, Eq, PartialEq)]
 pub enum Level {
     Inject,
     Transmit,
@@ -14,14 +14,14 @@ pub enum Level {
 }
 
 /// The flags of a transmit call: whether it asks for a completion (FI_COMPLETION), and at which level.
-#[derive(Clone, Copy, Debug, Drop, Eq, PartialEq)]
+#[derive(Clone, Copy, Drop, Eq, PartialEq)]
 pub struct Flags {
     pub completion: bool,
     pub level: Level,
 }
 
 /// One step of a peer's schedule.
-#[derive(Clone, Copy, Debug, Drop, Eq, PartialEq)]
+#[derive(Clone, Copy, Drop, Eq, PartialEq)]
 pub enum Step {
     /// The peer's next line takes effect.
     Do,
@@ -40,7 +40,7 @@ pub enum Step {
 }
 
 /// What a line did.
-#[derive(Debug, Drop)]
+#[derive(Drop)]
 pub enum LineResult {
     Done,
     Refused(Fault),

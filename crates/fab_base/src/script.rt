@@ -6,7 +6,7 @@ use crate::items::{Access, AtomicOp, Num};
 use crate::peers::Level;
 
 /// How a line names bytes.
-#[derive(Debug, Drop)]
+#[derive(Drop)]
 pub enum BytesWord {
     Text(Buf),
     Hex(Buf),
@@ -16,7 +16,7 @@ pub enum BytesWord {
 
 /// What a line asks for. `ctx` is the context under which its completions come, `dest` and `source` are
 /// indices of the address vector, `imm` is the remote data.
-#[derive(Debug, Drop)]
+#[derive(Drop)]
 pub enum LineOp {
     Send {
         ctx: u64,
@@ -180,14 +180,14 @@ pub enum LineOp {
 }
 
 /// A line with its number in the file, from 1.
-#[derive(Debug, Drop)]
+#[derive(Drop)]
 pub struct Line {
     pub number: u32,
     pub op: LineOp,
 }
 
 /// What the settings ask for, and what is granted.
-#[derive(Debug, Drop)]
+#[derive(Drop)]
 pub struct Conf {
     pub hints: Option<Hints>,
     pub info: Info,
@@ -196,14 +196,14 @@ pub struct Conf {
 }
 
 /// A payload file: the number under which words name it, and its name.
-#[derive(Debug, Drop)]
+#[derive(Drop)]
 pub struct Payload {
     pub id: u64,
     pub name: Text,
 }
 
 /// A script: its settings, its payload files, and the lines of each peer.
-#[derive(Debug, Drop)]
+#[derive(Drop)]
 pub struct Script {
     pub version: u32,
     pub conf: Conf,
@@ -212,7 +212,7 @@ pub struct Script {
 }
 
 /// A script with the bytes of its payload files.
-#[derive(Debug, Drop)]
+#[derive(Drop)]
 pub struct Bound {
     pub script: Script,
     pub files: List<Buf>,

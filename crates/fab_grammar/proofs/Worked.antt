@@ -1,11 +1,17 @@
 -- Texts whose scripts are worked out by the definitions alone.
 use Rattle.std.proofs.Common.{◌≡◌, ℕ, List, [], ◌∷◌, ◌++◌, Some, None, false, refl}
-use Rattle.std.specs.Prelude.{codes}
+use Rattle.std.specs.Prelude.{codes, Ok, Err}
 use Rattle.fab_base.specs.declared.status.Why.TheVariants as why
 use Rattle.fab_base.specs.declared.peers.Level.TheVariants.{Transmit}
 use Rattle.fab_base.specs.declared.script.BytesWord.TheVariants.{Text}
-use Rattle.fab_base.specs.declared.script.LineOp.TheVariants.{TSend, TRecv, Wait}
-use Rattle.fab_grammar.specs.Grammar.{script_of, script_with, refusal_of}
+use Rattle.fab_base.specs.declared.items.AtomicOp.TheVariants.{Sum}
+use Rattle.fab_base.specs.declared.items.Num.TheVariants.{I16}
+use Rattle.fab_base.specs.declared.script.LineOp.TheVariants.{TSend, TRecv, Wait, Atomic}
+use Rattle.fab_words.specs.declared.fault.Fault.TheVariants.{Words}
+use Rattle.fab_grammar.specs.declared.language.Language.TheVariants.{Whole}
+use Rattle.fab_grammar.specs.declared.verbs.Verb.TheVariants as verb
+use Rattle.fab_grammar.specs.Lines.{op_of}
+use Rattle.fab_grammar.specs.Grammar.{script_of, script_with, refusal_of, verdict}
 use Rattle.fab_grammar.specs.Conf.{conf_of}
 use Rattle.fab_grammar.specs.Settings.{no_settings}
 use Rattle.fab_base.specs.declared.caps.Info.{Info}
@@ -44,3 +50,18 @@ none = refl
 missing : refusal_of (line (codes "fabric 1") (line [] [])) ≡ Some (2, why.Missing)
 unfolding grammar
 missing = refl
+
+-- an optional word stands once
+once : op_of verb.TSend (codes "1" ∷ codes "0" ∷ codes "7" ∷ codes "text:a" ∷ codes "data=1" ∷ codes "data=2" ∷ []) ≡ Err Words
+unfolding grammar
+once = refl
+
+-- an element's bytes, the lowest first
+elements : op_of verb.Atomic (codes "1" ∷ codes "0" ∷ codes "1" ∷ codes "0" ∷ codes "FI_SUM" ∷ codes "i16" ∷ codes "300,-2" ∷ []) ≡ Ok (Atomic 1 0 1 0 Sum I16 (44 ∷ 1 ∷ 254 ∷ 255 ∷ []) false)
+unfolding grammar
+elements = refl
+
+-- a wish is for the size that its line names
+wish : verdict Whole (line (codes "fabric 1") (line (codes "peers 2") (line (codes "tx 5") []))) ≡ Ok (script_with (conf_of (record no_settings { peers = Some 2; tx = Some 5 }) 2 (record whole { tx = 5 })) [] ([] ∷ [] ∷ []))
+unfolding grammar
+wish = refl

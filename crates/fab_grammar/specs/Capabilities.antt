@@ -1,8 +1,9 @@
 -- The capabilities that `caps` asks for (fi_getinfo(3), "Capabilities").
 --     cap_name cap       the capability as it is written
 --     caps_of word       those whose names the commas join
-use Rattle.std.specs.Prelude.{ℕ, Bool, true, ◌==◌, List, [], ◌∷◌, codes, bytes_eq, find, Option, Some, None, Result, Ok, Err}
+use Rattle.std.specs.Prelude.{ℕ, Bool, ◌==◌, List, [], ◌∷◌, codes, bytes_eq, find, Option, Some, None, Result, Ok, Err}
 use Rattle.std.specs.List.{slice_split}
+use Rattle.fab_base.specs.Granted.{with_cap}
 use Rattle.fab_base.specs.declared.caps.Cap.{Cap}
 use Rattle.fab_base.specs.declared.caps.Cap.TheVariants as cap
 use Rattle.fab_base.specs.declared.caps.Caps.{Caps}
@@ -30,24 +31,6 @@ cap_name cap.LocalComm = codes "FI_LOCAL_COMM"
 
 unfoldable pub cap_named : List ℕ → Option Cap
 cap_named name = find (λ cap. bytes_eq name (cap_name cap)) all_caps
-
-abbrev pub with_cap : Cap → Caps → Caps
-with_cap cap.Msg caps = record caps { msg = true }
-with_cap cap.Tagged caps = record caps { tagged = true }
-with_cap cap.Rma caps = record caps { rma = true }
-with_cap cap.Atomic caps = record caps { atomic = true }
-with_cap cap.DirectedRecv caps = record caps { directed_recv = true }
-with_cap cap.Send caps = record caps { send = true }
-with_cap cap.Recv caps = record caps { recv = true }
-with_cap cap.Read caps = record caps { read = true }
-with_cap cap.Write caps = record caps { write = true }
-with_cap cap.RemoteRead caps = record caps { remote_read = true }
-with_cap cap.RemoteWrite caps = record caps { remote_write = true }
-with_cap cap.MultiRecv caps = record caps { multi_recv = true }
-with_cap cap.Source caps = record caps { source = true }
-with_cap cap.RmaEvent caps = record caps { rma_event = true }
-with_cap cap.Fence caps = record caps { fence = true }
-with_cap cap.LocalComm caps = record caps { local_comm = true }
 
 -- these besides those; a name may stand twice, and an empty or unknown one is no name
 abbrev pub add_names : Caps → List (List ℕ) → Result Caps Fault

@@ -1,7 +1,7 @@
 //! The capabilities that `caps` asks for.
 ghost use Rattle.std.specs.Prelude.{◌≡◌};
 ghost use Rattle.fab_model.specs.Negotiation.{no_hints};
-ghost use Rattle.fab_grammar.specs.Capabilities.{cap_name, cap_named, with_cap, caps_of};
+ghost use Rattle.fab_grammar.specs.Capabilities.{cap_name, cap_named, caps_of};
 
 use fab_base::{Cap, Caps};
 use fab_words::{Fault, Read, first_part, is};
@@ -58,31 +58,6 @@ fn named(word: &[u8]) -> Option<Cap>
     CAPS.iter().copied().find(|cap| is(word, cap_name(*cap)))
 }
 
-/// The set with one capability more.
-fn with(cap: Cap, mut caps: Caps) -> Caps
-    ensures { result ≡ with_cap cap caps }
-{
-    match cap {
-        Cap::Msg => caps.msg = true,
-        Cap::Tagged => caps.tagged = true,
-        Cap::Rma => caps.rma = true,
-        Cap::Atomic => caps.atomic = true,
-        Cap::DirectedRecv => caps.directed_recv = true,
-        Cap::Send => caps.send = true,
-        Cap::Recv => caps.recv = true,
-        Cap::Read => caps.read = true,
-        Cap::Write => caps.write = true,
-        Cap::RemoteRead => caps.remote_read = true,
-        Cap::RemoteWrite => caps.remote_write = true,
-        Cap::MultiRecv => caps.multi_recv = true,
-        Cap::Source => caps.source = true,
-        Cap::RmaEvent => caps.rma_event = true,
-        Cap::Fence => caps.fence = true,
-        Cap::LocalComm => caps.local_comm = true,
-    }
-    caps
-}
-
 /// The capabilities whose names the commas join.
 #[tactic(auto, unfolding(crate::specs::Capabilities::caps_of))]
 pub(crate) fn read_caps(word: &[u8]) -> Read<Caps>
@@ -92,7 +67,7 @@ pub(crate) fn read_caps(word: &[u8]) -> Read<Caps>
     let mut list = word;
     loop {
         let (name, rest) = first_part(list, b',');
-        caps = with(named(name).ok_or(Fault::Words)?, caps);
+        caps = caps.with(named(name).ok_or(Fault::Words)?);
         match rest {
             Some(rest) => list = rest,
             None => return Ok(caps),

@@ -2,7 +2,7 @@
 use fab_base::Line;
 
 /// A line of a peer's part.
-#[derive(Debug, Drop)]
+#[derive(Drop)]
 pub enum Item {
     /// `peer K` opens the part of this peer.
     Peer(u64),

@@ -8,7 +8,7 @@ use crate::verbs::Verb;
 use fab_words::{Words, is};
 
 /// What a line may have that is carried out, or not yet.
-#[derive(Clone, Copy, Debug, Drop)]
+#[derive(Clone, Copy, Drop)]
 pub enum Form {
     /// A line with this verb.
     Line(Verb),
@@ -27,7 +27,7 @@ pub enum Form {
 }
 
 /// Which lines are read.
-#[derive(Clone, Copy, Debug, Drop)]
+#[derive(Clone, Copy, Drop)]
 pub enum Language {
     /// The lines that the program carries out.
     Built,

@@ -7,7 +7,7 @@ use fab_base::Level;
 use fab_words::{Fault, Read, Words, both, is, read_index, read_number};
 
 /// An optional word.
-#[derive(Clone, Copy, Debug, Drop)]
+#[derive(Clone, Copy, Drop)]
 pub enum Optional {
     Data,
     AtLevel(Level),
@@ -16,7 +16,7 @@ pub enum Optional {
 }
 
 /// The optional words that a line may have yet.
-#[derive(Clone, Copy, Debug, Drop)]
+#[derive(Clone, Copy, Drop)]
 pub struct Allowed {
     pub imm: bool,
     pub level: bool,
@@ -25,7 +25,7 @@ pub struct Allowed {
 }
 
 /// What the optional words say.
-#[derive(Clone, Copy, Debug, Drop)]
+#[derive(Clone, Copy, Drop)]
 pub struct Options {
     pub imm: Option<u64>,
     pub level: Level,

@@ -9,7 +9,7 @@ use fab_words::{Fault, Read, Words, both, read_number, read_text};
 use std::alloc::Global;
 
 /// What one setting asks for.
-#[derive(Debug, Drop)]
+#[derive(Drop)]
 pub enum Setting {
     /// How many peers there are.
     Peers(u32),
@@ -23,7 +23,7 @@ pub enum Setting {
 }
 
 /// What the settings ask for, but for the payload files.
-#[derive(Clone, Copy, Debug, Drop)]
+#[derive(Clone, Copy, Drop)]
 pub struct Settings {
     pub caps: Option<Caps>,
     pub peers: Option<u32>,

@@ -5,7 +5,7 @@ ghost use Rattle.fab_grammar.specs.Verbs.{name_of, verb_of, kind_of};
 use fab_words::is;
 
 /// The first word of a line, but for the header.
-#[derive(Clone, Copy, Debug, Drop)]
+#[derive(Clone, Copy, Drop)]
 pub enum Verb {
     Peers,
     Caps,
@@ -48,7 +48,7 @@ pub enum Verb {
 }
 
 /// What a line with this verb is.
-#[derive(Clone, Copy, Debug, Drop)]
+#[derive(Clone, Copy, Drop)]
 pub enum Kind {
     Setting,
     /// `peer K`, which opens the lines of a peer.

@@ -116,16 +116,16 @@ fn grants_capabilities(rt: HostRuntime) -> Result<(), Fail> {
         ),
         (&[Source], &[MultiRecv, Source, LocalComm]),
     ];
-    for (asked, want) in rows {
+    for (row, (asked, want)) in rows.iter().enumerate() {
         let info = getinfo(Some(&hints(asked)))?;
-        assert_eq!(rt; info.caps, hints(want).caps, "{asked:?}");
+        assert!(rt; info.caps == hints(want).caps, "row {row}");
         assert_eq!(rt; numbers(&info), DEFAULTS);
     }
     let info = getinfo(None)?;
-    assert_eq!(rt; info.caps, hints(&offer).caps);
+    assert!(rt; info.caps == hints(&offer).caps);
     assert_eq!(rt; numbers(&info), DEFAULTS);
     for refused in [[Fence, Msg], [RmaEvent, Rma]] {
-        assert_eq!(rt; getinfo(Some(&hints(&refused))), Err(Fault::NoData));
+        assert!(rt; getinfo(Some(&hints(&refused))) == Err(Fault::NoData));
     }
     Ok(())
 }
@@ -179,9 +179,8 @@ fn grants_wishes(rt: HostRuntime) -> Result<(), Fail> {
         (8, 16_777_217),
     ];
     for (place, wanted) in refused {
-        assert_eq!(rt;
-            getinfo(Some(&wish(place, wanted))),
-            Err(Fault::NoData),
+        assert!(rt;
+            getinfo(Some(&wish(place, wanted))) == Err(Fault::NoData),
             "{place} {wanted}"
         );
     }

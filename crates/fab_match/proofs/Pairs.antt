@@ -8,7 +8,7 @@ use Rattle.std.proofs.lemmas.List.Folds.{list_any_none, list_any_at}
 use Rattle.std.proofs.lemmas.List.Quantifiers.{all_pairs_push}
 use Rattle.fab_model.specs.Matching.{remove_first}
 use Rattle.fab_match.specs.Matcher.{first_id, has_id, without, HasDistinctIds}
-use Rattle.fab_match.proofs.Firsts.{list_any-not_found, remove_first-none}
+use Rattle.fab_model.proofs.Firsts.{list_any-not_found, remove_first-none}
 
 module _ {X : Type 0} where
   rest_distinct : (x : ℕ × X) (xs : List (ℕ × X)) → HasDistinctIds (x ∷ xs) → HasDistinctIds xs

@@ -11,7 +11,7 @@ use std::test::Fail;
 use table::{LISTS, Step};
 
 /// What is called.
-#[derive(Clone, Copy, Debug, Drop)]
+#[derive(Clone, Copy, Drop)]
 enum Call {
     Post(u32, Want),
     Arrive(u32, Sign),
@@ -24,7 +24,7 @@ enum Call {
 }
 
 /// What it answers. A receive or a message that may not be added is not, and the answer is `No`.
-#[derive(Clone, Copy, Debug, Drop, Eq, PartialEq)]
+#[derive(Clone, Copy, Drop, Eq, PartialEq)]
 enum Answer {
     Yes,
     No,

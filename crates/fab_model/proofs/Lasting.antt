@@ -9,7 +9,6 @@ use Rattle.fab_base.specs.declared.items.Item.{Item}
 use Rattle.fab_base.specs.declared.peers.Step.{Step}
 use Rattle.fab_base.specs.declared.peers.Step.TheVariants.{Do, Head, Tail, Draw, Final}
 use Rattle.fab_base.specs.declared.peers.LineResult.{LineResult}
-use Rattle.fab_base.specs.declared.script.Line.{Line}
 use Rattle.fab_base.specs.declared.script.LineOp.{LineOp}
 use Rattle.fab_base.specs.declared.script.LineOp.TheVariants.{Wait, Reach}
 use Rattle.fab_model.specs.State.{State}
@@ -18,7 +17,6 @@ use Rattle.fab_model.specs.Orders.{Turn, Leads}
 use Rattle.fab_model.specs.Peers.{Actor, with_state, with_result, next_line, is_again, is_of_ctx, after_call, call_line, wait_line, do_line, do_next, unread, read_next, head_step, tail_step, sent_step, draw_step, final_step, step, fabric}
 use Rattle.fab_model.specs.Views.{View, rule, seen}
 use Rattle.fab_model.proofs.Parts.{some_is, some_same, if_is}
-use Rattle.fab_model.proofs.Passes.{Passes}
 use Rattle.fab_model.proofs.Grows.{StepIs, step_is}
 use Rattle.fab_model.proofs.Turns.{slice_get-set_other, slice_get-set_same}
 

@@ -16,6 +16,7 @@ pub mod Told
 pub mod Names
 pub mod Scripts
 pub mod Tests
+pub mod Firsts
 pub mod Refusals
 pub mod refused
 pub mod rows

@@ -29,7 +29,7 @@ use Rattle.fab_peer.specs.Joined.{actors, schedules, all_facts, opened, Ends}
 use Rattle.fab_peer.specs.declared.fabric.Fabric.{Fabric}
 use Rattle.fab_peer.specs.declared.peer.Peer.{Peer}
 use Rattle.fab_peer.proofs.Arriving.{fits_writing}
-use Rattle.fab_peer.proofs.Firsts.{not_found}
+use Rattle.fab_model.proofs.Firsts.{not_found}
 use Rattle.fab_peer.proofs.Going.{walk_append}
 use Rattle.fab_peer.proofs.Opening.{start_walk_leads}
 

@@ -2,7 +2,6 @@ pub mod Arriving
 pub mod Calling
 pub mod Carrying
 pub mod Doing
-pub mod Firsts
 pub mod Going
 pub mod Halves
 pub mod Open

@@ -68,6 +68,30 @@ settings_for_text h conf payloads =
     ∙ (ap (λ t. settings_text (asked h.caps) ++ (settings_text (Peers conf.peers ∷ []) ++ (settings_text (wished size.Lane h.lane) ++ (settings_text (wished size.Pool h.pool) ++ (settings_text (wished size.Tx h.tx) ++ (settings_text (wished size.Rx h.rx) ++ (settings_text (wished size.Cq h.cq) ++ (settings_text (selected conf.selective) ++ t)))))))) (append-nil files)
     ∙ ap (λ t. settings_text (asked h.caps) ++ (settings_text (Peers conf.peers ∷ []) ++ t)) (sym (sizes_then h rest)))
 
+-- five appends, one for each size
+pub sizes_written : {T E : Type 0} (r : Result T E) (h : Hints) (from lane pool tx rx next : List ℕ)
+    → lane ≡ from ++ settings_text (wished size.Lane h.lane)
+    → pool ≡ lane ++ settings_text (wished size.Pool h.pool)
+    → tx ≡ pool ++ settings_text (wished size.Tx h.tx)
+    → rx ≡ tx ++ settings_text (wished size.Rx h.rx)
+    → OnOk r (next ≡ rx ++ settings_text (wished size.Cq h.cq))
+    → OnOk r (next ≡ from ++ settings_text (sizes h))
+sizes_written (Err x) h from lane pool tx rx next e1 e2 e3 e4 e5 = tt
+sizes_written (Ok x) h from lane pool tx rx next e1 e2 e3 e4 e5 =
+    let a = settings_text (wished size.Lane h.lane) in
+    let b = settings_text (wished size.Pool h.pool) in
+    let c = settings_text (wished size.Tx h.tx) in
+    let d = settings_text (wished size.Rx h.rx) in
+    let e = settings_text (wished size.Cq h.cq) in
+    let two = wrote from lane pool a b e1 e2 in
+    let three = wrote from pool tx (a ++ b) c two e3 in
+    let four = wrote from tx rx ((a ++ b) ++ c) d three e4 in
+    wrote from rx next (((a ++ b) ++ c) ++ d) e four e5
+    ∙ ap (λ t. from ++ t) (append_assoc ((a ++ b) ++ c) d e
+    ∙ (append_assoc (a ++ b) c (d ++ e)
+    ∙ (append_assoc a b (c ++ (d ++ e))
+    ∙ (ap (λ t. a ++ (b ++ (c ++ (d ++ t)))) (sym (append-nil e)) ∙ sym (sizes_text h)))))
+
 -- ---- the parts
 -- after a part, what is written and the parts that are left are still the whole
 pub part_more : (parts : List (List Line)) (i : ℕ) (part : List Line) (now next whole : List ℕ) → i < length parts → part ≡ get_or parts i part → now ++ items_text (items_of i (drop i parts)) ≡ whole → next ≡ now ++ items_text (part_items i part) → next ++ items_text (items_of (i + 1) (drop (i + 1) parts)) ≡ whole

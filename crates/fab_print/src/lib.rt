@@ -4,8 +4,6 @@
 //! lines of each peer that has some. Each line is written by `fab_spell`.
 #![tactic(auto)]
 
-#[cfg(test)]
-mod tests;
 mod writing;
 
 pub use writing::print;

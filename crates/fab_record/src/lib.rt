@@ -8,6 +8,7 @@
 //! equation for each call, and an invariant that ties what is stored to the value.
 #![tactic(auto)]
 
+pub mod caller;
 pub mod record;
 #[cfg(test)]
 mod tests;

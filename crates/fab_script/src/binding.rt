@@ -128,6 +128,3 @@ pub fn bind(script: Script, files: Vec<Buf>) -> Result<Bound, ParseRefused>
         files: List::from_vec(files),
     })
 }
-
-#[cfg(test)]
-mod tests;

@@ -32,8 +32,9 @@ pub fn parse(alloc: Global, bytes: &[u8]) -> Result<Script, ParseRefused>
     read(alloc, Language::Built, bytes)
 }
 
-/// Reads a script whose lines are of this language.
-pub(crate) fn read(alloc: Global, language: Language, bytes: &[u8]) -> Result<Script, ParseRefused>
+/// Reads a script whose lines are of this language (docs/SCRIPT.md): [`parse`] reads those that are carried out today.
+/// An `Err` that is not `NoMemory` names the first line that breaks a rule, and the first rule that it breaks.
+pub fn read(alloc: Global, language: Language, bytes: &[u8]) -> Result<Script, ParseRefused>
     ensures { IsVerdict (verdict language bytes.now) result }
 {
     let mut reader = Reader::new(alloc);

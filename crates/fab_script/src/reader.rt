@@ -230,8 +230,8 @@ impl Reader {
             return Err(Refused::Why(Why::Order));
         }
         let op = read_op(alloc, verb, args)??;
-        in_time(number)?;
-        if self.parts.is_too_much(&op) {
+        // One way out while the line is alive, and not two: each drops it, kind by kind.
+        if is_late(number) || self.parts.is_too_much(&op) {
             return Err(Refused::Why(Why::Limit));
         }
         self.parts.add(Line { number, op })?;
@@ -247,10 +247,16 @@ fn is_header(word: &[u8], args: &mut Words) -> bool
 }
 
 /// A script has at most 100,000 lines.
+fn is_late(number: u32) -> bool
+    ensures { result ≡ is_late number }
+{
+    number > LINES_MAX
+}
+
 fn in_time(number: u32) -> Result<(), Refused>
     ensures { MatchResult result (λ _. is_late number ≡ false) (λ e. (is_late number ≡ true) × (e ≡ Because Limit)) }
 {
-    if number > LINES_MAX {
+    if is_late(number) {
         Err(Refused::Why(Why::Limit))
     } else {
         Ok(())

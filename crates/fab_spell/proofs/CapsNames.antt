@@ -1,7 +1,7 @@
 -- The names of capabilities read as the capabilities again.
 use Rattle.std.proofs.Common.{◌≡◌, ◌≢◌, ℕ, ◌<◌, Bool, true, false, cond, ◌||◌, List, [], ◌∷◌, map, filter, length, Option, Some, None, Result, Ok, Err, sym, ap, ◌∙◌, refl, arith, true≢false}
 use Rattle.std.specs.List.{list_all, slice_split, join_with_byte}
-use Rattle.fab_base.specs.Granted.{has}
+use Rattle.fab_base.specs.Granted.{has, with_cap}
 use Rattle.fab_base.specs.declared.caps.Cap.{Cap}
 use Rattle.fab_base.specs.declared.caps.Cap.TheVariants as cap
 use Rattle.fab_base.specs.declared.caps.Caps.{Caps}
@@ -10,10 +10,10 @@ use Rattle.fab_words.specs.declared.fault.Fault.{Fault}
 use Rattle.fab_words.specs.declared.fault.Fault.TheVariants.{Words}
 use Rattle.fab_words.specs.Written.{is_word}
 use Rattle.fab_words.proofs.CutLemmas.{parts_filled}
-use Rattle.fab_grammar.specs.Capabilities.{cap_name, cap_named, with_cap, add_names, is_comma, caps_of}
+use Rattle.fab_grammar.specs.Capabilities.{cap_name, cap_named, add_names, is_comma, caps_of}
 use Rattle.fab_spell.specs.Headings.{caps_word}
 use Rattle.fab_spell.proofs.Commas.{lacks_comma, split_joined, joined_is_word}
-use Rattle.fab_spell.proofs.Decimals.{and_both}
+use Rattle.std.proofs.lemmas.Bool.{and_from}
 
 -- each name
 
@@ -233,11 +233,11 @@ not_none caps c e none =
 
 each_lacks : (cs : List Cap) → list_all lacks_comma (map cap_name cs) ≡ true
 each_lacks [] = refl
-each_lacks (c ∷ cs) = and_both (lacks_comma (cap_name c)) (list_all lacks_comma (map cap_name cs)) (good_name c).lacks (each_lacks cs)
+each_lacks (c ∷ cs) = and_from (lacks_comma (cap_name c)) (list_all lacks_comma (map cap_name cs)) (good_name c).lacks (each_lacks cs)
 
 each_word : (cs : List Cap) → list_all is_word (map cap_name cs) ≡ true
 each_word [] = refl
-each_word (c ∷ cs) = and_both (is_word (cap_name c)) (list_all is_word (map cap_name cs)) (good_name c).word (each_word cs)
+each_word (c ∷ cs) = and_from (is_word (cap_name c)) (list_all is_word (map cap_name cs)) (good_name c).word (each_word cs)
 
 record GoodNames (cs : List Cap) : Type 0 where
   cut : slice_split is_comma (join_with_byte 44 (map cap_name cs)) ≡ map cap_name cs

@@ -1,5 +1,6 @@
 -- Words that commas join, cut again at the commas.
 use Rattle.std.proofs.Common.{◌≡◌, ℕ, ◌<◌, Bool, true, false, cond, ◌&&◌, not, leb, ltb, eqb, List, [], ◌∷◌, ◌++◌, decimal, codes, append_assoc, append-nil, sym, ◌^◌, ap, ◌∙◌, refl, arith, ne_eqb}
+use Rattle.std.proofs.lemmas.Bool.{and_from}
 use Rattle.std.specs.List.{list_all, slice_split, onto_first, join_with_byte}
 use Rattle.std.specs.Str.Parse.{AllDigits}
 use Rattle.std.proofs.lemmas.List.Folds.{list_all-append}
@@ -8,7 +9,7 @@ use Rattle.fab_words.specs.Rows.{is_filled}
 use Rattle.fab_words.specs.Written.{is_word}
 use Rattle.fab_grammar.specs.Capabilities.{is_comma}
 use Rattle.fab_grammar.proofs.PartLemmas.{and_true}
-use Rattle.fab_spell.proofs.Decimals.{and_both, decimal_digits}
+use Rattle.fab_spell.proofs.Decimals.{decimal_digits}
 
 -- no byte of the word is a comma
 abbrev pub lacks_comma : List ℕ → Bool
@@ -46,7 +47,7 @@ prints word = list_all (λ byte. ltb 32 byte && leb byte 126) word
 
 word_more : (word rest : List ℕ) → is_word word ≡ true → prints rest ≡ true → is_word (word ++ rest) ≡ true
 word_more [] rest e more = cc
-word_more (b ∷ bs) rest e more = list_all-append (λ byte. ltb 32 byte && leb byte 126) (b ∷ bs) rest ∙ and_both (prints (b ∷ bs)) (prints rest) e more
+word_more (b ∷ bs) rest e more = list_all-append (λ byte. ltb 32 byte && leb byte 126) (b ∷ bs) rest ∙ and_from (prints (b ∷ bs)) (prints rest) e more
 
 word_prints : (word : List ℕ) → is_word word ≡ true → prints word ≡ true
 word_prints word e = (and_true (is_filled word) (prints word) e).1
@@ -64,7 +65,7 @@ digits_lack : (ds : List ℕ) → AllDigits 10 ds → lacks_comma ds ≡ true
 digits_lack [] d = refl
 digits_lack (c ∷ cs) d =
     let other : eqb c 44 ≡ false = ne_eqb c 44 (λ e. omega (arith, digit_from_value c d.0)) in
-    and_both (not (is_comma c)) (lacks_comma cs) (ap not other) (digits_lack cs d.1)
+    and_from (not (is_comma c)) (lacks_comma cs) (ap not other) (digits_lack cs d.1)
 
 pub decimal_lacks : (n : ℕ) → n < 2 ^ 64 → lacks_comma (decimal n) ≡ true
 decimal_lacks n h = digits_lack (decimal n) (decimal_digits n h)

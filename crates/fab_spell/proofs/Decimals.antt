@@ -1,5 +1,6 @@
 -- A number that is written in decimal reads again.
-use Rattle.std.proofs.Common.{◌≡◌, ℕ, ◌^◌, ◌<◌, ◌≤◌, ◌⊎◌, inl, inr, Bool, true, false, cond, ◌&&◌, leb, ltb, eqb, List, [], ◌∷◌, length, take, drop, codes, bytes_eq, decimal, Option, Some, None, Result, Ok, Err, ok_or, ap, ◌∙◌, refl, arith, lt-ltb, le-leb, leb-true, ne_eqb}
+use Rattle.std.proofs.Common.{◌≡◌, ℕ, ◌^◌, ◌<◌, ◌≤◌, ◌⊎◌, inl, inr, Bool, true, false, cond, ◌&&◌, leb, eqb, List, [], ◌∷◌, length, take, drop, codes, bytes_eq, decimal, Option, Some, None, Result, Ok, Err, ok_or, ap, ◌∙◌, refl, arith, lt-ltb, le-leb, leb-true, ne_eqb}
+use Rattle.std.proofs.lemmas.Bool.{and_from}
 use Rattle.std.specs.Char.{is_digit, digit_value}
 use Rattle.std.specs.List.{list_all}
 use Rattle.std.specs.Str.Parse.{digits_value, AllDigits}
@@ -8,26 +9,14 @@ use Rattle.std.proofs.lemmas.Fmt.{decimal_is_IsNumeral, length-decimal-le}
 use Rattle.std.proofs.lemmas.Str.Parse.{digit_from_value}
 use Rattle.fab_words.specs.declared.fault.Fault.{Fault}
 use Rattle.fab_words.specs.declared.fault.Fault.TheVariants.{Number, Limit}
-use Rattle.fab_words.specs.Rows.{is_filled}
 use Rattle.fab_words.specs.Words.{only_if, is_numeral, numeral_of, begins_with, number_of, read_number, within, read_up_to, read_index, read_len}
-use Rattle.fab_words.specs.Written.{is_word}
-use Rattle.fab_grammar.specs.Language.{form_of_word, is_any}
 use Rattle.fab_words.proofs.NumberLemmas.{numeral_of_digits}
-
-pub and_both : (a b : Bool) → a ≡ true → b ≡ true → (a && b) ≡ true
-and_both a b p q = grind arith
 
 -- digits
 
 are_digits : (ds : List ℕ) → AllDigits 10 ds → list_all (λ digit. is_digit digit 10) ds ≡ true
 are_digits [] d = refl
-are_digits (c ∷ cs) d = and_both _ _ (lt-ltb _ _ d.0) (are_digits cs d.1)
-
-digits_print : (ds : List ℕ) → AllDigits 10 ds → list_all (λ byte. ltb 32 byte && leb byte 126) ds ≡ true
-digits_print [] d = refl
-digits_print (c ∷ cs) d =
-    let range = digit_from_value c d.0 in
-    and_both _ _ (and_both _ _ (lt-ltb 32 c (omega (arith, range))) (le-leb c 126 (omega (arith, range)))) (digits_print cs d.1)
+are_digits (c ∷ cs) d = and_from _ _ (lt-ltb _ _ d.0) (are_digits cs d.1)
 
 -- no digit
 abbrev pub NoDigit : ℕ → Type 0
@@ -55,14 +44,6 @@ digits_begin_second a c cs (e ∷ []) other d = and_none (eqb e a)
 digits_begin_second a c cs (e ∷ f ∷ ds) other d =
     ap (λ b. eqb e a && (b && bytes_eq (take (length cs) ds) cs)) (other_digit c f other d.1.0) ∙ and_none (eqb e a)
 
-digits_other : (c : ℕ) (cs ds : List ℕ) → NoDigit c → AllDigits 10 ds → bytes_eq ds (c ∷ cs) ≡ false
-digits_other c cs [] other d = refl
-digits_other c cs (e ∷ ds) other d = ap (λ b. b && bytes_eq ds cs) (other_digit c e other d.0)
-
-is_filled_some : (ds : List ℕ) → 0 < length ds → is_filled ds ≡ true
-is_filled_some [] h = absurd (omega arith)
-is_filled_some (c ∷ cs) h = refl
-
 -- the decimal of a number
 
 pub decimal_digits : (n : ℕ) → n < 2 ^ 64 → AllDigits 10 (decimal n)
@@ -74,17 +55,9 @@ numeral_again n h =
     numeral_of_digits 10 20 (decimal n) value.0.0 (length-decimal-le 20 n (omega arith) (omega arith) h) (are_digits (decimal n) value.0.1) (omega (arith, value.1))
     ∙ ap Some value.1
 
-pub decimal_is_word : (n : ℕ) → n < 2 ^ 64 → is_word (decimal n) ≡ true
-decimal_is_word n h =
-    let value = decimal_is_IsNumeral n h in
-    and_both _ _ (is_filled_some (decimal n) value.0.0) (digits_print (decimal n) value.0.1)
-
--- it is not `*`, and begins with no sign
+-- it begins with no sign
 pub decimal_begins : (c : ℕ) (cs : List ℕ) (n : ℕ) → NoDigit c → n < 2 ^ 64 → begins_with (c ∷ cs) (decimal n) ≡ false
 decimal_begins c cs n other h = digits_begin c cs (decimal n) other (decimal_digits n h)
-
-pub decimal_other : (c : ℕ) (cs : List ℕ) (n : ℕ) → NoDigit c → n < 2 ^ 64 → bytes_eq (decimal n) (c ∷ cs) ≡ false
-decimal_other c cs n other h = digits_other c cs (decimal n) other (decimal_digits n h)
 
 pub number_again : (n : ℕ) → n < 2 ^ 64 → number_of (decimal n) ≡ Some n
 unfolding number_of
@@ -160,20 +133,3 @@ read_index_again word n e = read_up_to_again 4294967295 word n e
 pub read_len_again : (word : List ℕ) (n : ℕ) → read_len word ≡ Ok n → read_len (decimal n) ≡ Ok n
 unfolding read_len
 read_len_again word n e = read_up_to_again 33554432 word n e
-
--- a decimal is a form that has no other
-
-pub decimal_form : (n : ℕ) → n < 2 ^ 64 → form_of_word (decimal n) ≡ None
-decimal_form n h =
-    let begins : (c : ℕ) (cs : List ℕ) → NoDigit c → begins_with (c ∷ cs) (decimal n) ≡ false = λ c cs other. decimal_begins c cs n other h in
-    let text : begins_with (codes "text:") (decimal n) ≡ false = begins 116 (codes "ext:") (inr (omega arith)) in
-    let hex : begins_with (codes "hex:") (decimal n) ≡ false = begins 104 (codes "ex:") (inr (omega arith)) in
-    let zeros : begins_with (codes "zero:") (decimal n) ≡ false = begins 122 (codes "ero:") (inr (omega arith)) in
-    let file : begins_with (codes "file:") (decimal n) ≡ false = begins 102 (codes "ile:") (inr (omega arith)) in
-    let imm : begins_with (codes "data=") (decimal n) ≡ false = begins 100 (codes "ata=") (inr (omega arith)) in
-    let level : begins_with (codes "level=") (decimal n) ≡ false = begins 108 (codes "evel=") (inr (omega arith)) in
-    let completion : bytes_eq (decimal n) (codes "completion") ≡ false = decimal_other 99 (codes "ompletion") n (inr (omega arith)) h in
-    rw (text, hex, zeros, file, imm, level, completion) refl
-
-pub decimal_is_any : (n : ℕ) → n < 2 ^ 64 → is_any (decimal n) ≡ false
-decimal_is_any n h = decimal_other 42 [] n (inl (omega arith)) h

@@ -1,5 +1,6 @@
 -- The operand of an atomic reads again as it is written.
 use Rattle.std.proofs.Common.{◌≡◌, ℕ, zero, suc, ◌+◌, ◌-◌, ◌*◌, ◌/◌, ◌^◌, ◌<◌, ◌≤◌, inl, Bool, true, false, cond, ◌&&◌, leb, List, [], ◌∷◌, ◌++◌, map, length, take, drop, codes, decimal, Option, Some, None, Result, Ok, Err, sym, ap, subst, ◌∙◌, refl, arith, le-leb, leb-true, ne_eqb, length-append, length-drop, append_assoc, append-nil}
+use Rattle.std.proofs.lemmas.Bool.{and_from}
 use Rattle.std.specs.List.{list_all, slice_split, join_with_byte}
 use Rattle.std.proofs.Math.Nat.{pow-suc, mul-div_cancel}
 use Rattle.std.proofs.Math.Seq.{take-append_seam, drop-append_seam}
@@ -18,7 +19,8 @@ use Rattle.fab_words.specs.Written.{is_word}
 use Rattle.fab_grammar.specs.Capabilities.{is_comma}
 use Rattle.fab_grammar.specs.Atomics.{greatest, least, is_signed, negated, minus_value, plain_value, value_of, le_bytes, element, add_elements, read_elements, read_elements_count}
 use Rattle.fab_spell.specs.Elements.{value_word, value_words, values_word, count_word}
-use Rattle.fab_spell.proofs.Decimals.{and_both, numeral_again, decimal_begins, decimal_is_word, read_up_to_decimal, read_up_to_small}
+use Rattle.fab_spell.proofs.Decimals.{numeral_again, decimal_begins, read_up_to_decimal, read_up_to_small}
+use Rattle.fab_spell.proofs.Numbers.{is_word-decimal}
 use Rattle.fab_spell.proofs.Commas.{lacks_comma, prints, split_joined, joined_is_word, decimal_lacks}
 
 -- one element
@@ -273,10 +275,10 @@ each_value p plain minus num n fits = by (leb n (greatest num)) refl
 
 all_values : (p : List ℕ → Bool) → ((m : ℕ) → m < 2 ^ 64 → p (decimal m) ≡ true) → ((m : ℕ) → m < 2 ^ 64 → p (45 ∷ decimal m) ≡ true) → (num : Num) (ns : List ℕ) → AllFit num ns → list_all p (map (value_word num) ns) ≡ true
 all_values p plain minus num [] fit = refl
-all_values p plain minus num (n ∷ ns) fit = and_both (p (value_word num n)) (list_all p (map (value_word num) ns)) (each_value p plain minus num n fit.0) (all_values p plain minus num ns fit.1)
+all_values p plain minus num (n ∷ ns) fit = and_from (p (value_word num n)) (list_all p (map (value_word num) ns)) (each_value p plain minus num n fit.0) (all_values p plain minus num ns fit.1)
 
 minus_is_word : (m : ℕ) → m < 2 ^ 64 → is_word (45 ∷ decimal m) ≡ true
-minus_is_word m h = (and_true (is_filled (decimal m)) (prints (decimal m)) (decimal_is_word m h)).1
+minus_is_word m h = (and_true (is_filled (decimal m)) (prints (decimal m)) (is_word-decimal m)).1
 
 record ValuesAgain (num : Num) (bytes : List ℕ) : Type 0 where
   reads : read_elements num (values_word num bytes) ≡ Ok bytes
@@ -294,7 +296,7 @@ values_of_numbers num (n ∷ ns) some fit =
     let cut = split_joined word words (all_values lacks_comma decimal_lacks decimal_lacks num (n ∷ ns) fit) in
     record {
       reads = ap (λ text. add_elements num [] (slice_split is_comma text)) are ∙ ap (add_elements num []) cut ∙ numbers_again num [] (n ∷ ns) fit;
-      word = ap is_word are ∙ joined_is_word word words (all_values is_word decimal_is_word minus_is_word num (n ∷ ns) fit);
+      word = ap is_word are ∙ joined_is_word word words (all_values is_word (λ n h. is_word-decimal n) minus_is_word num (n ∷ ns) fit);
     }
 
 values_read : (num : Num) (word bytes : List ℕ) → read_elements num word ≡ Ok bytes → ValuesAgain num bytes
@@ -321,4 +323,4 @@ pub count_again : (word : List ℕ) (n : ℕ) → read_elements_count word ≡ O
 unfolding read_elements_count
 count_again word n e =
     let small = count_small word n e in
-    (read_up_to_decimal 4194304 n small.0 small.1, (and_true (is_filled (decimal n)) (prints (decimal n)) (decimal_is_word n small.1)).1)
+    (read_up_to_decimal 4194304 n small.0 small.1, (and_true (is_filled (decimal n)) (prints (decimal n)) (is_word-decimal n)).1)

@@ -1,5 +1,6 @@
 -- A setting reads again as it is written.
 use Rattle.std.proofs.Common.{◌≡◌, ℕ, ◌^◌, ◌<◌, Bool, true, false, cond, ◌&&◌, leb, Option, Some, None, List, [], ◌∷◌, decimal, Result, Ok, Err, sym, ap, subst, ◌∙◌, refl}
+use Rattle.std.proofs.lemmas.Bool.{and_from}
 use Rattle.std.specs.List.{list_all}
 use Rattle.std.specs.Str.{is_utf8}
 use Rattle.fab_base.specs.Offer.{limits_of}
@@ -25,7 +26,8 @@ use Rattle.fab_grammar.specs.Settings.{between, size_of, caps_setting, selective
 use Rattle.fab_grammar.specs.Verbs.{kind_of}
 use Rattle.fab_grammar.proofs.PartLemmas.{and_true}
 use Rattle.fab_spell.specs.Headings.{caps_word, setting_verb, setting_args, SettingRead, SettingAgain}
-use Rattle.fab_spell.proofs.Decimals.{and_both, decimal_is_word, decimal_form, read_number_again, read_number_small}
+use Rattle.fab_spell.proofs.Decimals.{read_number_again, read_number_small}
+use Rattle.fab_spell.proofs.Numbers.{is_word-decimal, form-decimal}
 use Rattle.fab_spell.proofs.CapsNames.{caps_again}
 
 -- what holds of the written line in each language
@@ -35,7 +37,7 @@ record Spelled (s : Setting) : Type 0 where
   reads : setting_of (setting_verb s) (setting_args s) ≡ Ok s
 
 alone : (word : List ℕ) → is_word word ≡ true → list_all is_word (word ∷ []) ≡ true
-alone word e = and_both (is_word word) true e refl
+alone word e = and_from (is_word word) true e refl
 
 -- what a part said
 made_of : {A B : Type 0} (f : A → B) (r : Result A Fault) (b : B) → map_ok f r ≡ Ok b → (a : A) × (r ≡ Ok a) × (f a ≡ b)
@@ -69,7 +71,7 @@ size_again size (word ∷ []) n e =
     let said = between_said (limits_of size) (read_number word) n e in
     record {
       reads = ap (between (limits_of size)) (read_number_again word n said ∙ sym said) ∙ e;
-      words = alone (decimal n) (decimal_is_word n (read_number_small word n said));
+      words = alone (decimal n) (is_word-decimal n);
     }
 size_again size (word ∷ next ∷ more) n e = cc
 
@@ -99,7 +101,7 @@ file_again id name p words e =
     let rest = and_true (is_word id) (list_all is_word (name ∷ [])) words in
     record {
       kind = refl;
-      words = and_both (is_word (decimal p.0)) (list_all is_word (p.1 ∷ [])) (decimal_is_word p.0 (read_number_small id p.0 said.0)) (ap (λ w. list_all is_word (w ∷ [])) same ∙ rest.1);
+      words = and_from (is_word (decimal p.0)) (list_all is_word (p.1 ∷ [])) (is_word-decimal p.0) (ap (λ w. list_all is_word (w ∷ [])) same ∙ rest.1);
       reads = ap (λ r. map_ok a_file (r & read_text p.1)) number ∙ ap (λ r. map_ok a_file (Ok p.0 & r)) text;
     }
 
@@ -191,7 +193,7 @@ whole_form (Some form) = refl
 
 whole_words : (args : List (List ℕ)) → list_all (λ word. has_form Whole (form_of_word word)) args ≡ true
 whole_words [] = refl
-whole_words (word ∷ words) = and_both _ _ (whole_form (form_of_word word)) (whole_words words)
+whole_words (word ∷ words) = and_from _ _ (whole_form (form_of_word word)) (whole_words words)
 
 whole_built : (verb : Verb) (args : List (List ℕ)) → is_built Whole verb args ≡ true
 unfolding is_built
@@ -199,7 +201,7 @@ whole_built verb args = rw (whole_form (source_form verb args), whole_form (wait
 
 number_built : (n : ℕ) → n < 2 ^ 64 → is_built Built verb.Peers (decimal n ∷ []) ≡ true
 unfolding is_built
-number_built n h = ap (λ o. has_form Built o && true) (decimal_form n h)
+number_built n h = ap (λ o. has_form Built o && true) (form-decimal n)
 
 peers_built : (args : List (List ℕ)) (s : Setting) → map_ok Peers (size_of size.Peers args) ≡ Ok s → is_built Built (setting_verb s) (setting_args s) ≡ true
 peers_built args s e =

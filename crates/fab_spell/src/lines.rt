@@ -299,6 +299,3 @@ fn add_own_args(out: &mut String, op: &LineOp) -> Result<(), NoMemory>
         _ => Ok(()),
     }
 }
-
-#[cfg(test)]
-mod tests;

@@ -87,6 +87,3 @@ pub fn add_payload(out: &mut String, payload: &Payload) -> Result<(), NoMemory>
     writeln!(out, "payload {} {}", payload.id, payload.name.as_str())?;
     Ok(())
 }
-
-#[cfg(test)]
-mod tests;

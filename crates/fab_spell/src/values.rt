@@ -51,6 +51,3 @@ pub fn add_values(out: &mut String, num: Num, values: &[u8]) -> Result<(), NoMem
     }
     Ok(())
 }
-
-#[cfg(test)]
-mod tests;

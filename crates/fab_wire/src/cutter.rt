@@ -10,7 +10,7 @@ const FRAME_BYTES: u32 = 4096;
 
 /// The frames of an item that are still to come, in order. Contracts see it as the list of their
 /// heads. It keeps nothing of the item's size.
-#[derive(Debug, Drop)]
+#[derive(Drop)]
 pub struct Cutter {
     item: ItemHead,
     /// The place of the next frame's first byte, or `None` after the last frame.

@@ -20,7 +20,7 @@ pub enum Joined {
 
 /// The end of a lane whose frames are taken one by one. Contracts see it as the head of the frame
 /// that was taken last. It keeps no bytes.
-#[derive(Debug, Drop)]
+#[derive(Drop)]
 pub struct Joiner {
     last: Option<FrameHead>,
 }

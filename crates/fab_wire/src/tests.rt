@@ -38,10 +38,10 @@ fn is_cut(rt: &impl Abort, total: u32, count: u32, last: u32)
             from: 4096 * number,
             len,
         };
-        assert_eq!(rt; cutter.next(), Some(head));
+        assert!(rt; cutter.next() == Some(head));
     }
-    assert_eq!(rt; cutter.next(), None);
-    assert_eq!(rt; cutter.next(), None);
+    assert!(rt; cutter.next().is_none());
+    assert!(rt; cutter.next().is_none());
 }
 
 #[test]

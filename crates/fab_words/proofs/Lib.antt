@@ -2,3 +2,4 @@ pub mod CutLemmas
 pub mod WordLemmas
 pub mod NumberLemmas
 pub mod RowLemmas
+mod Worked

@@ -3,7 +3,7 @@ ghost use Rattle.std.specs.Prelude.{◌≡◌};
 ghost use Rattle.fab_words.specs.Faults.{first_fault, ◌&◌};
 
 /// What is wrong with a word, or with the words of a line. The earlier one goes before the later one.
-#[derive(Clone, Copy, Debug, Drop)]
+#[derive(Clone, Copy, Drop)]
 pub enum Fault {
     /// A word is missing, is one too many, or has the wrong form.
     Words,

@@ -23,7 +23,7 @@ impl<'a> Model for Lines<'a> {
 }
 
 impl<'a> Lines<'a> {
-    ghost use Rattle.std.specs.Prelude.{◌≤◌, ◌+◌, [], ◌∷◌, MatchOption};
+    ghost use Rattle.std.specs.Prelude.{◌<◌, ◌+◌, ◌^◌, [], ◌∷◌, MatchOption};
     ghost use Rattle.fab_words.specs.Rows.{lines_of};
 
     pub fn new(bytes: &'a [u8]) -> Lines<'a>
@@ -45,7 +45,7 @@ impl<'a> Lines<'a> {
     /// The next line, with its number.
     #[tactic(auto, using(crate::proofs::RowLemmas::next_line))]
     pub fn next(&mut self) -> Option<(u32, &'a [u8])>
-        requires { self.old.0 ≤ 100000 }
+        requires { self.old.0 + 1 < 2 ^ 32 }
         ensures { MatchOption result ((self.old.1 ≡ []) × (self.new ≡ self.old))
             (λ line. (line.0 ≡ self.old.0 + 1) × (self.new.0 ≡ self.old.0 + 1) × (self.old.1 ≡ line.1.now ∷ self.new.1)) }
     {

@@ -2,7 +2,7 @@ use Rattle.std.proofs.Common.{rules, ◌≡◌, ◌==◌, ◌≢◌, ◌∙◌, 
 use Rattle.std.specs.Prelude.{position}
 use Rattle.std.proofs.lemmas.List.Folds.{list_any_at}
 use Rattle.std.proofs.lemmas.List.Quantifiers.{all_pairs_remove, position-Some}
-use Rattle.fab_match.proofs.Firsts.{remove_first_at, remove_first-none, list_any-none}
+use Rattle.fab_model.proofs.Firsts.{remove_first_at, remove_first-none, list_any-none}
 use Rattle.fab_match.proofs.Pairs.{has_id-without}
 use Rattle.fab_match.proofs.list_matcher.remove_pair.Goals as goal
 

@@ -1,7 +1,7 @@
 use Rattle.std.proofs.Common.{rules, Some, None, ◌≡◌, sym, ap, ◌∙◌}
 use Rattle.std.specs.Prelude.{position}
 use Rattle.fab_model.specs.Sending.{is_of_item}
-use Rattle.fab_peer.proofs.Firsts.{first_at, first_none}
+use Rattle.fab_model.proofs.Firsts.{first_at, first_none}
 use Rattle.fab_peer.proofs.transmitting.take_ended.Goals as goal
 
 pub returns-in_default-clause-found : goal.returns-in_default-clause-found

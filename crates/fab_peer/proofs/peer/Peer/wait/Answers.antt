@@ -1,7 +1,7 @@
 use Rattle.std.proofs.Common.{◌≡◌, None, Some, refl, rules, ◌∙◌}
 use Rattle.std.specs.Prelude.{find}
 use Rattle.fab_model.specs.Peers.{is_of_ctx}
-use Rattle.fab_peer.proofs.Firsts.{not_found}
+use Rattle.fab_model.proofs.Firsts.{not_found}
 use Rattle.fab_peer.proofs.Doing.{does_same, does_wait, wait_work, held_wait}
 use Rattle.fab_peer.proofs.peer.Peer.wait.Goals as goal
 

@@ -2,7 +2,7 @@ use Rattle.std.proofs.Common.{◌∙◌, ap}
 use Rattle.std.specs.Prelude.{is_some}
 use Rattle.fab_model.specs.Matching.{takes}
 use Rattle.fab_peer.specs.Endpoints.{IsWhole}
-use Rattle.fab_peer.proofs.Firsts.{is_some-position, IfSome-find}
+use Rattle.fab_model.proofs.Firsts.{is_some-position, IfSome-find}
 use Rattle.fab_peer.proofs.Calling.{none_draws}
 use Rattle.fab_peer.proofs.receiving.Inbox.has.Goals as goal
 

@@ -1,7 +1,7 @@
 use Rattle.std.proofs.Common.{◌∙◌, ap, refl}
 use Rattle.std.specs.Prelude.{is_some}
 use Rattle.fab_model.specs.Arrivals.{is_wanted}
-use Rattle.fab_peer.proofs.Firsts.{is_some-position}
+use Rattle.fab_model.proofs.Firsts.{is_some-position}
 use Rattle.fab_peer.proofs.Calling.{none_draws}
 use Rattle.fab_peer.proofs.receiving.Inbox.is_wanted.Goals as goal
 

@@ -1,6 +1,6 @@
 use Rattle.fab_model.specs.Matching.{takes}
 use Rattle.fab_peer.specs.Endpoints.{IsWhole}
-use Rattle.fab_peer.proofs.Firsts.{All-remove_first, IfSome-find}
+use Rattle.fab_model.proofs.Firsts.{All-remove_first, IfSome-find}
 use Rattle.fab_peer.proofs.receiving.Inbox.take_unexpected.Goals as goal
 
 pub invariant_of-self : goal.invariant_of-self

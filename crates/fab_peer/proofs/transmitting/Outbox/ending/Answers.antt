@@ -2,7 +2,7 @@ use Rattle.std.proofs.Common.{rules, Some, None, ◌≡◌, ◌<◌, length, ari
 use Rattle.std.specs.Prelude.{position, slice_index}
 use Rattle.std.proofs.lemmas.List.{get_or_default}
 use Rattle.fab_model.specs.Sending.{is_of_item}
-use Rattle.fab_peer.proofs.Firsts.{first_at, first_none}
+use Rattle.fab_model.proofs.Firsts.{first_at, first_none}
 use Rattle.fab_peer.proofs.transmitting.Outbox.ending.Goals as goal
 
 pub returns-in_default-clause-none : goal.returns-in_default-clause-none

@@ -1,0 +1,190 @@
+-- A message is accepted, and goes out as far as it may.
+use Rattle.std.proofs.Common.{◌⊎◌, inl, inr, ◌≡◌, ◌≢◌, ◌<◌, ◌≤◌, ◌+◌, ℕ, zero, suc, Bool, true, false, ◌||◌, List, [], ◌∷◌, ◌++◌, length, length-append, get_or-set_same, get_or-set_other, append-nil, Option, Some, None, refl, sym, ap, ◌∙◌, subst, arith}
+use Rattle.std.specs.Prelude.{slice_index, slice_index_or, slice_get, slice_set}
+use Rattle.std.specs.List.{list_any}
+use Rattle.std.proofs.lemmas.Bool.{cases_eq}
+use Rattle.std.proofs.lemmas.Option.{slice_get_within}
+use Rattle.fab_base.specs.declared.faults.Fault.{Fault}
+use Rattle.fab_base.specs.declared.frames.Frame.{Frame}
+use Rattle.fab_base.specs.declared.items.Item.{Item}
+use Rattle.fab_base.specs.declared.peers.LineResult.{LineResult}
+use Rattle.fab_base.specs.declared.peers.LineResult.TheVariants.{Done, Refused}
+use Rattle.fab_wire.specs.Joined.{is_last}
+use Rattle.fab_model.specs.State.{State, accepted_for, fits, lookup}
+use Rattle.fab_model.specs.Sending.{Order, item_of, transmit_fault, transmit, transmit_to, accepting, do_sent}
+use Rattle.fab_model.specs.Calls.{Call, Transmit, answer, do_call}
+use Rattle.fab_face.specs.Held.{Held, Lanes, Seen, next_item, next_frame}
+use Rattle.fab_face.specs.Acts.{Act, Did, Took, Posted, Drew, Had, Departs, DoesCall, GoesBy, Ported, Went, is_post, posted_to}
+use Rattle.fab_face.specs.Answers.{AllAre, SawFull, Sends}
+use Rattle.fab_face.specs.Machine.{StayNext}
+use Rattle.fab_face.proofs.Joining.{went_then}
+use Rattle.fab_ep.specs.Tries.{IsTied}
+use Rattle.fab_ep.specs.Sends.{Admits, LetsOut, IsOnly, IsFree}
+use Rattle.fab_ep.proofs.Admitting.{went_as, posts_keep}
+use Rattle.fab_ep.proofs.Pushing.{any_append}
+use Rattle.fab_ep.proofs.Sent.{sent_next}
+use Rattle.fab_ep.proofs.Taking.{placed_next}
+use Rattle.fab_ep.proofs.Turning.{rose_on}
+
+-- ---- what the machine makes of the call
+
+done_by : (fault : Option Fault) (s after t : State) → answer fault s after ≡ (Done, t) → t ≡ after
+done_by None s after t is = sym (ap (λ x. x.1) is)
+done_by (Some why) s after t is = absurd (cc (ap (λ x. x.0) is))
+
+is_transmitted : (s t : State) (o : Order) → do_call s (Transmit o) ≡ (Done, t) → t ≡ transmit s o
+unfolding do_call
+is_transmitted s t o is = done_by (transmit_fault s o) s (transmit s o) t is
+
+-- one item joins those accepted for a peer, at most, and nothing is transmitted
+pub record Joins (s u : State) : Type 0 where
+  pub sent : u.tx.sent ≡ s.tx.sent
+  pub accepted : (d : ℕ) → d < length s.tx.accepted → (more : List Item) × (accepted_for u.tx d ≡ accepted_for s.tx d ++ more) × (length more ≤ 1)
+
+joins_same : (s : State) → Joins s s
+joins_same s = record { sent = refl; accepted = λ d below. ([], sym (append-nil (accepted_for s.tx d)), omega arith) }
+
+joins_to : (s : State) (o : Order) (t : ℕ) → Joins s (transmit_to t s o)
+unfolding transmit_to accepting
+joins_to s o t = record {
+  sent = refl;
+  accepted = λ d below. elim (cases_eq d t) [
+    | inl here ↦ (item_of s.tx.ops o ∷ [], rw here (get_or-set_same s.tx.accepted t (accepted_for s.tx t ++ item_of s.tx.ops o ∷ []) [] (subst (λ n. n < length s.tx.accepted) here below)), omega arith)
+    | inr other ↦ ([], get_or-set_other s.tx.accepted t d (accepted_for s.tx t ++ item_of s.tx.ops o ∷ []) [] other ∙ sym (append-nil (accepted_for s.tx d)), omega arith)
+  ];
+}
+
+joins_by : (s : State) (o : Order) (at : Option ℕ) → lookup s.av o.dest ≡ at → Joins s (transmit s o)
+unfolding transmit
+joins_by s o None is = rw (is, transmit) (joins_same s)
+joins_by s o (Some t) is = rw (is, transmit) (joins_to s o t)
+
+pub joins : (s t : State) (o : Order) → do_call s (Transmit o) ≡ (Done, t) → Joins s t
+joins s t o is = subst (λ (x : State). Joins s x) (sym (is_transmitted s t o is)) (joins_by s o (lookup s.av o.dest) refl)
+
+get_append : {X : Type 0} (xs ys : List X) (k : ℕ) (x : X) → slice_get xs k ≡ Some x → slice_get (xs ++ ys) k ≡ Some x
+get_append [] ys k x is = absurd (cc)
+get_append (y ∷ xs) ys zero x is = is
+get_append (y ∷ xs) ys (suc k) x is = get_append xs ys k x is
+
+past_end : {X : Type 0} (xs : List X) (k : ℕ) → slice_get xs k ≡ None → length xs ≤ k
+past_end [] k is = omega arith
+past_end (x ∷ xs) zero is = absurd (cc)
+past_end (x ∷ xs) (suc k) is = (let more = past_end xs k is in omega (arith, more))
+
+-- what is next stays so
+pub next_stays : (s u : State) (d : ℕ) (item : Item) → d < length s.tx.accepted → Joins s u → next_item s d ≡ Some item → next_item u d ≡ Some item
+next_stays s u d item below j is =
+    let more = j.accepted d below in
+    rw (j.sent, more.1) (get_append (accepted_for s.tx d) more.0 (slice_index s.tx.sent d) item is)
+
+-- where nothing waited, one item waits at most
+pub only_one : (h t : Held) (d : ℕ) → d < length h.state.tx.accepted → Joins h.state t.state → next_item h.state d ≡ None → IsOnly t d
+only_one h t d below j none =
+    let more = j.accepted d below in
+    let end = past_end (accepted_for h.state.tx d) (slice_index h.state.tx.sent d) none in
+    let sent = ap (λ xs. slice_index xs d) j.sent in
+    let l = ap length more.1 ∙ length-append (accepted_for h.state.tx d) more.0 in
+    let few = more.2 in
+    omega (arith, end, sent, l, few)
+
+-- ---- between calls
+
+none_stays : (acts : List Act) (h k : Held) (d : ℕ) → AllAre is_post acts → GoesBy None h acts k → next_item h.state d ≡ None → next_item k.state d ≡ None
+none_stays [] h k d are goes none = subst (λ (x : Held). next_item x.state d ≡ None) goes none
+none_stays (Did ∷ acts) h k d are goes none = absurd (cc)
+none_stays (Took source f ∷ acts) h k d are goes none = absurd (cc)
+none_stays (Posted t f ∷ acts) h k d are (mid, one, rest) none = none_stays acts mid k d are rest (by (is_last f.head) (cases_eq d t) one.3)
+  where
+    by : (last : Bool) → (d ≡ t) ⊎ (d ≢ t) → Departs last h t (f.head.from + f.head.len) mid → next_item mid.state d ≡ None
+    by last (inl is) departs = absurd (cc (rw (← is, none) at one.2))
+    by true (inr other) (room, at) = rw at (sent_next h.state t d other ∙ none)
+    by false (inr other) at = rw at none
+none_stays (Drew ∷ acts) h k d are goes none = absurd (cc)
+none_stays (Had ∷ acts) h k d are goes none = absurd (cc)
+
+none_item : (h : Held) (d : ℕ) → next_frame h d ≡ None → next_item h.state d ≡ None
+none_item h d none = by (next_item h.state d) refl
+  where
+    by : (o : Option Item) → next_item h.state d ≡ o → next_item h.state d ≡ None
+    by None is = is
+    by (Some item) is = absurd (cc (rw is at none))
+
+module _ {Home : Type 0} where
+  pub tied_did : (a b : Seen Home) → IsTied a → ((d : ℕ) (item : Item) → d < a.lanes.peers → next_item a.held.state d ≡ Some item → next_item b.held.state d ≡ Some item) → b.held.places ≡ a.held.places → b.held.begun ≡ a.held.begun
+      → length b.log ≤ b.log_size → b.log_size ≡ a.log_size → b.lanes ≡ a.lanes → IsTied b
+  tied_did a b tied stays places begun within size lanes = record {
+    log = rw size tied.log;
+    within = within;
+    peers = ap length places ∙ tied.peers ∙ sym (ap (λ (x : Lanes Home). x.peers) lanes);
+    posted = λ d lt. (let below : d < a.lanes.peers = subst (λ (x : Lanes Home). d < x.peers) lanes lt in
+        rw (lanes, places) (placed_next _ _ _ _ (λ item is. stays d item below is) (tied.posted d below)));
+    taken = λ s lt. (let below : s < a.lanes.peers = subst (λ (x : Lanes Home). s < x.peers) lanes lt in rw (lanes, begun) (tied.taken s below));
+  }
+
+  pub tied_accepted : (a b : Seen Home) (o : Order) → IsTied a → length a.held.state.tx.accepted ≡ length a.held.places → DoesCall (Some (Transmit o)) a.held b.held → b.log ≡ a.log → b.log_size ≡ a.log_size → b.lanes ≡ a.lanes → IsTied b
+  tied_accepted a b o tied all does log size lanes =
+      tied_did a b tied (λ d item lt is. next_stays a.held.state b.held.state d item (let p = tied.peers in omega (arith, lt, all, p)) (joins a.held.state b.held.state o does.0) is)
+      (ap (λ (h : Held). h.places) does.1) (ap (λ (h : Held). h.begun) does.1) (rw (log, size) tied.within) size lanes
+
+  -- ---- the whole call
+
+  full_by : (a e b : Lanes Home) (acts : List Act) (d : ℕ) → Ported a e acts → SawFull e b d → SawFull a b d
+  full_by a e b acts d ported saw = record {
+    rose = elim saw.rose [ inl r ↦ inl (rose_on _ _ _ (ported.lane_full d) r) | inr r ↦ inr (rose_on _ _ _ (ported.pool_full d) r) ];
+    at_end = saw.at_end;
+  }
+
+  pub only_after : (m e : Seen Home) (o : Order) (dest t : ℕ) → IsFree m dest t → Went (Some (Transmit o)) m e (Did ∷ []) → IsOnly e.held t
+  only_after m e o dest t free did =
+      let goes = did.goes in
+      let does : DoesCall (Some (Transmit o)) m.held goes.0 = goes.1 in
+      let to : goes.0 ≡ e.held = goes.2 in
+      subst (λ (x : Held). IsOnly x t) to (only_one m.held goes.0 t free.listed (joins m.held.state goes.0.state o does.0) free.free)
+
+  pub sends_out : (fixed : Bool) (o : Order) (a m e b : Seen Home) (dest t : ℕ) → Admits (Transmit o) a m → IsFree m dest t → Went (Some (Transmit o)) m e (Did ∷ []) → e.pushed ≡ m.pushed → LetsOut fixed e b t → Sends fixed (Transmit o) dest a b
+  sends_out fixed o a m e b dest t admits free did same out =
+      let call = Transmit o in
+      let before = went_as (Some call) a m admits.acts admits.push admits.went in
+      let after = went_as (Some call) e b out.acts out.posts out.went in
+      let whole = went_then (Some call) a m b admits.acts (Did ∷ out.acts) before (went_then (Some call) m e b (Did ∷ []) out.acts did after) in
+      let till = went_then (Some call) a m e admits.acts (Did ∷ []) before did in
+      let keep = posts_keep None admits.acts a.held m.held admits.push (let went = admits.went in went.goes) in
+      let peer : (k : ℕ) → lookup a.held.state.av dest ≡ Some k → k ≡ t = λ k at. (let x : Some k ≡ Some t = sym at ∙ ap (λ av. lookup av dest) (sym keep.av) ∙ free.at in cc) in
+      record {
+        before = admits.acts;
+        after = out.acts;
+        push = admits.push;
+        posts = out.posts;
+        went = whole;
+        pushed = out.pushed ∙ ap (λ x. x || list_any is_post out.acts) (same ∙ admits.pushed) ∙ sym (any_append is_post admits.acts (Did ∷ out.acts));
+        places = admits.places;
+        only_if_full = admits.only_if_full;
+        own = λ k d at other. out.own d (λ is. other (is ∙ sym (peer k at)));
+        goes_out = λ k at none f next. (
+            let is = peer k at in
+            let held = out.held f (subst (λ x. next_frame b.held x ≡ Some f) is next) in
+            rw is (elim held [ inl full ↦ inl (full_by a.lanes e.lanes b.lanes (admits.acts ++ Did ∷ []) t till.ported full) | inr rest ↦ inr rest ]));
+      }
+
+  pub sends_later : (fixed : Bool) (o : Order) (a m e : Seen Home) (dest : ℕ) → Admits (Transmit o) a m → ((t : ℕ) → lookup m.held.state.av dest ≡ Some t → next_item m.held.state t ≢ None) → Went (Some (Transmit o)) m e (Did ∷ []) → e.pushed ≡ m.pushed → Sends fixed (Transmit o) dest a e
+  sends_later fixed o a m e dest admits waits did same =
+      let call = Transmit o in
+      let before = went_as (Some call) a m admits.acts admits.push admits.went in
+      let keep = posts_keep None admits.acts a.held m.held admits.push (let went = admits.went in went.goes) in
+      record {
+        before = admits.acts;
+        after = [];
+        push = admits.push;
+        posts = refl;
+        went = went_then (Some call) a m e admits.acts (Did ∷ []) before did;
+        pushed = same ∙ admits.pushed ∙ sym (any_append is_post admits.acts (Did ∷ []) ∙ or_none (list_any is_post admits.acts));
+        places = admits.places;
+        only_if_full = admits.only_if_full;
+        own = λ k d at other. refl;
+        goes_out = λ k at none f next. absurd (waits k (ap (λ av. lookup av dest) keep.av ∙ at) (none_stays admits.acts a.held m.held k admits.push (let went = admits.went in went.goes) (none_item a.held k none)));
+      }
+    where
+      or_none : (b : Bool) → (b || false) ≡ b
+      or_none true = refl
+      or_none false = refl

@@ -1,0 +1,80 @@
+-- With each frame posted to a peer, less waits for it.
+use Rattle.std.proofs.Common.{◌⊎◌, inl, inr, ◌≡◌, ◌≢◌, ◌<◌, ◌≤◌, ◌+◌, ◌-◌, min, ℕ, suc, Bool, true, false, List, [], ◌∷◌, length, drop, get_or-set_same, Option, Some, None, refl, sym, ap, ◌∙◌, subst, arith}
+use Rattle.std.specs.Prelude.{slice_get, slice_index, slice_set}
+use Rattle.std.specs.List.{sum_by}
+use Rattle.std.proofs.Math.Seq.{drop-cons}
+use Rattle.std.proofs.lemmas.Option.{slice_get_within, get_or_from_slice_get}
+use Rattle.std.proofs.lemmas.List.Sums.{sum_by-cons}
+use Rattle.std.proofs.lemmas.Bool.{eqb-false}
+use Rattle.std.specs.Option.{option_map}
+use Rattle.fab_base.specs.declared.frames.Frame.{Frame}
+use Rattle.fab_base.specs.declared.items.Item.{Item}
+use Rattle.fab_wire.specs.Joined.{is_last}
+use Rattle.fab_model.specs.State.{State, accepted_for}
+use Rattle.fab_model.specs.Sending.{do_sent}
+use Rattle.fab_face.specs.Held.{Held, IsOut, piece, next_item, next_frame}
+use Rattle.fab_face.specs.Acts.{Departs, Goes, GoesBy, Posted, Went}
+use Rattle.fab_face.specs.Held.{Seen}
+use Rattle.std.proofs.Common.{Ok}
+use Rattle.fab_ep.specs.declared.endpoint.Tried.{Tried}
+use Rattle.fab_ep.specs.declared.endpoint.Tried.TheVariants.{Moved, Nothing, Held as HeldBack, Short}
+use Rattle.fab_ep.specs.Tries.{PushesOut, has_moved, left_of, left_for}
+use Rattle.fab_ep.proofs.Sent.{sent_accepted, sent_sent}
+use Rattle.fab_ep.proofs.Posting.{place_within}
+
+pub drop_here : {X : Type 0} (xs : List X) (k : ℕ) (x : X) → slice_get xs k ≡ Some x → drop k xs ≡ x ∷ drop (k + 1) xs
+drop_here xs k x at =
+    let e : k + 1 ≡ suc k = omega arith in
+    rw e (drop-cons xs k x (slice_get_within xs k x at) ∙ ap (λ y. y ∷ drop (suc k) xs) (get_or_from_slice_get xs k x x at))
+
+-- the item that the frame is of
+of_next : (h : Held) (d : ℕ) (f : Frame) → next_frame h d ≡ Some f → (item : Item) × (next_item h.state d ≡ Some item) × (piece item (slice_index h.places d) ≡ f)
+of_next h d f next = by (next_item h.state d) refl
+  where
+    by : (o : Option Item) → next_item h.state d ≡ o → (item : Item) × (next_item h.state d ≡ Some item) × (piece item (slice_index h.places d) ≡ f)
+    by None none = absurd (cc (rw none at next))
+    by (Some item) some = (item, some, (let same : Some (piece item (slice_index h.places d)) ≡ Some f = (rw some at next) in cc))
+
+-- what waits, where this item is the first
+left_here : (h : Held) (d : ℕ) (item : Item) (place : ℕ) → next_item h.state d ≡ Some item
+    → left_of (drop (slice_index h.state.tx.sent d) (accepted_for h.state.tx d)) place ≡ item.head.total + 1 + sum_by (λ i. i.head.total + 1) (drop (slice_index h.state.tx.sent d + 1) (accepted_for h.state.tx d)) - place
+left_here h d item place next =
+    ap (λ items. left_of items place) (drop_here (accepted_for h.state.tx d) (slice_index h.state.tx.sent d) item next)
+    ∙ ap (λ n. n - place) (sum_by-cons (λ (i : Item). i.head.total + 1) item (drop (slice_index h.state.tx.sent d + 1) (accepted_for h.state.tx d)))
+
+falls : (last : Bool) (h t : Held) (d : ℕ) (item : Item) → IsOut h → d < length h.places → d < length h.state.tx.sent → next_item h.state d ≡ Some item
+    → is_last (piece item (slice_index h.places d)).head ≡ last
+    → Departs last h d ((piece item (slice_index h.places d)).head.from + (piece item (slice_index h.places d)).head.len) t → left_for t d < left_for h d
+falls true h t d item out in_places in_sent next is (room, at) =
+    let place = slice_index h.places d in
+    let within = place_within h d item place refl out next in
+    let old = left_here h d item place next in
+    let accepted = sent_accepted h.state d in
+    let sent : slice_index (do_sent h.state d).tx.sent d ≡ slice_index h.state.tx.sent d + 1 = rw (sent_sent h.state d) (get_or-set_same h.state.tx.sent d (slice_index h.state.tx.sent d + 1) 0 in_sent) in
+    let new : left_for t d ≡ sum_by (λ (i : Item). i.head.total + 1) (drop (slice_index h.state.tx.sent d + 1) (accepted_for h.state.tx d)) - 0 =
+    ap (λ (x : Held). left_for x d) at ∙ rw (accepted, sent, get_or-set_same h.places d 0 0 in_places) refl in
+    omega (arith, old, new, within)
+falls false h t d item out in_places in_sent next is at =
+    let place = slice_index h.places d in
+    let within = place_within h d item place refl out next in
+    let unlike : place + min 4096 (item.head.total - place) ≢ item.head.total = eqb-false _ _ is in
+    let old = left_here h d item place next in
+    let new : left_for t d ≡ item.head.total + 1 + sum_by (λ (i : Item). i.head.total + 1) (drop (slice_index h.state.tx.sent d + 1) (accepted_for h.state.tx d)) - (place + min 4096 (item.head.total - place)) =
+    ap (λ (x : Held). left_for x d) at ∙ rw (get_or-set_same h.places d (place + min 4096 (item.head.total - place)) 0 in_places) (left_here h d item (place + min 4096 (item.head.total - place)) next) in
+    omega (arith, old, new, within, unlike)
+
+pub left_falls : {Home : Type 0} (a b : Seen Home) (d : ℕ) (f : Frame) → IsOut a.held → Went None a b (Posted d f ∷ []) → left_for b.held d < left_for a.held d
+left_falls a b d f out went =
+    let goes = went.goes in
+    let step : Goes None a.held (Posted d f) goes.0 = goes.1 in
+    let item = of_next a.held d f step.2 in
+    let to : goes.0 ≡ b.held = goes.2 in
+    subst (λ (x : Held). left_for x d < left_for a.held d) to
+    (falls (is_last f.head) a.held goes.0 d item.0 out step.0 step.1 item.1 (ap (λ (x : Frame). is_last x.head) item.2)
+    (subst (λ (x : Frame). Departs (is_last f.head) a.held d (x.head.from + x.head.len) goes.0) (sym item.2) step.3))
+
+pub falls_pushed : {Home : Type 0} (a b : Seen Home) (d : ℕ) (t : Tried) → IsOut a.held → PushesOut a b d (Ok t) → has_moved t ≡ true → left_for b.held d < left_for a.held d
+falls_pushed a b d Moved out (f, went) is = left_falls a b d f out went
+falls_pushed a b d Nothing out tries is = absurd (cc)
+falls_pushed a b d HeldBack out tries is = absurd (cc)
+falls_pushed a b d Short out tries is = absurd (cc)

@@ -1,0 +1,137 @@
+-- What goes out at once of an item that was just accepted.
+use Rattle.std.proofs.Common.{◌⊎◌, inl, inr, ◌≡◌, ◌≢◌, ◌<◌, ◌≤◌, ◌+◌, ℕ, Bool, true, false, ◌||◌, List, [], ◌∷◌, ◌++◌, length, length-append, get_or-set_same, append-nil, Option, Some, None, Result, Ok, Err, refl, sym, ap, ◌∙◌, subst, arith}
+use Rattle.std.specs.Prelude.{slice_index, slice_get, OnErr}
+use Rattle.std.specs.List.{list_any, flat_map}
+use Rattle.std.proofs.lemmas.Grind.{flat_map-append}
+use Rattle.std.proofs.lemmas.Bool.{and_from}
+use Rattle.std.proofs.lemmas.List.Folds.{list_all-append}
+use Rattle.std.proofs.lemmas.Option.{slice_get_past}
+use Rattle.fab_base.specs.declared.faults.NoMemory.{NoMemory}
+use Rattle.fab_base.specs.declared.frames.Frame.{Frame}
+use Rattle.fab_wire.specs.Joined.{is_last}
+use Rattle.fab_model.specs.State.{State, accepted_for, fits}
+use Rattle.fab_model.specs.Sending.{do_sent}
+use Rattle.fab_face.specs.declared.events.Event.{Event}
+use Rattle.fab_face.specs.declared.events.Event.TheVariants.{Sent as Transmitted}
+use Rattle.fab_face.specs.Held.{Held, Seen, next_item, next_frame}
+use Rattle.fab_face.specs.Acts.{Act, Posted, Departs, Goes, Went, only, is_post, posted_to, posted_by}
+use Rattle.fab_face.specs.Answers.{AllAre, SawFull, NextLacks}
+use Rattle.fab_face.proofs.Joining.{went_none, went_then, ported_same}
+use Rattle.fab_ep.specs.declared.endpoint.Tried.{Tried}
+use Rattle.fab_ep.specs.declared.endpoint.Tried.TheVariants.{Moved, Nothing, Held as HeldBack, Short}
+use Rattle.fab_ep.specs.Tries.{Calm, PostsOut, has_moved, left_for}
+use Rattle.fab_ep.specs.Sends.{IsOnly, IsHeldOut, LetsOutOne, LetsOut}
+use Rattle.fab_ep.proofs.Posting.{other_peer}
+use Rattle.fab_ep.proofs.Pushing.{or_true, or_false, any_append}
+use Rattle.fab_ep.proofs.Sent.{sent_accepted, sent_sent}
+use Rattle.fab_ep.proofs.Turning.{went_calm, full_on}
+use Rattle.fab_ep.proofs.Falling.{left_falls}
+use Rattle.fab_face.specs.Held.{IsOut}
+
+-- ---- the last frame of the only item
+
+none_waits : (last : Bool) (h t : Held) (d place : ℕ) → IsOnly h d → d < length h.state.tx.sent → Departs last h d place t → last ≡ true → next_item t.state d ≡ None
+none_waits true h t d place one in_sent (room, at) is =
+    let accepted = sent_accepted h.state d in
+    let sent : slice_index (do_sent h.state d).tx.sent d ≡ slice_index h.state.tx.sent d + 1 = rw (sent_sent h.state d) (get_or-set_same h.state.tx.sent d (slice_index h.state.tx.sent d + 1) 0 in_sent) in
+    rw (at, accepted, sent) (slice_get_past (accepted_for h.state.tx d) (slice_index h.state.tx.sent d + 1) one)
+none_waits false h t d place one in_sent departs is = absurd (cc)
+
+still_only : (last : Bool) (h t : Held) (d place : ℕ) → IsOnly h d → d < length h.state.tx.sent → Departs last h d place t → IsOnly t d
+still_only true h t d place one in_sent (room, at) =
+    let accepted = sent_accepted h.state d in
+    let sent : slice_index (do_sent h.state d).tx.sent d ≡ slice_index h.state.tx.sent d + 1 = rw (sent_sent h.state d) (get_or-set_same h.state.tx.sent d (slice_index h.state.tx.sent d + 1) 0 in_sent) in
+    rw (at, accepted, sent) (omega (arith, one))
+still_only false h t d place one in_sent at = rw at one
+
+some_frame : (o : Option Frame) (f : Frame) → o ≡ Some f → o ≢ None
+some_frame o f is none = absurd (cc (rw is at none))
+
+none_next : (h : Held) (d : ℕ) → next_item h.state d ≡ None → next_frame h d ≡ None
+none_next h d none = rw none refl
+
+not_true_out : (b : Bool) → b ≢ true → b ≡ false
+not_true_out true other = absurd (other refl)
+not_true_out false other = refl
+
+module _ {Home : Type 0} where
+  -- between frames: what is posted so far, and a place in the log as long as something waits
+  pub record Letting (a e : Seen Home) (d : ℕ) : Type 0 where
+    pub acts : List Act
+    pub posts : AllAre is_post acts
+    pub went : Went None a e acts
+    pub pushed : e.pushed ≡ (a.pushed || list_any is_post acts)
+    pub own : (k : ℕ) → k ≢ d → posted_to k acts ≡ []
+    pub one : IsOnly e.held d
+    pub place : next_frame e.held d ≢ None → length e.log + 1 ≤ e.log_size
+
+  pub letting_none : (a : Seen Home) (d : ℕ) → IsOnly a.held d → length a.log + 1 ≤ a.log_size → Letting a a d
+  letting_none a d one place = record {
+    acts = [];
+    posts = refl;
+    went = went_none None a a refl refl refl (ported_same a.lanes a.lanes refl);
+    pushed = sym (or_false a.pushed);
+    own = λ k other. refl;
+    one = one;
+    place = λ some. place;
+  }
+
+  place_after : (last : Bool) (e e1 : Seen Home) (d : ℕ) (f : Frame) → is_last f.head ≡ last → IsOnly e.held d → d < length e.held.state.tx.sent → Departs last e.held d (f.head.from + f.head.len) e1.held
+      → (length e.log + 1 ≤ e.log_size) → e1.log ≡ e.log ++ only (is_last f.head) (Transmitted d) → e1.log_size ≡ e.log_size → next_frame e1.held d ≢ None → length e1.log + 1 ≤ e1.log_size
+  place_after true e e1 d f is one in_sent departs place log size some = absurd (some (none_next e1.held d (none_waits true e.held e1.held d (f.head.from + f.head.len) one in_sent departs refl)))
+  place_after false e e1 d f is one in_sent departs place log size some =
+      let same : e1.log ≡ e.log = log ∙ ap (λ b. e.log ++ only b (Transmitted d)) is ∙ append-nil e.log in
+      rw (same, size) place
+
+  pub letting_on : (a e e1 : Seen Home) (d : ℕ) (fixed : Bool) → Letting a e d → LetsOutOne fixed e e1 d true → Letting a e1 d
+  letting_on a e e1 d fixed was ((f, went), flag) =
+      let goes = went.goes in
+      let step : Goes None e.held (Posted d f) goes.0 = goes.1 in
+      let to : goes.0 ≡ e1.held = goes.2 in
+      let some : next_frame e.held d ≢ None = some_frame (next_frame e.held d) f step.2 in
+      let departs : Departs (is_last f.head) e.held d (f.head.from + f.head.len) e1.held = subst (λ (x : Held). Departs (is_last f.head) e.held d (f.head.from + f.head.len) x) to step.3 in
+      let log : e1.log ≡ e.log ++ only (is_last f.head) (Transmitted d) = went.log ∙ ap (λ es. e.log ++ es) (append-nil (only (is_last f.head) (Transmitted d))) in
+      record {
+        acts = was.acts ++ Posted d f ∷ [];
+        posts = list_all-append is_post was.acts (Posted d f ∷ []) ∙ and_from _ _ was.posts refl;
+        went = went_then None a e e1 was.acts (Posted d f ∷ []) was.went went;
+        pushed = flag ∙ sym (ap (λ b. a.pushed || b) (any_append is_post was.acts (Posted d f ∷ []) ∙ or_true (list_any is_post was.acts)) ∙ or_true a.pushed);
+        own = λ k other. flat_map-append (posted_by k) was.acts (Posted d f ∷ []) ∙ rw (was.own k other, other_peer d k other) refl;
+        one = still_only (is_last f.head) e.held e1.held d _ was.one step.1 departs;
+        place = place_after (is_last f.head) e e1 d f refl was.one step.1 departs (was.place some) log went.size;
+      }
+
+  pub letting_end : (fixed : Bool) (a e e1 : Seen Home) (d : ℕ) → Letting a e d → LetsOutOne fixed e e1 d false → LetsOut fixed a e1 d
+  letting_end fixed a e e1 d was (calm, held, flag) = record {
+    acts = was.acts;
+    posts = was.posts;
+    went = went_calm a e e1 was.acts was.went calm;
+    pushed = flag ∙ was.pushed;
+    own = was.own;
+    held = λ f next. elim (held f next) [ inl full ↦ inl (full_on a e e1 was.acts d was.went full) | inr rest ↦ inr rest ];
+  }
+
+  -- one frame, by the answer of the post
+  pub lets_out : (fixed : Bool) (a b : Seen Home) (d : ℕ) (t : Tried) (flag : Bool) → PostsOut a b d (Ok t) → b.pushed ≡ a.pushed → flag ≡ (a.pushed || has_moved t) → LetsOutOne fixed a (record b { pushed = flag }) d (has_moved t)
+  lets_out fixed a b d Moved flag (f, went) same is = ((f, record { goes = went.goes; log = went.log; size = went.size; ported = went.ported }), is ∙ or_true a.pushed)
+  lets_out fixed a b d Nothing flag (calm, full) same is = (
+    (let c = calm.calm in record { held = c.held; log = c.log; size = c.size; ported = c.ported }),
+    (λ f next. inl (full (λ none. absurd (cc)))),
+    is ∙ or_false a.pushed,
+  )
+  lets_out fixed a b d HeldBack flag (calm, (f', next', lacks)) same is = (
+    (let c = calm.calm in record { held = c.held; log = c.log; size = c.size; ported = c.ported }),
+    (λ f next. (let some : Some f' ≡ Some f = sym next' ∙ next in let is_f : f' ≡ f = cc in inr (inl (ap (λ (x : Frame). is_last x.head) (sym is_f) ∙ lacks.0, lacks.1)))),
+    is ∙ or_false a.pushed,
+  )
+  lets_out fixed a b d Short flag posts same is = absurd posts
+
+  pub lets_none : (fixed : Bool) (a b : Seen Home) (d : ℕ) (r : Result Tried NoMemory) → ((t : Tried) → r ≢ Ok t) → PostsOut a b d r → OnErr r (fixed ≢ true) → b.pushed ≡ a.pushed → LetsOutOne fixed a b d false
+  lets_none fixed a b d (Ok t) other posts free same = absurd (other t refl)
+  lets_none fixed a b d (Err why) other posts free same = (posts, (λ f next. inr (inr (not_true_out fixed free))), same)
+
+  pub falls_out : (a b : Seen Home) (d : ℕ) (t : Tried) → IsOut a.held → PostsOut a b d (Ok t) → has_moved t ≡ true → left_for b.held d < left_for a.held d
+  falls_out a b d Moved out (f, went) is = left_falls a b d f out went
+  falls_out a b d Nothing out posts is = absurd (cc)
+  falls_out a b d HeldBack out posts is = absurd (cc)
+  falls_out a b d Short out posts is = absurd (cc)

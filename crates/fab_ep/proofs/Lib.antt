@@ -1,0 +1,12 @@
+mod Turning
+mod Posting
+mod Taking
+mod Sent
+mod Pushing
+mod Staying
+mod Falling
+mod Admitting
+mod Letting
+mod Accepting
+mod Reading
+mod Answering

@@ -1,0 +1,336 @@
+-- Steps of progress, one after another.
+use Rattle.std.proofs.Common.{◌≡◌, ◌≢◌, ◌<◌, ◌≤◌, ◌+◌, ◌-◌, ◌⊎◌, ◌^◌, inl, inr, ℕ, Bool, true, false, ◌||◌, ◌&&◌, List, [], ◌∷◌, ◌++◌, length, append-nil, Option, Some, None, Result, Ok, Err, refl, sym, ap, ◌∙◌, subst, arith, cond}
+use Rattle.std.specs.Prelude.{count_by, ◌↔◌}
+use Rattle.std.proofs.lemmas.Bool.{cases_eq, and_from}
+use Rattle.std.proofs.lemmas.List.Sums.{sum_by-append, sum_by_push}
+use Rattle.std.proofs.lemmas.List.Folds.{list_all-append}
+use Rattle.fab_base.specs.Counts.{Rose}
+use Rattle.fab_base.specs.declared.frames.Frame.{Frame}
+use Rattle.fab_base.specs.declared.faults.NoMemory.{NoMemory}
+use Rattle.fab_link.specs.Meaning.{Outgoing, Incoming}
+use Rattle.fab_model.specs.Receiving.{draw_due}
+use Rattle.fab_face.specs.declared.events.Moved.{Moved as Answer}
+use Rattle.fab_face.specs.declared.events.Stop.{Stop}
+use Rattle.fab_face.specs.declared.events.Stop.TheVariants.{Idle, Budget, CqFull as StoppedCqFull, LogFull as StoppedLogFull}
+use Rattle.fab_face.specs.Held.{Held, Lanes, Seen, next_frame}
+use Rattle.fab_face.specs.Acts.{Act, Took, Posted, Went, Ported, is_move, is_take, is_post}
+use Rattle.fab_face.specs.Answers.{AllAre, IsShort, SawEmpty, SawFull, LentLacks, NextLacks, FrameLacks, SentLacks, IsIdle, IsHeldBack, StopsAs, Progressed}
+use Rattle.fab_face.proofs.Joining.{went_none, went_then}
+use Rattle.fab_face.proofs.Joining.{ported_same}
+use Rattle.fab_ep.specs.declared.endpoint.Tried.{Tried}
+use Rattle.fab_ep.specs.declared.endpoint.Tried.TheVariants.{Moved, Nothing, Held as HeldBack, Short}
+use Rattle.fab_ep.specs.declared.endpoint.Turn.{Turn}
+use Rattle.fab_ep.specs.Tries.{Calm, CalmOut, CalmIn, TriesOut, TriesIn, OutAt, InAt, Turning, TurnedOn, Turns, moved_one, is_held, is_short}
+
+-- ---- lists of acts
+
+all_append : (test : Act → Bool) (xs ys : List Act) → AllAre test xs → AllAre test ys → AllAre test (xs ++ ys)
+all_append test xs ys p q = list_all-append test xs ys ∙ and_from _ _ p q
+
+count_append : (test : Act → Bool) (xs ys : List Act) → count_by test (xs ++ ys) ≡ count_by test xs + count_by test ys
+count_append test xs ys = sum_by-append (λ a. cond (test a) 1 0) xs ys
+
+count_yes : (test : Act → Bool) (xs : List Act) (act : Act) → test act ≡ true → count_by test (xs ++ act ∷ []) ≡ count_by test xs + 1
+count_yes test xs act is = sum_by_push (λ a. cond (test a) 1 0) xs act ∙ ap (λ b. count_by test xs + cond b 1 0) is
+
+count_no : (test : Act → Bool) (xs : List Act) (act : Act) → test act ≡ false → count_by test (xs ++ act ∷ []) ≡ count_by test xs + 0
+count_no test xs act is = sum_by_push (λ a. cond (test a) 1 0) xs act ∙ ap (λ b. count_by test xs + cond b 1 0) is
+
+-- ---- counts
+
+pub rose_on : (a b c : ℕ) → a ≤ b → Rose b c → Rose a c
+rose_on a b c le (inl less) = inl (omega (arith, less, le))
+rose_on a b c le (inr last) = (let same = last.0 in elim (cases_eq a c) [
+  | inl at ↦ inr (at, last.1)
+  | inr under ↦ inl (omega (arith, under, same, le))
+])
+
+or_left : (a b : Bool) → a ≡ true → (a || b) ≡ true
+or_left a b is = rw is refl
+
+or_right : (a b : Bool) → b ≡ true → (a || b) ≡ true
+or_right true b is = refl
+or_right false b is = is
+
+or_either : (a b : Bool) → (a || b) ≡ true → (a ≡ true) ⊎ (b ≡ true)
+or_either true b is = inl refl
+or_either false b is = inr is
+
+module _ {Home : Type 0} where
+  pub went_calm : (a e e1 : Seen Home) (acts : List Act) → Went None a e acts → Calm e e1 → Went None a e1 acts
+  went_calm a e e1 acts went calm = subst (λ xs. Went None a e1 xs) (append-nil acts) (went_then None a e e1 acts [] went (went_none None e e1 calm.held calm.log calm.size calm.ported))
+
+  pub full_on : (a e e1 : Seen Home) (acts : List Act) (d : ℕ) → Went None a e acts → SawFull e.lanes e1.lanes d → SawFull a.lanes e1.lanes d
+  full_on a e e1 acts d went saw = record {
+    rose = elim saw.rose [ inl r ↦ inl (rose_on _ _ _ (went.ported.lane_full d) r) | inr r ↦ inr (rose_on _ _ _ (went.ported.pool_full d) r) ];
+    at_end = saw.at_end;
+  }
+
+  empty_on : (a e e1 : Seen Home) (acts : List Act) (s : ℕ) → Went None a e acts → SawEmpty e.lanes e1.lanes s → SawEmpty a.lanes e1.lanes s
+  empty_on a e e1 acts s went saw = record { rose = rose_on _ _ _ (went.ported.empty_seen s) saw.rose; at_end = saw.at_end; all = saw.all }
+
+  next_stays : (e e1 : Seen Home) (d : ℕ) → e1.held ≡ e.held → NextLacks e d → NextLacks e1 d
+  next_stays e e1 d held lacks = subst (λ (h : Held). (f : Frame) × (next_frame h d ≡ Some f) × SentLacks h d f) (sym held) lacks
+
+  lent_stays : (e e1 : Seen Home) (s : ℕ) → e1.held ≡ e.held → e1.lanes.ins s ≡ e.lanes.ins s → LentLacks e s → LentLacks e1 s
+  lent_stays e e1 s held ins (f, lent, lacks) = (f, ap (λ (i : Incoming). i.lent) ins ∙ lent, subst (λ (h : Held). FrameLacks h s f) (sym held) lacks)
+
+  out_stays : (held more : Bool) (a e e1 : Seen Home) (d : ℕ) → e1.held ≡ e.held → e1.lanes.outs d ≡ e.lanes.outs d → OutAt held a e d → OutAt (held || more) a e1 d
+  out_stays held more a e e1 d same outs at some = elim (at (λ none. some (ap (λ (h : Held). next_frame h d) same ∙ none))) [
+    | inl full ↦ inl (record { rose = rw outs full.rose; at_end = rw outs full.at_end })
+    | inr lacks ↦ inr (or_left held more lacks.0, next_stays e e1 d same lacks.1)
+  ]
+
+  in_stays : (held more : Bool) (a e e1 : Seen Home) (s : ℕ) → e1.held ≡ e.held → e1.lanes.ins s ≡ e.lanes.ins s → e1.lanes.in_list ≡ e.lanes.in_list → InAt held a e s → InAt (held || more) a e1 s
+  in_stays held more a e e1 s same ins lists (inl empty) = inl (record { rose = rw ins empty.rose; at_end = rw ins empty.at_end; all = rw (ins, lists) empty.all })
+  in_stays held more a e e1 s same ins lists (inr lacks) = inr (or_left held more lacks.0, lent_stays e e1 s same ins lacks.1)
+
+  -- ---- one step
+
+  module _ (a e e1 : Seen Home) (taken posted k : ℕ) (held more : Bool) where
+    calm_out : Turning a e taken posted held k k → CalmOut e e1 k → OutAt (held || more) a e1 k → (more ≡ true → NextLacks e1 k) → Turning a e1 taken posted (held || more) (k + 1) k
+    calm_out was calm here lacks = record {
+      acts = was.acts;
+      moves = was.moves;
+      went = went_calm a e e1 was.acts was.went calm.calm;
+      takes = was.takes;
+      posts = was.posts;
+      outs = λ none d below. elim (cases_eq d k) [
+        | inl same ↦ rw same here
+        | inr other ↦ out_stays held more a e e1 d calm.calm.held (calm.outs d other) (was.outs none d (omega (arith, below, other)))
+      ];
+      ins = λ none s below. in_stays held more a e e1 s calm.calm.held (ap (λ (i : ℕ → Incoming). i s) calm.ins) calm.calm.ported.in_list (was.ins none s below);
+      some = λ none is. elim (or_either held more is) [
+        | inl before ↦ elim (was.some none before) [
+          | inl (s, below, lent) ↦ inl (s, below, lent_stays e e1 s calm.calm.held (ap (λ (i : ℕ → Incoming). i s) calm.ins) lent)
+          | inr (d, next) ↦ inr (d, next_stays e e1 d calm.calm.held next)
+        ]
+        | inr now ↦ inr (k, lacks now)
+      ];
+    }
+
+    calm_in : Turning a e taken posted held (k + 1) k → CalmIn e e1 k → InAt (held || more) a e1 k → (more ≡ true → LentLacks e1 k) → Turning a e1 taken posted (held || more) (k + 1) (k + 1)
+    calm_in was calm here lacks = record {
+      acts = was.acts;
+      moves = was.moves;
+      went = went_calm a e e1 was.acts was.went calm.calm;
+      takes = was.takes;
+      posts = was.posts;
+      outs = λ none d below. out_stays held more a e e1 d calm.calm.held (ap (λ (o : ℕ → Outgoing). o d) calm.outs) (was.outs none d below);
+      ins = λ none s below. elim (cases_eq s k) [
+        | inl same ↦ rw same here
+        | inr other ↦ in_stays held more a e e1 s calm.calm.held (calm.ins s other) calm.calm.ported.in_list (was.ins none s (omega (arith, below, other)))
+      ];
+      some = λ none is. elim (or_either held more is) [
+        | inl before ↦ elim (was.some none before) [
+          | inl (s, below, lent) ↦ inl (s, omega (arith, below), lent_stays e e1 s calm.calm.held (calm.ins s (λ same. omega (arith, same, below))) lent)
+          | inr (d, next) ↦ inr (d, next_stays e e1 d calm.calm.held next)
+        ]
+        | inr now ↦ inl (k, omega arith, lacks now)
+      ];
+    }
+
+  -- a frame moved
+  moved_on : (a e e1 : Seen Home) (taken posted t p : ℕ) (held more : Bool) (ko ki lo li : ℕ) (act : Act) → is_move act ≡ true → Turning a e taken posted held ko ki → Went None e e1 (act ∷ [])
+      → ((xs : List Act) → count_by is_take xs ≡ taken → count_by is_take (xs ++ act ∷ []) ≡ t) → ((xs : List Act) → count_by is_post xs ≡ posted → count_by is_post (xs ++ act ∷ []) ≡ p) → 0 < t + p
+      → Turning a e1 t p (held || more) lo li
+  moved_on a e e1 taken posted t p held more ko ki lo li act is was went takes posts some = record {
+    acts = was.acts ++ act ∷ [];
+    moves = all_append is_move was.acts (act ∷ []) was.moves (is_one act is);
+    went = went_then None a e e1 was.acts (act ∷ []) was.went went;
+    takes = takes was.acts was.takes;
+    posts = posts was.acts was.posts;
+    outs = λ none. absurd (omega (arith, none, some));
+    ins = λ none. absurd (omega (arith, none, some));
+    some = λ none. absurd (omega (arith, none, some));
+  }
+    where
+      is_one : (act : Act) → is_move act ≡ true → AllAre is_move (act ∷ [])
+      is_one act is = rw is refl
+
+  pub on_out : (a e e1 : Seen Home) (taken posted k : ℕ) (held : Bool) (t : Tried) → Turning a e taken posted held k k → TriesOut e e1 k (Ok t) → is_short t ≡ false
+      → Turning a e1 taken (posted + moved_one t) (held || is_held t) (k + 1) k
+  on_out a e e1 taken posted k held Moved was (f, went) un = moved_on a e e1 taken posted taken (posted + 1) held false k k (k + 1) k (Posted k f) refl was went
+      (λ xs is. (let c = count_no is_take xs (Posted k f) refl in omega (arith, c, is)))
+      (λ xs is. (let c = count_yes is_post xs (Posted k f) refl in omega (arith, c, is))) (omega arith)
+  on_out a e e1 taken posted k held Nothing was (calm, full) un =
+      subst (λ n. Turning a e1 taken n (held || false) (k + 1) k) (omega arith) (calm_out a e e1 taken posted k held false was calm (λ some. inl (full_on a e e1 was.acts k was.went (full some))) (λ is. absurd (cc)))
+  on_out a e e1 taken posted k held HeldBack was (calm, lacks) un =
+      subst (λ n. Turning a e1 taken n (held || true) (k + 1) k) (omega arith) (calm_out a e e1 taken posted k held true was calm (λ some. inr (or_right held true refl, lacks)) (λ is. lacks))
+  on_out a e e1 taken posted k held Short was tries un = absurd (cc)
+
+  pub on_in : (a e e1 : Seen Home) (taken posted k : ℕ) (held : Bool) (t : Tried) → Turning a e taken posted held (k + 1) k → TriesIn e e1 k (Ok t) → is_short t ≡ false
+      → Turning a e1 (taken + moved_one t) posted (held || is_held t) (k + 1) (k + 1)
+  on_in a e e1 taken posted k held Moved was (f, went) un = moved_on a e e1 taken posted (taken + 1) posted held false (k + 1) k (k + 1) (k + 1) (Took k f) refl was went
+      (λ xs is. (let c = count_yes is_take xs (Took k f) refl in omega (arith, c, is)))
+      (λ xs is. (let c = count_no is_post xs (Took k f) refl in omega (arith, c, is))) (omega arith)
+  on_in a e e1 taken posted k held Nothing was (calm, empty) un =
+      subst (λ n. Turning a e1 n posted (held || false) (k + 1) (k + 1)) (omega arith) (calm_in a e e1 taken posted k held false was calm (inl (empty_on a e e1 was.acts k was.went empty)) (λ is. absurd (cc)))
+  on_in a e e1 taken posted k held HeldBack was (calm, lacks) un =
+      subst (λ n. Turning a e1 n posted (held || true) (k + 1) (k + 1)) (omega arith) (calm_in a e e1 taken posted k held true was calm (inr (or_right held true refl, lacks)) (λ is. lacks))
+  on_in a e e1 taken posted k held Short was tries un = absurd (cc)
+
+  -- at the start of a turn
+  pub turning_none : (a : Seen Home) → Turning a a 0 0 false 0 0
+  turning_none a = record {
+    acts = [];
+    moves = refl;
+    went = went_none None a a refl refl refl (ported_same a.lanes a.lanes refl);
+    takes = refl;
+    posts = refl;
+    outs = λ none d below. absurd (omega (arith, below));
+    ins = λ none s below. absurd (omega (arith, below));
+    some = λ none is. absurd (cc);
+  }
+
+  -- at its end
+  pub turned_to : (left : ℕ) (a e : Seen Home) (taken posted : ℕ) (held short : Bool) (ko ki : ℕ) → Turning a e taken posted held ko ki → taken + posted ≤ left → draw_due e.held.state.rx ≡ false
+      → (short ≡ true → IsShort e) → (short ≡ false → taken + posted ≡ 0 → (ko ≡ e.lanes.peers) × (ki ≡ e.lanes.peers))
+      → TurnedOn left a e (record { taken = taken; posted = posted; held = held; short = short })
+  turned_to left a e taken posted held short ko ki was most still is_short all = record {
+    acts = was.acts;
+    moves = was.moves;
+    went = was.went;
+    takes = was.takes;
+    posts = was.posts;
+    most = most;
+    short = is_short;
+    still = still;
+    quiet = λ un none. (let ends = all un none in
+        let t : taken ≡ 0 = omega (arith, none) in
+        let p : posted ≡ 0 = omega (arith, none) in
+        subst (λ n. Turning a e n 0 held e.lanes.peers e.lanes.peers) t
+        (subst (λ n. Turning a e taken n held e.lanes.peers e.lanes.peers) p
+        (subst (λ n. Turning a e taken posted held n e.lanes.peers) ends.0
+        (subst (λ n. Turning a e taken posted held ko n) ends.1 was))));
+  }
+
+  -- the log was short: the step did nothing
+  pub short_out : (a e e1 : Seen Home) (taken posted k ko ki : ℕ) (held : Bool) (t : Tried) → Turning a e taken posted held ko ki → TriesOut e e1 k (Ok t) → is_short t ≡ true
+      → (acts : List Act) × AllAre is_move acts × Went None a e1 acts × (count_by is_take acts ≡ taken) × (count_by is_post acts ≡ posted) × IsShort e1 × (moved_one t ≡ 0)
+  short_out a e e1 taken posted k ko ki held Short was (calm, short) is =
+      (was.acts, was.moves, went_calm a e e1 was.acts was.went calm, was.takes, was.posts, short_on e e1 calm short, refl)
+    where
+      short_on : (e e1 : Seen Home) → Calm e e1 → IsShort e → IsShort e1
+      short_on e e1 calm short = rw (calm.log, calm.size) short
+  short_out a e e1 taken posted k ko ki held Moved was tries is = absurd (cc)
+  short_out a e e1 taken posted k ko ki held Nothing was tries is = absurd (cc)
+  short_out a e e1 taken posted k ko ki held HeldBack was tries is = absurd (cc)
+
+  pub turned_short : (left : ℕ) (a e e1 : Seen Home) (taken posted t p ko ki : ℕ) (held held' : Bool) (m : ℕ) → Turning a e taken posted held ko ki → Calm e e1 → IsShort e → t ≡ taken → p ≡ posted
+      → taken + posted ≤ left → draw_due e1.held.state.rx ≡ false → TurnedOn left a e1 (record { taken = t; posted = p; held = held'; short = true })
+  turned_short left a e e1 taken posted t p ko ki held held' m was calm short t_is p_is most still = record {
+    acts = was.acts;
+    moves = was.moves;
+    went = went_calm a e e1 was.acts was.went calm;
+    takes = was.takes ∙ sym t_is;
+    posts = was.posts ∙ sym p_is;
+    most = omega (arith, most, t_is, p_is);
+    short = λ is. rw (calm.log, calm.size) short;
+    still = still;
+    quiet = λ un none. absurd (cc);
+  }
+
+  pub out_short : (left : ℕ) (a e e1 : Seen Home) (taken posted k ko ki : ℕ) (held held' : Bool) (t : Tried) → Turning a e taken posted held ko ki → TriesOut e e1 k (Ok t) → is_short t ≡ true
+      → taken + posted ≤ left → draw_due e1.held.state.rx ≡ false → TurnedOn left a e1 (record { taken = taken; posted = posted + moved_one t; held = held'; short = true })
+  out_short left a e e1 taken posted k ko ki held held' Short was tries is most still = turned_short left a e e1 taken posted taken (posted + 0) ko ki held held' 0 was tries.0 tries.1 refl (omega arith) most still
+  out_short left a e e1 taken posted k ko ki held held' Moved was tries is most still = absurd (cc)
+  out_short left a e e1 taken posted k ko ki held held' Nothing was tries is most still = absurd (cc)
+  out_short left a e e1 taken posted k ko ki held held' HeldBack was tries is most still = absurd (cc)
+
+  pub in_short : (left : ℕ) (a e e1 : Seen Home) (taken posted k ko ki : ℕ) (held held' : Bool) (t : Tried) → Turning a e taken posted held ko ki → TriesIn e e1 k (Ok t) → is_short t ≡ true
+      → taken + posted ≤ left → draw_due e1.held.state.rx ≡ false → TurnedOn left a e1 (record { taken = taken + moved_one t; posted = posted; held = held'; short = true })
+  in_short left a e e1 taken posted k ko ki held held' Short was tries is most still = turned_short left a e e1 taken posted (taken + 0) posted ko ki held held' 0 was tries.0 tries.1 (omega arith) refl most still
+  in_short left a e e1 taken posted k ko ki held held' Moved was tries is most still = absurd (cc)
+  in_short left a e e1 taken posted k ko ki held held' Nothing was tries is most still = absurd (cc)
+  in_short left a e e1 taken posted k ko ki held held' HeldBack was tries is most still = absurd (cc)
+
+  -- an exit by want of memory
+  pub turning_err : (left : ℕ) (a e e1 : Seen Home) (taken posted ko ki : ℕ) (held : Bool) → Turning a e taken posted held ko ki → Calm e e1 → taken + posted ≤ left
+      → (acts : List Act) × AllAre is_move acts × Went None a e1 acts × (count_by is_take acts + count_by is_post acts ≤ left)
+  turning_err left a e e1 taken posted ko ki held was calm most = (was.acts, was.moves, went_calm a e e1 was.acts was.went calm, (let t = was.takes in let p = was.posts in omega (arith, t, p, most)))
+
+  pub peers_same : (a e : Seen Home) {taken posted : ℕ} {held : Bool} {ko ki : ℕ} → Turning a e taken posted held ko ki → e.lanes.peers ≡ a.lanes.peers
+  peers_same a e was = was.went.ported.peers
+
+  pub err_of : (left : ℕ) (a e : Seen Home) (r : Result Turn NoMemory) (why : NoMemory) → r ≡ Err why → (acts : List Act) × AllAre is_move acts × Went None a e acts × (count_by is_take acts + count_by is_post acts ≤ left) → Turns left a e r
+  err_of left a e r why is some = rw is some
+
+  -- ---- turns, one after another
+
+  -- so many frames moved
+  pub record Going (a e : Seen Home) (taken posted : ℕ) : Type 0 where
+    pub acts : List Act
+    pub moves : AllAre is_move acts
+    pub went : Went None a e acts
+    pub takes : count_by is_take acts ≡ taken
+    pub posts : count_by is_post acts ≡ posted
+
+  pub going_none : (a : Seen Home) → Going a a 0 0
+  going_none a = record { acts = []; moves = refl; went = went_none None a a refl refl refl (ported_same a.lanes a.lanes refl); takes = refl; posts = refl }
+
+  pub going_on : (a b e : Seen Home) (taken posted left : ℕ) (t : Turn) → Going a b taken posted → TurnedOn left b e t → Going a e (taken + t.taken) (posted + t.posted)
+  going_on a b e taken posted left t was turn = record {
+    acts = was.acts ++ turn.acts;
+    moves = all_append is_move was.acts turn.acts was.moves turn.moves;
+    went = went_then None a b e was.acts turn.acts was.went turn.went;
+    takes = (let c = count_append is_take was.acts turn.acts in let w = was.takes in let t' = turn.takes in omega (arith, c, w, t'));
+    posts = (let c = count_append is_post was.acts turn.acts in let w = was.posts in let t' = turn.posts in omega (arith, c, w, t'));
+  }
+
+  pub progress_err : (a b e : Seen Home) (budget taken posted left : ℕ) (why : NoMemory) → Going a b taken posted → taken + posted + left ≤ budget → Turns left b e (Err why) → e.pushed ≡ a.pushed → Progressed budget a e (Err why)
+  progress_err a b e budget taken posted left why was most (acts, moves, went, few) pushed = record {
+    acts = was.acts ++ acts;
+    moves = all_append is_move was.acts acts was.moves moves;
+    went = went_then None a b e was.acts acts was.went went;
+    most = (let c = count_append is_take was.acts acts in let d = count_append is_post was.acts acts in let w = was.takes in let p = was.posts in omega (arith, c, d, w, p, few, most));
+    pushed = pushed;
+    counted = tt;
+  }
+
+  pub progress_ok : (a e : Seen Home) (budget taken posted : ℕ) (stop : Stop) → Going a e taken posted → taken + posted ≤ budget → e.pushed ≡ a.pushed → ((stop ≡ Budget) ↔ (taken + posted ≡ budget)) → StopsAs a e stop
+      → Progressed budget a e (Ok (record { taken = taken; posted = posted; stop = stop }))
+  progress_ok a e budget taken posted stop was most pushed exact stops = record {
+    acts = was.acts;
+    moves = was.moves;
+    went = was.went;
+    most = (let t = was.takes in let p = was.posts in omega (arith, t, p, most));
+    pushed = pushed;
+    counted = (sym was.takes, sym was.posts, exact, stops);
+  }
+
+  -- nothing moved in the last turn
+  pub stops_at : (a b e : Seen Home) (taken posted left : ℕ) (t : Turn) (stop : Stop) → Going a b taken posted → TurnedOn left b e t → t.short ≡ false → t.taken + t.posted ≡ 0
+      → ((t.held ≡ true) × (stop ≡ StoppedCqFull)) ⊎ ((t.held ≡ false) × (stop ≡ Idle)) → StopsAs a e stop
+  stops_at a b e taken posted left t stop was turn un none (inl (held, is)) =
+      let last = turn.quiet un none in
+      rw is (record {
+        some = elim (last.some refl held) [
+          | inl (s, below, lent) ↦ inr (inl (s, lent))
+          | inr next ↦ inr (inr next)
+        ];
+        draws = λ due. (let still = turn.still in absurd (cc));
+        empty = λ s below. elim (last.ins refl s below) [ inl saw ↦ inl (empty_on a b e was.acts s was.went saw) | inr lacks ↦ inr lacks.1 ];
+        full = λ d below some. elim (last.outs refl d below some) [ inl saw ↦ inl (full_on a b e was.acts d was.went saw) | inr lacks ↦ inr lacks.1 ];
+      })
+  stops_at a b e taken posted left t stop was turn un none (inr (held, is)) =
+      let last = turn.quiet un none in
+      rw is (record {
+        draws = turn.still;
+        empty = λ s below. elim (last.ins refl s below) [ inl saw ↦ empty_on a b e was.acts s was.went saw | inr lacks ↦ (let yes = lacks.0 in absurd (cc)) ];
+        full = λ d below some. elim (last.outs refl d below some) [ inl saw ↦ full_on a b e was.acts d was.went saw | inr lacks ↦ (let yes = lacks.0 in absurd (cc)) ];
+      })
+
+pub one_at_most : (t : Tried) → moved_one t ≤ 1
+one_at_most Moved = omega arith
+one_at_most Nothing = omega arith
+one_at_most HeldBack = omega arith
+one_at_most Short = omega arith
+
+pub room_left : (t p b : ℕ) {n : ℕ} → (t + p < b) ⊎ (t + p ≡ 0) → n < b → t + p < b
+room_left t p b (inl less) below = less
+room_left t p b (inr none) below = omega (arith, none, below)
+
+pub progress_err_of : {Home : Type 0} (a b e : Seen Home) (budget taken posted left : ℕ) (r : Result Answer NoMemory) (why : NoMemory) → r ≡ Err why → Going a b taken posted → taken + posted + left ≤ budget
+    → Turns left b e (Err why) → e.pushed ≡ a.pushed → Progressed budget a e r
+progress_err_of a b e budget taken posted left r why is was most turns pushed = rw is (progress_err a b e budget taken posted left why was most turns pushed)

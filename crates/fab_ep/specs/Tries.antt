@@ -1,0 +1,176 @@
+-- What a step of progress does: one frame posted or taken, or none, and why.
+use Rattle.std.specs.Prelude.{◌≡◌, ◌≢◌, ℕ, ◌+◌, ◌<◌, ◌≤◌, ◌⊎◌, Bool, true, false, ◌||◌, List, [], ◌∷◌, length, Option, Some, None, Result, Ok, Err, count_by, slice_index, drop, ◌-◌}
+use Rattle.std.specs.List.{list_any, sum_by}
+use Rattle.fab_model.specs.State.{accepted_for}
+use Rattle.fab_base.specs.declared.faults.NoMemory.{NoMemory}
+use Rattle.fab_base.specs.declared.frames.Frame.{Frame}
+use Rattle.fab_base.specs.declared.items.Item.{Item}
+use Rattle.fab_face.specs.declared.machine.Next.{Next}
+use Rattle.fab_link.specs.Meaning.{end_of, taken_end}
+use Rattle.fab_model.specs.Receiving.{draw_due}
+use Rattle.fab_face.specs.Held.{Held, Lanes, Seen, IsPlaced, IsGathered, next_frame, next_item, begun_of}
+use Rattle.fab_face.specs.Acts.{Act, Posted, Took, Ported, Went, is_move, is_take, is_post}
+use Rattle.fab_face.specs.Answers.{AllAre, IsShort, SawEmpty, SawFull, LentLacks, NextLacks, IsHeld}
+use Rattle.fab_ep.specs.declared.endpoint.Tried.{Tried}
+use Rattle.fab_ep.specs.declared.endpoint.Tried.TheVariants.{Moved, Nothing, Held as HeldBack, Short}
+use Rattle.fab_ep.specs.declared.endpoint.Turn.{Turn}
+
+-- the item that the machine lends
+abbrev pub next_of : Next → Item
+next_of n = record { head = n.head; bytes = n.bytes.now }
+
+-- between calls: the log, and the ends of the port's lists
+pub record IsTied {Home : Type 0} (e : Seen Home) : Type 0 where
+  pub log : 4 ≤ e.log_size
+  pub within : length e.log ≤ e.log_size
+  pub peers : length e.held.places ≡ e.lanes.peers
+  pub posted : (d : ℕ) → d < e.lanes.peers → IsPlaced (end_of (e.lanes.outs d)) (slice_index e.held.places d) (next_item e.held.state d)
+  pub taken : (s : ℕ) → s < e.lanes.peers → IsGathered (taken_end (e.lanes.ins s)) (begun_of e.held s)
+
+-- nothing moved
+pub record Calm {Home : Type 0} (old new : Seen Home) : Type 0 where
+  pub held : new.held ≡ old.held
+  pub log : new.log ≡ old.log
+  pub size : new.log_size ≡ old.log_size
+  pub ported : Ported old.lanes new.lanes []
+
+-- nothing moved, and the port was asked to post to this peer
+pub record CalmOut {Home : Type 0} (old new : Seen Home) (dest : ℕ) : Type 0 where
+  pub calm : Calm old new
+  pub outs : (d : ℕ) → d ≢ dest → new.lanes.outs d ≡ old.lanes.outs d
+  pub ins : new.lanes.ins ≡ old.lanes.ins
+
+-- nothing moved, and the port was asked for a frame of this peer
+pub record CalmIn {Home : Type 0} (old new : Seen Home) (source : ℕ) : Type 0 where
+  pub calm : Calm old new
+  pub ins : (s : ℕ) → s ≢ source → new.lanes.ins s ≡ old.lanes.ins s
+  pub outs : new.lanes.outs ≡ old.lanes.outs
+
+-- the next frame for a peer was asked for: it was posted, or there is none or the port refused it, or its entry has no room
+abbrev pub PostsOut : {Home : Type 0} → Seen Home → Seen Home → ℕ → Result Tried NoMemory → Type 0
+PostsOut old new d (Ok Moved) = (f : Frame) × Went None old new (Posted d f ∷ [])
+PostsOut old new d (Ok Nothing) = CalmOut old new d × (next_frame new.held d ≢ None → SawFull old.lanes new.lanes d)
+PostsOut old new d (Ok HeldBack) = CalmOut old new d × NextLacks new d
+PostsOut old new d (Ok Short) = ⊥
+PostsOut old new d (Err _) = Calm old new
+
+abbrev pub TriesOut : {Home : Type 0} → Seen Home → Seen Home → ℕ → Result Tried NoMemory → Type 0
+TriesOut old new d (Ok Moved) = (f : Frame) × Went None old new (Posted d f ∷ [])
+TriesOut old new d (Ok Nothing) = CalmOut old new d × (next_frame new.held d ≢ None → SawFull old.lanes new.lanes d)
+TriesOut old new d (Ok HeldBack) = CalmOut old new d × NextLacks new d
+TriesOut old new d (Ok Short) = Calm old new × IsShort old
+TriesOut old new d (Err _) = Calm old new
+
+abbrev pub TriesIn : {Home : Type 0} → Seen Home → Seen Home → ℕ → Result Tried NoMemory → Type 0
+TriesIn old new s (Ok Moved) = (f : Frame) × Went None old new (Took s f ∷ [])
+TriesIn old new s (Ok Nothing) = CalmIn old new s × SawEmpty old.lanes new.lanes s
+TriesIn old new s (Ok HeldBack) = CalmIn old new s × LentLacks new s
+TriesIn old new s (Ok Short) = Calm old new × IsShort old
+TriesIn old new s (Err _) = Calm old new
+
+abbrev pub has_moved : Tried → Bool
+has_moved Moved = true
+has_moved _ = false
+
+abbrev pub moved_one : Tried → ℕ
+moved_one Moved = 1
+moved_one _ = 0
+
+abbrev pub is_held : Tried → Bool
+is_held HeldBack = true
+is_held _ = false
+
+abbrev pub is_short : Tried → Bool
+is_short Short = true
+is_short _ = false
+
+-- ---- a turn
+
+-- the lane to this peer has nothing to post, or was seen full, or waits for room
+abbrev pub OutAt : {Home : Type 0} → Bool → Seen Home → Seen Home → ℕ → Type 0
+OutAt held a e d = next_frame e.held d ≢ None → SawFull a.lanes e.lanes d ⊎ ((held ≡ true) × NextLacks e d)
+
+-- the lane from this peer was seen empty, or waits for room
+abbrev pub InAt : {Home : Type 0} → Bool → Seen Home → Seen Home → ℕ → Type 0
+InAt held a e s = SawEmpty a.lanes e.lanes s ⊎ ((held ≡ true) × LentLacks e s)
+
+-- so many frames moved; and where none did, the lanes below these were looked at
+pub record Turning {Home : Type 0} (a e : Seen Home) (taken posted : ℕ) (held : Bool) (out in_ : ℕ) : Type 0 where
+  pub acts : List Act
+  pub moves : AllAre is_move acts
+  pub went : Went None a e acts
+  pub takes : count_by is_take acts ≡ taken
+  pub posts : count_by is_post acts ≡ posted
+  pub outs : taken + posted ≡ 0 → (d : ℕ) → d < out → OutAt held a e d
+  pub ins : taken + posted ≡ 0 → (s : ℕ) → s < in_ → InAt held a e s
+  pub some : taken + posted ≡ 0 → held ≡ true → ((s : ℕ) × (s < in_) × LentLacks e s) ⊎ ((d : ℕ) × NextLacks e d)
+
+-- a turn
+pub record TurnedOn {Home : Type 0} (left : ℕ) (a e : Seen Home) (t : Turn) : Type 0 where
+  pub acts : List Act
+  pub moves : AllAre is_move acts
+  pub went : Went None a e acts
+  pub takes : count_by is_take acts ≡ t.taken
+  pub posts : count_by is_post acts ≡ t.posted
+  pub most : t.taken + t.posted ≤ left
+  pub short : t.short ≡ true → IsShort e
+  pub still : draw_due e.held.state.rx ≡ false
+  pub quiet : t.short ≡ false → t.taken + t.posted ≡ 0 → Turning a e 0 0 t.held e.lanes.peers e.lanes.peers
+
+abbrev pub Turns : {Home : Type 0} → ℕ → Seen Home → Seen Home → Result Turn NoMemory → Type 0
+Turns left a e (Ok t) = TurnedOn left a e t
+Turns left a e (Err _) = (acts : List Act) × AllAre is_move acts × Went None a e acts × (count_by is_take acts + count_by is_post acts ≤ left)
+
+-- ---- a push
+
+-- a frame is posted in a push: two places of the log stay free
+abbrev pub PushesOut : {Home : Type 0} → Seen Home → Seen Home → ℕ → Result Tried NoMemory → Type 0
+PushesOut old new d (Ok Moved) = (f : Frame) × Went None old new (Posted d f ∷ [])
+PushesOut old new d (Ok Nothing) = CalmOut old new d × (next_frame new.held d ≢ None → SawFull old.lanes new.lanes d)
+PushesOut old new d (Ok HeldBack) = CalmOut old new d × ((f : Frame) × (next_frame new.held d ≡ Some f) × IsHeld new d f)
+PushesOut old new d (Ok Short) = ⊥
+PushesOut old new d (Err _) = Calm old new
+
+-- what is next for the peer was refused in this call, or is held back
+abbrev pub IsTried : {Home : Type 0} → Seen Home → Seen Home → ℕ → Type 0
+IsTried old new d = (f : Frame) → next_frame new.held d ≡ Some f → SawFull old.lanes new.lanes d ⊎ IsHeld new d f
+
+-- the same; `moved` says whether one was posted, and it is remembered
+abbrev pub PushesOn : {Home : Type 0} → Seen Home → Seen Home → ℕ → Result Bool NoMemory → Type 0
+PushesOn old new d (Ok true) = ((f : Frame) × Went None old new (Posted d f ∷ [])) × (new.pushed ≡ true)
+PushesOn old new d (Ok false) = CalmOut old new d × IsTried old new d × (new.pushed ≡ old.pushed)
+PushesOn old new d (Err _) = Calm old new × (new.pushed ≡ old.pushed)
+
+-- what waits for a peer: a number that falls with each frame posted to it
+abbrev pub left_of : List Item → ℕ → ℕ
+left_of items place = sum_by (λ item. item.head.total + 1) items - place
+
+abbrev pub left_for : Held → ℕ → ℕ
+left_for h d = left_of (drop (slice_index h.state.tx.sent d) (accepted_for h.state.tx d)) (slice_index h.places d)
+
+-- all frames of this peer that may go are posted
+pub record PushedTo {Home : Type 0} (old new : Seen Home) (d : ℕ) (whole : Bool) : Type 0 where
+  pub acts : List Act
+  pub push : AllAre is_post acts
+  pub went : Went None old new acts
+  pub pushed : new.pushed ≡ (old.pushed || list_any is_post acts)
+  pub tried : whole ≡ true → (f : Frame) → next_frame new.held d ≡ Some f → SawFull old.lanes new.lanes d ⊎ IsHeld new d f
+
+abbrev pub PushesTo : {Home : Type 0} → Seen Home → Seen Home → ℕ → Result (Unit {0}) NoMemory → Type 0
+PushesTo old new d (Ok _) = PushedTo old new d true
+PushesTo old new d (Err _) = PushedTo old new d false
+
+-- what waits for other peers still waits
+abbrev pub HeldStays : {Home : Type 0} → Seen Home → Seen Home → ℕ → Type 0
+HeldStays a b d = (k : ℕ) → k ≢ d → (next_frame b.held k ≡ next_frame a.held k) × ((f : Frame) → IsHeld a k f → IsHeld b k f)
+
+pub record Pushed {Home : Type 0} (old new : Seen Home) (whole : Bool) : Type 0 where
+  pub acts : List Act
+  pub push : AllAre is_post acts
+  pub went : Went None old new acts
+  pub pushed : new.pushed ≡ (old.pushed || list_any is_post acts)
+  pub tried : whole ≡ true → (d : ℕ) → d < new.lanes.peers → IsTried old new d
+
+abbrev pub Pushes : {Home : Type 0} → Seen Home → Seen Home → Result (Unit {0}) NoMemory → Type 0
+Pushes old new (Ok _) = Pushed old new true
+Pushes old new (Err _) = Pushed old new false

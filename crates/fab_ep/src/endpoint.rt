@@ -1,0 +1,438 @@
+//! An endpoint over any port: frames posted and taken, and progress.
+ghost use Rattle.std.specs.Prelude.{◌≡◌, ◌≢◌, None, ◌<◌, ◌≤◌, ◌+◌, ◌∷◌, ◌++◌, [], ℕ, Bool, true, false, ◌||◌, ◌&&◌, length, IfOk, IfErr, IfSome, IfNone, Ok, OnErr, Some};
+ghost use Rattle.std.specs.VecDeque.{deque_len, deque_capacity};
+ghost use Rattle.fab_base.specs.declared.frames.Frame.{Frame};
+ghost use Rattle.fab_wire.specs.Joined.{is_last};
+ghost use Rattle.fab_link.specs.Meaning.{Others};
+ghost use Rattle.fab_model.specs.Receiving.{draw_due};
+ghost use Rattle.fab_face.specs.Held.{IsOpen, next_frame};
+ghost use Rattle.fab_face.specs.Acts.{only};
+ghost use Rattle.fab_face.specs.Answers.{IsShort, HasPlaces, Progressed};
+ghost use Rattle.fab_face.specs.Ports.{seen, IsFresh};
+ghost use Rattle.fab_ep.specs.Tries.{HeldStays, Pushes, PushesOut, PushesOn, PushesTo, IsTied, PostsOut, TriesOut, TriesIn, Turns, has_moved, moved_one, is_held, is_short, left_for};
+
+use crate::frames::post_next;
+use fab_base::NoMemory;
+use fab_face::events::{Event, Moved, Stop};
+use fab_face::machine::Machine;
+use fab_link::Port;
+use std::alloc::Global;
+use std::collections::VecDeque;
+use std::marker::Model;
+
+/// What came of a step: a frame moved, there was nothing to move or the port refused, the completion
+/// queue has no room, or the log is short.
+#[derive(Clone, Copy, Debug, Drop, Eq, PartialEq)]
+pub enum Tried {
+    Moved,
+    Nothing,
+    Held,
+    Short,
+}
+
+/// What came of a turn.
+#[derive(Clone, Copy, Debug, Drop)]
+pub struct Turn {
+    pub(crate) taken: u32,
+    pub(crate) posted: u32,
+    pub(crate) held: bool,
+    pub(crate) short: bool,
+}
+
+/// An endpoint over a port, with the machine that keeps its state.
+pub struct Endpoint<P: Port, C: Machine> {
+    pub(crate) port: P,
+    pub(crate) core: C,
+    pub(crate) log: VecDeque<Event>,
+    pub(crate) log_size: u32,
+    pub(crate) pushed: bool,
+}
+
+impl<P: Port, C: Machine> Model for Endpoint<P, C> {
+    ghost use Rattle.std.specs.Prelude.{◌≤◌};
+    ghost use Rattle.std.specs.VecDeque.{deque_capacity};
+    ghost use Rattle.fab_face.specs.Ports.{Whole, seen};
+    ghost use Rattle.fab_ep.specs.Tries.{IsTied};
+
+    ghost Value = { Whole P };
+
+    ghost view = { λ e. record { port = e.port; held = C.held e.core; log = e.log.items; log_size = e.log_size; pushed = e.pushed } };
+
+    ghost invariant = { λ e. (e.log_size ≤ deque_capacity e.log) × IsTied (seen P.Port (record { port = e.port; held = C.held e.core; log = e.log.items; log_size = e.log_size; pushed = e.pushed })) };
+}
+
+/// Whether the log has fewer than two free places.
+pub(crate) fn is_short(log: &VecDeque<Event>, log_size: u32) -> bool
+    ensures short { result ≡ true → log_size < length log.now.items + 2 }
+    ensures room { result ≡ false → length log.now.items + 2 ≤ log_size }
+{
+    (log_size as usize).saturating_sub(log.len()) < 2
+}
+
+fn log_if(log: &mut VecDeque<Event>, logs: bool, event: Event)
+    requires { deque_len log.old < deque_capacity log.old }
+    ensures items { log.new.items ≡ log.old.items ++ only logs event }
+    ensures len { deque_len log.new ≤ deque_len log.old + 1 }
+    ensures capacity { deque_capacity log.new ≡ deque_capacity log.old }
+{
+    if logs {
+        log.push_back_reserved(event);
+    }
+}
+
+fn moved_one(tried: &Tried) -> u32
+    ensures { result ≡ moved_one tried.now }
+{
+    match tried {
+        Tried::Moved => 1,
+        _ => 0,
+    }
+}
+
+pub(crate) fn has_moved(tried: &Tried) -> bool
+    ensures { result ≡ has_moved tried.now }
+{
+    match tried {
+        Tried::Moved => true,
+        _ => false,
+    }
+}
+
+fn is_held(tried: &Tried) -> bool
+    ensures { result ≡ is_held tried.now }
+{
+    match tried {
+        Tried::Held => true,
+        _ => false,
+    }
+}
+
+fn was_short(tried: &Tried) -> bool
+    ensures { result ≡ is_short tried.now }
+{
+    match tried {
+        Tried::Short => true,
+        _ => false,
+    }
+}
+
+pub(crate) fn either(a: bool, b: bool) -> bool
+    ensures { result ≡ (a || b) }
+{
+    a || b
+}
+
+fn both(a: bool, b: bool) -> bool
+    ensures { result ≡ (a && b) }
+{
+    a && b
+}
+
+impl<P: Port, C: Machine> Endpoint<P, C> {
+    /// An endpoint over this port that goes on from what the machine holds, with an empty log. Want of
+    /// memory hands both back.
+    pub fn over(alloc: Global, port: P, core: C, log_size: u32) -> Result<Endpoint<P, C>, (P, C)>
+        requires log { 4 ≤ log_size }
+        requires tied { IsTied (seen P.Port (record { port = port; held = C.held core; log = []; log_size = log_size; pushed = false })) }
+        ensures ok { IfOk result (λ e. e ≡ record { port = port; held = C.held core; log = []; log_size = log_size; pushed = false }) }
+        ensures err { IfErr result (λ r. (r.0 ≡ port) × (r.1 ≡ core)) }
+    {
+        let mut log = VecDeque::new(alloc);
+        if log.reserve(log_size as usize).is_err() {
+            return Err((port, core));
+        }
+        Ok(Endpoint {
+            port,
+            core,
+            log,
+            log_size,
+            pushed: false,
+        })
+    }
+
+    /// No draw is due.
+    pub(crate) fn steady(&self)
+        ensures { draw_due self.now.held.state.rx ≡ false }
+    {
+        self.core.known();
+    }
+
+    /// Posts the next frame for a peer, where the port and the completion queue allow it. The log has a
+    /// place for what is transmitted with it.
+    pub(crate) fn post_here(&mut self, dest: u32) -> Result<Tried, NoMemory>
+        requires below { dest < P.peer_count self.old.port }
+        requires place { next_frame self.old.held dest ≢ None → length self.old.log + 1 ≤ self.old.log_size }
+        ensures posts { PostsOut (seen P.Port self.old) (seen P.Port self.new) dest result }
+        ensures others { Others dest (P.outs self.old.port) (P.outs self.new.port) }
+        ensures memory { OnErr result (P.FIXED ≢ true) }
+        ensures pushed { self.new.pushed ≡ self.old.pushed }
+    {
+        let Endpoint {
+            port,
+            core,
+            log,
+            ..
+        } = self;
+        core.known();
+        let place = core.place(dest);
+        let Some(item) = core.next(dest) else {
+            return Ok(Tried::Nothing);
+        };
+        let left = item.head.total - place;
+        if left > 4096 {
+            let after = item.head.total - (left - 4096);
+            if !post_next(port, dest, &item, place)? {
+                return Ok(Tried::Nothing);
+            }
+            core.go_on(dest, after);
+            return Ok(Tried::Moved);
+        }
+        if !core.sent_fits(dest) {
+            return Ok(Tried::Held);
+        }
+        if !post_next(port, dest, &item, place)? {
+            return Ok(Tried::Nothing);
+        }
+        core.finish(dest);
+        log.push_back_reserved(Event::Sent(dest));
+        Ok(Tried::Moved)
+    }
+
+    /// The same where the log has two free places; it is short where it has fewer.
+    fn post_one(&mut self, dest: u32) -> Result<Tried, NoMemory>
+        requires below { dest < P.peer_count self.old.port }
+        ensures tries { TriesOut (seen P.Port self.old) (seen P.Port self.new) dest result }
+        ensures others { Others dest (P.outs self.old.port) (P.outs self.new.port) }
+        ensures memory { OnErr result (P.FIXED ≢ true) }
+        ensures pushed { self.new.pushed ≡ self.old.pushed }
+    {
+        if is_short(&self.log, self.log_size) {
+            return Ok(Tried::Short);
+        }
+        self.post_here(dest)
+    }
+
+    /// Whether the next frame for a peer is the last of its item.
+    fn next_is_last(&self, dest: u32) -> bool
+        requires { dest < P.peer_count self.now.port }
+        ensures yes { result ≡ true → (f : Frame) × (next_frame self.now.held dest ≡ Some f) × (is_last f.head ≡ true) }
+        ensures no { result ≡ false → (f : Frame) → next_frame self.now.held dest ≡ Some f → is_last f.head ≡ false }
+    {
+        self.core.known();
+        let place = self.core.place(dest);
+        let Some(item) = self.core.next(dest) else {
+            return false;
+        };
+        item.head.total - place <= 4096
+    }
+
+    /// Whether the log has no more than two free places.
+    fn is_tight(&self) -> bool
+        ensures tight { result ≡ true → self.now.log_size ≤ length self.now.log + 2 }
+        ensures room { result ≡ false → length self.now.log + 3 ≤ self.now.log_size }
+    {
+        (self.log_size as usize).saturating_sub(self.log.len()) <= 2
+    }
+
+    /// Posts the next frame for a peer in a push: two places of the log stay free.
+    fn push_one(&mut self, dest: u32) -> Result<Tried, NoMemory>
+        requires below { dest < P.peer_count self.old.port }
+        requires places { HasPlaces (seen P.Port self.old) }
+        ensures tries { PushesOut (seen P.Port self.old) (seen P.Port self.new) dest result }
+        ensures others { Others dest (P.outs self.old.port) (P.outs self.new.port) }
+        ensures stays { HeldStays (seen P.Port self.old) (seen P.Port self.new) dest }
+        ensures places { HasPlaces (seen P.Port self.new) }
+        ensures memory { OnErr result (P.FIXED ≢ true) }
+        ensures pushed { self.new.pushed ≡ self.old.pushed }
+    {
+        let tight = self.is_tight();
+        let last = self.next_is_last(dest);
+        if both(last, tight) {
+            return Ok(Tried::Held);
+        }
+        self.post_one(dest)
+    }
+
+    /// The same; whether it posted one is told, and remembered.
+    fn push_on(&mut self, dest: u32) -> Result<bool, NoMemory>
+        requires below { dest < P.peer_count self.old.port }
+        requires places { HasPlaces (seen P.Port self.old) }
+        ensures tries { PushesOn (seen P.Port self.old) (seen P.Port self.new) dest result }
+        ensures others { Others dest (P.outs self.old.port) (P.outs self.new.port) }
+        ensures stays { HeldStays (seen P.Port self.old) (seen P.Port self.new) dest }
+        ensures places { HasPlaces (seen P.Port self.new) }
+        ensures memory { OnErr result (P.FIXED ≢ true) }
+        ensures less { result ≡ Ok true → left_for self.new.held dest < left_for self.old.held dest }
+    {
+        self.core.known();
+        let tried = self.push_one(dest)?;
+        let moved = has_moved(&tried);
+        self.pushed = either(self.pushed, moved);
+        Ok(moved)
+    }
+
+    /// Posts all frames for a peer that may go.
+    fn push_to(&mut self, dest: u32) -> Result<(), NoMemory>
+        requires below { dest < P.peer_count self.old.port }
+        requires places { HasPlaces (seen P.Port self.old) }
+        ensures pushes { PushesTo (seen P.Port self.old) (seen P.Port self.new) dest result }
+        ensures others { Others dest (P.outs self.old.port) (P.outs self.new.port) }
+        ensures stays { HeldStays (seen P.Port self.old) (seen P.Port self.new) dest }
+        ensures places { HasPlaces (seen P.Port self.new) }
+        ensures memory { OnErr result (P.FIXED ≢ true) }
+    {
+        while self.push_on(dest)? {}
+        Ok(())
+    }
+
+    /// Posts all frames that may go, to each peer in order; two places of the log stay free.
+    pub(crate) fn push(&mut self) -> Result<(), NoMemory>
+        requires places { HasPlaces (seen P.Port self.old) }
+        ensures pushes { Pushes (seen P.Port self.old) (seen P.Port self.new) result }
+        ensures places { HasPlaces (seen P.Port self.new) }
+        ensures memory { OnErr result (P.FIXED ≢ true) }
+    {
+        let peers = self.port.peers();
+        for dest in 0..peers {
+            self.push_to(dest)?;
+        }
+        Ok(())
+    }
+
+    /// Takes the next frame of a peer, where that may be.
+    fn take_one(&mut self, source: u32) -> Result<Tried, NoMemory>
+        requires below { source < P.peer_count self.old.port }
+        ensures tries { TriesIn (seen P.Port self.old) (seen P.Port self.new) source result }
+        ensures pushed { self.new.pushed ≡ self.old.pushed }
+    {
+        let Endpoint {
+            port,
+            core,
+            log,
+            log_size,
+            ..
+        } = self;
+        if is_short(log, *log_size) {
+            return Ok(Tried::Short);
+        }
+        core.known();
+        let Some(frame) = port.front(source) else {
+            return Ok(Tried::Nothing);
+        };
+        let head = frame.head;
+        let is_first = head.from == 0;
+        let is_last = head.from as u64 + head.len as u64 == head.item.total as u64;
+        if !core.take(source, &head, frame.bytes)? {
+            return Ok(Tried::Held);
+        }
+        port.advance(source);
+        log_if(log, is_first, Event::Head(source));
+        log_if(log, is_last, Event::Tail(source));
+        Ok(Tried::Moved)
+    }
+
+    /// One turn: for each peer in order, posts a frame and takes one, where that may be and while
+    /// fewer than `left` have moved.
+    pub(crate) fn turn(&mut self, left: u32) -> Result<Turn, NoMemory>
+        requires some { 0 < left }
+        ensures turns { Turns left (seen P.Port self.old) (seen P.Port self.new) result }
+        ensures pushed { self.new.pushed ≡ self.old.pushed }
+    {
+        let peers = self.port.peers();
+        let mut taken = 0;
+        let mut posted = 0;
+        let mut held = false;
+        for peer in 0..peers {
+            if left <= taken + posted {
+                self.steady();
+                return Ok(Turn {
+                    taken,
+                    posted,
+                    held,
+                    short: false,
+                });
+            }
+            let out = self.post_one(peer)?;
+            posted += moved_one(&out);
+            held = either(held, is_held(&out));
+            if was_short(&out) {
+                self.steady();
+                return Ok(Turn {
+                    taken,
+                    posted,
+                    held,
+                    short: true,
+                });
+            }
+            if left <= taken + posted {
+                self.steady();
+                return Ok(Turn {
+                    taken,
+                    posted,
+                    held,
+                    short: false,
+                });
+            }
+            let came = self.take_one(peer)?;
+            taken += moved_one(&came);
+            held = either(held, is_held(&came));
+            if was_short(&came) {
+                self.steady();
+                return Ok(Turn {
+                    taken,
+                    posted,
+                    held,
+                    short: true,
+                });
+            }
+        }
+        self.steady();
+        Ok(Turn {
+            taken,
+            posted,
+            held,
+            short: false,
+        })
+    }
+
+    /// Posts and takes frames in turns, until a turn moves nothing, `budget` frames have moved, or the
+    /// log is short.
+    pub(crate) fn move_frames(&mut self, budget: u32) -> Result<Moved, NoMemory>
+        ensures { Progressed budget (seen P.Port self.old) (seen P.Port self.new) result }
+    {
+        let mut taken = 0;
+        let mut posted = 0;
+        for _turn in 0..budget {
+            let turn = self.turn(budget - taken - posted)?;
+            taken += turn.taken;
+            posted += turn.posted;
+            if taken + posted == budget {
+                return Ok(Moved {
+                    taken,
+                    posted,
+                    stop: Stop::Budget,
+                });
+            }
+            if turn.short {
+                return Ok(Moved {
+                    taken,
+                    posted,
+                    stop: Stop::LogFull,
+                });
+            }
+            if turn.taken + turn.posted == 0 {
+                let stop = if turn.held { Stop::CqFull } else { Stop::Idle };
+                return Ok(Moved {
+                    taken,
+                    posted,
+                    stop,
+                });
+            }
+        }
+        Ok(Moved {
+            taken,
+            posted,
+            stop: Stop::Budget,
+        })
+    }
+}

@@ -1,0 +1,348 @@
+//! One line after the opening of a peer: which are read, and for which reason the others are refused. And the lines
+//! and settings of the manual.
+use crate::asking::{ONE, ending_in, is_built, is_whole};
+use fab_base::Why;
+use std::alloc::Global;
+use std::process::Abort;
+use std::test::Fail;
+
+/// A line, and why it is refused.
+type Row = (&'static [u8], Option<Why>);
+
+/// Lines are read or refused as their rows say, where the language is the built one. Each is the fourth of its script.
+fn are_built(rt: &impl Abort, alloc: Global, rows: &[Row]) -> Result<(), Fail> {
+    for (line, why) in rows {
+        let text = ending_in(alloc, ONE, line)?;
+        is_built(rt, alloc, &text, why.map(|why| (4, why)));
+    }
+    Ok(())
+}
+
+/// The same, where the language is the whole one.
+fn are_whole(rt: &impl Abort, alloc: Global, rows: &[Row]) -> Result<(), Fail> {
+    for (line, why) in rows {
+        let text = ending_in(alloc, ONE, line)?;
+        is_whole(rt, alloc, &text, why.map(|why| (4, why)));
+    }
+    Ok(())
+}
+
+/// Lines are read in the whole language, and none is carried out.
+fn are_unbuilt(
+    rt: &impl Abort,
+    alloc: Global,
+    front: &[u8],
+    number: u32,
+    lines: &[&[u8]],
+) -> Result<(), Fail> {
+    for line in lines {
+        let text = ending_in(alloc, front, line)?;
+        is_whole(rt, alloc, &text, None);
+        is_built(rt, alloc, &text, Some((number, Why::Unbuilt)));
+    }
+    Ok(())
+}
+
+/// Waits, for what a number is.
+const WAITS: [Row; 20] = [
+    (b"Wait 1\n", Some(Why::Verb)),
+    (b"wait 1\x7f\n", Some(Why::NotText)),
+    (b"wait 1\r", Some(Why::NotText)),
+    (b"wait\n", Some(Why::Words)),
+    (b"wait 1 2\n", Some(Why::Words)),
+    (b"wait x\n", Some(Why::Number)),
+    (b"wait -1\n", Some(Why::Number)),
+    (b"wait 18446744073709551615", None),
+    (b"wait 18446744073709551616", Some(Why::Number)),
+    (b"wait 00000000000000000001", None),
+    (b"wait 000000000000000000001", Some(Why::Number)),
+    (b"wait 0xFfffffffFFFFffff\n", None),
+    (b"wait 0x10000000000000000\n", Some(Why::Number)),
+    (b"wait 0x00000000000000001\n", Some(Why::Number)),
+    (b"wait 0x\n", Some(Why::Number)),
+    (b"wait 0X1\n", Some(Why::Number)),
+    (b"wait 0xg\n", Some(Why::Number)),
+    (b"wait\t1\n", None),
+    (b"wait 1\r\n", None),
+    (b"wait 1\r\r\n", Some(Why::NotText)),
+];
+
+#[test]
+fn waits_that_are_carried_out(rt: HostRuntime) -> Result<(), Fail> {
+    are_built(&rt, rt.alloc(), &WAITS)
+}
+
+/// Other lines.
+const LINES: [Row; 25] = [
+    (b"jump 1\n", Some(Why::Verb)),
+    (b"tsend 1 0 7\n", Some(Why::Words)),
+    (b"tsend 1 0 7 text:a b\n", Some(Why::Words)),
+    (b"tsend 1 4294967295 7 text:a\n", None),
+    (b"tsend 1 4294967296 7 text:a\n", Some(Why::Limit)),
+    (b"tsend 1 4294967296 x text:a\n", Some(Why::Number)),
+    (b"trecv 1 * 7 0\n", Some(Why::Words)),
+    (b"trecv 1 * 7 0 16 0\n", Some(Why::Words)),
+    (b"trecv 1 * 7 0 x\n", Some(Why::Number)),
+    (b"trecv 1 * 7 0 33554432\n", None),
+    (b"trecv 1 * 7 0 33554433\n", Some(Why::Limit)),
+    (b"trecv 1 * 7 18446744073709551615 0\n", None),
+    (b"peer 0\n", Some(Why::Twice)),
+    (b"peer 1\n", Some(Why::Peer)),
+    (b"peer\n", Some(Why::Words)),
+    (b"peers 1\n", Some(Why::Order)),
+    (b"fabric 1\n", Some(Why::Verb)),
+    (b"     \n", None),
+    (b"tsend 0x1 0x0 0x7 text:a\n", None),
+    (b"trecv 0x1 * 0x7 0xff 0x2000000\n", None),
+    (b"trecv 0x1 * 0x7 0xff 0x2000001\n", Some(Why::Limit)),
+    (b"\t\twait 1 \t\n", None),
+    (b"\r\n", None),
+    (b"# jump\n", None),
+    (b" #\x7f\n", Some(Why::NotText)),
+];
+
+#[test]
+fn lines_that_are_carried_out(rt: HostRuntime) -> Result<(), Fail> {
+    are_built(&rt, rt.alloc(), &LINES)
+}
+
+/// Each form that is not built yet.
+const UNBUILT: [Row; 12] = [
+    (b"send 1 0 text:a\n", Some(Why::Unbuilt)),
+    (b"caps FI_TAGGED\n", Some(Why::Unbuilt)),
+    (b"payload 1 file\n", Some(Why::Unbuilt)),
+    (b"reach send 1\n", Some(Why::Unbuilt)),
+    (b"tsend 1 0 7 text:a data=1\n", Some(Why::Unbuilt)),
+    (b"tsend 1 0 7 text:a level=match\n", Some(Why::Unbuilt)),
+    (b"tsend 1 0 7 text:a completion\n", Some(Why::Unbuilt)),
+    (b"tsend 1 0 7 hex:61\n", Some(Why::Unbuilt)),
+    (b"tsend 1 0 7 zero:1\n", Some(Why::Unbuilt)),
+    (b"tsend 1 0 7 file:1:0:1\n", Some(Why::Unbuilt)),
+    (b"trecv 1 0 7 0 16\n", Some(Why::Unbuilt)),
+    (b"wait *\n", Some(Why::Unbuilt)),
+];
+
+#[test]
+fn lines_that_are_not_built(rt: HostRuntime) -> Result<(), Fail> {
+    are_built(&rt, rt.alloc(), &UNBUILT)
+}
+
+/// Sends.
+const SENDS: [Row; 28] = [
+    (b"tsend 1 0 0x10000000000000000 text:a", Some(Why::Number)),
+    (b"send 1 0 text:a", None),
+    (b"send 1 0 hex:6Aff data=1 level=match completion", None),
+    (
+        b"send 1 0 zero:33554432 completion level=delivery data=0x1",
+        None,
+    ),
+    (b"send 1 0 zero:33554433", Some(Why::Limit)),
+    (b"send 1 0 zero:x", Some(Why::Number)),
+    (b"send 1 0 hex:6", Some(Why::Words)),
+    (b"send 1 0 hex:6g", Some(Why::Words)),
+    (b"send 1 0 file:1:2:3", None),
+    (b"send 1 0 file:1:2", Some(Why::Words)),
+    (b"send 1 0 file:1:2:3:4", Some(Why::Words)),
+    (b"send 1 0 file:1:x:3", Some(Why::Number)),
+    (b"send 1 0 file:1:2:33554433", Some(Why::Limit)),
+    (b"send 1 0 blah", Some(Why::Words)),
+    (b"send 1 0 text:a data=1 data=2", Some(Why::Words)),
+    (b"send 1 0 text:a data=x data=2", Some(Why::Words)),
+    (b"send 1 0 text:a completion completion", Some(Why::Words)),
+    (b"send 1 0 text:a level=match level=match", Some(Why::Words)),
+    (b"send 1 0 text:a level=none", Some(Why::Words)),
+    (b"send 1 0 text:a data=x", Some(Why::Number)),
+    (b"send 1 0 text:a min=1", Some(Why::Words)),
+    (b"send x 0 blah", Some(Why::Words)),
+    (b"send x 4294967296 text:a", Some(Why::Number)),
+    (b"send 1 4294967296 text:a", Some(Why::Limit)),
+    (b"tsend 1 0 2 text: level=inject", None),
+    (b"inject 0 text:a data=5", None),
+    (b"inject 0 text:a completion", Some(Why::Words)),
+    (b"tinject 0 7 text:a data=5", None),
+];
+
+#[test]
+fn sends_of_the_whole_language(rt: HostRuntime) -> Result<(), Fail> {
+    are_whole(&rt, rt.alloc(), &SENDS)
+}
+
+/// Receives, and what is done with unexpected messages.
+const RECEIVES: [Row; 19] = [
+    (b"mrecv 1 * 100 min=4294967295", None),
+    (b"recv 1 4294967295 5", None),
+    (b"take 1 33554432", None),
+    (b"take 1 33554433", Some(Why::Limit)),
+    (b"trecv 1 * 0 0 33554433", Some(Why::Limit)),
+    (b"recv 1 0 5", None),
+    (b"recv 1 * 5", None),
+    (b"recv 1 x 5", Some(Why::Number)),
+    (b"recv 1 4294967296 5", Some(Why::Limit)),
+    (b"trecv 1 3 7 0 5", None),
+    (b"mrecv 1 * 100 min=10", None),
+    (b"mrecv 1 * 100", None),
+    (b"mrecv 1 * 100 min=4294967296", Some(Why::Limit)),
+    (b"peek 1 * 7 0", None),
+    (b"claim 1 2 7 0", None),
+    (b"discard 1 * 7 0", None),
+    (b"take 1 5", None),
+    (b"drop 1", None),
+    (b"cancel 1", None),
+];
+
+#[test]
+fn receives_of_the_whole_language(rt: HostRuntime) -> Result<(), Fail> {
+    are_whole(&rt, rt.alloc(), &RECEIVES)
+}
+
+/// Atomics.
+const ATOMICS: [Row; 21] = [
+    (b"atomic 1 0 1 0 FI_SUM u8 256", Some(Why::Number)),
+    (b"atomic 1 0 1 0 FI_SUM u8 255,0", None),
+    (b"atomic 1 0 1 0 FI_SUM u8 255 completion", None),
+    (b"atomic 1 0 1 0 FI_SUM u8 -1", Some(Why::Number)),
+    (b"atomic 1 0 1 0 FI_SUM u8 0x1", Some(Why::Number)),
+    (b"atomic 1 0 1 0 FI_SUM u8 1,", Some(Why::Number)),
+    (b"atomic 1 0 1 0 FI_SUM i8 -128,127,-0", None),
+    (b"atomic 1 0 1 0 FI_SUM i8 -129", Some(Why::Number)),
+    (b"atomic 1 0 1 0 FI_SUM i8 128", Some(Why::Number)),
+    (b"atomic 1 0 1 0 FI_SUM i64 -9223372036854775808", None),
+    (
+        b"atomic 1 0 1 0 FI_SUM u64 18446744073709551616",
+        Some(Why::Number),
+    ),
+    (b"atomic 1 0 1 0 FI_SUM u9 1", Some(Why::Words)),
+    (b"atomic x 0 1 0 FI_NONE u8 1", Some(Why::Words)),
+    (b"atomic 1 0 1 0 FI_SUM u8", Some(Why::Words)),
+    (b"fetch 1 0 1 0 FI_SUM u8 *3", Some(Why::Number)),
+    (b"fetch 1 0 1 0 FI_ATOMIC_READ u8 3", Some(Why::Words)),
+    (b"fetch 1 0 1 0 FI_ATOMIC_READ u8 *x", Some(Why::Number)),
+    (b"fetch 1 0 1 0 FI_ATOMIC_READ u8 *4194304", None),
+    (
+        b"fetch 1 0 1 0 FI_ATOMIC_READ u8 *4194305",
+        Some(Why::Limit),
+    ),
+    (b"compare 1 0 1 0 FI_CSWAP u32 1,2 3,4", None),
+    (b"compare 1 0 1 0 FI_CSWAP u32 1,2", Some(Why::Words)),
+];
+
+#[test]
+fn atomics_of_the_whole_language(rt: HostRuntime) -> Result<(), Fail> {
+    are_whole(&rt, rt.alloc(), &ATOMICS)
+}
+
+/// All other kinds of lines.
+const OTHERS: [Row; 22] = [
+    (b"remove 4294967295", None),
+    (b"remove 4294967296", Some(Why::Limit)),
+    (b"read 1 0 10 0 33554433", Some(Why::Limit)),
+    (b"lane 2", Some(Why::Order)),
+    (b"wait", Some(Why::Words)),
+    (b"wait \xc8", Some(Why::NotText)),
+    (b"read 1 0 10 0 8", None),
+    (b"write 1 0 10 0 text:a data=1 completion", None),
+    (b"write 1 0 10 0 text:a level=match", Some(Why::Words)),
+    (b"winject 0 10 0 text:a data=1", None),
+    (b"reg 10 rw zero:8", None),
+    (b"reg 10 - zero:8", None),
+    (b"reg 10 wr zero:8", Some(Why::Words)),
+    (b"close 10", None),
+    (b"put 10 0 text:a", None),
+    (b"show 10", None),
+    (b"insert shm://0", None),
+    (b"remove 0", None),
+    (b"wait *", None),
+    (b"count remote_write", None),
+    (b"reach send 3", None),
+    (b"reach sent 3", Some(Why::Words)),
+];
+
+#[test]
+fn other_lines_of_the_whole_language(rt: HostRuntime) -> Result<(), Fail> {
+    are_whole(&rt, rt.alloc(), &OTHERS)
+}
+
+/// The lines on messages that docs/SCRIPT.md has as examples, but for those that are carried out.
+const MANUAL_MESSAGES: [&[u8]; 28] = [
+    b"send 1 0 text:hello",
+    b"send 1 0 hex:68656C6c6f",
+    b"send 1 0 zero:8",
+    b"send 1 0 file:1:0:5",
+    b"send 1 0 text:hello data=9",
+    b"send 1 0 text:hello level=inject",
+    b"send 1 0 text:hello level=transmit",
+    b"send 1 0 text:hello level=delivery",
+    b"send 1 0 text:hello level=match",
+    b"send 1 0 text:hello completion",
+    b"send 1 0 text:hello data=9 level=delivery completion",
+    b"tsend 2 0 7 hex:6869",
+    b"tsend 2 0 7 text:hello completion level=match data=9",
+    b"inject 0 text:hello",
+    b"inject 0 text:hello data=9",
+    b"tinject 0 7 text:hello",
+    b"tinject 0 7 text:hello data=9",
+    b"recv 1 * 16",
+    b"recv 1 0 16",
+    b"trecv 1 0 7 0 16",
+    b"mrecv 1 * 4096",
+    b"mrecv 1 * 4096 min=256",
+    b"peek 1 * 7 0",
+    b"claim 1 * 7 0",
+    b"take 1 16",
+    b"drop 1",
+    b"discard 1 * 7 0",
+    b"cancel 1",
+];
+
+#[test]
+fn messages_of_the_manual(rt: HostRuntime) -> Result<(), Fail> {
+    are_unbuilt(&rt, rt.alloc(), ONE, 4, &MANUAL_MESSAGES)
+}
+
+/// Its other lines.
+const MANUAL_OTHERS: [&[u8]; 22] = [
+    b"read 1 0 9 0 8",
+    b"write 1 0 9 0 text:hello",
+    b"write 1 0 9 0 text:hello data=9 completion",
+    b"winject 0 9 0 text:hello",
+    b"winject 0 9 0 text:hello data=9",
+    b"atomic 1 0 9 0 FI_SUM i32 5,-1",
+    b"atomic 1 0 9 0 FI_SUM i32 5,-1 completion",
+    b"fetch 1 0 9 0 FI_BOR u8 1,2,4",
+    b"fetch 1 0 9 0 FI_ATOMIC_READ u64 *2",
+    b"compare 1 0 9 0 FI_CSWAP u64 7 0",
+    b"reg 9 rw zero:64",
+    b"reg 9 r text:hello",
+    b"reg 9 w zero:64",
+    b"reg 9 - zero:64",
+    b"put 9 8 text:hello",
+    b"show 9",
+    b"close 9",
+    b"insert shm://1",
+    b"remove 1",
+    b"wait *",
+    b"count recv",
+    b"reach recv 3",
+];
+
+#[test]
+fn other_lines_of_the_manual(rt: HostRuntime) -> Result<(), Fail> {
+    are_unbuilt(&rt, rt.alloc(), ONE, 4, &MANUAL_OTHERS)
+}
+
+/// Its settings.
+const MANUAL_SETTINGS: [&[u8]; 8] = [
+    b"caps FI_TAGGED,FI_SEND",
+    b"lane 128",
+    b"pool 64",
+    b"tx 16",
+    b"rx 512",
+    b"cq 4096",
+    b"selective",
+    b"payload 1 words.txt",
+];
+
+#[test]
+fn settings_of_the_manual(rt: HostRuntime) -> Result<(), Fail> {
+    are_unbuilt(&rt, rt.alloc(), b"fabric 1\npeers 2\n", 3, &MANUAL_SETTINGS)
+}
