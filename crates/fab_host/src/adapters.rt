@@ -1,6 +1,6 @@
 //! The real files, output and clock, as the run sees them. They tell no contents, and count their faults.
 ghost use Rattle.std.specs.Prelude.{◌≡◌, ◌+◌, ◌^◌, ◌<◌, ◌≤◌, IfOk, IfSome, OnErr, is_ok, if◌then◌else◌, None, length, take, vec_len};
-ghost use Rattle.std.specs.Io.KnownBytes.{Appends};
+ghost use Rattle.std.specs.Io.KnownBytes.{Appends, Keeps};
 ghost use Rattle.fab_base.specs.Counts.{Rose, counted};
 ghost use Rattle.fab_top.specs.Refused.{IfTooLong};
 
@@ -12,7 +12,7 @@ use std::rt::Files;
 use std::{fs, rt};
 
 /// Why a file was not read.
-#[derive(Clone, Copy, Debug)]
+#[derive(Clone, Copy)]
 enum ReadRefused {
     Failed,
     NoMemory,
@@ -141,8 +141,9 @@ impl<W: Write> Sink for OutSink<W> {
         ensures within { IfOk result (λ n. n ≤ length piece.now) }
         ensures failed { OnErr result (Rose self.old.faults self.new.faults) }
 
-        // Where the output's bytes are known, they grew by those taken.
+        // Where the output's bytes are known, they grew by those taken, and stayed where none were.
         ensures ok { IfOk result (λ n. Appends (W.contents self.old.out) (W.contents self.new.out) (take n piece.now)) }
+        ensures err { OnErr result (Keeps (W.contents self.old.out) (W.contents self.new.out)) }
         ensures counted { self.new.faults ≡ (if is_ok result then self.old.faults else counted self.old.faults) }
     {
         match self.out.write(piece) {
@@ -205,6 +206,3 @@ impl Gate for OpenGate {
 
     fn leave(&self, _peer: u32, _round: u32) {}
 }
-
-#[cfg(test)]
-mod tests;

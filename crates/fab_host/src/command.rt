@@ -1,47 +1,128 @@
 //! One run of the program, from the words of its command line to its exit status.
-ghost use Rattle.std.specs.Prelude.{◌≡◌, IfOk, map, drop, string_bytes};
+ghost use Rattle.std.specs.Prelude.{◌≡◌, ◌<◌, ◌≤◌, ◌↔◌, ℕ, List, true, false, None, Some, IfOk, map, drop, length, string_bytes};
+ghost use Rattle.std.specs.Process.{exit_status};
 ghost use Rattle.std.specs.Vec.Iter.{into_iter_items};
+ghost use Rattle.fab_base.specs.Counts.{Rose};
+ghost use Rattle.fab_base.specs.declared.status.Status.TheVariants.{Done, Stuck, Usage, ScriptRefused, TooLong, ReadFault, WriteFault};
+ghost use Rattle.fab_base.specs.declared.status.Why.{Why};
+ghost use Rattle.fab_top.specs.Runs.{command_of, IsRefused, IsTooLong, Writes, WritesPart, IsSilent};
+ghost use Rattle.fab_host.specs.Ending.{status_number, IsTold, HasReported};
 
 use crate::adapters::{FileDepot, OpenGate, OutSink, WallClock};
-use crate::ending::{exit_status, tell};
-use fab_base::{NoMemory, Status, Text};
-use fab_top::run;
+use crate::ending::end;
+use fab_base::{Gate, NoMemory, Status, Text};
+use fab_top::{Clock, Depot, Sink, run};
 use std::alloc::Global;
 use std::env::Args;
-use std::io;
-use std::io::ErrorKind;
+use std::io::{ErrorKind, Write};
 use std::process::ExitCode;
-use std::rt::Env;
+use std::rt::{Env, Files};
+use std::sync::Wait;
+use std::thread::Threads;
+use std::{io, rt};
 
-/// Runs the script that the words of the command line name. The report goes to standard output; an end without
-/// one is told in one line on standard error, and the exit status tells which it is.
-pub fn program(rt: &HostRuntime) -> ExitCode {
-    let status = match words_of(rt) {
-        Ok(words) => {
-            let mut depot = FileDepot::new(rt);
-            let mut sink = OutSink::new(io::writer(rt));
-            let mut clock = WallClock::new(rt);
-            run(
-                rt.alloc(),
-                &words,
-                &mut depot,
-                &mut sink,
-                &mut clock,
-                &OpenGate,
-            )
-        }
-        Err(refused) => refused,
-    };
-    let _ = tell(rt, &status);
-    ExitCode::from(exit_status(&status))
+/// How a command ended, and the exit status that says so.
+#[derive(Drop)]
+pub struct Ended {
+    pub status: Status,
+    pub code: ExitCode,
 }
 
-/// The words of the command line after the program's name. One that is no text is no command.
-fn words_of(rt: &(impl Env + AllocGlobal)) -> Result<Vec<Text>, Status> {
+/// Runs the command that these words are, as [`run`] does, and tells its end: the exit status is the
+/// number of the status, and `errors` gets its line, unless the whole report was written.
+pub fn carry_out<R, D: Depot, S: Sink, C: Clock, G: Gate, E: Sink>(
+    rt: &R,
+    alloc: Global,
+    words: &[Text],
+    depot: &mut D,
+    sink: &mut S,
+    clock: &mut C,
+    gate: &G,
+    errors: &mut E,
+) -> Ended
+where
+    R: Threads + Wait + Sync,
+    requires { C.given clock.old ≡ 0 }
+    ensures usage { (result.status ≡ Usage) ↔ (command_of words.now ≡ None) }
+    ensures refused { (line : ℕ) (why : Why) → result.status ≡ ScriptRefused line why → IsRefused (D.files depot.old) words.now line why }
+    ensures too_long { (name : List ℕ) → result.status ≡ TooLong name → IsTooLong (D.files depot.old) words.now name }
+    ensures read_fault { (name : List ℕ) → result.status ≡ ReadFault name → (command_of words.now ≡ Some name)
+        × Rose (D.faults depot.old) (D.faults depot.new) × (D.failed_name depot.new ≡ Some name) }
+    ensures done { result.status ≡ Done → Writes (D.files depot.old) words.now true (S.bytes sink.old) (S.bytes sink.new) }
+    ensures stuck { result.status ≡ Stuck → Writes (D.files depot.old) words.now false (S.bytes sink.old) (S.bytes sink.new) }
+    ensures write_fault { result.status ≡ WriteFault → Rose (S.faults sink.old) (S.faults sink.new)
+        × WritesPart (D.files depot.old) words.now (S.bytes sink.old) (S.bytes sink.new) }
+    ensures silent { IsSilent result.status → S.bytes sink.new ≡ S.bytes sink.old }
+    ensures files { D.files depot.new ≡ D.files depot.old }
+
+    // The end is told.
+    ensures code { exit_status result.code ≡ status_number result.status }
+    ensures told { IsTold (E.bytes errors.old) (E.bytes errors.new) (E.faults errors.old) (E.faults errors.new) result.status }
+{
+    let status = run(rt, alloc, words, depot, sink, clock, gate);
+    let code = end(errors, &status);
+    Ended { status, code }
+}
+
+/// Runs the command that the words of the command line are. The report goes to standard output; an end without
+/// one is told in one line on standard error, which is `errors`, and the exit status tells which it is.
+///
+/// No contract can say which words, files and bytes the system gives and takes. The exit status is 0 or 1 only
+/// where a script was run and its report was written.
+pub fn program<R, E: Write + Drop>(rt: &R, errors: E) -> ExitCode
+where
+    R: Env + Files + rt::Clock + Print + AllocGlobal + Threads + Wait + Sync,
+    ensures done { exit_status result ≡ 0 → HasReported true }
+    ensures stuck { exit_status result ≡ 1 → HasReported false }
+    ensures few { exit_status result ≤ 7 }
+{
+    let mut errors = OutSink::new(errors);
+    let words = match words_of(rt) {
+        Ok(words) => words,
+        Err(refused) => return end(&mut errors, &refused.status()),
+    };
+    let mut depot = FileDepot::new(rt);
+    let mut sink = OutSink::new(io::writer(rt));
+    let mut clock = WallClock::new(rt);
+    let ended = carry_out(
+        rt,
+        rt.alloc(),
+        &words,
+        &mut depot,
+        &mut sink,
+        &mut clock,
+        &OpenGate,
+        &mut errors,
+    );
+    ended.code
+}
+
+/// Why there are no words.
+#[derive(Clone, Copy)]
+enum WordsRefused {
+    /// A word is no text.
+    NotText,
+    NoMemory,
+}
+
+impl WordsRefused {
+    /// How the program ends then. A word that is no text is no command.
+    fn status(self) -> Status
+        ensures { IsSilent result }
+    {
+        match self {
+            WordsRefused::NotText => Status::Usage,
+            WordsRefused::NoMemory => Status::NoMemory,
+        }
+    }
+}
+
+/// The words of the command line after the program's name.
+fn words_of<R: Env + AllocGlobal>(rt: &R) -> Result<Vec<Text>, WordsRefused> {
     match std::env::args(rt) {
-        Ok(args) => texts_of(rt.alloc(), args).map_err(|_| Status::NoMemory),
-        Err(error) if error.kind() == ErrorKind::OutOfMemory => Err(Status::NoMemory),
-        Err(_) => Err(Status::Usage),
+        Ok(args) => texts_of(rt.alloc(), args).map_err(|_| WordsRefused::NoMemory),
+        Err(error) if error.kind() == ErrorKind::OutOfMemory => Err(WordsRefused::NoMemory),
+        Err(_) => Err(WordsRefused::NotText),
     }
 }
 

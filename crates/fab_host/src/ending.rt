@@ -1,12 +1,26 @@
 //! How the program ends: its line on standard error and its exit status.
-ghost use Rattle.std.specs.Prelude.{◌≡◌};
-ghost use Rattle.fab_host.specs.Ending.{status_number, why_name};
+ghost use Rattle.std.specs.Prelude.{◌≡◌, ◌≤◌, ◌++◌, ◌∷◌, [], OnOk, OnErr, decimal};
+ghost use Rattle.std.specs.Io.KnownBytes.{append_known};
+ghost use Rattle.std.specs.Process.{exit_status};
+ghost use Rattle.fab_base.specs.Counts.{Rose};
+ghost use Rattle.fab_host.specs.Ending.{status_number, why_name, line_of_end, IsTold};
 
 use fab_base::{Status, Why};
-use std::{fmt, io};
+use fab_top::{Failed, Sink, write_all};
+use std::process::ExitCode;
+
+/// Tells the end on one line, unless the whole report was written, and gives the exit status. Where
+/// the line can't be written, the exit status stays.
+pub fn end<E: Sink>(errors: &mut E, status: &Status) -> ExitCode
+    ensures code { exit_status result ≡ status_number status.now }
+    ensures told { IsTold (E.bytes errors.old) (E.bytes errors.new) (E.faults errors.old) (E.faults errors.new) status.now }
+{
+    let _ = tell(errors, status);
+    ExitCode::from(number_of(status))
+}
 
 /// The exit status of this end.
-pub fn exit_status(status: &Status) -> u8
+fn number_of(status: &Status) -> u8
     ensures { result ≡ status_number status.now }
 {
     match status {
@@ -21,44 +35,54 @@ pub fn exit_status(status: &Status) -> u8
     }
 }
 
-/// One line on standard error, unless the whole report was written.
-pub fn tell(rt: &impl Eprint, status: &Status) -> io::Result<()> {
+/// One line, unless the whole report was written. Takes no memory, so that want of it can be told.
+fn tell<E: Sink>(errors: &mut E, status: &Status) -> Result<(), Failed>
+    ensures ok { OnOk result (E.bytes errors.new ≡ append_known (E.bytes errors.old) (line_of_end status.now)) }
+    ensures failed { OnErr result (Rose (E.faults errors.old) (E.faults errors.new)) }
+{
     match status {
         Status::Done | Status::Stuck => Ok(()),
-        _ => rt.eprintln(Told(status)),
+        Status::Usage => tell_named(errors, "usage: ", "fabric_pingpong script FILE"),
+        Status::ScriptRefused { line, why } => tell_refused(errors, *line, *why),
+        Status::TooLong { name } => tell_named(errors, "too long: ", name.as_str()),
+        Status::ReadFault { name } => tell_named(errors, "read fault: ", name.as_str()),
+        Status::WriteFault => tell_named(errors, "write fault", ""),
+        Status::NoMemory => tell_named(errors, "out of memory", ""),
     }
 }
 
-/// What is told of an end that left no whole report, on one line.
-#[derive(Drop)]
-struct Told<'a>(&'a Status);
+/// A line of two texts.
+fn tell_named<E: Sink>(errors: &mut E, front: &str, name: &str) -> Result<(), Failed>
+    ensures ok { OnOk result (E.bytes errors.new ≡ append_known (E.bytes errors.old) (front.now ++ name.now ++ 10 ∷ [])) }
+    ensures failed { OnErr result (Rose (E.faults errors.old) (E.faults errors.new)) }
+{
+    write_all(errors, front.as_bytes())?;
+    write_all(errors, name.as_bytes())?;
+    write_all(errors, b"\n")
+}
 
-impl fmt::Display for Told<'_> {
-    ghost use Rattle.std.specs.Prelude.{Some};
-    ghost use Rattle.fab_host.specs.Ending.{line_of_end};
+/// The line of a script that is refused.
+fn tell_refused<E: Sink>(errors: &mut E, line: u32, why: Why) -> Result<(), Failed>
+    ensures ok { OnOk result (E.bytes errors.new ≡ append_known (E.bytes errors.old) (line_of_end (Status.ScriptRefused line why))) }
+    ensures failed { OnErr result (Rose (E.faults errors.old) (E.faults errors.new)) }
+{
+    write_all(errors, b"script refused at line ")?;
+    write_number(errors, line)?;
+    tell_named(errors, ": ", name_of(why))
+}
 
-    ghost output = { λ told. Some (line_of_end told.0.now) };
-
-    fn fmt<W: fmt::Write>(&self, f: &mut fmt::Formatter<W>) -> fmt::Result {
-        match self.0 {
-            Status::Done | Status::Stuck => Ok(()),
-            Status::Usage => f.write_str("usage: fabric_pingpong script FILE"),
-            Status::ScriptRefused { line, why } => {
-                let why = name_of(*why);
-                write!(f, "script refused at line {line}: {why}")
-            }
-            Status::TooLong { name } => {
-                let name = name.as_str();
-                write!(f, "too long: {name}")
-            }
-            Status::ReadFault { name } => {
-                let name = name.as_str();
-                write!(f, "read fault: {name}")
-            }
-            Status::WriteFault => f.write_str("write fault"),
-            Status::NoMemory => f.write_str("out of memory"),
-        }
+/// A number in decimal.
+fn write_number<E: Sink>(errors: &mut E, number: u32) -> Result<(), Failed>
+    ensures never_falls { E.faults errors.old ≤ E.faults errors.new }
+    ensures ok { OnOk result (E.bytes errors.new ≡ append_known (E.bytes errors.old) (decimal number)) }
+    ensures failed { OnErr result (Rose (E.faults errors.old) (E.faults errors.new)) }
+{
+    let last = [b'0' + (number % 10) as u8];
+    if number < 10 {
+        return write_all(errors, &last);
     }
+    write_number(errors, number / 10)?;
+    write_all(errors, &last)
 }
 
 /// The name of the reason for which a script is refused.
@@ -79,44 +103,5 @@ fn name_of(why: Why) -> &'static str
         Why::NoData => "NoData",
         Why::Missing => "Missing",
         Why::FileRange => "FileRange",
-    }
-}
-
-#[cfg(test)]
-mod tests {
-    use super::Told;
-    use fab_base::{Status, Text, Why};
-    use std::test::Fail;
-
-    #[test]
-    fn each_refusal_has_its_line(rt: HostRuntime) -> Result<(), Fail> {
-        let alloc = rt.alloc();
-        let refused = Status::ScriptRefused {
-            line: 4,
-            why: Why::FileRange,
-        };
-        let table = vec![in alloc;
-            (Status::Usage, "usage: fabric_pingpong script FILE"),
-            (refused, "script refused at line 4: FileRange"),
-            (
-                Status::TooLong {
-                    name: Text::copy(alloc, "a b")?
-                },
-                "too long: a b"
-            ),
-            (
-                Status::ReadFault {
-                    name: Text::copy(alloc, "x")?
-                },
-                "read fault: x"
-            ),
-            (Status::WriteFault, "write fault"),
-            (Status::NoMemory, "out of memory"),
-        ]?;
-        for (status, want) in &table {
-            let line = format!(in alloc; "{}", Told(status))?;
-            assert_eq!(rt; line.as_str(), *want);
-        }
-        Ok(())
     }
 }

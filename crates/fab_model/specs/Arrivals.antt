@@ -113,7 +113,7 @@ keeping source bytes rx = record rx {
   claimed = map (λ c. (c.0, completed source bytes c.1)) rx.claimed;
 }
 
--- a performed write with remote data tells its target (FI_RMA_EVENT of fi_cq(3))
+-- a performed write with remote data tells its target (FI_REMOTE_CQ_DATA of fi_cq(3)), whether or not FI_RMA_EVENT is granted
 abbrev pub remote_data : Outcome → ℕ → ItemHead → State → State
 remote_data Done source head s = elim head.kind [
   | WriteReq ↦ elim head.imm [ None ↦ s | Some imm ↦ write None (Success (RemoteData source imm)) s ]

@@ -93,6 +93,8 @@ start bound schedule = record { states = opening bound; left = schedule }
 unfoldable pub replayed : Bound → List (List Step) → Moment Actor Step
 replayed bound schedule = replay (rule fabric) (start bound schedule)
 
+-- No step is left over. A peer that has no list takes no steps, and a list beyond the peers may be empty: who gets a
+-- schedule from elsewhere asks besides that it has one list for each peer.
 abbrev pub Lawful : Bound → List (List Step) → Type 0
 Lawful bound schedule = steps_left (replayed bound schedule) ≡ 0
 

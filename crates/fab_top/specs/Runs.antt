@@ -3,6 +3,7 @@
 --     alone script            a script that has no payload files
 --     Reports bound text      the text is the report of the lawful schedule that its trace lines tell, and at its end the peers are at rest
 --     IsRead, IsUnread        what was loaded is a script, or why it is none
+--     IsRefused, IsTooLong    the words name a file that spells no script, or is too long
 --     Writes, WritesPart      the report is written, or a part of it
 use Rattle.std.specs.Prelude.{◌≡◌, ℕ, ◌<◌, ◌≤◌, Bool, true, List, [], ◌∷◌, length, take, bytes_eq, codes, Option, Some, None, if◌then◌else◌}
 use Rattle.std.specs.Io.KnownBytes.{append_known}
@@ -11,6 +12,7 @@ use Rattle.fab_base.specs.declared.script.Bound.{Bound}
 use Rattle.fab_base.specs.declared.script.Script.{Script}
 use Rattle.fab_base.specs.declared.status.Status.{Status}
 use Rattle.fab_base.specs.declared.status.Status.TheVariants.{Done, Stuck, Usage, ScriptRefused, TooLong, ReadFault, WriteFault, NoMemory}
+use Rattle.fab_base.specs.declared.status.Why.{Why}
 use Rattle.fab_model.specs.Peers.{Actor}
 use Rattle.fab_model.specs.Replay.{Lawful, replayed, at_rest, all_done, is_empty}
 use Rattle.fab_model.specs.Report.{report, traces}
@@ -56,6 +58,15 @@ IsUnread files name faults faults' failed Done = ⊥
 IsUnread files name faults faults' failed Stuck = ⊥
 IsUnread files name faults faults' failed Usage = ⊥
 IsUnread files name faults faults' failed WriteFault = ⊥
+
+-- the words name a file that is no script: this is the first line that breaks a rule, and the first rule that it breaks
+abbrev pub IsRefused : Option (List ℕ → Option (List ℕ)) → List (List ℕ) → ℕ → Why → Type 0
+IsRefused files words line why = (name : List ℕ) × (command_of words ≡ Some name)
+    × ((bytes : List ℕ) × IsFile files name bytes × (length bytes ≤ script_max) × (refusal_of bytes ≡ Some (line, why)))
+
+-- the words name this file, and it is too long for a script
+abbrev pub IsTooLong : Option (List ℕ → Option (List ℕ)) → List (List ℕ) → List ℕ → Type 0
+IsTooLong files words name = (command_of words ≡ Some name) × ((bytes : List ℕ) × BeginsFile files name bytes × (script_max < length bytes))
 
 -- the words name a file that spells a script, and a report of it is written
 pub record Writes (files : Option (List ℕ → Option (List ℕ))) (words : List (List ℕ)) (done : Bool) (before after : Option (List ℕ)) : Type 0 where

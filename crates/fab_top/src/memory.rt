@@ -9,7 +9,7 @@ use fab_base::{Buf, Text};
 use std::alloc::Global;
 
 /// Files in memory. Of two files of one name the first counts.
-#[derive(Debug, Drop)]
+#[derive(Drop)]
 pub struct MemoryDepot {
     /// The files' names and bytes.
     pub files: Vec<(Text, Buf)>,
@@ -24,6 +24,19 @@ pub struct MemoryDepot {
 }
 
 impl MemoryDepot {
+    /// A depot of these files, whose loads of these numbers fail. No load was made or failed.
+    pub fn new(files: Vec<(Text, Buf)>, failing: Vec<u64>) -> MemoryDepot
+        ensures { result ≡ record { files = files; failing = failing; calls = 0; failed = None; faults = 0 } }
+    {
+        MemoryDepot {
+            files,
+            failing,
+            calls: 0,
+            failed: None,
+            faults: 0,
+        }
+    }
+
     fn find(&self, name: &Text) -> Option<&Buf>
         ensures { option_copied result ≡ file_of self.now.files.items name.now }
     {
@@ -52,7 +65,8 @@ impl Depot for MemoryDepot {
     ghost failed_name = { λ depot. depot.failed };
 
     /// The first file of this name. Fails where this load's number is listed, and where there is no
-    /// such file. Takes the memory of the name first.
+    /// such file, and nowhere else. Takes the memory of the name first. The name and the bytes are
+    /// copied, so memory may be wanting at any load; such a load leaves all but the number of calls.
     fn load(&mut self, alloc: Global, name: &Text, limit: u64) -> Result<Buf, LoadRefused>
         requires { limit + 1 < 2 ^ 64 }
         ensures files { self.new.files ≡ self.old.files }
@@ -94,7 +108,7 @@ impl Depot for MemoryDepot {
 }
 
 /// An output in memory.
-#[derive(Debug, Drop)]
+#[derive(Drop)]
 pub struct MemorySink {
     /// What was written.
     pub bytes: Vec<u8>,
@@ -109,15 +123,37 @@ pub struct MemorySink {
     pub ghost takes_some: { 0 < most },
 }
 
+impl MemorySink {
+    /// An empty output that takes at most so many bytes at a call, and whose calls of these numbers
+    /// fail. No call was made or failed.
+    pub fn new(alloc: Global, most: u64, failing: Vec<u64>) -> MemorySink
+        requires { 0 < most }
+        ensures empty { result.bytes.items ≡ [] }
+        ensures most { result.most ≡ most }
+        ensures failing { result.failing ≡ failing }
+        ensures calls { result.calls ≡ 0 }
+        ensures faults { result.faults ≡ 0 }
+    {
+        MemorySink {
+            bytes: Vec::new(alloc),
+            most,
+            failing,
+            calls: 0,
+            faults: 0,
+        }
+    }
+}
+
 impl Sink for MemorySink {
     ghost use Rattle.fab_base.specs.Counts.{Rose};
+    ghost use Rattle.fab_top.specs.Memory.{IsListed, LacksRoom};
 
     ghost bytes = { λ sink. Some sink.bytes.items };
 
     ghost faults = { λ sink. sink.faults };
 
     /// Takes as many bytes as there are, but at most `most`. Fails where this call's number is listed,
-    /// and at want of memory.
+    /// and else only where the bytes have no room and memory for more is wanting.
     fn write(&mut self, piece: &[u8]) -> Result<usize, Failed>
         requires { 0 < length piece.now }
         ensures never_falls { self.old.faults ≤ self.new.faults }
@@ -128,7 +164,8 @@ impl Sink for MemorySink {
         ensures err { OnErr result (self.new.bytes.items ≡ self.old.bytes.items) }
 
         ensures taken { IfOk result (λ n. n ≡ min self.old.most (length piece.now)) }
-        ensures fails { Contains self.old.failing.items (counted self.old.calls) → IsErr result }
+        ensures fails { IsListed self.old → IsErr result }
+        ensures told { IsErr result → IsListed self.old ⊎ LacksRoom self.old (length piece.now) }
         ensures counted { self.new.faults ≡ (if is_ok result then self.old.faults else counted self.old.faults) }
         ensures calls { self.new.calls ≡ counted self.old.calls }
         ensures failing { self.new.failing ≡ self.old.failing }
@@ -136,9 +173,11 @@ impl Sink for MemorySink {
     {
         self.calls = self.calls.saturating_add(1);
         let taken = piece.len().min(self.most as usize);
-        if self.failing.contains(&self.calls)
-            || self.bytes.extend_from_slice(&piece[..taken]).is_err()
-        {
+        if self.failing.contains(&self.calls) {
+            self.faults = self.faults.saturating_add(1);
+            return Err(Failed);
+        }
+        if self.bytes.extend_from_slice(&piece[..taken]).is_err() {
             self.faults = self.faults.saturating_add(1);
             return Err(Failed);
         }
@@ -147,7 +186,7 @@ impl Sink for MemorySink {
 }
 
 /// A clock that gives the moments of a list in their order, and the last one from then on.
-#[derive(Debug, Drop)]
+#[derive(Drop)]
 pub struct MemoryClock {
     /// The moments, in microseconds.
     pub moments: Vec<u64>,
@@ -157,6 +196,20 @@ pub struct MemoryClock {
     pub first: u64,
     /// The last moment given.
     pub last: u64,
+}
+
+impl MemoryClock {
+    /// A clock that gives these moments. It has given none.
+    pub fn new(moments: Vec<u64>) -> MemoryClock
+        ensures { result ≡ record { moments = moments; given = 0; first = 0; last = 0 } }
+    {
+        MemoryClock {
+            moments,
+            given: 0,
+            first: 0,
+            last: 0,
+        }
+    }
 }
 
 impl Clock for MemoryClock {
@@ -194,6 +247,3 @@ impl Clock for MemoryClock {
         moment
     }
 }
-
-#[cfg(test)]
-mod tests;

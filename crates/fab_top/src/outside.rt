@@ -9,11 +9,11 @@ use fab_base::{Buf, NoMemory, Text};
 use std::alloc::{AllocError, Global};
 
 /// The output failed: it took nothing of this piece.
-#[derive(Clone, Copy, Debug, Drop, Eq, PartialEq)]
+#[derive(Clone, Copy, Drop, Eq, PartialEq)]
 pub struct Failed;
 
 /// Why a file was not loaded.
-#[derive(Debug, Drop, Eq, PartialEq)]
+#[derive(Drop, Eq, PartialEq)]
 pub enum LoadRefused {
     /// The file could not be read.
     Failed,
@@ -49,7 +49,8 @@ impl From<AllocError> for LoadRefused {
 ///
 /// It tells the files that it holds, or tells none; a count of its faults, which never falls; and the
 /// name given to the load in which that count last rose. A count that is stored in 64 bits stays at
-/// its last value, where each fault counts as a rise.
+/// its last value, where each fault counts as a rise; whoever makes a depot says that its count begins
+/// at 0.
 pub trait Depot {
     /// From a name's bytes to that file's bytes, where the depot tells its files.
     ghost files: { Self → Option (List ℕ → Option (List ℕ)) };
@@ -79,7 +80,8 @@ pub trait Depot {
 
 /// What takes the text.
 ///
-/// It tells the bytes written so far, or tells none, and a count of its faults, which never falls.
+/// It tells the bytes written so far, or tells none, and a count of its faults, which never falls, rises
+/// as that of a [`Depot`] does, and begins at 0.
 pub trait Sink {
     ghost bytes: { Self → Option (List ℕ) };
 

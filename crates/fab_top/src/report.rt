@@ -549,6 +549,3 @@ pub fn add_peer(
     add_pending(out, pending)?;
     add_trace(out, steps)
 }
-
-#[cfg(test)]
-mod tests;

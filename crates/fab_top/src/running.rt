@@ -6,10 +6,8 @@ ghost use Rattle.fab_base.specs.declared.status.Status.TheVariants.{Done, Stuck,
 ghost use Rattle.fab_base.specs.declared.status.Why.{Why};
 ghost use Rattle.fab_model.specs.Calls.{upto};
 ghost use Rattle.fab_model.specs.Replay.{lines_of};
-ghost use Rattle.fab_grammar.specs.Grammar.{refusal_of};
-ghost use Rattle.fab_top.specs.Outside.{IsFile, BeginsFile};
 ghost use Rattle.fab_base.specs.Counts.{Rose};
-ghost use Rattle.fab_top.specs.Runs.{command_of, script_max, Reports, IsRead, IsUnread, Writes, WritesPart, IsSilent, WritesReport};
+ghost use Rattle.fab_top.specs.Runs.{command_of, Reports, IsRead, IsUnread, IsRefused, IsTooLong, Writes, WritesPart, IsSilent, WritesReport};
 
 use crate::loading::load_script;
 use crate::outside::{Clock, Depot, Failed, Sink};
@@ -19,6 +17,8 @@ use fab_base::{Bound, Gate, Line, NoMemory, Status, Text};
 use fab_peer::run_peers;
 use fab_script::lines;
 use std::alloc::Global;
+use std::sync::Wait;
+use std::thread::Threads;
 
 /// The file that is to be run, where the words are `script FILE`.
 fn command(words: &[Text]) -> Option<&Text>
@@ -91,9 +91,11 @@ fn write_report<S: Sink>(sink: &mut S, ran: &Ran) -> Status
 /// all lines are done, and no receive is posted any more; at `Stuck` some line is not done. At
 /// `WriteFault` the first bytes of such a report are written, and at every other status none. The files
 /// stay as they are. `ScriptRefused` names the first line that breaks a rule of the language, and the
-/// first rule that it breaks. `NoMemory` may come before anything is written. The clock is not read, and the gate
-/// is not told, while the peers take turns in the caller's thread.
-pub fn run<D: Depot, S: Sink, C: Clock, G: Gate>(
+/// first rule that it breaks. `NoMemory` may come before anything is written.
+///
+/// The clock must be new: it has given no moment.
+pub fn run<R, D: Depot, S: Sink, C: Clock, G: Gate>(
+    _rt: &R,
     alloc: Global,
     words: &[Text],
     depot: &mut D,
@@ -101,11 +103,12 @@ pub fn run<D: Depot, S: Sink, C: Clock, G: Gate>(
     _clock: &mut C,
     _gate: &G,
 ) -> Status
+where
+    R: Threads + Wait + Sync,
+    requires { C.given _clock.old ≡ 0 }
     ensures usage { (result ≡ Usage) ↔ (command_of words.now ≡ None) }
-    ensures refused { (line : ℕ) (why : Why) → result ≡ ScriptRefused line why → (name : List ℕ) × (command_of words.now ≡ Some name)
-        × ((bytes : List ℕ) × IsFile (D.files depot.old) name bytes × (length bytes ≤ script_max) × (refusal_of bytes ≡ Some (line, why))) }
-    ensures too_long { (name : List ℕ) → result ≡ TooLong name → (command_of words.now ≡ Some name)
-        × ((bytes : List ℕ) × BeginsFile (D.files depot.old) name bytes × (script_max < length bytes)) }
+    ensures refused { (line : ℕ) (why : Why) → result ≡ ScriptRefused line why → IsRefused (D.files depot.old) words.now line why }
+    ensures too_long { (name : List ℕ) → result ≡ TooLong name → IsTooLong (D.files depot.old) words.now name }
     ensures read_fault { (name : List ℕ) → result ≡ ReadFault name → (command_of words.now ≡ Some name)
         × Rose (D.faults depot.old) (D.faults depot.new) × (D.failed_name depot.new ≡ Some name) }
     ensures done { result ≡ Done → Writes (D.files depot.old) words.now true (S.bytes sink.old) (S.bytes sink.new) }
@@ -127,6 +130,3 @@ pub fn run<D: Depot, S: Sink, C: Clock, G: Gate>(
         Err(NoMemory) => Status::NoMemory,
     }
 }
-
-#[cfg(test)]
-mod tests;

@@ -10,5 +10,5 @@ use fab_host::program;
 use std::process::ExitCode;
 
 fn main(rt: HostRuntime) -> ExitCode {
-    program(&rt)
+    program(&rt, rt.stderr())
 }

@@ -1,0 +1,11 @@
+//! Tests of `fab_top`: whole runs over memory, the text of reports, and the outside over memory.
+//!
+//! They stand in a crate of their own, so that `fab_top` isn't proved twice.
+#![tactic(auto)]
+
+#[cfg(test)]
+mod memory;
+#[cfg(test)]
+mod reports;
+#[cfg(test)]
+mod runs;

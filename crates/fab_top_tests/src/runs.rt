@@ -1,0 +1,293 @@
+//! Whole runs over memory: what they write, and how they end.
+use fab_base::{Buf, Gate, Status, Text, Why};
+use fab_top::{MemoryClock, MemoryDepot, MemorySink, run};
+use std::alloc::Global;
+use std::sync::Wait;
+use std::test::Fail;
+use std::thread::Threads;
+
+const HELLO: &str = "fabric 1\n\
+    peers 2\n\
+    peer 0\n\
+    trecv 1 * 7 0 16\n\
+    wait 1\n\
+    peer 1\n\
+    tsend 2 0 7 text:hello\n";
+
+const HELLO_REPORT: &str = "fabric 1 peers 2\n\
+    peer 0\n\
+    4 trecv ok\n\
+    5 wait 1 FI_TAGGED FI_RECV from 1 tag 7 len 5 bytes 68656c6c6f\n\
+    trace D H1 T1 R D\n\
+    peer 1\n\
+    7 tsend ok\n\
+    left 2 FI_TAGGED FI_SEND\n\
+    trace D S0 R\n\
+    end done\n";
+
+const ITSELF: &str = "fabric 1\n\
+    peers 1\n\
+    peer 0\n\
+    tsend 1 0 9 text:ab\n\
+    tsend 2 0 9 text:cd\n\
+    tsend 3 0 8 text:z\n\
+    trecv 4 * 8 0 1\n\
+    wait 4\n\
+    trecv 5 * 9 0 8\n\
+    trecv 6 * 9 0 8\n\
+    wait 5\n\
+    wait 6\n";
+
+const ITSELF_REPORT: &str = "fabric 1 peers 1\n\
+    peer 0\n\
+    4 tsend ok\n\
+    5 tsend ok\n\
+    6 tsend ok\n\
+    7 trecv ok\n\
+    8 wait 4 FI_TAGGED FI_RECV from 0 tag 8 len 1 bytes 7a\n\
+    9 trecv ok\n\
+    10 trecv ok\n\
+    11 wait 5 FI_TAGGED FI_RECV from 0 tag 9 len 2 bytes 6162\n\
+    12 wait 6 FI_TAGGED FI_RECV from 0 tag 9 len 2 bytes 6364\n\
+    left 1 FI_TAGGED FI_SEND\n\
+    left 2 FI_TAGGED FI_SEND\n\
+    left 3 FI_TAGGED FI_SEND\n\
+    trace D S0 R D S0 R D S0 R D H0 T0 H0 T0 H0 T0 R D D R D R D D\n\
+    end done\n";
+
+const WAITING: &str = "fabric 1\n\
+    peers 2\n\
+    peer 0\n\
+    trecv 1 * 0 0 4\n\
+    wait 1\n\
+    peer 1\n\
+    trecv 1 * 0 0 4\n\
+    wait 1\n";
+
+const WAITING_REPORT: &str = "fabric 1 peers 2\n\
+    peer 0\n\
+    4 trecv ok\n\
+    stuck at 5\n\
+    trace D\n\
+    peer 1\n\
+    7 trecv ok\n\
+    stuck at 8\n\
+    trace D\n\
+    end stuck\n";
+
+const IN_ORDER: &str = "fabric 1\n\
+    peers 2\n\
+    peer 0\n\
+    trecv 1 * 5 0 4\n\
+    trecv 2 * 0 18446744073709551615 4\n\
+    wait 1\n\
+    wait 2\n\
+    peer 1\n\
+    tsend 3 0 7 text:x\n\
+    tsend 4 0 5 text:y\n";
+
+const IN_ORDER_REPORT: &str = "fabric 1 peers 2\n\
+    peer 0\n\
+    4 trecv ok\n\
+    5 trecv ok\n\
+    6 wait 1 FI_TAGGED FI_RECV from 1 tag 5 len 1 bytes 79\n\
+    7 wait 2 FI_TAGGED FI_RECV from 1 tag 7 len 1 bytes 78\n\
+    trace D D H1 T1 H1 T1 R R D D\n\
+    peer 1\n\
+    9 tsend ok\n\
+    10 tsend ok\n\
+    left 3 FI_TAGGED FI_SEND\n\
+    left 4 FI_TAGGED FI_SEND\n\
+    trace D S0 R D S0 R\n\
+    end done\n";
+
+const CUT: &str = "fabric 1\n\
+    peers 2\n\
+    peer 0\n\
+    trecv 1 * 3 0 4\n\
+    wait 1\n\
+    peer 1\n\
+    tsend 2 0 3 text:0123456789\n";
+
+const CUT_REPORT: &str = "fabric 1 peers 2\n\
+    peer 0\n\
+    4 trecv ok\n\
+    5 wait 1 error FI_ETRUNC from 1 tag 3 len 4 olen 6 bytes 30313233\n\
+    trace D H1 T1 R D\n\
+    peer 1\n\
+    7 tsend ok\n\
+    left 2 FI_TAGGED FI_SEND\n\
+    trace D S0 R\n\
+    end done\n";
+
+const NO_BYTES: &str = "fabric 1\n\
+    peers 1\n\
+    peer 0\n\
+    trecv 1 * 1 0 0\n\
+    tsend 2 0 1 text:\n\
+    wait 1\n";
+
+const NO_BYTES_REPORT: &str = "fabric 1 peers 1\n\
+    peer 0\n\
+    4 trecv ok\n\
+    5 tsend ok\n\
+    6 wait 1 FI_TAGGED FI_RECV from 0 tag 1 len 0 bytes -\n\
+    left 2 FI_TAGGED FI_SEND\n\
+    trace D D S0 R H0 T0 R D\n\
+    end done\n";
+
+const NO_LINES: &str = "fabric 1\n\
+    peers 2\n";
+
+const NO_LINES_REPORT: &str = "fabric 1 peers 2\n\
+    peer 0\n\
+    trace\n\
+    peer 1\n\
+    trace\n\
+    end done\n";
+
+const CANCELED: &str = "fabric 1\n\
+    peers 1\n\
+    peer 0\n\
+    trecv 1 * 0 0 4\n";
+
+const CANCELED_REPORT: &str = "fabric 1 peers 1\n\
+    peer 0\n\
+    4 trecv ok\n\
+    left 1 error FI_ECANCELED\n\
+    trace D X R\n\
+    end done\n";
+
+const UNBUILT: &str = "fabric 1\n\
+    peers 2\n\
+    peer 0\n\
+    send 1 0 text:a\n";
+
+struct OpenGate;
+
+impl Gate for OpenGate {
+    fn enter(&self, _peer: u32, _round: u32) {}
+
+    fn leave(&self, _peer: u32, _round: u32) {}
+}
+
+/// A depot with one file, named `it`, in which the loads of these numbers fail.
+fn depot_of(alloc: Global, bytes: Buf, failing: &[u64]) -> Result<MemoryDepot, Fail> {
+    let mut files = Vec::new(alloc);
+    files.push((Text::copy(alloc, "it")?, bytes))?;
+    Ok(MemoryDepot::new(files, Vec::from_slice(alloc, failing)?))
+}
+
+/// An output that takes up to 1,000 bytes at a call.
+fn sink_of(alloc: Global) -> MemorySink {
+    MemorySink::new(alloc, 1000, Vec::new(alloc))
+}
+
+/// How the command of these words ends.
+fn ends<R: Threads + Wait + Sync>(
+    rt: &R,
+    alloc: Global,
+    words: &[&str],
+    depot: &mut MemoryDepot,
+    sink: &mut MemorySink,
+) -> Result<Status, Fail> {
+    let mut texts = Vec::new(alloc);
+    for word in words {
+        texts.push(Text::copy(alloc, word)?)?;
+    }
+    let mut clock = MemoryClock::new(Vec::new(alloc));
+    Ok(run(rt, alloc, &texts, depot, sink, &mut clock, &OpenGate))
+}
+
+#[test]
+fn scripts_run_to_their_reports(rt: HostRuntime) -> Result<(), Fail> {
+    let rows = [
+        (NO_LINES, NO_LINES_REPORT, true),
+        (CANCELED, CANCELED_REPORT, true),
+        (HELLO, HELLO_REPORT, true),
+        (ITSELF, ITSELF_REPORT, true),
+        (IN_ORDER, IN_ORDER_REPORT, true),
+        (CUT, CUT_REPORT, true),
+        (NO_BYTES, NO_BYTES_REPORT, true),
+        (WAITING, WAITING_REPORT, false),
+    ];
+    for (script, report, is_done) in rows {
+        let bytes = Buf::copy(rt.alloc(), script.as_bytes())?;
+        let mut depot = depot_of(rt.alloc(), bytes, &[])?;
+        let mut sink = sink_of(rt.alloc());
+        let end = ends(&rt, rt.alloc(), &["script", "it"], &mut depot, &mut sink)?;
+        assert_eq!(rt; sink.bytes.as_slice(), report.as_bytes());
+        assert_eq!(rt; end == Status::Done, is_done);
+        assert_eq!(rt; end == Status::Stuck, !is_done);
+    }
+    Ok(())
+}
+
+#[test]
+fn other_words_are_no_command(rt: HostRuntime) -> Result<(), Fail> {
+    let rows: [&[&str]; 5] = [
+        &[],
+        &["pingpong", "f", "4096", "0"],
+        &["script"],
+        &["scripts", "it"],
+        &["script", "it", "it"],
+    ];
+    for words in rows {
+        let bytes = Buf::copy(rt.alloc(), HELLO.as_bytes())?;
+        let mut depot = depot_of(rt.alloc(), bytes, &[])?;
+        let mut sink = sink_of(rt.alloc());
+        let end = ends(&rt, rt.alloc(), words, &mut depot, &mut sink)?;
+        assert!(rt; end == Status::Usage);
+        assert_eq!(rt; (depot.calls, sink.calls), (0, 0));
+    }
+    Ok(())
+}
+
+#[test]
+fn a_failed_load_is_told_by_its_name(rt: HostRuntime) -> Result<(), Fail> {
+    let bytes = Buf::copy(rt.alloc(), HELLO.as_bytes())?;
+    let mut depot = depot_of(rt.alloc(), bytes, &[1])?;
+    let mut sink = sink_of(rt.alloc());
+    let name = Text::copy(rt.alloc(), "it")?;
+    let end = ends(&rt, rt.alloc(), &["script", "it"], &mut depot, &mut sink)?;
+    assert!(rt; end == Status::ReadFault { name });
+    assert_eq!(rt; (depot.faults, sink.calls), (1, 0));
+    Ok(())
+}
+
+#[test]
+fn a_script_of_a_line_that_is_not_built_is_refused(rt: HostRuntime) -> Result<(), Fail> {
+    let bytes = Buf::copy(rt.alloc(), UNBUILT.as_bytes())?;
+    let mut depot = depot_of(rt.alloc(), bytes, &[])?;
+    let mut sink = sink_of(rt.alloc());
+    let end = ends(&rt, rt.alloc(), &["script", "it"], &mut depot, &mut sink)?;
+    let why = Why::Unbuilt;
+    assert!(rt; end == Status::ScriptRefused { line: 4, why });
+    assert_eq!(rt; sink.calls, 0);
+    Ok(())
+}
+
+#[test]
+fn a_sink_that_fails_has_the_first_bytes(rt: HostRuntime) -> Result<(), Fail> {
+    let bytes = Buf::copy(rt.alloc(), HELLO.as_bytes())?;
+    let mut depot = depot_of(rt.alloc(), bytes, &[])?;
+    let failing = Vec::from_slice(rt.alloc(), &[2])?;
+    let mut sink = MemorySink::new(rt.alloc(), 5, failing);
+    let end = ends(&rt, rt.alloc(), &["script", "it"], &mut depot, &mut sink)?;
+    assert!(rt; end == Status::WriteFault);
+    assert_eq!(rt; sink.bytes.as_slice(), b"fabri".as_slice());
+    assert_eq!(rt; sink.faults, 1);
+    Ok(())
+}
+
+#[test]
+fn a_file_past_the_limit_is_too_long(rt: HostRuntime) -> Result<(), Fail> {
+    let bytes = Buf::zeros(rt.alloc(), 67_108_865)?;
+    let mut depot = depot_of(rt.alloc(), bytes, &[])?;
+    let mut sink = sink_of(rt.alloc());
+    let name = Text::copy(rt.alloc(), "it")?;
+    let end = ends(&rt, rt.alloc(), &["script", "it"], &mut depot, &mut sink)?;
+    assert!(rt; end == Status::TooLong { name });
+    assert_eq!(rt; sink.calls, 0);
+    Ok(())
+}
