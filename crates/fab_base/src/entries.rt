@@ -111,7 +111,7 @@ pub struct Kept {
 }
 
 /// What a counter counts.
-#[derive(Clone, Copy, Drop, Eq, PartialEq)]
+#[derive(Clone, Copy, Debug, Drop, Eq, PartialEq)]
 pub enum Class {
     Send,
     Recv,
