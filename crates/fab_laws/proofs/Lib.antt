@@ -1,0 +1,4 @@
+pub mod Lists
+pub mod matching
+pub mod completion
+pub mod replies

@@ -1,0 +1,8 @@
+-- The law of completion: at most one final completion of each operation, one when all is drained, none before its level.
+pub mod Places
+pub mod Calls
+pub mod Steps
+pub mod Least
+pub mod Lasting
+pub mod Levels
+pub mod Instance
