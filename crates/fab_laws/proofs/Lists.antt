@@ -1,8 +1,10 @@
 -- Members of lists and their order; what is found, removed and counted.
 --     Each P xs, many test xs      P of each member; how many members pass
 use Rattle.std.proofs.Common.{◌≡◌, ◌+◌, Bool, true, false, ◌||◌, List, [], ◌∷◌, ◌++◌, length, map, slice_get, Some, None, ◌⊎◌, inl, inr, refl, sym, ◌∙◌, ap, ap₂, subst, arith, ◌≤◌, ◌<◌, ℕ, zero, suc, filter, set, get_or, option_map}
-use Rattle.std.specs.Prelude.{find}
+use Rattle.std.specs.Prelude.{find, slice_index, take}
 use Rattle.std.specs.List.{list_any}
+use Rattle.fab_model.specs.State.{raise}
+use Rattle.fab_model.proofs.Parts.{get_or-set}
 use Rattle.fab_model.specs.Matching.{change_first, remove_first}
 use Rattle.fab_laws.specs.Members.{Ahead, In, Never}
 
@@ -217,14 +219,6 @@ Both P [] (y ∷ ys) = Never
 Both P (x ∷ xs) [] = Never
 Both P (x ∷ xs) (y ∷ ys) = P x y × Both P xs ys
 
-abbrev pub one : Bool → ℕ
-one true = 1
-one false = 0
-
-abbrev pub many : {X : Type 0} → (X → Bool) → List X → ℕ
-many test [] = 0
-many test (x ∷ xs) = one (test x) + many test xs
-
 -- ---- members
 
 pub in_back : {X : Type 0} (x : X) (xs ys : List X) → In x ys → In x (xs ++ ys)
@@ -265,51 +259,62 @@ get_in [] k x e = absurd (cc)
 get_in (y ∷ xs) zero x e = let same : y ≡ x = cc in inl (sym same)
 get_in (y ∷ xs) (suc k) x e = inr (get_in xs k x e)
 
--- ---- counts
+-- ---- what is taken, kept and removed
 
-pub many_append : {X : Type 0} (test : X → Bool) (xs ys : List X) → many test (xs ++ ys) ≡ many test xs + many test ys
-many_append test [] ys = omega arith
-many_append test (x ∷ xs) ys = omega (arith, many_append test xs ys)
+pub in_take_more : {X : Type 0} (k m : ℕ) (xs rest : List X) (x : X) → k ≤ m → In x (take k xs) → In x (take m (xs ++ rest))
+in_take_more zero m xs rest x le i = never i
+in_take_more (suc k) m [] rest x le i = never i
+in_take_more (suc k) zero (y ∷ xs) rest x le i = absurd (omega (arith, le))
+in_take_more (suc k) (suc m) (y ∷ xs) rest x le (inl e) = inl e
+in_take_more (suc k) (suc m) (y ∷ xs) rest x le (inr i) = inr (in_take_more k m xs rest x (omega (arith, le)) i)
 
--- what is removed counts no more
-many_step : {X : Type 0} (test leaves : X → Bool) (x y : X) (xs : List X) (b : Bool) → leaves x ≡ b → find leaves (x ∷ xs) ≡ Some y → (find leaves xs ≡ Some y → many test xs ≡ one (test y) + many test (remove_first leaves xs))
-    → many test (x ∷ xs) ≡ one (test y) + many test (remove_first leaves (x ∷ xs))
-many_step test leaves x y xs true t f ih = let same : x ≡ y = (let e : Some x ≡ Some y = rw (t, find) at f in cc) in rw (t, remove_first) (ap (λ z. one (test z) + many test xs) same)
-many_step test leaves x y xs false t f ih = let more = ih (rw (t, find) at f) in rw (t, remove_first) (omega (arith, more))
+pub take_in : {X : Type 0} (xs : List X) (k : ℕ) (x : X) → slice_get xs k ≡ Some x → In x (take (k + 1) xs)
+take_in [] k x e = absurd (cc (e))
+take_in (y ∷ xs) zero x e = let f : y ≡ x = cc in inl (sym f)
+take_in (y ∷ xs) (suc k) x e = let f : suc k + 1 ≡ suc (k + 1) = omega arith in subst (λ n. In x (take n (y ∷ xs))) (sym f) (inr (take_in xs k x e))
 
-pub many_removed : {X : Type 0} (test leaves : X → Bool) (xs : List X) (y : X) → find leaves xs ≡ Some y → many test xs ≡ one (test y) + many test (remove_first leaves xs)
-many_removed test leaves [] y f = absurd (cc)
-many_removed test leaves (x ∷ xs) y f = many_step test leaves x y xs (leaves x) refl f (many_removed test leaves xs y)
+pub taken_at : {X : Type 0} (k : ℕ) (xs : List X) (x : X) → In x (take k xs) → (j : ℕ) × (j < k) × (slice_get xs j ≡ Some x)
+taken_at zero xs x i = never i
+taken_at (suc k) [] x i = never i
+taken_at (suc k) (y ∷ xs) x (inl e) = (0, omega arith, ap Some (sym e))
+taken_at (suc k) (y ∷ xs) x (inr i) = let more = taken_at k xs x i in (suc more.0, omega (arith, more.1), more.2)
 
-pub many_map : {X Y : Type 0} (f : X → Y) (test : Y → Bool) (xs : List X) → many test (map f xs) ≡ many (λ x. test (f x)) xs
-many_map f test [] = refl
-many_map f test (x ∷ xs) = omega (arith, many_map f test xs)
+pub in_removed : {X : Type 0} (test : X → Bool) (xs : List X) (x : X) → In x (remove_first test xs) → In x xs
+in_removed test [] x i = i
+in_removed {X} test (y ∷ xs) x i = go (test y) (in_removed test xs x) i
+  where
+    go : (b : Bool) → (In x (remove_first test xs) → In x xs) → In x (elim b [ true ↦ xs | false ↦ y ∷ remove_first test xs ]) → In x (y ∷ xs)
+    go true ih i = inr i
+    go false ih (inl e) = inl e
+    go false ih (inr i) = inr (ih i)
 
-one_le : (b c : Bool) → (b ≡ true → c ≡ true) → one b ≤ one c
-one_le true c so = rw (so refl) (omega arith)
-one_le false c so = omega arith
+-- it is still there, or it is the one that left
+pub left_or_found : {X : Type 0} (test : X → Bool) (xs : List X) (x : X) → In x xs → In x (remove_first test xs) ⊎ (find test xs ≡ Some x)
+left_or_found test [] x i = never i
+left_or_found {X} test (y ∷ xs) x i = go (test y) refl i (λ j. left_or_found test xs x j)
+  where
+    go : (b : Bool) → test y ≡ b → In x (y ∷ xs) → (In x xs → In x (remove_first test xs) ⊎ (find test xs ≡ Some x)) → In x (remove_first test (y ∷ xs)) ⊎ (find test (y ∷ xs) ≡ Some x)
+    go true t (inl e) ih = inr (rw (t, find) (ap Some (sym e)))
+    go true t (inr j) ih = inl (rw (t, remove_first) j)
+    go false t (inl e) ih = inl (rw (t, remove_first) (inl e))
+    go false t (inr j) ih = elim (ih j) [ inl k ↦ inl (rw (t, remove_first) (inr k)) | inr f ↦ inr (rw (t, find) f) ]
 
-pub many_le : {X : Type 0} (test wider : X → Bool) (xs : List X) → ((x : X) → test x ≡ true → wider x ≡ true) → many test xs ≤ many wider xs
-many_le test wider [] so = omega arith
-many_le test wider (x ∷ xs) so = omega (arith, many_le test wider xs so, one_le (test x) (wider x) (so x))
+pub in_kept : {X : Type 0} (test : X → Bool) (xs : List X) (x : X) → In x xs → test x ≡ true → In x (filter test xs)
+in_kept test [] x i t = never i
+in_kept {X} test (y ∷ xs) x i t = go (test y) refl i (λ j. in_kept test xs x j t)
+  where
+    go : (b : Bool) → test y ≡ b → In x (y ∷ xs) → (In x xs → In x (filter test xs)) → In x (filter test (y ∷ xs))
+    go true e (inl f) ih = rw (e) (inl f)
+    go true e (inr j) ih = rw (e) (inr (ih j))
+    go false e (inl f) ih = absurd (let g : test x ≡ false = ap test f ∙ e in cc (g, t))
+    go false e (inr j) ih = rw (e) (ih j)
 
-pub in_many : {X : Type 0} (test : X → Bool) (xs : List X) (x : X) → In x xs → test x ≡ true → 1 ≤ many test xs
-in_many test [] x i t = never i
-in_many test (y ∷ xs) x (inl e) t = let u : test y ≡ true = ap test (sym e) ∙ t in rw u (omega arith)
-in_many test (y ∷ xs) x (inr i) t = omega (arith, in_many test xs x i t)
+-- ---- a list of numbers, one of them raised
 
--- the only one that passes is found
-only_step : {X : Type 0} (test : X → Bool) (x y : X) (xs : List X) (b : Bool) → test y ≡ b → In x (y ∷ xs) → test x ≡ true → one (test y) + many test xs ≤ 1 → (In x xs → many test xs ≤ 1 → find test xs ≡ Some x) → find test (y ∷ xs) ≡ Some x
-only_step test x y xs true u (inl e) t le ih = rw (u, find) (ap Some (sym e))
-only_step test x y xs true u (inr i) t le ih = let two : 1 + many test xs ≤ 1 = rw u at le in absurd (omega (arith, in_many test xs x i t, two))
-only_step test x y xs false u (inl e) t le ih = absurd (cc (u, t, e))
-only_step test x y xs false u (inr i) t le ih = rw (u, find) (ih i (omega (arith, le)))
+pub raise_keeps : (xs : List ℕ) (t q : ℕ) → slice_index xs q ≤ slice_index (raise xs t) q
+raise_keeps xs t q = elim (get_or-set xs t q (slice_index xs t + 1) 0) [ inl e ↦ omega (arith, e) | inr e ↦ omega (arith, e.1, ap (slice_index xs) e.0) ]
 
-pub only_found : {X : Type 0} (test : X → Bool) (xs : List X) (x : X) → In x xs → test x ≡ true → many test xs ≤ 1 → find test xs ≡ Some x
-only_found test [] x i t le = never i
-only_found test (y ∷ xs) x i t le = only_step test x y xs (test y) refl i t le (λ i le. only_found test xs x i t le)
-
-pub many_set : {X : Type 0} (test : X → Bool) (xs : List X) (i : ℕ) (y d : X) → i < length xs → many test (set xs i y) + one (test (get_or xs i d)) ≡ many test xs + one (test y)
-many_set test [] i y d lt = absurd (omega arith)
-many_set test (x ∷ xs) zero y d lt = omega arith
-many_set test (x ∷ xs) (suc i) y d lt = omega (arith, many_set test xs i y d (omega arith))
+pub raise_here : (xs : List ℕ) (t : ℕ) → t < length xs → slice_index (raise xs t) t ≡ slice_index xs t + 1
+raise_here [] t lt = absurd (omega arith)
+raise_here (x ∷ xs) zero lt = refl
+raise_here (x ∷ xs) (suc t) lt = raise_here xs t (omega arith)

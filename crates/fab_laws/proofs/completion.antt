@@ -2,7 +2,9 @@
 pub mod Places
 pub mod Calls
 pub mod Steps
+pub mod Live
 pub mod Least
-pub mod Lasting
-pub mod Levels
-pub mod Instance
+pub mod Busy
+pub mod Begun
+pub mod Books
+pub mod Once

@@ -7,5 +7,3 @@ pub mod Does
 pub mod Still
 pub mod Steps
 pub mod Orders
-pub mod Moments
-pub mod Rows

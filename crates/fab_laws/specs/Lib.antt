@@ -1,7 +1,7 @@
 pub mod Members
-pub mod History
-pub mod Laws
-pub mod Once
-pub mod Stray
-pub mod Levels
-pub mod Drained
+pub mod Moments
+pub mod Matched
+pub mod MatchingLaws
+pub mod Completed
+pub mod CompletionLaws
+pub mod ReplyLaws

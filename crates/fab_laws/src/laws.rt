@@ -1,69 +1,85 @@
-//! The laws of order. A function here does nothing: its contract is the law.
+//! The laws. A function here does nothing: its contract is the law.
+//!
+//! Each law is about every bound script, every order of turns in which each step stands when it is
+//! taken, and every moment on the way (`AtEveryMoment`, `specs/Moments.antt`). `law_moments` says
+//! that the moments of the replay of a schedule, lawful or not, are among these.
 
-ghost use Rattle.fab_laws.specs.Drained.{ExactlyOne};
-ghost use Rattle.fab_laws.specs.Laws.{GotRightly, MomentsAreLedTo, NonePassedOver, PastTellsState, ServedInOrder, TakenInOrder};
-ghost use Rattle.fab_laws.specs.Levels.{LiveUntilItsLevel, RepliesComeAtTheirLevel};
-ghost use Rattle.fab_laws.specs.Once.{AtMostOne};
-ghost use Rattle.fab_laws.specs.Stray.{AnsweredOnce, NoStray};
+ghost use Rattle.fab_laws.specs.CompletionLaws.{NumbersComplete, OneFinalCompletion};
+ghost use Rattle.fab_laws.specs.MatchingLaws.{GotRightly, NonePassedOver, PastTellsState, ServedInOrder, TakenInOrder};
+ghost use Rattle.fab_laws.specs.Moments.{MomentsAreLedTo, TheReplayIsLedTo};
+ghost use Rattle.fab_laws.specs.ReplyLaws.{AnsweredOnce, NoStray};
 
-/// A posted receive never passes over an arrival.
+/// A posted receive never passes over an arrival (fi_msg(3), fi_tagged(3)).
 ///
-/// At every moment that some order of turns leads to, a posted receive that matches an unexpected
-/// message is a multi-receive, and then a draw is due.
+/// A posted receive that matches an unexpected message is a multi-receive, and then a draw is due.
 pub fn law_l1()
     ensures passed { NonePassedOver }
 {}
 
-/// Receives are served in the order made.
+/// Receives are served in the order posted.
 ///
-/// Where the second of two receives got a message that the first matches too, the first had taken
-/// its last message, which came earlier, or was cancelled before this message came.
+/// Take two receives made by `recv`, `trecv` or `recv_multi`, the second after the first. Where the
+/// second got a message that the first matches too, the first had closed (it had got its last
+/// message, and this had come earlier), or was cancelled before this message came. An open
+/// multi-receive is not passed over.
 pub fn law_l2()
     ensures served { ServedInOrder }
 {}
 
 /// Arrivals are matched in the order of arrival.
 ///
-/// Where a receive got a message, each message that came earlier and that the receive matches had
-/// before gone to a receive, or been claimed or discarded.
+/// Where such a receive got a message, each message that came earlier and that it matches had gone
+/// before to a receive, or been claimed or discarded. So messages of one sender don't overtake one
+/// another, as MPI asks.
 pub fn law_l3()
     ensures taken { TakenInOrder }
 {}
 
-/// What the words of a past say of the states.
+/// Each accepted operation has one final completion (fi_cq(3)).
 ///
-/// A message that a receive got had come and gone nowhere, and the receive was made, matches it and
-/// was still open. The messages that wait are those that came and have not gone, and the receives
-/// posted are those made that have neither closed nor been cancelled. Every moment of a replay is
-/// one that some turns lead to, so that these laws and the three above speak of it.
-pub fn law_past()
-    ensures got { GotRightly }
-    ensures state { PastTellsState }
-    ensures moments { MomentsAreLedTo }
-{}
-
-/// Each accepted operation has at most one final completion.
+/// An accepted operation is an Ok transmit call, or an Ok `recv`, `trecv`, `recv_multi`, `take`,
+/// `peek`, `claim`, `discard` or `drop_claimed`. It has at most one entry with its number that is
+/// neither a part nor a truncated part. Once all is drained it has exactly one, unless it is
+/// suppressed, and then none: it is silent, and ended with success. And it has none before its level
+/// is reached: a message of FI_INJECT_COMPLETE or FI_TRANSMIT_COMPLETE is transmitted, one of
+/// FI_DELIVERY_COMPLETE and a request are whole at their target, and one of FI_MATCH_COMPLETE is
+/// whole there and no longer waits for a receive; a receive stands no more, in the lists of those
+/// posted or closing or with its message still to come.
 ///
-/// At each moment of every order of turns a call has at most one entry with its number that is
-/// neither a part nor a truncated part, and a number that no call has yet has none. Once all is
-/// drained, a call that was accepted has exactly one, where it is a receive call other than a
-/// cancel, or a transmit call that isn't silent. And none comes before the step of its level: while
-/// an operation is live it has no final completion; it ends where its own item is transmitted and
-/// asks for no more, or where a reply with its number is whole; and a peer has such a reply only
-/// once the item is whole there, and no message waits there that asks for it at its match.
+/// Besides (`numbers`), no number has two final completions, and what has one is the number of an
+/// accepted operation.
 pub fn law_l4()
-    ensures once { AtMostOne }
-    ensures drained { ExactlyOne }
-    ensures live { LiveUntilItsLevel }
-    ensures replies { RepliesComeAtTheirLevel }
+    ensures once { OneFinalCompletion }
+    ensures numbers { NumbersComplete }
 {}
 
 /// No reply is stray.
 ///
-/// At each moment of every order of turns, the next item of a source to become whole, where it is a
-/// reply, finds the live operation that it answers: this awaits it, and expects its length and
-/// outcome. And no two replies for one peer have one number.
+/// The next item of a source to become whole, where it is a reply, names an operation that then
+/// awaits a reply: it is live and transmitted, goes to this source, has the reply's number, expects
+/// the reply's length and outcome, and is the one that ends. And no two replies to one peer, from
+/// whichever peers, have one number.
 pub fn law_no_stray()
     ensures stray { NoStray }
     ensures once { AnsweredOnce }
+{}
+
+/// What the history words of matching say of the states.
+///
+/// A message that a receive got had come and had gone nowhere, and the receive was made, matches it
+/// and was still open. The unexpected messages are those that came and have not gone, and the
+/// receives posted are those made that have neither closed nor been cancelled.
+pub fn law_history()
+    ensures got { GotRightly }
+    ensures state { PastTellsState }
+{}
+
+/// Each moment of the replay of a schedule is one of which the laws speak.
+///
+/// In whichever order peers take the next steps of a schedule, the moment is one to which turns lead
+/// that have these steps. The end of the replay is such a moment; where the schedule is lawful, all
+/// its steps are in these turns.
+pub fn law_moments()
+    ensures orders { MomentsAreLedTo }
+    ensures replay { TheReplayIsLedTo }
 {}

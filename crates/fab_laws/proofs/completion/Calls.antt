@@ -28,8 +28,10 @@ use Rattle.fab_model.specs.Receiving.{Posting, cancel, cancellable, claim_of, dr
 use Rattle.fab_model.specs.Target.{perform}
 use Rattle.fab_model.specs.Arrivals.{do_draw, do_request, do_tail, keeping, made_whole, remote_data, seating, tail_to, with_regions, shut}
 use Rattle.fab_model.specs.Calls.{Call, Transmit, Post, Look, TakeClaimed, DropClaimed, Cancel, CancelFirst, Insert, Remove, Reg, Close, Put, Show, Count, answer, close, do_call, insert, put, reg, remove}
-use Rattle.fab_laws.proofs.Lists.{found_in, many, many_append, many_removed, one}
-use Rattle.fab_laws.proofs.completion.Places.{Adds, adds_none, adds_then, book_adds, drop_adds, end_adds, fill_adds, give_adds, into_single, made_by, nothing, other_adds, release_adds, reply_adds, seated_many, single_of, standing, standing_in, write_adds}
+use Rattle.fab_laws.specs.Completed.{made_by, into_single}
+use Rattle.fab_laws.proofs.Counts.{many, many_append, many_removed, one, not_removed, cleared}
+use Rattle.fab_laws.proofs.Lists.{found_in}
+use Rattle.fab_laws.proofs.completion.Places.{Adds, adds_none, adds_then, book_adds, drop_adds, end_adds, fill_adds, give_adds, nothing, other_adds, release_adds, reply_adds, seated_many, single_of, standing, standing_in, write_adds}
 
 -- each call stands at one place at the most, and those not made yet at none; a step keeps this
 abbrev pub Keeps : State → State → Type 0
@@ -102,14 +104,6 @@ answer_adds s source head bytes = go (find (is_answered_by s.tx source head) s.t
     go None f = adds_none s
     go (Some o) f = let e = end_adds head.outcome bytes o (with_tx (answering source head s.tx) s) in (e.0, λ c. omega (arith, e.1 c, many_removed (made_by c) (is_answered_by s.tx source head) s.tx.live o f))
 
-pub not_removed : {X : Type 0} (test : X → Bool) (xs : List X) → find test xs ≡ None → remove_first test xs ≡ xs
-not_removed test [] e = refl
-not_removed test (x ∷ xs) e = go (test x) refl (not_removed test xs)
-  where
-    go : (b : Bool) → test x ≡ b → (find test xs ≡ None → remove_first test xs ≡ xs) → remove_first test (x ∷ xs) ≡ x ∷ xs
-    go true t ih = absurd (let bad : Some x ≡ None = rw (t, find) at e in cc)
-    go false t ih = rw (t, remove_first) (ap (λ ys. x ∷ ys) (ih (rw (t, find) at e)))
-
 pub sent_adds : (s : State) (t : ℕ) → Adds nothing s (do_sent s t)
 unfolding do_sent transmitting
 sent_adds s t = go (ending t s.tx) refl
@@ -121,11 +115,6 @@ sent_adds s t = go (ending t s.tx) refl
     go : (o : Option Operation) → find (is_of_item t (slice_index s.tx.sent t)) s.tx.live ≡ o → Adds nothing s (let u : State = elim o [ None ↦ with_tx (transmitting t s.tx) s | Some o ↦ end_with Done [] o (with_tx (transmitting t s.tx) s) ] in u)
     go None f = (refl, λ c. omega (arith, less c None f))
     go (Some o) f = let e = end_adds Done [] o (with_tx (transmitting t s.tx) s) in (e.0, λ c. omega (arith, e.1 c, many_removed (made_by c) (is_of_item t (slice_index s.tx.sent t)) s.tx.live o f))
-
-pub cleared : {X : Type 0} (test : Option X → Bool) (xs : List (Option X)) (i : ℕ) → test None ≡ false → many test (set xs i None) + one (test (get_or xs i None)) ≡ many test xs
-cleared test [] i e = omega (arith, ap one e)
-cleared test (x ∷ xs) zero e = omega (arith, ap one e)
-cleared test (x ∷ xs) (suc i) e = omega (arith, cleared test xs i e)
 
 pub tail_adds : (s : State) (source : ℕ) (head : ItemHead) (bytes : List ℕ) → Adds nothing s (do_tail s source head bytes)
 unfolding do_tail tail_to made_whole keeping

@@ -1,14 +1,19 @@
--- From its call on, a call that isn't silent stands somewhere.
-use Rattle.std.proofs.Common.{◌≡◌, ◌≤◌, ◌<◌, ◌+◌, ℕ, Bool, true, false, ◌&&◌, List, [], ◌∷◌, ◌++◌, length, map, set, Option, Some, None, inl, inr, refl, ap, ap₂, subst, arith, rules}
-use Rattle.std.specs.Prelude.{find, ◌==◌, is_none, is_some, nat_lt, nat_le, slice_index, cond, not, unwrap_or}
+-- From its call on a call stands somewhere, but for an operation that is silent and ends with success.
+--     Least c h s u      the call c stands at so many places more in u than in s, at least
+--     StepLeast          what a step leaves
+use Rattle.std.specs.Option.{option_map_or}
+use Rattle.std.proofs.Common.{◌≡◌, ◌≤◌, ◌<◌, ◌+◌, ℕ, Bool, true, false, ◌&&◌, List, [], ◌∷◌, ◌++◌, length, map, set, Option, Some, None, inl, inr, refl, ap, ap₂, subst, arith, rules, ◌⊎◌, sym, ◌∙◌}
+use Rattle.std.specs.Prelude.{find, ◌==◌, is_none, is_some, nat_lt, nat_le, slice_index, cond, not, unwrap_or, slice_get}
 use Rattle.std.proofs.lemmas.Bool.{cases_eq, and_from, eqb-true}
 use Rattle.std.proofs.lemmas.Bool.Decides.{nat_tests}
+use Rattle.fab_base.specs.declared.peers.Step.TheVariants.{Do, Head, Tail, Draw, Final}
+use Rattle.fab_base.specs.declared.peers.Step.{Step}
 use Rattle.fab_base.specs.declared.items.Item.{Item}
 use Rattle.fab_base.specs.declared.items.ItemHead.{ItemHead}
 use Rattle.fab_base.specs.declared.items.Kind.{Kind}
 use Rattle.fab_base.specs.declared.items.Kind.TheVariants.{Msg, TagMsg, WriteReq, ReadReq, AtomicReq, Reply}
 use Rattle.fab_base.specs.declared.items.Outcome.{Outcome}
-use Rattle.fab_base.specs.declared.items.Outcome.TheVariants.{Done}
+use Rattle.fab_base.specs.declared.items.Outcome.TheVariants.{Done, BadKey, BadAccess, BadRange}
 use Rattle.fab_base.specs.declared.operations.Receive.{Receive}
 use Rattle.fab_base.specs.declared.operations.Arrival.{Arrival}
 use Rattle.fab_base.specs.declared.operations.Coming.{Coming}
@@ -18,7 +23,7 @@ use Rattle.fab_base.specs.declared.entries.Taken.{Taken}
 use Rattle.fab_base.specs.declared.entries.Taken.TheVariants.{Success}
 use Rattle.fab_base.specs.declared.entries.PeekHow.{PeekHow}
 use Rattle.fab_base.specs.declared.entries.PeekHow.TheVariants.{Peek, Claim, Discard}
-use Rattle.fab_base.specs.declared.entries.ErrKind.TheVariants.{NoMsg, Canceled}
+use Rattle.fab_base.specs.declared.entries.ErrKind.TheVariants.{NoMsg, Canceled, NoKey, Access, Range}
 use Rattle.fab_base.specs.declared.entries.Class.TheVariants.{Recv}
 use Rattle.fab_base.specs.declared.entries.ErrKind.{ErrKind}
 use Rattle.fab_base.specs.declared.items.Want.{Want}
@@ -33,14 +38,16 @@ use Rattle.fab_model.specs.Target.{perform}
 use Rattle.fab_model.specs.Views.{View}
 use Rattle.fab_model.specs.Receiving.{Posting, cancel, cancellable, claim_of, draws, drop_arrival, drop_claimed, give, goes, joining_posted, look, look_at, may_leave, peeked, post, receive_of, take_claimed, taken_by, taking, want_of, without_claim, without_first, without_posted}
 use Rattle.fab_model.specs.Calls.{Call, Transmit, Post, Look, TakeClaimed, DropClaimed, Cancel, CancelFirst, Insert, Remove, Reg, Close, Put, Show, Count, answer, do_call, insert, remove, reg, close, put}
-use Rattle.fab_model.specs.Peers.{part_of}
-use Rattle.fab_laws.proofs.Lists.{Each, always, each_append, each_in, each_removed, each_so, found_in, in_many, many, many_append, many_map, never, one, many_removed, many_set, in_front, in_back}
+use Rattle.fab_model.specs.Peers.{part_of, Actor, fabric}
+use Rattle.fab_laws.proofs.Counts.{in_many, many, many_append, many_map, one, many_removed, many_set, not_removed, cleared}
+use Rattle.fab_laws.proofs.Stepping.{line_keeps, step_is, StepIs}
+use Rattle.fab_laws.proofs.completion.Live.{end_live}
+use Rattle.fab_laws.specs.Moments.{next_call}
+use Rattle.fab_laws.proofs.Lists.{Each, always, each_append, each_in, each_removed, each_so, found_in, never, in_front, in_back}
 use Rattle.fab_laws.specs.Members.{In, Never}
-use Rattle.fab_laws.proofs.replies.Owed.{OwedAt, held, is_keep, unwhole_of, get_within}
-use Rattle.fab_laws.specs.Once.{is_final}
-use Rattle.fab_laws.proofs.completion.Places.{into_single, made_by, many_changed, single_of, standing, standing_in, entry_part, fill_many}
-use Rattle.fab_laws.proofs.completion.Calls.{not_removed, cleared}
-use Rattle.fab_laws.specs.Drained.{completes}
+use Rattle.fab_laws.proofs.replies.Owed.{OwedAt, is_keep, unwhole_of, get_within}
+use Rattle.fab_laws.specs.Completed.{held, outcome_of, is_final, into_single, made_by}
+use Rattle.fab_laws.proofs.completion.Places.{many_changed, single_of, standing, standing_in, entry_part, fill_many}
 
 -- what of an owed peer says that nothing that comes is overwritten
 pub idle_of : (n : ℕ) (v : View Item) (s : State) → OwedAt n v s → (source : ℕ) → slice_index s.rx.heads source ≡ slice_index s.rx.tails source → coming_from s.rx source ≡ None
@@ -65,6 +72,15 @@ kept_of n v s owed a i none = elim (owed.lanes a.source) [
   where
     mine : unwhole_of a.source a ≡ true
     mine = let t : (a.source == a.source) ≡ true = grind (arith, nat_tests) in and_from _ _ t (ap is_none none)
+
+-- the call begins an operation
+abbrev pub is_operation : Call → Bool
+is_operation (Transmit order) = true
+is_operation (Post posting) = true
+is_operation (Look how source tag ignore ctx) = true
+is_operation (TakeClaimed buf ctx) = true
+is_operation (DropClaimed ctx) = true
+is_operation call = false
 
 module _ (c : ℕ) where
   abbrev pub Least : ℕ → State → State → Type 0
@@ -184,26 +200,35 @@ module _ (c : ℕ) where
       go TagMsg b = refl
       go Reply b = refl
 
-  abbrev pub Loud : Operation → Type 0
-  Loud o = o.call ≡ c → o.silent ≡ false
+  -- in hand, the operation writes nothing: it is silent, and ends with success
+  abbrev pub Hushed : Outcome → Operation → Type 0
+  Hushed w o = (o.call ≡ c) × (o.silent ≡ true) × (w ≡ Done)
 
-  end_least : (w : Outcome) (bytes : List ℕ) (o : Operation) (s : State) → Loud o → Least (one (made_by c o)) s (end_with w bytes o s)
+  success_least : (bytes : List ℕ) (o : Operation) (s : State) → Least (one (made_by c o)) s (end_with Done bytes o s) ⊎ (Hushed Done o × (standing_in c (end_with Done bytes o s) ≤ standing_in c s))
   unfolding end_with
-  end_least w bytes o s loud = go (refusal_of w)
+  success_least bytes o s = go o.silent refl
     where
-      other : (o.call == c) ≡ false → standing_in c s + one (made_by c o) ≤ standing_in c s
-      other e = omega (arith, ap one e)
+      go : (b : Bool) → o.silent ≡ b → (let u : State = elim b [ true ↦ count (class_of o.head) true s | false ↦ write (Some o.call) (Success (success_of o bytes)) (count (class_of o.head) true s) ] in
+          Least (one (made_by c o)) s u ⊎ (Hushed Done o × (standing_in c u ≤ standing_in c s)))
+      go false e = inl (write_least o.call (Success (success_of o bytes)) (count (class_of o.head) true s) (success_part o bytes))
+      go true e = elim (cases_eq o.call c) [
+        | inl same ↦ inr ((same, e, refl), omega arith)
+        | inr ne ↦ inl (let f : (o.call == c) ≡ false = grind (arith, nat_tests, ne) in omega (arith, ap one f))
+      ]
 
-      quiet : (b : Bool) → o.silent ≡ b → Least (one (made_by c o)) s (let u : State = elim b [ true ↦ count (class_of o.head) true s | false ↦ write (Some o.call) (Success (success_of o bytes)) (count (class_of o.head) true s) ] in u)
-      quiet true e = elim (cases_eq o.call c) [ inl same ↦ absurd (let f = loud same in cc (e, f)) | inr ne ↦ (let f : (o.call == c) ≡ false = grind (arith, nat_tests, ne) in omega (arith, ap one f)) ]
-      quiet false e = write_least o.call (Success (success_of o bytes)) (count (class_of o.head) true s) (success_part o bytes)
+  failure_least : (kind : ErrKind) (o : Operation) (s : State) → Least (one (made_by c o)) s (write (Some o.call) (error o.ctx kind o.buf) (count (class_of o.head) false s))
+  failure_least kind o s = write_least o.call (error o.ctx kind o.buf) (count (class_of o.head) false s) refl
 
-      go : (k : Option ErrKind) → Least (one (made_by c o)) s (let u : State = elim k [
-        | Some kind ↦ write (Some o.call) (error o.ctx kind o.buf) (count (class_of o.head) false s)
-        | None ↦ elim o.silent [ true ↦ count (class_of o.head) true s | false ↦ write (Some o.call) (Success (success_of o bytes)) (count (class_of o.head) true s) ]
-      ] in u)
-      go (Some kind) = write_least o.call (error o.ctx kind o.buf) (count (class_of o.head) false s) refl
-      go None = quiet o.silent refl
+  end_least : (w : Outcome) (bytes : List ℕ) (o : Operation) (s : State) → Least (one (made_by c o)) s (end_with w bytes o s) ⊎ (Hushed w o × (standing_in c (end_with w bytes o s) ≤ standing_in c s))
+  unfolding end_with
+  end_least Done bytes o s = success_least bytes o s
+  end_least BadKey bytes o s = inl (failure_least NoKey o s)
+  end_least BadAccess bytes o s = inl (failure_least Access o s)
+  end_least BadRange bytes o s = inl (failure_least Range o s)
+
+  -- a step leaves the call standing, or an operation of it ends that writes nothing: then it is live no more and stands nowhere
+  abbrev pub Quits : Outcome → State → State → Type 0
+  Quits w s u = (o : Operation) × In o s.tx.live × Hushed w o × (many (made_by c) u.tx.live + 1 ≤ many (made_by c) s.tx.live) × (standing_in c u + 1 ≤ standing_in c s)
 
   data_least : (w : Outcome) (source : ℕ) (head : ItemHead) (s : State) → Least 0 s (remote_data w source head s)
   data_least Done source head s = kind head.kind head.imm
@@ -220,36 +245,56 @@ module _ (c : ℕ) where
       let p = perform s.regions head bytes in
       data_least p.outcome source head (record s { regions = p.regions; tx = joining source (record { head = reply_head head.op p.outcome (length p.bytes); bytes = p.bytes }) s.tx })
 
-  answer_least : (s : State) (source : ℕ) (head : ItemHead) (bytes : List ℕ) → Each Loud s.tx.live → Least 0 s (do_answer s source head bytes)
+  -- the operation that the test finds ends, and is the first to leave the live ones
+  ends_least : (w : Outcome) (bytes : List ℕ) (test : Operation → Bool) (o : Operation) (s m : State) → find test s.tx.live ≡ Some o → m.tx.live ≡ remove_first test s.tx.live
+      → standing_in c m + one (made_by c o) ≡ standing_in c s → Least 0 s (end_with w bytes o m) ⊎ Quits w s (end_with w bytes o m)
+  ends_least w bytes test o s m f live less = elim (end_least w bytes o m) [
+    | inl least ↦ inl (omega (arith, least, less))
+    | inr (hushed, same) ↦ inr (let t : made_by c o ≡ true = (let e = hushed.0 in grind (arith, nat_tests, e)) in (
+      o,
+      (found_in test s.tx.live o f).0,
+      hushed,
+      omega (arith, ap (many (made_by c)) (end_live w bytes o m ∙ live), many_removed (made_by c) test s.tx.live o f, ap one t),
+      omega (arith, same, less, ap one t),
+    ))
+  ]
+
+  answer_least : (s m : State) (source : ℕ) (head : ItemHead) (bytes : List ℕ) → m.tx ≡ s.tx → standing_in c m ≡ standing_in c s → Least 0 s (do_answer m source head bytes) ⊎ Quits head.outcome s (do_answer m source head bytes)
   unfolding do_answer answering
-  answer_least s source head bytes loud = go (find (is_answered_by s.tx source head) s.tx.live) refl
+  answer_least s m source head bytes tx same = go (find (is_answered_by m.tx source head) m.tx.live) refl
     where
-      go : (o : Option Operation) → find (is_answered_by s.tx source head) s.tx.live ≡ o → Least 0 s (let u : State = elim o [ None ↦ s | Some o ↦ end_with head.outcome bytes o (with_tx (answering source head s.tx) s) ] in u)
-      go None f = omega arith
-      go (Some o) f = omega (arith, end_least head.outcome bytes o (with_tx (answering source head s.tx) s) (each_in Loud s.tx.live o loud (found_in (is_answered_by s.tx source head) s.tx.live o f).0), many_removed (made_by c) (is_answered_by s.tx source head) s.tx.live o f)
+      go : (o : Option Operation) → find (is_answered_by m.tx source head) m.tx.live ≡ o
+          → (let u : State = elim o [ None ↦ m | Some o ↦ end_with head.outcome bytes o (with_tx (answering source head m.tx) m) ] in Least 0 s u ⊎ Quits head.outcome s u)
+      go None f = inl (omega (arith, same))
+      go (Some o) f =
+          let live : m.tx.live ≡ s.tx.live = ap (λ (y : Transmitting). y.live) tx in
+          ends_least head.outcome bytes (is_answered_by m.tx source head) o s (with_tx (answering source head m.tx) m) (ap (find (is_answered_by m.tx source head)) (sym live) ∙ f) (ap (remove_first (is_answered_by m.tx source head)) live)
+          (omega (arith, same, many_removed (made_by c) (is_answered_by m.tx source head) m.tx.live o f))
 
-  pub sent_least : (s : State) (t : ℕ) → Each Loud s.tx.live → Least 0 s (do_sent s t)
+  pub sent_least : (s : State) (t : ℕ) → Least 0 s (do_sent s t) ⊎ Quits Done s (do_sent s t)
   unfolding do_sent transmitting
-  sent_least s t loud = go (ending t s.tx) refl
+  sent_least s t = go (ending t s.tx) refl
     where
-      go : (o : Option Operation) → find (is_of_item t (slice_index s.tx.sent t)) s.tx.live ≡ o → Least 0 s (let u : State = elim o [ None ↦ with_tx (transmitting t s.tx) s | Some o ↦ end_with Done [] o (with_tx (transmitting t s.tx) s) ] in u)
-      go None f = omega (arith, ap (many (made_by c)) (not_removed (is_of_item t (slice_index s.tx.sent t)) s.tx.live f))
-      go (Some o) f = omega (arith, end_least Done [] o (with_tx (transmitting t s.tx) s) (each_in Loud s.tx.live o loud (found_in (is_of_item t (slice_index s.tx.sent t)) s.tx.live o f).0), many_removed (made_by c) (is_of_item t (slice_index s.tx.sent t)) s.tx.live o f)
+      go : (o : Option Operation) → find (is_of_item t (slice_index s.tx.sent t)) s.tx.live ≡ o
+          → (let u : State = elim o [ None ↦ with_tx (transmitting t s.tx) s | Some o ↦ end_with Done [] o (with_tx (transmitting t s.tx) s) ] in Least 0 s u ⊎ Quits Done s u)
+      go None f = inl (omega (arith, ap (many (made_by c)) (not_removed (is_of_item t (slice_index s.tx.sent t)) s.tx.live f)))
+      go (Some o) f = ends_least Done [] (is_of_item t (slice_index s.tx.sent t)) o s (with_tx (transmitting t s.tx) s) f refl (omega (arith, many_removed (made_by c) (is_of_item t (slice_index s.tx.sent t)) s.tx.live o f))
 
-  pub tail_least : (s : State) (source : ℕ) (head : ItemHead) (bytes : List ℕ) → Each Loud s.tx.live → Least 0 s (do_tail s source head bytes)
+  pub tail_least : (s : State) (source : ℕ) (head : ItemHead) (bytes : List ℕ) → Least 0 s (do_tail s source head bytes) ⊎ Quits head.outcome s (do_tail s source head bytes)
   unfolding do_tail tail_to made_whole keeping
-  tail_least s source head bytes loud = go (coming_from s.rx source) (cleared (into_single c) s.rx.coming source refl)
+  tail_least s source head bytes = go (coming_from s.rx source) (cleared (into_single c) s.rx.coming source refl)
     where
       u : State
       u = with_rx (made_whole source s.rx) s
 
-      go : (x : Option Coming) → many (into_single c) (set s.rx.coming source None) + one (into_single c x) ≡ many (into_single c) s.rx.coming → Least 0 s (tail_to x (with_rx (made_whole source s.rx) s) source head bytes)
-      go None less = omega (arith, less)
-      go (Some (Into r place)) less = omega (arith, less, fill_least r place source head bytes u, book_least (at_either head.ack) source head (fill r place source head bytes u), release_least r (book (at_either head.ack) source head (fill r place source head bytes u)))
-      go (Some Keep) less = omega (arith, less, book_least (at_delivery head.ack) source head (with_rx (keeping source bytes u.rx) u))
-      go (Some Throw) less = omega (arith, less, book_least (at_either head.ack) source head u)
-      go (Some Request) less = omega (arith, less, request_least u source head bytes)
-      go (Some Answer) less = omega (arith, less, answer_least u source head bytes loud)
+      go : (x : Option Coming) → many (into_single c) (set s.rx.coming source None) + one (into_single c x) ≡ many (into_single c) s.rx.coming
+          → Least 0 s (tail_to x (with_rx (made_whole source s.rx) s) source head bytes) ⊎ Quits head.outcome s (tail_to x (with_rx (made_whole source s.rx) s) source head bytes)
+      go None less = inl (omega (arith, less))
+      go (Some (Into r place)) less = inl (omega (arith, less, fill_least r place source head bytes u, book_least (at_either head.ack) source head (fill r place source head bytes u), release_least r (book (at_either head.ack) source head (fill r place source head bytes u))))
+      go (Some Keep) less = inl (omega (arith, less, book_least (at_delivery head.ack) source head (with_rx (keeping source bytes u.rx) u)))
+      go (Some Throw) less = inl (omega (arith, less, book_least (at_either head.ack) source head u))
+      go (Some Request) less = inl (omega (arith, less, request_least u source head bytes))
+      go (Some Answer) less = answer_least s (with_rx (made_whole source s.rx) s) source head bytes refl (omega (arith, less))
 
   pub draw_least : (s : State) → ((a : Arrival) → In a s.rx.unexpected → Kept s a) → Least 0 s (do_draw s)
   unfolding do_draw
@@ -400,15 +445,15 @@ module _ (c : ℕ) where
     faulted_least None u l = l
     faulted_least (Some f) u l = omega arith
 
-    -- the calls that complete
-    pub completes_made : (call : Call) → completes s call ≡ true → (do_call s call).1.calls ≡ s.calls + 1 → s.calls ≡ c → Least 1 s (do_call s call).1
+    -- the calls that begin an operation
+    pub begun_stands : (call : Call) → is_operation call ≡ true → (do_call s call).1.calls ≡ s.calls + 1 → s.calls ≡ c → Least 1 s (do_call s call).1
     unfolding do_call
-    completes_made (Transmit o) is made e = (faulted _ (transmit s o) (transmit_made o)).1 made e
-    completes_made (Post p) is made e = (faulted _ (post s p) (post_made p)).1 made e
-    completes_made (Look how source tag ignore ctx) is made e = let u : State = look how (want_of s true source tag ignore) ctx s in (faulted _ u (look_made how (want_of s true source tag ignore) ctx)).1 made e
-    completes_made (TakeClaimed buf ctx) is made e = (faulted _ (take_claimed s buf ctx) (take_made buf ctx)).1 made e
-    completes_made (DropClaimed ctx) is made e = (faulted _ (drop_claimed s ctx) (dropped_made ctx)).1 made e
-    completes_made call is made e = absurd (cc (is))
+    begun_stands (Transmit o) is made e = (faulted _ (transmit s o) (transmit_made o)).1 made e
+    begun_stands (Post p) is made e = (faulted _ (post s p) (post_made p)).1 made e
+    begun_stands (Look how source tag ignore ctx) is made e = let w : State = look how (want_of s true source tag ignore) ctx s in (faulted _ w (look_made how (want_of s true source tag ignore) ctx)).1 made e
+    begun_stands (TakeClaimed buf ctx) is made e = (faulted _ (take_claimed s buf ctx) (take_made buf ctx)).1 made e
+    begun_stands (DropClaimed ctx) is made e = (faulted _ (drop_claimed s ctx) (dropped_made ctx)).1 made e
+    begun_stands call is made e = absurd (cc (is))
 
     pub call_least : (call : Call) → Least 0 s (do_call s call).1
     unfolding do_call insert remove reg close put
@@ -426,3 +471,23 @@ module _ (c : ℕ) where
     call_least (Put key at bytes) = same_least ((put s key at bytes).1) (grind rules) (grind rules) (grind rules)
     call_least (Show key) = omega arith
     call_least (Count class) = omega arith
+
+-- ---- a step
+
+module _ (c n : ℕ) (v : View Item) (peer : (source k : ℕ) (item : Item) → slice_get (v.ready source) k ≡ Some item → source < n) (a b : Actor) (owed : OwedAt n v a.state) where
+  abbrev pub StepLeast : Step → State → Type 0
+  StepLeast x u = Least c 0 a.state u ⊎ Quits c (outcome_of v a x) a.state u
+
+  least_by : (x : Step) → StepIs v a x b → StepLeast x b.state
+  least_by Do is = inl (line_keeps (Least c 0 a.state) (next_call a) a.state b.state (omega arith) (call_least c a.state (kept_of n v a.state owed)) is)
+  least_by (Head source) (item, has, level, none, is) = subst (StepLeast (Head source)) (sym is)
+      (inl (head_least c a.state source item.head (idle_of n v a.state owed source level) (omega (arith, peer source (slice_index a.state.rx.heads source) item has, owed.coming_count))))
+  least_by (Tail source) (item, has, odd, sent, is) = subst (StepLeast (Tail source)) (sym is)
+      (subst (λ w. Least c 0 a.state (do_tail a.state source item.head item.bytes) ⊎ Quits c w a.state (do_tail a.state source item.head item.bytes)) (sym (ap (λ (o : Option Item). option_map_or (λ (i : Item). i.head.outcome) o Done) has)) (tail_least c a.state source item.head item.bytes))
+  least_by (Step.Sent t) (less, is) = subst (StepLeast (Step.Sent t)) (sym is) (sent_least c a.state t)
+  least_by Draw (due, is) = subst (StepLeast Draw) (sym is) (inl (draw_least c a.state (λ x i. kept_of n v a.state owed x (in_front x a.state.rx.unexpected (map (λ (y : ℕ × Arrival). y.1) a.state.rx.claimed) i))))
+  least_by Step.Read is = subst (StepLeast Step.Read) (sym is) (inl (omega arith))
+  least_by Final is = subst (StepLeast Final) (sym is) (inl (call_least c a.state (kept_of n v a.state owed) CancelFirst))
+
+  pub step_least : (x : Step) → fabric.step v a x ≡ Some b → StepLeast x b.state
+  step_least x e = least_by x (step_is v a b x e)

@@ -22,20 +22,9 @@ use Rattle.fab_model.specs.Sending.{end_with, refusal_of, class_of, success_of}
 use Rattle.fab_model.specs.Receiving.{drop_arrival, give, goes}
 use Rattle.fab_model.specs.Arrivals.{do_head, heading_message, heading_other, made_whole, seated, shut, stays, taker, used_up, is_wanted, way_of}
 use Rattle.fab_model.specs.Peers.{part_of}
-use Rattle.fab_laws.specs.Once.{is_final}
-use Rattle.fab_laws.proofs.Lists.{many, many_append, many_removed, one, found_in}
-
-abbrev pub made_by : ℕ → Operation → Bool
-made_by c o = o.call == c
-
--- an item of the single receive made by this call has arrived and is not whole
-abbrev pub into_single : ℕ → Option Coming → Bool
-into_single c None = false
-into_single c (Some (Into r place)) = is_made_by c r && is_none r.least
-into_single c (Some Keep) = false
-into_single c (Some Throw) = false
-into_single c (Some Request) = false
-into_single c (Some Answer) = false
+use Rattle.fab_laws.proofs.Counts.{many, many_append, many_removed, one}
+use Rattle.fab_laws.specs.Completed.{into_single, is_final, made_by}
+use Rattle.fab_laws.proofs.Lists.{found_in}
 
 abbrev pub standing : ℕ → Transmitting → Receiving → Completions → ℕ
 standing c tx rx cq = many (made_by c) tx.live + many (is_made_by c) rx.posted + many (is_made_by c) rx.closing + many (into_single c) rx.coming + many (is_final c) cq.written

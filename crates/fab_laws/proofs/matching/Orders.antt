@@ -8,63 +8,44 @@ use Rattle.fab_base.specs.declared.items.Item.{Item}
 use Rattle.fab_base.specs.declared.operations.Coming.{Coming}
 use Rattle.fab_base.specs.declared.peers.Step.{Step}
 use Rattle.fab_base.specs.declared.script.Bound.{Bound}
+use Rattle.fab_base.specs.declared.script.Conf.{Conf}
 use Rattle.fab_model.specs.Matching.{takes}
 use Rattle.fab_model.specs.Receiving.{draws}
-use Rattle.fab_model.specs.Calls.{upto}
 use Rattle.fab_model.specs.Orders.{Leads, Turn}
 use Rattle.fab_model.specs.Peers.{Actor, fabric}
-use Rattle.fab_model.specs.Replay.{lines_of, newly, opening}
+use Rattle.fab_model.specs.Replay.{fresh, opening}
 use Rattle.fab_model.specs.Views.{rule, seen}
 use Rattle.fab_model.proofs.Parts.{some_same}
 use Rattle.fab_model.proofs.Patient.{Own, fabric_patient, opening_sound, sender_is}
 use Rattle.fab_model.proofs.Turns.{slice_get-set, slice_get-set_same}
-use Rattle.fab_laws.specs.History.{Came, Cancelled, Event, Got, Lost, Made, Mark, history, mark_of, noticed, noticed_by, past_of, wish_of}
-use Rattle.fab_laws.specs.Laws.{GotRightly, LeadTo, NonePassedOver, PastTellsState, ServedInOrder, TakenInOrder}
 use Rattle.fab_laws.proofs.Lists.{always, any_in, in_map, never}
+use Rattle.fab_laws.proofs.Stepping.{at_opening}
+use Rattle.fab_laws.specs.Matched.{Came, Cancelled, Event, Got, Lost, Made, Mark, mark_of, past_of, wish_of, noting}
+use Rattle.fab_laws.specs.MatchingLaws.{GotRightly, NonePassedOver, PastTellsState, ServedInOrder, TakenInOrder}
+use Rattle.fab_laws.specs.Moments.{LeadTo, remembered}
 use Rattle.fab_laws.proofs.matching.Past.{Fit, Holds, Ordered, Right, Served}
 use Rattle.fab_laws.proofs.matching.Moves.{Keeps}
 use Rattle.fab_laws.proofs.matching.Steps.{step_keeps}
+use Rattle.fab_laws.proofs.Memory.{KeptByTurns, remembered_keeps}
 use Rattle.fab_model.proofs.Views as views
 
-module _ (n p : ℕ) where
-  abbrev SoundFor : List Actor → Type 0
-  SoundFor states = views.Sound fabric n (Own n) states
+-- ---- turns
 
-  abbrev KeepsAt : List Event → List Actor → Type 0
-  KeepsAt past states = (a : Actor) → slice_get states p ≡ Some a → Keeps n past a.state
+abbrev SoundFor : ℕ → List Actor → Type 0
+SoundFor n states = views.Sound fabric n (Own n) states
 
-  room : (states : List Actor) → SoundFor states → (source k : ℕ) (item : Item) → slice_get ((seen fabric states p).ready source) k ≡ Some item → source < n
-  room states sound source k item has = let sender = sender_is states p source k item has in omega (arith, slice_get_within states source sender.0 sender.1, sound.count)
+sound_turn : (n : ℕ) → KeptByTurns (SoundFor n)
+sound_turn n states q x b sound stood = let is = views.rule_is fabric states q x b stood in views.sound_stays fabric n (Own n) (fabric_patient n) states q is.0 b x sound is.1 is.2
 
-  own_turn : (states : List Actor) (past : List Event) (x : Step) (b : Actor) → SoundFor states → KeepsAt past states → rule fabric states p x ≡ Some b → (c : Actor) → slice_get (set states p b) p ≡ Some c
-      → Keeps n ((elim (slice_get states p) [ None ↦ [] | Some a ↦ noticed (seen fabric states p) a x b ]) ++ past) c.state
-  own_turn states past x b sound keeps stood c here =
-      let is = views.rule_is fabric states p x b stood in
-      let same : b ≡ c = some_same b c (sym (slice_get-set_same states p b (slice_get_within states p is.0 is.1)) ∙ here) in
-      let seen_is : (elim (slice_get states p) [ None ↦ [] | Some a ↦ noticed (seen fabric states p) a x b ]) ≡ noticed (seen fabric states p) is.0 x b =
-      ap (λ (o : Option Actor). elim o [ None ↦ [] | Some a ↦ noticed (seen fabric states p) a x b ]) is.1 in
-      subst (λ (y : Actor). Keeps n ((elim (slice_get states p) [ None ↦ [] | Some a ↦ noticed (seen fabric states p) a x b ]) ++ past) y.state) same
-      (subst (λ (es : List Event). Keeps n (es ++ past) b.state) (sym seen_is) (step_keeps n past (seen fabric states p) is.0 b x (room states sound) (keeps is.0 is.1) is.2))
+room : (n p : ℕ) (states : List Actor) → SoundFor n states → (source k : ℕ) (item : Item) → slice_get ((seen fabric states p).ready source) k ≡ Some item → source < n
+room n p states sound source k item has = let sender = sender_is states p source k item has in omega (arith, slice_get_within states source sender.0 sender.1, sound.count)
 
-  turn_by : (states : List Actor) (past : List Event) (q : ℕ) (x : Step) (b : Actor) → SoundFor states → KeepsAt past states → rule fabric states q x ≡ Some b → (own : Bool) → (q == p) ≡ own
-      → (c : Actor) → slice_get (set states q b) p ≡ Some c → Keeps n ((elim own [ true ↦ elim (slice_get states p) [ None ↦ [] | Some a ↦ noticed (seen fabric states p) a x b ] | false ↦ [] ]) ++ past) c.state
-  turn_by states past q x b sound keeps stood true e c here =
-      let same : q ≡ p = eqb-true q p e in
-      own_turn states past x b sound keeps (subst (λ k. rule fabric states k x ≡ Some b) same stood) c (subst (λ k. slice_get (set states k b) p ≡ Some c) same here)
-  turn_by states past q x b sound keeps stood false e c here = elim (slice_get-set states q p b c here) [
-    | inl before ↦ keeps c before
-    | inr now ↦ absurd (let t : (q == p) ≡ true = eq-eqb q p now.0 in cc (e, t))
-  ]
-
-  pub leads_keep : (turns : List (Turn Step)) (states last : List Actor) (past : List Event) → SoundFor states → KeepsAt past states → Leads (rule fabric) states turns last → KeepsAt (history p turns states past) last
-  leads_keep [] states last past sound keeps leads = subst (KeepsAt past) leads keeps
-  leads_keep (t ∷ turns) states last past sound keeps (s, stood, rest) =
-      let is = views.rule_is fabric states t.peer t.step s stood in
-      let next : history p (t ∷ turns) states past ≡ history p turns (set states t.peer s) (noticed_by p states t s ++ past) =
-      ap (λ (o : Option Actor). elim o [ None ↦ past | Some b ↦ history p turns (set states t.peer b) (noticed_by p states t b ++ past) ]) stood in
-      subst (λ es. KeepsAt es last) (sym next)
-      (leads_keep turns (set states t.peer s) last (noticed_by p states t s ++ past) (views.sound_stays fabric n (Own n) (fabric_patient n) states t.peer is.0 s t.step sound is.1 is.2)
-      (turn_by states past t.peer t.step s sound keeps stood (t.peer == p) refl) rest)
+leads_keep : (n p : ℕ) (turns : List (Turn Step)) (states last : List Actor) → SoundFor n states → ((a : Actor) → slice_get states p ≡ Some a → Keeps n [] a.state) → Leads (rule fabric) states turns last
+    → (a : Actor) → slice_get last p ≡ Some a → Keeps n (remembered noting p turns states []) a.state
+leads_keep n p turns states last sound keeps leads = remembered_keeps noting p (SoundFor n) (λ past states a. Keeps n past a.state) (sound_turn n)
+    (λ states past a b x sound here stood steps keeps. step_keeps n past (seen fabric states p) a b (room n p states sound) keeps x steps)
+    (λ states past q a b x sound here differ stood keeps. keeps)
+    turns states last [] sound keeps leads
 
 -- ---- the opening
 
@@ -94,20 +75,11 @@ none_holds n = record {
   right = always;
 }
 
-mapped_get : {X Y : Type 0} (f : X → Y) (xs : List X) (k : ℕ) (y : Y) → slice_get (map f xs) k ≡ Some y → (x : X) × (y ≡ f x)
-mapped_get f [] k y e = absurd (cc)
-mapped_get f (x ∷ xs) zero y e = (x, cc)
-mapped_get f (x ∷ xs) (suc k) y e = mapped_get f xs k y e
-
-opening_keeps : (bound : Bound) (p : ℕ) (a : Actor) → slice_get (opening bound) p ≡ Some a → Keeps bound.script.conf.peers [] a.state
-unfolding opening
-opening_keeps bound p a e =
-    let conf = bound.script.conf in
-    let i = mapped_get (λ q. newly conf (lines_of bound q)) (upto conf.peers) p a e in
-    subst (λ (x : Actor). Keeps conf.peers [] x.state) (sym i.1) (record { holds = none_holds conf.peers; heads_count = length-replicate {A = ℕ} conf.peers 0; coming_count = length-replicate {A = Option Coming} conf.peers None })
+fresh_keeps : (conf : Conf) → Keeps conf.peers [] (fresh conf)
+fresh_keeps conf = record { holds = none_holds conf.peers; heads_count = length-replicate {A = ℕ} conf.peers 0; coming_count = length-replicate {A = Option Coming} conf.peers None }
 
 pub moment_keeps : (bound : Bound) (turns : List (Turn Step)) (states : List Actor) → LeadTo bound turns states → (p : ℕ) (a : Actor) → slice_get states p ≡ Some a → Keeps bound.script.conf.peers (past_of bound turns p) a.state
-moment_keeps bound turns states leads p = leads_keep bound.script.conf.peers p turns (opening bound) states [] (opening_sound bound) (opening_keeps bound p) leads
+moment_keeps bound turns states leads p = leads_keep bound.script.conf.peers p turns (opening bound) states (opening_sound bound) (at_opening bound (λ (a : Actor). Keeps bound.script.conf.peers [] a.state) (λ lines. fresh_keeps bound.script.conf) p) leads
 
 -- ---- the laws
 
@@ -140,8 +112,6 @@ got_rightly bound turns states leads p a here later before call x last is =
 pub past_tells_state : PastTellsState
 past_tells_state bound turns states leads p a here =
     let holds = (moment_keeps bound turns states leads p a here).holds in (
-      λ x i. (holds.waiting_came x i, λ g. holds.still x i g),
-      λ x i. holds.waits_or_gone x i,
-      λ w i. (holds.posted_made w i, λ y c. holds.open_yet w y i c, λ c. holds.kept_yet w i c),
-      λ w i. holds.ends w i,
+      (λ x i. (holds.waiting_came x i, λ g. holds.still x i g), λ x i. holds.waits_or_gone x i),
+      (λ w i. (holds.posted_made w i, λ y c. holds.open_yet w y i c, λ c. holds.kept_yet w i c), λ w i. holds.ends w i),
     )

@@ -3,10 +3,9 @@ use Rattle.std.proofs.Common.{◌≡◌, ◌≤◌, ◌<◌, ◌+◌, ℕ, zero,
 use Rattle.std.specs.Prelude.{slice_index}
 use Rattle.fab_model.specs.State.{raise}
 use Rattle.fab_model.proofs.Parts.{get_or-set}
-use Rattle.fab_laws.specs.History.{CancelledBefore, Came, Cancelled, Event, Got, Lost, Made, Mark, Wish, came, cancelled, closed, gone, made, wishes}
+use Rattle.fab_laws.proofs.Lists.{raise_keeps, raise_here, first_of, Always, Loses, Once, ahead_end, ahead_in, in_end, in_front, in_middle, never, once_more}
+use Rattle.fab_laws.specs.Matched.{CancelledBefore, Came, Cancelled, Event, Got, Lost, Made, Mark, Wish, came, cancelled, closed, gone, made, wishes, ClosedBefore}
 use Rattle.fab_laws.specs.Members.{Ahead, In, Never}
-use Rattle.fab_laws.specs.Laws.{ClosedBefore}
-use Rattle.fab_laws.proofs.Lists.{Always, Loses, Once, ahead_end, ahead_in, in_end, in_front, in_middle, never, once_more}
 
 abbrev pub Earlier : ℕ → Mark → List Event → Type 0
 Earlier call x past = ClosedBefore call x past ⊎ CancelledBefore call x past
@@ -82,14 +81,6 @@ closed_got call c x m false past i = inr i
 closed_here : (call c : ℕ) (m : Mark) (last : Bool) (past : List Event) → last ≡ true → call ≡ c → In (call, m) (closed (Got c m last ∷ past))
 closed_here call c m true past e f = inl (ap (λ n. (n, m)) f)
 closed_here call c m false past e f = absurd (cc)
-
-pub raise_keeps : (xs : List ℕ) (t q : ℕ) → slice_index xs q ≤ slice_index (raise xs t) q
-raise_keeps xs t q = elim (get_or-set xs t q (slice_index xs t + 1) 0) [ inl e ↦ omega (arith, e) | inr e ↦ omega (arith, e.1, ap (slice_index xs) e.0) ]
-
-raise_here : (xs : List ℕ) (t : ℕ) → t < length xs → slice_index (raise xs t) t ≡ slice_index xs t + 1
-raise_here [] t lt = absurd (omega arith)
-raise_here (x ∷ xs) zero lt = refl
-raise_here (x ∷ xs) (suc t) lt = raise_here xs t (omega arith)
 
 abbrev pub NoDraw : List Wish → List Mark → Type 0
 NoDraw posted waiting = (w : Wish) (x : Mark) → In w posted → In x waiting → wishes w x ≡ true → Never

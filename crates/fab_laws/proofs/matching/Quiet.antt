@@ -22,7 +22,7 @@ use Rattle.fab_model.specs.Sending.{answering, do_answer, do_sent, end_with, end
 use Rattle.fab_model.specs.Arrivals.{completed, do_request, do_tail, keeping, made_whole, remote_data, tail_to, with_regions}
 use Rattle.fab_model.specs.Target.{perform}
 use Rattle.fab_model.proofs.Parts.{prefix_get}
-use Rattle.fab_laws.specs.History.{mark_of, wish_of}
+use Rattle.fab_laws.specs.Matched.{mark_of, wish_of}
 use Rattle.fab_laws.proofs.Lists.{changed_same, map_same}
 
 pub record Quiet (s t : State) : Type 0 where

@@ -21,17 +21,17 @@ use Rattle.fab_model.specs.Sending.{answering, class_of, do_answer, do_sent, end
 use Rattle.fab_model.specs.Receiving.{draws, give, goes, without_first}
 use Rattle.fab_model.specs.Arrivals.{do_draw, do_request, do_tail, keeping, made_whole, remote_data, seating, tail_to, with_regions}
 use Rattle.fab_model.specs.Target.{perform}
-use Rattle.fab_laws.specs.History.{Event, cancel_of, left, new_entry}
+use Rattle.fab_laws.specs.Matched.{happens, Event, cancel_of, left, new_entry}
 use Rattle.fab_laws.proofs.Lists.{beyond_get, last_get}
 use Rattle.fab_laws.proofs.matching.Quiet.{Quiet, release_ends}
 use Rattle.fab_laws.proofs.matching.Watch.{book_cq, cancels_none, entry_no_cancel, left_quiet, written_same}
 use Rattle.fab_laws.proofs.matching.Moves.{Keeps, draw_keeps, quiet_keeps}
-use Rattle.fab_laws.proofs.matching.Does.{events, events_are}
+use Rattle.fab_laws.proofs.matching.Does.{events_are}
 
 abbrev pub NoCancel : State → State → Type 0
 NoCancel s t = cancel_of (new_entry s t) ≡ None
 
-pub still_keeps : (n : ℕ) (past : List Event) (s t : State) → Keeps n past s → Quiet s t → NoCancel s t → Keeps n (events s t None ++ past) t
+pub still_keeps : (n : ℕ) (past : List Event) (s t : State) → Keeps n past s → Quiet s t → NoCancel s t → Keeps n (happens s t None ++ past) t
 still_keeps n past s t keeps quiet none = subst (λ (es : List Event). Keeps n (es ++ past) t) (sym (events_are s t None [] [] [] (left_quiet s t quiet) (cancels_none s t none) refl)) (quiet_keeps n past s t quiet keeps)
 
 -- ---- what a peer sends, and what comes that is no message
@@ -160,7 +160,7 @@ draw_still : (s : State) → NoCancel s (do_draw s)
 unfolding do_draw
 draw_still s = draw_by s (find (draws s.rx.unexpected) s.rx.posted)
 
-pub draw_happens : (n : ℕ) (past : List Event) (s : State) → Keeps n past s → Keeps n (events s (do_draw s) None ++ past) (do_draw s)
+pub draw_happens : (n : ℕ) (past : List Event) (s : State) → Keeps n past s → Keeps n (happens s (do_draw s) None ++ past) (do_draw s)
 draw_happens n past s keeps =
-    let all : events s (do_draw s) None ≡ (left s (do_draw s) ++ []) ++ [] = events_are s (do_draw s) None (left s (do_draw s)) [] [] refl (cancels_none s (do_draw s) (draw_still s)) refl in
+    let all : happens s (do_draw s) None ≡ (left s (do_draw s) ++ []) ++ [] = events_are s (do_draw s) None (left s (do_draw s)) [] [] refl (cancels_none s (do_draw s) (draw_still s)) refl in
     subst (λ (es : List Event). Keeps n (es ++ past) (do_draw s)) (sym (all ∙ append-nil (left s (do_draw s) ++ []) ∙ append-nil (left s (do_draw s)))) (draw_keeps n past s keeps)

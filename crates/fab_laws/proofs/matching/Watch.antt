@@ -15,9 +15,9 @@ use Rattle.fab_base.specs.declared.operations.Written.{Written}
 use Rattle.fab_model.specs.State.{State, Receiving, coming_from, with_rx, write, called, Completions}
 use Rattle.fab_model.specs.Complete.{at_match, book, entry_of, fill, has_space, is_made_by, received, reply, tag_of, truncated, paste}
 use Rattle.fab_model.specs.Receiving.{give, goes}
-use Rattle.fab_laws.specs.History.{Cancelled, Got, Lost, Mark, Wish, cancel_of, cancels, claims_more, fate, filled_by, goes_into, is_posted, left, mark_of, new_entry, parted, same_item, taken_now, tells_message, wish_of}
-use Rattle.fab_laws.specs.Members.{In, Never}
 use Rattle.fab_laws.proofs.Lists.{any_in, beyond_get, last_get, never, none_any}
+use Rattle.fab_laws.specs.Matched.{Cancelled, Got, Lost, Mark, Wish, cancel_of, cancels, claims_more, fate, filled_by, goes_into, is_posted, left, mark_of, new_entry, parted, same_item, taken_now, tells_message, wish_of}
+use Rattle.fab_laws.specs.Members.{In, Never}
 use Rattle.fab_laws.proofs.matching.Quiet.{Quiet, Ends, book_quiet, fill_quiet, then}
 
 -- ---- who left the unexpected messages

@@ -21,11 +21,13 @@ use Rattle.fab_model.specs.Sending.{expects, is_answered_by}
 use Rattle.fab_model.specs.Arrivals.{do_head, heading_message, heading_other, newcomer, taker, way_of}
 use Rattle.fab_model.specs.Views.{View}
 use Rattle.fab_model.proofs.Parts.{get_or-set}
-use Rattle.fab_laws.specs.Stray.{is_reply, owes}
-use Rattle.fab_laws.proofs.Lists.{Each, always, each_append, each_in, each_removed, each_so, found_in, in_many, many, many_append, many_map, never, one, get_in}
+use Rattle.fab_laws.proofs.Counts.{in_many, many, many_append, many_map, one, one_no, one_none, same_one, some_in, not_found, take_less, take_one}
+use Rattle.fab_laws.proofs.Lists.{Each, always, each_append, each_in, each_removed, each_so, found_in, never, get_in}
+use Rattle.fab_laws.specs.ReplyLaws.{is_reply, owes}
 use Rattle.fab_laws.specs.Members.{In, Never}
-use Rattle.fab_laws.proofs.replies.Owing.{Longer, Pays, Sends, Whole, debt, expected, longer_many, no_bytes, one_no, one_none, owing_head, owing_item, pays_moved, pays_whole, reply_item, same_one, sends_answered, sends_found, sends_got, sends_joins, set_longer, still_in, now_in, was_in, numbered, some_in, owing_asks}
-use Rattle.fab_laws.proofs.replies.Owed.{Goes, Lane, Owed, OwedAt, Unwhole, got, held, is_keep, unwhole_of}
+use Rattle.fab_laws.proofs.replies.Owing.{Longer, Pays, Sends, Whole, debt, expected, longer_many, no_bytes, owing_head, owing_item, pays_moved, pays_whole, reply_item, sends_answered, sends_found, sends_got, sends_joins, set_longer, still_in, now_in, was_in, numbered, owing_asks}
+use Rattle.fab_laws.proofs.replies.Owed.{Goes, Lane, Owed, OwedAt, Unwhole, got, is_keep, unwhole_of}
+use Rattle.fab_laws.specs.Completed.{held}
 
 -- ---- the arrival of an item
 
@@ -123,30 +125,12 @@ Paid v tx = (t k : ℕ) → many (reply_item k) (v.ready t) ≤ many (owing_item
 abbrev pub Fits : View Item → Transmitting → Type 0
 Fits v tx = (t : ℕ) (r : Item) → In r (v.ready t) → is_reply r.head.kind ≡ true → (x : Item) × In x (accepted_for tx t) × (owes x.head ≡ true) × (x.head.op ≡ r.head.op) × (expected x.head r.head.outcome r.head.total ≡ true)
 
-pub take_one : (xs : List Item) (i : ℕ) (x : Item) → slice_get xs i ≡ Some x → take (i + 1) xs ≡ take i xs ++ x ∷ []
-take_one [] i x e = absurd (cc)
-take_one (y ∷ xs) zero x e = let f : y ≡ x = cc in ap (λ z. z ∷ []) f
-take_one (y ∷ xs) (suc i) x e = let f : suc i + 1 ≡ suc (i + 1) = omega arith in ap (λ m. take m (y ∷ xs)) f ∙ ap (λ zs. y ∷ zs) (take_one xs i x e)
-
-pub take_less : (test : Item → Bool) (i : ℕ) (xs : List Item) → many test (take i xs) ≤ many test xs
-take_less test zero xs = omega arith
-take_less test (suc i) [] = omega arith
-take_less test (suc i) (x ∷ xs) = omega (arith, take_less test i xs)
-
 expects_same : (o : Operation) (w : Outcome) (len : ℕ) → expects o w len ≡ expected o.head w len
 unfolding expects
 expects_same o Done len = refl
 expects_same o BadKey len = refl
 expects_same o BadAccess len = refl
 expects_same o BadRange len = refl
-
-pub not_found : {X : Type 0} (test : X → Bool) (xs : List X) → find test xs ≡ None → many test xs ≡ 0
-not_found test [] e = refl
-not_found test (x ∷ xs) e = go (test x) refl (not_found test xs)
-  where
-    go : (b : Bool) → test x ≡ b → (find test xs ≡ None → many test xs ≡ 0) → one (test x) + many test xs ≡ 0
-    go true t ih = absurd (let bad : Some x ≡ None = rw (t, find) at e in cc)
-    go false t ih = omega (arith, ap one t, ih (rw (t, find) at e))
 
 -- the reply that comes next finds the operation that it answers
 pub answered_by : (n : ℕ) (v : View Item) (s : State) → OwedAt n v s → Paid v s.tx → Fits v s.tx → (t : ℕ) (r : Item) → slice_get (v.ready t) (slice_index s.rx.tails t) ≡ Some r → is_reply r.head.kind ≡ true

@@ -18,17 +18,16 @@ use Rattle.fab_model.specs.Complete.{at_match, book, fill, joining, reply, reply
 use Rattle.fab_model.specs.Receiving.{drop_arrival, give, goes}
 use Rattle.fab_model.specs.Views.{View, More}
 use Rattle.fab_model.proofs.Parts.{get_or-set, prefix_get}
-use Rattle.fab_laws.specs.Stray.{is_reply}
-use Rattle.fab_laws.proofs.Lists.{Each, each_so, many, never, one}
+use Rattle.fab_laws.proofs.Counts.{many, one, one_none, one_no}
+use Rattle.fab_laws.proofs.Lists.{Each, each_so, never}
+use Rattle.fab_laws.specs.ReplyLaws.{is_reply}
+use Rattle.fab_laws.specs.Completed.{held}
 use Rattle.fab_laws.specs.Members.{In, Never}
-use Rattle.fab_laws.proofs.replies.Owing.{Longer, Pays, Sends, Splits, Whole, debt, one_none, one_no, pays_given, pays_leaves, pays_moved, reply_item, sends_joins, set_longer, owing_item}
+use Rattle.fab_laws.proofs.replies.Owing.{Longer, Pays, Sends, Splits, Whole, debt, pays_given, pays_leaves, pays_moved, reply_item, sends_joins, set_longer, owing_item}
 
 -- the items of each source that are whole
 abbrev pub got : View Item → List ℕ → ℕ → List Item
 got v tails q = take (slice_index tails q) (v.ready q)
-
-abbrev pub held : Receiving → List Arrival
-held rx = rx.unexpected ++ map (λ c. c.1) rx.claimed
 
 abbrev pub unwhole_of : ℕ → Arrival → Bool
 unwhole_of s a = (a.source == s) && is_none a.bytes

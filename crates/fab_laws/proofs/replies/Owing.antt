@@ -19,63 +19,15 @@ use Rattle.fab_model.specs.Matching.{is_message, remove_first}
 use Rattle.fab_model.specs.Complete.{at_either, at_match}
 use Rattle.fab_model.specs.Sending.{is_answered}
 use Rattle.fab_model.proofs.Parts.{get_or-set}
-use Rattle.fab_laws.specs.Stray.{is_reply, owes, owes_by}
-use Rattle.fab_laws.proofs.Lists.{Each, always, each_append, each_in, each_removed, each_so, found_in, in_back, in_front, in_many, many, many_append, many_removed, never, one}
+use Rattle.fab_laws.proofs.Counts.{in_many, many, many_append, many_removed, one, not_removed, some_only, some_in, one_none, removed_less, many_dropped, split_many, in_split, one_no}
+use Rattle.fab_laws.proofs.Lists.{Each, always, each_append, each_in, each_removed, each_so, found_in, in_back, in_front, never}
+use Rattle.fab_laws.specs.ReplyLaws.{is_reply, owes, owes_by}
 use Rattle.fab_laws.specs.Members.{In}
-use Rattle.fab_laws.proofs.completion.Calls.{not_removed}
-
--- ---- booleans as numbers
-
-pub one_no : (a b : Bool) → b ≡ false → one (a && b) ≡ 0
-one_no true b e = ap one e
-one_no false b e = refl
-
-pub one_none : (a b : Bool) → a ≡ false → one (a && b) ≡ 0
-one_none a b e = ap (λ c. one (c && b)) e
 
 -- ---- lists
 
 abbrev pub Longer : (ℕ → List Item) → (ℕ → List Item) → ℕ → Item → Type 0
 Longer f g t x = (q : ℕ) → ((t ≢ q) × (g q ≡ f q)) ⊎ ((t ≡ q) × (g q ≡ f q ++ x ∷ []))
-
-pub in_split : {X : Type 0} (x : X) (xs ys : List X) → In x (xs ++ ys) → In x xs ⊎ In x ys
-in_split x [] ys i = inr i
-in_split x (y ∷ xs) ys (inl e) = inl (inl e)
-in_split x (y ∷ xs) ys (inr i) = elim (in_split x xs ys i) [ inl j ↦ inl (inr j) | inr j ↦ inr j ]
-
-le_is : (a b : ℕ) → nat_le a b ≡ true → a ≤ b
-le_is a b e = grind (arith, nat_tests, e)
-
-le_not : (a b : ℕ) → nat_le a b ≡ false → b < a
-le_not a b e = grind (arith, nat_tests, e)
-
-suc_le : (n m : ℕ) → nat_le (suc n) (suc m) ≡ nat_le n m
-suc_le n m = go (nat_le (suc n) (suc m)) (nat_le n m) refl refl
-  where
-    go : (b c : Bool) → nat_le (suc n) (suc m) ≡ b → nat_le n m ≡ c → nat_le (suc n) (suc m) ≡ nat_le n m
-    go true true e f = e ∙ sym f
-    go false false e f = e ∙ sym f
-    go true false e f = absurd (omega (arith, le_is (suc n) (suc m) e, le_not n m f))
-    go false true e f = absurd (omega (arith, le_not (suc n) (suc m) e, le_is n m f))
-
-none_dropped : {X : Type 0} (test : X → Bool) (n : ℕ) → many test (drop n []) ≡ 0
-none_dropped test zero = refl
-none_dropped test (suc n) = refl
-
-many_dropped : {X : Type 0} (test : X → Bool) (n : ℕ) (xs : List X) (x : X) → many test (drop n (xs ++ x ∷ [])) ≡ many test (drop n xs) + one (nat_le n (length xs) && test x)
-many_dropped test zero xs x = omega (arith, many_append test xs (x ∷ []), at_least_none (length xs))
-  where
-    at_least_none : (n : ℕ) → one (nat_le 0 n && test x) ≡ one (test x)
-    at_least_none n = let t : nat_le 0 n ≡ true = grind (arith, nat_tests) in ap (λ b. one (b && test x)) t
-many_dropped test (suc n) [] x =
-    let f : nat_le (suc n) 0 ≡ false = grind (arith, nat_tests) in
-    let e : many test (drop (suc n) ([] ++ x ∷ [])) ≡ 0 = none_dropped test n in
-    let z : many test (drop (suc n) []) ≡ 0 = refl in
-    omega (arith, e, z, one_none (nat_le (suc n) 0) (test x) f)
-many_dropped test (suc n) (y ∷ xs) x =
-    let e : many test (drop (suc n) ((y ∷ xs) ++ x ∷ [])) ≡ many test (drop n (xs ++ x ∷ [])) = refl in
-    let z : many test (drop (suc n) (y ∷ xs)) ≡ many test (drop n xs) = refl in
-    omega (arith, e, z, many_dropped test n xs x, ap (λ b. one (b && test x)) (suc_le n (length xs)))
 
 module _ (f g : ℕ → List Item) (t : ℕ) (x : Item) (longer : Longer f g t x) where
   pub longer_many : (test : Item → Bool) (q : ℕ) → many test (g q) ≡ many test (f q) + one ((t == q) && test x)
@@ -164,44 +116,6 @@ owing_asks h e = go h.kind e
     go : (w : Kind) → owes_by (at_either h.ack) w ≡ true → is_reply w ≡ false
     go Reply e = absurd (cc (e))
     go w e = refl
-
-removed_less : {X : Type 0} (test leaves : X → Bool) (xs : List X) → many test (remove_first leaves xs) ≤ many test xs
-removed_less test leaves [] = omega arith
-removed_less test leaves (x ∷ xs) = go (leaves x) (removed_less test leaves xs)
-  where
-    go : (b : Bool) → many test (remove_first leaves xs) ≤ many test xs → many test (elim b [ true ↦ xs | false ↦ x ∷ remove_first leaves xs ]) ≤ one (test x) + many test xs
-    go true le = omega arith
-    go false le = omega (arith, le)
-
-pub some_in : {X : Type 0} (test : X → Bool) (xs : List X) → 1 ≤ many test xs → (x : X) × In x xs × (test x ≡ true)
-some_in test [] le = absurd (omega arith)
-some_in {X} test (x ∷ xs) le = go (test x) refl (some_in test xs)
-  where
-    go : (b : Bool) → test x ≡ b → (1 ≤ many test xs → (y : X) × In y xs × (test y ≡ true)) → (y : X) × In y (x ∷ xs) × (test y ≡ true)
-    go true t ih = (x, inl refl, t)
-    go false t ih = let more = ih (omega (arith, le, ap one t)) in (more.0, inr more.1, more.2)
-
--- more pass the one test than the other
-pub some_only : {X : Type 0} (test other : X → Bool) (xs : List X) → many other xs < many test xs → (x : X) × In x xs × (test x ≡ true) × (other x ≡ false)
-some_only test other [] lt = absurd (omega arith)
-some_only {X} test other (x ∷ xs) lt = go (test x) (other x) refl refl (some_only test other xs)
-  where
-    go : (b c : Bool) → test x ≡ b → other x ≡ c → (many other xs < many test xs → (y : X) × In y xs × (test y ≡ true) × (other y ≡ false)) → (y : X) × In y (x ∷ xs) × (test y ≡ true) × (other y ≡ false)
-    go true false t u ih = (x, inl refl, t, u)
-    go true true t u ih = let more = ih (omega (arith, lt, ap one t, ap one u)) in (more.0, inr more.1, more.2, more.3)
-    go false c t u ih = let more = ih (omega (arith, lt, ap one t)) in (more.0, inr more.1, more.2, more.3)
-
-pub same_one : {X : Type 0} (test : X → Bool) (xs : List X) (x y : X) → many test xs ≤ 1 → In x xs → In y xs → test x ≡ true → test y ≡ true → x ≡ y
-same_one test [] x y le i j t u = never i
-same_one test (z ∷ xs) x y le (inl e) (inl f) t u = e ∙ sym f
-same_one test (z ∷ xs) x y le (inl e) (inr j) t u = absurd (omega (arith, le, in_many test xs y j u, ap one (ap test (sym e) ∙ t)))
-same_one test (z ∷ xs) x y le (inr i) (inl f) t u = absurd (omega (arith, le, in_many test xs x i t, ap one (ap test (sym f) ∙ u)))
-same_one test (z ∷ xs) x y le (inr i) (inr j) t u = same_one test xs x y (omega (arith, le)) i j t u
-
-split_many : {X : Type 0} (test : X → Bool) (n : ℕ) (xs : List X) → many test (take n xs) + many test (drop n xs) ≡ many test xs
-split_many test zero xs = omega arith
-split_many test (suc n) [] = refl
-split_many test (suc n) (x ∷ xs) = omega (arith, split_many test n xs)
 
 module _ (got acc : ℕ → List Item) (sent : ℕ → ℕ) (live : List Operation) (ops : ℕ) (sends : Sends got acc sent live ops) where
   -- a reply is booked

@@ -8,101 +8,55 @@ use Rattle.std.specs.Option.{option_map_or}
 use Rattle.std.proofs.lemmas.List.{length-replicate}
 use Rattle.fab_base.specs.declared.items.Item.{Item}
 use Rattle.fab_base.specs.declared.operations.Coming.{Coming}
-use Rattle.fab_base.specs.declared.peers.LineResult.{LineResult}
 use Rattle.fab_base.specs.declared.peers.Step.{Step}
 use Rattle.fab_base.specs.declared.peers.Step.TheVariants.{Do, Head, Tail, Draw, Final}
 use Rattle.fab_base.specs.declared.script.Bound.{Bound}
 use Rattle.fab_base.specs.declared.script.Conf.{Conf}
-use Rattle.fab_base.specs.declared.script.Line.{Line}
-use Rattle.fab_base.specs.declared.script.LineOp.{LineOp}
-use Rattle.fab_base.specs.declared.script.LineOp.TheVariants.{Wait, Reach}
-use Rattle.fab_model.specs.State.{State, accepted_for, lookup}
+use Rattle.fab_model.specs.State.{State, accepted_for, lookup, awaits}
 use Rattle.fab_model.specs.Views.{View, More, rule, seen}
-use Rattle.fab_model.specs.Calls.{Call, CancelFirst, call_of, do_call, upto}
+use Rattle.fab_model.specs.Calls.{Call, CancelFirst, do_call, upto}
 use Rattle.fab_model.specs.Orders.{Leads, Turn}
-use Rattle.fab_model.specs.Peers.{Actor, after_call, call_line, do_line, do_next, draw_step, fabric, final_step, head_step, is_again, is_of_ctx, next_line, read_next, sent_step, step, tail_step, unread, wait_line, with_result, with_state}
+use Rattle.fab_model.specs.Peers.{Actor, fabric}
 use Rattle.fab_model.specs.Replay.{fresh, opening}
 use Rattle.fab_model.proofs.Parts.{some_is, some_same, if_is}
 use Rattle.fab_model.proofs.Patient.{Own, fabric_patient, opening_sound, sender_is}
 use Rattle.fab_model.proofs.Turns.{slice_get-set}
-use Rattle.fab_laws.specs.Stray.{is_reply, owes, AnsweredOnce, NoStray}
-use Rattle.fab_laws.proofs.Lists.{Each, always, each_append, each_in, each_removed, each_so, found_in, in_many, many, many_append, many_map, never, one, get_in}
+use Rattle.fab_model.specs.Sending.{expects, is_answered_by}
+use Rattle.fab_laws.proofs.Counts.{in_many, many, many_append, many_map, one, take_less, take_within, in_taken, two_places}
+use Rattle.fab_laws.proofs.Lists.{Each, always, each_append, each_in, each_removed, each_so, found_in, never, get_in}
+use Rattle.fab_laws.specs.ReplyLaws.{is_reply, owes, AnsweredOnce, NoStray}
 use Rattle.fab_laws.specs.Members.{In, Never}
 use Rattle.fab_laws.proofs.replies.Owing.{expected, owing_item, reply_item, owing_asks}
-use Rattle.fab_laws.proofs.replies.Owed.{OwedAt, got, held, owed_more}
+use Rattle.fab_laws.proofs.replies.Owed.{OwedAt, got, owed_more}
+use Rattle.fab_laws.specs.Completed.{held}
 use Rattle.fab_laws.proofs.replies.Doing.{call_owed, draw_owed, sent_owed}
-use Rattle.fab_laws.proofs.replies.Heads.{Fits, Paid, answered_by, head_owed, take_less}
+use Rattle.fab_laws.proofs.replies.Heads.{Fits, Paid, answered_by, head_owed}
 use Rattle.fab_laws.proofs.replies.Tails.{tail_owed}
-use Rattle.fab_laws.proofs.completion.Steps.{at_opening}
+use Rattle.fab_laws.proofs.Stepping.{StepIs, at_opening, line_keeps, step_is}
+use Rattle.fab_laws.proofs.Memory.{KeptByTurns, leads_good}
+use Rattle.fab_laws.specs.Moments.{next_call}
 use Rattle.fab_model.proofs.Views as views
-
--- ---- a line
-
-module _ (P : State → Type 0) (a b : Actor) (same : P a.state) (calls : (c : Call) → P (do_call a.state c).1) where
-  to : (x : Actor) → x ≡ b → P x.state → P b.state
-  to x is p = subst (λ (y : Actor). P y.state) is p
-
-  after_is : (done : LineResult × State) → P done.1 → after_call a done ≡ Some b → P b.state
-  after_is done p e = go (is_again done.0) e
-    where
-      go : (again : Bool) → elim again [ true ↦ None | false ↦ Some (with_result done.0 (with_state a done.1)) ] ≡ Some b → P b.state
-      go true e = absurd (cc)
-      go false e = to (with_result done.0 (with_state a done.1)) (some_same _ b e) p
-
-  op_is : (c : Option Call) → elim c [ None ↦ None | Some call ↦ call_line a call ] ≡ Some b → P b.state
-  unfolding call_line
-  op_is None e = absurd (cc)
-  op_is (Some c) e = after_is (do_call a.state c) (calls c) e
-
-  line_is : (op : LineOp) → do_line a op ≡ Some b → P b.state
-  unfolding do_line wait_line
-  line_is (Wait ctx) e = let i = some_is (find (is_of_ctx ctx) a.kept) _ b e in to _ (some_same _ b i.2) same
-  line_is (Reach class n) e = let i = if_is _ _ b e in to _ i.1 same
-  line_is op e = op_is (call_of op) e
-
-  pub done_is : do_next a ≡ Some b → P b.state
-  unfolding do_next
-  done_is e = let i = some_is (next_line a) (λ (l : Line). do_line a l.op) b e in line_is i.0.op i.2
 
 -- ---- a step
 
 module _ (n : ℕ) (v : View Item) (peer : (source k : ℕ) (item : Item) → slice_get (v.ready source) k ≡ Some item → source < n) (a b : Actor) (paid : Paid v a.state.tx) (fits : Fits v a.state.tx) (owed : OwedAt n v a.state) where
-  goes_to : (x : Actor) → x ≡ b → OwedAt n v x.state → OwedAt n v b.state
-  goes_to x is o = subst (λ (y : Actor). OwedAt n v y.state) is o
+  owed_by : (x : Step) → StepIs v a x b → OwedAt n v b.state
+  owed_by Do is = line_keeps (OwedAt n v) (next_call a) a.state b.state owed (call_owed n v a.state owed) is
+  owed_by (Head source) (item, has, level, none, is) = subst (OwedAt n v) (sym is) (head_owed n v a.state owed source item has level (peer source (slice_index a.state.rx.heads source) item has))
+  owed_by (Tail source) (item, has, odd, sent, is) = subst (OwedAt n v) (sym is) (tail_owed n v a.state owed source item has odd (peer source (slice_index a.state.rx.tails source) item has) paid fits)
+  owed_by (Step.Sent t) (less, is) = subst (OwedAt n v) (sym is) (sent_owed n v a.state owed t)
+  owed_by Draw (due, is) = subst (OwedAt n v) (sym is) (draw_owed n v a.state owed)
+  owed_by Step.Read is = subst (OwedAt n v) (sym is) owed
+  owed_by Final is = subst (OwedAt n v) (sym is) (call_owed n v a.state owed CancelFirst)
 
   pub step_owed : (x : Step) → fabric.step v a x ≡ Some b → OwedAt n v b.state
-  unfolding fabric step head_step tail_step sent_step draw_step read_next final_step
-  step_owed Do e = done_is (OwedAt n v) a b owed (call_owed n v a.state owed) e
-  step_owed (Head source) e =
-      let i = some_is (slice_get (v.ready source) (slice_index a.state.rx.heads source)) _ b e in
-      let t = if_is _ _ b i.2 in
-      goes_to _ t.1 (head_owed n v a.state owed source i.0 i.1 (eqb-true _ _ (and_parts _ _ t.0).0) (peer source (slice_index a.state.rx.heads source) i.0 i.1))
-  step_owed (Tail source) e =
-      let i = some_is (slice_get (v.ready source) (slice_index a.state.rx.tails source)) _ b e in
-      let t = if_is _ _ b i.2 in
-      goes_to _ t.1 (tail_owed n v a.state owed source i.0 i.1 (eqb-true _ _ (and_parts _ _ (and_parts _ _ t.0).0).0) (peer source (slice_index a.state.rx.tails source) i.0 i.1) paid fits)
-  step_owed (Step.Sent t) e = goes_to _ (if_is _ _ b e).1 (sent_owed n v a.state owed t)
-  step_owed Draw e = goes_to _ (if_is _ _ b e).1 (draw_owed n v a.state owed)
-  step_owed Step.Read e = let i = some_is (unread a.state.cq) _ b e in goes_to _ (some_same _ b i.2) owed
-  step_owed Final e = goes_to _ (if_is _ _ b e).1 (call_owed n v a.state owed CancelFirst)
+  step_owed x e = owed_by x (step_is v a b x e)
 
 -- ---- all peers
 
 pub record AllOwed (n : ℕ) (states : List Actor) : Type 0 where
   pub sound : views.Sound fabric n (Own n) states
   pub owed : (p : ℕ) (a : Actor) → slice_get states p ≡ Some a → OwedAt n (seen fabric states p) a.state
-
-take_within : (test : Item → Bool) (i j : ℕ) (xs : List Item) → i ≤ j → many test (take i xs) ≤ many test (take j xs)
-take_within test zero j xs le = omega arith
-take_within test (suc i) zero xs le = absurd (omega (arith, le))
-take_within test (suc i) (suc j) [] le = omega arith
-take_within test (suc i) (suc j) (x ∷ xs) le = omega (arith, take_within test i j xs (omega (arith, le)))
-
-in_taken : (i : ℕ) (xs : List Item) (x : Item) → In x (take i xs) → In x xs
-in_taken zero xs x i = never i
-in_taken (suc k) [] x i = never i
-in_taken (suc k) (y ∷ xs) x (inl e) = inl e
-in_taken (suc k) (y ∷ xs) x (inr i) = inr (in_taken k xs x i)
 
 module _ (n : ℕ) (states : List Actor) (all : AllOwed n states) (p : ℕ) (a : Actor) (here : slice_get states p ≡ Some a) where
   pub ready_is : (t : ℕ) → (seen fabric states t).ready p ≡ accepted_for a.state.tx t
@@ -145,7 +99,7 @@ module _ (n : ℕ) (states : List Actor) (all : AllOwed n states) (p : ℕ) (a :
   pub peer_of : (source k : ℕ) (item : Item) → slice_get ((seen fabric states p).ready source) k ≡ Some item → source < n
   peer_of source k item e = let s = sender_is states p source k item e in omega (arith, slice_get_within states source s.0 s.1, all.sound.count)
 
-pub turn_owed : (n : ℕ) (states : List Actor) (p : ℕ) (x : Step) (b : Actor) → AllOwed n states → rule fabric states p x ≡ Some b → AllOwed n (set states p b)
+pub turn_owed : (n : ℕ) → KeptByTurns (AllOwed n)
 turn_owed n states p x b all stood = record {
   sound = views.sound_stays fabric n (Own n) (fabric_patient n) states p is.0 b x all.sound is.1 is.2;
   owed = λ q c e. elim (slice_get-set states p q b c e) [
@@ -163,10 +117,6 @@ turn_owed n states p x b all stood = record {
 
     after : OwedAt n (seen fabric states p) b.state
     after = step_owed n (seen fabric states p) (peer_of n states all p is.0 is.1) is.0 b (all_paid n states all p is.0 is.1) (all_fit n states all p is.0 is.1) (all.owed p is.0 is.1) x is.2
-
-pub leads_owed : (n : ℕ) (turns : List (Turn Step)) (states last : List Actor) → AllOwed n states → Leads (rule fabric) states turns last → AllOwed n last
-leads_owed n [] states last all leads = subst (AllOwed n) leads all
-leads_owed n (t ∷ turns) states last all (s, stood, rest) = leads_owed n turns (set states t.peer s) last (turn_owed n states t.peer t.step s all stood) rest
 
 -- ---- the opening
 
@@ -227,7 +177,7 @@ fresh_owed conf v = record {
     none_dropped test (suc n) = refl
 
 pub all_owed : (bound : Bound) (turns : List (Turn Step)) (states : List Actor) → Leads (rule fabric) (opening bound) turns states → AllOwed bound.script.conf.peers states
-all_owed bound turns states leads = leads_owed bound.script.conf.peers turns (opening bound) states (record {
+all_owed bound turns states leads = leads_good (AllOwed bound.script.conf.peers) (turn_owed bound.script.conf.peers) turns (opening bound) states (record {
   sound = opening_sound bound;
   owed = λ p a e. at_opening bound (λ (x : Actor). OwedAt bound.script.conf.peers (seen fabric (opening bound) p) x.state) (λ lines. fresh_owed bound.script.conf (seen fabric (opening bound) p)) p a e;
 }) leads
@@ -235,10 +185,12 @@ all_owed bound turns states leads = leads_owed bound.script.conf.peers turns (op
 -- ---- the laws
 
 pub no_stray : NoStray
-no_stray bound turns states leads p source a item here at is =
+no_stray bound turns states leads p a here source r at is =
     let all = all_owed bound turns states leads in
-    let o = answered_by bound.script.conf.peers (seen fabric states p) a.state (all.owed p a here) (all_paid bound.script.conf.peers states all p a here) (all_fit bound.script.conf.peers states all p a here) source item at is in
-    (o.0, o.1)
+    let o = answered_by bound.script.conf.peers (seen fabric states p) a.state (all.owed p a here) (all_paid bound.script.conf.peers states all p a here) (all_fit bound.script.conf.peers states all p a here) source r at is in
+    let i = found_in (is_answered_by a.state.tx source r.head) a.state.tx.live o.0 o.1 in
+    let late = and_parts _ (expects o.0 r.head.outcome r.head.total) i.1 in
+    (o.0, i.0, (and_parts _ (awaits a.state.tx o.0) late.0).1, o.2, o.4, late.1, o.1)
 
 sender_ready : (states : List Actor) (p s : ℕ) (c : Actor) → slice_get states s ≡ Some c → (seen fabric states p).ready s ≡ accepted_for c.state.tx p
 unfolding fabric
@@ -251,13 +203,6 @@ none_ready states p s e k x i = let j : In x (take k []) = subst (λ (o : Option
     gone : (k : ℕ) → In x (take k []) → Never
     gone zero i = never i
     gone (suc k) i = never i
-
-two_places : {X : Type 0} (test : X → Bool) (xs : List X) (i j : ℕ) (x y : X) → many test xs ≤ 1 → slice_get xs i ≡ Some x → slice_get xs j ≡ Some y → test x ≡ true → test y ≡ true → i ≡ j
-two_places test [] i j x y le a b t u = absurd (cc (a))
-two_places test (z ∷ xs) zero zero x y le a b t u = refl
-two_places test (z ∷ xs) zero (suc j) x y le a b t u = let e : z ≡ x = cc in absurd (omega (arith, le, ap one (ap test e ∙ t), in_many test xs y (get_in xs j y b) u))
-two_places test (z ∷ xs) (suc i) zero x y le a b t u = let e : z ≡ y = cc in absurd (omega (arith, le, ap one (ap test e ∙ u), in_many test xs x (get_in xs i x a) t))
-two_places test (z ∷ xs) (suc i) (suc j) x y le a b t u = ap suc (two_places test xs i j x y (omega (arith, le)) a b t u)
 
 pub answered_once : AnsweredOnce
 answered_once bound turns states leads p s t i j x y at_x at_y is_x is_y same = go (slice_get states p) refl

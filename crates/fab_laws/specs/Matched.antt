@@ -1,9 +1,10 @@
--- What happened at a peer, told by its states before and after each step. A past has its newest event first.
+-- The history words of matching: what happened at a peer, told by its states before and after each step. A past has its newest event first.
 --     Mark      a message that came: its source, its place among the items of the source, its head
 --     Wish      a receive that was made by recv, trecv or recv_multi: its call number, what it wants, whether it takes several messages
 --     noticed v a step b      what is seen to happen in a step that leads a peer from a to b
 --     past_of bound turns p      all that happened at peer p in these turns
 --     came, made, gone, closed, cancelled      of a past: the messages that came, the receives made, and so on, the newest first
+--     ClosedBefore, CancelledBefore call x past      the receive of this call had closed, was cancelled, before the message came
 use Rattle.std.specs.Prelude.{◌≡◌, ℕ, Bool, true, false, not, ◌&&◌, ◌==◌, nat_lt, List, [], ◌∷◌, ◌++◌, length, Option, Some, None, slice_get, slice_index, slice_set, is_some, ◌⊎◌}
 use Rattle.std.specs.List.{list_any}
 use Rattle.fab_base.specs.declared.items.Item.{Item}
@@ -21,17 +22,17 @@ use Rattle.fab_base.specs.declared.operations.Written.{Written}
 use Rattle.fab_base.specs.declared.peers.Step.{Step}
 use Rattle.fab_base.specs.declared.peers.Step.TheVariants.{Do, Head, Tail, Draw, Final}
 use Rattle.fab_base.specs.declared.script.Bound.{Bound}
-use Rattle.fab_base.specs.declared.script.Line.{Line}
 use Rattle.fab_model.specs.Matching.{is_message, matches}
 use Rattle.fab_model.specs.State.{State, coming_from}
 use Rattle.fab_model.specs.Complete.{is_made_by}
 use Rattle.fab_model.specs.Receiving.{Posting, receive_of}
-use Rattle.fab_model.specs.Calls.{Post, call_of}
+use Rattle.fab_model.specs.Calls.{Call, Post}
 use Rattle.fab_model.specs.Orders.{Turn}
-use Rattle.fab_model.specs.Peers.{Actor, fabric, next_line}
+use Rattle.fab_model.specs.Peers.{Actor}
 use Rattle.fab_model.specs.Replay.{opening}
-use Rattle.fab_model.specs.Views.{View, rule, seen}
-use Rattle.fab_laws.specs.Members.{In, Never}
+use Rattle.fab_model.specs.Views.{View}
+use Rattle.fab_laws.specs.Moments.{Note, next_call, remembered}
+use Rattle.fab_laws.specs.Members.{Ahead, In, Never}
 
 pub record Mark : Type 0 where
   pub source : ℕ
@@ -130,10 +131,10 @@ cancel_of (Some w) = elim w.entry [ Success _ ↦ None | Failure e ↦ elim e.ki
 abbrev pub cancels : State → State → List Event
 cancels s t = elim (cancel_of (new_entry s t)) [ None ↦ [] | Some call ↦ Cancelled call ∷ [] ]
 
-abbrev pub posting_of : Option Line → Option Posting
-posting_of line = elim line [ None ↦ None | Some l ↦ elim (call_of l.op) [ None ↦ None | Some c ↦ elim c [ Post posting ↦ Some posting | _ ↦ None ] ] ]
+abbrev pub posting_of : Option Call → Option Posting
+posting_of call = elim call [ None ↦ None | Some c ↦ elim c [ Post posting ↦ Some posting | _ ↦ None ] ]
 
--- a receive that was made: the line asks for it, and the call was accepted
+-- a receive that was made: the line asks for it, and the call took the next number
 abbrev pub makes : Option Posting → State → State → List Event
 makes posting s t = elim posting [ None ↦ [] | Some p ↦ elim (nat_lt s.calls t.calls) [ true ↦ Made (wish_of (receive_of s p)) ∷ [] | false ↦ [] ] ]
 
@@ -153,30 +154,19 @@ noticed v a (Head source) b = elim (slice_get (v.ready source) (slice_index a.st
     | false ↦ []
   ]
 ]
-noticed v a Do b = happens a.state b.state (posting_of (next_line a))
+noticed v a Do b = happens a.state b.state (posting_of (next_call a))
 noticed v a Draw b = happens a.state b.state None
 noticed v a Final b = happens a.state b.state None
 noticed v a (Tail source) b = happens a.state b.state None
 noticed v a (Step.Sent t) b = happens a.state b.state None
 noticed v a Step.Read b = happens a.state b.state None
 
--- what peer p notices of this turn
-abbrev pub noticed_by : ℕ → List Actor → Turn Step → Actor → List Event
-noticed_by p states t b = elim (t.peer == p) [
-  | true ↦ elim (slice_get states p) [ None ↦ [] | Some a ↦ noticed (seen fabric states p) a t.step b ]
-  | false ↦ []
-]
+abbrev pub noting : Note (List Event)
+noting v a step b past = noticed v a step b ++ past
 
--- what happened in these turns, and before them in the past
-abbrev pub history : ℕ → List (Turn Step) → List Actor → List Event → List Event
-history p [] states past = past
-history p (t ∷ turns) states past = elim (rule fabric states t.peer t.step) [
-  | None ↦ past
-  | Some b ↦ history p turns (slice_set states t.peer b) (noticed_by p states t b ++ past)
-]
-
+-- all that happened at peer p in these turns
 abbrev pub past_of : Bound → List (Turn Step) → ℕ → List Event
-past_of bound turns p = history p turns (opening bound) []
+past_of bound turns p = remembered noting p turns (opening bound) []
 
 -- ---- words about a past
 
@@ -234,3 +224,7 @@ CancelledBefore call x (Made w ∷ past) = CancelledBefore call x past
 CancelledBefore call x (Got c m last ∷ past) = CancelledBefore call x past
 CancelledBefore call x (Lost m ∷ past) = CancelledBefore call x past
 CancelledBefore call x (Cancelled c ∷ past) = CancelledBefore call x past
+
+-- the receive takes no more, and the last message that it got came before x
+abbrev pub ClosedBefore : ℕ → Mark → List Event → Type 0
+ClosedBefore call x past = (y : Mark) × In (call, y) (closed past) × Ahead x y (came past)

@@ -6,14 +6,13 @@ use Rattle.fab_base.specs.declared.peers.Step.{Step}
 use Rattle.fab_model.specs.Laws.{Run}
 use Rattle.fab_model.specs.Orders.{Leads, Moment, Turn, steps_of, turn}
 use Rattle.fab_model.specs.Peers.{Actor, fabric}
-use Rattle.fab_model.specs.Replay.{start}
+use Rattle.fab_model.specs.Replay.{start, replayed}
 use Rattle.fab_model.specs.Views.{rule}
 use Rattle.fab_model.proofs.Orders.{steps_of_other, steps_of_own}
 use Rattle.fab_model.proofs.Parts.{get_or-set}
 use Rattle.fab_model.proofs.Turns.{turn_is}
-use Rattle.fab_laws.specs.History.{Came, Cancelled, Event, Got, Lost, Made, Mark, came, closed}
-use Rattle.fab_laws.specs.Members.{Ahead, In}
-use Rattle.fab_laws.specs.Laws.{ClosedBefore, MomentsAreLedTo}
+use Rattle.fab_model.proofs.Replays.{the_replay_is_an_order}
+use Rattle.fab_laws.specs.Moments.{MomentsAreLedTo, TheReplayIsLedTo}
 
 -- the first of a peer's steps left, and the others of those
 first_left : (left : List (List Step)) (p : ℕ) (a : Step) (rest : List Step) → slice_get left p ≡ Some (a ∷ rest) → (slice_index_or left p [] ≡ a ∷ rest) × (slice_index_or (set left p rest) p [] ≡ rest)
@@ -52,17 +51,8 @@ run_leads (p ∷ order) m x run =
 pub moments_are_led_to : MomentsAreLedTo
 moments_are_led_to bound schedule order m run = run_leads order (start bound schedule) m run
 
--- ---- the second law as the paper words it follows
-
-closed_got : (call : ℕ) (y : Mark) (past : List Event) → In (call, y) (closed past) → In (Got call y true) past
-closed_got call y [] i = i
-closed_got call y (Came m ∷ past) i = inr (closed_got call y past i)
-closed_got call y (Made w ∷ past) i = inr (closed_got call y past i)
-closed_got call y (Got c m true ∷ past) (inl e) = inl (ap (λ (p : ℕ × Mark). Got p.0 p.1 true) e)
-closed_got call y (Got c m true ∷ past) (inr i) = inr (closed_got call y past i)
-closed_got call y (Got c m false ∷ past) i = inr (closed_got call y past i)
-closed_got call y (Lost m ∷ past) i = inr (closed_got call y past i)
-closed_got call y (Cancelled c ∷ past) i = inr (closed_got call y past i)
-
-pub got_earlier : (call : ℕ) (x : Mark) (past : List Event) → ClosedBefore call x past → (y : Mark) × In (Got call y true) past × Ahead x y (came past)
-got_earlier call x past (y, i, a) = (y, closed_got call y past i, a)
+pub the_replay_is_led_to : TheReplayIsLedTo
+the_replay_is_led_to bound schedule =
+    let order = the_replay_is_an_order bound schedule in
+    let led = moments_are_led_to bound schedule order.0 (replayed bound schedule) order.1 in
+    (led.0, led.1, led.3)
