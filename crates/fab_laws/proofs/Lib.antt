@@ -1,0 +1,9 @@
+pub mod Lists
+pub mod Counts
+pub mod Memory
+pub mod Moments
+pub mod Stepping
+pub mod Rest
+pub mod matching
+pub mod replies
+pub mod completion
