@@ -1,0 +1,4 @@
+//! The matching store over hashed bins.
+#![tactic(auto)]
+
+mod chains;
