@@ -1,2 +1,4 @@
 pub mod Each
 pub mod Chains
+pub mod Bins
+pub mod Shelf

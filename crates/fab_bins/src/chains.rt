@@ -1,5 +1,5 @@
 //! Chains of places, each in the order in which its places joined.
-ghost use Rattle.std.specs.Prelude.{◌≡◌, ◌≢◌, ◌<◌, ◌++◌, ◌∷◌, ℕ, List, [], length, IfOk, OnOk};
+ghost use Rattle.std.specs.Prelude.{◌≡◌, ◌≢◌, ◌<◌, ◌≤◌, ◌++◌, ◌∷◌, ℕ, List, [], length, IfOk, OnOk};
 ghost use Rattle.fab_bins.specs.Each.{Lacks, others};
 ghost use Rattle.fab_bins.specs.Chains.{IsChain, IsLinked, Covers};
 
@@ -37,18 +37,18 @@ impl Chains {
         Ok(Chains { heads, links })
     }
 
-    /// Makes links for the places below this number.
-    pub fn cover(&mut self, places: usize) -> Result<(), NoMemory>
+    /// Makes links for the places up to this one.
+    pub fn cover(&mut self, last: usize) -> Result<(), NoMemory>
         ensures heads { self.new.heads ≡ self.old.heads }
-        ensures covered { OnOk result ((place : ℕ) → place < places → Covers self.new place) }
+        ensures covered { OnOk result ((place : ℕ) → place ≤ last → Covers self.new place) }
         ensures kept { (h : ℕ) (xs : List ℕ) → IsChain self.old h xs → IsChain self.new h xs }
         ensures still { (place : ℕ) → Covers self.old place → Covers self.new place }
     {
         let most = (u32::MAX - self.heads) as usize;
-        if places > most {
+        if last >= most {
             return Err(NoMemory);
         }
-        let wanted = self.heads as usize + places;
+        let wanted = self.heads as usize + last + 1;
         for _ in self.links.len()..wanted {
             self.links.push(Link { next: 0, prev: 0 })?;
         }
