@@ -1,0 +1,90 @@
+-- What holds of a shelf, and stays so.
+use Rattle.std.proofs.Common.{◌≡◌, ◌≢◌, ◌<◌, ◌≤◌, ◌+◌, ◌-◌, ◌*◌, ◌/◌, ◌%◌, ◌^◌, ◌==◌, ◌&&◌, ℕ, zero, suc, Bool, true, false, List, [], ◌∷◌, ◌++◌, Option, Some, None, is_some, length, refl, sym, ap, ◌∙◌, subst, arith}
+use Rattle.std.specs.Prelude.{find, filter, nat_lt}
+use Rattle.std.specs.List.{list_any}
+use Rattle.std.specs.Option.{option_and_then}
+use Rattle.std.proofs.lemmas.Bool.{eqb-true, eq-eqb, and_right, and_parts, ltb-true}
+use Rattle.slab.specs.Slab.{Slab, get, slab_len}
+use Rattle.fab_model.specs.Matching.{remove_first}
+use Rattle.fab_bins.specs.declared.shelf.Card.{Card}
+use Rattle.fab_bins.specs.declared.shelf.Shelf.{Shelf}
+use Rattle.fab_bins.specs.declared.chains.Chains.{Chains}
+use Rattle.fab_bins.specs.Each.{Each, Lacks, IsDistinct, others}
+use Rattle.fab_bins.specs.Chains.{IsChain, IsLinked, next_of, prev_of}
+use Rattle.fab_bins.specs.Bins.{bin}
+use Rattle.fab_bins.specs.Shelf.{passes, held, listed, read, places, cards, is_within, IsFiled, Keeps, IsKept, StaysIn}
+use Rattle.fab_bins.proofs.Leading.{In, Round-in}
+use Rattle.fab_bins.proofs.Walking.{read-leads}
+use Rattle.fab_bins.proofs.Lists.{Each-append, Each-filter, Each-map, IsDistinct-push, IsDistinct-others, Lacks-others, length-filter-le, In-filter, first_out, list_any-find, remove_first-none}
+use Rattle.fab_bins.proofs.Filing.{length-listed, listed-append, listed-same, held-same, find-filed, find-listed, listed-remove_first, Lacks-vacant, IsFiled-removed, IsFiled-added}
+
+length-read : (heads : ℕ) (next : ℕ → ℕ) (n node : ℕ) → length (read heads next n node) ≡ n
+length-read heads next zero node = refl
+length-read heads next (suc n) node = ap suc (length-read heads next n (next node))
+
+-- what is read off a chain
+pub read-chain : (c : Chains) (n : ℕ) (ys : List ℕ) → IsChain c 0 ys → n ≡ length ys → read c.heads (next_of c.links.items) n (next_of c.links.items 0) ≡ ys
+read-chain c n ys chain e =
+    ap (λ k. read c.heads (next_of c.links.items) k (next_of c.links.items 0)) e ∙ read-leads c.heads (length c.links.items) (next_of c.links.items) (prev_of c.links.items) 0 ys 0 chain.2
+
+-- a place of a chain is linked
+pub linked : (c : Chains) (h : ℕ) (ys : List ℕ) (place : ℕ) → IsChain c h ys → In place ys → IsLinked c place
+linked c h ys place chain i =
+    let within : h < length c.links.items = omega (arith, chain.0, chain.1) in
+    Round-in c.heads (length c.links.items) (next_of c.links.items) (prev_of c.links.items) h ys h place within within chain.2 i
+
+module _ {X : Type 0} where
+  pub length-places : (shelf : Shelf X) → length (places shelf) ≡ slab_len shelf.cards
+  length-places shelf = length-read shelf.all.heads (next_of shelf.all.links.items) (slab_len shelf.cards) (next_of shelf.all.links.items 0)
+
+  -- the places by which a shelf keeps its cards are those that are read off
+  pub kept_by : (shelf : Shelf X) (ys : List ℕ) → Keeps shelf ys → slab_len shelf.cards ≡ length ys → IsKept shelf
+  kept_by shelf ys k e = subst (Keeps shelf) (sym (read-chain shelf.all (slab_len shelf.cards) ys k.all e)) k
+
+  pub length-cards : (shelf : Shelf X) → IsKept shelf → length (cards shelf) ≡ slab_len shelf.cards
+  length-cards shelf k = length-listed shelf.cards (is_within shelf.near.heads shelf.wide.heads) (places shelf) k.cards ∙ length-places shelf
+
+  -- a look along the chain of a key
+  module _ (shelf : Shelf X) (c : Chains) (key : Card X → ℕ) (filed : IsFiled c shelf.cards key (places shelf)) (h : ℕ) (below : h < c.heads) where
+    pub the_chain : (ys : List ℕ) × IsChain c h ys × (length ys ≤ slab_len shelf.cards)
+    the_chain =
+        (filter (held shelf.cards (λ card. key card == h)) (places shelf), filed h below,
+         omega (arith, length-filter-le (held shelf.cards (λ card. key card == h)) (places shelf), length-places shelf))
+
+    module _ (T : Card X → Bool) (o : Option ℕ) (found : (ys : List ℕ) → IsChain c h ys → o ≡ find (held shelf.cards T) ys) where
+      pub place_found : (S : Card X → Bool) → ((card : Card X) → ((key card == h) && T card) ≡ S card) → o ≡ find (held shelf.cards S) (places shelf)
+      place_found S e =
+          found (filter (held shelf.cards (λ card. key card == h)) (places shelf)) (filed h below)
+          ∙ find-filed shelf.cards (λ card. key card == h) T S e (places shelf)
+
+      pub card_found : option_and_then (get shelf.cards) o ≡ find (λ card. (key card == h) && T card) (cards shelf)
+      card_found =
+          ap (option_and_then (get shelf.cards)) (place_found (λ card. (key card == h) && T card) (λ card. refl))
+          ∙ find-listed shelf.cards (λ card. (key card == h) && T card) (places shelf)
+
+  -- a look along the chain of all
+  module _ (shelf : Shelf X) (k : IsKept shelf) where
+    pub all_chain : (ys : List ℕ) × IsChain shelf.all 0 ys × (length ys ≤ slab_len shelf.cards)
+    all_chain = (places shelf, k.all, omega (arith, length-places shelf))
+
+    pub card_of_all : (T : Card X → Bool) (o : Option ℕ) → ((ys : List ℕ) → IsChain shelf.all 0 ys → o ≡ find (held shelf.cards T) ys) → option_and_then (get shelf.cards) o ≡ find T (cards shelf)
+    card_of_all T o found =
+        ap (option_and_then (get shelf.cards)) (found (places shelf) k.all) ∙ find-listed shelf.cards T (places shelf)
+
+  id_same : (heads id : ℕ) (card : Card X) (t : Bool) → (card.id == id) ≡ t → ((bin heads 0 card.id 0 == bin heads 0 id 0) && (card.id == id)) ≡ (card.id == id)
+  id_same heads id card true t =
+      let e : card.id ≡ id = eqb-true card.id id t in
+      let b : (bin heads 0 card.id 0 == bin heads 0 id 0) ≡ true = eq-eqb (bin heads 0 card.id 0) (bin heads 0 id 0) (ap (λ i. bin heads 0 i 0) e) in
+      rw (b) refl
+  id_same heads id card false t = and_right (bin heads 0 card.id 0 == bin heads 0 id 0) (card.id == id) t ∙ sym t
+
+  -- the place of an id
+  pub place_of_id : (shelf : Shelf X) → IsKept shelf → (head id : ℕ) → head ≡ bin shelf.ids.heads 0 id 0 → head < shelf.ids.heads → (o : Option ℕ)
+      → ((ys : List ℕ) → IsChain shelf.ids head ys → o ≡ find (held shelf.cards (λ card. card.id == id)) ys) → o ≡ find (held shelf.cards (λ card. card.id == id)) (places shelf)
+  place_of_id shelf k head id is below o found =
+      place_found shelf shelf.ids (λ card. bin shelf.ids.heads 0 card.id 0) k.ids head below (λ card. card.id == id) o found (λ card. card.id == id)
+      (λ card. ap (λ h. (bin shelf.ids.heads 0 card.id 0 == h) && (card.id == id)) is ∙ id_same shelf.ids.heads id card (card.id == id) refl)
+
+  -- whether there is one
+  pub has_place : (shelf : Shelf X) (T : Card X → Bool) → is_some (option_and_then (get shelf.cards) (find (held shelf.cards T) (places shelf))) ≡ list_any T (cards shelf)
+  has_place shelf T = ap is_some (find-listed shelf.cards T (places shelf)) ∙ sym (list_any-find T (cards shelf))
