@@ -1,6 +1,7 @@
 -- Cards at places, and what becomes of a shelf's lists when a card comes or goes.
 use Rattle.std.proofs.Common.{◌≡◌, ◌≢◌, ◌<◌, ◌≤◌, ◌+◌, ◌==◌, ℕ, zero, suc, Bool, true, false, not, cond, ◌&&◌, List, [], ◌∷◌, ◌++◌, Option, Some, None, is_some, length, refl, sym, ap, ◌∙◌, subst, ◌⊎◌, inl, inr, arith, append_assoc}
 use Rattle.std.specs.Prelude.{find, filter, option_to_list}
+use Rattle.std.specs.List.{list_any}
 use Rattle.std.specs.Option.{option_and_then}
 use Rattle.std.proofs.lemmas.List.{append-nil}
 use Rattle.std.proofs.lemmas.List.Elements.{filter-append}
@@ -70,6 +71,19 @@ module _ {X : Type 0} (cards : Slab (Card X)) where
     pub find-listed : (xs : List ℕ) → option_and_then (get cards) (find (held cards test) xs) ≡ find test (listed cards xs)
     find-listed [] = refl
     find-listed (x ∷ xs) = find_step x xs (get cards x) refl (find-listed xs)
+
+    any_at : (x : ℕ) (c : Card X) (xs : List ℕ) (t : Bool) → test c ≡ t → get cards x ≡ Some c → is_some (find (held cards test) xs) ≡ list_any test (listed cards xs) → is_some (find (held cards test) (x ∷ xs)) ≡ list_any test (listed cards (x ∷ xs))
+    any_at x c xs true t g more = rw (g, t) refl
+    any_at x c xs false t g more = rw (g, t) more
+
+    any_step : (x : ℕ) (xs : List ℕ) (o : Option (Card X)) → get cards x ≡ o → is_some (find (held cards test) xs) ≡ list_any test (listed cards xs) → is_some (find (held cards test) (x ∷ xs)) ≡ list_any test (listed cards (x ∷ xs))
+    any_step x xs None g more = rw g more
+    any_step x xs (Some c) g more = any_at x c xs (test c) refl g more
+
+    -- there is a place where there is a card
+    pub any-listed : (xs : List ℕ) → is_some (find (held cards test) xs) ≡ list_any test (listed cards xs)
+    any-listed [] = refl
+    any-listed (x ∷ xs) = any_step x xs (get cards x) refl (any-listed xs)
 
     removed_at : (x : ℕ) (c : Card X) (xs : List ℕ) (t : Bool) → test c ≡ t → get cards x ≡ Some c → listed cards (remove_first (held cards test) xs) ≡ remove_first test (listed cards xs)
         → listed cards (remove_first (held cards test) (x ∷ xs)) ≡ remove_first test (listed cards (x ∷ xs))

@@ -1,9 +1,9 @@
 -- What holds of a shelf, and stays so.
-use Rattle.std.proofs.Common.{◌≡◌, ◌≢◌, ◌<◌, ◌≤◌, ◌+◌, ◌-◌, ◌*◌, ◌/◌, ◌%◌, ◌^◌, ◌==◌, ◌&&◌, ℕ, zero, suc, Bool, true, false, List, [], ◌∷◌, ◌++◌, Option, Some, None, is_some, length, refl, sym, ap, ◌∙◌, subst, arith}
+use Rattle.std.proofs.Common.{◌≡◌, ◌≢◌, ◌<◌, ◌≤◌, ◌+◌, ◌-◌, ◌*◌, ◌/◌, ◌%◌, ◌^◌, ◌==◌, ◌&&◌, ℕ, zero, suc, Bool, true, false, List, [], ◌∷◌, ◌++◌, Option, Some, None, is_some, length, refl, sym, ap, ◌∙◌, subst, arith, length-append}
 use Rattle.std.specs.Prelude.{find, filter, nat_lt}
 use Rattle.std.specs.List.{list_any}
 use Rattle.std.specs.Option.{option_and_then}
-use Rattle.std.proofs.lemmas.Bool.{eqb-true, eq-eqb, and_right, and_parts, ltb-true}
+use Rattle.std.proofs.lemmas.Bool.{eqb-true, eq-eqb, and_right, and_parts, ltb-true, lt-ltb}
 use Rattle.slab.specs.Slab.{Slab, get, slab_len}
 use Rattle.fab_model.specs.Matching.{remove_first}
 use Rattle.fab_bins.specs.declared.shelf.Card.{Card}
@@ -15,7 +15,7 @@ use Rattle.fab_bins.specs.Bins.{bin}
 use Rattle.fab_bins.specs.Shelf.{passes, held, listed, read, places, cards, is_within, IsFiled, Keeps, IsKept, StaysIn}
 use Rattle.fab_bins.proofs.Leading.{In, Round-in}
 use Rattle.fab_bins.proofs.Walking.{read-leads}
-use Rattle.fab_bins.proofs.Lists.{Each-append, Each-filter, Each-map, IsDistinct-push, IsDistinct-others, Lacks-others, length-filter-le, In-filter, first_out, list_any-find, remove_first-none}
+use Rattle.fab_bins.proofs.Lists.{Each-append, Each-filter, Each-both, Each-map, IsDistinct-push, IsDistinct-others, Lacks-others, length-filter-le, In-filter, first_out, list_any-find, remove_first-none}
 use Rattle.fab_bins.proofs.Filing.{length-listed, listed-append, listed-same, held-same, find-filed, find-listed, listed-remove_first, Lacks-vacant, IsFiled-removed, IsFiled-added}
 
 length-read : (heads : ℕ) (next : ℕ → ℕ) (n node : ℕ) → length (read heads next n node) ≡ n
@@ -85,6 +85,81 @@ module _ {X : Type 0} where
       place_found shelf shelf.ids (λ card. bin shelf.ids.heads 0 card.id 0) k.ids head below (λ card. card.id == id) o found (λ card. card.id == id)
       (λ card. ap (λ h. (bin shelf.ids.heads 0 card.id 0 == h) && (card.id == id)) is ∙ id_same shelf.ids.heads id card (card.id == id) refl)
 
-  -- whether there is one
-  pub has_place : (shelf : Shelf X) (T : Card X → Bool) → is_some (option_and_then (get shelf.cards) (find (held shelf.cards T) (places shelf))) ≡ list_any T (cards shelf)
-  has_place shelf T = ap is_some (find-listed shelf.cards T (places shelf)) ∙ sym (list_any-find T (cards shelf))
+-- what a shelf is once a card came to a place
+pub record Adds {X : Type 0} (old new : Shelf X) (place : ℕ) (card : Card X) : Type 0 where
+  pub vacant : get old.cards place ≡ None
+  pub at : get new.cards place ≡ Some card
+  pub same : (p : ℕ) → p ≢ place → get new.cards p ≡ get old.cards p
+  pub count : slab_len new.cards ≡ slab_len old.cards + 1
+  pub near_within : card.near < old.near.heads
+  pub wide_within : card.wide < old.wide.heads
+  pub all_joins : (ys : List ℕ) → IsChain old.all 0 ys → Lacks place ys → IsChain new.all 0 (ys ++ place ∷ [])
+  pub ids_head : ℕ
+  pub ids_is : ids_head ≡ bin old.ids.heads 0 card.id 0
+  pub ids_heads : new.ids.heads ≡ old.ids.heads
+  pub ids_joins : (ys : List ℕ) → IsChain old.ids ids_head ys → Lacks place ys → IsChain new.ids ids_head (ys ++ place ∷ [])
+  pub ids_stay : (h : ℕ) (ys : List ℕ) → h ≢ ids_head → IsChain old.ids h ys → Lacks place ys → IsChain new.ids h ys
+  pub near_heads : new.near.heads ≡ old.near.heads
+  pub near_joins : (ys : List ℕ) → IsChain old.near card.near ys → Lacks place ys → IsChain new.near card.near (ys ++ place ∷ [])
+  pub near_stay : (h : ℕ) (ys : List ℕ) → h ≢ card.near → IsChain old.near h ys → Lacks place ys → IsChain new.near h ys
+  pub wide_heads : new.wide.heads ≡ old.wide.heads
+  pub wide_joins : (ys : List ℕ) → IsChain old.wide card.wide ys → Lacks place ys → IsChain new.wide card.wide (ys ++ place ∷ [])
+  pub wide_stay : (h : ℕ) (ys : List ℕ) → h ≢ card.wide → IsChain old.wide h ys → Lacks place ys → IsChain new.wide h ys
+
+module _ {X : Type 0} (old : Shelf X) (k : IsKept old) (place : ℕ) (vacant : get old.cards place ≡ None) where
+  lacks : Lacks place (places old)
+  lacks = Lacks-vacant old.cards (is_within old.near.heads old.wide.heads) place (places old) vacant k.cards
+
+  -- a chain that the place may join
+  pub can_join : (c : Chains) (key : Card X → ℕ) → IsFiled c old.cards key (places old) → (h : ℕ) → h < c.heads → (ys : List ℕ) × IsChain c h ys × Lacks place ys
+  can_join c key filed h below =
+      (filter (held old.cards (λ card. key card == h)) (places old), filed h below, Each-filter (λ y. y ≢ place) (held old.cards (λ card. key card == h)) (places old) lacks)
+
+  pub can_join_all : (ys : List ℕ) × IsChain old.all 0 ys × Lacks place ys
+  can_join_all = (places old, k.all, lacks)
+
+  module _ (new : Shelf X) (card : Card X) (a : Adds old new place card) where
+    abbrev ys : List ℕ
+    ys = places old ++ place ∷ []
+
+    ids_added : IsFiled new.ids new.cards (λ card. bin new.ids.heads 0 card.id 0) ys
+    ids_added =
+        subst (λ n. IsFiled new.ids new.cards (λ card. bin n 0 card.id 0) ys) (sym a.ids_heads)
+        (IsFiled-added old.cards new.cards place a.same card a.at (places old) lacks old.ids new.ids (λ card. bin old.ids.heads 0 card.id 0) a.ids_heads
+            (subst (λ h. (ys : List ℕ) → IsChain old.ids h ys → Lacks place ys → IsChain new.ids h (ys ++ place ∷ [])) a.ids_is a.ids_joins)
+            (subst (λ k. (h : ℕ) (ys : List ℕ) → h ≢ k → IsChain old.ids h ys → Lacks place ys → IsChain new.ids h ys) a.ids_is a.ids_stay) k.ids)
+
+    within_new : is_within new.near.heads new.wide.heads card ≡ true
+    within_new = rw (lt-ltb card.near new.near.heads (omega (arith, a.near_within, a.near_heads)), lt-ltb card.wide new.wide.heads (omega (arith, a.wide_within, a.wide_heads))) refl
+
+    cards_added : Each (λ p. held new.cards (is_within new.near.heads new.wide.heads) p ≡ true) ys
+    cards_added =
+        Each-append (λ p. held new.cards (is_within new.near.heads new.wide.heads) p ≡ true) (places old) (place ∷ [])
+        (subst (λ n. Each (λ p. held new.cards (is_within n new.wide.heads) p ≡ true) (places old)) (sym a.near_heads)
+            (subst (λ n. Each (λ p. held new.cards (is_within old.near.heads n) p ≡ true) (places old)) (sym a.wide_heads)
+                (Each-both (λ p. held new.cards (is_within old.near.heads old.wide.heads) p ≡ held old.cards (is_within old.near.heads old.wide.heads) p) (λ p. held old.cards (is_within old.near.heads old.wide.heads) p ≡ true)
+                    (λ p. held new.cards (is_within old.near.heads old.wide.heads) p ≡ true) (λ p e f. e ∙ f) (places old) (held-same old.cards new.cards place a.same (is_within old.near.heads old.wide.heads) (places old) lacks) k.cards)))
+        (ap (passes (is_within new.near.heads new.wide.heads)) a.at ∙ within_new, tt)
+
+    added : Keeps new ys
+    added = record {
+      some = subst (λ n. 0 < n) (sym a.ids_heads) k.some;
+      all = a.all_joins (places old) k.all lacks;
+      distinct = IsDistinct-push (places old) place k.distinct lacks;
+      cards = cards_added;
+      ids = ids_added;
+      near = IsFiled-added old.cards new.cards place a.same card a.at (places old) lacks old.near new.near (λ card. card.near) a.near_heads a.near_joins a.near_stay k.near;
+      wide = IsFiled-added old.cards new.cards place a.same card a.at (places old) lacks old.wide new.wide (λ card. card.wide) a.wide_heads a.wide_joins a.wide_stay k.wide;
+    }
+
+    count_is : slab_len new.cards ≡ length ys
+    count_is = simp length-append (omega (arith, a.count, length-places old))
+
+    pub IsKept-added : IsKept new
+    IsKept-added = kept_by new ys added count_is
+
+    pub cards-added : cards new ≡ cards old ++ card ∷ []
+    cards-added =
+        ap (listed new.cards) (read-chain new.all (slab_len new.cards) ys added.all count_is)
+        ∙ (listed-append new.cards (places old) (place ∷ [])
+          ∙ rw (listed-same old.cards new.cards place a.same (places old) lacks, a.at) refl)

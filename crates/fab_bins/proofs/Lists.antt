@@ -16,6 +16,10 @@ module _ {X : Type 0} (P : X → Type 0) where
   Each-map Q h [] e = tt
   Each-map Q h (x ∷ xs) e = (h x e.0, Each-map Q h xs e.1)
 
+  pub Each-both : (Q R : X → Type 0) → ((x : X) → P x → Q x → R x) → (xs : List X) → Each P xs → Each Q xs → Each R xs
+  Each-both Q R h [] e f = tt
+  Each-both Q R h (x ∷ xs) e f = (h x e.0 f.0, Each-both Q R h xs e.1 f.1)
+
   module _ (test : X → Bool) where
     filter_step : (x : X) (xs : List X) (t : Bool) → test x ≡ t → P x → Each P (filter test xs) → Each P (filter test (x ∷ xs))
     filter_step x xs true t p e = rw t (p, e)
