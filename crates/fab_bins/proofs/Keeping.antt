@@ -1,6 +1,6 @@
 -- What holds of a shelf, and stays so.
 use Rattle.std.proofs.Common.{◌≡◌, ◌≢◌, ◌<◌, ◌≤◌, ◌+◌, ◌-◌, ◌*◌, ◌/◌, ◌%◌, ◌^◌, ◌==◌, ◌&&◌, ℕ, zero, suc, Bool, true, false, List, [], ◌∷◌, ◌++◌, Option, Some, None, is_some, length, refl, sym, ap, ◌∙◌, subst, arith, length-append}
-use Rattle.std.specs.Prelude.{find, filter, nat_lt}
+use Rattle.std.specs.Prelude.{find, filter, nat_lt, not, count_by}
 use Rattle.std.specs.List.{list_any}
 use Rattle.std.specs.Option.{option_and_then}
 use Rattle.std.proofs.lemmas.Bool.{eqb-true, eq-eqb, and_right, and_parts, ltb-true, lt-ltb}
@@ -15,7 +15,7 @@ use Rattle.fab_bins.specs.Bins.{bin}
 use Rattle.fab_bins.specs.Shelf.{passes, held, listed, read, places, cards, is_within, IsFiled, Keeps, IsKept, StaysIn}
 use Rattle.fab_bins.proofs.Leading.{In, Round-in}
 use Rattle.fab_bins.proofs.Walking.{read-leads}
-use Rattle.fab_bins.proofs.Lists.{Each-append, Each-filter, Each-both, Each-map, IsDistinct-push, IsDistinct-others, Lacks-others, length-filter-le, In-filter, first_out, list_any-find, remove_first-none}
+use Rattle.fab_bins.proofs.Lists.{Each-append, Each-filter, Each-both, Each-in, Each-map, IsDistinct-push, IsDistinct-others, Lacks-others, length-filter-le, In-filter, first_out, list_any-find, remove_first-none}
 use Rattle.fab_bins.proofs.Filing.{length-listed, listed-append, listed-same, held-same, find-filed, find-listed, listed-remove_first, Lacks-vacant, IsFiled-removed, IsFiled-added}
 
 length-read : (heads : ℕ) (next : ℕ → ℕ) (n node : ℕ) → length (read heads next n node) ≡ n
@@ -163,3 +163,130 @@ module _ {X : Type 0} (old : Shelf X) (k : IsKept old) (place : ℕ) (vacant : g
         ap (listed new.cards) (read-chain new.all (slab_len new.cards) ys added.all count_is)
         ∙ (listed-append new.cards (places old) (place ∷ [])
           ∙ rw (listed-same old.cards new.cards place a.same (places old) lacks, a.at) refl)
+
+-- what a shelf is once the card of a place went
+pub record Removes {X : Type 0} (old new : Shelf X) (place : ℕ) : Type 0 where
+  pub same : (p : ℕ) → p ≢ place → get new.cards p ≡ get old.cards p
+  pub count : slab_len new.cards + 1 ≡ slab_len old.cards
+  pub all_leaves : (h : ℕ) (ys : List ℕ) → IsChain old.all h ys → IsChain new.all h (others place ys)
+  pub ids_heads : new.ids.heads ≡ old.ids.heads
+  pub ids_leaves : (h : ℕ) (ys : List ℕ) → IsChain old.ids h ys → IsChain new.ids h (others place ys)
+  pub near_heads : new.near.heads ≡ old.near.heads
+  pub near_leaves : (h : ℕ) (ys : List ℕ) → IsChain old.near h ys → IsChain new.near h (others place ys)
+  pub wide_heads : new.wide.heads ≡ old.wide.heads
+  pub wide_leaves : (h : ℕ) (ys : List ℕ) → IsChain old.wide h ys → IsChain new.wide h (others place ys)
+
+module _ {X : Type 0} (T : Card X → Bool) where
+  pub passes_some : (o : Option (Card X)) → passes T o ≡ true → (card : Card X) × (o ≡ Some card) × (T card ≡ true)
+  passes_some None e = absurd (cc)
+  passes_some (Some card) e = (card, refl, e)
+
+module _ {X : Type 0} (old : Shelf X) (k : IsKept old) (T : Card X → Bool) (place : ℕ) (found : find (held old.cards T) (places old) ≡ Some place) where
+  out : (In place (places old)) × (remove_first (held old.cards T) (places old) ≡ others place (places old)) × (length (others place (places old)) + 1 ≡ length (places old)) × (held old.cards T place ≡ true)
+  out = first_out (held old.cards T) place (places old) k.distinct found
+
+  pub card_there : (card : Card X) × (get old.cards place ≡ Some card) × (T card ≡ true)
+  card_there = passes_some T (get old.cards place) out.3
+
+  pub linked_all : IsLinked old.all place
+  linked_all = linked old.all 0 (places old) place k.all out.0
+
+  -- the place is linked in the chain of its card's key
+  linked_by : (c : Chains) (key : Card X → ℕ) → IsFiled c old.cards key (places old) → key card_there.0 < c.heads → IsLinked c place
+  linked_by c key filed below =
+      let h = key card_there.0 in
+      let passing : held old.cards (λ card. key card == key card_there.0) place ≡ true =
+        ap (passes (λ card. key card == key card_there.0)) card_there.1 ∙ eq-eqb (key card_there.0) (key card_there.0) refl in
+      linked c (key card_there.0) (filter (held old.cards (λ card. key card == key card_there.0)) (places old)) place (filed (key card_there.0) below)
+      (In-filter (held old.cards (λ card. key card == key card_there.0)) place (places old) passing out.0)
+
+  within : (nat_lt card_there.0.near old.near.heads ≡ true) × (nat_lt card_there.0.wide old.wide.heads ≡ true)
+  within =
+      let here : held old.cards (is_within old.near.heads old.wide.heads) place ≡ true = Each-in (λ p. held old.cards (is_within old.near.heads old.wide.heads) p ≡ true) place (places old) k.cards out.0 in
+      and_parts (nat_lt card_there.0.near old.near.heads) (nat_lt card_there.0.wide old.wide.heads) (sym (ap (passes (is_within old.near.heads old.wide.heads)) card_there.1) ∙ here)
+
+  pub linked_near : IsLinked old.near place
+  linked_near = linked_by old.near (λ card. card.near) k.near (ltb-true card_there.0.near old.near.heads within.0)
+
+  pub linked_wide : IsLinked old.wide place
+  linked_wide = linked_by old.wide (λ card. card.wide) k.wide (ltb-true card_there.0.wide old.wide.heads within.1)
+
+  pub linked_id : (id : ℕ) → ((card : Card X) → T card ≡ true → card.id ≡ id) → bin old.ids.heads 0 id 0 < old.ids.heads → IsLinked old.ids place
+  linked_id id is below =
+      linked_by old.ids (λ card. bin old.ids.heads 0 card.id 0) k.ids (subst (λ i. bin old.ids.heads 0 i 0 < old.ids.heads) (sym (is card_there.0 card_there.2)) below)
+
+  module _ (new : Shelf X) (r : Removes old new place) where
+    abbrev rest : List ℕ
+    rest = others place (places old)
+
+    ids_removed : IsFiled new.ids new.cards (λ card. bin new.ids.heads 0 card.id 0) rest
+    ids_removed =
+        subst (λ n. IsFiled new.ids new.cards (λ card. bin n 0 card.id 0) rest) (sym r.ids_heads)
+        (IsFiled-removed old.cards new.cards place r.same old.ids new.ids (λ card. bin old.ids.heads 0 card.id 0) (places old) r.ids_heads r.ids_leaves k.ids)
+
+    cards_removed : Each (λ p. held new.cards (is_within new.near.heads new.wide.heads) p ≡ true) rest
+    cards_removed =
+        subst (λ n. Each (λ p. held new.cards (is_within n new.wide.heads) p ≡ true) rest) (sym r.near_heads)
+        (subst (λ n. Each (λ p. held new.cards (is_within old.near.heads n) p ≡ true) rest) (sym r.wide_heads)
+            (Each-both (λ p. held new.cards (is_within old.near.heads old.wide.heads) p ≡ held old.cards (is_within old.near.heads old.wide.heads) p) (λ p. held old.cards (is_within old.near.heads old.wide.heads) p ≡ true)
+                (λ p. held new.cards (is_within old.near.heads old.wide.heads) p ≡ true) (λ p e f. e ∙ f) rest
+                (held-same old.cards new.cards place r.same (is_within old.near.heads old.wide.heads) rest (Lacks-others place (places old)))
+                (Each-filter (λ p. held old.cards (is_within old.near.heads old.wide.heads) p ≡ true) (λ y. not (y == place)) (places old) k.cards)))
+
+    removed : Keeps new rest
+    removed = record {
+      some = subst (λ n. 0 < n) (sym r.ids_heads) k.some;
+      all = r.all_leaves 0 (places old) k.all;
+      distinct = IsDistinct-others place (places old) k.distinct;
+      cards = cards_removed;
+      ids = ids_removed;
+      near = IsFiled-removed old.cards new.cards place r.same old.near new.near (λ card. card.near) (places old) r.near_heads r.near_leaves k.near;
+      wide = IsFiled-removed old.cards new.cards place r.same old.wide new.wide (λ card. card.wide) (places old) r.wide_heads r.wide_leaves k.wide;
+    }
+
+    count_left : slab_len new.cards ≡ length rest
+    count_left = omega (arith, out.2, r.count, length-places old)
+
+    pub IsKept-removed : IsKept new
+    IsKept-removed = kept_by new rest removed count_left
+
+    pub cards-removed : cards new ≡ remove_first T (cards old)
+    cards-removed =
+        ap (listed new.cards) (read-chain new.all (slab_len new.cards) rest removed.all count_left)
+        ∙ (listed-same old.cards new.cards place r.same rest (Lacks-others place (places old))
+          ∙ (ap (listed old.cards) (sym out.1) ∙ listed-remove_first old.cards T (places old)))
+
+-- a shelf whose chains only got more links, and whose slab more room
+module _ {X : Type 0} (old : Shelf X) (k : IsKept old) (all ids near wide : Chains) (a : StaysIn old.all all) (i : StaysIn old.ids ids) (n : StaysIn old.near near) (w : StaysIn old.wide wide) (capacity : ℕ) where
+  abbrev grown : Shelf X
+  grown = record { cards = record old.cards { capacity = capacity }; all = all; ids = ids; near = near; wide = wide }
+
+  filed_stays : (c c' : Chains) (key : Card X → ℕ) → StaysIn c c' → IsFiled c old.cards key (places old) → IsFiled c' old.cards key (places old)
+  filed_stays c c' key s filed h below = s.chains h (filter (held old.cards (λ card. key card == h)) (places old)) (filed h (subst (λ m. h < m) s.heads below))
+
+  grown_keeps : Keeps grown (places old)
+  grown_keeps = record {
+    some = subst (λ m. 0 < m) (sym i.heads) k.some;
+    all = a.chains 0 (places old) k.all;
+    distinct = k.distinct;
+    cards = subst (λ m. Each (λ p. held old.cards (is_within m wide.heads) p ≡ true) (places old)) (sym n.heads)
+        (subst (λ m. Each (λ p. held old.cards (is_within old.near.heads m) p ≡ true) (places old)) (sym w.heads) k.cards);
+    ids = subst (λ m. IsFiled ids old.cards (λ card. bin m 0 card.id 0) (places old)) (sym i.heads) (filed_stays old.ids ids (λ card. bin old.ids.heads 0 card.id 0) i k.ids);
+    near = filed_stays old.near near (λ card. card.near) n k.near;
+    wide = filed_stays old.wide wide (λ card. card.wide) w k.wide;
+  }
+
+  pub IsKept-grown : IsKept grown
+  IsKept-grown = kept_by grown (places old) grown_keeps (sym (length-places old))
+
+  pub cards-grown : cards grown ≡ cards old
+  cards-grown = ap (listed old.cards) (read-chain all (slab_len old.cards) (places old) grown_keeps.all (sym (length-places old)))
+
+-- a shelf with no card
+module _ {X : Type 0} (shelf : Shelf X) (none : shelf.cards.slots ≡ []) (some : 0 < shelf.ids.heads) (all : IsChain shelf.all 0 []) (ids : (h : ℕ) → h < shelf.ids.heads → IsChain shelf.ids h [])
+    (near : (h : ℕ) → h < shelf.near.heads → IsChain shelf.near h []) (wide : (h : ℕ) → h < shelf.wide.heads → IsChain shelf.wide h []) where
+  no_cards : slab_len shelf.cards ≡ 0
+  no_cards = ap (λ s. count_by is_some s) none
+
+  pub IsKept-empty : IsKept shelf
+  IsKept-empty = kept_by shelf [] (record { some = some; all = all; distinct = tt; cards = tt; ids = ids; near = near; wide = wide }) no_cards

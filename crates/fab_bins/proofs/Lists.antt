@@ -46,6 +46,12 @@ module _ {X : Type 0} (P : X → Type 0) where
     Each-find y [] e f = absurd (cc)
     Each-find y (x ∷ xs) e f = found_step x y xs (test x) refl f e.0 (λ g. Each-find y xs e.1 g)
 
+-- what each has, a member has
+pub Each-in : (P : ℕ → Type 0) (x : ℕ) (xs : List ℕ) → Each P xs → In x xs → P x
+Each-in P x [] e i = absurd i
+Each-in P x (y ∷ xs) e (inl same) = subst P same e.0
+Each-in P x (y ∷ xs) e (inr i) = Each-in P x xs e.1 i
+
 pub IsDistinct-push : (xs : List ℕ) (x : ℕ) → IsDistinct xs → Lacks x xs → IsDistinct (xs ++ x ∷ [])
 IsDistinct-push [] x d l = (tt, tt)
 IsDistinct-push (y ∷ xs) x d l =

@@ -5,7 +5,7 @@ ghost use Rattle.std.specs.Option.{option_and_then};
 ghost use Rattle.fab_model.specs.Matching.{remove_first};
 ghost use Rattle.slab.specs.Slab.{Slab, get, slab_len};
 ghost use Rattle.fab_bins.specs.declared.shelf.Card.{Card};
-ghost use Rattle.fab_bins.specs.Each.{Each};
+ghost use Rattle.fab_bins.specs.Bins.{bin};
 ghost use Rattle.fab_bins.specs.Chains.{IsChain, Covers};
 ghost use Rattle.fab_bins.specs.Shelf.{held, places, cards, IsKept, IsReady, HasRoom, StaysIn};
 
@@ -165,7 +165,8 @@ impl<X: Copy + Drop> Shelf<X> {
 
     fn place_of(&self, id: u32) -> Option<usize>
         requires { IsKept self.now }
-        ensures { result ≡ find (held self.now.cards (λ card. card.id == id)) (places self.now) }
+        ensures first { result ≡ find (held self.now.cards (λ card. card.id == id)) (places self.now) }
+        ensures within { bin self.now.ids.heads 0 id 0 < self.now.ids.heads }
     {
         let head = bin(self.ids.heads, 0, u64::from(id), 0);
         first_of(&self.cards, &self.ids, head, &HasId(id))
