@@ -282,6 +282,13 @@ module _ {X : Type 0} (old : Shelf X) (k : IsKept old) (all ids near wide : Chai
   pub cards-grown : cards grown ≡ cards old
   cards-grown = ap (listed old.cards) (read-chain all (slab_len old.cards) (places old) grown_keeps.all (sym (length-places old)))
 
+  -- the same, where another slab stands for it
+  pub kept_as : (s : Slab (Card X)) → s ≡ record old.cards { capacity = capacity } → IsKept (record { cards = s; all = all; ids = ids; near = near; wide = wide })
+  kept_as s e = subst (λ (t : Slab (Card X)). IsKept (record { cards = t; all = all; ids = ids; near = near; wide = wide })) (sym e) IsKept-grown
+
+  pub cards_as : (s : Slab (Card X)) → s ≡ record old.cards { capacity = capacity } → cards (record { cards = s; all = all; ids = ids; near = near; wide = wide }) ≡ cards old
+  cards_as s e = subst (λ (t : Slab (Card X)). cards (record { cards = t; all = all; ids = ids; near = near; wide = wide }) ≡ cards old) (sym e) cards-grown
+
 -- a shelf with no card
 module _ {X : Type 0} (shelf : Shelf X) (none : shelf.cards.slots ≡ []) (some : 0 < shelf.ids.heads) (all : IsChain shelf.all 0 []) (ids : (h : ℕ) → h < shelf.ids.heads → IsChain shelf.ids h [])
     (near : (h : ℕ) → h < shelf.near.heads → IsChain shelf.near h []) (wide : (h : ℕ) → h < shelf.wide.heads → IsChain shelf.wide h []) where
