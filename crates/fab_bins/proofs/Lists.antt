@@ -159,6 +159,14 @@ module _ {X : Type 0} (test : X → Bool) where
   none_step x xs true t e more = absurd (cc)
   none_step x xs false t e more = rw (t, remove_first) (ap (λ ys. x ∷ ys) (more e))
 
+  gone_step : (x : X) (xs : List X) (t : Bool) → test x ≡ t → length (remove_first test xs) ≤ length xs → length (remove_first test (x ∷ xs)) ≤ length (x ∷ xs)
+  gone_step x xs true t more = rw (t, remove_first) (omega arith)
+  gone_step x xs false t more = rw (t, remove_first) (omega arith)
+
+  pub length-remove_first-le : (xs : List X) → length (remove_first test xs) ≤ length xs
+  length-remove_first-le [] = omega arith
+  length-remove_first-le (x ∷ xs) = gone_step x xs (test x) refl (length-remove_first-le xs)
+
   pub remove_first-none : (xs : List X) → find test xs ≡ None → remove_first test xs ≡ xs
   remove_first-none [] e = refl
   remove_first-none (x ∷ xs) e = none_step x xs (test x) refl e (λ f. remove_first-none xs f)

@@ -1,5 +1,6 @@
 //! The matching store over hashed bins.
 ghost use Rattle.std.specs.Prelude.{◌≡◌, ◌<◌, ℕ, find};
+ghost use Rattle.std.specs.Option.{option_map};
 ghost use Rattle.fab_base.specs.declared.items.Want.{Want};
 ghost use Rattle.fab_base.specs.declared.items.Sign.{Sign};
 ghost use Rattle.fab_match.specs.Signs.{fits};
@@ -54,6 +55,12 @@ impl Test<Sign> for Want {
     fn passes(&self, card: &Card<Sign>) -> bool {
         fits(self, &card.item)
     }
+}
+
+fn id_of<X: Drop>(card: Option<Card<X>>) -> Option<u32>
+    ensures { result ≡ option_map (λ found. found.id) card }
+{
+    card.map(|found| found.id)
 }
 
 /// The card with the lower number.
@@ -120,16 +127,14 @@ impl Matcher for BinMatcher {
     }
 
     fn first_posted(&self, sign: &Sign) -> Option<u32> {
-        let first = if self.number == u64::MAX {
-            self.posted.first(sign)
-        } else {
-            first_numbered(&self.posted, sign)
-        };
-        first.map(|card| card.id)
+        if self.number == u64::MAX {
+            return id_of(self.posted.first(sign));
+        }
+        id_of(first_numbered(&self.posted, sign))
     }
 
     fn first_unexpected(&self, want: &Want) -> Option<u32> {
-        first_arrived(&self.unexpected, want).map(|card| card.id)
+        id_of(first_arrived(&self.unexpected, want))
     }
 
     fn is_full(&self) -> bool {
