@@ -54,7 +54,7 @@ module _ {X : Type 0} (cards : Slab (Card X)) where
   find-filed K T S e xs =
       find-filter (held cards K) (held cards T) xs
       ∙ find-same (λ x. held cards K x && held cards T x) (held cards S) xs
-        (each (λ x. (held cards K x && held cards T x) ≡ held cards S x) (λ x. both_pass K T (get cards x) ∙ pass_same (λ c. K c && T c) S e (get cards x)) xs)
+      (each (λ x. (held cards K x && held cards T x) ≡ held cards S x) (λ x. both_pass K T (get cards x) ∙ pass_same (λ c. K c && T c) S e (get cards x)) xs)
 
   module _ (test : Card X → Bool) where
     find_at : (x : ℕ) (c : Card X) (xs : List ℕ) (t : Bool) → test c ≡ t → get cards x ≡ Some c → option_and_then (get cards) (find (held cards test) xs) ≡ find test (listed cards xs)

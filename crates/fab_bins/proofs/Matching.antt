@@ -89,18 +89,18 @@ pub exact_first : (heads : ℕ) (want : Want) (bin : ℕ) → filing_of heads wa
 exact_first heads want bin is cards filed =
     find-same (λ card. (card.near == bin) && fits want card.item) (λ card. fits want card.item) cards
     (Each-map (IsFiledBySign heads) (λ card. ((card.near == bin) && fits want card.item) ≡ fits want card.item)
-        (λ card f. agrees (card.near == bin) (fits want card.item) (fits want card.item) refl
-            (λ e. eq-eqb card.near bin (f.0 ∙ (let s : Stands heads card.item (Exact bin) = subst (Stands heads card.item) is (fits-stands heads want card.item e) in s))))
-        cards filed)
+    (λ card f. agrees (card.near == bin) (fits want card.item) (fits want card.item) refl
+    (λ e. eq-eqb card.near bin (f.0 ∙ (let s : Stands heads card.item (Exact bin) = subst (Stands heads card.item) is (fits-stands heads want card.item e) in s))))
+    cards filed)
 
 pub open_first : (heads : ℕ) (want : Want) (bin : ℕ) → filing_of heads want ≡ Open bin → (cards : List (Card Sign)) → Each (IsFiledBySign heads) cards
     → find (λ card. (card.wide == bin) && fits want card.item) cards ≡ find (λ card. fits want card.item) cards
 open_first heads want bin is cards filed =
     find-same (λ card. (card.wide == bin) && fits want card.item) (λ card. fits want card.item) cards
     (Each-map (IsFiledBySign heads) (λ card. ((card.wide == bin) && fits want card.item) ≡ fits want card.item)
-        (λ card f. agrees (card.wide == bin) (fits want card.item) (fits want card.item) refl
-            (λ e. eq-eqb card.wide bin (f.1 ∙ (let s : Stands heads card.item (Open bin) = subst (Stands heads card.item) is (fits-stands heads want card.item e) in s))))
-        cards filed)
+    (λ card f. agrees (card.wide == bin) (fits want card.item) (fits want card.item) refl
+    (λ e. eq-eqb card.wide bin (f.1 ∙ (let s : Stands heads card.item (Open bin) = subst (Stands heads card.item) is (fits-stands heads want card.item e) in s))))
+    cards filed)
 
 module _ {X : Type 0} where
   same_if : (b : Bool) (x : Card X) → Some (cond b x x) ≡ Some x
@@ -204,16 +204,16 @@ one_of heads sign Masked s =
 -- the lowest of the first of three bins is the first of all
 pub first_of_three : (heads : ℕ) (sign : Sign) (limit : ℕ) (cards : List (Card Want)) → Each (IsFiledByWant heads) cards → Rising limit cards
     → earlier (earlier (find (λ card. (card.near == exact_bin heads sign.tagged sign.tag sign.source) && fits card.item sign) cards) (find (λ card. (card.near == open_bin heads sign.tagged sign.tag) && fits card.item sign) cards))
-        (find (λ card. (card.near == masked_bin heads) && fits card.item sign) cards) ≡ find (λ card. fits card.item sign) cards
+    (find (λ card. (card.near == masked_bin heads) && fits card.item sign) cards) ≡ find (λ card. fits card.item sign) cards
 first_of_three heads sign limit cards filed rising =
     let p : Card Want → Bool = λ card. (card.near == exact_bin heads sign.tagged sign.tag sign.source) && fits card.item sign in
     let q : Card Want → Bool = λ card. (card.near == open_bin heads sign.tagged sign.tag) && fits card.item sign in
     let r : Card Want → Bool = λ card. (card.near == masked_bin heads) && fits card.item sign in
     ap (λ o. earlier o (find r cards)) (find-either p q limit cards rising)
     ∙ (find-either (λ card. p card || q card) r limit cards rising
-      ∙ find-same (λ card. (p card || q card) || r card) (λ card. fits card.item sign) cards
-        (Each-map (IsFiledByWant heads) (λ card. ((p card || q card) || r card) ≡ fits card.item sign)
-            (λ card f. spread (card.near == exact_bin heads sign.tagged sign.tag sign.source) (card.near == open_bin heads sign.tagged sign.tag) (card.near == masked_bin heads) (fits card.item sign)
-                (λ e. subst (λ k. (((k == exact_bin heads sign.tagged sign.tag sign.source) || (k == open_bin heads sign.tagged sign.tag)) || (k == masked_bin heads)) ≡ true) (sym f)
-                    (one_of heads sign (filing_of heads card.item) (fits-stands heads card.item sign e))))
-            cards filed))
+    ∙ find-same (λ card. (p card || q card) || r card) (λ card. fits card.item sign) cards
+    (Each-map (IsFiledByWant heads) (λ card. ((p card || q card) || r card) ≡ fits card.item sign)
+    (λ card f. spread (card.near == exact_bin heads sign.tagged sign.tag sign.source) (card.near == open_bin heads sign.tagged sign.tag) (card.near == masked_bin heads) (fits card.item sign)
+    (λ e. subst (λ k. (((k == exact_bin heads sign.tagged sign.tag sign.source) || (k == open_bin heads sign.tagged sign.tag)) || (k == masked_bin heads)) ≡ true) (sym f)
+    (one_of heads sign (filing_of heads card.item) (fits-stands heads card.item sign e))))
+    cards filed))

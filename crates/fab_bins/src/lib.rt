@@ -7,3 +7,6 @@ mod chains;
 mod shelf;
 
 pub use bin_matcher::BinMatcher;
+
+#[cfg(test)]
+mod tests;

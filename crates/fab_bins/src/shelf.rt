@@ -66,7 +66,12 @@ fn passes_at<X: Drop, T: Test<X>>(cards: &Slab<Card<X>>, place: usize, test: &T)
 }
 
 /// The first place of a chain whose card passes.
-fn first_of<X: Drop, T: Test<X>>(cards: &Slab<Card<X>>, chains: &Chains, head: u32, test: &T) -> Option<usize>
+fn first_of<X: Drop, T: Test<X>>(
+    cards: &Slab<Card<X>>,
+    chains: &Chains,
+    head: u32,
+    test: &T,
+) -> Option<usize>
     requires { (places : List ℕ) × IsChain chains.now head places × (length places ≤ slab_len cards.now) }
     ensures { (places : List ℕ) → IsChain chains.now head places → result ≡ find (held cards.now (λ card. T.passes test.now card)) places }
 {

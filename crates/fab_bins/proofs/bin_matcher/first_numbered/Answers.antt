@@ -16,5 +16,5 @@ returns c =
     let both : c.earlier.result ≡ earlier (find (λ card. (card.near == exact_bin c.args.posted.now.near.heads c.args.sign.now.tagged c.args.sign.now.tag c.args.sign.now.source) && fits card.item c.args.sign.now) (cards c.args.posted.now)) (find (λ card. (card.near == open_bin c.args.posted.now.near.heads c.args.sign.now.tagged c.args.sign.now.tag) && fits card.item c.args.sign.now) (cards c.args.posted.now)) = c.earlier.ensures ∙ (ap (λ o. earlier o c.first_near-of_any.result) one ∙ ap (earlier (find (λ card. (card.near == exact_bin c.args.posted.now.near.heads c.args.sign.now.tagged c.args.sign.now.tag c.args.sign.now.source) && fits card.item c.args.sign.now) (cards c.args.posted.now))) two) in
     c.earlier-2.ensures
     ∙ (ap (λ o. earlier o c.first_near-masked.result) both
-      ∙ (ap (earlier (earlier (find (λ card. (card.near == exact_bin c.args.posted.now.near.heads c.args.sign.now.tagged c.args.sign.now.tag c.args.sign.now.source) && fits card.item c.args.sign.now) (cards c.args.posted.now)) (find (λ card. (card.near == open_bin c.args.posted.now.near.heads c.args.sign.now.tagged c.args.sign.now.tag) && fits card.item c.args.sign.now) (cards c.args.posted.now)))) three
-        ∙ first_of_three c.args.posted.now.near.heads c.args.sign.now numbers.0 (cards c.args.posted.now) c.requires.bins numbers.1))
+    ∙ (ap (earlier (earlier (find (λ card. (card.near == exact_bin c.args.posted.now.near.heads c.args.sign.now.tagged c.args.sign.now.tag c.args.sign.now.source) && fits card.item c.args.sign.now) (cards c.args.posted.now)) (find (λ card. (card.near == open_bin c.args.posted.now.near.heads c.args.sign.now.tagged c.args.sign.now.tag) && fits card.item c.args.sign.now) (cards c.args.posted.now)))) three
+    ∙ first_of_three c.args.posted.now.near.heads c.args.sign.now numbers.0 (cards c.args.posted.now) c.requires.bins numbers.1))

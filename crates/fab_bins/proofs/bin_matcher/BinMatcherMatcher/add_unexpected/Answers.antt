@@ -20,9 +20,9 @@ invariant_of-self-2 c =
     let new : has_id c.args.id (pairs (cards c.self.inside.unexpected)) ≡ false = ap (λ (s : Store). has_id c.args.id s.unexpected) c.self.view_is ∙ c.requires.new in
     let more : pairs (cards c.add.new.self) ≡ pairs (cards c.self.inside.unexpected) ++ (c.args.id, c.args.sign) ∷ [] = ap pairs (c.add.ensures.added ∙ ap (λ ys. ys ++ (record { id = c.args.id; item = c.args.sign; number = 0; near = c.exact_bin-near.result; wide = c.open_bin-wide.result }) ∷ []) c.in_ok-reserve.ensures.same) ∙ map-append (λ (x : Card _). (x.id, x.item)) (cards c.self.inside.unexpected) ((record { id = c.args.id; item = c.args.sign; number = 0; near = c.exact_bin-near.result; wide = c.open_bin-wide.result }) ∷ []) in
     let exact : c.exact_bin-near.result ≡ exact_bin c.self.inside.unexpected.near.heads c.args.sign.tagged c.args.sign.tag c.args.sign.source =
-        c.exact_bin-near.ensures.exact ∙ ap (λ n. exact_bin n c.args.sign.tagged c.args.sign.tag c.args.sign.source) c.in_ok-reserve.ensures.near in
+    c.exact_bin-near.ensures.exact ∙ ap (λ n. exact_bin n c.args.sign.tagged c.args.sign.tag c.args.sign.source) c.in_ok-reserve.ensures.near in
     let wide_bin : c.open_bin-wide.result ≡ open_bin c.self.inside.unexpected.near.heads c.args.sign.tagged c.args.sign.tag =
-        c.open_bin-wide.ensures.exact ∙ ap (λ n. open_bin n c.args.sign.tagged c.args.sign.tag) c.in_ok-reserve.ensures.near in
+    c.open_bin-wide.ensures.exact ∙ ap (λ n. open_bin n c.args.sign.tagged c.args.sign.tag) c.in_ok-reserve.ensures.near in
     record {
       posted = c.self.invariant.posted;
       posted_heads = c.self.invariant.posted_heads;

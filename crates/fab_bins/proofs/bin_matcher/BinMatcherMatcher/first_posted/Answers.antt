@@ -15,10 +15,10 @@ pub returns-then-self-clause-first : goal.returns-then-self-clause-first
 returns-then-self-clause-first c =
     c.id_of.ensures
     ∙ (ap (option_map (λ (card : Card Want). card.id)) c.first.ensures
-      ∙ (first_id-pairs (λ want. fits want c.args.sign.now) (cards c.self.inside.posted) ∙ ap (λ (s : Store). first_id (λ want. fits want c.args.sign.now) s.posted) c.self.view_is))
+    ∙ (first_id-pairs (λ want. fits want c.args.sign.now) (cards c.self.inside.posted) ∙ ap (λ (s : Store). first_id (λ want. fits want c.args.sign.now) s.posted) c.self.view_is))
 
 pub returns-clause-first : goal.returns-clause-first
 returns-clause-first c =
     c.id_of-2.ensures
     ∙ (ap (option_map (λ (card : Card Want). card.id)) c.first_numbered.ensures
-      ∙ (first_id-pairs (λ want. fits want c.args.sign.now) (cards c.self.inside.posted) ∙ ap (λ (s : Store). first_id (λ want. fits want c.args.sign.now) s.posted) c.self.view_is))
+    ∙ (first_id-pairs (λ want. fits want c.args.sign.now) (cards c.self.inside.posted) ∙ ap (λ (s : Store). first_id (λ want. fits want c.args.sign.now) s.posted) c.self.view_is))

@@ -12,4 +12,4 @@ pub returns-clause-first : goal.returns-clause-first
 returns-clause-first c =
     c.id_of.ensures
     ∙ (ap (option_map (λ (card : Card Sign). card.id)) c.first_arrived.ensures
-      ∙ (first_id-pairs (λ sign. fits c.args.want.now sign) (cards c.self.inside.unexpected) ∙ ap (λ (s : Store). first_id (λ sign. fits c.args.want.now sign) s.unexpected) c.self.view_is))
+    ∙ (first_id-pairs (λ sign. fits c.args.want.now sign) (cards c.self.inside.unexpected) ∙ ap (λ (s : Store). first_id (λ sign. fits c.args.want.now sign) s.unexpected) c.self.view_is))
