@@ -1,11 +1,11 @@
 -- The first card that fits, by its bin and by its number.
-use Rattle.std.proofs.Common.{◌≡◌, ◌≢◌, ◌<◌, ◌≤◌, ◌+◌, ◌==◌, ◌&&◌, ◌||◌, ℕ, zero, suc, Bool, true, false, not, cond, List, [], ◌∷◌, ◌++◌, Option, Some, None, refl, sym, ap, ◌∙◌, subst, arith}
-use Rattle.std.specs.Prelude.{find, nat_lt, map, bit_or, position}
+use Rattle.std.proofs.Common.{◌≡◌, ◌≢◌, ◌<◌, ◌==◌, ◌&&◌, ◌||◌, ℕ, Bool, true, false, not, cond, List, [], ◌∷◌, ◌++◌, Option, Some, None, refl, sym, ap, ◌∙◌, subst, arith}
+use Rattle.std.specs.Prelude.{find, nat_lt, bit_or, position}
 use Rattle.std.specs.Bool.{beq}
 use Rattle.std.specs.List.{list_any}
 use Rattle.std.specs.Option.{option_map}
 use Rattle.std.specs.Int.Bits.{or_zero_r}
-use Rattle.std.proofs.lemmas.Bool.{eqb-true, eq-eqb, and_right, and_parts, ltb-true, lt-ltb, le-ltb}
+use Rattle.std.proofs.lemmas.Bool.{eqb-true, eq-eqb, and_right, and_parts, lt-ltb, le-ltb}
 use Rattle.std.proofs.Math.Bool.{or-true}
 use Rattle.std.proofs.lemmas.List.Quantifiers.{all_pairs_remove, position-Some}
 use Rattle.fab_base.specs.declared.items.Want.{Want}
@@ -18,7 +18,7 @@ use Rattle.fab_bins.specs.declared.shelf.Card.{Card}
 use Rattle.fab_bins.specs.declared.bins.Filing.{Filing}
 use Rattle.fab_bins.specs.declared.bins.Filing.TheVariants.{Exact, Open, Masked}
 use Rattle.fab_bins.specs.Each.{Each}
-use Rattle.fab_bins.specs.Bins.{exact_bin, open_bin, masked_bin, filing_by, filing_of, bin_in, bin_of}
+use Rattle.fab_bins.specs.Bins.{exact_bin, open_bin, masked_bin, filing_by, filing_of, bin_in}
 use Rattle.fab_bins.specs.Filed.{IsFiledByWant, IsFiledBySign}
 use Rattle.fab_bins.specs.Numbers.{earlier, Rising}
 use Rattle.fab_bins.specs.BinMatcher.{pairs}

@@ -1,5 +1,5 @@
 -- What the writes of `push` and `unlink` make of links.
-use Rattle.std.proofs.Common.{◌≡◌, ◌≢◌, ◌<◌, ◌≤◌, ◌+◌, ℕ, List, [], ◌∷◌, ◌++◌, length, subst, ◌⊎◌, inl, inr, ⊎_elim, refl, sym, ap, ◌∙◌, arith, set, get_or, get_or-set_same, length-append, get_or-set_other}
+use Rattle.std.proofs.Common.{◌≡◌, ◌≢◌, ◌<◌, ◌≤◌, ◌+◌, ℕ, List, [], ◌∷◌, ◌++◌, length, subst, ◌⊎◌, inl, inr, refl, sym, ap, ◌∙◌, arith, set, get_or, get_or-set_same, length-append, get_or-set_other}
 use Rattle.std.proofs.lemmas.Bool.{cases_eq, cases_lt}
 use Rattle.std.proofs.lemmas.List.{length-set, get_or_default}
 use Rattle.std.proofs.Math.ListN.{get_or-append}

@@ -3,7 +3,6 @@
 use Rattle.std.specs.Prelude.{◌≡◌, ◌<◌, ◌≤◌, ◌-◌, ◌^◌, ℕ, List, map, length}
 use Rattle.fab_match.specs.Matcher.{HasDistinctIds}
 use Rattle.fab_bins.specs.declared.shelf.Card.{Card}
-use Rattle.fab_bins.specs.declared.shelf.Shelf.{Shelf}
 use Rattle.fab_bins.specs.declared.bin_matcher.BinMatcher.TheInside.{Inside}
 use Rattle.fab_bins.specs.Each.{Each}
 use Rattle.fab_bins.specs.Shelf.{cards, IsKept, IsReady}

@@ -16,10 +16,13 @@ use fab_match::{Matcher, fits};
 use std::alloc::Global;
 use std::marker::Model;
 
-/// How many heads each kind of bin has at least.
+/// How many bins of each kind there are at least. A store with more room has as many as receives.
 const LEAST_HEADS: u32 = 4096;
 
 /// A store that files its receives and messages in bins.
+///
+/// Receives have numbers that rise as they are posted. Once 2^64 - 1 were posted the numbers have run
+/// out, and a message looks through all receives in their order.
 #[derive(Drop)]
 pub struct BinMatcher {
     posted: Shelf<Want>,
@@ -74,8 +77,8 @@ fn earlier(one: Option<Card<Want>>, other: Option<Card<Want>>) -> Option<Card<Wa
     }
 }
 
-/// The first of the receives that fits the message, of those with numbers that rise: the lowest of
-/// the first of its bins.
+/// The first receive that may take the message. Of each bin that it may stand in the first is found,
+/// and the lowest number decides: however exact a tag, an earlier receive goes first.
 fn first_numbered(posted: &Shelf<Want>, sign: &Sign) -> Option<Card<Want>>
     requires kept { IsKept posted.now }
     requires heads { 0 < posted.now.near.heads }

@@ -1,8 +1,8 @@
-use Rattle.std.proofs.Common.{◌≡◌, ◌<◌, ◌≤◌, ◌-◌, ◌+◌, ◌∙◌, ℕ, List, Bool, true, false, length, ap, sym, arith, subst}
+use Rattle.std.proofs.Common.{◌≡◌, ◌<◌, ◌≤◌, ◌-◌, ◌+◌, ◌∙◌, ℕ, List, true, false, length, ap, sym, arith, subst}
 use Rattle.std.specs.Prelude.{find}
 use Rattle.slab.specs.Slab.{slab_len}
 use Rattle.fab_bins.specs.declared.chains.Link.{Link}
-use Rattle.fab_bins.specs.Chains.{IsChain, Leads, next_of, prev_of}
+use Rattle.fab_bins.specs.Chains.{IsChain, next_of, prev_of}
 use Rattle.fab_bins.specs.Shelf.{held}
 use Rattle.fab_bins.proofs.Writes.{read}
 use Rattle.fab_bins.proofs.Walking.{Walks, Onward, Onward-leads, Leads-same, walks_end, walks_out, walks_first, walks_on, walks_within}

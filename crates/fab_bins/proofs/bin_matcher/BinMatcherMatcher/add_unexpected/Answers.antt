@@ -1,17 +1,13 @@
-use Rattle.std.proofs.Common.{◌≡◌, ◌<◌, ◌≤◌, ◌+◌, ◌∷◌, [], ◌++◌, ◌∙◌, ap, sym, subst, refl, false, length, arith, length-append}
-use Rattle.std.proofs.lemmas.List.{map-append, length-map}
-use Rattle.slab.specs.Slab.{slab_len}
+use Rattle.std.proofs.Common.{◌≡◌, ◌<◌, ◌∷◌, [], ◌++◌, ◌∙◌, ap, sym, subst, false}
+use Rattle.std.proofs.lemmas.List.{map-append}
 use Rattle.fab_match.specs.Matcher.{Store, has_id, HasDistinctIds}
 use Rattle.fab_match.proofs.Pairs.{HasDistinctIds-push}
 use Rattle.fab_bins.specs.declared.shelf.Card.{Card}
 use Rattle.fab_bins.specs.Each.{Each}
 use Rattle.fab_bins.specs.Shelf.{cards}
-use Rattle.fab_bins.specs.Numbers.{Rising}
-use Rattle.fab_bins.specs.Filed.{IsFiledByWant, IsFiledBySign}
+use Rattle.fab_bins.specs.Filed.{IsFiledBySign}
 use Rattle.fab_bins.specs.BinMatcher.{pairs}
 use Rattle.fab_bins.proofs.Lists.{Each-append}
-use Rattle.fab_bins.proofs.Keeping.{length-cards}
-use Rattle.fab_bins.proofs.Matching.{Rising-push}
 use Rattle.fab_bins.specs.Bins.{exact_bin, open_bin}
 use Rattle.fab_bins.proofs.bin_matcher.BinMatcherMatcher.add_unexpected.Goals as goal
 

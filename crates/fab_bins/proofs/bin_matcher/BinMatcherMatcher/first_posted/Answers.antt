@@ -1,4 +1,4 @@
-use Rattle.std.proofs.Common.{◌≡◌, ◌≢◌, ◌<◌, ◌∙◌, ap, arith}
+use Rattle.std.proofs.Common.{◌∙◌, ap, arith}
 use Rattle.std.specs.Option.{option_map}
 use Rattle.fab_base.specs.declared.items.Want.{Want}
 use Rattle.fab_match.specs.Signs.{fits}

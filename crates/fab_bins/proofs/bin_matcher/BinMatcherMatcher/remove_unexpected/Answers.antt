@@ -1,16 +1,13 @@
-use Rattle.std.proofs.Common.{◌≡◌, ◌==◌, ◌<◌, ◌∙◌, ap, sym, subst, false, arith}
-use Rattle.fab_base.specs.declared.items.Sign.{Sign}
+use Rattle.std.proofs.Common.{◌≡◌, ◌==◌, ◌<◌, ◌∙◌, ap, sym, subst, false}
 use Rattle.fab_match.specs.Matcher.{Store, has_id, without, HasDistinctIds}
 use Rattle.fab_match.proofs.Firsts.{remove_first-none as unchanged}
 use Rattle.fab_match.proofs.Pairs.{has_id-without}
-use Rattle.fab_bins.specs.declared.shelf.Card.{Card}
 use Rattle.fab_bins.specs.Each.{Each}
 use Rattle.fab_bins.specs.Shelf.{cards}
-use Rattle.fab_bins.specs.Numbers.{Rising}
 use Rattle.fab_bins.specs.Filed.{IsFiledBySign}
 use Rattle.fab_bins.specs.BinMatcher.{pairs}
-use Rattle.fab_bins.proofs.Lists.{Each-remove_first, length-remove_first-le}
-use Rattle.fab_bins.proofs.Matching.{has_id-pairs, without-pairs, HasDistinctIds-without, Rising-remove_first}
+use Rattle.fab_bins.proofs.Lists.{Each-remove_first}
+use Rattle.fab_bins.proofs.Matching.{has_id-pairs, without-pairs, HasDistinctIds-without}
 use Rattle.fab_bins.proofs.bin_matcher.BinMatcherMatcher.remove_unexpected.Goals as goal
 
 pub invariant_of-self : goal.invariant_of-self
