@@ -1,7 +1,6 @@
 -- A look at a lane, and a step over its frame, in the words of the port.
 use Rattle.std.proofs.Common.{◌≡◌, ◌≢◌, ℕ, ◌<◌, ◌+◌, Bool, true, false, List, length, take, Some, None, arith, refl, sym, ap, ◌∙◌, inl, inr, cond, length-take-le, nat_lt, get_or-set_other, get_or-set_same, length-set}
 use std.Path.{fun_ext}
-use native.Mathlib.Decide.{dec_le}
 use Rattle.std.specs.Prelude.{◌^◌, Option, slice_get, IfSome, IfNone, IsSome}
 use Rattle.std.proofs.lemmas.Option.{slice_get_cases, get_or_from_slice_get, slice_get_within}
 use Rattle.std.proofs.lemmas.List.{take_more, take_all}
@@ -12,9 +11,9 @@ use Rattle.fab_base.specs.declared.frames.FrameRef.{FrameRef}
 use Rattle.fab_wire.specs.Frames.{lent_frame, MayCome, last_head, IsLane}
 use Rattle.fab_wire.proofs.Lanes.{IsLane-at}
 use Rattle.fab_link.specs.Meaning.{Fronted, Gives, advanced}
-use Rattle.fab_base.specs.Counts.{Rose}
 use Rattle.fab_link.specs.Plain.{Lane, IsSoundLane, Plain, outgoing, incoming, looked, lent_frames, lane_at, with_lane, in_of, out_of, home_of}
 use Rattle.fab_base.specs.Counts.{counted}
+use Rattle.fab_link.proofs.Counting.{Rose-counted}
 
 -- the next frame of a lane may come
 next_may_come : (lane : Lane) (f : Frame) → IsLane lane.in_after lane.in_list → slice_get lane.in_list lane.taken ≡ Some f
@@ -26,9 +25,6 @@ next_may_come lane f s e =
 -- an element within the list is there
 is_there : {X : Type 0} (xs : List X) (i : ℕ) → i < length xs → None ≡ slice_get xs i → ⊥
 is_there xs i l e = elim (slice_get_cases xs i).1 [ inl w ↦ cc (w.2, e) | inr w ↦ omega (arith, w.0, l) ]
-
-Rose-counted : (n : ℕ) → Rose n (counted n)
-Rose-counted n = elim (dec_le (n + 2) (2 ^ 64)) [ Prim.yes h ↦ inl (omega arith) | Prim.no h ↦ inr (omega arith) ]
 
 -- a frame that was lent is the one that is given
 again : (b : Bool) (o : Option Frame) (f g : Frame) → Some f ≡ o → cond b o None ≡ Some g → f ≡ g
@@ -50,10 +46,10 @@ pub record Looks (lane after : Lane) (r : Option FrameRef) : Type 0 where
 looks_by : (b : Bool) (lane after : Lane) (r : Option FrameRef)
     → nat_lt lane.taken (length lane.in_list) ≡ b
     → after ≡ cond b (record lane { is_lent = true }) (record lane { empty_seen = counted lane.empty_seen; empty_at = lane.taken })
-    → IsSoundLane after → lent_frames r ≡ (incoming after).lent → Looks lane after r
-looks_by true lane after None l e s h =
+    → lane.empty_seen < 2 ^ 64 → IsSoundLane after → lent_frames r ≡ (incoming after).lent → Looks lane after r
+looks_by true lane after None l e t s h =
     absurd (is_there lane.in_list lane.taken (grind (arith, nat_tests)) (rw e at h))
-looks_by true lane after (Some f) l e s h =
+looks_by true lane after (Some f) l e t s h =
     let next = rw e at h in
     let sound = rw e at s in
     record {
@@ -63,7 +59,7 @@ looks_by true lane after (Some f) l e s h =
       all_taken = tt;
       fronted = rw (e, next) refl;
     }
-looks_by false lane after None l e s h =
+looks_by false lane after None l e t s h =
     let next = rw e at h in
     let sound = rw e at s in
     record {
@@ -71,15 +67,15 @@ looks_by false lane after None l e s h =
       next = tt;
       lent = rw (← next) (λ x. x);
       all_taken = take_all lane.taken lane.in_list (grind (arith, nat_tests));
-      fronted = (rw (e, length-take-le lane.taken lane.in_list sound.taken) refl, rw e (Rose-counted lane.empty_seen));
+      fronted = (rw (e, length-take-le lane.taken lane.in_list sound.taken) refl, rw e (Rose-counted lane.empty_seen t));
     }
-looks_by false lane after (Some f) l e s h =
+looks_by false lane after (Some f) l e t s h =
     let next = rw e at h in
     let sound = rw e at s in
-    absurd (none_lent lane.is_lent _ _ (λ t. let u = sound.lent t in grind (arith, nat_tests)) next)
+    absurd (none_lent lane.is_lent _ _ (λ x. let u = sound.lent x in grind (arith, nat_tests)) next)
 
-pub looks : (lane after : Lane) (r : Option FrameRef) → after ≡ looked lane → IsSoundLane after → lent_frames r ≡ (incoming after).lent → Looks lane after r
-looks lane after r e s h = looks_by (nat_lt lane.taken (length lane.in_list)) lane after r refl e s h
+pub looks : (lane after : Lane) (r : Option FrameRef) → after ≡ looked lane → lane.empty_seen < 2 ^ 64 → IsSoundLane after → lent_frames r ≡ (incoming after).lent → Looks lane after r
+looks lane after r e t s h = looks_by (nat_lt lane.taken (length lane.in_list)) lane after r refl e t s h
 
 -- another lane stays, and the written one is as written
 pub other_lane : (p : Plain) (i d : ℕ) (new : Lane) → d ≢ i → lane_at (with_lane p i new) d ≡ lane_at p d
@@ -131,10 +127,10 @@ looked-moved : (lane : Lane) → (looked lane).moved ≡ lane.moved
 looked-moved lane = either (λ (x : Lane). x.moved) (nat_lt lane.taken (length lane.in_list)) _ _ lane refl refl
 
 pub fronts : (p q : Plain) (i : ℕ) (r : Option FrameRef) → i < length p.lanes → q ≡ with_lane p i (looked (lane_at p i))
-    → IsSoundLane (lane_at q i) → lent_frames r ≡ (incoming (lane_at q i)).lent → Fronts p q i r
-fronts p q i r l e s h =
+    → (lane_at p i).empty_seen < 2 ^ 64 → IsSoundLane (lane_at q i) → lent_frames r ≡ (incoming (lane_at q i)).lent → Fronts p q i r
+fronts p q i r l e t s h =
     let there : lane_at q i ≡ looked (lane_at p i) = rw (e, same_lane p i (looked (lane_at p i)) l) refl in
-    let all = looks (lane_at p i) (lane_at q i) r there s h in
+    let all = looks (lane_at p i) (lane_at q i) r there t s h in
     record {
       gives = all.gives;
       next = all.next;

@@ -6,6 +6,7 @@ use Rattle.fab_base.specs.Counts.{Rose}
 use Rattle.fab_base.specs.declared.frames.FrameHead.{FrameHead}
 use Rattle.fab_base.specs.declared.frames.Frame.{Frame}
 use Rattle.fab_base.specs.declared.frames.FrameRef.{FrameRef}
+use Rattle.fab_wire.specs.declared.moves.Move.{Move}
 use Rattle.fab_wire.specs.Frames.{lent_frame, last_head, MayCome}
 
 -- one direction of a port towards one peer: what was posted to it
@@ -31,6 +32,16 @@ pub record Incoming : Type 0 where
   -- how many frames were taken when the count last rose
   pub empty_at : ℕ
 
+-- Both directions towards one peer as every maker of a port leaves them: no frame was posted or taken, none is lent, and
+-- no count was raised.
+pub record AreFresh (o : Outgoing) (i : Incoming) : Type 0 where
+  pub frames : o.frames ≡ []
+  pub lane_full_seen : o.lane_full_seen ≡ 0
+  pub pool_full_seen : o.pool_full_seen ≡ 0
+  pub taken : i.taken ≡ []
+  pub lent : i.lent ≡ None
+  pub empty_seen : i.empty_seen ≡ 0
+
 -- P holds of the value behind s once the result's borrow of it ends
 abbrev pub Rests : (R : RattleType) → MutBor R.Denot → (R.Denot → Type 0) → Fml
 Rests R s P = follows_so R R s.ghost_name none (λ _ _. ⊤) P
@@ -54,7 +65,7 @@ pub record Noticed (old new : Outgoing) : Type 0 where
   pub pool_full : old.pool_full_seen ≤ new.pool_full_seen
   -- `full_at` changes only with a count, and then to the number of frames posted before
   pub full_at : ((new.lane_full_seen ≡ old.lane_full_seen) × (new.pool_full_seen ≡ old.pool_full_seen) × (new.full_at ≡ old.full_at))
-      ⊎ (new.full_at ≡ length old.frames)
+      ⊎ ((Rose old.lane_full_seen new.lane_full_seen ⊎ Rose old.pool_full_seen new.pool_full_seen) × (new.full_at ≡ length old.frames))
 
 -- what `front` gave: a frame that may come next, and the one already lent where there was one
 abbrev pub Gives : Incoming → FrameRef → Type 0
@@ -70,3 +81,8 @@ Fronted old new (Some f) = new ≡ record old { lent = Some (lent_frame f) }
 -- the lent frame counts as taken
 abbrev pub advanced : Incoming → Incoming
 advanced i = elim i.lent [ None ↦ i | Some f ↦ record i { taken = i.taken ++ f ∷ []; lent = None } ]
+
+-- where moves are told, there is one more of this kind, with some number; a port that tells none goes on telling none
+abbrev pub GrewBy : (ℕ → Move) → Option (List Move) → Option (List Move) → Type 0
+GrewBy move None new = new ≡ None
+GrewBy move (Some moves) new = (number : ℕ) × (new ≡ Some (moves ++ move number ∷ []))

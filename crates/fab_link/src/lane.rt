@@ -1,5 +1,5 @@
 //! One peer's part of a plain port.
-ghost use Rattle.std.specs.Prelude.{◌≡◌, ◌≢◌, ℕ, ◌+◌, ◌<◌, ◌≤◌, ◌++◌, ◌∷◌, [], length, take, drop, true, false, IfErr, IfSome, IfNone, MatchOption, OnOk, OnErr, IsTrue};
+ghost use Rattle.std.specs.Prelude.{◌≡◌, ◌≢◌, ℕ, ◌+◌, ◌^◌, ◌<◌, ◌≤◌, ◌++◌, ◌∷◌, [], length, take, drop, true, false, IfErr, IfSome, IfNone, MatchOption, OnOk, OnErr, IsTrue};
 ghost use Rattle.fab_wire.specs.Frames.{frame, last_head, MayCome};
 ghost use Rattle.fab_link.specs.Plain.{Lane, IsSoundLane, left, incoming, looked, lent_frames, fresh_lane};
 
@@ -93,7 +93,8 @@ impl PlainLane {
 
     /// Looks for the next frame, and lends it or counts that there is none.
     pub fn look(&mut self)
-        ensures { self.new ≡ looked self.old }
+        ensures looked { self.new ≡ looked self.old }
+        ensures stored { self.old.empty_seen < 2 ^ 64 }
     {
         if self.taken < self.in_list.len() {
             self.is_lent = true;

@@ -1,7 +1,8 @@
 //! The port over lists.
-ghost use Rattle.std.specs.Prelude.{IsErrOf, ◌≡◌, ◌≢◌, ℕ, ◌+◌, ◌<◌, ◌≤◌, ◌++◌, ◌∷◌, [], length, replicate, true, false, None, Some, IfSome, IfNone, MatchOption, drop, slice_index_or, IfOk, IfErr, OnOk, OnErr, slice_set};
+ghost use Rattle.std.specs.Prelude.{IsErrOf, ◌≡◌, ◌≢◌, ℕ, ◌+◌, ◌^◌, ◌<◌, ◌≤◌, ◌++◌, ◌∷◌, [], length, replicate, true, false, None, Some, IfSome, IfNone, MatchOption, drop, slice_index_or, IfOk, IfErr, OnOk, OnErr, slice_set};
 ghost use Rattle.fab_wire.specs.Frames.{frame, last_head, MayCome, Continues};
-ghost use Rattle.fab_link.specs.Meaning.{Others, end_of, Noticed};
+ghost use Rattle.fab_wire.specs.declared.moves.Move.TheVariants.{Post};
+ghost use Rattle.fab_link.specs.Meaning.{Others, end_of, Noticed, AreFresh, GrewBy};
 ghost use Rattle.fab_base.specs.Counts.{Rose};
 ghost use Rattle.fab_link.specs.Plain.{lane_at, with_lane, left, fresh_lane, looked, lent_frames, IsSoundLane, out_of, in_of, PlainHome, home_of, take_prefix};
 
@@ -34,9 +35,10 @@ impl Model for PlainPort {
 
 impl PlainPort {
     /// The port of the peer with this number among so many peers. Its lists are empty, with no
-    /// heads before them.
+    /// heads before them, and its counts begin at 0.
     pub fn new(alloc: Global, me: u32, peers: u32) -> Result<PlainPort, NoMemory>
-        ensures { IfOk result (λ p. p ≡ record { number = me; lanes = replicate peers (fresh_lane None None) }) }
+        ensures lanes { IfOk result (λ p. p ≡ record { number = me; lanes = replicate peers (fresh_lane None None) }) }
+        ensures fresh { IfOk result (λ p. (d : ℕ) → AreFresh (out_of p d) (in_of p d)) }
     {
         let mut lanes = Vec::new(alloc);
         for _peer in 0..peers {
@@ -46,7 +48,7 @@ impl PlainPort {
     }
 
     /// A port with these heads before its lists, which are empty: by peer, the head of the last
-    /// frame that was posted to it, and of the last one that was taken of it.
+    /// frame that was posted to it, and of the last one that was taken of it. Its counts begin at 0.
     pub fn new_after(
         alloc: Global,
         me: u32,
@@ -60,6 +62,7 @@ impl PlainPort {
         ensures peers { IfOk result (λ p. length p.lanes ≡ peers) }
         ensures lanes { IfOk result (λ p. (d : ℕ) → d < peers
             → lane_at p d ≡ fresh_lane (slice_index_or out_after.now d None) (slice_index_or in_after.now d None)) }
+        ensures fresh { IfOk result (λ p. (d : ℕ) → AreFresh (out_of p d) (in_of p d)) }
     {
         let mut lanes = Vec::new(alloc);
         for peer in 0..peers {
@@ -123,7 +126,8 @@ impl PlainPort {
     /// Looks for the next frame of a peer, and lends it or counts that there is none.
     fn look(&mut self, src: u32)
         requires { src < length self.old.lanes }
-        ensures { self.new ≡ with_lane self.old src (looked (lane_at self.old src)) }
+        ensures looked { self.new ≡ with_lane self.old src (looked (lane_at self.old src)) }
+        ensures stored { (lane_at self.old src).empty_seen < 2 ^ 64 }
     {
         self.lanes[src as usize].look();
     }
@@ -161,6 +165,8 @@ impl Port for PlainPort {
 
     ghost ins = { in_of };
 
+    ghost moves = { λ _. None };
+
     ghost Home = { PlainHome };
 
     ghost home = { home_of };
@@ -191,6 +197,7 @@ impl Port for PlainPort {
             × ((out_of self.new dest).full_at ≡ length (out_of self.old dest).frames) }
         ensures no_memory { IsErrOf result PostRefused.NoMemory → false ≢ true }
         ensures noticed { Noticed (out_of self.old dest) (out_of self.new dest) }
+        ensures moves { OnOk result (GrewBy (Post dest) None None) }
         ensures others { Others dest (out_of self.old) (out_of self.new) }
         ensures incoming { in_of self.new ≡ in_of self.old }
         ensures number { self.new.number ≡ self.old.number }

@@ -4,7 +4,9 @@ ghost use Rattle.std.specs.Borrow.{sem};
 ghost use mathlib.Core.List.{IsPrefix};
 ghost use Rattle.fab_base.specs.declared.frames.Frame.{Frame};
 ghost use Rattle.fab_wire.specs.Frames.{frame, lent_frame, Continues};
-ghost use Rattle.fab_link.specs.Meaning.{Outgoing, Incoming, Rests, Others, end_of, Noticed, Gives, Fronted, advanced};
+ghost use Rattle.fab_wire.specs.declared.moves.Move.{Move};
+ghost use Rattle.fab_wire.specs.declared.moves.Move.TheVariants.{Post, Take};
+ghost use Rattle.fab_link.specs.Meaning.{Outgoing, Incoming, Rests, Others, end_of, Noticed, Gives, Fronted, advanced, GrewBy};
 ghost use Rattle.fab_base.specs.Counts.{Rose};
 
 use fab_base::{FrameHead, FrameRef};
@@ -41,6 +43,9 @@ pub trait Port {
 
     ghost ins: { Self → ℕ → Incoming };
 
+    // The order of what was posted and taken, where the port tells it: a port over threads does.
+    ghost moves: { Self → Option (List Move) };
+
     // What no call changes, and where it has in lists, the frames that came from each peer.
     ghost Home: { Type 0 };
 
@@ -75,8 +80,10 @@ pub trait Port {
             × ((outs self.new dest).full_at ≡ length (outs self.old dest).frames) }
         ensures no_memory { IsErrOf result PostRefused.NoMemory → FIXED ≢ true }
         ensures noticed { Noticed (outs self.old dest) (outs self.new dest) }
+        ensures moves { OnOk result (GrewBy (Post dest) (moves self.old) (moves self.new)) }
 
         // All else stays.
+        ensures unmoved { OnErr result (moves self.new ≡ moves self.old) }
         ensures others { Others dest (outs self.old) (outs self.new) }
         ensures incoming { ins self.new ≡ ins self.old }
         ensures number { number self.new ≡ number self.old }
@@ -104,13 +111,15 @@ pub trait Port {
             × (outs new ≡ outs self.old)
             × (number new ≡ number self.old)
             × (peer_count new ≡ peer_count self.old)
-            × (home new ≡ home self.old))) };
+            × (home new ≡ home self.old)
+            × (moves new ≡ moves self.old))) };
 
     /// Steps over the frame that [`front`](Port::front) lent last of this peer.
     fn advance(&mut self, src: u32)
         requires below { src < peer_count self.old }
         requires lent { IsSome (ins self.old src).lent }
         ensures taken { ins self.new src ≡ advanced (ins self.old src) }
+        ensures moves { GrewBy (Take src) (moves self.old) (moves self.new) }
 
         // All else stays.
         ensures others { Others src (ins self.old) (ins self.new) }

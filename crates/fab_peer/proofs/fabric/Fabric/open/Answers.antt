@@ -12,7 +12,7 @@ loop-number-preserved c = record {
   actors = ap (map actor_of) c.in_ok-push.ensures.items
       ∙ more_actors (λ (lines : _). lines.items) c.args.conf.now c.loop-number.peers.items c.in_ok-new.field-0 c.loop-number.number c.args.lists.items c.loop-number.lists.items c.take_first-lines.result.items
       c.loop-number.invariant.actors c.loop-number.invariant.rest c.take_first-lines.ensures.first c.in_ok-new.ensures.actor;
-  ports = c.in_ok-push-2.ensures.items ∙ more_ports c.args.conf.now.peers c.loop-number.number c.loop-number.ports.items c.in_ok-new-2.field-0 c.loop-number.invariant.ports c.in_ok-new-2.ensures;
+  ports = c.in_ok-push-2.ensures.items ∙ more_ports c.args.conf.now.peers c.loop-number.number c.loop-number.ports.items c.in_ok-new-2.field-0 c.loop-number.invariant.ports c.in_ok-new-2.ensures.lanes;
   schedules = rw c.in_ok-push.ensures.items (more_schedules c.loop-number.peers.items c.in_ok-new.field-0 c.loop-number.invariant.schedules c.in_ok-new.ensures.schedule);
 }
 

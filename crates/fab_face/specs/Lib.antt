@@ -1,0 +1,5 @@
+pub mod Held
+pub mod Acts
+pub mod Answers
+pub mod Ports
+pub mod Machine

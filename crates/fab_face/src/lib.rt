@@ -1,0 +1,13 @@
+//! The public face of an endpoint over any port (fi_endpoint(3)): what each call promises, said once.
+//!
+//! An endpoint is seen as the machine's state with what is unfinished beside it (`specs/Held.antt`). What a
+//! call does is a list of acts, each with its frame: the call itself, a frame taken, a frame posted, a draw, an
+//! entry read (`specs/Acts.antt`). Each call has one clause for its Ok and one for its refusal
+//! (`specs/Answers.antt`). `specs/Ports.antt` says the same words for an endpoint over a given port.
+//!
+//! Whoever stands above an endpoint is proved over these traits alone, whatever the port and the endpoint.
+#![tactic(auto)]
+
+pub mod calls;
+pub mod events;
+pub mod machine;
