@@ -1,0 +1,9 @@
+pub mod Rows
+pub mod Cells
+pub mod Orders
+pub mod Stays
+pub mod Pooled
+pub mod Places
+pub mod Sending
+pub mod Receiving
+pub mod Seating

@@ -1,0 +1,90 @@
+-- The order of one peer's moves, as it grows.
+use Rattle.std.proofs.Common.{◌≡◌, ℕ, zero, suc, ◌+◌, ◌<◌, ◌≤◌, ◌≢◌, max, eqb, cond, Bool, true, false, List, [], ◌∷◌, ◌++◌, map, length, set, get_or, sym, refl, ap, ◌∙◌, subst, arith, length-set, eq-eqb, ne_eqb, append-nil}
+use mathlib.Core.Logic.{dite}
+use mathlib.Core.List.{map-append}
+use native.Mathlib.Decide.{ℕ_discrete}
+use Rattle.fab_wire.specs.declared.moves.Move.{Move}
+use Rattle.fab_wire.specs.declared.moves.Move.TheVariants.{Post, Take}
+use Rattle.fab_wire.specs.Merged.{IsStampedAbove, posts_to, takes_of}
+use Rattle.fab_table.specs.declared.kinds.Sent.{Sent}
+use Rattle.fab_table.specs.declared.kinds.Out.{Out}
+use Rattle.fab_table.specs.declared.kinds.In.{In}
+use Rattle.fab_table.specs.declared.kinds.Part.{Part}
+use Rattle.fab_table.specs.Views.{new_out, new_in, out_at, in_at, with_out, with_in, posted_one, taken_one}
+use Rattle.fab_table.specs.Rule.{number, number_of, greatest, Kept}
+use Rattle.fab_table.proofs.Rows.{each_set}
+
+pub greatest_more : (g : ℕ) (ms : List Move) (m : Move) → greatest g (ms ++ m ∷ []) ≡ max (greatest g ms) (number_of m)
+greatest_more g [] m = refl
+greatest_more g (x ∷ xs) m = greatest_more (max g (number_of x)) xs m
+
+next_is : (g j : ℕ) → j ≡ g + 1 → j ≡ max g j
+next_is g j e = omega arith
+
+stamped_post : (g : ℕ) (ms : List Move) (d k : ℕ) → IsStampedAbove g ms → k ≡ greatest g ms + 1 → IsStampedAbove g (ms ++ Post d k ∷ [])
+stamped_post g [] d k s next = (next, tt)
+stamped_post g (Post e j ∷ xs) d k s next = (s.0, stamped_post j xs d k s.1 (next ∙ ap (λ (z : ℕ). greatest z xs + 1) (sym (next_is g j s.0))))
+stamped_post g (Take e j ∷ xs) d k s next = stamped_post (max g j) xs d k s next
+
+stamped_take : (g : ℕ) (ms : List Move) (d k : ℕ) → IsStampedAbove g ms → IsStampedAbove g (ms ++ Take d k ∷ [])
+stamped_take g [] d k s = tt
+stamped_take g (Post e j ∷ xs) d k s = (s.0, stamped_take j xs d k s.1)
+stamped_take g (Take e j ∷ xs) d k s = stamped_take (max g j) xs d k s
+
+cond_more : (b : Bool) (k : ℕ) (a t : List ℕ) → cond b (k ∷ (a ++ t)) (a ++ t) ≡ cond b (k ∷ a) a ++ t
+cond_more true k a t = refl
+cond_more false k a t = refl
+
+posts_more : (d : ℕ) (ms : List Move) (m : Move) → posts_to d (ms ++ m ∷ []) ≡ posts_to d ms ++ posts_to d (m ∷ [])
+posts_more d [] m = refl
+posts_more d (Post e k ∷ xs) m = (λ i. cond (eqb e d) (k ∷ posts_more d xs m i) (posts_more d xs m i)) ∙ cond_more (eqb e d) k (posts_to d xs) (posts_to d (m ∷ []))
+posts_more d (Take e k ∷ xs) m = posts_more d xs m
+
+takes_more : (d : ℕ) (ms : List Move) (m : Move) → takes_of d (ms ++ m ∷ []) ≡ takes_of d ms ++ takes_of d (m ∷ [])
+takes_more d [] m = refl
+takes_more d (Post e k ∷ xs) m = takes_more d xs m
+takes_more d (Take e k ∷ xs) m = (λ i. cond (eqb e d) (k ∷ takes_more d xs m i) (takes_more d xs m i)) ∙ cond_more (eqb e d) k (takes_of d xs) (takes_of d (m ∷ []))
+
+module _ (p : Part) (k : Kept p) (d : ℕ) where
+  -- a step that is no post and no take
+  pub kept_out : (o : Out) → d < length p.outs → o.posted ≡ (out_at p d).posted → Kept (with_out p d o p.moves)
+  kept_out o near same = record {
+    stamped = k.stamped;
+    posts = λ e l. each_set (λ q (z : Out). posts_to q p.moves ≡ map number z.posted) p.outs d o (new_out 0) (k.posts d near ∙ ap (map number) (sym same)) (λ q ne inside. k.posts q inside) e
+        (subst (λ (z : ℕ). e < z) (length-set p.outs d o) l);
+    takes = k.takes;
+    no_takes = k.no_takes;
+  }
+
+  pub kept_in : (u : In) → d < length p.ins → u.taken ≡ (in_at p d).taken → Kept (with_in p d u p.moves)
+  kept_in u near same = record {
+    stamped = k.stamped;
+    posts = k.posts;
+    takes = λ e l. each_set (λ q (z : In). takes_of q p.moves ≡ map number z.taken) p.ins d u new_in (k.takes d near ∙ ap (map number) (sym same)) (λ q ne inside. k.takes q inside) e
+        (subst (λ (z : ℕ). e < z) (length-set p.ins d u) l);
+    no_takes = λ s far. k.no_takes s (subst (λ (z : ℕ). z ≤ s) (length-set p.ins d u) far);
+  }
+
+  -- a post, with the next number
+  pub kept_post : (x : Sent) → d < length p.outs → x.number ≡ greatest 0 p.moves + 1 → Kept (with_out p d (posted_one (out_at p d) x) (p.moves ++ Post d x.number ∷ []))
+  kept_post x near next = let m : Move = Post d x.number in record {
+    stamped = stamped_post 0 p.moves d x.number k.stamped next;
+    posts = λ e l. each_set (λ q (z : Out). posts_to q (p.moves ++ m ∷ []) ≡ map number z.posted) p.outs d (posted_one (out_at p d) x) (new_out 0)
+        (posts_more d p.moves m ∙ (λ i. k.posts d near i ++ cond (eq-eqb d d refl i) (x.number ∷ []) []) ∙ sym (map-append number (out_at p d).posted (x ∷ [])))
+        (λ q ne inside. posts_more q p.moves m ∙ (λ i. posts_to q p.moves ++ cond (ne_eqb d q (λ e. ne (sym e)) i) (x.number ∷ []) []) ∙ append-nil (posts_to q p.moves) ∙ k.posts q inside) e
+        (subst (λ (z : ℕ). e < z) (length-set p.outs d (posted_one (out_at p d) x)) l);
+    takes = λ e l. takes_more e p.moves m ∙ append-nil (takes_of e p.moves) ∙ k.takes e l;
+    no_takes = λ s far. takes_more s p.moves m ∙ append-nil (takes_of s p.moves) ∙ k.no_takes s far;
+  }
+
+  pub kept_take : (x : Sent) → d < length p.ins → Kept (with_in p d (taken_one (in_at p d) x) (p.moves ++ Take d x.number ∷ []))
+  kept_take x near = let m : Move = Take d x.number in record {
+    stamped = stamped_take 0 p.moves d x.number k.stamped;
+    posts = λ e l. posts_more e p.moves m ∙ append-nil (posts_to e p.moves) ∙ k.posts e l;
+    takes = λ e l. each_set (λ q (z : In). takes_of q (p.moves ++ m ∷ []) ≡ map number z.taken) p.ins d (taken_one (in_at p d) x) new_in
+        (takes_more d p.moves m ∙ (λ i. k.takes d near i ++ cond (eq-eqb d d refl i) (x.number ∷ []) []) ∙ sym (map-append number (in_at p d).taken (x ∷ [])))
+        (λ q ne inside. takes_more q p.moves m ∙ (λ i. takes_of q p.moves ++ cond (ne_eqb d q (λ e. ne (sym e)) i) (x.number ∷ []) []) ∙ append-nil (takes_of q p.moves) ∙ k.takes q inside) e
+        (subst (λ (z : ℕ). e < z) (length-set p.ins d (taken_one (in_at p d) x)) l);
+    no_takes = λ s far. let far' : length p.ins ≤ s = subst (λ (z : ℕ). z ≤ s) (length-set p.ins d (taken_one (in_at p d) x)) far in
+        takes_more s p.moves m ∙ (λ i. takes_of s p.moves ++ cond (ne_eqb d s (λ e. omega arith) i) (x.number ∷ []) []) ∙ append-nil (takes_of s p.moves) ∙ k.no_takes s far';
+  }

@@ -1,0 +1,7 @@
+use Rattle.std.proofs.Common.{rules, ◌≡◌, ℕ, ◌+◌, ◌*◌, ◌<◌, ◌≤◌, sym, ap, ◌∙◌, subst, refl, arith}
+use Rattle.fab_table.specs.Views.{part_at}
+use Rattle.fab_table.proofs.Seating.{joins_parts}
+use Rattle.fab_table.proofs.fabric.Fabric.join.Goals as goal
+
+pub join_seat-requires : goal.join_seat-requires
+join_seat-requires c = (search rules, search rules, search rules, search rules, joins_parts _ _ _ _ _)

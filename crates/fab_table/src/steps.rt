@@ -1,0 +1,203 @@
+//! One function for each kind of step on a word, and none besides. No step waits, and none is tried again.
+//!
+//! `at` is the place of the peer's part in the seat's view, `me` the peer's number.
+ghost use Rattle.std.specs.Prelude.{◌≡◌, ◌≢◌, ℕ, ◌+◌, ◌*◌, ◌<◌, ◌≤◌, ◌^◌, true, false, List, [], ◌∷◌, length, None, Some};
+ghost use Rattle.atomic_table.specs.Table.{rest};
+ghost use Rattle.fab_wire.specs.Frames.{last_head, MayCome};
+ghost use Rattle.fab_table.specs.declared.kinds.Command.{Command};
+ghost use Rattle.fab_table.specs.declared.kinds.Sent.{Sent};
+ghost use Rattle.fab_table.specs.declared.kinds.Slot.{Slot};
+ghost use Rattle.fab_table.specs.declared.kinds.Slot.TheVariants.{Cell, Pool};
+ghost use Rattle.fab_table.specs.Views.{frames_of, but_first, only_first, both, left_one};
+ghost use Rattle.fab_table.specs.Rule.{said_inline, said_pooled, Says, Fills, IsBuf, greatest};
+ghost use Rattle.fab_table.specs.Plays.{ClaimsAt, FreesAt, SawGot, SawPut, learned, next_cell, oldest_cell, slot_home, post_view, take_view, shut_view, new_out_view};
+ghost use Rattle.fab_table.specs.Seats.{IsOf, IsSame, IsAt, carried, view_of_seat, sat, part_of, out_of, in_of};
+
+use crate::fabric::{Fabric, PeerSeat};
+use crate::rule::{Claims, Cut, Frees, Learns, Leaves, Posts, PostsPooled, SeeGot, SeePut, Shuts, ShutsPooled, Takes, Whole};
+
+impl Fabric {
+    /// A look at how many frames of the lane to `dest` were given back. Where there is room for one
+    /// more, the cell of the next frame comes into hand.
+    pub fn look_got(&self, seat: &mut PeerSeat, at: u64, me: u64, dest: u64) -> u64
+        requires seat { IsOf self.now seat.old × IsAt self.now seat.old at me × (dest < self.now.peers) }
+        requires idle { (out_of seat.old at dest).writing ≡ false }
+        ensures seat { IsSame seat.old seat.new }
+        ensures view { SawGot (sat seat.old) result (sat seat.new) at dest }
+    {
+        let lane = (me * self.peers + dest) as usize;
+        self.table
+            .shared
+            .load::<SeeGot>(&mut seat.seat, lane * 32 + 16)
+    }
+
+    /// A look by which that cell goes back unused.
+    pub fn leave(&self, seat: &mut PeerSeat, at: u64, me: u64, dest: u64)
+        requires seat { IsOf self.now seat.old × IsAt self.now seat.old at me × (dest < self.now.peers) }
+        requires writing { (out_of seat.old at dest).writing ≡ true }
+        requires cell { (c : Command) × (carried seat.old ≡ (next_cell (view_of_seat seat.old) at dest, Cell c) ∷ rest (carried seat.old)) }
+        ensures seat { IsSame seat.old seat.new }
+        ensures view { sat seat.new ≡ (new_out_view (view_of_seat seat.old) at dest (left_one (out_of seat.old at dest)), rest (carried seat.old)) }
+    {
+        let lane = (me * self.peers + dest) as usize;
+        self.table
+            .shared
+            .load::<Leaves>(&mut seat.seat, lane * 32 + 16);
+    }
+
+    /// One try on the slot `j` of the pool of `dest`: true where it was free and is now in hand.
+    pub fn claim(&self, seat: &mut PeerSeat, at: u64, me: u64, dest: u64, j: u64) -> bool
+        requires seat { IsOf self.now seat.old × IsAt self.now seat.old at me × (dest < self.now.peers) }
+        requires slot { (j < self.now.pool) × ((part_of seat.old at).pool ≡ self.now.pool) }
+        requires idle { (out_of seat.old at dest).claim ≡ None }
+        ensures seat { IsSame seat.old seat.new }
+        ensures view { (r : ℕ) × ((result ≡ true → r ≡ 0) × (result ≡ false → r ≢ 0)) × ClaimsAt (sat seat.old) r (sat seat.new) at dest j (dest * self.now.pool + j) }
+    {
+        let lanes = self.peers * self.peers;
+        let slot = dest * self.pool + j;
+        let word = (lanes * 32 + slot * 16) as usize;
+        let found = self.table
+            .shared
+            .compare_exchange::<Claims>(&mut seat.seat, word, 0, me + 1);
+        found == 0
+    }
+
+    /// Publishes the frame whose bytes are in the cell in hand. `put` is how many were posted before.
+    pub fn publish(&self, seat: &mut PeerSeat, at: u64, me: u64, dest: u64, put: u64)
+        requires seat { IsOf self.now seat.old × IsAt self.now seat.old at me × (dest < self.now.peers) }
+        requires writing { ((out_of seat.old at dest).writing ≡ true) × ((out_of seat.old at dest).claim ≡ None) }
+        requires count { (put ≡ length (out_of seat.old at dest).posted) × (put < 2 ^ 62) }
+        requires cell { (c : Command) × (carried seat.old ≡ (next_cell (view_of_seat seat.old) at dest, Cell c) ∷ rest (carried seat.old))
+            × (c.slot ≡ None) × (c.head.len ≤ 64)
+            × (c.number ≡ greatest 0 (part_of seat.old at).moves + 1)
+            × MayCome (last_head None (frames_of (out_of seat.old at dest).posted)) (said_inline c).frame }
+        ensures seat { IsSame seat.old seat.new }
+        ensures view { (c : Command) → carried seat.old ≡ (next_cell (view_of_seat seat.old) at dest, Cell c) ∷ rest (carried seat.old)
+            → sat seat.new ≡ (post_view (view_of_seat seat.old) at dest (said_inline c), rest (carried seat.old)) }
+    {
+        let lane = (me * self.peers + dest) as usize;
+        self.table
+            .shared
+            .store::<Posts>(&mut seat.seat, lane * 32, put + 1);
+    }
+
+    /// Publishes the frame whose command is in the cell in hand, and whose bytes are in the slot in hand.
+    pub fn publish_pooled(&self, seat: &mut PeerSeat, at: u64, me: u64, dest: u64, put: u64)
+        requires seat { IsOf self.now seat.old × IsAt self.now seat.old at me × (dest < self.now.peers) }
+        requires writing { (out_of seat.old at dest).writing ≡ true }
+        requires count { (put ≡ length (out_of seat.old at dest).posted) × (put < 2 ^ 62) }
+        requires slot { (q : ℕ) × (c : Command) × (b : List ℕ) × (carried seat.old ≡ (slot_home (view_of_seat seat.old) at q, Pool b) ∷ (next_cell (view_of_seat seat.old) at dest, Cell c) ∷ rest (rest (carried seat.old)))
+            × ((out_of seat.old at dest).claim ≡ Some q) × (c.slot ≡ Some q) × (length b ≡ 4096)
+            × (c.number ≡ greatest 0 (part_of seat.old at).moves + 1)
+            × MayCome (last_head None (frames_of (out_of seat.old at dest).posted)) (said_pooled c b).frame }
+        ensures seat { IsSame seat.old seat.new }
+        ensures view { (a : ℕ) (c : Command) (b : List ℕ) → carried seat.old ≡ (a, Pool b) ∷ (next_cell (view_of_seat seat.old) at dest, Cell c) ∷ rest (rest (carried seat.old))
+            → sat seat.new ≡ (post_view (view_of_seat seat.old) at dest (said_pooled c b), rest (rest (carried seat.old))) }
+    {
+        let lane = (me * self.peers + dest) as usize;
+        self.table
+            .shared
+            .store::<PostsPooled>(&mut seat.seat, lane * 32, put + 1);
+    }
+
+    /// A look at how many frames `src` posted. Where one is not taken, its cell, and behind that its slot, come
+    /// into hand.
+    pub fn look_put(&self, seat: &mut PeerSeat, at: u64, me: u64, src: u64) -> u64
+        requires seat { IsOf self.now seat.old × IsAt self.now seat.old at me × (src < self.now.peers) }
+        requires closed { (in_of seat.old at src).opened ≡ None }
+        ensures seat { IsSame seat.old seat.new }
+        ensures view { SawPut (sat seat.old) result (sat seat.new) at src }
+    {
+        let lane = (src * self.peers + me) as usize;
+        self.table
+            .shared
+            .load::<SeePut>(&mut seat.seat, lane * 32)
+    }
+
+    /// Frees the slot in hand, which is that of the open frame of `src`.
+    pub fn free_slot(&self, seat: &mut PeerSeat, at: u64, src: u64, slot: u64)
+        requires seat { IsOf self.now seat.old × (at < length (view_of_seat seat.old).parts) × ((part_of seat.old at).peers ≡ self.now.peers) × (src < self.now.peers) × (slot < self.now.peers * self.now.pool) }
+        requires opened { (x : Sent) × ((in_of seat.old at src).opened ≡ Some x) × (x.slot ≡ Some slot) × ((in_of seat.old at src).lent ≡ true) }
+        requires hand { (b : Slot) × IsBuf b × (carried seat.old ≡ (slot_home (view_of_seat seat.old) at slot, b) ∷ rest (carried seat.old)) }
+        ensures seat { IsSame seat.old seat.new }
+        ensures view { FreesAt (sat seat.old) (sat seat.new) at src }
+    {
+        let lanes = self.peers * self.peers;
+        let word = (lanes * 32 + slot * 16) as usize;
+        self.table.shared.store::<Frees>(&mut seat.seat, word, 0);
+    }
+
+    /// Finishes the open frame of `src`: its cell, which is in hand, goes back. `got` is how many were taken
+    /// before.
+    pub fn give_back(&self, seat: &mut PeerSeat, at: u64, me: u64, src: u64, got: u64)
+        requires seat { IsOf self.now seat.old × IsAt self.now seat.old at me × (src < self.now.peers) }
+        requires opened { (x : Sent) × ((in_of seat.old at src).opened ≡ Some x) × ((in_of seat.old at src).lent ≡ false) }
+        requires count { (got ≡ length (in_of seat.old at src).taken) × (got + 1 < 2 ^ 64) }
+        requires cell { (c : Command) × (carried seat.old ≡ (oldest_cell (view_of_seat seat.old) at src, Cell c) ∷ rest (carried seat.old)) }
+        ensures seat { IsSame seat.old seat.new }
+        ensures view { (x : Sent) → (in_of seat.old at src).opened ≡ Some x → sat seat.new ≡ (take_view (view_of_seat seat.old) at src x, rest (carried seat.old)) }
+    {
+        let lane = (src * self.peers + me) as usize;
+        self.table
+            .shared
+            .store::<Takes>(&mut seat.seat, lane * 32 + 16, got + 1);
+    }
+
+    /// A look by which the cell of the open frame of `src` goes back with its command, unfinished.
+    pub fn shut(&self, seat: &mut PeerSeat, at: u64, me: u64, src: u64)
+        requires seat { IsOf self.now seat.old × IsAt self.now seat.old at me × (src < self.now.peers) }
+        requires cell { (x : Sent) × (y : Slot) × ((in_of seat.old at src).opened ≡ Some x) × (x.slot ≡ None) × Says x y
+            × (carried seat.old ≡ (oldest_cell (view_of_seat seat.old) at src, y) ∷ rest (carried seat.old)) }
+        ensures seat { IsSame seat.old seat.new }
+        ensures view { sat seat.new ≡ (shut_view (view_of_seat seat.old) at src, rest (carried seat.old)) }
+    {
+        let lane = (src * self.peers + me) as usize;
+        self.table
+            .shared
+            .load::<Shuts>(&mut seat.seat, lane * 32);
+    }
+
+    /// The same where the frame has a slot, which goes back with its bytes.
+    pub fn shut_pooled(&self, seat: &mut PeerSeat, at: u64, me: u64, src: u64)
+        requires seat { IsOf self.now seat.old × IsAt self.now seat.old at me × (src < self.now.peers) }
+        requires places { (q : ℕ) × (x : Sent) × (y : Slot) × (b : Slot) × ((in_of seat.old at src).opened ≡ Some x) × ((in_of seat.old at src).lent ≡ true) × (x.slot ≡ Some q) × Says x y × Fills x b
+            × (carried seat.old ≡ (oldest_cell (view_of_seat seat.old) at src, y) ∷ (slot_home (view_of_seat seat.old) at q, b) ∷ rest (rest (carried seat.old))) }
+        ensures seat { IsSame seat.old seat.new }
+        ensures view { sat seat.new ≡ (shut_view (view_of_seat seat.old) at src, rest (rest (carried seat.old))) }
+    {
+        let lane = (src * self.peers + me) as usize;
+        self.table
+            .shared
+            .load::<ShutsPooled>(&mut seat.seat, lane * 32);
+    }
+
+    /// Splits the first part of a seat's view off, to a new seat.
+    pub fn split(&self, seat: &mut PeerSeat) -> PeerSeat
+        requires { IsOf self.now seat.old }
+        ensures left { IsSame seat.old seat.new × (sat seat.new ≡ (but_first (view_of_seat seat.old), carried seat.old)) }
+        ensures right { IsOf self.now result × (sat result ≡ (only_first (view_of_seat seat.old), [])) }
+    {
+        PeerSeat {
+            seat: self.table.shared.split_seat::<Cut>(&mut seat.seat),
+        }
+    }
+
+    /// Joins another seat, which has no place in hand, to this one.
+    pub fn join(&self, seat: &mut PeerSeat, other: PeerSeat)
+        requires { IsOf self.now seat.old × IsOf self.now other × (carried other ≡ []) }
+        ensures { IsSame seat.old seat.new × (sat seat.new ≡ (both (view_of_seat seat.old) (view_of_seat other), carried seat.old)) }
+    {
+        let PeerSeat { seat: spent } = other;
+        self.table
+            .shared
+            .join_seat::<Whole>(&mut seat.seat, spent);
+    }
+
+    /// A look that tells what holds of the seat's parts, and between each two of them.
+    pub fn learn(&self, seat: &mut PeerSeat)
+        requires { IsOf self.now seat.old }
+        ensures { IsSame seat.old seat.new × learned (sat seat.old) (sat seat.new) }
+    {
+        self.table.shared.load::<Learns>(&mut seat.seat, 0);
+    }
+}
