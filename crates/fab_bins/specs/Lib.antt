@@ -2,3 +2,5 @@ pub mod Each
 pub mod Chains
 pub mod Bins
 pub mod Shelf
+pub mod Numbers
+pub mod BinMatcher

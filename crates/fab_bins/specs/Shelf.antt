@@ -3,10 +3,11 @@
 --     listed cards places        the cards at these places
 --     places shelf, cards shelf  all places that are in use, in the order in which their cards came; the cards
 --     IsFiled .. key places      each chain has the places, in order, whose key is its head
---     IsKept shelf               what holds of a shelf between calls
+--     Keeps shelf places         what holds of a shelf with these places; IsKept shelf: what holds of a shelf between calls
+--     StaysIn old new            the chains are as they were
 --     HasRoom shelf              one more card may come with no memory taken
 --     IsReady shelf              there are links for all places for which there is memory
-use Rattle.std.specs.Prelude.{◌≡◌, ◌<◌, ◌-◌, ◌==◌, ◌++◌, ℕ, zero, suc, Bool, true, false, List, [], ◌∷◌, Option, Some, None, option_to_list, filter}
+use Rattle.std.specs.Prelude.{◌≡◌, ◌<◌, ◌-◌, ◌==◌, ◌++◌, ℕ, zero, suc, Bool, true, false, nat_lt, ◌&&◌, List, [], ◌∷◌, Option, Some, None, option_to_list, filter}
 use Rattle.slab.specs.Slab.{Slab, get, slab_len, HasRoomFor}
 use Rattle.fab_bins.specs.declared.chains.Chains.{Chains}
 use Rattle.fab_bins.specs.declared.shelf.Card.{Card}
@@ -20,6 +21,10 @@ abbrev pub read : ℕ → (ℕ → ℕ) → ℕ → ℕ → List ℕ
 read heads next zero node = []
 read heads next (suc n) node = (node - heads) ∷ read heads next n (next node)
 
+pub record StaysIn (old new : Chains) : Type 0 where
+  pub heads : new.heads ≡ old.heads
+  pub chains : (h : ℕ) (xs : List ℕ) → IsChain old h xs → IsChain new h xs
+
 module _ {X : Type 0} where
   abbrev pub passes : (Card X → Bool) → Option (Card X) → Bool
   passes test None = false
@@ -27,9 +32,6 @@ module _ {X : Type 0} where
 
   abbrev pub held : Slab (Card X) → (Card X → Bool) → ℕ → Bool
   held cards test place = passes test (get cards place)
-
-  abbrev pub is_held : Slab (Card X) → ℕ → Bool
-  is_held cards place = held cards (λ card. true) place
 
   abbrev pub listed : Slab (Card X) → List ℕ → List (Card X)
   listed cards [] = []
@@ -44,14 +46,22 @@ module _ {X : Type 0} where
   abbrev pub IsFiled : Chains → Slab (Card X) → (Card X → ℕ) → List ℕ → Type 0
   IsFiled chains cards key places = (h : ℕ) → h < chains.heads → IsChain chains h (filter (held cards (λ card. key card == h)) places)
 
-  pub record IsKept (shelf : Shelf X) : Type 0 where
+  -- the card's bins are among so many
+  abbrev pub is_within : ℕ → ℕ → Card X → Bool
+  is_within near wide card = nat_lt card.near near && nat_lt card.wide wide
+
+  pub record Keeps (shelf : Shelf X) (places : List ℕ) : Type 0 where
     pub some : 0 < shelf.ids.heads
-    pub all : IsChain shelf.all 0 (places shelf)
-    pub held : Each (λ place. is_held shelf.cards place ≡ true) (places shelf)
-    pub distinct : IsDistinct (places shelf)
-    pub ids : IsFiled shelf.ids shelf.cards (λ card. bin shelf.ids.heads 0 card.id 0) (places shelf)
-    pub near : IsFiled shelf.near shelf.cards (λ card. card.near) (places shelf)
-    pub wide : IsFiled shelf.wide shelf.cards (λ card. card.wide) (places shelf)
+    pub all : IsChain shelf.all 0 places
+    pub distinct : IsDistinct places
+    -- each place has a card
+    pub cards : Each (λ place. held shelf.cards (is_within shelf.near.heads shelf.wide.heads) place ≡ true) places
+    pub ids : IsFiled shelf.ids shelf.cards (λ card. bin shelf.ids.heads 0 card.id 0) places
+    pub near : IsFiled shelf.near shelf.cards (λ card. card.near) places
+    pub wide : IsFiled shelf.wide shelf.cards (λ card. card.wide) places
+
+  abbrev pub IsKept : Shelf X → Type 0
+  IsKept shelf = Keeps shelf (places shelf)
 
   abbrev pub AllCover : Shelf X → ℕ → Type 0
   AllCover shelf place = Covers shelf.all place × Covers shelf.ids place × Covers shelf.near place × Covers shelf.wide place

@@ -1,12 +1,13 @@
 //! Cards in the order in which they came, found by what they are filed under.
 ghost use Rattle.std.specs.Prelude.{◌≡◌, ◌<◌, ◌≤◌, ◌==◌, ◌&&◌, ◌++◌, ◌∷◌, ℕ, Bool, List, [], length, find, IfOk, OnOk, OnErr, Option};
 ghost use Rattle.std.specs.List.{list_any};
+ghost use Rattle.std.specs.Option.{option_and_then};
 ghost use Rattle.fab_model.specs.Matching.{remove_first};
-ghost use Rattle.slab.specs.Slab.{Slab, slab_len};
+ghost use Rattle.slab.specs.Slab.{Slab, get, slab_len};
 ghost use Rattle.fab_bins.specs.declared.shelf.Card.{Card};
-ghost use Rattle.fab_bins.specs.Each.{Each};
-ghost use Rattle.fab_bins.specs.Chains.{IsChain};
-ghost use Rattle.fab_bins.specs.Shelf.{held, is_held, cards, IsKept, IsReady, HasRoom};
+ghost use Rattle.fab_bins.specs.Bins.{bin};
+ghost use Rattle.fab_bins.specs.Chains.{IsChain, Covers};
+ghost use Rattle.fab_bins.specs.Shelf.{held, places, cards, IsKept, IsReady, HasRoom, StaysIn};
 
 use crate::bins::bin;
 use crate::chains::Chains;
@@ -44,6 +45,7 @@ pub struct Shelf<X: Drop> {
     pub wide: Chains,
 }
 
+#[derive(Drop)]
 struct HasId(u32);
 
 impl<X> Test<X> for HasId {
@@ -80,4 +82,173 @@ fn first_of<X: Drop, T: Test<X>>(cards: &Slab<Card<X>>, chains: &Chains, head: u
         node = chains.links[node as usize].next;
     }
     None
+}
+
+fn card_at<X: Copy + Drop>(cards: &Slab<Card<X>>, place: Option<usize>) -> Option<Card<X>>
+    ensures { result ≡ option_and_then (get cards.now) place }
+{
+    cards.get(place?).copied()
+}
+
+/// Makes links in four kinds of chains for the places up to this one.
+fn cover_all(
+    all: &mut Chains,
+    ids: &mut Chains,
+    near: &mut Chains,
+    wide: &mut Chains,
+    last: usize,
+) -> Result<(), NoMemory>
+    ensures all { StaysIn all.old all.new }
+    ensures ids { StaysIn ids.old ids.new }
+    ensures near { StaysIn near.old near.new }
+    ensures wide { StaysIn wide.old wide.new }
+    ensures covered { OnOk result ((place : ℕ) → place ≤ last → Covers all.new place × Covers ids.new place × Covers near.new place × Covers wide.new place) }
+{
+    all.cover(last)?;
+    ids.cover(last)?;
+    near.cover(last)?;
+    wide.cover(last)
+}
+
+impl<X: Copy + Drop> Shelf<X> {
+    /// An empty shelf with so many heads for each kind of bin, and room for so many cards.
+    pub fn new(alloc: Global, heads: u32, wide: u32, room: usize) -> Result<Shelf<X>, NoMemory>
+        requires { 0 < heads }
+        ensures kept { IfOk result (λ shelf. IsKept shelf) }
+        ensures empty { IfOk result (λ shelf. cards shelf ≡ []) }
+        ensures ready { IfOk result (λ shelf. IsReady shelf) }
+        ensures room { IfOk result (λ shelf. room ≤ shelf.cards.capacity) }
+        ensures near { IfOk result (λ shelf. shelf.near.heads ≡ heads) }
+        ensures wide { IfOk result (λ shelf. shelf.wide.heads ≡ wide) }
+    {
+        let cards = Slab::with_capacity(alloc, room)?;
+        let last = cards.capacity();
+        let mut all = Chains::new(alloc, 1)?;
+        let mut ids = Chains::new(alloc, heads)?;
+        let mut near = Chains::new(alloc, heads)?;
+        let mut wide = Chains::new(alloc, wide)?;
+        cover_all(&mut all, &mut ids, &mut near, &mut wide, last)?;
+        Ok(Shelf {
+            cards,
+            all,
+            ids,
+            near,
+            wide,
+        })
+    }
+
+    /// The first card of a bin of the first kind that passes.
+    pub fn first_near<T: Test<X>>(&self, head: u32, test: &T) -> Option<Card<X>>
+        requires kept { IsKept self.now }
+        requires head { head < self.now.near.heads }
+        ensures { result ≡ find (λ card. (card.near == head) && T.passes test.now card) (cards self.now) }
+    {
+        card_at(&self.cards, first_of(&self.cards, &self.near, head, test))
+    }
+
+    /// The first card of a bin of the second kind that passes.
+    pub fn first_wide<T: Test<X>>(&self, head: u32, test: &T) -> Option<Card<X>>
+        requires kept { IsKept self.now }
+        requires head { head < self.now.wide.heads }
+        ensures { result ≡ find (λ card. (card.wide == head) && T.passes test.now card) (cards self.now) }
+    {
+        card_at(&self.cards, first_of(&self.cards, &self.wide, head, test))
+    }
+
+    /// The first card of all that passes.
+    pub fn first<T: Test<X>>(&self, test: &T) -> Option<Card<X>>
+        requires { IsKept self.now }
+        ensures { result ≡ find (λ card. T.passes test.now card) (cards self.now) }
+    {
+        card_at(&self.cards, first_of(&self.cards, &self.all, 0, test))
+    }
+
+    fn place_of(&self, id: u32) -> Option<usize>
+        requires { IsKept self.now }
+        ensures first { result ≡ find (held self.now.cards (λ card. card.id == id)) (places self.now) }
+        ensures within { bin self.now.ids.heads 0 id 0 < self.now.ids.heads }
+    {
+        let head = bin(self.ids.heads, 0, u64::from(id), 0);
+        first_of(&self.cards, &self.ids, head, &HasId(id))
+    }
+
+    /// How many cards there are.
+    pub fn len(&self) -> usize
+        requires { IsKept self.now }
+        ensures { result ≡ length (cards self.now) }
+    {
+        self.cards.len()
+    }
+
+    /// Whether a card has this id.
+    pub fn has(&self, id: u32) -> bool
+        requires { IsKept self.now }
+        ensures { result ≡ list_any (λ card. card.id == id) (cards self.now) }
+    {
+        self.place_of(id).is_some()
+    }
+
+    /// Takes the memory that one more card needs.
+    pub fn reserve(&mut self) -> Result<(), NoMemory>
+        requires { IsKept self.old }
+        ensures kept { IsKept self.new }
+        ensures same { cards self.new ≡ cards self.old }
+        ensures room { OnOk result (HasRoom self.new) }
+        ensures near { self.new.near.heads ≡ self.old.near.heads }
+        ensures wide { self.new.wide.heads ≡ self.old.wide.heads }
+    {
+        let place = self.cards.vacant_key();
+        cover_all(
+            &mut self.all,
+            &mut self.ids,
+            &mut self.near,
+            &mut self.wide,
+            place,
+        )?;
+        self.cards.reserve(1)?;
+        Ok(())
+    }
+
+    /// Puts a card behind all others.
+    pub fn add(&mut self, card: Card<X>)
+        requires kept { IsKept self.old }
+        requires room { HasRoom self.old }
+        requires near { card.near < self.old.near.heads }
+        requires wide { card.wide < self.old.wide.heads }
+        ensures kept { IsKept self.new }
+        ensures added { cards self.new ≡ cards self.old ++ card ∷ [] }
+        ensures ready { IsReady self.old → IsReady self.new }
+        ensures capacity { self.new.cards.capacity ≡ self.old.cards.capacity }
+        ensures near { self.new.near.heads ≡ self.old.near.heads }
+        ensures wide { self.new.wide.heads ≡ self.old.wide.heads }
+    {
+        let place = self.cards.insert_reserved(card);
+        self.all.push(0, place);
+        let head = bin(self.ids.heads, 0, u64::from(card.id), 0);
+        self.ids.push(head, place);
+        self.near.push(card.near, place);
+        self.wide.push(card.wide, place);
+    }
+
+    /// Takes out the first card of this id. The others keep their order. Answers whether there was one.
+    pub fn remove(&mut self, id: u32) -> bool
+        requires { IsKept self.old }
+        ensures kept { IsKept self.new }
+        ensures there { result ≡ list_any (λ card. card.id == id) (cards self.old) }
+        ensures rest { cards self.new ≡ remove_first (λ card. card.id == id) (cards self.old) }
+        ensures ready { IsReady self.old → IsReady self.new }
+        ensures capacity { self.new.cards.capacity ≡ self.old.cards.capacity }
+        ensures near { self.new.near.heads ≡ self.old.near.heads }
+        ensures wide { self.new.wide.heads ≡ self.old.wide.heads }
+    {
+        let Some(place) = self.place_of(id) else {
+            return false;
+        };
+        self.cards.try_remove(place);
+        self.all.unlink(place);
+        self.ids.unlink(place);
+        self.near.unlink(place);
+        self.wide.unlink(place);
+        true
+    }
 }
