@@ -1,21 +1,19 @@
 -- Cards at places, and what becomes of a shelf's lists when a card comes or goes.
-use Rattle.std.proofs.Common.{◌≡◌, ◌≢◌, ◌<◌, ◌≤◌, ◌+◌, ◌==◌, ℕ, zero, suc, Bool, true, false, not, cond, ◌&&◌, List, [], ◌∷◌, ◌++◌, Option, Some, None, is_some, length, refl, sym, ap, ◌∙◌, subst, ◌⊎◌, inl, inr, arith, append_assoc}
+use Rattle.std.proofs.Common.{◌≡◌, ◌≢◌, ◌<◌, ◌==◌, ℕ, suc, Bool, true, false, cond, ◌&&◌, List, [], ◌∷◌, ◌++◌, Option, Some, None, is_some, length, refl, sym, ap, ◌∙◌, subst, ◌⊎◌, inl, inr, append_assoc}
 use Rattle.std.specs.Prelude.{find, filter, option_to_list}
 use Rattle.std.specs.List.{list_any}
 use Rattle.std.specs.Option.{option_and_then}
 use Rattle.std.proofs.lemmas.List.{append-nil}
 use Rattle.std.proofs.lemmas.List.Elements.{filter-append}
-use Rattle.std.proofs.lemmas.Bool.{eqb-true, eqb-false, eq-eqb, ne_eqb, cases_eq}
+use Rattle.std.proofs.lemmas.Bool.{eqb-false, eq-eqb, ne_eqb, cases_eq}
 use Rattle.slab.specs.Slab.{Slab, get}
 use Rattle.fab_model.specs.Matching.{remove_first}
 use Rattle.fab_bins.specs.declared.shelf.Card.{Card}
 use Rattle.fab_bins.specs.declared.chains.Chains.{Chains}
-use Rattle.fab_bins.specs.Each.{Each, Lacks, IsDistinct, others}
-use Rattle.fab_bins.specs.Chains.{IsChain, next_of}
-use Rattle.fab_bins.specs.Shelf.{passes, held, is_within, listed, read, IsFiled}
-use Rattle.fab_bins.proofs.Lists.{Each-filter, Each-map, find-filter, find-same, filter-same, In-filter, Lacks-others}
-use Rattle.fab_bins.proofs.Leading.{In}
-use Rattle.fab_bins.proofs.Walking.{read-leads}
+use Rattle.fab_bins.specs.Each.{Each, Lacks, others}
+use Rattle.fab_bins.specs.Chains.{IsChain}
+use Rattle.fab_bins.specs.Shelf.{passes, held, listed, IsFiled}
+use Rattle.fab_bins.proofs.Lists.{Each-filter, Each-map, find-filter, find-same, filter-same}
 
 module _ {X : Type 0} (cards : Slab (Card X)) where
   pub listed-append : (xs ys : List ℕ) → listed cards (xs ++ ys) ≡ listed cards xs ++ listed cards ys
@@ -54,7 +52,7 @@ module _ {X : Type 0} (cards : Slab (Card X)) where
   find-filed K T S e xs =
       find-filter (held cards K) (held cards T) xs
       ∙ find-same (λ x. held cards K x && held cards T x) (held cards S) xs
-        (each (λ x. (held cards K x && held cards T x) ≡ held cards S x) (λ x. both_pass K T (get cards x) ∙ pass_same (λ c. K c && T c) S e (get cards x)) xs)
+      (each (λ x. (held cards K x && held cards T x) ≡ held cards S x) (λ x. both_pass K T (get cards x) ∙ pass_same (λ c. K c && T c) S e (get cards x)) xs)
 
   module _ (test : Card X → Bool) where
     find_at : (x : ℕ) (c : Card X) (xs : List ℕ) (t : Bool) → test c ≡ t → get cards x ≡ Some c → option_and_then (get cards) (find (held cards test) xs) ≡ find test (listed cards xs)

@@ -1,7 +1,6 @@
 -- What holds of a shelf, and stays so.
-use Rattle.std.proofs.Common.{◌≡◌, ◌≢◌, ◌<◌, ◌≤◌, ◌+◌, ◌-◌, ◌*◌, ◌/◌, ◌%◌, ◌^◌, ◌==◌, ◌&&◌, ℕ, zero, suc, Bool, true, false, List, [], ◌∷◌, ◌++◌, Option, Some, None, is_some, length, refl, sym, ap, ◌∙◌, subst, arith, length-append}
+use Rattle.std.proofs.Common.{◌≡◌, ◌≢◌, ◌<◌, ◌≤◌, ◌+◌, ◌==◌, ◌&&◌, ℕ, zero, suc, Bool, true, false, List, [], ◌∷◌, ◌++◌, Option, Some, None, is_some, length, refl, sym, ap, ◌∙◌, subst, arith, length-append}
 use Rattle.std.specs.Prelude.{find, filter, nat_lt, not, count_by}
-use Rattle.std.specs.List.{list_any}
 use Rattle.std.specs.Option.{option_and_then}
 use Rattle.std.proofs.lemmas.Bool.{eqb-true, eq-eqb, and_right, and_parts, ltb-true, lt-ltb}
 use Rattle.slab.specs.Slab.{Slab, get, slab_len}
@@ -9,13 +8,13 @@ use Rattle.fab_model.specs.Matching.{remove_first}
 use Rattle.fab_bins.specs.declared.shelf.Card.{Card}
 use Rattle.fab_bins.specs.declared.shelf.Shelf.{Shelf}
 use Rattle.fab_bins.specs.declared.chains.Chains.{Chains}
-use Rattle.fab_bins.specs.Each.{Each, Lacks, IsDistinct, others}
+use Rattle.fab_bins.specs.Each.{Each, Lacks, others}
 use Rattle.fab_bins.specs.Chains.{IsChain, IsLinked, next_of, prev_of}
 use Rattle.fab_bins.specs.Bins.{bin}
 use Rattle.fab_bins.specs.Shelf.{passes, held, listed, read, places, cards, is_within, IsFiled, Keeps, IsKept, StaysIn}
 use Rattle.fab_bins.proofs.Leading.{In, Round-in}
 use Rattle.fab_bins.proofs.Walking.{read-leads}
-use Rattle.fab_bins.proofs.Lists.{Each-append, Each-filter, Each-both, Each-in, Each-map, IsDistinct-push, IsDistinct-others, Lacks-others, length-filter-le, In-filter, first_out, list_any-find, remove_first-none}
+use Rattle.fab_bins.proofs.Lists.{Each-append, Each-filter, Each-both, Each-in, IsDistinct-push, IsDistinct-others, Lacks-others, length-filter-le, In-filter, first_out}
 use Rattle.fab_bins.proofs.Filing.{length-listed, listed-append, listed-same, held-same, find-filed, find-listed, listed-remove_first, Lacks-vacant, IsFiled-removed, IsFiled-added}
 
 length-read : (heads : ℕ) (next : ℕ → ℕ) (n node : ℕ) → length (read heads next n node) ≡ n
@@ -47,9 +46,11 @@ module _ {X : Type 0} where
   -- a look along the chain of a key
   module _ (shelf : Shelf X) (c : Chains) (key : Card X → ℕ) (filed : IsFiled c shelf.cards key (places shelf)) (h : ℕ) (below : h < c.heads) where
     pub the_chain : (ys : List ℕ) × IsChain c h ys × (length ys ≤ slab_len shelf.cards)
-    the_chain =
-        (filter (held shelf.cards (λ card. key card == h)) (places shelf), filed h below,
-         omega (arith, length-filter-le (held shelf.cards (λ card. key card == h)) (places shelf), length-places shelf))
+    the_chain = (
+      filter (held shelf.cards (λ card. key card == h)) (places shelf),
+      filed h below,
+      omega (arith, length-filter-le (held shelf.cards (λ card. key card == h)) (places shelf), length-places shelf),
+    )
 
     module _ (T : Card X → Bool) (o : Option ℕ) (found : (ys : List ℕ) → IsChain c h ys → o ≡ find (held shelf.cards T) ys) where
       pub place_found : (S : Card X → Bool) → ((card : Card X) → ((key card == h) && T card) ≡ S card) → o ≡ find (held shelf.cards S) (places shelf)
@@ -126,8 +127,8 @@ module _ {X : Type 0} (old : Shelf X) (k : IsKept old) (place : ℕ) (vacant : g
     ids_added =
         subst (λ n. IsFiled new.ids new.cards (λ card. bin n 0 card.id 0) ys) (sym a.ids_heads)
         (IsFiled-added old.cards new.cards place a.same card a.at (places old) lacks old.ids new.ids (λ card. bin old.ids.heads 0 card.id 0) a.ids_heads
-            (subst (λ h. (ys : List ℕ) → IsChain old.ids h ys → Lacks place ys → IsChain new.ids h (ys ++ place ∷ [])) a.ids_is a.ids_joins)
-            (subst (λ k. (h : ℕ) (ys : List ℕ) → h ≢ k → IsChain old.ids h ys → Lacks place ys → IsChain new.ids h ys) a.ids_is a.ids_stay) k.ids)
+        (subst (λ h. (ys : List ℕ) → IsChain old.ids h ys → Lacks place ys → IsChain new.ids h (ys ++ place ∷ [])) a.ids_is a.ids_joins)
+        (subst (λ k. (h : ℕ) (ys : List ℕ) → h ≢ k → IsChain old.ids h ys → Lacks place ys → IsChain new.ids h ys) a.ids_is a.ids_stay) k.ids)
 
     within_new : is_within new.near.heads new.wide.heads card ≡ true
     within_new = rw (lt-ltb card.near new.near.heads (omega (arith, a.near_within, a.near_heads)), lt-ltb card.wide new.wide.heads (omega (arith, a.wide_within, a.wide_heads))) refl
@@ -136,9 +137,9 @@ module _ {X : Type 0} (old : Shelf X) (k : IsKept old) (place : ℕ) (vacant : g
     cards_added =
         Each-append (λ p. held new.cards (is_within new.near.heads new.wide.heads) p ≡ true) (places old) (place ∷ [])
         (subst (λ n. Each (λ p. held new.cards (is_within n new.wide.heads) p ≡ true) (places old)) (sym a.near_heads)
-            (subst (λ n. Each (λ p. held new.cards (is_within old.near.heads n) p ≡ true) (places old)) (sym a.wide_heads)
-                (Each-both (λ p. held new.cards (is_within old.near.heads old.wide.heads) p ≡ held old.cards (is_within old.near.heads old.wide.heads) p) (λ p. held old.cards (is_within old.near.heads old.wide.heads) p ≡ true)
-                    (λ p. held new.cards (is_within old.near.heads old.wide.heads) p ≡ true) (λ p e f. e ∙ f) (places old) (held-same old.cards new.cards place a.same (is_within old.near.heads old.wide.heads) (places old) lacks) k.cards)))
+        (subst (λ n. Each (λ p. held new.cards (is_within old.near.heads n) p ≡ true) (places old)) (sym a.wide_heads)
+        (Each-both (λ p. held new.cards (is_within old.near.heads old.wide.heads) p ≡ held old.cards (is_within old.near.heads old.wide.heads) p) (λ p. held old.cards (is_within old.near.heads old.wide.heads) p ≡ true)
+        (λ p. held new.cards (is_within old.near.heads old.wide.heads) p ≡ true) (λ p e f. e ∙ f) (places old) (held-same old.cards new.cards place a.same (is_within old.near.heads old.wide.heads) (places old) lacks) k.cards)))
         (ap (passes (is_within new.near.heads new.wide.heads)) a.at ∙ within_new, tt)
 
     added : Keeps new ys
@@ -162,7 +163,7 @@ module _ {X : Type 0} (old : Shelf X) (k : IsKept old) (place : ℕ) (vacant : g
     cards-added =
         ap (listed new.cards) (read-chain new.all (slab_len new.cards) ys added.all count_is)
         ∙ (listed-append new.cards (places old) (place ∷ [])
-          ∙ rw (listed-same old.cards new.cards place a.same (places old) lacks, a.at) refl)
+        ∙ rw (listed-same old.cards new.cards place a.same (places old) lacks, a.at) refl)
 
 -- what a shelf is once the card of a place went
 pub record Removes {X : Type 0} (old new : Shelf X) (place : ℕ) : Type 0 where
@@ -196,7 +197,7 @@ module _ {X : Type 0} (old : Shelf X) (k : IsKept old) (T : Card X → Bool) (pl
   linked_by c key filed below =
       let h = key card_there.0 in
       let passing : held old.cards (λ card. key card == key card_there.0) place ≡ true =
-        ap (passes (λ card. key card == key card_there.0)) card_there.1 ∙ eq-eqb (key card_there.0) (key card_there.0) refl in
+      ap (passes (λ card. key card == key card_there.0)) card_there.1 ∙ eq-eqb (key card_there.0) (key card_there.0) refl in
       linked c (key card_there.0) (filter (held old.cards (λ card. key card == key card_there.0)) (places old)) place (filed (key card_there.0) below)
       (In-filter (held old.cards (λ card. key card == key card_there.0)) place (places old) passing out.0)
 
@@ -228,10 +229,10 @@ module _ {X : Type 0} (old : Shelf X) (k : IsKept old) (T : Card X → Bool) (pl
     cards_removed =
         subst (λ n. Each (λ p. held new.cards (is_within n new.wide.heads) p ≡ true) rest) (sym r.near_heads)
         (subst (λ n. Each (λ p. held new.cards (is_within old.near.heads n) p ≡ true) rest) (sym r.wide_heads)
-            (Each-both (λ p. held new.cards (is_within old.near.heads old.wide.heads) p ≡ held old.cards (is_within old.near.heads old.wide.heads) p) (λ p. held old.cards (is_within old.near.heads old.wide.heads) p ≡ true)
-                (λ p. held new.cards (is_within old.near.heads old.wide.heads) p ≡ true) (λ p e f. e ∙ f) rest
-                (held-same old.cards new.cards place r.same (is_within old.near.heads old.wide.heads) rest (Lacks-others place (places old)))
-                (Each-filter (λ p. held old.cards (is_within old.near.heads old.wide.heads) p ≡ true) (λ y. not (y == place)) (places old) k.cards)))
+        (Each-both (λ p. held new.cards (is_within old.near.heads old.wide.heads) p ≡ held old.cards (is_within old.near.heads old.wide.heads) p) (λ p. held old.cards (is_within old.near.heads old.wide.heads) p ≡ true)
+        (λ p. held new.cards (is_within old.near.heads old.wide.heads) p ≡ true) (λ p e f. e ∙ f) rest
+        (held-same old.cards new.cards place r.same (is_within old.near.heads old.wide.heads) rest (Lacks-others place (places old)))
+        (Each-filter (λ p. held old.cards (is_within old.near.heads old.wide.heads) p ≡ true) (λ y. not (y == place)) (places old) k.cards)))
 
     removed : Keeps new rest
     removed = record {
@@ -254,7 +255,7 @@ module _ {X : Type 0} (old : Shelf X) (k : IsKept old) (T : Card X → Bool) (pl
     cards-removed =
         ap (listed new.cards) (read-chain new.all (slab_len new.cards) rest removed.all count_left)
         ∙ (listed-same old.cards new.cards place r.same rest (Lacks-others place (places old))
-          ∙ (ap (listed old.cards) (sym out.1) ∙ listed-remove_first old.cards T (places old)))
+        ∙ (ap (listed old.cards) (sym out.1) ∙ listed-remove_first old.cards T (places old)))
 
 -- a shelf whose chains only got more links, and whose slab more room
 module _ {X : Type 0} (old : Shelf X) (k : IsKept old) (all ids near wide : Chains) (a : StaysIn old.all all) (i : StaysIn old.ids ids) (n : StaysIn old.near near) (w : StaysIn old.wide wide) (capacity : ℕ) where

@@ -1,6 +1,5 @@
 -- What becomes of chains when a place joins one or leaves one.
-use Rattle.std.proofs.Common.{◌≡◌, ◌≢◌, ◌<◌, ◌≤◌, ◌+◌, ◌==◌, ℕ, Bool, true, false, not, cond, ◌⊎◌, inl, inr, List, [], ◌∷◌, ◌++◌, refl, sym, ap, ◌∙◌, subst, arith}
-use Rattle.std.specs.Prelude.{filter}
+use Rattle.std.proofs.Common.{◌≡◌, ◌≢◌, ◌<◌, ◌≤◌, ◌+◌, ◌==◌, ℕ, Bool, true, false, ◌⊎◌, inl, inr, List, [], ◌∷◌, ◌++◌, refl, sym, ap, ◌∙◌, subst, arith}
 use Rattle.std.proofs.lemmas.Bool.{eqb-true, eqb-false}
 use Rattle.fab_bins.specs.Each.{Lacks, others}
 use Rattle.fab_bins.specs.Chains.{Leads}
@@ -73,29 +72,32 @@ module _ (heads len : ℕ) (next prev next' prev' : ℕ → ℕ) (place : ℕ) (
 
   step : (x : ℕ) (xs : List ℕ) (t : Bool) → (x == place) ≡ t → Passed xs → Passed (x ∷ xs)
   step x xs true t more =
-      let same : heads + x ≡ heads + place = ap (λ y. heads + y) (eqb-true _ _ t) in
-      (λ a b na nb l.
-        let before : prev (heads + place) ≡ a = ap prev (sym same) ∙ l.1 in
-        let rest : Leads heads len next prev (heads + place) xs b = subst (λ k. Leads heads len next prev k xs b) same l.3 in
-        rw t (subst (λ k. Leads heads len next' prev' k (others place xs) b) before (more.1 b nb rest)),
-       λ b nb l.
-        let rest : Leads heads len next prev (heads + place) xs b = subst (λ k. Leads heads len next prev k xs b) same l.3 in
-        rw t (more.1 b nb rest))
+      let same : heads + x ≡ heads + place = ap (λ y. heads + y) (eqb-true _ _ t) in (
+        λ a b na nb l.
+            let before : prev (heads + place) ≡ a = ap prev (sym same) ∙ l.1 in
+            let rest : Leads heads len next prev (heads + place) xs b = subst (λ k. Leads heads len next prev k xs b) same l.3 in
+            rw t (subst (λ k. Leads heads len next' prev' k (others place xs) b) before (more.1 b nb rest)),
+        λ b nb l.
+            let rest : Leads heads len next prev (heads + place) xs b = subst (λ k. Leads heads len next prev k xs b) same l.3 in
+            rw t (more.1 b nb rest),
+      )
   step x xs false t more =
-      let ne : heads + x ≢ heads + place = λ same. eqb-false _ _ t (omega (arith, same)) in
-      (λ a b na nb l.
-        let inner : a ≢ prev (heads + place) = λ same. ne (sym l.0 ∙ (ap next same ∙ p.there)) in
-        let up : heads + x ≢ next (heads + place) = λ same. na (sym l.1 ∙ (ap prev same ∙ p.back)) in
-        rw t (p.next_same a inner ∙ l.0, p.prev_same (heads + x) up ∙ l.1, l.2, more.0 (heads + x) b ne nb l.3),
-       λ b nb l. rw t (p.next_is ∙ l.0, ap prev' (sym l.0) ∙ p.prev_is, l.2, more.0 (heads + x) b ne nb l.3))
+      let ne : heads + x ≢ heads + place = λ same. eqb-false _ _ t (omega (arith, same)) in (
+        λ a b na nb l.
+            let inner : a ≢ prev (heads + place) = λ same. ne (sym l.0 ∙ (ap next same ∙ p.there)) in
+            let up : heads + x ≢ next (heads + place) = λ same. na (sym l.1 ∙ (ap prev same ∙ p.back)) in
+            rw t (p.next_same a inner ∙ l.0, p.prev_same (heads + x) up ∙ l.1, l.2, more.0 (heads + x) b ne nb l.3),
+        λ b nb l. rw t (p.next_is ∙ l.0, ap prev' (sym l.0) ∙ p.prev_is, l.2, more.0 (heads + x) b ne nb l.3),
+      )
 
   passed : (xs : List ℕ) → Passed xs
-  passed [] =
-      (λ a b na nb l.
+  passed [] = (
+    λ a b na nb l.
         let inner : a ≢ prev (heads + place) = λ same. nb (sym l.0 ∙ (ap next same ∙ p.there)) in
         let up : b ≢ next (heads + place) = λ same. na (sym l.1 ∙ (ap prev same ∙ p.back)) in
         (p.next_same a inner ∙ l.0, p.prev_same b up ∙ l.1),
-       λ b nb l. (p.next_is ∙ l.0, ap prev' (sym l.0) ∙ p.prev_is))
+    λ b nb l. (p.next_is ∙ l.0, ap prev' (sym l.0) ∙ p.prev_is),
+  )
   passed (x ∷ xs) = step x xs (x == place) refl (passed xs)
 
   pub Leads-passed : (a : ℕ) (xs : List ℕ) (b : ℕ) → a ≢ heads + place → b ≢ heads + place → Leads heads len next prev a xs b → Leads heads len next' prev' a (others place xs) b

@@ -4,3 +4,4 @@ pub mod Walking
 pub mod Lists
 pub mod Filing
 pub mod Keeping
+pub mod Matching

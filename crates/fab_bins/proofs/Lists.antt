@@ -1,8 +1,8 @@
 -- Lists whose members each have something, and the first of some.
-use Rattle.std.proofs.Common.{◌≡◌, ◌≢◌, ◌<◌, ◌≤◌, ◌+◌, ◌==◌, ℕ, zero, suc, Bool, true, false, not, cond, ◌&&◌, ◌||◌, List, [], ◌∷◌, ◌++◌, Option, Some, None, is_some, length, refl, sym, ap, ◌∙◌, subst, ◌⊎◌, inl, inr, arith}
+use Rattle.std.proofs.Common.{◌≡◌, ◌≢◌, ◌≤◌, ◌+◌, ◌==◌, ℕ, Bool, true, false, not, cond, ◌&&◌, List, [], ◌∷◌, ◌++◌, Some, None, is_some, length, refl, sym, ap, ◌∙◌, subst, inl, inr, arith}
 use Rattle.std.specs.Prelude.{find, filter}
 use Rattle.std.specs.List.{list_any}
-use Rattle.std.proofs.lemmas.Bool.{eqb-true, eqb-false, eq-eqb, ne_eqb}
+use Rattle.std.proofs.lemmas.Bool.{eqb-false, eq-eqb, ne_eqb}
 use Rattle.fab_model.specs.Matching.{remove_first}
 use Rattle.fab_bins.specs.Each.{Each, Lacks, IsDistinct, others}
 use Rattle.fab_bins.proofs.Leading.{In}
@@ -158,6 +158,14 @@ module _ {X : Type 0} (test : X → Bool) where
   none_step : (x : X) (xs : List X) (t : Bool) → test x ≡ t → cond t (Some x) (find test xs) ≡ None → (find test xs ≡ None → remove_first test xs ≡ xs) → remove_first test (x ∷ xs) ≡ x ∷ xs
   none_step x xs true t e more = absurd (cc)
   none_step x xs false t e more = rw (t, remove_first) (ap (λ ys. x ∷ ys) (more e))
+
+  gone_step : (x : X) (xs : List X) (t : Bool) → test x ≡ t → length (remove_first test xs) ≤ length xs → length (remove_first test (x ∷ xs)) ≤ length (x ∷ xs)
+  gone_step x xs true t more = rw (t, remove_first) (omega arith)
+  gone_step x xs false t more = rw (t, remove_first) (omega arith)
+
+  pub length-remove_first-le : (xs : List X) → length (remove_first test xs) ≤ length xs
+  length-remove_first-le [] = omega arith
+  length-remove_first-le (x ∷ xs) = gone_step x xs (test x) refl (length-remove_first-le xs)
 
   pub remove_first-none : (xs : List X) → find test xs ≡ None → remove_first test xs ≡ xs
   remove_first-none [] e = refl

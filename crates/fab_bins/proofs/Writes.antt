@@ -1,5 +1,5 @@
 -- What the writes of `push` and `unlink` make of links.
-use Rattle.std.proofs.Common.{◌≡◌, ◌≢◌, ◌<◌, ◌≤◌, ◌+◌, ℕ, List, [], ◌∷◌, ◌++◌, length, subst, ◌⊎◌, inl, inr, ⊎_elim, refl, sym, ap, ◌∙◌, arith, set, get_or, get_or-set_same, length-append, get_or-set_other}
+use Rattle.std.proofs.Common.{◌≡◌, ◌≢◌, ◌<◌, ◌≤◌, ◌+◌, ℕ, List, [], ◌∷◌, ◌++◌, length, subst, ◌⊎◌, inl, inr, refl, sym, ap, ◌∙◌, arith, set, get_or, get_or-set_same, length-append, get_or-set_other}
 use Rattle.std.proofs.lemmas.Bool.{cases_eq, cases_lt}
 use Rattle.std.proofs.lemmas.List.{length-set, get_or_default}
 use Rattle.std.proofs.Math.ListN.{get_or-append}
@@ -50,9 +50,10 @@ alone_at ls heads h a (inl low) below =
     (ap (λ (l : Link). l.next) same ∙ a.next h low, ap (λ (l : Link). l.prev) same ∙ a.prev h low)
 alone_at ls heads h a (inr high) below =
     let end : h ≡ length ls = omega (arith, a.count, high, below) in
-    let is : heads ≡ h = omega (arith, high, below) in
-    (ap (next_of (ls ++ record { next = heads; prev = heads } ∷ [])) end ∙ (next_at_end ls (record { next = heads; prev = heads }) ∙ is),
-     ap (prev_of (ls ++ record { next = heads; prev = heads } ∷ [])) end ∙ (prev_at_end ls (record { next = heads; prev = heads }) ∙ is))
+    let is : heads ≡ h = omega (arith, high, below) in (
+      ap (next_of (ls ++ record { next = heads; prev = heads } ∷ [])) end ∙ (next_at_end ls (record { next = heads; prev = heads }) ∙ is),
+      ap (prev_of (ls ++ record { next = heads; prev = heads } ∷ [])) end ∙ (prev_at_end ls (record { next = heads; prev = heads }) ∙ is),
+    )
 
 pub AreAlone-more : (ls : List Link) (heads : ℕ) → AreAlone ls heads → AreAlone (ls ++ record { next = heads; prev = heads } ∷ []) (heads + 1)
 AreAlone-more ls heads a = record {
@@ -194,9 +195,12 @@ module _ (heads : ℕ) (ls : List Link) (head place : ℕ) (x a b : Link) (own :
 -- a chain stays where links come behind the others
 pub Chain-longer : (heads : ℕ) (old new : List Link) (len : ℕ) → IsLonger old new len → (h : ℕ) (xs : List ℕ) → Chain heads old h xs → Chain heads new h xs
 Chain-longer heads old new len i h xs c =
-    let within : h < length old = omega (arith, c.0, c.1) in
-    (c.0, omega (arith, c.1, i.more), Leads-more heads (length old) (length new) (next_of old) (prev_of old) (next_of new) (prev_of new) i.more
-        (λ k below. ap (λ (l : Link). l.next) (i.same k below)) (λ k below. ap (λ (l : Link). l.prev) (i.same k below)) h xs h within within c.2)
+    let within : h < length old = omega (arith, c.0, c.1) in (
+      c.0,
+      omega (arith, c.1, i.more),
+      Leads-more heads (length old) (length new) (next_of old) (prev_of old) (next_of new) (prev_of new) i.more
+          (λ k below. ap (λ (l : Link). l.next) (i.same k below)) (λ k below. ap (λ (l : Link). l.prev) (i.same k below)) h xs h within within c.2,
+    )
 
 -- the writes of `unlink`: x was read at the node, a before it, and b after it
 module _ (ls : List Link) (node : ℕ) (x a b : Link) where

@@ -1,27 +1,16 @@
 -- What holds of a `BinMatcher` at all times.
 --     pairs cards      each id with its item
 use Rattle.std.specs.Prelude.{◌≡◌, ◌<◌, ◌≤◌, ◌-◌, ◌^◌, ℕ, List, map, length}
-use Rattle.fab_base.specs.declared.items.Want.{Want}
-use Rattle.fab_base.specs.declared.items.Sign.{Sign}
 use Rattle.fab_match.specs.Matcher.{HasDistinctIds}
 use Rattle.fab_bins.specs.declared.shelf.Card.{Card}
-use Rattle.fab_bins.specs.declared.shelf.Shelf.{Shelf}
 use Rattle.fab_bins.specs.declared.bin_matcher.BinMatcher.TheInside.{Inside}
 use Rattle.fab_bins.specs.Each.{Each}
-use Rattle.fab_bins.specs.Bins.{exact_bin, open_bin, bin_of}
 use Rattle.fab_bins.specs.Shelf.{cards, IsKept, IsReady}
 use Rattle.fab_bins.specs.Numbers.{Rising}
+use Rattle.fab_bins.specs.Filed.{IsFiledByWant, IsFiledBySign}
 
 abbrev pub pairs : {X : Type 0} → List (Card X) → List (ℕ × X)
 pairs cards = map (λ card. (card.id, card.item)) cards
-
--- each receive stands in the bin of what it wants
-abbrev pub IsFiledByWant : ℕ → Card Want → Type 0
-IsFiledByWant heads card = card.near ≡ bin_of heads card.item
-
--- each message stands in two bins of what it shows
-abbrev pub IsFiledBySign : ℕ → Card Sign → Type 0
-IsFiledBySign heads card = (card.near ≡ exact_bin heads card.item.tagged card.item.tag card.item.source) × (card.wide ≡ open_bin heads card.item.tagged card.item.tag)
 
 pub record IsBinned (m : Inside) : Type 0 where
   pub posted : IsKept m.posted

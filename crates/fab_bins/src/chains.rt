@@ -13,8 +13,11 @@ pub struct Link {
     pub prev: u32,
 }
 
-/// Chains with heads from 0 on, each a ring through its head: the links of the heads stand first,
-/// and behind them those of the places. A place stands in one chain at most.
+/// Chains of places, with heads numbered from 0 on.
+///
+/// Each is a ring through its head, so that no write asks whether a chain is empty. The links of the
+/// heads stand first, and those of the places behind them: the node of a place is its number and that
+/// of the heads. The links of a place that is in no chain say nothing.
 #[derive(Drop)]
 pub struct Chains {
     pub heads: u32,
@@ -37,7 +40,7 @@ impl Chains {
         Ok(Chains { heads, links })
     }
 
-    /// Makes links for the places up to this one.
+    /// Makes links for the places up to this one. Want of memory leaves the chains as they are.
     pub fn cover(&mut self, last: usize) -> Result<(), NoMemory>
         ensures heads { self.new.heads ≡ self.old.heads }
         ensures covered { OnOk result ((place : ℕ) → place ≤ last → Covers self.new place) }
@@ -55,7 +58,7 @@ impl Chains {
         Ok(())
     }
 
-    /// Puts a place that is in no chain behind all others of this chain.
+    /// Puts a place that is in no chain behind all others of this chain. Takes no memory.
     pub fn push(&mut self, head: u32, place: usize)
         requires chain { (xs : List ℕ) × IsChain self.old head xs × Lacks place xs }
         requires covers { Covers self.old place }
@@ -75,7 +78,7 @@ impl Chains {
         self.links[head_at].prev = node as u32;
     }
 
-    /// Takes a place out of its chain. The others keep their order.
+    /// Takes a place out of its chain, wherever it stands there. The others keep their order.
     pub fn unlink(&mut self, place: usize)
         requires { IsLinked self.old place }
         ensures heads { self.new.heads ≡ self.old.heads }

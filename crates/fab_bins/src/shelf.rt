@@ -34,8 +34,8 @@ pub trait Test<X> {
         ensures { result ≡ passes self.now card.now };
 }
 
-/// Cards in the order in which they came, each in a chain of all, in one by its id, and in one for
-/// each of its two bins.
+/// Cards in the order in which they came. Each stands in a chain of all, in one with those whose ids
+/// have its hash, and in one for each of its two bins.
 #[derive(Drop)]
 pub struct Shelf<X: Drop> {
     pub cards: Slab<Card<X>>,
@@ -65,8 +65,13 @@ fn passes_at<X: Drop, T: Test<X>>(cards: &Slab<Card<X>>, place: usize, test: &T)
     }
 }
 
-/// The first place of a chain whose card passes.
-fn first_of<X: Drop, T: Test<X>>(cards: &Slab<Card<X>>, chains: &Chains, head: u32, test: &T) -> Option<usize>
+/// The first place of a chain whose card passes. No chain is longer than there are cards.
+fn first_of<X: Drop, T: Test<X>>(
+    cards: &Slab<Card<X>>,
+    chains: &Chains,
+    head: u32,
+    test: &T,
+) -> Option<usize>
     requires { (places : List ℕ) × IsChain chains.now head places × (length places ≤ slab_len cards.now) }
     ensures { (places : List ℕ) → IsChain chains.now head places → result ≡ find (held cards.now (λ card. T.passes test.now card)) places }
 {
@@ -111,7 +116,8 @@ fn cover_all(
 }
 
 impl<X: Copy + Drop> Shelf<X> {
-    /// An empty shelf with so many heads for each kind of bin, and room for so many cards.
+    /// An empty shelf with so many bins of the first kind and of the second, and memory for so many
+    /// cards.
     pub fn new(alloc: Global, heads: u32, wide: u32, room: usize) -> Result<Shelf<X>, NoMemory>
         requires { 0 < heads }
         ensures kept { IfOk result (λ shelf. IsKept shelf) }
@@ -188,7 +194,8 @@ impl<X: Copy + Drop> Shelf<X> {
         self.place_of(id).is_some()
     }
 
-    /// Takes the memory that one more card needs.
+    /// Takes the memory that one more card needs, until it is removed again. Want of memory leaves
+    /// the cards as they are.
     pub fn reserve(&mut self) -> Result<(), NoMemory>
         requires { IsKept self.old }
         ensures kept { IsKept self.new }
@@ -209,7 +216,7 @@ impl<X: Copy + Drop> Shelf<X> {
         Ok(())
     }
 
-    /// Puts a card behind all others.
+    /// Puts a card behind all others. Takes no memory.
     pub fn add(&mut self, card: Card<X>)
         requires kept { IsKept self.old }
         requires room { HasRoom self.old }
@@ -230,7 +237,8 @@ impl<X: Copy + Drop> Shelf<X> {
         self.wide.push(card.wide, place);
     }
 
-    /// Takes out the first card of this id. The others keep their order. Answers whether there was one.
+    /// Takes out the first card of this id, and answers whether there was one. The others keep their
+    /// order. Takes no memory.
     pub fn remove(&mut self, id: u32) -> bool
         requires { IsKept self.old }
         ensures kept { IsKept self.new }

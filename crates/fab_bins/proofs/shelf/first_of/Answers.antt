@@ -1,8 +1,8 @@
-use Rattle.std.proofs.Common.{◌≡◌, ◌<◌, ◌≤◌, ◌-◌, ◌+◌, ◌∙◌, ℕ, List, Bool, true, false, length, ap, sym, arith, subst}
+use Rattle.std.proofs.Common.{◌≡◌, ◌<◌, ◌≤◌, ◌-◌, ◌+◌, ◌∙◌, ℕ, List, true, false, length, ap, sym, arith, subst}
 use Rattle.std.specs.Prelude.{find}
 use Rattle.slab.specs.Slab.{slab_len}
 use Rattle.fab_bins.specs.declared.chains.Link.{Link}
-use Rattle.fab_bins.specs.Chains.{IsChain, Leads, next_of, prev_of}
+use Rattle.fab_bins.specs.Chains.{IsChain, next_of, prev_of}
 use Rattle.fab_bins.specs.Shelf.{held}
 use Rattle.fab_bins.proofs.Writes.{read}
 use Rattle.fab_bins.proofs.Walking.{Walks, Onward, Onward-leads, Leads-same, walks_end, walks_out, walks_first, walks_on, walks_within}
@@ -13,13 +13,16 @@ loop-init g c =
     let h : (xs : List ℕ) × IsChain c.args.chains.now c.args.head xs × (length xs ≤ slab_len c.args.cards.now) = c.requires in
     let at : c.args.head < (length c.args.chains.now.links.items) = omega (arith, h.1.0, h.1.1) in
     let first : (next_of c.args.chains.now.links.items) c.args.head ≡ c.index.result.now.next = ap (λ (l : Link). l.next) (sym (read c.args.chains.now.links.items c.args.head c.index.result.now at c.index.ensures)) in
-    let onward : Onward c.args.chains.now.heads (length c.args.chains.now.links.items) (next_of c.args.chains.now.links.items) ((next_of c.args.chains.now.links.items) c.args.head) h.0 c.args.head = Onward-leads c.args.chains.now.heads (length c.args.chains.now.links.items) (next_of c.args.chains.now.links.items) (prev_of c.args.chains.now.links.items) c.args.head h.0 c.args.head h.1.2 in
-    (h.1.0, omega arith, record {
-      rest = h.0;
-      onward = subst (λ k. Onward c.args.chains.now.heads (length c.args.chains.now.links.items) (next_of c.args.chains.now.links.items) k h.0 c.args.head) first onward;
-      short = omega (arith, h.2, c.len-end.ensures);
-      found = λ xs is. ap (find (held c.args.cards.now (λ card. g.T.Test.passes c.args.test.now card))) (Leads-same c.args.chains.now.heads (length c.args.chains.now.links.items) (next_of c.args.chains.now.links.items) (prev_of c.args.chains.now.links.items) c.args.head c.args.head xs h.0 h.1.0 is.2 h.1.2);
-    })
+    let onward : Onward c.args.chains.now.heads (length c.args.chains.now.links.items) (next_of c.args.chains.now.links.items) ((next_of c.args.chains.now.links.items) c.args.head) h.0 c.args.head = Onward-leads c.args.chains.now.heads (length c.args.chains.now.links.items) (next_of c.args.chains.now.links.items) (prev_of c.args.chains.now.links.items) c.args.head h.0 c.args.head h.1.2 in (
+      h.1.0,
+      omega arith,
+      record {
+        rest = h.0;
+        onward = subst (λ k. Onward c.args.chains.now.heads (length c.args.chains.now.links.items) (next_of c.args.chains.now.links.items) k h.0 c.args.head) first onward;
+        short = omega (arith, h.2, c.len-end.ensures);
+        found = λ xs is. ap (find (held c.args.cards.now (λ card. g.T.Test.passes c.args.test.now card))) (Leads-same c.args.chains.now.heads (length c.args.chains.now.links.items) (next_of c.args.chains.now.links.items) (prev_of c.args.chains.now.links.items) c.args.head c.args.head xs h.0 h.1.0 is.2 h.1.2);
+      },
+    )
 
 pub returns-then-node-chains : goal.returns-then-node-chains
 returns-then-node-chains g c = λ xs is. sym (walks_end c.args.chains.now.heads (length c.args.chains.now.links.items) (next_of c.args.chains.now.links.items) (held c.args.cards.now (λ card. g.T.Test.passes c.args.test.now card)) (λ xs. IsChain c.args.chains.now c.args.head xs) c.args.head c.loop.invariant.0 c.loop.node (c.len-end.result - c.loop.counter) c.loop.invariant.2 c.if-node-chains.true xs is)
@@ -41,7 +44,7 @@ loop-preserved g c =
     let before : c.loop.counter < c.len-end.result = c.loop-test.true in
     let left : c.len-end.result - c.loop.counter ≡ (c.len-end.result - (c.loop.counter + 1)) + 1 = omega arith in
     let on = walks_on c.args.chains.now.heads (length c.args.chains.now.links.items) (next_of c.args.chains.now.links.items) (held c.args.cards.now (λ card. g.T.Test.passes c.args.test.now card)) (λ xs. IsChain c.args.chains.now c.args.head xs) c.args.head c.loop.invariant.0 c.loop.node (c.len-end.result - (c.loop.counter + 1))
-        (subst (λ n. Walks c.args.chains.now.heads (length c.args.chains.now.links.items) (next_of c.args.chains.now.links.items) (held c.args.cards.now (λ card. g.T.Test.passes c.args.test.now card)) (λ xs. IsChain c.args.chains.now c.args.head xs) c.loop.node n c.args.head) left c.loop.invariant.2) c.if-node-chains.false fails in
+    (subst (λ n. Walks c.args.chains.now.heads (length c.args.chains.now.links.items) (next_of c.args.chains.now.links.items) (held c.args.cards.now (λ card. g.T.Test.passes c.args.test.now card)) (λ xs. IsChain c.args.chains.now c.args.head xs) c.loop.node n c.args.head) left c.loop.invariant.2) c.if-node-chains.false fails in
     let next : (next_of c.args.chains.now.links.items) c.loop.node ≡ c.index-in-loop.result.now.next = ap (λ (l : Link). l.next) (sym (read c.args.chains.now.links.items c.loop.node c.index-in-loop.result.now within c.index-in-loop.ensures)) in
     (c.loop.invariant.0, omega arith, subst (λ k. Walks c.args.chains.now.heads (length c.args.chains.now.links.items) (next_of c.args.chains.now.links.items) (held c.args.cards.now (λ card. g.T.Test.passes c.args.test.now card)) (λ xs. IsChain c.args.chains.now c.args.head xs) k (c.len-end.result - (c.loop.counter + 1)) c.args.head) next on)
 

@@ -14,6 +14,6 @@ returns-clause-chains c =
     let after : next_of ls node ≡ x.next = ap (λ (l : Link). l.next) (sym same) in
     Chain-passed c.args.self.now.heads ls c.args.place x c.index_mut.result.now c.index_mut-2.result.now
     (passes ls node x c.index_mut.result.now c.index_mut-2.result.now c.requires.0 c.index-link.ensures
-        (subst (λ k. k < length ls) before c.requires.2) (subst (λ k. k < length ls) after c.requires.1)
-        (ap (next_of ls) (sym before) ∙ c.requires.3) (ap (prev_of ls) (sym after) ∙ c.requires.4)
-        c.index_mut.ensures.value c.index_mut-2.ensures.value)
+    (subst (λ k. k < length ls) before c.requires.2) (subst (λ k. k < length ls) after c.requires.1)
+    (ap (next_of ls) (sym before) ∙ c.requires.3) (ap (prev_of ls) (sym after) ∙ c.requires.4)
+    c.index_mut.ensures.value c.index_mut-2.ensures.value)

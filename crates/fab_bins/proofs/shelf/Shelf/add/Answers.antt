@@ -1,6 +1,4 @@
 use Rattle.std.proofs.Common.{◌∙◌, ap}
-use Rattle.fab_bins.specs.declared.shelf.Card.{Card}
-use Rattle.fab_bins.specs.declared.shelf.Shelf.{Shelf}
 use Rattle.fab_bins.specs.Bins.{bin}
 use Rattle.fab_bins.proofs.Keeping.{can_join, Adds, IsKept-added, cards-added}
 use Rattle.fab_bins.proofs.shelf.Shelf.add.Given as given

@@ -1,8 +1,7 @@
-use Rattle.std.proofs.Common.{◌≡◌, ◌∙◌, ◌==◌, ◌+◌, ℕ, ap, sym, subst, is_some, Some, None}
+use Rattle.std.proofs.Common.{◌≡◌, ◌∙◌, ◌==◌, ◌+◌, ap, sym, subst, is_some, Some}
 use Rattle.std.specs.Option.{OnSome}
 use Rattle.std.proofs.lemmas.Bool.{eqb-true}
 use Rattle.slab.specs.Slab.{slab_len}
-use Rattle.fab_model.specs.Matching.{remove_first}
 use Rattle.fab_bins.specs.Shelf.{listed, held, places}
 use Rattle.fab_bins.proofs.Filing.{any-listed, listed-remove_first}
 use Rattle.fab_bins.proofs.Lists.{remove_first-none}

@@ -1,4 +1,4 @@
-use Rattle.std.proofs.Common.{◌≡◌, ◌≤◌, ◌∙◌, ap, refl, sym, arith}
+use Rattle.std.proofs.Common.{◌≡◌, ap, refl, arith}
 use Rattle.slab.specs.Slab.{Slab}
 use Rattle.fab_bins.proofs.Keeping.{kept_as, cards_as}
 use Rattle.fab_bins.proofs.shelf.Shelf.reserve.Goals as goal
