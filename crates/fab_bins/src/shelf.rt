@@ -20,8 +20,11 @@ use std::alloc::Global;
 pub struct Card<X> {
     pub id: u32,
     pub item: X,
+    /// The number of posting of a receive, and 0 for a message.
     pub number: u64,
+    /// The bin of the first kind, which for a message is the narrower one.
     pub near: u32,
+    /// The bin of the second kind.
     pub wide: u32,
 }
 
