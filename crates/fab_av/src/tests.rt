@@ -2,10 +2,17 @@
 use crate::Av;
 use fab_base::{Fault, Text};
 use std::alloc::Global;
+use std::process::Abort;
 use std::test::Fail;
 
-/// What an insertion of these names answers: their indices, and how many were inserted.
-fn insert(alloc: Global, av: &mut Av, names: &[&str]) -> Result<(Vec<Option<u32>>, u32), Fail> {
+/// An insertion of these names gives these indices, and tells how many were inserted.
+fn inserts(
+    rt: &impl Abort,
+    alloc: Global,
+    av: &mut Av,
+    names: &[&str],
+    want: (&[Option<u32>], u32),
+) -> Result<(), Fail> {
     let mut texts = Vec::new(alloc);
     for name in names {
         texts.push(Text::copy(alloc, name)?)?;
@@ -14,40 +21,68 @@ fn insert(alloc: Global, av: &mut Av, names: &[&str]) -> Result<(Vec<Option<u32>
         return Err("too many names")?;
     }
     let report = av.insert(&texts)?;
-    Ok((report.indices.into_vec(), report.inserted))
+    assert_eq!(rt; (report.indices.as_slice(), report.inserted), want);
+    Ok(())
+}
+
+/// A removal gives this answer.
+fn removes(rt: &impl Abort, av: &mut Av, index: u32, answer: Result<(), Fault>) {
+    assert_eq!(rt; av.remove(index), answer);
+}
+
+/// At this index stands this peer, or none.
+fn stands(rt: &impl Abort, av: &Av, index: u32, peer: Result<u32, Fault>) {
+    assert_eq!(rt; av.lookup(index), peer);
+}
+
+/// The peer has this index, or none.
+fn is_under(rt: &impl Abort, av: &Av, peer: u32, index: Option<u32>) {
+    assert_eq!(rt; av.index_of(peer), index);
 }
 
 #[test]
 fn a_peer_comes_and_goes(rt: HostRuntime) -> Result<(), Fail> {
     let alloc = rt.alloc();
     let mut av = Av::new(alloc, 2)?;
-    let (indices, inserted) = insert(alloc, &mut av, &["shm://0", "shm://1"])?;
-    assert_eq!(rt; indices.as_slice(), [Some(0), Some(1)].as_slice());
-    assert_eq!(rt; inserted, 2);
-    assert_eq!(rt; (av.lookup(1), av.index_of(1)), (Ok(1), Some(1)));
-    let (indices, _) = insert(alloc, &mut av, &["shm://1"])?;
-    assert_eq!(rt; indices.as_slice(), [Some(1)].as_slice());
-    assert_eq!(rt; av.remove(1), Ok(()));
-    assert_eq!(rt; (av.lookup(1), av.index_of(1)), (Err(Fault::NoEntry), None));
+    let first = [Some(0), Some(1)];
+    inserts(&rt, alloc, &mut av, &["shm://0", "shm://1"], (&first, 2))?;
+    stands(&rt, &av, 1, Ok(1));
+    is_under(&rt, &av, 1, Some(1));
+    inserts(&rt, alloc, &mut av, &["shm://1"], (&[Some(1)], 1))?;
+    removes(&rt, &mut av, 1, Ok(()));
+    stands(&rt, &av, 1, Err(Fault::NoEntry));
+    is_under(&rt, &av, 1, None);
     // A peer twice, a name of no peer, and one that stands already.
     let names = ["shm://1", "shm://9", "shm://1", "shm://0"];
-    let (indices, inserted) = insert(alloc, &mut av, &names)?;
-    assert_eq!(rt;
-        indices.as_slice(),
-        [Some(2), None, Some(2), Some(0)].as_slice()
-    );
-    assert_eq!(rt; inserted, 3);
-    assert_eq!(rt; av.remove(1), Err(Fault::NoEntry));
-    assert_eq!(rt; av.remove(3), Err(Fault::NoEntry));
-    assert_eq!(rt; (av.lookup(2), av.index_of(1)), (Ok(1), Some(2)));
-    assert_eq!(rt; (av.lookup(0), av.index_of(0)), (Ok(0), Some(0)));
-    assert_eq!(rt; av.index_of(2), None);
+    let indices = [Some(2), None, Some(2), Some(0)];
+    inserts(&rt, alloc, &mut av, &names, (&indices, 3))?;
+    removes(&rt, &mut av, 1, Err(Fault::NoEntry));
+    removes(&rt, &mut av, 3, Err(Fault::NoEntry));
+    stands(&rt, &av, 2, Ok(1));
+    is_under(&rt, &av, 1, Some(2));
+    stands(&rt, &av, 0, Ok(0));
+    is_under(&rt, &av, 0, Some(0));
+    is_under(&rt, &av, 2, None);
+    Ok(())
+}
+
+/// The name is that of this one of 32 peers, or of none.
+fn is_name(rt: &impl Abort, alloc: Global, name: &str, peer: Option<u32>) -> Result<(), Fail> {
+    let mut av = Av::new(alloc, 32)?;
+    let index = peer.map(|_| 0);
+    inserts(
+        rt,
+        alloc,
+        &mut av,
+        &[name],
+        (&[index], u32::from(peer.is_some())),
+    )?;
+    stands(rt, &av, 0, peer.ok_or(Fault::NoEntry));
     Ok(())
 }
 
 #[test]
 fn names_of_32_peers(rt: HostRuntime) -> Result<(), Fail> {
-    let alloc = rt.alloc();
     let rows = [
         ("shm://0", Some(0)),
         ("shm://9", Some(9)),
@@ -69,20 +104,7 @@ fn names_of_32_peers(rt: HostRuntime) -> Result<(), Fail> {
         ("shm://18446744073709551617", None),
     ];
     for (name, peer) in rows {
-        let mut av = Av::new(alloc, 32)?;
-        let (indices, inserted) = insert(alloc, &mut av, &[name])?;
-        match peer {
-            Some(peer) => {
-                assert_eq!(rt; indices.as_slice(), [Some(0)].as_slice(), "{name}");
-                assert_eq!(rt; inserted, 1);
-                assert_eq!(rt; av.lookup(0), Ok(peer), "{name}");
-            }
-            None => {
-                assert_eq!(rt; indices.as_slice(), [None].as_slice(), "{name}");
-                assert_eq!(rt; inserted, 0);
-                assert_eq!(rt; av.lookup(0), Err(Fault::NoEntry), "{name}");
-            }
-        }
+        is_name(&rt, rt.alloc(), name, peer)?;
     }
     Ok(())
 }
@@ -91,15 +113,13 @@ fn names_of_32_peers(rt: HostRuntime) -> Result<(), Fail> {
 fn indices_end_at_4096(rt: HostRuntime) -> Result<(), Fail> {
     let alloc = rt.alloc();
     let mut av = Av::new(alloc, 2)?;
-    insert(alloc, &mut av, &["shm://1"])?;
+    inserts(&rt, alloc, &mut av, &["shm://1"], (&[Some(0)], 1))?;
     for index in 1..4_096 {
-        let (indices, _) = insert(alloc, &mut av, &["shm://0"])?;
-        assert_eq!(rt; indices.as_slice(), [Some(index)].as_slice());
-        assert_eq!(rt; av.remove(index), Ok(()));
+        inserts(&rt, alloc, &mut av, &["shm://0"], (&[Some(index)], 1))?;
+        removes(&rt, &mut av, index, Ok(()));
     }
-    let (indices, inserted) = insert(alloc, &mut av, &["shm://0", "shm://1"])?;
-    assert_eq!(rt; indices.as_slice(), [None, Some(0)].as_slice());
-    assert_eq!(rt; inserted, 1);
-    assert_eq!(rt; av.index_of(0), None);
+    let last = [None, Some(0)];
+    inserts(&rt, alloc, &mut av, &["shm://0", "shm://1"], (&last, 1))?;
+    is_under(&rt, &av, 0, None);
     Ok(())
 }

@@ -1,6 +1,7 @@
 //! Regions by hand: each answer is the one that fi_mr(3) and the offsets of the region give.
 use crate::Regions;
 use fab_base::{Access, Buf, Fault};
+use std::process::Abort;
 use std::test::Fail;
 
 const READ_WRITE: Access = Access {
@@ -13,26 +14,67 @@ const READ: Access = Access {
     remote_write: false,
 };
 
+/// The region is registered.
+fn registers(rt: &impl Abort, regions: &mut Regions, key: u64, access: Access, buf: Buf) {
+    assert!(rt; regions.reg(key, access, buf).is_ok());
+}
+
+/// The key is in use, and the buffer comes back.
+fn refuses(rt: &impl Abort, regions: &mut Regions, key: u64, buf: Buf, bytes: &[u8]) {
+    let back = match regions.reg(key, READ, buf) {
+        Ok(()) => None,
+        Err(refused) => Some((refused.why, refused.buf)),
+    };
+    assert!(rt; back.is_some_and(|(why, buf)| why == Fault::NoKey && buf.as_slice() == bytes));
+}
+
+/// A write gives this answer.
+fn writes(
+    rt: &impl Abort,
+    regions: &mut Regions,
+    put: (u64, u64, &[u8]),
+    answer: Result<(), Fault>,
+) {
+    let (key, at, src) = put;
+    assert_eq!(rt; regions.put(key, at, src), answer, "{key} {at}");
+}
+
+/// The region has these bytes, or there is none.
+fn has_bytes(rt: &impl Abort, regions: &Regions, key: u64, bytes: Option<&[u8]>) {
+    assert_eq!(rt; regions.bytes(key), bytes);
+}
+
+/// The region has these rights, or there is none.
+fn has_access(rt: &impl Abort, regions: &Regions, key: u64, access: Option<Access>) {
+    assert_eq!(rt; regions.access(key), access);
+}
+
+/// A region is closed and gives its bytes back, or there is none.
+fn closes(rt: &impl Abort, regions: &mut Regions, key: u64, bytes: Result<&[u8], Fault>) {
+    let closed = regions.close(key);
+    let found = match &closed {
+        Ok(buf) => Ok(buf.as_slice()),
+        Err(why) => Err(*why),
+    };
+    assert_eq!(rt; found, bytes);
+}
+
 #[test]
 fn a_region_is_registered_written_and_closed(rt: HostRuntime) -> Result<(), Fail> {
     let alloc = rt.alloc();
     let mut regions = Regions::new(alloc);
-    assert!(rt; regions.reg(10, READ_WRITE, Buf::zeros(alloc, 8)?).is_ok());
-    assert!(rt; regions.reg(u64::MAX, READ, Buf::copy(alloc, b"x")?).is_ok());
-    assert_eq!(rt; regions.put(10, 4, b"abcd"), Ok(()));
-    assert_eq!(rt; regions.bytes(10), Some(b"\0\0\0\0abcd".as_slice()));
-    let Err(refused) = regions.reg(10, READ, Buf::copy(alloc, b"z")?) else {
-        return Err("a key in use was registered")?;
-    };
-    assert_eq!(rt; refused.why, Fault::NoKey);
-    assert_eq!(rt; refused.buf.as_slice(), b"z".as_slice());
-    assert_eq!(rt; regions.access(10), Some(READ_WRITE));
-    assert_eq!(rt; regions.access(u64::MAX), Some(READ));
-    assert_eq!(rt; regions.access(0), None);
-    assert_eq!(rt; regions.close(0), Err(Fault::NoKey));
-    assert_eq!(rt; regions.close(10)?.as_slice(), b"\0\0\0\0abcd".as_slice());
-    assert_eq!(rt; regions.bytes(10), None);
-    assert_eq!(rt; regions.bytes(u64::MAX), Some(b"x".as_slice()));
+    registers(&rt, &mut regions, 10, READ_WRITE, Buf::zeros(alloc, 8)?);
+    registers(&rt, &mut regions, u64::MAX, READ, Buf::copy(alloc, b"x")?);
+    writes(&rt, &mut regions, (10, 4, b"abcd"), Ok(()));
+    has_bytes(&rt, &regions, 10, Some(b"\0\0\0\0abcd"));
+    refuses(&rt, &mut regions, 10, Buf::copy(alloc, b"z")?, b"z");
+    has_access(&rt, &regions, 10, Some(READ_WRITE));
+    has_access(&rt, &regions, u64::MAX, Some(READ));
+    has_access(&rt, &regions, 0, None);
+    closes(&rt, &mut regions, 0, Err(Fault::NoKey));
+    closes(&rt, &mut regions, 10, Ok(b"\0\0\0\0abcd"));
+    has_bytes(&rt, &regions, 10, None);
+    has_bytes(&rt, &regions, u64::MAX, Some(b"x"));
     Ok(())
 }
 
@@ -40,7 +82,7 @@ fn a_region_is_registered_written_and_closed(rt: HostRuntime) -> Result<(), Fail
 fn a_write_ends_within_the_region(rt: HostRuntime) -> Result<(), Fail> {
     let alloc = rt.alloc();
     let mut regions = Regions::new(alloc);
-    assert!(rt; regions.reg(0, READ, Buf::zeros(alloc, 8)?).is_ok());
+    registers(&rt, &mut regions, 0, READ, Buf::zeros(alloc, 8)?);
     let table: [(u64, u64, &[u8], Result<(), Fault>); 8] = [
         (0, 4, b"wxyzv", Err(Fault::Range)),
         (0, 8, b"", Ok(())),
@@ -52,8 +94,8 @@ fn a_write_ends_within_the_region(rt: HostRuntime) -> Result<(), Fail> {
         (1, 0, b"", Err(Fault::NoKey)),
     ];
     for (key, at, src, answer) in table {
-        assert_eq!(rt; regions.put(key, at, src), answer, "{key} {at}");
-        assert_eq!(rt; regions.bytes(0), Some([0; 8].as_slice()));
+        writes(&rt, &mut regions, (key, at, src), answer);
+        has_bytes(&rt, &regions, 0, Some(&[0; 8]));
     }
     Ok(())
 }
