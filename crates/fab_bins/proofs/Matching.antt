@@ -13,7 +13,7 @@ use Rattle.fab_base.specs.declared.items.Sign.{Sign}
 use Rattle.fab_model.specs.Matching.{is_tagged, is_message, remove_first, source_fits, tag_fits}
 use Rattle.fab_match.specs.Signs.{fits, message_kind}
 use Rattle.fab_match.specs.Matcher.{first_id, has_id, without, HasDistinctIds}
-use Rattle.fab_match.proofs.Firsts.{remove_first_at, remove_first-none, list_any-none}
+use Rattle.fab_model.proofs.Firsts.{remove_first_at, remove_first-none, list_any-none}
 use Rattle.fab_bins.specs.declared.shelf.Card.{Card}
 use Rattle.fab_bins.specs.declared.bins.Filing.{Filing}
 use Rattle.fab_bins.specs.declared.bins.Filing.TheVariants.{Exact, Open, Masked}

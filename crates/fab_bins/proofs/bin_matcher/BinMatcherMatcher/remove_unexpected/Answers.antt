@@ -1,6 +1,6 @@
 use Rattle.std.proofs.Common.{◌≡◌, ◌==◌, ◌<◌, ◌∙◌, ap, sym, subst, false}
 use Rattle.fab_match.specs.Matcher.{Store, has_id, without, HasDistinctIds}
-use Rattle.fab_match.proofs.Firsts.{remove_first-none as unchanged}
+use Rattle.fab_model.proofs.Firsts.{remove_first-none as unchanged}
 use Rattle.fab_match.proofs.Pairs.{has_id-without}
 use Rattle.fab_bins.specs.Each.{Each}
 use Rattle.fab_bins.specs.Shelf.{cards}
