@@ -1,7 +1,7 @@
 //! Atomics by a table whose elements were computed outside this program, and by hand.
 //!
-//! The rows of [`ROWS`] come from a Python script that computes with Python's integers of any size:
-//! `min(t, b)`, `t + b`, `t | b`, `b if c <= t else t`, `(b & c) | (t & ~c)` and so on, for `t` and `b`
+//! The rows of [`PLAIN`], [`SWAPS`] and [`MASKED`] come from a Python script that computes with
+//! Python's integers of any size: `min(t, b)`, `t + b`, `t | b`, `b if c <= t else t`, `(b & c) | (t & ~c)` and so on, for `t` and `b`
 //! over the values 0, 1, the greatest, the least and -1 (0, 1 and the greatest where the type is not
 //! signed), `b` fastest, taken modulo 2 to the number of bits. A letter names each element: `0`, `1`,
 //! `2`, `G` the greatest, `g` one less, `L` the least, `l` one more, `M` -1 and `N` -2. The script
@@ -11,23 +11,42 @@ ghost use Rattle.fab_atomics.specs.Operands.{operand_len, compare_len};
 
 use crate::{apply, element_size};
 use fab_base::{AtomicOp, Num};
+use std::alloc::Global;
+use std::process::Abort;
 use std::test::Fail;
 
-/// The types, each with the ones of its bits, and whether it is signed.
-const NUMS: [(Num, u64, bool); 8] = [
-    (Num::I8, 0xff, true),
-    (Num::I16, 0xffff, true),
-    (Num::I32, 0xffff_ffff, true),
-    (Num::I64, u64::MAX, true),
-    (Num::U8, 0xff, false),
-    (Num::U16, 0xffff, false),
-    (Num::U32, 0xffff_ffff, false),
-    (Num::U64, u64::MAX, false),
+/// The types.
+const NUMS: [Num; 8] = [
+    Num::I8,
+    Num::I16,
+    Num::I32,
+    Num::I64,
+    Num::U8,
+    Num::U16,
+    Num::U32,
+    Num::U64,
 ];
+
+/// The ones of a type's bits, and whether it is signed.
+fn ones_of(num: Num) -> (u64, bool) {
+    match num {
+        Num::I8 => (0xff, true),
+        Num::I16 => (0xffff, true),
+        Num::I32 => (0xffff_ffff, true),
+        Num::I64 => (u64::MAX, true),
+        Num::U8 => (0xff, false),
+        Num::U16 => (0xffff, false),
+        Num::U32 => (0xffff_ffff, false),
+        Num::U64 => (u64::MAX, false),
+    }
+}
 
 /// The operation, the place of the compare's element among the values, and the letters of the new
 /// elements for signed and for unsigned types. An operation that does not compare has one row.
-const ROWS: [(AtomicOp, usize, &[u8], &[u8]); 47] = [
+type Row = (AtomicOp, usize, &'static [u8], &'static [u8]);
+
+/// What does not compare.
+const PLAIN: [Row; 12] = [
     (AtomicOp::Min, 0, b"000LM011LM01GLMLLLLLMMMLM", b"00001101G"),
     (AtomicOp::Max, 0, b"01G0011G11GGGGG01GLM01GMM", b"01G11GGGG"),
     (AtomicOp::Sum, 0, b"01GLM12Ll0GLNMgLlM0GM0gGN", b"01G120G0g"),
@@ -75,6 +94,10 @@ const ROWS: [(AtomicOp, usize, &[u8], &[u8]); 47] = [
         b"01GLM01GLM01GLM01GLM01GLM",
         b"01G01G01G",
     ),
+];
+
+/// What compares first.
+const SWAPS: [Row; 30] = [
     (
         AtomicOp::Cswap,
         0,
@@ -195,6 +218,10 @@ const ROWS: [(AtomicOp, usize, &[u8], &[u8]); 47] = [
     ),
     (AtomicOp::CswapGt, 3, b"0000011111GGGGGLLLLLMMMMM", b""),
     (AtomicOp::CswapGt, 4, b"0000011111GGGGG01GLMMMMMM", b""),
+];
+
+/// A swap under a mask.
+const MASKED: [Row; 5] = [
     (
         AtomicOp::Mswap,
         0,
@@ -276,37 +303,57 @@ fn letter(x: u64, ones: u64, is_signed: bool) -> u8 {
     }
 }
 
-#[test]
-fn elements_are_those_of_the_table(rt: HostRuntime) -> Result<(), Fail> {
-    for (line, (op, place, signed, unsigned)) in ROWS.into_iter().enumerate() {
-        for (num, ones, is_signed) in NUMS {
-            let values = [0, 1, ones / 2, ones / 2 + 1, ones];
-            let values = if is_signed {
-                values
-            } else {
-                [0, 1, ones, ones, ones]
-            };
-            let count = if is_signed { 5 } else { 3 };
-            let row = if is_signed { signed } else { unsigned };
-            if place >= count {
-                continue;
-            }
-            let mut letters = Vec::new(rt.alloc());
-            for t in &values[..count] {
-                for b in &values[..count] {
-                    let (new, old) = one(op, num, *t, *b, values[place]);
-                    assert_eq!(rt; old, *t);
-                    letters.push(letter(new, ones, is_signed))?;
-                }
-            }
-            assert_eq!(rt;
-                letters.as_slice(),
-                row,
-                "row {line}, up to {ones}, signed: {is_signed}"
-            );
+/// The letters of the new elements, of an operation with this element to compare with. The old ones are handed back.
+fn letters(
+    rt: &impl Abort,
+    alloc: Global,
+    op: AtomicOp,
+    num: Num,
+    values: &[u64],
+    compare: u64,
+) -> Result<Vec<u8>, Fail> {
+    let (ones, is_signed) = ones_of(num);
+    let mut letters = Vec::new(alloc);
+    for t in values {
+        for b in values {
+            let (new, old) = one(op, num, *t, *b, compare);
+            assert!(rt; old == *t);
+            letters.push(letter(new, ones, is_signed))?;
+        }
+    }
+    Ok(letters)
+}
+
+/// The elements of one type are those of a row, where the place of the compare is one of its values.
+fn is_row(rt: &impl Abort, alloc: Global, row: &Row, num: Num) -> Result<(), Fail> {
+    let (op, place, signed, unsigned) = *row;
+    let (ones, is_signed) = ones_of(num);
+    let want = if is_signed { signed } else { unsigned };
+    let all = [0, 1, ones / 2, ones / 2 + 1, ones];
+    let few = [0, 1, ones];
+    let values: &[u64] = if is_signed { &all } else { &few };
+    if place < values.len() {
+        let found = letters(rt, alloc, op, num, values, values[place])?;
+        assert!(rt; found.as_slice() == want, "place {place}, up to {ones}");
+    }
+    Ok(())
+}
+
+/// The elements of each type are those of each row.
+fn are_rows(rt: &impl Abort, alloc: Global, rows: &[Row]) -> Result<(), Fail> {
+    for row in rows {
+        for num in &NUMS {
+            is_row(rt, alloc, row, *num)?;
         }
     }
     Ok(())
+}
+
+#[test]
+fn elements_are_those_of_the_table(rt: HostRuntime) -> Result<(), Fail> {
+    are_rows(&rt, rt.alloc(), &PLAIN)?;
+    are_rows(&rt, rt.alloc(), &SWAPS)?;
+    are_rows(&rt, rt.alloc(), &MASKED)
 }
 
 #[test]
