@@ -1,0 +1,4 @@
+pub mod Table
+pub mod Arriving
+pub mod Results
+pub mod Stored

@@ -1,0 +1,35 @@
+//! What is stored of receives, of unexpected messages, and of items that are not whole.
+use fab_base::{Buf, ItemHead};
+
+/// A receive: its buffer with the bytes that came so far.
+#[derive(Drop)]
+pub struct Seat {
+    pub buf: Buf,
+    pub ctx: u64,
+}
+
+/// A message that no receive took. It has its bytes once it is whole.
+#[derive(Drop)]
+pub struct Parcel {
+    pub source: u32,
+    pub head: ItemHead,
+    pub bytes: Option<Buf>,
+}
+
+/// Where the bytes of an item go: into a receive, to a message that is kept under an id, nowhere, or
+/// into a buffer of their own, as those of a request or an answer.
+#[derive(Drop)]
+pub enum Way {
+    Into(Seat),
+    Keep { id: u32, bytes: Vec<u8> },
+    Throw,
+    Gather(Vec<u8>),
+}
+
+/// An item that has arrived and is not whole. `got` is how many of its bytes came.
+#[derive(Drop)]
+pub struct Begun {
+    pub head: ItemHead,
+    pub got: u32,
+    pub way: Way,
+}
