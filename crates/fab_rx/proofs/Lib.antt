@@ -1,1 +1,8 @@
 pub mod Tables
+pub mod Pasting
+pub mod Completing
+pub mod Tying
+pub mod Keeping
+pub mod Growing
+pub mod Posting
+pub mod Known

@@ -2,6 +2,7 @@
 --     Sits seats p r         the posted receive r is the pair p of the matching store
 --     Lies parcels coming p a      the unexpected message a is the pair p of the matching store
 --     IsWay parcels source stored coming item      what is stored of the item of this source that has arrived and is not whole
+--     HasRoomFor n stored    so many more of its bytes may come
 --     IsKept                 all of it
 use Rattle.std.specs.Prelude.{◌≡◌, ℕ, ◌+◌, ◌<◌, ◌≤◌, true, List, [], length, Option, Some, None, slice_index, slice_index_or, vec_capacity}
 use Rattle.std.specs.List.{AllZip}
@@ -85,6 +86,24 @@ pub record IsComing (parcels : Cells Parcel) (source : ℕ) (b : Begun) (c : Com
 abbrev pub IsWay : Cells Parcel → ℕ → Option Begun → Option Coming → Option Item → Type 0
 IsWay parcels source None c i = (c ≡ None) × (i ≡ None)
 IsWay parcels source (Some b) c i = (way : Coming) × (item : Item) × (c ≡ Some way) × (i ≡ Some item) × IsComing parcels source b way item
+
+-- how many completions its end writes
+abbrev pub entries_by : Way → ℕ
+entries_by (Into seat) = 1
+entries_by (Keep id bytes) = 0
+entries_by Throw = 0
+entries_by (Gather bytes) = 0
+
+-- so many more bytes of the item have room
+abbrev pub WayHasRoomFor : ℕ → Way → Type 0
+WayHasRoomFor n (Into seat) = Unit {0}
+WayHasRoomFor n (Keep id bytes) = length bytes.items + n ≤ vec_capacity bytes
+WayHasRoomFor n Throw = Unit {0}
+WayHasRoomFor n (Gather bytes) = length bytes.items + n ≤ vec_capacity bytes
+
+pub record HasRoomFor (n : ℕ) (b : Begun) : Type 0 where
+  pub total : b.got + n ≤ b.head.total
+  pub way : WayHasRoomFor n b.way
 
 -- ---- all of it
 

@@ -1,4 +1,7 @@
 //! What is stored of receives, of unexpected messages, and of items that are not whole.
+ghost use Rattle.std.specs.Prelude.{◌≡◌};
+ghost use Rattle.fab_rx.specs.Stored.{entries_by};
+
 use fab_base::{Buf, ItemHead};
 
 /// A receive: its buffer with the bytes that came so far.
@@ -32,4 +35,16 @@ pub struct Begun {
     pub head: ItemHead,
     pub got: u32,
     pub way: Way,
+}
+
+impl Begun {
+    /// How many completions its end writes.
+    pub fn entries(&self) -> u32
+        ensures { result ≡ entries_by self.now.way }
+    {
+        match self.way {
+            Way::Into(_) => 1,
+            Way::Keep { .. } | Way::Throw | Way::Gather(_) => 0,
+        }
+    }
 }

@@ -1,0 +1,6 @@
+use Rattle.fab_rx.proofs.Known.{opens}
+use Rattle.fab_rx.proofs.inbox.Inbox.new.Goals as goal
+
+pub invariant_of-result : goal.invariant_of-result
+invariant_of-result g c =
+    rw c.in_ok-past.ensures (opens c.args.peers c.args.most _ _ _ _ _ _ c.in_ok-matcher.ensures.posted c.in_ok-matcher.ensures.unexpected c.in_ok-matcher.ensures.room c.in_ok-seats.ensures c.in_ok-coming.ensures)
