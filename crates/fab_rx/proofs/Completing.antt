@@ -1,5 +1,5 @@
 -- A receive's buffer fills as bytes come, and its completion tells what they were.
-use Rattle.std.proofs.Common.{◌≡◌, ℕ, ◌+◌, ◌-◌, ◌≤◌, ◌<◌, Bool, true, false, List, ◌++◌, length, Option, Some, None, nat_le, refl, sym, ap, ◌∙◌, arith, length-append}
+use Rattle.std.proofs.Common.{◌≡◌, ℕ, ◌+◌, ◌-◌, ◌≤◌, ◌<◌, true, false, List, length, Option, Some, None, refl, ap, arith, length-append}
 use Rattle.std.proofs.lemmas.Bool.Decides.{nat_tests}
 use Rattle.fab_base.specs.declared.items.Item.{Item}
 use Rattle.fab_base.specs.declared.items.ItemHead.{ItemHead}
@@ -8,7 +8,6 @@ use Rattle.fab_base.specs.declared.entries.Entry.TheVariants.{Received}
 use Rattle.fab_base.specs.declared.entries.ErrKind.TheVariants.{Truncated}
 use Rattle.fab_base.specs.declared.operations.Receive.{Receive}
 use Rattle.fab_base.specs.declared.operations.Coming.{Coming}
-use Rattle.fab_base.specs.declared.operations.Coming.TheVariants.{Into as IntoReceive}
 use Rattle.fab_model.specs.Complete.{entry_of, received, truncated, paste, has_space, tag_of}
 use Rattle.fab_rx.specs.declared.results.Completed.{Completed}
 use Rattle.fab_rx.specs.declared.stored.Seat.{Seat}
@@ -55,11 +54,11 @@ module _ (r : Receive) (single : IsSingle r) (source : ℕ) (head : ItemHead) (b
     -- it does not
     pub completed_short : (len : ℕ) → len ≡ length seat.buf → len < head.total
         → ◌≡◌ {A = Completed} (record {
-            entry = Failure (record { ctx = Some seat.ctx; kind = Truncated; source = Some source; tag = tag; imm = head.imm; at = None; len = len; olen = head.total - len; buf = Some seat.buf });
-            good = false;
-            source = source;
-            head = head;
-          }) (completed r 0 source head bytes)
+          entry = Failure (record { ctx = Some seat.ctx; kind = Truncated; source = Some source; tag = tag; imm = head.imm; at = None; len = len; olen = head.total - len; buf = Some seat.buf });
+          good = false;
+          source = source;
+          head = head;
+        }) (completed r 0 source head bytes)
     completed_short len e lt =
         let same = long in
         let space : has_space r 0 head ≡ false = grind (arith, nat_tests) in

@@ -1,20 +1,16 @@
 -- What is stored stays true as bytes come and items end.
-use Rattle.std.proofs.Common.{◌≡◌, ◌≢◌, ◌⊎◌, inl, inr, ℕ, ◌+◌, ◌-◌, ◌<◌, ◌≤◌, ◌==◌, Bool, true, false, List, [], ◌∷◌, ◌++◌, length, map, Option, Some, None, get_or, set, refl, sym, ap, subst, ◌∙◌, arith, length-set}
+use Rattle.std.proofs.Common.{◌≡◌, ◌≢◌, ◌⊎◌, inl, inr, ℕ, ◌+◌, ◌<◌, ◌==◌, Bool, true, false, List, length, Option, Some, None, get_or, set, refl, sym, ap, subst, ◌∙◌, arith, length-set}
 use Rattle.std.specs.Prelude.{IsSomeAnd, Vec}
-use Rattle.std.specs.Option.{option_map}
-use Rattle.std.specs.List.{AllZip}
 use Rattle.std.proofs.lemmas.Bool.{eqb-true, eq-eqb}
-use Rattle.std.proofs.lemmas.List.{get_or-set_other, get_or-set_same, set-get_or, set-set}
+use Rattle.std.proofs.lemmas.List.{set-get_or, set-set}
 use Rattle.fab_base.specs.declared.items.Item.{Item}
-use Rattle.fab_base.specs.declared.items.ItemHead.{ItemHead}
 use Rattle.fab_base.specs.declared.items.Kind.{Kind}
 use Rattle.fab_base.specs.declared.items.Kind.TheVariants.{Msg, TagMsg, WriteReq, ReadReq, AtomicReq, Reply}
 use Rattle.fab_base.specs.declared.items.Want.{Want}
 use Rattle.fab_base.specs.declared.items.Sign.{Sign}
-use Rattle.fab_base.specs.declared.operations.Receive.{Receive}
 use Rattle.fab_base.specs.declared.operations.Arrival.{Arrival}
 use Rattle.fab_base.specs.declared.operations.Coming.{Coming}
-use Rattle.fab_base.specs.declared.operations.Coming.TheVariants.{Into as IntoReceive, Keep as KeepIt}
+use Rattle.fab_base.specs.declared.operations.Coming.TheVariants.{Keep as KeepIt}
 use Rattle.fab_model.specs.State.{Receiving, coming_from, raise}
 use Rattle.fab_model.specs.Arrivals.{completed as whole_now, keeping, made_whole, way_of}
 use Rattle.fab_rx.specs.declared.stored.Seat.{Seat}
@@ -24,10 +20,10 @@ use Rattle.fab_rx.specs.declared.stored.Way.TheVariants.{Into, Keep, Throw, Gath
 use Rattle.fab_rx.specs.declared.stored.Begun.{Begun}
 use Rattle.fab_rx.specs.Table.{Cells, at}
 use Rattle.fab_rx.specs.Arriving.{Arriving, begun_of, bytes_come, count_begun, finishing, growing, kept as kept_by, lengthened}
-use Rattle.fab_rx.specs.Stored.{GoesBy, IsComing, IsKept, IsKeptAs, IsKeptWay, IsWay, Lies, Sits, parcel_of, parcel_without}
+use Rattle.fab_rx.specs.Stored.{GoesBy, IsComing, IsKept, IsKeptAs, IsKeptWay, IsWay, Lies, parcel_of, parcel_without}
 use Rattle.fab_rx.proofs.Tables.{id_within}
 use Rattle.fab_rx.proofs.Tying.{same_or, retied, retied_map}
-use Rattle.fab_rx.proofs.Keeping.{IsStored, at_other, at_same, counts_set, lies_at, lies_set, row, some_stored, way_stays, ways_set}
+use Rattle.fab_rx.proofs.Keeping.{IsStored, at_other, at_same, counts_set, lies_at, lies_set, row, some_stored, ways_set}
 
 -- there is an item where a fact of one is asked for
 pub item_there : (P : Item → Type 0) (o : Option Item) → IsSomeAnd o P → (item : Item) × (o ≡ Some item) × P item
@@ -74,7 +70,7 @@ module _ (ps : List (ℕ × Want)) (us : List (ℕ × Sign)) (room : ℕ) (seats
         receives = kept.receives;
         messages = retied (Lies parcels coming) (Lies parcels (set coming source (Some b))) us v.rx.unexpected
             (λ p a l. lies_set parcels coming source (Some b) p a (row ps us room seats parcels coming v kept source within)
-                (λ none same. ids p.0 (subst (λ (o : Option Begun). IsKeptAs p.0 o) (ap (λ t. get_or coming t None) same ∙ stored.stored) (l.partly none))) l)
+            (λ none same. ids p.0 (subst (λ (o : Option Begun). IsKeptAs p.0 o) (ap (λ t. get_or coming t None) same ∙ stored.stored) (l.partly none))) l)
             kept.messages;
         ways = λ t. subst (λ (cs : List (Option Coming)). IsWay parcels t (get_or (set coming source (Some b)) t None) (get_or cs t None) (get_or (set v.begun source now) t None)) (set-get_or v.rx.coming source None)
             (ways_set ps us room seats parcels coming v kept source within parcels (Some b) (coming_from v.rx source) now (λ t id h differs there. there)
@@ -143,7 +139,7 @@ module _ (ps : List (ℕ × Want)) (us : List (ℕ × Sign)) (room : ℕ) (seats
             let none : a.bytes ≡ None = ap (λ (x : Parcel). x.bytes) equal in
             let headed : a.head ≡ item.head = ap (λ (x : Parcel). x.head) equal in
             let now : at others id ≡ Some (record { source = source; head = item.head; bytes = Some item.bytes }) =
-                at_same parcels others id (Some (record { source = source; head = item.head; bytes = Some item.bytes })) is (id_within parcels.cells id (parcel_without source item.head) there) in
+            at_same parcels others id (Some (record { source = source; head = item.head; bytes = Some item.bytes })) is (id_within parcels.cells id (parcel_without source item.head) there) in
             rw (is_whole_now source item.bytes a none from) (record {
               parcel = ap (at others) same ∙ now ∙ rw (from, headed) refl;
               sign = l.sign;
@@ -152,7 +148,7 @@ module _ (ps : List (ℕ × Want)) (us : List (ℕ × Sign)) (room : ℕ) (seats
             })
         by_id (inr other) =
             let never : a.bytes ≡ None → a.source ≡ source → ⊥ = λ none from.
-                other (under p.0 (subst (λ (o : Option Begun). IsKeptAs p.0 o) (ap (λ t. get_or coming t None) from ∙ stored.stored) (l.partly none))) in
+            other (under p.0 (subst (λ (o : Option Begun). IsKeptAs p.0 o) (ap (λ t. get_or coming t None) from ∙ stored.stored) (l.partly none))) in
             rw (not_whole_now source item.bytes a never)
             (lies_at parcels others (set coming source None) p a (stays_else p.0 other)
             (lies_set parcels coming source None p a (row ps us room seats parcels coming v kept source within) (λ none from. absurd (never none from)) l))

@@ -1,8 +1,8 @@
 -- What is stored of the receive half stands for what contracts see, whatever happens.
-use Rattle.std.proofs.Common.{◌≡◌, ◌≢◌, ◌⊎◌, inl, inr, ℕ, ◌+◌, ◌-◌, ◌<◌, ◌≤◌, ◌==◌, Bool, true, false, List, [], ◌∷◌, ◌++◌, length, map, take, drop, Option, Some, None, get_or, set, nat_le, vec_capacity, refl, sym, ap, subst, ◌∙◌, arith, length-set, length-append}
-use Rattle.std.specs.Prelude.{find, Vec}
+use Rattle.std.proofs.Common.{◌≡◌, ◌≢◌, ◌⊎◌, inl, inr, ℕ, ◌+◌, ◌<◌, ◌≤◌, Bool, true, false, List, [], ◌∷◌, ◌++◌, length, Option, Some, None, get_or, set, vec_capacity, refl, sym, ap, subst, ◌∙◌, arith, length-set}
+use Rattle.std.specs.Prelude.{Vec}
 use Rattle.std.specs.List.{AllZip}
-use Rattle.std.proofs.lemmas.List.{get_or-set_other, get_or-set_same, set-get_or, append-nil, set-set}
+use Rattle.std.proofs.lemmas.List.{get_or-set_other, get_or-set_same, set-get_or, append-nil}
 use Rattle.fab_base.specs.declared.items.Item.{Item}
 use Rattle.fab_base.specs.declared.items.ItemHead.{ItemHead}
 use Rattle.fab_base.specs.declared.items.Want.{Want}
@@ -12,8 +12,7 @@ use Rattle.fab_base.specs.declared.operations.Arrival.{Arrival}
 use Rattle.fab_base.specs.declared.operations.Coming.{Coming}
 use Rattle.fab_base.specs.declared.operations.Coming.TheVariants.{Into as IntoReceive, Keep as KeepIt}
 use Rattle.fab_model.specs.Matching.{is_message, matches, takes, remove_first}
-use Rattle.fab_model.specs.State.{Receiving, coming_from, raise}
-use Rattle.fab_model.specs.Receiving.{goes, joining_posted, without_first}
+use Rattle.fab_model.specs.State.{coming_from, raise}
 use Rattle.fab_model.specs.Arrivals.{is_wanted, taker, newcomer, way_of, heading_message, heading_other, seated as seated_after, shut, stays}
 use Rattle.fab_match.specs.Signs.{sign_of, fits}
 use Rattle.fab_match.specs.Matcher.{first_id, has_id}
@@ -25,10 +24,9 @@ use Rattle.fab_rx.specs.declared.stored.Way.TheVariants.{Into, Keep, Throw, Gath
 use Rattle.fab_rx.specs.declared.stored.Begun.{Begun}
 use Rattle.fab_rx.specs.Table.{Cells, at}
 use Rattle.fab_rx.specs.Arriving.{Arriving, IsSingle, arriving, bare, begun_of, count_begun}
-use Rattle.fab_rx.specs.Stored.{GoesBy, IsComing, IsKept, IsKeptAs, IsKeptWay, IsWay, Lies, Sits, parcel_of, parcel_without, seat_of, seat_with}
-use Rattle.fab_rx.proofs.Tables.{id_within}
+use Rattle.fab_rx.specs.Stored.{GoesBy, IsComing, IsKept, IsKeptAs, IsWay, Lies, Sits, parcel_of, parcel_without, seat_of, seat_with}
 use Rattle.fab_rx.proofs.Pasting.{paste_nothing}
-use Rattle.fab_rx.proofs.Tying.{same_or, tied_length, tied_push, retied, retied_but, tied_fresh, IsTaken, taken, missed}
+use Rattle.fab_rx.proofs.Tying.{same_or, tied_push, retied, retied_but, tied_fresh, IsTaken, taken, missed}
 
 -- ---- one member
 
@@ -119,7 +117,7 @@ module _ (ps : List (ℕ × Want)) (us : List (ℕ × Sign)) (room : ℕ) (seats
             let peers = kept.peers in
             let comings = kept.comings in
             let here : IsWay qs s (get_or (set coming s b) s None) (get_or (set v.rx.coming s c) s None) (get_or (set v.begun s i) s None) =
-                rw (get_or-set_same coming s b None (omega arith), get_or-set_same v.rx.coming s c None (omega arith), get_or-set_same v.begun s i None within) new in
+            rw (get_or-set_same coming s b None (omega arith), get_or-set_same v.rx.coming s c None (omega arith), get_or-set_same v.begun s i None within) new in
             subst (λ (k : ℕ). IsWay qs k (get_or (set coming s b) k None) (get_or (set v.rx.coming s c) k None) (get_or (set v.begun s i) k None)) (sym same) here
         by_source (inr other) =
             rw (get_or-set_other coming s t b None other, get_or-set_other v.rx.coming s t c None other, get_or-set_other v.begun s t i None other)
@@ -134,7 +132,7 @@ module _ (ps : List (ℕ × Want)) (us : List (ℕ × Sign)) (room : ℕ) (seats
             let heads = kept.heads in
             let tails = kept.tails in
             let here : get_or (set v.rx.heads s h) s 0 ≡ get_or (set v.rx.tails s k) s 0 + count_begun (get_or (set v.begun s i) s None) =
-                rw (get_or-set_same v.rx.heads s h 0 (omega arith), get_or-set_same v.rx.tails s k 0 (omega arith), get_or-set_same v.begun s i None within) e in
+            rw (get_or-set_same v.rx.heads s h 0 (omega arith), get_or-set_same v.rx.tails s k 0 (omega arith), get_or-set_same v.begun s i None within) e in
             subst (λ (j : ℕ). get_or (set v.rx.heads s h) j 0 ≡ get_or (set v.rx.tails s k) j 0 + count_begun (get_or (set v.begun s i) j None)) (sym same) here
         by_source (inr other) =
             rw (get_or-set_other v.rx.heads s t h 0 other, get_or-set_other v.rx.tails s t k 0 other, get_or-set_other v.begun s t i None other) (kept.under_way t (let same = length-set v.begun s i in omega arith))

@@ -1,5 +1,5 @@
 -- What callers know of the receive half between calls.
-use Rattle.std.proofs.Common.{◌≡◌, ◌≢◌, ℕ, zero, suc, replicate, nat_le, ◌+◌, ◌<◌, ◌≤◌, Bool, true, false, cond, List, [], ◌∷◌, length, Option, Some, None, get_or, All, refl, sym, ap, subst, ◌∙◌, arith}
+use Rattle.std.proofs.Common.{◌≡◌, ◌≢◌, ℕ, zero, suc, replicate, nat_le, ◌≤◌, Bool, true, false, List, [], ◌∷◌, length, Option, Some, None, get_or, refl, sym, ◌∙◌, arith}
 use Rattle.std.specs.Prelude.{find, is_some, IfSome}
 use Rattle.std.specs.List.{AllZip, list_any, AllByRecursion}
 use Rattle.std.proofs.lemmas.List.Elements.{All-from_recursion}
@@ -23,7 +23,7 @@ use Rattle.fab_rx.specs.declared.stored.Way.TheVariants.{Into, Keep, Throw, Gath
 use Rattle.fab_rx.specs.declared.stored.Begun.{Begun}
 use Rattle.fab_rx.specs.Table.{Cells}
 use Rattle.fab_rx.specs.Arriving.{Arriving, GoesToSingle, IsArriving, IsSingle, begun_of, nothing_arrived}
-use Rattle.fab_rx.specs.Stored.{GoesBy, IsComing, IsKept, IsWay, Sits, entries_by}
+use Rattle.fab_rx.specs.Stored.{GoesBy, IsKept, IsWay, Sits, entries_by}
 use Rattle.fab_rx.specs.Results.{entries_due}
 use Rattle.std.proofs.lemmas.Bool.Decides.{nat_tests}
 use Rattle.std.proofs.lemmas.List.{length-replicate}

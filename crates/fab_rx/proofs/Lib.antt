@@ -6,3 +6,5 @@ pub mod Keeping
 pub mod Growing
 pub mod Posting
 pub mod Known
+pub mod Numbering
+pub mod Leaving

@@ -1,5 +1,5 @@
 -- Bytes that are put into a buffer, piece after piece.
-use Rattle.std.proofs.Common.{◌≡◌, ℕ, ◌+◌, ◌-◌, min, ◌<◌, ◌≤◌, ◌⊎◌, inl, inr, List, [], ◌∷◌, ◌++◌, length, take, drop, refl, sym, ap, ◌∙◌, arith, append_assoc, take-append-drop, length-append, length-take, length-drop}
+use Rattle.std.proofs.Common.{◌≡◌, ℕ, ◌+◌, ◌-◌, min, ◌<◌, ◌≤◌, ◌⊎◌, inl, inr, List, [], ◌++◌, length, take, drop, refl, sym, ap, ◌∙◌, arith, take-append-drop, length-append, length-take, length-drop}
 use Rattle.std.proofs.lemmas.List.{append-nil, take-append-le, drop-drop, take_all, drop_all}
 use Rattle.std.proofs.Math.Seq.{take-append-add, drop-append-add, take-append_seam}
 use Rattle.fab_model.specs.Complete.{paste}

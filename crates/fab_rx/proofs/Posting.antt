@@ -1,5 +1,5 @@
 -- What is stored stays true as receives are posted.
-use Rattle.std.proofs.Common.{◌≡◌, ◌≢◌, ℕ, ◌+◌, ◌-◌, ◌<◌, ◌≤◌, Bool, true, false, List, [], ◌∷◌, ◌++◌, length, Option, Some, None, get_or, set, refl, sym, ap, subst, ◌∙◌, arith, length-set, length-append}
+use Rattle.std.proofs.Common.{◌≡◌, ◌≢◌, ℕ, ◌+◌, ◌<◌, false, List, [], ◌∷◌, ◌++◌, length, Option, Some, None, get_or, set, refl, sym, ap, subst, ◌∙◌, arith, length-set, length-append}
 use Rattle.std.specs.Prelude.{find, is_some}
 use Rattle.std.specs.Option.{option_map}
 use Rattle.fab_rx.specs.declared.results.Completed.{Completed}
@@ -8,7 +8,6 @@ use Rattle.fab_rx.specs.Results.{completed, posted_as}
 use Rattle.std.specs.List.{AllZip}
 use Rattle.std.proofs.lemmas.List.{set-get_or, set-set}
 use Rattle.fab_base.specs.declared.items.Item.{Item}
-use Rattle.fab_base.specs.declared.items.ItemHead.{ItemHead}
 use Rattle.fab_base.specs.declared.items.Want.{Want}
 use Rattle.fab_base.specs.declared.items.Sign.{Sign}
 use Rattle.fab_base.specs.declared.operations.Receive.{Receive}
@@ -16,7 +15,7 @@ use Rattle.fab_base.specs.declared.operations.Arrival.{Arrival}
 use Rattle.fab_base.specs.declared.operations.Coming.{Coming}
 use Rattle.fab_base.specs.declared.operations.Coming.TheVariants.{Into as IntoReceive}
 use Rattle.fab_model.specs.Matching.{takes, remove_first}
-use Rattle.fab_model.specs.State.{Receiving, coming_from}
+use Rattle.fab_model.specs.State.{coming_from}
 use Rattle.fab_match.specs.Signs.{fits}
 use Rattle.fab_match.specs.Matcher.{first_id, has_id}
 use Rattle.fab_rx.specs.declared.stored.Seat.{Seat}
@@ -25,7 +24,7 @@ use Rattle.fab_rx.specs.declared.stored.Way.{Way}
 use Rattle.fab_rx.specs.declared.stored.Way.TheVariants.{Into, Keep, Throw, Gather}
 use Rattle.fab_rx.specs.declared.stored.Begun.{Begun}
 use Rattle.fab_rx.specs.Table.{Cells, at}
-use Rattle.fab_rx.specs.Arriving.{Arriving, IsSingle, begun_of, given, posted_to, posting, receive_by}
+use Rattle.fab_rx.specs.Arriving.{Arriving, IsSingle, begun_of, posting, receive_by}
 use Rattle.fab_rx.specs.Stored.{IsComing, IsKept, IsKeptAs, IsKeptWay, IsWay, Lies, Sits, parcel_of, parcel_without, seat_of}
 use Rattle.fab_rx.proofs.Tables.{id_within}
 use Rattle.fab_rx.proofs.Tying.{tied_length, tied_push, retied, retied_but, tied_fresh, IsTaken, taken, missed}
@@ -129,9 +128,9 @@ module _ (ps : List (ℕ × Want)) (us : List (ℕ × Sign)) (room : ℕ) (seats
               messages = retied_but (Lies parcels coming) (Lies others coming) id rest (remove_first (takes want) v.rx.unexpected) (λ p a other l. lies_at parcels others coming p a (at_other parcels others id None is p.0 other) l) gone tied_rest;
               ways = λ t. way_stays parcels others t (get_or coming t None) (coming_from v.rx t) (begun_of v t)
                   (λ k h holds. at_other parcels others id None is k (λ same.
-                      let both : Some (parcel_without t h) ≡ Some parcel = sym holds ∙ ap (at parcels) same ∙ sym there in
-                      let equal : parcel_without t h ≡ parcel = cc in
-                      let no : None ≡ Some bytes = ap (λ (p : Parcel). p.bytes) equal ∙ whole in cc) ∙ holds)
+                  let both : Some (parcel_without t h) ≡ Some parcel = sym holds ∙ ap (at parcels) same ∙ sym there in
+                  let equal : parcel_without t h ≡ parcel = cc in
+                  let no : None ≡ Some bytes = ap (λ (p : Parcel). p.bytes) equal ∙ whole in cc) ∙ holds)
                   (kept.ways t);
               spare = kept.spare;
               most = kept.most;
@@ -172,17 +171,17 @@ module _ (ps : List (ℕ × Want)) (us : List (ℕ × Sign)) (room : ℕ) (seats
               let within : s < length v.begun = let lt = source_within in let peers = kept.peers in omega arith in
               let once : after ≡ set coming s (Some new) = is_after ∙ set-set coming s None (Some new) in
               let now : IsWay others s (Some new) (Some (IntoReceive receive 0)) (begun_of v s) =
-                  (IntoReceive receive 0, way.1, refl, way.3, goes_on parcels others s id way.0 way.1 receive way.4 under single refl) in
+              (IntoReceive receive 0, way.1, refl, way.3, goes_on parcels others s id way.0 way.1 receive way.4 under single refl) in
               let ways = ways_set ps us room seats parcels coming v kept s within others (Some new) (Some (IntoReceive receive 0)) (begun_of v s)
-                  (λ t k h differs holds. at_other parcels others id None is k (λ same.
-                      differs (let both : Some (parcel_without t h) ≡ Some parcel = sym holds ∙ ap (at parcels) same ∙ sym there in let equal : parcel_without t h ≡ parcel = cc in ap (λ (p : Parcel). p.source) equal)) ∙ holds)
-                  now in
+              (λ t k h differs holds. at_other parcels others id None is k (λ same.
+              differs (let both : Some (parcel_without t h) ≡ Some parcel = sym holds ∙ ap (at parcels) same ∙ sym there in let equal : parcel_without t h ≡ parcel = cc in ap (λ (p : Parcel). p.source) equal)) ∙ holds)
+              now in
               rw (once, found.found, none_yet, source_is) (record {
                 receives = kept.receives;
                 messages = retied_but (Lies parcels coming) (Lies others (set coming s (Some new))) id rest (remove_first (takes want) v.rx.unexpected)
                     (λ p a other l. lies_at parcels others (set coming s (Some new)) p a (at_other parcels others id None is p.0 other)
-                        (lies_set parcels coming s (Some new) p a source_within
-                            (λ none same. absurd (other (kept_once b.way p.0 id (subst (λ (o : Option Begun). IsKeptAs p.0 o) (ap (λ t. get_or coming t None) same ∙ sym stored) (l.partly none)) under))) l))
+                    (lies_set parcels coming s (Some new) p a source_within
+                    (λ none same. absurd (other (kept_once b.way p.0 id (subst (λ (o : Option Begun). IsKeptAs p.0 o) (ap (λ t. get_or coming t None) same ∙ sym stored) (l.partly none)) under))) l))
                     gone tied_rest;
                 ways = λ t. subst (λ (is : List (Option Item)). IsWay others t (get_or (set coming s (Some new)) t None) (get_or (set v.rx.coming s (Some (IntoReceive receive 0))) t None) (get_or is t None)) (set-get_or v.begun s None) (ways t);
                 spare = kept.spare;

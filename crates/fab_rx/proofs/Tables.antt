@@ -2,7 +2,6 @@
 use Rattle.std.proofs.Common.{◌≡◌, ◌≢◌, ℕ, zero, suc, ◌+◌, ◌-◌, ◌^◌, ◌<◌, ◌≤◌, ◌⊎◌, inl, inr, List, [], ◌∷◌, ◌++◌, length, Option, Some, None, get_or, set, take, sum_by, refl, sym, ap, ◌∙◌, arith, length-append, length-set, length-take}
 use Rattle.std.proofs.lemmas.List.{get_or-set_other, get_or-set_same, get_or-take, get_or_append_left, get_or-append_right}
 use Rattle.std.proofs.lemmas.List.Sums.{sum_by-cons, sum_by-set, sum_by-append}
-use Rattle.fab_model.proofs.Parts.{get_or-set}
 use Rattle.fab_rx.specs.Table.{IsTable, cell, count_empty}
 
 empty_most : {T : Type 0} (cells : List (Option T)) → sum_by count_empty cells ≤ length cells

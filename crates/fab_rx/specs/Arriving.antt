@@ -4,7 +4,7 @@
 --     posting                        what a receive call does (fi_msg(3), fi_tagged(3))
 --     with_receiving                 where the machine's part alone changes, as where a receive is cancelled
 --     IsArriving                     what holds between calls
-use Rattle.std.specs.Prelude.{◌≡◌, ℕ, ◌+◌, ◌<◌, ◌≤◌, Bool, true, false, List, [], ◌∷◌, ◌++◌, length, Option, Some, None, is_some, find, replicate, slice_index, slice_index_or, slice_set, unwrap_or, IfSome, All}
+use Rattle.std.specs.Prelude.{◌≡◌, ℕ, ◌+◌, ◌<◌, ◌≤◌, Bool, true, false, List, [], ◌++◌, length, Option, Some, None, is_some, find, replicate, slice_index, slice_index_or, slice_set, unwrap_or, IfSome, All}
 use Rattle.std.specs.Option.{option_map}
 use Rattle.fab_base.specs.declared.items.Item.{Item}
 use Rattle.fab_base.specs.declared.items.ItemHead.{ItemHead}

@@ -4,7 +4,8 @@
 --     IsWay parcels source stored coming item      what is stored of the item of this source that has arrived and is not whole
 --     HasRoomFor n stored    so many more of its bytes may come
 --     IsKept                 all of it
-use Rattle.std.specs.Prelude.{◌≡◌, ℕ, ◌+◌, ◌<◌, ◌≤◌, true, List, [], length, Option, Some, None, slice_index, slice_index_or, vec_capacity}
+--     IsInbox                the same, with the order of the ids and the numbers of calls
+use Rattle.std.specs.Prelude.{◌≡◌, ℕ, ◌+◌, ◌<◌, ◌≤◌, true, List, [], length, map, Option, Some, None, slice_index, slice_index_or, vec_capacity}
 use Rattle.std.specs.List.{AllZip}
 use Rattle.fab_base.specs.declared.items.Item.{Item}
 use Rattle.fab_base.specs.declared.items.ItemHead.{ItemHead}
@@ -25,6 +26,7 @@ use Rattle.fab_rx.specs.declared.stored.Way.{Way}
 use Rattle.fab_rx.specs.declared.stored.Way.TheVariants.{Into, Keep, Throw, Gather}
 use Rattle.fab_rx.specs.declared.stored.Begun.{Begun}
 use Rattle.fab_rx.specs.Table.{Cells, at}
+use Rattle.fab_rx.specs.Numbers.{IsNumbered}
 use Rattle.fab_rx.specs.Arriving.{Arriving, IsSingle, begun_of, count_begun}
 
 -- ---- receives
@@ -122,3 +124,10 @@ pub record IsKept (posted : List (ℕ × Want)) (unexpected : List (ℕ × Sign)
   pub under_way : (s : ℕ) → s < length v.begun → slice_index v.rx.heads s ≡ slice_index v.rx.tails s + count_begun (begun_of v s)
   pub closing : v.rx.closing ≡ []
   pub claimed : v.rx.claimed ≡ []
+
+pub record IsInbox (posted : List (ℕ × Want)) (unexpected : List (ℕ × Sign)) (room : ℕ) (seats : Cells Seat) (parcels : Cells Parcel) (coming : List (Option Begun)) (ids : List ℕ) (capacity : ℕ) (v : Arriving) : Type 0 where
+  pub kept : IsKept posted unexpected room seats parcels coming v
+  -- the ids of the receives in the order posted, with room for all that may be
+  pub order : ids ≡ map (λ p. p.0) posted
+  pub reserved : v.most ≤ capacity
+  pub numbers : IsNumbered v.rx.posted v.rx.coming v.next

@@ -1,22 +1,26 @@
 //! The receive half of an endpoint (fi_msg(3), fi_tagged(3)).
-ghost use Rattle.std.specs.Prelude.{◌≡◌, ◌+◌, ◌<◌, ◌≤◌, true, false, None, Some, length, IfOk, IfSome, IsSomeAnd, OnOk, OnErr, find, is_some, nat_le, replicate, unwrap_or};
+ghost use Rattle.std.specs.Prelude.{◌≡◌, ◌==◌, ◌+◌, ◌<◌, ◌≤◌, true, false, None, Some, length, IfOk, IfSome, IsSomeAnd, OnOk, OnErr, find, is_some, nat_le, replicate, unwrap_or};
 ghost use Rattle.std.specs.Option.{option_map};
 ghost use Rattle.fab_model.specs.Matching.{is_message, takes};
 ghost use Rattle.fab_model.specs.State.{coming_from};
 ghost use Rattle.fab_model.specs.Arrivals.{taker, way_of};
-ghost use Rattle.fab_rx.specs.Arriving.{IsArriving, arriving, begun_of, finishing, growing, nothing_arrived, posting, receive_by};
-ghost use Rattle.fab_rx.specs.Results.{ended, entries_due, posted_as};
+ghost use Rattle.fab_model.specs.Receiving.{cancellable, without_posted};
+ghost use Rattle.fab_rx.specs.Arriving.{IsArriving, arriving, begun_of, finishing, growing, nothing_arrived, posting, receive_by, with_receiving};
+ghost use Rattle.fab_rx.specs.Leaving.{cancelling, is_meant};
+ghost use Rattle.fab_rx.specs.Results.{cancelled, ended, entries_due, posted_as};
 
 use crate::caller::Caller;
 use crate::filling::{complete, filled, lift, placed, redirected, set_down};
-use crate::past::{Arrives, Finishes, Grows, Opens, Past, Posts};
-use crate::results::{Finished, Posted};
+use crate::order::{first_meant, strike};
+use crate::past::{Arrives, Cancels, Finishes, Grows, Opens, Past, Posts};
+use crate::results::{Cancelled, Finished, Posted};
 use crate::stored::{Begun, Parcel, Seat, Way};
 use crate::table::Table;
 use fab_base::{Buf, Item, ItemHead, Kind, NoMemory, Want};
 use fab_match::{Matcher, sign_of};
 use fab_record::record::Record;
 use std::alloc::Global;
+use std::collections::VecDeque;
 use std::marker::Model;
 
 /// The receives that are posted, the messages that none of them took, and of each source the item that
@@ -33,18 +37,20 @@ pub struct Inbox<M: Matcher> {
     seats: Table<Seat>,
     parcels: Table<Parcel>,
     coming: Vec<Option<Begun>>,
+    order: VecDeque<u32>,
     alloc: Global,
 }
 
 impl<M: Matcher> Model for Inbox<M> {
     ghost use Rattle.fab_rx.specs.Arriving.{Arriving};
-    ghost use Rattle.fab_rx.specs.Stored.{IsKept};
+    ghost use Rattle.std.specs.VecDeque.{deque_capacity};
+    ghost use Rattle.fab_rx.specs.Stored.{IsInbox};
 
     ghost Value = { Arriving };
 
     ghost view = { λ i. i.past };
 
-    ghost invariant = { λ i. IsKept (M.posted i.matcher) (M.unexpected i.matcher) (M.room i.matcher) i.seats i.parcels i.coming.items i.past };
+    ghost invariant = { λ i. IsInbox (M.posted i.matcher) (M.unexpected i.matcher) (M.room i.matcher) i.seats i.parcels i.coming.items i.order.items (deque_capacity i.order) i.past };
 }
 
 fn is_message(kind: Kind) -> bool
@@ -63,6 +69,7 @@ impl<M: Matcher> Inbox<M> {
     {
         let seats = free_seats(alloc, most)?;
         let coming = nothing_coming(alloc, peers)?;
+        let order = VecDeque::with_capacity(alloc, most as usize)?;
         let past = Record::new(alloc, &(peers, most))?;
         let matcher = M::new(alloc, most)?;
         Ok(Inbox {
@@ -71,6 +78,7 @@ impl<M: Matcher> Inbox<M> {
             seats,
             parcels: Table::new(alloc),
             coming,
+            order,
             alloc,
         })
     }
@@ -188,12 +196,14 @@ impl<M: Matcher> Inbox<M> {
             matcher,
             seats,
             coming,
+            order,
             ..
         } = self;
         let Some(id) = matcher.first_posted(&sign_of(source, head)) else {
             return false;
         };
         matcher.remove_posted(id);
+        strike(order, id);
         let Some(seat) = seats.take(id) else {
             unreachable!()
         };
@@ -313,11 +323,13 @@ impl<M: Matcher> Inbox<M> {
             seats,
             parcels,
             coming,
+            order,
             ..
         } = self;
         past.note::<(&X, &Want, &Buf, u64), Posts<C>>(&(about, &want, &buf, ctx));
         let Some(id) = matcher.first_unexpected(&want) else {
             let id = seats.put(Seat { buf, ctx });
+            order.push_back_reserved(id);
             matcher.add_posted(id, want);
             return Posted::Joined;
         };
@@ -346,6 +358,51 @@ impl<M: Matcher> Inbox<M> {
                 Posted::GoesOn
             }
         }
+    }
+
+    /// The first posted receive of this context leaves, with its buffer (fi_cancel of
+    /// fi_endpoint(3)). `None`, and nothing changes, exactly where none is posted.
+    pub fn cancel(&mut self, ctx: u64) -> Option<Cancelled>
+        ensures found { result ≡ option_map cancelled (cancellable (λ r. r.ctx == ctx) self.old.rx) }
+        ensures rest { self.new ≡ with_receiving (without_posted (λ r. r.ctx == ctx) self.old.rx) self.old }
+    {
+        self.leave(Some(ctx))
+    }
+
+    /// The first posted receive leaves, with its buffer. `None`, and nothing changes, exactly where
+    /// none is posted.
+    pub fn cancel_first(&mut self) -> Option<Cancelled>
+        ensures found { result ≡ option_map cancelled (cancellable (λ r. true) self.old.rx) }
+        ensures rest { self.new ≡ with_receiving (without_posted (λ r. true) self.old.rx) self.old }
+    {
+        self.leave(None)
+    }
+
+    /// The first posted receive leaves, of this context where one is named.
+    fn leave(&mut self, ctx: Option<u64>) -> Option<Cancelled>
+        ensures found { result ≡ option_map cancelled (cancellable (is_meant ctx) self.old.rx) }
+        ensures rest { self.new ≡ cancelling ctx self.old }
+    {
+        let Inbox {
+            past,
+            matcher,
+            seats,
+            order,
+            ..
+        } = self;
+        let Some(meant) = first_meant(order, seats, ctx) else {
+            return None;
+        };
+        matcher.remove_posted(meant);
+        strike(order, meant);
+        let Some(seat) = seats.take(meant) else {
+            unreachable!()
+        };
+        past.note::<Option<u64>, Cancels>(&ctx);
+        Some(Cancelled {
+            ctx: seat.ctx,
+            buf: seat.buf,
+        })
     }
 }
 

@@ -1,5 +1,6 @@
 //! What is recorded of the receive half: contracts see it, no code stores it.
 ghost use Rattle.std.specs.Prelude.{ℕ};
+ghost use Rattle.fab_rx.specs.Leaving.{cancelling};
 ghost use Rattle.fab_rx.specs.Arriving.{arriving, finishing, growing, nothing_arrived, posting, receive_by};
 
 use crate::caller::Caller;
@@ -43,6 +44,12 @@ pub struct Finishes;
 
 impl Change<u32, Past> for Finishes {
     ghost after = { finishing };
+}
+
+pub struct Cancels;
+
+impl Change<Option<u64>, Past> for Cancels {
+    ghost after = { cancelling };
 }
 
 pub struct Posts<C> {

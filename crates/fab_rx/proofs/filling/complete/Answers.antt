@@ -1,4 +1,4 @@
-use Rattle.std.proofs.Common.{length, ap, sym, arith}
+use Rattle.std.proofs.Common.{length, ap, arith}
 use Rattle.fab_rx.proofs.Completing.{completed_well, completed_short}
 use Rattle.fab_rx.proofs.filling.complete.Goals as goal
 

@@ -1,4 +1,4 @@
-use Rattle.std.proofs.Common.{◌≡◌, sym, arith, rules}
+use Rattle.std.proofs.Common.{rules}
 use Rattle.fab_rx.proofs.Completing.{into_more}
 use Rattle.fab_rx.proofs.filling.filled.Goals as goal
 

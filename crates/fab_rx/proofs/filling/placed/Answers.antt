@@ -1,4 +1,4 @@
-use Rattle.std.proofs.Common.{◌≡◌, ◌+◌, ◌-◌, min, length, take, drop, sym, ap, ◌∙◌, arith, length-take}
+use Rattle.std.proofs.Common.{◌≡◌, ◌-◌, min, length, take, sym, ap, ◌∙◌, arith, length-take}
 use Rattle.fab_rx.proofs.Pasting.{paste_is, paste_none}
 use Rattle.fab_rx.proofs.filling.placed.Goals as goal
 

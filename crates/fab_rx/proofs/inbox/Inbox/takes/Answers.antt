@@ -16,4 +16,4 @@ pub returns : goal.returns
 returns g c =
     rw (← c.self.view_is)
     (c.is_some.ensures ∙ ap is_some c.first_posted.ensures.first
-    ∙ found_alike (Sits c.self.inside.seats) (λ want. fits want c.sign_of.result) (is_wanted c.args.source c.args.head.now) (sits_agrees c.self.inside.seats c.args.source c.args.head.now c.sign_of.result c.sign_of.ensures.fits) _ _ c.self.invariant.receives)
+    ∙ found_alike (Sits c.self.inside.seats) (λ want. fits want c.sign_of.result) (is_wanted c.args.source c.args.head.now) (sits_agrees c.self.inside.seats c.args.source c.args.head.now c.sign_of.result c.sign_of.ensures.fits) _ _ c.self.invariant.kept.receives)

@@ -1,4 +1,4 @@
-use Rattle.std.proofs.Common.{◌≤◌, length, arith, rules}
+use Rattle.std.proofs.Common.{arith, rules}
 use Rattle.fab_rx.proofs.Tables.{free_most, grown}
 use Rattle.fab_rx.proofs.table.Table.grow.Goals as goal
 

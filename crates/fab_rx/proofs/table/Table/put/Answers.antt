@@ -1,4 +1,4 @@
-use Rattle.std.proofs.Common.{◌≡◌, ◌∙◌, ap, take, vec_len, ◌<◌, ◌-◌, length, get_or, refl, sym, subst, arith, rules}
+use Rattle.std.proofs.Common.{◌≡◌, ◌∙◌, ap, take, vec_len, ◌<◌, ◌-◌, length, sym, subst, arith, rules}
 use Rattle.fab_rx.specs.Table.{Cells}
 use Rattle.fab_rx.proofs.Tables.{last_empty, filled}
 use Rattle.fab_rx.proofs.table.Table.put.Goals as goal

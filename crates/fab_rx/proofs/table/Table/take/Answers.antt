@@ -1,5 +1,4 @@
-use Rattle.std.proofs.Common.{◌≡◌, ◌<◌, Some, get_or, arith, rules}
-use Rattle.fab_rx.specs.Table.{cell}
+use Rattle.std.proofs.Common.{arith, rules}
 use Rattle.fab_rx.proofs.Tables.{below_room, emptied}
 use Rattle.fab_rx.proofs.table.Table.take.Goals as goal
 
