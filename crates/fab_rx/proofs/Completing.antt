@@ -1,0 +1,82 @@
+-- A receive's buffer fills as bytes come, and its completion tells what they were.
+use Rattle.std.proofs.Common.{◌≡◌, ℕ, ◌+◌, ◌-◌, ◌≤◌, ◌<◌, true, false, List, length, Option, Some, None, refl, ap, arith, length-append}
+use Rattle.std.proofs.lemmas.Bool.Decides.{nat_tests}
+use Rattle.fab_base.specs.declared.items.Item.{Item}
+use Rattle.fab_base.specs.declared.items.ItemHead.{ItemHead}
+use Rattle.fab_base.specs.declared.entries.Taken.TheVariants.{Success, Failure}
+use Rattle.fab_base.specs.declared.entries.Entry.TheVariants.{Received}
+use Rattle.fab_base.specs.declared.entries.ErrKind.TheVariants.{Truncated}
+use Rattle.fab_base.specs.declared.operations.Receive.{Receive}
+use Rattle.fab_base.specs.declared.operations.Coming.{Coming}
+use Rattle.fab_model.specs.Complete.{entry_of, received, truncated, paste, has_space, tag_of}
+use Rattle.fab_rx.specs.declared.results.Completed.{Completed}
+use Rattle.fab_rx.specs.declared.stored.Seat.{Seat}
+use Rattle.fab_rx.specs.declared.stored.Parcel.{Parcel}
+use Rattle.fab_rx.specs.declared.stored.Way.TheVariants.{Into}
+use Rattle.fab_rx.specs.declared.stored.Begun.{Begun}
+use Rattle.fab_rx.specs.Table.{Cells}
+use Rattle.fab_rx.specs.Arriving.{IsSingle, lengthened}
+use Rattle.fab_rx.specs.Results.{completed}
+use Rattle.fab_rx.specs.Stored.{GoesBy, IsComing, seat_with}
+use Rattle.fab_rx.proofs.Pasting.{paste_more, length_paste}
+
+module _ (r : Receive) (single : IsSingle r) (source : ℕ) (head : ItemHead) (bytes : List ℕ) where
+  entry_received : has_space r 0 head ≡ true → entry_of r 0 source head bytes ≡ Success (Received r.ctx source (tag_of head) head.imm head.total (paste r.buf 0 bytes))
+  unfolding entry_of received
+  entry_received space = rw (space, single.least, entry_of, received) refl
+
+  entry_truncated : has_space r 0 head ≡ false → entry_of r 0 source head bytes ≡ Failure (record {
+    ctx = Some r.ctx;
+    kind = Truncated;
+    source = Some source;
+    tag = tag_of head;
+    imm = head.imm;
+    at = None;
+    len = length r.buf - 0;
+    olen = head.total - (length r.buf - 0);
+    buf = Some (paste r.buf 0 bytes);
+  })
+  unfolding entry_of truncated
+  entry_truncated space = rw (space, single.least, entry_of, truncated) refl
+
+  module _ (seat : Seat) (tag : Option ℕ) (is : seat ≡ seat_with r bytes) (tagged : tag ≡ tag_of head) where
+    long : length seat.buf ≡ length r.buf
+    long = rw is (length_paste r.buf bytes)
+
+    -- the message fits
+    pub completed_well : head.total ≤ length seat.buf
+        → ◌≡◌ {A = Completed} (record { entry = Success (Received seat.ctx source tag head.imm head.total seat.buf); good = true; source = source; head = head }) (completed r 0 source head bytes)
+    completed_well le =
+        let same = long in
+        let space : has_space r 0 head ≡ true = grind (arith, nat_tests) in
+        rw (entry_received space, space, is, tagged) refl
+
+    -- it does not
+    pub completed_short : (len : ℕ) → len ≡ length seat.buf → len < head.total
+        → ◌≡◌ {A = Completed} (record {
+          entry = Failure (record { ctx = Some seat.ctx; kind = Truncated; source = Some source; tag = tag; imm = head.imm; at = None; len = len; olen = head.total - len; buf = Some seat.buf });
+          good = false;
+          source = source;
+          head = head;
+        }) (completed r 0 source head bytes)
+    completed_short len e lt =
+        let same = long in
+        let space : has_space r 0 head ≡ false = grind (arith, nat_tests) in
+        let placed : len ≡ length r.buf - 0 = omega arith in
+        rw (entry_truncated space, space, is, tagged, placed) refl
+
+module _ (parcels : Cells Parcel) (source : ℕ) (b : Begun) (c : Coming) (item : Item) (is : IsComing parcels source b c item) where
+  -- more bytes of the message come into the receive
+  pub into_more : (seat : Seat) (bytes buf : List ℕ) → b.way ≡ Into seat → b.got + length bytes ≤ b.head.total → buf ≡ paste seat.buf b.got bytes
+      → IsComing parcels source (record { head = b.head; got = b.got + length bytes; way = Into (record { buf = buf; ctx = seat.ctx }) }) c (lengthened bytes item)
+  into_more seat bytes buf way fits pasted =
+      let goes : GoesBy parcels source (Into seat) c item = rw way at is.way in
+      let long = length-append item.bytes bytes in
+      let got = is.got in
+      let total : item.head.total ≡ b.head.total = ap (λ (h : ItemHead). h.total) is.head in
+      record {
+        head = is.head;
+        got = omega arith;
+        within = omega arith;
+        way = (goes.0, goes.1, goes.2, rw (pasted, goes.3, is.got) (ap (λ filled. record { buf = filled; ctx = goes.0.ctx }) (paste_more goes.0.buf item.bytes bytes)));
+      }

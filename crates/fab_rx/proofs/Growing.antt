@@ -1,0 +1,223 @@
+-- What is stored stays true as bytes come and items end.
+use Rattle.std.proofs.Common.{◌≡◌, ◌≢◌, ◌⊎◌, inl, inr, ℕ, ◌+◌, ◌<◌, ◌==◌, Bool, true, false, List, length, Option, Some, None, get_or, set, refl, sym, ap, subst, ◌∙◌, arith, length-set}
+use Rattle.std.specs.Prelude.{IsSomeAnd, Vec}
+use Rattle.std.proofs.lemmas.Bool.{eqb-true, eq-eqb}
+use Rattle.std.proofs.lemmas.List.{set-get_or, set-set}
+use Rattle.fab_base.specs.declared.items.Item.{Item}
+use Rattle.fab_base.specs.declared.items.Kind.{Kind}
+use Rattle.fab_base.specs.declared.items.Kind.TheVariants.{Msg, TagMsg, WriteReq, ReadReq, AtomicReq, Reply}
+use Rattle.fab_base.specs.declared.items.Want.{Want}
+use Rattle.fab_base.specs.declared.items.Sign.{Sign}
+use Rattle.fab_base.specs.declared.operations.Arrival.{Arrival}
+use Rattle.fab_base.specs.declared.operations.Coming.{Coming}
+use Rattle.fab_base.specs.declared.operations.Coming.TheVariants.{Keep as KeepIt}
+use Rattle.fab_model.specs.State.{Receiving, coming_from, raise}
+use Rattle.fab_model.specs.Arrivals.{completed as whole_now, keeping, made_whole, way_of}
+use Rattle.fab_rx.specs.declared.stored.Seat.{Seat}
+use Rattle.fab_rx.specs.declared.stored.Parcel.{Parcel}
+use Rattle.fab_rx.specs.declared.stored.Way.{Way}
+use Rattle.fab_rx.specs.declared.stored.Way.TheVariants.{Into, Keep, Throw, Gather}
+use Rattle.fab_rx.specs.declared.stored.Begun.{Begun}
+use Rattle.fab_rx.specs.Table.{Cells, at}
+use Rattle.fab_rx.specs.Arriving.{Arriving, begun_of, bytes_come, count_begun, finishing, growing, kept as kept_by, lengthened}
+use Rattle.fab_rx.specs.Stored.{GoesBy, IsComing, IsKept, IsKeptAs, IsKeptWay, IsWay, Lies, parcel_of, parcel_without}
+use Rattle.fab_rx.proofs.Tables.{id_within}
+use Rattle.fab_rx.proofs.Tying.{same_or, retied, retied_map}
+use Rattle.fab_rx.proofs.Keeping.{IsStored, at_other, at_same, counts_set, lies_at, lies_set, row, some_stored, ways_set}
+
+-- there is an item where a fact of one is asked for
+pub item_there : (P : Item → Type 0) (o : Option Item) → IsSomeAnd o P → (item : Item) × (o ≡ Some item) × P item
+item_there P None h = absurd h
+item_there P (Some item) h = (item, refl, h)
+
+-- what is no message is not kept
+pub kept_other : (kind : Kind) (source : ℕ) (bytes : List ℕ) (rx : Receiving) → kept_by (Some (way_of kind)) source bytes rx ≡ rx
+kept_other Msg source bytes rx = refl
+kept_other TagMsg source bytes rx = refl
+kept_other WriteReq source bytes rx = refl
+kept_other ReadReq source bytes rx = refl
+kept_other AtomicReq source bytes rx = refl
+kept_other Reply source bytes rx = refl
+
+-- an arrival whose bytes do not come now stays as it is
+pub not_whole_now : (source : ℕ) (bytes : List ℕ) (a : Arrival) → (a.bytes ≡ None → a.source ≡ source → ⊥) → whole_now source bytes a ≡ a
+not_whole_now source bytes a differs = by_source (a.source == source) refl a.bytes refl
+  where
+    by_source : (b : Bool) → (a.source == source) ≡ b → (o : Option (List ℕ)) → a.bytes ≡ o → whole_now source bytes a ≡ a
+    by_source false e o is = rw (e, whole_now) refl
+    by_source true e (Some there) is = rw (e, is, whole_now) (ap (λ (o : Option (List ℕ)). record a { bytes = o }) is)
+    by_source true e None is = absurd (differs is (eqb-true a.source source e))
+
+-- the arrival whose bytes come now has them
+pub is_whole_now : (source : ℕ) (bytes : List ℕ) (a : Arrival) → a.bytes ≡ None → a.source ≡ source → whole_now source bytes a ≡ record a { bytes = Some bytes }
+is_whole_now source bytes a none same = rw (eq-eqb a.source source same, none, whole_now) refl
+
+module _ (ps : List (ℕ × Want)) (us : List (ℕ × Sign)) (room : ℕ) (seats : Cells Seat) (parcels : Cells Parcel) (coming : List (Option Begun)) (v : Arriving) (kept : IsKept ps us room seats parcels coming v)
+    (source : ℕ) (within : source < length v.begun) (item : Item) (begun : begun_of v source ≡ Some item) where
+  pub stored : IsStored parcels source (get_or coming source None) (coming_from v.rx source) item
+  stored = some_stored parcels source (get_or coming source None) (coming_from v.rx source) (begun_of v source) item begun (kept.ways source)
+
+  counted : get_or v.rx.heads source 0 ≡ get_or v.rx.tails source 0 + 1
+  counted = kept.under_way source within ∙ ap (λ (i : Option Item). get_or v.rx.tails source 0 + count_begun i) begun
+
+  -- more of its bytes came
+  pub grows : (b : Begun) (bytes : List ℕ) (rest : List (Option Begun)) → rest ≡ set (set coming source None) source (Some b) → IsComing parcels source b stored.way (lengthened bytes item) → ((id : ℕ) → IsKeptWay id stored.begun.way → IsKeptWay id b.way)
+      → IsKept ps us room seats parcels rest (growing source bytes v)
+  grows b bytes rest is comes ids =
+      let once : rest ≡ set coming source (Some b) = is ∙ set-set coming source None (Some b) in
+      let now = Some (lengthened bytes item) in
+      rw (once, begun) (record {
+        receives = kept.receives;
+        messages = retied (Lies parcels coming) (Lies parcels (set coming source (Some b))) us v.rx.unexpected
+            (λ p a l. lies_set parcels coming source (Some b) p a (row ps us room seats parcels coming v kept source within)
+            (λ none same. ids p.0 (subst (λ (o : Option Begun). IsKeptAs p.0 o) (ap (λ t. get_or coming t None) same ∙ stored.stored) (l.partly none))) l)
+            kept.messages;
+        ways = λ t. subst (λ (cs : List (Option Coming)). IsWay parcels t (get_or (set coming source (Some b)) t None) (get_or cs t None) (get_or (set v.begun source now) t None)) (set-get_or v.rx.coming source None)
+            (ways_set ps us room seats parcels coming v kept source within parcels (Some b) (coming_from v.rx source) now (λ t id h differs there. there)
+            (stored.way, lengthened bytes item, stored.comes, refl, comes) t);
+        spare = kept.spare;
+        most = kept.most;
+        peers = length-set coming source (Some b) ∙ kept.peers ∙ sym (length-set v.begun source now);
+        comings = kept.comings ∙ sym (length-set v.begun source now);
+        heads = kept.heads ∙ sym (length-set v.begun source now);
+        tails = kept.tails ∙ sym (length-set v.begun source now);
+        under_way = λ t below.
+            let set_heads = set-get_or v.rx.heads source 0 in
+            let set_tails = set-get_or v.rx.tails source 0 in
+            ap (λ (hs : List ℕ). get_or hs t 0) (sym set_heads)
+            ∙ counts_set ps us room seats parcels coming v kept source within parcels (Some b) None now (get_or v.rx.heads source 0) (get_or v.rx.tails source 0) counted t below
+            ∙ ap (λ (ts : List ℕ). get_or ts t 0 + count_begun (get_or (set v.begun source now) t None)) set_tails;
+        closing = kept.closing;
+        claimed = kept.claimed;
+      })
+
+  counts_finish : (t : ℕ) → t < length (set v.begun source None) → get_or v.rx.heads t 0 ≡ get_or (raise v.rx.tails source) t 0 + count_begun (get_or (set v.begun source None) t None)
+  counts_finish t below =
+      let now : get_or v.rx.heads source 0 ≡ (get_or v.rx.tails source 0 + 1) + count_begun None = let was = counted in omega arith in
+      ap (λ (hs : List ℕ). get_or hs t 0) (sym (set-get_or v.rx.heads source 0))
+      ∙ counts_set ps us room seats parcels coming v kept source within parcels None None None (get_or v.rx.heads source 0) (get_or v.rx.tails source 0 + 1) now t below
+
+  lies_after : ((id : ℕ) → IsKeptWay id stored.begun.way → ⊥) → (p : ℕ × Sign) (a : Arrival) → Lies parcels coming p a → Lies parcels (set coming source None) p a
+  lies_after other p a l =
+      lies_set parcels coming source None p a (row ps us room seats parcels coming v kept source within)
+      (λ none same. other p.0 (subst (λ (o : Option Begun). IsKeptAs p.0 o) (ap (λ t. get_or coming t None) same ∙ stored.stored) (l.partly none))) l
+
+  -- it is whole, and was not kept
+  pub ends : ((id : ℕ) → IsKeptWay id stored.begun.way → ⊥) → (rest : List (Option Begun)) → rest ≡ set coming source None → ((rx : Receiving) (bytes : List ℕ) → kept_by (Some stored.way) source bytes rx ≡ rx)
+      → IsKept ps us room seats parcels rest (finishing source v)
+  unfolding made_whole
+  ends other rest is same =
+      rw (is, stored.comes, same (made_whole source v.rx) (bytes_come (begun_of v source)), made_whole) (record {
+        receives = kept.receives;
+        messages = retied (Lies parcels coming) (Lies parcels (set coming source None)) us v.rx.unexpected (lies_after other) kept.messages;
+        ways = ways_set ps us room seats parcels coming v kept source within parcels None None None (λ t id h differs there. there) (refl, refl);
+        spare = kept.spare;
+        most = kept.most;
+        peers = length-set coming source None ∙ kept.peers ∙ sym (length-set v.begun source None);
+        comings = length-set v.rx.coming source None ∙ kept.comings ∙ sym (length-set v.begun source None);
+        heads = kept.heads ∙ sym (length-set v.begun source None);
+        tails = length-set v.rx.tails source (get_or v.rx.tails source 0 + 1) ∙ kept.tails ∙ sym (length-set v.begun source None);
+        under_way = counts_finish;
+        closing = kept.closing;
+        claimed = kept.claimed;
+      })
+
+  -- it is whole, and was kept under this id
+  module _ (id : ℕ) (under : (k : ℕ) → IsKeptWay k stored.begun.way → k ≡ id) (there : at parcels id ≡ Some (parcel_without source item.head)) (others : Cells Parcel)
+      (is : others.cells ≡ set parcels.cells id (Some (record { source = source; head = item.head; bytes = Some item.bytes }))) where
+    stays_else : (k : ℕ) → k ≢ id → at others k ≡ at parcels k
+    stays_else k other = at_other parcels others id (Some (record { source = source; head = item.head; bytes = Some item.bytes })) is k other
+
+    lies_whole : (p : ℕ × Sign) (a : Arrival) → Lies parcels coming p a → Lies others (set coming source None) p (whole_now source item.bytes a)
+    lies_whole p a l = by_id (same_or p.0 id)
+      where
+        by_id : (p.0 ≡ id) ⊎ (p.0 ≢ id) → Lies others (set coming source None) p (whole_now source item.bytes a)
+        by_id (inl same) =
+            let parcel : Some (parcel_of a) ≡ Some (parcel_without source item.head) = sym l.parcel ∙ ap (at parcels) same ∙ there in
+            let equal : parcel_of a ≡ parcel_without source item.head = cc in
+            let from : a.source ≡ source = ap (λ (x : Parcel). x.source) equal in
+            let none : a.bytes ≡ None = ap (λ (x : Parcel). x.bytes) equal in
+            let headed : a.head ≡ item.head = ap (λ (x : Parcel). x.head) equal in
+            let now : at others id ≡ Some (record { source = source; head = item.head; bytes = Some item.bytes }) =
+            at_same parcels others id (Some (record { source = source; head = item.head; bytes = Some item.bytes })) is (id_within parcels.cells id (parcel_without source item.head) there) in
+            rw (is_whole_now source item.bytes a none from) (record {
+              parcel = ap (at others) same ∙ now ∙ rw (from, headed) refl;
+              sign = l.sign;
+              message = l.message;
+              partly = λ missing. absurd (cc);
+            })
+        by_id (inr other) =
+            let never : a.bytes ≡ None → a.source ≡ source → ⊥ = λ none from.
+            other (under p.0 (subst (λ (o : Option Begun). IsKeptAs p.0 o) (ap (λ t. get_or coming t None) from ∙ stored.stored) (l.partly none))) in
+            rw (not_whole_now source item.bytes a never)
+            (lies_at parcels others (set coming source None) p a (stays_else p.0 other)
+            (lies_set parcels coming source None p a (row ps us room seats parcels coming v kept source within) (λ none from. absurd (never none from)) l))
+
+    pub ends_kept : (rest : List (Option Begun)) → rest ≡ set coming source None → stored.way ≡ KeepIt → IsKept ps us room seats others rest (finishing source v)
+    unfolding made_whole keeping
+    ends_kept rest set_down keeps =
+        let comes : coming_from v.rx source ≡ Some KeepIt = stored.comes ∙ ap (λ (w : Coming). Some w) keeps in
+        rw (set_down, comes, begun, keeping, made_whole, kept.claimed) (record {
+          receives = kept.receives;
+          messages = retied_map (Lies parcels coming) (Lies others (set coming source None)) (whole_now source item.bytes) us v.rx.unexpected lies_whole kept.messages;
+          ways = ways_set ps us room seats parcels coming v kept source within others None None None
+              (λ t k h differs holds. stays_else k (λ same. differs (let parcel : Some (parcel_without t h) ≡ Some (parcel_without source item.head) = sym holds ∙ ap (at parcels) same ∙ there in let equal : parcel_without t h ≡ parcel_without source item.head = cc in ap (λ (x : Parcel). x.source) equal)) ∙ holds)
+              (refl, refl);
+          spare = kept.spare;
+          most = kept.most;
+          peers = length-set coming source None ∙ kept.peers ∙ sym (length-set v.begun source None);
+          comings = length-set v.rx.coming source None ∙ kept.comings ∙ sym (length-set v.begun source None);
+          heads = kept.heads ∙ sym (length-set v.begun source None);
+          tails = length-set v.rx.tails source (get_or v.rx.tails source 0 + 1) ∙ kept.tails ∙ sym (length-set v.begun source None);
+          under_way = counts_finish;
+          closing = kept.closing;
+          claimed = refl;
+        })
+
+  -- ---- the same by what is stored
+
+  module _ (b : Begun) (is_stored : Some b ≡ get_or coming source None) where
+    equal : b ≡ stored.begun
+    equal = let both : Some b ≡ Some stored.begun = is_stored ∙ stored.stored in cc
+
+    comes : IsComing parcels source b stored.way item
+    comes = subst (λ (x : Begun). IsComing parcels source x stored.way item) (sym equal) stored.coming
+
+    pub grows_by : (new : Begun) (bytes : List ℕ) (rest : List (Option Begun)) → rest ≡ set (set coming source None) source (Some new)
+        → ((ps : Cells Parcel) (s : ℕ) (c : Coming) (i : Item) → IsComing ps s b c i → IsComing ps s new c (lengthened bytes i)) → ((id : ℕ) → IsKeptWay id b.way → IsKeptWay id new.way)
+        → IsKept ps us room seats parcels rest (growing source bytes v)
+    grows_by new bytes rest is more ids =
+        grows new bytes rest is (more parcels source stored.way item comes) (λ id k. ids id (subst (λ (x : Begun). IsKeptWay id x.way) (sym equal) k))
+
+    module _ (rest : List (Option Begun)) (is : rest ≡ set coming source None) where
+      by_way : (way : Way) → b.way ≡ way → ((id : ℕ) → IsKeptWay id way → ⊥) → ((rx : Receiving) (bytes : List ℕ) → kept_by (Some stored.way) source bytes rx ≡ rx) → IsKept ps us room seats parcels rest (finishing source v)
+      by_way way e never same =
+          ends (λ id k. never id (subst (λ (w : Way). IsKeptWay id w) (ap (λ (x : Begun). x.way) (sym equal) ∙ e) k)) rest is same
+
+      pub ends_into : (seat : Seat) → b.way ≡ Into seat → IsKept ps us room seats parcels rest (finishing source v)
+      ends_into seat e =
+          let goes : GoesBy parcels source (Into seat) stored.way item = subst (λ (w : Way). GoesBy parcels source w stored.way item) e comes.way in
+          by_way (Into seat) e (λ id k. k) (λ rx bytes. rw goes.1 refl)
+
+      pub ends_thrown : b.way ≡ Throw → IsKept ps us room seats parcels rest (finishing source v)
+      ends_thrown e =
+          let goes : GoesBy parcels source Throw stored.way item = subst (λ (w : Way). GoesBy parcels source w stored.way item) e comes.way in
+          by_way Throw e (λ id k. k) (λ rx bytes. rw goes refl)
+
+      pub ends_gathered : (gathered : Vec ℕ _) → b.way ≡ Gather gathered → IsKept ps us room seats parcels rest (finishing source v)
+      ends_gathered gathered e =
+          let goes : GoesBy parcels source (Gather gathered) stored.way item = subst (λ (w : Way). GoesBy parcels source w stored.way item) e comes.way in
+          by_way (Gather gathered) e (λ id k. k) (λ rx bytes. rw goes.0 (kept_other item.head.kind source bytes rx))
+
+      pub ends_as_kept : (id : ℕ) (gathered : Vec ℕ _) (bytes : List ℕ) (others : Cells Parcel) → b.way ≡ Keep id gathered → bytes ≡ gathered.items → others.cells ≡ set parcels.cells id (Some (record { source = source; head = b.head; bytes = Some bytes }))
+          → IsKept ps us room seats others rest (finishing source v)
+      ends_as_kept id gathered bytes others e all set_to =
+          let goes : GoesBy parcels source (Keep id gathered) stored.way item = subst (λ (w : Way). GoesBy parcels source w stored.way item) e comes.way in
+          ends_kept id (λ k held. let is_id : IsKeptWay k (Keep id gathered) = subst (λ (w : Way). IsKeptWay k w) (ap (λ (x : Begun). x.way) (sym equal) ∙ e) held in sym is_id) goes.3 others
+          (set_to ∙ ap (λ (p : Parcel). set parcels.cells id (Some p)) (λ i. record { source = source; head = sym comes.head i; bytes = Some ((all ∙ goes.1) i) })) rest is goes.0
+
+      -- the id under which it is kept has a message
+      pub kept_there : (id : ℕ) (gathered : Vec ℕ _) → b.way ≡ Keep id gathered → at parcels id ≡ Some (parcel_without source item.head)
+      kept_there id gathered e =
+          let goes : GoesBy parcels source (Keep id gathered) stored.way item = subst (λ (w : Way). GoesBy parcels source w stored.way item) e comes.way in
+          goes.3

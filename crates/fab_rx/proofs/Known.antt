@@ -1,0 +1,150 @@
+-- What callers know of the receive half between calls.
+use Rattle.std.proofs.Common.{◌≡◌, ◌≢◌, ℕ, zero, suc, replicate, nat_le, ◌≤◌, Bool, true, false, List, [], ◌∷◌, length, Option, Some, None, get_or, refl, sym, ◌∙◌, arith}
+use Rattle.std.specs.Prelude.{find, is_some, IfSome}
+use Rattle.std.specs.List.{AllZip, list_any, AllByRecursion}
+use Rattle.std.proofs.lemmas.List.Elements.{All-from_recursion}
+use Rattle.fab_base.specs.declared.items.Item.{Item}
+use Rattle.fab_base.specs.declared.items.ItemHead.{ItemHead}
+use Rattle.fab_base.specs.declared.items.Want.{Want}
+use Rattle.fab_base.specs.declared.items.Sign.{Sign}
+use Rattle.fab_base.specs.declared.operations.Receive.{Receive}
+use Rattle.fab_base.specs.declared.operations.Arrival.{Arrival}
+use Rattle.fab_base.specs.declared.operations.Coming.{Coming}
+use Rattle.fab_model.specs.Matching.{is_message}
+use Rattle.fab_model.specs.State.{coming_from}
+use Rattle.fab_model.specs.Receiving.{draws}
+use Rattle.fab_model.specs.Arrivals.{is_wanted, way_of}
+use Rattle.fab_base.specs.declared.items.Kind.{Kind}
+use Rattle.fab_base.specs.declared.items.Kind.TheVariants.{Msg, TagMsg, WriteReq, ReadReq, AtomicReq, Reply}
+use Rattle.fab_rx.specs.declared.stored.Seat.{Seat}
+use Rattle.fab_rx.specs.declared.stored.Parcel.{Parcel}
+use Rattle.fab_rx.specs.declared.stored.Way.{Way}
+use Rattle.fab_rx.specs.declared.stored.Way.TheVariants.{Into, Keep, Throw, Gather}
+use Rattle.fab_rx.specs.declared.stored.Begun.{Begun}
+use Rattle.fab_rx.specs.Table.{Cells}
+use Rattle.fab_rx.specs.Arriving.{Arriving, GoesToSingle, IsArriving, IsSingle, begun_of, nothing_arrived}
+use Rattle.fab_rx.specs.Stored.{GoesBy, IsKept, IsWay, Sits, entries_by}
+use Rattle.fab_rx.specs.Results.{entries_due}
+use Rattle.std.proofs.lemmas.Bool.Decides.{nat_tests}
+use Rattle.std.proofs.lemmas.List.{length-replicate}
+use Rattle.fab_rx.proofs.Tying.{tied_length}
+
+all_single : (seats : Cells Seat) (ps : List (ℕ × Want)) (rs : List Receive) → AllZip (Sits seats) ps rs → AllByRecursion IsSingle rs
+all_single seats [] [] t = tt
+all_single seats [] (r ∷ rs) t = absurd t
+all_single seats (p ∷ ps) [] t = absurd t
+all_single seats (p ∷ ps) (r ∷ rs) t = (t.0.single, all_single seats ps rs t.1)
+
+none_draws : (seats : Cells Seat) (us : List Arrival) (ps : List (ℕ × Want)) (rs : List Receive) → AllZip (Sits seats) ps rs → list_any (draws us) rs ≡ false
+none_draws seats us [] [] t = refl
+none_draws seats us [] (r ∷ rs) t = absurd t
+none_draws seats us (p ∷ ps) [] t = absurd t
+none_draws seats us (p ∷ ps) (r ∷ rs) t = rw t.0.single.least (none_draws seats us ps rs t.1)
+
+same_ways : (ps : Cells Parcel) (s : ℕ) (b : Option Begun) (c : Option Coming) (i : Option Item) → IsWay ps s b c i → is_some c ≡ is_some i
+same_ways ps s None c i w = rw (w.0, w.1) refl
+same_ways ps s (Some b) c i w = rw (w.2, w.3) refl
+
+bytes_within : (ps : Cells Parcel) (s : ℕ) (b : Option Begun) (c : Option Coming) (i : Option Item) → IsWay ps s b c i → IfSome i (λ item. length item.bytes ≤ item.head.total)
+bytes_within ps s None c i w = rw w.1 tt
+bytes_within ps s (Some b) c i w = rw w.3 w.4.within
+
+no_receive : (kind : Kind) → GoesToSingle (Some (way_of kind))
+no_receive Msg = tt
+no_receive TagMsg = tt
+no_receive WriteReq = tt
+no_receive ReadReq = tt
+no_receive AtomicReq = tt
+no_receive Reply = tt
+
+goes_single : (ps : Cells Parcel) (s : ℕ) (way : Way) (c : Coming) (item : Item) → GoesBy ps s way c item → GoesToSingle (Some c)
+goes_single ps s (Into seat) c item g = rw g.1 (g.2, refl)
+goes_single ps s (Keep id bytes) c item g = rw g.0 tt
+goes_single ps s Throw c item g = rw g tt
+goes_single ps s (Gather bytes) c item g = rw g.0 (no_receive item.head.kind)
+
+into_single : (ps : Cells Parcel) (s : ℕ) (b : Option Begun) (c : Option Coming) (i : Option Item) → IsWay ps s b c i → GoesToSingle c
+into_single ps s None c i w = rw w.0 tt
+into_single ps s (Some b) c i w = rw w.2 (goes_single ps s b.way w.0 w.1 w.4.way)
+
+-- a receive takes messages alone
+pub none_takes : (source : ℕ) (head : ItemHead) (rs : List Receive) → is_message head.kind ≡ false → find (is_wanted source head) rs ≡ None
+none_takes source head [] e = refl
+none_takes source head (r ∷ rs) e = rw e (none_takes source head rs e)
+
+-- a store is full exactly where as many receives are posted as may be
+pub full_is : (b : Bool) (n room most count : ℕ) → (b ≡ true → n ≡ room) × (n ≡ room → b ≡ true) → n ≤ room → room ≡ most → n ≡ count → b ≡ nat_le most count
+full_is true n room most count iff le a c = let same : n ≡ room = iff.0 refl in grind (arith, nat_tests)
+full_is false n room most count iff le a c = let differs : n ≢ room = λ same. (let yes : false ≡ true = iff.1 same in absurd (cc)) in grind (arith, nat_tests)
+
+due_other : (kind : Kind) → entries_due (Some (way_of kind)) ≡ 0
+due_other Msg = refl
+due_other TagMsg = refl
+due_other WriteReq = refl
+due_other ReadReq = refl
+due_other AtomicReq = refl
+due_other Reply = refl
+
+due_by : (ps : Cells Parcel) (s : ℕ) (way : Way) (c : Coming) (item : Item) → GoesBy ps s way c item → entries_by way ≡ entries_due (Some c)
+due_by ps s (Into seat) c item g = rw g.1 refl
+due_by ps s (Keep id bytes) c item g = rw g.0 refl
+due_by ps s Throw c item g = rw g refl
+due_by ps s (Gather bytes) c item g = rw g.0 (sym (due_other item.head.kind))
+
+pub none_due : (ps : Cells Parcel) (s : ℕ) (b : Option Begun) (c : Option Coming) (i : Option Item) → b ≡ None → IsWay ps s b c i → 0 ≡ entries_due c
+none_due ps s None c i e w = rw w.0 refl
+none_due ps s (Some b) c i e w = absurd (cc)
+
+pub some_due : (ps : Cells Parcel) (s : ℕ) (b : Begun) (o : Option Begun) (c : Option Coming) (i : Option Item) → o ≡ Some b → IsWay ps s o c i → entries_by b.way ≡ entries_due c
+some_due ps s b None c i e w = absurd (cc)
+some_due ps s b (Some d) c i e w = let same : b ≡ d = cc in rw (same, w.2) (due_by ps s d.way w.0 w.1 w.4.way)
+
+-- in a row without items none is begun
+pub none_in_row : {X : Type 0} (n s : ℕ) → get_or {A = Option X} (replicate n None) s None ≡ None
+none_in_row zero s = refl
+none_in_row (suc n) zero = refl
+none_in_row (suc n) (suc s) = none_in_row n s
+
+zero_in_row : (n s : ℕ) → ◌≡◌ {A = ℕ} (get_or (replicate n 0) s 0) 0
+zero_in_row zero s = refl
+zero_in_row (suc n) zero = refl
+zero_in_row (suc n) (suc s) = zero_in_row n s
+
+-- nothing is stored where nothing has arrived
+pub opens : (peers most room : ℕ) (ps : List (ℕ × Want)) (us : List (ℕ × Sign)) (seats : Cells Seat) (parcels : Cells Parcel) (coming : List (Option Begun)) → ps ≡ [] → us ≡ [] → room ≡ most → length seats.free ≡ most → coming ≡ replicate peers None
+    → IsKept ps us room seats parcels coming (nothing_arrived peers most)
+opens peers most room ps us seats parcels coming none_posted none_there same free none =
+    rw (none_posted, none_there, none) (record {
+      receives = tt;
+      messages = tt;
+      ways = λ s. rw (none_in_row {X = Begun} peers s, none_in_row {X = Coming} peers s, none_in_row {X = Item} peers s) (refl, refl);
+      spare = omega arith;
+      most = same;
+      peers = length-replicate peers None ∙ sym (length-replicate peers None);
+      comings = length-replicate peers None ∙ sym (length-replicate peers None);
+      heads = length-replicate peers 0 ∙ sym (length-replicate peers None);
+      tails = length-replicate peers 0 ∙ sym (length-replicate peers None);
+      under_way = λ s below. rw (zero_in_row peers s, none_in_row {X = Item} peers s) refl;
+      closing = refl;
+      claimed = refl;
+    })
+
+module _ (ps : List (ℕ × Want)) (us : List (ℕ × Sign)) (room : ℕ) (seats : Cells Seat) (parcels : Cells Parcel) (coming : List (Option Begun)) (v : Arriving) (kept : IsKept ps us room seats parcels coming v) where
+  pub posted_count : length ps ≡ length v.rx.posted
+  posted_count = tied_length (Sits seats) ps v.rx.posted kept.receives
+
+  pub is_arriving : IsArriving v
+  is_arriving = record {
+    coming = kept.comings;
+    heads = kept.heads;
+    tails = kept.tails;
+    under_way = kept.under_way;
+    ways = λ s. same_ways parcels s (get_or coming s None) (coming_from v.rx s) (begun_of v s) (kept.ways s);
+    within = λ s. bytes_within parcels s (get_or coming s None) (coming_from v.rx s) (begun_of v s) (kept.ways s);
+    single = All-from_recursion IsSingle v.rx.posted (all_single seats ps v.rx.posted kept.receives);
+    into = λ s. into_single parcels s (get_or coming s None) (coming_from v.rx s) (begun_of v s) (kept.ways s);
+    closing = kept.closing;
+    claimed = kept.claimed;
+    still = none_draws seats v.rx.unexpected ps v.rx.posted kept.receives;
+    room = let same = posted_count in let spare = kept.spare in omega arith;
+  }

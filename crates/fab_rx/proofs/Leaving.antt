@@ -1,0 +1,167 @@
+-- A receive leaves those posted: it is found by the order of ids, and has no item under way.
+use Rattle.std.proofs.Common.{◌≡◌, ℕ, ◌+◌, ◌==◌, Bool, true, false, ◌&&◌, List, [], ◌∷◌, ◌++◌, length, map, Option, Some, None, get_or, set, refl, sym, ap, subst, ◌∙◌, arith}
+use Rattle.std.specs.Prelude.{find}
+use Rattle.std.specs.Option.{option_map}
+use Rattle.std.specs.List.{AllZip}
+use Rattle.std.proofs.lemmas.Bool.{eq-eqb, eqb-true}
+use Rattle.std.proofs.lemmas.List.{map-append}
+use Rattle.fab_base.specs.declared.items.Want.{Want}
+use Rattle.fab_base.specs.declared.items.Sign.{Sign}
+use Rattle.fab_base.specs.declared.operations.Receive.{Receive}
+use Rattle.fab_model.specs.Matching.{remove_first}
+use Rattle.fab_model.specs.State.{Receiving, under_way}
+use Rattle.fab_model.specs.Receiving.{cancellable, may_leave}
+use Rattle.fab_match.specs.Matcher.{has_id, without}
+use Rattle.fab_rx.specs.declared.stored.Seat.{Seat}
+use Rattle.fab_rx.specs.declared.stored.Parcel.{Parcel}
+use Rattle.fab_rx.specs.declared.stored.Begun.{Begun}
+use Rattle.fab_rx.specs.Table.{Cells, at}
+use Rattle.fab_rx.specs.Arriving.{Arriving}
+use Rattle.fab_rx.specs.Leaving.{cancelling, is_meant, is_meant_at}
+use Rattle.fab_rx.specs.Numbers.{GoesElsewhere, IsNumbered}
+use Rattle.fab_rx.specs.Results.{cancelled}
+use Rattle.fab_rx.specs.Stored.{IsKept, Sits, seat_of}
+use Rattle.fab_rx.proofs.Tying.{retied, retied_but}
+use Rattle.fab_rx.proofs.Keeping.{at_other, sits_at}
+use Rattle.fab_rx.proofs.Numbering.{elsewhere_by, not_under_way}
+
+-- the ids without one are those of the pairs without it
+pub ids_without : {X : Type 0} (id : ℕ) (xs : List (ℕ × X)) → map (λ p. p.0) (without id xs) ≡ remove_first (λ k. k == id) (map (λ p. p.0) xs)
+ids_without id [] = refl
+ids_without {X} id (x ∷ xs) = step (x.0 == id) refl (ids_without id xs)
+  where
+    step : (b : Bool) → (x.0 == id) ≡ b → map (λ p. p.0) (without id xs) ≡ remove_first (λ k. k == id) (map (λ p. p.0) xs) → map (λ p. p.0) (without id (x ∷ xs)) ≡ remove_first (λ k. k == id) (map (λ p. p.0) (x ∷ xs))
+    step true e more = rw (e, remove_first) refl
+    step false e more = rw (e, remove_first) (ap (λ ks. x.0 ∷ ks) more)
+
+-- the order of ids after one is struck, and after one joined
+pub struck : {X : Type 0} (ids after : List ℕ) (ps rest : List (ℕ × X)) (id : ℕ) → ids ≡ map (λ p. p.0) ps → rest ≡ without id ps → after ≡ remove_first (λ k. k == id) ids → after ≡ map (λ p. p.0) rest
+struck ids after ps rest id tied are is = is ∙ ap (remove_first (λ k. k == id)) tied ∙ sym (ids_without id ps) ∙ ap (map (λ p. p.0)) (sym are)
+
+pub joined : {X : Type 0} (ids after : List ℕ) (ps : List (ℕ × X)) (p : ℕ × X) → ids ≡ map (λ p. p.0) ps → after ≡ ids ++ p.0 ∷ [] → after ≡ map (λ p. p.0) (ps ++ p ∷ [])
+joined ids after ps p tied is = is ∙ ap (λ ks. ks ++ p.0 ∷ []) tied ∙ sym (map-append (λ p. p.0) ps (p ∷ []))
+
+pub passes : (want : ℕ → Bool) (ks : List ℕ) (id : ℕ) → find want ks ≡ Some id → want id ≡ true
+passes want [] id e = absurd (cc)
+passes want (k ∷ ks) id e = step (want k) refl (λ later. passes want ks id later)
+  where
+    step : (b : Bool) → want k ≡ b → (find want ks ≡ Some id → want id ≡ true) → want id ≡ true
+    step true is later = let same : Some k ≡ Some id = rw is at e in let equal : k ≡ id = cc in ap want (sym equal) ∙ is
+    step false is later = later (rw is at e)
+
+module _ {X B : Type 0} (R : ℕ × X → B → Type 0) (want : ℕ → Bool) (test : B → Bool) (agree : (p : ℕ × X) (y : B) → R p y → want p.0 ≡ test y) where
+  pub record IsLeaving (id : ℕ) (xs : List (ℕ × X)) (ys : List B) : Type 0 where
+    pub member : B
+    pub pair : ℕ × X
+    pub is : pair.0 ≡ id
+    pub found : find test ys ≡ Some member
+    pub tie : R pair member
+    pub rest : AllZip R (without id xs) (remove_first test ys)
+    pub shorter : length (without id xs) + 1 ≡ length xs
+
+  pub leaving : (id : ℕ) (xs : List (ℕ × X)) (ys : List B) → AllZip R xs ys → find want (map (λ p. p.0) xs) ≡ Some id → IsLeaving id xs ys
+  leaving id [] [] t e = absurd (cc)
+  leaving id [] (y ∷ ys) t e = absurd t
+  leaving id (x ∷ xs) [] t e = absurd t
+  leaving id (x ∷ xs) (y ∷ ys) t e = step (want x.0) refl (test y) refl (λ later. leaving id xs ys t.1 later) (x.0 == id) refl
+    where
+      step : (b : Bool) → want x.0 ≡ b → (d : Bool) → test y ≡ d → (find want (map (λ p. p.0) xs) ≡ Some id → IsLeaving id xs ys) → (s : Bool) → (x.0 == id) ≡ s → IsLeaving id (x ∷ xs) (y ∷ ys)
+      step true w true d later s same =
+          let both : Some x.0 ≡ Some id = rw w at e in
+          let equal : x.0 ≡ id = cc in
+          let yes : (x.0 == id) ≡ true = eq-eqb x.0 id equal in
+          record { member = y; pair = x; is = equal; found = rw d refl; tie = t.0; rest = rw (yes, d, remove_first) t.1; shorter = rw (yes, remove_first) (omega arith) }
+      step false w false d later false other =
+          let more = later (rw w at e) in
+          let shorter = more.shorter in
+          record { member = more.member; pair = more.pair; is = more.is; found = rw d more.found; tie = more.tie; rest = rw (other, d, remove_first) (t.0, more.rest); shorter = rw (other, remove_first) (omega arith) }
+      step false w false d later true same =
+          let passed = passes want (map (λ p. p.0) xs) id (rw w at e) in
+          let equal = eqb-true x.0 id same in
+          absurd (let no : true ≡ false = sym passed ∙ ap want (sym equal) ∙ w in cc)
+      step true w false d later s same = absurd (let no : true ≡ false = sym w ∙ agree x y t.0 ∙ d in cc)
+      step false w true d later s same = absurd (let no : true ≡ false = sym d ∙ sym (agree x y t.0) ∙ w in cc)
+
+  pub staying : (xs : List (ℕ × X)) (ys : List B) → AllZip R xs ys → find want (map (λ p. p.0) xs) ≡ None → (find test ys ≡ None) × (remove_first test ys ≡ ys)
+  staying [] [] t e = (refl, refl)
+  staying [] (y ∷ ys) t e = absurd t
+  staying (x ∷ xs) [] t e = absurd t
+  staying (x ∷ xs) (y ∷ ys) t e = step (want x.0) refl (test y) refl (λ later. staying xs ys t.1 later)
+    where
+      step : (b : Bool) → want x.0 ≡ b → (d : Bool) → test y ≡ d → (find want (map (λ p. p.0) xs) ≡ None → (find test ys ≡ None) × (remove_first test ys ≡ ys)) → (find test (y ∷ ys) ≡ None) × (remove_first test (y ∷ ys) ≡ y ∷ ys)
+      step true w d is later = absurd (let no : Some x.0 ≡ None = rw w at e in cc)
+      step false w false d later = let more = later (rw w at e) in (rw d more.0, rw (d, remove_first) (ap (λ zs. y ∷ zs) more.1))
+      step false w true d later = absurd (let no : true ≡ false = sym d ∙ sym (agree x y t.0) ∙ w in cc)
+
+-- a posted receive with what is known of it
+pub record IsIdle (seats : Cells Seat) (rx : Receiving) (p : ℕ × Want) (r : Receive) : Type 0 where
+  pub sits : Sits seats p r
+  pub idle : under_way rx r.call ≡ false
+
+all_idle : (seats : Cells Seat) (rx : Receiving) (n : ℕ) (ps : List (ℕ × Want)) (rs : List Receive) → AllZip (Sits seats) ps rs → ((t : ℕ) → GoesElsewhere n rs (get_or rx.coming t None)) → AllZip (IsIdle seats rx) ps rs
+all_idle seats rx n [] [] t g = tt
+all_idle seats rx n [] (r ∷ rs) t g = absurd t
+all_idle seats rx n (p ∷ ps) [] t g = absurd t
+all_idle seats rx n (p ∷ ps) (r ∷ rs) t g =
+    (record { sits = t.0; idle = not_under_way n rs r rx.coming g }, all_idle seats rx n ps rs t.1 (λ s. elsewhere_by n n (r ∷ rs) rs (get_or rx.coming s None) (omega arith) (λ call lt h. h.1) (g s)))
+
+meant_alike : (ctx : Option ℕ) (r : Receive) (o : Option Seat) → o ≡ Some (seat_of r) → is_meant_at ctx o ≡ is_meant ctx r
+meant_alike None r o e = rw e refl
+meant_alike (Some ctx) r o e = rw e refl
+
+pub idle_agrees : (seats : Cells Seat) (rx : Receiving) (ctx : Option ℕ) (p : ℕ × Want) (r : Receive) → IsIdle seats rx p r → is_meant_at ctx (at seats p.0) ≡ may_leave rx (is_meant ctx) r
+idle_agrees seats rx ctx p r i = meant_alike ctx r (at seats p.0) i.sits.seat ∙ sym (rw i.idle (and_true (is_meant ctx r)))
+  where
+    and_true : (b : Bool) → (b && true) ≡ b
+    and_true true = refl
+    and_true false = refl
+
+module _ (ps : List (ℕ × Want)) (us : List (ℕ × Sign)) (room : ℕ) (seats : Cells Seat) (parcels : Cells Parcel) (coming : List (Option Begun)) (v : Arriving) (kept : IsKept ps us room seats parcels coming v)
+    (numbers : IsNumbered v.rx.posted v.rx.coming v.next) (ctx : Option ℕ) where
+  idle : AllZip (IsIdle seats v.rx) ps v.rx.posted
+  idle = all_idle seats v.rx v.next ps v.rx.posted kept.receives numbers.into
+
+  -- where none is meant, none leaves
+  module _ (e : find (λ id. is_meant_at ctx (at seats id)) (map (λ p. p.0) ps) ≡ None) where
+    stays : (find (may_leave v.rx (is_meant ctx)) v.rx.posted ≡ None) × (remove_first (may_leave v.rx (is_meant ctx)) v.rx.posted ≡ v.rx.posted)
+    stays = staying (IsIdle seats v.rx) (λ id. is_meant_at ctx (at seats id)) (may_leave v.rx (is_meant ctx)) (idle_agrees seats v.rx ctx) ps v.rx.posted idle e
+
+    pub none_leaves : cancellable (is_meant ctx) v.rx ≡ None
+    none_leaves = stays.0
+
+    pub nothing_changes : cancelling ctx v ≡ v
+    nothing_changes = rw stays.1 refl
+
+  module _ (id : ℕ) (e : find (λ id. is_meant_at ctx (at seats id)) (map (λ p. p.0) ps) ≡ Some id) where
+    pub leaves : IsLeaving (IsIdle seats v.rx) (λ id. is_meant_at ctx (at seats id)) (may_leave v.rx (is_meant ctx)) (idle_agrees seats v.rx ctx) id ps v.rx.posted
+    leaves = leaving (IsIdle seats v.rx) (λ id. is_meant_at ctx (at seats id)) (may_leave v.rx (is_meant ctx)) (idle_agrees seats v.rx ctx) id ps v.rx.posted idle e
+
+    pub seat_found : at seats id ≡ None → ⊥
+    seat_found none = let no : Some (seat_of leaves.member) ≡ None = sym leaves.tie.sits.seat ∙ ap (at seats) leaves.is ∙ none in cc
+
+    module _ (seat : Seat) (there : Some seat ≡ at seats id) where
+      pub cancelled_is : Some (record { ctx = seat.ctx; buf = seat.buf }) ≡ option_map cancelled (cancellable (is_meant ctx) v.rx)
+      cancelled_is =
+          let both : Some seat ≡ Some (seat_of leaves.member) = there ∙ ap (at seats) (sym leaves.is) ∙ leaves.tie.sits.seat in
+          let same : seat ≡ seat_of leaves.member = cc in
+          rw (leaves.found, same) refl
+
+      pub left : (rest : List (ℕ × Want)) (others : Cells Seat) → rest ≡ without id ps → has_id id rest ≡ false → others.cells ≡ set seats.cells id None → length others.free ≡ length seats.free + 1
+          → IsKept rest us room others parcels coming (cancelling ctx v)
+      left rest others are gone is more = record {
+        receives =
+            retied_but (Sits seats) (Sits others) id rest (remove_first (may_leave v.rx (is_meant ctx)) v.rx.posted) (λ p q other s. sits_at seats others p q (at_other seats others id None is p.0 other) s) gone
+            (retied (IsIdle seats v.rx) (Sits seats) rest (remove_first (may_leave v.rx (is_meant ctx)) v.rx.posted) (λ p r i. i.sits)
+            (subst (λ (xs : List (ℕ × Want)). AllZip (IsIdle seats v.rx) xs (remove_first (may_leave v.rx (is_meant ctx)) v.rx.posted)) (sym are) leaves.rest));
+        messages = kept.messages;
+        ways = kept.ways;
+        spare = let shorter = leaves.shorter in let long = ap length are in let spare = kept.spare in omega arith;
+        most = kept.most;
+        peers = kept.peers;
+        comings = kept.comings;
+        heads = kept.heads;
+        tails = kept.tails;
+        under_way = kept.under_way;
+        closing = kept.closing;
+        claimed = kept.claimed;
+      }

@@ -1,0 +1,19 @@
+use Rattle.std.proofs.Common.{◌≤◌, ◌+◌, ◌<◌, ◌∙◌, length, subst, sym, set, Some}
+use Rattle.std.specs.Prelude.{IsSomeAnd}
+use Rattle.fab_rx.specs.Arriving.{Arriving, begun_of}
+use Rattle.fab_rx.proofs.Growing.{item_there, grows_by}
+use Rattle.fab_rx.proofs.inbox.Inbox.fill.Goals as goal
+
+pub invariant_of-self : goal.invariant_of-self
+invariant_of-self g c =
+    let source = c.args.source in
+    let within : source < length c.self.inside.past.begun = subst (λ (v : Arriving). source < length v.begun) (sym c.self.view_is) c.requires.source in
+    let there = item_there (λ item. length item.bytes + length c.args.bytes.now ≤ item.head.total) (begun_of c.self.inside.past source)
+    (subst (λ (v : Arriving). IsSomeAnd (begun_of v source) (λ item. length item.bytes + length c.args.bytes.now ≤ item.head.total)) (sym c.self.view_is) c.requires.fits) in
+    let after = c.set_down.ensures ∙ (λ i. set (c.lift.ensures.rest i) source (Some c.filled.result)) in
+    rw c.note.ensures (record {
+      kept = grows_by _ _ _ _ _ _ _ c.self.invariant.kept source within there.0 there.1 c.in-Some.begun c.in-Some.ensures.value c.filled.result c.args.bytes.now _ after c.filled.ensures.coming c.filled.ensures.id;
+      order = c.self.invariant.order;
+      reserved = c.self.invariant.reserved;
+      numbers = c.self.invariant.numbers;
+    })

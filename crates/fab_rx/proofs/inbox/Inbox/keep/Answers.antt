@@ -1,0 +1,39 @@
+use Rattle.std.proofs.Common.{◌≡◌, ◌<◌, ◌∙◌, None, length, subst, sym}
+use Rattle.fab_model.specs.Arrivals.{taker}
+use Rattle.fab_rx.specs.Arriving.{Arriving, begun_of}
+use Rattle.fab_rx.proofs.Numbering.{numbers_keep}
+use Rattle.fab_rx.proofs.Keeping.{fresh_message, keeps, widened}
+use Rattle.fab_rx.proofs.inbox.Inbox.keep.Goals as goal
+
+pub add_unexpected-requires : goal.add_unexpected-requires
+add_unexpected-requires g c =
+    let source = c.args.source in
+    let within : source < length c.self.inside.past.begun = subst (λ (v : Arriving). source < length v.begun) (sym c.self.view_is) c.requires.source in
+    let nothing : begun_of c.self.inside.past source ≡ None = subst (λ (v : Arriving). begun_of v source ≡ None) (sym c.self.view_is) c.requires.nothing in
+    record { new = fresh_message _ _ _ _ _ _ _ c.self.invariant.kept source c.args.head.now within nothing c.requires.message c.next_id.result c.make_room.new.self c.make_room.ensures.same c.next_id.ensures.empty }
+
+pub invariant_of-self-in_err-add_unexpected : goal.invariant_of-self-in_err-add_unexpected
+invariant_of-self-in_err-add_unexpected g c =
+    rw (c.in_err-add_unexpected.ensures.err, c.add_unexpected.ensures.posted, c.add_unexpected.ensures.room) (record {
+      kept = widened _ _ _ _ _ _ _ c.self.invariant.kept c.make_room.new.self c.make_room.ensures.same;
+      order = c.self.invariant.order;
+      reserved = c.self.invariant.reserved;
+      numbers = c.self.invariant.numbers;
+    })
+
+pub invariant_of-self-2 : goal.invariant_of-self-2
+invariant_of-self-2 g c =
+    let source = c.args.source in
+    let within : source < length c.self.inside.past.begun = subst (λ (v : Arriving). source < length v.begun) (sym c.self.view_is) c.requires.source in
+    let nothing : begun_of c.self.inside.past source ≡ None = subst (λ (v : Arriving). begun_of v source ≡ None) (sym c.self.view_is) c.requires.nothing in
+    let untaken : taker source c.args.head.now c.self.inside.past.rx ≡ None = subst (λ (v : Arriving). taker source c.args.head.now v.rx ≡ None) (sym c.self.view_is) c.requires.untaken in
+    let same : c.put-id.result ≡ c.next_id.result = c.put-id.ensures.id ∙ sym c.next_id.ensures.id in
+    rw (c.set_down.ensures, c.note.ensures, c.in_ok-add_unexpected.ensures.ok, c.add_unexpected.ensures.posted, c.add_unexpected.ensures.room, ← same)
+    (record {
+      kept =
+          keeps _ _ _ _ _ _ _ c.self.invariant.kept source c.args.head.now within nothing c.requires.message c.put-id.result c.make_room.new.self c.make_room.ensures.same c.put-id.ensures.empty c.sign_of.result c.in_ok-bytes.bytes _
+          c.sign_of.ensures.exact untaken c.in_ok-bytes.ensures.items c.in_ok-bytes.ensures.capacity c.put-id.ensures.within c.put-id.ensures.cells;
+      order = c.self.invariant.order;
+      reserved = c.self.invariant.reserved;
+      numbers = numbers_keep c.self.inside.past c.self.invariant.numbers source c.args.head.now c.requires.message untaken;
+    })

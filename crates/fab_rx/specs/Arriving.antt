@@ -1,0 +1,157 @@
+-- What contracts see of the receive half: the machine's own part of it, and of each source the item that has arrived and is not whole.
+--     Arriving                       the value
+--     arriving, growing, finishing   what the first frame of an item does, more of its bytes, and their end
+--     posting                        what a receive call does (fi_msg(3), fi_tagged(3))
+--     with_receiving                 where the machine's part alone changes, as where a receive is cancelled
+--     IsArriving                     what holds between calls
+use Rattle.std.specs.Prelude.{◌≡◌, ℕ, ◌+◌, ◌<◌, ◌≤◌, Bool, true, false, List, [], ◌++◌, length, Option, Some, None, is_some, find, replicate, slice_index, slice_index_or, slice_set, unwrap_or, IfSome, All}
+use Rattle.std.specs.Option.{option_map}
+use Rattle.fab_base.specs.declared.items.Item.{Item}
+use Rattle.fab_base.specs.declared.items.ItemHead.{ItemHead}
+use Rattle.fab_base.specs.declared.items.Want.{Want}
+use Rattle.fab_base.specs.declared.operations.Receive.{Receive}
+use Rattle.fab_base.specs.declared.operations.Arrival.{Arrival}
+use Rattle.fab_base.specs.declared.operations.Coming.{Coming}
+use Rattle.fab_base.specs.declared.operations.Coming.TheVariants.{Into, Keep}
+use Rattle.fab_model.specs.Matching.{is_message, takes}
+use Rattle.fab_model.specs.State.{Receiving, coming_from}
+use Rattle.fab_model.specs.Receiving.{draw_due, goes, joining_posted, without_first}
+use Rattle.fab_model.specs.Arrivals.{heading_message, heading_other, keeping, made_whole}
+
+pub record Arriving : Type 0 where
+  -- the machine's part
+  pub rx : Receiving
+  -- of each source, the item that has arrived and is not whole, as far as it came
+  pub begun : List (Option Item)
+  -- how many receives may be posted
+  pub most : ℕ
+  -- above the number of each call that posted a receive here
+  pub next : ℕ
+
+abbrev pub begun_of : Arriving → ℕ → Option Item
+begun_of v source = slice_index_or v.begun source None
+
+abbrev pub with_receiving : Receiving → Arriving → Arriving
+with_receiving rx v = record { rx = rx; begun = v.begun; most = v.most; next = v.next }
+
+-- nothing has arrived of any peer, and nothing is posted
+abbrev pub nothing_arrived : ℕ → ℕ → Arriving
+nothing_arrived peers most = record {
+  rx = record {
+    posted = [];
+    closing = [];
+    coming = replicate peers None;
+    unexpected = [];
+    claimed = [];
+    heads = replicate peers 0;
+    tails = replicate peers 0;
+  };
+  begun = replicate peers None;
+  most = most;
+  next = 0;
+}
+
+-- ---- an item arrives
+
+-- an item of this kind has arrived, a message or another one
+abbrev pub headed : Bool → ℕ → ItemHead → Receiving → Receiving
+headed true source head rx = heading_message source head rx
+headed false source head rx = heading_other source head.kind rx
+
+-- an item without its bytes
+abbrev pub bare : ItemHead → Item
+bare head = record { head = head; bytes = [] }
+
+abbrev pub arriving : ℕ → ItemHead → Arriving → Arriving
+arriving source head v = record {
+  rx = headed (is_message head.kind) source head v.rx;
+  begun = slice_set v.begun source (Some (bare head));
+  most = v.most;
+  next = v.next;
+}
+
+-- ---- its bytes come
+
+abbrev pub lengthened : List ℕ → Item → Item
+lengthened bytes item = record { head = item.head; bytes = item.bytes ++ bytes }
+
+abbrev pub growing : ℕ → List ℕ → Arriving → Arriving
+growing source bytes v = record {
+  rx = v.rx;
+  begun = slice_set v.begun source (option_map (lengthened bytes) (begun_of v source));
+  most = v.most;
+  next = v.next;
+}
+
+-- ---- it is whole
+
+-- the bytes join a message that no receive took
+abbrev pub kept : Option Coming → ℕ → List ℕ → Receiving → Receiving
+kept (Some Keep) source bytes rx = keeping source bytes rx
+kept _ source bytes rx = rx
+
+abbrev pub bytes_come : Option Item → List ℕ
+bytes_come None = []
+bytes_come (Some item) = item.bytes
+
+abbrev pub finishing : ℕ → Arriving → Arriving
+finishing source v = record {
+  rx = kept (coming_from v.rx source) source (bytes_come (begun_of v source)) (made_whole source v.rx);
+  begun = slice_set v.begun source None;
+  most = v.most;
+  next = v.next;
+}
+
+-- ---- a receive call
+
+-- a receive for one message, by the number of its call
+abbrev pub receive_by : Option ℕ → Want → List ℕ → ℕ → Receive
+receive_by call want buf ctx = record { call = unwrap_or call 0; want = want; buf = buf; ctx = ctx; least = None; used = 0 }
+
+-- of a message that is not whole the rest goes into the receive
+abbrev pub given : Option (List ℕ) → ℕ → Receive → Receiving → Receiving
+given None source r rx = goes source (Into r 0) rx
+given (Some bytes) source r rx = rx
+
+-- the receive gets this unexpected message, or joins those posted
+abbrev pub posted_to : Option Arrival → Receive → Receiving → Receiving
+posted_to None r rx = joining_posted r rx
+posted_to (Some a) r rx = given a.bytes a.source r (without_first r.want rx)
+
+abbrev pub posting : Receive → Arriving → Arriving
+posting r v = record { rx = posted_to (find (takes r.want) v.rx.unexpected) r v.rx; begun = v.begun; most = v.most; next = r.call + 1 }
+
+-- ---- what holds between calls
+
+-- a receive for one message
+pub record IsSingle (r : Receive) : Type 0 where
+  pub least : r.least ≡ None
+  pub used : r.used ≡ 0
+
+-- the item goes to the start of a receive for one message, or to no receive
+abbrev pub GoesToSingle : Option Coming → Type 0
+GoesToSingle (Some (Into r place)) = IsSingle r × (place ≡ 0)
+GoesToSingle _ = Unit {0}
+
+abbrev pub count_begun : Option Item → ℕ
+count_begun None = 0
+count_begun (Some item) = 1
+
+pub record IsArriving (v : Arriving) : Type 0 where
+  -- a member for each peer
+  pub coming : length v.rx.coming ≡ length v.begun
+  pub heads : length v.rx.heads ≡ length v.begun
+  pub tails : length v.rx.tails ≡ length v.begun
+  -- all items that arrived are whole but the one that is begun
+  pub under_way : (s : ℕ) → s < length v.begun → slice_index v.rx.heads s ≡ slice_index v.rx.tails s + count_begun (begun_of v s)
+  -- an item is coming where one is begun
+  pub ways : (s : ℕ) → is_some (coming_from v.rx s) ≡ is_some (begun_of v s)
+  pub within : (s : ℕ) → IfSome (begun_of v s) (λ item. length item.bytes ≤ item.head.total)
+  -- receives are for one message each, and no message is claimed
+  pub single : All IsSingle v.rx.posted
+  pub into : (s : ℕ) → GoesToSingle (coming_from v.rx s)
+  pub closing : v.rx.closing ≡ []
+  pub claimed : v.rx.claimed ≡ []
+  pub still : draw_due v.rx ≡ false
+  -- no more receives are posted than may be
+  pub room : length v.rx.posted ≤ v.most

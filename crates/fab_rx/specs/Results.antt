@@ -1,0 +1,52 @@
+-- What the receive half hands out: completions, items and buffers.
+--     completed r place source head bytes      the completion of a receive that got this message from the place on
+--     posted_as r found      what a receive call answers, where this unexpected message was found
+--     ended coming source item      what becomes of an item that is whole
+--     entries_due coming      how many completions that makes
+--     cancelled r            what a cancelled receive leaves
+use Rattle.std.specs.Prelude.{ℕ, List, Option, Some, None}
+use Rattle.fab_base.specs.declared.items.Item.{Item}
+use Rattle.fab_base.specs.declared.items.ItemHead.{ItemHead}
+use Rattle.fab_base.specs.declared.operations.Receive.{Receive}
+use Rattle.fab_base.specs.declared.operations.Arrival.{Arrival}
+use Rattle.fab_base.specs.declared.operations.Coming.{Coming}
+use Rattle.fab_base.specs.declared.operations.Coming.TheVariants.{Into, Keep, Throw, Request as RequestComes, Answer as AnswerComes}
+use Rattle.fab_model.specs.Complete.{entry_of, has_space}
+use Rattle.fab_rx.specs.declared.results.Completed.{Completed}
+use Rattle.fab_rx.specs.declared.results.Posted.{Posted}
+use Rattle.fab_rx.specs.declared.results.Posted.TheVariants.{Joined, GoesOn, Whole}
+use Rattle.fab_rx.specs.declared.results.Finished.{Finished}
+use Rattle.fab_rx.specs.declared.results.Finished.TheVariants.{Received, Kept, Thrown, Request, Answer}
+use Rattle.fab_rx.specs.declared.results.Cancelled.{Cancelled}
+
+abbrev pub completed : Receive → ℕ → ℕ → ItemHead → List ℕ → Completed
+completed r place source head bytes = record { entry = entry_of r place source head bytes; good = has_space r place head; source = source; head = head }
+
+-- a message that is whole completes the receive, of another one the rest goes on
+abbrev pub given_as : Option (List ℕ) → Arrival → Receive → Posted
+given_as None a r = GoesOn
+given_as (Some bytes) a r = Whole (completed r 0 a.source a.head bytes)
+
+abbrev pub posted_as : Receive → Option Arrival → Posted
+posted_as r None = Joined
+posted_as r (Some a) = given_as a.bytes a r
+
+abbrev pub ended : Option Coming → ℕ → Item → Finished
+ended (Some (Into r place)) source item = Received (completed r place source item.head item.bytes)
+ended (Some Keep) source item = Kept item.head
+ended (Some Throw) source item = Thrown item.head
+ended (Some RequestComes) source item = Request item
+ended (Some AnswerComes) source item = Answer item
+ended None source item = Thrown item.head
+
+abbrev pub entries_due : Option Coming → ℕ
+entries_due (Some (Into r place)) = 1
+entries_due _ = 0
+
+-- the call of the receive into which the item goes
+abbrev pub call_into : Option Coming → Option ℕ
+call_into (Some (Into r place)) = Some r.call
+call_into _ = None
+
+abbrev pub cancelled : Receive → Cancelled
+cancelled r = record { ctx = r.ctx; buf = r.buf }

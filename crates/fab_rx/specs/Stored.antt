@@ -1,0 +1,133 @@
+-- What is stored of the receive half, and how it stands for what contracts see: numbers of calls and places are forgotten.
+--     Sits seats p r         the posted receive r is the pair p of the matching store
+--     Lies parcels coming p a      the unexpected message a is the pair p of the matching store
+--     IsWay parcels source stored coming item      what is stored of the item of this source that has arrived and is not whole
+--     HasRoomFor n stored    so many more of its bytes may come
+--     IsKept                 all of it
+--     IsInbox                the same, with the order of the ids and the numbers of calls
+use Rattle.std.specs.Prelude.{◌≡◌, ℕ, ◌+◌, ◌<◌, ◌≤◌, true, List, [], length, map, Option, Some, None, slice_index, slice_index_or, vec_capacity}
+use Rattle.std.specs.List.{AllZip}
+use Rattle.fab_base.specs.declared.items.Item.{Item}
+use Rattle.fab_base.specs.declared.items.ItemHead.{ItemHead}
+use Rattle.fab_base.specs.declared.items.Want.{Want}
+use Rattle.fab_base.specs.declared.items.Sign.{Sign}
+use Rattle.fab_base.specs.declared.operations.Receive.{Receive}
+use Rattle.fab_base.specs.declared.operations.Arrival.{Arrival}
+use Rattle.fab_base.specs.declared.operations.Coming.{Coming}
+use Rattle.fab_base.specs.declared.operations.Coming.TheVariants.{Into as IntoReceive, Keep as KeepIt, Throw as ThrowIt}
+use Rattle.fab_model.specs.Matching.{is_message}
+use Rattle.fab_model.specs.State.{coming_from}
+use Rattle.fab_model.specs.Complete.{paste}
+use Rattle.fab_model.specs.Arrivals.{way_of}
+use Rattle.fab_match.specs.Signs.{sign_of}
+use Rattle.fab_rx.specs.declared.stored.Seat.{Seat}
+use Rattle.fab_rx.specs.declared.stored.Parcel.{Parcel}
+use Rattle.fab_rx.specs.declared.stored.Way.{Way}
+use Rattle.fab_rx.specs.declared.stored.Way.TheVariants.{Into, Keep, Throw, Gather}
+use Rattle.fab_rx.specs.declared.stored.Begun.{Begun}
+use Rattle.fab_rx.specs.Table.{Cells, at}
+use Rattle.fab_rx.specs.Numbers.{IsNumbered}
+use Rattle.fab_rx.specs.Arriving.{Arriving, IsSingle, begun_of, count_begun}
+
+-- ---- receives
+
+-- the receive, with these first bytes of its message in its buffer
+abbrev pub seat_with : Receive → List ℕ → Seat
+seat_with r bytes = record { buf = paste r.buf 0 bytes; ctx = r.ctx }
+
+abbrev pub seat_of : Receive → Seat
+seat_of r = record { buf = r.buf; ctx = r.ctx }
+
+pub record Sits (seats : Cells Seat) (p : ℕ × Want) (r : Receive) : Type 0 where
+  pub want : p.1 ≡ r.want
+  pub seat : at seats p.0 ≡ Some (seat_of r)
+  pub single : IsSingle r
+
+-- ---- unexpected messages
+
+abbrev pub parcel_of : Arrival → Parcel
+parcel_of a = record { source = a.source; head = a.head; bytes = a.bytes }
+
+-- the bytes are gathered for the message under this id
+abbrev pub IsKeptWay : ℕ → Way → Type 0
+IsKeptWay id (Keep k bytes) = k ≡ id
+IsKeptWay id (Into seat) = ⊥
+IsKeptWay id Throw = ⊥
+IsKeptWay id (Gather bytes) = ⊥
+
+abbrev pub IsKeptAs : ℕ → Option Begun → Type 0
+IsKeptAs id None = ⊥
+IsKeptAs id (Some b) = IsKeptWay id b.way
+
+pub record Lies (parcels : Cells Parcel) (coming : List (Option Begun)) (p : ℕ × Sign) (a : Arrival) : Type 0 where
+  pub parcel : at parcels p.0 ≡ Some (parcel_of a)
+  pub sign : p.1 ≡ sign_of a.source a.head
+  pub message : is_message a.head.kind ≡ true
+  -- where it is not whole, its bytes are being gathered for it
+  pub partly : a.bytes ≡ None → IsKeptAs p.0 (slice_index_or coming a.source None)
+
+-- ---- items under way
+
+-- the message under this id, without its bytes
+abbrev pub parcel_without : ℕ → ItemHead → Parcel
+parcel_without source head = record { source = source; head = head; bytes = None }
+
+abbrev pub GoesBy : Cells Parcel → ℕ → Way → Coming → Item → Type 0
+GoesBy parcels source (Into seat) c item = (r : Receive) × (c ≡ IntoReceive r 0) × IsSingle r × (seat ≡ seat_with r item.bytes)
+GoesBy parcels source (Keep id bytes) c item =
+    (c ≡ KeepIt) × (bytes.items ≡ item.bytes) × (item.head.total ≤ vec_capacity bytes) × (at parcels id ≡ Some (parcel_without source item.head))
+GoesBy parcels source Throw c item = c ≡ ThrowIt
+GoesBy parcels source (Gather bytes) c item = (c ≡ way_of item.head.kind) × (bytes.items ≡ item.bytes) × (item.head.total ≤ vec_capacity bytes)
+
+pub record IsComing (parcels : Cells Parcel) (source : ℕ) (b : Begun) (c : Coming) (item : Item) : Type 0 where
+  pub head : item.head ≡ b.head
+  pub got : b.got ≡ length item.bytes
+  pub within : length item.bytes ≤ item.head.total
+  pub way : GoesBy parcels source b.way c item
+
+abbrev pub IsWay : Cells Parcel → ℕ → Option Begun → Option Coming → Option Item → Type 0
+IsWay parcels source None c i = (c ≡ None) × (i ≡ None)
+IsWay parcels source (Some b) c i = (way : Coming) × (item : Item) × (c ≡ Some way) × (i ≡ Some item) × IsComing parcels source b way item
+
+-- how many completions its end writes
+abbrev pub entries_by : Way → ℕ
+entries_by (Into seat) = 1
+entries_by (Keep id bytes) = 0
+entries_by Throw = 0
+entries_by (Gather bytes) = 0
+
+-- so many more bytes of the item have room
+abbrev pub WayHasRoomFor : ℕ → Way → Type 0
+WayHasRoomFor n (Into seat) = Unit {0}
+WayHasRoomFor n (Keep id bytes) = length bytes.items + n ≤ vec_capacity bytes
+WayHasRoomFor n Throw = Unit {0}
+WayHasRoomFor n (Gather bytes) = length bytes.items + n ≤ vec_capacity bytes
+
+pub record HasRoomFor (n : ℕ) (b : Begun) : Type 0 where
+  pub total : b.got + n ≤ b.head.total
+  pub way : WayHasRoomFor n b.way
+
+-- ---- all of it
+
+pub record IsKept (posted : List (ℕ × Want)) (unexpected : List (ℕ × Sign)) (room : ℕ) (seats : Cells Seat) (parcels : Cells Parcel) (coming : List (Option Begun)) (v : Arriving) : Type 0 where
+  pub receives : AllZip (Sits seats) posted v.rx.posted
+  pub messages : AllZip (Lies parcels coming) unexpected v.rx.unexpected
+  pub ways : (s : ℕ) → IsWay parcels s (slice_index_or coming s None) (coming_from v.rx s) (begun_of v s)
+  -- each receive that may be posted has a place
+  pub spare : length seats.free + length posted ≡ v.most
+  pub most : room ≡ v.most
+  -- a member for each peer
+  pub peers : length coming ≡ length v.begun
+  pub comings : length v.rx.coming ≡ length v.begun
+  pub heads : length v.rx.heads ≡ length v.begun
+  pub tails : length v.rx.tails ≡ length v.begun
+  pub under_way : (s : ℕ) → s < length v.begun → slice_index v.rx.heads s ≡ slice_index v.rx.tails s + count_begun (begun_of v s)
+  pub closing : v.rx.closing ≡ []
+  pub claimed : v.rx.claimed ≡ []
+
+pub record IsInbox (posted : List (ℕ × Want)) (unexpected : List (ℕ × Sign)) (room : ℕ) (seats : Cells Seat) (parcels : Cells Parcel) (coming : List (Option Begun)) (ids : List ℕ) (capacity : ℕ) (v : Arriving) : Type 0 where
+  pub kept : IsKept posted unexpected room seats parcels coming v
+  -- the ids of the receives in the order posted, with room for all that may be
+  pub order : ids ≡ map (λ p. p.0) posted
+  pub reserved : v.most ≤ capacity
+  pub numbers : IsNumbered v.rx.posted v.rx.coming v.next

@@ -1,0 +1,439 @@
+//! The receive half of an endpoint (fi_msg(3), fi_tagged(3)).
+ghost use Rattle.std.specs.Prelude.{◌≡◌, ◌==◌, ◌+◌, ◌<◌, ◌≤◌, true, false, None, Some, length, IfOk, IfSome, IsSomeAnd, OnOk, OnErr, find, is_some, nat_le, replicate, unwrap_or};
+ghost use Rattle.std.specs.Option.{option_map};
+ghost use Rattle.fab_model.specs.Matching.{is_message, takes};
+ghost use Rattle.fab_model.specs.State.{coming_from};
+ghost use Rattle.fab_model.specs.Arrivals.{taker, way_of};
+ghost use Rattle.fab_model.specs.Receiving.{cancellable, without_posted};
+ghost use Rattle.fab_rx.specs.Arriving.{IsArriving, arriving, begun_of, finishing, growing, nothing_arrived, posting, receive_by, with_receiving};
+ghost use Rattle.fab_rx.specs.Leaving.{cancelling, is_meant};
+ghost use Rattle.fab_rx.specs.Results.{cancelled, ended, entries_due, posted_as};
+
+use crate::caller::Caller;
+use crate::filling::{complete, filled, lift, placed, redirected, set_down};
+use crate::order::{first_meant, strike};
+use crate::past::{Arrives, Cancels, Finishes, Grows, Opens, Past, Posts};
+use crate::results::{Cancelled, Finished, Posted};
+use crate::stored::{Begun, Parcel, Seat, Way};
+use crate::table::Table;
+use fab_base::{Buf, Item, ItemHead, Kind, NoMemory, Want};
+use fab_match::{Matcher, sign_of};
+use fab_record::record::Record;
+use std::alloc::Global;
+use std::collections::VecDeque;
+use std::marker::Model;
+
+/// The receives that are posted, the messages that none of them took, and of each source the item that
+/// has arrived and is not whole.
+///
+/// Contracts see the machine's own lists. Stored is only what is still needed: numbers of calls and of
+/// places, and the bytes that a buffer had no room for, stand in the record alone.
+///
+/// Only [`new`](Inbox::new) and [`arrive`](Inbox::arrive) take memory.
+#[derive(Drop)]
+pub struct Inbox<M: Matcher> {
+    past: Record<(u32, u32), Past, Opens>,
+    matcher: M,
+    seats: Table<Seat>,
+    parcels: Table<Parcel>,
+    coming: Vec<Option<Begun>>,
+    order: VecDeque<u32>,
+    alloc: Global,
+}
+
+impl<M: Matcher> Model for Inbox<M> {
+    ghost use Rattle.fab_rx.specs.Arriving.{Arriving};
+    ghost use Rattle.std.specs.VecDeque.{deque_capacity};
+    ghost use Rattle.fab_rx.specs.Stored.{IsInbox};
+
+    ghost Value = { Arriving };
+
+    ghost view = { λ i. i.past };
+
+    ghost invariant = { λ i. IsInbox (M.posted i.matcher) (M.unexpected i.matcher) (M.room i.matcher) i.seats i.parcels i.coming.items i.order.items (deque_capacity i.order) i.past };
+}
+
+fn is_message(kind: Kind) -> bool
+    ensures { result ≡ is_message kind }
+{
+    match kind {
+        Kind::Msg | Kind::TagMsg => true,
+        Kind::WriteReq | Kind::ReadReq | Kind::AtomicReq | Kind::Reply => false,
+    }
+}
+
+impl<M: Matcher> Inbox<M> {
+    /// The receive half of an endpoint with so many peers, where so many receives may be posted.
+    pub fn new(alloc: Global, peers: u32, most: u32) -> Result<Inbox<M>, NoMemory>
+        ensures { IfOk result (λ inbox. inbox ≡ nothing_arrived peers most) }
+    {
+        let seats = free_seats(alloc, most)?;
+        let coming = nothing_coming(alloc, peers)?;
+        let order = VecDeque::with_capacity(alloc, most as usize)?;
+        let past = Record::new(alloc, &(peers, most))?;
+        let matcher = M::new(alloc, most)?;
+        Ok(Inbox {
+            past,
+            matcher,
+            seats,
+            parcels: Table::new(alloc),
+            coming,
+            order,
+            alloc,
+        })
+    }
+
+    /// What holds between calls. Costs nothing.
+    pub fn known(&self)
+        ensures { IsArriving self.now }
+    {
+        let _ = &self.past;
+    }
+
+    /// Whether as many receives are posted as may be.
+    pub fn is_full(&self) -> bool
+        ensures { result ≡ nat_le self.now.most (length self.now.rx.posted) }
+    {
+        self.matcher.is_full()
+    }
+
+    /// Whether a posted receive takes an item of this source with this head.
+    pub fn takes(&self, source: u32, head: &ItemHead) -> bool
+        ensures { result ≡ is_some (taker source head.now self.now.rx) }
+    {
+        if !is_message(head.kind) {
+            return false;
+        }
+        self.matcher.first_posted(&sign_of(source, head)).is_some()
+    }
+
+    /// Whether the first unexpected message that matches is whole, `None` exactly where none matches.
+    pub fn found(&self, want: &Want) -> Option<bool>
+        ensures { result ≡ option_map (λ a. is_some a.bytes) (find (takes want.now) self.now.rx.unexpected) }
+    {
+        let Some(id) = self.matcher.first_unexpected(want) else {
+            return None;
+        };
+        let Some(parcel) = self.parcels.get(id) else {
+            unreachable!()
+        };
+        Some(parcel.bytes.is_some())
+    }
+
+    /// How many completions [`finish`](Inbox::finish) hands out for the item that is begun.
+    pub fn writes(&self, source: u32) -> u32
+        requires { source < length self.now.begun }
+        ensures { result ≡ entries_due (coming_from self.now.rx source) }
+    {
+        match &self.coming[source as usize] {
+            None => 0,
+            Some(begun) => begun.entries(),
+        }
+    }
+
+    /// Whether an item of this source has arrived and is not whole.
+    pub fn is_begun(&self, source: u32) -> bool
+        requires { source < length self.now.begun }
+        ensures { result ≡ is_some (begun_of self.now source) }
+    {
+        self.coming[source as usize].is_some()
+    }
+
+    /// The first frame of an item: a message goes to the first posted receive that matches it, else to
+    /// the unexpected messages, and memory for its bytes is taken, as for a request or an answer.
+    /// Nothing of the source may be under way. `NoMemory` changes nothing.
+    pub fn arrive(&mut self, source: u32, head: &ItemHead) -> Result<(), NoMemory>
+        requires source { source < length self.old.begun }
+        requires nothing { begun_of self.old source ≡ None }
+        ensures ok { OnOk result (self.new ≡ arriving source head.now self.old) }
+        ensures err { OnErr result (self.new ≡ self.old) }
+    {
+        if !is_message(head.kind) {
+            return self.gather(source, head);
+        }
+        if self.seat(source, head) {
+            return Ok(());
+        }
+        self.keep(source, head)
+    }
+
+    /// A request or an answer arrives.
+    fn gather(&mut self, source: u32, head: &ItemHead) -> Result<(), NoMemory>
+        requires source { source < length self.old.begun }
+        requires nothing { begun_of self.old source ≡ None }
+        requires other { is_message head.now.kind ≡ false }
+        ensures ok { OnOk result (self.new ≡ arriving source head.now self.old) }
+        ensures err { OnErr result (self.new ≡ self.old) }
+    {
+        let Inbox {
+            past,
+            coming,
+            alloc,
+            ..
+        } = self;
+        let bytes = Vec::with_capacity(*alloc, head.total as usize)?;
+        past.note::<(u32, &ItemHead), Arrives>(&(source, head));
+        let begun = Begun {
+            head: *head,
+            got: 0,
+            way: Way::Gather(bytes),
+        };
+        set_down(coming, source, begun);
+        Ok(())
+    }
+
+    /// A message arrives, where a posted receive takes it, else nothing happens.
+    fn seat(&mut self, source: u32, head: &ItemHead) -> bool
+        requires source { source < length self.old.begun }
+        requires nothing { begun_of self.old source ≡ None }
+        requires message { is_message head.now.kind ≡ true }
+        ensures taken { result ≡ is_some (taker source head.now self.old.rx) }
+        ensures yes { result ≡ true → self.new ≡ arriving source head.now self.old }
+        ensures no { result ≡ false → self.new ≡ self.old }
+    {
+        let Inbox {
+            past,
+            matcher,
+            seats,
+            coming,
+            order,
+            ..
+        } = self;
+        let Some(id) = matcher.first_posted(&sign_of(source, head)) else {
+            return false;
+        };
+        matcher.remove_posted(id);
+        strike(order, id);
+        let Some(seat) = seats.take(id) else {
+            unreachable!()
+        };
+        past.note::<(u32, &ItemHead), Arrives>(&(source, head));
+        let begun = Begun {
+            head: *head,
+            got: 0,
+            way: Way::Into(seat),
+        };
+        set_down(coming, source, begun);
+        true
+    }
+
+    /// A message arrives that no posted receive takes.
+    fn keep(&mut self, source: u32, head: &ItemHead) -> Result<(), NoMemory>
+        requires source { source < length self.old.begun }
+        requires nothing { begun_of self.old source ≡ None }
+        requires message { is_message head.now.kind ≡ true }
+        requires untaken { taker source head.now self.old.rx ≡ None }
+        ensures ok { OnOk result (self.new ≡ arriving source head.now self.old) }
+        ensures err { OnErr result (self.new ≡ self.old) }
+    {
+        let Inbox {
+            past,
+            matcher,
+            parcels,
+            coming,
+            alloc,
+            ..
+        } = self;
+        let bytes = Vec::with_capacity(*alloc, head.total as usize)?;
+        parcels.make_room()?;
+        matcher.add_unexpected(parcels.next_id(), sign_of(source, head))?;
+        let id = parcels.put(Parcel {
+            source,
+            head: *head,
+            bytes: None,
+        });
+        past.note::<(u32, &ItemHead), Arrives>(&(source, head));
+        let begun = Begun {
+            head: *head,
+            got: 0,
+            way: Way::Keep { id, bytes },
+        };
+        set_down(coming, source, begun);
+        Ok(())
+    }
+
+    /// More bytes of the item that is begun, no more than its head says. Of a message that a receive
+    /// took they go straight into its buffer, as far as they fit.
+    pub fn fill(&mut self, source: u32, bytes: &[u8])
+        requires source { source < length self.old.begun }
+        requires fits { IsSomeAnd (begun_of self.old source) (λ item. length item.bytes + length bytes.now ≤ item.head.total) }
+        ensures { self.new ≡ growing source bytes.now self.old }
+    {
+        let Inbox { past, coming, .. } = self;
+        let Some(begun) = lift(coming, source) else {
+            unreachable!()
+        };
+        past.note::<(u32, &[u8]), Grows>(&(source, bytes));
+        set_down(coming, source, filled(begun, bytes));
+    }
+
+    /// The item that is begun is whole: its receive completes, or it is kept, thrown away or handed
+    /// out, by where it went.
+    pub fn finish(&mut self, source: u32) -> Finished
+        requires source { source < length self.old.begun }
+        requires whole { IsSomeAnd (begun_of self.old source) (λ item. length item.bytes ≡ item.head.total) }
+        ensures new { self.new ≡ finishing source self.old }
+        ensures outcome { IfSome (begun_of self.old source) (λ item. result ≡ ended (coming_from self.old.rx source) source item) }
+    {
+        let Inbox {
+            past,
+            parcels,
+            coming,
+            ..
+        } = self;
+        let Some(begun) = lift(coming, source) else {
+            unreachable!()
+        };
+        past.note::<u32, Finishes>(&source);
+        let Begun { head, way, .. } = begun;
+        match way {
+            Way::Into(seat) => Finished::Received(complete(seat, source, &head)),
+            Way::Keep { id, bytes } => {
+                let parcel = Parcel {
+                    source,
+                    head,
+                    bytes: Some(Buf::from_vec(bytes)),
+                };
+                parcels.set(id, parcel);
+                Finished::Kept(head)
+            }
+            Way::Throw => Finished::Thrown(head),
+            Way::Gather(bytes) => {
+                let item = Item {
+                    head,
+                    bytes: Buf::from_vec(bytes),
+                };
+                gathered(item)
+            }
+        }
+    }
+
+    /// A receive for one message. It gets the first unexpected message that matches, with the rest of it
+    /// where it is not whole, else it is posted. Where none matches, fewer receives must be posted than
+    /// may be. `C` says by which number its call goes, above that of each receive posted before.
+    pub fn post<X, C: Caller<X>>(&mut self, about: &X, want: Want, buf: Buf, ctx: u64) -> Posted
+        requires room { find (takes want) self.old.rx.unexpected ≡ None → length self.old.rx.posted < self.old.most }
+        requires later { self.old.next ≤ unwrap_or (C.call about.now) 0 }
+        ensures new { self.new ≡ posting (receive_by (C.call about.now) want buf ctx) self.old }
+        ensures outcome { result ≡ posted_as (receive_by (C.call about.now) want buf ctx) (find (takes want) self.old.rx.unexpected) }
+    {
+        let Inbox {
+            past,
+            matcher,
+            seats,
+            parcels,
+            coming,
+            order,
+            ..
+        } = self;
+        past.note::<(&X, &Want, &Buf, u64), Posts<C>>(&(about, &want, &buf, ctx));
+        let Some(id) = matcher.first_unexpected(&want) else {
+            let id = seats.put(Seat { buf, ctx });
+            order.push_back_reserved(id);
+            matcher.add_posted(id, want);
+            return Posted::Joined;
+        };
+        matcher.remove_unexpected(id);
+        let Some(parcel) = parcels.take(id) else {
+            unreachable!()
+        };
+        let Parcel {
+            source,
+            head,
+            bytes,
+        } = parcel;
+        match bytes {
+            Some(bytes) => {
+                let seat = Seat {
+                    buf: placed(buf, 0, bytes.as_slice()),
+                    ctx,
+                };
+                Posted::Whole(complete(seat, source, &head))
+            }
+            None => {
+                let Some(begun) = lift(coming, source) else {
+                    unreachable!()
+                };
+                set_down(coming, source, redirected(begun, buf, ctx));
+                Posted::GoesOn
+            }
+        }
+    }
+
+    /// The first posted receive of this context leaves, with its buffer (fi_cancel of
+    /// fi_endpoint(3)). `None`, and nothing changes, exactly where none is posted.
+    pub fn cancel(&mut self, ctx: u64) -> Option<Cancelled>
+        ensures found { result ≡ option_map cancelled (cancellable (λ r. r.ctx == ctx) self.old.rx) }
+        ensures rest { self.new ≡ with_receiving (without_posted (λ r. r.ctx == ctx) self.old.rx) self.old }
+    {
+        self.leave(Some(ctx))
+    }
+
+    /// The first posted receive leaves, with its buffer. `None`, and nothing changes, exactly where
+    /// none is posted.
+    pub fn cancel_first(&mut self) -> Option<Cancelled>
+        ensures found { result ≡ option_map cancelled (cancellable (λ r. true) self.old.rx) }
+        ensures rest { self.new ≡ with_receiving (without_posted (λ r. true) self.old.rx) self.old }
+    {
+        self.leave(None)
+    }
+
+    /// The first posted receive leaves, of this context where one is named.
+    fn leave(&mut self, ctx: Option<u64>) -> Option<Cancelled>
+        ensures found { result ≡ option_map cancelled (cancellable (is_meant ctx) self.old.rx) }
+        ensures rest { self.new ≡ cancelling ctx self.old }
+    {
+        let Inbox {
+            past,
+            matcher,
+            seats,
+            order,
+            ..
+        } = self;
+        let Some(meant) = first_meant(order, seats, ctx) else {
+            return None;
+        };
+        matcher.remove_posted(meant);
+        strike(order, meant);
+        let Some(seat) = seats.take(meant) else {
+            unreachable!()
+        };
+        past.note::<Option<u64>, Cancels>(&ctx);
+        Some(Cancelled {
+            ctx: seat.ctx,
+            buf: seat.buf,
+        })
+    }
+}
+
+/// So many free places for receives.
+fn free_seats(alloc: Global, most: u32) -> Result<Table<Seat>, NoMemory>
+    ensures { IfOk result (λ seats. length seats.free ≡ most) }
+{
+    let mut seats = Table::new(alloc);
+    for _seat in 0..most {
+        seats.grow()?;
+    }
+    Ok(seats)
+}
+
+/// Nothing is under way of any peer.
+fn nothing_coming(alloc: Global, peers: u32) -> Result<Vec<Option<Begun>>, NoMemory>
+    ensures { IfOk result (λ coming. coming.items ≡ replicate peers None) }
+{
+    let mut coming = Vec::with_capacity(alloc, peers as usize)?;
+    for _peer in 0..peers {
+        coming.push(None)?;
+    }
+    Ok(coming)
+}
+
+/// A request or an answer is whole.
+fn gathered(item: Item) -> Finished
+    ensures { result ≡ ended (Some (way_of item.head.kind)) 0 item }
+{
+    if item.head.kind == Kind::Reply {
+        return Finished::Answer(item);
+    }
+    Finished::Request(item)
+}

@@ -1,0 +1,39 @@
+//! What the receive half hands out, for others to write, count and book.
+use fab_base::{Buf, Item, ItemHead, Taken};
+
+/// A receive that got its message. The entry belongs to the receive's call. It counts as a success
+/// where `good`, else as an error (fi_cntr(3)). `head.ack` says whether `source` is owed a reply.
+#[derive(Drop)]
+pub struct Completed {
+    pub entry: Taken,
+    pub good: bool,
+    pub source: u32,
+    pub head: ItemHead,
+}
+
+/// What became of a receive call: it is posted, or it got an unexpected message whose rest still
+/// comes, or one that is whole.
+#[derive(Drop)]
+pub enum Posted {
+    Joined,
+    GoesOn,
+    Whole(Completed),
+}
+
+/// What became of an item that is whole: a receive got it, it is kept among the unexpected messages,
+/// it was thrown away, or it is a request or the answer to one.
+#[derive(Drop)]
+pub enum Finished {
+    Received(Completed),
+    Kept(ItemHead),
+    Thrown(ItemHead),
+    Request(Item),
+    Answer(Item),
+}
+
+/// A receive that was cancelled (fi_cancel of fi_endpoint(3)), with its buffer.
+#[derive(Drop)]
+pub struct Cancelled {
+    pub ctx: u64,
+    pub buf: Buf,
+}
