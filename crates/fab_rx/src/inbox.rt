@@ -9,7 +9,7 @@ ghost use Rattle.fab_rx.specs.Arriving.{IsArriving, arriving, begun_of, finishin
 ghost use Rattle.fab_rx.specs.Leaving.{cancelling, is_meant};
 ghost use Rattle.fab_rx.specs.Results.{cancelled, ended, entries_due, posted_as};
 
-use crate::caller::Caller;
+use fab_record::caller::Caller;
 use crate::filling::{complete, filled, lift, placed, redirected, set_down};
 use crate::order::{first_meant, strike};
 use crate::past::{Arrives, Cancels, Finishes, Grows, Opens, Past, Posts};

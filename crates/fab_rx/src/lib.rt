@@ -10,7 +10,6 @@
 //! [`Record`](fab_record::record::Record) holds the rest, and the invariant says how the two belong together.
 #![tactic(auto)]
 
-pub mod caller;
 mod filling;
 pub mod inbox;
 mod order;

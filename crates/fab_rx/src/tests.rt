@@ -1,7 +1,7 @@
 //! Messages that come before and after their receives, and receives that are cancelled.
 ghost use Rattle.std.specs.Prelude.{ℕ, Some};
 
-use crate::caller::Caller;
+use fab_record::caller::Caller;
 use crate::{Finished, Inbox, Posted};
 use fab_base::{Ack, Buf, Entry, ItemHead, Kind, Outcome, Taken, Want};
 use fab_match::ListMatcher;

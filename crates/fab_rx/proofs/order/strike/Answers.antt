@@ -1,7 +1,7 @@
 use Rattle.std.proofs.Common.{◌≡◌, ◌∙◌, ◌==◌, None, Some, Option, sym, arith, rules}
 use Rattle.std.specs.Prelude.{position, IsSome, OnSome}
 use Rattle.std.proofs.lemmas.List.Quantifiers.{position-Some}
-use Rattle.fab_match.proofs.Firsts.{remove_first_at, remove_first-none, list_any-none}
+use Rattle.fab_model.proofs.Firsts.{remove_first_at, remove_first-none, list_any-none}
 use Rattle.fab_rx.proofs.order.strike.Goals as goal
 
 where_some : {X : Type 0} {P : Type 0} (o : Option X) → IsSome o → OnSome o P → P
