@@ -82,9 +82,9 @@ module _ (room base put got : ℕ) (homes : Homes) (l : Lane) (ok : LaneOk room 
     within = omega arith;
     filled = λ k y le at. let lt = at_lt (l.posted ++ x ∷ []) k y at in dite (ℕ_discrete k n)
         (λ e. let same : x ≡ y = some-injective x y (sym (at_last l.posted x k (sym e)) ∙ at) in
-          inr (s, subst (λ (z : Sent). Says z s) same says, ap (λ (j : ℕ). get_elem? (set homes (cell_of base room n) (some s)) (cell_of base room j)) e ∙ set_here homes (cell_of base room n) (some s) inside))
+        inr (s, subst (λ (z : Sent). Says z s) same says, ap (λ (j : ℕ). get_elem? (set homes (cell_of base room n) (some s)) (cell_of base room j)) e ∙ set_here homes (cell_of base room n) (some s) inside))
         (λ ne. ⊎_elim (λ o. inl o) (λ h. inr (h.0, h.1, set_else homes (cell_of base room n) (cell_of base room k) (some s) (apart room base k n (omega arith) (omega arith) ne) ∙ h.2))
-          (ok.filled k y le (at_shorter l.posted (x ∷ []) k y (omega arith) at)));
+        (ok.filled k y le (at_shorter l.posted (x ∷ []) k y (omega arith) at)));
     free = λ k le lt. ⊎_elim (λ o. absurd (let e : k ≡ n = o.0 in omega arith))
         (λ h. inr (h.0, h.1, set_else homes (cell_of base room n) (cell_of base room k) (some s) (apart room base k n (omega arith) (omega arith) (λ e. omega arith)) ∙ h.2)) (ok.free k (omega arith) lt);
     cut = subst (IsLane None) (sym (map-append frame_of l.posted (x ∷ []))) (IsLane-push None (frames_of l.posted) x.frame ok.cut comes);
@@ -123,7 +123,7 @@ module _ (room base put got : ℕ) (homes : Homes) (l : Lane) (ok : LaneOk room 
     free = λ k le lt. dite (ℕ_discrete k (l.got + room))
         (λ e. inr (s, is_cell, ap (get_elem? (set homes (cell_of base room l.got) (some s))) (ap (λ (z : ℕ). base + z) (ap (λ (z : ℕ). z % room) e ∙ add-mod_right l.got room)) ∙ set_here homes (cell_of base room l.got) (some s) inside))
         (λ ne. ⊎_elim (λ o. inl o)
-          (λ h. inr (h.0, h.1, set_else homes (cell_of base room l.got) (cell_of base room k) (some s) (apart room base k l.got (omega arith) (omega arith) (λ e. omega arith)) ∙ h.2)) (ok.free k le (omega arith)));
+        (λ h. inr (h.0, h.1, set_else homes (cell_of base room l.got) (cell_of base room k) (some s) (apart room base k l.got (omega arith) (omega arith) (λ e. omega arith)) ∙ h.2)) (ok.free k le (omega arith)));
     cut = ok.cut;
     short = ok.short;
     open_is = λ y e. absurd (none-some y e);
@@ -139,7 +139,7 @@ module _ (room base put got : ℕ) (homes : Homes) (l : Lane) (ok : LaneOk room 
     within = ok.within;
     filled = λ k y le at. let lt = at_lt l.posted k y at in dite (ℕ_discrete k l.got)
         (λ e. let same : x ≡ y = some-injective x y (sym here ∙ (ap (get_elem? l.posted) (sym e) ∙ at)) in
-          inr (s, subst (λ (z : Sent). Says z s) same says, ap (λ (j : ℕ). get_elem? (set homes (cell_of base room l.got) (some s)) (cell_of base room j)) e ∙ set_here homes (cell_of base room l.got) (some s) inside))
+        inr (s, subst (λ (z : Sent). Says z s) same says, ap (λ (j : ℕ). get_elem? (set homes (cell_of base room l.got) (some s)) (cell_of base room j)) e ∙ set_here homes (cell_of base room l.got) (some s) inside))
         (λ ne. ⊎_elim (λ o. absurd (ne o.0)) (λ h. inr (h.0, h.1, set_else homes (cell_of base room l.got) (cell_of base room k) (some s) (apart room base k l.got (omega arith) (omega arith) ne) ∙ h.2)) (ok.filled k y le at));
     free = λ k le lt. ⊎_elim (λ o. inl o)
         (λ h. inr (h.0, h.1, set_else homes (cell_of base room l.got) (cell_of base room k) (some s) (apart room base k l.got (omega arith) (omega arith) (λ e. omega arith)) ∙ h.2)) (ok.free k le lt);

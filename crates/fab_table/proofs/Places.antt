@@ -35,8 +35,11 @@ use Rattle.fab_table.proofs.Stays.{Elsewhere, mine, out_moves, in_moves}
 module _ (k : Layout) (s : State Slot View) (r : Ruled k s) where
   -- a step on the lane l that changes no word, and one slot of the lane
   pub one_slot : (l c : ℕ) (x : maybe.Option Slot) (hs : Homes) → c < k.room → hs ≡ set s.homes (l * k.room + c) x → Elsewhere k s r l s.words hs
-  one_slot l c x hs near is = ((λ m _ ne. (refl, refl)), λ m e _ ne near'. ap (λ (h : Homes). get_elem? h (m * k.room + e)) is
-      ∙ set_else s.homes (l * k.room + c) (m * k.room + e) x (λ same. ne (pair_once k.room m e l c near' near same).0))
+  one_slot l c x hs near is = (
+    (λ m _ ne. (refl, refl)),
+    λ m e _ ne near'. ap (λ (h : Homes). get_elem? h (m * k.room + e)) is
+        ∙ set_else s.homes (l * k.room + c) (m * k.room + e) x (λ same. ne (pair_once k.room m e l c near' near same).0),
+  )
 
   pub no_slot : (l : ℕ) → Elsewhere k s r l s.words s.homes
   no_slot l = ((λ m _ ne. (refl, refl)), λ m e _ ne near'. refl)
@@ -74,10 +77,8 @@ module _ (k : Layout) (s : State Slot View) (r : Ruled k s) where
 pub rewritten : (room base put got : ℕ) (homes : Homes) (l : Lane) → LaneOk room base put got homes l → LaneOk room base put got homes (with_writing l l.writing)
 rewritten room base put got homes l ok = record { put_is = ok.put_is; got_is = ok.got_is; behind = ok.behind; within = ok.within; filled = ok.filled; free = ok.free; cut = ok.cut; short = ok.short; open_is = ok.open_is; writing_is = ok.writing_is }
 
-
 pub cell_apart : (n room m c q : ℕ) → m < n * n → c < room → m * room + c ≢ pool_home n room q
 cell_apart n room m c q low near e = let lt = pair_below room (n * n) m c low near in let big : ℕ = n * n * room in let small : ℕ = m * room + c in let lt' : small < big = lt in let e' : small ≡ big + q = e in omega arith
-
 
 pub reclaimed : (room base put got : ℕ) (homes : Homes) (l : Lane) (c : Option ℕ) (b : Bool) → LaneOk room base put got homes l → LaneOk room base put got homes (record { posted = l.posted; got = l.got; writing = l.writing; opened = l.opened; claim = c; lent = b })
 reclaimed room base put got homes l c b ok = record { put_is = ok.put_is; got_is = ok.got_is; behind = ok.behind; within = ok.within; filled = ok.filled; free = ok.free; cut = ok.cut; short = ok.short; open_is = ok.open_is; writing_is = ok.writing_is }
