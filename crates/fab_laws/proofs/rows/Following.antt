@@ -26,3 +26,7 @@ Met bound turns p P = (states : List Actor) × LeadTo bound turns states × ((a 
 
 pub met : (bound : Bound) (turns : List (Turn Step)) (p : ℕ) (P : List Actor → Actor → Type 0) (states : List Actor) (a : Actor) → follow turns (opening bound) ≡ Some states → slice_get states p ≡ Some a → P states a → Met bound turns p P
 met bound turns p P states a e here holds = (states, follows turns (opening bound) states e, (a, here, holds))
+
+pub met_so : (bound : Bound) (turns : List (Turn Step)) (p : ℕ) (P Q : List Actor → Actor → Type 0) → Met bound turns p P
+    → ((states : List Actor) → LeadTo bound turns states → (a : Actor) → slice_get states p ≡ Some a → P states a → Q states a) → Met bound turns p Q
+met_so bound turns p P Q (states, leads, (a, here, holds)) so = (states, leads, (a, here, so states leads a here holds))

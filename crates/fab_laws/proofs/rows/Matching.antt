@@ -37,10 +37,10 @@ pasts : Bound → List Step → List (List ℕ)
 pasts bound steps = map told (past_of bound (by 0 steps) 0)
 
 -- a multi-receive is posted first and closes with its first message: the second receive gets the next
-pub full : Bound
+unfoldable pub full : Bound
 full = script_of ((line 4 (LineOp.MRecv 1 None 4 (Some 2)) ∷ line 5 (LineOp.Recv 2 None 4) ∷ line 6 (LineOp.Inject 0 (Text (codes "abc")) None) ∷ line 7 (LineOp.Inject 0 (Text (codes "d")) None) ∷ []) ∷ [])
 
-pub full_steps : List Step
+unfoldable pub full_steps : List Step
 full_steps = Do ∷ Do ∷ Do ∷ Do ∷ Head 0 ∷ Step.Sent 0 ∷ Tail 0 ∷ Head 0 ∷ []
 
 full_row : pasts full full_steps ≡ (2 ∷ 1 ∷ 0 ∷ 1 ∷ 9 ∷ []) ∷ (0 ∷ 0 ∷ 1 ∷ []) ∷ (2 ∷ 0 ∷ 0 ∷ 0 ∷ 9 ∷ []) ∷ (0 ∷ 0 ∷ 0 ∷ []) ∷ (1 ∷ 1 ∷ []) ∷ (1 ∷ 0 ∷ []) ∷ []
@@ -48,11 +48,11 @@ unfolding pasts told full full_steps machine
 full_row = refl
 
 -- a multi-receive draws two messages that wait, and is not closed
-pub drawn : Bound
+unfoldable pub drawn : Bound
 drawn = script_of ((line 4 (LineOp.Inject 0 (Text (codes "abc")) None) ∷ line 5 (LineOp.Inject 0 (Text (codes "de")) None) ∷ line 6 (LineOp.MRecv 3 None 10 (Some 2)) ∷ []) ∷ [])
 
 -- up to the draws
-pub due_steps : List Step
+unfoldable pub due_steps : List Step
 due_steps = Do ∷ Do ∷ Head 0 ∷ Step.Sent 0 ∷ Tail 0 ∷ Head 0 ∷ Do ∷ []
 
 drawn_row : pasts drawn (due_steps ++ Draw ∷ Draw ∷ []) ≡ (2 ∷ 2 ∷ 0 ∷ 1 ∷ []) ∷ (2 ∷ 2 ∷ 0 ∷ 0 ∷ []) ∷ (1 ∷ 2 ∷ []) ∷ (0 ∷ 0 ∷ 1 ∷ []) ∷ (0 ∷ 0 ∷ 0 ∷ []) ∷ []
@@ -60,11 +60,11 @@ unfolding pasts told drawn due_steps machine
 drawn_row = refl
 
 -- a receive is cancelled before a message comes; one message is claimed that is not whole, one discarded that is, and one is taken at once
-pub mixed : Bound
+unfoldable pub mixed : Bound
 mixed = script_of ((line 4 (LineOp.TRecv 1 None 5 0 4) ∷ line 5 (LineOp.Cancel 1) ∷ line 6 (LineOp.TInject 0 5 (Text (codes "ab")) None) ∷ line 7 (LineOp.TInject 0 5 (Text (codes "cd")) None) ∷ line 8 (LineOp.TInject 0 5 (Text (codes "ef")) None)
     ∷ line 9 (LineOp.Claim 2 None 5 0) ∷ line 10 (LineOp.Discard 3 None 5 0) ∷ line 11 (LineOp.TRecv 4 None 5 0 4) ∷ []) ∷ [])
 
-pub mixed_steps : List Step
+unfoldable pub mixed_steps : List Step
 mixed_steps = Do ∷ Do ∷ Do ∷ Do ∷ Do ∷ Head 0 ∷ Do ∷ Step.Sent 0 ∷ Tail 0 ∷ Head 0 ∷ Step.Sent 0 ∷ Tail 0 ∷ Head 0 ∷ Do ∷ Do ∷ []
 
 mixed_row : pasts mixed mixed_steps ≡ (2 ∷ 7 ∷ 0 ∷ 2 ∷ 9 ∷ []) ∷ (1 ∷ 7 ∷ []) ∷ (3 ∷ 0 ∷ 1 ∷ []) ∷ (0 ∷ 0 ∷ 2 ∷ []) ∷ (0 ∷ 0 ∷ 1 ∷ []) ∷ (3 ∷ 0 ∷ 0 ∷ []) ∷ (0 ∷ 0 ∷ 0 ∷ []) ∷ (4 ∷ 0 ∷ []) ∷ (1 ∷ 0 ∷ []) ∷ []
