@@ -7,3 +7,4 @@ pub mod Rest
 pub mod matching
 pub mod replies
 pub mod completion
+pub mod rows

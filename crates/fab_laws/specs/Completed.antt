@@ -12,8 +12,6 @@ use Rattle.fab_base.specs.declared.items.ItemHead.{ItemHead}
 use Rattle.fab_base.specs.declared.items.Outcome.{Outcome}
 use Rattle.fab_base.specs.declared.items.Outcome.TheVariants.{Done}
 use Rattle.fab_base.specs.declared.operations.Arrival.{Arrival}
-use Rattle.fab_base.specs.declared.operations.Coming.{Coming}
-use Rattle.fab_base.specs.declared.operations.Coming.TheVariants.{Into, Keep, Throw, Request, Answer}
 use Rattle.fab_base.specs.declared.operations.Operation.{Operation}
 use Rattle.fab_base.specs.declared.operations.Written.{Written}
 use Rattle.fab_base.specs.declared.peers.Level.{Level}
@@ -21,7 +19,7 @@ use Rattle.fab_base.specs.declared.peers.Step.{Step}
 use Rattle.fab_base.specs.declared.peers.Step.TheVariants.{Do, Head, Tail, Draw, Final}
 use Rattle.fab_base.specs.declared.script.Bound.{Bound}
 use Rattle.fab_model.specs.Matching.{is_message}
-use Rattle.fab_model.specs.State.{State, Receiving}
+use Rattle.fab_model.specs.State.{State, Receiving, under_way}
 use Rattle.fab_model.specs.Complete.{is_made_by}
 use Rattle.fab_model.specs.Calls.{Call, Transmit, Post, Look, TakeClaimed, DropClaimed}
 use Rattle.fab_model.specs.Orders.{Turn}
@@ -140,18 +138,9 @@ MessageLevel Level.Match states p a o = IsDelivered states p o × IsTaken states
 abbrev pub SendLevel : List Actor → ℕ → Actor → Operation → Type 0
 SendLevel states p a o = elim (is_message o.head.kind) [ true ↦ MessageLevel o.level states p a o | false ↦ IsDelivered states p o ]
 
--- an item of the receive of this call has arrived and is not whole, and the receive takes no other
-abbrev pub into_single : ℕ → Option Coming → Bool
-into_single call None = false
-into_single call (Some (Into r place)) = is_made_by call r && is_none r.least
-into_single call (Some Keep) = false
-into_single call (Some Throw) = false
-into_single call (Some Request) = false
-into_single call (Some Answer) = false
-
--- the receive is posted, or closing, or the rest of its message is to come
+-- the receive is posted, or closing, or the rest of a message is to come for it
 abbrev pub receive_stands : ℕ → Receiving → Bool
-receive_stands call rx = list_any (is_made_by call) rx.posted || list_any (is_made_by call) rx.closing || list_any (into_single call) rx.coming
+receive_stands call rx = list_any (is_made_by call) rx.posted || list_any (is_made_by call) rx.closing || under_way rx call
 
 abbrev pub LevelIsReached : List Actor → ℕ → Actor → Accepted → Type 0
 LevelIsReached states p a (Sends o) = SendLevel states p a o

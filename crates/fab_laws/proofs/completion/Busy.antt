@@ -53,8 +53,8 @@ use Rattle.fab_laws.proofs.Lists.{Each, always, each_append, each_in, each_remov
 use Rattle.fab_laws.specs.Members.{In, Never}
 use Rattle.fab_laws.proofs.replies.Owing.{longer_many, set_longer}
 use Rattle.fab_laws.proofs.replies.Owed.{OwedAt, get_within}
-use Rattle.fab_laws.specs.Completed.{held, made_by, into_single, is_final, finals}
-use Rattle.fab_laws.proofs.completion.Places.{seated_many, standing_in, fill_many}
+use Rattle.fab_laws.specs.Completed.{held, made_by, is_final, finals}
+use Rattle.fab_laws.proofs.completion.Places.{seated_many, standing_in, fill_many, into_single}
 use Rattle.fab_laws.proofs.completion.Calls.{not_yet}
 use Rattle.fab_laws.proofs.completion.Least.{kept_claim, kept_first, Kept, Least, call_least, draw_least, head_least, idle_of, kept_of, sent_least, tail_least}
 use Rattle.fab_laws.proofs.replies.Stray.{AllOwed, all_owed, peer_of, turn_owed}
@@ -144,7 +144,7 @@ module _ (c : ℕ) where
   unfolding end_with
   end_rx w bytes o s = grind rules
 
-  sent_rx : (s : State) (t : ℕ) → (do_sent s t).rx ≡ s.rx
+  pub sent_rx : (s : State) (t : ℕ) → (do_sent s t).rx ≡ s.rx
   unfolding do_sent
   sent_rx s t = go (ending t s.tx)
     where
@@ -152,7 +152,7 @@ module _ (c : ℕ) where
       go None = refl
       go (Some o) = end_rx Done [] o (with_tx (transmitting t s.tx) s)
 
-  answer_rx : (s : State) (source : ℕ) (head : ItemHead) (bytes : List ℕ) → (do_answer s source head bytes).rx ≡ s.rx
+  pub answer_rx : (s : State) (source : ℕ) (head : ItemHead) (bytes : List ℕ) → (do_answer s source head bytes).rx ≡ s.rx
   unfolding do_answer
   answer_rx s source head bytes = go (find (is_answered_by s.tx source head) s.tx.live)
     where
@@ -163,11 +163,11 @@ module _ (c : ℕ) where
   data_rx : (w : Outcome) (source : ℕ) (head : ItemHead) (s : State) → (remote_data w source head s).rx ≡ s.rx
   data_rx w source head s = grind rules
 
-  request_rx : (s : State) (source : ℕ) (head : ItemHead) (bytes : List ℕ) → (do_request s source head bytes).rx ≡ s.rx
+  pub request_rx : (s : State) (source : ℕ) (head : ItemHead) (bytes : List ℕ) → (do_request s source head bytes).rx ≡ s.rx
   unfolding do_request reply
   request_rx s source head bytes = let p = perform s.regions head bytes in data_rx p.outcome source head (record s { regions = p.regions; tx = joining source (record { head = reply_head head.op p.outcome (length p.bytes); bytes = p.bytes }) s.tx })
 
-  book_rx : (d : Bool) (source : ℕ) (head : ItemHead) (u : State) → (book d source head u).rx ≡ u.rx
+  pub book_rx : (d : Bool) (source : ℕ) (head : ItemHead) (u : State) → (book d source head u).rx ≡ u.rx
   unfolding book reply
   book_rx true source head u = refl
   book_rx false source head u = refl

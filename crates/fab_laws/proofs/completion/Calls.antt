@@ -28,10 +28,10 @@ use Rattle.fab_model.specs.Receiving.{Posting, cancel, cancellable, claim_of, dr
 use Rattle.fab_model.specs.Target.{perform}
 use Rattle.fab_model.specs.Arrivals.{do_draw, do_request, do_tail, keeping, made_whole, remote_data, seating, tail_to, with_regions, shut}
 use Rattle.fab_model.specs.Calls.{Call, Transmit, Post, Look, TakeClaimed, DropClaimed, Cancel, CancelFirst, Insert, Remove, Reg, Close, Put, Show, Count, answer, close, do_call, insert, put, reg, remove}
-use Rattle.fab_laws.specs.Completed.{made_by, into_single}
+use Rattle.fab_laws.specs.Completed.{made_by}
 use Rattle.fab_laws.proofs.Counts.{many, many_append, many_removed, one, not_removed, cleared}
 use Rattle.fab_laws.proofs.Lists.{found_in}
-use Rattle.fab_laws.proofs.completion.Places.{Adds, adds_none, adds_then, book_adds, drop_adds, end_adds, fill_adds, give_adds, nothing, other_adds, release_adds, reply_adds, seated_many, single_of, standing, standing_in, write_adds}
+use Rattle.fab_laws.proofs.completion.Places.{Adds, adds_none, adds_then, book_adds, drop_adds, end_adds, fill_adds, give_adds, nothing, other_adds, release_adds, reply_adds, seated_many, single_of, standing, standing_in, write_adds, into_single}
 
 -- each call stands at one place at the most, and those not made yet at none; a step keeps this
 abbrev pub Keeps : State → State → Type 0

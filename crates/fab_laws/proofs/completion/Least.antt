@@ -46,8 +46,8 @@ use Rattle.fab_laws.specs.Moments.{next_call}
 use Rattle.fab_laws.proofs.Lists.{Each, always, each_append, each_in, each_removed, each_so, found_in, never, in_front, in_back}
 use Rattle.fab_laws.specs.Members.{In, Never}
 use Rattle.fab_laws.proofs.replies.Owed.{OwedAt, is_keep, unwhole_of, get_within}
-use Rattle.fab_laws.specs.Completed.{held, outcome_of, is_final, into_single, made_by}
-use Rattle.fab_laws.proofs.completion.Places.{many_changed, single_of, standing, standing_in, entry_part, fill_many}
+use Rattle.fab_laws.specs.Completed.{held, outcome_of, is_final, made_by}
+use Rattle.fab_laws.proofs.completion.Places.{many_changed, single_of, standing, standing_in, entry_part, fill_many, into_single}
 
 -- what of an owed peer says that nothing that comes is overwritten
 pub idle_of : (n : ℕ) (v : View Item) (s : State) → OwedAt n v s → (source : ℕ) → slice_index s.rx.heads source ≡ slice_index s.rx.tails source → coming_from s.rx source ≡ None

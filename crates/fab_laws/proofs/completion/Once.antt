@@ -1,6 +1,6 @@
 -- The law of completion, wherever turns lead.
 use Rattle.std.proofs.Common.{◌≡◌, ◌≢◌, ◌≤◌, ◌<◌, ◌+◌, ℕ, zero, suc, Bool, true, false, not, ◌&&◌, ◌||◌, List, [], ◌∷◌, ◌++◌, length, take, set, get_or, slice_get, Option, Some, None, ◌⊎◌, inl, inr, refl, sym, ◌∙◌, ap, ap₂, subst, arith}
-use Rattle.std.specs.Prelude.{◌==◌, is_some, nat_lt, slice_index}
+use Rattle.std.specs.Prelude.{◌==◌, is_some, nat_lt, slice_index, replicate}
 use Rattle.std.specs.List.{list_any}
 use Rattle.std.specs.Option.{option_map_or}
 use Rattle.std.proofs.lemmas.Bool.{and_from, and_parts, cases_eq, lt-ltb, ltb-true, eqb-true}
@@ -28,10 +28,11 @@ use Rattle.fab_model.specs.Replay.{at_rest, fresh, is_drained, is_empty, opening
 use Rattle.fab_model.specs.Views.{More, View, rule, seen}
 use Rattle.fab_model.proofs.Patient.{Own, accepted_within, fabric_patient, sender_is}
 use Rattle.fab_model.proofs.Turns.{slice_get-set}
+use Rattle.fab_laws.proofs.completion.Home.{Home, homes_less, into_multi, step_home, under_home}
 use Rattle.fab_laws.specs.Members.{In, Never}
 use Rattle.fab_laws.specs.Moments.{LeadTo, remembered}
 use Rattle.fab_laws.specs.ReplyLaws.{is_reply, owes, owes_by}
-use Rattle.fab_laws.specs.Completed.{Accepted, IsDelivered, IsSuppressed, IsTaken, LevelIsReached, Operations, Receives, Sends, finals, held, into_single, is_final, keeping_books, made_by, number, operations_of, receive_stands, MessageLevel, SendLevel}
+use Rattle.fab_laws.specs.Completed.{Accepted, IsDelivered, IsSuppressed, IsTaken, LevelIsReached, Operations, Receives, Sends, finals, held, is_final, keeping_books, made_by, number, operations_of, receive_stands, MessageLevel, SendLevel}
 use Rattle.fab_laws.specs.CompletionLaws.{NumbersComplete, OneFinalCompletion, CompletesOnce, NumberCompletes}
 use Rattle.fab_laws.proofs.Lists.{each_in, get_in, never, taken_at, any_in}
 use Rattle.fab_laws.proofs.Counts.{any_many, counted, in_many, in_taken, many, one, two_places, take_less, none_counted, some_in}
@@ -41,7 +42,7 @@ use Rattle.fab_laws.proofs.Rest.{Rest, drained_is, rest_at}
 use Rattle.fab_laws.proofs.replies.Owing.{Pays, Whole, owing_asks, owing_item, debt, reply_item}
 use Rattle.fab_laws.proofs.replies.Owed.{got}
 use Rattle.fab_laws.proofs.replies.Stray.{AllOwed, all_owed, peer_of, ready_is, step_owed, turn_owed, all_paid, all_fit}
-use Rattle.fab_laws.proofs.completion.Places.{standing_in}
+use Rattle.fab_laws.proofs.completion.Places.{standing_in, into_single}
 use Rattle.fab_laws.proofs.completion.Steps.{Placed, few, fresh_placed, step_placed}
 use Rattle.fab_laws.proofs.completion.Busy.{Busy, step_busy}
 use Rattle.fab_laws.proofs.completion.Books.{Answered, Books, Leveled, Over, books_after, books_more}
@@ -53,6 +54,7 @@ pub record AllGood (n : ℕ) (states : List Actor) : Type 0 where
   pub owed : AllOwed n states
   pub placed : (p : ℕ) (a : Actor) → slice_get states p ≡ Some a → Placed a.state
   pub busy : (p : ℕ) (a : Actor) → slice_get states p ≡ Some a → (c : ℕ) → Busy c a.state
+  pub home : (p : ℕ) (a : Actor) → slice_get states p ≡ Some a → (c : ℕ) → Home c a.state
 
 pub good_turn : (n : ℕ) → KeptByTurns (AllGood n)
 good_turn n states p x b good stood = record {
@@ -66,16 +68,30 @@ good_turn n states p x b good stood = record {
     | inr now ↦ subst (λ (y : Actor). Busy c y.state) (sym now.1)
         (step_busy c n (seen fabric states p) (peer_of n states good.owed p is.0 is.1) is.0 b (good.owed.owed p is.0 is.1) (few is.0.state (good.placed p is.0 is.1) c) (good.busy p is.0 is.1 c) x is.2)
   ];
+  home = λ q e at c. elim (slice_get-set states p q b e at) [
+    | inl before ↦ good.home q e before c
+    | inr now ↦ subst (λ (y : Actor). Home c y.state) (sym now.1) (step_home c (seen fabric states p) is.0 b (good.home p is.0 is.1 c) x is.2)
+  ];
 }
   where
     is : (a : Actor) × (slice_get states p ≡ Some a) × (fabric.step (seen fabric states p) a x ≡ Some b)
     is = views.rule_is fabric states p x b stood
+
+none_coming : (test : Option Coming → Bool) (xs : List (Option Coming)) → test None ≡ false → ((s : ℕ) → get_or xs s None ≡ None) → many test xs ≡ 0
+none_coming test [] no_test all = refl
+none_coming test (x ∷ xs) no_test all = omega (arith, none_coming test xs no_test (λ s. all (suc s)), ap one (ap test (all 0) ∙ no_test))
+
+none_there : (n s : ℕ) → get_or {A = Option Coming} (replicate n None) s None ≡ None
+none_there zero s = refl
+none_there (suc n) zero = refl
+none_there (suc n) (suc s) = none_there n s
 
 pub opening_good : (bound : Bound) → AllGood bound.script.conf.peers (opening bound)
 opening_good bound = record {
   owed = all_owed bound [] (opening bound) refl;
   placed = λ p a e. at_opening bound (λ (x : Actor). Placed x.state) (λ lines. fresh_placed bound.script.conf) p a e;
   busy = λ p a e c. at_opening bound (λ (x : Actor). Busy c x.state) (λ lines. omega arith) p a e;
+  home = λ p a e c. at_opening bound (λ (x : Actor). Home c x.state) (λ lines. inl (none_coming (into_multi c) (replicate bound.script.conf.peers None) refl (λ s. none_there bound.script.conf.peers s))) p a e;
 }
 
 -- ---- the books, wherever turns lead
@@ -223,10 +239,6 @@ module _ (n : ℕ) (states : List Actor) (good : AllGood n states) (p : ℕ) (a 
 
 -- ---- drained
 
-none_coming : (test : Option Coming → Bool) (xs : List (Option Coming)) → test None ≡ false → ((s : ℕ) → get_or xs s None ≡ None) → many test xs ≡ 0
-none_coming test [] no_test all = refl
-none_coming test (x ∷ xs) no_test all = omega (arith, none_coming test xs no_test (λ s. all (suc s)), ap one (ap test (all 0) ∙ no_test))
-
 none_posted : (c : ℕ) (rs : List Receive) → is_empty rs ≡ true → many (is_made_by c) rs ≡ 0
 none_posted c [] is = refl
 none_posted c (r ∷ rs) is = absurd (cc (is))
@@ -275,13 +287,19 @@ module _ (n : ℕ) (states : List Actor) (good : AllGood n states) (p : ℕ) (a 
   at_most : (c : ℕ) → finals c a ≤ 1
   at_most c = omega (arith, few a.state (good.placed p a here) c, counted (is_final c) a.state.cq.written)
 
+  into_none : (call : ℕ) → Home call a.state → many (is_made_by call) a.state.rx.posted + many (is_made_by call) a.state.rx.closing ≡ 0 → many (into_single call) a.state.rx.coming ≡ 0 → many (is_into call) a.state.rx.coming ≡ 0
+  into_none call home none single = elim home [
+    | inl guests ↦ omega (arith, under_home call a.state, single, guests)
+    | inr some ↦ absurd (omega (arith, some, homes_less call a.state, none))
+  ]
+
   stands_not : (call : ℕ) → 1 ≤ finals call a → receive_stands call a.state.rx ≡ false
   stands_not call one_is =
       let most = few a.state (good.placed p a here) call in
       let count = counted (is_final call) a.state.cq.written in
       let e = none_counted (is_made_by call) a.state.rx.posted (omega (arith, most, count, one_is)) in
       let f = none_counted (is_made_by call) a.state.rx.closing (omega (arith, most, count, one_is)) in
-      let g = none_counted (into_single call) a.state.rx.coming (omega (arith, most, count, one_is)) in
+      let g = none_counted (is_into call) a.state.rx.coming (into_none call (good.home p a here call) (omega (arith, most, count, one_is)) (omega (arith, most, count, one_is))) in
       rw (e, f, g) refl
 
   reached : (o : Accepted) → In o m.accepted → 1 ≤ finals (number o) a → LevelIsReached states p a o

@@ -23,8 +23,17 @@ use Rattle.fab_model.specs.Receiving.{drop_arrival, give, goes}
 use Rattle.fab_model.specs.Arrivals.{do_head, heading_message, heading_other, made_whole, seated, shut, stays, taker, used_up, is_wanted, way_of}
 use Rattle.fab_model.specs.Peers.{part_of}
 use Rattle.fab_laws.proofs.Counts.{many, many_append, many_removed, one}
-use Rattle.fab_laws.specs.Completed.{into_single, is_final, made_by}
+use Rattle.fab_laws.specs.Completed.{is_final, made_by}
 use Rattle.fab_laws.proofs.Lists.{found_in}
+
+-- an item of the receive of this call has arrived and is not whole, and the receive takes no other
+abbrev pub into_single : ℕ → Option Coming → Bool
+into_single call None = false
+into_single call (Some (Into r place)) = is_made_by call r && is_none r.least
+into_single call (Some Keep) = false
+into_single call (Some Throw) = false
+into_single call (Some Request) = false
+into_single call (Some Answer) = false
 
 abbrev pub standing : ℕ → Transmitting → Receiving → Completions → ℕ
 standing c tx rx cq = many (made_by c) tx.live + many (is_made_by c) rx.posted + many (is_made_by c) rx.closing + many (into_single c) rx.coming + many (is_final c) cq.written

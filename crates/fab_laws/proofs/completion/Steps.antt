@@ -16,11 +16,10 @@ use Rattle.fab_model.specs.Peers.{Actor, fabric, reading}
 use Rattle.fab_model.specs.Replay.{fresh}
 use Rattle.fab_model.specs.Views.{View}
 use Rattle.fab_model.proofs.Turns.{slice_get-set}
-use Rattle.fab_laws.specs.Completed.{into_single}
 use Rattle.fab_laws.specs.Moments.{next_call}
 use Rattle.fab_laws.proofs.Counts.{many, one}
 use Rattle.fab_laws.proofs.Stepping.{StepIs, line_keeps, step_is}
-use Rattle.fab_laws.proofs.completion.Places.{head_adds, standing_in}
+use Rattle.fab_laws.proofs.completion.Places.{head_adds, standing_in, into_single}
 use Rattle.fab_laws.proofs.completion.Calls.{Keeps, adds_keeps, call_keeps, draw_adds, keeps_same, sent_adds, tail_adds}
 
 module _ (v : View Item) (a b : Actor) where
