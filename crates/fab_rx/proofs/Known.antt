@@ -1,5 +1,5 @@
 -- What callers know of the receive half between calls.
-use Rattle.std.proofs.Common.{◌≡◌, ◌≢◌, ℕ, zero, suc, replicate, nat_le, ◌≤◌, Bool, true, false, List, [], ◌∷◌, length, Option, Some, None, get_or, refl, sym, ◌∙◌, arith}
+use Rattle.std.proofs.Common.{◌≡◌, ◌≢◌, ℕ, zero, suc, replicate, nat_le, ◌≤◌, Bool, true, false, List, [], ◌∷◌, length, Option, Some, None, get_or, refl, sym, ap, ◌∙◌, arith}
 use Rattle.std.specs.Prelude.{find, is_some, IfSome}
 use Rattle.std.specs.List.{AllZip, list_any, AllByRecursion}
 use Rattle.std.proofs.lemmas.List.Elements.{All-from_recursion}
@@ -21,9 +21,10 @@ use Rattle.fab_rx.specs.declared.stored.Parcel.{Parcel}
 use Rattle.fab_rx.specs.declared.stored.Way.{Way}
 use Rattle.fab_rx.specs.declared.stored.Way.TheVariants.{Into, Keep, Throw, Gather}
 use Rattle.fab_rx.specs.declared.stored.Begun.{Begun}
-use Rattle.fab_rx.specs.Table.{Cells}
-use Rattle.fab_rx.specs.Arriving.{Arriving, GoesToSingle, IsArriving, IsSingle, begun_of, nothing_arrived}
-use Rattle.fab_rx.specs.Stored.{GoesBy, IsKept, IsWay, Sits, entries_by}
+use Rattle.fab_rx.specs.Table.{Cells, at}
+use Rattle.fab_base.specs.declared.operations.Coming.TheVariants.{Keep as KeepIt}
+use Rattle.fab_rx.specs.Arriving.{Arriving, GoesToSingle, IsArriving, IsPartly, IsSingle, PartlyIn, begun_of, nothing_arrived}
+use Rattle.fab_rx.specs.Stored.{GoesBy, IsComing, IsKept, IsKeptAs, IsKeptWay, IsWay, Lies, Sits, entries_by, parcel_of, parcel_without}
 use Rattle.fab_rx.specs.Results.{entries_due}
 use Rattle.std.proofs.lemmas.Bool.Decides.{nat_tests}
 use Rattle.std.proofs.lemmas.List.{length-replicate}
@@ -66,6 +67,30 @@ goes_single ps s (Gather bytes) c item g = rw g.0 (no_receive item.head.kind)
 into_single : (ps : Cells Parcel) (s : ℕ) (b : Option Begun) (c : Option Coming) (i : Option Item) → IsWay ps s b c i → GoesToSingle c
 into_single ps s None c i w = rw w.0 tt
 into_single ps s (Some b) c i w = rw w.2 (goes_single ps s b.way w.0 w.1 w.4.way)
+
+-- an unexpected message that is not whole is the item that is coming
+kept_head : (ps : Cells Parcel) (id : ℕ) (a : Arrival) (way : Way) (c : Coming) (item : Item) → at ps id ≡ Some (parcel_of a) → GoesBy ps a.source way c item → IsKeptWay id way → (c ≡ KeepIt) × (item.head ≡ a.head)
+kept_head ps id a (Into seat) c item there g k = absurd k
+kept_head ps id a (Keep n bytes) c item there g k =
+    let same : Some (parcel_of a) ≡ Some (parcel_without a.source item.head) = sym there ∙ ap (at ps) (sym k) ∙ g.3 in
+    let parcels : parcel_of a ≡ parcel_without a.source item.head = cc in
+    (g.0, sym (ap (λ (p : Parcel). p.head) parcels))
+kept_head ps id a Throw c item there g k = absurd k
+kept_head ps id a (Gather bytes) c item there g k = absurd k
+
+partly_by : (ps : Cells Parcel) (id : ℕ) (a : Arrival) (b : Option Begun) (c : Option Coming) (i : Option Item) → at ps id ≡ Some (parcel_of a) → IsWay ps a.source b c i → IsKeptAs id b → IsPartly a c i
+partly_by ps id a None c i there w k = absurd k
+partly_by ps id a (Some b) c i there w k =
+    let both = kept_head ps id a b.way w.0 w.1 there w.4.way k in
+    record { way = w.2 ∙ ap Some both.0; item = w.1; begun = w.3; head = both.1 }
+
+module _ (parcels : Cells Parcel) (coming : List (Option Begun)) (v : Arriving) (ways : (s : ℕ) → IsWay parcels s (get_or coming s None) (coming_from v.rx s) (begun_of v s)) where
+  all_partly : (us : List (ℕ × Sign)) (rs : List Arrival) → AllZip (Lies parcels coming) us rs → AllByRecursion (PartlyIn v) rs
+  all_partly [] [] t = tt
+  all_partly [] (a ∷ rs) t = absurd t
+  all_partly (u ∷ us) [] t = absurd t
+  all_partly (u ∷ us) (a ∷ rs) t =
+      ((λ none. partly_by parcels u.0 a (get_or coming a.source None) (coming_from v.rx a.source) (begun_of v a.source) t.0.parcel (ways a.source) (t.0.partly none)), all_partly us rs t.1)
 
 -- a receive takes messages alone
 pub none_takes : (source : ℕ) (head : ItemHead) (rs : List Receive) → is_message head.kind ≡ false → find (is_wanted source head) rs ≡ None
@@ -145,6 +170,7 @@ module _ (ps : List (ℕ × Want)) (us : List (ℕ × Sign)) (room : ℕ) (seats
     into = λ s. into_single parcels s (get_or coming s None) (coming_from v.rx s) (begun_of v s) (kept.ways s);
     closing = kept.closing;
     claimed = kept.claimed;
+    partly = All-from_recursion (PartlyIn v) v.rx.unexpected (all_partly parcels coming v kept.ways us v.rx.unexpected kept.messages);
     still = none_draws seats v.rx.unexpected ps v.rx.posted kept.receives;
     room = let same = posted_count in let spare = kept.spare in omega arith;
   }

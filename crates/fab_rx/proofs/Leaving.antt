@@ -1,6 +1,6 @@
 -- A receive leaves those posted: it is found by the order of ids, and has no item under way.
 use Rattle.std.proofs.Common.{◌≡◌, ℕ, ◌+◌, ◌==◌, Bool, true, false, ◌&&◌, List, [], ◌∷◌, ◌++◌, length, map, Option, Some, None, get_or, set, refl, sym, ap, subst, ◌∙◌, arith}
-use Rattle.std.specs.Prelude.{find}
+use Rattle.std.specs.Prelude.{find, is_some}
 use Rattle.std.specs.Option.{option_map}
 use Rattle.std.specs.List.{AllZip}
 use Rattle.std.proofs.lemmas.Bool.{eq-eqb, eqb-true}
@@ -165,3 +165,8 @@ module _ (ps : List (ℕ × Want)) (us : List (ℕ × Sign)) (room : ℕ) (seats
         closing = kept.closing;
         claimed = kept.claimed;
       }
+
+  -- one is meant exactly where one may leave
+  pub meant_where : (o : Option ℕ) → find (λ id. is_meant_at ctx (at seats id)) (map (λ p. p.0) ps) ≡ o → is_some o ≡ is_some (cancellable (is_meant ctx) v.rx)
+  meant_where None e = rw (none_leaves e) refl
+  meant_where (Some id) e = rw ((leaves id e).found) refl

@@ -133,6 +133,16 @@ abbrev pub GoesToSingle : Option Coming → Type 0
 GoesToSingle (Some (Into r place)) = IsSingle r × (place ≡ 0)
 GoesToSingle _ = Unit {0}
 
+-- the item that is coming is this message's, which no receive took
+pub record IsPartly (a : Arrival) (c : Option Coming) (b : Option Item) : Type 0 where
+  pub way : c ≡ Some Keep
+  pub item : Item
+  pub begun : b ≡ Some item
+  pub head : item.head ≡ a.head
+
+abbrev pub PartlyIn : Arriving → Arrival → Type 0
+PartlyIn v a = a.bytes ≡ None → IsPartly a (coming_from v.rx a.source) (begun_of v a.source)
+
 abbrev pub count_begun : Option Item → ℕ
 count_begun None = 0
 count_begun (Some item) = 1
@@ -153,5 +163,7 @@ pub record IsArriving (v : Arriving) : Type 0 where
   pub closing : v.rx.closing ≡ []
   pub claimed : v.rx.claimed ≡ []
   pub still : draw_due v.rx ≡ false
+  -- an unexpected message that is not whole is the item that is coming
+  pub partly : All (PartlyIn v) v.rx.unexpected
   -- no more receives are posted than may be
   pub room : length v.rx.posted ≤ v.most

@@ -9,7 +9,6 @@ ghost use Rattle.fab_rx.specs.Arriving.{IsArriving, arriving, begun_of, finishin
 ghost use Rattle.fab_rx.specs.Leaving.{cancelling, is_meant};
 ghost use Rattle.fab_rx.specs.Results.{cancelled, ended, entries_due, posted_as};
 
-use fab_record::caller::Caller;
 use crate::filling::{complete, filled, lift, placed, redirected, set_down};
 use crate::order::{first_meant, strike};
 use crate::past::{Arrives, Cancels, Finishes, Grows, Opens, Past, Posts};
@@ -18,6 +17,7 @@ use crate::stored::{Begun, Parcel, Seat, Way};
 use crate::table::Table;
 use fab_base::{Buf, Item, ItemHead, Kind, NoMemory, Want};
 use fab_match::{Matcher, sign_of};
+use fab_record::caller::Caller;
 use fab_record::record::Record;
 use std::alloc::Global;
 use std::collections::VecDeque;
@@ -358,6 +358,13 @@ impl<M: Matcher> Inbox<M> {
                 Posted::GoesOn
             }
         }
+    }
+
+    /// Whether a receive is posted, of this context where one is named.
+    pub fn may_cancel(&self, ctx: Option<u64>) -> bool
+        ensures { result ≡ is_some (cancellable (is_meant ctx) self.now.rx) }
+    {
+        first_meant(&self.order, &self.seats, ctx).is_some()
     }
 
     /// The first posted receive of this context leaves, with its buffer (fi_cancel of

@@ -3,8 +3,8 @@ ghost use Rattle.std.specs.Prelude.{ℕ};
 ghost use Rattle.fab_rx.specs.Leaving.{cancelling};
 ghost use Rattle.fab_rx.specs.Arriving.{arriving, finishing, growing, nothing_arrived, posting, receive_by};
 
-use fab_record::caller::Caller;
 use fab_base::{Buf, ItemHead, Want};
+use fab_record::caller::Caller;
 use fab_record::record::{Begins, Change};
 use std::marker::{Model, PhantomData};
 
