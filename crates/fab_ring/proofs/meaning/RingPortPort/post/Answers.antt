@@ -1,0 +1,83 @@
+use Rattle.std.proofs.Common.{rules, ◌≡◌, ℕ, ◌+◌, ◌<◌, List, [], ◌∷◌, ◌++◌, length, sym, refl, ap, ◌∙◌, subst, arith}
+use Rattle.std.specs.Prelude.{Option, Some, None, IsSome}
+use Rattle.std.specs.Arc.{arc_value}
+use Rattle.fab_wire.specs.declared.moves.Move.{Move}
+use Rattle.fab_wire.specs.declared.moves.Move.TheVariants.{Take}
+use Rattle.fab_table.specs.declared.kinds.Sent.{Sent}
+use Rattle.fab_table.specs.declared.kinds.In.{In}
+use Rattle.fab_table.specs.declared.kinds.Part.{Part}
+use Rattle.fab_table.specs.Views.{part_at, out_at, in_at, taken_one}
+use Rattle.fab_ring.specs.Ports.{outgoing, incoming}
+use Rattle.fab_ring.proofs.Facts.{comes_now}
+use Rattle.fab_ring.proofs.Clauses.{posting, fronting, advancing, frame_opened, in_here, others_in, out_in, always_some, always_none}
+use Rattle.fab_ring.proofs.meaning.RingPortPort.post.Goals as goal
+
+pub returns-clause-ok : goal.returns-clause-ok
+returns-clause-ok c = let q = c.args.self.now in let f = arc_value q.fabric in let n = c.send.new.self in let d : ℕ = c.args.dest in let p : Part = part_at q.seat.seat.me.0 0 in
+    let all = posting p (part_at n.seat.seat.me.0 0) d f.room f.pool c.args.head c.args.bytes.now (subst (λ (z : ℕ). d < z) (sym q.fits.all_outs) c.requires.below) (q.fits.each_put d c.requires.below).4 f.sized.7 c.send.result c.send.ensures.sent c.send.ensures.lane_full c.send.ensures.pool_full c.send.ensures.memory in
+    all.ok
+
+pub returns-clause-err : goal.returns-clause-err
+returns-clause-err c = let q = c.args.self.now in let f = arc_value q.fabric in let n = c.send.new.self in let d : ℕ = c.args.dest in let p : Part = part_at q.seat.seat.me.0 0 in
+    let all = posting p (part_at n.seat.seat.me.0 0) d f.room f.pool c.args.head c.args.bytes.now (subst (λ (z : ℕ). d < z) (sym q.fits.all_outs) c.requires.below) (q.fits.each_put d c.requires.below).4 f.sized.7 c.send.result c.send.ensures.sent c.send.ensures.lane_full c.send.ensures.pool_full c.send.ensures.memory in
+    all.err
+
+pub returns-clause-lane_full : goal.returns-clause-lane_full
+returns-clause-lane_full c = let q = c.args.self.now in let f = arc_value q.fabric in let n = c.send.new.self in let d : ℕ = c.args.dest in let p : Part = part_at q.seat.seat.me.0 0 in
+    let all = posting p (part_at n.seat.seat.me.0 0) d f.room f.pool c.args.head c.args.bytes.now (subst (λ (z : ℕ). d < z) (sym q.fits.all_outs) c.requires.below) (q.fits.each_put d c.requires.below).4 f.sized.7 c.send.result c.send.ensures.sent c.send.ensures.lane_full c.send.ensures.pool_full c.send.ensures.memory in
+    all.lane_full
+
+pub returns-clause-pool_full : goal.returns-clause-pool_full
+returns-clause-pool_full c = let q = c.args.self.now in let f = arc_value q.fabric in let n = c.send.new.self in let d : ℕ = c.args.dest in let p : Part = part_at q.seat.seat.me.0 0 in
+    let all = posting p (part_at n.seat.seat.me.0 0) d f.room f.pool c.args.head c.args.bytes.now (subst (λ (z : ℕ). d < z) (sym q.fits.all_outs) c.requires.below) (q.fits.each_put d c.requires.below).4 f.sized.7 c.send.result c.send.ensures.sent c.send.ensures.lane_full c.send.ensures.pool_full c.send.ensures.memory in
+    all.pool_full
+
+pub returns-clause-no_memory : goal.returns-clause-no_memory
+returns-clause-no_memory c = let q = c.args.self.now in let f = arc_value q.fabric in let n = c.send.new.self in let d : ℕ = c.args.dest in let p : Part = part_at q.seat.seat.me.0 0 in
+    let all = posting p (part_at n.seat.seat.me.0 0) d f.room f.pool c.args.head c.args.bytes.now (subst (λ (z : ℕ). d < z) (sym q.fits.all_outs) c.requires.below) (q.fits.each_put d c.requires.below).4 f.sized.7 c.send.result c.send.ensures.sent c.send.ensures.lane_full c.send.ensures.pool_full c.send.ensures.memory in
+    all.no_memory
+
+pub returns-clause-noticed : goal.returns-clause-noticed
+returns-clause-noticed c = let q = c.args.self.now in let f = arc_value q.fabric in let n = c.send.new.self in let d : ℕ = c.args.dest in let p : Part = part_at q.seat.seat.me.0 0 in
+    let all = posting p (part_at n.seat.seat.me.0 0) d f.room f.pool c.args.head c.args.bytes.now (subst (λ (z : ℕ). d < z) (sym q.fits.all_outs) c.requires.below) (q.fits.each_put d c.requires.below).4 f.sized.7 c.send.result c.send.ensures.sent c.send.ensures.lane_full c.send.ensures.pool_full c.send.ensures.memory in
+    all.noticed
+
+pub returns-clause-moves : goal.returns-clause-moves
+returns-clause-moves c = let q = c.args.self.now in let f = arc_value q.fabric in let n = c.send.new.self in let d : ℕ = c.args.dest in let p : Part = part_at q.seat.seat.me.0 0 in
+    let all = posting p (part_at n.seat.seat.me.0 0) d f.room f.pool c.args.head c.args.bytes.now (subst (λ (z : ℕ). d < z) (sym q.fits.all_outs) c.requires.below) (q.fits.each_put d c.requires.below).4 f.sized.7 c.send.result c.send.ensures.sent c.send.ensures.lane_full c.send.ensures.pool_full c.send.ensures.memory in
+    all.moves
+
+pub returns-clause-unmoved : goal.returns-clause-unmoved
+returns-clause-unmoved c = let q = c.args.self.now in let f = arc_value q.fabric in let n = c.send.new.self in let d : ℕ = c.args.dest in let p : Part = part_at q.seat.seat.me.0 0 in
+    let all = posting p (part_at n.seat.seat.me.0 0) d f.room f.pool c.args.head c.args.bytes.now (subst (λ (z : ℕ). d < z) (sym q.fits.all_outs) c.requires.below) (q.fits.each_put d c.requires.below).4 f.sized.7 c.send.result c.send.ensures.sent c.send.ensures.lane_full c.send.ensures.pool_full c.send.ensures.memory in
+    all.unmoved
+
+pub returns-clause-others : goal.returns-clause-others
+returns-clause-others c = let q = c.args.self.now in let f = arc_value q.fabric in let n = c.send.new.self in let d : ℕ = c.args.dest in let p : Part = part_at q.seat.seat.me.0 0 in
+    let all = posting p (part_at n.seat.seat.me.0 0) d f.room f.pool c.args.head c.args.bytes.now (subst (λ (z : ℕ). d < z) (sym q.fits.all_outs) c.requires.below) (q.fits.each_put d c.requires.below).4 f.sized.7 c.send.result c.send.ensures.sent c.send.ensures.lane_full c.send.ensures.pool_full c.send.ensures.memory in
+    all.others
+
+pub returns-clause-incoming : goal.returns-clause-incoming
+returns-clause-incoming c = let q = c.args.self.now in let f = arc_value q.fabric in let n = c.send.new.self in let d : ℕ = c.args.dest in let p : Part = part_at q.seat.seat.me.0 0 in
+    let all = posting p (part_at n.seat.seat.me.0 0) d f.room f.pool c.args.head c.args.bytes.now (subst (λ (z : ℕ). d < z) (sym q.fits.all_outs) c.requires.below) (q.fits.each_put d c.requires.below).4 f.sized.7 c.send.result c.send.ensures.sent c.send.ensures.lane_full c.send.ensures.pool_full c.send.ensures.memory in
+    all.into
+
+pub returns-clause-full : goal.returns-clause-full
+returns-clause-full c = let q = c.args.self.now in let f = arc_value q.fabric in let n = c.send.new.self in let d : ℕ = c.args.dest in let p : Part = part_at q.seat.seat.me.0 0 in
+    let all = posting p (part_at n.seat.seat.me.0 0) d f.room f.pool c.args.head c.args.bytes.now (subst (λ (z : ℕ). d < z) (sym q.fits.all_outs) c.requires.below) (q.fits.each_put d c.requires.below).4 f.sized.7 c.send.result c.send.ensures.sent c.send.ensures.lane_full c.send.ensures.pool_full c.send.ensures.memory in
+    all.full
+
+pub returns-clause-room : goal.returns-clause-room
+returns-clause-room c = let q = c.args.self.now in let f = arc_value q.fabric in let n = c.send.new.self in let d : ℕ = c.args.dest in let p : Part = part_at q.seat.seat.me.0 0 in
+    let all = posting p (part_at n.seat.seat.me.0 0) d f.room f.pool c.args.head c.args.bytes.now (subst (λ (z : ℕ). d < z) (sym q.fits.all_outs) c.requires.below) (q.fits.each_put d c.requires.below).4 f.sized.7 c.send.result c.send.ensures.sent c.send.ensures.lane_full c.send.ensures.pool_full c.send.ensures.memory in
+    all.room_is
+
+pub returns-clause-each_slot : goal.returns-clause-each_slot
+returns-clause-each_slot c = let q = c.args.self.now in let f = arc_value q.fabric in let n = c.send.new.self in let d : ℕ = c.args.dest in let p : Part = part_at q.seat.seat.me.0 0 in
+    let all = posting p (part_at n.seat.seat.me.0 0) d f.room f.pool c.args.head c.args.bytes.now (subst (λ (z : ℕ). d < z) (sym q.fits.all_outs) c.requires.below) (q.fits.each_put d c.requires.below).4 f.sized.7 c.send.result c.send.ensures.sent c.send.ensures.lane_full c.send.ensures.pool_full c.send.ensures.memory in
+    all.each_slot
+
+pub returns-clause-some_slot : goal.returns-clause-some_slot
+returns-clause-some_slot c = let q = c.args.self.now in let f = arc_value q.fabric in let n = c.send.new.self in let d : ℕ = c.args.dest in let p : Part = part_at q.seat.seat.me.0 0 in
+    let all = posting p (part_at n.seat.seat.me.0 0) d f.room f.pool c.args.head c.args.bytes.now (subst (λ (z : ℕ). d < z) (sym q.fits.all_outs) c.requires.below) (q.fits.each_put d c.requires.below).4 f.sized.7 c.send.result c.send.ensures.sent c.send.ensures.lane_full c.send.ensures.pool_full c.send.ensures.memory in
+    all.some_slot

@@ -1,0 +1,109 @@
+use Rattle.std.proofs.Common.{rules, ◌≡◌, ℕ, suc, ◌+◌, ◌-◌, ◌*◌, ◌%◌, ◌^◌, max, ◌<◌, ◌≤◌, ◌⊎◌, Bool, true, false, List, [], ◌∷◌, ◌++◌, length, take, get_or, set, sym, refl, ap, ◌∙◌, subst, arith, inl, inr, ⊎_elim}
+use Rattle.std.specs.Prelude.{Option, Some, None}
+use Rattle.std.proofs.lemmas.Option.{same_Some, none-some}
+use Rattle.std.specs.Option.{is_some}
+use Rattle.std.specs.Arc.{arc_value}
+use Rattle.atomic_table.specs.Table.{rest, turned}
+use Rattle.fab_wire.specs.declared.moves.Move.{Move}
+use Rattle.fab_wire.specs.declared.moves.Move.TheVariants.{Post, Take}
+use Rattle.fab_wire.specs.Frames.{last_head, MayCome}
+use Rattle.fab_table.specs.declared.kinds.Command.{Command}
+use Rattle.fab_table.specs.declared.kinds.Sent.{Sent}
+use Rattle.fab_table.specs.declared.kinds.Slot.{Slot}
+use Rattle.fab_table.specs.declared.kinds.Slot.TheVariants.{Cell, Pool}
+use Rattle.fab_table.specs.declared.kinds.Out.{Out}
+use Rattle.fab_table.specs.declared.kinds.In.{In}
+use Rattle.fab_table.specs.declared.kinds.Part.{Part}
+use Rattle.fab_table.specs.declared.kinds.View.{View}
+use Rattle.fab_table.specs.Views.{frames_of, part_at, out_at, in_at, with_part, with_out, with_in, posted_one, saw_room, saw_full, saw_frame, saw_empty, freed_one, taken_one}
+use Rattle.fab_table.specs.Rule.{greatest}
+use Rattle.fab_table.specs.Plays.{Sat, most, new_out_view, new_in_view, next_cell, oldest_cell, slot_home, next_of, oldest_of}
+use Rattle.fab_ring.specs.Tries.{IsTried, IsSent, tried_out, sent_as}
+use Rattle.fab_ring.specs.Hands.{shapes, held, Fits, Tells, Told, Comes}
+use Rattle.fab_ring.proofs.Hold.{behind, get_any, flag_at, nothing, something, cell_first, pool_first, shapes_turned, fits_saw, fits_post, fits_empty, fits_open, fits_open_slot, fits_first, fits_two, fits_free, fits_take, fits_pass, fits_turn, fits_turn_two, fits_wrap, got_len, put_len, oldest_place}
+use Rattle.fab_ring.proofs.Ends.{tried_length, sent_length, out_all, in_all, sent_over, view_over, here_out, part_out, next_over}
+use Rattle.fab_ring.proofs.Told.{told_out, told_in, comes_out, comes_in}
+use Rattle.fab_ring.proofs.Facts.{comes_now}
+use Rattle.fab_ring.proofs.port.RingPort.send.Goals as goal
+
+pub invariant_of-self : goal.invariant_of-self
+invariant_of-self c = let q = c.args.self.now in let f = arc_value q.fabric in let d : ℕ = c.args.dest in let m : Sat = q.seat.seat.me in let p : Part = part_at m.0 0 in let o : Out = out_at p d in let low : d < f.peers = c.requires.below in let inside : d < length p.outs = subst (λ (z : ℕ). d < z) (sym q.fits.all_outs) low in
+    let saw = c.look_got-got.ensures.view in let r : ℕ = c.look_got-got.result in let put = put_len _ _ _ _ _ _ _ _ _ _ _ _ q.fits d c.index-put.result.now low c.index-put.ensures in let wide : c.room-room.result ≡ p.room = c.room-room.ensures ∙ ap (λ t. t.room) c.deref-2.ensures ∙ sym q.fits.room_is in
+    let mine = q.fits.each_put d low in let full = saw.2 (inl (let t = c.if-put-got.true in let le = saw.0 in omega arith)) in let o₁ : Out = saw_full o r in let all = out_all m _ d o₁ p.moves m.1 q.at.1 full in
+    record {
+      at = (c.look_got-got.ensures.seat.0 ∙ q.at.0, all.0);
+      fits = subst (λ (z : Part × List (ℕ × Slot)). Fits q.me f.peers f.room f.pool q.clock q.turn q.puts.items q.gots.items q.opened.items q.lent.items z.0 (shapes z.1)) (λ i. (sym all.1 i, sym all.2 i)) (fits_saw _ _ _ _ _ _ _ _ _ _ _ _ q.fits d o₁ low refl mine.1 mine.3 mine.4);
+      told = subst (Told f.peers q.commands.items q.buffers.items) (sym all.1) (told_out _ _ _ p d o₁ p.moves q.told);
+      comes = subst (λ (z : Part). ∥ Comes z ∥₁) (sym all.1) (comes_out p d o₁ p.moves q.comes);
+    }
+
+pub invariant_of-self-then-self-ge-MOST : goal.invariant_of-self-then-self-ge-MOST
+invariant_of-self-then-self-ge-MOST c = let q = c.args.self.now in let f = arc_value q.fabric in let d : ℕ = c.args.dest in let m : Sat = q.seat.seat.me in let p : Part = part_at m.0 0 in let o : Out = out_at p d in let low : d < f.peers = c.requires.below in let inside : d < length p.outs = subst (λ (z : ℕ). d < z) (sym q.fits.all_outs) low in
+    let saw = c.look_got-got.ensures.view in let r : ℕ = c.look_got-got.result in let put = put_len _ _ _ _ _ _ _ _ _ _ _ _ q.fits d c.index-put.result.now low c.index-put.ensures in let wide : c.room-room.result ≡ p.room = c.room-room.ensures ∙ ap (λ t. t.room) c.deref-2.ensures ∙ sym q.fits.room_is in
+    let mine = q.fits.each_put d low in let full = saw.2 (inr (let t = c.if-self-ge-MOST.true in let e = q.fits.clock_is in omega arith)) in let o₁ : Out = saw_full o r in let all = out_all m _ d o₁ p.moves m.1 q.at.1 full in
+    record {
+      at = (c.look_got-got.ensures.seat.0 ∙ q.at.0, all.0);
+      fits = subst (λ (z : Part × List (ℕ × Slot)). Fits q.me f.peers f.room f.pool q.clock q.turn q.puts.items q.gots.items q.opened.items q.lent.items z.0 (shapes z.1)) (λ i. (sym all.1 i, sym all.2 i)) (fits_saw _ _ _ _ _ _ _ _ _ _ _ _ q.fits d o₁ low refl mine.1 mine.3 mine.4);
+      told = subst (Told f.peers q.commands.items q.buffers.items) (sym all.1) (told_out _ _ _ p d o₁ p.moves q.told);
+      comes = subst (λ (z : Part). ∥ Comes z ∥₁) (sym all.1) (comes_out p d o₁ p.moves q.comes);
+    }
+
+pub send_next-requires-clause-place : goal.send_next-requires-clause-place
+send_next-requires-clause-place c = let q = c.args.self.now in let f = arc_value q.fabric in let d : ℕ = c.args.dest in let m : Sat = q.seat.seat.me in let p : Part = part_at m.0 0 in let o : Out = out_at p d in let low : d < f.peers = c.requires.below in let inside : d < length p.outs = subst (λ (z : ℕ). d < z) (sym q.fits.all_outs) low in
+    let saw = c.look_got-got.ensures.view in let r : ℕ = c.look_got-got.result in let put = put_len _ _ _ _ _ _ _ _ _ _ _ _ q.fits d c.index-put.result.now low c.index-put.ensures in let wide : c.room-room.result ≡ p.room = c.room-room.ensures ∙ ap (λ t. t.room) c.deref-2.ensures ∙ sym q.fits.room_is in
+    let mine = q.fits.each_put d low in let space : length o.posted < r + p.room = (let le = saw.0 in let t = c.if-put-got.false in omega arith) in
+    let few : greatest 0 p.moves < most = (let t = c.if-self-ge-MOST.false in let e = q.fits.clock_is in omega arith) in let took = saw.3 space few in let o₁ : Out = saw_room o r in let v₁ : View = new_out_view m.0 0 d o₁ in
+    let all_peers : c.peers.result ≡ p.peers = c.peers.ensures ∙ ap (λ t. t.peers) c.deref-3.ensures ∙ sym q.fits.peers_is in
+    (λ i. (sym q.fits.me_is i * all_peers i + d) * wide i + put i % wide i) ∙ sym (next_over m.0 d q.at.1 inside o₁ refl) ∙ ap (λ (z : Sat). next_cell z.0 0 d) (sym took.1)
+
+pub invariant_of-self-then-not-send_next : goal.invariant_of-self-then-not-send_next
+invariant_of-self-then-not-send_next c = let q = c.args.self.now in let f = arc_value q.fabric in let d : ℕ = c.args.dest in let m : Sat = q.seat.seat.me in let p : Part = part_at m.0 0 in let o : Out = out_at p d in let low : d < f.peers = c.requires.below in let inside : d < length p.outs = subst (λ (z : ℕ). d < z) (sym q.fits.all_outs) low in
+    let saw = c.look_got-got.ensures.view in let r : ℕ = c.look_got-got.result in let put = put_len _ _ _ _ _ _ _ _ _ _ _ _ q.fits d c.index-put.result.now low c.index-put.ensures in let wide : c.room-room.result ≡ p.room = c.room-room.ensures ∙ ap (λ t. t.room) c.deref-2.ensures ∙ sym q.fits.room_is in
+    let mine = q.fits.each_put d low in let space : length o.posted < r + p.room = (let le = saw.0 in let t = c.if-put-got.false in omega arith) in
+    let few : greatest 0 p.moves < most = (let t = c.if-self-ge-MOST.false in let e = q.fits.clock_is in omega arith) in let took = saw.3 space few in let o₁ : Out = saw_room o r in let v₁ : View = new_out_view m.0 0 d o₁ in
+    let here = here_out m.0 d q.at.1 inside o₁ in let pools = ap (λ t. t.pool) c.deref-4.ensures in let got = c.send_next.ensures.full c.if-not-send_next.true in let o₂ : Out = tried_out o₁ got.0 got.1 false None in
+    let tries : IsTried o f.pool got.0 got.1 = subst (λ (z : Out × ℕ). IsTried z.0 z.1 got.0 got.1) (λ i. ((ap (λ (z : Sat). out_at (part_at z.0 0) d) took.1 ∙ here) i, pools i)) got.3 in
+    let all = out_all m _ d o₂ p.moves m.1 q.at.1 (got.4 ∙ (λ i. (new_out_view (took.1 i).0 0 d (tried_out (out_at (part_at (took.1 i).0 0) d) got.0 got.1 false None), rest (took.1 i).1)) ∙ (λ i. (new_out_view v₁ 0 d (tried_out (here i) got.0 got.1 false None), m.1)) ∙ (λ i. (view_over m.0 d q.at.1 inside o₁ o₂ i, m.1))) in
+    record {
+      at = (c.send_next.ensures.seat.0 ∙ c.look_got-got.ensures.seat.0 ∙ q.at.0, all.0);
+      fits = subst (λ (z : Part × List (ℕ × Slot)). Fits q.me f.peers f.room f.pool q.clock q.turn q.puts.items q.gots.items q.opened.items q.lent.items z.0 (shapes z.1)) (λ i. (sym all.1 i, sym all.2 i)) (fits_saw _ _ _ _ _ _ _ _ _ _ _ _ q.fits d o₂ low refl refl refl (tried_length o f.pool got.0 got.1 tries ∙ mine.4));
+      told = subst (Told f.peers q.commands.items q.buffers.items) (sym all.1) (told_out _ _ _ p d o₂ p.moves q.told);
+      comes = subst (λ (z : Part). ∥ Comes z ∥₁) (sym all.1) (comes_out p d o₂ p.moves q.comes);
+    }
+
+pub returns-then-not-send_next-clause-pool_full : goal.returns-then-not-send_next-clause-pool_full
+returns-then-not-send_next-clause-pool_full c = let q = c.args.self.now in let f = arc_value q.fabric in let d : ℕ = c.args.dest in let m : Sat = q.seat.seat.me in let p : Part = part_at m.0 0 in let o : Out = out_at p d in let low : d < f.peers = c.requires.below in let inside : d < length p.outs = subst (λ (z : ℕ). d < z) (sym q.fits.all_outs) low in
+    let saw = c.look_got-got.ensures.view in let r : ℕ = c.look_got-got.result in let put = put_len _ _ _ _ _ _ _ _ _ _ _ _ q.fits d c.index-put.result.now low c.index-put.ensures in let wide : c.room-room.result ≡ p.room = c.room-room.ensures ∙ ap (λ t. t.room) c.deref-2.ensures ∙ sym q.fits.room_is in
+    let mine = q.fits.each_put d low in let space : length o.posted < r + p.room = (let le = saw.0 in let t = c.if-put-got.false in omega arith) in
+    let few : greatest 0 p.moves < most = (let t = c.if-self-ge-MOST.false in let e = q.fits.clock_is in omega arith) in let took = saw.3 space few in let o₁ : Out = saw_room o r in let v₁ : View = new_out_view m.0 0 d o₁ in
+    let here = here_out m.0 d q.at.1 inside o₁ in let pools = ap (λ t. t.pool) c.deref-4.ensures in let got = c.send_next.ensures.full c.if-not-send_next.true in let o₂ : Out = tried_out o₁ got.0 got.1 false None in
+    let tries : IsTried o f.pool got.0 got.1 = subst (λ (z : Out × ℕ). IsTried z.0 z.1 got.0 got.1) (λ i. ((ap (λ (z : Sat). out_at (part_at z.0 0) d) took.1 ∙ here) i, pools i)) got.3 in
+    let all = out_all m _ d o₂ p.moves m.1 q.at.1 (got.4 ∙ (λ i. (new_out_view (took.1 i).0 0 d (tried_out (out_at (part_at (took.1 i).0 0) d) got.0 got.1 false None), rest (took.1 i).1)) ∙ (λ i. (new_out_view v₁ 0 d (tried_out (here i) got.0 got.1 false None), m.1)) ∙ (λ i. (view_over m.0 d q.at.1 inside o₁ o₂ i, m.1))) in
+    λ _. (r, got.0, got.1, subst (λ (z : ℕ). length o.posted < r + z) q.fits.room_is space, few, got.2, tries, all.1)
+
+pub invariant_of-self-2 : goal.invariant_of-self-2
+invariant_of-self-2 c = let q = c.args.self.now in let f = arc_value q.fabric in let d : ℕ = c.args.dest in let m : Sat = q.seat.seat.me in let p : Part = part_at m.0 0 in let o : Out = out_at p d in let low : d < f.peers = c.requires.below in let inside : d < length p.outs = subst (λ (z : ℕ). d < z) (sym q.fits.all_outs) low in
+    let saw = c.look_got-got.ensures.view in let r : ℕ = c.look_got-got.result in let put = put_len _ _ _ _ _ _ _ _ _ _ _ _ q.fits d c.index-put.result.now low c.index-put.ensures in let wide : c.room-room.result ≡ p.room = c.room-room.ensures ∙ ap (λ t. t.room) c.deref-2.ensures ∙ sym q.fits.room_is in
+    let mine = q.fits.each_put d low in let space : length o.posted < r + p.room = (let le = saw.0 in let t = c.if-put-got.false in omega arith) in
+    let few : greatest 0 p.moves < most = (let t = c.if-self-ge-MOST.false in let e = q.fits.clock_is in omega arith) in let took = saw.3 space few in let o₁ : Out = saw_room o r in let v₁ : View = new_out_view m.0 0 d o₁ in
+    let here = here_out m.0 d q.at.1 inside o₁ in let pools = ap (λ t. t.pool) c.deref-4.ensures in let got = c.send_next.ensures.sent c.if-not-send_next.false in let n : ℕ = q.clock + 1 in let x : Sent = sent_as c.args.head c.args.bytes.now n got.0 in let o₂ : Out = tried_out o₁ got.1 got.2 true None in let ms : List Move = p.moves ++ Post d n ∷ [] in
+    let is : IsSent o f.pool got.0 got.1 got.2 = subst (λ (z : Out × ℕ). IsSent z.0 z.1 got.0 got.1 got.2) (λ i. ((ap (λ (z : Sat). out_at (part_at z.0 0) d) took.1 ∙ here) i, pools i)) got.3 in
+    let all = out_all m _ d (posted_one o₂ x) ms m.1 q.at.1 (got.4 ∙ (λ i. (with_part (took.1 i).0 0 (with_out (part_at (took.1 i).0 0) d (posted_one (tried_out (out_at (part_at (took.1 i).0 0) d) got.1 got.2 true None) x) ((part_at (took.1 i).0 0).moves ++ Post d n ∷ [])), rest (took.1 i).1))
+      ∙ (λ i. (with_part v₁ 0 (with_out (part_at v₁ 0) d (posted_one (tried_out (here i) got.1 got.2 true None) x) ((part_at v₁ 0).moves ++ Post d n ∷ [])), m.1)) ∙ (λ i. (sent_over m.0 d q.at.1 inside o₁ (posted_one o₂ x) n i, m.1))) in
+    record {
+      at = (c.send_next.ensures.seat.0 ∙ c.look_got-got.ensures.seat.0 ∙ q.at.0, all.0);
+      fits = subst (λ (z : Part × List (ℕ × Slot)). Fits q.me f.peers f.room f.pool (q.clock + 1) q.turn (set q.puts.items d (c.index-put.result.now + 1)) q.gots.items q.opened.items q.lent.items z.0 (shapes z.1)) (λ i. (sym all.1 i, sym all.2 i)) (fits_post _ _ _ _ _ _ _ _ _ _ _ _ q.fits d (c.index-put.result.now + 1) o₂ x low (ap (λ (z : ℕ). z + 1) (put ∙ sym mine.0)) refl refl (sent_length o f.pool got.0 got.1 got.2 is ∙ mine.4));
+      told = subst (Told f.peers q.commands.items q.buffers.items) (sym all.1) (told_out _ _ _ p d (posted_one o₂ x) ms q.told);
+      comes = subst (λ (z : Part). ∥ Comes z ∥₁) (sym all.1) (comes_out p d (posted_one o₂ x) ms q.comes);
+    }
+
+pub returns-clause-sent : goal.returns-clause-sent
+returns-clause-sent c = let q = c.args.self.now in let f = arc_value q.fabric in let d : ℕ = c.args.dest in let m : Sat = q.seat.seat.me in let p : Part = part_at m.0 0 in let o : Out = out_at p d in let low : d < f.peers = c.requires.below in let inside : d < length p.outs = subst (λ (z : ℕ). d < z) (sym q.fits.all_outs) low in
+    let saw = c.look_got-got.ensures.view in let r : ℕ = c.look_got-got.result in let put = put_len _ _ _ _ _ _ _ _ _ _ _ _ q.fits d c.index-put.result.now low c.index-put.ensures in let wide : c.room-room.result ≡ p.room = c.room-room.ensures ∙ ap (λ t. t.room) c.deref-2.ensures ∙ sym q.fits.room_is in
+    let mine = q.fits.each_put d low in let space : length o.posted < r + p.room = (let le = saw.0 in let t = c.if-put-got.false in omega arith) in
+    let few : greatest 0 p.moves < most = (let t = c.if-self-ge-MOST.false in let e = q.fits.clock_is in omega arith) in let took = saw.3 space few in let o₁ : Out = saw_room o r in let v₁ : View = new_out_view m.0 0 d o₁ in
+    let here = here_out m.0 d q.at.1 inside o₁ in let pools = ap (λ t. t.pool) c.deref-4.ensures in let got = c.send_next.ensures.sent c.if-not-send_next.false in let n : ℕ = q.clock + 1 in let x : Sent = sent_as c.args.head c.args.bytes.now n got.0 in let o₂ : Out = tried_out o₁ got.1 got.2 true None in let ms : List Move = p.moves ++ Post d n ∷ [] in
+    let is : IsSent o f.pool got.0 got.1 got.2 = subst (λ (z : Out × ℕ). IsSent z.0 z.1 got.0 got.1 got.2) (λ i. ((ap (λ (z : Sat). out_at (part_at z.0 0) d) took.1 ∙ here) i, pools i)) got.3 in
+    let all = out_all m _ d (posted_one o₂ x) ms m.1 q.at.1 (got.4 ∙ (λ i. (with_part (took.1 i).0 0 (with_out (part_at (took.1 i).0 0) d (posted_one (tried_out (out_at (part_at (took.1 i).0 0) d) got.1 got.2 true None) x) ((part_at (took.1 i).0 0).moves ++ Post d n ∷ [])), rest (took.1 i).1))
+      ∙ (λ i. (with_part v₁ 0 (with_out (part_at v₁ 0) d (posted_one (tried_out (here i) got.1 got.2 true None) x) ((part_at v₁ 0).moves ++ Post d n ∷ [])), m.1)) ∙ (λ i. (sent_over m.0 d q.at.1 inside o₁ (posted_one o₂ x) n i, m.1))) in
+    (r, got.0, got.1, got.2, subst (λ (z : ℕ). length o.posted < r + z) q.fits.room_is space, few, is, all.1 ∙ (λ i. with_out p d (posted_one o₂ (sent_as c.args.head c.args.bytes.now (q.fits.clock_is i + 1) got.0)) (p.moves ++ Post d (q.fits.clock_is i + 1) ∷ [])))

@@ -1,0 +1,5 @@
+pub mod Tries
+pub mod Alone
+pub mod Hands
+pub mod Ports
+pub mod Made

@@ -1,0 +1,30 @@
+-- Tries on the slots of a pool, one after the other from the first on.
+--     raised j ts           the counts after a try on each of the first j slots found it taken
+--     IsTried o j ts f      so are the counts ts after them, and f is where the least of them last rose
+--     tried_out, posted_out, full_out ..    a lane after what one call did
+use Rattle.std.specs.Prelude.{◌≡◌, ℕ, zero, suc, ◌+◌, ◌<◌, ◌⊎◌, Bool, true, false, List, [], ◌∷◌, ◌++◌, length, Option, Some, None}
+use Rattle.fab_base.specs.declared.frames.FrameHead.{FrameHead}
+use Rattle.fab_wire.specs.Frames.{frame}
+use Rattle.fab_table.specs.declared.kinds.Sent.{Sent}
+use Rattle.fab_table.specs.declared.kinds.Out.{Out}
+use Rattle.fab_table.specs.Views.{least}
+
+abbrev pub raised : ℕ → List ℕ → List ℕ
+raised zero ts = ts
+raised (suc j) [] = []
+raised (suc j) (t ∷ ts) = (t + 1) ∷ raised j ts
+
+abbrev pub IsTried : Out → ℕ → List ℕ → ℕ → Type 0
+IsTried o j ts f = (ts ≡ raised j o.tried) × (((least ts ≡ least o.tried) × (f ≡ o.full_at)) ⊎ ((least o.tried < least ts) × (f ≡ length o.posted)))
+
+-- a lane with these counts, and this cell and slot in hand
+abbrev pub tried_out : Out → List ℕ → ℕ → Bool → Option ℕ → Out
+tried_out o ts f w c = record { posted = o.posted; got_seen = o.got_seen; full_seen = o.full_seen; tried = ts; full_at = f; writing = w; claim = c }
+
+-- a frame of these parts
+abbrev pub sent_as : FrameHead → List ℕ → ℕ → Option ℕ → Sent
+sent_as head bytes n slot = record { frame = frame head bytes; number = n; slot = slot }
+
+-- a frame got this slot, or none, with these counts of the tries before
+abbrev pub IsSent : Out → ℕ → Option ℕ → List ℕ → ℕ → Type 0
+IsSent o pool slot ts f = ((slot ≡ None) × (ts ≡ o.tried) × (f ≡ o.full_at)) ⊎ ((j : ℕ) × (j < pool) × IsTried o j ts f)

@@ -1,0 +1,221 @@
+//! What the calls of a port do to what its seat knows.
+ghost use Rattle.std.specs.Prelude.{◌≡◌, ◌≢◌, ℕ, ◌+◌, ◌-◌, ◌*◌, ◌<◌, ◌≤◌, ◌^◌, ◌⊎◌, true, false, List, [], ◌∷◌, ◌++◌, length, Option, None, Some, IsSome, IsErrOf, OnOk, Err};
+ghost use Rattle.fab_wire.specs.declared.moves.Move.TheVariants.{Post, Take};
+ghost use Rattle.fab_wire.specs.Frames.{last_head, Continues, MayCome};
+ghost use Rattle.fab_link.specs.Plain.{lent_frames};
+ghost use Rattle.fab_table.specs.declared.kinds.Sent.{Sent};
+ghost use Rattle.fab_table.specs.Views.{frames_of, out_at, in_at, with_out, with_in, saw_full, saw_room, posted_one, saw_empty, saw_frame, freed_one, taken_one};
+ghost use Rattle.fab_table.specs.Plays.{most};
+ghost use Rattle.fab_ring.specs.Tries.{IsTried, IsSent, tried_out, sent_as};
+ghost use Rattle.fab_ring.specs.Ports.{part_of, peers_of, room_of, pool_of, clock_of, in_of, SamePort};
+
+use crate::port::RingPort;
+use crate::receiving::{Look, Oldest, free_pooled, open_next};
+use crate::sending::{Next, send_next};
+use fab_base::{FrameHead, FrameRef};
+use fab_link::PostRefused;
+
+/// A frame's number is at most this.
+const MOST: u64 = 1 << 62;
+
+impl RingPort {
+    /// Posts a frame where a look shows room for it, and one try on each slot of the peer's pool finds a
+    /// free one where it needs one.
+    pub(crate) fn send(&mut self, dest: u32, head: FrameHead, bytes: &[u8]) -> Result<(), PostRefused>
+        requires below { dest < peers_of self.old }
+        requires continues { Continues (last_head None (frames_of (out_at (part_of self.old) dest).posted)) head }
+        requires filled { length bytes.now ≡ head.len }
+        ensures port { SamePort self.old self.new }
+        ensures sent { OnOk result ((r : ℕ) × (slot : Option ℕ) × (ts : List ℕ) × (f : ℕ) × (length (out_at (part_of self.old) dest).posted < r + room_of self.old) × (clock_of self.old < most)
+            × IsSent (out_at (part_of self.old) dest) (pool_of self.old) slot ts f
+            × (part_of self.new ≡ with_out (part_of self.old) dest (posted_one (tried_out (saw_room (out_at (part_of self.old) dest) r) ts f true None) (sent_as head bytes.now (clock_of self.old + 1) slot)) ((part_of self.old).moves ++ Post dest (clock_of self.old + 1) ∷ []))) }
+        ensures lane_full { IsErrOf result PostRefused.LaneFull → (r : ℕ) × ((length (out_at (part_of self.old) dest).posted ≡ r + room_of self.old) ⊎ (most ≤ clock_of self.old))
+            × (part_of self.new ≡ with_out (part_of self.old) dest (saw_full (out_at (part_of self.old) dest) r) (part_of self.old).moves) }
+        ensures pool_full { IsErrOf result PostRefused.PoolFull → (r : ℕ) × (ts : List ℕ) × (f : ℕ) × (length (out_at (part_of self.old) dest).posted < r + room_of self.old) × (clock_of self.old < most)
+            × (64 < length bytes.now) × IsTried (out_at (part_of self.old) dest) (pool_of self.old) ts f
+            × (part_of self.new ≡ with_out (part_of self.old) dest (tried_out (saw_room (out_at (part_of self.old) dest) r) ts f false None) (part_of self.old).moves) }
+        ensures memory { result ≢ Err PostRefused.NoMemory }
+    {
+        let (me, to) = (self.me as u64, dest as u64);
+        let got = self.fabric.look_got(&mut self.seat, 0, me, to);
+        let put = self.puts[dest as usize];
+        let room = self.fabric.room();
+        if put - got >= room || self.clock >= MOST {
+            return Err(PostRefused::LaneFull);
+        }
+        let lane = me * self.fabric.peers() + to;
+        let next = Next {
+            me,
+            dest: to,
+            put,
+            number: self.clock + 1,
+            place: (lane * room + put % room) as usize,
+        };
+        if !send_next(&self.fabric, &mut self.seat, &next, head, bytes) {
+            return Err(PostRefused::PoolFull);
+        }
+        self.puts[dest as usize] = put + 1;
+        self.clock += 1;
+        Ok(())
+    }
+
+    /// Turns the places in hand until those of `src` come first.
+    fn seek(&mut self, src: u64)
+        requires { src < peers_of self.old }
+        ensures port { SamePort self.old self.new }
+        ensures part { part_of self.new ≡ part_of self.old }
+        ensures turn { self.new.turn ≡ src }
+        ensures kept { (self.new.gots ≡ self.old.gots) × (self.new.opened ≡ self.old.opened) × (self.new.lent ≡ self.old.lent) × (self.new.commands ≡ self.old.commands) × (self.new.buffers ≡ self.old.buffers) }
+    {
+        if src < self.turn {
+            let peers = self.fabric.peers();
+            while self.turn < peers {
+                self.pass();
+            }
+            self.wrap();
+        }
+        while self.turn < src {
+            self.pass();
+        }
+    }
+
+    /// Begins again at the first peer.
+    fn wrap(&mut self)
+        requires { self.old.turn ≡ peers_of self.old }
+        ensures port { SamePort self.old self.new }
+        ensures part { part_of self.new ≡ part_of self.old }
+        ensures turn { self.new.turn ≡ 0 }
+        ensures kept { (self.new.gots ≡ self.old.gots) × (self.new.opened ≡ self.old.opened) × (self.new.lent ≡ self.old.lent) × (self.new.commands ≡ self.old.commands) × (self.new.buffers ≡ self.old.buffers) }
+    {
+        self.turn = 0;
+    }
+
+    /// Turns the places in hand for one peer behind those for the others.
+    fn pass(&mut self)
+        requires { self.old.turn < peers_of self.old }
+        ensures port { SamePort self.old self.new }
+        ensures part { part_of self.new ≡ part_of self.old }
+        ensures turn { self.new.turn ≡ self.old.turn + 1 }
+        ensures kept { (self.new.gots ≡ self.old.gots) × (self.new.opened ≡ self.old.opened) × (self.new.lent ≡ self.old.lent) × (self.new.commands ≡ self.old.commands) × (self.new.buffers ≡ self.old.buffers) }
+    {
+        if !self.opened[self.turn as usize] {
+            self.turn += 1;
+            return;
+        }
+        if !self.lent[self.turn as usize] {
+            self.seat.turn();
+            self.turn += 1;
+            return;
+        }
+        self.seat.turn();
+        self.seat.turn();
+        self.turn += 1;
+    }
+}
+
+impl RingPort {
+    /// Looks for the next frame of a peer, where none is open.
+    pub(crate) fn look(&mut self, src: u32)
+        requires { src < peers_of self.old }
+        ensures port { SamePort self.old self.new }
+        ensures same { IsSome (in_at (part_of self.old) src).opened → part_of self.new ≡ part_of self.old }
+        ensures looked { (in_at (part_of self.old) src).opened ≡ None
+            → (part_of self.new ≡ with_in (part_of self.old) src (saw_empty (in_at (part_of self.old) src) (length (in_at (part_of self.old) src).taken)) (part_of self.old).moves)
+            ⊎ ((r : ℕ) × (x : Sent) × MayCome (last_head None (frames_of (in_at (part_of self.old) src).taken)) x.frame
+                × (part_of self.new ≡ with_in (part_of self.old) src (saw_frame (in_at (part_of self.old) src) r x) (part_of self.old).moves)) }
+    {
+        if self.opened[src as usize] {
+            return;
+        }
+        self.seek(src as u64);
+        let me = self.me as u64;
+        let got = self.gots[src as usize];
+        let room = self.fabric.room();
+        let lane = src as u64 * self.fabric.peers() + me;
+        let next = Oldest {
+            me,
+            src: src as u64,
+            got,
+            place: (lane * room + got % room) as usize,
+        };
+        let found = open_next(
+            &self.fabric,
+            &mut self.seat,
+            &next,
+            &mut self.commands[src as usize],
+            &mut self.buffers[src as usize],
+        );
+        match found {
+            Look::Empty => {}
+            Look::Inline => {
+                self.opened[src as usize] = true;
+            }
+            Look::Pooled => {
+                self.opened[src as usize] = true;
+                self.lent[src as usize] = true;
+                self.turn += 1;
+            }
+        }
+    }
+
+    /// The open frame of a peer.
+    pub(crate) fn lent(&self, src: u32) -> Option<FrameRef<'_>>
+        requires { src < peers_of self.now }
+        ensures lent { lent_frames result ≡ (in_of self.now src).lent }
+    {
+        if !self.opened[src as usize] {
+            return None;
+        }
+        let command = &self.commands[src as usize];
+        let len = command.head.len as usize;
+        if command.slot.is_none() {
+            return Some(FrameRef {
+                head: command.head,
+                bytes: &command.inline[..len],
+            });
+        }
+        let buffer = self.buffers[src as usize].as_slice();
+        Some(FrameRef {
+            head: command.head,
+            bytes: &buffer[..len],
+        })
+    }
+
+    /// Frees the slot of the open frame of a peer, where it has one.
+    fn free(&mut self, src: u32)
+        requires { (src < peers_of self.old) × IsSome (in_at (part_of self.old) src).opened }
+        ensures port { SamePort self.old self.new }
+        ensures part { part_of self.new ≡ with_in (part_of self.old) src (freed_one (in_at (part_of self.old) src)) (part_of self.old).moves }
+        ensures clock { self.new.clock ≡ self.old.clock }
+        ensures commands { self.new.commands ≡ self.old.commands }
+    {
+        if !self.lent[src as usize] {
+            return;
+        }
+        self.seek(src as u64);
+        let Some(slot) = self.commands[src as usize].slot else {
+            unreachable!()
+        };
+        free_pooled(&self.fabric, &mut self.seat, self.me as u64, src as u64, slot);
+        self.turn += 1;
+        self.lent[src as usize] = false;
+    }
+
+    /// Finishes the open frame of a peer.
+    pub(crate) fn take(&mut self, src: u32)
+        requires { (src < peers_of self.old) × IsSome (in_at (part_of self.old) src).opened }
+        ensures port { SamePort self.old self.new }
+        ensures taken { (x : Sent) → (in_at (part_of self.old) src).opened ≡ Some x
+            → part_of self.new ≡ with_in (part_of self.old) src (taken_one (in_at (part_of self.old) src) x) ((part_of self.old).moves ++ Take src x.number ∷ []) }
+    {
+        self.free(src);
+        self.seek(src as u64);
+        let number = self.commands[src as usize].number;
+        let got = self.gots[src as usize];
+        self.fabric
+            .give_back(&mut self.seat, 0, self.me as u64, src as u64, got);
+        self.gots[src as usize] = got + 1;
+        self.opened[src as usize] = false;
+        self.clock = self.clock.max(number);
+    }
+}

@@ -1,0 +1,83 @@
+//! What calls of `front` and `advance` do at the seat.
+ghost use Rattle.std.specs.Prelude.{◌≡◌, ◌≢◌, ℕ, ◌+◌, ◌*◌, ◌<◌, ◌≤◌, ◌^◌, true, false, List, [], ◌∷◌, ◌++◌, length, None, Some};
+ghost use Rattle.atomic_table.specs.Table.{rest};
+ghost use Rattle.fab_wire.specs.Frames.{last_head, MayCome};
+ghost use Rattle.fab_table.specs.declared.kinds.Command.{Command};
+ghost use Rattle.fab_table.specs.declared.kinds.Sent.{Sent};
+ghost use Rattle.fab_table.specs.declared.kinds.Slot.{Slot};
+ghost use Rattle.fab_table.specs.declared.kinds.Slot.TheVariants.{Cell, Pool};
+ghost use Rattle.fab_table.specs.Views.{frames_of, saw_empty, saw_frame, freed_one};
+ghost use Rattle.fab_table.specs.Plays.{oldest_cell, slot_home, new_in_view};
+ghost use Rattle.fab_table.specs.Seats.{IsOf, IsSame, carried, view_of_seat, sat, part_of, in_of};
+ghost use Rattle.fab_ring.specs.Hands.{Tells};
+ghost use Rattle.fab_ring.specs.Alone.{IsAlone};
+ghost use Rattle.fab_ring.specs.declared.receiving.Look.TheVariants.{Empty, Inline, Pooled};
+
+use fab_base::Buf;
+use fab_table::{Command, Fabric, PeerSeat};
+
+/// The next frame of a peer: how many were taken before, and its cell's place.
+#[derive(Clone, Copy, Drop)]
+pub(crate) struct Oldest {
+    pub me: u64,
+    pub src: u64,
+    pub got: u64,
+    pub place: usize,
+}
+
+/// What a look for a frame found: none, one that has its bytes itself, or one with a slot.
+#[derive(Clone, Copy, Drop)]
+pub(crate) enum Look {
+    Empty,
+    Inline,
+    Pooled,
+}
+
+/// Looks for the next frame of a peer. Where there is one its command is copied, and the buffer of its
+/// slot, if it has one, is taken for another.
+pub(crate) fn open_next(fabric: &Fabric, seat: &mut PeerSeat, next: &Oldest, command: &mut Command, buffer: &mut Buf) -> Look
+    requires alone { IsAlone fabric.now seat.old next.now.me }
+    requires below { next.now.src < fabric.now.peers }
+    requires closed { (in_of seat.old 0 next.now.src).opened ≡ None }
+    requires count { next.now.got ≡ length (in_of seat.old 0 next.now.src).taken }
+    requires place { next.now.place ≡ oldest_cell (view_of_seat seat.old) 0 next.now.src }
+    requires spare { length buffer.old ≡ 4096 }
+    ensures seat { IsSame seat.old seat.new }
+    ensures empty { result ≡ Empty → (command.new ≡ command.old) × (buffer.new ≡ buffer.old)
+        × (sat seat.new ≡ (new_in_view (view_of_seat seat.old) 0 next.now.src (saw_empty (in_of seat.old 0 next.now.src) (length (in_of seat.old 0 next.now.src).taken)), carried seat.old)) }
+    ensures inline { result ≡ Inline → (r : ℕ) × (x : Sent) × (c : Command) × (length (in_of seat.old 0 next.now.src).taken < r) × (r < 2 ^ 64) × (x.slot ≡ None)
+        × MayCome (last_head None (frames_of (in_of seat.old 0 next.now.src).taken)) x.frame × Tells x command.new buffer.new × (buffer.new ≡ buffer.old)
+        × (sat seat.new ≡ (new_in_view (view_of_seat seat.old) 0 next.now.src (saw_frame (in_of seat.old 0 next.now.src) r x), (oldest_cell (view_of_seat seat.old) 0 next.now.src, Cell c) ∷ carried seat.old)) }
+    ensures pooled { result ≡ Pooled → (r : ℕ) × (x : Sent) × (c : Command) × (q : ℕ) × (length (in_of seat.old 0 next.now.src).taken < r) × (r < 2 ^ 64) × (x.slot ≡ Some q) × (q < fabric.now.peers * fabric.now.pool)
+        × MayCome (last_head None (frames_of (in_of seat.old 0 next.now.src).taken)) x.frame × Tells x command.new buffer.new × (length buffer.new ≡ 4096)
+        × (sat seat.new ≡ (new_in_view (view_of_seat seat.old) 0 next.now.src (saw_frame (in_of seat.old 0 next.now.src) r x), (carried seat.old ++ (oldest_cell (view_of_seat seat.old) 0 next.now.src, Cell c) ∷ []) ++ (slot_home (view_of_seat seat.old) 0 q, Pool buffer.old) ∷ [])) }
+{
+    let put = fabric.look_put(seat, 0, next.me, next.src);
+    if put == next.got {
+        return Look::Empty;
+    }
+    fabric.read(seat, next.place, command);
+    let Some(slot) = command.slot else {
+        return Look::Inline;
+    };
+    let peers = fabric.peers();
+    let home = (peers * peers * fabric.room() + slot) as usize;
+    seat.turn();
+    fabric.swap(seat, home, buffer);
+    seat.turn();
+    Look::Pooled
+}
+
+/// Frees the slot of the open frame of a peer. The frame's cell goes behind the other places in hand.
+pub(crate) fn free_pooled(fabric: &Fabric, seat: &mut PeerSeat, me: u64, src: u64, slot: u64)
+    requires alone { IsAlone fabric.now seat.old me }
+    requires below { (src < fabric.now.peers) × (slot < fabric.now.peers * fabric.now.pool) }
+    requires opened { (x : Sent) × ((in_of seat.old 0 src).opened ≡ Some x) × (x.slot ≡ Some slot) × ((in_of seat.old 0 src).lent ≡ true) }
+    requires hand { (a : ℕ) × (c : Command) × (b : List ℕ) × (length b ≡ 4096) × (carried seat.old ≡ (a, Cell c) ∷ (slot_home (view_of_seat seat.old) 0 slot, Pool b) ∷ rest (rest (carried seat.old))) }
+    ensures seat { IsSame seat.old seat.new }
+    ensures view { (a : ℕ) (c : Command) (z : ℕ × Slot) → carried seat.old ≡ (a, Cell c) ∷ z ∷ rest (rest (carried seat.old))
+        → sat seat.new ≡ (new_in_view (view_of_seat seat.old) 0 src (freed_one (in_of seat.old 0 src)), rest (rest (carried seat.old)) ++ (a, Cell c) ∷ []) }
+{
+    seat.turn();
+    fabric.free_slot(seat, 0, src, slot);
+}

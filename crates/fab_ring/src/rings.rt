@@ -1,0 +1,102 @@
+//! How the ports of all peers are made.
+ghost use Rattle.std.specs.Prelude.{◌≡◌, ℕ, ◌+◌, ◌<◌, ◌≤◌, [], ◌∷◌, length, IfOk, slice_index_or};
+ghost use Rattle.std.specs.Arc.{arc_value};
+ghost use Rattle.fab_table.specs.Views.{new_part, view_of};
+ghost use Rattle.fab_table.specs.Seats.{IsOf, carried, view_of_seat};
+ghost use Rattle.fab_ring.specs.Made.{AreMade, IsMade, rings_peers, rings_room, rings_pool, rings_table};
+
+use crate::port::{RingPort, Rings};
+use fab_base::{Buf, NoMemory};
+use fab_table::{Command, Fabric, PeerSeat, SLOT_BYTES, blank};
+use std::alloc::Global;
+use std::sync::Arc;
+
+/// So many commands of no frame.
+fn commands(alloc: Global, count: usize) -> Result<Vec<Command>, NoMemory>
+    ensures { IfOk result (λ v. length v.items ≡ count) }
+{
+    let mut all = Vec::with_capacity(alloc, count)?;
+    for _ in 0..count {
+        all.push(blank())?;
+    }
+    Ok(all)
+}
+
+/// So many buffers, each of the size of a pool's slot.
+fn buffers(alloc: Global, count: usize) -> Result<Vec<Buf>, NoMemory>
+    ensures count { IfOk result (λ v. length v.items ≡ count) }
+    ensures sizes { IfOk result (λ v. (s : ℕ) → s < count → length (slice_index_or v.items s []) ≡ 4096) }
+{
+    let mut all = Vec::with_capacity(alloc, count)?;
+    for _ in 0..count {
+        all.push(Buf::zeros(alloc, SLOT_BYTES)?)?;
+    }
+    Ok(all)
+}
+
+impl RingPort {
+    /// A port over a seat that speaks for one peer, which has neither posted nor taken.
+    fn open(
+        alloc: Global,
+        fabric: Arc<Fabric>,
+        seat: PeerSeat,
+        me: u32,
+    ) -> Result<RingPort, NoMemory>
+        requires seat { IsOf (arc_value fabric) seat × (carried seat ≡ []) × (me < (arc_value fabric).peers) }
+        requires part { view_of_seat seat ≡ view_of (new_part (arc_value fabric).peers (arc_value fabric).room (arc_value fabric).pool me ∷ []) }
+        ensures { IfOk result (IsMade (arc_value fabric) me) }
+    {
+        let peers = fabric.peers() as usize;
+        let puts = Vec::from_elem(alloc, 0u64, peers)?;
+        let gots = Vec::from_elem(alloc, 0u64, peers)?;
+        let opened = Vec::from_elem(alloc, false, peers)?;
+        let lent = Vec::from_elem(alloc, false, peers)?;
+        let commands = commands(alloc, peers)?;
+        let buffers = buffers(alloc, peers)?;
+        Ok(RingPort {
+            fabric,
+            seat,
+            me,
+            clock: 0,
+            turn: 0,
+            puts,
+            gots,
+            opened,
+            lent,
+            commands,
+            buffers,
+        })
+    }
+}
+
+impl Rings {
+    /// The lanes between so many peers, of `lane` frames each, and a pool of so many slots of 4,096 bytes for
+    /// each peer. All memory of the lanes is taken here.
+    pub fn new(alloc: Global, peers: u32, lane: u32, pool: u32) -> Result<Rings, NoMemory>
+        requires peers { (0 < peers) × (peers ≤ 32) }
+        requires lane { (0 < lane) × (lane ≤ 1024) }
+        requires pool { (0 < pool) × (pool ≤ 1024) }
+        ensures { IfOk result (λ r. (rings_peers r ≡ peers) × (rings_room r ≡ lane) × (rings_pool r ≡ pool)) }
+    {
+        let (fabric, seat) = Fabric::new(alloc, peers as u64, lane as u64, pool as u64)?;
+        let fabric = Arc::new(alloc, fabric)?;
+        Ok(Rings { fabric, seat })
+    }
+
+    /// A port for each peer, in order: nothing was posted or taken, and no count was raised.
+    pub fn ports(self, alloc: Global) -> Result<Vec<RingPort>, NoMemory>
+        ensures { IfOk result (λ v. AreMade (rings_peers self) (rings_room self) (rings_pool self) (rings_table self) v.items) }
+    {
+        let Rings { fabric, mut seat } = self;
+        let peers = fabric.peers() as u32;
+        let mut all = Vec::with_capacity(alloc, peers as usize)?;
+        let mut me = 0;
+        while me < peers {
+            let own = fabric.split(&mut seat);
+            let port = RingPort::open(alloc, Arc::try_clone(&fabric)?, own, me)?;
+            all.push(port)?;
+            me += 1;
+        }
+        Ok(all)
+    }
+}

@@ -1,0 +1,128 @@
+//! What a call of `post` does at the seat.
+ghost use Rattle.std.specs.Prelude.{◌≡◌, ◌≢◌, ℕ, ◌+◌, ◌*◌, ◌<◌, ◌≤◌, ◌^◌, true, false, List, [], ◌∷◌, ◌++◌, length, Option, None, Some};
+ghost use Rattle.atomic_table.specs.Table.{rest};
+ghost use Rattle.fab_wire.specs.declared.moves.Move.TheVariants.{Post};
+ghost use Rattle.fab_wire.specs.Frames.{last_head, Continues};
+ghost use Rattle.fab_table.specs.declared.kinds.Command.{Command};
+ghost use Rattle.fab_table.specs.declared.kinds.Slot.TheVariants.{Cell, Pool};
+ghost use Rattle.fab_table.specs.Views.{frames_of, with_part, with_out, posted_one};
+ghost use Rattle.fab_table.specs.Rule.{greatest};
+ghost use Rattle.fab_table.specs.Plays.{next_cell, slot_home, new_out_view, post_view};
+ghost use Rattle.fab_table.specs.Seats.{IsOf, IsSame, carried, view_of_seat, sat, part_of, out_of, named};
+ghost use Rattle.fab_ring.specs.Tries.{IsTried, IsSent, tried_out, sent_as};
+ghost use Rattle.fab_ring.specs.Alone.{IsAlone};
+
+use fab_base::FrameHead;
+use fab_table::{Fabric, PeerSeat};
+
+/// Where the next frame to a peer goes: how many were posted before, its number, and its cell's place.
+#[derive(Clone, Copy, Drop)]
+pub(crate) struct Next {
+    pub me: u64,
+    pub dest: u64,
+    pub put: u64,
+    pub number: u64,
+    pub place: usize,
+}
+
+/// Tries the slots of the peer's pool from the first on, until one was free. The cell in hand names
+/// the one that is tried.
+fn claim_any(fabric: &Fabric, seat: &mut PeerSeat, next: &Next) -> Option<u64>
+    requires alone { IsAlone fabric.now seat.old next.now.me }
+    requires below { next.now.dest < fabric.now.peers }
+    requires idle { (out_of seat.old 0 next.now.dest).claim ≡ None }
+    requires sized { length (out_of seat.old 0 next.now.dest).tried ≡ fabric.now.pool }
+    requires hand { (c : Command) × (carried seat.old ≡ (next.now.place, Cell c) ∷ rest (carried seat.old)) }
+    ensures seat { IsSame seat.old seat.new }
+    ensures none { result ≡ None → (c : Command) × (ts : List ℕ) × (f : ℕ) × IsTried (out_of seat.old 0 next.now.dest) fabric.now.pool ts f
+        × (sat seat.new ≡ (new_out_view (view_of_seat seat.old) 0 next.now.dest (tried_out (out_of seat.old 0 next.now.dest) ts f (out_of seat.old 0 next.now.dest).writing None), (next.now.place, Cell c) ∷ rest (carried seat.old))) }
+    ensures some { (c : Command) (q : ℕ) → carried seat.old ≡ (next.now.place, Cell c) ∷ rest (carried seat.old) → result ≡ Some q
+        → (b : List ℕ) × (j : ℕ) × (ts : List ℕ) × (f : ℕ) × (length b ≡ 4096) × (j < fabric.now.pool) × (q < fabric.now.peers * fabric.now.pool) × IsTried (out_of seat.old 0 next.now.dest) j ts f
+        × (sat seat.new ≡ (new_out_view (view_of_seat seat.old) 0 next.now.dest (tried_out (out_of seat.old 0 next.now.dest) ts f (out_of seat.old 0 next.now.dest).writing (Some q)), (slot_home (view_of_seat seat.old) 0 q, Pool b) ∷ (next.now.place, Cell (named c q)) ∷ rest (carried seat.old))) }
+{
+    let pool = fabric.pool();
+    let mut j = 0;
+    while j < pool {
+        let slot = next.dest * pool + j;
+        fabric.name_slot(seat, next.place, slot);
+        if fabric.claim(seat, 0, next.me, next.dest, j) {
+            return Some(slot);
+        }
+        j += 1;
+    }
+    None
+}
+
+/// Posts a frame whose bytes fit into the cell in hand.
+pub(crate) fn send_inline(fabric: &Fabric, seat: &mut PeerSeat, next: &Next, head: FrameHead, bytes: &[u8])
+    requires alone { IsAlone fabric.now seat.old next.now.me }
+    requires below { next.now.dest < fabric.now.peers }
+    requires writing { ((out_of seat.old 0 next.now.dest).writing ≡ true) × ((out_of seat.old 0 next.now.dest).claim ≡ None) }
+    requires count { (next.now.put ≡ length (out_of seat.old 0 next.now.dest).posted) × (next.now.put < 2 ^ 62) }
+    requires number { next.now.number ≡ greatest 0 (part_of seat.old 0).moves + 1 }
+    requires place { next.now.place ≡ next_cell (view_of_seat seat.old) 0 next.now.dest }
+    requires hand { (c : Command) × (carried seat.old ≡ (next.now.place, Cell c) ∷ rest (carried seat.old)) }
+    requires continues { Continues (last_head None (frames_of (out_of seat.old 0 next.now.dest).posted)) head }
+    requires filled { (length bytes.now ≡ head.len) × (head.len ≤ 64) }
+    ensures seat { IsSame seat.old seat.new }
+    ensures view { sat seat.new ≡ (post_view (view_of_seat seat.old) 0 next.now.dest (sent_as head bytes.now next.now.number None), rest (carried seat.old)) }
+{
+    fabric.write(seat, next.place, next.number, head, bytes);
+    fabric.publish(seat, 0, next.me, next.dest, next.put);
+}
+
+/// Posts a frame whose bytes go into a slot of the peer's pool, or, where none was free, gives the cell
+/// in hand back and answers false.
+pub(crate) fn send_pooled(fabric: &Fabric, seat: &mut PeerSeat, next: &Next, head: FrameHead, bytes: &[u8]) -> bool
+    requires alone { IsAlone fabric.now seat.old next.now.me }
+    requires below { next.now.dest < fabric.now.peers }
+    requires writing { ((out_of seat.old 0 next.now.dest).writing ≡ true) × ((out_of seat.old 0 next.now.dest).claim ≡ None) }
+    requires sized { length (out_of seat.old 0 next.now.dest).tried ≡ fabric.now.pool }
+    requires count { (next.now.put ≡ length (out_of seat.old 0 next.now.dest).posted) × (next.now.put < 2 ^ 62) }
+    requires number { next.now.number ≡ greatest 0 (part_of seat.old 0).moves + 1 }
+    requires place { next.now.place ≡ next_cell (view_of_seat seat.old) 0 next.now.dest }
+    requires hand { (c : Command) × (carried seat.old ≡ (next.now.place, Cell c) ∷ rest (carried seat.old)) }
+    requires continues { Continues (last_head None (frames_of (out_of seat.old 0 next.now.dest).posted)) head }
+    requires filled { length bytes.now ≡ head.len }
+    ensures seat { IsSame seat.old seat.new }
+    ensures full { result ≡ false → (ts : List ℕ) × (f : ℕ) × IsTried (out_of seat.old 0 next.now.dest) fabric.now.pool ts f
+        × (sat seat.new ≡ (new_out_view (view_of_seat seat.old) 0 next.now.dest (tried_out (out_of seat.old 0 next.now.dest) ts f false None), rest (carried seat.old))) }
+    ensures sent { result ≡ true → (q : ℕ) × (j : ℕ) × (ts : List ℕ) × (f : ℕ) × (j < fabric.now.pool) × IsTried (out_of seat.old 0 next.now.dest) j ts f
+        × (sat seat.new ≡ (with_part (view_of_seat seat.old) 0 (with_out (part_of seat.old 0) next.now.dest (posted_one (tried_out (out_of seat.old 0 next.now.dest) ts f true None) (sent_as head bytes.now next.now.number (Some q))) ((part_of seat.old 0).moves ++ Post next.now.dest next.now.number ∷ [])), rest (carried seat.old))) }
+{
+    fabric.write(seat, next.place, next.number, head, &[]);
+    let Some(slot) = claim_any(fabric, seat, next) else {
+        fabric.leave(seat, 0, next.me, next.dest);
+        return false;
+    };
+    let peers = fabric.peers();
+    let home = (peers * peers * fabric.room() + slot) as usize;
+    fabric.fill(seat, home, bytes);
+    fabric.publish_pooled(seat, 0, next.me, next.dest, next.put);
+    true
+}
+
+/// Posts a frame, with a slot where it has more than 64 bytes. False where no slot was free.
+pub(crate) fn send_next(fabric: &Fabric, seat: &mut PeerSeat, next: &Next, head: FrameHead, bytes: &[u8]) -> bool
+    requires alone { IsAlone fabric.now seat.old next.now.me }
+    requires below { next.now.dest < fabric.now.peers }
+    requires writing { ((out_of seat.old 0 next.now.dest).writing ≡ true) × ((out_of seat.old 0 next.now.dest).claim ≡ None) }
+    requires sized { length (out_of seat.old 0 next.now.dest).tried ≡ fabric.now.pool }
+    requires count { (next.now.put ≡ length (out_of seat.old 0 next.now.dest).posted) × (next.now.put < 2 ^ 62) }
+    requires number { next.now.number ≡ greatest 0 (part_of seat.old 0).moves + 1 }
+    requires place { next.now.place ≡ next_cell (view_of_seat seat.old) 0 next.now.dest }
+    requires hand { (c : Command) × (carried seat.old ≡ (next.now.place, Cell c) ∷ rest (carried seat.old)) }
+    requires continues { Continues (last_head None (frames_of (out_of seat.old 0 next.now.dest).posted)) head }
+    requires filled { length bytes.now ≡ head.len }
+    ensures seat { IsSame seat.old seat.new }
+    ensures full { result ≡ false → (ts : List ℕ) × (f : ℕ) × (64 < length bytes.now) × IsTried (out_of seat.old 0 next.now.dest) fabric.now.pool ts f
+        × (sat seat.new ≡ (new_out_view (view_of_seat seat.old) 0 next.now.dest (tried_out (out_of seat.old 0 next.now.dest) ts f false None), rest (carried seat.old))) }
+    ensures sent { result ≡ true → (slot : Option ℕ) × (ts : List ℕ) × (f : ℕ) × IsSent (out_of seat.old 0 next.now.dest) fabric.now.pool slot ts f
+        × (sat seat.new ≡ (with_part (view_of_seat seat.old) 0 (with_out (part_of seat.old 0) next.now.dest (posted_one (tried_out (out_of seat.old 0 next.now.dest) ts f true None) (sent_as head bytes.now next.now.number slot)) ((part_of seat.old 0).moves ++ Post next.now.dest next.now.number ∷ [])), rest (carried seat.old))) }
+{
+    if bytes.len() <= 64 {
+        send_inline(fabric, seat, next, head, bytes);
+        return true;
+    }
+    send_pooled(fabric, seat, next, head, bytes)
+}
