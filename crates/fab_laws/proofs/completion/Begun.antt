@@ -2,7 +2,7 @@
 --     step_calls       a step takes at most one number
 --     Began a o b      the operation was accepted in this step
 --     accepts_begun, accepted_began, begun_accepted      what `accepts` sees is what began
-use Rattle.std.proofs.Common.{◌≡◌, ◌≤◌, ◌<◌, ◌+◌, ℕ, Bool, true, false, List, [], ◌∷◌, ◌++◌, length, Option, Some, None, ◌⊎◌, inl, inr, refl, sym, ◌∙◌, ap, ap₂, subst, subst₂, arith, rules, slice_get}
+use Rattle.std.proofs.Common.{◌≡◌, ◌≤◌, ◌<◌, ◌+◌, ℕ, Bool, true, false, List, [], ◌∷◌, Option, Some, None, ◌⊎◌, inl, inr, refl, sym, ◌∙◌, ap, ap₂, subst, subst₂, arith, rules}
 use Rattle.std.specs.Prelude.{find, nat_lt, ◌==◌}
 use Rattle.std.proofs.lemmas.Bool.{lt-ltb, le-ltb, ltb-true}
 use Rattle.fab_base.specs.declared.items.Item.{Item}
@@ -20,24 +20,23 @@ use Rattle.fab_base.specs.declared.operations.Arrival.{Arrival}
 use Rattle.fab_base.specs.declared.entries.Taken.{Taken}
 use Rattle.fab_model.specs.State.{State, called, count, lookup, with_rx, write}
 use Rattle.fab_model.specs.Complete.{book, error, fill, reply, is_made_by}
-use Rattle.fab_model.specs.Sending.{Order, accepting, do_sent, operation_of, transmit, transmit_to}
+use Rattle.fab_model.specs.Sending.{Order, accepting, operation_of, transmit, transmit_to}
 use Rattle.fab_model.specs.Receiving.{Posting, cancel, cancellable, drop_arrival, drop_claimed, give, look, may_leave, post, take_claimed, want_of, without_posted, claim_of, taking, without_claim, peeked}
-use Rattle.fab_model.specs.Arrivals.{do_draw, do_head, do_tail}
 use Rattle.fab_model.specs.Calls.{Call, Transmit, Post, Look, TakeClaimed, DropClaimed, Cancel, CancelFirst, Insert, Remove, Reg, Close, Put, Show, Count, answer, do_call, insert, remove, reg, close, put}
 use Rattle.fab_model.specs.Peers.{Actor}
 use Rattle.fab_model.specs.Views.{View}
-use Rattle.fab_laws.specs.Members.{In, Never}
+use Rattle.fab_laws.specs.Members.{In}
 use Rattle.fab_laws.specs.Moments.{next_call}
-use Rattle.fab_laws.specs.Completed.{Accepted, Receives, Sends, accepted_by, accepts, begun, made_by, number}
-use Rattle.fab_laws.proofs.Lists.{beyond_get, last_get, never}
+use Rattle.fab_laws.specs.Completed.{Accepted, Receives, Sends, accepted_by, accepts, begun, number}
+use Rattle.fab_laws.proofs.Lists.{last_get, never}
 use Rattle.fab_laws.proofs.Counts.{many_removed, one}
 use Rattle.fab_laws.proofs.Stepping.{LineIs, StepIs}
 use Rattle.fab_laws.proofs.replies.Owed.{OwedAt}
 use Rattle.fab_laws.proofs.completion.Places.{head_adds, standing_in, write_adds}
 use Rattle.fab_laws.proofs.completion.Calls.{draw_adds, not_yet, sent_adds, tail_adds}
 use Rattle.fab_laws.proofs.completion.Steps.{Placed}
-use Rattle.fab_laws.proofs.completion.Live.{Begins, call_live, transmit_begins}
-use Rattle.fab_laws.proofs.completion.Least.{Least, begun_stands, is_operation, kept_of}
+use Rattle.fab_laws.proofs.completion.Live.{transmit_begins}
+use Rattle.fab_laws.proofs.completion.Least.{begun_stands, is_operation, kept_of}
 
 -- ---- numbers
 

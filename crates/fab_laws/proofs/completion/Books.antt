@@ -1,13 +1,11 @@
 -- What holds of a peer's operations, by what it accepted and what ended.
 --     Leveled v a l      an accepted transmit operation is live, or was transmitted and answered
 --     Books m v a        each accepted operation stands somewhere, or is suppressed; whatever stands was accepted
-use Rattle.std.proofs.Common.{◌≡◌, ◌≢◌, ◌≤◌, ◌<◌, ◌+◌, ℕ, zero, suc, Bool, true, false, not, ◌&&◌, List, [], ◌∷◌, ◌++◌, length, take, filter, map, set, slice_get, Option, Some, None, ◌⊎◌, inl, inr, refl, sym, ◌∙◌, ap, ap₂, subst, arith}
-use Rattle.std.specs.Prelude.{◌==◌, find, nat_lt, slice_index, get_or}
-use Rattle.std.specs.List.{list_any}
-use Rattle.std.proofs.lemmas.Bool.{cases_eq, eqb-true, ltb-true, lt-ltb, ltb-false}
+use Rattle.std.proofs.Common.{◌≡◌, ◌≤◌, ◌<◌, ◌+◌, ℕ, Bool, true, false, not, ◌&&◌, List, [], ◌∷◌, ◌++◌, length, take, filter, slice_get, Some, ◌⊎◌, inl, inr, refl, sym, ◌∙◌, ap, subst, arith}
+use Rattle.std.specs.Prelude.{nat_lt, slice_index}
+use Rattle.std.proofs.lemmas.Bool.{ltb-true, lt-ltb, ltb-false}
 use Rattle.std.proofs.lemmas.Bool.Decides.{nat_tests}
 use Rattle.fab_base.specs.declared.items.Item.{Item}
-use Rattle.fab_base.specs.declared.items.ItemHead.{ItemHead}
 use Rattle.fab_base.specs.declared.items.Outcome.TheVariants.{Done}
 use Rattle.fab_base.specs.declared.operations.Operation.{Operation}
 use Rattle.fab_base.specs.declared.peers.Step.{Step}
@@ -15,20 +13,20 @@ use Rattle.fab_base.specs.declared.peers.Step.TheVariants.{Do, Head, Tail, Draw,
 use Rattle.fab_base.specs.declared.items.Ack.{Ack}
 use Rattle.fab_base.specs.declared.items.Kind.{Kind}
 use Rattle.fab_model.proofs.Views.{more_self}
-use Rattle.fab_model.specs.Matching.{is_message, remove_first}
-use Rattle.fab_model.specs.State.{State, accepted_for, awaits, lookup, raise}
+use Rattle.fab_model.specs.Matching.{is_message}
+use Rattle.fab_model.specs.State.{State, accepted_for, lookup, raise}
 use Rattle.fab_model.specs.Complete.{at_either}
 use Rattle.fab_model.specs.Sending.{Order, accepting, ack_of, ends_at_sent, item_of, operation_of, transmit_to, transmitting}
-use Rattle.fab_model.specs.Arrivals.{do_draw, do_head, do_tail, made_whole}
-use Rattle.fab_model.specs.Calls.{Call, CancelFirst, Transmit, do_call}
+use Rattle.fab_model.specs.Arrivals.{made_whole}
+use Rattle.fab_model.specs.Calls.{CancelFirst, Transmit}
 use Rattle.fab_model.specs.Peers.{Actor, fabric}
 use Rattle.fab_model.specs.Views.{IsPrefixOf, More, View}
 use Rattle.fab_model.proofs.Grows.{grows}
 use Rattle.fab_model.proofs.Parts.{prefix_get}
 use Rattle.fab_model.proofs.Passes.{call_passes, draw_passes, head_passes, sent_passes, tail_passes}
 use Rattle.fab_model.proofs.Patient.{accepted_within}
-use Rattle.fab_laws.proofs.Lists.{in_take_more, in_removed, raise_keeps, each_in, found_in, get_in, in_back, in_front, never, last_get, in_map, in_kept, left_or_found, take_in, raise_here}
-use Rattle.fab_laws.specs.Members.{In, Never}
+use Rattle.fab_laws.proofs.Lists.{in_take_more, in_removed, raise_keeps, each_in, in_back, in_front, never, last_get, in_map, in_kept, left_or_found, take_in, raise_here}
+use Rattle.fab_laws.specs.Members.{In}
 use Rattle.fab_laws.specs.Moments.{next_call}
 use Rattle.fab_laws.specs.ReplyLaws.{is_reply, owes, owes_by}
 use Rattle.fab_laws.specs.Completed.{Accepted, Ending, IsSuppressed, Operations, Sends, accepts, ends, is_gone, keeping_books, made_by, number, outcome_of, Receives}
@@ -37,9 +35,8 @@ use Rattle.fab_laws.proofs.Stepping.{StepIs, step_is}
 use Rattle.fab_laws.proofs.replies.Owing.{set_longer}
 use Rattle.fab_laws.proofs.replies.Owed.{OwedAt, got}
 use Rattle.fab_laws.proofs.completion.Places.{standing_in}
-use Rattle.fab_laws.proofs.completion.Calls.{Keeps, not_yet}
 use Rattle.fab_laws.proofs.completion.Steps.{Placed, few, step_keeps}
-use Rattle.fab_laws.proofs.completion.Live.{EndsBy, LiveIs, live_is}
+use Rattle.fab_laws.proofs.completion.Live.{EndsBy, live_is}
 use Rattle.fab_laws.proofs.completion.Least.{Quits, step_least}
 use Rattle.fab_laws.proofs.completion.Begun.{Began, begins_seen, step_began, step_calls, step_seen}
 

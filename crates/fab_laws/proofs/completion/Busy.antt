@@ -1,11 +1,9 @@
 -- A multi-receive that is closing has an item under way.
 --     Busy c s      the closing receives of call c are at most as many as the items that come into it
-use Rattle.std.proofs.Common.{◌≡◌, ◌≢◌, ◌≤◌, ◌<◌, ◌+◌, ℕ, zero, suc, Bool, true, false, ◌&&◌, List, [], ◌∷◌, ◌++◌, length, map, set, get_or, slice_get, Option, Some, None, ◌⊎◌, inl, inr, refl, sym, ◌∙◌, ap, ap₂, subst, arith, rules, length-append}
-use Rattle.std.specs.Prelude.{find, ◌==◌, is_none, is_some, nat_lt, slice_index, not, ◌||◌}
-use Rattle.std.proofs.lemmas.Bool.{cases_eq, and_parts, and_from, eqb-true, ltb-true, lt-ltb}
+use Rattle.std.proofs.Common.{◌≡◌, ◌≢◌, ◌≤◌, ◌<◌, ◌+◌, ℕ, Bool, true, false, List, [], ◌∷◌, ◌++◌, length, map, set, slice_get, Option, Some, None, ◌⊎◌, inl, inr, refl, sym, ◌∙◌, ap, subst, arith, rules}
+use Rattle.std.specs.Prelude.{find, ◌==◌, is_none, is_some, slice_index}
+use Rattle.std.proofs.lemmas.Bool.{cases_eq, and_parts, and_from, eqb-true}
 use Rattle.std.proofs.lemmas.Bool.Decides.{nat_tests}
-use Rattle.std.proofs.lemmas.Option.{slice_get_within, slice_get-get_or}
-use Rattle.std.specs.List.{list_any, list_all}
 use Rattle.fab_base.specs.declared.items.Item.{Item}
 use Rattle.fab_base.specs.declared.items.ItemHead.{ItemHead}
 use Rattle.fab_base.specs.declared.items.Outcome.{Outcome}
@@ -20,45 +18,29 @@ use Rattle.fab_base.specs.declared.entries.PeekHow.{PeekHow}
 use Rattle.fab_base.specs.declared.entries.PeekHow.TheVariants.{Peek, Claim, Discard}
 use Rattle.fab_base.specs.declared.entries.ErrKind.TheVariants.{NoMsg, Canceled}
 use Rattle.fab_base.specs.declared.entries.Class.TheVariants.{Recv}
-use Rattle.fab_base.specs.declared.entries.Class.{Class}
 use Rattle.fab_base.specs.declared.items.Want.{Want}
 use Rattle.fab_base.specs.declared.faults.Fault.{Fault}
-use Rattle.fab_base.specs.declared.peers.LineResult.{LineResult}
 use Rattle.fab_base.specs.declared.peers.Step.{Step}
 use Rattle.fab_base.specs.declared.peers.Step.TheVariants.{Do, Head, Tail, Draw, Final}
-use Rattle.fab_base.specs.declared.script.Bound.{Bound}
-use Rattle.fab_base.specs.declared.script.Line.{Line}
-use Rattle.fab_base.specs.declared.script.LineOp.{LineOp}
-use Rattle.fab_base.specs.declared.script.LineOp.TheVariants.{Wait, Reach}
 use Rattle.fab_model.specs.Matching.{is_message, remove_first, takes}
-use Rattle.fab_model.specs.State.{State, Receiving, Transmitting, accepted_for, awaits, coming_from, lookup, with_rx, with_tx, called, count, under_way, write, is_into}
+use Rattle.fab_model.specs.State.{State, Receiving, coming_from, lookup, with_rx, with_tx, called, count, under_way, write, is_into}
 use Rattle.fab_model.specs.Complete.{at_delivery, at_either, at_match, book, fill, joining, release, release_multi, reply, reply_head, error, is_made_by, let_go}
-use Rattle.fab_model.specs.Sending.{answering, do_answer, end_with, expects, is_answered, is_answered_by, Order, accepting, class_of, do_sent, ending, is_of_item, operation_of, refusal_of, success_of, transmit, transmit_to, transmitting, item_of, is_silent}
+use Rattle.fab_model.specs.Sending.{answering, do_answer, end_with, is_answered_by, Order, do_sent, ending, transmit, transmit_to, transmitting}
 use Rattle.fab_model.specs.Arrivals.{do_head, do_request, do_tail, heading_message, heading_other, keeping, made_whole, remote_data, tail_to, taker, way_of, do_draw, seating, shut, stays, used_up}
 use Rattle.fab_model.specs.Target.{perform}
-use Rattle.fab_model.specs.Views.{View, IsPrefixOf, rule, seen}
-use Rattle.fab_model.specs.Receiving.{Posting, cancel, cancellable, claim_of, draws, drop_arrival, drop_claimed, give, goes, joining_posted, look, look_at, peeked, post, receive_of, take_claimed, taken_by, taking, want_of, without_claim, without_first, without_posted, draw_due}
-use Rattle.fab_model.specs.Calls.{Call, Transmit, Post, Look, TakeClaimed, DropClaimed, Cancel, CancelFirst, Insert, Remove, Reg, Close, Put, Show, Count, answer, do_call, insert, remove, reg, close, put, call_of}
-use Rattle.fab_model.specs.Orders.{Leads, Turn}
-use Rattle.fab_model.specs.Peers.{Actor, after_call, call_line, do_line, do_next, draw_step, fabric, final_step, head_step, is_again, next_line, read_next, sent_step, step, tail_step, unread, with_result, with_state}
-use Rattle.fab_model.specs.Replay.{agree, agree_all, all_done, all_idle, at_rest, can_do, is_drained, is_empty, is_idle, opening}
-use Rattle.fab_model.proofs.Parts.{some_is, some_same, if_is}
-use Rattle.fab_model.proofs.Passes.{call_passes, draw_passes, head_passes, sent_passes, tail_passes}
-use Rattle.fab_model.proofs.Patient.{accepted_within, sender_is}
-use Rattle.fab_model.proofs.Turns.{slice_get-set, slice_get-set_same}
-use Rattle.fab_laws.proofs.Counts.{in_many, many, many_append, many_map, one, many_removed, many_set, not_removed, cleared, not_found, any_many}
+use Rattle.fab_model.specs.Views.{View}
+use Rattle.fab_model.specs.Receiving.{Posting, cancel, cancellable, claim_of, draws, drop_arrival, drop_claimed, give, goes, joining_posted, look, look_at, peeked, post, receive_of, take_claimed, taken_by, taking, want_of, without_claim, without_first, without_posted}
+use Rattle.fab_model.specs.Calls.{Call, Transmit, Post, Look, TakeClaimed, DropClaimed, Cancel, CancelFirst, Insert, Remove, Reg, Close, Put, Show, Count, answer, do_call, insert, remove, reg, close, put}
+use Rattle.fab_model.specs.Peers.{Actor, fabric}
+use Rattle.fab_laws.proofs.Counts.{many, many_append, one, many_removed, many_set, cleared, not_found, any_many}
 use Rattle.fab_laws.proofs.Stepping.{StepIs, step_is, line_keeps}
 use Rattle.fab_laws.specs.Moments.{next_call}
-use Rattle.fab_laws.proofs.Lists.{Each, always, each_append, each_in, each_removed, each_so, found_in, never, in_front, Always}
-use Rattle.fab_laws.specs.Members.{In, Never}
-use Rattle.fab_laws.proofs.replies.Owing.{longer_many, set_longer}
+use Rattle.fab_laws.proofs.Lists.{found_in, in_front}
+use Rattle.fab_laws.specs.Members.{In}
 use Rattle.fab_laws.proofs.replies.Owed.{OwedAt, get_within}
-use Rattle.fab_laws.specs.Completed.{held, made_by, is_final, finals}
+use Rattle.fab_laws.specs.Completed.{held}
 use Rattle.fab_laws.proofs.completion.Places.{seated_many, standing_in, fill_many, into_single}
-use Rattle.fab_laws.proofs.completion.Calls.{not_yet}
-use Rattle.fab_laws.proofs.completion.Least.{kept_claim, kept_first, Kept, Least, call_least, draw_least, head_least, idle_of, kept_of, sent_least, tail_least}
-use Rattle.fab_laws.proofs.replies.Stray.{AllOwed, all_owed, peer_of, turn_owed}
-use Rattle.fab_model.proofs.Views as views
+use Rattle.fab_laws.proofs.completion.Least.{kept_claim, kept_first, Kept, idle_of, kept_of}
 
 module _ (c : ℕ) where
   abbrev pub closing_many : State → ℕ

@@ -3,7 +3,7 @@
 --     StepLeast          what a step leaves
 use Rattle.std.specs.Option.{option_map_or}
 use Rattle.std.proofs.Common.{◌≡◌, ◌≤◌, ◌<◌, ◌+◌, ℕ, Bool, true, false, ◌&&◌, List, [], ◌∷◌, ◌++◌, length, map, set, Option, Some, None, inl, inr, refl, ap, ap₂, subst, arith, rules, ◌⊎◌, sym, ◌∙◌}
-use Rattle.std.specs.Prelude.{find, ◌==◌, is_none, is_some, nat_lt, nat_le, slice_index, cond, not, unwrap_or, slice_get}
+use Rattle.std.specs.Prelude.{find, ◌==◌, is_none, slice_index, unwrap_or, slice_get}
 use Rattle.std.proofs.lemmas.Bool.{cases_eq, and_from, eqb-true}
 use Rattle.std.proofs.lemmas.Bool.Decides.{nat_tests}
 use Rattle.fab_base.specs.declared.peers.Step.TheVariants.{Do, Head, Tail, Draw, Final}
@@ -30,21 +30,21 @@ use Rattle.fab_base.specs.declared.items.Want.{Want}
 use Rattle.fab_base.specs.declared.faults.Fault.{Fault}
 use Rattle.fab_base.specs.declared.entries.Entry.{Entry}
 use Rattle.fab_model.specs.Matching.{is_message, remove_first, change_first, takes, is_tagged}
-use Rattle.fab_model.specs.State.{State, Receiving, Transmitting, accepted_for, awaits, coming_from, lookup, raise, with_rx, with_tx, called, count, under_way, write, Completions}
+use Rattle.fab_model.specs.State.{State, Receiving, Transmitting, coming_from, lookup, with_rx, with_tx, called, count, under_way, write, Completions}
 use Rattle.fab_model.specs.Complete.{at_delivery, at_either, at_match, book, fill, joining, release, release_multi, reply, reply_head, entry_of, error, is_made_by, let_go}
-use Rattle.fab_model.specs.Sending.{answering, do_answer, end_with, is_answered, is_answered_by, Order, accepting, class_of, do_sent, ending, is_of_item, operation_of, refusal_of, success_of, transmit, transmit_to, transmitting}
+use Rattle.fab_model.specs.Sending.{answering, do_answer, end_with, is_answered, is_answered_by, Order, accepting, class_of, do_sent, ending, is_of_item, operation_of, success_of, transmit, transmit_to, transmitting}
 use Rattle.fab_model.specs.Arrivals.{do_head, do_request, do_tail, heading_message, heading_other, keeping, made_whole, remote_data, tail_to, taker, way_of, do_draw, is_wanted, seated, seating, shut, stays, used_up}
 use Rattle.fab_model.specs.Target.{perform}
 use Rattle.fab_model.specs.Views.{View}
 use Rattle.fab_model.specs.Receiving.{Posting, cancel, cancellable, claim_of, draws, drop_arrival, drop_claimed, give, goes, joining_posted, look, look_at, may_leave, peeked, post, receive_of, take_claimed, taken_by, taking, want_of, without_claim, without_first, without_posted}
 use Rattle.fab_model.specs.Calls.{Call, Transmit, Post, Look, TakeClaimed, DropClaimed, Cancel, CancelFirst, Insert, Remove, Reg, Close, Put, Show, Count, answer, do_call, insert, remove, reg, close, put}
 use Rattle.fab_model.specs.Peers.{part_of, Actor, fabric}
-use Rattle.fab_laws.proofs.Counts.{in_many, many, many_append, many_map, one, many_removed, many_set, not_removed, cleared}
+use Rattle.fab_laws.proofs.Counts.{in_many, many, many_append, one, many_removed, many_set, not_removed, cleared}
 use Rattle.fab_laws.proofs.Stepping.{line_keeps, step_is, StepIs}
 use Rattle.fab_laws.proofs.completion.Live.{end_live}
 use Rattle.fab_laws.specs.Moments.{next_call}
-use Rattle.fab_laws.proofs.Lists.{Each, always, each_append, each_in, each_removed, each_so, found_in, never, in_front, in_back}
-use Rattle.fab_laws.specs.Members.{In, Never}
+use Rattle.fab_laws.proofs.Lists.{found_in, never, in_front, in_back}
+use Rattle.fab_laws.specs.Members.{In}
 use Rattle.fab_laws.proofs.replies.Owed.{OwedAt, is_keep, unwhole_of, get_within}
 use Rattle.fab_laws.specs.Completed.{held, outcome_of, is_final, made_by}
 use Rattle.fab_laws.proofs.completion.Places.{many_changed, single_of, standing, standing_in, entry_part, fill_many, into_single}

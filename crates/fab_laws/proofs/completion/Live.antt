@@ -1,10 +1,9 @@
 -- What a step leaves of the operations that have not ended: none, one or all, or one more.
 --     LiveIs v a x b      as they were, or one begins, or one leaves
 --     EndsBy v a x o      the step is one at which the operation may end
-use Rattle.std.proofs.Common.{◌≡◌, ◌≤◌, ◌<◌, ◌+◌, ℕ, zero, suc, Bool, true, false, ◌&&◌, List, [], ◌∷◌, length, take, slice_get, Option, Some, None, ◌⊎◌, inl, inr, refl, sym, ◌∙◌, ap, subst, arith, rules}
-use Rattle.std.specs.Prelude.{find, ◌==◌, is_some, nat_lt, slice_index}
-use Rattle.std.proofs.lemmas.Bool.{and_parts, and_from, eqb-true}
-use Rattle.std.proofs.lemmas.Bool.Decides.{nat_tests}
+use Rattle.std.proofs.Common.{◌≡◌, ◌+◌, ℕ, Bool, true, false, ◌&&◌, List, [], length, slice_get, Option, Some, None, ◌⊎◌, inl, inr, refl, sym, ◌∙◌, ap, subst, arith, rules}
+use Rattle.std.specs.Prelude.{find, ◌==◌, slice_index}
+use Rattle.std.proofs.lemmas.Bool.{and_parts, eqb-true}
 use Rattle.fab_base.specs.declared.items.Item.{Item}
 use Rattle.fab_base.specs.declared.items.ItemHead.{ItemHead}
 use Rattle.fab_base.specs.declared.items.Outcome.{Outcome}
@@ -21,26 +20,21 @@ use Rattle.fab_base.specs.declared.faults.Fault.{Fault}
 use Rattle.fab_base.specs.declared.entries.PeekHow.{PeekHow}
 use Rattle.fab_base.specs.declared.entries.PeekHow.TheVariants.{Peek, Claim, Discard}
 use Rattle.fab_model.specs.Matching.{remove_first}
-use Rattle.fab_model.specs.State.{State, accepted_for, coming_from, lookup, with_rx, with_tx, awaits}
-use Rattle.fab_model.specs.Complete.{at_delivery, at_either, at_match, book, fill, joining, release, release_multi, reply, reply_head}
-use Rattle.fab_model.specs.Sending.{answering, do_answer, end_with, is_answered_by, do_sent, Order, accepting, ending, ends_at_sent, is_of_item, operation_of, transmit, transmit_to, transmitting, transmit_fault}
+use Rattle.fab_model.specs.State.{State, coming_from, lookup, with_rx, with_tx, awaits}
+use Rattle.fab_model.specs.Complete.{at_delivery, at_either, book, fill, joining, release, release_multi, reply, reply_head}
+use Rattle.fab_model.specs.Sending.{answering, do_answer, end_with, is_answered_by, do_sent, Order, ending, ends_at_sent, is_of_item, transmit, transmit_to, transmitting, transmit_fault}
 use Rattle.fab_model.specs.Arrivals.{do_head, do_request, do_tail, heading_message, heading_other, keeping, made_whole, remote_data, tail_to, do_draw}
 use Rattle.fab_model.specs.Target.{Performed, perform}
-use Rattle.fab_model.specs.Views.{View, rule, seen}
+use Rattle.fab_model.specs.Views.{View}
 use Rattle.fab_model.specs.Calls.{Call, CancelFirst, do_call, Transmit, Post, Look, TakeClaimed, DropClaimed, Cancel, Insert, Remove, Reg, Close, Put, Show, Count, answer, insert, remove, reg, close, put}
 use Rattle.fab_model.specs.Peers.{Actor, fabric}
-use Rattle.fab_model.proofs.Parts.{some_is, some_same, if_is}
-use Rattle.fab_model.specs.Receiving.{Posting, cancel, drop_arrival, drop_claimed, give, look, look_at, post, take_claimed, want_of}
+use Rattle.fab_model.specs.Receiving.{Posting, cancel, drop_arrival, drop_claimed, give, look, post, take_claimed, want_of}
 use Rattle.fab_laws.specs.Moments.{next_call}
-use Rattle.fab_laws.proofs.Counts.{in_many, many, many_append, many_map, one, take_less, not_removed}
+use Rattle.fab_laws.proofs.Counts.{not_removed}
 use Rattle.fab_laws.proofs.Stepping.{StepIs, step_is, LineIs}
-use Rattle.fab_laws.specs.ReplyLaws.{is_reply, owes}
-use Rattle.fab_laws.proofs.Lists.{Each, always, each_append, each_in, each_removed, each_so, found_in, never, in_front, get_in}
-use Rattle.fab_laws.specs.Members.{In, Never}
-use Rattle.fab_laws.proofs.replies.Owing.{Pays, debt, expected, owing_item, reply_item}
-use Rattle.fab_laws.proofs.replies.Owed.{Goes, OwedAt, got}
-use Rattle.fab_laws.proofs.replies.Stray.{AllOwed, all_owed, ready_is}
-use Rattle.fab_model.proofs.Views as views
+use Rattle.fab_laws.specs.ReplyLaws.{is_reply}
+use Rattle.fab_laws.proofs.Lists.{found_in}
+use Rattle.fab_laws.proofs.replies.Owed.{Goes, OwedAt}
 
 -- ---- what a step leaves of the live operations
 

@@ -1,9 +1,9 @@
 -- The law of completion, wherever turns lead.
-use Rattle.std.proofs.Common.{◌≡◌, ◌≢◌, ◌≤◌, ◌<◌, ◌+◌, ℕ, zero, suc, Bool, true, false, not, ◌&&◌, ◌||◌, List, [], ◌∷◌, ◌++◌, length, take, set, get_or, slice_get, Option, Some, None, ◌⊎◌, inl, inr, refl, sym, ◌∙◌, ap, ap₂, subst, arith}
+use Rattle.std.proofs.Common.{◌≡◌, ◌≢◌, ◌≤◌, ◌+◌, ℕ, zero, suc, Bool, true, false, not, List, [], ◌∷◌, take, set, get_or, slice_get, Option, Some, None, inl, inr, refl, sym, ◌∙◌, ap, subst, arith}
 use Rattle.std.specs.Prelude.{◌==◌, is_some, nat_lt, slice_index, replicate}
 use Rattle.std.specs.List.{list_any}
 use Rattle.std.specs.Option.{option_map_or}
-use Rattle.std.proofs.lemmas.Bool.{and_from, and_parts, cases_eq, lt-ltb, ltb-true, eqb-true}
+use Rattle.std.proofs.lemmas.Bool.{and_from, and_parts, cases_eq, lt-ltb, eqb-true}
 use Rattle.std.proofs.lemmas.Bool.Decides.{nat_tests}
 use Rattle.std.proofs.lemmas.Option.{slice_get-get_or, slice_get_within}
 use Rattle.fab_base.specs.declared.items.Item.{Item}
@@ -19,27 +19,26 @@ use Rattle.fab_base.specs.declared.peers.Step.{Step}
 use Rattle.fab_base.specs.declared.script.Bound.{Bound}
 use Rattle.fab_base.specs.declared.script.Line.{Line}
 use Rattle.fab_model.specs.Matching.{is_message}
-use Rattle.fab_model.specs.State.{State, Receiving, accepted_for, awaits, coming_from, is_into}
+use Rattle.fab_model.specs.State.{accepted_for, awaits, coming_from, is_into}
 use Rattle.fab_model.specs.Complete.{at_either, at_match, is_made_by}
-use Rattle.fab_model.specs.Sending.{ack_of}
-use Rattle.fab_model.specs.Orders.{Leads, Turn}
+use Rattle.fab_model.specs.Orders.{Turn}
 use Rattle.fab_model.specs.Peers.{Actor, fabric}
 use Rattle.fab_model.specs.Replay.{at_rest, fresh, is_drained, is_empty, opening}
-use Rattle.fab_model.specs.Views.{More, View, rule, seen}
+use Rattle.fab_model.specs.Views.{View, rule, seen}
 use Rattle.fab_model.proofs.Patient.{Own, accepted_within, fabric_patient, sender_is}
 use Rattle.fab_model.proofs.Turns.{slice_get-set}
 use Rattle.fab_laws.proofs.completion.Home.{Home, homes_less, into_multi, step_home, under_home}
 use Rattle.fab_laws.specs.Members.{In, Never}
-use Rattle.fab_laws.specs.Moments.{LeadTo, remembered}
+use Rattle.fab_laws.specs.Moments.{LeadTo}
 use Rattle.fab_laws.specs.ReplyLaws.{is_reply, owes, owes_by}
-use Rattle.fab_laws.specs.Completed.{Accepted, IsDelivered, IsSuppressed, IsTaken, LevelIsReached, Operations, Receives, Sends, finals, held, is_final, keeping_books, made_by, number, operations_of, receive_stands, MessageLevel, SendLevel}
+use Rattle.fab_laws.specs.Completed.{Accepted, IsDelivered, IsTaken, LevelIsReached, Operations, Receives, Sends, finals, held, is_final, keeping_books, made_by, number, operations_of, receive_stands, MessageLevel, SendLevel}
 use Rattle.fab_laws.specs.CompletionLaws.{NumbersComplete, OneFinalCompletion, CompletesOnce, NumberCompletes}
 use Rattle.fab_laws.proofs.Lists.{each_in, get_in, never, taken_at, any_in}
-use Rattle.fab_laws.proofs.Counts.{any_many, counted, in_many, in_taken, many, one, two_places, take_less, none_counted, some_in}
+use Rattle.fab_laws.proofs.Counts.{counted, in_many, in_taken, many, one, two_places, take_less, none_counted, some_in}
 use Rattle.fab_laws.proofs.Memory.{KeptByTurns, leads_good, remembered_keeps}
 use Rattle.fab_laws.proofs.Stepping.{at_opening}
-use Rattle.fab_laws.proofs.Rest.{Rest, drained_is, rest_at}
-use Rattle.fab_laws.proofs.replies.Owing.{Pays, Whole, owing_asks, owing_item, debt, reply_item}
+use Rattle.fab_laws.proofs.Rest.{drained_is, rest_at}
+use Rattle.fab_laws.proofs.replies.Owing.{Pays, Whole, owing_item, debt, reply_item}
 use Rattle.fab_laws.proofs.replies.Owed.{got}
 use Rattle.fab_laws.proofs.replies.Stray.{AllOwed, all_owed, peer_of, ready_is, step_owed, turn_owed, all_paid, all_fit}
 use Rattle.fab_laws.proofs.completion.Places.{standing_in, into_single}

@@ -2,7 +2,7 @@
 --     standing c tx rx cq      at how many places the call c stands
 use Rattle.std.proofs.Common.{◌≡◌, ◌≤◌, ◌+◌, ℕ, zero, suc, Bool, true, false, ◌&&◌, List, [], ◌∷◌, ◌++◌, length, set, get_or, Option, Some, None, refl, ◌∙◌, ap, arith, rules}
 use Rattle.std.specs.Prelude.{find, ◌==◌, is_none, nat_lt, not, ◌-◌}
-use Rattle.std.proofs.lemmas.Bool.{cases_eq, eqb-true}
+use Rattle.std.proofs.lemmas.Bool.{eqb-true}
 use Rattle.fab_base.specs.declared.items.ItemHead.{ItemHead}
 use Rattle.fab_base.specs.declared.items.Outcome.{Outcome}
 use Rattle.fab_base.specs.declared.entries.Taken.{Taken}
@@ -16,11 +16,11 @@ use Rattle.fab_base.specs.declared.items.Kind.{Kind}
 use Rattle.fab_base.specs.declared.entries.Class.{Class}
 use Rattle.fab_base.specs.declared.entries.ErrKind.{ErrKind}
 use Rattle.fab_model.specs.Matching.{change_first, remove_first, is_message}
-use Rattle.fab_model.specs.State.{State, Receiving, Transmitting, Completions, coming_from, under_way, with_rx, with_tx, write, writing, count}
-use Rattle.fab_model.specs.Complete.{at_match, book, entry_of, fill, fill_multi, filled, has_space, is_made_by, let_go, received, release, release_multi, reply, truncated, error}
+use Rattle.fab_model.specs.State.{State, Receiving, Transmitting, Completions, under_way, with_rx, write, count}
+use Rattle.fab_model.specs.Complete.{at_match, book, entry_of, fill, fill_multi, filled, is_made_by, let_go, received, release, release_multi, reply, truncated, error}
 use Rattle.fab_model.specs.Sending.{end_with, refusal_of, class_of, success_of}
 use Rattle.fab_model.specs.Receiving.{drop_arrival, give, goes}
-use Rattle.fab_model.specs.Arrivals.{do_head, heading_message, heading_other, made_whole, seated, shut, stays, taker, used_up, is_wanted, way_of}
+use Rattle.fab_model.specs.Arrivals.{do_head, heading_message, heading_other, seated, shut, stays, taker, used_up, is_wanted, way_of}
 use Rattle.fab_model.specs.Peers.{part_of}
 use Rattle.fab_laws.proofs.Counts.{many, many_append, many_removed, one}
 use Rattle.fab_laws.specs.Completed.{is_final, made_by}

@@ -1,12 +1,10 @@
 -- Each call stands at one place at the most, in every order of turns.
 --     Placed s      no call stands at two places, and a number that no call has yet at none
-use Rattle.std.proofs.Common.{◌≡◌, ◌≤◌, ◌+◌, ℕ, zero, suc, Bool, true, false, List, [], ◌∷◌, replicate, Option, Some, None, inl, inr, refl, sym, subst, arith}
-use Rattle.std.specs.Prelude.{nat_lt, slice_get}
+use Rattle.std.proofs.Common.{◌≡◌, ◌≤◌, ℕ, zero, suc, Bool, true, false, replicate, Some, None, refl, sym, subst, arith}
+use Rattle.std.specs.Prelude.{nat_lt}
 use Rattle.fab_base.specs.declared.items.Item.{Item}
-use Rattle.fab_base.specs.declared.operations.Coming.{Coming}
 use Rattle.fab_base.specs.declared.peers.Step.{Step}
 use Rattle.fab_base.specs.declared.peers.Step.TheVariants.{Do, Head, Tail, Draw, Final}
-use Rattle.fab_base.specs.declared.script.Bound.{Bound}
 use Rattle.fab_base.specs.declared.script.Conf.{Conf}
 use Rattle.fab_model.specs.State.{State}
 use Rattle.fab_model.specs.Arrivals.{do_draw, do_head, do_tail}
@@ -15,7 +13,6 @@ use Rattle.fab_model.specs.Calls.{CancelFirst}
 use Rattle.fab_model.specs.Peers.{Actor, fabric, reading}
 use Rattle.fab_model.specs.Replay.{fresh}
 use Rattle.fab_model.specs.Views.{View}
-use Rattle.fab_model.proofs.Turns.{slice_get-set}
 use Rattle.fab_laws.specs.Moments.{next_call}
 use Rattle.fab_laws.proofs.Counts.{many, one}
 use Rattle.fab_laws.proofs.Stepping.{StepIs, line_keeps, step_is}

@@ -32,11 +32,11 @@ use Rattle.fab_model.proofs.Parts.{get_or-set}
 use Rattle.fab_model.specs.Receiving.{Posting, cancel, cancellable, claim_of, claiming, draws, drop_arrival, drop_claimed, give, joining_posted, look, look_at, peeked, post, receive_of, take_claimed, taken_by, taking, want_of, without_claim, without_first, without_posted}
 use Rattle.fab_model.specs.Arrivals.{do_draw, seating}
 use Rattle.fab_model.specs.Calls.{Call, Transmit, Post, Look, TakeClaimed, DropClaimed, Cancel, CancelFirst, Insert, Remove, Reg, Close, Put, Show, Count, answer, close, do_call, insert, insert_new, is_peer, peer_named, put, reg, remove, upto}
-use Rattle.fab_laws.proofs.Counts.{many, many_append, many_map, many_removed, one_no, one_none, same_one, some_in, in_split}
+use Rattle.fab_laws.proofs.Counts.{many, many_append, many_map, many_removed, in_split}
 use Rattle.fab_laws.proofs.Lists.{Each, always, each_append, each_in, each_removed, found_in, never}
 use Rattle.fab_laws.specs.ReplyLaws.{is_reply, owes}
 use Rattle.fab_laws.specs.Members.{In}
-use Rattle.fab_laws.proofs.replies.Owing.{Longer, Pays, Sends, Whole, debt, expected, longer_many, no_bytes, owing_head, owing_item, pays_moved, pays_whole, reply_item, sends_answered, sends_found, sends_got, sends_joins, set_longer, still_in, now_in, was_in, numbered, Splits, pays_accepts, sends_accepts, sends_sent}
+use Rattle.fab_laws.proofs.replies.Owing.{Pays, Sends, Whole, debt, pays_moved, set_longer, Splits, pays_accepts, sends_accepts, sends_sent}
 use Rattle.fab_laws.proofs.replies.Owed.{Owed, OwedAt, Unwhole, got, unwhole_of, owed_drop, owed_give}
 use Rattle.fab_laws.specs.Completed.{held}
 use Rattle.fab_laws.proofs.replies.Tails.{end_owed, owed_same, release_owed, message_owes_is}

@@ -1,7 +1,7 @@
 -- The arrival and the completion of an item keep what a peer owes and is owed.
-use Rattle.std.proofs.Common.{◌≡◌, ◌≢◌, ◌≤◌, ◌<◌, ◌+◌, ℕ, zero, suc, Bool, true, false, ◌&&◌, List, [], ◌∷◌, ◌++◌, take, map, set, get_or, get_or-set_same, slice_get, Option, Some, None, ◌⊎◌, inl, inr, refl, sym, ◌∙◌, ap, subst, arith, length-set}
+use Rattle.std.proofs.Common.{◌≡◌, ◌≢◌, ◌≤◌, ◌<◌, ◌+◌, ℕ, Bool, true, false, ◌&&◌, List, [], ◌∷◌, ◌++◌, take, map, set, get_or, get_or-set_same, slice_get, Option, Some, None, ◌⊎◌, inl, inr, refl, sym, ◌∙◌, ap, subst, arith, length-set}
 use Rattle.std.specs.Prelude.{find, ◌==◌, is_some, slice_index}
-use Rattle.std.proofs.lemmas.Bool.{cases_eq, and_parts, and_from, eqb-true, lt-ltb}
+use Rattle.std.proofs.lemmas.Bool.{cases_eq, and_parts, and_from, lt-ltb}
 use Rattle.std.proofs.lemmas.Bool.Decides.{nat_tests}
 use Rattle.fab_base.specs.declared.items.Item.{Item}
 use Rattle.fab_base.specs.declared.items.ItemHead.{ItemHead}
@@ -21,11 +21,11 @@ use Rattle.fab_model.specs.Sending.{expects, is_answered_by}
 use Rattle.fab_model.specs.Arrivals.{do_head, heading_message, heading_other, newcomer, taker, way_of}
 use Rattle.fab_model.specs.Views.{View}
 use Rattle.fab_model.proofs.Parts.{get_or-set}
-use Rattle.fab_laws.proofs.Counts.{in_many, many, many_append, many_map, one, one_no, one_none, same_one, some_in, not_found, take_less, take_one}
-use Rattle.fab_laws.proofs.Lists.{Each, always, each_append, each_in, each_removed, each_so, found_in, never, get_in}
+use Rattle.fab_laws.proofs.Counts.{in_many, many, many_append, one, one_no, one_none, same_one, not_found, take_less, take_one}
+use Rattle.fab_laws.proofs.Lists.{Each, each_in, found_in, get_in}
 use Rattle.fab_laws.specs.ReplyLaws.{is_reply, owes}
-use Rattle.fab_laws.specs.Members.{In, Never}
-use Rattle.fab_laws.proofs.replies.Owing.{Longer, Pays, Sends, Whole, debt, expected, longer_many, no_bytes, owing_head, owing_item, pays_moved, pays_whole, reply_item, sends_answered, sends_found, sends_got, sends_joins, set_longer, still_in, now_in, was_in, numbered, owing_asks}
+use Rattle.fab_laws.specs.Members.{In}
+use Rattle.fab_laws.proofs.replies.Owing.{Whole, debt, expected, owing_item, pays_moved, reply_item, sends_found, numbered, owing_asks}
 use Rattle.fab_laws.proofs.replies.Owed.{Goes, Lane, Owed, OwedAt, Unwhole, got, is_keep, unwhole_of}
 use Rattle.fab_laws.specs.Completed.{held}
 

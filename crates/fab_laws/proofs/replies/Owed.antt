@@ -1,6 +1,6 @@
 -- What a peer owes and is owed, in what it sees; the arrival of an item, and what becomes of an arrival, keep it.
 --     Owed n v tx coming held heads tails av      of one of n peers; `held` are its unexpected and claimed messages
-use Rattle.std.proofs.Common.{◌≡◌, ◌≢◌, ◌≤◌, ◌<◌, ◌+◌, ℕ, zero, suc, Bool, true, false, ◌&&◌, List, [], ◌∷◌, ◌++◌, length, take, map, set, get_or, get_or-set_same, slice_get, Option, Some, None, ◌⊎◌, inl, inr, refl, sym, ◌∙◌, ap, ap₂, subst, arith, length-append, length-set}
+use Rattle.std.proofs.Common.{◌≡◌, ◌≢◌, ◌≤◌, ◌<◌, ◌+◌, ℕ, zero, suc, Bool, true, false, ◌&&◌, List, [], ◌∷◌, length, take, set, get_or, get_or-set_same, slice_get, Option, Some, None, ◌⊎◌, inl, inr, refl, sym, ◌∙◌, ap, ap₂, subst, arith, length-append, length-set}
 use Rattle.std.specs.Prelude.{◌==◌, is_none, is_some, slice_index}
 use Rattle.std.proofs.lemmas.Bool.{cases_eq}
 use Rattle.std.proofs.lemmas.Bool.Decides.{nat_tests}
@@ -13,7 +13,7 @@ use Rattle.fab_base.specs.declared.operations.Coming.{Coming}
 use Rattle.fab_base.specs.declared.operations.Coming.TheVariants.{Into, Keep, Throw, Request, Answer}
 use Rattle.fab_base.specs.declared.operations.Operation.{Operation}
 use Rattle.fab_model.specs.Matching.{is_message}
-use Rattle.fab_model.specs.State.{State, Receiving, Transmitting, accepted_for, lookup, with_rx}
+use Rattle.fab_model.specs.State.{State, Transmitting, accepted_for, lookup, with_rx}
 use Rattle.fab_model.specs.Complete.{at_match, book, fill, joining, reply, reply_head}
 use Rattle.fab_model.specs.Receiving.{drop_arrival, give, goes}
 use Rattle.fab_model.specs.Views.{View, More}
@@ -23,7 +23,7 @@ use Rattle.fab_laws.proofs.Lists.{Each, each_so, never}
 use Rattle.fab_laws.specs.ReplyLaws.{is_reply}
 use Rattle.fab_laws.specs.Completed.{held}
 use Rattle.fab_laws.specs.Members.{In, Never}
-use Rattle.fab_laws.proofs.replies.Owing.{Longer, Pays, Sends, Splits, Whole, debt, pays_given, pays_leaves, pays_moved, reply_item, sends_joins, set_longer, owing_item}
+use Rattle.fab_laws.proofs.replies.Owing.{Pays, Sends, Splits, Whole, pays_given, pays_leaves, reply_item, sends_joins, set_longer, owing_item}
 
 -- the items of each source that are whole
 abbrev pub got : View Item → List ℕ → ℕ → List Item

@@ -19,7 +19,7 @@ use Rattle.fab_model.specs.Matching.{is_message, remove_first}
 use Rattle.fab_model.specs.Complete.{at_either, at_match}
 use Rattle.fab_model.specs.Sending.{is_answered}
 use Rattle.fab_model.proofs.Parts.{get_or-set}
-use Rattle.fab_laws.proofs.Counts.{in_many, many, many_append, many_removed, one, not_removed, some_only, some_in, one_none, removed_less, many_dropped, split_many, in_split, one_no}
+use Rattle.fab_laws.proofs.Counts.{many, many_append, many_removed, one, not_removed, some_only, some_in, one_none, removed_less, many_dropped, split_many, in_split, one_no}
 use Rattle.fab_laws.proofs.Lists.{Each, always, each_append, each_in, each_removed, each_so, found_in, in_back, in_front, never}
 use Rattle.fab_laws.specs.ReplyLaws.{is_reply, owes, owes_by}
 use Rattle.fab_laws.specs.Members.{In}

@@ -1,7 +1,7 @@
 -- No reply is stray, and no number is answered twice.
-use Rattle.std.proofs.Common.{◌≡◌, ◌≤◌, ◌<◌, ℕ, zero, suc, Bool, true, false, List, [], ◌∷◌, ◌++◌, take, drop, map, set, get_or, slice_get, Option, Some, None, ◌⊎◌, inl, inr, refl, sym, ◌∙◌, ap, subst, arith}
-use Rattle.std.specs.Prelude.{find, ◌==◌, slice_index, replicate}
-use Rattle.std.proofs.lemmas.Bool.{and_parts, and_from, eqb-true}
+use Rattle.std.proofs.Common.{◌≡◌, ◌≤◌, ◌<◌, ℕ, zero, suc, Bool, true, List, [], ◌∷◌, ◌++◌, take, drop, map, set, get_or, slice_get, Option, Some, None, ◌⊎◌, inl, inr, refl, sym, ◌∙◌, ap, subst, arith}
+use Rattle.std.specs.Prelude.{◌==◌, slice_index, replicate}
+use Rattle.std.proofs.lemmas.Bool.{and_parts, and_from}
 use Rattle.std.proofs.lemmas.Bool.Decides.{nat_tests}
 use Rattle.std.proofs.lemmas.Option.{slice_get_within}
 use Rattle.std.specs.Option.{option_map_or}
@@ -12,18 +12,17 @@ use Rattle.fab_base.specs.declared.peers.Step.{Step}
 use Rattle.fab_base.specs.declared.peers.Step.TheVariants.{Do, Head, Tail, Draw, Final}
 use Rattle.fab_base.specs.declared.script.Bound.{Bound}
 use Rattle.fab_base.specs.declared.script.Conf.{Conf}
-use Rattle.fab_model.specs.State.{State, accepted_for, lookup, awaits}
+use Rattle.fab_model.specs.State.{accepted_for, lookup, awaits}
 use Rattle.fab_model.specs.Views.{View, More, rule, seen}
-use Rattle.fab_model.specs.Calls.{Call, CancelFirst, do_call, upto}
+use Rattle.fab_model.specs.Calls.{CancelFirst, upto}
 use Rattle.fab_model.specs.Orders.{Leads, Turn}
 use Rattle.fab_model.specs.Peers.{Actor, fabric}
 use Rattle.fab_model.specs.Replay.{fresh, opening}
-use Rattle.fab_model.proofs.Parts.{some_is, some_same, if_is}
 use Rattle.fab_model.proofs.Patient.{Own, fabric_patient, opening_sound, sender_is}
 use Rattle.fab_model.proofs.Turns.{slice_get-set}
 use Rattle.fab_model.specs.Sending.{expects, is_answered_by}
-use Rattle.fab_laws.proofs.Counts.{in_many, many, many_append, many_map, one, take_less, take_within, in_taken, two_places}
-use Rattle.fab_laws.proofs.Lists.{Each, always, each_append, each_in, each_removed, each_so, found_in, never, get_in}
+use Rattle.fab_laws.proofs.Counts.{many, take_less, take_within, in_taken, two_places}
+use Rattle.fab_laws.proofs.Lists.{always, found_in, never, get_in}
 use Rattle.fab_laws.specs.ReplyLaws.{is_reply, owes, AnsweredOnce, NoStray}
 use Rattle.fab_laws.specs.Members.{In, Never}
 use Rattle.fab_laws.proofs.replies.Owing.{expected, owing_item, reply_item, owing_asks}

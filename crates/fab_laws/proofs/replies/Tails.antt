@@ -28,11 +28,11 @@ use Rattle.fab_model.specs.Arrivals.{completed, do_request, do_tail, keeping, ma
 use Rattle.fab_model.specs.Target.{Performed, handed_back, is_base, is_keyed, may_access, outcome_of, perform, performed_in, range_of, reach_of, refused_by}
 use Rattle.fab_model.specs.Views.{View}
 use Rattle.fab_model.proofs.Parts.{get_or-set}
-use Rattle.fab_laws.proofs.Counts.{in_many, many, many_map, one, one_no, one_none, same_one, some_in, take_one}
+use Rattle.fab_laws.proofs.Counts.{in_many, many, many_map, one, one_no, take_one}
 use Rattle.fab_laws.specs.ReplyLaws.{is_reply, owes, owes_by}
 use Rattle.fab_laws.proofs.Lists.{Each, always, each_so, never}
 use Rattle.fab_laws.specs.Members.{In, Never}
-use Rattle.fab_laws.proofs.replies.Owing.{Longer, Pays, Sends, Whole, debt, expected, longer_many, no_bytes, owing_head, owing_item, pays_moved, pays_whole, reply_item, sends_answered, sends_found, sends_got, sends_joins, set_longer, still_in, now_in, was_in, numbered, not_owing}
+use Rattle.fab_laws.proofs.replies.Owing.{Longer, Pays, Sends, Whole, debt, expected, longer_many, no_bytes, owing_item, pays_whole, reply_item, sends_answered, sends_got, sends_joins, set_longer, still_in, now_in, was_in, not_owing}
 use Rattle.fab_laws.proofs.replies.Owed.{Goes, Lane, Owed, OwedAt, Unwhole, got, is_keep, unwhole_of}
 use Rattle.fab_laws.specs.Completed.{held}
 use Rattle.fab_laws.proofs.replies.Heads.{Fits, Paid, answered_by}

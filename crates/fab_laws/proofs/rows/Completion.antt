@@ -1,15 +1,12 @@
 -- The law of completion: orders of turns that meet its premises, and states on which it is false.
-use Rattle.std.proofs.Common.{◌≡◌, ◌≤◌, ◌<◌, ℕ, Bool, true, false, List, [], ◌∷◌, ◌++◌, length, map, slice_get, Option, Some, None, ◌⊎◌, inl, inr, refl, ap, subst, arith}
+use Rattle.std.proofs.Common.{◌≡◌, ◌≤◌, ℕ, true, false, List, [], ◌∷◌, ◌++◌, length, map, Some, None, inl, inr, refl, ap, arith}
 use Rattle.std.specs.Prelude.{codes, slice_index}
 use Rattle.fab_base.specs.declared.entries.Entry.{Entry}
 use Rattle.fab_base.specs.declared.entries.Taken.TheVariants.{Success}
-use Rattle.fab_base.specs.declared.items.ItemHead.{ItemHead}
 use Rattle.fab_base.specs.declared.items.Kind.{Kind}
 use Rattle.fab_base.specs.declared.items.Ack.{Ack}
 use Rattle.fab_base.specs.declared.items.Outcome.{Outcome}
-use Rattle.fab_base.specs.declared.items.Want.{Want}
 use Rattle.fab_base.specs.declared.operations.Operation.{Operation}
-use Rattle.fab_base.specs.declared.operations.Receive.{Receive}
 use Rattle.fab_base.specs.declared.operations.Written.{Written}
 use Rattle.fab_base.specs.declared.peers.Level.{Level}
 use Rattle.fab_base.specs.declared.peers.Step.{Step}
@@ -18,14 +15,14 @@ use Rattle.fab_base.specs.declared.script.Bound.{Bound}
 use Rattle.fab_base.specs.declared.script.BytesWord.TheVariants.{Text}
 use Rattle.fab_base.specs.declared.script.LineOp.{LineOp}
 use Rattle.fab_model.specs.Machine.{machine}
-use Rattle.fab_model.specs.State.{State, with_rx}
+use Rattle.fab_model.specs.State.{with_rx}
 use Rattle.fab_model.specs.Orders.{Turn, by}
-use Rattle.fab_model.specs.Peers.{Actor, fabric, with_state}
+use Rattle.fab_model.specs.Peers.{Actor, with_state}
 use Rattle.fab_model.specs.Replay.{is_drained, newly}
 use Rattle.fab_model.proofs.Parts.{some_same}
 use Rattle.fab_model.proofs.Scripts.{line, script_of}
 use Rattle.fab_laws.specs.Members.{In, Never}
-use Rattle.fab_laws.specs.Completed.{Accepted, IsSuppressed, LevelIsReached, Receives, Sends, finals, number, operations_of}
+use Rattle.fab_laws.specs.Completed.{Accepted, IsSuppressed, Receives, Sends, finals, number, operations_of}
 use Rattle.fab_laws.specs.CompletionLaws.{CompletesOnce}
 use Rattle.fab_laws.proofs.rows.Following.{Met, met}
 

@@ -1,6 +1,6 @@
 -- The law of replies: an order of turns that meets its premises, and states on which it is false.
-use Rattle.std.proofs.Common.{◌≡◌, ℕ, Bool, true, false, List, [], ◌∷◌, ◌++◌, map, slice_get, Some, None, inl, inr, refl}
-use Rattle.std.specs.Prelude.{codes, find, slice_index}
+use Rattle.std.proofs.Common.{◌≡◌, ℕ, true, false, List, [], ◌∷◌, ◌++◌, slice_get, Some, None, refl}
+use Rattle.std.specs.Prelude.{codes, slice_index}
 use Rattle.fab_base.specs.declared.items.Item.{Item}
 use Rattle.fab_base.specs.declared.items.Outcome.{Outcome}
 use Rattle.fab_base.specs.declared.peers.Level.{Level}
@@ -11,13 +11,13 @@ use Rattle.fab_base.specs.declared.script.BytesWord.TheVariants.{Text}
 use Rattle.fab_base.specs.declared.script.LineOp.{LineOp}
 use Rattle.fab_model.specs.Machine.{machine}
 use Rattle.fab_model.specs.State.{with_tx}
-use Rattle.fab_model.specs.Complete.{joining, reply_head}
+use Rattle.fab_model.specs.Complete.{reply_head}
 use Rattle.fab_model.specs.Orders.{Turn, by}
 use Rattle.fab_model.specs.Peers.{Actor, fabric, with_state}
 use Rattle.fab_model.specs.Replay.{newly}
 use Rattle.fab_model.specs.Views.{seen}
-use Rattle.fab_model.proofs.Scripts.{defaults, line, script_of}
-use Rattle.fab_laws.specs.Members.{In, Never}
+use Rattle.fab_model.proofs.Scripts.{line, script_of}
+use Rattle.fab_laws.specs.Members.{Never}
 use Rattle.fab_laws.specs.ReplyLaws.{AnswersOnce, FindsItsOperation, is_reply}
 use Rattle.fab_laws.proofs.rows.Following.{Met, met}
 
