@@ -4,3 +4,4 @@ pub mod Ends
 pub mod Told
 pub mod Clauses
 pub mod Making
+pub mod Samples

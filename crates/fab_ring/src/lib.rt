@@ -17,3 +17,6 @@ mod rings;
 mod sending;
 
 pub use port::{RingPort, Rings};
+
+#[cfg(test)]
+mod tests;
