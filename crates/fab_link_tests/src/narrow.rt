@@ -2,23 +2,58 @@
 ghost use Rattle.std.specs.Prelude.{◌≡◌, ℕ, ◌<◌, true, None, Some, IfOk, IfSome, length, []};
 ghost use Rattle.std.specs.Vec.{vec_capacity};
 ghost use Rattle.fab_link.specs.Meaning.{AreFresh};
-ghost use Rattle.fab_link_tests.specs.Narrow.{out_of, in_of, nothing_first};
+ghost use Rattle.fab_link_tests.specs.Narrow.{out_of, in_of, nothing_first, greeting_head};
 
-use fab_base::{FrameHead, FrameRef, NoMemory};
+use fab_base::{Ack, FrameHead, FrameRef, ItemHead, Kind, NoMemory, Outcome};
 use fab_link::{Port, PostRefused};
 use std::alloc::Global;
 
 /// The port of a single peer, to itself, whose memory is taken when it is made.
 ///
 /// Its lane has room for a stated number of frames, and it has no pool: a frame with bytes finds no
-/// place for them. Nothing carries its frames, so it gives none, and a lane that is full stays full.
+/// place for them. Nothing carries its frames, so a lane that is full stays full. What it gives is one
+/// frame, an empty message, which stands there from the start.
 #[derive(Drop)]
 pub struct NarrowPort {
     heads: Vec<FrameHead>,
+    greeting: Greeting,
     lane_full_seen: u64,
     pool_full_seen: u64,
     full_at: usize,
     empty_seen: u64,
+    empty_at: usize,
+}
+
+/// Where the one frame is that the port gives: not given yet, lent, or stepped over.
+#[derive(Clone, Copy)]
+pub enum Greeting {
+    Waiting,
+    Lent,
+    Taken,
+}
+
+/// The head of that frame.
+fn greeting_head() -> FrameHead
+    ensures { result ≡ greeting_head }
+{
+    let item = ItemHead {
+        kind: Kind::Msg,
+        op: 0,
+        tag: 0,
+        imm: None,
+        ack: Ack::Nothing,
+        key: 0,
+        at: 0,
+        count: 0,
+        atom: None,
+        outcome: Outcome::Done,
+        total: 0,
+    };
+    FrameHead {
+        item,
+        from: 0,
+        len: 0,
+    }
 }
 
 impl NarrowPort {
@@ -30,10 +65,12 @@ impl NarrowPort {
     {
         Ok(NarrowPort {
             heads: Vec::with_capacity(alloc, room as usize)?,
+            greeting: Greeting::Waiting,
             lane_full_seen: 0,
             pool_full_seen: 0,
             full_at: 0,
             empty_seen: 0,
+            empty_at: 0,
         })
     }
 }
@@ -85,11 +122,23 @@ impl Port for NarrowPort {
     }
 
     fn front(&mut self, _src: u32) -> Option<FrameRef<'_>> {
-        self.empty_seen = self.empty_seen.saturating_add(1);
-        None
+        match self.greeting {
+            Greeting::Waiting | Greeting::Lent => {
+                self.greeting = Greeting::Lent;
+                Some(FrameRef {
+                    head: greeting_head(),
+                    bytes: &[],
+                })
+            }
+            Greeting::Taken => {
+                self.empty_seen = self.empty_seen.saturating_add(1);
+                self.empty_at = 1;
+                None
+            }
+        }
     }
 
     fn advance(&mut self, _src: u32) {
-        unreachable!()
+        self.greeting = Greeting::Taken;
     }
 }

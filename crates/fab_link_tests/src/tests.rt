@@ -154,6 +154,22 @@ fn a_full_lane_takes_no_frame(rt: HostRuntime) -> Result<(), Fail> {
     let mut port = NarrowPort::new(rt.alloc(), 0)?;
     assert_eq!(rt; (port.me(), port.peers()), (0, 1));
     assert_eq!(rt; port.post(0, whole(1, 0), b""), Err(PostRefused::LaneFull));
+    Ok(())
+}
+
+#[test]
+fn one_frame_is_given_until_it_is_stepped_over(rt: HostRuntime) -> Result<(), Fail> {
+    let mut port = NarrowPort::new(rt.alloc(), 0)?;
+    let Some(frame) = port.front(0) else {
+        return Err(Fail::new("no frame was given"));
+    };
+    assert_eq!(rt;
+        (frame.head.item.total, frame.head.len, frame.bytes.len()),
+        (0, 0, 0)
+    );
+    if port.front(0).is_some() {
+        port.advance(0);
+    }
     assert!(rt; port.front(0).is_none());
     Ok(())
 }
