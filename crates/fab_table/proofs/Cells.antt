@@ -1,23 +1,21 @@
 -- What stays of a lane at each step of its two words.
-use Rattle.std.proofs.Common.{◌≡◌, ℕ, zero, suc, ◌+◌, ◌%◌, ◌<◌, ◌≤◌, ◌≢◌, ◌⊎◌, inl, inr, ⊎_elim, Bool, true, false, true≢false, List, [], ◌∷◌, ◌++◌, length, take, set, sym, refl, ap, ◌∙◌, subst, arith, length-append}
+use Rattle.std.proofs.Common.{◌≡◌, ℕ, ◌+◌, ◌%◌, ◌<◌, ◌≤◌, ◌≢◌, inl, inr, ⊎_elim, Bool, true, false, true≢false, [], ◌∷◌, ◌++◌, length, set, sym, refl, ap, ◌∙◌, subst, arith, length-append}
 use mathlib.Core.Logic.{dite}
 use mathlib.Core.List.{map-append}
-use mathlib.Core.Option as maybe
 use mathlib.Core.Option.{some, none, some-injective}
 use native.Mathlib.Decide.{ℕ_discrete, dec_le}
 use native.Mathlib.Nat.{add-mod_right}
 use lib.ListN.{get_elem?}
 use Rattle.std.specs.Prelude.{Option, Some, None}
 use Rattle.std.proofs.lemmas.Option.{none-some, same_Some}
-use Rattle.atomic_table.proofs.Lists.{at_longer, at_last, at_snoc, one_turn, set_here, set_else}
-use Rattle.fab_base.specs.declared.frames.Frame.{Frame}
+use Rattle.atomic_table.proofs.Lists.{at_longer, at_last, one_turn, set_here, set_else}
 use Rattle.fab_wire.specs.Frames.{last_head, MayCome, IsLane}
 use Rattle.fab_wire.proofs.Lanes.{IsLane-push}
 use Rattle.fab_table.specs.declared.kinds.Sent.{Sent}
 use Rattle.fab_table.specs.Views.{frame_of, frames_of}
 use Rattle.fab_table.specs.declared.kinds.Slot.{Slot}
-use Rattle.fab_table.specs.Rule.{Homes, Lane, IsShort, IsCell, Says, SaidAt, cell_of, LaneOk}
-use Rattle.fab_table.proofs.Rows.{at_lt, at_some, at_shorter, at_end}
+use Rattle.fab_table.specs.Rule.{Homes, Lane, IsShort, IsCell, Says, cell_of, LaneOk}
+use Rattle.fab_table.proofs.Rows.{at_lt, at_shorter, at_end}
 
 -- two frames less than a lane apart have two cells
 pub apart : (room base a b : ℕ) → a < b + room → b < a + room → a ≢ b → cell_of base room a ≢ cell_of base room b
@@ -82,9 +80,9 @@ module _ (room base put got : ℕ) (homes : Homes) (l : Lane) (ok : LaneOk room 
     within = omega arith;
     filled = λ k y le at. let lt = at_lt (l.posted ++ x ∷ []) k y at in dite (ℕ_discrete k n)
         (λ e. let same : x ≡ y = some-injective x y (sym (at_last l.posted x k (sym e)) ∙ at) in
-          inr (s, subst (λ (z : Sent). Says z s) same says, ap (λ (j : ℕ). get_elem? (set homes (cell_of base room n) (some s)) (cell_of base room j)) e ∙ set_here homes (cell_of base room n) (some s) inside))
+        inr (s, subst (λ (z : Sent). Says z s) same says, ap (λ (j : ℕ). get_elem? (set homes (cell_of base room n) (some s)) (cell_of base room j)) e ∙ set_here homes (cell_of base room n) (some s) inside))
         (λ ne. ⊎_elim (λ o. inl o) (λ h. inr (h.0, h.1, set_else homes (cell_of base room n) (cell_of base room k) (some s) (apart room base k n (omega arith) (omega arith) ne) ∙ h.2))
-          (ok.filled k y le (at_shorter l.posted (x ∷ []) k y (omega arith) at)));
+        (ok.filled k y le (at_shorter l.posted (x ∷ []) k y (omega arith) at)));
     free = λ k le lt. ⊎_elim (λ o. absurd (let e : k ≡ n = o.0 in omega arith))
         (λ h. inr (h.0, h.1, set_else homes (cell_of base room n) (cell_of base room k) (some s) (apart room base k n (omega arith) (omega arith) (λ e. omega arith)) ∙ h.2)) (ok.free k (omega arith) lt);
     cut = subst (IsLane None) (sym (map-append frame_of l.posted (x ∷ []))) (IsLane-push None (frames_of l.posted) x.frame ok.cut comes);
@@ -123,7 +121,7 @@ module _ (room base put got : ℕ) (homes : Homes) (l : Lane) (ok : LaneOk room 
     free = λ k le lt. dite (ℕ_discrete k (l.got + room))
         (λ e. inr (s, is_cell, ap (get_elem? (set homes (cell_of base room l.got) (some s))) (ap (λ (z : ℕ). base + z) (ap (λ (z : ℕ). z % room) e ∙ add-mod_right l.got room)) ∙ set_here homes (cell_of base room l.got) (some s) inside))
         (λ ne. ⊎_elim (λ o. inl o)
-          (λ h. inr (h.0, h.1, set_else homes (cell_of base room l.got) (cell_of base room k) (some s) (apart room base k l.got (omega arith) (omega arith) (λ e. omega arith)) ∙ h.2)) (ok.free k le (omega arith)));
+        (λ h. inr (h.0, h.1, set_else homes (cell_of base room l.got) (cell_of base room k) (some s) (apart room base k l.got (omega arith) (omega arith) (λ e. omega arith)) ∙ h.2)) (ok.free k le (omega arith)));
     cut = ok.cut;
     short = ok.short;
     open_is = λ y e. absurd (none-some y e);
@@ -139,7 +137,7 @@ module _ (room base put got : ℕ) (homes : Homes) (l : Lane) (ok : LaneOk room 
     within = ok.within;
     filled = λ k y le at. let lt = at_lt l.posted k y at in dite (ℕ_discrete k l.got)
         (λ e. let same : x ≡ y = some-injective x y (sym here ∙ (ap (get_elem? l.posted) (sym e) ∙ at)) in
-          inr (s, subst (λ (z : Sent). Says z s) same says, ap (λ (j : ℕ). get_elem? (set homes (cell_of base room l.got) (some s)) (cell_of base room j)) e ∙ set_here homes (cell_of base room l.got) (some s) inside))
+        inr (s, subst (λ (z : Sent). Says z s) same says, ap (λ (j : ℕ). get_elem? (set homes (cell_of base room l.got) (some s)) (cell_of base room j)) e ∙ set_here homes (cell_of base room l.got) (some s) inside))
         (λ ne. ⊎_elim (λ o. absurd (ne o.0)) (λ h. inr (h.0, h.1, set_else homes (cell_of base room l.got) (cell_of base room k) (some s) (apart room base k l.got (omega arith) (omega arith) ne) ∙ h.2)) (ok.filled k y le at));
     free = λ k le lt. ⊎_elim (λ o. inl o)
         (λ h. inr (h.0, h.1, set_else homes (cell_of base room l.got) (cell_of base room k) (some s) (apart room base k l.got (omega arith) (omega arith) (λ e. omega arith)) ∙ h.2)) (ok.free k le lt);

@@ -1,14 +1,14 @@
 -- How the rule begins, and how seats are split and joined.
-use Rattle.std.proofs.Common.{◌≡◌, ℕ, zero, suc, ◌+◌, ◌*◌, ◌%◌, ◌<◌, ◌≤◌, ◌≢◌, ◌⊎◌, inl, inr, ⊎_elim, Bool, true, false, true≢false, List, [], ◌∷◌, ◌++◌, map, length, take, drop, replicate, get_or, set, sym, refl, ap, ◌∙◌, subst, le_refl, arith, length-append, mod-lt}
+use Rattle.std.proofs.Common.{◌≡◌, ℕ, zero, suc, ◌+◌, ◌*◌, ◌%◌, ◌<◌, ◌≤◌, ◌≢◌, inr, ⊎_elim, false, true≢false, List, [], ◌∷◌, ◌++◌, map, length, take, drop, replicate, get_or, set, sym, refl, ap, ◌∙◌, subst, le_refl, arith, length-append, mod-lt}
 use mathlib.Core.Logic.{dite}
-use mathlib.Core.Option.{some, none, some-ne-none}
+use mathlib.Core.Option.{some, some-ne-none}
 use native.Mathlib.Decide.{ℕ_discrete, dec_lt}
 use lib.ListN.{get_elem?, length-map, length-replicate}
-use lib.Seq.{set-get_or, length-take-le}
-use Rattle.std.specs.Prelude.{Option, Some, None}
+use lib.Seq.{set-get_or}
+use Rattle.std.specs.Prelude.{None}
 use Rattle.std.proofs.lemmas.Option.{none-some}
-use Rattle.atomic_table.specs.Table.{State, step, keeps, Allows, Splits, Joins, opening}
-use Rattle.atomic_table.proofs.Lists.{at_set, set_else, set_again, some_there}
+use Rattle.atomic_table.specs.Table.{State, keeps, Allows, Splits, Joins, opening}
+use Rattle.atomic_table.proofs.Lists.{at_set, set_else, set_again}
 use mathlib.Core.List.{IsPrefix}
 use Rattle.std.proofs.lemmas.List.{take-append-drop}
 use Rattle.fab_table.specs.declared.kinds.Sent.{Sent}
@@ -18,9 +18,9 @@ use Rattle.fab_table.specs.declared.kinds.Out.{Out}
 use Rattle.fab_table.specs.declared.kinds.In.{In}
 use Rattle.fab_table.specs.declared.kinds.Part.{Part}
 use Rattle.fab_table.specs.declared.kinds.View.{View}
-use Rattle.fab_table.specs.Views.{pool_word, pool_home, new_out, new_in, new_part, parts_from, everyone, nobody, only_first, but_first, both, part_at, out_at, in_at, lane_of, put_word, got_word}
+use Rattle.fab_table.specs.Views.{pool_word, new_out, new_in, new_part, parts_from, everyone, nobody, only_first, but_first, both, part_at, lane_of, put_word, got_word}
 use Rattle.fab_table.specs.Plays.{Sat, learned}
-use Rattle.fab_table.specs.Rule.{free, IsCell, IsBuf, Homes, Lane, cell_of, LaneOk, OutOk, InOk, number, Kept, PartOk, Ruled}
+use Rattle.fab_table.specs.Rule.{free, IsCell, IsBuf, Lane, OutOk, InOk, number, Kept, PartOk, Ruled}
 use Rattle.fab_table.proofs.Rows.{at_end, pick, pair_below}
 use Rattle.fab_table.proofs.Stays.{mine}
 
@@ -124,16 +124,16 @@ cuts k id v s r at = let new : ℕ = length (set s.views id (but_first v)) in le
     let spot : ℕ → ℕ × ℕ = λ m. cut_at id new (r.spot m).0 (r.spot m).1 in let go : (a b : ℕ) (p : Part) → PartOk n k.room k.pool r.lane r.spot a b p → spot p.me ≡ cut_at id new a b = λ a b p ok i. cut_at id new (ok.seated i).0 (ok.seated i).1 in
     let Fine : ℕ → ℕ → Part → Type 0 = PartOk n k.room k.pool r.lane spot in
     reviewed k s r (set s.views id (but_first v) ++ only_first v ∷ []) spot (λ j u e. ⊎_elim
-      (λ o. ⊎_elim
-        (λ t. subst (λ (z : ℕ × View). (i : ℕ) → i < length z.1.parts → Fine z.0 i (part_at z.1 i)) (λ a. (sym t.0 a, t.1 a))
-          (λ i near. let f = after_first v.parts i d near in let ok = r.each_part id v at (suc i) f.0 in
-            subst (Fine id i) f.1 (reseated n k.room k.pool r.lane r.spot spot id (suc i) id i (part_at v (suc i)) ok (go id (suc i) (part_at v (suc i)) ok ∙ cut_next id new i))))
-        (λ t i near. let ok = r.each_part j u t.1 i near in reseated n k.room k.pool r.lane r.spot spot j i j i (part_at u i) ok (go j i (part_at u i) ok ∙ cut_else id new j i t.0))
-        (at_set s.views id j (but_first v) u o))
-      (λ o. subst (λ (z : ℕ × View). (i : ℕ) → i < length z.1.parts → Fine z.0 i (part_at z.1 i)) (λ a. (sym o.0 a, o.1 a))
-        (λ i near. let f = the_first v.parts i d near in let ok = r.each_part id v at 0 f.1 in
-          subst (λ (z : ℕ × Part). Fine new z.0 z.1) (λ a. (sym f.0 a, f.2 a)) (reseated n k.room k.pool r.lane r.spot spot id 0 new 0 (part_at v 0) ok (go id 0 (part_at v 0) ok ∙ cut_first id new))))
-      (at_end (set s.views id (but_first v)) (only_first v) u j e))
+    (λ o. ⊎_elim
+    (λ t. subst (λ (z : ℕ × View). (i : ℕ) → i < length z.1.parts → Fine z.0 i (part_at z.1 i)) (λ a. (sym t.0 a, t.1 a))
+    (λ i near. let f = after_first v.parts i d near in let ok = r.each_part id v at (suc i) f.0 in
+    subst (Fine id i) f.1 (reseated n k.room k.pool r.lane r.spot spot id (suc i) id i (part_at v (suc i)) ok (go id (suc i) (part_at v (suc i)) ok ∙ cut_next id new i))))
+    (λ t i near. let ok = r.each_part j u t.1 i near in reseated n k.room k.pool r.lane r.spot spot j i j i (part_at u i) ok (go j i (part_at u i) ok ∙ cut_else id new j i t.0))
+    (at_set s.views id j (but_first v) u o))
+    (λ o. subst (λ (z : ℕ × View). (i : ℕ) → i < length z.1.parts → Fine z.0 i (part_at z.1 i)) (λ a. (sym o.0 a, o.1 a))
+    (λ i near. let f = the_first v.parts i d near in let ok = r.each_part id v at 0 f.1 in
+    subst (λ (z : ℕ × Part). Fine new z.0 z.1) (λ a. (sym f.0 a, f.2 a)) (reseated n k.room k.pool r.lane r.spot spot id 0 new 0 (part_at v 0) ok (go id 0 (part_at v 0) ok ∙ cut_first id new))))
+    (at_end (set s.views id (but_first v)) (only_first v) u j e))
 
 -- two seats are joined
 pub joins_parts : (k : Layout) (id : ℕ) (v : View) (other : ℕ) (w : View) → Joins (Ruled k) id v other w (both v w) nobody
@@ -143,17 +143,17 @@ joins_parts k id v other w s r at two at' = let long : ℕ = length v.parts in l
     let Fine : ℕ → ℕ → Part → Type 0 = PartOk n k.room k.pool r.lane spot in let theirs : get_elem? s.views other ≡ some w = sym (set_else s.views id other (both v w) two) ∙ at' in
     let stays : (a b : ℕ) (p : Part) → a ≢ other → PartOk n k.room k.pool r.lane r.spot a b p → Fine a b p = λ a b p ne ok. reseated n k.room k.pool r.lane r.spot spot a b a b p ok (go a b p ok ∙ pick_no (ℕ_discrete a other) (id, long + b) (a, b) ne) in
     reviewed k s r (set vs other nobody) spot (λ j u e. ⊎_elim
-      (λ t. subst (λ (z : View). (i : ℕ) → i < length z.parts → Fine j i (part_at z i)) t.1 (λ i near. absurd (let no : i < 0 = near in omega arith)))
-      (λ t. ⊎_elim
-        (λ o. subst (λ (z : ℕ × View). (i : ℕ) → i < length z.1.parts → Fine z.0 i (part_at z.1 i)) (λ a. (sym o.0 a, o.1 a))
-          (λ i near. dite (dec_lt i long)
-            (λ low. subst (Fine id i) (in_front v.parts w.parts i d low) (stays id i (part_at v i) (λ h. two (sym h)) (r.each_part id v at i low)))
-            (λ high. let f = behind_it v.parts w.parts i d (let g : length v.parts ≤ i = omega arith in g) near in let ok = r.each_part other w theirs f.0 f.2 in
-              subst (λ (z : ℕ × Part). Fine id z.0 z.1) (λ a. (sym f.1 a, f.3 a))
-                (reseated n k.room k.pool r.lane r.spot spot other f.0 id (long + f.0) (part_at w f.0) ok (go other f.0 (part_at w f.0) ok ∙ pick_yes (ℕ_discrete other other) (id, long + f.0) (other, f.0) refl)))))
-        (λ o i near. stays j i (part_at u i) t.0 (r.each_part j u o.1 i near))
-        (at_set s.views id j (both v w) u t.1))
-      (at_set vs other j nobody u e))
+    (λ t. subst (λ (z : View). (i : ℕ) → i < length z.parts → Fine j i (part_at z i)) t.1 (λ i near. absurd (let no : i < 0 = near in omega arith)))
+    (λ t. ⊎_elim
+    (λ o. subst (λ (z : ℕ × View). (i : ℕ) → i < length z.1.parts → Fine z.0 i (part_at z.1 i)) (λ a. (sym o.0 a, o.1 a))
+    (λ i near. dite (dec_lt i long)
+    (λ low. subst (Fine id i) (in_front v.parts w.parts i d low) (stays id i (part_at v i) (λ h. two (sym h)) (r.each_part id v at i low)))
+    (λ high. let f = behind_it v.parts w.parts i d (let g : length v.parts ≤ i = omega arith in g) near in let ok = r.each_part other w theirs f.0 f.2 in
+    subst (λ (z : ℕ × Part). Fine id z.0 z.1) (λ a. (sym f.1 a, f.3 a))
+    (reseated n k.room k.pool r.lane r.spot spot other f.0 id (long + f.0) (part_at w f.0) ok (go other f.0 (part_at w f.0) ok ∙ pick_yes (ℕ_discrete other other) (id, long + f.0) (other, f.0) refl)))))
+    (λ o i near. stays j i (part_at u i) t.0 (r.each_part j u o.1 i near))
+    (at_set s.views id j (both v w) u t.1))
+    (at_set vs other j nobody u e))
 
 abbrev empty_lane : Lane
 empty_lane = record { posted = []; got = 0; writing = false; opened = None; claim = None; lent = false }
@@ -216,7 +216,7 @@ starts k ws xs pos wide zeros long d₀ cells bufs = let n : ℕ = k.peers in le
   };
   each_part = λ j v e. ⊎_elim (λ o. absurd (some-ne-none v (sym o)))
       (λ o. subst (λ (z : ℕ × View). (i : ℕ) → i < length z.1.parts → PartOk n room pool (λ _. empty_lane) (λ m. (0, m)) z.0 i (part_at z.1 i)) (λ a. (sym o.0 a, o.1 a))
-        (λ i near. let t = parts_at n room pool 0 n i (new_part 0 0 0 0) near in subst (PartOk n room pool (λ _. empty_lane) (λ m. (0, m)) 0 i) (ap (new_part n room pool) (let g : i ≡ 0 + i = omega arith in g) ∙ t.1) (new_ok n room pool i t.0)))
+      (λ i near. let t = parts_at n room pool 0 n i (new_part 0 0 0 0) near in subst (PartOk n room pool (λ _. empty_lane) (λ m. (0, m)) 0 i) (ap (new_part n room pool) (let g : i ≡ 0 + i = omega arith in g) ∙ t.1) (new_ok n room pool i t.0)))
       (at_end [] (everyone n room pool) v j e);
   pools = record {
     each_place = λ q near. let big : ℕ = n * n * room in let t : ℕ = n * pool in let e : length xs ≡ big + t = long in let lt : q < t = near in let within : big + q < length xs = omega arith in (zeros (pool_word n q), (get_or xs (big + q) d₀, bufs (big + q) (omega arith) (omega arith), there_or xs (big + q) d₀ within));
@@ -240,8 +240,11 @@ learns k slots id me w s r wide at small = let v : View = me.0 in let x : ℕ = 
   tt,
   subst (λ (ws : List ℕ). Ruled k record { words = ws; homes = s.homes; views = set s.views id v }) (sym same)
       (subst (λ (vs : List View). Ruled k record { words = s.words; homes = s.homes; views = vs }) (sym (set_again s.views id v at)) r),
-  (refl, (λ a near. (mine k s r id v at a near).kept),
-  λ a b near near'. let p : Part = part_at v a in let q : Part = part_at v b in let f = mine k s r id v at a near in let g = mine k s r id v at b near' in
-      let out = f.outs q.me g.below in let got = g.ins p.me f.below in let lane : Lane = r.lane (lane_of n p.me q.me) in
-      subst (λ (z : List Sent × List Sent). IsPrefix z.0 z.1) (λ i. (sym got.0 i, sym out.0 i)) (drop lane.got lane.posted, take-append-drop lane.got lane.posted)),
+  (
+    refl,
+    (λ a near. (mine k s r id v at a near).kept),
+    λ a b near near'. let p : Part = part_at v a in let q : Part = part_at v b in let f = mine k s r id v at a near in let g = mine k s r id v at b near' in
+        let out = f.outs q.me g.below in let got = g.ins p.me f.below in let lane : Lane = r.lane (lane_of n p.me q.me) in
+        subst (λ (z : List Sent × List Sent). IsPrefix z.0 z.1) (λ i. (sym got.0 i, sym out.0 i)) (drop lane.got lane.posted, take-append-drop lane.got lane.posted),
+  ),
 )

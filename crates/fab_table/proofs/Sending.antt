@@ -1,37 +1,36 @@
 -- Each kind of step of a sender keeps the rule.
-use Rattle.std.proofs.Common.{◌≡◌, ℕ, zero, suc, ◌+◌, ◌*◌, ◌%◌, ◌<◌, ◌≤◌, ◌≢◌, ◌⊎◌, inl, inr, ⊎_elim, Bool, true, false, true≢false, List, [], ◌∷◌, ◌++◌, length, take, get_or, set, sym, refl, ap, ap₂, eqb, ◌∙◌, subst, le_refl, arith, length-append, length-set, get_or-set_other, get_or-set_same, mod-lt}
+use Rattle.std.proofs.Common.{◌≡◌, ℕ, ◌+◌, ◌*◌, ◌%◌, ◌<◌, ◌≤◌, ◌≢◌, ◌⊎◌, inl, inr, ⊎_elim, true, false, true≢false, List, [], ◌∷◌, ◌++◌, length, get_or, set, sym, refl, ap, eqb, ◌∙◌, subst, le_refl, arith, length-append, length-set, get_or-set_other, get_or-set_same, mod-lt}
 use mathlib.Core.Logic.{dite}
 use mathlib.Core.Option.{some, none, some-injective, some-ne-none}
 use mathlib.Core.Option as maybe
 use native.Mathlib.Decide.{dec_lt}
 use lib.ListN.{get_elem?}
 use prog.Atomic.{either}
-use lib.Seq.{set_comm, set-get_or, length-take-le, take-append-le}
-use Rattle.std.specs.Prelude.{Option, Some, None}
-use Rattle.std.proofs.lemmas.Option.{none-some, same_Some}
-use Rattle.atomic_table.specs.Table.{State, step, keeps, takes, gives, chain, stepped, rest, put_back, Allows, Act, Valid, carried_after}
+use lib.Seq.{set_comm, set-get_or, take-append-le}
+use Rattle.std.specs.Prelude.{Some, None}
+use Rattle.std.proofs.lemmas.Option.{none-some}
+use Rattle.atomic_table.specs.Table.{step, keeps, takes, gives, chain, stepped, rest, put_back, Allows, Act, Valid, carried_after}
 use Rattle.atomic_table.proofs.Lists.{set_else, set_here, exchanged}
 use Rattle.fab_wire.specs.declared.moves.Move.{Move}
-use Rattle.fab_wire.specs.declared.moves.Move.TheVariants.{Post, Take}
-use Rattle.fab_wire.specs.Frames.{last_head, MayCome, IsLane}
+use Rattle.fab_wire.specs.declared.moves.Move.TheVariants.{Post}
+use Rattle.fab_wire.specs.Frames.{last_head, MayCome}
 use Rattle.fab_table.specs.declared.kinds.Command.{Command}
 use Rattle.fab_table.specs.declared.kinds.Sent.{Sent}
 use Rattle.fab_table.specs.declared.kinds.Layout.{Layout}
 use Rattle.fab_table.specs.declared.kinds.Slot.{Slot}
 use Rattle.fab_table.specs.declared.kinds.Slot.TheVariants.{Cell, Pool}
 use Rattle.fab_table.specs.declared.kinds.Out.{Out}
-use Rattle.fab_table.specs.declared.kinds.In.{In}
 use Rattle.fab_table.specs.declared.kinds.Part.{Part}
 use Rattle.fab_table.specs.declared.kinds.View.{View}
-use Rattle.fab_table.specs.Views.{frames_of, claimed_one, refused_one, freed_one, left_one, shut_one, pool_word, pool_home, has_slot, part_at, out_at, in_at, with_part, with_out, with_in, saw_full, saw_room, posted_one, saw_empty, saw_frame, taken_one, lane_of, put_word, got_word}
-use Rattle.fab_table.specs.Rule.{IsCell, CellAt, said_inline, said_pooled, Says, SaidAt, Fills, FilledAt, IsBuf, IsShort, greatest, Place, sent, claimed, free, PlaceOk, Pools, Homes, Lane, cell_of, LaneOk, OutOk, InOk, PartOk, Ruled}
-use Rattle.fab_table.specs.Plays.{claims, frees_pool, ClaimsAt, FreesAt, leaves, shuts, shuts_pooled, posts_pooled, claim_view, refuse_view, free_view, shut_view, slot_home, most, Sat, out_lane, in_lane, next_cell, oldest_cell, new_out_view, new_in_view, post_view, take_view, SawGot, saw_got, posts, Opens, SawPut, saw_put, takes_frame}
-use Rattle.fab_table.proofs.Rows.{put, at_lt, at_some, take_next, pair_once, pair_below}
-use Rattle.fab_table.proofs.Cells.{stays, with_writing, with_opened, with_post, with_take, reserves, joins, opens, frees, closes, returns}
-use Rattle.fab_table.proofs.Orders.{kept_out, kept_in, kept_post, kept_take}
-use Rattle.fab_table.proofs.Pooled.{lane_at, with_claim, with_lent, pools_look, pools_post, pools_post_slot, pools_open, pools_open_slot, pools_take, pools_claim, pools_free, pools_shut, pools_shut_pooled}
-use Rattle.fab_table.proofs.Stays.{Elsewhere, mine, out_moves, in_moves}
-use Rattle.fab_table.proofs.Places.{one_slot, no_slot, put_too, got_too, pool_same, word_same, same_out, same_in, rewritten, cell_apart, reclaimed}
+use Rattle.fab_table.specs.Views.{frames_of, claimed_one, refused_one, left_one, pool_word, pool_home, part_at, out_at, saw_full, saw_room, posted_one, lane_of, put_word, got_word}
+use Rattle.fab_table.specs.Rule.{IsCell, CellAt, said_inline, said_pooled, Fills, IsBuf, greatest, Place, sent, claimed, free, PlaceOk, Homes, Lane, cell_of, LaneOk, Ruled}
+use Rattle.fab_table.specs.Plays.{claims, ClaimsAt, leaves, posts_pooled, claim_view, slot_home, most, Sat, out_lane, next_cell, new_out_view, post_view, SawGot, saw_got, posts}
+use Rattle.fab_table.proofs.Rows.{put, pair_once, pair_below}
+use Rattle.fab_table.proofs.Cells.{stays, with_writing, with_post, reserves, joins, returns}
+use Rattle.fab_table.proofs.Orders.{kept_out, kept_post}
+use Rattle.fab_table.proofs.Pooled.{with_claim, pools_look, pools_post, pools_post_slot, pools_claim}
+use Rattle.fab_table.proofs.Stays.{mine, out_moves}
+use Rattle.fab_table.proofs.Places.{one_slot, no_slot, put_too, pool_same, word_same, same_out, rewritten, cell_apart, reclaimed}
 
 the_command : (y : Slot) → IsCell y → (c : Command) × (y ≡ Cell c)
 the_command (Cell c) e = (c, refl)
@@ -68,30 +67,30 @@ looks_got k slots id me w i d near low is idle s r wide at small =
     let long : length o.posted ≡ length lane.posted = ap length x.0 in let room_is : p.room ≡ room = known.wide in let c : ℕ = length lane.posted in
     let closed : lane.writing ≡ false = sym x.2 ∙ idle in let same : set s.words w g ≡ s.words = set-get_or s.words w 0 in
     let told : (n' : Sat) → SawGot me g n' i d → saw_got (step slots w 0 0 none) me g n' = λ n' one i' d' near' lower e. let h : out_lane v i' d' ≡ out_lane v i d = (let q : got_word (out_lane v i' d') ≡ got_word (out_lane v i d) = sym e ∙ is in omega arith) in
-        let both = same_out k s r id v at i d i' d' near near' low lower h in subst (λ (z : ℕ × ℕ). SawGot me g n' z.0 z.1) (λ a. (sym both.0 a, sym both.1 a)) one in
+    let both = same_out k s r id v at i d i' d' near near' low lower h in subst (λ (z : ℕ × ℕ). SawGot me g n' z.0 z.1) (λ a. (sym both.0 a, sym both.1 a)) one in
     let within_outs : d < length p.outs = subst (λ (z : ℕ). d < z) (sym known.all_outs) low' in
     let refuse : ((g + p.room ≤ length o.posted) ⊎ (most ≤ greatest 0 p.moves)) → (nw : View) × (a : Act Slot) × Valid s.homes me.1 a × Ruled k (stepped s w g id me.1 nw a) × saw_got (step slots w 0 0 none) me g (nw, carried_after me.1 a) = λ why. let o' : Out = saw_full o g in (
-          new_out_view v i d o',
-          keeps,
-          tt,
-          subst (λ (ws : List ℕ). Ruled k record { words = ws; homes = s.homes; views = set s.views id (new_out_view v i d o') }) (sym same)
-            (out_moves k s r id v at i near d (with_writing lane lane.writing) o' p.moves s.words s.homes r.place (pools_look n room k.pool r.lane r.place s.words s.homes r.pools p.me d known.below low' lane.writing s.words s.homes (λ q. refl) (λ q. refl)) low' refl refl (no_slot k s r l) (rewritten room (l * room) (get_or s.words (put_word l) 0) (get_or s.words (got_word l) 0) s.homes lane ok) (x.0, (let q : g ≤ lane.got = omega arith in q), x.2, x.3) (λ u h. h) (kept_out p known.kept d o' within_outs refl)),
-          told _ (omega arith, omega arith, (λ _. refl), (λ space few. absurd (⊎_elim (λ q. omega arith) (λ q. omega arith) why))),
-        ) in
+      new_out_view v i d o',
+      keeps,
+      tt,
+      subst (λ (ws : List ℕ). Ruled k record { words = ws; homes = s.homes; views = set s.views id (new_out_view v i d o') }) (sym same)
+          (out_moves k s r id v at i near d (with_writing lane lane.writing) o' p.moves s.words s.homes r.place (pools_look n room k.pool r.lane r.place s.words s.homes r.pools p.me d known.below low' lane.writing s.words s.homes (λ q. refl) (λ q. refl)) low' refl refl (no_slot k s r l) (rewritten room (l * room) (get_or s.words (put_word l) 0) (get_or s.words (got_word l) 0) s.homes lane ok) (x.0, (let q : g ≤ lane.got = omega arith in q), x.2, x.3) (λ u h. h) (kept_out p known.kept d o' within_outs refl)),
+      told _ (omega arith, omega arith, (λ _. refl), (λ space few. absurd (⊎_elim (λ q. omega arith) (λ q. omega arith) why))),
+    ) in
     dite (dec_lt (greatest 0 p.moves) most) (λ few. dite (dec_lt c (lane.got + room))
-      (λ space. let y : (c₁ : Command) × (get_elem? s.homes (cell_of (l * room) room c) ≡ some (some (Cell c₁))) = the_cell (get_elem? s.homes (cell_of (l * room) room c)) (⊎_elim (λ q. absurd (true≢false (sym q.1 ∙ closed))) (λ h. h) (ok.free c (le_refl c) space)) in
-        let o' : Out = saw_room o g in let slot : ℕ = cell_of (l * room) room c in let hs : Homes = set s.homes slot none in
-        let here : slot ≡ next_cell v i d = λ a. cell_of (lane_of (sym known.peers a) p.me d * sym room_is a) (sym room_is a) (sym long a) in (
-          new_out_view v i d o',
-          takes slot (Cell y.0),
-          y.1,
-          subst (λ (ws : List ℕ). Ruled k record { words = ws; homes = hs; views = set s.views id (new_out_view v i d o') }) (sym same)
-            (out_moves k s r id v at i near d (with_writing lane true) o' p.moves s.words hs r.place (pools_look n room k.pool r.lane r.place s.words s.homes r.pools p.me d known.below low' true s.words hs (λ q. refl) (pool_same k s r l (c % room) none (pair_below n n p.me d known.below low') (mod-lt c r.some_room))) low' refl (length-set s.homes slot none) (one_slot k s r l (c % room) none hs (mod-lt c r.some_room) refl)
-              (reserves room (l * room) (get_or s.words (put_word l) 0) (get_or s.words (got_word l) 0) s.homes lane ok space)
-              (x.0, (let q : g ≤ lane.got = omega arith in q), refl, x.3) (λ u h. h) (kept_out p known.kept d o' within_outs refl)),
-          told _ (omega arith, omega arith, (λ why. absurd (⊎_elim (λ q. omega arith) (λ q. omega arith) why)), (λ _ _. (y.0, λ a. (new_out_view v i d o', (here a, Cell y.0) ∷ me.1)))),
-        ))
-      (λ full. refuse (inl (omega arith)))) (λ many. refuse (inr (omega arith)))
+    (λ space. let y : (c₁ : Command) × (get_elem? s.homes (cell_of (l * room) room c) ≡ some (some (Cell c₁))) = the_cell (get_elem? s.homes (cell_of (l * room) room c)) (⊎_elim (λ q. absurd (true≢false (sym q.1 ∙ closed))) (λ h. h) (ok.free c (le_refl c) space)) in
+    let o' : Out = saw_room o g in let slot : ℕ = cell_of (l * room) room c in let hs : Homes = set s.homes slot none in
+    let here : slot ≡ next_cell v i d = λ a. cell_of (lane_of (sym known.peers a) p.me d * sym room_is a) (sym room_is a) (sym long a) in (
+      new_out_view v i d o',
+      takes slot (Cell y.0),
+      y.1,
+      subst (λ (ws : List ℕ). Ruled k record { words = ws; homes = hs; views = set s.views id (new_out_view v i d o') }) (sym same)
+          (out_moves k s r id v at i near d (with_writing lane true) o' p.moves s.words hs r.place (pools_look n room k.pool r.lane r.place s.words s.homes r.pools p.me d known.below low' true s.words hs (λ q. refl) (pool_same k s r l (c % room) none (pair_below n n p.me d known.below low') (mod-lt c r.some_room))) low' refl (length-set s.homes slot none) (one_slot k s r l (c % room) none hs (mod-lt c r.some_room) refl)
+          (reserves room (l * room) (get_or s.words (put_word l) 0) (get_or s.words (got_word l) 0) s.homes lane ok space)
+          (x.0, (let q : g ≤ lane.got = omega arith in q), refl, x.3) (λ u h. h) (kept_out p known.kept d o' within_outs refl)),
+      told _ (omega arith, omega arith, (λ why. absurd (⊎_elim (λ q. omega arith) (λ q. omega arith) why)), (λ _ _. (y.0, λ a. (new_out_view v i d o', (here a, Cell y.0) ∷ me.1)))),
+    ))
+    (λ full. refuse (inl (omega arith)))) (λ many. refuse (inr (omega arith)))
 
 -- a frame is published
 pub posts_one : (k : Layout) (slots id : ℕ) (me : Sat) (w i d new : ℕ) (c₀ : Command) → i < length me.0.parts → d < (part_at me.0 i).peers → w ≡ put_word (out_lane me.0 i d) → (out_at (part_at me.0 i) d).writing ≡ true
@@ -114,19 +113,19 @@ posts_one k slots id me w i d new c₀ near low is hand up next idle inline come
     let second : get_or ws (got_word l) 0 ≡ got = get_or-set_other s.words w (got_word l) new 0 (λ e. omega arith) in
     let within_outs : d < length p.outs = subst (λ (z : ℕ). d < z) (sym known.all_outs) low' in
     let after : Ruled k record { words = ws; homes = hs; views = set s.views id (post_view v i d x) } =
-        out_moves k s r id v at i near d (with_post lane x) o' ms ws hs r.place (pools_post n room k.pool r.lane r.place s.words s.homes r.pools p.me d known.below low' x ws hs (word_same k s r l w new below (omega arith)) (pool_same k s r l (c % room) y below c_near) (sym f.3 ∙ idle) refl ok.behind) low' (length-set s.words w new) (length-set s.homes slot y) (put_too k s r l (c % room) w new y hs word c_near refl)
-        (subst (λ (z : ℕ × ℕ). LaneOk room (l * room) z.0 z.1 hs (with_post lane x)) (λ a. (sym first a, sym second a)) joined)
-        ((λ a. f.0 a ++ x ∷ []), f.1, refl, refl)
-        (λ u h. let b = h.1 in let le = ok.behind in (h.0 ∙ sym (take-append-le lane.got lane.posted (x ∷ []) le), (let e = length-append lane.posted (x ∷ []) in omega arith), h.2, h.3))
-        (kept_post p known.kept d x within_outs next) in (
+    out_moves k s r id v at i near d (with_post lane x) o' ms ws hs r.place (pools_post n room k.pool r.lane r.place s.words s.homes r.pools p.me d known.below low' x ws hs (word_same k s r l w new below (omega arith)) (pool_same k s r l (c % room) y below c_near) (sym f.3 ∙ idle) refl ok.behind) low' (length-set s.words w new) (length-set s.homes slot y) (put_too k s r l (c % room) w new y hs word c_near refl)
+    (subst (λ (z : ℕ × ℕ). LaneOk room (l * room) z.0 z.1 hs (with_post lane x)) (λ a. (sym first a, sym second a)) joined)
+    ((λ a. f.0 a ++ x ∷ []), f.1, refl, refl)
+    (λ u h. let b = h.1 in let le = ok.behind in (h.0 ∙ sym (take-append-le lane.got lane.posted (x ∷ []) le), (let e = length-append lane.posted (x ∷ []) in omega arith), h.2, h.3))
+    (kept_post p known.kept d x within_outs next) in (
       post_view v i d x,
       gives,
       tt,
       subst (λ (cs : List (ℕ × Slot)). Ruled k (stepped s w new id cs (post_view v i d x) gives)) (sym carried)
-        (subst (λ (z : ℕ). Ruled k record { words = ws; homes = set s.homes z y; views = set s.views id (post_view v i d x) }) (sym here) after),
+          (subst (λ (z : ℕ). Ruled k record { words = ws; homes = set s.homes z y; views = set s.views id (post_view v i d x) }) (sym here) after),
       λ i' d' x' near' lower e carried'. let h : out_lane v i' d' ≡ out_lane v i d = (let q : put_word (out_lane v i' d') ≡ put_word (out_lane v i d) = sym e ∙ is in omega arith) in
-        let both = same_out k s r id v at i d i' d' near near' low lower h in let same : c₀ ≡ x' = ap (command_in c₀) (sym carried ∙ carried') in
-        λ a. (post_view v (sym both.0 a) (sym both.1 a) (said_inline (same a)), rest me.1),
+          let both = same_out k s r id v at i d i' d' near near' low lower h in let same : c₀ ≡ x' = ap (command_in c₀) (sym carried ∙ carried') in
+          λ a. (post_view v (sym both.0 a) (sym both.1 a) (said_inline (same a)), rest me.1),
     )
 
 -- a slot whose word is 0 is free, and at home
@@ -159,21 +158,21 @@ posts_pooled_one k slots id me w i d new q c₀ b more near low is hand up next 
     let second : get_or ws (got_word l) 0 ≡ got = get_or-set_other s.words w (got_word l) new 0 (λ e. omega arith) in
     let within_outs : d < length p.outs = subst (λ (z : ℕ). d < z) (sym known.all_outs) low' in
     let after : Ruled k record { words = ws; homes = hs; views = set s.views id (post_view v i d x) } =
-        out_moves k s r id v at i near d (with_post lane x) o' ms ws hs (put r.place q (sent p.me d c)) (pools_post_slot n room k.pool r.lane r.place s.words s.homes r.pools p.me d known.below low' x q (Pool b) ws hs (word_same k s r l w new below (omega arith))
-          (λ q' ne. set_else hs₁ ph (pool_home n room q') (some (Pool b)) (λ e. ne (omega arith)) ∙ pool_same k s r l (c % room) y below c_near q') (set_here hs₁ ph (some (Pool b)) pool_inside) fits (sym f.3 ∙ held) large ok.behind ok.open_is) low' (length-set s.words w new) (length-set hs₁ ph (some (Pool b)) ∙ length-set s.homes slot y) (e₁.0, λ m e low₂ ne near₂. set_else hs₁ ph (m * room + e) (some (Pool b)) (cell_apart n room m e q low₂ near₂) ∙ e₁.1 m e low₂ ne near₂)
-        (subst (λ (z : ℕ × ℕ). LaneOk room (l * room) z.0 z.1 hs (with_post lane x)) (λ a. (sym first a, sym second a)) joined)
-        ((λ a. f.0 a ++ x ∷ []), f.1, refl, refl)
-        (λ u h. let b = h.1 in let le = ok.behind in (h.0 ∙ sym (take-append-le lane.got lane.posted (x ∷ []) le), (let e = length-append lane.posted (x ∷ []) in omega arith), h.2, h.3))
-        (kept_post p known.kept d x within_outs next) in (
+    out_moves k s r id v at i near d (with_post lane x) o' ms ws hs (put r.place q (sent p.me d c)) (pools_post_slot n room k.pool r.lane r.place s.words s.homes r.pools p.me d known.below low' x q (Pool b) ws hs (word_same k s r l w new below (omega arith))
+    (λ q' ne. set_else hs₁ ph (pool_home n room q') (some (Pool b)) (λ e. ne (omega arith)) ∙ pool_same k s r l (c % room) y below c_near q') (set_here hs₁ ph (some (Pool b)) pool_inside) fits (sym f.3 ∙ held) large ok.behind ok.open_is) low' (length-set s.words w new) (length-set hs₁ ph (some (Pool b)) ∙ length-set s.homes slot y) (e₁.0, λ m e low₂ ne near₂. set_else hs₁ ph (m * room + e) (some (Pool b)) (cell_apart n room m e q low₂ near₂) ∙ e₁.1 m e low₂ ne near₂)
+    (subst (λ (z : ℕ × ℕ). LaneOk room (l * room) z.0 z.1 hs (with_post lane x)) (λ a. (sym first a, sym second a)) joined)
+    ((λ a. f.0 a ++ x ∷ []), f.1, refl, refl)
+    (λ u h. let b = h.1 in let le = ok.behind in (h.0 ∙ sym (take-append-le lane.got lane.posted (x ∷ []) le), (let e = length-append lane.posted (x ∷ []) in omega arith), h.2, h.3))
+    (kept_post p known.kept d x within_outs next) in (
       post_view v i d x,
       chain gives gives,
       (tt, tt),
       subst (λ (cs : List (ℕ × Slot)). Ruled k (stepped s w new id cs (post_view v i d x) (chain gives gives))) (sym carried)
-        (subst (λ (z : ℕ × ℕ). Ruled k record { words = ws; homes = set (set s.homes z.1 (some (Pool b))) z.0 y; views = set s.views id (post_view v i d x) }) (λ a. (sym here a, pool_home (sym known.peers a) (sym room_is a) q))
+          (subst (λ (z : ℕ × ℕ). Ruled k record { words = ws; homes = set (set s.homes z.1 (some (Pool b))) z.0 y; views = set s.views id (post_view v i d x) }) (λ a. (sym here a, pool_home (sym known.peers a) (sym room_is a) q))
           (subst (λ (h : Homes). Ruled k record { words = ws; homes = h; views = set s.views id (post_view v i d x) }) (set_comm s.homes slot ph y (some (Pool b)) (cell_apart n room l (c % room) q below c_near)) after)),
       λ i' d' x' a' b' near' lower e carried'. let h : out_lane v i' d' ≡ out_lane v i d = (let q : put_word (out_lane v i' d') ≡ put_word (out_lane v i d) = sym e ∙ is in omega arith) in
-        let both = same_out k s r id v at i d i' d' near near' low lower h in let same : c₀ ≡ x' = ap (λ (z : List (ℕ × Slot)). command_in c₀ (rest z)) (sym carried ∙ carried') in let same_bytes : b ≡ b' = ap (buffer_in b) (sym carried ∙ carried') in
-        λ a. (post_view v (sym both.0 a) (sym both.1 a) (said_pooled (same a) (same_bytes a)), rest (rest me.1)),
+          let both = same_out k s r id v at i d i' d' near near' low lower h in let same : c₀ ≡ x' = ap (λ (z : List (ℕ × Slot)). command_in c₀ (rest z)) (sym carried ∙ carried') in let same_bytes : b ≡ b' = ap (buffer_in b) (sym carried ∙ carried') in
+          λ a. (post_view v (sym both.0 a) (sym both.1 a) (said_pooled (same a) (same_bytes a)), rest (rest me.1)),
     )
 
 -- a try on the slot q, at the i-th part and d
@@ -190,30 +189,30 @@ claims_slot k slots id me w i d j q new near low is low_q idle up s r wide at sm
     let lanes_words : (m : ℕ) (z : ℕ) → m < n * n → z ≤ m * 32 + 16 → z ≢ w = λ m z lt le e. let sq : ℕ = n * n in let lt' : m < sq = lt in let e' : w ≡ sq * 32 + q * 16 = word in omega arith in
     exchanged found 0 new (λ z. (nw : View) × (a : Act Slot) × Valid s.homes me.1 a × Ruled k (stepped s w z id me.1 nw a) × ClaimsAt me found (nw, carried_after me.1 a) i d j q)
     (λ hit. let b = free_home n r.lane q (get_or s.words (pool_word n q) 0) (get_elem? s.homes ph) (r.place q) (sym found_is ∙ hit) (r.pools.each_place q low_q) in
-      let hs : Homes = set s.homes ph none in let ws : List ℕ = set s.words w new in let o' : Out = claimed_one o q in let x : Lane = with_claim lane (Some q) in
-      let same_put = get_or-set_other s.words w (put_word l) new 0 (lanes_words l (put_word l) below (omega arith)) in let same_got = get_or-set_other s.words w (got_word l) new 0 (lanes_words l (got_word l) below (omega arith)) in (
-        claim_view v i d q,
-        takes ph b.1.0,
-        b.1.2,
-        out_moves k s r id v at i near d x o' p.moves ws hs (put r.place q (claimed p.me d))
+    let hs : Homes = set s.homes ph none in let ws : List ℕ = set s.words w new in let o' : Out = claimed_one o q in let x : Lane = with_claim lane (Some q) in
+    let same_put = get_or-set_other s.words w (put_word l) new 0 (lanes_words l (put_word l) below (omega arith)) in let same_got = get_or-set_other s.words w (got_word l) new 0 (lanes_words l (got_word l) below (omega arith)) in (
+      claim_view v i d q,
+      takes ph b.1.0,
+      b.1.2,
+      out_moves k s r id v at i near d x o' p.moves ws hs (put r.place q (claimed p.me d))
           (pools_claim n room k.pool r.lane r.place s.words s.homes r.pools p.me d known.below low' q ws hs low_q (λ q' ne. get_or-set_other s.words w (pool_word n q') new 0 (λ e. ne (omega arith)))
-            (λ q' ne. set_else s.homes ph (pool_home n room q') none (λ e. ne (omega arith))) ((λ a. get_or ws (sym word a) 0) ∙ get_or-set_same s.words w new 0 word_inside ∙ up) b.0 (sym f.3 ∙ idle))
+          (λ q' ne. set_else s.homes ph (pool_home n room q') none (λ e. ne (omega arith))) ((λ a. get_or ws (sym word a) 0) ∙ get_or-set_same s.words w new 0 word_inside ∙ up) b.0 (sym f.3 ∙ idle))
           low' (length-set s.words w new) (length-set s.homes ph none)
           ((λ m lt ne. (get_or-set_other s.words w (put_word m) new 0 (lanes_words m (put_word m) lt (omega arith)), get_or-set_other s.words w (got_word m) new 0 (lanes_words m (got_word m) lt (omega arith)))), λ m e lt ne near₂. set_else s.homes ph (m * room + e) none (cell_apart n room m e q lt near₂))
           (subst (λ (z : ℕ × ℕ). LaneOk room (l * room) z.0 z.1 hs x) (λ a. (sym same_put a, sym same_got a))
-            (reclaimed room (l * room) (get_or s.words (put_word l) 0) (get_or s.words (got_word l) 0) hs lane (Some q) lane.lent (stays room (l * room) (get_or s.words (put_word l) 0) (get_or s.words (got_word l) 0) s.homes hs lane (λ e. set_else s.homes ph (cell_of (l * room) room e) none (cell_apart n room l (e % room) q below (mod-lt e r.some_room))) ok)))
+          (reclaimed room (l * room) (get_or s.words (put_word l) 0) (get_or s.words (got_word l) 0) hs lane (Some q) lane.lent (stays room (l * room) (get_or s.words (put_word l) 0) (get_or s.words (got_word l) 0) s.homes hs lane (λ e. set_else s.homes ph (cell_of (l * room) room e) none (cell_apart n room l (e % room) q below (mod-lt e r.some_room))) ok)))
           (f.0, f.1, f.2, refl) (λ u h. h) (kept_out p known.kept d o' within_outs refl),
-        ((λ _. (b.1.0, b.1.1, λ a. (claim_view v i d q, (sym there a, b.1.0) ∷ me.1))), λ other. absurd (other hit)),
-      ))
+      ((λ _. (b.1.0, b.1.1, λ a. (claim_view v i d q, (sym there a, b.1.0) ∷ me.1))), λ other. absurd (other hit)),
+    ))
     (λ miss. let o' : Out = refused_one o j in (
-        new_out_view v i d o',
-        keeps,
-        tt,
-        subst (λ (ws : List ℕ). Ruled k record { words = ws; homes = s.homes; views = set s.views id (new_out_view v i d o') }) (sym (set-get_or s.words w 0))
+      new_out_view v i d o',
+      keeps,
+      tt,
+      subst (λ (ws : List ℕ). Ruled k record { words = ws; homes = s.homes; views = set s.views id (new_out_view v i d o') }) (sym (set-get_or s.words w 0))
           (out_moves k s r id v at i near d (with_writing lane lane.writing) o' p.moves s.words s.homes r.place (pools_look n room k.pool r.lane r.place s.words s.homes r.pools p.me d known.below low' lane.writing s.words s.homes (λ q. refl) (λ q. refl)) low' refl refl (no_slot k s r l)
-            (rewritten room (l * room) (get_or s.words (put_word l) 0) (get_or s.words (got_word l) 0) s.homes lane ok) f (λ u h. h) (kept_out p known.kept d o' within_outs refl)),
-        ((λ hit. absurd (miss hit)), λ _. refl),
-      ))
+          (rewritten room (l * room) (get_or s.words (put_word l) 0) (get_or s.words (got_word l) 0) s.homes lane ok) f (λ u h. h) (kept_out p known.kept d o' within_outs refl)),
+      ((λ hit. absurd (miss hit)), λ _. refl),
+    ))
 
 pub claims_play : (k : Layout) (slots id : ℕ) (me : Sat) (w i d j new : ℕ) → i < length me.0.parts → d < (part_at me.0 i).peers → j < (part_at me.0 i).pool → j < k.pool → (part_at me.0 i).pool ≡ k.pool → d < k.peers
     → w ≡ pool_word (part_at me.0 i).peers (d * (part_at me.0 i).pool + j) → (out_at (part_at me.0 i) d).claim ≡ None → new ≡ (part_at me.0 i).me + 1
@@ -226,12 +225,12 @@ claims_play k slots id me w i d j new near low near_j near_k same_pool low_k is 
       one.2,
       one.3,
       λ i' d' j' near' low₂ near_j' e e₂. let other = mine k s r id v at i' near' in let found : ℕ = get_or s.words w 0 in
-        let peer : (part_at v i').me ≡ p.me = let e₃ : new ≡ (part_at v i').me + 1 = e₂ in omega arith in let spot = ap (λ (z : ℕ × ℕ). z.1) (sym other.seated ∙ ap r.spot peer ∙ known.seated) in
-        let qs : d' * k.pool + j' ≡ d * k.pool + j = let a : d' * (part_at v i').pool + j' ≡ d' * k.pool + j' = ap (λ (z : ℕ). d' * z + j') other.pooled in let b : d * p.pool + j ≡ d * k.pool + j = ap (λ (z : ℕ). d * z + j) known.pooled in
+          let peer : (part_at v i').me ≡ p.me = let e₃ : new ≡ (part_at v i').me + 1 = e₂ in omega arith in let spot = ap (λ (z : ℕ × ℕ). z.1) (sym other.seated ∙ ap r.spot peer ∙ known.seated) in
+          let qs : d' * k.pool + j' ≡ d * k.pool + j = let a : d' * (part_at v i').pool + j' ≡ d' * k.pool + j' = ap (λ (z : ℕ). d' * z + j') other.pooled in let b : d * p.pool + j ≡ d * k.pool + j = ap (λ (z : ℕ). d * z + j) known.pooled in
           let f : pool_word k.peers (d' * (part_at v i').pool + j') ≡ pool_word k.peers q = ap (λ (z : ℕ). pool_word z (d' * (part_at v i').pool + j')) (sym other.peers) ∙ sym e ∙ is ∙ ap (λ (z : ℕ). pool_word z q) known.peers in
           let sq : ℕ = k.peers * k.peers in let x₁ : ℕ = d' * (part_at v i').pool + j' in let f' : sq * 32 + x₁ * 16 ≡ sq * 32 + q * 16 = f in let g : x₁ ≡ q = omega arith in sym a ∙ g ∙ b in
-        let both = pair_once k.pool d' j' d j (subst (λ (z : ℕ). j' < z) other.pooled near_j') near_k qs in
-        subst (λ (z : ℕ × ℕ × ℕ). ClaimsAt me found (one.0, carried_after me.1 one.1) z.0 z.1 z.2 (z.1 * (part_at v z.0).pool + z.2)) (λ a. (sym spot a, sym both.0 a, sym both.1 a)) one.4,
+          let both = pair_once k.pool d' j' d j (subst (λ (z : ℕ). j' < z) other.pooled near_j') near_k qs in
+          subst (λ (z : ℕ × ℕ × ℕ). ClaimsAt me found (one.0, carried_after me.1 one.1) z.0 z.1 z.2 (z.1 * (part_at v z.0).pool + z.2)) (λ a. (sym spot a, sym both.0 a, sym both.1 a)) one.4,
     )
 
 -- the cell goes back unused
@@ -249,15 +248,15 @@ leaves_one k slots id me w i d c₀ near low is hand carried s r wide at small =
     let inside : slot < length s.homes = let q : l * room + c % room < n * n * room = pair_below room (n * n) l (c % room) below c_near in let big : ℕ = n * n * room in let t : ℕ = n * k.pool in let e : length s.homes ≡ big + t = all_slots in let q' : slot < big = q in omega arith in
     let within_outs : d < length p.outs = subst (λ (z : ℕ). d < z) (sym known.all_outs) low' in
     let after : Ruled k record { words = s.words; homes = hs; views = set s.views id (new_out_view v i d o') } =
-        out_moves k s r id v at i near d (with_writing lane false) o' p.moves s.words hs r.place (pools_look n room k.pool r.lane r.place s.words s.homes r.pools p.me d known.below low' false s.words hs (λ q. refl) (pool_same k s r l (c % room) y below c_near)) low' refl (length-set s.homes slot y) (one_slot k s r l (c % room) y hs c_near refl)
-        (returns room (l * room) (get_or s.words (put_word l) 0) (get_or s.words (got_word l) 0) s.homes lane ok (Cell c₀) tt (sym f.2 ∙ hand) inside)
-        (f.0, f.1, refl, f.3) (λ u h. h) (kept_out p known.kept d o' within_outs refl) in (
+    out_moves k s r id v at i near d (with_writing lane false) o' p.moves s.words hs r.place (pools_look n room k.pool r.lane r.place s.words s.homes r.pools p.me d known.below low' false s.words hs (λ q. refl) (pool_same k s r l (c % room) y below c_near)) low' refl (length-set s.homes slot y) (one_slot k s r l (c % room) y hs c_near refl)
+    (returns room (l * room) (get_or s.words (put_word l) 0) (get_or s.words (got_word l) 0) s.homes lane ok (Cell c₀) tt (sym f.2 ∙ hand) inside)
+    (f.0, f.1, refl, f.3) (λ u h. h) (kept_out p known.kept d o' within_outs refl) in (
       new_out_view v i d o',
       gives,
       tt,
       subst (λ (ws : List ℕ). Ruled k record { words = ws; homes = put_back s.homes me.1; views = set s.views id (new_out_view v i d o') }) (sym same)
-        (subst (λ (cs : List (ℕ × Slot)). Ruled k record { words = s.words; homes = put_back s.homes cs; views = set s.views id (new_out_view v i d o') }) (sym carried)
+          (subst (λ (cs : List (ℕ × Slot)). Ruled k record { words = s.words; homes = put_back s.homes cs; views = set s.views id (new_out_view v i d o') }) (sym carried)
           (subst (λ (z : ℕ). Ruled k record { words = s.words; homes = set s.homes z y; views = set s.views id (new_out_view v i d o') }) (sym here) after)),
       λ i' d' near' lower e. let h : out_lane v i' d' ≡ out_lane v i d = (let q : got_word (out_lane v i' d') ≡ got_word (out_lane v i d) = sym e ∙ is in omega arith) in
-        let both = same_out k s r id v at i d i' d' near near' low lower h in λ a. (new_out_view v (sym both.0 a) (sym both.1 a) (left_one (out_at (part_at v (sym both.0 a)) (sym both.1 a))), rest me.1),
+          let both = same_out k s r id v at i d i' d' near near' low lower h in λ a. (new_out_view v (sym both.0 a) (sym both.1 a) (left_one (out_at (part_at v (sym both.0 a)) (sym both.1 a))), rest me.1),
     )

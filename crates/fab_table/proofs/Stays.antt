@@ -1,6 +1,6 @@
 -- What stays of the rule when one lane and one part move.
-use Rattle.std.proofs.Common.{◌≡◌, ℕ, zero, suc, ◌+◌, ◌*◌, ◌%◌, ◌<◌, ◌≤◌, ◌≢◌, ◌⊎◌, inl, inr, ⊎_elim, Bool, true, false, List, [], ◌∷◌, ◌++◌, length, take, get_or, set, sym, refl, ap, ◌∙◌, subst, arith, length-set, mod-lt}
-use mathlib.Core.Option.{some, none}
+use Rattle.std.proofs.Common.{◌≡◌, ℕ, ◌+◌, ◌*◌, ◌%◌, ◌<◌, ◌≢◌, ⊎_elim, List, length, get_or, set, sym, refl, ap, ◌∙◌, subst, arith, length-set, mod-lt}
+use mathlib.Core.Option.{some}
 use lib.ListN.{get_elem?}
 use Rattle.atomic_table.specs.Table.{State}
 use Rattle.atomic_table.proofs.Lists.{at_set}
@@ -12,8 +12,8 @@ use Rattle.fab_wire.specs.declared.moves.Move.{Move}
 use Rattle.fab_table.specs.declared.kinds.Part.{Part}
 use Rattle.fab_table.specs.declared.kinds.View.{View}
 use Rattle.fab_table.specs.Views.{new_part, new_out, new_in, part_at, out_at, in_at, with_part, with_out, with_in, lane_of, put_word, got_word}
-use Rattle.fab_table.specs.Rule.{Place, Pools, Homes, Lane, cell_of, LaneOk, OutOk, InOk, Kept, PartOk, Ruled}
-use Rattle.fab_table.proofs.Rows.{each_set, put, at_put, pair_once, pair_below}
+use Rattle.fab_table.specs.Rule.{Place, Pools, Homes, Lane, LaneOk, OutOk, InOk, Kept, PartOk, Ruled}
+use Rattle.fab_table.proofs.Rows.{each_set, put, at_put, pair_once}
 use Rattle.fab_table.proofs.Cells.{stays}
 
 abbrev pub St : Type 0
@@ -35,7 +35,7 @@ module _ (k : Layout) (s : St) (r : Ruled k s) where
       → (m : ℕ) → m < n * n → LaneOk room (m * room) (get_or ws (put_word m) 0) (get_or ws (got_word m) 0) hs (put r.lane l x m)
   lanes_after l x ws hs same ok m near = at_put r.lane l x (λ q y. q < n * n → LaneOk room (q * room) (get_or ws (put_word q) 0) (get_or ws (got_word q) 0) hs y) m (λ _. ok)
       (λ ne inside. subst (λ (z : ℕ × ℕ). LaneOk room (m * room) z.0 z.1 hs (r.lane m)) (λ i. (sym (same.0 m inside ne).0 i, sym (same.0 m inside ne).1 i))
-        (stays room (m * room) (get_or s.words (put_word m) 0) (get_or s.words (got_word m) 0) s.homes hs (r.lane m) (λ c. same.1 m (c % room) inside ne (mod-lt c r.some_room)) (r.each_lane m inside))) near
+      (stays room (m * room) (get_or s.words (put_word m) 0) (get_or s.words (got_word m) 0) s.homes hs (r.lane m) (λ c. same.1 m (c % room) inside ne (mod-lt c r.some_room)) (r.each_lane m inside))) near
 
   module _ (j : ℕ) (v : View) (at : get_elem? s.views j ≡ some v) (i : ℕ) (inside : i < length v.parts) where
     abbrev p : Part
@@ -51,8 +51,8 @@ module _ (k : Layout) (s : St) (r : Ruled k s) where
         → (j' : ℕ) (v' : View) → get_elem? (set s.views j (with_part v i p')) j' ≡ some v' → (i' : ℕ) → i' < length v'.parts → PartOk n room k.pool (put r.lane l x) r.spot j' i' (part_at v' i')
     parts_after l x p' ok others j' v' e = ⊎_elim
         (λ t. subst (λ (z : ℕ × View). (i' : ℕ) → i' < length z.1.parts → PartOk n room k.pool (put r.lane l x) r.spot z.0 i' (part_at z.1 i')) (λ a. (sym t.0 a, t.1 a))
-          (λ i' near. each_set (λ c q. PartOk n room k.pool (put r.lane l x) r.spot j c q) v.parts i p' (new_part 0 0 0 0) ok
-            (λ c ne near'. others j c (part_at v c) (λ h. ne (ap (λ (z : ℕ × ℕ). z.1) h)) (r.each_part j v at c near')) i' (subst (λ (z : ℕ). i' < z) (length-set v.parts i p') near)))
+        (λ i' near. each_set (λ c q. PartOk n room k.pool (put r.lane l x) r.spot j c q) v.parts i p' (new_part 0 0 0 0) ok
+        (λ c ne near'. others j c (part_at v c) (λ h. ne (ap (λ (z : ℕ × ℕ). z.1) h)) (r.each_part j v at c near')) i' (subst (λ (z : ℕ). i' < z) (length-set v.parts i p') near)))
         (λ t i' near. others j' i' (part_at v' i') (λ h. t.0 (ap (λ (z : ℕ × ℕ). z.0) h)) (r.each_part j' v' t.1 i' near))
         (at_set s.views j j' (with_part v i p') v' e)
 

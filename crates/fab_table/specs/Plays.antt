@@ -8,7 +8,7 @@
 --     takes_frame      the open frame is finished, and its cell goes back
 --     shuts            a look by which the open frame's places go back as they came; shuts_pooled: with its slot
 --     learned          a look that tells what holds between the parts of one seat
-use Rattle.std.specs.Prelude.{◌≡◌, ◌≢◌, ℕ, ◌+◌, ◌*◌, ◌^◌, ◌<◌, ◌≤◌, ◌⊎◌, List, [], ◌∷◌, ◌++◌, length, take, Bool, true, false, Option, Some, None}
+use Rattle.std.specs.Prelude.{◌≡◌, ◌≢◌, ℕ, ◌+◌, ◌*◌, ◌^◌, ◌<◌, ◌≤◌, ◌⊎◌, List, [], ◌∷◌, ◌++◌, length, true, Some, None}
 use mathlib.Core.List.{IsPrefix}
 use Rattle.atomic_table.specs.Table.{Step, Me, rest}
 use Rattle.fab_wire.specs.declared.moves.Move.TheVariants.{Post, Take}
@@ -95,7 +95,7 @@ SawPut m r n i s = let p = part_at m.0 i in let u = in_at p s in
     (length u.taken ≤ r)
     × (r ≡ length u.taken → n ≡ (new_in_view m.0 i s (saw_empty u r), m.1))
     × (length u.taken < r → (x : Sent) × (y : Slot) × Opens u x y × (((x.slot ≡ None) × (n ≡ (new_in_view m.0 i s (saw_frame u r x), (oldest_cell m.0 i s, y) ∷ m.1)))
-        ⊎ ((q : ℕ) × (b : Slot) × (x.slot ≡ Some q) × Fills x b × (q < p.peers * p.pool) × (n ≡ (new_in_view m.0 i s (saw_frame u r x), (oldest_cell m.0 i s, y) ∷ (slot_home m.0 i q, b) ∷ m.1)))))
+    ⊎ ((q : ℕ) × (b : Slot) × (x.slot ≡ Some q) × Fills x b × (q < p.peers * p.pool) × (n ≡ (new_in_view m.0 i s (saw_frame u r x), (oldest_cell m.0 i s, y) ∷ (slot_home m.0 i q, b) ∷ m.1)))))
     × ((a : ℕ) → a < length m.0.parts → (part_at m.0 a).me ≡ s → r ≡ length (out_at (part_at m.0 a) p.me).posted)
 
 abbrev pub saw_put : Step Slot → Sat → ℕ → Sat → Type 0

@@ -14,7 +14,10 @@ ghost use Rattle.fab_table.specs.Plays.{ClaimsAt, FreesAt, SawGot, SawPut, learn
 ghost use Rattle.fab_table.specs.Seats.{IsOf, IsSame, IsAt, carried, view_of_seat, sat, part_of, out_of, in_of};
 
 use crate::fabric::{Fabric, PeerSeat};
-use crate::rule::{Claims, Cut, Frees, Learns, Leaves, Posts, PostsPooled, SeeGot, SeePut, Shuts, ShutsPooled, Takes, Whole};
+use crate::rule::{
+    Claims, Cut, Frees, Learns, Leaves, Posts, PostsPooled, SeeGot, SeePut, Shuts, ShutsPooled,
+    Takes, Whole,
+};
 
 impl Fabric {
     /// A look at how many frames of the lane to `dest` were given back. Where there is room for one
@@ -56,7 +59,8 @@ impl Fabric {
         let lanes = self.peers * self.peers;
         let slot = dest * self.pool + j;
         let word = (lanes * 32 + slot * 16) as usize;
-        let found = self.table
+        let found = self
+            .table
             .shared
             .compare_exchange::<Claims>(&mut seat.seat, word, 0, me + 1);
         found == 0
@@ -109,9 +113,7 @@ impl Fabric {
         ensures view { SawPut (sat seat.old) result (sat seat.new) at src }
     {
         let lane = (src * self.peers + me) as usize;
-        self.table
-            .shared
-            .load::<SeePut>(&mut seat.seat, lane * 32)
+        self.table.shared.load::<SeePut>(&mut seat.seat, lane * 32)
     }
 
     /// Frees the slot in hand, which is that of the open frame of `src`.
@@ -152,9 +154,7 @@ impl Fabric {
         ensures view { sat seat.new ≡ (shut_view (view_of_seat seat.old) at src, rest (carried seat.old)) }
     {
         let lane = (src * self.peers + me) as usize;
-        self.table
-            .shared
-            .load::<Shuts>(&mut seat.seat, lane * 32);
+        self.table.shared.load::<Shuts>(&mut seat.seat, lane * 32);
     }
 
     /// The same where the frame has a slot, which goes back with its bytes.
@@ -188,9 +188,7 @@ impl Fabric {
         ensures { IsSame seat.old seat.new × (sat seat.new ≡ (both (view_of_seat seat.old) (view_of_seat other), carried seat.old)) }
     {
         let PeerSeat { seat: spent } = other;
-        self.table
-            .shared
-            .join_seat::<Whole>(&mut seat.seat, spent);
+        self.table.shared.join_seat::<Whole>(&mut seat.seat, spent);
     }
 
     /// A look that tells what holds of the seat's parts, and between each two of them.

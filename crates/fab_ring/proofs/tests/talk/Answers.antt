@@ -1,4 +1,4 @@
-use Rattle.std.proofs.Common.{rules, ◌≡◌, ℕ, sym, ap, ◌∙◌, subst}
+use Rattle.std.proofs.Common.{ℕ, sym, ◌∙◌, subst}
 use Rattle.fab_wire.specs.Cut.{IsBetweenItems}
 use Rattle.fab_link.specs.Meaning.{Outgoing, end_of}
 use Rattle.fab_ring.proofs.tests.talk.Goals as goal

@@ -1,4 +1,4 @@
-use Rattle.std.proofs.Common.{rules, ◌≡◌, ℕ, ◌+◌, ◌*◌, ◌<◌, sym, ap, ◌∙◌, subst, arith}
+use Rattle.std.proofs.Common.{rules, ◌≡◌, ℕ, ◌+◌, ◌*◌, ◌<◌, sym, ap, subst}
 use Rattle.fab_table.specs.declared.kinds.Part.{Part}
 use Rattle.fab_table.specs.Views.{part_at, pool_word}
 use Rattle.fab_table.specs.Plays.{ClaimsAt}
@@ -15,7 +15,9 @@ compare_exchange-found-requires c = let at = c.requires.seat.1 in let f = c.args
 pub returns-clause-view : goal.returns-clause-view
 returns-clause-view c = let at = c.requires.seat.1 in let f = c.args.self.now in let p : Part = part_at c.args.seat.now.seat.me.0 c.args.at in let d : ℕ = c.args.dest in let j : ℕ = c.args.j in let same = c.requires.slot.1 in
     let low : d < p.peers = subst (λ (z : ℕ). d < z) (sym at.2) c.requires.seat.2 in let near_j : j < p.pool = subst (λ (z : ℕ). j < z) (sym same) c.requires.slot.0 in
-    let word : f.peers * f.peers * 32 + (d * f.pool + j) * 16 ≡ pool_word p.peers (d * p.pool + j) = λ i. pool_word (sym at.2 i) (d * sym same i + j) in
-    (c.compare_exchange-found.result, ((λ e. search rules), (λ e. search rules)),
+    let word : f.peers * f.peers * 32 + (d * f.pool + j) * 16 ≡ pool_word p.peers (d * p.pool + j) = λ i. pool_word (sym at.2 i) (d * sym same i + j) in (
+      c.compare_exchange-found.result,
+      ((λ e. search rules), (λ e. search rules)),
       let told : ClaimsAt (sat c.args.seat.now) c.compare_exchange-found.result c.compare_exchange-found.new.seat.me c.args.at d j (d * p.pool + j) = c.compare_exchange-found.ensures.2 c.args.at d j at.0 low near_j word (ap (λ (z : ℕ). z + 1) (sym at.1)) in
-        subst (λ (z : ℕ). ClaimsAt (sat c.args.seat.now) c.compare_exchange-found.result c.compare_exchange-found.new.seat.me c.args.at d j (d * z + j)) same told)
+          subst (λ (z : ℕ). ClaimsAt (sat c.args.seat.now) c.compare_exchange-found.result c.compare_exchange-found.new.seat.me c.args.at d j (d * z + j)) same told,
+    )
