@@ -1,6 +1,5 @@
 -- What a call did to a part of the view, in the words of all ports.
-use Rattle.std.proofs.Common.{◌≡◌, ◌≢◌, ℕ, zero, suc, ◌+◌, ◌<◌, ◌≤◌, ◌⊎◌, ⊎_elim, inl, inr, max, Bool, true, false, List, [], ◌∷◌, ◌++◌, map, length, get_or, set, slice_index, sym, refl, ap, ◌∙◌, subst, arith, le_refl, Some, None, Ok, Err, get_or-set_same, get_or-set_other}
-use std.Path.{fun_ext}
+use Rattle.std.proofs.Common.{◌≡◌, ◌≢◌, ℕ, zero, suc, ◌+◌, ◌<◌, ◌≤◌, ◌⊎◌, ⊎_elim, inl, inr, true, false, List, [], ◌∷◌, ◌++◌, length, slice_index, sym, refl, ap, ◌∙◌, subst, arith, le_refl, Some, None, Ok, Err, get_or-set_same, get_or-set_other}
 use lib.ListN.{length-map}
 use mathlib.Core.List.{map-append}
 use Rattle.std.specs.Prelude.{Option, Result, IsErrOf, OnOk, OnErr, IsSome, IfSome, IfNone}
@@ -10,11 +9,11 @@ use Rattle.fab_base.specs.declared.frames.FrameHead.{FrameHead}
 use Rattle.fab_base.specs.declared.frames.Frame.{Frame}
 use Rattle.fab_base.specs.declared.frames.FrameRef.{FrameRef}
 use Rattle.fab_wire.specs.declared.moves.Move.{Move}
-use Rattle.fab_wire.specs.declared.moves.Move.TheVariants.{Post, Take}
+use Rattle.fab_wire.specs.declared.moves.Move.TheVariants.{Post}
 use Rattle.fab_wire.specs.Frames.{frame, lent_frame, last_head, MayCome}
 use Rattle.fab_link.specs.declared.port.PostRefused.{PostRefused}
 use Rattle.fab_link.specs.declared.port.PostRefused.TheVariants.{LaneFull, PoolFull, NoMemory}
-use Rattle.fab_link.specs.Meaning.{Outgoing, Incoming, Others, Noticed, GrewBy, Gives, Fronted, advanced}
+use Rattle.fab_link.specs.Meaning.{Outgoing, Incoming, Noticed, GrewBy, Gives, Fronted, advanced}
 use Rattle.fab_link.specs.Plain.{lent_frames}
 use Rattle.fab_table.specs.declared.kinds.Sent.{Sent}
 use Rattle.fab_table.specs.declared.kinds.Out.{Out}
@@ -124,21 +123,21 @@ module _ (p p' : Part) (d room pool : ℕ) (head : FrameHead) (bytes : List ℕ)
 
   did_fill : DidFill p p' d room pool head bytes → Posting p p' d room pool head bytes (Err LaneFull)
   did_fill s = let o' : Out = saw_full o s.0 in let here = out_here p p' d o' p.moves near s.2 in record {
-        ok = tt;
-        err = ap (λ (z : Out). frames_of z.posted) here;
-        lane_full = λ _. (inl (subst (λ (z : Out). o.full_seen < z.full_seen) (sym here) (omega arith)), ap (λ (z : Out). z.full_at) here ∙ frames_length o.posted);
-        pool_full = λ e. absurd (cc);
-        no_memory = λ e. absurd (cc);
-        noticed = subst (λ (z : Out). Noticed (outgoing o) (outgoing z)) (sym here) record { after = refl; lane_full = omega arith; pool_full = le_refl (least o.tried); full_at = inr (inl (inl (omega arith)), frames_length o.posted) };
-        moves = tt;
-        unmoved = ap (λ (z : List Move). Some z) (moves_out p p' d o' p.moves near s.2);
-        others = others_out p p' d o' p.moves near s.2;
-        into = into_out p p' d o' p.moves near s.2;
-        full = λ _. ⊎_elim (λ e. inl (sym (frames_length o.posted) ∙ e ∙ ap (λ (z : Out). z.got_seen + room) (sym here))) (λ e. inr e) s.1;
-        room_is = λ ne. absurd (ne refl);
-        each_slot = λ e. absurd (cc);
-        some_slot = λ _. (0, pos, ap (λ (z : Out). slice_index z.tried 0) here);
-      }
+    ok = tt;
+    err = ap (λ (z : Out). frames_of z.posted) here;
+    lane_full = λ _. (inl (subst (λ (z : Out). o.full_seen < z.full_seen) (sym here) (omega arith)), ap (λ (z : Out). z.full_at) here ∙ frames_length o.posted);
+    pool_full = λ e. absurd (cc);
+    no_memory = λ e. absurd (cc);
+    noticed = subst (λ (z : Out). Noticed (outgoing o) (outgoing z)) (sym here) record { after = refl; lane_full = omega arith; pool_full = le_refl (least o.tried); full_at = inr (inl (inl (omega arith)), frames_length o.posted) };
+    moves = tt;
+    unmoved = ap (λ (z : List Move). Some z) (moves_out p p' d o' p.moves near s.2);
+    others = others_out p p' d o' p.moves near s.2;
+    into = into_out p p' d o' p.moves near s.2;
+    full = λ _. ⊎_elim (λ e. inl (sym (frames_length o.posted) ∙ e ∙ ap (λ (z : Out). z.got_seen + room) (sym here))) (λ e. inr e) s.1;
+    room_is = λ ne. absurd (ne refl);
+    each_slot = λ e. absurd (cc);
+    some_slot = λ _. (0, pos, ap (λ (z : Out). slice_index z.tried 0) here);
+  }
 
   did_try : DidTry p p' d room pool head bytes → Posting p p' d room pool head bytes (Err PoolFull)
   did_try s = let o' : Out = tried_out (saw_room o s.0) s.1 s.2 false None in let here = out_here p p' d o' p.moves near s.7 in let seen = full_noticed o s.1 s.2 s.6.1 in
@@ -217,9 +216,11 @@ nothing_new p p' s (Some f) near closed did is = let here = in_here p p' s (saw_
 nothing_new p p' s None near closed did is = let u : In = in_at p s in let u' : In = saw_empty u (length u.taken) in let here = in_here p p' s u' p.moves near did in record {
   gives = tt;
   lent = λ l. absurd (none_lent u closed l);
-  fronted = (subst (λ (z : In). incoming z ≡ record (incoming u) { empty_seen = (incoming z).empty_seen; empty_at = length (incoming u).taken }) (sym here)
-      (λ i. record { after = None; taken = frames_of u.taken; lent = frame_in u.opened; empty_seen = u.empty_seen + 1; empty_at = frames_length u.taken i }),
-    inl (subst (λ (z : In). u.empty_seen < z.empty_seen) (sym here) (omega arith)));
+  fronted = (
+    subst (λ (z : In). incoming z ≡ record (incoming u) { empty_seen = (incoming z).empty_seen; empty_at = length (incoming u).taken }) (sym here)
+        (λ i. record { after = None; taken = frames_of u.taken; lent = frame_in u.opened; empty_seen = u.empty_seen + 1; empty_at = frames_length u.taken i }),
+    inl (subst (λ (z : In). u.empty_seen < z.empty_seen) (sym here) (omega arith)),
+  );
   others = others_in p p' s u' p.moves near did;
   out = out_in p p' s u' p.moves near did;
   moves = ap (λ (z : Part). Some z.moves) did;
@@ -247,7 +248,7 @@ fronting p p' s result = fronting_by p p' s result (in_at p s).opened refl
 pub advancing : (u : In) (x : Sent) → u.opened ≡ Some x → incoming (taken_one u x) ≡ advanced (incoming u)
 advancing u x e = let i : Incoming = incoming u in
     subst (λ (o : Option Sent). incoming (taken_one u x) ≡ elim (frame_in o) [ None ↦ i | Some f ↦ record i { taken = i.taken ++ f ∷ []; lent = None } ]) (sym e)
-      (λ k. record { after = None; taken = map-append frame_of u.taken (x ∷ []) k; lent = None; empty_seen = u.empty_seen; empty_at = u.empty_at })
+    (λ k. record { after = None; taken = map-append frame_of u.taken (x ∷ []) k; lent = None; empty_seen = u.empty_seen; empty_at = u.empty_at })
 
 pub frame_opened : (o : Option Sent) → IsSome (frame_in o) → (x : Sent) × (o ≡ Some x)
 frame_opened None e = absurd (cc)

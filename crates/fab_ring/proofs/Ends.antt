@@ -1,5 +1,5 @@
 -- What the steps of one call leave of a seat that speaks for one peer.
-use Rattle.std.proofs.Common.{◌≡◌, ℕ, zero, suc, ◌+◌, ◌*◌, ◌<◌, ◌≤◌, ◌≢◌, ◌⊎◌, ⊎_elim, inl, inr, min, Bool, true, false, nat_lt, List, [], ◌∷◌, ◌++◌, length, take, set, get_or, slice_index, sym, refl, ap, ◌∙◌, subst, arith, length-set, get_or-set_same, le_refl}
+use Rattle.std.proofs.Common.{◌≡◌, ℕ, zero, suc, ◌+◌, ◌*◌, ◌<◌, ◌≤◌, ◌⊎◌, ⊎_elim, inl, inr, min, Bool, true, false, nat_lt, List, [], ◌∷◌, ◌++◌, length, take, sym, refl, ap, ◌∙◌, subst, arith, length-set, get_or-set_same, le_refl}
 use lib.Seq.{set-set, set-get_or}
 use Rattle.std.specs.Prelude.{Option, Some, None, if◌then◌else◌}
 use Rattle.std.proofs.Math.Seq.{take-append_seam}
@@ -7,7 +7,7 @@ use Rattle.std.proofs.lemmas.Option.{none-some, same_Some}
 use Rattle.std.proofs.lemmas.Bool.{ltb-true, ltb-false}
 use Rattle.atomic_table.specs.Table.{rest, turned}
 use Rattle.fab_wire.specs.declared.moves.Move.{Move}
-use Rattle.fab_wire.specs.declared.moves.Move.TheVariants.{Post, Take}
+use Rattle.fab_wire.specs.declared.moves.Move.TheVariants.{Post}
 use Rattle.fab_table.specs.declared.kinds.Command.{Command}
 use Rattle.fab_table.specs.declared.kinds.Sent.{Sent}
 use Rattle.fab_table.specs.declared.kinds.Slot.{Slot}
@@ -16,9 +16,9 @@ use Rattle.fab_table.specs.declared.kinds.Out.{Out}
 use Rattle.fab_table.specs.declared.kinds.In.{In}
 use Rattle.fab_table.specs.declared.kinds.Part.{Part}
 use Rattle.fab_table.specs.declared.kinds.View.{View}
-use Rattle.fab_table.specs.Views.{least, least_from, new_part, new_out, new_in, part_at, out_at, in_at, with_part, with_out, with_in, posted_one, left_one, refused_one, claimed_one, freed_one, taken_one, tried_more, pool_home, lane_of}
+use Rattle.fab_table.specs.Views.{least, least_from, new_part, new_out, part_at, out_at, with_part, with_out, with_in, posted_one, left_one, refused_one, claimed_one, tried_more, pool_home, lane_of}
 use Rattle.fab_table.specs.Rule.{IsBuf, Says, Fills, cell_of}
-use Rattle.fab_table.specs.Plays.{Sat, next_cell, new_out_view, new_in_view, post_view, take_view, refuse_view, claim_view, free_view, slot_home}
+use Rattle.fab_table.specs.Plays.{Sat, next_cell, new_out_view, post_view, refuse_view, claim_view, slot_home}
 use Rattle.fab_ring.specs.Tries.{raised, IsTried, IsSent, tried_out}
 
 pub take_all : (n : ℕ) (bytes more : List ℕ) → length bytes ≡ n → take n (bytes ++ more) ≡ bytes

@@ -1,16 +1,14 @@
 -- That a frame may come next is a fact: there is at most one way in which it can.
-use Rattle.std.proofs.Common.{◌≡◌, ◌≢◌, ℕ, ◌+◌, ◌⊎◌, inl, inr}
-use Rattle.std.specs.Prelude.{Option, Some, None, IsNone}
+use Rattle.std.proofs.Common.{◌⊎◌, inl, inr}
+use Rattle.std.specs.Prelude.{Option, Some, None}
 use Rattle.std.proofs.Props.{props}
 use Rattle.std.proofs.Math.Logic.{∥∥₁_elim}
 use Rattle.fab_base.specs.declared.frames.FrameHead.{FrameHead}
 use Rattle.fab_base.specs.declared.frames.Frame.{Frame}
 use Rattle.fab_base.specs.declared.items.ItemHead.{ItemHead}
-use Rattle.fab_base.specs.declared.items.Atom.{Atom}
 use Rattle.fab_base.specs.declared.items.Kind.{Kind}
 use Rattle.fab_base.specs.declared.items.Kind.TheVariants.{Msg, TagMsg, WriteReq, ReadReq, AtomicReq, Reply}
-use Rattle.fab_wire.specs.Frames.{last_head, IsLast, IsSoundAs, IsSoundAtomic, Follows, Continues, MayCome}
-use Rattle.fab_table.specs.declared.kinds.Sent.{Sent}
+use Rattle.fab_wire.specs.Frames.{last_head, IsSoundAs, Follows, MayCome}
 use Rattle.fab_table.specs.declared.kinds.Part.{Part}
 use Rattle.fab_table.specs.Views.{frames_of, in_at}
 use Rattle.fab_ring.specs.Hands.{Comes}

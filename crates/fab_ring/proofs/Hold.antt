@@ -1,11 +1,11 @@
 -- What stays of a port's facts at each of its steps.
-use Rattle.std.proofs.Common.{◌≡◌, ℕ, zero, suc, ◌+◌, ◌-◌, ◌*◌, ◌%◌, ◌^◌, max, ◌<◌, ◌≤◌, ◌≢◌, Bool, true, false, true≢false, List, [], ◌∷◌, ◌++◌, map, length, get_or, set, replicate, sym, refl, ap, ◌∙◌, subst, le_refl, le_trans, arith, length-set, length-append, append_assoc, append-nil, get_or-set_same, get_or-set_other, mul-le-mul_right}
+use Rattle.std.proofs.Common.{◌≡◌, ℕ, zero, suc, ◌+◌, ◌-◌, ◌*◌, ◌%◌, ◌^◌, max, ◌<◌, ◌≤◌, ◌≢◌, Bool, true, false, true≢false, List, [], ◌∷◌, ◌++◌, length, get_or, set, replicate, sym, refl, ap, ◌∙◌, subst, le_refl, arith, length-set, length-append, append_assoc, append-nil, get_or-set_same, get_or-set_other, mul-le-mul_right}
 use mathlib.Core.Logic.{dite}
 use mathlib.Core.List.{map-append}
 use native.Mathlib.Decide.{ℕ_discrete}
 use lib.ListN.{length-replicate}
-use Rattle.std.specs.Prelude.{Option, Some, None, slice_get}
-use Rattle.std.proofs.lemmas.Option.{none-some, same_Some}
+use Rattle.std.specs.Prelude.{Option, Some, None}
+use Rattle.std.proofs.lemmas.Option.{none-some}
 use Rattle.std.specs.Option.{is_some}
 use Rattle.atomic_table.specs.Table.{rest, turned}
 use Rattle.fab_wire.specs.declared.moves.Move.{Move}
@@ -17,9 +17,9 @@ use Rattle.fab_table.specs.declared.kinds.Slot.TheVariants.{Cell, Pool}
 use Rattle.fab_table.specs.declared.kinds.Out.{Out}
 use Rattle.fab_table.specs.declared.kinds.In.{In}
 use Rattle.fab_table.specs.declared.kinds.Part.{Part}
-use Rattle.fab_table.specs.Views.{new_part, new_out, new_in, out_at, in_at, with_out, with_in, saw_full, saw_room, posted_one, saw_empty, saw_frame, taken_one, freed_one, shut_one, has_slot, lane_of}
-use Rattle.fab_table.specs.Rule.{IsBuf, cell_of, number_of, greatest}
-use Rattle.fab_table.specs.Plays.{oldest_of, next_of}
+use Rattle.fab_table.specs.Views.{new_part, new_out, new_in, out_at, in_at, with_out, with_in, posted_one, saw_empty, saw_frame, taken_one, freed_one, shut_one, has_slot, lane_of}
+use Rattle.fab_table.specs.Rule.{IsBuf, cell_of, greatest}
+use Rattle.fab_table.specs.Plays.{oldest_of}
 use Rattle.fab_table.proofs.Rows.{each_set}
 use Rattle.fab_table.proofs.Orders.{greatest_more}
 use Rattle.fab_table.proofs.Seating.{same_all, same_within}
@@ -83,6 +83,7 @@ cell_first ((b, Cell c) ∷ hs) a more e = (c, (λ i. (ap first_place e i, Cell 
     first_place : List (ℕ × ℕ) → ℕ
     first_place [] = 0
     first_place (z ∷ zs) = z.0
+
     rest_of : List (ℕ × ℕ) → List (ℕ × ℕ)
     rest_of [] = []
     rest_of (z ∷ zs) = zs
@@ -104,9 +105,11 @@ pool_first ((b, Pool y) ∷ hs) a n more e = (y, (λ i. (ap first_place e i, Poo
     first_place : List (ℕ × ℕ) → ℕ
     first_place [] = 0
     first_place (z ∷ zs) = z.0
+
     first_size : List (ℕ × ℕ) → ℕ
     first_size [] = 0
     first_size (z ∷ zs) = z.1
+
     rest_of : List (ℕ × ℕ) → List (ℕ × ℕ)
     rest_of [] = []
     rest_of (z ∷ zs) = zs
@@ -161,7 +164,7 @@ module _ (me peers room pool clock turn : ℕ) (puts gots : List ℕ) (opened le
       → Fits me peers room pool (clock + 1) turn (set puts d new) gots opened lent (with_out p d (posted_one o x) (p.moves ++ Post d x.number ∷ [])) hand
   fits_post d new o x near up next same sized = let g = greatest_more 0 p.moves (Post d x.number) in let clock_is = fit.clock_is in let f = fit.each_put d near in let long = length-append o.posted (x ∷ []) in let was : length o.posted ≡ length (out_at p d).posted = ap length same in let f0 = f.0 in let f2 = f.2 in
       changed_out d (posted_one o x) (p.moves ++ Post d x.number ∷ []) (set puts d new) (clock + 1) near (omega arith) (omega arith) (length-set puts d new ∙ fit.all_puts)
-        (get_or-set_same puts d new 0 (subst (λ (z : ℕ). d < z) (sym fit.all_puts) near) ∙ (omega arith), refl, omega arith, refl, sized) (λ q ne. get_or-set_other puts d q new 0 ne)
+      (get_or-set_same puts d new 0 (subst (λ (z : ℕ). d < z) (sym fit.all_puts) near) ∙ (omega arith), refl, omega arith, refl, sized) (λ q ne. get_or-set_other puts d q new 0 ne)
 
   abbrev side : List ℕ → List Bool → List Bool → ℕ → In → Type 0
   side gs os ls s u = (get_or gs s 0 ≡ length u.taken) × (get_or os s false ≡ is_some u.opened) × (get_or ls s false ≡ u.lent) × ((x : Sent) → u.opened ≡ Some x → length u.taken + 1 < 2 ^ 64)
@@ -205,7 +208,7 @@ module _ (me peers room pool clock turn : ℕ) (puts gots : List ℕ) (opened le
   fits_empty s r near closed = let u : In = saw_empty (in_at p s) r in let p' : Part = with_in p s u p.moves in
       let same : (x : ℕ) → held p x ≡ held p' x = λ x. dite (ℕ_discrete x s) (λ e. subst (λ (z : ℕ). held p z ≡ held p' z) (sym e) (sym (own_held s u p.moves near))) (λ ne. others_held s u p.moves x ne) in
       changed_in s u p.moves gots opened lent clock turn hand near fit.round (le_refl clock) fit.clock_is fit.all_gots fit.all_open fit.all_lent (fit.each_got s near) (λ x ne. (refl, refl, refl))
-        (fit.hand_is ∙ (λ i. span_same (held p) (held p') turn (peers - turn) (λ x _ _. same x) i ++ span_same (held p) (held p') 0 turn (λ x _ _. same x) i))
+      (fit.hand_is ∙ (λ i. span_same (held p) (held p') turn (peers - turn) (λ x _ _. same x) i ++ span_same (held p) (held p') 0 turn (λ x _ _. same x) i))
 
   -- the hand where it is the turn of a peer with no open frame
   at_closed : (s : ℕ) → s < peers → turn ≡ s → (in_at p s).opened ≡ None → hand ≡ behind (held p) peers s
@@ -220,10 +223,10 @@ module _ (me peers room pool clock turn : ℕ) (puts gots : List ℕ) (opened le
   fits_open s r x near at closed news small short = let u : In = saw_frame (in_at p s) r x in let p' : Part = with_in p s u p.moves in let f = fit.each_got s near in let c : ℕ × ℕ = (oldest_of p s, 0) in
       let none_lent : has_slot x.slot ≡ false = ap has_slot short in
       changed_in s u p.moves gots (set opened s true) lent clock turn (c ∷ hand) near fit.round (le_refl clock) fit.clock_is fit.all_gots (length-set opened s true ∙ fit.all_open) fit.all_lent
-        (f.0, get_or-set_same opened s true false (subst (λ (z : ℕ). s < z) (sym fit.all_open) near), f.2 ∙ closed_lent s near closed ∙ sym none_lent, (λ y e. omega arith), (λ t. absurd (true≢false (sym t ∙ none_lent)))) (λ q ne. (refl, get_or-set_other opened s q true false ne, refl))
-        ((λ i. c ∷ (at_closed s near at closed ∙ behind_same (held p) (held p') peers s (λ q ne _. others_held s u p.moves q ne) near) i)
-          ∙ (λ i. c ∷ (lent_of (sym none_lent i) (sym short i) base ++ behind (held p') peers s)) ∙ (λ i. sym (own_held s u p.moves near) i ++ behind (held p') peers s)
-          ∙ sym (ring_front (held p') peers s near) ∙ ap (ring (held p') peers) (sym at))
+      (f.0, get_or-set_same opened s true false (subst (λ (z : ℕ). s < z) (sym fit.all_open) near), f.2 ∙ closed_lent s near closed ∙ sym none_lent, (λ y e. omega arith), (λ t. absurd (true≢false (sym t ∙ none_lent)))) (λ q ne. (refl, get_or-set_other opened s q true false ne, refl))
+      ((λ i. c ∷ (at_closed s near at closed ∙ behind_same (held p) (held p') peers s (λ q ne _. others_held s u p.moves q ne) near) i)
+      ∙ (λ i. c ∷ (lent_of (sym none_lent i) (sym short i) base ++ behind (held p') peers s)) ∙ (λ i. sym (own_held s u p.moves near) i ++ behind (held p') peers s)
+      ∙ sym (ring_front (held p') peers s near) ∙ ap (ring (held p') peers) (sym at))
 
   -- one that has a slot
   pub fits_open_slot : (s r q : ℕ) (x : Sent) → s < peers → turn ≡ s → (in_at p s).opened ≡ None → length (in_at p s).taken < r → r < 2 ^ 64 → x.slot ≡ Some q → q < peers * pool
@@ -231,11 +234,11 @@ module _ (me peers room pool clock turn : ℕ) (puts gots : List ℕ) (opened le
   fits_open_slot s r q x near at closed news small large low = let u : In = saw_frame (in_at p s) r x in let p' : Part = with_in p s u p.moves in let f = fit.each_got s near in
       let yes_it : has_slot x.slot ≡ true = ap has_slot large in let c : ℕ × ℕ = (oldest_of p s, 0) in let h : ℕ × ℕ = (base + q, 4097) in
       changed_in s u p.moves gots (set opened s true) (set lent s true) clock (turn + 1) ((hand ++ c ∷ []) ++ h ∷ []) near (omega arith) (le_refl clock) fit.clock_is fit.all_gots (length-set opened s true ∙ fit.all_open) (length-set lent s true ∙ fit.all_lent)
-        (f.0, get_or-set_same opened s true false (subst (λ (z : ℕ). s < z) (sym fit.all_open) near), get_or-set_same lent s true false (subst (λ (z : ℕ). s < z) (sym fit.all_lent) near) ∙ sym yes_it, (λ z e. omega arith), (λ t. (ap is_some large, subst (λ (z : ℕ). z < peers * pool) (sym (ap numbered large)) low)))
-        (λ k ne. (refl, get_or-set_other opened s k true false ne, get_or-set_other lent s k true false ne))
-        ((λ i. ((at_closed s near at closed ∙ behind_same (held p) (held p') peers s (λ k ne _. others_held s u p.moves k ne) near) i ++ c ∷ []) ++ h ∷ []) ∙ append_assoc (behind (held p') peers s) (c ∷ []) (h ∷ [])
-          ∙ (λ i. behind (held p') peers s ++ c ∷ lent_of (sym yes_it i) (sym large i) base) ∙ (λ i. behind (held p') peers s ++ sym (own_held s u p.moves near) i)
-          ∙ ring_turn (held p') peers s near ∙ ap (λ (z : ℕ). ring (held p') peers (z + 1)) (sym at))
+      (f.0, get_or-set_same opened s true false (subst (λ (z : ℕ). s < z) (sym fit.all_open) near), get_or-set_same lent s true false (subst (λ (z : ℕ). s < z) (sym fit.all_lent) near) ∙ sym yes_it, (λ z e. omega arith), (λ t. (ap is_some large, subst (λ (z : ℕ). z < peers * pool) (sym (ap numbered large)) low)))
+      (λ k ne. (refl, get_or-set_other opened s k true false ne, get_or-set_other lent s k true false ne))
+      ((λ i. ((at_closed s near at closed ∙ behind_same (held p) (held p') peers s (λ k ne _. others_held s u p.moves k ne) near) i ++ c ∷ []) ++ h ∷ []) ∙ append_assoc (behind (held p') peers s) (c ∷ []) (h ∷ [])
+      ∙ (λ i. behind (held p') peers s ++ c ∷ lent_of (sym yes_it i) (sym large i) base) ∙ (λ i. behind (held p') peers s ++ sym (own_held s u p.moves near) i)
+      ∙ ring_turn (held p') peers s near ∙ ap (λ (z : ℕ). ring (held p') peers (z + 1)) (sym at))
 
   -- what lies first in the hand where it is the turn of a peer whose frame is open
   pub fits_first : (s : ℕ) (x : Sent) → s < peers → turn ≡ s → (in_at p s).opened ≡ Some x → (in_at p s).lent ≡ false → hand ≡ (oldest_of p s, 0) ∷ behind (held p) peers s
@@ -249,10 +252,10 @@ module _ (me peers room pool clock turn : ℕ) (puts gots : List ℕ) (opened le
       → Fits me peers room pool clock (turn + 1) puts gots opened (set lent s false) (with_in p s (freed_one (in_at p s)) p.moves) (behind (held p) peers s ++ (oldest_of p s, 0) ∷ [])
   fits_free s x near at held_is = let u : In = freed_one (in_at p s) in let p' : Part = with_in p s u p.moves in let f = fit.each_got s near in let c : ℕ × ℕ = (oldest_of p s, 0) in
       changed_in s u p.moves gots opened (set lent s false) clock (turn + 1) (behind (held p) peers s ++ c ∷ []) near (omega arith) (le_refl clock) fit.clock_is fit.all_gots fit.all_open (length-set lent s false ∙ fit.all_lent)
-        (f.0, f.1, get_or-set_same lent s false false (subst (λ (z : ℕ). s < z) (sym fit.all_lent) near), f.3, (λ t. absurd (true≢false (sym t))))
-        (λ k ne. (refl, refl, get_or-set_other lent s k false false ne))
-        ((λ i. behind_same (held p) (held p') peers s (λ k ne _. others_held s u p.moves k ne) near i ++ c ∷ []) ∙ (λ i. behind (held p') peers s ++ held_of (sym held_is i) false (oldest_of p s) base) ∙ (λ i. behind (held p') peers s ++ sym (own_held s u p.moves near) i)
-          ∙ ring_turn (held p') peers s near ∙ ap (λ (z : ℕ). ring (held p') peers (z + 1)) (sym at))
+      (f.0, f.1, get_or-set_same lent s false false (subst (λ (z : ℕ). s < z) (sym fit.all_lent) near), f.3, (λ t. absurd (true≢false (sym t))))
+      (λ k ne. (refl, refl, get_or-set_other lent s k false false ne))
+      ((λ i. behind_same (held p) (held p') peers s (λ k ne _. others_held s u p.moves k ne) near i ++ c ∷ []) ∙ (λ i. behind (held p') peers s ++ held_of (sym held_is i) false (oldest_of p s) base) ∙ (λ i. behind (held p') peers s ++ sym (own_held s u p.moves near) i)
+      ∙ ring_turn (held p') peers s near ∙ ap (λ (z : ℕ). ring (held p') peers (z + 1)) (sym at))
 
   -- it was finished
   pub fits_take : (s new clock' : ℕ) (x : Sent) → s < peers → turn ≡ s → (in_at p s).opened ≡ Some x → (in_at p s).lent ≡ false → new ≡ get_or gots s 0 + 1 → clock' ≡ max clock x.number
@@ -260,19 +263,19 @@ module _ (me peers room pool clock turn : ℕ) (puts gots : List ℕ) (opened le
   fits_take s new clock' x near at held_is given up later = let u : In = taken_one (in_at p s) x in let ms : List Move = p.moves ++ Take s x.number ∷ [] in let p' : Part = with_in p s u ms in let f = fit.each_got s near in
       let g = greatest_more 0 p.moves (Take s x.number) in let clock_is = fit.clock_is in let long = length-append (in_at p s).taken (x ∷ []) in let f0 = f.0 in
       changed_in s u ms (set gots s new) (set opened s false) lent clock' turn (rest hand) near fit.round (omega arith) (omega arith) (length-set gots s new ∙ fit.all_gots) (length-set opened s false ∙ fit.all_open) fit.all_lent
-        (get_or-set_same gots s new 0 (subst (λ (z : ℕ). s < z) (sym fit.all_gots) near) ∙ (omega arith), get_or-set_same opened s false false (subst (λ (z : ℕ). s < z) (sym fit.all_open) near), f.2 ∙ given, (λ y e. absurd (none-some y e)), (λ t. absurd (true≢false (sym t))))
-        (λ q ne. (get_or-set_other gots s q new 0 ne, get_or-set_other opened s q false false ne, refl))
-        (ap rest (fits_first s x near at held_is given) ∙ behind_same (held p) (held p') peers s (λ q ne _. others_held s u ms q ne) near ∙ (λ i. sym (own_held s u ms near) i ++ behind (held p') peers s)
-          ∙ sym (ring_front (held p') peers s near) ∙ ap (ring (held p') peers) (sym at))
+      (get_or-set_same gots s new 0 (subst (λ (z : ℕ). s < z) (sym fit.all_gots) near) ∙ (omega arith), get_or-set_same opened s false false (subst (λ (z : ℕ). s < z) (sym fit.all_open) near), f.2 ∙ given, (λ y e. absurd (none-some y e)), (λ t. absurd (true≢false (sym t))))
+      (λ q ne. (get_or-set_other gots s q new 0 ne, get_or-set_other opened s q false false ne, refl))
+      (ap rest (fits_first s x near at held_is given) ∙ behind_same (held p) (held p') peers s (λ q ne _. others_held s u ms q ne) near ∙ (λ i. sym (own_held s u ms near) i ++ behind (held p') peers s)
+      ∙ sym (ring_front (held p') peers s near) ∙ ap (ring (held p') peers) (sym at))
 
   -- it was shut
   pub fits_shut : (s : ℕ) → s < peers → turn ≡ s → Fits me peers room pool clock turn puts gots (set opened s false) (set lent s false) (with_in p s (shut_one (in_at p s)) p.moves) (behind (held p) peers s)
   fits_shut s near at = let u : In = shut_one (in_at p s) in let p' : Part = with_in p s u p.moves in let f = fit.each_got s near in
       changed_in s u p.moves gots (set opened s false) (set lent s false) clock turn (behind (held p) peers s) near fit.round (le_refl clock) fit.clock_is fit.all_gots (length-set opened s false ∙ fit.all_open) (length-set lent s false ∙ fit.all_lent)
-        (f.0, get_or-set_same opened s false false (subst (λ (z : ℕ). s < z) (sym fit.all_open) near), get_or-set_same lent s false false (subst (λ (z : ℕ). s < z) (sym fit.all_lent) near), (λ y e. absurd (none-some y e)), (λ t. absurd (true≢false (sym t))))
-        (λ q ne. (refl, get_or-set_other opened s q false false ne, get_or-set_other lent s q false false ne))
-        (behind_same (held p) (held p') peers s (λ q ne _. others_held s u p.moves q ne) near ∙ (λ i. sym (own_held s u p.moves near) i ++ behind (held p') peers s)
-          ∙ sym (ring_front (held p') peers s near) ∙ ap (ring (held p') peers) (sym at))
+      (f.0, get_or-set_same opened s false false (subst (λ (z : ℕ). s < z) (sym fit.all_open) near), get_or-set_same lent s false false (subst (λ (z : ℕ). s < z) (sym fit.all_lent) near), (λ y e. absurd (none-some y e)), (λ t. absurd (true≢false (sym t))))
+      (λ q ne. (refl, get_or-set_other opened s q false false ne, get_or-set_other lent s q false false ne))
+      (behind_same (held p) (held p') peers s (λ q ne _. others_held s u p.moves q ne) near ∙ (λ i. sym (own_held s u p.moves near) i ++ behind (held p') peers s)
+      ∙ sym (ring_front (held p') peers s near) ∙ ap (ring (held p') peers) (sym at))
 
   rerolled : (turn' : ℕ) (hand' : List (ℕ × ℕ)) → turn' ≤ peers → hand' ≡ ring (held p) peers turn' → Fits me peers room pool clock turn' puts gots opened lent p hand'
   rerolled turn' hand' round is = record {
@@ -344,11 +347,20 @@ fits_new me peers room pool puts gots opened lent below is_p is_g is_o is_l = le
       all_outs = length-replicate peers (new_out pool);
       all_ins = length-replicate peers new_in;
       clock_is = refl;
-      each_put = λ d near. (ap (λ (z : List ℕ). get_or z d 0) is_p ∙ same_all peers d 0 ∙ ap (λ (z : Out). length z.posted) (sym (out d near)), ap (λ (z : Out). z.writing) (out d near),
-          subst (λ (z : Out). length z.posted ≤ 0) (sym (out d near)) (le_refl 0), ap (λ (z : Out). z.claim) (out d near), ap (λ (z : Out). length z.tried) (out d near) ∙ length-replicate pool 0);
-      each_got = λ s near. (ap (λ (z : List ℕ). get_or z s 0) is_g ∙ same_all peers s 0 ∙ ap (λ (z : In). length z.taken) (sym (got s)),
-          ap (λ (z : List Bool). get_or z s false) is_o ∙ same_all peers s false ∙ ap (λ (z : In). is_some z.opened) (sym (got s)),
-          ap (λ (z : List Bool). get_or z s false) is_l ∙ same_all peers s false ∙ ap (λ (z : In). z.lent) (sym (got s)), (λ x e. absurd (none-some x (ap (λ (z : In). z.opened) (sym (got s)) ∙ e))), (λ t. absurd (true≢false (sym t ∙ ap (λ (z : In). z.lent) (got s)))));
+      each_put = λ d near. (
+        ap (λ (z : List ℕ). get_or z d 0) is_p ∙ same_all peers d 0 ∙ ap (λ (z : Out). length z.posted) (sym (out d near)),
+        ap (λ (z : Out). z.writing) (out d near),
+        subst (λ (z : Out). length z.posted ≤ 0) (sym (out d near)) (le_refl 0),
+        ap (λ (z : Out). z.claim) (out d near),
+        ap (λ (z : Out). length z.tried) (out d near) ∙ length-replicate pool 0,
+      );
+      each_got = λ s near. (
+        ap (λ (z : List ℕ). get_or z s 0) is_g ∙ same_all peers s 0 ∙ ap (λ (z : In). length z.taken) (sym (got s)),
+        ap (λ (z : List Bool). get_or z s false) is_o ∙ same_all peers s false ∙ ap (λ (z : In). is_some z.opened) (sym (got s)),
+        ap (λ (z : List Bool). get_or z s false) is_l ∙ same_all peers s false ∙ ap (λ (z : In). z.lent) (sym (got s)),
+        (λ x e. absurd (none-some x (ap (λ (z : In). z.opened) (sym (got s)) ∙ e))),
+        (λ t. absurd (true≢false (sym t ∙ ap (λ (z : In). z.lent) (got s)))),
+      );
       hand_is = sym ((λ i. span_none (held p) 0 (peers - 0) (λ s. ap (λ (z : In). held_of z.opened z.lent (oldest_of p s) (p.peers * p.peers * p.room)) (got s)) i ++ []));
     }
 

@@ -1,8 +1,7 @@
 -- Ports as they are made.
-use Rattle.std.proofs.Common.{◌≡◌, ℕ, zero, suc, ◌+◌, ◌<◌, List, [], ◌∷◌, ◌++◌, length, get_or, replicate, sym, refl, ap, ◌∙◌, subst, arith}
-use Rattle.std.specs.Prelude.{Option, Some, None, slice_get}
+use Rattle.std.proofs.Common.{◌≡◌, ℕ, zero, suc, List, [], ◌∷◌, ◌++◌, length, get_or, replicate, sym, refl, ap, ◌∙◌, subst}
+use Rattle.std.specs.Prelude.{Some, slice_get}
 use Rattle.std.proofs.lemmas.Option.{none-some, same_Some}
-use Rattle.std.specs.Arc.{arc_value}
 use Rattle.fab_link.specs.Meaning.{AreFresh}
 use Rattle.fab_table.specs.declared.fabric.Fabric.{Fabric}
 use Rattle.fab_table.specs.declared.kinds.Out.{Out}
@@ -12,7 +11,7 @@ use Rattle.fab_table.specs.Views.{frames_of, least, least_from, new_out, new_in,
 use Rattle.fab_table.proofs.Seating.{same_all}
 use Rattle.fab_ring.specs.declared.port.RingPort.{RingPort}
 use Rattle.fab_ring.specs.Hands.{Comes}
-use Rattle.fab_ring.specs.Ports.{outgoing, incoming, frame_in, part_of, number_of, peers_of, room_of, pool_of, table_of, moves_of, out_of, in_of}
+use Rattle.fab_ring.specs.Ports.{outgoing, incoming, frame_in}
 use Rattle.fab_ring.specs.Made.{IsMade, AreMade}
 
 pub comes_new : (n room pool me : ℕ) → Comes (new_part n room pool me)

@@ -1,10 +1,9 @@
 -- For the tests: the last of new ports is new, and a whole message leaves its lane between items.
-use Rattle.std.proofs.Common.{◌≡◌, ◌≢◌, ℕ, zero, suc, ◌+◌, List, [], ◌∷◌, ◌++◌, length, sym, refl, ap, ◌∙◌, subst, Some, None, Ok, Err}
+use Rattle.std.proofs.Common.{◌≡◌, ◌≢◌, ℕ, zero, suc, List, [], ◌∷◌, ◌++◌, length, sym, refl, ap, ◌∙◌, subst, Some, None, Ok, Err}
 use mathlib.Core.Logic.{dite}
 use native.Mathlib.Decide.{ℕ_discrete}
 use Rattle.std.specs.Prelude.{Option, Result, slice_get, IfSome, OnOk, OnErr, option_to_list}
-use Rattle.std.proofs.lemmas.Option.{none-some, same_Some}
-use Rattle.fab_base.specs.declared.frames.FrameHead.{FrameHead}
+use Rattle.std.proofs.lemmas.Option.{none-some}
 use Rattle.fab_base.specs.declared.frames.Frame.{Frame}
 use Rattle.fab_wire.specs.Frames.{IsLast, last_head}
 use Rattle.fab_wire.specs.Cut.{IsBetweenItems}

@@ -1,5 +1,5 @@
 -- What stays of what a port keeps of its open frames.
-use Rattle.std.proofs.Common.{◌≡◌, ℕ, zero, suc, ◌+◌, ◌*◌, ◌<◌, ◌≤◌, ◌≢◌, Bool, true, false, List, [], ◌∷◌, ◌++◌, length, get_or, set, sym, refl, ap, ◌∙◌, subst, arith, length-set, get_or-set_same, get_or-set_other}
+use Rattle.std.proofs.Common.{◌≡◌, ℕ, zero, suc, ◌<◌, ◌≢◌, List, [], ◌∷◌, length, get_or, set, sym, refl, ap, ◌∙◌, subst, length-set, get_or-set_same, get_or-set_other}
 use mathlib.Core.Logic.{dite}
 use native.Mathlib.Decide.{ℕ_discrete}
 use Rattle.std.specs.Prelude.{Option, Some, None, slice_get, IsSome}
@@ -53,8 +53,8 @@ told_set peers cs bs p s u c b ms low near sized tells t = let low' : s < length
       (λ ne. ap length (get_or-set_other bs s e b [] ne) ∙ t.sizes e near');
   says = λ e c' x' there opened. dite (ℕ_discrete e s)
       (λ is. let same_c : c ≡ c' = get_set_same cs s c c' (subst (λ (z : ℕ). slice_get (set cs s c) z ≡ Some c') is there) in
-        let mine = tells x' (sym (ap (λ (z : In). z.opened) (get_or-set_same p.ins s u new_in near)) ∙ subst (λ (z : ℕ). (in_at (with_in p s u ms) z).opened ≡ Some x') is opened) in
-        subst (λ (z : Command × List ℕ). Tells x' z.0 z.1) (λ i. (same_c i, (sym here ∙ (λ j. get_or (set bs s b) (sym is j) [])) i)) mine)
+      let mine = tells x' (sym (ap (λ (z : In). z.opened) (get_or-set_same p.ins s u new_in near)) ∙ subst (λ (z : ℕ). (in_at (with_in p s u ms) z).opened ≡ Some x') is opened) in
+      subst (λ (z : Command × List ℕ). Tells x' z.0 z.1) (λ i. (same_c i, (sym here ∙ (λ j. get_or (set bs s b) (sym is j) [])) i)) mine)
       (λ ne. subst (λ (z : List ℕ). Tells x' c' z) (sym (get_or-set_other bs s e b [] ne)) (t.says e c' x' (sym (get_set_other cs s e c ne) ∙ there) (sym (ap (λ (z : In). z.opened) (get_or-set_other p.ins s e u new_in ne)) ∙ opened)));
 }
 
@@ -67,7 +67,7 @@ comes_out p d o ms c = ∥∥₁_map c (λ k s x e. k s x e)
 pub comes_in : (p : Part) (s : ℕ) (u : In) (ms : List Move) → s < length p.ins → ((x : Sent) → u.opened ≡ Some x → MayCome (last_head None (frames_of u.taken)) x.frame) → Comes p → Comes (with_in p s u ms)
 comes_in p s u ms near mine k e x opened = let here = get_or-set_same p.ins s u new_in near in dite (ℕ_discrete e s)
     (λ is. subst (λ (z : ℕ). MayCome (last_head None (frames_of (in_at (with_in p s u ms) z).taken)) x.frame) (sym is)
-      (subst (λ (z : In). MayCome (last_head None (frames_of z.taken)) x.frame) (sym here) (mine x (sym (ap (λ (z : In). z.opened) here) ∙ subst (λ (z : ℕ). (in_at (with_in p s u ms) z).opened ≡ Some x) is opened))))
+    (subst (λ (z : In). MayCome (last_head None (frames_of z.taken)) x.frame) (sym here) (mine x (sym (ap (λ (z : In). z.opened) here) ∙ subst (λ (z : ℕ). (in_at (with_in p s u ms) z).opened ≡ Some x) is opened))))
     (λ ne. let there = get_or-set_other p.ins s e u new_in ne in subst (λ (z : In). MayCome (last_head None (frames_of z.taken)) x.frame) (sym there) (k e x (sym (ap (λ (z : In). z.opened) there) ∙ opened)))
 
 pub opened_is : {X : Type 0} (o : Option X) → IsSome o → (x : X) × (o ≡ Some x)

@@ -1,5 +1,5 @@
 -- What contracts see of a port: the part of its seat's view, in the words of all ports.
-use Rattle.std.specs.Prelude.{◌≡◌, ℕ, ◌+◌, List, [], map, Option, Some, None}
+use Rattle.std.specs.Prelude.{◌≡◌, ℕ, ◌+◌, List, map, Option, Some, None}
 use Rattle.std.specs.Arc.{arc_value}
 use Rattle.atomic_table.specs.Seated.{TableId}
 use Rattle.fab_base.specs.declared.frames.Frame.{Frame}

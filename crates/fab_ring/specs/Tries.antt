@@ -2,7 +2,7 @@
 --     raised j ts           the counts after a try on each of the first j slots found it taken
 --     IsTried o j ts f      so are the counts ts after them, and f is where the least of them last rose
 --     tried_out, posted_out, full_out ..    a lane after what one call did
-use Rattle.std.specs.Prelude.{◌≡◌, ℕ, zero, suc, ◌+◌, ◌<◌, ◌⊎◌, Bool, true, false, List, [], ◌∷◌, ◌++◌, length, Option, Some, None}
+use Rattle.std.specs.Prelude.{◌≡◌, ℕ, zero, suc, ◌+◌, ◌<◌, ◌⊎◌, Bool, List, [], ◌∷◌, length, Option, None}
 use Rattle.fab_base.specs.declared.frames.FrameHead.{FrameHead}
 use Rattle.fab_wire.specs.Frames.{frame}
 use Rattle.fab_table.specs.declared.kinds.Sent.{Sent}

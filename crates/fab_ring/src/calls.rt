@@ -21,7 +21,12 @@ const MOST: u64 = 1 << 62;
 impl RingPort {
     /// Posts a frame where a look shows room for it, and one try on each slot of the peer's pool finds a
     /// free one where it needs one.
-    pub(crate) fn send(&mut self, dest: u32, head: FrameHead, bytes: &[u8]) -> Result<(), PostRefused>
+    pub(crate) fn send(
+        &mut self,
+        dest: u32,
+        head: FrameHead,
+        bytes: &[u8],
+    ) -> Result<(), PostRefused>
         requires below { dest < peers_of self.old }
         requires continues { Continues (last_head None (frames_of (out_at (part_of self.old) dest).posted)) head }
         requires filled { length bytes.now ≡ head.len }
@@ -122,7 +127,7 @@ impl RingPort {
         ensures looked { (in_at (part_of self.old) src).opened ≡ None
             → (part_of self.new ≡ with_in (part_of self.old) src (saw_empty (in_at (part_of self.old) src) (length (in_at (part_of self.old) src).taken)) (part_of self.old).moves)
             ⊎ ((r : ℕ) × (x : Sent) × MayCome (last_head None (frames_of (in_at (part_of self.old) src).taken)) x.frame
-                × (part_of self.new ≡ with_in (part_of self.old) src (saw_frame (in_at (part_of self.old) src) r x) (part_of self.old).moves)) }
+            × (part_of self.new ≡ with_in (part_of self.old) src (saw_frame (in_at (part_of self.old) src) r x) (part_of self.old).moves)) }
     {
         if self.opened[src as usize] {
             return;
@@ -196,7 +201,13 @@ impl RingPort {
         let Some(slot) = self.commands[src as usize].slot else {
             unreachable!()
         };
-        free_pooled(&self.fabric, &mut self.seat, self.me as u64, src as u64, slot);
+        free_pooled(
+            &self.fabric,
+            &mut self.seat,
+            self.me as u64,
+            src as u64,
+            slot,
+        );
         self.turn += 1;
         self.lent[src as usize] = false;
     }

@@ -35,7 +35,13 @@ pub(crate) enum Look {
 
 /// Looks for the next frame of a peer. Where there is one its command is copied, and the buffer of its
 /// slot, if it has one, is taken for another.
-pub(crate) fn open_next(fabric: &Fabric, seat: &mut PeerSeat, next: &Oldest, command: &mut Command, buffer: &mut Buf) -> Look
+pub(crate) fn open_next(
+    fabric: &Fabric,
+    seat: &mut PeerSeat,
+    next: &Oldest,
+    command: &mut Command,
+    buffer: &mut Buf,
+) -> Look
     requires alone { IsAlone fabric.now seat.old next.now.me }
     requires below { next.now.src < fabric.now.peers }
     requires closed { (in_of seat.old 0 next.now.src).opened ≡ None }

@@ -54,7 +54,13 @@ fn claim_any(fabric: &Fabric, seat: &mut PeerSeat, next: &Next) -> Option<u64>
 }
 
 /// Posts a frame whose bytes fit into the cell in hand.
-pub(crate) fn send_inline(fabric: &Fabric, seat: &mut PeerSeat, next: &Next, head: FrameHead, bytes: &[u8])
+pub(crate) fn send_inline(
+    fabric: &Fabric,
+    seat: &mut PeerSeat,
+    next: &Next,
+    head: FrameHead,
+    bytes: &[u8],
+)
     requires alone { IsAlone fabric.now seat.old next.now.me }
     requires below { next.now.dest < fabric.now.peers }
     requires writing { ((out_of seat.old 0 next.now.dest).writing ≡ true) × ((out_of seat.old 0 next.now.dest).claim ≡ None) }
@@ -73,7 +79,13 @@ pub(crate) fn send_inline(fabric: &Fabric, seat: &mut PeerSeat, next: &Next, hea
 
 /// Posts a frame whose bytes go into a slot of the peer's pool, or, where none was free, gives the cell
 /// in hand back and answers false.
-pub(crate) fn send_pooled(fabric: &Fabric, seat: &mut PeerSeat, next: &Next, head: FrameHead, bytes: &[u8]) -> bool
+pub(crate) fn send_pooled(
+    fabric: &Fabric,
+    seat: &mut PeerSeat,
+    next: &Next,
+    head: FrameHead,
+    bytes: &[u8],
+) -> bool
     requires alone { IsAlone fabric.now seat.old next.now.me }
     requires below { next.now.dest < fabric.now.peers }
     requires writing { ((out_of seat.old 0 next.now.dest).writing ≡ true) × ((out_of seat.old 0 next.now.dest).claim ≡ None) }
@@ -103,7 +115,13 @@ pub(crate) fn send_pooled(fabric: &Fabric, seat: &mut PeerSeat, next: &Next, hea
 }
 
 /// Posts a frame, with a slot where it has more than 64 bytes. False where no slot was free.
-pub(crate) fn send_next(fabric: &Fabric, seat: &mut PeerSeat, next: &Next, head: FrameHead, bytes: &[u8]) -> bool
+pub(crate) fn send_next(
+    fabric: &Fabric,
+    seat: &mut PeerSeat,
+    next: &Next,
+    head: FrameHead,
+    bytes: &[u8],
+) -> bool
     requires alone { IsAlone fabric.now seat.old next.now.me }
     requires below { next.now.dest < fabric.now.peers }
     requires writing { ((out_of seat.old 0 next.now.dest).writing ≡ true) × ((out_of seat.old 0 next.now.dest).claim ≡ None) }

@@ -126,3 +126,74 @@ fn a_slot_is_handed_over(rt: HostRuntime) -> Result<(), Fail> {
     assert!(rt; take(&mut two, 1, 5) == Some(2));
     Ok(())
 }
+
+/// How many messages each of two threads sends to the other.
+const COUNT: u64 = 100_000;
+
+/// Sends the next message, unless all were sent, and tells how many were sent then.
+fn send(port: &mut RingPort, other: u32, sent: u64, bytes: &[u8]) -> u64
+    requires below { other < peers_of port.old }
+    requires between { (d : ℕ) → IsBetweenItems (end_of (out_of port.old d)) }
+    requires bytes { length bytes.now ≡ 4096 }
+    ensures peers { peers_of port.new ≡ peers_of port.old }
+    ensures between { (d : ℕ) → IsBetweenItems (end_of (out_of port.new d)) }
+{
+    if sent >= COUNT {
+        return sent;
+    }
+    let len = (sent * 37 % 4097) as usize;
+    match post(port, other, sent, &bytes[..len]) {
+        Ok(()) => sent + 1,
+        Err(_) => sent,
+    }
+}
+
+/// Sends messages of many sizes to the other peer, takes its messages, and tells how many came in order.
+fn talk<R: Wait>(rt: &R, mut port: RingPort, other: u32, bytes: &[u8]) -> u64
+    requires below { other < peers_of port }
+    requires between { (d : ℕ) → IsBetweenItems (end_of (out_of port d)) }
+    requires bytes { length bytes.now ≡ 4096 }
+{
+    let mut sent = 0u64;
+    let mut got = 0u64;
+    for _ in rt.forever() {
+        sent = send(&mut port, other, sent, bytes);
+        match take(&mut port, other, 7) {
+            Some(tag) => {
+                if tag == got {
+                    got = got.saturating_add(1);
+                }
+            }
+            None => thread::yield_now(),
+        }
+        if sent >= COUNT && got >= COUNT {
+            break;
+        }
+    }
+    got
+}
+
+#[test]
+fn two_threads_talk(rt: HostRuntime) -> Result<(), Fail> {
+    let alloc = rt.alloc();
+    let mut ports = Rings::new(alloc, 2, 16, 8)?.ports(alloc)?;
+    let Some(one) = last(&mut ports, 2) else {
+        return Err("no port")?;
+    };
+    let Some(zero) = last(&mut ports, 2) else {
+        return Err("no port")?;
+    };
+    let data = Vec::from_elem(alloc, 7u8, 4096)?;
+    let bytes = data.as_slice();
+    let (a, b) = thread::join(
+        &rt,
+        || -> u64
+            requires { (peers_of zero ≡ 2) × ((d : ℕ) → IsBetweenItems (end_of (out_of zero d))) × (length bytes.now ≡ 4096) }
+        { talk(&rt, zero, 1, bytes) },
+        || -> u64
+            requires { (peers_of one ≡ 2) × ((d : ℕ) → IsBetweenItems (end_of (out_of one d))) × (length bytes.now ≡ 4096) }
+        { talk(&rt, one, 0, bytes) },
+    );
+    assert!(rt; a == COUNT && b == COUNT);
+    Ok(())
+}

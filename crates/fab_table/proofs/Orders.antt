@@ -1,8 +1,6 @@
 -- The order of one peer's moves, as it grows.
-use Rattle.std.proofs.Common.{◌≡◌, ℕ, zero, suc, ◌+◌, ◌<◌, ◌≤◌, ◌≢◌, max, eqb, cond, Bool, true, false, List, [], ◌∷◌, ◌++◌, map, length, set, get_or, sym, refl, ap, ◌∙◌, subst, arith, length-set, eq-eqb, ne_eqb, append-nil}
-use mathlib.Core.Logic.{dite}
+use Rattle.std.proofs.Common.{◌≡◌, ℕ, ◌+◌, ◌<◌, ◌≤◌, max, eqb, cond, Bool, true, false, List, [], ◌∷◌, ◌++◌, map, length, sym, refl, ap, ◌∙◌, subst, arith, length-set, eq-eqb, ne_eqb, append-nil}
 use mathlib.Core.List.{map-append}
-use native.Mathlib.Decide.{ℕ_discrete}
 use Rattle.fab_wire.specs.declared.moves.Move.{Move}
 use Rattle.fab_wire.specs.declared.moves.Move.TheVariants.{Post, Take}
 use Rattle.fab_wire.specs.Merged.{IsStampedAbove, posts_to, takes_of}

@@ -1,36 +1,20 @@
 -- What a step on one lane, or one pool slot, leaves of the words and places of all others.
-use Rattle.std.proofs.Common.{◌≡◌, ℕ, zero, suc, ◌+◌, ◌*◌, ◌%◌, ◌<◌, ◌≤◌, ◌≢◌, ◌⊎◌, inl, inr, ⊎_elim, Bool, true, false, true≢false, List, [], ◌∷◌, ◌++◌, length, take, get_or, set, sym, refl, ap, ap₂, eqb, ◌∙◌, subst, le_refl, arith, length-append, length-set, get_or-set_other, get_or-set_same, mod-lt}
-use mathlib.Core.Logic.{dite}
+use Rattle.std.proofs.Common.{◌≡◌, ℕ, ◌+◌, ◌*◌, ◌<◌, ◌≤◌, ◌≢◌, Bool, length, get_or, set, sym, refl, ap, ◌∙◌, subst, arith, get_or-set_other}
 use mathlib.Core.Option.{some, none, some-injective, some-ne-none}
 use mathlib.Core.Option as maybe
-use native.Mathlib.Decide.{dec_lt}
 use lib.ListN.{get_elem?}
-use prog.Atomic.{either}
-use lib.Seq.{set_comm, set-get_or, length-take-le, take-append-le}
-use Rattle.std.specs.Prelude.{Option, Some, None}
-use Rattle.std.proofs.lemmas.Option.{none-some, same_Some}
-use Rattle.atomic_table.specs.Table.{State, step, keeps, takes, gives, chain, stepped, rest, put_back, Allows, Act, Valid, carried_after}
-use Rattle.atomic_table.proofs.Lists.{set_else, set_here, exchanged}
-use Rattle.fab_wire.specs.declared.moves.Move.{Move}
-use Rattle.fab_wire.specs.declared.moves.Move.TheVariants.{Post, Take}
-use Rattle.fab_wire.specs.Frames.{last_head, MayCome, IsLane}
-use Rattle.fab_table.specs.declared.kinds.Command.{Command}
-use Rattle.fab_table.specs.declared.kinds.Sent.{Sent}
+use Rattle.std.specs.Prelude.{Option}
+use Rattle.atomic_table.specs.Table.{State}
+use Rattle.atomic_table.proofs.Lists.{set_else}
 use Rattle.fab_table.specs.declared.kinds.Layout.{Layout}
 use Rattle.fab_table.specs.declared.kinds.Slot.{Slot}
-use Rattle.fab_table.specs.declared.kinds.Slot.TheVariants.{Cell, Pool}
-use Rattle.fab_table.specs.declared.kinds.Out.{Out}
-use Rattle.fab_table.specs.declared.kinds.In.{In}
-use Rattle.fab_table.specs.declared.kinds.Part.{Part}
 use Rattle.fab_table.specs.declared.kinds.View.{View}
-use Rattle.fab_table.specs.Views.{frames_of, claimed_one, refused_one, freed_one, left_one, shut_one, pool_word, pool_home, has_slot, part_at, out_at, in_at, with_part, with_out, with_in, saw_full, saw_room, posted_one, saw_empty, saw_frame, taken_one, lane_of, put_word, got_word}
-use Rattle.fab_table.specs.Rule.{said_inline, said_pooled, Says, SaidAt, Fills, FilledAt, IsBuf, IsShort, greatest, Place, sent, claimed, free, PlaceOk, Pools, Homes, Lane, cell_of, LaneOk, OutOk, InOk, PartOk, Ruled}
-use Rattle.fab_table.specs.Plays.{claims, frees_pool, ClaimsAt, FreesAt, leaves, shuts, shuts_pooled, posts_pooled, claim_view, refuse_view, free_view, shut_view, slot_home, most, Sat, out_lane, in_lane, next_cell, oldest_cell, new_out_view, new_in_view, post_view, take_view, SawGot, saw_got, posts, Opens, SawPut, saw_put, takes_frame}
-use Rattle.fab_table.proofs.Rows.{put, at_lt, at_some, take_next, pair_once, pair_below}
-use Rattle.fab_table.proofs.Cells.{stays, with_writing, with_opened, with_post, with_take, reserves, joins, opens, frees, closes, returns}
-use Rattle.fab_table.proofs.Orders.{kept_out, kept_in, kept_post, kept_take}
-use Rattle.fab_table.proofs.Pooled.{lane_at, with_claim, with_lent, pools_look, pools_post, pools_post_slot, pools_open, pools_open_slot, pools_take, pools_claim, pools_free, pools_shut, pools_shut_pooled}
-use Rattle.fab_table.proofs.Stays.{Elsewhere, mine, out_moves, in_moves}
+use Rattle.fab_table.specs.Views.{pool_word, pool_home, part_at, lane_of, put_word, got_word}
+use Rattle.fab_table.specs.Rule.{Homes, Lane, LaneOk, Ruled}
+use Rattle.fab_table.specs.Plays.{out_lane, in_lane}
+use Rattle.fab_table.proofs.Rows.{put, pair_once, pair_below}
+use Rattle.fab_table.proofs.Cells.{with_writing}
+use Rattle.fab_table.proofs.Stays.{Elsewhere, mine}
 
 module _ (k : Layout) (s : State Slot View) (r : Ruled k s) where
   -- a step on the lane l that changes no word, and one slot of the lane

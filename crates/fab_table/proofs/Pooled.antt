@@ -1,9 +1,8 @@
 -- What stays of the slots' places at each kind of step.
-use Rattle.std.proofs.Common.{◌≡◌, ℕ, zero, suc, ◌+◌, ◌*◌, ◌<◌, ◌≤◌, ◌≢◌, ◌⊎◌, inl, inr, ⊎_elim, Bool, true, false, true≢false, List, [], ◌∷◌, ◌++◌, length, get_or, sym, refl, le_refl, ap, ◌∙◌, subst, arith, length-append}
+use Rattle.std.proofs.Common.{◌≡◌, ℕ, ◌+◌, ◌*◌, ◌<◌, ◌≤◌, ◌≢◌, inl, inr, ⊎_elim, Bool, true, false, true≢false, List, [], ◌∷◌, ◌++◌, length, get_or, sym, refl, le_refl, ap, ◌∙◌, subst, arith, length-append}
 use mathlib.Core.Logic.{dite}
 use mathlib.Core.Path.{Path}
-use mathlib.Core.Option as maybe
-use mathlib.Core.Option.{some, none, some-injective}
+use mathlib.Core.Option.{some, some-injective}
 use native.Mathlib.Decide.{ℕ_discrete}
 use lib.ListN.{get_elem?}
 use Rattle.std.specs.Prelude.{Option, Some, None}
@@ -12,7 +11,7 @@ use Rattle.atomic_table.proofs.Lists.{at_longer, at_last}
 use Rattle.fab_table.specs.declared.kinds.Sent.{Sent}
 use Rattle.fab_table.specs.declared.kinds.Slot.{Slot}
 use Rattle.fab_table.specs.Views.{lane_of, pool_word, pool_home, has_slot}
-use Rattle.fab_table.specs.Rule.{Homes, Home, Lane, Fills, FilledAt, IsBuf, Place, free, claimed, sent, SentOk, PlaceOk, Outstanding, Pools}
+use Rattle.fab_table.specs.Rule.{Homes, Home, Lane, Fills, IsBuf, Place, free, claimed, sent, SentOk, PlaceOk, Outstanding, Pools}
 use Rattle.fab_table.proofs.Rows.{at_lt, at_shorter, put, at_put, pair_once}
 use Rattle.fab_table.proofs.Cells.{with_writing, with_opened, with_post, with_take}
 

@@ -1,38 +1,36 @@
 -- Each kind of step of a receiver keeps the rule.
-use Rattle.std.proofs.Common.{◌≡◌, ℕ, zero, suc, ◌+◌, ◌*◌, ◌%◌, ◌<◌, ◌≤◌, ◌≢◌, ◌⊎◌, inl, inr, ⊎_elim, Bool, true, false, true≢false, List, [], ◌∷◌, ◌++◌, length, take, get_or, set, sym, refl, ap, ap₂, eqb, ◌∙◌, subst, le_refl, arith, length-append, length-set, get_or-set_other, get_or-set_same, mod-lt}
+use Rattle.std.proofs.Common.{◌≡◌, ℕ, zero, suc, ◌+◌, ◌*◌, ◌%◌, ◌<◌, ◌≤◌, ◌≢◌, ◌⊎◌, inl, inr, ⊎_elim, true, false, List, [], ◌∷◌, ◌++◌, length, take, get_or, set, sym, refl, ap, ◌∙◌, subst, le_refl, arith, length-set, get_or-set_other, get_or-set_same, mod-lt}
 use mathlib.Core.Logic.{dite}
 use mathlib.Core.Option.{some, none, some-injective, some-ne-none}
 use mathlib.Core.Option as maybe
 use native.Mathlib.Decide.{dec_lt}
 use lib.ListN.{get_elem?}
-use prog.Atomic.{either}
-use lib.Seq.{set_comm, set-get_or, length-take-le, take-append-le}
+use lib.Seq.{set_comm, set-get_or, length-take-le}
 use Rattle.std.specs.Prelude.{Option, Some, None}
 use Rattle.std.proofs.lemmas.Option.{none-some, same_Some}
-use Rattle.atomic_table.specs.Table.{State, step, keeps, takes, gives, chain, stepped, rest, put_back, Allows, Act, Valid, carried_after}
-use Rattle.atomic_table.proofs.Lists.{set_else, set_here, exchanged}
+use Rattle.atomic_table.specs.Table.{step, keeps, takes, gives, chain, stepped, rest, put_back, Allows, carried_after}
+use Rattle.atomic_table.proofs.Lists.{set_else, set_here}
 use Rattle.fab_base.specs.declared.frames.FrameHead.{FrameHead}
 use Rattle.fab_wire.specs.declared.moves.Move.{Move}
-use Rattle.fab_wire.specs.declared.moves.Move.TheVariants.{Post, Take}
+use Rattle.fab_wire.specs.declared.moves.Move.TheVariants.{Take}
 use Rattle.fab_wire.specs.Frames.{last_head, MayCome, IsLane}
 use Rattle.fab_table.specs.declared.kinds.Command.{Command}
 use Rattle.fab_table.specs.declared.kinds.Sent.{Sent}
 use Rattle.fab_table.specs.declared.kinds.Layout.{Layout}
 use Rattle.fab_table.specs.declared.kinds.Slot.{Slot}
-use Rattle.fab_table.specs.declared.kinds.Slot.TheVariants.{Cell, Pool}
-use Rattle.fab_table.specs.declared.kinds.Out.{Out}
+use Rattle.fab_table.specs.declared.kinds.Slot.TheVariants.{Cell}
 use Rattle.fab_table.specs.declared.kinds.In.{In}
 use Rattle.fab_table.specs.declared.kinds.Part.{Part}
 use Rattle.fab_table.specs.declared.kinds.View.{View}
-use Rattle.fab_table.specs.Views.{frames_of, claimed_one, refused_one, freed_one, left_one, shut_one, pool_word, pool_home, has_slot, part_at, out_at, in_at, with_part, with_out, with_in, saw_full, saw_room, posted_one, saw_empty, saw_frame, taken_one, lane_of, put_word, got_word}
-use Rattle.fab_table.specs.Rule.{said_inline, said_pooled, Says, SaidAt, Fills, FilledAt, IsBuf, IsShort, greatest, Place, sent, claimed, free, PlaceOk, Pools, Homes, Lane, cell_of, LaneOk, OutOk, InOk, PartOk, Ruled}
-use Rattle.fab_table.specs.Plays.{claims, frees_pool, ClaimsAt, FreesAt, leaves, shuts, shuts_pooled, posts_pooled, claim_view, refuse_view, free_view, shut_view, slot_home, most, Sat, out_lane, in_lane, next_cell, oldest_cell, new_out_view, new_in_view, post_view, take_view, SawGot, saw_got, posts, Opens, SawPut, saw_put, takes_frame}
-use Rattle.fab_table.proofs.Rows.{put, at_lt, at_some, take_next, pair_once, pair_below}
-use Rattle.fab_table.proofs.Cells.{stays, with_writing, with_opened, with_post, with_take, reserves, joins, opens, frees, closes, returns}
-use Rattle.fab_table.proofs.Orders.{kept_out, kept_in, kept_post, kept_take}
-use Rattle.fab_table.proofs.Pooled.{lane_at, with_claim, with_lent, pools_look, pools_post, pools_post_slot, pools_open, pools_open_slot, pools_take, pools_claim, pools_free, pools_shut, pools_shut_pooled}
-use Rattle.fab_table.proofs.Stays.{Elsewhere, mine, out_moves, in_moves}
-use Rattle.fab_table.proofs.Places.{one_slot, no_slot, put_too, got_too, pool_same, word_same, same_out, same_in, rewritten, cell_apart, reclaimed}
+use Rattle.fab_table.specs.Views.{frames_of, freed_one, shut_one, pool_word, pool_home, has_slot, part_at, out_at, in_at, saw_empty, saw_frame, taken_one, lane_of, put_word, got_word}
+use Rattle.fab_table.specs.Rule.{Says, SaidAt, Fills, FilledAt, IsBuf, sent, free, PlaceOk, Homes, Lane, cell_of, LaneOk, InOk, Ruled}
+use Rattle.fab_table.specs.Plays.{frees_pool, FreesAt, shuts, shuts_pooled, free_view, shut_view, slot_home, Sat, in_lane, oldest_cell, new_in_view, take_view, Opens, SawPut, saw_put, takes_frame}
+use Rattle.fab_table.proofs.Rows.{put, at_some, take_next, pair_below}
+use Rattle.fab_table.proofs.Cells.{stays, with_writing, with_opened, with_take, opens, frees, closes}
+use Rattle.fab_table.proofs.Orders.{kept_in, kept_take}
+use Rattle.fab_table.proofs.Pooled.{lane_at, with_lent, pools_look, pools_open, pools_open_slot, pools_take, pools_free, pools_shut, pools_shut_pooled}
+use Rattle.fab_table.proofs.Stays.{mine, in_moves}
+use Rattle.fab_table.proofs.Places.{one_slot, no_slot, got_too, pool_same, word_same, same_in, rewritten, cell_apart, reclaimed}
 
 slot_cases : (o : Option ℕ) → (o ≡ None) ⊎ ((q : ℕ) × (o ≡ Some q))
 slot_cases None = inl refl

@@ -1,14 +1,14 @@
 -- How the rule begins, and how seats are split and joined.
-use Rattle.std.proofs.Common.{◌≡◌, ℕ, zero, suc, ◌+◌, ◌*◌, ◌%◌, ◌<◌, ◌≤◌, ◌≢◌, ◌⊎◌, inl, inr, ⊎_elim, Bool, true, false, true≢false, List, [], ◌∷◌, ◌++◌, map, length, take, drop, replicate, get_or, set, sym, refl, ap, ◌∙◌, subst, le_refl, arith, length-append, mod-lt}
+use Rattle.std.proofs.Common.{◌≡◌, ℕ, zero, suc, ◌+◌, ◌*◌, ◌%◌, ◌<◌, ◌≤◌, ◌≢◌, inr, ⊎_elim, false, true≢false, List, [], ◌∷◌, ◌++◌, map, length, take, drop, replicate, get_or, set, sym, refl, ap, ◌∙◌, subst, le_refl, arith, length-append, mod-lt}
 use mathlib.Core.Logic.{dite}
-use mathlib.Core.Option.{some, none, some-ne-none}
+use mathlib.Core.Option.{some, some-ne-none}
 use native.Mathlib.Decide.{ℕ_discrete, dec_lt}
 use lib.ListN.{get_elem?, length-map, length-replicate}
-use lib.Seq.{set-get_or, length-take-le}
-use Rattle.std.specs.Prelude.{Option, Some, None}
+use lib.Seq.{set-get_or}
+use Rattle.std.specs.Prelude.{None}
 use Rattle.std.proofs.lemmas.Option.{none-some}
-use Rattle.atomic_table.specs.Table.{State, step, keeps, Allows, Splits, Joins, opening}
-use Rattle.atomic_table.proofs.Lists.{at_set, set_else, set_again, some_there}
+use Rattle.atomic_table.specs.Table.{State, keeps, Allows, Splits, Joins, opening}
+use Rattle.atomic_table.proofs.Lists.{at_set, set_else, set_again}
 use mathlib.Core.List.{IsPrefix}
 use Rattle.std.proofs.lemmas.List.{take-append-drop}
 use Rattle.fab_table.specs.declared.kinds.Sent.{Sent}
@@ -18,9 +18,9 @@ use Rattle.fab_table.specs.declared.kinds.Out.{Out}
 use Rattle.fab_table.specs.declared.kinds.In.{In}
 use Rattle.fab_table.specs.declared.kinds.Part.{Part}
 use Rattle.fab_table.specs.declared.kinds.View.{View}
-use Rattle.fab_table.specs.Views.{pool_word, pool_home, new_out, new_in, new_part, parts_from, everyone, nobody, only_first, but_first, both, part_at, out_at, in_at, lane_of, put_word, got_word}
+use Rattle.fab_table.specs.Views.{pool_word, new_out, new_in, new_part, parts_from, everyone, nobody, only_first, but_first, both, part_at, lane_of, put_word, got_word}
 use Rattle.fab_table.specs.Plays.{Sat, learned}
-use Rattle.fab_table.specs.Rule.{free, IsCell, IsBuf, Homes, Lane, cell_of, LaneOk, OutOk, InOk, number, Kept, PartOk, Ruled}
+use Rattle.fab_table.specs.Rule.{free, IsCell, IsBuf, Lane, OutOk, InOk, number, Kept, PartOk, Ruled}
 use Rattle.fab_table.proofs.Rows.{at_end, pick, pair_below}
 use Rattle.fab_table.proofs.Stays.{mine}
 

@@ -1,6 +1,6 @@
 -- What stays of the rule when one lane and one part move.
-use Rattle.std.proofs.Common.{◌≡◌, ℕ, zero, suc, ◌+◌, ◌*◌, ◌%◌, ◌<◌, ◌≤◌, ◌≢◌, ◌⊎◌, inl, inr, ⊎_elim, Bool, true, false, List, [], ◌∷◌, ◌++◌, length, take, get_or, set, sym, refl, ap, ◌∙◌, subst, arith, length-set, mod-lt}
-use mathlib.Core.Option.{some, none}
+use Rattle.std.proofs.Common.{◌≡◌, ℕ, ◌+◌, ◌*◌, ◌%◌, ◌<◌, ◌≢◌, ⊎_elim, List, length, get_or, set, sym, refl, ap, ◌∙◌, subst, arith, length-set, mod-lt}
+use mathlib.Core.Option.{some}
 use lib.ListN.{get_elem?}
 use Rattle.atomic_table.specs.Table.{State}
 use Rattle.atomic_table.proofs.Lists.{at_set}
@@ -12,8 +12,8 @@ use Rattle.fab_wire.specs.declared.moves.Move.{Move}
 use Rattle.fab_table.specs.declared.kinds.Part.{Part}
 use Rattle.fab_table.specs.declared.kinds.View.{View}
 use Rattle.fab_table.specs.Views.{new_part, new_out, new_in, part_at, out_at, in_at, with_part, with_out, with_in, lane_of, put_word, got_word}
-use Rattle.fab_table.specs.Rule.{Place, Pools, Homes, Lane, cell_of, LaneOk, OutOk, InOk, Kept, PartOk, Ruled}
-use Rattle.fab_table.proofs.Rows.{each_set, put, at_put, pair_once, pair_below}
+use Rattle.fab_table.specs.Rule.{Place, Pools, Homes, Lane, LaneOk, OutOk, InOk, Kept, PartOk, Ruled}
+use Rattle.fab_table.proofs.Rows.{each_set, put, at_put, pair_once}
 use Rattle.fab_table.proofs.Cells.{stays}
 
 abbrev pub St : Type 0

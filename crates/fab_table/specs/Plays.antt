@@ -8,7 +8,7 @@
 --     takes_frame      the open frame is finished, and its cell goes back
 --     shuts            a look by which the open frame's places go back as they came; shuts_pooled: with its slot
 --     learned          a look that tells what holds between the parts of one seat
-use Rattle.std.specs.Prelude.{◌≡◌, ◌≢◌, ℕ, ◌+◌, ◌*◌, ◌^◌, ◌<◌, ◌≤◌, ◌⊎◌, List, [], ◌∷◌, ◌++◌, length, take, Bool, true, false, Option, Some, None}
+use Rattle.std.specs.Prelude.{◌≡◌, ◌≢◌, ℕ, ◌+◌, ◌*◌, ◌^◌, ◌<◌, ◌≤◌, ◌⊎◌, List, [], ◌∷◌, ◌++◌, length, true, Some, None}
 use mathlib.Core.List.{IsPrefix}
 use Rattle.atomic_table.specs.Table.{Step, Me, rest}
 use Rattle.fab_wire.specs.declared.moves.Move.TheVariants.{Post, Take}

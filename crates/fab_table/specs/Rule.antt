@@ -4,7 +4,7 @@
 --     Place, PlaceOk          the slot rule: where one pool slot is
 --     Kept                    the merge rule, for one peer
 --     Ruled                   all of them, with what each seat's view knows
-use Rattle.std.specs.Prelude.{◌≡◌, ℕ, ◌+◌, ◌*◌, ◌%◌, ◌<◌, ◌≤◌, ◌⊎◌, max, Bool, true, false, List, [], ◌∷◌, ◌++◌, map, length, take, slice_index, Option, Some, None}
+use Rattle.std.specs.Prelude.{◌≡◌, ℕ, ◌+◌, ◌*◌, ◌%◌, ◌<◌, ◌≤◌, ◌⊎◌, max, Bool, true, List, [], ◌∷◌, map, length, take, slice_index, Option, Some, None}
 use mathlib.Core.Option as maybe
 use mathlib.Core.Option.{some}
 use lib.ListN.{get_elem?}

@@ -5,7 +5,7 @@
 --     saw_full, saw_room ..      a lane after a step
 --     lane_of n s d              the number of the lane from s to d, among n peers
 --     put_word, got_word, pool_word, pool_home    where its words, and those of the pools, lie
-use Rattle.std.specs.Prelude.{◌≡◌, ℕ, zero, suc, ◌+◌, ◌*◌, min, Bool, true, false, List, [], ◌∷◌, ◌++◌, length, map, take, drop, replicate, slice_index, slice_index_or, slice_set, Option, Some, None, if◌then◌else◌, nat_lt}
+use Rattle.std.specs.Prelude.{ℕ, zero, suc, ◌+◌, ◌*◌, min, Bool, true, false, List, [], ◌∷◌, ◌++◌, length, map, take, drop, replicate, slice_index, slice_index_or, slice_set, Option, Some, None, if◌then◌else◌, nat_lt}
 use Rattle.fab_base.specs.declared.frames.Frame.{Frame}
 use Rattle.fab_wire.specs.declared.moves.Move.{Move}
 use Rattle.fab_table.specs.declared.kinds.Sent.{Sent}

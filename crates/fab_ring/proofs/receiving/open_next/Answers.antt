@@ -1,26 +1,16 @@
-use Rattle.std.proofs.Common.{rules, ◌≡◌, ℕ, suc, ◌+◌, ◌-◌, ◌*◌, ◌%◌, ◌<◌, ◌≤◌, ◌⊎◌, Bool, true, false, List, [], ◌∷◌, ◌++◌, length, take, drop, sym, refl, ap, ◌∙◌, subst, arith, inl, inr, ⊎_elim}
-use Rattle.std.specs.Prelude.{Option, Some, None}
-use Rattle.std.proofs.lemmas.Option.{same_Some, none-some}
+use Rattle.std.proofs.Common.{◌≡◌, ℕ, ◌+◌, ◌*◌, ◌<◌, [], ◌∷◌, ◌++◌, length, take, sym, ap, ◌∙◌, subst, arith}
+use Rattle.std.specs.Prelude.{Some}
 use Rattle.atomic_table.specs.Table.{rest, turned}
-use Rattle.fab_wire.specs.Frames.{frame, last_head, MayCome, Continues}
-use Rattle.fab_wire.specs.declared.moves.Move.TheVariants.{Post, Take}
-use Rattle.fab_table.specs.declared.kinds.Command.{Command}
 use Rattle.fab_table.specs.declared.kinds.Sent.{Sent}
 use Rattle.fab_table.specs.declared.kinds.Slot.{Slot}
-use Rattle.fab_table.specs.declared.kinds.Slot.TheVariants.{Cell, Pool}
-use Rattle.fab_table.specs.declared.kinds.Out.{Out}
+use Rattle.fab_table.specs.declared.kinds.Slot.TheVariants.{Pool}
 use Rattle.fab_table.specs.declared.kinds.In.{In}
-use Rattle.fab_table.specs.declared.kinds.Part.{Part}
 use Rattle.fab_table.specs.declared.kinds.View.{View}
-use Rattle.fab_table.specs.Views.{frames_of, part_at, out_at, in_at, with_part, with_out, with_in, posted_one, saw_frame, saw_empty, freed_one, tried_more, pool_home, lane_of}
-use Rattle.fab_table.specs.Rule.{said_inline, said_pooled, Says, Fills, IsShort, IsBuf, greatest, cell_of}
-use Rattle.fab_table.specs.Plays.{Sat, new_out_view, new_in_view, post_view, take_view, next_cell, oldest_cell, slot_home, next_of, oldest_of}
-use Rattle.fab_table.specs.Seats.{IsOf, IsSame, carried, view_of_seat, sat, part_of, out_of, in_of, named, written}
-use Rattle.fab_table.proofs.Rows.{pair_below}
-use Rattle.fab_ring.specs.Tries.{raised, IsTried, tried_out, sent_as}
-use Rattle.fab_ring.specs.Hands.{shapes, Tells}
-use Rattle.fab_ring.proofs.Hold.{home_small, pool_first, cell_first}
-use Rattle.fab_ring.proofs.Ends.{one_set, take_all, the_buffer, tried_up, tried_next, tried_last, untried, view_over, post_over, here_out, part_out, home_over, next_over, left_all, the_filled, the_said, same_buffer, opened_all, Found, found_first, found_pooled}
+use Rattle.fab_table.specs.Views.{part_at, in_at, saw_frame}
+use Rattle.fab_table.specs.Plays.{Sat, new_in_view, oldest_cell, slot_home}
+use Rattle.fab_table.specs.Seats.{view_of_seat, sat}
+use Rattle.fab_ring.proofs.Hold.{home_small}
+use Rattle.fab_ring.proofs.Ends.{the_filled, the_said, same_buffer, opened_all, found_first, found_pooled}
 use Rattle.fab_ring.proofs.receiving.open_next.Goals as goal
 
 pub overflow_add-home : goal.overflow_add-home
@@ -39,7 +29,7 @@ swap-requires-clause-hand c = let v : View = view_of_seat c.args.seat.now in let
     let first = found_first m m₁ v₁ old most (slot_home v 0) x y took.3 in let there = subst (λ (z : Sat). z.1 ≡ (c.args.next.now.place, y) ∷ rest z.1) (sym first.1) (λ i. (sym c.requires.place i, y) ∷ first.0) in
     let says = c.read.ensures.says x y there took.2.2 took.2.1 in let large : x.slot ≡ Some slot = sym says.1 ∙ c.in-Some.is in let long = found_pooled m m₁ v₁ old most (slot_home v 0) x y slot took.3 large in
     let low : slot < c.args.fabric.now.peers * c.args.fabric.now.pool = subst (λ (z : ℕ × ℕ). slot < z.0 * z.1) (λ i. (a.peers i, a.pool i)) long.2 in let at : c.peers-peers.result * c.peers-peers.result * c.room.result + slot ≡ slot_home v 0 slot = λ i. (c.peers-peers.ensures ∙ sym a.peers) i * (c.peers-peers.ensures ∙ sym a.peers) i * (c.room.ensures ∙ sym a.room) i + slot in
-    let b = the_filled x long.0 long.1 in 
+    let b = the_filled x long.0 long.1 in
     let turned_it = c.turn.ensures.1 ∙ (λ i. (((c.read.ensures.seat.1 ∙ long.3) i).0, turned ((c.read.ensures.seat.1 ∙ long.3) i).1)) in
     (b.0, subst (λ (z : Sat). z.1 ≡ (c.peers-peers.result * c.peers-peers.result * c.room.result + slot, Pool b.0) ∷ rest z.1) (sym turned_it) (λ i. (sym at i, b.1 i) ∷ (m.1 ++ (old, y) ∷ [])))
 
@@ -54,5 +44,17 @@ returns-clause-pooled c = let v : View = view_of_seat c.args.seat.now in let s :
     let all = opened_all m₁ _ _ _ _ (c.peers-peers.result * c.peers-peers.result * c.room.result + slot) old (slot_home v 0 slot) v₁ y long.0 (Pool c.args.buffer.now) m.1 long.3 c.read.ensures.seat.1 c.turn.ensures.1 c.swap.ensures.new at c.turn-2.ensures.1 in
     let same : b.0 ≡ c.swap.new.buffer = same_buffer _ _ _ _ _ b.0 c.swap.new.buffer (ap (λ (z : Sat). z.1) all.0 ∙ (λ i. (slot_home v 0 slot, b.1 i) ∷ (m.1 ++ (old, y) ∷ []))) c.swap.ensures.old in
     let sized : length c.swap.new.buffer ≡ 4096 = ap length (sym same) ∙ b.2 in
-    λ _. (r, x, cell.0, slot, news, (let fits = c.look_put-put.type_inv in omega arith), large, low, took.2.0, (took.2.1, says, λ q e. (sized, (λ i. take x.frame.head.len (sym same i)) ∙ b.3)), sized,
-      all.1 ∙ (λ i. (v₁, (m.1 ++ (old, cell.1 i) ∷ []) ++ (slot_home v 0 slot, Pool c.args.buffer.now) ∷ [])))
+    λ _. (
+      r,
+      x,
+      cell.0,
+      slot,
+      news,
+      (let fits = c.look_put-put.type_inv in omega arith),
+      large,
+      low,
+      took.2.0,
+      (took.2.1, says, λ q e. (sized, (λ i. take x.frame.head.len (sym same i)) ∙ b.3)),
+      sized,
+      all.1 ∙ (λ i. (v₁, (m.1 ++ (old, cell.1 i) ∷ []) ++ (slot_home v 0 slot, Pool c.args.buffer.now) ∷ [])),
+    )

@@ -1,4 +1,4 @@
-use Rattle.std.proofs.Common.{◌≡◌, ℕ, ◌+◌, ◌-◌, ◌<◌, ◌≤◌, ◌∷◌, List}
+use Rattle.std.proofs.Common.{◌≡◌, ℕ, ◌-◌, ◌≤◌, ◌∷◌, List}
 use Rattle.std.specs.Prelude.{None}
 use Rattle.atomic_table.specs.Table.{rest}
 use Rattle.fab_table.specs.declared.kinds.Command.{Command}

@@ -1,35 +1,26 @@
-use Rattle.std.proofs.Common.{rules, ◌≡◌, ℕ, suc, ◌+◌, ◌-◌, ◌*◌, ◌%◌, ◌<◌, ◌≤◌, ◌⊎◌, Bool, true, false, List, [], ◌∷◌, ◌++◌, length, take, drop, sym, refl, ap, ◌∙◌, subst, arith, inl, inr, ⊎_elim}
-use Rattle.std.specs.Prelude.{Option, Some, None}
-use Rattle.std.proofs.lemmas.Option.{same_Some, none-some}
-use Rattle.atomic_table.specs.Table.{rest, turned}
-use Rattle.fab_wire.specs.Frames.{frame, last_head, MayCome, Continues}
-use Rattle.fab_wire.specs.declared.moves.Move.TheVariants.{Post, Take}
+use Rattle.std.proofs.Common.{◌≡◌, ℕ, ◌+◌, ◌<◌, ◌≤◌, true, List, ◌∷◌, length, take, drop, sym, refl, ap, ◌∙◌, subst, arith}
+use Rattle.std.specs.Prelude.{None}
+use Rattle.atomic_table.specs.Table.{rest}
+use Rattle.fab_wire.specs.Frames.{last_head, MayCome}
 use Rattle.fab_table.specs.declared.kinds.Command.{Command}
-use Rattle.fab_table.specs.declared.kinds.Sent.{Sent}
 use Rattle.fab_table.specs.declared.kinds.Slot.{Slot}
-use Rattle.fab_table.specs.declared.kinds.Slot.TheVariants.{Cell, Pool}
-use Rattle.fab_table.specs.declared.kinds.Out.{Out}
-use Rattle.fab_table.specs.declared.kinds.In.{In}
-use Rattle.fab_table.specs.declared.kinds.Part.{Part}
+use Rattle.fab_table.specs.declared.kinds.Slot.TheVariants.{Cell}
 use Rattle.fab_table.specs.declared.kinds.View.{View}
-use Rattle.fab_table.specs.Views.{frames_of, part_at, out_at, in_at, with_part, with_out, with_in, posted_one, saw_frame, saw_empty, freed_one, tried_more, pool_home, lane_of}
-use Rattle.fab_table.specs.Rule.{said_inline, said_pooled, Says, Fills, IsShort, IsBuf, greatest, cell_of}
-use Rattle.fab_table.specs.Plays.{Sat, new_out_view, new_in_view, post_view, take_view, next_cell, oldest_cell, slot_home, next_of, oldest_of}
-use Rattle.fab_table.specs.Seats.{IsOf, IsSame, carried, view_of_seat, sat, part_of, out_of, in_of, named, written}
-use Rattle.fab_table.proofs.Rows.{pair_below}
-use Rattle.fab_ring.specs.Tries.{raised, IsTried, tried_out, sent_as}
-use Rattle.fab_ring.specs.Hands.{shapes, Tells}
-use Rattle.fab_ring.proofs.Hold.{home_small, pool_first, cell_first}
-use Rattle.fab_ring.proofs.Ends.{one_set, take_all, the_buffer, tried_up, tried_next, tried_last, untried, view_over, post_over, here_out, part_out, home_over}
+use Rattle.fab_table.specs.Views.{frames_of, part_at, out_at}
+use Rattle.fab_table.specs.Rule.{said_inline, greatest}
+use Rattle.fab_table.specs.Plays.{Sat, post_view, next_cell}
+use Rattle.fab_table.specs.Seats.{carried, view_of_seat, written}
+use Rattle.fab_ring.specs.Tries.{sent_as}
+use Rattle.fab_ring.proofs.Ends.{take_all}
 use Rattle.fab_ring.proofs.sending.send_inline.Goals as goal
-
 
 pub publish-requires-clause-seat : goal.publish-requires-clause-seat
 publish-requires-clause-seat c = let v : View = view_of_seat c.args.seat.now in let d : ℕ = c.args.next.now.dest in let a = c.requires.alone in let place : ℕ = c.args.next.now.place in let hand : List (ℕ × Slot) = rest (carried c.args.seat.now) in let n : ℕ = c.args.next.now.number in
-    let c₀ : Command = c.requires.hand.0 in let k : Command = written c₀ n c.args.head c.args.bytes.now in let w = c.write.ensures.view c₀ c.requires.hand.1 in let said : take c.args.head.len k.inline ≡ c.args.bytes.now = take_all c.args.head.len c.args.bytes.now (drop (length c.args.bytes.now) c₀.inline) c.requires.filled.0 in
-    (c.write.ensures.seat.0 ∙ a.of,
+    let c₀ : Command = c.requires.hand.0 in let k : Command = written c₀ n c.args.head c.args.bytes.now in let w = c.write.ensures.view c₀ c.requires.hand.1 in let said : take c.args.head.len k.inline ≡ c.args.bytes.now = take_all c.args.head.len c.args.bytes.now (drop (length c.args.bytes.now) c₀.inline) c.requires.filled.0 in (
+      c.write.ensures.seat.0 ∙ a.of,
       subst (λ (m : Sat). (0 < length m.0.parts) × ((part_at m.0 0).me ≡ c.args.next.now.me) × ((part_at m.0 0).peers ≡ c.args.fabric.now.peers) × (c.args.next.now.me < c.args.fabric.now.peers)) (sym w) ((let one = a.one in omega arith), a.me_is, a.peers, a.below),
-      c.requires.below)
+      c.requires.below,
+    )
 
 pub publish-requires-clause-writing : goal.publish-requires-clause-writing
 publish-requires-clause-writing c = let v : View = view_of_seat c.args.seat.now in let d : ℕ = c.args.next.now.dest in let a = c.requires.alone in let place : ℕ = c.args.next.now.place in let hand : List (ℕ × Slot) = rest (carried c.args.seat.now) in let n : ℕ = c.args.next.now.number in
@@ -45,7 +36,7 @@ pub publish-requires-clause-cell : goal.publish-requires-clause-cell
 publish-requires-clause-cell c = let v : View = view_of_seat c.args.seat.now in let d : ℕ = c.args.next.now.dest in let a = c.requires.alone in let place : ℕ = c.args.next.now.place in let hand : List (ℕ × Slot) = rest (carried c.args.seat.now) in let n : ℕ = c.args.next.now.number in
     let c₀ : Command = c.requires.hand.0 in let k : Command = written c₀ n c.args.head c.args.bytes.now in let w = c.write.ensures.view c₀ c.requires.hand.1 in let said : take c.args.head.len k.inline ≡ c.args.bytes.now = take_all c.args.head.len c.args.bytes.now (drop (length c.args.bytes.now) c₀.inline) c.requires.filled.0 in
     subst (λ (m : Sat). (x : Command) × (m.1 ≡ (next_cell m.0 0 d, Cell x) ∷ rest m.1) × (x.slot ≡ None) × (x.head.len ≤ 64) × (x.number ≡ greatest 0 (part_at m.0 0).moves + 1) × MayCome (last_head None (frames_of (out_at (part_at m.0 0) d).posted)) (said_inline x).frame) (sym w)
-      (k, (λ i. (c.requires.place i, Cell k) ∷ hand), refl, c.requires.filled.1, c.requires.number, (c.requires.continues, ap length said ∙ c.requires.filled.0))
+    (k, (λ i. (c.requires.place i, Cell k) ∷ hand), refl, c.requires.filled.1, c.requires.number, (c.requires.continues, ap length said ∙ c.requires.filled.0))
 
 pub returns-clause-view : goal.returns-clause-view
 returns-clause-view c = let v : View = view_of_seat c.args.seat.now in let d : ℕ = c.args.next.now.dest in let a = c.requires.alone in let place : ℕ = c.args.next.now.place in let hand : List (ℕ × Slot) = rest (carried c.args.seat.now) in let n : ℕ = c.args.next.now.number in

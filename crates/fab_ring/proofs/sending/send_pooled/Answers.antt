@@ -1,26 +1,20 @@
-use Rattle.std.proofs.Common.{rules, ◌≡◌, ℕ, suc, ◌+◌, ◌-◌, ◌*◌, ◌%◌, ◌<◌, ◌≤◌, ◌⊎◌, Bool, true, false, List, [], ◌∷◌, ◌++◌, length, take, drop, sym, refl, ap, ◌∙◌, subst, arith, inl, inr, ⊎_elim}
-use Rattle.std.specs.Prelude.{Option, Some, None}
-use Rattle.std.proofs.lemmas.Option.{same_Some, none-some}
-use Rattle.atomic_table.specs.Table.{rest, turned}
-use Rattle.fab_wire.specs.Frames.{frame, last_head, MayCome, Continues}
-use Rattle.fab_wire.specs.declared.moves.Move.TheVariants.{Post, Take}
+use Rattle.std.proofs.Common.{◌≡◌, ℕ, ◌+◌, ◌*◌, ◌<◌, List, [], ◌∷◌, length, take, sym, refl, ap, ◌∙◌, subst, arith}
+use Rattle.std.specs.Prelude.{Some, None}
+use Rattle.atomic_table.specs.Table.{rest}
+use Rattle.fab_wire.specs.Frames.{last_head, MayCome, Continues}
 use Rattle.fab_table.specs.declared.kinds.Command.{Command}
-use Rattle.fab_table.specs.declared.kinds.Sent.{Sent}
 use Rattle.fab_table.specs.declared.kinds.Slot.{Slot}
 use Rattle.fab_table.specs.declared.kinds.Slot.TheVariants.{Cell, Pool}
 use Rattle.fab_table.specs.declared.kinds.Out.{Out}
-use Rattle.fab_table.specs.declared.kinds.In.{In}
 use Rattle.fab_table.specs.declared.kinds.Part.{Part}
 use Rattle.fab_table.specs.declared.kinds.View.{View}
-use Rattle.fab_table.specs.Views.{frames_of, part_at, out_at, in_at, with_part, with_out, with_in, posted_one, saw_frame, saw_empty, freed_one, tried_more, pool_home, lane_of}
-use Rattle.fab_table.specs.Rule.{said_inline, said_pooled, Says, Fills, IsShort, IsBuf, greatest, cell_of}
-use Rattle.fab_table.specs.Plays.{Sat, new_out_view, new_in_view, post_view, take_view, next_cell, oldest_cell, slot_home, next_of, oldest_of}
-use Rattle.fab_table.specs.Seats.{IsOf, IsSame, carried, view_of_seat, sat, part_of, out_of, in_of, named, written}
-use Rattle.fab_table.proofs.Rows.{pair_below}
-use Rattle.fab_ring.specs.Tries.{raised, IsTried, tried_out, sent_as}
-use Rattle.fab_ring.specs.Hands.{shapes, Tells}
-use Rattle.fab_ring.proofs.Hold.{home_small, pool_first, cell_first}
-use Rattle.fab_ring.proofs.Ends.{one_set, take_all, the_buffer, tried_up, tried_next, tried_last, untried, view_over, post_over, here_out, part_out, home_over, next_over, left_all, the_filled, the_said, same_buffer, opened_all}
+use Rattle.fab_table.specs.Views.{frames_of, part_at, out_at, with_out}
+use Rattle.fab_table.specs.Rule.{said_pooled, greatest}
+use Rattle.fab_table.specs.Plays.{Sat, new_out_view, post_view, next_cell, slot_home}
+use Rattle.fab_table.specs.Seats.{carried, view_of_seat, sat, named, written}
+use Rattle.fab_ring.specs.Tries.{IsTried, tried_out, sent_as}
+use Rattle.fab_ring.proofs.Hold.{home_small}
+use Rattle.fab_ring.proofs.Ends.{one_set, post_over, here_out, part_out, home_over, next_over, left_all}
 use Rattle.fab_ring.proofs.sending.send_pooled.Goals as goal
 
 pub claim_any-requires-clause-hand : goal.claim_any-requires-clause-hand
@@ -50,9 +44,11 @@ fill-requires-clause-hand c = let v : View = view_of_seat c.args.seat.now in let
     let c₀ : Command = c.requires.hand.0 in let k : Command = written c₀ n c.args.head [] in let w = c.write.ensures.view c₀ c.requires.hand.1 in let there = subst (λ (m : Sat). m.1 ≡ (place, Cell k) ∷ rest m.1) (sym w) refl in
     let q : ℕ = c.in-Some.slot in let got = c.in-Some.ensures.some k q there refl in let b : List ℕ = got.0 in let o₂ : Out = tried_out o got.2 got.3 o.writing (Some q) in
     let cs = got.8 ∙ (λ i. (new_out_view (w i).0 0 d (tried_out (out_at (part_at (w i).0 0) d) got.2 got.3 (out_at (part_at (w i).0 0) d).writing (Some q)), (slot_home (w i).0 0 q, Pool b) ∷ (place, Cell (named k q)) ∷ rest (w i).1)) in
-    let at : c.peers-peers.result * c.peers-peers.result * c.room.result + q ≡ slot_home v 0 q = λ i. (c.peers-peers.ensures ∙ sym a.peers) i * (c.peers-peers.ensures ∙ sym a.peers) i * (c.room.ensures ∙ sym a.room) i + q in
-    (b, subst (λ (m : Sat). m.1 ≡ (c.peers-peers.result * c.peers-peers.result * c.room.result + q, Pool b) ∷ rest m.1) (sym cs) (λ i. (sym at i, Pool b) ∷ (place, Cell (named k q)) ∷ hand),
-      (let short = c.requires.continues.1 in let e = c.requires.filled in let l = got.4 in omega arith))
+    let at : c.peers-peers.result * c.peers-peers.result * c.room.result + q ≡ slot_home v 0 q = λ i. (c.peers-peers.ensures ∙ sym a.peers) i * (c.peers-peers.ensures ∙ sym a.peers) i * (c.room.ensures ∙ sym a.room) i + q in (
+      b,
+      subst (λ (m : Sat). m.1 ≡ (c.peers-peers.result * c.peers-peers.result * c.room.result + q, Pool b) ∷ rest m.1) (sym cs) (λ i. (sym at i, Pool b) ∷ (place, Cell (named k q)) ∷ hand),
+      (let short = c.requires.continues.1 in let e = c.requires.filled in let l = got.4 in omega arith),
+    )
 
 pub publish_pooled-requires-clause-seat : goal.publish_pooled-requires-clause-seat
 publish_pooled-requires-clause-seat c = let v : View = view_of_seat c.args.seat.now in let d : ℕ = c.args.next.now.dest in let a = c.requires.alone in let low : d < length (part_at v 0).outs = subst (λ (z : ℕ). d < z) (sym a.all_outs) c.requires.below in let o : Out = out_at (part_at v 0) d in
@@ -63,11 +59,12 @@ publish_pooled-requires-clause-seat c = let v : View = view_of_seat c.args.seat.
     let at : c.peers-peers.result * c.peers-peers.result * c.room.result + q ≡ slot_home v 0 q = λ i. (c.peers-peers.ensures ∙ sym a.peers) i * (c.peers-peers.ensures ∙ sym a.peers) i * (c.room.ensures ∙ sym a.room) i + q in
     let fl = c.fill.ensures.view b (subst (λ (m : Sat). m.1 ≡ (c.peers-peers.result * c.peers-peers.result * c.room.result + q, Pool b) ∷ rest m.1) (sym cs) (λ i. (sym at i, Pool b) ∷ (place, Cell (named k q)) ∷ hand)) in let b₂ : List ℕ = fl.0 in
     let fs : sat c.fill.new.seat ≡ (new_out_view v 0 d o₂, (slot_home v 0 q, Pool b₂) ∷ (place, Cell (named k q)) ∷ hand) = fl.1 ∙ (λ i. ((cs i).0, (at i, Pool b₂) ∷ rest (cs i).1)) in
-    let part = part_out v d a.one low o₂ in let here = here_out v d a.one low o₂ in let said : take c.args.head.len b₂ ≡ c.args.bytes.now = (λ i. take (sym c.requires.filled i) b₂) ∙ fl.3 in
-    (c.fill.ensures.seat.0 ∙ c.in-Some.ensures.seat.0 ∙ c.write.ensures.seat.0 ∙ a.of,
+    let part = part_out v d a.one low o₂ in let here = here_out v d a.one low o₂ in let said : take c.args.head.len b₂ ≡ c.args.bytes.now = (λ i. take (sym c.requires.filled i) b₂) ∙ fl.3 in (
+      c.fill.ensures.seat.0 ∙ c.in-Some.ensures.seat.0 ∙ c.write.ensures.seat.0 ∙ a.of,
       subst (λ (m : Sat). (0 < length m.0.parts) × ((part_at m.0 0).me ≡ c.args.next.now.me) × ((part_at m.0 0).peers ≡ c.args.fabric.now.peers) × (c.args.next.now.me < c.args.fabric.now.peers)) (sym fs)
-        ((let one = one_set v (with_out (part_at v 0) d o₂ (part_at v 0).moves) a.one in omega arith), ap (λ (z : Part). z.me) part ∙ a.me_is, ap (λ (z : Part). z.peers) part ∙ a.peers, a.below),
-      c.requires.below)
+          ((let one = one_set v (with_out (part_at v 0) d o₂ (part_at v 0).moves) a.one in omega arith), ap (λ (z : Part). z.me) part ∙ a.me_is, ap (λ (z : Part). z.peers) part ∙ a.peers, a.below),
+      c.requires.below,
+    )
 
 pub publish_pooled-requires-clause-writing : goal.publish_pooled-requires-clause-writing
 publish_pooled-requires-clause-writing c = let v : View = view_of_seat c.args.seat.now in let d : ℕ = c.args.next.now.dest in let a = c.requires.alone in let low : d < length (part_at v 0).outs = subst (λ (z : ℕ). d < z) (sym a.all_outs) c.requires.below in let o : Out = out_at (part_at v 0) d in
@@ -104,9 +101,17 @@ publish_pooled-requires-clause-slot c = let v : View = view_of_seat c.args.seat.
     let fs : sat c.fill.new.seat ≡ (new_out_view v 0 d o₂, (slot_home v 0 q, Pool b₂) ∷ (place, Cell (named k q)) ∷ hand) = fl.1 ∙ (λ i. ((cs i).0, (at i, Pool b₂) ∷ rest (cs i).1)) in
     let part = part_out v d a.one low o₂ in let here = here_out v d a.one low o₂ in let said : take c.args.head.len b₂ ≡ c.args.bytes.now = (λ i. take (sym c.requires.filled i) b₂) ∙ fl.3 in
     subst (λ (m : Sat). (q : ℕ) × (c₁ : Command) × (b₁ : List ℕ) × (m.1 ≡ (slot_home m.0 0 q, Pool b₁) ∷ (next_cell m.0 0 d, Cell c₁) ∷ rest (rest m.1)) × ((out_at (part_at m.0 0) d).claim ≡ Some q) × (c₁.slot ≡ Some q) × (length b₁ ≡ 4096)
-        × (c₁.number ≡ greatest 0 (part_at m.0 0).moves + 1) × MayCome (last_head None (frames_of (out_at (part_at m.0 0) d).posted)) (said_pooled c₁ b₁).frame) (sym fs)
-      (q, named k q, b₂, (λ i. (sym (home_over v d a.one low o₂ q) i, Pool b₂) ∷ ((c.requires.place ∙ sym (next_over v d a.one low o₂ refl)) i, Cell (named k q)) ∷ hand), ap (λ (z : Out). z.claim) here, refl, fl.2 ∙ got.4,
-        c.requires.number ∙ ap (λ (z : Part). greatest 0 z.moves + 1) (sym part), (subst (λ (z : Out). Continues (last_head None (frames_of z.posted)) c.args.head) (sym here) c.requires.continues, ap length said ∙ c.requires.filled))
+    × (c₁.number ≡ greatest 0 (part_at m.0 0).moves + 1) × MayCome (last_head None (frames_of (out_at (part_at m.0 0) d).posted)) (said_pooled c₁ b₁).frame) (sym fs) (
+      q,
+      named k q,
+      b₂,
+      (λ i. (sym (home_over v d a.one low o₂ q) i, Pool b₂) ∷ ((c.requires.place ∙ sym (next_over v d a.one low o₂ refl)) i, Cell (named k q)) ∷ hand),
+      ap (λ (z : Out). z.claim) here,
+      refl,
+      fl.2 ∙ got.4,
+      c.requires.number ∙ ap (λ (z : Part). greatest 0 z.moves + 1) (sym part),
+      (subst (λ (z : Out). Continues (last_head None (frames_of z.posted)) c.args.head) (sym here) c.requires.continues, ap length said ∙ c.requires.filled),
+    )
 
 pub returns-clause-sent : goal.returns-clause-sent
 returns-clause-sent c = let v : View = view_of_seat c.args.seat.now in let d : ℕ = c.args.next.now.dest in let a = c.requires.alone in let low : d < length (part_at v 0).outs = subst (λ (z : ℕ). d < z) (sym a.all_outs) c.requires.below in let o : Out = out_at (part_at v 0) d in
@@ -119,6 +124,13 @@ returns-clause-sent c = let v : View = view_of_seat c.args.seat.now in let d : �
     let fs : sat c.fill.new.seat ≡ (new_out_view v 0 d o₂, (slot_home v 0 q, Pool b₂) ∷ (place, Cell (named k q)) ∷ hand) = fl.1 ∙ (λ i. ((cs i).0, (at i, Pool b₂) ∷ rest (cs i).1)) in
     let part = part_out v d a.one low o₂ in let here = here_out v d a.one low o₂ in let said : take c.args.head.len b₂ ≡ c.args.bytes.now = (λ i. take (sym c.requires.filled i) b₂) ∙ fl.3 in
     let hand_is = subst (λ (m : Sat). m.1 ≡ (slot_home v 0 q, Pool b₂) ∷ (next_cell m.0 0 d, Cell (named k q)) ∷ rest (rest m.1)) (sym fs) (λ i. (slot_home v 0 q, Pool b₂) ∷ ((c.requires.place ∙ sym (next_over v d a.one low o₂ refl)) i, Cell (named k q)) ∷ hand) in
-    λ _. (q, got.1, got.2, got.3, got.5, subst (λ (m : Sat). IsTried (out_at (part_at m.0 0) d) got.1 got.2 got.3) w got.7,
+    λ _. (
+      q,
+      got.1,
+      got.2,
+      got.3,
+      got.5,
+      subst (λ (m : Sat). IsTried (out_at (part_at m.0 0) d) got.1 got.2 got.3) w got.7,
       c.publish_pooled.ensures.view (slot_home v 0 q) (named k q) b₂ hand_is ∙ (λ i. (post_view (fs i).0 0 d (said_pooled (named k q) b₂), rest (rest (fs i).1))) ∙ (λ i. (post_view (new_out_view v 0 d o₂) 0 d (sent_as c.args.head (said i) n (Some q)), hand))
-      ∙ (λ i. (post_over v d a.one low o₂ (sent_as c.args.head c.args.bytes.now n (Some q)) i, hand)))
+          ∙ (λ i. (post_over v d a.one low o₂ (sent_as c.args.head c.args.bytes.now n (Some q)) i, hand)),
+    )

@@ -1,4 +1,4 @@
-use Rattle.std.proofs.Common.{◌≡◌, ℕ, ◌+◌, arith}
+use Rattle.std.proofs.Common.{arith}
 use Rattle.fab_wire.specs.Frames.{frame}
 use Rattle.fab_ring.specs.Ports.{out_of}
 use Rattle.fab_ring.proofs.Samples.{between_after}

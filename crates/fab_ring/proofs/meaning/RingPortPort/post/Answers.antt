@@ -1,15 +1,8 @@
-use Rattle.std.proofs.Common.{rules, ◌≡◌, ℕ, ◌+◌, ◌<◌, List, [], ◌∷◌, ◌++◌, length, sym, refl, ap, ◌∙◌, subst, arith}
-use Rattle.std.specs.Prelude.{Option, Some, None, IsSome}
+use Rattle.std.proofs.Common.{ℕ, ◌<◌, sym, subst}
 use Rattle.std.specs.Arc.{arc_value}
-use Rattle.fab_wire.specs.declared.moves.Move.{Move}
-use Rattle.fab_wire.specs.declared.moves.Move.TheVariants.{Take}
-use Rattle.fab_table.specs.declared.kinds.Sent.{Sent}
-use Rattle.fab_table.specs.declared.kinds.In.{In}
 use Rattle.fab_table.specs.declared.kinds.Part.{Part}
-use Rattle.fab_table.specs.Views.{part_at, out_at, in_at, taken_one}
-use Rattle.fab_ring.specs.Ports.{outgoing, incoming}
-use Rattle.fab_ring.proofs.Facts.{comes_now}
-use Rattle.fab_ring.proofs.Clauses.{posting, fronting, advancing, frame_opened, in_here, others_in, out_in, always_some, always_none}
+use Rattle.fab_table.specs.Views.{part_at}
+use Rattle.fab_ring.proofs.Clauses.{posting}
 use Rattle.fab_ring.proofs.meaning.RingPortPort.post.Goals as goal
 
 pub returns-clause-ok : goal.returns-clause-ok

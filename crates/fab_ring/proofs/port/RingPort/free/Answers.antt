@@ -1,29 +1,21 @@
-use Rattle.std.proofs.Common.{rules, ◌≡◌, ℕ, suc, ◌+◌, ◌-◌, ◌*◌, ◌%◌, ◌^◌, max, ◌<◌, ◌≤◌, ◌⊎◌, Bool, true, false, List, [], ◌∷◌, ◌++◌, length, take, get_or, set, sym, refl, ap, ◌∙◌, subst, arith, inl, inr, ⊎_elim}
-use Rattle.std.specs.Prelude.{Option, Some, None, slice_get, IsSome}
-use Rattle.std.proofs.lemmas.Option.{same_Some, none-some, slice_get-get_or}
+use Rattle.std.proofs.Common.{◌≡◌, ℕ, ◌+◌, ◌*◌, ◌<◌, true, false, List, [], ◌∷◌, ◌++◌, length, get_or, set, sym, ap, ◌∙◌, subst}
+use Rattle.std.specs.Prelude.{Some}
+use Rattle.std.proofs.lemmas.Option.{same_Some, slice_get-get_or}
 use mathlib.Core.List.{map-append}
-use Rattle.std.specs.Option.{is_some}
 use Rattle.std.specs.Arc.{arc_value}
-use Rattle.atomic_table.specs.Table.{rest, turned}
-use Rattle.fab_wire.specs.declared.moves.Move.{Move}
-use Rattle.fab_wire.specs.declared.moves.Move.TheVariants.{Post, Take}
-use Rattle.fab_wire.specs.Frames.{last_head, MayCome}
+use Rattle.atomic_table.specs.Table.{rest}
 use Rattle.fab_table.specs.declared.kinds.Command.{Command}
 use Rattle.fab_table.specs.declared.kinds.Sent.{Sent}
 use Rattle.fab_table.specs.declared.kinds.Slot.{Slot}
 use Rattle.fab_table.specs.declared.kinds.Slot.TheVariants.{Cell, Pool}
-use Rattle.fab_table.specs.declared.kinds.Out.{Out}
 use Rattle.fab_table.specs.declared.kinds.In.{In}
 use Rattle.fab_table.specs.declared.kinds.Part.{Part}
-use Rattle.fab_table.specs.declared.kinds.View.{View}
-use Rattle.fab_table.specs.Views.{frames_of, part_at, out_at, in_at, with_part, with_out, with_in, posted_one, saw_room, saw_full, saw_frame, saw_empty, freed_one, taken_one}
-use Rattle.fab_table.specs.Rule.{greatest}
-use Rattle.fab_table.specs.Plays.{Sat, most, new_out_view, new_in_view, next_cell, oldest_cell, slot_home, next_of, oldest_of}
-use Rattle.fab_ring.specs.Tries.{IsTried, IsSent, tried_out, sent_as}
-use Rattle.fab_ring.specs.Hands.{shape, shapes, held, Fits, Tells, Told, Comes}
-use Rattle.fab_ring.proofs.Hold.{lends_slot, behind, get_any, flag_at, nothing, something, cell_first, pool_first, shapes_turned, shapes_two, fits_saw, fits_post, fits_empty, fits_open, fits_open_slot, fits_first, fits_two, fits_free, fits_take, fits_pass, fits_turn, fits_turn_two, fits_wrap, got_len, put_len, oldest_place}
-use Rattle.fab_ring.proofs.Ends.{out_all, in_all, sent_over, view_over, here_out, part_out, next_over}
-use Rattle.fab_ring.proofs.Told.{told_out, told_in, told_set, comes_out, comes_in}
+use Rattle.fab_table.specs.Views.{part_at, in_at, with_in, freed_one}
+use Rattle.fab_table.specs.Plays.{Sat, oldest_of}
+use Rattle.fab_ring.specs.Hands.{shape, shapes, held, Fits, Told, Comes}
+use Rattle.fab_ring.proofs.Hold.{lends_slot, behind, flag_at, cell_first, pool_first, fits_two, fits_free}
+use Rattle.fab_ring.proofs.Ends.{in_all}
+use Rattle.fab_ring.proofs.Told.{told_in, comes_in}
 use Rattle.fab_ring.proofs.Facts.{comes_now}
 use Rattle.fab_ring.proofs.port.RingPort.free.Goals as goal
 

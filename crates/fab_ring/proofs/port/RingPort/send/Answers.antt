@@ -1,29 +1,22 @@
-use Rattle.std.proofs.Common.{rules, ◌≡◌, ℕ, suc, ◌+◌, ◌-◌, ◌*◌, ◌%◌, ◌^◌, max, ◌<◌, ◌≤◌, ◌⊎◌, Bool, true, false, List, [], ◌∷◌, ◌++◌, length, take, get_or, set, sym, refl, ap, ◌∙◌, subst, arith, inl, inr, ⊎_elim}
-use Rattle.std.specs.Prelude.{Option, Some, None}
-use Rattle.std.proofs.lemmas.Option.{same_Some, none-some}
-use Rattle.std.specs.Option.{is_some}
+use Rattle.std.proofs.Common.{◌≡◌, ℕ, ◌+◌, ◌*◌, ◌%◌, ◌<◌, true, false, List, [], ◌∷◌, ◌++◌, length, set, sym, refl, ap, ◌∙◌, subst, arith, inl, inr}
+use Rattle.std.specs.Prelude.{None}
 use Rattle.std.specs.Arc.{arc_value}
-use Rattle.atomic_table.specs.Table.{rest, turned}
+use Rattle.atomic_table.specs.Table.{rest}
 use Rattle.fab_wire.specs.declared.moves.Move.{Move}
-use Rattle.fab_wire.specs.declared.moves.Move.TheVariants.{Post, Take}
-use Rattle.fab_wire.specs.Frames.{last_head, MayCome}
-use Rattle.fab_table.specs.declared.kinds.Command.{Command}
+use Rattle.fab_wire.specs.declared.moves.Move.TheVariants.{Post}
 use Rattle.fab_table.specs.declared.kinds.Sent.{Sent}
 use Rattle.fab_table.specs.declared.kinds.Slot.{Slot}
-use Rattle.fab_table.specs.declared.kinds.Slot.TheVariants.{Cell, Pool}
 use Rattle.fab_table.specs.declared.kinds.Out.{Out}
-use Rattle.fab_table.specs.declared.kinds.In.{In}
 use Rattle.fab_table.specs.declared.kinds.Part.{Part}
 use Rattle.fab_table.specs.declared.kinds.View.{View}
-use Rattle.fab_table.specs.Views.{frames_of, part_at, out_at, in_at, with_part, with_out, with_in, posted_one, saw_room, saw_full, saw_frame, saw_empty, freed_one, taken_one}
+use Rattle.fab_table.specs.Views.{part_at, out_at, with_part, with_out, posted_one, saw_room, saw_full}
 use Rattle.fab_table.specs.Rule.{greatest}
-use Rattle.fab_table.specs.Plays.{Sat, most, new_out_view, new_in_view, next_cell, oldest_cell, slot_home, next_of, oldest_of}
+use Rattle.fab_table.specs.Plays.{Sat, most, new_out_view, next_cell}
 use Rattle.fab_ring.specs.Tries.{IsTried, IsSent, tried_out, sent_as}
-use Rattle.fab_ring.specs.Hands.{shapes, held, Fits, Tells, Told, Comes}
-use Rattle.fab_ring.proofs.Hold.{behind, get_any, flag_at, nothing, something, cell_first, pool_first, shapes_turned, fits_saw, fits_post, fits_empty, fits_open, fits_open_slot, fits_first, fits_two, fits_free, fits_take, fits_pass, fits_turn, fits_turn_two, fits_wrap, got_len, put_len, oldest_place}
-use Rattle.fab_ring.proofs.Ends.{tried_length, sent_length, out_all, in_all, sent_over, view_over, here_out, part_out, next_over}
-use Rattle.fab_ring.proofs.Told.{told_out, told_in, comes_out, comes_in}
-use Rattle.fab_ring.proofs.Facts.{comes_now}
+use Rattle.fab_ring.specs.Hands.{shapes, Fits, Told, Comes}
+use Rattle.fab_ring.proofs.Hold.{fits_saw, fits_post, put_len}
+use Rattle.fab_ring.proofs.Ends.{tried_length, sent_length, out_all, sent_over, view_over, here_out, next_over}
+use Rattle.fab_ring.proofs.Told.{told_out, comes_out}
 use Rattle.fab_ring.proofs.port.RingPort.send.Goals as goal
 
 pub invariant_of-self : goal.invariant_of-self
@@ -89,7 +82,7 @@ invariant_of-self-2 c = let q = c.args.self.now in let f = arc_value q.fabric in
     let here = here_out m.0 d q.at.1 inside o₁ in let pools = ap (λ t. t.pool) c.deref-4.ensures in let got = c.send_next.ensures.sent c.if-not-send_next.false in let n : ℕ = q.clock + 1 in let x : Sent = sent_as c.args.head c.args.bytes.now n got.0 in let o₂ : Out = tried_out o₁ got.1 got.2 true None in let ms : List Move = p.moves ++ Post d n ∷ [] in
     let is : IsSent o f.pool got.0 got.1 got.2 = subst (λ (z : Out × ℕ). IsSent z.0 z.1 got.0 got.1 got.2) (λ i. ((ap (λ (z : Sat). out_at (part_at z.0 0) d) took.1 ∙ here) i, pools i)) got.3 in
     let all = out_all m _ d (posted_one o₂ x) ms m.1 q.at.1 (got.4 ∙ (λ i. (with_part (took.1 i).0 0 (with_out (part_at (took.1 i).0 0) d (posted_one (tried_out (out_at (part_at (took.1 i).0 0) d) got.1 got.2 true None) x) ((part_at (took.1 i).0 0).moves ++ Post d n ∷ [])), rest (took.1 i).1))
-      ∙ (λ i. (with_part v₁ 0 (with_out (part_at v₁ 0) d (posted_one (tried_out (here i) got.1 got.2 true None) x) ((part_at v₁ 0).moves ++ Post d n ∷ [])), m.1)) ∙ (λ i. (sent_over m.0 d q.at.1 inside o₁ (posted_one o₂ x) n i, m.1))) in
+    ∙ (λ i. (with_part v₁ 0 (with_out (part_at v₁ 0) d (posted_one (tried_out (here i) got.1 got.2 true None) x) ((part_at v₁ 0).moves ++ Post d n ∷ [])), m.1)) ∙ (λ i. (sent_over m.0 d q.at.1 inside o₁ (posted_one o₂ x) n i, m.1))) in
     record {
       at = (c.send_next.ensures.seat.0 ∙ c.look_got-got.ensures.seat.0 ∙ q.at.0, all.0);
       fits = subst (λ (z : Part × List (ℕ × Slot)). Fits q.me f.peers f.room f.pool (q.clock + 1) q.turn (set q.puts.items d (c.index-put.result.now + 1)) q.gots.items q.opened.items q.lent.items z.0 (shapes z.1)) (λ i. (sym all.1 i, sym all.2 i)) (fits_post _ _ _ _ _ _ _ _ _ _ _ _ q.fits d (c.index-put.result.now + 1) o₂ x low (ap (λ (z : ℕ). z + 1) (put ∙ sym mine.0)) refl refl (sent_length o f.pool got.0 got.1 got.2 is ∙ mine.4));
@@ -105,5 +98,5 @@ returns-clause-sent c = let q = c.args.self.now in let f = arc_value q.fabric in
     let here = here_out m.0 d q.at.1 inside o₁ in let pools = ap (λ t. t.pool) c.deref-4.ensures in let got = c.send_next.ensures.sent c.if-not-send_next.false in let n : ℕ = q.clock + 1 in let x : Sent = sent_as c.args.head c.args.bytes.now n got.0 in let o₂ : Out = tried_out o₁ got.1 got.2 true None in let ms : List Move = p.moves ++ Post d n ∷ [] in
     let is : IsSent o f.pool got.0 got.1 got.2 = subst (λ (z : Out × ℕ). IsSent z.0 z.1 got.0 got.1 got.2) (λ i. ((ap (λ (z : Sat). out_at (part_at z.0 0) d) took.1 ∙ here) i, pools i)) got.3 in
     let all = out_all m _ d (posted_one o₂ x) ms m.1 q.at.1 (got.4 ∙ (λ i. (with_part (took.1 i).0 0 (with_out (part_at (took.1 i).0 0) d (posted_one (tried_out (out_at (part_at (took.1 i).0 0) d) got.1 got.2 true None) x) ((part_at (took.1 i).0 0).moves ++ Post d n ∷ [])), rest (took.1 i).1))
-      ∙ (λ i. (with_part v₁ 0 (with_out (part_at v₁ 0) d (posted_one (tried_out (here i) got.1 got.2 true None) x) ((part_at v₁ 0).moves ++ Post d n ∷ [])), m.1)) ∙ (λ i. (sent_over m.0 d q.at.1 inside o₁ (posted_one o₂ x) n i, m.1))) in
+    ∙ (λ i. (with_part v₁ 0 (with_out (part_at v₁ 0) d (posted_one (tried_out (here i) got.1 got.2 true None) x) ((part_at v₁ 0).moves ++ Post d n ∷ [])), m.1)) ∙ (λ i. (sent_over m.0 d q.at.1 inside o₁ (posted_one o₂ x) n i, m.1))) in
     (r, got.0, got.1, got.2, subst (λ (z : ℕ). length o.posted < r + z) q.fits.room_is space, few, is, all.1 ∙ (λ i. with_out p d (posted_one o₂ (sent_as c.args.head c.args.bytes.now (q.fits.clock_is i + 1) got.0)) (p.moves ++ Post d (q.fits.clock_is i + 1) ∷ [])))

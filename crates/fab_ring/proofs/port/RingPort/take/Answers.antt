@@ -1,29 +1,21 @@
-use Rattle.std.proofs.Common.{rules, ◌≡◌, ℕ, suc, ◌+◌, ◌-◌, ◌*◌, ◌%◌, ◌^◌, max, ◌<◌, ◌≤◌, ◌⊎◌, Bool, true, false, List, [], ◌∷◌, ◌++◌, length, take, get_or, set, get_or-set_same, sym, refl, ap, ◌∙◌, subst, arith, inl, inr, ⊎_elim}
-use Rattle.std.specs.Prelude.{Option, Some, None, slice_get, IsSome}
+use Rattle.std.proofs.Common.{◌≡◌, ℕ, ◌+◌, max, ◌<◌, false, List, [], ◌∷◌, ◌++◌, length, set, get_or-set_same, sym, ap, ◌∙◌, subst}
+use Rattle.std.specs.Prelude.{Some}
 use Rattle.std.proofs.lemmas.Option.{same_Some, none-some, slice_get-get_or}
-use mathlib.Core.List.{map-append}
-use Rattle.std.specs.Option.{is_some}
 use Rattle.std.specs.Arc.{arc_value}
-use Rattle.atomic_table.specs.Table.{rest, turned}
+use Rattle.atomic_table.specs.Table.{rest}
 use Rattle.fab_wire.specs.declared.moves.Move.{Move}
-use Rattle.fab_wire.specs.declared.moves.Move.TheVariants.{Post, Take}
-use Rattle.fab_wire.specs.Frames.{last_head, MayCome}
+use Rattle.fab_wire.specs.declared.moves.Move.TheVariants.{Take}
 use Rattle.fab_table.specs.declared.kinds.Command.{Command}
 use Rattle.fab_table.specs.declared.kinds.Sent.{Sent}
 use Rattle.fab_table.specs.declared.kinds.Slot.{Slot}
-use Rattle.fab_table.specs.declared.kinds.Slot.TheVariants.{Cell, Pool}
-use Rattle.fab_table.specs.declared.kinds.Out.{Out}
 use Rattle.fab_table.specs.declared.kinds.In.{In}
 use Rattle.fab_table.specs.declared.kinds.Part.{Part}
-use Rattle.fab_table.specs.declared.kinds.View.{View}
-use Rattle.fab_table.specs.Views.{frames_of, part_at, out_at, in_at, with_part, with_out, with_in, posted_one, saw_room, saw_full, saw_frame, saw_empty, freed_one, taken_one, new_in}
-use Rattle.fab_table.specs.Rule.{greatest}
-use Rattle.fab_table.specs.Plays.{Sat, most, new_out_view, new_in_view, next_cell, oldest_cell, slot_home, next_of, oldest_of}
-use Rattle.fab_ring.specs.Tries.{IsTried, IsSent, tried_out, sent_as}
-use Rattle.fab_ring.specs.Hands.{shape, shapes, held, Fits, Tells, Told, Comes}
-use Rattle.fab_ring.proofs.Hold.{lends_slot, behind, get_any, flag_at, nothing, something, cell_first, pool_first, shapes_turned, shapes_two, fits_saw, fits_post, fits_empty, fits_open, fits_open_slot, fits_first, fits_two, fits_free, fits_take, fits_pass, fits_turn, fits_turn_two, fits_wrap, got_len, put_len, oldest_place}
-use Rattle.fab_ring.proofs.Ends.{in_over, out_all, in_all, sent_over, view_over, here_out, part_out, next_over}
-use Rattle.fab_ring.proofs.Told.{told_out, told_in, told_set, comes_out, comes_in, opened_is}
+use Rattle.fab_table.specs.Views.{part_at, in_at, with_in, freed_one, taken_one, new_in}
+use Rattle.fab_table.specs.Plays.{Sat, oldest_of}
+use Rattle.fab_ring.specs.Hands.{shapes, held, Fits, Told, Comes}
+use Rattle.fab_ring.proofs.Hold.{behind, cell_first, fits_first, fits_take, got_len}
+use Rattle.fab_ring.proofs.Ends.{in_over, in_all}
+use Rattle.fab_ring.proofs.Told.{told_in, comes_in, opened_is}
 use Rattle.fab_ring.proofs.Facts.{comes_now}
 use Rattle.fab_ring.proofs.port.RingPort.take.Goals as goal
 
@@ -71,7 +63,7 @@ invariant_of-self c = let q = c.seek.new.self in let P = c.args.self.now in let 
       at = (c.give_back.ensures.seat.0 ∙ q.at.0, all.0);
       fits = subst (λ (z : Part × List (ℕ × Slot)). Fits q.me f.peers f.room f.pool c.max-self.result q.turn q.puts.items (set q.gots.items s (c.index-got.result.now + 1)) (set q.opened.items s false) q.lent.items z.0 (shapes z.1)) (λ i. (sym all.1 i, sym all.2 i))
           (subst (Fits q.me f.peers f.room f.pool c.max-self.result q.turn q.puts.items (set q.gots.items s (c.index-got.result.now + 1)) (set q.opened.items s false) q.lent.items (with_in p s u' ms)) (sym shaped)
-            (fits_take _ _ _ _ _ _ _ _ _ _ _ _ q.fits s (c.index-got.result.now + 1) c.max-self.result x near c.seek.ensures.turn held_is given (ap (λ (z : ℕ). z + 1) (got ∙ sym (q.fits.each_got s near).0)) (c.max-self.ensures ∙ ap (max q.clock) says.0)));
+          (fits_take _ _ _ _ _ _ _ _ _ _ _ _ q.fits s (c.index-got.result.now + 1) c.max-self.result x near c.seek.ensures.turn held_is given (ap (λ (z : ℕ). z + 1) (got ∙ sym (q.fits.each_got s near).0)) (c.max-self.ensures ∙ ap (max q.clock) says.0)));
       told = subst (Told f.peers q.commands.items q.buffers.items) (sym all.1) (told_in _ _ _ p s u' ms inside (λ y e. absurd (none-some y e)) q.told);
       comes = subst (λ (z : Part). ∥ Comes z ∥₁) (sym all.1) ∣ comes_in p s u' ms inside (λ y e. absurd (none-some y e)) (comes_now p q.comes) ∣₁;
     }

@@ -1,5 +1,4 @@
-use Rattle.std.proofs.Common.{rules, ◌≡◌, ℕ, ◌+◌, ◌*◌, ◌<◌, ◌≤◌, sym, ap, ◌∙◌, subst, refl, arith}
-use Rattle.fab_table.specs.Views.{part_at}
+use Rattle.std.proofs.Common.{rules}
 use Rattle.fab_table.proofs.Seating.{joins_parts}
 use Rattle.fab_table.proofs.fabric.Fabric.join.Goals as goal
 

@@ -1,5 +1,4 @@
-use Rattle.std.proofs.Common.{rules, ◌≡◌, ℕ, ◌+◌, ◌*◌, ◌<◌, ◌≤◌, sym, ap, ◌∙◌, subst, refl, arith}
-use Rattle.fab_table.specs.Views.{part_at}
+use Rattle.std.proofs.Common.{rules, ◌≡◌, ℕ, ◌+◌, ◌*◌, ◌<◌, arith}
 use Rattle.fab_table.proofs.Rows.{pair_below}
 use Rattle.fab_table.proofs.Seating.{learns}
 use Rattle.fab_table.proofs.fabric.Fabric.learn.Goals as goal

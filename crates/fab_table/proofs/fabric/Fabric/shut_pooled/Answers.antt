@@ -1,4 +1,4 @@
-use Rattle.std.proofs.Common.{rules, ◌≡◌, ℕ, ◌+◌, ◌*◌, ◌<◌, ◌≤◌, sym, ap, ◌∙◌, subst, refl, arith}
+use Rattle.std.proofs.Common.{rules, ◌≡◌, ℕ, ◌+◌, ◌*◌, ◌<◌, sym, ap, subst}
 use Rattle.fab_table.specs.Views.{part_at}
 use Rattle.fab_table.specs.Plays.{in_lane}
 use Rattle.fab_table.proofs.Receiving.{shuts_pooled_one}
