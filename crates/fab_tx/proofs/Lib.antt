@@ -1,0 +1,4 @@
+pub mod Lanes
+pub mod Lives
+pub mod Answering
+pub mod Keeping
