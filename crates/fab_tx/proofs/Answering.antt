@@ -1,5 +1,5 @@
 -- The operation that a reply answers, as it is stored.
-use Rattle.std.proofs.Common.{◌≡◌, ℕ, zero, suc, ◌+◌, ◌⊎◌, inl, inr, Bool, true, false, not, ◌&&◌, ◌==◌, cond, List, [], ◌∷◌, map, filter, find, get_or, position, remove, Option, Some, None, slice_get, refl, sym, ap, ◌∙◌, arith, add-zero, zero-add}
+use Rattle.std.proofs.Common.{◌≡◌, ℕ, suc, ◌+◌, ◌⊎◌, inl, inr, Bool, true, false, not, ◌&&◌, ◌==◌, cond, List, [], ◌∷◌, map, filter, find, get_or, position, remove, Some, None, slice_get, refl, sym, ap, ◌∙◌, arith, add-zero, zero-add}
 use Rattle.std.specs.List.{position_from}
 use Rattle.std.proofs.lemmas.Bool.{and_left, and_right}
 use Rattle.std.proofs.lemmas.Iterator.Adapters.{position_from-zero}
@@ -12,7 +12,7 @@ use Rattle.fab_model.specs.Matching.{is_message, remove_first}
 use Rattle.fab_model.specs.State.{Transmitting, awaits}
 use Rattle.fab_model.specs.Sending.{expects, is_answered, is_answered_by}
 use Rattle.fab_tx.specs.declared.stored.Live.{Live}
-use Rattle.fab_tx.specs.Stored.{Shown, answers_as, expects_by, is_answered_as, shown, told, waits_for}
+use Rattle.fab_tx.specs.Stored.{answers_as, expects_by, is_answered_as, shown, told, waits_for}
 use Rattle.fab_tx.proofs.Lanes.{some_same}
 
 -- what is expected depends on the head alone

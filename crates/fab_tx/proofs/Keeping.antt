@@ -1,7 +1,6 @@
 -- What is stored stays what is left of the past, as operations are accepted and items sent.
-use Rattle.std.proofs.Common.{◌≡◌, ◌≢◌, ℕ, zero, suc, ◌+◌, ◌-◌, ◌^◌, ◌<◌, ◌≤◌, ◌⊎◌, inl, inr, Bool, true, false, not, ◌&&◌, ◌==◌, nat_lt, cond, List, [], ◌∷◌, ◌++◌, length, map, filter, find, drop, count_by, replicate, All, set, get_or, remove, position, Option, Some, None, IsSomeAnd, IsSome, slice_get, slice_index, deque_capacity, deque_len, refl, sym, ap, subst, ◌∙◌, arith, append-nil, length-append, length-set, zero-add}
+use Rattle.std.proofs.Common.{◌≡◌, ◌≢◌, ℕ, zero, suc, ◌+◌, ◌-◌, ◌^◌, ◌<◌, ◌≤◌, ◌⊎◌, inl, inr, Bool, true, false, not, ◌&&◌, ◌==◌, nat_lt, cond, List, [], ◌∷◌, ◌++◌, length, map, filter, drop, count_by, replicate, All, set, get_or, remove, position, Option, Some, None, IsSomeAnd, IsSome, slice_get, slice_index, deque_capacity, deque_len, refl, sym, ap, subst, ◌∙◌, arith, append-nil, length-append, length-set, zero-add}
 use Rattle.std.specs.Option.{option_map}
-use Rattle.std.specs.List.{position_from}
 use Rattle.std.proofs.lemmas.Bool.{eqb-true, eq-eqb, ne_eqb, le-ltb, and_left}
 use Rattle.std.proofs.lemmas.Option.{slice_get_read, slice_get_cases, get_or_from_slice_get}
 use Rattle.std.proofs.lemmas.List.{get_or-set_same, get_or-set_other, get_or_past, length-map, length-replicate, map-append}
@@ -21,8 +20,8 @@ use Rattle.fab_tx.specs.declared.stored.Lane.{Lane}
 use Rattle.fab_tx.specs.declared.stored.Live.{Live}
 use Rattle.fab_tx.specs.declared.stored.Waiting.{Waiting}
 use Rattle.fab_tx.specs.declared.stored.Waiting.TheVariants.{Own, Booked}
-use Rattle.fab_tx.specs.Transit.{Transit, IsTransit, answered_by, nothing_accepted, nothing_transmitted, buf_of, ended, finishing, going_on, is_reply, next_item, seen_buf, with_transmitting, writes_when_sent}
-use Rattle.fab_tx.specs.Stored.{IsEmptyLane, IsKept, IsLane, IsSendable, Shown, StandsAs, ends_at_sent_by, is_booked, item_of, is_first_for, own_places, owns_of, shown, starts_own, told, unsent, waits_as, waits_for}
+use Rattle.fab_tx.specs.Transit.{Transit, IsTransit, answered_by, nothing_accepted, nothing_transmitted, buf_of, ended, going_on, is_reply, next_item, seen_buf, with_transmitting, writes_when_sent}
+use Rattle.fab_tx.specs.Stored.{IsEmptyLane, IsKept, IsSendable, Shown, StandsAs, ends_at_sent_by, is_booked, item_of, is_first_for, own_places, owns_of, shown, starts_own, told, unsent, waits_for}
 use Rattle.fab_tx.proofs.Lanes.{Front, booked_first, get_more, has_room, has_reply_room, front, lane_accepts, lane_as, lane_books, lane_goes_on, lane_roomed, lane_sends, none_left, none_waits, one_changes, own_places-above, some_same, waits_booked, waits_own}
 use Rattle.fab_tx.proofs.Answering.{all_wait_still}
 use Rattle.fab_tx.proofs.Lives.{Apart, Found, all_apart, all_stay, all_wait, finds, none_ends, told_all}

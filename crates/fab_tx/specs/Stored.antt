@@ -4,7 +4,7 @@
 --     own_places p items      the places of the items that are no replies, where the first has place p
 --     IsLane, StandsAs        what is stored of one peer
 --     IsKept                  all of it
-use Rattle.std.specs.Prelude.{◌≡◌, ℕ, ◌+◌, ◌^◌, ◌<◌, ◌≤◌, ◌⊎◌, Bool, true, false, not, ◌&&◌, ◌==◌, cond, List, [], ◌∷◌, ◌++◌, length, map, filter, drop, count_by, Option, Some, None, IsSomeAnd, unwrap_or, slice_get, slice_index}
+use Rattle.std.specs.Prelude.{◌≡◌, ℕ, ◌+◌, ◌^◌, ◌<◌, ◌≤◌, ◌⊎◌, Bool, true, false, not, ◌&&◌, ◌==◌, cond, List, [], ◌∷◌, length, map, filter, drop, count_by, Option, Some, None, IsSomeAnd, unwrap_or, slice_get, slice_index}
 use Rattle.std.specs.VecDeque.{deque_capacity}
 use Rattle.fab_base.specs.declared.items.Item.{Item}
 use Rattle.fab_base.specs.declared.items.ItemHead.{ItemHead}

@@ -92,6 +92,7 @@ impl Outbox {
     pub fn in_use(&self) -> u32
         ensures { result ≡ length self.now.tx.live }
     {
+        // No more than `most`, which has 32 bits.
         let _most = self.most;
         self.live.len() as u32
     }
@@ -333,6 +334,7 @@ impl Outbox {
     pub fn awaiting(&self) -> u32
         ensures { result ≡ count_by (awaits self.now.tx) self.now.tx.live }
     {
+        // No more than `most`, which has 32 bits.
         let _most = self.most;
         count_awaiting(&self.live) as u32
     }

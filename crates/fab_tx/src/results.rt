@@ -2,6 +2,7 @@
 use fab_base::{Buf, ItemHead};
 
 /// The item that is next for a peer.
+#[derive(Drop)]
 pub struct Next<'a> {
     pub head: ItemHead,
     pub bytes: &'a [u8],

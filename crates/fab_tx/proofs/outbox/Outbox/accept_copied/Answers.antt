@@ -1,8 +1,7 @@
-use Rattle.std.proofs.Common.{◌≡◌, ◌+◌, ◌<◌, ◌^◌, ◌++◌, length, Some, refl, sym, ap, subst, ◌∙◌, arith, rules, length-append}
+use Rattle.std.proofs.Common.{◌≡◌, ◌<◌, ◌^◌, ◌++◌, length, refl, sym, ◌∙◌, rules, length-append}
 use Rattle.fab_base.specs.declared.items.Item.{Item}
 use Rattle.fab_model.specs.Sending.{accepting}
-use Rattle.fab_tx.specs.Transit.{Transit, buf_of, operation_by}
-use Rattle.fab_tx.specs.Stored.{Shown}
+use Rattle.fab_tx.specs.Transit.{buf_of, operation_by}
 use Rattle.fab_tx.proofs.Keeping.{may_push, accepted_kept, accepting_is, seen_copied, shown_by}
 use Rattle.fab_tx.proofs.outbox.Outbox.accept_copied.Goals as goal
 

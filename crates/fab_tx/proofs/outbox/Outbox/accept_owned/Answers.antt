@@ -1,7 +1,7 @@
-use Rattle.std.proofs.Common.{◌≡◌, ◌+◌, ◌<◌, ◌^◌, length, Some, refl, sym, ap, subst, arith, rules}
+use Rattle.std.proofs.Common.{◌<◌, ◌^◌, length, Some, refl, rules}
 use Rattle.fab_base.specs.declared.items.Item.{Item}
 use Rattle.fab_model.specs.Sending.{accepting}
-use Rattle.fab_tx.specs.Transit.{Transit, operation_by}
+use Rattle.fab_tx.specs.Transit.{operation_by}
 use Rattle.fab_tx.proofs.Keeping.{may_push, accepted_kept, accepting_is}
 use Rattle.fab_tx.proofs.outbox.Outbox.accept_owned.Goals as goal
 

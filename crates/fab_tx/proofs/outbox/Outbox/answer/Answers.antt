@@ -1,6 +1,5 @@
-use Rattle.std.proofs.Common.{◌≡◌, ◌+◌, length, map, remove, Some, None, refl, sym, ap, ◌∙◌, arith, length-append}
+use Rattle.std.proofs.Common.{◌≡◌, ◌+◌, length, map, remove, Some, sym, ap, ◌∙◌, arith, length-append}
 use Rattle.std.specs.Option.{option_map}
-use Rattle.fab_base.specs.declared.operations.Operation.{Operation}
 use Rattle.fab_tx.specs.Transit.{Transit, ended, finds_answered}
 use Rattle.fab_tx.specs.Stored.{Shown, shown, told}
 use Rattle.fab_tx.proofs.Answering.{found_none, found_at, found_kept}

@@ -1,4 +1,4 @@
-use Rattle.std.proofs.Common.{◌≡◌, Some, None, refl, sym, ap, ◌∙◌}
+use Rattle.std.proofs.Common.{Some, sym, ap, ◌∙◌}
 use Rattle.std.specs.Option.{option_map}
 use Rattle.fab_base.specs.declared.operations.Operation.{Operation}
 use Rattle.fab_tx.specs.Transit.{Transit, finds_answered}

@@ -1,4 +1,4 @@
-use Rattle.std.proofs.Common.{arith, count_by, sym, ap, ◌∙◌}
+use Rattle.std.proofs.Common.{arith, count_by, ap, ◌∙◌}
 use Rattle.std.proofs.lemmas.List.Sums.{count_by-le-length}
 use Rattle.fab_model.specs.State.{awaits}
 use Rattle.fab_tx.specs.Transit.{Transit}

@@ -1,4 +1,4 @@
-use Rattle.std.proofs.Common.{◌<◌, ◌-◌, length, slice_index, refl, ap, arith}
+use Rattle.std.proofs.Common.{◌<◌, ◌-◌, length, slice_index, refl}
 use Rattle.fab_model.specs.Complete.{joining}
 use Rattle.fab_tx.proofs.Keeping.{booked_kept, joining_is, may_book}
 use Rattle.fab_tx.proofs.outbox.Outbox.book.Goals as goal

@@ -1,4 +1,4 @@
-use Rattle.std.proofs.Common.{◌≡◌, ◌∷◌, ◌++◌, ◌+◌, ◌<◌, length, true, false, Some, None, IsSome, refl, sym, ap, subst, ◌∙◌, arith, length-append}
+use Rattle.std.proofs.Common.{◌≡◌, ◌∷◌, ◌<◌, length, true, false, Some, IsSome, refl, sym, ap, ◌∙◌, arith, length-append}
 use Rattle.std.specs.Option.{option_map}
 use Rattle.fab_model.specs.Sending.{ending, transmitting}
 use Rattle.fab_tx.specs.declared.stored.Waiting.TheVariants.{Own}

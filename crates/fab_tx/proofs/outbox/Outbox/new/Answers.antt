@@ -1,4 +1,3 @@
-use Rattle.std.proofs.Common.{◌≤◌, refl, arith}
 use Rattle.fab_tx.proofs.Keeping.{opened}
 use Rattle.fab_tx.proofs.outbox.Outbox.new.Goals as goal
 

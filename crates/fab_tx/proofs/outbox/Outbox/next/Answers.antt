@@ -1,6 +1,4 @@
 use Rattle.std.proofs.Common.{◌≡◌, ◌∷◌, ◌<◌, length, drop, Some, refl, sym, ap, ◌∙◌, arith}
-use Rattle.fab_base.specs.declared.items.Item.{Item}
-use Rattle.fab_tx.specs.declared.stored.Waiting.{Waiting}
 use Rattle.fab_tx.specs.declared.stored.Waiting.TheVariants.{Own, Booked}
 use Rattle.fab_tx.specs.Transit.{Transit, next_item}
 use Rattle.fab_tx.proofs.Lanes.{first_is}

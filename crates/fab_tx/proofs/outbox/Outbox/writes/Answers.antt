@@ -1,4 +1,4 @@
-use Rattle.std.proofs.Common.{◌≡◌, ◌∷◌, ◌<◌, ◌&&◌, not, length, drop, true, false, refl, sym, ap, ◌∙◌}
+use Rattle.std.proofs.Common.{◌≡◌, ◌∷◌, ◌<◌, ◌&&◌, not, length, drop, refl, sym, ap, ◌∙◌}
 use Rattle.fab_model.specs.Sending.{ending}
 use Rattle.fab_tx.specs.declared.stored.Waiting.TheVariants.{Own}
 use Rattle.fab_tx.specs.Transit.{Transit, writes_when_sent}
