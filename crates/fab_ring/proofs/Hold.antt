@@ -154,12 +154,12 @@ module _ (me peers room pool clock turn : ℕ) (puts gots : List ℕ) (opened le
     hand_is = fit.hand_is;
   }
 
-  -- a K1 that was no post, and what came after it
+  -- a look that led to no post, and what came after it
   pub fits_saw : (d : ℕ) (o : Out) → d < peers → o.posted ≡ (out_at p d).posted → o.writing ≡ false → o.claim ≡ None → length o.tried ≡ pool → Fits me peers room pool clock turn puts gots opened lent (with_out p d o p.moves) hand
   fits_saw d o near same idle free sized = let f = fit.each_put d near in changed_out d o p.moves puts clock near (le_refl clock) fit.clock_is fit.all_puts
       (f.0 ∙ ap length (sym same), idle, subst (λ (z : List Sent). length z ≤ clock) (sym same) f.2, free, sized) (λ q ne. refl)
 
-  -- K1 with room, and K3
+  -- a look that showed room, and a post
   pub fits_post : (d new : ℕ) (o : Out) (x : Sent) → d < peers → new ≡ get_or puts d 0 + 1 → x.number ≡ clock + 1 → o.posted ≡ (out_at p d).posted → length o.tried ≡ pool
       → Fits me peers room pool (clock + 1) turn (set puts d new) gots opened lent (with_out p d (posted_one o x) (p.moves ++ Post d x.number ∷ [])) hand
   fits_post d new o x near up next same sized = let g = greatest_more 0 p.moves (Post d x.number) in let clock_is = fit.clock_is in let f = fit.each_put d near in let long = length-append o.posted (x ∷ []) in let was : length o.posted ≡ length (out_at p d).posted = ap length same in let f0 = f.0 in let f2 = f.2 in
