@@ -95,6 +95,20 @@ impl Av {
         })
     }
 
+    /// Does nothing, and tells what holds between calls: whoever stands at an index is one of the peers.
+    pub fn known(&self)
+        ensures { (i peer : ℕ) → lookup self.now.indices i ≡ Some peer → peer < self.now.peers }
+    {
+        let _ = &self.by_index;
+    }
+
+    /// How many peers there are.
+    pub fn peers(&self) -> u32
+        ensures { result ≡ self.now.peers }
+    {
+        self.peers
+    }
+
     /// Inserts the peers of these names (fi_av(3), fi_av_insert).
     ///
     /// The peer of a name gets the next index, from 0 on. One that stands already keeps its index, and counts as
@@ -154,7 +168,7 @@ impl Av {
     pub fn lookup(&self, index: u32) -> Result<u32, Fault>
         ensures found { IfOk result (λ peer. lookup self.now.indices index ≡ Some peer) }
         ensures below { IfOk result (λ peer. peer < self.now.peers) }
-        // It stands at no other.
+        // No index before it has this peer.
         ensures once { IfOk result (λ peer. position (is_peer peer) self.now.indices ≡ Some index) }
         ensures no_entry { IfErr result (λ fault. (fault ≡ NoEntry) × (lookup self.now.indices index ≡ None)) }
     {

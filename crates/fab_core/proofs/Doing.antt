@@ -1,0 +1,208 @@
+-- What the steps make of the parts is what the machine makes of its state.
+use Rattle.std.proofs.Common.{◌≡◌, ℕ, ◌+◌, Bool, true, false, not, ◌&&◌, ◌==◌, cond, List, [], ◌∷◌, ◌++◌, length, append-nil, Option, Some, None, get_or, refl, sym, ap, ◌∙◌, subst}
+use Rattle.std.specs.Prelude.{find, is_none, is_some, IfSome, unwrap_or, slice_set}
+use Rattle.fab_base.specs.declared.entries.ErrKind.{ErrKind}
+use Rattle.fab_base.specs.declared.entries.ErrKind.TheVariants.{NoKey, Access, Range}
+use Rattle.fab_base.specs.declared.items.Item.{Item}
+use Rattle.fab_base.specs.declared.items.ItemHead.{ItemHead}
+use Rattle.fab_base.specs.declared.items.Kind.TheVariants.{Msg, TagMsg, WriteReq, ReadReq, AtomicReq, Reply}
+use Rattle.fab_base.specs.declared.items.Outcome.{Outcome}
+use Rattle.fab_base.specs.declared.items.Outcome.TheVariants.{Done, BadKey, BadAccess, BadRange}
+use Rattle.fab_base.specs.declared.operations.Arrival.{Arrival}
+use Rattle.fab_base.specs.declared.operations.Coming.{Coming}
+use Rattle.fab_base.specs.declared.operations.Coming.TheVariants.{Into, Keep, Throw, Request, Answer}
+use Rattle.fab_base.specs.declared.operations.Operation.{Operation}
+use Rattle.fab_base.specs.declared.operations.Receive.{Receive}
+use Rattle.fab_base.specs.declared.peers.Level.{Level}
+use Rattle.fab_model.specs.Matching.{is_message, remove_first, takes}
+use Rattle.fab_model.specs.State.{State, Receiving, Transmitting, awaits, coming_from, with_tx}
+use Rattle.fab_model.specs.Complete.{at_delivery, at_either, at_match, book, fill, filling, fill_multi, release, reply}
+use Rattle.fab_model.specs.Receiving.{cancel, cancellable, give, post, receive_of, taken_by, without_first}
+use Rattle.fab_model.specs.Sending.{Order, accepting, answering, do_answer, do_sent, end_with, ending, expects, is_answered_by, refusal_of, success_of, transmit_to, transmitting}
+use Rattle.fab_model.specs.Arrivals.{do_head, do_tail, heading_message, heading_other, keeping, made_whole, tail_to}
+use Rattle.fab_rx.specs.Arriving.{Arriving, GoesToSingle, IsArriving, IsSingle, arriving, begun_of, bytes_come, finishing, given, kept, posting, receive_by}
+use Rattle.fab_rx.specs.Leaving.{is_meant}
+use Rattle.fab_rx.specs.Results.{completed}
+use Rattle.fab_tx.specs.Transit.{Transit, answered_by, ended, finds_answered, finishing as finishing_sent, seen_buf}
+use Rattle.fab_face.specs.Machine.{cancelling}
+use Rattle.fab_face.specs.declared.machine.Ask.{Ask}
+use Rattle.fab_face.specs.declared.machine.Message.{Message}
+use Rattle.fab_core.specs.Parts.{IsFitting, Parts, state_of}
+use Rattle.fab_core.specs.Doing.{accepted_by, answered, as_operation, booked, called, cq_after, counters_after, ending_by, entry_at_end, given_found, given_whole, heading, left_by, posted_by, received, receive_now, sent, tail, well_entry, whole, with_arriving, with_transit, written_if}
+use Rattle.fab_core.specs.Orders.{order_of, posting_of, wanted}
+
+-- ---- tests
+
+and_left_true : (a b : Bool) → (a && b) ≡ true → a ≡ true
+and_left_true true b e = refl
+and_left_true false b e = absurd (cc)
+
+and_right_true : (a b : Bool) → (a && b) ≡ true → b ≡ true
+and_right_true true b e = e
+and_right_true false b e = absurd (cc)
+
+not_true : (a : Bool) → not a ≡ true → a ≡ false
+not_true true e = absurd (cc)
+not_true false e = refl
+
+-- ---- replies
+
+pub book_is : (due : Bool) (source : ℕ) (head : ItemHead) (p : Parts) → book due source head (state_of p) ≡ state_of (with_transit (booked due source head p.tx) p)
+unfolding book reply
+book_is true source head p = refl
+book_is false source head p = refl
+
+-- ---- the end of an operation
+
+-- what is told of a buffer is the buffer, unless the operation is a silent message
+seen_of : (o : Operation) → (o.silent ≡ false) → seen_buf o.silent o.head.kind o.buf ≡ o.buf
+seen_of o loud = ap (λ b. cond (b && is_message o.head.kind) None o.buf) loud
+
+seen_other : (o : Operation) → is_message o.head.kind ≡ false → seen_buf o.silent o.head.kind o.buf ≡ o.buf
+seen_other o other = by o.silent
+  where
+    by : (b : Bool) → cond (b && is_message o.head.kind) None o.buf ≡ o.buf
+    by true = ap (λ m. cond m None o.buf) other
+    by false = refl
+
+-- the success tells of an operation its head, its context and its buffer
+success_same : (o : Operation) (bytes : List ℕ) → success_of (record { call = 0; dest = 0; place = 0; head = o.head; level = Level.Transmit; ctx = o.ctx; buf = o.buf; silent = false }) bytes ≡ success_of o bytes
+unfolding success_of
+success_same o bytes = refl
+
+-- an outcome that is no success comes to no message
+abbrev pub Ends : Outcome → Operation → Type 0
+Ends outcome o = (kind : ErrKind) → refusal_of outcome ≡ Some kind → is_message o.head.kind ≡ false
+
+module _ (outcome : Outcome) (bytes : List ℕ) (o : Operation) (ends : Ends outcome o) (p : Parts) where
+  bad : (kind : ErrKind) → refusal_of outcome ≡ Some kind → end_with outcome bytes o (state_of p) ≡ state_of (ending_by outcome bytes (Some o) p)
+  unfolding end_with
+  bad kind is = rw (is, end_with, entry_at_end, seen_other o (ends kind is)) refl
+
+  silent : (b : Bool) → o.silent ≡ b → refusal_of outcome ≡ None → end_with outcome bytes o (state_of p) ≡ state_of (ending_by outcome bytes (Some o) p)
+  unfolding end_with
+  silent true is well = rw (well, is, end_with, entry_at_end) refl
+  silent false is well = rw (well, is, end_with, entry_at_end, success_same o bytes) refl
+
+  pub end_is : end_with outcome bytes o (state_of p) ≡ state_of (ending_by outcome bytes (Some o) p)
+  end_is = by (refusal_of outcome) refl
+    where
+      by : (k : Option ErrKind) → refusal_of outcome ≡ k → end_with outcome bytes o (state_of p) ≡ state_of (ending_by outcome bytes (Some o) p)
+      by None is = silent o.silent refl is
+      by (Some kind) is = bad kind is
+
+module _ {X : Type 0} (test : X → Bool) where
+  without_step : (x : X) (xs : List X) (b : Bool) → test x ≡ b → cond b (Some x) (find test xs) ≡ None → (find test xs ≡ None → remove_first test xs ≡ xs) → remove_first test (x ∷ xs) ≡ x ∷ xs
+  without_step x xs true is e more = absurd (cc)
+  without_step x xs false is e more = rw (is, remove_first) (ap (λ ys. x ∷ ys) (more e))
+
+  without_none : (xs : List X) → find test xs ≡ None → remove_first test xs ≡ xs
+  without_none [] e = refl
+  without_none (x ∷ xs) e = without_step x xs (test x) refl e (without_none xs)
+
+  passes_step : (y : X) (ys : List X) (x : X) (b : Bool) → test y ≡ b → cond b (Some y) (find test ys) ≡ Some x → (find test ys ≡ Some x → test x ≡ true) → test x ≡ true
+  passes_step y ys x true is e more = (let same : y ≡ x = cc in sym (ap test same) ∙ is)
+  passes_step y ys x false is e more = more e
+
+  -- the one that is found passes the test
+  passes : (xs : List X) (x : X) → find test xs ≡ Some x → test x ≡ true
+  passes [] x e = absurd (cc)
+  passes (y ∷ ys) x e = passes_step y ys x (test y) refl e (passes ys x)
+
+-- ---- transmission
+
+pub sent_is : (p : Parts) (dest : ℕ) → do_sent (state_of p) dest ≡ state_of (sent dest p)
+unfolding do_sent
+sent_is p dest = by (ending dest p.tx.tx) refl
+  where
+    by : (o : Option Operation) → ending dest p.tx.tx ≡ o → do_sent (state_of p) dest ≡ state_of (sent dest p)
+    by None e = rw (e, do_sent) refl
+    by (Some o) e = rw (e, do_sent) (end_is Done [] o (λ kind is. absurd (cc)) (with_transit (finishing_sent dest p.tx) p))
+
+-- ---- a reply
+
+expected : (tx : Transmitting) (source : ℕ) (reply : ItemHead) (o : Operation) → is_answered_by tx source reply o ≡ true → Ends reply.outcome o
+unfolding expects
+expected tx source reply o is = by reply.outcome (and_right_true ((o.dest == source) && (o.head.op == reply.op) && awaits tx o) (expects o reply.outcome reply.total) is)
+  where
+    by : (out : Outcome) → expects o out reply.total ≡ true → Ends out o
+    by Done e = λ kind is. absurd (cc)
+    by BadKey e = λ kind is. not_true (is_message o.head.kind) (and_left_true (not (is_message o.head.kind)) (reply.total == 0) e)
+    by BadAccess e = λ kind is. not_true (is_message o.head.kind) (and_left_true (not (is_message o.head.kind)) (reply.total == 0) e)
+    by BadRange e = λ kind is. not_true (is_message o.head.kind) (and_left_true (not (is_message o.head.kind)) (reply.total == 0) e)
+
+pub answered_is : (p : Parts) (source : ℕ) (item : Item) → do_answer (state_of p) source item.head item.bytes ≡ state_of (answered source item p)
+unfolding do_answer answering
+answered_is p source item = by (finds_answered source item.head p.tx.tx) refl
+  where
+    by : (o : Option Operation) → finds_answered source item.head p.tx.tx ≡ o → do_answer (state_of p) source item.head item.bytes ≡ state_of (answered source item p)
+    by None e = rw (e, do_answer, without_none (is_answered_by p.tx.tx source item.head) p.tx.tx.live e) refl
+    by (Some o) e = rw (e, do_answer) (end_is item.head.outcome item.bytes o (expected p.tx.tx source item.head o (passes (is_answered_by p.tx.tx source item.head) p.tx.tx.live o e)) (with_transit (answered_by source item.head p.tx) p))
+
+-- ---- arrivals
+
+pub heading_is : (p : Parts) (source : ℕ) (head : ItemHead) → do_head (state_of p) source head ≡ state_of (heading source head p)
+unfolding do_head
+heading_is p source head = by (is_message head.kind) refl
+  where
+    by : (b : Bool) → is_message head.kind ≡ b → do_head (state_of p) source head ≡ state_of (heading source head p)
+    by true e = rw (e, do_head) refl
+    by false e = rw (e, do_head) refl
+
+-- ---- a receive completes
+
+not_released : (r : Receive) → IsSingle r → (s : State) → release r s ≡ s
+not_released r single s = rw (single.least, release) refl
+
+module _ (r : Receive) (single : IsSingle r) (source : ℕ) (head : ItemHead) (bytes : List ℕ) (due : Bool) where
+  unchanged : (xs : List Receive) → fill_multi r 0 bytes xs ≡ xs
+  unchanged xs = rw (single.least, fill_multi) refl
+
+  pub received_is : (p : Parts) → book due source head (fill r 0 source head bytes (state_of p)) ≡ state_of (received (Some r.call) due (completed r 0 source head bytes) p)
+  unfolding fill
+  received_is p = rw (fill, unchanged p.rx.rx.posted, unchanged p.rx.rx.closing) (book_is due source head (received (Some r.call) false (completed r 0 source head bytes) p))
+
+-- ---- an item is whole
+
+module _ (p : Parts) (source : ℕ) (item : Item) (begun : begun_of p.rx source ≡ Some item) (fitting : IsFitting (coming_from p.rx.rx source) (Some item)) (single : GoesToSingle (coming_from p.rx.rx source)) where
+  tail_by : (c : Option Coming) → coming_from p.rx.rx source ≡ c → IsFitting c (Some item) → GoesToSingle c → do_tail (state_of p) source item.head item.bytes ≡ state_of (tail source item p)
+  unfolding do_tail tail_to
+  tail_by None e f s = absurd f
+  tail_by (Some (Into r place)) e f s = rw (e, s.1, do_tail, tail_to, not_released r s.0 _) (received_is r s.0 source item.head item.bytes (at_either item.head.ack) (with_arriving (record p.rx { rx = made_whole source p.rx.rx; begun = slice_set p.rx.begun source None }) p))
+  tail_by (Some Keep) e f s = rw (e, begun, do_tail, tail_to) (book_is (at_delivery item.head.ack) source item.head (with_arriving (record p.rx { rx = keeping source item.bytes (made_whole source p.rx.rx); begun = slice_set p.rx.begun source None }) p))
+  tail_by (Some Throw) e f s = rw (e, do_tail, tail_to) (book_is (at_either item.head.ack) source item.head (with_arriving (record p.rx { rx = made_whole source p.rx.rx; begun = slice_set p.rx.begun source None }) p))
+  tail_by (Some Request) e f s = absurd f
+  tail_by (Some Answer) e f s = rw (e, do_tail, tail_to) (answered_is (with_arriving (record p.rx { rx = made_whole source p.rx.rx; begun = slice_set p.rx.begun source None }) p) source item)
+
+  pub tail_is : do_tail (state_of p) source item.head item.bytes ≡ state_of (tail source item p)
+  tail_is = tail_by (coming_from p.rx.rx source) refl fitting single
+
+-- ---- calls
+
+module _ (p : Parts) (ask : Ask) (buf : List ℕ) where
+  abbrev r : Receive
+  r = receive_now (wanted (state_of p) ask) buf ask.ctx p
+
+  posted_found : (o : Option Arrival) → find (takes (wanted (state_of p) ask)) p.rx.rx.unexpected ≡ o → post (state_of p) (posting_of ask buf) ≡ state_of (posted_by (wanted (state_of p) ask) buf ask.ctx p)
+  unfolding post give
+  posted_found None e = rw (e, post) refl
+  posted_found (Some a) e = by a.bytes refl
+    where
+      by : (b : Option (List ℕ)) → a.bytes ≡ b → post (state_of p) (posting_of ask buf) ≡ state_of (posted_by (wanted (state_of p) ask) buf ask.ctx p)
+      by None none = rw (e, none, post, give) refl
+      by (Some bytes) some = rw (e, some, post, give) (received_is r (record { least = refl; used = refl }) a.source a.head bytes (at_match a.head.ack) (called (with_arriving (record { rx = without_first r.want p.rx.rx; begun = p.rx.begun; most = p.rx.most; next = r.call + 1 }) p)))
+
+  pub posted_is : post (state_of p) (posting_of ask buf) ≡ state_of (posted_by (wanted (state_of p) ask) buf ask.ctx p)
+  posted_is = posted_found (find (takes (wanted (state_of p) ask)) p.rx.rx.unexpected) refl
+
+pub left_is : (p : Parts) (ctx : Option ℕ) → cancel (state_of p) (is_meant ctx) ≡ state_of (left_by ctx p)
+unfolding cancel
+left_is p ctx = by (cancellable (is_meant ctx) p.rx.rx) refl
+  where
+    by : (o : Option Receive) → cancellable (is_meant ctx) p.rx.rx ≡ o → cancel (state_of p) (is_meant ctx) ≡ state_of (left_by ctx p)
+    by None e = rw (e, cancel, without_none _ p.rx.rx.posted e) refl
+    by (Some r) e = rw (e, cancel) refl
+
+pub accepted_is : (p : Parts) (t : ℕ) (message : Message) (bytes : List ℕ) → transmit_to t (state_of p) (order_of message bytes) ≡ state_of (accepted_by t (order_of message bytes) p)
+unfolding transmit_to
+accepted_is p t message bytes = rw (transmit_to, append-nil bytes) refl

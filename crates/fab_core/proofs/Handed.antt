@@ -1,0 +1,176 @@
+-- What the receive half hands out of an item that is whole tells where it went.
+use Rattle.std.proofs.Common.{◌≡◌, inl, inr, ◌⊎◌, ℕ, ◌+◌, ◌<◌, Bool, true, false, List, length, Option, Some, None, refl, sym, ap, ◌∙◌, subst}
+use Rattle.std.specs.Prelude.{IfSome, find, slice_index}
+use Rattle.fab_base.specs.declared.entries.Class.TheVariants.{Recv}
+use Rattle.fab_base.specs.declared.items.Want.{Want}
+use Rattle.fab_base.specs.declared.operations.Tally.{Tally}
+use Rattle.fab_model.specs.Complete.{at_delivery, at_either, at_match, entry_of, has_space}
+use Rattle.fab_model.specs.Matching.{takes}
+use Rattle.fab_base.specs.declared.items.Item.{Item}
+use Rattle.fab_base.specs.declared.items.ItemHead.{ItemHead}
+use Rattle.fab_base.specs.declared.operations.Arrival.{Arrival}
+use Rattle.fab_base.specs.declared.operations.Coming.{Coming}
+use Rattle.fab_base.specs.declared.operations.Coming.TheVariants.{Into, Keep, Throw, Request, Answer}
+use Rattle.fab_base.specs.declared.operations.Operation.{Operation}
+use Rattle.fab_base.specs.declared.operations.Receive.{Receive}
+use Rattle.std.specs.Option.{option_map}
+use Rattle.fab_model.specs.State.{Completions, coming_from, counting, writing}
+use Rattle.fab_model.specs.Arrivals.{do_tail}
+use Rattle.fab_face.specs.Machine.{StayNext}
+use Rattle.fab_rx.specs.Arriving.{IsArriving, begun_of, finishing, posting}
+use Rattle.fab_rx.specs.Results.{call_into, completed, ended, posted_as}
+use Rattle.fab_rx.specs.declared.results.Completed.{Completed}
+use Rattle.fab_rx.specs.declared.results.Finished.{Finished}
+use Rattle.fab_rx.specs.declared.results.Finished.TheVariants.{Received, Kept, Thrown, Request as RequestCame, Answer as AnswerCame}
+use Rattle.fab_rx.specs.declared.results.Posted.{Posted}
+use Rattle.fab_rx.specs.declared.results.Posted.TheVariants.{Joined, GoesOn, Whole}
+use Rattle.fab_tx.specs.Transit.{IsTransit, Transit, answered_by, finds_answered}
+use Rattle.fab_core.specs.Parts.{IsFitting, IsTogether, Parts, is_due, state_of}
+use Rattle.fab_core.specs.Doing.{booked, counters_after, cq_after, receive_now, tail}
+use Rattle.fab_core.proofs.Doing.{tail_is}
+use Rattle.fab_core.proofs.Next.{tail_next}
+use Rattle.fab_core.proofs.Together.{match_room, most_booked, size_after, together_answered, together_booked, together_given, together_posted}
+
+pub ended_received : (c : Option Coming) (source : ℕ) (item : Item) (x : Completed) → ended c source item ≡ Received x → (r : Receive) × (place : ℕ) × (c ≡ Some (Into r place)) × (x ≡ completed r place source item.head item.bytes)
+ended_received None source item x is = absurd (cc)
+ended_received (Some (Into r place)) source item x is = (r, place, refl, cc)
+ended_received (Some Keep) source item x is = absurd (cc)
+ended_received (Some Throw) source item x is = absurd (cc)
+ended_received (Some Request) source item x is = absurd (cc)
+ended_received (Some Answer) source item x is = absurd (cc)
+
+pub ended_kept : (c : Option Coming) (source : ℕ) (item : Item) (head : ItemHead) → ended c source item ≡ Kept head → (c ≡ Some Keep) × (head ≡ item.head)
+ended_kept None source item head is = absurd (cc)
+ended_kept (Some (Into r place)) source item head is = absurd (cc)
+ended_kept (Some Keep) source item head is = (refl, cc)
+ended_kept (Some Throw) source item head is = absurd (cc)
+ended_kept (Some Request) source item head is = absurd (cc)
+ended_kept (Some Answer) source item head is = absurd (cc)
+
+pub ended_thrown : (c : Option Coming) (source : ℕ) (item : Item) (head : ItemHead) → IsFitting c (Some item) → ended c source item ≡ Thrown head → (c ≡ Some Throw) × (head ≡ item.head)
+ended_thrown None source item head fits is = absurd fits
+ended_thrown (Some (Into r place)) source item head fits is = absurd (cc)
+ended_thrown (Some Keep) source item head fits is = absurd (cc)
+ended_thrown (Some Throw) source item head fits is = (refl, cc)
+ended_thrown (Some Request) source item head fits is = absurd (cc)
+ended_thrown (Some Answer) source item head fits is = absurd (cc)
+
+pub ended_request : (c : Option Coming) (source : ℕ) (item came : Item) → IsFitting c (Some item) → ended c source item ≡ RequestCame came → ⊥
+ended_request None source item came fits is = fits
+ended_request (Some (Into r place)) source item came fits is = absurd (cc)
+ended_request (Some Keep) source item came fits is = absurd (cc)
+ended_request (Some Throw) source item came fits is = absurd (cc)
+ended_request (Some Request) source item came fits is = fits
+ended_request (Some Answer) source item came fits is = absurd (cc)
+
+pub ended_answer : (c : Option Coming) (source : ℕ) (item came : Item) → ended c source item ≡ AnswerCame came → (c ≡ Some Answer) × (came ≡ item)
+ended_answer None source item came is = absurd (cc)
+ended_answer (Some (Into r place)) source item came is = absurd (cc)
+ended_answer (Some Keep) source item came is = absurd (cc)
+ended_answer (Some Throw) source item came is = absurd (cc)
+ended_answer (Some Request) source item came is = absurd (cc)
+ended_answer (Some Answer) source item came is = (refl, cc)
+
+-- a receive call that hands out a completion found a message that was whole
+pub posted_whole : (r : Receive) (found : Option Arrival) (x : Completed) → posted_as r found ≡ Whole x → (a : Arrival) × (bytes : List ℕ) × (found ≡ Some a) × (a.bytes ≡ Some bytes) × (x ≡ completed r 0 a.source a.head bytes)
+posted_whole r None x is = absurd (cc)
+posted_whole r (Some a) x is = by a.bytes refl
+  where
+    by : (b : Option (List ℕ)) → a.bytes ≡ b → (a' : Arrival) × (bytes : List ℕ) × (Some a ≡ Some a') × (a'.bytes ≡ Some bytes) × (x ≡ completed r 0 a'.source a'.head bytes)
+    by None none = absurd (let e : posted_as r (Some a) ≡ GoesOn = rw none refl in cc)
+    by (Some bytes) some = (let e : posted_as r (Some a) ≡ Whole (completed r 0 a.source a.head bytes) = rw some refl in (a, bytes, refl, some, cc))
+
+-- where an item is begun, a fact of it is a fact where one is
+pub if_begun : (P : Item → Type 0) (o : Option Item) (item : Item) → o ≡ Some item → P item → IfSome o P
+if_begun P o item is fact = subst (λ (o : Option Item). IfSome o P) (sym is) fact
+
+pub of_begun : (P : Item → Type 0) (o : Option Item) (item : Item) → o ≡ Some item → IfSome o P → P item
+of_begun P o item is fact = subst (λ (o : Option Item). IfSome o P) is fact
+
+-- an operation that is handed out was found
+pub found_ended : {X : Type 0} (f : Operation → X) (o : Option Operation) (x : X) → option_map f o ≡ Some x → (op : Operation) × (o ≡ Some op) × (f op ≡ x)
+found_ended f None x is = absurd (cc)
+found_ended f (Some op) x is = (op, refl, cc)
+
+-- ---- an item is whole
+
+module _ (p : Parts) (ok : IsTogether p) (rx : IsArriving p.rx) (tx : IsTransit p.tx) (source : ℕ) (within : source < length p.rx.begun) (item : Item) (begun : begun_of p.rx source ≡ Some item) where
+  fitting : IsFitting (coming_from p.rx.rx source) (Some item)
+  fitting = subst (λ (i : Option Item). IsFitting (coming_from p.rx.rx source) i) begun (ok.fitting source)
+
+  -- the parts then, but for what is named
+  abbrev then : Transit → Completions → List Tally → Parts
+  then tx' cq' counters' = record { caps = p.caps; selective = p.selective; av = p.av; rx = finishing source p.rx; tx = tx'; cq = cq'; counters = counters'; calls = p.calls }
+
+  -- what holds of what an end makes: it is the machine's, and the parts belong together
+  abbrev pub IsEnd : Parts → Type 0
+  IsEnd q = (q ≡ tail source item p) × IsTogether q × (q.tx.most ≡ p.tx.most)
+
+  received_same : (r : Receive) (place : ℕ) → coming_from p.rx.rx source ≡ Some (Into r place)
+      → then (booked (at_either item.head.ack) source item.head p.tx) (writing (call_into (coming_from p.rx.rx source)) (entry_of r place source item.head item.bytes) p.cq) (counting Recv (has_space r place item.head) p.counters) ≡ tail source item p
+  received_same r place e = rw e refl
+
+  pub end_received : (x : Completed) → ended (coming_from p.rx.rx source) source item ≡ Received x
+      → IsEnd (then (booked (at_either x.head.ack) x.source x.head p.tx) (writing (call_into (coming_from p.rx.rx source)) x.entry p.cq) (counting Recv x.good p.counters))
+  end_received x is =
+      let e = ended_received (coming_from p.rx.rx source) source item x is in
+      subst (λ (y : Completed). IsEnd (then (booked (at_either y.head.ack) y.source y.head p.tx) (writing (call_into (coming_from p.rx.rx source)) y.entry p.cq) (counting Recv y.good p.counters))) (sym e.3)
+      (received_same e.0 e.1 e.2, together_booked p ok source item within begun tx.rooms (at_either item.head.ack) (ap (λ c. is_due c item.head) e.2) _ refl refl refl refl refl, most_booked (at_either item.head.ack) source item.head p.tx)
+
+  pub end_kept : (head : ItemHead) → ended (coming_from p.rx.rx source) source item ≡ Kept head → IsEnd (then (booked (at_delivery head.ack) source head p.tx) p.cq p.counters)
+  end_kept head is =
+      let e = ended_kept (coming_from p.rx.rx source) source item head is in
+      subst (λ (h : ItemHead). IsEnd (then (booked (at_delivery h.ack) source h p.tx) p.cq p.counters)) (sym e.1)
+      (rw e.0 refl, together_booked p ok source item within begun tx.rooms (at_delivery item.head.ack) (ap (λ c. is_due c item.head) e.0) _ refl refl refl refl refl, most_booked (at_delivery item.head.ack) source item.head p.tx)
+
+  pub end_thrown : (head : ItemHead) → ended (coming_from p.rx.rx source) source item ≡ Thrown head → IsEnd (then (booked (at_either head.ack) source head p.tx) p.cq p.counters)
+  end_thrown head is =
+      let e = ended_thrown (coming_from p.rx.rx source) source item head fitting is in
+      subst (λ (h : ItemHead). IsEnd (then (booked (at_either h.ack) source h p.tx) p.cq p.counters)) (sym e.1)
+      (rw e.0 refl, together_booked p ok source item within begun tx.rooms (at_either item.head.ack) (ap (λ c. is_due c item.head) e.0) _ refl refl refl refl refl, most_booked (at_either item.head.ack) source item.head p.tx)
+
+  pub end_answer : (came : Item) → ended (coming_from p.rx.rx source) source item ≡ AnswerCame came
+      → IsEnd (then (answered_by source came.head p.tx) (cq_after came.head.outcome came.bytes (finds_answered source came.head p.tx.tx) p.cq) (counters_after came.head.outcome (finds_answered source came.head p.tx.tx) p.counters))
+  end_answer came is =
+      let e = ended_answer (coming_from p.rx.rx source) source item came is in
+      subst (λ (y : Item). IsEnd (then (answered_by source y.head p.tx) (cq_after y.head.outcome y.bytes (finds_answered source y.head p.tx.tx) p.cq) (counters_after y.head.outcome (finds_answered source y.head p.tx.tx) p.counters))) (sym e.1)
+      (rw e.0 refl, together_answered p ok source item within begun tx.rooms e.0 item.head _ (size_after item.head.outcome item.bytes (finds_answered source item.head p.tx.tx) p.cq) refl refl refl refl, refl)
+
+  -- what the machine says of it
+  pub whole_state : (q : Parts) → IfSome (begun_of p.rx source) (λ item. q ≡ tail source item p) → IfSome (begun_of p.rx source) (λ item. state_of q ≡ do_tail (state_of p) source item.head item.bytes)
+  whole_state q is =
+      let at : q ≡ tail source item p = of_begun (λ item. q ≡ tail source item p) (begun_of p.rx source) item begun is in
+      if_begun (λ item. state_of q ≡ do_tail (state_of p) source item.head item.bytes) (begun_of p.rx source) item begun (ap state_of at ∙ sym (tail_is p source item begun fitting (rx.into source)))
+
+  pub whole_next : (q : Parts) → IfSome (begun_of p.rx source) (λ item. q ≡ tail source item p) → StayNext (state_of p) (state_of q)
+  whole_next q is =
+      let at : q ≡ tail source item p = of_begun (λ item. q ≡ tail source item p) (begun_of p.rx source) item begun is in
+      subst (λ (q : Parts). StayNext (state_of p) (state_of q)) (sym at) (tail_next p source item)
+
+-- ---- a receive call
+
+module _ (p : Parts) (ok : IsTogether p) (rx : IsArriving p.rx) (tx : IsTransit p.tx) (want : Want) (buf : List ℕ) (ctx : ℕ) where
+  abbrev r : Receive
+  r = receive_now want buf ctx p
+
+  module _ (x : Completed) (out : posted_as (receive_now want buf ctx p) (find (takes want) p.rx.rx.unexpected) ≡ Whole x) where
+    found : (a : Arrival) × (bytes : List ℕ) × (find (takes want) p.rx.rx.unexpected ≡ Some a) × (a.bytes ≡ Some bytes) × (x ≡ completed r 0 a.source a.head bytes)
+    found = posted_whole r (find (takes want) p.rx.rx.unexpected) x out
+
+    pub given_room : at_match x.head.ack ≡ true → (x.source < length p.tx.tx.sent) × (0 < slice_index p.tx.rooms x.source)
+    given_room due = subst (λ (y : Completed). at_match y.head.ack ≡ true → (y.source < length p.tx.tx.sent) × (0 < slice_index p.tx.rooms y.source)) (sym found.4) (match_room p ok rx r refl tx.rooms found.0 found.1 found.2 found.3) due
+
+    pub given_together : (q : Parts) → q.cq.size ≡ p.cq.size → q.av ≡ p.av → q.rx ≡ posting r p.rx → q.calls ≡ p.calls + 1 → q.tx ≡ booked (at_match x.head.ack) x.source x.head p.tx → IsTogether q
+    given_together q size av posted calls is = together_given p ok rx r refl tx.rooms found.0 found.1 found.2 found.3 q size av posted calls (is ∙ ap (λ (y : Completed). booked (at_match y.head.ack) y.source y.head p.tx) found.4)
+
+  pub joined_together : (o : Posted) → o ≡ posted_as (receive_now want buf ctx p) (find (takes want) p.rx.rx.unexpected) → ((x : Completed) → o ≡ Whole x → ⊥)
+      → (q : Parts) → q.cq.size ≡ p.cq.size → q.av ≡ p.av → q.rx ≡ posting r p.rx → q.calls ≡ p.calls + 1 → q.tx ≡ p.tx → IsTogether q
+  joined_together o out not_whole q size av posted calls is = together_posted p ok rx r refl tx.rooms q (how (find (takes want) p.rx.rx.unexpected) refl) size av posted calls is
+    where
+      how : (f : Option Arrival) → find (takes want) p.rx.rx.unexpected ≡ f → (find (takes want) p.rx.rx.unexpected ≡ None) ⊎ ((a : Arrival) × (find (takes want) p.rx.rx.unexpected ≡ Some a) × (a.bytes ≡ None))
+      how None e = inl e
+      how (Some a) e = by a.bytes refl
+        where
+          by : (b : Option (List ℕ)) → a.bytes ≡ b → (find (takes want) p.rx.rx.unexpected ≡ None) ⊎ ((a : Arrival) × (find (takes want) p.rx.rx.unexpected ≡ Some a) × (a.bytes ≡ None))
+          by None none = inr (a, e, none)
+          by (Some bytes) some = absurd (not_whole (completed r 0 a.source a.head bytes) (out ∙ rw (e, some) refl))

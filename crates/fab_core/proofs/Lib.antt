@@ -1,0 +1,11 @@
+mod Owing
+mod Doing
+mod Together
+mod Steady
+mod Next
+mod Fits
+mod Feeding
+mod Calling
+mod Handed
+mod Sent
+mod Beginning

@@ -1,0 +1,222 @@
+-- What the steps of an endpoint make of its parts.
+--     booked due source head tx       a reply to the item is booked, where one is due
+--     entry_at_end outcome bytes e    the completion of an operation that ended, if one is written
+--     ending_by                       an operation ends, where there is one
+--     received                        a receive completes
+--     heading, growing_by, tail       an item arrives, more of its bytes come, it is whole
+--     sent                            an item is transmitted
+--     posted_by, left_by              a receive call, a cancel
+--     accepted_by                     a message is accepted
+use Rattle.std.specs.Prelude.{ℕ, ◌+◌, ◌∷◌, Bool, true, false, ◌&&◌, ◌||◌, ◌==◌, not, cond, List, [], length, Option, Some, None, is_none, is_some, find, nat_lt, nat_le}
+use Rattle.std.specs.Option.{option_map}
+use Rattle.fab_base.specs.declared.entries.Class.TheVariants.{Recv}
+use Rattle.fab_base.specs.declared.entries.ErrKind.TheVariants.{Canceled}
+use Rattle.fab_base.specs.declared.entries.Taken.{Taken}
+use Rattle.fab_base.specs.declared.entries.Taken.TheVariants.{Success}
+use Rattle.fab_base.specs.declared.faults.Fault.{Fault}
+use Rattle.fab_base.specs.declared.faults.Fault.TheVariants.{NotSupported, MsgSize, Invalid}
+use Rattle.fab_base.specs.declared.frames.Frame.{Frame}
+use Rattle.fab_base.specs.declared.items.Item.{Item}
+use Rattle.fab_base.specs.declared.items.ItemHead.{ItemHead}
+use Rattle.fab_base.specs.declared.items.Kind.{Kind}
+use Rattle.fab_base.specs.declared.items.Kind.TheVariants.{Msg, TagMsg, WriteReq, ReadReq, AtomicReq, Reply}
+use Rattle.fab_base.specs.declared.items.Outcome.{Outcome}
+use Rattle.fab_base.specs.declared.items.Outcome.TheVariants.{Done}
+use Rattle.fab_base.specs.declared.items.Want.{Want}
+use Rattle.fab_base.specs.declared.operations.Arrival.{Arrival}
+use Rattle.fab_base.specs.declared.operations.Coming.{Coming}
+use Rattle.fab_base.specs.declared.operations.Coming.TheVariants.{Into, Keep, Throw, Request, Answer}
+use Rattle.fab_base.specs.declared.operations.Operation.{Operation}
+use Rattle.fab_base.specs.declared.operations.Receive.{Receive}
+use Rattle.fab_base.specs.declared.operations.Tally.{Tally}
+use Rattle.fab_base.specs.declared.peers.Level.{Level}
+use Rattle.fab_model.specs.Matching.{is_message, takes}
+use Rattle.fab_model.specs.State.{Completions, State, Transmitting, coming_from, counting, in_use, lookup, writing}
+use Rattle.fab_model.specs.Complete.{at_delivery, at_either, at_match, error, reply_head}
+use Rattle.fab_model.specs.Receiving.{Posting, cancellable, least_is_wrong, may_receive, source_is_known, without_posted}
+use Rattle.fab_model.specs.Sending.{Order, class_of, ending, first_fault, head_of, is_granted, is_silent, is_too_long, is_well_formed, refusal_of, success_of}
+use Rattle.fab_rx.specs.Arriving.{Arriving, arriving, finishing, growing, posting, receive_by, with_receiving}
+use Rattle.fab_rx.specs.Leaving.{is_meant}
+use Rattle.fab_rx.specs.Results.{completed}
+use Rattle.fab_rx.specs.declared.results.Completed.{Completed}
+use Rattle.fab_rx.specs.declared.results.Finished.{Finished}
+use Rattle.fab_rx.specs.declared.results.Finished.TheVariants.{Received, Kept, Thrown, Request as RequestCame, Answer as AnswerCame}
+use Rattle.fab_tx.specs.Transit.{Transit, accepting_by, answered_by, booking, ended, finds_answered, finishing as finishing_sent}
+use Rattle.fab_tx.specs.declared.results.Ended.{Ended}
+use Rattle.fab_core.specs.Parts.{Parts, state_of}
+
+-- ---- replies
+
+abbrev pub reply_to : ItemHead → Item
+reply_to head = record { head = reply_head head.op Done 0; bytes = [] }
+
+abbrev pub booked : Bool → ℕ → ItemHead → Transit → Transit
+booked true source head tx = booking source (reply_to head) tx
+booked false source head tx = tx
+
+-- ---- the end of an operation
+
+-- an operation of which only what is handed out is known
+abbrev pub as_operation : Ended → Operation
+as_operation e = record { call = 0; dest = 0; place = 0; head = e.head; level = Level.Transmit; ctx = e.ctx; buf = e.buf; silent = e.silent }
+
+abbrev pub well_entry : Bool → List ℕ → Ended → Option Taken
+well_entry true bytes e = None
+well_entry false bytes e = Some (Success (success_of (as_operation e) bytes))
+
+abbrev pub entry_at_end : Outcome → List ℕ → Ended → Option Taken
+entry_at_end outcome bytes e = elim (refusal_of outcome) [
+  | Some kind ↦ Some (error e.ctx kind e.buf)
+  | None ↦ well_entry e.silent bytes e
+]
+
+abbrev pub written_if : Option ℕ → Option Taken → Completions → Completions
+written_if call None cq = cq
+written_if call (Some entry) cq = writing call entry cq
+
+abbrev pub cq_after : Outcome → List ℕ → Option Operation → Completions → Completions
+cq_after outcome bytes None cq = cq
+cq_after outcome bytes (Some o) cq = written_if (Some o.call) (entry_at_end outcome bytes (ended o)) cq
+
+abbrev pub counters_after : Outcome → Option Operation → List Tally → List Tally
+counters_after outcome None counters = counters
+counters_after outcome (Some o) counters = counting (class_of o.head) (is_none (refusal_of outcome)) counters
+
+abbrev pub ending_by : Outcome → List ℕ → Option Operation → Parts → Parts
+ending_by outcome bytes o p = record p { cq = cq_after outcome bytes o p.cq; counters = counters_after outcome o p.counters }
+
+abbrev pub with_transit : Transit → Parts → Parts
+with_transit tx p = record p { tx = tx }
+
+abbrev pub with_arriving : Arriving → Parts → Parts
+with_arriving rx p = record p { rx = rx }
+
+abbrev pub sent : ℕ → Parts → Parts
+sent dest p = ending_by Done [] (ending dest p.tx.tx) (with_transit (finishing_sent dest p.tx) p)
+
+abbrev pub answered : ℕ → Item → Parts → Parts
+answered source item p = ending_by item.head.outcome item.bytes (finds_answered source item.head p.tx.tx) (with_transit (answered_by source item.head p.tx) p)
+
+-- the end of an operation writes a completion
+abbrev pub writes_end : Outcome → Bool → Bool
+writes_end outcome silent = not silent || is_some (refusal_of outcome)
+
+-- so does the operation that this reply answers, if there is one
+abbrev pub answer_writes : ℕ → ItemHead → Transmitting → Bool
+answer_writes source reply tx = elim (finds_answered source reply tx) [ None ↦ false | Some o ↦ writes_end reply.outcome o.silent ]
+
+-- ---- what comes in
+
+-- the item asks its target for something that no endpoint does yet
+abbrev pub is_request : Kind → Bool
+is_request Msg = false
+is_request TagMsg = false
+is_request WriteReq = true
+is_request ReadReq = true
+is_request AtomicReq = true
+is_request Reply = false
+
+-- the message asks for a reply
+abbrev pub asks : ItemHead → Bool
+asks head = is_message head.kind && at_either head.ack
+
+-- the item writes a completion when it is whole
+abbrev pub writes_at_tail : Option Coming → ℕ → ItemHead → Transmitting → Bool
+writes_at_tail (Some (Into r place)) source head tx = true
+writes_at_tail (Some Keep) source head tx = false
+writes_at_tail (Some Throw) source head tx = false
+writes_at_tail (Some Request) source head tx = false
+writes_at_tail (Some Answer) source head tx = answer_writes source head tx
+writes_at_tail None source head tx = false
+
+-- a first frame is the arrival of its item
+abbrev pub arrived : Bool → ℕ → ItemHead → Arriving → Arriving
+arrived true source head rx = arriving source head rx
+arrived false source head rx = rx
+
+abbrev pub heading : ℕ → ItemHead → Parts → Parts
+heading source head p = with_arriving (arriving source head p.rx) p
+
+abbrev pub growing_by : ℕ → List ℕ → Parts → Parts
+growing_by source bytes p = with_arriving (growing source bytes p.rx) p
+
+-- a frame comes in, but for what the end of its item does
+abbrev pub fed : ℕ → Frame → Parts → Parts
+fed source f p = growing_by source f.bytes (with_arriving (arrived (f.head.from == 0) source f.head.item p.rx) p)
+
+-- the entry of this call is written, the receive counts, and a reply that is due is booked
+abbrev pub received : Option ℕ → Bool → Completed → Parts → Parts
+received call due c p = record p { cq = writing call c.entry p.cq; counters = counting Recv c.good p.counters; tx = booked due c.source c.head p.tx }
+
+abbrev pub whole : Option Coming → ℕ → Item → Parts → Parts
+whole (Some (Into r place)) source item p = received (Some r.call) (at_either item.head.ack) (completed r place source item.head item.bytes) p
+whole (Some Keep) source item p = with_transit (booked (at_delivery item.head.ack) source item.head p.tx) p
+whole (Some Throw) source item p = with_transit (booked (at_either item.head.ack) source item.head p.tx) p
+whole (Some Request) source item p = p
+whole (Some Answer) source item p = answered source item p
+whole None source item p = with_transit (booked (at_either item.head.ack) source item.head p.tx) p
+
+abbrev pub tail : ℕ → Item → Parts → Parts
+tail source item p = whole (coming_from p.rx.rx source) source item (with_arriving (finishing source p.rx) p)
+
+-- a reply is due to the item of this end
+abbrev pub due_at_end : Finished → Bool
+due_at_end (Received c) = at_either c.head.ack
+due_at_end (Kept head) = at_delivery head.ack
+due_at_end (Thrown head) = at_either head.ack
+due_at_end (RequestCame item) = false
+due_at_end (AnswerCame item) = false
+
+-- ---- calls
+
+abbrev pub called : Parts → Parts
+called p = record p { calls = p.calls + 1 }
+
+-- the receive gets a message that is whole
+abbrev pub given_whole : Option (List ℕ) → Arrival → Receive → Parts → Parts
+given_whole None a r p = p
+given_whole (Some bytes) a r p = received (Some r.call) (at_match a.head.ack) (completed r 0 a.source a.head bytes) p
+
+abbrev pub given_found : Option Arrival → Receive → Parts → Parts
+given_found None r p = p
+given_found (Some a) r p = given_whole a.bytes a r p
+
+-- a receive for one message, by this call
+abbrev pub receive_now : Want → List ℕ → ℕ → Parts → Receive
+receive_now want buf ctx p = receive_by (Some p.calls) want buf ctx
+
+abbrev pub posted_by : Want → List ℕ → ℕ → Parts → Parts
+posted_by want buf ctx p =
+    let r = receive_now want buf ctx p in
+    given_found (find (takes want) p.rx.rx.unexpected) r (called (with_arriving (posting r p.rx) p))
+
+abbrev pub canceled : Option Receive → Parts → Parts
+canceled None p = p
+canceled (Some r) p = called (record p { cq = writing (Some r.call) (error (Some r.ctx) Canceled (Some r.buf)) p.cq; counters = counting Recv false p.counters })
+
+abbrev pub left_by : Option ℕ → Parts → Parts
+left_by ctx p = canceled (cancellable (is_meant ctx) p.rx.rx) (with_arriving (with_receiving (without_posted (is_meant ctx) p.rx.rx) p.rx) p)
+
+-- a message is accepted for the peer
+abbrev pub accepted_by : ℕ → Order → Parts → Parts
+accepted_by t o p =
+    called (with_transit (accepting_by (Some p.calls) t (head_of p.tx.tx.ops o) o.level o.ctx o.bytes (Some o.bytes) (is_silent (state_of p) o) p.tx) p)
+
+-- ---- refusals
+
+-- why the call is refused for a reason that does not pass
+abbrev pub lasting_transmit : State → Order → Option Fault
+lasting_transmit s o = first_fault (
+    (not (is_granted s.caps o.kind o.atom), NotSupported)
+    ∷ (is_too_long o, MsgSize)
+    ∷ (is_none (lookup s.av o.dest) || nat_le 4_611_686_018_427_387_904 s.tx.ops || not (is_well_formed o o.atom), Invalid)
+    ∷ []
+    )
+
+abbrev pub lasting_post : State → Posting → Option Fault
+lasting_post s p = first_fault (
+    (not (may_receive s p.tagged), NotSupported)
+    ∷ (nat_lt 16_777_216 (length p.buf), MsgSize)
+    ∷ (not (source_is_known s p.source) || least_is_wrong p, Invalid)
+    ∷ []
+    )

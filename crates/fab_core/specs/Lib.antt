@@ -1,0 +1,3 @@
+pub mod Parts
+pub mod Doing
+pub mod Orders

@@ -1,0 +1,106 @@
+-- The parts of a core, and what of them an endpoint holds.
+--     Parts          the value of a core
+--     state_of, held_of      what contracts of an endpoint see of it
+--     owed s rx      how many replies are still to be booked for the peer: for the item that is coming, and for messages that no receive took
+--     IsTogether p   the parts belong to one endpoint
+use Rattle.std.specs.Prelude.{◌≡◌, ℕ, ◌+◌, ◌<◌, ◌≤◌, Bool, true, false, ◌&&◌, ◌==◌, List, [], ◌∷◌, length, Option, Some, None, slice_index}
+use Rattle.fab_base.specs.declared.caps.Caps.{Caps}
+use Rattle.fab_base.specs.declared.items.Item.{Item}
+use Rattle.fab_base.specs.declared.items.ItemHead.{ItemHead}
+use Rattle.fab_base.specs.declared.items.Kind.TheVariants.{Reply}
+use Rattle.fab_base.specs.declared.operations.Arrival.{Arrival}
+use Rattle.fab_base.specs.declared.operations.Coming.{Coming}
+use Rattle.fab_base.specs.declared.operations.Coming.TheVariants.{Into, Keep, Throw, Request, Answer}
+use Rattle.fab_base.specs.declared.operations.Tally.{Tally}
+use Rattle.fab_av.specs.Addresses.{Addresses}
+use Rattle.fab_model.specs.Complete.{at_delivery, at_either, at_match}
+use Rattle.fab_model.specs.Matching.{is_message}
+use Rattle.fab_model.specs.State.{Completions, State, coming_from, lookup}
+use Rattle.fab_rx.specs.Arriving.{Arriving, begun_of}
+use Rattle.fab_tx.specs.Transit.{Transit}
+use Rattle.fab_face.specs.Held.{Held}
+
+pub record Parts : Type 0 where
+  pub caps : Caps
+  pub selective : Bool
+  pub av : Addresses
+  pub rx : Arriving
+  pub tx : Transit
+  pub cq : Completions
+  pub counters : List Tally
+  -- how many transmit and receive calls were accepted
+  pub calls : ℕ
+
+-- no region is registered, and no multi-receive is posted
+abbrev pub state_of : Parts → State
+state_of p = record {
+  caps = p.caps;
+  selective = p.selective;
+  most_tx = p.tx.most;
+  most_rx = p.rx.most;
+  av = p.av.indices;
+  regions = [];
+  rx = p.rx.rx;
+  tx = p.tx.tx;
+  cq = p.cq;
+  counters = p.counters;
+  calls = p.calls;
+}
+
+abbrev pub held_of : Parts → Held
+held_of p = record { state = state_of p; places = p.tx.places; begun = p.rx.begun; multis = [] }
+
+-- ---- replies that are to be booked
+
+abbrev pub bit : Bool → ℕ
+bit true = 1
+bit false = 0
+
+-- a reply is booked when the item that is coming is whole
+abbrev pub is_due : Option Coming → ItemHead → Bool
+is_due (Some (Into r place)) head = at_either head.ack
+is_due (Some Keep) head = at_delivery head.ack
+is_due (Some Throw) head = at_either head.ack
+is_due (Some Request) head = false
+is_due (Some Answer) head = false
+is_due None head = false
+
+abbrev pub due_for : Option Coming → Option Item → ℕ
+due_for coming None = 0
+due_for coming (Some item) = bit (is_due coming item.head)
+
+-- a reply is booked when a receive takes the message
+abbrev pub is_owed : ℕ → Arrival → Bool
+is_owed s a = (a.source == s) && at_match a.head.ack
+
+abbrev pub count_of : {X : Type 0} → (X → Bool) → List X → ℕ
+count_of test [] = 0
+count_of test (x ∷ xs) = bit (test x) + count_of test xs
+
+abbrev pub owed : ℕ → Arriving → ℕ
+owed s v = due_for (coming_from v.rx s) (begun_of v s) + count_of (is_owed s) v.rx.unexpected
+
+-- ---- what holds between calls
+
+-- what is coming is an item of its kind; a request is none that may come
+abbrev pub IsFitting : Option Coming → Option Item → Type 0
+IsFitting (Some (Into r place)) (Some item) = is_message item.head.kind ≡ true
+IsFitting (Some Keep) (Some item) = is_message item.head.kind ≡ true
+IsFitting (Some Throw) (Some item) = is_message item.head.kind ≡ true
+IsFitting (Some Request) (Some item) = ⊥
+IsFitting (Some Answer) (Some item) = item.head.kind ≡ Reply
+IsFitting coming None = Unit {0}
+IsFitting None (Some item) = ⊥
+
+pub record IsTogether (p : Parts) : Type 0 where
+  pub size : 2 ≤ p.cq.size
+  -- a member for each peer
+  pub peers : length p.rx.begun ≡ length p.tx.tx.sent
+  pub addresses : p.av.peers ≡ length p.tx.tx.sent
+  pub addressed : (i peer : ℕ) → lookup p.av.indices i ≡ Some peer → peer < length p.tx.tx.sent
+  -- each receive was posted by an earlier call
+  pub earlier : p.rx.next ≤ p.calls
+  -- an answer is coming where a reply is begun, and a message where one is; no request is
+  pub fitting : (s : ℕ) → IsFitting (coming_from p.rx.rx s) (begun_of p.rx s)
+  -- for each reply that is to be booked there is room
+  pub rooms : (s : ℕ) → owed s p.rx ≤ slice_index p.tx.rooms s

@@ -1,0 +1,160 @@
+//! Operations end: they count, and their completion is written unless it is silent and a success.
+ghost use Rattle.std.specs.Prelude.{◌≡◌, IsTrue, is_none, is_some, IfNone, true, false, None, Some, Bool, unwrap_or, []};
+ghost use Rattle.fab_base.specs.declared.entries.Taken.TheVariants.{Failure};
+ghost use Rattle.fab_model.specs.Complete.{error};
+ghost use Rattle.fab_model.specs.State.{counting};
+ghost use Rattle.fab_model.specs.Sending.{class_of, is_answered, refusal_of, success_of};
+ghost use Rattle.fab_cq.specs.Queues.{has_room};
+ghost use Rattle.fab_core.specs.Doing.{as_operation, entry_at_end, writes_end, written_if};
+
+use fab_base::{Buf, Class, Entry, ErrEntry, ErrKind, Form, ItemHead, Kind, Outcome, Taken};
+use fab_cq::{Counters, Queue};
+use fab_record::caller::Caller;
+use fab_tx::Ended;
+use std::alloc::Global;
+
+/// The error that an outcome makes, and none where it is done.
+fn refusal_of(outcome: Outcome) -> Option<ErrKind>
+    ensures { result ≡ refusal_of outcome }
+{
+    match outcome {
+        Outcome::Done => None,
+        Outcome::BadKey => Some(ErrKind::NoKey),
+        Outcome::BadAccess => Some(ErrKind::Access),
+        Outcome::BadRange => Some(ErrKind::Range),
+    }
+}
+
+/// Whether the reply has bytes: a read, or a fetching or comparing atomic.
+fn is_answered(head: &ItemHead) -> bool
+    ensures { result ≡ is_answered head.now }
+{
+    match head.kind {
+        Kind::ReadReq => true,
+        Kind::AtomicReq => match head.atom {
+            None => false,
+            Some(atom) => match atom.form {
+                Form::Base => false,
+                Form::Fetch | Form::Compare => true,
+            },
+        },
+        _ => false,
+    }
+}
+
+/// What an operation counts as (fi_cntr(3)).
+fn class_of(head: &ItemHead) -> Class
+    ensures { result ≡ class_of head.now }
+{
+    match head.kind {
+        Kind::Msg | Kind::TagMsg => Class::Send,
+        _ => {
+            if is_answered(head) {
+                Class::Read
+            } else {
+                Class::Write
+            }
+        }
+    }
+}
+
+/// The buffer that comes back, an empty one where there was none.
+fn buf_or_empty(alloc: Global, buf: Option<Buf>) -> Buf
+    ensures { result ≡ unwrap_or buf [] }
+{
+    match buf {
+        Some(buf) => buf,
+        None => Buf::empty(alloc),
+    }
+}
+
+/// The completion of a success: the buffer of the operation, or the bytes of its reply.
+#[tactic(auto, unfolding(fab_model::specs::Sending::success_of))]
+fn success_of(alloc: Global, ended: Ended, bytes: Buf) -> Entry
+    ensures { result ≡ success_of (as_operation ended) bytes }
+{
+    let Ended { head, ctx, buf, .. } = ended;
+    let ctx = ctx.unwrap_or(0);
+    let buf = buf_or_empty(alloc, buf);
+    match head.kind {
+        Kind::ReadReq => Entry::Read { ctx, buf: bytes },
+        Kind::WriteReq => Entry::Wrote { ctx, buf },
+        Kind::AtomicReq => {
+            if is_answered(&head) {
+                Entry::Fetched { ctx, result: bytes }
+            } else {
+                Entry::Updated { ctx }
+            }
+        }
+        Kind::TagMsg => Entry::Sent {
+            ctx,
+            tagged: true,
+            buf,
+        },
+        Kind::Msg | Kind::Reply => Entry::Sent {
+            ctx,
+            tagged: false,
+            buf,
+        },
+    }
+}
+
+/// The error of an operation of which nothing more is told.
+fn error_of(kind: ErrKind, ended: Ended) -> ErrEntry
+    ensures { Failure result ≡ error ended.ctx kind ended.buf }
+{
+    ErrEntry {
+        ctx: ended.ctx,
+        kind,
+        source: None,
+        tag: None,
+        imm: None,
+        at: None,
+        len: 0,
+        olen: 0,
+        buf: ended.buf,
+    }
+}
+
+/// The completion of an operation that ended, if one is written.
+fn entry_at_end(alloc: Global, outcome: Outcome, bytes: Buf, ended: Ended) -> Option<Taken>
+    ensures { result ≡ entry_at_end outcome bytes ended }
+{
+    match refusal_of(outcome) {
+        Some(kind) => Some(Taken::Failure(error_of(kind, ended))),
+        None => {
+            if ended.silent {
+                None
+            } else {
+                Some(Taken::Success(success_of(alloc, ended, bytes)))
+            }
+        }
+    }
+}
+
+/// Whether the end of an operation with this outcome writes a completion.
+pub(crate) fn writes_at_end(outcome: Outcome, silent: bool) -> bool
+    ensures { result ≡ writes_end outcome silent }
+{
+    !silent || refusal_of(outcome).is_some()
+}
+
+/// An operation ends with this outcome and these bytes of its reply. `C` names its call.
+pub(crate) fn end<X, C: Caller<X>>(
+    alloc: Global,
+    cq: &mut Queue,
+    counters: &mut Counters,
+    about: &X,
+    outcome: Outcome,
+    bytes: Buf,
+    ended: Ended,
+)
+    requires room { writes_end outcome ended.silent ≡ true → IsTrue (has_room 1 cq.old) }
+    ensures cq { cq.new ≡ written_if (C.call about.now) (entry_at_end outcome bytes ended) cq.old }
+    ensures counters { counters.new ≡ counting (class_of ended.head) (is_none (refusal_of outcome)) counters.old }
+{
+    counters.count(class_of(&ended.head), refusal_of(outcome).is_none());
+    if let Some(entry) = entry_at_end(alloc, outcome, bytes, ended) {
+        cq.write::<X, C>(about, entry);
+    }
+}

@@ -1,0 +1,104 @@
+//! What the receive half hands out is written, counted and booked.
+ghost use Rattle.std.specs.Prelude.{◌≡◌, ◌<◌, true, length, slice_index, IsTrue};
+ghost use Rattle.fab_base.specs.declared.entries.Class.TheVariants.{Recv};
+ghost use Rattle.fab_model.specs.Complete.{at_delivery, at_either, at_match, reply_head};
+ghost use Rattle.fab_model.specs.State.{counting, writing};
+ghost use Rattle.fab_cq.specs.Queues.{has_room};
+ghost use Rattle.fab_core.specs.Doing.{booked, reply_to};
+
+use fab_base::{Ack, Buf, Class, Item, ItemHead, Kind, Outcome};
+use fab_cq::{Counters, Queue};
+use fab_record::caller::Caller;
+use fab_rx::Completed;
+use fab_tx::Outbox;
+use std::alloc::Global;
+
+/// Whether a reply is due once the message is delivered.
+pub(crate) fn at_delivery(ack: Ack) -> bool
+    ensures { result ≡ at_delivery ack }
+{
+    match ack {
+        Ack::Delivery => true,
+        Ack::Nothing | Ack::Match => false,
+    }
+}
+
+/// Whether a reply is due once a receive has taken the message.
+pub(crate) fn at_match(ack: Ack) -> bool
+    ensures { result ≡ at_match ack }
+{
+    match ack {
+        Ack::Match => true,
+        Ack::Nothing | Ack::Delivery => false,
+    }
+}
+
+/// Whether a reply is due at either.
+pub(crate) fn at_either(ack: Ack) -> bool
+    ensures { result ≡ at_either ack }
+{
+    match ack {
+        Ack::Delivery | Ack::Match => true,
+        Ack::Nothing => false,
+    }
+}
+
+/// The reply to an item: it was delivered, or taken.
+fn reply_to(alloc: Global, head: &ItemHead) -> Item
+    ensures { result ≡ reply_to head.now }
+{
+    Item {
+        head: ItemHead {
+            kind: Kind::Reply,
+            op: head.op,
+            tag: 0,
+            imm: None,
+            ack: Ack::Nothing,
+            key: 0,
+            at: 0,
+            count: 0,
+            atom: None,
+            outcome: Outcome::Done,
+            total: 0,
+        },
+        bytes: Buf::empty(alloc),
+    }
+}
+
+/// Books a reply to an item of this peer where one is due, in room that was made for it.
+pub(crate) fn book(alloc: Global, tx: &mut Outbox, due: bool, source: u32, head: &ItemHead)
+    requires room { due ≡ true → (source < length tx.old.tx.sent) × (0 < slice_index tx.old.rooms source) }
+    ensures { tx.new ≡ booked due source head.now tx.old }
+{
+    if due {
+        tx.book(source, reply_to(alloc, head));
+    }
+}
+
+/// A receive completes: it counts, and its entry is written under the call that `C` names. A reply is
+/// booked where one is due.
+pub(crate) fn hand_over<X, C: Caller<X>>(
+    alloc: Global,
+    cq: &mut Queue,
+    counters: &mut Counters,
+    tx: &mut Outbox,
+    about: &X,
+    due: bool,
+    completed: Completed,
+)
+    requires written { IsTrue (has_room 1 cq.old) }
+    requires room { due ≡ true → (completed.source < length tx.old.tx.sent) × (0 < slice_index tx.old.rooms completed.source) }
+    ensures cq { cq.new ≡ writing (C.call about.now) completed.entry cq.old }
+    ensures counters { counters.new ≡ counting Recv completed.good counters.old }
+    ensures tx { tx.new ≡ booked due completed.source completed.head tx.old }
+{
+    let Completed {
+        entry,
+        good,
+        source,
+        head,
+    } = completed;
+    counters.count(Class::Recv, good);
+    cq.write::<X, C>(about, entry);
+    book(alloc, tx, due, source, &head);
+}

@@ -1,0 +1,27 @@
+//! The matching machine of one endpoint: its halves, its completion queue and its counters, put together.
+//!
+//! [`Core`] is the [`Machine`](fab_face::machine::Machine) under an endpoint. A call is judged here and done
+//! by the half that it belongs to. No half calls another: what a half hands out is written, counted and
+//! booked here (`handing`, `ending`).
+//!
+//! | file | what it does |
+//! |---|---|
+//! | `parts` | what a core is made of |
+//! | `sending` | messages are judged and accepted |
+//! | `receives` | receives are posted and cancelled |
+//! | `taking` | frames come in |
+//! | `ending` | operations end |
+//! | `handing` | replies are booked |
+//! | `machine` | all of it as the endpoint's machine |
+#![tactic(auto)]
+
+mod callers;
+mod ending;
+mod handing;
+mod machine;
+mod parts;
+mod receives;
+mod sending;
+mod taking;
+
+pub use parts::Core;

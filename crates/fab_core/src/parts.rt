@@ -1,0 +1,123 @@
+//! What a core is made of.
+ghost use Rattle.std.specs.Prelude.{◌≡◌, ℕ, ◌+◌, ◌≤◌, IfOk, replicate, [], None};
+ghost use Rattle.fab_cq.specs.Counts.{no_counts};
+ghost use Rattle.fab_cq.specs.Queues.{nothing_written};
+ghost use Rattle.fab_rx.specs.Arriving.{nothing_arrived};
+ghost use Rattle.fab_tx.specs.Transit.{nothing_accepted};
+ghost use Rattle.fab_core.specs.Parts.{held_of};
+ghost use Rattle.fab_core.specs.Doing.{called};
+
+use fab_av::Av;
+use fab_base::{Caps, Info, NoMemory};
+use fab_cq::{Counters, Queue};
+use fab_match::Matcher;
+use fab_record::record::{Begins, Change, Record};
+use fab_rx::Inbox;
+use fab_tx::Outbox;
+use std::alloc::Global;
+use std::marker::Model;
+
+/// How many transmit and receive calls were accepted. No value of it is made.
+pub(crate) struct CallCount {
+    unused: (),
+}
+
+impl Model for CallCount {
+    ghost use Rattle.std.specs.Prelude.{ℕ};
+
+    ghost Value = { ℕ };
+
+    ghost view = { λ _. 0 };
+}
+
+/// No call was accepted.
+pub(crate) struct NoCall;
+
+impl Begins<(), CallCount> for NoCall {
+    ghost first = { λ _. 0 };
+}
+
+/// One more call is accepted.
+struct OneMore;
+
+impl Change<(), CallCount> for OneMore {
+    ghost after = { λ _ n. n + 1 };
+}
+
+/// The number of calls, which nothing stores.
+pub(crate) type Calls = Record<(), CallCount, NoCall>;
+
+/// The machine of one endpoint (fi_endpoint(3)): what it received and transmits, its completion queue, its
+/// counters and its address vector. Contracts see all that ever came and went out; stored is what is still
+/// needed, bounded by the sizes, by what is unexpected, and by what waits to go out.
+#[derive(Drop)]
+pub struct Core<M: Matcher> {
+    pub(crate) caps: Caps,
+    pub(crate) selective: bool,
+    pub(crate) most_tx: u32,
+    pub(crate) most_rx: u32,
+    pub(crate) av: Av,
+    pub(crate) rx: Inbox<M>,
+    pub(crate) tx: Outbox,
+    pub(crate) cq: Queue,
+    pub(crate) counters: Counters,
+    pub(crate) calls: Calls,
+    pub(crate) alloc: Global,
+}
+
+impl<M: Matcher> Model for Core<M> {
+    ghost use Rattle.std.specs.Prelude.{◌≡◌};
+    ghost use Rattle.fab_core.specs.Parts.{IsTogether, Parts};
+
+    ghost Value = { Parts };
+
+    ghost view = { λ c. record { caps = c.caps; selective = c.selective; av = c.av; rx = c.rx; tx = c.tx; cq = c.cq; counters = c.counters; calls = c.calls } };
+
+    ghost invariant = { λ c. (c.most_tx ≡ c.tx.most) × (c.most_rx ≡ c.rx.most)
+        × IsTogether (record { caps = c.caps; selective = c.selective; av = c.av; rx = c.rx; tx = c.tx; cq = c.cq; counters = c.counters; calls = c.calls }) };
+}
+
+/// One more call is accepted. It costs nothing that can fail.
+pub(crate) fn call(calls: &mut Calls)
+    ensures { calls.new ≡ calls.old + 1 }
+{
+    calls.note::<(), OneMore>(&());
+}
+
+impl<M: Matcher> Core<M> {
+    /// The machine of an endpoint with these sizes and capabilities, for the peers of the address vector. It
+    /// takes all memory that its calls need but for messages that come unexpected.
+    pub fn new(alloc: Global, info: &Info, selective: bool, av: Av) -> Result<Core<M>, NoMemory>
+        requires size { 2 ≤ info.now.cq }
+        ensures { IfOk result (λ core. core ≡ record {
+          caps = info.now.caps;
+          selective = selective;
+          av = av;
+          rx = nothing_arrived av.peers info.now.rx;
+          tx = nothing_accepted av.peers info.now.tx;
+          cq = nothing_written info.now.cq;
+          counters = no_counts;
+          calls = 0;
+        }) }
+    {
+        av.known();
+        let peers = av.peers();
+        let tx = Outbox::new(alloc, peers, info.tx)?;
+        let cq = Queue::new(alloc, info.cq)?;
+        let calls = Record::new(alloc, &())?;
+        let rx = Inbox::new(alloc, peers, info.rx)?;
+        Ok(Core {
+            caps: info.caps,
+            selective,
+            most_tx: info.tx,
+            most_rx: info.rx,
+            av,
+            rx,
+            tx,
+            cq,
+            counters: Counters::new(),
+            calls,
+            alloc,
+        })
+    }
+}

@@ -1,0 +1,180 @@
+//! Receives are judged, posted and cancelled (fi_msg(3), fi_tagged(3), fi_cancel of fi_endpoint(3)).
+ghost use Rattle.std.specs.Prelude.{◌≡◌, ◌<◌, Some, None, length, IsTrue, OnErr, OnOk, IfErr, true, false, is_some};
+ghost use Rattle.fab_base.specs.declared.entries.ErrKind.TheVariants.{Canceled};
+ghost use Rattle.fab_base.specs.declared.faults.Fault.TheVariants.{Again};
+ghost use Rattle.fab_base.specs.declared.faults.Busy.TheVariants.{CqFull};
+ghost use Rattle.fab_model.specs.Complete.{error};
+ghost use Rattle.fab_model.specs.Receiving.{cancellable, may_receive, source_is_known, used_source};
+ghost use Rattle.fab_cq.specs.Queues.{has_room};
+ghost use Rattle.fab_rx.specs.Leaving.{is_meant};
+ghost use Rattle.fab_core.specs.Parts.{state_of};
+ghost use Rattle.fab_core.specs.Doing.{left_by, lasting_post, posted_by};
+ghost use Rattle.fab_core.specs.Orders.{posting_of, wanted, passing_post};
+
+use crate::callers::{OfReceive, ThisCall};
+use crate::handing::{at_match, hand_over};
+use crate::parts::{Calls, Core, call};
+use fab_base::{Buf, Busy, Class, ErrEntry, ErrKind, Fault, Refused, Taken, Want};
+use fab_face::machine::Ask;
+use fab_match::Matcher;
+use fab_rx::{Cancelled, Inbox, Posted};
+use std::snapshot::Snapshot;
+
+/// The most bytes of a receive's buffer.
+const MOST_BYTES: usize = 16_777_216;
+
+/// The completion of a receive that was cancelled, with its buffer.
+fn canceled(left: Cancelled) -> Taken
+    ensures { result ≡ error (Some left.ctx) Canceled (Some left.buf) }
+{
+    let Cancelled { ctx, buf } = left;
+    Taken::Failure(ErrEntry {
+        ctx: Some(ctx),
+        kind: ErrKind::Canceled,
+        source: None,
+        tag: None,
+        imm: None,
+        at: None,
+        len: 0,
+        olen: 0,
+        buf: Some(buf),
+    })
+}
+
+impl<M: Matcher> Core<M> {
+    /// Whether receives of this kind may be posted.
+    fn may_receive(&self, tagged: bool) -> bool
+        ensures { result ≡ may_receive (state_of self.now) tagged }
+    {
+        self.caps.recv
+            && if tagged {
+                self.caps.tagged
+            } else {
+                self.caps.msg
+            }
+    }
+
+    /// Whether the source is one that may be asked for (FI_DIRECTED_RECV of fi_getinfo(3)).
+    fn knows(&self, source: Option<u32>) -> bool
+        ensures { result ≡ source_is_known (state_of self.now) source }
+    {
+        match source {
+            None => true,
+            Some(index) => !self.caps.directed_recv || self.av.lookup(index).is_ok(),
+        }
+    }
+
+    /// The peer that is meant, where a source is used.
+    fn used_source(&self, source: Option<u32>) -> Option<u32>
+        ensures { result ≡ used_source (state_of self.now) source }
+    {
+        match source {
+            Some(index) if self.caps.directed_recv => self.av.lookup(index).ok(),
+            _ => None,
+        }
+    }
+
+    fn want(&self, ask: &Ask) -> Want
+        ensures { result ≡ wanted (state_of self.now) ask.now }
+    {
+        Want {
+            tagged: ask.tagged,
+            tag: ask.tag,
+            ignore: ask.ignore,
+            source: self.used_source(ask.source),
+        }
+    }
+
+    /// Why a receive is refused for a reason that does not pass.
+    pub(crate) fn ask_fault(&self, ask: &Ask, buf: &Buf) -> Option<Fault>
+        ensures { result ≡ lasting_post (state_of self.now) (posting_of ask.now buf.now) }
+    {
+        if !self.may_receive(ask.tagged) {
+            return Some(Fault::NotSupported);
+        }
+        if buf.as_slice().len() > MOST_BYTES {
+            return Some(Fault::MsgSize);
+        }
+        if !self.knows(ask.source) {
+            return Some(Fault::Invalid);
+        }
+        None
+    }
+
+    /// Why a receive is refused now, that may pass later.
+    fn ask_again(&self, want: &Want) -> Option<Fault>
+        ensures { result ≡ passing_post want.now self.now }
+    {
+        match self.rx.found(want) {
+            Some(true) if !self.cq.has_room(1) => {
+                Some(Fault::Again(Busy::CqFull(self.cq.size())))
+            }
+            None if self.rx.is_full() => Some(Fault::Again(Busy::PostedFull(self.most_rx))),
+            _ => None,
+        }
+    }
+
+    /// Posts a receive, or gives it the first unexpected message that matches.
+    pub(crate) fn ask(&mut self, ask: &Ask, buf: Buf) -> Result<(), Refused>
+        ensures ok { OnOk result ((passing_post (wanted (state_of self.old) ask.now) self.old ≡ None) × (self.new ≡ posted_by (wanted (state_of self.old) ask.now) buf ask.now.ctx self.old)) }
+        ensures err { IfErr result (λ r. (r.buf ≡ buf) × (passing_post (wanted (state_of self.old) ask.now) self.old ≡ Some r.why)) }
+        ensures stays { OnErr result (self.new ≡ self.old) }
+    {
+        let want = self.want(ask);
+        if let Some(why) = self.ask_again(&want) {
+            return Err(Refused { why, buf });
+        }
+        self.give(want, buf, ask.ctx);
+        Ok(())
+    }
+
+    /// A receive call that is not refused.
+    fn give(&mut self, want: Want, buf: Buf, ctx: u64)
+        requires { passing_post want self.old ≡ None }
+        ensures { self.new ≡ posted_by want buf ctx self.old }
+    {
+        self.rx.known();
+        self.tx.known();
+        let about = Snapshot::of(&self.calls);
+        let posted = self
+            .rx
+            .post::<Snapshot<Calls>, ThisCall>(&about, want, buf, ctx);
+        call(&mut self.calls);
+        if let Posted::Whole(completed) = posted {
+            let Core {
+                tx,
+                cq,
+                counters,
+                alloc,
+                ..
+            } = self;
+            let due = at_match(completed.head.ack);
+            hand_over::<Snapshot<Calls>, ThisCall>(
+                *alloc, cq, counters, tx, &about, due, completed,
+            );
+        }
+    }
+
+    /// Cancels the first posted receive of this context, of any where none is named.
+    pub(crate) fn leave(&mut self, ctx: Option<u64>) -> Result<(), Fault>
+        requires { is_some (cancellable (is_meant ctx) self.old.rx.rx) ≡ true }
+        ensures ok { OnOk result (IsTrue (has_room 1 self.old.cq) × (self.new ≡ left_by ctx self.old)) }
+        ensures err { IfErr result (λ why. (why ≡ Again (CqFull self.old.cq.size)) × (has_room 1 self.old.cq ≡ false)) }
+        ensures stays { OnErr result (self.new ≡ self.old) }
+    {
+        if !self.cq.has_room(1) {
+            return Err(Fault::Again(Busy::CqFull(self.cq.size())));
+        }
+        let about = (Snapshot::of(&self.rx), ctx);
+        let left = match ctx {
+            Some(ctx) => self.rx.cancel(ctx),
+            None => self.rx.cancel_first(),
+        };
+        let Some(left) = left else { unreachable!() };
+        call(&mut self.calls);
+        self.counters.count(Class::Recv, false);
+        self.cq
+            .write::<(Snapshot<Inbox<M>>, Option<u64>), OfReceive>(&about, canceled(left));
+        Ok(())
+    }
+}

@@ -1,0 +1,281 @@
+//! Frames come in: an item arrives with its first frame, and is whole with its last one.
+ghost use Rattle.std.specs.Prelude.{◌≡◌, ◌≢◌, ◌==◌, ◌<◌, ◌+◌, ◌≤◌, None, length, IfSome, IsSomeAnd, IsTrue, IfOk, OnOk, OnErr, Ok, true, false, not, ◌&&◌, ◌^◌, slice_set};
+ghost use Rattle.fab_model.specs.State.{coming_from, fits};
+ghost use Rattle.fab_model.specs.Arrivals.{do_tail};
+ghost use Rattle.fab_wire.specs.Frames.{frame};
+ghost use Rattle.fab_wire.specs.Joined.{is_last};
+ghost use Rattle.fab_face.specs.Acts.{Goes, Took};
+ghost use Rattle.fab_face.specs.Answers.{FrameLacks};
+ghost use Rattle.fab_face.specs.Machine.{IsNext, StayNext};
+ghost use Rattle.fab_cq.specs.Queues.{has_room};
+ghost use Rattle.fab_rx.specs.Arriving.{arriving, begun_of};
+ghost use Rattle.fab_tx.specs.Transit.{answered_by, finds_answered, is_reply};
+ghost use Rattle.fab_core.specs.Parts.{held_of, state_of};
+ghost use Rattle.fab_core.specs.Doing.{answer_writes, arrived, asks, counters_after, cq_after, fed, heading, is_request, tail, writes_at_tail};
+
+use crate::callers::{EndsWhenAnswered, IntoReceive};
+use crate::ending::{end, writes_at_end};
+use crate::handing::{at_delivery, at_either, book, hand_over};
+use crate::parts::Core;
+use fab_base::{FrameHead, Item, ItemHead, Kind, NoMemory};
+use fab_cq::{Counters, Queue};
+use fab_match::Matcher;
+use fab_rx::{Finished, Inbox};
+use fab_tx::Outbox;
+use std::alloc::Global;
+use std::snapshot::Snapshot;
+
+/// Whether the item asks its target for something that no endpoint does yet.
+fn is_request(kind: Kind) -> bool
+    ensures { result ≡ is_request kind }
+{
+    match kind {
+        Kind::WriteReq | Kind::ReadReq | Kind::AtomicReq => true,
+        Kind::Msg | Kind::TagMsg | Kind::Reply => false,
+    }
+}
+
+fn is_reply(kind: Kind) -> bool
+    ensures { result ≡ is_reply kind }
+{
+    match kind {
+        Kind::Reply => true,
+        _ => false,
+    }
+}
+
+/// Whether the frame is the last one of its item. Its bytes are within the item.
+pub(crate) fn is_last(head: &FrameHead) -> bool
+    requires { head.now.from + head.now.len ≤ head.now.item.total }
+    ensures { result ≡ is_last head.now }
+{
+    head.from + head.len == head.item.total
+}
+
+/// Whether the message asks for a reply.
+fn asks(head: &ItemHead) -> bool
+    ensures { result ≡ asks head.now }
+{
+    match head.kind {
+        Kind::Msg | Kind::TagMsg => at_either(head.ack),
+        _ => false,
+    }
+}
+
+/// Whether the end of the operation that this reply answers writes a completion.
+fn answer_writes(tx: &Outbox, source: u32, reply: &ItemHead) -> bool
+    ensures { result ≡ answer_writes source reply.now tx.now.tx }
+{
+    match tx.answered(source, reply) {
+        None => false,
+        Some(silent) => writes_at_end(reply.outcome, silent),
+    }
+}
+
+/// A reply is whole: the operation that it answers ends.
+fn answer(
+    alloc: Global,
+    tx: &mut Outbox,
+    cq: &mut Queue,
+    counters: &mut Counters,
+    source: u32,
+    item: Item,
+)
+    requires room { answer_writes source item.head tx.old.tx ≡ true → IsTrue (has_room 1 cq.old) }
+    ensures tx { tx.new ≡ answered_by source item.head tx.old }
+    ensures cq { cq.new ≡ cq_after item.head.outcome item.bytes (finds_answered source item.head tx.old.tx) cq.old }
+    ensures counters { counters.new ≡ counters_after item.head.outcome (finds_answered source item.head tx.old.tx) counters.old }
+{
+    let Item { head, bytes } = item;
+    let about = (Snapshot::of(tx), source, head);
+    if let Some(ended) = tx.answer(source, &head) {
+        end::<(Snapshot<Outbox>, u32, ItemHead), EndsWhenAnswered>(
+            alloc,
+            cq,
+            counters,
+            &about,
+            head.outcome,
+            bytes,
+            ended,
+        );
+    }
+}
+
+impl<M: Matcher> Core<M> {
+    /// Whether the item of this source writes a completion when it is whole, where its next frame has this
+    /// head.
+    pub(crate) fn writes_when_whole(&self, source: u32, head: &FrameHead) -> bool
+        requires source { source < length self.now.rx.begun }
+        requires next { head.now.from ≢ 0 → IsSomeAnd (begun_of self.now.rx source) (λ item. item.head ≡ head.now.item) }
+        ensures { result ≡ writes_at_tail (coming_from (arrived (head.now.from == 0) source head.now.item self.now.rx).rx source) source head.now.item self.now.tx.tx }
+    {
+        self.rx.known();
+        if is_request(head.item.kind) {
+            return false;
+        }
+        if is_reply(head.item.kind) {
+            return answer_writes(&self.tx, source, &head.item);
+        }
+        if head.from == 0 {
+            self.rx.takes(source, &head.item)
+        } else {
+            self.rx.writes(source) != 0
+        }
+    }
+
+    /// An item arrives. Room is made for the reply that it asks for. Requests are turned away as if there
+    /// were no memory.
+    pub(crate) fn begin(&mut self, source: u32, head: &ItemHead) -> Result<(), NoMemory>
+        requires source { source < length self.old.rx.begun }
+        requires nothing { begun_of self.old.rx source ≡ None }
+        ensures ok { OnOk result (held_of self.new ≡ held_of (heading source head.now self.old)) }
+        ensures rx { OnOk result (self.new.rx ≡ arriving source head.now self.old.rx) }
+        ensures err { OnErr result (held_of self.new ≡ held_of self.old) }
+    {
+        self.rx.known();
+        self.tx.known();
+        if is_request(head.kind) {
+            return Err(NoMemory);
+        }
+        if !asks(head) {
+            return self.rx.arrive(source, head);
+        }
+        self.tx.make_room(source)?;
+        let arrived = self.rx.arrive(source, head);
+        if arrived.is_err() {
+            self.tx.give_room_up(source);
+        }
+        arrived
+    }
+
+    /// Takes a frame in, the next one of its item, but for what its end does.
+    pub(crate) fn feed(
+        &mut self,
+        source: u32,
+        head: &FrameHead,
+        bytes: &[u8],
+    ) -> Result<(), NoMemory>
+        requires source { source < length self.old.rx.begun }
+        requires next { IsNext (begun_of self.old.rx source) (frame head.now bytes.now) }
+        requires filled { length bytes.now ≡ head.now.len }
+        requires within { head.now.from + head.now.len ≤ head.now.item.total }
+        ensures ok { OnOk result (held_of self.new ≡ held_of (fed source (frame head.now bytes.now) self.old)) }
+        ensures rx { OnOk result (self.new.rx ≡ (fed source (frame head.now bytes.now) self.old).rx) }
+        ensures err { OnErr result (held_of self.new ≡ held_of self.old) }
+    {
+        if head.from == 0 {
+            self.begin(source, &head.item)?;
+        }
+        self.rx.fill(source, bytes);
+        Ok(())
+    }
+
+    /// Whether the last frame of an item waits for room in the completion queue.
+    pub(crate) fn lacks(&self, source: u32, head: &FrameHead) -> bool
+        requires source { source < length self.now.rx.begun }
+        requires next { head.now.from ≢ 0 → IsSomeAnd (begun_of self.now.rx source) (λ item. item.head ≡ head.now.item) }
+        ensures { result ≡ (writes_at_tail (coming_from (arrived (head.now.from == 0) source head.now.item self.now.rx).rx source) source head.now.item self.now.tx.tx && not (has_room 1 self.now.cq)) }
+    {
+        self.writes_when_whole(source, head) && !self.cq.has_room(1)
+    }
+
+    /// Takes a frame that is not the last one of its item.
+    pub(crate) fn take_more(
+        &mut self,
+        source: u32,
+        head: &FrameHead,
+        bytes: &[u8],
+    ) -> Result<bool, NoMemory>
+        requires source { source < length self.old.rx.begun }
+        requires next { IsNext (begun_of self.old.rx source) (frame head.now bytes.now) }
+        requires filled { length bytes.now ≡ head.now.len }
+        requires within { head.now.from + head.now.len ≤ head.now.item.total }
+        requires more { is_last head.now ≡ false }
+        ensures yes { OnOk result (Goes None (held_of self.old) (Took source (frame head.now bytes.now)) (held_of self.new)) }
+        ensures always { IfOk result (λ taken. taken ≡ true) }
+        ensures next { StayNext (state_of self.old) (state_of self.new) }
+        ensures places { self.new.tx.places ≡ self.old.tx.places }
+        ensures err { OnErr result (held_of self.new ≡ held_of self.old) }
+    {
+        self.rx.known();
+        self.feed(source, head, bytes)?;
+        Ok(true)
+    }
+
+    /// Takes the last frame of an item, unless its end waits for room in the completion queue.
+    pub(crate) fn take_last(
+        &mut self,
+        source: u32,
+        head: &FrameHead,
+        bytes: &[u8],
+    ) -> Result<bool, NoMemory>
+        requires source { source < length self.old.rx.begun }
+        requires next { IsNext (begun_of self.old.rx source) (frame head.now bytes.now) }
+        requires filled { length bytes.now ≡ head.now.len }
+        requires last { is_last head.now ≡ true }
+        ensures yes { result ≡ Ok true → Goes None (held_of self.old) (Took source (frame head.now bytes.now)) (held_of self.new) }
+        ensures next { StayNext (state_of self.old) (state_of self.new) }
+        ensures places { self.new.tx.places ≡ self.old.tx.places }
+        ensures no { result ≡ Ok false → FrameLacks (held_of self.old) source (frame head.now bytes.now) }
+        ensures stays { result ≡ Ok false → held_of self.new ≡ held_of self.old }
+        ensures err { OnErr result (held_of self.new ≡ held_of self.old) }
+    {
+        self.rx.known();
+        self.cq.known();
+        if self.lacks(source, head) {
+            return Ok(false);
+        }
+        self.feed(source, head, bytes)?;
+        self.take_whole(source);
+        Ok(true)
+    }
+
+    /// The item that is begun is whole.
+    pub(crate) fn take_whole(&mut self, source: u32)
+        requires source { source < length self.old.rx.begun }
+        requires whole { IsSomeAnd (begun_of self.old.rx source) (λ item. length item.bytes ≡ item.head.total) }
+        requires room { IfSome (begun_of self.old.rx source) (λ item. writes_at_tail (coming_from self.old.rx.rx source) source item.head self.old.tx.tx ≡ true → IsTrue (has_room 1 self.old.cq)) }
+        ensures state { IfSome (begun_of self.old.rx source) (λ item. state_of self.new ≡ do_tail (state_of self.old) source item.head item.bytes) }
+        ensures next { StayNext (state_of self.old) (state_of self.new) }
+        ensures begun { self.new.rx.begun ≡ slice_set self.old.rx.begun source None }
+        ensures places { self.new.tx.places ≡ self.old.tx.places }
+        ensures fits { fits self.new.cq ≡ true }
+    {
+        self.rx.known();
+        self.tx.known();
+        self.end_item(source);
+        self.cq.known();
+    }
+
+    /// What the end of the item does, by where it went.
+    fn end_item(&mut self, source: u32)
+        requires source { source < length self.old.rx.begun }
+        requires whole { IsSomeAnd (begun_of self.old.rx source) (λ item. length item.bytes ≡ item.head.total) }
+        requires room { IfSome (begun_of self.old.rx source) (λ item. writes_at_tail (coming_from self.old.rx.rx source) source item.head self.old.tx.tx ≡ true → IsTrue (has_room 1 self.old.cq)) }
+        ensures { IfSome (begun_of self.old.rx source) (λ item. self.new ≡ tail source item self.old) }
+    {
+        self.rx.known();
+        self.tx.known();
+        let about = (Snapshot::of(&self.rx), source);
+        let finished = self.rx.finish(source);
+        let Core {
+            tx,
+            cq,
+            counters,
+            alloc,
+            ..
+        } = self;
+        match finished {
+            Finished::Received(completed) => {
+                let due = at_either(completed.head.ack);
+                hand_over::<(Snapshot<Inbox<M>>, u32), IntoReceive>(
+                    *alloc, cq, counters, tx, &about, due, completed,
+                );
+            }
+            Finished::Kept(head) => book(*alloc, tx, at_delivery(head.ack), source, &head),
+            Finished::Thrown(head) => book(*alloc, tx, at_either(head.ack), source, &head),
+            Finished::Request(_) => unreachable!(),
+            Finished::Answer(item) => answer(*alloc, tx, cq, counters, source, item),
+        }
+    }
+}
