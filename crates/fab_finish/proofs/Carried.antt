@@ -24,10 +24,13 @@ use Rattle.fab_finish.proofs.Joining.{set_itself, lane_is, lane_own, lane_other}
 
 -- one member more of those behind the first m
 take_next : {X : Type 0} (m : ℕ) (xs : List X) (x : X) (rest : List X) → drop m xs ≡ x ∷ rest → take (m + 1) xs ≡ take m xs ++ x ∷ []
-take_next zero [] x rest e = absurd (cc)
-take_next {X} zero (y ∷ xs) x rest e = let is : y ≡ x = cc in ap (λ (z : X). z ∷ []) is
-take_next (suc m) [] x rest e = absurd (cc)
-take_next (suc m) (y ∷ xs) x rest e = ap (λ zs. y ∷ zs) (take_next m xs x rest e)
+take_next {X} m xs x rest e = (let one : m + 1 ≡ suc m = omega arith in ap (λ n. take n xs) one) ∙ go m xs e
+  where
+    go : (n : ℕ) (ys : List X) → drop n ys ≡ x ∷ rest → take (suc n) ys ≡ take n ys ++ x ∷ []
+    go zero [] e = absurd (cc)
+    go zero (y ∷ ys) e = let is : y ≡ x = cc in ap (λ (z : X). z ∷ []) is
+    go (suc n) [] e = absurd (cc)
+    go (suc n) (y ∷ ys) e = ap (λ zs. y ∷ zs) (go n ys e)
 
 first_at : {X : Type 0} (m : ℕ) (xs : List X) (x d : X) (rest : List X) → drop m xs ≡ x ∷ rest → (m < length xs) × (get_or xs m d ≡ x)
 first_at zero [] x d rest e = absurd (cc)
@@ -127,12 +130,16 @@ module _ (ps : List Member) (k : ℕ) (a : Member) (e : Whole Plain) (is_a : sli
       ]
     ]
 
+-- nothing was left
+pub none_left : (ps : List Member) (from to : ℕ) (a : Member) (e : Whole Plain) → from < length ps → left (lane_at a.endpoint.port to) ≡ [] → e ≡ a.endpoint → left (lane (slice_set ps from (record a { endpoint = e })) from to) ≡ []
+none_left ps from to a e below none same = ap left (lane_own ps from to (record a { endpoint = e }) below) ∙ ap (λ (x : Whole Plain). left (lane_at x.port to)) same ∙ none
+
 -- ---- both
 
 module _ (ps : List Member) (from to : ℕ) (a q : Member) (e u : Whole Plain) (f : Frame) (joined_ps : IsJoined ps) (is_a : slice_get ps from ≡ Some a) (in_to : to < length ps)
     (rest_out : e ≡ record a.endpoint { port = e.port }) (first : left (lane_at a.endpoint.port to) ≡ f ∷ left (lane_at e.port to))
     (out : e.port ≡ with_lane a.endpoint.port to (record (lane_at a.endpoint.port to) { moved = (lane_at a.endpoint.port to).moved + 1 })) where
-  mid : List Member
+  abbrev pub mid : List Member
   mid = slice_set ps from (record a { endpoint = e })
 
   moved_lane : Lane
@@ -161,9 +168,16 @@ module _ (ps : List Member) (from to : ℕ) (a q : Member) (e u : Whole Plain) (
             subst (λ (l : Lane). l.moved ≤ length l.out.frames) (sym same) (own.moved d))
       ]
 
+  -- the receiver's port has a lane for the sender
+  pub wide_q : slice_get (slice_set ps from (record a { endpoint = e })) to ≡ Some q → from < length ps → from < length q.endpoint.port.lanes
+  wide_q is_q in_from =
+      let own = kept_own ps from a e is_a rest_out keeps_out joined_ps.own moved_within to q is_q in
+      let many : length (slice_set ps from (record a { endpoint = e })) ≡ length ps = length-set ps from (record a { endpoint = e }) in
+      omega (arith, in_from, own.lanes, many)
+
   -- the frame may come behind what came
   pub may_come : slice_get (slice_set ps from (record a { endpoint = e })) to ≡ Some q → MayCome (last_head (lane_at q.endpoint.port from).in_after (lane_at q.endpoint.port from).in_list) f
-  unfolding moved_lane mid
+  unfolding moved_lane
   may_come is_q =
       let own = joined_ps.own from a is_a in
       let m = (lane_at a.endpoint.port to).moved in
@@ -181,18 +195,16 @@ module _ (ps : List Member) (from to : ℕ) (a q : Member) (e u : Whole Plain) (
   module _ (is_q : slice_get (slice_set ps from (record a { endpoint = e })) to ≡ Some q) (rest_in : u ≡ record q.endpoint { port = u.port })
       (brought : u.port ≡ with_lane q.endpoint.port from (record (lane_at q.endpoint.port from) { in_list = (lane_at q.endpoint.port from).in_list ++ f ∷ [] }))
       (taken : (s : ℕ) → (in_of u.port s).taken ≡ (in_of q.endpoint.port s).taken) (in_from : from < length ps) where
-    new : List Member
+    abbrev pub new : List Member
     new = slice_set (slice_set ps from (record a { endpoint = e })) to (record q { endpoint = u })
 
     came_lane : Lane
     came_lane = record (lane_at q.endpoint.port from) { in_list = (lane_at q.endpoint.port from).in_list ++ f ∷ [] }
 
     own_mid : (j : ℕ) (p : Member) → slice_get mid j ≡ Some p → IsOwn (length mid) p
-    unfolding mid
     own_mid = kept_own ps from a e is_a rest_out keeps_out joined_ps.own moved_within
 
     wide_in : from < length q.endpoint.port.lanes
-    unfolding mid
     wide_in = let own = own_mid to q is_q in let long : length mid ≡ length ps = length-set ps from (record a { endpoint = e }) in omega (arith, in_from, own.lanes, long)
 
     keeps_in : Keeps q.endpoint.port u.port
@@ -202,7 +214,7 @@ module _ (ps : List Member) (from to : ℕ) (a q : Member) (e u : Whole Plain) (
         keeps_of q.endpoint.port u.port from came_lane brought wide_in refl refl (ap (λ (l : Lane). take l.taken l.in_list) (sym there) ∙ taken from)
 
     moved_in : (d : ℕ) → (lane_at u.port d).moved ≤ length (lane_at u.port d).out.frames
-    unfolding came_lane mid
+    unfolding came_lane
     moved_in d =
         let own = own_mid to q is_q in
         let moved : (lane_at u.port d).moved ≡ (lane_at q.endpoint.port d).moved = ap (λ (p : Plain). (lane_at p d).moved) brought ∙ port_field (λ (l : Lane). l.moved) q.endpoint.port from came_lane wide_in refl d in
@@ -212,47 +224,44 @@ module _ (ps : List Member) (from to : ℕ) (a q : Member) (e u : Whole Plain) (
         omega (arith, moved, count, before)
 
     pub carried_actors : actors new ≡ actors ps
-    unfolding new
     carried_actors = kept_actors (slice_set ps from (record a { endpoint = e })) to q u is_q rest_in keeps_in ∙ kept_actors ps from a e is_a rest_out keeps_out
 
     pub carried_schedules : schedules new ≡ schedules ps
-    unfolding new
     carried_schedules = kept_schedules (slice_set ps from (record a { endpoint = e })) to q u is_q rest_in keeps_in ∙ kept_schedules ps from a e is_a rest_out keeps_out
 
     long_new : length new ≡ length ps
-    unfolding new
     long_new = length-set (slice_set ps from (record a { endpoint = e })) to (record q { endpoint = u }) ∙ length-set ps from (record a { endpoint = e })
 
     -- fields that no lane changes, and the two that one lane does
     out_all : (j i : ℕ) → (lane new j i).out ≡ (lane ps j i).out
-    unfolding new came_lane moved_lane
+    unfolding came_lane moved_lane
     out_all j i =
         lane_field (slice_set ps from (record a { endpoint = e })) to q u is_q rest_in keeps_in from came_lane wide_in brought (λ (l : Lane). l.out) refl j i
         ∙ lane_field ps from a e is_a rest_out keeps_out to moved_lane wide out (λ (l : Lane). l.out) refl j i
 
     moved_mid : (j i : ℕ) → (lane new j i).moved ≡ (lane mid j i).moved
-    unfolding new mid came_lane
+    unfolding came_lane
     moved_mid j i = lane_field (slice_set ps from (record a { endpoint = e })) to q u is_q rest_in keeps_in from came_lane wide_in brought (λ (l : Lane). l.moved) refl j i
 
     in_mid : (j i : ℕ) → (lane mid j i).in_list ≡ (lane ps j i).in_list
-    unfolding mid moved_lane
+    unfolding moved_lane
     in_mid j i = lane_field ps from a e is_a rest_out keeps_out to moved_lane wide out (λ (l : Lane). l.in_list) refl j i
 
     moved_there : (s r : ℕ) → (s ≢ from) ⊎ (r ≢ to) → (lane new s r).moved ≡ (lane ps s r).moved
-    unfolding mid moved_lane
+    unfolding moved_lane
     moved_there s r other = moved_mid s r ∙ ap (λ (l : Lane). l.moved) (lane_there ps from a e is_a rest_out keeps_out to moved_lane wide out s r other)
 
     moved_here : (lane new from to).moved ≡ (lane ps from to).moved + 1
-    unfolding mid moved_lane
+    unfolding moved_lane
     moved_here =
         moved_mid from to ∙ ap (λ (l : Lane). l.moved) (lane_here ps from a e is_a rest_out keeps_out to moved_lane wide out) ∙ ap (λ (l : Lane). l.moved + 1) (sym (lane_is ps from to a is_a))
 
     in_there : (r s : ℕ) → (r ≢ to) ⊎ (s ≢ from) → (lane new r s).in_list ≡ (lane ps r s).in_list
-    unfolding new mid came_lane
+    unfolding came_lane
     in_there r s other = ap (λ (l : Lane). l.in_list) (lane_there (slice_set ps from (record a { endpoint = e })) to q u is_q rest_in keeps_in from came_lane wide_in brought r s other) ∙ in_mid r s
 
     in_here : (lane new to from).in_list ≡ (lane ps to from).in_list ++ f ∷ []
-    unfolding new mid came_lane
+    unfolding came_lane
     in_here =
         ap (λ (l : Lane). l.in_list) (lane_here (slice_set ps from (record a { endpoint = e })) to q u is_q rest_in keeps_in from came_lane wide_in brought)
         ∙ ap (λ (l : Lane). l.in_list ++ f ∷ []) (sym (lane_is (slice_set ps from (record a { endpoint = e })) to from q is_q)) ∙ ap (λ fs. fs ++ f ∷ []) (in_mid to from)
@@ -282,7 +291,6 @@ module _ (ps : List Member) (from to : ℕ) (a q : Member) (e u : Whole Plain) (
             in_there r s (swap other) ∙ joined_ps.came s r ∙ ap (λ n. take n (lane ps s r).out.frames) (sym (moved_there s r other)) ∙ ap (λ (o : Posted). take (lane new s r).moved o.frames) (sym (out_all s r))
 
     pub carried_joined : IsJoined new
-    unfolding new
     carried_joined = record {
       few = omega (arith, long_new, joined_ps.few);
       own = kept_own (slice_set ps from (record a { endpoint = e })) to q u is_q rest_in keeps_in own_mid moved_in;
