@@ -11,13 +11,16 @@ use Rattle.fab_base.specs.declared.items.Item.{Item}
 use Rattle.fab_wire.specs.Joined.{joined}
 use Rattle.fab_link.specs.Plain.{Lane, lane_at, left, in_of, out_of}
 use Rattle.fab_model.specs.State.{accepted_for}
-use Rattle.fab_model.specs.Peers.{Actor, do_next}
+use Rattle.fab_model.specs.Peers.{Actor, fabric, do_next}
 use Rattle.fab_model.specs.Receiving.{draw_due}
 use Rattle.fab_model.specs.Replay.{can_do, agree_all, all_idle, at_rest}
 use Rattle.fab_face.specs.Held.{Held, next_frame, next_item, piece}
 use Rattle.fab_quantum.specs.Turns.{IsStill as IsStillAfter}
 use Rattle.fab_quantum.proofs.Agreeing.{sent_within}
-use Rattle.fab_finish.specs.Joined.{Member, told_of, member_actor, actors, lane, IsJoined, IsOwn, IsStill, IsStillAt, AreStill}
+use Rattle.fab_base.specs.declared.peers.Step.{Step}
+use Rattle.fab_model.specs.Orders.{Reached}
+use Rattle.fab_model.specs.Views.{rule}
+use Rattle.fab_finish.specs.Joined.{Member, told_of, member_actor, actors, schedules, lane, IsJoined, IsOwn, GoesOn, IsStill, IsStillAt, AreStill}
 use Rattle.fab_finish.specs.Rests.{Rest}
 use Rattle.fab_finish.proofs.Joining.{lane_is}
 
@@ -52,6 +55,20 @@ still_next ps qs n k others before here below = elim (cases_lt k n) [
 -- after the turns of all peers
 pub still_all : (ps : List Member) (n : ℕ) → length ps ≤ n → ((k : ℕ) → k < n → IsStillAt ps k) → (k : ℕ) → IsStillAt ps k
 still_all ps n all each k p has = each k (omega (arith, slice_get_within ps k p has, all)) p has
+
+-- ---- what is carried
+
+-- carrying takes no step
+pub goes_carried : (ps qs : List Member) → actors qs ≡ actors ps → schedules qs ≡ schedules ps → GoesOn ps qs
+goes_carried ps qs same steps first reached =
+    subst (λ (x : List (List Step)). Reached (rule fabric) first x (actors qs)) (sym steps) (subst (λ (x : List Actor). Reached (rule fabric) first (schedules ps) x) (sym same) reached)
+
+-- nothing was carried
+pub still_carried : (ps qs : List Member) (n : ℕ) → length ps ≤ n → ((k : ℕ) → k < n → IsStillAt ps k) → qs ≡ ps → ((s r : ℕ) → s < length qs → r < length qs → left (lane qs s r) ≡ []) → AreStill qs
+still_carried ps qs n all each same none = record {
+  each = subst (λ (x : List Member). (k : ℕ) → IsStillAt x k) (sym same) (still_all ps n all each);
+  carried = none;
+}
 
 -- ---- all peers
 
