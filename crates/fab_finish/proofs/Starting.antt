@@ -1,5 +1,5 @@
 -- All peers at the start of their lines.
-use Rattle.std.proofs.Common.{◌≡◌, ◌<◌, ◌≤◌, ◌+◌, ◌^◌, ◌⊎◌, ℕ, zero, suc, List, [], ◌∷◌, ◌++◌, length, map, drop, take, get_or, replicate, Option, Some, None, inl, inr, refl, sym, ap, subst, ◌∙◌, arith, length-append, take-nil}
+use Rattle.std.proofs.Common.{◌≡◌, ◌<◌, ◌≤◌, ◌+◌, ◌^◌, ◌⊎◌, ℕ, false, zero, suc, List, [], ◌∷◌, ◌++◌, length, map, drop, take, get_or, replicate, Option, Some, None, inl, inr, refl, sym, ap, subst, ◌∙◌, arith, length-append}
 use std.Path.{fun_ext}
 use Rattle.std.specs.Prelude.{slice_get, slice_index, slice_index_or, slice_set}
 use Rattle.std.specs.Option.{option_map}
@@ -11,7 +11,7 @@ use Rattle.fab_base.specs.declared.items.Item.{Item}
 use Rattle.fab_base.specs.declared.peers.Step.{Step}
 use Rattle.fab_base.specs.declared.script.Conf.{Conf}
 use Rattle.fab_base.specs.declared.script.Line.{Line}
-use Rattle.fab_link.specs.Plain.{Lane, Plain, lane_at, fresh_lane, in_of, out_of}
+use Rattle.fab_link.specs.Plain.{Lane, Plain, PlainHome, lane_at, fresh_lane, in_of, out_of}
 use Rattle.fab_model.specs.Calls.{upto}
 use Rattle.fab_model.specs.Orders.{AreSteps, Reached}
 use Rattle.fab_model.specs.Peers.{Actor, fabric}
@@ -23,7 +23,7 @@ use Rattle.fab_face.specs.Held.{Held, begun_of, next_item}
 use Rattle.fab_face.specs.Ports.{Whole}
 use Rattle.fab_ep.specs.Tries.{IsTied}
 use Rattle.fab_quantum.specs.Agreed.{Agrees}
-use Rattle.fab_quantum.specs.Turns.{part_at, posted_part}
+use Rattle.fab_quantum.specs.Turns.{Told, part_at, posted_part}
 use Rattle.fab_finish.specs.Joined.{Member, seen_plain, told_of, member_actor, member_steps, actors, schedules, lane, IsOwn, IsJoined, opened, start, Opens, OpensAt}
 use Rattle.fab_finish.proofs.Joining.{lane_is, lane_none}
 
@@ -50,9 +50,6 @@ pub long : {X : Type 0} (n : ℕ) (x : X) → length (replicate n x) ≡ n
 long zero x = refl
 long (suc n) x = ap suc (long n x)
 
-none_there : {X : Type 0} (k : ℕ) → slice_get {X = X} [] k ≡ None
-none_there k = refl
-
 -- ---- a peer
 
 fresh_at : (n k d : ℕ) → lane_at (port_of n k) d ≡ fresh_lane None None
@@ -67,7 +64,7 @@ start_agrees conf port fresh_lanes =
     subst (λ (t : ℕ → List Frame). Agrees n (start conf) t (λ d. (out_of port d).frames)) (sym taken) (subst (λ (o : ℕ → List Frame). Agrees n (start conf) (λ s. []) o) (sym posted) (record {
       begun = λ s. sym (same_at n s None);
       tails = λ s. sym (same_at n s 0);
-      items = λ d i item e. absurd (cc);
+      items = λ d i item e. (let none : slice_get {X = Item} [] i ≡ Some item = e in absurd (cc));
       sent = λ d. sym (same_at n d 0);
       part = λ d. no_part d;
       cut = λ d below. tt;
@@ -107,6 +104,15 @@ opens_at conf k lines p port held log actor steps =
         in_after = λ s. ap (λ (l : Lane). l.in_after) (fresh_lanes s);
       };
     }
+
+-- the peer as it is made
+pub actor_made : (conf : Conf) (lines : List Line) (p : Member) (e : Whole Plain) → p.endpoint.held ≡ start conf → told_of p ≡ record { seen = seen_plain e; lines = lines; results = []; kept = []; schedule = [] } → member_actor p ≡ newly conf lines
+actor_made conf lines p e held told = λ i. record {
+  state = ap (λ (h : Held). h.state) held i;
+  lines = ap (λ (t : Told PlainHome). t.lines) told i;
+  results = ap (λ (t : Told PlainHome). t.results) told i;
+  kept = ap (λ (t : Told PlainHome). t.kept) told i;
+}
 
 -- ---- all peers
 

@@ -165,7 +165,8 @@ impl<E: Messages + Receives + Progress + Logs> Peer<E> {
 
     /// A peer that is to do these lines over this endpoint. It takes no memory.
     pub fn new(alloc: Global, endpoint: E, lines: Vec<Line>) -> Peer<E>
-        ensures { told E.seen result ≡ record { seen = E.seen endpoint; lines = lines.items; results = []; kept = []; schedule = [] } }
+        ensures told { told E.seen result ≡ record { seen = E.seen endpoint; lines = lines.items; results = []; kept = []; schedule = [] } }
+        ensures endpoint { result.endpoint ≡ endpoint }
     {
         Peer {
             endpoint,
