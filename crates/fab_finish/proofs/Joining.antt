@@ -92,7 +92,7 @@ view_of ps k = record (seen fabric (actors ps) k) { calm = false }
 more_of : (ps : List Member) (k : ℕ) → More (view_of ps k) (seen fabric (actors ps) k)
 more_of ps k = record { ready = λ s. prefix_self _ _ refl; sent = λ s. omega arith; calm = λ e. absurd (cc) }
 
-actor_at : (ps : List Member) (s : ℕ) (p : Member) → slice_get ps s ≡ Some p → slice_get (actors ps) s ≡ Some (member_actor p)
+pub actor_at : (ps : List Member) (s : ℕ) (p : Member) → slice_get ps s ≡ Some p → slice_get (actors ps) s ≡ Some (member_actor p)
 actor_at ps s p has = slice_get-map member_actor ps s ∙ ap (option_map member_actor) has
 
 no_actor : (ps : List Member) (s : ℕ) → slice_get ps s ≡ None → slice_get (actors ps) s ≡ None
