@@ -2,6 +2,7 @@
 use Rattle.std.proofs.Common.{◌≡◌, ◌<◌, ℕ, zero, suc, Bool, true, false, not, List, [], ◌∷◌, length, Option, Some, None, inl, inr, refl, sym, ap, subst, ◌∙◌, arith, get_or}
 use Rattle.std.specs.Prelude.{slice_get, slice_index, find}
 use Rattle.std.specs.List.{list_any}
+use Rattle.std.proofs.lemmas.Option.{slice_get_within}
 use Rattle.fab_base.specs.declared.operations.Coming.{Coming}
 use Rattle.fab_base.specs.declared.operations.Receive.{Receive}
 use Rattle.fab_base.specs.declared.peers.Step.{Step}
@@ -16,8 +17,10 @@ use Rattle.fab_model.proofs.Patient.{sender_is}
 use Rattle.fab_laws.proofs.Memory.{leads_good}
 use Rattle.fab_laws.proofs.replies.Owed.{OwedAt}
 use Rattle.fab_laws.proofs.replies.Stray.{AllOwed, turn_owed, fresh_owed}
-use Rattle.fab_finish.specs.Joined.{opened, AreCleared}
-use Rattle.fab_finish.specs.Rests.{Rest, CancelNone}
+use Rattle.fab_quantum.specs.Turns.{IsQuiet}
+use Rattle.fab_finish.specs.Joined.{Member, told_of, member_actor, actors, IsJoined, AreStill, opened, AreCleared}
+use Rattle.fab_finish.specs.Rests.{Rest, CancelNone, AreCancelled}
+use Rattle.fab_finish.proofs.Resting.{mapped}
 use Rattle.fab_finish.proofs.Ending.{starts_at, start_sound}
 
 -- what holds of each peer in any order of turns from the start
@@ -57,3 +60,20 @@ none_posted rx none found = by_posted rx.posted found
 pub cleared : (conf : Conf) (lists : List (List Line)) (schedules : List (List Step)) (all : List Actor) → Reached (rule fabric) (opened conf lists) schedules all → Rest all → CancelNone all → AreCleared all
 cleared conf lists schedules all reached rest none p a has =
     none_posted a.state.rx (nothing_comes conf.peers all (all_owed conf lists reached.0 all reached.1) rest p a has) (none p a has)
+
+-- ---- what the end rests on
+
+-- where all cancelled, none may be cancelled any more
+pub cancel_none : (ps qs : List Member) → AreCancelled (length ps) ps qs → CancelNone (actors qs)
+cancel_none ps qs are p a has =
+    let m = mapped member_actor qs p a has in
+    let count = are.count in
+    let before = are.before p m.0 (omega (arith, slice_get_within qs p m.0 m.1, count)) m.1 in
+    subst (λ (x : Actor). cancellable (λ r. true) x.state.rx ≡ None) m.2 before.2.none
+
+-- peers that can do nothing are quiet
+pub all_quiet : (ps : List Member) → IsJoined ps → AreStill ps → (k : ℕ) (p : Member) → slice_get ps k ≡ Some p → IsQuiet (told_of p)
+all_quiet ps joined_ps still k p has =
+    let own = joined_ps.own k p has in
+    let calm = still.each k p has in
+    record { log = own.log; draws = calm.draws }

@@ -61,6 +61,10 @@ rest_calm all rest done =
     and_from _ _ (all_calm all rest.draws done)
     (holds_below _ (length (map facts all)) (λ s below. holds_below _ (length (map facts all)) (λ r within. has_all_of all s r rest (omega (arith, many, below)) (omega (arith, many, within)))))
 
+pub done_is : (ps : List Member) → list_all (λ (p : Member). is_finished (member_actor p)) ps ≡ all_done (actors ps)
+done_is [] = refl
+done_is (p ∷ ps) = ap (λ b. is_finished (member_actor p) && b) (done_is ps)
+
 -- ---- a peer cancels its receives
 
 -- the peer that stands at a place at the start

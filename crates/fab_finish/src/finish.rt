@@ -1,12 +1,12 @@
 //! The end of a run: the peers go on until none can, and cancel the receives that are still posted.
-ghost use Rattle.std.specs.Prelude.{◌≡◌, ◌≤◌, ℕ, length, map, slice_get, Some, true, Ok, IfOk, OnOk};
-ghost use Rattle.std.specs.List.{All};
+ghost use Rattle.std.specs.Prelude.{◌≡◌, ◌≤◌, ℕ, length, map, slice_get, Some, true, false, Ok, IfOk, OnOk};
+ghost use Rattle.std.specs.List.{All, list_all};
 ghost use Rattle.fab_model.specs.Orders.{Reached};
-ghost use Rattle.fab_model.specs.Peers.{fabric};
+ghost use Rattle.fab_model.specs.Peers.{fabric, is_finished};
 ghost use Rattle.fab_model.specs.Replay.{at_rest, all_done};
 ghost use Rattle.fab_model.specs.Views.{rule};
 ghost use Rattle.fab_quantum.specs.Turns.{IsQuiet};
-ghost use Rattle.fab_finish.specs.Joined.{Member, IsJoined, Ends, AreStill, AreCleared, Clears, actors, schedules, told_of, opened, start};
+ghost use Rattle.fab_finish.specs.Joined.{Member, member_actor, IsJoined, Ends, AreStill, AreCleared, Clears, actors, schedules, told_of, opened, start};
 ghost use Rattle.fab_finish.specs.Rests.{Rest, AreCancelled};
 
 use crate::opening::open;
@@ -25,11 +25,18 @@ pub enum Ending {
     Stuck,
 }
 
+/// Whether each peer has done all its lines.
+fn each_finished<C: Machine>(peers: &[Peer<Endpoint<PlainPort, C>>]) -> bool
+    ensures { result ≡ list_all (λ p. is_finished (member_actor p)) peers.now }
+{
+    peers.iter().all(|peer| peer.finished())
+}
+
 /// Whether all lines of all peers are done.
 fn all_done<C: Machine>(peers: &[Peer<Endpoint<PlainPort, C>>]) -> bool
     ensures { result ≡ all_done (actors peers.now) }
 {
-    peers.iter().all(|peer| peer.finished())
+    each_finished(peers)
 }
 
 /// Each peer, by number, cancels the receives that are still posted and reads their completions.
