@@ -1,16 +1,15 @@
 -- One frame is carried: it is moved out of one port, and brought to another.
-use Rattle.std.proofs.Common.{◌≡◌, ◌≢◌, ◌<◌, ◌≤◌, ◌+◌, ◌⊎◌, ℕ, zero, suc, Bool, true, false, List, [], ◌∷◌, ◌++◌, length, length-append, length-drop, take, drop, map, Option, Some, None, inl, inr, refl, sym, ap, subst, ◌∙◌, arith, length-set, get_or, get_or-set_same, get_or-set_other}
+use Rattle.std.proofs.Common.{◌≡◌, ◌≢◌, ◌<◌, ◌≤◌, ◌+◌, ◌⊎◌, ℕ, zero, suc, List, [], ◌∷◌, ◌++◌, length, length-drop, take, drop, Option, Some, None, inl, inr, refl, sym, ap, subst, ◌∙◌, arith, length-set, get_or}
 use std.Path.{fun_ext}
 use Rattle.std.specs.Prelude.{slice_get, slice_set}
-use Rattle.std.proofs.lemmas.Bool.{cases_eq, cases_lt}
+use Rattle.std.proofs.lemmas.Bool.{cases_eq}
 use Rattle.std.proofs.lemmas.List.{map-set}
 use Rattle.std.proofs.lemmas.Option.{slice_get_within}
 use Rattle.fab_base.specs.declared.frames.Frame.{Frame}
 use Rattle.fab_base.specs.declared.frames.FrameHead.{FrameHead}
-use Rattle.fab_base.specs.declared.peers.Step.{Step}
-use Rattle.fab_wire.specs.Frames.{IsLane, MayCome, last_head}
+use Rattle.fab_wire.specs.Frames.{MayCome, last_head}
 use Rattle.fab_wire.proofs.Lanes.{IsLane-at}
-use Rattle.fab_link.specs.Plain.{Lane, Plain, Posted, lane_at, with_lane, left, in_of, out_of, fresh_lane}
+use Rattle.fab_link.specs.Plain.{Lane, Plain, Posted, lane_at, with_lane, left, in_of, out_of}
 use Rattle.fab_link.proofs.Looks.{same_lane, other_lane}
 use Rattle.fab_model.specs.Peers.{Actor}
 use Rattle.fab_model.proofs.Turns.{slice_get-set_other, slice_get-set_same}

@@ -1,5 +1,5 @@
 -- Peers at rest that may cancel no posted receive have none posted: no item is on its way into one.
-use Rattle.std.proofs.Common.{◌≡◌, ◌<◌, ℕ, zero, suc, Bool, true, false, not, List, [], ◌∷◌, length, Option, Some, None, inl, inr, refl, sym, ap, subst, ◌∙◌, arith, get_or}
+use Rattle.std.proofs.Common.{◌≡◌, ℕ, suc, true, false, not, List, [], ◌∷◌, length, Option, Some, None, inl, inr, refl, ap, subst, arith, get_or}
 use Rattle.std.specs.Prelude.{slice_get, slice_index, find}
 use Rattle.std.specs.List.{list_any}
 use Rattle.std.proofs.lemmas.Option.{slice_get_within}
@@ -8,7 +8,7 @@ use Rattle.fab_base.specs.declared.operations.Receive.{Receive}
 use Rattle.fab_base.specs.declared.peers.Step.{Step}
 use Rattle.fab_base.specs.declared.script.Conf.{Conf}
 use Rattle.fab_base.specs.declared.script.Line.{Line}
-use Rattle.fab_model.specs.State.{Receiving, coming_from, is_into, under_way}
+use Rattle.fab_model.specs.State.{Receiving, coming_from, is_into}
 use Rattle.fab_model.specs.Orders.{Leads, Reached, Turn}
 use Rattle.fab_model.specs.Peers.{Actor, fabric}
 use Rattle.fab_model.specs.Receiving.{cancellable, may_leave}

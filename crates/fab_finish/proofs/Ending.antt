@@ -1,9 +1,9 @@
 -- The end of all peers: where they are at rest with all lines done, each cancels its receives, and they stay at rest.
-use Rattle.std.proofs.Common.{◌≡◌, ◌≢◌, ◌<◌, ◌≤◌, ◌+◌, ◌&&◌, ℕ, zero, suc, Bool, true, false, not, List, [], ◌∷◌, ◌++◌, length, length-set, map, Option, Some, None, inl, inr, refl, sym, ap, subst, ◌∙◌, arith, get_or}
+use Rattle.std.proofs.Common.{◌≡◌, ◌<◌, ◌≤◌, ◌+◌, ◌&&◌, ℕ, zero, suc, Bool, true, false, not, List, [], ◌∷◌, ◌++◌, length, length-set, map, Option, Some, None, inl, inr, refl, sym, ap, subst, ◌∙◌, arith}
 use Rattle.std.specs.Prelude.{◌==◌, slice_get, slice_set, slice_index, slice_index_or, is_none}
 use Rattle.std.specs.List.{list_all}
 use Rattle.std.specs.Option.{option_map}
-use Rattle.std.proofs.lemmas.Bool.{and_parts, and_from, cases_eq, cases_lt}
+use Rattle.std.proofs.lemmas.Bool.{and_parts, and_from, cases_eq}
 use Rattle.std.proofs.lemmas.Bool.Decides.{nat_tests}
 use Rattle.std.proofs.lemmas.List.{map-set, length-map}
 use Rattle.std.proofs.lemmas.Option.{slice_get-map, slice_get_within, get_or_from_slice_get}
@@ -16,7 +16,7 @@ use Rattle.fab_model.specs.Calls.{upto}
 use Rattle.fab_model.specs.Orders.{Leads, Reached, by}
 use Rattle.fab_model.specs.Peers.{Actor, Facts, facts, fabric, all_below, has_all, is_calm, is_finished, next_line, do_next}
 use Rattle.fab_model.specs.Receiving.{draw_due}
-use Rattle.fab_model.specs.Replay.{all_done, can_do, newly}
+use Rattle.fab_model.specs.Replay.{all_done, can_do}
 use Rattle.fab_model.specs.Views.{More, View, Walk, rule, seen}
 use Rattle.fab_model.proofs.Orders as orders
 use Rattle.fab_model.proofs.Patient.{Own, fabric_patient}
@@ -24,7 +24,7 @@ use Rattle.fab_model.proofs.Turns.{slice_get-set_other, slice_get-set_same}
 use Rattle.fab_model.proofs.Views.{Sound, more_self}
 use Rattle.fab_model.proofs.Views as views
 use Rattle.fab_model.proofs.Walks.{reached_more}
-use Rattle.fab_quantum.specs.Turns.{Ended, IsQuiet}
+use Rattle.fab_quantum.specs.Turns.{Ended}
 use Rattle.fab_finish.specs.Joined.{Member, told_of, member_actor, member_steps, actors, schedules, opened, Ends}
 use Rattle.fab_finish.specs.Rests.{Rest, Cancelled, AreCancelled}
 use Rattle.fab_finish.proofs.Joining.{member}

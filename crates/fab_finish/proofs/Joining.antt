@@ -1,18 +1,17 @@
 -- All peers with their ports: one takes its turn.
-use Rattle.std.proofs.Common.{◌≡◌, ◌≢◌, ◌<◌, ◌≤◌, ◌+◌, ℕ, zero, suc, Bool, true, false, List, [], ◌∷◌, ◌++◌, length, length-append, take, drop, map, Option, Some, None, inl, inr, refl, sym, ap, subst, ◌∙◌, arith, append_assoc, append-nil, length-set, get_or}
+use Rattle.std.proofs.Common.{◌≡◌, ◌≢◌, ◌<◌, ◌≤◌, ◌+◌, ℕ, zero, suc, Bool, false, List, [], ◌∷◌, ◌++◌, length, length-append, take, drop, Option, Some, None, inl, inr, refl, sym, ap, subst, ◌∙◌, arith, append_assoc, length-set, get_or}
 use std.Path.{fun_ext}
 use Rattle.std.specs.Prelude.{slice_get, slice_set, slice_index, slice_index_or, Result, Ok, Err, OnOk, IfOk}
 use Rattle.std.specs.Option.{option_map, option_map_or}
 use Rattle.std.proofs.lemmas.Bool.{cases_eq}
-use Rattle.std.proofs.lemmas.List.{map-set, length-map, take-append-drop, take-append-le}
+use Rattle.std.proofs.lemmas.List.{map-set, length-map, take-append-drop}
 use Rattle.std.proofs.lemmas.Option.{slice_get-map, slice_get_within, get_or_from_slice_get}
 use Rattle.fab_base.specs.declared.frames.Frame.{Frame}
 use Rattle.fab_base.specs.declared.frames.FrameHead.{FrameHead}
 use Rattle.fab_base.specs.declared.items.Item.{Item}
-use Rattle.fab_base.specs.declared.peers.Step.{Step}
 use Rattle.fab_wire.specs.Frames.{last_head}
-use Rattle.fab_wire.specs.Joined.{joined, AreFirst}
-use Rattle.fab_link.specs.Plain.{Lane, Plain, PlainHome, fresh_lane, lane_at, in_of, out_of}
+use Rattle.fab_wire.specs.Joined.{AreFirst}
+use Rattle.fab_link.specs.Plain.{Lane, PlainHome, fresh_lane, lane_at, in_of, out_of}
 use Rattle.fab_model.specs.State.{accepted_for}
 use Rattle.fab_model.specs.Orders.{Leads, Reached, by}
 use Rattle.fab_model.specs.Peers.{Actor, fabric}
@@ -22,7 +21,7 @@ use Rattle.fab_model.proofs.Views.{prefix_self}
 use Rattle.fab_model.proofs.Walks.{walk_leads, reached_more}
 use Rattle.fab_face.specs.Held.{begun_of}
 use Rattle.fab_face.specs.Acts.{Act, steps_of, taken_of, posted_to}
-use Rattle.fab_quantum.specs.Turns.{Turned, Shows, joined_from, actor_of, is_some_act}
+use Rattle.fab_quantum.specs.Turns.{Turned, Shows, joined_from, is_some_act}
 use Rattle.fab_quantum.specs.Agreed.{Agrees}
 use Rattle.fab_quantum.proofs.Agreeing.{agrees_turned, posted_first, shown_of}
 use Rattle.fab_finish.specs.Joined.{Member, told_of, member_actor, member_steps, actors, schedules, lane, IsOwn, IsJoined, GoesOn}

@@ -1,15 +1,15 @@
 -- A round in which nothing moved: no peer can do anything, and nothing is on its way. So the peers are at rest.
-use Rattle.std.proofs.Common.{◌≡◌, ◌≢◌, ◌<◌, ◌≤◌, ◌+◌, ℕ, zero, suc, Bool, true, false, not, List, [], ◌∷◌, ◌++◌, length, take, drop, map, Option, Some, None, inl, inr, refl, sym, ap, subst, ◌∙◌, arith, append-nil}
+use Rattle.std.proofs.Common.{◌≡◌, ◌≢◌, ◌<◌, ◌≤◌, ◌+◌, ℕ, zero, suc, true, false, not, List, [], ◌∷◌, ◌++◌, length, take, drop, map, Option, Some, None, inl, inr, refl, sym, ap, subst, ◌∙◌, arith, append-nil}
 use Rattle.std.specs.Prelude.{◌==◌, slice_get, slice_index}
 use Rattle.std.specs.Option.{option_map}
 use Rattle.std.proofs.lemmas.Bool.{and_from, cases_lt}
 use Rattle.std.proofs.lemmas.Bool.Decides.{nat_tests}
-use Rattle.std.proofs.lemmas.List.{length-map, take-append-drop}
+use Rattle.std.proofs.lemmas.List.{take-append-drop}
 use Rattle.std.proofs.lemmas.Option.{slice_get_within}
 use Rattle.fab_base.specs.declared.frames.Frame.{Frame}
 use Rattle.fab_base.specs.declared.items.Item.{Item}
 use Rattle.fab_wire.specs.Joined.{joined}
-use Rattle.fab_link.specs.Plain.{Lane, lane_at, left, in_of, out_of}
+use Rattle.fab_link.specs.Plain.{Lane, left, in_of, out_of}
 use Rattle.fab_model.specs.State.{accepted_for}
 use Rattle.fab_model.specs.Peers.{Actor, fabric, do_next}
 use Rattle.fab_model.specs.Receiving.{draw_due}
@@ -20,7 +20,7 @@ use Rattle.fab_quantum.proofs.Agreeing.{sent_within}
 use Rattle.fab_base.specs.declared.peers.Step.{Step}
 use Rattle.fab_model.specs.Orders.{Reached}
 use Rattle.fab_model.specs.Views.{rule}
-use Rattle.fab_finish.specs.Joined.{Member, told_of, member_actor, actors, schedules, lane, IsJoined, IsOwn, GoesOn, IsStill, IsStillAt, AreStill}
+use Rattle.fab_finish.specs.Joined.{Member, told_of, member_actor, actors, schedules, lane, IsJoined, GoesOn, IsStill, IsStillAt, AreStill}
 use Rattle.fab_finish.specs.Rests.{Rest}
 use Rattle.fab_finish.proofs.Joining.{lane_is}
 

@@ -1,11 +1,8 @@
 -- All peers at the start of their lines.
 use Rattle.std.proofs.Common.{◌≡◌, ◌<◌, ◌≤◌, ◌+◌, ◌^◌, ◌⊎◌, ℕ, false, zero, suc, List, [], ◌∷◌, ◌++◌, length, map, drop, take, get_or, replicate, Option, Some, None, inl, inr, refl, sym, ap, subst, ◌∙◌, arith, length-append}
 use std.Path.{fun_ext}
-use Rattle.std.specs.Prelude.{slice_get, slice_index, slice_index_or, slice_set}
-use Rattle.std.specs.Option.{option_map}
-use Rattle.std.proofs.lemmas.Bool.{cases_lt}
-use Rattle.std.proofs.lemmas.List.{map-append, length-map, get_or-drop, drop-map}
-use Rattle.std.proofs.lemmas.Option.{slice_get-map, slice_get_within, get_or_from_slice_get}
+use Rattle.std.specs.Prelude.{slice_get, slice_index, slice_index_or}
+use Rattle.std.proofs.lemmas.List.{map-append, get_or-drop, drop-map}
 use Rattle.fab_base.specs.declared.frames.Frame.{Frame}
 use Rattle.fab_base.specs.declared.items.Item.{Item}
 use Rattle.fab_base.specs.declared.peers.Step.{Step}
@@ -15,16 +12,15 @@ use Rattle.fab_link.specs.Plain.{Lane, Plain, PlainHome, lane_at, fresh_lane, in
 use Rattle.fab_model.specs.Calls.{upto}
 use Rattle.fab_model.specs.Orders.{AreSteps, Reached}
 use Rattle.fab_model.specs.Peers.{Actor, fabric}
-use Rattle.fab_model.specs.State.{accepted_for}
-use Rattle.fab_model.specs.Replay.{fresh, newly}
+use Rattle.fab_model.specs.Replay.{newly}
 use Rattle.fab_model.specs.Views.{rule}
 use Rattle.fab_model.proofs.Walks.{none_taken, reached_opening}
-use Rattle.fab_face.specs.Held.{Held, begun_of, next_item}
+use Rattle.fab_face.specs.Held.{Held, next_item}
 use Rattle.fab_face.specs.Ports.{Whole}
 use Rattle.fab_ep.specs.Tries.{IsTied}
 use Rattle.fab_quantum.specs.Agreed.{Agrees}
 use Rattle.fab_quantum.specs.Turns.{Told, part_at, posted_part}
-use Rattle.fab_finish.specs.Joined.{Member, seen_plain, told_of, member_actor, member_steps, actors, schedules, lane, IsOwn, IsJoined, opened, start, Opens, OpensAt}
+use Rattle.fab_finish.specs.Joined.{Member, seen_plain, told_of, member_actor, member_steps, actors, schedules, lane, IsOwn, opened, start, Opens, OpensAt}
 use Rattle.fab_finish.proofs.Joining.{lane_is, lane_none}
 
 -- the port of a peer among so many, at the start

@@ -7,7 +7,7 @@
 --     opened conf lists each peer at the start of its lines
 --     Opens conf lists ps     the peers stand there
 --     AreStill ps       no peer can do anything, and nothing is left to be carried
-use Rattle.std.specs.Prelude.{◌≡◌, ◌≢◌, ℕ, ◌<◌, ◌≤◌, ◌^◌, Bool, true, false, List, [], map, length, take, Option, Some, None, replicate, slice_get, slice_index_or}
+use Rattle.std.specs.Prelude.{◌≡◌, ℕ, ◌<◌, ◌≤◌, ◌^◌, false, List, [], map, length, take, Some, None, replicate, slice_get, slice_index_or}
 use Rattle.std.specs.Option.{option_map_or}
 use Rattle.fab_base.specs.declared.peers.Step.{Step}
 use Rattle.fab_base.specs.declared.script.Conf.{Conf}

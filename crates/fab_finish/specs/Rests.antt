@@ -2,7 +2,7 @@
 --     Rest all          the peers are at rest, as `at_rest` tests it
 --     Cancelled a b     peer a cancelled its receives, and became b
 --     CancelNone all    no receive may be cancelled
-use Rattle.std.specs.Prelude.{◌≡◌, ℕ, ◌<◌, false, true, List, length, Option, Some, None, slice_get, slice_index}
+use Rattle.std.specs.Prelude.{◌≡◌, ℕ, ◌<◌, false, true, List, length, Some, None, slice_get, slice_index}
 use Rattle.fab_model.specs.State.{accepted_for}
 use Rattle.fab_model.specs.Receiving.{cancellable, draw_due}
 use Rattle.fab_model.specs.Peers.{Actor, facts}

@@ -40,9 +40,7 @@ fn all_done<C: Machine>(peers: &[Peer<Endpoint<PlainPort, C>>]) -> bool
 }
 
 /// Each peer, by number, cancels the receives that are still posted and reads their completions.
-fn cancel_all<C: Machine + Drop>(
-    peers: &mut [Peer<Endpoint<PlainPort, C>>],
-) -> Result<(), NoMemory>
+fn cancel_all<C: Machine + Drop>(peers: &mut [Peer<Endpoint<PlainPort, C>>]) -> Result<(), NoMemory>
     requires quiet { (k : ℕ) (p : Member) → slice_get peers.old k ≡ Some p → IsQuiet (told_of p) }
     requires rest { Rest (actors peers.old) }
     requires done { all_done (actors peers.old) ≡ true }

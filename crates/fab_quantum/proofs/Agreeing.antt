@@ -1,7 +1,7 @@
 -- What a turn adds to the frames taken and posted agrees with what the peer then holds; and what a receiver took of a sender, being among what the sender posted, is of what the sender accepted.
-use Rattle.std.proofs.Common.{◌≡◌, ◌≢◌, ◌<◌, ◌≤◌, ◌+◌, ◌⊎◌, inl, inr, ℕ, zero, suc, Bool, true, false, List, [], ◌∷◌, ◌++◌, length, length-append, take, drop, Option, Some, None, refl, sym, ap, ◌∙◌, subst, arith, append-nil, append_assoc}
+use Rattle.std.proofs.Common.{◌≡◌, ◌<◌, ◌≤◌, ◌+◌, inl, inr, ℕ, zero, suc, Bool, true, false, List, [], ◌∷◌, ◌++◌, length, length-append, drop, Option, Some, None, refl, sym, ap, ◌∙◌, subst, arith, append-nil, append_assoc}
 use Rattle.std.specs.Prelude.{slice_get, slice_index, fold}
-use Rattle.std.proofs.lemmas.Bool.{eqb-false, eq-eqb}
+use Rattle.std.proofs.lemmas.Bool.{eqb-false}
 use Rattle.std.proofs.lemmas.Grind.{fold-append}
 use Rattle.std.proofs.lemmas.List.{take-append-drop}
 use Rattle.std.proofs.Math.Seq.{drop-append_seam}
@@ -13,7 +13,7 @@ use Rattle.fab_wire.specs.Joined.{is_last, grown, with_frame, joined, nothing, G
 use Rattle.fab_link.specs.Meaning.{end_of}
 use Rattle.fab_model.specs.State.{accepted_for}
 use Rattle.fab_model.proofs.Parts.{prefix_get}
-use Rattle.fab_face.specs.Held.{Held, begun_of, next_item}
+use Rattle.fab_face.specs.Held.{Held, next_item}
 use Rattle.fab_face.specs.Acts.{Act, taken_of, posted_to}
 use Rattle.fab_quantum.specs.Turns.{Told, Turned, joined_from, part_at, posted_part}
 use Rattle.fab_quantum.specs.Agreed.{Agrees}
@@ -171,9 +171,11 @@ first_less_one xs f items lane first = by_last (is_last f.head) refl (subst (λ 
 
     by_last : (b : Bool) → is_last f.head ≡ b → AreFirst (with_frame (joined xs) f) items → AreFirst (joined xs) items
     by_last true e a =
-        let r : AreFirst (record { whole = (joined xs).whole ++ grown (joined xs).unfinished f ∷ []; unfinished = None }) items = rw e at a in
-        (grown (joined xs).unfinished f ∷ r.0, r.1 ∙ append_assoc (joined xs).whole (grown (joined xs).unfinished f ∷ []) r.0,
-        begun_less (joined xs).unfinished f (grown (joined xs).unfinished f) r.0 same refl [] (append-nil _))
+        let r : AreFirst (record { whole = (joined xs).whole ++ grown (joined xs).unfinished f ∷ []; unfinished = None }) items = rw e at a in (
+          grown (joined xs).unfinished f ∷ r.0,
+          r.1 ∙ append_assoc (joined xs).whole (grown (joined xs).unfinished f ∷ []) r.0,
+          begun_less (joined xs).unfinished f (grown (joined xs).unfinished f) r.0 same refl [] (append-nil _),
+        )
     by_last false e a =
         let r : AreFirst (record { whole = (joined xs).whole; unfinished = Some (grown (joined xs).unfinished f) }) items = rw e at a in
         let next = r.2.0 in
@@ -202,9 +204,12 @@ shown_of accepted sent out taken more rest u t lane first count is begun tails =
     behind : AreFirst (joined_from u more) (drop t accepted)
     behind =
         let a = first_less rest (taken ++ more) accepted (subst (λ zs. IsLane None zs) (sym is) lane) (subst (λ zs. AreFirst (joined zs) accepted) (sym is) first) in
-        let b = subst (λ (g : Gathered). AreFirst g accepted) two a in
-        (b.0, ap (drop t) (b.1 ∙ append_assoc (joined taken).whole (joined_from u more).whole b.0) ∙ ap (λ n. drop n ((joined taken).whole ++ ((joined_from u more).whole ++ b.0))) (sym tails)
-        ∙ drop-append_seam (joined taken).whole ((joined_from u more).whole ++ b.0), b.2)
+        let b = subst (λ (g : Gathered). AreFirst g accepted) two a in (
+          b.0,
+          ap (drop t) (b.1 ∙ append_assoc (joined taken).whole (joined_from u more).whole b.0) ∙ ap (λ n. drop n ((joined taken).whole ++ ((joined_from u more).whole ++ b.0))) (sym tails)
+              ∙ drop-append_seam (joined taken).whole ((joined_from u more).whole ++ b.0),
+          b.2,
+        )
 
     within : t + length (joined_from u more).whole ≤ sent
     within =

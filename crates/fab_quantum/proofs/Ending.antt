@@ -1,5 +1,5 @@
 -- The end of a peer: what is still posted is cancelled, and the completions are read.
-use Rattle.std.proofs.Common.{◌≡◌, ◌<◌, ◌||◌, ◌&&◌, ℕ, Bool, true, false, not, cond, List, [], ◌∷◌, ◌++◌, length, Option, Some, None, refl, sym, ap, ◌∙◌, subst, arith, append-nil, append_assoc}
+use Rattle.std.proofs.Common.{◌≡◌, ◌<◌, ◌||◌, ◌&&◌, Bool, true, false, not, cond, List, [], ◌∷◌, ◌++◌, length, Option, Some, None, refl, sym, ap, ◌∙◌, subst, arith, append-nil, append_assoc}
 use Rattle.std.specs.Prelude.{find, is_some, is_none}
 use Rattle.std.specs.List.{list_any}
 use Rattle.fab_base.specs.declared.entries.Class.TheVariants.{Recv}
@@ -11,8 +11,7 @@ use Rattle.fab_base.specs.declared.items.Item.{Item}
 use Rattle.fab_base.specs.declared.operations.Receive.{Receive}
 use Rattle.fab_base.specs.declared.peers.LineResult.{LineResult}
 use Rattle.fab_base.specs.declared.peers.LineResult.TheVariants.{Done, Refused}
-use Rattle.fab_base.specs.declared.peers.Step.{Step}
-use Rattle.fab_base.specs.declared.peers.Step.TheVariants.{Final, Read as ReadStep}
+use Rattle.fab_base.specs.declared.peers.Step.TheVariants.{Final}
 use Rattle.fab_model.specs.Matching.{remove_first}
 use Rattle.fab_model.specs.Complete.{error}
 use Rattle.fab_model.specs.State.{State, Receiving, fits, with_rx, write, count, called}
@@ -22,7 +21,7 @@ use Rattle.fab_model.specs.Peers.{Actor, Facts, facts, fabric, step, final_step,
 use Rattle.fab_model.specs.Views.{View, Walk}
 use Rattle.fab_model.proofs.Parts.{some_is, some_same, if_gives}
 use Rattle.fab_face.specs.Held.{Held, Seen}
-use Rattle.fab_face.specs.Acts.{Act, Did, Took, Posted, Drew, Had, GoesBy, steps_of, steps_by, events, is_draw}
+use Rattle.fab_face.specs.Acts.{Act, Did, Took, Posted, Drew, Had, GoesBy, steps_of, events, is_draw}
 use Rattle.fab_face.specs.Answers.{AllAre, Receives, ReceivesNot}
 use Rattle.fab_quantum.specs.Turns.{Told, Living, living_of, actor_in, actor_of, LivesBy, Ended, IsQuiet, ReadOn, is_read}
 use Rattle.fab_quantum.proofs.Paths.{goes_split}

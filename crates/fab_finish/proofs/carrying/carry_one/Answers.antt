@@ -1,4 +1,4 @@
-use Rattle.std.proofs.Common.{◌≡◌, ◌<◌, slice_index_or, slice_set, length, length-set, arith}
+use Rattle.std.proofs.Common.{◌<◌, slice_index_or, slice_set, length, length-set, arith}
 use Rattle.fab_finish.proofs.Joining.{got}
 use Rattle.fab_finish.proofs.Carried.{none_left, wide_q, may_come, carried_joined, carried_actors, carried_schedules, carried_others, carried_one}
 use Rattle.fab_finish.proofs.carrying.carry_one.Goals as goal

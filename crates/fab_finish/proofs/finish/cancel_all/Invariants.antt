@@ -1,4 +1,4 @@
-use Rattle.std.proofs.Common.{◌≡◌, length}
+use Rattle.std.proofs.Common.{◌≡◌}
 use Rattle.std.specs.Prelude.{map}
 use Rattle.fab_model.specs.Peers.{facts}
 use Rattle.fab_finish.specs.Joined.{Ends, actors}

@@ -1,4 +1,4 @@
-use Rattle.std.proofs.Common.{◌≡◌, ◌<◌, ◌+◌, ◌^◌, ◌∙◌, rules, arith, sym, ap, subst, List}
+use Rattle.std.proofs.Common.{◌≡◌, ◌<◌, ◌+◌, ◌^◌, rules, arith, sym, subst, List}
 use Rattle.std.specs.Prelude.{map}
 use Rattle.fab_finish.specs.Joined.{Member}
 use Rattle.fab_finish.proofs.Starting.{Opened, opens, opened_more, list_at, drop_more}

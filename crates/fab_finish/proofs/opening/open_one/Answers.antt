@@ -1,11 +1,8 @@
-use Rattle.std.proofs.Common.{◌≡◌, ◌∙◌, ap, refl}
+use Rattle.std.proofs.Common.{◌∙◌, ap}
 use Rattle.fab_link.specs.Plain.{PlainHome}
 use Rattle.fab_face.specs.Ports.{Whole}
 use Rattle.fab_link.specs.Plain.{Plain}
-use Rattle.fab_base.specs.declared.peers.Step.{Step}
-use Rattle.fab_model.specs.Peers.{Actor}
-use Rattle.fab_quantum.specs.Turns.{Told, actor_of}
-use Rattle.fab_finish.specs.Joined.{seen_plain, member_actor}
+use Rattle.fab_quantum.specs.Turns.{Told}
 use Rattle.fab_finish.proofs.Starting.{opens_at, actor_made}
 use Rattle.fab_finish.proofs.opening.open_one.Goals as goal
 

@@ -1,9 +1,5 @@
-use Rattle.std.proofs.Common.{◌≡◌, ◌∙◌, Ok, Bool, false, ap, sym, subst, subst₂, arith}
-use Rattle.fab_model.specs.Orders.{Reached}
-use Rattle.fab_model.specs.Peers.{fabric}
-use Rattle.fab_model.specs.Views.{rule}
-use Rattle.fab_finish.specs.Joined.{IsStillAt, AreStill, Member, actors, schedules}
-use Rattle.fab_finish.proofs.Resting.{still_next, still_all, goes_carried, still_carried}
+use Rattle.std.proofs.Common.{◌≡◌, ◌∙◌, Ok, false, ap, arith}
+use Rattle.fab_finish.proofs.Resting.{still_next, goes_carried, still_carried}
 use Rattle.fab_finish.proofs.rounds.round.Goals as goal
 
 pub loop-number-preserved : goal.loop-number-preserved

@@ -1,6 +1,6 @@
-use Rattle.std.proofs.Common.{◌≡◌, slice_index_or, slice_set, sym}
-use Rattle.fab_model.proofs.Turns.{slice_get-set_other, slice_get-set_same}
-use Rattle.fab_finish.specs.Joined.{IsStill, Member}
+use Rattle.std.proofs.Common.{slice_index_or, sym}
+use Rattle.fab_model.proofs.Turns.{slice_get-set_other}
+use Rattle.fab_finish.specs.Joined.{IsStill}
 use Rattle.fab_finish.proofs.Joining.{got, turned_all, same_member}
 use Rattle.fab_finish.proofs.Resting.{still_plain}
 use Rattle.fab_finish.proofs.rounds.turn.Goals as goal

@@ -1,5 +1,4 @@
-use Rattle.std.proofs.Common.{true, false, Ok, refl, ap, arith, subst, sym}
-use Rattle.fab_face.specs.Held.{Held}
+use Rattle.std.proofs.Common.{Ok, refl, ap, arith}
 use Rattle.fab_quantum.specs.Turns.{told}
 use Rattle.fab_quantum.proofs.Ending.{ended_same, ended_then, read_ended, read_quiet, read_posted}
 use Rattle.fab_quantum.proofs.peer.Peer.cancel_posted.Goals as goal
