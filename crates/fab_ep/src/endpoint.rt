@@ -40,6 +40,7 @@ pub struct Turn {
 }
 
 /// An endpoint over a port, with the machine that keeps its state.
+#[derive(Drop)]
 pub struct Endpoint<P: Port, C: Machine> {
     pub(crate) port: P,
     pub(crate) core: C,

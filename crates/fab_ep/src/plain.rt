@@ -1,7 +1,7 @@
 //! An endpoint over a plain port, whose frames are moved out and brought by hand.
-ghost use Rattle.std.specs.Prelude.{◌≡◌, ◌<◌, ◌+◌, ◌++◌, ◌∷◌, [], length, OnOk, OnErr, IfErr, IfSome, IfNone};
+ghost use Rattle.std.specs.Prelude.{◌≡◌, ℕ, ◌<◌, ◌+◌, ◌++◌, ◌∷◌, [], length, OnOk, OnErr, IfErr, IfSome, IfNone};
 ghost use Rattle.fab_wire.specs.Frames.{last_head, MayCome};
-ghost use Rattle.fab_link.specs.Plain.{lane_at, left, with_lane};
+ghost use Rattle.fab_link.specs.Plain.{lane_at, left, in_of, with_lane};
 
 use crate::endpoint::Endpoint;
 use fab_base::Frame;
@@ -26,6 +26,7 @@ impl<C: Machine> Endpoint<PlainPort, C> {
         requires below { src < length self.old.port.lanes }
         requires continues { MayCome (last_head (lane_at self.old.port src).in_after (lane_at self.old.port src).in_list) frame }
         ensures ok { OnOk result (self.new.port ≡ with_lane self.old.port src (record (lane_at self.old.port src) { in_list = (lane_at self.old.port src).in_list ++ frame ∷ [] })) }
+        ensures taken { (s : ℕ) → (in_of self.new.port s).taken ≡ (in_of self.old.port s).taken }
         ensures back { IfErr result (λ f. f ≡ frame) }
         ensures err { OnErr result (self.new ≡ self.old) }
         ensures rest { self.new ≡ record self.old { port = self.new.port } }

@@ -26,9 +26,9 @@ use Rattle.fab_model.specs.State.{State}
 use Rattle.fab_model.specs.Calls.{Call, Cancel, do_call, call_of, message, word_bytes}
 use Rattle.fab_model.specs.Peers.{Actor, do_next, do_line, call_line, after_call, is_again, is_of_ctx, next_line, with_result, with_state, wait_line, read_next, bytes_kept, part_of, unread}
 use Rattle.fab_face.specs.Held.{Held, Lanes, Seen, IsOpen}
-use Rattle.fab_face.specs.Acts.{Act, Did, Had, Went, Ported, steps_of, steps_by, events, is_move}
+use Rattle.fab_face.specs.Acts.{Act, Did, Took, Posted, Drew, Had, Went, Ported, steps_of, steps_by, events, is_move}
 use Rattle.fab_face.specs.Answers.{AllAre, Judged, IsShort, Sends, SendsNot, Receives, ReceivesNot, Pops, receive_call}
-use Rattle.fab_quantum.specs.Turns.{Told, living_of, actor_in, actor_of, SameParts, Lives, Lived, WentOn, Answered, why_of, drained, with_seen, is_some_act, is_some_event, next_op, step_of, ReadOn, IsRead}
+use Rattle.fab_quantum.specs.Turns.{Told, living_of, actor_in, actor_of, SameParts, Lives, Lived, WentOn, Answered, why_of, drained, with_seen, is_some_act, is_some_event, next_op, step_of, ReadOn, IsRead, is_read}
 use Rattle.fab_face.proofs.Joining.{posts_move, draws_move, ported_same, ported_then}
 use Rattle.fab_quantum.proofs.Paths.{living, lives_append, goes_split, moves_live, posts_some, draws_some, some_did, none_acts, steps_told, steps_called, some_append, lived_then}
 
@@ -390,7 +390,7 @@ module _ {Home : Type 0} where
       (step, (ap (λ (h : Held). h.places) held, ap (λ (h : Held). h.begun) held))
 
   pub reads_none : (a : Told Home) → ReadOn a a false
-  reads_none a = record { acts = []; lived = lived_same a; any_is = refl; lanes = refl; log = refl; lines = refl; results = refl }
+  reads_none a = record { acts = []; lived = lived_same a; any_is = refl; lanes = refl; log = refl; lines = refl; results = refl; reads = refl }
 
   -- with each entry read, fewer are unread
   pub reads_less : (a b : Seen Home) (entry : Taken) → Pops entry a b → length b.held.state.cq.written - b.held.state.cq.taken_out < length a.held.state.cq.written - a.held.state.cq.taken_out
@@ -412,8 +412,17 @@ module _ {Home : Type 0} where
     log = ap (λ (x : Seen Home). x.log) pops.read ∙ on.log;
     lines = on.lines;
     results = on.results;
+    reads = read_more on.acts on.reads;
   })
     where
+      read_more : (acts : List Act) → AllAre is_read acts → AllAre is_read (acts ++ Had ∷ [])
+      read_more [] are = refl
+      read_more (Did ∷ acts) are = absurd (cc)
+      read_more (Took source f ∷ acts) are = absurd (cc)
+      read_more (Posted dest f ∷ acts) are = absurd (cc)
+      read_more (Drew ∷ acts) are = absurd (cc)
+      read_more (Had ∷ acts) are = read_more acts are
+
       or_true : (b : Bool) → (b || true) ≡ true
       or_true true = refl
       or_true false = refl

@@ -4,4 +4,7 @@ pub mod Idling
 pub mod Showing
 pub mod Turning
 pub mod Sending
+pub mod Cutting
+pub mod Agreeing
+pub mod Ending
 pub mod Resting

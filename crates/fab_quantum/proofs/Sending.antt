@@ -27,7 +27,7 @@ use Rattle.fab_quantum.proofs.Showing.{joined_append}
 -- ---- what other acts leave
 
 -- what is accepted only grows, and nothing is posted or transmitted
-record Keeps (h k : Held) : Type 0 where
+pub record Keeps (h k : Held) : Type 0 where
   pub ready : (d : ℕ) → IsPrefixOf (accepted_for h.state.tx d) (accepted_for k.state.tx d)
   pub sent : k.state.tx.sent ≡ h.state.tx.sent
   pub places : k.places ≡ h.places
@@ -35,18 +35,18 @@ record Keeps (h k : Held) : Type 0 where
 nothing_seen : View Item
 nothing_seen = record { ready = λ s. []; sent = λ s. 0; calm = false }
 
-keeps_passes : (h k : Held) → Passes h.state k.state → k.places ≡ h.places → Keeps h k
+pub keeps_passes : (h k : Held) → Passes h.state k.state → k.places ≡ h.places → Keeps h k
 keeps_passes h k passes places = record { ready = passes.ready; sent = passes.sent; places = places }
 
-did_passes : (a b : Actor) → do_next a ≡ Some b → Passes a.state b.state
+pub did_passes : (a b : Actor) → do_next a ≡ Some b → Passes a.state b.state
 unfolding fabric step
 did_passes a b e = (step_is nothing_seen a b Do e).2
 
-had_passes : (a b : Actor) → read_next a ≡ Some b → Passes a.state b.state
+pub had_passes : (a b : Actor) → read_next a ≡ Some b → Passes a.state b.state
 unfolding fabric step
 had_passes a b e = (step_is nothing_seen a b ReadStep e).1
 
-passes_at : (s u w : State) → w ≡ u → Passes s u → Passes s w
+pub passes_at : (s u w : State) → w ≡ u → Passes s u → Passes s w
 passes_at s u w is passes = subst (λ (x : State). Passes s x) (sym is) passes
 
 headed_ready : (first : Bool) (s : State) (source : ℕ) (head : ItemHead) (d : ℕ) → IsPrefixOf (accepted_for s.tx d) (accepted_for (headed first s source head).tx d)
@@ -57,7 +57,7 @@ headed_sent : (first : Bool) (s : State) (source : ℕ) (head : ItemHead) → (h
 headed_sent true s source head = (head_passes s source head).sent
 headed_sent false s source head = refl
 
-keeps_took : (h t : Held) (source : ℕ) (f : Frame) (item : Item) (last : Bool) → Ends last h (headed (is_first f) h.state source f.head.item) source item t → Keeps h t
+pub keeps_took : (h t : Held) (source : ℕ) (f : Frame) (item : Item) (last : Bool) → Ends last h (headed (is_first f) h.state source f.head.item) source item t → Keeps h t
 keeps_took h t source f item true (one, room, is) =
     let s = headed (is_first f) h.state source f.head.item in
     let passes = tail_passes s source item.head item.bytes in
@@ -75,7 +75,7 @@ keeps_took h t source f item false is = record {
 
 -- ---- lists
 
-get_append : {X : Type 0} (xs ys : List X) (i : ℕ) (x : X) → slice_get (xs ++ ys) i ≡ Some x → (slice_get xs i ≡ Some x) ⊎ ((j : ℕ) × (i ≡ length xs + j) × (slice_get ys j ≡ Some x))
+pub get_append : {X : Type 0} (xs ys : List X) (i : ℕ) (x : X) → slice_get (xs ++ ys) i ≡ Some x → (slice_get xs i ≡ Some x) ⊎ ((j : ℕ) × (i ≡ length xs + j) × (slice_get ys j ≡ Some x))
 get_append [] ys i x e = inr (i, omega arith, e)
 get_append (z ∷ xs) ys zero x e = inl e
 get_append (z ∷ xs) ys (suc i) x e = elim (get_append xs ys i x e) [ inl l ↦ inl l | inr (j, at, r) ↦ inr (j, omega (arith, at), r) ]
@@ -106,7 +106,7 @@ grown_part n item = λ i. record { head = item.head; bytes = (ap (λ bs. bs ++ (
 -- ---- one act
 
 module _ (h k : Held) (d : ℕ) (ready : IsPrefixOf (accepted_for h.state.tx d) (accepted_for k.state.tx d)) (sent : slice_index k.state.tx.sent d ≡ slice_index h.state.tx.sent d) (place : slice_index k.places d ≡ slice_index h.places d) where
-  next_kept : (item : Item) → next_item h.state d ≡ Some item → next_item k.state d ≡ Some item
+  pub next_kept : (item : Item) → next_item h.state d ≡ Some item → next_item k.state d ≡ Some item
   next_kept item next = ap (λ n. slice_get (accepted_for k.state.tx d) n) sent ∙ ap (λ xs. slice_get xs (slice_index h.state.tx.sent d)) (sym ready.1) ∙ prefix_get (accepted_for h.state.tx d) ready.0 (slice_index h.state.tx.sent d) item next
 
   out_kept : IsOutAt h d → IsOutAt k d
@@ -127,11 +127,11 @@ transmits_none h k keeps out = (
   λ d. out_kept h k d (keeps.ready d) (ap (λ xs. slice_index xs d) keeps.sent) (ap (λ xs. slice_index xs d) keeps.places) (out d),
 )
 
-sent_ready : (s : State) (t d : ℕ) → IsPrefixOf (accepted_for s.tx d) (accepted_for (do_sent s t).tx d)
+pub sent_ready : (s : State) (t d : ℕ) → IsPrefixOf (accepted_for s.tx d) (accepted_for (do_sent s t).tx d)
 unfolding transmitting
 sent_ready s t d = (sent_passes s t).ready d
 
-sent_raised : (s : State) (t : ℕ) → (do_sent s t).tx.sent ≡ raise s.tx.sent t
+pub sent_raised : (s : State) (t : ℕ) → (do_sent s t).tx.sent ≡ raise s.tx.sent t
 unfolding transmitting
 sent_raised s t = (sent_passes s t).sent
 
@@ -288,7 +288,7 @@ posted_one h t dest f in_places in_sent next departs items out = by_item (next_i
         subst (λ (x : Frame). Transmits h t (λ d. only (dest == d) x) × IsOut t) is
         (by_last item there (is_last (piece item (slice_index h.places dest)).head) refl (subst (λ (x : Frame). Departs (is_last x.head) h dest (x.head.from + x.head.len) t) (sym is) departs))
 
-transmits_one : (act : Act) (p q : Living) → Lives p act q → AreItems p.held → IsOut p.held → Transmits p.held q.held (λ d. posted_by d act) × IsOut q.held
+pub transmits_one : (act : Act) (p q : Living) → Lives p act q → AreItems p.held → IsOut p.held → Transmits p.held q.held (λ d. posted_by d act) × IsOut q.held
 transmits_one Did p q (did, same) items out = transmits_none p.held q.held (keeps_passes p.held q.held (did_passes (actor_in p) (actor_in q) did) same.0) out
 transmits_one Had p q (had, same) items out = transmits_none p.held q.held (keeps_passes p.held q.held (had_passes (actor_in p) (actor_in q) had) same.0) out
 transmits_one Drew p q ((due, room, is), rest) items out =
@@ -298,7 +298,7 @@ transmits_one (Posted dest f) p q ((in_places, in_sent, next, departs), rest) it
 
 -- ---- many acts
 
-lives_ready : (acts : List Act) (p q : Living) → LivesBy p acts q → (d : ℕ) → IsPrefixOf (accepted_for p.held.state.tx d) (accepted_for q.held.state.tx d)
+pub lives_ready : (acts : List Act) (p q : Living) → LivesBy p acts q → (d : ℕ) → IsPrefixOf (accepted_for p.held.state.tx d) (accepted_for q.held.state.tx d)
 lives_ready [] p q is d = prefix_self _ _ (ap (λ (x : Living). accepted_for x.held.state.tx d) is)
 lives_ready (act ∷ acts) p q (mid, one, rest) d = prefix_prefix _ _ _ (one_ready act p mid one d) (lives_ready acts mid q rest d)
 

@@ -276,7 +276,7 @@ and_true a b x y = rw (x, y) refl
 actor_is : (p q : Living) (s : State) → q ≡ record p { held = q.held } → q.held.state ≡ s → with_state (actor_in p) s ≡ actor_in q
 actor_is p q s rest is = λ i. record { state = sym is i; lines = ap (λ (x : Living). x.lines) (sym rest) i; results = ap (λ (x : Living). x.results) (sym rest) i; kept = ap (λ (x : Living). x.kept) (sym rest) i }
 
-walk_append : (v : View Item) (a b c : Actor) (xs ys : List Step) → Walk fabric v a xs b → Walk fabric v b ys c → Walk fabric v a (xs ++ ys) c
+pub walk_append : (v : View Item) (a b c : Actor) (xs ys : List Step) → Walk fabric v a xs b → Walk fabric v b ys c → Walk fabric v a (xs ++ ys) c
 walk_append v a b c [] ys first then = subst (λ x. Walk fabric v x ys c) (sym first) then
 walk_append v a b c (x ∷ xs) ys (next, one, rest) then = (next, one, walk_append v next b c xs ys rest then)
 
@@ -309,7 +309,7 @@ did_walk : (v : View Item) (a b : Actor) → do_next a ≡ Some b → fabric.ste
 unfolding fabric step
 did_walk v a b e = e
 
-had_walk : (v : View Item) (a b : Actor) → read_next a ≡ Some b → fabric.step v a ReadStep ≡ Some b
+pub had_walk : (v : View Item) (a b : Actor) → read_next a ≡ Some b → fabric.step v a ReadStep ≡ Some b
 unfolding fabric step
 had_walk v a b e = e
 

@@ -2,7 +2,8 @@
 use Rattle.std.proofs.Common.{◌≡◌, Bool, true, false, not, ◌||◌, List, [], ◌++◌, length, None, refl, sym, ap, ◌∙◌, subst}
 use Rattle.fab_model.specs.Peers.{do_next}
 use Rattle.fab_face.specs.Held.{Held, IsOpen}
-use Rattle.fab_quantum.proofs.Sending.{transmits_by}
+use Rattle.fab_quantum.proofs.Sending.{transmits_by, lives_ready}
+use Rattle.fab_quantum.proofs.Cutting.{cut_by}
 use Rattle.fab_face.specs.Acts.{Act}
 use Rattle.fab_quantum.specs.Turns.{Told, Living, living_of, actor_in, Lived, WentOn, ReadOn, MovedOn, IsRead, IsStill, Turned, is_some_act}
 use Rattle.fab_face.proofs.Joining.{ported_then}
@@ -79,6 +80,8 @@ module _ {Home : Type 0} where
         transmits = (transmits_by all_acts (living_of a) (living_of f) all_lived.lives closed.items opened.out).0;
         ported = all_lived.ported;
         lines = s.lines ∙ m.lines ∙ l.lines ∙ r.lines;
+        ready = lives_ready all_acts (living_of a) (living_of f) all_lived.lives;
+        cut = λ d below. cut_by all_acts (living_of a) (living_of f) all_lived.lives closed.items opened.out d _ (opened.posted d below);
       },
       is ∙ ap (λ x. (x || done) || (went || again)) r.any_is ∙ ap (λ x. (is_some_act r.acts || x) || (went || again)) l.moved_is
           ∙ ap (λ x. (is_some_act r.acts || is_some_act l.acts) || (x || again)) m.moved_is ∙ ap (λ x. (is_some_act r.acts || is_some_act l.acts) || (is_some_act m.acts || x)) s.any_is

@@ -4,7 +4,8 @@
 --     Shows v h frames  in this view, these frames are of what the senders accepted, and what is whole with them is transmitted
 --     Turned a b acts   the schedule grew by the steps of these acts, they lead from a to b wherever the frames taken are shown, and they are all that the port moved
 --     IsStill a b       nothing can be done, as the turn from a to b itself saw
-use Rattle.std.specs.Prelude.{◌≡◌, ◌≢◌, ℕ, ◌+◌, ◌≤◌, Bool, true, false, List, [], ◌∷◌, ◌++◌, zero, suc, take, drop, length, map, fold, Option, Some, None, Result, Ok, Err, slice_index, slice_get}
+--     Ended a b         the last steps of a peer: receives cancelled, and their completions read
+use Rattle.std.specs.Prelude.{◌≡◌, ◌≢◌, ℕ, ◌+◌, ◌<◌, ◌≤◌, Bool, true, false, List, [], ◌∷◌, ◌++◌, zero, suc, take, drop, length, map, fold, Option, Some, None, Result, Ok, Err, slice_index, slice_get}
 use Rattle.std.specs.Option.{option_map}
 use Rattle.fab_base.specs.declared.script.LineOp.{LineOp}
 use Rattle.fab_base.specs.declared.entries.Kept.{Kept}
@@ -19,15 +20,18 @@ use Rattle.fab_base.specs.declared.peers.Step.{Step}
 use Rattle.fab_base.specs.declared.peers.Step.TheVariants.{Do, Head, Tail, Draw, Sent as SentStep}
 use Rattle.fab_base.specs.declared.script.Line.{Line}
 use Rattle.fab_wire.specs.Joined.{with_frame, Gathered, AreFirst}
-use Rattle.fab_model.specs.Peers.{Actor, fabric, do_next, read_next, is_again}
+use Rattle.fab_model.specs.Peers.{Actor, fabric, facts, do_next, read_next, is_again}
 use Rattle.fab_model.specs.State.{accepted_for}
-use Rattle.fab_model.specs.Views.{View, Walk}
+use Rattle.fab_model.specs.Receiving.{draw_due}
+use Rattle.fab_model.specs.Views.{View, Walk, IsPrefixOf}
 use Rattle.fab_face.specs.declared.events.Event.{Event}
 use Rattle.fab_face.specs.declared.events.Event.TheVariants.{Call as Called, Head as Headed, Tail as Tailed, Sent as Transmitted, Draw as Drawn}
 use Rattle.fab_quantum.specs.declared.peer.Peer.{Peer}
 use Rattle.fab_face.specs.Held.{Held, Seen, begun_of, next_item}
 use Rattle.fab_face.specs.Acts.{Act, Did, Took, Posted, Drew, Had, Goes, Ported, steps_of, taken_of, posted_to}
-use Rattle.fab_face.specs.Answers.{IsIdle}
+use Rattle.fab_face.specs.Answers.{IsIdle, AllAre}
+use Rattle.fab_link.specs.Meaning.{end_of}
+use Rattle.fab_wire.specs.Frames.{IsLane}
 
 pub record Told (Home : Type 0) : Type 0 where
   pub seen : Seen Home
@@ -135,6 +139,10 @@ pub record Turned {Home : Type 0} (a b : Told Home) (acts : List Act) : Type 0 w
   pub transmits : Transmits a.seen.held b.seen.held (λ d. posted_to d acts)
   pub ported : Ported a.seen.lanes b.seen.lanes acts
   pub lines : b.lines ≡ a.lines
+  -- what is accepted only grows
+  pub ready : (d : ℕ) → IsPrefixOf (accepted_for a.seen.held.state.tx d) (accepted_for b.seen.held.state.tx d)
+  -- the frames posted continue the lanes by cutting
+  pub cut : (d : ℕ) → d < a.seen.lanes.peers → IsLane (end_of (a.seen.lanes.outs d)) (posted_to d acts)
 
 -- the next line cannot be done, no entry is unread, and the turn itself saw that nothing is left to move
 pub record IsStill {Home : Type 0} (a b : Told Home) : Type 0 where
@@ -182,6 +190,10 @@ with_seen a e = record a { seen = e }
 abbrev pub next_op : {Home : Type 0} → Told Home → Option LineOp
 next_op a = option_map (λ (line : Line). line.op) (slice_get a.lines (length a.results))
 
+abbrev pub is_read : Act → Bool
+is_read Had = true
+is_read _ = false
+
 -- entries were read, and nothing else was done
 pub record ReadOn {Home : Type 0} (a b : Told Home) (any : Bool) : Type 0 where
   pub acts : List Act
@@ -191,6 +203,7 @@ pub record ReadOn {Home : Type 0} (a b : Told Home) (any : Bool) : Type 0 where
   pub log : b.seen.log ≡ a.seen.log
   pub lines : b.lines ≡ a.lines
   pub results : b.results ≡ a.results
+  pub reads : AllAre is_read acts
 
 abbrev pub IsRead : {Home : Type 0} → Seen Home → Type 0
 IsRead e = e.held.state.cq.taken_out ≡ length e.held.state.cq.written
@@ -203,3 +216,20 @@ pub record MovedOn {Home : Type 0} (a b : Told Home) (moved : Bool) : Type 0 whe
   pub log : b.seen.log ≡ []
   pub lines : b.lines ≡ a.lines
   pub idle : moved ≡ false → IsRead a.seen → IsIdle a.seen b.seen
+
+-- ---- the end
+
+-- The steps stand where all is calm. What the calm asks of the peer stays, as does what it transmitted and what its port moved.
+pub record Ended {Home : Type 0} (a b : Told Home) : Type 0 where
+  pub steps : List Step
+  pub schedule : b.schedule ≡ a.schedule ++ steps
+  pub walk : (v : View Item) → v.calm ≡ true → Walk fabric v (actor_of a) steps (actor_of b)
+  pub facts_are : facts (actor_of b) ≡ facts (actor_of a)
+  pub tx : b.seen.held.state.tx ≡ a.seen.held.state.tx
+  pub size : b.seen.held.state.cq.size ≡ a.seen.held.state.cq.size
+  pub coming : b.seen.held.state.rx.coming ≡ a.seen.held.state.rx.coming
+
+-- no event is left in the log, and no draw is due
+pub record IsQuiet {Home : Type 0} (a : Told Home) : Type 0 where
+  pub log : a.seen.log ≡ []
+  pub draws : draw_due a.seen.held.state.rx ≡ false

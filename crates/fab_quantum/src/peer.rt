@@ -1,10 +1,12 @@
 //! A small peer over any endpoint: it does lines of a few kinds, in turns.
-ghost use Rattle.std.specs.Prelude.{◌≡◌, ◌||◌, ℕ, Some, None, Ok, IfOk, OnOk, IfSome, IfNone, find, position, is_some, nat_lt, ◌+◌, [], true, false, Bool};
+ghost use Rattle.std.specs.Prelude.{◌≡◌, ◌<◌, ◌||◌, length, ℕ, Some, None, Ok, IfOk, OnOk, IfSome, IfNone, find, position, is_some, nat_lt, ◌+◌, [], true, false, Bool};
 ghost use Rattle.fab_base.specs.declared.script.LineOp.TheVariants.{Wait, Recv, TRecv, Send, TSend, Inject, TInject, Cancel};
 ghost use Rattle.fab_base.specs.declared.script.BytesWord.{BytesWord};
 ghost use Rattle.fab_model.specs.Matching.{remove_first};
 ghost use Rattle.fab_model.specs.Calls.{word_bytes};
-ghost use Rattle.fab_model.specs.Peers.{ctx_of, is_of_ctx, part_of, unread};
+ghost use Rattle.fab_model.specs.Peers.{ctx_of, is_of_ctx, part_of, unread, is_finished};
+ghost use Rattle.fab_model.specs.Receiving.{cancellable};
+ghost use Rattle.fab_model.specs.Report.{pending_of};
 ghost use Rattle.fab_face.specs.Answers.{Pops};
 ghost use Rattle.fab_quantum.specs.Turns.{step_of, why_of};
 
@@ -17,8 +19,11 @@ use fab_face::events::Event;
 use std::alloc::Global;
 
 /// A peer with its endpoint, its lines, the results of those done, the completions kept, and its schedule.
+///
+/// The endpoint is open to whoever owns the peer: over a plain port its frames are carried by hand.
+#[derive(Drop)]
 pub struct Peer<E: Messages + Receives + Progress + Logs> {
-    endpoint: E,
+    pub endpoint: E,
     lines: Vec<Line>,
     results: Vec<LineResult>,
     kept: Vec<Kept>,
@@ -155,8 +160,23 @@ fn next_entry<E: Progress>(endpoint: &mut E) -> Option<Taken>
 impl<E: Messages + Receives + Progress + Logs> Peer<E> {
     ghost use Rattle.std.specs.Prelude.{List};
     ghost use Rattle.fab_face.specs.Acts.{Act};
-    ghost use Rattle.fab_quantum.specs.Turns.{MovedOn, told, drained, is_some_event, ReadOn, IsRead, WentOn, Answered, Lived, IsStill, is_some_act, next_op, Turned};
+    ghost use Rattle.fab_quantum.specs.Turns.{MovedOn, told, actor_of, drained, is_some_event, ReadOn, IsRead, WentOn, Answered, Lived, IsStill, is_some_act, next_op, Turned, Ended, IsQuiet};
     ghost use Rattle.fab_face.specs.Answers.{IsIdle};
+
+    /// A peer that is to do these lines over this endpoint. It takes no memory.
+    pub fn new(alloc: Global, endpoint: E, lines: Vec<Line>) -> Peer<E>
+        ensures told { told E.seen result ≡ record { seen = E.seen endpoint; lines = lines.items; results = []; kept = []; schedule = [] } }
+        ensures endpoint { result.endpoint ≡ endpoint }
+    {
+        Peer {
+            endpoint,
+            lines,
+            results: Vec::new(alloc),
+            kept: Vec::new(alloc),
+            schedule: Vec::new(alloc),
+            alloc,
+        }
+    }
 
     /// Empties the endpoint's log into the schedule. Whether there was an event.
     fn drain(&mut self) -> Result<bool, NoMemory>
@@ -494,5 +514,82 @@ impl<E: Messages + Receives + Progress + Logs> Peer<E> {
         let again = self.read_all()?;
         self.endpoint.known();
         Ok(either(either(read, done), either(went, again)))
+    }
+
+    /// Cancels the first posted receive that may be cancelled, if there is one.
+    fn cancel_first(&mut self) -> Result<bool, NoMemory>
+        requires quiet { IsQuiet (told E.seen self.old) }
+        ensures ended { OnOk result (Ended (told E.seen self.old) (told E.seen self.new)) }
+        ensures quiet { OnOk result (IsQuiet (told E.seen self.new)) }
+        ensures fewer { result ≡ Ok true → length (E.seen self.new.endpoint).held.state.rx.posted < length (E.seen self.old.endpoint).held.state.rx.posted }
+        ensures none { result ≡ Ok false → cancellable (λ r. true) (E.seen self.new.endpoint).held.state.rx ≡ None }
+        ensures same { result ≡ Ok false → (E.seen self.new.endpoint).held ≡ (E.seen self.old.endpoint).held }
+    {
+        match self.endpoint.cancel_first() {
+            Ok(()) => {
+                self.endpoint.log_clear();
+                self.schedule.push(Step::Final)?;
+                Ok(true)
+            }
+            Err(Fault::NoEntry) => Ok(false),
+            Err(_) => Err(NoMemory),
+        }
+    }
+
+    /// Cancels the posted receives that may be cancelled, in order, and reads all completions after each
+    /// (fi_cancel of fi_endpoint(3)).
+    pub fn cancel_posted(&mut self) -> Result<(), NoMemory>
+        requires quiet { IsQuiet (told E.seen self.old) }
+        ensures ended { OnOk result (Ended (told E.seen self.old) (told E.seen self.new)) }
+        ensures quiet { OnOk result (IsQuiet (told E.seen self.new)) }
+        ensures read { OnOk result (IsRead (E.seen self.old.endpoint) → IsRead (E.seen self.new.endpoint)) }
+        ensures none { OnOk result (cancellable (λ r. true) (E.seen self.new.endpoint).held.state.rx ≡ None) }
+    {
+        'receives: while self.cancel_first()? {
+            self.read_all()?;
+        }
+        Ok(())
+    }
+
+    /// Whether all lines are done.
+    pub fn finished(&self) -> bool
+        ensures { result ≡ is_finished (actor_of (told E.seen self.now)) }
+    {
+        self.lines.get(self.results.len()).is_none()
+    }
+
+    /// The peer's lines.
+    pub fn lines(&self) -> &[Line]
+        ensures { result.now ≡ (told E.seen self.now).lines }
+    {
+        self.lines.as_slice()
+    }
+
+    /// The results of the lines done, in order.
+    pub fn results(&self) -> &[LineResult]
+        ensures { result.now ≡ (told E.seen self.now).results }
+    {
+        self.results.as_slice()
+    }
+
+    /// The completions that were read and that no `wait` took, in the order of reading.
+    pub fn kept(&self) -> &[Kept]
+        ensures { result.now ≡ (told E.seen self.now).kept }
+    {
+        self.kept.as_slice()
+    }
+
+    /// The steps taken so far, in order.
+    pub fn schedule(&self) -> &[Step]
+        ensures { result.now ≡ (told E.seen self.now).schedule }
+    {
+        self.schedule.as_slice()
+    }
+
+    /// How many operations are transmitted and await the answer of their peer.
+    pub fn awaiting(&self) -> u32
+        ensures { result ≡ pending_of (actor_of (told E.seen self.now)) }
+    {
+        self.endpoint.awaiting()
     }
 }

@@ -124,7 +124,7 @@ replicated zero k x = refl
 replicated (suc n) zero x = refl
 replicated (suc n) (suc k) x = replicated n k x
 
-fresh_owed : (conf : Conf) (v : View Item) → OwedAt conf.peers v (fresh conf)
+pub fresh_owed : (conf : Conf) (v : View Item) → OwedAt conf.peers v (fresh conf)
 fresh_owed conf v = record {
   sends = record {
     asked = λ t k. omega (arith, ap (many (reply_item k)) (nothing_got t), ap (many (owing_item k)) (nothing_there t));

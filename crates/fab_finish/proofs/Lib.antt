@@ -1,0 +1,6 @@
+pub mod Joining
+pub mod Resting
+pub mod Starting
+pub mod Carried
+pub mod Ending
+pub mod Clearing

@@ -1,0 +1,16 @@
+use Rattle.std.proofs.Common.{◌≡◌, ◌≢◌, ◌<◌, ℕ, [], false, length}
+use Rattle.fab_link.specs.Plain.{left}
+use Rattle.fab_finish.specs.Joined.{lane, IsJoined, actors, schedules}
+use Rattle.fab_finish.proofs.carrying.carry_from.Given as goal
+
+abbrev pub invariant-loop-to : goal.invariant-loop-to
+invariant-loop-to g l = record {
+  joined : IsJoined l.peers;
+  all : length l.peers ≡ length l.fn.peers;
+  few : l.count ≡ length l.peers;
+  actors : actors l.peers ≡ actors l.fn.peers;
+  schedules : schedules l.peers ≡ schedules l.fn.peers;
+  others : (s r : ℕ) → s ≢ l.from → left (lane l.peers s r) ≡ left (lane l.fn.peers s r);
+  done : (r : ℕ) → r < l.to → left (lane l.peers l.from r) ≡ [];
+  same : l.moved ≡ false → l.peers ≡ l.fn.peers;
+}

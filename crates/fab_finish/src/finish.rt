@@ -1,0 +1,101 @@
+//! The end of a run: the peers go on until none can, and cancel the receives that are still posted.
+ghost use Rattle.std.specs.Prelude.{◌≡◌, ◌≤◌, ℕ, length, map, slice_get, Some, true, false, Ok, IfOk, OnOk};
+ghost use Rattle.std.specs.List.{All, list_all};
+ghost use Rattle.fab_model.specs.Orders.{Reached};
+ghost use Rattle.fab_model.specs.Peers.{fabric, is_finished};
+ghost use Rattle.fab_model.specs.Replay.{at_rest, all_done};
+ghost use Rattle.fab_model.specs.Views.{rule};
+ghost use Rattle.fab_quantum.specs.Turns.{IsQuiet};
+ghost use Rattle.fab_finish.specs.Joined.{Member, member_actor, IsJoined, Ends, AreStill, AreCleared, Clears, actors, schedules, told_of, opened, start};
+ghost use Rattle.fab_finish.specs.Rests.{Rest, AreCancelled};
+
+use crate::opening::open;
+use crate::rounds::settle;
+use fab_base::{Conf, Line, NoMemory};
+use fab_ep::endpoint::Endpoint;
+use fab_face::machine::Machine;
+use fab_link::PlainPort;
+use fab_quantum::peer::Peer;
+use std::alloc::Global;
+
+/// How a run ended: all lines are done and no receive is posted, or some line could not be done.
+#[derive(Clone, Copy, Debug, Drop, Eq, PartialEq)]
+pub enum Ending {
+    Drained,
+    Stuck,
+}
+
+/// Whether each peer has done all its lines.
+fn each_finished<C: Machine>(peers: &[Peer<Endpoint<PlainPort, C>>]) -> bool
+    ensures { result ≡ list_all (λ p. is_finished (member_actor p)) peers.now }
+{
+    peers.iter().all(|peer| peer.finished())
+}
+
+/// Whether all lines of all peers are done.
+fn all_done<C: Machine>(peers: &[Peer<Endpoint<PlainPort, C>>]) -> bool
+    ensures { result ≡ all_done (actors peers.now) }
+{
+    each_finished(peers)
+}
+
+/// Each peer, by number, cancels the receives that are still posted and reads their completions.
+fn cancel_all<C: Machine + Drop>(peers: &mut [Peer<Endpoint<PlainPort, C>>]) -> Result<(), NoMemory>
+    requires quiet { (k : ℕ) (p : Member) → slice_get peers.old k ≡ Some p → IsQuiet (told_of p) }
+    requires rest { Rest (actors peers.old) }
+    requires done { all_done (actors peers.old) ≡ true }
+    ensures ends { OnOk result (Ends peers.old peers.new) }
+    ensures rest { OnOk result (Rest (actors peers.new)) }
+    ensures done { OnOk result (all_done (actors peers.new) ≡ true) }
+    ensures cancelled { OnOk result (AreCancelled (length peers.old) peers.old peers.new) }
+{
+    for number in 0..peers.len() {
+        peers[number].cancel_posted()?;
+    }
+    Ok(())
+}
+
+/// Makes rounds until one moves nothing. Where all lines are done then, each peer cancels the receives that are still
+/// posted (fi_cancel of fi_endpoint(3)) and reads their completions. The peers are at rest in both cases: nothing is
+/// on its way, no completion is unread, and no line can be done.
+///
+/// After want of memory a frame that was on its way may be lost, so the peers are then only read or dropped.
+pub fn finish<C: Machine + Drop>(
+    peers: &mut [Peer<Endpoint<PlainPort, C>>],
+) -> Result<Ending, NoMemory>
+    requires joined { IsJoined peers.old }
+    ensures ends { OnOk result (Ends peers.old peers.new) }
+    ensures rest { OnOk result (at_rest (actors peers.new) ≡ true) }
+    ensures drained { result ≡ Ok Ending.Drained → all_done (actors peers.new) ≡ true }
+    ensures stuck { result ≡ Ok Ending.Stuck → all_done (actors peers.new) ≡ false }
+    ensures cleared { result ≡ Ok Ending.Drained → Clears peers.old peers.new }
+{
+    settle(peers)?;
+    if !all_done(peers) {
+        return Ok(Ending::Stuck);
+    }
+    cancel_all(peers)?;
+    Ok(Ending::Drained)
+}
+
+/// Runs peers that do these lists of lines, each over a machine that holds what an endpoint holds when it is opened,
+/// until none can go on, and hands them back: some order of turns took the steps of their schedules from the start of
+/// their lines to their states. The peers have the lists in their order; a peer without a list has no lines. Where all
+/// lines are done, each peer then cancelled the receives that were still posted.
+pub fn run_peers<C: Machine + Drop>(
+    alloc: Global,
+    conf: &Conf,
+    lists: Vec<Vec<Line>>,
+    machines: Vec<C>,
+) -> Result<Vec<Peer<Endpoint<PlainPort, C>>>, NoMemory>
+    requires count { length machines.items ≡ conf.now.peers }
+    requires log { 4 ≤ conf.now.info.log }
+    requires start { All (λ m. C.held m ≡ start conf.now) machines.items }
+    ensures reached { IfOk result (λ peers. Reached (rule fabric) (opened conf.now (map (λ l. l.items) lists.items)) (schedules peers.items) (actors peers.items)) }
+    ensures rest { IfOk result (λ peers. at_rest (actors peers.items) ≡ true) }
+    ensures cleared { IfOk result (λ peers. all_done (actors peers.items) ≡ true → AreCleared (actors peers.items)) }
+{
+    let mut peers = open(alloc, conf, lists, machines)?;
+    let _end = finish(peers.as_mut_slice())?;
+    Ok(peers)
+}
