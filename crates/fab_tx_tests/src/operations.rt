@@ -4,9 +4,9 @@ ghost use Rattle.fab_base.specs.declared.items.Ack.TheVariants.{Nothing};
 ghost use Rattle.fab_base.specs.declared.items.Kind.TheVariants.{Reply};
 ghost use Rattle.fab_base.specs.declared.items.Outcome.TheVariants.{Done};
 
-use crate::{Ended, Outbox};
 use fab_base::{Ack, Buf, Item, ItemHead, Kind, Level, NoMemory, Outcome};
 use fab_record::caller::Caller;
+use fab_tx::{Ended, Outbox};
 use std::alloc::Global;
 
 /// Of no call.

@@ -1,16 +1,14 @@
-//! Forty lists of calls of a store with room for four receives. The first two were worked by hand
-//! from fi_tagged(3), "fi_trecv". All answers were computed by a script that keeps plain lists and
-//! compares tags bit by bit. The last twenty-six lists are random.
-use super::Answer::{Id, No, Nothing, Yes};
-use super::Call::{
+//! Forty lists of calls of a store with room for four receives, and three of one with room for three.
+//! The first two were worked by hand from fi_tagged(3), "fi_trecv", as were the last three. The other
+//! answers were computed by a script that keeps plain lists and compares tags bit by bit. Twenty-six
+//! lists are random.
+use crate::calls::Answer::{Id, No, Nothing, Yes};
+use crate::calls::Call::{
     Arrive, FirstPosted, FirstUnexpected, Post, RemovePosted, RemoveUnexpected, TakePosted,
     TakeUnexpected,
 };
-use super::{Answer, Call};
+use crate::calls::Step;
 use fab_base::{Sign, Want};
-
-/// A call and its answer.
-pub(super) type Step = (Call, Answer);
 
 const ANY_5: Want = Want {
     tagged: true,
@@ -89,6 +87,20 @@ const ONLY_3_UNTAGGED: Want = Want {
     source: Some(3),
 };
 
+const ANY_7: Want = Want {
+    tagged: true,
+    tag: 7,
+    ignore: 0,
+    source: None,
+};
+
+const ONLY_2_UNTAGGED: Want = Want {
+    tagged: false,
+    tag: 0,
+    ignore: 0,
+    source: Some(2),
+};
+
 const TAG_5_OF_2: Sign = Sign {
     tagged: true,
     tag: 5,
@@ -143,7 +155,26 @@ const PLAIN_5_OF_3: Sign = Sign {
     source: 3,
 };
 
-pub(super) const LISTS: &[&[Step]] = &[
+const TAG_7_OF_9: Sign = Sign {
+    tagged: true,
+    tag: 7,
+    source: 9,
+};
+
+const PLAIN_7_OF_2: Sign = Sign {
+    tagged: false,
+    tag: 7,
+    source: 2,
+};
+
+const PLAIN_7_OF_3: Sign = Sign {
+    tagged: false,
+    tag: 7,
+    source: 3,
+};
+
+/// Which of several matches is the first.
+pub(crate) const FIRST: [&[Step]; 4] = [
     // Tags 4 and 5 differ only in the lowest bit.
     &[
         (Arrive(1, TAG_5_OF_2), Yes),
@@ -179,6 +210,10 @@ pub(super) const LISTS: &[&[Step]] = &[
         (TakeUnexpected(ANY_5), Id(5)),
         (TakeUnexpected(ANY_5), Nothing),
     ],
+];
+
+/// Sources and kinds of messages.
+pub(crate) const KINDS: [&[Step]; 3] = [
     // Another source does not match.
     &[
         (Post(1, ONLY_3_TAG_5), Yes),
@@ -208,6 +243,10 @@ pub(super) const LISTS: &[&[Step]] = &[
         (FirstPosted(PLAIN_OF_3), Id(1)),
         (FirstPosted(PLAIN_OF_2), Nothing),
     ],
+];
+
+/// What a removal leaves.
+pub(crate) const REMOVALS: [&[Step]; 3] = [
     // The two lists have ids of their own.
     &[
         (Post(1, ANY_5), Yes),
@@ -241,6 +280,10 @@ pub(super) const LISTS: &[&[Step]] = &[
         (TakeUnexpected(EVERY_TAG), Id(3)),
         (TakeUnexpected(EVERY_TAG), Id(4)),
     ],
+];
+
+/// Ids that are given again, and room for four receives.
+pub(crate) const IDS: [&[Step]; 3] = [
     // A removal of what is not there changes nothing.
     &[
         (RemovePosted(1), No),
@@ -275,6 +318,10 @@ pub(super) const LISTS: &[&[Step]] = &[
         (Post(5, ANY_4), Yes),
         (FirstPosted(TAG_4_OF_2), Id(5)),
     ],
+];
+
+/// Every bit counts.
+pub(crate) const BITS: [&[Step]; 1] = [
     // The highest bit counts.
     &[
         (Post(1, ANY_5), Yes),
@@ -287,7 +334,10 @@ pub(super) const LISTS: &[&[Step]] = &[
         (FirstPosted(TAG_HIGH_OF_0), Id(3)),
         (FirstPosted(TAG_13_OF_2), Id(3)),
     ],
-    // At random.
+];
+
+/// At random.
+pub(crate) const RANDOM_1: [&[Step]; 2] = [
     &[
         (Post(5, ANY_HIGH_BIT), Yes),
         (Post(4, ANY_4), Yes),
@@ -314,6 +364,10 @@ pub(super) const LISTS: &[&[Step]] = &[
         (RemoveUnexpected(4), No),
         (TakePosted(TAG_4_OF_3), Nothing),
     ],
+];
+
+/// More of these.
+pub(crate) const RANDOM_2: [&[Step]; 2] = [
     &[
         (Post(4, ANY_LOW_BITS_5), Yes),
         (Arrive(1, TAG_HIGH_OF_0), Yes),
@@ -339,6 +393,10 @@ pub(super) const LISTS: &[&[Step]] = &[
         (TakeUnexpected(ANY_4), Nothing),
         (RemoveUnexpected(4), No),
     ],
+];
+
+/// More of these.
+pub(crate) const RANDOM_3: [&[Step]; 2] = [
     &[
         (Post(3, UNTAGGED), Yes),
         (Arrive(5, PLAIN_OF_2), Yes),
@@ -368,6 +426,10 @@ pub(super) const LISTS: &[&[Step]] = &[
         (TakePosted(PLAIN_OF_3), Nothing),
         (FirstUnexpected(ONLY_2_TAG_5), Nothing),
     ],
+];
+
+/// More of these.
+pub(crate) const RANDOM_4: [&[Step]; 2] = [
     &[
         (Post(1, UNTAGGED), Yes),
         (Post(5, ANY_4), Yes),
@@ -396,6 +458,10 @@ pub(super) const LISTS: &[&[Step]] = &[
         (TakePosted(TAG_5_OF_3), Id(5)),
         (FirstPosted(PLAIN_OF_2), Nothing),
     ],
+];
+
+/// More of these.
+pub(crate) const RANDOM_5: [&[Step]; 2] = [
     &[
         (Post(3, UNTAGGED), Yes),
         (Post(4, ANY_4_OR_5), Yes),
@@ -423,6 +489,10 @@ pub(super) const LISTS: &[&[Step]] = &[
         (TakePosted(PLAIN_OF_3), Nothing),
         (RemoveUnexpected(1), Yes),
     ],
+];
+
+/// More of these.
+pub(crate) const RANDOM_6: [&[Step]; 2] = [
     &[
         (Arrive(5, TAG_13_OF_2), Yes),
         (Post(3, ANY_4_OR_5), Yes),
@@ -449,6 +519,10 @@ pub(super) const LISTS: &[&[Step]] = &[
         (RemoveUnexpected(4), Yes),
         (RemovePosted(1), No),
     ],
+];
+
+/// More of these.
+pub(crate) const RANDOM_7: [&[Step]; 2] = [
     &[
         (Arrive(2, TAG_HIGH_OF_0), Yes),
         (Arrive(5, PLAIN_5_OF_3), Yes),
@@ -479,6 +553,10 @@ pub(super) const LISTS: &[&[Step]] = &[
         (TakeUnexpected(ONLY_2_TAG_5), Nothing),
         (RemoveUnexpected(1), No),
     ],
+];
+
+/// More of these.
+pub(crate) const RANDOM_8: [&[Step]; 2] = [
     &[
         (Arrive(2, TAG_4_OF_3), Yes),
         (Arrive(4, PLAIN_OF_3), Yes),
@@ -506,6 +584,10 @@ pub(super) const LISTS: &[&[Step]] = &[
         (RemovePosted(1), No),
         (RemovePosted(4), Yes),
     ],
+];
+
+/// More of these.
+pub(crate) const RANDOM_9: [&[Step]; 2] = [
     &[
         (Arrive(2, TAG_5_OF_3), Yes),
         (Post(1, UNTAGGED), Yes),
@@ -534,6 +616,10 @@ pub(super) const LISTS: &[&[Step]] = &[
         (TakeUnexpected(ANY_5), Nothing),
         (TakePosted(TAG_13_OF_2), Id(2)),
     ],
+];
+
+/// More of these.
+pub(crate) const RANDOM_10: [&[Step]; 2] = [
     &[
         (Arrive(2, TAG_13_OF_2), Yes),
         (Post(5, ANY_LOW_BITS_5), Yes),
@@ -563,6 +649,10 @@ pub(super) const LISTS: &[&[Step]] = &[
         (RemoveUnexpected(4), No),
         (TakeUnexpected(ANY_5), Nothing),
     ],
+];
+
+/// More of these.
+pub(crate) const RANDOM_11: [&[Step]; 2] = [
     &[
         (Post(1, ANY_4), Yes),
         (Arrive(5, TAG_4_OF_3), Yes),
@@ -591,6 +681,10 @@ pub(super) const LISTS: &[&[Step]] = &[
         (FirstUnexpected(ONLY_2_TAG_5), Nothing),
         (RemoveUnexpected(1), No),
     ],
+];
+
+/// More of these.
+pub(crate) const RANDOM_12: [&[Step]; 2] = [
     &[
         (Post(4, EVERY_TAG), Yes),
         (Arrive(1, PLAIN_OF_2), Yes),
@@ -619,6 +713,10 @@ pub(super) const LISTS: &[&[Step]] = &[
         (TakePosted(TAG_13_OF_2), Id(4)),
         (TakePosted(TAG_13_OF_2), Nothing),
     ],
+];
+
+/// More of these.
+pub(crate) const RANDOM_13: [&[Step]; 2] = [
     &[
         (Arrive(5, TAG_5_OF_3), Yes),
         (Post(3, ANY_5), Yes),
@@ -643,5 +741,47 @@ pub(super) const LISTS: &[&[Step]] = &[
         (FirstPosted(TAG_4_OF_3), Nothing),
         (TakePosted(TAG_HIGH_OF_0), Nothing),
         (RemoveUnexpected(5), Yes),
+    ],
+];
+
+/// With room for three receives.
+pub(crate) const OF_THREE: [&[Step]; 3] = [
+    // A message goes to the receive that was posted first.
+    &[
+        (Post(1, EVERY_TAG), Yes),
+        (Post(2, ONLY_3_TAG_5), Yes),
+        (Post(3, ANY_5), Yes),
+        (FirstPosted(TAG_5_OF_3), Id(1)),
+        (RemovePosted(1), Yes),
+        (FirstPosted(TAG_5_OF_3), Id(2)),
+        (RemovePosted(2), Yes),
+        (FirstPosted(TAG_5_OF_3), Id(3)),
+        (RemovePosted(2), No),
+    ],
+    // A receive gets the message that came first.
+    &[
+        (Arrive(1, TAG_5_OF_2), Yes),
+        (FirstUnexpected(ANY_4_OR_5), Id(1)),
+        (Arrive(1, TAG_4_OF_2), No),
+        (Arrive(2, TAG_5_OF_3), Yes),
+        (FirstUnexpected(ONLY_3_TAG_5), Id(2)),
+        (FirstUnexpected(ANY_5), Id(1)),
+        (FirstUnexpected(UNTAGGED), Nothing),
+        (RemoveUnexpected(1), Yes),
+        (FirstUnexpected(ANY_5), Id(2)),
+        (FirstUnexpected(ANY_4_OR_5), Id(2)),
+    ],
+    // Untagged receives stand by their source.
+    &[
+        (Post(4, UNTAGGED), Yes),
+        (Post(5, ONLY_2_UNTAGGED), Yes),
+        (Post(6, ANY_7), Yes),
+        (Post(7, UNTAGGED), No),
+        (FirstPosted(PLAIN_7_OF_2), Id(4)),
+        (RemovePosted(4), Yes),
+        (Post(4, ONLY_2_UNTAGGED), Yes),
+        (FirstPosted(PLAIN_7_OF_2), Id(5)),
+        (FirstPosted(PLAIN_7_OF_3), Nothing),
+        (FirstPosted(TAG_7_OF_9), Id(6)),
     ],
 ];

@@ -1,10 +1,10 @@
 //! Messages that come before and after their receives, and receives that are cancelled.
 ghost use Rattle.std.specs.Prelude.{ℕ, Some};
 
-use crate::{Finished, Inbox, Posted};
 use fab_base::{Ack, Buf, Entry, ItemHead, Kind, Outcome, Taken, Want};
 use fab_match::ListMatcher;
 use fab_record::caller::Caller;
+use fab_rx::{Finished, Inbox, Posted};
 use std::test::Fail;
 
 /// Calls that are numbered by hand.

@@ -6,9 +6,9 @@ ghost use Rattle.fab_link.specs.Meaning.{end_of};
 ghost use Rattle.fab_ring.specs.Ports.{peers_of, out_of};
 ghost use Rattle.fab_ring.specs.Made.{IsNew, AreNew};
 
-use crate::{RingPort, Rings};
 use fab_base::{Ack, FrameHead, ItemHead, Kind, Outcome};
 use fab_link::{Port, PostRefused};
+use fab_ring::{RingPort, Rings};
 use std::sync::Wait;
 use std::test::Fail;
 use std::thread;
