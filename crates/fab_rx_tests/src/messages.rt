@@ -4,7 +4,7 @@ ghost use Rattle.std.specs.Prelude.{ℕ, Some};
 use fab_base::{Ack, Buf, Entry, ItemHead, Kind, Outcome, Taken, Want};
 use fab_match::ListMatcher;
 use fab_record::caller::Caller;
-use fab_rx::{Finished, Inbox, Posted};
+use fab_rx::{Cancelled, Finished, Inbox, Posted};
 use std::test::Fail;
 
 /// Calls that are numbered by hand.
@@ -38,36 +38,59 @@ const THREE: ItemHead = ItemHead {
     total: 3,
 };
 
+fn is_joined(posted: &Posted) -> bool {
+    matches!(posted, Posted::Joined)
+}
+
+fn is_kept(finished: &Finished) -> bool {
+    matches!(finished, Finished::Kept(_))
+}
+
+/// Whether the buffer that comes back has these bytes.
+fn is_left(cancelled: &Option<Cancelled>, bytes: &[u8]) -> bool {
+    match cancelled {
+        Some(cancelled) => cancelled.buf.as_slice() == bytes,
+        None => false,
+    }
+}
+
+/// Whether a receive got a message of so many bytes, after which its buffer has these.
+fn is_received(posted: &Posted, count: u32, bytes: &[u8]) -> bool {
+    match posted {
+        Posted::Whole(done) => done.good && is_success(&done.entry, count, bytes),
+        _ => false,
+    }
+}
+
+fn is_success(entry: &Taken, count: u32, bytes: &[u8]) -> bool {
+    match entry {
+        Taken::Success(Entry::Received { buf, len, .. }) => {
+            *len == count && buf.as_slice() == bytes
+        }
+        _ => false,
+    }
+}
+
 #[test]
 fn the_first_posted_is_cancelled_with_its_buffer(rt: HostRuntime) -> Result<(), Fail> {
-    let mut inbox = Inbox::<ListMatcher>::new(rt.alloc(), 2, 2)?;
     let buf = Buf::copy(rt.alloc(), &[9, 8])?;
-    assert!(rt; matches!(inbox.post::<u64, ByHand>(&0, ANY, buf, 7), Posted::Joined));
+    let mut inbox = Inbox::<ListMatcher>::new(rt.alloc(), 2, 2)?;
+    assert!(rt; is_joined(&inbox.post::<u64, ByHand>(&0, ANY, buf, 7)));
     assert!(rt; inbox.cancel(6).is_none());
-    let Some(left) = inbox.cancel(7) else {
-        return Err(Fail::new("a posted receive was not found"));
-    };
-    assert!(rt; left.buf.as_slice() == [9, 8].as_slice());
+    assert!(rt; is_left(&inbox.cancel(7), &[9, 8]));
     assert!(rt; inbox.cancel_first().is_none());
     Ok(())
 }
 
 #[test]
 fn a_message_that_came_first_is_kept_for_its_receive(rt: HostRuntime) -> Result<(), Fail> {
+    let buf = Buf::copy(rt.alloc(), &[9, 9, 9, 9])?;
     let mut inbox = Inbox::<ListMatcher>::new(rt.alloc(), 2, 2)?;
     inbox.arrive(1, &THREE)?;
     inbox.fill(1, &[1, 2, 3]);
-    assert!(rt; matches!(inbox.finish(1), Finished::Kept(_)));
+    assert!(rt; is_kept(&inbox.finish(1)));
     assert_eq!(rt; inbox.found(&ANY), Some(true));
-    let buf = Buf::copy(rt.alloc(), &[9, 9, 9, 9])?;
-    let Posted::Whole(done) = inbox.post::<u64, ByHand>(&0, ANY, buf, 7) else {
-        return Err(Fail::new("the message was not taken"));
-    };
-    assert!(rt; done.good);
-    let Taken::Success(Entry::Received { buf, len, .. }) = done.entry else {
-        return Err(Fail::new("no success"));
-    };
-    assert_eq!(rt; len, 3);
-    assert!(rt; buf.as_slice() == [1, 2, 3, 9].as_slice());
+    let posted = inbox.post::<u64, ByHand>(&0, ANY, buf, 7);
+    assert!(rt; is_received(&posted, 3, &[1, 2, 3, 9]));
     Ok(())
 }
