@@ -1,6 +1,6 @@
 //! Regions by hand: each answer is the one that fi_mr(3) and the offsets of the region give.
-use crate::Regions;
 use fab_base::{Access, Buf, Fault};
+use fab_mr::Regions;
 use std::process::Abort;
 use std::test::Fail;
 

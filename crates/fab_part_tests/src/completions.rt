@@ -3,8 +3,8 @@ ghost use Rattle.std.specs.Prelude.{◌≡◌, ◌^◌, ◌∷◌, [], None, Som
 ghost use Rattle.fab_cq.specs.Queues.{has_room};
 ghost use Rattle.fab_base.specs.declared.operations.Written.{Written};
 
-use crate::{Counters, Queue};
 use fab_base::{Class, Entry, ErrEntry, ErrKind, Fault, NoMemory, Taken};
+use fab_cq::{Counters, Queue};
 use fab_record::caller::Caller;
 use std::alloc::Global;
 use std::snapshot::Snapshot;

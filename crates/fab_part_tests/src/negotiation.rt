@@ -1,6 +1,6 @@
 //! What is granted, as values. Those of the capabilities are written by hand from the order of printing.
-use super::getinfo;
 use fab_base::{Cap, Caps, Fault, Hints, Info};
+use fab_info::getinfo;
 use std::test::Fail;
 
 /// Hints with these capabilities and no wish.

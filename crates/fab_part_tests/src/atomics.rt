@@ -9,7 +9,7 @@
 ghost use Rattle.std.specs.Prelude.{◌≡◌};
 ghost use Rattle.fab_atomics.specs.Operands.{operand_len, compare_len};
 
-use crate::{apply, element_size};
+use fab_atomics::{apply, element_size};
 use fab_base::{AtomicOp, Num};
 use std::alloc::Global;
 use std::process::Abort;
