@@ -310,11 +310,11 @@ fn failures_have_their_text(rt: HostRuntime) -> Result<(), Fail> {
 /// Whether what a `wait` did is told in these words.
 fn is_done(alloc: Global, outcome: LineResult, words: &str) -> Result<bool, Fail> {
     let mut text = String::new(alloc);
-    let lines = [Line {
+    let wait = Line {
         number: 4,
         op: LineOp::Wait { ctx: None },
-    }];
-    let added = add_peer(&mut text, 0, &lines, &[outcome], &[], 0, &[]);
+    };
+    let added = add_peer(&mut text, 0, &[wait], &[outcome], &[], 0, &[]);
     added?;
     let want = format!(in alloc; "peer 0\n4 wait{words}\ntrace\n")?;
     Ok(text.as_str() == want.as_str())
