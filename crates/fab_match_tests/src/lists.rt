@@ -174,7 +174,7 @@ const PLAIN_7_OF_3: Sign = Sign {
 };
 
 /// Which of several matches is the first.
-pub(crate) const FIRST: [&[Step]; 4] = [
+const FIRST: [&[Step]; 4] = [
     // Tags 4 and 5 differ only in the lowest bit.
     &[
         (Arrive(1, TAG_5_OF_2), Yes),
@@ -213,7 +213,7 @@ pub(crate) const FIRST: [&[Step]; 4] = [
 ];
 
 /// Sources and kinds of messages.
-pub(crate) const KINDS: [&[Step]; 3] = [
+const KINDS: [&[Step]; 3] = [
     // Another source does not match.
     &[
         (Post(1, ONLY_3_TAG_5), Yes),
@@ -246,7 +246,7 @@ pub(crate) const KINDS: [&[Step]; 3] = [
 ];
 
 /// What a removal leaves.
-pub(crate) const REMOVALS: [&[Step]; 3] = [
+const REMOVALS: [&[Step]; 3] = [
     // The two lists have ids of their own.
     &[
         (Post(1, ANY_5), Yes),
@@ -283,7 +283,7 @@ pub(crate) const REMOVALS: [&[Step]; 3] = [
 ];
 
 /// Ids that are given again, and room for four receives.
-pub(crate) const IDS: [&[Step]; 3] = [
+const IDS: [&[Step]; 3] = [
     // A removal of what is not there changes nothing.
     &[
         (RemovePosted(1), No),
@@ -321,7 +321,7 @@ pub(crate) const IDS: [&[Step]; 3] = [
 ];
 
 /// Every bit counts.
-pub(crate) const BITS: [&[Step]; 1] = [
+const BITS: [&[Step]; 1] = [
     // The highest bit counts.
     &[
         (Post(1, ANY_5), Yes),
@@ -337,7 +337,7 @@ pub(crate) const BITS: [&[Step]; 1] = [
 ];
 
 /// At random.
-pub(crate) const RANDOM_1: [&[Step]; 2] = [
+const RANDOM_1: [&[Step]; 2] = [
     &[
         (Post(5, ANY_HIGH_BIT), Yes),
         (Post(4, ANY_4), Yes),
@@ -367,7 +367,7 @@ pub(crate) const RANDOM_1: [&[Step]; 2] = [
 ];
 
 /// More of these.
-pub(crate) const RANDOM_2: [&[Step]; 2] = [
+const RANDOM_2: [&[Step]; 2] = [
     &[
         (Post(4, ANY_LOW_BITS_5), Yes),
         (Arrive(1, TAG_HIGH_OF_0), Yes),
@@ -396,7 +396,7 @@ pub(crate) const RANDOM_2: [&[Step]; 2] = [
 ];
 
 /// More of these.
-pub(crate) const RANDOM_3: [&[Step]; 2] = [
+const RANDOM_3: [&[Step]; 2] = [
     &[
         (Post(3, UNTAGGED), Yes),
         (Arrive(5, PLAIN_OF_2), Yes),
@@ -429,7 +429,7 @@ pub(crate) const RANDOM_3: [&[Step]; 2] = [
 ];
 
 /// More of these.
-pub(crate) const RANDOM_4: [&[Step]; 2] = [
+const RANDOM_4: [&[Step]; 2] = [
     &[
         (Post(1, UNTAGGED), Yes),
         (Post(5, ANY_4), Yes),
@@ -461,7 +461,7 @@ pub(crate) const RANDOM_4: [&[Step]; 2] = [
 ];
 
 /// More of these.
-pub(crate) const RANDOM_5: [&[Step]; 2] = [
+const RANDOM_5: [&[Step]; 2] = [
     &[
         (Post(3, UNTAGGED), Yes),
         (Post(4, ANY_4_OR_5), Yes),
@@ -492,7 +492,7 @@ pub(crate) const RANDOM_5: [&[Step]; 2] = [
 ];
 
 /// More of these.
-pub(crate) const RANDOM_6: [&[Step]; 2] = [
+const RANDOM_6: [&[Step]; 2] = [
     &[
         (Arrive(5, TAG_13_OF_2), Yes),
         (Post(3, ANY_4_OR_5), Yes),
@@ -522,7 +522,7 @@ pub(crate) const RANDOM_6: [&[Step]; 2] = [
 ];
 
 /// More of these.
-pub(crate) const RANDOM_7: [&[Step]; 2] = [
+const RANDOM_7: [&[Step]; 2] = [
     &[
         (Arrive(2, TAG_HIGH_OF_0), Yes),
         (Arrive(5, PLAIN_5_OF_3), Yes),
@@ -556,7 +556,7 @@ pub(crate) const RANDOM_7: [&[Step]; 2] = [
 ];
 
 /// More of these.
-pub(crate) const RANDOM_8: [&[Step]; 2] = [
+const RANDOM_8: [&[Step]; 2] = [
     &[
         (Arrive(2, TAG_4_OF_3), Yes),
         (Arrive(4, PLAIN_OF_3), Yes),
@@ -587,7 +587,7 @@ pub(crate) const RANDOM_8: [&[Step]; 2] = [
 ];
 
 /// More of these.
-pub(crate) const RANDOM_9: [&[Step]; 2] = [
+const RANDOM_9: [&[Step]; 2] = [
     &[
         (Arrive(2, TAG_5_OF_3), Yes),
         (Post(1, UNTAGGED), Yes),
@@ -619,7 +619,7 @@ pub(crate) const RANDOM_9: [&[Step]; 2] = [
 ];
 
 /// More of these.
-pub(crate) const RANDOM_10: [&[Step]; 2] = [
+const RANDOM_10: [&[Step]; 2] = [
     &[
         (Arrive(2, TAG_13_OF_2), Yes),
         (Post(5, ANY_LOW_BITS_5), Yes),
@@ -652,7 +652,7 @@ pub(crate) const RANDOM_10: [&[Step]; 2] = [
 ];
 
 /// More of these.
-pub(crate) const RANDOM_11: [&[Step]; 2] = [
+const RANDOM_11: [&[Step]; 2] = [
     &[
         (Post(1, ANY_4), Yes),
         (Arrive(5, TAG_4_OF_3), Yes),
@@ -684,7 +684,7 @@ pub(crate) const RANDOM_11: [&[Step]; 2] = [
 ];
 
 /// More of these.
-pub(crate) const RANDOM_12: [&[Step]; 2] = [
+const RANDOM_12: [&[Step]; 2] = [
     &[
         (Post(4, EVERY_TAG), Yes),
         (Arrive(1, PLAIN_OF_2), Yes),
@@ -716,7 +716,7 @@ pub(crate) const RANDOM_12: [&[Step]; 2] = [
 ];
 
 /// More of these.
-pub(crate) const RANDOM_13: [&[Step]; 2] = [
+const RANDOM_13: [&[Step]; 2] = [
     &[
         (Arrive(5, TAG_5_OF_3), Yes),
         (Post(3, ANY_5), Yes),
@@ -784,4 +784,13 @@ pub(crate) const OF_THREE: [&[Step]; 3] = [
         (FirstPosted(PLAIN_7_OF_3), Nothing),
         (FirstPosted(TAG_7_OF_9), Id(6)),
     ],
+];
+
+/// The lists of one subject each.
+pub(crate) const LISTS: [&[&[Step]]; 5] = [&FIRST, &KINDS, &REMOVALS, &IDS, &BITS];
+
+/// The random lists.
+pub(crate) const RANDOM: [&[&[Step]]; 13] = [
+    &RANDOM_1, &RANDOM_2, &RANDOM_3, &RANDOM_4, &RANDOM_5, &RANDOM_6, &RANDOM_7, &RANDOM_8,
+    &RANDOM_9, &RANDOM_10, &RANDOM_11, &RANDOM_12, &RANDOM_13,
 ];

@@ -4,58 +4,49 @@ ghost use Rattle.fab_model.specs.Matching.{remove_first};
 ghost use Rattle.fab_match.specs.Signs.{fits};
 
 use crate::calls::{Step, first_wrong, post};
-use crate::lists::{
-    BITS, FIRST, IDS, KINDS, OF_THREE, RANDOM_1, RANDOM_2, RANDOM_3, RANDOM_4, RANDOM_5, RANDOM_6,
-    RANDOM_7, RANDOM_8, RANDOM_9, RANDOM_10, RANDOM_11, RANDOM_12, RANDOM_13, REMOVALS,
-};
-use fab_base::{Sign, Want};
+use crate::lists::{LISTS, OF_THREE, RANDOM};
+use fab_base::{NoMemory, Sign, Want};
 use fab_bins::BinMatcher;
 use fab_match::{ListMatcher, Matcher, take_posted};
 use std::alloc::Global;
 use std::process::Abort;
 use std::test::Fail;
 
-/// Each list gives its answers over both stores, with room for so many receives.
+/// The place of the first call of the list that a new store of this kind, with room for so many receives, does
+/// not answer as told.
+fn wrong_of<M: Matcher + Drop>(
+    alloc: Global,
+    room: u32,
+    list: &[Step],
+) -> Result<Option<usize>, NoMemory> {
+    let mut store = M::new(alloc, room)?;
+    first_wrong(&mut store, list)
+}
+
+/// Each list gives its answers over both stores.
 fn both_give(rt: &impl Abort, alloc: Global, room: u32, lists: &[&[Step]]) -> Result<(), Fail> {
     for (at, list) in lists.iter().enumerate() {
-        let mut lists = ListMatcher::new(alloc, room)?;
-        assert_eq!(rt; first_wrong(&mut lists, list)?, None, "lists, list {at}");
-        drop(lists);
-        let mut bins = BinMatcher::new(alloc, room)?;
-        assert_eq!(rt; first_wrong(&mut bins, list)?, None, "bins, list {at}");
+        let of_lists = wrong_of::<ListMatcher>(alloc, room, list)?;
+        let of_bins = wrong_of::<BinMatcher>(alloc, room, list)?;
+        assert_eq!(rt; (of_lists, of_bins), (None, None), "list {at}");
     }
     Ok(())
 }
 
 #[test]
 fn each_list_of_calls_gives_its_answers(rt: HostRuntime) -> Result<(), Fail> {
-    both_give(&rt, rt.alloc(), 4, &FIRST)?;
-    both_give(&rt, rt.alloc(), 4, &KINDS)?;
-    both_give(&rt, rt.alloc(), 4, &REMOVALS)?;
-    both_give(&rt, rt.alloc(), 4, &IDS)?;
-    both_give(&rt, rt.alloc(), 4, &BITS)?;
+    for lists in LISTS {
+        both_give(&rt, rt.alloc(), 4, lists)?;
+    }
     both_give(&rt, rt.alloc(), 3, &OF_THREE)
 }
 
 #[test]
 fn random_lists_give_their_answers(rt: HostRuntime) -> Result<(), Fail> {
-    both_give(&rt, rt.alloc(), 4, &RANDOM_1)?;
-    both_give(&rt, rt.alloc(), 4, &RANDOM_2)?;
-    both_give(&rt, rt.alloc(), 4, &RANDOM_3)?;
-    both_give(&rt, rt.alloc(), 4, &RANDOM_4)?;
-    both_give(&rt, rt.alloc(), 4, &RANDOM_5)?;
-    both_give(&rt, rt.alloc(), 4, &RANDOM_6)?;
-    both_give(&rt, rt.alloc(), 4, &RANDOM_7)
-}
-
-#[test]
-fn more_random_lists_give_their_answers(rt: HostRuntime) -> Result<(), Fail> {
-    both_give(&rt, rt.alloc(), 4, &RANDOM_8)?;
-    both_give(&rt, rt.alloc(), 4, &RANDOM_9)?;
-    both_give(&rt, rt.alloc(), 4, &RANDOM_10)?;
-    both_give(&rt, rt.alloc(), 4, &RANDOM_11)?;
-    both_give(&rt, rt.alloc(), 4, &RANDOM_12)?;
-    both_give(&rt, rt.alloc(), 4, &RANDOM_13)
+    for lists in RANDOM {
+        both_give(&rt, rt.alloc(), 4, lists)?;
+    }
+    Ok(())
 }
 
 /// What a caller knows of a store of a known kind: the first match is out, and nothing else is.
