@@ -11,6 +11,3 @@ mod ranges;
 
 pub use numbers::element_size;
 pub use ranges::apply;
-
-#[cfg(test)]
-mod tests;

@@ -14,6 +14,3 @@ mod chains;
 mod shelf;
 
 pub use bin_matcher::BinMatcher;
-
-#[cfg(test)]
-mod tests;

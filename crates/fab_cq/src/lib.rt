@@ -9,8 +9,6 @@
 
 mod counters;
 mod queue;
-#[cfg(test)]
-mod tests;
 
 pub use counters::Counters;
 pub use queue::Queue;

@@ -7,7 +7,5 @@
 mod capabilities;
 mod negotiation;
 mod sizes;
-#[cfg(test)]
-mod tests;
 
 pub use negotiation::getinfo;

@@ -15,6 +15,3 @@ pub use list_matcher::ListMatcher;
 pub use matcher::Matcher;
 pub use signs::{fits, sign_of};
 pub use taking::{take_posted, take_unexpected};
-
-#[cfg(test)]
-mod tests;

@@ -8,6 +8,3 @@
 mod regions;
 
 pub use regions::Regions;
-
-#[cfg(test)]
-mod tests;

@@ -17,6 +17,3 @@ mod rings;
 mod sending;
 
 pub use port::{RingPort, Rings};
-
-#[cfg(test)]
-mod tests;

@@ -8,3 +8,4 @@ pub mod Posting
 pub mod Known
 pub mod Numbering
 pub mod Leaving
+mod Worked

@@ -17,8 +17,6 @@ mod past;
 mod results;
 mod stored;
 mod table;
-#[cfg(test)]
-mod tests;
 
 pub use inbox::Inbox;
 pub use results::{Cancelled, Completed, Finished, Posted};

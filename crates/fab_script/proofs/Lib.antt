@@ -7,3 +7,4 @@ pub mod BuiltLemmas
 pub mod Payloads
 pub mod BindingLemmas
 pub mod AloneLemmas
+mod Worked

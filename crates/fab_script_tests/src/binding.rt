@@ -83,24 +83,28 @@ const RANGES: [(&[u8], Option<u32>); 14] = [
     ),
 ];
 
-/// The line that is refused for the range of a file.
-fn line_outside(alloc: Global, text: &[u8]) -> Result<Option<u32>, Fail> {
-    match bind_text(alloc, text)? {
-        Ok(_) => Ok(None),
-        Err(
-            ParseRefused::Script {
-                line,
-                why: Why::FileRange,
-            },
-        ) => Ok(Some(line)),
-        Err(_) => Err("binding refuses a range and nothing else".into()),
+/// Whether a script is refused at this line for the range of a file. None: it is bound.
+fn is_refused(bound: &Result<Bound, ParseRefused>, refused: Option<u32>) -> bool {
+    match (bound, refused) {
+        (Ok(_), None) => true,
+        (
+            Err(
+                ParseRefused::Script {
+                    line,
+                    why: Why::FileRange,
+                },
+            ),
+            Some(number),
+        ) => *line == number,
+        _ => false,
     }
 }
 
 #[test]
 fn ranges_of_files(rt: HostRuntime) -> Result<(), Fail> {
     for (text, refused) in RANGES {
-        assert_eq!(rt; line_outside(rt.alloc(), text)?, refused);
+        let bound = bind_text(rt.alloc(), text)?;
+        assert!(rt; is_refused(&bound, refused), "{refused:?}");
     }
     Ok(())
 }
@@ -139,10 +143,8 @@ fn are_so_many(
     Ok(())
 }
 
-/// Each `file:` word of a peer's lines is the bytes that it names, and all else stays.
-#[test]
-fn lines_with_their_bytes(rt: HostRuntime) -> Result<(), Fail> {
-    let text = b"fabric 1
+/// A script whose third peer has words of each kind.
+const WORDS: &[u8] = b"fabric 1
 peers 3
 payload 7 f
 peer 2
@@ -153,17 +155,28 @@ wait 1
 peer 0
 wait *
 ";
-    let bound = bind_text(rt.alloc(), text)??;
-    let table: [(u32, Option<&[u8]>); 4] = [
-        (5, Some(b"bcd")),
-        (6, Some(b"abcde")),
-        (7, Some(b"xy")),
-        (8, None),
-    ];
-    are_so_many(&rt, rt.alloc(), &bound, 0, 1)?;
-    are_so_many(&rt, rt.alloc(), &bound, 1, 0)?;
-    are_so_many(&rt, rt.alloc(), &bound, 3, 0)?;
-    let last = lines(rt.alloc(), &bound, 2)?;
-    are_lines(&rt, &last, &table);
+
+/// The numbers of that peer's lines, and their bytes.
+const BYTES: [(u32, Option<&[u8]>); 4] = [
+    (5, Some(b"bcd")),
+    (6, Some(b"abcde")),
+    (7, Some(b"xy")),
+    (8, None),
+];
+
+/// The lines of each peer, and the bytes of those of the third.
+fn are_bound(rt: &impl Abort, alloc: Global, bound: &Bound) -> Result<(), Fail> {
+    are_so_many(rt, alloc, bound, 0, 1)?;
+    are_so_many(rt, alloc, bound, 1, 0)?;
+    are_so_many(rt, alloc, bound, 3, 0)?;
+    let last = lines(alloc, bound, 2)?;
+    are_lines(rt, &last, &BYTES);
     Ok(())
+}
+
+/// Each `file:` word of a peer's lines is the bytes that it names, and all else stays.
+#[test]
+fn lines_with_their_bytes(rt: HostRuntime) -> Result<(), Fail> {
+    let bound = bind_text(rt.alloc(), WORDS)??;
+    are_bound(&rt, rt.alloc(), &bound)
 }

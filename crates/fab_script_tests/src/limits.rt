@@ -17,10 +17,11 @@ fn send_of(alloc: Global, len: usize) -> Result<Vec<u8>, Fail> {
 
 #[test]
 fn longest_text(rt: HostRuntime) -> Result<(), Fail> {
-    let script = built(rt.alloc(), &send_of(rt.alloc(), 4096)?)?;
-    assert_eq!(rt; script.peers.as_slice().len(), 1);
     let longer = send_of(rt.alloc(), 4097)?;
     is_built(&rt, rt.alloc(), &longer, Some((4, Why::Unbuilt)));
+    let longest = send_of(rt.alloc(), 4096)?;
+    let script = built(rt.alloc(), &longest)?;
+    assert_eq!(rt; script.peers.as_slice().len(), 1);
     Ok(())
 }
 

@@ -9,7 +9,9 @@ use std::test::Fail;
 /// The text that is printed of what a text of the whole language says.
 fn print_again(alloc: Global, text: &[u8]) -> Result<Text, Fail> {
     let script = whole(alloc, text)?;
-    Ok(print(alloc, &script)?)
+    let printed = print(alloc, &script);
+    drop(script);
+    Ok(printed?)
 }
 
 /// Texts, and how their scripts are printed: settings in their order, numbers in decimal, optional words where they
@@ -180,7 +182,9 @@ fn printed_texts(rt: HostRuntime) -> Result<(), Fail> {
 /// The text that is printed of what a text of lines that are carried out says.
 fn print_built(alloc: Global, text: &[u8]) -> Result<Text, Fail> {
     let script = built(alloc, text)?;
-    Ok(print(alloc, &script)?)
+    let printed = print(alloc, &script);
+    drop(script);
+    Ok(printed?)
 }
 
 /// What is carried out stays what is carried out.

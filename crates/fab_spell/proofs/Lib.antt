@@ -18,3 +18,4 @@ pub mod Remote
 pub mod Said
 pub mod Sends
 pub mod Spelt
+mod Worked

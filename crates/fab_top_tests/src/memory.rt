@@ -4,6 +4,7 @@ use fab_top::{
     Clock, Depot, Failed, LoadRefused, MemoryClock, MemoryDepot, MemorySink, Sink, write_all,
 };
 use std::alloc::Global;
+use std::process::Abort;
 use std::test::Fail;
 
 /// A depot of two files, named by how many bytes they have, in which the loads of these numbers fail.
@@ -14,43 +15,77 @@ fn depot_of(alloc: Global, failing: &[u64]) -> Result<MemoryDepot, Fail> {
     Ok(MemoryDepot::new(files, Vec::from_slice(alloc, failing)?))
 }
 
+/// The bytes that were loaded, all of a file's or its first ones.
+fn bytes_of(loaded: &Result<Buf, LoadRefused>) -> Option<&[u8]> {
+    match loaded {
+        Ok(bytes) | Err(LoadRefused::TooLong(bytes)) => Some(bytes.as_slice()),
+        Err(_) => None,
+    }
+}
+
+fn is_failed(loaded: &Result<Buf, LoadRefused>) -> bool {
+    matches!(loaded, Err(LoadRefused::Failed))
+}
+
+fn is_file(name: &Option<Text>, file: &str) -> bool {
+    match name {
+        Some(name) => name.as_str() == file,
+        None => false,
+    }
+}
+
+/// A file, a limit, the bytes that are loaded, and whether they are the whole file.
+type Row = (&'static str, u32, &'static str, bool);
+
+const ROWS: [Row; 4] = [
+    ("five", 5, "12345", true),
+    ("six", 5, "123456", false),
+    ("six", 4, "12345", false),
+    ("six", 6, "123456", true),
+];
+
+fn loads(rt: &impl Abort, alloc: Global, depot: &mut MemoryDepot, row: Row) -> Result<(), Fail> {
+    let (file, limit, bytes, is_whole) = row;
+    let name = Text::copy(alloc, file)?;
+    let loaded = depot.load(alloc, &name, u64::from(limit));
+    assert_eq!(rt; bytes_of(&loaded), Some(bytes.as_bytes()));
+    assert_eq!(rt; loaded.is_ok(), is_whole);
+    Ok(())
+}
+
 #[test]
 fn a_file_is_loaded_up_to_the_limit(rt: HostRuntime) -> Result<(), Fail> {
-    let alloc = rt.alloc();
-    let mut depot = depot_of(alloc, &[])?;
-    let rows = [
-        ("five", 5, "12345", true),
-        ("six", 5, "123456", false),
-        ("six", 4, "12345", false),
-        ("six", 6, "123456", true),
-    ];
-    for (name, limit, bytes, is_whole) in rows {
-        let name = Text::copy(alloc, name)?;
-        let (loaded, whole) = match depot.load(alloc, &name, limit) {
-            Ok(loaded) => (loaded, true),
-            Err(LoadRefused::TooLong(loaded)) => (loaded, false),
-            Err(_) => return Err("not loaded")?,
-        };
-        assert_eq!(rt; loaded.as_slice(), bytes.as_bytes());
-        assert_eq!(rt; whole, is_whole);
+    let mut depot = depot_of(rt.alloc(), &[])?;
+    for row in ROWS {
+        loads(&rt, rt.alloc(), &mut depot, row)?;
     }
     assert_eq!(rt; (depot.calls, depot.faults), (4, 0));
-    assert!(rt; depot.failed == None);
+    assert!(rt; depot.failed.is_none());
+    Ok(())
+}
+
+/// A load of this file fails, as so many did then.
+fn fails(
+    rt: &impl Abort,
+    alloc: Global,
+    depot: &mut MemoryDepot,
+    file: &str,
+    faults: u64,
+) -> Result<(), Fail> {
+    let name = Text::copy(alloc, file)?;
+    assert!(rt; is_failed(&depot.load(alloc, &name, 9)));
+    assert_eq!(rt; depot.faults, faults);
+    assert!(rt; is_file(&depot.failed, file));
     Ok(())
 }
 
 #[test]
 fn a_load_fails_at_a_listed_call_and_at_a_missing_file(rt: HostRuntime) -> Result<(), Fail> {
-    let alloc = rt.alloc();
-    let mut depot = depot_of(alloc, &[2])?;
-    for (name, faults) in [("none", 1), ("five", 2)] {
-        let name = Text::copy(alloc, name)?;
-        assert!(rt; depot.load(alloc, &name, 9) == Err(LoadRefused::Failed));
-        assert_eq!(rt; depot.faults, faults);
-        assert!(rt; depot.failed == Some(name));
-    }
-    let name = Text::copy(alloc, "five")?;
-    assert!(rt; depot.load(alloc, &name, 9).is_ok());
+    let five = Text::copy(rt.alloc(), "five")?;
+    let mut depot = depot_of(rt.alloc(), &[2])?;
+    fails(&rt, rt.alloc(), &mut depot, "none", 1)?;
+    fails(&rt, rt.alloc(), &mut depot, "five", 2)?;
+    assert!(rt; depot.load(rt.alloc(), &five, 9).is_ok());
     Ok(())
 }
 

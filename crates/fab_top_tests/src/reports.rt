@@ -5,6 +5,7 @@ use fab_base::{
 };
 use fab_top::{add_first, add_last, add_peer};
 use std::alloc::Global;
+use std::process::Abort;
 use std::test::Fail;
 
 fn success(entry: Entry) -> Kept {
@@ -171,13 +172,24 @@ fn a_stuck_peer_is_reported(rt: HostRuntime) -> Result<(), Fail> {
     Ok(())
 }
 
-/// Whether an entry that is left is told in these words.
-fn is_left(alloc: Global, kept: Kept, words: &str) -> Result<bool, Fail> {
+/// The text is this one. Want of memory for either fails.
+fn is_text<E>(rt: &impl Abort, text: &String, want: &Result<String, E>) {
+    match want {
+        Ok(want) => assert_eq!(rt; text.as_str(), want.as_str()),
+        Err(_) => assert!(rt; false, "no memory"),
+    }
+}
+
+/// An entry that is left is told in these words.
+fn is_left(rt: &impl Abort, alloc: Global, kept: Kept, words: &str) {
     let mut text = String::new(alloc);
     let added = add_peer(&mut text, 0, &[], &[], &[kept], 0, &[]);
-    added?;
-    let want = format!(in alloc; "peer 0\nleft{words}\ntrace\n")?;
-    Ok(text.as_str() == want.as_str())
+    assert!(rt; added.is_ok());
+    is_text(
+        rt,
+        &text,
+        &format!(in alloc; "peer 0\nleft{words}\ntrace\n"),
+    );
 }
 
 #[test]
@@ -189,7 +201,7 @@ fn messages_have_their_text(rt: HostRuntime) -> Result<(), Fail> {
         tagged: false,
         buf,
     };
-    assert!(rt; is_left(alloc, success(sent), " 1 FI_SEND")?);
+    is_left(&rt, alloc, success(sent), " 1 FI_SEND");
     let buf = Buf::copy(alloc, b"ab")?;
     let received = Entry::Received {
         ctx: 2,
@@ -200,7 +212,7 @@ fn messages_have_their_text(rt: HostRuntime) -> Result<(), Fail> {
         buf,
     };
     let words = " 2 FI_RECV from 3 data 4 len 1 bytes 61";
-    assert!(rt; is_left(alloc, success(received), words)?);
+    is_left(&rt, alloc, success(received), words);
     let hows = [
         (PeekHow::Peek, "FI_PEEK"),
         (PeekHow::Claim, "FI_CLAIM"),
@@ -216,7 +228,7 @@ fn messages_have_their_text(rt: HostRuntime) -> Result<(), Fail> {
             imm: Some(8),
             len: 9,
         };
-        assert!(rt; is_left(alloc, success(peeked), words.as_str())?);
+        is_left(&rt, alloc, success(peeked), words.as_str());
     }
     Ok(())
 }
@@ -237,7 +249,7 @@ fn parts_have_their_text(rt: HostRuntime) -> Result<(), Fail> {
         bytes,
     };
     let words = " 2 FI_RECV from 3 data 4 at 5 len 2 bytes 6162";
-    assert!(rt; is_left(alloc, kept, words)?);
+    is_left(&rt, alloc, kept, words);
     let lost = Entry::Part {
         ctx: 2,
         source: 3,
@@ -246,14 +258,14 @@ fn parts_have_their_text(rt: HostRuntime) -> Result<(), Fail> {
         len: 2,
     };
     let words = " 2 FI_RECV from 3 at 5 len 2 bytes -";
-    assert!(rt; is_left(alloc, success(lost), words)?);
+    is_left(&rt, alloc, success(lost), words);
     let buf = Buf::copy(alloc, b"ab")?;
     let released = Entry::Released {
         ctx: 2,
         used: 5,
         buf,
     };
-    assert!(rt; is_left(alloc, success(released), " 2 FI_MULTI_RECV used 5")?);
+    is_left(&rt, alloc, success(released), " 2 FI_MULTI_RECV used 5");
     Ok(())
 }
 
@@ -262,19 +274,19 @@ fn requests_have_their_text(rt: HostRuntime) -> Result<(), Fail> {
     let alloc = rt.alloc();
     let buf = Buf::copy(alloc, b"ab")?;
     let read = Entry::Read { ctx: 4, buf };
-    assert!(rt; is_left(alloc, success(read), " 4 FI_READ len 2 bytes 6162")?);
+    is_left(&rt, alloc, success(read), " 4 FI_READ len 2 bytes 6162");
     let buf = Buf::copy(alloc, b"ab")?;
     let wrote = Entry::Wrote { ctx: 5, buf };
-    assert!(rt; is_left(alloc, success(wrote), " 5 FI_WRITE")?);
+    is_left(&rt, alloc, success(wrote), " 5 FI_WRITE");
     let updated = Entry::Updated { ctx: 6 };
-    assert!(rt; is_left(alloc, success(updated), " 6 FI_ATOMIC FI_WRITE")?);
+    is_left(&rt, alloc, success(updated), " 6 FI_ATOMIC FI_WRITE");
     let result = Buf::copy(alloc, b"ab")?;
     let fetched = Entry::Fetched { ctx: 7, result };
     let words = " 7 FI_ATOMIC FI_READ len 2 bytes 6162";
-    assert!(rt; is_left(alloc, success(fetched), words)?);
+    is_left(&rt, alloc, success(fetched), words);
     let remote = Entry::RemoteData { source: 8, imm: 9 };
     let words = " * FI_RMA FI_REMOTE_WRITE FI_REMOTE_CQ_DATA from 8 data 9";
-    assert!(rt; is_left(alloc, success(remote), words)?);
+    is_left(&rt, alloc, success(remote), words);
     Ok(())
 }
 
@@ -284,16 +296,16 @@ fn truncations_have_their_text(rt: HostRuntime) -> Result<(), Fail> {
     let buf = Some(Buf::copy(alloc, &[0xab, 0x0f, 0xff])?);
     let whole = truncated(None, Some(7), buf, None);
     let words = " 1 error FI_ETRUNC from 2 tag 7 data 9 len 2 olen 6 bytes ab0f";
-    assert!(rt; is_left(alloc, whole, words)?);
+    is_left(&rt, alloc, whole, words);
     let bytes = Some(Buf::copy(alloc, &[0xab, 0x0f, 0xff])?);
     let part = truncated(Some(4), None, None, bytes);
     let words = " 1 error FI_ETRUNC from 2 data 9 at 4 len 2 olen 6 bytes ab0fff";
-    assert!(rt; is_left(alloc, part, words)?);
+    is_left(&rt, alloc, part, words);
     Ok(())
 }
 
 #[test]
-fn failures_have_their_text(rt: HostRuntime) -> Result<(), Fail> {
+fn failures_have_their_text(rt: HostRuntime) {
     let rows = [
         (Some(1), ErrKind::NoMsg, " 1 error FI_ENOMSG"),
         (Some(1), ErrKind::Canceled, " 1 error FI_ECANCELED"),
@@ -302,48 +314,50 @@ fn failures_have_their_text(rt: HostRuntime) -> Result<(), Fail> {
         (Some(1), ErrKind::Range, " 1 error RANGE"),
     ];
     for (ctx, kind, words) in rows {
-        assert!(rt; is_left(rt.alloc(), failure(ctx, kind), words)?);
+        is_left(&rt, rt.alloc(), failure(ctx, kind), words);
     }
-    Ok(())
 }
 
-/// Whether what a `wait` did is told in these words.
-fn is_done(alloc: Global, outcome: LineResult, words: &str) -> Result<bool, Fail> {
+/// What a `wait` did is told in these words.
+fn is_done(rt: &impl Abort, alloc: Global, outcome: LineResult, words: &str) {
     let mut text = String::new(alloc);
-    let lines = [Line {
+    let wait = Line {
         number: 4,
         op: LineOp::Wait { ctx: None },
-    }];
-    let added = add_peer(&mut text, 0, &lines, &[outcome], &[], 0, &[]);
-    added?;
-    let want = format!(in alloc; "peer 0\n4 wait{words}\ntrace\n")?;
-    Ok(text.as_str() == want.as_str())
+    };
+    let added = add_peer(&mut text, 0, &[wait], &[outcome], &[], 0, &[]);
+    assert!(rt; added.is_ok());
+    is_text(
+        rt,
+        &text,
+        &format!(in alloc; "peer 0\n4 wait{words}\ntrace\n"),
+    );
 }
 
 #[test]
 fn results_have_their_text(rt: HostRuntime) -> Result<(), Fail> {
     let alloc = rt.alloc();
-    assert!(rt; is_done(alloc, LineResult::Done, " ok")?);
+    is_done(&rt, alloc, LineResult::Done, " ok");
     let waited = LineResult::Waited(failure(Some(1), ErrKind::NoMsg));
-    assert!(rt; is_done(alloc, waited, " 1 error FI_ENOMSG")?);
+    is_done(&rt, alloc, waited, " 1 error FI_ENOMSG");
     let none = LineResult::Index(None);
-    assert!(rt; is_done(alloc, none, " FI_ADDR_NOTAVAIL")?);
+    is_done(&rt, alloc, none, " FI_ADDR_NOTAVAIL");
     let index = LineResult::Index(Some(2));
-    assert!(rt; is_done(alloc, index, " index 2")?);
+    is_done(&rt, alloc, index, " index 2");
     let count = LineResult::Count {
         ok: u64::MAX,
         err: 1,
     };
-    assert!(rt; is_done(alloc, count, " ok 18446744073709551615 err 1")?);
+    is_done(&rt, alloc, count, " ok 18446744073709551615 err 1");
     let bytes = LineResult::Bytes(Buf::copy(alloc, &[0, 0x0a])?);
-    assert!(rt; is_done(alloc, bytes, " 000a")?);
+    is_done(&rt, alloc, bytes, " 000a");
     let empty = LineResult::Bytes(Buf::empty(alloc));
-    assert!(rt; is_done(alloc, empty, " -")?);
+    is_done(&rt, alloc, empty, " -");
     Ok(())
 }
 
 #[test]
-fn refusals_have_their_text(rt: HostRuntime) -> Result<(), Fail> {
+fn refusals_have_their_text(rt: HostRuntime) {
     let rows = [
         (Fault::Again(Busy::TxFull(1)), " refused FI_EAGAIN"),
         (Fault::NoMemory, " refused FI_ENOMEM"),
@@ -357,7 +371,6 @@ fn refusals_have_their_text(rt: HostRuntime) -> Result<(), Fail> {
         (Fault::Avail, " refused FI_EAVAIL"),
     ];
     for (fault, words) in rows {
-        assert!(rt; is_done(rt.alloc(), LineResult::Refused(fault), words)?);
+        is_done(&rt, rt.alloc(), LineResult::Refused(fault), words);
     }
-    Ok(())
 }

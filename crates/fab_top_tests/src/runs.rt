@@ -2,6 +2,7 @@
 use fab_base::{Buf, Gate, Status, Text, Why};
 use fab_top::{MemoryClock, MemoryDepot, MemorySink, run};
 use std::alloc::Global;
+use std::process::Abort;
 use std::sync::Wait;
 use std::test::Fail;
 use std::thread::Threads;
@@ -183,43 +184,95 @@ fn sink_of(alloc: Global) -> MemorySink {
     MemorySink::new(alloc, 1000, Vec::new(alloc))
 }
 
-/// How the command of these words ends.
-fn ends<R: Threads + Wait + Sync>(
-    rt: &R,
-    alloc: Global,
-    words: &[&str],
-    depot: &mut MemoryDepot,
-    sink: &mut MemorySink,
-) -> Result<Status, Fail> {
+/// These words.
+fn texts_of(alloc: Global, words: &[&str]) -> Result<Vec<Text>, Fail> {
     let mut texts = Vec::new(alloc);
     for word in words {
         texts.push(Text::copy(alloc, word)?)?;
     }
+    Ok(texts)
+}
+
+/// How the command of these words ends.
+fn end_of<R: Threads + Wait + Sync>(
+    rt: &R,
+    alloc: Global,
+    words: &[Text],
+    depot: &mut MemoryDepot,
+    sink: &mut MemorySink,
+) -> Status {
     let mut clock = MemoryClock::new(Vec::new(alloc));
-    Ok(run(rt, alloc, &texts, depot, sink, &mut clock, &OpenGate))
+    run(rt, alloc, words, depot, sink, &mut clock, &OpenGate)
+}
+
+/// Whether the end names this file as one that could not be read.
+fn is_read_fault(end: &Status, file: &str) -> bool {
+    match end {
+        Status::ReadFault { name } => name.as_str() == file,
+        _ => false,
+    }
+}
+
+/// Whether the end names this file as one that is too long.
+fn is_too_long(end: &Status, file: &str) -> bool {
+    match end {
+        Status::TooLong { name } => name.as_str() == file,
+        _ => false,
+    }
+}
+
+/// Scripts, their reports, and whether all lines are done.
+const ROWS: [(&str, &str, bool); 8] = [
+    (NO_LINES, NO_LINES_REPORT, true),
+    (CANCELED, CANCELED_REPORT, true),
+    (HELLO, HELLO_REPORT, true),
+    (ITSELF, ITSELF_REPORT, true),
+    (IN_ORDER, IN_ORDER_REPORT, true),
+    (CUT, CUT_REPORT, true),
+    (NO_BYTES, NO_BYTES_REPORT, true),
+    (WAITING, WAITING_REPORT, false),
+];
+
+/// A script runs to its report.
+fn runs_to<R: Abort + Threads + Wait + Sync>(
+    rt: &R,
+    alloc: Global,
+    words: &[Text],
+    row: (&str, &str, bool),
+) -> Result<(), Fail> {
+    let (script, report, is_done) = row;
+    let bytes = Buf::copy(alloc, script.as_bytes())?;
+    let mut depot = depot_of(alloc, bytes, &[])?;
+    let mut sink = sink_of(alloc);
+    let end = end_of(rt, alloc, words, &mut depot, &mut sink);
+    assert_eq!(rt; sink.bytes.as_slice(), report.as_bytes());
+    assert_eq!(rt; end == Status::Done, is_done);
+    assert_eq!(rt; end == Status::Stuck, !is_done);
+    Ok(())
 }
 
 #[test]
 fn scripts_run_to_their_reports(rt: HostRuntime) -> Result<(), Fail> {
-    let rows = [
-        (NO_LINES, NO_LINES_REPORT, true),
-        (CANCELED, CANCELED_REPORT, true),
-        (HELLO, HELLO_REPORT, true),
-        (ITSELF, ITSELF_REPORT, true),
-        (IN_ORDER, IN_ORDER_REPORT, true),
-        (CUT, CUT_REPORT, true),
-        (NO_BYTES, NO_BYTES_REPORT, true),
-        (WAITING, WAITING_REPORT, false),
-    ];
-    for (script, report, is_done) in rows {
-        let bytes = Buf::copy(rt.alloc(), script.as_bytes())?;
-        let mut depot = depot_of(rt.alloc(), bytes, &[])?;
-        let mut sink = sink_of(rt.alloc());
-        let end = ends(&rt, rt.alloc(), &["script", "it"], &mut depot, &mut sink)?;
-        assert_eq!(rt; sink.bytes.as_slice(), report.as_bytes());
-        assert_eq!(rt; end == Status::Done, is_done);
-        assert_eq!(rt; end == Status::Stuck, !is_done);
+    let words = texts_of(rt.alloc(), &["script", "it"])?;
+    for row in ROWS {
+        runs_to(&rt, rt.alloc(), &words, row)?;
     }
+    Ok(())
+}
+
+/// The words are no command, and nothing is loaded or written.
+fn is_no_command<R: Abort + Threads + Wait + Sync>(
+    rt: &R,
+    alloc: Global,
+    words: &[&str],
+) -> Result<(), Fail> {
+    let words = texts_of(alloc, words)?;
+    let bytes = Buf::copy(alloc, HELLO.as_bytes())?;
+    let mut depot = depot_of(alloc, bytes, &[])?;
+    let mut sink = sink_of(alloc);
+    let end = end_of(rt, alloc, &words, &mut depot, &mut sink);
+    assert!(rt; end == Status::Usage);
+    assert_eq!(rt; (depot.calls, sink.calls), (0, 0));
     Ok(())
 }
 
@@ -233,34 +286,30 @@ fn other_words_are_no_command(rt: HostRuntime) -> Result<(), Fail> {
         &["script", "it", "it"],
     ];
     for words in rows {
-        let bytes = Buf::copy(rt.alloc(), HELLO.as_bytes())?;
-        let mut depot = depot_of(rt.alloc(), bytes, &[])?;
-        let mut sink = sink_of(rt.alloc());
-        let end = ends(&rt, rt.alloc(), words, &mut depot, &mut sink)?;
-        assert!(rt; end == Status::Usage);
-        assert_eq!(rt; (depot.calls, sink.calls), (0, 0));
+        is_no_command(&rt, rt.alloc(), words)?;
     }
     Ok(())
 }
 
 #[test]
 fn a_failed_load_is_told_by_its_name(rt: HostRuntime) -> Result<(), Fail> {
+    let words = texts_of(rt.alloc(), &["script", "it"])?;
     let bytes = Buf::copy(rt.alloc(), HELLO.as_bytes())?;
     let mut depot = depot_of(rt.alloc(), bytes, &[1])?;
     let mut sink = sink_of(rt.alloc());
-    let name = Text::copy(rt.alloc(), "it")?;
-    let end = ends(&rt, rt.alloc(), &["script", "it"], &mut depot, &mut sink)?;
-    assert!(rt; end == Status::ReadFault { name });
+    let end = end_of(&rt, rt.alloc(), &words, &mut depot, &mut sink);
+    assert!(rt; is_read_fault(&end, "it"));
     assert_eq!(rt; (depot.faults, sink.calls), (1, 0));
     Ok(())
 }
 
 #[test]
 fn a_script_of_a_line_that_is_not_built_is_refused(rt: HostRuntime) -> Result<(), Fail> {
+    let words = texts_of(rt.alloc(), &["script", "it"])?;
     let bytes = Buf::copy(rt.alloc(), UNBUILT.as_bytes())?;
     let mut depot = depot_of(rt.alloc(), bytes, &[])?;
     let mut sink = sink_of(rt.alloc());
-    let end = ends(&rt, rt.alloc(), &["script", "it"], &mut depot, &mut sink)?;
+    let end = end_of(&rt, rt.alloc(), &words, &mut depot, &mut sink);
     let why = Why::Unbuilt;
     assert!(rt; end == Status::ScriptRefused { line: 4, why });
     assert_eq!(rt; sink.calls, 0);
@@ -269,11 +318,12 @@ fn a_script_of_a_line_that_is_not_built_is_refused(rt: HostRuntime) -> Result<()
 
 #[test]
 fn a_sink_that_fails_has_the_first_bytes(rt: HostRuntime) -> Result<(), Fail> {
+    let words = texts_of(rt.alloc(), &["script", "it"])?;
+    let failing = Vec::from_slice(rt.alloc(), &[2])?;
     let bytes = Buf::copy(rt.alloc(), HELLO.as_bytes())?;
     let mut depot = depot_of(rt.alloc(), bytes, &[])?;
-    let failing = Vec::from_slice(rt.alloc(), &[2])?;
     let mut sink = MemorySink::new(rt.alloc(), 5, failing);
-    let end = ends(&rt, rt.alloc(), &["script", "it"], &mut depot, &mut sink)?;
+    let end = end_of(&rt, rt.alloc(), &words, &mut depot, &mut sink);
     assert!(rt; end == Status::WriteFault);
     assert_eq!(rt; sink.bytes.as_slice(), b"fabri".as_slice());
     assert_eq!(rt; sink.faults, 1);
@@ -282,12 +332,12 @@ fn a_sink_that_fails_has_the_first_bytes(rt: HostRuntime) -> Result<(), Fail> {
 
 #[test]
 fn a_file_past_the_limit_is_too_long(rt: HostRuntime) -> Result<(), Fail> {
+    let words = texts_of(rt.alloc(), &["script", "it"])?;
     let bytes = Buf::zeros(rt.alloc(), 67_108_865)?;
     let mut depot = depot_of(rt.alloc(), bytes, &[])?;
     let mut sink = sink_of(rt.alloc());
-    let name = Text::copy(rt.alloc(), "it")?;
-    let end = ends(&rt, rt.alloc(), &["script", "it"], &mut depot, &mut sink)?;
-    assert!(rt; end == Status::TooLong { name });
+    let end = end_of(&rt, rt.alloc(), &words, &mut depot, &mut sink);
+    assert!(rt; is_too_long(&end, "it"));
     assert_eq!(rt; sink.calls, 0);
     Ok(())
 }

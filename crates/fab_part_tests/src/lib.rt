@@ -1,0 +1,13 @@
+//! Tests of the parts that know one subject each: atomics, the completion queue and the counters, negotiation, regions.
+//!
+//! They stand in a crate of their own, so that none of the parts is proved twice.
+#![tactic(auto)]
+
+#[cfg(test)]
+mod atomics;
+#[cfg(test)]
+mod completions;
+#[cfg(test)]
+mod negotiation;
+#[cfg(test)]
+mod regions;

@@ -1,0 +1,7 @@
+//! Tests of the receive half, `fab_rx`.
+//!
+//! They stand in a crate of their own, so that `fab_rx` isn't proved twice.
+#![tactic(auto)]
+
+#[cfg(test)]
+mod messages;
