@@ -5,3 +5,6 @@ pub mod Told
 pub mod Clauses
 pub mod Making
 pub mod Samples
+pub mod Lasts
+pub mod Joined
+pub mod Releasing

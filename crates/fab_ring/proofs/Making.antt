@@ -40,12 +40,12 @@ fresh_new n room pool me d = let here : in_at (new_part n room pool me) d ≡ ne
   empty_seen = ap (λ (z : In). z.empty_seen) here;
 }
 
-pub made_all : (f : Fabric) (ports : List RingPort) → length ports ≡ f.peers → ((k : ℕ) (p : RingPort) → slice_get ports k ≡ Some p → IsMade f k p) → AreMade f.peers f.room f.pool f.table.shared.table_id ports
+pub made_all : (f : Fabric) (ports : List RingPort) → length ports ≡ f.peers → ((k : ℕ) (p : RingPort) → slice_get ports k ≡ Some p → IsMade f k p) → AreMade f.peers f.room f.pool f ports
 made_all f ports count each = record {
   count = count;
   numbers = λ k p e. (each k p e).0;
   sizes = λ k p e. let is = (each k p e).1 in (ap (λ t. t.peers) is, ap (λ t. t.room) is, ap (λ t. t.pool) is);
-  tables = λ k p e. ap (λ t. t.table.shared.table_id) (each k p e).1;
+  tables = λ k p e. (each k p e).1;
   fresh = λ k p e. let is = (each k p e).2 in (ap (λ (z : Part). z.moves) is, λ d. subst (λ (z : Part). AreFresh (outgoing (out_at z d)) (incoming (in_at z d))) (sym is) (fresh_new f.peers f.room f.pool k d));
 }
 
