@@ -54,3 +54,11 @@ get_push [] x y zero F old new e = subst (F 0) (same_Some x y e) new
 get_push [] x y (suc k) F old new e = absurd (none-some y e)
 get_push (z ∷ zs) x y zero F old new e = old 0 y e
 get_push (z ∷ zs) x y (suc k) F old new e = get_push zs x y k (λ n w. F (suc n) w) (λ n w h. old (suc n) w h) new e
+
+-- two lists whose members belong together, one more each
+pub paired_more : {A B : Type 0} (xs : List A) (bs bs' : List B) (n : ℕ) (a : A) (b : B) (R : A → B → Type 0) → length bs ≡ n → slice_get xs n ≡ Some a → bs' ≡ bs ++ b ∷ [] → R a b
+    → ((k : ℕ) (x : A) (y : B) → slice_get xs k ≡ Some x → slice_get bs k ≡ Some y → R x y) → (k : ℕ) (x : A) (y : B) → slice_get xs k ≡ Some x → slice_get bs' k ≡ Some y → R x y
+paired_more {A = A} {B = B} xs bs bs' n a b R long there grown new old k x y e e' = get_push bs b y k (λ (j : ℕ) (z : B). (w : A) → slice_get xs j ≡ Some w → R w z)
+    (λ j z at w at'. old j w z at' at)
+    (λ w at. subst (λ (v : A). R v b) (same_Some a w (sym there ∙ ap (slice_get xs) (sym long) ∙ at)) new)
+    (ap (λ (l : List B). slice_get l k) (sym grown) ∙ e') x e
