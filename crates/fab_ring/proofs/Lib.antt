@@ -8,3 +8,4 @@ pub mod Samples
 pub mod Lasts
 pub mod Joined
 pub mod Releasing
+pub mod Lanes

@@ -1,5 +1,5 @@
 //! Lanes emptied through the seat that speaks for all peers.
-ghost use Rattle.std.specs.Prelude.{◌≡◌, ℕ, ◌+◌, ◌<◌, ◌≤◌, ◌^◌, ◌++◌, ◌∷◌, [], length, take, drop, None, Some, slice_get, slice_index_or};
+ghost use Rattle.std.specs.Prelude.{◌≡◌, ℕ, ◌+◌, ◌<◌, ◌≤◌, ◌^◌, ◌++◌, ◌∷◌, List, [], length, take, Option, None};
 ghost use Rattle.fab_base.specs.declared.frames.FrameHead.{FrameHead};
 ghost use Rattle.fab_wire.specs.Frames.{last_head, IsLane, MayCome};
 ghost use Rattle.fab_link.specs.Plain.{lane_at};
