@@ -9,3 +9,4 @@ pub mod Lasts
 pub mod Joined
 pub mod Releasing
 pub mod Lanes
+pub mod Coming
