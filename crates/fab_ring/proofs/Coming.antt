@@ -82,3 +82,59 @@ pub get_set_here : {X : Type 0} (xs : List X) (i : ℕ) (x y : X) → slice_get 
 get_set_here [] i x y e = absurd (none-some y e)
 get_set_here (z ∷ zs) zero x y e = same_Some x y e
 get_set_here (z ∷ zs) (suc i) x y e = get_set_here zs i x y e
+
+-- room for what is inside a lane stays so, as long as the lane does
+pub awaits_later : (s t : PeerSeat) (r e : ℕ) (i : Inside) → Awaits s r e i → (in_of t r e).taken ≡ (in_of s r e).taken → (part_of t e).outs ≡ (part_of s e).outs → Awaits t r e i
+awaits_later s t r e i a taken outs = record {
+  taken = a.taken ∙ ap length (sym taken);
+  spares = a.spares ∙ sym (posted_same s t e r outs);
+  sizes = a.sizes;
+  room = a.room;
+}
+
+pub leads_later : (s t : PeerSeat) (r e : ℕ) (before : Option FrameHead) (fs : List Frame) → Leads s r e before fs → (in_of t r e).taken ≡ (in_of s r e).taken → Leads t r e before fs
+leads_later s t r e before fs l taken = record { cut = l.cut; goes_on = l.goes_on ∙ ap (λ (xs : List Sent). last_head None (frames_of xs)) (sym taken) }
+
+pub awaits_each_later : (s t : PeerSeat) (p : Plain) (rooms : List Inside) → AwaitsEach s p rooms → part_of t p.number ≡ part_of s p.number → ((k : ℕ) → (part_of t k).outs ≡ (part_of s k).outs) → AwaitsEach t p rooms
+awaits_each_later s t p rooms a same outs = let taken : (e : ℕ) → (in_of t p.number e).taken ≡ (in_of s p.number e).taken = λ e. ap (λ (z : Part). (in_at z e).taken) same in record {
+  count = a.count;
+  each = λ e i there. awaits_later s t p.number e i (a.each e i there) (taken e) (outs e);
+  leads = λ e i there. leads_later s t p.number e (lane_at p e).in_after i.frames.items (a.leads e i there) (taken e);
+  none = a.none;
+}
+
+abbrev with_in_list : Lane → List Frame → Lane
+with_in_list lane xs = record lane { in_list = xs }
+
+-- frames came to one lane of a plain port
+module _ (p₀ p q : Plain) (e : ℕ) (fs : List Frame) (near : e < length p.lanes) (is : q ≡ with_lane p e (record (lane_at p e) { in_list = fs })) where
+  pub adopted_here : lane_at q e ≡ record (lane_at p e) { in_list = fs }
+  adopted_here = ap (λ (z : Plain). lane_at z e) is ∙ lane_here p e (record (lane_at p e) { in_list = fs }) near
+
+  pub adopted_else : (d : ℕ) → d ≢ e → lane_at q d ≡ lane_at p d
+  adopted_else d ne = ap (λ (z : Plain). lane_at z d) is ∙ lane_else p e d (record (lane_at p e) { in_list = fs }) ne
+
+  pub adopted_count : length q.lanes ≡ length p.lanes
+  adopted_count = ap (λ (z : Plain). length z.lanes) is ∙ length-set p.lanes e (record (lane_at p e) { in_list = fs })
+
+  pub adopted_lanes : ((d : ℕ) → lane_at p d ≡ record (lane_at p₀ d) { in_list = (lane_at p d).in_list }) → (d : ℕ) → lane_at q d ≡ record (lane_at p₀ d) { in_list = (lane_at q d).in_list }
+  adopted_lanes all d = dite (ℕ_discrete d e)
+      (λ same. subst (λ (z : ℕ). lane_at q z ≡ record (lane_at p₀ z) { in_list = (lane_at q z).in_list }) (sym same)
+      (adopted_here ∙ ap (λ (z : Lane). with_in_list z fs) (all e) ∙ (λ i. with_in_list (lane_at p₀ e) (sym (ap (λ (z : Lane). z.in_list) adopted_here) i))))
+      (λ ne. adopted_else d ne ∙ all d ∙ (λ i. with_in_list (lane_at p₀ d) (sym (ap (λ (z : Lane). z.in_list) (adopted_else d ne)) i)))
+
+pub brought_from : (s s' t : PeerSeat) (p q : Plain) (rooms : List Inside) → Brought s' t p q rooms → part_of s' p.number ≡ part_of s p.number → Brought s t p q rooms
+brought_from s s' t p q rooms b same = record {
+  number = b.number;
+  count = b.count;
+  same = b.same;
+  each = λ e i there. emptied_from s s' t p.number e i (lane_at q e).in_list (b.each e i there) (ap (λ (z : Part). (in_at z e).taken) same);
+}
+
+pub brought_later : (s t u : PeerSeat) (p q : Plain) (rooms : List Inside) → Brought s t p q rooms → part_of u p.number ≡ part_of t p.number → ((k : ℕ) → (part_of u k).outs ≡ (part_of t k).outs) → Brought s u p q rooms
+brought_later s t u p q rooms b same outs = record {
+  number = b.number;
+  count = b.count;
+  same = b.same;
+  each = λ e i there. emptied_later s t u p.number e i (lane_at q e).in_list (b.each e i there) (ap (λ (z : Part). (in_at z e).taken) same) (outs e);
+}
