@@ -10,3 +10,4 @@ pub mod Joined
 pub mod Releasing
 pub mod Lanes
 pub mod Coming
+pub mod Wholes

@@ -130,7 +130,7 @@ pub record AreAllRooms (ports : List RingPort) (rooms : List (Vec Inside Global)
 -- a plain port that goes on where a port ended, and to which nothing came yet
 pub record Succeeds (p : RingPort) (q : Plain) : Type 0 where
   pub goes_on : GoesOn p q
-  pub none : (s : ℕ) → (lane_at q s).in_list ≡ []
+  pub lanes : (s : ℕ) → lane_at q s ≡ fresh_lane (lane_at q s).out.after (lane_at q s).in_after
 
 pub record AreSuccessors (ports : List RingPort) (all : List Plain) : Type 0 where
   pub count : length all ≡ length ports
