@@ -2,8 +2,7 @@
 //!
 //! `lane_bench measure` prints a table: for messages of 1, 64 and 4,096 bytes a ping-pong, as the time of one
 //! way, and a stream one way in windows of 16 with an acknowledgement, as the time of one message. Each is the
-//! best and the median of 200 short runs. `lane_bench` alone makes few runs and prints how many messages came,
-//! which is the same each time.
+//! best and the median of 200 short runs. `lane_bench` alone makes two runs of each and prints no time.
 #![tactic(auto)]
 
 mod end;
@@ -11,12 +10,18 @@ mod runs;
 mod table;
 
 use crate::end::End;
-use crate::runs::{Plan, Samples, first, second};
+use crate::runs::{Bytes, Times, first, second};
 use crate::table::print_table;
-use fab_ring::Rings;
+use fab_ring::{RingPort, Rings};
 use std::env;
 use std::io;
 use std::thread;
+
+ghost use Rattle.std.specs.Prelude.{IfSome};
+ghost use Rattle.fab_ring.specs.Made.{IsNew, AreNew};
+
+/// How many runs of each exchange a measurement has.
+const RUNS: u64 = 200;
 
 /// Whether the first word asks for the table.
 fn is_measured(rt: &HostRuntime) -> io::Result<bool> {
@@ -28,11 +33,43 @@ fn is_measured(rt: &HostRuntime) -> io::Result<bool> {
     Ok(word.as_str() == "measure")
 }
 
-fn main(rt: HostRuntime) -> io::Result<()> {
-    let measured = is_measured(&rt)?;
-    let plan = if measured { Plan::full() } else { Plan::short() };
-    let Ok(rings) = Rings::new(rt.alloc(), 2, 64, 64) else {
-        return Ok(());
+/// The last of some new ports.
+fn last(ports: &mut Vec<RingPort>, peers: u32) -> Option<RingPort>
+    requires { AreNew peers ports.old.items }
+    ensures rest { AreNew peers ports.new.items }
+    ensures new { IfSome result (IsNew peers) }
+{
+    ports.pop()
+}
+
+/// The times of all exchanges between two threads.
+fn measured(rt: &HostRuntime, runs: u64) -> io::Result<Vec<Times>> {
+    let alloc = rt.alloc();
+    let Ok(rings) = Rings::new(alloc, 2, 64, 64) else {
+        return Ok(Vec::new(alloc));
     };
-    Ok(())
+    let Ok(mut ports) = rings.ports(alloc) else {
+        return Ok(Vec::new(alloc));
+    };
+    let (Some(right), Some(left)) = (last(&mut ports, 2), last(&mut ports, 2)) else {
+        return Ok(Vec::new(alloc));
+    };
+    let (left, right) = (End::new(left, 1), End::new(right, 0));
+    let mine = Bytes::new(alloc)?;
+    let other = Bytes::new(alloc)?;
+    let (all, _) = thread::join(
+        rt,
+        || -> io::Result<Vec<Times>> { first(rt, alloc, left, mine, runs) },
+        || -> () { second(rt, right, other, runs) },
+    );
+    all
+}
+
+fn main(rt: HostRuntime) -> io::Result<()> {
+    if is_measured(&rt)? {
+        let all = measured(&rt, RUNS)?;
+        return print_table(&rt, all);
+    }
+    let all = measured(&rt, 2)?;
+    println!(rt; "{} exchanges", all.len())
 }
