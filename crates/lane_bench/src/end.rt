@@ -1,7 +1,8 @@
 //! A port that speaks with one other peer.
-ghost use Rattle.std.specs.Prelude.{◌≡◌, ◌<◌, ◌≤◌, ◌+◌, ℕ, Some, length};
-ghost use Rattle.fab_base.specs.declared.frames.FrameHead.{FrameHead};
+ghost use Rattle.std.specs.Prelude.{◌≡◌, ◌<◌, ◌≤◌, ℕ, length};
+ghost use Rattle.lane_bench.specs.Between.{AreBetween};
 ghost use Rattle.fab_wire.specs.Frames.{IsSound};
+ghost use Rattle.fab_wire.specs.Cut.{IsBetweenItems};
 ghost use Rattle.fab_link.specs.Meaning.{end_of};
 ghost use Rattle.fab_ring.specs.Ports.{peers_of, out_of};
 
@@ -15,7 +16,7 @@ pub struct End {
     port: RingPort,
     other: u32,
     ghost below: { other < peers_of port },
-    ghost between: { (d : ℕ) (h : FrameHead) → end_of (out_of port d) ≡ Some h → h.from + h.len ≡ h.item.total },
+    ghost between: { AreBetween (out_of port) },
 }
 
 /// The head of the one frame of a tagged message.
@@ -46,11 +47,37 @@ fn whole(tag: u64, total: u32) -> FrameHead
     }
 }
 
+/// Posts a message of one frame.
+fn post(port: &mut RingPort, dest: u32, bytes: &[u8]) -> bool
+    requires below { dest < peers_of port.old }
+    requires short { length bytes.now ≤ 4096 }
+    requires between { (d : ℕ) → IsBetweenItems (end_of (out_of port.old d)) }
+    ensures peers { peers_of port.new ≡ peers_of port.old }
+    ensures between { (d : ℕ) → IsBetweenItems (end_of (out_of port.new d)) }
+{
+    port.post(dest, whole(7, bytes.len() as u32), bytes).is_ok()
+}
+
+/// Copies the next frame of a peer and steps over it.
+fn copy_next(port: &mut RingPort, src: u32, into: &mut [u8]) -> bool
+    requires { src < peers_of port.old }
+    ensures peers { peers_of port.new ≡ peers_of port.old }
+    ensures out { out_of port.new ≡ out_of port.old }
+{
+    let Some(frame) = port.front(src) else {
+        return false;
+    };
+    let len = frame.bytes.len().min(into.len());
+    into[..len].copy_from_slice(&frame.bytes[..len]);
+    port.advance(src);
+    true
+}
+
 impl End {
-    /// The end towards this peer of a port over which nothing was posted.
+    /// The end towards this peer of a port all of whose lanes end with a whole item.
     pub fn new(port: RingPort, other: u32) -> End
         requires below { other < peers_of port }
-        requires between { (d : ℕ) (h : FrameHead) → end_of (out_of port d) ≡ Some h → h.from + h.len ≡ h.item.total }
+        requires between { (d : ℕ) → IsBetweenItems (end_of (out_of port d)) }
     {
         End { port, other }
     }
@@ -60,18 +87,11 @@ impl End {
         if bytes.len() > 4096 {
             return false;
         }
-        let head = whole(7, bytes.len() as u32);
-        self.port.post(self.other, head, bytes).is_ok()
+        post(&mut self.port, self.other, bytes)
     }
 
     /// Copies the next message, and answers whether there was one.
     pub fn take(&mut self, into: &mut [u8]) -> bool {
-        let Some(frame) = self.port.front(self.other) else {
-            return false;
-        };
-        let len = frame.bytes.len().min(into.len());
-        into[..len].copy_from_slice(&frame.bytes[..len]);
-        self.port.advance(self.other);
-        true
+        copy_next(&mut self.port, self.other, into)
     }
 }

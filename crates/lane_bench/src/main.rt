@@ -13,9 +13,13 @@ use crate::end::End;
 use crate::runs::{Bytes, Times, first, second};
 use crate::table::print_table;
 use fab_ring::{RingPort, Rings};
+use std::alloc::Global;
 use std::env;
 use std::io;
+use std::sync::Wait;
 use std::thread;
+use std::thread::Threads;
+use std::time::Clock;
 
 ghost use Rattle.std.specs.Prelude.{IfSome};
 ghost use Rattle.fab_ring.specs.Made.{IsNew, AreNew};
@@ -43,18 +47,25 @@ fn last(ports: &mut Vec<RingPort>, peers: u32) -> Option<RingPort>
 }
 
 /// The times of all exchanges between two threads.
-fn measured(rt: &HostRuntime, runs: u64) -> io::Result<Vec<Times>> {
-    let alloc = rt.alloc();
+fn measured<R: Clock + Threads + Wait + Sync>(
+    rt: &R,
+    alloc: Global,
+    runs: u64,
+) -> io::Result<Vec<Times>> {
     let Ok(rings) = Rings::new(alloc, 2, 64, 64) else {
         return Ok(Vec::new(alloc));
     };
     let Ok(mut ports) = rings.ports(alloc) else {
         return Ok(Vec::new(alloc));
     };
-    let (Some(right), Some(left)) = (last(&mut ports, 2), last(&mut ports, 2)) else {
+    let Some(right) = last(&mut ports, 2) else {
         return Ok(Vec::new(alloc));
     };
-    let (left, right) = (End::new(left, 1), End::new(right, 0));
+    let Some(left) = last(&mut ports, 2) else {
+        return Ok(Vec::new(alloc));
+    };
+    let right = End::new(right, 0);
+    let left = End::new(left, 1);
     let mine = Bytes::new(alloc)?;
     let other = Bytes::new(alloc)?;
     let (all, _) = thread::join(
@@ -67,9 +78,9 @@ fn measured(rt: &HostRuntime, runs: u64) -> io::Result<Vec<Times>> {
 
 fn main(rt: HostRuntime) -> io::Result<()> {
     if is_measured(&rt)? {
-        let all = measured(&rt, RUNS)?;
+        let all = measured(&rt, rt.alloc(), RUNS)?;
         return print_table(&rt, all);
     }
-    let all = measured(&rt, 2)?;
+    let all = measured(&rt, rt.alloc(), 2)?;
     println!(rt; "{} exchanges", all.len())
 }

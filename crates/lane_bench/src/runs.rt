@@ -141,7 +141,7 @@ fn timed<R: Wait + Clock>(
 }
 
 /// The times of so many runs of one exchange, after one that is not counted.
-fn times<R: Wait + Clock>(
+fn measure<R: Wait + Clock>(
     rt: &R,
     alloc: Global,
     end: &mut End,
@@ -172,7 +172,7 @@ pub fn first<R: Wait + Clock>(
 ) -> io::Result<Vec<Times>> {
     let mut all = Vec::new(alloc);
     for exchange in EXCHANGES.iter() {
-        let own = times(rt, alloc, &mut end, exchange, &mut bytes, runs)?;
+        let own = measure(rt, alloc, &mut end, exchange, &mut bytes, runs)?;
         all.push(own)?;
     }
     Ok(all)
