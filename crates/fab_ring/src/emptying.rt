@@ -119,12 +119,7 @@ fn empty_lane(
 }
 
 /// Takes all that is inside the lanes to one peer, as what came to its plain port.
-fn receive(
-    fabric: &Fabric,
-    seat: &mut PeerSeat,
-    port: &mut PlainPort,
-    mut rooms: Vec<Inside>,
-)
+fn receive(fabric: &Fabric, seat: &mut PeerSeat, port: &mut PlainPort, mut rooms: Vec<Inside>)
     requires joined { IsJoined fabric.now seat.old }
     requires port { (port.old.number < fabric.now.peers) × (length port.old.lanes ≡ fabric.now.peers) }
     requires awaits { AwaitsEach seat.old port.old rooms.items }

@@ -9,20 +9,18 @@ mod end;
 mod runs;
 mod table;
 
+ghost use Rattle.std.specs.Prelude.{IfSome};
+ghost use Rattle.fab_ring.specs.Made.{IsNew, AreNew};
+
 use crate::end::End;
 use crate::runs::{Bytes, Times, first, second};
 use crate::table::print_table;
 use fab_ring::{RingPort, Rings};
 use std::alloc::Global;
-use std::env;
-use std::io;
 use std::sync::Wait;
-use std::thread;
 use std::thread::Threads;
 use std::time::Clock;
-
-ghost use Rattle.std.specs.Prelude.{IfSome};
-ghost use Rattle.fab_ring.specs.Made.{IsNew, AreNew};
+use std::{env, io, thread};
 
 /// How many runs of each exchange a measurement has.
 const RUNS: u64 = 200;

@@ -39,9 +39,19 @@ pub fn print_line<R: Print>(rt: &R, mut times: Times) -> io::Result<()> {
     let len = times.exchange.len;
     let best = tenths(at(times.nanos.as_slice(), 0), count);
     let median = tenths(at(times.nanos.as_slice(), times.nanos.len() / 2), count);
-    let kind = if times.exchange.is_stream { "stream " } else { "one way" };
+    let kind = if times.exchange.is_stream {
+        "stream "
+    } else {
+        "one way"
+    };
     let (rate, bandwidth) = (rate(best), bandwidth(best, len));
-    println!(rt; "{kind} {len:>5} B  best {}.{} ns  median {}.{} ns  {rate} thousand/s  {bandwidth} MB/s", best / 10, best % 10, median / 10, median % 10)
+    println!(rt;
+        "{kind} {len:>5} B  best {}.{} ns  median {}.{} ns  {rate} thousand/s  {bandwidth} MB/s",
+        best / 10,
+        best % 10,
+        median / 10,
+        median % 10
+    )
 }
 
 /// Prints a line for each exchange.
