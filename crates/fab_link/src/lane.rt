@@ -1,6 +1,6 @@
 //! One peer's part of a plain port.
 ghost use Rattle.std.specs.Prelude.{◌≡◌, ◌≢◌, ℕ, ◌+◌, ◌^◌, ◌<◌, ◌≤◌, ◌++◌, ◌∷◌, [], length, take, drop, true, false, IfErr, IfSome, IfNone, MatchOption, OnOk, OnErr, IsTrue};
-ghost use Rattle.fab_wire.specs.Frames.{frame, last_head, MayCome};
+ghost use Rattle.fab_wire.specs.Frames.{frame, last_head, MayCome, IsLane};
 ghost use Rattle.fab_link.specs.Plain.{Lane, IsSoundLane, left, incoming, looked, lent_frames, fresh_lane};
 
 use fab_base::{Buf, Frame, FrameHead, FrameRef, NoMemory};
@@ -141,6 +141,15 @@ impl PlainLane {
             return Err(failed.value);
         }
         Ok(())
+    }
+
+    /// Takes these frames as the ones that came, where none came before. Takes no memory.
+    pub fn adopt(&mut self, frames: Vec<Frame>)
+        requires none { self.old.in_list ≡ [] }
+        requires cut { IsLane self.old.in_after frames.items }
+        ensures { self.new ≡ record self.old { in_list = frames.items } }
+    {
+        self.in_list = frames;
     }
 
     /// The oldest frame that was posted and not moved out.

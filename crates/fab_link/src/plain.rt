@@ -1,6 +1,6 @@
 //! The port over lists.
 ghost use Rattle.std.specs.Prelude.{IsErrOf, ◌≡◌, ◌≢◌, ℕ, ◌+◌, ◌^◌, ◌<◌, ◌≤◌, ◌++◌, ◌∷◌, [], length, replicate, true, false, None, Some, IfSome, IfNone, MatchOption, drop, slice_index_or, IfOk, IfErr, OnOk, OnErr, slice_set};
-ghost use Rattle.fab_wire.specs.Frames.{frame, last_head, MayCome, Continues};
+ghost use Rattle.fab_wire.specs.Frames.{frame, last_head, MayCome, Continues, IsLane};
 ghost use Rattle.fab_wire.specs.declared.moves.Move.TheVariants.{Post};
 ghost use Rattle.fab_link.specs.Meaning.{Others, end_of, Noticed, AreFresh, GrewBy};
 ghost use Rattle.fab_base.specs.Counts.{Rose};
@@ -96,6 +96,17 @@ impl PlainPort {
         ensures err { OnErr result (self.new ≡ self.old) }
     {
         self.lanes[src as usize].bring(frame)
+    }
+
+    /// Takes these frames as the ones that came from a peer, where none came before: the next ones of
+    /// their items, cut where an item is cut. Takes no memory.
+    pub fn adopt(&mut self, src: u32, frames: Vec<Frame>)
+        requires below { src < length self.old.lanes }
+        requires none { (lane_at self.old src).in_list ≡ [] }
+        requires continues { IsLane (lane_at self.old src).in_after frames.items }
+        ensures { self.new ≡ with_lane self.old src (record (lane_at self.old src) { in_list = frames.items }) }
+    {
+        self.lanes[src as usize].adopt(frames);
     }
 
     /// The oldest frame posted to a peer that was not moved out.

@@ -5,3 +5,9 @@ pub mod Told
 pub mod Clauses
 pub mod Making
 pub mod Samples
+pub mod Lasts
+pub mod Joined
+pub mod Releasing
+pub mod Lanes
+pub mod Coming
+pub mod Wholes

@@ -40,12 +40,12 @@ fresh_new n room pool me d = let here : in_at (new_part n room pool me) d ≡ ne
   empty_seen = ap (λ (z : In). z.empty_seen) here;
 }
 
-pub made_all : (f : Fabric) (ports : List RingPort) → length ports ≡ f.peers → ((k : ℕ) (p : RingPort) → slice_get ports k ≡ Some p → IsMade f k p) → AreMade f.peers f.room f.pool f.table.shared.table_id ports
+pub made_all : (f : Fabric) (ports : List RingPort) → length ports ≡ f.peers → ((k : ℕ) (p : RingPort) → slice_get ports k ≡ Some p → IsMade f k p) → AreMade f.peers f.room f.pool f ports
 made_all f ports count each = record {
   count = count;
   numbers = λ k p e. (each k p e).0;
   sizes = λ k p e. let is = (each k p e).1 in (ap (λ t. t.peers) is, ap (λ t. t.room) is, ap (λ t. t.pool) is);
-  tables = λ k p e. ap (λ t. t.table.shared.table_id) (each k p e).1;
+  tables = λ k p e. (each k p e).1;
   fresh = λ k p e. let is = (each k p e).2 in (ap (λ (z : Part). z.moves) is, λ d. subst (λ (z : Part). AreFresh (outgoing (out_at z d)) (incoming (in_at z d))) (sym is) (fresh_new f.peers f.room f.pool k d));
 }
 
@@ -54,3 +54,11 @@ get_push [] x y zero F old new e = subst (F 0) (same_Some x y e) new
 get_push [] x y (suc k) F old new e = absurd (none-some y e)
 get_push (z ∷ zs) x y zero F old new e = old 0 y e
 get_push (z ∷ zs) x y (suc k) F old new e = get_push zs x y k (λ n w. F (suc n) w) (λ n w h. old (suc n) w h) new e
+
+-- two lists whose members belong together, one more each
+pub paired_more : {A B : Type 0} (xs : List A) (bs bs' : List B) (n : ℕ) (a : A) (b : B) (R : A → B → Type 0) → length bs ≡ n → slice_get xs n ≡ Some a → bs' ≡ bs ++ b ∷ [] → R a b
+    → ((k : ℕ) (x : A) (y : B) → slice_get xs k ≡ Some x → slice_get bs k ≡ Some y → R x y) → (k : ℕ) (x : A) (y : B) → slice_get xs k ≡ Some x → slice_get bs' k ≡ Some y → R x y
+paired_more {A = A} {B = B} xs bs bs' n a b R long there grown new old k x y e e' = get_push bs b y k (λ (j : ℕ) (z : B). (w : A) → slice_get xs j ≡ Some w → R w z)
+    (λ j z at w at'. old j w z at' at)
+    (λ w at. subst (λ (v : A). R v b) (same_Some a w (sym there ∙ ap (slice_get xs) (sym long) ∙ at)) new)
+    (ap (λ (l : List B). slice_get l k) (sym grown) ∙ e') x e

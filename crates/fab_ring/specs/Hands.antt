@@ -4,9 +4,11 @@
 --     held p s              the places in hand for the frame of s that is open
 --     Fits                  what a port keeps agrees with what its seat knows
 --     Told                  the commands and buffers that a port keeps say its open frames
+--     Ends                  the heads that a port keeps are those of the last frames posted and taken
 --     Comes                 an open frame may come behind those taken
 use Rattle.std.specs.Prelude.{◌≡◌, ℕ, zero, suc, ◌+◌, ◌-◌, ◌*◌, ◌^◌, ◌<◌, ◌≤◌, Bool, true, false, List, [], ◌∷◌, ◌++◌, length, map, slice_index, slice_index_or, slice_get, Option, Some, None}
 use Rattle.std.specs.Option.{is_some}
+use Rattle.fab_base.specs.declared.frames.FrameHead.{FrameHead}
 use Rattle.fab_wire.specs.Frames.{last_head, MayCome}
 use Rattle.fab_table.specs.declared.kinds.Command.{Command}
 use Rattle.fab_table.specs.declared.kinds.Sent.{Sent}
@@ -92,6 +94,13 @@ pub record Told (peers : ℕ) (commands : List Command) (buffers : List (List �
   pub all_buffers : length buffers ≡ peers
   pub sizes : (s : ℕ) → s < peers → length (slice_index_or buffers s []) ≡ 4096
   pub says : (s : ℕ) (c : Command) (x : Sent) → slice_get commands s ≡ Some c → (in_at p s).opened ≡ Some x → Tells x c (slice_index_or buffers s [])
+
+-- the heads of the last frames posted and taken
+pub record Ends (peers : ℕ) (posted taken : List (Option FrameHead)) (p : Part) : Type 0 where
+  pub all_posted : length posted ≡ peers
+  pub all_taken : length taken ≡ peers
+  pub each_posted : (d : ℕ) → d < peers → slice_index_or posted d None ≡ last_head None (frames_of (out_at p d).posted)
+  pub each_taken : (s : ℕ) → s < peers → slice_index_or taken s None ≡ last_head None (frames_of (in_at p s).taken)
 
 abbrev pub Comes : Part → Type 0
 Comes p = (s : ℕ) (x : Sent) → (in_at p s).opened ≡ Some x → MayCome (last_head None (frames_of (in_at p s).taken)) x.frame

@@ -3,3 +3,4 @@ pub mod Alone
 pub mod Hands
 pub mod Ports
 pub mod Made
+pub mod Gather

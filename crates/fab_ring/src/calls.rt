@@ -60,6 +60,7 @@ impl RingPort {
             return Err(PostRefused::PoolFull);
         }
         self.puts[dest as usize] = put + 1;
+        self.posted_ends[dest as usize] = Some(head);
         self.clock += 1;
         Ok(())
     }
@@ -226,6 +227,7 @@ impl RingPort {
         self.fabric
             .give_back(&mut self.seat, 0, self.me as u64, src as u64, got);
         self.gots[src as usize] = got + 1;
+        self.taken_ends[src as usize] = Some(self.commands[src as usize].head);
         self.opened[src as usize] = false;
         self.clock = self.clock.max(number);
     }

@@ -1,6 +1,6 @@
 //! The port's calls, in the words of all ports.
 ghost use Rattle.std.specs.Prelude.{◌≡◌, ◌≢◌, ℕ, ◌+◌, ◌<◌, ◌≤◌, ◌⊎◌, ◌++◌, ◌∷◌, [], length, true, None, Some, IsErrOf, OnOk, OnErr, Ok, Err, slice_index};
-ghost use Rattle.atomic_table.specs.Seated.{TableId};
+ghost use Rattle.fab_table.specs.declared.fabric.Fabric.{Fabric};
 ghost use Rattle.fab_base.specs.Counts.{Rose};
 ghost use Rattle.fab_wire.specs.declared.moves.Move.TheVariants.{Post};
 ghost use Rattle.fab_wire.specs.Frames.{frame, Continues};
@@ -27,7 +27,7 @@ impl Port for RingPort {
 
     ghost moves = { λ p. Some (moves_of p) };
 
-    ghost Home = { TableId };
+    ghost Home = { Fabric };
 
     ghost home = { table_of };
 

@@ -3,9 +3,9 @@ ghost use Rattle.std.specs.Prelude.{◌≡◌, [], length};
 ghost use Rattle.std.specs.Arc.{arc_value};
 ghost use Rattle.fab_table.specs.Views.{part_at, everyone};
 ghost use Rattle.fab_table.specs.Seats.{IsOf};
-ghost use Rattle.fab_ring.specs.Hands.{shapes, Fits, Told, Comes};
+ghost use Rattle.fab_ring.specs.Hands.{shapes, Fits, Told, Ends, Comes};
 
-use fab_base::Buf;
+use fab_base::{Buf, FrameHead};
 use fab_table::{Command, Fabric, PeerSeat};
 use std::sync::Arc;
 
@@ -30,9 +30,13 @@ pub struct RingPort {
     /// By source: the open frame's command, and its buffer where it has a slot, else a spare one.
     pub(crate) commands: Vec<Command>,
     pub(crate) buffers: Vec<Buf>,
+    /// By peer: the head of the last frame that was posted to it, and of the last that was taken of it.
+    pub(crate) posted_ends: Vec<Option<FrameHead>>,
+    pub(crate) taken_ends: Vec<Option<FrameHead>>,
     ghost at: { IsOf (arc_value fabric) seat × (length seat.seat.me.0.parts ≡ 1) },
     ghost fits: { Fits me (arc_value fabric).peers (arc_value fabric).room (arc_value fabric).pool clock turn puts.items gots.items opened.items lent.items (part_at seat.seat.me.0 0) (shapes seat.seat.me.1) },
     ghost told: { Told (arc_value fabric).peers commands.items buffers.items (part_at seat.seat.me.0 0) },
+    ghost ends: { Ends (arc_value fabric).peers posted_ends.items taken_ends.items (part_at seat.seat.me.0 0) },
     ghost comes: { ∥ Comes (part_at seat.seat.me.0 0) ∥₁ },
 }
 

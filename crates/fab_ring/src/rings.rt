@@ -1,12 +1,12 @@
 //! How the ports of all peers are made.
-ghost use Rattle.std.specs.Prelude.{◌≡◌, ℕ, ◌+◌, ◌<◌, ◌≤◌, [], ◌∷◌, length, IfOk, slice_index_or};
+ghost use Rattle.std.specs.Prelude.{◌≡◌, ℕ, ◌+◌, ◌<◌, ◌≤◌, [], ◌∷◌, length, replicate, None, IfOk, slice_index_or};
 ghost use Rattle.std.specs.Arc.{arc_value};
 ghost use Rattle.fab_table.specs.Views.{new_part, view_of};
 ghost use Rattle.fab_table.specs.Seats.{IsOf, carried, view_of_seat};
 ghost use Rattle.fab_ring.specs.Made.{AreMade, IsMade, rings_peers, rings_room, rings_pool, rings_table};
 
 use crate::port::{RingPort, Rings};
-use fab_base::{Buf, NoMemory};
+use fab_base::{Buf, FrameHead, NoMemory};
 use fab_table::{Command, Fabric, PeerSeat, SLOT_BYTES, blank};
 use std::alloc::Global;
 use std::sync::Arc;
@@ -23,13 +23,24 @@ fn commands(alloc: Global, count: usize) -> Result<Vec<Command>, NoMemory>
 }
 
 /// So many buffers, each of the size of a pool's slot.
-fn buffers(alloc: Global, count: usize) -> Result<Vec<Buf>, NoMemory>
+pub(crate) fn buffers(alloc: Global, count: usize) -> Result<Vec<Buf>, NoMemory>
     ensures count { IfOk result (λ v. length v.items ≡ count) }
     ensures sizes { IfOk result (λ v. (s : ℕ) → s < count → length (slice_index_or v.items s []) ≡ 4096) }
 {
     let mut all = Vec::with_capacity(alloc, count)?;
     for _ in 0..count {
         all.push(Buf::zeros(alloc, SLOT_BYTES)?)?;
+    }
+    Ok(all)
+}
+
+/// No head of a frame, so many times.
+fn no_heads(alloc: Global, count: usize) -> Result<Vec<Option<FrameHead>>, NoMemory>
+    ensures { IfOk result (λ v. v.items ≡ replicate count None) }
+{
+    let mut all = Vec::with_capacity(alloc, count)?;
+    for _ in 0..count {
+        all.push(None)?;
     }
     Ok(all)
 }
@@ -53,6 +64,8 @@ impl RingPort {
         let lent = Vec::from_elem(alloc, false, peers)?;
         let commands = commands(alloc, peers)?;
         let buffers = buffers(alloc, peers)?;
+        let posted_ends = no_heads(alloc, peers)?;
+        let taken_ends = no_heads(alloc, peers)?;
         Ok(RingPort {
             fabric,
             seat,
@@ -65,6 +78,8 @@ impl RingPort {
             lent,
             commands,
             buffers,
+            posted_ends,
+            taken_ends,
         })
     }
 }

@@ -8,6 +8,6 @@ use Rattle.fab_ring.proofs.meaning.RingPortPort.front.Goals as goal
 pub returns : goal.returns
 returns c = let q = c.args.self.now in let n = c.look.new.self in let s : ℕ = c.args.src in let p : Part = part_at q.seat.seat.me.0 0 in
     let all = fronting p (part_at n.seat.seat.me.0 0) s c.lent.result (subst (λ (z : ℕ). s < z) (sym q.fits.all_ins) c.requires.below) (comes_now p q.comes) c.look.ensures.same c.look.ensures.looked c.lent.ensures.lent in (
-      (refl, λ _. tt, (all.fronted, all.others, all.out, c.look.ensures.port.1, ap (λ t. t.peers) c.look.ensures.port.0, ap (λ t. t.table.shared.table_id) c.look.ensures.port.0, all.moves)),
+      (refl, λ _. tt, (all.fronted, all.others, all.out, c.look.ensures.port.1, ap (λ t. t.peers) c.look.ensures.port.0, c.look.ensures.port.0, all.moves)),
       record { gives = all.gives; next = always_some c.lent.result; lent = all.lent; all_taken = always_none c.lent.result; after = tt },
     )

@@ -1,5 +1,5 @@
 use Rattle.std.proofs.Common.{◌≡◌, ℕ, ◌+◌, ◌*◌, ◌%◌, ◌<◌, true, false, List, [], ◌∷◌, ◌++◌, length, set, sym, refl, ap, ◌∙◌, subst, arith, inl, inr}
-use Rattle.std.specs.Prelude.{None}
+use Rattle.std.specs.Prelude.{Some, None}
 use Rattle.std.specs.Arc.{arc_value}
 use Rattle.atomic_table.specs.Table.{rest}
 use Rattle.fab_wire.specs.declared.moves.Move.{Move}
@@ -13,10 +13,11 @@ use Rattle.fab_table.specs.Views.{part_at, out_at, with_part, with_out, posted_o
 use Rattle.fab_table.specs.Rule.{greatest}
 use Rattle.fab_table.specs.Plays.{Sat, most, new_out_view, next_cell}
 use Rattle.fab_ring.specs.Tries.{IsTried, IsSent, tried_out, sent_as}
-use Rattle.fab_ring.specs.Hands.{shapes, Fits, Told, Comes}
+use Rattle.fab_ring.specs.Hands.{shapes, Fits, Told, Ends, Comes}
 use Rattle.fab_ring.proofs.Hold.{fits_saw, fits_post, put_len}
 use Rattle.fab_ring.proofs.Ends.{tried_length, sent_length, out_all, sent_over, view_over, here_out, next_over}
 use Rattle.fab_ring.proofs.Told.{told_out, comes_out}
+use Rattle.fab_ring.proofs.Lasts.{ends_out, ends_post}
 use Rattle.fab_ring.proofs.port.RingPort.send.Goals as goal
 
 pub invariant_of-self : goal.invariant_of-self
@@ -27,6 +28,7 @@ invariant_of-self c = let q = c.args.self.now in let f = arc_value q.fabric in l
       at = (c.look_got-got.ensures.seat.0 ∙ q.at.0, all.0);
       fits = subst (λ (z : Part × List (ℕ × Slot)). Fits q.me f.peers f.room f.pool q.clock q.turn q.puts.items q.gots.items q.opened.items q.lent.items z.0 (shapes z.1)) (λ i. (sym all.1 i, sym all.2 i)) (fits_saw _ _ _ _ _ _ _ _ _ _ _ _ q.fits d o₁ low refl mine.1 mine.3 mine.4);
       told = subst (Told f.peers q.commands.items q.buffers.items) (sym all.1) (told_out _ _ _ p d o₁ p.moves q.told);
+      ends = subst (λ (z : Part). Ends f.peers q.posted_ends.items q.taken_ends.items z) (sym all.1) (ends_out _ _ _ p d o₁ p.moves low inside refl q.ends);
       comes = subst (λ (z : Part). ∥ Comes z ∥₁) (sym all.1) (comes_out p d o₁ p.moves q.comes);
     }
 
@@ -38,6 +40,7 @@ invariant_of-self-then-self-ge-MOST c = let q = c.args.self.now in let f = arc_v
       at = (c.look_got-got.ensures.seat.0 ∙ q.at.0, all.0);
       fits = subst (λ (z : Part × List (ℕ × Slot)). Fits q.me f.peers f.room f.pool q.clock q.turn q.puts.items q.gots.items q.opened.items q.lent.items z.0 (shapes z.1)) (λ i. (sym all.1 i, sym all.2 i)) (fits_saw _ _ _ _ _ _ _ _ _ _ _ _ q.fits d o₁ low refl mine.1 mine.3 mine.4);
       told = subst (Told f.peers q.commands.items q.buffers.items) (sym all.1) (told_out _ _ _ p d o₁ p.moves q.told);
+      ends = subst (λ (z : Part). Ends f.peers q.posted_ends.items q.taken_ends.items z) (sym all.1) (ends_out _ _ _ p d o₁ p.moves low inside refl q.ends);
       comes = subst (λ (z : Part). ∥ Comes z ∥₁) (sym all.1) (comes_out p d o₁ p.moves q.comes);
     }
 
@@ -61,6 +64,7 @@ invariant_of-self-then-not-send_next c = let q = c.args.self.now in let f = arc_
       at = (c.send_next.ensures.seat.0 ∙ c.look_got-got.ensures.seat.0 ∙ q.at.0, all.0);
       fits = subst (λ (z : Part × List (ℕ × Slot)). Fits q.me f.peers f.room f.pool q.clock q.turn q.puts.items q.gots.items q.opened.items q.lent.items z.0 (shapes z.1)) (λ i. (sym all.1 i, sym all.2 i)) (fits_saw _ _ _ _ _ _ _ _ _ _ _ _ q.fits d o₂ low refl refl refl (tried_length o f.pool got.0 got.1 tries ∙ mine.4));
       told = subst (Told f.peers q.commands.items q.buffers.items) (sym all.1) (told_out _ _ _ p d o₂ p.moves q.told);
+      ends = subst (λ (z : Part). Ends f.peers q.posted_ends.items q.taken_ends.items z) (sym all.1) (ends_out _ _ _ p d o₂ p.moves low inside refl q.ends);
       comes = subst (λ (z : Part). ∥ Comes z ∥₁) (sym all.1) (comes_out p d o₂ p.moves q.comes);
     }
 
@@ -87,6 +91,7 @@ invariant_of-self-2 c = let q = c.args.self.now in let f = arc_value q.fabric in
       at = (c.send_next.ensures.seat.0 ∙ c.look_got-got.ensures.seat.0 ∙ q.at.0, all.0);
       fits = subst (λ (z : Part × List (ℕ × Slot)). Fits q.me f.peers f.room f.pool (q.clock + 1) q.turn (set q.puts.items d (c.index-put.result.now + 1)) q.gots.items q.opened.items q.lent.items z.0 (shapes z.1)) (λ i. (sym all.1 i, sym all.2 i)) (fits_post _ _ _ _ _ _ _ _ _ _ _ _ q.fits d (c.index-put.result.now + 1) o₂ x low (ap (λ (z : ℕ). z + 1) (put ∙ sym mine.0)) refl refl (sent_length o f.pool got.0 got.1 got.2 is ∙ mine.4));
       told = subst (Told f.peers q.commands.items q.buffers.items) (sym all.1) (told_out _ _ _ p d (posted_one o₂ x) ms q.told);
+      ends = subst (λ (z : Part). Ends f.peers (set q.posted_ends.items d (Some c.args.head)) q.taken_ends.items z) (sym all.1) (ends_post _ _ _ p d (posted_one o₂ x) x ms low inside refl q.ends);
       comes = subst (λ (z : Part). ∥ Comes z ∥₁) (sym all.1) (comes_out p d (posted_one o₂ x) ms q.comes);
     }
 
