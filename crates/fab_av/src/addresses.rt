@@ -4,7 +4,7 @@ ghost use Rattle.std.specs.List.{count_by};
 ghost use Rattle.fab_base.specs.declared.faults.Fault.TheVariants.{NoEntry};
 ghost use Rattle.fab_base.specs.declared.peers.LineResult.TheVariants.{Index};
 ghost use Rattle.fab_model.specs.State.{State, lookup};
-ghost use Rattle.fab_model.specs.Calls.{insert, remove, is_peer, peer_named};
+ghost use Rattle.fab_model.specs.Calls.{insert, remove, is_peer, peer_named, upto};
 ghost use Rattle.fab_av.specs.Addresses.{HasAddresses, IsTable, Extends, IsNamed, index_named, with_addresses, inserting, answer_of};
 
 use crate::names::peer_named;
@@ -50,6 +50,17 @@ fn entry_at(entries: &[Option<u32>], place: u32) -> Option<u32>
     entries.get(place as usize).copied().flatten()
 }
 
+/// The numbers of so many peers, in order.
+fn numbered(alloc: Global, peers: u32) -> Result<Vec<Option<u32>>, NoMemory>
+    ensures { IfOk result (λ all. all.items ≡ map Some (upto peers)) }
+{
+    let mut all = Vec::with_capacity(alloc, peers as usize)?;
+    for peer in 0..peers {
+        all.push(Some(peer))?;
+    }
+    Ok(all)
+}
+
 /// Inserts one name. Unless all indices are given, there is room for one more.
 fn insert_one(
     peers: u32,
@@ -92,6 +103,23 @@ impl Av {
             peers,
             by_index: Vec::new(alloc),
             by_peer: vec![in alloc; None; peers as usize]?,
+        })
+    }
+
+    /// A vector in which each peer stands at the index of its number. It takes memory for each of them, and is
+    /// refused as if there were none above 4,096 peers, for whom there are no indices.
+    pub fn all(alloc: Global, peers: u32) -> Result<Av, NoMemory>
+        ensures { IfOk result (λ av. av ≡ record { peers = peers; indices = map Some (upto peers) }) }
+    {
+        if peers as usize > MOST_INDICES {
+            return Err(NoMemory);
+        }
+        let by_index = numbered(alloc, peers)?;
+        let by_peer = numbered(alloc, peers)?;
+        Ok(Av {
+            peers,
+            by_index,
+            by_peer,
         })
     }
 

@@ -231,32 +231,56 @@ all_parts_built items [] e = refl
 all_parts_built items (k ∷ peers) e = rw (part_built k items e, all_parts_built items peers e) refl
 
 abbrev pub CarriedOut : Script → Type 0
-CarriedOut script = (all_built script.peers ≡ true) × (0 < script.conf.info.cq)
+CarriedOut script = (all_built script.peers ≡ true) × (2 ≤ script.conf.info.cq) × (4 ≤ script.conf.info.log)
 
--- a wish that is granted is not 0
+-- a wish that is granted is within its limits
 abbrev wished : Bool → ℕ → Option ℕ
 wished b n = elim b as (λ _. Option ℕ) [ true ↦ None | false ↦ Some n ]
 
-abbrev sized : Option ℕ → ℕ
-sized o = elim o as (λ _. ℕ) [ None ↦ 1024 | Some n ↦ n ]
+abbrev sized : ℕ → Option ℕ → ℕ
+sized default o = elim o as (λ _. ℕ) [ None ↦ default | Some n ↦ n ]
 
-wished_positive : (b : Bool) (n : ℕ) → eqb n 0 ≡ b → 0 < sized (wished b n)
-wished_positive true n e = omega arith
-wished_positive false n e = grind (arith, nat_tests)
+abbrev is_outside : ℕ → ℕ → Option ℕ → Bool
+is_outside least greatest o = elim o as (λ _. Bool) [ None ↦ false | Some n ↦ nat_lt n least || nat_lt greatest n ]
 
-size_positive : (wanted : Option ℕ) → 0 < granted_size size.Cq wanted
-size_positive None = omega arith
-size_positive (Some n) = wished_positive (eqb n 0) n refl
+left_false : (a b : Bool) → (a || b) ≡ false → a ≡ false
+left_false true b e = absurd (cc)
+left_false false b e = refl
 
-granted_positive : (refused : Bool) (h : Hints) (info : Info) → elim refused as (λ _. Option Info) [ true ↦ None | false ↦ Some (granted_info h) ] ≡ Some info → 0 < info.cq
-granted_positive true h info e = cc
-granted_positive false h info e =
+wished_least : (least greatest default n : ℕ) (b : Bool) → least ≤ default → is_outside least greatest (wished b n) ≡ false → least ≤ sized default (wished b n)
+wished_least least greatest default n true within e = within
+wished_least least greatest default n false within e = ltb-false n least (left_false (nat_lt n least) (nat_lt greatest n) e)
+
+cq_least : (wanted : Option ℕ) → wish_is_refused size.Cq wanted ≡ false → 2 ≤ granted_size size.Cq wanted
+cq_least None e = omega arith
+cq_least (Some n) e = wished_least 2 65536 1024 n (eqb n 0) (omega arith) e
+
+log_least : (wanted : Option ℕ) → wish_is_refused size.Log wanted ≡ false → 4 ≤ granted_size size.Log wanted
+log_least None e = omega arith
+log_least (Some n) e = wished_least 4 65536 4096 n (eqb n 0) (omega arith) e
+
+-- none of the tests fails where all together do not
+seventh : (a b c d e f g h i j : Bool) → (a || b || c || d || e || f || g || h || i || j) ≡ false → (g ≡ false) × (h ≡ false)
+seventh true b c d e f g h i j is = absurd (cc)
+seventh false true c d e f g h i j is = absurd (cc)
+seventh false false true d e f g h i j is = absurd (cc)
+seventh false false false true e f g h i j is = absurd (cc)
+seventh false false false false true f g h i j is = absurd (cc)
+seventh false false false false false true g h i j is = absurd (cc)
+seventh false false false false false false true h i j is = absurd (cc)
+seventh false false false false false false false true i j is = absurd (cc)
+seventh false false false false false false false false i j is = (refl, refl)
+
+granted_least : (refused : Bool) (h : Hints) (info : Info) → is_refused h ≡ refused → elim refused as (λ _. Option Info) [ true ↦ None | false ↦ Some (granted_info h) ] ≡ Some info → (2 ≤ info.cq) × (4 ≤ info.log)
+granted_least true h info is e = cc
+granted_least false h info is e =
     let same : granted_info h ≡ info = cc in
-    subst (λ i. 0 < i.cq) same (size_positive h.cq)
+    let tests = seventh _ _ _ _ _ _ (wish_is_refused size.Cq h.cq) (wish_is_refused size.Log h.log) _ _ is in
+    subst (λ i. (2 ≤ i.cq) × (4 ≤ i.log)) same (cq_least h.cq tests.0, log_least h.log tests.1)
 
-info_sized : (h : Hints) (info : Info) → grant (Some h) ≡ Some info → 0 < info.cq
+info_sized : (h : Hints) (info : Info) → grant (Some h) ≡ Some info → (2 ≤ info.cq) × (4 ≤ info.log)
 unfolding grant grant_of
-info_sized h info e = granted_positive (is_refused h) h info e
+info_sized h info e = granted_least (is_refused h) h info refl e
 
 ok_of : {A E : Type 0} (r : Result A E) (x : A) → result_ok r ≡ Some x → r ≡ Ok x
 ok_of (Ok a) x e = cc

@@ -1,5 +1,5 @@
 //! From the bytes of a file to its script.
-ghost use Rattle.std.specs.Prelude.{◌≡◌, ◌<◌, ℕ, List, [], true, Some, None, map, IfOk, IfErr};
+ghost use Rattle.std.specs.Prelude.{◌≡◌, ◌≤◌, ℕ, List, [], true, Some, None, map, IfOk, IfErr};
 ghost use Rattle.fab_base.specs.Built.{all_built};
 ghost use Rattle.fab_grammar.specs.Before.{Before};
 ghost use Rattle.fab_grammar.specs.Grammar.{script_with, script_said, verdict, script_of, refusal_of};
@@ -25,7 +25,7 @@ pub fn parse(alloc: Global, bytes: &[u8]) -> Result<Script, ParseRefused>
     ensures refused { IfErr result (λ e. IsScript e → script_of bytes.now ≡ None) }
     ensures reason { IfErr result (λ e. IsRefusal e (refusal_of bytes.now)) }
     ensures built { IfOk result (λ script. all_built script.peers ≡ true) }
-    ensures sized { IfOk result (λ script. 0 < script.conf.info.cq) }
+    ensures sized { IfOk result (λ script. (2 ≤ script.conf.info.cq) × (4 ≤ script.conf.info.log)) }
     ensures alone { IfOk result (λ script. script.payloads ≡ []) }
     ensures inside { (files : List (List ℕ)) → IfOk result (λ script. outside script files ≡ None) }
 {

@@ -1,4 +1,4 @@
-use Rattle.std.proofs.Common.{◌≡◌, ◌<◌, ℕ, List, [], true, None}
+use Rattle.std.proofs.Common.{◌≡◌, ◌≤◌, ℕ, List, [], true, None}
 use Rattle.std.specs.Prelude.{Result, Ok, Err, IfOk}
 use Rattle.fab_base.specs.Built.{all_built}
 use Rattle.fab_base.specs.declared.script.Script.{Script}
@@ -15,8 +15,8 @@ built_part : (r : Result Script ParseRefused) → IfOk r CarriedOut → IfOk r (
 built_part (Ok script) h = h.0
 built_part (Err e) h = tt
 
-sized_part : (r : Result Script ParseRefused) → IfOk r CarriedOut → IfOk r (λ script. 0 < script.conf.info.cq)
-sized_part (Ok script) h = h.1
+sized_part : (r : Result Script ParseRefused) → IfOk r CarriedOut → IfOk r (λ script. (2 ≤ script.conf.info.cq) × (4 ≤ script.conf.info.log))
+sized_part (Ok script) h = (h.1, h.2)
 sized_part (Err e) h = tt
 
 pub returns-clause-built : goal.returns-clause-built
