@@ -1,14 +1,10 @@
-//! Peers: each does the lines of its part of a script over an endpoint, and keeps its schedule.
+//! The peers of a script: each does its lines over an endpoint, in turns with the others.
+//!
+//! What one peer does is proved in `fab_quantum` over any endpoint, and what all of them do together in
+//! `fab_finish` over any machine behind their endpoints. Here the machine is chosen: `fab_core`, with lists that
+//! are searched for what matches.
 #![tactic(auto)]
 
-mod completions;
-mod endpoint;
-mod entries;
-mod fabric;
-mod moves;
-mod peer;
-mod receiving;
-mod transmitting;
+mod peers;
 
-pub use fabric::run_peers;
-pub use peer::Peer;
+pub use peers::{Peer, run_peers};

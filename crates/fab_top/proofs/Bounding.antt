@@ -1,20 +1,13 @@
--- The lines of a bound script's peers: its opening, and that they are carried out where the script's are.
-use Rattle.std.proofs.Common.{◌≡◌, ◌<◌, ℕ, zero, suc, true, List, [], ◌∷◌, ◌++◌, length, map, get_or, inl, inr, refl, sym, ap, ◌∙◌, arith}
-use Rattle.std.specs.List.{list_all}
-use Rattle.std.proofs.lemmas.Bool.{and_from, and_parts, cases_lt}
+-- The lines of a bound script's peers: its opening.
+use Rattle.std.proofs.Common.{◌≡◌, ◌<◌, ℕ, zero, suc, List, [], ◌∷◌, ◌++◌, length, map, get_or, inl, inr, refl, sym, ap, ◌∙◌, arith}
+use Rattle.std.proofs.lemmas.Bool.{cases_lt}
 use Rattle.std.proofs.lemmas.List.{map-append, length-append, length-map}
-use Rattle.std.proofs.lemmas.List.Folds.{list_all-append}
-use Rattle.fab_base.specs.Built.{is_short_text, is_at_transmit, is_built, all_built}
 use Rattle.fab_base.specs.declared.script.Bound.{Bound}
-use Rattle.fab_base.specs.declared.script.BytesWord.{BytesWord}
-use Rattle.fab_base.specs.declared.script.BytesWord.TheVariants.{Text, Hex, Zero, File}
+use Rattle.fab_base.specs.declared.script.Conf.{Conf}
 use Rattle.fab_base.specs.declared.script.Line.{Line}
-use Rattle.fab_base.specs.declared.script.LineOp.{LineOp}
-use Rattle.fab_base.specs.declared.script.LineOp.TheVariants.{TSend, TRecv, Wait}
 use Rattle.fab_model.specs.Calls.{upto}
-use Rattle.fab_model.specs.Replay.{opening, lines_of, bind_word, bind_op, bind_line}
-use Rattle.fab_peer.specs.Joined.{opened}
-use Rattle.fab_peer.proofs.Opening.{opened_is}
+use Rattle.fab_model.specs.Replay.{opening, lines_of, newly}
+use Rattle.fab_finish.specs.Joined.{opened}
 
 -- ---- the opening
 
@@ -44,36 +37,16 @@ at_upto f d (suc n) k below =
       | inr past ↦ (let is : k ≡ n = omega (arith, past, below) in back_of (map f (upto n)) (f n) d k (omega (arith, is, count)) ∙ ap f (sym is))
     ]
 
+opened_is : (conf : Conf) (lists : List (List Line)) (lines : ℕ → List Line) → ((p : ℕ) → p < conf.peers → slice_index_or lists p [] ≡ lines p) → opened conf lists ≡ map (λ p. newly conf (lines p)) (upto conf.peers)
+opened_is conf lists lines each = below conf.peers each
+  where
+    below : (n : ℕ) → ((p : ℕ) → p < n → slice_index_or lists p [] ≡ lines p) → map (λ p. newly conf (slice_index_or lists p [])) (upto n) ≡ map (λ p. newly conf (lines p)) (upto n)
+    below zero each = refl
+    below (suc n) each =
+        map-append (λ p. newly conf (slice_index_or lists p [])) (upto n) (n ∷ []) ∙ ap (λ xs. xs ++ newly conf (slice_index_or lists n []) ∷ []) (below n (λ p lt. each p (omega (arith, lt))))
+        ∙ ap (λ own. map (λ p. newly conf (lines p)) (upto n) ++ newly conf own ∷ []) (each n (omega arith)) ∙ sym (map-append (λ p. newly conf (lines p)) (upto n) (n ∷ []))
+
 -- the peers with these lines are those of the script's opening
 pub opening_is : (b : Bound) → opened b.script.conf (map (lines_of b) (upto b.script.conf.peers)) ≡ opening b
 unfolding opening
 opening_is b = opened_is b.script.conf (map (lines_of b) (upto b.script.conf.peers)) (lines_of b) (λ p below. at_upto (lines_of b) [] b.script.conf.peers p below)
-
--- ---- lines that are carried out
-
-short_bound : (b : Bound) (word : BytesWord) → is_short_text word ≡ true → is_short_text (bind_word b word) ≡ true
-short_bound b (Text bytes) e = e
-short_bound b (Hex bytes) e = absurd (cc e)
-short_bound b (Zero n) e = absurd (cc e)
-short_bound b (File id at len) e = absurd (cc e)
-
-built_bound : (b : Bound) (op : LineOp) → is_built op ≡ true → is_built (bind_op b op) ≡ true
-built_bound b (TSend ctx dest tag word imm level completion) e = let parts = and_parts (is_short_text word) (is_at_transmit level) e in and_from _ _ (short_bound b word parts.0) parts.1
-built_bound b (TRecv ctx source tag ignore len) e = e
-built_bound b (Wait ctx) e = e
-built_bound b op e = absurd (cc e)
-
-lines_bound : (b : Bound) (lines : List Line) → list_all (λ (l : Line). is_built l.op) lines ≡ true → list_all (λ (l : Line). is_built l.op) (map (bind_line b) lines) ≡ true
-lines_bound b [] all = refl
-lines_bound b (l ∷ lines) all = let parts = and_parts (is_built l.op) _ all in and_from _ _ (built_bound b l.op parts.0) (lines_bound b lines parts.1)
-
-part_built : (peers : List (List Line)) (k : ℕ) → all_built peers ≡ true → list_all (λ (l : Line). is_built l.op) (get_or peers k []) ≡ true
-part_built [] k all = refl
-part_built (lines ∷ peers) zero all = (and_parts (list_all (λ (l : Line). is_built l.op) lines) (all_built peers) all).0
-part_built (lines ∷ peers) (suc k) all = part_built peers k (and_parts (list_all (λ (l : Line). is_built l.op) lines) (all_built peers) all).1
-
-pub all_bound : (b : Bound) (n : ℕ) → all_built b.script.peers ≡ true → all_built (map (lines_of b) (upto n)) ≡ true
-all_bound b zero all = refl
-all_bound b (suc n) all =
-    let here : all_built (lines_of b n ∷ []) ≡ true = and_from _ _ (lines_bound b (get_or b.script.peers n []) (part_built b.script.peers n all)) refl in
-    ap all_built (map-append (lines_of b) (upto n) (n ∷ [])) ∙ list_all-append (list_all (λ (l : Line). is_built l.op)) (map (lines_of b) (upto n)) (lines_of b n ∷ []) ∙ and_from _ _ (all_bound b n all) here

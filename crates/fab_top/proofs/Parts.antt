@@ -9,8 +9,8 @@ use Rattle.fab_base.specs.declared.script.Line.{Line}
 use Rattle.fab_model.specs.Report.{all_lines, actor_lines, peer_lines, pending_of, report_of, report_lines, first_line, last_line}
 use Rattle.fab_model.specs.Replay.{all_done}
 use Rattle.fab_model.specs.Words.{text_of, line_of}
-use Rattle.fab_peer.specs.Turns.{actor_of, schedule_of}
-use Rattle.fab_peer.specs.declared.peer.Peer.{Peer}
+use Rattle.fab_finish.specs.Joined.{member_actor, member_steps}
+use Rattle.fab_finish.specs.Joined.{Member}
 use Rattle.fab_top.proofs.Blanks.{text_of-append}
 
 pub list_all-map : {A B : Type 0} (f : B → Bool) (g : A → B) (xs : List A) → list_all (λ x. f (g x)) xs ≡ list_all f (map g xs)
@@ -23,26 +23,26 @@ drop_here (y ∷ xs) zero d l = refl
 drop_here (y ∷ xs) (suc k) d l = drop_here xs k d (omega arith)
 
 -- the text of the parts from peer k on
-abbrev pub parts_from : ℕ → List Peer → List ℕ
-parts_from k peers = text_of (all_lines k (map actor_of (drop k peers)) (map schedule_of (drop k peers)))
+abbrev pub parts_from : ℕ → List Member → List ℕ
+parts_from k peers = text_of (all_lines k (map member_actor (drop k peers)) (map member_steps (drop k peers)))
 
-parts_step : (k : ℕ) (peers : List Peer) (d : Peer) → k < length peers
-    → parts_from k peers ≡ text_of (actor_lines k (actor_of (get_or peers k d)) (schedule_of (get_or peers k d))) ++ parts_from (k + 1) peers
+parts_step : (k : ℕ) (peers : List Member) (d : Member) → k < length peers
+    → parts_from k peers ≡ text_of (actor_lines k (member_actor (get_or peers k d)) (member_steps (get_or peers k d))) ++ parts_from (k + 1) peers
 unfolding all_lines
 parts_step k peers d l =
     let x = get_or peers k d in
     let one : suc k ≡ k + 1 = omega arith in
     let here : drop k peers ≡ x ∷ drop (k + 1) peers = drop_here peers k d l ∙ ap (λ m. x ∷ drop m peers) one in
-    ap (λ rest. text_of (all_lines k (map actor_of rest) (map schedule_of rest))) here
-    ∙ text_of-append (actor_lines k (actor_of x) (schedule_of x)) (all_lines (k + 1) (map actor_of (drop (k + 1) peers)) (map schedule_of (drop (k + 1) peers)))
+    ap (λ rest. text_of (all_lines k (map member_actor rest) (map member_steps rest))) here
+    ∙ text_of-append (actor_lines k (member_actor x) (member_steps x)) (all_lines (k + 1) (map member_actor (drop (k + 1) peers)) (map member_steps (drop (k + 1) peers)))
 
 -- one part is written, and those that are left are fewer
-pub part_written : (k : ℕ) (peers : List Peer) (x : Peer) (was now whole : List ℕ) → k < length peers → x ≡ get_or peers k x → was ++ parts_from k peers ≡ whole
-    → now ≡ was ++ text_of (actor_lines k (actor_of x) (schedule_of x)) → now ++ parts_from (k + 1) peers ≡ whole
+pub part_written : (k : ℕ) (peers : List Member) (x : Member) (was now whole : List ℕ) → k < length peers → x ≡ get_or peers k x → was ++ parts_from k peers ≡ whole
+    → now ≡ was ++ text_of (actor_lines k (member_actor x) (member_steps x)) → now ++ parts_from (k + 1) peers ≡ whole
 part_written k peers x was now whole l is wrote writes =
-    let part = text_of (actor_lines k (actor_of x) (schedule_of x)) in
+    let part = text_of (actor_lines k (member_actor x) (member_steps x)) in
     let step : parts_from k peers ≡ part ++ parts_from (k + 1) peers =
-    parts_step k peers x l ∙ ap (λ y. text_of (actor_lines k (actor_of y) (schedule_of y)) ++ parts_from (k + 1) peers) (sym is) in
+    parts_step k peers x l ∙ ap (λ y. text_of (actor_lines k (member_actor y) (member_steps y)) ++ parts_from (k + 1) peers) (sym is) in
     ap (λ text. text ++ parts_from (k + 1) peers) writes ∙ append_assoc was part (parts_from (k + 1) peers) ∙ ap (λ text. was ++ text) (sym step) ∙ wrote
 
 drop_none : {X : Type 0} (k : ℕ) → drop {A = X} k [] ≡ []
@@ -54,23 +54,23 @@ past [] k e = drop_none k
 past (x ∷ xs) zero e = absurd (omega arith)
 past (x ∷ xs) (suc k) e = past xs k (omega arith)
 
-pub parts_end : (k : ℕ) (peers : List Peer) (now whole : List ℕ) → k ≡ length peers → now ++ parts_from k peers ≡ whole → now ≡ whole
+pub parts_end : (k : ℕ) (peers : List Member) (now whole : List ℕ) → k ≡ length peers → now ++ parts_from k peers ≡ whole → now ≡ whole
 unfolding all_lines
 parts_end k peers now whole all wrote = let none : drop k peers ≡ [] = past peers k (sym all) in sym (append-nil now) ∙ rw none at wrote
 
 -- the first line, all parts, and the last line
-pub whole_report : (peers : List Peer) (a b c : List ℕ) → a ≡ line_of (first_line (length peers)) → b ≡ a ++ text_of (all_lines 0 (map actor_of peers) (map schedule_of peers))
-    → c ≡ b ++ line_of (last_line (all_done (map actor_of peers))) → c ≡ report_of (map actor_of peers) (map schedule_of peers)
+pub whole_report : (peers : List Member) (a b c : List ℕ) → a ≡ line_of (first_line (length peers)) → b ≡ a ++ text_of (all_lines 0 (map member_actor peers) (map member_steps peers))
+    → c ≡ b ++ line_of (last_line (all_done (map member_actor peers))) → c ≡ report_of (map member_actor peers) (map member_steps peers)
 unfolding report_of report_lines
 whole_report peers a b c first parts last =
-    let lines = all_lines 0 (map actor_of peers) (map schedule_of peers) in
-    let end = last_line (all_done (map actor_of peers)) in
+    let lines = all_lines 0 (map member_actor peers) (map member_steps peers) in
+    let end = last_line (all_done (map member_actor peers)) in
     let tail : text_of lines ++ line_of end ≡ text_of (lines ++ end ∷ []) = sym (text_of-append lines (end ∷ []) ∙ ap (λ text. text_of lines ++ text) (append-nil (line_of end))) in
-    let head : a ≡ line_of (first_line (length (map actor_of peers))) = first ∙ ap (λ n. line_of (first_line n)) (sym (length-map peers actor_of)) in
+    let head : a ≡ line_of (first_line (length (map member_actor peers))) = first ∙ ap (λ n. line_of (first_line n)) (sym (length-map peers member_actor)) in
     last ∙ ap (λ text. text ++ line_of end) parts ∙ append_assoc a (text_of lines) (line_of end) ∙ ap (λ text. a ++ text) tail ∙ ap (λ text. text ++ text_of (lines ++ end ∷ [])) head
 
 -- a part by what it is of
-pub part_of : (k : ℕ) (x : Peer) (lines : List Line) (results : List LineResult) (kept : List Kept) (pending : ℕ) (steps : List Step)
-    → lines ≡ (actor_of x).lines → results ≡ (actor_of x).results → kept ≡ (actor_of x).kept → pending ≡ pending_of (actor_of x) → steps ≡ schedule_of x
-    → text_of (peer_lines k lines results kept pending steps) ≡ text_of (actor_lines k (actor_of x) (schedule_of x))
+pub part_of : (k : ℕ) (x : Member) (lines : List Line) (results : List LineResult) (kept : List Kept) (pending : ℕ) (steps : List Step)
+    → lines ≡ (member_actor x).lines → results ≡ (member_actor x).results → kept ≡ (member_actor x).kept → pending ≡ pending_of (member_actor x) → steps ≡ member_steps x
+    → text_of (peer_lines k lines results kept pending steps) ≡ text_of (actor_lines k (member_actor x) (member_steps x))
 part_of k x lines results kept pending steps a b c d e = rw (a, b, c, d, e) refl

@@ -10,27 +10,27 @@ use Rattle.fab_model.specs.Report.{report, report_of, traces}
 use Rattle.fab_model.specs.Views.{rule}
 use Rattle.fab_model.proofs.Replays.{reached_lawful, reached_sound}
 use Rattle.fab_model.proofs.Names.{lawful_report_tells}
-use Rattle.fab_peer.specs.Turns.{actor_of, schedule_of}
-use Rattle.fab_peer.specs.Joined.{AreCleared}
-use Rattle.fab_peer.specs.declared.peer.Peer.{Peer}
+use Rattle.fab_finish.specs.Joined.{member_actor, member_steps}
+use Rattle.fab_finish.specs.Joined.{AreCleared}
+use Rattle.fab_finish.specs.Joined.{Member}
 use Rattle.fab_top.specs.Runs.{nothing_posted, Reports}
 
 none_posted : (all : List Actor) → AreCleared all → nothing_posted all ≡ true
 none_posted [] cleared = refl
 none_posted (a ∷ all) cleared = and_from _ _ (ap is_empty (cleared 0 a refl)) (none_posted all (λ p x has. cleared (suc p) x has))
 
-pub reports : (bound : Bound) (peers : List Peer) (text : List ℕ) (done : Bool) → Reached (rule fabric) (opening bound) (map schedule_of peers) (map actor_of peers)
-    → at_rest (map actor_of peers) ≡ true → (all_done (map actor_of peers) ≡ true → AreCleared (map actor_of peers)) → length peers ≤ 10 ^ 64 → text ≡ report_of (map actor_of peers) (map schedule_of peers)
-    → done ≡ all_done (map actor_of peers) → Reports bound text done
+pub reports : (bound : Bound) (peers : List Member) (text : List ℕ) (done : Bool) → Reached (rule fabric) (opening bound) (map member_steps peers) (map member_actor peers)
+    → at_rest (map member_actor peers) ≡ true → (all_done (map member_actor peers) ≡ true → AreCleared (map member_actor peers)) → length peers ≤ 10 ^ 64 → text ≡ report_of (map member_actor peers) (map member_steps peers)
+    → done ≡ all_done (map member_actor peers) → Reports bound text done
 unfolding report
 reports bound peers text done reached rest cleared few is ends =
-    let schedule = map schedule_of peers in
-    let states = map actor_of peers in
+    let schedule = map member_steps peers in
+    let states = map member_actor peers in
     let lawful = reached_lawful bound schedule states reached in
     let count : length states ≡ bound.script.conf.peers = (reached_sound bound schedule states reached).count in
-    let many : length schedule ≡ bound.script.conf.peers = length-map peers schedule_of ∙ sym (length-map peers actor_of) ∙ count in
+    let many : length schedule ≡ bound.script.conf.peers = length-map peers member_steps ∙ sym (length-map peers member_actor) ∙ count in
     let whole : text ≡ report bound schedule = is ∙ ap (λ xs. report_of xs schedule) (sym lawful.1) in
-    let told : traces text ≡ schedule = ap traces whole ∙ lawful_report_tells bound schedule lawful.0 many (omega (arith, few, count, length-map peers actor_of)) in
+    let told : traces text ≡ schedule = ap traces whole ∙ lawful_report_tells bound schedule lawful.0 many (omega (arith, few, count, length-map peers member_actor)) in
     record {
       lawful = subst (λ x. Lawful bound x) (sym told) lawful.0;
       text_is = whole ∙ ap (report bound) (sym told);

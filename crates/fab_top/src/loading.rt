@@ -1,6 +1,5 @@
 //! A script from its file.
-ghost use Rattle.std.specs.Prelude.{◌≡◌, ◌<◌, [], true, None, IfOk, IfErr};
-ghost use Rattle.fab_base.specs.Built.{all_built};
+ghost use Rattle.std.specs.Prelude.{◌≡◌, ◌≤◌, [], None, IfOk, IfErr};
 ghost use Rattle.fab_script.specs.Bound.{outside};
 ghost use Rattle.fab_top.specs.Runs.{alone, IsRead, IsUnread};
 
@@ -30,8 +29,7 @@ pub fn load_script<D: Depot>(alloc: Global, depot: &mut D, name: &Text) -> Resul
     ensures files { D.files depot.new ≡ D.files depot.old }
     ensures ok { IfOk result (λ bound. IsRead (D.files depot.old) name.now bound.script) }
     ensures alone { IfOk result (λ bound. bound ≡ alone bound.script) }
-    ensures built { IfOk result (λ bound. all_built bound.script.peers ≡ true) }
-    ensures sized { IfOk result (λ bound. 0 < bound.script.conf.info.cq) }
+    ensures sized { IfOk result (λ bound. (2 ≤ bound.script.conf.info.cq) × (4 ≤ bound.script.conf.info.log)) }
     ensures err { IfErr result (λ status. IsUnread (D.files depot.old) name.now (D.faults depot.old) (D.faults depot.new) (D.failed_name depot.new) status) }
 {
     let bytes = match depot.load(alloc, name, SCRIPT_MAX) {

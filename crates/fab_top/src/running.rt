@@ -1,7 +1,6 @@
 //! The top call: a command from its words to its report.
 ghost use Rattle.std.specs.Prelude.{◌≡◌, ◌<◌, ◌≤◌, ◌↔◌, ℕ, List, true, false, None, Some, IfOk, string_bytes, option_map, length, map, take};
 ghost use Rattle.std.specs.Io.KnownBytes.{append_known};
-ghost use Rattle.fab_base.specs.Built.{all_built};
 ghost use Rattle.fab_base.specs.declared.status.Status.TheVariants.{Done, Stuck, Usage, ScriptRefused, TooLong, ReadFault, WriteFault};
 ghost use Rattle.fab_base.specs.declared.status.Why.{Why};
 ghost use Rattle.fab_model.specs.Calls.{upto};
@@ -50,8 +49,8 @@ fn lines_of_all(alloc: Global, bound: &Bound) -> Result<Vec<Vec<Line>>, NoMemory
 
 /// Runs a bound script's peers until none can go on, and reports what they did.
 fn run_script(alloc: Global, bound: &Bound) -> Result<Ran, NoMemory>
-    requires lines { all_built bound.now.script.peers ≡ true }
-    requires sized { 0 < bound.now.script.conf.info.cq }
+    requires cq { 2 ≤ bound.now.script.conf.info.cq }
+    requires log { 4 ≤ bound.now.script.conf.info.log }
     ensures { IfOk result (λ ran. Reports bound.now (string_bytes ran.text) ran.done) }
 {
     let lists = lines_of_all(alloc, bound)?;

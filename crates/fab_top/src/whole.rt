@@ -5,7 +5,7 @@ ghost use Rattle.fab_model.specs.Words.{text_of};
 ghost use Rattle.fab_model.specs.Peers.{is_finished};
 ghost use Rattle.fab_model.specs.Report.{all_lines, report_of};
 ghost use Rattle.fab_model.specs.Replay.{all_done};
-ghost use Rattle.fab_peer.specs.Turns.{actor_of, schedule_of};
+ghost use Rattle.fab_finish.specs.Joined.{member_actor, member_steps};
 
 use crate::report::{add_first, add_last, add_peer};
 use fab_base::NoMemory;
@@ -13,14 +13,14 @@ use fab_peer::Peer;
 use std::alloc::Global;
 
 fn all_finished(peers: &[Peer]) -> bool
-    ensures { result ≡ list_all (λ peer. is_finished (actor_of peer)) peers.now }
+    ensures { result ≡ list_all (λ peer. is_finished (member_actor peer)) peers.now }
 {
     peers.iter().all(|peer| peer.finished())
 }
 
 /// Whether all lines of all peers are done.
 pub fn all_done(peers: &[Peer]) -> bool
-    ensures { result ≡ all_done (map actor_of peers.now) }
+    ensures { result ≡ all_done (map member_actor peers.now) }
 {
     all_finished(peers)
 }
@@ -28,7 +28,7 @@ pub fn all_done(peers: &[Peer]) -> bool
 /// The parts of all peers, in order.
 fn add_peers(out: &mut String, peers: &[Peer]) -> Result<(), NoMemory>
     ensures { OnOk result (string_bytes out.new ≡ string_bytes out.old
-        ++ text_of (all_lines 0 (map actor_of peers.now) (map schedule_of peers.now))) }
+        ++ text_of (all_lines 0 (map member_actor peers.now) (map member_steps peers.now))) }
 {
     for number in 0..peers.len() {
         let peer = &peers[number];
@@ -38,7 +38,7 @@ fn add_peers(out: &mut String, peers: &[Peer]) -> Result<(), NoMemory>
             peer.lines(),
             peer.results(),
             peer.kept(),
-            peer.pending(),
+            u64::from(peer.awaiting()),
             peer.schedule(),
         )?;
     }
@@ -47,7 +47,7 @@ fn add_peers(out: &mut String, peers: &[Peer]) -> Result<(), NoMemory>
 
 /// The report of these peers, in their states and with their schedules.
 pub fn report(alloc: Global, peers: &[Peer]) -> Result<String, NoMemory>
-    ensures { IfOk result (λ text. string_bytes text ≡ report_of (map actor_of peers.now) (map schedule_of peers.now)) }
+    ensures { IfOk result (λ text. string_bytes text ≡ report_of (map member_actor peers.now) (map member_steps peers.now)) }
 {
     let mut out = String::new(alloc);
     add_first(&mut out, peers.len())?;
