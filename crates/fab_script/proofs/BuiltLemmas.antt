@@ -1,8 +1,9 @@
 -- Every line of a script is one that the program carries out, and its completion queue has room.
-use Rattle.std.proofs.Common.{◌≡◌, ℕ, ◌<◌, Bool, true, false, cond, not, ◌&&◌, eqb, leb, ltb, List, [], ◌∷◌, ◌++◌, length, map, drop, Option, Some, None, ap, subst, ◌∙◌, refl, arith}
+use Rattle.std.proofs.Common.{◌≡◌, ℕ, ◌≤◌, Bool, true, false, cond, not, ◌&&◌, ◌||◌, eqb, leb, ltb, List, [], ◌∷◌, ◌++◌, length, map, drop, Option, Some, None, ap, subst, ◌∙◌, refl, arith}
 use Rattle.std.specs.Prelude.{codes, bytes_eq, is_none, Result, Ok, Err, IfOk}
 use Rattle.std.specs.Result.{result_ok}
-use Rattle.std.specs.List.{list_all, range_with_len, slice_split}
+use Rattle.std.specs.List.{list_all, list_any, range_with_len, slice_split}
+use Rattle.std.proofs.lemmas.Bool.{ltb-false}
 use Rattle.std.proofs.lemmas.Bool.Decides.{nat_tests}
 use Rattle.std.proofs.lemmas.List.Folds.{list_all-append}
 use Rattle.fab_base.specs.Built.{is_built as is_carried_out, all_built, is_short_text, is_at_transmit}
@@ -15,7 +16,7 @@ use Rattle.fab_base.specs.declared.script.Script.{Script}
 use Rattle.fab_base.specs.declared.caps.Hints.{Hints}
 use Rattle.fab_base.specs.declared.caps.Info.{Info}
 use Rattle.fab_base.specs.declared.limits.Size.TheVariants as size
-use Rattle.fab_model.specs.Negotiation.{is_refused, granted_info, grant_of, grant}
+use Rattle.fab_model.specs.Negotiation.{is_refused, granted_info, grant_of, grant, wish_is_refused, is_not_offered, all_caps}
 use Rattle.fab_model.specs.Negotiation.{size_of as granted_size}
 use Rattle.fab_words.specs.declared.fault.Fault.{Fault}
 use Rattle.fab_words.specs.declared.fault.Fault.TheVariants.{Words, Limit}
@@ -241,7 +242,7 @@ abbrev sized : ℕ → Option ℕ → ℕ
 sized default o = elim o as (λ _. ℕ) [ None ↦ default | Some n ↦ n ]
 
 abbrev is_outside : ℕ → ℕ → Option ℕ → Bool
-is_outside least greatest o = elim o as (λ _. Bool) [ None ↦ false | Some n ↦ nat_lt n least || nat_lt greatest n ]
+is_outside least greatest o = elim o as (λ _. Bool) [ None ↦ false | Some n ↦ ltb n least || ltb greatest n ]
 
 left_false : (a b : Bool) → (a || b) ≡ false → a ≡ false
 left_false true b e = absurd (cc)
@@ -249,7 +250,7 @@ left_false false b e = refl
 
 wished_least : (least greatest default n : ℕ) (b : Bool) → least ≤ default → is_outside least greatest (wished b n) ≡ false → least ≤ sized default (wished b n)
 wished_least least greatest default n true within e = within
-wished_least least greatest default n false within e = ltb-false n least (left_false (nat_lt n least) (nat_lt greatest n) e)
+wished_least least greatest default n false within e = ltb-false n least (left_false (ltb n least) (ltb greatest n) e)
 
 cq_least : (wanted : Option ℕ) → wish_is_refused size.Cq wanted ≡ false → 2 ≤ granted_size size.Cq wanted
 cq_least None e = omega arith
@@ -275,7 +276,7 @@ granted_least : (refused : Bool) (h : Hints) (info : Info) → is_refused h ≡ 
 granted_least true h info is e = cc
 granted_least false h info is e =
     let same : granted_info h ≡ info = cc in
-    let tests = seventh _ _ _ _ _ _ (wish_is_refused size.Cq h.cq) (wish_is_refused size.Log h.log) _ _ is in
+    let tests = seventh (list_any (is_not_offered h.caps) all_caps) (wish_is_refused size.Peers h.peers) (wish_is_refused size.Lane h.lane) (wish_is_refused size.Pool h.pool) (wish_is_refused size.Tx h.tx) (wish_is_refused size.Rx h.rx) (wish_is_refused size.Cq h.cq) (wish_is_refused size.Log h.log) (wish_is_refused size.Inject h.inject) (wish_is_refused size.Message h.message) is in
     subst (λ i. (2 ≤ i.cq) × (4 ≤ i.log)) same (cq_least h.cq tests.0, log_least h.log tests.1)
 
 info_sized : (h : Hints) (info : Info) → grant (Some h) ≡ Some info → (2 ≤ info.cq) × (4 ≤ info.log)
