@@ -51,7 +51,8 @@ fn post(port: &mut RingPort, dest: u32, tag: u64, bytes: &[u8]) -> bool
     ensures table { table_of port.new ≡ table_of port.old }
     ensures between { (d : ℕ) → IsBetweenItems (end_of (out_of port.new d)) }
 {
-    port.post(dest, whole(tag, bytes.len() as u32), bytes).is_ok()
+    port.post(dest, whole(tag, bytes.len() as u32), bytes)
+        .is_ok()
 }
 
 /// The tag of the next frame of a peer, with how many bytes it has.
