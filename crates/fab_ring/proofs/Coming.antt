@@ -1,26 +1,24 @@
 -- What was inside the lanes came to the plain ports.
-use Rattle.std.proofs.Common.{◌≡◌, ℕ, zero, suc, ◌+◌, ◌-◌, ◌<◌, ◌≤◌, ◌≢◌, ◌⊎◌, ⊎_elim, inl, inr, List, [], ◌∷◌, ◌++◌, length, get_or, set, Vec, Global, sym, refl, ap, ◌∙◌, subst, arith, length-set, length-append, append_assoc, append-nil, get_or-set_same, get_or-set_other}
+use Rattle.std.proofs.Common.{◌≡◌, ℕ, zero, suc, ◌+◌, ◌<◌, ◌≢◌, List, [], ◌∷◌, ◌++◌, length, get_or, set, sym, refl, ap, ◌∙◌, subst, arith, length-set, length-append, append_assoc, get_or-set_same, get_or-set_other}
 use mathlib.Core.Logic.{dite}
 use mathlib.Core.List.{IsPrefix}
 use native.Mathlib.Decide.{ℕ_discrete}
 use Rattle.std.specs.Prelude.{Option, Some, None, slice_get, slice_index_or}
-use Rattle.std.proofs.lemmas.Option.{none-some, same_Some, slice_get_within}
+use Rattle.std.proofs.lemmas.Option.{none-some, same_Some}
 use Rattle.fab_base.specs.declared.frames.FrameHead.{FrameHead}
 use Rattle.fab_base.specs.declared.frames.Frame.{Frame}
 use Rattle.fab_wire.specs.Frames.{last_head, MayCome, IsLane}
 use Rattle.fab_wire.proofs.Lanes.{IsLane-push}
 use Rattle.fab_link.specs.Plain.{Plain, Lane, lane_at, with_lane, fresh_lane}
-use Rattle.fab_table.specs.declared.fabric.Fabric.{Fabric}
 use Rattle.fab_table.specs.declared.fabric.PeerSeat.{PeerSeat}
 use Rattle.fab_table.specs.declared.kinds.Sent.{Sent}
 use Rattle.fab_table.specs.declared.kinds.Out.{Out}
-use Rattle.fab_table.specs.declared.kinds.In.{In}
 use Rattle.fab_table.specs.declared.kinds.Part.{Part}
-use Rattle.fab_table.specs.Views.{frames_of, new_out, in_at, out_at}
+use Rattle.fab_table.specs.Views.{frames_of, new_out, in_at}
 use Rattle.fab_table.specs.Seats.{part_of, in_of, out_of}
 use Rattle.fab_ring.specs.declared.rooms.Inside.{Inside}
 use Rattle.fab_ring.specs.Gather.{Grew, AreSpare, Awaits, Leads, AwaitsEach, Emptied, Brought}
-use Rattle.fab_ring.proofs.Joined.{grew_then, grew_outs, last_head-append, IsLane-append, frames_append}
+use Rattle.fab_ring.proofs.Joined.{last_head-append, IsLane-append, frames_append}
 
 front_at : {A : Type 0} (xs : List A) (y d : A) (k : ℕ) → k < length xs → get_or (xs ++ y ∷ []) k d ≡ get_or xs k d
 front_at [] y d k h = absurd (let no : k < 0 = h in omega arith)

@@ -1,31 +1,22 @@
 -- The seat that speaks for all peers, and what its steps on one lane leave.
-use Rattle.std.proofs.Common.{◌≡◌, ℕ, zero, suc, ◌+◌, ◌*◌, ◌%◌, ◌<◌, ◌≤◌, ◌≢◌, ◌⊎◌, ⊎_elim, inl, inr, true, false, List, [], ◌∷◌, ◌++◌, length, take, sym, refl, ap, ◌∙◌, subst, arith, length-set, length-append, append_assoc, append-nil, get_or-set_same, get_or-set_other, le_refl, min}
+use Rattle.std.proofs.Common.{◌≡◌, ℕ, ◌<◌, ◌≢◌, ◌⊎◌, inl, inr, List, [], ◌∷◌, ◌++◌, length, sym, refl, ap, ◌∙◌, subst, length-set, append_assoc, append-nil, get_or-set_same, get_or-set_other}
 use mathlib.Core.Logic.{dite}
 use mathlib.Core.List.{map-append}
 use native.Mathlib.Decide.{ℕ_discrete}
-use lib.Seq.{set-set, set-get_or}
 use Rattle.std.specs.Prelude.{Option, Some, None}
-use Rattle.std.proofs.lemmas.Option.{none-some, same_Some}
-use Rattle.atomic_table.specs.Table.{rest, turned}
 use Rattle.fab_base.specs.declared.frames.FrameHead.{FrameHead}
 use Rattle.fab_base.specs.declared.frames.Frame.{Frame}
 use Rattle.fab_wire.specs.declared.moves.Move.{Move}
-use Rattle.fab_wire.specs.declared.moves.Move.TheVariants.{Take}
-use Rattle.fab_wire.specs.Frames.{last_head, MayCome, IsLane}
+use Rattle.fab_wire.specs.Frames.{last_head, IsLane}
 use Rattle.fab_table.specs.declared.fabric.Fabric.{Fabric}
 use Rattle.fab_table.specs.declared.fabric.PeerSeat.{PeerSeat}
-use Rattle.fab_table.specs.declared.kinds.Command.{Command}
 use Rattle.fab_table.specs.declared.kinds.Sent.{Sent}
-use Rattle.fab_table.specs.declared.kinds.Slot.{Slot}
-use Rattle.fab_table.specs.declared.kinds.Out.{Out}
 use Rattle.fab_table.specs.declared.kinds.In.{In}
 use Rattle.fab_table.specs.declared.kinds.Part.{Part}
 use Rattle.fab_table.specs.declared.kinds.View.{View}
-use Rattle.fab_table.specs.Views.{frame_of, frames_of, new_part, new_in, part_at, out_at, in_at, with_part, with_in, saw_frame, freed_one, taken_one, has_slot}
-use Rattle.fab_table.specs.Rule.{Says, Fills, IsShort}
-use Rattle.fab_table.specs.Plays.{Sat, SawPut, new_in_view, take_view, oldest_cell, slot_home}
-use Rattle.fab_table.specs.Seats.{IsOf, carried, view_of_seat, sat, part_of, in_of, out_of}
-use Rattle.fab_ring.specs.Gather.{IsPartOf, IsJoined, IsOpen, Took, Grew}
+use Rattle.fab_table.specs.Views.{frame_of, frames_of, new_part, new_in, part_at, in_at, with_part, with_in}
+use Rattle.fab_table.specs.Seats.{carried, view_of_seat, part_of, in_of}
+use Rattle.fab_ring.specs.Gather.{IsPartOf, IsJoined, Grew}
 
 module _ (v : View) (r : ℕ) (p : Part) (near : r < length v.parts) where
   pub part_here : part_at (with_part v r p) r ≡ p

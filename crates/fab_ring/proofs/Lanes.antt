@@ -1,11 +1,10 @@
 -- One frame of a lane is taken by the seat that speaks for all peers.
-use Rattle.std.proofs.Common.{◌≡◌, ℕ, zero, suc, ◌+◌, ◌-◌, ◌*◌, ◌%◌, ◌<◌, ◌≤◌, ◌≢◌, ◌⊎◌, ⊎_elim, inl, inr, true, false, min, List, [], ◌∷◌, ◌++◌, length, take, sym, refl, ap, ◌∙◌, subst, arith, get_or-set_same, append-nil}
-use Rattle.std.specs.Prelude.{Option, Some, None}
+use Rattle.std.proofs.Common.{◌≡◌, ℕ, ◌+◌, ◌*◌, ◌<◌, ⊎_elim, inl, inr, true, List, [], ◌∷◌, ◌++◌, length, take, sym, ap, ◌∙◌, subst, arith}
+use Rattle.std.specs.Prelude.{Some}
 use Rattle.std.proofs.lemmas.Option.{none-some, same_Some}
 use Rattle.atomic_table.specs.Table.{rest, turned}
 use Rattle.fab_wire.specs.declared.moves.Move.{Move}
 use Rattle.fab_wire.specs.declared.moves.Move.TheVariants.{Take}
-use Rattle.fab_wire.specs.Frames.{last_head, MayCome}
 use Rattle.fab_table.specs.declared.fabric.Fabric.{Fabric}
 use Rattle.fab_table.specs.declared.fabric.PeerSeat.{PeerSeat}
 use Rattle.fab_table.specs.declared.kinds.Command.{Command}
@@ -15,10 +14,10 @@ use Rattle.fab_table.specs.declared.kinds.Slot.TheVariants.{Cell, Pool}
 use Rattle.fab_table.specs.declared.kinds.In.{In}
 use Rattle.fab_table.specs.declared.kinds.Part.{Part}
 use Rattle.fab_table.specs.declared.kinds.View.{View}
-use Rattle.fab_table.specs.Views.{frames_of, new_in, part_at, in_at, with_part, with_in, saw_frame, freed_one, taken_one, has_slot, lane_of}
-use Rattle.fab_table.specs.Rule.{Says, Fills, IsShort, cell_of}
-use Rattle.fab_table.specs.Plays.{Sat, Opens, new_in_view, take_view, oldest_of, oldest_cell, slot_home}
-use Rattle.fab_table.specs.Seats.{IsOf, carried, view_of_seat, sat, part_of, in_of}
+use Rattle.fab_table.specs.Views.{part_at, in_at, saw_frame, freed_one, taken_one, has_slot, lane_of}
+use Rattle.fab_table.specs.Rule.{cell_of}
+use Rattle.fab_table.specs.Plays.{Sat, Opens, new_in_view, take_view, oldest_cell, slot_home}
+use Rattle.fab_table.specs.Seats.{carried, view_of_seat, sat, part_of, in_of}
 use Rattle.fab_ring.specs.Gather.{IsPartOf, IsJoined, IsOpen, Grew}
 use Rattle.fab_ring.proofs.Ends.{Found, the_filled, the_said}
 use Rattle.fab_ring.proofs.Joined.{Sided, sided, side_part, side_in, sided_then, sided_joined, sided_grew}

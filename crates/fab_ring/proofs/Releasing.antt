@@ -1,10 +1,10 @@
 -- A port's open frames are stepped over, and the seats of all ports become one.
-use Rattle.std.proofs.Common.{◌≡◌, ℕ, zero, suc, ◌+◌, ◌-◌, ◌*◌, ◌<◌, ◌≤◌, ◌≢◌, Bool, List, [], ◌∷◌, ◌++◌, length, get_or, sym, refl, ap, ◌∙◌, subst, arith, length-set, length-append, append_assoc, append-nil, get_or-set_same, get_or-set_other}
+use Rattle.std.proofs.Common.{◌≡◌, ℕ, zero, suc, ◌+◌, ◌-◌, ◌*◌, ◌<◌, ◌≤◌, Bool, List, [], ◌∷◌, ◌++◌, length, get_or, sym, refl, ap, ◌∙◌, subst, arith, length-set, length-append, append_assoc, append-nil, get_or-set_same, get_or-set_other}
 use mathlib.Core.Logic.{dite}
 use mathlib.Core.List.{IsPrefix}
 use native.Mathlib.Decide.{ℕ_discrete}
 use Rattle.std.specs.Prelude.{Option, Some, None, slice_get, option_to_list, if◌then◌else◌, ◌==◌}
-use Rattle.std.proofs.lemmas.Option.{none-some, same_Some, slice_get_within}
+use Rattle.std.proofs.lemmas.Option.{same_Some, slice_get_within}
 use Rattle.std.specs.Arc.{arc_value}
 use Rattle.fab_wire.specs.declared.moves.Move.{Move}
 use Rattle.fab_wire.specs.declared.moves.Move.TheVariants.{Post, Take}
@@ -19,9 +19,9 @@ use Rattle.fab_table.specs.declared.kinds.View.{View}
 use Rattle.fab_table.specs.Views.{new_in, new_part, part_at, in_at, with_in, taken_one, both}
 use Rattle.fab_table.specs.Seats.{IsOf, carried, view_of_seat}
 use Rattle.fab_ring.specs.declared.port.RingPort.{RingPort}
-use Rattle.fab_ring.specs.Hands.{shapes, span, ring, held, held_of, Fits}
+use Rattle.fab_ring.specs.Hands.{shapes, span, held, held_of, Fits}
 use Rattle.fab_ring.specs.Ports.{part_of}
-use Rattle.fab_ring.specs.Gather.{AreAll, Released, IsPartOf, IsJoined, IsWhole}
+use Rattle.fab_ring.specs.Gather.{AreAll, Released, IsPartOf, IsWhole}
 
 posts_take : (d s k : ℕ) (ms : List Move) → posts_to d (ms ++ Take s k ∷ []) ≡ posts_to d ms
 posts_take d s k [] = refl

@@ -1,13 +1,12 @@
 -- What was taken and what was posted, where one seat speaks for all peers.
-use Rattle.std.proofs.Common.{◌≡◌, ℕ, zero, suc, ◌+◌, ◌-◌, ◌<◌, ◌≤◌, ◌≢◌, max, Bool, true, false, List, [], ◌∷◌, ◌++◌, map, length, take, drop, get_or, Vec, Global, sym, refl, ap, ◌∙◌, subst, arith, length-append, append_assoc, append-nil}
+use Rattle.std.proofs.Common.{◌≡◌, ℕ, zero, suc, ◌+◌, ◌<◌, ◌≤◌, max, Bool, true, false, List, [], ◌∷◌, ◌++◌, map, length, take, drop, get_or, Vec, Global, sym, refl, ap, ◌∙◌, subst, arith, length-append, append_assoc, append-nil}
 use mathlib.Core.Logic.{dite}
 use mathlib.Core.List.{IsPrefix, map-append}
 use native.Mathlib.Decide.{dec_lt}
 use lib.ListN.{length-map}
 use Rattle.std.specs.Prelude.{Option, Some, None, slice_get, slice_index_or, option_to_list, if◌then◌else◌, ◌==◌}
-use Rattle.std.specs.List.{All}
 use Rattle.std.proofs.lemmas.List.Elements.{All-from_get_or}
-use Rattle.std.proofs.lemmas.Option.{none-some, same_Some, slice_get_within, get_or_from_slice_get}
+use Rattle.std.proofs.lemmas.Option.{none-some, same_Some, slice_get_within}
 use Rattle.fab_base.specs.declared.frames.FrameHead.{FrameHead}
 use Rattle.fab_base.specs.declared.frames.Frame.{Frame}
 use Rattle.fab_wire.specs.declared.moves.Move.{Move}
@@ -15,15 +14,13 @@ use Rattle.fab_wire.specs.declared.moves.Move.TheVariants.{Post, Take}
 use Rattle.fab_wire.specs.Frames.{last_head, MayCome, IsLane}
 use Rattle.fab_wire.specs.Merged.{IsStampedAbove, IsStamped, posts_to, takes_of, merges}
 use Rattle.fab_wire.proofs.Merging.{stamped_merge}
-use Rattle.fab_link.specs.Meaning.{AreFresh, end_of, taken_end}
+use Rattle.fab_link.specs.Meaning.{AreFresh}
 use Rattle.fab_link.specs.Plain as plain
 use Rattle.fab_link.specs.Plain.{Plain, Lane, lane_at, fresh_lane}
 use Rattle.fab_table.specs.declared.fabric.Fabric.{Fabric}
 use Rattle.fab_table.specs.declared.fabric.PeerSeat.{PeerSeat}
 use Rattle.fab_table.specs.declared.kinds.Sent.{Sent}
 use Rattle.fab_table.specs.declared.kinds.Out.{Out}
-use Rattle.fab_table.specs.declared.kinds.In.{In}
-use Rattle.fab_table.specs.declared.kinds.Part.{Part}
 use Rattle.fab_table.specs.Views.{frame_of, frames_of, new_out, part_at, in_at, out_at}
 use Rattle.fab_table.specs.Rule.{Kept, number}
 use Rattle.fab_table.specs.Plays.{Sat, learned}
@@ -31,11 +28,10 @@ use Rattle.fab_table.specs.Seats as seats
 use Rattle.fab_table.specs.Seats.{sat, view_of_seat}
 use Rattle.fab_ring.specs.declared.port.RingPort.{RingPort}
 use Rattle.fab_ring.specs.declared.rooms.Inside.{Inside}
-use Rattle.fab_ring.specs.Ports.{frame_in, part_of, number_of, moves_of, out_of, in_of}
-use Rattle.fab_ring.specs.Gather.{AreAll, GoesOn, Gathered, Released, IsPartOf, IsJoined, IsRoom, AreRooms, AreAllRooms, Succeeds, AreSuccessors, IsWhole, Awaits, Leads, AwaitsEach, AwaitsAll, Emptied, Brought, ReceivedAll}
+use Rattle.fab_ring.specs.Ports.{frame_in, part_of, moves_of}
+use Rattle.fab_ring.specs.Gather.{AreAll, GoesOn, Gathered, Released, IsPartOf, IsJoined, IsRoom, AreAllRooms, Succeeds, AreSuccessors, IsWhole, Awaits, Leads, AwaitsAll, Emptied, Brought, ReceivedAll}
 use Rattle.fab_ring.proofs.Facts.{comes_now}
 use Rattle.fab_ring.proofs.Joined.{last_head-append, frames_append}
-use Rattle.fab_ring.proofs.Coming.{posted_same}
 
 get_some : {X : Type 0} (xs : List X) (k : ℕ) → k < length xs → (x : X) × (slice_get xs k ≡ Some x)
 get_some [] k h = absurd (let no : k < 0 = h in omega arith)

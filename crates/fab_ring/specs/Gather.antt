@@ -9,7 +9,6 @@
 --     Awaits, AwaitsEach ..  the same from what the joined seat knows
 --     Emptied, Brought ..    all that was inside a lane came
 use Rattle.std.specs.Prelude.{◌≡◌, ◌≢◌, ℕ, ◌+◌, ◌-◌, ◌*◌, ◌<◌, ◌≤◌, ◌⊎◌, true, false, List, [], ◌∷◌, ◌++◌, length, Option, Some, None, slice_get, slice_index_or, Vec, vec_capacity, option_to_list}
-use Rattle.std.specs.Arc.{arc_value}
 use Rattle.std.specs.declared.alloc.Global.{Global}
 use mathlib.Core.List.{IsPrefix}
 use Rattle.fab_base.specs.declared.frames.FrameHead.{FrameHead}
@@ -25,7 +24,7 @@ use Rattle.fab_table.specs.declared.kinds.Sent.{Sent}
 use Rattle.fab_table.specs.declared.kinds.Part.{Part}
 use Rattle.fab_table.specs.Views.{frames_of, out_at, in_at}
 use Rattle.fab_table.specs.declared.kinds.Slot.{Slot}
-use Rattle.fab_table.specs.Rule.{Says, Fills, IsShort}
+use Rattle.fab_table.specs.Rule.{Fills, IsShort}
 use Rattle.fab_table.specs.Plays.{oldest_cell, slot_home}
 use Rattle.fab_table.specs.Seats as seats
 use Rattle.fab_table.specs.Seats.{IsOf, carried, view_of_seat}

@@ -1,5 +1,5 @@
 -- The two ways to say that lanes end with whole items.
-use Rattle.std.proofs.Common.{◌≡◌, ℕ, Some, None, sym, refl, subst}
+use Rattle.std.proofs.Common.{◌≡◌, ℕ, Some, None, refl, subst}
 use Rattle.std.specs.Prelude.{Option}
 use Rattle.fab_base.specs.declared.frames.FrameHead.{FrameHead}
 use Rattle.fab_wire.specs.Frames.{IsLast}

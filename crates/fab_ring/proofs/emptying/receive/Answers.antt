@@ -1,13 +1,11 @@
-use Rattle.std.proofs.Common.{rules, ◌≡◌, ◌≢◌, ℕ, ◌<◌, ◌≤◌, List, [], ◌∷◌, ◌++◌, length, sym, refl, ap, ◌∙◌, subst, arith, append-nil}
+use Rattle.std.proofs.Common.{rules, ◌≡◌, ℕ, ◌<◌, List, [], ◌∷◌, ◌++◌, length, sym, refl, ap, ◌∙◌, subst, arith, append-nil}
 use mathlib.Core.Logic.{dite}
 use native.Mathlib.Decide.{ℕ_discrete}
-use Rattle.std.specs.Prelude.{Some, slice_get}
+use Rattle.std.specs.Prelude.{slice_get}
 use Rattle.std.proofs.lemmas.Option.{same_Some, slice_get_within}
 use Rattle.fab_base.specs.declared.frames.Frame.{Frame}
 use Rattle.fab_link.specs.Plain.{Lane, lane_at}
 use Rattle.fab_wire.specs.Frames.{IsLane}
-use Rattle.fab_table.specs.declared.fabric.PeerSeat.{PeerSeat}
-use Rattle.fab_table.specs.Seats.{part_of, in_of}
 use Rattle.fab_ring.specs.declared.rooms.Inside.{Inside}
 use Rattle.fab_ring.specs.Gather.{Grew, Awaits, Leads, Emptied}
 use Rattle.fab_ring.proofs.Joined.{grew_outs}

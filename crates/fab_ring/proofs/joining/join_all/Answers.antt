@@ -1,10 +1,7 @@
-use Rattle.std.proofs.Common.{◌≡◌, ℕ, ◌+◌, List, [], ◌∷◌, ◌++◌, length, sym, ap, ◌∙◌, subst, refl, arith, length-append, append-nil, append_assoc, zero}
-use Rattle.std.specs.Prelude.{Some, None, slice_get, option_to_list}
+use Rattle.std.proofs.Common.{◌≡◌, ℕ, List, [], ◌∷◌, ◌++◌, length, sym, ap, ◌∙◌, subst, arith, length-append, append-nil, append_assoc}
 use Rattle.fab_table.specs.Seats.{view_of_seat}
-use Rattle.fab_table.specs.declared.fabric.PeerSeat.{PeerSeat}
 use Rattle.fab_table.specs.declared.kinds.View.{View}
 use Rattle.fab_ring.specs.declared.port.RingPort.{RingPort}
-use Rattle.fab_ring.specs.Gather.{AreAll}
 use Rattle.fab_ring.proofs.Releasing.{Joining, joining_one, joining_more, whole_joined, get_last}
 use Rattle.fab_ring.proofs.joining.join_all.Goals as goal
 

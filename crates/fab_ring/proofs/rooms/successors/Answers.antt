@@ -1,4 +1,4 @@
-use Rattle.std.proofs.Common.{rules, ◌≡◌, ◌+◌, [], ◌∷◌, ◌++◌, length, refl, ap, sym, ◌∙◌, arith, length-append}
+use Rattle.std.proofs.Common.{rules, ◌≡◌, ◌+◌, [], ◌∷◌, ◌++◌, length, refl, ap, ◌∙◌, length-append}
 use Rattle.std.proofs.lemmas.Option.{slice_get_read}
 use Rattle.fab_ring.specs.Gather.{Succeeds}
 use Rattle.fab_ring.proofs.Making.{paired_more}

@@ -1,5 +1,4 @@
-use Rattle.std.proofs.Common.{◌≡◌, ℕ, ◌<◌, ◌≤◌, length, sym, ap, ◌∙◌, subst, arith}
-use Rattle.std.specs.Arc.{arc_value}
+use Rattle.std.proofs.Common.{◌≡◌, length, sym, ap, ◌∙◌, arith}
 use Rattle.fab_ring.specs.Ports.{part_of}
 use Rattle.fab_ring.proofs.Releasing.{releasing_step, releasing_end}
 use Rattle.fab_ring.proofs.port.RingPort.release.Goals as goal

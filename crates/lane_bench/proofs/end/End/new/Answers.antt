@@ -1,4 +1,3 @@
-use Rattle.std.proofs.Common.{rules}
 use Rattle.fab_ring.specs.Ports.{out_of}
 use Rattle.lane_bench.proofs.Betweens.{to_heads}
 use Rattle.lane_bench.proofs.end.End.new.Goals as goal

@@ -1,4 +1,4 @@
-use Rattle.std.proofs.Common.{rules, ℕ, ◌<◌, sym, subst}
+use Rattle.std.proofs.Common.{ℕ, ◌<◌, sym, subst}
 use Rattle.fab_ring.specs.Ports.{out_of}
 use Rattle.lane_bench.proofs.Betweens.{to_items, to_heads}
 use Rattle.lane_bench.proofs.end.End.put.Goals as goal

@@ -1,4 +1,4 @@
-use Rattle.std.proofs.Common.{rules, ℕ, ◌<◌, sym, subst}
+use Rattle.std.proofs.Common.{ℕ, ◌<◌, sym, subst}
 use Rattle.fab_link.specs.Meaning.{Outgoing}
 use Rattle.lane_bench.specs.Between.{AreBetween}
 use Rattle.lane_bench.proofs.end.End.take.Goals as goal

@@ -1,0 +1,7 @@
+//! Tests of ports that are gathered into plain ports.
+//!
+//! They stand in a crate of their own, so that `fab_ring` isn't proved twice.
+#![tactic(auto)]
+
+#[cfg(test)]
+mod gathered;
