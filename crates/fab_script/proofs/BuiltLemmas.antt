@@ -297,7 +297,8 @@ carried_out bytes script e =
     let s = spelt Built bytes script (ok_of (verdict Built bytes) script e) in
     let all : AreBuilt s.after.items =
     lines_keep Built AllBuilt (λ before kept. kept) (λ before number verb args kept built none. with_kind_built (kind_of verb) before number verb args kept built) nothing 1 (lines_of bytes) s.after refl s.lines in
-    subst CarriedOut s.is (all_parts_built s.after.items (range_with_len 0 s.count) all, info_sized (hints_of s.after.settings) s.info s.granted)
+    let sizes = info_sized (hints_of s.after.settings) s.info s.granted in
+    subst CarriedOut s.is (all_parts_built s.after.items (range_with_len 0 s.count) all, sizes.0, sizes.1)
 
 pub is_verdict : (bytes : List ℕ) (result : Result Script ParseRefused) → IsVerdict (verdict Built bytes) result → IfOk result CarriedOut
 unfolding script_of
