@@ -50,11 +50,7 @@ fn machines(alloc: Global, conf: &Conf) -> Result<Vec<Core<ListMatcher>>, NoMemo
 ///
 /// The peers are at rest then: nothing is on its way, no completion is unread, and no line can be done. At a line
 /// that no peer does yet (of one-sided operations, say) the answer is `NoMemory`.
-pub fn run_peers(
-    alloc: Global,
-    conf: &Conf,
-    lists: Vec<Vec<Line>>,
-) -> Result<Vec<Peer>, NoMemory>
+pub fn run_peers(alloc: Global, conf: &Conf, lists: Vec<Vec<Line>>) -> Result<Vec<Peer>, NoMemory>
     requires cq { 2 ≤ conf.now.info.cq }
     requires log { 4 ≤ conf.now.info.log }
     ensures reached { IfOk result (λ peers. Reached (rule fabric) (opened conf.now (map (λ l. l.items) lists.items)) (schedules peers.items) (actors peers.items)) }

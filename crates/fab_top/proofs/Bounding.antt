@@ -37,13 +37,13 @@ at_upto f d (suc n) k below =
       | inr past ↦ (let is : k ≡ n = omega (arith, past, below) in back_of (map f (upto n)) (f n) d k (omega (arith, is, count)) ∙ ap f (sym is))
     ]
 
-opened_is : (conf : Conf) (lists : List (List Line)) (lines : ℕ → List Line) → ((p : ℕ) → p < conf.peers → slice_index_or lists p [] ≡ lines p) → opened conf lists ≡ map (λ p. newly conf (lines p)) (upto conf.peers)
+opened_is : (conf : Conf) (lists : List (List Line)) (lines : ℕ → List Line) → ((p : ℕ) → p < conf.peers → get_or lists p [] ≡ lines p) → opened conf lists ≡ map (λ p. newly conf (lines p)) (upto conf.peers)
 opened_is conf lists lines each = below conf.peers each
   where
-    below : (n : ℕ) → ((p : ℕ) → p < n → slice_index_or lists p [] ≡ lines p) → map (λ p. newly conf (slice_index_or lists p [])) (upto n) ≡ map (λ p. newly conf (lines p)) (upto n)
+    below : (n : ℕ) → ((p : ℕ) → p < n → get_or lists p [] ≡ lines p) → map (λ p. newly conf (get_or lists p [])) (upto n) ≡ map (λ p. newly conf (lines p)) (upto n)
     below zero each = refl
     below (suc n) each =
-        map-append (λ p. newly conf (slice_index_or lists p [])) (upto n) (n ∷ []) ∙ ap (λ xs. xs ++ newly conf (slice_index_or lists n []) ∷ []) (below n (λ p lt. each p (omega (arith, lt))))
+        map-append (λ p. newly conf (get_or lists p [])) (upto n) (n ∷ []) ∙ ap (λ xs. xs ++ newly conf (get_or lists n []) ∷ []) (below n (λ p lt. each p (omega (arith, lt))))
         ∙ ap (λ own. map (λ p. newly conf (lines p)) (upto n) ++ newly conf own ∷ []) (each n (omega arith)) ∙ sym (map-append (λ p. newly conf (lines p)) (upto n) (n ∷ []))
 
 -- the peers with these lines are those of the script's opening

@@ -9,5 +9,5 @@ loop-peer-preserved c =
     let count = c.loop-peer.invariant.0 in
     rw c.in_ok-push.ensures.items (
       (let l = length-append c.loop-peer.all.items (c.in_ok-one.one ∷ []) in omega (arith, l, count)),
-      All-push (λ (machine : Parts). held_of machine ≡ start c.args.conf.now) c.loop-peer.all.items c.in_ok-one.one c.loop-peer.invariant.1 c.in_ok-one.ensures
+      All-push (λ (machine : Parts). held_of machine ≡ start c.args.conf.now) c.loop-peer.all.items c.in_ok-one.one c.loop-peer.invariant.1 c.in_ok-one.ensures,
     )
