@@ -1,21 +1,21 @@
 -- What a call answers, from the tests that it makes.
-use Rattle.std.proofs.Common.{◌≡◌, ℕ, Bool, true, false, cond, List, [], ◌∷◌, ◌++◌, length, Option, Some, None, refl, sym, ap, ◌∙◌}
-use Rattle.std.specs.Prelude.{nat_lt, nat_le, not, find, get_or, position, slice_set, is_some, ◌||◌}
+use Rattle.std.proofs.Common.{◌≡◌, ℕ, Bool, true, false, cond, List, ◌++◌, length, Option, Some, None, refl, sym, ap, ◌∙◌}
+use Rattle.std.specs.Prelude.{nat_lt, find, get_or, position, slice_set, is_some}
 use Rattle.fab_base.specs.declared.faults.Fault.TheVariants.{Again}
 use Rattle.fab_base.specs.declared.faults.Busy.TheVariants.{CqFull}
 use Rattle.fab_base.specs.declared.faults.Fault.{Fault}
 use Rattle.fab_base.specs.declared.items.ItemHead.{ItemHead}
 use Rattle.fab_base.specs.declared.operations.Receive.{Receive}
 use Rattle.fab_base.specs.declared.operations.Arrival.{Arrival}
-use Rattle.fab_base.specs.declared.operations.Coming.TheVariants.{Into, Keep}
+use Rattle.fab_base.specs.declared.operations.Coming.TheVariants.{Into}
 use Rattle.fab_model.specs.State.{State, Receiving, with_rx}
 use Rattle.fab_model.specs.Complete.{release}
-use Rattle.fab_model.specs.Matching.{takes, change_first, remove_first}
-use Rattle.fab_model.specs.Arrivals.{is_wanted, taker, stays, used_up, shut, seated, heading_message, do_draw}
-use Rattle.fab_model.specs.Receiving.{Posting, goes, give, without_first, may_receive, source_is_known, least_is_wrong, want_of, taken_by, receive_of, post, post_fault, cancellable, cancel, cancel_fault, draws}
+use Rattle.fab_model.specs.Matching.{takes}
+use Rattle.fab_model.specs.Arrivals.{is_wanted, stays, used_up, shut, seated, heading_message, do_draw}
+use Rattle.fab_model.specs.Receiving.{Posting, goes, give, without_first, may_receive, source_is_known, least_is_wrong, taken_by, receive_of, post_fault, cancellable, cancel_fault, draws}
 use Rattle.fab_model.proofs.Firsts.{first_at, first_none, remove_first_at}
-use Rattle.fab_machine.specs.Room.{has_room, waits, place_fault, entries_given, entries_drawn, entries_taken}
-use Rattle.fab_machine.specs.Places.{taken_first, placed, kept_newcomer, seated_at, seated_in}
+use Rattle.fab_machine.specs.Room.{waits, place_fault, entries_drawn, entries_taken}
+use Rattle.fab_machine.specs.Places.{placed, kept_newcomer, seated_at, seated_in}
 use Rattle.fab_machine.proofs.Changing.{change_first_at}
 use Rattle.fab_machine.proofs.Growing.{fits_post_none, fits_post_some, fits_cancel}
 

@@ -1,5 +1,5 @@
 -- The elements of an atomic, one after another.
-use Rattle.std.proofs.Common.{◌≡◌, ℕ, zero, suc, ◌+◌, ◌-◌, ◌/◌, ◌%◌, ◌<◌, List, [], ◌∷◌, ◌++◌, length, take, drop, refl, sym, ap, ◌∙◌, arith, append_assoc, append-nil}
+use Rattle.std.proofs.Common.{◌≡◌, ℕ, zero, suc, ◌+◌, ◌-◌, ◌/◌, ◌%◌, ◌<◌, List, [], ◌∷◌, ◌++◌, length, drop, refl, sym, ap, ◌∙◌, arith, append_assoc, append-nil}
 use Rattle.fab_base.specs.declared.items.Atom.{Atom}
 use Rattle.fab_base.specs.Elements.{element_size}
 use Rattle.fab_model.specs.Target.{elements, bytes_of}

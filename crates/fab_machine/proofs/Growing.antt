@@ -1,28 +1,24 @@
 -- How many entries a step writes: what is told before the step of the room that they need is what is so after it.
-use Rattle.std.proofs.Common.{◌≡◌, ℕ, zero, suc, ◌+◌, ◌-◌, ◌<◌, Bool, true, false, cond, List, [], ◌∷◌, ◌++◌, length, take, drop, map, Option, Some, None, refl, sym, ap, subst, ◌∙◌, arith, length-append}
-use Rattle.std.specs.Prelude.{find, is_some, slice_set, not, ◌&&◌, ◌||◌, if◌then◌else◌, nat_le}
-use Rattle.std.specs.List.{list_any}
+use Rattle.std.proofs.Common.{◌≡◌, ℕ, ◌+◌, Bool, true, false, cond, List, [], length, Option, Some, None, refl, sym, subst, arith, length-append}
+use Rattle.std.specs.Prelude.{find, is_some}
 use Rattle.std.specs.Option.{option_map_or}
 use Rattle.fab_base.specs.declared.items.ItemHead.{ItemHead}
-use Rattle.fab_base.specs.declared.items.Kind.{Kind}
-use Rattle.fab_base.specs.declared.items.Kind.TheVariants.{Msg, TagMsg, WriteReq, ReadReq, AtomicReq, Reply}
 use Rattle.fab_base.specs.declared.items.Outcome.{Outcome}
-use Rattle.fab_base.specs.declared.items.Outcome.TheVariants.{Done, BadKey, BadAccess, BadRange}
+use Rattle.fab_base.specs.declared.items.Outcome.TheVariants.{Done}
 use Rattle.fab_base.specs.declared.entries.ErrKind.{ErrKind}
 use Rattle.fab_base.specs.declared.entries.PeekHow.{PeekHow}
 use Rattle.fab_base.specs.declared.entries.PeekHow.TheVariants.{Peek, Claim, Discard}
 use Rattle.fab_base.specs.declared.operations.Receive.{Receive}
 use Rattle.fab_base.specs.declared.operations.Arrival.{Arrival}
 use Rattle.fab_base.specs.declared.operations.Operation.{Operation}
-use Rattle.fab_base.specs.declared.operations.Written.{Written}
 use Rattle.fab_base.specs.declared.entries.Taken.{Taken}
 use Rattle.fab_base.specs.declared.items.Want.{Want}
-use Rattle.fab_model.specs.State.{State, Completions, fits, writing, with_rx, with_tx}
+use Rattle.fab_model.specs.State.{State, Completions, fits, writing, with_tx}
 use Rattle.fab_model.specs.Complete.{fill, book, reply}
 use Rattle.fab_model.specs.Matching.{takes}
 use Rattle.fab_model.specs.Receiving.{Posting, give, drop_arrival, taken_by, receive_of, post, look_at, look, claim_of, take_claimed, drop_claimed, cancellable, cancel}
 use Rattle.fab_model.specs.Sending.{refusal_of, end_with, ending, do_sent, transmitting}
-use Rattle.fab_machine.specs.Room.{has_room, entries_given, entries_ended, entries_of_end, entries_sent}
+use Rattle.fab_machine.specs.Room.{has_room, entries_given, entries_ended, entries_sent}
 
 -- so many entries lead from one queue to the other
 pub record Grows (n : ℕ) (cq after : Completions) : Type 0 where

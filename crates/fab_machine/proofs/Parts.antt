@@ -10,9 +10,8 @@ use Rattle.fab_base.specs.declared.entries.Taken.TheVariants.{Success}
 use Rattle.fab_base.specs.declared.entries.Entry.TheVariants.{Released}
 use Rattle.fab_model.specs.State.{State, Receiving, Transmitting, under_way, write, with_rx}
 use Rattle.fab_model.specs.Matching.{remove_first}
-use Rattle.fab_model.specs.Sending.{is_answered_by, answering, end_with, do_answer}
+use Rattle.fab_model.specs.Sending.{is_answered_by, answering}
 use Rattle.fab_model.specs.Complete.{is_made_by, release, release_multi}
-use Rattle.fab_model.proofs.Firsts.{not_found}
 
 abbrev pub with_posted : List Receive → Receiving → Receiving
 with_posted posted rx = record rx { posted = posted }

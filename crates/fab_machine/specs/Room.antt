@@ -3,7 +3,7 @@
 --     entries_given a       how many a receive writes that takes this arrival at once
 --     entries_sent, entries_tail, entries_drawn      how many a transmission, the bytes of an item and a draw write
 --     place_fault taken s   why a receive that takes this arrival at once, or none, has no place
-use Rattle.std.specs.Prelude.{ℕ, ◌+◌, ◌-◌, Bool, true, false, not, ◌&&◌, ◌||◌, nat_lt, nat_le, is_none, is_some, length, take, drop, List, [], ◌∷◌, Option, Some, None, find, if◌then◌else◌}
+use Rattle.std.specs.Prelude.{ℕ, ◌+◌, ◌-◌, Bool, true, false, not, ◌&&◌, ◌||◌, nat_lt, nat_le, is_none, is_some, length, take, drop, [], ◌∷◌, Option, Some, None, find, if◌then◌else◌}
 use Rattle.fab_base.specs.declared.faults.Fault.{Fault}
 use Rattle.fab_base.specs.declared.faults.Fault.TheVariants.{Again}
 use Rattle.fab_base.specs.declared.faults.Busy.TheVariants.{CqFull, PostedFull}

@@ -1,4 +1,4 @@
-use Rattle.std.proofs.Common.{ℕ, Bool, ◌≡◌, ◌<◌, ◌++◌, true, false, sym, ◌∙◌, List, arith}
+use Rattle.std.proofs.Common.{ℕ, Bool, ◌<◌, ◌++◌, sym, ◌∙◌, List, arith}
 use Rattle.std.specs.Prelude.{codes, decimal, bytes_eq}
 use Rattle.fab_machine.proofs.Numbers.{none_more, found_below}
 use Rattle.fab_machine.proofs.addresses.peer_named.Goals as goal

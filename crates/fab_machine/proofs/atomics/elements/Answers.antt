@@ -1,6 +1,5 @@
-use Rattle.std.proofs.Common.{◌≡◌, ◌-◌, ◌<◌, ℕ, length, arith, ap, sym, ◌∙◌, rules}
+use Rattle.std.proofs.Common.{◌≡◌, ◌-◌, ◌<◌, length, arith, ◌∙◌}
 use Rattle.std.proofs.lemmas.Bool.Decides.{nat_tests}
-use Rattle.fab_base.specs.Elements.{element_size}
 use Rattle.fab_machine.proofs.Elements.{elements_step, elements_end, elements_all}
 use Rattle.fab_machine.proofs.atomics.elements.Goals as goal
 

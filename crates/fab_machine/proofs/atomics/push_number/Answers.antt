@@ -1,4 +1,4 @@
-use Rattle.std.proofs.Common.{◌≡◌, ◌<◌, arith, ap, ◌∙◌}
+use Rattle.std.proofs.Common.{◌<◌, arith}
 use Rattle.fab_machine.proofs.Elements.{push_step}
 use Rattle.fab_machine.proofs.atomics.push_number.Goals as goal
 

@@ -1,4 +1,4 @@
-use Rattle.std.proofs.Common.{◌≡◌, ℕ, ◌<◌, length, arith, sym, ap, ◌∙◌}
+use Rattle.std.proofs.Common.{ℕ, ◌<◌, length, arith, ap}
 use Rattle.fab_base.specs.declared.operations.Arrival.{Arrival}
 use Rattle.fab_model.specs.Arrivals.{completed}
 use Rattle.fab_machine.proofs.Parts.{changed_step}

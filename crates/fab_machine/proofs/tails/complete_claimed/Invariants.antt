@@ -1,4 +1,4 @@
-use Rattle.std.proofs.Common.{◌≡◌, ◌++◌, map, take, drop, length}
+use Rattle.std.proofs.Common.{◌≡◌, ◌++◌, map, take, drop}
 use Rattle.fab_model.specs.Arrivals.{completed}
 use Rattle.fab_machine.proofs.tails.complete_claimed.Given as goal
 

@@ -1,4 +1,4 @@
-use Rattle.std.proofs.Common.{◌<◌, length, arith, sym, ◌∙◌}
+use Rattle.std.proofs.Common.{◌<◌, length, arith}
 use Rattle.fab_model.specs.Arrivals.{completed}
 use Rattle.fab_machine.proofs.Parts.{changed_step}
 use Rattle.fab_machine.proofs.tails.complete_unexpected.Goals as goal

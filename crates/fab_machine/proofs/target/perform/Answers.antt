@@ -1,10 +1,10 @@
-use Rattle.std.proofs.Common.{◌≡◌, ℕ, true, false, List, take, drop, Some, None, refl, sym, ap, ◌∙◌, rules}
+use Rattle.std.proofs.Common.{◌≡◌, ℕ, false, List, take, drop, Some, None, sym, ap, ◌∙◌, rules}
 use Rattle.std.specs.Prelude.{find}
 use Rattle.fab_base.specs.declared.items.Outcome.{Outcome}
 use Rattle.fab_base.specs.declared.items.Outcome.TheVariants.{Done}
 use Rattle.fab_model.specs.Matching.{change_first}
 use Rattle.fab_model.specs.State.{Region}
-use Rattle.fab_model.specs.Target.{Performed, is_keyed, outcome_of, range_of, reach_of, handed_back, changed_range, put_range}
+use Rattle.fab_model.specs.Target.{Performed, is_keyed, range_of, reach_of, handed_back, changed_range, put_range}
 use Rattle.fab_machine.specs.NewElements.{is_done}
 use Rattle.fab_machine.proofs.Performing.{perform_none, perform_refused, perform_done, done_is}
 use Rattle.fab_machine.proofs.target.perform.Goals as goal

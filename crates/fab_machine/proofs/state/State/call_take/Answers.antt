@@ -1,4 +1,4 @@
-use Rattle.std.proofs.Common.{◌≡◌, refl, ap, sym, ◌∙◌, rules}
+use Rattle.std.proofs.Common.{ap, ◌∙◌}
 use Rattle.fab_base.specs.declared.peers.LineResult.{LineResult}
 use Rattle.fab_base.specs.declared.peers.LineResult.TheVariants.{Done}
 use Rattle.fab_model.specs.State.{State}

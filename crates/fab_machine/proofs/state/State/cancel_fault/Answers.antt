@@ -1,5 +1,5 @@
 use Rattle.std.proofs.Common.{◌≡◌, Some, true, false, ap, sym, ◌∙◌, rules}
-use Rattle.std.specs.Prelude.{is_some, not}
+use Rattle.std.specs.Prelude.{is_some}
 use Rattle.fab_model.specs.Receiving.{cancellable}
 use Rattle.fab_machine.specs.Seen.{rx_of, state_of}
 use Rattle.fab_machine.specs.Places.{chosen}

@@ -1,4 +1,4 @@
-use Rattle.std.proofs.Common.{arith, ◌≡◌, Some, None, true, false, sym, ap, ◌∙◌, rules, refl}
+use Rattle.std.proofs.Common.{arith, ◌≡◌, Some, None, sym, rules, refl}
 use Rattle.std.specs.Prelude.{position, find}
 use Rattle.fab_model.specs.Matching.{takes}
 use Rattle.fab_model.specs.Receiving.{draws}

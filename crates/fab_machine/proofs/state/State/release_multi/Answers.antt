@@ -1,7 +1,7 @@
-use Rattle.std.proofs.Common.{◌≡◌, Some, None, List, ℕ, false, rules, refl, ap, sym, ◌∙◌}
+use Rattle.std.proofs.Common.{◌≡◌, Some, List, false, rules, ap, sym, ◌∙◌}
 use Rattle.std.specs.Prelude.{find}
 use Rattle.fab_base.specs.declared.operations.Receive.{Receive}
-use Rattle.fab_model.specs.State.{State, under_way}
+use Rattle.fab_model.specs.State.{under_way}
 use Rattle.fab_model.specs.Complete.{is_made_by}
 use Rattle.fab_machine.specs.Seen.{state_of}
 use Rattle.fab_machine.proofs.Parts.{release_some, let_go_in}
