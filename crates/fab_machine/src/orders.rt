@@ -1,0 +1,249 @@
+//! Transmit calls, and why they are refused (fi_msg(3), fi_tagged(3), fi_rma(3), fi_atomic(3)).
+ghost use Rattle.std.specs.Prelude.{◌≡◌, ◌+◌, ◌≤◌, length, IfOk};
+ghost use Rattle.fab_base.specs.Elements.{element_size, is_of_form};
+ghost use Rattle.fab_model.specs.Sending.{atom_is_granted, is_granted, most_bytes, is_too_long, is_well_formed, transmit_fault, ack_of, head_of, is_silent, is_answered, class_of};
+ghost use Rattle.fab_machine.specs.Seen.{order_of, state_of};
+
+use crate::matching::is_message;
+use crate::state::State;
+use fab_base::{
+    Ack, Atom, AtomicOp, Buf, Busy, Caps, Class, Fault, Form, ItemHead, Kind, Level, NoMemory, Num,
+    Outcome,
+};
+
+/// A transmit call. `injected` says that it is one of the inject calls. `bytes` are those of the message,
+/// the write or the operand, `compared` the compares of an atomic, and `buf` comes back when it ends.
+#[derive(Drop)]
+pub struct Order {
+    pub kind: Kind,
+    pub injected: bool,
+    pub dest: u32,
+    pub tag: u64,
+    pub imm: Option<u64>,
+    pub key: u64,
+    pub at: u64,
+    pub count: u64,
+    pub atom: Option<Atom>,
+    pub bytes: Buf,
+    pub compared: Buf,
+    pub ctx: Option<u64>,
+    pub level: Level,
+    pub completion: bool,
+    pub buf: Option<Buf>,
+}
+
+/// How many bytes an element has.
+pub fn element_size(num: Num) -> usize
+    ensures size { result ≡ element_size num }
+    ensures low { 1 ≤ result }
+    ensures high { result ≤ 8 }
+{
+    match num {
+        Num::I8 | Num::U8 => 1,
+        Num::I16 | Num::U16 => 2,
+        Num::I32 | Num::U32 => 4,
+        Num::I64 | Num::U64 => 8,
+    }
+}
+
+/// Whether the operation may be asked for in this form.
+fn is_of_form(op: AtomicOp, form: Form) -> bool
+    ensures { result ≡ is_of_form op form }
+{
+    match op {
+        AtomicOp::AtomicRead => match form {
+            Form::Fetch => true,
+            Form::Base | Form::Compare => false,
+        },
+        AtomicOp::Cswap
+        | AtomicOp::CswapNe
+        | AtomicOp::CswapLe
+        | AtomicOp::CswapLt
+        | AtomicOp::CswapGe
+        | AtomicOp::CswapGt
+        | AtomicOp::Mswap => match form {
+            Form::Compare => true,
+            Form::Base | Form::Fetch => false,
+        },
+        _ => match form {
+            Form::Compare => false,
+            Form::Base | Form::Fetch => true,
+        },
+    }
+}
+
+/// Whether the capabilities that an atomic needs besides FI_ATOMIC are granted.
+fn atom_is_granted(caps: &Caps, atom: Option<Atom>) -> bool
+    ensures { result ≡ atom_is_granted caps.now atom }
+{
+    let Some(atom) = atom else {
+        return false;
+    };
+    match atom.form {
+        Form::Base => caps.write,
+        Form::Fetch => match atom.op {
+            AtomicOp::AtomicRead => caps.read,
+            _ => caps.read && caps.write,
+        },
+        Form::Compare => caps.read && caps.write,
+    }
+}
+
+/// Whether the capabilities that a call needs are granted.
+fn is_granted(caps: &Caps, kind: Kind, atom: Option<Atom>) -> bool
+    ensures { result ≡ is_granted caps.now kind atom }
+{
+    match kind {
+        Kind::Msg => caps.msg && caps.send,
+        Kind::TagMsg => caps.tagged && caps.send,
+        Kind::ReadReq => caps.rma && caps.read,
+        Kind::WriteReq => caps.rma && caps.write,
+        Kind::AtomicReq => caps.atomic && atom_is_granted(caps, atom),
+        Kind::Reply => false,
+    }
+}
+
+/// The most bytes of a call, its operand, compare and buffer included.
+fn most_bytes(kind: Kind, injected: bool) -> u64
+    ensures most { result ≡ most_bytes kind injected }
+    ensures narrow { result ≤ 16_777_216 }
+{
+    match kind {
+        Kind::AtomicReq => 4_096,
+        _ => if injected { 4_096 } else { 16_777_216 },
+    }
+}
+
+impl Order {
+    /// How many bytes the item has.
+    pub fn total(&self) -> u128
+        ensures { result ≡ length self.now.bytes + length self.now.compared }
+    {
+        self.bytes.as_slice().len() as u128 + self.compared.as_slice().len() as u128
+    }
+
+    fn is_too_long(&self) -> bool
+        ensures { result ≡ is_too_long (order_of self.now) }
+    {
+        let most = most_bytes(self.kind, self.injected);
+        self.total() > most as u128 || self.count > most
+    }
+
+    /// Whether `at` and all lengths are multiples of the element's size and agree, and the operation
+    /// belongs to the form.
+    fn is_well_formed(&self) -> bool
+        ensures { result ≡ is_well_formed (order_of self.now) self.now.atom }
+    {
+        let Some(atom) = self.atom else {
+            return true;
+        };
+        let size = element_size(atom.num) as u64;
+        let operand = match atom.op {
+            AtomicOp::AtomicRead => 0,
+            _ => self.count,
+        };
+        let compared = match atom.form {
+            Form::Base | Form::Fetch => 0,
+            Form::Compare => self.count,
+        };
+        self.at % size == 0
+            && self.count % size == 0
+            && is_of_form(atom.op, atom.form)
+            && self.bytes.as_slice().len() as u64 == operand
+            && self.compared.as_slice().len() as u64 == compared
+    }
+
+    /// The head of the item, which is not too long.
+    pub fn head(&self, op: u64) -> Result<ItemHead, NoMemory>
+        ensures { IfOk result (λ head. head ≡ head_of op (order_of self.now)) }
+    {
+        let Ok(total) = u32::try_from(self.total()) else {
+            return Err(NoMemory);
+        };
+        let Ok(count) = u32::try_from(self.count) else {
+            return Err(NoMemory);
+        };
+        Ok(ItemHead {
+            kind: self.kind,
+            op,
+            tag: self.tag,
+            imm: self.imm,
+            ack: ack_of(self.kind, self.level),
+            key: self.key,
+            at: self.at,
+            count,
+            atom: self.atom,
+            outcome: Outcome::Done,
+            total,
+        })
+    }
+}
+
+/// When the target owes a reply: messages ask for it by their level.
+fn ack_of(kind: Kind, level: Level) -> Ack
+    ensures { result ≡ ack_of kind level }
+{
+    if !is_message(kind) {
+        return Ack::Nothing;
+    }
+    match level {
+        Level::Inject | Level::Transmit => Ack::Nothing,
+        Level::Delivery => Ack::Delivery,
+        Level::Match => Ack::Match,
+    }
+}
+
+/// Whether the reply has bytes: that of a read, or of a fetching or comparing atomic.
+pub fn is_answered(head: &ItemHead) -> bool
+    ensures { result ≡ is_answered head.now }
+{
+    match head.kind {
+        Kind::ReadReq => true,
+        Kind::AtomicReq => match head.atom {
+            None => false,
+            Some(atom) => match atom.form {
+                Form::Base => false,
+                Form::Fetch | Form::Compare => true,
+            },
+        },
+        Kind::Msg | Kind::TagMsg | Kind::WriteReq | Kind::Reply => false,
+    }
+}
+
+/// The class of counters in which the operation counts.
+pub fn class_of(head: &ItemHead) -> Class
+    ensures { result ≡ class_of head.now }
+{
+    if is_message(head.kind) {
+        Class::Send
+    } else if is_answered(head) {
+        Class::Read
+    } else {
+        Class::Write
+    }
+}
+
+impl State {
+    /// Why the transmit call is refused, the first reason first.
+    #[tactic(auto, unfolding(fab_model::specs::Sending::transmit_fault))]
+    pub fn transmit_fault(&self, order: &Order) -> Option<Fault>
+        ensures { result ≡ transmit_fault (state_of self.now) (order_of order.now) }
+    {
+        if !is_granted(&self.caps, order.kind, order.atom) {
+            return Some(Fault::NotSupported);
+        }
+        if order.is_too_long() {
+            return Some(Fault::MsgSize);
+        }
+        if self.lookup(order.dest).is_none()
+            || self.tx.ops >= 4_611_686_018_427_387_904
+            || !order.is_well_formed()
+        {
+            return Some(Fault::Invalid);
+        }
+        if self.tx.live.len() >= self.most_tx as usize {
+            return Some(Fault::Again(Busy::TxFull(self.most_tx)));
+        }
+        None
+    }
+}

@@ -1,0 +1,316 @@
+//! What a peer transmits: the transmit calls, the transmission of an item, and the end of an operation.
+ghost use Rattle.std.specs.Prelude.{◌≡◌, ◌+◌, ◌++◌, ◌∷◌, [], length, OnOk, IfOk, IfSome, IfNone, find, position, unwrap_or};
+ghost use Rattle.std.specs.Option.{option_map};
+ghost use Rattle.fab_base.specs.declared.items.Outcome.TheVariants.{Done};
+ghost use Rattle.fab_model.specs.State.{accepted_for, awaits, with_tx};
+ghost use Rattle.fab_model.specs.Matching.{remove_first};
+ghost use Rattle.fab_model.specs.Calls.{Transmit, do_call};
+ghost use Rattle.fab_model.specs.Sending.{accepting, item_of, operation_of, transmit, success_of, refusal_of, end_with, ends_at_sent, is_of_item, ending, transmitting, do_sent, expects, is_answered_by, answering, do_answer};
+ghost use Rattle.fab_machine.specs.Seen.{order_of, tx_of, state_of};
+
+use crate::entries::plain_error;
+use crate::lists::{number_at, one_more, raise};
+use crate::matching::{is_message, is_tagged};
+use crate::orders::{Order, class_of, is_answered};
+use crate::state::{State, Transmitting};
+use fab_base::{
+    Ack, Buf, Entry, ErrKind, Item, ItemHead, Kind, LineResult, NoMemory, Operation, Outcome, Taken,
+};
+use std::alloc::Global;
+
+/// Whether the operation is a message that completes when it is transmitted.
+fn ends_at_sent(operation: &Operation) -> bool
+    ensures { result ≡ ends_at_sent operation.now }
+{
+    let asks_for_none = match operation.head.ack {
+        Ack::Nothing => true,
+        Ack::Delivery | Ack::Match => false,
+    };
+    is_message(operation.head.kind) && asks_for_none
+}
+
+/// Whether the operation ends when the item of this place for this peer is transmitted.
+fn is_of_item(operation: &Operation, to: u32, place: u64) -> bool
+    ensures { result ≡ is_of_item to place operation.now }
+{
+    operation.dest == to && operation.place == place && ends_at_sent(operation)
+}
+
+/// Whether the operation expects a reply of this length with this outcome.
+#[tactic(auto, unfolding(fab_model::specs::Sending::expects))]
+fn expects(operation: &Operation, outcome: Outcome, len: u32) -> bool
+    ensures { result ≡ expects operation.now outcome len }
+{
+    match outcome {
+        Outcome::Done => {
+            let expected = if is_answered(&operation.head) {
+                operation.head.count
+            } else {
+                0
+            };
+            len == expected
+        }
+        Outcome::BadKey | Outcome::BadAccess | Outcome::BadRange => {
+            !is_message(operation.head.kind) && len == 0
+        }
+    }
+}
+
+impl Transmitting {
+    /// How many items were accepted for this peer.
+    pub fn accepted_len(&self, to: u32) -> u64
+        ensures { result ≡ length (accepted_for (tx_of self.now) to) }
+    {
+        match self.accepted.get(to as usize) {
+            Some(items) => items.as_slice().len() as u64,
+            None => 0,
+        }
+    }
+
+    /// Whether the operation's item is transmitted.
+    pub fn awaits(&self, operation: &Operation) -> bool
+        ensures { result ≡ awaits (tx_of self.now) operation.now }
+    {
+        operation.place < number_at(self.sent.as_slice(), operation.dest as usize)
+    }
+
+    /// The item joins those accepted for the peer, and the operation those that have not ended.
+    #[tactic(auto, unfolding(fab_model::specs::Sending::accepting))]
+    fn accept(&mut self, to: u32, item: Item, operation: Operation) -> Result<(), NoMemory>
+        ensures { OnOk result (tx_of self.new ≡ accepting to item operation (tx_of self.old)) }
+    {
+        self.ops = one_more(self.ops)?;
+        self.live.push(operation)?;
+        self.join(to, item)
+    }
+
+    /// The operation that ends when the next item for the peer is transmitted.
+    pub fn ending(&self, to: u32) -> Option<&Operation>
+        ensures { option_map (λ o. o.now) result ≡ ending to (tx_of self.now) }
+    {
+        let place = number_at(self.sent.as_slice(), to as usize);
+        self.live.iter().find(|o| is_of_item(o, to, place))
+    }
+
+    /// One more item for the peer is transmitted. The operation that ends then is handed out.
+    #[tactic(auto, unfolding(fab_model::specs::Sending::transmitting))]
+    fn transmit(&mut self, to: u32) -> Result<Option<Operation>, NoMemory>
+        ensures ended { IfOk result (λ o. o ≡ ending to (tx_of self.old)) }
+        ensures sent { OnOk result (tx_of self.new ≡ transmitting to (tx_of self.old)) }
+    {
+        let place = number_at(self.sent.as_slice(), to as usize);
+        raise(&mut self.sent, to as usize)?;
+        Ok(take_ended(&mut self.live, to, place))
+    }
+
+    /// Whether the reply of this peer answers the operation.
+    fn is_answered_by(&self, source: u32, reply: &ItemHead, operation: &Operation) -> bool
+        ensures { result ≡ is_answered_by (tx_of self.now) source reply.now operation.now }
+    {
+        operation.dest == source
+            && operation.head.op == reply.op
+            && self.awaits(operation)
+            && expects(operation, reply.outcome, reply.total)
+    }
+
+    /// Where the first operation stands that the reply answers.
+    fn place_of_answered(&self, source: u32, reply: &ItemHead) -> Option<usize>
+        ensures { result ≡ position (is_answered_by (tx_of self.now) source reply.now) self.now.live.items }
+    {
+        self.live
+            .iter()
+            .position(|o| self.is_answered_by(source, reply, o))
+    }
+
+    /// The operation that the reply answers.
+    pub fn answered(&self, source: u32, reply: &ItemHead) -> Option<&Operation>
+        ensures { option_map (λ o. o.now) result ≡ find (is_answered_by (tx_of self.now) source reply.now) self.now.live.items }
+    {
+        self.live
+            .iter()
+            .find(|o| self.is_answered_by(source, reply, o))
+    }
+
+    /// Takes out the operation that the reply answers.
+    #[tactic(auto, unfolding(fab_model::specs::Sending::answering))]
+    fn take_answered(&mut self, source: u32, reply: &ItemHead) -> Option<Operation>
+        ensures found { result ≡ find (is_answered_by (tx_of self.old) source reply.now) self.old.live.items }
+        ensures rest { tx_of self.new ≡ answering source reply.now (tx_of self.old) }
+        ensures none { IfNone result (tx_of self.new ≡ tx_of self.old) }
+    {
+        let Some(at) = self.place_of_answered(source, reply) else {
+            return None;
+        };
+        Some(self.live.remove(at))
+    }
+}
+
+/// Where the first operation stands that ends with the item of this place for this peer.
+fn place_of_ended(live: &[Operation], to: u32, place: u64) -> Option<usize>
+    ensures { result ≡ position (is_of_item to place) live.now }
+{
+    live.iter().position(|o| is_of_item(o, to, place))
+}
+
+/// Takes the first operation that ends with the item of this place for this peer.
+fn take_ended(live: &mut Vec<Operation>, to: u32, place: u64) -> Option<Operation>
+    ensures found { result ≡ find (is_of_item to place) live.old.items }
+    ensures rest { live.new.items ≡ remove_first (is_of_item to place) live.old.items }
+{
+    let Some(at) = place_of_ended(live.as_slice(), to, place) else {
+        return None;
+    };
+    Some(live.remove(at))
+}
+
+fn buf_or_none(alloc: Global, buf: Option<Buf>) -> Buf
+    ensures { result ≡ unwrap_or buf [] }
+{
+    match buf {
+        Some(buf) => buf,
+        None => Buf::empty(alloc),
+    }
+}
+
+/// The success of an operation whose reply has these bytes.
+#[tactic(auto, unfolding(fab_model::specs::Sending::success_of))]
+fn success_of(alloc: Global, operation: Operation, bytes: Buf) -> Entry
+    ensures { result ≡ success_of operation bytes }
+{
+    let Operation { head, ctx, buf, .. } = operation;
+    let ctx = ctx.unwrap_or(0);
+    let buf = buf_or_none(alloc, buf);
+    match head.kind {
+        Kind::ReadReq => Entry::Read { ctx, buf: bytes },
+        Kind::WriteReq => Entry::Wrote { ctx, buf },
+        Kind::AtomicReq => {
+            if is_answered(&head) {
+                Entry::Fetched { ctx, result: bytes }
+            } else {
+                Entry::Updated { ctx }
+            }
+        }
+        Kind::Msg | Kind::TagMsg | Kind::Reply => {
+            let tagged = is_tagged(head.kind);
+            Entry::Sent { ctx, tagged, buf }
+        }
+    }
+}
+
+/// The error that tells this outcome.
+fn refusal_of(outcome: Outcome) -> Option<ErrKind>
+    ensures { result ≡ refusal_of outcome }
+{
+    match outcome {
+        Outcome::Done => None,
+        Outcome::BadKey => Some(ErrKind::NoKey),
+        Outcome::BadAccess => Some(ErrKind::Access),
+        Outcome::BadRange => Some(ErrKind::Range),
+    }
+}
+
+/// The operation's bytes, the operand first and then the compares.
+fn joined(bytes: Buf, compared: &Buf) -> Result<Buf, NoMemory>
+    ensures { IfOk result (λ b. b ≡ bytes ++ compared.now) }
+{
+    let mut bytes = bytes.into_vec();
+    bytes.extend_from_slice(compared.as_slice())?;
+    Ok(Buf::from_vec(bytes))
+}
+
+impl State {
+    /// The transmit call, if it is not refused.
+    #[tactic(auto, unfolding(fab_model::specs::Sending::transmit, fab_model::specs::Sending::transmit_to))]
+    fn transmit(&mut self, order: Order) -> Result<(), NoMemory>
+        ensures { OnOk result (state_of self.new ≡ transmit (state_of self.old) (order_of order)) }
+    {
+        let Some(to) = self.lookup(order.dest) else {
+            return Ok(());
+        };
+        let head = order.head(self.tx.ops)?;
+        let Order {
+            injected,
+            bytes,
+            compared,
+            ctx,
+            level,
+            completion,
+            buf,
+            ..
+        } = order;
+        let operation = Operation {
+            call: self.calls,
+            dest: to,
+            place: self.tx.accepted_len(to),
+            head,
+            level,
+            ctx,
+            buf,
+            silent: injected || (self.selective && !completion),
+        };
+        let bytes = joined(bytes, &compared)?;
+        self.tx.accept(to, Item { head, bytes }, operation)?;
+        self.accept_call()
+    }
+
+    /// A transmit call.
+    #[tactic(auto, unfolding(fab_model::specs::Calls::do_call))]
+    pub fn call_transmit(&mut self, order: Order) -> Result<LineResult, NoMemory>
+        ensures { IfOk result (λ answer. (answer, state_of self.new) ≡ do_call (state_of self.old) (Transmit (order_of order))) }
+    {
+        match self.transmit_fault(&order) {
+            Some(fault) => Ok(LineResult::Refused(fault)),
+            None => {
+                self.transmit(order)?;
+                Ok(LineResult::Done)
+            }
+        }
+    }
+
+    /// The end of an operation: it counts, and its completion is written unless it is silent and succeeds.
+    #[tactic(auto, unfolding(fab_model::specs::Sending::end_with))]
+    fn end_with(
+        &mut self,
+        outcome: Outcome,
+        bytes: Buf,
+        operation: Operation,
+    ) -> Result<(), NoMemory>
+        ensures { OnOk result (state_of self.new ≡ end_with outcome bytes operation (state_of self.old)) }
+    {
+        let call = Some(operation.call);
+        let class = class_of(&operation.head);
+        if let Some(kind) = refusal_of(outcome) {
+            self.count(class, false);
+            let Operation { ctx, buf, .. } = operation;
+            return self.write(call, plain_error(ctx, kind, buf));
+        }
+        self.count(class, true);
+        if operation.silent {
+            return Ok(());
+        }
+        let entry = success_of(self.alloc, operation, bytes);
+        self.write(call, Taken::Success(entry))
+    }
+
+    /// One more item for the peer is transmitted.
+    #[tactic(auto, unfolding(fab_model::specs::Sending::do_sent))]
+    pub fn do_sent(&mut self, to: u32) -> Result<(), NoMemory>
+        ensures { OnOk result (state_of self.new ≡ do_sent (state_of self.old) to) }
+    {
+        match self.tx.transmit(to)? {
+            None => Ok(()),
+            Some(operation) => self.end_with(Outcome::Done, Buf::empty(self.alloc), operation),
+        }
+    }
+
+    /// A reply is whole: the operation that it answers ends.
+    #[tactic(auto, unfolding(fab_model::specs::Sending::do_answer))]
+    pub fn do_answer(&mut self, source: u32, reply: &ItemHead, bytes: Buf) -> Result<(), NoMemory>
+        ensures { OnOk result (state_of self.new ≡ do_answer (state_of self.old) source reply.now bytes) }
+    {
+        match self.tx.take_answered(source, reply) {
+            None => Ok(()),
+            Some(operation) => self.end_with(reply.outcome, bytes, operation),
+        }
+    }
+}
