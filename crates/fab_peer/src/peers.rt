@@ -10,18 +10,18 @@ ghost use Rattle.fab_finish.specs.Joined.{AreCleared, actors, opened, schedules,
 
 use fab_av::Av;
 use fab_base::{Conf, Line, NoMemory};
+use fab_bins::BinMatcher;
 use fab_core::Core;
 use fab_ep::endpoint::Endpoint;
 use fab_finish::finish;
 use fab_link::PlainPort;
-use fab_match::ListMatcher;
 use std::alloc::Global;
 
 /// A peer of a script.
-pub type Peer = fab_quantum::peer::Peer<Endpoint<PlainPort, Core<ListMatcher>>>;
+pub type Peer = fab_quantum::peer::Peer<Endpoint<PlainPort, Core<BinMatcher>>>;
 
 /// The machine of an endpoint that is opened: all peers are in its address vector.
-fn machine(alloc: Global, conf: &Conf) -> Result<Core<ListMatcher>, NoMemory>
+fn machine(alloc: Global, conf: &Conf) -> Result<Core<BinMatcher>, NoMemory>
     requires cq { 2 ≤ conf.now.info.cq }
     ensures { IfOk result (λ machine. held_of machine ≡ start conf.now) }
 {
@@ -30,7 +30,7 @@ fn machine(alloc: Global, conf: &Conf) -> Result<Core<ListMatcher>, NoMemory>
 }
 
 /// One for each peer.
-fn machines(alloc: Global, conf: &Conf) -> Result<Vec<Core<ListMatcher>>, NoMemory>
+fn machines(alloc: Global, conf: &Conf) -> Result<Vec<Core<BinMatcher>>, NoMemory>
     requires cq { 2 ≤ conf.now.info.cq }
     ensures count { IfOk result (λ all. length all.items ≡ conf.now.peers) }
     ensures start { IfOk result (λ all. All (λ machine. held_of machine ≡ start conf.now) all.items) }
