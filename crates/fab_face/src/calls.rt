@@ -194,8 +194,8 @@ pub trait Receives: Sees {
         ensures err { IfErr result (λ why. ReceivesNot CancelFirst (Self.seen self.old) (Self.seen self.new) why) };
 }
 
-/// Unexpected messages looked at, and buffers for many messages (FI_PEEK, FI_CLAIM, FI_DISCARD,
-/// FI_MULTI_RECV).
+/// Unexpected messages looked at, and set aside (FI_PEEK, FI_CLAIM and FI_DISCARD of fi_tagged(3)). None of
+/// these calls takes memory.
 pub trait Looks: Sees {
     /// Looks for an unexpected message (FI_PEEK). The completion says what was found.
     fn peek(&mut self, source: Option<u32>, tag: u64, ignore: u64, ctx: u64) -> Result<(), Fault>
@@ -221,7 +221,10 @@ pub trait Looks: Sees {
     fn drop_claimed(&mut self, ctx: u64) -> Result<(), Fault>
         ensures ok { OnOk result (Receives (DropClaimed ctx) (Self.seen self.old) (Self.seen self.new)) }
         ensures err { IfErr result (λ why. ReceivesNot (DropClaimed ctx) (Self.seen self.old) (Self.seen self.new) why) };
+}
 
+/// Buffers for many untagged messages (FI_MULTI_RECV of fi_msg(3)).
+pub trait Multis: Sees {
     /// Posts a buffer for many untagged messages, until fewer than `min` bytes are free (FI_MULTI_RECV).
     fn recv_multi(
         &mut self,

@@ -1,68 +1,52 @@
 -- Which lines are read.
---     has language form                a line may have this form
---     form_of_word word                the form that a word has wherever it stands
---     source_form verb args, wait_form verb args      the form of a word that has it only in its place
---     is_built language verb args      all forms of the line are read
-use Rattle.std.specs.Prelude.{ℕ, Bool, true, false, not, ◌&&◌, nat_lt, List, [], ◌∷◌, length, drop, codes, bytes_eq, Option, Some, None}
+--     has language verb            lines with this verb are
+--     stands_here word             the word names no bytes of a payload file
+--     is_built language verb args  the line is read
+use Rattle.std.specs.Prelude.{ℕ, Bool, true, false, not, ◌&&◌, List, codes}
 use Rattle.std.specs.List.{list_all}
-use Rattle.fab_grammar.specs.declared.language.Form.{Form}
-use Rattle.fab_grammar.specs.declared.language.Form.TheVariants.{Line, Index, Hex, Zero, File, Long, Data, Level, Completion, Any}
 use Rattle.fab_grammar.specs.declared.language.Language.{Language}
 use Rattle.fab_grammar.specs.declared.language.Language.TheVariants.{Built, Whole}
+use Rattle.fab_grammar.specs.declared.verbs.Kind.{Kind}
+use Rattle.fab_grammar.specs.declared.verbs.Kind.TheVariants as kind
 use Rattle.fab_grammar.specs.declared.verbs.Verb.{Verb}
 use Rattle.fab_grammar.specs.declared.verbs.Verb.TheVariants as verb
-use Rattle.fab_words.specs.Words.{only_if, begins_with, first_of}
+use Rattle.fab_grammar.specs.Verbs.{kind_of}
+use Rattle.fab_words.specs.Words.{begins_with}
 
--- the lines and forms that the program carries out, and all of the language
-abbrev pub has : Language → Form → Bool
-has Built (Line verb.Peers) = true
-has Built (Line verb.Peer) = true
-has Built (Line verb.TSend) = true
-has Built (Line verb.TRecv) = true
-has Built (Line verb.Wait) = true
-has Built _ = false
-has Whole form = true
+-- the settings that are carried out, and the calls
+abbrev pub is_carried_out : Verb → Bool
+is_carried_out verb.Peers = true
+is_carried_out verb.Caps = true
+is_carried_out verb.Lane = true
+is_carried_out verb.Pool = true
+is_carried_out verb.Tx = true
+is_carried_out verb.Rx = true
+is_carried_out verb.Cq = true
+is_carried_out verb.Selective = true
+is_carried_out verb.Peer = true
+is_carried_out verb.Send = true
+is_carried_out verb.TSend = true
+is_carried_out verb.Inject = true
+is_carried_out verb.TInject = true
+is_carried_out verb.Recv = true
+is_carried_out verb.TRecv = true
+is_carried_out verb.Cancel = true
+is_carried_out verb.Wait = true
+is_carried_out _ = false
 
--- optional words
-abbrev pub optional_forms : List ℕ → List (Bool × Form)
-optional_forms word = (begins_with (codes "data=") word, Data) ∷ (begins_with (codes "level=") word, Level) ∷ (bytes_eq word (codes "completion"), Completion) ∷ []
+abbrev pub has : Language → Verb → Bool
+has Built verb = is_carried_out verb
+has Whole verb = true
 
--- bytes that are written otherwise than by `text:`, and optional words
-abbrev pub other_forms : List ℕ → List (Bool × Form)
-other_forms word = (begins_with (codes "hex:") word, Hex) ∷ (begins_with (codes "zero:") word, Zero) ∷ (begins_with (codes "file:") word, File) ∷ optional_forms word
+abbrev pub stands_here : List ℕ → Bool
+stands_here word = not (begins_with (codes "file:") word)
 
--- the same, or a text of more than 4,096 bytes
-abbrev pub form_of_word : List ℕ → Option Form
-form_of_word word = first_of ((begins_with (codes "text:") word && nat_lt 4096 (length (drop 5 word)), Long) ∷ other_forms word)
-
--- the second word after these verbs is a source
-abbrev pub has_source : Verb → Bool
-has_source verb.Recv = true
-has_source verb.TRecv = true
-has_source verb.MRecv = true
-has_source verb.Peek = true
-has_source verb.Claim = true
-has_source verb.Discard = true
-has_source _ = false
-
-abbrev pub is_any : List ℕ → Bool
-is_any word = bytes_eq word (codes "*")
-
--- a source that is an index
-abbrev pub source_form : Verb → List (List ℕ) → Option Form
-source_form verb (ctx ∷ source ∷ args) = only_if (has_source verb && not (is_any source)) Index
-source_form verb _ = None
-
--- `wait *`
-abbrev pub wait_form : Verb → List (List ℕ) → Option Form
-wait_form verb.Wait (ctx ∷ args) = only_if (is_any ctx) Any
-wait_form _ _ = None
-
-abbrev pub has_form : Language → Option Form → Bool
-has_form language None = true
-has_form language (Some form) = has language form
+-- no payload file is read yet, so that no call names bytes of one
+abbrev pub has_words : Language → Kind → List (List ℕ) → Bool
+has_words Built kind.Call args = list_all stands_here args
+has_words Built kind.Setting args = true
+has_words Built kind.Peer args = true
+has_words Whole kind args = true
 
 unfoldable pub is_built : Language → Verb → List (List ℕ) → Bool
-is_built language verb args =
-    has language (Line verb) && has_form language (source_form verb args) && has_form language (wait_form verb args)
-    && list_all (λ word. has_form language (form_of_word word)) args
+is_built language verb args = has language verb && has_words language (kind_of verb) args

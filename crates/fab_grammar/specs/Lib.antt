@@ -1,5 +1,6 @@
 pub mod Atomics
 pub mod Before
+pub mod Built
 pub mod Capabilities
 pub mod Conf
 pub mod Grammar

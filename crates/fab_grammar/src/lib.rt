@@ -21,7 +21,7 @@ mod verbs;
 pub use atomics::{atom_name, element_size, greatest, num_name};
 pub use capabilities::{CAPS, cap_name};
 pub use items::Item;
-pub use language::{Form, Language};
+pub use language::Language;
 pub use lines::{class_name, read_op};
 pub use options::{Allowed, Optional, Options};
 pub use settings::{Setting, Settings, asking, read_peer, read_setting};

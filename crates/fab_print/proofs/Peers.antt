@@ -30,7 +30,7 @@ use Rattle.fab_grammar.proofs.PartLemmas.{and_true, opened_by-append}
 use Rattle.fab_spell.specs.Again.{Again}
 use Rattle.fab_spell.specs.Spelling.{verb_for, args_for, row_of}
 use Rattle.fab_spell.proofs.Decimals.{number_again, read_number_decimal}
-use Rattle.fab_spell.proofs.Numbers.{is_word-decimal, form-decimal}
+use Rattle.fab_spell.proofs.Numbers.{is_word-decimal}
 use Rattle.fab_print.specs.Print.{item_row, without_number}
 use Rattle.fab_print.proofs.Rules.{none_first}
 use Rattle.fab_print.proofs.Stepping.{Rest, take_row, take_none, verb_row, verb_fits, verb_said}
@@ -45,8 +45,8 @@ peer_words k small = ap (λ b. b && true) (is_word-decimal k)
 
 built_form : (language : Language) (k : ℕ) → k < 2 ^ 64 → is_built language verb.Peer (decimal k ∷ []) ≡ true
 unfolding is_built
-built_form Built k small = rw (form-decimal k) refl
-built_form Whole k small = rw (form-decimal k) refl
+built_form Built k small = refl
+built_form Whole k small = refl
 
 peer_rule : (before : Before) (number k : ℕ) → k < 2 ^ 64 → list_any (λ j. eqb j k) (opened_by before.items) ≡ false → k < count_in before → is_late number ≡ false → first_of (peer_rules before number (decimal k ∷ [])) ≡ None
 unfolding peer_rules

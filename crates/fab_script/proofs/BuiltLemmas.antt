@@ -6,7 +6,7 @@ use Rattle.std.specs.List.{list_all, list_any, range_with_len, slice_split}
 use Rattle.std.proofs.lemmas.Bool.{ltb-false}
 use Rattle.std.proofs.lemmas.Bool.Decides.{nat_tests}
 use Rattle.std.proofs.lemmas.List.Folds.{list_all-append}
-use Rattle.fab_base.specs.Built.{is_built as is_carried_out, all_built, is_short_text, is_at_transmit}
+use Rattle.fab_grammar.specs.Built.{is_built as is_carried_out, all_built}
 use Rattle.fab_base.specs.declared.script.BytesWord.{BytesWord}
 use Rattle.fab_base.specs.declared.script.BytesWord.TheVariants.{Text, Zero}
 use Rattle.fab_base.specs.declared.script.Line.{Line}
@@ -22,8 +22,6 @@ use Rattle.fab_words.specs.declared.fault.Fault.{Fault}
 use Rattle.fab_words.specs.declared.fault.Fault.TheVariants.{Words, Limit}
 use Rattle.fab_grammar.specs.declared.items.Item.{Item}
 use Rattle.fab_grammar.specs.declared.items.Item.TheVariants.{Peer, Does}
-use Rattle.fab_grammar.specs.declared.language.Form.{Form}
-use Rattle.fab_grammar.specs.declared.language.Form.TheVariants.{Line as LineForm, Index, Any, Long, Hex as HexForm, Zero as ZeroForm, File as FileForm, Data, Level as LevelForm, Completion as CompletionForm}
 use Rattle.fab_grammar.specs.declared.language.Language.TheVariants.{Built}
 use Rattle.fab_grammar.specs.declared.settings.Setting.{Setting}
 use Rattle.fab_grammar.specs.declared.settings.Setting.TheVariants.{Peers, Wish, Capabilities, Selective, File}
@@ -34,7 +32,7 @@ use Rattle.fab_grammar.specs.declared.verbs.Verb.TheVariants as verb
 use Rattle.fab_grammar.specs.Before.{Before, nothing, until_peer, part_of}
 use Rattle.fab_words.specs.Faults.{◌&◌, map_ok}
 use Rattle.fab_grammar.specs.Grammar.{verdict, script_of}
-use Rattle.fab_grammar.specs.Language.{has, has_form, optional_forms, form_of_word, source_form, wait_form, is_any, is_built}
+use Rattle.fab_grammar.specs.Language.{is_built}
 use Rattle.fab_grammar.specs.Sends.{a_tsend, read_tagged, for_send, tsend_of}
 use Rattle.fab_grammar.specs.Options.{are_options, value_after, read_if, level_after, level_in, the_options, read_options}
 use Rattle.fab_grammar.specs.declared.options.Allowed.{Allowed}
@@ -50,130 +48,8 @@ use Rattle.fab_words.specs.Words.{first_of, only_if, begins_with, read_number, r
 use Rattle.fab_words.specs.Bytes.{few_bytes, of_hex, file_range, is_colon, read_bytes}
 use Rattle.hex.specs.Hex.{decode_of}
 use Rattle.fab_grammar.proofs.PartLemmas.{and_true}
-use Rattle.fab_spell.proofs.Said.{both_said, said_by}
+use Rattle.fab_spell.proofs.BuiltLines.{here, carried_out}
 use Rattle.fab_script.proofs.KeptLemmas.{lines_keep, spelt}
-
--- ---- a text that is not too long
-fits_short : (fits : Bool) (bytes : List ℕ) (said : BytesWord) → leb (length bytes) 4096 ≡ true → cond fits (Ok (Text bytes)) (Err Limit) ≡ Ok said → is_short_text said ≡ true
-fits_short true bytes said short e =
-    let text : Text bytes ≡ said = cc in
-    subst (λ s. is_short_text s ≡ true) text short
-fits_short false bytes said short e = cc
-
--- bytes that are written in another form are not built
-others_built : (hex zero file : Bool) (a b c : Result BytesWord Fault) (more : List (Bool × Form)) (said : BytesWord) → has_form Built (first_of ((hex, HexForm) ∷ (zero, ZeroForm) ∷ (file, FileForm) ∷ more)) ≡ true → cond hex a (cond zero b (cond file c (Err Words))) ≡ Ok said → is_short_text said ≡ true
-others_built true zero file a b c more said built e = cc
-others_built false true file a b c more said built e = cc
-others_built false false true a b c more said built e = cc
-others_built false false false a b c more said built e = cc
-
-word_built : (text long : Bool) (bytes : List ℕ) (hex zero file : Bool) (a b c : Result BytesWord Fault) (more : List (Bool × Form)) (said : BytesWord) → ltb 4096 (length bytes) ≡ long → has_form Built (first_of ((text && long, Long) ∷ (hex, HexForm) ∷ (zero, ZeroForm) ∷ (file, FileForm) ∷ more)) ≡ true → cond text (few_bytes bytes (Text bytes)) (cond hex a (cond zero b (cond file c (Err Words)))) ≡ Ok said → is_short_text said ≡ true
-word_built true true bytes hex zero file a b c more said l built e = cc
-word_built true false bytes hex zero file a b c more said l built e =
-    let short : leb (length bytes) 4096 ≡ true = grind (arith, nat_tests) in
-    fits_short (leb (length bytes) 33554432) bytes said short e
-word_built false long bytes hex zero file a b c more said l built e = others_built hex zero file a b c more said built e
-
-bytes_built : (word : List ℕ) (said : BytesWord) → read_bytes word ≡ Ok said → has_form Built (form_of_word word) ≡ true → is_short_text said ≡ true
-unfolding read_bytes
-bytes_built word said e built =
-    word_built (begins_with (codes "text:") word) (ltb 4096 (length (drop 5 word))) (drop 5 word) (begins_with (codes "hex:") word) (begins_with (codes "zero:") word) (begins_with (codes "file:") word)
-    (of_hex (decode_of (drop 4 word))) (map_ok Zero (read_len (drop 5 word))) (file_range (slice_split is_colon (drop 5 word)))
-    (optional_forms word) said refl built e
-
--- ---- the lines that are carried out
--- a word that is built says no level
-no_level_word : (a b c d e f : Bool) (more : List (Bool × Form)) → has_form Built (first_of ((a, Long) ∷ (b, HexForm) ∷ (c, ZeroForm) ∷ (d, FileForm) ∷ (e, Data) ∷ (f, LevelForm) ∷ more)) ≡ true → f ≡ false
-no_level_word false false false false false false more built = refl
-no_level_word false false false false false true more built = cc
-no_level_word false false false false true f more built = cc
-no_level_word false false false true e f more built = cc
-no_level_word false false true d e f more built = cc
-no_level_word false true c d e f more built = cc
-no_level_word true b c d e f more built = cc
-
-no_level : (words : List (List ℕ)) → list_all (λ word. has_form Built (form_of_word word)) words ≡ true → value_after (codes "level=") words ≡ None
-no_level [] built = refl
-no_level (word ∷ words) built =
-    let both = and_true (has_form Built (form_of_word word)) (list_all (λ word. has_form Built (form_of_word word)) words) built in
-    let none : begins_with (codes "level=") word ≡ false =
-    no_level_word (begins_with (codes "text:") word && ltb 4096 (length (drop 5 word))) (begins_with (codes "hex:") word) (begins_with (codes "zero:") word) (begins_with (codes "file:") word) (begins_with (codes "data=") word) (begins_with (codes "level=") word) ((bytes_eq word (codes "completion"), CompletionForm) ∷ []) both.0 in
-    rw none (no_level words both.1)
-
-options_built : (allowed : Allowed) (words : List (List ℕ)) (o : Options) → list_all (λ word. has_form Built (form_of_word word)) words ≡ true → read_options allowed words ≡ Ok o → is_at_transmit o.level ≡ true
-unfolding read_options level_in
-options_built allowed words o built e = of_test (are_options allowed words) e
-  where
-    of_test : (test : Bool) → cond test (map_ok (the_options words) (read_if read_number (value_after (codes "data=") words) & read_if read_index (value_after (codes "min=") words))) (Err Words) ≡ Ok o → is_at_transmit o.level ≡ true
-    of_test false e = cc
-    of_test true e =
-        let said = said_by (the_options words) (read_if read_number (value_after (codes "data=") words) & read_if read_index (value_after (codes "min=") words)) o e in
-        subst (λ (p : Options). is_at_transmit p.level ≡ true) said.2 (ap (λ v. is_at_transmit (level_after v)) (no_level words built))
-
-tsend_built : (args : List (List ℕ)) (op : LineOp) → list_all (λ word. has_form Built (form_of_word word)) args ≡ true → tsend_of args ≡ Ok op → is_carried_out op ≡ true
-unfolding tsend_of
-tsend_built (ctx ∷ dest ∷ tag ∷ bytes ∷ options) op forms e =
-    let said = said_by a_tsend (read_tagged ctx dest tag & read_bytes bytes & read_options for_send options) op e in
-    let words = said.0 in
-    let all = both_said (read_tagged ctx dest tag & read_bytes bytes) (read_options for_send options) words said.1 in
-    let word = (both_said (read_tagged ctx dest tag) (read_bytes bytes) words.0 all.0).1 in
-    let rest = and_true (has_form Built (form_of_word bytes)) _ (and_true (has_form Built (form_of_word tag)) _ (and_true (has_form Built (form_of_word dest)) _ (and_true (has_form Built (form_of_word ctx)) _ forms).1).1).1 in
-    let short : is_short_text words.0.1 ≡ true = bytes_built bytes words.0.1 word rest.0 in
-    let transmit : is_at_transmit words.1.level ≡ true = options_built for_send options words.1 rest.1 all.1 in
-    subst (λ o. is_carried_out o ≡ true) said.2 (rw (short, transmit) refl)
-tsend_built _ op forms e = cc
-
-source_built : (any : Bool) (index : Result (Option ℕ) Fault) (said : Option ℕ) → cond any (Ok None) index ≡ Ok said → has_form Built (only_if (true && not any) Index) ≡ true → is_none said ≡ true
-source_built true index said e built = cc
-source_built false index said e built = cc
-
-trecv_built : (args : List (List ℕ)) (op : LineOp) → has_form Built (source_form verb.TRecv args) ≡ true → trecv_of args ≡ Ok op → is_carried_out op ≡ true
-unfolding trecv_of read_source
-trecv_built (ctx ∷ source ∷ tag ∷ ignore ∷ len ∷ []) op built e =
-    let said = said_by a_trecv _ op e in
-    let words = said.0 in
-    let four = (both_said (read_number ctx & read_source source & read_number tag & read_number ignore) (read_len len) words said.1).0 in
-    let three = (both_said (read_number ctx & read_source source & read_number tag) (read_number ignore) words.0 four).0 in
-    let two = (both_said (read_number ctx & read_source source) (read_number tag) words.0.0 three).0 in
-    let from = (both_said (read_number ctx) (read_source source) words.0.0.0 two).1 in
-    subst (λ o. is_carried_out o ≡ true) said.2 (source_built (is_any source) _ words.0.0.0.1 from built)
-trecv_built _ op built e = cc
-
-one_context : (any : Bool) (said : Result ℕ Fault) (op : LineOp) → has_form Built (only_if any Any) ≡ true → cond any (Ok (Wait None)) (map_ok (λ n. Wait (Some n)) said) ≡ Ok op → is_carried_out op ≡ true
-one_context true said op built e = cc
-one_context false said op built e = subst (λ o. is_carried_out o ≡ true) (said_by (λ n. Wait (Some n)) said op e).2 refl
-
-wait_built : (args : List (List ℕ)) (op : LineOp) → has_form Built (wait_form verb.Wait args) ≡ true → wait_of args ≡ Ok op → is_carried_out op ≡ true
-unfolding wait_of
-wait_built (ctx ∷ []) op built e = one_context (is_any ctx) (read_number ctx) op built e
-wait_built _ op built e = cc
-
--- what a line is of whose forms are all built
-pub record Forms (verb : Verb) (args : List (List ℕ)) : Type 0 where
-  pub line : has Built (LineForm verb) ≡ true
-  pub source : has_form Built (source_form verb args) ≡ true
-  pub wait : has_form Built (wait_form verb args) ≡ true
-  pub words : list_all (λ word. has_form Built (form_of_word word)) args ≡ true
-
-pub forms_of : (verb : Verb) (args : List (List ℕ)) → is_built Built verb args ≡ true → Forms verb args
-unfolding is_built
-forms_of verb args e =
-    let words = and_true (has Built (LineForm verb) && has_form Built (source_form verb args) && has_form Built (wait_form verb args)) (list_all (λ word. has_form Built (form_of_word word)) args) e in
-    let wait = and_true (has Built (LineForm verb) && has_form Built (source_form verb args)) (has_form Built (wait_form verb args)) words.0 in
-    let source = and_true (has Built (LineForm verb)) (has_form Built (source_form verb args)) wait.0 in
-    record { line = source.0; source = source.1; wait = wait.1; words = words.1 }
-
-not_built : false ≡ true → ⊥
-not_built e = cc
-
-op_built : (verb : Verb) (args : List (List ℕ)) (op : LineOp) → Forms verb args → op_of verb args ≡ Ok op → is_carried_out op ≡ true
-unfolding op_of
-op_built verb.TSend args op f e = tsend_built args op f.words e
-op_built verb.TRecv args op f e = trecv_built args op f.source e
-op_built verb.Wait args op f e = wait_built args op f.wait e
-op_built verb.Peers args op f e = cc
-op_built verb.Peer args op f e = cc
-op_built _ args op f e = absurd (not_built f.line)
 
 -- ---- each line among the items is built
 abbrev built_item : Item → Bool
@@ -205,7 +81,7 @@ with_call_built before number (Err fault) all built = all
 with_kind_built : (k : Kind) (before : Before) (number : ℕ) (verb : Verb) (args : List (List ℕ)) → AreBuilt before.items → is_built Built verb args ≡ true → AreBuilt (with_kind k before number verb args).items
 with_kind_built kind.Setting before number verb args all e = with_setting_built before (setting_of verb args) all
 with_kind_built kind.Peer before number verb args all e = with_peer_built before (peer_of args) all
-with_kind_built kind.Call before number verb args all e = with_call_built before number (op_of verb args) all (λ op said. op_built verb args op (forms_of verb args e) said)
+with_kind_built kind.Call before number verb args all e = with_call_built before number (op_of verb args) all (λ op said. carried_out verb args op (here verb args e) said)
 
 -- ---- the parts
 abbrev lines_built : List Line → Bool
@@ -291,9 +167,9 @@ abbrev AllBuilt : Before → Type 0
 AllBuilt before = AreBuilt before.items
 
 -- what the program can rely on
-pub carried_out : (bytes : List ℕ) (script : Script) → script_of bytes ≡ Some script → CarriedOut script
+pub script_built : (bytes : List ℕ) (script : Script) → script_of bytes ≡ Some script → CarriedOut script
 unfolding script_of
-carried_out bytes script e =
+script_built bytes script e =
     let s = spelt Built bytes script (ok_of (verdict Built bytes) script e) in
     let all : AreBuilt s.after.items =
     lines_keep Built AllBuilt (λ before kept. kept) (λ before number verb args kept built none. with_kind_built (kind_of verb) before number verb args kept built) nothing 1 (lines_of bytes) s.after refl s.lines in
@@ -302,5 +178,5 @@ carried_out bytes script e =
 
 pub is_verdict : (bytes : List ℕ) (result : Result Script ParseRefused) → IsVerdict (verdict Built bytes) result → IfOk result CarriedOut
 unfolding script_of
-is_verdict bytes (Ok script) e = carried_out bytes script (ap result_ok e)
+is_verdict bytes (Ok script) e = script_built bytes script (ap result_ok e)
 is_verdict bytes (Err refused) e = tt

@@ -1,6 +1,6 @@
 //! From the bytes of a file to its script.
 ghost use Rattle.std.specs.Prelude.{◌≡◌, ◌≤◌, ℕ, List, [], true, Some, None, map, IfOk, IfErr};
-ghost use Rattle.fab_base.specs.Built.{all_built};
+ghost use Rattle.fab_grammar.specs.Built.{all_built};
 ghost use Rattle.fab_grammar.specs.Before.{Before};
 ghost use Rattle.fab_grammar.specs.Grammar.{script_with, script_said, verdict, script_of, refusal_of};
 ghost use Rattle.fab_script.specs.Bound.{outside};

@@ -15,12 +15,11 @@ fn send_of(alloc: Global, len: usize) -> Result<Vec<u8>, Fail> {
     Ok(text)
 }
 
+/// A text of more bytes than a frame has.
 #[test]
-fn longest_text(rt: HostRuntime) -> Result<(), Fail> {
+fn long_text(rt: HostRuntime) -> Result<(), Fail> {
     let longer = send_of(rt.alloc(), 4097)?;
-    is_built(&rt, rt.alloc(), &longer, Some((4, Why::Unbuilt)));
-    let longest = send_of(rt.alloc(), 4096)?;
-    let script = built(rt.alloc(), &longest)?;
+    let script = built(rt.alloc(), &longer)?;
     assert_eq!(rt; script.peers.as_slice().len(), 1);
     Ok(())
 }

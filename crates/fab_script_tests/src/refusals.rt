@@ -22,9 +22,9 @@ fn are_whole(rt: &impl Abort, alloc: Global, rows: &[Row]) {
 /// Texts of lines that are carried out.
 const TEXTS: [Row; 27] = [
     (b"fabric 1\njump hex:61\n", Some((2, Why::Verb))),
-    (b"fabric 1\nsend 1 0 text:a\n", Some((2, Why::Unbuilt))),
+    (b"fabric 1\nput 1 0 text:a\n", Some((2, Why::Unbuilt))),
     (
-        b"fabric 1\npeers 1\npeer 0\nselective 1\n",
+        b"fabric 1\npeers 1\npeer 0\npayload 1 a\n",
         Some((4, Why::Unbuilt)),
     ),
     (b"", Some((0, Why::Header))),
@@ -56,7 +56,7 @@ const TEXTS: [Row; 27] = [
         Some((4, Why::Order)),
     ),
     (b"fabric 1\npeers 1\npeer 0 0\n", Some((3, Why::Words))),
-    (b"fabric 1\npeers 1\ncq 1\n", Some((3, Why::Unbuilt))),
+    (b"fabric 1\npeers 1\ncq 1\n", Some((3, Why::Limit))),
 ];
 
 #[test]

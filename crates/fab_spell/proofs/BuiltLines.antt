@@ -1,138 +1,231 @@
 -- The lines of the language that is carried out are written as lines of it.
-use Rattle.std.proofs.Common.{◌≡◌, ℕ, Bool, true, false, cond, not, ◌&&◌, ltb, List, [], ◌∷◌, length, drop, Option, Some, None, codes, subst, refl}
-use Rattle.std.specs.Prelude.{Result, Ok, Err}
+--     carried_out      what such a line asks for is carried out
+--     again_built      what is carried out is written as such a line
+use Rattle.std.proofs.Common.{◌≡◌, ℕ, ◌<◌, Bool, true, false, cond, not, ◌&&◌, List, [], ◌∷◌, ◌++◌, length, drop, Option, Some, None, codes, decimal, subst, ◌∙◌, refl, arith}
+use Rattle.std.specs.Prelude.{bytes_eq, Result, Ok, Err}
 use Rattle.std.specs.List.{list_all, slice_split}
-use Rattle.std.proofs.lemmas.Bool.{and_parts}
+use Rattle.std.specs.Str.{is_utf8}
+use Rattle.std.proofs.lemmas.Bool.{and_parts, and_from}
+use Rattle.std.proofs.lemmas.List.Folds.{list_all-append}
+use Rattle.fab_grammar.specs.Built.{is_built as is_done, stand_in_line}
+use Rattle.fab_base.specs.declared.peers.Level.{Level}
+use Rattle.fab_base.specs.declared.peers.Level.TheVariants as level
 use Rattle.fab_base.specs.declared.script.BytesWord.{BytesWord}
-use Rattle.fab_base.specs.declared.script.BytesWord.TheVariants.{Text, Zero}
+use Rattle.fab_base.specs.declared.script.BytesWord.TheVariants.{Text, Hex, Zero, File}
 use Rattle.fab_base.specs.declared.script.LineOp.{LineOp}
-use Rattle.fab_base.specs.declared.script.LineOp.TheVariants.{Wait}
-use Rattle.fab_grammar.specs.declared.language.Form.{Form}
-use Rattle.fab_grammar.specs.declared.language.Form.TheVariants.{Line as LineForm, Index, Any, Long, Hex as HexForm, Zero as ZeroForm, File as FileForm}
-use Rattle.fab_grammar.specs.declared.language.Language.TheVariants.{Built}
+use Rattle.fab_base.specs.declared.script.LineOp.TheVariants.{Send, TSend, Inject, TInject, Recv, TRecv, Cancel, Wait}
+use Rattle.fab_grammar.specs.declared.language.Language.TheVariants.{Built, Whole}
+use Rattle.fab_grammar.specs.declared.verbs.Kind.{Kind}
 use Rattle.fab_grammar.specs.declared.verbs.Kind.TheVariants as kind
 use Rattle.fab_grammar.specs.declared.verbs.Verb.{Verb}
 use Rattle.fab_grammar.specs.declared.verbs.Verb.TheVariants as verb
-use Rattle.fab_grammar.specs.Language.{has, has_form, optional_forms, form_of_word, source_form, wait_form, is_any, is_built}
-use Rattle.fab_grammar.specs.Lines.{a_trecv, trecv_of, wait_of, op_of}
+use Rattle.fab_grammar.specs.Language.{is_carried_out, has_words, stands_here, is_built}
+use Rattle.fab_grammar.specs.Lines.{a_recv, recv_of, a_trecv, trecv_of, number_line, wait_of, op_of}
 use Rattle.fab_grammar.specs.Options.{read_options}
-use Rattle.fab_grammar.specs.Sends.{for_send, read_tagged, a_tsend, tsend_of}
+use Rattle.fab_grammar.specs.Sends.{for_send, for_inject, read_to, read_tagged, a_send, send_of, a_tsend, tsend_of, an_inject, inject_of, a_tinject, tinject_of}
 use Rattle.fab_grammar.specs.Verbs.{kind_of}
+use Rattle.fab_model.specs.Words.{hex}
 use Rattle.fab_words.specs.declared.fault.Fault.{Fault}
 use Rattle.fab_words.specs.declared.fault.Fault.TheVariants.{Words}
 use Rattle.fab_words.specs.Bytes.{few_bytes, of_hex, file_range, is_colon, read_bytes}
 use Rattle.fab_words.specs.Faults.{◌&◌, map_ok}
-use Rattle.fab_words.specs.Words.{first_of, only_if, begins_with, read_number, read_index, read_len, read_source}
-use Rattle.fab_words.specs.Written.{is_word}
-use Rattle.fab_spell.specs.Spelling.{bytes_word, verb_for, args_for}
-use Rattle.fab_spell.proofs.ByteWords.{few, printable-drop, printable-word, utf8-printable}
-use Rattle.fab_spell.proofs.Numbers.{is_printable, form-decimal, any-decimal}
-use Rattle.fab_spell.proofs.Optional.{AllBuilt, options_said, built_options}
+use Rattle.fab_words.specs.Words.{begins_with, read_number, read_index, read_len, read_source}
+use Rattle.fab_spell.specs.Spelling.{bytes_word, source_word, imm_words, level_words, completion_words, message_words, verb_for, args_for}
+use Rattle.fab_spell.proofs.ByteWords.{few, hex_said}
+use Rattle.fab_spell.proofs.Numbers.{digits-decimal, stands-digits}
 use Rattle.fab_spell.proofs.Said.{both_said, said_by}
-use Rattle.fab_spell.proofs.Sends.{first_word, other_words}
 use Rattle.hex.specs.Hex.{decode_of}
+use Rattle.hex.specs.declared.error.FromHexError.{FromHexError}
+
+-- ---- the parts of a line whose words stand in it
+
+pub record Here (verb : Verb) (args : List (List ℕ)) : Type 0 where
+  pub done : is_carried_out verb ≡ true
+  pub words : has_words Built (kind_of verb) args ≡ true
+
+pub here : (verb : Verb) (args : List (List ℕ)) → is_built Built verb args ≡ true → Here verb args
+unfolding is_built
+here verb args e =
+    let both = and_parts (is_carried_out verb) (has_words Built (kind_of verb) args) e in
+    record { done = both.0; words = both.1 }
+
+abbrev AllHere : List (List ℕ) → Type 0
+AllHere words = list_all stands_here words ≡ true
+
+first_here : (word : List ℕ) (words : List (List ℕ)) → AllHere (word ∷ words) → stands_here word ≡ true
+first_here word words e = (and_parts (stands_here word) (list_all stands_here words) e).0
+
+others_here : (word : List ℕ) (words : List (List ℕ)) → AllHere (word ∷ words) → AllHere words
+others_here word words e = (and_parts (stands_here word) (list_all stands_here words) e).1
+
+-- ---- bytes
+
+not_file : (text hex zero file : Bool) (bytes : List ℕ) (digits : Result (List ℕ) FromHexError) (len : Result ℕ Fault) (range : Result BytesWord Fault) (said : BytesWord) → not file ≡ true
+    → cond text (few_bytes bytes (Text bytes)) (cond hex (of_hex digits) (cond zero (map_ok Zero len) (cond file range (Err Words)))) ≡ Ok said → stand_in_line said ≡ true
+not_file true hex zero file bytes digits len range said none e = subst (λ s. stand_in_line s ≡ true) (few bytes said (Text bytes) e).1 refl
+not_file false true zero file bytes digits len range said none e = let is = hex_said digits said e in subst (λ s. stand_in_line s ≡ true) is.3 refl
+not_file false false true file bytes digits len range said none e = subst (λ s. stand_in_line s ≡ true) (said_by Zero len said e).2 refl
+not_file false false false true bytes digits len range said none e = cc
+not_file false false false false bytes digits len range said none e = cc
+
+bytes_here : (word : List ℕ) (said : BytesWord) → stands_here word ≡ true → read_bytes word ≡ Ok said → stand_in_line said ≡ true
+unfolding read_bytes
+bytes_here word said is e =
+    not_file (begins_with (codes "text:") word) (begins_with (codes "hex:") word) (begins_with (codes "zero:") word) (begins_with (codes "file:") word)
+    (drop 5 word) (decode_of (drop 4 word)) (read_len (drop 5 word)) (file_range (slice_split is_colon (drop 5 word))) said is e
+
+-- ---- what a line asks for
+
+abbrev IsDone : LineOp → Type 0
+IsDone op = is_done op ≡ true
+
+send_done : (args : List (List ℕ)) (op : LineOp) → AllHere args → send_of args ≡ Ok op → IsDone op
+unfolding send_of
+send_done (ctx ∷ dest ∷ bytes ∷ options) op all e =
+    let said = said_by a_send (read_to ctx dest & read_bytes bytes & read_options for_send options) op e in
+    let two = both_said (read_to ctx dest & read_bytes bytes) (read_options for_send options) said.0 said.1 in
+    let word = both_said (read_to ctx dest) (read_bytes bytes) said.0.0 two.0 in
+    let is = first_here bytes options (others_here dest (bytes ∷ options) (others_here ctx (dest ∷ bytes ∷ options) all)) in
+    subst IsDone said.2 (bytes_here bytes said.0.0.1 is word.1)
+send_done _ op all e = cc
+
+tsend_done : (args : List (List ℕ)) (op : LineOp) → AllHere args → tsend_of args ≡ Ok op → IsDone op
+unfolding tsend_of
+tsend_done (ctx ∷ dest ∷ tag ∷ bytes ∷ options) op all e =
+    let said = said_by a_tsend (read_tagged ctx dest tag & read_bytes bytes & read_options for_send options) op e in
+    let two = both_said (read_tagged ctx dest tag & read_bytes bytes) (read_options for_send options) said.0 said.1 in
+    let word = both_said (read_tagged ctx dest tag) (read_bytes bytes) said.0.0 two.0 in
+    let is = first_here bytes options (others_here tag (bytes ∷ options) (others_here dest (tag ∷ bytes ∷ options) (others_here ctx (dest ∷ tag ∷ bytes ∷ options) all))) in
+    subst IsDone said.2 (bytes_here bytes said.0.0.1 is word.1)
+tsend_done _ op all e = cc
+
+inject_done : (args : List (List ℕ)) (op : LineOp) → AllHere args → inject_of args ≡ Ok op → IsDone op
+unfolding inject_of
+inject_done (dest ∷ bytes ∷ options) op all e =
+    let said = said_by an_inject (read_index dest & read_bytes bytes & read_options for_inject options) op e in
+    let two = both_said (read_index dest & read_bytes bytes) (read_options for_inject options) said.0 said.1 in
+    let word = both_said (read_index dest) (read_bytes bytes) said.0.0 two.0 in
+    subst IsDone said.2 (bytes_here bytes said.0.0.1 (first_here bytes options (others_here dest (bytes ∷ options) all)) word.1)
+inject_done _ op all e = cc
+
+tinject_done : (args : List (List ℕ)) (op : LineOp) → AllHere args → tinject_of args ≡ Ok op → IsDone op
+unfolding tinject_of
+tinject_done (dest ∷ tag ∷ bytes ∷ options) op all e =
+    let said = said_by a_tinject (read_index dest & read_number tag & read_bytes bytes & read_options for_inject options) op e in
+    let two = both_said (read_index dest & read_number tag & read_bytes bytes) (read_options for_inject options) said.0 said.1 in
+    let word = both_said (read_index dest & read_number tag) (read_bytes bytes) said.0.0 two.0 in
+    let is = first_here bytes options (others_here tag (bytes ∷ options) (others_here dest (tag ∷ bytes ∷ options) all)) in
+    subst IsDone said.2 (bytes_here bytes said.0.0.1 is word.1)
+tinject_done _ op all e = cc
+
+recv_done : (args : List (List ℕ)) (op : LineOp) → recv_of args ≡ Ok op → IsDone op
+unfolding recv_of
+recv_done (ctx ∷ source ∷ len ∷ []) op e = subst IsDone (said_by a_recv (read_number ctx & read_source source & read_len len) op e).2 refl
+recv_done _ op e = cc
+
+trecv_done : (args : List (List ℕ)) (op : LineOp) → trecv_of args ≡ Ok op → IsDone op
+unfolding trecv_of
+trecv_done (ctx ∷ source ∷ tag ∷ ignore ∷ len ∷ []) op e =
+    subst IsDone (said_by a_trecv (read_number ctx & read_source source & read_number tag & read_number ignore & read_len len) op e).2 refl
+trecv_done _ op e = cc
+
+wait_done : (args : List (List ℕ)) (op : LineOp) → wait_of args ≡ Ok op → IsDone op
+unfolding wait_of
+wait_done (ctx ∷ []) op e = of_any (bytes_eq ctx (codes "*")) (read_number ctx) op e
+  where
+    of_any : (any : Bool) (said : Result ℕ Fault) (op : LineOp) → cond any (Ok (Wait None)) (map_ok (λ n. Wait (Some n)) said) ≡ Ok op → IsDone op
+    of_any true said op e = let same : Wait None ≡ op = cc in subst IsDone same refl
+    of_any false said op e = subst IsDone (said_by (λ n. Wait (Some n)) said op e).2 refl
+wait_done _ op e = cc
+
+no : false ≡ true → ⊥
+no e = cc
+
+pub carried_out : (verb : Verb) (args : List (List ℕ)) (op : LineOp) → Here verb args → op_of verb args ≡ Ok op → is_done op ≡ true
+unfolding op_of
+carried_out verb.Send args op h e = send_done args op h.words e
+carried_out verb.TSend args op h e = tsend_done args op h.words e
+carried_out verb.Inject args op h e = inject_done args op h.words e
+carried_out verb.TInject args op h e = tinject_done args op h.words e
+carried_out verb.Recv args op h e = recv_done args op e
+carried_out verb.TRecv args op h e = trecv_done args op e
+carried_out verb.Cancel args op h e = subst IsDone (said_by Cancel (number_line args) op e).2 refl
+carried_out verb.Wait args op h e = wait_done args op e
+carried_out verb.Peers args op h e = cc
+carried_out verb.Caps args op h e = cc
+carried_out verb.Lane args op h e = cc
+carried_out verb.Pool args op h e = cc
+carried_out verb.Tx args op h e = cc
+carried_out verb.Rx args op h e = cc
+carried_out verb.Cq args op h e = cc
+carried_out verb.Selective args op h e = cc
+carried_out verb.Peer args op h e = cc
+carried_out _ args op h e = absurd (no h.done)
+
+-- ---- words that are written
+
+stands-decimal : (n : ℕ) → stands_here (decimal n) ≡ true
+stands-decimal n = stands-digits (decimal n) (digits-decimal n)
+
+stands-source : (source : Option ℕ) → stands_here (source_word source) ≡ true
+stands-source None = refl
+stands-source (Some index) = stands-decimal index
+
+stands-text : (utf8 : Bool) (text digits : List ℕ) → stands_here (cond utf8 (codes "text:" ++ text) (codes "hex:" ++ digits)) ≡ true
+stands-text true text digits = refl
+stands-text false text digits = refl
+
+stands-bytes : (bytes : BytesWord) → stand_in_line bytes ≡ true → stands_here (bytes_word bytes) ≡ true
+unfolding bytes_word
+stands-bytes (Text bytes) is = stands-text (is_utf8 bytes) bytes (hex bytes)
+stands-bytes (Hex bytes) is = refl
+stands-bytes (Zero len) is = refl
+stands-bytes (File id at len) is = cc
+
+stand-imm : (imm : Option ℕ) → AllHere (imm_words imm)
+stand-imm None = refl
+stand-imm (Some n) = refl
+
+stand-level : (level : Level) → AllHere (level_words level)
+stand-level level.Inject = refl
+stand-level level.Transmit = refl
+stand-level level.Delivery = refl
+stand-level level.Match = refl
+
+stand-completion : (completion : Bool) → AllHere (completion_words completion)
+stand-completion true = refl
+stand-completion false = refl
+
+stand-append : (xs ys : List (List ℕ)) → AllHere xs → AllHere ys → AllHere (xs ++ ys)
+stand-append xs ys e f = list_all-append stands_here xs ys ∙ and_from _ _ e f
+
+stand-message : (bytes : BytesWord) (imm : Option ℕ) (level : Level) (completion : Bool) → stand_in_line bytes ≡ true → AllHere (message_words bytes imm level completion)
+stand-message bytes imm level completion is =
+    and_from _ _ (stands-bytes bytes is)
+    (stand-append (imm_words imm ++ level_words level) (completion_words completion) (stand-append (imm_words imm) (level_words level) (stand-imm imm) (stand-level level)) (stand-completion completion))
+
+-- ---- lines that are written
 
 abbrev IsBuilt : LineOp → Type 0
 IsBuilt op = is_built Built (verb_for op) (args_for op) ≡ true
 
--- ---- a text that is not too long
-other_form : (hex zero file : Bool) (a b c : Result BytesWord Fault) (more : List (Bool × Form)) (said : BytesWord) → has_form Built (first_of ((hex, HexForm) ∷ (zero, ZeroForm) ∷ (file, FileForm) ∷ more)) ≡ true → cond hex a (cond zero b (cond file c (Err Words))) ≡ Ok said → has_form Built (form_of_word (bytes_word said)) ≡ true
-other_form true zero file a b c more said built e = cc
-other_form false true file a b c more said built e = cc
-other_form false false true a b c more said built e = cc
-other_form false false false a b c more said built e = cc
-
-word_form : (text long : Bool) (bytes : List ℕ) (hex zero file : Bool) (a b c : Result BytesWord Fault) (more : List (Bool × Form)) (said : BytesWord) → ltb 4096 (length bytes) ≡ long → list_all is_printable bytes ≡ true → has_form Built (first_of ((text && long, Long) ∷ (hex, HexForm) ∷ (zero, ZeroForm) ∷ (file, FileForm) ∷ more)) ≡ true → cond text (few_bytes bytes (Text bytes)) (cond hex a (cond zero b (cond file c (Err Words)))) ≡ Ok said → has_form Built (form_of_word (bytes_word said)) ≡ true
-unfolding bytes_word
-word_form true true bytes hex zero file a b c more said l all built e = cc
-word_form true false bytes hex zero file a b c more said l all built e =
-    let fits = few bytes said (Text bytes) e in
-    subst (λ w. has_form Built (form_of_word (bytes_word w)) ≡ true) fits.1 (rw (utf8-printable bytes all, l) refl)
-word_form false long bytes hex zero file a b c more said l all built e = other_form hex zero file a b c more said built e
-
-bytes_form : (word : List ℕ) (said : BytesWord) → is_word word ≡ true → read_bytes word ≡ Ok said → has_form Built (form_of_word word) ≡ true → has_form Built (form_of_word (bytes_word said)) ≡ true
-unfolding read_bytes
-bytes_form word said is e built =
-    word_form (begins_with (codes "text:") word) (ltb 4096 (length (drop 5 word))) (drop 5 word) (begins_with (codes "hex:") word) (begins_with (codes "zero:") word) (begins_with (codes "file:") word)
-    (of_hex (decode_of (drop 4 word))) (map_ok Zero (read_len (drop 5 word))) (file_range (slice_split is_colon (drop 5 word)))
-    (optional_forms word) said refl (printable-drop 5 word (printable-word word is)) built e
-
--- ---- the lines that are carried out
-first_form : (word : List ℕ) (words : List (List ℕ)) → AllBuilt (word ∷ words) → has_form Built (form_of_word word) ≡ true
-first_form word words e = (and_parts (has_form Built (form_of_word word)) (list_all (λ w. has_form Built (form_of_word w)) words) e).0
-
-other_forms : (word : List ℕ) (words : List (List ℕ)) → AllBuilt (word ∷ words) → AllBuilt words
-other_forms word words e = (and_parts (has_form Built (form_of_word word)) (list_all (λ w. has_form Built (form_of_word w)) words) e).1
-
-tsend_built : (args : List (List ℕ)) (op : LineOp) → list_all is_word args ≡ true → AllBuilt args → tsend_of args ≡ Ok op → IsBuilt op
-unfolding tsend_of verb_for args_for is_built
-tsend_built (ctx ∷ dest ∷ tag ∷ bytes ∷ options) op are forms e =
-    let said = said_by a_tsend (read_tagged ctx dest tag & read_bytes bytes & read_options for_send options) op e in
-    let p = said.0 in
-    let all = both_said (read_tagged ctx dest tag & read_bytes bytes) (read_options for_send options) p said.1 in
-    let two = both_said (read_tagged ctx dest tag) (read_bytes bytes) p.0 all.0 in
-    let is = first_word bytes options (other_words tag (bytes ∷ options) (other_words dest (tag ∷ bytes ∷ options) (other_words ctx (dest ∷ tag ∷ bytes ∷ options) are))) in
-    let rest = other_forms tag (bytes ∷ options) (other_forms dest (tag ∷ bytes ∷ options) (other_forms ctx (dest ∷ tag ∷ bytes ∷ options) forms)) in
-    let form = bytes_form bytes p.0.1 is two.1 (first_form bytes options rest) in
-    let none = built_options options p.1 (other_forms bytes options rest) (options_said for_send options p.1 all.1) in
-    subst IsBuilt said.2 (rw (form-decimal p.0.0.0.0, form-decimal p.0.0.0.1, form-decimal p.0.0.1, form, none.imm, none.level, none.completion) refl)
-tsend_built _ op are forms e = cc
-
-any_source : (any : Bool) (index : Result (Option ℕ) Fault) (said : Option ℕ) → cond any (Ok None) index ≡ Ok said → has_form Built (only_if (true && not any) Index) ≡ true → said ≡ None
-any_source true index said e built = cc
-any_source false index said e built = cc
-
-trecv_built : (args : List (List ℕ)) (op : LineOp) → has_form Built (source_form verb.TRecv args) ≡ true → trecv_of args ≡ Ok op → IsBuilt op
-unfolding trecv_of read_source verb_for args_for is_built
-trecv_built (ctx ∷ source ∷ tag ∷ ignore ∷ len ∷ []) op built e =
-    let said = said_by a_trecv (read_number ctx & read_source source & read_number tag & read_number ignore & read_len len) op e in
-    let p = said.0 in
-    let four = (both_said (read_number ctx & read_source source & read_number tag & read_number ignore) (read_len len) p said.1).0 in
-    let three = (both_said (read_number ctx & read_source source & read_number tag) (read_number ignore) p.0 four).0 in
-    let two = (both_said (read_number ctx & read_source source) (read_number tag) p.0.0 three).0 in
-    let from = (both_said (read_number ctx) (read_source source) p.0.0.0 two).1 in
-    let any = any_source (is_any source) (map_ok Some (read_index source)) p.0.0.0.1 from built in
-    subst IsBuilt said.2 (rw (any, form-decimal p.0.0.0.0, form-decimal p.0.0.1, form-decimal p.0.1, form-decimal p.1) refl)
-trecv_built _ op built e = cc
-
-one_context : (any : Bool) (said : Result ℕ Fault) (op : LineOp) → has_form Built (only_if any Any) ≡ true → cond any (Ok (Wait None)) (map_ok (λ n. Wait (Some n)) said) ≡ Ok op → IsBuilt op
+pub again_built : (op : LineOp) → is_done op ≡ true → is_built Built (verb_for op) (args_for op) ≡ true
 unfolding verb_for args_for is_built
-one_context true said op built e = cc
-one_context false said op built e =
-    let ctx = said_by (λ n. Wait (Some n)) said op e in
-    subst IsBuilt ctx.2 (rw (any-decimal ctx.0, form-decimal ctx.0) refl)
+again_built (Send ctx dest bytes imm level completion) is = and_from _ _ (stands-decimal ctx) (and_from _ _ (stands-decimal dest) (stand-message bytes imm level completion is))
+again_built (TSend ctx dest tag bytes imm level completion) is =
+    and_from _ _ (stands-decimal ctx) (and_from _ _ (stands-decimal dest) (and_from _ _ (stands-decimal tag) (stand-message bytes imm level completion is)))
+again_built (Inject dest bytes imm) is = and_from _ _ (stands-decimal dest) (and_from _ _ (stands-bytes bytes is) (stand-imm imm))
+again_built (TInject dest tag bytes imm) is = and_from _ _ (stands-decimal dest) (and_from _ _ (stands-decimal tag) (and_from _ _ (stands-bytes bytes is) (stand-imm imm)))
+again_built (Recv ctx source len) is = rw (stands-decimal ctx, stands-source source, stands-decimal len) refl
+again_built (TRecv ctx source tag ignore len) is = rw (stands-decimal ctx, stands-source source, stands-decimal tag, stands-decimal ignore, stands-decimal len) refl
+again_built (Cancel ctx) is = rw (stands-decimal ctx) refl
+again_built (Wait ctx) is = rw (stands-source ctx) refl
+again_built _ is = cc
 
-wait_built : (args : List (List ℕ)) (op : LineOp) → has_form Built (wait_form verb.Wait args) ≡ true → wait_of args ≡ Ok op → IsBuilt op
-unfolding wait_of
-wait_built (ctx ∷ []) op built e = one_context (is_any ctx) (read_number ctx) op built e
-wait_built _ op built e = cc
+pub built_again : (verb : Verb) (args : List (List ℕ)) (op : LineOp) → is_built Built verb args ≡ true → op_of verb args ≡ Ok op → is_built Built (verb_for op) (args_for op) ≡ true
+built_again verb args op built e = again_built op (carried_out verb args op (here verb args built) e)
 
--- ---- all lines
-record Forms (verb : Verb) (args : List (List ℕ)) : Type 0 where
-  line : has Built (LineForm verb) ≡ true
-  source : has_form Built (source_form verb args) ≡ true
-  wait : has_form Built (wait_form verb args) ≡ true
-  words : AllBuilt args
-
-forms_of : (verb : Verb) (args : List (List ℕ)) → is_built Built verb args ≡ true → Forms verb args
+-- the whole language has all lines
+pub whole_built : (verb : Verb) (args : List (List ℕ)) → is_built Whole verb args ≡ true
 unfolding is_built
-forms_of verb args e =
-    let words = and_parts (has Built (LineForm verb) && has_form Built (source_form verb args) && has_form Built (wait_form verb args)) (list_all (λ word. has_form Built (form_of_word word)) args) e in
-    let wait = and_parts (has Built (LineForm verb) && has_form Built (source_form verb args)) (has_form Built (wait_form verb args)) words.0 in
-    let source = and_parts (has Built (LineForm verb)) (has_form Built (source_form verb args)) wait.0 in
-    record { line = source.0; source = source.1; wait = wait.1; words = words.1 }
-
-not_built : false ≡ true → ⊥
-not_built e = cc
-
-with_forms : (verb : Verb) (args : List (List ℕ)) (op : LineOp) → kind_of verb ≡ kind.Call → list_all is_word args ≡ true → Forms verb args → op_of verb args ≡ Ok op → IsBuilt op
-unfolding op_of
-with_forms verb.TSend args op call are f e = tsend_built args op are f.words e
-with_forms verb.TRecv args op call are f e = trecv_built args op f.source e
-with_forms verb.Wait args op call are f e = wait_built args op f.wait e
-with_forms verb.Peers args op call are f e = cc
-with_forms verb.Peer args op call are f e = cc
-with_forms _ args op call are f e = absurd (not_built f.line)
-
-pub built_again : (verb : Verb) (args : List (List ℕ)) (op : LineOp) → kind_of verb ≡ kind.Call → list_all is_word args ≡ true → is_built Built verb args ≡ true → op_of verb args ≡ Ok op → is_built Built (verb_for op) (args_for op) ≡ true
-built_again verb args op call are built e = with_forms verb args op call are (forms_of verb args built) e
+whole_built verb args = refl

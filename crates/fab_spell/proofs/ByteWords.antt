@@ -69,7 +69,7 @@ not_odd false r bytes e = e
 decoded_bytes : (digits bytes : List ℕ) → decode_of digits ≡ Ok bytes → IsBytes bytes
 decoded_bytes digits bytes e = (decode_pairs-ok 0 digits bytes (not_odd (eqb (length digits % 2) 1) (decode_pairs 0 digits) bytes e)).2
 
-hex_said : (r : Result (List ℕ) FromHexError) (said : BytesWord) → of_hex r ≡ Ok said → (bytes : List ℕ) × (r ≡ Ok bytes) × (leb (length bytes) 33554432 ≡ true) × (Hex bytes ≡ said)
+pub hex_said : (r : Result (List ℕ) FromHexError) (said : BytesWord) → of_hex r ≡ Ok said → (bytes : List ℕ) × (r ≡ Ok bytes) × (leb (length bytes) 33554432 ≡ true) × (Hex bytes ≡ said)
 hex_said (Ok bytes) said e =
     let fits = few bytes said (Hex bytes) e in
     (bytes, refl, fits.0, fits.1)

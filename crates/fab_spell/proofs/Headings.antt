@@ -12,7 +12,6 @@ use Rattle.fab_words.specs.declared.fault.Fault.TheVariants.{Words, Limit}
 use Rattle.fab_words.specs.Faults.{◌&◌, map_ok}
 use Rattle.fab_words.specs.Words.{read_number, read_text}
 use Rattle.fab_words.specs.Written.{is_word}
-use Rattle.fab_grammar.specs.declared.language.Form.{Form}
 use Rattle.fab_grammar.specs.declared.language.Language.{Language}
 use Rattle.fab_grammar.specs.declared.language.Language.TheVariants.{Built, Whole}
 use Rattle.fab_grammar.specs.declared.settings.Setting.{Setting}
@@ -21,13 +20,14 @@ use Rattle.fab_grammar.specs.declared.verbs.Kind.TheVariants as kind
 use Rattle.fab_grammar.specs.declared.verbs.Verb.{Verb}
 use Rattle.fab_grammar.specs.declared.verbs.Verb.TheVariants as verb
 use Rattle.fab_grammar.specs.Capabilities.{caps_of}
-use Rattle.fab_grammar.specs.Language.{has_form, form_of_word, source_form, wait_form, is_built}
+use Rattle.fab_grammar.specs.Language.{is_built}
 use Rattle.fab_grammar.specs.Settings.{between, size_of, caps_setting, selective_setting, a_file, payload_setting, wish_of, setting_of}
 use Rattle.fab_grammar.specs.Verbs.{kind_of}
 use Rattle.fab_grammar.proofs.PartLemmas.{and_true}
-use Rattle.fab_spell.specs.Headings.{caps_word, setting_verb, setting_args, SettingRead, SettingAgain}
+use Rattle.fab_spell.specs.Headings.{caps_word, size_verb, setting_verb, setting_args, SettingRead, SettingAgain}
 use Rattle.fab_spell.proofs.Decimals.{read_number_again, read_number_small}
-use Rattle.fab_spell.proofs.Numbers.{is_word-decimal, form-decimal}
+use Rattle.fab_spell.proofs.Numbers.{is_word-decimal}
+use Rattle.fab_spell.proofs.BuiltLines.{whole_built}
 use Rattle.fab_spell.proofs.CapsNames.{caps_again}
 
 -- what holds of the written line in each language
@@ -53,12 +53,6 @@ between_said limits (Ok m) n e = ap Ok (by (leb limits.least m && leb m limits.g
     by true f = cc
     by false f = cc
 between_said limits (Err fault) n e = cc
-
-size_small : (size : Size) (args : List (List ℕ)) (n : ℕ) → size_of size args ≡ Ok n → n < 2 ^ 64
-unfolding size_of
-size_small size [] n e = cc
-size_small size (word ∷ []) n e = read_number_small word n (between_said (limits_of size) (read_number word) n e)
-size_small size (word ∷ next ∷ more) n e = cc
 
 record SizeAgain (size : Size) (n : ℕ) : Type 0 where
   reads : size_of size (decimal n ∷ []) ≡ Ok n
@@ -187,30 +181,39 @@ spelled _ args s words e = cc
 
 -- the language
 
-whole_form : (o : Option Form) → has_form Whole o ≡ true
-whole_form None = refl
-whole_form (Some form) = refl
+abbrev IsBuilt : Setting → Type 0
+IsBuilt s = is_built Built (setting_verb s) (setting_args s) ≡ true
 
-whole_words : (args : List (List ℕ)) → list_all (λ word. has_form Whole (form_of_word word)) args ≡ true
-whole_words [] = refl
-whole_words (word ∷ words) = and_from _ _ (whole_form (form_of_word word)) (whole_words words)
-
-whole_built : (verb : Verb) (args : List (List ℕ)) → is_built Whole verb args ≡ true
+wish_built : (size : Size) (said : Result ℕ Fault) (s : Setting) → is_built Built (size_verb size) [] ≡ true → map_ok (Wish size) said ≡ Ok s → IsBuilt s
 unfolding is_built
-whole_built verb args = rw (whole_form (source_form verb args), whole_form (wait_form verb args)) (whole_words args)
+wish_built size.Lane said s built e = subst IsBuilt (made_of (Wish size.Lane) said s e).2 refl
+wish_built size.Pool said s built e = subst IsBuilt (made_of (Wish size.Pool) said s e).2 refl
+wish_built size.Tx said s built e = subst IsBuilt (made_of (Wish size.Tx) said s e).2 refl
+wish_built size.Rx said s built e = subst IsBuilt (made_of (Wish size.Rx) said s e).2 refl
+wish_built size.Cq said s built e = subst IsBuilt (made_of (Wish size.Cq) said s e).2 refl
+wish_built size said s built e = subst IsBuilt (made_of (Wish size) said s e).2 refl
 
-number_built : (n : ℕ) → n < 2 ^ 64 → is_built Built verb.Peers (decimal n ∷ []) ≡ true
-unfolding is_built
-number_built n h = ap (λ o. has_form Built o && true) (form-decimal n)
+caps_built : (args : List (List ℕ)) (s : Setting) → caps_setting args ≡ Ok s → IsBuilt s
+unfolding is_built caps_setting
+caps_built [] s e = cc
+caps_built (word ∷ []) s e = subst IsBuilt (made_of Capabilities (caps_of word) s e).2 refl
+caps_built (word ∷ next ∷ more) s e = cc
 
-peers_built : (args : List (List ℕ)) (s : Setting) → map_ok Peers (size_of size.Peers args) ≡ Ok s → is_built Built (setting_verb s) (setting_args s) ≡ true
-peers_built args s e =
-    let made = made_of Peers (size_of size.Peers args) s e in
-    subst (λ x. is_built Built (setting_verb x) (setting_args x) ≡ true) made.2 (number_built made.0 (size_small size.Peers args made.0 made.1))
+selective_built : (args : List (List ℕ)) (s : Setting) → selective_setting args ≡ Ok s → IsBuilt s
+unfolding is_built selective_setting
+selective_built [] s e = let same : Selective ≡ s = cc in subst IsBuilt same refl
+selective_built (word ∷ more) s e = cc
 
-built_again : (verb : Verb) (args : List (List ℕ)) (s : Setting) → kind_of verb ≡ kind.Setting → is_built Built verb args ≡ true → setting_of verb args ≡ Ok s → is_built Built (setting_verb s) (setting_args s) ≡ true
+built_again : (verb : Verb) (args : List (List ℕ)) (s : Setting) → kind_of verb ≡ kind.Setting → is_built Built verb args ≡ true → setting_of verb args ≡ Ok s → IsBuilt s
 unfolding is_built setting_of wish_of
-built_again verb.Peers args s k built e = peers_built args s e
+built_again verb.Peers args s k built e = subst IsBuilt (made_of Peers (size_of size.Peers args) s e).2 refl
+built_again verb.Lane args s k built e = wish_built size.Lane (size_of size.Lane args) s refl e
+built_again verb.Pool args s k built e = wish_built size.Pool (size_of size.Pool args) s refl e
+built_again verb.Tx args s k built e = wish_built size.Tx (size_of size.Tx args) s refl e
+built_again verb.Rx args s k built e = wish_built size.Rx (size_of size.Rx args) s refl e
+built_again verb.Cq args s k built e = wish_built size.Cq (size_of size.Cq args) s refl e
+built_again verb.Caps args s k built e = caps_built args s e
+built_again verb.Selective args s k built e = selective_built args s e
 built_again _ args s k built e = cc
 
 pub setting_again : (language : Language) (s : Setting) → SettingRead language s → SettingAgain language s

@@ -1,9 +1,9 @@
 -- The words of numbers and sources.
-use Rattle.std.proofs.Common.{◌≡◌, ℕ, ◌<◌, Bool, true, false, cond, ◌&&◌, ltb, leb, List, [], ◌∷◌, length, Option, Some, None, decimal, ap, ◌∙◌, refl, arith}
-use Rattle.std.specs.Prelude.{Ok}
+use Rattle.std.proofs.Common.{◌≡◌, ℕ, ◌<◌, Bool, true, false, cond, ◌&&◌, ltb, leb, List, [], ◌∷◌, length, Option, Some, None, codes, decimal, ap, ◌∙◌, refl, arith}
+use Rattle.std.specs.Prelude.{bytes_eq, Ok}
 use Rattle.std.specs.List.{list_all}
 use Rattle.std.proofs.lemmas.Bool.{and_parts, and_from, ne_eqb, lt-ltb, ltb-true, le-leb}
-use Rattle.fab_grammar.specs.Language.{form_of_word, is_any}
+use Rattle.fab_grammar.specs.Language.{stands_here}
 use Rattle.fab_model.proofs.Plain.{decimal_digits, decimal_some}
 use Rattle.fab_words.specs.Faults.{map_ok}
 use Rattle.fab_words.specs.Words.{read_index, read_source}
@@ -46,18 +46,18 @@ is_word-digits (b ∷ word) d = printable-digits (b ∷ word) d.all
 pub is_word-decimal : (n : ℕ) → is_word (decimal n) ≡ true
 is_word-decimal n = is_word-digits (decimal n) (digits-decimal n)
 
--- such a word has no form of its own, and is no `*`
-no_form : (b : ℕ) (word : List ℕ) → b < 58 → form_of_word (b ∷ word) ≡ None
-no_form b word below = rw (ne_eqb b 116 (λ e. omega arith), ne_eqb b 104 (λ e. omega arith), ne_eqb b 122 (λ e. omega arith), ne_eqb b 102 (λ e. omega arith), ne_eqb b 100 (λ e. omega arith), ne_eqb b 108 (λ e. omega arith), ne_eqb b 99 (λ e. omega arith)) refl
+-- such a word names no file, and is no `*`
+stands : (b : ℕ) (word : List ℕ) → b < 58 → stands_here (b ∷ word) ≡ true
+stands b word below = rw (ne_eqb b 102 (λ e. omega arith)) refl
 
-form-digits : (word : List ℕ) → Digits word → form_of_word word ≡ None
-form-digits [] d = absurd (omega (arith, d.some))
-form-digits (b ∷ word) d =
+pub stands-digits : (word : List ℕ) → Digits word → stands_here word ≡ true
+stands-digits [] d = absurd (omega (arith, d.some))
+stands-digits (b ∷ word) d =
     let range = first_byte b (and_parts (is_numeric b) (list_all is_numeric word) d.all).0 in
-    no_form b word range.1
+    stands b word range.1
 
-pub form-decimal : (n : ℕ) → form_of_word (decimal n) ≡ None
-form-decimal n = form-digits (decimal n) (digits-decimal n)
+abbrev is_any : List ℕ → Bool
+is_any word = bytes_eq word (codes "*")
 
 any-digits : (word : List ℕ) → Digits word → is_any word ≡ false
 any-digits [] d = refl

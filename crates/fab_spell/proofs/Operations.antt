@@ -4,17 +4,15 @@ use Rattle.std.specs.Prelude.{Ok}
 use Rattle.std.specs.List.{list_all}
 use Rattle.std.proofs.lemmas.Bool.{and_from}
 use Rattle.fab_base.specs.declared.script.LineOp.{LineOp}
-use Rattle.fab_grammar.specs.declared.language.Form.{Form}
 use Rattle.fab_grammar.specs.declared.language.Language.{Language}
 use Rattle.fab_grammar.specs.declared.language.Language.TheVariants.{Built, Whole}
 use Rattle.fab_grammar.specs.declared.verbs.Verb.{Verb}
 use Rattle.fab_grammar.specs.declared.verbs.Verb.TheVariants as verb
-use Rattle.fab_grammar.specs.Language.{has_form, form_of_word, source_form, wait_form, is_built}
 use Rattle.fab_grammar.specs.Lines.{op_of}
 use Rattle.fab_words.specs.Written.{is_word}
 use Rattle.fab_spell.specs.Again.{WasRead, Again}
 use Rattle.fab_spell.specs.Spelling.{verb_for, args_for}
-use Rattle.fab_spell.proofs.BuiltLines.{built_again}
+use Rattle.fab_spell.proofs.BuiltLines.{built_again, whole_built}
 use Rattle.fab_spell.proofs.Own.{reg_spelt, close_spelt, put_spelt, show_spelt, insert_spelt, remove_spelt, wait_spelt, count_spelt, reach_spelt}
 use Rattle.fab_spell.proofs.Receives.{recv_spelt, trecv_spelt, mrecv_spelt, peek_spelt, claim_spelt, discard_spelt, take_spelt, drop_spelt, cancel_spelt}
 use Rattle.fab_spell.proofs.Remote.{read_spelt, write_spelt, winject_spelt, atomic_spelt, fetch_spelt, compare_spelt}
@@ -53,23 +51,10 @@ op_spelt verb.Count args op are e = count_spelt args op e
 op_spelt verb.Reach args op are e = reach_spelt args op e
 op_spelt _ args op are e = cc
 
--- the whole language has all forms
-whole_form : (form : Option Form) → has_form Whole form ≡ true
-whole_form None = refl
-whole_form (Some form) = refl
-
-whole_words : (args : List (List ℕ)) → list_all (λ word. has_form Whole (form_of_word word)) args ≡ true
-whole_words [] = refl
-whole_words (word ∷ args) = and_from _ _ (whole_form (form_of_word word)) (whole_words args)
-
-pub whole_built : (verb : Verb) (args : List (List ℕ)) → is_built Whole verb args ≡ true
-unfolding is_built
-whole_built verb args = and_from _ _ (and_from _ _ (whole_form (source_form verb args)) (whole_form (wait_form verb args))) (whole_words args)
-
 pub op_again : (language : Language) (op : LineOp) → WasRead language op → Again language op
 op_again Whole op was =
     let spelt = op_spelt was.verb was.args op was.words was.reads in
     record { kind = spelt.call; words = spelt.words; built = whole_built (verb_for op) (args_for op); reads = spelt.reads }
 op_again Built op was =
     let spelt = op_spelt was.verb was.args op was.words was.reads in
-    record { kind = spelt.call; words = spelt.words; built = built_again was.verb was.args op was.kind was.words was.built was.reads; reads = spelt.reads }
+    record { kind = spelt.call; words = spelt.words; built = built_again was.verb was.args op was.built was.reads; reads = spelt.reads }

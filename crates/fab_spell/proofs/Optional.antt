@@ -6,11 +6,8 @@ use Rattle.std.proofs.lemmas.Bool.{and_parts, and_from}
 use Rattle.std.proofs.lemmas.List.Folds.{list_all-append}
 use Rattle.fab_base.specs.declared.peers.Level.{Level}
 use Rattle.fab_base.specs.declared.peers.Level.TheVariants as level
-use Rattle.fab_grammar.specs.declared.language.Form.TheVariants.{Long, Hex, Zero, File, Data, Level as LevelForm, Completion}
-use Rattle.fab_grammar.specs.declared.language.Language.TheVariants.{Built}
 use Rattle.fab_grammar.specs.declared.options.Allowed.{Allowed}
 use Rattle.fab_grammar.specs.declared.options.Options.{Options}
-use Rattle.fab_grammar.specs.Language.{has_form, form_of_word}
 use Rattle.fab_grammar.specs.Options.{level_named, optional_of, are_options, value_after, read_if, level_after, level_in, has_completion, the_options, read_options}
 use Rattle.fab_grammar.specs.Sends.{for_send, for_inject, for_write, for_multi}
 use Rattle.fab_grammar.specs.Atomics.{for_atomic}
@@ -126,41 +123,3 @@ are_words-completion false = refl
 
 pub are_words-append : (xs ys : List (List ℕ)) → list_all is_word xs ≡ true → list_all is_word ys ≡ true → list_all is_word (xs ++ ys) ≡ true
 are_words-append xs ys e f = list_all-append is_word xs ys ∙ and_from _ _ e f
-
--- ---- in the language that is carried out there are none
-abbrev pub AllBuilt : List (List ℕ) → Type 0
-AllBuilt words = list_all (λ word. has_form Built (form_of_word word)) words ≡ true
-
-pub record NoOptions (o : Options) : Type 0 where
-  pub imm : o.imm ≡ None
-  pub level : o.level ≡ level.Transmit
-  pub completion : o.completion ≡ false
-
-no_optional_word : (a b c d data_word level_word completion_word : Bool) → has_form Built (first_of ((a, Long) ∷ (b, Hex) ∷ (c, Zero) ∷ (d, File) ∷ (data_word, Data) ∷ (level_word, LevelForm) ∷ (completion_word, Completion) ∷ [])) ≡ true → (data_word ≡ false) × (level_word ≡ false) × (completion_word ≡ false)
-no_optional_word false false false false false false false built = (refl, refl, refl)
-no_optional_word false false false false false false true built = cc
-no_optional_word false false false false false true g built = cc
-no_optional_word false false false false true f g built = cc
-no_optional_word false false false true e f g built = cc
-no_optional_word false false true d e f g built = cc
-no_optional_word false true c d e f g built = cc
-no_optional_word true b c d e f g built = cc
-
-none_of : (words : List (List ℕ)) → AllBuilt words → (value_after (codes "data=") words ≡ None) × (value_after (codes "level=") words ≡ None) × (list_any (λ word. bytes_eq word (codes "completion")) words ≡ false)
-none_of [] built = (refl, refl, refl)
-none_of (word ∷ words) built =
-    let both = and_parts (has_form Built (form_of_word word)) (list_all (λ word. has_form Built (form_of_word word)) words) built in
-    let none = no_optional_word (begins_with (codes "text:") word && ltb 4096 (length (drop 5 word))) (begins_with (codes "hex:") word) (begins_with (codes "zero:") word) (begins_with (codes "file:") word) (begins_with (codes "data=") word) (begins_with (codes "level=") word) (bytes_eq word (codes "completion")) both.0 in
-    let rest = none_of words both.1 in
-    (rw (none.0) (rest.0), rw (none.1) (rest.1), rw (none.2) (rest.2))
-
-pub built_options : (words : List (List ℕ)) (o : Options) → AllBuilt words → Said words o → NoOptions o
-unfolding level_in has_completion
-built_options words o built said =
-    let none = none_of words built in
-    let no_imm : Ok None ≡ Ok o.imm = ap (read_if read_number) (sym none.0) ∙ said.imm in
-    record {
-      imm = cc;
-      level = sym said.level ∙ ap level_after none.1;
-      completion = sym said.completion ∙ none.2;
-    }

@@ -162,7 +162,7 @@ const CANCELED_REPORT: &str = "fabric 1 peers 1\n\
 const UNBUILT: &str = "fabric 1\n\
     peers 2\n\
     peer 0\n\
-    send 1 0 text:a\n";
+    put 1 0 text:a\n";
 
 struct OpenGate;
 
@@ -221,8 +221,10 @@ fn is_too_long(end: &Status, file: &str) -> bool {
     }
 }
 
-/// Scripts, their reports, and whether all lines are done.
-const ROWS: [(&str, &str, bool); 8] = [
+/// A script, its report, and whether all lines are done.
+pub(crate) type Row = (&'static str, &'static str, bool);
+
+const ROWS: [Row; 8] = [
     (NO_LINES, NO_LINES_REPORT, true),
     (CANCELED, CANCELED_REPORT, true),
     (HELLO, HELLO_REPORT, true),
@@ -238,7 +240,7 @@ fn runs_to<R: Abort + Threads + Wait + Sync>(
     rt: &R,
     alloc: Global,
     words: &[Text],
-    row: (&str, &str, bool),
+    row: Row,
 ) -> Result<(), Fail> {
     let (script, report, is_done) = row;
     let bytes = Buf::copy(alloc, script.as_bytes())?;
@@ -251,13 +253,22 @@ fn runs_to<R: Abort + Threads + Wait + Sync>(
     Ok(())
 }
 
-#[test]
-fn scripts_run_to_their_reports(rt: HostRuntime) -> Result<(), Fail> {
-    let words = texts_of(rt.alloc(), &["script", "it"])?;
-    for row in ROWS {
-        runs_to(&rt, rt.alloc(), &words, row)?;
+/// Scripts run to their reports.
+pub(crate) fn run_to<R: Abort + Threads + Wait + Sync>(
+    rt: &R,
+    alloc: Global,
+    rows: &[Row],
+) -> Result<(), Fail> {
+    let words = texts_of(alloc, &["script", "it"])?;
+    for row in rows {
+        runs_to(rt, alloc, &words, *row)?;
     }
     Ok(())
+}
+
+#[test]
+fn scripts_run_to_their_reports(rt: HostRuntime) -> Result<(), Fail> {
+    run_to(&rt, rt.alloc(), &ROWS)
 }
 
 /// The words are no command, and nothing is loaded or written.

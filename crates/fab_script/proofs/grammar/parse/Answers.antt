@@ -1,6 +1,6 @@
 use Rattle.std.proofs.Common.{◌≡◌, ◌≤◌, ℕ, List, [], true, None}
 use Rattle.std.specs.Prelude.{Result, Ok, Err, IfOk}
-use Rattle.fab_base.specs.Built.{all_built}
+use Rattle.fab_grammar.specs.Built.{all_built}
 use Rattle.fab_base.specs.declared.script.Script.{Script}
 use Rattle.fab_script.specs.declared.refused.ParseRefused.{ParseRefused}
 use Rattle.fab_grammar.specs.Grammar.{verdict}
