@@ -7,6 +7,7 @@ mod Staying
 mod Falling
 mod Admitting
 mod Letting
+mod Looks
 mod Accepting
 mod Reading
 mod Answering

@@ -9,6 +9,7 @@
 mod calls;
 pub mod endpoint;
 mod frames;
+mod looking;
 mod plain;
 mod receiving;
 pub mod seats;

@@ -1,0 +1,119 @@
+//! Unexpected messages looked at, and set aside (FI_PEEK, FI_CLAIM and FI_DISCARD of fi_tagged(3)). None of
+//! these calls takes memory.
+ghost use Rattle.std.specs.Prelude.{◌≡◌, IfErr, OnOk};
+ghost use Rattle.fab_model.specs.Calls.{TakeClaimed, DropClaimed};
+ghost use Rattle.fab_face.specs.Answers.{Receives, ReceivesNot};
+ghost use Rattle.fab_face.specs.Looking.{looking};
+ghost use Rattle.fab_face.specs.Ports.{seen};
+
+use crate::endpoint::{Endpoint, is_short};
+use fab_base::{Buf, Busy, Fault, PeekHow, Refused};
+use fab_face::calls::Looks;
+use fab_face::looking::{Look, Looking};
+use fab_link::Port;
+
+impl<P: Port, C: Looking> Endpoint<P, C> {
+    /// Looks for an unexpected message.
+    fn look_for(&mut self, look: &Look) -> Result<(), Fault>
+        ensures ok { OnOk result (Receives (looking look.now) (seen P.Port self.old) (seen P.Port self.new)) }
+        ensures err { IfErr result (λ why. ReceivesNot (looking look.now) (seen P.Port self.old) (seen P.Port self.new) why) }
+    {
+        self.core.known();
+        if let Some(why) = self.core.look_fault(look) {
+            return Err(why);
+        }
+        if is_short(&self.log, self.log_size) {
+            return Err(Fault::Again(Busy::LogFull(self.log_size)));
+        }
+        self.core.look(look)?;
+        self.log_call();
+        self.steady();
+        Ok(())
+    }
+
+    /// Receives the message claimed under the context.
+    fn take_aside(&mut self, buf: Buf, ctx: u64) -> Result<(), Refused>
+        ensures ok { OnOk result (Receives (TakeClaimed buf ctx) (seen P.Port self.old) (seen P.Port self.new)) }
+        ensures err { IfErr result (λ r. (r.buf ≡ buf) × ReceivesNot (TakeClaimed buf ctx) (seen P.Port self.old) (seen P.Port self.new) r.why) }
+    {
+        self.core.known();
+        if let Some(why) = self.core.take_fault(&buf, ctx) {
+            return Err(Refused { why, buf });
+        }
+        if is_short(&self.log, self.log_size) {
+            let why = Fault::Again(Busy::LogFull(self.log_size));
+            return Err(Refused { why, buf });
+        }
+        self.core.take_claimed(buf, ctx)?;
+        self.log_call();
+        self.steady();
+        Ok(())
+    }
+
+    /// Throws the message away that is claimed under the context.
+    fn drop_aside(&mut self, ctx: u64) -> Result<(), Fault>
+        ensures ok { OnOk result (Receives (DropClaimed ctx) (seen P.Port self.old) (seen P.Port self.new)) }
+        ensures err { IfErr result (λ why. ReceivesNot (DropClaimed ctx) (seen P.Port self.old) (seen P.Port self.new) why) }
+    {
+        self.core.known();
+        if let Some(why) = self.core.drop_fault(ctx) {
+            return Err(why);
+        }
+        if is_short(&self.log, self.log_size) {
+            return Err(Fault::Again(Busy::LogFull(self.log_size)));
+        }
+        self.core.drop_claimed(ctx)?;
+        self.log_call();
+        self.steady();
+        Ok(())
+    }
+}
+
+impl<P: Port, C: Looking> Looks for Endpoint<P, C> {
+    fn peek(&mut self, source: Option<u32>, tag: u64, ignore: u64, ctx: u64) -> Result<(), Fault> {
+        let how = PeekHow::Peek;
+        self.look_for(&Look {
+            how,
+            source,
+            tag,
+            ignore,
+            ctx,
+        })
+    }
+
+    fn claim(&mut self, source: Option<u32>, tag: u64, ignore: u64, ctx: u64) -> Result<(), Fault> {
+        let how = PeekHow::Claim;
+        self.look_for(&Look {
+            how,
+            source,
+            tag,
+            ignore,
+            ctx,
+        })
+    }
+
+    fn discard(
+        &mut self,
+        source: Option<u32>,
+        tag: u64,
+        ignore: u64,
+        ctx: u64,
+    ) -> Result<(), Fault> {
+        let how = PeekHow::Discard;
+        self.look_for(&Look {
+            how,
+            source,
+            tag,
+            ignore,
+            ctx,
+        })
+    }
+
+    fn take(&mut self, buf: Buf, ctx: u64) -> Result<(), Refused> {
+        self.take_aside(buf, ctx)
+    }
+
+    fn drop_claimed(&mut self, ctx: u64) -> Result<(), Fault> {
+        self.drop_aside(ctx)
+    }
+}
