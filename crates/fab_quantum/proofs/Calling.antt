@@ -2,6 +2,8 @@
 use Rattle.std.proofs.Common.{◌≡◌, ◌≢◌, ◌<◌, ◌≤◌, ◌+◌, ◌-◌, ◌⊎◌, inl, inr, ℕ, zero, suc, Bool, true, false, ◌||◌, List, [], ◌∷◌, ◌++◌, length, map, get_or, Option, Some, None, Result, Ok, Err, OnOk, IfErr, refl, sym, ap, ◌∙◌, subst, subst₂, arith, append-nil, append_assoc}
 use Rattle.std.specs.Prelude.{slice_get, replicate, find, is_some}
 use Rattle.std.proofs.lemmas.Option.{slice_get_within}
+use Rattle.fab_base.specs.declared.entries.PeekHow.{PeekHow}
+use Rattle.fab_base.specs.declared.entries.PeekHow.TheVariants as how
 use Rattle.fab_base.specs.declared.entries.Taken.{Taken}
 use Rattle.fab_model.specs.Matching.{remove_first}
 use Rattle.std.specs.Option.{option_map}
@@ -20,14 +22,15 @@ use Rattle.fab_base.specs.declared.peers.Step.TheVariants.{Do, Read}
 use Rattle.fab_base.specs.declared.script.BytesWord.{BytesWord}
 use Rattle.fab_base.specs.declared.script.Line.{Line}
 use Rattle.fab_base.specs.declared.script.LineOp.{LineOp}
-use Rattle.fab_base.specs.declared.script.LineOp.TheVariants.{Send, TSend, Inject, TInject, Recv, TRecv, Wait, Cancel as CancelLine}
+use Rattle.fab_base.specs.declared.script.LineOp.TheVariants.{Send, TSend, Inject, TInject, Recv, TRecv, Take, Wait, Cancel as CancelLine, DropClaimed as DropLine}
 use Rattle.fab_model.specs.Receiving.{draw_due}
 use Rattle.fab_model.specs.State.{State}
-use Rattle.fab_model.specs.Calls.{Call, Cancel, do_call, call_of, message, word_bytes}
+use Rattle.fab_model.specs.Calls.{Call, Cancel, Look as LookCall, TakeClaimed, DropClaimed, do_call, call_of, message, word_bytes}
 use Rattle.fab_model.specs.Peers.{Actor, do_next, do_line, call_line, after_call, is_again, is_of_ctx, next_line, with_result, with_state, wait_line, read_next, bytes_kept, part_of, unread}
 use Rattle.fab_face.specs.Held.{Held, Lanes, Seen, IsOpen}
 use Rattle.fab_face.specs.Acts.{Act, Did, Took, Posted, Drew, Had, Went, Ported, steps_of, steps_by, events, is_move}
 use Rattle.fab_face.specs.Answers.{AllAre, Judged, IsShort, Sends, SendsNot, Receives, ReceivesNot, Pops, receive_call}
+use Rattle.fab_quantum.specs.Looks.{look_line}
 use Rattle.fab_quantum.specs.Turns.{Told, living_of, actor_in, actor_of, SameParts, Lives, Lived, WentOn, Answered, why_of, drained, with_seen, is_some_act, is_some_event, next_op, step_of, ReadOn, IsRead, is_read}
 use Rattle.fab_face.proofs.Joining.{posts_move, draws_move, ported_same, ported_then}
 use Rattle.fab_quantum.proofs.Paths.{living, lives_append, goes_split, moves_live, posts_some, draws_some, some_did, none_acts, steps_told, steps_called, some_append, lived_then}
@@ -112,6 +115,22 @@ calls_recv a ctx source len buf next is m =
 pub calls_cancel : {Home : Type 0} (a : Told Home) (ctx : ℕ) → next_op a ≡ Some (CancelLine ctx) → IsCalled a.lines a.results a.kept (Cancel ctx)
 unfolding do_line call_of
 calls_cancel a ctx next m = next_is (actor_in (living m a.lines a.results a.kept)) _ next
+
+pub calls_look : {Home : Type 0} (a : Told Home) (how : PeekHow) (ctx : ℕ) (source : Option ℕ) (tag ignore : ℕ) → next_op a ≡ Some (look_line how ctx source tag ignore) → IsCalled a.lines a.results a.kept (LookCall how source tag ignore ctx)
+unfolding do_line call_of
+calls_look a how.Peek ctx source tag ignore next m = next_is (actor_in (living m a.lines a.results a.kept)) _ next
+calls_look a how.Claim ctx source tag ignore next m = next_is (actor_in (living m a.lines a.results a.kept)) _ next
+calls_look a how.Discard ctx source tag ignore next m = next_is (actor_in (living m a.lines a.results a.kept)) _ next
+
+pub calls_take : {Home : Type 0} (a : Told Home) (ctx len : ℕ) (buf : List ℕ) → next_op a ≡ Some (Take ctx len) → buf ≡ replicate len 0 → IsCalled a.lines a.results a.kept (TakeClaimed buf ctx)
+unfolding do_line call_of
+calls_take a ctx len buf next is m =
+    next_is (actor_in (living m a.lines a.results a.kept)) _ next
+    ∙ ap (λ bs. call_line (actor_in (living m a.lines a.results a.kept)) (TakeClaimed bs ctx)) (sym is)
+
+pub calls_drop : {Home : Type 0} (a : Told Home) (ctx : ℕ) → next_op a ≡ Some (DropLine ctx) → IsCalled a.lines a.results a.kept (DropClaimed ctx)
+unfolding do_line call_of
+calls_drop a ctx next m = next_is (actor_in (living m a.lines a.results a.kept)) _ next
 
 -- ---- why a call is refused
 

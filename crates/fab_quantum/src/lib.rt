@@ -3,4 +3,5 @@
 //! It is proved over the endpoint's public face alone (`fab_face`), whatever the endpoint and the port.
 #![tactic(auto)]
 
+mod looks;
 pub mod peer;

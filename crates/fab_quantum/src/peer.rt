@@ -1,4 +1,4 @@
-//! A small peer over any endpoint: it does lines of a few kinds, in turns.
+//! A peer over any endpoint: it does its lines, in turns.
 ghost use Rattle.std.specs.Prelude.{◌≡◌, ◌<◌, ◌||◌, length, ℕ, Some, None, Ok, IfOk, OnOk, IfSome, IfNone, find, position, is_some, nat_lt, ◌+◌, [], true, false, Bool};
 ghost use Rattle.fab_base.specs.declared.script.LineOp.TheVariants.{Wait, Recv, TRecv, Send, TSend, Inject, TInject, Cancel};
 ghost use Rattle.fab_base.specs.declared.script.BytesWord.{BytesWord};
@@ -14,7 +14,7 @@ use fab_base::{
     Buf, BytesWord, Entry, Fault, Flags, Kept, Line, LineOp, LineResult, NoMemory, Refused, Step,
     Taken,
 };
-use fab_face::calls::{Logs, Messages, Progress, Receives};
+use fab_face::calls::{Logs, Looks, Messages, Progress, Receives};
 use fab_face::events::Event;
 use std::alloc::Global;
 
@@ -22,20 +22,20 @@ use std::alloc::Global;
 ///
 /// The endpoint is open to whoever owns the peer: over a plain port its frames are carried by hand.
 #[derive(Drop)]
-pub struct Peer<E: Messages + Receives + Progress + Logs> {
+pub struct Peer<E: Messages + Receives + Looks + Progress + Logs> {
     pub endpoint: E,
-    lines: Vec<Line>,
-    results: Vec<LineResult>,
-    kept: Vec<Kept>,
-    schedule: Vec<Step>,
-    alloc: Global,
+    pub(crate) lines: Vec<Line>,
+    pub(crate) results: Vec<LineResult>,
+    pub(crate) kept: Vec<Kept>,
+    pub(crate) schedule: Vec<Step>,
+    pub(crate) alloc: Global,
 }
 
 /// What became of a line: whether it is done, and whether anything moved.
 #[derive(Clone, Copy, Drop)]
-struct Outcome {
-    done: bool,
-    moved: bool,
+pub(crate) struct Outcome {
+    pub(crate) done: bool,
+    pub(crate) moved: bool,
 }
 
 fn step_of(event: Event) -> Step
@@ -50,7 +50,7 @@ fn step_of(event: Event) -> Step
     }
 }
 
-fn why_of(answer: Result<(), Refused>) -> Result<(), Fault>
+pub(crate) fn why_of(answer: Result<(), Refused>) -> Result<(), Fault>
     ensures { result ≡ why_of answer }
 {
     match answer {
@@ -59,7 +59,7 @@ fn why_of(answer: Result<(), Refused>) -> Result<(), Fault>
     }
 }
 
-fn either(a: bool, b: bool) -> bool
+pub(crate) fn either(a: bool, b: bool) -> bool
     ensures { result ≡ (a || b) }
 {
     a || b
@@ -157,7 +157,7 @@ fn next_entry<E: Progress>(endpoint: &mut E) -> Option<Taken>
     }
 }
 
-impl<E: Messages + Receives + Progress + Logs> Peer<E> {
+impl<E: Messages + Receives + Looks + Progress + Logs> Peer<E> {
     ghost use Rattle.std.specs.Prelude.{List};
     ghost use Rattle.fab_face.specs.Acts.{Act};
     ghost use Rattle.fab_quantum.specs.Turns.{MovedOn, told, actor_of, drained, is_some_event, ReadOn, IsRead, WentOn, Answered, Lived, IsStill, is_some_act, next_op, Turned, Ended, IsQuiet};
@@ -179,7 +179,7 @@ impl<E: Messages + Receives + Progress + Logs> Peer<E> {
     }
 
     /// Empties the endpoint's log into the schedule. Whether there was an event.
-    fn drain(&mut self) -> Result<bool, NoMemory>
+    pub(crate) fn drain(&mut self) -> Result<bool, NoMemory>
         ensures drained { OnOk result (told E.seen self.new ≡ drained (told E.seen self.old)) }
         ensures any { IfOk result (λ any. any ≡ is_some_event (E.seen self.old.endpoint).log) }
     {
@@ -211,7 +211,7 @@ impl<E: Messages + Receives + Progress + Logs> Peer<E> {
     }
 
     /// A call was answered: its line is done, unless the answer is to come again.
-    fn answered(&mut self, answer: Result<(), Fault>) -> Result<bool, NoMemory>
+    pub(crate) fn answered(&mut self, answer: Result<(), Fault>) -> Result<bool, NoMemory>
         ensures { IfOk result (λ done. Answered answer (told E.seen self.old) (told E.seen self.new) done) }
     {
         match answer {
@@ -424,6 +424,11 @@ impl<E: Messages + Receives + Progress + Logs> Peer<E> {
                 len,
             } => self.trecv(ctx, source, tag, ignore, len),
             LineOp::Recv { ctx, source, len } => self.recv(ctx, source, len),
+            LineOp::Peek { .. }
+            | LineOp::Claim { .. }
+            | LineOp::Discard { .. }
+            | LineOp::Take { .. }
+            | LineOp::DropClaimed { .. } => self.do_look(),
             LineOp::Send {
                 ctx,
                 dest,
