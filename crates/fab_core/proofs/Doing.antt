@@ -30,6 +30,7 @@ use Rattle.fab_face.specs.declared.machine.Message.{Message}
 use Rattle.fab_core.specs.Parts.{IsFitting, Parts, state_of}
 use Rattle.fab_core.specs.Doing.{accepted_by, answered, as_operation, booked, called, cq_after, counters_after, ending_by, entry_at_end, given_found, given_whole, heading, left_by, posted_by, received, receive_now, sent, tail, well_entry, whole, with_arriving, with_transit, written_if}
 use Rattle.fab_core.specs.Orders.{order_of, posting_of, wanted}
+use Rattle.fab_core.proofs.Serves.{requested_is}
 
 -- ---- tests
 
@@ -171,7 +172,7 @@ module _ (p : Parts) (source : ℕ) (item : Item) (begun : begun_of p.rx source 
   tail_by (Some (Into r place)) e f s = rw (e, s.1, do_tail, tail_to, not_released r s.0 _) (received_is r s.0 source item.head item.bytes (at_either item.head.ack) (with_arriving (record p.rx { rx = made_whole source p.rx.rx; begun = slice_set p.rx.begun source None }) p))
   tail_by (Some Keep) e f s = rw (e, begun, do_tail, tail_to) (book_is (at_delivery item.head.ack) source item.head (with_arriving (record p.rx { rx = keeping source item.bytes (made_whole source p.rx.rx); begun = slice_set p.rx.begun source None }) p))
   tail_by (Some Throw) e f s = rw (e, do_tail, tail_to) (book_is (at_either item.head.ack) source item.head (with_arriving (record p.rx { rx = made_whole source p.rx.rx; begun = slice_set p.rx.begun source None }) p))
-  tail_by (Some Request) e f s = absurd f
+  tail_by (Some Request) e f s = rw (e, do_tail, tail_to) (requested_is (with_arriving (record p.rx { rx = made_whole source p.rx.rx; begun = slice_set p.rx.begun source None }) p) source item)
   tail_by (Some Answer) e f s = rw (e, do_tail, tail_to) (answered_is (with_arriving (record p.rx { rx = made_whole source p.rx.rx; begun = slice_set p.rx.begun source None }) p) source item)
 
   pub tail_is : do_tail (state_of p) source item.head item.bytes ≡ state_of (tail source item p)

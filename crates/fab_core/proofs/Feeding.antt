@@ -16,7 +16,7 @@ use Rattle.fab_base.specs.declared.operations.Coming.TheVariants.{Into, Keep, Th
 use Rattle.fab_base.specs.declared.operations.Receive.{Receive}
 use Rattle.fab_wire.specs.Joined.{grown, is_last}
 use Rattle.fab_model.specs.Matching.{is_message}
-use Rattle.fab_model.specs.State.{State, Receiving, Transmitting, coming_from, fits, raise}
+use Rattle.fab_model.specs.State.{State, Receiving, Transmitting, coming_from, fits, raise, Region}
 use Rattle.fab_model.specs.Arrivals.{do_tail, heading_message, heading_other, is_wanted, taker, way_of}
 use Rattle.fab_rx.specs.Arriving.{Arriving, GoesToSingle, IsArriving, IsSingle, arriving, bare, begun_of, count_begun, headed as headed_in, lengthened}
 use Rattle.fab_rx.specs.Results.{entries_due}
@@ -25,13 +25,15 @@ use Rattle.fab_face.specs.Held.{Held}
 use Rattle.fab_face.specs.Acts.{Comes, Ends, Goes, Took, headed, is_first}
 use Rattle.fab_face.specs.Answers.{FrameLacks}
 use Rattle.fab_face.specs.Machine.{IsNext, StayNext}
+use Rattle.fab_rma.specs.Serving.{is_request, outcome_at}
 use Rattle.fab_core.specs.Parts.{IsFitting, IsTogether, Parts, held_of, state_of}
-use Rattle.fab_core.specs.Doing.{answer_writes, arrived, fed, growing_by, heading, is_request, tail, with_arriving, writes_at_tail}
+use Rattle.fab_core.specs.Doing.{answer_writes, arrived, fed, growing_by, heading, tail, with_arriving, writes_at_tail}
 use Rattle.fab_core.proofs.Doing.{heading_is, tail_is}
 use Rattle.fab_tx.specs.Transit.{is_reply}
 use Rattle.fab_core.proofs.Fits.{fits_tail}
 use Rattle.fab_core.proofs.Steady.{item_there}
 use Rattle.fab_core.proofs.Together.{fitting_arrived}
+use Rattle.fab_core.specs.Requests.{writes_data}
 
 -- ---- a first frame, or another one
 
@@ -121,34 +123,17 @@ module _ (v : Arriving) (ok : IsArriving v) (source : ℕ) (head : ItemHead) (wi
 
   -- ---- what is written when it is whole, where its first frame comes
 
-  pub first_writes_message : (tx : Transmitting) → is_message head.kind ≡ true → writes_at_tail (coming_from (arriving source head v).rx source) source head tx ≡ is_some (taker source head v.rx)
-  first_writes_message tx message = rw (arrived_message message) (by (taker source head v.rx))
+  pub first_writes_message : (tx : Transmitting) (regions : List Region) → is_message head.kind ≡ true → writes_at_tail (coming_from (arriving source head v).rx source) source head tx regions ≡ is_some (taker source head v.rx)
+  first_writes_message tx regions message = rw (arrived_message message) (by (taker source head v.rx))
     where
-      by : (o : Option Receive) → writes_at_tail (elim o [ None ↦ Some Keep | Some r ↦ Some (Into r r.used) ]) source head tx ≡ is_some o
+      by : (o : Option Receive) → writes_at_tail (elim o [ None ↦ Some Keep | Some r ↦ Some (Into r r.used) ]) source head tx regions ≡ is_some o
       by None = refl
       by (Some r) = refl
 
-  pub first_writes_other : (tx : Transmitting) → is_message head.kind ≡ false → writes_at_tail (coming_from (arriving source head v).rx source) source head tx ≡ writes_at_tail (Some (way_of head.kind)) source head tx
-  first_writes_other tx other = ap (λ c. writes_at_tail c source head tx) (arrived_other other)
+  pub first_writes_other : (tx : Transmitting) (regions : List Region) → is_message head.kind ≡ false → writes_at_tail (coming_from (arriving source head v).rx source) source head tx regions ≡ writes_at_tail (Some (way_of head.kind)) source head tx regions
+  first_writes_other tx regions other = ap (λ c. writes_at_tail c source head tx regions) (arrived_other other)
 
--- and where another one comes
-pub later_writes_message : (c : Option Coming) (item : Item) (source : ℕ) (tx : Transmitting) → IsFitting c (Some item) → is_message item.head.kind ≡ true → writes_at_tail c source item.head tx ≡ not (entries_due c == 0)
-later_writes_message None item source tx fits message = absurd fits
-later_writes_message (Some (Into r place)) item source tx fits message = refl
-later_writes_message (Some Keep) item source tx fits message = refl
-later_writes_message (Some Throw) item source tx fits message = refl
-later_writes_message (Some Request) item source tx fits message = absurd fits
-later_writes_message (Some Answer) item source tx fits message = absurd (let k : is_message item.head.kind ≡ false = ap is_message fits in cc)
-
-pub later_writes_reply : (c : Option Coming) (item : Item) (source : ℕ) (tx : Transmitting) → IsFitting c (Some item) → item.head.kind ≡ Reply → writes_at_tail c source item.head tx ≡ answer_writes source item.head tx
-later_writes_reply None item source tx fits reply = absurd fits
-later_writes_reply (Some (Into r place)) item source tx fits reply = absurd (let k : is_message item.head.kind ≡ false = ap is_message reply in let f : is_message item.head.kind ≡ true = fits in cc)
-later_writes_reply (Some Keep) item source tx fits reply = absurd (let k : is_message item.head.kind ≡ false = ap is_message reply in let f : is_message item.head.kind ≡ true = fits in cc)
-later_writes_reply (Some Throw) item source tx fits reply = absurd (let k : is_message item.head.kind ≡ false = ap is_message reply in let f : is_message item.head.kind ≡ true = fits in cc)
-later_writes_reply (Some Request) item source tx fits reply = absurd fits
-later_writes_reply (Some Answer) item source tx fits reply = refl
-
--- a request is none that may be begun
+-- a request is no message
 no_request : (k : Kind) → is_request k ≡ true → is_message k ≡ true → ⊥
 no_request Msg r m = absurd (cc)
 no_request TagMsg r m = absurd (cc)
@@ -157,12 +142,30 @@ no_request ReadReq r m = absurd (cc)
 no_request AtomicReq r m = absurd (cc)
 no_request Reply r m = absurd (cc)
 
-pub later_request : (c : Option Coming) (item : Item) → IsFitting c (Some item) → is_request item.head.kind ≡ true → ⊥
-later_request None item fits request = fits
-later_request (Some (Into r place)) item fits request = no_request item.head.kind request fits
-later_request (Some Keep) item fits request = no_request item.head.kind request fits
-later_request (Some Throw) item fits request = no_request item.head.kind request fits
-later_request (Some Request) item fits request = fits
+-- and where another one comes
+pub later_writes_message : (c : Option Coming) (item : Item) (source : ℕ) (tx : Transmitting) (regions : List Region) → IsFitting c (Some item) → is_message item.head.kind ≡ true → writes_at_tail c source item.head tx regions ≡ not (entries_due c == 0)
+later_writes_message None item source tx regions fits message = absurd fits
+later_writes_message (Some (Into r place)) item source tx regions fits message = refl
+later_writes_message (Some Keep) item source tx regions fits message = refl
+later_writes_message (Some Throw) item source tx regions fits message = refl
+later_writes_message (Some Request) item source tx regions fits message = absurd (no_request item.head.kind fits message)
+later_writes_message (Some Answer) item source tx regions fits message = absurd (let k : is_message item.head.kind ≡ false = ap is_message fits in cc)
+
+pub later_writes_reply : (c : Option Coming) (item : Item) (source : ℕ) (tx : Transmitting) (regions : List Region) → IsFitting c (Some item) → item.head.kind ≡ Reply → writes_at_tail c source item.head tx regions ≡ answer_writes source item.head tx
+later_writes_reply None item source tx regions fits reply = absurd fits
+later_writes_reply (Some (Into r place)) item source tx regions fits reply = absurd (let k : is_message item.head.kind ≡ false = ap is_message reply in let f : is_message item.head.kind ≡ true = fits in cc)
+later_writes_reply (Some Keep) item source tx regions fits reply = absurd (let k : is_message item.head.kind ≡ false = ap is_message reply in let f : is_message item.head.kind ≡ true = fits in cc)
+later_writes_reply (Some Throw) item source tx regions fits reply = absurd (let k : is_message item.head.kind ≡ false = ap is_message reply in let f : is_message item.head.kind ≡ true = fits in cc)
+later_writes_reply (Some Request) item source tx regions fits reply = absurd (let k : is_request item.head.kind ≡ false = ap is_request reply in cc)
+later_writes_reply (Some Answer) item source tx regions fits reply = refl
+
+-- where a request is begun, one is coming
+pub later_request : (c : Option Coming) (item : Item) → IsFitting c (Some item) → is_request item.head.kind ≡ true → c ≡ Some Request
+later_request None item fits request = absurd fits
+later_request (Some (Into r place)) item fits request = absurd (no_request item.head.kind request fits)
+later_request (Some Keep) item fits request = absurd (no_request item.head.kind request fits)
+later_request (Some Throw) item fits request = absurd (no_request item.head.kind request fits)
+later_request (Some Request) item fits request = refl
 later_request (Some Answer) item fits request = absurd (let k : is_request item.head.kind ≡ false = ap is_request fits in cc)
 
 way_of_request : (k : Kind) → is_request k ≡ true → way_of k ≡ Request
@@ -199,7 +202,7 @@ a_message Reply q r = absurd (cc)
 
 module _ (p : Parts) (ok : IsTogether p) (rx : IsArriving p.rx) (source : ℕ) (h : FrameHead) (within : source < length p.rx.begun) (next : h.from ≢ 0 → IsSomeAnd (begun_of p.rx source) (λ item. item.head ≡ h.item)) where
   abbrev writes : Bool
-  writes = writes_at_tail (coming_from (arrived (h.from == 0) source h.item p.rx).rx source) source h.item p.tx.tx
+  writes = writes_at_tail (coming_from (arrived (h.from == 0) source h.item p.rx).rx source) source h.item p.tx.tx p.target.regions
 
   -- what is begun where another frame comes
   later : (h.from == 0) ≡ false → (item : Item) × (begun_of p.rx source ≡ Some item) × (item.head ≡ h.item) × IsFitting (coming_from p.rx.rx source) (Some item)
@@ -207,29 +210,31 @@ module _ (p : Parts) (ok : IsTogether p) (rx : IsArriving p.rx) (source : ℕ) (
       let there = item_there (λ item. item.head ≡ h.item) (begun_of p.rx source) (next (eqb-false h.from 0 other)) in
       (there.0, there.1, there.2, subst (λ (i : Option Item). IsFitting (coming_from p.rx.rx source) i) there.1 (ok.fitting source))
 
-  pub writes_request : is_request h.item.kind ≡ true → false ≡ writes
+  pub writes_request : is_request h.item.kind ≡ true → writes_data (outcome_at p.target.regions h.item) h.item ≡ writes
   writes_request request = by (h.from == 0) refl
     where
-      by : (b : Bool) → (h.from == 0) ≡ b → false ≡ writes
-      by true first = rw first (sym (first_writes_other p.rx rx source h.item within p.tx.tx (no_message h.item.kind request) ∙ ap (λ w. writes_at_tail (Some w) source h.item p.tx.tx) (way_of_request h.item.kind request)))
-      by false other = (let l = later other in absurd (later_request (coming_from p.rx.rx source) l.0 l.3 (ap (λ (x : ItemHead). is_request x.kind) l.2 ∙ request)))
+      by : (b : Bool) → (h.from == 0) ≡ b → writes_data (outcome_at p.target.regions h.item) h.item ≡ writes
+      by true first = rw first (sym (first_writes_other p.rx rx source h.item within p.tx.tx p.target.regions (no_message h.item.kind request) ∙ ap (λ w. writes_at_tail (Some w) source h.item p.tx.tx p.target.regions) (way_of_request h.item.kind request)))
+      by false other =
+          let l = later other in
+          rw other (sym (ap (λ c. writes_at_tail c source h.item p.tx.tx p.target.regions) (later_request (coming_from p.rx.rx source) l.0 l.3 (ap (λ (x : ItemHead). is_request x.kind) l.2 ∙ request))))
 
   pub writes_reply : is_reply h.item.kind ≡ true → answer_writes source h.item p.tx.tx ≡ writes
   writes_reply reply = by (h.from == 0) refl
     where
       by : (b : Bool) → (h.from == 0) ≡ b → answer_writes source h.item p.tx.tx ≡ writes
-      by true first = rw first (sym (first_writes_other p.rx rx source h.item within p.tx.tx (ap is_message (reply_is h.item.kind reply)) ∙ ap (λ k. writes_at_tail (Some (way_of k)) source h.item p.tx.tx) (reply_is h.item.kind reply)))
+      by true first = rw first (sym (first_writes_other p.rx rx source h.item within p.tx.tx p.target.regions (ap is_message (reply_is h.item.kind reply)) ∙ ap (λ k. writes_at_tail (Some (way_of k)) source h.item p.tx.tx p.target.regions) (reply_is h.item.kind reply)))
       by false other =
           let l = later other in
-          rw other (sym (subst (λ (x : ItemHead). writes_at_tail (coming_from p.rx.rx source) source x p.tx.tx ≡ answer_writes source x p.tx.tx) l.2 (later_writes_reply (coming_from p.rx.rx source) l.0 source p.tx.tx l.3 (ap (λ (x : ItemHead). x.kind) l.2 ∙ reply_is h.item.kind reply))))
+          rw other (sym (subst (λ (x : ItemHead). writes_at_tail (coming_from p.rx.rx source) source x p.tx.tx p.target.regions ≡ answer_writes source x p.tx.tx) l.2 (later_writes_reply (coming_from p.rx.rx source) l.0 source p.tx.tx p.target.regions l.3 (ap (λ (x : ItemHead). x.kind) l.2 ∙ reply_is h.item.kind reply))))
 
   pub writes_first : is_request h.item.kind ≡ false → is_reply h.item.kind ≡ false → (h.from == 0) ≡ true → is_some (taker source h.item p.rx.rx) ≡ writes
-  writes_first request reply first = rw first (sym (first_writes_message p.rx rx source h.item within p.tx.tx (a_message h.item.kind request reply)))
+  writes_first request reply first = rw first (sym (first_writes_message p.rx rx source h.item within p.tx.tx p.target.regions (a_message h.item.kind request reply)))
 
   pub writes_later : is_request h.item.kind ≡ false → is_reply h.item.kind ≡ false → (h.from == 0) ≡ false → not (entries_due (coming_from p.rx.rx source) == 0) ≡ writes
   writes_later request reply other =
       let l = later other in
-      rw other (sym (subst (λ (x : ItemHead). writes_at_tail (coming_from p.rx.rx source) source x p.tx.tx ≡ not (entries_due (coming_from p.rx.rx source) == 0)) l.2 (later_writes_message (coming_from p.rx.rx source) l.0 source p.tx.tx l.3 (ap (λ (x : ItemHead). is_message x.kind) l.2 ∙ a_message h.item.kind request reply))))
+      rw other (sym (subst (λ (x : ItemHead). writes_at_tail (coming_from p.rx.rx source) source x p.tx.tx p.target.regions ≡ not (entries_due (coming_from p.rx.rx source) == 0)) l.2 (later_writes_message (coming_from p.rx.rx source) l.0 source p.tx.tx p.target.regions l.3 (ap (λ (x : ItemHead). is_message x.kind) l.2 ∙ a_message h.item.kind request reply))))
 
 -- ---- the frame as an act
 
@@ -278,12 +283,12 @@ module _ (p : Parts) (ok : IsTogether p) (rx : IsArriving p.rx) (source : ℕ) (
 
   -- it waits for room
   pub frame_lacks : p.cq.taken_out ≤ length p.cq.written → fits p.cq ≡ true → IsFitting (coming_from (fed source f p).rx.rx source) (Some (grown (begun_of p.rx source) f)) → GoesToSingle (coming_from (fed source f p).rx.rx source)
-      → writes_at_tail (coming_from (fed source f p).rx.rx source) source f.head.item p.tx.tx ≡ true → has_room 1 p.cq ≡ false → is_last f.head ≡ true → FrameLacks (held_of p) source f
+      → writes_at_tail (coming_from (fed source f p).rx.rx source) source f.head.item p.tx.tx p.target.regions ≡ true → has_room 1 p.cq ≡ false → is_last f.head ≡ true → FrameLacks (held_of p) source f
   frame_lacks read now fitting single writes full last =
       let item = grown (begun_of p.rx source) f in
       let q = fed source f p in
-      let fit : fits (tail source item q).cq ≡ not (writes_at_tail (coming_from q.rx.rx source) source item.head q.tx.tx) || has_room 1 q.cq = fits_tail q read now source item in
-      let fails : not (writes_at_tail (coming_from q.rx.rx source) source item.head q.tx.tx) || has_room 1 q.cq ≡ false = rw (writes, full) refl in
+      let fit : fits (tail source item q).cq ≡ not (writes_at_tail (coming_from q.rx.rx source) source item.head q.tx.tx q.target.regions) || has_room 1 q.cq = fits_tail q read now source item in
+      let fails : not (writes_at_tail (coming_from q.rx.rx source) source item.head q.tx.tx q.target.regions) || has_room 1 q.cq ≡ false = rw (writes, full) refl in
       let state = tail_is q source item (fed_here p source f within next) fitting single in
       inr (last, rw (← fed_state p source f) (ap (λ (s : State). fits s.cq) state ∙ fit ∙ fails))
 
@@ -298,7 +303,7 @@ fits_head None a b same fits = fits
 fits_head (Some (Into r place)) a b same fits = ap (λ (h : ItemHead). is_message h.kind) (sym same) ∙ fits
 fits_head (Some Keep) a b same fits = ap (λ (h : ItemHead). is_message h.kind) (sym same) ∙ fits
 fits_head (Some Throw) a b same fits = ap (λ (h : ItemHead). is_message h.kind) (sym same) ∙ fits
-fits_head (Some Request) a b same fits = fits
+fits_head (Some Request) a b same fits = ap (λ (h : ItemHead). is_request h.kind) (sym same) ∙ fits
 fits_head (Some Answer) a b same fits = ap (λ (h : ItemHead). h.kind) (sym same) ∙ fits
 
 and_both : (a b : Bool) → (a && b) ≡ true → (a ≡ true) × (b ≡ true)
@@ -322,39 +327,36 @@ module _ (p : Parts) (ok : IsTogether p) (rx : IsArriving p.rx) (source : ℕ) (
       by true first = rw first (single_arrived p.rx rx source f.head.item within)
       by false other = rw other (rx.into source)
 
-  fitting_fed : writes_at_tail (coming_from (fed source f p).rx.rx source) source f.head.item p.tx.tx ≡ true → IsFitting (coming_from (fed source f p).rx.rx source) (Some (grown (begun_of p.rx source) f))
-  fitting_fed writes = by (is_first f) refl
+  fitting_fed : IsFitting (coming_from (fed source f p).rx.rx source) (Some (grown (begun_of p.rx source) f))
+  fitting_fed = by (is_first f) refl
     where
-      first_by : is_first f ≡ true → (b : Bool) → is_request f.head.item.kind ≡ b → IsFitting (coming_from (fed source f p).rx.rx source) (Some (grown (begun_of p.rx source) f))
-      first_by first true request = absurd (let w = writes_request p ok rx source f.head within (head_there (begun_of p.rx source) f next) request in cc)
-      first_by first false carried =
-          let fits : IsFitting (coming_from (arriving source f.head.item p.rx).rx source) (Some (bare f.head.item)) = subst (λ (i : Option Item). IsFitting (coming_from (arriving source f.head.item p.rx).rx source) i) (get_or-set_same p.rx.begun source (Some (bare f.head.item)) None within) (fitting_arrived p.rx rx source f.head.item within ok.fitting carried source) in
-          rw first (fits_head (coming_from (arriving source f.head.item p.rx).rx source) (bare f.head.item) (grown (begun_of p.rx source) f) refl fits)
-
       by : (b : Bool) → is_first f ≡ b → IsFitting (coming_from (fed source f p).rx.rx source) (Some (grown (begun_of p.rx source) f))
-      by true first = first_by first (is_request f.head.item.kind) refl
+      by true first =
+          let fits : IsFitting (coming_from (arriving source f.head.item p.rx).rx source) (Some (bare f.head.item)) = subst (λ (i : Option Item). IsFitting (coming_from (arriving source f.head.item p.rx).rx source) i) (get_or-set_same p.rx.begun source (Some (bare f.head.item)) None within) (fitting_arrived p.rx rx source f.head.item within ok.fitting source) in
+          rw first (fits_head (coming_from (arriving source f.head.item p.rx).rx source) (bare f.head.item) (grown (begun_of p.rx source) f) refl fits)
       by false other =
           let there = some_begun (begun_of p.rx source) f next other in
           let fits : IsFitting (coming_from p.rx.rx source) (Some there.0) = subst (λ (i : Option Item). IsFitting (coming_from p.rx.rx source) i) there.1 (ok.fitting source) in
           rw other (fits_head (coming_from p.rx.rx source) there.0 (grown (begun_of p.rx source) f) there.2 fits)
 
-  pub last_lacks : (b : Bool) → b ≡ (writes_at_tail (coming_from (arrived (f.head.from == 0) source f.head.item p.rx).rx source) source f.head.item p.tx.tx && not (has_room 1 p.cq)) → b ≡ true → p.cq.taken_out ≤ length p.cq.written → fits p.cq ≡ true → is_last f.head ≡ true
+  pub last_lacks : (b : Bool) → b ≡ (writes_at_tail (coming_from (arrived (f.head.from == 0) source f.head.item p.rx).rx source) source f.head.item p.tx.tx p.target.regions && not (has_room 1 p.cq)) → b ≡ true → p.cq.taken_out ≤ length p.cq.written → fits p.cq ≡ true → is_last f.head ≡ true
       → FrameLacks (held_of p) source f
   last_lacks b is yes_b read now last =
       let both = and_both _ _ (sym is ∙ yes_b) in
-      frame_lacks p ok rx source f within next read now (fitting_fed both.0) single_fed both.0 (not_true (has_room 1 p.cq) both.1) last
+      frame_lacks p ok rx source f within next read now fitting_fed single_fed both.0 (not_true (has_room 1 p.cq) both.1) last
 
   -- its item is whole then, and what that writes has room
   pub last_whole : (v : Arriving) → v ≡ (fed source f p).rx → length f.bytes ≡ f.head.len → is_last f.head ≡ true → IsSomeAnd (begun_of v source) (λ item. length item.bytes ≡ item.head.total)
   last_whole v is filled last =
       rw (is, fed_here p source f within next) (let l = grown_length (begun_of p.rx source) f next in let e = eqb-true _ _ last in omega (arith, l, filled, e))
 
-  pub last_room : (b : Bool) → b ≡ (writes_at_tail (coming_from (arrived (f.head.from == 0) source f.head.item p.rx).rx source) source f.head.item p.tx.tx && not (has_room 1 p.cq)) → b ≡ false → (q : Parts) → held_of q ≡ held_of (fed source f p) → q.rx ≡ (fed source f p).rx
-      → IfSome (begun_of q.rx source) (λ item. writes_at_tail (coming_from q.rx.rx source) source item.head q.tx.tx ≡ true → has_room 1 q.cq ≡ true)
+  pub last_room : (b : Bool) → b ≡ (writes_at_tail (coming_from (arrived (f.head.from == 0) source f.head.item p.rx).rx source) source f.head.item p.tx.tx p.target.regions && not (has_room 1 p.cq)) → b ≡ false → (q : Parts) → held_of q ≡ held_of (fed source f p) → q.rx ≡ (fed source f p).rx
+      → IfSome (begun_of q.rx source) (λ item. writes_at_tail (coming_from q.rx.rx source) source item.head q.tx.tx q.target.regions ≡ true → has_room 1 q.cq ≡ true)
   last_room b is no_b q held same =
       let tx : q.tx.tx ≡ p.tx.tx = ap (λ (h : Held). h.state.tx) held in
       let cq : q.cq ≡ p.cq = ap (λ (h : Held). h.state.cq) held in
-      rw (same, fed_here p source f within next, tx, cq) (not_both _ _ (sym is ∙ no_b))
+      let regions : q.target.regions ≡ p.target.regions = ap (λ (h : Held). h.state.regions) held in
+      rw (same, fed_here p source f within next, tx, cq, regions) (not_both _ _ (sym is ∙ no_b))
 
   pub last_goes : (q t : Parts) → held_of q ≡ held_of (fed source f p) → q.rx ≡ (fed source f p).rx → fits t.cq ≡ true → IfSome (begun_of q.rx source) (λ item. state_of t ≡ do_tail (state_of q) source item.head item.bytes)
       → t.rx.begun ≡ slice_set q.rx.begun source None → t.tx.places ≡ q.tx.places → is_last f.head ≡ true → Goes None (held_of p) (Took source f) (held_of t)

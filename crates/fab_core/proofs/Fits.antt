@@ -17,9 +17,12 @@ use Rattle.fab_model.specs.Sending.{do_sent, ending, refusal_of}
 use Rattle.fab_cq.specs.Queues.{has_room}
 use Rattle.fab_tx.specs.Transit.{ended, finds_answered, writes_when_sent}
 use Rattle.fab_tx.specs.declared.results.Ended.{Ended}
+use Rattle.fab_rma.specs.Serving.{outcome_at}
 use Rattle.fab_core.specs.Parts.{Parts, state_of}
 use Rattle.fab_core.proofs.Doing.{sent_is}
 use Rattle.fab_core.specs.Doing.{answer_writes, answered, cq_after, entry_at_end, sent, tail, well_entry, writes_at_tail, writes_end, written_if}
+use Rattle.fab_core.specs.Requests.{data_of}
+use Rattle.fab_core.proofs.Serves.{writes_told}
 
 -- an end writes a completion unless it is silent and a success
 pub writes_entry : (outcome : Outcome) (bytes : List ℕ) (e : Ended) → is_some (entry_at_end outcome bytes e) ≡ writes_end outcome e.silent
@@ -66,13 +69,13 @@ module _ (p : Parts) (read : p.cq.taken_out ≤ length p.cq.written) (now : fits
       by None e = rw (e, answer_writes) now
       by (Some o) e = rw (e, answer_writes) (fits_end p.cq read now item.head.outcome item.bytes o)
 
-  pub fits_tail : (source : ℕ) (item : Item) → fits (tail source item p).cq ≡ not (writes_at_tail (coming_from p.rx.rx source) source item.head p.tx.tx) || has_room 1 p.cq
+  pub fits_tail : (source : ℕ) (item : Item) → fits (tail source item p).cq ≡ not (writes_at_tail (coming_from p.rx.rx source) source item.head p.tx.tx p.target.regions) || has_room 1 p.cq
   fits_tail source item = by (coming_from p.rx.rx source) refl
     where
-      by : (c : Option Coming) → coming_from p.rx.rx source ≡ c → fits (tail source item p).cq ≡ not (writes_at_tail (coming_from p.rx.rx source) source item.head p.tx.tx) || has_room 1 p.cq
+      by : (c : Option Coming) → coming_from p.rx.rx source ≡ c → fits (tail source item p).cq ≡ not (writes_at_tail (coming_from p.rx.rx source) source item.head p.tx.tx p.target.regions) || has_room 1 p.cq
       by None e = rw e now
       by (Some (Into r place)) e = rw e (fits_writing p.cq read now (Some r.call) _)
       by (Some Keep) e = rw e now
       by (Some Throw) e = rw e now
-      by (Some Request) e = rw e now
+      by (Some Request) e = rw e (fits_if p.cq read now None (data_of (outcome_at p.target.regions item.head) source item.head) ∙ ap (λ b. not b || has_room 1 p.cq) (writes_told (outcome_at p.target.regions item.head) source item.head))
       by (Some Answer) e = rw e (fits_answered source item)

@@ -1,5 +1,5 @@
 -- What the receive half hands out of an item that is whole tells where it went.
-use Rattle.std.proofs.Common.{◌≡◌, inl, inr, ◌⊎◌, ℕ, ◌+◌, ◌<◌, Bool, true, false, List, length, Option, Some, None, refl, sym, ap, ◌∙◌, subst}
+use Rattle.std.proofs.Common.{◌≡◌, inl, inr, ◌⊎◌, ℕ, ◌+◌, ◌<◌, Bool, true, false, List, length, Option, Some, None, refl, sym, ap, ◌∙◌, subst, ◌≤◌}
 use Rattle.std.specs.Prelude.{IfSome, find, slice_index}
 use Rattle.fab_base.specs.declared.entries.Class.TheVariants.{Recv}
 use Rattle.fab_base.specs.declared.items.Want.{Want}
@@ -24,12 +24,16 @@ use Rattle.fab_rx.specs.declared.results.Finished.{Finished}
 use Rattle.fab_rx.specs.declared.results.Finished.TheVariants.{Received, Kept, Thrown, Request as RequestCame, Answer as AnswerCame}
 use Rattle.fab_rx.specs.declared.results.Posted.{Posted}
 use Rattle.fab_rx.specs.declared.results.Posted.TheVariants.{Joined, GoesOn, Whole}
-use Rattle.fab_tx.specs.Transit.{IsTransit, Transit, answered_by, finds_answered}
+use Rattle.fab_tx.specs.Transit.{IsTransit, Transit, answered_by, finds_answered, booking}
+use Rattle.fab_rma.specs.Serving.{Serving, is_request, outcome_at, room_for}
+use Rattle.fab_wire.specs.Frames.{IsSound}
+use Rattle.fab_model.specs.Target.{perform}
 use Rattle.fab_core.specs.Parts.{IsFitting, IsTogether, Parts, is_due, state_of}
-use Rattle.fab_core.specs.Doing.{booked, counters_after, cq_after, receive_now, tail}
+use Rattle.fab_core.specs.Doing.{booked, counters_after, cq_after, receive_now, tail, written_if}
 use Rattle.fab_core.proofs.Doing.{tail_is}
 use Rattle.fab_core.proofs.Next.{tail_next}
-use Rattle.fab_core.proofs.Together.{match_room, most_booked, size_after, together_answered, together_booked, together_given, together_posted}
+use Rattle.fab_core.proofs.Together.{match_room, most_booked, size_after, together_answered, together_booked, together_given, together_posted, size_written, together_requested}
+use Rattle.fab_core.specs.Requests.{IsAwaited, IsServing, data_of, reply_of, served}
 
 pub ended_received : (c : Option Coming) (source : ℕ) (item : Item) (x : Completed) → ended c source item ≡ Received x → (r : Receive) × (place : ℕ) × (c ≡ Some (Into r place)) × (x ≡ completed r place source item.head item.bytes)
 ended_received None source item x is = absurd (cc)
@@ -55,13 +59,13 @@ ended_thrown (Some Throw) source item head fits is = (refl, cc)
 ended_thrown (Some Request) source item head fits is = absurd (cc)
 ended_thrown (Some Answer) source item head fits is = absurd (cc)
 
-pub ended_request : (c : Option Coming) (source : ℕ) (item came : Item) → IsFitting c (Some item) → ended c source item ≡ RequestCame came → ⊥
-ended_request None source item came fits is = fits
-ended_request (Some (Into r place)) source item came fits is = absurd (cc)
-ended_request (Some Keep) source item came fits is = absurd (cc)
-ended_request (Some Throw) source item came fits is = absurd (cc)
-ended_request (Some Request) source item came fits is = fits
-ended_request (Some Answer) source item came fits is = absurd (cc)
+pub ended_request : (c : Option Coming) (source : ℕ) (item came : Item) → ended c source item ≡ RequestCame came → (c ≡ Some Request) × (came ≡ item)
+ended_request None source item came is = absurd (cc)
+ended_request (Some (Into r place)) source item came is = absurd (cc)
+ended_request (Some Keep) source item came is = absurd (cc)
+ended_request (Some Throw) source item came is = absurd (cc)
+ended_request (Some Request) source item came is = (refl, cc)
+ended_request (Some Answer) source item came is = absurd (cc)
 
 pub ended_answer : (c : Option Coming) (source : ℕ) (item came : Item) → ended c source item ≡ AnswerCame came → (c ≡ Some Answer) × (came ≡ item)
 ended_answer None source item came is = absurd (cc)
@@ -100,7 +104,7 @@ module _ (p : Parts) (ok : IsTogether p) (rx : IsArriving p.rx) (tx : IsTransit 
 
   -- the parts then, but for what is named
   abbrev then : Transit → Completions → List Tally → Parts
-  then tx' cq' counters' = record { caps = p.caps; selective = p.selective; av = p.av; rx = finishing source p.rx; tx = tx'; cq = cq'; counters = counters'; calls = p.calls }
+  then tx' cq' counters' = record { caps = p.caps; selective = p.selective; av = p.av; rx = finishing source p.rx; tx = tx'; target = p.target; cq = cq'; counters = counters'; calls = p.calls }
 
   -- what holds of what an end makes: it is the machine's, and the parts belong together
   abbrev pub IsEnd : Parts → Type 0
@@ -135,6 +139,21 @@ module _ (p : Parts) (ok : IsTogether p) (rx : IsArriving p.rx) (tx : IsTransit 
       let e = ended_answer (coming_from p.rx.rx source) source item came is in
       subst (λ (y : Item). IsEnd (then (answered_by source y.head p.tx) (cq_after y.head.outcome y.bytes (finds_answered source y.head p.tx.tx) p.cq) (counters_after y.head.outcome (finds_answered source y.head p.tx.tx) p.counters))) (sym e.1)
       (rw e.0 refl, together_answered p ok source item within begun tx.rooms e.0 item.head _ (size_after item.head.outcome item.bytes (finds_answered source item.head p.tx.tx) p.cq) refl refl refl refl, refl)
+
+  -- a request makes sense, and there is room for what it hands back
+  pub request_awaited : (target : Serving) → IsServing p.rx.begun target → (came : Item) → ended (coming_from p.rx.rx source) source item ≡ RequestCame came → IsSound came.head × (room_for came.head ≤ slice_index target.rooms source)
+  request_awaited target serving came is =
+      let e = ended_request (coming_from p.rx.rx source) source item came is in
+      let request : is_request item.head.kind ≡ true = subst (λ (c : Option Coming). IsFitting c (Some item)) e.0 fitting in
+      let awaited : IsAwaited target source item = subst (λ (o : Option Item). IfSome o (IsAwaited target source)) begun (serving.awaited source) in
+      subst (λ (y : Item). IsSound y.head × (room_for y.head ≤ slice_index target.rooms source)) (sym e.1) (awaited request)
+
+  pub end_request : (came : Item) → ended (coming_from p.rx.rx source) source item ≡ RequestCame came
+      → IsEnd (record (then (booking source (reply_of came.head (perform p.target.regions came.head came.bytes)) p.tx) (written_if None (data_of (outcome_at p.target.regions came.head) source came.head) p.cq) p.counters) { target = served source came p.target })
+  end_request came is =
+      let e = ended_request (coming_from p.rx.rx source) source item came is in
+      subst (λ (y : Item). IsEnd (record (then (booking source (reply_of y.head (perform p.target.regions y.head y.bytes)) p.tx) (written_if None (data_of (outcome_at p.target.regions y.head) source y.head) p.cq) p.counters) { target = served source y p.target })) (sym e.1)
+      (rw e.0 refl, together_requested p ok source item within begun tx.rooms e.0 _ _ (size_written None (data_of (outcome_at p.target.regions item.head) source item.head) p.cq) refl refl refl refl, refl)
 
   -- what the machine says of it
   pub whole_state : (q : Parts) → IfSome (begun_of p.rx source) (λ item. q ≡ tail source item p) → IfSome (begun_of p.rx source) (λ item. state_of q ≡ do_tail (state_of p) source item.head item.bytes)

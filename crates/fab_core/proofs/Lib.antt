@@ -9,3 +9,4 @@ mod Calling
 mod Handed
 mod Sent
 mod Beginning
+mod Serves

@@ -54,7 +54,7 @@ tail_next p source item = by (coming_from p.rx.rx source) refl
     by (Some (Into r place)) e = rw e (booked_next _ source item.head p.tx)
     by (Some Keep) e = rw e (booked_next _ source item.head p.tx)
     by (Some Throw) e = rw e (booked_next _ source item.head p.tx)
-    by (Some Request) e = rw e (λ d x is. is)
+    by (Some Request) e = rw e (joined source _ p.tx.tx)
     by (Some Answer) e = rw e (answered_next source item.head p.tx.tx)
 
 pub posted_next : (p : Parts) (want : Want) (buf : List ℕ) (ctx : ℕ) → StayNext (state_of p) (state_of (posted_by want buf ctx p))

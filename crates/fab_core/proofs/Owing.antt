@@ -1,5 +1,5 @@
 -- The replies that are still to be booked: what each step of the receive half makes of their number.
-use Rattle.std.proofs.Common.{◌≡◌, ◌≢◌, inl, inr, ◌⊎◌, ℕ, ◌+◌, ◌<◌, ◌≤◌, ◌==◌, Bool, true, false, ◌&&◌, cond, List, [], ◌∷◌, ◌++◌, map, length, Option, Some, None, get_or, get_or-set_same, get_or-set_other, refl, sym, ap, ◌∙◌, subst, arith}
+use Rattle.std.proofs.Common.{◌≡◌, ◌≢◌, inl, inr, ◌⊎◌, ℕ, ◌+◌, ◌<◌, ◌≤◌, ◌==◌, Bool, true, false, ◌&&◌, cond, List, [], ◌∷◌, ◌++◌, map, length, Option, Some, None, get_or, get_or-set_same, get_or-set_other, refl, sym, ap, ◌∙◌, subst, arith, ◌||◌}
 use Rattle.std.specs.Prelude.{find, slice_set, IfSome, All, is_some}
 use Rattle.std.specs.Option.{option_map}
 use Rattle.std.proofs.lemmas.Bool.{cases_eq, cases_lt, eq-eqb, ne_eqb}
@@ -20,6 +20,7 @@ use Rattle.fab_model.specs.Matching.{is_message, remove_first, takes}
 use Rattle.fab_model.specs.State.{Receiving, coming_from}
 use Rattle.fab_model.specs.Arrivals.{completed, heading_message, heading_other, keeping, made_whole, newcomer, taker, way_of}
 use Rattle.fab_rx.specs.Arriving.{Arriving, IsArriving, IsPartly, PartlyIn, arriving, bare, begun_of, bytes_come, finishing, given, growing, headed, kept, lengthened, posted_to, posting}
+use Rattle.fab_rma.specs.Serving.{is_request}
 use Rattle.fab_core.specs.Parts.{bit, count_of, due_for, is_due, is_owed, owed}
 use Rattle.fab_core.specs.Doing.{asks}
 
@@ -61,13 +62,32 @@ in_row xs i x is = elim (cases_lt i (length xs)) [ inl within ↦ within | inr p
 
 -- ---- an item arrives
 
-no_reply : (kind : Kind) (head : ItemHead) → is_due (Some (way_of kind)) head ≡ false
-no_reply Msg head = refl
-no_reply TagMsg head = refl
-no_reply WriteReq head = refl
-no_reply ReadReq head = refl
-no_reply AtomicReq head = refl
-no_reply Reply head = refl
+-- of what is no message the reply to a request is due
+way_due : (kind : Kind) (head : ItemHead) → is_message kind ≡ false → is_due (Some (way_of kind)) head ≡ is_request kind
+way_due Msg head other = absurd (cc)
+way_due TagMsg head other = absurd (cc)
+way_due WriteReq head other = refl
+way_due ReadReq head other = refl
+way_due AtomicReq head other = refl
+way_due Reply head other = refl
+
+message_asks : (kind : Kind) (b : Bool) → is_message kind ≡ true → (is_message kind && b || is_request kind) ≡ b
+message_asks Msg true message = refl
+message_asks Msg false message = refl
+message_asks TagMsg true message = refl
+message_asks TagMsg false message = refl
+message_asks WriteReq b message = absurd (cc)
+message_asks ReadReq b message = absurd (cc)
+message_asks AtomicReq b message = absurd (cc)
+message_asks Reply b message = absurd (cc)
+
+other_asks : (kind : Kind) (b : Bool) → is_message kind ≡ false → (is_message kind && b || is_request kind) ≡ is_request kind
+other_asks Msg b other = absurd (cc)
+other_asks TagMsg b other = absurd (cc)
+other_asks WriteReq b other = refl
+other_asks ReadReq b other = refl
+other_asks AtomicReq b other = refl
+other_asks Reply b other = refl
 
 module _ (v : Arriving) (ok : IsArriving v) (source : ℕ) (head : ItemHead) (within : source < length v.begun) (nothing : begun_of v source ≡ None) where
   in_coming : source < length v.rx.coming
@@ -110,7 +130,7 @@ module _ (v : Arriving) (ok : IsArriving v) (source : ℕ) (head : ItemHead) (wi
         let c = count_last (is_owed source) v.rx.unexpected new in
         let e = either_is head.ack in
         let o : bit (is_owed source new) ≡ bit (at_match head.ack) = ap (λ b. bit (b && at_match head.ack)) (eq-eqb source source refl) in
-        let a : bit (asks head) ≡ bit (at_either head.ack) = ap (λ b. bit (b && at_either head.ack)) message in
+        let a : bit (asks head) ≡ bit (at_either head.ack) = ap bit (message_asks head.kind (at_either head.ack) message) in
         omega (arith, c, e, o, a));
     there = λ s other. rw (none, heading_message) (
         let new = newcomer source (get_or v.rx.heads source 0) head in
@@ -122,7 +142,7 @@ module _ (v : Arriving) (ok : IsArriving v) (source : ℕ) (head : ItemHead) (wi
     way = Into r r.used;
     coming = ap (λ (o : Option Receive). slice_set v.rx.coming source (Some (elim o [ None ↦ Keep | Some r ↦ Into r r.used ]))) some;
     here = rw (some, heading_message) (
-        let a : bit (asks head) ≡ bit (at_either head.ack) = ap (λ b. bit (b && at_either head.ack)) message in
+        let a : bit (asks head) ≡ bit (at_either head.ack) = ap bit (message_asks head.kind (at_either head.ack) message) in
         omega (arith, a));
     there = λ s other. rw (some, heading_message) refl;
   }
@@ -133,7 +153,7 @@ module _ (v : Arriving) (ok : IsArriving v) (source : ℕ) (head : ItemHead) (wi
   went false other = record {
     way = way_of head.kind;
     coming = refl;
-    here = (let n = ap bit (no_reply head.kind head) in let a : bit (asks head) ≡ 0 = ap (λ b. bit (b && at_either head.ack)) other in omega (arith, n, a));
+    here = (let n = ap bit (way_due head.kind head other) in let a = ap bit (other_asks head.kind (at_either head.ack) other) in omega (arith, n, a));
     there = λ s not_here. refl;
   }
 

@@ -25,8 +25,9 @@ use Rattle.fab_model.specs.Arrivals.{heading_message, heading_other, keeping, ma
 use Rattle.fab_rx.specs.Arriving.{Arriving, IsArriving, IsPartly, PartlyIn, arriving, bare, begun_of, bytes_come, finishing, growing, headed, kept, lengthened, nothing_arrived, posting, with_receiving}
 use Rattle.fab_tx.specs.Transit.{Transit, answered_by, booking, ended, nothing_accepted, with_room}
 use Rattle.fab_av.specs.Addresses.{Addresses}
+use Rattle.fab_rma.specs.Serving.{is_request}
 use Rattle.fab_core.specs.Parts.{IsFitting, IsTogether, Parts, bit, is_due, is_owed, owed}
-use Rattle.fab_core.specs.Doing.{asks, booked, cq_after, entry_at_end, growing_by, heading, is_request, with_arriving, with_transit, written_if}
+use Rattle.fab_core.specs.Doing.{asks, booked, cq_after, entry_at_end, growing_by, heading, with_arriving, with_transit, written_if}
 use Rattle.fab_core.proofs.Owing.{in_row, owed_besides, owed_given, owed_going, owed_grown, owed_here, owed_joined, owed_there, owed_whole, whole_coming}
 
 -- ---- nothing has happened
@@ -113,7 +114,7 @@ most_booked false source head tx = refl
 
 -- ---- an item arrives
 
-module _ (v : Arriving) (ok : IsArriving v) (source : ℕ) (head : ItemHead) (within : source < length v.begun) (fits : (s : ℕ) → IsFitting (coming_from v.rx s) (begun_of v s)) (carried : is_request head.kind ≡ false) where
+module _ (v : Arriving) (ok : IsArriving v) (source : ℕ) (head : ItemHead) (within : source < length v.begun) (fits : (s : ℕ) → IsFitting (coming_from v.rx s) (begun_of v s)) where
   in_coming : source < length v.rx.coming
   in_coming = omega (arith, within, ok.coming)
 
@@ -125,15 +126,15 @@ module _ (v : Arriving) (ok : IsArriving v) (source : ℕ) (head : ItemHead) (wi
       by : (o : Option Receive) → taker source head v.rx ≡ o → (w : Coming) × ((headed true source head v.rx).coming ≡ slice_set v.rx.coming source (Some w)) × IsFitting (Some w) (Some (bare head))
       by None e = (Keep, ap (λ (o : Option Receive). slice_set v.rx.coming source (Some (elim o [ None ↦ Keep | Some r ↦ Into r r.used ]))) e, message)
       by (Some r) e = (Into r r.used, ap (λ (o : Option Receive). slice_set v.rx.coming source (Some (elim o [ None ↦ Keep | Some r ↦ Into r r.used ]))) e, message)
-  way_by false other = (way_of head.kind, refl, fits_way head.kind refl other carried)
+  way_by false other = (way_of head.kind, refl, fits_way head.kind refl other)
     where
-      fits_way : (kind : Kind) → head.kind ≡ kind → is_message kind ≡ false → is_request kind ≡ false → IsFitting (Some (way_of kind)) (Some (bare head))
-      fits_way Msg e m r = absurd (cc)
-      fits_way TagMsg e m r = absurd (cc)
-      fits_way WriteReq e m r = absurd (cc)
-      fits_way ReadReq e m r = absurd (cc)
-      fits_way AtomicReq e m r = absurd (cc)
-      fits_way Reply e m r = e
+      fits_way : (kind : Kind) → head.kind ≡ kind → is_message kind ≡ false → IsFitting (Some (way_of kind)) (Some (bare head))
+      fits_way Msg e m = absurd (cc)
+      fits_way TagMsg e m = absurd (cc)
+      fits_way WriteReq e m = ap is_request e
+      fits_way ReadReq e m = ap is_request e
+      fits_way AtomicReq e m = ap is_request e
+      fits_way Reply e m = e
 
   way : (w : Coming) × ((headed (is_message head.kind) source head v.rx).coming ≡ slice_set v.rx.coming source (Some w)) × IsFitting (Some w) (Some (bare head))
   way = way_by (is_message head.kind) refl
@@ -190,12 +191,12 @@ module _ (v : Arriving) (source : ℕ) (item : Item) (within : source < length v
 
 -- ---- an item arrives
 
-module _ (p : Parts) (ok : IsTogether p) (rx : IsArriving p.rx) (source : ℕ) (head : ItemHead) (within : source < length p.rx.begun) (nothing : begun_of p.rx source ≡ None) (carried : is_request head.kind ≡ false) where
+module _ (p : Parts) (ok : IsTogether p) (rx : IsArriving p.rx) (source : ℕ) (head : ItemHead) (within : source < length p.rx.begun) (nothing : begun_of p.rx source ≡ None) where
   same_begun : length (arriving source head p.rx).begun ≡ length p.rx.begun
   same_begun = length-set p.rx.begun source (Some (bare head))
 
   pub together_arrived : asks head ≡ false → IsTogether (heading source head p)
-  together_arrived silent = together_with p (heading source head p) ok refl refl refl same_begun ok.earlier (fitting_arrived p.rx rx source head within ok.fitting carried)
+  together_arrived silent = together_with p (heading source head p) ok refl refl refl same_begun ok.earlier (fitting_arrived p.rx rx source head within ok.fitting)
       (λ s. elim (cases_eq s source) [
         | inl here ↦ rw here (let o = owed_here p.rx rx source head within nothing in let b : bit (asks head) ≡ 0 = ap bit silent in let r = ok.rooms source in omega (arith, o, b, r))
         | inr other ↦ (let o = owed_there p.rx rx source head within nothing s other in let r = ok.rooms s in omega (arith, o, r))
@@ -203,7 +204,7 @@ module _ (p : Parts) (ok : IsTogether p) (rx : IsArriving p.rx) (source : ℕ) (
 
   -- and room was made for the reply that it asks for
   pub together_roomed : asks head ≡ true → length p.tx.rooms ≡ length p.tx.tx.sent → IsTogether (with_transit (with_room source p.tx) (heading source head p))
-  together_roomed loud count = together_with p (with_transit (with_room source p.tx) (heading source head p)) ok refl refl refl same_begun ok.earlier (fitting_arrived p.rx rx source head within ok.fitting carried)
+  together_roomed loud count = together_with p (with_transit (with_room source p.tx) (heading source head p)) ok refl refl refl same_begun ok.earlier (fitting_arrived p.rx rx source head within ok.fitting)
       (λ s. elim (cases_eq s source) [
         | inl here ↦ rw (here, get_or-set_same p.tx.rooms source (slice_index p.tx.rooms source + 1) 0 (let l = ok.peers in omega (arith, l, count, within)))
             (let o = owed_here p.rx rx source head within nothing in let b : bit (asks head) ≡ 1 = ap bit loud in let r = ok.rooms source in omega (arith, o, b, r))
@@ -261,6 +262,10 @@ module _ (p : Parts) (ok : IsTogether p) (source : ℕ) (item : Item) (within : 
   pub together_answered : coming_from p.rx.rx source ≡ Some Answer → (reply : ItemHead) (q : Parts) → q.cq.size ≡ p.cq.size → q.av ≡ p.av → q.rx ≡ finishing source p.rx → q.calls ≡ p.calls → q.tx ≡ answered_by source reply p.tx → IsTogether q
   together_answered is reply q size av rx calls tx = together_whole q size av rx calls (ap (λ (v : Transit). length v.tx.sent) tx ∙ sent_answering source reply p.tx.tx)
       (λ s. ap (λ (v : Transit). slice_index v.rooms s) tx ∙ booked_rooms false source reply p.tx s ∙ ap (λ (c : Option Coming). slice_index (slice_set p.tx.rooms source (slice_index p.tx.rooms source - bit (is_due c item.head))) s) (sym is))
+
+  pub together_requested : coming_from p.rx.rx source ≡ Some Request → (reply : Item) (q : Parts) → q.cq.size ≡ p.cq.size → q.av ≡ p.av → q.rx ≡ finishing source p.rx → q.calls ≡ p.calls → q.tx ≡ booking source reply p.tx → IsTogether q
+  together_requested is reply q size av rx calls tx = together_whole q size av rx calls (ap (λ (v : Transit). length v.tx.sent) tx)
+      (λ s. ap (λ (v : Transit). slice_index v.rooms s) tx ∙ ap (λ (c : Option Coming). slice_index (slice_set p.tx.rooms source (slice_index p.tx.rooms source - bit (is_due c item.head))) s) (sym is))
 
   pub book_room : is_due (coming_from p.rx.rx source) item.head ≡ true → (source < length p.tx.tx.sent) × (0 < slice_index p.tx.rooms source)
   book_room due = (omega (arith, within, ok.peers), room_there p.rx source item within begun ok.fitting p.tx.rooms rooms_count ok.rooms due)

@@ -3,6 +3,7 @@
 --     entry_at_end outcome bytes e    the completion of an operation that ended, if one is written
 --     ending_by                       an operation ends, where there is one
 --     received                        a receive completes
+--     requested                       a request is performed
 --     heading, growing_by, tail       an item arrives, more of its bytes come, it is whole
 --     sent                            an item is transmitted
 --     posted_by, left_by              a receive call, a cancel
@@ -31,7 +32,7 @@ use Rattle.fab_base.specs.declared.operations.Receive.{Receive}
 use Rattle.fab_base.specs.declared.operations.Tally.{Tally}
 use Rattle.fab_base.specs.declared.peers.Level.{Level}
 use Rattle.fab_model.specs.Matching.{is_message, takes}
-use Rattle.fab_model.specs.State.{Completions, State, Transmitting, coming_from, counting, in_use, lookup, writing}
+use Rattle.fab_model.specs.State.{Completions, State, Transmitting, coming_from, counting, in_use, lookup, writing, Region}
 use Rattle.fab_model.specs.Complete.{at_delivery, at_either, at_match, error, reply_head}
 use Rattle.fab_model.specs.Receiving.{Posting, cancellable, least_is_wrong, may_receive, source_is_known, without_posted}
 use Rattle.fab_model.specs.Sending.{Order, class_of, ending, first_fault, head_of, is_granted, is_silent, is_too_long, is_well_formed, refusal_of, success_of}
@@ -43,7 +44,10 @@ use Rattle.fab_rx.specs.declared.results.Finished.{Finished}
 use Rattle.fab_rx.specs.declared.results.Finished.TheVariants.{Received, Kept, Thrown, Request as RequestCame, Answer as AnswerCame}
 use Rattle.fab_tx.specs.Transit.{Transit, accepting_by, answered_by, booking, ended, finds_answered, finishing as finishing_sent}
 use Rattle.fab_tx.specs.declared.results.Ended.{Ended}
+use Rattle.fab_model.specs.Target.{perform}
+use Rattle.fab_rma.specs.Serving.{is_request, outcome_at}
 use Rattle.fab_core.specs.Parts.{Parts, state_of}
+use Rattle.fab_core.specs.Requests.{data_of, reply_of, served, writes_data}
 
 -- ---- replies
 
@@ -107,27 +111,18 @@ answer_writes source reply tx = elim (finds_answered source reply tx) [ None ↦
 
 -- ---- what comes in
 
--- the item asks its target for something that no endpoint does yet
-abbrev pub is_request : Kind → Bool
-is_request Msg = false
-is_request TagMsg = false
-is_request WriteReq = true
-is_request ReadReq = true
-is_request AtomicReq = true
-is_request Reply = false
-
--- the message asks for a reply
+-- the item asks for a reply: a request does, and a message may
 abbrev pub asks : ItemHead → Bool
-asks head = is_message head.kind && at_either head.ack
+asks head = is_message head.kind && at_either head.ack || is_request head.kind
 
 -- the item writes a completion when it is whole
-abbrev pub writes_at_tail : Option Coming → ℕ → ItemHead → Transmitting → Bool
-writes_at_tail (Some (Into r place)) source head tx = true
-writes_at_tail (Some Keep) source head tx = false
-writes_at_tail (Some Throw) source head tx = false
-writes_at_tail (Some Request) source head tx = false
-writes_at_tail (Some Answer) source head tx = answer_writes source head tx
-writes_at_tail None source head tx = false
+abbrev pub writes_at_tail : Option Coming → ℕ → ItemHead → Transmitting → List Region → Bool
+writes_at_tail (Some (Into r place)) source head tx regions = true
+writes_at_tail (Some Keep) source head tx regions = false
+writes_at_tail (Some Throw) source head tx regions = false
+writes_at_tail (Some Request) source head tx regions = writes_data (outcome_at regions head) head
+writes_at_tail (Some Answer) source head tx regions = answer_writes source head tx
+writes_at_tail None source head tx regions = false
 
 -- a first frame is the arrival of its item
 abbrev pub arrived : Bool → ℕ → ItemHead → Arriving → Arriving
@@ -148,11 +143,19 @@ fed source f p = growing_by source f.bytes (with_arriving (arrived (f.head.from 
 abbrev pub received : Option ℕ → Bool → Completed → Parts → Parts
 received call due c p = record p { cq = writing call c.entry p.cq; counters = counting Recv c.good p.counters; tx = booked due c.source c.head p.tx }
 
+-- the request is performed, its reply is booked, and a write that tells of itself does so
+abbrev pub requested : ℕ → Item → Parts → Parts
+requested source item p = record p {
+  target = served source item p.target;
+  tx = booking source (reply_of item.head (perform p.target.regions item.head item.bytes)) p.tx;
+  cq = written_if None (data_of (outcome_at p.target.regions item.head) source item.head) p.cq;
+}
+
 abbrev pub whole : Option Coming → ℕ → Item → Parts → Parts
 whole (Some (Into r place)) source item p = received (Some r.call) (at_either item.head.ack) (completed r place source item.head item.bytes) p
 whole (Some Keep) source item p = with_transit (booked (at_delivery item.head.ack) source item.head p.tx) p
 whole (Some Throw) source item p = with_transit (booked (at_either item.head.ack) source item.head p.tx) p
-whole (Some Request) source item p = p
+whole (Some Request) source item p = requested source item p
 whole (Some Answer) source item p = answered source item p
 whole None source item p = with_transit (booked (at_either item.head.ack) source item.head p.tx) p
 
@@ -164,7 +167,7 @@ abbrev pub due_at_end : Finished → Bool
 due_at_end (Received c) = at_either c.head.ack
 due_at_end (Kept head) = at_delivery head.ack
 due_at_end (Thrown head) = at_either head.ack
-due_at_end (RequestCame item) = false
+due_at_end (RequestCame item) = true
 due_at_end (AnswerCame item) = false
 
 -- ---- calls

@@ -19,6 +19,7 @@ use Rattle.fab_model.specs.State.{Completions, State, coming_from, lookup}
 use Rattle.fab_rx.specs.Arriving.{Arriving, begun_of}
 use Rattle.fab_tx.specs.Transit.{Transit}
 use Rattle.fab_face.specs.Held.{Held}
+use Rattle.fab_rma.specs.Serving.{Serving, is_request}
 
 pub record Parts : Type 0 where
   pub caps : Caps
@@ -26,12 +27,14 @@ pub record Parts : Type 0 where
   pub av : Addresses
   pub rx : Arriving
   pub tx : Transit
+  -- the regions, and the rooms for replies to requests
+  pub target : Serving
   pub cq : Completions
   pub counters : List Tally
   -- how many transmit and receive calls were accepted
   pub calls : ℕ
 
--- no region is registered, and no multi-receive is posted
+-- no multi-receive is posted
 abbrev pub state_of : Parts → State
 state_of p = record {
   caps = p.caps;
@@ -39,7 +42,7 @@ state_of p = record {
   most_tx = p.tx.most;
   most_rx = p.rx.most;
   av = p.av.indices;
-  regions = [];
+  regions = p.target.regions;
   rx = p.rx.rx;
   tx = p.tx.tx;
   cq = p.cq;
@@ -61,7 +64,7 @@ abbrev pub is_due : Option Coming → ItemHead → Bool
 is_due (Some (Into r place)) head = at_either head.ack
 is_due (Some Keep) head = at_delivery head.ack
 is_due (Some Throw) head = at_either head.ack
-is_due (Some Request) head = false
+is_due (Some Request) head = true
 is_due (Some Answer) head = false
 is_due None head = false
 
@@ -82,12 +85,12 @@ owed s v = due_for (coming_from v.rx s) (begun_of v s) + count_of (is_owed s) v.
 
 -- ---- what holds between calls
 
--- what is coming is an item of its kind; a request is none that may come
+-- what is coming is an item of its kind
 abbrev pub IsFitting : Option Coming → Option Item → Type 0
 IsFitting (Some (Into r place)) (Some item) = is_message item.head.kind ≡ true
 IsFitting (Some Keep) (Some item) = is_message item.head.kind ≡ true
 IsFitting (Some Throw) (Some item) = is_message item.head.kind ≡ true
-IsFitting (Some Request) (Some item) = ⊥
+IsFitting (Some Request) (Some item) = is_request item.head.kind ≡ true
 IsFitting (Some Answer) (Some item) = item.head.kind ≡ Reply
 IsFitting coming None = Unit {0}
 IsFitting None (Some item) = ⊥
@@ -100,7 +103,7 @@ pub record IsTogether (p : Parts) : Type 0 where
   pub addressed : (i peer : ℕ) → lookup p.av.indices i ≡ Some peer → peer < length p.tx.tx.sent
   -- each receive was posted by an earlier call
   pub earlier : p.rx.next ≤ p.calls
-  -- an answer is coming where a reply is begun, and a message where one is; no request is
+  -- an answer is coming where a reply is begun, a request where one is, and a message where one is
   pub fitting : (s : ℕ) → IsFitting (coming_from p.rx.rx s) (begun_of p.rx s)
   -- for each reply that is to be booked there is room
   pub rooms : (s : ℕ) → owed s p.rx ≤ slice_index p.tx.rooms s

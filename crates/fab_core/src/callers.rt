@@ -1,5 +1,5 @@
 //! To which call a completion belongs: contracts alone know, from the halves as they were.
-ghost use Rattle.std.specs.Prelude.{Some};
+ghost use Rattle.std.specs.Prelude.{None, Some};
 ghost use Rattle.std.specs.Option.{option_map};
 ghost use Rattle.fab_model.specs.State.{coming_from};
 ghost use Rattle.fab_model.specs.Receiving.{cancellable};
@@ -15,6 +15,13 @@ use fab_record::caller::Caller;
 use fab_rx::Inbox;
 use fab_tx::Outbox;
 use std::snapshot::Snapshot;
+
+/// No call: what other peers do to a target.
+pub(crate) struct OfNoCall;
+
+impl Caller<()> for OfNoCall {
+    ghost call = { λ _. None };
+}
 
 /// The call that is being made, after so many.
 pub(crate) struct ThisCall;

@@ -11,6 +11,7 @@
 //! | `receives` | receives are posted and cancelled |
 //! | `taking` | frames come in |
 //! | `ending` | operations end |
+//! | `serving` | requests of other peers are performed |
 //! | `handing` | replies are booked |
 //! | `machine` | all of it as the endpoint's machine |
 #![tactic(auto)]
@@ -22,6 +23,7 @@ mod machine;
 mod parts;
 mod receives;
 mod sending;
+mod serving;
 mod taking;
 
 pub use parts::Core;

@@ -2,6 +2,7 @@
 ghost use Rattle.std.specs.Prelude.{◌≡◌, ℕ, ◌+◌, ◌≤◌, IfOk, replicate, [], None};
 ghost use Rattle.fab_cq.specs.Counts.{no_counts};
 ghost use Rattle.fab_cq.specs.Queues.{nothing_written};
+ghost use Rattle.fab_rma.specs.Serving.{nothing_served};
 ghost use Rattle.fab_rx.specs.Arriving.{nothing_arrived};
 ghost use Rattle.fab_tx.specs.Transit.{nothing_accepted};
 ghost use Rattle.fab_core.specs.Parts.{held_of};
@@ -12,6 +13,7 @@ use fab_base::{Caps, Info, NoMemory};
 use fab_cq::{Counters, Queue};
 use fab_match::Matcher;
 use fab_record::record::{Begins, Change, Record};
+use fab_rma::Target;
 use fab_rx::Inbox;
 use fab_tx::Outbox;
 use std::alloc::Global;
@@ -47,8 +49,8 @@ impl Change<(), CallCount> for OneMore {
 /// The number of calls, which nothing stores.
 pub(crate) type Calls = Record<(), CallCount, NoCall>;
 
-/// The machine of one endpoint (fi_endpoint(3)): what it received and transmits, its completion queue, its
-/// counters and its address vector. Contracts see all that ever came and went out; stored is what is still
+/// The machine of one endpoint (fi_endpoint(3)): what it received and transmits, its regions, its
+/// completion queue, its counters and its address vector. Contracts see all that ever came and went out; stored is what is still
 /// needed, bounded by the sizes, by what is unexpected, and by what waits to go out.
 #[derive(Drop)]
 pub struct Core<M: Matcher> {
@@ -59,6 +61,7 @@ pub struct Core<M: Matcher> {
     pub(crate) av: Av,
     pub(crate) rx: Inbox<M>,
     pub(crate) tx: Outbox,
+    pub(crate) target: Target,
     pub(crate) cq: Queue,
     pub(crate) counters: Counters,
     pub(crate) calls: Calls,
@@ -68,13 +71,15 @@ pub struct Core<M: Matcher> {
 impl<M: Matcher> Model for Core<M> {
     ghost use Rattle.std.specs.Prelude.{◌≡◌};
     ghost use Rattle.fab_core.specs.Parts.{IsTogether, Parts};
+    ghost use Rattle.fab_core.specs.Requests.{IsServing};
 
     ghost Value = { Parts };
 
-    ghost view = { λ c. record { caps = c.caps; selective = c.selective; av = c.av; rx = c.rx; tx = c.tx; cq = c.cq; counters = c.counters; calls = c.calls } };
+    ghost view = { λ c. record { caps = c.caps; selective = c.selective; av = c.av; rx = c.rx; tx = c.tx; target = c.target; cq = c.cq; counters = c.counters; calls = c.calls } };
 
     ghost invariant = { λ c. (c.most_tx ≡ c.tx.most) × (c.most_rx ≡ c.rx.most)
-        × IsTogether (record { caps = c.caps; selective = c.selective; av = c.av; rx = c.rx; tx = c.tx; cq = c.cq; counters = c.counters; calls = c.calls }) };
+        × IsTogether (record { caps = c.caps; selective = c.selective; av = c.av; rx = c.rx; tx = c.tx; target = c.target; cq = c.cq; counters = c.counters; calls = c.calls })
+        × IsServing c.rx.begun c.target };
 }
 
 /// One more call is accepted. It costs nothing that can fail.
@@ -95,6 +100,7 @@ impl<M: Matcher> Core<M> {
           av = av;
           rx = nothing_arrived av.peers info.now.rx;
           tx = nothing_accepted av.peers info.now.tx;
+          target = nothing_served av.peers;
           cq = nothing_written info.now.cq;
           counters = no_counts;
           calls = 0;
@@ -103,6 +109,7 @@ impl<M: Matcher> Core<M> {
         av.known();
         let peers = av.peers();
         let tx = Outbox::new(alloc, peers, info.tx)?;
+        let target = Target::new(alloc, peers)?;
         let cq = Queue::new(alloc, info.cq)?;
         let calls = Record::new(alloc, &())?;
         let rx = Inbox::new(alloc, peers, info.rx)?;
@@ -114,6 +121,7 @@ impl<M: Matcher> Core<M> {
             av,
             rx,
             tx,
+            target,
             cq,
             counters: Counters::new(),
             calls,

@@ -2,21 +2,23 @@
 ghost use Rattle.std.specs.Prelude.{◌≡◌, ◌≢◌, ◌==◌, ◌<◌, ◌+◌, ◌≤◌, None, length, IfSome, IsSomeAnd, IsTrue, IfOk, OnOk, OnErr, Ok, true, false, not, ◌&&◌, ◌^◌, slice_set};
 ghost use Rattle.fab_model.specs.State.{coming_from, fits};
 ghost use Rattle.fab_model.specs.Arrivals.{do_tail};
-ghost use Rattle.fab_wire.specs.Frames.{frame};
+ghost use Rattle.fab_wire.specs.Frames.{IsSound, frame};
 ghost use Rattle.fab_wire.specs.Joined.{is_last};
 ghost use Rattle.fab_face.specs.Acts.{Goes, Took};
 ghost use Rattle.fab_face.specs.Answers.{FrameLacks};
 ghost use Rattle.fab_face.specs.Machine.{IsNext, StayNext};
 ghost use Rattle.fab_cq.specs.Queues.{has_room};
-ghost use Rattle.fab_rx.specs.Arriving.{arriving, begun_of};
+ghost use Rattle.fab_rx.specs.Arriving.{arriving, bare, begun_of};
 ghost use Rattle.fab_tx.specs.Transit.{answered_by, finds_answered, is_reply};
 ghost use Rattle.fab_core.specs.Parts.{held_of, state_of};
-ghost use Rattle.fab_core.specs.Doing.{answer_writes, arrived, asks, counters_after, cq_after, fed, heading, is_request, tail, writes_at_tail};
+ghost use Rattle.fab_core.specs.Doing.{answer_writes, arrived, asks, counters_after, cq_after, fed, heading, tail, writes_at_tail};
+ghost use Rattle.fab_core.specs.Requests.{IsAwaited};
 
 use crate::callers::{EndsWhenAnswered, IntoReceive};
 use crate::ending::{end, writes_at_end};
 use crate::handing::{at_delivery, at_either, book, hand_over};
 use crate::parts::Core;
+use crate::serving::{is_request, serve, writes_data};
 use fab_base::{FrameHead, Item, ItemHead, Kind, NoMemory};
 use fab_cq::{Counters, Queue};
 use fab_match::Matcher;
@@ -24,16 +26,6 @@ use fab_rx::{Finished, Inbox};
 use fab_tx::Outbox;
 use std::alloc::Global;
 use std::snapshot::Snapshot;
-
-/// Whether the item asks its target for something that no endpoint does yet.
-fn is_request(kind: Kind) -> bool
-    ensures { result ≡ is_request kind }
-{
-    match kind {
-        Kind::WriteReq | Kind::ReadReq | Kind::AtomicReq => true,
-        Kind::Msg | Kind::TagMsg | Kind::Reply => false,
-    }
-}
 
 fn is_reply(kind: Kind) -> bool
     ensures { result ≡ is_reply kind }
@@ -52,13 +44,14 @@ pub(crate) fn is_last(head: &FrameHead) -> bool
     head.from + head.len == head.item.total
 }
 
-/// Whether the message asks for a reply.
+/// Whether the item asks for a reply: a request does, and a message may.
 fn asks(head: &ItemHead) -> bool
     ensures { result ≡ asks head.now }
 {
     match head.kind {
         Kind::Msg | Kind::TagMsg => at_either(head.ack),
-        _ => false,
+        Kind::WriteReq | Kind::ReadReq | Kind::AtomicReq => true,
+        Kind::Reply => false,
     }
 }
 
@@ -107,11 +100,11 @@ impl<M: Matcher> Core<M> {
     pub(crate) fn writes_when_whole(&self, source: u32, head: &FrameHead) -> bool
         requires source { source < length self.now.rx.begun }
         requires next { head.now.from ≢ 0 → IsSomeAnd (begun_of self.now.rx source) (λ item. item.head ≡ head.now.item) }
-        ensures { result ≡ writes_at_tail (coming_from (arrived (head.now.from == 0) source head.now.item self.now.rx).rx source) source head.now.item self.now.tx.tx }
+        ensures { result ≡ writes_at_tail (coming_from (arrived (head.now.from == 0) source head.now.item self.now.rx).rx source) source head.now.item self.now.tx.tx self.now.target.regions }
     {
         self.rx.known();
         if is_request(head.item.kind) {
-            return false;
+            return writes_data(self.target.outcome(&head.item), &head.item);
         }
         if is_reply(head.item.kind) {
             return answer_writes(&self.tx, source, &head.item);
@@ -123,23 +116,38 @@ impl<M: Matcher> Core<M> {
         }
     }
 
-    /// An item arrives. Room is made for the reply that it asks for. Requests are turned away as if there
-    /// were no memory.
+    /// An item arrives. Room is made for the reply that it asks for.
     pub(crate) fn begin(&mut self, source: u32, head: &ItemHead) -> Result<(), NoMemory>
         requires source { source < length self.old.rx.begun }
         requires nothing { begun_of self.old.rx source ≡ None }
+        requires sound { IsSound head.now }
+        ensures ok { OnOk result (held_of self.new ≡ held_of (heading source head.now self.old)) }
+        ensures rx { OnOk result (self.new.rx ≡ arriving source head.now self.old.rx) }
+        ensures err { OnErr result (held_of self.new ≡ held_of self.old) }
+    {
+        self.rx.known();
+        if is_request(head.kind) {
+            self.target.make_room(source, head)?;
+            return self.begin_owing(source, head);
+        }
+        if !asks(head) {
+            return self.rx.arrive(source, head);
+        }
+        self.begin_owing(source, head)
+    }
+
+    /// An item arrives that asks for a reply. For the bytes of one to a request room is made already.
+    fn begin_owing(&mut self, source: u32, head: &ItemHead) -> Result<(), NoMemory>
+        requires source { source < length self.old.rx.begun }
+        requires nothing { begun_of self.old.rx source ≡ None }
+        requires asks { asks head.now ≡ true }
+        requires awaited { IsAwaited self.old.target source (bare head.now) }
         ensures ok { OnOk result (held_of self.new ≡ held_of (heading source head.now self.old)) }
         ensures rx { OnOk result (self.new.rx ≡ arriving source head.now self.old.rx) }
         ensures err { OnErr result (held_of self.new ≡ held_of self.old) }
     {
         self.rx.known();
         self.tx.known();
-        if is_request(head.kind) {
-            return Err(NoMemory);
-        }
-        if !asks(head) {
-            return self.rx.arrive(source, head);
-        }
         self.tx.make_room(source)?;
         let arrived = self.rx.arrive(source, head);
         if arrived.is_err() {
@@ -157,6 +165,7 @@ impl<M: Matcher> Core<M> {
     ) -> Result<(), NoMemory>
         requires source { source < length self.old.rx.begun }
         requires next { IsNext (begun_of self.old.rx source) (frame head.now bytes.now) }
+        requires sound { IsSound head.now.item }
         requires filled { length bytes.now ≡ head.now.len }
         requires within { head.now.from + head.now.len ≤ head.now.item.total }
         ensures ok { OnOk result (held_of self.new ≡ held_of (fed source (frame head.now bytes.now) self.old)) }
@@ -174,7 +183,7 @@ impl<M: Matcher> Core<M> {
     pub(crate) fn lacks(&self, source: u32, head: &FrameHead) -> bool
         requires source { source < length self.now.rx.begun }
         requires next { head.now.from ≢ 0 → IsSomeAnd (begun_of self.now.rx source) (λ item. item.head ≡ head.now.item) }
-        ensures { result ≡ (writes_at_tail (coming_from (arrived (head.now.from == 0) source head.now.item self.now.rx).rx source) source head.now.item self.now.tx.tx && not (has_room 1 self.now.cq)) }
+        ensures { result ≡ (writes_at_tail (coming_from (arrived (head.now.from == 0) source head.now.item self.now.rx).rx source) source head.now.item self.now.tx.tx self.now.target.regions && not (has_room 1 self.now.cq)) }
     {
         self.writes_when_whole(source, head) && !self.cq.has_room(1)
     }
@@ -188,6 +197,7 @@ impl<M: Matcher> Core<M> {
     ) -> Result<bool, NoMemory>
         requires source { source < length self.old.rx.begun }
         requires next { IsNext (begun_of self.old.rx source) (frame head.now bytes.now) }
+        requires sound { IsSound head.now.item }
         requires filled { length bytes.now ≡ head.now.len }
         requires within { head.now.from + head.now.len ≤ head.now.item.total }
         requires more { is_last head.now ≡ false }
@@ -211,6 +221,7 @@ impl<M: Matcher> Core<M> {
     ) -> Result<bool, NoMemory>
         requires source { source < length self.old.rx.begun }
         requires next { IsNext (begun_of self.old.rx source) (frame head.now bytes.now) }
+        requires sound { IsSound head.now.item }
         requires filled { length bytes.now ≡ head.now.len }
         requires last { is_last head.now ≡ true }
         ensures yes { result ≡ Ok true → Goes None (held_of self.old) (Took source (frame head.now bytes.now)) (held_of self.new) }
@@ -234,7 +245,7 @@ impl<M: Matcher> Core<M> {
     pub(crate) fn take_whole(&mut self, source: u32)
         requires source { source < length self.old.rx.begun }
         requires whole { IsSomeAnd (begun_of self.old.rx source) (λ item. length item.bytes ≡ item.head.total) }
-        requires room { IfSome (begun_of self.old.rx source) (λ item. writes_at_tail (coming_from self.old.rx.rx source) source item.head self.old.tx.tx ≡ true → IsTrue (has_room 1 self.old.cq)) }
+        requires room { IfSome (begun_of self.old.rx source) (λ item. writes_at_tail (coming_from self.old.rx.rx source) source item.head self.old.tx.tx self.old.target.regions ≡ true → IsTrue (has_room 1 self.old.cq)) }
         ensures state { IfSome (begun_of self.old.rx source) (λ item. state_of self.new ≡ do_tail (state_of self.old) source item.head item.bytes) }
         ensures next { StayNext (state_of self.old) (state_of self.new) }
         ensures begun { self.new.rx.begun ≡ slice_set self.old.rx.begun source None }
@@ -251,7 +262,7 @@ impl<M: Matcher> Core<M> {
     fn end_item(&mut self, source: u32)
         requires source { source < length self.old.rx.begun }
         requires whole { IsSomeAnd (begun_of self.old.rx source) (λ item. length item.bytes ≡ item.head.total) }
-        requires room { IfSome (begun_of self.old.rx source) (λ item. writes_at_tail (coming_from self.old.rx.rx source) source item.head self.old.tx.tx ≡ true → IsTrue (has_room 1 self.old.cq)) }
+        requires room { IfSome (begun_of self.old.rx source) (λ item. writes_at_tail (coming_from self.old.rx.rx source) source item.head self.old.tx.tx self.old.target.regions ≡ true → IsTrue (has_room 1 self.old.cq)) }
         ensures { IfSome (begun_of self.old.rx source) (λ item. self.new ≡ tail source item self.old) }
     {
         self.rx.known();
@@ -260,6 +271,7 @@ impl<M: Matcher> Core<M> {
         let finished = self.rx.finish(source);
         let Core {
             tx,
+            target,
             cq,
             counters,
             alloc,
@@ -274,7 +286,7 @@ impl<M: Matcher> Core<M> {
             }
             Finished::Kept(head) => book(*alloc, tx, at_delivery(head.ack), source, &head),
             Finished::Thrown(head) => book(*alloc, tx, at_either(head.ack), source, &head),
-            Finished::Request(_) => unreachable!(),
+            Finished::Request(item) => serve(tx, cq, target, source, item),
             Finished::Answer(item) => answer(*alloc, tx, cq, counters, source, item),
         }
     }

@@ -116,6 +116,17 @@ impl Regions {
         }
     }
 
+    /// The rights that the region gives to other peers, and its bytes, lent.
+    pub fn find(&self, key: u64) -> Option<(Access, &[u8])>
+        ensures access { option_map (λ x. x.0) result ≡ option_map (λ r. r.access) (region_at self.now key) }
+        ensures bytes { option_map (λ x. x.1.now) result ≡ option_map (λ r. r.bytes) (region_at self.now key) }
+    {
+        match self.held.get(&key) {
+            Some(held) => Some((held.access, held.buf.as_slice())),
+            None => None,
+        }
+    }
+
     /// The bytes of the region, lent.
     pub fn bytes(&self, key: u64) -> Option<&[u8]>
         ensures { option_map (λ b. b.now) result ≡ option_map (λ r. r.bytes) (region_at self.now key) }

@@ -1,4 +1,4 @@
-//! Tests of the parts that know one subject each: atomics, the completion queue and the counters, negotiation, regions.
+//! Tests of the parts that know one subject each: atomics, the completion queue and the counters, negotiation, regions, and a target with its requests.
 //!
 //! They stand in a crate of their own, so that none of the parts is proved twice.
 #![tactic(auto)]
@@ -11,3 +11,5 @@ mod completions;
 mod negotiation;
 #[cfg(test)]
 mod regions;
+#[cfg(test)]
+mod requests;
