@@ -1,8 +1,8 @@
 -- Where the peers of a settled script rest, results, next lines and entries left over are the answer's.
-use Rattle.std.proofs.Common.{◌≡◌, ◌≤◌, ◌<◌, ◌+◌, ℕ, zero, suc, Bool, true, false, ◌&&◌, List, [], ◌∷◌, ◌++◌, length, take, drop, map, slice_get, Option, Some, None, option_map, ◌⊎◌, inl, inr, refl, sym, ◌∙◌, ap, ap₂, subst, arith, append-nil}
+use Rattle.std.proofs.Common.{◌≡◌, ◌≤◌, ◌<◌, ℕ, zero, suc, Bool, true, false, ◌&&◌, List, [], ◌∷◌, ◌++◌, length, take, drop, map, slice_get, Option, Some, None, option_map, inl, inr, refl, sym, ◌∙◌, ap, ap₂, subst, arith, append-nil}
 use Rattle.std.specs.Prelude.{find, is_none}
 use Rattle.std.specs.List.{list_all}
-use Rattle.std.specs.Option.{option_and_then, option_or}
+use Rattle.std.specs.Option.{option_or}
 use Rattle.std.proofs.lemmas.Bool.{and_from, and_parts}
 use Rattle.std.proofs.lemmas.List.Folds.{list_all-map}
 use Rattle.std.proofs.lemmas.Option.{slice_get_within, slice_get_past, slice_get-map}
@@ -26,16 +26,16 @@ use Rattle.fab_answer.specs.Answer.{answer, answered, answering, cancels, comes,
 use Rattle.fab_answer.specs.Laws.{DoneAtRest, EntriesAtRest, HasSizes, ResultsAtRest, last_states, next_of, nothing_posted, results_of}
 use Rattle.fab_answer.proofs.Begins.{Reaches, reached}
 use Rattle.fab_answer.proofs.Clearing.{Debts, cleared}
-use Rattle.fab_answer.proofs.Doing.{each_front, each_unmapped}
+use Rattle.fab_answer.proofs.Doing.{each_unmapped}
 use Rattle.fab_answer.proofs.Ending.{ends_in_answer, finished_ends, sizes_last}
 use Rattle.fab_answer.proofs.Ends.{and_then_is, ends}
 use Rattle.fab_answer.proofs.Entries.{Plain}
 use Rattle.fab_answer.proofs.Finals.{Ended, EndedEntry, Ends, calm_finished}
 use Rattle.fab_answer.proofs.Good.{Good, RightEntry, entry_is, op_is, pending_of, receive_is}
 use Rattle.fab_answer.proofs.Left.{Leaves, RightKept, comes_ended, ended, left_are}
-use Rattle.fab_answer.proofs.Lists.{Each, In, always, each_so, found_in, in_many, many, many_map}
+use Rattle.fab_answer.proofs.Lists.{Each, always, each_so, found_in, in_many, many, many_map}
 use Rattle.fab_answer.proofs.Refusing.{length-upto, upto_at}
-use Rattle.fab_answer.proofs.Rests.{AllWhole, NothingLive, Rest, drop_all, nothing_comes, posted_waits, rest_at, rest_ends, rest_whole}
+use Rattle.fab_answer.proofs.Rests.{NothingLive, drop_all, nothing_comes, posted_waits, rest_at, rest_ends, rest_whole}
 use Rattle.fab_answer.proofs.Rooms.{room_to_post}
 use Rattle.fab_answer.proofs.Worlds.{World, done_at, settled_plain, told}
 

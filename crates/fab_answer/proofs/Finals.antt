@@ -1,7 +1,7 @@
 -- The final cancels: once all is calm, a peer reads its entries, and cancels the receives that are still posted.
 --     Ended      what holds of a peer from then on
 --     Ends       and of all peers
-use Rattle.std.proofs.Common.{◌≡◌, ◌≤◌, ◌<◌, ◌+◌, ℕ, zero, suc, Bool, true, false, not, ◌&&◌, List, [], ◌∷◌, ◌++◌, length, take, map, set, slice_get, Option, Some, None, option_map, ◌⊎◌, inl, inr, refl, sym, ◌∙◌, ap, ap₂, subst, arith, length-append, length-set}
+use Rattle.std.proofs.Common.{◌≡◌, ◌≤◌, ◌<◌, ◌+◌, ℕ, zero, suc, Bool, true, false, not, ◌&&◌, List, [], ◌∷◌, ◌++◌, length, take, map, set, slice_get, Option, Some, None, option_map, inl, inr, refl, sym, ◌∙◌, ap, subst, arith, length-append}
 use Rattle.std.specs.Prelude.{find, ◌==◌, slice_index}
 use Rattle.std.specs.List.{list_all}
 use Rattle.std.specs.Option.{option_and_then, option_or, option_map_or}
@@ -26,22 +26,20 @@ use Rattle.fab_model.specs.State.{State, accepted_for, with_tx}
 use Rattle.fab_model.specs.Complete.{error}
 use Rattle.fab_model.specs.Sending.{do_sent, end_with, is_of_item, transmitting}
 use Rattle.fab_model.specs.Receiving.{cancel, cancel_fault, cancellable, draw_due, may_leave}
-use Rattle.fab_model.specs.Calls.{CancelFirst, answer, do_call}
-use Rattle.fab_model.specs.Peers.{Actor, Facts, all_below, bytes_kept, ctx_of, facts, fabric, final_step, has_all, is_calm, is_finished, next_line, part_of, read_next, reading, sent_step, step, unread, with_state}
+use Rattle.fab_model.specs.Calls.{answer, do_call}
+use Rattle.fab_model.specs.Peers.{Actor, all_below, bytes_kept, ctx_of, facts, fabric, final_step, has_all, is_calm, is_finished, next_line, part_of, read_next, reading, sent_step, step, unread, with_state}
 use Rattle.fab_model.specs.Replay.{lines_of}
-use Rattle.fab_model.specs.Views.{View, More, seen}
+use Rattle.fab_model.specs.Views.{View, seen}
 use Rattle.fab_model.proofs.Grows.{StepIs, step_is}
 use Rattle.fab_model.proofs.Parts.{if_is, map-set_same, some_is, some_same}
 use Rattle.fab_model.proofs.Patient.{Own, fabric_patient, sender_is}
-use Rattle.fab_model.proofs.Turns.{slice_get-set, slice_get-set_other}
+use Rattle.fab_model.proofs.Turns.{slice_get-set}
 use Rattle.fab_model.proofs.Views as views
-use Rattle.fab_answer.specs.Answer.{canceled_entry, cancels, comes, done_lines, makes, receive_at, waits_for}
+use Rattle.fab_answer.specs.Answer.{canceled_entry, cancels, comes, done_lines, makes, waits_for}
 use Rattle.fab_answer.specs.Laws.{results_of}
 use Rattle.fab_answer.proofs.Entries.{Plain}
-use Rattle.fab_answer.proofs.Good.{Good, RightEntry, entry_is, into_is, op_is, pending_of, pending_written, receive_is}
-use Rattle.fab_answer.proofs.Lanes.{uncalled}
+use Rattle.fab_answer.proofs.Good.{Good, RightEntry, entry_is, op_is, pending_of, pending_written, receive_is}
 use Rattle.fab_answer.proofs.Left.{comes_ended, ended, find_whole}
-use Rattle.fab_answer.proofs.Lines.{has_ctx}
 use Rattle.fab_answer.proofs.Lists.{Each, In, always, each_append, each_in, each_removed, each_so, found_in, in_back, in_many, many, many_append, many_removed, one}
 use Rattle.fab_answer.proofs.Rests.{AllWhole, NothingLive, PostedBy, nothing_comes, posted_line, posted_waits}
 use Rattle.fab_answer.proofs.Stepping.{no_bytes, pending_read, unread_is}

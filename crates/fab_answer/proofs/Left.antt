@@ -2,8 +2,8 @@
 --     ended bound all finished p c      the entry of this context, where it comes or is the cancel's
 --     stays bound all finished p c      the same, where it was not waited for
 --     Leaves      what is asked of a peer at rest
-use Rattle.std.proofs.Common.{◌≡◌, ◌≤◌, ◌+◌, ℕ, zero, suc, Bool, true, false, ◌&&◌, List, [], ◌∷◌, take, Option, Some, None, option_map, ◌⊎◌, inl, inr, refl, sym, ◌∙◌, ap, subst, arith}
-use Rattle.std.specs.Prelude.{find, ◌==◌, is_some, filter_map, nat_lt}
+use Rattle.std.proofs.Common.{◌≡◌, ◌≤◌, ◌+◌, ℕ, zero, suc, Bool, true, false, List, [], ◌∷◌, take, Option, Some, None, option_map, inl, inr, refl, sym, ◌∙◌, ap, subst, arith}
+use Rattle.std.specs.Prelude.{find, ◌==◌, is_some, filter_map}
 use Rattle.std.specs.List.{cons_option}
 use Rattle.std.specs.Option.{option_and_then, option_or}
 use Rattle.std.proofs.lemmas.Bool.{and_parts, and_from, eqb-true}
@@ -13,15 +13,12 @@ use Rattle.fab_base.specs.declared.entries.Taken.{Taken}
 use Rattle.fab_base.specs.declared.operations.Receive.{Receive}
 use Rattle.fab_base.specs.declared.peers.LineResult.{LineResult}
 use Rattle.fab_base.specs.declared.script.Bound.{Bound}
-use Rattle.fab_base.specs.declared.script.Conf.{Conf}
 use Rattle.fab_base.specs.declared.script.Line.{Line}
 use Rattle.fab_base.specs.declared.script.LineOp.{LineOp}
-use Rattle.fab_base.specs.declared.script.LineOp.TheVariants.{Wait}
 use Rattle.fab_model.specs.Peers.{ctx_of}
 use Rattle.fab_model.specs.Replay.{fresh, lines_of}
-use Rattle.fab_model.specs.Sending.{Order}
 use Rattle.fab_answer.specs.Settled.{is_accepted, own_ctx}
-use Rattle.fab_answer.specs.Answer.{Message, cancels, canceled_entry, comes, ctx_number, done_lines, entry_after, if_accepted, in_order, is_waited, left_entries, left_entry, makes, order_of, partner, receive_at, received_after, received_entry, sent_entry, waits_for}
+use Rattle.fab_answer.specs.Answer.{Message, cancels, canceled_entry, comes, ctx_number, done_lines, entry_after, in_order, is_waited, left_entries, left_entry, makes, order_of, partner, receive_at, received_after, sent_entry, waits_for}
 use Rattle.fab_answer.proofs.Doing.{success_told}
 use Rattle.fab_answer.proofs.Ends.{and_then_is, lt_is, map_is}
 use Rattle.fab_answer.proofs.Arriving.{entry_told}
