@@ -18,7 +18,8 @@ use Rattle.fab_base.specs.declared.script.LineOp.{LineOp}
 use Rattle.fab_model.specs.Peers.{ctx_of}
 use Rattle.fab_model.specs.Replay.{fresh, lines_of}
 use Rattle.fab_answer.specs.Settled.{is_accepted, own_ctx}
-use Rattle.fab_answer.specs.Answer.{Message, cancels, canceled_entry, comes, ctx_number, done_lines, entry_after, in_order, is_waited, left_entries, left_entry, makes, order_of, partner, receive_at, received_after, sent_entry, waits_for}
+use Rattle.fab_answer.specs.Partners.{Message, order_of, partner, receive_at}
+use Rattle.fab_answer.specs.Answer.{cancels, canceled_entry, comes, ctx_number, done_lines, entry_after, in_order, is_waited, left_entries, left_entry, makes, received_after, sent_entry, waits_for}
 use Rattle.fab_answer.proofs.Doing.{success_told}
 use Rattle.fab_answer.proofs.Ends.{and_then_is, lt_is, map_is}
 use Rattle.fab_answer.proofs.Arriving.{entry_told}
