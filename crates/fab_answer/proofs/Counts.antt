@@ -20,12 +20,14 @@ many_append test [] ys = omega arith
 many_append test (x ∷ xs) ys = omega (arith, many_append test xs ys)
 
 -- what is removed counts no more
-many_step : {X : Type 0} (test leaves : X → Bool) (x y : X) (xs : List X) (b : Bool) → leaves x ≡ b → find leaves (x ∷ xs) ≡ Some y → (find leaves xs ≡ Some y → many test xs ≡ one (test y) + many test (remove_first leaves xs))
+many_step : {X : Type 0} (test leaves : X → Bool) (x y : X) (xs : List X) (b : Bool) → leaves x ≡ b → find leaves (x ∷ xs) ≡ Some y
+    → (find leaves xs ≡ Some y → many test xs ≡ one (test y) + many test (remove_first leaves xs))
     → many test (x ∷ xs) ≡ one (test y) + many test (remove_first leaves (x ∷ xs))
 many_step test leaves x y xs true t f ih = let same : x ≡ y = (let e : Some x ≡ Some y = rw (t, find) at f in cc) in rw (t, remove_first) (ap (λ z. one (test z) + many test xs) same)
 many_step test leaves x y xs false t f ih = let more = ih (rw (t, find) at f) in rw (t, remove_first) (omega (arith, more))
 
-pub many_removed : {X : Type 0} (test leaves : X → Bool) (xs : List X) (y : X) → find leaves xs ≡ Some y → many test xs ≡ one (test y) + many test (remove_first leaves xs)
+pub many_removed : {X : Type 0} (test leaves : X → Bool) (xs : List X) (y : X) → find leaves xs ≡ Some y
+    → many test xs ≡ one (test y) + many test (remove_first leaves xs)
 many_removed test leaves [] y f = absurd (cc)
 many_removed test leaves (x ∷ xs) y f = many_step test leaves x y xs (leaves x) refl f (many_removed test leaves xs y)
 
@@ -47,7 +49,8 @@ in_many test (y ∷ xs) x (inl e) t = let u : test y ≡ true = ap test (sym e) 
 in_many test (y ∷ xs) x (inr i) t = omega (arith, in_many test xs x i t)
 
 -- the only one that passes is found
-only_step : {X : Type 0} (test : X → Bool) (x y : X) (xs : List X) (b : Bool) → test y ≡ b → In x (y ∷ xs) → test x ≡ true → one (test y) + many test xs ≤ 1 → (In x xs → many test xs ≤ 1 → find test xs ≡ Some x) → find test (y ∷ xs) ≡ Some x
+only_step : {X : Type 0} (test : X → Bool) (x y : X) (xs : List X) (b : Bool) → test y ≡ b → In x (y ∷ xs) → test x ≡ true → one (test y) + many test xs ≤ 1
+    → (In x xs → many test xs ≤ 1 → find test xs ≡ Some x) → find test (y ∷ xs) ≡ Some x
 only_step test x y xs true u (inl e) t le ih = rw (u, find) (ap Some (sym e))
 only_step test x y xs true u (inr i) t le ih = let two : 1 + many test xs ≤ 1 = rw u at le in absurd (omega (arith, in_many test xs x i t, two))
 only_step test x y xs false u (inl e) t le ih = absurd (cc (u, t, e))
@@ -57,7 +60,8 @@ pub only_found : {X : Type 0} (test : X → Bool) (xs : List X) (x : X) → In x
 only_found test [] x i t le = never i
 only_found test (y ∷ xs) x i t le = only_step test x y xs (test y) refl i t le (λ i le. only_found test xs x i t le)
 
-pub many_set : {X : Type 0} (test : X → Bool) (xs : List X) (i : ℕ) (y d : X) → i < length xs → many test (set xs i y) + one (test (get_or xs i d)) ≡ many test xs + one (test y)
+pub many_set : {X : Type 0} (test : X → Bool) (xs : List X) (i : ℕ) (y d : X) → i < length xs
+    → many test (set xs i y) + one (test (get_or xs i d)) ≡ many test xs + one (test y)
 many_set test [] i y d lt = absurd (omega arith)
 many_set test (x ∷ xs) zero y d lt = omega arith
 many_set test (x ∷ xs) (suc i) y d lt = omega (arith, many_set test xs i y d (omega arith))
@@ -117,7 +121,8 @@ pub many_none : {X : Type 0} (test : X → Bool) (n : ℕ) (x : X) → test x �
 many_none test zero x e = refl
 many_none test (suc n) x e = rw e (omega (arith, many_none test n x e))
 
-pub many_filter_map : {X Y : Type 0} (f : X → Option Y) (test : Y → Bool) (wide : X → Bool) (xs : List X) → ((x : X) (y : Y) → In x xs → f x ≡ Some y → test y ≡ true → wide x ≡ true) → many test (filter_map f xs) ≤ many wide xs
+pub many_filter_map : {X Y : Type 0} (f : X → Option Y) (test : Y → Bool) (wide : X → Bool) (xs : List X)
+    → ((x : X) (y : Y) → In x xs → f x ≡ Some y → test y ≡ true → wide x ≡ true) → many test (filter_map f xs) ≤ many wide xs
 many_filter_map f test wide [] so = omega arith
 many_filter_map f test wide (x ∷ xs) so = go (f x) refl (many_filter_map f test wide xs (λ z y i. so z y (inr i)))
   where

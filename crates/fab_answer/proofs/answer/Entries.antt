@@ -43,7 +43,8 @@ module _ {R M : Type 0} (fits : R → M → Bool) where
   paired_message (x ∷ rs) ms r m (inl e) = (found_in (fits x) ms m (sym (ap (λ (q : R × Option M). q.1) e))).0
   paired_message (x ∷ rs) ms r m (inr i) = in_removed (fits x) m ms (paired_message rs (remove_first (fits x) ms) r m i)
 
-  still_seated : (x r : R) (o : Option M) (m n : M) (ps : List (R × Option M)) (b : Bool) → (is_none o && fits x n) ≡ b → In (r, Some m) ((x, o) ∷ ps) → (In (r, Some m) ps → In (r, Some m) (seat fits n ps)) → In (r, Some m) (seat fits n ((x, o) ∷ ps))
+  still_seated : (x r : R) (o : Option M) (m n : M) (ps : List (R × Option M)) (b : Bool) → (is_none o && fits x n) ≡ b → In (r, Some m) ((x, o) ∷ ps)
+      → (In (r, Some m) ps → In (r, Some m) (seat fits n ps)) → In (r, Some m) (seat fits n ((x, o) ∷ ps))
   still_seated x r None m n ps true t (inl e) ih = absurd (let f : Some m ≡ None = ap (λ (q : R × Option M). q.1) e in cc)
   still_seated x r (Some y) m n ps true t i ih = absurd (cc)
   still_seated x r None m n ps true t (inr i) ih = rw (t, seat) (inr i)
@@ -54,7 +55,8 @@ module _ {R M : Type 0} (fits : R → M → Bool) where
   in_seat n [] r m i = i
   in_seat n ((x, o) ∷ ps) r m i = still_seated x r o m n ps (is_none o && fits x n) refl i (in_seat n ps r m)
 
-  newly_step : (x r : R) (m : M) (ps : List (R × Option M)) (b : Bool) → fits x m ≡ b → find (λ z. fits z m) (x ∷ waiting fits ps) ≡ Some r → (find (λ z. fits z m) (waiting fits ps) ≡ Some r → In (r, Some m) (seat fits m ps)) → In (r, Some m) (seat fits m ((x, None) ∷ ps))
+  newly_step : (x r : R) (m : M) (ps : List (R × Option M)) (b : Bool) → fits x m ≡ b → find (λ z. fits z m) (x ∷ waiting fits ps) ≡ Some r
+      → (find (λ z. fits z m) (waiting fits ps) ≡ Some r → In (r, Some m) (seat fits m ps)) → In (r, Some m) (seat fits m ((x, None) ∷ ps))
   newly_step x r m ps true t f ih = let same : x ≡ r = (let e : Some x ≡ Some r = rw (t, find) at f in cc) in rw (t, seat) (inl (ap (λ (z : R). (z, Some m)) (sym same)))
   newly_step x r m ps false t f ih = rw (t, seat) (inr (ih (rw (t, find) at f)))
 
@@ -82,11 +84,13 @@ module _ {R M : Type 0} (fits : R → M → Bool) where
 
 -- ---- contexts of receives
 
-receives_once_step : (conf : Conf) (source ctx : ℕ) (line : Line) (lines : List Line) → ((r : Receive) → receive_at conf line.op ≡ Some r → own_ctx line.op ≡ Some r.ctx) → many (λ (r : Receive). r.ctx == ctx) (receives conf source lines) ≤ many (is_of ctx) lines
+receives_once_step : (conf : Conf) (source ctx : ℕ) (line : Line) (lines : List Line) → ((r : Receive) → receive_at conf line.op ≡ Some r → own_ctx line.op ≡ Some r.ctx)
+    → many (λ (r : Receive). r.ctx == ctx) (receives conf source lines) ≤ many (is_of ctx) lines
     → many (λ (r : Receive). r.ctx == ctx) (receives conf source (line ∷ lines)) ≤ many (is_of ctx) (line ∷ lines)
 receives_once_step conf source ctx line lines own ih = go (receive_from conf source line) refl
   where
-    go : (o : Option Receive) → receive_from conf source line ≡ o → many (λ (r : Receive). r.ctx == ctx) (cons_option o (receives conf source lines)) ≤ one (has_ctx ctx (own_ctx line.op)) + many (is_of ctx) lines
+    go : (o : Option Receive) → receive_from conf source line ≡ o
+        → many (λ (r : Receive). r.ctx == ctx) (cons_option o (receives conf source lines)) ≤ one (has_ctx ctx (own_ctx line.op)) + many (is_of ctx) lines
     go None e = omega (arith, ih)
     go (Some x) e =
         let j = and_then_is _ (receive_at conf line.op) x e in
@@ -94,7 +98,8 @@ receives_once_step conf source ctx line lines own ih = go (receive_from conf sou
         let c : own_ctx line.op ≡ Some x.ctx = own j.0 j.1 ∙ ap (λ (r : Receive). Some r.ctx) same in
         rw c (omega (arith, ih))
 
-pub receives_once : (conf : Conf) (source ctx : ℕ) (lines : List Line) → ((line : Line) → In line lines → is_plain line.op ≡ true) → many (λ (r : Receive). r.ctx == ctx) (receives conf source lines) ≤ many (is_of ctx) lines
+pub receives_once : (conf : Conf) (source ctx : ℕ) (lines : List Line) → ((line : Line) → In line lines → is_plain line.op ≡ true)
+    → many (λ (r : Receive). r.ctx == ctx) (receives conf source lines) ≤ many (is_of ctx) lines
 receives_once conf source ctx [] plain = omega arith
 receives_once conf source ctx (line ∷ lines) plain =
     receives_once_step conf source ctx line lines (λ r e. (posts conf line.op r (plain line (inl refl)) e).1) (receives_once conf source ctx lines (λ l i. plain l (inr i)))
@@ -110,13 +115,16 @@ from_source source r e = source_is source r.want.source e
 
 gives_entry :
     (bound : Bound) (all : List (List LineResult)) (p source : ℕ) (op : LineOp) (r : Receive) (m : Message) → order_of op ≡ None → receive_at bound.script.conf op ≡ Some r
-    → r.want.source ≡ Some source → partner bound p source r.ctx ≡ Some m → nat_lt m.at (done all source) ≡ true → entry_after bound all p op ≡ Some (received_entry r source m)
+    → r.want.source ≡ Some source → partner bound p source r.ctx ≡ Some m → nat_lt m.at (done all source) ≡ true
+    → entry_after bound all p op ≡ Some (received_entry r source m)
 gives_entry bound all p source op r m sends posts from takes has_item = rw (sends, entry_after, posts) (rw from (rw takes (rw (has_item, received_after) refl)))
 
 gives :
     (bound : Bound) (all : List (List LineResult)) (p source : ℕ) (line : Line) (r : Receive) (m : Message) → find (makes bound.script.conf r.ctx) (done_lines bound all p) ≡ Some line → order_of line.op ≡ None → receive_at bound.script.conf line.op ≡ Some r
-    → r.want.source ≡ Some source → partner bound p source r.ctx ≡ Some m → nat_lt m.at (done all source) ≡ true → comes bound all p r.ctx ≡ Some (received_entry r source m)
-gives bound all p source line r m found sends posts from takes has_item = ap (option_and_then (λ (l : Line). entry_after bound all p l.op)) found ∙ gives_entry bound all p source line.op r m sends posts from takes has_item
+    → r.want.source ≡ Some source → partner bound p source r.ctx ≡ Some m → nat_lt m.at (done all source) ≡ true
+    → comes bound all p r.ctx ≡ Some (received_entry r source m)
+gives bound all p source line r m found sends posts from takes has_item = ap (option_and_then (λ (l : Line). entry_after bound all p l.op)) found
+    ∙ gives_entry bound all p source line.op r m sends posts from takes has_item
 
 pub entry_comes :
     (bound : Bound) (all : List (List LineResult)) (p source : ℕ) (ms rest : List Message) (r : Receive) (m : Message) → Plain bound p

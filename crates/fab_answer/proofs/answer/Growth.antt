@@ -28,7 +28,8 @@ module _ {R M : Type 0} where
       let z = g test y.0 y.1 in
       (z.0, z.1, became_then New x y.0 z.0 y.2 z.2)
 
-  append_step : (New : M → Type 0) (p : R × Option M) (pairs more : List (R × Option M)) (test : R → Bool) (x : R × Option M) (b : Bool) → test p.0 ≡ b → Later New pairs (pairs ++ more) → find (λ pair. test pair.0) (p ∷ pairs) ≡ Some x
+  append_step : (New : M → Type 0) (p : R × Option M) (pairs more : List (R × Option M)) (test : R → Bool) (x : R × Option M) (b : Bool) → test p.0 ≡ b
+      → Later New pairs (pairs ++ more) → find (λ pair. test pair.0) (p ∷ pairs) ≡ Some x
       → (y : R × Option M) × (find (λ pair. test pair.0) (p ∷ pairs ++ more) ≡ Some y) × Became New x y
   append_step New p pairs more test x true t ih f = let same : p ≡ x = (let e : Some p ≡ Some x = rw (t, find) at f in cc) in (p, rw (t, find) refl, (ap (λ (q : R × Option M). q.0) same, inl (ap (λ (q : R × Option M). q.1) same)))
   append_step New p pairs more test x false t ih f = let next = ih test x (rw (t, find) at f) in (next.0, rw (t, find) (next.1), next.2)
@@ -38,7 +39,8 @@ module _ {R M : Type 0} where
   later_append New (p ∷ pairs) more test x f = append_step New p pairs more test x (test p.0) refl (later_append New pairs more) f
 
 module _ {R M : Type 0} (fits : R → M → Bool) where
-  front : (New : M → Type 0) (p q : R × Option M) (pairs later : List (R × Option M)) (test : R → Bool) (x : R × Option M) (b : Bool) → test p.0 ≡ b → Became New p q → Later New pairs later → find (λ pair. test pair.0) (p ∷ pairs) ≡ Some x
+  front : (New : M → Type 0) (p q : R × Option M) (pairs later : List (R × Option M)) (test : R → Bool) (x : R × Option M) (b : Bool) → test p.0 ≡ b → Became New p q
+      → Later New pairs later → find (λ pair. test pair.0) (p ∷ pairs) ≡ Some x
       → (y : R × Option M) × (find (λ pair. test pair.0) (q ∷ later) ≡ Some y) × Became New x y
   front New p q pairs later test x true t became ih f =
       let same : p ≡ x = (let e : Some p ≡ Some x = rw (t, find) at f in cc) in
@@ -49,7 +51,8 @@ module _ {R M : Type 0} (fits : R → M → Bool) where
       let next = ih test x (rw (t, find) at f) in
       (next.0, rw (u, find) (next.1), next.2)
 
-  seat_step : (New : M → Type 0) (m : M) (r : R) (o : Option M) (pairs : List (R × Option M)) (b : Bool) → New m → (is_none o && fits r m) ≡ b → Later New pairs (seat fits m pairs) → Later New ((r, o) ∷ pairs) (seat fits m ((r, o) ∷ pairs))
+  seat_step : (New : M → Type 0) (m : M) (r : R) (o : Option M) (pairs : List (R × Option M)) (b : Bool) → New m → (is_none o && fits r m) ≡ b
+      → Later New pairs (seat fits m pairs) → Later New ((r, o) ∷ pairs) (seat fits m ((r, o) ∷ pairs))
   seat_step New m r None pairs true new t ih test x f = rw (t, seat) (front New (r, None) (r, Some m) pairs pairs test x (test r) refl (refl, inr (refl, (m, refl, new))) (later_same New pairs) f)
   seat_step New m r (Some n) pairs true new t ih test x f = absurd (cc)
   seat_step New m r o pairs false new t ih test x f = rw (t, seat) (front New (r, o) (r, o) pairs (seat fits m pairs) test x (test r) refl (refl, inl refl) ih f)

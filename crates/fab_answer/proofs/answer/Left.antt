@@ -27,8 +27,6 @@ use Rattle.fab_answer.proofs.peer.Heads.{entry_told}
 use Rattle.fab_answer.proofs.peer.InStep.{entry_is, receive_is}
 use Rattle.fab_answer.proofs.peer.Refusals.{PlainKinds, plain_kinds}
 
--- ---- lists
-
 -- ---- the entry of a context
 
 module _ (bound : Bound) (all : List (List LineResult)) (finished : Bool) (p : ℕ) where
@@ -67,7 +65,8 @@ module _ (bound : Bound) (all : List (List LineResult)) (finished : Bool) (p : �
             by_partner r source None single is = absurd (cc)
             by_partner r source (Some m) single is = let t = only_is _ _ e is in ap ctx_of (sym (t.1)) ∙ (entry_told r source m.item.head m.item.bytes single).0
 
-            whole : (r : Receive) → receive_at bound.script.conf line.op ≡ Some r → option_and_then (λ source. received_after all source r (partner bound p source r.ctx)) r.want.source ≡ Some e → ctx_of e ≡ Some c
+            whole : (r : Receive) → receive_at bound.script.conf line.op ≡ Some r
+                → option_and_then (λ source. received_after all source r (partner bound p source r.ctx)) r.want.source ≡ Some e → ctx_of e ≡ Some c
             whole r at is =
                 let post = posts bound.script.conf line.op r (plain.lines line i) at in
                 let from = and_then_is _ r.want.source e is in
@@ -82,7 +81,8 @@ module _ (bound : Bound) (all : List (List LineResult)) (finished : Bool) (p : �
         go (inr (inl (posting, d, receives))) = received (rw (receives.call, order_of) refl)
         go (inr (inr (ctx, op))) = absurd (let none : own_ctx line.op ≡ None = ap own_ctx op in cc)
 
-    cancel_ctx : (b : Bool) (c : ℕ) (line : Line) (e : Taken) → In line (lines_of bound p) → own_ctx line.op ≡ Some c → cancels b bound.script.conf line.op ≡ Some e → ctx_of e ≡ Some c
+    cancel_ctx : (b : Bool) (c : ℕ) (line : Line) (e : Taken) → In line (lines_of bound p) → own_ctx line.op ≡ Some c → cancels b bound.script.conf line.op ≡ Some e
+        → ctx_of e ≡ Some c
     cancel_ctx false c line e i own is = absurd (cc)
     cancel_ctx true c line e i own is =
         let r = map_is canceled_entry (receive_at bound.script.conf line.op) e is in
@@ -107,7 +107,8 @@ module _ (bound : Bound) (all : List (List LineResult)) (finished : Bool) (p : �
     unwaited_is : (c : ℕ) (k : Kept) → unwaited c ≡ Some k → (is_waited bound all p c ≡ false) × ((e : Taken) × (final_entry c ≡ Some e) × (as_kept e ≡ k))
     unwaited_is c k is = go (is_waited bound all p c) refl is
       where
-        go : (b : Bool) → is_waited bound all p c ≡ b → elim b [ true ↦ None | false ↦ option_map as_kept (final_entry c) ] ≡ Some k → (is_waited bound all p c ≡ false) × ((e : Taken) × (final_entry c ≡ Some e) × (as_kept e ≡ k))
+        go : (b : Bool) → is_waited bound all p c ≡ b → elim b [ true ↦ None | false ↦ option_map as_kept (final_entry c) ] ≡ Some k
+            → (is_waited bound all p c ≡ false) × ((e : Taken) × (final_entry c ≡ Some e) × (as_kept e ≡ k))
         go true w is = absurd (cc)
         go false w is = (w, map_is as_kept (final_entry c) k is)
 
@@ -119,11 +120,14 @@ module _ (bound : Bound) (all : List (List LineResult)) (finished : Bool) (p : �
     left_made : (line : Line) (k : Kept) → left_entry bound all finished p line ≡ Some k → (c : ℕ) × (makes bound.script.conf c line ≡ true)
     left_made line k is = accepted (is_accepted bound.script.conf line.op) refl is
       where
-        owned : (o : Option ℕ) → own_ctx line.op ≡ o → is_accepted bound.script.conf line.op ≡ true → option_map as_kept (option_and_then (left_of bound all finished p line.op) o) ≡ Some k → (c : ℕ) × (makes bound.script.conf c line ≡ true)
+        owned : (o : Option ℕ) → own_ctx line.op ≡ o → is_accepted bound.script.conf line.op ≡ true
+            → option_map as_kept (option_and_then (left_of bound all finished p line.op) o) ≡ Some k → (c : ℕ) × (makes bound.script.conf c line ≡ true)
         owned None own a is = absurd (cc)
         owned (Some c) own a is = (c, and_from _ _ a (rw own (same_number c)))
 
-        accepted : (b : Bool) → is_accepted bound.script.conf line.op ≡ b → option_map as_kept (elim b [ true ↦ option_and_then (left_of bound all finished p line.op) (own_ctx line.op) | false ↦ None ]) ≡ Some k → (c : ℕ) × (makes bound.script.conf c line ≡ true)
+        accepted : (b : Bool) → is_accepted bound.script.conf line.op ≡ b
+            → option_map as_kept (elim b [ true ↦ option_and_then (left_of bound all finished p line.op) (own_ctx line.op) | false ↦ None ]) ≡ Some k
+            → (c : ℕ) × (makes bound.script.conf c line ≡ true)
         accepted true a is = owned (own_ctx line.op) refl a is
         accepted false a is = absurd (cc)
 
@@ -144,7 +148,8 @@ module _ (bound : Bound) (all : List (List LineResult)) (finished : Bool) (p : �
     answers = filter_map (left_entry bound all finished p) (lines_of bound p)
 
     -- a line's entry is that of its context
-    left_of_line : (line : Line) (k : Kept) → In line (lines_of bound p) → left_entry bound all finished p line ≡ Some k → IsValue unwaited k × (makes bound.script.conf (ctx_number k) line ≡ true)
+    left_of_line : (line : Line) (k : Kept) → In line (lines_of bound p) → left_entry bound all finished p line ≡ Some k
+        → IsValue unwaited k × (makes bound.script.conf (ctx_number k) line ≡ true)
     left_of_line line k i is =
         let c = left_made line k is in
         let at : unwaited c.0 ≡ Some k = sym (left_is c.0 line i c.1) ∙ is in
@@ -192,7 +197,8 @@ module _ (bound : Bound) (all : List (List LineResult)) (finished : Bool) (p : �
     -- an entry that comes, or is the cancel's, is kept unless it was waited for
     pub record Leaves (posted : List Receive) (kept : List Kept) : Type 0 where
       pub entries : Each RightKept kept
-      pub tokens : (c : ℕ) → many (receive_is c) posted + many (λ (k : Kept). entry_is c k.entry) kept + many (waits_for c) (done_lines bound all p) ≡ many (makes bound.script.conf c) (done_lines bound all p)
+      pub tokens : (c : ℕ)
+          → many (receive_is c) posted + many (λ (k : Kept). entry_is c k.entry) kept + many (waits_for c) (done_lines bound all p) ≡ many (makes bound.script.conf c) (done_lines bound all p)
       pub present : (c : ℕ) (e : Taken) → final_entry c ≡ Some e → (many (receive_is c) posted ≡ 0) × (1 ≤ many (makes bound.script.conf c) (done_lines bound all p))
 
     module _ (posted : List Receive) (kept : List Kept) (leaves : Leaves posted kept) where

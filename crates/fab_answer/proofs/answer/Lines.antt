@@ -31,7 +31,8 @@ messages_step : (o : Option Message) (xs ys : List Message) → cons_option o (x
 messages_step None xs ys = refl
 messages_step (Some m) xs ys = refl
 
-pub messages_more : (conf : Conf) (dest at : ℕ) (xs ys : List Line) → messages conf dest at (xs ++ ys) ≡ messages conf dest at xs ++ messages conf dest (at + length xs) ys
+pub messages_more : (conf : Conf) (dest at : ℕ) (xs ys : List Line)
+    → messages conf dest at (xs ++ ys) ≡ messages conf dest at xs ++ messages conf dest (at + length xs) ys
 messages_more conf dest at [] ys = ap (λ k. messages conf dest k ys) (let e : at ≡ at + 0 = omega arith in e)
 messages_more conf dest at (line ∷ xs) ys =
     let ih = messages_more conf dest (at + 1) xs ys in
@@ -46,7 +47,9 @@ message_at conf dest at op m e = accepted (is_accepted conf op) e
     goes_to order true e = ap (λ (o : Option Message). elim o [ Some x ↦ x.at | None ↦ at ]) (sym e)
     goes_to order false e = absurd (cc)
 
-    accepted : (b : Bool) → elim b [ true ↦ option_and_then (λ (order : Order). elim (order.dest == dest) [ true ↦ Some (record { at = at; item = item_of 0 order }) | false ↦ None ]) (order_of op) | false ↦ None ] ≡ Some m → m.at ≡ at
+    accepted : (b : Bool)
+        → elim b [ true ↦ option_and_then (λ (order : Order). elim (order.dest == dest) [ true ↦ Some (record { at = at; item = item_of 0 order }) | false ↦ None ]) (order_of op) | false ↦ None ] ≡ Some m
+        → m.at ≡ at
     accepted true e = let i = and_then_is _ (order_of op) m e in goes_to i.0 (i.0.dest == dest) i.2
     accepted false e = absurd (cc)
 
@@ -55,7 +58,8 @@ pub message_below : (conf : Conf) (dest at : ℕ) (lines : List Line) (m : Messa
 message_below conf dest at [] m i = never i
 message_below conf dest at (line ∷ lines) m i = go (message_to conf dest at line.op) refl (message_below conf dest (at + 1) lines m) i
   where
-    go : (o : Option Message) → message_to conf dest at line.op ≡ o → (In m (messages conf dest (at + 1) lines) → m.at < at + 1 + length lines) → In m (cons_option o (messages conf dest (at + 1) lines)) → m.at < at + length (line ∷ lines)
+    go : (o : Option Message) → message_to conf dest at line.op ≡ o → (In m (messages conf dest (at + 1) lines) → m.at < at + 1 + length lines)
+        → In m (cons_option o (messages conf dest (at + 1) lines)) → m.at < at + length (line ∷ lines)
     go None e ih i = omega (arith, ih i)
     go (Some x) e ih (inl same) = omega (arith, message_at conf dest at line.op x e, ap (λ (y : Message). y.at) same)
     go (Some x) e ih (inr i) = omega (arith, ih i)
@@ -63,11 +67,14 @@ message_below conf dest at (line ∷ lines) m i = go (message_to conf dest at li
 -- ---- receives
 
 -- a receive is that of one of the lines
-pub receive_line : (conf : Conf) (source : ℕ) (lines : List Line) (r : Receive) → In r (receives conf source lines) → (line : Line) × In line lines × (receive_at conf line.op ≡ Some r) × (is_from source r ≡ true)
+pub receive_line : (conf : Conf) (source : ℕ) (lines : List Line) (r : Receive) → In r (receives conf source lines)
+    → (line : Line) × In line lines × (receive_at conf line.op ≡ Some r) × (is_from source r ≡ true)
 receive_line conf source [] r i = never i
 receive_line conf source (line ∷ lines) r i = go (receive_from conf source line) refl (λ i. let ih = receive_line conf source lines r i in (ih.0, inr ih.1, ih.2, ih.3)) i
   where
-    go : (o : Option Receive) → receive_from conf source line ≡ o → (In r (receives conf source lines) → (l : Line) × In l (line ∷ lines) × (receive_at conf l.op ≡ Some r) × (is_from source r ≡ true)) → In r (cons_option o (receives conf source lines)) → (l : Line) × In l (line ∷ lines) × (receive_at conf l.op ≡ Some r) × (is_from source r ≡ true)
+    go : (o : Option Receive) → receive_from conf source line ≡ o
+        → (In r (receives conf source lines) → (l : Line) × In l (line ∷ lines) × (receive_at conf l.op ≡ Some r) × (is_from source r ≡ true))
+        → In r (cons_option o (receives conf source lines)) → (l : Line) × In l (line ∷ lines) × (receive_at conf l.op ≡ Some r) × (is_from source r ≡ true)
     go None e later i = later i
     go (Some x) e later (inl same) =
         let j = and_then_is _ (receive_at conf line.op) x e in
@@ -88,7 +95,8 @@ count_contexts : (ctx : ℕ) (lines : List Line) → many (is_of ctx) lines ≡ 
 count_contexts ctx [] = refl
 count_contexts ctx (line ∷ lines) = go (own_ctx line.op) (count_contexts ctx lines)
   where
-    go : (o : Option ℕ) → many (is_of ctx) lines ≡ many (λ c. c == ctx) (contexts lines) → one (has_ctx ctx o) + many (is_of ctx) lines ≡ many (λ c. c == ctx) (cons_option o (contexts lines))
+    go : (o : Option ℕ) → many (is_of ctx) lines ≡ many (λ c. c == ctx) (contexts lines)
+        → one (has_ctx ctx o) + many (is_of ctx) lines ≡ many (λ c. c == ctx) (cons_option o (contexts lines))
     go None ih = omega (arith, ih)
     go (Some c) ih = omega (arith, ih)
 
@@ -96,7 +104,8 @@ none_else : (x : ℕ) (xs : List ℕ) → list_any (λ y. x == y) xs ≡ false �
 none_else x [] e = refl
 none_else x (y ∷ xs) e = go (x == y) refl (none_else x xs) e
   where
-    go : (b : Bool) → (x == y) ≡ b → (list_any (λ y. x == y) xs ≡ false → many (λ c. c == x) xs ≡ 0) → (b || list_any (λ y. x == y) xs) ≡ false → one (y == x) + many (λ c. c == x) xs ≡ 0
+    go : (b : Bool) → (x == y) ≡ b → (list_any (λ y. x == y) xs ≡ false → many (λ c. c == x) xs ≡ 0) → (b || list_any (λ y. x == y) xs) ≡ false
+        → one (y == x) + many (λ c. c == x) xs ≡ 0
     go true t ih e = absurd (cc)
     go false t ih e = let u : (y == x) ≡ false = grind (arith, nat_tests, t) in rw u (omega (arith, ih e))
 
@@ -131,11 +140,13 @@ makes_once conf lines ctx k e = omega (arith, many_le (makes conf ctx) (is_of ct
 -- ---- what a plain line posts
 
 -- a receive of a plain line has the line's context, and the line sends nothing
-pub posts : (conf : Conf) (op : LineOp) (r : Receive) → is_plain op ≡ true → receive_at conf op ≡ Some r → (is_accepted conf op ≡ true) × (own_ctx op ≡ Some r.ctx) × (order_of op ≡ None) × (r.least ≡ None)
+pub posts : (conf : Conf) (op : LineOp) (r : Receive) → is_plain op ≡ true → receive_at conf op ≡ Some r
+    → (is_accepted conf op ≡ true) × (own_ctx op ≡ Some r.ctx) × (order_of op ≡ None) × (r.least ≡ None)
 unfolding call_of
 posts conf op r plain e = accepted (is_accepted conf op) refl e
   where
-    of : (op : LineOp) → is_plain op ≡ true → option_map (receive_of (fresh conf)) (posting_of op) ≡ Some r → (own_ctx op ≡ Some r.ctx) × (order_of op ≡ None) × (r.least ≡ None)
+    of : (op : LineOp) → is_plain op ≡ true → option_map (receive_of (fresh conf)) (posting_of op) ≡ Some r
+        → (own_ctx op ≡ Some r.ctx) × (order_of op ≡ None) × (r.least ≡ None)
     of (Recv ctx source len) plain e = (ap (λ (o : Option Receive). elim o [ Some x ↦ Some x.ctx | None ↦ Some ctx ]) e, refl, ap (λ (o : Option Receive). elim o [ Some x ↦ x.least | None ↦ None ]) (sym e))
     of (TRecv ctx source tag ignore len) plain e = (ap (λ (o : Option Receive). elim o [ Some x ↦ Some x.ctx | None ↦ Some ctx ]) e, refl, ap (λ (o : Option Receive). elim o [ Some x ↦ x.least | None ↦ None ]) (sym e))
     of (Send ctx dest bytes imm level completion) plain e = absurd (cc)
@@ -143,7 +154,8 @@ posts conf op r plain e = accepted (is_accepted conf op) refl e
     of (Wait ctx) plain e = absurd (cc)
     of op plain e = absurd (cc (plain))
 
-    accepted : (b : Bool) → is_accepted conf op ≡ b → elim b [ true ↦ option_map (receive_of (fresh conf)) (posting_of op) | false ↦ None ] ≡ Some r → (is_accepted conf op ≡ true) × (own_ctx op ≡ Some r.ctx) × (order_of op ≡ None) × (r.least ≡ None)
+    accepted : (b : Bool) → is_accepted conf op ≡ b → elim b [ true ↦ option_map (receive_of (fresh conf)) (posting_of op) | false ↦ None ] ≡ Some r
+        → (is_accepted conf op ≡ true) × (own_ctx op ≡ Some r.ctx) × (order_of op ≡ None) × (r.least ≡ None)
     accepted true a e = let p = of op plain e in (a, p.0, p.1, p.2)
     accepted false a e = absurd (cc)
 

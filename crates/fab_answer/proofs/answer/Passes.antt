@@ -32,16 +32,19 @@ Grown all later = (p : ℕ) → done all p ≤ done later p
 
 -- ---- more lines done
 
-received_more : (all later : List (List LineResult)) (source : ℕ) (r : Receive) (o : Option Message) (e : Taken) → Grown all later → received_after all source r o ≡ Some e → received_after later source r o ≡ Some e
+received_more : (all later : List (List LineResult)) (source : ℕ) (r : Receive) (o : Option Message) (e : Taken) → Grown all later
+    → received_after all source r o ≡ Some e → received_after later source r o ≡ Some e
 received_more all later source r None e grown is = absurd (cc)
 received_more all later source r (Some m) e grown is =
     let t = only_is (nat_lt m.at (done all source)) _ e is in
     rw (lt-ltb m.at (done later source) (omega (arith, ltb-true m.at (done all source) t.0, grown source)), received_after) (ap Some (t.1))
 
-entry_more : (bound : Bound) (all later : List (List LineResult)) (p : ℕ) (op : LineOp) (e : Taken) → Grown all later → entry_after bound all p op ≡ Some e → entry_after bound later p op ≡ Some e
+entry_more : (bound : Bound) (all later : List (List LineResult)) (p : ℕ) (op : LineOp) (e : Taken) → Grown all later → entry_after bound all p op ≡ Some e
+    → entry_after bound later p op ≡ Some e
 entry_more bound all later p op e grown is = go (order_of op) (receive_at bound.script.conf op) is
   where
-    with_source : (r : Receive) (o : Option ℕ) → option_and_then (λ source. received_after all source r (partner bound p source r.ctx)) o ≡ Some e → option_and_then (λ source. received_after later source r (partner bound p source r.ctx)) o ≡ Some e
+    with_source : (r : Receive) (o : Option ℕ) → option_and_then (λ source. received_after all source r (partner bound p source r.ctx)) o ≡ Some e
+        → option_and_then (λ source. received_after later source r (partner bound p source r.ctx)) o ≡ Some e
     with_source r None is = absurd (cc)
     with_source r (Some source) is = received_more all later source r (partner bound p source r.ctx) e grown is
 
@@ -52,25 +55,29 @@ entry_more bound all later p op e grown is = go (order_of op) (receive_at bound.
     go None None is = absurd (cc)
     go None (Some r) is = with_source r r.want.source is
 
-pub comes_more : (bound : Bound) (all later : List (List LineResult)) (p ctx : ℕ) (e : Taken) → Grown all later → comes bound all p ctx ≡ Some e → comes bound later p ctx ≡ Some e
+pub comes_more : (bound : Bound) (all later : List (List LineResult)) (p ctx : ℕ) (e : Taken) → Grown all later → comes bound all p ctx ≡ Some e
+    → comes bound later p ctx ≡ Some e
 comes_more bound all later p ctx e grown is =
     let i = and_then_is _ _ e is in
     rw (find_more (makes bound.script.conf ctx) _ (done all p) (done later p) i.0 (grown p) i.1) (entry_more bound all later p i.0.op e grown i.2)
 
-result_more : (bound : Bound) (all later : List (List LineResult)) (p : ℕ) (op : LineOp) (x : LineResult) → Grown all later → done later p ≡ done all p → result_of bound all p op ≡ Some x → result_of bound later p op ≡ Some x
+result_more : (bound : Bound) (all later : List (List LineResult)) (p : ℕ) (op : LineOp) (x : LineResult) → Grown all later → done later p ≡ done all p
+    → result_of bound all p op ≡ Some x → result_of bound later p op ≡ Some x
 result_more bound all later p (Wait None) x grown same is = absurd (cc)
 result_more bound all later p (Wait (Some ctx)) x grown same is =
     let w : is_waited bound later p ctx ≡ is_waited bound all p ctx = ap (λ n. list_any (waits_for ctx) (take n (lines_of bound p))) same in
     rw (w, result_of) (go (is_waited bound all p ctx) is)
   where
-    go : (b : Bool) → elim b [ true ↦ None | false ↦ option_map waited (comes bound all p ctx) ] ≡ Some x → elim b [ true ↦ None | false ↦ option_map waited (comes bound later p ctx) ] ≡ Some x
+    go : (b : Bool) → elim b [ true ↦ None | false ↦ option_map waited (comes bound all p ctx) ] ≡ Some x
+        → elim b [ true ↦ None | false ↦ option_map waited (comes bound later p ctx) ] ≡ Some x
     go true is = absurd (cc)
     go false is = let i = map_is waited _ x is in rw (comes_more bound all later p ctx i.0 grown i.1) (ap Some (i.2))
 result_more bound all later p op x grown same is = is
 
 -- ---- a line done
 
-answering_is : (bound : Bound) (all : List (List LineResult)) (p : ℕ) (line : Line) (s : List LineResult) → answering bound all p line ≡ Some s → (x : LineResult) × (result_of bound all p line.op ≡ Some x) × (get_or all p [] ++ x ∷ [] ≡ s)
+answering_is : (bound : Bound) (all : List (List LineResult)) (p : ℕ) (line : Line) (s : List LineResult) → answering bound all p line ≡ Some s
+    → (x : LineResult) × (result_of bound all p line.op ≡ Some x) × (get_or all p [] ++ x ∷ [] ≡ s)
 answering_is bound all p line s is = map_is _ _ s is
 
 set_grown : (all : List (List LineResult)) (p : ℕ) (x : LineResult) (s : List LineResult) → get_or all p [] ++ x ∷ [] ≡ s → Grown all (set all p s)
@@ -102,7 +109,8 @@ answered_more bound x y p run t = (run.0 ++ p ∷ [], run_append (turn (answerin
 
 -- ---- the end
 
-turn_grows : (bound : Bound) (x y : Moment (List LineResult) Line) (p : ℕ) → turn (answering bound) x p ≡ Some y → (q : ℕ) → IsPrefixOf (get_or x.states q []) (get_or y.states q [])
+turn_grows : (bound : Bound) (x y : Moment (List LineResult) Line) (p : ℕ) → turn (answering bound) x p ≡ Some y → (q : ℕ)
+    → IsPrefixOf (get_or x.states q []) (get_or y.states q [])
 turn_grows bound x y p t q =
     let is = turn_is (answering bound) x y p t in
     let i = answering_is bound x.states p is.0 is.2 is.4 in
@@ -112,7 +120,8 @@ turn_grows bound x y p t q =
       | inr e ↦ (i.0 ∷ [], ap (λ k. get_or x.states k [] ++ i.0 ∷ []) (sym (e.0)) ∙ i.2 ∙ sym (e.1))
     ])
 
-run_grows : (bound : Bound) (order : List ℕ) (x y : Moment (List LineResult) Line) → Run (turn (answering bound)) x order y → (q : ℕ) → IsPrefixOf (get_or x.states q []) (get_or y.states q [])
+run_grows : (bound : Bound) (order : List ℕ) (x y : Moment (List LineResult) Line) → Run (turn (answering bound)) x order y → (q : ℕ)
+    → IsPrefixOf (get_or x.states q []) (get_or y.states q [])
 run_grows bound [] x y run q = prefix_self _ _ (ap (λ (m : Moment (List LineResult) Line). get_or m.states q []) run)
 run_grows bound (p ∷ order) x y run q = prefix_prefix _ _ _ (turn_grows bound x run.0 p run.1 q) (run_grows bound order run.0 y run.2 q)
 

@@ -64,12 +64,14 @@ directed_takes r a source names t = eqb-true source a.source (subst (λ o. sourc
     third a b c d e = (and_parts (a && b) c (and_parts (a && b && c) d e).0).1
 
 -- the success of an operation tells the context of its call, and not its numbers
-pub success_told : (conf : Conf) (s : State) (o : Order) (t c : ℕ) → o.ctx ≡ Some c → is_message o.kind ≡ true → (ctx_of (Success (success_of (operation_of s o t) [])) ≡ Some c) × (part_of (Success (success_of (operation_of s o t) [])) ≡ None)
+pub success_told : (conf : Conf) (s : State) (o : Order) (t c : ℕ) → o.ctx ≡ Some c → is_message o.kind ≡ true
+    → (ctx_of (Success (success_of (operation_of s o t) [])) ≡ Some c) × (part_of (Success (success_of (operation_of s o t) [])) ≡ None)
     × (success_of (operation_of (fresh conf) o o.dest) [] ≡ success_of (operation_of s o t) [])
 unfolding success_of
 success_told conf s o t c ctx msg = go o.kind refl msg
   where
-    go : (kind : Kind) → o.kind ≡ kind → is_message kind ≡ true → (ctx_of (Success (success_of (operation_of s o t) [])) ≡ Some c) × (part_of (Success (success_of (operation_of s o t) [])) ≡ None)
+    go : (kind : Kind) → o.kind ≡ kind → is_message kind ≡ true
+        → (ctx_of (Success (success_of (operation_of s o t) [])) ≡ Some c) × (part_of (Success (success_of (operation_of s o t) [])) ≡ None)
         × (success_of (operation_of (fresh conf) o o.dest) [] ≡ success_of (operation_of s o t) [])
     go Msg e m = rw (e, ctx) (refl, refl, refl)
     go TagMsg e m = rw (e, ctx) (refl, refl, refl)
@@ -82,11 +84,14 @@ module _ (bound : Bound) (all later : List (List LineResult)) (v : View Item) (p
   lines_next : take (k + 1) (lines_of bound p) ≡ take k (lines_of bound p) ++ line ∷ []
   lines_next = take_one (lines_of bound p) k line at
 
-  messages_next : (t : ℕ) → messages bound.script.conf t 0 (take (k + 1) (lines_of bound p)) ≡ messages bound.script.conf t 0 (take k (lines_of bound p)) ++ messages bound.script.conf t (0 + length (take k (lines_of bound p))) (line ∷ [])
+  messages_next : (t : ℕ)
+      → messages bound.script.conf t 0 (take (k + 1) (lines_of bound p)) ≡ messages bound.script.conf t 0 (take k (lines_of bound p)) ++ messages bound.script.conf t (0 + length (take k (lines_of bound p))) (line ∷ [])
   messages_next t = ap (messages bound.script.conf t 0) lines_next ∙ messages_more bound.script.conf t 0 (take k (lines_of bound p)) (line ∷ [])
 
-  pub receives_next : (source : ℕ) → receives bound.script.conf source (take (k + 1) (lines_of bound p)) ≡ receives bound.script.conf source (take k (lines_of bound p)) ++ receives bound.script.conf source (line ∷ [])
-  receives_next source = ap (receives bound.script.conf source) lines_next ∙ filter_map-append (receive_from bound.script.conf source) (take k (lines_of bound p)) (line ∷ [])
+  pub receives_next : (source : ℕ)
+      → receives bound.script.conf source (take (k + 1) (lines_of bound p)) ≡ receives bound.script.conf source (take k (lines_of bound p)) ++ receives bound.script.conf source (line ∷ [])
+  receives_next source = ap (receives bound.script.conf source) lines_next
+      ∙ filter_map-append (receive_from bound.script.conf source) (take k (lines_of bound p)) (line ∷ [])
 
   pub count_next : (test : Line → Bool) → many test (take (k + 1) (lines_of bound p)) ≡ many test (take k (lines_of bound p)) + one (test line)
   count_next test = omega (arith, ap (many test) lines_next, many_append test (take k (lines_of bound p)) (line ∷ []))
@@ -108,10 +113,15 @@ module _ (bound : Bound) (all later : List (List LineResult)) (v : View Item) (p
   PostsNothing = receive_at bound.script.conf line.op ≡ None
 
   pub unsent : SendsNothing → (t : ℕ) → messages bound.script.conf t 0 (take (k + 1) (lines_of bound p)) ≡ messages bound.script.conf t 0 (take k (lines_of bound p))
-  unsent nothing t = messages_next t ∙ ap (λ (ms : List Message). messages bound.script.conf t 0 (take k (lines_of bound p)) ++ ms) (ap (λ (o : Option Message). cons_option o []) (nothing t (0 + length (take k (lines_of bound p))))) ∙ append-nil _
+  unsent nothing t = messages_next t
+      ∙ ap (λ (ms : List Message). messages bound.script.conf t 0 (take k (lines_of bound p)) ++ ms) (ap (λ (o : Option Message). cons_option o []) (nothing t (0 + length (take k (lines_of bound p)))))
+      ∙ append-nil _
 
-  unposted : PostsNothing → (source : ℕ) → receives bound.script.conf source (take (k + 1) (lines_of bound p)) ≡ receives bound.script.conf source (take k (lines_of bound p))
-  unposted nothing source = receives_next source ∙ ap (λ (rs : List Receive). receives bound.script.conf source (take k (lines_of bound p)) ++ rs) (none (receive_at bound.script.conf line.op) nothing) ∙ append-nil _
+  unposted : PostsNothing → (source : ℕ)
+      → receives bound.script.conf source (take (k + 1) (lines_of bound p)) ≡ receives bound.script.conf source (take k (lines_of bound p))
+  unposted nothing source = receives_next source
+      ∙ ap (λ (rs : List Receive). receives bound.script.conf source (take k (lines_of bound p)) ++ rs) (none (receive_at bound.script.conf line.op) nothing)
+      ∙ append-nil _
     where
       none : (o : Option Receive) → o ≡ None → cons_option (option_and_then (λ (r : Receive). elim (is_from source r) [ true ↦ Some r | false ↦ None ]) o) [] ≡ []
       none None e = refl
@@ -147,7 +157,8 @@ module _ (bound : Bound) (all later : List (List LineResult)) (v : View Item) (p
 
   -- ---- a refused line
 
-  pub refused_keeps : (tx : Transmitting) (rx : Receiving) (cq : Completions) (kept : List Kept) → InStep bound all v p k tx rx cq kept [] → is_accepted bound.script.conf line.op ≡ false → ((c : ℕ) → waits_for c line ≡ false) → InStep bound later v p (k + 1) tx rx cq kept []
+  pub refused_keeps : (tx : Transmitting) (rx : Receiving) (cq : Completions) (kept : List Kept) → InStep bound all v p k tx rx cq kept []
+      → is_accepted bound.script.conf line.op ≡ false → ((c : ℕ) → waits_for c line ≡ false) → InStep bound later v p (k + 1) tx rx cq kept []
   refused_keeps tx rx cq kept good refused no_wait = quiet tx rx cq kept kept good (λ t n. if_refused bound.script.conf line.op _ refused) (if_refused bound.script.conf line.op _ refused) good.pending good.bare
       (λ c. omega (arith, ap one (no_wait c), ap one (let e : makes bound.script.conf c line ≡ false = ap (λ b. b && elim (own_ctx line.op) [ Some d ↦ d == c | None ↦ false ]) refused in e)))
 
@@ -191,7 +202,8 @@ module _ (bound : Bound) (all later : List (List LineResult)) (v : View Item) (p
       ∙ only_found (makes bound.script.conf c) (take (k + 1) (lines_of bound p)) line (subst (In line) (sym lines_next) (in_back line (take k (lines_of bound p)) (line ∷ []) (inl refl))) made (makes_once bound.script.conf (lines_of bound p) c (k + 1) plain.distinct)
 
   pub makes_is : (c d : ℕ) → is_accepted bound.script.conf line.op ≡ true → own_ctx line.op ≡ Some c → makes bound.script.conf d line ≡ (c == d)
-  makes_is c d accepted owns = ap (λ b. b && elim (own_ctx line.op) [ Some e ↦ e == d | None ↦ false ]) accepted ∙ ap (λ (o : Option ℕ). elim o [ Some e ↦ e == d | None ↦ false ]) owns
+  makes_is c d accepted owns = ap (λ b. b && elim (own_ctx line.op) [ Some e ↦ e == d | None ↦ false ]) accepted
+      ∙ ap (λ (o : Option ℕ). elim o [ Some e ↦ e == d | None ↦ false ]) owns
 
   pub send_keeps :
       (s : State) (kept : List Kept) (o : Order) (c t : ℕ) → Setting bound s → InStep bound all v p k s.tx s.rx s.cq kept [] → Sends line.op o c → is_accepted bound.script.conf line.op ≡ true → lookup s.av o.dest ≡ Some t → t ≡ o.dest → t < bound.script.conf.peers
@@ -210,7 +222,8 @@ module _ (bound : Bound) (all later : List (List LineResult)) (v : View Item) (p
           ∙ sym (map-append (λ (m : Message). m.item) (messages bound.script.conf t 0 (take k (lines_of bound p))) (message ∷ []))
           ∙ ap (λ (ms : List Message). items_of (messages bound.script.conf t 0 (take k (lines_of bound p)) ++ ms)) (sym sent_here) ∙ ap items_of (sym (messages_next t)))
       | inr differ ↦ ap sent_messages (get_or-set_other s.tx.accepted t q _ [] (λ e. differ (sym e))) ∙ good.sends q ∙ sym (append-nil _) ∙ sym (map-append (λ (m : Message). m.item) (messages bound.script.conf q 0 (take k (lines_of bound p))) [])
-          ∙ ap (λ (ms : List Message). items_of (messages bound.script.conf q 0 (take k (lines_of bound p)) ++ ms)) (sym (sent_there q differ)) ∙ ap items_of (sym (messages_next q))
+          ∙ ap (λ (ms : List Message). items_of (messages bound.script.conf q 0 (take k (lines_of bound p)) ++ ms)) (sym (sent_there q differ))
+          ∙ ap items_of (sym (messages_next q))
     ];
     kinds = λ q. elim (get_or-set s.tx.accepted t q (accepted_for s.tx t ++ item ∷ []) []) [
       | inl e ↦ subst (Each MessageOrReply) (sym e) (good.kinds q)
@@ -239,10 +252,12 @@ module _ (bound : Bound) (all later : List (List LineResult)) (v : View Item) (p
       order_is = rw (is.call, order_of) refl
 
       posts_nothing : PostsNothing
-      posts_nothing = if_accepts bound.script.conf line.op _ accepted ∙ ap (option_map (receive_of (fresh bound.script.conf))) (let e : posting_of line.op ≡ None = rw (is.call, posting_of) refl in e)
+      posts_nothing = if_accepts bound.script.conf line.op _ accepted
+          ∙ ap (option_map (receive_of (fresh bound.script.conf))) (let e : posting_of line.op ≡ None = rw (is.call, posting_of) refl in e)
 
       message_is : (q : ℕ) → message_to bound.script.conf q (0 + length (take k (lines_of bound p))) line.op ≡ elim (o.dest == q) [ true ↦ Some message | false ↦ None ]
-      message_is q = if_accepts bound.script.conf line.op _ accepted ∙ ap (option_and_then (λ (order : Order). elim (order.dest == q) [ true ↦ Some (record { at = 0 + length (take k (lines_of bound p)); item = item_of 0 order }) | false ↦ None ])) order_is
+      message_is q = if_accepts bound.script.conf line.op _ accepted
+          ∙ ap (option_and_then (λ (order : Order). elim (order.dest == q) [ true ↦ Some (record { at = 0 + length (take k (lines_of bound p)); item = item_of 0 order }) | false ↦ None ])) order_is
 
       sent_here : messages bound.script.conf t (0 + length (take k (lines_of bound p))) (line ∷ []) ≡ message ∷ []
       sent_here = let d : (o.dest == t) ≡ true = ap (λ n. o.dest == n) same ∙ same_number o.dest in
@@ -262,4 +277,5 @@ module _ (bound : Bound) (all later : List (List LineResult)) (v : View Item) (p
       told = success_told bound.script.conf s o t c is.ctx is.kind
 
       comes_now : comes bound later p c ≡ Some (Success (success_of operation []))
-      comes_now = ap (option_and_then (λ (l : Line). entry_after bound later p l.op)) (found_line c (makes_is c c accepted is.own ∙ same_number c)) ∙ rw (entry_after, order_is) (ap (λ e. Some (Success e)) told.2)
+      comes_now = ap (option_and_then (λ (l : Line). entry_after bound later p l.op)) (found_line c (makes_is c c accepted is.own ∙ same_number c))
+          ∙ rw (entry_after, order_is) (ap (λ e. Some (Success e)) told.2)

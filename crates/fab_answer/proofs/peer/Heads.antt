@@ -32,11 +32,13 @@ pub nameless_entry : (r : Receive) (source : ℕ) (head : ItemHead) (bytes : Lis
 unfolding entry_of received truncated
 nameless_entry r source head bytes = refl
 
-pub entry_told : (r : Receive) (source : ℕ) (head : ItemHead) (bytes : List ℕ) → r.least ≡ None → (ctx_of (entry_of r 0 source head bytes) ≡ Some r.ctx) × (part_of (entry_of r 0 source head bytes) ≡ None)
+pub entry_told : (r : Receive) (source : ℕ) (head : ItemHead) (bytes : List ℕ) → r.least ≡ None
+    → (ctx_of (entry_of r 0 source head bytes) ≡ Some r.ctx) × (part_of (entry_of r 0 source head bytes) ≡ None)
 unfolding entry_of received truncated
 entry_told r source head bytes single = go (has_space r 0 head)
   where
-    go : (b : Bool) → (ctx_of (elim b [ true ↦ received r 0 source head bytes | false ↦ truncated r (length r.buf - 0) 0 source head bytes ]) ≡ Some r.ctx) × (part_of (elim b [ true ↦ received r 0 source head bytes | false ↦ truncated r (length r.buf - 0) 0 source head bytes ]) ≡ None)
+    go : (b : Bool)
+        → (ctx_of (elim b [ true ↦ received r 0 source head bytes | false ↦ truncated r (length r.buf - 0) 0 source head bytes ]) ≡ Some r.ctx) × (part_of (elim b [ true ↦ received r 0 source head bytes | false ↦ truncated r (length r.buf - 0) 0 source head bytes ]) ≡ None)
     go true = rw single (refl, refl)
     go false = rw single (refl, refl)
 
@@ -45,7 +47,8 @@ module _ (bound : Bound) (all : List (List LineResult)) (v : View Item) (p k : �
   pub receiving :
       (tx : Transmitting) (rx after : Receiving) (cq : Completions) (kept : List Kept) (hand now : List ℕ) → InStep bound all v p k tx rx cq kept hand → length after.coming ≡ length rx.coming → length after.heads ≡ length rx.heads → length after.tails ≡ length rx.tails
       → Each Single after.posted → ((source : ℕ) → LaneOf bound all v p k after source)
-      → ((c : ℕ) → many (receive_is c) after.posted + many (into_is c) after.coming + many (λ x. x == c) now ≡ many (receive_is c) rx.posted + many (into_is c) rx.coming + many (λ x. x == c) hand) → InStep bound all v p k tx after cq kept now
+      → ((c : ℕ) → many (receive_is c) after.posted + many (into_is c) after.coming + many (λ x. x == c) now ≡ many (receive_is c) rx.posted + many (into_is c) rx.coming + many (λ x. x == c) hand)
+      → InStep bound all v p k tx after cq kept now
   receiving tx rx after cq kept hand now good coming heads tails singles lanes tokens = record {
     own = good.own;
     ops = good.ops;
@@ -141,7 +144,8 @@ module _ (bound : Bound) (all : List (List LineResult)) (v : View Item) (p k : �
             each_filter [] each = always
             each_filter (r ∷ xs) each = choose (is_from source r) (each_filter xs each.1)
               where
-                choose : (b : Bool) → Each (λ (r : Receive). r.least ≡ None) (filter (is_from source) xs) → Each (λ (r : Receive). r.least ≡ None) (cond b (r ∷ filter (is_from source) xs) (filter (is_from source) xs))
+                choose : (b : Bool) → Each (λ (r : Receive). r.least ≡ None) (filter (is_from source) xs)
+                    → Each (λ (r : Receive). r.least ≡ None) (cond b (r ∷ filter (is_from source) xs) (filter (is_from source) xs))
                 choose true ih = (each.0.0, ih)
                 choose false ih = ih
 
@@ -151,7 +155,8 @@ module _ (bound : Bound) (all : List (List LineResult)) (v : View Item) (p k : �
         newest : Arrival
         newest = newcomer source (slice_index rx.heads source) head
 
-        with_newest : (t : ℕ) (b : Bool) → (source == t) ≡ b → filter (comes_from t) (rx.unexpected ++ newest ∷ []) ≡ filter (comes_from t) rx.unexpected ++ cond b (newest ∷ []) []
+        with_newest : (t : ℕ) (b : Bool) → (source == t) ≡ b
+            → filter (comes_from t) (rx.unexpected ++ newest ∷ []) ≡ filter (comes_from t) rx.unexpected ++ cond b (newest ∷ []) []
         with_newest t true e = filter-append (comes_from t) rx.unexpected (newest ∷ []) ∙ ap (λ xs. filter (comes_from t) rx.unexpected ++ xs) (rw e refl)
         with_newest t false e = filter-append (comes_from t) rx.unexpected (newest ∷ []) ∙ ap (λ xs. filter (comes_from t) rx.unexpected ++ xs) (rw e refl)
 
@@ -193,7 +198,8 @@ module _ (bound : Bound) (all : List (List LineResult)) (v : View Item) (p k : �
     -- a reply arrives
     pub reply_arrives :
         (tx : Transmitting) (rx : Receiving) (cq : Completions) (kept : List Kept) (source : ℕ) (item : Item) → InStep bound all v p k tx rx cq kept [] → slice_get (v.ready source) (slice_index rx.heads source) ≡ Some item
-        → slice_index rx.heads source ≡ slice_index rx.tails source → is_msg item ≡ false → item.head.kind ≡ Reply → InStep bound all v p k tx (heading_other source item.head.kind rx) cq kept []
+        → slice_index rx.heads source ≡ slice_index rx.tails source → is_msg item ≡ false → item.head.kind ≡ Reply
+        → InStep bound all v p k tx (heading_other source item.head.kind rx) cq kept []
     unfolding heading_other
     reply_arrives tx rx cq kept source item good has level msg kind =
         receiving tx rx after cq kept [] [] good (length-set rx.coming source _) (length-set rx.heads source _) refl good.singles

@@ -112,7 +112,8 @@ pub record InStep (bound : Bound) (all : List (List LineResult)) (v : View Item)
   pub pending : Each (RightEntry bound all p) (pending_of kept cq)
   pub bare : Each (λ (x : Kept). x.bytes ≡ None) kept
   pub live_items : LiveItems bound.script.conf.peers tx
-  pub tokens : (c : ℕ) → places c tx rx cq kept + many (λ x. x == c) hand + many (waits_for c) (take k (lines_of bound p)) ≡ many (makes bound.script.conf c) (take k (lines_of bound p))
+  pub tokens : (c : ℕ)
+      → places c tx rx cq kept + many (λ x. x == c) hand + many (waits_for c) (take k (lines_of bound p)) ≡ many (makes bound.script.conf c) (take k (lines_of bound p))
 
 -- ---- more lines done elsewhere, and more seen
 
@@ -129,11 +130,13 @@ module _ (bound : Bound) (all later : List (List LineResult)) (v w : View Item) 
   right_seen source tails pairs (Some Request) right = right
   right_seen source tails pairs (Some Answer) right = always
 
-  pub lane_more : (source : ℕ) (rs : List Receive) (h t : ℕ) (coming : Option Coming) (posted : List Receive) (unexpected : List Arrival) → Lane bound all v p source rs h t coming posted unexpected → Lane bound later w p source rs h t coming posted unexpected
+  pub lane_more : (source : ℕ) (rs : List Receive) (h t : ℕ) (coming : Option Coming) (posted : List Receive) (unexpected : List Arrival)
+      → Lane bound all v p source rs h t coming posted unexpected → Lane bound later w p source rs h t coming posted unexpected
   lane_more source rs h t coming posted unexpected lane = record {
     arrived = lane.arrived;
     rest = lane.rest ++ extra;
-    begun = sym (append_assoc lane.arrived lane.rest extra) ∙ ap (λ xs. xs ++ extra) lane.begun ∙ sym (messages_more bound.script.conf p 0 (done_lines bound all source) cut.0) ∙ ap (messages bound.script.conf p 0) (sym cut.1);
+    begun = sym (append_assoc lane.arrived lane.rest extra) ∙ ap (λ xs. xs ++ extra) lane.begun
+        ∙ sym (messages_more bound.script.conf p 0 (done_lines bound all source) cut.0) ∙ ap (messages bound.script.conf p 0) (sym cut.1);
     known = lane.known ∙ ap sent_messages (sym (take-append-le h (v.ready source) ((more.ready source).0) lane.within) ∙ ap (take h) ((more.ready source).1));
     within = omega (arith, lane.within, length-append (v.ready source) ((more.ready source).0), ap length ((more.ready source).1));
     posted_are = lane.posted_are;
@@ -155,7 +158,8 @@ module _ (bound : Bound) (all later : List (List LineResult)) (v w : View Item) 
   pub right_more : (c : ℕ) (e : Taken) → Right bound all p c e → Right bound later p c e
   right_more c e (ctx, is, part) = (ctx, comes_more bound all later p c e grown is, part)
 
-  pub in_step_more : (k : ℕ) (tx : Transmitting) (rx : Receiving) (cq : Completions) (kept : List Kept) (hand : List ℕ) → done later p ≡ k → InStep bound all v p k tx rx cq kept hand → InStep bound later w p k tx rx cq kept hand
+  pub in_step_more : (k : ℕ) (tx : Transmitting) (rx : Receiving) (cq : Completions) (kept : List Kept) (hand : List ℕ) → done later p ≡ k
+      → InStep bound all v p k tx rx cq kept hand → InStep bound later w p k tx rx cq kept hand
   in_step_more k tx rx cq kept hand own good = record {
     own = own;
     ops = good.ops;
@@ -178,7 +182,8 @@ module _ (bound : Bound) (all later : List (List LineResult)) (v w : View Item) 
 -- ---- what is transmitted, and completions
 
 -- an entry that is written is the last of those that no wait took
-pub pending_written : (kept : List Kept) (cq : Completions) (call : Option ℕ) (e : Taken) → cq.taken_out ≤ length cq.written → pending_of kept (writing call e cq) ≡ pending_of kept cq ++ e ∷ []
+pub pending_written : (kept : List Kept) (cq : Completions) (call : Option ℕ) (e : Taken) → cq.taken_out ≤ length cq.written
+    → pending_of kept (writing call e cq) ≡ pending_of kept cq ++ e ∷ []
 pending_written kept cq call e read =
     ap (λ xs. map (λ (x : Kept). x.entry) kept ++ map (λ (y : Written). y.entry) xs) (drop_more cq.written (w ∷ []) cq.taken_out read)
     ∙ ap (λ xs. map (λ (x : Kept). x.entry) kept ++ xs) (map-append (λ (y : Written). y.entry) (drop cq.taken_out cq.written) (w ∷ []))
@@ -191,7 +196,8 @@ module _ (bound : Bound) (all : List (List LineResult)) (v : View Item) (p k : �
   -- an operation ends
   pub live_taken :
       (tx after : Transmitting) (rx : Receiving) (cq : Completions) (kept : List Kept) (test : Operation → Bool) (o : Operation) (c : ℕ) → InStep bound all v p k tx rx cq kept [] → find test tx.live ≡ Some o → o.ctx ≡ Some c
-      → after.live ≡ remove_first test tx.live → after.accepted ≡ tx.accepted → after.ops ≡ tx.ops → LiveItems bound.script.conf.peers after → InStep bound all v p k after rx cq kept (c ∷ [])
+      → after.live ≡ remove_first test tx.live → after.accepted ≡ tx.accepted → after.ops ≡ tx.ops → LiveItems bound.script.conf.peers after
+      → InStep bound all v p k after rx cq kept (c ∷ [])
   live_taken tx after rx cq kept test o c good found ctx live accepted ops live_items = record {
     own = good.own;
     ops = omega (arith, good.ops, ops);
@@ -235,7 +241,8 @@ module _ (bound : Bound) (all : List (List LineResult)) (v : View Item) (p k : �
   }
 
   -- a reply is booked
-  pub reply_joins : (tx : Transmitting) (rx : Receiving) (cq : Completions) (kept : List Kept) (hand : List ℕ) (t : ℕ) (item : Item) → item.head.kind ≡ Reply → InStep bound all v p k tx rx cq kept hand → InStep bound all v p k (joining t item tx) rx cq kept hand
+  pub reply_joins : (tx : Transmitting) (rx : Receiving) (cq : Completions) (kept : List Kept) (hand : List ℕ) (t : ℕ) (item : Item) → item.head.kind ≡ Reply
+      → InStep bound all v p k tx rx cq kept hand → InStep bound all v p k (joining t item tx) rx cq kept hand
   reply_joins tx rx cq kept hand t item is good = record {
     own = good.own;
     ops = good.ops;

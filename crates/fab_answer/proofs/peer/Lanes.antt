@@ -119,7 +119,8 @@ first_of (m ∷ xs) i is e = (m, xs, refl, cc)
 message_first : (item : Item) (ys : List Item) → is_msg item ≡ true → sent_messages (item ∷ ys) ≡ plain_item item ∷ sent_messages ys
 message_first item ys t = rw t refl
 
-next_message : (ready : List Item) (h : ℕ) (item : Item) (ms rest all : List Message) → slice_get ready h ≡ Some item → is_msg item ≡ true → items_of ms ≡ sent_messages (take h ready) → ms ++ rest ≡ all → sent_messages ready ≡ items_of all
+next_message : (ready : List Item) (h : ℕ) (item : Item) (ms rest all : List Message) → slice_get ready h ≡ Some item → is_msg item ≡ true
+    → items_of ms ≡ sent_messages (take h ready) → ms ++ rest ≡ all → sent_messages ready ≡ items_of all
     → (m : Message) × (more : List Message) × (rest ≡ m ∷ more) × (m.item ≡ plain_item item)
 next_message ready h item ms rest all has t known begun tells =
     let d : (ys : List Item) × (drop h ready ≡ item ∷ ys) = (drop (h + 1) ready, drop_at ready h item has) in
@@ -144,7 +145,8 @@ module _ (bound : Bound) (all : List (List LineResult)) (v : View Item) (p sourc
   abbrev pub unexpected_after : ItemHead → ℕ → List Receive → List Arrival → List Arrival
   unexpected_after head h posted unexpected = elim (find (is_wanted source head) posted) [ None ↦ unexpected ++ newcomer source h head ∷ [] | Some r ↦ unexpected ]
 
-  known_more : (h : ℕ) (item : Item) (ms : List Message) (m : Message) → slice_get (v.ready source) h ≡ Some item → is_msg item ≡ true → items_of ms ≡ sent_messages (take h (v.ready source)) → m.item ≡ plain_item item
+  known_more : (h : ℕ) (item : Item) (ms : List Message) (m : Message) → slice_get (v.ready source) h ≡ Some item → is_msg item ≡ true
+      → items_of ms ≡ sent_messages (take h (v.ready source)) → m.item ≡ plain_item item
       → items_of (ms ++ m ∷ []) ≡ sent_messages (take (h + 1) (v.ready source))
   known_more h item ms m has t known is =
       map-append (λ (m : Message). m.item) ms (m ∷ []) ∙ ap₂ (λ (xs : List Item) (i : Item). xs ++ i ∷ []) known is ∙ ap (λ (is : List Item). sent_messages (take h (v.ready source)) ++ is) (sym (message_first item [] t))
@@ -184,10 +186,12 @@ module _ (bound : Bound) (all : List (List LineResult)) (v : View Item) (p sourc
       test = same_test item m next.3
 
       found : find (λ (z : Receive). fits source z m) (waiting (fits source) pairs) ≡ option_map uncalled (find (is_wanted source item.head) posted)
-      found = ap (find (λ (z : Receive). fits source z m)) (sym lane.posted_are) ∙ find_mapped uncalled (is_wanted source item.head) (λ (z : Receive). fits source z m) test posted
+      found = ap (find (λ (z : Receive). fits source z m)) (sym lane.posted_are)
+          ∙ find_mapped uncalled (is_wanted source item.head) (λ (z : Receive). fits source z m) test posted
 
       removed : map uncalled (remove_first (is_wanted source item.head) posted) ≡ waiting (fits source) (partners (fits source) rs (lane.arrived ++ m ∷ []))
-      removed = mapped_removed uncalled (is_wanted source item.head) (λ (z : Receive). fits source z m) test posted ∙ ap (remove_first (λ (z : Receive). fits source z m)) lane.posted_are
+      removed = mapped_removed uncalled (is_wanted source item.head) (λ (z : Receive). fits source z m) test posted
+          ∙ ap (remove_first (λ (z : Receive). fits source z m)) lane.posted_are
           ∙ sym (waiting_seated (fits source) pairs m) ∙ ap (waiting (fits source)) (sym more)
 
       nothing : coming ≡ None
@@ -196,7 +200,8 @@ module _ (bound : Bound) (all : List (List LineResult)) (v : View Item) (p sourc
       none_unfinished : many not_whole unexpected ≤ 0
       none_unfinished = subst (λ c. many not_whole unexpected ≤ one (is_keep c)) nothing lane.unfinished
 
-      go : (o : Option Receive) → find (is_wanted source item.head) posted ≡ o → Lane bound all v p source rs (h + 1) t (elim o [ None ↦ Some Keep | Some r ↦ Some (Into r 0) ])
+      go : (o : Option Receive) → find (is_wanted source item.head) posted ≡ o
+          → Lane bound all v p source rs (h + 1) t (elim o [ None ↦ Some Keep | Some r ↦ Some (Into r 0) ])
           (elim o [ None ↦ posted | Some r ↦ remove_first (is_wanted source item.head) posted ]) (elim o [ None ↦ unexpected ++ newcomer source h item.head ∷ [] | Some r ↦ unexpected ])
       go None f = record {
         arrived = lane.arrived ++ m ∷ [];
@@ -245,7 +250,8 @@ module _ (bound : Bound) (all : List (List LineResult)) (v : View Item) (p sourc
     arrived = lane.arrived;
     rest = lane.rest;
     begun = lane.begun;
-    known = lane.known ∙ sym (append-nil (sent_messages (take h (v.ready source)))) ∙ ap (λ (is : List Item). sent_messages (take h (v.ready source)) ++ is) (sym (no_message item msg))
+    known = lane.known ∙ sym (append-nil (sent_messages (take h (v.ready source))))
+        ∙ ap (λ (is : List Item). sent_messages (take h (v.ready source)) ++ is) (sym (no_message item msg))
         ∙ sym (sent-append (take h (v.ready source)) (item ∷ [])) ∙ ap sent_messages (sym (take_one (v.ready source) h item has));
     within = omega (arith, slice_get_within (v.ready source) h item has);
     posted_are = lane.posted_are;
@@ -289,13 +295,15 @@ module _ (bound : Bound) (all : List (List LineResult)) (v : View Item) (p sourc
       none : many not_whole unexpected ≤ 0
       none = subst (λ b. many not_whole unexpected ≤ one b) other lane.unfinished
 
-  completes : (t : ℕ) (item : Item) (a : Arrival) (m : Message) → slice_get (v.ready source) t ≡ Some item → Carries v source t a m → Carries v source (t + 1) (completed source item.bytes a) m
+  completes : (t : ℕ) (item : Item) (a : Arrival) (m : Message) → slice_get (v.ready source) t ≡ Some item → Carries v source t a m
+      → Carries v source (t + 1) (completed source item.bytes a) m
   completes t item a m has (other, there, head, from, is, how) = rw (here, completed) (go a.bytes refl how)
     where
       here : (a.source == source) ≡ true
       here = grind (arith, nat_tests, from)
 
-      go : (o : Option (List ℕ)) → a.bytes ≡ o → (a.bytes ≡ Some other.bytes) ⊎ ((a.bytes ≡ None) × (a.place ≡ t)) → Carries v source (t + 1) (elim o [ None ↦ record a { bytes = Some item.bytes } | Some _ ↦ a ]) m
+      go : (o : Option (List ℕ)) → a.bytes ≡ o → (a.bytes ≡ Some other.bytes) ⊎ ((a.bytes ≡ None) × (a.place ≡ t))
+          → Carries v source (t + 1) (elim o [ None ↦ record a { bytes = Some item.bytes } | Some _ ↦ a ]) m
       go (Some bytes) e (inl whole) = (other, there, head, from, is, inl whole)
       go (Some bytes) e (inr part) = absurd (cc (e, part.0))
       go None e (inl whole) = absurd (cc (e, whole))
@@ -317,7 +325,8 @@ module _ (bound : Bound) (all : List (List LineResult)) (v : View Item) (p sourc
       go (Some b) e = rw e refl
       go None e = refl
 
-  none_unfinished : (t : ℕ) (bytes : List ℕ) (xs : List Arrival) (ms : List Message) → Both (Carries v source t) xs ms → many not_whole (map (completed source bytes) xs) ≡ 0
+  none_unfinished : (t : ℕ) (bytes : List ℕ) (xs : List Arrival) (ms : List Message) → Both (Carries v source t) xs ms
+      → many not_whole (map (completed source bytes) xs) ≡ 0
   none_unfinished t bytes [] [] both = refl
   none_unfinished t bytes [] (m ∷ ms) both = never both
   none_unfinished t bytes (a ∷ xs) [] both = never both
@@ -359,7 +368,8 @@ module _ {X Y : Type 0} (P : X → Y → Type 0) (test : X → Bool) (test' : Y 
   both_found (x ∷ xs) [] both = never both
   both_found (x ∷ xs) (y ∷ ys) both = both_step x y xs ys (test x) refl (same x y both.0) both.0 both.1 (both_found xs ys both.1)
 
-pub right_more : (v : View Item) (source tails : ℕ) (pairs more : List (Receive × Option Message)) (c : Option Coming) → ((r : Receive) (m : Message) → In (r, Some m) pairs → In (r, Some m) more) → ComesRight v source tails pairs c → ComesRight v source tails more c
+pub right_more : (v : View Item) (source tails : ℕ) (pairs more : List (Receive × Option Message)) (c : Option Coming)
+    → ((r : Receive) (m : Message) → In (r, Some m) pairs → In (r, Some m) more) → ComesRight v source tails pairs c → ComesRight v source tails more c
 right_more v source tails pairs more None so right = always
 right_more v source tails pairs more (Some (Into r place)) so (at, single, (item, m, has, i, is)) = (at, single, (item, m, has, so (uncalled r) m i, is))
 right_more v source tails pairs more (Some Keep) so right = always
@@ -369,7 +379,8 @@ right_more v source tails pairs more (Some Answer) so right = always
 
 module _ (bound : Bound) (all : List (List LineResult)) (v : View Item) (p source : ℕ) where
   takes_same : (t : ℕ) (r : Receive) (a : Arrival) (m : Message) → Carries v source t a m → fits source (uncalled r) m ≡ takes r.want a
-  takes_same t r a m (item, has, head, from, is, how) = ap (λ (i : Item). matches r.want source i.head) is ∙ ap (λ (h : ItemHead). matches r.want source h) (sym head) ∙ ap (λ s. matches r.want s a.head) (sym from)
+  takes_same t r a m (item, has, head, from, is, how) = ap (λ (i : Item). matches r.want source i.head) is ∙ ap (λ (h : ItemHead). matches r.want source h) (sym head)
+      ∙ ap (λ s. matches r.want s a.head) (sym from)
 
   abbrev pub coming_taken : Receive → Arrival → Option Coming → Option Coming
   coming_taken r a coming = elim a.bytes [ None ↦ Some (Into r 0) | Some bytes ↦ coming ]
@@ -382,7 +393,8 @@ module _ (bound : Bound) (all : List (List LineResult)) (v : View Item) (p sourc
       × Lane bound all v p source (rs ++ uncalled r ∷ []) h t (coming_taken r a coming) posted (remove_first (takes r.want) unexpected)
       × ((ms : List Message) × (rest : List Message) × (ms ++ rest ≡ messages bound.script.conf p 0 (done_lines bound all source)) × In (uncalled r, Some m) (partners (fits source) (rs ++ uncalled r ∷ []) ms)))
 
-  pub lane_post : (rs : List Receive) (h t : ℕ) (coming : Option Coming) (posted : List Receive) (unexpected : List Arrival) (r : Receive) → r.least ≡ None → Lane bound all v p source rs h t coming posted unexpected → Posted rs h t coming posted unexpected r
+  pub lane_post : (rs : List Receive) (h t : ℕ) (coming : Option Coming) (posted : List Receive) (unexpected : List Arrival) (r : Receive) → r.least ≡ None
+      → Lane bound all v p source rs h t coming posted unexpected → Posted rs h t coming posted unexpected r
   lane_post rs h t coming posted unexpected r single lane = go (both_found (Carries v source t) (takes r.want) (fits source (uncalled r)) (takes_same t r) unexpected left lane.unexpected_are)
     where
       left : List Message
@@ -426,7 +438,8 @@ module _ (bound : Bound) (all : List (List LineResult)) (v : View Item) (p sourc
           now = subst (In (uncalled r, Some m)) (sym (more ∙ ap (λ (o : Option Message). pairs ++ (uncalled r, o) ∷ []) g)) (in_back (uncalled r, Some m) pairs _ (inl refl))
 
           posted_are : map uncalled posted ≡ waiting (fits source) (partners (fits source) (rs ++ uncalled r ∷ []) lane.arrived)
-          posted_are = lane.posted_are ∙ sym (waiting_same (fits source) pairs (uncalled r) m) ∙ ap (λ (o : Option Message). waiting (fits source) (pairs ++ (uncalled r, o) ∷ [])) (sym g) ∙ ap (waiting (fits source)) (sym more)
+          posted_are = lane.posted_are ∙ sym (waiting_same (fits source) pairs (uncalled r) m)
+              ∙ ap (λ (o : Option Message). waiting (fits source) (pairs ++ (uncalled r, o) ∷ [])) (sym g) ∙ ap (waiting (fits source)) (sym more)
 
           counts : many not_whole unexpected ≡ one (not_whole a) + many not_whole (remove_first (takes r.want) unexpected)
           counts = many_removed not_whole (takes r.want) unexpected a f
@@ -439,7 +452,8 @@ module _ (bound : Bound) (all : List (List LineResult)) (v : View Item) (p sourc
           at_most (Some Request) = omega arith
           at_most (Some Answer) = omega arith
 
-          taken : (o : Option (List ℕ)) → a.bytes ≡ o → Lane bound all v p source (rs ++ uncalled r ∷ []) h t (elim o [ None ↦ Some (Into r 0) | Some bytes ↦ coming ]) posted (remove_first (takes r.want) unexpected)
+          taken : (o : Option (List ℕ)) → a.bytes ≡ o
+              → Lane bound all v p source (rs ++ uncalled r ∷ []) h t (elim o [ None ↦ Some (Into r 0) | Some bytes ↦ coming ]) posted (remove_first (takes r.want) unexpected)
           taken (Some bytes) e = record {
             arrived = lane.arrived;
             rest = lane.rest;

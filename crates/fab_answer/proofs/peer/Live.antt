@@ -27,7 +27,8 @@ pub record LiveItems (n : ℕ) (tx : Transmitting) : Type 0 where
 
 module _ (n : ℕ) where
   -- an operation leaves, and nothing else changes
-  pub live_items_removed : (tx after : Transmitting) (leaves : Operation → Bool) → after.live ≡ remove_first leaves tx.live → after.accepted ≡ tx.accepted → after.sent ≡ tx.sent → LiveItems n tx → LiveItems n after
+  pub live_items_removed : (tx after : Transmitting) (leaves : Operation → Bool) → after.live ≡ remove_first leaves tx.live → after.accepted ≡ tx.accepted
+      → after.sent ≡ tx.sent → LiveItems n tx → LiveItems n after
   live_items_removed tx after leaves live accepted sent live_items = record {
     has_item = subst (Each (HasItem n after)) (sym live) (each_so (HasItem n tx) (HasItem n after) _ (λ o e. (
       e.0,
@@ -63,7 +64,8 @@ module _ (n : ℕ) where
       none = none_left (is_of_item t (slice_index tx.sent t)) tx.live (omega (arith, live_items.apart t (slice_index tx.sent t), many_le (is_of_item t (slice_index tx.sent t)) (at_place t (slice_index tx.sent t)) tx.live wider))
 
       later : (o : Operation) → In o (remove_first (is_of_item t (slice_index tx.sent t)) tx.live) → HasItem n tx o → ends_at_sent o ≡ true
-          → ((slice_index (raise tx.sent t) o.dest ≡ slice_index tx.sent o.dest) ⊎ ((t ≡ o.dest) × (slice_index (raise tx.sent t) o.dest ≡ slice_index tx.sent t + 1))) → slice_index (raise tx.sent t) o.dest ≤ o.place
+          → ((slice_index (raise tx.sent t) o.dest ≡ slice_index tx.sent o.dest) ⊎ ((t ≡ o.dest) × (slice_index (raise tx.sent t) o.dest ≡ slice_index tx.sent t + 1)))
+          → slice_index (raise tx.sent t) o.dest ≤ o.place
       later o i e ends (inl same) = omega (arith, same, e.2 ends)
       later o i e ends (inr (here, now)) = elim (cases_eq o.place (slice_index tx.sent t)) [
         | inl at ↦ (let d : (o.dest == t) ≡ true = grind (arith, nat_tests, here) in
@@ -88,7 +90,8 @@ module _ (n : ℕ) where
   }
 
   -- a message is accepted
-  pub live_items_accept : (tx : Transmitting) (t : ℕ) (item : Item) (o : Operation) → o.dest ≡ t → o.place ≡ length (accepted_for tx t) → t < n → t < length tx.accepted → LiveItems n tx → LiveItems n (accepting t item o tx)
+  pub live_items_accept : (tx : Transmitting) (t : ℕ) (item : Item) (o : Operation) → o.dest ≡ t → o.place ≡ length (accepted_for tx t) → t < n → t < length tx.accepted
+      → LiveItems n tx → LiveItems n (accepting t item o tx)
   unfolding accepting
   live_items_accept tx t item o dest place lt within live_items = record {
     has_item = each_append (HasItem n (accepting t item o tx)) tx.live (o ∷ []) (each_so (HasItem n tx) (HasItem n (accepting t item o tx)) tx.live (λ x e. (e.0, omega (arith, e.1, longer tx.accepted t x.dest item), e.2)) live_items.has_item)

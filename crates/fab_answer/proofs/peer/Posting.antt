@@ -60,7 +60,8 @@ module _ (bound : Bound) (all later : List (List LineResult)) (v : View Item) (p
     order_is = rw (is.call, order_of) refl
 
     receive_is_at : receive_at bound.script.conf line.op ≡ Some (uncalled (receive_of s posting))
-    receive_is_at = if_accepts bound.script.conf line.op _ accepted ∙ ap (option_map (receive_of (fresh bound.script.conf))) posting_is ∙ ap Some (sym (receive_same bound s setting posting))
+    receive_is_at = if_accepts bound.script.conf line.op _ accepted ∙ ap (option_map (receive_of (fresh bound.script.conf))) posting_is
+        ∙ ap Some (sym (receive_same bound s setting posting))
 
     from_is : (t : ℕ) → is_from t (uncalled (receive_of s posting)) ≡ (source == t)
     from_is t = ap (λ (o : Option ℕ). elim o [ Some x ↦ x == t | None ↦ false ]) from
@@ -69,7 +70,8 @@ module _ (bound : Bound) (all later : List (List LineResult)) (v : View Item) (p
     sends_nothing t n = if_accepts bound.script.conf line.op _ accepted ∙ ap (option_and_then _) order_is
 
     receive_for : (t : ℕ) → receive_from bound.script.conf t line ≡ elim (source == t) [ true ↦ Some (uncalled (receive_of s posting)) | false ↦ None ]
-    receive_for t = ap (option_and_then (λ (x : Receive). elim (is_from t x) [ true ↦ Some x | false ↦ None ])) receive_is_at ∙ ap (λ (b : Bool). elim b [ true ↦ Some (uncalled (receive_of s posting)) | false ↦ None ]) (from_is t)
+    receive_for t = ap (option_and_then (λ (x : Receive). elim (is_from t x) [ true ↦ Some x | false ↦ None ])) receive_is_at
+        ∙ ap (λ (b : Bool). elim b [ true ↦ Some (uncalled (receive_of s posting)) | false ↦ None ]) (from_is t)
 
     receives_here : receives bound.script.conf source (take (k + 1) (lines_of bound p)) ≡ receives bound.script.conf source (take k (lines_of bound p)) ++ uncalled (receive_of s posting) ∷ []
     receives_here = receives_next bound all later v p k line at grown own plain source
@@ -77,7 +79,8 @@ module _ (bound : Bound) (all later : List (List LineResult)) (v : View Item) (p
 
     receives_there : (t : ℕ) → source ≢ t → receives bound.script.conf t (take (k + 1) (lines_of bound p)) ≡ receives bound.script.conf t (take k (lines_of bound p))
     receives_there t differ = receives_next bound all later v p k line at grown own plain t
-        ∙ ap (λ (o : Option Receive). receives bound.script.conf t (take k (lines_of bound p)) ++ cons_option o []) (receive_for t ∙ ap (λ (b : Bool). elim b [ true ↦ Some (uncalled (receive_of s posting)) | false ↦ None ]) (differ_is source t differ)) ∙ append-nil _
+        ∙ ap (λ (o : Option Receive). receives bound.script.conf t (take k (lines_of bound p)) ++ cons_option o []) (receive_for t ∙ ap (λ (b : Bool). elim b [ true ↦ Some (uncalled (receive_of s posting)) | false ↦ None ]) (differ_is source t differ))
+        ∙ append-nil _
 
     -- the lane of the source, with the receive posted
     abbrev PostedLane : Option Coming → List Receive → List Arrival → Type 0
@@ -101,7 +104,8 @@ module _ (bound : Bound) (all later : List (List LineResult)) (v : View Item) (p
     -- with another state of what is received
     posted_keeps :
         (after : Receiving) (hand : List ℕ) → length after.coming ≡ length s.rx.coming → after.heads ≡ s.rx.heads → after.tails ≡ s.rx.tails → Each Single after.posted → ((t : ℕ) → LaneOf bound later v p (k + 1) after t)
-        → ((d : ℕ) → many (receive_is d) after.posted + many (into_is d) after.coming + many (λ x. x == d) hand ≡ many (receive_is d) s.rx.posted + many (into_is d) s.rx.coming + one (c == d)) → InStep bound later v p (k + 1) s.tx after s.cq kept hand
+        → ((d : ℕ) → many (receive_is d) after.posted + many (into_is d) after.coming + many (λ x. x == d) hand ≡ many (receive_is d) s.rx.posted + many (into_is d) s.rx.coming + one (c == d))
+        → InStep bound later v p (k + 1) s.tx after s.cq kept hand
     posted_keeps after hand coming heads tails singles lanes counts = record {
       own = own;
       ops = omega (arith, good.ops);
@@ -138,13 +142,16 @@ module _ (bound : Bound) (all later : List (List LineResult)) (v : View Item) (p
     found : find (takes (receive_of s posting).want) (filter (comes_from source) s.rx.unexpected) ≡ find (takes (receive_of s posting).want) s.rx.unexpected
     found = find_kept (comes_from source) (takes (receive_of s posting).want) s.rx.unexpected takes_from
 
-    from_posted : (t : ℕ) (b : Bool) → (source == t) ≡ b → filter (is_from t) (s.rx.posted ++ receive_of s posting ∷ []) ≡ filter (is_from t) s.rx.posted ++ cond b (receive_of s posting ∷ []) []
-    from_posted t b e = filter-append (is_from t) s.rx.posted (receive_of s posting ∷ []) ∙ ap (λ (x : Bool). filter (is_from t) s.rx.posted ++ cond x (receive_of s posting ∷ []) []) (from_is t ∙ e)
+    from_posted : (t : ℕ) (b : Bool) → (source == t) ≡ b
+        → filter (is_from t) (s.rx.posted ++ receive_of s posting ∷ []) ≡ filter (is_from t) s.rx.posted ++ cond b (receive_of s posting ∷ []) []
+    from_posted t b e = filter-append (is_from t) s.rx.posted (receive_of s posting ∷ [])
+        ∙ ap (λ (x : Bool). filter (is_from t) s.rx.posted ++ cond x (receive_of s posting ∷ []) []) (from_is t ∙ e)
 
     ctx_is : (d : ℕ) → (posting.ctx == d) ≡ (c == d)
     ctx_is d = ap (λ n. n == d) is.ctx
 
-    waits_now : find (takes (receive_of s posting).want) s.rx.unexpected ≡ None → Lane bound all v p source (receives bound.script.conf source (take k (lines_of bound p)) ++ uncalled (receive_of s posting) ∷ []) (slice_index s.rx.heads source) (slice_index s.rx.tails source) (coming_from s.rx source)
+    waits_now : find (takes (receive_of s posting).want) s.rx.unexpected ≡ None
+        → Lane bound all v p source (receives bound.script.conf source (take k (lines_of bound p)) ++ uncalled (receive_of s posting) ∷ []) (slice_index s.rx.heads source) (slice_index s.rx.tails source) (coming_from s.rx source)
         (filter (is_from source) s.rx.posted ++ receive_of s posting ∷ []) (filter (comes_from source) s.rx.unexpected) → PeerAt bound later v p (k + 1) (called (with_rx (joining_posted (receive_of s posting) s.rx) s)) kept []
     waits_now none lane = (
       same_setting bound s _ refl refl refl refl refl setting,
@@ -157,7 +164,8 @@ module _ (bound : Bound) (all later : List (List LineResult)) (v : View Item) (p
     )
 
     module _ (a : Arrival) (m : Message) (f : find (takes (receive_of s posting).want) s.rx.unexpected ≡ Some a) (carries : Carries v source (slice_index s.rx.tails source) a m) where
-      other_filters : (t : ℕ) → source ≢ t → (filter (is_from t) s.rx.posted ≡ filter (is_from t) s.rx.posted) × (filter (comes_from t) (remove_first (takes (receive_of s posting).want) s.rx.unexpected) ≡ filter (comes_from t) s.rx.unexpected)
+      other_filters : (t : ℕ) → source ≢ t
+          → (filter (is_from t) s.rx.posted ≡ filter (is_from t) s.rx.posted) × (filter (comes_from t) (remove_first (takes (receive_of s posting).want) s.rx.unexpected) ≡ filter (comes_from t) s.rx.unexpected)
       other_filters t differ = (refl, others_kept (comes_from t) (takes (receive_of s posting).want) s.rx.unexpected (takes_not t differ))
 
       here_filter : filter (comes_from source) (remove_first (takes (receive_of s posting).want) s.rx.unexpected) ≡ remove_first (takes (receive_of s posting).want) (filter (comes_from source) s.rx.unexpected)
@@ -167,7 +175,8 @@ module _ (bound : Bound) (all later : List (List LineResult)) (v : View Item) (p
       below = tells.peer source a.place carries.0 carries.1
 
       -- the message is not whole: it goes into the receive
-      part_now : a.bytes ≡ None → Lane bound all v p source (receives bound.script.conf source (take k (lines_of bound p)) ++ uncalled (receive_of s posting) ∷ []) (slice_index s.rx.heads source) (slice_index s.rx.tails source) (Some (Into (receive_of s posting) 0))
+      part_now : a.bytes ≡ None
+          → Lane bound all v p source (receives bound.script.conf source (take k (lines_of bound p)) ++ uncalled (receive_of s posting) ∷ []) (slice_index s.rx.heads source) (slice_index s.rx.tails source) (Some (Into (receive_of s posting) 0))
           (filter (is_from source) s.rx.posted) (remove_first (takes (receive_of s posting).want) (filter (comes_from source) s.rx.unexpected))
           → InStep bound later v p (k + 1) s.tx (goes source (Into (receive_of s posting) 0) (without_first (receive_of s posting).want s.rx)) s.cq kept []
       part_now e lane = posted_keeps (goes source (Into (receive_of s posting) 0) (without_first (receive_of s posting).want s.rx)) [] (length-set s.rx.coming source _) refl refl good.singles
@@ -203,7 +212,8 @@ module _ (bound : Bound) (all later : List (List LineResult)) (v : View Item) (p
           cut = take_prefix (lines_of bound source) (done all source) (done later source) (grown source)
 
           begun_later : ms ++ (rest ++ messages bound.script.conf p (0 + length (done_lines bound all source)) cut.0) ≡ messages bound.script.conf p 0 (done_lines bound later source)
-          begun_later = sym (append_assoc ms rest _) ∙ ap (λ xs. xs ++ messages bound.script.conf p (0 + length (done_lines bound all source)) cut.0) begun ∙ sym (messages_more bound.script.conf p 0 (done_lines bound all source) cut.0) ∙ ap (messages bound.script.conf p 0) (sym cut.1)
+          begun_later = sym (append_assoc ms rest _) ∙ ap (λ xs. xs ++ messages bound.script.conf p (0 + length (done_lines bound all source)) cut.0) begun
+              ∙ sym (messages_more bound.script.conf p 0 (done_lines bound all source) cut.0) ∙ ap (messages bound.script.conf p 0) (sym cut.1)
 
           rs_later : receives bound.script.conf source (take k (lines_of bound p)) ++ uncalled (receive_of s posting) ∷ [] ≡ receives bound.script.conf source (done_lines bound later p)
           rs_later = sym receives_here ∙ ap (λ n. receives bound.script.conf source (take n (lines_of bound p))) (sym own)
@@ -213,8 +223,10 @@ module _ (bound : Bound) (all later : List (List LineResult)) (v : View Item) (p
           bytes_are (inr part) = absurd (cc (e, part.0))
 
           entry : received_entry (uncalled (receive_of s posting)) source m ≡ entry_of (receive_of s posting) 0 a.source a.head bytes
-          entry = ap (λ (x : Item). entry_of (uncalled (receive_of s posting)) 0 source x.head x.bytes) carries.4 ∙ nameless_entry (receive_of s posting) source carries.0.head carries.0.bytes
-              ∙ ap (λ (h : ItemHead). entry_of (receive_of s posting) 0 source h carries.0.bytes) (sym carries.2) ∙ ap₂ (λ (n : ℕ) (xs : List ℕ). entry_of (receive_of s posting) 0 n a.head xs) (sym carries.3) (bytes_are carries.5)
+          entry = ap (λ (x : Item). entry_of (uncalled (receive_of s posting)) 0 source x.head x.bytes) carries.4
+              ∙ nameless_entry (receive_of s posting) source carries.0.head carries.0.bytes
+              ∙ ap (λ (h : ItemHead). entry_of (receive_of s posting) 0 source h carries.0.bytes) (sym carries.2)
+              ∙ ap₂ (λ (n : ℕ) (xs : List ℕ). entry_of (receive_of s posting) 0 n a.head xs) (sym carries.3) (bytes_are carries.5)
 
     pub post_at : PeerAt bound later v p (k + 1) (post s posting) kept []
     unfolding post give
@@ -234,7 +246,8 @@ module _ (bound : Bound) (all later : List (List LineResult)) (v : View Item) (p
         go (inl (none, lane)) = subst (λ o. PeerAt bound later v p (k + 1) (after o) kept []) (sym (sym found ∙ none)) (waits_now (sym found ∙ none) lane)
         go (inr (a, m, f, carries, lane, (ms, rest, begun, i))) = subst (λ o. PeerAt bound later v p (k + 1) (after o) kept []) (sym (sym found ∙ f)) (taken a.bytes refl lane)
           where
-            taken : (o : Option (List ℕ)) → a.bytes ≡ o → Lane bound all v p source (rs ++ uncalled (receive_of s posting) ∷ []) (slice_index s.rx.heads source) (slice_index s.rx.tails source) (elim o [ None ↦ Some (Into (receive_of s posting) 0) | Some bytes ↦ coming_from s.rx source ])
+            taken : (o : Option (List ℕ)) → a.bytes ≡ o
+                → Lane bound all v p source (rs ++ uncalled (receive_of s posting) ∷ []) (slice_index s.rx.heads source) (slice_index s.rx.tails source) (elim o [ None ↦ Some (Into (receive_of s posting) 0) | Some bytes ↦ coming_from s.rx source ])
                 (filter (is_from source) s.rx.posted) (remove_first (takes (receive_of s posting).want) (filter (comes_from source) s.rx.unexpected)) → PeerAt bound later v p (k + 1) (elim o [
                   | None ↦ with_rx (goes a.source (Into (receive_of s posting) 0) (called (with_rx (without_first (receive_of s posting).want s.rx) s)).rx) (called (with_rx (without_first (receive_of s posting).want s.rx) s))
                   | Some bytes ↦ book (at_match a.head.ack) a.source a.head (fill (receive_of s posting) 0 a.source a.head bytes (called (with_rx (without_first (receive_of s posting).want s.rx) s)))

@@ -64,14 +64,16 @@ plain_kinds op e = absurd (cc (e))
 abbrev pub lasting : Bool → Bool → Bool → Option Fault
 lasting a b c = cond a (Some NotSupported) (cond b (Some MsgSize) (cond c (Some Invalid) None))
 
-lasting_four : (a b c d : Bool) (x : Busy) (s u : State) → fault_of ((answer (first_fault ((a, NotSupported) ∷ (b, MsgSize) ∷ (c, Invalid) ∷ (d, Again x) ∷ [])) s u).0) ≡ lasting a b c
+lasting_four : (a b c d : Bool) (x : Busy) (s u : State)
+    → fault_of ((answer (first_fault ((a, NotSupported) ∷ (b, MsgSize) ∷ (c, Invalid) ∷ (d, Again x) ∷ [])) s u).0) ≡ lasting a b c
 lasting_four true b c d x s u = refl
 lasting_four false true c d x s u = refl
 lasting_four false false true d x s u = refl
 lasting_four false false false true x s u = refl
 lasting_four false false false false x s u = refl
 
-lasting_five : (a b c d e : Bool) (x y : Busy) (s u : State) → fault_of ((answer (first_fault ((a, NotSupported) ∷ (b, MsgSize) ∷ (c, Invalid) ∷ (d, Again x) ∷ (e, Again y) ∷ [])) s u).0) ≡ lasting a b c
+lasting_five : (a b c d e : Bool) (x y : Busy) (s u : State)
+    → fault_of ((answer (first_fault ((a, NotSupported) ∷ (b, MsgSize) ∷ (c, Invalid) ∷ (d, Again x) ∷ (e, Again y) ∷ [])) s u).0) ≡ lasting a b c
 lasting_five true b c d e x y s u = refl
 lasting_five false true c d e x y s u = refl
 lasting_five false false true d e x y s u = refl
@@ -92,10 +94,12 @@ posting_faults caps av p = lasting (not (caps.recv && cond p.tagged caps.tagged 
 
 post_faults : (s : State) (p : Posting) → fault_of ((do_call s (Post p)).0) ≡ posting_faults s.caps s.av p
 unfolding do_call post_fault
-post_faults s p = lasting_five (not (may_receive s p.tagged)) (nat_lt 16_777_216 (length p.buf)) (not (source_is_known s p.source) || least_is_wrong p) (lacks_room s (post s p)) (is_none (taken_by (receive_of s p) s) && nat_le s.most_rx (length s.rx.posted)) (CqFull s.cq.size) (PostedFull s.most_rx) s (post s p) ∙ ap (λ b. lasting (not (may_receive s p.tagged)) (nat_lt 16_777_216 (length p.buf)) (not b || least_is_wrong p)) (known_same s p.source)
+post_faults s p = lasting_five (not (may_receive s p.tagged)) (nat_lt 16_777_216 (length p.buf)) (not (source_is_known s p.source) || least_is_wrong p) (lacks_room s (post s p)) (is_none (taken_by (receive_of s p) s) && nat_le s.most_rx (length s.rx.posted)) (CqFull s.cq.size) (PostedFull s.most_rx) s (post s p)
+    ∙ ap (λ b. lasting (not (may_receive s p.tagged)) (nat_lt 16_777_216 (length p.buf)) (not b || least_is_wrong p)) (known_same s p.source)
 
 -- where none of the tests that last holds
-pub post_lasting : (s : State) (p : Posting) → not (may_receive s p.tagged) ≡ false → nat_lt 16_777_216 (length p.buf) ≡ false → (not (source_is_known s p.source) || least_is_wrong p) ≡ false → fault_of ((do_call s (Post p)).0) ≡ None
+pub post_lasting : (s : State) (p : Posting) → not (may_receive s p.tagged) ≡ false → nat_lt 16_777_216 (length p.buf) ≡ false
+    → (not (source_is_known s p.source) || least_is_wrong p) ≡ false → fault_of ((do_call s (Post p)).0) ≡ None
 unfolding do_call post_fault
 post_lasting s p a b c = lasting_five (not (may_receive s p.tagged)) (nat_lt 16_777_216 (length p.buf)) (not (source_is_known s p.source) || least_is_wrong p) (lacks_room s (post s p)) (is_none (taken_by (receive_of s p) s) && nat_le s.most_rx (length s.rx.posted)) (CqFull s.cq.size) (PostedFull s.most_rx) s (post s p)
     ∙ rw (a, b, c) refl
@@ -109,10 +113,13 @@ transmit_faults s o = lasting_four _ _ _ _ _ s (transmit s o)
 
 module _ (bound : Bound) (s : State) (setting : Setting bound s) where
   pub post_as_opening : (p : Posting) → fault_of ((do_call s (Post p)).0) ≡ fault_of ((do_call (fresh bound.script.conf) (Post p)).0)
-  post_as_opening p = post_faults s p ∙ ap₂ (λ (caps : Caps) (av : List (Option ℕ)). posting_faults caps av p) setting.caps setting.av ∙ sym (post_faults (fresh bound.script.conf) p)
+  post_as_opening p = post_faults s p ∙ ap₂ (λ (caps : Caps) (av : List (Option ℕ)). posting_faults caps av p) setting.caps setting.av
+      ∙ sym (post_faults (fresh bound.script.conf) p)
 
-  pub transmit_as_opening : (o : Order) → nat_le 4_611_686_018_427_387_904 s.tx.ops ≡ false → fault_of ((do_call s (Transmit o)).0) ≡ fault_of ((do_call (fresh bound.script.conf) (Transmit o)).0)
-  transmit_as_opening o few = transmit_faults s o ∙ ap (λ b. order_faults s.caps s.av b o) few ∙ ap₂ (λ (caps : Caps) (av : List (Option ℕ)). order_faults caps av false o) setting.caps setting.av ∙ sym (transmit_faults (fresh bound.script.conf) o)
+  pub transmit_as_opening : (o : Order) → nat_le 4_611_686_018_427_387_904 s.tx.ops ≡ false
+      → fault_of ((do_call s (Transmit o)).0) ≡ fault_of ((do_call (fresh bound.script.conf) (Transmit o)).0)
+  transmit_as_opening o few = transmit_faults s o ∙ ap (λ b. order_faults s.caps s.av b o) few
+      ∙ ap₂ (λ (caps : Caps) (av : List (Option ℕ)). order_faults caps av false o) setting.caps setting.av ∙ sym (transmit_faults (fresh bound.script.conf) o)
 
   used_same : (o : Option ℕ) → used_source s o ≡ used_source (fresh bound.script.conf) o
   used_same None = refl
@@ -139,7 +146,8 @@ not_false true e = refl
 not_false false e = absurd (cc)
 
 -- an accepted receive has a source
-pub accepted_source : (bound : Bound) (s : State) (p : Posting) (i : ℕ) → Setting bound s → bound.script.conf.info.caps.directed_recv ≡ true → p.source ≡ Some i → fault_of ((do_call s (Post p)).0) ≡ None → (source : ℕ) × ((receive_of s p).want.source ≡ Some source)
+pub accepted_source : (bound : Bound) (s : State) (p : Posting) (i : ℕ) → Setting bound s → bound.script.conf.info.caps.directed_recv ≡ true → p.source ≡ Some i
+    → fault_of ((do_call s (Post p)).0) ≡ None → (source : ℕ) × ((receive_of s p).want.source ≡ Some source)
 accepted_source bound s p i setting granted names none = go (lookup s.av i) refl
   where
     directed : s.caps.directed_recv ≡ true

@@ -37,16 +37,19 @@ Answers v s r = (r.head.outcome ≡ Done) × (r.head.total ≡ 0) × ((i : ℕ) 
 pub record Owing (v : View Item) (tx : Transmitting) (tails : List ℕ) : Type 0 where
   pub known : Each (Known v tx tails) tx.live
   pub single : (k : ℕ) → many (numbered_by k) tx.live ≤ 1
-  pub numbered : (t i j : ℕ) (x y : Item) → slice_get (accepted_for tx t) i ≡ Some x → slice_get (accepted_for tx t) j ≡ Some y → is_msg x ≡ true → is_msg y ≡ true → x.head.op ≡ y.head.op → i ≡ j
+  pub numbered : (t i j : ℕ) (x y : Item) → slice_get (accepted_for tx t) i ≡ Some x → slice_get (accepted_for tx t) j ≡ Some y → is_msg x ≡ true → is_msg y ≡ true
+      → x.head.op ≡ y.head.op → i ≡ j
   pub below : (t i : ℕ) (x : Item) → slice_get (accepted_for tx t) i ≡ Some x → is_msg x ≡ true → (x.head.op < tx.ops) × (x.head.ack ≡ Match → Never)
-  pub answered : (s i : ℕ) (x : Item) → i < slice_index tails s → slice_get (v.ready s) i ≡ Some x → is_msg x ≡ true → x.head.ack ≡ Delivery → (r : Item) × In r (accepted_for tx s) × (r.head.kind ≡ Reply) × (r.head.op ≡ x.head.op)
+  pub answered : (s i : ℕ) (x : Item) → i < slice_index tails s → slice_get (v.ready s) i ≡ Some x → is_msg x ≡ true → x.head.ack ≡ Delivery
+      → (r : Item) × In r (accepted_for tx s) × (r.head.kind ≡ Reply) × (r.head.op ≡ x.head.op)
   pub due : (s : ℕ) (r : Item) → In r (accepted_for tx s) → r.head.kind ≡ Reply → Answers v s r
 
 back : (v w : View Item) (s i : ℕ) (x : Item) → More v w → i < length (v.ready s) → slice_get (w.ready s) i ≡ Some x → slice_get (v.ready s) i ≡ Some x
 back v w s i x more lt e = get_back (v.ready s) ((more.ready s).0) i x (ap (λ (xs : List Item). slice_get xs i) ((more.ready s).1) ∙ e) lt
 
 -- more is seen
-pub owing_more : (v w : View Item) (tx : Transmitting) (tails : List ℕ) → More v w → ((s : ℕ) → slice_index tails s ≤ length (v.ready s)) → Owing v tx tails → Owing w tx tails
+pub owing_more : (v w : View Item) (tx : Transmitting) (tails : List ℕ) → More v w → ((s : ℕ) → slice_index tails s ≤ length (v.ready s)) → Owing v tx tails
+    → Owing w tx tails
 owing_more v w tx tails more seen owing = record {
   known = each_so (Known v tx tails) (Known w tx tails) tx.live (λ o k. (k.0, k.1, k.2, k.3, λ i r lt e. k.4 i r lt (back v w o.dest i r more (omega (arith, lt, seen o.dest)) e))) owing.known;
   single = owing.single;
@@ -58,7 +61,8 @@ owing_more v w tx tails more seen owing = record {
 
 module _ (v : View Item) where
   -- operations leave
-  pub owing_removed : (tx after : Transmitting) (tails : List ℕ) (leaves : Operation → Bool) → after.live ≡ remove_first leaves tx.live → after.accepted ≡ tx.accepted → after.ops ≡ tx.ops → Owing v tx tails → Owing v after tails
+  pub owing_removed : (tx after : Transmitting) (tails : List ℕ) (leaves : Operation → Bool) → after.live ≡ remove_first leaves tx.live → after.accepted ≡ tx.accepted
+      → after.ops ≡ tx.ops → Owing v tx tails → Owing v after tails
   owing_removed tx after tails leaves live accepted ops owing = record {
     known = subst (Each (Known v after tails)) (sym live) (each_so (Known v tx tails) (Known v after tails) _ (λ o k. ((k.0.0, ap (λ (xs : List (List Item)). slice_get (get_or xs o.dest []) o.place) accepted ∙ k.0.1, k.0.2), omega (arith, k.1, ops), k.2, k.3, k.4)) (each_removed (Known v tx tails) leaves tx.live owing.known));
     single = λ k. omega (arith, owing.single k, removed_less (numbered_by k) leaves tx.live, ap (many (numbered_by k)) live);
@@ -68,7 +72,8 @@ module _ (v : View Item) where
     due = λ s r i. owing.due s r (subst (λ (xs : List (List Item)). In r (get_or xs s [])) accepted i);
   }
 
-  get_longer : (xs : List (List Item)) (t q i : ℕ) (item x : Item) → slice_get (get_or xs q []) i ≡ Some x → slice_get (get_or (set xs t (get_or xs t [] ++ item ∷ [])) q []) i ≡ Some x
+  get_longer : (xs : List (List Item)) (t q i : ℕ) (item x : Item) → slice_get (get_or xs q []) i ≡ Some x
+      → slice_get (get_or (set xs t (get_or xs t [] ++ item ∷ [])) q []) i ≡ Some x
   get_longer xs t q i item x e = elim (get_or-set xs t q (get_or xs t [] ++ item ∷ []) []) [
     | inl same ↦ ap (λ (ys : List Item). slice_get ys i) same ∙ e
     | inr now ↦ ap (λ (ys : List Item). slice_get ys i) now.1 ∙ prefix_get (get_or xs t []) (item ∷ []) i x (ap (λ r. slice_get (get_or xs r []) i) now.0 ∙ e)
@@ -93,7 +98,8 @@ module _ (v : View Item) where
     ]
   ]
 
-  in_was : (xs : List (List Item)) (t q : ℕ) (item x : Item) → In x (get_or (set xs t (get_or xs t [] ++ item ∷ [])) q []) → In x (get_or xs q []) ⊎ ((t ≡ q) × (x ≡ item))
+  in_was : (xs : List (List Item)) (t q : ℕ) (item x : Item) → In x (get_or (set xs t (get_or xs t [] ++ item ∷ [])) q [])
+      → In x (get_or xs q []) ⊎ ((t ≡ q) × (x ≡ item))
   in_was xs t q item x i = elim (get_or-set xs t q (get_or xs t [] ++ item ∷ []) []) [
     | inl same ↦ inl (subst (In x) same i)
     | inr now ↦ elim (in_append x (get_or xs t []) (item ∷ []) (subst (In x) now.1 i)) [
@@ -124,7 +130,8 @@ module _ (v : View Item) where
   -- a message is accepted
   pub owing_accepts :
       (tx : Transmitting) (tails : List ℕ) (t : ℕ) (item : Item) (o : Operation) → is_msg item ≡ true → item.head ≡ o.head → o.head.op ≡ tx.ops → (o.head.ack ≡ Match → Never) → o.dest ≡ t → o.place ≡ length (accepted_for tx t) → t < length tx.accepted
-      → ((i : ℕ) (r : Item) → i < slice_index tails t → slice_get (v.ready t) i ≡ Some r → r.head.kind ≡ Reply → r.head.op < tx.ops) → Owing v tx tails → Owing v (accepting t item o tx) tails
+      → ((i : ℕ) (r : Item) → i < slice_index tails t → slice_get (v.ready t) i ≡ Some r → r.head.kind ≡ Reply → r.head.op < tx.ops) → Owing v tx tails
+      → Owing v (accepting t item o tx) tails
   unfolding accepting
   owing_accepts tx tails t item o msg head op ack dest place within before owing = record {
     known = each_append (Known v (accepting t item o tx) tails) tx.live (o ∷ []) (each_so (Known v tx tails) (Known v (accepting t item o tx) tails) tx.live (λ x k. ((k.0.0, get_longer tx.accepted t x.dest x.place item k.0.0 k.0.1, k.0.2), omega (arith, k.1), k.2, k.3, k.4)) owing.known)
@@ -144,12 +151,15 @@ module _ (v : View Item) where
       last (y ∷ xs) x = last xs x
 
       here : slice_get (get_or (set tx.accepted t (accepted_for tx t ++ item ∷ [])) o.dest []) o.place ≡ Some item
-      here = ap₂ (λ q i. slice_get (get_or (set tx.accepted t (accepted_for tx t ++ item ∷ [])) q []) i) dest place ∙ ap (λ (xs : List Item). slice_get xs (length (accepted_for tx t))) (get_or-set_same tx.accepted t (accepted_for tx t ++ item ∷ []) [] within) ∙ last (accepted_for tx t) item
+      here = ap₂ (λ q i. slice_get (get_or (set tx.accepted t (accepted_for tx t ++ item ∷ [])) q []) i) dest place
+          ∙ ap (λ (xs : List Item). slice_get xs (length (accepted_for tx t))) (get_or-set_same tx.accepted t (accepted_for tx t ++ item ∷ []) [] within)
+          ∙ last (accepted_for tx t) item
 
       clash : (q i j : ℕ) (x y : Item) → slice_get (accepted_for tx q) i ≡ Some x → is_msg x ≡ true → y ≡ item → x.head.op ≡ y.head.op → i ≡ j
       clash q i j x y a m is same = absurd (omega (arith, (owing.below q i x a m).0, same, ap (λ (z : Item). z.head.op) is, ap (λ (h : ItemHead). h.op) head, op))
 
-      go : (q i j : ℕ) (x y : Item) → is_msg x ≡ true → is_msg y ≡ true → x.head.op ≡ y.head.op → Longer tx.accepted t q i item x → Longer tx.accepted t q j item y → i ≡ j
+      go : (q i j : ℕ) (x y : Item) → is_msg x ≡ true → is_msg y ≡ true → x.head.op ≡ y.head.op → Longer tx.accepted t q i item x → Longer tx.accepted t q j item y
+          → i ≡ j
       go q i j x y mx my same (inl a) (inl b) = owing.numbered q i j x y a b mx my same
       go q i j x y mx my same (inl a) (inr e) = clash q i j x y a mx e.2 same
       go q i j x y mx my same (inr e) (inl b) = sym (clash q j i y x b my e.2 (sym same))
@@ -182,7 +192,8 @@ module _ (v : View Item) where
       same_item : (q i : ℕ) (x : Item) → s ≡ q → i ≡ slice_index tails s → slice_get (v.ready q) i ≡ Some x → item ≡ x
       same_item q i x here at e = let f : Some item ≡ Some x = sym has ∙ ap₂ (λ n m. slice_get (v.ready n) m) here (sym at) ∙ e in cc
 
-      unknown : (o : Operation) → In o tx.live → Known v tx tails o → (n : ℕ) (r : Item) → n < slice_index (raise tails s) o.dest → slice_get (v.ready o.dest) n ≡ Some r → r.head.kind ≡ Reply → r.head.op ≡ o.head.op
+      unknown : (o : Operation) → In o tx.live → Known v tx tails o → (n : ℕ) (r : Item) → n < slice_index (raise tails s) o.dest → slice_get (v.ready o.dest) n ≡ Some r
+          → r.head.kind ≡ Reply → r.head.op ≡ o.head.op
           → ((slice_index (raise tails s) o.dest ≡ slice_index tails o.dest) ⊎ ((s ≡ o.dest) × (slice_index (raise tails s) o.dest ≡ slice_index tails s + 1))) → Never
       unknown o i k n r lt e kind same (inl still) = k.4 n r (omega (arith, lt, still)) e kind same
       unknown o i k n r lt e kind same (inr (here, now)) = elim (cases_eq n (slice_index tails s)) [
@@ -191,7 +202,8 @@ module _ (v : View Item) where
       ]
 
       reply : (q i : ℕ) (x : Item) → i < slice_index (raise tails s) q → slice_get (v.ready q) i ≡ Some x → is_msg x ≡ true → x.head.ack ≡ Delivery
-          → ((slice_index (raise tails s) q ≡ slice_index tails q) ⊎ ((s ≡ q) × (slice_index (raise tails s) q ≡ slice_index tails s + 1))) → (r : Item) × In r (accepted_for tx q) × (r.head.kind ≡ Reply) × (r.head.op ≡ x.head.op)
+          → ((slice_index (raise tails s) q ≡ slice_index tails q) ⊎ ((s ≡ q) × (slice_index (raise tails s) q ≡ slice_index tails s + 1)))
+          → (r : Item) × In r (accepted_for tx q) × (r.head.kind ≡ Reply) × (r.head.op ≡ x.head.op)
       reply q i x lt e m d (inl still) = owing.answered q i x (omega (arith, lt, still)) e m d
       reply q i x lt e m d (inr (here, now)) = elim (cases_eq i (slice_index tails s)) [
         | inl at ↦ (let is = same_item q i x here at e in let r = replied (ap is_msg is ∙ m) (ap (λ (y : Item). y.head.ack) is ∙ d) in (r.0, subst (λ n. In r.0 (accepted_for tx n)) here r.1, r.2, r.3 ∙ ap (λ (y : Item). y.head.op) is))

@@ -78,7 +78,8 @@ module _ (v : View Item) (s : State) (owing : OwingAt v s) where
       left : OwingAt v (with_tx (transmitting t s.tx) s)
       left = owing_removed v s.tx (transmitting t s.tx) s.rx.tails (is_of_item t (slice_index s.tx.sent t)) refl refl refl owing
 
-      go : (o : Option Operation) → OwingAt v (let u : State = elim o [ None ↦ with_tx (transmitting t s.tx) s | Some o ↦ end_with Done [] o (with_tx (transmitting t s.tx) s) ] in u)
+      go : (o : Option Operation)
+          → OwingAt v (let u : State = elim o [ None ↦ with_tx (transmitting t s.tx) s | Some o ↦ end_with Done [] o (with_tx (transmitting t s.tx) s) ] in u)
       go None = left
       go (Some o) = let e = end_same Done [] o (with_tx (transmitting t s.tx) s) in same_owing v (with_tx (transmitting t s.tx) s) (end_with Done [] o (with_tx (transmitting t s.tx) s)) e.0 (ap (λ (x : Receiving). x.tails) e.1) left
 
@@ -112,7 +113,8 @@ module _ (v : View Item) (s : State) (owing : OwingAt v s) where
             absurd (omega (arith, owing.single item.head.op, many_removed (numbered_by item.head.op) (is_answered_by s.tx source item.head) s.tx.live o f, ap one number, in_many (numbered_by item.head.op) _ x i again))) left)
 
     -- a message is whole, and its reply is booked where it asks for one
-    booked : source < length s.tx.accepted → (b : Bool) → (item.head.ack ≡ Delivery → b ≡ true) → is_msg item ≡ true → slice_index s.rx.tails source < v.sent source → (u : State) → u.tx ≡ s.tx → u.rx.tails ≡ raise s.rx.tails source → OwingAt v (book b source item.head u)
+    booked : source < length s.tx.accepted → (b : Bool) → (item.head.ack ≡ Delivery → b ≡ true) → is_msg item ≡ true → slice_index s.rx.tails source < v.sent source
+        → (u : State) → u.tx ≡ s.tx → u.rx.tails ≡ raise s.rx.tails source → OwingAt v (book b source item.head u)
     unfolding book reply made_whole
     booked within true late msg lt u tx tails =
         let r : Item = record { head = reply_head item.head.op Done 0; bytes = [] } in
@@ -153,7 +155,8 @@ module _ (v : View Item) (s : State) (owing : OwingAt v s) where
         go (Some Answer) g = never g
 
   -- a receive that is posted books no reply: no message asks for one then
-  pub post_owing : (posting : Posting) → ((a : Arrival) → In a s.rx.unexpected → takes (receive_of s posting).want a ≡ true → at_match a.head.ack ≡ false) → (receive_of s posting).least ≡ None → OwingAt v (post s posting)
+  pub post_owing : (posting : Posting) → ((a : Arrival) → In a s.rx.unexpected → takes (receive_of s posting).want a ≡ true → at_match a.head.ack ≡ false)
+      → (receive_of s posting).least ≡ None → OwingAt v (post s posting)
   unfolding post give fill book
   post_owing posting asks single = subst (λ o. OwingAt v (after o)) (sym taken_is) (go (find (takes (receive_of s posting).want) s.rx.unexpected) refl)
     where
@@ -195,7 +198,8 @@ asks_same Level.Delivery = refl
 asks_same Level.Match = refl
 
 ack_is : (kind : Kind) (level : Level) → is_message kind ≡ true → ack_of kind level ≡ level_asks level
-ack_is kind level e = ap (λ (b : Bool). elim b [ true ↦ elim level [ Level.Inject ↦ Nothing | Level.Transmit ↦ Nothing | Level.Delivery ↦ Delivery | Level.Match ↦ Match ] | false ↦ Nothing ]) e ∙ asks_same level
+ack_is kind level e = ap (λ (b : Bool). elim b [ true ↦ elim level [ Level.Inject ↦ Nothing | Level.Transmit ↦ Nothing | Level.Delivery ↦ Delivery | Level.Match ↦ Match ] | false ↦ Nothing ]) e
+    ∙ asks_same level
 
 not_match : (ack : Ack) → (ack ≡ Match → Never) → at_match ack ≡ false
 not_match Nothing no_match = refl

@@ -59,7 +59,8 @@ do_calls a (Wait ctx) c e = absurd (cc)
 do_calls a (Reach class n) c e = absurd (cc)
 do_calls a op c e = ap (λ (o : Option Call). elim o [ None ↦ None | Some d ↦ call_line a d ]) e
 
-result_calls : (bound : Bound) (all : List (List LineResult)) (p : ℕ) (op : LineOp) (c : Call) → call_of op ≡ Some c → result_of bound all p op ≡ elim (refusal bound.script.conf op) [ None ↦ Some LineResult.Done | Some fault ↦ Some (Refused fault) ]
+result_calls : (bound : Bound) (all : List (List LineResult)) (p : ℕ) (op : LineOp) (c : Call) → call_of op ≡ Some c
+    → result_of bound all p op ≡ elim (refusal bound.script.conf op) [ None ↦ Some LineResult.Done | Some fault ↦ Some (Refused fault) ]
 unfolding call_of
 result_calls bound all p (Wait None) c e = absurd (cc)
 result_calls bound all p (Wait (Some ctx)) c e = absurd (cc)
@@ -83,17 +84,20 @@ lasts Avail e = refl
 called_is : (a b : Actor) (r : LineResult) (s : State) → after_call a (r, s) ≡ Some b → (is_again r ≡ false) × (with_result r (with_state a s) ≡ b)
 called_is a b r s e = go (is_again r) refl e
   where
-    go : (again : Bool) → is_again r ≡ again → elim again [ true ↦ None | false ↦ Some (with_result r (with_state a s)) ] ≡ Some b → (is_again r ≡ false) × (with_result r (with_state a s) ≡ b)
+    go : (again : Bool) → is_again r ≡ again → elim again [ true ↦ None | false ↦ Some (with_result r (with_state a s)) ] ≡ Some b
+        → (is_again r ≡ false) × (with_result r (with_state a s) ≡ b)
     go true t e = absurd (cc)
     go false t e = (t, cc)
 
 -- ---- reading
 
-pub unread_is : (cq : Completions) (w : Written) → unread cq ≡ Some w → map (λ (x : Written). x.entry) (drop cq.taken_out cq.written) ≡ w.entry ∷ map (λ (x : Written). x.entry) (drop (cq.taken_out + 1) cq.written)
+pub unread_is : (cq : Completions) (w : Written) → unread cq ≡ Some w
+    → map (λ (x : Written). x.entry) (drop cq.taken_out cq.written) ≡ w.entry ∷ map (λ (x : Written). x.entry) (drop (cq.taken_out + 1) cq.written)
 unread_is cq w here = ap (map (λ (x : Written). x.entry)) (drop_at cq.written cq.taken_out w here)
 
 -- an entry that is read is kept
-pub pending_read : (kept : List Kept) (s : State) (new : Kept) (w : Written) → unread s.cq ≡ Some w → new.entry ≡ w.entry → pending_of (kept ++ new ∷ []) (reading s).cq ≡ pending_of kept s.cq
+pub pending_read : (kept : List Kept) (s : State) (new : Kept) (w : Written) → unread s.cq ≡ Some w → new.entry ≡ w.entry
+    → pending_of (kept ++ new ∷ []) (reading s).cq ≡ pending_of kept s.cq
 pending_read kept s new w here is =
     ap (λ (xs : List Taken). xs ++ map (λ (x : Written). x.entry) (drop (s.cq.taken_out + 1) s.cq.written)) (map-append (λ (x : Kept). x.entry) kept (new ∷ []))
     ∙ append_assoc (map (λ (x : Kept). x.entry) kept) (new.entry ∷ []) _
@@ -161,7 +165,8 @@ module _ (bound : Bound) (all : List (List LineResult)) (v : View Item) (p : ℕ
         go None e t = sym (refusal_is bound op c call) ∙ e
         go (Some f) e t = absurd (cc)
 
-    sends_is : (line : Line) (o : Order) (c : ℕ) → slice_get (lines_of bound p) (length a.results) ≡ Some line → Sends line.op o c → do_line a line.op ≡ Some b → DoIs bound all v p a b
+    sends_is : (line : Line) (o : Order) (c : ℕ) → slice_get (lines_of bound p) (length a.results) ≡ Some line → Sends line.op o c → do_line a line.op ≡ Some b
+        → DoIs bound all v p a b
     unfolding do_call transmit transmit_to
     sends_is line o c here is e = call_is line (Transmit o) (transmit_fault a.state o) (transmit a.state o) here is.call refl same is.no_wait
         (λ none accepted later grown own.
@@ -177,7 +182,8 @@ module _ (bound : Bound) (all : List (List LineResult)) (v : View Item) (p : ℕ
         within : (t : ℕ) → lookup a.state.av o.dest ≡ Some t → t < bound.script.conf.peers
         within t e = dest_below bound a.state o.dest t good.0 e
 
-    receives_is : (line : Line) (posting : Posting) (c : ℕ) → slice_get (lines_of bound p) (length a.results) ≡ Some line → Receives line.op posting c → do_line a line.op ≡ Some b → DoIs bound all v p a b
+    receives_is : (line : Line) (posting : Posting) (c : ℕ) → slice_get (lines_of bound p) (length a.results) ≡ Some line → Receives line.op posting c
+        → do_line a line.op ≡ Some b → DoIs bound all v p a b
     unfolding do_call
     receives_is line posting c here is e = call_is line (Post posting) (post_fault a.state posting) (post a.state posting) here is.call refl same is.no_wait
         (λ none accepted later grown own.
@@ -188,7 +194,8 @@ module _ (bound : Bound) (all : List (List LineResult)) (v : View Item) (p : ℕ
         same : fault_of ((do_call a.state (Post posting)).0) ≡ fault_of ((do_call (fresh bound.script.conf) (Post posting)).0)
         same = post_as_opening bound a.state good.0 posting
 
-    waits_is : (line : Line) (ctx : Option ℕ) → slice_get (lines_of bound p) (length a.results) ≡ Some line → line.op ≡ Wait ctx → do_line a line.op ≡ Some b → DoIs bound all v p a b
+    waits_is : (line : Line) (ctx : Option ℕ) → slice_get (lines_of bound p) (length a.results) ≡ Some line → line.op ≡ Wait ctx → do_line a line.op ≡ Some b
+        → DoIs bound all v p a b
     unfolding do_line wait_line
     waits_is line ctx here op e = go ctx op taken.0 taken.1 taken.2 (each_in (RightEntry bound all p) (pending_of a.kept a.state.cq) taken.0.entry good.1.pending (in_front taken.0.entry (map (λ (y : Kept). y.entry) a.kept) _ (in_map (λ (y : Kept). y.entry) a.kept _ (found_in (is_of_ctx ctx) a.kept taken.0 taken.1).0)))
       where
@@ -204,7 +211,8 @@ module _ (bound : Bound) (all : List (List LineResult)) (v : View Item) (p : ℕ
         of_ctx (Some d) None c e t = absurd (cc)
         of_ctx (Some d) (Some f) c e t = ap Some (eqb-true d f t) ∙ e
 
-        go : (o : Option ℕ) → line.op ≡ Wait o → (x : Kept) → find (is_of_ctx ctx) a.kept ≡ Some x → Some (with_result (Waited x) (record a { kept = remove_first (is_of_ctx ctx) a.kept })) ≡ Some b → RightEntry bound all p x.entry → DoIs bound all v p a b
+        go : (o : Option ℕ) → line.op ≡ Wait o → (x : Kept) → find (is_of_ctx ctx) a.kept ≡ Some x
+            → Some (with_result (Waited x) (record a { kept = remove_first (is_of_ctx ctx) a.kept })) ≡ Some b → RightEntry bound all p x.entry → DoIs bound all v p a b
         go o op' x found is (c, (ctx_is, come, part)) = (
           line,
           Waited x,
@@ -278,7 +286,8 @@ module _ (bound : Bound) (all : List (List LineResult)) (v : View Item) (p : ℕ
         level : slice_index a.state.rx.heads source ≡ slice_index a.state.rx.tails source
         level = eqb-true (slice_index a.state.rx.heads source) (slice_index a.state.rx.tails source) (and_parts (slice_index a.state.rx.heads source == slice_index a.state.rx.tails source) (not (draw_due a.state.rx)) t.0).0
 
-        go : (m : Bool) → is_msg item ≡ m → MessageOrReply item → PeerAt bound all v p (length a.results) (elim m [ true ↦ with_rx (heading_message source item.head a.state.rx) a.state | false ↦ with_rx (heading_other source item.head.kind a.state.rx) a.state ]) a.kept []
+        go : (m : Bool) → is_msg item ≡ m → MessageOrReply item
+            → PeerAt bound all v p (length a.results) (elim m [ true ↦ with_rx (heading_message source item.head a.state.rx) a.state | false ↦ with_rx (heading_other source item.head.kind a.state.rx) a.state ]) a.kept []
         go true msg kind = (same_setting bound a.state _ refl refl refl refl refl good.0, message_arrives bound all v p (length a.results) tells a.state.tx a.state.rx a.state.cq a.kept source item good.1 i.1 level msg)
         go false msg (inl tagged) = absurd (cc (msg, tagged))
         go false msg (inr reply) = (same_setting bound a.state _ refl refl refl refl refl good.0, reply_arrives bound all v p (length a.results) tells a.state.tx a.state.rx a.state.cq a.kept source item good.1 i.1 level msg reply)
@@ -343,7 +352,8 @@ module _ (bound : Bound) (all : List (List LineResult)) (v : View Item) (p : ℕ
         right = each_in (RightEntry bound all p) (pending_of a.kept a.state.cq) w.entry good.1.pending (in_back w.entry (map (λ (x : Kept). x.entry) a.kept) _ (subst (In w.entry) (sym (unread_is a.state.cq w i.1)) (inl refl)))
 
     -- the final cancels begin once all is calm
-    pub step_keeps : (x : Step) → ((source : ℕ) (item : Item) → In item (v.ready source) → MessageOrReply item) → fabric.step v a x ≡ Some b → DoIs bound all v p a b ⊎ (StaysInStep ⊎ (v.calm ≡ true))
+    pub step_keeps : (x : Step) → ((source : ℕ) (item : Item) → In item (v.ready source) → MessageOrReply item) → fabric.step v a x ≡ Some b
+        → DoIs bound all v p a b ⊎ (StaysInStep ⊎ (v.calm ≡ true))
     unfolding fabric step final_step
     step_keeps Do kinds e = inl (do_is e)
     step_keeps (Head source) kinds e = inr (inl (head_keeps source (kinds source) e))

@@ -40,7 +40,8 @@ use Rattle.fab_answer.proofs.peer.Live.{LiveItems, live_items_removed, live_item
 abbrev pub PeerAt : Bound → List (List LineResult) → View Item → ℕ → ℕ → State → List Kept → List ℕ → Type 0
 PeerAt bound all v p k s kept hand = Setting bound s × InStep bound all v p k s.tx s.rx s.cq kept hand
 
-pub same_setting : (bound : Bound) (s u : State) → u.caps ≡ s.caps → u.selective ≡ s.selective → u.av ≡ s.av → u.most_tx ≡ s.most_tx → u.most_rx ≡ s.most_rx → Setting bound s → Setting bound u
+pub same_setting : (bound : Bound) (s u : State) → u.caps ≡ s.caps → u.selective ≡ s.selective → u.av ≡ s.av → u.most_tx ≡ s.most_tx → u.most_rx ≡ s.most_rx
+    → Setting bound s → Setting bound u
 same_setting bound s u caps selective av tx rx setting = record { caps = caps ∙ setting.caps; plain = selective ∙ setting.plain; av = av ∙ setting.av; most_tx = tx ∙ setting.most_tx; most_rx = rx ∙ setting.most_rx }
 
 -- a message's success does not tell the bytes of its reply
@@ -64,14 +65,16 @@ done_expected o BadAccess len msg e = absurd (let f : not (is_message o.head.kin
 done_expected o BadRange len msg e = absurd (let f : not (is_message o.head.kind) ≡ true = (and_parts _ _ e).0 in cc (f, msg))
 
 module _ (bound : Bound) (all : List (List LineResult)) (v : View Item) (p k : ℕ) where
-  pub book_at : (b : Bool) (source : ℕ) (head : ItemHead) (s : State) (kept : List Kept) (hand : List ℕ) → PeerAt bound all v p k s kept hand → PeerAt bound all v p k (book b source head s) kept hand
+  pub book_at : (b : Bool) (source : ℕ) (head : ItemHead) (s : State) (kept : List Kept) (hand : List ℕ) → PeerAt bound all v p k s kept hand
+      → PeerAt bound all v p k (book b source head s) kept hand
   unfolding book reply
   book_at true source head s kept hand at = (same_setting bound s _ refl refl refl refl refl at.0, reply_joins bound all v p k s.tx s.rx s.cq kept hand source _ refl at.1)
   book_at false source head s kept hand at = at
 
   ended :
       (s : State) (after : Transmitting) (kept : List Kept) (test : Operation → Bool) (o : Operation) (bytes : List ℕ) → PeerAt bound all v p k s kept [] → find test s.tx.live ≡ Some o
-      → after.live ≡ remove_first test s.tx.live → after.accepted ≡ s.tx.accepted → after.ops ≡ s.tx.ops → LiveItems bound.script.conf.peers after → PeerAt bound all v p k (end_with Done bytes o (with_tx after s)) kept []
+      → after.live ≡ remove_first test s.tx.live → after.accepted ≡ s.tx.accepted → after.ops ≡ s.tx.ops → LiveItems bound.script.conf.peers after
+      → PeerAt bound all v p k (end_with Done bytes o (with_tx after s)) kept []
   unfolding end_with
   ended s after kept test o bytes at found live accepted ops live_items = rw silent (same_setting bound s _ refl refl refl refl refl at.0, entry_written bound all v p k after s.rx s.cq kept (Some o.call) is.0 _ right (live_taken bound all v p k s.tx after s.rx s.cq kept test o is.0 at.1 found is.1 live accepted ops live_items))
     where
@@ -84,22 +87,26 @@ module _ (bound : Bound) (all : List (List LineResult)) (v : View Item) (p k : �
       right : Right bound all p is.0 (Success (success_of o bytes))
       right = subst (λ e. Right bound all p is.0 (Success e)) (sym (success_same o bytes is.3)) is.4
 
-  pub sent_at : (s : State) (t : ℕ) (kept : List Kept) → slice_index s.tx.sent t < length (accepted_for s.tx t) → PeerAt bound all v p k s kept [] → PeerAt bound all v p k (do_sent s t) kept []
+  pub sent_at : (s : State) (t : ℕ) (kept : List Kept) → slice_index s.tx.sent t < length (accepted_for s.tx t) → PeerAt bound all v p k s kept []
+      → PeerAt bound all v p k (do_sent s t) kept []
   unfolding do_sent transmitting
   sent_at s t kept lt at = go (ending t s.tx) refl
     where
       live_items : LiveItems bound.script.conf.peers (transmitting t s.tx)
       live_items = live_items_sent bound.script.conf.peers s.tx t lt at.1.live_items
 
-      go : (o : Option Operation) → ending t s.tx ≡ o → PeerAt bound all v p k (elim o [ None ↦ with_tx (transmitting t s.tx) s | Some o ↦ end_with Done [] o (with_tx (transmitting t s.tx) s) ]) kept []
+      go : (o : Option Operation) → ending t s.tx ≡ o
+          → PeerAt bound all v p k (elim o [ None ↦ with_tx (transmitting t s.tx) s | Some o ↦ end_with Done [] o (with_tx (transmitting t s.tx) s) ]) kept []
       go None f = (same_setting bound s _ refl refl refl refl refl at.0, live_same bound all v p k s.tx (transmitting t s.tx) s.rx s.cq kept [] at.1 (not_removed (is_of_item t (slice_index s.tx.sent t)) s.tx.live f) refl refl live_items)
       go (Some o) f = ended s (transmitting t s.tx) kept (is_of_item t (slice_index s.tx.sent t)) o [] at f refl refl refl live_items
 
-  answered_by : (s : State) (source : ℕ) (head : ItemHead) (bytes : List ℕ) (kept : List Kept) → PeerAt bound all v p k s kept [] → PeerAt bound all v p k (do_answer s source head bytes) kept []
+  answered_by : (s : State) (source : ℕ) (head : ItemHead) (bytes : List ℕ) (kept : List Kept) → PeerAt bound all v p k s kept []
+      → PeerAt bound all v p k (do_answer s source head bytes) kept []
   unfolding do_answer answering
   answered_by s source head bytes kept at = go (find (is_answered_by s.tx source head) s.tx.live) refl
     where
-      go : (o : Option Operation) → find (is_answered_by s.tx source head) s.tx.live ≡ o → PeerAt bound all v p k (elim o [ None ↦ s | Some o ↦ end_with head.outcome bytes o (with_tx (answering source head s.tx) s) ]) kept []
+      go : (o : Option Operation) → find (is_answered_by s.tx source head) s.tx.live ≡ o
+          → PeerAt bound all v p k (elim o [ None ↦ s | Some o ↦ end_with head.outcome bytes o (with_tx (answering source head s.tx) s) ]) kept []
       go None f = at
       go (Some o) f =
           let i = found_in (is_answered_by s.tx source head) s.tx.live o f in
@@ -135,7 +142,9 @@ module _ (bound : Bound) (all : List (List LineResult)) (v : View Item) (p k : �
 
   module _ (tells : Tells bound all v p) (plain : Plain bound p) (source : ℕ) (item : Item) where
     -- the item that comes is whole
-    whole : (tx : Transmitting) (rx : Receiving) (cq : Completions) (kept : List Kept) (hand : List ℕ) (c : Option Coming) → InStep bound all v p k tx rx cq kept [] → slice_get (v.ready source) (slice_index rx.tails source) ≡ Some item → coming_from rx source ≡ c → is_keep c ≡ false → slice_index rx.heads source ≡ slice_index rx.tails source + 1
+    whole : (tx : Transmitting) (rx : Receiving) (cq : Completions) (kept : List Kept) (hand : List ℕ) (c : Option Coming) → InStep bound all v p k tx rx cq kept []
+        → slice_get (v.ready source) (slice_index rx.tails source) ≡ Some item → coming_from rx source ≡ c → is_keep c ≡ false
+        → slice_index rx.heads source ≡ slice_index rx.tails source + 1
         → ((d : ℕ) → many (λ x. x == d) hand ≡ one (into_is d c)) → InStep bound all v p k tx (made_whole source rx) cq kept hand
     unfolding made_whole
     whole tx rx cq kept hand c good has coming other begun_is counts =
@@ -150,8 +159,10 @@ module _ (bound : Bound) (all : List (List LineResult)) (v : View Item) (p k : �
     released_same : (r : Receive) (s : State) → r.least ≡ None → release r s ≡ s
     released_same r s single = rw single refl
 
-    right_entry : (rs : List Receive) (h t : ℕ) (c : Option Coming) (posted : List Receive) (unexpected : List Arrival) (r : Receive) (m : Message) → rs ≡ receives bound.script.conf source (done_lines bound all p) → (lane : Lane bound all v p source rs h t c posted unexpected)
-        → In (uncalled r, Some m) (partners (fits source) rs lane.arrived) → m.item ≡ plain_item item → r.least ≡ None → Right bound all p r.ctx (entry_of r 0 source item.head item.bytes)
+    right_entry : (rs : List Receive) (h t : ℕ) (c : Option Coming) (posted : List Receive) (unexpected : List Arrival) (r : Receive) (m : Message)
+        → rs ≡ receives bound.script.conf source (done_lines bound all p) → (lane : Lane bound all v p source rs h t c posted unexpected)
+        → In (uncalled r, Some m) (partners (fits source) rs lane.arrived) → m.item ≡ plain_item item → r.least ≡ None
+        → Right bound all p r.ctx (entry_of r 0 source item.head item.bytes)
     right_entry rs h t c posted unexpected r m rs_are lane i is single =
         let told = entry_told r source item.head item.bytes single in
         let come = entry_comes bound all p source lane.arrived lane.rest (uncalled r) m plain (subst (λ xs. In (uncalled r, Some m) (partners (fits source) xs lane.arrived)) rs_are i) lane.begun in
@@ -195,16 +206,19 @@ module _ (bound : Bound) (all : List (List LineResult)) (v : View Item) (p k : �
             other : (a.source == t) ≡ false
             other = let same : a.source ≡ source = eqb-true a.source source e in grind (arith, nat_tests, same, differ)
 
-            some : (o : Option (List ℕ)) → filter (comes_from t) (elim o [ None ↦ record a { bytes = Some bytes } | Some _ ↦ a ] ∷ map (completed source bytes) xs) ≡ filter (comes_from t) (a ∷ xs)
+            some : (o : Option (List ℕ))
+                → filter (comes_from t) (elim o [ None ↦ record a { bytes = Some bytes } | Some _ ↦ a ] ∷ map (completed source bytes) xs) ≡ filter (comes_from t) (a ∷ xs)
             some None = rw other ih
             some (Some x) = rw other ih
         go false e ih = rw (e, completed) (ap (λ ys. cond (a.source == t) (a ∷ ys) ys) ih)
 
-    completed_own : (bytes : List ℕ) (xs : List Arrival) → filter (comes_from source) (map (completed source bytes) xs) ≡ map (completed source bytes) (filter (comes_from source) xs)
+    completed_own : (bytes : List ℕ) (xs : List Arrival)
+        → filter (comes_from source) (map (completed source bytes) xs) ≡ map (completed source bytes) (filter (comes_from source) xs)
     completed_own bytes [] = refl
     completed_own bytes (a ∷ xs) = go (a.source == source) refl (completed_own bytes xs)
       where
-        go : (b : Bool) → (a.source == source) ≡ b → filter (comes_from source) (map (completed source bytes) xs) ≡ map (completed source bytes) (filter (comes_from source) xs)
+        go : (b : Bool) → (a.source == source) ≡ b
+            → filter (comes_from source) (map (completed source bytes) xs) ≡ map (completed source bytes) (filter (comes_from source) xs)
             → filter (comes_from source) (map (completed source bytes) (a ∷ xs)) ≡ map (completed source bytes) (filter (comes_from source) (a ∷ xs))
         go true e ih = step (completed source bytes a) refl
           where
@@ -215,11 +229,14 @@ module _ (bound : Bound) (all : List (List LineResult)) (v : View Item) (p k : �
                 some None = refl
                 some (Some x) = refl
 
-            step : (b : Arrival) → completed source bytes a ≡ b → filter (comes_from source) (b ∷ map (completed source bytes) xs) ≡ map (completed source bytes) (cond (a.source == source) (a ∷ filter (comes_from source) xs) (filter (comes_from source) xs))
-            step b is = let f : (b.source == source) ≡ true = ap (λ (x : Arrival). x.source == source) (sym is) ∙ ap (λ n. n == source) from ∙ e in rw (f, e) (ap₂ (λ (x : Arrival) (ys : List Arrival). x ∷ ys) (sym is) ih)
+            step : (b : Arrival) → completed source bytes a ≡ b
+                → filter (comes_from source) (b ∷ map (completed source bytes) xs) ≡ map (completed source bytes) (cond (a.source == source) (a ∷ filter (comes_from source) xs) (filter (comes_from source) xs))
+            step b is = let f : (b.source == source) ≡ true = ap (λ (x : Arrival). x.source == source) (sym is) ∙ ap (λ n. n == source) from
+                ∙ e in rw (f, e) (ap₂ (λ (x : Arrival) (ys : List Arrival). x ∷ ys) (sym is) ih)
         go false e ih = rw (e, completed) (rw e ih)
 
-    kept_at : (s : State) (kept : List Kept) → PeerAt bound all v p k s kept [] → slice_get (v.ready source) (slice_index s.rx.tails source) ≡ Some item → coming_from s.rx source ≡ Some Keep → slice_index s.rx.heads source ≡ slice_index s.rx.tails source + 1
+    kept_at : (s : State) (kept : List Kept) → PeerAt bound all v p k s kept [] → slice_get (v.ready source) (slice_index s.rx.tails source) ≡ Some item
+        → coming_from s.rx source ≡ Some Keep → slice_index s.rx.heads source ≡ slice_index s.rx.tails source + 1
         → PeerAt bound all v p k (tail_to (Some Keep) (with_rx (made_whole source s.rx) s) source item.head item.bytes) kept []
     unfolding tail_to keeping made_whole
     kept_at s kept at has coming begun_is = book_at (at_delivery item.head.ack) source item.head _ kept [] (
@@ -237,14 +254,17 @@ module _ (bound : Bound) (all : List (List LineResult)) (v : View Item) (p k : �
         after : Receiving
         after = (with_rx (keeping source item.bytes (made_whole source s.rx)) s).rx
 
-    pub tail_at : (s : State) (kept : List Kept) → PeerAt bound all v p k s kept [] → slice_get (v.ready source) (slice_index s.rx.tails source) ≡ Some item → slice_index s.rx.heads source ≡ slice_index s.rx.tails source + 1 → PeerAt bound all v p k (do_tail s source item.head item.bytes) kept []
+    pub tail_at : (s : State) (kept : List Kept) → PeerAt bound all v p k s kept [] → slice_get (v.ready source) (slice_index s.rx.tails source) ≡ Some item
+        → slice_index s.rx.heads source ≡ slice_index s.rx.tails source + 1 → PeerAt bound all v p k (do_tail s source item.head item.bytes) kept []
     unfolding do_tail tail_to
     tail_at s kept at has begun_is = go (coming_from s.rx source) refl
       where
-        bad : (c : Option Coming) → coming_from s.rx source ≡ c → ComesRight v source (slice_index s.rx.tails source) (partners (fits source) (receives bound.script.conf source (take k (lines_of bound p))) ((at.1.lanes source).arrived)) c
+        bad : (c : Option Coming) → coming_from s.rx source ≡ c
+            → ComesRight v source (slice_index s.rx.tails source) (partners (fits source) (receives bound.script.conf source (take k (lines_of bound p))) ((at.1.lanes source).arrived)) c
         bad c e = subst (ComesRight v source (slice_index s.rx.tails source) _) e ((at.1.lanes source).comes_right)
 
-        go : (c : Option Coming) → coming_from s.rx source ≡ c → PeerAt bound all v p k (tail_to c (with_rx (made_whole source s.rx) s) source item.head item.bytes) kept []
+        go : (c : Option Coming) → coming_from s.rx source ≡ c
+            → PeerAt bound all v p k (tail_to c (with_rx (made_whole source s.rx) s) source item.head item.bytes) kept []
         go None e = (same_setting bound s _ refl refl refl refl refl at.0, whole s.tx s.rx s.cq kept [] None at.1 has e refl begun_is (λ d. refl))
         go (Some (Into r place)) e = into_at r place s kept at has e begun_is
         go (Some Keep) e = kept_at s kept at has e begun_is

@@ -39,13 +39,12 @@ use Rattle.fab_answer.proofs.peers.Rest.{NothingLive, nothing_comes, posted_wait
 use Rattle.fab_answer.proofs.peers.Room.{room_to_post}
 use Rattle.fab_answer.proofs.peers.World.{World, done_at, settled_plain, told}
 
--- ---- lists
-
 -- ---- what a peer keeps
 
 -- no entry is unread
 pending_kept : (kept : List Kept) (cq : Completions) → cq.taken_out ≡ length cq.written → pending_of kept cq ≡ map (λ (k : Kept). k.entry) kept
-pending_kept kept cq read = ap (λ (ws : List Written). map (λ (k : Kept). k.entry) kept ++ map (λ (w : Written). w.entry) ws) (drop_all cq.taken_out cq.written (omega (arith, read))) ∙ append-nil (map (λ (k : Kept). k.entry) kept)
+pending_kept kept cq read = ap (λ (ws : List Written). map (λ (k : Kept). k.entry) kept ++ map (λ (w : Written). w.entry) ws) (drop_all cq.taken_out cq.written (omega (arith, read)))
+    ∙ append-nil (map (λ (k : Kept). k.entry) kept)
 
 module _ (bound : Bound) (settled : is_settled bound ≡ true) (states : List Actor) (rest : at_rest states ≡ true) (empty : all_done states ≡ true → nothing_posted states ≡ true) (p : ℕ) (a : Actor) (here : slice_get states p ≡ Some a) where
   none_posted : all_done states ≡ true → a.state.rx.posted ≡ []
@@ -56,7 +55,8 @@ module _ (bound : Bound) (settled : is_settled bound ≡ true) (states : List Ac
       go (r ∷ rs) e = absurd (cc)
 
   all_lines_done : all_done states ≡ true → a.lines ≡ lines_of bound p → done_lines bound (results_of states) p ≡ lines_of bound p
-  all_lines_done done lines = ap (λ n. take n (lines_of bound p)) (ap length (done_at states p a here)) ∙ take_all (length a.results) (lines_of bound p) (ended_at (lines_of bound p) (length a.results) (ap (λ (ls : List Line). slice_get ls (length a.results)) (sym lines) ∙ none_next a (all_at is_finished states p a done here)))
+  all_lines_done done lines = ap (λ n. take n (lines_of bound p)) (ap length (done_at states p a here))
+      ∙ take_all (length a.results) (lines_of bound p) (ended_at (lines_of bound p) (length a.results) (ap (λ (ls : List Line). slice_get ls (length a.results)) (sym lines) ∙ none_next a (all_at is_finished states p a done here)))
 
   -- with all lines done, an entry that comes or is the cancel's has its line done, and no receive is posted for it
   done_present : all_done states ≡ true → a.lines ≡ lines_of bound p → (fin : Bool) (c : ℕ) (e : Taken) → final_entry bound (results_of states) fin p c ≡ Some e
@@ -72,13 +72,15 @@ module _ (bound : Bound) (settled : is_settled bound ≡ true) (states : List Ac
   kept_count : (c : ℕ) → many (entry_is c) (pending_of a.kept a.state.cq) ≡ many (λ (k : Kept). entry_is c k.entry) a.kept
   kept_count c = ap (many (entry_is c)) (pending_kept a.kept a.state.cq read) ∙ many_map (λ (k : Kept). k.entry) (entry_is c) a.kept
 
-  right_kept : (fin : Bool) (plain : Plain bound p) (P : Taken → Type 0) → ((e : Taken) → P e → (c : ℕ) × (ctx_of e ≡ Some c) × (final_entry bound (results_of states) fin p c ≡ Some e))
+  right_kept : (fin : Bool) (plain : Plain bound p) (P : Taken → Type 0)
+      → ((e : Taken) → P e → (c : ℕ) × (ctx_of e ≡ Some c) × (final_entry bound (results_of states) fin p c ≡ Some e))
       → Each P (pending_of a.kept a.state.cq) → Each (λ (k : Kept). k.bytes ≡ None) a.kept → Each (RightKept bound (results_of states) fin p plain) a.kept
   right_kept fin plain P so pending bare = each_both (λ (k : Kept). k.bytes ≡ None) _ a.kept bare
       (each_so (λ (k : Kept). P k.entry) _ a.kept (λ k e. so k.entry e) (each_unmapped P (λ (k : Kept). k.entry) a.kept (subst (Each P) (pending_kept a.kept a.state.cq read) pending)))
 
   -- before the final cancels
-  world_leaves : (world : World bound states) → NothingLive states → (plain : Plain bound p) → Leaves bound (results_of states) (all_done states) p plain a.state.rx.posted a.kept
+  world_leaves : (world : World bound states) → NothingLive states → (plain : Plain bound p)
+      → Leaves bound (results_of states) (all_done states) p plain a.state.rx.posted a.kept
   world_leaves world live plain = record {
     entries = right_kept (all_done states) plain (RightEntry bound (results_of states) p) (λ e r. (r.0, r.1.0, comes_final bound (results_of states) (all_done states) p r.0 e r.1.1)) good.pending good.bare;
     tokens = λ c. omega (
@@ -147,9 +149,11 @@ module _ (bound : Bound) (schedule : List (List Step)) (settled : is_settled bou
   answer_told = ends bound (told states) reach.run end
 
   finished_told : list_all is_empty (told states).left ≡ all_done states
-  finished_told = list_all-map is_empty (λ (x : Actor). drop (length x.results) x.lines) states ∙ all_same (λ (x : Actor). is_empty (drop (length x.results) x.lines)) is_finished states (λ x. empty_dropped x.lines (length x.results))
+  finished_told = list_all-map is_empty (λ (x : Actor). drop (length x.results) x.lines) states
+      ∙ all_same (λ (x : Actor). is_empty (drop (length x.results) x.lines)) is_finished states (λ x. empty_dropped x.lines (length x.results))
 
-  left_at : (all_done states ≡ true → nothing_posted states ≡ true) → (p : ℕ) (a : Actor) → slice_get states p ≡ Some a → in_order a.kept ≡ left_entries bound (results_of states) (all_done states) p
+  left_at : (all_done states ≡ true → nothing_posted states ≡ true) → (p : ℕ) (a : Actor) → slice_get states p ≡ Some a
+      → in_order a.kept ≡ left_entries bound (results_of states) (all_done states) p
   left_at empty p a here = elim reach.holds [
     | inl w ↦ left_are bound (results_of states) (all_done states) p plain a.state.rx.posted a.kept (world_leaves bound settled states rest empty p a here w.0 (live_none w.0 w.1) plain)
     | inr e ↦ left_are bound (results_of states) true p plain a.state.rx.posted a.kept (ends_leaves bound settled states rest empty p a here e plain (ends_done e))
@@ -173,7 +177,8 @@ module _ (bound : Bound) (schedule : List (List Step)) (settled : is_settled bou
   none_number (Some line) = refl
 
   done_are : all_done states ≡ list_all is_none (answer bound).next
-  done_are = sym (list_all-map is_none next_of states ∙ all_same (λ (a : Actor). is_none (next_of a)) is_finished states (λ a. none_number (next_line a))) ∙ ap (list_all is_none) results_are.1
+  done_are = sym (list_all-map is_none next_of states ∙ all_same (λ (a : Actor). is_none (next_of a)) is_finished states (λ a. none_number (next_line a)))
+      ∙ ap (list_all is_none) results_are.1
 
 pub results_at_rest : ResultsAtRest
 results_at_rest bound schedule settled sizes lawful rest = results_are bound schedule settled sizes lawful rest

@@ -73,7 +73,8 @@ calm_finished states p a calm here =
     (none_next a both.0, not_true _ both.1)
 
 -- what the sender accepted for the receiver is whole there
-calm_whole : (states : List Actor) (p q : ℕ) (sender receiver : Actor) → Calm states → slice_get states p ≡ Some sender → slice_get states q ≡ Some receiver → slice_index receiver.state.rx.tails p ≡ length (accepted_for sender.state.tx q)
+calm_whole : (states : List Actor) (p q : ℕ) (sender receiver : Actor) → Calm states → slice_get states p ≡ Some sender → slice_get states q ≡ Some receiver
+    → slice_index receiver.state.rx.tails p ≡ length (accepted_for sender.state.tx q)
 unfolding is_calm
 calm_whole states p q sender receiver calm here there =
     let all = map facts states in
@@ -103,7 +104,8 @@ pub record Ended (bound : Bound) (all : List (List LineResult)) (p : ℕ) (a : A
   pub read : a.state.cq.taken_out ≤ length a.state.cq.written
   pub pending : Each (FinalEntry bound all p) (pending_of a.kept a.state.cq)
   pub bare : Each (λ (x : Kept). x.bytes ≡ None) a.kept
-  pub tokens : (c : ℕ) → many (receive_is c) a.state.rx.posted + many (entry_is c) (pending_of a.kept a.state.cq) + many (waits_for c) (done_lines bound all p) ≡ many (makes bound.script.conf c) (done_lines bound all p)
+  pub tokens : (c : ℕ)
+      → many (receive_is c) a.state.rx.posted + many (entry_is c) (pending_of a.kept a.state.cq) + many (waits_for c) (done_lines bound all p) ≡ many (makes bound.script.conf c) (done_lines bound all p)
 
 pub record AllEnded (bound : Bound) (states : List Actor) : Type 0 where
   pub calm : Calm states
@@ -200,7 +202,8 @@ module _ (bound : Bound) (states : List Actor) (p : ℕ) (a b : Actor) (x : Step
   unfolding fabric step
   ended_step = go x stands (step_is (seen fabric states p) a b x stands)
     where
-      go : (x : Step) → fabric.step (seen fabric states p) a x ≡ Some b → StepIs (seen fabric states p) a x b → StaysEnded bound (results_of states) p a b (ends.ended p a here)
+      go : (x : Step) → fabric.step (seen fabric states p) a x ≡ Some b → StepIs (seen fabric states p) a x b
+          → StaysEnded bound (results_of states) p a b (ends.ended p a here)
       go Do e (line, next, passes) = absurd (cc (next, (calm_finished states p a ends.calm here).0))
       go (Head source) e (item, has, level, passes) = never (nothing_ready source _ item (omega (arith, level)) has refl)
       go (Tail source) e (item, has, lt, passes) = never (nothing_ready source _ item (omega arith) has refl)
@@ -232,7 +235,8 @@ ended_turn bound states p a b x sound ends here stands = (
 
 -- ---- the peers are calm for the first time
 
-pub calm_ended : (bound : Bound) (states : List Actor) → is_settled bound ≡ true → World bound states → AllWhole states → NothingLive states → Calm states → AllEnded bound states
+pub calm_ended : (bound : Bound) (states : List Actor) → is_settled bound ≡ true → World bound states → AllWhole states → NothingLive states → Calm states
+    → AllEnded bound states
 calm_ended bound states settled world whole live calm = record { calm = calm; ended = of }
   where
     of : (p : ℕ) (a : Actor) → slice_get states p ≡ Some a → Ended bound (results_of states) p a

@@ -47,13 +47,15 @@ use Rattle.fab_answer.proofs.peers.World.{Finished, World, settled_plain, told}
 
 -- ---- a call that is not told to come again
 
-again_four : (a b c d : Bool) (x : Busy) (s u : State) → d ≡ false → is_again ((call_answer (first_fault ((a, NotSupported) ∷ (b, MsgSize) ∷ (c, Invalid) ∷ (d, Again x) ∷ [])) s u).0) ≡ false
+again_four : (a b c d : Bool) (x : Busy) (s u : State) → d ≡ false
+    → is_again ((call_answer (first_fault ((a, NotSupported) ∷ (b, MsgSize) ∷ (c, Invalid) ∷ (d, Again x) ∷ [])) s u).0) ≡ false
 again_four true b c d x s u e = refl
 again_four false true c d x s u e = refl
 again_four false false true d x s u e = refl
 again_four false false false d x s u e = rw e refl
 
-again_five : (a b c d e : Bool) (x y : Busy) (s u : State) → d ≡ false → (a ≡ false → b ≡ false → c ≡ false → e ≡ false) → is_again ((call_answer (first_fault ((a, NotSupported) ∷ (b, MsgSize) ∷ (c, Invalid) ∷ (d, Again x) ∷ (e, Again y) ∷ [])) s u).0) ≡ false
+again_five : (a b c d e : Bool) (x y : Busy) (s u : State) → d ≡ false → (a ≡ false → b ≡ false → c ≡ false → e ≡ false)
+    → is_again ((call_answer (first_fault ((a, NotSupported) ∷ (b, MsgSize) ∷ (c, Invalid) ∷ (d, Again x) ∷ (e, Again y) ∷ [])) s u).0) ≡ false
 again_five true b c d e x y s u f g = refl
 again_five false true c d e x y s u f g = refl
 again_five false false true d e x y s u f g = refl
@@ -76,7 +78,8 @@ give_cq : (r : Receive) (place : ℕ) (a : Arrival) (s : State) → LittleMore s
 unfolding give fill
 give_cq r place a s = go a.bytes
   where
-    go : (o : Option (List ℕ)) → (let u : State = elim o [ None ↦ with_rx (goes a.source (Into r place) s.rx) s | Some bytes ↦ book (at_match a.head.ack) a.source a.head (fill r place a.source a.head bytes s) ] in LittleMore s.cq u.cq)
+    go : (o : Option (List ℕ))
+        → (let u : State = elim o [ None ↦ with_rx (goes a.source (Into r place) s.rx) s | Some bytes ↦ book (at_match a.head.ack) a.source a.head (fill r place a.source a.head bytes s) ] in LittleMore s.cq u.cq)
     go None = (refl, refl, omega arith)
     go (Some bytes) = subst (LittleMore s.cq) (sym (book_cq (at_match a.head.ack) a.source a.head (fill r place a.source a.head bytes s))) (refl, refl, omega (arith, length-append s.cq.written (record { call = Some r.call; entry = entry_of r place a.source a.head bytes } ∷ [])))
 
@@ -118,7 +121,8 @@ pub rest_ends :
 unfolding do_call transmit_fault post_fault do_line wait_line do_next
 rest_ends bound states settled world rest tx cq sizes live room p = go (none_or_some (turn (answering bound) (told states) p))
   where
-    go : ((turn (answering bound) (told states) p ≡ None) ⊎ ((y : Moment (List LineResult) Line) × (turn (answering bound) (told states) p ≡ Some y))) → turn (answering bound) (told states) p ≡ None
+    go : ((turn (answering bound) (told states) p ≡ None) ⊎ ((y : Moment (List LineResult) Line) × (turn (answering bound) (told states) p ≡ Some y)))
+        → turn (answering bound) (told states) p ≡ None
     go (inl none) = none
     go (inr (y, some)) = actor (slice_get states p) refl
       where
@@ -139,7 +143,8 @@ rest_ends bound states settled world rest tx cq sizes live room p = go (none_or_
             plain = settled_plain bound p settled (omega (arith, slice_get_within states p a e, world.count))
 
             cut : drop (length a.results) a.lines ≡ is.0 ∷ is.1
-            cut = let f : Some (drop (length a.results) a.lines) ≡ Some (is.0 ∷ is.1) = sym (slice_get-map (λ (x : Actor). drop (length x.results) x.lines) states p ∙ ap (option_map (λ (x : Actor). drop (length x.results) x.lines)) e) ∙ is.3 in cc
+            cut = let f : Some (drop (length a.results) a.lines) ≡ Some (is.0 ∷ is.1) = sym (slice_get-map (λ (x : Actor). drop (length x.results) x.lines) states p ∙ ap (option_map (λ (x : Actor). drop (length x.results) x.lines)) e)
+                ∙ is.3 in cc
 
             next : next_line a ≡ Some is.0
             next = drop_get a.lines (length a.results) is.0 is.1 cut
@@ -174,7 +179,8 @@ rest_ends bound states settled world rest tx cq sizes live room p = go (none_or_
                         let f = map_is waited (comes bound (results_of states) p c) comes_next.0 (sym (ap (λ (b : Bool). elim b [ true ↦ None | false ↦ option_map waited (comes bound (results_of states) p c) ]) w) ∙ result) in
                         let kept = entry_read bound states world p a e (rest_whole states rest) plain c f.0 at.read (live p a e) w f.1 in (
                           with_result (Waited kept.0) (record a { kept = remove_first (is_of_ctx (Some c)) a.kept }),
-                          ap (do_line a) op ∙ ap (λ (o : Option Kept). elim o [ None ↦ None | Some k ↦ Some (with_result (Waited k) (record a { kept = remove_first (is_of_ctx (Some c)) a.kept })) ]) kept.1,
+                          ap (do_line a) op
+                              ∙ ap (λ (o : Option Kept). elim o [ None ↦ None | Some k ↦ Some (with_result (Waited k) (record a { kept = remove_first (is_of_ctx (Some c)) a.kept })) ]) kept.1,
                         )
 
             stands : (b : Actor) × (do_next a ≡ Some b)
@@ -185,7 +191,8 @@ rest_ends bound states settled world rest tx cq sizes live room p = go (none_or_
 pub finished_ends : (bound : Bound) (states : List Actor) → Finished states → AtEnd (turn (answering bound)) (told states)
 finished_ends bound states finished p = go (none_or_some (turn (answering bound) (told states) p))
   where
-    go : ((turn (answering bound) (told states) p ≡ None) ⊎ ((y : Moment (List LineResult) Line) × (turn (answering bound) (told states) p ≡ Some y))) → turn (answering bound) (told states) p ≡ None
+    go : ((turn (answering bound) (told states) p ≡ None) ⊎ ((y : Moment (List LineResult) Line) × (turn (answering bound) (told states) p ≡ Some y)))
+        → turn (answering bound) (told states) p ≡ None
     go (inl none) = none
     go (inr (y, some)) = actor (slice_get states p) refl
       where
@@ -193,7 +200,8 @@ finished_ends bound states finished p = go (none_or_some (turn (answering bound)
         is = turn_is (answering bound) (told states) y p some
 
         at : (o : Option Actor) → slice_get states p ≡ o → option_map (λ (x : Actor). drop (length x.results) x.lines) o ≡ Some (is.0 ∷ is.1)
-        at o e = ap (option_map (λ (x : Actor). drop (length x.results) x.lines)) (sym e) ∙ sym (slice_get-map (λ (x : Actor). drop (length x.results) x.lines) states p) ∙ is.3
+        at o e = ap (option_map (λ (x : Actor). drop (length x.results) x.lines)) (sym e) ∙ sym (slice_get-map (λ (x : Actor). drop (length x.results) x.lines) states p)
+            ∙ is.3
 
         actor : (o : Option Actor) → slice_get states p ≡ o → turn (answering bound) (told states) p ≡ None
         actor None e = absurd (let bad = at None e in cc)
@@ -211,11 +219,13 @@ sizes_last bound schedule lawful p a here =
 abbrev pub IsAnswer : Bound → List Actor → Type 0
 IsAnswer bound states = (results_of states ≡ (answer bound).results) × (map next_of states ≡ (answer bound).next)
 
-pub ends_in_answer : (bound : Bound) (schedule : List (List Step)) → is_settled bound ≡ true → Lawful bound schedule → AtEnd (turn (answering bound)) (told (last_states bound schedule)) → IsAnswer bound (last_states bound schedule)
+pub ends_in_answer : (bound : Bound) (schedule : List (List Step)) → is_settled bound ≡ true → Lawful bound schedule
+    → AtEnd (turn (answering bound)) (told (last_states bound schedule)) → IsAnswer bound (last_states bound schedule)
 ends_in_answer bound schedule settled lawful end = (
   ap (λ (m : Moment (List LineResult) Line). m.states) same,
   map_agree next_of (λ (a : Actor). next_number (drop (length a.results) a.lines)) (last_states bound schedule) (λ a. ap (option_map (λ (line : Line). line.number)) (sym (first_dropped a.lines (length a.results))))
-      ∙ sym (map-map (λ (a : Actor). drop (length a.results) a.lines) next_number (last_states bound schedule)) ∙ ap (λ (m : Moment (List LineResult) Line). map next_number m.left) same,
+      ∙ sym (map-map (λ (a : Actor). drop (length a.results) a.lines) next_number (last_states bound schedule))
+      ∙ ap (λ (m : Moment (List LineResult) Line). map next_number m.left) same,
 )
   where
     same : told (last_states bound schedule) ≡ answered bound

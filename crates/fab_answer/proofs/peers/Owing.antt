@@ -41,7 +41,8 @@ pub record Owings (states : List Actor) : Type 0 where
   pub owing : (p : ℕ) (a : Actor) → slice_get states p ≡ Some a → OwingAt (seen fabric states p) a.state
 
 module _ (bound : Bound) (states : List Actor) (world : World bound states) (owings : Owings states) (p : ℕ) where
-  sender_of : (source : ℕ) (x : Item) → In x ((seen fabric states p).ready source) → (sender : Actor) × (slice_get states source ≡ Some sender) × In x (accepted_for sender.state.tx p)
+  sender_of : (source : ℕ) (x : Item) → In x ((seen fabric states p).ready source)
+      → (sender : Actor) × (slice_get states source ≡ Some sender) × In x (accepted_for sender.state.tx p)
   sender_of source x i = go (slice_get states source) refl
     where
       go : (o : Option Actor) → slice_get states source ≡ o → (sender : Actor) × (slice_get states source ≡ Some sender) × In x (accepted_for sender.state.tx p)
@@ -75,7 +76,9 @@ owings_turn bound settled states p x b sound world owings a here stands = first 
     seen_enough : (q : ℕ) (c : Actor) → slice_get states q ≡ Some c → (s : ℕ) → slice_index c.state.rx.tails s ≤ length ((seen fabric states q).ready s)
     seen_enough q c before s = let lane = (world.in_step q c before).1.lanes s in omega (arith, lane.ahead, lane.within)
 
-    then : ((s : ℕ) → slice_index b.state.rx.tails s ≤ length ((seen fabric states p).ready s)) → OwingAt (seen fabric states p) b.state ⊎ (((x ≡ Draw) × (draw_step a ≡ Some b)) ⊎ ((seen fabric states p).calm ≡ true)) → Owings (set states p b) ⊎ ((seen fabric states p).calm ≡ true)
+    then : ((s : ℕ) → slice_index b.state.rx.tails s ≤ length ((seen fabric states p).ready s))
+        → OwingAt (seen fabric states p) b.state ⊎ (((x ≡ Draw) × (draw_step a ≡ Some b)) ⊎ ((seen fabric states p).calm ≡ true))
+        → Owings (set states p b) ⊎ ((seen fabric states p).calm ≡ true)
     then enough (inr (inr calm)) = inr calm
     then enough (inr (inl (d, e))) = never (no_draws a b (world.in_step p a here).1.singles e)
     then enough (inl now) = inl (record {

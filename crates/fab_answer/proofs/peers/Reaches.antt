@@ -114,7 +114,8 @@ fresh_lane bound all v p source = record {
   replying = λ e x at m. absurd (omega (arith, e));
 }
 
-fresh_in_step : (bound : Bound) (all : List (List LineResult)) (v : View Item) (p : ℕ) → done all p ≡ 0 → (let s = fresh bound.script.conf in InStep bound all v p 0 s.tx s.rx s.cq [] [])
+fresh_in_step : (bound : Bound) (all : List (List LineResult)) (v : View Item) (p : ℕ) → done all p ≡ 0
+    → (let s = fresh bound.script.conf in InStep bound all v p 0 s.tx s.rx s.cq [] [])
 fresh_in_step bound all v p own = record {
   own = own;
   ops = omega arith;
@@ -138,7 +139,8 @@ opening_world : (bound : Bound) → is_settled bound ≡ true → World bound (o
 unfolding opening
 opening_world bound settled = record {
   count = length-map (upto bound.script.conf.peers) (λ p. newly bound.script.conf (lines_of bound p)) ∙ length-upto bound.script.conf.peers;
-  lines = λ p a e. let i = mapped (λ q. newly bound.script.conf (lines_of bound q)) (upto bound.script.conf.peers) p a e in ap (λ (x : Actor). x.lines) i.2 ∙ ap (lines_of bound) (upto_at bound.script.conf.peers p i.0 i.1);
+  lines = λ p a e. let i = mapped (λ q. newly bound.script.conf (lines_of bound q)) (upto bound.script.conf.peers) p a e in ap (λ (x : Actor). x.lines) i.2
+      ∙ ap (lines_of bound) (upto_at bound.script.conf.peers p i.0 i.1);
   in_step = λ p a e.
       let i = mapped (λ q. newly bound.script.conf (lines_of bound q)) (upto bound.script.conf.peers) p a e in
       subst (λ (x : Actor). PeerAt bound (results_of (opening bound)) (seen fabric (opening bound) p) p (length x.results) x.state x.kept []) (sym i.2) (

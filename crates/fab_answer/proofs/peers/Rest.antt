@@ -54,13 +54,17 @@ pub record Rest (states : List Actor) (p : ℕ) (a : Actor) : Type 0 where
 
 agree_at : (p k i : ℕ) (a sender : Actor) (rest : List Actor) → agree_all p k a rest ≡ true → slice_get rest i ≡ Some sender → agree p (k + i) a sender ≡ true
 agree_at p k i a sender [] all e = absurd (cc)
-agree_at p k zero a sender (x ∷ rest) all e = let same : x ≡ sender = cc in ap₂ (λ n (y : Actor). agree p n a y) (let f : k + 0 ≡ k = omega arith in f) (sym same) ∙ (and_parts (agree p k a x) (agree_all p (k + 1) a rest) all).0
-agree_at p k (suc i) a sender (x ∷ rest) all e = ap (λ n. agree p n a sender) (let f : k + suc i ≡ k + 1 + i = omega arith in f) ∙ agree_at p (k + 1) i a sender rest (and_parts (agree p k a x) (agree_all p (k + 1) a rest) all).1 e
+agree_at p k zero a sender (x ∷ rest) all e = let same : x ≡ sender = cc in ap₂ (λ n (y : Actor). agree p n a y) (let f : k + 0 ≡ k = omega arith in f) (sym same)
+    ∙ (and_parts (agree p k a x) (agree_all p (k + 1) a rest) all).0
+agree_at p k (suc i) a sender (x ∷ rest) all e = ap (λ n. agree p n a sender) (let f : k + suc i ≡ k + 1 + i = omega arith in f)
+    ∙ agree_at p (k + 1) i a sender rest (and_parts (agree p k a x) (agree_all p (k + 1) a rest) all).1 e
 
 idle_at : (all : List Actor) (k i : ℕ) (a : Actor) (rest : List Actor) → all_idle all k rest ≡ true → slice_get rest i ≡ Some a → is_idle all (k + i) a ≡ true
 idle_at all k i a [] idle e = absurd (cc)
-idle_at all k zero a (x ∷ rest) idle e = let same : x ≡ a = cc in ap₂ (λ n (y : Actor). is_idle all n y) (let f : k + 0 ≡ k = omega arith in f) (sym same) ∙ (and_parts (is_idle all k x) (all_idle all (k + 1) rest) idle).0
-idle_at all k (suc i) a (x ∷ rest) idle e = ap (λ n. is_idle all n a) (let f : k + suc i ≡ k + 1 + i = omega arith in f) ∙ idle_at all (k + 1) i a rest (and_parts (is_idle all k x) (all_idle all (k + 1) rest) idle).1 e
+idle_at all k zero a (x ∷ rest) idle e = let same : x ≡ a = cc in ap₂ (λ n (y : Actor). is_idle all n y) (let f : k + 0 ≡ k = omega arith in f) (sym same)
+    ∙ (and_parts (is_idle all k x) (all_idle all (k + 1) rest) idle).0
+idle_at all k (suc i) a (x ∷ rest) idle e = ap (λ n. is_idle all n a) (let f : k + suc i ≡ k + 1 + i = omega arith in f)
+    ∙ idle_at all (k + 1) i a rest (and_parts (is_idle all k x) (all_idle all (k + 1) rest) idle).1 e
 
 cannot : (a : Actor) → can_do a ≡ false → do_next a ≡ None
 cannot a e = go (do_next a) refl e
@@ -113,13 +117,15 @@ module _ (bound : Bound) (states : List Actor) (world : World bound states) (p :
   good = (world.in_step p a here).1
 
   -- all that was accepted arrived, and is whole
-  level : (source : ℕ) → (slice_index a.state.rx.heads source ≡ slice_index a.state.rx.tails source) × (slice_index a.state.rx.heads source ≡ length ((seen fabric states p).ready source))
+  level : (source : ℕ)
+      → (slice_index a.state.rx.heads source ≡ slice_index a.state.rx.tails source) × (slice_index a.state.rx.heads source ≡ length ((seen fabric states p).ready source))
   level source = go (slice_get states source) refl
     where
       lane : LaneOf bound (results_of states) (seen fabric states p) p (length a.results) a.state.rx source
       lane = good.lanes source
 
-      go : (o : Option Actor) → slice_get states source ≡ o → (slice_index a.state.rx.heads source ≡ slice_index a.state.rx.tails source) × (slice_index a.state.rx.heads source ≡ length ((seen fabric states p).ready source))
+      go : (o : Option Actor) → slice_get states source ≡ o
+          → (slice_index a.state.rx.heads source ≡ slice_index a.state.rx.tails source) × (slice_index a.state.rx.heads source ≡ length ((seen fabric states p).ready source))
       go None e = let n : length ((seen fabric states p).ready source) ≡ 0 = ap length (ready_of bound states world p source None e) in (omega (arith, n, lane.within, lane.ahead), omega (arith, n, lane.within))
       go (Some sender) e =
           let n : length ((seen fabric states p).ready source) ≡ length (accepted_for sender.state.tx p) = ap length (ready_of bound states world p source (Some sender) e) in
@@ -136,7 +142,8 @@ module _ (bound : Bound) (states : List Actor) (world : World bound states) (p :
       none = no_more (good.lanes source).arrived (good.lanes source).rest ((good.lanes source).known ∙ ap sent_messages (take_all (slice_index a.state.rx.heads source) _ (omega (arith, (level source).1))) ∙ (tells bound states world p).messages_are source ∙ ap items_of (sym (good.lanes source).begun))
 
   -- a receive that is still posted took no message
-  posted_alone : (x : Receive) (source : ℕ) → In x a.state.rx.posted → x.want.source ≡ Some source → In (uncalled x, None) (partners (suits source) (receives bound.script.conf source (take (length a.results) (lines_of bound p))) (good.lanes source).arrived)
+  posted_alone : (x : Receive) (source : ℕ) → In x a.state.rx.posted → x.want.source ≡ Some source
+      → In (uncalled x, None) (partners (suits source) (receives bound.script.conf source (take (length a.results) (lines_of bound p))) (good.lanes source).arrived)
   posted_alone x source i names = in_waiting (suits source) (uncalled x) _ (subst (In (uncalled x)) (good.lanes source).posted_are (in_map uncalled (filter (is_from source) a.state.rx.posted) x (in_filter (is_from source) a.state.rx.posted x i from)))
     where
       from : is_from source x ≡ true
@@ -162,7 +169,8 @@ module _ (bound : Bound) (states : List Actor) (world : World bound states) (p :
       made = and_from _ _ post.0 (rw (post.1) (let t : (x.ctx == x.ctx) ≡ true = grind (arith, nat_tests) in t))
 
       found : find (makes bound.script.conf x.ctx) (done_lines bound (results_of states) p) ≡ Some line.0
-      found = ap (λ n. find (makes bound.script.conf x.ctx) (take n (lines_of bound p))) good.own ∙ only_found (makes bound.script.conf x.ctx) (take (length a.results) (lines_of bound p)) line.0 line.1 made (makes_once bound.script.conf (lines_of bound p) x.ctx (length a.results) plain.distinct)
+      found = ap (λ n. find (makes bound.script.conf x.ctx) (take n (lines_of bound p))) good.own
+          ∙ only_found (makes bound.script.conf x.ctx) (take (length a.results) (lines_of bound p)) line.0 line.1 made (makes_once bound.script.conf (lines_of bound p) x.ctx (length a.results) plain.distinct)
 
   -- a receive that is still posted has no partner among the lines done, so its entry does not come
   pub posted_waits : (c : ℕ) (e : Taken) → comes bound (results_of states) p c ≡ Some e → many (receive_is c) a.state.rx.posted ≡ 0
@@ -202,11 +210,13 @@ module _ (bound : Bound) (states : List Actor) (world : World bound states) (p :
           found_small = only_found _ _ (uncalled x, None) in_small t few
 
           more_receives : receives bound.script.conf source (take (length a.results) (lines_of bound p)) ++ receives bound.script.conf source (drop (length a.results) (lines_of bound p)) ≡ receives bound.script.conf source (lines_of bound p)
-          more_receives = sym (filter_map-append (receive_from bound.script.conf source) (take (length a.results) (lines_of bound p)) (drop (length a.results) (lines_of bound p))) ∙ ap (receives bound.script.conf source) (take-append-drop (length a.results) (lines_of bound p))
+          more_receives = sym (filter_map-append (receive_from bound.script.conf source) (take (length a.results) (lines_of bound p)) (drop (length a.results) (lines_of bound p)))
+              ∙ ap (receives bound.script.conf source) (take-append-drop (length a.results) (lines_of bound p))
 
           more_messages : lane.arrived ++ messages bound.script.conf p (0 + length (done_lines bound (results_of states) source)) (drop (done (results_of states) source) (lines_of bound source)) ≡ messages bound.script.conf p 0 (lines_of bound source)
           more_messages = ap (λ xs. xs ++ messages bound.script.conf p (0 + length (done_lines bound (results_of states) source)) (drop (done (results_of states) source) (lines_of bound source))) (arrived_all source)
-              ∙ sym (messages_more bound.script.conf p 0 (done_lines bound (results_of states) source) (drop (done (results_of states) source) (lines_of bound source))) ∙ ap (messages bound.script.conf p 0) (take-append-drop (done (results_of states) source) (lines_of bound source))
+              ∙ sym (messages_more bound.script.conf p 0 (done_lines bound (results_of states) source) (drop (done (results_of states) source) (lines_of bound source)))
+              ∙ ap (messages bound.script.conf p 0) (take-append-drop (done (results_of states) source) (lines_of bound source))
 
           are_new : All (λ (m : Message). done (results_of states) source ≤ m.at) (messages bound.script.conf p (0 + length (done_lines bound (results_of states) source)) (drop (done (results_of states) source) (lines_of bound source)))
           are_new = elim (cases_lt (length (lines_of bound source)) (done (results_of states) source)) [
@@ -231,9 +241,11 @@ module _ (bound : Bound) (states : List Actor) (world : World bound states) (p :
           same_ctx_is = eqb-true x.ctx c t
 
           comes_is : comes bound (results_of states) p c ≡ received_after (results_of states) source (uncalled x) (partner bound p source c)
-          comes_is = ap (option_and_then (λ (l : Line). entry_after bound (results_of states) p l.op)) (ap (λ d. find (makes bound.script.conf d) (done_lines bound (results_of states) p)) (sym same_ctx_is) ∙ line.1) ∙ entry_of_receive bound (results_of states) p source c line.0.op (uncalled x) line.3 line.2 of.2.1 same_ctx_is
+          comes_is = ap (option_and_then (λ (l : Line). entry_after bound (results_of states) p l.op)) (ap (λ d. find (makes bound.script.conf d) (done_lines bound (results_of states) p)) (sym same_ctx_is) ∙ line.1)
+              ∙ entry_of_receive bound (results_of states) p source c line.0.op (uncalled x) line.3 line.2 of.2.1 same_ctx_is
 
-          go : (y : Receive × Option Message) × (find (λ (pair : Receive × Option Message). pair.0.ctx == c) (pairs bound p source) ≡ Some y) × Became (λ (m : Message). done (results_of states) source ≤ m.at) (uncalled x, None) y → Never
+          go : (y : Receive × Option Message) × (find (λ (pair : Receive × Option Message). pair.0.ctx == c) (pairs bound p source) ≡ Some y) × Became (λ (m : Message). done (results_of states) source ≤ m.at) (uncalled x, None) y
+              → Never
           go (y, f, (same, inl none)) =
               let no : partner bound p source c ≡ None = ap (option_and_then (λ (pair : Receive × Option Message). pair.1)) f ∙ none in
               absurd (let bad : None ≡ Some e = sym (comes_is ∙ ap (received_after (results_of states) source (uncalled x)) no) ∙ come in cc)
@@ -248,7 +260,8 @@ module _ (bound : Bound) (states : List Actor) (world : World bound states) (p :
       go (suc n) is = never (clash (some_in (receive_is c) a.state.rx.posted (omega (arith, is))))
 
   -- an entry that comes and was not waited for was read
-  pub entry_read : (c : ℕ) (e : Taken) → a.state.cq.taken_out ≡ length a.state.cq.written → a.state.tx.live ≡ [] → is_waited bound (results_of states) p c ≡ false → comes bound (results_of states) p c ≡ Some e → (x : Kept) × (find (is_of_ctx (Some c)) a.kept ≡ Some x)
+  pub entry_read : (c : ℕ) (e : Taken) → a.state.cq.taken_out ≡ length a.state.cq.written → a.state.tx.live ≡ [] → is_waited bound (results_of states) p c ≡ false
+      → comes bound (results_of states) p c ≡ Some e → (x : Kept) × (find (is_of_ctx (Some c)) a.kept ≡ Some x)
   entry_read c e read live waits come =
       let line = and_then_is (λ (l : Line). entry_after bound (results_of states) p l.op) (find (makes bound.script.conf c) (done_lines bound (results_of states) p)) e come in
       let found = found_in (makes bound.script.conf c) (done_lines bound (results_of states) p) line.0 line.1 in

@@ -61,7 +61,8 @@ abbrev awaited_of : Conf → List ℕ → List Line → List ℕ
 awaited_of conf awaited [] = awaited
 awaited_of conf awaited (line ∷ lines) = awaited_of conf (awaited_after conf line.op awaited) lines
 
-room_at : (conf : Conf) (awaited : List ℕ) (lines : List Line) (k : ℕ) (line : Line) → have_room conf awaited lines ≡ true → slice_get lines k ≡ Some line → length (awaited_after conf line.op (awaited_of conf awaited (take k lines))) ≤ conf.info.rx
+room_at : (conf : Conf) (awaited : List ℕ) (lines : List Line) (k : ℕ) (line : Line) → have_room conf awaited lines ≡ true → slice_get lines k ≡ Some line
+    → length (awaited_after conf line.op (awaited_of conf awaited (take k lines))) ≤ conf.info.rx
 room_at conf awaited [] k line room e = absurd (cc)
 room_at conf awaited (x ∷ lines) zero line room e =
     let same : x ≡ line = cc in
@@ -69,10 +70,13 @@ room_at conf awaited (x ∷ lines) zero line room e =
 room_at conf awaited (x ∷ lines) (suc k) line room e = room_at conf (awaited_after conf x.op awaited) lines k line (and_parts (nat_le (length (awaited_after conf x.op awaited)) conf.info.rx) (have_room conf (awaited_after conf x.op awaited) lines) room).1 e
 
 -- an accepted receive is awaited after its line
-awaits_own : (conf : Conf) (op : LineOp) (r : Receive) (awaited : List ℕ) → is_plain op ≡ true → receive_at conf op ≡ Some r → awaited_after conf op awaited ≡ r.ctx ∷ awaited
+awaits_own : (conf : Conf) (op : LineOp) (r : Receive) (awaited : List ℕ) → is_plain op ≡ true → receive_at conf op ≡ Some r
+    → awaited_after conf op awaited ≡ r.ctx ∷ awaited
 unfolding call_of
-awaits_own conf (Recv ctx source len) r awaited plain e = let p = posts conf (Recv ctx source len) r plain e in let same : ctx ≡ r.ctx = (let f : Some ctx ≡ Some r.ctx = p.1 in cc) in ap (λ (b : Bool). elim b [ true ↦ ctx ∷ awaited | false ↦ awaited ]) p.0 ∙ ap (λ c. c ∷ awaited) same
-awaits_own conf (TRecv ctx source tag ignore len) r awaited plain e = let p = posts conf (TRecv ctx source tag ignore len) r plain e in let same : ctx ≡ r.ctx = (let f : Some ctx ≡ Some r.ctx = p.1 in cc) in ap (λ (b : Bool). elim b [ true ↦ ctx ∷ awaited | false ↦ awaited ]) p.0 ∙ ap (λ c. c ∷ awaited) same
+awaits_own conf (Recv ctx source len) r awaited plain e = let p = posts conf (Recv ctx source len) r plain e in let same : ctx ≡ r.ctx = (let f : Some ctx ≡ Some r.ctx = p.1 in cc) in ap (λ (b : Bool). elim b [ true ↦ ctx ∷ awaited | false ↦ awaited ]) p.0
+    ∙ ap (λ c. c ∷ awaited) same
+awaits_own conf (TRecv ctx source tag ignore len) r awaited plain e = let p = posts conf (TRecv ctx source tag ignore len) r plain e in let same : ctx ≡ r.ctx = (let f : Some ctx ≡ Some r.ctx = p.1 in cc) in ap (λ (b : Bool). elim b [ true ↦ ctx ∷ awaited | false ↦ awaited ]) p.0
+    ∙ ap (λ c. c ∷ awaited) same
 awaits_own conf (Send ctx dest bytes imm level completion) r awaited plain e = let p = posts conf (Send ctx dest bytes imm level completion) r plain e in absurd (cc (p.2))
 awaits_own conf (TSend ctx dest tag bytes imm level completion) r awaited plain e = let p = posts conf (TSend ctx dest tag bytes imm level completion) r plain e in absurd (cc (p.2))
 awaits_own conf (Wait ctx) r awaited plain e = let p = posts conf (Wait ctx) r plain e in absurd (cc (p.1))
@@ -83,7 +87,8 @@ chosen c d awaited true le = omega (arith, le)
 chosen c d awaited false le = le
 
 -- and stays so until it is waited for
-stays_awaited : (conf : Conf) (op : LineOp) (c : ℕ) (awaited : List ℕ) → waits_op c op ≡ false → 1 ≤ many (λ x. x == c) awaited → 1 ≤ many (λ x. x == c) (awaited_after conf op awaited)
+stays_awaited : (conf : Conf) (op : LineOp) (c : ℕ) (awaited : List ℕ) → waits_op c op ≡ false → 1 ≤ many (λ x. x == c) awaited
+    → 1 ≤ many (λ x. x == c) (awaited_after conf op awaited)
 stays_awaited conf (Recv ctx source len) c awaited other_op le = chosen c ctx awaited (is_accepted conf (Recv ctx source len)) le
 stays_awaited conf (TRecv ctx source tag ignore len) c awaited other_op le = chosen c ctx awaited (is_accepted conf (TRecv ctx source tag ignore len)) le
 stays_awaited conf (Wait None) c awaited other_op le = le
@@ -104,11 +109,13 @@ no_waits c line lines e = (go (waits_for c line) refl, omega (arith, e))
     go true t = absurd (omega (arith, e, ap one t))
     go false t = t
 
-still_awaited : (conf : Conf) (c : ℕ) (lines : List Line) (awaited : List ℕ) → many (waits_for c) lines ≡ 0 → 1 ≤ many (λ x. x == c) awaited → 1 ≤ many (λ x. x == c) (awaited_of conf awaited lines)
+still_awaited : (conf : Conf) (c : ℕ) (lines : List Line) (awaited : List ℕ) → many (waits_for c) lines ≡ 0 → 1 ≤ many (λ x. x == c) awaited
+    → 1 ≤ many (λ x. x == c) (awaited_of conf awaited lines)
 still_awaited conf c [] awaited none le = le
 still_awaited conf c (line ∷ lines) awaited none le = let n = no_waits c line lines none in still_awaited conf c lines (awaited_after conf line.op awaited) n.1 (stays_awaited conf line.op c awaited n.0 le)
 
-awaited_in : (conf : Conf) (lines : List Line) (awaited : List ℕ) (line : Line) (r : Receive) → In line lines → is_plain line.op ≡ true → receive_at conf line.op ≡ Some r → many (waits_for r.ctx) lines ≡ 0 → 1 ≤ many (λ x. x == r.ctx) (awaited_of conf awaited lines)
+awaited_in : (conf : Conf) (lines : List Line) (awaited : List ℕ) (line : Line) (r : Receive) → In line lines → is_plain line.op ≡ true → receive_at conf line.op ≡ Some r
+    → many (waits_for r.ctx) lines ≡ 0 → 1 ≤ many (λ x. x == r.ctx) (awaited_of conf awaited lines)
 awaited_in conf [] awaited line r i plain e none = never i
 awaited_in conf (x ∷ lines) awaited line r (inl same) plain e none =
     let n = no_waits r.ctx x lines none in
@@ -155,13 +162,15 @@ room_to_post bound states settled world p a line here next posting c is accepted
         receive_is : receive_at bound.script.conf line.op ≡ Some (receive_of (fresh bound.script.conf) posting)
         receive_is = if_accepts bound.script.conf line.op _ accepted ∙ ap (option_map (receive_of (fresh bound.script.conf))) posting_is
 
-    posted_awaited : (d : ℕ) → many (λ x. x == d) (map (λ (r : Receive). r.ctx) a.state.rx.posted) ≤ many (λ x. x == d) (awaited_of bound.script.conf [] (take (length a.results) (lines_of bound p)))
+    posted_awaited : (d : ℕ)
+        → many (λ x. x == d) (map (λ (r : Receive). r.ctx) a.state.rx.posted) ≤ many (λ x. x == d) (awaited_of bound.script.conf [] (take (length a.results) (lines_of bound p)))
     posted_awaited d = go_many (many (receive_is d) a.state.rx.posted) refl
       where
         once : many (receive_is d) a.state.rx.posted + many (waits_for d) (take (length a.results) (lines_of bound p)) ≤ 1
         once = omega (arith, good.tokens d, makes_once bound.script.conf (lines_of bound p) d (length a.results) plain.distinct)
 
-        held : (x : Receive) × In x a.state.rx.posted × (receive_is d x ≡ true) → many (waits_for d) (take (length a.results) (lines_of bound p)) ≡ 0 → 1 ≤ many (λ x. x == d) (awaited_of bound.script.conf [] (take (length a.results) (lines_of bound p)))
+        held : (x : Receive) × In x a.state.rx.posted × (receive_is d x ≡ true) → many (waits_for d) (take (length a.results) (lines_of bound p)) ≡ 0
+            → 1 ≤ many (λ x. x == d) (awaited_of bound.script.conf [] (take (length a.results) (lines_of bound p)))
         held (x, i, t) none = subst (λ n. 1 ≤ many (λ y. y == n) (awaited_of bound.script.conf [] (take (length a.results) (lines_of bound p)))) (eqb-true x.ctx d t)
             (awaited_in bound.script.conf (take (length a.results) (lines_of bound p)) [] of.0 (uncalled x) of.1 (plain.lines of.0 (in_taken of.0 (lines_of bound p) (length a.results) of.1)) of.2 (subst (λ n. many (waits_for n) (take (length a.results) (lines_of bound p)) ≡ 0) (sym (eqb-true x.ctx d t)) none))
           where
@@ -180,7 +189,8 @@ room_to_post bound states settled world p a line here next posting c is accepted
             of : (l : Line) × In l (take (length a.results) (lines_of bound p)) × (receive_at bound.script.conf l.op ≡ Some (uncalled x)) × (is_from single.2.0 (uncalled x) ≡ true)
             of = receive_line bound.script.conf single.2.0 (take (length a.results) (lines_of bound p)) (uncalled x) in_receives
 
-        go_many : (n : ℕ) → many (receive_is d) a.state.rx.posted ≡ n → many (λ x. x == d) (map (λ (r : Receive). r.ctx) a.state.rx.posted) ≤ many (λ x. x == d) (awaited_of bound.script.conf [] (take (length a.results) (lines_of bound p)))
+        go_many : (n : ℕ) → many (receive_is d) a.state.rx.posted ≡ n
+            → many (λ x. x == d) (map (λ (r : Receive). r.ctx) a.state.rx.posted) ≤ many (λ x. x == d) (awaited_of bound.script.conf [] (take (length a.results) (lines_of bound p)))
         go_many zero e = omega (arith, e, many_map (λ (r : Receive). r.ctx) (λ x. x == d) a.state.rx.posted)
         go_many (suc n) e = omega (arith, e, many_map (λ (r : Receive). r.ctx) (λ x. x == d) a.state.rx.posted, once, held (some_in (receive_is d) a.state.rx.posted (omega (arith, e))) (omega (arith, e, once)))
 

@@ -98,7 +98,8 @@ none_at (a ∷ states) zero e = absurd (cc)
 none_at (a ∷ states) (suc p) e = none_at states p e
 
 module _ (bound : Bound) (states : List Actor) (world : World bound states) (p : ℕ) where
-  pub ready_of : (source : ℕ) (o : Option Actor) → slice_get states source ≡ o → (seen fabric states p).ready source ≡ elim o [ None ↦ [] | Some a ↦ accepted_for a.state.tx p ]
+  pub ready_of : (source : ℕ) (o : Option Actor) → slice_get states source ≡ o
+      → (seen fabric states p).ready source ≡ elim o [ None ↦ [] | Some a ↦ accepted_for a.state.tx p ]
   unfolding fabric
   ready_of source None e = rw e refl
   ready_of source (Some a) e = rw e refl
@@ -109,11 +110,15 @@ module _ (bound : Bound) (states : List Actor) (world : World bound states) (p :
     peer = λ source k item has. below source k item (slice_get states source) refl has;
   }
     where
-      messages_of : (source : ℕ) (o : Option Actor) → slice_get states source ≡ o → sent_messages ((seen fabric states p).ready source) ≡ items_of (messages bound.script.conf p 0 (done_lines bound (results_of states) source))
-      messages_of source None e = ap sent_messages (ready_of source None e) ∙ ap (λ n. items_of (messages bound.script.conf p 0 (take n (lines_of bound source)))) (sym (ap length (none_at states source e)))
-      messages_of source (Some a) e = ap sent_messages (ready_of source (Some a) e) ∙ (world.in_step source a e).1.sends p ∙ ap (λ n. items_of (messages bound.script.conf p 0 (take n (lines_of bound source)))) (sym ((world.in_step source a e).1.own))
+      messages_of : (source : ℕ) (o : Option Actor) → slice_get states source ≡ o
+          → sent_messages ((seen fabric states p).ready source) ≡ items_of (messages bound.script.conf p 0 (done_lines bound (results_of states) source))
+      messages_of source None e = ap sent_messages (ready_of source None e)
+          ∙ ap (λ n. items_of (messages bound.script.conf p 0 (take n (lines_of bound source)))) (sym (ap length (none_at states source e)))
+      messages_of source (Some a) e = ap sent_messages (ready_of source (Some a) e) ∙ (world.in_step source a e).1.sends p
+          ∙ ap (λ n. items_of (messages bound.script.conf p 0 (take n (lines_of bound source)))) (sym ((world.in_step source a e).1.own))
 
-      below : (source k : ℕ) (item : Item) (o : Option Actor) → slice_get states source ≡ o → slice_get ((seen fabric states p).ready source) k ≡ Some item → source < bound.script.conf.peers
+      below : (source k : ℕ) (item : Item) (o : Option Actor) → slice_get states source ≡ o → slice_get ((seen fabric states p).ready source) k ≡ Some item
+          → source < bound.script.conf.peers
       below source k item None e has = absurd (let f : slice_get [] k ≡ Some item = ap (λ (xs : List Item). slice_get xs k) (sym (ready_of source None e)) ∙ has in cc)
       below source k item (Some a) e has = omega (arith, slice_get_within states source a e, world.count)
 
@@ -129,7 +134,8 @@ unfolding fabric
 sent_seen states p source a here = rw here refl
 
 -- where a peer's results and lines stay, so does what the states tell
-pub told_same : (states : List Actor) (p : ℕ) (a b : Actor) → slice_get states p ≡ Some a → b.results ≡ a.results → b.lines ≡ a.lines → told (set states p b) ≡ told states
+pub told_same : (states : List Actor) (p : ℕ) (a b : Actor) → slice_get states p ≡ Some a → b.results ≡ a.results → b.lines ≡ a.lines
+    → told (set states p b) ≡ told states
 told_same states p a b here results lines = ap₂ (λ (xs : List (List LineResult)) (ys : List (List Line)). let m : Moment (List LineResult) Line = record { states = xs; left = ys } in m)
     (map-set_same (λ (y : Actor). y.results) states p a b here results)
     (map-set_same (λ (y : Actor). drop (length y.results) y.lines) states p a b here (ap₂ (λ (xs : List LineResult) (ys : List Line). drop (length xs) ys) results lines))
@@ -158,7 +164,8 @@ module _ (bound : Bound) (settled : is_settled bound ≡ true) where
       | inr differ ↦ omega (arith, ap length (ap (λ (xs : List (List LineResult)). get_or xs q []) results_after ∙ get_or-set_other (results_of states) p q b.results [] (λ e. differ (sym e))))
     ]
 
-    others : length a.results ≤ length b.results → b.lines ≡ a.lines → PeerAt bound (results_of (set states p b)) (seen fabric (set states p b) p) p (length b.results) b.state b.kept [] → World bound (set states p b)
+    others : length a.results ≤ length b.results → b.lines ≡ a.lines
+        → PeerAt bound (results_of (set states p b)) (seen fabric (set states p b) p) p (length b.results) b.state b.kept [] → World bound (set states p b)
     others le same_lines at = record {
       count = length-set states p b ∙ world.count;
       lines = λ q c e. elim (cases_eq p q) [
@@ -185,7 +192,8 @@ module _ (bound : Bound) (settled : is_settled bound ≡ true) where
     pub plain : Plain bound p
     plain = settled_plain bound p settled (omega (arith, within, world.count))
 
-    pub stays : b.results ≡ a.results → b.lines ≡ a.lines → PeerAt bound (results_of states) (seen fabric states p) p (length a.results) b.state b.kept [] → World bound (set states p b)
+    pub stays : b.results ≡ a.results → b.lines ≡ a.lines → PeerAt bound (results_of states) (seen fabric states p) p (length a.results) b.state b.kept []
+        → World bound (set states p b)
     stays results lines at = others (omega (arith, ap length results)) lines (
       at.0,
       subst (λ n. InStep bound (results_of (set states p b)) (seen fabric (set states p b) p) p n b.state.tx b.state.rx b.state.cq b.kept []) (sym (ap length results))
@@ -215,10 +223,13 @@ module _ (bound : Bound) (settled : is_settled bound ≡ true) where
         next = drop_at a.lines (length a.results) line (ap (λ (ys : List Line). slice_get ys (length a.results)) own_lines ∙ at)
 
         left : slice_get (told states).left p ≡ Some (line ∷ drop (length a.results + 1) a.lines)
-        left = slice_get-map (λ (y : Actor). drop (length y.results) y.lines) states p ∙ ap (option_map (λ (y : Actor). drop (length y.results) y.lines)) here ∙ ap Some next
+        left = slice_get-map (λ (y : Actor). drop (length y.results) y.lines) states p ∙ ap (option_map (λ (y : Actor). drop (length y.results) y.lines)) here
+            ∙ ap Some next
 
         stood : answering bound (results_of states) p line ≡ Some b.results
-        stood = ap (option_map (λ outcome. get_or (results_of states) p [] ++ outcome ∷ [])) result ∙ ap Some (ap (λ (ys : List LineResult). ys ++ x ∷ []) (done_at states p a here) ∙ sym results)
+        stood = ap (option_map (λ outcome. get_or (results_of states) p [] ++ outcome ∷ [])) result
+            ∙ ap Some (ap (λ (ys : List LineResult). ys ++ x ∷ []) (done_at states p a here) ∙ sym results)
 
         left_after : (told (set states p b)).left ≡ set (told states).left p (drop (length a.results + 1) a.lines)
-        left_after = map-set (λ (y : Actor). drop (length y.results) y.lines) states p b ∙ ap (set (told states).left p) (ap₂ (λ n (ys : List Line). drop n ys) (omega (arith, ap length results, length-append a.results (x ∷ []))) lines)
+        left_after = map-set (λ (y : Actor). drop (length y.results) y.lines) states p b
+            ∙ ap (set (told states).left p) (ap₂ (λ n (ys : List Line). drop n ys) (omega (arith, ap length results, length-append a.results (x ∷ []))) lines)
