@@ -132,9 +132,14 @@ module _ (bound : Bound) (all : List (List LineResult)) (finished : Bool) (p : �
         accepted false a is = absurd (cc)
 
     left_is : (c : ℕ) (line : Line) → In line (lines_of bound p) → makes bound.script.conf c line ≡ true → left_entry bound all finished p line ≡ unwaited c
-    left_is c line i made = ap (λ (b : Bool). option_map as_kept (elim b [ true ↦ option_and_then (left_of bound all finished p line.op) (own_ctx line.op) | false ↦ None ])) ((and_parts (is_accepted bound.script.conf line.op) _ made).0)
+    left_is c line i made = ap (λ (b : Bool). option_map as_kept (elim b [ true ↦ option_and_then (left_of bound all finished p line.op) (own_ctx line.op) | false ↦ None ]))
+        ((and_parts (is_accepted bound.script.conf line.op) _ made).0)
         ∙ ap (λ (o : Option ℕ). option_map as_kept (option_and_then (left_of bound all finished p line.op) o)) (made_by c line made) ∙ go (is_waited bound all p c)
-        ∙ ap (λ (o : Option Line). elim (is_waited bound all p c) [ true ↦ None | false ↦ option_map as_kept (option_and_then (λ (l : Line). option_or (comes bound all p c) (cancels finished bound.script.conf l.op)) o) ]) (sym found)
+        ∙ ap (λ (o : Option Line). elim (is_waited bound all p c) [
+          | true ↦ None
+          | false ↦ option_map as_kept
+              (option_and_then (λ (l : Line). option_or (comes bound all p c) (cancels finished bound.script.conf l.op)) o)
+        ]) (sym found)
       where
         found : find (makes bound.script.conf c) (lines_of bound p) ≡ Some line
         found = only_found (makes bound.script.conf c) (lines_of bound p) line i made (makes_few bound.script.conf (lines_of bound p) c plain.distinct)
@@ -166,7 +171,8 @@ module _ (bound : Bound) (all : List (List LineResult)) (finished : Bool) (p : �
         few : many (numbered c) answers ≤ 1
         few = omega (
           arith,
-          many_filter_map (left_entry bound all finished p) (numbered c) (makes bound.script.conf c) (lines_of bound p) (λ line k i is t. subst (λ d. makes bound.script.conf d line ≡ true) (eqb-true (ctx_number k) c t) (left_of_line line k i is).1),
+          many_filter_map (left_entry bound all finished p) (numbered c) (makes bound.script.conf c) (lines_of bound p)
+              (λ line k i is t. subst (λ d. makes bound.script.conf d line ≡ true) (eqb-true (ctx_number k) c t) (left_of_line line k i is).1),
           makes_few bound.script.conf (lines_of bound p) c plain.distinct,
         )
 

@@ -49,8 +49,16 @@ entry_more bound all later p op e grown is = go (order_of op) (receive_at bound.
     with_source r (Some source) is = received_more all later source r (partner bound p source r.ctx) e grown is
 
     go : (o : Option Order) (r : Option Receive)
-        → elim o [ Some order ↦ Some (sent_entry bound.script.conf order) | None ↦ option_and_then (λ (r : Receive). option_and_then (λ source. received_after all source r (partner bound p source r.ctx)) r.want.source) r ] ≡ Some e
-        → elim o [ Some order ↦ Some (sent_entry bound.script.conf order) | None ↦ option_and_then (λ (r : Receive). option_and_then (λ source. received_after later source r (partner bound p source r.ctx)) r.want.source) r ] ≡ Some e
+        → elim o [
+          | Some order ↦ Some (sent_entry bound.script.conf order)
+          | None ↦ option_and_then
+              (λ (r : Receive). option_and_then (λ source. received_after all source r (partner bound p source r.ctx)) r.want.source) r
+        ] ≡ Some e
+        → elim o [
+          | Some order ↦ Some (sent_entry bound.script.conf order)
+          | None ↦ option_and_then
+              (λ (r : Receive). option_and_then (λ source. received_after later source r (partner bound p source r.ctx)) r.want.source) r
+        ] ≡ Some e
     go (Some order) r is = is
     go None None is = absurd (cc)
     go None (Some r) is = with_source r r.want.source is

@@ -54,11 +54,14 @@ if_accepts conf op x e = ap (λ (b : Bool). elim b [ true ↦ x | false ↦ None
 
 -- the lane of the source, with these receives posted
 abbrev pub LaneFor : Bound → List (List LineResult) → View Item → ℕ → List Receive → Receiving → ℕ → Type 0
-LaneFor bound all v p rs rx source = Lane bound all v p source rs (slice_index rx.heads source) (slice_index rx.tails source) (coming_from rx source) (filter (is_from source) rx.posted) (filter (comes_from source) rx.unexpected)
+LaneFor bound all v p rs rx source = Lane bound all v p source rs (slice_index rx.heads source) (slice_index rx.tails source) (coming_from rx source) (filter (is_from source) rx.posted)
+    (filter (comes_from source) rx.unexpected)
 
 -- a source that is named is the message's
 pub directed_takes : (r : Receive) (a : Arrival) (source : ℕ) → r.want.source ≡ Some source → takes r.want a ≡ true → source ≡ a.source
-directed_takes r a source names t = eqb-true source a.source (subst (λ o. source_fits o a.source ≡ true) names (third (is_message a.head.kind) (beq r.want.tagged (is_tagged a.head.kind)) (source_fits r.want.source a.source) (not r.want.tagged || tag_fits r.want a.head.tag) t))
+directed_takes r a source names t = eqb-true source a.source
+    (subst (λ o. source_fits o a.source ≡ true) names
+    (third (is_message a.head.kind) (beq r.want.tagged (is_tagged a.head.kind)) (source_fits r.want.source a.source) (not r.want.tagged || tag_fits r.want a.head.tag) t))
   where
     third : (a b c d : Bool) → (a && b && c && d) ≡ true → c ≡ true
     third a b c d e = (and_parts (a && b) c (and_parts (a && b && c) d e).0).1
@@ -80,7 +83,8 @@ success_told conf s o t c ctx msg = go o.kind refl msg
     go AtomicReq e m = absurd (cc)
     go Reply e m = absurd (cc)
 
-module _ (bound : Bound) (all later : List (List LineResult)) (v : View Item) (p k : ℕ) (line : Line) (at : slice_get (lines_of bound p) k ≡ Some line) (grown : Grown all later) (own : done later p ≡ k + 1) (plain : Plain bound p) where
+module _ (bound : Bound) (all later : List (List LineResult)) (v : View Item) (p k : ℕ) (line : Line) (at : slice_get (lines_of bound p) k ≡ Some line) (grown : Grown all later)
+    (own : done later p ≡ k + 1) (plain : Plain bound p) where
   lines_next : take (k + 1) (lines_of bound p) ≡ take k (lines_of bound p) ++ line ∷ []
   lines_next = take_one (lines_of bound p) k line at
 
@@ -165,7 +169,8 @@ module _ (bound : Bound) (all later : List (List LineResult)) (v : View Item) (p
   -- ---- a wait
 
   pub wait_keeps :
-      (tx : Transmitting) (rx : Receiving) (cq : Completions) (kept : List Kept) (ctx : Option ℕ) (x : Kept) (c : ℕ) → InStep bound all v p k tx rx cq kept [] → line.op ≡ Wait ctx → ctx ≡ Some c → find (is_of_ctx ctx) kept ≡ Some x → ctx_of x.entry ≡ Some c
+      (tx : Transmitting) (rx : Receiving) (cq : Completions) (kept : List Kept) (ctx : Option ℕ) (x : Kept) (c : ℕ) → InStep bound all v p k tx rx cq kept [] → line.op ≡ Wait ctx
+      → ctx ≡ Some c → find (is_of_ctx ctx) kept ≡ Some x → ctx_of x.entry ≡ Some c
       → InStep bound later v p (k + 1) tx rx cq (remove_first (is_of_ctx ctx) kept) []
   unfolding call_of
   wait_keeps tx rx cq kept ctx x c good is named found of = quiet tx rx cq kept (remove_first (is_of_ctx ctx) kept) good (λ t n. rw is refl) (rw is refl)
@@ -199,14 +204,16 @@ module _ (bound : Bound) (all later : List (List LineResult)) (v : View Item) (p
 
   found_line : (c : ℕ) → makes bound.script.conf c line ≡ true → find (makes bound.script.conf c) (done_lines bound later p) ≡ Some line
   found_line c made = ap (λ n. find (makes bound.script.conf c) (take n (lines_of bound p))) own
-      ∙ only_found (makes bound.script.conf c) (take (k + 1) (lines_of bound p)) line (subst (In line) (sym lines_next) (in_back line (take k (lines_of bound p)) (line ∷ []) (inl refl))) made (makes_once bound.script.conf (lines_of bound p) c (k + 1) plain.distinct)
+      ∙ only_found (makes bound.script.conf c) (take (k + 1) (lines_of bound p)) line
+      (subst (In line) (sym lines_next) (in_back line (take k (lines_of bound p)) (line ∷ []) (inl refl))) made (makes_once bound.script.conf (lines_of bound p) c (k + 1) plain.distinct)
 
   pub makes_is : (c d : ℕ) → is_accepted bound.script.conf line.op ≡ true → own_ctx line.op ≡ Some c → makes bound.script.conf d line ≡ (c == d)
   makes_is c d accepted owns = ap (λ b. b && elim (own_ctx line.op) [ Some e ↦ e == d | None ↦ false ]) accepted
       ∙ ap (λ (o : Option ℕ). elim o [ Some e ↦ e == d | None ↦ false ]) owns
 
   pub send_keeps :
-      (s : State) (kept : List Kept) (o : Order) (c t : ℕ) → Setting bound s → InStep bound all v p k s.tx s.rx s.cq kept [] → Sends line.op o c → is_accepted bound.script.conf line.op ≡ true → lookup s.av o.dest ≡ Some t → t ≡ o.dest → t < bound.script.conf.peers
+      (s : State) (kept : List Kept) (o : Order) (c t : ℕ) → Setting bound s → InStep bound all v p k s.tx s.rx s.cq kept [] → Sends line.op o c
+      → is_accepted bound.script.conf line.op ≡ true → lookup s.av o.dest ≡ Some t → t ≡ o.dest → t < bound.script.conf.peers
       → InStep bound later v p (k + 1) (accepting t (item_of s.tx.ops o) (operation_of s o t) s.tx) s.rx s.cq kept []
   unfolding accepting
   send_keeps s kept o c t setting good is accepted there same within = record {
@@ -218,10 +225,12 @@ module _ (bound : Bound) (all later : List (List LineResult)) (v : View Item) (p
     tails_count = good.tails_count;
     sends = λ q. elim (cases_eq t q) [
       | inl here ↦ subst (λ q. sent_messages (get_or (set s.tx.accepted t (accepted_for s.tx t ++ item ∷ [])) q []) ≡ items_of (messages bound.script.conf q 0 (take (k + 1) (lines_of bound p)))) here
-          (ap sent_messages (get_or-set_same s.tx.accepted t _ [] (omega (arith, within, good.accepted_count))) ∙ sent-append (accepted_for s.tx t) (item ∷ []) ∙ ap₂ (λ (xs ys : List Item). xs ++ ys) (good.sends t) one_message
+          (ap sent_messages (get_or-set_same s.tx.accepted t _ [] (omega (arith, within, good.accepted_count))) ∙ sent-append (accepted_for s.tx t) (item ∷ []) ∙ ap₂
+          (λ (xs ys : List Item). xs ++ ys) (good.sends t) one_message
           ∙ sym (map-append (λ (m : Message). m.item) (messages bound.script.conf t 0 (take k (lines_of bound p))) (message ∷ []))
           ∙ ap (λ (ms : List Message). items_of (messages bound.script.conf t 0 (take k (lines_of bound p)) ++ ms)) (sym sent_here) ∙ ap items_of (sym (messages_next t)))
-      | inr differ ↦ ap sent_messages (get_or-set_other s.tx.accepted t q _ [] (λ e. differ (sym e))) ∙ good.sends q ∙ sym (append-nil _) ∙ sym (map-append (λ (m : Message). m.item) (messages bound.script.conf q 0 (take k (lines_of bound p))) [])
+      | inr differ ↦ ap sent_messages (get_or-set_other s.tx.accepted t q _ [] (λ e. differ (sym e))) ∙ good.sends q ∙ sym (append-nil _) ∙ sym
+          (map-append (λ (m : Message). m.item) (messages bound.script.conf q 0 (take k (lines_of bound p))) [])
           ∙ ap (λ (ms : List Message). items_of (messages bound.script.conf q 0 (take k (lines_of bound p)) ++ ms)) (sym (sent_there q differ))
           ∙ ap items_of (sym (messages_next q))
     ];
@@ -236,7 +245,17 @@ module _ (bound : Bound) (all later : List (List LineResult)) (v : View Item) (p
     pending = pending_later (pending_of kept s.cq) good.pending;
     bare = good.bare;
     live_items = live_items_accept bound.script.conf.peers s.tx t item operation refl refl within (omega (arith, within, good.accepted_count)) good.live_items;
-    tokens = λ d. omega (arith, good.tokens d, many_append (op_is d) s.tx.live (operation ∷ []), ap (λ x. one (has_ctx d x)) is.ctx, count_next (waits_for d), count_next (makes bound.script.conf d), ap one (is.no_wait d), ap one (makes_is c d accepted is.own));
+    tokens = λ d. omega (
+      arith,
+      good.tokens d,
+      many_append (op_is d) s.tx.live (operation ∷ []),
+      ap (λ x. one (has_ctx d x)) is.ctx,
+      count_next (waits_for d),
+      count_next
+          (makes bound.script.conf d),
+      ap one (is.no_wait d),
+      ap one (makes_is c d accepted is.own),
+    );
   }
     where
       item : Item

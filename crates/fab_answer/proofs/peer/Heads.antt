@@ -38,14 +38,16 @@ unfolding entry_of received truncated
 entry_told r source head bytes single = go (has_space r 0 head)
   where
     go : (b : Bool)
-        → (ctx_of (elim b [ true ↦ received r 0 source head bytes | false ↦ truncated r (length r.buf - 0) 0 source head bytes ]) ≡ Some r.ctx) × (part_of (elim b [ true ↦ received r 0 source head bytes | false ↦ truncated r (length r.buf - 0) 0 source head bytes ]) ≡ None)
+        → (ctx_of (elim b [ true ↦ received r 0 source head bytes | false ↦ truncated r (length r.buf - 0) 0 source head bytes ]) ≡ Some r.ctx) ×
+        (part_of (elim b [ true ↦ received r 0 source head bytes | false ↦ truncated r (length r.buf - 0) 0 source head bytes ]) ≡ None)
     go true = rw single (refl, refl)
     go false = rw single (refl, refl)
 
 module _ (bound : Bound) (all : List (List LineResult)) (v : View Item) (p k : ℕ) where
   -- another state of what is received
   pub receiving :
-      (tx : Transmitting) (rx after : Receiving) (cq : Completions) (kept : List Kept) (hand now : List ℕ) → InStep bound all v p k tx rx cq kept hand → length after.coming ≡ length rx.coming → length after.heads ≡ length rx.heads → length after.tails ≡ length rx.tails
+      (tx : Transmitting) (rx after : Receiving) (cq : Completions) (kept : List Kept) (hand now : List ℕ) → InStep bound all v p k tx rx cq kept hand
+      → length after.coming ≡ length rx.coming → length after.heads ≡ length rx.heads → length after.tails ≡ length rx.tails
       → Each Single after.posted → ((source : ℕ) → LaneOf bound all v p k after source)
       → ((c : ℕ) → many (receive_is c) after.posted + many (into_is c) after.coming + many (λ x. x == c) now ≡ many (receive_is c) rx.posted + many (into_is c) rx.coming + many (λ x. x == c) hand)
       → InStep bound all v p k tx after cq kept now
@@ -82,7 +84,8 @@ module _ (bound : Bound) (all : List (List LineResult)) (v : View Item) (p k : �
   coming_other xs source t x differ = get_or-set_other xs source t x None (λ e. differ (sym e))
 
   directed : (r : Receive) (source : ℕ) (head : ItemHead) → Single r → is_wanted source head r ≡ true → r.want.source ≡ Some source
-  directed r source head (least, used, (s, is)) wanted = go r.want.source is refl (third (is_message head.kind) (beq r.want.tagged (is_tagged head.kind)) (source_fits r.want.source source) (not r.want.tagged || tag_fits r.want head.tag) wanted)
+  directed r source head (least, used, (s, is)) wanted = go r.want.source is refl
+      (third (is_message head.kind) (beq r.want.tagged (is_tagged head.kind)) (source_fits r.want.source source) (not r.want.tagged || tag_fits r.want head.tag) wanted)
     where
       third : (a b c d : Bool) → (a && b && c && d) ≡ true → c ≡ true
       third a b c d e = (and_parts (a && b) c (and_parts (a && b && c) d e).0).1
@@ -99,7 +102,8 @@ module _ (bound : Bound) (all : List (List LineResult)) (v : View Item) (p k : �
         (rx after : Receiving) (source h : ℕ) (posted : List Receive) (c : Option Coming) (unexpected : List Arrival) → ((t : ℕ) → LaneOf bound all v p k rx t) → source < length rx.heads → source < length rx.coming
         → after.heads ≡ raise rx.heads source → after.tails ≡ rx.tails → after.coming ≡ set rx.coming source c → after.posted ≡ posted → after.unexpected ≡ unexpected
         → ((t : ℕ) → source ≢ t → (filter (is_from t) posted ≡ filter (is_from t) rx.posted) × (filter (comes_from t) unexpected ≡ filter (comes_from t) rx.unexpected))
-        → Lane bound all v p source (receives bound.script.conf source (take k (lines_of bound p))) (slice_index rx.heads source + 1) (slice_index rx.tails source) c (filter (is_from source) posted) (filter (comes_from source) unexpected)
+        → Lane bound all v p source (receives bound.script.conf source (take k (lines_of bound p))) (slice_index rx.heads source + 1) (slice_index rx.tails source) c
+        (filter (is_from source) posted) (filter (comes_from source) unexpected)
         → (t : ℕ) → LaneOf bound all v p k after t
     head_lane rx after source h posted c unexpected lanes in_heads in_coming heads tails coming is_posted is_unexpected others lane t = elim (cases_eq source t) [
       | inl same ↦ subst (LaneOf bound all v p k after) same (lane_same source _ _ _ _ _ _ _ _ _ _ _
@@ -107,7 +111,8 @@ module _ (bound : Bound) (all : List (List LineResult)) (v : View Item) (p k : �
           (ap (λ (xs : List (Option Coming)). get_or xs source None) coming ∙ get_or-set_same rx.coming source c None in_coming) (ap (filter (is_from source)) is_posted) (ap (filter (comes_from source)) is_unexpected) lane)
       | inr differ ↦ lane_same t _ _ _ _ _ _ _ _ _ _ _
           (ap (λ xs. slice_index xs t) heads ∙ raised_other rx.heads source t _ differ) (ap (λ xs. slice_index xs t) tails)
-          (ap (λ (xs : List (Option Coming)). get_or xs t None) coming ∙ coming_other rx.coming source t c differ) (ap (filter (is_from t)) is_posted ∙ (others t differ).0) (ap (filter (comes_from t)) is_unexpected ∙ (others t differ).1) (lanes t)
+          (ap (λ (xs : List (Option Coming)). get_or xs t None) coming ∙ coming_other rx.coming source t c differ) (ap (filter (is_from t)) is_posted ∙ (others t differ).0)
+          (ap (filter (comes_from t)) is_unexpected ∙ (others t differ).1) (lanes t)
     ]
 
     -- a message arrives
@@ -181,17 +186,22 @@ module _ (bound : Bound) (all : List (List LineResult)) (v : View Item) (p k : �
             (lane_same source _ _ _ _ _ _ _ _ _ _ _ refl refl
             (ap (λ (o : Option Receive). elim o [ None ↦ Some Keep | Some r ↦ Some (Into r 0) ]) (sym (found ∙ f)))
             (ap (λ (o : Option Receive). elim o [ None ↦ filter (is_from source) rx.posted | Some r ↦ remove_first (is_wanted source head) (filter (is_from source) rx.posted) ]) (sym (found ∙ f)))
-            (with_newest source true (same_number source) ∙ ap (λ (o : Option Receive). elim o [ None ↦ filter (comes_from source) rx.unexpected ++ newest ∷ [] | Some r ↦ filter (comes_from source) rx.unexpected ]) (sym (found ∙ f))) next))
+            (with_newest source true (same_number source) ∙ ap
+            (λ (o : Option Receive). elim o [ None ↦ filter (comes_from source) rx.unexpected ++ newest ∷ [] | Some r ↦ filter (comes_from source) rx.unexpected ]) (sym (found ∙ f))) next))
             (λ c. omega (arith, counts c (Some Keep)))
         go (Some r) f =
             let single = each_in Single rx.posted r good.singles (found_in (is_wanted source head) rx.posted r f).0 in
-            receiving tx rx (after (Some r)) cq kept [] [] good (length-set rx.coming source _) (length-set rx.heads source _) refl (subst (Each Single) (sym (least_of r single.0)) (each_removed Single (is_wanted source head) rx.posted good.singles))
-            (head_lane rx (after (Some r)) source 0 (remove_first (is_wanted source head) rx.posted) (Some (Into r 0)) rx.unexpected good.lanes (omega (arith, below, good.heads_count)) (omega (arith, below, good.coming_count)) refl refl
+            receiving tx rx (after (Some r)) cq kept [] [] good (length-set rx.coming source _) (length-set rx.heads source _) refl
+            (subst (Each Single) (sym (least_of r single.0)) (each_removed Single (is_wanted source head) rx.posted good.singles))
+            (head_lane rx (after (Some r)) source 0 (remove_first (is_wanted source head) rx.posted) (Some (Into r 0)) rx.unexpected good.lanes (omega (arith, below, good.heads_count))
+            (omega (arith, below, good.coming_count)) refl refl
             (ap (λ place. set rx.coming source (Some (Into r place))) single.1) (least_of r single.0) refl
             (λ t differ. (others_kept (is_from t) (is_wanted source head) rx.posted (λ x i w. from_is x source t (directed x source head (each_in Single rx.posted x good.singles i) w) ∙ differ_is source t differ), refl))
             (lane_same source _ _ _ _ _ _ _ _ _ _ _ refl refl
             (ap (λ (o : Option Receive). elim o [ None ↦ Some Keep | Some r ↦ Some (Into r 0) ]) (sym (found ∙ f)))
-            (kept_removed (is_from source) (is_wanted source head) rx.posted wants ∙ ap (λ (o : Option Receive). elim o [ None ↦ filter (is_from source) rx.posted | Some r ↦ remove_first (is_wanted source head) (filter (is_from source) rx.posted) ]) (sym (found ∙ f)))
+            (kept_removed (is_from source) (is_wanted source head) rx.posted wants ∙ ap
+            (λ (o : Option Receive). elim o [ None ↦ filter (is_from source) rx.posted | Some r ↦ remove_first (is_wanted source head) (filter (is_from source) rx.posted) ])
+            (sym (found ∙ f)))
             (ap (λ (o : Option Receive). elim o [ None ↦ filter (comes_from source) rx.unexpected ++ newest ∷ [] | Some r ↦ filter (comes_from source) rx.unexpected ]) (sym (found ∙ f))) next))
             (λ c. omega (arith, counts c (Some (Into r r.used)), many_removed (receive_is c) (is_wanted source head) rx.posted r f, ap (many (receive_is c)) (least_of r single.0)))
 
@@ -203,9 +213,16 @@ module _ (bound : Bound) (all : List (List LineResult)) (v : View Item) (p k : �
     unfolding heading_other
     reply_arrives tx rx cq kept source item good has level msg kind =
         receiving tx rx after cq kept [] [] good (length-set rx.coming source _) (length-set rx.heads source _) refl good.singles
-        (head_lane rx after source 0 rx.posted (Some Answer) rx.unexpected good.lanes (omega (arith, below, good.heads_count)) (omega (arith, below, good.coming_count)) refl refl (ap (λ w. set rx.coming source (Some (way_of w))) kind) refl refl
+        (head_lane rx after source 0 rx.posted (Some Answer) rx.unexpected good.lanes (omega (arith, below, good.heads_count)) (omega (arith, below, good.coming_count)) refl refl
+        (ap (λ w. set rx.coming source (Some (way_of w))) kind) refl refl
         (λ t differ. (refl, refl)) (lane_other bound all v p source tells _ _ _ _ _ _ item (good.lanes source) level has msg))
-        (λ c. omega (arith, many_set (into_is c) rx.coming source (Some (way_of item.head.kind)) None (omega (arith, below, good.coming_count)), ap (λ o. one (into_is c o)) ((good.lanes source).idle level), ap (λ w. one (into_is c (Some (way_of w)))) kind))
+        (λ c. omega (
+          arith,
+          many_set (into_is c) rx.coming source (Some (way_of item.head.kind)) None (omega (arith, below, good.coming_count)),
+          ap (λ o. one (into_is c o))
+              ((good.lanes source).idle level),
+          ap (λ w. one (into_is c (Some (way_of w)))) kind,
+        ))
       where
         below : source < bound.script.conf.peers
         below = tells.peer source (slice_index rx.heads source) item has

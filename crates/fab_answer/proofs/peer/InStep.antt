@@ -119,7 +119,15 @@ pub record InStep (bound : Bound) (all : List (List LineResult)) (v : View Item)
 
 module _ (bound : Bound) (all later : List (List LineResult)) (v w : View Item) (p : ℕ) (grown : Grown all later) (more : More v w) where
   carries_more : (source tails : ℕ) (a : Arrival) (m : Message) → Carries v source tails a m → Carries w source tails a m
-  carries_more source tails a m (item, has, head, from, is, how) = (item, subst (λ xs. slice_get xs a.place ≡ Some item) ((more.ready source).1) (prefix_get (v.ready source) ((more.ready source).0) a.place item has), head, from, is, how)
+  carries_more source tails a m (item, has, head, from, is, how) = (
+    item,
+    subst (λ xs. slice_get xs a.place ≡ Some item) ((more.ready source).1)
+        (prefix_get (v.ready source) ((more.ready source).0) a.place item has),
+    head,
+    from,
+    is,
+    how,
+  )
 
   right_seen : (source tails : ℕ) (pairs : List (Receive × Option Message)) (c : Option Coming) → ComesRight v source tails pairs c → ComesRight w source tails pairs c
   right_seen source tails pairs None right = always
@@ -252,7 +260,8 @@ module _ (bound : Bound) (all : List (List LineResult)) (v : View Item) (p k : �
     tails_count = good.tails_count;
     sends = λ q. elim (get_or-set tx.accepted t q (accepted_for tx t ++ item ∷ []) []) [
       | inl e ↦ ap sent_messages e ∙ good.sends q
-      | inr e ↦ ap sent_messages e.1 ∙ sent-append (accepted_for tx t) (item ∷ []) ∙ ap (λ xs. sent_messages (accepted_for tx t) ++ xs) no_message ∙ append-nil (sent_messages (accepted_for tx t)) ∙ ap (λ q. sent_messages (accepted_for tx q)) e.0 ∙ good.sends q
+      | inr e ↦ ap sent_messages e.1 ∙ sent-append (accepted_for tx t) (item ∷ []) ∙ ap (λ xs. sent_messages (accepted_for tx t) ++ xs) no_message ∙ append-nil
+          (sent_messages (accepted_for tx t)) ∙ ap (λ q. sent_messages (accepted_for tx q)) e.0 ∙ good.sends q
     ];
     kinds = λ q. elim (get_or-set tx.accepted t q (accepted_for tx t ++ item ∷ []) []) [
       | inl e ↦ subst (Each MessageOrReply) (sym e) (good.kinds q)

@@ -283,7 +283,8 @@ module _ (bound : Bound) (all : List (List LineResult)) (v : View Item) (p sourc
     known = lane.known;
     within = lane.within;
     posted_are = lane.posted_are;
-    unexpected_are = both_so (Carries v source t) (Carries v source (t + 1)) unexpected _ (λ a m i c. whole_already t a m (λ e. absurd (omega (arith, none, in_many not_whole unexpected a i (ap (λ o. is_none o) e)))) c) lane.unexpected_are;
+    unexpected_are = both_so (Carries v source t) (Carries v source (t + 1)) unexpected _
+        (λ a m i c. whole_already t a m (λ e. absurd (omega (arith, none, in_many not_whole unexpected a i (ap (λ o. is_none o) e)))) c) lane.unexpected_are;
     unfinished = none;
     comes_right = always;
     idle = λ e. refl;
@@ -342,7 +343,8 @@ module _ (bound : Bound) (all : List (List LineResult)) (v : View Item) (p sourc
     known = lane.known;
     within = lane.within;
     posted_are = lane.posted_are;
-    unexpected_are = both_map (Carries v source (t + 1)) (completed source item.bytes) unexpected _ (both_so (Carries v source t) (λ a m. Carries v source (t + 1) (completed source item.bytes a) m) unexpected _ (λ a m i c. completes t item a m has c) lane.unexpected_are);
+    unexpected_are = both_map (Carries v source (t + 1)) (completed source item.bytes) unexpected _
+        (both_so (Carries v source t) (λ a m. Carries v source (t + 1) (completed source item.bytes a) m) unexpected _ (λ a m i c. completes t item a m has c) lane.unexpected_are);
     unfinished = omega (arith, none_unfinished t item.bytes unexpected _ lane.unexpected_are);
     comes_right = always;
     idle = λ e. refl;

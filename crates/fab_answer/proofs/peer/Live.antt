@@ -46,7 +46,8 @@ module _ (n : ℕ) where
   pub live_items_sent : (tx : Transmitting) (t : ℕ) → slice_index tx.sent t < length (accepted_for tx t) → LiveItems n tx → LiveItems n (transmitting t tx)
   unfolding transmitting
   live_items_sent tx t lt live_items = record {
-    has_item = each_with (HasItem n tx) (HasItem n (transmitting t tx)) (remove_first test tx.live) (λ o i e. (e.0, e.1, λ ends. later o i e ends (raised_is tx.sent t o.dest))) (each_removed (HasItem n tx) test tx.live live_items.has_item);
+    has_item = each_with (HasItem n tx) (HasItem n (transmitting t tx)) (remove_first test tx.live) (λ o i e. (e.0, e.1, λ ends. later o i e ends (raised_is tx.sent t o.dest)))
+        (each_removed (HasItem n tx) test tx.live live_items.has_item);
     apart = λ q j. omega (arith, live_items.apart q j, removed_less (at_place q j) test tx.live);
     sent = λ q. elim (raised_is tx.sent t q) [
       | inl e ↦ omega (arith, live_items.sent q, e)
@@ -61,7 +62,8 @@ module _ (n : ℕ) where
       wider o e = (and_parts _ _ e).0
 
       none : many (is_of_item t (slice_index tx.sent t)) (remove_first (is_of_item t (slice_index tx.sent t)) tx.live) ≡ 0
-      none = none_left (is_of_item t (slice_index tx.sent t)) tx.live (omega (arith, live_items.apart t (slice_index tx.sent t), many_le (is_of_item t (slice_index tx.sent t)) (at_place t (slice_index tx.sent t)) tx.live wider))
+      none = none_left (is_of_item t (slice_index tx.sent t)) tx.live
+          (omega (arith, live_items.apart t (slice_index tx.sent t), many_le (is_of_item t (slice_index tx.sent t)) (at_place t (slice_index tx.sent t)) tx.live wider))
 
       later : (o : Operation) → In o (remove_first (is_of_item t (slice_index tx.sent t)) tx.live) → HasItem n tx o → ends_at_sent o ≡ true
           → ((slice_index (raise tx.sent t) o.dest ≡ slice_index tx.sent o.dest) ⊎ ((t ≡ o.dest) × (slice_index (raise tx.sent t) o.dest ≡ slice_index tx.sent t + 1)))
@@ -94,8 +96,17 @@ module _ (n : ℕ) where
       → LiveItems n tx → LiveItems n (accepting t item o tx)
   unfolding accepting
   live_items_accept tx t item o dest place lt within live_items = record {
-    has_item = each_append (HasItem n (accepting t item o tx)) tx.live (o ∷ []) (each_so (HasItem n tx) (HasItem n (accepting t item o tx)) tx.live (λ x e. (e.0, omega (arith, e.1, longer tx.accepted t x.dest item), e.2)) live_items.has_item)
-        (((omega (arith, dest, lt), omega (arith, place, now, ap (λ q. length (get_or (set tx.accepted t (accepted_for tx t ++ item ∷ [])) q [])) dest), λ e. omega (arith, place, live_items.sent t, ap (slice_index tx.sent) dest)), always));
+    has_item = each_append (HasItem n (accepting t item o tx)) tx.live (o ∷ [])
+        (each_so (HasItem n tx) (HasItem n (accepting t item o tx)) tx.live (λ x e. (e.0, omega (arith, e.1, longer tx.accepted t x.dest item), e.2)) live_items.has_item)
+        ((
+          (
+            omega (arith, dest, lt),
+            omega (arith, place, now, ap (λ q. length (get_or (set tx.accepted t (accepted_for tx t ++ item ∷ [])) q [])) dest),
+            λ e. omega
+                (arith, place, live_items.sent t, ap (slice_index tx.sent) dest),
+          ),
+          always,
+        ));
     apart = λ q j. go q j (at_place q j o) refl;
     sent = λ q. omega (arith, live_items.sent q, longer tx.accepted t q item);
   }

@@ -45,8 +45,10 @@ no_into d (Some Throw) le = refl
 no_into d (Some Request) le = refl
 no_into d (Some Answer) le = refl
 
-module _ (bound : Bound) (all later : List (List LineResult)) (v : View Item) (p k : ℕ) (line : Line) (at : slice_get (lines_of bound p) k ≡ Some line) (grown : Grown all later) (own : done later p ≡ k + 1) (plain : Plain bound p) (tells : Tells bound all v p) where
-  module _ (s : State) (kept : List Kept) (posting : Posting) (c source : ℕ) (setting : Setting bound s) (good : InStep bound all v p k s.tx s.rx s.cq kept []) (is : Receives line.op posting c) (accepted : is_accepted bound.script.conf line.op ≡ true) (from : (receive_of s posting).want.source ≡ Some source) where
+module _ (bound : Bound) (all later : List (List LineResult)) (v : View Item) (p k : ℕ) (line : Line) (at : slice_get (lines_of bound p) k ≡ Some line) (grown : Grown all later)
+    (own : done later p ≡ k + 1) (plain : Plain bound p) (tells : Tells bound all v p) where
+  module _ (s : State) (kept : List Kept) (posting : Posting) (c source : ℕ) (setting : Setting bound s) (good : InStep bound all v p k s.tx s.rx s.cq kept [])
+      (is : Receives line.op posting c) (accepted : is_accepted bound.script.conf line.op ≡ true) (from : (receive_of s posting).want.source ≡ Some source) where
     abbrev rs : List Receive
     rs = receives bound.script.conf source (take k (lines_of bound p))
 
@@ -75,22 +77,26 @@ module _ (bound : Bound) (all later : List (List LineResult)) (v : View Item) (p
 
     receives_here : receives bound.script.conf source (take (k + 1) (lines_of bound p)) ≡ receives bound.script.conf source (take k (lines_of bound p)) ++ uncalled (receive_of s posting) ∷ []
     receives_here = receives_next bound all later v p k line at grown own plain source
-        ∙ ap (λ (o : Option Receive). receives bound.script.conf source (take k (lines_of bound p)) ++ cons_option o []) (receive_for source ∙ ap (λ (b : Bool). elim b [ true ↦ Some (uncalled (receive_of s posting)) | false ↦ None ]) (same_number source))
+        ∙ ap (λ (o : Option Receive). receives bound.script.conf source (take k (lines_of bound p)) ++ cons_option o [])
+        (receive_for source ∙ ap (λ (b : Bool). elim b [ true ↦ Some (uncalled (receive_of s posting)) | false ↦ None ]) (same_number source))
 
     receives_there : (t : ℕ) → source ≢ t → receives bound.script.conf t (take (k + 1) (lines_of bound p)) ≡ receives bound.script.conf t (take k (lines_of bound p))
     receives_there t differ = receives_next bound all later v p k line at grown own plain t
-        ∙ ap (λ (o : Option Receive). receives bound.script.conf t (take k (lines_of bound p)) ++ cons_option o []) (receive_for t ∙ ap (λ (b : Bool). elim b [ true ↦ Some (uncalled (receive_of s posting)) | false ↦ None ]) (differ_is source t differ))
+        ∙ ap (λ (o : Option Receive). receives bound.script.conf t (take k (lines_of bound p)) ++ cons_option o [])
+        (receive_for t ∙ ap (λ (b : Bool). elim b [ true ↦ Some (uncalled (receive_of s posting)) | false ↦ None ]) (differ_is source t differ))
         ∙ append-nil _
 
     -- the lane of the source, with the receive posted
     abbrev PostedLane : Option Coming → List Receive → List Arrival → Type 0
-    PostedLane coming posted unexpected = Lane bound all v p source (receives bound.script.conf source (take k (lines_of bound p)) ++ uncalled (receive_of s posting) ∷ []) (slice_index s.rx.heads source) (slice_index s.rx.tails source) coming posted unexpected
+    PostedLane coming posted unexpected = Lane bound all v p source (receives bound.script.conf source (take k (lines_of bound p)) ++ uncalled (receive_of s posting) ∷ [])
+        (slice_index s.rx.heads source) (slice_index s.rx.tails source) coming posted unexpected
 
     lanes_posted :
         (after : Receiving) (coming : Option Coming) (posted : List Receive) (unexpected : List Arrival) → after.heads ≡ s.rx.heads → after.tails ≡ s.rx.tails
         → ((t : ℕ) → source ≢ t → coming_from after t ≡ coming_from s.rx t) → coming_from after source ≡ coming → after.posted ≡ posted → after.unexpected ≡ unexpected
         → ((t : ℕ) → source ≢ t → (filter (is_from t) posted ≡ filter (is_from t) s.rx.posted) × (filter (comes_from t) unexpected ≡ filter (comes_from t) s.rx.unexpected))
-        → Lane bound all v p source (receives bound.script.conf source (take k (lines_of bound p)) ++ uncalled (receive_of s posting) ∷ []) (slice_index s.rx.heads source) (slice_index s.rx.tails source) coming (filter (is_from source) posted) (filter (comes_from source) unexpected)
+        → Lane bound all v p source (receives bound.script.conf source (take k (lines_of bound p)) ++ uncalled (receive_of s posting) ∷ []) (slice_index s.rx.heads source)
+        (slice_index s.rx.tails source) coming (filter (is_from source) posted) (filter (comes_from source) unexpected)
         → (t : ℕ) → LaneOf bound later v p (k + 1) after t
     lanes_posted after coming posted unexpected heads tails coming_there coming_here is_posted is_unexpected others lane t = elim (cases_eq source t) [
       | inl same ↦ subst (LaneOf bound later v p (k + 1) after) same (subst (λ xs. LaneFor bound later v p xs after source) (sym receives_here)
@@ -98,7 +104,8 @@ module _ (bound : Bound) (all later : List (List LineResult)) (v : View Item) (p
           (ap (λ xs. slice_index xs source) heads) (ap (λ xs. slice_index xs source) tails) coming_here (ap (filter (is_from source)) is_posted) (ap (filter (comes_from source)) is_unexpected) lane)))
       | inr differ ↦ subst (λ xs. LaneFor bound later v p xs after t) (sym (receives_there t differ))
           (lane_more bound all later v v p grown (more_self v) t _ _ _ _ _ _ (lane_same bound all v p k t _ _ _ _ _ _ _ _ _ _ _
-          (ap (λ xs. slice_index xs t) heads) (ap (λ xs. slice_index xs t) tails) (coming_there t differ) (ap (filter (is_from t)) is_posted ∙ (others t differ).0) (ap (filter (comes_from t)) is_unexpected ∙ (others t differ).1) (good.lanes t)))
+          (ap (λ xs. slice_index xs t) heads) (ap (λ xs. slice_index xs t) tails) (coming_there t differ) (ap (filter (is_from t)) is_posted ∙ (others t differ).0)
+          (ap (filter (comes_from t)) is_unexpected ∙ (others t differ).1) (good.lanes t)))
     ]
 
     -- with another state of what is received
@@ -151,8 +158,10 @@ module _ (bound : Bound) (all later : List (List LineResult)) (v : View Item) (p
     ctx_is d = ap (λ n. n == d) is.ctx
 
     waits_now : find (takes (receive_of s posting).want) s.rx.unexpected ≡ None
-        → Lane bound all v p source (receives bound.script.conf source (take k (lines_of bound p)) ++ uncalled (receive_of s posting) ∷ []) (slice_index s.rx.heads source) (slice_index s.rx.tails source) (coming_from s.rx source)
-        (filter (is_from source) s.rx.posted ++ receive_of s posting ∷ []) (filter (comes_from source) s.rx.unexpected) → PeerAt bound later v p (k + 1) (called (with_rx (joining_posted (receive_of s posting) s.rx) s)) kept []
+        → Lane bound all v p source (receives bound.script.conf source (take k (lines_of bound p)) ++ uncalled (receive_of s posting) ∷ []) (slice_index s.rx.heads source)
+        (slice_index s.rx.tails source) (coming_from s.rx source)
+        (filter (is_from source) s.rx.posted ++ receive_of s posting ∷ []) (filter (comes_from source) s.rx.unexpected) → PeerAt bound later v p (k + 1)
+        (called (with_rx (joining_posted (receive_of s posting) s.rx) s)) kept []
     waits_now none lane = (
       same_setting bound s _ refl refl refl refl refl setting,
       posted_keeps (joining_posted (receive_of s posting) s.rx) [] refl refl refl
@@ -176,26 +185,35 @@ module _ (bound : Bound) (all later : List (List LineResult)) (v : View Item) (p
 
       -- the message is not whole: it goes into the receive
       part_now : a.bytes ≡ None
-          → Lane bound all v p source (receives bound.script.conf source (take k (lines_of bound p)) ++ uncalled (receive_of s posting) ∷ []) (slice_index s.rx.heads source) (slice_index s.rx.tails source) (Some (Into (receive_of s posting) 0))
+          → Lane bound all v p source (receives bound.script.conf source (take k (lines_of bound p)) ++ uncalled (receive_of s posting) ∷ []) (slice_index s.rx.heads source)
+          (slice_index s.rx.tails source) (Some (Into (receive_of s posting) 0))
           (filter (is_from source) s.rx.posted) (remove_first (takes (receive_of s posting).want) (filter (comes_from source) s.rx.unexpected))
           → InStep bound later v p (k + 1) s.tx (goes source (Into (receive_of s posting) 0) (without_first (receive_of s posting).want s.rx)) s.cq kept []
       part_now e lane = posted_keeps (goes source (Into (receive_of s posting) 0) (without_first (receive_of s posting).want s.rx)) [] (length-set s.rx.coming source _) refl refl good.singles
-          (lanes_posted (goes source (Into (receive_of s posting) 0) (without_first (receive_of s posting).want s.rx)) (Some (Into (receive_of s posting) 0)) s.rx.posted (remove_first (takes (receive_of s posting).want) s.rx.unexpected) refl refl
+          (lanes_posted (goes source (Into (receive_of s posting) 0) (without_first (receive_of s posting).want s.rx)) (Some (Into (receive_of s posting) 0)) s.rx.posted
+          (remove_first (takes (receive_of s posting).want) s.rx.unexpected) refl refl
           (λ t differ. get_or-set_other s.rx.coming source t _ None (λ x. differ (sym x))) (get_or-set_same s.rx.coming source _ None (omega (arith, below, good.coming_count))) refl refl other_filters
           (subst (λ xs. PostedLane (Some (Into (receive_of s posting) 0)) (filter (is_from source) s.rx.posted) xs) (sym here_filter) lane))
           (λ d. omega (
             arith,
             many_set (into_is d) s.rx.coming source (Some (Into (receive_of s posting) 0)) None (omega (arith, below, good.coming_count)),
             ap one (ctx_is d),
-            no_into d (coming_from s.rx source) (omega (arith, (good.lanes source).unfinished, in_many not_whole (filter (comes_from source) s.rx.unexpected) a (found_in (takes (receive_of s posting).want) (filter (comes_from source) s.rx.unexpected) a (found ∙ f)).0 (ap is_none e))),
+            no_into d (coming_from s.rx source) (omega (
+              arith,
+              (good.lanes source).unfinished,
+              in_many not_whole (filter (comes_from source) s.rx.unexpected) a
+                  (found_in (takes (receive_of s posting).want) (filter (comes_from source) s.rx.unexpected) a (found ∙ f)).0 (ap is_none e),
+            )),
           ))
 
       -- the message is whole: its entry is the one that comes
-      whole_now : Lane bound all v p source (receives bound.script.conf source (take k (lines_of bound p)) ++ uncalled (receive_of s posting) ∷ []) (slice_index s.rx.heads source) (slice_index s.rx.tails source) (coming_from s.rx source)
+      whole_now : Lane bound all v p source (receives bound.script.conf source (take k (lines_of bound p)) ++ uncalled (receive_of s posting) ∷ []) (slice_index s.rx.heads source)
+          (slice_index s.rx.tails source) (coming_from s.rx source)
           (filter (is_from source) s.rx.posted) (remove_first (takes (receive_of s posting).want) (filter (comes_from source) s.rx.unexpected))
           → InStep bound later v p (k + 1) s.tx (without_first (receive_of s posting).want s.rx) s.cq kept ((receive_of s posting).ctx ∷ [])
       whole_now lane = posted_keeps (without_first (receive_of s posting).want s.rx) ((receive_of s posting).ctx ∷ []) refl refl refl good.singles
-          (lanes_posted (without_first (receive_of s posting).want s.rx) (coming_from s.rx source) s.rx.posted (remove_first (takes (receive_of s posting).want) s.rx.unexpected) refl refl (λ t differ. refl) refl refl refl other_filters
+          (lanes_posted (without_first (receive_of s posting).want s.rx) (coming_from s.rx source) s.rx.posted (remove_first (takes (receive_of s posting).want) s.rx.unexpected) refl refl
+          (λ t differ. refl) refl refl refl other_filters
           (subst (λ xs. PostedLane (coming_from s.rx source) (filter (is_from source) s.rx.posted) xs) (sym here_filter) lane))
           (λ d. omega (arith, ap one (ctx_is d)))
 
@@ -230,7 +248,9 @@ module _ (bound : Bound) (all later : List (List LineResult)) (v : View Item) (p
 
     pub post_at : PeerAt bound later v p (k + 1) (post s posting) kept []
     unfolding post give
-    post_at = subst (λ o. PeerAt bound later v p (k + 1) (after o) kept []) (sym taken_is) (go (lane_post bound all v p source rs (slice_index s.rx.heads source) (slice_index s.rx.tails source) (coming_from s.rx source) (filter (is_from source) s.rx.posted) (filter (comes_from source) s.rx.unexpected) (receive_of s posting) single (good.lanes source)))
+    post_at = subst (λ o. PeerAt bound later v p (k + 1) (after o) kept []) (sym taken_is)
+        (go (lane_post bound all v p source rs (slice_index s.rx.heads source) (slice_index s.rx.tails source) (coming_from s.rx source) (filter (is_from source) s.rx.posted)
+        (filter (comes_from source) s.rx.unexpected) (receive_of s posting) single (good.lanes source)))
       where
         taken_is : taken_by (receive_of s posting) s ≡ find (takes (receive_of s posting).want) s.rx.unexpected
         taken_is = ap (λ (o : Option ℕ). elim o [ Some _ ↦ None | None ↦ find (takes (receive_of s posting).want) s.rx.unexpected ]) is.least
@@ -241,18 +261,26 @@ module _ (bound : Bound) (all later : List (List LineResult)) (v : View Item) (p
           | Some a ↦ give (receive_of s posting) 0 a (called (with_rx (without_first (receive_of s posting).want s.rx) s))
         ]
 
-        go : Posted bound all v p source rs (slice_index s.rx.heads source) (slice_index s.rx.tails source) (coming_from s.rx source) (filter (is_from source) s.rx.posted) (filter (comes_from source) s.rx.unexpected) (receive_of s posting)
+        go : Posted bound all v p source rs (slice_index s.rx.heads source) (slice_index s.rx.tails source) (coming_from s.rx source) (filter (is_from source) s.rx.posted)
+            (filter (comes_from source) s.rx.unexpected) (receive_of s posting)
             → PeerAt bound later v p (k + 1) (after (find (takes (receive_of s posting).want) s.rx.unexpected)) kept []
         go (inl (none, lane)) = subst (λ o. PeerAt bound later v p (k + 1) (after o) kept []) (sym (sym found ∙ none)) (waits_now (sym found ∙ none) lane)
         go (inr (a, m, f, carries, lane, (ms, rest, begun, i))) = subst (λ o. PeerAt bound later v p (k + 1) (after o) kept []) (sym (sym found ∙ f)) (taken a.bytes refl lane)
           where
             taken : (o : Option (List ℕ)) → a.bytes ≡ o
-                → Lane bound all v p source (rs ++ uncalled (receive_of s posting) ∷ []) (slice_index s.rx.heads source) (slice_index s.rx.tails source) (elim o [ None ↦ Some (Into (receive_of s posting) 0) | Some bytes ↦ coming_from s.rx source ])
+                → Lane bound all v p source (rs ++ uncalled (receive_of s posting) ∷ []) (slice_index s.rx.heads source) (slice_index s.rx.tails source)
+                (elim o [ None ↦ Some (Into (receive_of s posting) 0) | Some bytes ↦ coming_from s.rx source ])
                 (filter (is_from source) s.rx.posted) (remove_first (takes (receive_of s posting).want) (filter (comes_from source) s.rx.unexpected)) → PeerAt bound later v p (k + 1) (elim o [
                   | None ↦ with_rx (goes a.source (Into (receive_of s posting) 0) (called (with_rx (without_first (receive_of s posting).want s.rx) s)).rx) (called (with_rx (without_first (receive_of s posting).want s.rx) s))
                   | Some bytes ↦ book (at_match a.head.ack) a.source a.head (fill (receive_of s posting) 0 a.source a.head bytes (called (with_rx (without_first (receive_of s posting).want s.rx) s)))
                 ]) kept []
-            taken None e lane = (same_setting bound s _ refl refl refl refl refl setting, subst (λ n. InStep bound later v p (k + 1) s.tx (goes n (Into (receive_of s posting) 0) (without_first (receive_of s posting).want s.rx)) s.cq kept []) (sym carries.3) (part_now a m (sym found ∙ f) carries e lane))
+            taken None e lane = (
+              same_setting bound s _ refl refl refl refl refl setting,
+              subst
+                  (λ n. InStep bound later v p (k + 1) s.tx (goes n (Into (receive_of s posting) 0) (without_first (receive_of s posting).want s.rx)) s.cq kept []) (sym carries.3)
+                  (part_now a m (sym found ∙ f) carries e lane),
+            )
             taken (Some bytes) e lane = book_at bound later v p (k + 1) (at_match a.head.ack) a.source a.head _ kept []
-                (fill_at bound later v p (k + 1) (receive_of s posting) a.source a.head bytes (called (with_rx (without_first (receive_of s posting).want s.rx) s)) kept single (right_now a m (sym found ∙ f) carries bytes ms rest e begun i)
+                (fill_at bound later v p (k + 1) (receive_of s posting) a.source a.head bytes (called (with_rx (without_first (receive_of s posting).want s.rx) s)) kept single
+                (right_now a m (sym found ∙ f) carries bytes ms rest e begun i)
                 (same_setting bound s _ refl refl refl refl refl setting, whole_now a m (sym found ∙ f) carries lane))

@@ -94,14 +94,16 @@ posting_faults caps av p = lasting (not (caps.recv && cond p.tagged caps.tagged 
 
 post_faults : (s : State) (p : Posting) → fault_of ((do_call s (Post p)).0) ≡ posting_faults s.caps s.av p
 unfolding do_call post_fault
-post_faults s p = lasting_five (not (may_receive s p.tagged)) (nat_lt 16_777_216 (length p.buf)) (not (source_is_known s p.source) || least_is_wrong p) (lacks_room s (post s p)) (is_none (taken_by (receive_of s p) s) && nat_le s.most_rx (length s.rx.posted)) (CqFull s.cq.size) (PostedFull s.most_rx) s (post s p)
+post_faults s p = lasting_five (not (may_receive s p.tagged)) (nat_lt 16_777_216 (length p.buf)) (not (source_is_known s p.source) || least_is_wrong p) (lacks_room s (post s p))
+    (is_none (taken_by (receive_of s p) s) && nat_le s.most_rx (length s.rx.posted)) (CqFull s.cq.size) (PostedFull s.most_rx) s (post s p)
     ∙ ap (λ b. lasting (not (may_receive s p.tagged)) (nat_lt 16_777_216 (length p.buf)) (not b || least_is_wrong p)) (known_same s p.source)
 
 -- where none of the tests that last holds
 pub post_lasting : (s : State) (p : Posting) → not (may_receive s p.tagged) ≡ false → nat_lt 16_777_216 (length p.buf) ≡ false
     → (not (source_is_known s p.source) || least_is_wrong p) ≡ false → fault_of ((do_call s (Post p)).0) ≡ None
 unfolding do_call post_fault
-post_lasting s p a b c = lasting_five (not (may_receive s p.tagged)) (nat_lt 16_777_216 (length p.buf)) (not (source_is_known s p.source) || least_is_wrong p) (lacks_room s (post s p)) (is_none (taken_by (receive_of s p) s) && nat_le s.most_rx (length s.rx.posted)) (CqFull s.cq.size) (PostedFull s.most_rx) s (post s p)
+post_lasting s p a b c = lasting_five (not (may_receive s p.tagged)) (nat_lt 16_777_216 (length p.buf)) (not (source_is_known s p.source) || least_is_wrong p) (lacks_room s (post s p))
+    (is_none (taken_by (receive_of s p) s) && nat_le s.most_rx (length s.rx.posted)) (CqFull s.cq.size) (PostedFull s.most_rx) s (post s p)
     ∙ rw (a, b, c) refl
 
 abbrev pub order_faults : Caps → List (Option ℕ) → Bool → Order → Option Fault
@@ -154,7 +156,10 @@ accepted_source bound s p i setting granted names none = go (lookup s.av i) refl
     directed = ap (λ (caps : Caps). caps.directed_recv) setting.caps ∙ granted
 
     known : known_in s.caps s.av p.source ≡ true
-    known = not_false (known_in s.caps s.av p.source) (neither (not (known_in s.caps s.av p.source)) (least_is_wrong p) (not_last (not (s.caps.recv && cond p.tagged s.caps.tagged s.caps.msg)) (nat_lt 16_777_216 (length p.buf)) (not (known_in s.caps s.av p.source) || least_is_wrong p) (sym (post_faults s p) ∙ none)).2).0
+    known = not_false (known_in s.caps s.av p.source)
+        (neither (not (known_in s.caps s.av p.source)) (least_is_wrong p)
+        (not_last (not (s.caps.recv && cond p.tagged s.caps.tagged s.caps.msg)) (nat_lt 16_777_216 (length p.buf)) (not (known_in s.caps s.av p.source) || least_is_wrong p)
+        (sym (post_faults s p) ∙ none)).2).0
 
     some : is_some (lookup s.av i) ≡ true
     some = let e : (not s.caps.directed_recv || is_some (lookup s.av i)) ≡ true = ap (known_in s.caps s.av) (sym names) ∙ known in rw directed at e
@@ -174,7 +179,9 @@ accepted_dest s o none = go (lookup s.av o.dest) refl
     most = nat_le 4_611_686_018_427_387_904 s.tx.ops
 
     known : is_none (lookup s.av o.dest) ≡ false
-    known = (neither (is_none (lookup s.av o.dest)) most (neither (is_none (lookup s.av o.dest) || most) (not (is_well_formed o o.atom)) (not_last (not (is_granted s.caps o.kind o.atom)) (is_too_long o) (is_none (lookup s.av o.dest) || most || not (is_well_formed o o.atom)) (sym (transmit_faults s o) ∙ none)).2).0).0
+    known = (neither (is_none (lookup s.av o.dest)) most
+        (neither (is_none (lookup s.av o.dest) || most) (not (is_well_formed o o.atom))
+        (not_last (not (is_granted s.caps o.kind o.atom)) (is_too_long o) (is_none (lookup s.av o.dest) || most || not (is_well_formed o o.atom)) (sym (transmit_faults s o) ∙ none)).2).0).0
 
     go : (x : Option ℕ) → lookup s.av o.dest ≡ x → (t : ℕ) × (lookup s.av o.dest ≡ Some t)
     go None e = absurd (let f : is_none (lookup s.av o.dest) ≡ true = ap is_none e in cc (f, known))

@@ -56,7 +56,19 @@ owing_more v w tx tails more seen owing = record {
   numbered = owing.numbered;
   below = owing.below;
   answered = λ s i x lt e. owing.answered s i x lt (back v w s i x more (omega (arith, lt, seen s)) e);
-  due = λ s r i kind. let d = owing.due s r i kind in (d.0, d.1, (d.2.0, d.2.1, omega (arith, d.2.2, more.sent s), subst (λ xs. slice_get xs d.2.0 ≡ Some d.2.1) ((more.ready s).1) (prefix_get (v.ready s) ((more.ready s).0) d.2.0 d.2.1 d.2.3), d.2.4, d.2.5));
+  due = λ s r i kind. let d = owing.due s r i kind in (
+    d.0,
+    d.1,
+    (
+      d.2.0,
+      d.2.1,
+      omega (arith, d.2.2, more.sent s),
+      subst (λ xs. slice_get xs d.2.0 ≡ Some d.2.1) ((more.ready s).1)
+          (prefix_get (v.ready s) ((more.ready s).0) d.2.0 d.2.1 d.2.3),
+      d.2.4,
+      d.2.5,
+    ),
+  );
 }
 
 module _ (v : View Item) where
@@ -64,7 +76,10 @@ module _ (v : View Item) where
   pub owing_removed : (tx after : Transmitting) (tails : List ℕ) (leaves : Operation → Bool) → after.live ≡ remove_first leaves tx.live → after.accepted ≡ tx.accepted
       → after.ops ≡ tx.ops → Owing v tx tails → Owing v after tails
   owing_removed tx after tails leaves live accepted ops owing = record {
-    known = subst (Each (Known v after tails)) (sym live) (each_so (Known v tx tails) (Known v after tails) _ (λ o k. ((k.0.0, ap (λ (xs : List (List Item)). slice_get (get_or xs o.dest []) o.place) accepted ∙ k.0.1, k.0.2), omega (arith, k.1, ops), k.2, k.3, k.4)) (each_removed (Known v tx tails) leaves tx.live owing.known));
+    known = subst (Each (Known v after tails)) (sym live)
+        (each_so (Known v tx tails) (Known v after tails) _
+        (λ o k. ((k.0.0, ap (λ (xs : List (List Item)). slice_get (get_or xs o.dest []) o.place) accepted ∙ k.0.1, k.0.2), omega (arith, k.1, ops), k.2, k.3, k.4))
+        (each_removed (Known v tx tails) leaves tx.live owing.known));
     single = λ k. omega (arith, owing.single k, removed_less (numbered_by k) leaves tx.live, ap (many (numbered_by k)) live);
     numbered = λ t i j x y a b. owing.numbered t i j x y (ap (λ (xs : List (List Item)). slice_get (get_or xs t []) i) (sym accepted) ∙ a) (ap (λ (xs : List (List Item)). slice_get (get_or xs t []) j) (sym accepted) ∙ b);
     below = λ t i x a m. let b = owing.below t i x (ap (λ (xs : List (List Item)). slice_get (get_or xs t []) i) (sym accepted) ∙ a) m in (omega (arith, b.0, ops), b.1);
@@ -129,13 +144,26 @@ module _ (v : View Item) where
 
   -- a message is accepted
   pub owing_accepts :
-      (tx : Transmitting) (tails : List ℕ) (t : ℕ) (item : Item) (o : Operation) → is_msg item ≡ true → item.head ≡ o.head → o.head.op ≡ tx.ops → (o.head.ack ≡ Match → Never) → o.dest ≡ t → o.place ≡ length (accepted_for tx t) → t < length tx.accepted
+      (tx : Transmitting) (tails : List ℕ) (t : ℕ) (item : Item) (o : Operation) → is_msg item ≡ true → item.head ≡ o.head → o.head.op ≡ tx.ops → (o.head.ack ≡ Match → Never) → o.dest ≡ t
+      → o.place ≡ length (accepted_for tx t) → t < length tx.accepted
       → ((i : ℕ) (r : Item) → i < slice_index tails t → slice_get (v.ready t) i ≡ Some r → r.head.kind ≡ Reply → r.head.op < tx.ops) → Owing v tx tails
       → Owing v (accepting t item o tx) tails
   unfolding accepting
   owing_accepts tx tails t item o msg head op ack dest place within before owing = record {
-    known = each_append (Known v (accepting t item o tx) tails) tx.live (o ∷ []) (each_so (Known v tx tails) (Known v (accepting t item o tx) tails) tx.live (λ x k. ((k.0.0, get_longer tx.accepted t x.dest x.place item k.0.0 k.0.1, k.0.2), omega (arith, k.1), k.2, k.3, k.4)) owing.known)
-        ((((item, here, head), omega (arith, op), ack, ap (λ (h : ItemHead). is_message h.kind) (sym head) ∙ msg, λ i r lt e kind same. absurd (omega (arith, same, op, before i r (omega (arith, lt, ap (slice_index tails) dest)) (ap (λ n. slice_get (v.ready n) i) (sym dest) ∙ e) kind))), always));
+    known = each_append (Known v (accepting t item o tx) tails) tx.live (o ∷ [])
+        (each_so (Known v tx tails) (Known v (accepting t item o tx) tails) tx.live
+        (λ x k. ((k.0.0, get_longer tx.accepted t x.dest x.place item k.0.0 k.0.1, k.0.2), omega (arith, k.1), k.2, k.3, k.4)) owing.known)
+        ((
+          (
+            (item, here, head),
+            omega (arith, op),
+            ack,
+            ap (λ (h : ItemHead). is_message h.kind) (sym head) ∙ msg,
+            λ i r lt e kind same. absurd
+                (omega (arith, same, op, before i r (omega (arith, lt, ap (slice_index tails) dest)) (ap (λ n. slice_get (v.ready n) i) (sym dest) ∙ e) kind)),
+          ),
+          always,
+        ));
     single = λ k. alone k (o.head.op == k) refl;
     numbered = λ q i j x y a b mx my same. go q i j x y mx my same (get_was tx.accepted t q i item x a) (get_was tx.accepted t q j item y b);
     below = λ q i x a m. elim (get_was tx.accepted t q i item x a) [
@@ -181,7 +209,8 @@ module _ (v : View Item) where
       → (is_msg item ≡ true → item.head.ack ≡ Delivery → (r : Item) × In r (accepted_for tx s) × (r.head.kind ≡ Reply) × (r.head.op ≡ item.head.op))
       → (item.head.kind ≡ Reply → (o : Operation) → In o tx.live → o.dest ≡ s → item.head.op ≡ o.head.op → Never) → Owing v tx tails → Owing v tx (raise tails s)
   owing_whole tx tails s item has replied gone owing = record {
-    known = each_with (Known v tx tails) (Known v tx (raise tails s)) tx.live (λ o i k. (k.0, k.1, k.2, k.3, λ n r lt e kind same. unknown o i k n r lt e kind same (get_or-set tails s o.dest (slice_index tails s + 1) 0))) owing.known;
+    known = each_with (Known v tx tails) (Known v tx (raise tails s)) tx.live
+        (λ o i k. (k.0, k.1, k.2, k.3, λ n r lt e kind same. unknown o i k n r lt e kind same (get_or-set tails s o.dest (slice_index tails s + 1) 0))) owing.known;
     single = owing.single;
     numbered = owing.numbered;
     below = owing.below;
@@ -206,13 +235,15 @@ module _ (v : View Item) where
           → (r : Item) × In r (accepted_for tx q) × (r.head.kind ≡ Reply) × (r.head.op ≡ x.head.op)
       reply q i x lt e m d (inl still) = owing.answered q i x (omega (arith, lt, still)) e m d
       reply q i x lt e m d (inr (here, now)) = elim (cases_eq i (slice_index tails s)) [
-        | inl at ↦ (let is = same_item q i x here at e in let r = replied (ap is_msg is ∙ m) (ap (λ (y : Item). y.head.ack) is ∙ d) in (r.0, subst (λ n. In r.0 (accepted_for tx n)) here r.1, r.2, r.3 ∙ ap (λ (y : Item). y.head.op) is))
+        | inl at ↦ (let is = same_item q i x here at e in let r = replied (ap is_msg is ∙ m) (ap (λ (y : Item). y.head.ack) is ∙ d) in
+            (r.0, subst (λ n. In r.0 (accepted_for tx n)) here r.1, r.2, r.3 ∙ ap (λ (y : Item). y.head.op) is))
         | inr differ ↦ owing.answered q i x (omega (arith, lt, now, differ, ap (slice_index tails) here)) e m d
       ]
 
   -- a reply finds its operation, if this is live
   pub owing_found :
-      (tx : Transmitting) (tails : List ℕ) (s : ℕ) (r : Item) → r.head.outcome ≡ Done → r.head.total ≡ 0 → ((i : ℕ) × (x : Item) × (i < slice_index tx.sent s) × (slice_get (accepted_for tx s) i ≡ Some x) × (is_msg x ≡ true) × (x.head.op ≡ r.head.op)) → Owing v tx tails
+      (tx : Transmitting) (tails : List ℕ) (s : ℕ) (r : Item) → r.head.outcome ≡ Done → r.head.total ≡ 0 →
+      ((i : ℕ) × (x : Item) × (i < slice_index tx.sent s) × (slice_get (accepted_for tx s) i ≡ Some x) × (is_msg x ≡ true) × (x.head.op ≡ r.head.op)) → Owing v tx tails
       → (o : Operation) → In o tx.live → o.dest ≡ s → r.head.op ≡ o.head.op → is_answered_by tx s r.head o ≡ true
   unfolding expects
   owing_found tx tails s r outcome total (i, x, lt, has, msg, op) owing o in_live dest same =

@@ -81,7 +81,8 @@ module _ (v : View Item) (s : State) (owing : OwingAt v s) where
       go : (o : Option Operation)
           → OwingAt v (let u : State = elim o [ None ↦ with_tx (transmitting t s.tx) s | Some o ↦ end_with Done [] o (with_tx (transmitting t s.tx) s) ] in u)
       go None = left
-      go (Some o) = let e = end_same Done [] o (with_tx (transmitting t s.tx) s) in same_owing v (with_tx (transmitting t s.tx) s) (end_with Done [] o (with_tx (transmitting t s.tx) s)) e.0 (ap (λ (x : Receiving). x.tails) e.1) left
+      go (Some o) = let e = end_same Done [] o (with_tx (transmitting t s.tx) s) in same_owing v (with_tx (transmitting t s.tx) s) (end_with Done [] o (with_tx (transmitting t s.tx) s)) e.0
+          (ap (λ (x : Receiving). x.tails) e.1) left
 
   module _ (source : ℕ) (item : Item) (has : slice_get (v.ready source) (slice_index s.rx.tails source) ≡ Some item) where
     -- a reply is whole
@@ -89,7 +90,8 @@ module _ (v : View Item) (s : State) (owing : OwingAt v s) where
     unfolding do_answer answering made_whole
     reply_whole dues kind = go (find (is_answered_by s.tx source item.head) s.tx.live) refl
       where
-        due : (item.head.outcome ≡ Done) × (item.head.total ≡ 0) × ((i : ℕ) × (x : Item) × (i < slice_index s.tx.sent source) × (slice_get (accepted_for s.tx source) i ≡ Some x) × (is_msg x ≡ true) × (x.head.op ≡ item.head.op))
+        due : (item.head.outcome ≡ Done) × (item.head.total ≡ 0) ×
+            ((i : ℕ) × (x : Item) × (i < slice_index s.tx.sent source) × (slice_get (accepted_for s.tx source) i ≡ Some x) × (is_msg x ≡ true) × (x.head.op ≡ item.head.op))
         due = dues source item (get_in (v.ready source) (slice_index s.rx.tails source) item has) kind
 
         no_message : is_msg item ≡ true → Never
@@ -99,14 +101,25 @@ module _ (v : View Item) (s : State) (owing : OwingAt v s) where
         passes o i dest same = owing_found v s.tx s.rx.tails source item due.0 due.1 due.2 owing o i dest same
 
         go : (o : Option Operation) → find (is_answered_by s.tx source item.head) s.tx.live ≡ o
-            → OwingAt v (let u : State = elim o [ None ↦ with_rx (made_whole source s.rx) s | Some o ↦ end_with item.head.outcome item.bytes o (with_tx (answering source item.head s.tx) (with_rx (made_whole source s.rx) s)) ] in u)
-        go None f = owing_whole v s.tx s.rx.tails source item has (λ m d. never (no_message m)) (λ k o i dest same. absurd (omega (arith, not_found (is_answered_by s.tx source item.head) s.tx.live f, in_many (is_answered_by s.tx source item.head) s.tx.live o i (passes o i dest same)))) owing
+            → OwingAt v (let u : State = elim o [
+              | None ↦ with_rx (made_whole source s.rx) s
+              | Some o ↦ end_with item.head.outcome item.bytes o
+                  (with_tx (answering source item.head s.tx) (with_rx (made_whole source s.rx) s))
+            ] in u)
+        go None f = owing_whole v s.tx s.rx.tails source item has (λ m d. never (no_message m))
+            (λ k o i dest same. absurd (omega (
+              arith,
+              not_found (is_answered_by s.tx source item.head) s.tx.live f,
+              in_many (is_answered_by s.tx source item.head) s.tx.live o i
+                  (passes o i dest same),
+            ))) owing
         go (Some o) f =
             let e = end_same item.head.outcome item.bytes o (with_tx (answering source item.head s.tx) (with_rx (made_whole source s.rx) s)) in
             let found = found_in (is_answered_by s.tx source item.head) s.tx.live o f in
             let number : (o.head.op == item.head.op) ≡ true = (and_parts _ _ (and_parts _ _ (and_parts _ _ found.1).0).0).1 in
             let left = owing_removed v s.tx (answering source item.head s.tx) s.rx.tails (is_answered_by s.tx source item.head) refl refl refl owing in
-            same_owing v (with_tx (answering source item.head s.tx) (with_rx (made_whole source s.rx) s)) (end_with item.head.outcome item.bytes o (with_tx (answering source item.head s.tx) (with_rx (made_whole source s.rx) s))) e.0 (ap (λ (x : Receiving). x.tails) e.1)
+            same_owing v (with_tx (answering source item.head s.tx) (with_rx (made_whole source s.rx) s))
+            (end_with item.head.outcome item.bytes o (with_tx (answering source item.head s.tx) (with_rx (made_whole source s.rx) s))) e.0 (ap (λ (x : Receiving). x.tails) e.1)
             (owing_whole v (answering source item.head s.tx) s.rx.tails source item has (λ m d. never (no_message m))
             (λ k x i dest same.
             let again : (x.head.op == item.head.op) ≡ true = grind (arith, nat_tests, same) in
@@ -140,7 +153,8 @@ module _ (v : View Item) (s : State) (owing : OwingAt v s) where
     late_kept e = ap at_delivery e
 
     pub tail_owing :
-        source < length s.tx.accepted → slice_index s.rx.tails source < v.sent source → Dues v s.tx → (is_msg item ≡ true) ⊎ (item.head.kind ≡ Reply) → (is_msg item ≡ true → GoesIn (coming_from s.rx source)) → (is_msg item ≡ false → coming_from s.rx source ≡ Some Answer)
+        source < length s.tx.accepted → slice_index s.rx.tails source < v.sent source → Dues v s.tx → (is_msg item ≡ true) ⊎ (item.head.kind ≡ Reply) →
+        (is_msg item ≡ true → GoesIn (coming_from s.rx source)) → (is_msg item ≡ false → coming_from s.rx source ≡ Some Answer)
         → OwingAt v (do_tail s source item.head item.bytes)
     unfolding do_tail tail_to fill keeping made_whole
     tail_owing within lt dues (inr kind) goes answers = subst (λ c. OwingAt v (tail_to c (with_rx (made_whole source s.rx) s) source item.head item.bytes)) (sym (answers (ap is_message kind))) (reply_whole dues kind)
@@ -223,7 +237,8 @@ module _ (bound : Bound) (all : List (List LineResult)) (v : View Item) (p : ℕ
     asks : (posting : Posting) (x : Arrival) → In x a.state.rx.unexpected → takes (receive_of a.state posting).want x ≡ true → at_match x.head.ack ≡ false
     asks posting x i t =
         let lane = good.1.lanes x.source in
-        let c = both_in (Carries v x.source (slice_index a.state.rx.tails x.source)) (filter (comes_from x.source) a.state.rx.unexpected) _ x lane.unexpected_are (in_filter (comes_from x.source) a.state.rx.unexpected x i (grind (arith, nat_tests))) in
+        let c = both_in (Carries v x.source (slice_index a.state.rx.tails x.source)) (filter (comes_from x.source) a.state.rx.unexpected) _ x lane.unexpected_are
+        (in_filter (comes_from x.source) a.state.rx.unexpected x i (grind (arith, nat_tests))) in
         let msg : is_message x.head.kind ≡ true = (and_parts _ _ (and_parts _ _ (and_parts _ _ t).0).0).0 in
         let item_msg : is_msg c.1.0 ≡ true = ap (λ (h : ItemHead). is_message h.kind) (sym c.1.2) ∙ msg in
         not_match x.head.ack (λ e. acks x.source c.1.0 (get_in (v.ready x.source) x.place c.1.0 c.1.1) item_msg (ap (λ (h : ItemHead). h.ack) (sym c.1.2) ∙ e))
@@ -260,7 +275,8 @@ module _ (bound : Bound) (all : List (List LineResult)) (v : View Item) (p : ℕ
         next = some_is (next_line a) (λ (l : Line). do_line a l.op) b e
 
         go : PlainKinds next.0.op → OwingAt v b.state
-        go (inl (o, c, is)) = moves _ (after_state a b (do_call a.state (Transmit o)) (sym (do_calls a next.0.op (Transmit o) is.call) ∙ next.2)) (faulted (transmit_fault a.state o) (transmit a.state o) (transmits o c next.0.op is))
+        go (inl (o, c, is)) = moves _ (after_state a b (do_call a.state (Transmit o)) (sym (do_calls a next.0.op (Transmit o) is.call) ∙ next.2))
+            (faulted (transmit_fault a.state o) (transmit a.state o) (transmits o c next.0.op is))
         go (inr (inl (posting, c, is))) = moves _ (after_state a b (do_call a.state (Post posting)) (sym (do_calls a next.0.op (Post posting) is.call) ∙ next.2))
             (faulted (post_fault a.state posting) (post a.state posting) (post_owing v a.state owing posting (asks posting) is.least))
         go (inr (inr (ctx, op))) = let i = some_is (find (is_of_ctx ctx) a.kept) _ b (sym (ap (do_line a) op) ∙ next.2) in moves a.state (ap (λ (x : Actor). x.state) (some_same _ b i.2)) owing

@@ -125,13 +125,15 @@ no_draws a b singles e = absurd (let due : draw_due a.state.rx ≡ true = (and_p
 module _ (bound : Bound) (all : List (List LineResult)) (v : View Item) (p : ℕ) (plain : Plain bound p) (tells : Tells bound all v p) (directed : bound.script.conf.info.caps.directed_recv ≡ true) where
   module _ (a b : Actor) (own_lines : a.lines ≡ lines_of bound p) (good : PeerAt bound all v p (length a.results) a.state a.kept []) where
     few : (line : Line) → slice_get (lines_of bound p) (length a.results) ≡ Some line → nat_le 4_611_686_018_427_387_904 a.state.tx.ops ≡ false
-    few line here = let le : a.state.tx.ops ≤ length a.results = good.1.ops in let lt : length a.results < length (lines_of bound p) = slice_get_within (lines_of bound p) (length a.results) line here in grind (arith, nat_tests, le, lt, plain.short)
+    few line here = let le : a.state.tx.ops ≤ length a.results = good.1.ops in let lt : length a.results < length (lines_of bound p) = slice_get_within (lines_of bound p)
+        (length a.results) line here in grind (arith, nat_tests, le, lt, plain.short)
 
     -- a call that is refused as at the opening, or done
     call_is :
         (line : Line) (c : Call) (fault : Option Fault) (after : State) → slice_get (lines_of bound p) (length a.results) ≡ Some line → call_of line.op ≡ Some c → do_call a.state c ≡ answer fault a.state after
         → fault_of ((do_call a.state c).0) ≡ fault_of ((do_call (fresh bound.script.conf) c).0) → ((d : ℕ) → waits_op d line.op ≡ false)
-        → (fault ≡ None → is_accepted bound.script.conf line.op ≡ true → (later : List (List LineResult)) → Grown all later → done later p ≡ length a.results + 1 → PeerAt bound later v p (length a.results + 1) after a.kept [])
+        → (fault ≡ None → is_accepted bound.script.conf line.op ≡ true → (later : List (List LineResult)) → Grown all later → done later p ≡ length a.results + 1 → PeerAt bound later v p
+        (length a.results + 1) after a.kept [])
         → do_line a line.op ≡ Some b → DoIs bound all v p a b
     unfolding call_line
     call_is line c None after here call does same no_wait accepted e =
@@ -173,7 +175,12 @@ module _ (bound : Bound) (all : List (List LineResult)) (v : View Item) (p : ℕ
         let ok = same ∙ accepts_call line.op (Transmit o) is.call accepted in
         let dest = accepted_dest a.state o ok in
         let t_is = dest_is bound a.state o.dest dest.0 good.0 dest.1 in
-        let at : PeerAt bound later v p (length a.results + 1) (transmit_to dest.0 a.state o) a.kept [] = (same_setting bound a.state (transmit_to dest.0 a.state o) refl refl refl refl refl good.0, send_keeps bound all later v p (length a.results) line here grown own plain a.state a.kept o c dest.0 good.0 good.1 is accepted dest.1 t_is (within dest.0 dest.1)) in
+        let at : PeerAt bound later v p (length a.results + 1) (transmit_to dest.0 a.state o) a.kept [] = (
+          same_setting bound a.state
+              (transmit_to dest.0 a.state o) refl refl refl refl refl good.0,
+          send_keeps bound all later v p
+              (length a.results) line here grown own plain a.state a.kept o c dest.0 good.0 good.1 is accepted dest.1 t_is (within dest.0 dest.1),
+        ) in
         subst (λ (x : Option ℕ). PeerAt bound later v p (length a.results + 1) (elim x [ None ↦ a.state | Some t ↦ transmit_to t a.state o ]) a.kept []) (sym dest.1) at) e
       where
         same : fault_of ((do_call a.state (Transmit o)).0) ≡ fault_of ((do_call (fresh bound.script.conf) (Transmit o)).0)
@@ -197,7 +204,9 @@ module _ (bound : Bound) (all : List (List LineResult)) (v : View Item) (p : ℕ
     waits_is : (line : Line) (ctx : Option ℕ) → slice_get (lines_of bound p) (length a.results) ≡ Some line → line.op ≡ Wait ctx → do_line a line.op ≡ Some b
         → DoIs bound all v p a b
     unfolding do_line wait_line
-    waits_is line ctx here op e = go ctx op taken.0 taken.1 taken.2 (each_in (RightEntry bound all p) (pending_of a.kept a.state.cq) taken.0.entry good.1.pending (in_front taken.0.entry (map (λ (y : Kept). y.entry) a.kept) _ (in_map (λ (y : Kept). y.entry) a.kept _ (found_in (is_of_ctx ctx) a.kept taken.0 taken.1).0)))
+    waits_is line ctx here op e = go ctx op taken.0 taken.1 taken.2
+        (each_in (RightEntry bound all p) (pending_of a.kept a.state.cq) taken.0.entry good.1.pending
+        (in_front taken.0.entry (map (λ (y : Kept). y.entry) a.kept) _ (in_map (λ (y : Kept). y.entry) a.kept _ (found_in (is_of_ctx ctx) a.kept taken.0 taken.1).0)))
       where
         waits : wait_line a ctx ≡ Some b
         waits = sym (ap (do_line a) op) ∙ e
@@ -234,7 +243,9 @@ module _ (bound : Bound) (all : List (List LineResult)) (v : View Item) (p : ℕ
             bare = each_in (λ (y : Kept). y.bytes ≡ None) a.kept x good.1.bare (found_in (is_of_ctx ctx) a.kept x found).0
 
             here_once : 1 ≤ many (entry_is c) (pending_of a.kept a.state.cq)
-            here_once = in_many (entry_is c) (pending_of a.kept a.state.cq) x.entry (in_front x.entry (map (λ (y : Kept). y.entry) a.kept) _ (in_map (λ (y : Kept). y.entry) a.kept _ (found_in (is_of_ctx ctx) a.kept x found).0)) (ap (has_ctx c) ctx_is ∙ grind (arith, nat_tests))
+            here_once = in_many (entry_is c) (pending_of a.kept a.state.cq) x.entry
+                (in_front x.entry (map (λ (y : Kept). y.entry) a.kept) _ (in_map (λ (y : Kept). y.entry) a.kept _ (found_in (is_of_ctx ctx) a.kept x found).0))
+                (ap (has_ctx c) ctx_is ∙ grind (arith, nat_tests))
 
             not_waited : is_waited bound all p c ≡ false
             not_waited = ap (λ n. list_any (waits_for c) (take n (lines_of bound p))) good.1.own
@@ -274,8 +285,11 @@ module _ (bound : Bound) (all : List (List LineResult)) (v : View Item) (p : ℕ
     unfolding head_step do_head
     head_keeps source kinds e = moved _ t.1 (go (is_msg item) refl (kinds item (get_in (v.ready source) _ item i.1)))
       where
-        i : (x : Item) × (slice_get (v.ready source) (slice_index a.state.rx.heads source) ≡ Some x) × (only_if ((slice_index a.state.rx.heads source == slice_index a.state.rx.tails source) && not (draw_due a.state.rx)) (with_state a (do_head a.state source x.head)) ≡ Some b)
-        i = some_is (slice_get (v.ready source) (slice_index a.state.rx.heads source)) (λ (x : Item). only_if ((slice_index a.state.rx.heads source == slice_index a.state.rx.tails source) && not (draw_due a.state.rx)) (with_state a (do_head a.state source x.head))) b e
+        i : (x : Item) × (slice_get (v.ready source) (slice_index a.state.rx.heads source) ≡ Some x) ×
+            (only_if ((slice_index a.state.rx.heads source == slice_index a.state.rx.tails source) && not (draw_due a.state.rx)) (with_state a (do_head a.state source x.head)) ≡ Some b)
+        i = some_is (slice_get (v.ready source) (slice_index a.state.rx.heads source))
+            (λ (x : Item). only_if ((slice_index a.state.rx.heads source == slice_index a.state.rx.tails source) && not (draw_due a.state.rx))
+            (with_state a (do_head a.state source x.head))) b e
 
         item : Item
         item = i.0
@@ -290,7 +304,11 @@ module _ (bound : Bound) (all : List (List LineResult)) (v : View Item) (p : ℕ
             → PeerAt bound all v p (length a.results) (elim m [ true ↦ with_rx (heading_message source item.head a.state.rx) a.state | false ↦ with_rx (heading_other source item.head.kind a.state.rx) a.state ]) a.kept []
         go true msg kind = (same_setting bound a.state _ refl refl refl refl refl good.0, message_arrives bound all v p (length a.results) tells a.state.tx a.state.rx a.state.cq a.kept source item good.1 i.1 level msg)
         go false msg (inl tagged) = absurd (cc (msg, tagged))
-        go false msg (inr reply) = (same_setting bound a.state _ refl refl refl refl refl good.0, reply_arrives bound all v p (length a.results) tells a.state.tx a.state.rx a.state.cq a.kept source item good.1 i.1 level msg reply)
+        go false msg (inr reply) = (
+          same_setting bound a.state _ refl refl refl refl refl good.0,
+          reply_arrives bound all v p
+              (length a.results) tells a.state.tx a.state.rx a.state.cq a.kept source item good.1 i.1 level msg reply,
+        )
 
     tail_keeps : (source : ℕ) → tail_step v a source ≡ Some b → StaysInStep
     unfolding tail_step
@@ -349,7 +367,8 @@ module _ (bound : Bound) (all : List (List LineResult)) (v : View Item) (p : ℕ
         same = pending_read a.kept a.state new w i.1 refl
 
         right : RightEntry bound all p w.entry
-        right = each_in (RightEntry bound all p) (pending_of a.kept a.state.cq) w.entry good.1.pending (in_back w.entry (map (λ (x : Kept). x.entry) a.kept) _ (subst (In w.entry) (sym (unread_is a.state.cq w i.1)) (inl refl)))
+        right = each_in (RightEntry bound all p) (pending_of a.kept a.state.cq) w.entry good.1.pending
+            (in_back w.entry (map (λ (x : Kept). x.entry) a.kept) _ (subst (In w.entry) (sym (unread_is a.state.cq w i.1)) (inl refl)))
 
     -- the final cancels begin once all is calm
     pub step_keeps : (x : Step) → ((source : ℕ) (item : Item) → In item (v.ready source) → MessageOrReply item) → fabric.step v a x ≡ Some b

@@ -76,7 +76,11 @@ module _ (bound : Bound) (all : List (List LineResult)) (v : View Item) (p k : �
       → after.live ≡ remove_first test s.tx.live → after.accepted ≡ s.tx.accepted → after.ops ≡ s.tx.ops → LiveItems bound.script.conf.peers after
       → PeerAt bound all v p k (end_with Done bytes o (with_tx after s)) kept []
   unfolding end_with
-  ended s after kept test o bytes at found live accepted ops live_items = rw silent (same_setting bound s _ refl refl refl refl refl at.0, entry_written bound all v p k after s.rx s.cq kept (Some o.call) is.0 _ right (live_taken bound all v p k s.tx after s.rx s.cq kept test o is.0 at.1 found is.1 live accepted ops live_items))
+  ended s after kept test o bytes at found live accepted ops live_items = rw silent (
+    same_setting bound s _ refl refl refl refl refl at.0,
+    entry_written bound all v p k after s.rx s.cq kept (Some o.call) is.0 _ right
+        (live_taken bound all v p k s.tx after s.rx s.cq kept test o is.0 at.1 found is.1 live accepted ops live_items),
+  )
     where
       is : RightOperation bound all p o
       is = each_in (RightOperation bound all p) s.tx.live o at.1.live (found_in test s.tx.live o found).0
@@ -97,7 +101,11 @@ module _ (bound : Bound) (all : List (List LineResult)) (v : View Item) (p k : �
 
       go : (o : Option Operation) → ending t s.tx ≡ o
           → PeerAt bound all v p k (elim o [ None ↦ with_tx (transmitting t s.tx) s | Some o ↦ end_with Done [] o (with_tx (transmitting t s.tx) s) ]) kept []
-      go None f = (same_setting bound s _ refl refl refl refl refl at.0, live_same bound all v p k s.tx (transmitting t s.tx) s.rx s.cq kept [] at.1 (not_removed (is_of_item t (slice_index s.tx.sent t)) s.tx.live f) refl refl live_items)
+      go None f = (
+        same_setting bound s _ refl refl refl refl refl at.0,
+        live_same bound all v p k s.tx (transmitting t s.tx) s.rx s.cq kept [] at.1
+            (not_removed (is_of_item t (slice_index s.tx.sent t)) s.tx.live f) refl refl live_items,
+      )
       go (Some o) f = ended s (transmitting t s.tx) kept (is_of_item t (slice_index s.tx.sent t)) o [] at f refl refl refl live_items
 
   answered_by : (s : State) (source : ℕ) (head : ItemHead) (bytes : List ℕ) (kept : List Kept) → PeerAt bound all v p k s kept []
@@ -112,7 +120,9 @@ module _ (bound : Bound) (all : List (List LineResult)) (v : View Item) (p k : �
           let i = found_in (is_answered_by s.tx source head) s.tx.live o f in
           let is = each_in (RightOperation bound all p) s.tx.live o at.1.live i.0 in
           let outcome = done_expected o head.outcome head.total is.3 (and_parts _ _ i.1).1 in
-          subst (λ x. PeerAt bound all v p k (end_with x bytes o (with_tx (answering source head s.tx) s)) kept []) (sym outcome) (ended s (answering source head s.tx) kept (is_answered_by s.tx source head) o bytes at f refl refl refl (live_items_removed bound.script.conf.peers s.tx (answering source head s.tx) (is_answered_by s.tx source head) refl refl refl at.1.live_items))
+          subst (λ x. PeerAt bound all v p k (end_with x bytes o (with_tx (answering source head s.tx) s)) kept []) (sym outcome)
+          (ended s (answering source head s.tx) kept (is_answered_by s.tx source head) o bytes at f refl refl refl
+          (live_items_removed bound.script.conf.peers s.tx (answering source head s.tx) (is_answered_by s.tx source head) refl refl refl at.1.live_items))
 
   -- ---- bytes
 
@@ -120,7 +130,8 @@ module _ (bound : Bound) (all : List (List LineResult)) (v : View Item) (p k : �
       (rx after : Receiving) (source : ℕ) (unexpected : List Arrival) → ((t : ℕ) → LaneOf bound all v p k rx t) → source < length rx.tails → source < length rx.coming
       → after.heads ≡ rx.heads → after.tails ≡ raise rx.tails source → after.coming ≡ set rx.coming source None → after.posted ≡ rx.posted → after.unexpected ≡ unexpected
       → ((t : ℕ) → source ≢ t → filter (comes_from t) unexpected ≡ filter (comes_from t) rx.unexpected)
-      → Lane bound all v p source (receives bound.script.conf source (take k (lines_of bound p))) (slice_index rx.heads source) (slice_index rx.tails source + 1) None (filter (is_from source) rx.posted) (filter (comes_from source) unexpected)
+      → Lane bound all v p source (receives bound.script.conf source (take k (lines_of bound p))) (slice_index rx.heads source) (slice_index rx.tails source + 1) None
+      (filter (is_from source) rx.posted) (filter (comes_from source) unexpected)
       → (t : ℕ) → LaneOf bound all v p k after t
   tail_lanes rx after source unexpected lanes in_tails in_coming heads tails coming posted is_unexpected others lane t = elim (cases_eq source t) [
     | inl same ↦ subst (LaneOf bound all v p k after) same (lane_same bound all v p k source _ _ _ _ _ _ _ _ _ _ _
@@ -128,7 +139,8 @@ module _ (bound : Bound) (all : List (List LineResult)) (v : View Item) (p k : �
         (ap (λ (xs : List (Option Coming)). get_or xs source None) coming ∙ get_or-set_same rx.coming source None None in_coming) (ap (filter (is_from source)) posted) (ap (filter (comes_from source)) is_unexpected) lane)
     | inr differ ↦ lane_same bound all v p k t _ _ _ _ _ _ _ _ _ _ _
         (ap (λ xs. slice_index xs t) heads) (ap (λ xs. slice_index xs t) tails ∙ get_or-set_other rx.tails source t _ 0 (λ e. differ (sym e)))
-        (ap (λ (xs : List (Option Coming)). get_or xs t None) coming ∙ get_or-set_other rx.coming source t None None (λ e. differ (sym e))) (ap (filter (is_from t)) posted) (ap (filter (comes_from t)) is_unexpected ∙ others t differ) (lanes t)
+        (ap (λ (xs : List (Option Coming)). get_or xs t None) coming ∙ get_or-set_other rx.coming source t None None (λ e. differ (sym e))) (ap (filter (is_from t)) posted)
+        (ap (filter (comes_from t)) is_unexpected ∙ others t differ) (lanes t)
   ]
 
   filling_same : (r : Receive) (place : ℕ) (bytes : List ℕ) (rx : Receiving) → r.least ≡ None → filling r place bytes rx ≡ rx
@@ -138,7 +150,12 @@ module _ (bound : Bound) (all : List (List LineResult)) (v : View Item) (p k : �
       (r : Receive) (source : ℕ) (head : ItemHead) (bytes : List ℕ) (s : State) (kept : List Kept) → r.least ≡ None → Right bound all p r.ctx (entry_of r 0 source head bytes) → PeerAt bound all v p k s kept (r.ctx ∷ [])
       → PeerAt bound all v p k (fill r 0 source head bytes s) kept []
   unfolding fill
-  fill_at r source head bytes s kept single right at = (same_setting bound s _ refl refl refl refl refl at.0, subst (λ rx. InStep bound all v p k s.tx rx (writing (Some r.call) (entry_of r 0 source head bytes) s.cq) kept []) (sym (filling_same r 0 bytes s.rx single)) (entry_written bound all v p k s.tx s.rx s.cq kept (Some r.call) r.ctx _ right at.1))
+  fill_at r source head bytes s kept single right at = (
+    same_setting bound s _ refl refl refl refl refl at.0,
+    subst
+        (λ rx. InStep bound all v p k s.tx rx (writing (Some r.call) (entry_of r 0 source head bytes) s.cq) kept []) (sym (filling_same r 0 bytes s.rx single))
+        (entry_written bound all v p k s.tx s.rx s.cq kept (Some r.call) r.ctx _ right at.1),
+  )
 
   module _ (tells : Tells bound all v p) (plain : Plain bound p) (source : ℕ) (item : Item) where
     -- the item that comes is whole
@@ -170,11 +187,15 @@ module _ (bound : Bound) (all : List (List LineResult)) (v : View Item) (p k : �
         (told.0, come ∙ ap Some entry, told.1)
 
     into_at :
-        (r : Receive) (place : ℕ) (s : State) (kept : List Kept) → PeerAt bound all v p k s kept [] → slice_get (v.ready source) (slice_index s.rx.tails source) ≡ Some item → coming_from s.rx source ≡ Some (Into r place) → slice_index s.rx.heads source ≡ slice_index s.rx.tails source + 1
+        (r : Receive) (place : ℕ) (s : State) (kept : List Kept) → PeerAt bound all v p k s kept [] → slice_get (v.ready source) (slice_index s.rx.tails source) ≡ Some item
+        → coming_from s.rx source ≡ Some (Into r place) → slice_index s.rx.heads source ≡ slice_index s.rx.tails source + 1
         → PeerAt bound all v p k (tail_to (Some (Into r place)) (with_rx (made_whole source s.rx) s) source item.head item.bytes) kept []
     unfolding tail_to
-    into_at r place s kept at has coming begun_is = subst (λ n. PeerAt bound all v p k (release r (book (at_either item.head.ack) source item.head (fill r n source item.head item.bytes (with_rx (made_whole source s.rx) s)))) kept []) (sym zero_place)
-        (subst (λ u. PeerAt bound all v p k u kept []) (sym (released_same r _ single)) (book_at (at_either item.head.ack) source item.head _ kept [] (fill_at r source item.head item.bytes (with_rx (made_whole source s.rx) s) kept single right
+    into_at r place s kept at has coming begun_is = subst
+        (λ n. PeerAt bound all v p k (release r (book (at_either item.head.ack) source item.head (fill r n source item.head item.bytes (with_rx (made_whole source s.rx) s)))) kept [])
+        (sym zero_place)
+        (subst (λ u. PeerAt bound all v p k u kept []) (sym (released_same r _ single))
+        (book_at (at_either item.head.ack) source item.head _ kept [] (fill_at r source item.head item.bytes (with_rx (made_whole source s.rx) s) kept single right
         (same_setting bound s _ refl refl refl refl refl at.0, whole s.tx s.rx s.cq kept (r.ctx ∷ []) (Some (Into r place)) at.1 has coming refl begun_is (λ d. omega arith)))))
       where
         lane : LaneOf bound all v p k s.rx source
@@ -270,4 +291,5 @@ module _ (bound : Bound) (all : List (List LineResult)) (v : View Item) (p k : �
         go (Some Keep) e = kept_at s kept at has e begun_is
         go (Some Throw) e = never (bad (Some Throw) e)
         go (Some Request) e = never (bad (Some Request) e)
-        go (Some Answer) e = answered_by (with_rx (made_whole source s.rx) s) source item.head item.bytes kept (same_setting bound s _ refl refl refl refl refl at.0, whole s.tx s.rx s.cq kept [] (Some Answer) at.1 has e refl begun_is (λ d. refl))
+        go (Some Answer) e = answered_by (with_rx (made_whole source s.rx) s) source item.head item.bytes kept
+            (same_setting bound s _ refl refl refl refl refl at.0, whole s.tx s.rx s.cq kept [] (Some Answer) at.1 has e refl begun_is (λ d. refl))

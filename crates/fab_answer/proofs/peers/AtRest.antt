@@ -46,7 +46,8 @@ pending_kept : (kept : List Kept) (cq : Completions) → cq.taken_out ≡ length
 pending_kept kept cq read = ap (λ (ws : List Written). map (λ (k : Kept). k.entry) kept ++ map (λ (w : Written). w.entry) ws) (drop_all cq.taken_out cq.written (omega (arith, read)))
     ∙ append-nil (map (λ (k : Kept). k.entry) kept)
 
-module _ (bound : Bound) (settled : is_settled bound ≡ true) (states : List Actor) (rest : at_rest states ≡ true) (empty : all_done states ≡ true → nothing_posted states ≡ true) (p : ℕ) (a : Actor) (here : slice_get states p ≡ Some a) where
+module _ (bound : Bound) (settled : is_settled bound ≡ true) (states : List Actor) (rest : at_rest states ≡ true) (empty : all_done states ≡ true → nothing_posted states ≡ true) (p : ℕ)
+    (a : Actor) (here : slice_get states p ≡ Some a) where
   none_posted : all_done states ≡ true → a.state.rx.posted ≡ []
   none_posted done = go a.state.rx.posted (all_at (λ (x : Actor). is_empty x.state.rx.posted) states p a (empty done) here)
     where
@@ -56,7 +57,8 @@ module _ (bound : Bound) (settled : is_settled bound ≡ true) (states : List Ac
 
   all_lines_done : all_done states ≡ true → a.lines ≡ lines_of bound p → done_lines bound (results_of states) p ≡ lines_of bound p
   all_lines_done done lines = ap (λ n. take n (lines_of bound p)) (ap length (done_at states p a here))
-      ∙ take_all (length a.results) (lines_of bound p) (ended_at (lines_of bound p) (length a.results) (ap (λ (ls : List Line). slice_get ls (length a.results)) (sym lines) ∙ none_next a (all_at is_finished states p a done here)))
+      ∙ take_all (length a.results) (lines_of bound p)
+      (ended_at (lines_of bound p) (length a.results) (ap (λ (ls : List Line). slice_get ls (length a.results)) (sym lines) ∙ none_next a (all_at is_finished states p a done here)))
 
   -- with all lines done, an entry that comes or is the cancel's has its line done, and no receive is posted for it
   done_present : all_done states ≡ true → a.lines ≡ lines_of bound p → (fin : Bool) (c : ℕ) (e : Taken) → final_entry bound (results_of states) fin p c ≡ Some e

@@ -133,7 +133,12 @@ module _ (bound : Bound) (all : List (List LineResult)) (p : ℕ) (a b : Actor) 
   }))
     where
       nothing_ends : do_sent a.state t ≡ with_tx (transmitting t a.state.tx) a.state
-      nothing_ends = ap (λ (ops : List Operation). elim (find (is_of_item t (slice_index a.state.tx.sent t)) ops) [ None ↦ with_tx (transmitting t a.state.tx) a.state | Some o ↦ end_with Done [] o (with_tx (transmitting t a.state.tx) a.state) ]) is.live
+      nothing_ends = ap (λ (ops : List Operation). elim
+          (find (is_of_item t (slice_index a.state.tx.sent t)) ops) [
+            | None ↦ with_tx (transmitting t a.state.tx) a.state
+            | Some o ↦ end_with Done [] o
+                (with_tx (transmitting t a.state.tx) a.state)
+          ]) is.live
 
   read_ended : read_next a ≡ Some b → StaysEnded
   unfolding read_next
@@ -157,7 +162,8 @@ module _ (bound : Bound) (all : List (List LineResult)) (p : ℕ) (a b : Actor) 
       same = pending_read a.kept a.state new i.0 i.1 refl
 
       right : FinalEntry bound all p i.0.entry
-      right = each_in (FinalEntry bound all p) (pending_of a.kept a.state.cq) i.0.entry is.pending (in_back i.0.entry (map (λ (x : Kept). x.entry) a.kept) _ (subst (In i.0.entry) (sym (unread_is a.state.cq i.0 i.1)) (inl refl)))
+      right = each_in (FinalEntry bound all p) (pending_of a.kept a.state.cq) i.0.entry is.pending
+          (in_back i.0.entry (map (λ (x : Kept). x.entry) a.kept) _ (subst (In i.0.entry) (sym (unread_is a.state.cq i.0 i.1)) (inl refl)))
 
   canceled : (o : Option Receive) → cancellable (λ r. true) a.state.rx ≡ o → Ended bound all p (with_state a (cancel a.state (λ r. true)))
   unfolding cancel
@@ -169,7 +175,14 @@ module _ (bound : Bound) (all : List (List LineResult)) (p : ℕ) (a b : Actor) 
     read = omega (arith, is.read, length-append a.state.cq.written (record { call = Some r.call; entry = entry } ∷ []));
     pending = subst (Each (FinalEntry bound all p)) (sym more) (each_append (FinalEntry bound all p) (pending_of a.kept a.state.cq) (entry ∷ []) is.pending (((r.ctx, refl, waits, refl), always)));
     bare = is.bare;
-    tokens = λ c. omega (arith, is.tokens c, many_removed (receive_is c) (may_leave a.state.rx (λ r. true)) a.state.rx.posted r f, ap (many (entry_is c)) more, many_append (entry_is c) (pending_of a.kept a.state.cq) (entry ∷ []));
+    tokens = λ c. omega (
+      arith,
+      is.tokens c,
+      many_removed (receive_is c) (may_leave a.state.rx (λ r. true)) a.state.rx.posted r f,
+      ap (many (entry_is c)) more,
+      many_append (entry_is c)
+          (pending_of a.kept a.state.cq) (entry ∷ []),
+    );
   })
     where
       entry : Taken
@@ -213,7 +226,8 @@ module _ (bound : Bound) (states : List Actor) (p : ℕ) (a b : Actor) (x : Step
       go Final e is = final_ended bound (results_of states) p a b (ends.ended p a here) (seen fabric states p) e
 
 pub ended_turn :
-    (bound : Bound) (states : List Actor) (p : ℕ) (a b : Actor) (x : Step) → views.Sound fabric bound.script.conf.peers (Own bound.script.conf.peers) states → AllEnded bound states → slice_get states p ≡ Some a → fabric.step (seen fabric states p) a x ≡ Some b
+    (bound : Bound) (states : List Actor) (p : ℕ) (a b : Actor) (x : Step) → views.Sound fabric bound.script.conf.peers (Own bound.script.conf.peers) states → AllEnded bound states
+    → slice_get states p ≡ Some a → fabric.step (seen fabric states p) a x ≡ Some b
     → AllEnded bound (set states p b) × (told (set states p b) ≡ told states)
 unfolding fabric
 ended_turn bound states p a b x sound ends here stands = (
@@ -264,7 +278,8 @@ calm_ended bound states settled world whole live calm = record { calm = calm; en
         good = (world.in_step p a here).1
 
         waits : (r : Receive) → In r a.state.rx.posted → Waiting bound (results_of states) p r
-        waits r i = ap (option_and_then (λ (l : Line). option_or (comes bound (results_of states) p r.ctx) (cancels true bound.script.conf l.op))) (find_whole (makes bound.script.conf r.ctx) (lines_of bound p) _ line.0 line.1)
+        waits r i = ap (option_and_then (λ (l : Line). option_or (comes bound (results_of states) p r.ctx) (cancels true bound.script.conf l.op)))
+            (find_whole (makes bound.script.conf r.ctx) (lines_of bound p) _ line.0 line.1)
             ∙ ap (λ (o : Option Taken). option_or o (cancels true bound.script.conf line.0.op)) (none (comes bound (results_of states) p r.ctx) refl)
             ∙ ap (option_map canceled_entry) line.2
           where

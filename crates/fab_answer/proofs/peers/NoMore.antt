@@ -63,7 +63,11 @@ again_five false false false d e x y s u f g = rw (f, g refl refl refl) refl
 
 call_done : (a : Actor) (op : LineOp) (c : Call) → call_of op ≡ Some c → is_again ((do_call a.state c).0) ≡ false → (b : Actor) × (do_line a op ≡ Some b)
 unfolding call_line
-call_done a op c call t = (with_result ((do_call a.state c).0) (with_state a ((do_call a.state c).1)), do_calls a op c call ∙ ap (λ (again : Bool). elim again [ true ↦ None | false ↦ Some (with_result ((do_call a.state c).0) (with_state a ((do_call a.state c).1))) ]) t)
+call_done a op c call t = (
+  with_result ((do_call a.state c).0) (with_state a ((do_call a.state c).1)),
+  do_calls a op c call ∙ ap
+      (λ (again : Bool). elim again [ true ↦ None | false ↦ Some (with_result ((do_call a.state c).0) (with_state a ((do_call a.state c).1))) ]) t,
+)
 
 -- at most one entry more is written
 abbrev LittleMore : Completions → Completions → Type 0
@@ -81,7 +85,8 @@ give_cq r place a s = go a.bytes
     go : (o : Option (List ℕ))
         → (let u : State = elim o [ None ↦ with_rx (goes a.source (Into r place) s.rx) s | Some bytes ↦ book (at_match a.head.ack) a.source a.head (fill r place a.source a.head bytes s) ] in LittleMore s.cq u.cq)
     go None = (refl, refl, omega arith)
-    go (Some bytes) = subst (LittleMore s.cq) (sym (book_cq (at_match a.head.ack) a.source a.head (fill r place a.source a.head bytes s))) (refl, refl, omega (arith, length-append s.cq.written (record { call = Some r.call; entry = entry_of r place a.source a.head bytes } ∷ [])))
+    go (Some bytes) = subst (LittleMore s.cq) (sym (book_cq (at_match a.head.ack) a.source a.head (fill r place a.source a.head bytes s)))
+        (refl, refl, omega (arith, length-append s.cq.written (record { call = Some r.call; entry = entry_of r place a.source a.head bytes } ∷ [])))
 
 post_cq : (s : State) (posting : Posting) → LittleMore s.cq (post s posting).cq
 unfolding post
@@ -116,7 +121,8 @@ CqSizes bound states = (p : ℕ) (a : Actor) → slice_get states p ≡ Some a �
 
 -- where they rest, the answer has no line more
 pub rest_ends :
-    (bound : Bound) (states : List Actor) → is_settled bound ≡ true → World bound states → at_rest states ≡ true → 1 ≤ bound.script.conf.info.tx → 1 ≤ bound.script.conf.info.cq → CqSizes bound states → NothingLive states → RoomToPost bound states
+    (bound : Bound) (states : List Actor) → is_settled bound ≡ true → World bound states → at_rest states ≡ true → 1 ≤ bound.script.conf.info.tx → 1 ≤ bound.script.conf.info.cq
+    → CqSizes bound states → NothingLive states → RoomToPost bound states
     → AtEnd (turn (answering bound)) (told states)
 unfolding do_call transmit_fault post_fault do_line wait_line do_next
 rest_ends bound states settled world rest tx cq sizes live room p = go (none_or_some (turn (answering bound) (told states) p))
@@ -133,7 +139,8 @@ rest_ends bound states settled world rest tx cq sizes live room p = go (none_or_
         line = is.0
 
         actor : (o : Option Actor) → slice_get states p ≡ o → turn (answering bound) (told states) p ≡ None
-        actor None e = absurd (let bad : None ≡ Some (is.0 ∷ is.1) = sym (slice_get-map (λ (x : Actor). drop (length x.results) x.lines) states p ∙ ap (option_map (λ (x : Actor). drop (length x.results) x.lines)) e) ∙ is.3 in cc)
+        actor None e = absurd (let bad : None ≡ Some (is.0 ∷ is.1) = sym
+            (slice_get-map (λ (x : Actor). drop (length x.results) x.lines) states p ∙ ap (option_map (λ (x : Actor). drop (length x.results) x.lines)) e) ∙ is.3 in cc)
         actor (Some a) e = absurd (cc (stands.1, at.stuck))
           where
             at : Rest states p a
@@ -143,7 +150,8 @@ rest_ends bound states settled world rest tx cq sizes live room p = go (none_or_
             plain = settled_plain bound p settled (omega (arith, slice_get_within states p a e, world.count))
 
             cut : drop (length a.results) a.lines ≡ is.0 ∷ is.1
-            cut = let f : Some (drop (length a.results) a.lines) ≡ Some (is.0 ∷ is.1) = sym (slice_get-map (λ (x : Actor). drop (length x.results) x.lines) states p ∙ ap (option_map (λ (x : Actor). drop (length x.results) x.lines)) e)
+            cut = let f : Some (drop (length a.results) a.lines) ≡ Some (is.0 ∷ is.1) = sym
+                (slice_get-map (λ (x : Actor). drop (length x.results) x.lines) states p ∙ ap (option_map (λ (x : Actor). drop (length x.results) x.lines)) e)
                 ∙ is.3 in cc
 
             next : next_line a ≡ Some is.0
@@ -157,13 +165,19 @@ rest_ends bound states settled world rest tx cq sizes live room p = go (none_or_
 
             line_stands : PlainKinds is.0.op → (b : Actor) × (do_line a is.0.op ≡ Some b)
             line_stands (inl (o, c, sends)) = call_done a is.0.op (Transmit o) sends.call (again_four (not (is_granted a.state.caps o.kind o.atom)) (is_too_long o)
-                (is_none (lookup a.state.av o.dest) || nat_le 4_611_686_018_427_387_904 a.state.tx.ops || not (is_well_formed o o.atom)) (nat_le a.state.most_tx (in_use a.state.tx)) (TxFull a.state.most_tx) a.state (transmit a.state o) few)
+                (is_none (lookup a.state.av o.dest) || nat_le 4_611_686_018_427_387_904 a.state.tx.ops || not (is_well_formed o o.atom)) (nat_le a.state.most_tx (in_use a.state.tx))
+                (TxFull a.state.most_tx) a.state (transmit a.state o) few)
               where
                 few : nat_le a.state.most_tx (in_use a.state.tx) ≡ false
                 few = let n : length a.state.tx.live ≡ 0 = ap length (live p a e) in let m : a.state.most_tx ≡ bound.script.conf.info.tx = (world.in_step p a e).0.most_tx in grind (arith, nat_tests, n, m, tx)
-            line_stands (inr (inl (posting, c, receives))) = call_done a is.0.op (Post posting) receives.call (again_five (not (may_receive a.state posting.tagged)) (nat_lt 16_777_216 (length posting.buf)) (not (source_is_known a.state posting.source) || least_is_wrong posting)
-                (lacks_room a.state (post a.state posting)) (is_none (taken_by (receive_of a.state posting) a.state) && nat_le a.state.most_rx (length a.state.rx.posted)) (CqFull a.state.cq.size) (PostedFull a.state.most_rx) a.state (post a.state posting)
-                (has_room a.state posting at.no_draw at.read (omega (arith, sizes p a e, cq))) (λ x y z. room p a is.0 e next posting c receives (ap is_none (refusal_is bound is.0.op (Post posting) receives.call ∙ sym (post_as_opening bound a.state (world.in_step p a e).0 posting) ∙ post_lasting a.state posting x y z))))
+            line_stands (inr (inl (posting, c, receives))) = call_done a is.0.op (Post posting) receives.call
+                (again_five (not (may_receive a.state posting.tagged)) (nat_lt 16_777_216 (length posting.buf)) (not (source_is_known a.state posting.source) || least_is_wrong posting)
+                (lacks_room a.state (post a.state posting)) (is_none (taken_by (receive_of a.state posting) a.state) && nat_le a.state.most_rx (length a.state.rx.posted))
+                (CqFull a.state.cq.size) (PostedFull a.state.most_rx) a.state (post a.state posting)
+                (has_room a.state posting at.no_draw at.read (omega (arith, sizes p a e, cq)))
+                (λ x y z. room p a is.0 e next posting c receives
+                (ap is_none (refusal_is bound is.0.op (Post posting) receives.call ∙ sym (post_as_opening bound a.state (world.in_step p a e).0 posting)
+                ∙ post_lasting a.state posting x y z))))
             line_stands (inr (inr (ctx, op))) = waits ctx op
               where
                 waits : (ctx : Option ℕ) → is.0.op ≡ Wait ctx → (b : Actor) × (do_line a is.0.op ≡ Some b)
@@ -176,7 +190,8 @@ rest_ends bound states settled world rest tx cq sizes live room p = go (none_or_
                     elim_wait : (b : Bool) → is_waited bound (results_of states) p c ≡ b → (d : Actor) × (do_line a is.0.op ≡ Some d)
                     elim_wait true w = absurd (let bad : None ≡ Some comes_next.0 = sym (ap (λ (b : Bool). elim b [ true ↦ None | false ↦ option_map waited (comes bound (results_of states) p c) ]) w) ∙ result in cc)
                     elim_wait false w =
-                        let f = map_is waited (comes bound (results_of states) p c) comes_next.0 (sym (ap (λ (b : Bool). elim b [ true ↦ None | false ↦ option_map waited (comes bound (results_of states) p c) ]) w) ∙ result) in
+                        let f = map_is waited (comes bound (results_of states) p c) comes_next.0
+                        (sym (ap (λ (b : Bool). elim b [ true ↦ None | false ↦ option_map waited (comes bound (results_of states) p c) ]) w) ∙ result) in
                         let kept = entry_read bound states world p a e (rest_whole states rest) plain c f.0 at.read (live p a e) w f.1 in (
                           with_result (Waited kept.0) (record a { kept = remove_first (is_of_ctx (Some c)) a.kept }),
                           ap (do_line a) op

@@ -63,9 +63,12 @@ module _ (bound : Bound) (states : List Actor) (world : World bound states) (owi
 
 -- a turn of one peer
 pub owings_turn :
-    (bound : Bound) → is_settled bound ≡ true → (states : List Actor) (p : ℕ) (x : Step) (b : Actor) → Sound bound states → World bound states → Owings states → (a : Actor) → slice_get states p ≡ Some a → fabric.step (seen fabric states p) a x ≡ Some b
+    (bound : Bound) → is_settled bound ≡ true → (states : List Actor) (p : ℕ) (x : Step) (b : Actor) → Sound bound states → World bound states → Owings states → (a : Actor)
+    → slice_get states p ≡ Some a → fabric.step (seen fabric states p) a x ≡ Some b
     → Owings (set states p b) ⊎ ((seen fabric states p).calm ≡ true)
-owings_turn bound settled states p x b sound world owings a here stands = first (step_keeps bound (results_of states) (seen fabric states p) p plain (tells bound states world p) (settled_directed bound settled) a b (world.lines p a here) (world.in_step p a here) x (kinds bound states world p) stands)
+owings_turn bound settled states p x b sound world owings a here stands = first
+    (step_keeps bound (results_of states) (seen fabric states p) p plain (tells bound states world p) (settled_directed bound settled) a b (world.lines p a here) (world.in_step p a here) x
+    (kinds bound states world p) stands)
   where
     plain : Plain bound p
     plain = settled_plain bound p settled (omega (arith, slice_get_within states p a here, world.count))
@@ -94,10 +97,12 @@ owings_turn bound settled states p x b sound world owings a here stands = first 
         (acks_of bound states world owings p) (dues_of bound states world owings p a here) (owings.owing p a here) x stands
 
     first : DoIs bound (results_of states) (seen fabric states p) p a b
-        ⊎ (((b.results ≡ a.results) × (b.lines ≡ a.lines) × PeerAt bound (results_of states) (seen fabric states p) p (length a.results) b.state b.kept []) ⊎ ((seen fabric states p).calm ≡ true)) → Owings (set states p b) ⊎ ((seen fabric states p).calm ≡ true)
+        ⊎ (((b.results ≡ a.results) × (b.lines ≡ a.lines) × PeerAt bound (results_of states) (seen fabric states p) p (length a.results) b.state b.kept []) ⊎
+        ((seen fabric states p).calm ≡ true)) → Owings (set states p b) ⊎ ((seen fabric states p).calm ≡ true)
     first (inl d) =
         let size : length b.results ≡ length a.results + 1 = omega (arith, ap length d.4, length-append a.results (d.1 ∷ [])) in
-        let at = d.6 (results_of (set states p b)) (grown bound settled states world sound p a b x here stands (omega (arith, size))) (ap length (done_at (set states p b) p b (slice_get-set_same states p b (slice_get_within states p a here))) ∙ size) in
+        let at = d.6 (results_of (set states p b)) (grown bound settled states world sound p a b x here stands (omega (arith, size)))
+        (ap length (done_at (set states p b) p b (slice_get-set_same states p b (slice_get_within states p a here))) ∙ size) in
         then (λ s. let lane = at.1.lanes s in omega (arith, lane.ahead, lane.within)) next
     first (inr (inl (r, l, at))) = then (λ s. let lane = at.1.lanes s in omega (arith, lane.ahead, lane.within)) next
     first (inr (inr calm)) = inr calm
@@ -149,7 +154,8 @@ cleared bound states world owings all_whole p a here = go a.state.tx.live refl
             level Match l = k.2 l
             level Delivery l =
                 let msg : is_msg k.0.0 ≡ true = ap (λ (h : ItemHead). is_message h.kind) k.0.2 ∙ k.3 in
-                let r = (owings.owing o.dest receiver e).answered p o.place k.0.0 (omega (arith, has_item.1, there.0)) (ap (λ (xs : List Item). slice_get xs o.place) (ready_of bound states world o.dest p (Some a) here) ∙ k.0.1) msg (ap (λ (h : ItemHead). h.ack) k.0.2 ∙ l) in
+                let r = (owings.owing o.dest receiver e).answered p o.place k.0.0 (omega (arith, has_item.1, there.0))
+                (ap (λ (xs : List Item). slice_get xs o.place) (ready_of bound states world o.dest p (Some a) here) ∙ k.0.1) msg (ap (λ (h : ItemHead). h.ack) k.0.2 ∙ l) in
                 let j = in_get (accepted_for receiver.state.tx p) r.0 r.1 in
                 k.4 j.0 r.0 (omega (arith, slice_get_within (accepted_for receiver.state.tx p) j.0 r.0 j.1, (all_whole p o.dest a receiver here e).0))
                 (ap (λ (xs : List Item). slice_get xs j.0) (ready_of bound states world p o.dest (Some receiver) e) ∙ j.1) r.2 (r.3 ∙ ap (λ (h : ItemHead). h.op) k.0.2)

@@ -56,7 +56,8 @@ module _ (bound : Bound) (settled : is_settled bound ≡ true) where
       where
         one_more : Owings (set states p b)
             → DoIs bound (results_of states) (seen fabric states p) p a b
-            ⊎ (((b.results ≡ a.results) × (b.lines ≡ a.lines) × PeerAt bound (results_of states) (seen fabric states p) p (length a.results) b.state b.kept []) ⊎ ((seen fabric states p).calm ≡ true)) → Reaches bound (set states p b)
+            ⊎ (((b.results ≡ a.results) × (b.lines ≡ a.lines) × PeerAt bound (results_of states) (seen fabric states p) p (length a.results) b.state b.kept []) ⊎
+            ((seen fabric states p).calm ≡ true)) → Reaches bound (set states p b)
         one_more after (inl does_it) = record {
           sound = sound;
           holds = inl (does bound settled states world reaches.sound p a b x here stands does_it, after);
@@ -71,7 +72,9 @@ module _ (bound : Bound) (settled : is_settled bound ≡ true) where
 
         after_owings : Owings (set states p b) ⊎ ((seen fabric states p).calm ≡ true) → Reaches bound (set states p b)
         after_owings (inr calm) = finally (first_calm world owings calm)
-        after_owings (inl after) = one_more after (step_keeps bound (results_of states) (seen fabric states p) p (plain bound settled states world reaches.sound p a b x here stands) (tells bound states world p) (settled_directed bound settled) a b
+        after_owings (inl after) = one_more after
+            (step_keeps bound (results_of states) (seen fabric states p) p (plain bound settled states world reaches.sound p a b x here stands) (tells bound states world p)
+            (settled_directed bound settled) a b
             (own_lines bound settled states world reaches.sound p a b x here stands) (world.in_step p a here) x (kinds bound states world p) stands)
 
     after_turn : Reaches bound (set states p b)
@@ -127,7 +130,8 @@ fresh_in_step bound all v p own = record {
   kinds = λ t. subst (Each MessageOrReply) (sym (replicated {X = List Item} bound.script.conf.peers t [])) always;
   live = always;
   singles = always;
-  lanes = λ source. lane_same bound all v p 0 source _ _ _ _ _ _ _ _ _ _ _ (replicated {X = ℕ} bound.script.conf.peers source 0) (replicated {X = ℕ} bound.script.conf.peers source 0) (replicated {X = Option Coming} bound.script.conf.peers source None) refl refl (fresh_lane bound all v p source);
+  lanes = λ source. lane_same bound all v p 0 source _ _ _ _ _ _ _ _ _ _ _ (replicated {X = ℕ} bound.script.conf.peers source 0) (replicated {X = ℕ} bound.script.conf.peers source 0)
+      (replicated {X = Option Coming} bound.script.conf.peers source None) refl refl (fresh_lane bound all v p source);
   read = omega arith;
   pending = always;
   bare = always;
@@ -146,7 +150,8 @@ opening_world bound settled = record {
       subst (λ (x : Actor). PeerAt bound (results_of (opening bound)) (seen fabric (opening bound) p) p (length x.results) x.state x.kept []) (sym i.2) (
         record { caps = refl; plain = settled_whole bound settled; av = refl; most_tx = refl; most_rx = refl },
         fresh_in_step bound (results_of (opening bound)) (seen fabric (opening bound) p) p
-            (ap length (ap (λ (xs : List (List LineResult)). get_or xs p []) (map-map (λ q. newly bound.script.conf (lines_of bound q)) (λ (x : Actor). x.results) (upto bound.script.conf.peers)) ∙ none_done (upto bound.script.conf.peers) p)),
+            (ap length (ap (λ (xs : List (List LineResult)). get_or xs p [])
+            (map-map (λ q. newly bound.script.conf (lines_of bound q)) (λ (x : Actor). x.results) (upto bound.script.conf.peers)) ∙ none_done (upto bound.script.conf.peers) p)),
       );
 }
 

@@ -110,7 +110,8 @@ no_more xs (y ∷ ys) e = absurd (omega (arith, ap length e, length-map xs (λ (
 entry_of_receive :
     (bound : Bound) (all : List (List LineResult)) (p source c : ℕ) (op : LineOp) (r : Receive) → order_of op ≡ None → receive_at bound.script.conf op ≡ Some r → r.want.source ≡ Some source → r.ctx ≡ c
     → entry_after bound all p op ≡ received_after all source r (partner bound p source c)
-entry_of_receive bound all p source c op r sends at from same = rw (sends, entry_after, at) (ap (option_and_then (λ s. received_after all s r (partner bound p s r.ctx))) from ∙ ap (λ n. received_after all source r (partner bound p source n)) same)
+entry_of_receive bound all p source c op r sends at from same = rw (sends, entry_after, at)
+    (ap (option_and_then (λ s. received_after all s r (partner bound p s r.ctx))) from ∙ ap (λ n. received_after all source r (partner bound p source n)) same)
 
 module _ (bound : Bound) (states : List Actor) (world : World bound states) (p : ℕ) (a : Actor) (here : slice_get states p ≡ Some a) (all_whole : AllWhole states) (plain : Plain bound p) where
   good : InStep bound (results_of states) (seen fabric states p) p (length a.results) a.state.tx a.state.rx a.state.cq a.kept []
@@ -139,12 +140,15 @@ module _ (bound : Bound) (states : List Actor) (world : World bound states) (p :
   arrived_all source = sym (append-nil (good.lanes source).arrived) ∙ ap (λ xs. (good.lanes source).arrived ++ xs) (sym none) ∙ (good.lanes source).begun
     where
       none : (good.lanes source).rest ≡ []
-      none = no_more (good.lanes source).arrived (good.lanes source).rest ((good.lanes source).known ∙ ap sent_messages (take_all (slice_index a.state.rx.heads source) _ (omega (arith, (level source).1))) ∙ (tells bound states world p).messages_are source ∙ ap items_of (sym (good.lanes source).begun))
+      none = no_more (good.lanes source).arrived (good.lanes source).rest
+          ((good.lanes source).known ∙ ap sent_messages (take_all (slice_index a.state.rx.heads source) _ (omega (arith, (level source).1))) ∙
+          (tells bound states world p).messages_are source ∙ ap items_of (sym (good.lanes source).begun))
 
   -- a receive that is still posted took no message
   posted_alone : (x : Receive) (source : ℕ) → In x a.state.rx.posted → x.want.source ≡ Some source
       → In (uncalled x, None) (partners (suits source) (receives bound.script.conf source (take (length a.results) (lines_of bound p))) (good.lanes source).arrived)
-  posted_alone x source i names = in_waiting (suits source) (uncalled x) _ (subst (In (uncalled x)) (good.lanes source).posted_are (in_map uncalled (filter (is_from source) a.state.rx.posted) x (in_filter (is_from source) a.state.rx.posted x i from)))
+  posted_alone x source i names = in_waiting (suits source) (uncalled x) _
+      (subst (In (uncalled x)) (good.lanes source).posted_are (in_map uncalled (filter (is_from source) a.state.rx.posted) x (in_filter (is_from source) a.state.rx.posted x i from)))
     where
       from : is_from source x ≡ true
       from = ap (λ (o : Option ℕ). elim o [ Some s ↦ s == source | None ↦ false ]) names ∙ grind (arith, nat_tests)
@@ -206,19 +210,23 @@ module _ (bound : Bound) (states : List Actor) (world : World bound states) (p :
             once (lines_of bound p) c plain.distinct,
           )
 
-          found_small : find (λ (pair : Receive × Option Message). pair.0.ctx == c) (partners (suits source) (receives bound.script.conf source (take (length a.results) (lines_of bound p))) lane.arrived) ≡ Some (uncalled x, None)
+          found_small : find (λ (pair : Receive × Option Message). pair.0.ctx == c)
+              (partners (suits source) (receives bound.script.conf source (take (length a.results) (lines_of bound p))) lane.arrived) ≡ Some (uncalled x, None)
           found_small = only_found _ _ (uncalled x, None) in_small t few
 
-          more_receives : receives bound.script.conf source (take (length a.results) (lines_of bound p)) ++ receives bound.script.conf source (drop (length a.results) (lines_of bound p)) ≡ receives bound.script.conf source (lines_of bound p)
+          more_receives : receives bound.script.conf source (take (length a.results) (lines_of bound p)) ++ receives bound.script.conf source
+              (drop (length a.results) (lines_of bound p)) ≡ receives bound.script.conf source (lines_of bound p)
           more_receives = sym (filter_map-append (receive_from bound.script.conf source) (take (length a.results) (lines_of bound p)) (drop (length a.results) (lines_of bound p)))
               ∙ ap (receives bound.script.conf source) (take-append-drop (length a.results) (lines_of bound p))
 
-          more_messages : lane.arrived ++ messages bound.script.conf p (0 + length (done_lines bound (results_of states) source)) (drop (done (results_of states) source) (lines_of bound source)) ≡ messages bound.script.conf p 0 (lines_of bound source)
+          more_messages : lane.arrived ++ messages bound.script.conf p (0 + length (done_lines bound (results_of states) source))
+              (drop (done (results_of states) source) (lines_of bound source)) ≡ messages bound.script.conf p 0 (lines_of bound source)
           more_messages = ap (λ xs. xs ++ messages bound.script.conf p (0 + length (done_lines bound (results_of states) source)) (drop (done (results_of states) source) (lines_of bound source))) (arrived_all source)
               ∙ sym (messages_more bound.script.conf p 0 (done_lines bound (results_of states) source) (drop (done (results_of states) source) (lines_of bound source)))
               ∙ ap (messages bound.script.conf p 0) (take-append-drop (done (results_of states) source) (lines_of bound source))
 
-          are_new : All (λ (m : Message). done (results_of states) source ≤ m.at) (messages bound.script.conf p (0 + length (done_lines bound (results_of states) source)) (drop (done (results_of states) source) (lines_of bound source)))
+          are_new : All (λ (m : Message). done (results_of states) source ≤ m.at)
+              (messages bound.script.conf p (0 + length (done_lines bound (results_of states) source)) (drop (done (results_of states) source) (lines_of bound source)))
           are_new = elim (cases_lt (length (lines_of bound source)) (done (results_of states) source)) [
             | inl past ↦ subst (λ ls. All (λ (m : Message). done (results_of states) source ≤ m.at) (messages bound.script.conf p (0 + length (done_lines bound (results_of states) source)) ls))
                 (sym (drop_all (done (results_of states) source) (lines_of bound source) (omega (arith, past)))) (λ k d lt. absurd (omega arith))
@@ -226,12 +234,16 @@ module _ (bound : Bound) (states : List Actor) (world : World bound states) (p :
           ]
 
           grows : Later (λ (m : Message). done (results_of states) source ≤ m.at) (partners (suits source) (receives bound.script.conf source (take (length a.results) (lines_of bound p))) lane.arrived) (pairs bound p source)
-          grows = later_then (λ (m : Message). done (results_of states) source ≤ m.at) _ _ _ (later_receives (suits source) (λ (m : Message). done (results_of states) source ≤ m.at) _ (receives bound.script.conf source (drop (length a.results) (lines_of bound p))) lane.arrived)
+          grows = later_then (λ (m : Message). done (results_of states) source ≤ m.at) _ _ _
+              (later_receives (suits source) (λ (m : Message). done (results_of states) source ≤ m.at) _
+              (receives bound.script.conf source (drop (length a.results) (lines_of bound p))) lane.arrived)
               (subst (λ rs. Later (λ (m : Message). done (results_of states) source ≤ m.at) (partners (suits source) rs lane.arrived) (pairs bound p source)) (sym more_receives)
-              (subst (λ ms. Later (λ (m : Message). done (results_of states) source ≤ m.at) (partners (suits source) (receives bound.script.conf source (lines_of bound p)) lane.arrived) (partners (suits source) (receives bound.script.conf source (lines_of bound p)) ms)) more_messages
+              (subst (λ ms. Later (λ (m : Message). done (results_of states) source ≤ m.at) (partners (suits source) (receives bound.script.conf source (lines_of bound p)) lane.arrived)
+              (partners (suits source) (receives bound.script.conf source (lines_of bound p)) ms)) more_messages
               (later_messages (suits source) (λ (m : Message). done (results_of states) source ≤ m.at) (receives bound.script.conf source (lines_of bound p)) lane.arrived _ are_new)))
 
-          found_pair : (y : Receive × Option Message) × (find (λ (pair : Receive × Option Message). pair.0.ctx == c) (pairs bound p source) ≡ Some y) × Became (λ (m : Message). done (results_of states) source ≤ m.at) (uncalled x, None) y
+          found_pair : (y : Receive × Option Message) × (find (λ (pair : Receive × Option Message). pair.0.ctx == c) (pairs bound p source) ≡ Some y) × Became
+              (λ (m : Message). done (results_of states) source ≤ m.at) (uncalled x, None) y
           found_pair = grows (λ (r : Receive). r.ctx == c) (uncalled x, None) found_small
 
           line : PostedBy x
@@ -244,7 +256,8 @@ module _ (bound : Bound) (states : List Actor) (world : World bound states) (p :
           comes_is = ap (option_and_then (λ (l : Line). entry_after bound (results_of states) p l.op)) (ap (λ d. find (makes bound.script.conf d) (done_lines bound (results_of states) p)) (sym same_ctx_is) ∙ line.1)
               ∙ entry_of_receive bound (results_of states) p source c line.0.op (uncalled x) line.3 line.2 of.2.1 same_ctx_is
 
-          go : (y : Receive × Option Message) × (find (λ (pair : Receive × Option Message). pair.0.ctx == c) (pairs bound p source) ≡ Some y) × Became (λ (m : Message). done (results_of states) source ≤ m.at) (uncalled x, None) y
+          go : (y : Receive × Option Message) × (find (λ (pair : Receive × Option Message). pair.0.ctx == c) (pairs bound p source) ≡ Some y) × Became
+              (λ (m : Message). done (results_of states) source ≤ m.at) (uncalled x, None) y
               → Never
           go (y, f, (same, inl none)) =
               let no : partner bound p source c ≡ None = ap (option_and_then (λ (pair : Receive × Option Message). pair.1)) f ∙ none in
@@ -265,9 +278,12 @@ module _ (bound : Bound) (states : List Actor) (world : World bound states) (p :
   entry_read c e read live waits come =
       let line = and_then_is (λ (l : Line). entry_after bound (results_of states) p l.op) (find (makes bound.script.conf c) (done_lines bound (results_of states) p)) e come in
       let found = found_in (makes bound.script.conf c) (done_lines bound (results_of states) p) line.0 line.1 in
-      let made : 1 ≤ many (makes bound.script.conf c) (take (length a.results) (lines_of bound p)) = subst (λ n. 1 ≤ many (makes bound.script.conf c) (take n (lines_of bound p))) good.own (in_many (makes bound.script.conf c) (done_lines bound (results_of states) p) line.0 found.0 found.1) in
-      let none : many (waits_for c) (take (length a.results) (lines_of bound p)) ≡ 0 = subst (λ n. many (waits_for c) (take n (lines_of bound p)) ≡ 0) good.own (none_any (waits_for c) (done_lines bound (results_of states) p) waits) in
-      let unread : many (entry_is c) (map (λ (w : Written). w.entry) (drop a.state.cq.taken_out a.state.cq.written)) ≡ 0 = ap (λ (ws : List Written). many (entry_is c) (map (λ (w : Written). w.entry) ws)) (drop_all a.state.cq.taken_out a.state.cq.written (omega (arith, read))) in
+      let made : 1 ≤ many (makes bound.script.conf c) (take (length a.results) (lines_of bound p)) = subst (λ n. 1 ≤ many (makes bound.script.conf c) (take n (lines_of bound p))) good.own
+      (in_many (makes bound.script.conf c) (done_lines bound (results_of states) p) line.0 found.0 found.1) in
+      let none : many (waits_for c) (take (length a.results) (lines_of bound p)) ≡ 0 = subst (λ n. many (waits_for c) (take n (lines_of bound p)) ≡ 0) good.own
+      (none_any (waits_for c) (done_lines bound (results_of states) p) waits) in
+      let unread : many (entry_is c) (map (λ (w : Written). w.entry) (drop a.state.cq.taken_out a.state.cq.written)) ≡ 0 = ap
+      (λ (ws : List Written). many (entry_is c) (map (λ (w : Written). w.entry) ws)) (drop_all a.state.cq.taken_out a.state.cq.written (omega (arith, read))) in
       let here : 1 ≤ many (λ (k : Kept). entry_is c k.entry) a.kept = omega (
         arith,
         made,

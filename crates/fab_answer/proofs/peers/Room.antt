@@ -66,16 +66,21 @@ room_at : (conf : Conf) (awaited : List ℕ) (lines : List Line) (k : ℕ) (line
 room_at conf awaited [] k line room e = absurd (cc)
 room_at conf awaited (x ∷ lines) zero line room e =
     let same : x ≡ line = cc in
-    subst (λ (l : Line). length (awaited_after conf l.op awaited) ≤ conf.info.rx) same (leb-true (length (awaited_after conf x.op awaited)) conf.info.rx (and_parts (nat_le (length (awaited_after conf x.op awaited)) conf.info.rx) (have_room conf (awaited_after conf x.op awaited) lines) room).0)
-room_at conf awaited (x ∷ lines) (suc k) line room e = room_at conf (awaited_after conf x.op awaited) lines k line (and_parts (nat_le (length (awaited_after conf x.op awaited)) conf.info.rx) (have_room conf (awaited_after conf x.op awaited) lines) room).1 e
+    subst (λ (l : Line). length (awaited_after conf l.op awaited) ≤ conf.info.rx) same
+    (leb-true (length (awaited_after conf x.op awaited)) conf.info.rx
+    (and_parts (nat_le (length (awaited_after conf x.op awaited)) conf.info.rx) (have_room conf (awaited_after conf x.op awaited) lines) room).0)
+room_at conf awaited (x ∷ lines) (suc k) line room e = room_at conf (awaited_after conf x.op awaited) lines k line
+    (and_parts (nat_le (length (awaited_after conf x.op awaited)) conf.info.rx) (have_room conf (awaited_after conf x.op awaited) lines) room).1 e
 
 -- an accepted receive is awaited after its line
 awaits_own : (conf : Conf) (op : LineOp) (r : Receive) (awaited : List ℕ) → is_plain op ≡ true → receive_at conf op ≡ Some r
     → awaited_after conf op awaited ≡ r.ctx ∷ awaited
 unfolding call_of
-awaits_own conf (Recv ctx source len) r awaited plain e = let p = posts conf (Recv ctx source len) r plain e in let same : ctx ≡ r.ctx = (let f : Some ctx ≡ Some r.ctx = p.1 in cc) in ap (λ (b : Bool). elim b [ true ↦ ctx ∷ awaited | false ↦ awaited ]) p.0
+awaits_own conf (Recv ctx source len) r awaited plain e = let p = posts conf (Recv ctx source len) r plain e in let same : ctx ≡ r.ctx = (let f : Some ctx ≡ Some r.ctx = p.1 in cc) in ap
+    (λ (b : Bool). elim b [ true ↦ ctx ∷ awaited | false ↦ awaited ]) p.0
     ∙ ap (λ c. c ∷ awaited) same
-awaits_own conf (TRecv ctx source tag ignore len) r awaited plain e = let p = posts conf (TRecv ctx source tag ignore len) r plain e in let same : ctx ≡ r.ctx = (let f : Some ctx ≡ Some r.ctx = p.1 in cc) in ap (λ (b : Bool). elim b [ true ↦ ctx ∷ awaited | false ↦ awaited ]) p.0
+awaits_own conf (TRecv ctx source tag ignore len) r awaited plain e = let p = posts conf (TRecv ctx source tag ignore len) r plain e in let same : ctx ≡ r.ctx =
+    (let f : Some ctx ≡ Some r.ctx = p.1 in cc) in ap (λ (b : Bool). elim b [ true ↦ ctx ∷ awaited | false ↦ awaited ]) p.0
     ∙ ap (λ c. c ∷ awaited) same
 awaits_own conf (Send ctx dest bytes imm level completion) r awaited plain e = let p = posts conf (Send ctx dest bytes imm level completion) r plain e in absurd (cc (p.2))
 awaits_own conf (TSend ctx dest tag bytes imm level completion) r awaited plain e = let p = posts conf (TSend ctx dest tag bytes imm level completion) r plain e in absurd (cc (p.2))
@@ -153,7 +158,8 @@ room_to_post bound states settled world p a line here next posting c is accepted
     awaited = awaited_of bound.script.conf [] (take (length a.results) (lines_of bound p))
 
     -- the receive itself is one more
-    one_more : awaited_after bound.script.conf line.op (awaited_of bound.script.conf [] (take (length a.results) (lines_of bound p))) ≡ (let r = receive_of (fresh bound.script.conf) posting in r.ctx ∷ awaited_of bound.script.conf [] (take (length a.results) (lines_of bound p)))
+    one_more : awaited_after bound.script.conf line.op (awaited_of bound.script.conf [] (take (length a.results) (lines_of bound p))) ≡ (let r = receive_of
+        (fresh bound.script.conf) posting in r.ctx ∷ awaited_of bound.script.conf [] (take (length a.results) (lines_of bound p)))
     one_more = awaits_own bound.script.conf line.op (receive_of (fresh bound.script.conf) posting) _ (plain.lines line (get_in (lines_of bound p) (length a.results) line at)) receive_is
       where
         posting_is : posting_of line.op ≡ Some posting
@@ -172,7 +178,9 @@ room_to_post bound states settled world p a line here next posting c is accepted
         held : (x : Receive) × In x a.state.rx.posted × (receive_is d x ≡ true) → many (waits_for d) (take (length a.results) (lines_of bound p)) ≡ 0
             → 1 ≤ many (λ x. x == d) (awaited_of bound.script.conf [] (take (length a.results) (lines_of bound p)))
         held (x, i, t) none = subst (λ n. 1 ≤ many (λ y. y == n) (awaited_of bound.script.conf [] (take (length a.results) (lines_of bound p)))) (eqb-true x.ctx d t)
-            (awaited_in bound.script.conf (take (length a.results) (lines_of bound p)) [] of.0 (uncalled x) of.1 (plain.lines of.0 (in_taken of.0 (lines_of bound p) (length a.results) of.1)) of.2 (subst (λ n. many (waits_for n) (take (length a.results) (lines_of bound p)) ≡ 0) (sym (eqb-true x.ctx d t)) none))
+            (awaited_in bound.script.conf (take (length a.results) (lines_of bound p)) [] of.0 (uncalled x) of.1
+            (plain.lines of.0 (in_taken of.0 (lines_of bound p) (length a.results) of.1)) of.2
+            (subst (λ n. many (waits_for n) (take (length a.results) (lines_of bound p)) ≡ 0) (sym (eqb-true x.ctx d t)) none))
           where
             single : Single x
             single = each_in Single a.state.rx.posted x good.singles i
@@ -184,7 +192,9 @@ room_to_post bound states settled world p a line here next posting c is accepted
             lane = good.lanes single.2.0
 
             in_receives : In (uncalled x) (receives bound.script.conf single.2.0 (take (length a.results) (lines_of bound p)))
-            in_receives = paired_receive (suits single.2.0) (receives bound.script.conf single.2.0 (take (length a.results) (lines_of bound p))) lane.arrived (uncalled x) None (in_waiting (suits single.2.0) (uncalled x) (partners (suits single.2.0) (receives bound.script.conf single.2.0 (take (length a.results) (lines_of bound p))) lane.arrived) (subst (In (uncalled x)) lane.posted_are (in_map uncalled (filter (is_from single.2.0) a.state.rx.posted) x (in_filter (is_from single.2.0) a.state.rx.posted x i from))))
+            in_receives = paired_receive (suits single.2.0) (receives bound.script.conf single.2.0 (take (length a.results) (lines_of bound p))) lane.arrived (uncalled x) None
+                (in_waiting (suits single.2.0) (uncalled x) (partners (suits single.2.0) (receives bound.script.conf single.2.0 (take (length a.results) (lines_of bound p))) lane.arrived)
+                (subst (In (uncalled x)) lane.posted_are (in_map uncalled (filter (is_from single.2.0) a.state.rx.posted) x (in_filter (is_from single.2.0) a.state.rx.posted x i from))))
 
             of : (l : Line) × In l (take (length a.results) (lines_of bound p)) × (receive_at bound.script.conf l.op ≡ Some (uncalled x)) × (is_from single.2.0 (uncalled x) ≡ true)
             of = receive_line bound.script.conf single.2.0 (take (length a.results) (lines_of bound p)) (uncalled x) in_receives
@@ -195,7 +205,14 @@ room_to_post bound states settled world p a line here next posting c is accepted
         go_many (suc n) e = omega (arith, e, many_map (λ (r : Receive). r.ctx) (λ x. x == d) a.state.rx.posted, once, held (some_in (receive_is d) a.state.rx.posted (omega (arith, e))) (omega (arith, e, once)))
 
     enough : length a.state.rx.posted < bound.script.conf.info.rx
-    enough = omega (arith, room_at bound.script.conf [] (lines_of bound p) (length a.results) line rooms at, ap length one_more, fewer (map (λ (r : Receive). r.ctx) a.state.rx.posted) (awaited_of bound.script.conf [] (take (length a.results) (lines_of bound p))) posted_awaited, length-map a.state.rx.posted (λ (r : Receive). r.ctx))
+    enough = omega (
+      arith,
+      room_at bound.script.conf [] (lines_of bound p) (length a.results) line rooms at,
+      ap length one_more,
+      fewer (map (λ (r : Receive). r.ctx) a.state.rx.posted)
+          (awaited_of bound.script.conf [] (take (length a.results) (lines_of bound p))) posted_awaited,
+      length-map a.state.rx.posted (λ (r : Receive). r.ctx),
+    )
 
     not_full : nat_le a.state.most_rx (length a.state.rx.posted) ≡ false
     not_full = let m : a.state.most_rx ≡ bound.script.conf.info.rx = (world.in_step p a here).0.most_rx in grind (arith, nat_tests, m, enough)

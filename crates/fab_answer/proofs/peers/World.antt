@@ -41,7 +41,12 @@ pub settled_here : (bound : Bound) (p : ℕ) → is_settled bound ≡ true → p
 settled_here bound p settled lt = all_in (λ q. are_settled bound.script.conf (lines_of bound q)) (upto bound.script.conf.peers) p (and_parts _ _ settled).1 (upto_in bound.script.conf.peers p lt)
 
 pub settled_plain : (bound : Bound) (p : ℕ) → is_settled bound ≡ true → p < bound.script.conf.peers → Plain bound p
-settled_plain bound p settled lt = record { lines = λ line i. all_in (λ (l : Line). is_plain l.op) (lines_of bound p) line plain i; distinct = distinct; short = ltb-true (length (lines_of bound p)) 4_611_686_018_427_387_904 short }
+settled_plain bound p settled lt = record {
+  lines = λ line i. all_in (λ (l : Line). is_plain l.op) (lines_of bound p) line plain i;
+  distinct = distinct;
+  short = ltb-true
+      (length (lines_of bound p)) 4_611_686_018_427_387_904 short;
+}
   where
     conf : Conf
     conf = bound.script.conf
@@ -141,7 +146,8 @@ told_same states p a b here results lines = ap₂ (λ (xs : List (List LineResul
     (map-set_same (λ (y : Actor). drop (length y.results) y.lines) states p a b here (ap₂ (λ (xs : List LineResult) (ys : List Line). drop (length xs) ys) results lines))
 
 module _ (bound : Bound) (settled : is_settled bound ≡ true) where
-  module _ (states : List Actor) (world : World bound states) (sound : views.Sound fabric bound.script.conf.peers (Own bound.script.conf.peers) states) (p : ℕ) (a b : Actor) (x : Step) (here : slice_get states p ≡ Some a) (stands : fabric.step (seen fabric states p) a x ≡ Some b) where
+  module _ (states : List Actor) (world : World bound states) (sound : views.Sound fabric bound.script.conf.peers (Own bound.script.conf.peers) states) (p : ℕ) (a b : Actor) (x : Step)
+      (here : slice_get states p ≡ Some a) (stands : fabric.step (seen fabric states p) a x ≡ Some b) where
     after : List Actor
     after = set states p b
 
@@ -178,8 +184,11 @@ module _ (bound : Bound) (settled : is_settled bound ≡ true) where
             (subst (λ (y : Actor). PeerAt bound (results_of (set states p b)) (seen fabric (set states p b) p) p (length y.results) y.state y.kept []) is at))
         | inr differ ↦ (let before : slice_get states q ≡ Some c = sym (slice_get-set_other states p q b differ) ∙ e in
             let was = world.in_step q c before in
-            let own : done (results_of (set states p b)) q ≡ length c.results = ap length (done_at (set states p b) q c e) in
-            (was.0, in_step_more bound (results_of states) (results_of (set states p b)) (seen fabric states q) (seen fabric (set states p b) q) q (grown le) (more q) (length c.results) c.state.tx c.state.rx c.state.cq c.kept [] own was.1))
+            let own : done (results_of (set states p b)) q ≡ length c.results = ap length (done_at (set states p b) q c e) in (
+              was.0,
+              in_step_more bound (results_of states) (results_of (set states p b)) (seen fabric states q) (seen fabric (set states p b) q) q (grown le) (more q)
+                  (length c.results) c.state.tx c.state.rx c.state.cq c.kept [] own was.1,
+            ))
       ];
     }
 
@@ -197,7 +206,8 @@ module _ (bound : Bound) (settled : is_settled bound ≡ true) where
     stays results lines at = others (omega (arith, ap length results)) lines (
       at.0,
       subst (λ n. InStep bound (results_of (set states p b)) (seen fabric (set states p b) p) p n b.state.tx b.state.rx b.state.cq b.kept []) (sym (ap length results))
-          (in_step_more bound (results_of states) (results_of (set states p b)) (seen fabric states p) (seen fabric (set states p b) p) p (grown (omega (arith, ap length results))) (more p) (length a.results) b.state.tx b.state.rx b.state.cq b.kept []
+          (in_step_more bound (results_of states) (results_of (set states p b)) (seen fabric states p) (seen fabric (set states p b) p) p (grown (omega (arith, ap length results))) (more p)
+          (length a.results) b.state.tx b.state.rx b.state.cq b.kept []
           (ap length (done_at (set states p b) p b at_p ∙ results)) at.1),
     )
 
@@ -206,11 +216,13 @@ module _ (bound : Bound) (settled : is_settled bound ≡ true) where
         let le : length a.results ≤ length b.results = omega (arith, ap length results, length-append a.results (x ∷ [])) in
         let size : length b.results ≡ length a.results + 1 = omega (arith, ap length results, length-append a.results (x ∷ [])) in
         let later : Grown (results_of states) (results_of (set states p b)) = grown le in
-        let now : PeerAt bound (results_of (set states p b)) (seen fabric states p) p (length a.results + 1) b.state b.kept [] = keeps (results_of (set states p b)) later (ap length (done_at (set states p b) p b at_p) ∙ size) in
+        let now : PeerAt bound (results_of (set states p b)) (seen fabric states p) p (length a.results + 1) b.state b.kept [] = keeps (results_of (set states p b)) later
+        (ap length (done_at (set states p b) p b at_p) ∙ size) in
         others le lines (
           now.0,
           subst (λ n. InStep bound (results_of (set states p b)) (seen fabric (set states p b) p) p n b.state.tx b.state.rx b.state.cq b.kept []) (sym size)
-              (in_step_more bound (results_of (set states p b)) (results_of (set states p b)) (seen fabric states p) (seen fabric (set states p b) p) p (λ q. omega arith) (more p) (length a.results + 1) b.state.tx b.state.rx b.state.cq b.kept []
+              (in_step_more bound (results_of (set states p b)) (results_of (set states p b)) (seen fabric states p) (seen fabric (set states p b) p) p (λ q. omega arith) (more p)
+              (length a.results + 1) b.state.tx b.state.rx b.state.cq b.kept []
               (ap length (done_at (set states p b) p b at_p) ∙ size) now.1),
         )
 
