@@ -6,3 +6,4 @@
 
 pub mod rounds;
 pub mod runner;
+pub mod starting;
