@@ -1,0 +1,4 @@
+pub mod Lists
+pub mod Sizes
+pub mod Turning
+pub mod Tied

@@ -1,0 +1,58 @@
+use Rattle.std.proofs.Common.{rules, arith, ◌≡◌, ◌<◌, length, sym, ◌∙◌}
+use Rattle.std.specs.Prelude.{not}
+use Rattle.fab_face.specs.Ports.{seen}
+use Rattle.fab_quantum.specs.Turns.{told}
+use Rattle.fab_rounds.specs.Rounds.{size}
+use Rattle.fab_rounds.proofs.Lists.{sums_rise, none_at, all_at, not_false, not_true}
+use Rattle.fab_rounds.proofs.Turning.{turned_more, still_later}
+use Rattle.fab_rounds.proofs.rounds.run_rounds.Goals as goal
+
+pub returns-then-none_moved-clause-turned : goal.returns-then-none_moved-clause-turned
+returns-then-none_moved-clause-turned g c = λ k d below.
+    let long : length c.round.new.peers ≡ length c.rounds.peers = search rules in
+    let here : k < length c.rounds.peers = omega (arith, below, c.rounds.invariant.count) in
+    let was = c.rounds.invariant.turned k d below in
+    let well = none_at (λ p. p.failed) c.round.new.peers k d (omega (arith, here, long)) (sym c.any_failed.ensures ∙ c.if-any_failed.false) in
+    let now = c.round.ensures.turned k d here well in
+    (λ e. was.0 now.0, turned_more c.rounds.made _ _ _ _ was.1 now.1)
+
+pub returns-then-none_moved-clause-idle : goal.returns-then-none_moved-clause-idle
+returns-then-none_moved-clause-idle g c = λ is k d below.
+    let long : length c.round.new.peers ≡ length c.rounds.peers = search rules in
+    let here : k < length c.rounds.peers = omega (arith, below, c.rounds.invariant.count) in
+    let there : k < length c.round.new.peers = omega (arith, here, long) in
+    let was = c.rounds.invariant.turned k d below in
+    let well = none_at (λ p. p.failed) c.round.new.peers k d there (sym c.any_failed.ensures ∙ c.if-any_failed.false) in
+    let none = not_true _ (all_at (λ p. not p.moved) c.round.new.peers k d there (sym c.none_moved.ensures ∙ c.if-none_moved.true)) in
+    still_later c.rounds.made _ _ _ was.1 (c.round.ensures.still k d here well none)
+
+pub returns-then-all_finished-clause-turned : goal.returns-then-all_finished-clause-turned
+returns-then-all_finished-clause-turned g c = λ k d below.
+    let long : length c.round.new.peers ≡ length c.rounds.peers = search rules in
+    let here : k < length c.rounds.peers = omega (arith, below, c.rounds.invariant.count) in
+    let was = c.rounds.invariant.turned k d below in
+    let well = none_at (λ p. p.failed) c.round.new.peers k d (omega (arith, here, long)) (sym c.any_failed.ensures ∙ c.if-any_failed.false) in
+    let now = c.round.ensures.turned k d here well in
+    (λ e. was.0 now.0, turned_more c.rounds.made _ _ _ _ was.1 now.1)
+
+pub rounds-preserved : goal.rounds-preserved
+rounds-preserved g c =
+    let long : length c.round.new.peers ≡ length c.rounds.peers = search rules in
+    let some = sym c.none_moved.ensures ∙ c.if-none_moved.false in
+    let whole = sym c.any_failed.ensures ∙ c.if-any_failed.false in
+    let rise = sums_rise (λ p. size (told (seen g.P.Port) p.peer)) (λ p. not p.moved) c.rounds.peers c.round.new.peers long
+    (λ k d below. c.round.ensures.grown k d below (none_at (λ p. p.failed) c.round.new.peers k d (omega (arith, below, long)) whole)) (λ k d below e. c.round.ensures.risen k d below (not_false _ e)) some in
+    record {
+      count = long ∙ c.rounds.invariant.count;
+      within = omega (arith, c.rounds-test.true);
+      turned = λ k d below.
+          let here : k < length c.rounds.peers = omega (arith, below, c.rounds.invariant.count) in
+          let was = c.rounds.invariant.turned k d below in
+          let well = none_at (λ p. p.failed) c.round.new.peers k d (omega (arith, here, long)) whole in
+          let now = c.round.ensures.turned k d here well in
+          (λ e. was.0 now.0, turned_more c.rounds.made _ _ _ _ was.1 now.1);
+      grew = omega (arith, rise, c.rounds.invariant.grew);
+      moving = λ l. some;
+      failing = λ l. whole;
+      going = λ l. sym c.all_finished.ensures ∙ c.if-all_finished.false;
+    }

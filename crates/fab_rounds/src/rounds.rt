@@ -1,0 +1,134 @@
+//! Rounds of all peers.
+ghost use Rattle.std.specs.Prelude.{◌≡◌, ◌≢◌, ℕ, ◌<◌, ◌≤◌, ◌^◌, ◌+◌, true, false, not, length, sum_by, IfOk, OnErr, ◌↔◌};
+ghost use Rattle.std.specs.List.{list_all, list_any};
+ghost use Rattle.fab_face.specs.Ports.{seen};
+ghost use Rattle.fab_model.specs.Peers.{is_finished};
+ghost use Rattle.fab_quantum.specs.Turns.{told, actor_of, IsStill};
+ghost use Rattle.fab_rounds.specs.Rounds.{Each, TurnedAs, TurnedFor, size};
+
+use crate::runner::Runner;
+use fab_base::{Gate, NoMemory};
+use fab_face::machine::Machine;
+use fab_link::Port;
+use std::sync::Wait;
+use std::thread;
+use std::thread::Threads;
+
+/// Why no more rounds were made.
+#[derive(Clone, Copy, Debug, Drop, Eq, PartialEq)]
+pub enum RoundStop {
+    /// The last round moved nothing.
+    Still,
+    /// All lines of all peers are done.
+    Finished,
+    /// As many rounds as asked for were made.
+    Spent,
+}
+
+/// What rounds were made.
+#[derive(Clone, Copy, Debug, Drop, Eq, PartialEq)]
+pub struct Rounds {
+    pub made: u32,
+    pub stop: RoundStop,
+}
+
+/// One turn of each peer, each in a thread of its own, which tells the gate when it begins and ends.
+fn round<P: Port + Send, C: Machine + Drop + Send, G: Gate, R: Threads + Wait + Sync>(
+    rt: &R,
+    peers: &mut [Runner<P, C>],
+    gate: &G,
+    number: u32,
+)
+    requires few { length peers.old < 2 ^ 32 }
+    ensures turned { Each (λ a b. b.failed ≡ false → (a.failed ≡ false) × TurnedAs (told (seen P.Port) a.peer) (told (seen P.Port) b.peer) b.moved) peers.old peers.new }
+    ensures still { Each (λ a b. b.failed ≡ false → b.moved ≡ false → IsStill (told (seen P.Port) a.peer) (told (seen P.Port) b.peer)) peers.old peers.new }
+    ensures grown { Each (λ a b. b.failed ≡ false → size (told (seen P.Port) a.peer) ≤ size (told (seen P.Port) b.peer)) peers.old peers.new }
+    ensures risen { Each (λ a b. b.moved ≡ true → size (told (seen P.Port) a.peer) < size (told (seen P.Port) b.peer)) peers.old peers.new }
+{
+    let threads = peers.len();
+    if threads == 0 {
+        return;
+    }
+    thread::for_each_mut(
+        rt,
+        peers,
+        threads,
+        &|place, peer| {
+            let own = place as u32;
+            gate.enter(own, number);
+            let _kept = peer.quantum();
+            gate.leave(own, number);
+        },
+    );
+}
+
+/// Whether memory ran out in a turn of any peer.
+fn any_failed<P: Port, C: Machine>(peers: &[Runner<P, C>]) -> bool
+    ensures { result ≡ list_any (λ p. p.failed) peers.now }
+{
+    peers.iter().any(|peer| peer.failed())
+}
+
+/// Whether the last turn of no peer moved anything.
+fn none_moved<P: Port, C: Machine>(peers: &[Runner<P, C>]) -> bool
+    ensures { result ≡ list_all (λ p. not p.moved) peers.now }
+{
+    peers.iter().all(|peer| !peer.moved())
+}
+
+/// Whether all lines of all peers are done.
+fn all_finished<P: Port, C: Machine>(peers: &[Runner<P, C>]) -> bool
+    ensures { result ≡ list_all (λ p. is_finished (actor_of (told (seen P.Port) p.peer))) peers.now }
+{
+    peers.iter().all(|peer| peer.finished())
+}
+
+/// Makes rounds until one moves nothing, all lines of all peers are done, or as many were made as asked for. In a round
+/// every peer takes one turn, each in a thread of its own.
+///
+/// Where memory ran out in a turn, the round goes on for the other peers, and then the call ends.
+pub fn run_rounds<P: Port + Send, C: Machine + Drop + Send, G: Gate, R: Threads + Wait + Sync>(
+    rt: &R,
+    peers: &mut [Runner<P, C>],
+    gate: &G,
+    limit: u32,
+) -> Result<Rounds, NoMemory>
+    requires few { length peers.old < 2 ^ 32 }
+    ensures count { length peers.new ≡ length peers.old }
+    ensures turned { IfOk result (λ r. Each (λ a b. (b.failed ≡ false → a.failed ≡ false) × TurnedFor r.made (told (seen P.Port) a.peer) (told (seen P.Port) b.peer)) peers.old peers.new) }
+    ensures still { IfOk result (λ r. (r.stop ≡ RoundStop.Still) ↔ ((0 < r.made) × (list_all (λ p. not p.moved) peers.new ≡ true))) }
+    ensures idle { IfOk result (λ r. r.stop ≡ RoundStop.Still → Each (λ a b. IsStill (told (seen P.Port) a.peer) (told (seen P.Port) b.peer)) peers.old peers.new) }
+    ensures finished { IfOk result (λ r. (r.stop ≡ RoundStop.Finished) ↔ ((r.stop ≢ RoundStop.Still) × (list_all (λ p. is_finished (actor_of (told (seen P.Port) p.peer))) peers.new ≡ true))) }
+    ensures spent { IfOk result (λ r. (r.stop ≡ RoundStop.Spent) ↔ ((r.stop ≢ RoundStop.Still) × (r.stop ≢ RoundStop.Finished) × (r.made ≡ limit))) }
+    ensures made { IfOk result (λ r. (r.made ≤ limit) × (0 < limit → 0 < r.made)) }
+    ensures ok { IfOk result (λ r. 0 < r.made → list_any (λ p. p.failed) peers.new ≡ false) }
+    ensures err { OnErr result (list_any (λ p. p.failed) peers.new ≡ true) }
+    ensures grew { IfOk result (λ r. r.stop ≡ RoundStop.Spent → sum_by (λ p. size (told (seen P.Port) p.peer)) peers.old + limit ≤ sum_by (λ p. size (told (seen P.Port) p.peer)) peers.new) }
+{
+    let mut made = 0;
+    'rounds: while made < limit {
+        made += 1;
+        round(rt, peers, gate, made);
+        if any_failed(peers) {
+            return Err(NoMemory);
+        }
+        if none_moved(peers) {
+            return Ok(Rounds {
+                made,
+                stop: RoundStop::Still,
+            });
+        }
+        if all_finished(peers) {
+            return Ok(Rounds {
+                made,
+                stop: RoundStop::Finished,
+            });
+        }
+    }
+    let stop = if all_finished(peers) {
+        RoundStop::Finished
+    } else {
+        RoundStop::Spent
+    };
+    Ok(Rounds { made, stop })
+}

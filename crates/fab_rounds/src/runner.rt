@@ -1,0 +1,109 @@
+//! A peer with what its last turn told.
+ghost use Rattle.std.specs.Prelude.{◌≡◌, ◌<◌, ◌≤◌, ℕ, [], true, false, IfOk, OnErr};
+ghost use Rattle.fab_face.specs.Ports.{seen};
+ghost use Rattle.fab_model.specs.Peers.{is_finished};
+ghost use Rattle.fab_quantum.specs.Turns.{told, actor_of, IsStill};
+ghost use Rattle.fab_rounds.specs.Rounds.{TurnedAs, size};
+
+use fab_base::NoMemory;
+use fab_ep::endpoint::Endpoint;
+use fab_face::calls::Sees;
+use fab_face::machine::Machine;
+use fab_link::Port;
+use fab_quantum::peer::Peer;
+
+/// A peer with what its last turn told: whether it moved anything, or that memory ran out.
+#[derive(Drop)]
+pub struct Runner<P: Port, C: Machine> {
+    pub(crate) peer: Peer<Endpoint<P, C>>,
+    pub(crate) moved: bool,
+    pub(crate) failed: bool,
+    ghost quiet: { failed ≡ false → peer.endpoint.log ≡ [] },
+    ghost kept: { failed ≡ true → moved ≡ false },
+}
+
+impl<P: Port, C: Machine> Runner<P, C> {
+    /// A peer that took no turn yet.
+    pub fn new(peer: Peer<Endpoint<P, C>>) -> Runner<P, C>
+        requires log { peer.endpoint.log ≡ [] }
+        ensures peer { result.peer ≡ peer }
+        ensures moved { result.moved ≡ false }
+        ensures failed { result.failed ≡ false }
+    {
+        Runner {
+            peer,
+            moved: false,
+            failed: false,
+        }
+    }
+
+    /// The peer.
+    pub fn peer(&self) -> &Peer<Endpoint<P, C>>
+        ensures { result.now ≡ self.now.peer }
+    {
+        &self.peer
+    }
+
+    /// Gives the peer back. Where no turn of it lacked memory, its endpoint's log is empty.
+    pub fn into_peer(self) -> Peer<Endpoint<P, C>>
+        ensures peer { result ≡ self.peer }
+        ensures log { self.failed ≡ false → result.endpoint.log ≡ [] }
+    {
+        let Runner {
+            peer,
+            moved: _moved,
+            failed: _failed,
+        } = self;
+        peer
+    }
+
+    /// Whether its last turn moved anything.
+    pub fn moved(&self) -> bool
+        ensures { result ≡ self.now.moved }
+    {
+        self.moved
+    }
+
+    /// Whether a turn of it met want of memory. Then every later one does, and moves nothing.
+    pub fn failed(&self) -> bool
+        ensures { result ≡ self.now.failed }
+    {
+        self.failed
+    }
+
+    /// Whether all its lines are done.
+    pub fn finished(&self) -> bool
+        ensures { result ≡ is_finished (actor_of (told (seen P.Port) self.now.peer)) }
+    {
+        self.peer.finished()
+    }
+
+    /// One turn. Its answer is kept: whether it moved anything, or that memory ran out. After want of memory nothing is
+    /// known of the peer but that it stays as it is.
+    pub fn quantum(&mut self) -> Result<bool, NoMemory>
+        ensures turned { self.new.failed ≡ false → (self.old.failed ≡ false) × TurnedAs (told (seen P.Port) self.old.peer) (told (seen P.Port) self.new.peer) self.new.moved }
+        ensures still { self.new.failed ≡ false → self.new.moved ≡ false → IsStill (told (seen P.Port) self.old.peer) (told (seen P.Port) self.new.peer) }
+        ensures grown { self.new.failed ≡ false → size (told (seen P.Port) self.old.peer) ≤ size (told (seen P.Port) self.new.peer) }
+        ensures risen { self.new.moved ≡ true → size (told (seen P.Port) self.old.peer) < size (told (seen P.Port) self.new.peer) }
+        ensures ok { IfOk result (λ moved. (self.new.moved ≡ moved) × (self.new.failed ≡ false)) }
+        ensures err { OnErr result ((self.new.moved ≡ false) × (self.new.failed ≡ true)) }
+        ensures failed { self.old.failed ≡ true → self.new ≡ self.old }
+    {
+        if self.failed {
+            return Err(NoMemory);
+        }
+        self.peer.endpoint.known();
+        match self.peer.quantum() {
+            Ok(moved) => {
+                self.peer.endpoint.known();
+                self.moved = moved;
+                Ok(moved)
+            }
+            Err(error) => {
+                self.moved = false;
+                self.failed = true;
+                Err(error)
+            }
+        }
+    }
+}

@@ -1,0 +1,2 @@
+-- Peers in threads, as each knows itself, with the order of turns that follows.
+mod Hello
