@@ -1,5 +1,5 @@
 //! What a core is made of.
-ghost use Rattle.std.specs.Prelude.{◌≡◌, ℕ, ◌+◌, ◌≤◌, IfOk, replicate, [], None};
+ghost use Rattle.std.specs.Prelude.{◌≡◌, ℕ, ◌+◌, ◌≤◌, IfOk, IfErr, replicate, [], None};
 ghost use Rattle.fab_cq.specs.Counts.{no_counts};
 ghost use Rattle.fab_cq.specs.Queues.{nothing_written};
 ghost use Rattle.fab_rma.specs.Serving.{nothing_served};
@@ -89,12 +89,45 @@ pub(crate) fn call(calls: &mut Calls)
     calls.note::<(), OneMore>(&());
 }
 
+/// What a core is made of besides its address vector.
+struct Halves<M: Matcher> {
+    rx: Inbox<M>,
+    tx: Outbox,
+    target: Target,
+    cq: Queue,
+    calls: Calls,
+}
+
+/// Takes the memory for so many peers.
+fn make_halves<M: Matcher>(alloc: Global, info: &Info, peers: u32) -> Result<Halves<M>, NoMemory>
+    requires size { 2 ≤ info.now.cq }
+    ensures rx { IfOk result (λ h. h.rx ≡ nothing_arrived peers info.now.rx) }
+    ensures tx { IfOk result (λ h. h.tx ≡ nothing_accepted peers info.now.tx) }
+    ensures target { IfOk result (λ h. h.target ≡ nothing_served peers) }
+    ensures cq { IfOk result (λ h. h.cq ≡ nothing_written info.now.cq) }
+    ensures calls { IfOk result (λ h. h.calls ≡ 0) }
+{
+    let tx = Outbox::new(alloc, peers, info.tx)?;
+    let target = Target::new(alloc, peers)?;
+    let cq = Queue::new(alloc, info.cq)?;
+    let calls = Record::new(alloc, &())?;
+    let rx = Inbox::new(alloc, peers, info.rx)?;
+    Ok(Halves {
+        rx,
+        tx,
+        target,
+        cq,
+        calls,
+    })
+}
+
 impl<M: Matcher> Core<M> {
     /// The machine of an endpoint with these sizes and capabilities, for the peers of the address vector. It
-    /// takes all memory that its calls need but for messages that come unexpected.
-    pub fn new(alloc: Global, info: &Info, selective: bool, av: Av) -> Result<Core<M>, NoMemory>
+    /// takes all memory that its calls need but for messages that come unexpected; where there is none, the
+    /// address vector comes back.
+    pub fn new(alloc: Global, info: &Info, selective: bool, av: Av) -> Result<Core<M>, Av>
         requires size { 2 ≤ info.now.cq }
-        ensures { IfOk result (λ core. core ≡ record {
+        ensures ok { IfOk result (λ core. core ≡ record {
           caps = info.now.caps;
           selective = selective;
           av = av;
@@ -105,14 +138,19 @@ impl<M: Matcher> Core<M> {
           counters = no_counts;
           calls = 0;
         }) }
+        ensures err { IfErr result (λ back. back ≡ av) }
     {
         av.known();
-        let peers = av.peers();
-        let tx = Outbox::new(alloc, peers, info.tx)?;
-        let target = Target::new(alloc, peers)?;
-        let cq = Queue::new(alloc, info.cq)?;
-        let calls = Record::new(alloc, &())?;
-        let rx = Inbox::new(alloc, peers, info.rx)?;
+        let Ok(halves) = make_halves(alloc, info, av.peers()) else {
+            return Err(av);
+        };
+        let Halves {
+            rx,
+            tx,
+            target,
+            cq,
+            calls,
+        } = halves;
         Ok(Core {
             caps: info.caps,
             selective,
@@ -127,5 +165,14 @@ impl<M: Matcher> Core<M> {
             calls,
             alloc,
         })
+    }
+}
+
+impl<M: Matcher + Drop> Core<M> {
+    /// Gives up everything but the address vector.
+    pub fn into_av(self) -> Av
+        ensures { result ≡ self.av }
+    {
+        self.av
     }
 }

@@ -26,7 +26,7 @@ fn machine(alloc: Global, conf: &Conf) -> Result<Core<BinMatcher>, NoMemory>
     ensures { IfOk result (λ machine. held_of machine ≡ start conf.now) }
 {
     let av = Av::all(alloc, conf.peers)?;
-    Core::new(alloc, &conf.info, conf.selective, av)
+    Core::new(alloc, &conf.info, conf.selective, av).map_err(|_av| NoMemory)
 }
 
 /// One for each peer.

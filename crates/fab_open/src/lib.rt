@@ -1,0 +1,16 @@
+//! Endpoints as an application opens them (fi_endpoint(3)), over any port.
+//!
+//! ```text
+//! fab_link, fab_ring   a port to each peer
+//! fab_av               an address vector
+//! fab_info             what was negotiated
+//!        |  open
+//! Endpoint             sends, receives, progress and completions: the traits of fab_face
+//! ```
+//!
+//! The machine behind an endpoint is that of `fab_core`, with matching in hashed bins.
+#![tactic(auto)]
+
+mod opening;
+
+pub use opening::{Endpoint, OpenRefused, open};

@@ -1,0 +1,89 @@
+//! An endpoint is opened over a port.
+ghost use Rattle.std.specs.Prelude.{◌≡◌, true, IfOk, IfErr};
+ghost use Rattle.fab_base.specs.Offer.{limits_of};
+ghost use Rattle.fab_face.specs.Ports.{IsFresh, is_granted, opened, within};
+ghost use Rattle.fab_open.specs.Opening.{why_not};
+
+use fab_av::Av;
+use fab_base::{Fault, Info, Size};
+use fab_bins::BinMatcher;
+use fab_core::Core;
+use fab_link::Port;
+use std::alloc::Global;
+
+/// An endpoint over a port, with matching in hashed bins. Its calls are those of the traits of `fab_face`.
+pub type Endpoint<P> = fab_ep::endpoint::Endpoint<P, Core<BinMatcher>>;
+
+/// Why an endpoint was not opened, with what it was to be opened over.
+pub struct OpenRefused<P: Port> {
+    pub why: Fault,
+    pub port: P,
+    pub av: Av,
+}
+
+/// Whether the number is within the limits of its size.
+fn is_within(size: Size, number: u32) -> bool
+    ensures { result ≡ within (limits_of size) number }
+{
+    let limits = size.limits();
+    limits.least <= number && number <= limits.greatest
+}
+
+/// Whether the numbers are within the limits of the offer, and for so many peers.
+fn is_granted(info: &Info, peers: u32) -> bool
+    ensures { result ≡ is_granted info.now peers }
+{
+    info.peers == peers
+        && is_within(Size::Peers, info.peers)
+        && is_within(Size::Lane, info.lane)
+        && is_within(Size::Pool, info.pool)
+        && is_within(Size::Tx, info.tx)
+        && is_within(Size::Rx, info.rx)
+        && is_within(Size::Cq, info.cq)
+        && is_within(Size::Log, info.log)
+}
+
+/// Opens an endpoint (fi_endpoint(3), with fi_ep_bind and fi_enable done) over a port that no frame has gone
+/// through, with what was negotiated and the addresses of its peers. With `selective`, a message that succeeds
+/// writes a completion only where its flags ask for one (FI_SELECTIVE_COMPLETION of fi_cq(3)).
+///
+/// It takes all memory that the endpoint's calls need, but for messages that come unexpected, for requests of
+/// peers and for the replies that they are owed.
+///
+/// `Invalid` exactly where a number of `info` is outside its limits, or not for as many peers as the port has;
+/// else it may answer `NoMemory`. A refusal hands the port and the address vector back.
+pub fn open<P: Port>(
+    alloc: Global,
+    port: P,
+    av: Av,
+    info: &Info,
+    selective: bool,
+) -> Result<Endpoint<P>, OpenRefused<P>>
+    requires peers { av.peers ≡ P.peer_count port }
+    requires fresh { IsFresh P.Port port }
+    ensures opened { IfOk result (λ e. e ≡ opened port av info.now selective) }
+    ensures granted { IfOk result (λ e. is_granted info.now (P.peer_count port) ≡ true) }
+    ensures why { IfErr result (λ r. r.why ≡ why_not (is_granted info.now (P.peer_count port))) }
+    ensures back { IfErr result (λ r. (r.port ≡ port) × (r.av ≡ av)) }
+{
+    if !is_granted(info, port.peers()) {
+        return Err(OpenRefused {
+            why: Fault::Invalid,
+            port,
+            av,
+        });
+    }
+    let why = Fault::NoMemory;
+    let core = match Core::new(alloc, info, selective, av) {
+        Ok(core) => core,
+        Err(av) => return Err(OpenRefused { why, port, av }),
+    };
+    match Endpoint::over(alloc, port, core, info.log) {
+        Ok(endpoint) => Ok(endpoint),
+        Err((port, core)) => Err(OpenRefused {
+            why,
+            port,
+            av: core.into_av(),
+        }),
+    }
+}
