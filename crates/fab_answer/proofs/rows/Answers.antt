@@ -1,4 +1,4 @@
--- The worked scripts are settled, and their answers by computing. The words were told by another model of the same rules, written in Python.
+-- The worked scripts are settled, and their answers by computing. The words are those that an independent model of the same rules prints.
 use Rattle.std.specs.List.{join_with_byte}
 use Rattle.std.specs.Prelude.{IsTrue, List, None, Option, Some, [], codes, map, refl, ℕ, ◌∷◌, ◌≡◌}
 use Rattle.fab_base.specs.declared.entries.Kept.{Kept}
