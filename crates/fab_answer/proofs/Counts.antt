@@ -1,8 +1,8 @@
 -- How many members of a list pass a test.
 --     many test xs      how many do
-use Rattle.std.proofs.Common.{Bool, List, None, Option, Some, [], ap, arith, false, get_or, inl, inr, length, map, refl, replicate, set, suc, sym, take, true, zero, ℕ, ◌&&◌, ◌++◌, ◌+◌, ◌-◌, ◌<◌, ◌||◌, ◌∙◌, ◌∷◌, ◌≡◌, ◌≢◌, ◌≤◌, ◌⊎◌}
+use Rattle.std.proofs.Common.{Bool, List, None, Option, Some, [], ap, arith, false, get_or, inl, inr, length, map, refl, replicate, set, suc, sym, take, true, zero, ℕ, ◌++◌, ◌+◌, ◌<◌, ◌||◌, ◌∙◌, ◌∷◌, ◌≡◌, ◌≤◌}
 use Rattle.std.specs.List.{cons_option, list_any}
-use Rattle.std.specs.Prelude.{filter_map, find, ◌==◌}
+use Rattle.std.specs.Prelude.{filter_map, find}
 use Rattle.fab_model.specs.Matching.{remove_first}
 use Rattle.fab_model.proofs.Firsts.{not_found as not_removed}
 use Rattle.fab_answer.proofs.Lists.{Each, In, found_in, never}

@@ -1,3 +1,6 @@
--- Worked scripts with their answers, what meets the premises of the law, and what it refuses.
+-- Worked scripts with their answers, schedules that meet the premises of the law, and what it refuses.
+pub mod Scripts
 pub mod Answers
 pub mod Premises
+pub mod Wrong
+pub mod AnySource

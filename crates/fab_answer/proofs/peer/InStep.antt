@@ -1,6 +1,6 @@
 -- What holds of a peer of a settled script until the final cancels: it is in step with the answer.
 --     InStep      of what it transmitted and received, of its completions and of the entries that it read; `hand` are contexts whose operation has just left its place
-use Rattle.std.proofs.Common.{Bool, List, None, Option, Some, [], ap, append-nil, append_assoc, arith, drop, false, filter, get_or, inl, inr, length, length-append, length-set, map, refl, slice_get, subst, sym, take, true, ℕ, ◌++◌, ◌+◌, ◌<◌, ◌∙◌, ◌∷◌, ◌≡◌, ◌≤◌, ◌⊎◌}
+use Rattle.std.proofs.Common.{Bool, List, None, Option, Some, [], ap, append-nil, append_assoc, arith, drop, false, filter, get_or, inl, inr, length, length-append, length-set, map, refl, slice_get, subst, sym, take, true, ℕ, ◌++◌, ◌+◌, ◌∙◌, ◌∷◌, ◌≡◌, ◌≤◌, ◌⊎◌}
 use Rattle.std.proofs.lemmas.List.{map-append, take-append-le}
 use Rattle.std.specs.Prelude.{find, slice_index, ◌==◌}
 use Rattle.fab_base.specs.declared.entries.Kept.{Kept}

@@ -1,6 +1,6 @@
 -- A line of a settled script is refused at any time as it is at the opening.
 --     Sends op order ctx, Receives op posting ctx      what a plain line calls
-use Rattle.std.proofs.Common.{Bool, List, None, Option, Some, [], ap, ap₂, arith, cond, false, inl, inr, length, map, not, refl, slice_get, suc, sym, true, zero, ℕ, ◌&&◌, ◌++◌, ◌<◌, ◌||◌, ◌∙◌, ◌∷◌, ◌≡◌, ◌⊎◌}
+use Rattle.std.proofs.Common.{Bool, List, None, Option, Some, [], ap, ap₂, arith, cond, false, inl, inr, length, map, not, refl, slice_get, suc, sym, true, zero, ℕ, ◌&&◌, ◌<◌, ◌||◌, ◌∙◌, ◌∷◌, ◌≡◌, ◌⊎◌}
 use Rattle.std.specs.Prelude.{is_none, is_some, nat_le, nat_lt, slice_index_or, ◌==◌}
 use Rattle.fab_base.specs.declared.caps.Caps.{Caps}
 use Rattle.fab_base.specs.declared.faults.Busy.TheVariants.{CqFull, PostedFull}

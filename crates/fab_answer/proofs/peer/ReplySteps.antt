@@ -1,5 +1,5 @@
 -- Each step of a peer of a settled script but the final cancels keeps what holds of replies.
-use Rattle.std.proofs.Common.{Bool, List, None, Option, Some, [], ap, arith, false, filter, get_or-set_same, inl, inr, length, refl, rules, slice_get, subst, sym, true, ℕ, ◌&&◌, ◌++◌, ◌+◌, ◌<◌, ◌∙◌, ◌∷◌, ◌≡◌, ◌≤◌, ◌⊎◌}
+use Rattle.std.proofs.Common.{Bool, List, None, Option, Some, [], ap, arith, false, filter, get_or-set_same, inl, inr, length, refl, rules, slice_get, subst, sym, true, ℕ, ◌++◌, ◌+◌, ◌<◌, ◌∙◌, ◌∷◌, ◌≡◌, ◌⊎◌}
 use Rattle.std.proofs.lemmas.Bool.Decides.{nat_tests}
 use Rattle.std.proofs.lemmas.Bool.{and_parts, eqb-true, ltb-true}
 use Rattle.std.specs.Prelude.{find, slice_index, ◌==◌}
@@ -45,7 +45,6 @@ use Rattle.fab_answer.proofs.peer.Refusals.{PlainKinds, Sends, dest_below, plain
 use Rattle.fab_answer.proofs.peer.Replies.{Owing, numbered_by, owing_accepts, owing_found, owing_joins, owing_removed, owing_whole}
 use Rattle.fab_answer.proofs.peer.Steps.{do_calls}
 use Rattle.fab_answer.proofs.peer.Tails.{PeerAt}
-use Rattle.fab_answer.proofs.peers.World.{kinds}
 
 end_same : (outcome : Outcome) (bytes : List ℕ) (o : Operation) (s : State) → ((end_with outcome bytes o s).tx ≡ s.tx) × ((end_with outcome bytes o s).rx ≡ s.rx)
 unfolding end_with

@@ -1,6 +1,6 @@
 -- Replies of all peers: once all that was accepted is whole, no operation is live.
 --     Owings      what holds of replies, of each peer
-use Rattle.std.proofs.Common.{List, None, Option, Some, [], ap, arith, get_or, inl, inr, length, length-append, refl, replicate, set, slice_get, subst, sym, true, ℕ, ◌&&◌, ◌+◌, ◌<◌, ◌∙◌, ◌∷◌, ◌≡◌, ◌≤◌, ◌⊎◌}
+use Rattle.std.proofs.Common.{List, None, Option, Some, [], ap, arith, get_or, inl, inr, length, length-append, refl, replicate, set, slice_get, subst, sym, true, ℕ, ◌+◌, ◌∙◌, ◌∷◌, ◌≡◌, ◌≤◌, ◌⊎◌}
 use Rattle.std.proofs.lemmas.Option.{slice_get-get_or, slice_get_within}
 use Rattle.std.specs.Prelude.{slice_index}
 use Rattle.fab_base.specs.declared.items.Ack.TheVariants.{Delivery, Match, Nothing}

@@ -1,7 +1,7 @@
 -- What rest says of the peers of a settled script.
 --     Rest, AllWhole      of one peer, and of what peers send one another
 --     posted_waits, entry_read      the entry of a receive that is still posted does not come, and one that comes was read
-use Rattle.std.proofs.Common.{All, Bool, List, None, Option, Some, [], ap, append-nil, ap₂, arith, drop, false, filter, get_or, inl, inr, length, length-append, map, not, refl, slice_get, subst, suc, sym, take, true, zero, ℕ, ◌&&◌, ◌++◌, ◌+◌, ◌-◌, ◌<◌, ◌||◌, ◌∙◌, ◌∷◌, ◌≡◌, ◌≢◌, ◌≤◌, ◌⊎◌}
+use Rattle.std.proofs.Common.{All, Bool, List, None, Option, Some, [], ap, append-nil, ap₂, arith, drop, false, filter, get_or, inl, inr, length, length-append, map, not, refl, slice_get, subst, suc, sym, take, true, zero, ℕ, ◌&&◌, ◌++◌, ◌+◌, ◌∙◌, ◌∷◌, ◌≡◌, ◌≤◌}
 use Rattle.std.proofs.lemmas.Bool.Decides.{nat_tests}
 use Rattle.std.proofs.lemmas.Bool.{and_from, and_parts, cases_lt, eqb-true}
 use Rattle.std.proofs.lemmas.List.Elements.{filter_map-append}
@@ -18,7 +18,7 @@ use Rattle.fab_base.specs.declared.script.Bound.{Bound}
 use Rattle.fab_base.specs.declared.script.Line.{Line}
 use Rattle.fab_base.specs.declared.script.LineOp.{LineOp}
 use Rattle.fab_model.specs.Peers.{Actor, ctx_of, do_next, fabric, is_of_ctx, same_ctx}
-use Rattle.fab_model.specs.Receiving.{draw_due, post}
+use Rattle.fab_model.specs.Receiving.{draw_due}
 use Rattle.fab_model.specs.Replay.{agree, agree_all, all_idle, at_rest, can_do, is_idle, lines_of}
 use Rattle.fab_model.specs.State.{accepted_for}
 use Rattle.fab_model.specs.Views.{seen}

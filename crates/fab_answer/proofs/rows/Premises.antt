@@ -1,43 +1,64 @@
--- The law at a script and its report: the premises are met, so what the report's schedule told is the answer.
+-- Schedules of worked scripts that meet the premises of the law, with lines not done and with a final cancel too; so their states are the answer's.
 use Rattle.std.proofs.Common.{arith}
-use Rattle.std.specs.Prelude.{List, None, Some, [], codes, false, refl, true, ℕ, ◌∷◌, ◌≡◌}
-use Rattle.fab_base.specs.declared.peers.Level.{Level}
+use Rattle.std.specs.Prelude.{List, refl, true, ◌≡◌}
+use Rattle.fab_base.specs.declared.peers.Step.{Step}
 use Rattle.fab_base.specs.declared.script.Bound.{Bound}
-use Rattle.fab_base.specs.declared.script.BytesWord.TheVariants.{Text}
-use Rattle.fab_base.specs.declared.script.LineOp.{LineOp}
 use Rattle.fab_model.specs.Machine.{machine}
-use Rattle.fab_model.specs.Report.{traces}
-use Rattle.fab_model.proofs.Scripts.{Shows, line, script_of}
+use Rattle.fab_model.specs.Replay.{Lawful, at_rest}
 use Rattle.fab_answer.specs.Answer.{answer}
-use Rattle.fab_answer.specs.Laws.{HasSizes, last_states, results_of}
+use Rattle.fab_answer.specs.Laws.{BeginsSo, EndsSo, HasSizes, IsDoneSo, LeavesSo, last_states}
 use Rattle.fab_answer.specs.Settled.{is_settled}
-use Rattle.fab_answer.proofs.peers.AtRest.{results_at_rest}
+use Rattle.fab_answer.proofs.peers.AtRest.{done_at_rest, entries_at_rest, results_at_rest}
+use Rattle.fab_answer.proofs.peers.Reaches.{results_begin}
+use Rattle.fab_answer.proofs.rows.Scripts.{cancel, cancel_schedule, order, order_posted, order_unexpected, stuck, stuck_schedule}
 
-script : Bound
-script = script_of (
-    (line 4 (LineOp.TRecv 1 (Some 1) 5 0 4)
-    ∷ line 5 (LineOp.TRecv 2 (Some 1) 0 18446744073709551615 4)
-    ∷ line 6 (LineOp.Wait (Some 1))
-    ∷ line 7 (LineOp.Wait (Some 2)) ∷ [])
-    ∷ (line 9 (LineOp.TSend 3 0 7 (Text (codes "x")) None Level.Transmit false)
-    ∷ line 10 (LineOp.TSend 4 0 5 (Text (codes "y")) None Level.Transmit false) ∷ [])
-    ∷ []
-    )
+-- the schedule is a lawful one of a settled script, and comes to rest
+pub record Rests (bound : Bound) (schedule : List (List Step)) : Type 0 where
+  pub settled : is_settled bound ≡ true
+  pub sizes : HasSizes bound
+  pub lawful : Lawful bound schedule
+  pub rest : at_rest (last_states bound schedule) ≡ true
 
-text : List ℕ
-text = codes "fabric 1 peers 2\npeer 0\n4 trecv ok\n5 trecv ok\n6 wait 1 FI_TAGGED FI_RECV from 1 tag 5 len 1 bytes 79\n7 wait 2 FI_TAGGED FI_RECV from 1 tag 7 len 1 bytes 78\ntrace D D H1 T1 H1 T1 R R D D\npeer 1\n9 tsend ok\n10 tsend ok\nleft 3 FI_TAGGED FI_SEND\nleft 4 FI_TAGGED FI_SEND\ntrace D S0 D S0 R R\nend done\n"
+pub posted_rests : Rests order order_posted
+unfolding order order_posted machine
+posted_rests = record { settled = refl; sizes = (omega arith, omega arith); lawful = refl; rest = refl }
 
-row : Shows script text
-unfolding script text machine
-row = record { report_is = refl; lawful = refl; rest = refl }
+pub unexpected_rests : Rests order order_unexpected
+unfolding order order_unexpected machine
+unexpected_rests = record { settled = refl; sizes = (omega arith, omega arith); lawful = refl; rest = refl }
 
-settled : is_settled script ≡ true
-unfolding script machine
-settled = refl
+pub stuck_rests : Rests stuck stuck_schedule
+unfolding stuck stuck_schedule machine
+stuck_rests = record { settled = refl; sizes = (omega arith, omega arith); lawful = refl; rest = refl }
 
-sizes : HasSizes script
-unfolding script
-sizes = (omega arith, omega arith)
+pub cancel_rests : Rests cancel cancel_schedule
+unfolding cancel cancel_schedule machine
+cancel_rests = record { settled = refl; sizes = (omega arith, omega arith); lawful = refl; rest = refl }
 
-told_by_law : results_of (last_states script (traces text)) ≡ (answer script).results
-told_by_law = (results_at_rest script (traces text) settled sizes row.lawful row.rest).0
+-- ---- what the law then says
+
+pub record Agrees (bound : Bound) (schedule : List (List Step)) : Type 0 where
+  pub begins : BeginsSo (answer bound) (last_states bound schedule)
+  pub ends : EndsSo (answer bound) (last_states bound schedule)
+  pub leaves : LeavesSo (answer bound) (last_states bound schedule)
+  pub done : IsDoneSo (answer bound) (last_states bound schedule)
+
+agrees : (bound : Bound) (schedule : List (List Step)) → Rests bound schedule → Agrees bound schedule
+agrees bound schedule r = record {
+  begins = results_begin bound schedule r.settled r.lawful;
+  ends = results_at_rest bound schedule r.settled r.sizes r.lawful r.rest;
+  leaves = entries_at_rest bound schedule r.settled r.sizes r.lawful r.rest;
+  done = done_at_rest bound schedule r.settled r.sizes r.lawful r.rest;
+}
+
+pub posted_agrees : Agrees order order_posted
+posted_agrees = agrees order order_posted posted_rests
+
+pub unexpected_agrees : Agrees order order_unexpected
+unexpected_agrees = agrees order order_unexpected unexpected_rests
+
+pub stuck_agrees : Agrees stuck stuck_schedule
+stuck_agrees = agrees stuck stuck_schedule stuck_rests
+
+pub cancel_agrees : Agrees cancel cancel_schedule
+cancel_agrees = agrees cancel cancel_schedule cancel_rests
