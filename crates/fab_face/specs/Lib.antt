@@ -3,3 +3,4 @@ pub mod Acts
 pub mod Answers
 pub mod Ports
 pub mod Machine
+pub mod Targets

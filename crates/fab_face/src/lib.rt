@@ -11,3 +11,4 @@
 pub mod calls;
 pub mod events;
 pub mod machine;
+pub mod targets;
