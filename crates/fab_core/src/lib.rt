@@ -14,6 +14,7 @@
 //! | `serving` | requests of other peers are performed |
 //! | `handing` | replies are booked |
 //! | `machine` | all of it as the endpoint's machine |
+//! | `targets` | the regions, as their owner calls them |
 #![tactic(auto)]
 
 mod callers;
@@ -25,5 +26,6 @@ mod receives;
 mod sending;
 mod serving;
 mod taking;
+mod targets;
 
 pub use parts::Core;
