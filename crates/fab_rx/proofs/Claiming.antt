@@ -1,5 +1,5 @@
 -- What is stored of the claimed messages stays true as items arrive.
-use Rattle.std.proofs.Common.{◌≡◌, ◌≢◌, ℕ, ◌+◌, ◌<◌, ◌≤◌, Bool, true, false, List, [], ◌∷◌, ◌++◌, length, Option, Some, None, set, refl, sym, ap, subst, ◌∙◌, arith, length-append, length-set}
+use Rattle.std.proofs.Common.{◌≡◌, ◌≢◌, ℕ, ◌+◌, ◌<◌, ◌≤◌, Bool, true, false, List, [], ◌∷◌, ◌++◌, length, Option, None, set, refl, sym, ap, subst, ◌∙◌, arith, length-append, length-set}
 use Rattle.fab_base.specs.declared.items.ItemHead.{ItemHead}
 use Rattle.fab_base.specs.declared.items.Want.{Want}
 use Rattle.fab_base.specs.declared.items.Sign.{Sign}

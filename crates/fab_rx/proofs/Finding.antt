@@ -2,7 +2,6 @@
 use Rattle.std.proofs.Common.{◌≡◌, ℕ, ◌==◌, List, Option, Some, None, get_or, refl, sym, ap, subst, ◌∙◌}
 use Rattle.std.specs.Prelude.{find, is_some, IsSome}
 use Rattle.std.specs.Option.{option_map}
-use Rattle.std.specs.List.{AllZip}
 use Rattle.fab_base.specs.declared.items.Want.{Want}
 use Rattle.fab_base.specs.declared.items.Sign.{Sign}
 use Rattle.fab_base.specs.declared.operations.Arrival.{Arrival}

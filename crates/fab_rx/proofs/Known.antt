@@ -24,7 +24,7 @@ use Rattle.fab_rx.specs.declared.stored.Begun.{Begun}
 use Rattle.fab_rx.specs.Table.{Cells, at}
 use Rattle.fab_base.specs.declared.operations.Coming.TheVariants.{Keep as KeepIt}
 use Rattle.fab_rx.specs.Arriving.{Arriving, GoesToSingle, IsArriving, IsPartly, IsSingle, PartlyIn, begun_of, nothing_arrived}
-use Rattle.fab_rx.specs.Stored.{AreClaimed, GoesBy, IsClaim, IsComing, IsKept, IsKeptAs, IsKeptWay, IsWay, Lies, Sits, entries_by, parcel_of, parcel_without}
+use Rattle.fab_rx.specs.Stored.{AreClaimed, GoesBy, IsClaim, IsKept, IsKeptAs, IsKeptWay, IsWay, Lies, Sits, entries_by, parcel_of, parcel_without}
 use Rattle.fab_rx.specs.Results.{entries_due}
 use Rattle.std.proofs.lemmas.Bool.Decides.{nat_tests}
 use Rattle.std.proofs.lemmas.List.{length-replicate}

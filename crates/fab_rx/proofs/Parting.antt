@@ -14,7 +14,6 @@ use Rattle.fab_base.specs.declared.operations.Coming.TheVariants.{Into as IntoRe
 use Rattle.fab_model.specs.Matching.{takes, remove_first}
 use Rattle.fab_model.specs.State.{Receiving, coming_from}
 use Rattle.fab_model.specs.Receiving.{without_claim, without_first}
-use Rattle.fab_model.specs.Complete.{paste}
 use Rattle.fab_match.specs.Signs.{fits}
 use Rattle.fab_match.specs.Matcher.{first_id, has_id}
 use Rattle.fab_match.proofs.Pairs.{has_id-first}
@@ -26,7 +25,7 @@ use Rattle.fab_rx.specs.declared.stored.Begun.{Begun}
 use Rattle.fab_rx.specs.Table.{Cells, at}
 use Rattle.fab_rx.specs.Arriving.{Arriving, IsSingle, begun_of, given, posting}
 use Rattle.fab_rx.specs.Claims.{claiming_first, discarding, dropping, taking, thrown}
-use Rattle.fab_rx.specs.Stored.{AreApart, AreClaimed, GoesBy, IsClaim, IsComing, IsKept, IsKeptAs, IsKeptWay, IsWay, Lies, moved, parcel_of, parcel_without, redirected, seat_of, seat_with, thrown_on, turned}
+use Rattle.fab_rx.specs.Stored.{AreApart, AreClaimed, GoesBy, IsClaim, IsComing, IsKept, IsKeptAs, IsKeptWay, IsWay, Lies, moved, parcel_of, parcel_without, redirected, seat_of, thrown_on, turned}
 use Rattle.fab_rx.proofs.Tables.{id_within}
 use Rattle.fab_rx.proofs.Tying.{IsTaken, retied_but, tied_push}
 use Rattle.fab_rx.proofs.Apart.{apart_claim, apart_fewer, apart_less, given_up, not_claimed}

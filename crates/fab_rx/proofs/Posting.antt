@@ -1,34 +1,19 @@
 -- What is stored stays true as receives are posted.
-use Rattle.std.proofs.Common.{◌≡◌, ◌≢◌, ℕ, ◌+◌, ◌<◌, false, List, [], ◌∷◌, ◌++◌, length, Option, Some, None, get_or, set, refl, sym, ap, subst, ◌∙◌, arith, length-set, length-append}
-use Rattle.std.specs.Prelude.{find, is_some}
-use Rattle.std.specs.Option.{option_map}
-use Rattle.fab_rx.specs.declared.results.Completed.{Completed}
-use Rattle.fab_rx.specs.declared.results.Posted.TheVariants.{GoesOn, Whole}
-use Rattle.fab_rx.specs.Results.{completed, posted_as}
-use Rattle.std.specs.List.{AllZip}
-use Rattle.std.proofs.lemmas.List.{set-get_or, set-set}
-use Rattle.fab_base.specs.declared.items.Item.{Item}
+use Rattle.std.proofs.Common.{◌≡◌, ◌≢◌, ℕ, ◌+◌, ◌<◌, false, List, [], ◌∷◌, ◌++◌, length, Option, Some, None, set, refl, sym, ◌∙◌, arith, length-append}
+use Rattle.std.specs.Prelude.{find}
 use Rattle.fab_base.specs.declared.items.Want.{Want}
 use Rattle.fab_base.specs.declared.items.Sign.{Sign}
 use Rattle.fab_base.specs.declared.operations.Receive.{Receive}
-use Rattle.fab_base.specs.declared.operations.Arrival.{Arrival}
-use Rattle.fab_base.specs.declared.operations.Coming.{Coming}
-use Rattle.fab_base.specs.declared.operations.Coming.TheVariants.{Into as IntoReceive}
-use Rattle.fab_model.specs.Matching.{takes, remove_first}
-use Rattle.fab_model.specs.State.{coming_from}
-use Rattle.fab_match.specs.Signs.{fits}
-use Rattle.fab_match.specs.Matcher.{first_id, has_id}
+use Rattle.fab_model.specs.Matching.{takes}
+use Rattle.fab_match.specs.Matcher.{has_id}
 use Rattle.fab_rx.specs.declared.stored.Seat.{Seat}
 use Rattle.fab_rx.specs.declared.stored.Parcel.{Parcel}
-use Rattle.fab_rx.specs.declared.stored.Way.{Way}
-use Rattle.fab_rx.specs.declared.stored.Way.TheVariants.{Into, Keep, Throw, Gather}
 use Rattle.fab_rx.specs.declared.stored.Begun.{Begun}
 use Rattle.fab_rx.specs.Table.{Cells, at}
-use Rattle.fab_rx.specs.Arriving.{Arriving, IsSingle, begun_of, posting, receive_by}
-use Rattle.fab_rx.specs.Stored.{IsComing, IsKept, IsKeptAs, IsKeptWay, IsWay, Lies, Sits, parcel_of, parcel_without, seat_of}
-use Rattle.fab_rx.proofs.Tables.{id_within}
-use Rattle.fab_rx.proofs.Tying.{tied_length, tied_push, retied, retied_but, tied_fresh, IsTaken, taken, missed}
-use Rattle.fab_rx.proofs.Keeping.{apart, at_other, at_same, lies_agrees, lies_at, lies_set, sits_at, way_stays, ways_set}
+use Rattle.fab_rx.specs.Arriving.{Arriving, IsSingle, posting, receive_by}
+use Rattle.fab_rx.specs.Stored.{IsKept, Sits, seat_of}
+use Rattle.fab_rx.proofs.Tying.{tied_length, tied_push, retied, tied_fresh}
+use Rattle.fab_rx.proofs.Keeping.{apart, at_other, at_same, sits_at}
 
 module _ (ps : List (ℕ × Want)) (us : List (ℕ × Sign)) (room : ℕ) (seats : Cells Seat) (parcels : Cells Parcel) (coming : List (Option Begun)) (v : Arriving) (kept : IsKept ps us room seats parcels coming v)
     (call : Option ℕ) (want : Want) (buf : List ℕ) (ctx : ℕ) where

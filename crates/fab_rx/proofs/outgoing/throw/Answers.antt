@@ -1,4 +1,4 @@
-use Rattle.std.proofs.Common.{◌≡◌, ◌∙◌, set, None, Some, sym, ap, arith, rules}
+use Rattle.std.proofs.Common.{◌∙◌, set, Some, sym, ap, arith, rules}
 use Rattle.fab_rx.specs.declared.results.Seen.{Seen}
 use Rattle.fab_rx.specs.Stored.{thrown_on}
 use Rattle.fab_rx.proofs.Parting.{source_within, begun_there, not_some, turns_to}

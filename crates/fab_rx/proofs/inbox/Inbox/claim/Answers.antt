@@ -1,4 +1,4 @@
-use Rattle.std.proofs.Common.{◌≡◌, ◌<◌, ◌∙◌, None, Some, length, sym, ap, refl, arith, rules}
+use Rattle.std.proofs.Common.{◌≡◌, ◌∙◌, None, Some, sym, ap, refl, rules}
 use Rattle.std.specs.Prelude.{find}
 use Rattle.fab_model.specs.Matching.{takes}
 use Rattle.fab_match.specs.Signs.{fits}

@@ -1,4 +1,4 @@
-use Rattle.std.proofs.Common.{◌≡◌, ◌==◌, ◌∙◌, None, Some, sym, ap, refl, rules}
+use Rattle.std.proofs.Common.{◌≡◌, ◌==◌, ◌∙◌, None, Some, ap, refl, rules}
 use Rattle.std.specs.Prelude.{find}
 use Rattle.fab_match.specs.Matcher.{first_id}
 use Rattle.fab_rx.proofs.Finding.{none_claimed, claim_there, claim_seen}

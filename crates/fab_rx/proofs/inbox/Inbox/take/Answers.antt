@@ -1,6 +1,5 @@
-use Rattle.std.proofs.Common.{◌≡◌, ◌==◌, ◌+◌, ◌≤◌, ◌∙◌, true, false, None, Some, sym, ap, subst, refl, rules}
+use Rattle.std.proofs.Common.{◌≡◌, ◌==◌, ◌+◌, ◌≤◌, true, false, None, Some, sym, subst, refl, rules}
 use Rattle.std.specs.Prelude.{find, is_some, unwrap_or}
-use Rattle.std.specs.Option.{option_map}
 use Rattle.fab_base.specs.declared.operations.Coming.TheVariants.{Into}
 use Rattle.fab_match.specs.Matcher.{first_id}
 use Rattle.fab_rx.specs.Arriving.{Arriving, receive_by}
