@@ -9,3 +9,7 @@ mod Calling
 mod Handed
 mod Sent
 mod Beginning
+mod Departing
+mod Seeing
+mod Judging
+mod Aside

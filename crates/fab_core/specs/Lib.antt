@@ -1,3 +1,4 @@
 pub mod Parts
 pub mod Doing
 pub mod Orders
+pub mod Looks

@@ -12,12 +12,15 @@
 //! | `taking` | frames come in |
 //! | `ending` | operations end |
 //! | `handing` | replies are booked |
-//! | `machine` | all of it as the endpoint's machine |
+//! | `looks` | unexpected messages are looked at and set aside, claimed ones taken and dropped |
+//! | `machine`, `looking` | all of it as the endpoint's machine |
 #![tactic(auto)]
 
 mod callers;
 mod ending;
 mod handing;
+mod looking;
+mod looks;
 mod machine;
 mod parts;
 mod receives;

@@ -2,4 +2,5 @@ pub mod Held
 pub mod Acts
 pub mod Answers
 pub mod Ports
+pub mod Looking
 pub mod Machine
