@@ -11,3 +11,7 @@ mod Sent
 mod Beginning
 mod Serves
 mod Registered
+mod Departing
+mod Seeing
+mod Judging
+mod Aside
