@@ -1,6 +1,9 @@
-//! Unexpected messages that are looked at, claimed, dropped and discarded.
-use crate::messages::{ANY, THREE, is_kept};
-use fab_base::ItemHead;
+//! Unexpected messages that are looked at, claimed, taken, dropped and discarded.
+ghost use Rattle.std.specs.Prelude.{◌≡◌, is_some};
+ghost use Rattle.fab_rx.specs.Claims.{claim_under};
+
+use crate::messages::{ANY, ByHand, THREE, is_kept, is_received};
+use fab_base::{Buf, ItemHead};
 use fab_match::ListMatcher;
 use fab_rx::{Finished, Inbox, Seen};
 use std::test::Fail;
@@ -13,12 +16,23 @@ fn is_met(seen: &Option<Seen>, head: &ItemHead, whole: bool) -> bool {
     }
 }
 
+/// Whether something stands claimed under the context.
+fn is_claimed(inbox: &Inbox<ListMatcher>, ctx: u64) -> bool
+    ensures { result ≡ is_some (claim_under ctx inbox.now.rx) }
+{
+    match inbox.claimed(ctx) {
+        Some(_) => true,
+        None => false,
+    }
+}
+
 fn is_thrown(finished: &Finished) -> bool {
     matches!(finished, Finished::Thrown(_))
 }
 
 #[test]
-fn a_message_that_is_claimed_gets_its_bytes(rt: HostRuntime) -> Result<(), Fail> {
+fn a_message_that_is_claimed_is_left_for_its_own_receive(rt: HostRuntime) -> Result<(), Fail> {
+    let buf = Buf::copy(rt.alloc(), &[9, 9, 9, 9])?;
     let mut inbox = Inbox::<ListMatcher>::new(rt.alloc(), 2, 2)?;
     assert!(rt; inbox.peek(&ANY).is_none());
     assert!(rt; inbox.claim(&ANY, 7).is_none());
@@ -30,6 +44,10 @@ fn a_message_that_is_claimed_gets_its_bytes(rt: HostRuntime) -> Result<(), Fail>
     assert!(rt; is_kept(&inbox.finish(1)));
     assert!(rt; inbox.claimed(6).is_none());
     assert!(rt; is_met(&inbox.claimed(7), &THREE, true));
+    assert!(rt; is_claimed(&inbox, 7));
+    let taken = inbox.take::<u64, ByHand>(&0, buf, 7);
+    assert!(rt; is_received(&taken, 3, &[1, 2, 3, 9]));
+    assert!(rt; !is_claimed(&inbox, 7));
     Ok(())
 }
 

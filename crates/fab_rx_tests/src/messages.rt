@@ -8,7 +8,7 @@ use fab_rx::{Cancelled, Finished, Inbox, Posted};
 use std::test::Fail;
 
 /// Calls that are numbered by hand.
-struct ByHand {
+pub(crate) struct ByHand {
     unused: (),
 }
 
@@ -55,7 +55,7 @@ fn is_left(cancelled: &Option<Cancelled>, bytes: &[u8]) -> bool {
 }
 
 /// Whether a receive got a message of so many bytes, after which its buffer has these.
-fn is_received(posted: &Posted, count: u32, bytes: &[u8]) -> bool {
+pub(crate) fn is_received(posted: &Posted, count: u32, bytes: &[u8]) -> bool {
     match posted {
         Posted::Whole(done) => done.good && is_success(&done.entry, count, bytes),
         _ => false,
