@@ -10,3 +10,8 @@ mod Handed
 mod Sent
 mod Beginning
 mod Serves
+mod Registered
+mod Departing
+mod Seeing
+mod Judging
+mod Aside

@@ -21,12 +21,12 @@ use Rattle.fab_model.specs.State.{Receiving, coming_from}
 use Rattle.fab_model.specs.Arrivals.{completed, heading_message, heading_other, keeping, made_whole, newcomer, taker, way_of}
 use Rattle.fab_rx.specs.Arriving.{Arriving, IsArriving, IsPartly, PartlyIn, arriving, bare, begun_of, bytes_come, finishing, given, growing, headed, kept, lengthened, posted_to, posting}
 use Rattle.fab_rma.specs.Serving.{is_request}
-use Rattle.fab_core.specs.Parts.{bit, count_of, due_for, is_due, is_owed, owed}
+use Rattle.fab_core.specs.Parts.{bit, count_of, due_for, is_due, is_owed, is_owed_aside, owed}
 use Rattle.fab_core.specs.Doing.{asks}
 
 -- ---- counting
 
-either_is : (ack : Ack) → bit (at_either ack) ≡ bit (at_delivery ack) + bit (at_match ack)
+pub either_is : (ack : Ack) → bit (at_either ack) ≡ bit (at_delivery ack) + bit (at_match ack)
 either_is Nothing = refl
 either_is Delivery = refl
 either_is Match = refl
@@ -35,7 +35,7 @@ module _ {X : Type 0} (f : X → Bool) where
   count_more : (x : X) (xs : List X) → count_of f (x ∷ xs) ≡ bit (f x) + count_of f xs
   count_more x xs = refl
 
-  count_last : (xs : List X) (x : X) → count_of f (xs ++ x ∷ []) ≡ count_of f xs + bit (f x)
+  pub count_last : (xs : List X) (x : X) → count_of f (xs ++ x ∷ []) ≡ count_of f xs + bit (f x)
   count_last [] x = (let e = count_more x [] in omega (arith, e))
   count_last (y ∷ ys) x = (let a = count_more y (ys ++ x ∷ []) in let b = count_last ys x in let d = count_more y ys in omega (arith, a, b, d))
 
@@ -49,7 +49,7 @@ module _ {X : Type 0} (f : X → Bool) where
       rw (is, remove_first) (omega (arith, a, b, d))
 
   -- the first that passes a test leaves
-  count_without : (test : X → Bool) (xs : List X) (x : X) → find test xs ≡ Some x → count_of f xs ≡ bit (f x) + count_of f (remove_first test xs)
+  pub count_without : (test : X → Bool) (xs : List X) (x : X) → find test xs ≡ Some x → count_of f xs ≡ bit (f x) + count_of f (remove_first test xs)
   count_without test [] x e = absurd (cc)
   count_without test (y ∷ ys) x e = without_step test y ys x (test y) refl e (count_without test ys x)
 
@@ -93,7 +93,7 @@ module _ (v : Arriving) (ok : IsArriving v) (source : ℕ) (head : ItemHead) (wi
   in_coming : source < length v.rx.coming
   in_coming = omega (arith, within, ok.coming)
 
-  owed_now : owed source v ≡ count_of (is_owed source) v.rx.unexpected
+  owed_now : owed source v ≡ count_of (is_owed source) v.rx.unexpected + count_of (is_owed_aside source) v.rx.claimed
   owed_now = (let e : due_for (coming_from v.rx source) (begun_of v source) ≡ 0 = ap (due_for (coming_from v.rx source)) nothing in omega (arith, e))
 
   begun_here : begun_of (arriving source head v) source ≡ Some (bare head)
@@ -113,12 +113,17 @@ module _ (v : Arriving) (ok : IsArriving v) (source : ℕ) (head : ItemHead) (wi
     coming_there : (s : ℕ) → s ≢ source → coming_from (record v.rx { coming = slice_set v.rx.coming source (Some w) }) s ≡ coming_from v.rx s
     coming_there s other = get_or-set_other v.rx.coming source s (Some w) None other
 
+  claimed_as_before : (heading_message source head v.rx).claimed ≡ v.rx.claimed
+  unfolding heading_message
+  claimed_as_before = refl
+
   -- where the item goes, and what is unexpected then
   pub record Went (rx : Receiving) : Type 0 where
     pub way : Coming
     pub coming : rx.coming ≡ slice_set v.rx.coming source (Some way)
     pub here : bit (is_due (Some way) head) + count_of (is_owed source) rx.unexpected ≡ count_of (is_owed source) v.rx.unexpected + bit (asks head)
     pub there : (s : ℕ) → s ≢ source → count_of (is_owed s) rx.unexpected ≡ count_of (is_owed s) v.rx.unexpected
+    pub aside : rx.claimed ≡ v.rx.claimed
 
   message_by : (o : Option Receive) → taker source head v.rx ≡ o → is_message head.kind ≡ true → Went (heading_message source head v.rx)
   unfolding heading_message
@@ -137,6 +142,7 @@ module _ (v : Arriving) (ok : IsArriving v) (source : ℕ) (head : ItemHead) (wi
         let c = count_last (is_owed s) v.rx.unexpected new in
         let o : bit (is_owed s new) ≡ 0 = ap (λ b. bit (b && at_match head.ack)) (ne_eqb source s (λ same. other (sym same))) in
         omega (arith, c, o));
+    aside = claimed_as_before;
   }
   message_by (Some r) some message = record {
     way = Into r r.used;
@@ -145,6 +151,7 @@ module _ (v : Arriving) (ok : IsArriving v) (source : ℕ) (head : ItemHead) (wi
         let a : bit (asks head) ≡ bit (at_either head.ack) = ap bit (message_asks head.kind (at_either head.ack) message) in
         omega (arith, a));
     there = λ s other. rw (some, heading_message) refl;
+    aside = claimed_as_before;
   }
 
   went : (b : Bool) → is_message head.kind ≡ b → Went (headed b source head v.rx)
@@ -155,6 +162,7 @@ module _ (v : Arriving) (ok : IsArriving v) (source : ℕ) (head : ItemHead) (wi
     coming = refl;
     here = (let n = ap bit (way_due head.kind head other) in let a = ap bit (other_asks head.kind (at_either head.ack) other) in omega (arith, n, a));
     there = λ s not_here. refl;
+    aside = refl;
   }
 
   goes : Went (headed (is_message head.kind) source head v.rx)
@@ -166,14 +174,16 @@ module _ (v : Arriving) (ok : IsArriving v) (source : ℕ) (head : ItemHead) (wi
       let due : due_for (coming_from (headed (is_message head.kind) source head v.rx) source) (begun_of (arriving source head v) source) ≡ bit (is_due (Some goes.way) head) = rw (to, begun_here) refl in
       let here = goes.here in
       let now = owed_now in
-      omega (arith, due, here, now)
+      let aside = ap (count_of (is_owed_aside source)) goes.aside in
+      omega (arith, due, here, now, aside)
 
   pub owed_there : (s : ℕ) → s ≢ source → owed s (arriving source head v) ≡ owed s v
   owed_there s other =
       let to : coming_from (headed (is_message head.kind) source head v.rx) s ≡ coming_from v.rx s = ap (λ (cs : List (Option Coming)). get_or cs s None) goes.coming ∙ get_or-set_other v.rx.coming source s (Some goes.way) None other in
       let due : due_for (coming_from (headed (is_message head.kind) source head v.rx) s) (begun_of (arriving source head v) s) ≡ due_for (coming_from v.rx s) (begun_of v s) = rw (to, begun_there s other) refl in
       let there = goes.there s other in
-      omega (arith, due, there)
+      let aside = ap (count_of (is_owed_aside s)) goes.aside in
+      omega (arith, due, there, aside)
 
 -- ---- its bytes come
 
@@ -182,7 +192,7 @@ due_longer c bytes None = refl
 due_longer c bytes (Some item) = refl
 
 pub owed_grown : (v : Arriving) (source : ℕ) (bytes : List ℕ) (s : ℕ) → owed s (growing source bytes v) ≡ owed s v
-owed_grown v source bytes s = ap (λ n. n + count_of (is_owed s) v.rx.unexpected) due
+owed_grown v source bytes s = ap (λ n. n + count_of (is_owed s) v.rx.unexpected + count_of (is_owed_aside s) v.rx.claimed) due
   where
     due : due_for (coming_from v.rx s) (begun_of (growing source bytes v) s) ≡ due_for (coming_from v.rx s) (begun_of v s)
     due = elim (cases_eq s source) [
@@ -212,6 +222,15 @@ kept_count s (Some Throw) source bytes rx = refl
 kept_count s (Some Request) source bytes rx = refl
 kept_count s (Some Answer) source bytes rx = refl
 
+kept_aside : (s : ℕ) (c : Option Coming) (source : ℕ) (bytes : List ℕ) (rx : Receiving) → count_of (is_owed_aside s) (kept c source bytes rx).claimed ≡ count_of (is_owed_aside s) rx.claimed
+unfolding keeping
+kept_aside s None source bytes rx = refl
+kept_aside s (Some (Into r place)) source bytes rx = refl
+kept_aside s (Some Keep) source bytes rx = count_alike (is_owed_aside s) (λ k. (k.0, completed source bytes k.1)) (λ k. same_owed s source bytes k.1) rx.claimed
+kept_aside s (Some Throw) source bytes rx = refl
+kept_aside s (Some Request) source bytes rx = refl
+kept_aside s (Some Answer) source bytes rx = refl
+
 kept_coming : (c : Option Coming) (source : ℕ) (bytes : List ℕ) (rx : Receiving) → (kept c source bytes rx).coming ≡ rx.coming
 unfolding keeping
 kept_coming None source bytes rx = refl
@@ -226,6 +245,10 @@ module _ (v : Arriving) (source : ℕ) (item : Item) (within : source < length v
   unfolding made_whole
   count_same s = kept_count s (coming_from v.rx source) source (bytes_come (begun_of v source)) (made_whole source v.rx)
 
+  aside_same : (s : ℕ) → count_of (is_owed_aside s) (finishing source v).rx.claimed ≡ count_of (is_owed_aside s) v.rx.claimed
+  unfolding made_whole
+  aside_same s = kept_aside s (coming_from v.rx source) source (bytes_come (begun_of v source)) (made_whole source v.rx)
+
   pub whole_coming : (finishing source v).rx.coming ≡ slice_set v.rx.coming source None
   unfolding made_whole
   whole_coming = kept_coming (coming_from v.rx source) source (bytes_come (begun_of v source)) (made_whole source v.rx)
@@ -235,14 +258,16 @@ module _ (v : Arriving) (source : ℕ) (item : Item) (within : source < length v
       let old : due_for (coming_from v.rx source) (begun_of v source) ≡ bit (is_due (coming_from v.rx source) item.head) = rw begun refl in
       let new : due_for (coming_from (finishing source v).rx source) (begun_of (finishing source v) source) ≡ 0 = ap (due_for (coming_from (finishing source v).rx source)) (get_or-set_same v.begun source None None within) in
       let c = count_same source in
-      omega (arith, old, new, c)
+      let d = aside_same source in
+      omega (arith, old, new, c, d)
 
   pub owed_besides : (s : ℕ) → s ≢ source → owed s (finishing source v) ≡ owed s v
   owed_besides s other =
       let to : coming_from (finishing source v).rx s ≡ coming_from v.rx s = ap (λ (cs : List (Option Coming)). get_or cs s None) whole_coming ∙ get_or-set_other v.rx.coming source s None None other in
       let due : due_for (coming_from (finishing source v).rx s) (begun_of (finishing source v) s) ≡ due_for (coming_from v.rx s) (begun_of v s) = rw (to, get_or-set_other v.begun source s None None other) refl in
       let c = count_same s in
-      omega (arith, due, c)
+      let d = aside_same s in
+      omega (arith, due, c, d)
 
 -- ---- a receive takes an unexpected message
 

@@ -233,7 +233,7 @@ size_after outcome bytes (Some o) cq = size_written (Some o.call) (entry_at_end 
 
 -- ---- an item is whole
 
-booked_rooms : (due : Bool) (source : ℕ) (head : ItemHead) (v : Transit) (s : ℕ) → slice_index (booked due source head v).rooms s ≡ slice_index (slice_set v.rooms source (slice_index v.rooms source - bit due)) s
+pub booked_rooms : (due : Bool) (source : ℕ) (head : ItemHead) (v : Transit) (s : ℕ) → slice_index (booked due source head v).rooms s ≡ slice_index (slice_set v.rooms source (slice_index v.rooms source - bit due)) s
 booked_rooms true source head v s = refl
 booked_rooms false source head v s = elim (cases_eq s source) [
   | inl here ↦ elim (cases_lt source (length v.rooms)) [

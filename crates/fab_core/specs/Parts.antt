@@ -1,7 +1,7 @@
 -- The parts of a core, and what of them an endpoint holds.
 --     Parts          the value of a core
 --     state_of, held_of      what contracts of an endpoint see of it
---     owed s rx      how many replies are still to be booked for the peer: for the item that is coming, and for messages that no receive took
+--     owed s rx      how many replies are still to be booked for the peer: for the item that is coming, and for messages that no receive took, unexpected or claimed
 --     IsTogether p   the parts belong to one endpoint
 use Rattle.std.specs.Prelude.{◌≡◌, ℕ, ◌+◌, ◌<◌, ◌≤◌, Bool, true, false, ◌&&◌, ◌==◌, List, [], ◌∷◌, length, Option, Some, None, slice_index}
 use Rattle.fab_base.specs.declared.caps.Caps.{Caps}
@@ -80,8 +80,11 @@ abbrev pub count_of : {X : Type 0} → (X → Bool) → List X → ℕ
 count_of test [] = 0
 count_of test (x ∷ xs) = bit (test x) + count_of test xs
 
+abbrev pub is_owed_aside : ℕ → ℕ × Arrival → Bool
+is_owed_aside s c = is_owed s c.1
+
 abbrev pub owed : ℕ → Arriving → ℕ
-owed s v = due_for (coming_from v.rx s) (begun_of v s) + count_of (is_owed s) v.rx.unexpected
+owed s v = due_for (coming_from v.rx s) (begun_of v s) + count_of (is_owed s) v.rx.unexpected + count_of (is_owed_aside s) v.rx.claimed
 
 -- ---- what holds between calls
 

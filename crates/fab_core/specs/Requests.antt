@@ -4,11 +4,14 @@
 --     writes_data outcome head   whether one is
 --     served source item target  the target after the request
 --     IsServing begun target     what holds between calls
-use Rattle.std.specs.Prelude.{◌≡◌, ℕ, ◌≤◌, Bool, true, false, List, length, Option, None, IfSome, is_some, slice_index, slice_index_or, slice_set}
+--     lacks caps access          a right that a region would give was not granted
+use Rattle.std.specs.Prelude.{◌≡◌, ℕ, ◌≤◌, Bool, true, false, not, ◌&&◌, ◌||◌, List, length, Option, None, IfSome, is_some, slice_index, slice_index_or, slice_set}
 use Rattle.std.specs.Option.{option_map}
+use Rattle.fab_base.specs.declared.caps.Caps.{Caps}
 use Rattle.fab_base.specs.declared.entries.Entry.TheVariants.{RemoteData}
 use Rattle.fab_base.specs.declared.entries.Taken.{Taken}
 use Rattle.fab_base.specs.declared.entries.Taken.TheVariants.{Success}
+use Rattle.fab_base.specs.declared.items.Access.{Access}
 use Rattle.fab_base.specs.declared.items.Item.{Item}
 use Rattle.fab_base.specs.declared.items.ItemHead.{ItemHead}
 use Rattle.fab_base.specs.declared.items.Kind.TheVariants.{WriteReq}
@@ -40,3 +43,6 @@ IsAwaited target source item = is_request item.head.kind ≡ true → IsSound it
 pub record IsServing (begun : List (Option Item)) (target : Serving) : Type 0 where
   pub sources : length target.rooms ≡ length begun
   pub awaited : (s : ℕ) → IfSome (slice_index_or begun s None) (IsAwaited target s)
+
+abbrev pub lacks : Caps → Access → Bool
+lacks caps access = access.remote_read && not caps.remote_read || access.remote_write && not caps.remote_write

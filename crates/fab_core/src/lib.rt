@@ -13,17 +13,22 @@
 //! | `ending` | operations end |
 //! | `serving` | requests of other peers are performed |
 //! | `handing` | replies are booked |
-//! | `machine` | all of it as the endpoint's machine |
+//! | `looks` | unexpected messages are looked at and set aside, claimed ones taken and dropped |
+//! | `machine`, `looking` | all of it as the endpoint's machine |
+//! | `targets` | the regions, as their owner calls them |
 #![tactic(auto)]
 
 mod callers;
 mod ending;
 mod handing;
+mod looking;
+mod looks;
 mod machine;
 mod parts;
 mod receives;
 mod sending;
 mod serving;
 mod taking;
+mod targets;
 
 pub use parts::Core;

@@ -21,7 +21,7 @@ use fab_rx::{Cancelled, Inbox, Posted};
 use std::snapshot::Snapshot;
 
 /// The most bytes of a receive's buffer.
-const MOST_BYTES: usize = 16_777_216;
+pub(crate) const MOST_BYTES: usize = 16_777_216;
 
 /// The completion of a receive that was cancelled, with its buffer.
 fn canceled(left: Cancelled) -> Taken
@@ -43,7 +43,7 @@ fn canceled(left: Cancelled) -> Taken
 
 impl<M: Matcher> Core<M> {
     /// Whether receives of this kind may be posted.
-    fn may_receive(&self, tagged: bool) -> bool
+    pub(crate) fn may_receive(&self, tagged: bool) -> bool
         ensures { result ≡ may_receive (state_of self.now) tagged }
     {
         self.caps.recv
@@ -55,7 +55,7 @@ impl<M: Matcher> Core<M> {
     }
 
     /// Whether the source is one that may be asked for (FI_DIRECTED_RECV of fi_getinfo(3)).
-    fn knows(&self, source: Option<u32>) -> bool
+    pub(crate) fn knows(&self, source: Option<u32>) -> bool
         ensures { result ≡ source_is_known (state_of self.now) source }
     {
         match source {
@@ -65,7 +65,7 @@ impl<M: Matcher> Core<M> {
     }
 
     /// The peer that is meant, where a source is used.
-    fn used_source(&self, source: Option<u32>) -> Option<u32>
+    pub(crate) fn used_source(&self, source: Option<u32>) -> Option<u32>
         ensures { result ≡ used_source (state_of self.now) source }
     {
         match source {

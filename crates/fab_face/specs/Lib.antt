@@ -4,3 +4,4 @@ pub mod Answers
 pub mod Ports
 pub mod Looking
 pub mod Machine
+pub mod Targets

@@ -12,3 +12,4 @@ pub mod calls;
 pub mod events;
 pub mod looking;
 pub mod machine;
+pub mod targets;

@@ -20,7 +20,7 @@ use Rattle.fab_rx.specs.declared.stored.Way.TheVariants.{Into, Keep, Throw, Gath
 use Rattle.fab_rx.specs.declared.stored.Begun.{Begun}
 use Rattle.fab_rx.specs.Table.{Cells, at}
 use Rattle.fab_rx.specs.Arriving.{Arriving, begun_of, bytes_come, count_begun, finishing, growing, kept as kept_by, lengthened}
-use Rattle.fab_rx.specs.Stored.{GoesBy, IsComing, IsKept, IsKeptAs, IsKeptWay, IsWay, Lies, parcel_of, parcel_without}
+use Rattle.fab_rx.specs.Stored.{AreClaimed, GoesBy, IsClaim, IsComing, IsKept, IsKeptAs, IsKeptWay, IsWay, Lies, parcel_of, parcel_without}
 use Rattle.fab_rx.proofs.Tables.{id_within}
 use Rattle.fab_rx.proofs.Tying.{same_or, retied, retied_map}
 use Rattle.fab_rx.proofs.Keeping.{IsStored, at_other, at_same, counts_set, lies_at, lies_set, row, some_stored, ways_set}
@@ -88,7 +88,6 @@ module _ (ps : List (ℕ × Want)) (us : List (ℕ × Sign)) (room : ℕ) (seats
             ∙ counts_set ps us room seats parcels coming v kept source within parcels (Some b) None now (get_or v.rx.heads source 0) (get_or v.rx.tails source 0) counted t below
             ∙ ap (λ (ts : List ℕ). get_or ts t 0 + count_begun (get_or (set v.begun source now) t None)) set_tails;
         closing = kept.closing;
-        claimed = kept.claimed;
       })
 
   counts_finish : (t : ℕ) → t < length (set v.begun source None) → get_or v.rx.heads t 0 ≡ get_or (raise v.rx.tails source) t 0 + count_begun (get_or (set v.begun source None) t None)
@@ -119,7 +118,6 @@ module _ (ps : List (ℕ × Want)) (us : List (ℕ × Sign)) (room : ℕ) (seats
         tails = length-set v.rx.tails source (get_or v.rx.tails source 0 + 1) ∙ kept.tails ∙ sym (length-set v.begun source None);
         under_way = counts_finish;
         closing = kept.closing;
-        claimed = kept.claimed;
       })
 
   -- it is whole, and was kept under this id
@@ -157,7 +155,7 @@ module _ (ps : List (ℕ × Want)) (us : List (ℕ × Sign)) (room : ℕ) (seats
     unfolding made_whole keeping
     ends_kept rest set_down keeps =
         let comes : coming_from v.rx source ≡ Some KeepIt = stored.comes ∙ ap (λ (w : Coming). Some w) keeps in
-        rw (set_down, comes, begun, keeping, made_whole, kept.claimed) (record {
+        rw (set_down, comes, begun, keeping, made_whole) (record {
           receives = kept.receives;
           messages = retied_map (Lies parcels coming) (Lies others (set coming source None)) (whole_now source item.bytes) us v.rx.unexpected lies_whole kept.messages;
           ways = ways_set ps us room seats parcels coming v kept source within others None None None
@@ -171,7 +169,23 @@ module _ (ps : List (ℕ × Want)) (us : List (ℕ × Sign)) (room : ℕ) (seats
           tails = length-set v.rx.tails source (get_or v.rx.tails source 0 + 1) ∙ kept.tails ∙ sym (length-set v.begun source None);
           under_way = counts_finish;
           closing = kept.closing;
-          claimed = refl;
+        })
+
+    -- so it is where it was claimed
+    pub claims_ended : (cs : List (ℕ × ℕ)) (capacity : ℕ) → AreClaimed us parcels coming cs capacity v.rx.claimed → length others.free ≡ length parcels.free → (rest : List (Option Begun)) → rest ≡ set coming source None → stored.way ≡ KeepIt
+        → AreClaimed us others rest cs capacity (finishing source v).rx.claimed
+    unfolding made_whole keeping
+    claims_ended cs capacity aside free rest set_down keeps =
+        let comes : coming_from v.rx source ≡ Some KeepIt = stored.comes ∙ ap (λ (w : Coming). Some w) keeps in
+        let long : length others.cells ≡ length parcels.cells = ap length is ∙ length-set parcels.cells id (Some (record { source = source; head = item.head; bytes = Some item.bytes })) in
+        let filed = aside.filed in
+        let reserved = aside.reserved in
+        rw (set_down, comes, begun, keeping, made_whole) (record {
+          messages = retied_map (IsClaim parcels coming) (IsClaim others (set coming source None)) (λ k. (k.0, whole_now source item.bytes k.1)) cs v.rx.claimed
+              (λ p k l. record { ctx = l.ctx; sign = l.sign; lies = lies_whole _ k.1 l.lies }) aside.messages;
+          apart = aside.apart;
+          filed = omega arith;
+          reserved = omega arith;
         })
 
   -- ---- the same by what is stored
@@ -188,6 +202,44 @@ module _ (ps : List (ℕ × Want)) (us : List (ℕ × Sign)) (room : ℕ) (seats
         → IsKept ps us room seats parcels rest (growing source bytes v)
     grows_by new bytes rest is more ids =
         grows new bytes rest is (more parcels source stored.way item comes) (λ id k. ids id (subst (λ (x : Begun). IsKeptWay id x.way) (sym equal) k))
+
+    -- a claimed message lies as it did, where what is under way is kept under the same id, if it was
+    module _ (cs : List (ℕ × ℕ)) (capacity : ℕ) (aside : AreClaimed us parcels coming cs capacity v.rx.claimed) where
+      claims_set : (now : Option Begun) → ((id : ℕ) → IsKeptWay id b.way → IsKeptAs id now) → AreClaimed us parcels (set coming source now) cs capacity v.rx.claimed
+      claims_set now ids = record {
+        messages = retied (IsClaim parcels coming) (IsClaim parcels (set coming source now)) cs v.rx.claimed
+            (λ p k l. record {
+              ctx = l.ctx;
+              sign = l.sign;
+              lies = lies_set parcels coming source now _ k.1 (row ps us room seats parcels coming v kept source within)
+                  (λ none same. ids p.0 (subst (λ (o : Option Begun). IsKeptAs p.0 o) (ap (λ t. get_or coming t None) same ∙ sym is_stored) (l.lies.partly none))) l.lies;
+            })
+            aside.messages;
+        apart = aside.apart;
+        filed = aside.filed;
+        reserved = aside.reserved;
+      }
+
+      pub claims_grown : (new : Begun) (bytes : List ℕ) (rest : List (Option Begun)) → rest ≡ set (set coming source None) source (Some new) → ((id : ℕ) → IsKeptWay id b.way → IsKeptWay id new.way)
+          → AreClaimed us parcels rest cs capacity (growing source bytes v).rx.claimed
+      claims_grown new bytes rest is ids =
+          let once : rest ≡ set coming source (Some new) = is ∙ set-set coming source None (Some new) in
+          rw once (claims_set (Some new) ids)
+
+      claimed_still : (way : Way) → b.way ≡ way → ((id : ℕ) → IsKeptWay id way → ⊥) → (finishing source v).rx.claimed ≡ v.rx.claimed
+      unfolding made_whole
+      claimed_still way e never = rw (stored.comes, begun, made_whole) (by_way way never (subst (λ (w : Way). GoesBy parcels source w stored.way item) e comes.way))
+        where
+          by_way : (way : Way) → ((id : ℕ) → IsKeptWay id way → ⊥) → GoesBy parcels source way stored.way item → (kept_by (Some stored.way) source item.bytes (made_whole source v.rx)).claimed ≡ v.rx.claimed
+          by_way (Into seat) never g = rw (g.1, made_whole) refl
+          by_way (Keep id bytes) never g = absurd (never id refl)
+          by_way Throw never g = rw (g, made_whole) refl
+          by_way (Gather bytes) never g = rw (g.0, kept_other item.head.kind source item.bytes (made_whole source v.rx), made_whole) refl
+
+      pub claims_still : (rest : List (Option Begun)) → rest ≡ set coming source None → (way : Way) → b.way ≡ way → ((id : ℕ) → IsKeptWay id way → ⊥) → AreClaimed us parcels rest cs capacity (finishing source v).rx.claimed
+      claims_still rest is way e never =
+          subst (λ (cl : List (ℕ × Arrival)). AreClaimed us parcels rest cs capacity cl) (sym (claimed_still way e never))
+          (subst (λ (r : List (Option Begun)). AreClaimed us parcels r cs capacity v.rx.claimed) (sym is) (claims_set None (λ id k. never id (subst (λ (w : Way). IsKeptWay id w) e k))))
 
     module _ (rest : List (Option Begun)) (is : rest ≡ set coming source None) where
       by_way : (way : Way) → b.way ≡ way → ((id : ℕ) → IsKeptWay id way → ⊥) → ((rx : Receiving) (bytes : List ℕ) → kept_by (Some stored.way) source bytes rx ≡ rx) → IsKept ps us room seats parcels rest (finishing source v)
@@ -215,6 +267,13 @@ module _ (ps : List (ℕ × Want)) (us : List (ℕ × Sign)) (room : ℕ) (seats
           let goes : GoesBy parcels source (Keep id gathered) stored.way item = subst (λ (w : Way). GoesBy parcels source w stored.way item) e comes.way in
           ends_kept id (λ k held. let is_id : IsKeptWay k (Keep id gathered) = subst (λ (w : Way). IsKeptWay k w) (ap (λ (x : Begun). x.way) (sym equal) ∙ e) held in sym is_id) goes.3 others
           (set_to ∙ ap (λ (p : Parcel). set parcels.cells id (Some p)) (λ i. record { source = source; head = sym comes.head i; bytes = Some ((all ∙ goes.1) i) })) rest is goes.0
+
+      pub claims_as_kept : (cs : List (ℕ × ℕ)) (capacity : ℕ) → AreClaimed us parcels coming cs capacity v.rx.claimed → (id : ℕ) (gathered : Vec ℕ _) (bytes : List ℕ) (others : Cells Parcel) → b.way ≡ Keep id gathered → bytes ≡ gathered.items
+          → others.cells ≡ set parcels.cells id (Some (record { source = source; head = b.head; bytes = Some bytes })) → others.free ≡ parcels.free → AreClaimed us others rest cs capacity (finishing source v).rx.claimed
+      claims_as_kept cs capacity aside id gathered bytes others e all set_to free =
+          let goes : GoesBy parcels source (Keep id gathered) stored.way item = subst (λ (w : Way). GoesBy parcels source w stored.way item) e comes.way in
+          claims_ended id (λ k held. let is_id : IsKeptWay k (Keep id gathered) = subst (λ (w : Way). IsKeptWay k w) (ap (λ (x : Begun). x.way) (sym equal) ∙ e) held in sym is_id) goes.3 others
+          (set_to ∙ ap (λ (p : Parcel). set parcels.cells id (Some p)) (λ i. record { source = source; head = sym comes.head i; bytes = Some ((all ∙ goes.1) i) })) cs capacity aside (ap length free) rest is goes.0
 
       -- the id under which it is kept has a message
       pub kept_there : (id : ℕ) (gathered : Vec ℕ _) → b.way ≡ Keep id gathered → at parcels id ≡ Some (parcel_without source item.head)

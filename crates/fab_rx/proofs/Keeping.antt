@@ -180,7 +180,6 @@ module _ (ps : List (ℕ × Want)) (us : List (ℕ × Sign)) (room : ℕ) (seats
           tails = rw length-set kept.tails;
           under_way = counts_arrive;
           closing = kept.closing;
-          claimed = kept.claimed;
         })
 
     -- the first posted receive that matches takes a message
@@ -221,12 +220,11 @@ module _ (ps : List (ℕ × Want)) (us : List (ℕ × Sign)) (room : ℕ) (seats
             tails = kept.tails ∙ sym (length-set v.begun source (Some (bare head)));
             under_way = counts_arrive;
             closing = append-nil v.rx.closing ∙ kept.closing;
-            claimed = kept.claimed;
           })
 
     -- a message that no posted receive takes
     module _ (message : is_message head.kind ≡ true) (id : ℕ) (wider : Cells Parcel) (wide : (k : ℕ) → at wider k ≡ at parcels k) (empty : at wider id ≡ None) where
-      other_ids : (p : ℕ × Sign) (a : Arrival) → Lies parcels coming p a → p.0 ≢ id
+      pub other_ids : (p : ℕ × Sign) (a : Arrival) → Lies parcels coming p a → p.0 ≢ id
       other_ids p a l = apart parcels id p.0 None (sym (wide id) ∙ empty) (λ none. let no : Some (parcel_of a) ≡ None = sym l.parcel ∙ none in cc)
 
       pub fresh_message : has_id id us ≡ false
@@ -263,7 +261,6 @@ module _ (ps : List (ℕ × Want)) (us : List (ℕ × Sign)) (room : ℕ) (seats
             tails = kept.tails ∙ sym (length-set v.begun source (Some (bare head)));
             under_way = counts_arrive;
             closing = kept.closing;
-            claimed = kept.claimed;
           })
 
   -- more empty ids change nothing
@@ -280,5 +277,4 @@ module _ (ps : List (ℕ × Want)) (us : List (ℕ × Sign)) (room : ℕ) (seats
     tails = kept.tails;
     under_way = kept.under_way;
     closing = kept.closing;
-    claimed = kept.claimed;
   }

@@ -24,7 +24,7 @@ use Rattle.fab_rx.specs.declared.stored.Begun.{Begun}
 use Rattle.fab_rx.specs.Table.{Cells, at}
 use Rattle.fab_base.specs.declared.operations.Coming.TheVariants.{Keep as KeepIt}
 use Rattle.fab_rx.specs.Arriving.{Arriving, GoesToSingle, IsArriving, IsPartly, IsSingle, PartlyIn, begun_of, nothing_arrived}
-use Rattle.fab_rx.specs.Stored.{GoesBy, IsComing, IsKept, IsKeptAs, IsKeptWay, IsWay, Lies, Sits, entries_by, parcel_of, parcel_without}
+use Rattle.fab_rx.specs.Stored.{AreClaimed, GoesBy, IsClaim, IsKept, IsKeptAs, IsKeptWay, IsWay, Lies, Sits, entries_by, parcel_of, parcel_without}
 use Rattle.fab_rx.specs.Results.{entries_due}
 use Rattle.std.proofs.lemmas.Bool.Decides.{nat_tests}
 use Rattle.std.proofs.lemmas.List.{length-replicate}
@@ -92,6 +92,13 @@ module _ (parcels : Cells Parcel) (coming : List (Option Begun)) (v : Arriving) 
   all_partly (u ∷ us) (a ∷ rs) t =
       ((λ none. partly_by parcels u.0 a (get_or coming a.source None) (coming_from v.rx a.source) (begun_of v a.source) t.0.parcel (ways a.source) (t.0.partly none)), all_partly us rs t.1)
 
+  claims_partly : (cs : List (ℕ × ℕ)) (ks : List (ℕ × Arrival)) → AllZip (IsClaim parcels coming) cs ks → AllByRecursion (λ k. PartlyIn v k.1) ks
+  claims_partly [] [] t = tt
+  claims_partly [] (k ∷ ks) t = absurd t
+  claims_partly (c ∷ cs) [] t = absurd t
+  claims_partly (c ∷ cs) (k ∷ ks) t =
+      ((λ none. partly_by parcels c.0 k.1 (get_or coming k.1.source None) (coming_from v.rx k.1.source) (begun_of v k.1.source) t.0.lies.parcel (ways k.1.source) (t.0.lies.partly none)), claims_partly cs ks t.1)
+
 -- a receive takes messages alone
 pub none_takes : (source : ℕ) (head : ItemHead) (rs : List Receive) → is_message head.kind ≡ false → find (is_wanted source head) rs ≡ None
 none_takes source head [] e = refl
@@ -151,15 +158,14 @@ opens peers most room ps us seats parcels coming none_posted none_there same fre
       tails = length-replicate peers 0 ∙ sym (length-replicate peers None);
       under_way = λ s below. rw (zero_in_row peers s, none_in_row {X = Item} peers s) refl;
       closing = refl;
-      claimed = refl;
     })
 
 module _ (ps : List (ℕ × Want)) (us : List (ℕ × Sign)) (room : ℕ) (seats : Cells Seat) (parcels : Cells Parcel) (coming : List (Option Begun)) (v : Arriving) (kept : IsKept ps us room seats parcels coming v) where
   pub posted_count : length ps ≡ length v.rx.posted
   posted_count = tied_length (Sits seats) ps v.rx.posted kept.receives
 
-  pub is_arriving : IsArriving v
-  is_arriving = record {
+  pub is_arriving : (cs : List (ℕ × ℕ)) (capacity : ℕ) → AreClaimed us parcels coming cs capacity v.rx.claimed → IsArriving v
+  is_arriving cs capacity claims = record {
     coming = kept.comings;
     heads = kept.heads;
     tails = kept.tails;
@@ -169,8 +175,8 @@ module _ (ps : List (ℕ × Want)) (us : List (ℕ × Sign)) (room : ℕ) (seats
     single = All-from_recursion IsSingle v.rx.posted (all_single seats ps v.rx.posted kept.receives);
     into = λ s. into_single parcels s (get_or coming s None) (coming_from v.rx s) (begun_of v s) (kept.ways s);
     closing = kept.closing;
-    claimed = kept.claimed;
     partly = All-from_recursion (PartlyIn v) v.rx.unexpected (all_partly parcels coming v kept.ways us v.rx.unexpected kept.messages);
+    aside = All-from_recursion (λ k. PartlyIn v k.1) v.rx.claimed (claims_partly parcels coming v kept.ways cs v.rx.claimed claims.messages);
     still = none_draws seats v.rx.unexpected ps v.rx.posted kept.receives;
     room = let same = posted_count in let spare = kept.spare in omega arith;
   }

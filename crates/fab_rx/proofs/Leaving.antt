@@ -163,7 +163,6 @@ module _ (ps : List (ℕ × Want)) (us : List (ℕ × Sign)) (room : ℕ) (seats
         tails = kept.tails;
         under_way = kept.under_way;
         closing = kept.closing;
-        claimed = kept.claimed;
       }
 
   -- one is meant exactly where one may leave

@@ -16,7 +16,8 @@ use Rattle.fab_base.specs.declared.operations.Coming.TheVariants.{Into, Keep, Th
 use Rattle.fab_model.specs.Matching.{is_message, takes, remove_first}
 use Rattle.fab_model.specs.State.{coming_from, is_into}
 use Rattle.fab_model.specs.Arrivals.{heading_message, heading_other, is_wanted, keeping, made_whole, taker, way_of}
-use Rattle.fab_rx.specs.Arriving.{Arriving, IsSingle, arriving, begun_of, bytes_come, finishing, given, kept, posting}
+use Rattle.fab_rx.specs.Arriving.{Arriving, IsSingle, arriving, begun_of, bytes_come, finishing, kept, posting}
+use Rattle.fab_rx.specs.Stored.{turned}
 use Rattle.fab_rx.specs.Numbers.{AreBelow, AreDistinct, GoesElsewhere, HaveOtherCalls, IsNumbered}
 use Rattle.fab_rx.proofs.Keeping.{single_seated}
 use Rattle.fab_rx.proofs.Known.{none_in_row}
@@ -195,19 +196,22 @@ module _ (v : Arriving) (numbers : IsNumbered v.rx.posted v.rx.coming v.next) wh
       into = λ s. elsewhere_by v.next (r.call + 1) v.rx.posted (v.rx.posted ++ r ∷ []) (get_or v.rx.coming s None) (omega arith) (λ call lt h. others_push call v.rx.posted r h (λ same. absurd (omega arith))) (numbers.into s);
     })
 
-    as_before : (s : ℕ) → GoesElsewhere (r.call + 1) v.rx.posted (get_or v.rx.coming s None)
-    as_before s = elsewhere_by v.next (r.call + 1) v.rx.posted v.rx.posted (get_or v.rx.coming s None) (omega arith) (λ call lt h. h) (numbers.into s)
+  -- what still comes of a message goes elsewhere from now on
+  pub numbers_gone : (c : Coming) (o : Option (List ℕ)) (source next : ℕ) → v.next ≤ next → GoesElsewhere next v.rx.posted (Some c) → IsNumbered v.rx.posted (turned (λ x. Some c) o source v.rx.coming) next
+  numbers_gone c o source next le new = by_bytes o
+    where
+      as_before : (s : ℕ) → GoesElsewhere next v.rx.posted (get_or v.rx.coming s None)
+      as_before s = elsewhere_by v.next next v.rx.posted v.rx.posted (get_or v.rx.coming s None) le (λ call lt h. h) (numbers.into s)
 
-    pub numbers_give : (a : Arrival) → find (takes r.want) v.rx.unexpected ≡ Some a → IsNumbered (posting r v).rx.posted (posting r v).rx.coming (posting r v).next
-    numbers_give a found = rw found (by_bytes a.bytes)
-      where
-        by_bytes : (o : Option (List ℕ)) → IsNumbered (given o a.source r (record v.rx { unexpected = remove_first (takes r.want) v.rx.unexpected })).posted (given o a.source r (record v.rx { unexpected = remove_first (takes r.want) v.rx.unexpected })).coming (r.call + 1)
-        by_bytes None = record {
-          below = below_more v.next (r.call + 1) v.rx.posted (omega arith) numbers.below;
-          distinct = numbers.distinct;
-          into = elsewhere_set (r.call + 1) v.rx.posted v.rx.coming a.source (Some (Into r 0)) as_before (omega arith, others_below v.next r.call v.rx.posted later numbers.below);
-        }
-        by_bytes (Some bytes) = record { below = below_more v.next (r.call + 1) v.rx.posted (omega arith) numbers.below; distinct = numbers.distinct; into = as_before }
+      by_bytes : (o : Option (List ℕ)) → IsNumbered v.rx.posted (turned (λ x. Some c) o source v.rx.coming) next
+      by_bytes None = record { below = below_more v.next next v.rx.posted le numbers.below; distinct = numbers.distinct; into = elsewhere_set next v.rx.posted v.rx.coming source (Some c) as_before new }
+      by_bytes (Some bytes) = record { below = below_more v.next next v.rx.posted le numbers.below; distinct = numbers.distinct; into = as_before }
+
+  pub numbers_given : (a : Arrival) (r : Receive) → v.next ≤ r.call → IsNumbered v.rx.posted (turned (λ x. Some (Into r 0)) a.bytes a.source v.rx.coming) (r.call + 1)
+  numbers_given a r later = numbers_gone (Into r 0) a.bytes a.source (r.call + 1) (omega arith) (omega arith, others_below v.next r.call v.rx.posted later numbers.below)
+
+  pub numbers_thrown : (a : Arrival) → IsNumbered v.rx.posted (turned (λ x. Some Throw) a.bytes a.source v.rx.coming) v.next
+  numbers_thrown a = numbers_gone Throw a.bytes a.source v.next (omega arith) tt
 
   pub numbers_leave : (test : Receive → Bool) → IsNumbered (remove_first test v.rx.posted) v.rx.coming v.next
   numbers_leave test = record {

@@ -157,13 +157,13 @@ pub record IsArriving (v : Arriving) : Type 0 where
   -- an item is coming where one is begun
   pub ways : (s : ℕ) → is_some (coming_from v.rx s) ≡ is_some (begun_of v s)
   pub within : (s : ℕ) → IfSome (begun_of v s) (λ item. length item.bytes ≤ item.head.total)
-  -- receives are for one message each, and no message is claimed
+  -- receives are for one message each
   pub single : All IsSingle v.rx.posted
   pub into : (s : ℕ) → GoesToSingle (coming_from v.rx s)
   pub closing : v.rx.closing ≡ []
-  pub claimed : v.rx.claimed ≡ []
   pub still : draw_due v.rx ≡ false
-  -- an unexpected message that is not whole is the item that is coming
+  -- an unexpected message that is not whole is the item that is coming, as is one that is claimed
   pub partly : All (PartlyIn v) v.rx.unexpected
+  pub aside : All (λ c. PartlyIn v c.1) v.rx.claimed
   -- no more receives are posted than may be
   pub room : length v.rx.posted ≤ v.most

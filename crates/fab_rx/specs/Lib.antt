@@ -4,3 +4,4 @@ pub mod Numbers
 pub mod Results
 pub mod Stored
 pub mod Leaving
+pub mod Claims

@@ -3,9 +3,11 @@
 --     Lies parcels coming p a      the unexpected message a is the pair p of the matching store
 --     IsWay parcels source stored coming item      what is stored of the item of this source that has arrived and is not whole
 --     HasRoomFor n stored    so many more of its bytes may come
---     IsKept                 all of it
---     IsInbox                the same, with the order of the ids and the numbers of calls
-use Rattle.std.specs.Prelude.{◌≡◌, ℕ, ◌+◌, ◌<◌, ◌≤◌, true, List, [], length, map, Option, Some, None, slice_index, slice_index_or, vec_capacity}
+--     IsKept                 all of it but the messages that are claimed
+--     IsClaim, AreClaimed    these: pairs of ids and contexts
+--     turned f bytes source xs      where a message leaves that is not whole, another thing stands at its source
+--     IsInbox                all of it, with the order of the ids and the numbers of calls
+use Rattle.std.specs.Prelude.{◌≡◌, ℕ, ◌+◌, ◌<◌, ◌≤◌, true, false, List, [], ◌∷◌, length, map, Option, Some, None, is_some, slice_index, slice_index_or, slice_set, vec_capacity}
 use Rattle.std.specs.List.{AllZip}
 use Rattle.fab_base.specs.declared.items.Item.{Item}
 use Rattle.fab_base.specs.declared.items.ItemHead.{ItemHead}
@@ -20,11 +22,13 @@ use Rattle.fab_model.specs.State.{coming_from}
 use Rattle.fab_model.specs.Complete.{paste}
 use Rattle.fab_model.specs.Arrivals.{way_of}
 use Rattle.fab_match.specs.Signs.{sign_of}
+use Rattle.fab_match.specs.Matcher.{has_id}
 use Rattle.fab_rx.specs.declared.stored.Seat.{Seat}
 use Rattle.fab_rx.specs.declared.stored.Parcel.{Parcel}
 use Rattle.fab_rx.specs.declared.stored.Way.{Way}
 use Rattle.fab_rx.specs.declared.stored.Way.TheVariants.{Into, Keep, Throw, Gather}
 use Rattle.fab_rx.specs.declared.stored.Begun.{Begun}
+use Rattle.fab_rx.specs.declared.results.Seen.{Seen}
 use Rattle.fab_rx.specs.Table.{Cells, at}
 use Rattle.fab_rx.specs.Numbers.{IsNumbered}
 use Rattle.fab_rx.specs.Arriving.{Arriving, IsSingle, begun_of, count_begun}
@@ -107,6 +111,29 @@ pub record HasRoomFor (n : ℕ) (b : Begun) : Type 0 where
   pub total : b.got + n ≤ b.head.total
   pub way : WayHasRoomFor n b.way
 
+-- ---- messages that leave
+
+abbrev pub seen_of : Parcel → Seen
+seen_of p = record { source = p.source; head = p.head; whole = is_some p.bytes }
+
+-- the bytes that are gathered for a message, in the buffer
+abbrev pub moved : Way → List ℕ → List ℕ
+moved (Into seat) buf = buf
+moved (Keep id bytes) buf = paste buf 0 bytes.items
+moved Throw buf = buf
+moved (Gather bytes) buf = buf
+
+-- what was kept goes on into a receive, or nowhere
+abbrev pub redirected : List ℕ → ℕ → Begun → Begun
+redirected buf ctx b = record { head = b.head; got = b.got; way = Into (record { buf = moved b.way buf; ctx = ctx }) }
+
+abbrev pub thrown_on : Begun → Begun
+thrown_on b = record { head = b.head; got = b.got; way = Throw }
+
+abbrev pub turned : {X : Type 0} → (Option X → Option X) → Option (List ℕ) → ℕ → List (Option X) → List (Option X)
+turned f None source xs = slice_set xs source (f (slice_index_or xs source None))
+turned f (Some bytes) source xs = xs
+
 -- ---- all of it
 
 pub record IsKept (posted : List (ℕ × Want)) (unexpected : List (ℕ × Sign)) (room : ℕ) (seats : Cells Seat) (parcels : Cells Parcel) (coming : List (Option Begun)) (v : Arriving) : Type 0 where
@@ -123,11 +150,29 @@ pub record IsKept (posted : List (ℕ × Want)) (unexpected : List (ℕ × Sign)
   pub tails : length v.rx.tails ≡ length v.begun
   pub under_way : (s : ℕ) → s < length v.begun → slice_index v.rx.heads s ≡ slice_index v.rx.tails s + count_begun (begun_of v s)
   pub closing : v.rx.closing ≡ []
-  pub claimed : v.rx.claimed ≡ []
 
-pub record IsInbox (posted : List (ℕ × Want)) (unexpected : List (ℕ × Sign)) (room : ℕ) (seats : Cells Seat) (parcels : Cells Parcel) (coming : List (Option Begun)) (ids : List ℕ) (capacity : ℕ) (v : Arriving) : Type 0 where
+-- the claimed message c is the pair p of an id and its context
+pub record IsClaim (parcels : Cells Parcel) (coming : List (Option Begun)) (p : ℕ × ℕ) (c : ℕ × Arrival) : Type 0 where
+  pub ctx : p.1 ≡ c.0
+  pub sign : Sign
+  pub lies : Lies parcels coming (p.0, sign) c.1
+
+-- no id is claimed twice, and none of an unexpected message is
+abbrev pub AreApart : List (ℕ × Sign) → List (ℕ × ℕ) → Type 0
+AreApart unexpected [] = Unit {0}
+AreApart unexpected (p ∷ claims) = (has_id p.0 unexpected ≡ false) × (has_id p.0 claims ≡ false) × AreApart unexpected claims
+
+pub record AreClaimed (unexpected : List (ℕ × Sign)) (parcels : Cells Parcel) (coming : List (Option Begun)) (claims : List (ℕ × ℕ)) (capacity : ℕ) (claimed : List (ℕ × Arrival)) : Type 0 where
+  pub messages : AllZip (IsClaim parcels coming) claims claimed
+  pub apart : AreApart unexpected claims
+  -- each id that is not free is that of a message, and each may be claimed
+  pub filed : length parcels.free + length unexpected + length claims ≡ length parcels.cells
+  pub reserved : length parcels.cells ≤ capacity
+
+pub record IsInbox (posted : List (ℕ × Want)) (unexpected : List (ℕ × Sign)) (room : ℕ) (seats : Cells Seat) (parcels : Cells Parcel) (coming : List (Option Begun)) (ids : List ℕ) (capacity : ℕ) (claims : List (ℕ × ℕ)) (claimable : ℕ) (v : Arriving) : Type 0 where
   pub kept : IsKept posted unexpected room seats parcels coming v
   -- the ids of the receives in the order posted, with room for all that may be
   pub order : ids ≡ map (λ p. p.0) posted
   pub reserved : v.most ≤ capacity
   pub numbers : IsNumbered v.rx.posted v.rx.coming v.next
+  pub aside : AreClaimed unexpected parcels coming claims claimable v.rx.claimed

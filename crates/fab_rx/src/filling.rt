@@ -3,14 +3,12 @@ ghost use Rattle.std.specs.Prelude.{◌≡◌, ◌+◌, ◌<◌, ◌≤◌, ◌+
 ghost use Rattle.fab_base.specs.declared.items.Item.{Item};
 ghost use Rattle.fab_base.specs.declared.operations.Receive.{Receive};
 ghost use Rattle.fab_base.specs.declared.operations.Coming.{Coming};
-ghost use Rattle.fab_base.specs.declared.operations.Coming.TheVariants.{Into as IntoReceive};
 ghost use Rattle.fab_model.specs.Complete.{paste, tag_of};
 ghost use Rattle.fab_rx.specs.declared.stored.Parcel.{Parcel};
-ghost use Rattle.fab_rx.specs.declared.stored.Way.TheVariants.{Keep as KeepUnder};
 ghost use Rattle.fab_rx.specs.Table.{Cells};
 ghost use Rattle.fab_rx.specs.Arriving.{IsSingle, lengthened};
 ghost use Rattle.fab_rx.specs.Results.{completed};
-ghost use Rattle.fab_rx.specs.Stored.{HasRoomFor, IsComing, IsKeptWay, seat_of, seat_with};
+ghost use Rattle.fab_rx.specs.Stored.{HasRoomFor, IsComing, IsKeptWay, moved, redirected, seat_with, thrown_on};
 
 use crate::results::Completed;
 use crate::stored::{Begun, Seat, Way};
@@ -140,7 +138,7 @@ pub fn filled(begun: Begun, bytes: &[u8]) -> Begun
 
 /// The buffer with the bytes that were gathered for a message.
 fn moved_into(way: Way, buf: Buf) -> Buf
-    ensures { (id : ℕ) (bytes : _) → way ≡ KeepUnder id bytes → result ≡ paste buf 0 bytes.items }
+    ensures { result ≡ moved way buf }
 {
     match way {
         Way::Keep { bytes, .. } => placed(buf, 0, bytes.as_slice()),
@@ -150,7 +148,7 @@ fn moved_into(way: Way, buf: Buf) -> Buf
 
 /// A message that was kept and is not whole goes on into a receive.
 pub fn redirected(begun: Begun, buf: Buf, ctx: u64) -> Begun
-    ensures { (parcels others : Cells Parcel) (source id : ℕ) (c : Coming) (item : Item) (r : Receive) → IsComing parcels source begun c item → IsKeptWay id begun.way → IsSingle r → seat_of r ≡ record { buf = buf; ctx = ctx } → IsComing others source result (IntoReceive r 0) item }
+    ensures { result ≡ redirected buf ctx begun }
 {
     let Begun { head, got, way } = begun;
     let buf = moved_into(way, buf);
@@ -158,6 +156,18 @@ pub fn redirected(begun: Begun, buf: Buf, ctx: u64) -> Begun
         head,
         got,
         way: Way::Into(Seat { buf, ctx }),
+    }
+}
+
+/// A message that was kept and is not whole goes nowhere.
+pub fn thrown(begun: Begun) -> Begun
+    ensures { result ≡ thrown_on begun }
+{
+    let Begun { head, got, .. } = begun;
+    Begun {
+        head,
+        got,
+        way: Way::Throw,
     }
 }
 

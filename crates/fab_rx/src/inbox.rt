@@ -9,8 +9,9 @@ ghost use Rattle.fab_rx.specs.Arriving.{IsArriving, arriving, begun_of, finishin
 ghost use Rattle.fab_rx.specs.Leaving.{cancelling, is_meant};
 ghost use Rattle.fab_rx.specs.Results.{cancelled, ended, entries_due, posted_as};
 
-use crate::filling::{complete, filled, lift, placed, redirected, set_down};
+use crate::filling::{complete, filled, lift, set_down};
 use crate::order::{first_meant, strike};
+use crate::outgoing::give;
 use crate::past::{Arrives, Cancels, Finishes, Grows, Opens, Past, Posts};
 use crate::results::{Cancelled, Finished, Posted};
 use crate::stored::{Begun, Parcel, Seat, Way};
@@ -23,8 +24,8 @@ use std::alloc::Global;
 use std::collections::VecDeque;
 use std::marker::Model;
 
-/// The receives that are posted, the messages that none of them took, and of each source the item that
-/// has arrived and is not whole.
+/// The receives that are posted, the messages that none of them took, those of them that are claimed,
+/// and of each source the item that has arrived and is not whole.
 ///
 /// Contracts see the machine's own lists. Stored is only what is still needed: numbers of calls and of
 /// places, and the bytes that a buffer had no room for, stand in the record alone.
@@ -32,17 +33,19 @@ use std::marker::Model;
 /// Only [`new`](Inbox::new) and [`arrive`](Inbox::arrive) take memory.
 #[derive(Drop)]
 pub struct Inbox<M: Matcher> {
-    past: Record<(u32, u32), Past, Opens>,
-    matcher: M,
-    seats: Table<Seat>,
-    parcels: Table<Parcel>,
-    coming: Vec<Option<Begun>>,
-    order: VecDeque<u32>,
-    alloc: Global,
+    pub(crate) past: Record<(u32, u32), Past, Opens>,
+    pub(crate) matcher: M,
+    pub(crate) seats: Table<Seat>,
+    pub(crate) parcels: Table<Parcel>,
+    pub(crate) coming: Vec<Option<Begun>>,
+    pub(crate) order: VecDeque<u32>,
+    pub(crate) claims: Vec<(u32, u64)>,
+    pub(crate) alloc: Global,
 }
 
 impl<M: Matcher> Model for Inbox<M> {
     ghost use Rattle.fab_rx.specs.Arriving.{Arriving};
+    ghost use Rattle.std.specs.Prelude.{vec_capacity};
     ghost use Rattle.std.specs.VecDeque.{deque_capacity};
     ghost use Rattle.fab_rx.specs.Stored.{IsInbox};
 
@@ -50,7 +53,7 @@ impl<M: Matcher> Model for Inbox<M> {
 
     ghost view = { λ i. i.past };
 
-    ghost invariant = { λ i. IsInbox (M.posted i.matcher) (M.unexpected i.matcher) (M.room i.matcher) i.seats i.parcels i.coming.items i.order.items (deque_capacity i.order) i.past };
+    ghost invariant = { λ i. IsInbox (M.posted i.matcher) (M.unexpected i.matcher) (M.room i.matcher) i.seats i.parcels i.coming.items i.order.items (deque_capacity i.order) i.claims.items (vec_capacity i.claims) i.past };
 }
 
 fn is_message(kind: Kind) -> bool
@@ -79,6 +82,7 @@ impl<M: Matcher> Inbox<M> {
             parcels: Table::new(alloc),
             coming,
             order,
+            claims: Vec::new(alloc),
             alloc,
         })
     }
@@ -231,10 +235,13 @@ impl<M: Matcher> Inbox<M> {
             matcher,
             parcels,
             coming,
+            claims,
             alloc,
             ..
         } = self;
         let bytes = Vec::with_capacity(*alloc, head.total as usize)?;
+        let more = parcels.ids() + 1 - claims.len();
+        claims.reserve(more)?;
         parcels.make_room()?;
         matcher.add_unexpected(parcels.next_id(), sign_of(source, head))?;
         let id = parcels.put(Parcel {
@@ -334,30 +341,7 @@ impl<M: Matcher> Inbox<M> {
             return Posted::Joined;
         };
         matcher.remove_unexpected(id);
-        let Some(parcel) = parcels.take(id) else {
-            unreachable!()
-        };
-        let Parcel {
-            source,
-            head,
-            bytes,
-        } = parcel;
-        match bytes {
-            Some(bytes) => {
-                let seat = Seat {
-                    buf: placed(buf, 0, bytes.as_slice()),
-                    ctx,
-                };
-                Posted::Whole(complete(seat, source, &head))
-            }
-            None => {
-                let Some(begun) = lift(coming, source) else {
-                    unreachable!()
-                };
-                set_down(coming, source, redirected(begun, buf, ctx));
-                Posted::GoesOn
-            }
-        }
+        give(parcels, coming, id, buf, ctx)
     }
 
     /// Whether a receive is posted, of this context where one is named.

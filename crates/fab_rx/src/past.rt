@@ -2,6 +2,7 @@
 ghost use Rattle.std.specs.Prelude.{ℕ};
 ghost use Rattle.fab_rx.specs.Leaving.{cancelling};
 ghost use Rattle.fab_rx.specs.Arriving.{arriving, finishing, growing, nothing_arrived, posting, receive_by};
+ghost use Rattle.fab_rx.specs.Claims.{any_tagged, claiming_first, discarding, dropping, taking};
 
 use fab_base::{Buf, ItemHead, Want};
 use fab_record::caller::Caller;
@@ -58,4 +59,30 @@ pub struct Posts<C> {
 
 impl<'a, X, C: Caller<X>> Change<(&'a X, &'a Want, &'a Buf, u64), Past> for Posts<C> {
     ghost after = { λ x v. posting (receive_by (C.call x.0.now) x.1.now x.2.now x.3) v };
+}
+
+pub struct Claims;
+
+impl<'a> Change<(&'a Want, u64), Past> for Claims {
+    ghost after = { λ x v. claiming_first x.0.now x.1 v };
+}
+
+pub struct Discards;
+
+impl<'a> Change<&'a Want, Past> for Discards {
+    ghost after = { λ want v. discarding want.now v };
+}
+
+pub struct Takes<C> {
+    caller: PhantomData<C>,
+}
+
+impl<'a, X, C: Caller<X>> Change<(&'a X, &'a Buf, u64), Past> for Takes<C> {
+    ghost after = { λ x v. taking (receive_by (C.call x.0.now) any_tagged x.1.now x.2) v };
+}
+
+pub struct Drops;
+
+impl Change<u64, Past> for Drops {
+    ghost after = { dropping };
 }

@@ -20,6 +20,15 @@ pub enum Posted {
     Whole(Completed),
 }
 
+/// A message that a look or a drop met: who sent it, its head, and whether it is whole. One that is
+/// whole and leaves is owed its reply now, where `head.ack` asks for one at its match.
+#[derive(Clone, Copy, Drop)]
+pub struct Seen {
+    pub source: u32,
+    pub head: ItemHead,
+    pub whole: bool,
+}
+
 /// What became of an item that is whole: a receive got it, it is kept among the unexpected messages,
 /// it was thrown away, or it is a request or the answer to one.
 #[derive(Drop)]

@@ -1,7 +1,8 @@
 //! What is stored of receives, of unexpected messages, and of items that are not whole.
 ghost use Rattle.std.specs.Prelude.{◌≡◌};
-ghost use Rattle.fab_rx.specs.Stored.{entries_by};
+ghost use Rattle.fab_rx.specs.Stored.{entries_by, seen_of};
 
+use crate::results::Seen;
 use fab_base::{Buf, ItemHead};
 
 /// A receive: its buffer with the bytes that came so far.
@@ -17,6 +18,19 @@ pub struct Parcel {
     pub source: u32,
     pub head: ItemHead,
     pub bytes: Option<Buf>,
+}
+
+impl Parcel {
+    /// What is told of it.
+    pub fn seen(&self) -> Seen
+        ensures { result ≡ seen_of self.now }
+    {
+        Seen {
+            source: self.source,
+            head: self.head,
+            whole: self.bytes.is_some(),
+        }
+    }
 }
 
 /// Where the bytes of an item go: into a receive, to a message that is kept under an id, nowhere, or

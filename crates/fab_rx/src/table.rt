@@ -1,5 +1,5 @@
 //! A table that keeps values under ids of its own choice.
-ghost use Rattle.std.specs.Prelude.{◌≡◌, ◌+◌, ◌<◌, ℕ, [], ◌∷◌, ◌++◌, length, Some, None, IsSome, IfOk, OnOk, OnErr, OnSome, IfNone, replicate, slice_set};
+ghost use Rattle.std.specs.Prelude.{◌≡◌, ◌+◌, ◌<◌, ◌≤◌, ◌^◌, ℕ, [], ◌∷◌, ◌++◌, length, Some, None, IsSome, IfOk, OnOk, OnErr, OnSome, IfNone, replicate, slice_set};
 ghost use Rattle.std.specs.Option.{option_copied};
 ghost use Rattle.fab_rx.specs.Table.{at, next_id};
 
@@ -59,6 +59,8 @@ impl<T: Drop> Table<T> {
     /// Makes sure that an id is free. `NoMemory` changes nothing.
     pub fn make_room(&mut self) -> Result<(), NoMemory>
         ensures ok { OnOk result (0 < length self.new.free) }
+        ensures more { length self.new.cells + length self.old.free ≡ length self.old.cells + length self.new.free }
+        ensures most { length self.new.cells ≤ length self.old.cells + 1 }
         ensures same { (id : ℕ) → at self.new id ≡ at self.old id }
         ensures err { OnErr result (self.new ≡ self.old) }
     {
@@ -66,6 +68,14 @@ impl<T: Drop> Table<T> {
             return self.grow();
         }
         Ok(())
+    }
+
+    /// How many ids there are.
+    pub fn ids(&self) -> usize
+        ensures count { result ≡ length self.now.cells }
+        ensures few { result ≤ 2 ^ 32 }
+    {
+        self.cells.len()
     }
 
     /// The id under which `put` puts the next value. An id must be free.

@@ -8,7 +8,7 @@ use fab_rx::{Cancelled, Finished, Inbox, Posted};
 use std::test::Fail;
 
 /// Calls that are numbered by hand.
-struct ByHand {
+pub(crate) struct ByHand {
     unused: (),
 }
 
@@ -16,7 +16,7 @@ impl Caller<u64> for ByHand {
     ghost call = { λ number. Some number };
 }
 
-const ANY: Want = Want {
+pub(crate) const ANY: Want = Want {
     tagged: false,
     tag: 0,
     ignore: 0,
@@ -24,7 +24,7 @@ const ANY: Want = Want {
 };
 
 /// An untagged message of three bytes.
-const THREE: ItemHead = ItemHead {
+pub(crate) const THREE: ItemHead = ItemHead {
     kind: Kind::Msg,
     op: 5,
     tag: 0,
@@ -42,7 +42,7 @@ fn is_joined(posted: &Posted) -> bool {
     matches!(posted, Posted::Joined)
 }
 
-fn is_kept(finished: &Finished) -> bool {
+pub(crate) fn is_kept(finished: &Finished) -> bool {
     matches!(finished, Finished::Kept(_))
 }
 
@@ -55,7 +55,7 @@ fn is_left(cancelled: &Option<Cancelled>, bytes: &[u8]) -> bool {
 }
 
 /// Whether a receive got a message of so many bytes, after which its buffer has these.
-fn is_received(posted: &Posted, count: u32, bytes: &[u8]) -> bool {
+pub(crate) fn is_received(posted: &Posted, count: u32, bytes: &[u8]) -> bool {
     match posted {
         Posted::Whole(done) => done.good && is_success(&done.entry, count, bytes),
         _ => false,

@@ -1,7 +1,7 @@
 use Rattle.std.proofs.Common.{◌≤◌, ◌+◌, ◌<◌, ◌∙◌, length, subst, sym, set, Some}
 use Rattle.std.specs.Prelude.{IsSomeAnd}
 use Rattle.fab_rx.specs.Arriving.{Arriving, begun_of}
-use Rattle.fab_rx.proofs.Growing.{item_there, grows_by}
+use Rattle.fab_rx.proofs.Growing.{claims_grown, item_there, grows_by}
 use Rattle.fab_rx.proofs.inbox.Inbox.fill.Goals as goal
 
 pub invariant_of-self : goal.invariant_of-self
@@ -16,4 +16,5 @@ invariant_of-self g c =
       order = c.self.invariant.order;
       reserved = c.self.invariant.reserved;
       numbers = c.self.invariant.numbers;
+      aside = claims_grown _ _ _ _ _ _ _ c.self.invariant.kept source within there.0 there.1 c.in-Some.begun c.in-Some.ensures.value _ _ c.self.invariant.aside c.filled.result c.args.bytes.now _ after c.filled.ensures.id;
     })

@@ -1,6 +1,7 @@
 use Rattle.std.proofs.Common.{◌≡◌, ◌<◌, None, length, subst, sym}
 use Rattle.fab_rx.specs.Arriving.{Arriving, begun_of}
 use Rattle.fab_rx.proofs.Keeping.{gathers}
+use Rattle.fab_rx.proofs.Claiming.{claims_arrived}
 use Rattle.fab_rx.proofs.Numbering.{numbers_gather}
 use Rattle.fab_rx.proofs.inbox.Inbox.gather.Goals as goal
 
@@ -14,4 +15,5 @@ invariant_of-self-2 g c =
       order = c.self.invariant.order;
       reserved = c.self.invariant.reserved;
       numbers = numbers_gather c.self.inside.past c.self.invariant.numbers source c.args.head.now c.requires.other;
+      aside = claims_arrived _ _ _ _ _ _ _ c.self.invariant.kept _ _ c.self.invariant.aside source c.args.head.now within nothing _;
     })

@@ -1,6 +1,7 @@
-use Rattle.std.proofs.Common.{◌≡◌, ◌<◌, ◌∙◌, None, length, subst, sym}
+use Rattle.std.proofs.Common.{◌≡◌, ◌<◌, ◌≤◌, ◌∙◌, None, length, vec_capacity, subst, sym, arith}
 use Rattle.fab_model.specs.Arrivals.{taker}
 use Rattle.fab_rx.specs.Arriving.{Arriving, begun_of}
+use Rattle.fab_rx.proofs.Claiming.{claims_kept, claims_most, claims_widened}
 use Rattle.fab_rx.proofs.Numbering.{numbers_keep}
 use Rattle.fab_rx.proofs.Keeping.{fresh_message, keeps, widened}
 use Rattle.fab_rx.proofs.inbox.Inbox.keep.Goals as goal
@@ -14,15 +15,22 @@ add_unexpected-requires g c =
 
 pub invariant_of-self-in_err-add_unexpected : goal.invariant_of-self-in_err-add_unexpected
 invariant_of-self-in_err-add_unexpected g c =
+    let few = claims_most _ _ _ _ _ _ c.self.invariant.aside in
+    let fits : length c.make_room.new.self.cells ≤ vec_capacity c.reserve.new.self =
+    let most = c.make_room.ensures.most in let ok = c.in_ok-reserve.ensures.ok in let count = c.ids.ensures.count in omega arith in
     rw (c.in_err-add_unexpected.ensures.err, c.add_unexpected.ensures.posted, c.add_unexpected.ensures.room) (record {
       kept = widened _ _ _ _ _ _ _ c.self.invariant.kept c.make_room.new.self c.make_room.ensures.same;
       order = c.self.invariant.order;
       reserved = c.self.invariant.reserved;
       numbers = c.self.invariant.numbers;
+      aside = rw c.reserve.ensures.items (claims_widened _ _ _ _ _ _ c.self.invariant.aside c.make_room.new.self _ c.make_room.ensures.same c.make_room.ensures.more fits);
     })
 
 pub invariant_of-self-2 : goal.invariant_of-self-2
 invariant_of-self-2 g c =
+    let few = claims_most _ _ _ _ _ _ c.self.invariant.aside in
+    let fits : length c.make_room.new.self.cells ≤ vec_capacity c.reserve.new.self =
+    let most = c.make_room.ensures.most in let ok = c.in_ok-reserve.ensures.ok in let count = c.ids.ensures.count in omega arith in
     let source = c.args.source in
     let within : source < length c.self.inside.past.begun = subst (λ (v : Arriving). source < length v.begun) (sym c.self.view_is) c.requires.source in
     let nothing : begun_of c.self.inside.past source ≡ None = subst (λ (v : Arriving). begun_of v source ≡ None) (sym c.self.view_is) c.requires.nothing in
@@ -36,4 +44,6 @@ invariant_of-self-2 g c =
       order = c.self.invariant.order;
       reserved = c.self.invariant.reserved;
       numbers = numbers_keep c.self.inside.past c.self.invariant.numbers source c.args.head.now c.requires.message untaken;
+      aside = rw c.reserve.ensures.items
+          (claims_kept _ _ _ _ _ _ _ c.self.invariant.kept _ _ c.self.invariant.aside source c.args.head.now within nothing c.requires.message c.put-id.result c.make_room.new.self c.make_room.ensures.same c.put-id.ensures.empty c.make_room.ensures.more c.sign_of.result _ _ _ _ c.put-id.ensures.cells c.put-id.ensures.free fits);
     })

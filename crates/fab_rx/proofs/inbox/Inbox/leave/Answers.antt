@@ -31,6 +31,7 @@ invariant_of-self-2 g c =
       order = struck _ _ _ _ c.in-Some.meant c.self.invariant.order c.remove_posted.ensures.rest c.strike.ensures.rest;
       reserved = rw c.strike.ensures.capacity c.self.invariant.reserved;
       numbers = numbers_leave c.self.inside.past c.self.invariant.numbers _;
+      aside = c.self.invariant.aside;
     })
 
 pub returns-clause-found : goal.returns-clause-found

@@ -5,6 +5,7 @@ use Rattle.fab_match.proofs.Pairs.{without-first}
 use Rattle.fab_match.specs.Signs.{fits}
 use Rattle.fab_rx.specs.Arriving.{Arriving, begun_of}
 use Rattle.fab_rx.proofs.Leaving.{struck}
+use Rattle.fab_rx.proofs.Claiming.{claims_arrived}
 use Rattle.fab_rx.proofs.Numbering.{numbers_seat}
 use Rattle.fab_rx.proofs.Keeping.{seated, seat_taken, seat_missed, seat_there}
 use Rattle.fab_rx.proofs.inbox.Inbox.seat.Goals as goal
@@ -37,6 +38,7 @@ invariant_of-self-2 g c =
       order = struck _ _ _ _ c.in-Some.id c.self.invariant.order c.remove_posted.ensures.rest c.strike.ensures.rest;
       reserved = rw c.strike.ensures.capacity c.self.invariant.reserved;
       numbers = numbers_seat c.self.inside.past c.self.invariant.numbers source c.args.head.now c.requires.message t.member t.found t.tie.single;
+      aside = claims_arrived _ _ _ _ _ _ _ c.self.invariant.kept _ _ c.self.invariant.aside source c.args.head.now within nothing _;
     })
 
 pub returns-clause-taken : goal.returns-clause-taken

@@ -1,0 +1,261 @@
+//! Looks are judged and made, and what is claimed is received or dropped (FI_PEEK, FI_CLAIM and FI_DISCARD
+//! of fi_tagged(3)).
+ghost use Rattle.std.specs.Prelude.{◌≡◌, ◌<◌, ◌&&◌, Some, None, length, slice_index, find, is_some, IfErr, IfSome, IsTrue, OnErr, OnOk, true, false};
+ghost use Rattle.std.specs.Option.{option_map};
+ghost use Rattle.fab_base.specs.declared.entries.PeekHow.TheVariants.{Discard};
+ghost use Rattle.fab_base.specs.declared.faults.Fault.TheVariants.{Again};
+ghost use Rattle.fab_base.specs.declared.faults.Busy.TheVariants.{CqFull};
+ghost use Rattle.fab_model.specs.Matching.{takes};
+ghost use Rattle.fab_model.specs.Receiving.{claim_of, is_claim};
+ghost use Rattle.fab_cq.specs.Queues.{has_room};
+ghost use Rattle.fab_rx.specs.Claims.{claim_under, seen};
+ghost use Rattle.fab_core.specs.Parts.{state_of};
+ghost use Rattle.fab_core.specs.Looks.{dropped_by, is_due_now, lacks_take, lasting_claimed, lasting_look, look_want, looked, looked_by, parted, parted_by, taken_by, told};
+
+use crate::callers::ThisCall;
+use crate::handing::{at_match, book, hand_over};
+use crate::parts::{Calls, Core, call};
+use crate::receives::MOST_BYTES;
+use fab_base::{Buf, Busy, Entry, ErrEntry, ErrKind, Fault, PeekHow, Refused, Taken, Want};
+use fab_face::looking::Look;
+use fab_match::Matcher;
+use fab_rx::{Inbox, Posted, Seen};
+use fab_tx::Outbox;
+use std::alloc::Global;
+use std::snapshot::Snapshot;
+
+/// The completion of a look, by the message that it met.
+fn told(how: PeekHow, ctx: u64, met: &Option<Seen>) -> Taken
+    ensures { result ≡ told how ctx met.now }
+{
+    match met {
+        Some(met) => Taken::Success(Entry::Peeked {
+            ctx,
+            how,
+            source: met.source,
+            tag: met.head.tag,
+            imm: met.head.imm,
+            len: met.head.total,
+        }),
+        None => Taken::Failure(ErrEntry {
+            ctx: Some(ctx),
+            kind: ErrKind::NoMsg,
+            source: None,
+            tag: None,
+            imm: None,
+            at: None,
+            len: 0,
+            olen: 0,
+            buf: None,
+        }),
+    }
+}
+
+fn is_claim(how: PeekHow) -> bool
+    ensures { result ≡ is_claim how }
+{
+    match how {
+        PeekHow::Claim => true,
+        PeekHow::Peek | PeekHow::Discard => false,
+    }
+}
+
+/// What a look does to the messages, and which one it met.
+fn meet<M: Matcher>(rx: &mut Inbox<M>, how: PeekHow, want: &Want, ctx: u64) -> Option<Seen>
+    ensures new { rx.new ≡ looked how want.now ctx rx.old }
+    ensures met { result ≡ option_map seen (find (takes want.now) rx.old.rx.unexpected) }
+{
+    match how {
+        PeekHow::Peek => rx.peek(want),
+        PeekHow::Claim => rx.claim(want, ctx),
+        PeekHow::Discard => rx.discard(want),
+    }
+}
+
+/// Books the reply to a message that leaves, where it is whole and one is due at its match, in room that
+/// was made for it.
+fn part(alloc: Global, tx: &mut Outbox, met: &Option<Seen>)
+    requires room { IfSome met.now (λ m. is_due_now m ≡ true → (m.source < length tx.old.tx.sent) × (0 < slice_index tx.old.rooms m.source)) }
+    ensures { tx.new ≡ parted met.now tx.old }
+{
+    if let Some(met) = met {
+        let due = met.whole && at_match(met.head.ack);
+        book(alloc, tx, due, met.source, &met.head);
+    }
+}
+
+/// The same after a look: a message leaves where it is discarded.
+fn part_by(alloc: Global, tx: &mut Outbox, how: PeekHow, met: &Option<Seen>)
+    requires room { how ≡ Discard → IfSome met.now (λ m. is_due_now m ≡ true → (m.source < length tx.old.tx.sent) × (0 < slice_index tx.old.rooms m.source)) }
+    ensures { tx.new ≡ parted_by how met.now tx.old }
+{
+    match how {
+        PeekHow::Peek | PeekHow::Claim => {}
+        PeekHow::Discard => part(alloc, tx, met),
+    }
+}
+
+impl<M: Matcher> Core<M> {
+    /// Whether a message stands claimed under the context.
+    fn has_claim(&self, ctx: u64) -> bool
+        ensures { result ≡ is_some (claim_of ctx (state_of self.now)) }
+    {
+        self.rx.claimed(ctx).is_some()
+    }
+
+    /// Whether the look would claim under a context that is in use.
+    fn claims_again(&self, look: &Look) -> bool
+        ensures { result ≡ (is_claim look.now.how && is_some (claim_of look.now.ctx (state_of self.now))) }
+    {
+        if !is_claim(look.how) {
+            return false;
+        }
+        self.has_claim(look.ctx)
+    }
+
+    /// Why a look is refused for a reason that does not pass.
+    pub(crate) fn seek_fault(&self, look: &Look) -> Option<Fault>
+        ensures { result ≡ lasting_look (state_of self.now) look.now }
+    {
+        if !self.may_receive(true) {
+            return Some(Fault::NotSupported);
+        }
+        if !self.knows(look.source) {
+            return Some(Fault::Invalid);
+        }
+        if self.claims_again(look) {
+            return Some(Fault::Invalid);
+        }
+        None
+    }
+
+    /// Why a receive into so many bytes, or a drop, of the message claimed under the context is refused
+    /// for a reason that does not pass.
+    pub(crate) fn claimed_fault(&self, bytes: usize, ctx: u64) -> Option<Fault>
+        ensures { result ≡ lasting_claimed (state_of self.now) bytes ctx }
+    {
+        if !self.may_receive(true) {
+            return Some(Fault::NotSupported);
+        }
+        if bytes > MOST_BYTES {
+            return Some(Fault::MsgSize);
+        }
+        if !self.has_claim(ctx) {
+            return Some(Fault::NoEntry);
+        }
+        None
+    }
+
+    fn look_want(&self, look: &Look) -> Want
+        ensures { result ≡ look_want (state_of self.now) look.now }
+    {
+        Want {
+            tagged: true,
+            tag: look.tag,
+            ignore: look.ignore,
+            source: self.used_source(look.source),
+        }
+    }
+
+    /// Looks for an unexpected message, where its completion has room.
+    pub(crate) fn seek(&mut self, look: &Look) -> Result<(), Fault>
+        ensures ok { OnOk result (IsTrue (has_room 1 self.old.cq) × (self.new ≡ looked_by look.now.how (look_want (state_of self.old) look.now) look.now.ctx self.old)) }
+        ensures err { IfErr result (λ why. (why ≡ Again (CqFull self.old.cq.size)) × (has_room 1 self.old.cq ≡ false)) }
+        ensures stays { OnErr result (self.new ≡ self.old) }
+    {
+        if !self.cq.has_room(1) {
+            return Err(Fault::Again(Busy::CqFull(self.cq.size())));
+        }
+        let want = self.look_want(look);
+        self.see(look.how, &want, look.ctx);
+        Ok(())
+    }
+
+    /// A look that is not refused.
+    fn see(&mut self, how: PeekHow, want: &Want, ctx: u64)
+        requires { IsTrue (has_room 1 self.old.cq) }
+        ensures { self.new ≡ looked_by how want.now ctx self.old }
+    {
+        self.rx.known();
+        self.tx.known();
+        let about = Snapshot::of(&self.calls);
+        let met = meet(&mut self.rx, how, want, ctx);
+        call(&mut self.calls);
+        self.cq
+            .write::<Snapshot<Calls>, ThisCall>(&about, told(how, ctx, &met));
+        part_by(self.alloc, &mut self.tx, how, &met);
+    }
+
+    /// Receives the message claimed under the context, where its completion has room if it is whole.
+    pub(crate) fn take_aside(&mut self, buf: Buf, ctx: u64) -> Result<(), Refused>
+        requires { is_some (claim_under ctx self.old.rx.rx) ≡ true }
+        ensures ok { OnOk result ((lacks_take ctx self.old ≡ false) × (self.new ≡ taken_by buf ctx self.old)) }
+        ensures err { IfErr result (λ r. (r.buf ≡ buf) × (r.why ≡ Again (CqFull self.old.cq.size)) × (lacks_take ctx self.old ≡ true)) }
+        ensures stays { OnErr result (self.new ≡ self.old) }
+    {
+        let whole = match self.rx.claimed(ctx) {
+            Some(met) => met.whole,
+            None => false,
+        };
+        if whole && !self.cq.has_room(1) {
+            let why = Fault::Again(Busy::CqFull(self.cq.size()));
+            return Err(Refused { why, buf });
+        }
+        self.give_aside(buf, ctx);
+        Ok(())
+    }
+
+    /// A receive of a claimed message that is not refused.
+    fn give_aside(&mut self, buf: Buf, ctx: u64)
+        requires claimed { is_some (claim_under ctx self.old.rx.rx) ≡ true }
+        requires room { lacks_take ctx self.old ≡ false }
+        ensures { self.new ≡ taken_by buf ctx self.old }
+    {
+        self.rx.known();
+        self.tx.known();
+        let about = Snapshot::of(&self.calls);
+        let posted = self.rx.take::<Snapshot<Calls>, ThisCall>(&about, buf, ctx);
+        call(&mut self.calls);
+        if let Posted::Whole(completed) = posted {
+            let Core {
+                tx,
+                cq,
+                counters,
+                alloc,
+                ..
+            } = self;
+            let due = at_match(completed.head.ack);
+            hand_over::<Snapshot<Calls>, ThisCall>(
+                *alloc, cq, counters, tx, &about, due, completed,
+            );
+        }
+    }
+
+    /// Drops the message claimed under the context, where the completion has room.
+    pub(crate) fn drop_aside(&mut self, ctx: u64) -> Result<(), Fault>
+        ensures ok { OnOk result (IsTrue (has_room 1 self.old.cq) × (self.new ≡ dropped_by ctx self.old)) }
+        ensures err { IfErr result (λ why. (why ≡ Again (CqFull self.old.cq.size)) × (has_room 1 self.old.cq ≡ false)) }
+        ensures stays { OnErr result (self.new ≡ self.old) }
+    {
+        if !self.cq.has_room(1) {
+            return Err(Fault::Again(Busy::CqFull(self.cq.size())));
+        }
+        self.let_fall(ctx);
+        Ok(())
+    }
+
+    /// A drop that is not refused.
+    fn let_fall(&mut self, ctx: u64)
+        requires { IsTrue (has_room 1 self.old.cq) }
+        ensures { self.new ≡ dropped_by ctx self.old }
+    {
+        self.rx.known();
+        self.tx.known();
+        let about = Snapshot::of(&self.calls);
+        let met = self.rx.drop_claimed(ctx);
+        call(&mut self.calls);
+        self.cq
+            .write::<Snapshot<Calls>, ThisCall>(&about, told(PeekHow::Discard, ctx, &met));
+        part(self.alloc, &mut self.tx, &met);
+    }
+}
