@@ -1,0 +1,31 @@
+-- An endpoint that is opened over a fresh port stands between calls.
+use Rattle.std.proofs.Common.{◌≡◌, ℕ, ◌≤◌, Bool, true, false, ◌&&◌, ◌==◌, List, [], length, Option, Some, None, sym, ◌∙◌, arith}
+use Rattle.std.specs.Prelude.{replicate}
+use Rattle.std.proofs.lemmas.Bool.{and_parts, leb-true}
+use Rattle.std.proofs.lemmas.List.{get_or-replicate, length-replicate}
+use Rattle.fab_base.specs.Offer.{limits_of}
+use Rattle.fab_base.specs.declared.caps.Info.{Info}
+use Rattle.fab_base.specs.declared.items.Item.{Item}
+use Rattle.fab_base.specs.declared.limits.Size.TheVariants.{Peers, Lane, Pool, Tx, Rx, Cq, Log}
+use Rattle.fab_av.specs.Addresses.{Addresses}
+use Rattle.fab_link.specs.declared.port.Port.{Ghosts}
+use Rattle.fab_face.specs.Ports.{IsFresh, is_granted, opened, seen, within}
+use Rattle.fab_ep.specs.Tries.{IsTied}
+
+-- what is granted has a log of four events at least
+pub log_granted : (i : Info) (peers : ℕ) → is_granted i peers ≡ true → 4 ≤ i.log
+log_granted i peers granted =
+    let all = and_parts (
+      (i.peers == peers) && within (limits_of Peers) i.peers && within (limits_of Lane) i.lane && within (limits_of Pool) i.pool && within (limits_of Tx) i.tx
+      && within (limits_of Rx) i.rx && within (limits_of Cq) i.cq) (within (limits_of Log) i.log) granted in
+    leb-true 4 i.log (and_parts _ _ all.1).0
+
+pub opened_tied : {P : Type 0} (M : Ghosts P) (port : P) (av : Addresses) (info : Info) (selective : Bool) → av.peers ≡ M.peer_count port → IsFresh M port → 4 ≤ info.log
+    → IsTied (seen M (opened port av info selective))
+opened_tied M port av info selective count fresh most = record {
+  log = most;
+  within = omega (arith, most);
+  peers = length-replicate {A = ℕ} av.peers 0 ∙ count;
+  posted = λ d below. rw (fresh.posted d, get_or-replicate av.peers d 0 0 (omega (arith, below, count))) (fresh.out_after d below);
+  taken = λ s below. rw (fresh.taken s, get_or-replicate {A = Option Item} av.peers s None None (omega (arith, below, count))) (fresh.in_after s below);
+}
