@@ -36,6 +36,11 @@ fn is_carried_out(verb: Verb) -> bool
             | Verb::TInject
             | Verb::Recv
             | Verb::TRecv
+            | Verb::Peek
+            | Verb::Claim
+            | Verb::Discard
+            | Verb::Take
+            | Verb::DropClaimed
             | Verb::Cancel
             | Verb::Wait
     )

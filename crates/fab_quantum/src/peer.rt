@@ -10,6 +10,8 @@ ghost use Rattle.fab_model.specs.Report.{pending_of};
 ghost use Rattle.fab_face.specs.Answers.{Pops};
 ghost use Rattle.fab_quantum.specs.Turns.{step_of, why_of};
 
+pub mod seats;
+
 use fab_base::{
     Buf, BytesWord, Entry, Fault, Flags, Kept, Line, LineOp, LineResult, NoMemory, Refused, Step,
     Taken,

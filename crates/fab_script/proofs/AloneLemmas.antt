@@ -7,7 +7,7 @@ use Rattle.fab_base.specs.declared.script.BytesWord.{BytesWord}
 use Rattle.fab_base.specs.declared.script.BytesWord.TheVariants.{Text, Hex, Zero}
 use Rattle.fab_base.specs.declared.script.Line.{Line}
 use Rattle.fab_base.specs.declared.script.LineOp.{LineOp}
-use Rattle.fab_base.specs.declared.script.LineOp.TheVariants.{Send, TSend, Inject, TInject, Recv, TRecv, Cancel, Wait}
+use Rattle.fab_base.specs.declared.script.LineOp.TheVariants.{Send, TSend, Inject, TInject, Recv, TRecv, Peek, Claim, Discard, Take, DropClaimed, Cancel, Wait}
 use Rattle.fab_base.specs.declared.script.Payload.{Payload}
 use Rattle.fab_base.specs.declared.script.Script.{Script}
 use Rattle.fab_base.specs.declared.limits.Size.{Size}
@@ -51,6 +51,11 @@ op_inside payloads files (Inject dest bytes imm) e = bytes_inside payloads files
 op_inside payloads files (TInject dest tag bytes imm) e = bytes_inside payloads files bytes e
 op_inside payloads files (Recv ctx source len) e = refl
 op_inside payloads files (TRecv ctx source tag ignore len) e = refl
+op_inside payloads files (Peek ctx source tag ignore) e = refl
+op_inside payloads files (Claim ctx source tag ignore) e = refl
+op_inside payloads files (Discard ctx source tag ignore) e = refl
+op_inside payloads files (Take ctx len) e = refl
+op_inside payloads files (DropClaimed ctx) e = refl
 op_inside payloads files (Cancel ctx) e = refl
 op_inside payloads files (Wait ctx) e = refl
 op_inside payloads files _ e = cc

@@ -13,14 +13,14 @@ use Rattle.fab_base.specs.declared.peers.Level.TheVariants as level
 use Rattle.fab_base.specs.declared.script.BytesWord.{BytesWord}
 use Rattle.fab_base.specs.declared.script.BytesWord.TheVariants.{Text, Hex, Zero, File}
 use Rattle.fab_base.specs.declared.script.LineOp.{LineOp}
-use Rattle.fab_base.specs.declared.script.LineOp.TheVariants.{Send, TSend, Inject, TInject, Recv, TRecv, Cancel, Wait}
+use Rattle.fab_base.specs.declared.script.LineOp.TheVariants.{Send, TSend, Inject, TInject, Recv, TRecv, Peek, Claim, Discard, Take, DropClaimed, Cancel, Wait}
 use Rattle.fab_grammar.specs.declared.language.Language.TheVariants.{Built, Whole}
 use Rattle.fab_grammar.specs.declared.verbs.Kind.{Kind}
 use Rattle.fab_grammar.specs.declared.verbs.Kind.TheVariants as kind
 use Rattle.fab_grammar.specs.declared.verbs.Verb.{Verb}
 use Rattle.fab_grammar.specs.declared.verbs.Verb.TheVariants as verb
 use Rattle.fab_grammar.specs.Language.{is_carried_out, has_words, stands_here, is_built}
-use Rattle.fab_grammar.specs.Lines.{a_recv, recv_of, a_trecv, trecv_of, number_line, wait_of, op_of}
+use Rattle.fab_grammar.specs.Lines.{a_recv, recv_of, a_trecv, trecv_of, look_of, a_peek, a_claim, a_discard, a_take, take_of, number_line, wait_of, op_of}
 use Rattle.fab_grammar.specs.Options.{read_options}
 use Rattle.fab_grammar.specs.Sends.{for_send, for_inject, read_to, read_tagged, a_send, send_of, a_tsend, tsend_of, an_inject, inject_of, a_tinject, tinject_of}
 use Rattle.fab_grammar.specs.Verbs.{kind_of}
@@ -129,6 +129,11 @@ trecv_done (ctx ∷ source ∷ tag ∷ ignore ∷ len ∷ []) op e =
     subst IsDone (said_by a_trecv (read_number ctx & read_source source & read_number tag & read_number ignore & read_len len) op e).2 refl
 trecv_done _ op e = cc
 
+take_done : (args : List (List ℕ)) (op : LineOp) → take_of args ≡ Ok op → IsDone op
+unfolding take_of
+take_done (ctx ∷ len ∷ []) op e = subst IsDone (said_by a_take (read_number ctx & read_len len) op e).2 refl
+take_done _ op e = cc
+
 wait_done : (args : List (List ℕ)) (op : LineOp) → wait_of args ≡ Ok op → IsDone op
 unfolding wait_of
 wait_done (ctx ∷ []) op e = of_any (bytes_eq ctx (codes "*")) (read_number ctx) op e
@@ -149,6 +154,11 @@ carried_out verb.Inject args op h e = inject_done args op h.words e
 carried_out verb.TInject args op h e = tinject_done args op h.words e
 carried_out verb.Recv args op h e = recv_done args op e
 carried_out verb.TRecv args op h e = trecv_done args op e
+carried_out verb.Peek args op h e = subst IsDone (said_by a_peek (look_of args) op e).2 refl
+carried_out verb.Claim args op h e = subst IsDone (said_by a_claim (look_of args) op e).2 refl
+carried_out verb.Discard args op h e = subst IsDone (said_by a_discard (look_of args) op e).2 refl
+carried_out verb.Take args op h e = take_done args op e
+carried_out verb.DropClaimed args op h e = subst IsDone (said_by DropClaimed (number_line args) op e).2 refl
 carried_out verb.Cancel args op h e = subst IsDone (said_by Cancel (number_line args) op e).2 refl
 carried_out verb.Wait args op h e = wait_done args op e
 carried_out verb.Peers args op h e = cc
@@ -218,6 +228,11 @@ again_built (Inject dest bytes imm) is = and_from _ _ (stands-decimal dest) (and
 again_built (TInject dest tag bytes imm) is = and_from _ _ (stands-decimal dest) (and_from _ _ (stands-decimal tag) (and_from _ _ (stands-bytes bytes is) (stand-imm imm)))
 again_built (Recv ctx source len) is = rw (stands-decimal ctx, stands-source source, stands-decimal len) refl
 again_built (TRecv ctx source tag ignore len) is = rw (stands-decimal ctx, stands-source source, stands-decimal tag, stands-decimal ignore, stands-decimal len) refl
+again_built (Peek ctx source tag ignore) is = rw (stands-decimal ctx, stands-source source, stands-decimal tag, stands-decimal ignore) refl
+again_built (Claim ctx source tag ignore) is = rw (stands-decimal ctx, stands-source source, stands-decimal tag, stands-decimal ignore) refl
+again_built (Discard ctx source tag ignore) is = rw (stands-decimal ctx, stands-source source, stands-decimal tag, stands-decimal ignore) refl
+again_built (Take ctx len) is = rw (stands-decimal ctx, stands-decimal len) refl
+again_built (DropClaimed ctx) is = rw (stands-decimal ctx) refl
 again_built (Cancel ctx) is = rw (stands-decimal ctx) refl
 again_built (Wait ctx) is = rw (stands-source ctx) refl
 again_built _ is = cc

@@ -47,7 +47,7 @@ abbrev one : Frame
 one = frame (record { item = head; from = 0; len = 5 }) (codes "hello")
 
 -- a peer between whose items nothing is under way
-abbrev resting : Actor → Living
+abbrev pub resting : Actor → Living
 resting a = record { held = record { state = a.state; places = 0 ∷ 0 ∷ []; begun = None ∷ None ∷ []; multis = [] }; lines = a.lines; results = a.results; kept = a.kept }
 
 -- ---- the receiver
@@ -129,7 +129,7 @@ acted1 = record { lives = sender; steps = refl; moves = (Post 0 1 ∷ [], refl, 
 
 -- ---- both
 
-no_items : (items : List Item) (i : ℕ) (item : Item) → items ≡ [] → slice_get items i ≡ Some item → ⊥
+pub no_items : (items : List Item) (i : ℕ) (item : Item) → items ≡ [] → slice_get items i ≡ Some item → ⊥
 no_items items i item none e = let is : slice_get {X = Item} [] i ≡ Some item = subst (λ xs. slice_get xs i ≡ Some item) none e in cc (is)
 
 items0 : AreItems (x0.living).held
