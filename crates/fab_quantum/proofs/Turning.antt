@@ -74,6 +74,7 @@ module _ {Home : Type 0} where
     turned opened closed moved is = (
       all_acts,
       record {
+        lives = all_lived.lives;
         schedule = all_lived.schedule;
         walk = λ v shows. walk_shown v all_acts (living_of a) (living_of f) all_lived.lives shows;
         joins = joins_by all_acts (living_of a) (living_of f) all_lived.lives;

@@ -133,6 +133,8 @@ pub record Transmits (h k : Held) (frames : ℕ → List Frame) : Type 0 where
 -- ---- a turn
 
 pub record Turned {Home : Type 0} (a b : Told Home) (acts : List Act) : Type 0 where
+  -- each act stands where those before it led
+  pub lives : LivesBy (living_of a) acts (living_of b)
   pub schedule : b.schedule ≡ a.schedule ++ steps_of acts
   pub walk : (v : View Item) → Shows v a.seen.held (λ s. taken_of s acts) → Walk fabric v (actor_of a) (steps_of acts) (actor_of b)
   pub joins : Joins a.seen.held b.seen.held (λ s. taken_of s acts)

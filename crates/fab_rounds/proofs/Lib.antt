@@ -2,3 +2,4 @@ pub mod Lists
 pub mod Sizes
 pub mod Turning
 pub mod Tied
+pub mod Acting

@@ -1,14 +1,19 @@
 //! Rounds of all peers.
-ghost use Rattle.std.specs.Prelude.{◌≡◌, ◌≢◌, ℕ, ◌<◌, ◌≤◌, ◌^◌, ◌+◌, true, false, not, length, sum_by, IfOk, OnErr, ◌↔◌};
+ghost use Rattle.std.specs.Prelude.{◌≡◌, ◌≢◌, ℕ, ◌<◌, ◌≤◌, ◌^◌, ◌+◌, true, false, not, length, map, sum_by, List, IfOk, OnOk, OnErr, ◌↔◌};
 ghost use Rattle.std.specs.List.{list_all, list_any};
 ghost use Rattle.fab_face.specs.Ports.{seen};
-ghost use Rattle.fab_model.specs.Peers.{is_finished};
-ghost use Rattle.fab_quantum.specs.Turns.{told, actor_of, IsStill};
+ghost use Rattle.fab_model.specs.Peers.{fabric, is_finished};
+ghost use Rattle.fab_model.specs.Orders.{Reached};
+ghost use Rattle.fab_model.specs.Views.{rule};
+ghost use Rattle.fab_quantum.specs.Turns.{told, actor_of, actor_in, IsStill, Living};
+ghost use Rattle.fab_threads.specs.Pasts.{past_of};
+ghost use Rattle.fab_threads.specs.Law.{schedules, actors, AreTogether};
+ghost use Rattle.fab_rounds.specs.Opened.{Begins, AreGathered};
 ghost use Rattle.fab_rounds.specs.Rounds.{Each, TurnedAs, TurnedFor, size};
 
 use crate::runner::Runner;
 use fab_base::{Gate, NoMemory};
-use fab_face::machine::Machine;
+use fab_face::looking::Looking;
 use fab_link::Port;
 use std::sync::Wait;
 use std::thread;
@@ -33,7 +38,7 @@ pub struct Rounds {
 }
 
 /// One turn of each peer, each in a thread of its own, which tells the gate when it begins and ends.
-fn round<P: Port + Send, C: Machine + Drop + Send, G: Gate, R: Threads + Wait + Sync>(
+fn round<P: Port + Send, C: Looking + Drop + Send, G: Gate, R: Threads + Wait + Sync>(
     rt: &R,
     peers: &mut [Runner<P, C>],
     gate: &G,
@@ -63,21 +68,21 @@ fn round<P: Port + Send, C: Machine + Drop + Send, G: Gate, R: Threads + Wait + 
 }
 
 /// Whether memory ran out in a turn of any peer.
-fn any_failed<P: Port, C: Machine>(peers: &[Runner<P, C>]) -> bool
+fn any_failed<P: Port, C: Looking>(peers: &[Runner<P, C>]) -> bool
     ensures { result ≡ list_any (λ p. p.failed) peers.now }
 {
     peers.iter().any(|peer| peer.failed())
 }
 
 /// Whether the last turn of no peer moved anything.
-fn none_moved<P: Port, C: Machine>(peers: &[Runner<P, C>]) -> bool
+fn none_moved<P: Port, C: Looking>(peers: &[Runner<P, C>]) -> bool
     ensures { result ≡ list_all (λ p. not p.moved) peers.now }
 {
     peers.iter().all(|peer| !peer.moved())
 }
 
 /// Whether all lines of all peers are done.
-fn all_finished<P: Port, C: Machine>(peers: &[Runner<P, C>]) -> bool
+fn all_finished<P: Port, C: Looking>(peers: &[Runner<P, C>]) -> bool
     ensures { result ≡ list_all (λ p. is_finished (actor_of (told (seen P.Port) p.peer))) peers.now }
 {
     peers.iter().all(|peer| peer.finished())
@@ -87,7 +92,10 @@ fn all_finished<P: Port, C: Machine>(peers: &[Runner<P, C>]) -> bool
 /// every peer takes one turn, each in a thread of its own.
 ///
 /// Where memory ran out in a turn, the round goes on for the other peers, and then the call ends.
-pub fn run_rounds<P: Port + Send, C: Machine + Drop + Send, G: Gate, R: Threads + Wait + Sync>(
+///
+/// Once the ports are gathered, so that their moves merge, some order of turns led from the opening to the peers as they
+/// are, and they can go on in one thread.
+pub fn run_rounds<P: Port + Send, C: Looking + Drop + Send, G: Gate, R: Threads + Wait + Sync>(
     rt: &R,
     peers: &mut [Runner<P, C>],
     gate: &G,
@@ -96,6 +104,9 @@ pub fn run_rounds<P: Port + Send, C: Machine + Drop + Send, G: Gate, R: Threads 
     requires few { length peers.old < 2 ^ 32 }
     ensures count { length peers.new ≡ length peers.old }
     ensures turned { IfOk result (λ r. Each (λ a b. (b.failed ≡ false → a.failed ≡ false) × TurnedFor r.made (told (seen P.Port) a.peer) (told (seen P.Port) b.peer)) peers.old peers.new) }
+    ensures reached { OnOk result ((opening : List Living) → Begins opening (map (λ p. past_of (told (seen P.Port) p.peer)) peers.old) → AreGathered (map (λ p. past_of (told (seen P.Port) p.peer)) peers.new)
+        → Reached (rule fabric) (map actor_in opening) (schedules (map (λ p. past_of (told (seen P.Port) p.peer)) peers.new)) (actors (map (λ p. past_of (told (seen P.Port) p.peer)) peers.new))
+        × AreTogether (map (λ p. past_of (told (seen P.Port) p.peer)) peers.new)) }
     ensures still { IfOk result (λ r. (r.stop ≡ RoundStop.Still) ↔ ((0 < r.made) × (list_all (λ p. not p.moved) peers.new ≡ true))) }
     ensures idle { IfOk result (λ r. r.stop ≡ RoundStop.Still → Each (λ a b. IsStill (told (seen P.Port) a.peer) (told (seen P.Port) b.peer)) peers.old peers.new) }
     ensures finished { IfOk result (λ r. (r.stop ≡ RoundStop.Finished) ↔ ((r.stop ≢ RoundStop.Still) × (list_all (λ p. is_finished (actor_of (told (seen P.Port) p.peer))) peers.new ≡ true))) }

@@ -1,10 +1,12 @@
-use Rattle.std.proofs.Common.{rules, arith, ◌≡◌, ◌<◌, length, sym, ◌∙◌}
+use Rattle.std.proofs.Common.{rules, arith, ◌≡◌, ◌<◌, length, sym, ◌∙◌, ◌+◌}
 use Rattle.std.specs.Prelude.{not}
 use Rattle.fab_face.specs.Ports.{seen}
 use Rattle.fab_quantum.specs.Turns.{told}
 use Rattle.fab_rounds.specs.Rounds.{size}
 use Rattle.fab_rounds.proofs.Lists.{sums_rise, none_at, all_at, not_false, not_true}
 use Rattle.fab_rounds.proofs.Turning.{turned_more, still_later}
+use Rattle.fab_threads.specs.Pasts.{past_of}
+use Rattle.fab_rounds.proofs.Acting.{acted_turned, reached_by}
 use Rattle.fab_rounds.proofs.rounds.run_rounds.Goals as goal
 
 pub returns-then-none_moved-clause-turned : goal.returns-then-none_moved-clause-turned
@@ -56,3 +58,23 @@ rounds-preserved g c =
       failing = λ l. whole;
       going = λ l. sym c.all_finished.ensures ∙ c.if-all_finished.false;
     }
+
+pub returns-then-none_moved-clause-reached : goal.returns-then-none_moved-clause-reached
+returns-then-none_moved-clause-reached g c = λ opening begins gathered.
+    let long : length c.round.new.peers ≡ length c.rounds.peers = search rules in
+    reached_by (λ p. past_of (told (seen g.P.Port) p.peer)) opening c.args.peers.now c.round.new.peers (long ∙ c.rounds.invariant.count)
+    (λ k d below. acted_turned (c.rounds.made + 1) _ _ (returns-then-none_moved-clause-turned g c k d below).1) begins gathered
+
+pub returns-then-all_finished-clause-reached : goal.returns-then-all_finished-clause-reached
+returns-then-all_finished-clause-reached g c = λ opening begins gathered.
+    let long : length c.round.new.peers ≡ length c.rounds.peers = search rules in
+    reached_by (λ p. past_of (told (seen g.P.Port) p.peer)) opening c.args.peers.now c.round.new.peers (long ∙ c.rounds.invariant.count)
+    (λ k d below. acted_turned (c.rounds.made + 1) _ _ (returns-then-all_finished-clause-turned g c k d below).1) begins gathered
+
+pub returns-then-all_finished-2-clause-reached : goal.returns-then-all_finished-2-clause-reached
+returns-then-all_finished-2-clause-reached g c = λ opening begins gathered.
+    reached_by (λ p. past_of (told (seen g.P.Port) p.peer)) opening c.args.peers.now c.rounds.peers c.rounds.invariant.count (λ k d below. acted_turned c.rounds.made _ _ (c.rounds.invariant.turned k d below).1) begins gathered
+
+pub returns-else-all_finished-2-clause-reached : goal.returns-else-all_finished-2-clause-reached
+returns-else-all_finished-2-clause-reached g c = λ opening begins gathered.
+    reached_by (λ p. past_of (told (seen g.P.Port) p.peer)) opening c.args.peers.now c.rounds.peers c.rounds.invariant.count (λ k d below. acted_turned c.rounds.made _ _ (c.rounds.invariant.turned k d below).1) begins gathered
