@@ -31,6 +31,11 @@ most_looked Peek want ctx v = refl
 most_looked Claim want ctx v = refl
 most_looked Discard want ctx v = refl
 
+pub begun_looked : (how : PeekHow) (want : Want) (ctx : ℕ) (v : Arriving) → (looked how want ctx v).begun ≡ v.begun
+begun_looked Peek want ctx v = refl
+begun_looked Claim want ctx v = refl
+begun_looked Discard want ctx v = refl
+
 pub most_parted : (m : Option Seen) (v : Transit) → (parted m v).most ≡ v.most
 most_parted None v = refl
 most_parted (Some m) v = most_booked (is_due_now m) m.source m.head v
