@@ -4,3 +4,5 @@ pub mod Answers
 pub mod Ports
 pub mod Looking
 pub mod Machine
+pub mod Requesting
+pub mod Keeping

@@ -10,5 +10,7 @@
 
 pub mod calls;
 pub mod events;
+pub mod keeping;
 pub mod looking;
 pub mod machine;
+pub mod requesting;
