@@ -10,3 +10,4 @@ mod Handed
 mod Sent
 mod Beginning
 mod Serves
+mod Asking

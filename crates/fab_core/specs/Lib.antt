@@ -2,3 +2,4 @@ pub mod Parts
 pub mod Doing
 pub mod Orders
 pub mod Requests
+pub mod Asking

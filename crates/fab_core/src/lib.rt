@@ -11,6 +11,7 @@
 //! | `receives` | receives are posted and cancelled |
 //! | `taking` | frames come in |
 //! | `ending` | operations end |
+//! | `requests` | reads, writes and atomics are judged and accepted |
 //! | `serving` | requests of other peers are performed |
 //! | `handing` | replies are booked |
 //! | `machine` | all of it as the endpoint's machine |
@@ -22,6 +23,7 @@ mod handing;
 mod machine;
 mod parts;
 mod receives;
+mod requests;
 mod sending;
 mod serving;
 mod taking;
