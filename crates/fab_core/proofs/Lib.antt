@@ -11,3 +11,4 @@ mod Sent
 mod Beginning
 mod Serves
 mod Asking
+mod Addressed

@@ -14,12 +14,14 @@
 //! | `requests` | reads, writes and atomics are judged and accepted |
 //! | `serving` | requests of other peers are performed |
 //! | `handing` | replies are booked |
+//! | `keeping` | counters and addresses |
 //! | `machine` | all of it as the endpoint's machine |
 #![tactic(auto)]
 
 mod callers;
 mod ending;
 mod handing;
+mod keeping;
 mod machine;
 mod parts;
 mod receives;
