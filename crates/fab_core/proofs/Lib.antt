@@ -15,3 +15,5 @@ mod Departing
 mod Seeing
 mod Judging
 mod Aside
+mod Asking
+mod Addressed

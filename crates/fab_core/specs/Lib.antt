@@ -3,3 +3,4 @@ pub mod Doing
 pub mod Orders
 pub mod Requests
 pub mod Looks
+pub mod Asking

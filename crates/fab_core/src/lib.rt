@@ -11,9 +11,11 @@
 //! | `receives` | receives are posted and cancelled |
 //! | `taking` | frames come in |
 //! | `ending` | operations end |
+//! | `requests` | reads, writes and atomics are judged and accepted |
 //! | `serving` | requests of other peers are performed |
 //! | `handing` | replies are booked |
 //! | `looks` | unexpected messages are looked at and set aside, claimed ones taken and dropped |
+//! | `keeping` | counters and addresses |
 //! | `machine`, `looking` | all of it as the endpoint's machine |
 //! | `targets` | the regions, as their owner calls them |
 #![tactic(auto)]
@@ -21,11 +23,13 @@
 mod callers;
 mod ending;
 mod handing;
+mod keeping;
 mod looking;
 mod looks;
 mod machine;
 mod parts;
 mod receives;
+mod requests;
 mod sending;
 mod serving;
 mod taking;

@@ -11,3 +11,4 @@ mod Looks
 mod Accepting
 mod Reading
 mod Answering
+mod Kept

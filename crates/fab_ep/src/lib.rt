@@ -9,6 +9,7 @@
 mod calls;
 pub mod endpoint;
 mod frames;
+mod keeping;
 mod looking;
 mod plain;
 mod receiving;

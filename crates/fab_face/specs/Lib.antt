@@ -5,3 +5,5 @@ pub mod Ports
 pub mod Looking
 pub mod Machine
 pub mod Targets
+pub mod Requesting
+pub mod Keeping

@@ -10,6 +10,8 @@
 
 pub mod calls;
 pub mod events;
+pub mod keeping;
 pub mod looking;
 pub mod machine;
+pub mod requesting;
 pub mod targets;

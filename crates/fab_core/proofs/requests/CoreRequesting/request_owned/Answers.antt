@@ -1,0 +1,22 @@
+use Rattle.std.specs.Prelude.{[], Some}
+use Rattle.fab_face.specs.Requesting.{order_asked}
+use Rattle.fab_core.proofs.Asking.{asks, bytes_word, count_word, counts, sound, stands}
+use Rattle.fab_core.proofs.requests.CoreRequesting.request_owned.Goals as goal
+
+pub unreachable-requires : goal.unreachable-requires
+unreachable-requires g c = stands c.args.self.now (order_asked c.args.request.now c.args.buf [] (Some c.args.buf)) c.requires.granted c.lookup.result c.in_default.field-0 (rw (← c.self.view_is) c.lookup.ensures.no_entry) c.in_default.is
+
+pub ask_owned-requires-clause-counts : goal.ask_owned-requires-clause-counts
+ask_owned-requires-clause-counts g c = counts c.args.self.now (order_asked c.args.request.now c.args.buf [] (Some c.args.buf)) c.requires.granted
+
+pub ask_owned-requires-clause-count : goal.ask_owned-requires-clause-count
+ask_owned-requires-clause-count g c = count_word c.args.self.now (order_asked c.args.request.now c.args.buf [] (Some c.args.buf)) c.requires.granted
+
+pub ask_owned-requires-clause-total : goal.ask_owned-requires-clause-total
+ask_owned-requires-clause-total g c = bytes_word c.args.self.now (order_asked c.args.request.now c.args.buf [] (Some c.args.buf)) c.requires.granted
+
+pub ask_owned-requires-clause-sound : goal.ask_owned-requires-clause-sound
+ask_owned-requires-clause-sound g c = sound c.args.self.now c.args.request.now c.args.buf [] (Some c.args.buf) c.requires.granted
+
+pub returns : goal.returns
+returns g c = asks c.args.self.now c.in-Ok.dest (order_asked c.args.request.now c.args.buf [] (Some c.args.buf)) c.ask_owned.new.self (rw (← c.self.view_is) c.in-Ok.ensures.found) c.requires.granted c.requires.room c.ask_owned.ensures

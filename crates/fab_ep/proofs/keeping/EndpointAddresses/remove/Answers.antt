@@ -1,0 +1,16 @@
+use Rattle.fab_face.specs.Ports.{seen}
+use Rattle.fab_ep.proofs.Kept.{if_removes, if_removes_not, tied_addressed}
+use Rattle.fab_ep.proofs.keeping.EndpointAddresses.remove.Goals as goal
+
+pub invariant_of-self : goal.invariant_of-self
+invariant_of-self g c = (
+  c.self.invariant.0,
+  tied_addressed (seen g.P.Port (record { port = c.self.inside.port; held = g.C.Machine.held c.self.inside.core; log = c.self.inside.log.items; log_size = c.self.inside.log_size; pushed = c.self.inside.pushed }))
+      _ c.remove.ensures.changed c.self.invariant.1,
+)
+
+pub returns-clause-ok : goal.returns-clause-ok
+returns-clause-ok g c = rw (← c.self.view_is) (if_removes _ _ _ c.remove.result c.remove.ensures.changed c.remove.ensures.ok)
+
+pub returns-clause-err : goal.returns-clause-err
+returns-clause-err g c = rw (← c.self.view_is) (if_removes_not _ _ _ c.remove.result c.remove.ensures.changed c.remove.ensures.err)
