@@ -16,8 +16,8 @@ use Rattle.fab_ep.specs.Tries.{IsTied}
 pub log_granted : (i : Info) (peers : ℕ) → is_granted i peers ≡ true → 4 ≤ i.log
 log_granted i peers granted =
     let all = and_parts (
-      (i.peers == peers) && within (limits_of Peers) i.peers && within (limits_of Lane) i.lane && within (limits_of Pool) i.pool && within (limits_of Tx) i.tx
-      && within (limits_of Rx) i.rx && within (limits_of Cq) i.cq) (within (limits_of Log) i.log) granted in
+    (i.peers == peers) && within (limits_of Peers) i.peers && within (limits_of Lane) i.lane && within (limits_of Pool) i.pool && within (limits_of Tx) i.tx
+    && within (limits_of Rx) i.rx && within (limits_of Cq) i.cq) (within (limits_of Log) i.log) granted in
     leb-true 4 i.log (and_parts _ _ all.1).0
 
 pub opened_tied : {P : Type 0} (M : Ghosts P) (port : P) (av : Addresses) (info : Info) (selective : Bool) → av.peers ≡ M.peer_count port → IsFresh M port → 4 ≤ info.log
@@ -26,6 +26,6 @@ opened_tied M port av info selective count fresh most = record {
   log = most;
   within = omega (arith, most);
   peers = length-replicate {A = ℕ} av.peers 0 ∙ count;
-  posted = λ d below. rw (fresh.posted d, get_or-replicate av.peers d 0 0 (omega (arith, below, count))) (fresh.out_after d below);
+  posted = λ d below. rw (fresh.posted d, get_or-replicate {A = ℕ} av.peers d 0 0 (omega (arith, below, count))) (fresh.out_after d below);
   taken = λ s below. rw (fresh.taken s, get_or-replicate {A = Option Item} av.peers s None None (omega (arith, below, count))) (fresh.in_after s below);
 }

@@ -267,9 +267,15 @@ const MANUAL: [Row; 27] = [
     (b"send 1 0 text:hello level=delivery", None),
     (b"send 1 0 text:hello level=match", None),
     (b"send 1 0 text:hello completion", None),
-    (b"send 1 0 text:hello data=9 level=delivery completion", None),
+    (
+        b"send 1 0 text:hello data=9 level=delivery completion",
+        None,
+    ),
     (b"tsend 2 0 7 hex:6869", None),
-    (b"tsend 2 0 7 text:hello completion level=match data=9", None),
+    (
+        b"tsend 2 0 7 text:hello completion level=match data=9",
+        None,
+    ),
     (b"inject 0 text:hello", None),
     (b"inject 0 text:hello data=9", None),
     (b"tinject 0 7 text:hello", None),
@@ -351,5 +357,11 @@ fn settings_of_the_manual(rt: HostRuntime) -> Result<(), Fail> {
         let text = ending_in(rt.alloc(), b"fabric 1\npeers 2\n", line)?;
         is_built(&rt, rt.alloc(), &text, None);
     }
-    are_unbuilt(&rt, rt.alloc(), b"fabric 1\npeers 2\n", 3, &[b"payload 1 words.txt"])
+    are_unbuilt(
+        &rt,
+        rt.alloc(),
+        b"fabric 1\npeers 2\n",
+        3,
+        &[b"payload 1 words.txt"],
+    )
 }

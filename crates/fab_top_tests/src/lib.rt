@@ -4,7 +4,11 @@
 #![tactic(auto)]
 
 #[cfg(test)]
+mod looks;
+#[cfg(test)]
 mod memory;
+#[cfg(test)]
+mod messages;
 #[cfg(test)]
 mod reports;
 #[cfg(test)]
