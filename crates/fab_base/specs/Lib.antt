@@ -2,4 +2,3 @@ pub mod Elements
 pub mod Granted
 pub mod Offer
 pub mod Counts
-pub mod Built
