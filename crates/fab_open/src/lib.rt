@@ -13,4 +13,4 @@
 
 mod opening;
 
-pub use opening::{Endpoint, OpenRefused, open};
+pub use opening::{Endpoint, OpenRefused, is_granted, open};

@@ -29,8 +29,8 @@ fn is_within(size: Size, number: u32) -> bool
     limits.least <= number && number <= limits.greatest
 }
 
-/// Whether the numbers are within the limits of the offer, and for so many peers.
-fn is_granted(info: &Info, peers: u32) -> bool
+/// Whether the numbers are within the limits of the offer (fi_getinfo(3)), and for so many peers.
+pub fn is_granted(info: &Info, peers: u32) -> bool
     ensures { result ≡ is_granted info.now peers }
 {
     info.peers == peers

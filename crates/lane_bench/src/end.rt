@@ -7,6 +7,7 @@ ghost use Rattle.fab_link.specs.Meaning.{end_of};
 ghost use Rattle.fab_ring.specs.Ports.{peers_of, out_of};
 
 use fab_base::{Ack, FrameHead, ItemHead, Kind, Outcome};
+use fab_bench::runs::Party;
 use fab_link::Port;
 use fab_ring::RingPort;
 
@@ -81,17 +82,17 @@ impl End {
     {
         End { port, other }
     }
+}
 
-    /// Posts a message of at most 4,096 bytes, and answers whether there was room.
-    pub fn put(&mut self, bytes: &[u8]) -> bool {
+impl Party for End {
+    fn put(&mut self, bytes: &[u8]) -> bool {
         if bytes.len() > 4096 {
             return false;
         }
         post(&mut self.port, self.other, bytes)
     }
 
-    /// Copies the next message, and answers whether there was one.
-    pub fn take(&mut self, into: &mut [u8]) -> bool {
+    fn take(&mut self, into: &mut [u8]) -> bool {
         copy_next(&mut self.port, self.other, into)
     }
 }

@@ -6,21 +6,68 @@
 #![tactic(auto)]
 
 mod end;
-mod runs;
-mod table;
 
 ghost use Rattle.std.specs.Prelude.{IfSome};
 ghost use Rattle.fab_ring.specs.Made.{IsNew, AreNew};
 
 use crate::end::End;
-use crate::runs::{Bytes, Times, first, second};
-use crate::table::print_table;
+use fab_bench::runs::{Bytes, Exchange, Times, first, second};
+use fab_bench::table::print_table;
 use fab_ring::{RingPort, Rings};
 use std::alloc::Global;
 use std::sync::Wait;
 use std::thread::Threads;
 use std::time::Clock;
 use std::{env, io, thread};
+
+/// The most bytes of a message.
+const MOST: usize = 4096;
+
+/// What is measured: ping-pongs, and streams with an acknowledgement of 4 bytes.
+const EXCHANGES: [Exchange; 6] = [
+    Exchange {
+        is_stream: false,
+        len: 1,
+        window: 1,
+        reply: 1,
+        rounds: 1000,
+    },
+    Exchange {
+        is_stream: false,
+        len: 64,
+        window: 1,
+        reply: 64,
+        rounds: 1000,
+    },
+    Exchange {
+        is_stream: false,
+        len: 4096,
+        window: 1,
+        reply: 4096,
+        rounds: 500,
+    },
+    Exchange {
+        is_stream: true,
+        len: 1,
+        window: 16,
+        reply: 4,
+        rounds: 500,
+    },
+    Exchange {
+        is_stream: true,
+        len: 64,
+        window: 16,
+        reply: 4,
+        rounds: 500,
+    },
+    Exchange {
+        is_stream: true,
+        len: 4096,
+        window: 16,
+        reply: 4,
+        rounds: 200,
+    },
+];
 
 /// How many runs of each exchange a measurement has.
 const RUNS: u64 = 200;
@@ -64,12 +111,12 @@ fn measured<R: Clock + Threads + Wait + Sync>(
     };
     let right = End::new(right, 0);
     let left = End::new(left, 1);
-    let mine = Bytes::new(alloc)?;
-    let other = Bytes::new(alloc)?;
+    let mine = Bytes::new(alloc, MOST)?;
+    let other = Bytes::new(alloc, MOST)?;
     let (all, _) = thread::join(
         rt,
-        || -> io::Result<Vec<Times>> { first(rt, alloc, left, mine, runs) },
-        || -> () { second(rt, right, other, runs) },
+        || -> io::Result<Vec<Times>> { first(rt, alloc, left, mine, &EXCHANGES, runs) },
+        || -> () { second(rt, right, other, &EXCHANGES, runs) },
     );
     all
 }
