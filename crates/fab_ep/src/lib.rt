@@ -13,5 +13,6 @@ mod keeping;
 mod looking;
 mod plain;
 mod receiving;
+mod requests;
 pub mod seats;
 mod sending;
