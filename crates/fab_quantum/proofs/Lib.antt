@@ -1,5 +1,6 @@
 pub mod Paths
 pub mod Calling
+pub mod Requesting
 pub mod Idling
 pub mod Showing
 pub mod Turning

@@ -12,11 +12,12 @@ ghost use Rattle.fab_quantum.specs.Turns.{step_of, why_of};
 
 pub mod seats;
 
+use crate::calls::Calls;
 use fab_base::{
     Buf, BytesWord, Entry, Fault, Flags, Kept, Line, LineOp, LineResult, NoMemory, Refused, Step,
     Taken,
 };
-use fab_face::calls::{Logs, Looks, Messages, Progress, Receives};
+use fab_face::calls::Progress;
 use fab_face::events::Event;
 use std::alloc::Global;
 
@@ -24,7 +25,7 @@ use std::alloc::Global;
 ///
 /// The endpoint is open to whoever owns the peer: over a plain port its frames are carried by hand.
 #[derive(Drop)]
-pub struct Peer<E: Messages + Receives + Looks + Progress + Logs> {
+pub struct Peer<E: Calls> {
     pub endpoint: E,
     pub(crate) lines: Vec<Line>,
     pub(crate) results: Vec<LineResult>,
@@ -135,7 +136,7 @@ fn take_kept(kept: &mut Vec<Kept>, ctx: Option<u64>) -> Option<Kept>
 }
 
 /// The bytes of a line's word.
-fn word_bytes(alloc: Global, word: &BytesWord) -> Result<Buf, NoMemory>
+pub(crate) fn word_bytes(alloc: Global, word: &BytesWord) -> Result<Buf, NoMemory>
     ensures { IfOk result (λ b. b ≡ word_bytes word.now) }
 {
     match word {
@@ -159,7 +160,7 @@ fn next_entry<E: Progress>(endpoint: &mut E) -> Option<Taken>
     }
 }
 
-impl<E: Messages + Receives + Looks + Progress + Logs> Peer<E> {
+impl<E: Calls> Peer<E> {
     ghost use Rattle.std.specs.Prelude.{List};
     ghost use Rattle.fab_face.specs.Acts.{Act};
     ghost use Rattle.fab_quantum.specs.Turns.{MovedOn, told, actor_of, drained, is_some_event, ReadOn, IsRead, WentOn, Answered, Lived, IsStill, is_some_act, next_op, Turned, Ended, IsQuiet};
@@ -431,6 +432,10 @@ impl<E: Messages + Receives + Looks + Progress + Logs> Peer<E> {
             | LineOp::Discard { .. }
             | LineOp::Take { .. }
             | LineOp::DropClaimed { .. } => self.do_look(),
+            LineOp::Read { .. } | LineOp::Write { .. } | LineOp::WInject { .. } => self.do_remote(),
+            LineOp::Atomic { .. } | LineOp::Fetch { .. } | LineOp::Compare { .. } => {
+                self.do_atomic()
+            }
             LineOp::Send {
                 ctx,
                 dest,
