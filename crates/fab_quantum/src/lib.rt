@@ -4,6 +4,8 @@
 #![tactic(auto)]
 
 pub mod calls;
+mod keeping;
 mod looks;
 pub mod peer;
+mod regions;
 mod requests;

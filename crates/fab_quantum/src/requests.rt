@@ -156,9 +156,9 @@ impl<E: Calls> Peer<E> {
         ensures { IfOk result (λ o. WentOn (told E.seen self.old) (told E.seen self.new) o.done o.moved) }
     {
         self.endpoint.known();
-        let answer =
-            self.endpoint
-                .fetch_atomic(dest, key, at, op, num, operand.as_slice(), buf, ctx);
+        let answer = self
+            .endpoint
+            .fetch_atomic(dest, key, at, op, num, operand.as_slice(), buf, ctx);
         let why = why_of(answer);
         self.drain()?;
         let done = self.answered(why)?;

@@ -32,7 +32,7 @@ fetch-requires-clause-next g c =
     let operand : l.values ≡ c.in_ok-operand-in-Fetch.operand = sym (c.in_ok-operand-in-Fetch.ensures ∙ c.as_slice-in-Fetch.ensures) in (
       l.count,
       next_by (told g.E.Sees.seen c.args.self.now) c.deref.result.now c.len.result c.in-Some.line.now _ c.deref.ensures.value count (ltb-true _ _ (sym found.0)) found.1 l.is
-      ∙ ap (λ vs. Some (Fetch l.ctx l.dest l.key l.at l.op l.num vs l.count)) operand,
+          ∙ ap (λ vs. Some (Fetch l.ctx l.dest l.key l.at l.op l.num vs l.count)) operand,
       c.in_ok-buf-in-Fetch.ensures ∙ ap (λ n. replicate n 0) c.fetched.ensures,
     )
 
