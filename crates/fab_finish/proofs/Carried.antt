@@ -1,5 +1,5 @@
 -- One frame is carried: it is moved out of one port, and brought to another.
-use Rattle.std.proofs.Common.{◌≡◌, ◌≢◌, ◌<◌, ◌≤◌, ◌+◌, ◌⊎◌, ℕ, zero, suc, List, [], ◌∷◌, ◌++◌, length, length-drop, take, drop, Option, Some, None, inl, inr, refl, sym, ap, subst, ◌∙◌, arith, length-set, get_or}
+use Rattle.std.proofs.Common.{◌≡◌, ◌≢◌, ◌<◌, ◌≤◌, ◌+◌, ◌⊎◌, ℕ, zero, suc, List, [], ◌∷◌, ◌++◌, length, length-drop, take, drop, append_assoc, Option, Some, None, inl, inr, refl, sym, ap, subst, ◌∙◌, arith, length-set, get_or}
 use std.Path.{fun_ext}
 use Rattle.std.specs.Prelude.{slice_get, slice_set}
 use Rattle.std.proofs.lemmas.Bool.{cases_eq}
@@ -7,7 +7,7 @@ use Rattle.std.proofs.lemmas.List.{map-set}
 use Rattle.std.proofs.lemmas.Option.{slice_get_within}
 use Rattle.fab_base.specs.declared.frames.Frame.{Frame}
 use Rattle.fab_base.specs.declared.frames.FrameHead.{FrameHead}
-use Rattle.fab_wire.specs.Frames.{MayCome, last_head}
+use Rattle.fab_wire.specs.Frames.{IsLane, MayCome, last_head}
 use Rattle.fab_wire.proofs.Lanes.{IsLane-at}
 use Rattle.fab_link.specs.Plain.{Lane, Plain, Posted, lane_at, with_lane, left, in_of, out_of}
 use Rattle.fab_link.proofs.Looks.{same_lane, other_lane}
@@ -17,7 +17,7 @@ use Rattle.fab_face.specs.Held.{Held}
 use Rattle.fab_face.specs.Ports.{Whole}
 use Rattle.fab_quantum.specs.Agreed.{Agrees}
 use Rattle.fab_finish.specs.Joined.{Member, member_actor, member_steps, actors, schedules, lane, IsOwn, IsJoined}
-use Rattle.fab_finish.proofs.Joining.{set_itself, lane_is, lane_own, lane_other}
+use Rattle.fab_finish.proofs.Joining.{set_itself, last_behind, lane_is, lane_own, lane_other}
 
 -- ---- lists
 
@@ -30,6 +30,11 @@ take_next {X} m xs x rest e = (let one : m + 1 ≡ suc m = omega arith in ap (λ
     go zero (y ∷ ys) e = let is : y ≡ x = cc in ap (λ (z : X). z ∷ []) is
     go (suc n) [] e = absurd (cc)
     go (suc n) (y ∷ ys) e = ap (λ zs. y ∷ zs) (go n ys e)
+
+-- the frames behind the first ones of a lane
+lane_behind : (before : Option FrameHead) (xs ys : List Frame) → IsLane before (xs ++ ys) → IsLane (last_head before xs) ys
+lane_behind before [] ys lane = lane
+lane_behind before (x ∷ xs) ys lane = lane_behind (Some x.head) xs ys lane.1
 
 first_at : {X : Type 0} (m : ℕ) (xs : List X) (x d : X) (rest : List X) → drop m xs ≡ x ∷ rest → (m < length xs) × (get_or xs m d ≡ x)
 first_at zero [] x d rest e = absurd (cc)
@@ -80,28 +85,28 @@ module _ (ps : List Member) (k : ℕ) (a : Member) (e : Whole Plain) (is_a : sli
   pub kept_schedules : schedules (slice_set ps k (record a { endpoint = e })) ≡ schedules ps
   kept_schedules = map-set member_steps ps k (record a { endpoint = e }) ∙ sym (map-set member_steps ps k a) ∙ ap schedules (set_itself ps k a is_a)
 
-  own_here : IsOwn (length ps) a → ((d : ℕ) → (lane_at e.port d).moved ≤ length (lane_at e.port d).out.frames) → IsOwn (length ps) (record a { endpoint = e })
-  own_here own moved =
-      let taken : (λ s. (in_of a.endpoint.port s).taken) ≡ (λ s. (in_of e.port s).taken) = fun_ext (λ s. sym (keeps.taken s)) in
-      let posted : (λ d. (out_of a.endpoint.port d).frames) ≡ (λ d. (out_of e.port d).frames) = fun_ext (λ d. sym (ap (λ (o : Posted). o.frames) (keeps.out d))) in
+  own_here : (ins outs : ℕ → List Frame) → IsOwn (length ps) ins outs a → ((d : ℕ) → (lane_at e.port d).moved ≤ length (lane_at e.port d).out.frames) → IsOwn (length ps) ins outs (record a { endpoint = e })
+  own_here ins outs own moved =
+      let taken : (λ s. ins s ++ (in_of a.endpoint.port s).taken) ≡ (λ s. ins s ++ (in_of e.port s).taken) = fun_ext (λ s. ap (λ fs. ins s ++ fs) (sym (keeps.taken s))) in
+      let posted : (λ d. outs d ++ (out_of a.endpoint.port d).frames) ≡ (λ d. outs d ++ (out_of e.port d).frames) = fun_ext (λ d. ap (λ (o : Posted). outs d ++ o.frames) (sym (keeps.out d))) in
       record {
         log = ap (λ (x : Whole Plain). x.log) rest ∙ own.log;
         lanes = keeps.lanes ∙ own.lanes;
-        agrees = subst (λ (h : Held). Agrees (length ps) h (λ s. (in_of e.port s).taken) (λ d. (out_of e.port d).frames)) (sym held_is)
-            (subst (λ (t : ℕ → List Frame). Agrees (length ps) a.endpoint.held t (λ d. (out_of e.port d).frames)) taken
-            (subst (λ (o : ℕ → List Frame). Agrees (length ps) a.endpoint.held (λ s. (in_of a.endpoint.port s).taken) o) posted own.agrees));
+        agrees = subst (λ (h : Held). Agrees (length ps) h (λ s. ins s ++ (in_of e.port s).taken) (λ d. outs d ++ (out_of e.port d).frames)) (sym held_is)
+            (subst (λ (t : ℕ → List Frame). Agrees (length ps) a.endpoint.held t (λ d. outs d ++ (out_of e.port d).frames)) taken
+            (subst (λ (o : ℕ → List Frame). Agrees (length ps) a.endpoint.held (λ s. ins s ++ (in_of a.endpoint.port s).taken) o) posted own.agrees));
         moved = moved;
         out_after = λ d. ap (λ (o : Posted). o.after) (keeps.out d) ∙ own.out_after d;
         in_after = λ s. keeps.in_after s ∙ own.in_after s;
       }
 
-  pub kept_own : ((j : ℕ) (p : Member) → slice_get ps j ≡ Some p → IsOwn (length ps) p) → ((d : ℕ) → (lane_at e.port d).moved ≤ length (lane_at e.port d).out.frames)
-      → (j : ℕ) (p : Member) → slice_get (slice_set ps k (record a { endpoint = e })) j ≡ Some p → IsOwn (length (slice_set ps k (record a { endpoint = e }))) p
-  kept_own own moved j p has = subst (λ n. IsOwn n p) (sym (length-set ps k (record a { endpoint = e }))) (elim (cases_eq j k) [
+  pub kept_own : (ins outs : ℕ → ℕ → List Frame) → ((j : ℕ) (p : Member) → slice_get ps j ≡ Some p → IsOwn (length ps) (ins j) (outs j) p) → ((d : ℕ) → (lane_at e.port d).moved ≤ length (lane_at e.port d).out.frames)
+      → (j : ℕ) (p : Member) → slice_get (slice_set ps k (record a { endpoint = e })) j ≡ Some p → IsOwn (length (slice_set ps k (record a { endpoint = e }))) (ins j) (outs j) p
+  kept_own ins outs own moved j p has = subst (λ n. IsOwn n (ins j) (outs j) p) (sym (length-set ps k (record a { endpoint = e }))) (elim (cases_eq j k) [
     | inl here ↦ (
         let is : Some p ≡ Some (record a { endpoint = e }) = sym has ∙ ap (slice_get (slice_set ps k (record a { endpoint = e }))) here ∙ slice_get-set_same ps k (record a { endpoint = e }) below in
         let same : p ≡ record a { endpoint = e } = cc in
-        subst (λ (x : Member). IsOwn (length ps) x) (sym same) (own_here (own k a is_a) moved))
+        subst (λ i. IsOwn (length ps) (ins i) (outs i) p) (sym here) (subst (λ (x : Member). IsOwn (length ps) (ins k) (outs k) x) (sym same) (own_here (ins k) (outs k) (own k a is_a) moved)))
     | inr there ↦ own j p (sym (slice_get-set_other ps k j (record a { endpoint = e }) (λ i. there (sym i))) ∙ has)
   ])
 
@@ -132,6 +137,9 @@ module _ (ps : List Member) (k : ℕ) (a : Member) (e : Whole Plain) (is_a : sli
 -- nothing was left
 pub none_left : (ps : List Member) (from to : ℕ) (a : Member) (e : Whole Plain) → from < length ps → left (lane_at a.endpoint.port to) ≡ [] → e ≡ a.endpoint → left (lane (slice_set ps from (record a { endpoint = e })) from to) ≡ []
 none_left ps from to a e below none same = ap left (lane_own ps from to (record a { endpoint = e }) below) ∙ ap (λ (x : Whole Plain). left (lane_at x.port to)) same ∙ none
+
+pub none_joined : (ps : List Member) (from : ℕ) (a : Member) (e : Whole Plain) → slice_get ps from ≡ Some a → e ≡ a.endpoint → IsJoined ps → IsJoined (slice_set ps from (record a { endpoint = e }))
+none_joined ps from a e is_a same joined_ps = subst (λ (x : Whole Plain). IsJoined (slice_set ps from (record a { endpoint = x }))) (sym same) (subst IsJoined (sym (set_itself ps from a is_a)) joined_ps)
 
 -- ---- both
 
@@ -170,7 +178,7 @@ module _ (ps : List Member) (from to : ℕ) (a q : Member) (e u : Whole Plain) (
   -- the receiver's port has a lane for the sender
   pub wide_q : slice_get (slice_set ps from (record a { endpoint = e })) to ≡ Some q → from < length ps → from < length q.endpoint.port.lanes
   wide_q is_q in_from =
-      let own = kept_own ps from a e is_a rest_out keeps_out joined_ps.own moved_within to q is_q in
+      let own = kept_own ps from a e is_a rest_out keeps_out joined_ps.ins joined_ps.outs joined_ps.own moved_within to q is_q in
       let many : length (slice_set ps from (record a { endpoint = e })) ≡ length ps = length-set ps from (record a { endpoint = e }) in
       omega (arith, in_from, own.lanes, many)
 
@@ -182,14 +190,18 @@ module _ (ps : List Member) (from to : ℕ) (a q : Member) (e u : Whole Plain) (
       let m = (lane_at a.endpoint.port to).moved in
       let frames = (lane_at a.endpoint.port to).out.frames in
       let at = first_at m frames f f (left (lane_at e.port to)) first in
-      let comes : MayCome (last_head None (take m frames)) (get_or frames m f) = IsLane-at None frames m f (own.agrees.cut to in_to) at.0 in
-      let all_own = kept_own ps from a e is_a rest_out keeps_out joined_ps.own moved_within in
-      let came : (lane_at q.endpoint.port from).in_list ≡ take m frames =
-      ap (λ (l : Lane). l.in_list) (sym (lane_is mid to from q is_q)) ∙ lane_field ps from a e is_a rest_out keeps_out to moved_lane wide out (λ (l : Lane). l.in_list) refl to from ∙ joined_ps.came from to
-      ∙ ap (λ (l : Lane). take l.moved l.out.frames) (lane_is ps from to a is_a) in
-      let after : (lane_at q.endpoint.port from).in_after ≡ None = (all_own to q is_q).in_after from in
-      subst (λ (x : Option FrameHead). MayCome (last_head x (lane_at q.endpoint.port from).in_list) f) (sym after)
-      (subst (λ (fs : List Frame). MayCome (last_head None fs) f) (sym came) (subst (λ (x : Frame). MayCome (last_head None (take m frames)) x) at.1 comes))
+      let before = joined_ps.outs from to in
+      let comes : MayCome (last_head (last_head None before) (take m frames)) (get_or frames m f) = IsLane-at (last_head None before) frames m f (lane_behind None before frames (own.agrees.cut to in_to)) at.0 in
+      let all_own = kept_own ps from a e is_a rest_out keeps_out joined_ps.ins joined_ps.outs joined_ps.own moved_within in
+      let came : joined_ps.ins to from ++ (lane_at q.endpoint.port from).in_list ≡ before ++ take m frames =
+      ap (λ (l : Lane). joined_ps.ins to from ++ l.in_list) (sym (lane_is mid to from q is_q))
+      ∙ ap (λ fs. joined_ps.ins to from ++ fs) (lane_field ps from a e is_a rest_out keeps_out to moved_lane wide out (λ (l : Lane). l.in_list) refl to from) ∙ joined_ps.came from to in_to
+      ∙ ap (λ (l : Lane). before ++ take l.moved l.out.frames) (lane_is ps from to a is_a) in
+      let after : (lane_at q.endpoint.port from).in_after ≡ last_head None (joined_ps.ins to from) = (all_own to q is_q).in_after from in
+      let end : last_head (lane_at q.endpoint.port from).in_after (lane_at q.endpoint.port from).in_list ≡ last_head (last_head None before) (take m frames) =
+      ap (λ (x : Option FrameHead). last_head x (lane_at q.endpoint.port from).in_list) after ∙ sym (last_behind None (joined_ps.ins to from) (lane_at q.endpoint.port from).in_list) ∙ ap (last_head None) came
+      ∙ last_behind None before (take m frames) in
+      subst (λ (x : Option FrameHead). MayCome x f) (sym end) (subst (λ (x : Frame). MayCome (last_head (last_head None before) (take m frames)) x) at.1 comes)
 
   module _ (is_q : slice_get (slice_set ps from (record a { endpoint = e })) to ≡ Some q) (rest_in : u ≡ record q.endpoint { port = u.port })
       (brought : u.port ≡ with_lane q.endpoint.port from (record (lane_at q.endpoint.port from) { in_list = (lane_at q.endpoint.port from).in_list ++ f ∷ [] }))
@@ -200,8 +212,8 @@ module _ (ps : List Member) (from to : ℕ) (a q : Member) (e u : Whole Plain) (
     came_lane : Lane
     came_lane = record (lane_at q.endpoint.port from) { in_list = (lane_at q.endpoint.port from).in_list ++ f ∷ [] }
 
-    own_mid : (j : ℕ) (p : Member) → slice_get mid j ≡ Some p → IsOwn (length mid) p
-    own_mid = kept_own ps from a e is_a rest_out keeps_out joined_ps.own moved_within
+    own_mid : (j : ℕ) (p : Member) → slice_get mid j ≡ Some p → IsOwn (length mid) (joined_ps.ins j) (joined_ps.outs j) p
+    own_mid = kept_own ps from a e is_a rest_out keeps_out joined_ps.ins joined_ps.outs joined_ps.own moved_within
 
     wide_in : from < length q.endpoint.port.lanes
     wide_in = let own = own_mid to q is_q in let long : length mid ≡ length ps = length-set ps from (record a { endpoint = e }) in omega (arith, in_from, own.lanes, long)
@@ -269,15 +281,18 @@ module _ (ps : List Member) (from to : ℕ) (a q : Member) (e u : Whole Plain) (
     first_left : drop (lane ps from to).moved (lane ps from to).out.frames ≡ f ∷ left (lane_at e.port to)
     first_left = ap (λ (l : Lane). left l) (lane_is ps from to a is_a) ∙ first
 
-    came_at : (s r : ℕ) → (lane new r s).in_list ≡ take (lane new s r).moved (lane new s r).out.frames
-    came_at s r = elim (cases_eq s from) [
-      | inr other ↦ through s r (inl other)
+    came_at : (s r : ℕ) → r < length ps → joined_ps.ins r s ++ (lane new r s).in_list ≡ joined_ps.outs s r ++ take (lane new s r).moved (lane new s r).out.frames
+    came_at s r within = elim (cases_eq s from) [
+      | inr other ↦ through s r (inl other) within
       | inl is_from ↦ elim (cases_eq r to) [
-        | inr other ↦ through s r (inr other)
-        | inl is_to ↦ subst (λ i. (lane new r i).in_list ≡ take (lane new i r).moved (lane new i r).out.frames) (sym is_from)
-            (subst (λ i. (lane new i from).in_list ≡ take (lane new from i).moved (lane new from i).out.frames) (sym is_to)
-            (in_here ∙ ap (λ fs. fs ++ f ∷ []) (joined_ps.came from to) ∙ sym (take_next (lane ps from to).moved (lane ps from to).out.frames f (left (lane_at e.port to)) first_left)
-            ∙ ap (λ n. take n (lane ps from to).out.frames) (sym moved_here) ∙ ap (λ (o : Posted). take (lane new from to).moved o.frames) (sym (out_all from to))))
+        | inr other ↦ through s r (inr other) within
+        | inl is_to ↦ subst (λ i. joined_ps.ins r i ++ (lane new r i).in_list ≡ joined_ps.outs i r ++ take (lane new i r).moved (lane new i r).out.frames) (sym is_from)
+            (subst (λ i. joined_ps.ins i from ++ (lane new i from).in_list ≡ joined_ps.outs from i ++ take (lane new from i).moved (lane new from i).out.frames) (sym is_to)
+            (ap (λ fs. joined_ps.ins to from ++ fs) in_here ∙ sym (append_assoc (joined_ps.ins to from) (lane ps to from).in_list (f ∷ [])) ∙ ap (λ fs. fs ++ f ∷ []) (joined_ps.came from to in_to)
+            ∙ append_assoc (joined_ps.outs from to) (take (lane ps from to).moved (lane ps from to).out.frames) (f ∷ [])
+            ∙ ap (λ fs. joined_ps.outs from to ++ fs)
+            (sym (take_next (lane ps from to).moved (lane ps from to).out.frames f (left (lane_at e.port to)) first_left)
+            ∙ ap (λ n. take n (lane ps from to).out.frames) (sym moved_here) ∙ ap (λ (o : Posted). take (lane new from to).moved o.frames) (sym (out_all from to)))))
       ]
     ]
       where
@@ -285,15 +300,19 @@ module _ (ps : List Member) (from to : ℕ) (a q : Member) (e u : Whole Plain) (
         swap (inl p) = inr p
         swap (inr q) = inl q
 
-        through : (s r : ℕ) → (s ≢ from) ⊎ (r ≢ to) → (lane new r s).in_list ≡ take (lane new s r).moved (lane new s r).out.frames
-        through s r other =
-            in_there r s (swap other) ∙ joined_ps.came s r ∙ ap (λ n. take n (lane ps s r).out.frames) (sym (moved_there s r other)) ∙ ap (λ (o : Posted). take (lane new s r).moved o.frames) (sym (out_all s r))
+        through : (s r : ℕ) → (s ≢ from) ⊎ (r ≢ to) → r < length ps → joined_ps.ins r s ++ (lane new r s).in_list ≡ joined_ps.outs s r ++ take (lane new s r).moved (lane new s r).out.frames
+        through s r other below =
+            ap (λ fs. joined_ps.ins r s ++ fs) (in_there r s (swap other)) ∙ joined_ps.came s r below
+            ∙ ap (λ fs. joined_ps.outs s r ++ fs) (ap (λ n. take n (lane ps s r).out.frames) (sym (moved_there s r other)) ∙ ap (λ (o : Posted). take (lane new s r).moved o.frames) (sym (out_all s r)))
 
     pub carried_joined : IsJoined new
     carried_joined = record {
+      ins = joined_ps.ins;
+      outs = joined_ps.outs;
+      nobody = λ s r past. joined_ps.nobody s r (omega (arith, past, long_new));
       few = omega (arith, long_new, joined_ps.few);
-      own = kept_own (slice_set ps from (record a { endpoint = e })) to q u is_q rest_in keeps_in own_mid moved_in;
-      came = came_at;
+      own = kept_own (slice_set ps from (record a { endpoint = e })) to q u is_q rest_in keeps_in joined_ps.ins joined_ps.outs own_mid moved_in;
+      came = λ s r below. came_at s r (omega (arith, below, long_new));
     }
 
     pub carried_others : (s r : ℕ) → (s ≢ from) ⊎ (r ≢ to) → left (lane new s r) ≡ left (lane ps s r)

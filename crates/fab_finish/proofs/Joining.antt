@@ -58,9 +58,16 @@ front_same zero xs ys within = refl
 front_same (suc n) [] ys within = absurd (omega (arith, within))
 front_same (suc n) (x ∷ xs) ys within = ap (λ zs. x ∷ zs) (front_same n xs ys (omega (arith, within)))
 
-nothing_of : {X : Type 0} (xs ys : List X) → xs ++ ys ≡ [] → xs ≡ []
-nothing_of [] ys e = refl
-nothing_of (x ∷ xs) ys e = absurd (cc)
+-- a place where no member is lies past the end
+pub none_past : {X : Type 0} (xs : List X) (k : ℕ) → slice_get xs k ≡ None → length xs ≤ k
+none_past [] k none = omega arith
+none_past (x ∷ xs) zero none = absurd (cc)
+none_past (x ∷ xs) (suc k) none = let more = none_past xs k none in omega (arith, more)
+
+-- the head of the last frame, where the first frames stand before the others
+pub last_behind : (before : Option FrameHead) (xs ys : List Frame) → last_head before (xs ++ ys) ≡ last_head (last_head before xs) ys
+last_behind before [] ys = refl
+last_behind before (x ∷ xs) ys = last_behind (Some x.head) xs ys
 
 -- the member that was written is the one found there
 pub same_member : (ps : List Member) (k : ℕ) (b p : Member) (P : Member → Type 0) → k < length ps → slice_get (slice_set ps k b) k ≡ Some p → P b → P p
@@ -115,7 +122,7 @@ module _ (ps : List Member) (k : ℕ) (a b : Member) (acts : List Act) (joined_p
   k_below : k < length ps
   k_below = slice_get_within ps k a is_a
 
-  own_a : IsOwn (length ps) a
+  own_a : IsOwn (length ps) (joined_ps.ins k) (joined_ps.outs k) a
   own_a = joined_ps.own k a is_a
 
   in_same : (s : ℕ) → (lane_at b.endpoint.port s).in_list ≡ (lane_at a.endpoint.port s).in_list
@@ -125,16 +132,20 @@ module _ (ps : List Member) (k : ℕ) (a b : Member) (acts : List Act) (joined_p
   moved_same d = ap (λ (h : PlainHome). h.moved d) turned.ported.home
 
   -- what the peer took and takes is among what was posted to it
-  came_front : (s : ℕ) → (rest : List Frame) × (((in_of a.endpoint.port s).taken ++ taken_of s acts) ++ rest ≡ (lane ps s k).out.frames)
+  came_front : (s : ℕ) → (rest : List Frame) × (((joined_ps.ins k s ++ (in_of a.endpoint.port s).taken) ++ taken_of s acts) ++ rest ≡ joined_ps.outs s k ++ (lane ps s k).out.frames)
   came_front s =
+      let before = joined_ps.ins k s in
       let n = (lane_at b.endpoint.port s).taken in
       let came = (lane_at b.endpoint.port s).in_list in
       let out = (lane ps s k).out.frames in
       let m = (lane ps s k).moved in
-      let first : came ≡ take m out = in_same s ∙ ap (λ (l : Lane). l.in_list) (sym (lane_is ps k s a is_a)) ∙ joined_ps.came s k in (
+      let first : before ++ came ≡ joined_ps.outs s k ++ take m out = ap (λ fs. before ++ fs) (in_same s ∙ ap (λ (l : Lane). l.in_list) (sym (lane_is ps k s a is_a))) ∙ joined_ps.came s k k_below in
+      let taken : (before ++ (in_of a.endpoint.port s).taken) ++ taken_of s acts ≡ before ++ take n came =
+      append_assoc before (in_of a.endpoint.port s).taken (taken_of s acts) ∙ ap (λ fs. before ++ fs) (sym (turned.ported.taken s)) in
+      let whole : (before ++ take n came) ++ drop n came ≡ before ++ came = append_assoc before (take n came) (drop n came) ∙ ap (λ fs. before ++ fs) (take-append-drop n came) in (
         drop n came ++ drop m out,
-        ap (λ fs. fs ++ (drop n came ++ drop m out)) (sym (turned.ported.taken s)) ∙ sym (append_assoc (take n came) (drop n came) (drop m out))
-            ∙ ap (λ fs. fs ++ drop m out) (take-append-drop n came ∙ first) ∙ take-append-drop m out,
+        ap (λ fs. fs ++ (drop n came ++ drop m out)) taken ∙ sym (append_assoc (before ++ take n came) (drop n came) (drop m out)) ∙ ap (λ fs. fs ++ drop m out) (whole ∙ first)
+            ∙ append_assoc (joined_ps.outs s k) (take m out) (drop m out) ∙ ap (λ fs. joined_ps.outs s k ++ fs) (take-append-drop m out),
       )
 
   shown_at : (s : ℕ) → AreFirst (joined_from (begun_of a.endpoint.held s) (taken_of s acts)) (drop (slice_index a.endpoint.held.state.rx.tails s) ((view_of ps k).ready s))
@@ -146,8 +157,8 @@ module _ (ps : List Member) (k : ℕ) (a b : Member) (acts : List Act) (joined_p
       by_sender (Some p) has =
           let own = joined_ps.own s p has in
           let front = came_front s in
-          let out : (lane ps s k).out.frames ≡ (out_of p.endpoint.port k).frames = ap (λ (l : Lane). l.out.frames) (lane_is ps s k p has) in
-          let r = shown_of (accepted_for p.endpoint.held.state.tx k) (slice_index p.endpoint.held.state.tx.sent k) (out_of p.endpoint.port k).frames (in_of a.endpoint.port s).taken (taken_of s acts) front.0
+          let out : joined_ps.outs s k ++ (lane ps s k).out.frames ≡ joined_ps.outs s k ++ (out_of p.endpoint.port k).frames = ap (λ (l : Lane). joined_ps.outs s k ++ l.out.frames) (lane_is ps s k p has) in
+          let r = shown_of (accepted_for p.endpoint.held.state.tx k) (slice_index p.endpoint.held.state.tx.sent k) (joined_ps.outs s k ++ (out_of p.endpoint.port k).frames) (joined_ps.ins k s ++ (in_of a.endpoint.port s).taken) (taken_of s acts) front.0
           (begun_of a.endpoint.held s) (slice_index a.endpoint.held.state.rx.tails s) (own.agrees.cut k k_below) (posted_first (length ps) p.endpoint.held _ _ k own.agrees) (own.agrees.sent k) (front.1 ∙ out)
           (own_a.agrees.begun s) (own_a.agrees.tails s) in (
             subst (λ items. AreFirst (joined_from (begun_of a.endpoint.held s) (taken_of s acts)) (drop (slice_index a.endpoint.held.state.rx.tails s) items)) (sym (ready_is ps k s p has)) r.0,
@@ -155,8 +166,9 @@ module _ (ps : List Member) (k : ℕ) (a b : Member) (acts : List Act) (joined_p
           )
       by_sender None none =
           let front = came_front s in
-          let out : (lane ps s k).out.frames ≡ [] = ap (λ (l : Lane). l.out.frames) (lane_none ps s k none) in
-          let r = shown_of [] 0 [] (in_of a.endpoint.port s).taken (taken_of s acts) front.0
+          let out : joined_ps.outs s k ++ (lane ps s k).out.frames ≡ [] =
+          ap (λ (l : Lane). joined_ps.outs s k ++ l.out.frames) (lane_none ps s k none) ∙ ap (λ fs. fs ++ []) (joined_ps.nobody s k (none_past ps s none)) in
+          let r = shown_of [] 0 [] (joined_ps.ins k s ++ (in_of a.endpoint.port s).taken) (taken_of s acts) front.0
           (begun_of a.endpoint.held s) (slice_index a.endpoint.held.state.rx.tails s) tt ([], refl, tt) refl (front.1 ∙ out) (own_a.agrees.begun s) (own_a.agrees.tails s) in (
             subst (λ items. AreFirst (joined_from (begun_of a.endpoint.held s) (taken_of s acts)) (drop (slice_index a.endpoint.held.state.rx.tails s) items)) (sym (ready_none ps k s none)) r.0,
             (let le = r.1 in omega (arith, le)),
@@ -180,17 +192,21 @@ module _ (ps : List Member) (k : ℕ) (a b : Member) (acts : List Act) (joined_p
       ap (λ xs. slice_set (schedules ps) k (xs ++ steps)) own ∙ ap (slice_set (schedules ps) k) (sym turned.schedule) ∙ sym (map-set member_steps ps k b) in
       subst (λ x. Reached (rule fabric) first x (actors qs)) grown (subst (λ x. Reached (rule fabric) first (slice_set (schedules ps) k (slice_index_or (schedules ps) k [] ++ steps)) x) states more)
 
-  own_b : b.endpoint.log ≡ [] → IsOwn (length ps) b
+  own_b : b.endpoint.log ≡ [] → IsOwn (length ps) (joined_ps.ins k) (joined_ps.outs k) b
   own_b log =
-      let taken : (λ s. (in_of a.endpoint.port s).taken ++ taken_of s acts) ≡ (λ s. (in_of b.endpoint.port s).taken) = fun_ext (λ s. sym (turned.ported.taken s)) in
-      let posted : (λ d. (out_of a.endpoint.port d).frames ++ posted_to d acts) ≡ (λ d. (out_of b.endpoint.port d).frames) = fun_ext (λ d. sym (turned.ported.posted d)) in
-      let agrees = agrees_turned (length ps) (told_of a) (told_of b) acts (λ s. (in_of a.endpoint.port s).taken) (λ d. (out_of a.endpoint.port d).frames) turned own_a.lanes
-      (λ d below. ap (λ (x : Option FrameHead). last_head x (out_of a.endpoint.port d).frames) (own_a.out_after d)) own_a.agrees in
+      let ins = joined_ps.ins k in
+      let outs = joined_ps.outs k in
+      let taken : (λ s. (ins s ++ (in_of a.endpoint.port s).taken) ++ taken_of s acts) ≡ (λ s. ins s ++ (in_of b.endpoint.port s).taken) =
+      fun_ext (λ s. append_assoc (ins s) (in_of a.endpoint.port s).taken (taken_of s acts) ∙ ap (λ fs. ins s ++ fs) (sym (turned.ported.taken s))) in
+      let posted : (λ d. (outs d ++ (out_of a.endpoint.port d).frames) ++ posted_to d acts) ≡ (λ d. outs d ++ (out_of b.endpoint.port d).frames) =
+      fun_ext (λ d. append_assoc (outs d) (out_of a.endpoint.port d).frames (posted_to d acts) ∙ ap (λ fs. outs d ++ fs) (sym (turned.ported.posted d))) in
+      let agrees = agrees_turned (length ps) (told_of a) (told_of b) acts (λ s. ins s ++ (in_of a.endpoint.port s).taken) (λ d. outs d ++ (out_of a.endpoint.port d).frames) turned own_a.lanes
+      (λ d below. ap (λ (x : Option FrameHead). last_head x (out_of a.endpoint.port d).frames) (own_a.out_after d) ∙ sym (last_behind None (outs d) (out_of a.endpoint.port d).frames)) own_a.agrees in
       record {
         log = log;
         lanes = turned.ported.peers ∙ own_a.lanes;
-        agrees = subst (λ (t : ℕ → List Frame). Agrees (length ps) b.endpoint.held t (λ d. (out_of b.endpoint.port d).frames)) taken
-            (subst (λ (o : ℕ → List Frame). Agrees (length ps) b.endpoint.held (λ s. (in_of a.endpoint.port s).taken ++ taken_of s acts) o) posted agrees);
+        agrees = subst (λ (t : ℕ → List Frame). Agrees (length ps) b.endpoint.held t (λ d. outs d ++ (out_of b.endpoint.port d).frames)) taken
+            (subst (λ (o : ℕ → List Frame). Agrees (length ps) b.endpoint.held (λ s. (ins s ++ (in_of a.endpoint.port s).taken) ++ taken_of s acts) o) posted agrees);
         moved = λ d. (
             let same = moved_same d in
             let before = own_a.moved d in
@@ -223,12 +239,18 @@ module _ (ps : List Member) (k : ℕ) (a b : Member) (acts : List Act) (joined_p
   turn_joined log =
       let long : length (slice_set ps k b) ≡ length ps = length-set ps k b in
       record {
+        ins = joined_ps.ins;
+        outs = joined_ps.outs;
+        nobody = λ s r past. joined_ps.nobody s r (omega (arith, past, long));
         few = omega (arith, long, joined_ps.few);
-        own = λ j p has. subst (λ n. IsOwn n p) (sym long) (elim (cases_eq j k) [
-          | inl here ↦ (let is : Some p ≡ Some b = sym has ∙ ap (slice_get (slice_set ps k b)) here ∙ slice_get-set_same ps k b k_below in let same : p ≡ b = cc in subst (λ (x : Member). IsOwn (length ps) x) (sym same) (own_b log))
+        own = λ j p has. subst (λ n. IsOwn n (joined_ps.ins j) (joined_ps.outs j) p) (sym long) (elim (cases_eq j k) [
+          | inl here ↦ (
+              let is : Some p ≡ Some b = sym has ∙ ap (slice_get (slice_set ps k b)) here ∙ slice_get-set_same ps k b k_below in
+              let same : p ≡ b = cc in
+              subst (λ i. IsOwn (length ps) (joined_ps.ins i) (joined_ps.outs i) p) (sym here) (subst (λ (x : Member). IsOwn (length ps) (joined_ps.ins k) (joined_ps.outs k) x) (sym same) (own_b log)))
           | inr there ↦ joined_ps.own j p (sym (slice_get-set_other ps k j b (λ e. there (sym e))) ∙ has)
         ]);
-        came = λ s r. in_kept r s ∙ joined_ps.came s r ∙ sym (out_kept s r);
+        came = λ s r below. ap (λ fs. joined_ps.ins r s ++ fs) (in_kept r s) ∙ joined_ps.came s r (omega (arith, below, long)) ∙ ap (λ fs. joined_ps.outs s r ++ fs) (sym (out_kept s r));
       }
 
 -- both, where the turn succeeded

@@ -22,7 +22,7 @@ use Rattle.fab_model.specs.Orders.{Reached}
 use Rattle.fab_model.specs.Views.{rule}
 use Rattle.fab_finish.specs.Joined.{Member, told_of, member_actor, actors, schedules, lane, IsJoined, GoesOn, IsStill, IsStillAt, AreStill}
 use Rattle.fab_finish.specs.Rests.{Rest}
-use Rattle.fab_finish.proofs.Joining.{lane_is}
+use Rattle.fab_finish.proofs.Joining.{lane_is, none_past}
 
 -- ---- one peer
 
@@ -78,11 +78,6 @@ mapped f [] k y e = absurd (cc)
 mapped f (x ∷ xs) zero y e = (x, refl, cc)
 mapped f (x ∷ xs) (suc k) y e = mapped f xs k y e
 
-none_past : {X : Type 0} (xs : List X) (k : ℕ) → slice_get xs k ≡ None → length xs ≤ k
-none_past [] k none = omega arith
-none_past (x ∷ xs) zero none = absurd (cc)
-none_past (x ∷ xs) (suc k) none = let more = none_past xs k none in omega (arith, more)
-
 no_item : (h : Held) (d : ℕ) → next_frame h d ≡ None → next_item h.state d ≡ None
 no_item h d none = by_item (next_item h.state d) refl none
   where
@@ -102,7 +97,7 @@ module _ (ps : List Member) (joined_ps : IsJoined ps) (still : AreStill ps) wher
       omega (arith, past, within)
 
   -- all that was posted is taken
-  taken_all : (p s : ℕ) (a b : Member) → slice_get ps p ≡ Some a → slice_get ps s ≡ Some b → (in_of a.endpoint.port s).taken ≡ (out_of b.endpoint.port p).frames
+  taken_all : (p s : ℕ) (a b : Member) → slice_get ps p ≡ Some a → slice_get ps s ≡ Some b → joined_ps.ins p s ++ (in_of a.endpoint.port s).taken ≡ joined_ps.outs s p ++ (out_of b.endpoint.port p).frames
   taken_all p s a b ha hb =
       let own = joined_ps.own p a ha in
       let in_s : s < length ps = slice_get_within ps s b hb in
@@ -111,7 +106,7 @@ module _ (ps : List Member) (joined_ps : IsJoined ps) (still : AreStill ps) wher
       let gone : drop (lane ps s p).moved (lane ps s p).out.frames ≡ [] = still.carried s p in_s in_p in
       let all : take (lane ps s p).moved (lane ps s p).out.frames ≡ (lane ps s p).out.frames =
       sym (append-nil _) ∙ ap (λ fs. take (lane ps s p).moved (lane ps s p).out.frames ++ fs) (sym gone) ∙ take-append-drop (lane ps s p).moved (lane ps s p).out.frames in
-      took ∙ ap (λ (l : Lane). l.in_list) (sym (lane_is ps p s a ha)) ∙ joined_ps.came s p ∙ all ∙ ap (λ (l : Lane). l.out.frames) (lane_is ps s p b hb)
+      ap (λ fs. joined_ps.ins p s ++ fs) (took ∙ ap (λ (l : Lane). l.in_list) (sym (lane_is ps p s a ha))) ∙ joined_ps.came s p in_p ∙ ap (λ fs. joined_ps.outs s p ++ fs) (all ∙ ap (λ (l : Lane). l.out.frames) (lane_is ps s p b hb))
 
   whole_all : (p s : ℕ) (a b : Member) → slice_get ps p ≡ Some a → slice_get ps s ≡ Some b → slice_index a.endpoint.held.state.rx.tails s ≡ length (accepted_for b.endpoint.held.state.tx p)
   whole_all p s a b ha hb =

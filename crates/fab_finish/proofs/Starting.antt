@@ -117,7 +117,7 @@ pub record Opened (conf : Conf) (lists : List (List Line)) (n : ℕ) (ps : List 
   pub count : length ps ≡ n
   pub actors_are : actors ps ≡ map (first_actor conf lists) (upto n)
   pub schedules_are : schedules ps ≡ replicate n []
-  pub own : (k : ℕ) (p : Member) → slice_get ps k ≡ Some p → IsOwn conf.peers p × ((d : ℕ) → lane_at p.endpoint.port d ≡ fresh_lane None None)
+  pub own : (k : ℕ) (p : Member) → slice_get ps k ≡ Some p → IsOwn conf.peers (λ s. []) (λ d. []) p × ((d : ℕ) → lane_at p.endpoint.port d ≡ fresh_lane None None)
 
 pub opened_none : (conf : Conf) (lists : List (List Line)) → Opened conf lists 0 []
 opened_none conf lists = record { count = refl; actors_are = refl; schedules_are = refl; own = λ k p has. absurd (cc) }
@@ -146,7 +146,7 @@ opened_more conf lists n ps p lines opened at is =
           map-append member_steps ps (p ∷ []) ∙ ap (λ xs. xs ++ member_steps p ∷ []) opened.schedules_are ∙ ap (λ x. replicate n [] ++ x ∷ []) at.steps_are ∙ replicate-more n [] ∙ ap (λ m. replicate m []) (sym one);
       own = λ k q has. elim (get_push ps p q k has) [
         | inl before ↦ opened.own k q before
-        | inr same ↦ subst (λ (x : Member). IsOwn conf.peers x × ((d : ℕ) → lane_at x.endpoint.port d ≡ fresh_lane None None)) same (at.own, at.lanes)
+        | inr same ↦ subst (λ (x : Member). IsOwn conf.peers (λ s. []) (λ d. []) x × ((d : ℕ) → lane_at x.endpoint.port d ≡ fresh_lane None None)) same (at.own, at.lanes)
       ];
     }
 
@@ -177,9 +177,12 @@ module _ (conf : Conf) (lists : List (List Line)) (ps : List Member) (few : conf
   pub opens : Opens conf lists ps
   opens = record {
     joined = record {
+      ins = λ r s. [];
+      outs = λ s r. [];
+      nobody = λ s r past. refl;
       few = (let c = all.count in omega (arith, few, c));
-      own = λ k p has. subst (λ n. IsOwn n p) (sym all.count) (all.own k p has).0;
-      came = λ s r. rw (fresh_lanes s r, fresh_lanes r s) refl;
+      own = λ k p has. subst (λ n. IsOwn n (λ s. []) (λ d. []) p) (sym all.count) (all.own k p has).0;
+      came = λ s r below. rw (fresh_lanes s r, fresh_lanes r s) refl;
     };
     actors_are = all.actors_are;
     schedules_are = all.schedules_are ∙ ap (λ n. replicate n []) (sym all.count);

@@ -1,17 +1,19 @@
 -- All peers over plain ports: what is on its way between them is what was posted and not yet taken.
 --     Member            a peer over a plain port, as contracts see it
 --     lane ps k d       the lane of peer k to and from peer d
---     IsJoined ps       of each pair, what came to the one is the first of what the other posted; and each peer holds what its frames say
+--     IsJoined ps       of each pair, what the one took and what came to it is the first of what the other posted; and each peer holds what its frames say
 --     GoesOn ps qs      what led to the one leads to the other
 --     Ends ps qs        the same of what began with some lines
 --     opened conf lists each peer at the start of its lines
 --     Opens conf lists ps     the peers stand there
 --     AreStill ps       no peer can do anything, and nothing is left to be carried
-use Rattle.std.specs.Prelude.{◌≡◌, ℕ, ◌<◌, ◌≤◌, ◌^◌, false, List, [], map, length, take, Some, None, replicate, slice_get, slice_index_or}
+use Rattle.std.specs.Prelude.{◌≡◌, ℕ, ◌<◌, ◌≤◌, ◌^◌, false, List, [], ◌++◌, map, length, take, Some, None, replicate, slice_get, slice_index_or}
 use Rattle.std.specs.Option.{option_map_or}
+use Rattle.fab_base.specs.declared.frames.Frame.{Frame}
 use Rattle.fab_base.specs.declared.peers.Step.{Step}
 use Rattle.fab_base.specs.declared.script.Conf.{Conf}
 use Rattle.fab_base.specs.declared.script.Line.{Line}
+use Rattle.fab_wire.specs.Frames.{last_head}
 use Rattle.fab_link.specs.Plain.{Lane, Plain, PlainHome, fresh_lane, lane_at, left, out_of, in_of, home_of}
 use Rattle.fab_model.specs.Calls.{upto}
 use Rattle.fab_model.specs.Orders.{Reached}
@@ -68,20 +70,25 @@ schedules ps = map member_steps ps
 abbrev pub lane : List Member → ℕ → ℕ → Lane
 lane ps k d = option_map_or (λ (p : Member). lane_at p.endpoint.port d) (slice_get ps k) (fresh_lane None None)
 
--- of one peer among so many: its log is empty, and it holds what the frames of its port say
-pub record IsOwn (n : ℕ) (p : Member) : Type 0 where
+-- Of one peer among so many, which took these frames and posted these before it had its port: its log is empty, its port goes on behind them, and it holds what all its frames say.
+pub record IsOwn (n : ℕ) (ins outs : ℕ → List Frame) (p : Member) : Type 0 where
   pub log : p.endpoint.log ≡ []
   pub lanes : length p.endpoint.port.lanes ≡ n
-  pub agrees : Agrees n p.endpoint.held (λ s. (in_of p.endpoint.port s).taken) (λ d. (out_of p.endpoint.port d).frames)
+  pub agrees : Agrees n p.endpoint.held (λ s. ins s ++ (in_of p.endpoint.port s).taken) (λ d. outs d ++ (out_of p.endpoint.port d).frames)
   pub moved : (d : ℕ) → (lane_at p.endpoint.port d).moved ≤ length (lane_at p.endpoint.port d).out.frames
-  pub out_after : (d : ℕ) → (lane_at p.endpoint.port d).out.after ≡ None
-  pub in_after : (s : ℕ) → (lane_at p.endpoint.port s).in_after ≡ None
+  pub out_after : (d : ℕ) → (lane_at p.endpoint.port d).out.after ≡ last_head None (outs d)
+  pub in_after : (s : ℕ) → (lane_at p.endpoint.port s).in_after ≡ last_head None (ins s)
 
 pub record IsJoined (ps : List Member) : Type 0 where
+  -- what each peer took of each, and posted to each, before it had its port
+  pub ins : ℕ → ℕ → List Frame
+  pub outs : ℕ → ℕ → List Frame
+  -- a peer that is not there posted nothing
+  pub nobody : (s r : ℕ) → length ps ≤ s → outs s r ≡ []
   pub few : length ps < 2 ^ 32
-  pub own : (k : ℕ) (p : Member) → slice_get ps k ≡ Some p → IsOwn (length ps) p
-  -- what came is the first of what was posted: as much as was moved out
-  pub came : (s r : ℕ) → (lane ps r s).in_list ≡ take (lane ps s r).moved (lane ps s r).out.frames
+  pub own : (k : ℕ) (p : Member) → slice_get ps k ≡ Some p → IsOwn (length ps) (ins k) (outs k) p
+  -- what was taken before, and what came, is the first of what was posted: all from before, and as much as was moved out
+  pub came : (s r : ℕ) → r < length ps → ins r s ++ (lane ps r s).in_list ≡ outs s r ++ take (lane ps s r).moved (lane ps s r).out.frames
 
 -- ---- orders of turns
 
@@ -100,12 +107,12 @@ Ends ps qs =
 abbrev pub start : Conf → Held
 start conf = record { state = fresh conf; places = replicate conf.peers 0; begun = replicate conf.peers None; multis = [] }
 
--- a peer of these lines at their start, over a fresh port
+-- a peer of these lines at their start, over a fresh port, which posted and took nothing
 pub record OpensAt (conf : Conf) (lines : List Line) (p : Member) : Type 0 where
   pub actor_is : member_actor p ≡ newly conf lines
   pub steps_are : member_steps p ≡ []
   pub lanes : (d : ℕ) → lane_at p.endpoint.port d ≡ fresh_lane None None
-  pub own : IsOwn conf.peers p
+  pub own : IsOwn conf.peers (λ s. []) (λ d. []) p
 
 pub record Opens (conf : Conf) (lists : List (List Line)) (ps : List Member) : Type 0 where
   pub joined : IsJoined ps

@@ -10,8 +10,8 @@ use fab_link::PlainPort;
 use fab_quantum::peer::Peer;
 use std::alloc::Global;
 
-/// Takes the first list, or an empty one where there is none.
-fn take_first(alloc: Global, lists: &mut Vec<Vec<Line>>) -> Vec<Line>
+/// Takes the first list, or an empty one where there is none. It takes no memory.
+pub fn take_first(alloc: Global, lists: &mut Vec<Vec<Line>>) -> Vec<Line>
     ensures first { result.items ≡ slice_index_or (map (λ l. l.items) lists.old.items) 0 [] }
     ensures rest { lists.new.items ≡ drop 1 lists.old.items }
 {

@@ -1,7 +1,17 @@
 use Rattle.std.proofs.Common.{◌<◌, slice_index_or, slice_set, length, length-set, arith}
 use Rattle.fab_finish.proofs.Joining.{got}
-use Rattle.fab_finish.proofs.Carried.{none_left, wide_q, may_come, carried_joined, carried_actors, carried_schedules, carried_others, carried_one}
+use Rattle.fab_finish.proofs.Carried.{none_left, none_joined, wide_q, may_come, carried_joined, carried_actors, carried_schedules, carried_others, carried_one}
 use Rattle.fab_finish.proofs.carrying.carry_one.Goals as goal
+
+pub take_out-requires : goal.take_out-requires
+take_out-requires g c =
+    let own = c.requires.joined.own c.args.from (slice_index_or c.args.peers.now c.args.from c.index-peers-from.result) (got c.args.peers.now c.args.from c.index-peers-from.result c.requires.from) in
+    omega (arith, c.requires.to, own.lanes)
+
+pub returns-in_default-clause-joined : goal.returns-in_default-clause-joined
+returns-in_default-clause-joined g c =
+    let a = slice_index_or c.args.peers.now c.args.from c.index-peers-from.result in
+    none_joined c.args.peers.now c.args.from a c.take_out.new.self (got c.args.peers.now c.args.from c.index-peers-from.result c.requires.from) c.in_default.ensures.none.1 c.requires.joined
 
 pub returns-in_default-clause-none : goal.returns-in_default-clause-none
 returns-in_default-clause-none g c e =
