@@ -8,6 +8,6 @@
 //! ```
 #![tactic(auto)]
 
-mod endpoints;
+mod opening;
 
-pub use endpoints::{RingEndpoint, endpoints};
+pub use opening::{RingEndpoint, endpoints};

@@ -13,7 +13,7 @@ const COMPLETES: Flags = Flags {
 };
 
 /// The endpoints of a domain with these sizes, with all that is on offer.
-fn opened(
+pub(crate) fn opened(
     alloc: Global,
     peers: u32,
     lane: u32,

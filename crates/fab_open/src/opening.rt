@@ -15,6 +15,7 @@ use std::alloc::Global;
 pub type Endpoint<P> = fab_ep::endpoint::Endpoint<P, Core<BinMatcher>>;
 
 /// Why an endpoint was not opened, with what it was to be opened over.
+#[derive(Drop)]
 pub struct OpenRefused<P: Port> {
     pub why: Fault,
     pub port: P,

@@ -1,5 +1,5 @@
 //! All endpoints of a domain are opened.
-ghost use Rattle.std.specs.Prelude.{◌≡◌, ◌×◌, ◌++◌, [], length, map, true, IfOk, IfErr};
+ghost use Rattle.std.specs.Prelude.{◌≡◌, ◌++◌, [], length, map, true, IfOk, IfErr};
 ghost use Rattle.std.specs.List.{All};
 ghost use Rattle.fab_face.specs.Ports.{is_granted};
 ghost use Rattle.fab_open.specs.Opening.{why_not};
