@@ -34,6 +34,7 @@ pub fn start<P: Port + Drop, C: Looking + Drop>(
       schedule = [];
     }) }
     ensures failed { IfOk result (λ r. r.failed ≡ false) }
+    ensures port { IfOk result (λ r. r.peer.endpoint.port ≡ port) }
 {
     match Endpoint::over(alloc, port, machine, log_size) {
         Ok(endpoint) => Ok(Runner::new(Peer::new(alloc, endpoint, lines))),
