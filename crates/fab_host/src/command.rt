@@ -5,8 +5,9 @@ ghost use Rattle.std.specs.Vec.Iter.{into_iter_items};
 ghost use Rattle.fab_base.specs.Counts.{Rose};
 ghost use Rattle.fab_base.specs.declared.status.Status.TheVariants.{Done, Stuck, Usage, ScriptRefused, TooLong, ReadFault, WriteFault};
 ghost use Rattle.fab_base.specs.declared.status.Why.{Why};
-ghost use Rattle.fab_top.specs.Commands.{script_file, IsNoCommand};
-ghost use Rattle.fab_top.specs.Runs.{IsRefused, IsTooLong, Writes, WritesPart, Tells, TellsPart, IsSilent};
+ghost use Rattle.fab_top.specs.Commands.{IsNoCommand};
+ghost use Rattle.fab_top.specs.Loading.{IsOver};
+ghost use Rattle.fab_top.specs.Runs.{AskFor, IsRefused, Writes, WritesPart, Tells, TellsPart, IsSilent};
 ghost use Rattle.fab_host.specs.Ending.{status_number, IsTold, HasAnswered, HasReported};
 
 use crate::adapters::{FileDepot, OpenGate, OutSink, WallClock};
@@ -46,8 +47,8 @@ where
     requires { C.given clock.old ≡ 0 }
     ensures usage { (result.status ≡ Usage) ↔ IsNoCommand words.now }
     ensures refused { (line : ℕ) (why : Why) → result.status ≡ ScriptRefused line why → IsRefused (D.files depot.old) words.now line why }
-    ensures too_long { (name : List ℕ) → result.status ≡ TooLong name → IsTooLong (D.files depot.old) words.now name }
-    ensures read_fault { (name : List ℕ) → result.status ≡ ReadFault name → (script_file words.now ≡ Some name)
+    ensures too_long { (name : List ℕ) → result.status ≡ TooLong name → AskFor (D.files depot.old) words.now name × IsOver (D.files depot.old) name }
+    ensures read_fault { (name : List ℕ) → result.status ≡ ReadFault name → AskFor (D.files depot.old) words.now name
         × Rose (D.faults depot.old) (D.faults depot.new) × (D.failed_name depot.new ≡ Some name) }
     ensures done { result.status ≡ Done → Writes (D.files depot.old) words.now true (S.bytes sink.old) (S.bytes sink.new)
         ⊎ Tells words.now (S.bytes sink.old) (S.bytes sink.new) }

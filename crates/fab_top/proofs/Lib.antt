@@ -4,3 +4,4 @@ pub mod Parts
 pub mod Bounding
 pub mod Telling
 pub mod Offered
+pub mod Loads

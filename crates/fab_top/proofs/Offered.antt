@@ -1,5 +1,5 @@
 -- The text of what is granted, piece by piece.
-use Rattle.std.proofs.Common.{◌≡◌, ◌<◌, ◌+◌, ℕ, true, false, cond, List, [], ◌∷◌, ◌++◌, map, filter, length, drop, get_or, sym, ap, ◌∙◌, append_assoc, Result, Ok}
+use Rattle.std.proofs.Common.{◌≡◌, ◌<◌, ◌+◌, ℕ, true, false, cond, List, [], ◌∷◌, ◌++◌, map, filter, length, drop, get_or, sym, ap, ◌∙◌, append_assoc}
 use Rattle.std.proofs.lemmas.List.{append-nil, drop_more}
 use Rattle.fab_base.specs.Granted.{has}
 use Rattle.fab_base.specs.declared.caps.Cap.{Cap}

@@ -4,4 +4,5 @@ pub mod Texts
 pub mod Commands
 pub mod Info
 pub mod Memory
+pub mod Loading
 pub mod Runs

@@ -7,9 +7,10 @@ ghost use Rattle.fab_model.specs.Calls.{upto};
 ghost use Rattle.fab_model.specs.Replay.{lines_of};
 ghost use Rattle.fab_base.specs.Counts.{Rose};
 ghost use Rattle.fab_model.specs.Negotiation.{grant};
-ghost use Rattle.fab_top.specs.Commands.{script_file, info_hints, IsNoCommand};
+ghost use Rattle.fab_top.specs.Commands.{IsNoCommand};
 ghost use Rattle.fab_top.specs.Info.{info_text};
-ghost use Rattle.fab_top.specs.Runs.{Reports, IsRead, IsUnread, IsRefused, IsTooLong, Writes, WritesPart, Tells, TellsPart, TellsOffer, IsSilent, WritesReport};
+ghost use Rattle.fab_top.specs.Loading.{IsOver};
+ghost use Rattle.fab_top.specs.Runs.{Reports, AskFor, IsRefused, Writes, WritesPart, Tells, TellsPart, TellsOffer, IsSilent, WritesReport};
 
 use crate::commands::{info_hints, script_file};
 use crate::info::info_text;
@@ -90,8 +91,8 @@ fn tell_offer<S: Sink>(alloc: Global, sink: &mut S, hints: Option<Hints>) -> Sta
     }
 }
 
-/// Carries out the command that these words are. `script FILE` loads the file, runs the peers of the script
-/// that it spells, and writes their report. `info CAPS` writes what is granted (fi_getinfo(3)) to whoever asks for
+/// Carries out the command that these words are. `script FILE` loads the file and the payload files of the script
+/// that it spells, in the order of their lines, runs the script's peers, and writes their report. `info CAPS` writes what is granted (fi_getinfo(3)) to whoever asks for
 /// these capabilities, whose names are joined by commas, or has no hints where CAPS is `-`.
 ///
 /// The report is that of one lawful schedule, the one that its own trace lines tell: in some order of
@@ -117,8 +118,8 @@ where
     requires { C.given _clock.old ≡ 0 }
     ensures usage { (result ≡ Usage) ↔ IsNoCommand words.now }
     ensures refused { (line : ℕ) (why : Why) → result ≡ ScriptRefused line why → IsRefused (D.files depot.old) words.now line why }
-    ensures too_long { (name : List ℕ) → result ≡ TooLong name → IsTooLong (D.files depot.old) words.now name }
-    ensures read_fault { (name : List ℕ) → result ≡ ReadFault name → (script_file words.now ≡ Some name)
+    ensures too_long { (name : List ℕ) → result ≡ TooLong name → AskFor (D.files depot.old) words.now name × IsOver (D.files depot.old) name }
+    ensures read_fault { (name : List ℕ) → result ≡ ReadFault name → AskFor (D.files depot.old) words.now name
         × Rose (D.faults depot.old) (D.faults depot.new) × (D.failed_name depot.new ≡ Some name) }
     ensures done { result ≡ Done → Writes (D.files depot.old) words.now true (S.bytes sink.old) (S.bytes sink.new)
         ⊎ Tells words.now (S.bytes sink.old) (S.bytes sink.new) }

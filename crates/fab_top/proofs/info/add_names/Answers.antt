@@ -1,4 +1,4 @@
-use Rattle.std.proofs.Common.{◌≡◌, ◌+◌, ◌++◌, true, false, drop, get_or, string_bytes, sym, ap, ◌∙◌, arith}
+use Rattle.std.proofs.Common.{◌≡◌, ◌+◌, ◌++◌, true, false, drop, get_or, string_bytes, sym, ap, ◌∙◌}
 use Rattle.fab_base.specs.Granted.{has}
 use Rattle.fab_base.specs.declared.caps.Cap.TheVariants.{Msg}
 use Rattle.fab_grammar.specs.Capabilities.{cap_name}
