@@ -2,15 +2,15 @@
 --     status_number status     the exit status
 --     line_of_end status       the line on standard error, with its line feed
 --     IsTold .. status         that line was written, or the writing failed
---     HasReported done         what stands behind the exit statuses 0 and 1
-use Rattle.std.specs.Prelude.{◌≡◌, ℕ, ◌⊎◌, Bool, List, [], ◌∷◌, ◌++◌, codes, decimal, Option, None}
+--     HasAnswered, HasReported what stands behind the exit statuses 0 and 1
+use Rattle.std.specs.Prelude.{◌≡◌, ℕ, ◌⊎◌, true, false, List, [], ◌∷◌, ◌++◌, codes, decimal, Option, None}
 use Rattle.std.specs.Io.KnownBytes.{append_known}
 use Rattle.fab_base.specs.Counts.{Rose}
 use Rattle.fab_base.specs.declared.status.Status.{Status}
 use Rattle.fab_base.specs.declared.status.Status.TheVariants.{Done, Stuck, Usage, ScriptRefused, TooLong, ReadFault, WriteFault, NoMemory}
 use Rattle.fab_base.specs.declared.status.Why.{Why}
 use Rattle.fab_base.specs.declared.status.Why.TheVariants.{NotText, Header, Verb, Unbuilt, Order, Twice, Words, Number, Peer, Limit, NoData, Missing, FileRange}
-use Rattle.fab_top.specs.Runs.{Writes}
+use Rattle.fab_top.specs.Runs.{Writes, Tells}
 
 abbrev pub status_number : Status → ℕ
 status_number Done = 0
@@ -40,7 +40,7 @@ why_name FileRange = codes "FileRange"
 abbrev pub line_of_end : Status → List ℕ
 line_of_end Done = []
 line_of_end Stuck = []
-line_of_end Usage = codes "usage: fabric_pingpong script FILE" ++ 10 ∷ []
+line_of_end Usage = codes "usage: fabric_pingpong script FILE | info CAPS" ++ 10 ∷ []
 line_of_end (ScriptRefused line why) = codes "script refused at line " ++ decimal line ++ codes ": " ++ why_name why ++ 10 ∷ []
 line_of_end (TooLong name) = codes "too long: " ++ name ++ 10 ∷ []
 line_of_end (ReadFault name) = codes "read fault: " ++ name ++ 10 ∷ []
@@ -51,6 +51,10 @@ line_of_end NoMemory = codes "out of memory" ++ 10 ∷ []
 abbrev pub IsTold : Option (List ℕ) → Option (List ℕ) → ℕ → ℕ → Status → Type 0
 IsTold before after faults faults' status = (after ≡ append_known before (line_of_end status)) ⊎ Rose faults faults'
 
--- Some words name a script, and the report of a lawful run of it was written. The files and the output of the system tell no bytes.
-abbrev pub HasReported : Bool → Type 0
-HasReported done = (words : List (List ℕ)) × Writes None words done None None
+-- Some words name a script, and the report of a lawful run of it that did all lines was written; or some words ask what is granted, and this was written. The files and the output of the system tell no bytes.
+abbrev pub HasAnswered : Type 0
+HasAnswered = (words : List (List ℕ)) × (Writes None words true None None ⊎ Tells words None None)
+
+-- Some words name a script, and the report of a lawful run of it that left a line was written.
+abbrev pub HasReported : Type 0
+HasReported = (words : List (List ℕ)) × Writes None words false None None

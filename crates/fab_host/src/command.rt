@@ -1,12 +1,14 @@
 //! One run of the program, from the words of its command line to its exit status.
-ghost use Rattle.std.specs.Prelude.{◌≡◌, ◌<◌, ◌≤◌, ◌↔◌, ℕ, List, true, false, None, Some, IfOk, map, drop, length, string_bytes};
+ghost use Rattle.std.specs.Prelude.{◌≡◌, ◌<◌, ◌≤◌, ◌↔◌, ◌⊎◌, ℕ, List, true, false, None, Some, IfOk, map, drop, length, string_bytes};
 ghost use Rattle.std.specs.Process.{exit_status};
 ghost use Rattle.std.specs.Vec.Iter.{into_iter_items};
 ghost use Rattle.fab_base.specs.Counts.{Rose};
 ghost use Rattle.fab_base.specs.declared.status.Status.TheVariants.{Done, Stuck, Usage, ScriptRefused, TooLong, ReadFault, WriteFault};
 ghost use Rattle.fab_base.specs.declared.status.Why.{Why};
-ghost use Rattle.fab_top.specs.Runs.{command_of, IsRefused, IsTooLong, Writes, WritesPart, IsSilent};
-ghost use Rattle.fab_host.specs.Ending.{status_number, IsTold, HasReported};
+ghost use Rattle.fab_top.specs.Commands.{IsNoCommand};
+ghost use Rattle.fab_top.specs.Loading.{IsOver};
+ghost use Rattle.fab_top.specs.Runs.{AskFor, IsRefused, Writes, WritesPart, Tells, TellsPart, IsSilent};
+ghost use Rattle.fab_host.specs.Ending.{status_number, IsTold, HasAnswered, HasReported};
 
 use crate::adapters::{FileDepot, OpenGate, OutSink, WallClock};
 use crate::ending::end;
@@ -28,8 +30,8 @@ pub struct Ended {
     pub code: ExitCode,
 }
 
-/// Runs the command that these words are, as [`run`] does, and tells its end: the exit status is the
-/// number of the status, and `errors` gets its line, unless the whole report was written.
+/// Carries out the command that these words are, as [`run`] does, and tells its end: the exit status is the
+/// number of the status, and `errors` gets its line, unless the whole text was written.
 pub fn carry_out<R, D: Depot, S: Sink, C: Clock, G: Gate, E: Sink>(
     rt: &R,
     alloc: Global,
@@ -43,15 +45,17 @@ pub fn carry_out<R, D: Depot, S: Sink, C: Clock, G: Gate, E: Sink>(
 where
     R: Threads + Wait + Sync,
     requires { C.given clock.old ≡ 0 }
-    ensures usage { (result.status ≡ Usage) ↔ (command_of words.now ≡ None) }
+    ensures usage { (result.status ≡ Usage) ↔ IsNoCommand words.now }
     ensures refused { (line : ℕ) (why : Why) → result.status ≡ ScriptRefused line why → IsRefused (D.files depot.old) words.now line why }
-    ensures too_long { (name : List ℕ) → result.status ≡ TooLong name → IsTooLong (D.files depot.old) words.now name }
-    ensures read_fault { (name : List ℕ) → result.status ≡ ReadFault name → (command_of words.now ≡ Some name)
+    ensures too_long { (name : List ℕ) → result.status ≡ TooLong name → AskFor (D.files depot.old) words.now name × IsOver (D.files depot.old) name }
+    ensures read_fault { (name : List ℕ) → result.status ≡ ReadFault name → AskFor (D.files depot.old) words.now name
         × Rose (D.faults depot.old) (D.faults depot.new) × (D.failed_name depot.new ≡ Some name) }
-    ensures done { result.status ≡ Done → Writes (D.files depot.old) words.now true (S.bytes sink.old) (S.bytes sink.new) }
+    ensures done { result.status ≡ Done → Writes (D.files depot.old) words.now true (S.bytes sink.old) (S.bytes sink.new)
+        ⊎ Tells words.now (S.bytes sink.old) (S.bytes sink.new) }
     ensures stuck { result.status ≡ Stuck → Writes (D.files depot.old) words.now false (S.bytes sink.old) (S.bytes sink.new) }
     ensures write_fault { result.status ≡ WriteFault → Rose (S.faults sink.old) (S.faults sink.new)
-        × WritesPart (D.files depot.old) words.now (S.bytes sink.old) (S.bytes sink.new) }
+        × (WritesPart (D.files depot.old) words.now (S.bytes sink.old) (S.bytes sink.new)
+            ⊎ TellsPart words.now (S.bytes sink.old) (S.bytes sink.new)) }
     ensures silent { IsSilent result.status → S.bytes sink.new ≡ S.bytes sink.old }
     ensures files { D.files depot.new ≡ D.files depot.old }
 
@@ -64,16 +68,16 @@ where
     Ended { status, code }
 }
 
-/// Runs the command that the words of the command line are. The report goes to standard output; an end without
-/// one is told in one line on standard error, which is `errors`, and the exit status tells which it is.
+/// Carries out the command that the words of the command line are. Its text goes to standard output; an end
+/// without one is told in one line on standard error, which is `errors`, and the exit status tells which it is.
 ///
 /// No contract can say which words, files and bytes the system gives and takes. The exit status is 0 or 1 only
-/// where a script was run and its report was written.
+/// where a script was run and its report was written, or 0 where what is granted was asked for and written.
 pub fn program<R, E: Write + Drop>(rt: &R, errors: E) -> ExitCode
 where
     R: Env + Files + rt::Clock + Print + AllocGlobal + Threads + Wait + Sync,
-    ensures done { exit_status result ≡ 0 → HasReported true }
-    ensures stuck { exit_status result ≡ 1 → HasReported false }
+    ensures done { exit_status result ≡ 0 → HasAnswered }
+    ensures stuck { exit_status result ≡ 1 → HasReported }
     ensures few { exit_status result ≤ 7 }
 {
     let mut errors = OutSink::new(errors);

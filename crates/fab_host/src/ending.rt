@@ -9,7 +9,7 @@ use fab_base::{Status, Why};
 use fab_top::{Failed, Sink, write_all};
 use std::process::ExitCode;
 
-/// Tells the end on one line, unless the whole report was written, and gives the exit status. Where
+/// Tells the end on one line, unless the whole text was written, and gives the exit status. Where
 /// the line can't be written, the exit status stays.
 pub fn end<E: Sink>(errors: &mut E, status: &Status) -> ExitCode
     ensures code { exit_status result ≡ status_number status.now }
@@ -35,14 +35,14 @@ fn number_of(status: &Status) -> u8
     }
 }
 
-/// One line, unless the whole report was written. Takes no memory, so that want of it can be told.
+/// One line, unless the whole text was written. Takes no memory, so that want of it can be told.
 fn tell<E: Sink>(errors: &mut E, status: &Status) -> Result<(), Failed>
     ensures ok { OnOk result (E.bytes errors.new ≡ append_known (E.bytes errors.old) (line_of_end status.now)) }
     ensures failed { OnErr result (Rose (E.faults errors.old) (E.faults errors.new)) }
 {
     match status {
         Status::Done | Status::Stuck => Ok(()),
-        Status::Usage => tell_named(errors, "usage: ", "fabric_pingpong script FILE"),
+        Status::Usage => tell_named(errors, "usage: ", "fabric_pingpong script FILE | info CAPS"),
         Status::ScriptRefused { line, why } => tell_refused(errors, *line, *why),
         Status::TooLong { name } => tell_named(errors, "too long: ", name.as_str()),
         Status::ReadFault { name } => tell_named(errors, "read fault: ", name.as_str()),

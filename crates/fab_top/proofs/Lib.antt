@@ -3,3 +3,5 @@ pub mod Pieces
 pub mod Parts
 pub mod Bounding
 pub mod Telling
+pub mod Offered
+pub mod Loads

@@ -1,36 +1,24 @@
 -- What a run of a command does.
---     command_of words        the file that is to be run, where the words are `script FILE`
---     alone script            a script that has no payload files
 --     Reports bound text      the text is the report of the lawful schedule that its trace lines tell, and at its end the peers are at rest
---     IsRead, IsUnread        what was loaded is a script, or why it is none
---     IsRefused, IsTooLong    the words name a file that spells no script, or is too long
+--     AskFor files words name the words lead to this file
+--     IsRefused ..            the words name a file that is refused as a script
 --     Writes, WritesPart      the report is written, or a part of it
-use Rattle.std.specs.Prelude.{◌≡◌, ℕ, ◌<◌, ◌≤◌, Bool, true, List, [], ◌∷◌, length, take, bytes_eq, codes, Option, Some, None, if◌then◌else◌}
+--     Tells, TellsPart        what is granted is written, or a part of it
+use Rattle.std.specs.Prelude.{◌≡◌, ℕ, ◌<◌, Bool, true, List, length, take, Option, Some}
 use Rattle.std.specs.Io.KnownBytes.{append_known}
 use Rattle.std.specs.List.{list_all}
+use Rattle.fab_base.specs.declared.caps.Hints.{Hints}
 use Rattle.fab_base.specs.declared.script.Bound.{Bound}
-use Rattle.fab_base.specs.declared.script.Script.{Script}
 use Rattle.fab_base.specs.declared.status.Status.{Status}
-use Rattle.fab_base.specs.declared.status.Status.TheVariants.{Done, Stuck, Usage, ScriptRefused, TooLong, ReadFault, WriteFault, NoMemory}
+use Rattle.fab_base.specs.declared.status.Status.TheVariants.{Done, Stuck, WriteFault, NoMemory}
 use Rattle.fab_base.specs.declared.status.Why.{Why}
+use Rattle.fab_model.specs.Negotiation.{grant}
 use Rattle.fab_model.specs.Peers.{Actor}
 use Rattle.fab_model.specs.Replay.{Lawful, replayed, at_rest, all_done, is_empty}
 use Rattle.fab_model.specs.Report.{report, traces}
-use Rattle.fab_grammar.specs.Grammar.{script_of, refusal_of}
-use Rattle.fab_top.specs.Outside.{IsFile, BeginsFile}
-use Rattle.fab_base.specs.Counts.{Rose}
-
--- the greatest length of a script, in bytes
-abbrev pub script_max : ℕ
-script_max = 67108864
-
--- `script FILE`
-abbrev pub command_of : List (List ℕ) → Option (List ℕ)
-command_of (verb ∷ file ∷ []) = if bytes_eq verb (codes "script") then Some file else None
-command_of _ = None
-
-abbrev pub alone : Script → Bound
-alone script = record { script = script; files = [] }
+use Rattle.fab_top.specs.Commands.{script_file, info_hints}
+use Rattle.fab_top.specs.Info.{info_text}
+use Rattle.fab_top.specs.Loading.{Files, IsRead, IsWrong, LeadsTo}
 
 -- no receive of any peer is posted
 abbrev pub nothing_posted : List Actor → Bool
@@ -44,52 +32,50 @@ pub record Reports (bound : Bound) (text : List ℕ) (done : Bool) : Type 0 wher
   pub done_is : all_done (replayed bound (traces text)).states ≡ done
   pub cleared : done ≡ true → nothing_posted (replayed bound (traces text)).states ≡ true
 
--- the file, if files are told, is within the limit and in the grammar: it spells this script
-abbrev pub IsRead : Option (List ℕ → Option (List ℕ)) → List ℕ → Script → Type 0
-IsRead files name script = (bytes : List ℕ) × IsFile files name bytes × (length bytes ≤ script_max) × (script_of bytes ≡ Some script)
+-- the words name a script, and this is its file or one of its payload files, which the order of checks comes to
+abbrev pub AskFor : Files → List (List ℕ) → List ℕ → Type 0
+AskFor files words name = (file : List ℕ) × (script_file words ≡ Some file) × LeadsTo files file name
 
--- why there is no script
-abbrev pub IsUnread : Option (List ℕ → Option (List ℕ)) → List ℕ → ℕ → ℕ → Option (List ℕ) → Status → Type 0
-IsUnread files name faults faults' failed (ScriptRefused line why) = (bytes : List ℕ) × IsFile files name bytes × (length bytes ≤ script_max) × (refusal_of bytes ≡ Some (line, why))
-IsUnread files name faults faults' failed (TooLong file) = (file ≡ name) × (bytes : List ℕ) × BeginsFile files name bytes × (script_max < length bytes)
-IsUnread files name faults faults' failed (ReadFault file) = (file ≡ name) × Rose faults faults' × (failed ≡ Some name)
-IsUnread files name faults faults' failed NoMemory = Unit {0}
-IsUnread files name faults faults' failed Done = ⊥
-IsUnread files name faults faults' failed Stuck = ⊥
-IsUnread files name faults faults' failed Usage = ⊥
-IsUnread files name faults faults' failed WriteFault = ⊥
+-- the words name a file that spells no script, or a script of which a line names bytes that are not there: this is the first such line, and the first rule that it breaks
+abbrev pub IsRefused : Files → List (List ℕ) → ℕ → Why → Type 0
+IsRefused files words line why = (file : List ℕ) × (script_file words ≡ Some file) × IsWrong files file line why
 
--- the words name a file that is no script: this is the first line that breaks a rule, and the first rule that it breaks
-abbrev pub IsRefused : Option (List ℕ → Option (List ℕ)) → List (List ℕ) → ℕ → Why → Type 0
-IsRefused files words line why = (name : List ℕ) × (command_of words ≡ Some name)
-    × ((bytes : List ℕ) × IsFile files name bytes × (length bytes ≤ script_max) × (refusal_of bytes ≡ Some (line, why)))
-
--- the words name this file, and it is too long for a script
-abbrev pub IsTooLong : Option (List ℕ → Option (List ℕ)) → List (List ℕ) → List ℕ → Type 0
-IsTooLong files words name = (command_of words ≡ Some name) × ((bytes : List ℕ) × BeginsFile files name bytes × (script_max < length bytes))
-
--- the words name a file that spells a script, and a report of it is written
-pub record Writes (files : Option (List ℕ → Option (List ℕ))) (words : List (List ℕ)) (done : Bool) (before after : Option (List ℕ)) : Type 0 where
-  pub name : List ℕ
-  pub command : command_of words ≡ Some name
-  pub script : Script
-  pub read : IsRead files name script
+-- the words name a file that spells a script, and a report of this script with its payload files is written
+pub record Writes (files : Files) (words : List (List ℕ)) (done : Bool) (before after : Option (List ℕ)) : Type 0 where
+  pub file : List ℕ
+  pub command : script_file words ≡ Some file
+  pub bound : Bound
+  pub read : IsRead files file bound
   pub text : List ℕ
-  pub reports : Reports (alone script) text done
+  pub reports : Reports bound text done
   pub written : after ≡ append_known before text
 
 -- the same, of which only the first bytes are written
-pub record WritesPart (files : Option (List ℕ → Option (List ℕ))) (words : List (List ℕ)) (before after : Option (List ℕ)) : Type 0 where
-  pub name : List ℕ
-  pub command : command_of words ≡ Some name
-  pub script : Script
-  pub read : IsRead files name script
+pub record WritesPart (files : Files) (words : List (List ℕ)) (before after : Option (List ℕ)) : Type 0 where
+  pub file : List ℕ
+  pub command : script_file words ≡ Some file
+  pub bound : Bound
+  pub read : IsRead files file bound
   pub text : List ℕ
   pub done : Bool
-  pub reports : Reports (alone script) text done
+  pub reports : Reports bound text done
   pub some : ℕ
   pub fewer : some < length text
   pub written : after ≡ append_known before (take some text)
+
+-- the words ask what is granted, and the answer is written
+pub record Tells (words : List (List ℕ)) (before after : Option (List ℕ)) : Type 0 where
+  pub hints : Option Hints
+  pub command : info_hints words ≡ Some hints
+  pub written : after ≡ append_known before (info_text (grant hints))
+
+-- the same, of which only the first bytes are written
+pub record TellsPart (words : List (List ℕ)) (before after : Option (List ℕ)) : Type 0 where
+  pub hints : Option Hints
+  pub command : info_hints words ≡ Some hints
+  pub some : ℕ
+  pub fewer : some < length (info_text (grant hints))
+  pub written : after ≡ append_known before (take some (info_text (grant hints)))
 
 -- the statuses at which a report is written, or a part of one
 abbrev pub WritesReport : Status → Type 0
@@ -97,6 +83,13 @@ WritesReport Done = Unit {0}
 WritesReport Stuck = Unit {0}
 WritesReport WriteFault = Unit {0}
 WritesReport status = ⊥
+
+-- the statuses at which what is granted is written, or a part of it, or memory is wanting
+abbrev pub TellsOffer : Status → Type 0
+TellsOffer Done = Unit {0}
+TellsOffer WriteFault = Unit {0}
+TellsOffer NoMemory = Unit {0}
+TellsOffer status = ⊥
 
 -- the statuses at which nothing is written
 abbrev pub IsSilent : Status → Type 0

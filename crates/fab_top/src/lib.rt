@@ -1,4 +1,5 @@
-//! The top of the library: one call that runs a script from its file to its report.
+//! The top of the library: one call that carries out a command: it runs a script from its file to its report, or
+//! tells what the provider grants.
 //!
 //! What lies outside the program is handed in as three traits: a [`Depot`] gives files, a [`Sink`]
 //! takes the text, a [`Clock`] tells the time. Each tells what it did in ghost members, among them a
@@ -9,6 +10,8 @@
 //! text of a report.
 #![tactic(auto)]
 
+mod commands;
+mod info;
 mod loading;
 mod memory;
 mod outside;

@@ -1,53 +1,87 @@
-//! A script from its file.
-ghost use Rattle.std.specs.Prelude.{◌≡◌, ◌≤◌, [], None, IfOk, IfErr};
-ghost use Rattle.fab_script.specs.Bound.{outside};
-ghost use Rattle.fab_top.specs.Runs.{alone, IsRead, IsUnread};
+//! A script and its payload files, loaded and put together.
+ghost use Rattle.std.specs.Prelude.{◌≡◌, ◌≤◌, Some, IfOk, IfErr};
+ghost use Rattle.fab_grammar.specs.Grammar.{script_of};
+ghost use Rattle.fab_top.specs.Loading.{AreUnloaded, AreWhole, IsRead, IsUnloaded, IsUnread, IsUnspelt, IsWhole};
+ghost use Rattle.fab_top.specs.Refused.{end_of};
 
 use crate::outside::{Depot, LoadRefused};
-use fab_base::{Bound, Script, Status, Text};
+use fab_base::{Bound, Buf, Payload, Script, Status, Text};
 use fab_script::{ParseRefused, bind, parse};
 use std::alloc::Global;
 
-/// The greatest length of a script, in bytes.
-const SCRIPT_MAX: u64 = 67_108_864;
+/// The greatest length of a file, in bytes.
+const FILE_MAX: u64 = 67_108_864;
 
-/// A script that has no payload files, bound.
-fn bind_alone(alloc: Global, script: Script) -> Bound
-    requires alone { script.payloads ≡ [] }
-    requires inside { outside script [] ≡ None }
-    ensures { result ≡ alone script }
+/// The file of this name, or how the run ends.
+fn load_file<D: Depot>(alloc: Global, depot: &mut D, name: &Text) -> Result<Buf, Status>
+    ensures files { D.files depot.new ≡ D.files depot.old }
+    ensures never_falls { D.faults depot.old ≤ D.faults depot.new }
+    ensures ok { IfOk result (λ bytes. IsWhole (D.files depot.old) name.now bytes) }
+    ensures err { IfErr result (λ status. IsUnloaded (D.files depot.old) name.now (D.faults depot.old) (D.faults depot.new) (D.failed_name depot.new) status) }
 {
-    let Ok(bound) = bind(script, Vec::new(alloc)) else {
-        unreachable!()
+    let refused = match depot.load(alloc, name, FILE_MAX) {
+        Ok(bytes) => return Ok(bytes),
+        Err(refused) => refused,
     };
-    bound
+    let Ok(name) = name.clone() else {
+        return Err(Status::NoMemory);
+    };
+    Err(match refused {
+        LoadRefused::Failed => Status::ReadFault { name },
+        LoadRefused::TooLong(_) => Status::TooLong { name },
+        LoadRefused::NoMemory => Status::NoMemory,
+    })
 }
 
-/// Loads the file of this name, reads the script that it spells and binds it, or says how the run ends. All
-/// lines of a script that is read are ones that the program carries out; it has no payload files yet.
+/// The files of these `payload` lines, in their order, or how the run ends at the first that is not loaded.
+fn load_payloads<D: Depot>(
+    alloc: Global,
+    depot: &mut D,
+    payloads: &[Payload],
+) -> Result<Vec<Buf>, Status>
+    ensures files { D.files depot.new ≡ D.files depot.old }
+    ensures ok { IfOk result (λ all. AreWhole (D.files depot.old) payloads.now all.items) }
+    ensures err { IfErr result (λ status. AreUnloaded (D.files depot.old) payloads.now (D.faults depot.old) (D.faults depot.new) (D.failed_name depot.new) status) }
+{
+    let mut files = Vec::new(alloc);
+    for payload in payloads {
+        let file = load_file(alloc, depot, &payload.name)?;
+        let Ok(()) = files.push(file) else {
+            return Err(Status::NoMemory);
+        };
+    }
+    Ok(files)
+}
+
+/// How the run ends where the script is refused so.
+fn status_of(refused: ParseRefused) -> Status
+    ensures { result ≡ end_of refused }
+{
+    match refused {
+        ParseRefused::Script { line, why } => Status::ScriptRefused { line, why },
+        ParseRefused::NoMemory => Status::NoMemory,
+    }
+}
+
+/// The script that these bytes spell, or how the run ends.
+fn read_script(alloc: Global, bytes: &[u8]) -> Result<Script, Status>
+    ensures ok { IfOk result (λ script. script_of bytes.now ≡ Some script) }
+    ensures sized { IfOk result (λ script. (2 ≤ script.conf.info.cq) × (4 ≤ script.conf.info.log)) }
+    ensures err { IfErr result (λ status. IsUnspelt bytes.now status) }
+{
+    parse(alloc, bytes).map_err(status_of)
+}
+
+/// Loads the file of this name and reads the script that it spells, loads its payload files and binds it, or says
+/// how the run ends.
 pub fn load_script<D: Depot>(alloc: Global, depot: &mut D, name: &Text) -> Result<Bound, Status>
     ensures files { D.files depot.new ≡ D.files depot.old }
-    ensures ok { IfOk result (λ bound. IsRead (D.files depot.old) name.now bound.script) }
-    ensures alone { IfOk result (λ bound. bound ≡ alone bound.script) }
+    ensures ok { IfOk result (λ bound. IsRead (D.files depot.old) name.now bound) }
     ensures sized { IfOk result (λ bound. (2 ≤ bound.script.conf.info.cq) × (4 ≤ bound.script.conf.info.log)) }
     ensures err { IfErr result (λ status. IsUnread (D.files depot.old) name.now (D.faults depot.old) (D.faults depot.new) (D.failed_name depot.new) status) }
 {
-    let bytes = match depot.load(alloc, name, SCRIPT_MAX) {
-        Ok(bytes) => bytes,
-        Err(refused) => {
-            let Ok(name) = name.clone() else {
-                return Err(Status::NoMemory);
-            };
-            return Err(match refused {
-                LoadRefused::Failed => Status::ReadFault { name },
-                LoadRefused::TooLong(_) => Status::TooLong { name },
-                LoadRefused::NoMemory => Status::NoMemory,
-            });
-        }
-    };
-    match parse(alloc, bytes.as_slice()) {
-        Ok(script) => Ok(bind_alone(alloc, script)),
-        Err(ParseRefused::Script { line, why }) => Err(Status::ScriptRefused { line, why }),
-        Err(ParseRefused::NoMemory) => Err(Status::NoMemory),
-    }
+    let bytes = load_file(alloc, depot, name)?;
+    let script = read_script(alloc, bytes.as_slice())?;
+    let files = load_payloads(alloc, depot, script.payloads.as_slice())?;
+    bind(script, files).map_err(status_of)
 }

@@ -1,35 +1,31 @@
 //! The top call: a command from its words to its report.
-ghost use Rattle.std.specs.Prelude.{◌≡◌, ◌<◌, ◌≤◌, ◌↔◌, ℕ, List, true, false, None, Some, IfOk, string_bytes, option_map, length, map, take};
+ghost use Rattle.std.specs.Prelude.{◌≡◌, ◌<◌, ◌≤◌, ◌↔◌, ◌⊎◌, ℕ, List, true, false, None, Some, IfOk, string_bytes, length, map, take};
 ghost use Rattle.std.specs.Io.KnownBytes.{append_known};
 ghost use Rattle.fab_base.specs.declared.status.Status.TheVariants.{Done, Stuck, Usage, ScriptRefused, TooLong, ReadFault, WriteFault};
 ghost use Rattle.fab_base.specs.declared.status.Why.{Why};
 ghost use Rattle.fab_model.specs.Calls.{upto};
 ghost use Rattle.fab_model.specs.Replay.{lines_of};
 ghost use Rattle.fab_base.specs.Counts.{Rose};
-ghost use Rattle.fab_top.specs.Runs.{command_of, Reports, IsRead, IsUnread, IsRefused, IsTooLong, Writes, WritesPart, IsSilent, WritesReport};
+ghost use Rattle.fab_model.specs.Negotiation.{grant};
+ghost use Rattle.fab_top.specs.Commands.{IsNoCommand};
+ghost use Rattle.fab_top.specs.Info.{info_text};
+ghost use Rattle.fab_top.specs.Loading.{IsOver};
+ghost use Rattle.fab_top.specs.Runs.{Reports, AskFor, IsRefused, Writes, WritesPart, Tells, TellsPart, TellsOffer, IsSilent, WritesReport};
 
+use crate::commands::{info_hints, script_file};
+use crate::info::info_text;
 use crate::loading::load_script;
 use crate::outside::{Clock, Depot, Failed, Sink};
 use crate::whole::{all_done, report};
 use crate::writing::write_all;
-use fab_base::{Bound, Gate, Line, NoMemory, Status, Text};
+use fab_base::{Bound, Gate, Hints, Line, NoMemory, Status, Text};
 use fab_peer::run_peers;
 use fab_script::lines;
 use std::alloc::Global;
 use std::sync::Wait;
 use std::thread::Threads;
 
-/// The file that is to be run, where the words are `script FILE`.
-fn command(words: &[Text]) -> Option<&Text>
-    ensures { option_map (λ file. file.now) result ≡ command_of words.now }
-{
-    if words.len() != 2 || words[0].as_str() != "script" {
-        return None;
-    }
-    Some(&words[1])
-}
-
-/// What a script leads to.
+/// What a command leads to.
 #[derive(Drop)]
 struct Ran {
     text: String,
@@ -61,8 +57,8 @@ fn run_script(alloc: Global, bound: &Bound) -> Result<Ran, NoMemory>
     })
 }
 
-/// Writes the report, and says how the run ends.
-fn write_report<S: Sink>(sink: &mut S, ran: &Ran) -> Status
+/// Writes the text, and says how the command ends.
+fn write_text<S: Sink>(sink: &mut S, ran: &Ran) -> Status
     ensures done { result ≡ Done → (ran.now.done ≡ true) × (S.bytes sink.new ≡ append_known (S.bytes sink.old) (string_bytes ran.now.text)) }
     ensures stuck { result ≡ Stuck → (ran.now.done ≡ false) × (S.bytes sink.new ≡ append_known (S.bytes sink.old) (string_bytes ran.now.text)) }
     ensures write_fault { result ≡ WriteFault → Rose (S.faults sink.old) (S.faults sink.new)
@@ -81,15 +77,30 @@ fn write_report<S: Sink>(sink: &mut S, ran: &Ran) -> Status
     }
 }
 
-/// Runs the command that these words are: `script FILE` loads the file, runs the peers of the script
-/// that it spells, and writes their report.
+/// Writes what these hints are granted, and says how the command ends.
+fn tell_offer<S: Sink>(alloc: Global, sink: &mut S, hints: Option<Hints>) -> Status
+    ensures done { result ≡ Done → S.bytes sink.new ≡ append_known (S.bytes sink.old) (info_text (grant hints)) }
+    ensures write_fault { result ≡ WriteFault → Rose (S.faults sink.old) (S.faults sink.new)
+        × ((n : ℕ) × (n < length (info_text (grant hints))) × (S.bytes sink.new ≡ append_known (S.bytes sink.old) (take n (info_text (grant hints))))) }
+    ensures silent { IsSilent result → S.bytes sink.new ≡ S.bytes sink.old }
+    ensures ends { TellsOffer result }
+{
+    match info_text(alloc, hints.as_ref()) {
+        Ok(text) => write_text(sink, &Ran { text, done: true }),
+        Err(NoMemory) => Status::NoMemory,
+    }
+}
+
+/// Carries out the command that these words are. `script FILE` loads the file and the payload files of the script
+/// that it spells, in the order of their lines, runs the script's peers, and writes their report. `info CAPS` writes what is granted (fi_getinfo(3)) to whoever asks for
+/// these capabilities, whose names are joined by commas, or has no hints where CAPS is `-`.
 ///
 /// The report is that of one lawful schedule, the one that its own trace lines tell: in some order of
 /// turns the peers' steps led from the script's opening to the states that it reports. In these the
 /// peers are at rest: nothing is on its way, no completion is unread, and no line can be done. At `Done`
 /// all lines are done, and no receive is posted any more; at `Stuck` some line is not done. At
-/// `WriteFault` the first bytes of such a report are written, and at every other status none. The files
-/// stay as they are. `ScriptRefused` names the first line that breaks a rule of the language, and the
+/// `WriteFault` the first bytes of such a report are written, and at every other status none. `info` ends at
+/// `Done`, also where nothing is granted, `WriteFault` or `NoMemory`. The files stay as they are. `ScriptRefused` names the first line that breaks a rule of the language, and the
 /// first rule that it breaks. `NoMemory` may come before anything is written.
 ///
 /// The clock must be new: it has given no moment.
@@ -105,19 +116,24 @@ pub fn run<R, D: Depot, S: Sink, C: Clock, G: Gate>(
 where
     R: Threads + Wait + Sync,
     requires { C.given _clock.old ≡ 0 }
-    ensures usage { (result ≡ Usage) ↔ (command_of words.now ≡ None) }
+    ensures usage { (result ≡ Usage) ↔ IsNoCommand words.now }
     ensures refused { (line : ℕ) (why : Why) → result ≡ ScriptRefused line why → IsRefused (D.files depot.old) words.now line why }
-    ensures too_long { (name : List ℕ) → result ≡ TooLong name → IsTooLong (D.files depot.old) words.now name }
-    ensures read_fault { (name : List ℕ) → result ≡ ReadFault name → (command_of words.now ≡ Some name)
+    ensures too_long { (name : List ℕ) → result ≡ TooLong name → AskFor (D.files depot.old) words.now name × IsOver (D.files depot.old) name }
+    ensures read_fault { (name : List ℕ) → result ≡ ReadFault name → AskFor (D.files depot.old) words.now name
         × Rose (D.faults depot.old) (D.faults depot.new) × (D.failed_name depot.new ≡ Some name) }
-    ensures done { result ≡ Done → Writes (D.files depot.old) words.now true (S.bytes sink.old) (S.bytes sink.new) }
+    ensures done { result ≡ Done → Writes (D.files depot.old) words.now true (S.bytes sink.old) (S.bytes sink.new)
+        ⊎ Tells words.now (S.bytes sink.old) (S.bytes sink.new) }
     ensures stuck { result ≡ Stuck → Writes (D.files depot.old) words.now false (S.bytes sink.old) (S.bytes sink.new) }
     ensures write_fault { result ≡ WriteFault → Rose (S.faults sink.old) (S.faults sink.new)
-        × WritesPart (D.files depot.old) words.now (S.bytes sink.old) (S.bytes sink.new) }
+        × (WritesPart (D.files depot.old) words.now (S.bytes sink.old) (S.bytes sink.new)
+        ⊎ TellsPart words.now (S.bytes sink.old) (S.bytes sink.new)) }
     ensures silent { IsSilent result → S.bytes sink.new ≡ S.bytes sink.old }
     ensures files { D.files depot.new ≡ D.files depot.old }
 {
-    let Some(name) = command(words) else {
+    if let Some(hints) = info_hints(words) {
+        return tell_offer(alloc, sink, hints);
+    }
+    let Some(name) = script_file(words) else {
         return Status::Usage;
     };
     let bound = match load_script(alloc, depot, name) {
@@ -125,7 +141,7 @@ where
         Err(status) => return status,
     };
     match run_script(alloc, &bound) {
-        Ok(ran) => write_report(sink, &ran),
+        Ok(ran) => write_text(sink, &ran),
         Err(NoMemory) => Status::NoMemory,
     }
 }

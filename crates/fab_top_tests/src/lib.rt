@@ -1,8 +1,10 @@
-//! Tests of `fab_top`: whole runs over memory, the text of reports, and the outside over memory.
+//! Tests of `fab_top`: whole runs over memory, what is granted, the text of reports, and the outside over memory.
 //!
 //! They stand in a crate of their own, so that `fab_top` isn't proved twice.
 #![tactic(auto)]
 
+#[cfg(test)]
+mod info;
 #[cfg(test)]
 mod looks;
 #[cfg(test)]

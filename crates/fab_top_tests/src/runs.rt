@@ -180,12 +180,12 @@ fn depot_of(alloc: Global, bytes: Buf, failing: &[u64]) -> Result<MemoryDepot, F
 }
 
 /// An output that takes up to 1,000 bytes at a call.
-fn sink_of(alloc: Global) -> MemorySink {
+pub(crate) fn sink_of(alloc: Global) -> MemorySink {
     MemorySink::new(alloc, 1000, Vec::new(alloc))
 }
 
 /// These words.
-fn texts_of(alloc: Global, words: &[&str]) -> Result<Vec<Text>, Fail> {
+pub(crate) fn texts_of(alloc: Global, words: &[&str]) -> Result<Vec<Text>, Fail> {
     let mut texts = Vec::new(alloc);
     for word in words {
         texts.push(Text::copy(alloc, word)?)?;
@@ -194,7 +194,7 @@ fn texts_of(alloc: Global, words: &[&str]) -> Result<Vec<Text>, Fail> {
 }
 
 /// How the command of these words ends.
-fn end_of<R: Threads + Wait + Sync>(
+pub(crate) fn end_of<R: Threads + Wait + Sync>(
     rt: &R,
     alloc: Global,
     words: &[Text],
@@ -289,12 +289,17 @@ fn is_no_command<R: Abort + Threads + Wait + Sync>(
 
 #[test]
 fn other_words_are_no_command(rt: HostRuntime) -> Result<(), Fail> {
-    let rows: [&[&str]; 5] = [
+    let rows: [&[&str]; 10] = [
         &[],
         &["pingpong", "f", "4096", "0"],
         &["script"],
         &["scripts", "it"],
         &["script", "it", "it"],
+        &["info"],
+        &["info", ""],
+        &["info", "FI_MSG,"],
+        &["info", "FI_MSG FI_SEND"],
+        &["info", "FI_MSG", "FI_SEND"],
     ];
     for words in rows {
         is_no_command(&rt, rt.alloc(), words)?;
