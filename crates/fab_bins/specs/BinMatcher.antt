@@ -15,7 +15,7 @@ pairs cards = map (λ card. (card.id, card.item)) cards
 pub record IsBinned (m : Inside) : Type 0 where
   pub posted : IsKept m.posted
   pub posted_heads : 0 < m.posted.near.heads
-  pub posted_wide : 0 < m.posted.wide.heads
+  pub posted_wide : m.posted.wide.heads ≡ 0
   pub posted_ids : HasDistinctIds (pairs (cards m.posted))
   pub posted_bins : Each (IsFiledByWant m.posted.near.heads) (cards m.posted)
   -- no more are posted than there is room for, and the room is there

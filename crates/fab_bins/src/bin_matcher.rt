@@ -119,7 +119,7 @@ impl Matcher for BinMatcher {
 
     fn new(alloc: Global, rx: u32) -> Result<BinMatcher, NoMemory> {
         let heads = rx.max(LEAST_HEADS);
-        let posted = Shelf::new(alloc, heads, 1, rx as usize)?;
+        let posted = Shelf::new(alloc, heads, 0, rx as usize)?;
         let unexpected = Shelf::new(alloc, heads, heads, 0)?;
         Ok(BinMatcher {
             posted,

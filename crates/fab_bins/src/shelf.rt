@@ -24,7 +24,7 @@ pub struct Card<X> {
     pub number: u64,
     /// The bin of the first kind, which for a message is the narrower one.
     pub near: u32,
-    /// The bin of the second kind.
+    /// The bin of the second kind, where the shelf has any.
     pub wide: u32,
 }
 
@@ -38,7 +38,7 @@ pub trait Test<X> {
 }
 
 /// Cards in the order in which they came. Each stands in a chain of all, in one with those whose ids
-/// have its hash, and in one for each of its two bins.
+/// have its hash, and in one for each of its two bins. A shelf may have no bins of the second kind.
 #[derive(Drop)]
 pub struct Shelf<X: Drop> {
     pub cards: Slab<Card<X>>,
@@ -224,7 +224,7 @@ impl<X: Copy + Drop> Shelf<X> {
         requires kept { IsKept self.old }
         requires room { HasRoom self.old }
         requires near { card.near < self.old.near.heads }
-        requires wide { card.wide < self.old.wide.heads }
+        requires wide { 0 < self.old.wide.heads → card.wide < self.old.wide.heads }
         ensures kept { IsKept self.new }
         ensures added { cards self.new ≡ cards self.old ++ card ∷ [] }
         ensures ready { IsReady self.old → IsReady self.new }

@@ -28,7 +28,7 @@ invariant_of-self c =
     record {
       posted = c.add.ensures.kept;
       posted_heads = subst (λ n. 0 < n) (sym c.add.ensures.near) c.self.invariant.posted_heads;
-      posted_wide = subst (λ n. 0 < n) (sym c.add.ensures.wide) c.self.invariant.posted_wide;
+      posted_wide = c.add.ensures.wide ∙ c.self.invariant.posted_wide;
       posted_ids = subst HasDistinctIds (sym more) (HasDistinctIds-push (pairs (cards c.self.inside.posted)) c.args.id c.args.want c.self.invariant.posted_ids new);
       posted_bins = subst (λ n. Each (IsFiledByWant n) (cards c.add.new.self)) (sym c.add.ensures.near) (subst (λ ys. Each (IsFiledByWant c.self.inside.posted.near.heads) ys) (sym c.add.ensures.added) (Each-append (IsFiledByWant c.self.inside.posted.near.heads) (cards c.self.inside.posted) ((record { id = c.args.id; item = c.args.want; number = c.self.inside.number; near = c.bin_of-near.result; wide = 0 }) ∷ []) c.self.invariant.posted_bins (c.bin_of-near.ensures.exact, tt)));
       within = rw (c.add.ensures.added, length-append) (omega arith);

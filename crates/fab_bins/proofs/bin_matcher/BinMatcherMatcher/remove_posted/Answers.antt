@@ -19,7 +19,7 @@ invariant_of-self c =
     record {
       posted = c.remove.ensures.kept;
       posted_heads = subst (λ n. 0 < n) (sym c.remove.ensures.near) c.self.invariant.posted_heads;
-      posted_wide = subst (λ n. 0 < n) (sym c.remove.ensures.wide) c.self.invariant.posted_wide;
+      posted_wide = c.remove.ensures.wide ∙ c.self.invariant.posted_wide;
       posted_ids = subst HasDistinctIds (sym rest) (HasDistinctIds-without c.args.id (pairs (cards c.self.inside.posted)) c.self.invariant.posted_ids);
       posted_bins = subst (λ n. Each (IsFiledByWant n) (cards c.remove.new.self)) (sym c.remove.ensures.near) (subst (λ ys. Each (IsFiledByWant c.self.inside.posted.near.heads) ys) (sym c.remove.ensures.rest) (Each-remove_first (IsFiledByWant c.self.inside.posted.near.heads) (λ card. card.id == c.args.id) (cards c.self.inside.posted) c.self.invariant.posted_bins));
       within = rw c.remove.ensures.rest (omega (arith, length-remove_first-le (λ (card : Card Want). card.id == c.args.id) (cards c.self.inside.posted), c.self.invariant.within));

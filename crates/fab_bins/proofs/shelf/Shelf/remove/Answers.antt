@@ -18,13 +18,13 @@ returns-in_default-clause-rest g c =
     ∙ listed-remove_first c.args.self.now.cards (λ card. card.id == c.args.id) (places c.args.self.now)
 
 pub unlink-requires : goal.unlink-requires
-unlink-requires g c = linked_all c.args.self.now c.requires (λ card. card.id == c.args.id) c.in-Some.place (sym c.in-Some.ensures.first)
+unlink-requires g c = λ _. linked_all c.args.self.now c.requires (λ card. card.id == c.args.id) c.in-Some.place (sym c.in-Some.ensures.first)
 
 pub unlink-requires-2 : goal.unlink-requires-2
-unlink-requires-2 g c = linked_id c.args.self.now c.requires (λ card. card.id == c.args.id) c.in-Some.place (sym c.in-Some.ensures.first) c.args.id (λ card e. eqb-true card.id c.args.id e) c.place_of.ensures.within
+unlink-requires-2 g c = λ _. linked_id c.args.self.now c.requires (λ card. card.id == c.args.id) c.in-Some.place (sym c.in-Some.ensures.first) c.args.id (λ card e. eqb-true card.id c.args.id e) c.place_of.ensures.within
 
 pub unlink-requires-3 : goal.unlink-requires-3
-unlink-requires-3 g c = linked_near c.args.self.now c.requires (λ card. card.id == c.args.id) c.in-Some.place (sym c.in-Some.ensures.first)
+unlink-requires-3 g c = λ _. linked_near c.args.self.now c.requires (λ card. card.id == c.args.id) c.in-Some.place (sym c.in-Some.ensures.first)
 
 pub unlink-requires-4 : goal.unlink-requires-4
 unlink-requires-4 g c = linked_wide c.args.self.now c.requires (λ card. card.id == c.args.id) c.in-Some.place (sym c.in-Some.ensures.first)
