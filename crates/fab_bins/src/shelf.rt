@@ -240,12 +240,12 @@ impl<X: Copy + Drop> Shelf<X> {
         self.wide.push(card.wide, place);
     }
 
-    /// Takes out the first card of this id, and answers whether there was one. The others keep their
-    /// order. Takes no memory.
-    pub fn remove(&mut self, id: u32) -> bool
+    /// Takes out the first card of this id, if there is one. The others keep their order. Takes no
+    /// memory.
+    pub fn remove(&mut self, id: u32) -> Option<Card<X>>
         requires { IsKept self.old }
         ensures kept { IsKept self.new }
-        ensures there { result ≡ list_any (λ card. card.id == id) (cards self.old) }
+        ensures there { result ≡ find (λ card. card.id == id) (cards self.old) }
         ensures rest { cards self.new ≡ remove_first (λ card. card.id == id) (cards self.old) }
         ensures ready { IsReady self.old → IsReady self.new }
         ensures capacity { self.new.cards.capacity ≡ self.old.cards.capacity }
@@ -253,13 +253,13 @@ impl<X: Copy + Drop> Shelf<X> {
         ensures wide { self.new.wide.heads ≡ self.old.wide.heads }
     {
         let Some(place) = self.place_of(id) else {
-            return false;
+            return None;
         };
-        self.cards.try_remove(place);
+        let card = self.cards.try_remove(place);
         self.all.unlink(place);
         self.ids.unlink(place);
         self.near.unlink(place);
         self.wide.unlink(place);
-        true
+        card
     }
 }
