@@ -1,8 +1,8 @@
 -- What holds of a shelf, and stays so.
-use Rattle.std.proofs.Common.{◌≡◌, ◌≢◌, ◌<◌, ◌≤◌, ◌+◌, ◌==◌, ◌&&◌, ℕ, zero, suc, Bool, true, false, List, [], ◌∷◌, ◌++◌, Option, Some, None, is_some, length, refl, sym, ap, ◌∙◌, subst, arith, length-append}
+use Rattle.std.proofs.Common.{◌≡◌, ◌≢◌, ◌<◌, ◌≤◌, ◌+◌, ◌==◌, ◌&&◌, ◌||◌, ℕ, zero, suc, Bool, true, false, List, [], ◌∷◌, ◌++◌, Option, Some, None, is_some, length, refl, sym, ap, ◌∙◌, subst, arith, length-append}
 use Rattle.std.specs.Prelude.{find, filter, nat_lt, not, count_by}
 use Rattle.std.specs.Option.{option_and_then}
-use Rattle.std.proofs.lemmas.Bool.{eqb-true, eq-eqb, and_right, and_parts, ltb-true, lt-ltb}
+use Rattle.std.proofs.lemmas.Bool.{eqb-true, eqb-false, eq-eqb, and_right, and_parts, ltb-true, lt-ltb}
 use Rattle.slab.specs.Slab.{Slab, get, slab_len}
 use Rattle.fab_model.specs.Matching.{remove_first}
 use Rattle.fab_bins.specs.declared.shelf.Card.{Card}
@@ -86,6 +86,17 @@ module _ {X : Type 0} where
       place_found shelf shelf.ids (λ card. bin shelf.ids.heads 0 card.id 0) k.ids head below (λ card. card.id == id) o found (λ card. card.id == id)
       (λ card. ap (λ h. (bin shelf.ids.heads 0 card.id 0 == h) && (card.id == id)) is ∙ id_same shelf.ids.heads id card (card.id == id) refl)
 
+-- a card's bin of the second kind, where there are any
+wide_ok : (heads wide : ℕ) → (0 < heads → wide < heads) → (t : Bool) → (heads == 0) ≡ t → (heads == 0 || nat_lt wide heads) ≡ true
+wide_ok heads wide within true t = rw t refl
+wide_ok heads wide within false t =
+    let ne : heads ≢ 0 = eqb-false heads 0 t in
+    rw t (lt-ltb wide heads (within (omega (arith, ne))))
+
+wide_in : (heads wide : ℕ) → 0 < heads → (t : Bool) → (heads == 0) ≡ t → (heads == 0 || nat_lt wide heads) ≡ true → wide < heads
+wide_in heads wide some true t e = absurd (let none : heads ≡ 0 = eqb-true heads 0 t in omega (arith, none, some))
+wide_in heads wide some false t e = ltb-true wide heads (ap (λ b. b || nat_lt wide heads) (sym t) ∙ e)
+
 -- what a shelf is once a card came to a place
 pub record Adds {X : Type 0} (old new : Shelf X) (place : ℕ) (card : Card X) : Type 0 where
   pub vacant : get old.cards place ≡ None
@@ -93,7 +104,7 @@ pub record Adds {X : Type 0} (old new : Shelf X) (place : ℕ) (card : Card X) :
   pub same : (p : ℕ) → p ≢ place → get new.cards p ≡ get old.cards p
   pub count : slab_len new.cards ≡ slab_len old.cards + 1
   pub near_within : card.near < old.near.heads
-  pub wide_within : card.wide < old.wide.heads
+  pub wide_within : 0 < old.wide.heads → card.wide < old.wide.heads
   pub all_joins : (ys : List ℕ) → IsChain old.all 0 ys → Lacks place ys → IsChain new.all 0 (ys ++ place ∷ [])
   pub ids_head : ℕ
   pub ids_is : ids_head ≡ bin old.ids.heads 0 card.id 0
@@ -131,7 +142,7 @@ module _ {X : Type 0} (old : Shelf X) (k : IsKept old) (place : ℕ) (vacant : g
         (subst (λ k. (h : ℕ) (ys : List ℕ) → h ≢ k → IsChain old.ids h ys → Lacks place ys → IsChain new.ids h ys) a.ids_is a.ids_stay) k.ids)
 
     within_new : is_within new.near.heads new.wide.heads card ≡ true
-    within_new = rw (lt-ltb card.near new.near.heads (omega (arith, a.near_within, a.near_heads)), lt-ltb card.wide new.wide.heads (omega (arith, a.wide_within, a.wide_heads))) refl
+    within_new = rw (lt-ltb card.near new.near.heads (omega (arith, a.near_within, a.near_heads))) (wide_ok new.wide.heads card.wide (subst (λ n. 0 < n → card.wide < n) (sym a.wide_heads) a.wide_within) (new.wide.heads == 0) refl)
 
     cards_added : Each (λ p. held new.cards (is_within new.near.heads new.wide.heads) p ≡ true) ys
     cards_added =
@@ -201,16 +212,16 @@ module _ {X : Type 0} (old : Shelf X) (k : IsKept old) (T : Card X → Bool) (pl
       linked c (key card_there.0) (filter (held old.cards (λ card. key card == key card_there.0)) (places old)) place (filed (key card_there.0) below)
       (In-filter (held old.cards (λ card. key card == key card_there.0)) place (places old) passing out.0)
 
-  within : (nat_lt card_there.0.near old.near.heads ≡ true) × (nat_lt card_there.0.wide old.wide.heads ≡ true)
+  within : (nat_lt card_there.0.near old.near.heads ≡ true) × ((old.wide.heads == 0 || nat_lt card_there.0.wide old.wide.heads) ≡ true)
   within =
       let here : held old.cards (is_within old.near.heads old.wide.heads) place ≡ true = Each-in (λ p. held old.cards (is_within old.near.heads old.wide.heads) p ≡ true) place (places old) k.cards out.0 in
-      and_parts (nat_lt card_there.0.near old.near.heads) (nat_lt card_there.0.wide old.wide.heads) (sym (ap (passes (is_within old.near.heads old.wide.heads)) card_there.1) ∙ here)
+      and_parts (nat_lt card_there.0.near old.near.heads) (old.wide.heads == 0 || nat_lt card_there.0.wide old.wide.heads) (sym (ap (passes (is_within old.near.heads old.wide.heads)) card_there.1) ∙ here)
 
   pub linked_near : IsLinked old.near place
   linked_near = linked_by old.near (λ card. card.near) k.near (ltb-true card_there.0.near old.near.heads within.0)
 
-  pub linked_wide : IsLinked old.wide place
-  linked_wide = linked_by old.wide (λ card. card.wide) k.wide (ltb-true card_there.0.wide old.wide.heads within.1)
+  pub linked_wide : 0 < old.wide.heads → IsLinked old.wide place
+  linked_wide some = linked_by old.wide (λ card. card.wide) k.wide (wide_in old.wide.heads card_there.0.wide some (old.wide.heads == 0) refl within.1)
 
   pub linked_id : (id : ℕ) → ((card : Card X) → T card ≡ true → card.id ≡ id) → bin old.ids.heads 0 id 0 < old.ids.heads → IsLinked old.ids place
   linked_id id is below =

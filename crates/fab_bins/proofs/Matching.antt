@@ -1,6 +1,6 @@
 -- The first card that fits, by its bin and by its number.
-use Rattle.std.proofs.Common.{◌≡◌, ◌≢◌, ◌<◌, ◌==◌, ◌&&◌, ◌||◌, ℕ, Bool, true, false, not, cond, List, [], ◌∷◌, ◌++◌, Option, Some, None, refl, sym, ap, ◌∙◌, subst, arith}
-use Rattle.std.specs.Prelude.{find, nat_lt, bit_or, position}
+use Rattle.std.proofs.Common.{◌≡◌, ◌≢◌, ◌<◌, ◌≤◌, ◌==◌, ◌+◌, ◌&&◌, ◌||◌, ℕ, Bool, true, false, not, cond, List, [], ◌∷◌, ◌++◌, Option, Some, None, length, refl, sym, ap, ◌∙◌, subst, arith}
+use Rattle.std.specs.Prelude.{find, nat_lt, bit_or, position, is_none}
 use Rattle.std.specs.Bool.{beq}
 use Rattle.std.specs.List.{list_any}
 use Rattle.std.specs.Option.{option_map}
@@ -18,11 +18,11 @@ use Rattle.fab_bins.specs.declared.shelf.Card.{Card}
 use Rattle.fab_bins.specs.declared.bins.Filing.{Filing}
 use Rattle.fab_bins.specs.declared.bins.Filing.TheVariants.{Exact, Open, Masked}
 use Rattle.fab_bins.specs.Each.{Each}
-use Rattle.fab_bins.specs.Bins.{exact_bin, open_bin, masked_bin, filing_by, filing_of, bin_in}
-use Rattle.fab_bins.specs.Filed.{IsFiledByWant, IsFiledBySign}
+use Rattle.fab_bins.specs.Bins.{exact_bin, open_bin, masked_bin, filing_by, filing_of, bin_in, is_loose}
+use Rattle.fab_bins.specs.Filed.{IsFiledByWant, IsFiledBySign, loose_in, loose_count}
 use Rattle.fab_bins.specs.Numbers.{earlier, Rising}
 use Rattle.fab_bins.specs.BinMatcher.{pairs}
-use Rattle.fab_bins.proofs.Lists.{Each-append, Each-map, Each-find, Each-remove_first, find-same}
+use Rattle.fab_bins.proofs.Lists.{Each-append, Each-map, Each-both, Each-find, Each-remove_first, find-same}
 
 -- a message that the receive may take stands where it looks
 abbrev pub Stands : ℕ → Sign → Filing → Type 0
@@ -217,3 +217,60 @@ first_of_three heads sign limit cards filed rising =
     (λ e. subst (λ k. (((k == exact_bin heads sign.tagged sign.tag sign.source) || (k == open_bin heads sign.tagged sign.tag)) || (k == masked_bin heads)) ≡ true) (sym f)
     (one_of heads sign (filing_of heads card.item) (fits-stands heads card.item sign e))))
     cards filed))
+
+-- a receive that is not loose stands in the bin of the messages that it may take
+exact_by : (heads : ℕ) (sign : Sign) (masked tagged : Bool) (tag : ℕ) (source : Option ℕ) → (masked || is_none source) ≡ false → Stands heads sign (filing_by heads masked tagged tag source)
+    → bin_in heads (filing_by heads masked tagged tag source) ≡ exact_bin heads sign.tagged sign.tag sign.source
+exact_by heads sign true tagged tag source l s = absurd (cc)
+exact_by heads sign false tagged tag (Some source) l s = sym s
+exact_by heads sign false tagged tag None l s = absurd (cc)
+
+tight_step : (x : Card Want) (cards : List (Card Want)) (t : Bool) → is_loose x.item ≡ t → loose_count (x ∷ cards) ≡ 0 → (loose_count cards ≡ 0 → Each (λ card. is_loose card.item ≡ false) cards) → Each (λ card. is_loose card.item ≡ false) (x ∷ cards)
+tight_step x cards true t none more = absurd (let more_than : loose_count (x ∷ cards) ≡ 1 + loose_count cards = rw t refl in omega (arith, none, more_than))
+tight_step x cards false t none more = let same : loose_count (x ∷ cards) ≡ 0 + loose_count cards = rw t refl in (t, more (omega (arith, same, none)))
+
+tight : (cards : List (Card Want)) → loose_count cards ≡ 0 → Each (λ card. is_loose card.item ≡ false) cards
+tight [] none = tt
+tight (x ∷ cards) none = tight_step x cards (is_loose x.item) refl none (tight cards)
+
+-- where no receive is loose, the first of one bin is the first of all
+pub first_of_one : (heads : ℕ) (sign : Sign) (cards : List (Card Want)) → Each (IsFiledByWant heads) cards → loose_count cards ≡ 0
+    → find (λ card. (card.near == exact_bin heads sign.tagged sign.tag sign.source) && fits card.item sign) cards ≡ find (λ card. fits card.item sign) cards
+first_of_one heads sign cards filed none =
+    find-same (λ card. (card.near == exact_bin heads sign.tagged sign.tag sign.source) && fits card.item sign) (λ card. fits card.item sign) cards
+    (Each-both (IsFiledByWant heads) (λ card. is_loose card.item ≡ false) (λ card. ((card.near == exact_bin heads sign.tagged sign.tag sign.source) && fits card.item sign) ≡ fits card.item sign)
+    (λ card f l. agrees (card.near == exact_bin heads sign.tagged sign.tag sign.source) (fits card.item sign) (fits card.item sign) refl
+    (λ e. eq-eqb card.near (exact_bin heads sign.tagged sign.tag sign.source) (f ∙ exact_by heads sign (card.item.tagged && not (card.item.ignore == 0)) card.item.tagged card.item.tag card.item.source l (fits-stands heads card.item sign e))))
+    cards filed (tight cards none))
+
+-- the loose ones when a receive comes or goes
+in_le : (card : Card Want) (t : Bool) → is_loose card.item ≡ t → loose_in (Some card) ≤ 1
+in_le card true t = rw t (omega arith)
+in_le card false t = rw t (omega arith)
+
+pub loose_in-le : (card : Card Want) → loose_in (Some card) ≤ 1
+loose_in-le card = in_le card (is_loose card.item) refl
+
+pub loose_count-le : (cards : List (Card Want)) → loose_count cards ≤ length cards
+loose_count-le [] = omega arith
+loose_count-le (x ∷ cards) = let one = loose_in-le x in let more = loose_count-le cards in omega (arith, one, more)
+
+pub loose-push : (cards : List (Card Want)) (card : Card Want) → loose_count (cards ++ card ∷ []) ≡ loose_count cards + loose_in (Some card)
+loose-push [] card = omega arith
+loose-push (x ∷ cards) card = let more = loose-push cards card in omega (arith, more)
+
+module _ (test : Card Want → Bool) where
+  drop_step : (x : Card Want) (cards : List (Card Want)) (s t : Bool) → test x ≡ s → is_loose x.item ≡ t → loose_count (remove_first test cards) + loose_in (find test cards) ≡ loose_count cards → loose_count (remove_first test (x ∷ cards)) + loose_in (find test (x ∷ cards)) ≡ loose_count (x ∷ cards)
+  drop_step x cards true true s t more = rw (s, remove_first, t) (omega arith)
+  drop_step x cards true false s t more = rw (s, remove_first, t) (omega arith)
+  drop_step x cards false true s t more = rw (s, remove_first, t) (omega (arith, more))
+  drop_step x cards false false s t more = rw (s, remove_first, t) (omega (arith, more))
+
+  loose-remove_first : (cards : List (Card Want)) → loose_count (remove_first test cards) + loose_in (find test cards) ≡ loose_count cards
+  loose-remove_first [] = refl
+  loose-remove_first (x ∷ cards) = drop_step x cards (test x) (is_loose x.item) refl refl (loose-remove_first cards)
+
+  -- the loose ones that are left, and the one that went
+  pub loose-removed : (cards left : List (Card Want)) (gone : Option (Card Want)) (n : ℕ) → left ≡ remove_first test cards → gone ≡ find test cards → n ≡ loose_in gone → loose_count left + n ≡ loose_count cards
+  loose-removed cards left gone n rest there is =
+      ap (λ k. loose_count left + k) is ∙ (ap (λ ys. loose_count ys + loose_in gone) rest ∙ (ap (λ o. loose_count (remove_first test cards) + loose_in o) there ∙ loose-remove_first cards))

@@ -7,7 +7,7 @@ use Rattle.fab_bins.specs.declared.bin_matcher.BinMatcher.TheInside.{Inside}
 use Rattle.fab_bins.specs.Each.{Each}
 use Rattle.fab_bins.specs.Shelf.{cards, IsKept, IsReady}
 use Rattle.fab_bins.specs.Numbers.{Rising}
-use Rattle.fab_bins.specs.Filed.{IsFiledByWant, IsFiledBySign}
+use Rattle.fab_bins.specs.Filed.{IsFiledByWant, IsFiledBySign, loose_count}
 
 abbrev pub pairs : {X : Type 0} → List (Card X) → List (ℕ × X)
 pairs cards = map (λ card. (card.id, card.item)) cards
@@ -15,9 +15,10 @@ pairs cards = map (λ card. (card.id, card.item)) cards
 pub record IsBinned (m : Inside) : Type 0 where
   pub posted : IsKept m.posted
   pub posted_heads : 0 < m.posted.near.heads
-  pub posted_wide : 0 < m.posted.wide.heads
+  pub posted_wide : m.posted.wide.heads ≡ 0
   pub posted_ids : HasDistinctIds (pairs (cards m.posted))
   pub posted_bins : Each (IsFiledByWant m.posted.near.heads) (cards m.posted)
+  pub loose : m.loose ≡ loose_count (cards m.posted)
   -- no more are posted than there is room for, and the room is there
   pub within : length (cards m.posted) ≤ m.room
   pub room : m.room ≤ m.posted.cards.capacity

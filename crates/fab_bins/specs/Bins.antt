@@ -4,7 +4,8 @@
 --     open_bin heads tagged tag, masked_bin heads    by kind and tag; of receives whose tag is masked
 --     filing_of heads want                              where the messages stand that the receive may take
 --     bin_of heads want                              the bin in which the receive stands
-use Rattle.std.specs.Prelude.{ℕ, ◌+◌, ◌*◌, ◌/◌, ◌%◌, ◌^◌, ◌<◌, ◌==◌, ◌&&◌, Bool, true, false, not, Option, Some, None}
+--     is_loose want                                  the receive masks its tag, or takes from any source
+use Rattle.std.specs.Prelude.{ℕ, ◌+◌, ◌*◌, ◌/◌, ◌%◌, ◌^◌, ◌<◌, ◌==◌, ◌&&◌, ◌||◌, Bool, true, false, not, Option, Some, None, is_none}
 use Rattle.fab_base.specs.declared.items.Want.{Want}
 use Rattle.fab_bins.specs.declared.bins.Filing.{Filing}
 use Rattle.fab_bins.specs.declared.bins.Filing.TheVariants.{Exact, Open, Masked}
@@ -36,6 +37,9 @@ filing_by heads false tagged tag None = Open (open_bin heads tagged tag)
 
 abbrev pub filing_of : ℕ → Want → Filing
 filing_of heads want = filing_by heads (want.tagged && not (want.ignore == 0)) want.tagged want.tag want.source
+
+abbrev pub is_loose : Want → Bool
+is_loose want = (want.tagged && not (want.ignore == 0)) || is_none want.source
 
 abbrev pub bin_in : ℕ → Filing → ℕ
 bin_in heads (Exact bin) = bin

@@ -7,7 +7,7 @@
 --     StaysIn old new            the chains are as they were
 --     HasRoom shelf              one more card may come with no memory taken
 --     IsReady shelf              there are links for all places for which there is memory
-use Rattle.std.specs.Prelude.{◌≡◌, ◌<◌, ◌-◌, ◌==◌, ◌++◌, ℕ, zero, suc, Bool, true, false, nat_lt, ◌&&◌, List, [], ◌∷◌, Option, Some, None, option_to_list, filter}
+use Rattle.std.specs.Prelude.{◌≡◌, ◌<◌, ◌-◌, ◌==◌, ◌++◌, ℕ, zero, suc, Bool, true, false, nat_lt, ◌&&◌, ◌||◌, List, [], ◌∷◌, Option, Some, None, option_to_list, filter}
 use Rattle.slab.specs.Slab.{Slab, get, slab_len, HasRoomFor}
 use Rattle.fab_bins.specs.declared.chains.Chains.{Chains}
 use Rattle.fab_bins.specs.declared.shelf.Card.{Card}
@@ -46,9 +46,9 @@ module _ {X : Type 0} where
   abbrev pub IsFiled : Chains → Slab (Card X) → (Card X → ℕ) → List ℕ → Type 0
   IsFiled chains cards key places = (h : ℕ) → h < chains.heads → IsChain chains h (filter (held cards (λ card. key card == h)) places)
 
-  -- the card's bins are among so many
+  -- the card's bins are among so many; with no bins of the second kind none is asked for
   abbrev pub is_within : ℕ → ℕ → Card X → Bool
-  is_within near wide card = nat_lt card.near near && nat_lt card.wide wide
+  is_within near wide card = nat_lt card.near near && (wide == 0 || nat_lt card.wide wide)
 
   pub record Keeps (shelf : Shelf X) (places : List ℕ) : Type 0 where
     pub some : 0 < shelf.ids.heads

@@ -7,9 +7,9 @@ ghost use Rattle.fab_match.specs.Signs.{fits};
 ghost use Rattle.fab_bins.specs.Each.{Each};
 ghost use Rattle.fab_bins.specs.Shelf.{cards, IsKept};
 ghost use Rattle.fab_bins.specs.Numbers.{earlier, Rising};
-ghost use Rattle.fab_bins.specs.Filed.{IsFiledByWant, IsFiledBySign};
+ghost use Rattle.fab_bins.specs.Filed.{IsFiledByWant, IsFiledBySign, loose_in, loose_count};
 
-use crate::bins::{Filing, bin_of, exact_bin, filing_of, masked_bin, open_bin};
+use crate::bins::{Filing, bin_of, exact_bin, filing_of, is_loose, masked_bin, open_bin};
 use crate::shelf::{Card, Shelf, Test};
 use fab_base::{NoMemory, Sign, Want};
 use fab_match::{Matcher, fits};
@@ -29,6 +29,8 @@ pub struct BinMatcher {
     unexpected: Shelf<Sign>,
     room: u32,
     number: u64,
+    /// How many posted receives mask their tag or take from any source.
+    loose: u32,
 }
 
 impl Model for BinMatcher {
@@ -66,6 +68,16 @@ fn id_of<X: Drop>(card: Option<Card<X>>) -> Option<u32>
     card.map(|found| found.id)
 }
 
+/// 1 for a receive that masks its tag or takes from any source, else 0.
+fn loose_in(card: Option<Card<Want>>) -> u32
+    ensures { result ≡ loose_in card }
+{
+    match card {
+        Some(card) if is_loose(&card.item) => 1,
+        _ => 0,
+    }
+}
+
 /// The card with the lower number.
 fn earlier(one: Option<Card<Want>>, other: Option<Card<Want>>) -> Option<Card<Want>>
     ensures { result ≡ earlier one other }
@@ -78,17 +90,22 @@ fn earlier(one: Option<Card<Want>>, other: Option<Card<Want>>) -> Option<Card<Wa
 }
 
 /// The first receive that may take the message. Of each bin that it may stand in the first is found,
-/// and the lowest number decides: however exact a tag, an earlier receive goes first.
-fn first_numbered(posted: &Shelf<Want>, sign: &Sign) -> Option<Card<Want>>
+/// and the lowest number decides: however exact a tag, an earlier receive goes first. Where no receive
+/// is loose, there is but one such bin.
+fn first_numbered(posted: &Shelf<Want>, loose: u32, sign: &Sign) -> Option<Card<Want>>
     requires kept { IsKept posted.now }
     requires heads { 0 < posted.now.near.heads }
     requires bins { Each (IsFiledByWant posted.now.near.heads) (cards posted.now) }
     requires numbers { (limit : ℕ) × Rising limit (cards posted.now) }
+    requires loose { loose ≡ loose_count (cards posted.now) }
     ensures { result ≡ find (λ card. fits card.item sign.now) (cards posted.now) }
 {
     let heads = posted.near.heads;
     let exact = exact_bin(heads, sign.tagged, sign.tag, sign.source);
     let of_source = posted.first_near(exact, sign);
+    if loose == 0 {
+        return of_source;
+    }
     let open = open_bin(heads, sign.tagged, sign.tag);
     let of_any = posted.first_near(open, sign);
     let masked = posted.first_near(masked_bin(heads), sign);
@@ -119,13 +136,14 @@ impl Matcher for BinMatcher {
 
     fn new(alloc: Global, rx: u32) -> Result<BinMatcher, NoMemory> {
         let heads = rx.max(LEAST_HEADS);
-        let posted = Shelf::new(alloc, heads, 1, rx as usize)?;
+        let posted = Shelf::new(alloc, heads, 0, rx as usize)?;
         let unexpected = Shelf::new(alloc, heads, heads, 0)?;
         Ok(BinMatcher {
             posted,
             unexpected,
             room: rx,
             number: 0,
+            loose: 0,
         })
     }
 
@@ -133,7 +151,7 @@ impl Matcher for BinMatcher {
         if self.number == u64::MAX {
             return id_of(self.posted.first(sign));
         }
-        id_of(first_numbered(&self.posted, sign))
+        id_of(first_numbered(&self.posted, self.loose, sign))
     }
 
     fn first_unexpected(&self, want: &Want) -> Option<u32> {
@@ -155,13 +173,15 @@ impl Matcher for BinMatcher {
     fn add_posted(&mut self, id: u32, want: Want) {
         let near = bin_of(self.posted.near.heads, &want);
         let number = self.number;
-        self.posted.add(Card {
+        let card = Card {
             id,
             item: want,
             number,
             near,
             wide: 0,
-        });
+        };
+        self.posted.add(card);
+        self.loose += loose_in(Some(card));
         self.number = number.saturating_add(1);
     }
 
@@ -181,10 +201,12 @@ impl Matcher for BinMatcher {
     }
 
     fn remove_posted(&mut self, id: u32) -> bool {
-        self.posted.remove(id)
+        let card = self.posted.remove(id);
+        self.loose -= loose_in(card);
+        card.is_some()
     }
 
     fn remove_unexpected(&mut self, id: u32) -> bool {
-        self.unexpected.remove(id)
+        self.unexpected.remove(id).is_some()
     }
 }

@@ -1,6 +1,6 @@
 //! The bins in which receives and messages are filed.
 ghost use Rattle.std.specs.Prelude.{◌≡◌, ◌<◌};
-ghost use Rattle.fab_bins.specs.Bins.{bin, exact_bin, open_bin, masked_bin, filing_of, bin_of, AreWithin};
+ghost use Rattle.fab_bins.specs.Bins.{bin, exact_bin, open_bin, masked_bin, filing_of, bin_of, is_loose, AreWithin};
 
 use fab_base::Want;
 
@@ -87,4 +87,12 @@ pub fn bin_of(heads: u32, want: &Want) -> u32
         Filing::Exact(bin) | Filing::Open(bin) => bin,
         Filing::Masked => masked_bin(heads),
     }
+}
+
+/// Whether a receive masks its tag, or takes from any source: then it stands in no bin of a kind, tag
+/// and source.
+pub fn is_loose(want: &Want) -> bool
+    ensures { result ≡ is_loose want.now }
+{
+    (want.tagged && want.ignore != 0) || want.source.is_none()
 }

@@ -58,15 +58,19 @@ impl Chains {
         Ok(())
     }
 
-    /// Puts a place that is in no chain behind all others of this chain. Takes no memory.
+    /// Puts a place that is in no chain behind all others of this chain. Takes no memory. Where there
+    /// are no chains, nothing is done.
     pub fn push(&mut self, head: u32, place: usize)
-        requires chain { (xs : List ℕ) × IsChain self.old head xs × Lacks place xs }
+        requires chain { 0 < self.old.heads → (xs : List ℕ) × IsChain self.old head xs × Lacks place xs }
         requires covers { Covers self.old place }
         ensures heads { self.new.heads ≡ self.old.heads }
         ensures length { length self.new.links.items ≡ length self.old.links.items }
         ensures joined { (xs : List ℕ) → IsChain self.old head xs → Lacks place xs → IsChain self.new head (xs ++ place ∷ []) }
         ensures others { (h : ℕ) (xs : List ℕ) → h ≢ head → IsChain self.old h xs → Lacks place xs → IsChain self.new h xs }
     {
+        if self.heads == 0 {
+            return;
+        }
         let head_at = head as usize;
         let node = self.heads as usize + place;
         let last = self.links[head_at].prev;
@@ -78,13 +82,17 @@ impl Chains {
         self.links[head_at].prev = node as u32;
     }
 
-    /// Takes a place out of its chain, wherever it stands there. The others keep their order.
+    /// Takes a place out of its chain, wherever it stands there. The others keep their order. Where there
+    /// are no chains, nothing is done.
     pub fn unlink(&mut self, place: usize)
-        requires { IsLinked self.old place }
+        requires { 0 < self.old.heads → IsLinked self.old place }
         ensures heads { self.new.heads ≡ self.old.heads }
         ensures length { length self.new.links.items ≡ length self.old.links.items }
         ensures chains { (h : ℕ) (xs : List ℕ) → IsChain self.old h xs → IsChain self.new h (others place xs) }
     {
+        if self.heads == 0 {
+            return;
+        }
         let link = self.links[self.heads as usize + place];
         self.links[link.prev as usize].next = link.next;
         self.links[link.next as usize].prev = link.prev;

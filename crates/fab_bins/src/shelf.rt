@@ -24,7 +24,7 @@ pub struct Card<X> {
     pub number: u64,
     /// The bin of the first kind, which for a message is the narrower one.
     pub near: u32,
-    /// The bin of the second kind.
+    /// The bin of the second kind, where the shelf has any.
     pub wide: u32,
 }
 
@@ -38,7 +38,7 @@ pub trait Test<X> {
 }
 
 /// Cards in the order in which they came. Each stands in a chain of all, in one with those whose ids
-/// have its hash, and in one for each of its two bins.
+/// have its hash, and in one for each of its two bins. A shelf may have no bins of the second kind.
 #[derive(Drop)]
 pub struct Shelf<X: Drop> {
     pub cards: Slab<Card<X>>,
@@ -224,7 +224,7 @@ impl<X: Copy + Drop> Shelf<X> {
         requires kept { IsKept self.old }
         requires room { HasRoom self.old }
         requires near { card.near < self.old.near.heads }
-        requires wide { card.wide < self.old.wide.heads }
+        requires wide { 0 < self.old.wide.heads → card.wide < self.old.wide.heads }
         ensures kept { IsKept self.new }
         ensures added { cards self.new ≡ cards self.old ++ card ∷ [] }
         ensures ready { IsReady self.old → IsReady self.new }
@@ -240,12 +240,12 @@ impl<X: Copy + Drop> Shelf<X> {
         self.wide.push(card.wide, place);
     }
 
-    /// Takes out the first card of this id, and answers whether there was one. The others keep their
-    /// order. Takes no memory.
-    pub fn remove(&mut self, id: u32) -> bool
+    /// Takes out the first card of this id, if there is one. The others keep their order. Takes no
+    /// memory.
+    pub fn remove(&mut self, id: u32) -> Option<Card<X>>
         requires { IsKept self.old }
         ensures kept { IsKept self.new }
-        ensures there { result ≡ list_any (λ card. card.id == id) (cards self.old) }
+        ensures there { result ≡ find (λ card. card.id == id) (cards self.old) }
         ensures rest { cards self.new ≡ remove_first (λ card. card.id == id) (cards self.old) }
         ensures ready { IsReady self.old → IsReady self.new }
         ensures capacity { self.new.cards.capacity ≡ self.old.cards.capacity }
@@ -253,13 +253,13 @@ impl<X: Copy + Drop> Shelf<X> {
         ensures wide { self.new.wide.heads ≡ self.old.wide.heads }
     {
         let Some(place) = self.place_of(id) else {
-            return false;
+            return None;
         };
-        self.cards.try_remove(place);
+        let card = self.cards.try_remove(place);
         self.all.unlink(place);
         self.ids.unlink(place);
         self.near.unlink(place);
         self.wide.unlink(place);
-        true
+        card
     }
 }

@@ -1,11 +1,19 @@
-use Rattle.std.proofs.Common.{◌≡◌, ◌==◌, ◌&&◌, ◌∙◌, ap, ℕ}
+use Rattle.std.proofs.Common.{◌≡◌, ◌==◌, ◌&&◌, ◌∙◌, ap, sym, ℕ}
 use Rattle.std.specs.Prelude.{find}
 use Rattle.fab_match.specs.Signs.{fits}
 use Rattle.fab_bins.specs.Bins.{exact_bin, open_bin, masked_bin}
 use Rattle.fab_bins.specs.Shelf.{cards}
 use Rattle.fab_bins.specs.Numbers.{earlier, Rising}
-use Rattle.fab_bins.proofs.Matching.{first_of_three}
+use Rattle.fab_bins.specs.Filed.{loose_count}
+use Rattle.fab_bins.proofs.Matching.{first_of_three, first_of_one}
 use Rattle.fab_bins.proofs.bin_matcher.first_numbered.Goals as goal
+
+pub returns-then-loose-eq0 : goal.returns-then-loose-eq0
+returns-then-loose-eq0 c =
+    let none : loose_count (cards c.args.posted.now) ≡ 0 = sym c.requires.loose ∙ c.if-loose-eq0.true in
+    c.first_near-of_source.ensures
+    ∙ (ap (λ k. (find (λ card. (card.near == k) && fits card.item c.args.sign.now) (cards c.args.posted.now))) c.exact_bin-exact.ensures.exact
+    ∙ first_of_one c.args.posted.now.near.heads c.args.sign.now (cards c.args.posted.now) c.requires.bins none)
 
 pub returns : goal.returns
 returns c =

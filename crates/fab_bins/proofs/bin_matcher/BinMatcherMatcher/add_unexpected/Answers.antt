@@ -25,6 +25,7 @@ invariant_of-self-2 c =
       posted_wide = c.self.invariant.posted_wide;
       posted_ids = c.self.invariant.posted_ids;
       posted_bins = c.self.invariant.posted_bins;
+      loose = c.self.invariant.loose;
       within = c.self.invariant.within;
       room = c.self.invariant.room;
       ready = c.self.invariant.ready;

@@ -6,15 +6,15 @@ use Rattle.fab_bins.proofs.shelf.Shelf.add.Goals as goal
 
 pub push-requires-2-clause-chain : goal.push-requires-2-clause-chain
 push-requires-2-clause-chain g c =
-    can_join c.args.self.now c.requires.kept c.insert_reserved-place.result c.insert_reserved-place.ensures.was_vacant c.args.self.now.ids (λ card. bin c.args.self.now.ids.heads 0 card.id 0) c.requires.kept.ids c.bin-head.result c.bin-head.ensures.within
+    λ _. can_join c.args.self.now c.requires.kept c.insert_reserved-place.result c.insert_reserved-place.ensures.was_vacant c.args.self.now.ids (λ card. bin c.args.self.now.ids.heads 0 card.id 0) c.requires.kept.ids c.bin-head.result c.bin-head.ensures.within
 
 pub push-requires-3-clause-chain : goal.push-requires-3-clause-chain
 push-requires-3-clause-chain g c =
-    can_join c.args.self.now c.requires.kept c.insert_reserved-place.result c.insert_reserved-place.ensures.was_vacant c.args.self.now.near (λ card. card.near) c.requires.kept.near c.args.card.near c.requires.near
+    λ _. can_join c.args.self.now c.requires.kept c.insert_reserved-place.result c.insert_reserved-place.ensures.was_vacant c.args.self.now.near (λ card. card.near) c.requires.kept.near c.args.card.near c.requires.near
 
 pub push-requires-4-clause-chain : goal.push-requires-4-clause-chain
 push-requires-4-clause-chain g c =
-    can_join c.args.self.now c.requires.kept c.insert_reserved-place.result c.insert_reserved-place.ensures.was_vacant c.args.self.now.wide (λ card. card.wide) c.requires.kept.wide c.args.card.wide c.requires.wide
+    λ some. can_join c.args.self.now c.requires.kept c.insert_reserved-place.result c.insert_reserved-place.ensures.was_vacant c.args.self.now.wide (λ card. card.wide) c.requires.kept.wide c.args.card.wide (c.requires.wide some)
 
 adds : (g : given.Over) (c : goal.After-push-4 g)
     → Adds c.args.self.now (record { cards = c.insert_reserved-place.new.self; all = c.push.new.self; ids = c.push-2.new.self; near = c.push-3.new.self; wide = c.push-4.new.self }) c.insert_reserved-place.result c.args.card
