@@ -10,6 +10,7 @@ use fab_face::calls::{Messages, Progress, Receives};
 use fab_info::getinfo;
 use std::alloc::Global;
 use std::sync::Wait;
+use std::thread::Threads;
 use std::{io, thread};
 
 /// The tags of a question and of its answer.
@@ -46,80 +47,101 @@ fn open(alloc: Global) -> Result<(RingEndpoint, RingEndpoint), Fault> {
     Ok((zero, one))
 }
 
-/// Waits for the next completion.
-fn completion<R: Wait>(rt: &R, endpoint: &mut RingEndpoint) -> Result<Entry, Fault> {
+/// A message as it came.
+#[derive(Drop)]
+struct Message {
+    source: u32,
+    text: Buf,
+}
+
+/// The message of a completion, if it is that of a receive.
+fn message_of(entry: Entry) -> Option<Message> {
+    match entry {
+        Entry::Received { source, buf, .. } => Some(Message { source, text: buf }),
+        _ => None,
+    }
+}
+
+/// Waits for the next completion, and gives its message.
+fn completion<R: Wait>(rt: &R, endpoint: &mut RingEndpoint) -> Option<Message> {
     for _ in rt.forever() {
         match endpoint.cq_read(64) {
+            Ok(entry) => return message_of(entry),
             Err(Fault::NoEntry) => thread::yield_now(),
-            read => return read,
+            Err(_) => return None,
         }
     }
-    Err(Fault::NoEntry)
+    None
 }
 
-/// Sends a message to the other peer, and waits until it is sent.
-fn send<R: Wait>(
-    rt: &R,
-    endpoint: &mut RingEndpoint,
-    dest: u32,
-    tag: u64,
-    message: Buf,
-) -> Result<(), Fault> {
-    if let Err(refused) = endpoint.tsend(dest, tag, message, None, 0, FLAGS) {
-        return Err(refused.why);
+/// Sends a message to the other peer, and waits until it is out.
+fn send<R: Wait>(rt: &R, endpoint: &mut RingEndpoint, dest: u32, tag: u64, text: Buf) {
+    if endpoint.tsend(dest, tag, text, None, 0, FLAGS).is_ok() {
+        completion(rt, endpoint);
     }
-    completion(rt, endpoint)?;
-    Ok(())
 }
 
-/// Waits for a message with this tag of any peer, and gives it with the number of its sender.
+/// Receives a message with this tag of any peer, of as many bytes as the buffer has.
 fn receive<R: Wait>(
     rt: &R,
-    alloc: Global,
     endpoint: &mut RingEndpoint,
     tag: u64,
-) -> Result<Entry, Fault> {
-    let room = Buf::zeros(alloc, 64)?;
-    if let Err(refused) = endpoint.trecv(None, tag, 0, room, 0) {
-        return Err(refused.why);
+    room: Buf,
+) -> Option<Message> {
+    if endpoint.trecv(None, tag, 0, room, 0).is_err() {
+        return None;
     }
     completion(rt, endpoint)
 }
 
-/// Answers one question.
-fn answer<R: Wait>(rt: &R, alloc: Global, mut endpoint: RingEndpoint) -> Result<Entry, Fault> {
-    let asked = receive(rt, alloc, &mut endpoint, ASK)?;
-    let told = Buf::copy(alloc, b"42")?;
-    send(rt, &mut endpoint, 1, TELL, told)?;
-    Ok(asked)
+/// Answers one question, which it gives.
+fn answer<R: Wait>(
+    rt: &R,
+    mut endpoint: RingEndpoint,
+    room: Buf,
+    told: Buf,
+) -> Option<Message> {
+    let asked = receive(rt, &mut endpoint, ASK, room);
+    send(rt, &mut endpoint, 1, TELL, told);
+    asked
 }
 
-/// Asks a question, and waits for the answer.
-fn ask<R: Wait>(rt: &R, alloc: Global, mut endpoint: RingEndpoint) -> Result<Entry, Fault> {
-    let asked = Buf::copy(alloc, b"six times seven")?;
-    send(rt, &mut endpoint, 0, ASK, asked)?;
-    receive(rt, alloc, &mut endpoint, TELL)
+/// Asks a question, and gives the answer.
+fn ask<R: Wait>(rt: &R, mut endpoint: RingEndpoint, room: Buf, asked: Buf) -> Option<Message> {
+    send(rt, &mut endpoint, 0, ASK, asked);
+    receive(rt, &mut endpoint, TELL, room)
 }
 
-/// Prints what was received, or that nothing was.
-fn print(rt: &HostRuntime, who: &str, got: Result<Entry, Fault>) -> io::Result<()> {
-    let Ok(Entry::Received { source, len, buf, .. }) = got else {
+/// Prints a message, or that none came.
+fn print(rt: &HostRuntime, who: &str, message: Option<Message>) -> io::Result<()> {
+    let Some(message) = message else {
         return println!(rt; "{}: nothing", who);
     };
-    let text = buf.as_slice().get(..len as usize).and_then(|bytes| str::from_utf8(bytes).ok());
-    println!(rt; "{}: from {}: {}", who, source, text.unwrap_or("no text"))
+    let text = str::from_utf8(message.text.as_slice()).unwrap_or("no text");
+    println!(rt; "{}: from {}: {}", who, message.source, text)
+}
+
+/// Lets two threads speak, and gives what each received.
+fn exchange<R: Threads + Wait + Sync>(
+    rt: &R,
+    alloc: Global,
+) -> Result<(Option<Message>, Option<Message>), Fault> {
+    let question = Buf::copy(alloc, b"six times seven")?;
+    let reply = Buf::copy(alloc, b"forty-two")?;
+    let room = Buf::zeros(alloc, 15)?;
+    let reply_room = Buf::zeros(alloc, 9)?;
+    let (zero, one) = open(alloc)?;
+    Ok(thread::join(
+        rt,
+        || -> Option<Message> { answer(rt, zero, room, reply) },
+        || -> Option<Message> { ask(rt, one, reply_room, question) },
+    ))
 }
 
 fn main(rt: HostRuntime) -> io::Result<()> {
-    let alloc = rt.alloc();
-    let Ok((zero, one)) = open(alloc) else {
+    let Ok((asked, told)) = exchange(&rt, rt.alloc()) else {
         return println!(rt; "not opened");
     };
-    let (asked, told) = thread::join(
-        &rt,
-        || -> Result<Entry, Fault> { answer(&rt, alloc, zero) },
-        || -> Result<Entry, Fault> { ask(&rt, alloc, one) },
-    );
     print(&rt, "peer 0", asked)?;
     print(&rt, "peer 1", told)
 }
