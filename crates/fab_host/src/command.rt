@@ -55,7 +55,7 @@ where
     ensures stuck { result.status ≡ Stuck → Writes (D.files depot.old) words.now false (S.bytes sink.old) (S.bytes sink.new) }
     ensures write_fault { result.status ≡ WriteFault → Rose (S.faults sink.old) (S.faults sink.new)
         × (WritesPart (D.files depot.old) words.now (S.bytes sink.old) (S.bytes sink.new)
-            ⊎ TellsPart words.now (S.bytes sink.old) (S.bytes sink.new)) }
+        ⊎ TellsPart words.now (S.bytes sink.old) (S.bytes sink.new)) }
     ensures silent { IsSilent result.status → S.bytes sink.new ≡ S.bytes sink.old }
     ensures files { D.files depot.new ≡ D.files depot.old }
 
