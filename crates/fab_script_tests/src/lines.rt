@@ -27,6 +27,15 @@ fn are_whole(rt: &impl Abort, alloc: Global, rows: &[Row]) -> Result<(), Fail> {
     Ok(())
 }
 
+/// Lines after this front are carried out.
+fn are_read(rt: &impl Abort, alloc: Global, front: &[u8], lines: &[&[u8]]) -> Result<(), Fail> {
+    for line in lines {
+        let text = ending_in(alloc, front, line)?;
+        is_built(rt, alloc, &text, None);
+    }
+    Ok(())
+}
+
 /// Lines are read in the whole language, and none is carried out.
 fn are_unbuilt(
     rt: &impl Abort,
@@ -107,10 +116,8 @@ fn lines_that_are_carried_out(rt: HostRuntime) -> Result<(), Fail> {
 }
 
 /// Kinds of lines, and a form of bytes, that are not carried out yet.
-const UNBUILT: [Row; 6] = [
-    (b"put 1 0 text:a\n", Some(Why::Unbuilt)),
+const UNBUILT: [Row; 4] = [
     (b"payload 1 file\n", Some(Why::Unbuilt)),
-    (b"reach send 1\n", Some(Why::Unbuilt)),
     (b"mrecv 1 * 4096\n", Some(Why::Unbuilt)),
     (b"tsend 1 0 7 file:1:0:1\n", Some(Why::Unbuilt)),
     (b"inject 0 file:x\n", Some(Why::Unbuilt)),
@@ -337,7 +344,7 @@ const MANUAL_OTHERS: [&[u8]; 21] = [
 
 #[test]
 fn other_lines_of_the_manual(rt: HostRuntime) -> Result<(), Fail> {
-    are_unbuilt(&rt, rt.alloc(), ONE, 4, &MANUAL_OTHERS)
+    are_read(&rt, rt.alloc(), ONE, &MANUAL_OTHERS)
 }
 
 /// Its settings.
@@ -353,10 +360,7 @@ const MANUAL_SETTINGS: [&[u8]; 7] = [
 
 #[test]
 fn settings_of_the_manual(rt: HostRuntime) -> Result<(), Fail> {
-    for line in MANUAL_SETTINGS {
-        let text = ending_in(rt.alloc(), b"fabric 1\npeers 2\n", line)?;
-        is_built(&rt, rt.alloc(), &text, None);
-    }
+    are_read(&rt, rt.alloc(), b"fabric 1\npeers 2\n", &MANUAL_SETTINGS)?;
     are_unbuilt(
         &rt,
         rt.alloc(),
