@@ -13,7 +13,7 @@ ghost use Rattle.fab_rounds.specs.Rounds.{Each, TurnedAs, TurnedFor, size};
 
 use crate::runner::Runner;
 use fab_base::{Gate, NoMemory};
-use fab_face::looking::Looking;
+use fab_quantum::calls::Machinery;
 use fab_link::Port;
 use std::sync::Wait;
 use std::thread;
@@ -38,7 +38,7 @@ pub struct Rounds {
 }
 
 /// One turn of each peer, each in a thread of its own, which tells the gate when it begins and ends.
-fn round<P: Port + Send, C: Looking + Drop + Send, G: Gate, R: Threads + Wait + Sync>(
+fn round<P: Port + Send, C: Machinery + Drop + Send, G: Gate, R: Threads + Wait + Sync>(
     rt: &R,
     peers: &mut [Runner<P, C>],
     gate: &G,
@@ -68,21 +68,21 @@ fn round<P: Port + Send, C: Looking + Drop + Send, G: Gate, R: Threads + Wait + 
 }
 
 /// Whether memory ran out in a turn of any peer.
-fn any_failed<P: Port, C: Looking>(peers: &[Runner<P, C>]) -> bool
+fn any_failed<P: Port, C: Machinery>(peers: &[Runner<P, C>]) -> bool
     ensures { result ≡ list_any (λ p. p.failed) peers.now }
 {
     peers.iter().any(|peer| peer.failed())
 }
 
 /// Whether the last turn of no peer moved anything.
-fn none_moved<P: Port, C: Looking>(peers: &[Runner<P, C>]) -> bool
+fn none_moved<P: Port, C: Machinery>(peers: &[Runner<P, C>]) -> bool
     ensures { result ≡ list_all (λ p. not p.moved) peers.now }
 {
     peers.iter().all(|peer| !peer.moved())
 }
 
 /// Whether all lines of all peers are done.
-fn all_finished<P: Port, C: Looking>(peers: &[Runner<P, C>]) -> bool
+fn all_finished<P: Port, C: Machinery>(peers: &[Runner<P, C>]) -> bool
     ensures { result ≡ list_all (λ p. is_finished (actor_of (told (seen P.Port) p.peer))) peers.now }
 {
     peers.iter().all(|peer| peer.finished())
@@ -95,7 +95,7 @@ fn all_finished<P: Port, C: Looking>(peers: &[Runner<P, C>]) -> bool
 ///
 /// Once the ports are gathered, so that their moves merge, some order of turns led from the opening to the peers as they
 /// are, and they can go on in one thread.
-pub fn run_rounds<P: Port + Send, C: Looking + Drop + Send, G: Gate, R: Threads + Wait + Sync>(
+pub fn run_rounds<P: Port + Send, C: Machinery + Drop + Send, G: Gate, R: Threads + Wait + Sync>(
     rt: &R,
     peers: &mut [Runner<P, C>],
     gate: &G,

@@ -8,13 +8,13 @@ ghost use Rattle.fab_rounds.specs.Rounds.{TurnedAs, size};
 use fab_base::NoMemory;
 use fab_ep::endpoint::Endpoint;
 use fab_face::calls::Sees;
-use fab_face::looking::Looking;
+use fab_quantum::calls::Machinery;
 use fab_link::Port;
 use fab_quantum::peer::Peer;
 
 /// A peer with what its last turn told: whether it moved anything, or that memory ran out.
 #[derive(Drop)]
-pub struct Runner<P: Port, C: Looking> {
+pub struct Runner<P: Port, C: Machinery> {
     pub(crate) peer: Peer<Endpoint<P, C>>,
     pub(crate) moved: bool,
     pub(crate) failed: bool,
@@ -22,7 +22,7 @@ pub struct Runner<P: Port, C: Looking> {
     ghost kept: { failed ≡ true → moved ≡ false },
 }
 
-impl<P: Port, C: Looking> Runner<P, C> {
+impl<P: Port, C: Machinery> Runner<P, C> {
     /// A peer that took no turn yet.
     pub fn new(peer: Peer<Endpoint<P, C>>) -> Runner<P, C>
         requires log { peer.endpoint.log ≡ [] }

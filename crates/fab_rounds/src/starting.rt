@@ -8,13 +8,13 @@ ghost use Rattle.fab_threads.specs.Law.{IsFresh};
 use crate::runner::Runner;
 use fab_base::{Line, NoMemory};
 use fab_ep::endpoint::Endpoint;
-use fab_face::looking::Looking;
+use fab_quantum::calls::Machinery;
 use fab_link::Port;
 use fab_quantum::peer::Peer;
 use std::alloc::Global;
 
 /// A peer that is to do these lines over a new port, with a machine that did nothing yet and a log of so many events.
-pub fn start<P: Port + Drop, C: Looking + Drop>(
+pub fn start<P: Port + Drop, C: Machinery + Drop>(
     alloc: Global,
     port: P,
     machine: C,
