@@ -10,6 +10,8 @@ mod memory;
 #[cfg(test)]
 mod messages;
 #[cfg(test)]
+mod onesided;
+#[cfg(test)]
 mod reports;
 #[cfg(test)]
 mod runs;

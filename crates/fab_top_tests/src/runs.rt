@@ -162,7 +162,7 @@ const CANCELED_REPORT: &str = "fabric 1 peers 1\n\
 const UNBUILT: &str = "fabric 1\n\
     peers 2\n\
     peer 0\n\
-    put 1 0 text:a\n";
+    mrecv 1 * 16\n";
 
 struct OpenGate;
 
