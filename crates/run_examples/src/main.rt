@@ -9,13 +9,14 @@ use std::{io, rt};
 use std::alloc::Global;
 
 /// The scripts, in the folder in which the program runs.
-const SCRIPTS: [&str; 6] = [
+const SCRIPTS: [&str; 7] = [
     "empty.fabric",
     "canceled.fabric",
     "stuck.fabric",
     "levels.fabric",
     "large.fabric",
     "looks.fabric",
+    "onesided.fabric",
 ];
 
 /// The words of the command that runs a script.
