@@ -24,7 +24,12 @@ fn a_message_under_way(rt: HostRuntime) -> Result<(), Fail> {
     let first = zero.progress(8) == Ok(moved(1, 0, Stop::Idle));
     let waits = zero.cancel(1) == Err(Fault::NoEntry);
     let second = one.progress(8) == Ok(moved(0, 1, Stop::Idle));
-    let whole = next_came(&mut zero) == Some(Came { ctx: 1, source: 1, len: 5000 });
+    let whole = next_came(&mut zero)
+        == Some(Came {
+            ctx: 1,
+            source: 1,
+            len: 5000,
+        });
     assert!(rt; posted && went == Ok(()) && first && waits && second && whole);
     Ok(())
 }
@@ -43,8 +48,15 @@ fn everything_full(rt: HostRuntime) -> Result<(), Fail> {
     let rest = zero.progress(8) == Ok(moved(1, 0, Stop::Idle));
     let small = one.progress(8) == Ok(moved(0, 1, Stop::Idle));
     let posted = zero.recv(None, Buf::zeros(alloc, 5000)?, 3).is_ok();
-    let whole = next_came(&mut zero) == Some(Came { ctx: 3, source: 1, len: 5000 });
-    assert!(rt; large == Ok(()) && full == Err((Fault::Again(Busy::TxFull(1)), 1)) && room == Ok(()));
+    let whole = next_came(&mut zero)
+        == Some(Came {
+            ctx: 3,
+            source: 1,
+            len: 5000,
+        });
+    assert!(rt;
+        large == Ok(()) && full == Err((Fault::Again(Busy::TxFull(1)), 1)) && room == Ok(())
+    );
     assert!(rt; taken && done && rest && small && posted && whole);
     Ok(())
 }
@@ -52,7 +64,13 @@ fn everything_full(rt: HostRuntime) -> Result<(), Fail> {
 #[test]
 fn a_full_completion_queue(rt: HostRuntime) -> Result<(), Fail> {
     let alloc = rt.alloc();
-    let Ok(Pair { mut zero, one: _one }) = opened(alloc, 1, 1, 2) else {
+    let Ok(
+        Pair {
+            mut zero,
+            one: _one,
+        },
+    ) = opened(alloc, 1, 1, 2)
+    else {
         return Err("not opened")?;
     };
     let two = zero.peek(None, 5, 0, 1) == Ok(()) && zero.peek(None, 5, 0, 2) == Ok(());
@@ -75,9 +93,19 @@ fn a_directed_receive(rt: HostRuntime) -> Result<(), Fail> {
     let both = zero.progress(8).is_ok() && zero.progress(8).is_ok();
     let posted = zero.recv(Some(1), Buf::zeros(alloc, 4)?, 1).is_ok();
     let done = sent(&mut zero) == Some(5);
-    let from = next_came(&mut zero) == Some(Came { ctx: 1, source: 1, len: 3 });
+    let from = next_came(&mut zero)
+        == Some(Came {
+            ctx: 1,
+            source: 1,
+            len: 3,
+        });
     let rest = zero.recv(None, Buf::zeros(alloc, 4)?, 2).is_ok();
-    let left = next_came(&mut zero) == Some(Came { ctx: 2, source: 0, len: 2 });
+    let left = next_came(&mut zero)
+        == Some(Came {
+            ctx: 2,
+            source: 0,
+            len: 2,
+        });
     assert!(rt; own && other && both && posted && done && from && rest && left);
     Ok(())
 }

@@ -64,7 +64,10 @@ pub struct Came {
 fn came_of(entry: Entry) -> Option<Came> {
     match entry {
         Entry::Received {
-            ctx, source, len, ..
+            ctx,
+            source,
+            len,
+            ..
         } => Some(Came { ctx, source, len }),
         _ => None,
     }

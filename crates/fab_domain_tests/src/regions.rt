@@ -33,7 +33,9 @@ fn elements_are_fetched_and_added(rt: HostRuntime) -> Result<(), Fail> {
     let Ok(Pair { mut zero, mut one }) = opened(alloc, 4, 4, 8) else {
         return Err("not opened")?;
     };
-    let registered = one.reg(5, BOTH, Buf::copy(alloc, b"\x01\x02\x03\x04")?).is_ok();
+    let registered = one
+        .reg(5, BOTH, Buf::copy(alloc, b"\x01\x02\x03\x04")?)
+        .is_ok();
     let old = Buf::zeros(alloc, 2)?;
     let asked = zero.fetch_atomic(1, 5, 1, AtomicOp::Sum, Num::U8, b"\x0a\xff", old, 1);
     let served = one.progress(8).is_ok();
