@@ -26,7 +26,7 @@ const RUNS: u64 = 100;
 /// The most bytes of a message.
 const MOST: usize = 1_048_576;
 
-const fn ping_pong(len: usize, rounds: u64) -> Exchange {
+fn ping_pong(len: usize, rounds: u64) -> Exchange {
     Exchange {
         is_stream: false,
         len,
@@ -36,7 +36,7 @@ const fn ping_pong(len: usize, rounds: u64) -> Exchange {
     }
 }
 
-const fn stream(len: usize, rounds: u64) -> Exchange {
+fn stream(len: usize, rounds: u64) -> Exchange {
     Exchange {
         is_stream: true,
         len,
@@ -47,18 +47,20 @@ const fn stream(len: usize, rounds: u64) -> Exchange {
 }
 
 /// What is measured.
-const EXCHANGES: [Exchange; 10] = [
-    ping_pong(1, 500),
-    ping_pong(64, 500),
-    ping_pong(4096, 200),
-    ping_pong(65_536, 20),
-    ping_pong(MOST, 2),
-    stream(1, 100),
-    stream(64, 100),
-    stream(4096, 50),
-    stream(65_536, 5),
-    stream(MOST, 1),
-];
+fn exchanges() -> [Exchange; 10] {
+    [
+        ping_pong(1, 500),
+        ping_pong(64, 500),
+        ping_pong(4096, 200),
+        ping_pong(65_536, 20),
+        ping_pong(MOST, 2),
+        stream(1, 100),
+        stream(64, 100),
+        stream(4096, 50),
+        stream(65_536, 5),
+        stream(MOST, 1),
+    ]
+}
 
 /// Whether the first word asks for the table.
 fn is_measured(rt: &HostRuntime) -> io::Result<bool> {
@@ -102,12 +104,13 @@ fn measured<R: Clock + Threads + Wait + Sync>(
     let Ok((left, right)) = speakers(alloc) else {
         return Ok(Vec::new(alloc));
     };
+    let exchanges = exchanges();
     let mine = Bytes::new(alloc, MOST)?;
     let other = Bytes::new(alloc, MOST)?;
     let (all, _) = thread::join(
         rt,
-        || -> io::Result<Vec<Times>> { first(rt, alloc, left, mine, &EXCHANGES, runs) },
-        || -> () { second(rt, right, other, &EXCHANGES, runs) },
+        || -> io::Result<Vec<Times>> { first(rt, alloc, left, mine, &exchanges, runs) },
+        || -> () { second(rt, right, other, &exchanges, runs) },
     );
     all
 }

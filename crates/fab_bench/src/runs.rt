@@ -143,7 +143,13 @@ pub fn first<P: Party + Drop, R: Wait + Clock>(
 }
 
 /// The runs of one exchange in the other thread.
-fn answer<P: Party, R: Wait>(rt: &R, party: &mut P, exchange: &Exchange, bytes: &mut Bytes, runs: u64) {
+fn answer<P: Party, R: Wait>(
+    rt: &R,
+    party: &mut P,
+    exchange: &Exchange,
+    bytes: &mut Bytes,
+    runs: u64,
+) {
     let reply = first_bytes(bytes.out.as_slice(), exchange.reply);
     for _ in 0..runs {
         for _ in 0..exchange.rounds {

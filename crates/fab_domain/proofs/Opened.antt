@@ -17,13 +17,16 @@ ready info ports lanes = λ k d below. let there = slice_get-get_or ports k d be
 
 pub lanes : {E : Type 0} (r : Result (Vec RingPort Global) E) (info : Info) (peers room pool : ℕ) (table : Fabric) → peers ≡ info.peers → room ≡ info.lane → pool ≡ info.pool
     → IfOk r (λ v. AreMade peers room pool table v.items) → IfOk r (λ v. AreLanes info v.items)
-lanes (Ok v) info peers room pool table same_peers same_room same_pool made = (table, record {
-  count = made.count ∙ same_peers;
-  numbers = made.numbers;
-  sizes = λ k p has. let s = made.sizes k p has in (s.0 ∙ same_peers, s.1 ∙ same_room, s.2 ∙ same_pool);
-  tables = made.tables;
-  fresh = made.fresh;
-})
+lanes (Ok v) info peers room pool table same_peers same_room same_pool made = (
+  table,
+  record {
+    count = made.count ∙ same_peers;
+    numbers = made.numbers;
+    sizes = λ k p has. let s = made.sizes k p has in (s.0 ∙ same_peers, s.1 ∙ same_room, s.2 ∙ same_pool);
+    tables = made.tables;
+    fresh = made.fresh;
+  },
+)
 lanes (Err e) info peers room pool table same_peers same_room same_pool made = _
 
 -- the first of some ports, and the others

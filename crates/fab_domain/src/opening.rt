@@ -67,11 +67,7 @@ fn ports(alloc: Global, info: &Info) -> Result<Vec<RingPort>, NoMemory>
 /// All memory of the lanes is taken here. An endpoint may be moved to another thread.
 ///
 /// `Invalid` exactly where a number of `info` is outside its limits; else it may answer `NoMemory`.
-pub fn endpoints(
-    alloc: Global,
-    info: &Info,
-    selective: bool,
-) -> Result<Vec<RingEndpoint>, Fault>
+pub fn endpoints(alloc: Global, info: &Info, selective: bool) -> Result<Vec<RingEndpoint>, Fault>
     ensures opened { IfOk result (λ all. AreOpened info.now selective all.items) }
     ensures granted { IfOk result (λ _. is_granted info.now info.now.peers ≡ true) }
     ensures why { IfErr result (λ why. why ≡ why_not (is_granted info.now info.now.peers)) }

@@ -6,4 +6,6 @@
 #[cfg(test)]
 mod calls;
 #[cfg(test)]
+mod pairs;
+#[cfg(test)]
 mod regions;

@@ -15,6 +15,7 @@ use std::{io, thread};
 
 /// The tags of a question and of its answer.
 const ASK: u64 = 1;
+
 const TELL: u64 = 2;
 
 /// An operation writes a completion once its last frame is posted.
@@ -82,12 +83,7 @@ fn send<R: Wait>(rt: &R, endpoint: &mut RingEndpoint, dest: u32, tag: u64, text:
 }
 
 /// Receives a message with this tag of any peer, of as many bytes as the buffer has.
-fn receive<R: Wait>(
-    rt: &R,
-    endpoint: &mut RingEndpoint,
-    tag: u64,
-    room: Buf,
-) -> Option<Message> {
+fn receive<R: Wait>(rt: &R, endpoint: &mut RingEndpoint, tag: u64, room: Buf) -> Option<Message> {
     if endpoint.trecv(None, tag, 0, room, 0).is_err() {
         return None;
     }
@@ -95,12 +91,7 @@ fn receive<R: Wait>(
 }
 
 /// Answers one question, which it gives.
-fn answer<R: Wait>(
-    rt: &R,
-    mut endpoint: RingEndpoint,
-    room: Buf,
-    told: Buf,
-) -> Option<Message> {
+fn answer<R: Wait>(rt: &R, mut endpoint: RingEndpoint, room: Buf, told: Buf) -> Option<Message> {
     let asked = receive(rt, &mut endpoint, ASK, room);
     send(rt, &mut endpoint, 1, TELL, told);
     asked

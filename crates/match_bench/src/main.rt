@@ -35,7 +35,14 @@ fn print_line(rt: &HostRuntime, count: u32) -> io::Result<()> {
     let list_kept = unexpected::<ListMatcher, HostRuntime>(rt, alloc, count, 1000)?;
     println!(rt;
         "{count:>4}  bins: posted {}.{} ns  unexpected {}.{} ns  lists: posted {}.{} ns  unexpected {}.{} ns",
-        bins / 10, bins % 10, kept / 10, kept % 10, lists / 10, lists % 10, list_kept / 10, list_kept % 10
+        bins / 10,
+        bins % 10,
+        kept / 10,
+        kept % 10,
+        lists / 10,
+        lists % 10,
+        list_kept / 10,
+        list_kept % 10
     )
 }
 

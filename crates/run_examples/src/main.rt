@@ -5,17 +5,18 @@
 
 use fab_base::{NoMemory, Status, Text};
 use fab_host::{FileDepot, OpenGate, OutSink, WallClock, carry_out};
-use std::{io, rt};
 use std::alloc::Global;
+use std::{io, rt};
 
 /// The scripts, in the folder in which the program runs.
-const SCRIPTS: [&str; 6] = [
+const SCRIPTS: [&str; 7] = [
     "empty.fabric",
     "canceled.fabric",
     "stuck.fabric",
     "levels.fabric",
     "large.fabric",
     "looks.fabric",
+    "onesided.fabric",
 ];
 
 /// The words of the command that runs a script.
@@ -47,7 +48,14 @@ fn run_one(rt: &HostRuntime, script: &str) -> io::Result<()> {
     let mut clock = WallClock::new(rt);
     let mut errors = OutSink::new(rt.stderr());
     let ended = carry_out(
-        rt, alloc, &words, &mut depot, &mut sink, &mut clock, &OpenGate, &mut errors,
+        rt,
+        alloc,
+        &words,
+        &mut depot,
+        &mut sink,
+        &mut clock,
+        &OpenGate,
+        &mut errors,
     );
     println!(rt; "== {}", ending(&ended.status))
 }
