@@ -5,8 +5,8 @@ ghost use Rattle.fab_finish.specs.Joined.{lane, IsJoined, actors, schedules};
 
 use fab_base::NoMemory;
 use fab_ep::endpoint::Endpoint;
-use fab_quantum::calls::Machinery;
 use fab_link::PlainPort;
+use fab_quantum::calls::Machinery;
 use fab_quantum::peer::Peer;
 
 pub(crate) fn either(a: bool, b: bool) -> bool

@@ -13,8 +13,8 @@ use crate::opening::open;
 use crate::rounds::settle;
 use fab_base::{Conf, Line, NoMemory};
 use fab_ep::endpoint::Endpoint;
-use fab_quantum::calls::Machinery;
 use fab_link::PlainPort;
+use fab_quantum::calls::Machinery;
 use fab_quantum::peer::Peer;
 use std::alloc::Global;
 
@@ -40,7 +40,9 @@ fn all_done<C: Machinery>(peers: &[Peer<Endpoint<PlainPort, C>>]) -> bool
 }
 
 /// Each peer, by number, cancels the receives that are still posted and reads their completions.
-fn cancel_all<C: Machinery + Drop>(peers: &mut [Peer<Endpoint<PlainPort, C>>]) -> Result<(), NoMemory>
+fn cancel_all<C: Machinery + Drop>(
+    peers: &mut [Peer<Endpoint<PlainPort, C>>],
+) -> Result<(), NoMemory>
     requires quiet { (k : ℕ) (p : Member) → slice_get peers.old k ≡ Some p → IsQuiet (told_of p) }
     requires rest { Rest (actors peers.old) }
     requires done { all_done (actors peers.old) ≡ true }

@@ -5,8 +5,8 @@ ghost use Rattle.fab_finish.specs.Joined.{Opens, OpensAt, start};
 
 use fab_base::{Conf, Line, NoMemory};
 use fab_ep::endpoint::Endpoint;
-use fab_quantum::calls::Machinery;
 use fab_link::PlainPort;
+use fab_quantum::calls::Machinery;
 use fab_quantum::peer::Peer;
 use std::alloc::Global;
 

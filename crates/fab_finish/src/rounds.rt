@@ -5,8 +5,8 @@ ghost use Rattle.fab_finish.specs.Joined.{IsJoined, GoesOn, IsStillAt, AreStill}
 use crate::carrying::{carry, either};
 use fab_base::NoMemory;
 use fab_ep::endpoint::Endpoint;
-use fab_quantum::calls::Machinery;
 use fab_link::PlainPort;
+use fab_quantum::calls::Machinery;
 use fab_quantum::peer::Peer;
 
 /// One peer's turn. Whether anything moved: if not, it can do nothing.

@@ -13,8 +13,8 @@ ghost use Rattle.fab_rounds.specs.Rounds.{Each, TurnedAs, TurnedFor, size};
 
 use crate::runner::Runner;
 use fab_base::{Gate, NoMemory};
-use fab_quantum::calls::Machinery;
 use fab_link::Port;
+use fab_quantum::calls::Machinery;
 use std::sync::Wait;
 use std::thread;
 use std::thread::Threads;

@@ -8,8 +8,8 @@ ghost use Rattle.fab_rounds.specs.Rounds.{TurnedAs, size};
 use fab_base::NoMemory;
 use fab_ep::endpoint::Endpoint;
 use fab_face::calls::Sees;
-use fab_quantum::calls::Machinery;
 use fab_link::Port;
+use fab_quantum::calls::Machinery;
 use fab_quantum::peer::Peer;
 
 /// A peer with what its last turn told: whether it moved anything, or that memory ran out.

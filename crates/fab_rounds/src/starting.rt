@@ -8,8 +8,8 @@ ghost use Rattle.fab_threads.specs.Law.{IsFresh};
 use crate::runner::Runner;
 use fab_base::{Line, NoMemory};
 use fab_ep::endpoint::Endpoint;
-use fab_quantum::calls::Machinery;
 use fab_link::Port;
+use fab_quantum::calls::Machinery;
 use fab_quantum::peer::Peer;
 use std::alloc::Global;
 

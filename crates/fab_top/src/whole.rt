@@ -9,24 +9,30 @@ ghost use Rattle.fab_finish.specs.Joined.{member_actor, member_steps};
 
 use crate::report::{add_first, add_last, add_peer};
 use fab_base::NoMemory;
-use fab_peer::Peer;
+use fab_ep::endpoint::Endpoint;
+use fab_link::PlainPort;
+use fab_quantum::calls::Machinery;
+use fab_quantum::peer::Peer;
 use std::alloc::Global;
 
-fn all_finished(peers: &[Peer]) -> bool
+/// A peer over a plain port, whatever its machine.
+type Member<C> = Peer<Endpoint<PlainPort, C>>;
+
+fn all_finished<C: Machinery>(peers: &[Member<C>]) -> bool
     ensures { result ≡ list_all (λ peer. is_finished (member_actor peer)) peers.now }
 {
     peers.iter().all(|peer| peer.finished())
 }
 
 /// Whether all lines of all peers are done.
-pub fn all_done(peers: &[Peer]) -> bool
+pub fn all_done<C: Machinery>(peers: &[Member<C>]) -> bool
     ensures { result ≡ all_done (map member_actor peers.now) }
 {
     all_finished(peers)
 }
 
 /// The parts of all peers, in order.
-fn add_peers(out: &mut String, peers: &[Peer]) -> Result<(), NoMemory>
+fn add_peers<C: Machinery>(out: &mut String, peers: &[Member<C>]) -> Result<(), NoMemory>
     ensures { OnOk result (string_bytes out.new ≡ string_bytes out.old
         ++ text_of (all_lines 0 (map member_actor peers.now) (map member_steps peers.now))) }
 {
@@ -46,7 +52,7 @@ fn add_peers(out: &mut String, peers: &[Peer]) -> Result<(), NoMemory>
 }
 
 /// The report of these peers, in their states and with their schedules.
-pub fn report(alloc: Global, peers: &[Peer]) -> Result<String, NoMemory>
+pub fn report<C: Machinery>(alloc: Global, peers: &[Member<C>]) -> Result<String, NoMemory>
     ensures { IfOk result (λ text. string_bytes text ≡ report_of (map member_actor peers.now) (map member_steps peers.now)) }
 {
     let mut out = String::new(alloc);

@@ -6,7 +6,7 @@ use Rattle.fab_top.proofs.Parts.{part_of, part_written, parts_end}
 use Rattle.fab_top.proofs.whole.add_peers.Goals as goal
 
 pub loop-number-preserved : goal.loop-number-preserved
-loop-number-preserved c =
+loop-number-preserved g c =
     let x = c.index-peers-number.result in
     let is : x ≡ get_or c.args.peers.now c.loop-number.number x = c.index-peers-number.is in
     let writes : string_bytes c.add_peer.new.out ≡ string_bytes c.loop-number.out ++ text_of (actor_lines c.loop-number.number (member_actor x) (member_steps x)) =
@@ -14,4 +14,4 @@ loop-number-preserved c =
     part_written c.loop-number.number c.args.peers.now x _ _ _ c.loop-number-test.true is c.loop-number.invariant writes
 
 pub returns : goal.returns
-returns c = parts_end c.loop-number.number c.args.peers.now _ _ (omega (arith, c.loop-number-test.false, c.loop-number.auto.number-end)) c.loop-number.invariant
+returns g c = parts_end c.loop-number.number c.args.peers.now _ _ (omega (arith, c.loop-number-test.false, c.loop-number.auto.number-end)) c.loop-number.invariant

@@ -5,4 +5,4 @@ use Rattle.fab_top.proofs.Parts.{list_all-map}
 use Rattle.fab_top.proofs.whole.all_done.Goals as goal
 
 pub returns : goal.returns
-returns c = c.all_finished.ensures ∙ list_all-map is_finished member_actor c.args.peers.now
+returns g c = c.all_finished.ensures ∙ list_all-map is_finished member_actor c.args.peers.now
