@@ -1,4 +1,7 @@
 //! Peers go from their ports over the table to plain ports.
+//!
+//! An endpoint is closed, and another is opened over the plain port with what the machine holds: one that only gave its
+//! port up could not be let go where memory lacks before it has another.
 ghost use Rattle.std.specs.Prelude.{◌≡◌, ◌<◌, ◌≤◌, ◌^◌, ℕ, [], length, map, false, IfOk, OnOk};
 ghost use Rattle.fab_face.specs.Held.{IsOpen};
 ghost use Rattle.fab_ep.specs.Tries.{IsTied};
