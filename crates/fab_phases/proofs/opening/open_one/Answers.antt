@@ -1,0 +1,13 @@
+use Rattle.std.proofs.Common.{ap, ◌∙◌, ◌≡◌, [], false}
+use Rattle.fab_face.specs.Ports.{Whole}
+use Rattle.fab_ring.specs.declared.port.RingPort.{RingPort}
+use Rattle.fab_threads.specs.Pasts.{past_of, begun}
+use Rattle.fab_phases.specs.Phases.{past_at, at_start}
+use Rattle.fab_phases.proofs.Lists.{ok_then}
+use Rattle.fab_phases.proofs.Starting.{past_new}
+use Rattle.fab_phases.proofs.opening.open_one.Goals as goal
+
+pub returns-clause-past : goal.returns-clause-past
+returns-clause-past g c =
+    let e : Whole RingPort = record { port = c.args.port; held = g.C.Machine.held c.args.machine; log = []; log_size = c.args.conf.now.info.log; pushed = false } in
+    ok_then _ (λ r. past_at r.peer ≡ begun (at_start c.args.conf.now c.args.lines.items)) (λ r told. ap past_of told ∙ past_new c.args.conf.now c.args.lines.items e c.requires.start c.requires.port) c.start.result c.start.ensures.told

@@ -1,0 +1,60 @@
+//! All peers at the start of their lines, over the lanes of one table.
+ghost use Rattle.std.specs.Prelude.{◌≡◌, ◌≤◌, ℕ, length, map, IfOk};
+ghost use Rattle.std.specs.List.{All};
+ghost use Rattle.fab_model.specs.Calls.{upto};
+ghost use Rattle.fab_finish.specs.Joined.{start as start_of};
+ghost use Rattle.fab_threads.specs.Pasts.{begun};
+ghost use Rattle.fab_phases.specs.Phases.{IsNew, past_at, at_start, first_of};
+
+use fab_base::{Conf, Line, NoMemory};
+use fab_finish::opening::take_first;
+use fab_quantum::calls::Machinery;
+use fab_ring::RingPort;
+use fab_rounds::runner::Runner;
+use fab_rounds::starting::start;
+use std::alloc::Global;
+
+/// A peer that is to do these lines over a new port.
+fn open_one<C: Machinery + Drop>(
+    alloc: Global,
+    conf: &Conf,
+    lines: Vec<Line>,
+    machine: C,
+    port: RingPort,
+) -> Result<Runner<RingPort, C>, NoMemory>
+    requires log { 4 ≤ conf.now.info.log }
+    requires start { C.held machine ≡ start_of conf.now }
+    requires port { IsNew conf.now.peers port }
+    ensures past { IfOk result (λ r. past_at r.peer ≡ begun (at_start conf.now lines.items)) }
+    ensures port { IfOk result (λ r. r.peer.endpoint.port ≡ port) }
+{
+    start(alloc, port, machine, conf.info.log, lines)
+}
+
+/// All peers at the start of their lines, each over its port and a machine that holds what an endpoint holds when it is
+/// opened. The peers have the lists in their order; a peer without a list has no lines.
+pub(crate) fn open<C: Machinery + Drop>(
+    alloc: Global,
+    conf: &Conf,
+    mut lists: Vec<Vec<Line>>,
+    mut machines: Vec<C>,
+    mut ports: Vec<RingPort>,
+) -> Result<Vec<Runner<RingPort, C>>, NoMemory>
+    requires count { length machines.items ≡ conf.now.peers }
+    requires log { 4 ≤ conf.now.info.log }
+    requires start { All (λ m. C.held m ≡ start_of conf.now) machines.items }
+    requires all { length ports.items ≡ conf.now.peers }
+    requires ports { All (IsNew conf.now.peers) ports.items }
+    ensures pasts { IfOk result (λ rs. map (λ r. past_at r.peer) rs.items ≡ map (λ p. begun (first_of conf.now (map (λ l. l.items) lists.items) p)) (upto conf.now.peers)) }
+    ensures ports { IfOk result (λ rs. map (λ r. r.peer.endpoint.port) rs.items ≡ ports.items) }
+{
+    let mut runners = Vec::new(alloc);
+    for _peer in 0..conf.peers {
+        let lines = take_first(alloc, &mut lists);
+        let machine = machines.remove(0);
+        let port = ports.remove(0);
+        let runner = open_one(alloc, conf, lines, machine, port)?;
+        runners.push(runner)?;
+    }
+    Ok(runners)
+}
