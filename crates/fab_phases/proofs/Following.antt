@@ -1,7 +1,7 @@
 -- Peers over the plain ports that their own were gathered into: they are joined behind the frames of before.
 use Rattle.std.proofs.Common.{◌≡◌, ◌<◌, ◌≤◌, ◌^◌, ℕ, zero, suc, List, [], ◌∷◌, ◌++◌, length, take, append-nil, Option, Some, None, refl, sym, ap, subst, ◌∙◌, arith}
 use std.Path.{fun_ext}
-use Rattle.std.specs.Prelude.{slice_get, slice_index, slice_index_or, false}
+use Rattle.std.specs.Prelude.{slice_get, slice_index, false}
 use Rattle.std.proofs.lemmas.List.{get_or_past}
 use Rattle.std.proofs.lemmas.Option.{slice_get_within}
 use Rattle.fab_base.specs.declared.frames.Frame.{Frame}

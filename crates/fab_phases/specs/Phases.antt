@@ -7,6 +7,7 @@
 --     living_with, past_with   a peer that was parted from its port, with what its machine holds
 --     Seated living steps p    the peer p, over a plain port, goes on from there
 --     Follows x q p            it goes on from this past, over this plain port
+--     Tells x port             the past is of a peer at this port of the table
 use Rattle.std.specs.Prelude.{◌≡◌, ℕ, List, [], Some, None, slice_get, slice_index_or}
 use Rattle.fab_base.specs.declared.peers.Step.{Step}
 use Rattle.fab_base.specs.declared.script.Conf.{Conf}
