@@ -136,6 +136,8 @@ all_gathered f ports t u ps qs ws all whole feeds feeds' succ rooms got = let fi
     (let l = slice_get_within ports k p here in let a = succ.count in let b = rooms.count in let q = get_some ps k (omega arith) in let w = get_some ws k (omega arith) in (q.0, w.0, q.1, w.1)) in record {
       count = got.count ∙ succ.count;
       goes_on = λ k p q here there. let o = find k p here in succeeded t u p o.0 q o.1.items (succ.each k p o.0 here o.2) (got.each k o.0 q o.1 o.2 there o.3);
+      unmoved = λ k q there d. let l = slice_get_within qs k q there in let a = got.count in let b = succ.count in let p = get_some ports k (omega arith) in let o = find k p.0 p.1 in
+          ap (λ (z : Lane). z.moved) ((got.each k o.0 q o.1 o.2 there o.3).same d) ∙ ap (λ (z : Lane). z.moved) ((succ.each k p.0 o.0 p.1 o.2).lanes d);
       inside = λ e r b a q at_e at_r there. let o = find r a at_r in let own = rooms.each r a o.1 at_r o.3 in let le = slice_get_within ports e b at_e in let lr = slice_get_within ports r a at_r in let n = own.count in let m = all.count in let i = get_some o.1.items e (omega arith) in
           let room = own.each e b i.0 at_e i.1 in let is_r : o.0.number ≡ r = (succ.each r a o.0 at_r o.2).goes_on.number ∙ all.numbers r a at_r in
           let k : Emptied t u r e i.0 (lane_at q e).in_list = subst (λ (z : ℕ). Emptied t u z e i.0 (lane_at q e).in_list) is_r ((got.each r o.0 q o.1 o.2 there o.3).each e i.0 i.1) in

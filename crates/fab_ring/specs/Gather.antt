@@ -49,6 +49,8 @@ pub record GoesOn (p : RingPort) (q : Plain) : Type 0 where
 pub record Gathered (ports : List RingPort) (all : List Plain) : Type 0 where
   pub count : length all ≡ length ports
   pub goes_on : (k : ℕ) (p : RingPort) (q : Plain) → slice_get ports k ≡ Some p → slice_get all k ≡ Some q → GoesOn p q
+  -- nothing was moved out of a plain port yet
+  pub unmoved : (k : ℕ) (q : Plain) → slice_get all k ≡ Some q → (d : ℕ) → (lane_at q d).moved ≡ 0
   -- what s posted to r is what r had taken of it, and then what came
   pub inside : (s r : ℕ) (a b : RingPort) (q : Plain) → slice_get ports s ≡ Some a → slice_get ports r ≡ Some b → slice_get all r ≡ Some q
       → (out_of a r).frames ≡ (in_of b s).taken ++ (lane_at q s).in_list
