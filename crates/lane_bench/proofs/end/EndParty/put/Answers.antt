@@ -1,7 +1,7 @@
 use Rattle.std.proofs.Common.{ℕ, ◌<◌, sym, subst}
 use Rattle.fab_ring.specs.Ports.{out_of}
 use Rattle.lane_bench.proofs.Betweens.{to_items, to_heads}
-use Rattle.lane_bench.proofs.end.End.put.Goals as goal
+use Rattle.lane_bench.proofs.end.EndParty.put.Goals as goal
 
 pub post-requires-clause-between : goal.post-requires-clause-between
 post-requires-clause-between c = to_items (out_of c.args.self.now.port) c.args.self.now.between
