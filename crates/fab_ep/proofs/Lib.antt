@@ -12,3 +12,4 @@ mod Accepting
 mod Reading
 mod Answering
 mod Kept
+mod Registered

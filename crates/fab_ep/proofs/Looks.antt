@@ -1,6 +1,6 @@
 -- How looks, and receives and drops of claimed messages, are refused.
 --     looks_ours, takes_ours, drops_ours      their faults are told, or may pass
-use Rattle.std.proofs.Common.{inl, inr, ◌≡◌, ℕ, Bool, true, false, List, [], ◌∷◌, Option, not, refl, subst}
+use Rattle.std.proofs.Common.{inl, inr, ◌≡◌, ℕ, Bool, true, false, List, [], ◌∷◌, not, refl, subst}
 use Rattle.std.specs.Prelude.{is_none}
 use Rattle.fab_base.specs.declared.faults.Fault.{Fault}
 use Rattle.fab_base.specs.declared.faults.Fault.TheVariants.{Again, NotSupported, MsgSize, Invalid, NoEntry}

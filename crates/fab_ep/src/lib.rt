@@ -13,5 +13,7 @@ mod keeping;
 mod looking;
 mod plain;
 mod receiving;
+mod regions;
+mod requests;
 pub mod seats;
 mod sending;

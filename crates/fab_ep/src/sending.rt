@@ -5,7 +5,8 @@ ghost use Rattle.fab_face.specs.Machine.{sending};
 ghost use Rattle.fab_face.specs.Ports.{seen};
 ghost use Rattle.std.specs.Prelude.{IfSome, IfNone, ℕ, nat_le};
 ghost use Rattle.fab_model.specs.State.{in_use, lookup};
-ghost use Rattle.fab_model.specs.Calls.{do_call};
+ghost use Rattle.fab_model.specs.Calls.{Transmit, do_call};
+ghost use Rattle.fab_model.specs.Sending.{Order};
 ghost use Rattle.fab_face.specs.Acts.{Went, Did};
 ghost use Rattle.fab_face.specs.Answers.{Sends, SendsNot, is_final};
 ghost use Rattle.fab_face.specs.declared.events.Event.TheVariants.{Call as Called};
@@ -27,16 +28,13 @@ const SILENT: Flags = Flags {
 };
 
 impl<P: Port, C: Machine> Endpoint<P, C> {
-    /// Whether a message may be accepted now. Where all transmit entries are in use, what waits is posted
-    /// first, as far as that may be.
-    fn admit(&mut self, message: &Message, bytes: &[u8]) -> Result<(), Fault>
-        ensures ok { OnOk result (Admits (sending message.now bytes.now) (seen P.Port self.old) (seen P.Port self.new)) }
-        ensures err { IfErr result (λ why. SendsNot P.FIXED (sending message.now bytes.now) (seen P.Port self.old) (seen P.Port self.new) why) }
+    /// Whether a transmit call may be accepted now that is not refused for good. Where all transmit entries
+    /// are in use, what waits is posted first, as far as that may be.
+    pub(crate) fn make_place(&mut self) -> Result<(), Fault>
+        ensures ok { OnOk result ((o : Order) → is_final (do_call self.old.held.state (Transmit o)).0 ≡ false → Admits (Transmit o) (seen P.Port self.old) (seen P.Port self.new)) }
+        ensures err { IfErr result (λ why. (o : Order) → is_final (do_call self.old.held.state (Transmit o)).0 ≡ false → SendsNot P.FIXED (Transmit o) (seen P.Port self.old) (seen P.Port self.new) why) }
     {
         self.pushed = false;
-        if let Some(why) = self.core.send_fault(message, bytes) {
-            return Err(why);
-        }
         if is_short(&self.log, self.log_size) {
             return Err(Fault::Again(Busy::LogFull(self.log_size)));
         }
@@ -51,6 +49,18 @@ impl<P: Port, C: Machine> Endpoint<P, C> {
             return Err(Fault::Again(Busy::TxFull(most)));
         }
         Ok(())
+    }
+
+    /// Whether a message may be accepted now.
+    fn admit(&mut self, message: &Message, bytes: &[u8]) -> Result<(), Fault>
+        ensures ok { OnOk result (Admits (sending message.now bytes.now) (seen P.Port self.old) (seen P.Port self.new)) }
+        ensures err { IfErr result (λ why. SendsNot P.FIXED (sending message.now bytes.now) (seen P.Port self.old) (seen P.Port self.new) why) }
+    {
+        if let Some(why) = self.core.send_fault(message, bytes) {
+            self.pushed = false;
+            return Err(why);
+        }
+        self.make_place()
     }
 
     /// Posts the next frame for a peer to which one item waits at most; whether it did.
@@ -70,7 +80,7 @@ impl<P: Port, C: Machine> Endpoint<P, C> {
     }
 
     /// Posts what may go at once of the only item that waits for a peer.
-    fn let_out(&mut self, dest: u32)
+    pub(crate) fn let_out(&mut self, dest: u32)
         requires below { dest < P.peer_count self.old.port }
         requires place { length self.old.log + 1 ≤ self.old.log_size }
         requires only { IsOnly self.old.held dest }
@@ -80,7 +90,7 @@ impl<P: Port, C: Machine> Endpoint<P, C> {
     }
 
     /// The peer at this index, where nothing waits for it.
-    fn free_peer(&self, index: u32) -> Option<u32>
+    pub(crate) fn free_peer(&self, index: u32) -> Option<u32>
         ensures some { IfSome result (λ t. IsFree (seen P.Port self.now) index t) }
         ensures none { IfNone result ((t : ℕ) → lookup self.now.held.state.av index ≡ Some t → next_item self.now.held.state t ≢ None) }
     {

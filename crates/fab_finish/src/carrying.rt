@@ -5,7 +5,7 @@ ghost use Rattle.fab_finish.specs.Joined.{lane, IsJoined, actors, schedules};
 
 use fab_base::NoMemory;
 use fab_ep::endpoint::Endpoint;
-use fab_face::looking::Looking;
+use fab_quantum::calls::Machinery;
 use fab_link::PlainPort;
 use fab_quantum::peer::Peer;
 
@@ -18,7 +18,7 @@ pub(crate) fn either(a: bool, b: bool) -> bool
 
 /// Moves one frame that a peer has left into the in list of its receiver, and says whether there was one.
 /// After want of memory that frame is lost.
-fn carry_one<C: Looking + Drop>(
+fn carry_one<C: Machinery + Drop>(
     peers: &mut [Peer<Endpoint<PlainPort, C>>],
     from: u32,
     to: u32,
@@ -44,7 +44,7 @@ fn carry_one<C: Looking + Drop>(
 }
 
 /// Moves all frames that one peer has left for another. Whether there was one.
-fn carry_lane<C: Looking + Drop>(
+fn carry_lane<C: Machinery + Drop>(
     peers: &mut [Peer<Endpoint<PlainPort, C>>],
     from: u32,
     to: u32,
@@ -67,7 +67,7 @@ fn carry_lane<C: Looking + Drop>(
 }
 
 /// Moves all frames that one peer has left. Whether there was one.
-fn carry_from<C: Looking + Drop>(
+fn carry_from<C: Machinery + Drop>(
     peers: &mut [Peer<Endpoint<PlainPort, C>>],
     from: u32,
 ) -> Result<bool, NoMemory>
@@ -90,7 +90,7 @@ fn carry_from<C: Looking + Drop>(
 }
 
 /// Moves all frames that any peer has left. Whether there was one.
-pub(crate) fn carry<C: Looking + Drop>(
+pub(crate) fn carry<C: Machinery + Drop>(
     peers: &mut [Peer<Endpoint<PlainPort, C>>],
 ) -> Result<bool, NoMemory>
     requires joined { IsJoined peers.old }

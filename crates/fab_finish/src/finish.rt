@@ -13,7 +13,7 @@ use crate::opening::open;
 use crate::rounds::settle;
 use fab_base::{Conf, Line, NoMemory};
 use fab_ep::endpoint::Endpoint;
-use fab_face::looking::Looking;
+use fab_quantum::calls::Machinery;
 use fab_link::PlainPort;
 use fab_quantum::peer::Peer;
 use std::alloc::Global;
@@ -26,21 +26,21 @@ pub enum Ending {
 }
 
 /// Whether each peer has done all its lines.
-fn each_finished<C: Looking>(peers: &[Peer<Endpoint<PlainPort, C>>]) -> bool
+fn each_finished<C: Machinery>(peers: &[Peer<Endpoint<PlainPort, C>>]) -> bool
     ensures { result ≡ list_all (λ p. is_finished (member_actor p)) peers.now }
 {
     peers.iter().all(|peer| peer.finished())
 }
 
 /// Whether all lines of all peers are done.
-fn all_done<C: Looking>(peers: &[Peer<Endpoint<PlainPort, C>>]) -> bool
+fn all_done<C: Machinery>(peers: &[Peer<Endpoint<PlainPort, C>>]) -> bool
     ensures { result ≡ all_done (actors peers.now) }
 {
     each_finished(peers)
 }
 
 /// Each peer, by number, cancels the receives that are still posted and reads their completions.
-fn cancel_all<C: Looking + Drop>(peers: &mut [Peer<Endpoint<PlainPort, C>>]) -> Result<(), NoMemory>
+fn cancel_all<C: Machinery + Drop>(peers: &mut [Peer<Endpoint<PlainPort, C>>]) -> Result<(), NoMemory>
     requires quiet { (k : ℕ) (p : Member) → slice_get peers.old k ≡ Some p → IsQuiet (told_of p) }
     requires rest { Rest (actors peers.old) }
     requires done { all_done (actors peers.old) ≡ true }
@@ -60,7 +60,7 @@ fn cancel_all<C: Looking + Drop>(peers: &mut [Peer<Endpoint<PlainPort, C>>]) -> 
 /// on its way, no completion is unread, and no line can be done.
 ///
 /// After want of memory a frame that was on its way may be lost, so the peers are then only read or dropped.
-pub fn finish<C: Looking + Drop>(
+pub fn finish<C: Machinery + Drop>(
     peers: &mut [Peer<Endpoint<PlainPort, C>>],
 ) -> Result<Ending, NoMemory>
     requires joined { IsJoined peers.old }
@@ -82,7 +82,7 @@ pub fn finish<C: Looking + Drop>(
 /// until none can go on, and hands them back: some order of turns took the steps of their schedules from the start of
 /// their lines to their states. The peers have the lists in their order; a peer without a list has no lines. Where all
 /// lines are done, each peer then cancelled the receives that were still posted.
-pub fn run_peers<C: Looking + Drop>(
+pub fn run_peers<C: Machinery + Drop>(
     alloc: Global,
     conf: &Conf,
     lists: Vec<Vec<Line>>,

@@ -5,7 +5,7 @@ ghost use Rattle.fab_finish.specs.Joined.{Opens, OpensAt, start};
 
 use fab_base::{Conf, Line, NoMemory};
 use fab_ep::endpoint::Endpoint;
-use fab_face::looking::Looking;
+use fab_quantum::calls::Machinery;
 use fab_link::PlainPort;
 use fab_quantum::peer::Peer;
 use std::alloc::Global;
@@ -22,7 +22,7 @@ fn take_first(alloc: Global, lists: &mut Vec<Vec<Line>>) -> Vec<Line>
 }
 
 /// A peer over a new port that is to do these lines.
-fn open_one<C: Looking + Drop>(
+fn open_one<C: Machinery + Drop>(
     alloc: Global,
     conf: &Conf,
     number: u32,
@@ -43,7 +43,7 @@ fn open_one<C: Looking + Drop>(
 
 /// All peers at the start of their lines, each over a machine that holds what an endpoint holds when it is opened. The
 /// peers have the lists in their order; a peer without a list has no lines.
-pub fn open<C: Looking + Drop>(
+pub fn open<C: Machinery + Drop>(
     alloc: Global,
     conf: &Conf,
     mut lists: Vec<Vec<Line>>,

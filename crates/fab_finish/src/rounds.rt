@@ -5,12 +5,12 @@ ghost use Rattle.fab_finish.specs.Joined.{IsJoined, GoesOn, IsStillAt, AreStill}
 use crate::carrying::{carry, either};
 use fab_base::NoMemory;
 use fab_ep::endpoint::Endpoint;
-use fab_face::looking::Looking;
+use fab_quantum::calls::Machinery;
 use fab_link::PlainPort;
 use fab_quantum::peer::Peer;
 
 /// One peer's turn. Whether anything moved: if not, it can do nothing.
-fn turn<C: Looking + Drop>(
+fn turn<C: Machinery + Drop>(
     peers: &mut [Peer<Endpoint<PlainPort, C>>],
     number: usize,
 ) -> Result<bool, NoMemory>
@@ -26,7 +26,7 @@ fn turn<C: Looking + Drop>(
 
 /// Each peer's turn, and then what they posted is carried. Whether anything moved: if not, no peer can do
 /// anything.
-fn round<C: Looking + Drop>(peers: &mut [Peer<Endpoint<PlainPort, C>>]) -> Result<bool, NoMemory>
+fn round<C: Machinery + Drop>(peers: &mut [Peer<Endpoint<PlainPort, C>>]) -> Result<bool, NoMemory>
     requires joined { IsJoined peers.old }
     ensures joined { OnOk result (IsJoined peers.new) }
     ensures on { OnOk result (GoesOn peers.old peers.new) }
@@ -43,7 +43,7 @@ fn round<C: Looking + Drop>(peers: &mut [Peer<Endpoint<PlainPort, C>>]) -> Resul
 
 /// Rounds until one moves nothing. Each round that goes on makes a schedule or a list of frames longer, so memory ends
 /// long before the 2^64 - 1 rounds that are made at most.
-pub(crate) fn settle<C: Looking + Drop>(
+pub(crate) fn settle<C: Machinery + Drop>(
     peers: &mut [Peer<Endpoint<PlainPort, C>>],
 ) -> Result<(), NoMemory>
     requires joined { IsJoined peers.old }

@@ -15,29 +15,9 @@ use Rattle.fab_words.specs.Words.{begins_with}
 
 -- the settings that are carried out, and the calls
 abbrev pub is_carried_out : Verb → Bool
-is_carried_out verb.Peers = true
-is_carried_out verb.Caps = true
-is_carried_out verb.Lane = true
-is_carried_out verb.Pool = true
-is_carried_out verb.Tx = true
-is_carried_out verb.Rx = true
-is_carried_out verb.Cq = true
-is_carried_out verb.Selective = true
-is_carried_out verb.Peer = true
-is_carried_out verb.Send = true
-is_carried_out verb.TSend = true
-is_carried_out verb.Inject = true
-is_carried_out verb.TInject = true
-is_carried_out verb.Recv = true
-is_carried_out verb.TRecv = true
-is_carried_out verb.Peek = true
-is_carried_out verb.Claim = true
-is_carried_out verb.Discard = true
-is_carried_out verb.Take = true
-is_carried_out verb.DropClaimed = true
-is_carried_out verb.Cancel = true
-is_carried_out verb.Wait = true
-is_carried_out _ = false
+is_carried_out verb.Payload = false
+is_carried_out verb.MRecv = false
+is_carried_out _ = true
 
 abbrev pub has : Language → Verb → Bool
 has Built verb = is_carried_out verb

@@ -19,31 +19,7 @@ pub enum Language {
 fn is_carried_out(verb: Verb) -> bool
     ensures { result ≡ is_carried_out verb }
 {
-    matches!(
-        verb,
-        Verb::Peers
-            | Verb::Caps
-            | Verb::Lane
-            | Verb::Pool
-            | Verb::Tx
-            | Verb::Rx
-            | Verb::Cq
-            | Verb::Selective
-            | Verb::Peer
-            | Verb::Send
-            | Verb::TSend
-            | Verb::Inject
-            | Verb::TInject
-            | Verb::Recv
-            | Verb::TRecv
-            | Verb::Peek
-            | Verb::Claim
-            | Verb::Discard
-            | Verb::Take
-            | Verb::DropClaimed
-            | Verb::Cancel
-            | Verb::Wait
-    )
+    !matches!(verb, Verb::Payload | Verb::MRecv)
 }
 
 /// Whether no word names bytes of a payload file.

@@ -60,7 +60,7 @@ unfolding call_line
 again_held m lines results kept call outcome next done again =
     next m ∙ ap (after_call (actor_in (living m lines results kept))) done ∙ after_again (actor_in (living m lines results kept)) outcome m.state again
 
-next_is : (a : Actor) (op : LineOp) → option_map (λ (line : Line). line.op) (next_line a) ≡ Some op → do_next a ≡ do_line a op
+pub next_is : (a : Actor) (op : LineOp) → option_map (λ (line : Line). line.op) (next_line a) ≡ Some op → do_next a ≡ do_line a op
 unfolding do_next
 next_is a op e = by_line (next_line a) refl e
   where

@@ -1,5 +1,7 @@
 pub mod Paths
 pub mod Calling
+pub mod Requesting
+pub mod Alone
 pub mod Idling
 pub mod Showing
 pub mod Turning

@@ -165,6 +165,10 @@ Answered (Err fault) a b false = (is_again (Refused fault) ≡ true) × (b ≡ a
 Answered (Err fault) a b true =
     (is_again (Refused fault) ≡ false) × (fault ≢ LacksMemory) × (b ≡ record a { results = a.results ++ Refused fault ∷ []; schedule = a.schedule ++ Do ∷ [] })
 
+-- a line is done by the peer alone: its result and its step are kept
+abbrev pub noted : {Home : Type 0} → LineResult → Told Home → Told Home
+noted result a = record a { results = a.results ++ result ∷ []; schedule = a.schedule ++ Do ∷ [] }
+
 -- some acts lead on; `moved` says whether there is one, and where a line was not done and nothing moved, it cannot be done
 pub record WentOn {Home : Type 0} (a b : Told Home) (done moved : Bool) : Type 0 where
   pub acts : List Act

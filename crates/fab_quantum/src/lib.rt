@@ -3,5 +3,9 @@
 //! It is proved over the endpoint's public face alone (`fab_face`), whatever the endpoint and the port.
 #![tactic(auto)]
 
+pub mod calls;
+mod keeping;
 mod looks;
 pub mod peer;
+mod regions;
+mod requests;

@@ -5,9 +5,10 @@ ghost use Rattle.fab_model.specs.Calls.{Look};
 ghost use Rattle.fab_face.specs.Answers.{Receives, ReceivesNot};
 ghost use Rattle.fab_quantum.specs.Looks.{look_line};
 
+use crate::calls::Calls;
 use crate::peer::{Outcome, Peer, either, why_of};
 use fab_base::{Buf, Fault, LineOp, NoMemory, PeekHow};
-use fab_face::calls::{Logs, Looks, Messages, Progress, Receives};
+use fab_face::calls::Looks;
 
 /// Looks for an unexpected message, claims it or discards it.
 fn look_by<E: Looks>(
@@ -28,7 +29,7 @@ fn look_by<E: Looks>(
     }
 }
 
-impl<E: Messages + Receives + Looks + Progress + Logs> Peer<E> {
+impl<E: Calls> Peer<E> {
     ghost use Rattle.fab_quantum.specs.Turns.{told, next_op, WentOn};
 
     /// The line `peek`, `claim` or `discard`.

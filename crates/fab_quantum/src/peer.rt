@@ -1,7 +1,9 @@
 //! A peer over any endpoint: it does its lines, in turns.
-ghost use Rattle.std.specs.Prelude.{◌≡◌, ◌<◌, ◌||◌, length, ℕ, Some, None, Ok, IfOk, OnOk, IfSome, IfNone, find, position, is_some, nat_lt, ◌+◌, [], true, false, Bool};
+ghost use Rattle.std.specs.Prelude.{◌≡◌, ◌≢◌, ◌<◌, ◌||◌, length, ℕ, Some, None, Ok, Err, IfOk, OnOk, IfSome, IfNone, find, position, is_some, nat_lt, ◌+◌, [], true, false, Bool};
 ghost use Rattle.fab_base.specs.declared.script.LineOp.TheVariants.{Wait, Recv, TRecv, Send, TSend, Inject, TInject, Cancel};
 ghost use Rattle.fab_base.specs.declared.script.BytesWord.{BytesWord};
+ghost use Rattle.fab_base.specs.declared.faults.Fault.TheVariants.{NoMemory as LacksMemory};
+ghost use Rattle.fab_av.specs.Addresses.{answer_of};
 ghost use Rattle.fab_model.specs.Matching.{remove_first};
 ghost use Rattle.fab_model.specs.Calls.{word_bytes};
 ghost use Rattle.fab_model.specs.Peers.{ctx_of, is_of_ctx, part_of, unread, is_finished};
@@ -12,11 +14,12 @@ ghost use Rattle.fab_quantum.specs.Turns.{step_of, why_of};
 
 pub mod seats;
 
+use crate::calls::Calls;
 use fab_base::{
     Buf, BytesWord, Entry, Fault, Flags, Kept, Line, LineOp, LineResult, NoMemory, Refused, Step,
     Taken,
 };
-use fab_face::calls::{Logs, Looks, Messages, Progress, Receives};
+use fab_face::calls::Progress;
 use fab_face::events::Event;
 use std::alloc::Global;
 
@@ -24,7 +27,7 @@ use std::alloc::Global;
 ///
 /// The endpoint is open to whoever owns the peer: over a plain port its frames are carried by hand.
 #[derive(Drop)]
-pub struct Peer<E: Messages + Receives + Looks + Progress + Logs> {
+pub struct Peer<E: Calls> {
     pub endpoint: E,
     pub(crate) lines: Vec<Line>,
     pub(crate) results: Vec<LineResult>,
@@ -135,7 +138,7 @@ fn take_kept(kept: &mut Vec<Kept>, ctx: Option<u64>) -> Option<Kept>
 }
 
 /// The bytes of a line's word.
-fn word_bytes(alloc: Global, word: &BytesWord) -> Result<Buf, NoMemory>
+pub(crate) fn word_bytes(alloc: Global, word: &BytesWord) -> Result<Buf, NoMemory>
     ensures { IfOk result (λ b. b ≡ word_bytes word.now) }
 {
     match word {
@@ -159,10 +162,10 @@ fn next_entry<E: Progress>(endpoint: &mut E) -> Option<Taken>
     }
 }
 
-impl<E: Messages + Receives + Looks + Progress + Logs> Peer<E> {
+impl<E: Calls> Peer<E> {
     ghost use Rattle.std.specs.Prelude.{List};
     ghost use Rattle.fab_face.specs.Acts.{Act};
-    ghost use Rattle.fab_quantum.specs.Turns.{MovedOn, told, actor_of, drained, is_some_event, ReadOn, IsRead, WentOn, Answered, Lived, IsStill, is_some_act, next_op, Turned, Ended, IsQuiet};
+    ghost use Rattle.fab_quantum.specs.Turns.{MovedOn, told, actor_of, drained, is_some_event, ReadOn, IsRead, WentOn, Answered, Lived, IsStill, is_some_act, next_op, noted, Turned, Ended, IsQuiet};
     ghost use Rattle.fab_face.specs.Answers.{IsIdle};
 
     /// A peer that is to do these lines over this endpoint. It takes no memory.
@@ -228,6 +231,32 @@ impl<E: Messages + Receives + Looks + Progress + Logs> Peer<E> {
                 self.results.push(LineResult::Refused(fault))?;
                 Ok(true)
             }
+        }
+    }
+
+    /// The next line is done by the peer alone, with this result.
+    pub(crate) fn noted(&mut self, what: LineResult) -> Result<Outcome, NoMemory>
+        ensures told { OnOk result (told E.seen self.new ≡ noted what (told E.seen self.old)) }
+        ensures done { IfOk result (λ o. (o.done ≡ true) × (o.moved ≡ true)) }
+    {
+        self.schedule.push(Step::Do)?;
+        self.results.push(what)?;
+        Ok(Outcome {
+            done: true,
+            moved: true,
+        })
+    }
+
+    /// A call that the peer does alone was answered, and the answer is not to come again: its line is done.
+    pub(crate) fn settled(&mut self, answer: Result<(), Fault>) -> Result<Outcome, NoMemory>
+        ensures told { OnOk result (told E.seen self.new ≡ noted (answer_of answer) (told E.seen self.old)) }
+        ensures memory { OnOk result (answer ≢ Err LacksMemory) }
+        ensures done { IfOk result (λ o. (o.done ≡ true) × (o.moved ≡ true)) }
+    {
+        match answer {
+            Ok(()) => self.noted(LineResult::Done),
+            Err(Fault::NoMemory) => Err(NoMemory),
+            Err(fault) => self.noted(LineResult::Refused(fault)),
         }
     }
 
@@ -404,8 +433,8 @@ impl<E: Messages + Receives + Looks + Progress + Logs> Peer<E> {
         })
     }
 
-    /// Does the next line, if there is one and it can be done. This peer gives up at a line of another kind.
-    fn do_line(&mut self) -> Result<Outcome, NoMemory>
+    /// Does the next line, if it is a send. It gives up at a line of another kind.
+    fn do_send(&mut self) -> Result<Outcome, NoMemory>
         requires log { (E.seen self.old.endpoint).log ≡ [] }
         ensures { IfOk result (λ o. WentOn (told E.seen self.old) (told E.seen self.new) o.done o.moved) }
     {
@@ -416,21 +445,6 @@ impl<E: Messages + Receives + Looks + Progress + Logs> Peer<E> {
             });
         };
         match line.op {
-            LineOp::Wait { ctx } => self.wait(ctx),
-            LineOp::Cancel { ctx } => self.cancel(ctx),
-            LineOp::TRecv {
-                ctx,
-                source,
-                tag,
-                ignore,
-                len,
-            } => self.trecv(ctx, source, tag, ignore, len),
-            LineOp::Recv { ctx, source, len } => self.recv(ctx, source, len),
-            LineOp::Peek { .. }
-            | LineOp::Claim { .. }
-            | LineOp::Discard { .. }
-            | LineOp::Take { .. }
-            | LineOp::DropClaimed { .. } => self.do_look(),
             LineOp::Send {
                 ctx,
                 dest,
@@ -454,6 +468,22 @@ impl<E: Messages + Receives + Looks + Progress + Logs> Peer<E> {
                 let buf = word_bytes(self.alloc, bytes)?;
                 self.tsend(ctx, dest, tag, buf, imm, Flags { completion, level })
             }
+            _ => Err(NoMemory),
+        }
+    }
+
+    /// Does the next line, if it is a send whose bytes are copied. It gives up at a line of another kind.
+    fn do_inject(&mut self) -> Result<Outcome, NoMemory>
+        requires log { (E.seen self.old.endpoint).log ≡ [] }
+        ensures { IfOk result (λ o. WentOn (told E.seen self.old) (told E.seen self.new) o.done o.moved) }
+    {
+        let Some(line) = self.lines.get(self.results.len()) else {
+            return Ok(Outcome {
+                done: false,
+                moved: false,
+            });
+        };
+        match line.op {
             LineOp::Inject {
                 dest,
                 ref bytes,
@@ -472,6 +502,61 @@ impl<E: Messages + Receives + Looks + Progress + Logs> Peer<E> {
                 self.tinject(dest, tag, &buf, imm)
             }
             _ => Err(NoMemory),
+        }
+    }
+
+    /// Does the next line, if it is one on posted receives. It gives up at a line of another kind.
+    fn do_receive(&mut self) -> Result<Outcome, NoMemory>
+        requires log { (E.seen self.old.endpoint).log ≡ [] }
+        ensures { IfOk result (λ o. WentOn (told E.seen self.old) (told E.seen self.new) o.done o.moved) }
+    {
+        let Some(line) = self.lines.get(self.results.len()) else {
+            return Ok(Outcome {
+                done: false,
+                moved: false,
+            });
+        };
+        match line.op {
+            LineOp::Recv { ctx, source, len } => self.recv(ctx, source, len),
+            LineOp::TRecv {
+                ctx,
+                source,
+                tag,
+                ignore,
+                len,
+            } => self.trecv(ctx, source, tag, ignore, len),
+            LineOp::Cancel { ctx } => self.cancel(ctx),
+            _ => Err(NoMemory),
+        }
+    }
+
+    /// Does the next line, if there is one and it can be done. This peer gives up at a multi-receive.
+    fn do_line(&mut self) -> Result<Outcome, NoMemory>
+        requires log { (E.seen self.old.endpoint).log ≡ [] }
+        ensures { IfOk result (λ o. WentOn (told E.seen self.old) (told E.seen self.new) o.done o.moved) }
+    {
+        let Some(line) = self.lines.get(self.results.len()) else {
+            return Ok(Outcome {
+                done: false,
+                moved: false,
+            });
+        };
+        match line.op {
+            LineOp::Wait { ctx } => self.wait(ctx),
+            LineOp::Send { .. } | LineOp::TSend { .. } => self.do_send(),
+            LineOp::Inject { .. } | LineOp::TInject { .. } => self.do_inject(),
+            LineOp::Recv { .. } | LineOp::TRecv { .. } | LineOp::Cancel { .. } => self.do_receive(),
+            LineOp::Peek { .. } | LineOp::Claim { .. } | LineOp::Discard { .. } => self.do_look(),
+            LineOp::Take { .. } | LineOp::DropClaimed { .. } => self.do_look(),
+            LineOp::Read { .. } | LineOp::Write { .. } | LineOp::WInject { .. } => self.do_remote(),
+            LineOp::Atomic { .. } | LineOp::Fetch { .. } | LineOp::Compare { .. } => {
+                self.do_atomic()
+            }
+            LineOp::Reg { .. } | LineOp::Close { .. } => self.do_region(),
+            LineOp::Put { .. } | LineOp::Show { .. } => self.do_region(),
+            LineOp::Count { .. } | LineOp::Reach { .. } => self.do_keeping(),
+            LineOp::Insert { .. } | LineOp::Remove { .. } => self.do_keeping(),
+            LineOp::MRecv { .. } => Err(NoMemory),
         }
     }
 

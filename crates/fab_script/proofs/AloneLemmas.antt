@@ -7,7 +7,7 @@ use Rattle.fab_base.specs.declared.script.BytesWord.{BytesWord}
 use Rattle.fab_base.specs.declared.script.BytesWord.TheVariants.{Text, Hex, Zero}
 use Rattle.fab_base.specs.declared.script.Line.{Line}
 use Rattle.fab_base.specs.declared.script.LineOp.{LineOp}
-use Rattle.fab_base.specs.declared.script.LineOp.TheVariants.{Send, TSend, Inject, TInject, Recv, TRecv, Peek, Claim, Discard, Take, DropClaimed, Cancel, Wait}
+use Rattle.fab_base.specs.declared.script.LineOp.TheVariants.{Send, TSend, Inject, TInject, MRecv, Write, WInject, Reg, Put}
 use Rattle.fab_base.specs.declared.script.Payload.{Payload}
 use Rattle.fab_base.specs.declared.script.Script.{Script}
 use Rattle.fab_base.specs.declared.limits.Size.{Size}
@@ -49,16 +49,12 @@ op_inside payloads files (Send ctx dest bytes imm level completion) e = bytes_in
 op_inside payloads files (TSend ctx dest tag bytes imm level completion) e = bytes_inside payloads files bytes e
 op_inside payloads files (Inject dest bytes imm) e = bytes_inside payloads files bytes e
 op_inside payloads files (TInject dest tag bytes imm) e = bytes_inside payloads files bytes e
-op_inside payloads files (Recv ctx source len) e = refl
-op_inside payloads files (TRecv ctx source tag ignore len) e = refl
-op_inside payloads files (Peek ctx source tag ignore) e = refl
-op_inside payloads files (Claim ctx source tag ignore) e = refl
-op_inside payloads files (Discard ctx source tag ignore) e = refl
-op_inside payloads files (Take ctx len) e = refl
-op_inside payloads files (DropClaimed ctx) e = refl
-op_inside payloads files (Cancel ctx) e = refl
-op_inside payloads files (Wait ctx) e = refl
-op_inside payloads files _ e = cc
+op_inside payloads files (MRecv ctx source len min) e = cc
+op_inside payloads files (Write ctx dest key at bytes imm completion) e = bytes_inside payloads files bytes e
+op_inside payloads files (WInject dest key at bytes imm) e = bytes_inside payloads files bytes e
+op_inside payloads files (Reg key access bytes) e = bytes_inside payloads files bytes e
+op_inside payloads files (Put key at bytes) e = bytes_inside payloads files bytes e
+op_inside payloads files _ e = refl
 
 none_outside : (payloads : List Payload) (files : List (List ℕ)) (lines : List Line) → list_all (λ line. is_carried_out line.op) lines ≡ true → lines_outside payloads files lines ≡ []
 none_outside payloads files [] e = refl

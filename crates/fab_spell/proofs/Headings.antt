@@ -1,14 +1,13 @@
 -- A setting reads again as it is written.
-use Rattle.std.proofs.Common.{◌≡◌, ℕ, ◌^◌, ◌<◌, Bool, true, false, cond, ◌&&◌, leb, Option, Some, None, List, [], ◌∷◌, decimal, Result, Ok, Err, sym, ap, subst, ◌∙◌, refl}
+use Rattle.std.proofs.Common.{◌≡◌, ℕ, Bool, true, false, cond, ◌&&◌, leb, List, [], ◌∷◌, decimal, Result, Ok, Err, sym, ap, subst, ◌∙◌, refl}
 use Rattle.std.proofs.lemmas.Bool.{and_from}
 use Rattle.std.specs.List.{list_all}
-use Rattle.std.specs.Str.{is_utf8}
 use Rattle.fab_base.specs.Offer.{limits_of}
 use Rattle.fab_base.specs.declared.limits.Limits.{Limits}
 use Rattle.fab_base.specs.declared.limits.Size.{Size}
 use Rattle.fab_base.specs.declared.limits.Size.TheVariants as size
 use Rattle.fab_words.specs.declared.fault.Fault.{Fault}
-use Rattle.fab_words.specs.declared.fault.Fault.TheVariants.{Words, Limit}
+use Rattle.fab_words.specs.declared.fault.Fault.TheVariants.{Limit}
 use Rattle.fab_words.specs.Faults.{◌&◌, map_ok}
 use Rattle.fab_words.specs.Words.{read_number, read_text}
 use Rattle.fab_words.specs.Written.{is_word}
@@ -25,8 +24,9 @@ use Rattle.fab_grammar.specs.Settings.{between, size_of, caps_setting, selective
 use Rattle.fab_grammar.specs.Verbs.{kind_of}
 use Rattle.fab_grammar.proofs.PartLemmas.{and_true}
 use Rattle.fab_spell.specs.Headings.{caps_word, size_verb, setting_verb, setting_args, SettingRead, SettingAgain}
-use Rattle.fab_spell.proofs.Decimals.{read_number_again, read_number_small}
+use Rattle.fab_spell.proofs.Decimals.{read_number_again}
 use Rattle.fab_spell.proofs.Numbers.{is_word-decimal}
+use Rattle.fab_spell.proofs.Said.{text_said}
 use Rattle.fab_spell.proofs.BuiltLines.{whole_built}
 use Rattle.fab_spell.proofs.CapsNames.{caps_again}
 
@@ -76,14 +76,6 @@ both_said {A} {B} (Ok a) (Ok b) p e = let same : ◌≡◌ {A = A × B} (a, b) p
 both_said (Ok a) (Err g) p e = cc
 both_said (Err f) (Ok b) p e = cc
 both_said (Err f) (Err g) p e = cc
-
-text_said : (word text : List ℕ) → read_text word ≡ Ok text → text ≡ word
-unfolding read_text
-text_said word text e = by (is_utf8 word) e
-  where
-    by : (b : Bool) → cond b (Ok word) (Err Words) ≡ Ok text → text ≡ word
-    by true f = cc
-    by false f = cc
 
 file_again : (id name : List ℕ) (p : ℕ × List ℕ) → list_all is_word (id ∷ name ∷ []) ≡ true → (read_number id & read_text name) ≡ Ok p → Spelled (a_file p)
 unfolding setting_of payload_setting

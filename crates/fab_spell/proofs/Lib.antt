@@ -18,4 +18,5 @@ pub mod Remote
 pub mod Said
 pub mod Sends
 pub mod Spelt
+pub mod Standing
 mod Worked

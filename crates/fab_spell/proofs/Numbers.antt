@@ -47,14 +47,15 @@ pub is_word-decimal : (n : ℕ) → is_word (decimal n) ≡ true
 is_word-decimal n = is_word-digits (decimal n) (digits-decimal n)
 
 -- such a word names no file, and is no `*`
-stands : (b : ℕ) (word : List ℕ) → b < 58 → stands_here (b ∷ word) ≡ true
+pub stands : (b : ℕ) (word : List ℕ) → b < 58 → stands_here (b ∷ word) ≡ true
 stands b word below = rw (ne_eqb b 102 (λ e. omega arith)) refl
+
+pub digit_first : (b : ℕ) (word : List ℕ) → Digits (b ∷ word) → b < 58
+digit_first b word d = (first_byte b (and_parts (is_numeric b) (list_all is_numeric word) d.all).0).1
 
 pub stands-digits : (word : List ℕ) → Digits word → stands_here word ≡ true
 stands-digits [] d = absurd (omega (arith, d.some))
-stands-digits (b ∷ word) d =
-    let range = first_byte b (and_parts (is_numeric b) (list_all is_numeric word) d.all).0 in
-    stands b word range.1
+stands-digits (b ∷ word) d = stands b word (digit_first b word d)
 
 abbrev is_any : List ℕ → Bool
 is_any word = bytes_eq word (codes "*")

@@ -1,20 +1,20 @@
 -- Optional words that were read are read again.
-use Rattle.std.proofs.Common.{◌≡◌, ℕ, Bool, true, false, ◌&&◌, ltb, List, [], ◌∷◌, ◌++◌, length, drop, Option, Some, None, codes, decimal, sym, ap, subst, ◌∙◌, refl}
-use Rattle.std.specs.Prelude.{bytes_eq, Result, Ok}
-use Rattle.std.specs.List.{list_all, list_any}
-use Rattle.std.proofs.lemmas.Bool.{and_parts, and_from}
+use Rattle.std.proofs.Common.{◌≡◌, ℕ, Bool, true, false, List, ◌++◌, Option, Some, None, codes, decimal, ap, subst, ◌∙◌, refl}
+use Rattle.std.specs.Prelude.{Result, Ok}
+use Rattle.std.specs.List.{list_all}
+use Rattle.std.proofs.lemmas.Bool.{and_from}
 use Rattle.std.proofs.lemmas.List.Folds.{list_all-append}
 use Rattle.fab_base.specs.declared.peers.Level.{Level}
 use Rattle.fab_base.specs.declared.peers.Level.TheVariants as level
 use Rattle.fab_grammar.specs.declared.options.Allowed.{Allowed}
 use Rattle.fab_grammar.specs.declared.options.Options.{Options}
-use Rattle.fab_grammar.specs.Options.{level_named, optional_of, are_options, value_after, read_if, level_after, level_in, has_completion, the_options, read_options}
+use Rattle.fab_grammar.specs.Options.{level_named, optional_of, are_options, value_after, read_if, level_in, has_completion, the_options, read_options}
 use Rattle.fab_grammar.specs.Sends.{for_send, for_inject, for_write, for_multi}
 use Rattle.fab_grammar.specs.Atomics.{for_atomic}
 use Rattle.fab_words.specs.declared.fault.Fault.{Fault}
 use Rattle.fab_words.specs.declared.fault.Fault.TheVariants.{Words}
 use Rattle.fab_words.specs.Faults.{◌&◌, map_ok}
-use Rattle.fab_words.specs.Words.{first_of, begins_with, read_number, read_index}
+use Rattle.fab_words.specs.Words.{read_number, read_index}
 use Rattle.fab_words.specs.Written.{is_word}
 use Rattle.fab_spell.specs.Spelling.{imm_words, level_words, completion_words, min_words}
 use Rattle.fab_spell.proofs.Decimals.{read_number_again, read_index_again}

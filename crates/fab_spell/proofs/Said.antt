@@ -1,8 +1,11 @@
 -- What is said together, each says.
-use Rattle.std.proofs.Common.{◌≡◌, Bool, true, false, cond, Option, Some, None, ap, refl}
+use Rattle.std.proofs.Common.{◌≡◌, ℕ, List, Bool, true, false, cond, Option, Some, None, ap, refl}
 use Rattle.std.specs.Prelude.{Result, Ok, Err, ok_or}
+use Rattle.std.specs.Str.{is_utf8}
 use Rattle.fab_words.specs.declared.fault.Fault.{Fault}
+use Rattle.fab_words.specs.declared.fault.Fault.TheVariants.{Words}
 use Rattle.fab_words.specs.Faults.{◌&◌, map_ok}
+use Rattle.fab_words.specs.Words.{read_text}
 
 pub both_said : {A B : Type 0} (a : Result A Fault) (b : Result B Fault) (p : A × B) → (a & b) ≡ Ok p → (a ≡ Ok p.0) × (b ≡ Ok p.1)
 both_said {A} {B} (Ok a) (Ok b) p e =
@@ -24,3 +27,12 @@ some_said None fault x e = cc
 pub said_if : {A : Type 0} (test : Bool) (r : Result A Fault) (fault : Fault) (x : A) → cond test r (Err fault) ≡ Ok x → (test ≡ true) × (r ≡ Ok x)
 said_if true r fault x e = (refl, e)
 said_if false r fault x e = cc
+
+-- a text is its word
+pub text_said : (word text : List ℕ) → read_text word ≡ Ok text → text ≡ word
+unfolding read_text
+text_said word text e = by (is_utf8 word) e
+  where
+    by : (b : Bool) → cond b (Ok word) (Err Words) ≡ Ok text → text ≡ word
+    by true f = cc
+    by false f = cc

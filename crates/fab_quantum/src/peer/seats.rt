@@ -2,9 +2,9 @@
 ghost use Rattle.std.specs.Prelude.{◌≡◌};
 ghost use Rattle.fab_quantum.specs.Turns.{told};
 
+use crate::calls::Calls;
 use crate::peer::Peer;
 use fab_base::{Kept, Line, LineResult, Step};
-use fab_face::calls::{Logs, Looks, Messages, Progress, Receives};
 use std::alloc::Global;
 
 /// A peer without its endpoint: its lines, the results of those done, the completions kept, and its schedule.
@@ -17,7 +17,7 @@ pub struct Unseated {
     alloc: Global,
 }
 
-impl<E: Messages + Receives + Looks + Progress + Logs> Peer<E> {
+impl<E: Calls> Peer<E> {
     /// Gives the endpoint up, to go on over another. It takes no memory.
     pub fn unseat(self) -> (Unseated, E)
         ensures endpoint { result.1 ≡ self.endpoint }
@@ -50,7 +50,7 @@ impl<E: Messages + Receives + Looks + Progress + Logs> Peer<E> {
 
 impl Unseated {
     /// Goes on over this endpoint. It takes no memory.
-    pub fn reseat<E: Messages + Receives + Looks + Progress + Logs>(self, endpoint: E) -> Peer<E>
+    pub fn reseat<E: Calls>(self, endpoint: E) -> Peer<E>
         ensures endpoint { result.endpoint ≡ endpoint }
         ensures told { told E.seen result ≡ record {
           seen = E.seen endpoint;

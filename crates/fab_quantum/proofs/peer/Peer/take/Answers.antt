@@ -1,4 +1,3 @@
-use Rattle.std.proofs.Common.{None, false}
 use Rattle.fab_face.specs.Answers.{ReceivesNot, Receives}
 use Rattle.fab_model.specs.Calls.{TakeClaimed}
 use Rattle.fab_quantum.specs.Turns.{told, why_of}
