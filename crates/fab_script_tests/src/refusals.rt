@@ -22,10 +22,10 @@ fn are_whole(rt: &impl Abort, alloc: Global, rows: &[Row]) {
 /// Texts of lines that are carried out.
 const TEXTS: [Row; 27] = [
     (b"fabric 1\njump hex:61\n", Some((2, Why::Verb))),
-    (b"fabric 1\nput 1 0 text:a\n", Some((2, Why::Unbuilt))),
+    (b"fabric 1\nmrecv 1 * 4\n", Some((2, Why::Unbuilt))),
     (
         b"fabric 1\npeers 1\npeer 0\npayload 1 a\n",
-        Some((4, Why::Unbuilt)),
+        Some((4, Why::Order)),
     ),
     (b"", Some((0, Why::Header))),
     (b"\n \n", Some((0, Why::Header))),

@@ -12,6 +12,8 @@ mod memory;
 #[cfg(test)]
 mod messages;
 #[cfg(test)]
+mod payloads;
+#[cfg(test)]
 mod reports;
 #[cfg(test)]
 mod runs;
