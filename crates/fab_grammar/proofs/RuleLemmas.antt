@@ -83,7 +83,7 @@ kind_in_time kind.Call before number verb args e = call_in_time before number ve
 verb_in_time : (language : Language) (before : Before) (number : ℕ) (verb : Option Verb) (args : List (List ℕ)) → first_of (verb_rules language before number verb args) ≡ None → is_late number ≡ false
 verb_in_time language before number None args e = cc
 verb_in_time language before number (Some verb) args e =
-    kind_in_time (kind_of verb) before number verb args (rest_of (not (is_built language verb args)) why.Unbuilt (kind_rules (kind_of verb) before number verb args) e)
+    kind_in_time (kind_of verb) before number verb args (rest_of (not (is_built language verb)) why.Unbuilt (kind_rules (kind_of verb) before number verb args) e)
 
 either_in_time : (test : Bool) (a b : Rules) (number : ℕ) → (first_of a ≡ None → is_late number ≡ false) → (first_of b ≡ None → is_late number ≡ false) → first_of (cond test a b) ≡ None → is_late number ≡ false
 either_in_time true a b number f g e = f e

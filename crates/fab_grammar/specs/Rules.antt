@@ -134,7 +134,7 @@ kind_rules kind.Call before number verb args = call_rules before number verb arg
 
 abbrev pub verb_rules : Language → Before → ℕ → Option Verb → List (List ℕ) → Rules
 verb_rules language before number None args = (true, why.Verb) ∷ []
-verb_rules language before number (Some verb) args = (not (is_built language verb args), why.Unbuilt) ∷ kind_rules (kind_of verb) before number verb args
+verb_rules language before number (Some verb) args = (not (is_built language verb), why.Unbuilt) ∷ kind_rules (kind_of verb) before number verb args
 
 -- `fabric 1`
 abbrev pub is_header : List (List ℕ) → Bool

@@ -58,9 +58,9 @@ fn named(word: &[u8]) -> Option<Cap>
     CAPS.iter().copied().find(|cap| is(word, cap_name(*cap)))
 }
 
-/// The capabilities whose names the commas join.
+/// The capabilities whose names the commas join. `Words` where one of these is no name.
 #[tactic(auto, unfolding(crate::specs::Capabilities::caps_of))]
-pub(crate) fn read_caps(word: &[u8]) -> Read<Caps>
+pub fn read_caps(word: &[u8]) -> Read<Caps>
     ensures { result ≡ caps_of word.now }
 {
     let mut caps = none();

@@ -19,7 +19,7 @@ mod settings;
 mod verbs;
 
 pub use atomics::{atom_name, element_size, greatest, num_name};
-pub use capabilities::{CAPS, cap_name};
+pub use capabilities::{CAPS, cap_name, read_caps};
 pub use items::Item;
 pub use language::Language;
 pub use lines::{class_name, read_op};

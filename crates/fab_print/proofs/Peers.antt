@@ -43,10 +43,10 @@ peer_again k small = read_number_decimal k small
 peer_words : (k : ℕ) → k < 2 ^ 64 → list_all is_word (decimal k ∷ []) ≡ true
 peer_words k small = ap (λ b. b && true) (is_word-decimal k)
 
-built_form : (language : Language) (k : ℕ) → k < 2 ^ 64 → is_built language verb.Peer (decimal k ∷ []) ≡ true
+built_form : (language : Language) → is_built language verb.Peer ≡ true
 unfolding is_built
-built_form Built k small = refl
-built_form Whole k small = refl
+built_form Built = refl
+built_form Whole = refl
 
 peer_rule : (before : Before) (number k : ℕ) → k < 2 ^ 64 → list_any (λ j. eqb j k) (opened_by before.items) ≡ false → k < count_in before → is_late number ≡ false → first_of (peer_rules before number (decimal k ∷ [])) ≡ None
 unfolding peer_rules
@@ -62,7 +62,7 @@ take_peer : (language : Language) (before : Before) (k : ℕ) (rows : List (List
 take_peer language before k rows Goal header small new below rest = take_row language before (item_row (Peer k)) rows Goal (verb_row verb.Peer (decimal k ∷ []) (peer_words k small)) (λ number late.
     let args : List (List ℕ) = decimal k ∷ [] in
     let next : with_words before number (item_row (Peer k)) ≡ record before { items = before.items ++ Peer k ∷ [] } = verb_said before number verb.Peer args header ∙ ap (with_peer before) (peer_again k small) in
-    (verb_fits language before number verb.Peer args header (built_form language k small) (peer_rule before number k small new below late), subst (λ b. Rest language b rows Goal) (sym next) rest))
+    (verb_fits language before number verb.Peer args header (built_form language) (peer_rule before number k small new below late), subst (λ b. Rest language b rows Goal) (sym next) rest))
 
 -- ---- a line of a peer
 call_rule : (before : Before) (number : ℕ) (verb : Verb) (args : List (List ℕ)) (op : LineOp) → op_of verb args ≡ Ok op → has_opened before ≡ true → sum_by size_of before.items + op_size op ≤ 67108864 → is_late number ≡ false → first_of (call_rules before number verb args) ≡ None

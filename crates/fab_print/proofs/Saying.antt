@@ -234,7 +234,7 @@ file_taken language before count payload s r new few late =
       few = not_late (count + 1) late;
     }
 
-setting_said : (language : Language) (before : Before) (count : ℕ) (verb : Verb) (args : List (List ℕ)) (said : Result Setting Fault) → Said language before count → kind_of verb ≡ kind.Setting → list_all is_word args ≡ true → is_built language verb args ≡ true → setting_of verb args ≡ said → is_late (count + 1) ≡ false → is_set before verb args ≡ false → is_one_too_many before said ≡ false → is_refused said ≡ false → Said language (with_setting before said) (count + 1)
+setting_said : (language : Language) (before : Before) (count : ℕ) (verb : Verb) (args : List (List ℕ)) (said : Result Setting Fault) → Said language before count → kind_of verb ≡ kind.Setting → list_all is_word args ≡ true → is_built language verb ≡ true → setting_of verb args ≡ said → is_late (count + 1) ≡ false → is_set before verb args ≡ false → is_one_too_many before said ≡ false → is_refused said ≡ false → Said language (with_setting before said) (count + 1)
 setting_said language before count verb args (Err fault) s k w b e late set many refused = idle language before count s late
 setting_said language before count verb args (Ok (File payload)) s k w b e late set many refused =
     file_taken language before count payload s (record { verb = verb; args = args; kind = k; words = w; built = b; reads = e }) (sym (file_declared verb args payload before e) ∙ set) many late
@@ -247,7 +247,7 @@ setting_said language before count verb args (Ok (Capabilities caps)) s k w b e 
 setting_said language before count verb args (Ok Selective) s k w b e late set many refused =
     made_said language before count Selective s (record { verb = verb; args = args; kind = k; words = w; built = b; reads = e }) refused late
 
-setting_kept : (language : Language) (before : Before) (count : ℕ) (verb : Verb) (args : List (List ℕ)) → Said language before count → kind_of verb ≡ kind.Setting → list_all is_word args ≡ true → is_built language verb args ≡ true → first_of (setting_rules before (count + 1) verb args) ≡ None → Said language (with_setting before (setting_of verb args)) (count + 1)
+setting_kept : (language : Language) (before : Before) (count : ℕ) (verb : Verb) (args : List (List ℕ)) → Said language before count → kind_of verb ≡ kind.Setting → list_all is_word args ≡ true → is_built language verb ≡ true → first_of (setting_rules before (count + 1) verb args) ≡ None → Said language (with_setting before (setting_of verb args)) (count + 1)
 unfolding setting_rules
 setting_kept language before count verb args s k w b e =
     let said = setting_of verb args in
@@ -277,7 +277,7 @@ peer_kept language before count args s e =
     let none = all_fail (peer_rules before (count + 1) args) e in
     peer_said language before count (peer_of args) s (or_false (is_limit (peer_of args)) (is_late (count + 1)) none.1.1.1.1.0).1
 
-call_said : (language : Language) (before : Before) (count : ℕ) (verb : Verb) (args : List (List ℕ)) (said : Result LineOp Fault) → Said language before count → kind_of verb ≡ kind.Call → list_all is_word args ≡ true → is_built language verb args ≡ true → op_of verb args ≡ said → is_late (count + 1) ≡ false → is_too_much before said ≡ false → Said language (with_call before (count + 1) said) (count + 1)
+call_said : (language : Language) (before : Before) (count : ℕ) (verb : Verb) (args : List (List ℕ)) (said : Result LineOp Fault) → Said language before count → kind_of verb ≡ kind.Call → list_all is_word args ≡ true → is_built language verb ≡ true → op_of verb args ≡ said → is_late (count + 1) ≡ false → is_too_much before said ≡ false → Said language (with_call before (count + 1) said) (count + 1)
 call_said language before count verb args (Err fault) s k w b e late much = idle language before count s late
 call_said language before count verb args (Ok op) s k w b e late much =
     let line : Line = record { number = count + 1; op = op } in
@@ -294,7 +294,7 @@ call_said language before count verb args (Ok op) s k w b e late much =
       few = not_late (count + 1) late;
     }
 
-call_kept : (language : Language) (before : Before) (count : ℕ) (verb : Verb) (args : List (List ℕ)) → Said language before count → kind_of verb ≡ kind.Call → list_all is_word args ≡ true → is_built language verb args ≡ true → first_of (call_rules before (count + 1) verb args) ≡ None → Said language (with_call before (count + 1) (op_of verb args)) (count + 1)
+call_kept : (language : Language) (before : Before) (count : ℕ) (verb : Verb) (args : List (List ℕ)) → Said language before count → kind_of verb ≡ kind.Call → list_all is_word args ≡ true → is_built language verb ≡ true → first_of (call_rules before (count + 1) verb args) ≡ None → Said language (with_call before (count + 1) (op_of verb args)) (count + 1)
 unfolding call_rules
 call_kept language before count verb args s k w b e =
     let said = op_of verb args in
@@ -303,7 +303,7 @@ call_kept language before count verb args s k w b e =
     call_said language before count verb args said s k w b refl (or_false (is_limit said) (is_late (count + 1)) limit.0).1 limit.1
 
 -- ---- a line
-kind_kept : (language : Language) (before : Before) (count : ℕ) (k : Kind) (verb : Verb) (args : List (List ℕ)) → Said language before count → kind_of verb ≡ k → list_all is_word args ≡ true → is_built language verb args ≡ true → first_of (kind_rules k before (count + 1) verb args) ≡ None → Said language (with_kind k before (count + 1) verb args) (count + 1)
+kind_kept : (language : Language) (before : Before) (count : ℕ) (k : Kind) (verb : Verb) (args : List (List ℕ)) → Said language before count → kind_of verb ≡ k → list_all is_word args ≡ true → is_built language verb ≡ true → first_of (kind_rules k before (count + 1) verb args) ≡ None → Said language (with_kind k before (count + 1) verb args) (count + 1)
 kind_kept language before count kind.Setting verb args s k w b e = setting_kept language before count verb args s k w b e
 kind_kept language before count kind.Peer verb args s k w b e = peer_kept language before count args s e
 kind_kept language before count kind.Call verb args s k w b e = call_kept language before count verb args s k w b e
@@ -316,7 +316,7 @@ verb_kept : (language : Language) (before : Before) (count : ℕ) (verb : Option
 verb_kept language before count None args s w e = cc
 verb_kept language before count (Some verb) args s w e =
     let rules = kind_rules (kind_of verb) before (count + 1) verb args in
-    kind_kept language before count (kind_of verb) verb args s refl w (not_false (is_built language verb args) (first_fails (not (is_built language verb args)) why.Unbuilt rules e)) (rest_of (not (is_built language verb args)) why.Unbuilt rules e)
+    kind_kept language before count (kind_of verb) verb args s refl w (not_false (is_built language verb) (first_fails (not (is_built language verb)) why.Unbuilt rules e)) (rest_of (not (is_built language verb)) why.Unbuilt rules e)
 
 head_kept : (language : Language) (before : Before) (count : ℕ) (words args : List (List ℕ)) (verb : Option Verb) (b : Bool) → before.has_header ≡ b → Said language before count → list_all is_word args ≡ true → first_of (cond b (verb_rules language before (count + 1) verb args) (header_rules (count + 1) words)) ≡ None → Said language (cond b (with_verb before (count + 1) verb args) (record before { has_header = true })) (count + 1)
 head_kept language before count words args verb true h s w e = verb_kept language before count verb args s w e

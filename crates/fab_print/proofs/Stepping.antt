@@ -53,7 +53,7 @@ verb_row verb.Peers args e = e
 verb_row _ args e = e
 
 -- a row of a verb after the header
-pub verb_fits : (language : Language) (before : Before) (number : ℕ) (verb : Verb) (args : List (List ℕ)) → before.has_header ≡ true → is_built language verb args ≡ true → first_of (kind_rules (kind_of verb) before number verb args) ≡ None → first_of (word_rules language before number (name_of verb ∷ args)) ≡ None
+pub verb_fits : (language : Language) (before : Before) (number : ℕ) (verb : Verb) (args : List (List ℕ)) → before.has_header ≡ true → is_built language verb ≡ true → first_of (kind_rules (kind_of verb) before number verb args) ≡ None → first_of (word_rules language before number (name_of verb ∷ args)) ≡ None
 verb_fits language before number verb args header built none =
     ap (λ b. first_of (cond b (verb_rules language before number (verb_of (name_of verb)) args) (header_rules number (name_of verb ∷ args)))) header
     ∙ (ap (λ o. first_of (verb_rules language before number o args)) (verb_named verb)

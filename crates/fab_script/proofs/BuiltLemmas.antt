@@ -1,17 +1,13 @@
 -- Every line of a script is one that the program carries out, and its completion queue has room.
-use Rattle.std.proofs.Common.{◌≡◌, ℕ, ◌≤◌, Bool, true, false, cond, not, ◌&&◌, ◌||◌, eqb, leb, ltb, List, [], ◌∷◌, ◌++◌, length, map, drop, Option, Some, None, ap, subst, ◌∙◌, refl, arith}
-use Rattle.std.specs.Prelude.{codes, bytes_eq, is_none, Result, Ok, Err, IfOk}
+use Rattle.std.proofs.Common.{◌≡◌, ℕ, ◌≤◌, Bool, true, false, cond, ◌||◌, eqb, ltb, List, [], ◌∷◌, ◌++◌, map, Option, Some, None, ap, subst, ◌∙◌, refl, arith}
+use Rattle.std.specs.Prelude.{Result, Ok, Err, IfOk}
 use Rattle.std.specs.Result.{result_ok}
-use Rattle.std.specs.List.{list_all, list_any, range_with_len, slice_split}
+use Rattle.std.specs.List.{list_all, list_any, range_with_len}
 use Rattle.std.proofs.lemmas.Bool.{ltb-false}
-use Rattle.std.proofs.lemmas.Bool.Decides.{nat_tests}
 use Rattle.std.proofs.lemmas.List.Folds.{list_all-append}
 use Rattle.fab_grammar.specs.Built.{is_built as is_carried_out, all_built}
-use Rattle.fab_base.specs.declared.script.BytesWord.{BytesWord}
-use Rattle.fab_base.specs.declared.script.BytesWord.TheVariants.{Text, Zero}
 use Rattle.fab_base.specs.declared.script.Line.{Line}
 use Rattle.fab_base.specs.declared.script.LineOp.{LineOp}
-use Rattle.fab_base.specs.declared.script.LineOp.TheVariants.{Wait}
 use Rattle.fab_base.specs.declared.script.Script.{Script}
 use Rattle.fab_base.specs.declared.caps.Hints.{Hints}
 use Rattle.fab_base.specs.declared.caps.Info.{Info}
@@ -19,7 +15,6 @@ use Rattle.fab_base.specs.declared.limits.Size.TheVariants as size
 use Rattle.fab_model.specs.Negotiation.{is_refused, granted_info, grant_of, grant, wish_is_refused, is_not_offered, all_caps}
 use Rattle.fab_model.specs.Negotiation.{size_of as granted_size}
 use Rattle.fab_words.specs.declared.fault.Fault.{Fault}
-use Rattle.fab_words.specs.declared.fault.Fault.TheVariants.{Words, Limit}
 use Rattle.fab_grammar.specs.declared.items.Item.{Item}
 use Rattle.fab_grammar.specs.declared.items.Item.TheVariants.{Peer, Does}
 use Rattle.fab_grammar.specs.declared.language.Language.TheVariants.{Built}
@@ -28,27 +23,18 @@ use Rattle.fab_grammar.specs.declared.settings.Setting.TheVariants.{Peers, Wish,
 use Rattle.fab_grammar.specs.declared.verbs.Kind.{Kind}
 use Rattle.fab_grammar.specs.declared.verbs.Kind.TheVariants as kind
 use Rattle.fab_grammar.specs.declared.verbs.Verb.{Verb}
-use Rattle.fab_grammar.specs.declared.verbs.Verb.TheVariants as verb
 use Rattle.fab_grammar.specs.Before.{Before, nothing, until_peer, part_of}
-use Rattle.fab_words.specs.Faults.{◌&◌, map_ok}
 use Rattle.fab_grammar.specs.Grammar.{verdict, script_of}
 use Rattle.fab_grammar.specs.Language.{is_built}
-use Rattle.fab_grammar.specs.Sends.{a_tsend, read_tagged, for_send, tsend_of}
-use Rattle.fab_grammar.specs.Options.{are_options, value_after, read_if, level_after, level_in, the_options, read_options}
-use Rattle.fab_grammar.specs.declared.options.Allowed.{Allowed}
-use Rattle.fab_grammar.specs.declared.options.Options.{Options}
-use Rattle.fab_grammar.specs.Lines.{a_trecv, trecv_of, wait_of, op_of}
+use Rattle.fab_grammar.specs.Lines.{op_of}
 use Rattle.fab_script.specs.declared.refused.ParseRefused.{ParseRefused}
 use Rattle.fab_script.specs.Refused.{IsVerdict}
 use Rattle.fab_words.specs.Rows.{lines_of}
 use Rattle.fab_grammar.specs.Rules.{with_setting, with_peer, with_call, with_kind}
 use Rattle.fab_grammar.specs.Settings.{setting_of, peer_of, hints_of}
 use Rattle.fab_grammar.specs.Verbs.{kind_of}
-use Rattle.fab_words.specs.Words.{first_of, only_if, begins_with, read_number, read_index, read_len, read_source}
-use Rattle.fab_words.specs.Bytes.{few_bytes, of_hex, file_range, is_colon, read_bytes}
-use Rattle.hex.specs.Hex.{decode_of}
 use Rattle.fab_grammar.proofs.PartLemmas.{and_true}
-use Rattle.fab_spell.proofs.BuiltLines.{here, carried_out}
+use Rattle.fab_spell.proofs.BuiltLines.{carried_out}
 use Rattle.fab_script.proofs.KeptLemmas.{lines_keep, spelt}
 
 -- ---- each line among the items is built
@@ -78,10 +64,10 @@ with_call_built : (before : Before) (number : ℕ) (said : Result LineOp Fault) 
 with_call_built before number (Ok op) all built = one_more before.items (Does (record { number = number; op = op })) all (built op refl)
 with_call_built before number (Err fault) all built = all
 
-with_kind_built : (k : Kind) (before : Before) (number : ℕ) (verb : Verb) (args : List (List ℕ)) → AreBuilt before.items → is_built Built verb args ≡ true → AreBuilt (with_kind k before number verb args).items
+with_kind_built : (k : Kind) (before : Before) (number : ℕ) (verb : Verb) (args : List (List ℕ)) → AreBuilt before.items → is_built Built verb ≡ true → AreBuilt (with_kind k before number verb args).items
 with_kind_built kind.Setting before number verb args all e = with_setting_built before (setting_of verb args) all
 with_kind_built kind.Peer before number verb args all e = with_peer_built before (peer_of args) all
-with_kind_built kind.Call before number verb args all e = with_call_built before number (op_of verb args) all (λ op said. carried_out verb args op (here verb args e) said)
+with_kind_built kind.Call before number verb args all e = with_call_built before number (op_of verb args) all (λ op said. carried_out verb args op e said)
 
 -- ---- the parts
 abbrev lines_built : List Line → Bool

@@ -25,12 +25,12 @@ not_false false e = cc
 
 -- of a language, what the header keeps, and each line that breaks no rule, all lines keep
 module _ (language : Language) (Keeps : Before → Type 0) (header : (before : Before) → Keeps before → Keeps (record before { has_header = true }))
-    (step : (before : Before) (number : ℕ) (verb : Verb) (args : List (List ℕ)) → Keeps before → is_built language verb args ≡ true → first_of (kind_rules (kind_of verb) before number verb args) ≡ None → Keeps (with_kind (kind_of verb) before number verb args)) where
+    (step : (before : Before) (number : ℕ) (verb : Verb) (args : List (List ℕ)) → Keeps before → is_built language verb ≡ true → first_of (kind_rules (kind_of verb) before number verb args) ≡ None → Keeps (with_kind (kind_of verb) before number verb args)) where
   verb_keeps : (before : Before) (number : ℕ) (verb : Option Verb) (args : List (List ℕ)) → Keeps before → first_of (verb_rules language before number verb args) ≡ None → Keeps (with_verb before number verb args)
   verb_keeps before number None args kept e = kept
   verb_keeps before number (Some verb) args kept e =
       let rules = kind_rules (kind_of verb) before number verb args in
-      step before number verb args kept (not_false (is_built language verb args) (first_fails (not (is_built language verb args)) why.Unbuilt rules e)) (rest_of (not (is_built language verb args)) why.Unbuilt rules e)
+      step before number verb args kept (not_false (is_built language verb) (first_fails (not (is_built language verb)) why.Unbuilt rules e)) (rest_of (not (is_built language verb)) why.Unbuilt rules e)
 
   by_header : (test : Bool) (a b : Rules) (x y : Before) → (first_of a ≡ None → Keeps x) → Keeps y → first_of (cond test a b) ≡ None → Keeps (cond test x y)
   by_header true a b x y f kept e = f e

@@ -6,5 +6,4 @@ pub mod KeptLemmas
 pub mod BuiltLemmas
 pub mod Payloads
 pub mod BindingLemmas
-pub mod AloneLemmas
 mod Worked

@@ -1,9 +1,8 @@
 //! From the bytes of a file to its script.
-ghost use Rattle.std.specs.Prelude.{◌≡◌, ◌≤◌, ℕ, List, [], true, Some, None, map, IfOk, IfErr};
+ghost use Rattle.std.specs.Prelude.{◌≡◌, ◌≤◌, true, Some, None, map, IfOk, IfErr};
 ghost use Rattle.fab_grammar.specs.Built.{all_built};
 ghost use Rattle.fab_grammar.specs.Before.{Before};
 ghost use Rattle.fab_grammar.specs.Grammar.{script_with, script_said, verdict, script_of, refusal_of};
-ghost use Rattle.fab_script.specs.Bound.{outside};
 ghost use Rattle.fab_script.specs.Parts.{Holds};
 ghost use Rattle.fab_script.specs.Refused.{IsScript, IsRefusal, IsVerdict};
 ghost use Rattle.fab_grammar.specs.declared.language.Language.TheVariants.{Built};
@@ -26,8 +25,6 @@ pub fn parse(alloc: Global, bytes: &[u8]) -> Result<Script, ParseRefused>
     ensures reason { IfErr result (λ e. IsRefusal e (refusal_of bytes.now)) }
     ensures built { IfOk result (λ script. all_built script.peers ≡ true) }
     ensures sized { IfOk result (λ script. (2 ≤ script.conf.info.cq) × (4 ≤ script.conf.info.log)) }
-    ensures alone { IfOk result (λ script. script.payloads ≡ []) }
-    ensures inside { (files : List (List ℕ)) → IfOk result (λ script. outside script files ≡ None) }
 {
     read(alloc, Language::Built, bytes)
 }

@@ -103,7 +103,7 @@ impl Reader {
         let Some(verb) = Verb::of(word) else {
             return Err(Refused::Why(Why::Verb));
         };
-        if !language.has_line(verb, args) {
+        if !language.has(verb) {
             return Err(Refused::Why(Why::Unbuilt));
         }
         match verb.kind() {

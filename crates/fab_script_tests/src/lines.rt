@@ -36,22 +36,6 @@ fn are_read(rt: &impl Abort, alloc: Global, front: &[u8], lines: &[&[u8]]) -> Re
     Ok(())
 }
 
-/// Lines are read in the whole language, and none is carried out.
-fn are_unbuilt(
-    rt: &impl Abort,
-    alloc: Global,
-    front: &[u8],
-    number: u32,
-    lines: &[&[u8]],
-) -> Result<(), Fail> {
-    for line in lines {
-        let text = ending_in(alloc, front, line)?;
-        is_whole(rt, alloc, &text, None);
-        is_built(rt, alloc, &text, Some((number, Why::Unbuilt)));
-    }
-    Ok(())
-}
-
 /// Waits, for what a number is.
 const WAITS: [Row; 20] = [
     (b"Wait 1\n", Some(Why::Verb)),
@@ -82,9 +66,12 @@ fn waits_that_are_carried_out(rt: HostRuntime) -> Result<(), Fail> {
 }
 
 /// Other lines.
-const LINES: [Row; 25] = [
+const LINES: [Row; 28] = [
     (b"jump 1\n", Some(Why::Verb)),
     (b"tsend 1 0 7\n", Some(Why::Words)),
+    (b"tsend 1 0 7 file:1:0:1\n", None),
+    (b"inject 0 file:x\n", Some(Why::Words)),
+    (b"payload 1 file\n", Some(Why::Order)),
     (b"tsend 1 0 7 text:a b\n", Some(Why::Words)),
     (b"tsend 1 4294967295 7 text:a\n", None),
     (b"tsend 1 4294967296 7 text:a\n", Some(Why::Limit)),
@@ -115,12 +102,10 @@ fn lines_that_are_carried_out(rt: HostRuntime) -> Result<(), Fail> {
     are_built(&rt, rt.alloc(), &LINES)
 }
 
-/// Kinds of lines, and a form of bytes, that are not carried out yet.
-const UNBUILT: [Row; 4] = [
-    (b"payload 1 file\n", Some(Why::Unbuilt)),
+/// The kind of lines that is not carried out yet.
+const UNBUILT: [Row; 2] = [
     (b"mrecv 1 * 4096\n", Some(Why::Unbuilt)),
-    (b"tsend 1 0 7 file:1:0:1\n", Some(Why::Unbuilt)),
-    (b"inject 0 file:x\n", Some(Why::Unbuilt)),
+    (b"mrecv 1 * 4096 min=256\n", Some(Why::Unbuilt)),
 ];
 
 #[test]
@@ -305,20 +290,9 @@ fn messages_of_the_manual(rt: HostRuntime) -> Result<(), Fail> {
     are_built(&rt, rt.alloc(), &MANUAL)
 }
 
-/// Those on messages that are not.
-const MANUAL_UNBUILT: [&[u8]; 3] = [
-    b"send 1 0 file:1:0:5",
-    b"mrecv 1 * 4096",
-    b"mrecv 1 * 4096 min=256",
-];
-
-#[test]
-fn messages_of_the_manual_that_are_not_built(rt: HostRuntime) -> Result<(), Fail> {
-    are_unbuilt(&rt, rt.alloc(), ONE, 4, &MANUAL_UNBUILT)
-}
-
 /// Its other lines.
-const MANUAL_OTHERS: [&[u8]; 21] = [
+const MANUAL_OTHERS: [&[u8]; 22] = [
+    b"send 1 0 file:1:0:5",
     b"read 1 0 9 0 8",
     b"write 1 0 9 0 text:hello",
     b"write 1 0 9 0 text:hello data=9 completion",
@@ -348,7 +322,7 @@ fn other_lines_of_the_manual(rt: HostRuntime) -> Result<(), Fail> {
 }
 
 /// Its settings.
-const MANUAL_SETTINGS: [&[u8]; 7] = [
+const MANUAL_SETTINGS: [&[u8]; 8] = [
     b"caps FI_TAGGED,FI_SEND",
     b"lane 128",
     b"pool 64",
@@ -356,16 +330,10 @@ const MANUAL_SETTINGS: [&[u8]; 7] = [
     b"rx 512",
     b"cq 4096",
     b"selective",
+    b"payload 1 words.txt",
 ];
 
 #[test]
 fn settings_of_the_manual(rt: HostRuntime) -> Result<(), Fail> {
-    are_read(&rt, rt.alloc(), b"fabric 1\npeers 2\n", &MANUAL_SETTINGS)?;
-    are_unbuilt(
-        &rt,
-        rt.alloc(),
-        b"fabric 1\npeers 2\n",
-        3,
-        &[b"payload 1 words.txt"],
-    )
+    are_read(&rt, rt.alloc(), b"fabric 1\npeers 2\n", &MANUAL_SETTINGS)
 }

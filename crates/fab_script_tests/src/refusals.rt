@@ -25,7 +25,7 @@ const TEXTS: [Row; 27] = [
     (b"fabric 1\nmrecv 1 * 4\n", Some((2, Why::Unbuilt))),
     (
         b"fabric 1\npeers 1\npeer 0\npayload 1 a\n",
-        Some((4, Why::Unbuilt)),
+        Some((4, Why::Order)),
     ),
     (b"", Some((0, Why::Header))),
     (b"\n \n", Some((0, Why::Header))),

@@ -14,7 +14,7 @@ use Rattle.fab_words.specs.Written.{is_word}
 use Rattle.fab_grammar.specs.declared.language.Language.{Language}
 use Rattle.fab_grammar.specs.declared.language.Language.TheVariants.{Built, Whole}
 use Rattle.fab_grammar.specs.declared.settings.Setting.{Setting}
-use Rattle.fab_grammar.specs.declared.settings.Setting.TheVariants.{Peers, Wish, Capabilities, Selective}
+use Rattle.fab_grammar.specs.declared.settings.Setting.TheVariants.{Peers, Wish, Capabilities, Selective, File}
 use Rattle.fab_grammar.specs.declared.verbs.Kind.TheVariants as kind
 use Rattle.fab_grammar.specs.declared.verbs.Verb.{Verb}
 use Rattle.fab_grammar.specs.declared.verbs.Verb.TheVariants as verb
@@ -173,45 +173,27 @@ spelled _ args s words e = cc
 
 -- the language
 
-abbrev IsBuilt : Setting → Type 0
-IsBuilt s = is_built Built (setting_verb s) (setting_args s) ≡ true
-
-wish_built : (size : Size) (said : Result ℕ Fault) (s : Setting) → is_built Built (size_verb size) [] ≡ true → map_ok (Wish size) said ≡ Ok s → IsBuilt s
+size_built : (size : Size) → is_built Built (size_verb size) ≡ true
 unfolding is_built
-wish_built size.Lane said s built e = subst IsBuilt (made_of (Wish size.Lane) said s e).2 refl
-wish_built size.Pool said s built e = subst IsBuilt (made_of (Wish size.Pool) said s e).2 refl
-wish_built size.Tx said s built e = subst IsBuilt (made_of (Wish size.Tx) said s e).2 refl
-wish_built size.Rx said s built e = subst IsBuilt (made_of (Wish size.Rx) said s e).2 refl
-wish_built size.Cq said s built e = subst IsBuilt (made_of (Wish size.Cq) said s e).2 refl
-wish_built size said s built e = subst IsBuilt (made_of (Wish size) said s e).2 refl
+size_built size.Lane = refl
+size_built size.Pool = refl
+size_built size.Tx = refl
+size_built size.Rx = refl
+size_built size.Cq = refl
+size_built size = refl
 
-caps_built : (args : List (List ℕ)) (s : Setting) → caps_setting args ≡ Ok s → IsBuilt s
-unfolding is_built caps_setting
-caps_built [] s e = cc
-caps_built (word ∷ []) s e = subst IsBuilt (made_of Capabilities (caps_of word) s e).2 refl
-caps_built (word ∷ next ∷ more) s e = cc
-
-selective_built : (args : List (List ℕ)) (s : Setting) → selective_setting args ≡ Ok s → IsBuilt s
-unfolding is_built selective_setting
-selective_built [] s e = let same : Selective ≡ s = cc in subst IsBuilt same refl
-selective_built (word ∷ more) s e = cc
-
-built_again : (verb : Verb) (args : List (List ℕ)) (s : Setting) → kind_of verb ≡ kind.Setting → is_built Built verb args ≡ true → setting_of verb args ≡ Ok s → IsBuilt s
-unfolding is_built setting_of wish_of
-built_again verb.Peers args s k built e = subst IsBuilt (made_of Peers (size_of size.Peers args) s e).2 refl
-built_again verb.Lane args s k built e = wish_built size.Lane (size_of size.Lane args) s refl e
-built_again verb.Pool args s k built e = wish_built size.Pool (size_of size.Pool args) s refl e
-built_again verb.Tx args s k built e = wish_built size.Tx (size_of size.Tx args) s refl e
-built_again verb.Rx args s k built e = wish_built size.Rx (size_of size.Rx args) s refl e
-built_again verb.Cq args s k built e = wish_built size.Cq (size_of size.Cq args) s refl e
-built_again verb.Caps args s k built e = caps_built args s e
-built_again verb.Selective args s k built e = selective_built args s e
-built_again _ args s k built e = cc
+setting_built : (s : Setting) → is_built Built (setting_verb s) ≡ true
+unfolding is_built
+setting_built (Peers n) = refl
+setting_built (Wish size n) = size_built size
+setting_built (Capabilities caps) = refl
+setting_built Selective = refl
+setting_built (File payload) = refl
 
 pub setting_again : (language : Language) (s : Setting) → SettingRead language s → SettingAgain language s
 setting_again Whole s read =
     let again = spelled read.verb read.args s read.words read.reads in
-    record { kind = again.kind; words = again.words; built = whole_built (setting_verb s) (setting_args s); reads = again.reads }
+    record { kind = again.kind; words = again.words; built = whole_built (setting_verb s); reads = again.reads }
 setting_again Built s read =
     let again = spelled read.verb read.args s read.words read.reads in
-    record { kind = again.kind; words = again.words; built = built_again read.verb read.args s read.kind read.built read.reads; reads = again.reads }
+    record { kind = again.kind; words = again.words; built = setting_built s; reads = again.reads }

@@ -18,5 +18,4 @@ pub mod Remote
 pub mod Said
 pub mod Sends
 pub mod Spelt
-pub mod Standing
 mod Worked

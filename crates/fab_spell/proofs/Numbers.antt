@@ -3,7 +3,6 @@ use Rattle.std.proofs.Common.{◌≡◌, ℕ, ◌<◌, Bool, true, false, cond, 
 use Rattle.std.specs.Prelude.{bytes_eq, Ok}
 use Rattle.std.specs.List.{list_all}
 use Rattle.std.proofs.lemmas.Bool.{and_parts, and_from, ne_eqb, lt-ltb, ltb-true, le-leb}
-use Rattle.fab_grammar.specs.Language.{stands_here}
 use Rattle.fab_model.proofs.Plain.{decimal_digits, decimal_some}
 use Rattle.fab_words.specs.Faults.{map_ok}
 use Rattle.fab_words.specs.Words.{read_index, read_source}
@@ -45,17 +44,6 @@ is_word-digits (b ∷ word) d = printable-digits (b ∷ word) d.all
 
 pub is_word-decimal : (n : ℕ) → is_word (decimal n) ≡ true
 is_word-decimal n = is_word-digits (decimal n) (digits-decimal n)
-
--- such a word names no file, and is no `*`
-pub stands : (b : ℕ) (word : List ℕ) → b < 58 → stands_here (b ∷ word) ≡ true
-stands b word below = rw (ne_eqb b 102 (λ e. omega arith)) refl
-
-pub digit_first : (b : ℕ) (word : List ℕ) → Digits (b ∷ word) → b < 58
-digit_first b word d = (first_byte b (and_parts (is_numeric b) (list_all is_numeric word) d.all).0).1
-
-pub stands-digits : (word : List ℕ) → Digits word → stands_here word ≡ true
-stands-digits [] d = absurd (omega (arith, d.some))
-stands-digits (b ∷ word) d = stands b word (digit_first b word d)
 
 abbrev is_any : List ℕ → Bool
 is_any word = bytes_eq word (codes "*")

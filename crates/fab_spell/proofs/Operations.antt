@@ -10,7 +10,7 @@ use Rattle.fab_grammar.specs.declared.verbs.Verb.TheVariants as verb
 use Rattle.fab_grammar.specs.Lines.{op_of}
 use Rattle.fab_words.specs.Written.{is_word}
 use Rattle.fab_spell.specs.Again.{WasRead, Again}
-use Rattle.fab_spell.specs.Spelling.{verb_for, args_for}
+use Rattle.fab_spell.specs.Spelling.{verb_for}
 use Rattle.fab_spell.proofs.BuiltLines.{built_again, whole_built}
 use Rattle.fab_spell.proofs.Own.{reg_spelt, close_spelt, put_spelt, show_spelt, insert_spelt, remove_spelt, wait_spelt, count_spelt, reach_spelt}
 use Rattle.fab_spell.proofs.Receives.{recv_spelt, trecv_spelt, mrecv_spelt, peek_spelt, claim_spelt, discard_spelt, take_spelt, drop_spelt, cancel_spelt}
@@ -53,7 +53,7 @@ op_spelt _ args op are e = cc
 pub op_again : (language : Language) (op : LineOp) → WasRead language op → Again language op
 op_again Whole op was =
     let spelt = op_spelt was.verb was.args op was.words was.reads in
-    record { kind = spelt.call; words = spelt.words; built = whole_built (verb_for op) (args_for op); reads = spelt.reads }
+    record { kind = spelt.call; words = spelt.words; built = whole_built (verb_for op); reads = spelt.reads }
 op_again Built op was =
     let spelt = op_spelt was.verb was.args op was.words was.reads in
     record { kind = spelt.call; words = spelt.words; built = built_again was.verb was.args op was.built was.reads; reads = spelt.reads }

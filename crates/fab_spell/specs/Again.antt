@@ -18,11 +18,11 @@ pub record WasRead (language : Language) (op : LineOp) : Type 0 where
   pub args : List (List ℕ)
   pub kind : kind_of verb ≡ kind.Call
   pub words : list_all is_word args ≡ true
-  pub built : is_built language verb args ≡ true
+  pub built : is_built language verb ≡ true
   pub reads : op_of verb args ≡ Ok op
 
 pub record Again (language : Language) (op : LineOp) : Type 0 where
   pub kind : kind_of (verb_for op) ≡ kind.Call
   pub words : list_all is_word (args_for op) ≡ true
-  pub built : is_built language (verb_for op) (args_for op) ≡ true
+  pub built : is_built language (verb_for op) ≡ true
   pub reads : op_of (verb_for op) (args_for op) ≡ Ok op

@@ -60,11 +60,11 @@ pub record SettingRead (language : Language) (s : Setting) : Type 0 where
   pub args : List (List ℕ)
   pub kind : kind_of verb ≡ kind.Setting
   pub words : list_all is_word args ≡ true
-  pub built : is_built language verb args ≡ true
+  pub built : is_built language verb ≡ true
   pub reads : setting_of verb args ≡ Ok s
 
 pub record SettingAgain (language : Language) (s : Setting) : Type 0 where
   pub kind : kind_of (setting_verb s) ≡ kind.Setting
   pub words : list_all is_word (setting_args s) ≡ true
-  pub built : is_built language (setting_verb s) (setting_args s) ≡ true
+  pub built : is_built language (setting_verb s) ≡ true
   pub reads : setting_of (setting_verb s) (setting_args s) ≡ Ok s

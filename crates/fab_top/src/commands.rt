@@ -1,12 +1,9 @@
 //! What the words of a command ask for.
 ghost use Rattle.std.specs.Prelude.{◌≡◌, option_map};
-ghost use Rattle.std.specs.Result.{result_ok};
-ghost use Rattle.fab_grammar.specs.Capabilities.{cap_named, caps_of};
 ghost use Rattle.fab_top.specs.Commands.{script_file, info_hints, hints_in};
 
-use fab_base::{Cap, Caps, Hints, Text};
-use fab_grammar::{CAPS, asking, cap_name};
-use fab_words::{first_part, is};
+use fab_base::{Hints, Text};
+use fab_grammar::{asking, read_caps};
 
 /// The file whose script is to be run, where the words are `script FILE`.
 pub fn script_file(words: &[Text]) -> Option<&Text>
@@ -36,31 +33,6 @@ fn read_hints(caps: &str) -> Option<Option<Hints>>
     if caps == "-" {
         return Some(None);
     }
-    let caps = read_caps(caps.as_bytes())?;
+    let caps = read_caps(caps.as_bytes()).ok()?;
     Some(Some(asking(caps)))
-}
-
-/// The capability of this name.
-#[tactic(auto, unfolding(fab_grammar::specs::Capabilities::cap_named))]
-fn named(name: &[u8]) -> Option<Cap>
-    ensures { result ≡ cap_named name.now }
-{
-    CAPS.iter().copied().find(|cap| is(name, cap_name(*cap)))
-}
-
-/// The capabilities whose names the commas join.
-#[tactic(auto, unfolding(fab_grammar::specs::Capabilities::caps_of))]
-fn read_caps(word: &[u8]) -> Option<Caps>
-    ensures { result ≡ result_ok (caps_of word.now) }
-{
-    let mut caps = Caps::none();
-    let mut list = word;
-    loop {
-        let (name, rest) = first_part(list, b',');
-        caps = caps.with(named(name)?);
-        match rest {
-            Some(rest) => list = rest,
-            None => return Some(caps),
-        }
-    }
 }

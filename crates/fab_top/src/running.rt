@@ -92,16 +92,20 @@ fn tell_offer<S: Sink>(alloc: Global, sink: &mut S, hints: Option<Hints>) -> Sta
 }
 
 /// Carries out the command that these words are. `script FILE` loads the file and the payload files of the script
-/// that it spells, in the order of their lines, runs the script's peers, and writes their report. `info CAPS` writes what is granted (fi_getinfo(3)) to whoever asks for
-/// these capabilities, whose names are joined by commas, or has no hints where CAPS is `-`.
+/// that it spells, in the order of their lines, runs the script's peers, and writes their report. `info CAPS` writes
+/// what is granted (fi_getinfo(3)) to whoever asks for these capabilities, whose names are joined by commas, or has no
+/// hints where CAPS is `-`.
 ///
 /// The report is that of one lawful schedule, the one that its own trace lines tell: in some order of
 /// turns the peers' steps led from the script's opening to the states that it reports. In these the
 /// peers are at rest: nothing is on its way, no completion is unread, and no line can be done. At `Done`
 /// all lines are done, and no receive is posted any more; at `Stuck` some line is not done. At
 /// `WriteFault` the first bytes of such a report are written, and at every other status none. `info` ends at
-/// `Done`, also where nothing is granted, `WriteFault` or `NoMemory`. The files stay as they are. `ScriptRefused` names the first line that breaks a rule of the language, and the
-/// first rule that it breaks. `NoMemory` may come before anything is written.
+/// `Done`, also where nothing is granted, at `WriteFault` or at `NoMemory`. The files stay as they are.
+///
+/// `ScriptRefused` names the first line that breaks a rule of the language, and the first rule that it breaks; with
+/// `FileRange`, which is looked at last, the first line that names bytes which its payload file has not. `TooLong` and
+/// `ReadFault` name the file. `NoMemory` may come before anything is written.
 ///
 /// The clock must be new: it has given no moment.
 pub fn run<R, D: Depot, S: Sink, C: Clock, G: Gate>(

@@ -14,6 +14,8 @@ mod messages;
 #[cfg(test)]
 mod onesided;
 #[cfg(test)]
+mod payloads;
+#[cfg(test)]
 mod reports;
 #[cfg(test)]
 mod runs;

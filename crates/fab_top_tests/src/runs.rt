@@ -206,7 +206,7 @@ pub(crate) fn end_of<R: Threads + Wait + Sync>(
 }
 
 /// Whether the end names this file as one that could not be read.
-fn is_read_fault(end: &Status, file: &str) -> bool {
+pub(crate) fn is_read_fault(end: &Status, file: &str) -> bool {
     match end {
         Status::ReadFault { name } => name.as_str() == file,
         _ => false,
@@ -214,7 +214,7 @@ fn is_read_fault(end: &Status, file: &str) -> bool {
 }
 
 /// Whether the end names this file as one that is too long.
-fn is_too_long(end: &Status, file: &str) -> bool {
+pub(crate) fn is_too_long(end: &Status, file: &str) -> bool {
     match end {
         Status::TooLong { name } => name.as_str() == file,
         _ => false,
