@@ -20,6 +20,7 @@ use Rattle.fab_model.specs.Complete.{at_delivery, at_either, at_match, book, fil
 use Rattle.fab_model.specs.Receiving.{cancel, cancellable, give, post, receive_of, taken_by, without_first}
 use Rattle.fab_model.specs.Sending.{Order, accepting, answering, do_answer, do_sent, end_with, ending, expects, is_answered_by, refusal_of, success_of, transmit_to, transmitting}
 use Rattle.fab_model.specs.Arrivals.{do_head, do_tail, heading_message, heading_other, keeping, made_whole, tail_to}
+use Rattle.fab_rx.proofs.Growing.{kept_single}
 use Rattle.fab_rx.specs.Arriving.{Arriving, GoesToSingle, IsArriving, IsSingle, arriving, begun_of, bytes_come, finishing, given, kept, posting, receive_by}
 use Rattle.fab_rx.specs.Leaving.{is_meant}
 use Rattle.fab_rx.specs.Results.{completed}
@@ -169,7 +170,7 @@ module _ (p : Parts) (source : ℕ) (item : Item) (begun : begun_of p.rx source 
   tail_by : (c : Option Coming) → coming_from p.rx.rx source ≡ c → IsFitting c (Some item) → GoesToSingle c → do_tail (state_of p) source item.head item.bytes ≡ state_of (tail source item p)
   unfolding do_tail tail_to
   tail_by None e f s = absurd f
-  tail_by (Some (Into r place)) e f s = rw (e, s.1, do_tail, tail_to, not_released r s.0 _) (received_is r s.0 source item.head item.bytes (at_either item.head.ack) (with_arriving (record p.rx { rx = made_whole source p.rx.rx; begun = slice_set p.rx.begun source None }) p))
+  tail_by (Some (Into r place)) e f s = rw (e, s.1, kept_single r 0 source (bytes_come (begun_of p.rx source)) (made_whole source p.rx.rx) s.0.least, do_tail, tail_to, not_released r s.0 _) (received_is r s.0 source item.head item.bytes (at_either item.head.ack) (with_arriving (record p.rx { rx = made_whole source p.rx.rx; begun = slice_set p.rx.begun source None }) p))
   tail_by (Some Keep) e f s = rw (e, begun, do_tail, tail_to) (book_is (at_delivery item.head.ack) source item.head (with_arriving (record p.rx { rx = keeping source item.bytes (made_whole source p.rx.rx); begun = slice_set p.rx.begun source None }) p))
   tail_by (Some Throw) e f s = rw (e, do_tail, tail_to) (book_is (at_either item.head.ack) source item.head (with_arriving (record p.rx { rx = made_whole source p.rx.rx; begun = slice_set p.rx.begun source None }) p))
   tail_by (Some Request) e f s = rw (e, do_tail, tail_to) (requested_is (with_arriving (record p.rx { rx = made_whole source p.rx.rx; begun = slice_set p.rx.begun source None }) p) source item)
@@ -191,7 +192,7 @@ module _ (p : Parts) (ask : Ask) (buf : List ℕ) where
     where
       by : (b : Option (List ℕ)) → a.bytes ≡ b → post (state_of p) (posting_of ask buf) ≡ state_of (posted_by (wanted (state_of p) ask) buf ask.ctx p)
       by None none = rw (e, none, post, give) refl
-      by (Some bytes) some = rw (e, some, post, give) (received_is r (record { least = refl; used = refl }) a.source a.head bytes (at_match a.head.ack) (called (with_arriving (record { rx = without_first r.want p.rx.rx; begun = p.rx.begun; most = p.rx.most; next = r.call + 1 }) p)))
+      by (Some bytes) some = rw (e, some, post, give) (received_is r (record { least = refl; used = refl }) a.source a.head bytes (at_match a.head.ack) (called (with_arriving (record { rx = without_first r.want p.rx.rx; begun = p.rx.begun; most = p.rx.most; next = r.call + 1; multi = p.rx.multi }) p)))
 
   pub posted_is : post (state_of p) (posting_of ask buf) ≡ state_of (posted_by (wanted (state_of p) ask) buf ask.ctx p)
   posted_is = posted_found (find (takes (wanted (state_of p) ask)) p.rx.rx.unexpected) refl

@@ -108,13 +108,13 @@ module _ (v : Arriving) (ok : IsArriving v) (source : ℕ) (head : ItemHead) (wi
   single_way AtomicReq = tt
   single_way Reply = tt
 
-  pub single_arrived : GoesToSingle (coming_from (arriving source head v).rx source)
-  single_arrived = by (is_message head.kind) refl
+  pub single_arrived : v.multi ≡ false → GoesToSingle (coming_from (arriving source head v).rx source)
+  single_arrived alone = by (is_message head.kind) refl
     where
       taken : (o : Option Receive) → taker source head v.rx ≡ o → is_message head.kind ≡ true → GoesToSingle (coming_from (arriving source head v).rx source)
       taken None e message = rw (arrived_message message, e) tt
       taken (Some r) e message =
-          let single : IsSingle r = subst (λ (o : Option Receive). IfSome o IsSingle) e (IfSome-find (is_wanted source head) IsSingle v.rx.posted ok.single) in
+          let single : IsSingle r = subst (λ (o : Option Receive). IfSome o IsSingle) e (IfSome-find (is_wanted source head) IsSingle v.rx.posted (ok.plain alone).single) in
           rw (arrived_message message, e) (single, single.used)
 
       by : (b : Bool) → is_message head.kind ≡ b → GoesToSingle (coming_from (arriving source head v).rx source)
@@ -244,7 +244,7 @@ module _ (p : Parts) (ok : IsTogether p) (rx : IsArriving p.rx) (source : ℕ) (
       let none = nothing_begun (begun_of p.rx source) f next first in
       let count = rx.under_way source within in
       let zero_more : count_begun (begun_of p.rx source) ≡ 0 = ap count_begun none in
-      (none, omega (arith, count, zero_more), rx.still)
+      (none, omega (arith, count, zero_more), (rx.plain ok.plain).still)
   comes false other = (let there = some_begun (begun_of p.rx source) f next other in (there.0, there.1, there.2))
 
   heads_tails : slice_index (headed (is_first f) (state_of p) source f.head.item).rx.heads source ≡ slice_index (headed (is_first f) (state_of p) source f.head.item).rx.tails source + 1
@@ -324,8 +324,8 @@ module _ (p : Parts) (ok : IsTogether p) (rx : IsArriving p.rx) (source : ℕ) (
   single_fed = by (is_first f) refl
     where
       by : (b : Bool) → is_first f ≡ b → GoesToSingle (coming_from (fed source f p).rx.rx source)
-      by true first = rw first (single_arrived p.rx rx source f.head.item within)
-      by false other = rw other (rx.into source)
+      by true first = rw first (single_arrived p.rx rx source f.head.item within ok.plain)
+      by false other = rw other ((rx.plain ok.plain).into source)
 
   fitting_fed : IsFitting (coming_from (fed source f p).rx.rx source) (Some (grown (begun_of p.rx source) f))
   fitting_fed = by (is_first f) refl

@@ -17,11 +17,13 @@ use Rattle.std.specs.Option.{option_map}
 use Rattle.fab_model.specs.State.{Completions, coming_from, counting, writing}
 use Rattle.fab_model.specs.Arrivals.{do_tail}
 use Rattle.fab_face.specs.Machine.{StayNext}
-use Rattle.fab_rx.specs.Arriving.{IsArriving, begun_of, finishing, posting}
-use Rattle.fab_rx.specs.Results.{call_into, completed, ended, posted_as}
+use Rattle.fab_rx.specs.Arriving.{Arriving, IsArriving, begun_of, finishing, posting}
+use Rattle.fab_rx.specs.Results.{call_into, completed, ended, handed, last_of, posted_as}
+use Rattle.fab_rx.specs.declared.results.Released.{Released}
+use Rattle.fab_rx.proofs.Plain.{nothing_last}
 use Rattle.fab_rx.specs.declared.results.Completed.{Completed}
 use Rattle.fab_rx.specs.declared.results.Finished.{Finished}
-use Rattle.fab_rx.specs.declared.results.Finished.TheVariants.{Received, Kept, Thrown, Request as RequestCame, Answer as AnswerCame}
+use Rattle.fab_rx.specs.declared.results.Finished.TheVariants.{Received, Last, Kept, Thrown, Request as RequestCame, Answer as AnswerCame}
 use Rattle.fab_rx.specs.declared.results.Posted.{Posted}
 use Rattle.fab_rx.specs.declared.results.Posted.TheVariants.{Joined, GoesOn, Whole}
 use Rattle.fab_tx.specs.Transit.{IsTransit, Transit, answered_by, finds_answered, booking}
@@ -42,6 +44,18 @@ ended_received (Some Keep) source item x is = absurd (cc)
 ended_received (Some Throw) source item x is = absurd (cc)
 ended_received (Some Request) source item x is = absurd (cc)
 ended_received (Some Answer) source item x is = absurd (cc)
+
+-- no buffer of a multi-receive comes back
+pub ended_last : (c : Option Coming) (source : ℕ) (item : Item) (x : Completed) (y : Released) → ended c source item ≡ Last x y → ⊥
+ended_last None source item x y is = absurd (cc)
+ended_last (Some (Into r place)) source item x y is = absurd (cc)
+ended_last (Some Keep) source item x y is = absurd (cc)
+ended_last (Some Throw) source item x y is = absurd (cc)
+ended_last (Some Request) source item x y is = absurd (cc)
+ended_last (Some Answer) source item x y is = absurd (cc)
+
+pub ended_plain : (v : Arriving) → IsArriving v → v.multi ≡ false → (source : ℕ) (f : Finished) → handed (last_of source v) f ≡ f
+ended_plain v ok alone source f = ap (λ (o : Option Receive). handed o f) (nothing_last v (ok.plain alone) source)
 
 pub ended_kept : (c : Option Coming) (source : ℕ) (item : Item) (head : ItemHead) → ended c source item ≡ Kept head → (c ≡ Some Keep) × (head ≡ item.head)
 ended_kept None source item head is = absurd (cc)
@@ -159,7 +173,7 @@ module _ (p : Parts) (ok : IsTogether p) (rx : IsArriving p.rx) (tx : IsTransit 
   pub whole_state : (q : Parts) → IfSome (begun_of p.rx source) (λ item. q ≡ tail source item p) → IfSome (begun_of p.rx source) (λ item. state_of q ≡ do_tail (state_of p) source item.head item.bytes)
   whole_state q is =
       let at : q ≡ tail source item p = of_begun (λ item. q ≡ tail source item p) (begun_of p.rx source) item begun is in
-      if_begun (λ item. state_of q ≡ do_tail (state_of p) source item.head item.bytes) (begun_of p.rx source) item begun (ap state_of at ∙ sym (tail_is p source item begun fitting (rx.into source)))
+      if_begun (λ item. state_of q ≡ do_tail (state_of p) source item.head item.bytes) (begun_of p.rx source) item begun (ap state_of at ∙ sym (tail_is p source item begun fitting ((rx.plain ok.plain).into source)))
 
   pub whole_next : (q : Parts) → IfSome (begun_of p.rx source) (λ item. q ≡ tail source item p) → StayNext (state_of p) (state_of q)
   whole_next q is =

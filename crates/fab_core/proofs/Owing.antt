@@ -19,6 +19,7 @@ use Rattle.fab_model.specs.Complete.{at_delivery, at_either, at_match}
 use Rattle.fab_model.specs.Matching.{is_message, remove_first, takes}
 use Rattle.fab_model.specs.State.{Receiving, coming_from}
 use Rattle.fab_model.specs.Arrivals.{completed, heading_message, heading_other, keeping, made_whole, newcomer, taker, way_of}
+use Rattle.fab_rx.proofs.Plain.{shared_besides}
 use Rattle.fab_rx.specs.Arriving.{Arriving, IsArriving, IsPartly, PartlyIn, arriving, bare, begun_of, bytes_come, finishing, given, growing, headed, kept, lengthened, posted_to, posting}
 use Rattle.fab_rma.specs.Serving.{is_request}
 use Rattle.fab_core.specs.Parts.{bit, count_of, due_for, is_due, is_owed, is_owed_aside, owed}
@@ -216,7 +217,7 @@ same_owed s source bytes a = by (a.source == source) refl a.bytes refl
 kept_count : (s : ℕ) (c : Option Coming) (source : ℕ) (bytes : List ℕ) (rx : Receiving) → count_of (is_owed s) (kept c source bytes rx).unexpected ≡ count_of (is_owed s) rx.unexpected
 unfolding keeping
 kept_count s None source bytes rx = refl
-kept_count s (Some (Into r place)) source bytes rx = refl
+kept_count s (Some (Into r place)) source bytes rx = ap (count_of (is_owed s)) (shared_besides r.least r place bytes rx).unexpected
 kept_count s (Some Keep) source bytes rx = count_alike (is_owed s) (completed source bytes) (same_owed s source bytes) rx.unexpected
 kept_count s (Some Throw) source bytes rx = refl
 kept_count s (Some Request) source bytes rx = refl
@@ -225,7 +226,7 @@ kept_count s (Some Answer) source bytes rx = refl
 kept_aside : (s : ℕ) (c : Option Coming) (source : ℕ) (bytes : List ℕ) (rx : Receiving) → count_of (is_owed_aside s) (kept c source bytes rx).claimed ≡ count_of (is_owed_aside s) rx.claimed
 unfolding keeping
 kept_aside s None source bytes rx = refl
-kept_aside s (Some (Into r place)) source bytes rx = refl
+kept_aside s (Some (Into r place)) source bytes rx = ap (count_of (is_owed_aside s)) (shared_besides r.least r place bytes rx).claimed
 kept_aside s (Some Keep) source bytes rx = count_alike (is_owed_aside s) (λ k. (k.0, completed source bytes k.1)) (λ k. same_owed s source bytes k.1) rx.claimed
 kept_aside s (Some Throw) source bytes rx = refl
 kept_aside s (Some Request) source bytes rx = refl
@@ -234,7 +235,7 @@ kept_aside s (Some Answer) source bytes rx = refl
 kept_coming : (c : Option Coming) (source : ℕ) (bytes : List ℕ) (rx : Receiving) → (kept c source bytes rx).coming ≡ rx.coming
 unfolding keeping
 kept_coming None source bytes rx = refl
-kept_coming (Some (Into r place)) source bytes rx = refl
+kept_coming (Some (Into r place)) source bytes rx = (shared_besides r.least r place bytes rx).coming
 kept_coming (Some Keep) source bytes rx = refl
 kept_coming (Some Throw) source bytes rx = refl
 kept_coming (Some Request) source bytes rx = refl

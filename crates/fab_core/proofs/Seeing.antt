@@ -66,7 +66,7 @@ module _ (p : Parts) (ctx : ℕ) (k : ℕ × Arrival) (found : find (λ k. k.0 =
     unfolding take_claimed give
     take_by None none = rw (found, none, take_claimed, give) refl
     take_by (Some bytes) some = rw (found, some, take_claimed, give)
-        (received_is r (record { least = refl; used = refl }) k.1.source k.1.head bytes (at_match k.1.head.ack) (called (with_arriving (record { rx = without_claim ctx p.rx.rx; begun = p.rx.begun; most = p.rx.most; next = r.call + 1 }) p)))
+        (received_is r (record { least = refl; used = refl }) k.1.source k.1.head bytes (at_match k.1.head.ack) (called (with_arriving (record { rx = without_claim ctx p.rx.rx; begun = p.rx.begun; most = p.rx.most; next = r.call + 1; multi = p.rx.multi }) p)))
 
     pub take_is : take_claimed (state_of p) buf ctx ≡ state_of (taken_by buf ctx p)
     take_is = take_by k.1.bytes refl

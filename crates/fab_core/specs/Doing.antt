@@ -41,7 +41,7 @@ use Rattle.fab_rx.specs.Leaving.{is_meant}
 use Rattle.fab_rx.specs.Results.{completed}
 use Rattle.fab_rx.specs.declared.results.Completed.{Completed}
 use Rattle.fab_rx.specs.declared.results.Finished.{Finished}
-use Rattle.fab_rx.specs.declared.results.Finished.TheVariants.{Received, Kept, Thrown, Request as RequestCame, Answer as AnswerCame}
+use Rattle.fab_rx.specs.declared.results.Finished.TheVariants.{Received, Last, Kept, Thrown, Request as RequestCame, Answer as AnswerCame}
 use Rattle.fab_tx.specs.Transit.{Transit, accepting_by, answered_by, booking, ended, finds_answered, finishing as finishing_sent}
 use Rattle.fab_tx.specs.declared.results.Ended.{Ended}
 use Rattle.fab_model.specs.Target.{perform}
@@ -165,6 +165,7 @@ tail source item p = whole (coming_from p.rx.rx source) source item (with_arrivi
 -- a reply is due to the item of this end
 abbrev pub due_at_end : Finished → Bool
 due_at_end (Received c) = at_either c.head.ack
+due_at_end (Last c r) = at_either c.head.ack
 due_at_end (Kept head) = at_delivery head.ack
 due_at_end (Thrown head) = at_either head.ack
 due_at_end (RequestCame item) = true

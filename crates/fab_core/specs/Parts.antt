@@ -104,6 +104,8 @@ pub record IsTogether (p : Parts) : Type 0 where
   pub peers : length p.rx.begun ≡ length p.tx.tx.sent
   pub addresses : p.av.peers ≡ length p.tx.tx.sent
   pub addressed : (i peer : ℕ) → lookup p.av.indices i ≡ Some peer → peer < length p.tx.tx.sent
+  -- no multi-receive was posted
+  pub plain : p.rx.multi ≡ false
   -- each receive was posted by an earlier call
   pub earlier : p.rx.next ≤ p.calls
   -- an answer is coming where a reply is begun, a request where one is, and a message where one is

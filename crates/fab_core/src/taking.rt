@@ -284,6 +284,7 @@ impl<M: Matcher> Core<M> {
                     *alloc, cq, counters, tx, &about, due, completed,
                 );
             }
+            Finished::Last(..) => unreachable!(),
             Finished::Kept(head) => book(*alloc, tx, at_delivery(head.ack), source, &head),
             Finished::Thrown(head) => book(*alloc, tx, at_either(head.ack), source, &head),
             Finished::Request(item) => serve(tx, cq, target, source, item),

@@ -7,7 +7,7 @@ use Rattle.fab_base.specs.declared.operations.Arrival.{Arrival}
 use Rattle.fab_model.specs.Matching.{is_message}
 use Rattle.fab_model.specs.State.{Receiving}
 use Rattle.fab_model.specs.Arrivals.{heading_message, heading_other}
-use Rattle.fab_rx.specs.declared.stored.Seat.{Seat}
+use Rattle.fab_rx.specs.declared.stored.Waiting.{Waiting}
 use Rattle.fab_rx.specs.declared.stored.Parcel.{Parcel}
 use Rattle.fab_rx.specs.declared.stored.Begun.{Begun}
 use Rattle.fab_rx.specs.Table.{Cells, at}
@@ -47,7 +47,7 @@ module _ (us : List (ℕ × Sign)) (parcels : Cells Parcel) (coming : List (Opti
     reserved = fits;
   }
 
-module _ (ps : List (ℕ × Want)) (us : List (ℕ × Sign)) (room : ℕ) (seats : Cells Seat) (parcels : Cells Parcel) (coming : List (Option Begun)) (v : Arriving) (kept : IsKept ps us room seats parcels coming v) (cs : List (ℕ × ℕ)) (capacity : ℕ) (aside : AreClaimed us parcels coming cs capacity v.rx.claimed)
+module _ (ps : List (ℕ × Want)) (us : List (ℕ × Sign)) (room : ℕ) (seats : Cells Waiting) (parcels : Cells Parcel) (coming : List (Option Begun)) (v : Arriving) (kept : IsKept ps us room seats parcels coming v) (cs : List (ℕ × ℕ)) (capacity : ℕ) (aside : AreClaimed us parcels coming cs capacity v.rx.claimed)
     (source : ℕ) (head : ItemHead) (within : source < length v.begun) (nothing : begun_of v source ≡ None) where
   as_arrived : (xs : List (ℕ × Sign)) (others : Cells Parcel) (now : List (Option Begun)) (most : ℕ) → AreClaimed xs others now cs most v.rx.claimed → AreClaimed xs others now cs most (arriving source head v).rx.claimed
   as_arrived xs others now most is = subst (λ (cl : List (ℕ × Arrival)). AreClaimed xs others now cs most cl) (sym (claimed_headed (is_message head.kind) source head v.rx)) is

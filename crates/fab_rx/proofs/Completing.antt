@@ -1,10 +1,11 @@
 -- A receive's buffer fills as bytes come, and its completion tells what they were.
-use Rattle.std.proofs.Common.{◌≡◌, ℕ, ◌+◌, ◌-◌, ◌≤◌, ◌<◌, true, false, List, length, Option, Some, None, refl, ap, arith, length-append}
+use Rattle.std.proofs.Common.{◌≡◌, ℕ, ◌+◌, ◌-◌, ◌≤◌, ◌<◌, true, false, List, length, Option, Some, None, refl, ap, ◌∙◌, arith, length-append}
+use Rattle.std.specs.Prelude.{is_some}
 use Rattle.std.proofs.lemmas.Bool.Decides.{nat_tests}
 use Rattle.fab_base.specs.declared.items.Item.{Item}
 use Rattle.fab_base.specs.declared.items.ItemHead.{ItemHead}
 use Rattle.fab_base.specs.declared.entries.Taken.TheVariants.{Success, Failure}
-use Rattle.fab_base.specs.declared.entries.Entry.TheVariants.{Received}
+use Rattle.fab_base.specs.declared.entries.Entry.TheVariants.{Part, Received}
 use Rattle.fab_base.specs.declared.entries.ErrKind.TheVariants.{Truncated}
 use Rattle.fab_base.specs.declared.operations.Receive.{Receive}
 use Rattle.fab_base.specs.declared.operations.Coming.{Coming}
@@ -64,6 +65,47 @@ module _ (r : Receive) (single : IsSingle r) (source : ℕ) (head : ItemHead) (b
         let space : has_space r 0 head ≡ false = grind (arith, nat_tests) in
         let placed : len ≡ length r.buf - 0 = omega arith in
         rw (entry_truncated space, space, is, tagged, placed) refl
+
+-- ---- a message in a multi-receive
+
+module _ (r : Receive) (place source : ℕ) (head : ItemHead) (bytes : List ℕ) (ctx len : ℕ) (same : ctx ≡ r.ctx) (long : len ≡ length r.buf) where
+  -- it fits
+  pub part_well : is_some r.least ≡ true → head.total ≤ len - place → ◌≡◌ {A = Completed} (record { entry = Success (Part ctx source head.imm place head.total); good = true; source = source; head = head }) (completed r place source head bytes)
+  unfolding entry_of received
+  part_well multi le = by r.least refl
+    where
+      space : has_space r place head ≡ true
+      space = grind (arith, nat_tests)
+
+      by : (o : Option ℕ) → r.least ≡ o → ◌≡◌ {A = Completed} (record { entry = Success (Part ctx source head.imm place head.total); good = true; source = source; head = head }) (completed r place source head bytes)
+      by None e = absurd (let no : false ≡ true = rw e at multi in cc)
+      by (Some least) e = rw (space, entry_of, received, e, same) refl
+
+  -- it does not
+  pub part_short : is_some r.least ≡ true → (tag : Option ℕ) → tag ≡ tag_of head → (n : ℕ) → n ≡ len - place → n < head.total
+      → ◌≡◌ {A = Completed} (record {
+        entry = Failure (record { ctx = Some ctx; kind = Truncated; source = Some source; tag = tag; imm = head.imm; at = Some place; len = n; olen = head.total - n; buf = None });
+        good = false;
+        source = source;
+        head = head;
+      }) (completed r place source head bytes)
+  unfolding entry_of truncated
+  part_short multi tag tagged n is lt = by r.least refl
+    where
+      space : has_space r place head ≡ false
+      space = grind (arith, nat_tests)
+
+      room : n ≡ length r.buf - place
+      room = is ∙ ap (λ (k : ℕ). k - place) long
+
+      by : (o : Option ℕ) → r.least ≡ o → ◌≡◌ {A = Completed} (record {
+        entry = Failure (record { ctx = Some ctx; kind = Truncated; source = Some source; tag = tag; imm = head.imm; at = Some place; len = n; olen = head.total - n; buf = None });
+        good = false;
+        source = source;
+        head = head;
+      }) (completed r place source head bytes)
+      by None e = absurd (let no : false ≡ true = rw e at multi in cc)
+      by (Some least) e = rw (space, entry_of, truncated, e, same, tagged, room) refl
 
 module _ (parcels : Cells Parcel) (source : ℕ) (b : Begun) (c : Coming) (item : Item) (is : IsComing parcels source b c item) where
   -- more bytes of the message come into the receive

@@ -9,7 +9,7 @@ use Rattle.fab_model.specs.Matching.{takes}
 use Rattle.fab_match.specs.Signs.{fits}
 use Rattle.fab_match.specs.Matcher.{first_id}
 use Rattle.fab_rx.specs.declared.results.Seen.{Seen}
-use Rattle.fab_rx.specs.declared.stored.Seat.{Seat}
+use Rattle.fab_rx.specs.declared.stored.Waiting.{Waiting}
 use Rattle.fab_rx.specs.declared.stored.Parcel.{Parcel}
 use Rattle.fab_rx.specs.declared.stored.Begun.{Begun}
 use Rattle.fab_rx.specs.Table.{Cells, at}
@@ -37,7 +37,7 @@ seen_as a p is = rw is refl
 
 -- ---- an unexpected one
 
-module _ (ps : List (ℕ × Want)) (us : List (ℕ × Sign)) (room : ℕ) (seats : Cells Seat) (parcels : Cells Parcel) (coming : List (Option Begun)) (v : Arriving) (kept : IsKept ps us room seats parcels coming v) (want : Want) where
+module _ (ps : List (ℕ × Want)) (us : List (ℕ × Sign)) (room : ℕ) (seats : Cells Waiting) (parcels : Cells Parcel) (coming : List (Option Begun)) (v : Arriving) (kept : IsKept ps us room seats parcels coming v) (want : Want) where
   pub none_found : first_id (λ sign. fits want sign) us ≡ None → find (takes want) v.rx.unexpected ≡ None
   none_found e = missed (Lies parcels coming) (λ sign. fits want sign) (takes want) (lies_agrees want parcels coming) us v.rx.unexpected kept.messages e
 

@@ -9,17 +9,20 @@ use Rattle.fab_base.specs.declared.items.Kind.TheVariants.{Msg, TagMsg, WriteReq
 use Rattle.fab_base.specs.declared.items.Want.{Want}
 use Rattle.fab_base.specs.declared.items.Sign.{Sign}
 use Rattle.fab_base.specs.declared.operations.Arrival.{Arrival}
+use Rattle.fab_base.specs.declared.operations.Receive.{Receive}
 use Rattle.fab_base.specs.declared.operations.Coming.{Coming}
-use Rattle.fab_base.specs.declared.operations.Coming.TheVariants.{Keep as KeepIt}
-use Rattle.fab_model.specs.State.{Receiving, coming_from, raise}
+use Rattle.fab_base.specs.declared.operations.Coming.TheVariants.{Into as IntoReceive, Keep as KeepIt}
+use Rattle.fab_model.specs.State.{Receiving, coming_from, raise, under_way}
+use Rattle.fab_model.specs.Complete.{filling}
 use Rattle.fab_model.specs.Arrivals.{completed as whole_now, keeping, made_whole, way_of}
 use Rattle.fab_rx.specs.declared.stored.Seat.{Seat}
+use Rattle.fab_rx.specs.declared.stored.Waiting.{Waiting}
 use Rattle.fab_rx.specs.declared.stored.Parcel.{Parcel}
 use Rattle.fab_rx.specs.declared.stored.Way.{Way}
-use Rattle.fab_rx.specs.declared.stored.Way.TheVariants.{Into, Keep, Throw, Gather}
+use Rattle.fab_rx.specs.declared.stored.Way.TheVariants.{Into, Part, Keep, Throw, Gather}
 use Rattle.fab_rx.specs.declared.stored.Begun.{Begun}
 use Rattle.fab_rx.specs.Table.{Cells, at}
-use Rattle.fab_rx.specs.Arriving.{Arriving, begun_of, bytes_come, count_begun, finishing, growing, kept as kept_by, lengthened}
+use Rattle.fab_rx.specs.Arriving.{Arriving, begun_of, bytes_come, count_begun, finishing, growing, kept as kept_by, lengthened, shared, without_closed}
 use Rattle.fab_rx.specs.Stored.{AreClaimed, GoesBy, IsClaim, IsComing, IsKept, IsKeptAs, IsKeptWay, IsWay, Lies, parcel_of, parcel_without}
 use Rattle.fab_rx.proofs.Tables.{id_within}
 use Rattle.fab_rx.proofs.Tying.{same_or, retied, retied_map}
@@ -39,6 +42,19 @@ kept_other ReadReq source bytes rx = refl
 kept_other AtomicReq source bytes rx = refl
 kept_other Reply source bytes rx = refl
 
+-- bytes that come into a receive for one message are in its completion alone
+pub kept_single : (r : Receive) (place source : ℕ) (bytes : List ℕ) (rx : Receiving) → r.least ≡ None → kept_by (Some (IntoReceive r place)) source bytes rx ≡ rx
+kept_single r place source bytes rx single = rw single refl
+
+-- what comes into a multi-receive leaves the claimed messages
+shared_claimed : (o : Option ℕ) (r : Receive) (place : ℕ) (bytes : List ℕ) (rx : Receiving) → (shared o r place bytes rx).claimed ≡ rx.claimed
+shared_claimed None r place bytes rx = refl
+shared_claimed (Some least) r place bytes rx = by (under_way (filling r place bytes rx) r.call) refl
+  where
+    by : (b : Bool) → under_way (filling r place bytes rx) r.call ≡ b → (without_closed r.call (filling r place bytes rx)).claimed ≡ rx.claimed
+    by true is = rw (is, without_closed) refl
+    by false is = rw (is, without_closed) refl
+
 -- an arrival whose bytes do not come now stays as it is
 pub not_whole_now : (source : ℕ) (bytes : List ℕ) (a : Arrival) → (a.bytes ≡ None → a.source ≡ source → ⊥) → whole_now source bytes a ≡ a
 not_whole_now source bytes a differs = by_source (a.source == source) refl a.bytes refl
@@ -52,7 +68,7 @@ not_whole_now source bytes a differs = by_source (a.source == source) refl a.byt
 pub is_whole_now : (source : ℕ) (bytes : List ℕ) (a : Arrival) → a.bytes ≡ None → a.source ≡ source → whole_now source bytes a ≡ record a { bytes = Some bytes }
 is_whole_now source bytes a none same = rw (eq-eqb a.source source same, none, whole_now) refl
 
-module _ (ps : List (ℕ × Want)) (us : List (ℕ × Sign)) (room : ℕ) (seats : Cells Seat) (parcels : Cells Parcel) (coming : List (Option Begun)) (v : Arriving) (kept : IsKept ps us room seats parcels coming v)
+module _ (ps : List (ℕ × Want)) (us : List (ℕ × Sign)) (room : ℕ) (seats : Cells Waiting) (parcels : Cells Parcel) (coming : List (Option Begun)) (v : Arriving) (kept : IsKept ps us room seats parcels coming v)
     (source : ℕ) (within : source < length v.begun) (item : Item) (begun : begun_of v source ≡ Some item) where
   pub stored : IsStored parcels source (get_or coming source None) (coming_from v.rx source) item
   stored = some_stored parcels source (get_or coming source None) (coming_from v.rx source) (begun_of v source) item begun (kept.ways source)
@@ -75,7 +91,7 @@ module _ (ps : List (ℕ × Want)) (us : List (ℕ × Sign)) (room : ℕ) (seats
         ways = λ t. subst (λ (cs : List (Option Coming)). IsWay parcels t (get_or (set coming source (Some b)) t None) (get_or cs t None) (get_or (set v.begun source now) t None)) (set-get_or v.rx.coming source None)
             (ways_set ps us room seats parcels coming v kept source within parcels (Some b) (coming_from v.rx source) now (λ t id h differs there. there)
             (stored.way, lengthened bytes item, stored.comes, refl, comes) t);
-        spare = kept.spare;
+        few = kept.few;
         most = kept.most;
         peers = length-set coming source (Some b) ∙ kept.peers ∙ sym (length-set v.begun source now);
         comings = kept.comings ∙ sym (length-set v.begun source now);
@@ -87,16 +103,15 @@ module _ (ps : List (ℕ × Want)) (us : List (ℕ × Sign)) (room : ℕ) (seats
             ap (λ (hs : List ℕ). get_or hs t 0) (sym set_heads)
             ∙ counts_set ps us room seats parcels coming v kept source within parcels (Some b) None now (get_or v.rx.heads source 0) (get_or v.rx.tails source 0) counted t below
             ∙ ap (λ (ts : List ℕ). get_or ts t 0 + count_begun (get_or (set v.begun source now) t None)) set_tails;
-        closing = kept.closing;
       })
 
-  counts_finish : (t : ℕ) → t < length (set v.begun source None) → get_or v.rx.heads t 0 ≡ get_or (raise v.rx.tails source) t 0 + count_begun (get_or (set v.begun source None) t None)
+  pub counts_finish : (t : ℕ) → t < length (set v.begun source None) → get_or v.rx.heads t 0 ≡ get_or (raise v.rx.tails source) t 0 + count_begun (get_or (set v.begun source None) t None)
   counts_finish t below =
       let now : get_or v.rx.heads source 0 ≡ (get_or v.rx.tails source 0 + 1) + count_begun None = let was = counted in omega arith in
       ap (λ (hs : List ℕ). get_or hs t 0) (sym (set-get_or v.rx.heads source 0))
       ∙ counts_set ps us room seats parcels coming v kept source within parcels None None None (get_or v.rx.heads source 0) (get_or v.rx.tails source 0 + 1) now t below
 
-  lies_after : ((id : ℕ) → IsKeptWay id stored.begun.way → ⊥) → (p : ℕ × Sign) (a : Arrival) → Lies parcels coming p a → Lies parcels (set coming source None) p a
+  pub lies_after : ((id : ℕ) → IsKeptWay id stored.begun.way → ⊥) → (p : ℕ × Sign) (a : Arrival) → Lies parcels coming p a → Lies parcels (set coming source None) p a
   lies_after other p a l =
       lies_set parcels coming source None p a (row ps us room seats parcels coming v kept source within)
       (λ none same. other p.0 (subst (λ (o : Option Begun). IsKeptAs p.0 o) (ap (λ t. get_or coming t None) same ∙ stored.stored) (l.partly none))) l
@@ -110,14 +125,13 @@ module _ (ps : List (ℕ × Want)) (us : List (ℕ × Sign)) (room : ℕ) (seats
         receives = kept.receives;
         messages = retied (Lies parcels coming) (Lies parcels (set coming source None)) us v.rx.unexpected (lies_after other) kept.messages;
         ways = ways_set ps us room seats parcels coming v kept source within parcels None None None (λ t id h differs there. there) (refl, refl);
-        spare = kept.spare;
+        few = kept.few;
         most = kept.most;
         peers = length-set coming source None ∙ kept.peers ∙ sym (length-set v.begun source None);
         comings = length-set v.rx.coming source None ∙ kept.comings ∙ sym (length-set v.begun source None);
         heads = kept.heads ∙ sym (length-set v.begun source None);
         tails = length-set v.rx.tails source (get_or v.rx.tails source 0 + 1) ∙ kept.tails ∙ sym (length-set v.begun source None);
         under_way = counts_finish;
-        closing = kept.closing;
       })
 
   -- it is whole, and was kept under this id
@@ -161,14 +175,13 @@ module _ (ps : List (ℕ × Want)) (us : List (ℕ × Sign)) (room : ℕ) (seats
           ways = ways_set ps us room seats parcels coming v kept source within others None None None
               (λ t k h differs holds. stays_else k (λ same. differs (let parcel : Some (parcel_without t h) ≡ Some (parcel_without source item.head) = sym holds ∙ ap (at parcels) same ∙ there in let equal : parcel_without t h ≡ parcel_without source item.head = cc in ap (λ (x : Parcel). x.source) equal)) ∙ holds)
               (refl, refl);
-          spare = kept.spare;
+          few = kept.few;
           most = kept.most;
           peers = length-set coming source None ∙ kept.peers ∙ sym (length-set v.begun source None);
           comings = length-set v.rx.coming source None ∙ kept.comings ∙ sym (length-set v.begun source None);
           heads = kept.heads ∙ sym (length-set v.begun source None);
           tails = length-set v.rx.tails source (get_or v.rx.tails source 0 + 1) ∙ kept.tails ∙ sym (length-set v.begun source None);
           under_way = counts_finish;
-          closing = kept.closing;
         })
 
     -- so it is where it was claimed
@@ -231,7 +244,8 @@ module _ (ps : List (ℕ × Want)) (us : List (ℕ × Sign)) (room : ℕ) (seats
       claimed_still way e never = rw (stored.comes, begun, made_whole) (by_way way never (subst (λ (w : Way). GoesBy parcels source w stored.way item) e comes.way))
         where
           by_way : (way : Way) → ((id : ℕ) → IsKeptWay id way → ⊥) → GoesBy parcels source way stored.way item → (kept_by (Some stored.way) source item.bytes (made_whole source v.rx)).claimed ≡ v.rx.claimed
-          by_way (Into seat) never g = rw (g.1, made_whole) refl
+          by_way (Into seat) never g = rw (g.1, g.2.least, made_whole) refl
+          by_way (Part id place bytes) never g = rw g.1 (shared_claimed g.0.least g.0 place item.bytes (made_whole source v.rx))
           by_way (Keep id bytes) never g = absurd (never id refl)
           by_way Throw never g = rw (g, made_whole) refl
           by_way (Gather bytes) never g = rw (g.0, kept_other item.head.kind source item.bytes (made_whole source v.rx), made_whole) refl
@@ -249,7 +263,7 @@ module _ (ps : List (ℕ × Want)) (us : List (ℕ × Sign)) (room : ℕ) (seats
       pub ends_into : (seat : Seat) → b.way ≡ Into seat → IsKept ps us room seats parcels rest (finishing source v)
       ends_into seat e =
           let goes : GoesBy parcels source (Into seat) stored.way item = subst (λ (w : Way). GoesBy parcels source w stored.way item) e comes.way in
-          by_way (Into seat) e (λ id k. k) (λ rx bytes. rw goes.1 refl)
+          by_way (Into seat) e (λ id k. k) (λ rx bytes. ap (λ c. kept_by (Some c) source bytes rx) goes.1 ∙ kept_single goes.0 0 source bytes rx goes.2.least)
 
       pub ends_thrown : b.way ≡ Throw → IsKept ps us room seats parcels rest (finishing source v)
       ends_thrown e =

@@ -2,7 +2,7 @@
 use Rattle.std.proofs.Common.{◌≡◌, ◌≢◌, ◌⊎◌, inl, inr, ℕ, ◌+◌, ◌<◌, ◌≤◌, Bool, true, false, List, [], ◌∷◌, ◌++◌, length, Option, Some, None, get_or, set, vec_capacity, refl, sym, ap, subst, ◌∙◌, arith, length-set}
 use Rattle.std.specs.Prelude.{Vec}
 use Rattle.std.specs.List.{AllZip}
-use Rattle.std.proofs.lemmas.List.{get_or-set_other, get_or-set_same, set-get_or, append-nil}
+use Rattle.std.proofs.lemmas.List.{get_or-set_other, get_or-set_same, set-get_or}
 use Rattle.fab_base.specs.declared.items.Item.{Item}
 use Rattle.fab_base.specs.declared.items.ItemHead.{ItemHead}
 use Rattle.fab_base.specs.declared.items.Want.{Want}
@@ -17,14 +17,14 @@ use Rattle.fab_model.specs.Arrivals.{is_wanted, taker, newcomer, way_of, heading
 use Rattle.fab_match.specs.Signs.{sign_of, fits}
 use Rattle.fab_match.specs.Matcher.{first_id, has_id}
 use Rattle.fab_match.proofs.Showing.{fits-sign_of}
-use Rattle.fab_rx.specs.declared.stored.Seat.{Seat}
+use Rattle.fab_rx.specs.declared.stored.Waiting.{Waiting}
 use Rattle.fab_rx.specs.declared.stored.Parcel.{Parcel}
 use Rattle.fab_rx.specs.declared.stored.Way.{Way}
-use Rattle.fab_rx.specs.declared.stored.Way.TheVariants.{Into, Keep, Throw, Gather}
+use Rattle.fab_rx.specs.declared.stored.Way.TheVariants.{Into, Part, Keep, Throw, Gather}
 use Rattle.fab_rx.specs.declared.stored.Begun.{Begun}
 use Rattle.fab_rx.specs.Table.{Cells, at}
 use Rattle.fab_rx.specs.Arriving.{Arriving, IsSingle, arriving, bare, begun_of, count_begun}
-use Rattle.fab_rx.specs.Stored.{GoesBy, IsComing, IsKept, IsKeptAs, IsWay, Lies, Sits, parcel_of, parcel_without, seat_of, seat_with}
+use Rattle.fab_rx.specs.Stored.{GoesBy, IsComing, IsKept, IsKeptAs, IsWay, Lies, Sits, multi_of, parcel_of, parcel_without, seat_of, seat_with, waiting_of}
 use Rattle.fab_rx.proofs.Pasting.{paste_nothing}
 use Rattle.fab_rx.proofs.Tying.{same_or, tied_push, retied, retied_but, tied_fresh, IsTaken, taken, missed}
 
@@ -33,6 +33,7 @@ use Rattle.fab_rx.proofs.Tying.{same_or, tied_push, retied, retied_but, tied_fre
 -- what is under way stays where the messages without bytes stay
 pub goes_stays : (ps qs : Cells Parcel) (t : ℕ) (way : Way) (c : Coming) (item : Item) → ((id : ℕ) (head : ItemHead) → at ps id ≡ Some (parcel_without t head) → at qs id ≡ Some (parcel_without t head)) → GoesBy ps t way c item → GoesBy qs t way c item
 goes_stays ps qs t (Into seat) c item more w = w
+goes_stays ps qs t (Part id at bytes) c item more w = w
 goes_stays ps qs t (Keep id bytes) c item more w = (w.0, w.1, w.2, more id item.head w.3)
 goes_stays ps qs t Throw c item more w = w
 goes_stays ps qs t (Gather bytes) c item more w = w
@@ -73,15 +74,23 @@ lies_set parcels coming s b p a within here l = record { parcel = l.parcel; sign
 pub lies_at : (parcels others : Cells Parcel) (coming : List (Option Begun)) (p : ℕ × Sign) (a : Arrival) → at others p.0 ≡ at parcels p.0 → Lies parcels coming p a → Lies others coming p a
 lies_at parcels others coming p a same l = record { parcel = same ∙ l.parcel; sign = l.sign; message = l.message; partly = l.partly }
 
-pub sits_at : (seats others : Cells Seat) (p : ℕ × Want) (r : Receive) → at others p.0 ≡ at seats p.0 → Sits seats p r → Sits others p r
-sits_at seats others p r same t = record { want = t.want; seat = same ∙ t.seat; single = t.single }
+pub sits_at : (seats others : Cells Waiting) (p : ℕ × Want) (r : Receive) → at others p.0 ≡ at seats p.0 → Sits seats p r → Sits others p r
+sits_at seats others p r same t = record { want = t.want; seat = same ∙ t.seat; fit = t.fit }
 
 -- a message fits as its sign does
 pub lies_agrees : (want : Want) (parcels : Cells Parcel) (coming : List (Option Begun)) (p : ℕ × Sign) (a : Arrival) → Lies parcels coming p a → fits want p.1 ≡ takes want a
 lies_agrees want parcels coming p a l = ap (fits want) l.sign ∙ fits-sign_of want a.source a.head l.message
 
-pub sits_agrees : (seats : Cells Seat) (source : ℕ) (head : ItemHead) (sign : Sign) → ((want : Want) → fits want sign ≡ matches want source head) → (p : ℕ × Want) (r : Receive) → Sits seats p r → fits p.1 sign ≡ is_wanted source head r
+pub sits_agrees : (seats : Cells Waiting) (source : ℕ) (head : ItemHead) (sign : Sign) → ((want : Want) → fits want sign ≡ matches want source head) → (p : ℕ × Want) (r : Receive) → Sits seats p r → fits p.1 sign ≡ is_wanted source head r
 sits_agrees seats source head sign same p r t = same p.1 ∙ ap (λ (w : Want). matches w source head) t.want
+
+-- a receive is for one message where nothing is stored of it as a multi-receive
+pub least_none : (r : Receive) → multi_of r ≡ None → r.least ≡ None
+least_none r e = by r.least refl
+  where
+    by : (o : Option ℕ) → r.least ≡ o → r.least ≡ None
+    by None is = is
+    by (Some least) is = absurd (let no : Some _ ≡ None = rw is at e in cc)
 
 -- a receive for one message leaves those posted, and is not closing
 pub single_seated : (test : Receive → Bool) (total : ℕ) (r : Receive) (posted : List Receive) → r.least ≡ None → seated_after test total r posted ≡ remove_first test posted
@@ -101,7 +110,7 @@ module _ {T : Type 0} (t u : Cells T) (id : ℕ) (x : Option T) (is : u.cells �
   pub at_same : id < length t.cells → at u id ≡ x
   at_same within = ap (λ (cells : List (Option T)). get_or cells id None) is ∙ get_or-set_same t.cells id x None within
 
-module _ (ps : List (ℕ × Want)) (us : List (ℕ × Sign)) (room : ℕ) (seats : Cells Seat) (parcels : Cells Parcel) (coming : List (Option Begun)) (v : Arriving) (kept : IsKept ps us room seats parcels coming v) where
+module _ (ps : List (ℕ × Want)) (us : List (ℕ × Sign)) (room : ℕ) (seats : Cells Waiting) (parcels : Cells Parcel) (coming : List (Option Begun)) (v : Arriving) (kept : IsKept ps us room seats parcels coming v) where
   -- ---- the rows by source
 
   pub row : (s : ℕ) → s < length v.begun → s < length coming
@@ -172,14 +181,13 @@ module _ (ps : List (ℕ × Want)) (us : List (ℕ × Sign)) (room : ℕ) (seats
           ways =
               ways_set source within parcels (Some (begun_with (Gather bytes))) (Some (way_of head.kind)) (Some (bare head)) (λ t id h differs there. there)
               (way_of head.kind, bare head, refl, refl, record { head = refl; got = refl; within = omega arith; way = (refl, none, room) });
-          spare = kept.spare;
+          few = kept.few;
           most = kept.most;
           peers = rw (length-set, length-set) kept.peers;
           comings = rw (length-set, length-set) kept.comings;
           heads = rw (length-set, length-set) kept.heads;
           tails = rw length-set kept.tails;
           under_way = counts_arrive;
-          closing = kept.closing;
         })
 
     -- the first posted receive that matches takes a message
@@ -192,18 +200,29 @@ module _ (ps : List (ℕ × Want)) (us : List (ℕ × Sign)) (room : ℕ) (seats
 
       -- it has a place
       pub seat_there : (id : ℕ) → first_id (λ want. fits want sign) ps ≡ Some id → at seats id ≡ None → ⊥
-      seat_there id e none = let t = seat_taken id e in let no : Some (seat_of t.member) ≡ None = sym t.tie.seat ∙ ap (at seats) t.is ∙ none in cc
+      seat_there id e none = let t = seat_taken id e in let no : Some (waiting_of t.member) ≡ None = sym t.tie.seat ∙ ap (at seats) t.is ∙ none in cc
 
-      pub seated : (id : ℕ) (seat : Seat) (rest : List (ℕ × Want)) (others : Cells Seat) → first_id (λ want. fits want sign) ps ≡ Some id → rest ≡ remove_first (λ p. fits p.1 sign) ps → has_id id rest ≡ false → at seats id ≡ Some seat → others.cells ≡ set seats.cells id None
-          → length others.free ≡ length seats.free + 1 → IsKept rest us room others parcels (set coming source (Some (begun_with (Into seat)))) (arriving source head v)
+      -- what stands under its id tells whether it is for one message
+      module _ (id : ℕ) (e : first_id (λ want. fits want sign) ps ≡ Some id) (w : Waiting) (there : at seats id ≡ Some w) where
+        pub waiting_is : w ≡ waiting_of (seat_taken id e).member
+        waiting_is = let t = seat_taken id e in let is : Some w ≡ Some (waiting_of t.member) = sym there ∙ ap (at seats) (sym t.is) ∙ t.tie.seat in cc
+
+        pub taken_single : w.multi ≡ None → IsSingle (seat_taken id e).member
+        taken_single none =
+            let t = seat_taken id e in
+            let least = least_none t.member (ap (λ (x : Waiting). x.multi) (sym waiting_is) ∙ none) in
+            record { least = least; used = t.tie.fit.single least }
+
+      pub seated : (id : ℕ) (w : Waiting) (rest : List (ℕ × Want)) (others : Cells Waiting) → w.multi ≡ None → first_id (λ want. fits want sign) ps ≡ Some id → rest ≡ remove_first (λ p. fits p.1 sign) ps → has_id id rest ≡ false → at seats id ≡ Some w → others.cells ≡ set seats.cells id None
+          → length others.free ≡ length seats.free + 1 → IsKept rest us room others parcels (set coming source (Some (begun_with (Into w.seat)))) (arriving source head v)
       unfolding heading_message
-      seated id seat rest others e are gone there is more =
+      seated id w rest others alone e are gone there is more =
           let t = seat_taken id e in
           let r = t.member in
-          let single : IsSingle r = t.tie.single in
-          let same : seat ≡ seat_of r = let is : Some seat ≡ Some (seat_of r) = sym there ∙ ap (at seats) (sym t.is) ∙ t.tie.seat in cc in
-          let empty : seat ≡ seat_with r [] = same ∙ ap (λ (buf : List ℕ). record { buf = buf; ctx = r.ctx }) (sym (paste_nothing r.buf)) in
-          let b = begun_with (Into seat) in
+          let single : IsSingle r = taken_single id e w there alone in
+          let same : w.seat ≡ seat_of r = ap (λ (x : Waiting). x.seat) (waiting_is id e w there) in
+          let empty : w.seat ≡ seat_with r [] = same ∙ ap (λ (buf : List ℕ). record { buf = buf; ctx = r.ctx }) (sym (paste_nothing r.buf)) in
+          let b = begun_with (Into w.seat) in
           rw (message, heading_message, t.found, single_seated (is_wanted source head) head.total r v.rx.posted single.least, single_shut head.total r single.least) (record {
             receives =
                 retied_but (Sits seats) (Sits others) id rest (remove_first (is_wanted source head) v.rx.posted) (λ p q other s. sits_at seats others p q (at_other seats others id None is p.0 other) s) gone
@@ -212,14 +231,13 @@ module _ (ps : List (ℕ × Want)) (us : List (ℕ × Sign)) (room : ℕ) (seats
             ways =
                 ways_set source within parcels (Some b) (Some (IntoReceive r r.used)) (Some (bare head)) (λ t id h differs there. there)
                 (IntoReceive r r.used, bare head, refl, refl, record { head = refl; got = refl; within = omega arith; way = (r, ap (IntoReceive r) single.used, single, empty) });
-            spare = let shorter = t.shorter in let long = ap length are in let spare = kept.spare in omega arith;
+            few = let shorter = t.shorter in let long = ap length are in let few = kept.few in omega arith;
             most = kept.most;
             peers = length-set coming source (Some b) ∙ kept.peers ∙ sym (length-set v.begun source (Some (bare head)));
             comings = length-set v.rx.coming source (Some (IntoReceive r r.used)) ∙ kept.comings ∙ sym (length-set v.begun source (Some (bare head)));
             heads = length-set v.rx.heads source (get_or v.rx.heads source 0 + 1) ∙ kept.heads ∙ sym (length-set v.begun source (Some (bare head)));
             tails = kept.tails ∙ sym (length-set v.begun source (Some (bare head)));
             under_way = counts_arrive;
-            closing = append-nil v.rx.closing ∙ kept.closing;
           })
 
     -- a message that no posted receive takes
@@ -253,14 +271,13 @@ module _ (ps : List (ℕ × Want)) (us : List (ℕ × Sign)) (room : ℕ) (seats
                 ways_set source within others (Some b) (Some KeepIt) (Some (bare head))
                 (λ t k h differs there. same k (apart parcels id k None (sym (wide id) ∙ empty) (λ none. let no : Some (parcel_without t h) ≡ None = sym there ∙ none in cc)) ∙ there)
                 (KeepIt, bare head, refl, refl, record { head = refl; got = refl; within = omega arith; way = (refl, none, fits_in, new) });
-            spare = kept.spare;
+            few = kept.few;
             most = kept.most;
             peers = length-set coming source (Some b) ∙ kept.peers ∙ sym (length-set v.begun source (Some (bare head)));
             comings = length-set v.rx.coming source (Some KeepIt) ∙ kept.comings ∙ sym (length-set v.begun source (Some (bare head)));
             heads = length-set v.rx.heads source (get_or v.rx.heads source 0 + 1) ∙ kept.heads ∙ sym (length-set v.begun source (Some (bare head)));
             tails = kept.tails ∙ sym (length-set v.begun source (Some (bare head)));
             under_way = counts_arrive;
-            closing = kept.closing;
           })
 
   -- more empty ids change nothing
@@ -269,12 +286,11 @@ module _ (ps : List (ℕ × Want)) (us : List (ℕ × Sign)) (room : ℕ) (seats
     receives = kept.receives;
     messages = retied (Lies parcels coming) (Lies wider coming) us v.rx.unexpected (λ p a l. lies_at parcels wider coming p a (wide p.0) l) kept.messages;
     ways = λ t. way_stays parcels wider t (get_or coming t None) (coming_from v.rx t) (begun_of v t) (λ id head there. wide id ∙ there) (kept.ways t);
-    spare = kept.spare;
+    few = kept.few;
     most = kept.most;
     peers = kept.peers;
     comings = kept.comings;
     heads = kept.heads;
     tails = kept.tails;
     under_way = kept.under_way;
-    closing = kept.closing;
   }

@@ -1,5 +1,5 @@
 -- What callers know of the receive half between calls.
-use Rattle.std.proofs.Common.{◌≡◌, ◌≢◌, ℕ, zero, suc, replicate, nat_le, ◌≤◌, Bool, true, false, List, [], ◌∷◌, length, Option, Some, None, get_or, refl, sym, ap, ◌∙◌, arith}
+use Rattle.std.proofs.Common.{◌≡◌, ◌≢◌, ℕ, zero, suc, replicate, nat_le, ◌≤◌, Bool, true, false, List, [], ◌∷◌, length, Option, Some, None, get_or, refl, sym, ap, subst, ◌∙◌, arith}
 use Rattle.std.specs.Prelude.{find, is_some, IfSome}
 use Rattle.std.specs.List.{AllZip, list_any, AllByRecursion}
 use Rattle.std.proofs.lemmas.List.Elements.{All-from_recursion}
@@ -16,31 +16,49 @@ use Rattle.fab_model.specs.Receiving.{draws}
 use Rattle.fab_model.specs.Arrivals.{is_wanted, way_of}
 use Rattle.fab_base.specs.declared.items.Kind.{Kind}
 use Rattle.fab_base.specs.declared.items.Kind.TheVariants.{Msg, TagMsg, WriteReq, ReadReq, AtomicReq, Reply}
-use Rattle.fab_rx.specs.declared.stored.Seat.{Seat}
+use Rattle.fab_rx.specs.declared.stored.Waiting.{Waiting}
 use Rattle.fab_rx.specs.declared.stored.Parcel.{Parcel}
 use Rattle.fab_rx.specs.declared.stored.Way.{Way}
-use Rattle.fab_rx.specs.declared.stored.Way.TheVariants.{Into, Keep, Throw, Gather}
+use Rattle.fab_rx.specs.declared.stored.Way.TheVariants.{Into, Part, Keep, Throw, Gather}
 use Rattle.fab_rx.specs.declared.stored.Begun.{Begun}
 use Rattle.fab_rx.specs.Table.{Cells, at}
 use Rattle.fab_base.specs.declared.operations.Coming.TheVariants.{Keep as KeepIt}
-use Rattle.fab_rx.specs.Arriving.{Arriving, GoesToSingle, IsArriving, IsPartly, IsSingle, PartlyIn, begun_of, nothing_arrived}
+use Rattle.fab_rx.specs.Arriving.{Arriving, GoesToSingle, IsArriving, IsPartly, IsPlain, IsSingle, PartlyIn, begun_of, nothing_arrived}
 use Rattle.fab_rx.specs.Stored.{AreClaimed, GoesBy, IsClaim, IsKept, IsKeptAs, IsKeptWay, IsWay, Lies, Sits, entries_by, parcel_of, parcel_without}
+use Rattle.fab_rx.specs.Homes.{AreMulti, GoesHome, GoesHomeBy, IsHome, Rests}
 use Rattle.fab_rx.specs.Results.{entries_due}
 use Rattle.std.proofs.lemmas.Bool.Decides.{nat_tests}
 use Rattle.std.proofs.lemmas.List.{length-replicate}
 use Rattle.fab_rx.proofs.Tying.{tied_length}
 
-all_single : (seats : Cells Seat) (ps : List (ℕ × Want)) (rs : List Receive) → AllZip (Sits seats) ps rs → AllByRecursion IsSingle rs
-all_single seats [] [] t = tt
-all_single seats [] (r ∷ rs) t = absurd t
-all_single seats (p ∷ ps) [] t = absurd t
-all_single seats (p ∷ ps) (r ∷ rs) t = (t.0.single, all_single seats ps rs t.1)
+-- ---- where no multi-receive is known
 
-none_draws : (seats : Cells Seat) (us : List Arrival) (ps : List (ℕ × Want)) (rs : List Receive) → AllZip (Sits seats) ps rs → list_any (draws us) rs ≡ false
-none_draws seats us [] [] t = refl
-none_draws seats us [] (r ∷ rs) t = absurd t
-none_draws seats us (p ∷ ps) [] t = absurd t
-none_draws seats us (p ∷ ps) (r ∷ rs) t = rw t.0.single.least (none_draws seats us ps rs t.1)
+-- a receive whose call has no home is for one message
+pub not_multi : (homes : ℕ → Option ℕ) (calls : ℕ → ℕ) (p : ℕ × Want) (r : Receive) → IsHome homes calls p r → homes r.call ≡ None → r.least ≡ None
+not_multi homes calls p r is none = by r.least refl
+  where
+    by : (o : Option ℕ) → r.least ≡ o → r.least ≡ None
+    by None e = e
+    by (Some least) e = absurd (let no : Some p.0 ≡ None = sym (rw e at is.home) ∙ none in cc)
+
+module _ (homes : ℕ → Option ℕ) (calls : ℕ → ℕ) (seats : Cells Waiting) (none : (call : ℕ) → homes call ≡ None) where
+  all_single : (ps : List (ℕ × Want)) (rs : List Receive) → AllZip (Sits seats) ps rs → AllZip (IsHome homes calls) ps rs → AllByRecursion IsSingle rs
+  all_single [] [] t h = tt
+  all_single [] (r ∷ rs) t h = absurd t
+  all_single (p ∷ ps) [] t h = absurd t
+  all_single (p ∷ ps) (r ∷ rs) t h = let least = not_multi homes calls p r h.0 (none r.call) in (record { least = least; used = t.0.fit.single least }, all_single ps rs t.1 h.1)
+
+  none_draws : (us : List Arrival) (ps : List (ℕ × Want)) (rs : List Receive) → AllZip (IsHome homes calls) ps rs → list_any (draws us) rs ≡ false
+  none_draws us [] [] h = refl
+  none_draws us [] (r ∷ rs) h = absurd h
+  none_draws us (p ∷ ps) [] h = absurd h
+  none_draws us (p ∷ ps) (r ∷ rs) h = rw (not_multi homes calls p r h.0 (none r.call)) (none_draws us ps rs h.1)
+
+  none_closing : (cs : List (ℕ × ℕ)) (rs : List Receive) → AllZip (Rests homes calls seats) cs rs → rs ≡ []
+  none_closing [] [] t = refl
+  none_closing [] (r ∷ rs) t = absurd t
+  none_closing (c ∷ cs) [] t = absurd t
+  none_closing (c ∷ cs) (r ∷ rs) t = absurd (let no : Some c.0 ≡ None = sym t.0.home ∙ none r.call in cc)
 
 same_ways : (ps : Cells Parcel) (s : ℕ) (b : Option Begun) (c : Option Coming) (i : Option Item) → IsWay ps s b c i → is_some c ≡ is_some i
 same_ways ps s None c i w = rw (w.0, w.1) refl
@@ -58,19 +76,22 @@ no_receive ReadReq = tt
 no_receive AtomicReq = tt
 no_receive Reply = tt
 
-goes_single : (ps : Cells Parcel) (s : ℕ) (way : Way) (c : Coming) (item : Item) → GoesBy ps s way c item → GoesToSingle (Some c)
-goes_single ps s (Into seat) c item g = rw g.1 (g.2, refl)
-goes_single ps s (Keep id bytes) c item g = rw g.0 tt
-goes_single ps s Throw c item g = rw g tt
-goes_single ps s (Gather bytes) c item g = rw g.0 (no_receive item.head.kind)
+module _ (homes : ℕ → Option ℕ) (calls : ℕ → ℕ) (seats : Cells Waiting) (none : (call : ℕ) → homes call ≡ None) where
+  goes_single : (ps : Cells Parcel) (s : ℕ) (way : Way) (c : Coming) (item : Item) → GoesBy ps s way c item → GoesHomeBy homes calls seats way (Some c) → GoesToSingle (Some c)
+  goes_single ps s (Into seat) c item g h = rw g.1 (g.2, refl)
+  goes_single ps s (Part id place bytes) c item g h = absurd (let no : Some id ≡ None = sym h.2.home ∙ none h.0.call in cc)
+  goes_single ps s (Keep id bytes) c item g h = rw g.0 tt
+  goes_single ps s Throw c item g h = rw g tt
+  goes_single ps s (Gather bytes) c item g h = rw g.0 (no_receive item.head.kind)
 
-into_single : (ps : Cells Parcel) (s : ℕ) (b : Option Begun) (c : Option Coming) (i : Option Item) → IsWay ps s b c i → GoesToSingle c
-into_single ps s None c i w = rw w.0 tt
-into_single ps s (Some b) c i w = rw w.2 (goes_single ps s b.way w.0 w.1 w.4.way)
+  into_single : (ps : Cells Parcel) (s : ℕ) (b : Option Begun) (c : Option Coming) (i : Option Item) → IsWay ps s b c i → GoesHome homes calls seats b c → GoesToSingle c
+  into_single ps s None c i w h = rw w.0 tt
+  into_single ps s (Some b) c i w h = rw w.2 (goes_single ps s b.way w.0 w.1 w.4.way (subst (λ (o : Option Coming). GoesHomeBy homes calls seats b.way o) w.2 h))
 
 -- an unexpected message that is not whole is the item that is coming
 kept_head : (ps : Cells Parcel) (id : ℕ) (a : Arrival) (way : Way) (c : Coming) (item : Item) → at ps id ≡ Some (parcel_of a) → GoesBy ps a.source way c item → IsKeptWay id way → (c ≡ KeepIt) × (item.head ≡ a.head)
 kept_head ps id a (Into seat) c item there g k = absurd k
+kept_head ps id a (Part n place bytes) c item there g k = absurd k
 kept_head ps id a (Keep n bytes) c item there g k =
     let same : Some (parcel_of a) ≡ Some (parcel_without a.source item.head) = sym there ∙ ap (at ps) (sym k) ∙ g.3 in
     let parcels : parcel_of a ≡ parcel_without a.source item.head = cc in
@@ -119,6 +140,7 @@ due_other Reply = refl
 
 due_by : (ps : Cells Parcel) (s : ℕ) (way : Way) (c : Coming) (item : Item) → GoesBy ps s way c item → entries_by way ≡ entries_due (Some c)
 due_by ps s (Into seat) c item g = rw g.1 refl
+due_by ps s (Part id place bytes) c item g = rw g.1 refl
 due_by ps s (Keep id bytes) c item g = rw g.0 refl
 due_by ps s Throw c item g = rw g refl
 due_by ps s (Gather bytes) c item g = rw g.0 (sym (due_other item.head.kind))
@@ -143,40 +165,46 @@ zero_in_row (suc n) zero = refl
 zero_in_row (suc n) (suc s) = zero_in_row n s
 
 -- nothing is stored where nothing has arrived
-pub opens : (peers most room : ℕ) (ps : List (ℕ × Want)) (us : List (ℕ × Sign)) (seats : Cells Seat) (parcels : Cells Parcel) (coming : List (Option Begun)) → ps ≡ [] → us ≡ [] → room ≡ most → length seats.free ≡ most → coming ≡ replicate peers None
+pub opens : (peers most room : ℕ) (ps : List (ℕ × Want)) (us : List (ℕ × Sign)) (seats : Cells Waiting) (parcels : Cells Parcel) (coming : List (Option Begun)) → ps ≡ [] → us ≡ [] → room ≡ most → coming ≡ replicate peers None
     → IsKept ps us room seats parcels coming (nothing_arrived peers most)
-opens peers most room ps us seats parcels coming none_posted none_there same free none =
+opens peers most room ps us seats parcels coming none_posted none_there same none =
     rw (none_posted, none_there, none) (record {
       receives = tt;
       messages = tt;
       ways = λ s. rw (none_in_row {X = Begun} peers s, none_in_row {X = Coming} peers s, none_in_row {X = Item} peers s) (refl, refl);
-      spare = omega arith;
+      few = omega arith;
       most = same;
       peers = length-replicate peers None ∙ sym (length-replicate peers None);
       comings = length-replicate peers None ∙ sym (length-replicate peers None);
       heads = length-replicate peers 0 ∙ sym (length-replicate peers None);
       tails = length-replicate peers 0 ∙ sym (length-replicate peers None);
       under_way = λ s below. rw (zero_in_row peers s, none_in_row {X = Item} peers s) refl;
-      closing = refl;
     })
 
-module _ (ps : List (ℕ × Want)) (us : List (ℕ × Sign)) (room : ℕ) (seats : Cells Seat) (parcels : Cells Parcel) (coming : List (Option Begun)) (v : Arriving) (kept : IsKept ps us room seats parcels coming v) where
+module _ (ps : List (ℕ × Want)) (us : List (ℕ × Sign)) (room : ℕ) (seats : Cells Waiting) (parcels : Cells Parcel) (coming : List (Option Begun)) (v : Arriving) (kept : IsKept ps us room seats parcels coming v) where
   pub posted_count : length ps ≡ length v.rx.posted
   posted_count = tied_length (Sits seats) ps v.rx.posted kept.receives
 
-  pub is_arriving : (cs : List (ℕ × ℕ)) (capacity : ℕ) → AreClaimed us parcels coming cs capacity v.rx.claimed → IsArriving v
-  is_arriving cs capacity claims = record {
+  is_plain : (closing : List (ℕ × ℕ)) → AreMulti ps closing seats coming v.rx.posted v.rx.closing v.rx.coming v.next v.multi v.most → v.multi ≡ false → IsPlain v.rx
+  is_plain closing m alone =
+      let none = m.plain alone in
+      record {
+        single = All-from_recursion IsSingle v.rx.posted (all_single m.homes m.calls seats none ps v.rx.posted kept.receives m.posted_home);
+        into = λ s. into_single m.homes m.calls seats none parcels s (get_or coming s None) (coming_from v.rx s) (begun_of v s) (kept.ways s) (m.ways s);
+        closing = none_closing m.homes m.calls seats none closing v.rx.closing m.closing_rest;
+        still = none_draws m.homes m.calls seats none v.rx.unexpected ps v.rx.posted m.posted_home;
+      }
+
+  pub is_arriving : (cs : List (ℕ × ℕ)) (capacity : ℕ) → AreClaimed us parcels coming cs capacity v.rx.claimed → (closing : List (ℕ × ℕ)) → AreMulti ps closing seats coming v.rx.posted v.rx.closing v.rx.coming v.next v.multi v.most → IsArriving v
+  is_arriving cs capacity claims closing m = record {
     coming = kept.comings;
     heads = kept.heads;
     tails = kept.tails;
     under_way = kept.under_way;
     ways = λ s. same_ways parcels s (get_or coming s None) (coming_from v.rx s) (begun_of v s) (kept.ways s);
     within = λ s. bytes_within parcels s (get_or coming s None) (coming_from v.rx s) (begun_of v s) (kept.ways s);
-    single = All-from_recursion IsSingle v.rx.posted (all_single seats ps v.rx.posted kept.receives);
-    into = λ s. into_single parcels s (get_or coming s None) (coming_from v.rx s) (begun_of v s) (kept.ways s);
-    closing = kept.closing;
+    plain = is_plain closing m;
     partly = All-from_recursion (PartlyIn v) v.rx.unexpected (all_partly parcels coming v kept.ways us v.rx.unexpected kept.messages);
     aside = All-from_recursion (λ k. PartlyIn v k.1) v.rx.claimed (claims_partly parcels coming v kept.ways cs v.rx.claimed claims.messages);
-    still = none_draws seats v.rx.unexpected ps v.rx.posted kept.receives;
-    room = let same = posted_count in let spare = kept.spare in omega arith;
+    room = let same = posted_count in let few = kept.few in omega arith;
   }

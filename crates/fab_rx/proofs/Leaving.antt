@@ -1,29 +1,31 @@
 -- A receive leaves those posted: it is found by the order of ids, and has no item under way.
-use Rattle.std.proofs.Common.{◌≡◌, ℕ, ◌+◌, ◌==◌, Bool, true, false, ◌&&◌, List, [], ◌∷◌, ◌++◌, length, map, Option, Some, None, get_or, set, refl, sym, ap, subst, ◌∙◌, arith}
+use Rattle.std.proofs.Common.{◌≡◌, ℕ, ◌+◌, ◌==◌, Bool, true, false, List, [], ◌∷◌, ◌++◌, length, map, Option, Some, None, get_or, set, refl, sym, ap, subst, ◌∙◌, arith}
 use Rattle.std.specs.Prelude.{find, is_some}
 use Rattle.std.specs.Option.{option_map}
-use Rattle.std.specs.List.{AllZip}
+use Rattle.std.specs.List.{AllZip, list_any}
 use Rattle.std.proofs.lemmas.Bool.{eq-eqb, eqb-true}
 use Rattle.std.proofs.lemmas.List.{map-append}
 use Rattle.fab_base.specs.declared.items.Want.{Want}
 use Rattle.fab_base.specs.declared.items.Sign.{Sign}
 use Rattle.fab_base.specs.declared.operations.Receive.{Receive}
 use Rattle.fab_model.specs.Matching.{remove_first}
-use Rattle.fab_model.specs.State.{Receiving, under_way}
+use Rattle.fab_model.specs.State.{Receiving, is_into, under_way}
 use Rattle.fab_model.specs.Receiving.{cancellable, may_leave}
 use Rattle.fab_match.specs.Matcher.{has_id, without}
-use Rattle.fab_rx.specs.declared.stored.Seat.{Seat}
+use Rattle.fab_rx.specs.declared.stored.Waiting.{Waiting}
 use Rattle.fab_rx.specs.declared.stored.Parcel.{Parcel}
 use Rattle.fab_rx.specs.declared.stored.Begun.{Begun}
 use Rattle.fab_rx.specs.Table.{Cells, at}
 use Rattle.fab_rx.specs.Arriving.{Arriving}
-use Rattle.fab_rx.specs.Leaving.{cancelling, is_meant, is_meant_at}
+use Rattle.fab_rx.specs.Leaving.{cancelling, is_meant, is_meant_at, may_leave_at}
+use Rattle.fab_rx.specs.Homes.{AreMulti, GoesHome, IsHome, is_fed_by}
 use Rattle.fab_rx.specs.Numbers.{GoesElsewhere, IsNumbered}
 use Rattle.fab_rx.specs.Results.{cancelled}
-use Rattle.fab_rx.specs.Stored.{IsKept, Sits, seat_of}
+use Rattle.fab_rx.specs.Stored.{IsKept, Sits, waiting_of}
 use Rattle.fab_rx.proofs.Tying.{retied, retied_but}
 use Rattle.fab_rx.proofs.Keeping.{at_other, sits_at}
-use Rattle.fab_rx.proofs.Numbering.{elsewhere_by, not_under_way}
+use Rattle.fab_rx.proofs.Numbering.{elsewhere_by}
+use Rattle.fab_rx.proofs.Sharing.{any_alike, any_at, fed_same, multi_gone, not_fed}
 
 -- the ids without one are those of the pairs without it
 pub ids_without : {X : Type 0} (id : ℕ) (xs : List (ℕ × X)) → map (λ p. p.0) (without id xs) ≡ remove_first (λ k. k == id) (map (λ p. p.0) xs)
@@ -94,37 +96,48 @@ module _ {X B : Type 0} (R : ℕ × X → B → Type 0) (want : ℕ → Bool) (t
       step false w true d later = absurd (let no : true ≡ false = sym d ∙ sym (agree x y t.0) ∙ w in cc)
 
 -- a posted receive with what is known of it
-pub record IsIdle (seats : Cells Seat) (rx : Receiving) (p : ℕ × Want) (r : Receive) : Type 0 where
+pub record IsIdle (homes : ℕ → Option ℕ) (calls : ℕ → ℕ) (seats : Cells Waiting) (coming : List (Option Begun)) (rx : Receiving) (p : ℕ × Want) (r : Receive) : Type 0 where
   pub sits : Sits seats p r
-  pub idle : under_way rx r.call ≡ false
+  pub home : IsHome homes calls p r
+  -- an item is under way to it exactly where one is to its id
+  pub fed : under_way rx r.call ≡ list_any (is_fed_by p.0) coming
 
-all_idle : (seats : Cells Seat) (rx : Receiving) (n : ℕ) (ps : List (ℕ × Want)) (rs : List Receive) → AllZip (Sits seats) ps rs → ((t : ℕ) → GoesElsewhere n rs (get_or rx.coming t None)) → AllZip (IsIdle seats rx) ps rs
-all_idle seats rx n [] [] t g = tt
-all_idle seats rx n [] (r ∷ rs) t g = absurd t
-all_idle seats rx n (p ∷ ps) [] t g = absurd t
-all_idle seats rx n (p ∷ ps) (r ∷ rs) t g =
-    (record { sits = t.0; idle = not_under_way n rs r rx.coming g }, all_idle seats rx n ps rs t.1 (λ s. elsewhere_by n n (r ∷ rs) rs (get_or rx.coming s None) (omega arith) (λ call lt h. h.1) (g s)))
+pub all_idle : (homes : ℕ → Option ℕ) (calls : ℕ → ℕ) (seats : Cells Waiting) (coming : List (Option Begun)) (rx : Receiving) (n : ℕ) (ps : List (ℕ × Want)) (rs : List Receive) → length coming ≡ length rx.coming
+    → ((t : ℕ) → GoesHome homes calls seats (get_or coming t None) (get_or rx.coming t None)) → AllZip (Sits seats) ps rs → AllZip (IsHome homes calls) ps rs → ((t : ℕ) → GoesElsewhere n rs (get_or rx.coming t None)) → AllZip (IsIdle homes calls seats coming rx) ps rs
+all_idle homes calls seats coming rx n [] [] long ways t h g = tt
+all_idle homes calls seats coming rx n [] (r ∷ rs) long ways t h g = absurd t
+all_idle homes calls seats coming rx n (p ∷ ps) [] long ways t h g = absurd t
+all_idle homes calls seats coming rx n (p ∷ ps) (r ∷ rs) long ways t h g = (
+  record {
+    sits = t.0;
+    home = h.0;
+    fed = any_alike (is_into r.call) (is_fed_by p.0) rx.coming coming (sym long) (λ s. fed_same homes calls seats n rs p r t.0 h.0 (get_or coming s None) (get_or rx.coming s None) (g s) (ways s));
+  },
+  all_idle homes calls seats coming rx n ps rs long ways t.1 h.1 (λ s. elsewhere_by n n (r ∷ rs) rs (get_or rx.coming s None) (omega arith) (λ call lt h. h.1) (g s)),
+)
 
-meant_alike : (ctx : Option ℕ) (r : Receive) (o : Option Seat) → o ≡ Some (seat_of r) → is_meant_at ctx o ≡ is_meant ctx r
+meant_alike : (ctx : Option ℕ) (r : Receive) (o : Option Waiting) → o ≡ Some (waiting_of r) → is_meant_at ctx o ≡ is_meant ctx r
 meant_alike None r o e = rw e refl
 meant_alike (Some ctx) r o e = rw e refl
 
-pub idle_agrees : (seats : Cells Seat) (rx : Receiving) (ctx : Option ℕ) (p : ℕ × Want) (r : Receive) → IsIdle seats rx p r → is_meant_at ctx (at seats p.0) ≡ may_leave rx (is_meant ctx) r
-idle_agrees seats rx ctx p r i = meant_alike ctx r (at seats p.0) i.sits.seat ∙ sym (rw i.idle (and_true (is_meant ctx r)))
-  where
-    and_true : (b : Bool) → (b && true) ≡ b
-    and_true true = refl
-    and_true false = refl
+pub idle_agrees : (homes : ℕ → Option ℕ) (calls : ℕ → ℕ) (seats : Cells Waiting) (coming : List (Option Begun)) (rx : Receiving) (ctx : Option ℕ) (p : ℕ × Want) (r : Receive) → IsIdle homes calls seats coming rx p r → may_leave_at ctx seats coming p.0 ≡ may_leave rx (is_meant ctx) r
+idle_agrees homes calls seats coming rx ctx p r i = rw (meant_alike ctx r (at seats p.0) i.sits.seat, i.fed) refl
 
-module _ (ps : List (ℕ × Want)) (us : List (ℕ × Sign)) (room : ℕ) (seats : Cells Seat) (parcels : Cells Parcel) (coming : List (Option Begun)) (v : Arriving) (kept : IsKept ps us room seats parcels coming v)
-    (numbers : IsNumbered v.rx.posted v.rx.coming v.next) (ctx : Option ℕ) where
-  idle : AllZip (IsIdle seats v.rx) ps v.rx.posted
-  idle = all_idle seats v.rx v.next ps v.rx.posted kept.receives numbers.into
+module _ (ps : List (ℕ × Want)) (us : List (ℕ × Sign)) (room : ℕ) (seats : Cells Waiting) (parcels : Cells Parcel) (coming : List (Option Begun)) (v : Arriving) (kept : IsKept ps us room seats parcels coming v)
+    (numbers : IsNumbered v.rx.posted v.rx.coming v.next) (cs : List (ℕ × ℕ)) (m : AreMulti ps cs seats coming v.rx.posted v.rx.closing v.rx.coming v.next v.multi v.most) (ctx : Option ℕ) where
+  abbrev Idle : ℕ × Want → Receive → Type 0
+  Idle = IsIdle m.homes m.calls seats coming v.rx
+
+  abbrev agrees : (p : ℕ × Want) (r : Receive) → Idle p r → may_leave_at ctx seats coming p.0 ≡ may_leave v.rx (is_meant ctx) r
+  agrees = idle_agrees m.homes m.calls seats coming v.rx ctx
+
+  idle : AllZip Idle ps v.rx.posted
+  idle = all_idle m.homes m.calls seats coming v.rx v.next ps v.rx.posted (kept.peers ∙ sym kept.comings) m.ways kept.receives m.posted_home numbers.into
 
   -- where none is meant, none leaves
-  module _ (e : find (λ id. is_meant_at ctx (at seats id)) (map (λ p. p.0) ps) ≡ None) where
+  module _ (e : find (may_leave_at ctx seats coming) (map (λ p. p.0) ps) ≡ None) where
     stays : (find (may_leave v.rx (is_meant ctx)) v.rx.posted ≡ None) × (remove_first (may_leave v.rx (is_meant ctx)) v.rx.posted ≡ v.rx.posted)
-    stays = staying (IsIdle seats v.rx) (λ id. is_meant_at ctx (at seats id)) (may_leave v.rx (is_meant ctx)) (idle_agrees seats v.rx ctx) ps v.rx.posted idle e
+    stays = staying Idle (may_leave_at ctx seats coming) (may_leave v.rx (is_meant ctx)) agrees ps v.rx.posted idle e
 
     pub none_leaves : cancellable (is_meant ctx) v.rx ≡ None
     none_leaves = stays.0
@@ -132,40 +145,53 @@ module _ (ps : List (ℕ × Want)) (us : List (ℕ × Sign)) (room : ℕ) (seats
     pub nothing_changes : cancelling ctx v ≡ v
     nothing_changes = rw stays.1 refl
 
-  module _ (id : ℕ) (e : find (λ id. is_meant_at ctx (at seats id)) (map (λ p. p.0) ps) ≡ Some id) where
-    pub leaves : IsLeaving (IsIdle seats v.rx) (λ id. is_meant_at ctx (at seats id)) (may_leave v.rx (is_meant ctx)) (idle_agrees seats v.rx ctx) id ps v.rx.posted
-    leaves = leaving (IsIdle seats v.rx) (λ id. is_meant_at ctx (at seats id)) (may_leave v.rx (is_meant ctx)) (idle_agrees seats v.rx ctx) id ps v.rx.posted idle e
+  module _ (id : ℕ) (e : find (may_leave_at ctx seats coming) (map (λ p. p.0) ps) ≡ Some id) where
+    pub leaves : IsLeaving Idle (may_leave_at ctx seats coming) (may_leave v.rx (is_meant ctx)) agrees id ps v.rx.posted
+    leaves = leaving Idle (may_leave_at ctx seats coming) (may_leave v.rx (is_meant ctx)) agrees id ps v.rx.posted idle e
 
     pub seat_found : at seats id ≡ None → ⊥
-    seat_found none = let no : Some (seat_of leaves.member) ≡ None = sym leaves.tie.sits.seat ∙ ap (at seats) leaves.is ∙ none in cc
+    seat_found none = let no : Some (waiting_of leaves.member) ≡ None = sym leaves.tie.sits.seat ∙ ap (at seats) leaves.is ∙ none in cc
 
-    module _ (seat : Seat) (there : Some seat ≡ at seats id) where
-      pub cancelled_is : Some (record { ctx = seat.ctx; buf = seat.buf }) ≡ option_map cancelled (cancellable (is_meant ctx) v.rx)
+    module _ (w : Waiting) (there : Some w ≡ at seats id) where
+      pub cancelled_is : Some (record { ctx = w.seat.ctx; buf = w.seat.buf }) ≡ option_map cancelled (cancellable (is_meant ctx) v.rx)
       cancelled_is =
-          let both : Some seat ≡ Some (seat_of leaves.member) = there ∙ ap (at seats) (sym leaves.is) ∙ leaves.tie.sits.seat in
-          let same : seat ≡ seat_of leaves.member = cc in
+          let both : Some w ≡ Some (waiting_of leaves.member) = there ∙ ap (at seats) (sym leaves.is) ∙ leaves.tie.sits.seat in
+          let same : w ≡ waiting_of leaves.member = cc in
           rw (leaves.found, same) refl
 
-      pub left : (rest : List (ℕ × Want)) (others : Cells Seat) → rest ≡ without id ps → has_id id rest ≡ false → others.cells ≡ set seats.cells id None → length others.free ≡ length seats.free + 1
-          → IsKept rest us room others parcels coming (cancelling ctx v)
-      left rest others are gone is more = record {
+    module _ (rest : List (ℕ × Want)) (others : Cells Waiting) (are : rest ≡ without id ps) (gone : has_id id rest ≡ false) (is : others.cells ≡ set seats.cells id None) (more : length others.free ≡ length seats.free + 1) where
+      tied : AllZip Idle rest (remove_first (may_leave v.rx (is_meant ctx)) v.rx.posted)
+      tied = subst (λ (xs : List (ℕ × Want)). AllZip Idle xs (remove_first (may_leave v.rx (is_meant ctx)) v.rx.posted)) (sym are) leaves.rest
+
+      shorter : length rest + 1 ≡ length ps
+      shorter = ap (λ (xs : List (ℕ × Want)). length xs + 1) are ∙ leaves.shorter
+
+      pub left : IsKept rest us room others parcels coming (cancelling ctx v)
+      left = record {
         receives =
             retied_but (Sits seats) (Sits others) id rest (remove_first (may_leave v.rx (is_meant ctx)) v.rx.posted) (λ p q other s. sits_at seats others p q (at_other seats others id None is p.0 other) s) gone
-            (retied (IsIdle seats v.rx) (Sits seats) rest (remove_first (may_leave v.rx (is_meant ctx)) v.rx.posted) (λ p r i. i.sits)
-            (subst (λ (xs : List (ℕ × Want)). AllZip (IsIdle seats v.rx) xs (remove_first (may_leave v.rx (is_meant ctx)) v.rx.posted)) (sym are) leaves.rest));
+            (retied Idle (Sits seats) rest (remove_first (may_leave v.rx (is_meant ctx)) v.rx.posted) (λ p r i. i.sits) tied);
         messages = kept.messages;
         ways = kept.ways;
-        spare = let shorter = leaves.shorter in let long = ap length are in let spare = kept.spare in omega arith;
+        few = let shorter = shorter in let few = kept.few in omega arith;
         most = kept.most;
         peers = kept.peers;
         comings = kept.comings;
         heads = kept.heads;
         tails = kept.tails;
         under_way = kept.under_way;
-        closing = kept.closing;
       }
 
+      -- the receive has no item under way
+      unfed : list_any (is_fed_by id) coming ≡ false
+      unfed = not_fed ctx seats coming id (passes (may_leave_at ctx seats coming) (map (λ p. p.0) ps) id e)
+
+      pub multi_left : AreMulti rest cs others coming (remove_first (may_leave v.rx (is_meant ctx)) v.rx.posted) v.rx.closing v.rx.coming v.next v.multi v.most
+      multi_left =
+          multi_gone ps cs seats coming v.rx.posted v.rx.closing v.rx.coming v.next v.multi v.most m id others is more rest are shorter _ (retied Idle (IsHome m.homes m.calls) rest (remove_first (may_leave v.rx (is_meant ctx)) v.rx.posted) (λ p r i. i.home) tied)
+          (λ s fed. absurd (let no : true ≡ false = sym (any_at (is_fed_by id) coming s refl fed) ∙ unfed in cc))
+
   -- one is meant exactly where one may leave
-  pub meant_where : (o : Option ℕ) → find (λ id. is_meant_at ctx (at seats id)) (map (λ p. p.0) ps) ≡ o → is_some o ≡ is_some (cancellable (is_meant ctx) v.rx)
+  pub meant_where : (o : Option ℕ) → find (may_leave_at ctx seats coming) (map (λ p. p.0) ps) ≡ o → is_some o ≡ is_some (cancellable (is_meant ctx) v.rx)
   meant_where None e = rw (none_leaves e) refl
   meant_where (Some id) e = rw ((leaves id e).found) refl

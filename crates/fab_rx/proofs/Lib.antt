@@ -11,5 +11,13 @@ pub mod Parting
 pub mod Posting
 pub mod Known
 pub mod Numbering
+pub mod Changing
+pub mod Sharing
+pub mod Closing
+pub mod Moving
+pub mod Taking
+pub mod Ending
+pub mod Plain
 pub mod Leaving
+pub mod Drawing
 mod Worked

@@ -1,10 +1,6 @@
 -- The numbers of calls stay distinct, so no posted receive has an item under way.
-use Rattle.std.proofs.Common.{◌≡◌, ◌≢◌, ◌⊎◌, inl, inr, ℕ, ◌+◌, ◌<◌, ◌≤◌, Bool, true, false, List, [], ◌∷◌, ◌++◌, length, Option, Some, None, get_or, set, replicate, refl, sym, subst, arith}
-use Rattle.std.specs.Prelude.{find}
-use Rattle.std.specs.List.{list_any}
-use Rattle.std.proofs.lemmas.Bool.{ne_eqb}
-use Rattle.std.proofs.lemmas.List.Folds.{list_any_none}
-use Rattle.std.proofs.lemmas.List.{get_or_default}
+use Rattle.std.proofs.Common.{◌≡◌, ◌≢◌, ◌⊎◌, inl, inr, ℕ, ◌+◌, ◌<◌, ◌≤◌, Bool, true, false, List, [], ◌∷◌, ◌++◌, Option, Some, None, get_or, set, replicate, refl, sym, subst, ◌∙◌, arith}
+use Rattle.std.specs.Prelude.{find, is_some}
 use Rattle.fab_model.proofs.Parts.{get_or-set}
 use Rattle.fab_base.specs.declared.items.Kind.{Kind}
 use Rattle.fab_base.specs.declared.items.Kind.TheVariants.{Msg, TagMsg, WriteReq, ReadReq, AtomicReq, Reply}
@@ -13,10 +9,11 @@ use Rattle.fab_base.specs.declared.operations.Receive.{Receive}
 use Rattle.fab_base.specs.declared.operations.Arrival.{Arrival}
 use Rattle.fab_base.specs.declared.operations.Coming.{Coming}
 use Rattle.fab_base.specs.declared.operations.Coming.TheVariants.{Into, Keep, Throw, Request, Answer}
-use Rattle.fab_model.specs.Matching.{is_message, takes, remove_first}
-use Rattle.fab_model.specs.State.{coming_from, is_into}
+use Rattle.fab_model.specs.Matching.{is_message, takes, change_first, remove_first}
+use Rattle.fab_model.specs.State.{Receiving, coming_from, under_way}
+use Rattle.fab_model.specs.Complete.{filled, filling, is_made_by}
 use Rattle.fab_model.specs.Arrivals.{heading_message, heading_other, is_wanted, keeping, made_whole, taker, way_of}
-use Rattle.fab_rx.specs.Arriving.{Arriving, IsSingle, arriving, begun_of, bytes_come, finishing, kept, posting}
+use Rattle.fab_rx.specs.Arriving.{Arriving, IsSingle, arriving, begun_of, bytes_come, finishing, kept, posting, shared, without_closed}
 use Rattle.fab_rx.specs.Stored.{turned}
 use Rattle.fab_rx.specs.Numbers.{AreBelow, AreDistinct, GoesElsewhere, HaveOtherCalls, IsNumbered}
 use Rattle.fab_rx.proofs.Keeping.{single_seated}
@@ -101,7 +98,7 @@ distinct_push (r ∷ rs) q d h = (others_push r.call rs q d.0 (λ same. h.0 (sym
 
 pub elsewhere_by : (n m : ℕ) (before after : List Receive) (c : Option Coming) → n ≤ m → ((call : ℕ) → call < n → HaveOtherCalls call before → HaveOtherCalls call after) → GoesElsewhere n before c → GoesElsewhere m after c
 elsewhere_by n m before after None le more g = tt
-elsewhere_by n m before after (Some (Into r place)) le more g = (let lt = g.0 in omega arith, more r.call g.0 g.1)
+elsewhere_by n m before after (Some (Into r place)) le more g = (let lt = g.0 in omega arith, λ single. more r.call g.0 (g.1 single))
 elsewhere_by n m before after (Some Keep) le more g = tt
 elsewhere_by n m before after (Some Throw) le more g = tt
 elsewhere_by n m before after (Some Request) le more g = tt
@@ -122,21 +119,77 @@ other_way n posted ReadReq = tt
 other_way n posted AtomicReq = tt
 other_way n posted Reply = tt
 
-into_other : (n : ℕ) (posted : List Receive) (q : Receive) (c : Option Coming) → GoesElsewhere n (q ∷ posted) c → is_into q.call c ≡ false
-into_other n posted q None g = refl
-into_other n posted q (Some (Into r place)) g = ne_eqb r.call q.call (λ same. g.1.0 (sym same))
-into_other n posted q (Some Keep) g = refl
-into_other n posted q (Some Throw) g = refl
-into_other n posted q (Some Request) g = refl
-into_other n posted q (Some Answer) g = refl
+-- ---- bytes come into a multi-receive
 
--- no item of the first of these receives is under way
-pub not_under_way : (n : ℕ) (posted : List Receive) (q : Receive) (coming : List (Option Coming)) → ((t : ℕ) → GoesElsewhere n (q ∷ posted) (get_or coming t None)) → list_any (is_into q.call) coming ≡ false
-not_under_way n posted q coming all =
-    list_any_none (is_into q.call) coming (λ k d below. into_other n posted q (get_or coming k d) (subst (λ (o : Option Coming). GoesElsewhere n (q ∷ posted) o) (get_or_any coming k d below) (all k)))
+module _ (test : Receive → Bool) (f : Receive → Receive) (same : (r : Receive) → (f r).call ≡ r.call) where
+  pub others_changed : (call : ℕ) (rs : List Receive) → HaveOtherCalls call rs → HaveOtherCalls call (change_first test f rs)
+  others_changed call [] h = h
+  others_changed call (r ∷ rs) h = step (test r) refl (others_changed call rs h.1)
+    where
+      step : (b : Bool) → test r ≡ b → HaveOtherCalls call (change_first test f rs) → HaveOtherCalls call (change_first test f (r ∷ rs))
+      step true e more = rw (e, change_first) ((λ is. h.0 (sym (same r) ∙ is)), h.1)
+      step false e more = rw (e, change_first) (h.0, more)
+
+  pub distinct_changed : (rs : List Receive) → AreDistinct rs → AreDistinct (change_first test f rs)
+  distinct_changed [] d = d
+  distinct_changed (r ∷ rs) d = step (test r) refl (distinct_changed rs d.1)
+    where
+      step : (b : Bool) → test r ≡ b → AreDistinct (change_first test f rs) → AreDistinct (change_first test f (r ∷ rs))
+      step true e more = rw (e, change_first) (subst (λ (n : ℕ). HaveOtherCalls n rs) (sym (same r)) d.0, d.1)
+      step false e more = rw (e, change_first) (others_changed r.call rs d.0, more)
+
+  pub below_changed : (n : ℕ) (rs : List Receive) → AreBelow n rs → AreBelow n (change_first test f rs)
+  below_changed n [] b = b
+  below_changed n (r ∷ rs) b = step (test r) refl (below_changed n rs b.1)
+    where
+      step : (t : Bool) → test r ≡ t → AreBelow n (change_first test f rs) → AreBelow n (change_first test f (r ∷ rs))
+      step true e more = rw (e, change_first) (subst (λ (k : ℕ). k < n) (sym (same r)) b.0, b.1)
+      step false e more = rw (e, change_first) (b.0, more)
+
+  pub numbers_changed : (n : ℕ) (posted : List Receive) (coming : List (Option Coming)) → IsNumbered posted coming n → IsNumbered (change_first test f posted) coming n
+  numbers_changed n posted coming is = record {
+    below = below_changed n posted is.below;
+    distinct = distinct_changed posted is.distinct;
+    into = λ s. elsewhere_by n n posted (change_first test f posted) (get_or coming s None) (omega arith) (λ call lt h. others_changed call posted h) (is.into s);
+  }
+
+-- an item goes to a multi-receive
+pub numbers_part : (test : Receive → Bool) (total : ℕ) (r : Receive) (n : ℕ) (before after : List Receive) (coming : List (Option Coming)) (source : ℕ) → is_some r.least ≡ true → IsNumbered after coming n → r.call < n → IsNumbered after (set coming source (Some (Into r r.used))) n
+numbers_part test total r n before after coming source multi is lt = record {
+  below = is.below;
+  distinct = is.distinct;
+  into = elsewhere_set n after coming source (Some (Into r r.used)) is.into (lt, λ single. absurd (let no : false ≡ true = rw single at multi in cc));
+}
+
+pub numbers_leave_by : (test : Receive → Bool) (n : ℕ) (posted : List Receive) (coming : List (Option Coming)) → IsNumbered posted coming n → IsNumbered (remove_first test posted) coming n
+numbers_leave_by test n posted coming is = record {
+  below = below_fewer test n posted is.below;
+  distinct = distinct_fewer test posted is.distinct;
+  into = λ s. elsewhere_by n n posted (remove_first test posted) (get_or coming s None) (omega arith) (λ call lt h. others_fewer test call posted h) (is.into s);
+}
+
+pub closed_posted : (call : ℕ) (rx : Receiving) → (without_closed call rx).posted ≡ rx.posted
+closed_posted call rx = by (under_way rx call) refl
   where
-    get_or_any : (xs : List (Option Coming)) (k : ℕ) (d : Option Coming) → k < length xs → get_or xs k None ≡ get_or xs k d
-    get_or_any xs k d below = get_or_default xs k None d below
+    by : (b : Bool) → under_way rx call ≡ b → (without_closed call rx).posted ≡ rx.posted
+    by true is = rw (is, without_closed) refl
+    by false is = rw (is, without_closed) refl
+
+pub closed_coming : (call : ℕ) (rx : Receiving) → (without_closed call rx).coming ≡ rx.coming
+closed_coming call rx = by (under_way rx call) refl
+  where
+    by : (b : Bool) → under_way rx call ≡ b → (without_closed call rx).coming ≡ rx.coming
+    by true is = rw (is, without_closed) refl
+    by false is = rw (is, without_closed) refl
+
+numbers_shared : (r : Receive) (place : ℕ) (bytes : List ℕ) (n : ℕ) (rx : Receiving) → IsNumbered rx.posted rx.coming n → IsNumbered (shared r.least r place bytes rx).posted (shared r.least r place bytes rx).coming n
+numbers_shared r place bytes n rx is = by r.least refl
+  where
+    by : (o : Option ℕ) → r.least ≡ o → IsNumbered (shared o r place bytes rx).posted (shared o r place bytes rx).coming n
+    by None e = is
+    by (Some least) e =
+        let now = filling r place bytes rx in
+        rw (closed_posted r.call now, closed_coming r.call now, e) (numbers_changed (is_made_by r.call) (filled place bytes) (λ q. refl) n rx.posted rx.coming is)
 
 -- ---- what calls do
 
@@ -170,7 +223,7 @@ module _ (v : Arriving) (numbers : IsNumbered v.rx.posted v.rx.coming v.next) wh
           distinct = distinct_fewer test v.rx.posted numbers.distinct;
           into = elsewhere_set v.next (remove_first test v.rx.posted) v.rx.coming source (Some (Into r r.used))
               (λ t. elsewhere_by v.next v.next v.rx.posted (remove_first test v.rx.posted) (get_or v.rx.coming t None) (omega arith) (λ call lt h. others_fewer test call v.rx.posted h) (numbers.into t))
-              (below_found test v.next v.rx.posted r numbers.below found, others_found test v.rx.posted r numbers.distinct found);
+              (below_found test v.next v.rx.posted r numbers.below found, λ single. others_found test v.rx.posted r numbers.distinct found);
         })
 
   finished : (source : ℕ) → IsNumbered v.rx.posted (set v.rx.coming source None) v.next
@@ -179,7 +232,7 @@ module _ (v : Arriving) (numbers : IsNumbered v.rx.posted v.rx.coming v.next) wh
   finished_by : (source : ℕ) (c : Option Coming) (bytes : List ℕ) → IsNumbered (kept c source bytes (made_whole source v.rx)).posted (kept c source bytes (made_whole source v.rx)).coming v.next
   unfolding keeping made_whole
   finished_by source None bytes = finished source
-  finished_by source (Some (Into r place)) bytes = finished source
+  finished_by source (Some (Into r place)) bytes = numbers_shared r place bytes v.next (made_whole source v.rx) (finished source)
   finished_by source (Some Keep) bytes = finished source
   finished_by source (Some Throw) bytes = finished source
   finished_by source (Some Request) bytes = finished source
@@ -189,12 +242,15 @@ module _ (v : Arriving) (numbers : IsNumbered v.rx.posted v.rx.coming v.next) wh
   numbers_finish source = finished_by source (coming_from v.rx source) (bytes_come (begun_of v source))
 
   module _ (r : Receive) (later : v.next ≤ r.call) where
-    pub numbers_join : find (takes r.want) v.rx.unexpected ≡ None → IsNumbered (posting r v).rx.posted (posting r v).rx.coming (posting r v).next
-    numbers_join none = rw none (record {
+    pub numbers_joined : IsNumbered (v.rx.posted ++ r ∷ []) v.rx.coming (r.call + 1)
+    numbers_joined = record {
       below = below_push (r.call + 1) v.rx.posted r (below_more v.next (r.call + 1) v.rx.posted (omega arith) numbers.below) (omega arith);
       distinct = distinct_push v.rx.posted r numbers.distinct (others_below v.next r.call v.rx.posted later numbers.below);
       into = λ s. elsewhere_by v.next (r.call + 1) v.rx.posted (v.rx.posted ++ r ∷ []) (get_or v.rx.coming s None) (omega arith) (λ call lt h. others_push call v.rx.posted r h (λ same. absurd (omega arith))) (numbers.into s);
-    })
+    }
+
+    pub numbers_join : find (takes r.want) v.rx.unexpected ≡ None → IsNumbered (posting r v).rx.posted (posting r v).rx.coming (posting r v).next
+    numbers_join none = rw none numbers_joined
 
   -- what still comes of a message goes elsewhere from now on
   pub numbers_gone : (c : Coming) (o : Option (List ℕ)) (source next : ℕ) → v.next ≤ next → GoesElsewhere next v.rx.posted (Some c) → IsNumbered v.rx.posted (turned (λ x. Some c) o source v.rx.coming) next
@@ -208,7 +264,7 @@ module _ (v : Arriving) (numbers : IsNumbered v.rx.posted v.rx.coming v.next) wh
       by_bytes (Some bytes) = record { below = below_more v.next next v.rx.posted le numbers.below; distinct = numbers.distinct; into = as_before }
 
   pub numbers_given : (a : Arrival) (r : Receive) → v.next ≤ r.call → IsNumbered v.rx.posted (turned (λ x. Some (Into r 0)) a.bytes a.source v.rx.coming) (r.call + 1)
-  numbers_given a r later = numbers_gone (Into r 0) a.bytes a.source (r.call + 1) (omega arith) (omega arith, others_below v.next r.call v.rx.posted later numbers.below)
+  numbers_given a r later = numbers_gone (Into r 0) a.bytes a.source (r.call + 1) (omega arith) (omega arith, λ single. others_below v.next r.call v.rx.posted later numbers.below)
 
   pub numbers_thrown : (a : Arrival) → IsNumbered v.rx.posted (turned (λ x. Some Throw) a.bytes a.source v.rx.coming) v.next
   numbers_thrown a = numbers_gone Throw a.bytes a.source v.next (omega arith) tt

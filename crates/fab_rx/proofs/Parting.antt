@@ -18,9 +18,10 @@ use Rattle.fab_match.specs.Signs.{fits}
 use Rattle.fab_match.specs.Matcher.{first_id, has_id}
 use Rattle.fab_match.proofs.Pairs.{has_id-first}
 use Rattle.fab_rx.specs.declared.stored.Seat.{Seat}
+use Rattle.fab_rx.specs.declared.stored.Waiting.{Waiting}
 use Rattle.fab_rx.specs.declared.stored.Parcel.{Parcel}
 use Rattle.fab_rx.specs.declared.stored.Way.{Way}
-use Rattle.fab_rx.specs.declared.stored.Way.TheVariants.{Into, Keep, Throw, Gather}
+use Rattle.fab_rx.specs.declared.stored.Way.TheVariants.{Into, Part, Keep, Throw, Gather}
 use Rattle.fab_rx.specs.declared.stored.Begun.{Begun}
 use Rattle.fab_rx.specs.Table.{Cells, at}
 use Rattle.fab_rx.specs.Arriving.{Arriving, IsSingle, begun_of, given, posting}
@@ -34,14 +35,15 @@ use Rattle.fab_rx.proofs.Claiming.{claims_fit}
 use Rattle.fab_rx.proofs.Finding.{claim_agrees, claim_found, claim_here, claim_partly, first_found, found_here, found_partly}
 
 -- an item is kept under one id
-kept_once : (way : Way) (i j : ℕ) → IsKeptWay i way → IsKeptWay j way → i ≡ j
+pub kept_once : (way : Way) (i j : ℕ) → IsKeptWay i way → IsKeptWay j way → i ≡ j
 kept_once (Into seat) i j a b = absurd a
+kept_once (Part k place bytes) i j a b = absurd a
 kept_once (Keep k bytes) i j a b = sym a ∙ b
 kept_once Throw i j a b = absurd a
 kept_once (Gather bytes) i j a b = absurd a
 
 -- what is stored where a message is kept
-stored_where_kept : (o : Option Begun) (id : ℕ) → IsKeptAs id o → (b : Begun) × (o ≡ Some b) × IsKeptWay id b.way
+pub stored_where_kept : (o : Option Begun) (id : ℕ) → IsKeptAs id o → (b : Begun) × (o ≡ Some b) × IsKeptWay id b.way
 stored_where_kept None id k = absurd k
 stored_where_kept (Some b) id k = (b, refl, k)
 
@@ -50,6 +52,7 @@ stored_where_kept (Some b) id k = (b, refl, k)
 redirected_goes : (parcels others : Cells Parcel) (source id : ℕ) (way : Way) (c : Coming) (item : Item) (r : Receive) (buf : List ℕ) (ctx : ℕ) → GoesBy parcels source way c item → IsKeptWay id way → IsSingle r → seat_of r ≡ record { buf = buf; ctx = ctx }
     → GoesBy others source (Into (record { buf = moved way buf; ctx = ctx })) (IntoReceive r 0) item
 redirected_goes parcels others source id (Into seat) c item r buf ctx g k single same = absurd k
+redirected_goes parcels others source id (Part n place bytes) c item r buf ctx g k single same = absurd k
 redirected_goes parcels others source id (Keep n bytes) c item r buf ctx g k single same =
     let is_buf : r.buf ≡ buf = ap (λ (s : Seat). s.buf) same in
     let is_ctx : r.ctx ≡ ctx = ap (λ (s : Seat). s.ctx) same in
@@ -72,6 +75,13 @@ given_turned (Some bytes) source r rx = refl
 pub thrown_turned : (o : Option (List ℕ)) (source : ℕ) (rx : Receiving) → thrown o source rx ≡ record rx { coming = turned (λ x. Some ThrowIt) o source rx.coming }
 thrown_turned None source rx = refl
 thrown_turned (Some bytes) source rx = refl
+
+pub length_turned : {X : Type 0} → (f : Option X → Option X) (o : Option (List ℕ)) (source : ℕ) (xs : List (Option X)) → length (turned f o source xs) ≡ length xs
+length_turned f o source xs = by o
+  where
+    by : (o : Option (List ℕ)) → length (turned f o source xs) ≡ length xs
+    by None = length-set xs source (f (get_or xs source None))
+    by (Some bytes) = refl
 
 -- ---- what is under way of its source, where it is not whole
 
@@ -103,9 +113,9 @@ not_some (Some x) e = absurd (cc)
 
 -- what contracts see then, with these messages unexpected and these claimed
 abbrev pub gone_by : Coming → Arrival → List Arrival → List (ℕ × Arrival) → ℕ → Arriving → Arriving
-gone_by c a un cl next v = record { rx = record v.rx { coming = turned (λ x. Some c) a.bytes a.source v.rx.coming; unexpected = un; claimed = cl }; begun = v.begun; most = v.most; next = next }
+gone_by c a un cl next v = record { rx = record v.rx { coming = turned (λ x. Some c) a.bytes a.source v.rx.coming; unexpected = un; claimed = cl }; begun = v.begun; most = v.most; next = next; multi = v.multi }
 
-module _ (ps : List (ℕ × Want)) (us : List (ℕ × Sign)) (room : ℕ) (seats : Cells Seat) (parcels : Cells Parcel) (coming : List (Option Begun)) (v : Arriving) (kept : IsKept ps us room seats parcels coming v)
+module _ (ps : List (ℕ × Want)) (us : List (ℕ × Sign)) (room : ℕ) (seats : Cells Waiting) (parcels : Cells Parcel) (coming : List (Option Begun)) (v : Arriving) (kept : IsKept ps us room seats parcels coming v)
     (id : ℕ) (a : Arrival) (there : at parcels id ≡ Some (parcel_of a)) (partly : a.bytes ≡ None → IsKeptAs id (get_or coming a.source None)) (others : Cells Parcel) (is : others.cells ≡ set parcels.cells id None)
     (turn : Begun → Begun) (c : Coming) (turns : (b : Begun) (w : Coming) (i : Item) → IsKeptWay id b.way → IsComing parcels a.source b w i → IsComing others a.source (turn b) c i) where
   abbrev after : Option (List ℕ) → List (Option Begun)
@@ -167,14 +177,13 @@ module _ (ps : List (ℕ × Want)) (us : List (ℕ × Sign)) (room : ℕ) (seats
     receives = kept.receives;
     messages = retied_but (Lies parcels coming) (Lies others (after a.bytes)) id rest un (λ p x other l. left.lies p x other l) gone tied;
     ways = left.ways;
-    spare = kept.spare;
+    few = kept.few;
     most = kept.most;
     peers = left.stored ∙ kept.peers;
     comings = left.count ∙ kept.comings;
     heads = kept.heads;
     tails = kept.tails;
     under_way = kept.under_way;
-    closing = kept.closing;
   })
 
   pub claims_besides : (rest : List (ℕ × Sign)) (cs : List (ℕ × ℕ)) (cl : List (ℕ × Arrival)) (capacity : ℕ) (now : List (Option Begun)) → now ≡ after a.bytes → AllZip (IsClaim parcels coming) cs cl → has_id id cs ≡ false → AreApart rest cs
@@ -188,7 +197,7 @@ module _ (ps : List (ℕ × Want)) (us : List (ℕ × Sign)) (room : ℕ) (seats
 
 -- ---- which one it was
 
-module _ (ps : List (ℕ × Want)) (us : List (ℕ × Sign)) (room : ℕ) (seats : Cells Seat) (parcels : Cells Parcel) (coming : List (Option Begun)) (v : Arriving) (kept : IsKept ps us room seats parcels coming v) (cs : List (ℕ × ℕ)) (capacity : ℕ) (aside : AreClaimed us parcels coming cs capacity v.rx.claimed)
+module _ (ps : List (ℕ × Want)) (us : List (ℕ × Sign)) (room : ℕ) (seats : Cells Waiting) (parcels : Cells Parcel) (coming : List (Option Begun)) (v : Arriving) (kept : IsKept ps us room seats parcels coming v) (cs : List (ℕ × ℕ)) (capacity : ℕ) (aside : AreClaimed us parcels coming cs capacity v.rx.claimed)
     (id : ℕ) (others : Cells Parcel) (is : others.cells ≡ set parcels.cells id None) (more : length others.free ≡ length parcels.free + 1) (turn : Begun → Begun) (c : Coming)
     (turns : (s : ℕ) (b : Begun) (w : Coming) (i : Item) → IsKeptWay id b.way → IsComing parcels s b w i → IsComing others s (turn b) c i)
     (now : List (Option Begun)) (is_now : (a : Arrival) → at parcels id ≡ Some (parcel_of a) → now ≡ turned (option_map turn) a.bytes a.source coming) (next : ℕ) where
@@ -247,26 +256,26 @@ module _ (ps : List (ℕ × Want)) (us : List (ℕ × Sign)) (room : ℕ) (seats
 -- ---- what the calls make of it
 
 pub posting_is : (v : Arriving) (r : Receive) (a : Arrival) → find (takes r.want) v.rx.unexpected ≡ Some a → posting r v ≡ gone_by (IntoReceive r 0) a (remove_first (takes r.want) v.rx.unexpected) v.rx.claimed (r.call + 1) v
-posting_is v r a found = rw found (ap (λ (rx : Receiving). record { rx = rx; begun = v.begun; most = v.most; next = r.call + 1 }) (given_turned a.bytes a.source r (without_first r.want v.rx)))
+posting_is v r a found = rw found (ap (λ (rx : Receiving). record { rx = rx; begun = v.begun; most = v.most; next = r.call + 1; multi = v.multi }) (given_turned a.bytes a.source r (without_first r.want v.rx)))
 
 pub discarding_is : (v : Arriving) (want : Want) (a : Arrival) → find (takes want) v.rx.unexpected ≡ Some a → discarding want v ≡ gone_by ThrowIt a (remove_first (takes want) v.rx.unexpected) v.rx.claimed v.next v
-discarding_is v want a found = rw found (ap (λ (rx : Receiving). record { rx = rx; begun = v.begun; most = v.most; next = v.next }) (thrown_turned a.bytes a.source (without_first want v.rx)))
+discarding_is v want a found = rw found (ap (λ (rx : Receiving). record { rx = rx; begun = v.begun; most = v.most; next = v.next; multi = v.multi }) (thrown_turned a.bytes a.source (without_first want v.rx)))
 
 pub taking_is : (v : Arriving) (r : Receive) (k : ℕ × Arrival) → find (λ k. k.0 == r.ctx) v.rx.claimed ≡ Some k → taking r v ≡ gone_by (IntoReceive r 0) k.1 v.rx.unexpected (remove_first (λ k. k.0 == r.ctx) v.rx.claimed) (r.call + 1) v
-taking_is v r k found = rw found (ap (λ (rx : Receiving). record { rx = rx; begun = v.begun; most = v.most; next = r.call + 1 }) (given_turned k.1.bytes k.1.source r (without_claim r.ctx v.rx)))
+taking_is v r k found = rw found (ap (λ (rx : Receiving). record { rx = rx; begun = v.begun; most = v.most; next = r.call + 1; multi = v.multi }) (given_turned k.1.bytes k.1.source r (without_claim r.ctx v.rx)))
 
 pub dropping_is : (v : Arriving) (ctx : ℕ) (k : ℕ × Arrival) → find (λ k. k.0 == ctx) v.rx.claimed ≡ Some k → dropping ctx v ≡ gone_by ThrowIt k.1 v.rx.unexpected (remove_first (λ k. k.0 == ctx) v.rx.claimed) v.next v
-dropping_is v ctx k found = rw found (ap (λ (rx : Receiving). record { rx = rx; begun = v.begun; most = v.most; next = v.next }) (thrown_turned k.1.bytes k.1.source (without_claim ctx v.rx)))
+dropping_is v ctx k found = rw found (ap (λ (rx : Receiving). record { rx = rx; begun = v.begun; most = v.most; next = v.next; multi = v.multi }) (thrown_turned k.1.bytes k.1.source (without_claim ctx v.rx)))
 
 -- ---- an unexpected message is claimed: its bytes stay where they are
 
 abbrev pub set_aside : List Arrival → List (ℕ × Arrival) → Arriving → Arriving
-set_aside un cl v = record { rx = record v.rx { unexpected = un; claimed = cl }; begun = v.begun; most = v.most; next = v.next }
+set_aside un cl v = record { rx = record v.rx { unexpected = un; claimed = cl }; begun = v.begun; most = v.most; next = v.next; multi = v.multi }
 
 pub claiming_is : (v : Arriving) (want : Want) (ctx : ℕ) (a : Arrival) → find (takes want) v.rx.unexpected ≡ Some a → claiming_first want ctx v ≡ set_aside (remove_first (takes want) v.rx.unexpected) (v.rx.claimed ++ (ctx, a) ∷ []) v
 claiming_is v want ctx a found = rw found refl
 
-module _ (ps : List (ℕ × Want)) (us : List (ℕ × Sign)) (room : ℕ) (seats : Cells Seat) (parcels : Cells Parcel) (coming : List (Option Begun)) (v : Arriving) (kept : IsKept ps us room seats parcels coming v) (cs : List (ℕ × ℕ)) (capacity : ℕ) (aside : AreClaimed us parcels coming cs capacity v.rx.claimed)
+module _ (ps : List (ℕ × Want)) (us : List (ℕ × Sign)) (room : ℕ) (seats : Cells Waiting) (parcels : Cells Parcel) (coming : List (Option Begun)) (v : Arriving) (kept : IsKept ps us room seats parcels coming v) (cs : List (ℕ × ℕ)) (capacity : ℕ) (aside : AreClaimed us parcels coming cs capacity v.rx.claimed)
     (want : Want) (ctx : ℕ) (id : ℕ) (e : first_id (λ sign. fits want sign) us ≡ Some id) (rest : List (ℕ × Sign)) (are : rest ≡ remove_first (λ p. fits want p.1) us) (gone : has_id id rest ≡ false) where
   abbrev s : IsTaken (Lies parcels coming) (λ sign. fits want sign) (takes want) (lies_agrees want parcels coming) id us v.rx.unexpected
   s = first_found ps us room seats parcels coming v kept want id e
@@ -282,14 +291,13 @@ module _ (ps : List (ℕ × Want)) (us : List (ℕ × Sign)) (room : ℕ) (seats
     receives = kept.receives;
     messages = subst (λ (xs : List (ℕ × Sign)). AllZip (Lies parcels coming) xs (remove_first (takes want) v.rx.unexpected)) (sym are) s.rest;
     ways = kept.ways;
-    spare = kept.spare;
+    few = kept.few;
     most = kept.most;
     peers = kept.peers;
     comings = kept.comings;
     heads = kept.heads;
     tails = kept.tails;
     under_way = kept.under_way;
-    closing = kept.closing;
   }
 
   pub aside_claims : AreClaimed rest parcels coming (cs ++ (id, ctx) ∷ []) capacity (v.rx.claimed ++ (ctx, s.member) ∷ [])

@@ -15,6 +15,11 @@ paste_none buf bytes at e = paste_is buf bytes at 0 (sym e) ∙ (let same : at +
 pub paste_start : (buf bytes : List ℕ) (n : ℕ) → n ≡ min (length bytes) (length buf) → paste buf 0 bytes ≡ take n bytes ++ drop n buf
 paste_start buf bytes n e = paste_is buf bytes 0 n (omega arith) ∙ (let same : 0 + n ≡ n = omega arith in rw same refl)
 
+pub length_paste_at : (buf bytes : List ℕ) (at : ℕ) → length (paste buf at bytes) ≡ length buf
+length_paste_at buf bytes at =
+    let n = min (length bytes) (length buf - at) in
+    ap length (paste_is buf bytes at n refl) ∙ length-append (take at buf ++ take n bytes) (drop (at + n) buf) ∙ ap (λ k. k + length (drop (at + n) buf)) (length-append (take at buf) (take n bytes)) ∙ omega (arith, length-take at buf, length-take n bytes, length-drop (at + n) buf)
+
 pub length_paste : (buf bytes : List ℕ) → length (paste buf 0 bytes) ≡ length buf
 length_paste buf bytes =
     let n = min (length bytes) (length buf) in

@@ -1,6 +1,7 @@
 -- What holds of a table stays as ids are taken, given back and added.
 use Rattle.std.proofs.Common.{◌≡◌, ◌≢◌, ℕ, zero, suc, ◌+◌, ◌-◌, ◌^◌, ◌<◌, ◌≤◌, ◌⊎◌, inl, inr, List, [], ◌∷◌, ◌++◌, length, Option, Some, None, get_or, set, take, sum_by, refl, sym, ap, ◌∙◌, arith, length-append, length-set, length-take}
-use Rattle.std.proofs.lemmas.List.{get_or-set_other, get_or-set_same, get_or-take, get_or_append_left, get_or-append_right}
+use Rattle.std.specs.Prelude.{IsSome, IsSomeAnd}
+use Rattle.std.proofs.lemmas.List.{get_or_default, get_or-set_other, get_or-set_same, get_or-take, get_or_append_left, get_or-append_right}
 use Rattle.std.proofs.lemmas.List.Sums.{sum_by-cons, sum_by-set, sum_by-append}
 use Rattle.fab_rx.specs.Table.{IsTable, cell, count_empty}
 
@@ -14,6 +15,21 @@ pub id_within : {T : Type 0} (cells : List (Option T)) (id : ℕ) (x : T) → ce
 id_within [] id x e = absurd (cc)
 id_within (c ∷ cells) zero x e = omega arith
 id_within (c ∷ cells) (suc id) x e = let more = id_within cells id x e in omega arith
+
+pub some_within : {T : Type 0} (cells : List (Option T)) (id : ℕ) → IsSome (cell cells id) → id < length cells
+some_within {T} cells id some = by (cell cells id) refl some
+  where
+    by : (o : Option T) → cell cells id ≡ o → IsSome o → id < length cells
+    by None e none = absurd (cc)
+    by (Some x) e there = id_within cells id x e
+
+pub some_and : {T : Type 0} (P : T → Type 0) (o : Option T) → IsSomeAnd o P → IsSome o
+some_and P None none = absurd none
+some_and P (Some x) there = refl
+
+-- what is read of a cell, whatever stands for none
+pub cell_is : {T : Type 0} (cells : List (Option T)) (id : ℕ) (d : Option T) → id < length cells → get_or cells id d ≡ cell cells id
+cell_is cells id d below = get_or_default cells id d None below
 
 module _ {T : Type 0} (cells : List (Option T)) (free : List ℕ) (most : ℕ) (table : IsTable cells free most) where
   pub free_most : length free ≤ length cells

@@ -43,6 +43,13 @@ retied_map R S f [] (y ∷ ys) more t = absurd t
 retied_map R S f (x ∷ xs) [] more t = absurd t
 retied_map R S f (x ∷ xs) (y ∷ ys) more t = (more x y t.0, retied_map R S f xs ys more t.1)
 
+-- two ties of each member at once
+pub tied_both : {A B : Type 0} (R S : A → B → Type 0) (xs : List A) (ys : List B) → AllZip R xs ys → AllZip S xs ys → AllZip (λ x y. R x y × S x y) xs ys
+tied_both R S [] [] t u = tt
+tied_both R S [] (y ∷ ys) t u = absurd t
+tied_both R S (x ∷ xs) [] t u = absurd t
+tied_both R S (x ∷ xs) (y ∷ ys) t u = ((t.0, u.0), tied_both R S xs ys t.1 u.1)
+
 module _ {X B : Type 0} (R : ℕ × X → B → Type 0) where
   -- an id that no tied pair has is new
   pub tied_fresh : (id : ℕ) (xs : List (ℕ × X)) (ys : List B) → ((p : ℕ × X) (y : B) → R p y → p.0 ≢ id) → AllZip R xs ys → has_id id xs ≡ false

@@ -11,9 +11,9 @@ use Rattle.fab_base.specs.declared.operations.Coming.TheVariants.{Keep}
 use Rattle.fab_base.specs.declared.operations.Receive.{Receive}
 use Rattle.fab_model.specs.Machine.{machine}
 use Rattle.fab_rx.specs.declared.results.Finished.TheVariants.{Kept}
-use Rattle.fab_rx.specs.Arriving.{Arriving, nothing_arrived, arriving, posting, receive_by}
+use Rattle.fab_rx.specs.Arriving.{Arriving, arriving, finishing, growing, multi_by, nothing_arrived, opening, posting, receive_by}
 use Rattle.fab_rx.specs.Leaving.{cancelling}
-use Rattle.fab_rx.specs.Results.{completed, ended}
+use Rattle.fab_rx.specs.Results.{completed, ended, last_of}
 
 -- a message of two bytes
 abbrev head : ItemHead
@@ -53,3 +53,35 @@ taken = refl
 cancelled : (cancelling (Some 8) two).rx.posted ≡ receive 0 7 [] ∷ []
 unfolding machine
 cancelled = refl
+
+-- ---- multi-receives
+
+-- one of four bytes, which stays posted while so many are free
+abbrev many : ℕ → Arriving
+many least = opening (multi_by (Some 0) (record { tagged = false; tag = 0; ignore = 0; source = None }) (9 ∷ 9 ∷ 9 ∷ 9 ∷ []) least 7) (nothing_arrived 2 2)
+
+-- the same receive with these bytes in its buffer, the first two of which are given away
+abbrev given : ℕ → List ℕ → Receive
+given least buf = record { call = 0; want = record { tagged = false; tag = 0; ignore = 0; source = None }; buf = buf; ctx = 7; least = Some least; used = 2 }
+
+-- it stays posted while a message is under way to it, and has its bytes once it is whole
+stays_posted : (arriving 1 head (many 2)).rx.posted ≡ given 2 (9 ∷ 9 ∷ 9 ∷ 9 ∷ []) ∷ []
+unfolding machine
+stays_posted = refl
+
+has_bytes : (finishing 1 (growing 1 item.bytes (arriving 1 head (many 2)))).rx.posted ≡ given 2 (1 ∷ 2 ∷ 9 ∷ 9 ∷ []) ∷ []
+unfolding machine
+has_bytes = refl
+
+-- where too little is left it closes, and comes back with the message that closed it
+closes : (arriving 1 head (many 3)).rx.closing ≡ given 3 (9 ∷ 9 ∷ 9 ∷ 9 ∷ []) ∷ []
+unfolding machine
+closes = refl
+
+comes_back : last_of 1 (growing 1 item.bytes (arriving 1 head (many 3))) ≡ Some (given 3 (1 ∷ 2 ∷ 9 ∷ 9 ∷ []))
+unfolding machine
+comes_back = refl
+
+is_gone : (finishing 1 (growing 1 item.bytes (arriving 1 head (many 3)))).rx.closing ≡ []
+unfolding machine
+is_gone = refl

@@ -2,8 +2,10 @@
 --     Arriving                       the value
 --     arriving, growing, finishing   what the first frame of an item does, more of its bytes, and their end
 --     posting                        what a receive call does (fi_msg(3), fi_tagged(3))
+--     opening                        what the call of a multi-receive does (FI_MULTI_RECV of fi_msg(3))
 --     with_receiving                 where the machine's part alone changes, as where a receive is cancelled
 --     IsArriving                     what holds between calls
+--     IsPlain                        what holds besides where no multi-receive was posted
 use Rattle.std.specs.Prelude.{◌≡◌, ℕ, ◌+◌, ◌<◌, ◌≤◌, Bool, true, false, List, [], ◌++◌, length, Option, Some, None, is_some, find, replicate, slice_index, slice_index_or, slice_set, unwrap_or, IfSome, All}
 use Rattle.std.specs.Option.{option_map}
 use Rattle.fab_base.specs.declared.items.Item.{Item}
@@ -13,8 +15,9 @@ use Rattle.fab_base.specs.declared.operations.Receive.{Receive}
 use Rattle.fab_base.specs.declared.operations.Arrival.{Arrival}
 use Rattle.fab_base.specs.declared.operations.Coming.{Coming}
 use Rattle.fab_base.specs.declared.operations.Coming.TheVariants.{Into, Keep}
-use Rattle.fab_model.specs.Matching.{is_message, takes}
-use Rattle.fab_model.specs.State.{Receiving, coming_from}
+use Rattle.fab_model.specs.Matching.{is_message, takes, remove_first}
+use Rattle.fab_model.specs.State.{Receiving, coming_from, under_way}
+use Rattle.fab_model.specs.Complete.{filling, is_made_by}
 use Rattle.fab_model.specs.Receiving.{draw_due, goes, joining_posted, without_first}
 use Rattle.fab_model.specs.Arrivals.{heading_message, heading_other, keeping, made_whole}
 
@@ -27,12 +30,14 @@ pub record Arriving : Type 0 where
   pub most : ℕ
   -- above the number of each call that posted a receive here
   pub next : ℕ
+  -- a multi-receive was posted here
+  pub multi : Bool
 
 abbrev pub begun_of : Arriving → ℕ → Option Item
 begun_of v source = slice_index_or v.begun source None
 
 abbrev pub with_receiving : Receiving → Arriving → Arriving
-with_receiving rx v = record { rx = rx; begun = v.begun; most = v.most; next = v.next }
+with_receiving rx v = record { rx = rx; begun = v.begun; most = v.most; next = v.next; multi = v.multi }
 
 -- nothing has arrived of any peer, and nothing is posted
 abbrev pub nothing_arrived : ℕ → ℕ → Arriving
@@ -49,6 +54,7 @@ nothing_arrived peers most = record {
   begun = replicate peers None;
   most = most;
   next = 0;
+  multi = false;
 }
 
 -- ---- an item arrives
@@ -68,6 +74,7 @@ arriving source head v = record {
   begun = slice_set v.begun source (Some (bare head));
   most = v.most;
   next = v.next;
+  multi = v.multi;
 }
 
 -- ---- its bytes come
@@ -81,13 +88,24 @@ growing source bytes v = record {
   begun = slice_set v.begun source (option_map (lengthened bytes) (begun_of v source));
   most = v.most;
   next = v.next;
+  multi = v.multi;
 }
 
 -- ---- it is whole
 
--- the bytes join a message that no receive took
+-- a multi-receive that is closing and has no item under way leaves
+abbrev pub without_closed : ℕ → Receiving → Receiving
+without_closed call rx = elim (under_way rx call) [ true ↦ rx | false ↦ record rx { closing = remove_first (is_made_by call) rx.closing } ]
+
+-- the bytes come into a multi-receive, at this place
+abbrev pub shared : Option ℕ → Receive → ℕ → List ℕ → Receiving → Receiving
+shared None r place bytes rx = rx
+shared (Some least) r place bytes rx = without_closed r.call (filling r place bytes rx)
+
+-- the bytes join a message that no receive took, or come into a multi-receive
 abbrev pub kept : Option Coming → ℕ → List ℕ → Receiving → Receiving
 kept (Some Keep) source bytes rx = keeping source bytes rx
+kept (Some (Into r place)) source bytes rx = shared r.least r place bytes rx
 kept _ source bytes rx = rx
 
 abbrev pub bytes_come : Option Item → List ℕ
@@ -100,6 +118,7 @@ finishing source v = record {
   begun = slice_set v.begun source None;
   most = v.most;
   next = v.next;
+  multi = v.multi;
 }
 
 -- ---- a receive call
@@ -119,7 +138,15 @@ posted_to None r rx = joining_posted r rx
 posted_to (Some a) r rx = given a.bytes a.source r (without_first r.want rx)
 
 abbrev pub posting : Receive → Arriving → Arriving
-posting r v = record { rx = posted_to (find (takes r.want) v.rx.unexpected) r v.rx; begun = v.begun; most = v.most; next = r.call + 1 }
+posting r v = record { rx = posted_to (find (takes r.want) v.rx.unexpected) r v.rx; begun = v.begun; most = v.most; next = r.call + 1; multi = v.multi }
+
+-- a receive for many messages
+abbrev pub multi_by : Option ℕ → Want → List ℕ → ℕ → ℕ → Receive
+multi_by call want buf least ctx = record { call = unwrap_or call 0; want = want; buf = buf; ctx = ctx; least = Some least; used = 0 }
+
+-- it joins those posted, whatever has arrived
+abbrev pub opening : Receive → Arriving → Arriving
+opening r v = record { rx = joining_posted r v.rx; begun = v.begun; most = v.most; next = r.call + 1; multi = true }
 
 -- ---- what holds between calls
 
@@ -147,6 +174,13 @@ abbrev pub count_begun : Option Item → ℕ
 count_begun None = 0
 count_begun (Some item) = 1
 
+pub record IsPlain (rx : Receiving) : Type 0 where
+  -- receives are for one message each
+  pub single : All IsSingle rx.posted
+  pub into : (s : ℕ) → GoesToSingle (coming_from rx s)
+  pub closing : rx.closing ≡ []
+  pub still : draw_due rx ≡ false
+
 pub record IsArriving (v : Arriving) : Type 0 where
   -- a member for each peer
   pub coming : length v.rx.coming ≡ length v.begun
@@ -157,11 +191,7 @@ pub record IsArriving (v : Arriving) : Type 0 where
   -- an item is coming where one is begun
   pub ways : (s : ℕ) → is_some (coming_from v.rx s) ≡ is_some (begun_of v s)
   pub within : (s : ℕ) → IfSome (begun_of v s) (λ item. length item.bytes ≤ item.head.total)
-  -- receives are for one message each
-  pub single : All IsSingle v.rx.posted
-  pub into : (s : ℕ) → GoesToSingle (coming_from v.rx s)
-  pub closing : v.rx.closing ≡ []
-  pub still : draw_due v.rx ≡ false
+  pub plain : v.multi ≡ false → IsPlain v.rx
   -- an unexpected message that is not whole is the item that is coming, as is one that is claimed
   pub partly : All (PartlyIn v) v.rx.unexpected
   pub aside : All (λ c. PartlyIn v c.1) v.rx.claimed

@@ -3,5 +3,9 @@ pub mod Arriving
 pub mod Numbers
 pub mod Results
 pub mod Stored
+pub mod Homes
+pub mod Whole
+pub mod Sharing
+pub mod Draws
 pub mod Leaving
 pub mod Claims

@@ -2,21 +2,27 @@
 --     completed r place source head bytes      the completion of a receive that got this message from the place on
 --     posted_as r found      what a receive call answers, where this unexpected message was found
 --     ended coming source item      what becomes of an item that is whole
+--     last_of v source              the multi-receive whose buffer comes back then
+--     handed last ended             what becomes of the item, with that
 --     entries_due coming      how many completions that makes
 --     cancelled r            what a cancelled receive leaves
-use Rattle.std.specs.Prelude.{ℕ, List, Option, Some, None}
+use Rattle.std.specs.Prelude.{ℕ, true, false, List, Option, Some, None, find}
 use Rattle.fab_base.specs.declared.items.Item.{Item}
 use Rattle.fab_base.specs.declared.items.ItemHead.{ItemHead}
 use Rattle.fab_base.specs.declared.operations.Receive.{Receive}
 use Rattle.fab_base.specs.declared.operations.Arrival.{Arrival}
 use Rattle.fab_base.specs.declared.operations.Coming.{Coming}
 use Rattle.fab_base.specs.declared.operations.Coming.TheVariants.{Into, Keep, Throw, Request as RequestComes, Answer as AnswerComes}
-use Rattle.fab_model.specs.Complete.{entry_of, has_space}
+use Rattle.fab_model.specs.State.{Receiving, coming_from, under_way}
+use Rattle.fab_model.specs.Complete.{entry_of, filling, has_space, is_made_by}
+use Rattle.fab_model.specs.Arrivals.{made_whole}
+use Rattle.fab_rx.specs.Arriving.{Arriving, begun_of, bytes_come}
 use Rattle.fab_rx.specs.declared.results.Completed.{Completed}
 use Rattle.fab_rx.specs.declared.results.Posted.{Posted}
 use Rattle.fab_rx.specs.declared.results.Posted.TheVariants.{Joined, GoesOn, Whole}
 use Rattle.fab_rx.specs.declared.results.Finished.{Finished}
-use Rattle.fab_rx.specs.declared.results.Finished.TheVariants.{Received, Kept, Thrown, Request, Answer}
+use Rattle.fab_rx.specs.declared.results.Finished.TheVariants.{Received, Last, Kept, Thrown, Request, Answer}
+use Rattle.fab_rx.specs.declared.results.Released.{Released}
 use Rattle.fab_rx.specs.declared.results.Cancelled.{Cancelled}
 
 abbrev pub completed : Receive → ℕ → ℕ → ItemHead → List ℕ → Completed
@@ -38,6 +44,28 @@ ended (Some Throw) source item = Thrown item.head
 ended (Some RequestComes) source item = Request item
 ended (Some AnswerComes) source item = Answer item
 ended None source item = Thrown item.head
+
+-- the multi-receive is closing, and no item is under way to it
+abbrev pub closed_by : ℕ → Receiving → Option Receive
+closed_by call rx = elim (under_way rx call) [ true ↦ None | false ↦ find (is_made_by call) rx.closing ]
+
+abbrev pub closed_if : Option ℕ → ℕ → Receiving → Option Receive
+closed_if None call rx = None
+closed_if (Some least) call rx = closed_by call rx
+
+abbrev pub last_by : Option Coming → List ℕ → Receiving → Option Receive
+last_by (Some (Into r place)) bytes rx = closed_if r.least r.call (filling r place bytes rx)
+last_by _ bytes rx = None
+
+abbrev pub last_of : ℕ → Arriving → Option Receive
+last_of source v = last_by (coming_from v.rx source) (bytes_come (begun_of v source)) (made_whole source v.rx)
+
+abbrev pub released : Receive → Released
+released r = record { ctx = r.ctx; used = r.used; buf = r.buf }
+
+abbrev pub handed : Option Receive → Finished → Finished
+handed (Some r) (Received x) = Last x (released r)
+handed _ f = f
 
 abbrev pub entries_due : Option Coming → ℕ
 entries_due (Some (Into r place)) = 1

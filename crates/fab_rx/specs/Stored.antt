@@ -3,12 +3,12 @@
 --     Lies parcels coming p a      the unexpected message a is the pair p of the matching store
 --     IsWay parcels source stored coming item      what is stored of the item of this source that has arrived and is not whole
 --     HasRoomFor n stored    so many more of its bytes may come
---     IsKept                 all of it but the messages that are claimed
+--     IsKept                 all of it but the messages that are claimed and what is known of multi-receives
 --     IsClaim, AreClaimed    these: pairs of ids and contexts
 --     turned f bytes source xs      where a message leaves that is not whole, another thing stands at its source
---     IsInbox                all of it, with the order of the ids and the numbers of calls
-use Rattle.std.specs.Prelude.{◌≡◌, ℕ, ◌+◌, ◌<◌, ◌≤◌, true, false, List, [], ◌∷◌, length, map, Option, Some, None, is_some, slice_index, slice_index_or, slice_set, vec_capacity}
+use Rattle.std.specs.Prelude.{◌≡◌, ℕ, ◌+◌, ◌<◌, ◌≤◌, ◌^◌, true, false, List, [], ◌∷◌, length, Option, Some, None, is_some, slice_index, slice_index_or, slice_set, vec_capacity}
 use Rattle.std.specs.List.{AllZip}
+use Rattle.std.specs.Option.{option_map}
 use Rattle.fab_base.specs.declared.items.Item.{Item}
 use Rattle.fab_base.specs.declared.items.ItemHead.{ItemHead}
 use Rattle.fab_base.specs.declared.items.Want.{Want}
@@ -24,13 +24,14 @@ use Rattle.fab_model.specs.Arrivals.{way_of}
 use Rattle.fab_match.specs.Signs.{sign_of}
 use Rattle.fab_match.specs.Matcher.{has_id}
 use Rattle.fab_rx.specs.declared.stored.Seat.{Seat}
+use Rattle.fab_rx.specs.declared.stored.Multi.{Multi}
+use Rattle.fab_rx.specs.declared.stored.Waiting.{Waiting}
 use Rattle.fab_rx.specs.declared.stored.Parcel.{Parcel}
 use Rattle.fab_rx.specs.declared.stored.Way.{Way}
-use Rattle.fab_rx.specs.declared.stored.Way.TheVariants.{Into, Keep, Throw, Gather}
+use Rattle.fab_rx.specs.declared.stored.Way.TheVariants.{Into, Part, Keep, Throw, Gather}
 use Rattle.fab_rx.specs.declared.stored.Begun.{Begun}
 use Rattle.fab_rx.specs.declared.results.Seen.{Seen}
 use Rattle.fab_rx.specs.Table.{Cells, at}
-use Rattle.fab_rx.specs.Numbers.{IsNumbered}
 use Rattle.fab_rx.specs.Arriving.{Arriving, IsSingle, begun_of, count_begun}
 
 -- ---- receives
@@ -42,10 +43,23 @@ seat_with r bytes = record { buf = paste r.buf 0 bytes; ctx = r.ctx }
 abbrev pub seat_of : Receive → Seat
 seat_of r = record { buf = r.buf; ctx = r.ctx }
 
-pub record Sits (seats : Cells Seat) (p : ℕ × Want) (r : Receive) : Type 0 where
+-- what a multi-receive has besides
+abbrev pub multi_of : Receive → Option Multi
+multi_of r = option_map (λ least. record { want = r.want; least = least; used = r.used }) r.least
+
+abbrev pub waiting_of : Receive → Waiting
+waiting_of r = record { seat = seat_of r; multi = multi_of r }
+
+-- what a receive gave away is within its buffer, and nothing where it is for one message
+pub record IsFit (r : Receive) : Type 0 where
+  pub single : r.least ≡ None → r.used ≡ 0
+  pub within : r.used ≤ length r.buf
+  pub small : is_some r.least ≡ true → length r.buf < 2 ^ 32
+
+pub record Sits (seats : Cells Waiting) (p : ℕ × Want) (r : Receive) : Type 0 where
   pub want : p.1 ≡ r.want
-  pub seat : at seats p.0 ≡ Some (seat_of r)
-  pub single : IsSingle r
+  pub seat : at seats p.0 ≡ Some (waiting_of r)
+  pub fit : IsFit r
 
 -- ---- unexpected messages
 
@@ -56,6 +70,7 @@ parcel_of a = record { source = a.source; head = a.head; bytes = a.bytes }
 abbrev pub IsKeptWay : ℕ → Way → Type 0
 IsKeptWay id (Keep k bytes) = k ≡ id
 IsKeptWay id (Into seat) = ⊥
+IsKeptWay id (Part k at bytes) = ⊥
 IsKeptWay id Throw = ⊥
 IsKeptWay id (Gather bytes) = ⊥
 
@@ -78,6 +93,7 @@ parcel_without source head = record { source = source; head = head; bytes = None
 
 abbrev pub GoesBy : Cells Parcel → ℕ → Way → Coming → Item → Type 0
 GoesBy parcels source (Into seat) c item = (r : Receive) × (c ≡ IntoReceive r 0) × IsSingle r × (seat ≡ seat_with r item.bytes)
+GoesBy parcels source (Part id at bytes) c item = (r : Receive) × (c ≡ IntoReceive r at) × (bytes.items ≡ item.bytes) × (item.head.total ≤ vec_capacity bytes)
 GoesBy parcels source (Keep id bytes) c item =
     (c ≡ KeepIt) × (bytes.items ≡ item.bytes) × (item.head.total ≤ vec_capacity bytes) × (at parcels id ≡ Some (parcel_without source item.head))
 GoesBy parcels source Throw c item = c ≡ ThrowIt
@@ -96,6 +112,7 @@ IsWay parcels source (Some b) c i = (way : Coming) × (item : Item) × (c ≡ So
 -- how many completions its end writes
 abbrev pub entries_by : Way → ℕ
 entries_by (Into seat) = 1
+entries_by (Part id at bytes) = 1
 entries_by (Keep id bytes) = 0
 entries_by Throw = 0
 entries_by (Gather bytes) = 0
@@ -103,6 +120,7 @@ entries_by (Gather bytes) = 0
 -- so many more bytes of the item have room
 abbrev pub WayHasRoomFor : ℕ → Way → Type 0
 WayHasRoomFor n (Into seat) = Unit {0}
+WayHasRoomFor n (Part id at bytes) = length bytes.items + n ≤ vec_capacity bytes
 WayHasRoomFor n (Keep id bytes) = length bytes.items + n ≤ vec_capacity bytes
 WayHasRoomFor n Throw = Unit {0}
 WayHasRoomFor n (Gather bytes) = length bytes.items + n ≤ vec_capacity bytes
@@ -119,6 +137,7 @@ seen_of p = record { source = p.source; head = p.head; whole = is_some p.bytes }
 -- the bytes that are gathered for a message, in the buffer
 abbrev pub moved : Way → List ℕ → List ℕ
 moved (Into seat) buf = buf
+moved (Part id at bytes) buf = buf
 moved (Keep id bytes) buf = paste buf 0 bytes.items
 moved Throw buf = buf
 moved (Gather bytes) buf = buf
@@ -136,12 +155,11 @@ turned f (Some bytes) source xs = xs
 
 -- ---- all of it
 
-pub record IsKept (posted : List (ℕ × Want)) (unexpected : List (ℕ × Sign)) (room : ℕ) (seats : Cells Seat) (parcels : Cells Parcel) (coming : List (Option Begun)) (v : Arriving) : Type 0 where
+pub record IsKept (posted : List (ℕ × Want)) (unexpected : List (ℕ × Sign)) (room : ℕ) (seats : Cells Waiting) (parcels : Cells Parcel) (coming : List (Option Begun)) (v : Arriving) : Type 0 where
   pub receives : AllZip (Sits seats) posted v.rx.posted
   pub messages : AllZip (Lies parcels coming) unexpected v.rx.unexpected
   pub ways : (s : ℕ) → IsWay parcels s (slice_index_or coming s None) (coming_from v.rx s) (begun_of v s)
-  -- each receive that may be posted has a place
-  pub spare : length seats.free + length posted ≡ v.most
+  pub few : length posted ≤ v.most
   pub most : room ≡ v.most
   -- a member for each peer
   pub peers : length coming ≡ length v.begun
@@ -149,7 +167,6 @@ pub record IsKept (posted : List (ℕ × Want)) (unexpected : List (ℕ × Sign)
   pub heads : length v.rx.heads ≡ length v.begun
   pub tails : length v.rx.tails ≡ length v.begun
   pub under_way : (s : ℕ) → s < length v.begun → slice_index v.rx.heads s ≡ slice_index v.rx.tails s + count_begun (begun_of v s)
-  pub closing : v.rx.closing ≡ []
 
 -- the claimed message c is the pair p of an id and its context
 pub record IsClaim (parcels : Cells Parcel) (coming : List (Option Begun)) (p : ℕ × ℕ) (c : ℕ × Arrival) : Type 0 where
@@ -157,10 +174,10 @@ pub record IsClaim (parcels : Cells Parcel) (coming : List (Option Begun)) (p : 
   pub sign : Sign
   pub lies : Lies parcels coming (p.0, sign) c.1
 
--- no id is claimed twice, and none of an unexpected message is
-abbrev pub AreApart : List (ℕ × Sign) → List (ℕ × ℕ) → Type 0
-AreApart unexpected [] = Unit {0}
-AreApart unexpected (p ∷ claims) = (has_id p.0 unexpected ≡ false) × (has_id p.0 claims ≡ false) × AreApart unexpected claims
+-- no id is twice on the second list, and none of the first is on it
+abbrev pub AreApart : {X Y : Type 0} → List (ℕ × X) → List (ℕ × Y) → Type 0
+AreApart xs [] = Unit {0}
+AreApart xs (p ∷ ys) = (has_id p.0 xs ≡ false) × (has_id p.0 ys ≡ false) × AreApart xs ys
 
 pub record AreClaimed (unexpected : List (ℕ × Sign)) (parcels : Cells Parcel) (coming : List (Option Begun)) (claims : List (ℕ × ℕ)) (capacity : ℕ) (claimed : List (ℕ × Arrival)) : Type 0 where
   pub messages : AllZip (IsClaim parcels coming) claims claimed
@@ -168,11 +185,3 @@ pub record AreClaimed (unexpected : List (ℕ × Sign)) (parcels : Cells Parcel)
   -- each id that is not free is that of a message, and each may be claimed
   pub filed : length parcels.free + length unexpected + length claims ≡ length parcels.cells
   pub reserved : length parcels.cells ≤ capacity
-
-pub record IsInbox (posted : List (ℕ × Want)) (unexpected : List (ℕ × Sign)) (room : ℕ) (seats : Cells Seat) (parcels : Cells Parcel) (coming : List (Option Begun)) (ids : List ℕ) (capacity : ℕ) (claims : List (ℕ × ℕ)) (claimable : ℕ) (v : Arriving) : Type 0 where
-  pub kept : IsKept posted unexpected room seats parcels coming v
-  -- the ids of the receives in the order posted, with room for all that may be
-  pub order : ids ≡ map (λ p. p.0) posted
-  pub reserved : v.most ≤ capacity
-  pub numbers : IsNumbered v.rx.posted v.rx.coming v.next
-  pub aside : AreClaimed unexpected parcels coming claims claimable v.rx.claimed

@@ -1,5 +1,5 @@
 //! Bytes of items, as they come: into a receive's buffer or one of their own.
-ghost use Rattle.std.specs.Prelude.{◌≡◌, ◌+◌, ◌<◌, ◌≤◌, ◌++◌, ℕ, List, None, Some, length, slice_index_or, slice_set, vec_len, vec_capacity};
+ghost use Rattle.std.specs.Prelude.{◌≡◌, ◌+◌, ◌<◌, ◌≤◌, ◌++◌, ℕ, List, Option, None, Some, length, slice_index_or, slice_set, vec_len, vec_capacity};
 ghost use Rattle.fab_base.specs.declared.items.Item.{Item};
 ghost use Rattle.fab_base.specs.declared.operations.Receive.{Receive};
 ghost use Rattle.fab_base.specs.declared.operations.Coming.{Coming};
@@ -9,6 +9,8 @@ ghost use Rattle.fab_rx.specs.Table.{Cells};
 ghost use Rattle.fab_rx.specs.Arriving.{IsSingle, lengthened};
 ghost use Rattle.fab_rx.specs.Results.{completed};
 ghost use Rattle.fab_rx.specs.Stored.{HasRoomFor, IsComing, IsKeptWay, moved, redirected, seat_with, thrown_on};
+ghost use Rattle.fab_rx.specs.declared.stored.Waiting.{Waiting};
+ghost use Rattle.fab_rx.specs.Homes.{GoesHomeBy, is_part_of};
 
 use crate::results::Completed;
 use crate::stored::{Begun, Seat, Way};
@@ -94,6 +96,8 @@ pub fn filled(begun: Begun, bytes: &[u8]) -> Begun
     requires { HasRoomFor (length bytes.now) begun }
     ensures coming { (parcels : Cells Parcel) (source : ℕ) (c : Coming) (item : Item) → IsComing parcels source begun c item → IsComing parcels source result c (lengthened bytes.now item) }
     ensures id { (id : ℕ) → IsKeptWay id begun.way → IsKeptWay id result.way }
+    ensures home { (homes : ℕ → Option ℕ) (calls : ℕ → ℕ) (seats : Cells Waiting) (c : Option Coming) → GoesHomeBy homes calls seats begun.way c → GoesHomeBy homes calls seats result.way c }
+    ensures part { (id : ℕ) → is_part_of id result.way ≡ is_part_of id begun.way }
 {
     let Begun { head, got, way } = begun;
     let more = got + bytes.len() as u32;
@@ -106,6 +110,22 @@ pub fn filled(begun: Begun, bytes: &[u8]) -> Begun
                 ctx,
             }),
         },
+        Way::Part {
+            id,
+            at,
+            bytes: mut gathered,
+        } => {
+            append(&mut gathered, bytes);
+            Begun {
+                head,
+                got: more,
+                way: Way::Part {
+                    id,
+                    at,
+                    bytes: gathered,
+                },
+            }
+        }
         Way::Keep {
             id,
             bytes: mut gathered,
@@ -142,7 +162,7 @@ fn moved_into(way: Way, buf: Buf) -> Buf
 {
     match way {
         Way::Keep { bytes, .. } => placed(buf, 0, bytes.as_slice()),
-        Way::Into(_) | Way::Throw | Way::Gather(_) => buf,
+        Way::Into(_) | Way::Part { .. } | Way::Throw | Way::Gather(_) => buf,
     }
 }
 

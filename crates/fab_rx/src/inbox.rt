@@ -1,20 +1,23 @@
 //! The receive half of an endpoint (fi_msg(3), fi_tagged(3)).
-ghost use Rattle.std.specs.Prelude.{◌≡◌, ◌==◌, ◌+◌, ◌<◌, ◌≤◌, true, false, None, Some, length, IfOk, IfSome, IsSomeAnd, OnOk, OnErr, find, is_some, nat_le, replicate, unwrap_or};
+ghost use Rattle.std.specs.Prelude.{◌≡◌, ◌==◌, ◌+◌, ◌<◌, ◌≤◌, ◌^◌, true, false, None, Some, length, IfOk, IfSome, IsSomeAnd, OnOk, OnErr, Option, find, is_some, nat_le, replicate, unwrap_or};
 ghost use Rattle.std.specs.Option.{option_map};
 ghost use Rattle.fab_model.specs.Matching.{is_message, takes};
 ghost use Rattle.fab_model.specs.State.{coming_from};
 ghost use Rattle.fab_model.specs.Arrivals.{taker, way_of};
 ghost use Rattle.fab_model.specs.Receiving.{cancellable, without_posted};
-ghost use Rattle.fab_rx.specs.Arriving.{IsArriving, arriving, begun_of, finishing, growing, nothing_arrived, posting, receive_by, with_receiving};
+ghost use Rattle.fab_rx.specs.Arriving.{IsArriving, arriving, begun_of, finishing, growing, multi_by, nothing_arrived, opening, posting, receive_by, with_receiving};
 ghost use Rattle.fab_rx.specs.Leaving.{cancelling, is_meant};
-ghost use Rattle.fab_rx.specs.Results.{cancelled, ended, entries_due, posted_as};
+ghost use Rattle.fab_base.specs.declared.operations.Receive.{Receive};
+ghost use Rattle.fab_rx.specs.declared.results.Finished.TheVariants.{Received};
+ghost use Rattle.fab_rx.specs.Results.{cancelled, ended, entries_due, handed, last_of, posted_as, released as released_as};
 
 use crate::filling::{complete, filled, lift, set_down};
+use crate::multis::{give_room, multi_at, part, release};
 use crate::order::{first_meant, strike};
 use crate::outgoing::give;
-use crate::past::{Arrives, Cancels, Finishes, Grows, Opens, Past, Posts};
-use crate::results::{Cancelled, Finished, Posted};
-use crate::stored::{Begun, Parcel, Seat, Way};
+use crate::past::{Arrives, Cancels, Finishes, Grows, Opens, Past, Posts, Shares};
+use crate::results::{Cancelled, Completed, Finished, Posted, Released};
+use crate::stored::{Begun, Multi, Parcel, Seat, Waiting, Way};
 use crate::table::Table;
 use fab_base::{Buf, Item, ItemHead, Kind, NoMemory, Want};
 use fab_match::{Matcher, sign_of};
@@ -24,8 +27,8 @@ use std::alloc::Global;
 use std::collections::VecDeque;
 use std::marker::Model;
 
-/// The receives that are posted, the messages that none of them took, those of them that are claimed,
-/// and of each source the item that has arrived and is not whole.
+/// The receives that are posted, the multi-receives that are closing, the messages that none of them took,
+/// those of them that are claimed, and of each source the item that has arrived and is not whole.
 ///
 /// Contracts see the machine's own lists. Stored is only what is still needed: numbers of calls and of
 /// places, and the bytes that a buffer had no room for, stand in the record alone.
@@ -35,11 +38,12 @@ use std::marker::Model;
 pub struct Inbox<M: Matcher> {
     pub(crate) past: Record<(u32, u32), Past, Opens>,
     pub(crate) matcher: M,
-    pub(crate) seats: Table<Seat>,
+    pub(crate) seats: Table<Waiting>,
     pub(crate) parcels: Table<Parcel>,
     pub(crate) coming: Vec<Option<Begun>>,
     pub(crate) order: VecDeque<u32>,
     pub(crate) claims: Vec<(u32, u64)>,
+    pub(crate) closing: Vec<(u32, u64)>,
     pub(crate) alloc: Global,
 }
 
@@ -47,13 +51,13 @@ impl<M: Matcher> Model for Inbox<M> {
     ghost use Rattle.fab_rx.specs.Arriving.{Arriving};
     ghost use Rattle.std.specs.Prelude.{vec_capacity};
     ghost use Rattle.std.specs.VecDeque.{deque_capacity};
-    ghost use Rattle.fab_rx.specs.Stored.{IsInbox};
+    ghost use Rattle.fab_rx.specs.Whole.{IsInbox};
 
     ghost Value = { Arriving };
 
     ghost view = { λ i. i.past };
 
-    ghost invariant = { λ i. IsInbox (M.posted i.matcher) (M.unexpected i.matcher) (M.room i.matcher) i.seats i.parcels i.coming.items i.order.items (deque_capacity i.order) i.claims.items (vec_capacity i.claims) i.past };
+    ghost invariant = { λ i. IsInbox (M.posted i.matcher) (M.unexpected i.matcher) (M.room i.matcher) i.seats i.parcels i.coming.items i.order.items (deque_capacity i.order) i.claims.items (vec_capacity i.claims) i.closing.items (vec_capacity i.closing) i.past };
 }
 
 fn is_message(kind: Kind) -> bool
@@ -70,9 +74,10 @@ impl<M: Matcher> Inbox<M> {
     pub fn new(alloc: Global, peers: u32, most: u32) -> Result<Inbox<M>, NoMemory>
         ensures { IfOk result (λ inbox. inbox ≡ nothing_arrived peers most) }
     {
-        let seats = free_seats(alloc, most)?;
+        let seats = free_seats(alloc, most, peers)?;
         let coming = nothing_coming(alloc, peers)?;
         let order = VecDeque::with_capacity(alloc, most as usize)?;
+        let closing = Vec::with_capacity(alloc, peers as usize)?;
         let past = Record::new(alloc, &(peers, most))?;
         let matcher = M::new(alloc, most)?;
         Ok(Inbox {
@@ -83,6 +88,7 @@ impl<M: Matcher> Inbox<M> {
             coming,
             order,
             claims: Vec::new(alloc),
+            closing,
             alloc,
         })
     }
@@ -124,7 +130,8 @@ impl<M: Matcher> Inbox<M> {
         Some(parcel.bytes.is_some())
     }
 
-    /// How many completions [`finish`](Inbox::finish) hands out for the item that is begun.
+    /// How many completions of messages [`finish`](Inbox::finish) hands out for the item that is begun. The
+    /// buffer of a multi-receive comes besides.
     pub fn writes(&self, source: u32) -> u32
         requires { source < length self.now.begun }
         ensures { result ≡ entries_due (coming_from self.now.rx source) }
@@ -144,7 +151,8 @@ impl<M: Matcher> Inbox<M> {
     }
 
     /// The first frame of an item: a message goes to the first posted receive that matches it, else to
-    /// the unexpected messages, and memory for its bytes is taken, as for a request or an answer.
+    /// the unexpected messages. Memory for its bytes is taken, as for a request or an answer, but for a
+    /// message that a receive for one message gets.
     /// Nothing of the source may be under way. `NoMemory` changes nothing.
     pub fn arrive(&mut self, source: u32, head: &ItemHead) -> Result<(), NoMemory>
         requires source { source < length self.old.begun }
@@ -155,7 +163,7 @@ impl<M: Matcher> Inbox<M> {
         if !is_message(head.kind) {
             return self.gather(source, head);
         }
-        if self.seat(source, head) {
+        if self.seat(source, head)? {
             return Ok(());
         }
         self.keep(source, head)
@@ -186,14 +194,16 @@ impl<M: Matcher> Inbox<M> {
         Ok(())
     }
 
-    /// A message arrives, where a posted receive takes it, else nothing happens.
-    fn seat(&mut self, source: u32, head: &ItemHead) -> bool
+    /// A message arrives, where a posted receive takes it, else nothing happens. `NoMemory`, only where a
+    /// multi-receive takes it, changes nothing.
+    fn seat(&mut self, source: u32, head: &ItemHead) -> Result<bool, NoMemory>
         requires source { source < length self.old.begun }
         requires nothing { begun_of self.old source ≡ None }
         requires message { is_message head.now.kind ≡ true }
-        ensures taken { result ≡ is_some (taker source head.now self.old.rx) }
-        ensures yes { result ≡ true → self.new ≡ arriving source head.now self.old }
-        ensures no { result ≡ false → self.new ≡ self.old }
+        ensures taken { IfOk result (λ yes. yes ≡ is_some (taker source head.now self.old.rx)) }
+        ensures yes { IfOk result (λ yes. yes ≡ true → self.new ≡ arriving source head.now self.old) }
+        ensures no { IfOk result (λ yes. yes ≡ false → self.new ≡ self.old) }
+        ensures err { OnErr result (self.new ≡ self.old) }
     {
         let Inbox {
             past,
@@ -201,24 +211,33 @@ impl<M: Matcher> Inbox<M> {
             seats,
             coming,
             order,
+            closing,
+            alloc,
             ..
         } = self;
         let Some(id) = matcher.first_posted(&sign_of(source, head)) else {
-            return false;
+            return Ok(false);
         };
+        if let Some(multi) = multi_at(seats, id) {
+            let bytes = Vec::with_capacity(*alloc, head.total as usize)?;
+            give_room(matcher, seats, order, closing, id, head.total);
+            past.note::<(u32, &ItemHead), Arrives>(&(source, head));
+            let at = multi.used;
+            set_down(
+                coming,
+                source,
+                Begun::new(head, Way::Part { id, at, bytes }),
+            );
+            return Ok(true);
+        }
         matcher.remove_posted(id);
         strike(order, id);
-        let Some(seat) = seats.take(id) else {
+        let Some(Waiting { seat, .. }) = seats.take(id) else {
             unreachable!()
         };
         past.note::<(u32, &ItemHead), Arrives>(&(source, head));
-        let begun = Begun {
-            head: *head,
-            got: 0,
-            way: Way::Into(seat),
-        };
-        set_down(coming, source, begun);
-        true
+        set_down(coming, source, Begun::new(head, Way::Into(seat)));
+        Ok(true)
     }
 
     /// A message arrives that no posted receive takes.
@@ -275,17 +294,19 @@ impl<M: Matcher> Inbox<M> {
     }
 
     /// The item that is begun is whole: its receive completes, or it is kept, thrown away or handed
-    /// out, by where it went.
+    /// out, by where it went. The last message of a multi-receive that is closing brings its buffer back.
     pub fn finish(&mut self, source: u32) -> Finished
         requires source { source < length self.old.begun }
         requires whole { IsSomeAnd (begun_of self.old source) (λ item. length item.bytes ≡ item.head.total) }
         ensures new { self.new ≡ finishing source self.old }
-        ensures outcome { IfSome (begun_of self.old source) (λ item. result ≡ ended (coming_from self.old.rx source) source item) }
+        ensures outcome { IfSome (begun_of self.old source) (λ item. result ≡ handed (last_of source self.old) (ended (coming_from self.old.rx source) source item)) }
     {
         let Inbox {
             past,
+            seats,
             parcels,
             coming,
+            closing,
             ..
         } = self;
         let Some(begun) = lift(coming, source) else {
@@ -295,6 +316,12 @@ impl<M: Matcher> Inbox<M> {
         let Begun { head, way, .. } = begun;
         match way {
             Way::Into(seat) => Finished::Received(complete(seat, source, &head)),
+            Way::Part { id, at, bytes } => {
+                let completed = part(seats, id, at, source, &head);
+                seats.place(id, at, bytes.as_slice());
+                let released = release(seats, closing, coming.as_slice(), id);
+                received(completed, released)
+            }
             Way::Keep { id, bytes } => {
                 let parcel = Parcel {
                     source,
@@ -335,7 +362,8 @@ impl<M: Matcher> Inbox<M> {
         } = self;
         past.note::<(&X, &Want, &Buf, u64), Posts<C>>(&(about, &want, &buf, ctx));
         let Some(id) = matcher.first_unexpected(&want) else {
-            let id = seats.put(Seat { buf, ctx });
+            let seat = Seat { buf, ctx };
+            let id = seats.put(Waiting { seat, multi: None });
             order.push_back_reserved(id);
             matcher.add_posted(id, want);
             return Posted::Joined;
@@ -344,35 +372,22 @@ impl<M: Matcher> Inbox<M> {
         give(parcels, coming, id, buf, ctx)
     }
 
-    /// Whether a receive is posted, of this context where one is named.
-    pub fn may_cancel(&self, ctx: Option<u64>) -> bool
-        ensures { result ≡ is_some (cancellable (is_meant ctx) self.now.rx) }
-    {
-        first_meant(&self.order, &self.seats, ctx).is_some()
-    }
-
-    /// The first posted receive of this context leaves, with its buffer (fi_cancel of
-    /// fi_endpoint(3)). `None`, and nothing changes, exactly where none is posted.
-    pub fn cancel(&mut self, ctx: u64) -> Option<Cancelled>
-        ensures found { result ≡ option_map cancelled (cancellable (λ r. r.ctx == ctx) self.old.rx) }
-        ensures rest { self.new ≡ with_receiving (without_posted (λ r. r.ctx == ctx) self.old.rx) self.old }
-    {
-        self.leave(Some(ctx))
-    }
-
-    /// The first posted receive leaves, with its buffer. `None`, and nothing changes, exactly where
-    /// none is posted.
-    pub fn cancel_first(&mut self) -> Option<Cancelled>
-        ensures found { result ≡ option_map cancelled (cancellable (λ r. true) self.old.rx) }
-        ensures rest { self.new ≡ with_receiving (without_posted (λ r. true) self.old.rx) self.old }
-    {
-        self.leave(None)
-    }
-
-    /// The first posted receive leaves, of this context where one is named.
-    fn leave(&mut self, ctx: Option<u64>) -> Option<Cancelled>
-        ensures found { result ≡ option_map cancelled (cancellable (is_meant ctx) self.old.rx) }
-        ensures rest { self.new ≡ cancelling ctx self.old }
+    /// A receive for many untagged messages, one behind the other in its buffer, until fewer than `least`
+    /// bytes are free (FI_MULTI_RECV of fi_msg(3)). It is posted, whatever has arrived: what it matches it
+    /// gets by draws. Fewer receives must be posted than may be. `C` says by which number its call goes,
+    /// above that of each receive posted before.
+    pub fn post_multi<X, C: Caller<X>>(
+        &mut self,
+        about: &X,
+        want: Want,
+        buf: Buf,
+        least: u32,
+        ctx: u64,
+    )
+        requires room { length self.old.rx.posted < self.old.most }
+        requires later { self.old.next ≤ unwrap_or (C.call about.now) 0 }
+        requires small { length buf < 2 ^ 32 }
+        ensures { self.new ≡ opening (multi_by (C.call about.now) want buf least ctx) self.old }
     {
         let Inbox {
             past,
@@ -381,12 +396,62 @@ impl<M: Matcher> Inbox<M> {
             order,
             ..
         } = self;
-        let Some(meant) = first_meant(order, seats, ctx) else {
+        past.note::<(&X, &Want, &Buf, u32, u64), Shares<C>>(&(about, &want, &buf, least, ctx));
+        let seat = Seat { buf, ctx };
+        let multi = Some(Multi {
+            want,
+            least,
+            used: 0,
+        });
+        let id = seats.put(Waiting { seat, multi });
+        order.push_back_reserved(id);
+        matcher.add_posted(id, want);
+    }
+
+    /// Whether a receive is posted to which nothing is under way, of this context where one is named.
+    pub fn may_cancel(&self, ctx: Option<u64>) -> bool
+        ensures { result ≡ is_some (cancellable (is_meant ctx) self.now.rx) }
+    {
+        first_meant(&self.order, &self.seats, self.coming.as_slice(), ctx).is_some()
+    }
+
+    /// The first posted receive of this context to which nothing is under way leaves, with its buffer
+    /// (fi_cancel of fi_endpoint(3)). `None`, and nothing changes, exactly where there is none.
+    pub fn cancel(&mut self, ctx: u64) -> Option<Cancelled>
+        ensures found { result ≡ option_map cancelled (cancellable (λ r. r.ctx == ctx) self.old.rx) }
+        ensures rest { self.new ≡ with_receiving (without_posted (λ r. r.ctx == ctx) self.old.rx) self.old }
+    {
+        self.leave(Some(ctx))
+    }
+
+    /// The first posted receive to which nothing is under way leaves, with its buffer. `None`, and nothing
+    /// changes, exactly where there is none.
+    pub fn cancel_first(&mut self) -> Option<Cancelled>
+        ensures found { result ≡ option_map cancelled (cancellable (λ r. true) self.old.rx) }
+        ensures rest { self.new ≡ with_receiving (without_posted (λ r. true) self.old.rx) self.old }
+    {
+        self.leave(None)
+    }
+
+    /// The first posted receive to which nothing is under way leaves, of this context where one is named.
+    fn leave(&mut self, ctx: Option<u64>) -> Option<Cancelled>
+        ensures found { result ≡ option_map cancelled (cancellable (is_meant ctx) self.old.rx) }
+        ensures rest { self.new ≡ cancelling ctx self.old }
+    {
+        let Inbox {
+            past,
+            matcher,
+            seats,
+            coming,
+            order,
+            ..
+        } = self;
+        let Some(meant) = first_meant(order, seats, coming.as_slice(), ctx) else {
             return None;
         };
         matcher.remove_posted(meant);
         strike(order, meant);
-        let Some(seat) = seats.take(meant) else {
+        let Some(Waiting { seat, .. }) = seats.take(meant) else {
             unreachable!()
         };
         past.note::<Option<u64>, Cancels>(&ctx);
@@ -397,12 +462,13 @@ impl<M: Matcher> Inbox<M> {
     }
 }
 
-/// So many free places for receives.
-fn free_seats(alloc: Global, most: u32) -> Result<Table<Seat>, NoMemory>
-    ensures { IfOk result (λ seats. length seats.free ≡ most) }
+/// So many free places for receives that are posted, and one for each peer, whose item may close a
+/// multi-receive.
+fn free_seats(alloc: Global, most: u32, peers: u32) -> Result<Table<Waiting>, NoMemory>
+    ensures { IfOk result (λ seats. length seats.free ≡ most + peers) }
 {
     let mut seats = Table::new(alloc);
-    for _seat in 0..most {
+    for _seat in 0..most as u64 + peers as u64 {
         seats.grow()?;
     }
     Ok(seats)
@@ -417,6 +483,16 @@ fn nothing_coming(alloc: Global, peers: u32) -> Result<Vec<Option<Begun>>, NoMem
         coming.push(None)?;
     }
     Ok(coming)
+}
+
+/// A message of a multi-receive is whole, the last one where the buffer comes back.
+fn received(completed: Completed, released: Option<Released>) -> Finished
+    ensures { (r : Option Receive) → released ≡ option_map released_as r → result ≡ handed r (Received completed) }
+{
+    match released {
+        None => Finished::Received(completed),
+        Some(released) => Finished::Last(completed, released),
+    }
 }
 
 /// A request or an answer is whole.

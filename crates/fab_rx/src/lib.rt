@@ -7,14 +7,21 @@
 //! completion queue nor the transmit side. A message that no receive took may be looked at, claimed, taken and dropped
 //! (FI_PEEK, FI_CLAIM and FI_DISCARD of fi_tagged(3)): its bytes stay where they are until they leave.
 //!
+//! A multi-receive (FI_MULTI_RECV of fi_msg(3)) stays posted and takes message after message, each at a place of its
+//! own. A message under way to it gathers elsewhere, and comes into its buffer once it is whole. Once too little of the
+//! buffer is free it is closing: it leaves the posted receives, and its buffer comes back with its last message. Draws
+//! are not made yet: [`Inbox::is_draw_due`](inbox::Inbox::is_draw_due) says where one is due.
+//!
 //! Contracts see the machine's own lists with all that ever came. Stored is only what is still needed: a
 //! [`Record`](fab_record::record::Record) holds the rest, and the invariant says how the two belong together.
 #![tactic(auto)]
 
 mod claims;
+pub mod draws;
 mod filling;
 pub mod inbox;
 pub mod looking;
+mod multis;
 mod order;
 mod outgoing;
 mod past;
@@ -23,4 +30,4 @@ mod stored;
 mod table;
 
 pub use inbox::Inbox;
-pub use results::{Cancelled, Completed, Finished, Posted, Seen};
+pub use results::{Cancelled, Completed, Finished, Posted, Released, Seen};

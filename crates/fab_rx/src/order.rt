@@ -1,11 +1,13 @@
 //! The ids of the posted receives in the order posted.
 ghost use Rattle.std.specs.Prelude.{◌≡◌, ◌==◌, find, position};
+ghost use Rattle.std.specs.List.{list_any};
 ghost use Rattle.std.specs.VecDeque.{deque_capacity};
 ghost use Rattle.fab_model.specs.Matching.{remove_first};
 ghost use Rattle.fab_rx.specs.Table.{at};
-ghost use Rattle.fab_rx.specs.Leaving.{is_meant_at};
+ghost use Rattle.fab_rx.specs.Homes.{is_fed_by};
+ghost use Rattle.fab_rx.specs.Leaving.{is_meant_at, may_leave_at};
 
-use crate::stored::Seat;
+use crate::stored::{Begun, Waiting};
 use crate::table::Table;
 use std::collections::VecDeque;
 
@@ -27,21 +29,52 @@ pub fn strike(order: &mut VecDeque<u32>, id: u32)
 }
 
 /// Whether the receive under an id has this context, where one is named.
-fn is_meant(seats: &Table<Seat>, id: u32, ctx: Option<u64>) -> bool
+fn is_meant(seats: &Table<Waiting>, id: u32, ctx: Option<u64>) -> bool
     ensures { result ≡ is_meant_at ctx (at seats.now id) }
 {
-    let Some(seat) = seats.get(id) else {
+    let Some(waiting) = seats.get(id) else {
         return false;
     };
     match ctx {
         None => true,
-        Some(ctx) => seat.ctx == ctx,
+        Some(ctx) => waiting.seat.ctx == ctx,
     }
 }
 
-/// The first id whose receive has this context, where one is named.
-pub fn first_meant(order: &VecDeque<u32>, seats: &Table<Seat>, ctx: Option<u64>) -> Option<u32>
-    ensures { result ≡ find (λ id. is_meant_at ctx (at seats.now id)) order.now.items }
+fn is_part(begun: &Option<Begun>, id: u32) -> bool
+    ensures { result ≡ is_fed_by id begun.now }
 {
-    order.iter().copied().find(|id| is_meant(seats, *id, ctx))
+    match begun {
+        None => false,
+        Some(begun) => begun.is_part_of(id),
+    }
+}
+
+/// Whether an item is under way to the multi-receive under an id.
+pub fn is_fed(coming: &[Option<Begun>], id: u32) -> bool
+    ensures { result ≡ list_any (is_fed_by id) coming.now }
+{
+    coming.iter().any(|begun| is_part(begun, id))
+}
+
+/// Whether the receive under an id has this context, where one is named, and nothing is under way to it.
+fn may_leave(seats: &Table<Waiting>, coming: &[Option<Begun>], id: u32, ctx: Option<u64>) -> bool
+    ensures { result ≡ may_leave_at ctx seats.now coming.now id }
+{
+    is_meant(seats, id, ctx) && !is_fed(coming, id)
+}
+
+/// The first id whose receive has this context, where one is named, and to which nothing is under way.
+pub fn first_meant(
+    order: &VecDeque<u32>,
+    seats: &Table<Waiting>,
+    coming: &[Option<Begun>],
+    ctx: Option<u64>,
+) -> Option<u32>
+    ensures { result ≡ find (may_leave_at ctx seats.now coming.now) order.now.items }
+{
+    order
+        .iter()
+        .copied()
+        .find(|id| may_leave(seats, coming, *id, ctx))
 }

@@ -1,7 +1,7 @@
 //! What is recorded of the receive half: contracts see it, no code stores it.
 ghost use Rattle.std.specs.Prelude.{ℕ};
 ghost use Rattle.fab_rx.specs.Leaving.{cancelling};
-ghost use Rattle.fab_rx.specs.Arriving.{arriving, finishing, growing, nothing_arrived, posting, receive_by};
+ghost use Rattle.fab_rx.specs.Arriving.{arriving, finishing, growing, multi_by, nothing_arrived, opening, posting, receive_by};
 ghost use Rattle.fab_rx.specs.Claims.{any_tagged, claiming_first, discarding, dropping, taking};
 
 use fab_base::{Buf, ItemHead, Want};
@@ -59,6 +59,14 @@ pub struct Posts<C> {
 
 impl<'a, X, C: Caller<X>> Change<(&'a X, &'a Want, &'a Buf, u64), Past> for Posts<C> {
     ghost after = { λ x v. posting (receive_by (C.call x.0.now) x.1.now x.2.now x.3) v };
+}
+
+pub struct Shares<C> {
+    caller: PhantomData<C>,
+}
+
+impl<'a, X, C: Caller<X>> Change<(&'a X, &'a Want, &'a Buf, u32, u64), Past> for Shares<C> {
+    ghost after = { λ x v. opening (multi_by (C.call x.0.now) x.1.now x.2.now x.3 x.4) v };
 }
 
 pub struct Claims;

@@ -29,11 +29,20 @@ pub struct Seen {
     pub whole: bool,
 }
 
-/// What became of an item that is whole: a receive got it, it is kept among the unexpected messages,
-/// it was thrown away, or it is a request or the answer to one.
+/// A multi-receive that is over, with its buffer, of which so many bytes were given away.
+#[derive(Drop)]
+pub struct Released {
+    pub ctx: u64,
+    pub used: u32,
+    pub buf: Buf,
+}
+
+/// What became of an item that is whole: a receive got it (the last one of a multi-receive), it is kept
+/// among the unexpected messages, it was thrown away, or it is a request or the answer to one.
 #[derive(Drop)]
 pub enum Finished {
     Received(Completed),
+    Last(Completed, Released),
     Kept(ItemHead),
     Thrown(ItemHead),
     Request(Item),

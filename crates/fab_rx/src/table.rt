@@ -12,8 +12,8 @@ use std::marker::Model;
 /// Only `new` and `grow` take memory.
 #[derive(Drop)]
 pub struct Table<T> {
-    cells: Vec<Option<T>>,
-    free: Vec<u32>,
+    pub(crate) cells: Vec<Option<T>>,
+    pub(crate) free: Vec<u32>,
 }
 
 impl<T> Model for Table<T> {

@@ -29,6 +29,8 @@ invariant_of-self-2 g c =
       order = c.self.invariant.order;
       reserved = c.self.invariant.reserved;
       numbers = c.self.invariant.numbers;
+      shared = c.self.invariant.shared;
+      closable = c.self.invariant.closable;
       aside = aside_claims _ _ _ _ _ _ _ c.self.invariant.kept _ _ c.self.invariant.aside c.args.want.now c.args.ctx c.in-Some.id (sym c.in-Some.ensures.first) _ rest c.remove_unexpected.ensures.gone;
     })
 

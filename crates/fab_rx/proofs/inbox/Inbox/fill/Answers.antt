@@ -1,6 +1,7 @@
-use Rattle.std.proofs.Common.{◌≤◌, ◌+◌, ◌<◌, ◌∙◌, length, subst, sym, set, Some}
+use Rattle.std.proofs.Common.{◌≤◌, ◌+◌, ◌<◌, ◌∙◌, length, length-set, subst, sym, set, Some}
 use Rattle.std.specs.Prelude.{IsSomeAnd}
 use Rattle.fab_rx.specs.Arriving.{Arriving, begun_of}
+use Rattle.fab_rx.proofs.Moving.{multi_grown}
 use Rattle.fab_rx.proofs.Growing.{claims_grown, item_there, grows_by}
 use Rattle.fab_rx.proofs.inbox.Inbox.fill.Goals as goal
 
@@ -16,5 +17,7 @@ invariant_of-self g c =
       order = c.self.invariant.order;
       reserved = c.self.invariant.reserved;
       numbers = c.self.invariant.numbers;
+      shared = multi_grown _ _ _ _ _ _ _ c.self.invariant.kept _ c.self.invariant.shared source within c.in-Some.begun c.in-Some.ensures.value c.filled.result c.args.bytes.now _ after (λ way. c.filled.ensures.home _ _ _ way) c.filled.ensures.part;
+      closable = rw (after, length-set, length-set) c.self.invariant.closable;
       aside = claims_grown _ _ _ _ _ _ _ c.self.invariant.kept source within there.0 there.1 c.in-Some.begun c.in-Some.ensures.value _ _ c.self.invariant.aside c.filled.result c.args.bytes.now _ after c.filled.ensures.id;
     })

@@ -1,7 +1,8 @@
-use Rattle.std.proofs.Common.{◌≡◌, ◌<◌, None, length, subst, sym}
+use Rattle.std.proofs.Common.{◌≡◌, ◌<◌, None, length, length-set, refl, subst, sym}
 use Rattle.fab_rx.specs.Arriving.{Arriving, begun_of}
 use Rattle.fab_rx.proofs.Keeping.{gathers}
 use Rattle.fab_rx.proofs.Claiming.{claims_arrived}
+use Rattle.fab_rx.proofs.Moving.{multi_gather}
 use Rattle.fab_rx.proofs.Numbering.{numbers_gather}
 use Rattle.fab_rx.proofs.inbox.Inbox.gather.Goals as goal
 
@@ -15,5 +16,7 @@ invariant_of-self-2 g c =
       order = c.self.invariant.order;
       reserved = c.self.invariant.reserved;
       numbers = numbers_gather c.self.inside.past c.self.invariant.numbers source c.args.head.now c.requires.other;
+      shared = multi_gather _ _ _ _ _ _ _ c.self.invariant.kept _ c.self.invariant.shared source c.args.head.now within nothing _ c.in_ok-bytes.bytes refl c.requires.other;
+      closable = rw length-set c.self.invariant.closable;
       aside = claims_arrived _ _ _ _ _ _ _ c.self.invariant.kept _ _ c.self.invariant.aside source c.args.head.now within nothing _;
     })

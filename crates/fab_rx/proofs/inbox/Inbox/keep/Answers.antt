@@ -1,7 +1,8 @@
-use Rattle.std.proofs.Common.{◌≡◌, ◌<◌, ◌≤◌, ◌∙◌, None, length, vec_capacity, subst, sym, arith}
+use Rattle.std.proofs.Common.{◌≡◌, ◌<◌, ◌≤◌, ◌∙◌, None, length, length-set, vec_capacity, refl, subst, sym, arith}
 use Rattle.fab_model.specs.Arrivals.{taker}
 use Rattle.fab_rx.specs.Arriving.{Arriving, begun_of}
 use Rattle.fab_rx.proofs.Claiming.{claims_kept, claims_most, claims_widened}
+use Rattle.fab_rx.proofs.Moving.{multi_keep}
 use Rattle.fab_rx.proofs.Numbering.{numbers_keep}
 use Rattle.fab_rx.proofs.Keeping.{fresh_message, keeps, widened}
 use Rattle.fab_rx.proofs.inbox.Inbox.keep.Goals as goal
@@ -23,6 +24,8 @@ invariant_of-self-in_err-add_unexpected g c =
       order = c.self.invariant.order;
       reserved = c.self.invariant.reserved;
       numbers = c.self.invariant.numbers;
+      shared = c.self.invariant.shared;
+      closable = c.self.invariant.closable;
       aside = rw c.reserve.ensures.items (claims_widened _ _ _ _ _ _ c.self.invariant.aside c.make_room.new.self _ c.make_room.ensures.same c.make_room.ensures.more fits);
     })
 
@@ -43,6 +46,8 @@ invariant_of-self-2 g c =
           c.sign_of.ensures.exact untaken c.in_ok-bytes.ensures.items c.in_ok-bytes.ensures.capacity c.put-id.ensures.within c.put-id.ensures.cells;
       order = c.self.invariant.order;
       reserved = c.self.invariant.reserved;
+      shared = multi_keep _ _ _ _ _ _ _ c.self.invariant.kept _ c.self.invariant.shared source c.args.head.now within nothing _ c.put-id.result c.in_ok-bytes.bytes refl c.requires.message untaken;
+      closable = rw length-set c.self.invariant.closable;
       numbers = numbers_keep c.self.inside.past c.self.invariant.numbers source c.args.head.now c.requires.message untaken;
       aside = rw c.reserve.ensures.items
           (claims_kept _ _ _ _ _ _ _ c.self.invariant.kept _ _ c.self.invariant.aside source c.args.head.now within nothing c.requires.message c.put-id.result c.make_room.new.self c.make_room.ensures.same c.put-id.ensures.empty c.make_room.ensures.more c.sign_of.result _ _ _ _ c.put-id.ensures.cells c.put-id.ensures.free fits);

@@ -1,0 +1,36 @@
+-- For the crates above: what bytes in a multi-receive leave as it was, and what holds where no multi-receive was posted.
+use Rattle.std.proofs.Common.{◌≡◌, ℕ, Bool, true, false, List, Option, Some, None, refl, sym, subst}
+use Rattle.fab_base.specs.declared.operations.Receive.{Receive}
+use Rattle.fab_base.specs.declared.operations.Coming.{Coming}
+use Rattle.fab_base.specs.declared.operations.Coming.TheVariants.{Into, Keep, Throw, Request, Answer}
+use Rattle.fab_model.specs.State.{Receiving, coming_from, under_way}
+use Rattle.fab_model.specs.Complete.{filling}
+use Rattle.fab_rx.specs.Arriving.{Arriving, GoesToSingle, IsPlain, begun_of, bytes_come, shared, without_closed}
+use Rattle.fab_model.specs.Arrivals.{made_whole}
+use Rattle.fab_rx.specs.Results.{closed_if, last_by, last_of}
+
+-- the messages and what is coming stay as they were
+pub record IsSameBesides (rx after : Receiving) : Type 0 where
+  pub unexpected : after.unexpected ≡ rx.unexpected
+  pub claimed : after.claimed ≡ rx.claimed
+  pub coming : after.coming ≡ rx.coming
+
+pub shared_besides : (o : Option ℕ) (r : Receive) (place : ℕ) (bytes : List ℕ) (rx : Receiving) → IsSameBesides rx (shared o r place bytes rx)
+shared_besides None r place bytes rx = record { unexpected = refl; claimed = refl; coming = refl }
+shared_besides (Some least) r place bytes rx = by (under_way (filling r place bytes rx) r.call) refl
+  where
+    by : (b : Bool) → under_way (filling r place bytes rx) r.call ≡ b → IsSameBesides rx (without_closed r.call (filling r place bytes rx))
+    by true is = rw (is, without_closed) (record { unexpected = refl; claimed = refl; coming = refl })
+    by false is = rw (is, without_closed) (record { unexpected = refl; claimed = refl; coming = refl })
+
+last_plain : (c : Option Coming) (bytes : List ℕ) (rx : Receiving) → GoesToSingle c → last_by c bytes rx ≡ None
+last_plain None bytes rx single = refl
+last_plain (Some (Into r place)) bytes rx single = subst (λ (o : Option ℕ). closed_if o r.call (filling r place bytes rx) ≡ None) (sym single.0.least) refl
+last_plain (Some Keep) bytes rx single = refl
+last_plain (Some Throw) bytes rx single = refl
+last_plain (Some Request) bytes rx single = refl
+last_plain (Some Answer) bytes rx single = refl
+
+-- no buffer comes back
+pub nothing_last : (v : Arriving) → IsPlain v.rx → (source : ℕ) → last_of source v ≡ None
+nothing_last v plain source = last_plain (coming_from v.rx source) (bytes_come (begun_of v source)) (made_whole source v.rx) (plain.into source)

@@ -1,0 +1,242 @@
+//! Multi-receives (FI_MULTI_RECV of fi_msg(3)): one buffer for many messages, one behind the other.
+//!
+//! A message under way to one gathers in a buffer of its own, and comes into the multi-receive's once it is
+//! whole: so what is lent of that buffer does not change under a message that is not.
+ghost use Rattle.std.specs.Prelude.{◌≡◌, ◌+◌, ◌-◌, ◌<◌, ◌≤◌, ◌==◌, ◌++◌, ◌∷◌, ℕ, List, [], true, false, None, Some, IsSome, IsSomeAnd, IfSome, OnSome, cond, length, is_some, position, slice_set, vec_capacity, vec_len};
+ghost use Rattle.std.specs.Option.{option_map};
+ghost use Rattle.std.specs.VecDeque.{deque_capacity};
+ghost use Rattle.fab_base.specs.declared.operations.Receive.{Receive};
+ghost use Rattle.fab_model.specs.Matching.{remove_first};
+ghost use Rattle.fab_match.specs.Matcher.{has_id, without};
+ghost use Rattle.fab_rx.specs.declared.stored.Waiting.{Waiting};
+ghost use Rattle.fab_rx.specs.Table.{at};
+ghost use Rattle.fab_rx.specs.Sharing.{IsUsable, is_over, is_spent, kept_or, left_by, multi_at, multi_in, placed_in, released_of, used_up_by};
+ghost use Rattle.fab_rx.specs.Results.{completed};
+
+use crate::filling::{placed, tag_of};
+use crate::order::{is_fed, strike};
+use crate::results::{Completed, Released};
+use crate::stored::{Begun, Multi, Seat, Waiting};
+use crate::table::Table;
+use fab_base::{Entry, ErrEntry, ErrKind, ItemHead, Taken};
+use fab_match::Matcher;
+use std::collections::VecDeque;
+
+impl Waiting {
+    /// So many more bytes are given away, as far as there are.
+    fn used_up(self, total: u32) -> Waiting
+        requires usable { IsUsable self }
+        ensures { result ≡ used_up_by total self }
+    {
+        let Waiting { seat, multi } = self;
+        let Some(multi) = multi else {
+            return Waiting { seat, multi: None };
+        };
+        let free = seat.buf.as_slice().len() - multi.used as usize;
+        let used = multi.used + (total as usize).min(free) as u32;
+        Waiting {
+            seat,
+            multi: Some(Multi {
+                want: multi.want,
+                least: multi.least,
+                used,
+            }),
+        }
+    }
+
+    /// Whether it has less free than it must have to stay posted.
+    fn is_spent(&self) -> bool
+        ensures { result ≡ is_spent self.now }
+    {
+        let Some(multi) = self.multi else {
+            return false;
+        };
+        let free = self
+            .seat
+            .buf
+            .as_slice()
+            .len()
+            .saturating_sub(multi.used as usize);
+        free < multi.least as usize
+    }
+
+    /// The bytes come into its buffer from the place on, as many as fit.
+    fn placed(self, start: u32, bytes: &[u8]) -> Waiting
+        ensures { result ≡ placed_in start bytes.now self }
+    {
+        let Waiting { seat, multi } = self;
+        let Seat { buf, ctx } = seat;
+        Waiting {
+            seat: Seat {
+                buf: placed(buf, start as usize, bytes),
+                ctx,
+            },
+            multi,
+        }
+    }
+}
+
+/// What the receive under an id has as a multi-receive.
+pub fn multi_at(seats: &Table<Waiting>, id: u32) -> Option<Multi>
+    ensures { result ≡ multi_at seats.now id }
+{
+    let Some(waiting) = seats.get(id) else {
+        return None;
+    };
+    waiting.multi
+}
+
+impl Table<Waiting> {
+    /// The multi-receive under an id gives so many more bytes away, as far as there are. Its context,
+    /// where it must leave the posted receives.
+    fn use_up(&mut self, id: u32, total: u32) -> Option<u64>
+        requires usable { IsSomeAnd (at self.old id) IsUsable }
+        ensures cells { self.new.cells ≡ slice_set self.old.cells id (option_map (used_up_by total) (at self.old id)) }
+        ensures free { self.new.free ≡ self.old.free }
+        ensures left { result ≡ left_by total (at self.old id) }
+    {
+        let Some(waiting) = self.cells[id as usize].take() else {
+            unreachable!()
+        };
+        let waiting = waiting.used_up(total);
+        let left = if waiting.is_spent() {
+            Some(waiting.seat.ctx)
+        } else {
+            None
+        };
+        self.cells[id as usize] = Some(waiting);
+        left
+    }
+
+    /// Bytes come into the buffer of the receive under an id, from the place on.
+    pub fn place(&mut self, id: u32, start: u32, bytes: &[u8])
+        requires { IsSome (at self.old id) }
+        ensures cells { self.new.cells ≡ slice_set self.old.cells id (option_map (placed_in start bytes.now) (at self.old id)) }
+        ensures free { self.new.free ≡ self.old.free }
+    {
+        let Some(waiting) = self.cells[id as usize].take() else {
+            unreachable!()
+        };
+        self.cells[id as usize] = Some(waiting.placed(start, bytes));
+    }
+}
+
+/// The multi-receive under an id gives room to a message of this length. It leaves the posted receives,
+/// for those that are closing, where too little is left.
+pub fn give_room<M: Matcher>(
+    matcher: &mut M,
+    seats: &mut Table<Waiting>,
+    order: &mut VecDeque<u32>,
+    closing: &mut Vec<(u32, u64)>,
+    id: u32,
+    total: u32,
+)
+    requires usable { IsSomeAnd (at seats.old id) IsUsable }
+    requires room { vec_len closing.old < vec_capacity closing.old }
+    ensures cells { seats.new.cells ≡ slice_set seats.old.cells id (option_map (used_up_by total) (at seats.old id)) }
+    ensures free { seats.new.free ≡ seats.old.free }
+    ensures posted { M.posted matcher.new ≡ kept_or (left_by total (at seats.old id)) (M.posted matcher.old) (without id (M.posted matcher.old)) }
+    ensures gone { is_some (left_by total (at seats.old id)) ≡ true → has_id id (M.posted matcher.new) ≡ false }
+    ensures unexpected { M.unexpected matcher.new ≡ M.unexpected matcher.old }
+    ensures most { M.room matcher.new ≡ M.room matcher.old }
+    ensures order { order.new.items ≡ kept_or (left_by total (at seats.old id)) order.old.items (remove_first (λ other. other == id) order.old.items) }
+    ensures capacity { deque_capacity order.new ≡ deque_capacity order.old }
+    ensures closing { (ctx : ℕ) → left_by total (at seats.old id) ≡ Some ctx → closing.new.items ≡ closing.old.items ++ (id, ctx) ∷ [] }
+    ensures open { left_by total (at seats.old id) ≡ None → closing.new.items ≡ closing.old.items }
+    ensures closable { vec_capacity closing.new ≡ vec_capacity closing.old }
+{
+    let Some(ctx) = seats.use_up(id, total) else {
+        return;
+    };
+    matcher.remove_posted(id);
+    strike(order, id);
+    closing.push_reserved((id, ctx));
+}
+
+/// The completion of a message in the multi-receive under an id, from the place on: a success, or
+/// `Truncated` where it is longer than what was free (fi_cq(3)).
+pub fn part(seats: &Table<Waiting>, id: u32, start: u32, source: u32, head: &ItemHead) -> Completed
+    requires { IsSome (at seats.now id) }
+    ensures { (w : Waiting) (r : Receive) (bytes : List ℕ) → at seats.now id ≡ Some w → is_some r.least ≡ true → w.seat.ctx ≡ r.ctx → length w.seat.buf ≡ length r.buf → result ≡ completed r start source head.now bytes }
+{
+    let Some(waiting) = seats.get(id) else {
+        unreachable!()
+    };
+    let ctx = waiting.seat.ctx;
+    let space = waiting
+        .seat
+        .buf
+        .as_slice()
+        .len()
+        .saturating_sub(start as usize);
+    if head.total as usize <= space {
+        return Completed {
+            entry: Taken::Success(Entry::Part {
+                ctx,
+                source,
+                imm: head.imm,
+                at: start,
+                len: head.total,
+            }),
+            good: true,
+            source,
+            head: *head,
+        };
+    }
+    let len = space as u32;
+    Completed {
+        entry: Taken::Failure(ErrEntry {
+            ctx: Some(ctx),
+            kind: ErrKind::Truncated,
+            source: Some(source),
+            tag: tag_of(head),
+            imm: head.imm,
+            at: Some(start),
+            len,
+            olen: head.total - len,
+            buf: None,
+        }),
+        good: false,
+        source,
+        head: *head,
+    }
+}
+
+fn place_of(closing: &[(u32, u64)], id: u32) -> Option<usize>
+    ensures { result ≡ position (λ closed. closed.0 == id) closing.now }
+{
+    closing.iter().position(|closed| closed.0 == id)
+}
+
+/// The multi-receive under an id is over, where it is closing and no item is under way to it: its buffer
+/// comes back.
+pub fn release(
+    seats: &mut Table<Waiting>,
+    closing: &mut Vec<(u32, u64)>,
+    coming: &[Option<Begun>],
+    id: u32,
+) -> Option<Released>
+    requires there { has_id id closing.old.items ≡ true → IsSome (multi_at seats.old id) }
+    ensures buffer { result ≡ cond (is_over coming.now closing.old.items id) (option_map released_of (at seats.old id)) None }
+    ensures cells { seats.new.cells ≡ cond (is_over coming.now closing.old.items id) (slice_set seats.old.cells id None) seats.old.cells }
+    ensures free { length seats.new.free ≡ cond (is_over coming.now closing.old.items id) (length seats.old.free + 1) (length seats.old.free) }
+    ensures rest { closing.new.items ≡ cond (is_over coming.now closing.old.items id) (without id closing.old.items) closing.old.items }
+    ensures closable { vec_capacity closing.new ≡ vec_capacity closing.old }
+{
+    if is_fed(coming, id) {
+        return None;
+    }
+    let Some(place) = place_of(closing.as_slice(), id) else {
+        return None;
+    };
+    closing.remove(place);
+    let Some(Waiting { seat, multi }) = seats.take(id) else {
+        unreachable!()
+    };
+    let Some(multi) = multi else { unreachable!() };
+    Some(Released {
+        ctx: seat.ctx,
+        used: multi.used,
+        buf: seat.buf,
+    })
+}
