@@ -6,6 +6,10 @@
 use fab_base::{NoMemory, Status, Text};
 use fab_host::{FileDepot, OpenGate, OutSink, WallClock, carry_out};
 use std::alloc::Global;
+use std::io::Write;
+use std::rt::Files;
+use std::sync::Wait;
+use std::thread::Threads;
 use std::{io, rt};
 
 /// The scripts, in the folder in which the program runs.
@@ -37,7 +41,10 @@ fn ending(status: &Status) -> &'static str {
 }
 
 /// Runs one script.
-fn run_one(rt: &HostRuntime, script: &str) -> io::Result<()> {
+fn run_one<R, E: Write + Drop>(rt: &R, errors: E, script: &str) -> io::Result<()>
+where
+    R: Files + rt::Clock + Print + AllocGlobal + Threads + Wait + Sync,
+{
     let alloc = rt.alloc();
     println!(rt; "== {}", script)?;
     let Ok(words) = words(alloc, script) else {
@@ -46,7 +53,7 @@ fn run_one(rt: &HostRuntime, script: &str) -> io::Result<()> {
     let mut depot = FileDepot::new(rt);
     let mut sink = OutSink::new(io::writer(rt));
     let mut clock = WallClock::new(rt);
-    let mut errors = OutSink::new(rt.stderr());
+    let mut errors = OutSink::new(errors);
     let ended = carry_out(
         rt,
         alloc,
@@ -62,7 +69,7 @@ fn run_one(rt: &HostRuntime, script: &str) -> io::Result<()> {
 
 fn main(rt: HostRuntime) -> io::Result<()> {
     for script in SCRIPTS {
-        run_one(&rt, script)?;
+        run_one(&rt, rt.stderr(), script)?;
     }
     Ok(())
 }
