@@ -30,15 +30,14 @@ use Rattle.fab_base.specs.declared.items.Atom.{Atom}
 use Rattle.fab_base.specs.declared.items.AtomicOp.{AtomicOp}
 use Rattle.fab_base.specs.declared.items.Num.{Num}
 use Rattle.fab_base.specs.declared.items.Form.{Form}
-use Rattle.std.specs.Prelude.{◌&&◌, ◌==◌, nat_le, nat_lt, map, find, zip, is_some, slice_index, slice_set}
+use Rattle.std.specs.Prelude.{◌==◌, map, find, is_some, slice_get, slice_index, slice_set, take, drop, Contains}
 use Rattle.std.specs.Option.{option_map}
 use Rattle.fab_base.specs.declared.items.Item.{Item}
 use Rattle.fab_base.specs.declared.entries.Class.{Class}
-use Rattle.fab_base.specs.declared.operations.Coming.{Coming}
-use Rattle.fab_base.specs.declared.operations.Coming.TheVariants.{Into}
+use Rattle.fab_base.specs.declared.entries.Entry.TheVariants.{Released}
 use Rattle.fab_av.specs.Addresses.{inserting}
 use Rattle.fab_av.specs.declared.addresses.InsertReport.{InsertReport}
-use Rattle.fab_model.specs.Peers.{unread, multi_buf}
+use Rattle.fab_model.specs.Peers.{unread, multi_buf, part_of}
 use Rattle.fab_face.specs.declared.events.Moved.{Moved}
 use Rattle.fab_face.specs.declared.events.Stop.{Stop}
 use Rattle.fab_face.specs.declared.events.Stop.TheVariants.{Idle, Budget, CqFull as StoppedCqFull, LogFull as StoppedLogFull}
@@ -290,21 +289,22 @@ adding class n s = record s { counters = slice_set s.counters (class_place class
 abbrev pub multi_of : Held → ℕ → Option ℕ
 multi_of h ctx = option_map (λ (m : ℕ × ℕ). m.1) (find (λ (m : ℕ × ℕ). m.0 == ctx) h.multis)
 
--- an item under way covers this place of the buffer of the receive that this call made
-abbrev pub covers : ℕ → ℕ → Option Coming × Option Item → Bool
-covers call k (Some (Into r place), Some item) = (r.call == call) && nat_le place k && nat_lt k (place + item.head.total)
-covers call k _ = false
-
-abbrev pub is_covered : Held → ℕ → ℕ → Bool
-is_covered h call k = list_any (covers call k) (zip h.state.rx.coming h.begun)
-
--- the bytes are the machine's, outside the places of items under way
+-- the bytes are the machine's: those of items that are whole
 pub record Lends (h : Held) (ctx at len : ℕ) (bytes : List ℕ) : Type 0 where
   pub call : ℕ
   pub is : multi_of h ctx ≡ Some call
   pub within : at + len ≤ length (multi_buf h.state (Some call))
-  pub count : length bytes ≡ len
-  pub same : (k : ℕ) → k < len → is_covered h call (at + k) ≡ false → slice_index bytes k ≡ slice_index (multi_buf h.state (Some call)) (at + k)
+  pub same : bytes ≡ take len (drop at (multi_buf h.state (Some call)))
 
 abbrev pub LendsNone : Held → ℕ → ℕ → ℕ → Type 0
 LendsNone h ctx at len = (multi_of h ctx ≡ None) ⊎ ((call : ℕ) × (multi_of h ctx ≡ Some call) × (length (multi_buf h.state (Some call)) < at + len))
+
+-- an unread entry is of a multi-receive whose end was not read, and the place that it names lies within the buffer
+pub record IsSharedBy (h : Held) (w : Written) : Type 0 where
+  pub parts : (ctx at len : ℕ) → part_of w.entry ≡ Some (ctx, at, len) → (call : ℕ) × (w.call ≡ Some call) × Contains h.multis (ctx, call) × (at + len ≤ length (multi_buf h.state (Some call)))
+  pub ends : (ctx used : ℕ) (buf : List ℕ) → w.entry ≡ Success (Released ctx used buf) → (call : ℕ) × (w.call ≡ Some call) × Contains h.multis (ctx, call)
+
+-- what is unread of multi-receives is of those whose end was not read, each of a call of its own
+pub record IsSharing (h : Held) : Type 0 where
+  pub unread : (i : ℕ) (w : Written) → h.state.cq.taken_out ≤ i → slice_get h.state.cq.written i ≡ Some w → IsSharedBy h w
+  pub once : (c d call : ℕ) → Contains h.multis (c, call) → Contains h.multis (d, call) → c ≡ d

@@ -4,6 +4,7 @@ pub mod Answers
 pub mod Ports
 pub mod Looking
 pub mod Machine
+pub mod Multis
 pub mod Targets
 pub mod Requesting
 pub mod Keeping

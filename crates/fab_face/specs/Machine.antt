@@ -10,7 +10,6 @@ use Rattle.fab_base.specs.declared.items.Kind.TheVariants.{Msg, TagMsg}
 use Rattle.fab_base.specs.declared.items.Item.{Item}
 use Rattle.fab_base.specs.declared.frames.Frame.{Frame}
 use Rattle.fab_model.specs.State.{State, lookup}
-use Rattle.fab_model.specs.Receiving.{draw_due}
 use Rattle.fab_model.specs.Sending.{do_sent}
 use Rattle.fab_model.specs.Calls.{Call, Cancel, CancelFirst, message}
 use Rattle.fab_face.specs.declared.machine.Message.{Message}
@@ -19,7 +18,7 @@ use Rattle.fab_face.specs.Held.{Held, begun_of, next_item, AreItems, IsOut, coun
 use Rattle.fab_face.specs.Acts.{is_first}
 use Rattle.fab_face.specs.Answers.{receive_call}
 
--- the sizes make sense, every list by peer has a member for each, addresses are of peers, and no draw is due
+-- the sizes make sense, every list by peer has a member for each, and addresses are of peers
 pub record IsSteady (h : Held) : Type 0 where
   pub cq : 2 ≤ h.state.cq.size
   pub read : h.state.cq.taken_out ≤ length h.state.cq.written
@@ -34,7 +33,6 @@ pub record IsSteady (h : Held) : Type 0 where
   pub items : AreItems h
   pub out : IsOut h
   pub addressed : (i t : ℕ) → lookup h.state.av i ≡ Some t → t < length h.places
-  pub still : draw_due h.state.rx ≡ false
 
 abbrev pub IsNext : Option Item → Frame → Type 0
 IsNext None f = is_first f ≡ true

@@ -11,7 +11,7 @@ ghost use Rattle.fab_av.specs.Addresses.{inserting};
 ghost use Rattle.fab_model.specs.State.{tally_of, awaits, add_capped};
 ghost use Rattle.fab_model.specs.Calls.{TakeClaimed, DropClaimed, Cancel, CancelFirst, Look, Remove, Reg, Close, Put, message, request, atomic, is_peer, region_of};
 ghost use Rattle.fab_face.specs.Held.{Seen, IsOpen, with_machine};
-ghost use Rattle.fab_face.specs.Answers.{Sends, SendsNot, Receives, ReceivesNot, Progressed, Locally, Pops, PopsNot, PopsNotErr, ReadsOn, receive_call, atom, Inserts, adding, Lends, LendsNone};
+ghost use Rattle.fab_face.specs.Answers.{Sends, SendsNot, Receives, ReceivesNot, Progressed, Locally, Pops, PopsNot, PopsNotErr, ReadsOn, receive_call, atom, Inserts, adding, IsSharing, Lends, LendsNone};
 ghost use Rattle.std.specs.Option.{option_map};
 
 use crate::events::{Event, Moved};
@@ -225,6 +225,10 @@ pub trait Looks: Sees {
 
 /// Buffers for many untagged messages (FI_MULTI_RECV of fi_msg(3)).
 pub trait Multis: Sees {
+    /// Does nothing, and tells what holds of multi-receives between calls.
+    fn sharing(&self)
+        ensures { IsSharing (Self.seen self.now).held };
+
     /// Posts a buffer for many untagged messages, until fewer than `min` bytes are free (FI_MULTI_RECV).
     fn recv_multi(
         &mut self,
@@ -236,8 +240,9 @@ pub trait Multis: Sees {
         ensures ok { OnOk result (Receives (receive_call false source 0 0 buf (Some min) ctx) (Self.seen self.old) (Self.seen self.new)) }
         ensures err { IfErr result (λ r. (r.buf ≡ buf) × ReceivesNot (receive_call false source 0 0 buf (Some min) ctx) (Self.seen self.old) (Self.seen self.new) r.why) };
 
-    /// Lends bytes of the oldest multi-receive of this context whose buffer has not come back. They are
-    /// what came, but for the places of messages that are still arriving.
+    /// Lends bytes of the oldest multi-receive of this context whose buffer has not come back. They are the bytes of
+    /// messages that are whole; a message that is still arriving has not changed them. `None` exactly where there is no such
+    /// multi-receive, or where the bytes would end behind its buffer.
     fn multi_bytes(&self, ctx: u64, at: u32, len: u32) -> Option<&[u8]>
         ensures some { IfSome result (λ bytes. Lends (Self.seen self.now).held ctx at len bytes.now) }
         ensures none { IfNone result (LendsNone (Self.seen self.now).held ctx at len) };

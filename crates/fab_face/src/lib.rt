@@ -13,5 +13,6 @@ pub mod events;
 pub mod keeping;
 pub mod looking;
 pub mod machine;
+pub mod multis;
 pub mod requesting;
 pub mod targets;

@@ -6,12 +6,14 @@ ghost use Rattle.fab_base.specs.declared.entries.Taken.TheVariants.{Success, Fai
 ghost use Rattle.fab_wire.specs.Frames.{frame, IsSound};
 ghost use Rattle.fab_model.specs.State.{fits, in_use, awaits, lookup};
 ghost use Rattle.fab_model.specs.Sending.{do_sent};
+ghost use Rattle.fab_model.specs.Receiving.{draw_due};
+ghost use Rattle.fab_model.specs.Arrivals.{do_draw};
 ghost use Rattle.fab_model.specs.Calls.{do_call};
 ghost use Rattle.fab_model.specs.Peers.{unread};
 ghost use Rattle.fab_base.specs.declared.faults.Fault.TheVariants.{NoEntry};
 ghost use Rattle.fab_base.specs.declared.operations.Written.{Written};
 ghost use Rattle.fab_face.specs.Held.{Held, next_item, begun_of};
-ghost use Rattle.fab_face.specs.Acts.{Goes, Took, DoesCall, has_read};
+ghost use Rattle.fab_face.specs.Acts.{Goes, Took, Drew, DoesCall, has_read};
 ghost use Rattle.fab_face.specs.Answers.{FrameLacks, PopsNot, PopsNotErr, is_final};
 ghost use Rattle.fab_face.specs.Machine.{IsSteady, IsNext, StayNext, finished, gone_on, sending, asking, cancelling};
 
@@ -102,6 +104,21 @@ pub trait Machine {
         ensures no { result ≡ Ok false → FrameLacks (held self.old) source (frame head.now bytes.now) }
         ensures stays { result ≡ Ok false → held self.new ≡ held self.old }
         ensures err { OnErr result (held self.new ≡ held self.old) };
+
+    // ---- draws (FI_MULTI_RECV of fi_msg(3))
+
+    /// Whether a posted multi-receive matches an unexpected message.
+    fn is_draw_due(&self) -> bool
+        ensures { result ≡ draw_due (held self.now).state.rx };
+
+    /// Makes the draw that is due: the first such multi-receive takes the first message that it matches. False
+    /// where what this writes has no room in the completion queue, and then nothing changes.
+    fn draw(&mut self) -> bool
+        requires { draw_due (held self.old).state.rx ≡ true }
+        ensures yes { result ≡ true → Goes None (held self.old) Drew (held self.new) }
+        ensures next { StayNext (held self.old).state (held self.new).state }
+        ensures no { result ≡ false → fits (do_draw (held self.old).state).cq ≡ false }
+        ensures stays { result ≡ false → held self.new ≡ held self.old };
 
     // ---- messages
 
