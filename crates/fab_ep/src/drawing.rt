@@ -85,10 +85,7 @@ impl<P: Port, C: Machine> Endpoint<P, C> {
         let full = Fault::Again(Busy::LogFull(self.log_size));
         let short = is_short(&self.log, self.log_size);
         self.draw_all();
-        if short {
-            return Err(full);
-        }
-        if self.is_cramped() {
+        if short || self.is_cramped() {
             return Err(full);
         }
         Ok(())
