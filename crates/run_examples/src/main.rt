@@ -13,7 +13,7 @@ use std::thread::Threads;
 use std::{io, rt};
 
 /// The scripts, in the folder in which the program runs.
-const SCRIPTS: [&str; 8] = [
+const SCRIPTS: [&str; 9] = [
     "empty.fabric",
     "canceled.fabric",
     "stuck.fabric",
@@ -22,6 +22,7 @@ const SCRIPTS: [&str; 8] = [
     "looks.fabric",
     "onesided.fabric",
     "atomics.fabric",
+    "files.fabric",
 ];
 
 /// The words of the command that runs a script.
