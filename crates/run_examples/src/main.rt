@@ -13,7 +13,7 @@ use std::thread::Threads;
 use std::{io, rt};
 
 /// The scripts, in the folder in which the program runs.
-const SCRIPTS: [&str; 7] = [
+const SCRIPTS: [&str; 9] = [
     "empty.fabric",
     "canceled.fabric",
     "stuck.fabric",
@@ -21,6 +21,8 @@ const SCRIPTS: [&str; 7] = [
     "large.fabric",
     "looks.fabric",
     "onesided.fabric",
+    "atomics.fabric",
+    "files.fabric",
 ];
 
 /// The words of the command that runs a script.
