@@ -110,7 +110,7 @@ apart_alone ps [] a = tt
 apart_alone ps (c ∷ cs) a = (refl, a.1, apart_alone ps cs a.2)
 
 module _ (ps : List (ℕ × Want)) (us : List (ℕ × Sign)) (room : ℕ) (seats : Cells Waiting) (parcels : Cells Parcel) (coming : List (Option Begun)) (v : Arriving) (kept : IsKept ps us room seats parcels coming v)
-    (cs : List (ℕ × ℕ)) (m : AreMulti ps cs seats coming v.rx.posted v.rx.closing v.rx.coming v.next v.multi v.most) where
+    (cs : List (ℕ × ℕ)) (m : AreMulti ps cs seats coming v.rx.posted v.rx.closing v.rx.coming v.next v.multis v.most) where
   pub fewer_closing : (source : ℕ) → source < length coming → get_or coming source None ≡ None → length cs < length coming
   fewer_closing source below idle = closing_less coming source cs below idle (apart_alone ps cs m.apart) m.live
 

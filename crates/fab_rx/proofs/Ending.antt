@@ -23,7 +23,7 @@ use Rattle.fab_rx.specs.declared.stored.Way.{Way}
 use Rattle.fab_rx.specs.declared.stored.Way.TheVariants.{Into, Part, Keep, Throw, Gather}
 use Rattle.fab_rx.specs.declared.stored.Begun.{Begun}
 use Rattle.fab_rx.specs.Table.{Cells, at}
-use Rattle.fab_rx.specs.Arriving.{Arriving, begun_of, bytes_come, finishing, shared, without_closed}
+use Rattle.fab_rx.specs.Arriving.{Arriving, begun_of, bytes_come, finishing, id_in, shared, without_closed}
 use Rattle.fab_rx.specs.Stored.{AreApart, GoesBy, IsFit, IsKept, IsKeptWay, Lies, Sits, waiting_of}
 use Rattle.fab_rx.specs.Homes.{AreMulti, GoesHome, GoesHomeBy, IsFed, IsHome, IsPart, Rests, is_fed_by, is_part_of, no_pairs}
 use Rattle.fab_rx.specs.Sharing.{is_over, placed_in}
@@ -126,12 +126,12 @@ lacks_out id (x ∷ xs) apart = by (x.0 == id) refl (lacks_out id xs apart.2)
     by true e more = rw (e, remove_first) (subst (λ (k : ℕ). has_id k xs ≡ false) (eqb-true x.0 id e) apart.1)
     by false e more = rw (e, remove_first) (rw e more)
 
-released_as : (y : Receive) → is_some y.least ≡ true → released_of (waiting_of y) ≡ released y
-released_as y multi = by y.least refl
+pub released_as : (v : Arriving) (id : ℕ) (y : Receive) → id_in v.multis y.call ≡ Some id → is_some y.least ≡ true → released_of id (waiting_of y) ≡ released v y
+released_as v id y known multi = by y.least refl
   where
-    by : (o : Option ℕ) → y.least ≡ o → released_of (waiting_of y) ≡ released y
+    by : (o : Option ℕ) → y.least ≡ o → released_of id (waiting_of y) ≡ released v y
     by None e = absurd (let no : false ≡ true = rw e at multi in cc)
-    by (Some least) e = rw e refl
+    by (Some least) e = rw (e, known) refl
 
 -- ---- an item goes to the multi-receive exactly where it goes to its id
 
@@ -148,7 +148,7 @@ fed_alike homes calls seats id r part None c g = rw g refl
 fed_alike homes calls seats id r part (Some b) c g = fed_by_way homes calls seats id r part b.way c g
 
 module _ (ps : List (ℕ × Want)) (us : List (ℕ × Sign)) (room : ℕ) (seats : Cells Waiting) (parcels : Cells Parcel) (coming : List (Option Begun)) (v : Arriving) (kept : IsKept ps us room seats parcels coming v)
-    (cs : List (ℕ × ℕ)) (m : AreMulti ps cs seats coming v.rx.posted v.rx.closing v.rx.coming v.next v.multi v.most) (source : ℕ) (within : source < length v.begun) (item : Item) (begun : begun_of v source ≡ Some item)
+    (cs : List (ℕ × ℕ)) (m : AreMulti ps cs seats coming v.rx.posted v.rx.closing v.rx.coming v.next v.multis v.most) (source : ℕ) (within : source < length v.begun) (item : Item) (begun : begun_of v source ≡ Some item)
     (b : Begun) (is_stored : Some b ≡ get_or coming source None) (id place : ℕ) (bytes : Vec ℕ Global) (way : b.way ≡ Part id place bytes) where
   abbrev home : GoesHomeBy m.homes m.calls seats (Part id place bytes) (coming_from v.rx source)
   home = subst (λ (w : Way). GoesHomeBy m.homes m.calls seats w (coming_from v.rx source)) way (subst (λ (o : Option Begun). GoesHome m.homes m.calls seats o (coming_from v.rx source)) (sym is_stored) (m.ways source))
@@ -233,7 +233,7 @@ module _ (ps : List (ℕ × Want)) (us : List (ℕ × Sign)) (room : ℕ) (seats
     begun = set v.begun source None;
     most = v.most;
     next = v.next;
-    multi = v.multi;
+    multis = v.multis;
   }
 
   pub finishing_open : list_any (is_fed_by id) after ≡ true → finishing source v ≡ ended_as closing_then
@@ -346,8 +346,8 @@ module _ (ps : List (ℕ × Want)) (us : List (ℕ × Sign)) (room : ℕ) (seats
         pub kept_open : IsKept ps us room last parcels after (finishing source v)
         kept_open = rw same_ended (kept_ended last closing_then (retied (Sits others) (Sits last) ps posted_then (λ p y t. sits_at others last p y (at_last p.0) t) posted_sits))
 
-        pub multi_open : length last.free ≡ length others.free → others.free ≡ seats.free → AreMulti ps cs last after (finishing source v).rx.posted (finishing source v).rx.closing (finishing source v).rx.coming v.next v.multi v.most
-        multi_open count free = subst (λ (x : Arriving). AreMulti ps cs last after x.rx.posted x.rx.closing x.rx.coming v.next v.multi v.most) (sym same_ended) (record {
+        pub multi_open : length last.free ≡ length others.free → others.free ≡ seats.free → AreMulti ps cs last after (finishing source v).rx.posted (finishing source v).rx.closing (finishing source v).rx.coming v.next v.multis v.most
+        multi_open count free = subst (λ (x : Arriving). AreMulti ps cs last after x.rx.posted x.rx.closing x.rx.coming v.next v.multis v.most) (sym same_ended) (record {
           homes = m.homes;
           calls = m.calls;
           posted_home = home_then;
@@ -358,6 +358,9 @@ module _ (ps : List (ℕ × Want)) (us : List (ℕ × Sign)) (room : ℕ) (seats
           live = live_then cs m.live goes_on;
           fresh = m.fresh;
           plain = m.plain;
+          ids = m.ids;
+          numbers = m.numbers;
+          back = m.back;
           spare = let spare = m.spare in let same = ap length free in let long = length-set coming source None in omega arith;
         })
 
@@ -385,8 +388,8 @@ module _ (ps : List (ℕ × Want)) (us : List (ℕ × Sign)) (room : ℕ) (seats
           rw (home.1, begun, last_some r least.0 least.1 place item.bytes (made_whole source v.rx))
           (found_last r.call (record (made_whole source v.rx) { posted = posted_then; closing = closing_then }) (still_fed ∙ unfed) ∙ the_last.3)
 
-      pub buffer_over : option_map released_of (at others id) ≡ option_map released (last_of source v)
-      buffer_over = ap (option_map released_of) (ap (at others) (sym the_last.2) ∙ the_last.4.seat) ∙ ap (λ x. Some x) (released_as the_last.1 the_last.4.multi) ∙ sym (ap (option_map released) last_over)
+      pub buffer_over : option_map (released_of id) (at others id) ≡ option_map (released v) (last_of source v)
+      buffer_over = ap (option_map (released_of id)) (ap (at others) (sym the_last.2) ∙ the_last.4.seat) ∙ ap (λ x. Some x) (released_as v id the_last.1 (sym (m.ids the_last.1.call) ∙ the_last.4.home ∙ ap (λ k. Some k) the_last.2) the_last.4.multi) ∙ sym (ap (option_map (released v)) last_over)
 
       module _ (last : Cells Waiting) (gone : last.cells ≡ set others.cells id None) where
         pub kept_over : IsKept ps us room last parcels after (finishing source v)
@@ -394,9 +397,9 @@ module _ (ps : List (ℕ × Want)) (us : List (ℕ × Sign)) (room : ℕ) (seats
             rw (finishing_over unfed) (kept_ended last (remove_first (is_made_by r.call) closing_then)
             (retied_but (Sits others) (Sits last) id ps posted_then (λ p y other t. sits_at others last p y (at_other others last id None gone p.0 other) t) (apart_of ps cs id closes m.apart) posted_sits))
 
-        pub multi_over : length last.free ≡ length others.free + 1 → others.free ≡ seats.free → AreMulti ps (without id cs) last after (finishing source v).rx.posted (finishing source v).rx.closing (finishing source v).rx.coming v.next v.multi v.most
+        pub multi_over : length last.free ≡ length others.free + 1 → others.free ≡ seats.free → AreMulti ps (without id cs) last after (finishing source v).rx.posted (finishing source v).rx.closing (finishing source v).rx.coming v.next v.multis v.most
         multi_over more free =
-            subst (λ (x : Arriving). AreMulti ps (without id cs) last after x.rx.posted x.rx.closing x.rx.coming v.next v.multi v.most) (sym (finishing_over unfed)) (record {
+            subst (λ (x : Arriving). AreMulti ps (without id cs) last after x.rx.posted x.rx.closing x.rx.coming v.next v.multis v.most) (sym (finishing_over unfed)) (record {
               homes = m.homes;
               calls = m.calls;
               posted_home = home_then;
@@ -412,15 +415,18 @@ module _ (ps : List (ℕ × Want)) (us : List (ℕ × Sign)) (room : ℕ) (seats
               live = live_then (without id cs) (all_fewer (λ c. c.0 == id) (IsFed coming) cs m.live) (inr (lacks_out id cs (apart_alone ps cs m.apart)));
               fresh = m.fresh;
               plain = m.plain;
+              ids = m.ids;
+              numbers = m.numbers;
+              back = m.back;
               spare = let spare = m.spare in let same = ap length free in let count = length-set coming source None in let out = one_out id cs closes in omega arith;
             })
 
     -- ---- either
 
-    pub buffer_part : cond (is_over after cs id) (option_map released_of (at others id)) None ≡ option_map released (last_of source v)
+    pub buffer_part : cond (is_over after cs id) (option_map (released_of id) (at others id)) None ≡ option_map (released v) (last_of source v)
     buffer_part = by (is_over after cs id) refl
       where
-        by : (x : Bool) → is_over after cs id ≡ x → cond (is_over after cs id) (option_map released_of (at others id)) None ≡ option_map released (last_of source v)
+        by : (x : Bool) → is_over after cs id ≡ x → cond (is_over after cs id) (option_map (released_of id) (at others id)) None ≡ option_map (released v) (last_of source v)
         by true e = let yes = is_over_yes after cs id e in rw e (buffer_over yes.0 yes.1)
         by false e = rw (e, last_open (is_over_no after cs id e)) refl
 
@@ -433,15 +439,15 @@ module _ (ps : List (ℕ × Want)) (us : List (ℕ × Sign)) (room : ℕ) (seats
           by false e = kept_open (is_over_no after cs id e) last (rw e at cells)
 
       pub multi_part : length last.free ≡ cond (is_over after cs id) (length others.free + 1) (length others.free) → others.free ≡ seats.free → (rest : List (ℕ × ℕ)) → rest ≡ cond (is_over after cs id) (without id cs) cs
-          → AreMulti ps rest last after (finishing source v).rx.posted (finishing source v).rx.closing (finishing source v).rx.coming v.next v.multi v.most
+          → AreMulti ps rest last after (finishing source v).rx.posted (finishing source v).rx.closing (finishing source v).rx.coming v.next v.multis v.most
       multi_part count free rest are = by (is_over after cs id) refl
         where
-          by : (x : Bool) → is_over after cs id ≡ x → AreMulti ps rest last after (finishing source v).rx.posted (finishing source v).rx.closing (finishing source v).rx.coming v.next v.multi v.most
+          by : (x : Bool) → is_over after cs id ≡ x → AreMulti ps rest last after (finishing source v).rx.posted (finishing source v).rx.closing (finishing source v).rx.coming v.next v.multis v.most
           by true e =
               let yes = is_over_yes after cs id e in
-              subst (λ (xs : List (ℕ × ℕ)). AreMulti ps xs last after (finishing source v).rx.posted (finishing source v).rx.closing (finishing source v).rx.coming v.next v.multi v.most) (sym (rw e at are)) (multi_over yes.0 yes.1 last (rw e at cells) (rw e at count) free)
+              subst (λ (xs : List (ℕ × ℕ)). AreMulti ps xs last after (finishing source v).rx.posted (finishing source v).rx.closing (finishing source v).rx.coming v.next v.multis v.most) (sym (rw e at are)) (multi_over yes.0 yes.1 last (rw e at cells) (rw e at count) free)
           by false e =
-              subst (λ (xs : List (ℕ × ℕ)). AreMulti ps xs last after (finishing source v).rx.posted (finishing source v).rx.closing (finishing source v).rx.coming v.next v.multi v.most) (sym (rw e at are)) (multi_open (is_over_no after cs id e) last (rw e at cells) (rw e at count) free)
+              subst (λ (xs : List (ℕ × ℕ)). AreMulti ps xs last after (finishing source v).rx.posted (finishing source v).rx.closing (finishing source v).rx.coming v.next v.multis v.most) (sym (rw e at are)) (multi_open (is_over_no after cs id e) last (rw e at cells) (rw e at count) free)
 
   -- the multi-receive is there when it is to be released
   pub part_there : (others : Cells Waiting) → others.cells ≡ set seats.cells id (option_map (placed_in place bytes.items) (at seats id)) → IsSome (multi_at others id)
@@ -498,26 +504,26 @@ module _ (ps : List (ℕ × Want)) (us : List (ℕ × Sign)) (room : ℕ) (seats
   goes_by : (way : Way) → b.way ≡ way → GoesBy parcels source way s.way item
   goes_by way e = subst (λ (w : Way). GoesBy parcels source w s.way item) (ap (λ (x : Begun). x.way) (sym same_begun) ∙ e) s.coming.way
 
-  becomes : (f : Finished) → last_by (Some s.way) (bytes_come (begun_of v source)) (made_whole source v.rx) ≡ None → f ≡ ended (Some s.way) source item → f ≡ handed (last_of source v) (ended (coming_from v.rx source) source item)
-  becomes f none is = rw s.comes (is ∙ sym (ap (λ (o : Option Receive). handed o (ended (Some s.way) source item)) none))
+  becomes : (f : Finished) → last_by (Some s.way) (bytes_come (begun_of v source)) (made_whole source v.rx) ≡ None → f ≡ ended (Some s.way) source item → f ≡ handed v (last_of source v) (ended (coming_from v.rx source) source item)
+  becomes f none is = rw s.comes (is ∙ sym (ap (λ (o : Option Receive). handed v o (ended (Some s.way) source item)) none))
 
-  pub outcome_into : (seat : Seat) → b.way ≡ Into seat → (x : Completed) → ((r : Receive) (bytes : List ℕ) → IsSingle r → seat ≡ seat_with r bytes → x ≡ completed r 0 source b.head bytes) → Received x ≡ handed (last_of source v) (ended (coming_from v.rx source) source item)
+  pub outcome_into : (seat : Seat) → b.way ≡ Into seat → (x : Completed) → ((r : Receive) (bytes : List ℕ) → IsSingle r → seat ≡ seat_with r bytes → x ≡ completed r 0 source b.head bytes) → Received x ≡ handed v (last_of source v) (ended (coming_from v.rx source) source item)
   outcome_into seat e x made =
       let goes = goes_by (Into seat) e in
       becomes (Received x) (ap (λ w. last_by (Some w) (bytes_come (begun_of v source)) (made_whole source v.rx)) goes.1 ∙ last_single goes.0 0 (bytes_come (begun_of v source)) (made_whole source v.rx) goes.2.least)
       (rw goes.1 (ap (λ x. Received x) (made goes.0 item.bytes goes.2 goes.3 ∙ ap (λ h. completed goes.0 0 source h item.bytes) headed)))
 
-  pub outcome_kept : (id : ℕ) (bytes : Vec ℕ Global) → b.way ≡ Keep id bytes → Kept b.head ≡ handed (last_of source v) (ended (coming_from v.rx source) source item)
+  pub outcome_kept : (id : ℕ) (bytes : Vec ℕ Global) → b.way ≡ Keep id bytes → Kept b.head ≡ handed v (last_of source v) (ended (coming_from v.rx source) source item)
   outcome_kept id bytes e =
       let goes = goes_by (Keep id bytes) e in
       becomes (Kept b.head) (ap (λ w. last_by (Some w) (bytes_come (begun_of v source)) (made_whole source v.rx)) goes.0) (rw goes.0 (ap (λ h. Kept h) headed))
 
-  pub outcome_thrown : b.way ≡ Throw → Thrown b.head ≡ handed (last_of source v) (ended (coming_from v.rx source) source item)
+  pub outcome_thrown : b.way ≡ Throw → Thrown b.head ≡ handed v (last_of source v) (ended (coming_from v.rx source) source item)
   outcome_thrown e =
       let goes = goes_by Throw e in
       becomes (Thrown b.head) (ap (λ w. last_by (Some w) (bytes_come (begun_of v source)) (made_whole source v.rx)) goes) (rw goes (ap (λ h. Thrown h) headed))
 
-  pub outcome_gathered : (bytes : Vec ℕ Global) → b.way ≡ Gather bytes → (buf : List ℕ) → buf ≡ bytes.items → (f : Finished) → f ≡ ended (Some (way_of b.head.kind)) 0 (record { head = b.head; bytes = buf }) → f ≡ handed (last_of source v) (ended (coming_from v.rx source) source item)
+  pub outcome_gathered : (bytes : Vec ℕ Global) → b.way ≡ Gather bytes → (buf : List ℕ) → buf ≡ bytes.items → (f : Finished) → f ≡ ended (Some (way_of b.head.kind)) 0 (record { head = b.head; bytes = buf }) → f ≡ handed v (last_of source v) (ended (coming_from v.rx source) source item)
   outcome_gathered bytes e buf all f is =
       let goes = goes_by (Gather bytes) e in
       let whole : record { head = b.head; bytes = buf } ≡ item = λ i. record { head = headed i; bytes = (all ∙ goes.1) i } in

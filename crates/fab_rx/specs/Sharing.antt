@@ -6,7 +6,7 @@
 --     kept_or o xs ys        the first list where nothing leaves, else the second one
 --     placed_in at bytes w   the bytes are in its buffer, from the place on
 --     is_over coming cs id   it is among those that are closing, and no item is under way to it
---     released_of w          its buffer comes back
+--     released_of id w       its buffer comes back
 use Rattle.std.specs.Prelude.{ℕ, ◌+◌, ◌-◌, ◌<◌, ◌≤◌, ◌^◌, ◌&&◌, min, nat_lt, Bool, true, false, not, List, length, Option, Some, None, IfSome}
 use Rattle.std.specs.List.{list_any}
 use Rattle.std.specs.Option.{option_map}
@@ -58,5 +58,5 @@ abbrev pub used_in : Option Multi → ℕ
 used_in None = 0
 used_in (Some m) = m.used
 
-abbrev pub released_of : Waiting → Released
-released_of w = record { ctx = w.seat.ctx; used = used_in w.multi; buf = w.seat.buf }
+abbrev pub released_of : ℕ → Waiting → Released
+released_of id w = record { id = id; ctx = w.seat.ctx; used = used_in w.multi; buf = w.seat.buf }

@@ -217,7 +217,7 @@ pub fn release(
     id: u32,
 ) -> Option<Released>
     requires there { has_id id closing.old.items ≡ true → IsSome (multi_at seats.old id) }
-    ensures buffer { result ≡ cond (is_over coming.now closing.old.items id) (option_map released_of (at seats.old id)) None }
+    ensures buffer { result ≡ cond (is_over coming.now closing.old.items id) (option_map (released_of id) (at seats.old id)) None }
     ensures cells { seats.new.cells ≡ cond (is_over coming.now closing.old.items id) (slice_set seats.old.cells id None) seats.old.cells }
     ensures free { length seats.new.free ≡ cond (is_over coming.now closing.old.items id) (length seats.old.free + 1) (length seats.old.free) }
     ensures rest { closing.new.items ≡ cond (is_over coming.now closing.old.items id) (without id closing.old.items) closing.old.items }
@@ -235,6 +235,7 @@ pub fn release(
     };
     let Some(multi) = multi else { unreachable!() };
     Some(Released {
+        id,
         ctx: seat.ctx,
         used: multi.used,
         buf: seat.buf,

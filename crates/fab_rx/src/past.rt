@@ -65,8 +65,8 @@ pub struct Shares<C> {
     caller: PhantomData<C>,
 }
 
-impl<'a, X, C: Caller<X>> Change<(&'a X, &'a Want, &'a Buf, u32, u64), Past> for Shares<C> {
-    ghost after = { λ x v. opening (multi_by (C.call x.0.now) x.1.now x.2.now x.3 x.4) v };
+impl<'a, X, C: Caller<X>> Change<(&'a X, &'a Want, &'a Buf, u32, u64, u32), Past> for Shares<C> {
+    ghost after = { λ x v. opening x.5 (multi_by (C.call x.0.now) x.1.now x.2.now x.3 x.4) v };
 }
 
 pub struct Claims;

@@ -40,7 +40,7 @@ invariant_of-self g c =
     let fit : IsFit r = record { single = λ alone. refl; within = omega arith; small = λ some. absurd (cc) } in
     let new = fresh_seat _ _ _ _ _ _ _ c.self.invariant.kept c.put-id.result c.put-id.ensures.empty in
     rw (c.note.ensures, c.add_posted.ensures.posted, c.add_posted.ensures.unexpected, c.add_posted.ensures.room, none) (record {
-      kept = joins _ _ _ _ _ _ _ c.self.invariant.kept c.put-id.result c.put-id.ensures.empty r fit (less none) c.put-id.new.self c.put-id.ensures.within c.put-id.ensures.cells (r.call + 1) c.self.inside.past.multi;
+      kept = joins _ _ _ _ _ _ _ c.self.invariant.kept c.put-id.result c.put-id.ensures.empty r fit (less none) c.put-id.new.self c.put-id.ensures.within c.put-id.ensures.cells (r.call + 1) c.self.inside.past.multis;
       order = joined _ _ _ (c.put-id.result, c.args.want) c.self.invariant.order c.push_back_reserved.ensures.items;
       reserved = rw c.push_back_reserved.ensures.capacity c.self.invariant.reserved;
       numbers = rw none at (numbers_join c.self.inside.past c.self.invariant.numbers r later none);
