@@ -37,7 +37,7 @@ module _ (ps : List (ℕ × Want)) (us : List (ℕ × Sign)) (room : ℕ) (seats
       by (Some least) e =
           rw e (found_alike (Lies parcels coming) (λ sign. fits r.want sign) (takes r.want) (lies_agrees r.want parcels coming) us v.rx.unexpected kept.messages ∙ some_found (takes r.want) v.rx.unexpected)
 
-  draws_agree : (p : ℕ × Want) (r : Receive) → Sits seats p r → draws_at seats us p.0 ≡ draws v.rx.unexpected r
+  pub draws_agree : (p : ℕ × Want) (r : Receive) → Sits seats p r → draws_at seats us p.0 ≡ draws v.rx.unexpected r
   draws_agree p r t = ap (λ o. draws_by us (multi_in o)) t.seat ∙ draws_of r
 
   pub due_where : (o : Option ℕ) → find (draws_at seats us) (map (λ p. p.0) ps) ≡ o → is_some o ≡ draw_due v.rx

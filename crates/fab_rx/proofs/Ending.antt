@@ -24,8 +24,8 @@ use Rattle.fab_rx.specs.declared.stored.Way.TheVariants.{Into, Part, Keep, Throw
 use Rattle.fab_rx.specs.declared.stored.Begun.{Begun}
 use Rattle.fab_rx.specs.Table.{Cells, at}
 use Rattle.fab_rx.specs.Arriving.{Arriving, begun_of, bytes_come, finishing, id_in, shared, without_closed}
-use Rattle.fab_rx.specs.Stored.{AreApart, GoesBy, IsFit, IsKept, IsKeptWay, Lies, Sits, waiting_of}
-use Rattle.fab_rx.specs.Homes.{AreMulti, GoesHome, GoesHomeBy, IsFed, IsHome, IsPart, Rests, is_fed_by, is_part_of, no_pairs}
+use Rattle.fab_rx.specs.Stored.{AreApart, GoesBy, IsFit, IsKept, IsKeptWay, IsWay, Lies, Sits, waiting_of}
+use Rattle.fab_rx.specs.Homes.{AreMulti, GoesHome, GoesHomeBy, IsFed, IsHome, IsPart, Rests, is_fed_by, is_part_of, no_pairs, part_id, part_in}
 use Rattle.fab_rx.specs.Sharing.{is_over, placed_in}
 use Rattle.fab_rx.proofs.Pasting.{length_paste_at}
 use Rattle.fab_rx.proofs.Tables.{id_within}
@@ -52,44 +52,44 @@ use Rattle.fab_rx.proofs.Sharing.{IsLike, any_alike, any_at, any_set, home_like,
 -- ---- one receive
 
 -- two tests are alike where each follows from the other
-eqb_alike : (a b c d : ℕ) → (c ≡ d → a ≡ b) → (a ≡ b → c ≡ d) → (a == b) ≡ (c == d)
+pub eqb_alike : (a b c d : ℕ) → (c ≡ d → a ≡ b) → (a ≡ b → c ≡ d) → (a == b) ≡ (c == d)
 eqb_alike a b c d to from = by (c == d) refl
   where
     by : (x : Bool) → (c == d) ≡ x → (a == b) ≡ (c == d)
     by true e = eq-eqb a b (to (eqb-true c d e)) ∙ sym e
     by false e = ne_eqb a b (λ same. (let no : true ≡ false = sym (eq-eqb c d (from same)) ∙ e in absurd (cc))) ∙ sym e
 
-some_least : (r : Receive) → is_some r.least ≡ true → (least : ℕ) × (r.least ≡ Some least)
+pub some_least : (r : Receive) → is_some r.least ≡ true → (least : ℕ) × (r.least ≡ Some least)
 some_least r multi = by r.least refl
   where
     by : (o : Option ℕ) → r.least ≡ o → (least : ℕ) × (r.least ≡ Some least)
     by None e = absurd (let no : false ≡ true = rw e at multi in cc)
     by (Some least) e = (least, e)
 
-fit_filled : (place : ℕ) (bytes : List ℕ) (r : Receive) → IsFit r → IsFit (filled place bytes r)
+pub fit_filled : (place : ℕ) (bytes : List ℕ) (r : Receive) → IsFit r → IsFit (filled place bytes r)
 fit_filled place bytes r fit =
     let same = length_paste_at r.buf bytes place in
     record { single = fit.single; within = let within = fit.within in omega arith; small = λ some. let small = fit.small some in omega arith }
 
 -- what bytes in a multi-receive make of the receive half
-shared_some : (r : Receive) (least : ℕ) → r.least ≡ Some least → (place : ℕ) (bytes : List ℕ) (rx : Receiving)
+pub shared_some : (r : Receive) (least : ℕ) → r.least ≡ Some least → (place : ℕ) (bytes : List ℕ) (rx : Receiving)
     → shared r.least r place bytes rx ≡ without_closed r.call (record rx { posted = change_first (is_made_by r.call) (filled place bytes) rx.posted; closing = change_first (is_made_by r.call) (filled place bytes) rx.closing })
 shared_some r least some place bytes rx = subst (λ (x : Receive). shared x.least x place bytes rx ≡ without_closed x.call (record rx { posted = change_first (is_made_by x.call) (filled place bytes) rx.posted; closing = change_first (is_made_by x.call) (filled place bytes) rx.closing })) (λ i. record r { least = sym some i }) refl
 
-closed_still : (call : ℕ) (rx : Receiving) → under_way rx call ≡ true → without_closed call rx ≡ rx
+pub closed_still : (call : ℕ) (rx : Receiving) → under_way rx call ≡ true → without_closed call rx ≡ rx
 closed_still call rx e = rw (e, without_closed) refl
 
-closed_now : (call : ℕ) (rx : Receiving) → under_way rx call ≡ false → without_closed call rx ≡ record rx { closing = remove_first (is_made_by call) rx.closing }
+pub closed_now : (call : ℕ) (rx : Receiving) → under_way rx call ≡ false → without_closed call rx ≡ record rx { closing = remove_first (is_made_by call) rx.closing }
 closed_now call rx e = rw (e, without_closed) refl
 
-last_some : (r : Receive) (least : ℕ) → r.least ≡ Some least → (place : ℕ) (bytes : List ℕ) (rx : Receiving)
+pub last_some : (r : Receive) (least : ℕ) → r.least ≡ Some least → (place : ℕ) (bytes : List ℕ) (rx : Receiving)
     → closed_if r.least r.call (filling r place bytes rx) ≡ closed_by r.call (record rx { posted = change_first (is_made_by r.call) (filled place bytes) rx.posted; closing = change_first (is_made_by r.call) (filled place bytes) rx.closing })
 last_some r least some place bytes rx = subst (λ (x : Receive). closed_if x.least x.call (filling x place bytes rx) ≡ closed_by x.call (record rx { posted = change_first (is_made_by x.call) (filled place bytes) rx.posted; closing = change_first (is_made_by x.call) (filled place bytes) rx.closing })) (λ i. record r { least = sym some i }) refl
 
-none_last : (call : ℕ) (rx : Receiving) → under_way rx call ≡ true → closed_by call rx ≡ None
+pub none_last : (call : ℕ) (rx : Receiving) → under_way rx call ≡ true → closed_by call rx ≡ None
 none_last call rx e = rw (e, closed_by) refl
 
-found_last : (call : ℕ) (rx : Receiving) → under_way rx call ≡ false → closed_by call rx ≡ find (is_made_by call) rx.closing
+pub found_last : (call : ℕ) (rx : Receiving) → under_way rx call ≡ false → closed_by call rx ≡ find (is_made_by call) rx.closing
 found_last call rx e = rw (e, closed_by) refl
 
 -- where it is over, and where it is not
@@ -143,7 +143,7 @@ fed_by_way homes calls seats id r part (Keep k bytes) c g = rw g refl
 fed_by_way homes calls seats id r part Throw c g = rw g refl
 fed_by_way homes calls seats id r part (Gather bytes) c g = rw g.1 (no_into r.call g.0)
 
-fed_alike : (homes : ℕ → Option ℕ) (calls : ℕ → ℕ) (seats : Cells Waiting) (id : ℕ) (r : Receive) → IsPart homes calls seats id r → (b : Option Begun) (c : Option Coming) → GoesHome homes calls seats b c → is_into r.call c ≡ is_fed_by id b
+pub fed_alike : (homes : ℕ → Option ℕ) (calls : ℕ → ℕ) (seats : Cells Waiting) (id : ℕ) (r : Receive) → IsPart homes calls seats id r → (b : Option Begun) (c : Option Coming) → GoesHome homes calls seats b c → is_into r.call c ≡ is_fed_by id b
 fed_alike homes calls seats id r part None c g = rw g refl
 fed_alike homes calls seats id r part (Some b) c g = fed_by_way homes calls seats id r part b.way c g
 
@@ -423,6 +423,9 @@ module _ (ps : List (ℕ × Want)) (us : List (ℕ × Sign)) (room : ℕ) (seats
 
     -- ---- either
 
+    pub placed_now : at others id ≡ Some (placed_in place item.bytes part.there)
+    placed_now = now
+
     pub buffer_part : cond (is_over after cs id) (option_map (released_of id) (at others id)) None ≡ option_map (released v) (last_of source v)
     buffer_part = by (is_over after cs id) refl
       where
@@ -448,6 +451,21 @@ module _ (ps : List (ℕ × Want)) (us : List (ℕ × Sign)) (room : ℕ) (seats
               subst (λ (xs : List (ℕ × ℕ)). AreMulti ps xs last after (finishing source v).rx.posted (finishing source v).rx.closing (finishing source v).rx.coming v.next v.multis v.most) (sym (rw e at are)) (multi_over yes.0 yes.1 last (rw e at cells) (rw e at count) free)
           by false e =
               subst (λ (xs : List (ℕ × ℕ)). AreMulti ps xs last after (finishing source v).rx.posted (finishing source v).rx.closing (finishing source v).rx.coming v.next v.multis v.most) (sym (rw e at are)) (multi_open (is_over_no after cs id e) last (rw e at cells) (rw e at count) free)
+
+  -- the buffer comes back exactly where it is over then
+  pub closes_part : is_over after cs id ≡ is_some (last_of source v)
+  closes_part = by (is_over after cs id) refl
+    where
+      others : Cells Waiting
+      others = record { cells = set seats.cells id (option_map (placed_in place bytes.items) (at seats id)); free = seats.free }
+
+      told : (o : Option Receive) → is_some (option_map (released v) o) ≡ is_some o
+      told None = refl
+      told (Some y) = refl
+
+      by : (x : Bool) → is_over after cs id ≡ x → is_over after cs id ≡ is_some (last_of source v)
+      by false e = e ∙ ap is_some (rw e at (buffer_part others refl)) ∙ told (last_of source v)
+      by true e = e ∙ sym (ap (λ o. is_some (option_map (released_of id) o)) (placed_now others refl)) ∙ ap is_some (rw e at (buffer_part others refl)) ∙ told (last_of source v)
 
   -- the multi-receive is there when it is to be released
   pub part_there : (others : Cells Waiting) → others.cells ≡ set seats.cells id (option_map (placed_in place bytes.items) (at seats id)) → IsSome (multi_at others id)
@@ -476,7 +494,7 @@ ended_other ReadReq source item = refl
 ended_other AtomicReq source item = refl
 ended_other Reply source item = refl
 
-last_other : (kind : Kind) (bytes : List ℕ) (rx : Receiving) → last_by (Some (way_of kind)) bytes rx ≡ None
+pub last_other : (kind : Kind) (bytes : List ℕ) (rx : Receiving) → last_by (Some (way_of kind)) bytes rx ≡ None
 last_other Msg bytes rx = refl
 last_other TagMsg bytes rx = refl
 last_other WriteReq bytes rx = refl
@@ -484,7 +502,7 @@ last_other ReadReq bytes rx = refl
 last_other AtomicReq bytes rx = refl
 last_other Reply bytes rx = refl
 
-last_single : (r : Receive) (place : ℕ) (bytes : List ℕ) (rx : Receiving) → r.least ≡ None → last_by (Some (IntoReceive r place)) bytes rx ≡ None
+pub last_single : (r : Receive) (place : ℕ) (bytes : List ℕ) (rx : Receiving) → r.least ≡ None → last_by (Some (IntoReceive r place)) bytes rx ≡ None
 last_single r place bytes rx single = subst (λ (o : Option ℕ). closed_if o r.call (filling r place bytes rx) ≡ None) (sym single) refl
 
 pub at_some : (o : Option Item) (item : Item) → o ≡ Some item → (P : Item → Type 0) → P item → IfSome o P
@@ -529,3 +547,44 @@ module _ (ps : List (ℕ × Want)) (us : List (ℕ × Sign)) (room : ℕ) (seats
       let whole : record { head = b.head; bytes = buf } ≡ item = λ i. record { head = headed i; bytes = (all ∙ goes.1) i } in
       becomes f (ap (λ w. last_by (Some w) (bytes_come (begun_of v source)) (made_whole source v.rx)) goes.0 ∙ last_other item.head.kind (bytes_come (begun_of v source)) (made_whole source v.rx))
       (is ∙ ap (λ (x : Item). ended (Some (way_of x.head.kind)) 0 x) whole ∙ ended_other item.head.kind source item ∙ ap (λ w. ended (Some w) source item) (sym goes.0))
+
+-- ---- whether a buffer comes back
+
+module _ (ps : List (ℕ × Want)) (us : List (ℕ × Sign)) (room : ℕ) (seats : Cells Waiting) (parcels : Cells Parcel) (coming : List (Option Begun)) (v : Arriving) (kept : IsKept ps us room seats parcels coming v)
+    (cs : List (ℕ × ℕ)) (m : AreMulti ps cs seats coming v.rx.posted v.rx.closing v.rx.coming v.next v.multis v.most) (source : ℕ) (within : source < length v.begun) where
+  pub last_told : (id : ℕ) → part_in (get_or coming source None) ≡ Some id → is_over (set coming source None) cs id ≡ is_some (last_of source v)
+  last_told id e = by_begun (get_or coming source None) refl
+    where
+      by_way : (b : Begun) → Some b ≡ get_or coming source None → (way : Way) → b.way ≡ way → part_id way ≡ Some id → (item : Item) → begun_of v source ≡ Some item → is_over (set coming source None) cs id ≡ is_some (last_of source v)
+      by_way b is (Into seat) w told item begun = absurd (cc)
+      by_way b is (Part k place bytes) w told item begun =
+          let same : k ≡ id = cc in
+          subst (λ (j : ℕ). is_over (set coming source None) cs j ≡ is_some (last_of source v)) same (closes_part ps us room seats parcels coming v kept cs m source within item begun b is k place bytes w)
+      by_way b is (Keep k bytes) w told item begun = absurd (cc)
+      by_way b is Throw w told item begun = absurd (cc)
+      by_way b is (Gather bytes) w told item begun = absurd (cc)
+
+      by_begun : (o : Option Begun) → get_or coming source None ≡ o → is_over (set coming source None) cs id ≡ is_some (last_of source v)
+      by_begun None none = absurd (let no : None ≡ Some id = sym (ap part_in none) ∙ e in cc)
+      by_begun (Some b) is =
+          let way : IsWay parcels source (Some b) (coming_from v.rx source) (begun_of v source) = subst (λ (o : Option Begun). IsWay parcels source o (coming_from v.rx source) (begun_of v source)) is (kept.ways source) in
+          by_way b (sym is) b.way refl (sym (ap part_in is) ∙ e) way.1 way.3
+
+  pub none_told : part_in (get_or coming source None) ≡ None → is_some (last_of source v) ≡ false
+  none_told e = by_begun (get_or coming source None) refl (kept.ways source)
+    where
+      none_by : (way : Way) (c : Coming) (item : Item) → part_id way ≡ None → GoesBy parcels source way c item → (bytes : List ℕ) (rx : Receiving) → last_by (Some c) bytes rx ≡ None
+      none_by (Into seat) c item told g bytes rx = ap (λ w. last_by (Some w) bytes rx) g.1 ∙ last_single g.0 0 bytes rx g.2.least
+      none_by (Part k place gathered) c item told g bytes rx = absurd (cc)
+      none_by (Keep k gathered) c item told g bytes rx = rw g.0 refl
+      none_by Throw c item told g bytes rx = rw g refl
+      none_by (Gather gathered) c item told g bytes rx = ap (λ w. last_by (Some w) bytes rx) g.0 ∙ last_other item.head.kind bytes rx
+
+      by_begun : (o : Option Begun) → get_or coming source None ≡ o → IsWay parcels source (get_or coming source None) (coming_from v.rx source) (begun_of v source) → is_some (last_of source v) ≡ false
+      by_begun None none w =
+          let way : IsWay parcels source None (coming_from v.rx source) (begun_of v source) = subst (λ (o : Option Begun). IsWay parcels source o (coming_from v.rx source) (begun_of v source)) none w in
+          rw way.0 refl
+      by_begun (Some b) is w =
+          let way : IsWay parcels source (Some b) (coming_from v.rx source) (begun_of v source) = subst (λ (o : Option Begun). IsWay parcels source o (coming_from v.rx source) (begun_of v source)) is w in
+          let none = none_by b.way way.0 way.1 (sym (ap part_in is) ∙ e) way.4.way (bytes_come (begun_of v source)) (made_whole source v.rx) in
+          rw way.2 (ap is_some none)

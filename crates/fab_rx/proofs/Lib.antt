@@ -20,4 +20,7 @@ pub mod Ending
 pub mod Plain
 pub mod Leaving
 pub mod Drawing
+pub mod Lent
+pub mod Onces
+pub mod Shutting
 mod Worked

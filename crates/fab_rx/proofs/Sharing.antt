@@ -390,13 +390,13 @@ module _ (ps : List (ℕ × Want)) (cs : List (ℕ × ℕ)) (seats : Cells Waiti
       }
 
   -- what still comes of a message goes elsewhere
-  module _ (id : ℕ) (a : Arrival) (partly : a.bytes ≡ None → IsKeptAs id (get_or coming a.source None)) (long : length comes ≡ length coming) (turn : Begun → Begun) (c : Coming) (home : (b : Begun) → GoesHomeBy m.homes m.calls seats (turn b).way (Some c)) (later : ℕ) (le : next ≤ later) where
+  module _ (id : ℕ) (a : Arrival) (partly : a.bytes ≡ None → IsKeptAs id (get_or coming a.source None)) (long : length comes ≡ length coming) (turn : Begun → Begun) (c : Coming) (home : (b : Begun) → IsKeptWay id b.way → GoesHomeBy m.homes m.calls seats (turn b).way (Some c)) (later : ℕ) (le : next ≤ later) where
     multi_by : (o : Option (List ℕ)) → a.bytes ≡ o → AreMulti ps cs seats (turned (option_map turn) o a.source coming) posted closing (turned (λ x. Some c) o a.source comes) later multis most
     multi_by (Some bytes) whole = multi_later later le
     multi_by None none =
         let k = stored_where_kept (get_or coming a.source None) id (partly none) in
         multi_change a.source (option_map turn (get_or coming a.source None)) (Some c) (id_within coming a.source k.0 k.1) long
-        (subst (λ (o : Option Begun). GoesHome m.homes m.calls seats (option_map turn o) (Some c)) (sym k.1) (home k.0))
+        (subst (λ (o : Option Begun). GoesHome m.homes m.calls seats (option_map turn o) (Some c)) (sym k.1) (home k.0 k.2))
         (λ j fed. absurd (kept_unfed j id k.0.way k.2 (subst (λ (o : Option Begun). is_fed_by j o ≡ true) k.1 fed))) later le
 
     pub multi_turned : AreMulti ps cs seats (turned (option_map turn) a.bytes a.source coming) posted closing (turned (λ x. Some c) a.bytes a.source comes) later multis most

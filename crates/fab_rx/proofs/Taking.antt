@@ -59,7 +59,7 @@ usable_of r fit = by r.least refl
 
 -- ---- what it gives away
 
-least_some : (r : Receive) (q : Multi) → multi_of r ≡ Some q → (least : ℕ) × (r.least ≡ Some least) × (q.used ≡ r.used)
+pub least_some : (r : Receive) (q : Multi) → multi_of r ≡ Some q → (least : ℕ) × (r.least ≡ Some least) × (q.used ≡ r.used)
 least_some r q is = by r.least refl
   where
     by : (o : Option ℕ) → r.least ≡ o → (least : ℕ) × (r.least ≡ Some least) × (q.used ≡ r.used)
@@ -84,36 +84,36 @@ fit_used total r multi fit = record {
 }
 
 -- it stays posted where it is not spent
-stays_by : (total : ℕ) (r : Receive) (least : ℕ) → r.least ≡ Some least → stays total r ≡ not (is_spent (used_up_by total (waiting_of r)))
+pub stays_by : (total : ℕ) (r : Receive) (least : ℕ) → r.least ≡ Some least → stays total r ≡ not (is_spent (used_up_by total (waiting_of r)))
 stays_by total r least e = rw (e, stays) refl
 
-left_none : (total : ℕ) (w : Waiting) → left_by total (Some w) ≡ None → is_spent (used_up_by total w) ≡ false
+pub left_none : (total : ℕ) (w : Waiting) → left_by total (Some w) ≡ None → is_spent (used_up_by total w) ≡ false
 left_none total w e = by (is_spent (used_up_by total w)) refl
   where
     by : (b : Bool) → is_spent (used_up_by total w) ≡ b → is_spent (used_up_by total w) ≡ false
     by false is = is
     by true is = absurd (let no : Some w.seat.ctx ≡ None = rw (is, left_by) at e in cc)
 
-left_some : (total : ℕ) (w : Waiting) (ctx : ℕ) → left_by total (Some w) ≡ Some ctx → (is_spent (used_up_by total w) ≡ true) × (ctx ≡ w.seat.ctx)
+pub left_some : (total : ℕ) (w : Waiting) (ctx : ℕ) → left_by total (Some w) ≡ Some ctx → (is_spent (used_up_by total w) ≡ true) × (ctx ≡ w.seat.ctx)
 left_some total w ctx e = by (is_spent (used_up_by total w)) refl
   where
     by : (b : Bool) → is_spent (used_up_by total w) ≡ b → (is_spent (used_up_by total w) ≡ true) × (ctx ≡ w.seat.ctx)
     by true is = (is, let both : Some w.seat.ctx ≡ Some ctx = rw (is, left_by) at e in let same : w.seat.ctx ≡ ctx = cc in sym same)
     by false is = absurd (let no : None ≡ Some ctx = rw (is, left_by) at e in cc)
 
-seated_on : (test : Receive → Bool) (total : ℕ) (r : Receive) (posted : List Receive) → stays total r ≡ true → seated_after test total r posted ≡ change_first test (used_up total) posted
+pub seated_on : (test : Receive → Bool) (total : ℕ) (r : Receive) (posted : List Receive) → stays total r ≡ true → seated_after test total r posted ≡ change_first test (used_up total) posted
 seated_on test total r posted e = rw (e, seated_after) refl
 
-seated_off : (test : Receive → Bool) (total : ℕ) (r : Receive) (posted : List Receive) → stays total r ≡ false → seated_after test total r posted ≡ remove_first test posted
+pub seated_off : (test : Receive → Bool) (total : ℕ) (r : Receive) (posted : List Receive) → stays total r ≡ false → seated_after test total r posted ≡ remove_first test posted
 seated_off test total r posted e = rw (e, seated_after) refl
 
 shut_some : (total : ℕ) (r : Receive) (least : ℕ) → r.least ≡ Some least → shut total r ≡ elim (stays total r) [ true ↦ [] | false ↦ used_up total r ∷ [] ]
 shut_some total r least some = subst (λ (x : Receive). shut total x ≡ elim (stays total x) [ true ↦ [] | false ↦ used_up total x ∷ [] ]) (λ i. record r { least = sym some i }) refl
 
-shut_on : (total : ℕ) (r : Receive) (least : ℕ) → r.least ≡ Some least → stays total r ≡ true → shut total r ≡ []
+pub shut_on : (total : ℕ) (r : Receive) (least : ℕ) → r.least ≡ Some least → stays total r ≡ true → shut total r ≡ []
 shut_on total r least some e = shut_some total r least some ∙ ap (λ b. elim b [ true ↦ [] | false ↦ used_up total r ∷ [] ]) e
 
-shut_off : (total : ℕ) (r : Receive) (least : ℕ) → r.least ≡ Some least → stays total r ≡ false → shut total r ≡ used_up total r ∷ []
+pub shut_off : (total : ℕ) (r : Receive) (least : ℕ) → r.least ≡ Some least → stays total r ≡ false → shut total r ≡ used_up total r ∷ []
 shut_off total r least some e = shut_some total r least some ∙ ap (λ b. elim b [ true ↦ [] | false ↦ used_up total r ∷ [] ]) e
 
 module _ (ps : List (ℕ × Want)) (us : List (ℕ × Sign)) (room : ℕ) (seats : Cells Waiting) (parcels : Cells Parcel) (coming : List (Option Begun)) (v : Arriving) (kept : IsKept ps us room seats parcels coming v) where

@@ -1,5 +1,6 @@
 -- What is stored of multi-receives (FI_MULTI_RECV of fi_msg(3)): each stands under its id from its call until its buffer comes back.
 --     is_part_of id way       the item goes to the multi-receive under this id
+--     part_id way             the id of the one to which the item goes
 --     is_fed_by id begun      the same of what is stored of a source
 --     IsHome, Rests           what is known of a receive that is posted, and of a multi-receive that is closing
 --     IsPart                  what is known of the multi-receive under the id to which an item goes
@@ -33,6 +34,18 @@ is_part_of id (Gather bytes) = false
 abbrev pub is_fed_by : ℕ → Option Begun → Bool
 is_fed_by id None = false
 is_fed_by id (Some b) = is_part_of id b.way
+
+-- the id of the multi-receive to which the item goes
+abbrev pub part_id : Way → Option ℕ
+part_id (Into seat) = None
+part_id (Part k at bytes) = Some k
+part_id (Keep k bytes) = None
+part_id Throw = None
+part_id (Gather bytes) = None
+
+abbrev pub part_in : Option Begun → Option ℕ
+part_in None = None
+part_in (Some b) = part_id b.way
 
 -- ---- receives and their ids
 

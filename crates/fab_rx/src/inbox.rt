@@ -60,7 +60,7 @@ impl<M: Matcher> Model for Inbox<M> {
     ghost invariant = { λ i. IsInbox (M.posted i.matcher) (M.unexpected i.matcher) (M.room i.matcher) i.seats i.parcels i.coming.items i.order.items (deque_capacity i.order) i.claims.items (vec_capacity i.claims) i.closing.items (vec_capacity i.closing) i.past };
 }
 
-fn is_message(kind: Kind) -> bool
+pub(crate) fn is_message(kind: Kind) -> bool
     ensures { result ≡ is_message kind }
 {
     match kind {

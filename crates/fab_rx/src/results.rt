@@ -51,6 +51,15 @@ pub enum Finished {
     Answer(Item),
 }
 
+/// What a draw brought a multi-receive: a message whose rest still comes, one that is whole, or one that is
+/// whole and the last. One that is whole is owed its reply now, where `head.ack` asks for one at its match.
+#[derive(Drop)]
+pub enum Drawn {
+    GoesOn,
+    Part(Completed),
+    Last(Completed, Released),
+}
+
 /// A receive that was cancelled (fi_cancel of fi_endpoint(3)), with its buffer. That of many messages had an
 /// id, which is free from now on.
 #[derive(Drop)]

@@ -98,7 +98,7 @@ invariant_of-self-2 g c =
       order = c.self.invariant.order;
       reserved = c.self.invariant.reserved;
       numbers = numbers_given c.self.inside.past c.self.invariant.numbers t.member r later;
-      shared = multi_moved _ _ _ _ _ _ _ _ _ _ c.self.invariant.shared c.in-Some.id t.member (found_partly _ _ _ _ _ _ _ c.self.invariant.kept c.args.want c.in-Some.id (sym c.in-Some.ensures.first) t.member here) long (redirected c.args.buf c.args.ctx) (Into r 0) (λ b. (r, refl, refl, c.self.invariant.shared.fresh r.call later)) (r.call + 1) (omega arith) _ (c.give.ensures.coming t.member here);
+      shared = multi_moved _ _ _ _ _ _ _ _ _ _ c.self.invariant.shared c.in-Some.id t.member (found_partly _ _ _ _ _ _ _ c.self.invariant.kept c.args.want c.in-Some.id (sym c.in-Some.ensures.first) t.member here) long (redirected c.args.buf c.args.ctx) (Into r 0) (λ b k. (r, refl, refl, c.self.invariant.shared.fresh r.call later)) (r.call + 1) (omega arith) _ (c.give.ensures.coming t.member here);
       closable = rw (c.give.ensures.coming t.member here, length_turned _ _ _ _) c.self.invariant.closable;
       aside =
           unexpected_claims _ _ _ _ _ _ _ c.self.invariant.kept _ _ c.self.invariant.aside c.in-Some.id c.give.new.parcels c.give.ensures.cells c.give.ensures.free (redirected c.args.buf c.args.ctx) (Into r 0) turns _ c.give.ensures.coming (r.call + 1) c.args.want (sym c.in-Some.ensures.first) _ rest c.remove_unexpected.ensures.gone;
