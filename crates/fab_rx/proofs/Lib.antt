@@ -23,4 +23,6 @@ pub mod Drawing
 pub mod Lent
 pub mod Onces
 pub mod Shutting
+pub mod Giving
+pub mod Draught
 mod Worked

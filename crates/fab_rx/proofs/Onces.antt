@@ -1,5 +1,5 @@
 -- Lists of receives in which one number of a call stands at most once.
-use Rattle.std.proofs.Common.{◌≡◌, ◌==◌, ◌<◌, ◌+◌, ◌-◌, ◌||◌, Bool, true, false, List, [], ◌∷◌, ◌++◌, length, take, drop, set, Option, Some, None, ℕ, zero, suc, refl, sym, ap, ◌∙◌, arith}
+use Rattle.std.proofs.Common.{◌≡◌, ◌==◌, ◌<◌, ◌+◌, ◌-◌, ◌||◌, Bool, true, false, List, [], ◌∷◌, ◌++◌, length, take, drop, set, get_or, Option, Some, None, ℕ, zero, suc, refl, sym, ap, ◌∙◌, arith}
 use Rattle.std.specs.List.{list_any}
 use Rattle.std.proofs.lemmas.List.{take_rest}
 use Rattle.std.specs.Prelude.{find}
@@ -82,3 +82,12 @@ pub any_after : {A : Type 0} → (f : Option A → Bool) → f None ≡ false �
 any_after f none xs s lt fails =
     let next : s + 1 ≡ suc s = omega arith in
     ap (list_any f) (take_rest xs (s + 1) ∙ ap (λ n. drop n xs) next) ∙ (rw fails at (any_besides f none xs s lt))
+
+-- the place of one that passes
+pub any_where : {A : Type 0} → (f : Option A → Bool) → (xs : List (Option A)) → list_any f xs ≡ true → (s : ℕ) × (s < length xs) × (f (get_or xs s None) ≡ true)
+any_where f [] e = absurd (cc)
+any_where f (x ∷ xs) e = by (f x) refl (λ rest. any_where f xs rest)
+  where
+    by : (b : Bool) → f x ≡ b → (list_any f xs ≡ true → (s : ℕ) × (s < length xs) × (f (get_or xs s None) ≡ true)) → (s : ℕ) × (s < length (x ∷ xs)) × (f (get_or (x ∷ xs) s None) ≡ true)
+    by true is more = (0, omega arith, is)
+    by false is more = let rest = more (rw is at e) in (suc rest.0, let lt = rest.1 in omega arith, rest.2)
