@@ -17,7 +17,6 @@ module _ (p : Parts) (av : Addresses) (ok : IsTogether p) where
     peers = ok.peers;
     addresses = peers ∙ ok.addresses;
     addressed = λ i k is. subst (λ (n : ℕ). k < n) (peers ∙ ok.addresses) (within i k is);
-    plain = ok.plain;
     earlier = ok.earlier;
     fitting = ok.fitting;
     rooms = ok.rooms;

@@ -63,7 +63,7 @@ module _ (p : Parts) (ok : IsTogether p) (rx : IsArriving p.rx) (tx : IsTransit 
     pub look_together : (how : PeekHow) (ctx : ℕ) (q : Parts) → q.cq.size ≡ p.cq.size → q.av ≡ p.av → q.rx ≡ looked how want ctx p.rx → q.calls ≡ p.calls + 1
         → q.tx ≡ parted_by how (option_map seen (find (takes want) p.rx.rx.unexpected)) p.tx → IsTogether q
     look_together Peek ctx q size av rx' calls tx' = together_called p q ok size (ap (λ (v : Transit). length v.tx.sent) tx') av rx' calls (ap (λ (v : Transit). v.rooms) tx')
-    look_together Claim ctx q size av rx' calls tx' = together_with p q ok size (ap (λ (v : Transit). length v.tx.sent) tx') av (ap (λ (v : Arriving). v.multi) rx') (ap (λ (v : Arriving). length v.begun) rx') (rw (rx', calls) (let e = ok.earlier in omega (arith, e)))
+    look_together Claim ctx q size av rx' calls tx' = together_with p q ok size (ap (λ (v : Transit). length v.tx.sent) tx') av (ap (λ (v : Arriving). length v.begun) rx') (rw (rx', calls) (let e = ok.earlier in omega (arith, e)))
         (λ s. rw rx' (fits (find (takes want) p.rx.rx.unexpected) refl s)) (λ s. rw (rx', tx') (let o = owed_claimed p.rx s want ctx (find (takes want) p.rx.rx.unexpected) refl in let e = ok.rooms s in omega (arith, o, e)))
       where
         fits : (o : Option Arrival) → find (takes want) p.rx.rx.unexpected ≡ o → (s : ℕ) → IsFitting (coming_from (claiming_first want ctx p.rx).rx s) (begun_of p.rx s)

@@ -27,6 +27,7 @@ use Rattle.fab_face.specs.Requesting.{atom_asked, kind_asked, order_asked, reque
 use Rattle.fab_face.specs.declared.requesting.Asked.{Asked}
 use Rattle.fab_face.specs.declared.requesting.Asked.TheVariants.{Read, Write, Atomic}
 use Rattle.fab_face.specs.declared.requesting.Request.{Request}
+use Rattle.fab_core.proofs.Made.{none_made}
 use Rattle.fab_core.specs.Parts.{Parts, held_of, state_of}
 use Rattle.fab_core.specs.Asking.{accepted_as}
 use Rattle.fab_core.specs.Doing.{lasting_transmit}
@@ -68,7 +69,7 @@ unfolding transmit
 asks p t o q there granted room is =
     let none = not_lasting (state_of p) o granted in
     let goes : transmit (state_of p) o ≡ state_of (accepted_as t o p) = to_peer ∙ accepted_as_is p t o in
-    rw is (transmit_done (state_of p) o none room ∙ ap (λ (s : State). (Done, s)) goes, refl)
+    rw is (transmit_done (state_of p) o none room ∙ ap (λ (s : State). (Done, s)) goes, none_made (Transmit o) (held_of p) (state_of (accepted_as t o p)) refl)
   where
     to_peer : transmit (state_of p) o ≡ transmit_to t (state_of p) o
     to_peer = rw (transmit, there) refl

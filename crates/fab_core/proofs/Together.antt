@@ -62,7 +62,6 @@ begins p peers most_rx most_tx size rx tx av calls addressed =
       peers = rw (rx, tx) (begun ∙ sym sent);
       addresses = rw tx (av ∙ sym sent);
       addressed = λ i peer is. rw tx (let lt = addressed i peer is in omega (arith, lt, av, sent));
-      plain = rw rx refl;
       earlier = rw rx (omega arith);
       fitting = λ s. rw (rx, none_coming peers s, none_begun peers s) tt;
       rooms = λ s. rw (rx, none_coming peers s, none_begun peers s) (omega arith);
@@ -72,13 +71,12 @@ begins p peers most_rx most_tx size rx tx av calls addressed =
 
 module _ (p q : Parts) (ok : IsTogether p) (size : q.cq.size ≡ p.cq.size) (sent : length q.tx.tx.sent ≡ length p.tx.tx.sent) (av : q.av ≡ p.av) where
   -- where both halves' replies to be booked are known
-  pub together_with : q.rx.multi ≡ p.rx.multi → length q.rx.begun ≡ length p.rx.begun → q.rx.next ≤ q.calls → ((s : ℕ) → IsFitting (coming_from q.rx.rx s) (begun_of q.rx s)) → ((s : ℕ) → owed s q.rx ≤ slice_index q.tx.rooms s) → IsTogether q
-  together_with same begun earlier fitting rooms = record {
+  pub together_with : length q.rx.begun ≡ length p.rx.begun → q.rx.next ≤ q.calls → ((s : ℕ) → IsFitting (coming_from q.rx.rx s) (begun_of q.rx s)) → ((s : ℕ) → owed s q.rx ≤ slice_index q.tx.rooms s) → IsTogether q
+  together_with begun earlier fitting rooms = record {
     size = (let s = ok.size in omega (arith, s, size));
     peers = begun ∙ ok.peers ∙ sym sent;
     addresses = ap (λ (a : Addresses). a.peers) av ∙ ok.addresses ∙ sym sent;
     addressed = λ i peer is. (let lt = ok.addressed i peer (ap (λ (a : Addresses). lookup a.indices i) (sym av) ∙ is) in omega (arith, lt, sent));
-    plain = same ∙ ok.plain;
     earlier = earlier;
     fitting = fitting;
     rooms = rooms;
@@ -86,11 +84,11 @@ module _ (p q : Parts) (ok : IsTogether p) (size : q.cq.size ≡ p.cq.size) (sen
 
   -- where the receive half is the same
   pub together_besides : q.rx ≡ p.rx → q.calls ≡ p.calls → q.tx.rooms ≡ p.tx.rooms → IsTogether q
-  together_besides rx calls rooms = together_with (ap (λ (v : Arriving). v.multi) rx) (ap (λ (v : Arriving). length v.begun) rx) (rw (rx, calls) ok.earlier) (λ s. rw rx (ok.fitting s)) (λ s. rw (rx, rooms) (ok.rooms s))
+  together_besides rx calls rooms = together_with (ap (λ (v : Arriving). length v.begun) rx) (rw (rx, calls) ok.earlier) (λ s. rw rx (ok.fitting s)) (λ s. rw (rx, rooms) (ok.rooms s))
 
   -- and one more call was accepted
   pub together_called : q.rx ≡ p.rx → q.calls ≡ p.calls + 1 → q.tx.rooms ≡ p.tx.rooms → IsTogether q
-  together_called rx calls rooms = together_with (ap (λ (v : Arriving). v.multi) rx) (ap (λ (v : Arriving). length v.begun) rx) (rw (rx, calls) (let e = ok.earlier in omega (arith, e))) (λ s. rw rx (ok.fitting s)) (λ s. rw (rx, rooms) (ok.rooms s))
+  together_called rx calls rooms = together_with (ap (λ (v : Arriving). length v.begun) rx) (rw (rx, calls) (let e = ok.earlier in omega (arith, e))) (λ s. rw rx (ok.fitting s)) (λ s. rw (rx, rooms) (ok.rooms s))
 
 -- ---- sizes
 
@@ -168,7 +166,7 @@ fitting_grown v source bytes fits s = elim (cases_eq s source) [
 ]
 
 pub together_grown : (p : Parts) → IsTogether p → (source : ℕ) (bytes : List ℕ) → IsTogether (growing_by source bytes p)
-together_grown p ok source bytes = together_with p (growing_by source bytes p) ok refl refl refl refl (length-set p.rx.begun source _) ok.earlier (fitting_grown p.rx source bytes ok.fitting)
+together_grown p ok source bytes = together_with p (growing_by source bytes p) ok refl refl refl (length-set p.rx.begun source _) ok.earlier (fitting_grown p.rx source bytes ok.fitting)
     (λ s. (let e = owed_grown p.rx source bytes s in let r = ok.rooms s in omega (arith, e, r)))
 
 -- ---- it is whole
@@ -198,7 +196,7 @@ module _ (p : Parts) (ok : IsTogether p) (rx : IsArriving p.rx) (source : ℕ) (
   same_begun = length-set p.rx.begun source (Some (bare head))
 
   pub together_arrived : asks head ≡ false → IsTogether (heading source head p)
-  together_arrived silent = together_with p (heading source head p) ok refl refl refl refl same_begun ok.earlier (fitting_arrived p.rx rx source head within ok.fitting)
+  together_arrived silent = together_with p (heading source head p) ok refl refl refl same_begun ok.earlier (fitting_arrived p.rx rx source head within ok.fitting)
       (λ s. elim (cases_eq s source) [
         | inl here ↦ rw here (let o = owed_here p.rx rx source head within nothing in let b : bit (asks head) ≡ 0 = ap bit silent in let r = ok.rooms source in omega (arith, o, b, r))
         | inr other ↦ (let o = owed_there p.rx rx source head within nothing s other in let r = ok.rooms s in omega (arith, o, r))
@@ -206,7 +204,7 @@ module _ (p : Parts) (ok : IsTogether p) (rx : IsArriving p.rx) (source : ℕ) (
 
   -- and room was made for the reply that it asks for
   pub together_roomed : asks head ≡ true → length p.tx.rooms ≡ length p.tx.tx.sent → IsTogether (with_transit (with_room source p.tx) (heading source head p))
-  together_roomed loud count = together_with p (with_transit (with_room source p.tx) (heading source head p)) ok refl refl refl refl same_begun ok.earlier (fitting_arrived p.rx rx source head within ok.fitting)
+  together_roomed loud count = together_with p (with_transit (with_room source p.tx) (heading source head p)) ok refl refl refl same_begun ok.earlier (fitting_arrived p.rx rx source head within ok.fitting)
       (λ s. elim (cases_eq s source) [
         | inl here ↦ rw (here, get_or-set_same p.tx.rooms source (slice_index p.tx.rooms source + 1) 0 (let l = ok.peers in omega (arith, l, count, within)))
             (let o = owed_here p.rx rx source head within nothing in let b : bit (asks head) ≡ 1 = ap bit loud in let r = ok.rooms source in omega (arith, o, b, r))
@@ -252,7 +250,7 @@ module _ (p : Parts) (ok : IsTogether p) (source : ℕ) (item : Item) (within : 
   -- the item ended, with its reply booked where it was due
   pub together_whole : (q : Parts) → q.cq.size ≡ p.cq.size → q.av ≡ p.av → q.rx ≡ finishing source p.rx → q.calls ≡ p.calls → length q.tx.tx.sent ≡ length p.tx.tx.sent
       → ((s : ℕ) → slice_index q.tx.rooms s ≡ slice_index (slice_set p.tx.rooms source (slice_index p.tx.rooms source - bit (is_due (coming_from p.rx.rx source) item.head))) s) → IsTogether q
-  together_whole q size av rx calls sent rooms = together_with p q ok size sent av (ap (λ (v : Arriving). v.multi) rx) (ap (λ (v : Arriving). length v.begun) rx ∙ length-set p.rx.begun source None) (rw (rx, calls) ok.earlier)
+  together_whole q size av rx calls sent rooms = together_with p q ok size sent av (ap (λ (v : Arriving). length v.begun) rx ∙ length-set p.rx.begun source None) (rw (rx, calls) ok.earlier)
       (λ s. rw rx (fitting_whole p.rx source item within begun ok.fitting s))
       (λ s. rw (rx, rooms s) (enough_booked p.rx source item within begun ok.fitting p.tx.rooms rooms_count ok.rooms s))
 
@@ -301,7 +299,7 @@ module _ (p : Parts) (ok : IsTogether p) (rx : IsArriving p.rx) (r : Receive) (n
   -- what it joined, or whose rest still comes
   pub together_posted : (q : Parts) → ((find (takes r.want) p.rx.rx.unexpected ≡ None) ⊎ ((a : Arrival) × (find (takes r.want) p.rx.rx.unexpected ≡ Some a) × (a.bytes ≡ None)))
       → q.cq.size ≡ p.cq.size → q.av ≡ p.av → q.rx ≡ posting r p.rx → q.calls ≡ p.calls + 1 → q.tx ≡ p.tx → IsTogether q
-  together_posted q how size av posted calls tx = together_with p q ok size (ap (λ (v : Transit). length v.tx.sent) tx) av (ap (λ (v : Arriving). v.multi) posted) (ap (λ (v : Arriving). length v.begun) posted) (rw (posted, calls) earlier_then) (λ s. rw posted (fitting_posted s))
+  together_posted q how size av posted calls tx = together_with p q ok size (ap (λ (v : Transit). length v.tx.sent) tx) av (ap (λ (v : Arriving). length v.begun) posted) (rw (posted, calls) earlier_then) (λ s. rw posted (fitting_posted s))
       (λ s. rw (posted, tx) (let o : owed s (posting r p.rx) ≡ owed s p.rx = elim how [
         | inl none ↦ owed_joined p.rx rx r none s
         | inr (a, found, bare) ↦ owed_going p.rx rx r a found bare s
@@ -323,7 +321,7 @@ module _ (p : Parts) (ok : IsTogether p) (rx : IsArriving p.rx) (r : Receive) (n
         )
 
     pub together_given : (q : Parts) → q.cq.size ≡ p.cq.size → q.av ≡ p.av → q.rx ≡ posting r p.rx → q.calls ≡ p.calls + 1 → q.tx ≡ booked (at_match a.head.ack) a.source a.head p.tx → IsTogether q
-    together_given q size av posted calls tx = together_with p q ok size (ap (λ (v : Transit). length v.tx.sent) tx ∙ sent_booked (at_match a.head.ack) a.source a.head p.tx) av (ap (λ (v : Arriving). v.multi) posted) (ap (λ (v : Arriving). length v.begun) posted) (rw (posted, calls) earlier_then) (λ s. rw posted (fitting_posted s))
+    together_given q size av posted calls tx = together_with p q ok size (ap (λ (v : Transit). length v.tx.sent) tx ∙ sent_booked (at_match a.head.ack) a.source a.head p.tx) av (ap (λ (v : Arriving). length v.begun) posted) (rw (posted, calls) earlier_then) (λ s. rw posted (fitting_posted s))
         (λ s. rw (posted, tx) (enough s))
       where
         enough : (s : ℕ) → owed s (posting r p.rx) ≤ slice_index (booked (at_match a.head.ack) a.source a.head p.tx).rooms s
