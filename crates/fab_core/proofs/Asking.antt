@@ -1,11 +1,10 @@
 -- Requests: why they are refused, and that they are the machine's.
-use Rattle.std.proofs.Common.{◌≡◌, ℕ, ◌+◌, ◌%◌, ◌<◌, ◌≤◌, ◌^◌, Bool, true, false, not, ◌&&◌, ◌||◌, ◌==◌, List, [], ◌∷◌, ◌++◌, length, Option, Some, None, refl, sym, ap, ◌∙◌, subst, arith}
-use Rattle.std.specs.Prelude.{is_none, min, nat_le, nat_lt, IfSome, IfNone, IfErr, Result, Ok, Err}
+use Rattle.std.proofs.Common.{◌≡◌, ℕ, ◌+◌, ◌%◌, ◌<◌, ◌≤◌, Bool, true, false, not, ◌&&◌, ◌||◌, ◌==◌, List, [], ◌∷◌, length, Option, Some, None, refl, sym, ap, ◌∙◌, subst, arith}
+use Rattle.std.specs.Prelude.{is_none, min, nat_le, IfSome, IfNone, IfErr, Result, Err}
 use Rattle.std.proofs.lemmas.Bool.{eqb-true, leb-false, ltb-false}
 use Rattle.fab_base.specs.Elements.{element_size, is_of_form}
 use Rattle.fab_base.specs.declared.faults.Fault.{Fault}
 use Rattle.fab_base.specs.declared.faults.Fault.TheVariants.{NotSupported, MsgSize, Invalid, NoEntry}
-use Rattle.fab_base.specs.declared.items.Atom.{Atom}
 use Rattle.fab_base.specs.declared.items.AtomicOp.{AtomicOp}
 use Rattle.fab_base.specs.declared.items.AtomicOp.TheVariants.{Min, Max, Sum, Prod, Lor, Land, Lxor, Bor, Band, Bxor, AtomicRead, AtomicWrite, Cswap, CswapNe, CswapLe, CswapLt, CswapGe, CswapGt, Mswap}
 use Rattle.fab_base.specs.declared.items.Form.{Form}

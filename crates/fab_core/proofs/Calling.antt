@@ -1,7 +1,6 @@
 -- Calls: why they are refused, and that they are the machine's.
-use Rattle.std.proofs.Common.{◌≡◌, ℕ, ◌+◌, ◌<◌, ◌≤◌, ◌^◌, Bool, true, false, not, ◌&&◌, ◌||◌, ◌==◌, cond, List, [], ◌∷◌, ◌++◌, length, Option, Some, None, refl, sym, ap, ◌∙◌, subst, arith}
+use Rattle.std.proofs.Common.{◌≡◌, ℕ, ◌+◌, ◌<◌, ◌≤◌, Bool, true, false, not, ◌&&◌, ◌||◌, cond, List, [], ◌∷◌, length, Option, Some, None, refl, sym, ap, ◌∙◌, subst, arith}
 use Rattle.std.specs.Prelude.{find, is_none, is_some, nat_le, nat_lt, IfSome, IfNone, IfErr, OnErr, OnOk, Result, Ok, Err}
-use Rattle.std.specs.Option.{option_map}
 use Rattle.std.proofs.lemmas.Bool.{leb-false, ltb-false}
 use Rattle.fab_base.specs.declared.faults.Fault.{Fault}
 use Rattle.fab_base.specs.declared.faults.Fault.TheVariants.{Again, NotSupported, MsgSize, Invalid, NoEntry}
@@ -16,7 +15,7 @@ use Rattle.fab_model.specs.Matching.{takes}
 use Rattle.fab_model.specs.State.{State, fits, in_use, lookup}
 use Rattle.fab_model.specs.Receiving.{Posting, cancel, cancel_fault, cancellable, draw_due, lacks_room, least_is_wrong, may_receive, post, post_fault, receive_of, source_is_known, taken_by}
 use Rattle.fab_model.specs.Sending.{Order, first_fault, is_granted, is_too_long, is_well_formed, transmit, most_bytes, transmit_fault, transmit_to}
-use Rattle.fab_model.specs.Calls.{Call, Cancel, CancelFirst, Post, Transmit, answer, do_call}
+use Rattle.fab_model.specs.Calls.{Post, Transmit, answer, do_call}
 use Rattle.fab_cq.specs.Queues.{has_room}
 use Rattle.fab_rx.specs.Leaving.{is_meant}
 use Rattle.fab_face.specs.Acts.{DoesCall, multi_made}
@@ -25,7 +24,7 @@ use Rattle.fab_face.specs.Machine.{StayNext, asking, cancelling, kind_of, sendin
 use Rattle.fab_face.specs.declared.machine.Ask.{Ask}
 use Rattle.fab_face.specs.declared.machine.Message.{Message}
 use Rattle.fab_core.specs.Parts.{Parts, held_of, state_of}
-use Rattle.fab_core.specs.Doing.{accepted_by, canceled, lasting_post, lasting_transmit, left_by, posted_by}
+use Rattle.fab_core.specs.Doing.{accepted_by, lasting_post, lasting_transmit, left_by, posted_by}
 use Rattle.fab_core.specs.Orders.{is_held, most_of, order_of, passing, passing_post, posting_of, wanted}
 use Rattle.fab_core.proofs.Doing.{accepted_is, left_is, posted_is}
 use Rattle.fab_core.proofs.Made.{none_made}

@@ -1,12 +1,9 @@
 -- A message that no receive took leaves, or is claimed: what is owed then, and that the parts still belong together.
-use Rattle.std.proofs.Common.{◌≡◌, ◌≢◌, inl, inr, ℕ, ◌+◌, ◌-◌, ◌<◌, ◌≤◌, ◌==◌, Bool, true, false, ◌&&◌, List, [], ◌∷◌, ◌++◌, length, Option, Some, None, get_or, get_or-set_same, get_or-set_other, refl, sym, ap, ◌∙◌, subst, arith}
+use Rattle.std.proofs.Common.{◌≡◌, inl, inr, ℕ, ◌+◌, ◌-◌, ◌<◌, ◌≤◌, ◌==◌, Bool, true, ◌&&◌, List, length, Option, Some, None, get_or, get_or-set_same, get_or-set_other, refl, sym, ap, ◌∙◌, subst, arith}
 use Rattle.std.specs.Prelude.{find, is_some, IfSome, slice_index, slice_set}
-use Rattle.std.specs.Option.{option_map}
 use Rattle.std.proofs.lemmas.Bool.{cases_eq, cases_lt, eq-eqb, ne_eqb}
 use Rattle.std.proofs.lemmas.List.{get_or_past, set_past}
 use Rattle.fab_model.proofs.Firsts.{IfSome-find}
-use Rattle.fab_base.specs.declared.entries.PeekHow.{PeekHow}
-use Rattle.fab_base.specs.declared.entries.PeekHow.TheVariants.{Peek, Claim, Discard}
 use Rattle.fab_base.specs.declared.items.Item.{Item}
 use Rattle.fab_base.specs.declared.items.ItemHead.{ItemHead}
 use Rattle.fab_base.specs.declared.items.Want.{Want}
@@ -18,14 +15,13 @@ use Rattle.fab_model.specs.Complete.{at_delivery, at_either, at_match}
 use Rattle.fab_model.specs.Matching.{remove_first, takes}
 use Rattle.fab_model.specs.State.{Receiving, coming_from}
 use Rattle.fab_model.specs.Receiving.{without_claim, without_first}
-use Rattle.fab_rx.specs.Arriving.{Arriving, IsArriving, IsPartly, PartlyIn, begun_of, given, receive_by}
-use Rattle.fab_rx.specs.Claims.{any_tagged, claim_under, claiming_first, discarding, dropping, seen, taking, thrown}
+use Rattle.fab_rx.specs.Arriving.{Arriving, IsArriving, IsPartly, PartlyIn, begun_of, given}
+use Rattle.fab_rx.specs.Claims.{claiming_first, discarding, dropping, seen, taking, thrown}
 use Rattle.fab_rx.specs.Stored.{turned}
-use Rattle.fab_rx.specs.declared.results.Seen.{Seen}
 use Rattle.fab_tx.specs.Transit.{Transit}
 use Rattle.fab_core.specs.Parts.{IsFitting, IsTogether, Parts, bit, count_of, due_for, is_due, is_owed, is_owed_aside, owed}
 use Rattle.fab_core.specs.Doing.{booked}
-use Rattle.fab_core.specs.Looks.{is_due_now, looked, parted, parted_by}
+use Rattle.fab_core.specs.Looks.{is_due_now}
 use Rattle.fab_core.proofs.Owing.{count_last, count_without, either_is, in_row}
 use Rattle.fab_core.proofs.Together.{booked_rooms, sent_booked, together_with}
 

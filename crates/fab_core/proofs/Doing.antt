@@ -1,12 +1,10 @@
 -- What the steps make of the parts is what the machine makes of its state.
-use Rattle.std.proofs.Common.{◌≡◌, ℕ, ◌+◌, Bool, true, false, not, ◌&&◌, ◌==◌, cond, List, [], ◌∷◌, ◌++◌, length, append-nil, Option, Some, None, get_or, refl, sym, ap, ◌∙◌, subst}
+use Rattle.std.proofs.Common.{◌≡◌, ℕ, ◌+◌, Bool, true, false, not, ◌&&◌, ◌==◌, cond, List, [], ◌∷◌, append-nil, Option, Some, None, refl, sym, ap, ◌∙◌}
 use Rattle.std.proofs.lemmas.Bool.{eqb-true}
-use Rattle.std.specs.Prelude.{find, is_none, is_some, IfSome, unwrap_or, slice_set}
+use Rattle.std.specs.Prelude.{find, slice_set}
 use Rattle.fab_base.specs.declared.entries.ErrKind.{ErrKind}
-use Rattle.fab_base.specs.declared.entries.ErrKind.TheVariants.{NoKey, Access, Range}
 use Rattle.fab_base.specs.declared.items.Item.{Item}
 use Rattle.fab_base.specs.declared.items.ItemHead.{ItemHead}
-use Rattle.fab_base.specs.declared.items.Kind.TheVariants.{Msg, TagMsg, WriteReq, ReadReq, AtomicReq, Reply}
 use Rattle.fab_base.specs.declared.items.Outcome.{Outcome}
 use Rattle.fab_base.specs.declared.items.Outcome.TheVariants.{Done, BadKey, BadAccess, BadRange}
 use Rattle.fab_base.specs.declared.operations.Arrival.{Arrival}
@@ -16,20 +14,19 @@ use Rattle.fab_base.specs.declared.operations.Operation.{Operation}
 use Rattle.fab_base.specs.declared.operations.Receive.{Receive}
 use Rattle.fab_base.specs.declared.peers.Level.{Level}
 use Rattle.fab_model.specs.Matching.{is_message, remove_first, takes}
-use Rattle.fab_model.specs.State.{State, Receiving, Transmitting, awaits, coming_from, under_way, with_tx}
+use Rattle.fab_model.specs.State.{State, Transmitting, awaits, coming_from, under_way}
 use Rattle.fab_model.specs.Complete.{at_delivery, at_either, at_match, book, fill, filling, fill_multi, is_made_by, let_go, release, release_multi, reply}
-use Rattle.fab_model.specs.Receiving.{cancel, cancellable, give, post, receive_of, taken_by, without_first}
-use Rattle.fab_model.specs.Sending.{Order, accepting, answering, do_answer, do_sent, end_with, ending, expects, is_answered_by, refusal_of, success_of, transmit_to, transmitting}
-use Rattle.fab_model.specs.Arrivals.{do_head, do_tail, heading_message, heading_other, keeping, made_whole, tail_to}
-use Rattle.fab_rx.specs.Arriving.{Arriving, arriving, begun_of, bytes_come, finishing, given, kept, posting, receive_by, shared, with_receiving, without_closed}
+use Rattle.fab_model.specs.Receiving.{cancel, cancellable, give, post, without_first}
+use Rattle.fab_model.specs.Sending.{answering, do_answer, do_sent, end_with, ending, expects, is_answered_by, refusal_of, success_of, transmit_to}
+use Rattle.fab_model.specs.Arrivals.{do_head, do_tail, keeping, made_whole, tail_to}
+use Rattle.fab_rx.specs.Arriving.{begun_of, shared, with_receiving, without_closed}
 use Rattle.fab_rx.specs.Leaving.{is_meant}
-use Rattle.fab_rx.specs.Results.{closed_by, closed_if, completed, last_of}
-use Rattle.fab_tx.specs.Transit.{Transit, answered_by, ended, finds_answered, finishing as finishing_sent, seen_buf}
-use Rattle.fab_face.specs.Machine.{cancelling}
+use Rattle.fab_rx.specs.Results.{closed_by, closed_if, completed}
+use Rattle.fab_tx.specs.Transit.{answered_by, finds_answered, finishing as finishing_sent, seen_buf}
 use Rattle.fab_face.specs.declared.machine.Ask.{Ask}
 use Rattle.fab_face.specs.declared.machine.Message.{Message}
 use Rattle.fab_core.specs.Parts.{IsFitting, Parts, state_of}
-use Rattle.fab_core.specs.Doing.{accepted_by, answered, as_operation, booked, called, cq_after, counters_after, ending_by, entry_at_end, given_found, given_whole, heading, left_by, let_back, posted_by, received, receive_now, sent, tail, well_entry, whole, with_arriving, with_transit, written_if}
+use Rattle.fab_core.specs.Doing.{accepted_by, answered, booked, called, ending_by, entry_at_end, heading, left_by, let_back, posted_by, received, receive_now, sent, tail, with_arriving, with_transit}
 use Rattle.fab_core.specs.Orders.{order_of, posting_of, wanted}
 use Rattle.fab_core.proofs.Serves.{requested_is}
 

@@ -1,43 +1,39 @@
 -- A draw is the machine's, and leaves the parts together.
-use Rattle.std.proofs.Common.{◌≡◌, ℕ, ◌+◌, ◌-◌, ◌<◌, ◌≤◌, ◌&&◌, ◌||◌, Bool, true, false, List, [], ◌∷◌, ◌++◌, length, length-set, get_or-set_same, Option, Some, None, refl, sym, ap, ◌∙◌, subst, arith}
+use Rattle.std.proofs.Common.{◌≡◌, ℕ, ◌+◌, ◌-◌, ◌<◌, ◌≤◌, ◌&&◌, Bool, true, false, List, length, length-set, get_or-set_same, Option, Some, None, refl, sym, ap, ◌∙◌, arith}
 use Rattle.std.specs.Prelude.{◌==◌, find, is_some, nat_le, slice_index, slice_set}
 use Rattle.std.proofs.lemmas.Bool.{eq-eqb}
 use Rattle.std.specs.List.{list_any}
 use Rattle.std.specs.Option.{option_map}
-use Rattle.fab_base.specs.declared.entries.Entry.TheVariants.{Released as GivenBack}
-use Rattle.fab_base.specs.declared.entries.Taken.{Taken}
-use Rattle.fab_base.specs.declared.entries.Taken.TheVariants.{Success}
 use Rattle.fab_base.specs.declared.items.ItemHead.{ItemHead}
 use Rattle.fab_base.specs.declared.operations.Arrival.{Arrival}
-use Rattle.fab_base.specs.declared.operations.Coming.{Coming}
 use Rattle.fab_base.specs.declared.operations.Coming.TheVariants.{Into, Keep}
 use Rattle.fab_base.specs.declared.operations.Receive.{Receive}
 use Rattle.std.proofs.lemmas.List.Folds.{list_any_at}
 use Rattle.fab_model.proofs.Firsts.{list_any-not_found}
 use Rattle.fab_model.specs.Arrivals.{do_draw}
-use Rattle.fab_model.specs.Complete.{at_match, book, fill, filling, is_made_by, release, release_multi}
+use Rattle.fab_model.specs.Complete.{at_match, filling, is_made_by, release, release_multi}
 use Rattle.fab_model.specs.Matching.{remove_first, takes}
 use Rattle.fab_model.specs.Receiving.{draw_due, draws, give, goes}
-use Rattle.fab_model.specs.State.{Completions, Receiving, State, coming_from, fits, is_into, under_way, writing}
+use Rattle.fab_model.specs.State.{State, coming_from, fits, is_into, under_way}
 use Rattle.fab_cq.specs.Queues.{has_room}
 use Rattle.fab_rx.proofs.Plain.{shared_besides}
 use Rattle.fab_rx.specs.Arriving.{Arriving, IsArriving, IsPartly, PartlyIn, begun_of, shared, with_receiving}
 use Rattle.fab_rx.specs.Claims.{seen}
-use Rattle.fab_rx.specs.Drawing.{drawer, drawing, drawn, drawn_as, drawn_into, drawn_last, entries_drawn, set_apart}
+use Rattle.fab_rx.specs.Drawing.{drawer, drawing, drawn, drawn_last, entries_drawn, set_apart}
 use Rattle.fab_rx.specs.Results.{closed_if, completed, released}
 use Rattle.fab_rx.specs.Stored.{turned}
 use Rattle.fab_rx.specs.declared.results.Completed.{Completed}
 use Rattle.fab_rx.specs.declared.results.Drawn.{Drawn}
 use Rattle.fab_rx.specs.declared.results.Drawn.TheVariants.{GoesOn, Part, Last}
 use Rattle.fab_rx.specs.declared.results.Released.{Released}
-use Rattle.fab_tx.specs.Transit.{IsTransit, Transit}
+use Rattle.fab_tx.specs.Transit.{IsTransit}
 use Rattle.fab_face.specs.Acts.{Drew, Goes}
 use Rattle.fab_face.specs.Machine.{StayNext}
 use Rattle.fab_core.specs.Parts.{IsTogether, Parts, held_of, state_of}
 use Rattle.fab_core.specs.Doing.{booked, let_back, received, with_arriving}
 use Rattle.fab_core.specs.Draws.{call_drawn, drew, drew_as}
 use Rattle.fab_core.specs.Looks.{is_due_now}
-use Rattle.fab_core.proofs.Departing.{IsWay, Leaves, count_found, into_way, left_by, left_room, left_together, partly_found}
+use Rattle.fab_core.proofs.Departing.{Leaves, count_found, into_way, left_by, left_room, left_together, partly_found}
 use Rattle.fab_core.proofs.Doing.{completed_is, is_released, passes}
 use Rattle.fab_core.proofs.Fits.{fits_writing, fits_two}
 use Rattle.fab_core.proofs.Handed.{back_call_if}
@@ -107,9 +103,9 @@ module _ (p : Parts) (rx : IsArriving p.rx) (d : IsDrawn p.rx) where
   drawn_none none =
       let is : IsPartly d.a (coming_from p.rx.rx d.a.source) (begun_of p.rx d.a.source) = partly none in
       let within = in_row p.rx.rx.coming d.a.source Keep is.way in
-      let busy : under_way (goes d.a.source (Into d.r d.r.used) (set_apart d.r d.a p.rx.rx)) d.r.call ≡ true = 
-              list_any_at (is_into d.r.call) (slice_set p.rx.rx.coming d.a.source (Some (Into d.r d.r.used))) d.a.source None (let l = length-set p.rx.rx.coming d.a.source (Some (Into d.r d.r.used)) in omega (arith, l, within))
-              (rw (get_or-set_same p.rx.rx.coming d.a.source (Some (Into d.r d.r.used)) None within) (same_eq d.r.call)) in
+      let busy : under_way (goes d.a.source (Into d.r d.r.used) (set_apart d.r d.a p.rx.rx)) d.r.call ≡ true =
+      list_any_at (is_into d.r.call) (slice_set p.rx.rx.coming d.a.source (Some (Into d.r d.r.used))) d.a.source None (let l = length-set p.rx.rx.coming d.a.source (Some (Into d.r d.r.used)) in omega (arith, l, within))
+      (rw (get_or-set_same p.rx.rx.coming d.a.source (Some (Into d.r d.r.used)) None within) (same_eq d.r.call)) in
       rw (d.first, d.found, none, do_draw, give) (busy_stays d.r (state_of (with_arriving (with_receiving (goes d.a.source (Into d.r d.r.used) (set_apart d.r d.a p.rx.rx)) p.rx) p)) d.least d.multi busy)
 
   handed_by : (bytes : List ℕ) (q : Parts) (o : Option Receive) → closed_if d.r.least d.r.call (filling d.r d.r.used bytes (set_apart d.r d.a p.rx.rx)) ≡ o
@@ -160,8 +156,11 @@ module _ (p : Parts) (rx : IsArriving p.rx) (due : draw_due p.rx.rx ≡ true) (r
   is = drew_is p rx (who_draws p.rx due)
 
   pub draw_goes : (q : Parts) → q ≡ drew p → has_room (entries_drawn (drawn p.rx)) p.cq ≡ true → Goes None (held_of p) Drew (held_of q)
-  draw_goes q same room = (due, ap (λ (s : State). fits s.cq) is ∙ fits_drew p read now ∙ room,
-      ap held_of same ∙ sym (as_held (drawn p.rx) (call_drawn p.rx.rx) (with_arriving (drawing p.rx) p)) ∙ ap (λ (s : State). record (held_of p) { state = s }) (sym is))
+  draw_goes q same room = (
+    due,
+    ap (λ (s : State). fits s.cq) is ∙ fits_drew p read now ∙ room,
+    ap held_of same ∙ sym (as_held (drawn p.rx) (call_drawn p.rx.rx) (with_arriving (drawing p.rx) p)) ∙ ap (λ (s : State). record (held_of p) { state = s }) (sym is),
+  )
 
   pub draw_lacks : has_room (entries_drawn (drawn p.rx)) p.cq ≡ false → fits (do_draw (state_of p)).cq ≡ false
   draw_lacks full = ap (λ (s : State). fits s.cq) is ∙ fits_drew p read now ∙ full

@@ -1,18 +1,15 @@
 -- Whether the completions of a step have room.
-use Rattle.std.proofs.Common.{◌≡◌, ℕ, ◌+◌, ◌-◌, ◌≤◌, Bool, true, false, not, ◌&&◌, ◌||◌, List, [], ◌∷◌, ◌++◌, length, length-append, Option, Some, None, refl, sym, ap, ◌∙◌, arith}
+use Rattle.std.proofs.Common.{◌≡◌, ℕ, ◌≤◌, Bool, true, false, not, ◌&&◌, ◌||◌, List, [], ◌∷◌, ◌++◌, length, length-append, Option, Some, None, refl, ap, ◌∙◌, arith}
 use Rattle.std.specs.Prelude.{is_some, nat_le}
 use Rattle.std.proofs.lemmas.Bool.{le-leb, leb-true}
 use Rattle.fab_base.specs.declared.entries.ErrKind.{ErrKind}
 use Rattle.fab_base.specs.declared.entries.Taken.{Taken}
 use Rattle.fab_base.specs.declared.items.Item.{Item}
-use Rattle.fab_base.specs.declared.items.ItemHead.{ItemHead}
 use Rattle.fab_base.specs.declared.items.Outcome.{Outcome}
 use Rattle.fab_base.specs.declared.items.Outcome.TheVariants.{Done}
-use Rattle.fab_base.specs.declared.operations.Arrival.{Arrival}
 use Rattle.fab_base.specs.declared.operations.Coming.{Coming}
 use Rattle.fab_base.specs.declared.operations.Coming.TheVariants.{Into, Keep, Throw, Request, Answer}
 use Rattle.fab_base.specs.declared.operations.Operation.{Operation}
-use Rattle.fab_base.specs.declared.operations.Written.{Written}
 use Rattle.fab_model.specs.State.{Completions, State, coming_from, fits, writing}
 use Rattle.fab_model.specs.Sending.{do_sent, ending, refusal_of}
 use Rattle.fab_cq.specs.Queues.{has_room}
@@ -25,7 +22,7 @@ use Rattle.fab_tx.specs.declared.results.Ended.{Ended}
 use Rattle.fab_rma.specs.Serving.{outcome_at}
 use Rattle.fab_core.specs.Parts.{Parts, state_of}
 use Rattle.fab_core.proofs.Doing.{sent_is}
-use Rattle.fab_core.specs.Doing.{answer_writes, answered, cq_after, entry_at_end, lacks_at_tail, sent, tail, well_entry, whole, with_arriving, writes_at_tail, writes_end, written_if}
+use Rattle.fab_core.specs.Doing.{answer_writes, answered, cq_after, entry_at_end, lacks_at_tail, sent, tail, whole, with_arriving, writes_at_tail, writes_end, written_if}
 use Rattle.fab_core.specs.Requests.{data_of}
 use Rattle.fab_core.proofs.Serves.{writes_told}
 

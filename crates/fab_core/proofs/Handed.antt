@@ -27,7 +27,7 @@ use Rattle.fab_rx.specs.declared.results.Completed.{Completed}
 use Rattle.fab_rx.specs.declared.results.Finished.{Finished}
 use Rattle.fab_rx.specs.declared.results.Finished.TheVariants.{Received, Last, Kept, Thrown, Request as RequestCame, Answer as AnswerCame}
 use Rattle.fab_rx.specs.declared.results.Posted.{Posted}
-use Rattle.fab_rx.specs.declared.results.Posted.TheVariants.{Joined, GoesOn, Whole}
+use Rattle.fab_rx.specs.declared.results.Posted.TheVariants.{GoesOn, Whole}
 use Rattle.fab_tx.specs.Transit.{IsTransit, Transit, answered_by, finds_answered, booking}
 use Rattle.fab_rma.specs.Serving.{Serving, is_request, outcome_at, room_for}
 use Rattle.fab_wire.specs.Frames.{IsSound}

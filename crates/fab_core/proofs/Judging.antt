@@ -1,5 +1,5 @@
 -- Why looks, receives of claimed messages and drops are refused, and that they are the machine's calls.
-use Rattle.std.proofs.Common.{◌≡◌, ℕ, ◌+◌, ◌≤◌, Bool, true, false, not, ◌&&◌, ◌||◌, ◌==◌, cond, List, [], ◌∷◌, length, Option, Some, None, refl, sym, ap, ◌∙◌}
+use Rattle.std.proofs.Common.{◌≡◌, ℕ, ◌≤◌, Bool, true, false, not, ◌&&◌, ◌||◌, ◌==◌, cond, List, [], ◌∷◌, length, Option, Some, None, refl, sym, ap, ◌∙◌}
 use Rattle.std.specs.Prelude.{find, is_none, is_some, nat_lt, IfSome, IfNone, IfErr, OnErr, OnOk, Result, Ok, Err}
 use Rattle.std.specs.Option.{option_map}
 use Rattle.fab_base.specs.declared.faults.Busy.{Busy}
@@ -23,7 +23,7 @@ use Rattle.fab_face.specs.Machine.{StayNext}
 use Rattle.fab_face.specs.declared.looking.Look.{Look}
 use Rattle.fab_core.specs.Parts.{Parts, held_of, state_of}
 use Rattle.fab_core.specs.Orders.{is_held}
-use Rattle.fab_core.specs.Looks.{dropped_by, is_held_take, lacks_take, lasting_claimed, lasting_look, look_want, looked_by, taken_by}
+use Rattle.fab_core.specs.Looks.{dropped_by, is_held_take, lasting_claimed, lasting_look, look_want, looked_by, taken_by}
 use Rattle.fab_core.proofs.Made.{none_made}
 use Rattle.fab_core.proofs.Fits.{fits_writing}
 use Rattle.fab_core.proofs.Seeing.{drop_is, dropped_next, held_dropped, held_looked, held_taken, look_is, looked_next, take_is, taken_next}

@@ -1,5 +1,5 @@
 -- The list of multi-receives whose end was not read.
-use Rattle.std.proofs.Common.{◌≡◌, ℕ, List, [], ◌++◌, append-nil, Option, Some, None, refl, sym, ap}
+use Rattle.std.proofs.Common.{◌≡◌, [], append-nil, refl, sym}
 use Rattle.fab_model.specs.State.{State}
 use Rattle.fab_model.specs.Calls.{Call}
 use Rattle.fab_face.specs.Held.{Held}

@@ -1,5 +1,5 @@
 -- What is next for a peer stays so while replies are booked behind it.
-use Rattle.std.proofs.Common.{◌≡◌, ◌≢◌, inl, inr, ℕ, zero, suc, ◌+◌, ◌<◌, Bool, true, false, List, [], ◌∷◌, ◌++◌, length, get_or, get_or-set_same, get_or-set_other, Option, Some, None, refl, sym, ap, ◌∙◌, arith}
+use Rattle.std.proofs.Common.{◌≡◌, ◌≢◌, inl, inr, ℕ, zero, suc, ◌+◌, Bool, true, false, List, [], ◌∷◌, ◌++◌, length, get_or, get_or-set_same, get_or-set_other, Option, Some, None, refl, ap}
 use Rattle.std.specs.Prelude.{find, slice_get, slice_index, slice_set}
 use Rattle.fab_base.specs.declared.items.Want.{Want}
 use Rattle.fab_model.specs.Matching.{takes}
@@ -19,8 +19,7 @@ use Rattle.fab_tx.specs.Transit.{Transit, next_item}
 use Rattle.fab_core.specs.Parts.{Parts, state_of}
 use Rattle.fab_rx.specs.Arriving.{finishing}
 use Rattle.fab_rx.specs.Results.{last_of}
-use Rattle.fab_core.specs.Doing.{booked, given_found, given_whole, left_by, let_back, posted_by, tail, whole, with_arriving}
-use Rattle.fab_core.specs.Parts.{held_of}
+use Rattle.fab_core.specs.Doing.{booked, let_back, posted_by, tail, whole, with_arriving}
 
 -- what is accepted for each peer goes on from what was, and as much of it is transmitted
 abbrev pub GoesOn : Transmitting → Transmitting → Type 0

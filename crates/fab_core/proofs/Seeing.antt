@@ -1,17 +1,15 @@
 -- What looks make of the parts is what the machine makes of its state: looks, receives of claimed messages, drops.
-use Rattle.std.proofs.Common.{◌≡◌, ℕ, ◌+◌, ◌&&◌, ◌==◌, Bool, true, false, List, length, Option, Some, None, refl, sym, ap, ◌∙◌}
-use Rattle.std.specs.Prelude.{find, is_some}
-use Rattle.std.specs.Option.{option_map}
+use Rattle.std.proofs.Common.{◌≡◌, ℕ, ◌+◌, ◌==◌, Bool, true, false, List, Option, Some, None, refl}
+use Rattle.std.specs.Prelude.{find}
 use Rattle.fab_base.specs.declared.entries.PeekHow.{PeekHow}
 use Rattle.fab_base.specs.declared.entries.PeekHow.TheVariants.{Peek, Claim, Discard}
-use Rattle.fab_base.specs.declared.items.ItemHead.{ItemHead}
 use Rattle.fab_base.specs.declared.items.Want.{Want}
 use Rattle.fab_base.specs.declared.operations.Arrival.{Arrival}
 use Rattle.fab_base.specs.declared.operations.Receive.{Receive}
 use Rattle.fab_model.specs.Complete.{at_match}
 use Rattle.fab_model.specs.Matching.{takes}
 use Rattle.fab_model.specs.Receiving.{drop_arrival, drop_claimed, give, look, take_claimed, without_claim, without_first}
-use Rattle.fab_model.specs.State.{State, fits, writing}
+use Rattle.fab_model.specs.State.{writing}
 use Rattle.fab_face.specs.Machine.{StayNext}
 use Rattle.fab_face.specs.declared.looking.Look.{Look}
 use Rattle.fab_rx.specs.Arriving.{Arriving, with_receiving}
@@ -19,8 +17,8 @@ use Rattle.fab_rx.specs.Claims.{claim_under, seen}
 use Rattle.fab_rx.specs.declared.results.Seen.{Seen}
 use Rattle.fab_tx.specs.Transit.{Transit}
 use Rattle.fab_core.specs.Parts.{Parts, held_of, state_of}
-use Rattle.fab_core.specs.Doing.{booked, called, with_arriving}
-use Rattle.fab_core.specs.Looks.{claim_by, claim_receive, dropped_by, looked, looked_by, met_by, parted, parted_by, taken_by, told}
+use Rattle.fab_core.specs.Doing.{called, with_arriving}
+use Rattle.fab_core.specs.Looks.{claim_by, claim_receive, dropped_by, looked_by, met_by, parted, taken_by, told}
 use Rattle.fab_core.proofs.Doing.{book_is, received_is}
 use Rattle.fab_core.proofs.Next.{GoesOn, booked_next, booked_places}
 

@@ -1,6 +1,6 @@
 -- Multi-receives are judged and posted as the machine does.
-use Rattle.std.proofs.Common.{◌≡◌, ℕ, ◌+◌, ◌<◌, ◌≤◌, ◌^◌, Bool, true, false, not, ◌&&◌, ◌||◌, cond, List, [], ◌∷◌, ◌++◌, length, Option, Some, None, refl, sym, ap, ◌∙◌, subst, arith}
-use Rattle.std.specs.Prelude.{is_none, nat_le, nat_lt, IfSome, IfNone, IfErr, OnErr, OnOk, Result, Ok, Err}
+use Rattle.std.proofs.Common.{◌≡◌, ℕ, ◌<◌, Bool, true, false, not, ◌||◌, List, [], ◌∷◌, length, Option, Some, None, refl, sym, ap, ◌∙◌, arith}
+use Rattle.std.specs.Prelude.{nat_le, nat_lt, IfSome, IfNone, IfErr, OnErr, OnOk, Result, Ok, Err}
 use Rattle.std.proofs.lemmas.Bool.{leb-false, ltb-false}
 use Rattle.fab_base.specs.declared.faults.Fault.{Fault}
 use Rattle.fab_base.specs.declared.faults.Fault.TheVariants.{Again, NotSupported, MsgSize, Invalid}
@@ -8,11 +8,9 @@ use Rattle.fab_base.specs.declared.faults.Busy.TheVariants.{CqFull, PostedFull}
 use Rattle.fab_base.specs.declared.faults.Refused.{Refused as Turned}
 use Rattle.fab_base.specs.declared.peers.LineResult.TheVariants.{Done, Refused}
 use Rattle.fab_model.specs.State.{State, fits}
-use Rattle.fab_model.specs.Calls.{Post, do_call}
-use Rattle.fab_model.specs.Receiving.{draw_due, lacks_room, least_is_wrong, may_receive, post, receive_of, source_is_known, taken_by}
+use Rattle.fab_model.specs.Calls.{do_call}
+use Rattle.fab_model.specs.Receiving.{draw_due, least_is_wrong, may_receive, post, source_is_known}
 use Rattle.fab_model.specs.Sending.{first_fault}
-use Rattle.fab_rx.specs.Arriving.{Arriving, opening}
-use Rattle.fab_tx.specs.Transit.{Transit}
 use Rattle.fab_face.specs.Acts.{DoesCall}
 use Rattle.fab_face.specs.Answers.{is_final}
 use Rattle.fab_face.specs.Machine.{StayNext}

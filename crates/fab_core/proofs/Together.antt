@@ -1,6 +1,6 @@
 -- The parts still belong together after each step.
-use Rattle.std.proofs.Common.{◌≡◌, ◌≢◌, inl, inr, ◌⊎◌, ℕ, ◌+◌, ◌-◌, ◌<◌, ◌≤◌, ◌&&◌, Bool, true, false, List, [], length, length-set, replicate, Option, Some, None, get_or, get_or-set_same, get_or-set_other, refl, sym, ap, ◌∙◌, subst, arith}
-use Rattle.std.specs.Prelude.{IfSome, All, find, is_some, slice_index, slice_set}
+use Rattle.std.proofs.Common.{◌≡◌, inl, inr, ◌⊎◌, ℕ, ◌+◌, ◌-◌, ◌<◌, ◌≤◌, ◌&&◌, Bool, true, false, List, length, length-set, replicate, Option, Some, None, get_or, get_or-set_same, get_or-set_other, refl, sym, ap, ◌∙◌, subst, arith}
+use Rattle.std.specs.Prelude.{IfSome, find, slice_index, slice_set}
 use Rattle.std.specs.Option.{option_map}
 use Rattle.std.proofs.lemmas.Bool.{cases_eq, cases_lt, eq-eqb}
 use Rattle.std.proofs.lemmas.List.{get_or-replicate, get_or_past, length-replicate, set_past}
@@ -16,18 +16,17 @@ use Rattle.fab_base.specs.declared.operations.Coming.{Coming}
 use Rattle.fab_base.specs.declared.operations.Coming.TheVariants.{Into, Keep, Throw, Request, Answer}
 use Rattle.fab_base.specs.declared.operations.Operation.{Operation}
 use Rattle.fab_base.specs.declared.operations.Receive.{Receive}
-use Rattle.fab_base.specs.declared.operations.Tally.{Tally}
 use Rattle.fab_model.specs.Matching.{is_message, takes}
 use Rattle.fab_model.specs.State.{Completions, Transmitting, coming_from, lookup}
-use Rattle.fab_model.specs.Complete.{at_match, joining}
+use Rattle.fab_model.specs.Complete.{at_match}
 use Rattle.fab_model.specs.Sending.{transmitting, accepting, answering}
-use Rattle.fab_model.specs.Arrivals.{heading_message, heading_other, keeping, made_whole, taker, way_of}
-use Rattle.fab_rx.specs.Arriving.{Arriving, IsArriving, IsPartly, PartlyIn, arriving, bare, begun_of, bytes_come, finishing, growing, headed, kept, lengthened, nothing_arrived, posting, with_receiving}
+use Rattle.fab_model.specs.Arrivals.{heading_message, heading_other, taker, way_of}
+use Rattle.fab_rx.specs.Arriving.{Arriving, IsArriving, IsPartly, PartlyIn, arriving, bare, begun_of, finishing, growing, headed, lengthened, nothing_arrived, posting}
 use Rattle.fab_tx.specs.Transit.{Transit, answered_by, booking, ended, nothing_accepted, with_room}
 use Rattle.fab_av.specs.Addresses.{Addresses}
 use Rattle.fab_rma.specs.Serving.{is_request}
 use Rattle.fab_core.specs.Parts.{IsFitting, IsTogether, Parts, bit, is_due, is_owed, owed}
-use Rattle.fab_core.specs.Doing.{asks, booked, cq_after, entry_at_end, growing_by, heading, with_arriving, with_transit, written_if}
+use Rattle.fab_core.specs.Doing.{asks, booked, cq_after, entry_at_end, growing_by, heading, with_transit, written_if}
 use Rattle.fab_core.proofs.Owing.{in_row, owed_besides, owed_given, owed_going, owed_grown, owed_here, owed_joined, owed_there, owed_whole, whole_coming}
 
 -- ---- nothing has happened

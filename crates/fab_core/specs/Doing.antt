@@ -9,8 +9,7 @@
 --     sent                            an item is transmitted
 --     posted_by, left_by              a receive call, a cancel
 --     accepted_by                     a message is accepted
-use Rattle.std.specs.Prelude.{ℕ, ◌+◌, ◌∷◌, Bool, true, false, ◌&&◌, ◌||◌, ◌==◌, not, cond, List, [], length, Option, Some, None, is_none, is_some, find, nat_lt, nat_le}
-use Rattle.std.specs.Option.{option_map}
+use Rattle.std.specs.Prelude.{ℕ, ◌+◌, ◌∷◌, Bool, true, false, ◌&&◌, ◌||◌, ◌==◌, not, List, [], length, Option, Some, None, is_none, is_some, find, nat_lt, nat_le}
 use Rattle.fab_base.specs.declared.entries.Class.TheVariants.{Recv}
 use Rattle.fab_base.specs.declared.entries.Entry.TheVariants.{Released}
 use Rattle.fab_base.specs.declared.entries.ErrKind.TheVariants.{Canceled}
@@ -21,8 +20,6 @@ use Rattle.fab_base.specs.declared.faults.Fault.TheVariants.{NotSupported, MsgSi
 use Rattle.fab_base.specs.declared.frames.Frame.{Frame}
 use Rattle.fab_base.specs.declared.items.Item.{Item}
 use Rattle.fab_base.specs.declared.items.ItemHead.{ItemHead}
-use Rattle.fab_base.specs.declared.items.Kind.{Kind}
-use Rattle.fab_base.specs.declared.items.Kind.TheVariants.{Msg, TagMsg, WriteReq, ReadReq, AtomicReq, Reply}
 use Rattle.fab_base.specs.declared.items.Outcome.{Outcome}
 use Rattle.fab_base.specs.declared.items.Outcome.TheVariants.{Done}
 use Rattle.fab_base.specs.declared.items.Want.{Want}
@@ -34,7 +31,7 @@ use Rattle.fab_base.specs.declared.operations.Receive.{Receive}
 use Rattle.fab_base.specs.declared.operations.Tally.{Tally}
 use Rattle.fab_base.specs.declared.peers.Level.{Level}
 use Rattle.fab_model.specs.Matching.{is_message, takes}
-use Rattle.fab_model.specs.State.{Completions, State, Transmitting, coming_from, counting, in_use, lookup, writing, Region}
+use Rattle.fab_model.specs.State.{Completions, State, Transmitting, coming_from, counting, lookup, writing, Region}
 use Rattle.fab_model.specs.Complete.{at_delivery, at_either, at_match, error, reply_head}
 use Rattle.fab_model.specs.Receiving.{Posting, cancellable, least_is_wrong, may_receive, source_is_known, without_posted}
 use Rattle.fab_model.specs.Sending.{Order, class_of, ending, first_fault, head_of, is_granted, is_silent, is_too_long, is_well_formed, refusal_of, success_of}

@@ -6,7 +6,7 @@
 --     lasting_look, lasting_claimed        why they are refused for a reason that does not pass
 --     lacks_take ctx p              the receive has no room for its completion
 --     is_held_take ctx p            it waits, for that or for a draw
-use Rattle.std.specs.Prelude.{ℕ, ◌+◌, ◌∷◌, Bool, true, false, ◌&&◌, ◌||◌, not, List, [], length, Option, Some, None, is_none, is_some, find, nat_lt}
+use Rattle.std.specs.Prelude.{ℕ, ◌∷◌, Bool, true, false, ◌&&◌, ◌||◌, not, List, [], Option, Some, None, is_none, is_some, find, nat_lt}
 use Rattle.std.specs.Option.{option_map}
 use Rattle.fab_base.specs.declared.entries.Entry.TheVariants.{Peeked}
 use Rattle.fab_base.specs.declared.entries.ErrKind.TheVariants.{NoMsg}

@@ -5,13 +5,12 @@
 --     wanted s ask                what the receive matches
 --     is_held n p                 a receive call waits: a draw is due, or so many entries have no room
 --     passing_post want p         why it is refused now
-use Rattle.std.specs.Prelude.{ℕ, Bool, true, false, not, ◌||◌, cond, List, [], length, Option, Some, None, is_none, find, nat_le}
+use Rattle.std.specs.Prelude.{ℕ, Bool, not, ◌||◌, cond, List, [], length, Option, Some, None, is_none, find, nat_le}
 use Rattle.std.specs.Option.{option_map}
 use Rattle.fab_base.specs.declared.faults.Fault.{Fault}
 use Rattle.fab_base.specs.declared.faults.Fault.TheVariants.{Again}
 use Rattle.fab_base.specs.declared.faults.Busy.TheVariants.{CqFull, PostedFull}
 use Rattle.fab_base.specs.declared.items.Want.{Want}
-use Rattle.fab_base.specs.declared.operations.Arrival.{Arrival}
 use Rattle.fab_cq.specs.Queues.{has_room}
 use Rattle.fab_core.specs.Parts.{Parts}
 use Rattle.fab_model.specs.Matching.{takes}

@@ -141,9 +141,9 @@ impl<M: Matcher> Core<M> {
         };
         let about = Snapshot::of(&self.calls);
         enlist(&mut self.multis, &self.calls, ask.ctx);
-        let _id =
-            self.rx
-                .post_multi::<Snapshot<Calls>, ThisCall>(&about, want, buf, ask.least, ask.ctx);
+        let _id = self
+            .rx
+            .post_multi::<Snapshot<Calls>, ThisCall>(&about, want, buf, ask.least, ask.ctx);
         call(&mut self.calls);
     }
 

@@ -1,4 +1,3 @@
-use Rattle.std.proofs.Common.{◌∙◌, sym, ap}
 use Rattle.fab_core.proofs.Calling.{if_cancels, if_cancels_not, is_there}
 use Rattle.fab_core.proofs.machine.CoreMachine.cancel.Goals as goal
 

@@ -1,4 +1,4 @@
-use Rattle.std.proofs.Common.{◌≡◌, ◌∙◌, refl, sym, ap}
+use Rattle.std.proofs.Common.{◌∙◌, refl, sym}
 use Rattle.fab_core.specs.Parts.{Parts}
 use Rattle.fab_core.proofs.Handed.{given_room, given_together, joined_together}
 use Rattle.fab_core.proofs.Together.{most_booked}

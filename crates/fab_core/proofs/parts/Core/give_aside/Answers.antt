@@ -1,4 +1,4 @@
-use Rattle.std.proofs.Common.{◌≡◌, ◌∙◌, true, refl, sym, ap, subst}
+use Rattle.std.proofs.Common.{◌≡◌, ◌∙◌, true, refl, sym, subst}
 use Rattle.std.specs.Prelude.{is_some}
 use Rattle.fab_rx.specs.Claims.{claim_under}
 use Rattle.fab_core.specs.Parts.{Parts}

@@ -1,4 +1,4 @@
-use Rattle.std.proofs.Common.{◌≡◌, ◌∙◌, refl, sym, ap}
+use Rattle.std.proofs.Common.{◌∙◌, refl, sym, ap}
 use Rattle.fab_model.specs.State.{Completions}
 use Rattle.fab_core.specs.Parts.{Parts}
 use Rattle.fab_core.proofs.Aside.{drop_room, drop_together, most_parted}

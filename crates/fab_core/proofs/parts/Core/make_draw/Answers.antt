@@ -1,4 +1,4 @@
-use Rattle.std.proofs.Common.{◌≡◌, ◌∙◌, true, refl, sym, ap, subst}
+use Rattle.std.proofs.Common.{◌≡◌, ◌∙◌, true, refl, sym, subst}
 use Rattle.fab_model.specs.Receiving.{draw_due}
 use Rattle.fab_cq.specs.Queues.{has_room}
 use Rattle.fab_rx.specs.Drawing.{drawn, entries_drawn}

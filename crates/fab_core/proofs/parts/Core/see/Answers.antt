@@ -1,4 +1,4 @@
-use Rattle.std.proofs.Common.{◌≡◌, ◌∙◌, refl, sym, ap, subst}
+use Rattle.std.proofs.Common.{◌∙◌, refl, sym, ap, subst}
 use Rattle.fab_model.specs.State.{Completions}
 use Rattle.fab_core.specs.Parts.{Parts}
 use Rattle.fab_core.specs.Requests.{IsServing}

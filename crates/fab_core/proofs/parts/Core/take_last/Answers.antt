@@ -1,4 +1,3 @@
-use Rattle.std.proofs.Common.{sym}
 use Rattle.std.proofs.lemmas.Bool.{eq-eqb}
 use Rattle.fab_wire.specs.Frames.{frame}
 use Rattle.fab_core.proofs.Feeding.{last_goes, last_lacks, last_room, last_room_back, last_whole, nothing_begun, stay_fed}
