@@ -1,5 +1,5 @@
 -- The address vector of a core is the machine's.
-use Rattle.std.proofs.Common.{◌≡◌, ℕ, ◌<◌, List, length, map, Option, Some, refl, sym, ap, ◌∙◌, subst}
+use Rattle.std.proofs.Common.{◌≡◌, ℕ, ◌<◌, List, map, Some, refl, sym, ◌∙◌, subst}
 use Rattle.std.specs.Prelude.{IfOk, IfErr, OnOk, Result, Ok, Err}
 use Rattle.fab_base.specs.declared.faults.Fault.{Fault}
 use Rattle.fab_base.specs.declared.faults.NoMemory.{NoMemory}
@@ -17,7 +17,6 @@ module _ (p : Parts) (av : Addresses) (ok : IsTogether p) where
     peers = ok.peers;
     addresses = peers ∙ ok.addresses;
     addressed = λ i k is. subst (λ (n : ℕ). k < n) (peers ∙ ok.addresses) (within i k is);
-    plain = ok.plain;
     earlier = ok.earlier;
     fitting = ok.fitting;
     rooms = ok.rooms;

@@ -1,10 +1,9 @@
 -- After a look, a receive of a claimed message, or a drop, the parts still belong together, and a reply that is due has room.
-use Rattle.std.proofs.Common.{◌≡◌, ℕ, ◌+◌, ◌<◌, ◌≤◌, ◌&&◌, ◌==◌, Bool, true, false, List, length, Option, Some, None, refl, sym, ap, ◌∙◌, subst, arith}
+use Rattle.std.proofs.Common.{◌≡◌, ℕ, ◌+◌, ◌<◌, ◌&&◌, ◌==◌, true, false, List, length, Option, Some, None, refl, sym, ap, ◌∙◌, subst, arith}
 use Rattle.std.specs.Prelude.{find, is_some, IfSome, slice_index}
 use Rattle.std.specs.Option.{option_map}
 use Rattle.fab_base.specs.declared.entries.PeekHow.{PeekHow}
 use Rattle.fab_base.specs.declared.entries.PeekHow.TheVariants.{Peek, Claim, Discard}
-use Rattle.fab_base.specs.declared.items.ItemHead.{ItemHead}
 use Rattle.fab_base.specs.declared.items.Want.{Want}
 use Rattle.fab_base.specs.declared.operations.Arrival.{Arrival}
 use Rattle.fab_base.specs.declared.operations.Receive.{Receive}
@@ -16,10 +15,10 @@ use Rattle.fab_rx.specs.Claims.{claim_under, claiming_first, discarding, droppin
 use Rattle.fab_rx.specs.Results.{completed, posted_as}
 use Rattle.fab_rx.specs.declared.results.Completed.{Completed}
 use Rattle.fab_rx.specs.declared.results.Posted.{Posted}
-use Rattle.fab_rx.specs.declared.results.Posted.TheVariants.{Joined, GoesOn, Whole}
+use Rattle.fab_rx.specs.declared.results.Posted.TheVariants.{Whole}
 use Rattle.fab_rx.specs.declared.results.Seen.{Seen}
 use Rattle.fab_tx.specs.Transit.{IsTransit, Transit}
-use Rattle.fab_core.specs.Parts.{IsFitting, IsTogether, Parts, owed}
+use Rattle.fab_core.specs.Parts.{IsFitting, IsTogether, Parts}
 use Rattle.fab_core.specs.Doing.{booked}
 use Rattle.fab_core.specs.Looks.{claim_receive, is_due_now, looked, parted, parted_by}
 use Rattle.fab_core.proofs.Departing.{Leaves, discard_leaves, drop_leaves, left_room, left_together, owed_claimed, take_leaves}
@@ -63,7 +62,7 @@ module _ (p : Parts) (ok : IsTogether p) (rx : IsArriving p.rx) (tx : IsTransit 
     pub look_together : (how : PeekHow) (ctx : ℕ) (q : Parts) → q.cq.size ≡ p.cq.size → q.av ≡ p.av → q.rx ≡ looked how want ctx p.rx → q.calls ≡ p.calls + 1
         → q.tx ≡ parted_by how (option_map seen (find (takes want) p.rx.rx.unexpected)) p.tx → IsTogether q
     look_together Peek ctx q size av rx' calls tx' = together_called p q ok size (ap (λ (v : Transit). length v.tx.sent) tx') av rx' calls (ap (λ (v : Transit). v.rooms) tx')
-    look_together Claim ctx q size av rx' calls tx' = together_with p q ok size (ap (λ (v : Transit). length v.tx.sent) tx') av (ap (λ (v : Arriving). v.multi) rx') (ap (λ (v : Arriving). length v.begun) rx') (rw (rx', calls) (let e = ok.earlier in omega (arith, e)))
+    look_together Claim ctx q size av rx' calls tx' = together_with p q ok size (ap (λ (v : Transit). length v.tx.sent) tx') av (ap (λ (v : Arriving). length v.begun) rx') (rw (rx', calls) (let e = ok.earlier in omega (arith, e)))
         (λ s. rw rx' (fits (find (takes want) p.rx.rx.unexpected) refl s)) (λ s. rw (rx', tx') (let o = owed_claimed p.rx s want ctx (find (takes want) p.rx.rx.unexpected) refl in let e = ok.rooms s in omega (arith, o, e)))
       where
         fits : (o : Option Arrival) → find (takes want) p.rx.rx.unexpected ≡ o → (s : ℕ) → IsFitting (coming_from (claiming_first want ctx p.rx).rx s) (begun_of p.rx s)

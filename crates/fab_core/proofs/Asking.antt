@@ -1,11 +1,10 @@
 -- Requests: why they are refused, and that they are the machine's.
-use Rattle.std.proofs.Common.{◌≡◌, ℕ, ◌+◌, ◌%◌, ◌<◌, ◌≤◌, ◌^◌, Bool, true, false, not, ◌&&◌, ◌||◌, ◌==◌, List, [], ◌∷◌, ◌++◌, length, Option, Some, None, refl, sym, ap, ◌∙◌, subst, arith}
-use Rattle.std.specs.Prelude.{is_none, min, nat_le, nat_lt, IfSome, IfNone, IfErr, Result, Ok, Err}
+use Rattle.std.proofs.Common.{◌≡◌, ℕ, ◌+◌, ◌%◌, ◌<◌, ◌≤◌, Bool, true, false, not, ◌&&◌, ◌||◌, ◌==◌, List, [], ◌∷◌, length, Option, Some, None, refl, sym, ap, ◌∙◌, subst, arith}
+use Rattle.std.specs.Prelude.{is_none, min, nat_le, IfSome, IfNone, IfErr, Result, Err}
 use Rattle.std.proofs.lemmas.Bool.{eqb-true, leb-false, ltb-false}
 use Rattle.fab_base.specs.Elements.{element_size, is_of_form}
 use Rattle.fab_base.specs.declared.faults.Fault.{Fault}
 use Rattle.fab_base.specs.declared.faults.Fault.TheVariants.{NotSupported, MsgSize, Invalid, NoEntry}
-use Rattle.fab_base.specs.declared.items.Atom.{Atom}
 use Rattle.fab_base.specs.declared.items.AtomicOp.{AtomicOp}
 use Rattle.fab_base.specs.declared.items.AtomicOp.TheVariants.{Min, Max, Sum, Prod, Lor, Land, Lxor, Bor, Band, Bxor, AtomicRead, AtomicWrite, Cswap, CswapNe, CswapLe, CswapLt, CswapGe, CswapGt, Mswap}
 use Rattle.fab_base.specs.declared.items.Form.{Form}
@@ -27,6 +26,7 @@ use Rattle.fab_face.specs.Requesting.{atom_asked, kind_asked, order_asked, reque
 use Rattle.fab_face.specs.declared.requesting.Asked.{Asked}
 use Rattle.fab_face.specs.declared.requesting.Asked.TheVariants.{Read, Write, Atomic}
 use Rattle.fab_face.specs.declared.requesting.Request.{Request}
+use Rattle.fab_core.proofs.Made.{none_made}
 use Rattle.fab_core.specs.Parts.{Parts, held_of, state_of}
 use Rattle.fab_core.specs.Asking.{accepted_as}
 use Rattle.fab_core.specs.Doing.{lasting_transmit}
@@ -68,7 +68,7 @@ unfolding transmit
 asks p t o q there granted room is =
     let none = not_lasting (state_of p) o granted in
     let goes : transmit (state_of p) o ≡ state_of (accepted_as t o p) = to_peer ∙ accepted_as_is p t o in
-    rw is (transmit_done (state_of p) o none room ∙ ap (λ (s : State). (Done, s)) goes, refl)
+    rw is (transmit_done (state_of p) o none room ∙ ap (λ (s : State). (Done, s)) goes, none_made (Transmit o) (held_of p) (state_of (accepted_as t o p)) refl)
   where
     to_peer : transmit (state_of p) o ≡ transmit_to t (state_of p) o
     to_peer = rw (transmit, there) refl

@@ -1,5 +1,5 @@
 -- An item arrives, or want of memory keeps it away.
-use Rattle.std.proofs.Common.{◌≡◌, ℕ, ◌<◌, Bool, true, false, length, Option, Some, None, refl, sym, ap, ◌∙◌}
+use Rattle.std.proofs.Common.{◌≡◌, ℕ, ◌<◌, true, false, length, Some, None, sym, ap, ◌∙◌}
 use Rattle.std.specs.Prelude.{OnOk, OnErr, Result, Ok, Err, is_err}
 use Rattle.fab_base.specs.declared.faults.NoMemory.{NoMemory}
 use Rattle.fab_base.specs.declared.items.ItemHead.{ItemHead}
@@ -7,7 +7,7 @@ use Rattle.fab_rx.specs.Arriving.{Arriving, IsArriving, arriving, begun_of, bare
 use Rattle.fab_tx.specs.Transit.{Transit, with_room}
 use Rattle.fab_rma.specs.Serving.{Serving}
 use Rattle.fab_core.specs.Parts.{IsTogether, Parts}
-use Rattle.fab_core.specs.Doing.{asks, heading, with_arriving, with_transit}
+use Rattle.fab_core.specs.Doing.{asks, with_arriving, with_transit}
 use Rattle.fab_core.proofs.Together.{together_arrived, together_roomed}
 use Rattle.fab_core.specs.Requests.{IsAwaited, IsServing}
 use Rattle.fab_core.proofs.Serves.{serving_set}

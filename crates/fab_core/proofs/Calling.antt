@@ -1,7 +1,6 @@
 -- Calls: why they are refused, and that they are the machine's.
-use Rattle.std.proofs.Common.{◌≡◌, ℕ, ◌+◌, ◌<◌, ◌≤◌, ◌^◌, Bool, true, false, not, ◌&&◌, ◌||◌, ◌==◌, cond, List, [], ◌∷◌, ◌++◌, length, Option, Some, None, refl, sym, ap, ◌∙◌, subst, arith}
+use Rattle.std.proofs.Common.{◌≡◌, ℕ, ◌+◌, ◌<◌, ◌≤◌, Bool, true, false, not, ◌&&◌, ◌||◌, cond, List, [], ◌∷◌, length, Option, Some, None, refl, sym, ap, ◌∙◌, subst, arith}
 use Rattle.std.specs.Prelude.{find, is_none, is_some, nat_le, nat_lt, IfSome, IfNone, IfErr, OnErr, OnOk, Result, Ok, Err}
-use Rattle.std.specs.Option.{option_map}
 use Rattle.std.proofs.lemmas.Bool.{leb-false, ltb-false}
 use Rattle.fab_base.specs.declared.faults.Fault.{Fault}
 use Rattle.fab_base.specs.declared.faults.Fault.TheVariants.{Again, NotSupported, MsgSize, Invalid, NoEntry}
@@ -16,18 +15,19 @@ use Rattle.fab_model.specs.Matching.{takes}
 use Rattle.fab_model.specs.State.{State, fits, in_use, lookup}
 use Rattle.fab_model.specs.Receiving.{Posting, cancel, cancel_fault, cancellable, draw_due, lacks_room, least_is_wrong, may_receive, post, post_fault, receive_of, source_is_known, taken_by}
 use Rattle.fab_model.specs.Sending.{Order, first_fault, is_granted, is_too_long, is_well_formed, transmit, most_bytes, transmit_fault, transmit_to}
-use Rattle.fab_model.specs.Calls.{Call, Cancel, CancelFirst, Post, Transmit, answer, do_call}
+use Rattle.fab_model.specs.Calls.{Post, Transmit, answer, do_call}
 use Rattle.fab_cq.specs.Queues.{has_room}
 use Rattle.fab_rx.specs.Leaving.{is_meant}
-use Rattle.fab_face.specs.Acts.{DoesCall, does}
+use Rattle.fab_face.specs.Acts.{DoesCall, multi_made}
 use Rattle.fab_face.specs.Answers.{is_final}
 use Rattle.fab_face.specs.Machine.{StayNext, asking, cancelling, kind_of, sending}
 use Rattle.fab_face.specs.declared.machine.Ask.{Ask}
 use Rattle.fab_face.specs.declared.machine.Message.{Message}
 use Rattle.fab_core.specs.Parts.{Parts, held_of, state_of}
-use Rattle.fab_core.specs.Doing.{accepted_by, canceled, lasting_post, lasting_transmit, left_by, posted_by}
-use Rattle.fab_core.specs.Orders.{most_of, order_of, passing, passing_post, posting_of, wanted}
+use Rattle.fab_core.specs.Doing.{accepted_by, lasting_post, lasting_transmit, left_by, posted_by}
+use Rattle.fab_core.specs.Orders.{is_held, most_of, order_of, passing, passing_post, posting_of, wanted}
 use Rattle.fab_core.proofs.Doing.{accepted_is, left_is, posted_is}
+use Rattle.fab_core.proofs.Made.{none_made}
 use Rattle.fab_core.proofs.Fits.{fits_writing}
 use Rattle.fab_core.proofs.Next.{posted_next}
 
@@ -100,7 +100,7 @@ unfolding transmit
 sends p t m bytes q there granted room is =
     let none = not_lasting (state_of p) (order_of m bytes) granted in
     let goes : transmit (state_of p) (order_of m bytes) ≡ state_of (accepted_by t (order_of m bytes) p) = to_peer ∙ accepted_is p t m bytes in
-    rw is (transmit_done (state_of p) (order_of m bytes) none room ∙ ap (λ (s : State). (Done, s)) goes, refl)
+    rw is (transmit_done (state_of p) (order_of m bytes) none room ∙ ap (λ (s : State). (Done, s)) goes, none_made (sending m bytes) (held_of p) (state_of (accepted_by t (order_of m bytes) p)) refl)
   where
     to_peer : transmit (state_of p) (order_of m bytes) ≡ transmit_to t (state_of p) (order_of m bytes)
     to_peer = rw (transmit, there) refl
@@ -170,7 +170,7 @@ posted_five false false true d e x y z v w = refl
 posted_five false false false d e x y z v w = refl
 
 module _ (s : State) (a : Posting) where
-  abbrev again : Option Fault
+  abbrev pub again : Option Fault
   again = cond (lacks_room s (post s a)) (Some (Again (CqFull s.cq.size))) (cond (is_none (taken_by (receive_of s a) s) && nat_le s.most_rx (length s.rx.posted)) (Some (Again (PostedFull s.most_rx))) None)
 
   post_judged : post_fault s a ≡ elim (lasting_post s a) [ Some f ↦ Some f | None ↦ again ]
@@ -221,55 +221,65 @@ module _ (s : State) (a : Ask) (buf : List ℕ) where
   if_post_none None is = post_passing s (posting_of a buf) (sym is)
   if_post_none (Some why) is = tt
 
-module _ (p : Parts) (ask : Ask) (buf : List ℕ) (still : draw_due p.rx.rx ≡ false) (read : p.cq.taken_out ≤ length p.cq.written) (now : fits p.cq ≡ true) where
+module _ (p : Parts) (ask : Ask) (buf : List ℕ) (read : p.cq.taken_out ≤ length p.cq.written) (now : fits p.cq ≡ true) where
   abbrev s : State
   s = state_of p
 
   abbrev want : Want
   want = wanted s ask
 
-  room_of : (b : Bool) → fits (post s (posting_of ask buf)).cq ≡ b → lacks_room s (post s (posting_of ask buf)) ≡ not b
-  room_of b is = rw (still, is) refl
+  room_of : draw_due p.rx.rx ≡ false → (b : Bool) → fits (post s (posting_of ask buf)).cq ≡ b → lacks_room s (post s (posting_of ask buf)) ≡ not b
+  room_of still b is = rw (still, is) refl
 
-  again_is : again s (posting_of ask buf) ≡ passing_post want p
-  again_is = found (find (takes want) p.rx.rx.unexpected) refl
+  again_held : draw_due p.rx.rx ≡ true → again s (posting_of ask buf) ≡ passing_post want p
+  again_held due = rw due refl
+
+  again_still : draw_due p.rx.rx ≡ false → again s (posting_of ask buf) ≡ passing_post want p
+  again_still still = found (find (takes want) p.rx.rx.unexpected) refl
     where
       found : (o : Option Arrival) → find (takes want) p.rx.rx.unexpected ≡ o → again s (posting_of ask buf) ≡ passing_post want p
       found None e =
           let fit : fits (post s (posting_of ask buf)).cq ≡ true = ap (λ (s : State). fits s.cq) (posted_is p ask buf) ∙ rw e now in
-          rw (room_of true fit, e) refl
+          rw (room_of still true fit, still, e) refl
       found (Some a) e = by a.bytes refl
         where
           by : (b : Option (List ℕ)) → a.bytes ≡ b → again s (posting_of ask buf) ≡ passing_post want p
           by None none =
               let fit : fits (post s (posting_of ask buf)).cq ≡ true = ap (λ (s : State). fits s.cq) (posted_is p ask buf) ∙ rw (e, none) now in
-              rw (room_of true fit, e, none) refl
+              rw (room_of still true fit, still, e, none) refl
           by (Some bytes) some =
               let fit : fits (post s (posting_of ask buf)).cq ≡ has_room 1 p.cq = ap (λ (s : State). fits s.cq) (posted_is p ask buf) ∙ rw (e, some) (fits_writing p.cq read now _ _) in
               room (has_room 1 p.cq) refl fit
             where
               room : (b : Bool) → has_room 1 p.cq ≡ b → fits (post s (posting_of ask buf)).cq ≡ has_room 1 p.cq → again s (posting_of ask buf) ≡ passing_post want p
-              room true holds fit = rw (room_of true (fit ∙ holds), e, some, holds) refl
-              room false fails fit = rw (room_of false (fit ∙ fails), e, some, fails) refl
+              room true holds fit = rw (room_of still true (fit ∙ holds), still, e, some, holds) refl
+              room false fails fit = rw (room_of still false (fit ∙ fails), still, e, some, fails) refl
 
-  held_posted : does (asking ask buf) (state_of (posted_by want buf ask.ctx p)) (held_of p) ≡ held_of (posted_by want buf ask.ctx p)
+  again_is : again s (posting_of ask buf) ≡ passing_post want p
+  again_is = by (draw_due p.rx.rx) refl
+    where
+      by : (b : Bool) → draw_due p.rx.rx ≡ b → again s (posting_of ask buf) ≡ passing_post want p
+      by true due = again_held due
+      by false still = again_still still
+
+  held_posted : record (held_of p) { state = state_of (posted_by want buf ask.ctx p) } ≡ held_of (posted_by want buf ask.ctx p)
   held_posted = found (find (takes want) p.rx.rx.unexpected) refl
     where
-      found : (o : Option Arrival) → find (takes want) p.rx.rx.unexpected ≡ o → does (asking ask buf) (state_of (posted_by want buf ask.ctx p)) (held_of p) ≡ held_of (posted_by want buf ask.ctx p)
+      found : (o : Option Arrival) → find (takes want) p.rx.rx.unexpected ≡ o → record (held_of p) { state = state_of (posted_by want buf ask.ctx p) } ≡ held_of (posted_by want buf ask.ctx p)
       found None e = rw e refl
       found (Some a) e = by a.bytes refl
         where
-          due : (bytes : List ℕ) → a.bytes ≡ Some bytes → (b : Bool) → at_match a.head.ack ≡ b → does (asking ask buf) (state_of (posted_by want buf ask.ctx p)) (held_of p) ≡ held_of (posted_by want buf ask.ctx p)
+          due : (bytes : List ℕ) → a.bytes ≡ Some bytes → (b : Bool) → at_match a.head.ack ≡ b → record (held_of p) { state = state_of (posted_by want buf ask.ctx p) } ≡ held_of (posted_by want buf ask.ctx p)
           due bytes some true is = rw (e, some, is) refl
           due bytes some false is = rw (e, some, is) refl
 
-          by : (b : Option (List ℕ)) → a.bytes ≡ b → does (asking ask buf) (state_of (posted_by want buf ask.ctx p)) (held_of p) ≡ held_of (posted_by want buf ask.ctx p)
+          by : (b : Option (List ℕ)) → a.bytes ≡ b → record (held_of p) { state = state_of (posted_by want buf ask.ctx p) } ≡ held_of (posted_by want buf ask.ctx p)
           by None none = rw (e, none) refl
           by (Some bytes) some = due bytes some (at_match a.head.ack) refl
 
   pub posts : (q : Parts) → is_final (do_call s (asking ask buf)).0 ≡ false → passing_post want p ≡ None → q ≡ posted_by want buf ask.ctx p → DoesCall (Some (asking ask buf)) (held_of p) (held_of q)
   posts q granted passing is =
-      rw is (post_done s (posting_of ask buf) (post_not_lasting s (posting_of ask buf) granted) (again_is ∙ passing) ∙ ap (λ (x : State). (Done, x)) (posted_is p ask buf), sym held_posted)
+      rw is (post_done s (posting_of ask buf) (post_not_lasting s (posting_of ask buf) granted) (again_is ∙ passing) ∙ ap (λ (x : State). (Done, x)) (posted_is p ask buf), sym held_posted ∙ none_made (asking ask buf) (held_of p) (state_of (posted_by want buf ask.ctx p)) refl)
 
   pub posts_not : (why : Fault) → is_final (do_call s (asking ask buf)).0 ≡ false → passing_post want p ≡ Some why → do_call s (asking ask buf) ≡ (Refused why, s)
   posts_not why granted is = post_again s (posting_of ask buf) why (post_not_lasting s (posting_of ask buf) granted) (again_is ∙ is)
@@ -281,9 +291,9 @@ unfolding do_call
 cancel_call s None = refl
 cancel_call s (Some ctx) = refl
 
-module _ (p : Parts) (ctx : Option ℕ) (still : draw_due p.rx.rx ≡ false) (read : p.cq.taken_out ≤ length p.cq.written) (now : fits p.cq ≡ true) where
+module _ (p : Parts) (ctx : Option ℕ) (read : p.cq.taken_out ≤ length p.cq.written) (now : fits p.cq ≡ true) where
   fault_of : (found : Option Receive) → cancellable (is_meant ctx) p.rx.rx ≡ found
-      → cancel_fault (state_of p) (is_meant ctx) ≡ elim found [ None ↦ Some NoEntry | Some r ↦ cond (has_room 1 p.cq) None (Some (Again (CqFull p.cq.size))) ]
+      → cancel_fault (state_of p) (is_meant ctx) ≡ elim found [ None ↦ Some NoEntry | Some r ↦ cond (is_held 1 p) (Some (Again (CqFull p.cq.size))) None ]
   unfolding cancel_fault
   fault_of None e = rw (cancel_fault, e) refl
   fault_of (Some r) e =
@@ -291,9 +301,9 @@ module _ (p : Parts) (ctx : Option ℕ) (still : draw_due p.rx.rx ≡ false) (re
       room (has_room 1 p.cq) refl fit
     where
       room : (b : Bool) → has_room 1 p.cq ≡ b → fits (cancel (state_of p) (is_meant ctx)).cq ≡ has_room 1 p.cq
-          → cancel_fault (state_of p) (is_meant ctx) ≡ cond (has_room 1 p.cq) None (Some (Again (CqFull p.cq.size)))
-      room true holds fit = rw (cancel_fault, e, still, fit, holds) refl
-      room false fails fit = rw (cancel_fault, e, still, fit, fails) refl
+          → cancel_fault (state_of p) (is_meant ctx) ≡ cond (is_held 1 p) (Some (Again (CqFull p.cq.size))) None
+      room true holds fit = rw (cancel_fault, e, fit, holds) refl
+      room false fails fit = rw (cancel_fault, e, fit, fails) refl
 
   pub cancels_none : is_some (cancellable (is_meant ctx) p.rx.rx) ≡ false → do_call (state_of p) (cancelling ctx) ≡ (Refused NoEntry, state_of p)
   cancels_none none = by (cancellable (is_meant ctx) p.rx.rx) refl
@@ -305,13 +315,13 @@ module _ (p : Parts) (ctx : Option ℕ) (still : draw_due p.rx.rx ≡ false) (re
   pub cancels_passing : is_some (cancellable (is_meant ctx) p.rx.rx) ≡ true → is_final (do_call (state_of p) (cancelling ctx)).0 ≡ false
   cancels_passing some = by (cancellable (is_meant ctx) p.rx.rx) refl
     where
-      room : (r : Receive) → cancellable (is_meant ctx) p.rx.rx ≡ Some r → (b : Bool) → has_room 1 p.cq ≡ b → is_final (do_call (state_of p) (cancelling ctx)).0 ≡ false
+      room : (r : Receive) → cancellable (is_meant ctx) p.rx.rx ≡ Some r → (b : Bool) → is_held 1 p ≡ b → is_final (do_call (state_of p) (cancelling ctx)).0 ≡ false
       room r e true has = rw (cancel_call (state_of p) ctx, fault_of (Some r) e, has) refl
       room r e false has = rw (cancel_call (state_of p) ctx, fault_of (Some r) e, has) refl
 
       by : (o : Option Receive) → cancellable (is_meant ctx) p.rx.rx ≡ o → is_final (do_call (state_of p) (cancelling ctx)).0 ≡ false
       by None e = absurd (let t : is_some (cancellable (is_meant ctx) p.rx.rx) ≡ false = ap is_some e in cc)
-      by (Some r) e = room r e (has_room 1 p.cq) refl
+      by (Some r) e = room r e (is_held 1 p) refl
 
   -- who is not turned away for good is there
   pub is_there : is_final (do_call (state_of p) (cancelling ctx)).0 ≡ false → is_some (cancellable (is_meant ctx) p.rx.rx) ≡ true
@@ -321,49 +331,51 @@ module _ (p : Parts) (ctx : Option ℕ) (still : draw_due p.rx.rx ≡ false) (re
       by None e = absurd (let f : is_final (do_call (state_of p) (cancelling ctx)).0 ≡ true = rw (cancel_call (state_of p) ctx, fault_of None e) refl in cc)
       by (Some r) e = ap is_some e
 
-  pub cancels : (q : Parts) → is_some (cancellable (is_meant ctx) p.rx.rx) ≡ true → has_room 1 p.cq ≡ true → q ≡ left_by ctx p → DoesCall (Some (cancelling ctx)) (held_of p) (held_of q)
+  pub cancels : (q : Parts) → is_some (cancellable (is_meant ctx) p.rx.rx) ≡ true → is_held 1 p ≡ false → q ≡ left_by ctx p → DoesCall (Some (cancelling ctx)) (held_of p) (held_of q)
   cancels q some room is = by (cancellable (is_meant ctx) p.rx.rx) refl ctx refl
     where
-      made : (c : Option ℕ) → does (cancelling c) (state_of (left_by ctx p)) (held_of p) ≡ held_of (left_by ctx p)
-      made c = by_receive (cancellable (is_meant ctx) p.rx.rx) refl c
+      made : record (held_of p) { state = state_of (left_by ctx p) } ≡ held_of (left_by ctx p)
+      made = by_receive (cancellable (is_meant ctx) p.rx.rx) refl
         where
-          by_receive : (o : Option Receive) → cancellable (is_meant ctx) p.rx.rx ≡ o → (c : Option ℕ) → does (cancelling c) (state_of (left_by ctx p)) (held_of p) ≡ held_of (left_by ctx p)
-          by_receive None e None = rw e refl
-          by_receive None e (Some x) = rw e refl
-          by_receive (Some r) e None = rw e refl
-          by_receive (Some r) e (Some x) = rw e refl
+          by_receive : (o : Option Receive) → cancellable (is_meant ctx) p.rx.rx ≡ o → record (held_of p) { state = state_of (left_by ctx p) } ≡ held_of (left_by ctx p)
+          by_receive None e = rw e refl
+          by_receive (Some r) e = rw e refl
+
+      none : (c : Option ℕ) (n : ℕ) → multi_made (cancelling c) n ≡ []
+      none None n = refl
+      none (Some x) n = refl
 
       by : (o : Option Receive) → cancellable (is_meant ctx) p.rx.rx ≡ o → (c : Option ℕ) → ctx ≡ c → DoesCall (Some (cancelling ctx)) (held_of p) (held_of q)
       by None e c same = absurd (let t : is_some (cancellable (is_meant ctx) p.rx.rx) ≡ false = ap is_some e in cc)
-      by (Some r) e c same = rw is (cancel_call (state_of p) ctx ∙ rw (fault_of (Some r) e, room) (ap (λ (x : State). (Done, x)) (left_is p ctx)), sym (made ctx))
+      by (Some r) e c same = rw is (cancel_call (state_of p) ctx ∙ rw (fault_of (Some r) e, room) (ap (λ (x : State). (Done, x)) (left_is p ctx)), sym made ∙ none_made (cancelling ctx) (held_of p) (state_of (left_by ctx p)) (none ctx p.calls))
 
-  pub cancels_not : (why : Fault) → is_some (cancellable (is_meant ctx) p.rx.rx) ≡ true → has_room 1 p.cq ≡ false → why ≡ Again (CqFull p.cq.size) → do_call (state_of p) (cancelling ctx) ≡ (Refused why, state_of p)
+  pub cancels_not : (why : Fault) → is_some (cancellable (is_meant ctx) p.rx.rx) ≡ true → is_held 1 p ≡ true → why ≡ Again (CqFull p.cq.size) → do_call (state_of p) (cancelling ctx) ≡ (Refused why, state_of p)
   cancels_not why some lacking is = by (cancellable (is_meant ctx) p.rx.rx) refl
     where
       by : (o : Option Receive) → cancellable (is_meant ctx) p.rx.rx ≡ o → do_call (state_of p) (cancelling ctx) ≡ (Refused why, state_of p)
       by None e = absurd (let t : is_some (cancellable (is_meant ctx) p.rx.rx) ≡ false = ap is_some e in cc)
       by (Some r) e = cancel_call (state_of p) ctx ∙ rw (fault_of (Some r) e, lacking, is) refl
 
-  pub if_cancels : (q : Parts) (r : Result (Unit {0}) Fault) → is_final (do_call (state_of p) (cancelling ctx)).0 ≡ false → OnOk r ((has_room 1 p.cq ≡ true) × (q ≡ left_by ctx p)) → OnOk r (DoesCall (Some (cancelling ctx)) (held_of p) (held_of q))
+  pub if_cancels : (q : Parts) (r : Result (Unit {0}) Fault) → is_final (do_call (state_of p) (cancelling ctx)).0 ≡ false → OnOk r ((is_held 1 p ≡ false) × (q ≡ left_by ctx p)) → OnOk r (DoesCall (Some (cancelling ctx)) (held_of p) (held_of q))
   if_cancels q (Ok u) granted does = cancels q (is_there granted) does.0 does.1
   if_cancels q (Err why) granted does = tt
 
-  pub if_cancels_not : (r : Result (Unit {0}) Fault) → is_final (do_call (state_of p) (cancelling ctx)).0 ≡ false → IfErr r (λ why. (why ≡ Again (CqFull p.cq.size)) × (has_room 1 p.cq ≡ false)) → IfErr r (λ why. do_call (state_of p) (cancelling ctx) ≡ (Refused why, state_of p))
+  pub if_cancels_not : (r : Result (Unit {0}) Fault) → is_final (do_call (state_of p) (cancelling ctx)).0 ≡ false → IfErr r (λ why. (why ≡ Again (CqFull p.cq.size)) × (is_held 1 p ≡ true)) → IfErr r (λ why. do_call (state_of p) (cancelling ctx) ≡ (Refused why, state_of p))
   if_cancels_not (Ok u) granted why_not = tt
   if_cancels_not (Err why) granted why_not = cancels_not why (is_there granted) why_not.1 why_not.0
 
 -- ---- receives, by their answer
 
-module _ (p : Parts) (ask : Ask) (buf : List ℕ) (still : draw_due p.rx.rx ≡ false) (read : p.cq.taken_out ≤ length p.cq.written) (now : fits p.cq ≡ true) where
+module _ (p : Parts) (ask : Ask) (buf : List ℕ) (read : p.cq.taken_out ≤ length p.cq.written) (now : fits p.cq ≡ true) where
   pub if_posts : (q : Parts) (r : Result (Unit {0}) Turned) → is_final (do_call (state_of p) (asking ask buf)).0 ≡ false → OnOk r ((passing_post (wanted (state_of p) ask) p ≡ None) × (q ≡ posted_by (wanted (state_of p) ask) buf ask.ctx p))
       → OnOk r (DoesCall (Some (asking ask buf)) (held_of p) (held_of q))
-  if_posts q (Ok u) granted done = posts p ask buf still read now q granted done.0 done.1
+  if_posts q (Ok u) granted done = posts p ask buf read now q granted done.0 done.1
   if_posts q (Err why) granted done = tt
 
   pub if_posts_not : (r : Result (Unit {0}) Turned) → is_final (do_call (state_of p) (asking ask buf)).0 ≡ false → IfErr r (λ r. (r.buf ≡ buf) × (passing_post (wanted (state_of p) ask) p ≡ Some r.why))
       → IfErr r (λ r. (r.buf ≡ buf) × (do_call (state_of p) (asking ask buf) ≡ (Refused r.why, state_of p)))
   if_posts_not (Ok u) granted why_not = tt
-  if_posts_not (Err r) granted why_not = (why_not.0, posts_not p ask buf still read now r.why granted why_not.1)
+  if_posts_not (Err r) granted why_not = (why_not.0, posts_not p ask buf read now r.why granted why_not.1)
 
   pub if_posts_next : (q : Parts) (r : Result (Unit {0}) Turned) → OnOk r ((passing_post (wanted (state_of p) ask) p ≡ None) × (q ≡ posted_by (wanted (state_of p) ask) buf ask.ctx p)) → OnErr r (q ≡ p) → StayNext (state_of p) (state_of q)
   if_posts_next q (Ok u) done same = rw done.1 (posted_next p (wanted (state_of p) ask) buf ask.ctx)

@@ -1,12 +1,9 @@
 -- A message that no receive took leaves, or is claimed: what is owed then, and that the parts still belong together.
-use Rattle.std.proofs.Common.{◌≡◌, ◌≢◌, inl, inr, ℕ, ◌+◌, ◌-◌, ◌<◌, ◌≤◌, ◌==◌, Bool, true, false, ◌&&◌, List, [], ◌∷◌, ◌++◌, length, Option, Some, None, get_or, get_or-set_same, get_or-set_other, refl, sym, ap, ◌∙◌, subst, arith}
+use Rattle.std.proofs.Common.{◌≡◌, inl, inr, ℕ, ◌+◌, ◌-◌, ◌<◌, ◌≤◌, ◌==◌, Bool, true, ◌&&◌, List, length, Option, Some, None, get_or, get_or-set_same, get_or-set_other, refl, sym, ap, ◌∙◌, subst, arith}
 use Rattle.std.specs.Prelude.{find, is_some, IfSome, slice_index, slice_set}
-use Rattle.std.specs.Option.{option_map}
 use Rattle.std.proofs.lemmas.Bool.{cases_eq, cases_lt, eq-eqb, ne_eqb}
 use Rattle.std.proofs.lemmas.List.{get_or_past, set_past}
 use Rattle.fab_model.proofs.Firsts.{IfSome-find}
-use Rattle.fab_base.specs.declared.entries.PeekHow.{PeekHow}
-use Rattle.fab_base.specs.declared.entries.PeekHow.TheVariants.{Peek, Claim, Discard}
 use Rattle.fab_base.specs.declared.items.Item.{Item}
 use Rattle.fab_base.specs.declared.items.ItemHead.{ItemHead}
 use Rattle.fab_base.specs.declared.items.Want.{Want}
@@ -18,14 +15,13 @@ use Rattle.fab_model.specs.Complete.{at_delivery, at_either, at_match}
 use Rattle.fab_model.specs.Matching.{remove_first, takes}
 use Rattle.fab_model.specs.State.{Receiving, coming_from}
 use Rattle.fab_model.specs.Receiving.{without_claim, without_first}
-use Rattle.fab_rx.specs.Arriving.{Arriving, IsArriving, IsPartly, PartlyIn, begun_of, given, receive_by}
-use Rattle.fab_rx.specs.Claims.{any_tagged, claim_under, claiming_first, discarding, dropping, seen, taking, thrown}
+use Rattle.fab_rx.specs.Arriving.{Arriving, IsArriving, IsPartly, PartlyIn, begun_of, given}
+use Rattle.fab_rx.specs.Claims.{claiming_first, discarding, dropping, seen, taking, thrown}
 use Rattle.fab_rx.specs.Stored.{turned}
-use Rattle.fab_rx.specs.declared.results.Seen.{Seen}
 use Rattle.fab_tx.specs.Transit.{Transit}
 use Rattle.fab_core.specs.Parts.{IsFitting, IsTogether, Parts, bit, count_of, due_for, is_due, is_owed, is_owed_aside, owed}
 use Rattle.fab_core.specs.Doing.{booked}
-use Rattle.fab_core.specs.Looks.{is_due_now, looked, parted, parted_by}
+use Rattle.fab_core.specs.Looks.{is_due_now}
 use Rattle.fab_core.proofs.Owing.{count_last, count_without, either_is, in_row}
 use Rattle.fab_core.proofs.Together.{booked_rooms, sent_booked, together_with}
 
@@ -41,10 +37,10 @@ throw_way = record { either = λ head. refl; fits = fits }
     fits None f = tt
     fits (Some item) f = f
 
-pub into_way : (r : Receive) → IsWay (Into r 0)
-into_way r = record { either = λ head. refl; fits = fits }
+pub into_way : (r : Receive) (place : ℕ) → IsWay (Into r place)
+into_way r place = record { either = λ head. refl; fits = fits }
   where
-    fits : (i : Option Item) → IsFitting (Some Keep) i → IsFitting (Some (Into r 0)) i
+    fits : (i : Option Item) → IsFitting (Some Keep) i → IsFitting (Some (Into r place)) i
     fits None f = tt
     fits (Some item) f = f
 
@@ -124,14 +120,13 @@ partly_claimed v ok ctx k found = subst (λ (o : Option (ℕ × Arrival)). IfSom
 -- ---- what a message that leaves makes of the rest, whichever it is
 
 pub record Leaves (v w : Arriving) (a : Arrival) : Type 0 where
-  pub multi : w.multi ≡ v.multi
   pub begun : w.begun ≡ v.begun
   pub owed_then : (s : ℕ) → owed s v ≡ bit (due_to s a.bytes a) + owed s w
   pub fitting : ((s : ℕ) → IsFitting (coming_from v.rx s) (begun_of v s)) → (s : ℕ) → IsFitting (coming_from w.rx s) (begun_of w s)
 
-left_by : (v w : Arriving) (a : Arrival) (partly : PartlyIn v a) (c : Coming) (way : IsWay c) (multi : w.multi ≡ v.multi) (begun : w.begun ≡ v.begun) (coming : w.rx.coming ≡ turned (λ x. Some c) a.bytes a.source v.rx.coming)
+pub left_by : (v w : Arriving) (a : Arrival) (partly : PartlyIn v a) (c : Coming) (way : IsWay c) (begun : w.begun ≡ v.begun) (coming : w.rx.coming ≡ turned (λ x. Some c) a.bytes a.source v.rx.coming)
     (counted : (s : ℕ) → count_of (is_owed s) v.rx.unexpected + count_of (is_owed_aside s) v.rx.claimed ≡ bit (is_owed s a) + count_of (is_owed s) w.rx.unexpected + count_of (is_owed_aside s) w.rx.claimed) → Leaves v w a
-left_by v w a partly c way multi begun coming counted = record { multi = multi; begun = begun; owed_then = owed_left v a partly c way w begun coming counted; fitting = fitting_left v a partly c way w begun coming counted }
+left_by v w a partly c way begun coming counted = record { begun = begun; owed_then = owed_left v a partly c way w begun coming counted; fitting = fitting_left v a partly c way w begun coming counted }
 
 -- where the rest goes changes nothing else
 record SameBut (c : Coming) (o : Option (List ℕ)) (source : ℕ) (rx after : Receiving) : Type 0 where
@@ -151,19 +146,19 @@ module _ (v : Arriving) (ok : IsArriving v) where
   pub discard_leaves : (want : Want) (a : Arrival) → find (takes want) v.rx.unexpected ≡ Some a → Leaves v (discarding want v) a
   discard_leaves want a found =
       let same = thrown_same a.bytes a.source (without_first want v.rx) in
-      left_by v (discarding want v) a (partly_found v ok want a found) Throw throw_way refl refl (rw found same.coming)
+      left_by v (discarding want v) a (partly_found v ok want a found) Throw throw_way refl (rw found same.coming)
       (λ s. rw (found, same.unexpected, same.claimed) (count_found v s want a found))
 
   pub drop_leaves : (ctx : ℕ) (k : ℕ × Arrival) → find (λ k. k.0 == ctx) v.rx.claimed ≡ Some k → Leaves v (dropping ctx v) k.1
   drop_leaves ctx k found =
       let same = thrown_same k.1.bytes k.1.source (without_claim ctx v.rx) in
-      left_by v (dropping ctx v) k.1 (partly_claimed v ok ctx k found) Throw throw_way refl refl (rw found same.coming)
+      left_by v (dropping ctx v) k.1 (partly_claimed v ok ctx k found) Throw throw_way refl (rw found same.coming)
       (λ s. rw (found, same.unexpected, same.claimed) (count_claimed v s ctx k found))
 
   pub take_leaves : (r : Receive) (k : ℕ × Arrival) → find (λ k. k.0 == r.ctx) v.rx.claimed ≡ Some k → Leaves v (taking r v) k.1
   take_leaves r k found =
       let same = given_same k.1.bytes k.1.source r (without_claim r.ctx v.rx) in
-      left_by v (taking r v) k.1 (partly_claimed v ok r.ctx k found) (Into r 0) (into_way r) refl refl (rw found same.coming)
+      left_by v (taking r v) k.1 (partly_claimed v ok r.ctx k found) (Into r 0) (into_way r 0) refl (rw found same.coming)
       (λ s. rw (found, same.unexpected, same.claimed) (count_claimed v s r.ctx k found))
 
 -- ---- the parts
@@ -213,5 +208,5 @@ module _ (p : Parts) (ok : IsTogether p) (count : length p.tx.rooms ≡ length p
       ])
 
   pub left_together : (q : Parts) → q.cq.size ≡ p.cq.size → q.av ≡ p.av → q.rx ≡ w → w.next ≤ q.calls → q.tx ≡ booked (is_due_now (seen a)) a.source a.head p.tx → IsTogether q
-  left_together q size av rx earlier tx = together_with p q ok size (ap (λ (v : Transit). length v.tx.sent) tx ∙ sent_booked (is_due_now (seen a)) a.source a.head p.tx) av (ap (λ (v : Arriving). v.multi) rx ∙ leaves.multi) (ap (λ (v : Arriving). length v.begun) rx ∙ ap length leaves.begun) (rw rx earlier)
+  left_together q size av rx earlier tx = together_with p q ok size (ap (λ (v : Transit). length v.tx.sent) tx ∙ sent_booked (is_due_now (seen a)) a.source a.head p.tx) av (ap (λ (v : Arriving). length v.begun) rx ∙ ap length leaves.begun) (rw rx earlier)
       (λ s. rw rx (leaves.fitting ok.fitting s)) (λ s. rw (rx, tx) (enough_by a.bytes refl s))

@@ -1,11 +1,10 @@
 -- What the steps make of the parts is what the machine makes of its state.
-use Rattle.std.proofs.Common.{◌≡◌, ℕ, ◌+◌, Bool, true, false, not, ◌&&◌, ◌==◌, cond, List, [], ◌∷◌, ◌++◌, length, append-nil, Option, Some, None, get_or, refl, sym, ap, ◌∙◌, subst}
-use Rattle.std.specs.Prelude.{find, is_none, is_some, IfSome, unwrap_or, slice_set}
+use Rattle.std.proofs.Common.{◌≡◌, ℕ, ◌+◌, Bool, true, false, not, ◌&&◌, ◌==◌, cond, List, [], ◌∷◌, append-nil, Option, Some, None, refl, sym, ap, ◌∙◌}
+use Rattle.std.proofs.lemmas.Bool.{eqb-true}
+use Rattle.std.specs.Prelude.{find, slice_set}
 use Rattle.fab_base.specs.declared.entries.ErrKind.{ErrKind}
-use Rattle.fab_base.specs.declared.entries.ErrKind.TheVariants.{NoKey, Access, Range}
 use Rattle.fab_base.specs.declared.items.Item.{Item}
 use Rattle.fab_base.specs.declared.items.ItemHead.{ItemHead}
-use Rattle.fab_base.specs.declared.items.Kind.TheVariants.{Msg, TagMsg, WriteReq, ReadReq, AtomicReq, Reply}
 use Rattle.fab_base.specs.declared.items.Outcome.{Outcome}
 use Rattle.fab_base.specs.declared.items.Outcome.TheVariants.{Done, BadKey, BadAccess, BadRange}
 use Rattle.fab_base.specs.declared.operations.Arrival.{Arrival}
@@ -15,21 +14,19 @@ use Rattle.fab_base.specs.declared.operations.Operation.{Operation}
 use Rattle.fab_base.specs.declared.operations.Receive.{Receive}
 use Rattle.fab_base.specs.declared.peers.Level.{Level}
 use Rattle.fab_model.specs.Matching.{is_message, remove_first, takes}
-use Rattle.fab_model.specs.State.{State, Receiving, Transmitting, awaits, coming_from, with_tx}
-use Rattle.fab_model.specs.Complete.{at_delivery, at_either, at_match, book, fill, filling, fill_multi, release, reply}
-use Rattle.fab_model.specs.Receiving.{cancel, cancellable, give, post, receive_of, taken_by, without_first}
-use Rattle.fab_model.specs.Sending.{Order, accepting, answering, do_answer, do_sent, end_with, ending, expects, is_answered_by, refusal_of, success_of, transmit_to, transmitting}
-use Rattle.fab_model.specs.Arrivals.{do_head, do_tail, heading_message, heading_other, keeping, made_whole, tail_to}
-use Rattle.fab_rx.proofs.Growing.{kept_single}
-use Rattle.fab_rx.specs.Arriving.{Arriving, GoesToSingle, IsArriving, IsSingle, arriving, begun_of, bytes_come, finishing, given, kept, posting, receive_by}
+use Rattle.fab_model.specs.State.{State, Transmitting, awaits, coming_from, under_way}
+use Rattle.fab_model.specs.Complete.{at_delivery, at_either, at_match, book, fill, filling, fill_multi, is_made_by, let_go, release, release_multi, reply}
+use Rattle.fab_model.specs.Receiving.{cancel, cancellable, give, post, without_first}
+use Rattle.fab_model.specs.Sending.{answering, do_answer, do_sent, end_with, ending, expects, is_answered_by, refusal_of, success_of, transmit_to}
+use Rattle.fab_model.specs.Arrivals.{do_head, do_tail, keeping, made_whole, tail_to}
+use Rattle.fab_rx.specs.Arriving.{begun_of, shared, with_receiving, without_closed}
 use Rattle.fab_rx.specs.Leaving.{is_meant}
-use Rattle.fab_rx.specs.Results.{completed}
-use Rattle.fab_tx.specs.Transit.{Transit, answered_by, ended, finds_answered, finishing as finishing_sent, seen_buf}
-use Rattle.fab_face.specs.Machine.{cancelling}
+use Rattle.fab_rx.specs.Results.{closed_by, closed_if, completed}
+use Rattle.fab_tx.specs.Transit.{answered_by, finds_answered, finishing as finishing_sent, seen_buf}
 use Rattle.fab_face.specs.declared.machine.Ask.{Ask}
 use Rattle.fab_face.specs.declared.machine.Message.{Message}
 use Rattle.fab_core.specs.Parts.{IsFitting, Parts, state_of}
-use Rattle.fab_core.specs.Doing.{accepted_by, answered, as_operation, booked, called, cq_after, counters_after, ending_by, entry_at_end, given_found, given_whole, heading, left_by, posted_by, received, receive_now, sent, tail, well_entry, whole, with_arriving, with_transit, written_if}
+use Rattle.fab_core.specs.Doing.{accepted_by, answered, booked, called, ending_by, entry_at_end, heading, left_by, let_back, posted_by, received, receive_now, sent, tail, with_arriving, with_transit}
 use Rattle.fab_core.specs.Orders.{order_of, posting_of, wanted}
 use Rattle.fab_core.proofs.Serves.{requested_is}
 
@@ -107,7 +104,7 @@ module _ {X : Type 0} (test : X → Bool) where
   passes_step y ys x false is e more = more e
 
   -- the one that is found passes the test
-  passes : (xs : List X) (x : X) → find test xs ≡ Some x → test x ≡ true
+  pub passes : (xs : List X) (x : X) → find test xs ≡ Some x → test x ≡ true
   passes [] x e = absurd (cc)
   passes (y ∷ ys) x e = passes_step y ys x (test y) refl e (passes ys x)
 
@@ -153,33 +150,89 @@ heading_is p source head = by (is_message head.kind) refl
 
 -- ---- a receive completes
 
-not_released : (r : Receive) → IsSingle r → (s : State) → release r s ≡ s
-not_released r single s = rw (single.least, release) refl
+not_released : (r : Receive) → r.least ≡ None → (s : State) → release r s ≡ s
+not_released r single s = rw (single, release) refl
 
-module _ (r : Receive) (single : IsSingle r) (source : ℕ) (head : ItemHead) (bytes : List ℕ) (due : Bool) where
-  unchanged : (xs : List Receive) → fill_multi r 0 bytes xs ≡ xs
-  unchanged xs = rw (single.least, fill_multi) refl
+pub is_released : (r : Receive) (least : ℕ) → r.least ≡ Some least → (s : State) → release r s ≡ release_multi r.call s
+is_released r least multi s = rw (multi, release) refl
 
-  pub received_is : (p : Parts) → book due source head (fill r 0 source head bytes (state_of p)) ≡ state_of (received (Some r.call) due (completed r 0 source head bytes) p)
+-- a multi-receive that is closing and has no item under way is let go
+module _ (r : Receive) (p : Parts) where
+  found_first : (found : Receive) → find (is_made_by r.call) p.rx.rx.closing ≡ Some found → release_multi r.call (state_of p) ≡ elim (under_way p.rx.rx r.call) [ true ↦ state_of p | false ↦ let_go found (state_of p) ]
+  unfolding release_multi
+  found_first found some = rw (some, release_multi) refl
+
+  idle_second : (found : Receive) → under_way p.rx.rx r.call ≡ false → elim (under_way p.rx.rx r.call) [ true ↦ state_of p | false ↦ let_go found (state_of p) ] ≡ let_go found (state_of p)
+  idle_second found idle = rw idle refl
+
+  busy_second : (found : Receive) → under_way p.rx.rx r.call ≡ true → elim (under_way p.rx.rx r.call) [ true ↦ state_of p | false ↦ let_go found (state_of p) ] ≡ state_of p
+  busy_second found busy = rw busy refl
+
+  closed_found : (found : Receive) → under_way p.rx.rx r.call ≡ false → find (is_made_by r.call) p.rx.rx.closing ≡ Some found → closed_by r.call p.rx.rx ≡ Some found
+  closed_found found idle some = rw (idle, closed_by) some
+
+  rest_found : under_way p.rx.rx r.call ≡ false → without_closed r.call p.rx.rx ≡ (let rx = p.rx.rx in record rx { closing = remove_first (is_made_by r.call) rx.closing })
+  rest_found idle = rw (idle, without_closed) refl
+
+  let_go_by : (b : Bool) → under_way p.rx.rx r.call ≡ b → (o : Option Receive) → find (is_made_by r.call) p.rx.rx.closing ≡ o
+      → release_multi r.call (state_of p) ≡ state_of (let_back (closed_by r.call p.rx.rx) (with_arriving (with_receiving (without_closed r.call p.rx.rx) p.rx) p))
+  unfolding release_multi
+  let_go_by true busy None none = rw (busy, none, release_multi, closed_by, without_closed) refl
+  let_go_by true busy (Some found) some = found_first found some ∙ busy_second found busy ∙ rw (busy, closed_by, without_closed) refl
+  let_go_by false idle None none = rw (idle, none, release_multi, closed_by, without_closed, without_none (is_made_by r.call) p.rx.rx.closing none) refl
+  let_go_by false idle (Some found) some =
+      let same : found.call ≡ r.call = eqb-true found.call r.call (passes (is_made_by r.call) p.rx.rx.closing found some) in
+      found_first found some ∙ idle_second found idle ∙ rw (closed_found found idle some, rest_found idle, same) refl
+
+  pub let_go_is : release_multi r.call (state_of p) ≡ state_of (let_back (closed_by r.call p.rx.rx) (with_arriving (with_receiving (without_closed r.call p.rx.rx) p.rx) p))
+  let_go_is = let_go_by (under_way p.rx.rx r.call) refl (find (is_made_by r.call) p.rx.rx.closing) refl
+
+module _ (r : Receive) (place source : ℕ) (head : ItemHead) (bytes : List ℕ) (due : Bool) where
+  unchanged : r.least ≡ None → (xs : List Receive) → fill_multi r place bytes xs ≡ xs
+  unchanged single xs = rw (single, fill_multi) refl
+
+  filled_is : (p : Parts) → book due source head (fill r place source head bytes (state_of p)) ≡ state_of (received (Some r.call) due (completed r place source head bytes) (with_arriving (with_receiving (filling r place bytes p.rx.rx) p.rx) p))
   unfolding fill
-  received_is p = rw (fill, unchanged p.rx.rx.posted, unchanged p.rx.rx.closing) (book_is due source head (received (Some r.call) false (completed r 0 source head bytes) p))
+  filled_is p = book_is due source head (received (Some r.call) false (completed r place source head bytes) (with_arriving (with_receiving (filling r place bytes p.rx.rx) p.rx) p))
+
+  -- the receive gets the message, and is over where it was the last one
+  pub completed_is : (o : Option ℕ) → r.least ≡ o → (p : Parts) → release r (book due source head (fill r place source head bytes (state_of p)))
+      ≡ state_of (let_back (closed_if o r.call (filling r place bytes p.rx.rx)) (received (Some r.call) due (completed r place source head bytes) (with_arriving (with_receiving (shared o r place bytes p.rx.rx) p.rx) p)))
+  unfolding fill
+  completed_is None single p = not_released r single _ ∙ rw (fill, unchanged single p.rx.rx.posted, unchanged single p.rx.rx.closing) (book_is due source head (received (Some r.call) false (completed r place source head bytes) p))
+  completed_is (Some least) multi p =
+      let q = received (Some r.call) due (completed r place source head bytes) (with_arriving (with_receiving (filling r place bytes p.rx.rx) p.rx) p) in
+      ap (release r) (filled_is p) ∙ is_released r least multi (state_of q) ∙ let_go_is r q
 
 -- ---- an item is whole
 
-module _ (p : Parts) (source : ℕ) (item : Item) (begun : begun_of p.rx source ≡ Some item) (fitting : IsFitting (coming_from p.rx.rx source) (Some item)) (single : GoesToSingle (coming_from p.rx.rx source)) where
-  tail_by : (c : Option Coming) → coming_from p.rx.rx source ≡ c → IsFitting c (Some item) → GoesToSingle c → do_tail (state_of p) source item.head item.bytes ≡ state_of (tail source item p)
+module _ (p : Parts) (source : ℕ) (item : Item) (begun : begun_of p.rx source ≡ Some item) (fitting : IsFitting (coming_from p.rx.rx source) (Some item)) where
+  -- the item is no longer under way
+  abbrev gone : Parts
+  gone = with_arriving (record p.rx { rx = made_whole source p.rx.rx; begun = slice_set p.rx.begun source None }) p
+
+  tail_by : (c : Option Coming) → coming_from p.rx.rx source ≡ c → IsFitting c (Some item) → do_tail (state_of p) source item.head item.bytes ≡ state_of (tail source item p)
   unfolding do_tail tail_to
-  tail_by None e f s = absurd f
-  tail_by (Some (Into r place)) e f s = rw (e, s.1, kept_single r 0 source (bytes_come (begun_of p.rx source)) (made_whole source p.rx.rx) s.0.least, do_tail, tail_to, not_released r s.0 _) (received_is r s.0 source item.head item.bytes (at_either item.head.ack) (with_arriving (record p.rx { rx = made_whole source p.rx.rx; begun = slice_set p.rx.begun source None }) p))
-  tail_by (Some Keep) e f s = rw (e, begun, do_tail, tail_to) (book_is (at_delivery item.head.ack) source item.head (with_arriving (record p.rx { rx = keeping source item.bytes (made_whole source p.rx.rx); begun = slice_set p.rx.begun source None }) p))
-  tail_by (Some Throw) e f s = rw (e, do_tail, tail_to) (book_is (at_either item.head.ack) source item.head (with_arriving (record p.rx { rx = made_whole source p.rx.rx; begun = slice_set p.rx.begun source None }) p))
-  tail_by (Some Request) e f s = rw (e, do_tail, tail_to) (requested_is (with_arriving (record p.rx { rx = made_whole source p.rx.rx; begun = slice_set p.rx.begun source None }) p) source item)
-  tail_by (Some Answer) e f s = rw (e, do_tail, tail_to) (answered_is (with_arriving (record p.rx { rx = made_whole source p.rx.rx; begun = slice_set p.rx.begun source None }) p) source item)
+  tail_by None e f = absurd f
+  tail_by (Some (Into r place)) e f = rw (e, begun, do_tail, tail_to) (completed_is r place source item.head item.bytes (at_either item.head.ack) r.least refl gone)
+  tail_by (Some Keep) e f = rw (e, begun, do_tail, tail_to) (book_is (at_delivery item.head.ack) source item.head (with_arriving (record p.rx { rx = keeping source item.bytes (made_whole source p.rx.rx); begun = slice_set p.rx.begun source None }) p))
+  tail_by (Some Throw) e f = rw (e, do_tail, tail_to) (book_is (at_either item.head.ack) source item.head gone)
+  tail_by (Some Request) e f = rw (e, do_tail, tail_to) (requested_is gone source item)
+  tail_by (Some Answer) e f = rw (e, do_tail, tail_to) (answered_is gone source item)
 
   pub tail_is : do_tail (state_of p) source item.head item.bytes ≡ state_of (tail source item p)
-  tail_is = tail_by (coming_from p.rx.rx source) refl fitting single
+  tail_is = tail_by (coming_from p.rx.rx source) refl fitting
 
 -- ---- calls
+
+-- a receive for one message gets it
+module _ (r : Receive) (single : r.least ≡ None) (source : ℕ) (head : ItemHead) (bytes : List ℕ) (due : Bool) where
+  unchanged_first : (xs : List Receive) → fill_multi r 0 bytes xs ≡ xs
+  unchanged_first xs = rw (single, fill_multi) refl
+
+  pub received_is : (p : Parts) → book due source head (fill r 0 source head bytes (state_of p)) ≡ state_of (received (Some r.call) due (completed r 0 source head bytes) p)
+  unfolding fill
+  received_is p = rw (fill, unchanged_first p.rx.rx.posted, unchanged_first p.rx.rx.closing) (book_is due source head (received (Some r.call) false (completed r 0 source head bytes) p))
 
 module _ (p : Parts) (ask : Ask) (buf : List ℕ) where
   abbrev r : Receive
@@ -192,7 +245,7 @@ module _ (p : Parts) (ask : Ask) (buf : List ℕ) where
     where
       by : (b : Option (List ℕ)) → a.bytes ≡ b → post (state_of p) (posting_of ask buf) ≡ state_of (posted_by (wanted (state_of p) ask) buf ask.ctx p)
       by None none = rw (e, none, post, give) refl
-      by (Some bytes) some = rw (e, some, post, give) (received_is r (record { least = refl; used = refl }) a.source a.head bytes (at_match a.head.ack) (called (with_arriving (record { rx = without_first r.want p.rx.rx; begun = p.rx.begun; most = p.rx.most; next = r.call + 1; multi = p.rx.multi }) p)))
+      by (Some bytes) some = rw (e, some, post, give) (received_is r refl a.source a.head bytes (at_match a.head.ack) (called (with_arriving (record { rx = without_first r.want p.rx.rx; begun = p.rx.begun; most = p.rx.most; next = r.call + 1; multis = p.rx.multis }) p)))
 
   pub posted_is : post (state_of p) (posting_of ask buf) ≡ state_of (posted_by (wanted (state_of p) ask) buf ask.ctx p)
   posted_is = posted_found (find (takes (wanted (state_of p) ask)) p.rx.rx.unexpected) refl

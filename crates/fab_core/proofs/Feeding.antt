@@ -1,10 +1,8 @@
 -- A frame comes in: what it makes of the parts is what the machine does.
-use Rattle.std.proofs.Common.{◌≡◌, ◌≢◌, inl, inr, ℕ, zero, suc, ◌+◌, ◌-◌, ◌<◌, ◌≤◌, ◌==◌, Bool, true, false, not, ◌&&◌, ◌||◌, List, [], ◌∷◌, ◌++◌, length, length-append, Option, Some, None, get_or, get_or-set_same, refl, sym, ap, ◌∙◌, subst, arith}
-use Rattle.std.specs.Prelude.{find, IfSome, IsSomeAnd, IsTrue, is_some, min, slice_index, slice_set}
-use Rattle.std.specs.Option.{option_map}
-use Rattle.std.proofs.lemmas.Bool.{eq-eqb, eqb-true, eqb-false, ne_eqb}
+use Rattle.std.proofs.Common.{◌≡◌, ◌≢◌, inr, ℕ, ◌+◌, ◌-◌, ◌<◌, ◌≤◌, ◌==◌, Bool, true, false, not, ◌&&◌, ◌||◌, List, [], ◌∷◌, ◌++◌, length, length-append, Option, Some, None, get_or, get_or-set_same, refl, sym, ap, ◌∙◌, subst, arith}
+use Rattle.std.specs.Prelude.{find, IfSome, IsSomeAnd, is_some, min, slice_index, slice_set}
+use Rattle.std.proofs.lemmas.Bool.{eqb-true, eqb-false}
 use Rattle.std.proofs.lemmas.List.{set-set}
-use Rattle.fab_model.proofs.Firsts.{IfSome-find}
 use Rattle.fab_base.specs.declared.frames.Frame.{Frame}
 use Rattle.fab_base.specs.declared.frames.FrameHead.{FrameHead}
 use Rattle.fab_base.specs.declared.items.Item.{Item}
@@ -15,19 +13,21 @@ use Rattle.fab_base.specs.declared.operations.Coming.{Coming}
 use Rattle.fab_base.specs.declared.operations.Coming.TheVariants.{Into, Keep, Throw, Request, Answer}
 use Rattle.fab_base.specs.declared.operations.Receive.{Receive}
 use Rattle.fab_wire.specs.Joined.{grown, is_last}
-use Rattle.fab_model.specs.Matching.{is_message}
-use Rattle.fab_model.specs.State.{State, Receiving, Transmitting, coming_from, fits, raise, Region}
-use Rattle.fab_model.specs.Arrivals.{do_tail, heading_message, heading_other, is_wanted, taker, way_of}
-use Rattle.fab_rx.specs.Arriving.{Arriving, GoesToSingle, IsArriving, IsSingle, arriving, bare, begun_of, count_begun, headed as headed_in, lengthened}
-use Rattle.fab_rx.specs.Results.{entries_due}
+use Rattle.fab_model.specs.Complete.{fill_multi, filled, filling, is_made_by}
+use Rattle.fab_model.specs.Matching.{change_first, is_message}
+use Rattle.fab_model.specs.State.{State, Receiving, Transmitting, coming_from, fits, raise, Region, under_way}
+use Rattle.fab_model.specs.Receiving.{draw_due}
+use Rattle.fab_model.specs.Arrivals.{do_tail, heading_message, heading_other, made_whole, taker, way_of}
+use Rattle.fab_rx.specs.Arriving.{Arriving, IsArriving, arriving, bare, begun_of, bytes_come, count_begun, growing, headed as headed_in}
+use Rattle.fab_rx.specs.Results.{closed_by, closed_if, entries_due, last_of}
 use Rattle.fab_cq.specs.Queues.{has_room}
 use Rattle.fab_face.specs.Held.{Held}
-use Rattle.fab_face.specs.Acts.{Comes, Ends, Goes, Took, headed, is_first}
+use Rattle.fab_face.specs.Acts.{Comes, Goes, Took, headed, is_first}
 use Rattle.fab_face.specs.Answers.{FrameLacks}
 use Rattle.fab_face.specs.Machine.{IsNext, StayNext}
 use Rattle.fab_rma.specs.Serving.{is_request, outcome_at}
 use Rattle.fab_core.specs.Parts.{IsFitting, IsTogether, Parts, held_of, state_of}
-use Rattle.fab_core.specs.Doing.{answer_writes, arrived, fed, growing_by, heading, tail, with_arriving, writes_at_tail}
+use Rattle.fab_core.specs.Doing.{answer_writes, arrived, fed, lacks_at_tail, tail, writes_at_tail}
 use Rattle.fab_core.proofs.Doing.{heading_is, tail_is}
 use Rattle.fab_tx.specs.Transit.{is_reply}
 use Rattle.fab_core.proofs.Fits.{fits_tail}
@@ -99,27 +99,6 @@ module _ (v : Arriving) (ok : IsArriving v) (source : ℕ) (head : ItemHead) (wi
   arrived_other : is_message head.kind ≡ false → coming_from (arriving source head v).rx source ≡ Some (way_of head.kind)
   unfolding heading_other
   arrived_other other = rw (other, heading_other) (get_or-set_same v.rx.coming source (Some (way_of head.kind)) None in_coming)
-
-  single_way : (kind : Kind) → GoesToSingle (Some (way_of kind))
-  single_way Msg = tt
-  single_way TagMsg = tt
-  single_way WriteReq = tt
-  single_way ReadReq = tt
-  single_way AtomicReq = tt
-  single_way Reply = tt
-
-  pub single_arrived : v.multi ≡ false → GoesToSingle (coming_from (arriving source head v).rx source)
-  single_arrived alone = by (is_message head.kind) refl
-    where
-      taken : (o : Option Receive) → taker source head v.rx ≡ o → is_message head.kind ≡ true → GoesToSingle (coming_from (arriving source head v).rx source)
-      taken None e message = rw (arrived_message message, e) tt
-      taken (Some r) e message =
-          let single : IsSingle r = subst (λ (o : Option Receive). IfSome o IsSingle) e (IfSome-find (is_wanted source head) IsSingle v.rx.posted (ok.plain alone).single) in
-          rw (arrived_message message, e) (single, single.used)
-
-      by : (b : Bool) → is_message head.kind ≡ b → GoesToSingle (coming_from (arriving source head v).rx source)
-      by true message = taken (taker source head v.rx) refl message
-      by false other = rw (arrived_other other) (single_way head.kind)
 
   -- ---- what is written when it is whole, where its first frame comes
 
@@ -236,16 +215,23 @@ module _ (p : Parts) (ok : IsTogether p) (rx : IsArriving p.rx) (source : ℕ) (
       let l = later other in
       rw other (sym (subst (λ (x : ItemHead). writes_at_tail (coming_from p.rx.rx source) source x p.tx.tx p.target.regions ≡ not (entries_due (coming_from p.rx.rx source) == 0)) l.2 (later_writes_message (coming_from p.rx.rx source) l.0 source p.tx.tx p.target.regions l.3 (ap (λ (x : ItemHead). is_message x.kind) l.2 ∙ a_message h.item.kind request reply))))
 
+-- a first frame is the arrival of its item
+pub closes_first : (v : Arriving) (source n : ℕ) (head : ItemHead) → (n == 0) ≡ true → is_some (last_of source (arriving source head v)) ≡ is_some (last_of source (arrived (n == 0) source head v))
+closes_first v source n head first = ap (λ b. is_some (last_of source (arrived b source head v))) (sym first)
+
+pub closes_later : (v : Arriving) (source n : ℕ) (head : ItemHead) → (n == 0) ≡ false → is_some (last_of source v) ≡ is_some (last_of source (arrived (n == 0) source head v))
+closes_later v source n head other = ap (λ b. is_some (last_of source (arrived b source head v))) (sym other)
+
 -- ---- the frame as an act
 
 module _ (p : Parts) (ok : IsTogether p) (rx : IsArriving p.rx) (source : ℕ) (f : Frame) (within : source < length p.rx.begun) (next : IsNext (begun_of p.rx source) f) where
-  comes : (b : Bool) → is_first f ≡ b → Comes b (held_of p) source f.head.item
-  comes true first =
+  comes : (is_first f ≡ true → draw_due p.rx.rx ≡ false) → (b : Bool) → is_first f ≡ b → Comes b (held_of p) source f.head.item
+  comes ready true first =
       let none = nothing_begun (begun_of p.rx source) f next first in
       let count = rx.under_way source within in
       let zero_more : count_begun (begun_of p.rx source) ≡ 0 = ap count_begun none in
-      (none, omega (arith, count, zero_more), (rx.plain ok.plain).still)
-  comes false other = (let there = some_begun (begun_of p.rx source) f next other in (there.0, there.1, there.2))
+      (none, omega (arith, count, zero_more), ready first)
+  comes ready false other = (let there = some_begun (begun_of p.rx source) f next other in (there.0, there.1, there.2))
 
   heads_tails : slice_index (headed (is_first f) (state_of p) source f.head.item).rx.heads source ≡ slice_index (headed (is_first f) (state_of p) source f.head.item).rx.tails source + 1
   heads_tails = by (is_first f) refl
@@ -266,31 +252,30 @@ module _ (p : Parts) (ok : IsTogether p) (rx : IsArriving p.rx) (source : ℕ) (
           let one_more : count_begun (begun_of p.rx source) ≡ 1 = ap count_begun there.1 in
           omega (arith, count, one_more)
 
-  pub goes_more : (t : Held) → t ≡ held_of (fed source f p) → is_last f.head ≡ false → Goes None (held_of p) (Took source f) t
-  goes_more t is more = (within, omega (arith, within, rx.tails), comes (is_first f) refl, rw more (is ∙ same))
+  pub goes_more : (is_first f ≡ true → draw_due p.rx.rx ≡ false) → (t : Held) → t ≡ held_of (fed source f p) → is_last f.head ≡ false → Goes None (held_of p) (Took source f) t
+  goes_more ready t is more = (within, omega (arith, within, rx.tails), comes ready (is_first f) refl, rw more (is ∙ same))
     where
       same : held_of (fed source f p) ≡ record (held_of p) { state = headed (is_first f) (state_of p) source f.head.item; begun = slice_set p.rx.begun source (Some (grown (begun_of p.rx source) f)) }
       same = rw (← fed_state p source f, ← fed_begun p source f within next) refl
 
-  pub goes_last : (q t : Parts) → held_of q ≡ held_of (fed source f p) → fits (state_of t).cq ≡ true → state_of t ≡ do_tail (state_of q) source (grown (begun_of p.rx source) f).head (grown (begun_of p.rx source) f).bytes
-      → t.rx.begun ≡ slice_set q.rx.begun source None → t.tx.places ≡ q.tx.places → is_last f.head ≡ true → Goes None (held_of p) (Took source f) (held_of t)
-  goes_last q t is room state begun places last =
+  pub goes_last : (is_first f ≡ true → draw_due p.rx.rx ≡ false) → (q t : Parts) → held_of q ≡ held_of (fed source f p) → fits (state_of t).cq ≡ true → state_of t ≡ do_tail (state_of q) source (grown (begun_of p.rx source) f).head (grown (begun_of p.rx source) f).bytes
+      → t.rx.begun ≡ slice_set q.rx.begun source None → t.tx.places ≡ q.tx.places → t.multis ≡ q.multis → is_last f.head ≡ true → Goes None (held_of p) (Took source f) (held_of t)
+  goes_last ready q t is room state begun places multis last =
       let now : state_of q ≡ headed (is_first f) (state_of p) source f.head.item = ap (λ (h : Held). h.state) is ∙ fed_state p source f in
       let end : state_of t ≡ do_tail (headed (is_first f) (state_of p) source f.head.item) source (grown (begun_of p.rx source) f).head (grown (begun_of p.rx source) f).bytes = state ∙ ap (λ (s : State). do_tail s source (grown (begun_of p.rx source) f).head (grown (begun_of p.rx source) f).bytes) now in
       let cleared : t.rx.begun ≡ slice_set p.rx.begun source None = begun ∙ ap (λ (xs : List (Option Item)). slice_set xs source None) (ap (λ (h : Held). h.begun) is ∙ fed_begun p source f within next) ∙ set-set p.rx.begun source _ None in
       let kept : t.tx.places ≡ p.tx.places = places ∙ ap (λ (h : Held). h.places) is in
-      (within, omega (arith, within, rx.tails), comes (is_first f) refl, rw last (heads_tails, rw (← end) room, rw (← end, ← cleared, ← kept) refl))
+      let same : t.multis ≡ p.multis = multis ∙ ap (λ (h : Held). h.multis) is in
+      (within, omega (arith, within, rx.tails), comes ready (is_first f) refl, rw last (heads_tails, rw (← end) room, rw (← end, ← cleared, ← kept, ← same) refl))
 
   -- it waits for room
-  pub frame_lacks : p.cq.taken_out ≤ length p.cq.written → fits p.cq ≡ true → IsFitting (coming_from (fed source f p).rx.rx source) (Some (grown (begun_of p.rx source) f)) → GoesToSingle (coming_from (fed source f p).rx.rx source)
-      → writes_at_tail (coming_from (fed source f p).rx.rx source) source f.head.item p.tx.tx p.target.regions ≡ true → has_room 1 p.cq ≡ false → is_last f.head ≡ true → FrameLacks (held_of p) source f
-  frame_lacks read now fitting single writes full last =
+  pub frame_lacks : p.cq.taken_out ≤ length p.cq.written → fits p.cq ≡ true → IsFitting (coming_from (fed source f p).rx.rx source) (Some (grown (begun_of p.rx source) f)) → lacks_at_tail (fed source f p).rx source f.head.item p ≡ true → is_last f.head ≡ true → FrameLacks (held_of p) source f
+  frame_lacks read now fitting lacks last =
       let item = grown (begun_of p.rx source) f in
       let q = fed source f p in
-      let fit : fits (tail source item q).cq ≡ not (writes_at_tail (coming_from q.rx.rx source) source item.head q.tx.tx q.target.regions) || has_room 1 q.cq = fits_tail q read now source item in
-      let fails : not (writes_at_tail (coming_from q.rx.rx source) source item.head q.tx.tx q.target.regions) || has_room 1 q.cq ≡ false = rw (writes, full) refl in
-      let state = tail_is q source item (fed_here p source f within next) fitting single in
-      inr (last, rw (← fed_state p source f) (ap (λ (s : State). fits s.cq) state ∙ fit ∙ fails))
+      let fails : fits (tail source item q).cq ≡ false = fits_tail q read now source item ∙ ap not lacks in
+      let state = tail_is q source item (fed_here p source f within next) fitting in
+      inr (last, rw (← fed_state p source f) (ap (λ (s : State). fits s.cq) state ∙ fails))
 
 -- ---- a frame that is the last one
 
@@ -306,27 +291,59 @@ fits_head (Some Throw) a b same fits = ap (λ (h : ItemHead). is_message h.kind)
 fits_head (Some Request) a b same fits = ap (λ (h : ItemHead). is_request h.kind) (sym same) ∙ fits
 fits_head (Some Answer) a b same fits = ap (λ (h : ItemHead). h.kind) (sym same) ∙ fits
 
-and_both : (a b : Bool) → (a && b) ≡ true → (a ≡ true) × (b ≡ true)
-and_both true b e = (refl, e)
-and_both false b e = absurd (cc)
-
 not_both : (a b : Bool) → (a && not b) ≡ false → a ≡ true → b ≡ true
 not_both true true e is = refl
 not_both true false e is = absurd (cc)
 not_both false b e is = absurd (cc)
 
-not_true : (a : Bool) → not a ≡ true → a ≡ false
-not_true true e = absurd (cc)
-not_true false e = refl
+or_neither : (a b : Bool) → (a || b) ≡ false → (a ≡ false) × (b ≡ false)
+or_neither true b e = absurd (cc)
+or_neither false b e = (refl, e)
+
+not_either : (a b : Bool) → (not a && b) ≡ false → b ≡ true → a ≡ true
+not_either true b e is = refl
+not_either false b e is = absurd (cc)
+
+-- ---- whether a buffer comes back does not depend on the bytes
+
+module _ (call place : ℕ) (bytes : List ℕ) where
+  still_found_step : (x : Receive) (xs : List Receive) (b : Bool) → is_made_by call x ≡ b → is_some (find (is_made_by call) (change_first (is_made_by call) (filled place bytes) xs)) ≡ is_some (find (is_made_by call) xs)
+      → is_some (find (is_made_by call) (change_first (is_made_by call) (filled place bytes) (x ∷ xs))) ≡ is_some (find (is_made_by call) (x ∷ xs))
+  still_found_step x xs true is more = rw (is, change_first, is) refl
+  still_found_step x xs false is more = rw (is, change_first, is) more
+
+  still_found : (xs : List Receive) → is_some (find (is_made_by call) (change_first (is_made_by call) (filled place bytes) xs)) ≡ is_some (find (is_made_by call) xs)
+  still_found [] = refl
+  still_found (x ∷ xs) = still_found_step x xs (is_made_by call x) refl (still_found xs)
+
+abbrev closes : Option ℕ → Receive → Receiving → Bool
+closes None r rx = false
+closes (Some least) r rx = not (under_way rx r.call) && is_some (find (is_made_by r.call) rx.closing)
+
+closes_is : (o : Option ℕ) (r : Receive) (place : ℕ) (bytes : List ℕ) (rx : Receiving) → r.least ≡ o → is_some (closed_if o r.call (filling r place bytes rx)) ≡ closes o r rx
+closes_is None r place bytes rx single = refl
+closes_is (Some least) r place bytes rx multi = by (under_way rx r.call) refl
+  where
+    there : is_some (find (is_made_by r.call) (fill_multi r place bytes rx.closing)) ≡ is_some (find (is_made_by r.call) rx.closing)
+    there = rw (multi, fill_multi) (still_found r.call place bytes rx.closing)
+
+    by : (b : Bool) → under_way rx r.call ≡ b → is_some (closed_by r.call (filling r place bytes rx)) ≡ not (under_way rx r.call) && is_some (find (is_made_by r.call) rx.closing)
+    by true busy = rw (busy, closed_by) refl
+    by false idle = rw (idle, closed_by) there
+
+module _ (v : Arriving) (source : ℕ) (more : List ℕ) where
+  last_grown_by : (c : Option Coming) → coming_from v.rx source ≡ c → is_some (last_of source (growing source more v)) ≡ is_some (last_of source v)
+  last_grown_by None e = rw e refl
+  last_grown_by (Some (Into r place)) e = rw e (closes_is r.least r place (bytes_come (begun_of (growing source more v) source)) (made_whole source v.rx) refl ∙ sym (closes_is r.least r place (bytes_come (begun_of v source)) (made_whole source v.rx) refl))
+  last_grown_by (Some Keep) e = rw e refl
+  last_grown_by (Some Throw) e = rw e refl
+  last_grown_by (Some Request) e = rw e refl
+  last_grown_by (Some Answer) e = rw e refl
+
+  lacks_grown : (head : ItemHead) (p : Parts) → lacks_at_tail (growing source more v) source head p ≡ lacks_at_tail v source head p
+  lacks_grown head p = ap (λ b. writes_at_tail (coming_from v.rx source) source head p.tx.tx p.target.regions && not (has_room 1 p.cq) || not (has_room 2 p.cq) && b) (last_grown_by (coming_from v.rx source) refl)
 
 module _ (p : Parts) (ok : IsTogether p) (rx : IsArriving p.rx) (source : ℕ) (f : Frame) (within : source < length p.rx.begun) (next : IsNext (begun_of p.rx source) f) where
-  single_fed : GoesToSingle (coming_from (fed source f p).rx.rx source)
-  single_fed = by (is_first f) refl
-    where
-      by : (b : Bool) → is_first f ≡ b → GoesToSingle (coming_from (fed source f p).rx.rx source)
-      by true first = rw first (single_arrived p.rx rx source f.head.item within ok.plain)
-      by false other = rw other ((rx.plain ok.plain).into source)
-
   fitting_fed : IsFitting (coming_from (fed source f p).rx.rx source) (Some (grown (begun_of p.rx source) f))
   fitting_fed = by (is_first f) refl
     where
@@ -339,30 +356,40 @@ module _ (p : Parts) (ok : IsTogether p) (rx : IsArriving p.rx) (source : ℕ) (
           let fits : IsFitting (coming_from p.rx.rx source) (Some there.0) = subst (λ (i : Option Item). IsFitting (coming_from p.rx.rx source) i) there.1 (ok.fitting source) in
           rw other (fits_head (coming_from p.rx.rx source) there.0 (grown (begun_of p.rx source) f) there.2 fits)
 
-  pub last_lacks : (b : Bool) → b ≡ (writes_at_tail (coming_from (arrived (f.head.from == 0) source f.head.item p.rx).rx source) source f.head.item p.tx.tx p.target.regions && not (has_room 1 p.cq)) → b ≡ true → p.cq.taken_out ≤ length p.cq.written → fits p.cq ≡ true → is_last f.head ≡ true
+  lacks_fed : lacks_at_tail (fed source f p).rx source f.head.item p ≡ lacks_at_tail (arrived (f.head.from == 0) source f.head.item p.rx) source f.head.item p
+  lacks_fed = lacks_grown (arrived (f.head.from == 0) source f.head.item p.rx) source f.bytes f.head.item p
+
+  pub last_lacks : (b : Bool) → b ≡ lacks_at_tail (arrived (f.head.from == 0) source f.head.item p.rx) source f.head.item p → b ≡ true → p.cq.taken_out ≤ length p.cq.written → fits p.cq ≡ true → is_last f.head ≡ true
       → FrameLacks (held_of p) source f
-  last_lacks b is yes_b read now last =
-      let both = and_both _ _ (sym is ∙ yes_b) in
-      frame_lacks p ok rx source f within next read now fitting_fed single_fed both.0 (not_true (has_room 1 p.cq) both.1) last
+  last_lacks b is yes_b read now last = frame_lacks p ok rx source f within next read now fitting_fed (lacks_fed ∙ sym is ∙ yes_b) last
 
   -- its item is whole then, and what that writes has room
   pub last_whole : (v : Arriving) → v ≡ (fed source f p).rx → length f.bytes ≡ f.head.len → is_last f.head ≡ true → IsSomeAnd (begun_of v source) (λ item. length item.bytes ≡ item.head.total)
   last_whole v is filled last =
       rw (is, fed_here p source f within next) (let l = grown_length (begun_of p.rx source) f next in let e = eqb-true _ _ last in omega (arith, l, filled, e))
 
-  pub last_room : (b : Bool) → b ≡ (writes_at_tail (coming_from (arrived (f.head.from == 0) source f.head.item p.rx).rx source) source f.head.item p.tx.tx p.target.regions && not (has_room 1 p.cq)) → b ≡ false → (q : Parts) → held_of q ≡ held_of (fed source f p) → q.rx ≡ (fed source f p).rx
-      → IfSome (begun_of q.rx source) (λ item. writes_at_tail (coming_from q.rx.rx source) source item.head q.tx.tx q.target.regions ≡ true → has_room 1 q.cq ≡ true)
-  last_room b is no_b q held same =
-      let tx : q.tx.tx ≡ p.tx.tx = ap (λ (h : Held). h.state.tx) held in
-      let cq : q.cq ≡ p.cq = ap (λ (h : Held). h.state.cq) held in
-      let regions : q.target.regions ≡ p.target.regions = ap (λ (h : Held). h.state.regions) held in
-      rw (same, fed_here p source f within next, tx, cq, regions) (not_both _ _ (sym is ∙ no_b))
+  module _ (b : Bool) (is : b ≡ lacks_at_tail (arrived (f.head.from == 0) source f.head.item p.rx) source f.head.item p) (no_b : b ≡ false) (q : Parts) (held : held_of q ≡ held_of (fed source f p)) (same : q.rx ≡ (fed source f p).rx) where
+    nothing_lacks : lacks_at_tail (fed source f p).rx source f.head.item p ≡ false
+    nothing_lacks = lacks_fed ∙ sym is ∙ no_b
 
-  pub last_goes : (q t : Parts) → held_of q ≡ held_of (fed source f p) → q.rx ≡ (fed source f p).rx → fits t.cq ≡ true → IfSome (begun_of q.rx source) (λ item. state_of t ≡ do_tail (state_of q) source item.head item.bytes)
-      → t.rx.begun ≡ slice_set q.rx.begun source None → t.tx.places ≡ q.tx.places → is_last f.head ≡ true → Goes None (held_of p) (Took source f) (held_of t)
-  last_goes q t held same room state begun places last =
+    same_cq : q.cq ≡ p.cq
+    same_cq = ap (λ (h : Held). h.state.cq) held
+
+    pub last_room : IfSome (begun_of q.rx source) (λ item. writes_at_tail (coming_from q.rx.rx source) source item.head q.tx.tx q.target.regions ≡ true → has_room 1 q.cq ≡ true)
+    last_room =
+        let tx : q.tx.tx ≡ p.tx.tx = ap (λ (h : Held). h.state.tx) held in
+        let regions : q.target.regions ≡ p.target.regions = ap (λ (h : Held). h.state.regions) held in
+        rw (same, fed_here p source f within next, tx, same_cq, regions) (not_both _ _ (or_neither _ _ nothing_lacks).0)
+
+    -- with the buffer that comes back
+    pub last_room_back : is_some (last_of source q.rx) ≡ true → has_room 2 q.cq ≡ true
+    last_room_back = rw (same, same_cq) (not_either _ _ (or_neither _ _ nothing_lacks).1)
+
+  pub last_goes : (is_first f ≡ true → draw_due p.rx.rx ≡ false) → (q t : Parts) → held_of q ≡ held_of (fed source f p) → q.rx ≡ (fed source f p).rx → fits t.cq ≡ true → IfSome (begun_of q.rx source) (λ item. state_of t ≡ do_tail (state_of q) source item.head item.bytes)
+      → t.rx.begun ≡ slice_set q.rx.begun source None → t.tx.places ≡ q.tx.places → t.multis ≡ q.multis → is_last f.head ≡ true → Goes None (held_of p) (Took source f) (held_of t)
+  last_goes ready q t held same room state begun places multis last =
       let here : begun_of q.rx source ≡ Some (grown (begun_of p.rx source) f) = ap (λ (v : Arriving). begun_of v source) same ∙ fed_here p source f within next in
-      goes_last p ok rx source f within next q t held room (subst (λ (i : Option Item). IfSome i (λ item. state_of t ≡ do_tail (state_of q) source item.head item.bytes)) here state) begun places last
+      goes_last p ok rx source f within next ready q t held room (subst (λ (i : Option Item). IfSome i (λ item. state_of t ≡ do_tail (state_of q) source item.head item.bytes)) here state) begun places multis last
 
 pub stay_fed : (p q t : Parts) (source : ℕ) (f : Frame) → held_of q ≡ held_of (fed source f p) → StayNext (state_of q) (state_of t) → StayNext (state_of p) (state_of t)
 stay_fed p q t source f held stay d item is = (let tx : q.tx.tx ≡ p.tx.tx = ap (λ (h : Held). h.state.tx) held in stay d item (rw tx is))

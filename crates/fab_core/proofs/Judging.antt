@@ -1,5 +1,5 @@
 -- Why looks, receives of claimed messages and drops are refused, and that they are the machine's calls.
-use Rattle.std.proofs.Common.{◌≡◌, ℕ, ◌+◌, ◌≤◌, Bool, true, false, not, ◌&&◌, ◌||◌, ◌==◌, cond, List, [], ◌∷◌, length, Option, Some, None, refl, sym, ap, ◌∙◌}
+use Rattle.std.proofs.Common.{◌≡◌, ℕ, ◌≤◌, Bool, true, false, not, ◌&&◌, ◌||◌, ◌==◌, cond, List, [], ◌∷◌, length, Option, Some, None, refl, sym, ap, ◌∙◌}
 use Rattle.std.specs.Prelude.{find, is_none, is_some, nat_lt, IfSome, IfNone, IfErr, OnErr, OnOk, Result, Ok, Err}
 use Rattle.std.specs.Option.{option_map}
 use Rattle.fab_base.specs.declared.faults.Busy.{Busy}
@@ -22,7 +22,9 @@ use Rattle.fab_face.specs.Looking.{looking}
 use Rattle.fab_face.specs.Machine.{StayNext}
 use Rattle.fab_face.specs.declared.looking.Look.{Look}
 use Rattle.fab_core.specs.Parts.{Parts, held_of, state_of}
-use Rattle.fab_core.specs.Looks.{dropped_by, lacks_take, lasting_claimed, lasting_look, look_want, looked_by, taken_by}
+use Rattle.fab_core.specs.Orders.{is_held}
+use Rattle.fab_core.specs.Looks.{dropped_by, is_held_take, lasting_claimed, lasting_look, look_want, looked_by, taken_by}
+use Rattle.fab_core.proofs.Made.{none_made}
 use Rattle.fab_core.proofs.Fits.{fits_writing}
 use Rattle.fab_core.proofs.Seeing.{drop_is, dropped_next, held_dropped, held_looked, held_taken, look_is, looked_next, take_is, taken_next}
 
@@ -168,40 +170,40 @@ claimed_judged s after buf ctx = behind_three (not (may_receive s true)) (nat_lt
 
 -- ---- the calls
 
-module _ (p : Parts) (still : draw_due p.rx.rx ≡ false) (read : p.cq.taken_out ≤ length p.cq.written) (now : fits p.cq ≡ true) where
+module _ (p : Parts) (read : p.cq.taken_out ≤ length p.cq.written) (now : fits p.cq ≡ true) where
   abbrev s : State
   s = state_of p
 
-  lacks : (after : State) (b : Bool) → fits after.cq ≡ b → lacks_room s after ≡ not b
-  lacks after b is = rw (still, is) refl
+  lacks : (after : State) (b : Bool) → fits after.cq ≡ b → lacks_room s after ≡ (draw_due p.rx.rx || not b)
+  lacks after b is = rw is refl
 
   -- a look
   module _ (l : Look) where
     abbrev looked : Parts
     looked = looked_by l.how (look_want s l) l.ctx p
 
-    pub look_call : do_call s (looking l) ≡ answer (judged (lasting_look s l) (not (has_room 1 p.cq)) (CqFull p.cq.size)) s (state_of looked)
+    pub look_call : do_call s (looking l) ≡ answer (judged (lasting_look s l) (is_held 1 p) (CqFull p.cq.size)) s (state_of looked)
     unfolding do_call
     look_call =
         let is = look_is p (look_want s l) l.ctx l.how in
-        let room : lacks_room s (look l.how (look_want s l) l.ctx s) ≡ not (has_room 1 p.cq) = lacks (look l.how (look_want s l) l.ctx s) (has_room 1 p.cq) (ap (λ (t : State). fits t.cq) is ∙ fits_writing p.cq read now _ _) in
+        let room : lacks_room s (look l.how (look_want s l) l.ctx s) ≡ is_held 1 p = lacks (look l.how (look_want s l) l.ctx s) (has_room 1 p.cq) (ap (λ (t : State). fits t.cq) is ∙ fits_writing p.cq read now _ _) in
         rw (do_call, look_judged s (look l.how (look_want s l) l.ctx s) l, room, is) refl
 
     pub if_look_some : (r : Option Fault) → r ≡ lasting_look s l → IfSome r (λ why. do_call s (looking l) ≡ (Refused why, s))
-    if_look_some = if_refused (do_call s (looking l)) s (state_of looked) (lasting_look s l) (not (has_room 1 p.cq)) (CqFull p.cq.size) look_call (look_final s l)
+    if_look_some = if_refused (do_call s (looking l)) s (state_of looked) (lasting_look s l) (is_held 1 p) (CqFull p.cq.size) look_call (look_final s l)
 
     pub if_look_none : (r : Option Fault) → r ≡ lasting_look s l → IfNone r (is_final (do_call s (looking l)).0 ≡ false)
-    if_look_none = if_passing (do_call s (looking l)) s (state_of looked) (lasting_look s l) (not (has_room 1 p.cq)) (CqFull p.cq.size) look_call (look_final s l)
+    if_look_none = if_passing (do_call s (looking l)) s (state_of looked) (lasting_look s l) (is_held 1 p) (CqFull p.cq.size) look_call (look_final s l)
 
-    pub if_looks : (q : Parts) (r : Result (Unit {0}) Fault) → is_final (do_call s (looking l)).0 ≡ false → OnOk r ((has_room 1 p.cq ≡ true) × (q ≡ looked)) → OnOk r (DoesCall (Some (looking l)) (held_of p) (held_of q))
-    if_looks q (Ok u) granted does = rw does.1 (done (do_call s (looking l)) s (state_of looked) (lasting_look s l) (not (has_room 1 p.cq)) (CqFull p.cq.size) look_call (look_final s l) granted (ap not does.0), sym (held_looked p l (look_want s l)))
+    pub if_looks : (q : Parts) (r : Result (Unit {0}) Fault) → is_final (do_call s (looking l)).0 ≡ false → OnOk r ((is_held 1 p ≡ false) × (q ≡ looked)) → OnOk r (DoesCall (Some (looking l)) (held_of p) (held_of q))
+    if_looks q (Ok u) granted does = rw does.1 (done (do_call s (looking l)) s (state_of looked) (lasting_look s l) (is_held 1 p) (CqFull p.cq.size) look_call (look_final s l) granted does.0, sym (held_looked p l (look_want s l)) ∙ none_made (looking l) (held_of p) (state_of looked) refl)
     if_looks q (Err why) granted does = tt
 
-    pub if_looks_not : (r : Result (Unit {0}) Fault) → is_final (do_call s (looking l)).0 ≡ false → IfErr r (λ why. (why ≡ Again (CqFull p.cq.size)) × (has_room 1 p.cq ≡ false)) → IfErr r (λ why. do_call s (looking l) ≡ (Refused why, s))
+    pub if_looks_not : (r : Result (Unit {0}) Fault) → is_final (do_call s (looking l)).0 ≡ false → IfErr r (λ why. (why ≡ Again (CqFull p.cq.size)) × (is_held 1 p ≡ true)) → IfErr r (λ why. do_call s (looking l) ≡ (Refused why, s))
     if_looks_not (Ok u) granted why_not = tt
-    if_looks_not (Err why) granted why_not = rw why_not.0 (again (do_call s (looking l)) s (state_of looked) (lasting_look s l) (not (has_room 1 p.cq)) (CqFull p.cq.size) look_call (look_final s l) granted (ap not why_not.1))
+    if_looks_not (Err why) granted why_not = rw why_not.0 (again (do_call s (looking l)) s (state_of looked) (lasting_look s l) (is_held 1 p) (CqFull p.cq.size) look_call (look_final s l) granted why_not.1)
 
-    pub if_looks_next : (q : Parts) (r : Result (Unit {0}) Fault) → OnOk r ((has_room 1 p.cq ≡ true) × (q ≡ looked)) → OnErr r (q ≡ p) → StayNext s (state_of q)
+    pub if_looks_next : (q : Parts) (r : Result (Unit {0}) Fault) → OnOk r ((is_held 1 p ≡ false) × (q ≡ looked)) → OnErr r (q ≡ p) → StayNext s (state_of q)
     if_looks_next q (Ok u) does same = rw does.1 (looked_next p l.how (look_want s l) l.ctx)
     if_looks_next q (Err why) does same = rw same (λ d item is. is)
 
@@ -236,23 +238,23 @@ module _ (p : Parts) (still : draw_due p.rx.rx ≡ false) (read : p.cq.taken_out
     pub if_drop_none : (r : Option Fault) → r ≡ lasting_claimed s 0 ctx → IfNone r (is_final (do_call s (DropClaimed ctx)).0 ≡ false)
     if_drop_none = if_passing (do_call s (DropClaimed ctx)) s (drop_claimed s ctx) (lasting_claimed s 0 ctx) (lacks_room s (drop_claimed s ctx)) (CqFull p.cq.size) drop_call (claimed_final s 0 ctx)
 
-    drop_lacks : (k : ℕ × Arrival) → find (λ k. k.0 == ctx) p.rx.rx.claimed ≡ Some k → lacks_room s (drop_claimed s ctx) ≡ not (has_room 1 p.cq)
+    drop_lacks : (k : ℕ × Arrival) → find (λ k. k.0 == ctx) p.rx.rx.claimed ≡ Some k → lacks_room s (drop_claimed s ctx) ≡ is_held 1 p
     drop_lacks k found = lacks (drop_claimed s ctx) (has_room 1 p.cq) (ap (λ (t : State). fits t.cq) (drop_is p ctx k found) ∙ fits_writing p.cq read now _ _)
 
-    pub if_drops : (q : Parts) (r : Result (Unit {0}) Fault) → is_final (do_call s (DropClaimed ctx)).0 ≡ false → OnOk r ((has_room 1 p.cq ≡ true) × (q ≡ dropped_by ctx p)) → OnOk r (DoesCall (Some (DropClaimed ctx)) (held_of p) (held_of q))
+    pub if_drops : (q : Parts) (r : Result (Unit {0}) Fault) → is_final (do_call s (DropClaimed ctx)).0 ≡ false → OnOk r ((is_held 1 p ≡ false) × (q ≡ dropped_by ctx p)) → OnOk r (DoesCall (Some (DropClaimed ctx)) (held_of p) (held_of q))
     if_drops q (Ok u) granted does =
         let k = stands 0 (none_lasts (do_call s (DropClaimed ctx)) s (drop_claimed s ctx) (lasting_claimed s 0 ctx) (lacks_room s (drop_claimed s ctx)) (CqFull p.cq.size) drop_call (claimed_final s 0 ctx) granted) in
         rw does.1
-        (done (do_call s (DropClaimed ctx)) s (drop_claimed s ctx) (lasting_claimed s 0 ctx) (lacks_room s (drop_claimed s ctx)) (CqFull p.cq.size) drop_call (claimed_final s 0 ctx) granted (drop_lacks k.0 k.1 ∙ ap not does.0) ∙ ap (λ (t : State). (Done, t)) (drop_is p ctx k.0 k.1), sym (held_dropped p ctx))
+        (done (do_call s (DropClaimed ctx)) s (drop_claimed s ctx) (lasting_claimed s 0 ctx) (lacks_room s (drop_claimed s ctx)) (CqFull p.cq.size) drop_call (claimed_final s 0 ctx) granted (drop_lacks k.0 k.1 ∙ does.0) ∙ ap (λ (t : State). (Done, t)) (drop_is p ctx k.0 k.1), sym (held_dropped p ctx) ∙ none_made (DropClaimed ctx) (held_of p) (state_of (dropped_by ctx p)) refl)
     if_drops q (Err why) granted does = tt
 
-    pub if_drops_not : (r : Result (Unit {0}) Fault) → is_final (do_call s (DropClaimed ctx)).0 ≡ false → IfErr r (λ why. (why ≡ Again (CqFull p.cq.size)) × (has_room 1 p.cq ≡ false)) → IfErr r (λ why. do_call s (DropClaimed ctx) ≡ (Refused why, s))
+    pub if_drops_not : (r : Result (Unit {0}) Fault) → is_final (do_call s (DropClaimed ctx)).0 ≡ false → IfErr r (λ why. (why ≡ Again (CqFull p.cq.size)) × (is_held 1 p ≡ true)) → IfErr r (λ why. do_call s (DropClaimed ctx) ≡ (Refused why, s))
     if_drops_not (Ok u) granted why_not = tt
     if_drops_not (Err why) granted why_not =
         let k = stands 0 (none_lasts (do_call s (DropClaimed ctx)) s (drop_claimed s ctx) (lasting_claimed s 0 ctx) (lacks_room s (drop_claimed s ctx)) (CqFull p.cq.size) drop_call (claimed_final s 0 ctx) granted) in
-        rw why_not.0 (again (do_call s (DropClaimed ctx)) s (drop_claimed s ctx) (lasting_claimed s 0 ctx) (lacks_room s (drop_claimed s ctx)) (CqFull p.cq.size) drop_call (claimed_final s 0 ctx) granted (drop_lacks k.0 k.1 ∙ ap not why_not.1))
+        rw why_not.0 (again (do_call s (DropClaimed ctx)) s (drop_claimed s ctx) (lasting_claimed s 0 ctx) (lacks_room s (drop_claimed s ctx)) (CqFull p.cq.size) drop_call (claimed_final s 0 ctx) granted (drop_lacks k.0 k.1 ∙ why_not.1))
 
-    pub if_drops_next : (q : Parts) (r : Result (Unit {0}) Fault) → OnOk r ((has_room 1 p.cq ≡ true) × (q ≡ dropped_by ctx p)) → OnErr r (q ≡ p) → StayNext s (state_of q)
+    pub if_drops_next : (q : Parts) (r : Result (Unit {0}) Fault) → OnOk r ((is_held 1 p ≡ false) × (q ≡ dropped_by ctx p)) → OnErr r (q ≡ p) → StayNext s (state_of q)
     if_drops_next q (Ok u) does same = rw does.1 (dropped_next p ctx)
     if_drops_next q (Err why) does same = rw same (λ d item is. is)
 
@@ -268,10 +270,10 @@ module _ (p : Parts) (still : draw_due p.rx.rx ≡ false) (read : p.cq.taken_out
       pub if_take_none : (r : Option Fault) → r ≡ lasting_claimed s (length buf) ctx → IfNone r (is_final (do_call s (TakeClaimed buf ctx)).0 ≡ false)
       if_take_none = if_passing (do_call s (TakeClaimed buf ctx)) s (take_claimed s buf ctx) (lasting_claimed s (length buf) ctx) (lacks_room s (take_claimed s buf ctx)) (CqFull p.cq.size) take_call (claimed_final s (length buf) ctx)
 
-      take_lacks : (k : ℕ × Arrival) → find (λ k. k.0 == ctx) p.rx.rx.claimed ≡ Some k → lacks_room s (take_claimed s buf ctx) ≡ lacks_take ctx p
+      take_lacks : (k : ℕ × Arrival) → find (λ k. k.0 == ctx) p.rx.rx.claimed ≡ Some k → lacks_room s (take_claimed s buf ctx) ≡ is_held_take ctx p
       take_lacks k found = by k.1.bytes refl
         where
-          by : (b : Option (List ℕ)) → k.1.bytes ≡ b → lacks_room s (take_claimed s buf ctx) ≡ lacks_take ctx p
+          by : (b : Option (List ℕ)) → k.1.bytes ≡ b → lacks_room s (take_claimed s buf ctx) ≡ is_held_take ctx p
           by None none = lacks (take_claimed s buf ctx) true (ap (λ (t : State). fits t.cq) (take_is p ctx k found buf) ∙ rw (found, none) now) ∙ sym (rw (found, none) refl)
           by (Some bytes) some = lacks (take_claimed s buf ctx) (has_room 1 p.cq) (ap (λ (t : State). fits t.cq) (take_is p ctx k found buf) ∙ rw (found, some) (fits_writing p.cq read now _ _)) ∙ sym (rw (found, some) refl)
 
@@ -281,19 +283,19 @@ module _ (p : Parts) (still : draw_due p.rx.rx ≡ false) (read : p.cq.taken_out
       pub claim_there : is_final (do_call s (TakeClaimed buf ctx)).0 ≡ false → is_some (claim_under ctx p.rx.rx) ≡ true
       claim_there granted = (let k = claim_of_take granted in rw k.1 refl)
 
-      pub if_takes : (q : Parts) (r : Result (Unit {0}) Turned) → is_final (do_call s (TakeClaimed buf ctx)).0 ≡ false → OnOk r ((lacks_take ctx p ≡ false) × (q ≡ taken_by buf ctx p)) → OnOk r (DoesCall (Some (TakeClaimed buf ctx)) (held_of p) (held_of q))
+      pub if_takes : (q : Parts) (r : Result (Unit {0}) Turned) → is_final (do_call s (TakeClaimed buf ctx)).0 ≡ false → OnOk r ((is_held_take ctx p ≡ false) × (q ≡ taken_by buf ctx p)) → OnOk r (DoesCall (Some (TakeClaimed buf ctx)) (held_of p) (held_of q))
       if_takes q (Ok u) granted does =
           let k = claim_of_take granted in
           rw does.1
-          (done (do_call s (TakeClaimed buf ctx)) s (take_claimed s buf ctx) (lasting_claimed s (length buf) ctx) (lacks_room s (take_claimed s buf ctx)) (CqFull p.cq.size) take_call (claimed_final s (length buf) ctx) granted (take_lacks k.0 k.1 ∙ does.0) ∙ ap (λ (t : State). (Done, t)) (take_is p ctx k.0 k.1 buf), sym (held_taken p buf ctx))
+          (done (do_call s (TakeClaimed buf ctx)) s (take_claimed s buf ctx) (lasting_claimed s (length buf) ctx) (lacks_room s (take_claimed s buf ctx)) (CqFull p.cq.size) take_call (claimed_final s (length buf) ctx) granted (take_lacks k.0 k.1 ∙ does.0) ∙ ap (λ (t : State). (Done, t)) (take_is p ctx k.0 k.1 buf), sym (held_taken p buf ctx) ∙ none_made (TakeClaimed buf ctx) (held_of p) (state_of (taken_by buf ctx p)) refl)
       if_takes q (Err why) granted does = tt
 
-      pub if_takes_not : (r : Result (Unit {0}) Turned) → is_final (do_call s (TakeClaimed buf ctx)).0 ≡ false → IfErr r (λ r. (r.buf ≡ buf) × (r.why ≡ Again (CqFull p.cq.size)) × (lacks_take ctx p ≡ true)) → IfErr r (λ r. (r.buf ≡ buf) × (do_call s (TakeClaimed buf ctx) ≡ (Refused r.why, s)))
+      pub if_takes_not : (r : Result (Unit {0}) Turned) → is_final (do_call s (TakeClaimed buf ctx)).0 ≡ false → IfErr r (λ r. (r.buf ≡ buf) × (r.why ≡ Again (CqFull p.cq.size)) × (is_held_take ctx p ≡ true)) → IfErr r (λ r. (r.buf ≡ buf) × (do_call s (TakeClaimed buf ctx) ≡ (Refused r.why, s)))
       if_takes_not (Ok u) granted why_not = tt
       if_takes_not (Err r) granted why_not =
           let k = claim_of_take granted in
           (why_not.0, rw why_not.1 (again (do_call s (TakeClaimed buf ctx)) s (take_claimed s buf ctx) (lasting_claimed s (length buf) ctx) (lacks_room s (take_claimed s buf ctx)) (CqFull p.cq.size) take_call (claimed_final s (length buf) ctx) granted (take_lacks k.0 k.1 ∙ why_not.2)))
 
-      pub if_takes_next : (q : Parts) (r : Result (Unit {0}) Turned) → OnOk r ((lacks_take ctx p ≡ false) × (q ≡ taken_by buf ctx p)) → OnErr r (q ≡ p) → StayNext s (state_of q)
+      pub if_takes_next : (q : Parts) (r : Result (Unit {0}) Turned) → OnOk r ((is_held_take ctx p ≡ false) × (q ≡ taken_by buf ctx p)) → OnErr r (q ≡ p) → StayNext s (state_of q)
       if_takes_next q (Ok u) does same = rw does.1 (taken_next p buf ctx)
       if_takes_next q (Err why) does same = rw same (λ d item is. is)

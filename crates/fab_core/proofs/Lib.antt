@@ -1,3 +1,4 @@
+mod Made
 mod Owing
 mod Doing
 mod Together
@@ -6,6 +7,8 @@ mod Next
 mod Fits
 mod Feeding
 mod Calling
+mod Sharing
+mod Drawing
 mod Handed
 mod Sent
 mod Beginning

@@ -1,5 +1,5 @@
 -- What is next for a peer stays so while replies are booked behind it.
-use Rattle.std.proofs.Common.{◌≡◌, ◌≢◌, inl, inr, ℕ, zero, suc, ◌+◌, ◌<◌, Bool, true, false, List, [], ◌∷◌, ◌++◌, length, get_or, get_or-set_same, get_or-set_other, Option, Some, None, refl, sym, ap, ◌∙◌, arith}
+use Rattle.std.proofs.Common.{◌≡◌, ◌≢◌, inl, inr, ℕ, zero, suc, ◌+◌, Bool, true, false, List, [], ◌∷◌, ◌++◌, length, get_or, get_or-set_same, get_or-set_other, Option, Some, None, refl, ap}
 use Rattle.std.specs.Prelude.{find, slice_get, slice_index, slice_set}
 use Rattle.fab_base.specs.declared.items.Want.{Want}
 use Rattle.fab_model.specs.Matching.{takes}
@@ -11,14 +11,15 @@ use Rattle.fab_base.specs.declared.operations.Arrival.{Arrival}
 use Rattle.fab_base.specs.declared.operations.Coming.{Coming}
 use Rattle.fab_base.specs.declared.operations.Coming.TheVariants.{Into, Keep, Throw, Request, Answer}
 use Rattle.fab_base.specs.declared.operations.Receive.{Receive}
-use Rattle.fab_model.specs.State.{Transmitting, accepted_for, coming_from}
+use Rattle.fab_model.specs.State.{State, Transmitting, accepted_for, coming_from}
 use Rattle.fab_model.specs.Complete.{joining}
 use Rattle.fab_model.specs.Sending.{answering, transmitting}
 use Rattle.fab_face.specs.Machine.{StayNext}
 use Rattle.fab_tx.specs.Transit.{Transit, next_item}
 use Rattle.fab_core.specs.Parts.{Parts, state_of}
-use Rattle.fab_core.specs.Doing.{booked, given_found, given_whole, left_by, posted_by, tail, whole}
-use Rattle.fab_core.specs.Parts.{held_of}
+use Rattle.fab_rx.specs.Arriving.{finishing}
+use Rattle.fab_rx.specs.Results.{last_of}
+use Rattle.fab_core.specs.Doing.{booked, let_back, posted_by, tail, whole, with_arriving}
 
 -- what is accepted for each peer goes on from what was, and as much of it is transmitted
 abbrev pub GoesOn : Transmitting → Transmitting → Type 0
@@ -46,16 +47,46 @@ answered_next : (source : ℕ) (reply : ItemHead) (tx : Transmitting) → GoesOn
 unfolding answering
 answered_next source reply tx d item is = is
 
+ends_next : (p q : Parts) (source : ℕ) (item : Item) → q.tx ≡ p.tx → (c : Option Coming) → StayNext (state_of p) (state_of (whole c source item q))
+ends_next p q source item same None = rw same (booked_next _ source item.head p.tx)
+ends_next p q source item same (Some (Into r place)) = rw same (booked_next _ source item.head p.tx)
+ends_next p q source item same (Some Keep) = rw same (booked_next _ source item.head p.tx)
+ends_next p q source item same (Some Throw) = rw same (booked_next _ source item.head p.tx)
+ends_next p q source item same (Some Request) = rw same (joined source _ p.tx.tx)
+ends_next p q source item same (Some Answer) = rw same (answered_next source item.head p.tx.tx)
+
+pub back_next : (s : State) (o : Option Receive) (q : Parts) → StayNext s (state_of q) → StayNext s (state_of (let_back o q))
+back_next s None q stays = stays
+back_next s (Some r) q stays = stays
+
 pub tail_next : (p : Parts) (source : ℕ) (item : Item) → StayNext (state_of p) (state_of (tail source item p))
-tail_next p source item = by (coming_from p.rx.rx source) refl
-  where
-    by : (c : Option Coming) → coming_from p.rx.rx source ≡ c → StayNext (state_of p) (state_of (tail source item p))
-    by None e = rw e (booked_next _ source item.head p.tx)
-    by (Some (Into r place)) e = rw e (booked_next _ source item.head p.tx)
-    by (Some Keep) e = rw e (booked_next _ source item.head p.tx)
-    by (Some Throw) e = rw e (booked_next _ source item.head p.tx)
-    by (Some Request) e = rw e (joined source _ p.tx.tx)
-    by (Some Answer) e = rw e (answered_next source item.head p.tx.tx)
+tail_next p source item = back_next (state_of p) (last_of source p.rx) _ (ends_next p (with_arriving (finishing source p.rx) p) source item refl (coming_from p.rx.rx source))
+
+-- ---- what an end leaves
+
+pub booked_places : (due : Bool) (source : ℕ) (head : ItemHead) (v : Transit) → (booked due source head v).places ≡ v.places
+booked_places true source head v = refl
+booked_places false source head v = refl
+
+pub record IsLeft (p q : Parts) (source : ℕ) : Type 0 where
+  pub begun : q.rx.begun ≡ slice_set p.rx.begun source None
+  pub places : q.tx.places ≡ p.tx.places
+  pub multis : q.multis ≡ p.multis
+
+ends_left : (p : Parts) (source : ℕ) (item : Item) (c : Option Coming) → IsLeft p (whole c source item (with_arriving (finishing source p.rx) p)) source
+ends_left p source item None = record { begun = refl; places = booked_places _ source item.head p.tx; multis = refl }
+ends_left p source item (Some (Into r place)) = record { begun = refl; places = booked_places _ source item.head p.tx; multis = refl }
+ends_left p source item (Some Keep) = record { begun = refl; places = booked_places _ source item.head p.tx; multis = refl }
+ends_left p source item (Some Throw) = record { begun = refl; places = booked_places _ source item.head p.tx; multis = refl }
+ends_left p source item (Some Request) = record { begun = refl; places = refl; multis = refl }
+ends_left p source item (Some Answer) = record { begun = refl; places = refl; multis = refl }
+
+back_left : (p : Parts) (source : ℕ) (o : Option Receive) (q : Parts) → IsLeft p q source → IsLeft p (let_back o q) source
+back_left p source None q left = left
+back_left p source (Some r) q left = record { begun = left.begun; places = left.places; multis = left.multis }
+
+pub tail_left : (p : Parts) (source : ℕ) (item : Item) → IsLeft p (tail source item p) source
+tail_left p source item = back_left p source (last_of source p.rx) _ (ends_left p source item (coming_from p.rx.rx source))
 
 pub posted_next : (p : Parts) (want : Want) (buf : List ℕ) (ctx : ℕ) → StayNext (state_of p) (state_of (posted_by want buf ctx p))
 posted_next p want buf ctx = found (find (takes want) p.rx.rx.unexpected) refl

@@ -1,20 +1,15 @@
 -- What looks make of the parts is what the machine makes of its state: looks, receives of claimed messages, drops.
-use Rattle.std.proofs.Common.{◌≡◌, ℕ, ◌+◌, ◌&&◌, ◌==◌, Bool, true, false, List, length, Option, Some, None, refl, sym, ap, ◌∙◌}
-use Rattle.std.specs.Prelude.{find, is_some}
-use Rattle.std.specs.Option.{option_map}
+use Rattle.std.proofs.Common.{◌≡◌, ℕ, ◌+◌, ◌==◌, Bool, true, false, List, Option, Some, None, refl}
+use Rattle.std.specs.Prelude.{find}
 use Rattle.fab_base.specs.declared.entries.PeekHow.{PeekHow}
 use Rattle.fab_base.specs.declared.entries.PeekHow.TheVariants.{Peek, Claim, Discard}
-use Rattle.fab_base.specs.declared.items.ItemHead.{ItemHead}
 use Rattle.fab_base.specs.declared.items.Want.{Want}
 use Rattle.fab_base.specs.declared.operations.Arrival.{Arrival}
 use Rattle.fab_base.specs.declared.operations.Receive.{Receive}
 use Rattle.fab_model.specs.Complete.{at_match}
 use Rattle.fab_model.specs.Matching.{takes}
 use Rattle.fab_model.specs.Receiving.{drop_arrival, drop_claimed, give, look, take_claimed, without_claim, without_first}
-use Rattle.fab_model.specs.State.{State, fits, writing}
-use Rattle.fab_model.specs.Calls.{DropClaimed, TakeClaimed}
-use Rattle.fab_face.specs.Acts.{does}
-use Rattle.fab_face.specs.Looking.{looking}
+use Rattle.fab_model.specs.State.{writing}
 use Rattle.fab_face.specs.Machine.{StayNext}
 use Rattle.fab_face.specs.declared.looking.Look.{Look}
 use Rattle.fab_rx.specs.Arriving.{Arriving, with_receiving}
@@ -22,10 +17,10 @@ use Rattle.fab_rx.specs.Claims.{claim_under, seen}
 use Rattle.fab_rx.specs.declared.results.Seen.{Seen}
 use Rattle.fab_tx.specs.Transit.{Transit}
 use Rattle.fab_core.specs.Parts.{Parts, held_of, state_of}
-use Rattle.fab_core.specs.Doing.{booked, called, with_arriving}
-use Rattle.fab_core.specs.Looks.{claim_by, claim_receive, dropped_by, looked, looked_by, met_by, parted, parted_by, taken_by, told}
+use Rattle.fab_core.specs.Doing.{called, with_arriving}
+use Rattle.fab_core.specs.Looks.{claim_by, claim_receive, dropped_by, looked_by, met_by, parted, taken_by, told}
 use Rattle.fab_core.proofs.Doing.{book_is, received_is}
-use Rattle.fab_core.proofs.Next.{GoesOn, booked_next}
+use Rattle.fab_core.proofs.Next.{GoesOn, booked_next, booked_places}
 
 module _ (p : Parts) (want : Want) (ctx : ℕ) where
   -- the parts once the message is told of, with this of the receive half
@@ -66,16 +61,12 @@ module _ (p : Parts) (ctx : ℕ) (k : ℕ × Arrival) (found : find (λ k. k.0 =
     unfolding take_claimed give
     take_by None none = rw (found, none, take_claimed, give) refl
     take_by (Some bytes) some = rw (found, some, take_claimed, give)
-        (received_is r (record { least = refl; used = refl }) k.1.source k.1.head bytes (at_match k.1.head.ack) (called (with_arriving (record { rx = without_claim ctx p.rx.rx; begun = p.rx.begun; most = p.rx.most; next = r.call + 1; multi = p.rx.multi }) p)))
+        (received_is r refl k.1.source k.1.head bytes (at_match k.1.head.ack) (called (with_arriving (record { rx = without_claim ctx p.rx.rx; begun = p.rx.begun; most = p.rx.most; next = r.call + 1; multis = p.rx.multis }) p)))
 
     pub take_is : take_claimed (state_of p) buf ctx ≡ state_of (taken_by buf ctx p)
     take_is = take_by k.1.bytes refl
 
 -- ---- what is held besides, and what is next for each peer
-
-booked_places : (due : Bool) (source : ℕ) (head : ItemHead) (v : Transit) → (booked due source head v).places ≡ v.places
-booked_places true source head v = refl
-booked_places false source head v = refl
 
 parted_places : (m : Option Seen) (v : Transit) → (parted m v).places ≡ v.places
 parted_places None v = refl
@@ -86,7 +77,7 @@ parted_next None v = λ d item is. is
 parted_next (Some m) v = booked_next _ m.source m.head v
 
 module _ (p : Parts) where
-  pub held_looked : (l : Look) (want : Want) → does (looking l) (state_of (looked_by l.how want l.ctx p)) (held_of p) ≡ held_of (looked_by l.how want l.ctx p)
+  pub held_looked : (l : Look) (want : Want) → record (held_of p) { state = state_of (looked_by l.how want l.ctx p) } ≡ held_of (looked_by l.how want l.ctx p)
   held_looked l want = by l.how
     where
       by : (how : PeekHow) → record (held_of p) { state = state_of (looked_by how want l.ctx p) } ≡ held_of (looked_by how want l.ctx p)
@@ -99,26 +90,26 @@ module _ (p : Parts) where
   looked_next Claim want ctx = λ d item is. is
   looked_next Discard want ctx = parted_next (met_by want p) p.tx
 
-  pub held_dropped : (ctx : ℕ) → does (DropClaimed ctx) (state_of (dropped_by ctx p)) (held_of p) ≡ held_of (dropped_by ctx p)
+  pub held_dropped : (ctx : ℕ) → record (held_of p) { state = state_of (dropped_by ctx p) } ≡ held_of (dropped_by ctx p)
   held_dropped ctx = rw (parted_places (claim_by ctx p) p.tx) refl
 
   pub dropped_next : (ctx : ℕ) → StayNext (state_of p) (state_of (dropped_by ctx p))
   dropped_next ctx = parted_next (claim_by ctx p) p.tx
 
   module _ (buf : List ℕ) (ctx : ℕ) where
-    taken_held : (o : Option Arrival) → claim_under ctx p.rx.rx ≡ o → does (TakeClaimed buf ctx) (state_of (taken_by buf ctx p)) (held_of p) ≡ held_of (taken_by buf ctx p)
+    taken_held : (o : Option Arrival) → claim_under ctx p.rx.rx ≡ o → record (held_of p) { state = state_of (taken_by buf ctx p) } ≡ held_of (taken_by buf ctx p)
     taken_held None e = rw e refl
     taken_held (Some a) e = by a.bytes refl
       where
-        due : (bytes : List ℕ) → a.bytes ≡ Some bytes → (b : Bool) → at_match a.head.ack ≡ b → does (TakeClaimed buf ctx) (state_of (taken_by buf ctx p)) (held_of p) ≡ held_of (taken_by buf ctx p)
+        due : (bytes : List ℕ) → a.bytes ≡ Some bytes → (b : Bool) → at_match a.head.ack ≡ b → record (held_of p) { state = state_of (taken_by buf ctx p) } ≡ held_of (taken_by buf ctx p)
         due bytes some true is = rw (e, some, is) refl
         due bytes some false is = rw (e, some, is) refl
 
-        by : (b : Option (List ℕ)) → a.bytes ≡ b → does (TakeClaimed buf ctx) (state_of (taken_by buf ctx p)) (held_of p) ≡ held_of (taken_by buf ctx p)
+        by : (b : Option (List ℕ)) → a.bytes ≡ b → record (held_of p) { state = state_of (taken_by buf ctx p) } ≡ held_of (taken_by buf ctx p)
         by None none = rw (e, none) refl
         by (Some bytes) some = due bytes some (at_match a.head.ack) refl
 
-    pub held_taken : does (TakeClaimed buf ctx) (state_of (taken_by buf ctx p)) (held_of p) ≡ held_of (taken_by buf ctx p)
+    pub held_taken : record (held_of p) { state = state_of (taken_by buf ctx p) } ≡ held_of (taken_by buf ctx p)
     held_taken = taken_held (claim_under ctx p.rx.rx) refl
 
     next_taken : (o : Option Arrival) → claim_under ctx p.rx.rx ≡ o → StayNext (state_of p) (state_of (taken_by buf ctx p))

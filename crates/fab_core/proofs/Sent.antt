@@ -1,6 +1,5 @@
 -- An item is transmitted, a message is accepted: what is held then.
-use Rattle.std.proofs.Common.{◌≡◌, ℕ, ◌+◌, ◌<◌, ◌≤◌, ◌^◌, Bool, true, false, not, ◌||◌, List, length, Option, Some, None, refl, sym, ap, ◌∙◌, arith}
-use Rattle.std.specs.Prelude.{is_none, nat_le, nat_lt}
+use Rattle.std.proofs.Common.{◌≡◌, ℕ, refl}
 use Rattle.fab_face.specs.Held.{next_item}
 use Rattle.fab_face.specs.Machine.{finished}
 use Rattle.fab_core.specs.Parts.{Parts, held_of, state_of}

@@ -1,8 +1,7 @@
 -- What holds of the parts is what holds of an endpoint between its calls.
-use Rattle.std.proofs.Common.{◌≡◌, ◌⊎◌, inl, inr, ℕ, ◌+◌, ◌-◌, ◌<◌, ◌≤◌, Bool, true, false, List, [], ◌∷◌, ◌++◌, length, Option, Some, None, get_or, refl, sym, ap, ◌∙◌, subst, arith}
-use Rattle.std.specs.Prelude.{IsSomeAnd, IsSome, slice_get, slice_index}
+use Rattle.std.proofs.Common.{◌≡◌, ◌⊎◌, inl, inr, ℕ, ◌+◌, ◌-◌, ◌<◌, ◌≤◌, length, Option, Some, None, refl, sym, ap, ◌∙◌, arith}
+use Rattle.std.specs.Prelude.{IsSomeAnd, slice_index}
 use Rattle.fab_base.specs.declared.items.Item.{Item}
-use Rattle.fab_model.specs.State.{State, accepted_for}
 use Rattle.fab_rx.specs.Arriving.{IsArriving, begun_of, count_begun as count_in}
 use Rattle.fab_tx.specs.Transit.{IsTransit}
 use Rattle.fab_face.specs.Held.{count_begun, next_item, IsOutAt}
@@ -40,5 +39,4 @@ steady p ok rx tx read room =
       items = tx.items;
       out = λ d. out_at p d (tx.placed d);
       addressed = λ i t is. (let lt = ok.addressed i t is in omega (arith, lt, places));
-      still = (rx.plain ok.plain).still;
     }

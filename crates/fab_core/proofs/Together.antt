@@ -1,6 +1,6 @@
 -- The parts still belong together after each step.
-use Rattle.std.proofs.Common.{◌≡◌, ◌≢◌, inl, inr, ◌⊎◌, ℕ, ◌+◌, ◌-◌, ◌<◌, ◌≤◌, ◌&&◌, Bool, true, false, List, [], length, length-set, replicate, Option, Some, None, get_or, get_or-set_same, get_or-set_other, refl, sym, ap, ◌∙◌, subst, arith}
-use Rattle.std.specs.Prelude.{IfSome, All, find, is_some, slice_index, slice_set}
+use Rattle.std.proofs.Common.{◌≡◌, inl, inr, ◌⊎◌, ℕ, ◌+◌, ◌-◌, ◌<◌, ◌≤◌, ◌&&◌, Bool, true, false, List, length, length-set, replicate, Option, Some, None, get_or, get_or-set_same, get_or-set_other, refl, sym, ap, ◌∙◌, subst, arith}
+use Rattle.std.specs.Prelude.{IfSome, find, slice_index, slice_set}
 use Rattle.std.specs.Option.{option_map}
 use Rattle.std.proofs.lemmas.Bool.{cases_eq, cases_lt, eq-eqb}
 use Rattle.std.proofs.lemmas.List.{get_or-replicate, get_or_past, length-replicate, set_past}
@@ -16,18 +16,17 @@ use Rattle.fab_base.specs.declared.operations.Coming.{Coming}
 use Rattle.fab_base.specs.declared.operations.Coming.TheVariants.{Into, Keep, Throw, Request, Answer}
 use Rattle.fab_base.specs.declared.operations.Operation.{Operation}
 use Rattle.fab_base.specs.declared.operations.Receive.{Receive}
-use Rattle.fab_base.specs.declared.operations.Tally.{Tally}
 use Rattle.fab_model.specs.Matching.{is_message, takes}
 use Rattle.fab_model.specs.State.{Completions, Transmitting, coming_from, lookup}
-use Rattle.fab_model.specs.Complete.{at_match, joining}
+use Rattle.fab_model.specs.Complete.{at_match}
 use Rattle.fab_model.specs.Sending.{transmitting, accepting, answering}
-use Rattle.fab_model.specs.Arrivals.{heading_message, heading_other, keeping, made_whole, taker, way_of}
-use Rattle.fab_rx.specs.Arriving.{Arriving, IsArriving, IsPartly, PartlyIn, arriving, bare, begun_of, bytes_come, finishing, growing, headed, kept, lengthened, nothing_arrived, posting, with_receiving}
+use Rattle.fab_model.specs.Arrivals.{heading_message, heading_other, taker, way_of}
+use Rattle.fab_rx.specs.Arriving.{Arriving, IsArriving, IsPartly, PartlyIn, arriving, bare, begun_of, finishing, growing, headed, lengthened, nothing_arrived, posting}
 use Rattle.fab_tx.specs.Transit.{Transit, answered_by, booking, ended, nothing_accepted, with_room}
 use Rattle.fab_av.specs.Addresses.{Addresses}
 use Rattle.fab_rma.specs.Serving.{is_request}
 use Rattle.fab_core.specs.Parts.{IsFitting, IsTogether, Parts, bit, is_due, is_owed, owed}
-use Rattle.fab_core.specs.Doing.{asks, booked, cq_after, entry_at_end, growing_by, heading, with_arriving, with_transit, written_if}
+use Rattle.fab_core.specs.Doing.{asks, booked, cq_after, entry_at_end, growing_by, heading, with_transit, written_if}
 use Rattle.fab_core.proofs.Owing.{in_row, owed_besides, owed_given, owed_going, owed_grown, owed_here, owed_joined, owed_there, owed_whole, whole_coming}
 
 -- ---- nothing has happened
@@ -62,7 +61,6 @@ begins p peers most_rx most_tx size rx tx av calls addressed =
       peers = rw (rx, tx) (begun ∙ sym sent);
       addresses = rw tx (av ∙ sym sent);
       addressed = λ i peer is. rw tx (let lt = addressed i peer is in omega (arith, lt, av, sent));
-      plain = rw rx refl;
       earlier = rw rx (omega arith);
       fitting = λ s. rw (rx, none_coming peers s, none_begun peers s) tt;
       rooms = λ s. rw (rx, none_coming peers s, none_begun peers s) (omega arith);
@@ -72,13 +70,12 @@ begins p peers most_rx most_tx size rx tx av calls addressed =
 
 module _ (p q : Parts) (ok : IsTogether p) (size : q.cq.size ≡ p.cq.size) (sent : length q.tx.tx.sent ≡ length p.tx.tx.sent) (av : q.av ≡ p.av) where
   -- where both halves' replies to be booked are known
-  pub together_with : q.rx.multi ≡ p.rx.multi → length q.rx.begun ≡ length p.rx.begun → q.rx.next ≤ q.calls → ((s : ℕ) → IsFitting (coming_from q.rx.rx s) (begun_of q.rx s)) → ((s : ℕ) → owed s q.rx ≤ slice_index q.tx.rooms s) → IsTogether q
-  together_with same begun earlier fitting rooms = record {
+  pub together_with : length q.rx.begun ≡ length p.rx.begun → q.rx.next ≤ q.calls → ((s : ℕ) → IsFitting (coming_from q.rx.rx s) (begun_of q.rx s)) → ((s : ℕ) → owed s q.rx ≤ slice_index q.tx.rooms s) → IsTogether q
+  together_with begun earlier fitting rooms = record {
     size = (let s = ok.size in omega (arith, s, size));
     peers = begun ∙ ok.peers ∙ sym sent;
     addresses = ap (λ (a : Addresses). a.peers) av ∙ ok.addresses ∙ sym sent;
     addressed = λ i peer is. (let lt = ok.addressed i peer (ap (λ (a : Addresses). lookup a.indices i) (sym av) ∙ is) in omega (arith, lt, sent));
-    plain = same ∙ ok.plain;
     earlier = earlier;
     fitting = fitting;
     rooms = rooms;
@@ -86,11 +83,11 @@ module _ (p q : Parts) (ok : IsTogether p) (size : q.cq.size ≡ p.cq.size) (sen
 
   -- where the receive half is the same
   pub together_besides : q.rx ≡ p.rx → q.calls ≡ p.calls → q.tx.rooms ≡ p.tx.rooms → IsTogether q
-  together_besides rx calls rooms = together_with (ap (λ (v : Arriving). v.multi) rx) (ap (λ (v : Arriving). length v.begun) rx) (rw (rx, calls) ok.earlier) (λ s. rw rx (ok.fitting s)) (λ s. rw (rx, rooms) (ok.rooms s))
+  together_besides rx calls rooms = together_with (ap (λ (v : Arriving). length v.begun) rx) (rw (rx, calls) ok.earlier) (λ s. rw rx (ok.fitting s)) (λ s. rw (rx, rooms) (ok.rooms s))
 
   -- and one more call was accepted
   pub together_called : q.rx ≡ p.rx → q.calls ≡ p.calls + 1 → q.tx.rooms ≡ p.tx.rooms → IsTogether q
-  together_called rx calls rooms = together_with (ap (λ (v : Arriving). v.multi) rx) (ap (λ (v : Arriving). length v.begun) rx) (rw (rx, calls) (let e = ok.earlier in omega (arith, e))) (λ s. rw rx (ok.fitting s)) (λ s. rw (rx, rooms) (ok.rooms s))
+  together_called rx calls rooms = together_with (ap (λ (v : Arriving). length v.begun) rx) (rw (rx, calls) (let e = ok.earlier in omega (arith, e))) (λ s. rw rx (ok.fitting s)) (λ s. rw (rx, rooms) (ok.rooms s))
 
 -- ---- sizes
 
@@ -168,7 +165,7 @@ fitting_grown v source bytes fits s = elim (cases_eq s source) [
 ]
 
 pub together_grown : (p : Parts) → IsTogether p → (source : ℕ) (bytes : List ℕ) → IsTogether (growing_by source bytes p)
-together_grown p ok source bytes = together_with p (growing_by source bytes p) ok refl refl refl refl (length-set p.rx.begun source _) ok.earlier (fitting_grown p.rx source bytes ok.fitting)
+together_grown p ok source bytes = together_with p (growing_by source bytes p) ok refl refl refl (length-set p.rx.begun source _) ok.earlier (fitting_grown p.rx source bytes ok.fitting)
     (λ s. (let e = owed_grown p.rx source bytes s in let r = ok.rooms s in omega (arith, e, r)))
 
 -- ---- it is whole
@@ -198,7 +195,7 @@ module _ (p : Parts) (ok : IsTogether p) (rx : IsArriving p.rx) (source : ℕ) (
   same_begun = length-set p.rx.begun source (Some (bare head))
 
   pub together_arrived : asks head ≡ false → IsTogether (heading source head p)
-  together_arrived silent = together_with p (heading source head p) ok refl refl refl refl same_begun ok.earlier (fitting_arrived p.rx rx source head within ok.fitting)
+  together_arrived silent = together_with p (heading source head p) ok refl refl refl same_begun ok.earlier (fitting_arrived p.rx rx source head within ok.fitting)
       (λ s. elim (cases_eq s source) [
         | inl here ↦ rw here (let o = owed_here p.rx rx source head within nothing in let b : bit (asks head) ≡ 0 = ap bit silent in let r = ok.rooms source in omega (arith, o, b, r))
         | inr other ↦ (let o = owed_there p.rx rx source head within nothing s other in let r = ok.rooms s in omega (arith, o, r))
@@ -206,7 +203,7 @@ module _ (p : Parts) (ok : IsTogether p) (rx : IsArriving p.rx) (source : ℕ) (
 
   -- and room was made for the reply that it asks for
   pub together_roomed : asks head ≡ true → length p.tx.rooms ≡ length p.tx.tx.sent → IsTogether (with_transit (with_room source p.tx) (heading source head p))
-  together_roomed loud count = together_with p (with_transit (with_room source p.tx) (heading source head p)) ok refl refl refl refl same_begun ok.earlier (fitting_arrived p.rx rx source head within ok.fitting)
+  together_roomed loud count = together_with p (with_transit (with_room source p.tx) (heading source head p)) ok refl refl refl same_begun ok.earlier (fitting_arrived p.rx rx source head within ok.fitting)
       (λ s. elim (cases_eq s source) [
         | inl here ↦ rw (here, get_or-set_same p.tx.rooms source (slice_index p.tx.rooms source + 1) 0 (let l = ok.peers in omega (arith, l, count, within)))
             (let o = owed_here p.rx rx source head within nothing in let b : bit (asks head) ≡ 1 = ap bit loud in let r = ok.rooms source in omega (arith, o, b, r))
@@ -252,7 +249,7 @@ module _ (p : Parts) (ok : IsTogether p) (source : ℕ) (item : Item) (within : 
   -- the item ended, with its reply booked where it was due
   pub together_whole : (q : Parts) → q.cq.size ≡ p.cq.size → q.av ≡ p.av → q.rx ≡ finishing source p.rx → q.calls ≡ p.calls → length q.tx.tx.sent ≡ length p.tx.tx.sent
       → ((s : ℕ) → slice_index q.tx.rooms s ≡ slice_index (slice_set p.tx.rooms source (slice_index p.tx.rooms source - bit (is_due (coming_from p.rx.rx source) item.head))) s) → IsTogether q
-  together_whole q size av rx calls sent rooms = together_with p q ok size sent av (ap (λ (v : Arriving). v.multi) rx) (ap (λ (v : Arriving). length v.begun) rx ∙ length-set p.rx.begun source None) (rw (rx, calls) ok.earlier)
+  together_whole q size av rx calls sent rooms = together_with p q ok size sent av (ap (λ (v : Arriving). length v.begun) rx ∙ length-set p.rx.begun source None) (rw (rx, calls) ok.earlier)
       (λ s. rw rx (fitting_whole p.rx source item within begun ok.fitting s))
       (λ s. rw (rx, rooms s) (enough_booked p.rx source item within begun ok.fitting p.tx.rooms rooms_count ok.rooms s))
 
@@ -301,7 +298,7 @@ module _ (p : Parts) (ok : IsTogether p) (rx : IsArriving p.rx) (r : Receive) (n
   -- what it joined, or whose rest still comes
   pub together_posted : (q : Parts) → ((find (takes r.want) p.rx.rx.unexpected ≡ None) ⊎ ((a : Arrival) × (find (takes r.want) p.rx.rx.unexpected ≡ Some a) × (a.bytes ≡ None)))
       → q.cq.size ≡ p.cq.size → q.av ≡ p.av → q.rx ≡ posting r p.rx → q.calls ≡ p.calls + 1 → q.tx ≡ p.tx → IsTogether q
-  together_posted q how size av posted calls tx = together_with p q ok size (ap (λ (v : Transit). length v.tx.sent) tx) av (ap (λ (v : Arriving). v.multi) posted) (ap (λ (v : Arriving). length v.begun) posted) (rw (posted, calls) earlier_then) (λ s. rw posted (fitting_posted s))
+  together_posted q how size av posted calls tx = together_with p q ok size (ap (λ (v : Transit). length v.tx.sent) tx) av (ap (λ (v : Arriving). length v.begun) posted) (rw (posted, calls) earlier_then) (λ s. rw posted (fitting_posted s))
       (λ s. rw (posted, tx) (let o : owed s (posting r p.rx) ≡ owed s p.rx = elim how [
         | inl none ↦ owed_joined p.rx rx r none s
         | inr (a, found, bare) ↦ owed_going p.rx rx r a found bare s
@@ -323,7 +320,7 @@ module _ (p : Parts) (ok : IsTogether p) (rx : IsArriving p.rx) (r : Receive) (n
         )
 
     pub together_given : (q : Parts) → q.cq.size ≡ p.cq.size → q.av ≡ p.av → q.rx ≡ posting r p.rx → q.calls ≡ p.calls + 1 → q.tx ≡ booked (at_match a.head.ack) a.source a.head p.tx → IsTogether q
-    together_given q size av posted calls tx = together_with p q ok size (ap (λ (v : Transit). length v.tx.sent) tx ∙ sent_booked (at_match a.head.ack) a.source a.head p.tx) av (ap (λ (v : Arriving). v.multi) posted) (ap (λ (v : Arriving). length v.begun) posted) (rw (posted, calls) earlier_then) (λ s. rw posted (fitting_posted s))
+    together_given q size av posted calls tx = together_with p q ok size (ap (λ (v : Transit). length v.tx.sent) tx ∙ sent_booked (at_match a.head.ack) a.source a.head p.tx) av (ap (λ (v : Arriving). length v.begun) posted) (rw (posted, calls) earlier_then) (λ s. rw posted (fitting_posted s))
         (λ s. rw (posted, tx) (enough s))
       where
         enough : (s : ℕ) → owed s (posting r p.rx) ≤ slice_index (booked (at_match a.head.ack) a.source a.head p.tx).rooms s

@@ -4,13 +4,14 @@
 --     ending_by                       an operation ends, where there is one
 --     received                        a receive completes
 --     requested                       a request is performed
+--     let_back                        the buffer of a multi-receive comes back
 --     heading, growing_by, tail       an item arrives, more of its bytes come, it is whole
 --     sent                            an item is transmitted
 --     posted_by, left_by              a receive call, a cancel
 --     accepted_by                     a message is accepted
-use Rattle.std.specs.Prelude.{ℕ, ◌+◌, ◌∷◌, Bool, true, false, ◌&&◌, ◌||◌, ◌==◌, not, cond, List, [], length, Option, Some, None, is_none, is_some, find, nat_lt, nat_le}
-use Rattle.std.specs.Option.{option_map}
+use Rattle.std.specs.Prelude.{ℕ, ◌+◌, ◌∷◌, Bool, true, false, ◌&&◌, ◌||◌, ◌==◌, not, List, [], length, Option, Some, None, is_none, is_some, find, nat_lt, nat_le}
 use Rattle.fab_base.specs.declared.entries.Class.TheVariants.{Recv}
+use Rattle.fab_base.specs.declared.entries.Entry.TheVariants.{Released}
 use Rattle.fab_base.specs.declared.entries.ErrKind.TheVariants.{Canceled}
 use Rattle.fab_base.specs.declared.entries.Taken.{Taken}
 use Rattle.fab_base.specs.declared.entries.Taken.TheVariants.{Success}
@@ -19,8 +20,6 @@ use Rattle.fab_base.specs.declared.faults.Fault.TheVariants.{NotSupported, MsgSi
 use Rattle.fab_base.specs.declared.frames.Frame.{Frame}
 use Rattle.fab_base.specs.declared.items.Item.{Item}
 use Rattle.fab_base.specs.declared.items.ItemHead.{ItemHead}
-use Rattle.fab_base.specs.declared.items.Kind.{Kind}
-use Rattle.fab_base.specs.declared.items.Kind.TheVariants.{Msg, TagMsg, WriteReq, ReadReq, AtomicReq, Reply}
 use Rattle.fab_base.specs.declared.items.Outcome.{Outcome}
 use Rattle.fab_base.specs.declared.items.Outcome.TheVariants.{Done}
 use Rattle.fab_base.specs.declared.items.Want.{Want}
@@ -32,16 +31,15 @@ use Rattle.fab_base.specs.declared.operations.Receive.{Receive}
 use Rattle.fab_base.specs.declared.operations.Tally.{Tally}
 use Rattle.fab_base.specs.declared.peers.Level.{Level}
 use Rattle.fab_model.specs.Matching.{is_message, takes}
-use Rattle.fab_model.specs.State.{Completions, State, Transmitting, coming_from, counting, in_use, lookup, writing, Region}
+use Rattle.fab_model.specs.State.{Completions, State, Transmitting, coming_from, counting, lookup, writing, Region}
 use Rattle.fab_model.specs.Complete.{at_delivery, at_either, at_match, error, reply_head}
 use Rattle.fab_model.specs.Receiving.{Posting, cancellable, least_is_wrong, may_receive, source_is_known, without_posted}
 use Rattle.fab_model.specs.Sending.{Order, class_of, ending, first_fault, head_of, is_granted, is_silent, is_too_long, is_well_formed, refusal_of, success_of}
 use Rattle.fab_rx.specs.Arriving.{Arriving, arriving, finishing, growing, posting, receive_by, with_receiving}
 use Rattle.fab_rx.specs.Leaving.{is_meant}
-use Rattle.fab_rx.specs.Results.{completed}
+use Rattle.fab_rx.specs.Results.{completed, last_of}
 use Rattle.fab_rx.specs.declared.results.Completed.{Completed}
-use Rattle.fab_rx.specs.declared.results.Finished.{Finished}
-use Rattle.fab_rx.specs.declared.results.Finished.TheVariants.{Received, Last, Kept, Thrown, Request as RequestCame, Answer as AnswerCame}
+use Rattle.fab_cq.specs.Queues.{has_room}
 use Rattle.fab_tx.specs.Transit.{Transit, accepting_by, answered_by, booking, ended, finds_answered, finishing as finishing_sent}
 use Rattle.fab_tx.specs.declared.results.Ended.{Ended}
 use Rattle.fab_model.specs.Target.{perform}
@@ -143,6 +141,11 @@ fed source f p = growing_by source f.bytes (with_arriving (arrived (f.head.from 
 abbrev pub received : Option ℕ → Bool → Completed → Parts → Parts
 received call due c p = record p { cq = writing call c.entry p.cq; counters = counting Recv c.good p.counters; tx = booked due c.source c.head p.tx }
 
+-- the buffer of a multi-receive comes back, where one does
+abbrev pub let_back : Option Receive → Parts → Parts
+let_back None p = p
+let_back (Some r) p = record p { cq = writing (Some r.call) (Success (Released r.ctx r.used r.buf)) p.cq }
+
 -- the request is performed, its reply is booked, and a write that tells of itself does so
 abbrev pub requested : ℕ → Item → Parts → Parts
 requested source item p = record p {
@@ -160,16 +163,12 @@ whole (Some Answer) source item p = answered source item p
 whole None source item p = with_transit (booked (at_either item.head.ack) source item.head p.tx) p
 
 abbrev pub tail : ℕ → Item → Parts → Parts
-tail source item p = whole (coming_from p.rx.rx source) source item (with_arriving (finishing source p.rx) p)
+tail source item p = let_back (last_of source p.rx) (whole (coming_from p.rx.rx source) source item (with_arriving (finishing source p.rx) p))
 
--- a reply is due to the item of this end
-abbrev pub due_at_end : Finished → Bool
-due_at_end (Received c) = at_either c.head.ack
-due_at_end (Last c r) = at_either c.head.ack
-due_at_end (Kept head) = at_delivery head.ack
-due_at_end (Thrown head) = at_either head.ack
-due_at_end (RequestCame item) = true
-due_at_end (AnswerCame item) = false
+-- what the end of the item writes has no room, with the buffer that comes back
+abbrev pub lacks_at_tail : Arriving → ℕ → ItemHead → Parts → Bool
+lacks_at_tail v source head p =
+    writes_at_tail (coming_from v.rx source) source head p.tx.tx p.target.regions && not (has_room 1 p.cq) || not (has_room 2 p.cq) && is_some (last_of source v)
 
 -- ---- calls
 

@@ -5,7 +5,8 @@
 --     looked_by, taken_by, dropped_by      a look, a receive of a claimed message, a drop of one
 --     lasting_look, lasting_claimed        why they are refused for a reason that does not pass
 --     lacks_take ctx p              the receive has no room for its completion
-use Rattle.std.specs.Prelude.{ℕ, ◌+◌, ◌∷◌, Bool, true, false, ◌&&◌, ◌||◌, not, List, [], length, Option, Some, None, is_none, is_some, find, nat_lt}
+--     is_held_take ctx p            it waits, for that or for a draw
+use Rattle.std.specs.Prelude.{ℕ, ◌∷◌, Bool, true, false, ◌&&◌, ◌||◌, not, List, [], Option, Some, None, is_none, is_some, find, nat_lt}
 use Rattle.std.specs.Option.{option_map}
 use Rattle.fab_base.specs.declared.entries.Entry.TheVariants.{Peeked}
 use Rattle.fab_base.specs.declared.entries.ErrKind.TheVariants.{NoMsg}
@@ -19,7 +20,7 @@ use Rattle.fab_base.specs.declared.items.Want.{Want}
 use Rattle.fab_base.specs.declared.operations.Receive.{Receive}
 use Rattle.fab_model.specs.Complete.{at_match, error}
 use Rattle.fab_model.specs.Matching.{takes}
-use Rattle.fab_model.specs.Receiving.{claim_of, is_claim, may_receive, source_is_known, want_of}
+use Rattle.fab_model.specs.Receiving.{claim_of, draw_due, is_claim, may_receive, source_is_known, want_of}
 use Rattle.fab_model.specs.Sending.{first_fault}
 use Rattle.fab_model.specs.State.{State, writing}
 use Rattle.fab_cq.specs.Queues.{has_room}
@@ -106,3 +107,6 @@ is_whole (Some m) = m.whole
 
 abbrev pub lacks_take : ℕ → Parts → Bool
 lacks_take ctx p = is_whole (claim_by ctx p) && not (has_room 1 p.cq)
+
+abbrev pub is_held_take : ℕ → Parts → Bool
+is_held_take ctx p = draw_due p.rx.rx || lacks_take ctx p

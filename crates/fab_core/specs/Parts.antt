@@ -33,8 +33,9 @@ pub record Parts : Type 0 where
   pub counters : List Tally
   -- how many transmit and receive calls were accepted
   pub calls : ℕ
+  -- multi-receives whose release or cancel was not read, oldest first: context, and number of the call
+  pub multis : List (ℕ × ℕ)
 
--- no multi-receive is posted
 abbrev pub state_of : Parts → State
 state_of p = record {
   caps = p.caps;
@@ -51,7 +52,7 @@ state_of p = record {
 }
 
 abbrev pub held_of : Parts → Held
-held_of p = record { state = state_of p; places = p.tx.places; begun = p.rx.begun; multis = [] }
+held_of p = record { state = state_of p; places = p.tx.places; begun = p.rx.begun; multis = p.multis }
 
 -- ---- replies that are to be booked
 
@@ -104,8 +105,6 @@ pub record IsTogether (p : Parts) : Type 0 where
   pub peers : length p.rx.begun ≡ length p.tx.tx.sent
   pub addresses : p.av.peers ≡ length p.tx.tx.sent
   pub addressed : (i peer : ℕ) → lookup p.av.indices i ≡ Some peer → peer < length p.tx.tx.sent
-  -- no multi-receive was posted
-  pub plain : p.rx.multi ≡ false
   -- each receive was posted by an earlier call
   pub earlier : p.rx.next ≤ p.calls
   -- an answer is coming where a reply is begun, a request where one is, and a message where one is

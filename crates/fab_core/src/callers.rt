@@ -7,6 +7,7 @@ ghost use Rattle.fab_model.specs.Sending.{ending};
 ghost use Rattle.fab_rx.specs.Leaving.{is_meant};
 ghost use Rattle.fab_rx.specs.Results.{call_into};
 ghost use Rattle.fab_tx.specs.Transit.{finds_answered};
+ghost use Rattle.fab_core.specs.Draws.{call_drawn};
 
 use crate::parts::Calls;
 use fab_base::ItemHead;
@@ -35,6 +36,13 @@ pub(crate) struct IntoReceive;
 
 impl<M: Matcher> Caller<(Snapshot<Inbox<M>>, u32)> for IntoReceive {
     ghost call = { λ x. call_into (coming_from x.0.value.rx x.1) };
+}
+
+/// The call of the multi-receive that draws.
+pub(crate) struct OfDrawer;
+
+impl<M: Matcher> Caller<Snapshot<Inbox<M>>> for OfDrawer {
+    ghost call = { λ x. call_drawn x.value.rx };
 }
 
 /// The call of the posted receive that is cancelled.

@@ -1,15 +1,17 @@
 //! What the receive half hands out is written, counted and booked.
 ghost use Rattle.std.specs.Prelude.{◌≡◌, ◌<◌, true, length, slice_index, IsTrue};
 ghost use Rattle.fab_base.specs.declared.entries.Class.TheVariants.{Recv};
+ghost use Rattle.fab_base.specs.declared.entries.Entry.TheVariants.{Released as GivenBack};
+ghost use Rattle.fab_base.specs.declared.entries.Taken.TheVariants.{Success};
 ghost use Rattle.fab_model.specs.Complete.{at_delivery, at_either, at_match, reply_head};
 ghost use Rattle.fab_model.specs.State.{counting, writing};
 ghost use Rattle.fab_cq.specs.Queues.{has_room};
 ghost use Rattle.fab_core.specs.Doing.{booked, reply_to};
 
-use fab_base::{Ack, Buf, Class, Item, ItemHead, Kind, Outcome};
+use fab_base::{Ack, Buf, Class, Entry, Item, ItemHead, Kind, Outcome, Taken};
 use fab_cq::{Counters, Queue};
 use fab_record::caller::Caller;
-use fab_rx::Completed;
+use fab_rx::{Completed, Released};
 use fab_tx::Outbox;
 use std::alloc::Global;
 
@@ -99,6 +101,44 @@ pub(crate) fn hand_over<X, C: Caller<X>>(
         head,
     } = completed;
     counters.count(Class::Recv, good);
+    cq.write::<X, C>(about, entry);
+    book(alloc, tx, due, source, &head);
+}
+
+/// The entry by which the buffer of a multi-receive comes back.
+fn given_back(released: Released) -> Taken
+    ensures { result ≡ Success (GivenBack released.ctx released.used released.buf) }
+{
+    let Released { ctx, used, buf, .. } = released;
+    Taken::Success(Entry::Released { ctx, used, buf })
+}
+
+/// The same of the last message of a multi-receive, whose buffer comes back behind it.
+pub(crate) fn hand_last<X, C: Caller<X>>(
+    alloc: Global,
+    cq: &mut Queue,
+    counters: &mut Counters,
+    tx: &mut Outbox,
+    about: &X,
+    due: bool,
+    completed: Completed,
+    released: Released,
+)
+    requires written { IsTrue (has_room 2 cq.old) }
+    requires room { due ≡ true → (completed.source < length tx.old.tx.sent) × (0 < slice_index tx.old.rooms completed.source) }
+    ensures cq { cq.new ≡ writing (C.call about.now) (Success (GivenBack released.ctx released.used released.buf)) (writing (C.call about.now) completed.entry cq.old) }
+    ensures counters { counters.new ≡ counting Recv completed.good counters.old }
+    ensures tx { tx.new ≡ booked due completed.source completed.head tx.old }
+{
+    let entry = given_back(released);
+    let Completed {
+        entry: message,
+        good,
+        source,
+        head,
+    } = completed;
+    counters.count(Class::Recv, good);
+    cq.write::<X, C>(about, message);
     cq.write::<X, C>(about, entry);
     book(alloc, tx, due, source, &head);
 }

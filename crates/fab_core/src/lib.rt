@@ -15,18 +15,22 @@
 //! | `serving` | requests of other peers are performed |
 //! | `handing` | replies are booked |
 //! | `looks` | unexpected messages are looked at and set aside, claimed ones taken and dropped |
+//! | `draws` | multi-receives take unexpected messages |
+//! | `multis` | multi-receives, from their call until their end is read |
 //! | `keeping` | counters and addresses |
 //! | `machine`, `looking` | all of it as the endpoint's machine |
 //! | `targets` | the regions, as their owner calls them |
 #![tactic(auto)]
 
 mod callers;
+mod draws;
 mod ending;
 mod handing;
 mod keeping;
 mod looking;
 mod looks;
 mod machine;
+mod multis;
 mod parts;
 mod receives;
 mod requests;

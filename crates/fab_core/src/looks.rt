@@ -10,7 +10,8 @@ ghost use Rattle.fab_model.specs.Receiving.{claim_of, is_claim};
 ghost use Rattle.fab_cq.specs.Queues.{has_room};
 ghost use Rattle.fab_rx.specs.Claims.{claim_under, seen};
 ghost use Rattle.fab_core.specs.Parts.{state_of};
-ghost use Rattle.fab_core.specs.Looks.{dropped_by, is_due_now, lacks_take, lasting_claimed, lasting_look, look_want, looked, looked_by, parted, parted_by, taken_by, told};
+ghost use Rattle.fab_core.specs.Orders.{is_held};
+ghost use Rattle.fab_core.specs.Looks.{dropped_by, is_due_now, is_held_take, lacks_take, lasting_claimed, lasting_look, look_want, looked, looked_by, parted, parted_by, taken_by, told};
 
 use crate::callers::ThisCall;
 use crate::handing::{at_match, book, hand_over};
@@ -159,12 +160,12 @@ impl<M: Matcher> Core<M> {
 
     /// Looks for an unexpected message, where its completion has room.
     pub(crate) fn seek(&mut self, look: &Look) -> Result<(), Fault>
-        ensures ok { OnOk result (IsTrue (has_room 1 self.old.cq) × (self.new ≡ looked_by look.now.how (look_want (state_of self.old) look.now) look.now.ctx self.old)) }
-        ensures err { IfErr result (λ why. (why ≡ Again (CqFull self.old.cq.size)) × (has_room 1 self.old.cq ≡ false)) }
+        ensures ok { OnOk result ((is_held 1 self.old ≡ false) × (self.new ≡ looked_by look.now.how (look_want (state_of self.old) look.now) look.now.ctx self.old)) }
+        ensures err { IfErr result (λ why. (why ≡ Again (CqFull self.old.cq.size)) × (is_held 1 self.old ≡ true)) }
         ensures stays { OnErr result (self.new ≡ self.old) }
     {
-        if !self.cq.has_room(1) {
-            return Err(Fault::Again(Busy::CqFull(self.cq.size())));
+        if self.is_held(1) {
+            return Err(self.held());
         }
         let want = self.look_want(look);
         self.see(look.how, &want, look.ctx);
@@ -186,19 +187,34 @@ impl<M: Matcher> Core<M> {
         part_by(self.alloc, &mut self.tx, how, &met);
     }
 
-    /// Receives the message claimed under the context, where its completion has room if it is whole.
-    pub(crate) fn take_aside(&mut self, buf: Buf, ctx: u64) -> Result<(), Refused>
-        requires { is_some (claim_under ctx self.old.rx.rx) ≡ true }
-        ensures ok { OnOk result ((lacks_take ctx self.old ≡ false) × (self.new ≡ taken_by buf ctx self.old)) }
-        ensures err { IfErr result (λ r. (r.buf ≡ buf) × (r.why ≡ Again (CqFull self.old.cq.size)) × (lacks_take ctx self.old ≡ true)) }
-        ensures stays { OnErr result (self.new ≡ self.old) }
+    /// Whether the completion of a receive of the message claimed under the context has no room.
+    fn lacks_take(&self, ctx: u64) -> bool
+        ensures { result ≡ lacks_take ctx self.now }
     {
         let whole = match self.rx.claimed(ctx) {
             Some(met) => met.whole,
             None => false,
         };
-        if whole && !self.cq.has_room(1) {
-            let why = Fault::Again(Busy::CqFull(self.cq.size()));
+        whole && !self.cq.has_room(1)
+    }
+
+    /// Whether such a receive waits, for a draw or for room.
+    fn is_held_take(&self, ctx: u64) -> bool
+        ensures held { result ≡ is_held_take ctx self.now }
+        ensures room { result ≡ false → lacks_take ctx self.now ≡ false }
+    {
+        self.rx.is_draw_due() || self.lacks_take(ctx)
+    }
+
+    /// Receives the message claimed under the context, where its completion has room if it is whole.
+    pub(crate) fn take_aside(&mut self, buf: Buf, ctx: u64) -> Result<(), Refused>
+        requires { is_some (claim_under ctx self.old.rx.rx) ≡ true }
+        ensures ok { OnOk result ((is_held_take ctx self.old ≡ false) × (self.new ≡ taken_by buf ctx self.old)) }
+        ensures err { IfErr result (λ r. (r.buf ≡ buf) × (r.why ≡ Again (CqFull self.old.cq.size)) × (is_held_take ctx self.old ≡ true)) }
+        ensures stays { OnErr result (self.new ≡ self.old) }
+    {
+        if self.is_held_take(ctx) {
+            let why = self.held();
             return Err(Refused { why, buf });
         }
         self.give_aside(buf, ctx);
@@ -233,12 +249,12 @@ impl<M: Matcher> Core<M> {
 
     /// Drops the message claimed under the context, where the completion has room.
     pub(crate) fn drop_aside(&mut self, ctx: u64) -> Result<(), Fault>
-        ensures ok { OnOk result (IsTrue (has_room 1 self.old.cq) × (self.new ≡ dropped_by ctx self.old)) }
-        ensures err { IfErr result (λ why. (why ≡ Again (CqFull self.old.cq.size)) × (has_room 1 self.old.cq ≡ false)) }
+        ensures ok { OnOk result ((is_held 1 self.old ≡ false) × (self.new ≡ dropped_by ctx self.old)) }
+        ensures err { IfErr result (λ why. (why ≡ Again (CqFull self.old.cq.size)) × (is_held 1 self.old ≡ true)) }
         ensures stays { OnErr result (self.new ≡ self.old) }
     {
-        if !self.cq.has_room(1) {
-            return Err(Fault::Again(Busy::CqFull(self.cq.size())));
+        if self.is_held(1) {
+            return Err(self.held());
         }
         self.let_fall(ctx);
         Ok(())

@@ -1,11 +1,13 @@
 //! A core is the machine under an endpoint.
 ghost use Rattle.fab_core.specs.Parts.{held_of};
 
+use crate::multis::read;
 use crate::parts::Core;
 use crate::taking::is_last;
 use fab_base::{Buf, Entry, ErrEntry, Fault, FrameHead, NoMemory, Refused};
 use fab_face::machine::{Ask, Machine, Message, Next};
 use fab_match::Matcher;
+use std::snapshot::Snapshot;
 
 impl<M: Matcher> Machine for Core<M> {
     ghost held = { held_of };
@@ -50,11 +52,28 @@ impl<M: Matcher> Machine for Core<M> {
     fn take(&mut self, source: u32, head: &FrameHead, bytes: &[u8]) -> Result<bool, NoMemory> {
         self.rx.known();
         self.tx.known();
+        if self.waits(head) {
+            return Ok(false);
+        }
         if is_last(head) {
             self.take_last(source, head, bytes)
         } else {
             self.take_more(source, head, bytes)
         }
+    }
+
+    fn is_draw_due(&self) -> bool {
+        self.rx.is_draw_due()
+    }
+
+    fn draw(&mut self) -> bool {
+        self.rx.known();
+        self.cq.known();
+        if !self.cq.has_room(self.rx.draw_entries()) {
+            return false;
+        }
+        self.make_draw();
+        true
     }
 
     fn send_fault(&self, message: &Message, bytes: &[u8]) -> Option<Fault> {
@@ -114,11 +133,25 @@ impl<M: Matcher> Machine for Core<M> {
     }
 
     fn pop(&mut self) -> Result<Entry, Fault> {
-        self.cq.read()
+        let before = Snapshot::of(&self.cq);
+        match self.cq.read() {
+            Ok(entry) => {
+                read(&mut self.multis, &before);
+                Ok(entry)
+            }
+            Err(why) => Err(why),
+        }
     }
 
     fn pop_error(&mut self) -> Result<ErrEntry, Fault> {
-        self.cq.read_err()
+        let before = Snapshot::of(&self.cq);
+        match self.cq.read_err() {
+            Ok(entry) => {
+                read(&mut self.multis, &before);
+                Ok(entry)
+            }
+            Err(why) => Err(why),
+        }
     }
 
     fn awaiting(&self) -> u32 {

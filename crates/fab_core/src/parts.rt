@@ -8,6 +8,7 @@ ghost use Rattle.fab_tx.specs.Transit.{nothing_accepted};
 ghost use Rattle.fab_core.specs.Parts.{held_of};
 ghost use Rattle.fab_core.specs.Doing.{called};
 
+use crate::multis::Multis;
 use fab_av::Av;
 use fab_base::{Caps, Info, NoMemory};
 use fab_cq::{Counters, Queue};
@@ -65,6 +66,7 @@ pub struct Core<M: Matcher> {
     pub(crate) cq: Queue,
     pub(crate) counters: Counters,
     pub(crate) calls: Calls,
+    pub(crate) multis: Multis,
     pub(crate) alloc: Global,
 }
 
@@ -75,10 +77,10 @@ impl<M: Matcher> Model for Core<M> {
 
     ghost Value = { Parts };
 
-    ghost view = { λ c. record { caps = c.caps; selective = c.selective; av = c.av; rx = c.rx; tx = c.tx; target = c.target; cq = c.cq; counters = c.counters; calls = c.calls } };
+    ghost view = { λ c. record { caps = c.caps; selective = c.selective; av = c.av; rx = c.rx; tx = c.tx; target = c.target; cq = c.cq; counters = c.counters; calls = c.calls; multis = c.multis } };
 
     ghost invariant = { λ c. (c.most_tx ≡ c.tx.most) × (c.most_rx ≡ c.rx.most)
-        × IsTogether (record { caps = c.caps; selective = c.selective; av = c.av; rx = c.rx; tx = c.tx; target = c.target; cq = c.cq; counters = c.counters; calls = c.calls })
+        × IsTogether (record { caps = c.caps; selective = c.selective; av = c.av; rx = c.rx; tx = c.tx; target = c.target; cq = c.cq; counters = c.counters; calls = c.calls; multis = c.multis })
         × IsServing c.rx.begun c.target };
 }
 
@@ -96,6 +98,7 @@ struct Halves<M: Matcher> {
     target: Target,
     cq: Queue,
     calls: Calls,
+    multis: Multis,
 }
 
 /// Takes the memory for so many peers.
@@ -106,11 +109,13 @@ fn make_halves<M: Matcher>(alloc: Global, info: &Info, peers: u32) -> Result<Hal
     ensures target { IfOk result (λ h. h.target ≡ nothing_served peers) }
     ensures cq { IfOk result (λ h. h.cq ≡ nothing_written info.now.cq) }
     ensures calls { IfOk result (λ h. h.calls ≡ 0) }
+    ensures multis { IfOk result (λ h. h.multis ≡ []) }
 {
     let tx = Outbox::new(alloc, peers, info.tx)?;
     let target = Target::new(alloc, peers)?;
     let cq = Queue::new(alloc, info.cq)?;
     let calls = Record::new(alloc, &())?;
+    let multis = Record::new(alloc, &())?;
     let rx = Inbox::new(alloc, peers, info.rx)?;
     Ok(Halves {
         rx,
@@ -118,6 +123,7 @@ fn make_halves<M: Matcher>(alloc: Global, info: &Info, peers: u32) -> Result<Hal
         target,
         cq,
         calls,
+        multis,
     })
 }
 
@@ -137,6 +143,7 @@ impl<M: Matcher> Core<M> {
           cq = nothing_written info.now.cq;
           counters = no_counts;
           calls = 0;
+          multis = [];
         }) }
         ensures err { IfErr result (λ back. back ≡ av) }
     {
@@ -150,6 +157,7 @@ impl<M: Matcher> Core<M> {
             target,
             cq,
             calls,
+            multis,
         } = halves;
         Ok(Core {
             caps: info.caps,
@@ -163,6 +171,7 @@ impl<M: Matcher> Core<M> {
             cq,
             counters: Counters::new(),
             calls,
+            multis,
             alloc,
         })
     }

@@ -9,7 +9,7 @@ ghost use Rattle.fab_cq.specs.Queues.{has_room};
 ghost use Rattle.fab_rx.specs.Leaving.{is_meant};
 ghost use Rattle.fab_core.specs.Parts.{state_of};
 ghost use Rattle.fab_core.specs.Doing.{left_by, lasting_post, posted_by};
-ghost use Rattle.fab_core.specs.Orders.{posting_of, wanted, passing_post};
+ghost use Rattle.fab_core.specs.Orders.{is_held, posting_of, wanted, passing_post};
 
 use crate::callers::{OfReceive, ThisCall};
 use crate::handing::{at_match, hand_over};
@@ -27,7 +27,7 @@ pub(crate) const MOST_BYTES: usize = 16_777_216;
 fn canceled(left: Cancelled) -> Taken
     ensures { result ≡ error (Some left.ctx) Canceled (Some left.buf) }
 {
-    let Cancelled { ctx, buf } = left;
+    let Cancelled { ctx, buf, .. } = left;
     Taken::Failure(ErrEntry {
         ctx: Some(ctx),
         kind: ErrKind::Canceled,
@@ -101,14 +101,30 @@ impl<M: Matcher> Core<M> {
         None
     }
 
+    /// Whether a receive call waits: for a draw that is due, or for room for so many completions.
+    pub(crate) fn is_held(&self, entries: u32) -> bool
+        ensures held { result ≡ is_held entries self.now }
+        ensures room { result ≡ false → IsTrue (has_room entries self.now.cq) }
+    {
+        self.rx.is_draw_due() || !self.cq.has_room(entries)
+    }
+
+    /// What is answered where a call waits for room in the completion queue, as draws do.
+    pub(crate) fn held(&self) -> Fault
+        ensures { result ≡ Again (CqFull self.now.cq.size) }
+    {
+        Fault::Again(Busy::CqFull(self.cq.size()))
+    }
+
     /// Why a receive is refused now, that may pass later.
     fn ask_again(&self, want: &Want) -> Option<Fault>
         ensures { result ≡ passing_post want.now self.now }
     {
+        if self.rx.is_draw_due() {
+            return Some(self.held());
+        }
         match self.rx.found(want) {
-            Some(true) if !self.cq.has_room(1) => {
-                Some(Fault::Again(Busy::CqFull(self.cq.size())))
-            }
+            Some(true) if !self.cq.has_room(1) => Some(self.held()),
             None if self.rx.is_full() => Some(Fault::Again(Busy::PostedFull(self.most_rx))),
             _ => None,
         }
@@ -158,12 +174,12 @@ impl<M: Matcher> Core<M> {
     /// Cancels the first posted receive of this context, of any where none is named.
     pub(crate) fn leave(&mut self, ctx: Option<u64>) -> Result<(), Fault>
         requires { is_some (cancellable (is_meant ctx) self.old.rx.rx) ≡ true }
-        ensures ok { OnOk result (IsTrue (has_room 1 self.old.cq) × (self.new ≡ left_by ctx self.old)) }
-        ensures err { IfErr result (λ why. (why ≡ Again (CqFull self.old.cq.size)) × (has_room 1 self.old.cq ≡ false)) }
+        ensures ok { OnOk result ((is_held 1 self.old ≡ false) × (self.new ≡ left_by ctx self.old)) }
+        ensures err { IfErr result (λ why. (why ≡ Again (CqFull self.old.cq.size)) × (is_held 1 self.old ≡ true)) }
         ensures stays { OnErr result (self.new ≡ self.old) }
     {
-        if !self.cq.has_room(1) {
-            return Err(Fault::Again(Busy::CqFull(self.cq.size())));
+        if self.is_held(1) {
+            return Err(self.held());
         }
         let about = (Snapshot::of(&self.rx), ctx);
         let left = match ctx {

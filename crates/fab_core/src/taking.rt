@@ -1,7 +1,8 @@
 //! Frames come in: an item arrives with its first frame, and is whole with its last one.
-ghost use Rattle.std.specs.Prelude.{◌≡◌, ◌≢◌, ◌==◌, ◌<◌, ◌+◌, ◌≤◌, None, length, IfSome, IsSomeAnd, IsTrue, IfOk, OnOk, OnErr, Ok, true, false, not, ◌&&◌, ◌^◌, slice_set};
+ghost use Rattle.std.specs.Prelude.{◌≡◌, ◌≢◌, ◌==◌, ◌<◌, ◌+◌, ◌≤◌, None, length, IfSome, IsSomeAnd, IsTrue, IfOk, OnOk, OnErr, Ok, true, false, not, ◌&&◌, ◌^◌, slice_set, is_some};
 ghost use Rattle.fab_model.specs.State.{coming_from, fits};
 ghost use Rattle.fab_model.specs.Arrivals.{do_tail};
+ghost use Rattle.fab_model.specs.Receiving.{draw_due};
 ghost use Rattle.fab_wire.specs.Frames.{IsSound, frame};
 ghost use Rattle.fab_wire.specs.Joined.{is_last};
 ghost use Rattle.fab_face.specs.Acts.{Goes, Took};
@@ -9,14 +10,15 @@ ghost use Rattle.fab_face.specs.Answers.{FrameLacks};
 ghost use Rattle.fab_face.specs.Machine.{IsNext, StayNext};
 ghost use Rattle.fab_cq.specs.Queues.{has_room};
 ghost use Rattle.fab_rx.specs.Arriving.{arriving, bare, begun_of};
+ghost use Rattle.fab_rx.specs.Results.{last_of};
 ghost use Rattle.fab_tx.specs.Transit.{answered_by, finds_answered, is_reply};
 ghost use Rattle.fab_core.specs.Parts.{held_of, state_of};
-ghost use Rattle.fab_core.specs.Doing.{answer_writes, arrived, asks, counters_after, cq_after, fed, heading, tail, writes_at_tail};
+ghost use Rattle.fab_core.specs.Doing.{answer_writes, arrived, asks, counters_after, cq_after, fed, heading, lacks_at_tail, tail, writes_at_tail};
 ghost use Rattle.fab_core.specs.Requests.{IsAwaited};
 
 use crate::callers::{EndsWhenAnswered, IntoReceive};
 use crate::ending::{end, writes_at_end};
-use crate::handing::{at_delivery, at_either, book, hand_over};
+use crate::handing::{at_delivery, at_either, book, hand_last, hand_over};
 use crate::parts::Core;
 use crate::serving::{is_request, serve, writes_data};
 use fab_base::{FrameHead, Item, ItemHead, Kind, NoMemory};
@@ -116,6 +118,20 @@ impl<M: Matcher> Core<M> {
         }
     }
 
+    /// Whether the buffer of a multi-receive comes back when the item of this source is whole, where its next
+    /// frame has this head.
+    pub(crate) fn closes_when_whole(&self, source: u32, head: &FrameHead) -> bool
+        requires source { source < length self.now.rx.begun }
+        requires first { head.now.from ≡ 0 → begun_of self.now.rx source ≡ None }
+        ensures { result ≡ is_some (last_of source (arrived (head.now.from == 0) source head.now.item self.now.rx)) }
+    {
+        if head.from == 0 {
+            self.rx.first_closes(source, &head.item)
+        } else {
+            self.rx.closes(source)
+        }
+    }
+
     /// An item arrives. Room is made for the reply that it asks for.
     pub(crate) fn begin(&mut self, source: u32, head: &ItemHead) -> Result<(), NoMemory>
         requires source { source < length self.old.rx.begun }
@@ -179,13 +195,23 @@ impl<M: Matcher> Core<M> {
         Ok(())
     }
 
+    /// Whether the frame is the first one of its item, and waits for a draw.
+    pub(crate) fn waits(&self, head: &FrameHead) -> bool
+        ensures yes { result ≡ true → ((head.now.from == 0) ≡ true) × (draw_due self.now.rx.rx ≡ true) }
+        ensures no { result ≡ false → (head.now.from == 0) ≡ true → draw_due self.now.rx.rx ≡ false }
+    {
+        head.from == 0 && self.rx.is_draw_due()
+    }
+
     /// Whether the last frame of an item waits for room in the completion queue.
     pub(crate) fn lacks(&self, source: u32, head: &FrameHead) -> bool
         requires source { source < length self.now.rx.begun }
+        requires first { head.now.from ≡ 0 → begun_of self.now.rx source ≡ None }
         requires next { head.now.from ≢ 0 → IsSomeAnd (begun_of self.now.rx source) (λ item. item.head ≡ head.now.item) }
-        ensures { result ≡ (writes_at_tail (coming_from (arrived (head.now.from == 0) source head.now.item self.now.rx).rx source) source head.now.item self.now.tx.tx self.now.target.regions && not (has_room 1 self.now.cq)) }
+        ensures { result ≡ lacks_at_tail (arrived (head.now.from == 0) source head.now.item self.now.rx) source head.now.item self.now }
     {
         self.writes_when_whole(source, head) && !self.cq.has_room(1)
+            || !self.cq.has_room(2) && self.closes_when_whole(source, head)
     }
 
     /// Takes a frame that is not the last one of its item.
@@ -201,6 +227,7 @@ impl<M: Matcher> Core<M> {
         requires filled { length bytes.now ≡ head.now.len }
         requires within { head.now.from + head.now.len ≤ head.now.item.total }
         requires more { is_last head.now ≡ false }
+        requires ready { (head.now.from == 0) ≡ true → draw_due self.old.rx.rx ≡ false }
         ensures yes { OnOk result (Goes None (held_of self.old) (Took source (frame head.now bytes.now)) (held_of self.new)) }
         ensures always { IfOk result (λ taken. taken ≡ true) }
         ensures next { StayNext (state_of self.old) (state_of self.new) }
@@ -224,6 +251,7 @@ impl<M: Matcher> Core<M> {
         requires sound { IsSound head.now.item }
         requires filled { length bytes.now ≡ head.now.len }
         requires last { is_last head.now ≡ true }
+        requires ready { (head.now.from == 0) ≡ true → draw_due self.old.rx.rx ≡ false }
         ensures yes { result ≡ Ok true → Goes None (held_of self.old) (Took source (frame head.now bytes.now)) (held_of self.new) }
         ensures next { StayNext (state_of self.old) (state_of self.new) }
         ensures places { self.new.tx.places ≡ self.old.tx.places }
@@ -246,10 +274,12 @@ impl<M: Matcher> Core<M> {
         requires source { source < length self.old.rx.begun }
         requires whole { IsSomeAnd (begun_of self.old.rx source) (λ item. length item.bytes ≡ item.head.total) }
         requires room { IfSome (begun_of self.old.rx source) (λ item. writes_at_tail (coming_from self.old.rx.rx source) source item.head self.old.tx.tx self.old.target.regions ≡ true → IsTrue (has_room 1 self.old.cq)) }
+        requires back { is_some (last_of source self.old.rx) ≡ true → IsTrue (has_room 2 self.old.cq) }
         ensures state { IfSome (begun_of self.old.rx source) (λ item. state_of self.new ≡ do_tail (state_of self.old) source item.head item.bytes) }
         ensures next { StayNext (state_of self.old) (state_of self.new) }
         ensures begun { self.new.rx.begun ≡ slice_set self.old.rx.begun source None }
         ensures places { self.new.tx.places ≡ self.old.tx.places }
+        ensures multis { self.new.multis ≡ self.old.multis }
         ensures fits { fits self.new.cq ≡ true }
     {
         self.rx.known();
@@ -263,6 +293,7 @@ impl<M: Matcher> Core<M> {
         requires source { source < length self.old.rx.begun }
         requires whole { IsSomeAnd (begun_of self.old.rx source) (λ item. length item.bytes ≡ item.head.total) }
         requires room { IfSome (begun_of self.old.rx source) (λ item. writes_at_tail (coming_from self.old.rx.rx source) source item.head self.old.tx.tx self.old.target.regions ≡ true → IsTrue (has_room 1 self.old.cq)) }
+        requires back { is_some (last_of source self.old.rx) ≡ true → IsTrue (has_room 2 self.old.cq) }
         ensures { IfSome (begun_of self.old.rx source) (λ item. self.new ≡ tail source item self.old) }
     {
         self.rx.known();
@@ -284,7 +315,12 @@ impl<M: Matcher> Core<M> {
                     *alloc, cq, counters, tx, &about, due, completed,
                 );
             }
-            Finished::Last(..) => unreachable!(),
+            Finished::Last(completed, released) => {
+                let due = at_either(completed.head.ack);
+                hand_last::<(Snapshot<Inbox<M>>, u32), IntoReceive>(
+                    *alloc, cq, counters, tx, &about, due, completed, released,
+                );
+            }
             Finished::Kept(head) => book(*alloc, tx, at_delivery(head.ack), source, &head),
             Finished::Thrown(head) => book(*alloc, tx, at_either(head.ack), source, &head),
             Finished::Request(item) => serve(tx, cq, target, source, item),

@@ -36,7 +36,7 @@ fed_later : (b : Option Begun) (xs : List (Option Begun)) (cs : List (ℕ × ℕ
 fed_later b xs [] a none = tt
 fed_later b xs (c ∷ cs) a none = (rw none.0 at a.0, fed_later b xs cs a.1 none.1)
 
-others_unfed : (b : Option Begun) (id : ℕ) (cs : List (ℕ × ℕ)) → is_fed_by id b ≡ true → has_id id cs ≡ false → AllByRecursion (λ c. is_fed_by c.0 b ≡ false) cs
+pub others_unfed : (b : Option Begun) (id : ℕ) (cs : List (ℕ × ℕ)) → is_fed_by id b ≡ true → has_id id cs ≡ false → AllByRecursion (λ c. is_fed_by c.0 b ≡ false) cs
 others_unfed b id [] fed lacks = tt
 others_unfed b id (c ∷ cs) fed lacks = by (c.0 == id) refl (λ rest. others_unfed b id cs fed rest)
   where
@@ -105,12 +105,23 @@ closing_less (b ∷ xs) (suc s) cs below idle apart fed =
     let count = one_fewer test cs in
     omega arith
 
+-- a source whose item goes to none of them
+pub closing_less_by : (xs : List (Option Begun)) (s : ℕ) (cs : List (ℕ × ℕ)) → s < length xs → AllByRecursion (λ c. is_fed_by c.0 (get_or xs s None) ≡ false) cs → AreApart no_pairs cs → AllByRecursion (IsFed xs) cs → length cs < length xs
+closing_less_by [] s cs below idle apart fed = absurd (omega arith)
+closing_less_by (b ∷ xs) zero cs below idle apart fed = let more = closing_most xs cs apart (fed_later b xs cs fed idle) in omega arith
+closing_less_by (b ∷ xs) (suc s) cs below idle apart fed =
+    let test : ℕ × ℕ → Bool = λ c. is_fed_by c.0 b in
+    let rest = all_fewer test (λ c. is_fed_by c.0 (get_or xs s None) ≡ false) cs idle in
+    let more = closing_less_by xs s (remove_first test cs) (omega arith) rest (apart_rest test no_pairs cs apart) (fed_later b xs (remove_first test cs) (all_fewer test (IsFed (b ∷ xs)) cs fed) (unfed_rest b cs apart)) in
+    let count = one_fewer test cs in
+    omega arith
+
 pub apart_alone : {X : Type 0} (ps : List (ℕ × X)) (cs : List (ℕ × ℕ)) → AreApart ps cs → AreApart no_pairs cs
 apart_alone ps [] a = tt
 apart_alone ps (c ∷ cs) a = (refl, a.1, apart_alone ps cs a.2)
 
 module _ (ps : List (ℕ × Want)) (us : List (ℕ × Sign)) (room : ℕ) (seats : Cells Waiting) (parcels : Cells Parcel) (coming : List (Option Begun)) (v : Arriving) (kept : IsKept ps us room seats parcels coming v)
-    (cs : List (ℕ × ℕ)) (m : AreMulti ps cs seats coming v.rx.posted v.rx.closing v.rx.coming v.next v.multi v.most) where
+    (cs : List (ℕ × ℕ)) (m : AreMulti ps cs seats coming v.rx.posted v.rx.closing v.rx.coming v.next v.multis v.most) where
   pub fewer_closing : (source : ℕ) → source < length coming → get_or coming source None ≡ None → length cs < length coming
   fewer_closing source below idle = closing_less coming source cs below idle (apart_alone ps cs m.apart) m.live
 

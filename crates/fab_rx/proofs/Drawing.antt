@@ -16,6 +16,8 @@ use Rattle.fab_rx.specs.Arriving.{Arriving}
 use Rattle.fab_rx.specs.Stored.{IsKept, Lies, Sits, multi_of}
 use Rattle.fab_rx.specs.Sharing.{multi_in}
 use Rattle.fab_rx.specs.Draws.{draws_at, draws_by}
+use Rattle.fab_rx.specs.Drawing.{drawn}
+use Rattle.fab_rx.specs.declared.results.Drawn.TheVariants.{GoesOn}
 use Rattle.fab_rx.proofs.Tying.{found_alike}
 use Rattle.fab_rx.proofs.Keeping.{lies_agrees}
 use Rattle.fab_rx.proofs.Leaving.{leaving, staying}
@@ -37,8 +39,12 @@ module _ (ps : List (ℕ × Want)) (us : List (ℕ × Sign)) (room : ℕ) (seats
       by (Some least) e =
           rw e (found_alike (Lies parcels coming) (λ sign. fits r.want sign) (takes r.want) (lies_agrees r.want parcels coming) us v.rx.unexpected kept.messages ∙ some_found (takes r.want) v.rx.unexpected)
 
-  draws_agree : (p : ℕ × Want) (r : Receive) → Sits seats p r → draws_at seats us p.0 ≡ draws v.rx.unexpected r
+  pub draws_agree : (p : ℕ × Want) (r : Receive) → Sits seats p r → draws_at seats us p.0 ≡ draws v.rx.unexpected r
   draws_agree p r t = ap (λ o. draws_by us (multi_in o)) t.seat ∙ draws_of r
+
+  -- nothing is handed out where none is due
+  pub undrawn : find (draws_at seats us) (map (λ p. p.0) ps) ≡ None → drawn v ≡ GoesOn
+  undrawn e = rw ((staying (Sits seats) (draws_at seats us) (draws v.rx.unexpected) draws_agree ps v.rx.posted kept.receives e).0) refl
 
   pub due_where : (o : Option ℕ) → find (draws_at seats us) (map (λ p. p.0) ps) ≡ o → is_some o ≡ draw_due v.rx
   due_where None e = ap is_some (sym (staying (Sits seats) (draws_at seats us) (draws v.rx.unexpected) draws_agree ps v.rx.posted kept.receives e).0) ∙ some_found (draws v.rx.unexpected) v.rx.posted

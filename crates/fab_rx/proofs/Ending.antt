@@ -23,9 +23,9 @@ use Rattle.fab_rx.specs.declared.stored.Way.{Way}
 use Rattle.fab_rx.specs.declared.stored.Way.TheVariants.{Into, Part, Keep, Throw, Gather}
 use Rattle.fab_rx.specs.declared.stored.Begun.{Begun}
 use Rattle.fab_rx.specs.Table.{Cells, at}
-use Rattle.fab_rx.specs.Arriving.{Arriving, begun_of, bytes_come, finishing, shared, without_closed}
-use Rattle.fab_rx.specs.Stored.{AreApart, GoesBy, IsFit, IsKept, IsKeptWay, Lies, Sits, waiting_of}
-use Rattle.fab_rx.specs.Homes.{AreMulti, GoesHome, GoesHomeBy, IsFed, IsHome, IsPart, Rests, is_fed_by, is_part_of, no_pairs}
+use Rattle.fab_rx.specs.Arriving.{Arriving, begun_of, bytes_come, finishing, id_in, shared, without_closed}
+use Rattle.fab_rx.specs.Stored.{AreApart, GoesBy, IsFit, IsKept, IsKeptWay, IsWay, Lies, Sits, waiting_of}
+use Rattle.fab_rx.specs.Homes.{AreMulti, GoesHome, GoesHomeBy, IsFed, IsHome, IsPart, Rests, is_fed_by, is_part_of, no_pairs, part_id, part_in}
 use Rattle.fab_rx.specs.Sharing.{is_over, placed_in}
 use Rattle.fab_rx.proofs.Pasting.{length_paste_at}
 use Rattle.fab_rx.proofs.Tables.{id_within}
@@ -52,44 +52,44 @@ use Rattle.fab_rx.proofs.Sharing.{IsLike, any_alike, any_at, any_set, home_like,
 -- ---- one receive
 
 -- two tests are alike where each follows from the other
-eqb_alike : (a b c d : ℕ) → (c ≡ d → a ≡ b) → (a ≡ b → c ≡ d) → (a == b) ≡ (c == d)
+pub eqb_alike : (a b c d : ℕ) → (c ≡ d → a ≡ b) → (a ≡ b → c ≡ d) → (a == b) ≡ (c == d)
 eqb_alike a b c d to from = by (c == d) refl
   where
     by : (x : Bool) → (c == d) ≡ x → (a == b) ≡ (c == d)
     by true e = eq-eqb a b (to (eqb-true c d e)) ∙ sym e
     by false e = ne_eqb a b (λ same. (let no : true ≡ false = sym (eq-eqb c d (from same)) ∙ e in absurd (cc))) ∙ sym e
 
-some_least : (r : Receive) → is_some r.least ≡ true → (least : ℕ) × (r.least ≡ Some least)
+pub some_least : (r : Receive) → is_some r.least ≡ true → (least : ℕ) × (r.least ≡ Some least)
 some_least r multi = by r.least refl
   where
     by : (o : Option ℕ) → r.least ≡ o → (least : ℕ) × (r.least ≡ Some least)
     by None e = absurd (let no : false ≡ true = rw e at multi in cc)
     by (Some least) e = (least, e)
 
-fit_filled : (place : ℕ) (bytes : List ℕ) (r : Receive) → IsFit r → IsFit (filled place bytes r)
+pub fit_filled : (place : ℕ) (bytes : List ℕ) (r : Receive) → IsFit r → IsFit (filled place bytes r)
 fit_filled place bytes r fit =
     let same = length_paste_at r.buf bytes place in
     record { single = fit.single; within = let within = fit.within in omega arith; small = λ some. let small = fit.small some in omega arith }
 
 -- what bytes in a multi-receive make of the receive half
-shared_some : (r : Receive) (least : ℕ) → r.least ≡ Some least → (place : ℕ) (bytes : List ℕ) (rx : Receiving)
+pub shared_some : (r : Receive) (least : ℕ) → r.least ≡ Some least → (place : ℕ) (bytes : List ℕ) (rx : Receiving)
     → shared r.least r place bytes rx ≡ without_closed r.call (record rx { posted = change_first (is_made_by r.call) (filled place bytes) rx.posted; closing = change_first (is_made_by r.call) (filled place bytes) rx.closing })
 shared_some r least some place bytes rx = subst (λ (x : Receive). shared x.least x place bytes rx ≡ without_closed x.call (record rx { posted = change_first (is_made_by x.call) (filled place bytes) rx.posted; closing = change_first (is_made_by x.call) (filled place bytes) rx.closing })) (λ i. record r { least = sym some i }) refl
 
-closed_still : (call : ℕ) (rx : Receiving) → under_way rx call ≡ true → without_closed call rx ≡ rx
+pub closed_still : (call : ℕ) (rx : Receiving) → under_way rx call ≡ true → without_closed call rx ≡ rx
 closed_still call rx e = rw (e, without_closed) refl
 
-closed_now : (call : ℕ) (rx : Receiving) → under_way rx call ≡ false → without_closed call rx ≡ record rx { closing = remove_first (is_made_by call) rx.closing }
+pub closed_now : (call : ℕ) (rx : Receiving) → under_way rx call ≡ false → without_closed call rx ≡ record rx { closing = remove_first (is_made_by call) rx.closing }
 closed_now call rx e = rw (e, without_closed) refl
 
-last_some : (r : Receive) (least : ℕ) → r.least ≡ Some least → (place : ℕ) (bytes : List ℕ) (rx : Receiving)
+pub last_some : (r : Receive) (least : ℕ) → r.least ≡ Some least → (place : ℕ) (bytes : List ℕ) (rx : Receiving)
     → closed_if r.least r.call (filling r place bytes rx) ≡ closed_by r.call (record rx { posted = change_first (is_made_by r.call) (filled place bytes) rx.posted; closing = change_first (is_made_by r.call) (filled place bytes) rx.closing })
 last_some r least some place bytes rx = subst (λ (x : Receive). closed_if x.least x.call (filling x place bytes rx) ≡ closed_by x.call (record rx { posted = change_first (is_made_by x.call) (filled place bytes) rx.posted; closing = change_first (is_made_by x.call) (filled place bytes) rx.closing })) (λ i. record r { least = sym some i }) refl
 
-none_last : (call : ℕ) (rx : Receiving) → under_way rx call ≡ true → closed_by call rx ≡ None
+pub none_last : (call : ℕ) (rx : Receiving) → under_way rx call ≡ true → closed_by call rx ≡ None
 none_last call rx e = rw (e, closed_by) refl
 
-found_last : (call : ℕ) (rx : Receiving) → under_way rx call ≡ false → closed_by call rx ≡ find (is_made_by call) rx.closing
+pub found_last : (call : ℕ) (rx : Receiving) → under_way rx call ≡ false → closed_by call rx ≡ find (is_made_by call) rx.closing
 found_last call rx e = rw (e, closed_by) refl
 
 -- where it is over, and where it is not
@@ -126,12 +126,12 @@ lacks_out id (x ∷ xs) apart = by (x.0 == id) refl (lacks_out id xs apart.2)
     by true e more = rw (e, remove_first) (subst (λ (k : ℕ). has_id k xs ≡ false) (eqb-true x.0 id e) apart.1)
     by false e more = rw (e, remove_first) (rw e more)
 
-released_as : (y : Receive) → is_some y.least ≡ true → released_of (waiting_of y) ≡ released y
-released_as y multi = by y.least refl
+pub released_as : (v : Arriving) (id : ℕ) (y : Receive) → id_in v.multis y.call ≡ Some id → is_some y.least ≡ true → released_of id (waiting_of y) ≡ released v y
+released_as v id y known multi = by y.least refl
   where
-    by : (o : Option ℕ) → y.least ≡ o → released_of (waiting_of y) ≡ released y
+    by : (o : Option ℕ) → y.least ≡ o → released_of id (waiting_of y) ≡ released v y
     by None e = absurd (let no : false ≡ true = rw e at multi in cc)
-    by (Some least) e = rw e refl
+    by (Some least) e = rw (e, known) refl
 
 -- ---- an item goes to the multi-receive exactly where it goes to its id
 
@@ -143,12 +143,12 @@ fed_by_way homes calls seats id r part (Keep k bytes) c g = rw g refl
 fed_by_way homes calls seats id r part Throw c g = rw g refl
 fed_by_way homes calls seats id r part (Gather bytes) c g = rw g.1 (no_into r.call g.0)
 
-fed_alike : (homes : ℕ → Option ℕ) (calls : ℕ → ℕ) (seats : Cells Waiting) (id : ℕ) (r : Receive) → IsPart homes calls seats id r → (b : Option Begun) (c : Option Coming) → GoesHome homes calls seats b c → is_into r.call c ≡ is_fed_by id b
+pub fed_alike : (homes : ℕ → Option ℕ) (calls : ℕ → ℕ) (seats : Cells Waiting) (id : ℕ) (r : Receive) → IsPart homes calls seats id r → (b : Option Begun) (c : Option Coming) → GoesHome homes calls seats b c → is_into r.call c ≡ is_fed_by id b
 fed_alike homes calls seats id r part None c g = rw g refl
 fed_alike homes calls seats id r part (Some b) c g = fed_by_way homes calls seats id r part b.way c g
 
 module _ (ps : List (ℕ × Want)) (us : List (ℕ × Sign)) (room : ℕ) (seats : Cells Waiting) (parcels : Cells Parcel) (coming : List (Option Begun)) (v : Arriving) (kept : IsKept ps us room seats parcels coming v)
-    (cs : List (ℕ × ℕ)) (m : AreMulti ps cs seats coming v.rx.posted v.rx.closing v.rx.coming v.next v.multi v.most) (source : ℕ) (within : source < length v.begun) (item : Item) (begun : begun_of v source ≡ Some item)
+    (cs : List (ℕ × ℕ)) (m : AreMulti ps cs seats coming v.rx.posted v.rx.closing v.rx.coming v.next v.multis v.most) (source : ℕ) (within : source < length v.begun) (item : Item) (begun : begun_of v source ≡ Some item)
     (b : Begun) (is_stored : Some b ≡ get_or coming source None) (id place : ℕ) (bytes : Vec ℕ Global) (way : b.way ≡ Part id place bytes) where
   abbrev home : GoesHomeBy m.homes m.calls seats (Part id place bytes) (coming_from v.rx source)
   home = subst (λ (w : Way). GoesHomeBy m.homes m.calls seats w (coming_from v.rx source)) way (subst (λ (o : Option Begun). GoesHome m.homes m.calls seats o (coming_from v.rx source)) (sym is_stored) (m.ways source))
@@ -233,7 +233,7 @@ module _ (ps : List (ℕ × Want)) (us : List (ℕ × Sign)) (room : ℕ) (seats
     begun = set v.begun source None;
     most = v.most;
     next = v.next;
-    multi = v.multi;
+    multis = v.multis;
   }
 
   pub finishing_open : list_any (is_fed_by id) after ≡ true → finishing source v ≡ ended_as closing_then
@@ -346,8 +346,8 @@ module _ (ps : List (ℕ × Want)) (us : List (ℕ × Sign)) (room : ℕ) (seats
         pub kept_open : IsKept ps us room last parcels after (finishing source v)
         kept_open = rw same_ended (kept_ended last closing_then (retied (Sits others) (Sits last) ps posted_then (λ p y t. sits_at others last p y (at_last p.0) t) posted_sits))
 
-        pub multi_open : length last.free ≡ length others.free → others.free ≡ seats.free → AreMulti ps cs last after (finishing source v).rx.posted (finishing source v).rx.closing (finishing source v).rx.coming v.next v.multi v.most
-        multi_open count free = subst (λ (x : Arriving). AreMulti ps cs last after x.rx.posted x.rx.closing x.rx.coming v.next v.multi v.most) (sym same_ended) (record {
+        pub multi_open : length last.free ≡ length others.free → others.free ≡ seats.free → AreMulti ps cs last after (finishing source v).rx.posted (finishing source v).rx.closing (finishing source v).rx.coming v.next v.multis v.most
+        multi_open count free = subst (λ (x : Arriving). AreMulti ps cs last after x.rx.posted x.rx.closing x.rx.coming v.next v.multis v.most) (sym same_ended) (record {
           homes = m.homes;
           calls = m.calls;
           posted_home = home_then;
@@ -358,6 +358,9 @@ module _ (ps : List (ℕ × Want)) (us : List (ℕ × Sign)) (room : ℕ) (seats
           live = live_then cs m.live goes_on;
           fresh = m.fresh;
           plain = m.plain;
+          ids = m.ids;
+          numbers = m.numbers;
+          back = m.back;
           spare = let spare = m.spare in let same = ap length free in let long = length-set coming source None in omega arith;
         })
 
@@ -385,8 +388,8 @@ module _ (ps : List (ℕ × Want)) (us : List (ℕ × Sign)) (room : ℕ) (seats
           rw (home.1, begun, last_some r least.0 least.1 place item.bytes (made_whole source v.rx))
           (found_last r.call (record (made_whole source v.rx) { posted = posted_then; closing = closing_then }) (still_fed ∙ unfed) ∙ the_last.3)
 
-      pub buffer_over : option_map released_of (at others id) ≡ option_map released (last_of source v)
-      buffer_over = ap (option_map released_of) (ap (at others) (sym the_last.2) ∙ the_last.4.seat) ∙ ap (λ x. Some x) (released_as the_last.1 the_last.4.multi) ∙ sym (ap (option_map released) last_over)
+      pub buffer_over : option_map (released_of id) (at others id) ≡ option_map (released v) (last_of source v)
+      buffer_over = ap (option_map (released_of id)) (ap (at others) (sym the_last.2) ∙ the_last.4.seat) ∙ ap (λ x. Some x) (released_as v id the_last.1 (sym (m.ids the_last.1.call) ∙ the_last.4.home ∙ ap (λ k. Some k) the_last.2) the_last.4.multi) ∙ sym (ap (option_map (released v)) last_over)
 
       module _ (last : Cells Waiting) (gone : last.cells ≡ set others.cells id None) where
         pub kept_over : IsKept ps us room last parcels after (finishing source v)
@@ -394,9 +397,9 @@ module _ (ps : List (ℕ × Want)) (us : List (ℕ × Sign)) (room : ℕ) (seats
             rw (finishing_over unfed) (kept_ended last (remove_first (is_made_by r.call) closing_then)
             (retied_but (Sits others) (Sits last) id ps posted_then (λ p y other t. sits_at others last p y (at_other others last id None gone p.0 other) t) (apart_of ps cs id closes m.apart) posted_sits))
 
-        pub multi_over : length last.free ≡ length others.free + 1 → others.free ≡ seats.free → AreMulti ps (without id cs) last after (finishing source v).rx.posted (finishing source v).rx.closing (finishing source v).rx.coming v.next v.multi v.most
+        pub multi_over : length last.free ≡ length others.free + 1 → others.free ≡ seats.free → AreMulti ps (without id cs) last after (finishing source v).rx.posted (finishing source v).rx.closing (finishing source v).rx.coming v.next v.multis v.most
         multi_over more free =
-            subst (λ (x : Arriving). AreMulti ps (without id cs) last after x.rx.posted x.rx.closing x.rx.coming v.next v.multi v.most) (sym (finishing_over unfed)) (record {
+            subst (λ (x : Arriving). AreMulti ps (without id cs) last after x.rx.posted x.rx.closing x.rx.coming v.next v.multis v.most) (sym (finishing_over unfed)) (record {
               homes = m.homes;
               calls = m.calls;
               posted_home = home_then;
@@ -412,15 +415,21 @@ module _ (ps : List (ℕ × Want)) (us : List (ℕ × Sign)) (room : ℕ) (seats
               live = live_then (without id cs) (all_fewer (λ c. c.0 == id) (IsFed coming) cs m.live) (inr (lacks_out id cs (apart_alone ps cs m.apart)));
               fresh = m.fresh;
               plain = m.plain;
+              ids = m.ids;
+              numbers = m.numbers;
+              back = m.back;
               spare = let spare = m.spare in let same = ap length free in let count = length-set coming source None in let out = one_out id cs closes in omega arith;
             })
 
     -- ---- either
 
-    pub buffer_part : cond (is_over after cs id) (option_map released_of (at others id)) None ≡ option_map released (last_of source v)
+    pub placed_now : at others id ≡ Some (placed_in place item.bytes part.there)
+    placed_now = now
+
+    pub buffer_part : cond (is_over after cs id) (option_map (released_of id) (at others id)) None ≡ option_map (released v) (last_of source v)
     buffer_part = by (is_over after cs id) refl
       where
-        by : (x : Bool) → is_over after cs id ≡ x → cond (is_over after cs id) (option_map released_of (at others id)) None ≡ option_map released (last_of source v)
+        by : (x : Bool) → is_over after cs id ≡ x → cond (is_over after cs id) (option_map (released_of id) (at others id)) None ≡ option_map (released v) (last_of source v)
         by true e = let yes = is_over_yes after cs id e in rw e (buffer_over yes.0 yes.1)
         by false e = rw (e, last_open (is_over_no after cs id e)) refl
 
@@ -433,15 +442,30 @@ module _ (ps : List (ℕ × Want)) (us : List (ℕ × Sign)) (room : ℕ) (seats
           by false e = kept_open (is_over_no after cs id e) last (rw e at cells)
 
       pub multi_part : length last.free ≡ cond (is_over after cs id) (length others.free + 1) (length others.free) → others.free ≡ seats.free → (rest : List (ℕ × ℕ)) → rest ≡ cond (is_over after cs id) (without id cs) cs
-          → AreMulti ps rest last after (finishing source v).rx.posted (finishing source v).rx.closing (finishing source v).rx.coming v.next v.multi v.most
+          → AreMulti ps rest last after (finishing source v).rx.posted (finishing source v).rx.closing (finishing source v).rx.coming v.next v.multis v.most
       multi_part count free rest are = by (is_over after cs id) refl
         where
-          by : (x : Bool) → is_over after cs id ≡ x → AreMulti ps rest last after (finishing source v).rx.posted (finishing source v).rx.closing (finishing source v).rx.coming v.next v.multi v.most
+          by : (x : Bool) → is_over after cs id ≡ x → AreMulti ps rest last after (finishing source v).rx.posted (finishing source v).rx.closing (finishing source v).rx.coming v.next v.multis v.most
           by true e =
               let yes = is_over_yes after cs id e in
-              subst (λ (xs : List (ℕ × ℕ)). AreMulti ps xs last after (finishing source v).rx.posted (finishing source v).rx.closing (finishing source v).rx.coming v.next v.multi v.most) (sym (rw e at are)) (multi_over yes.0 yes.1 last (rw e at cells) (rw e at count) free)
+              subst (λ (xs : List (ℕ × ℕ)). AreMulti ps xs last after (finishing source v).rx.posted (finishing source v).rx.closing (finishing source v).rx.coming v.next v.multis v.most) (sym (rw e at are)) (multi_over yes.0 yes.1 last (rw e at cells) (rw e at count) free)
           by false e =
-              subst (λ (xs : List (ℕ × ℕ)). AreMulti ps xs last after (finishing source v).rx.posted (finishing source v).rx.closing (finishing source v).rx.coming v.next v.multi v.most) (sym (rw e at are)) (multi_open (is_over_no after cs id e) last (rw e at cells) (rw e at count) free)
+              subst (λ (xs : List (ℕ × ℕ)). AreMulti ps xs last after (finishing source v).rx.posted (finishing source v).rx.closing (finishing source v).rx.coming v.next v.multis v.most) (sym (rw e at are)) (multi_open (is_over_no after cs id e) last (rw e at cells) (rw e at count) free)
+
+  -- the buffer comes back exactly where it is over then
+  pub closes_part : is_over after cs id ≡ is_some (last_of source v)
+  closes_part = by (is_over after cs id) refl
+    where
+      others : Cells Waiting
+      others = record { cells = set seats.cells id (option_map (placed_in place bytes.items) (at seats id)); free = seats.free }
+
+      told : (o : Option Receive) → is_some (option_map (released v) o) ≡ is_some o
+      told None = refl
+      told (Some y) = refl
+
+      by : (x : Bool) → is_over after cs id ≡ x → is_over after cs id ≡ is_some (last_of source v)
+      by false e = e ∙ ap is_some (rw e at (buffer_part others refl)) ∙ told (last_of source v)
+      by true e = e ∙ sym (ap (λ o. is_some (option_map (released_of id) o)) (placed_now others refl)) ∙ ap is_some (rw e at (buffer_part others refl)) ∙ told (last_of source v)
 
   -- the multi-receive is there when it is to be released
   pub part_there : (others : Cells Waiting) → others.cells ≡ set seats.cells id (option_map (placed_in place bytes.items) (at seats id)) → IsSome (multi_at others id)
@@ -470,7 +494,7 @@ ended_other ReadReq source item = refl
 ended_other AtomicReq source item = refl
 ended_other Reply source item = refl
 
-last_other : (kind : Kind) (bytes : List ℕ) (rx : Receiving) → last_by (Some (way_of kind)) bytes rx ≡ None
+pub last_other : (kind : Kind) (bytes : List ℕ) (rx : Receiving) → last_by (Some (way_of kind)) bytes rx ≡ None
 last_other Msg bytes rx = refl
 last_other TagMsg bytes rx = refl
 last_other WriteReq bytes rx = refl
@@ -478,7 +502,7 @@ last_other ReadReq bytes rx = refl
 last_other AtomicReq bytes rx = refl
 last_other Reply bytes rx = refl
 
-last_single : (r : Receive) (place : ℕ) (bytes : List ℕ) (rx : Receiving) → r.least ≡ None → last_by (Some (IntoReceive r place)) bytes rx ≡ None
+pub last_single : (r : Receive) (place : ℕ) (bytes : List ℕ) (rx : Receiving) → r.least ≡ None → last_by (Some (IntoReceive r place)) bytes rx ≡ None
 last_single r place bytes rx single = subst (λ (o : Option ℕ). closed_if o r.call (filling r place bytes rx) ≡ None) (sym single) refl
 
 pub at_some : (o : Option Item) (item : Item) → o ≡ Some item → (P : Item → Type 0) → P item → IfSome o P
@@ -498,28 +522,69 @@ module _ (ps : List (ℕ × Want)) (us : List (ℕ × Sign)) (room : ℕ) (seats
   goes_by : (way : Way) → b.way ≡ way → GoesBy parcels source way s.way item
   goes_by way e = subst (λ (w : Way). GoesBy parcels source w s.way item) (ap (λ (x : Begun). x.way) (sym same_begun) ∙ e) s.coming.way
 
-  becomes : (f : Finished) → last_by (Some s.way) (bytes_come (begun_of v source)) (made_whole source v.rx) ≡ None → f ≡ ended (Some s.way) source item → f ≡ handed (last_of source v) (ended (coming_from v.rx source) source item)
-  becomes f none is = rw s.comes (is ∙ sym (ap (λ (o : Option Receive). handed o (ended (Some s.way) source item)) none))
+  becomes : (f : Finished) → last_by (Some s.way) (bytes_come (begun_of v source)) (made_whole source v.rx) ≡ None → f ≡ ended (Some s.way) source item → f ≡ handed v (last_of source v) (ended (coming_from v.rx source) source item)
+  becomes f none is = rw s.comes (is ∙ sym (ap (λ (o : Option Receive). handed v o (ended (Some s.way) source item)) none))
 
-  pub outcome_into : (seat : Seat) → b.way ≡ Into seat → (x : Completed) → ((r : Receive) (bytes : List ℕ) → IsSingle r → seat ≡ seat_with r bytes → x ≡ completed r 0 source b.head bytes) → Received x ≡ handed (last_of source v) (ended (coming_from v.rx source) source item)
+  pub outcome_into : (seat : Seat) → b.way ≡ Into seat → (x : Completed) → ((r : Receive) (bytes : List ℕ) → IsSingle r → seat ≡ seat_with r bytes → x ≡ completed r 0 source b.head bytes) → Received x ≡ handed v (last_of source v) (ended (coming_from v.rx source) source item)
   outcome_into seat e x made =
       let goes = goes_by (Into seat) e in
       becomes (Received x) (ap (λ w. last_by (Some w) (bytes_come (begun_of v source)) (made_whole source v.rx)) goes.1 ∙ last_single goes.0 0 (bytes_come (begun_of v source)) (made_whole source v.rx) goes.2.least)
       (rw goes.1 (ap (λ x. Received x) (made goes.0 item.bytes goes.2 goes.3 ∙ ap (λ h. completed goes.0 0 source h item.bytes) headed)))
 
-  pub outcome_kept : (id : ℕ) (bytes : Vec ℕ Global) → b.way ≡ Keep id bytes → Kept b.head ≡ handed (last_of source v) (ended (coming_from v.rx source) source item)
+  pub outcome_kept : (id : ℕ) (bytes : Vec ℕ Global) → b.way ≡ Keep id bytes → Kept b.head ≡ handed v (last_of source v) (ended (coming_from v.rx source) source item)
   outcome_kept id bytes e =
       let goes = goes_by (Keep id bytes) e in
       becomes (Kept b.head) (ap (λ w. last_by (Some w) (bytes_come (begun_of v source)) (made_whole source v.rx)) goes.0) (rw goes.0 (ap (λ h. Kept h) headed))
 
-  pub outcome_thrown : b.way ≡ Throw → Thrown b.head ≡ handed (last_of source v) (ended (coming_from v.rx source) source item)
+  pub outcome_thrown : b.way ≡ Throw → Thrown b.head ≡ handed v (last_of source v) (ended (coming_from v.rx source) source item)
   outcome_thrown e =
       let goes = goes_by Throw e in
       becomes (Thrown b.head) (ap (λ w. last_by (Some w) (bytes_come (begun_of v source)) (made_whole source v.rx)) goes) (rw goes (ap (λ h. Thrown h) headed))
 
-  pub outcome_gathered : (bytes : Vec ℕ Global) → b.way ≡ Gather bytes → (buf : List ℕ) → buf ≡ bytes.items → (f : Finished) → f ≡ ended (Some (way_of b.head.kind)) 0 (record { head = b.head; bytes = buf }) → f ≡ handed (last_of source v) (ended (coming_from v.rx source) source item)
+  pub outcome_gathered : (bytes : Vec ℕ Global) → b.way ≡ Gather bytes → (buf : List ℕ) → buf ≡ bytes.items → (f : Finished) → f ≡ ended (Some (way_of b.head.kind)) 0 (record { head = b.head; bytes = buf }) → f ≡ handed v (last_of source v) (ended (coming_from v.rx source) source item)
   outcome_gathered bytes e buf all f is =
       let goes = goes_by (Gather bytes) e in
       let whole : record { head = b.head; bytes = buf } ≡ item = λ i. record { head = headed i; bytes = (all ∙ goes.1) i } in
       becomes f (ap (λ w. last_by (Some w) (bytes_come (begun_of v source)) (made_whole source v.rx)) goes.0 ∙ last_other item.head.kind (bytes_come (begun_of v source)) (made_whole source v.rx))
       (is ∙ ap (λ (x : Item). ended (Some (way_of x.head.kind)) 0 x) whole ∙ ended_other item.head.kind source item ∙ ap (λ w. ended (Some w) source item) (sym goes.0))
+
+-- ---- whether a buffer comes back
+
+module _ (ps : List (ℕ × Want)) (us : List (ℕ × Sign)) (room : ℕ) (seats : Cells Waiting) (parcels : Cells Parcel) (coming : List (Option Begun)) (v : Arriving) (kept : IsKept ps us room seats parcels coming v)
+    (cs : List (ℕ × ℕ)) (m : AreMulti ps cs seats coming v.rx.posted v.rx.closing v.rx.coming v.next v.multis v.most) (source : ℕ) (within : source < length v.begun) where
+  pub last_told : (id : ℕ) → part_in (get_or coming source None) ≡ Some id → is_over (set coming source None) cs id ≡ is_some (last_of source v)
+  last_told id e = by_begun (get_or coming source None) refl
+    where
+      by_way : (b : Begun) → Some b ≡ get_or coming source None → (way : Way) → b.way ≡ way → part_id way ≡ Some id → (item : Item) → begun_of v source ≡ Some item → is_over (set coming source None) cs id ≡ is_some (last_of source v)
+      by_way b is (Into seat) w told item begun = absurd (cc)
+      by_way b is (Part k place bytes) w told item begun =
+          let same : k ≡ id = cc in
+          subst (λ (j : ℕ). is_over (set coming source None) cs j ≡ is_some (last_of source v)) same (closes_part ps us room seats parcels coming v kept cs m source within item begun b is k place bytes w)
+      by_way b is (Keep k bytes) w told item begun = absurd (cc)
+      by_way b is Throw w told item begun = absurd (cc)
+      by_way b is (Gather bytes) w told item begun = absurd (cc)
+
+      by_begun : (o : Option Begun) → get_or coming source None ≡ o → is_over (set coming source None) cs id ≡ is_some (last_of source v)
+      by_begun None none = absurd (let no : None ≡ Some id = sym (ap part_in none) ∙ e in cc)
+      by_begun (Some b) is =
+          let way : IsWay parcels source (Some b) (coming_from v.rx source) (begun_of v source) = subst (λ (o : Option Begun). IsWay parcels source o (coming_from v.rx source) (begun_of v source)) is (kept.ways source) in
+          by_way b (sym is) b.way refl (sym (ap part_in is) ∙ e) way.1 way.3
+
+  pub none_told : part_in (get_or coming source None) ≡ None → is_some (last_of source v) ≡ false
+  none_told e = by_begun (get_or coming source None) refl (kept.ways source)
+    where
+      none_by : (way : Way) (c : Coming) (item : Item) → part_id way ≡ None → GoesBy parcels source way c item → (bytes : List ℕ) (rx : Receiving) → last_by (Some c) bytes rx ≡ None
+      none_by (Into seat) c item told g bytes rx = ap (λ w. last_by (Some w) bytes rx) g.1 ∙ last_single g.0 0 bytes rx g.2.least
+      none_by (Part k place gathered) c item told g bytes rx = absurd (cc)
+      none_by (Keep k gathered) c item told g bytes rx = rw g.0 refl
+      none_by Throw c item told g bytes rx = rw g refl
+      none_by (Gather gathered) c item told g bytes rx = ap (λ w. last_by (Some w) bytes rx) g.0 ∙ last_other item.head.kind bytes rx
+
+      by_begun : (o : Option Begun) → get_or coming source None ≡ o → IsWay parcels source (get_or coming source None) (coming_from v.rx source) (begun_of v source) → is_some (last_of source v) ≡ false
+      by_begun None none w =
+          let way : IsWay parcels source None (coming_from v.rx source) (begun_of v source) = subst (λ (o : Option Begun). IsWay parcels source o (coming_from v.rx source) (begun_of v source)) none w in
+          rw way.0 refl
+      by_begun (Some b) is w =
+          let way : IsWay parcels source (Some b) (coming_from v.rx source) (begun_of v source) = subst (λ (o : Option Begun). IsWay parcels source o (coming_from v.rx source) (begun_of v source)) is w in
+          let none = none_by b.way way.0 way.1 (sym (ap part_in is) ∙ e) way.4.way (bytes_come (begun_of v source)) (made_whole source v.rx) in
+          rw way.2 (ap is_some none)

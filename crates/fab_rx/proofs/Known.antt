@@ -1,6 +1,8 @@
 -- What callers know of the receive half between calls.
-use Rattle.std.proofs.Common.{◌≡◌, ◌≢◌, ℕ, zero, suc, replicate, nat_le, ◌≤◌, Bool, true, false, List, [], ◌∷◌, length, Option, Some, None, get_or, refl, sym, ap, subst, ◌∙◌, arith}
-use Rattle.std.specs.Prelude.{find, is_some, IfSome}
+use Rattle.std.proofs.Common.{◌≡◌, ◌≢◌, ℕ, zero, suc, replicate, nat_le, ◌≤◌, Bool, true, false, List, [], ◌∷◌, ◌++◌, ◌==◌, length, Option, Some, None, get_or, refl, sym, ap, subst, ◌∙◌, arith}
+use Rattle.std.specs.Prelude.{find, is_some, unwrap_or, IfSome}
+use Rattle.std.specs.Option.{option_map}
+use Rattle.std.proofs.lemmas.Bool.{eq-eqb}
 use Rattle.std.specs.List.{AllZip, list_any, AllByRecursion}
 use Rattle.std.proofs.lemmas.List.Elements.{All-from_recursion}
 use Rattle.fab_base.specs.declared.items.Item.{Item}
@@ -23,7 +25,7 @@ use Rattle.fab_rx.specs.declared.stored.Way.TheVariants.{Into, Part, Keep, Throw
 use Rattle.fab_rx.specs.declared.stored.Begun.{Begun}
 use Rattle.fab_rx.specs.Table.{Cells, at}
 use Rattle.fab_base.specs.declared.operations.Coming.TheVariants.{Keep as KeepIt}
-use Rattle.fab_rx.specs.Arriving.{Arriving, GoesToSingle, IsArriving, IsPartly, IsPlain, IsSingle, PartlyIn, begun_of, nothing_arrived}
+use Rattle.fab_rx.specs.Arriving.{Arriving, GoesToSingle, IsArriving, IsNamed, IsPartly, IsPlain, IsSingle, PartlyIn, begun_of, call_in, id_in, nothing_arrived}
 use Rattle.fab_rx.specs.Stored.{AreClaimed, GoesBy, IsClaim, IsKept, IsKeptAs, IsKeptWay, IsWay, Lies, Sits, entries_by, parcel_of, parcel_without}
 use Rattle.fab_rx.specs.Homes.{AreMulti, GoesHome, GoesHomeBy, IsHome, Rests}
 use Rattle.fab_rx.specs.Results.{entries_due}
@@ -59,6 +61,53 @@ module _ (homes : ℕ → Option ℕ) (calls : ℕ → ℕ) (seats : Cells Waiti
   none_closing [] (r ∷ rs) t = absurd t
   none_closing (c ∷ cs) [] t = absurd t
   none_closing (c ∷ cs) (r ∷ rs) t = absurd (let no : Some c.0 ≡ None = sym t.0.home ∙ none r.call in cc)
+
+-- ---- the ids of multi-receives
+
+-- a call that has an id is the last one under it, or another one is
+named_once : (multis : List (ℕ × ℕ)) (id call : ℕ) → id_in multis call ≡ Some id → is_some (call_in multis id) ≡ true
+named_once [] id call e = absurd (cc)
+named_once (p ∷ ps) id call e = by (p.1 == call) refl (p.0 == id) refl (λ rest. named_once ps id call rest)
+  where
+    by : (b : Bool) → (p.1 == call) ≡ b → (d : Bool) → (p.0 == id) ≡ d → (id_in ps call ≡ Some id → is_some (call_in ps id) ≡ true) → is_some (call_in (p ∷ ps) id) ≡ true
+    by b is true here more = rw here refl
+    by true is false other more = absurd (let both : Some p.0 ≡ Some id = rw is at e in let same : p.0 ≡ id = cc in let no : true ≡ false = sym (eq-eqb p.0 id same) ∙ other in cc)
+    by false is false other more = rw other (more (rw is at e))
+
+pub named_by : (multis : List (ℕ × ℕ)) (id call : ℕ) → id_in multis call ≡ Some id → unwrap_or (call_in multis id) 0 ≡ call → call_in multis id ≡ Some call
+named_by multis id call e is = by (call_in multis id) refl
+  where
+    by : (o : Option ℕ) → call_in multis id ≡ o → call_in multis id ≡ Some call
+    by None none = absurd (let no : false ≡ true = sym (ap is_some none) ∙ named_once multis id call e in cc)
+    by (Some k) some = some ∙ ap (λ j. Some j) (sym (ap (λ o. unwrap_or o 0) some) ∙ is)
+
+module _ (ps : List (ℕ × Want)) (cs : List (ℕ × ℕ)) (seats : Cells Waiting) (coming : List (Option Begun)) (posted closing : List Receive) (comes : List (Option Coming)) (next : ℕ) (multis : List (ℕ × ℕ)) (most : ℕ) (m : AreMulti ps cs seats coming posted closing comes next multis most) where
+  pub call_of_home : (id call : ℕ) → m.homes call ≡ Some id → m.calls id ≡ call → call_in multis id ≡ Some call
+  call_of_home id call home is = named_by multis id call (sym (m.ids call) ∙ home) (sym (m.numbers id) ∙ is)
+
+  named_home : (p : ℕ × Want) (r : Receive) → IsHome m.homes m.calls p r → IsNamed multis r
+  named_home p r is some =
+      let home : m.homes r.call ≡ Some p.0 = by r.least refl in
+      (p.0, sym (m.ids r.call) ∙ home, call_of_home p.0 r.call home (is.call some))
+    where
+      by : (o : Option ℕ) → r.least ≡ o → m.homes r.call ≡ Some p.0
+      by None e = absurd (let no : false ≡ true = rw e at some in cc)
+      by (Some least) e = is.home ∙ rw e refl
+
+  named_closing : (xs : List (ℕ × ℕ)) (rs : List Receive) → AllZip (Rests m.homes m.calls seats) xs rs → AllByRecursion (IsNamed multis) rs
+  named_closing [] [] t = tt
+  named_closing [] (r ∷ rs) t = absurd t
+  named_closing (x ∷ xs) [] t = absurd t
+  named_closing (x ∷ xs) (r ∷ rs) t = (λ some. (x.0, sym (m.ids r.call) ∙ t.0.home, call_of_home x.0 r.call t.0.home t.0.call), named_closing xs rs t.1)
+
+  named_all : (xs : List (ℕ × Want)) (rs : List Receive) → AllZip (IsHome m.homes m.calls) xs rs → AllByRecursion (IsNamed multis) (rs ++ closing)
+  named_all [] [] t = named_closing cs closing m.closing_rest
+  named_all [] (r ∷ rs) t = absurd t
+  named_all (x ∷ xs) [] t = absurd t
+  named_all (x ∷ xs) (r ∷ rs) t = (named_home x r t.0, named_all xs rs t.1)
+
+  pub all_named : AllByRecursion (IsNamed multis) (posted ++ closing)
+  all_named = named_all ps posted m.posted_home
 
 same_ways : (ps : Cells Parcel) (s : ℕ) (b : Option Begun) (c : Option Coming) (i : Option Item) → IsWay ps s b c i → is_some c ≡ is_some i
 same_ways ps s None c i w = rw (w.0, w.1) refl
@@ -185,7 +234,7 @@ module _ (ps : List (ℕ × Want)) (us : List (ℕ × Sign)) (room : ℕ) (seats
   pub posted_count : length ps ≡ length v.rx.posted
   posted_count = tied_length (Sits seats) ps v.rx.posted kept.receives
 
-  is_plain : (closing : List (ℕ × ℕ)) → AreMulti ps closing seats coming v.rx.posted v.rx.closing v.rx.coming v.next v.multi v.most → v.multi ≡ false → IsPlain v.rx
+  is_plain : (closing : List (ℕ × ℕ)) → AreMulti ps closing seats coming v.rx.posted v.rx.closing v.rx.coming v.next v.multis v.most → v.multis ≡ [] → IsPlain v.rx
   is_plain closing m alone =
       let none = m.plain alone in
       record {
@@ -195,7 +244,7 @@ module _ (ps : List (ℕ × Want)) (us : List (ℕ × Sign)) (room : ℕ) (seats
         still = none_draws m.homes m.calls seats none v.rx.unexpected ps v.rx.posted m.posted_home;
       }
 
-  pub is_arriving : (cs : List (ℕ × ℕ)) (capacity : ℕ) → AreClaimed us parcels coming cs capacity v.rx.claimed → (closing : List (ℕ × ℕ)) → AreMulti ps closing seats coming v.rx.posted v.rx.closing v.rx.coming v.next v.multi v.most → IsArriving v
+  pub is_arriving : (cs : List (ℕ × ℕ)) (capacity : ℕ) → AreClaimed us parcels coming cs capacity v.rx.claimed → (closing : List (ℕ × ℕ)) → AreMulti ps closing seats coming v.rx.posted v.rx.closing v.rx.coming v.next v.multis v.most → IsArriving v
   is_arriving cs capacity claims closing m = record {
     coming = kept.comings;
     heads = kept.heads;
@@ -204,6 +253,7 @@ module _ (ps : List (ℕ × Want)) (us : List (ℕ × Sign)) (room : ℕ) (seats
     ways = λ s. same_ways parcels s (get_or coming s None) (coming_from v.rx s) (begun_of v s) (kept.ways s);
     within = λ s. bytes_within parcels s (get_or coming s None) (coming_from v.rx s) (begun_of v s) (kept.ways s);
     plain = is_plain closing m;
+    named = All-from_recursion (IsNamed v.multis) (v.rx.posted ++ v.rx.closing) (all_named ps closing seats coming v.rx.posted v.rx.closing v.rx.coming v.next v.multis v.most m);
     partly = All-from_recursion (PartlyIn v) v.rx.unexpected (all_partly parcels coming v kept.ways us v.rx.unexpected kept.messages);
     aside = All-from_recursion (λ k. PartlyIn v k.1) v.rx.claimed (claims_partly parcels coming v kept.ways cs v.rx.claimed claims.messages);
     room = let same = posted_count in let few = kept.few in omega arith;

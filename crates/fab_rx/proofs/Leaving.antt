@@ -16,12 +16,12 @@ use Rattle.fab_rx.specs.declared.stored.Waiting.{Waiting}
 use Rattle.fab_rx.specs.declared.stored.Parcel.{Parcel}
 use Rattle.fab_rx.specs.declared.stored.Begun.{Begun}
 use Rattle.fab_rx.specs.Table.{Cells, at}
-use Rattle.fab_rx.specs.Arriving.{Arriving}
+use Rattle.fab_rx.specs.Arriving.{Arriving, id_in}
 use Rattle.fab_rx.specs.Leaving.{cancelling, is_meant, is_meant_at, may_leave_at}
 use Rattle.fab_rx.specs.Homes.{AreMulti, GoesHome, IsHome, is_fed_by}
 use Rattle.fab_rx.specs.Numbers.{GoesElsewhere, IsNumbered}
 use Rattle.fab_rx.specs.Results.{cancelled}
-use Rattle.fab_rx.specs.Stored.{IsKept, Sits, waiting_of}
+use Rattle.fab_rx.specs.Stored.{IsKept, Sits, multi_of, waiting_of}
 use Rattle.fab_rx.proofs.Tying.{retied, retied_but}
 use Rattle.fab_rx.proofs.Keeping.{at_other, sits_at}
 use Rattle.fab_rx.proofs.Numbering.{elsewhere_by}
@@ -124,7 +124,7 @@ pub idle_agrees : (homes : ℕ → Option ℕ) (calls : ℕ → ℕ) (seats : Ce
 idle_agrees homes calls seats coming rx ctx p r i = rw (meant_alike ctx r (at seats p.0) i.sits.seat, i.fed) refl
 
 module _ (ps : List (ℕ × Want)) (us : List (ℕ × Sign)) (room : ℕ) (seats : Cells Waiting) (parcels : Cells Parcel) (coming : List (Option Begun)) (v : Arriving) (kept : IsKept ps us room seats parcels coming v)
-    (numbers : IsNumbered v.rx.posted v.rx.coming v.next) (cs : List (ℕ × ℕ)) (m : AreMulti ps cs seats coming v.rx.posted v.rx.closing v.rx.coming v.next v.multi v.most) (ctx : Option ℕ) where
+    (numbers : IsNumbered v.rx.posted v.rx.coming v.next) (cs : List (ℕ × ℕ)) (m : AreMulti ps cs seats coming v.rx.posted v.rx.closing v.rx.coming v.next v.multis v.most) (ctx : Option ℕ) where
   abbrev Idle : ℕ × Want → Receive → Type 0
   Idle = IsIdle m.homes m.calls seats coming v.rx
 
@@ -153,11 +153,21 @@ module _ (ps : List (ℕ × Want)) (us : List (ℕ × Sign)) (room : ℕ) (seats
     seat_found none = let no : Some (waiting_of leaves.member) ≡ None = sym leaves.tie.sits.seat ∙ ap (at seats) leaves.is ∙ none in cc
 
     module _ (w : Waiting) (there : Some w ≡ at seats id) where
-      pub cancelled_is : Some (record { ctx = w.seat.ctx; buf = w.seat.buf }) ≡ option_map cancelled (cancellable (is_meant ctx) v.rx)
+      pub cancelled_is : Some (record { id = option_map (λ x. id) w.multi; ctx = w.seat.ctx; buf = w.seat.buf }) ≡ option_map (cancelled v) (cancellable (is_meant ctx) v.rx)
       cancelled_is =
           let both : Some w ≡ Some (waiting_of leaves.member) = there ∙ ap (at seats) (sym leaves.is) ∙ leaves.tie.sits.seat in
           let same : w ≡ waiting_of leaves.member = cc in
-          rw (leaves.found, same) refl
+          rw (leaves.found, same, id_told) refl
+        where
+          r : Receive
+          r = leaves.member
+
+          by : (o : Option ℕ) → r.least ≡ o → id_in v.multis r.call ≡ option_map (λ x. id) (multi_of r)
+          by None e = sym (m.ids r.call) ∙ leaves.tie.home.home ∙ rw e refl
+          by (Some least) e = sym (m.ids r.call) ∙ leaves.tie.home.home ∙ rw e (ap (λ k. Some k) leaves.is)
+
+          id_told : id_in v.multis r.call ≡ option_map (λ x. id) (multi_of r)
+          id_told = by r.least refl
 
     module _ (rest : List (ℕ × Want)) (others : Cells Waiting) (are : rest ≡ without id ps) (gone : has_id id rest ≡ false) (is : others.cells ≡ set seats.cells id None) (more : length others.free ≡ length seats.free + 1) where
       tied : AllZip Idle rest (remove_first (may_leave v.rx (is_meant ctx)) v.rx.posted)
@@ -186,9 +196,9 @@ module _ (ps : List (ℕ × Want)) (us : List (ℕ × Sign)) (room : ℕ) (seats
       unfed : list_any (is_fed_by id) coming ≡ false
       unfed = not_fed ctx seats coming id (passes (may_leave_at ctx seats coming) (map (λ p. p.0) ps) id e)
 
-      pub multi_left : AreMulti rest cs others coming (remove_first (may_leave v.rx (is_meant ctx)) v.rx.posted) v.rx.closing v.rx.coming v.next v.multi v.most
+      pub multi_left : AreMulti rest cs others coming (remove_first (may_leave v.rx (is_meant ctx)) v.rx.posted) v.rx.closing v.rx.coming v.next v.multis v.most
       multi_left =
-          multi_gone ps cs seats coming v.rx.posted v.rx.closing v.rx.coming v.next v.multi v.most m id others is more rest are shorter _ (retied Idle (IsHome m.homes m.calls) rest (remove_first (may_leave v.rx (is_meant ctx)) v.rx.posted) (λ p r i. i.home) tied)
+          multi_gone ps cs seats coming v.rx.posted v.rx.closing v.rx.coming v.next v.multis v.most m id others is more rest are shorter _ (retied Idle (IsHome m.homes m.calls) rest (remove_first (may_leave v.rx (is_meant ctx)) v.rx.posted) (λ p r i. i.home) tied)
           (λ s fed. absurd (let no : true ≡ false = sym (any_at (is_fed_by id) coming s refl fed) ∙ unfed in cc))
 
   -- one is meant exactly where one may leave

@@ -20,4 +20,9 @@ pub mod Ending
 pub mod Plain
 pub mod Leaving
 pub mod Drawing
+pub mod Lent
+pub mod Onces
+pub mod Shutting
+pub mod Giving
+pub mod Draught
 mod Worked

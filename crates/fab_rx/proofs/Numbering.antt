@@ -54,7 +54,7 @@ module _ (test : Receive → Bool) where
       step true is later = let same : Some r ≡ Some q = rw is at e in let equal : r ≡ q = cc in subst (λ (x : Receive). x.call < n) equal b.0
       step false is later = later (rw is at e)
 
-  found_other : (call : ℕ) (rs : List Receive) (q : Receive) → HaveOtherCalls call rs → find test rs ≡ Some q → q.call ≢ call
+  pub found_other : (call : ℕ) (rs : List Receive) (q : Receive) → HaveOtherCalls call rs → find test rs ≡ Some q → q.call ≢ call
   found_other call [] q h e = absurd (cc)
   found_other call (r ∷ rs) q h e = step (test r) refl (λ later. found_other call rs q h.1 later)
     where

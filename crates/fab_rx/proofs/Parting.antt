@@ -113,7 +113,7 @@ not_some (Some x) e = absurd (cc)
 
 -- what contracts see then, with these messages unexpected and these claimed
 abbrev pub gone_by : Coming → Arrival → List Arrival → List (ℕ × Arrival) → ℕ → Arriving → Arriving
-gone_by c a un cl next v = record { rx = record v.rx { coming = turned (λ x. Some c) a.bytes a.source v.rx.coming; unexpected = un; claimed = cl }; begun = v.begun; most = v.most; next = next; multi = v.multi }
+gone_by c a un cl next v = record { rx = record v.rx { coming = turned (λ x. Some c) a.bytes a.source v.rx.coming; unexpected = un; claimed = cl }; begun = v.begun; most = v.most; next = next; multis = v.multis }
 
 module _ (ps : List (ℕ × Want)) (us : List (ℕ × Sign)) (room : ℕ) (seats : Cells Waiting) (parcels : Cells Parcel) (coming : List (Option Begun)) (v : Arriving) (kept : IsKept ps us room seats parcels coming v)
     (id : ℕ) (a : Arrival) (there : at parcels id ≡ Some (parcel_of a)) (partly : a.bytes ≡ None → IsKeptAs id (get_or coming a.source None)) (others : Cells Parcel) (is : others.cells ≡ set parcels.cells id None)
@@ -256,21 +256,21 @@ module _ (ps : List (ℕ × Want)) (us : List (ℕ × Sign)) (room : ℕ) (seats
 -- ---- what the calls make of it
 
 pub posting_is : (v : Arriving) (r : Receive) (a : Arrival) → find (takes r.want) v.rx.unexpected ≡ Some a → posting r v ≡ gone_by (IntoReceive r 0) a (remove_first (takes r.want) v.rx.unexpected) v.rx.claimed (r.call + 1) v
-posting_is v r a found = rw found (ap (λ (rx : Receiving). record { rx = rx; begun = v.begun; most = v.most; next = r.call + 1; multi = v.multi }) (given_turned a.bytes a.source r (without_first r.want v.rx)))
+posting_is v r a found = rw found (ap (λ (rx : Receiving). record { rx = rx; begun = v.begun; most = v.most; next = r.call + 1; multis = v.multis }) (given_turned a.bytes a.source r (without_first r.want v.rx)))
 
 pub discarding_is : (v : Arriving) (want : Want) (a : Arrival) → find (takes want) v.rx.unexpected ≡ Some a → discarding want v ≡ gone_by ThrowIt a (remove_first (takes want) v.rx.unexpected) v.rx.claimed v.next v
-discarding_is v want a found = rw found (ap (λ (rx : Receiving). record { rx = rx; begun = v.begun; most = v.most; next = v.next; multi = v.multi }) (thrown_turned a.bytes a.source (without_first want v.rx)))
+discarding_is v want a found = rw found (ap (λ (rx : Receiving). record { rx = rx; begun = v.begun; most = v.most; next = v.next; multis = v.multis }) (thrown_turned a.bytes a.source (without_first want v.rx)))
 
 pub taking_is : (v : Arriving) (r : Receive) (k : ℕ × Arrival) → find (λ k. k.0 == r.ctx) v.rx.claimed ≡ Some k → taking r v ≡ gone_by (IntoReceive r 0) k.1 v.rx.unexpected (remove_first (λ k. k.0 == r.ctx) v.rx.claimed) (r.call + 1) v
-taking_is v r k found = rw found (ap (λ (rx : Receiving). record { rx = rx; begun = v.begun; most = v.most; next = r.call + 1; multi = v.multi }) (given_turned k.1.bytes k.1.source r (without_claim r.ctx v.rx)))
+taking_is v r k found = rw found (ap (λ (rx : Receiving). record { rx = rx; begun = v.begun; most = v.most; next = r.call + 1; multis = v.multis }) (given_turned k.1.bytes k.1.source r (without_claim r.ctx v.rx)))
 
 pub dropping_is : (v : Arriving) (ctx : ℕ) (k : ℕ × Arrival) → find (λ k. k.0 == ctx) v.rx.claimed ≡ Some k → dropping ctx v ≡ gone_by ThrowIt k.1 v.rx.unexpected (remove_first (λ k. k.0 == ctx) v.rx.claimed) v.next v
-dropping_is v ctx k found = rw found (ap (λ (rx : Receiving). record { rx = rx; begun = v.begun; most = v.most; next = v.next; multi = v.multi }) (thrown_turned k.1.bytes k.1.source (without_claim ctx v.rx)))
+dropping_is v ctx k found = rw found (ap (λ (rx : Receiving). record { rx = rx; begun = v.begun; most = v.most; next = v.next; multis = v.multis }) (thrown_turned k.1.bytes k.1.source (without_claim ctx v.rx)))
 
 -- ---- an unexpected message is claimed: its bytes stay where they are
 
 abbrev pub set_aside : List Arrival → List (ℕ × Arrival) → Arriving → Arriving
-set_aside un cl v = record { rx = record v.rx { unexpected = un; claimed = cl }; begun = v.begun; most = v.most; next = v.next; multi = v.multi }
+set_aside un cl v = record { rx = record v.rx { unexpected = un; claimed = cl }; begun = v.begun; most = v.most; next = v.next; multis = v.multis }
 
 pub claiming_is : (v : Arriving) (want : Want) (ctx : ℕ) (a : Arrival) → find (takes want) v.rx.unexpected ≡ Some a → claiming_first want ctx v ≡ set_aside (remove_first (takes want) v.rx.unexpected) (v.rx.claimed ++ (ctx, a) ∷ []) v
 claiming_is v want ctx a found = rw found refl

@@ -1,5 +1,5 @@
 -- What is stored stays true as receives are posted.
-use Rattle.std.proofs.Common.{◌≡◌, ◌≢◌, ℕ, ◌<◌, Bool, false, List, [], ◌∷◌, ◌++◌, length, Option, Some, None, set, refl, sym, ◌∙◌, arith, length-append}
+use Rattle.std.proofs.Common.{◌≡◌, ◌≢◌, ℕ, ◌<◌, false, List, [], ◌∷◌, ◌++◌, length, Option, Some, None, set, refl, sym, ◌∙◌, arith, length-append}
 use Rattle.fab_base.specs.declared.items.Want.{Want}
 use Rattle.fab_base.specs.declared.items.Sign.{Sign}
 use Rattle.fab_base.specs.declared.operations.Receive.{Receive}
@@ -15,8 +15,8 @@ use Rattle.fab_rx.proofs.Tying.{tied_length, tied_push, retied, tied_fresh}
 use Rattle.fab_rx.proofs.Keeping.{apart, at_other, at_same, sits_at}
 
 -- a receive is posted
-abbrev pub joined_by : Receive → ℕ → Bool → Arriving → Arriving
-joined_by r next multi v = record { rx = joining_posted r v.rx; begun = v.begun; most = v.most; next = next; multi = multi }
+abbrev pub joined_by : Receive → ℕ → List (ℕ × ℕ) → Arriving → Arriving
+joined_by r next multis v = record { rx = joining_posted r v.rx; begun = v.begun; most = v.most; next = next; multis = multis }
 
 module _ (ps : List (ℕ × Want)) (us : List (ℕ × Sign)) (room : ℕ) (seats : Cells Waiting) (parcels : Cells Parcel) (coming : List (Option Begun)) (v : Arriving) (kept : IsKept ps us room seats parcels coming v) (id : ℕ) (empty : at seats id ≡ None) where
   pub other_seats : (p : ℕ × Want) (r : Receive) → Sits seats p r → p.0 ≢ id
@@ -26,8 +26,8 @@ module _ (ps : List (ℕ × Want)) (us : List (ℕ × Sign)) (room : ℕ) (seats
   fresh_seat = tied_fresh (Sits seats) id ps v.rx.posted other_seats kept.receives
 
   module _ (r : Receive) (fit : IsFit r) (less : length v.rx.posted < v.most) (others : Cells Waiting) (within : id < length seats.cells) (is : others.cells ≡ set seats.cells id (Some (waiting_of r))) where
-    pub joins : (next : ℕ) (multi : Bool) → IsKept (ps ++ (id, r.want) ∷ []) us room others parcels coming (joined_by r next multi v)
-    joins next multi = record {
+    pub joins : (next : ℕ) (multis : List (ℕ × ℕ)) → IsKept (ps ++ (id, r.want) ∷ []) us room others parcels coming (joined_by r next multis v)
+    joins next multis = record {
       receives =
           tied_push (Sits others) ps v.rx.posted (id, r.want) r
           (retied (Sits seats) (Sits others) ps v.rx.posted (λ p q s. sits_at seats others p q (at_other seats others id (Some (waiting_of r)) is p.0 (other_seats p q s)) s) kept.receives)

@@ -1,6 +1,6 @@
 -- What is known of multi-receives stays true, whatever happens.
 use Rattle.std.proofs.Common.{◌≡◌, ◌≢◌, ◌⊎◌, inl, inr, ℕ, zero, suc, ◌+◌, ◌<◌, ◌≤◌, ◌==◌, Bool, true, false, ◌||◌, List, [], ◌∷◌, ◌++◌, length, Option, Some, None, get_or, set, refl, sym, ap, subst, ◌∙◌, arith, length-append, length-set}
-use Rattle.std.specs.Prelude.{is_some}
+use Rattle.std.specs.Prelude.{is_some, unwrap_or}
 use Rattle.std.specs.Option.{option_map}
 use Rattle.std.specs.List.{AllZip, AllByRecursion, list_any}
 use Rattle.std.proofs.lemmas.Bool.{eqb-true, eq-eqb, ne_eqb}
@@ -21,6 +21,7 @@ use Rattle.fab_rx.specs.declared.stored.Way.TheVariants.{Into, Part, Keep, Throw
 use Rattle.fab_rx.specs.declared.stored.Begun.{Begun}
 use Rattle.fab_rx.specs.Table.{Cells, at}
 use Rattle.fab_rx.specs.Stored.{IsKeptAs, IsKeptWay, Sits, turned, waiting_of}
+use Rattle.fab_rx.specs.Arriving.{call_in, id_in}
 use Rattle.fab_rx.specs.Numbers.{AreBelow, GoesElsewhere, IsNumbered}
 use Rattle.fab_rx.specs.Leaving.{is_meant_at, may_leave_at}
 use Rattle.fab_model.proofs.Firsts.{remove_first-none}
@@ -192,7 +193,7 @@ has_without {X} id xs rest are shorter = by (has_id id xs) refl
 
 -- ---- what each step makes of it
 
-module _ (ps : List (ℕ × Want)) (cs : List (ℕ × ℕ)) (seats : Cells Waiting) (coming : List (Option Begun)) (posted closing : List Receive) (comes : List (Option Coming)) (next : ℕ) (multi : Bool) (most : ℕ) (m : AreMulti ps cs seats coming posted closing comes next multi most) where
+module _ (ps : List (ℕ × Want)) (cs : List (ℕ × ℕ)) (seats : Cells Waiting) (coming : List (Option Begun)) (posted closing : List Receive) (comes : List (Option Coming)) (next : ℕ) (multis : List (ℕ × ℕ)) (most : ℕ) (m : AreMulti ps cs seats coming posted closing comes next multis most) where
   -- something else comes of a source
   module _ (s : ℕ) (b : Option Begun) (c : Option Coming) (below : s < length coming) (long : length comes ≡ length coming) (new : GoesHome m.homes m.calls seats b c) (stays : (id : ℕ) → is_fed_by id (get_or coming s None) ≡ true → is_fed_by id b ≡ true) where
     pub ways_change : (t : ℕ) → GoesHome m.homes m.calls seats (get_or (set coming s b) t None) (get_or (set comes s c) t None)
@@ -202,7 +203,7 @@ module _ (ps : List (ℕ × Want)) (cs : List (ℕ × ℕ)) (seats : Cells Waiti
         by_source (inl same) = rw (same, get_or-set_same coming s b None below, get_or-set_same comes s c None (omega arith)) new
         by_source (inr other) = rw (get_or-set_other coming s t b None other, get_or-set_other comes s t c None other) (m.ways t)
 
-    pub multi_change : (later : ℕ) → next ≤ later → AreMulti ps cs seats (set coming s b) posted closing (set comes s c) later multi most
+    pub multi_change : (later : ℕ) → next ≤ later → AreMulti ps cs seats (set coming s b) posted closing (set comes s c) later multis most
     multi_change later le = record {
       homes = m.homes;
       calls = m.calls;
@@ -214,10 +215,13 @@ module _ (ps : List (ℕ × Want)) (cs : List (ℕ × ℕ)) (seats : Cells Waiti
       live = all_set coming s b cs stays m.live;
       fresh = λ call above. m.fresh call (omega arith);
       plain = m.plain;
+      ids = m.ids;
+      numbers = m.numbers;
+      back = m.back;
       spare = rw length-set m.spare;
     }
 
-  pub multi_later : (later : ℕ) → next ≤ later → AreMulti ps cs seats coming posted closing comes later multi most
+  pub multi_later : (later : ℕ) → next ≤ later → AreMulti ps cs seats coming posted closing comes later multis most
   multi_later later le = record {
     homes = m.homes;
     calls = m.calls;
@@ -229,6 +233,9 @@ module _ (ps : List (ℕ × Want)) (cs : List (ℕ × ℕ)) (seats : Cells Waiti
     live = m.live;
     fresh = λ call above. m.fresh call (omega arith);
     plain = m.plain;
+    ids = m.ids;
+    numbers = m.numbers;
+    back = m.back;
     spare = m.spare;
   }
 
@@ -241,7 +248,7 @@ module _ (ps : List (ℕ × Want)) (cs : List (ℕ × ℕ)) (seats : Cells Waiti
     pub same_else : (k : ℕ) → k ≢ id → at others k ≡ at seats k
     same_else k other = at_other seats others id None is k other
 
-    abbrev pub multi_gone : AreMulti rest cs others coming after closing comes next multi most
+    abbrev pub multi_gone : AreMulti rest cs others coming after closing comes next multis most
     multi_gone = record {
       homes = m.homes;
       calls = m.calls;
@@ -253,6 +260,9 @@ module _ (ps : List (ℕ × Want)) (cs : List (ℕ × ℕ)) (seats : Cells Waiti
       live = m.live;
       fresh = m.fresh;
       plain = m.plain;
+      ids = m.ids;
+      numbers = m.numbers;
+      back = m.back;
       spare = let spare = m.spare in omega arith;
     }
 
@@ -267,7 +277,7 @@ module _ (ps : List (ℕ × Want)) (cs : List (ℕ × ℕ)) (seats : Cells Waiti
     unclosed : has_id id cs ≡ false
     unclosed = tied_fresh (Rests m.homes m.calls seats) id cs closing (λ c q t. occupied c.0 (waiting_of q) t.seat) m.closing_rest
 
-    pub multi_join : r.least ≡ None → next ≤ r.call → AreMulti (ps ++ (id, want) ∷ []) cs others coming (posted ++ r ∷ []) closing comes (r.call + 1) multi most
+    pub multi_join : r.least ≡ None → next ≤ r.call → AreMulti (ps ++ (id, want) ∷ []) cs others coming (posted ++ r ∷ []) closing comes (r.call + 1) multis most
     multi_join single above = record {
       homes = m.homes;
       calls = m.calls;
@@ -279,6 +289,9 @@ module _ (ps : List (ℕ × Want)) (cs : List (ℕ × ℕ)) (seats : Cells Waiti
       live = m.live;
       fresh = λ call later. m.fresh call (omega arith);
       plain = m.plain;
+      ids = m.ids;
+      numbers = m.numbers;
+      back = m.back;
       spare = let spare = m.spare in let long = length-append ps ((id, want) ∷ []) in omega arith;
     }
 
@@ -289,6 +302,33 @@ module _ (ps : List (ℕ × Want)) (cs : List (ℕ × ℕ)) (seats : Cells Waiti
 
       abbrev calls_then : ℕ → ℕ
       calls_then k = elim (k == id) [ true ↦ r.call | false ↦ m.calls k ]
+
+      ids_then : (call : ℕ) → homes_then call ≡ id_in ((id, r.call) ∷ multis) call
+      ids_then call = by (call == r.call) refl
+        where
+          by : (b : Bool) → (call == r.call) ≡ b → homes_then call ≡ id_in ((id, r.call) ∷ multis) call
+          by true e = rw (e, eq-eqb r.call call (sym (eqb-true call r.call e)), homes_then) refl
+          by false e = rw (e, ne_eqb r.call call (λ same. eqb-false call r.call e (sym same)), homes_then) (m.ids call)
+
+      numbers_then : (k : ℕ) → calls_then k ≡ unwrap_or (call_in ((id, r.call) ∷ multis) k) 0
+      numbers_then k = by (k == id) refl
+        where
+          by : (b : Bool) → (k == id) ≡ b → calls_then k ≡ unwrap_or (call_in ((id, r.call) ∷ multis) k) 0
+          by true e = rw (e, eq-eqb id k (sym (eqb-true k id e)), calls_then) refl
+          by false e = rw (e, ne_eqb id k (λ same. eqb-false k id e (sym same)), calls_then) (m.numbers k)
+
+      -- the number of its call is new
+      back_then : (k call : ℕ) → call_in ((id, r.call) ∷ multis) k ≡ Some call → id_in ((id, r.call) ∷ multis) call ≡ Some k
+      back_then k call last = by (id == k) refl
+        where
+          by : (b : Bool) → (id == k) ≡ b → id_in ((id, r.call) ∷ multis) call ≡ Some k
+          by true e =
+              let both : Some r.call ≡ Some call = rw e at last in
+              let same : r.call ≡ call = cc in
+              rw (eq-eqb r.call call same) (ap (λ j. Some j) (eqb-true id k e))
+          by false e =
+              let known : id_in multis call ≡ Some k = m.back k call (rw e at last) in
+              rw (ne_eqb r.call call (λ same. (let no : Some k ≡ None = sym known ∙ sym (m.ids call) ∙ ap m.homes (sym same) ∙ m.fresh r.call above in absurd (cc)))) known
 
       homes_else : (call : ℕ) → call ≢ r.call → homes_then call ≡ m.homes call
       homes_else call other = rw (ne_eqb call r.call other, homes_then) refl
@@ -328,7 +368,7 @@ module _ (ps : List (ℕ × Want)) (cs : List (ℕ × ℕ)) (seats : Cells Waiti
       home_then None c e g = g
       home_then (Some b) c e g = way_then b.way c e g
 
-      pub multi_opened : AreMulti (ps ++ (id, want) ∷ []) cs others coming (posted ++ r ∷ []) closing comes (r.call + 1) true most
+      pub multi_opened : AreMulti (ps ++ (id, want) ∷ []) cs others coming (posted ++ r ∷ []) closing comes (r.call + 1) ((id, r.call) ∷ multis) most
       multi_opened = record {
         homes = homes_then;
         calls = calls_then;
@@ -343,21 +383,24 @@ module _ (ps : List (ℕ × Want)) (cs : List (ℕ × ℕ)) (seats : Cells Waiti
         live = m.live;
         fresh = λ call later. homes_else call (λ same. absurd (omega arith)) ∙ m.fresh call (omega arith);
         plain = λ alone. absurd (cc);
+        ids = ids_then;
+        numbers = numbers_then;
+        back = back_then;
         spare = let spare = m.spare in let long = length-append ps ((id, want) ∷ []) in omega arith;
       }
 
   -- what still comes of a message goes elsewhere
-  module _ (id : ℕ) (a : Arrival) (partly : a.bytes ≡ None → IsKeptAs id (get_or coming a.source None)) (long : length comes ≡ length coming) (turn : Begun → Begun) (c : Coming) (home : (b : Begun) → GoesHomeBy m.homes m.calls seats (turn b).way (Some c)) (later : ℕ) (le : next ≤ later) where
-    multi_by : (o : Option (List ℕ)) → a.bytes ≡ o → AreMulti ps cs seats (turned (option_map turn) o a.source coming) posted closing (turned (λ x. Some c) o a.source comes) later multi most
+  module _ (id : ℕ) (a : Arrival) (partly : a.bytes ≡ None → IsKeptAs id (get_or coming a.source None)) (long : length comes ≡ length coming) (turn : Begun → Begun) (c : Coming) (home : (b : Begun) → IsKeptWay id b.way → GoesHomeBy m.homes m.calls seats (turn b).way (Some c)) (later : ℕ) (le : next ≤ later) where
+    multi_by : (o : Option (List ℕ)) → a.bytes ≡ o → AreMulti ps cs seats (turned (option_map turn) o a.source coming) posted closing (turned (λ x. Some c) o a.source comes) later multis most
     multi_by (Some bytes) whole = multi_later later le
     multi_by None none =
         let k = stored_where_kept (get_or coming a.source None) id (partly none) in
         multi_change a.source (option_map turn (get_or coming a.source None)) (Some c) (id_within coming a.source k.0 k.1) long
-        (subst (λ (o : Option Begun). GoesHome m.homes m.calls seats (option_map turn o) (Some c)) (sym k.1) (home k.0))
+        (subst (λ (o : Option Begun). GoesHome m.homes m.calls seats (option_map turn o) (Some c)) (sym k.1) (home k.0 k.2))
         (λ j fed. absurd (kept_unfed j id k.0.way k.2 (subst (λ (o : Option Begun). is_fed_by j o ≡ true) k.1 fed))) later le
 
-    pub multi_turned : AreMulti ps cs seats (turned (option_map turn) a.bytes a.source coming) posted closing (turned (λ x. Some c) a.bytes a.source comes) later multi most
+    pub multi_turned : AreMulti ps cs seats (turned (option_map turn) a.bytes a.source coming) posted closing (turned (λ x. Some c) a.bytes a.source comes) later multis most
     multi_turned = multi_by a.bytes refl
 
-    pub multi_moved : (now : List (Option Begun)) → now ≡ turned (option_map turn) a.bytes a.source coming → AreMulti ps cs seats now posted closing (turned (λ x. Some c) a.bytes a.source comes) later multi most
+    pub multi_moved : (now : List (Option Begun)) → now ≡ turned (option_map turn) a.bytes a.source coming → AreMulti ps cs seats now posted closing (turned (λ x. Some c) a.bytes a.source comes) later multis most
     multi_moved now is = rw is multi_turned

@@ -59,7 +59,7 @@ usable_of r fit = by r.least refl
 
 -- ---- what it gives away
 
-least_some : (r : Receive) (q : Multi) → multi_of r ≡ Some q → (least : ℕ) × (r.least ≡ Some least) × (q.used ≡ r.used)
+pub least_some : (r : Receive) (q : Multi) → multi_of r ≡ Some q → (least : ℕ) × (r.least ≡ Some least) × (q.used ≡ r.used)
 least_some r q is = by r.least refl
   where
     by : (o : Option ℕ) → r.least ≡ o → (least : ℕ) × (r.least ≡ Some least) × (q.used ≡ r.used)
@@ -84,36 +84,36 @@ fit_used total r multi fit = record {
 }
 
 -- it stays posted where it is not spent
-stays_by : (total : ℕ) (r : Receive) (least : ℕ) → r.least ≡ Some least → stays total r ≡ not (is_spent (used_up_by total (waiting_of r)))
+pub stays_by : (total : ℕ) (r : Receive) (least : ℕ) → r.least ≡ Some least → stays total r ≡ not (is_spent (used_up_by total (waiting_of r)))
 stays_by total r least e = rw (e, stays) refl
 
-left_none : (total : ℕ) (w : Waiting) → left_by total (Some w) ≡ None → is_spent (used_up_by total w) ≡ false
+pub left_none : (total : ℕ) (w : Waiting) → left_by total (Some w) ≡ None → is_spent (used_up_by total w) ≡ false
 left_none total w e = by (is_spent (used_up_by total w)) refl
   where
     by : (b : Bool) → is_spent (used_up_by total w) ≡ b → is_spent (used_up_by total w) ≡ false
     by false is = is
     by true is = absurd (let no : Some w.seat.ctx ≡ None = rw (is, left_by) at e in cc)
 
-left_some : (total : ℕ) (w : Waiting) (ctx : ℕ) → left_by total (Some w) ≡ Some ctx → (is_spent (used_up_by total w) ≡ true) × (ctx ≡ w.seat.ctx)
+pub left_some : (total : ℕ) (w : Waiting) (ctx : ℕ) → left_by total (Some w) ≡ Some ctx → (is_spent (used_up_by total w) ≡ true) × (ctx ≡ w.seat.ctx)
 left_some total w ctx e = by (is_spent (used_up_by total w)) refl
   where
     by : (b : Bool) → is_spent (used_up_by total w) ≡ b → (is_spent (used_up_by total w) ≡ true) × (ctx ≡ w.seat.ctx)
     by true is = (is, let both : Some w.seat.ctx ≡ Some ctx = rw (is, left_by) at e in let same : w.seat.ctx ≡ ctx = cc in sym same)
     by false is = absurd (let no : None ≡ Some ctx = rw (is, left_by) at e in cc)
 
-seated_on : (test : Receive → Bool) (total : ℕ) (r : Receive) (posted : List Receive) → stays total r ≡ true → seated_after test total r posted ≡ change_first test (used_up total) posted
+pub seated_on : (test : Receive → Bool) (total : ℕ) (r : Receive) (posted : List Receive) → stays total r ≡ true → seated_after test total r posted ≡ change_first test (used_up total) posted
 seated_on test total r posted e = rw (e, seated_after) refl
 
-seated_off : (test : Receive → Bool) (total : ℕ) (r : Receive) (posted : List Receive) → stays total r ≡ false → seated_after test total r posted ≡ remove_first test posted
+pub seated_off : (test : Receive → Bool) (total : ℕ) (r : Receive) (posted : List Receive) → stays total r ≡ false → seated_after test total r posted ≡ remove_first test posted
 seated_off test total r posted e = rw (e, seated_after) refl
 
 shut_some : (total : ℕ) (r : Receive) (least : ℕ) → r.least ≡ Some least → shut total r ≡ elim (stays total r) [ true ↦ [] | false ↦ used_up total r ∷ [] ]
 shut_some total r least some = subst (λ (x : Receive). shut total x ≡ elim (stays total x) [ true ↦ [] | false ↦ used_up total x ∷ [] ]) (λ i. record r { least = sym some i }) refl
 
-shut_on : (total : ℕ) (r : Receive) (least : ℕ) → r.least ≡ Some least → stays total r ≡ true → shut total r ≡ []
+pub shut_on : (total : ℕ) (r : Receive) (least : ℕ) → r.least ≡ Some least → stays total r ≡ true → shut total r ≡ []
 shut_on total r least some e = shut_some total r least some ∙ ap (λ b. elim b [ true ↦ [] | false ↦ used_up total r ∷ [] ]) e
 
-shut_off : (total : ℕ) (r : Receive) (least : ℕ) → r.least ≡ Some least → stays total r ≡ false → shut total r ≡ used_up total r ∷ []
+pub shut_off : (total : ℕ) (r : Receive) (least : ℕ) → r.least ≡ Some least → stays total r ≡ false → shut total r ≡ used_up total r ∷ []
 shut_off total r least some e = shut_some total r least some ∙ ap (λ b. elim b [ true ↦ [] | false ↦ used_up total r ∷ [] ]) e
 
 module _ (ps : List (ℕ × Want)) (us : List (ℕ × Sign)) (room : ℕ) (seats : Cells Waiting) (parcels : Cells Parcel) (coming : List (Option Begun)) (v : Arriving) (kept : IsKept ps us room seats parcels coming v) where
@@ -124,11 +124,11 @@ module _ (ps : List (ℕ × Want)) (us : List (ℕ × Sign)) (room : ℕ) (seats
         let there : at seats id ≡ Some (waiting_of t.member) = ap (at seats) (sym t.is) ∙ t.tie.seat in
         rw there (usable_of t.member t.tie.fit)
 
-  pub room_to_close : (cs : List (ℕ × ℕ)) → AreMulti ps cs seats coming v.rx.posted v.rx.closing v.rx.coming v.next v.multi v.most → (source : ℕ) → source < length v.begun → begun_of v source ≡ None → length cs < length coming
+  pub room_to_close : (cs : List (ℕ × ℕ)) → AreMulti ps cs seats coming v.rx.posted v.rx.closing v.rx.coming v.next v.multis v.most → (source : ℕ) → source < length v.begun → begun_of v source ≡ None → length cs < length coming
   room_to_close cs m source within nothing =
       fewer_closing ps us room seats parcels coming v kept cs m source (row ps us room seats parcels coming v kept source within) (none_stored parcels source (get_or coming source None) (coming_from v.rx source) (begun_of v source) nothing (kept.ways source)).0
 
-  module _ (cs : List (ℕ × ℕ)) (m : AreMulti ps cs seats coming v.rx.posted v.rx.closing v.rx.coming v.next v.multi v.most) (source : ℕ) (head : ItemHead) (within : source < length v.begun) (nothing : begun_of v source ≡ None) (message : is_message head.kind ≡ true)
+  module _ (cs : List (ℕ × ℕ)) (m : AreMulti ps cs seats coming v.rx.posted v.rx.closing v.rx.coming v.next v.multis v.most) (source : ℕ) (head : ItemHead) (within : source < length v.begun) (nothing : begun_of v source ≡ None) (message : is_message head.kind ≡ true)
       (sign : Sign) (agree : (want : Want) → fits want sign ≡ matches want source head) (id : ℕ) (e : first_id (λ want. fits want sign) ps ≡ Some id) (q : Multi) (shared : multi_at seats id ≡ Some q) (others : Cells Waiting)
       (is : others.cells ≡ set seats.cells id (option_map (used_up_by head.total) (at seats id))) (free : others.free ≡ seats.free) (bytes : Vec ℕ Global) (none : bytes.items ≡ []) (fits_in : head.total ≤ vec_capacity bytes) where
     abbrev t : IsTaken (Both ps us room seats parcels coming v kept cs m source head within nothing message sign agree) (λ want. fits want sign) (is_wanted source head) (both_agree ps us room seats parcels coming v kept cs m source head within nothing message sign agree) id ps v.rx.posted
@@ -211,7 +211,7 @@ module _ (ps : List (ℕ × Want)) (us : List (ℕ × Sign)) (room : ℕ) (seats
       begun = set v.begun source (Some (bare head));
       most = v.most;
       next = v.next;
-      multi = v.multi;
+      multis = v.multis;
     }
 
     kept_headed : (xs : List (ℕ × Want)) (posted closing : List Receive) → AllZip (Sits others) xs posted → length xs ≤ v.most → IsKept xs us room others parcels (set coming source (Some part)) (headed_by posted closing)
@@ -260,8 +260,8 @@ module _ (ps : List (ℕ × Want)) (us : List (ℕ × Sign)) (room : ℕ) (seats
       pub kept_on : IsKept ps us room others parcels (set coming source (Some part)) (arriving source head v)
       kept_on = rw arriving_on (kept_headed ps (change_first test (used_up head.total) v.rx.posted) v.rx.closing seats_on kept.few)
 
-      pub multi_on : AreMulti ps cs others (set coming source (Some part)) (arriving source head v).rx.posted (arriving source head v).rx.closing (arriving source head v).rx.coming v.next v.multi v.most
-      multi_on = subst (λ (x : Arriving). AreMulti ps cs others (set coming source (Some part)) x.rx.posted x.rx.closing x.rx.coming v.next v.multi v.most) (sym arriving_on) (record {
+      pub multi_on : AreMulti ps cs others (set coming source (Some part)) (arriving source head v).rx.posted (arriving source head v).rx.closing (arriving source head v).rx.coming v.next v.multis v.most
+      multi_on = subst (λ (x : Arriving). AreMulti ps cs others (set coming source (Some part)) x.rx.posted x.rx.closing x.rx.coming v.next v.multis v.most) (sym arriving_on) (record {
         homes = m.homes;
         calls = m.calls;
         posted_home = kept_changed (IsHome m.homes m.calls) test (used_up head.total) ps v.rx.posted (λ p y h. record { home = h.home; call = h.call }) m.posted_home;
@@ -272,6 +272,9 @@ module _ (ps : List (ℕ × Want)) (us : List (ℕ × Sign)) (room : ℕ) (seats
         live = all_set coming source (Some part) cs fed_still m.live;
         fresh = m.fresh;
         plain = m.plain;
+        ids = m.ids;
+        numbers = m.numbers;
+        back = m.back;
         spare = let spare = m.spare in let same = ap length free in let count = length-set coming source (Some part) in omega arith;
       })
 
@@ -303,8 +306,8 @@ module _ (ps : List (ℕ × Want)) (us : List (ℕ × Sign)) (room : ℕ) (seats
           (retied_but (Both ps us room seats parcels coming v kept cs m source head within nothing message sign agree) (Sits others) id rest (remove_first test v.rx.posted) (λ p y other b. sits_at seats others p y (same_else p.0 other) b.0) gone tied)
           (let few = kept.few in let shorter = shorter in omega arith))
 
-      pub multi_off : AreMulti rest (cs ++ (id, ctx) ∷ []) others (set coming source (Some part)) (arriving source head v).rx.posted (arriving source head v).rx.closing (arriving source head v).rx.coming v.next v.multi v.most
-      multi_off = subst (λ (x : Arriving). AreMulti rest (cs ++ (id, ctx) ∷ []) others (set coming source (Some part)) x.rx.posted x.rx.closing x.rx.coming v.next v.multi v.most) (sym arriving_off) (record {
+      pub multi_off : AreMulti rest (cs ++ (id, ctx) ∷ []) others (set coming source (Some part)) (arriving source head v).rx.posted (arriving source head v).rx.closing (arriving source head v).rx.coming v.next v.multis v.most
+      multi_off = subst (λ (x : Arriving). AreMulti rest (cs ++ (id, ctx) ∷ []) others (set coming source (Some part)) x.rx.posted x.rx.closing x.rx.coming v.next v.multis v.most) (sym arriving_off) (record {
         homes = m.homes;
         calls = m.calls;
         posted_home = retied (Both ps us room seats parcels coming v kept cs m source head within nothing message sign agree) (IsHome m.homes m.calls) rest (remove_first test v.rx.posted) (λ p y b. b.1) tied;
@@ -319,6 +322,9 @@ module _ (ps : List (ℕ × Want)) (us : List (ℕ × Sign)) (room : ℕ) (seats
             (any_at (is_fed_by id) (set coming source (Some part)) source refl (ap (is_fed_by id) (get_or-set_same coming source (Some part) None (row ps us room seats parcels coming v kept source within)) ∙ eq-eqb id id refl));
         fresh = m.fresh;
         plain = m.plain;
+        ids = m.ids;
+        numbers = m.numbers;
+        back = m.back;
         spare = let spare = m.spare in let same = ap length free in let count = length-set coming source (Some part) in let longer = length-append cs ((id, ctx) ∷ []) in let shorter = shorter in omega arith;
       })
 

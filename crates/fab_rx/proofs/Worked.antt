@@ -58,7 +58,7 @@ cancelled = refl
 
 -- one of four bytes, which stays posted while so many are free
 abbrev many : ℕ → Arriving
-many least = opening (multi_by (Some 0) (record { tagged = false; tag = 0; ignore = 0; source = None }) (9 ∷ 9 ∷ 9 ∷ 9 ∷ []) least 7) (nothing_arrived 2 2)
+many least = opening 0 (multi_by (Some 0) (record { tagged = false; tag = 0; ignore = 0; source = None }) (9 ∷ 9 ∷ 9 ∷ 9 ∷ []) least 7) (nothing_arrived 2 2)
 
 -- the same receive with these bytes in its buffer, the first two of which are given away
 abbrev given : ℕ → List ℕ → Receive

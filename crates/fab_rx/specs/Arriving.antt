@@ -3,10 +3,12 @@
 --     arriving, growing, finishing   what the first frame of an item does, more of its bytes, and their end
 --     posting                        what a receive call does (fi_msg(3), fi_tagged(3))
 --     opening                        what the call of a multi-receive does (FI_MULTI_RECV of fi_msg(3))
+--     call_in, id_in                 the ids of multi-receives
+--     open_under id v                the multi-receive under the id
 --     with_receiving                 where the machine's part alone changes, as where a receive is cancelled
 --     IsArriving                     what holds between calls
 --     IsPlain                        what holds besides where no multi-receive was posted
-use Rattle.std.specs.Prelude.{◌≡◌, ℕ, ◌+◌, ◌<◌, ◌≤◌, Bool, true, false, List, [], ◌++◌, length, Option, Some, None, is_some, find, replicate, slice_index, slice_index_or, slice_set, unwrap_or, IfSome, All}
+use Rattle.std.specs.Prelude.{◌≡◌, ℕ, ◌+◌, ◌<◌, ◌≤◌, ◌==◌, Bool, true, false, List, [], ◌∷◌, ◌++◌, length, Option, Some, None, is_some, find, replicate, slice_index, slice_index_or, slice_set, unwrap_or, IfSome, All}
 use Rattle.std.specs.Option.{option_map}
 use Rattle.fab_base.specs.declared.items.Item.{Item}
 use Rattle.fab_base.specs.declared.items.ItemHead.{ItemHead}
@@ -30,14 +32,14 @@ pub record Arriving : Type 0 where
   pub most : ℕ
   -- above the number of each call that posted a receive here
   pub next : ℕ
-  -- a multi-receive was posted here
-  pub multi : Bool
+  -- of each multi-receive that was posted here the id and the number of its call, the last one first
+  pub multis : List (ℕ × ℕ)
 
 abbrev pub begun_of : Arriving → ℕ → Option Item
 begun_of v source = slice_index_or v.begun source None
 
 abbrev pub with_receiving : Receiving → Arriving → Arriving
-with_receiving rx v = record { rx = rx; begun = v.begun; most = v.most; next = v.next; multi = v.multi }
+with_receiving rx v = record { rx = rx; begun = v.begun; most = v.most; next = v.next; multis = v.multis }
 
 -- nothing has arrived of any peer, and nothing is posted
 abbrev pub nothing_arrived : ℕ → ℕ → Arriving
@@ -54,7 +56,7 @@ nothing_arrived peers most = record {
   begun = replicate peers None;
   most = most;
   next = 0;
-  multi = false;
+  multis = [];
 }
 
 -- ---- an item arrives
@@ -74,7 +76,7 @@ arriving source head v = record {
   begun = slice_set v.begun source (Some (bare head));
   most = v.most;
   next = v.next;
-  multi = v.multi;
+  multis = v.multis;
 }
 
 -- ---- its bytes come
@@ -88,7 +90,7 @@ growing source bytes v = record {
   begun = slice_set v.begun source (option_map (lengthened bytes) (begun_of v source));
   most = v.most;
   next = v.next;
-  multi = v.multi;
+  multis = v.multis;
 }
 
 -- ---- it is whole
@@ -118,7 +120,7 @@ finishing source v = record {
   begun = slice_set v.begun source None;
   most = v.most;
   next = v.next;
-  multi = v.multi;
+  multis = v.multis;
 }
 
 -- ---- a receive call
@@ -138,15 +140,33 @@ posted_to None r rx = joining_posted r rx
 posted_to (Some a) r rx = given a.bytes a.source r (without_first r.want rx)
 
 abbrev pub posting : Receive → Arriving → Arriving
-posting r v = record { rx = posted_to (find (takes r.want) v.rx.unexpected) r v.rx; begun = v.begun; most = v.most; next = r.call + 1; multi = v.multi }
+posting r v = record { rx = posted_to (find (takes r.want) v.rx.unexpected) r v.rx; begun = v.begun; most = v.most; next = r.call + 1; multis = v.multis }
 
 -- a receive for many messages
 abbrev pub multi_by : Option ℕ → Want → List ℕ → ℕ → ℕ → Receive
 multi_by call want buf least ctx = record { call = unwrap_or call 0; want = want; buf = buf; ctx = ctx; least = Some least; used = 0 }
 
--- it joins those posted, whatever has arrived
-abbrev pub opening : Receive → Arriving → Arriving
-opening r v = record { rx = joining_posted r v.rx; begun = v.begun; most = v.most; next = r.call + 1; multi = true }
+-- it joins those posted under this id, whatever has arrived
+abbrev pub opening : ℕ → Receive → Arriving → Arriving
+opening id r v = record { rx = joining_posted r v.rx; begun = v.begun; most = v.most; next = r.call + 1; multis = (id, r.call) ∷ v.multis }
+
+-- ---- the ids of multi-receives
+
+-- the number of the call of the last one under this id
+abbrev pub call_in : List (ℕ × ℕ) → ℕ → Option ℕ
+call_in multis id = option_map (λ p. p.1) (find (λ p. p.0 == id) multis)
+
+-- the id of the one of this call
+abbrev pub id_in : List (ℕ × ℕ) → ℕ → Option ℕ
+id_in multis call = option_map (λ p. p.0) (find (λ p. p.1 == call) multis)
+
+abbrev pub made_by : Option ℕ → List Receive → Option Receive
+made_by None receives = None
+made_by (Some call) receives = find (is_made_by call) receives
+
+-- the multi-receive under the id that is posted or closing
+abbrev pub open_under : ℕ → Arriving → Option Receive
+open_under id v = made_by (call_in v.multis id) (v.rx.posted ++ v.rx.closing)
 
 -- ---- what holds between calls
 
@@ -181,6 +201,10 @@ pub record IsPlain (rx : Receiving) : Type 0 where
   pub closing : rx.closing ≡ []
   pub still : draw_due rx ≡ false
 
+-- a multi-receive has an id, and was the last one under it
+abbrev pub IsNamed : List (ℕ × ℕ) → Receive → Type 0
+IsNamed multis r = is_some r.least ≡ true → (id : ℕ) × (id_in multis r.call ≡ Some id) × (call_in multis id ≡ Some r.call)
+
 pub record IsArriving (v : Arriving) : Type 0 where
   -- a member for each peer
   pub coming : length v.rx.coming ≡ length v.begun
@@ -191,7 +215,9 @@ pub record IsArriving (v : Arriving) : Type 0 where
   -- an item is coming where one is begun
   pub ways : (s : ℕ) → is_some (coming_from v.rx s) ≡ is_some (begun_of v s)
   pub within : (s : ℕ) → IfSome (begun_of v s) (λ item. length item.bytes ≤ item.head.total)
-  pub plain : v.multi ≡ false → IsPlain v.rx
+  pub plain : v.multis ≡ [] → IsPlain v.rx
+  -- each multi-receive that is posted or closing is known by its id
+  pub named : All (IsNamed v.multis) (v.rx.posted ++ v.rx.closing)
   -- an unexpected message that is not whole is the item that is coming, as is one that is claimed
   pub partly : All (PartlyIn v) v.rx.unexpected
   pub aside : All (λ c. PartlyIn v c.1) v.rx.claimed

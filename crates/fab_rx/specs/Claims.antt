@@ -53,7 +53,7 @@ taken_to None r rx = rx
 taken_to (Some a) r rx = given a.bytes a.source r (without_claim r.ctx rx)
 
 abbrev pub taking : Receive → Arriving → Arriving
-taking r v = record { rx = taken_to (claim_under r.ctx v.rx) r v.rx; begun = v.begun; most = v.most; next = r.call + 1; multi = v.multi }
+taking r v = record { rx = taken_to (claim_under r.ctx v.rx) r v.rx; begun = v.begun; most = v.most; next = r.call + 1; multis = v.multis }
 
 abbrev pub dropped : Option Arrival → ℕ → Receiving → Receiving
 dropped None ctx rx = rx

@@ -1,10 +1,11 @@
 -- What is stored of multi-receives (FI_MULTI_RECV of fi_msg(3)): each stands under its id from its call until its buffer comes back.
 --     is_part_of id way       the item goes to the multi-receive under this id
+--     part_id way             the id of the one to which the item goes
 --     is_fed_by id begun      the same of what is stored of a source
 --     IsHome, Rests           what is known of a receive that is posted, and of a multi-receive that is closing
 --     IsPart                  what is known of the multi-receive under the id to which an item goes
 --     AreMulti                all of it: homes gives the id of a multi-receive by the number of its call, calls the number by the id
-use Rattle.std.specs.Prelude.{◌≡◌, ℕ, ◌+◌, ◌==◌, ◌≤◌, Bool, true, false, List, [], length, Option, Some, None, is_some, slice_index_or}
+use Rattle.std.specs.Prelude.{◌≡◌, ℕ, ◌+◌, ◌==◌, ◌≤◌, Bool, true, false, List, [], length, Option, Some, None, is_some, slice_index_or, unwrap_or}
 use Rattle.std.specs.List.{AllZip, AllByRecursion, list_any}
 use Rattle.std.specs.Option.{option_map}
 use Rattle.fab_base.specs.declared.items.Kind.{Kind}
@@ -18,6 +19,7 @@ use Rattle.fab_rx.specs.declared.stored.Way.{Way}
 use Rattle.fab_rx.specs.declared.stored.Way.TheVariants.{Into, Part, Keep, Throw, Gather}
 use Rattle.fab_rx.specs.declared.stored.Begun.{Begun}
 use Rattle.fab_rx.specs.Table.{Cells, at}
+use Rattle.fab_rx.specs.Arriving.{call_in, id_in}
 use Rattle.fab_rx.specs.Stored.{AreApart, IsFit, waiting_of}
 
 -- ---- items under way
@@ -32,6 +34,18 @@ is_part_of id (Gather bytes) = false
 abbrev pub is_fed_by : ℕ → Option Begun → Bool
 is_fed_by id None = false
 is_fed_by id (Some b) = is_part_of id b.way
+
+-- the id of the multi-receive to which the item goes
+abbrev pub part_id : Way → Option ℕ
+part_id (Into seat) = None
+part_id (Part k at bytes) = Some k
+part_id (Keep k bytes) = None
+part_id Throw = None
+part_id (Gather bytes) = None
+
+abbrev pub part_in : Option Begun → Option ℕ
+part_in None = None
+part_in (Some b) = part_id b.way
 
 -- ---- receives and their ids
 
@@ -77,7 +91,7 @@ IsFed coming c = list_any (is_fed_by c.0) coming ≡ true
 abbrev pub no_pairs : List (ℕ × ℕ)
 no_pairs = []
 
-pub record AreMulti (ps : List (ℕ × Want)) (cs : List (ℕ × ℕ)) (seats : Cells Waiting) (coming : List (Option Begun)) (posted closing : List Receive) (comes : List (Option Coming)) (next : ℕ) (multi : Bool) (most : ℕ) : Type 0 where
+pub record AreMulti (ps : List (ℕ × Want)) (cs : List (ℕ × ℕ)) (seats : Cells Waiting) (coming : List (Option Begun)) (posted closing : List Receive) (comes : List (Option Coming)) (next : ℕ) (multis : List (ℕ × ℕ)) (most : ℕ) : Type 0 where
   pub homes : ℕ → Option ℕ
   pub calls : ℕ → ℕ
   pub posted_home : AllZip (IsHome homes calls) ps posted
@@ -89,6 +103,11 @@ pub record AreMulti (ps : List (ℕ × Want)) (cs : List (ℕ × ℕ)) (seats : 
   pub live : AllByRecursion (IsFed coming) cs
   pub fresh : (call : ℕ) → next ≤ call → homes call ≡ None
   -- no multi-receive is known where none was posted
-  pub plain : multi ≡ false → (call : ℕ) → homes call ≡ None
+  pub plain : multis ≡ [] → (call : ℕ) → homes call ≡ None
+  -- both are told
+  pub ids : (call : ℕ) → homes call ≡ id_in multis call
+  pub numbers : (id : ℕ) → calls id ≡ unwrap_or (call_in multis id) 0
+  -- the last one under an id has it
+  pub back : (id call : ℕ) → call_in multis id ≡ Some call → id_in multis call ≡ Some id
   -- each receive that may be posted has a place, and each source one for the multi-receive that its item closes
   pub spare : length seats.free + length ps + length cs ≡ most + length coming

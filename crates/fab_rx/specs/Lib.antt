@@ -7,5 +7,6 @@ pub mod Homes
 pub mod Whole
 pub mod Sharing
 pub mod Draws
+pub mod Drawing
 pub mod Leaving
 pub mod Claims

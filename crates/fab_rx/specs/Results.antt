@@ -3,10 +3,11 @@
 --     posted_as r found      what a receive call answers, where this unexpected message was found
 --     ended coming source item      what becomes of an item that is whole
 --     last_of v source              the multi-receive whose buffer comes back then
---     handed last ended             what becomes of the item, with that
+--     handed v last ended           what becomes of the item, with that
 --     entries_due coming      how many completions that makes
---     cancelled r            what a cancelled receive leaves
-use Rattle.std.specs.Prelude.{ℕ, true, false, List, Option, Some, None, find}
+--     released v r           a multi-receive that is over
+--     cancelled v r          what a cancelled receive leaves
+use Rattle.std.specs.Prelude.{ℕ, true, false, List, Option, Some, None, find, unwrap_or}
 use Rattle.fab_base.specs.declared.items.Item.{Item}
 use Rattle.fab_base.specs.declared.items.ItemHead.{ItemHead}
 use Rattle.fab_base.specs.declared.operations.Receive.{Receive}
@@ -16,7 +17,7 @@ use Rattle.fab_base.specs.declared.operations.Coming.TheVariants.{Into, Keep, Th
 use Rattle.fab_model.specs.State.{Receiving, coming_from, under_way}
 use Rattle.fab_model.specs.Complete.{entry_of, filling, has_space, is_made_by}
 use Rattle.fab_model.specs.Arrivals.{made_whole}
-use Rattle.fab_rx.specs.Arriving.{Arriving, begun_of, bytes_come}
+use Rattle.fab_rx.specs.Arriving.{Arriving, begun_of, bytes_come, id_in}
 use Rattle.fab_rx.specs.declared.results.Completed.{Completed}
 use Rattle.fab_rx.specs.declared.results.Posted.{Posted}
 use Rattle.fab_rx.specs.declared.results.Posted.TheVariants.{Joined, GoesOn, Whole}
@@ -60,12 +61,12 @@ last_by _ bytes rx = None
 abbrev pub last_of : ℕ → Arriving → Option Receive
 last_of source v = last_by (coming_from v.rx source) (bytes_come (begun_of v source)) (made_whole source v.rx)
 
-abbrev pub released : Receive → Released
-released r = record { ctx = r.ctx; used = r.used; buf = r.buf }
+abbrev pub released : Arriving → Receive → Released
+released v r = record { id = unwrap_or (id_in v.multis r.call) 0; ctx = r.ctx; used = r.used; buf = r.buf }
 
-abbrev pub handed : Option Receive → Finished → Finished
-handed (Some r) (Received x) = Last x (released r)
-handed _ f = f
+abbrev pub handed : Arriving → Option Receive → Finished → Finished
+handed v (Some r) (Received x) = Last x (released v r)
+handed v _ f = f
 
 abbrev pub entries_due : Option Coming → ℕ
 entries_due (Some (Into r place)) = 1
@@ -76,5 +77,5 @@ abbrev pub call_into : Option Coming → Option ℕ
 call_into (Some (Into r place)) = Some r.call
 call_into _ = None
 
-abbrev pub cancelled : Receive → Cancelled
-cancelled r = record { ctx = r.ctx; buf = r.buf }
+abbrev pub cancelled : Arriving → Receive → Cancelled
+cancelled v r = record { id = id_in v.multis r.call; ctx = r.ctx; buf = r.buf }

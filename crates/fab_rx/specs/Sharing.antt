@@ -5,9 +5,11 @@
 --     left_by total o        its context, where it leaves once so many more bytes are given away
 --     kept_or o xs ys        the first list where nothing leaves, else the second one
 --     placed_in at bytes w   the bytes are in its buffer, from the place on
+--     is_closed coming id total o      it is over once so many more bytes are given away
+--     taken_in total at bytes w        it has taken a message that is whole
 --     is_over coming cs id   it is among those that are closing, and no item is under way to it
---     released_of w          its buffer comes back
-use Rattle.std.specs.Prelude.{ℕ, ◌+◌, ◌-◌, ◌<◌, ◌≤◌, ◌^◌, ◌&&◌, min, nat_lt, Bool, true, false, not, List, length, Option, Some, None, IfSome}
+--     released_of id w       its buffer comes back
+use Rattle.std.specs.Prelude.{ℕ, ◌+◌, ◌-◌, ◌<◌, ◌≤◌, ◌^◌, ◌&&◌, min, nat_lt, Bool, true, false, not, List, length, Option, Some, None, IfSome, is_some}
 use Rattle.std.specs.List.{list_any}
 use Rattle.std.specs.Option.{option_map}
 use Rattle.fab_model.specs.Complete.{paste}
@@ -54,9 +56,17 @@ placed_in at bytes w = record { seat = record { buf = paste w.seat.buf at bytes;
 abbrev pub is_over : List (Option Begun) → List (ℕ × ℕ) → ℕ → Bool
 is_over coming cs id = not (list_any (is_fed_by id) coming) && has_id id cs
 
+-- where so many more bytes are given away, it is closing, and no item is under way to it
+abbrev pub is_closed : List (Option Begun) → ℕ → ℕ → Option Waiting → Bool
+is_closed coming id total o = is_some (left_by total o) && not (list_any (is_fed_by id) coming)
+
+-- it has given room to these bytes, which are in its buffer
+abbrev pub taken_in : ℕ → ℕ → List ℕ → Waiting → Waiting
+taken_in total at bytes w = placed_in at bytes (used_up_by total w)
+
 abbrev pub used_in : Option Multi → ℕ
 used_in None = 0
 used_in (Some m) = m.used
 
-abbrev pub released_of : Waiting → Released
-released_of w = record { ctx = w.seat.ctx; used = used_in w.multi; buf = w.seat.buf }
+abbrev pub released_of : ℕ → Waiting → Released
+released_of id w = record { id = id; ctx = w.seat.ctx; used = used_in w.multi; buf = w.seat.buf }

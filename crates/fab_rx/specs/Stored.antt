@@ -149,6 +149,14 @@ redirected buf ctx b = record { head = b.head; got = b.got; way = Into (record {
 abbrev pub thrown_on : Begun → Begun
 thrown_on b = record { head = b.head; got = b.got; way = Throw }
 
+-- what was kept goes on to a place of the multi-receive under this id
+abbrev pub part_way : ℕ → ℕ → Way → Way
+part_way id place (Keep k bytes) = Part id place bytes
+part_way id place way = way
+
+abbrev pub gone_on : ℕ → ℕ → Begun → Begun
+gone_on id place b = record { head = b.head; got = b.got; way = part_way id place b.way }
+
 abbrev pub turned : {X : Type 0} → (Option X → Option X) → Option (List ℕ) → ℕ → List (Option X) → List (Option X)
 turned f None source xs = slice_set xs source (f (slice_index_or xs source None))
 turned f (Some bytes) source xs = xs

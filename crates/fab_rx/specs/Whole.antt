@@ -19,5 +19,5 @@ pub record IsInbox (posted : List (ℕ × Want)) (unexpected : List (ℕ × Sign
   pub reserved : v.most ≤ capacity
   pub numbers : IsNumbered v.rx.posted v.rx.coming v.next
   pub aside : AreClaimed unexpected parcels coming claims claimable v.rx.claimed
-  pub shared : AreMulti posted closing seats coming v.rx.posted v.rx.closing v.rx.coming v.next v.multi v.most
+  pub shared : AreMulti posted closing seats coming v.rx.posted v.rx.closing v.rx.coming v.next v.multis v.most
   pub closable : length coming ≤ room_to_close

@@ -1,11 +1,17 @@
 //! Unexpected messages that posted multi-receives match (FI_MULTI_RECV of fi_msg(3)): a draw is due for each.
-ghost use Rattle.std.specs.Prelude.{◌≡◌, find};
+//! No draw takes memory.
+ghost use Rattle.std.specs.Prelude.{◌≡◌, true, find};
 ghost use Rattle.fab_model.specs.Receiving.{draw_due};
 ghost use Rattle.fab_rx.specs.Draws.{draws_at};
+ghost use Rattle.fab_rx.specs.Drawing.{drawing, drawn, entries_drawn};
 
+use crate::filling::{gone_on, lift, set_down};
 use crate::inbox::Inbox;
-use crate::multis::multi_at;
-use crate::stored::Waiting;
+use crate::multis::{close, closes, give_room, multi_at, part};
+use crate::order::strike;
+use crate::past::Draws;
+use crate::results::Drawn;
+use crate::stored::{Parcel, Waiting};
 use crate::table::Table;
 use fab_match::Matcher;
 use std::collections::VecDeque;
@@ -37,5 +43,88 @@ impl<M: Matcher> Inbox<M> {
         ensures { result ≡ draw_due self.now.rx }
     {
         first_drawing(&self.order, &self.seats, &self.matcher).is_some()
+    }
+
+    /// How many completions [`draw`](Inbox::draw) hands out, that of a buffer which comes back counted: at most
+    /// two, and none where no draw is due.
+    pub fn draw_entries(&self) -> u32
+        ensures { result ≡ entries_drawn (drawn self.now) }
+    {
+        let Some(id) = first_drawing(&self.order, &self.seats, &self.matcher) else {
+            return 0;
+        };
+        let Some(multi) = multi_at(&self.seats, id) else {
+            unreachable!()
+        };
+        let Some(message) = self.matcher.first_unexpected(&multi.want) else {
+            unreachable!()
+        };
+        let Some(parcel) = self.parcels.get(message) else {
+            unreachable!()
+        };
+        if parcel.bytes.is_none() {
+            return 0;
+        }
+        if closes(&self.seats, self.coming.as_slice(), id, parcel.head.total) {
+            return 2;
+        }
+        1
+    }
+
+    /// Makes the draw that is due: the first multi-receive that matches an unexpected message takes the first
+    /// one that it matches, at the place behind what it gave away. A message that is whole completes now, with
+    /// the buffer where it was the last one; of another one the rest comes into the multi-receive.
+    pub fn draw(&mut self) -> Drawn
+        requires due { draw_due self.old.rx ≡ true }
+        ensures new { self.new ≡ drawing self.old }
+        ensures outcome { result ≡ drawn self.old }
+    {
+        let Inbox {
+            past,
+            matcher,
+            seats,
+            parcels,
+            coming,
+            order,
+            closing,
+            ..
+        } = self;
+        let Some(id) = first_drawing(order, seats, matcher) else {
+            unreachable!()
+        };
+        let Some(multi) = multi_at(seats, id) else {
+            unreachable!()
+        };
+        let Some(message) = matcher.first_unexpected(&multi.want) else {
+            unreachable!()
+        };
+        matcher.remove_unexpected(message);
+        let Some(parcel) = parcels.take(message) else {
+            unreachable!()
+        };
+        past.note::<(), Draws>(&());
+        let Parcel {
+            source,
+            head,
+            bytes,
+        } = parcel;
+        let Some(bytes) = bytes else {
+            let Some(begun) = lift(coming, source) else {
+                unreachable!()
+            };
+            set_down(coming, source, gone_on(begun, id, multi.used));
+            give_room(matcher, seats, order, closing, id, head.total);
+            return Drawn::GoesOn;
+        };
+        let completed = part(seats, id, multi.used, source, &head);
+        if closes(seats, coming.as_slice(), id, head.total) {
+            matcher.remove_posted(id);
+            strike(order, id);
+            let over = close(seats, id, head.total, multi.used, bytes.as_slice());
+            return Drawn::Last(completed, over);
+        }
+        give_room(matcher, seats, order, closing, id, head.total);
+        seats.place(id, multi.used, bytes.as_slice());
+        Drawn::Part(completed)
     }
 }

@@ -8,7 +8,7 @@ ghost use Rattle.fab_rx.specs.declared.stored.Parcel.{Parcel};
 ghost use Rattle.fab_rx.specs.Table.{Cells};
 ghost use Rattle.fab_rx.specs.Arriving.{IsSingle, lengthened};
 ghost use Rattle.fab_rx.specs.Results.{completed};
-ghost use Rattle.fab_rx.specs.Stored.{HasRoomFor, IsComing, IsKeptWay, moved, redirected, seat_with, thrown_on};
+ghost use Rattle.fab_rx.specs.Stored.{HasRoomFor, IsComing, IsKeptWay, gone_on, moved, redirected, seat_with, thrown_on};
 ghost use Rattle.fab_rx.specs.declared.stored.Waiting.{Waiting};
 ghost use Rattle.fab_rx.specs.Homes.{GoesHomeBy, is_part_of};
 
@@ -189,6 +189,18 @@ pub fn thrown(begun: Begun) -> Begun
         got,
         way: Way::Throw,
     }
+}
+
+/// A message that was kept and is not whole goes on to a place of the multi-receive under an id.
+pub fn gone_on(begun: Begun, id: u32, at: u32) -> Begun
+    ensures { result ≡ gone_on id at begun }
+{
+    let Begun { head, got, way } = begun;
+    let way = match way {
+        Way::Keep { bytes, .. } => Way::Part { id, at, bytes },
+        other => other,
+    };
+    Begun { head, got, way }
 }
 
 /// Takes out what is under way of a source.

@@ -5,7 +5,7 @@ ghost use Rattle.fab_model.specs.Matching.{is_message, takes};
 ghost use Rattle.fab_model.specs.State.{coming_from};
 ghost use Rattle.fab_model.specs.Arrivals.{taker, way_of};
 ghost use Rattle.fab_model.specs.Receiving.{cancellable, without_posted};
-ghost use Rattle.fab_rx.specs.Arriving.{IsArriving, arriving, begun_of, finishing, growing, multi_by, nothing_arrived, opening, posting, receive_by, with_receiving};
+ghost use Rattle.fab_rx.specs.Arriving.{Arriving, IsArriving, arriving, begun_of, finishing, growing, multi_by, nothing_arrived, opening, posting, receive_by, with_receiving};
 ghost use Rattle.fab_rx.specs.Leaving.{cancelling, is_meant};
 ghost use Rattle.fab_base.specs.declared.operations.Receive.{Receive};
 ghost use Rattle.fab_rx.specs.declared.results.Finished.TheVariants.{Received};
@@ -60,7 +60,7 @@ impl<M: Matcher> Model for Inbox<M> {
     ghost invariant = { λ i. IsInbox (M.posted i.matcher) (M.unexpected i.matcher) (M.room i.matcher) i.seats i.parcels i.coming.items i.order.items (deque_capacity i.order) i.claims.items (vec_capacity i.claims) i.closing.items (vec_capacity i.closing) i.past };
 }
 
-fn is_message(kind: Kind) -> bool
+pub(crate) fn is_message(kind: Kind) -> bool
     ensures { result ≡ is_message kind }
 {
     match kind {
@@ -299,7 +299,7 @@ impl<M: Matcher> Inbox<M> {
         requires source { source < length self.old.begun }
         requires whole { IsSomeAnd (begun_of self.old source) (λ item. length item.bytes ≡ item.head.total) }
         ensures new { self.new ≡ finishing source self.old }
-        ensures outcome { IfSome (begun_of self.old source) (λ item. result ≡ handed (last_of source self.old) (ended (coming_from self.old.rx source) source item)) }
+        ensures outcome { IfSome (begun_of self.old source) (λ item. result ≡ handed self.old (last_of source self.old) (ended (coming_from self.old.rx source) source item)) }
     {
         let Inbox {
             past,
@@ -375,7 +375,8 @@ impl<M: Matcher> Inbox<M> {
     /// A receive for many untagged messages, one behind the other in its buffer, until fewer than `least`
     /// bytes are free (FI_MULTI_RECV of fi_msg(3)). It is posted, whatever has arrived: what it matches it
     /// gets by draws. Fewer receives must be posted than may be. `C` says by which number its call goes,
-    /// above that of each receive posted before.
+    /// above that of each receive posted before. Answers the id under which it stands until its buffer comes
+    /// back, no other's meanwhile.
     pub fn post_multi<X, C: Caller<X>>(
         &mut self,
         about: &X,
@@ -383,11 +384,11 @@ impl<M: Matcher> Inbox<M> {
         buf: Buf,
         least: u32,
         ctx: u64,
-    )
+    ) -> u32
         requires room { length self.old.rx.posted < self.old.most }
         requires later { self.old.next ≤ unwrap_or (C.call about.now) 0 }
         requires small { length buf < 2 ^ 32 }
-        ensures { self.new ≡ opening (multi_by (C.call about.now) want buf least ctx) self.old }
+        ensures { self.new ≡ opening result (multi_by (C.call about.now) want buf least ctx) self.old }
     {
         let Inbox {
             past,
@@ -396,7 +397,10 @@ impl<M: Matcher> Inbox<M> {
             order,
             ..
         } = self;
-        past.note::<(&X, &Want, &Buf, u32, u64), Shares<C>>(&(about, &want, &buf, least, ctx));
+        let next = seats.next_id();
+        past.note::<(&X, &Want, &Buf, u32, u64, u32), Shares<C>>(&(
+            about, &want, &buf, least, ctx, next,
+        ));
         let seat = Seat { buf, ctx };
         let multi = Some(Multi {
             want,
@@ -406,6 +410,7 @@ impl<M: Matcher> Inbox<M> {
         let id = seats.put(Waiting { seat, multi });
         order.push_back_reserved(id);
         matcher.add_posted(id, want);
+        id
     }
 
     /// Whether a receive is posted to which nothing is under way, of this context where one is named.
@@ -418,7 +423,7 @@ impl<M: Matcher> Inbox<M> {
     /// The first posted receive of this context to which nothing is under way leaves, with its buffer
     /// (fi_cancel of fi_endpoint(3)). `None`, and nothing changes, exactly where there is none.
     pub fn cancel(&mut self, ctx: u64) -> Option<Cancelled>
-        ensures found { result ≡ option_map cancelled (cancellable (λ r. r.ctx == ctx) self.old.rx) }
+        ensures found { result ≡ option_map (cancelled self.old) (cancellable (λ r. r.ctx == ctx) self.old.rx) }
         ensures rest { self.new ≡ with_receiving (without_posted (λ r. r.ctx == ctx) self.old.rx) self.old }
     {
         self.leave(Some(ctx))
@@ -427,7 +432,7 @@ impl<M: Matcher> Inbox<M> {
     /// The first posted receive to which nothing is under way leaves, with its buffer. `None`, and nothing
     /// changes, exactly where there is none.
     pub fn cancel_first(&mut self) -> Option<Cancelled>
-        ensures found { result ≡ option_map cancelled (cancellable (λ r. true) self.old.rx) }
+        ensures found { result ≡ option_map (cancelled self.old) (cancellable (λ r. true) self.old.rx) }
         ensures rest { self.new ≡ with_receiving (without_posted (λ r. true) self.old.rx) self.old }
     {
         self.leave(None)
@@ -435,7 +440,7 @@ impl<M: Matcher> Inbox<M> {
 
     /// The first posted receive to which nothing is under way leaves, of this context where one is named.
     fn leave(&mut self, ctx: Option<u64>) -> Option<Cancelled>
-        ensures found { result ≡ option_map cancelled (cancellable (is_meant ctx) self.old.rx) }
+        ensures found { result ≡ option_map (cancelled self.old) (cancellable (is_meant ctx) self.old.rx) }
         ensures rest { self.new ≡ cancelling ctx self.old }
     {
         let Inbox {
@@ -451,11 +456,12 @@ impl<M: Matcher> Inbox<M> {
         };
         matcher.remove_posted(meant);
         strike(order, meant);
-        let Some(Waiting { seat, .. }) = seats.take(meant) else {
+        let Some(Waiting { seat, multi }) = seats.take(meant) else {
             unreachable!()
         };
         past.note::<Option<u64>, Cancels>(&ctx);
         Some(Cancelled {
+            id: id_where(multi, meant),
             ctx: seat.ctx,
             buf: seat.buf,
         })
@@ -485,9 +491,19 @@ fn nothing_coming(alloc: Global, peers: u32) -> Result<Vec<Option<Begun>>, NoMem
     Ok(coming)
 }
 
+/// The id, where it is that of a multi-receive.
+fn id_where(multi: Option<Multi>, id: u32) -> Option<u32>
+    ensures { result ≡ option_map (λ m. id) multi }
+{
+    match multi {
+        Some(_) => Some(id),
+        None => None,
+    }
+}
+
 /// A message of a multi-receive is whole, the last one where the buffer comes back.
 fn received(completed: Completed, released: Option<Released>) -> Finished
-    ensures { (r : Option Receive) → released ≡ option_map released_as r → result ≡ handed r (Received completed) }
+    ensures { (v : Arriving) (r : Option Receive) → released ≡ option_map (released_as v) r → result ≡ handed v r (Received completed) }
 {
     match released {
         None => Finished::Received(completed),

@@ -18,8 +18,10 @@
 
 mod claims;
 pub mod draws;
+pub mod ends;
 mod filling;
 pub mod inbox;
+pub mod lending;
 pub mod looking;
 mod multis;
 mod order;
@@ -30,4 +32,4 @@ mod stored;
 mod table;
 
 pub use inbox::Inbox;
-pub use results::{Cancelled, Completed, Finished, Posted, Released, Seen};
+pub use results::{Cancelled, Completed, Drawn, Finished, Posted, Released, Seen};

@@ -10,7 +10,7 @@ ghost use Rattle.fab_model.specs.Matching.{remove_first};
 ghost use Rattle.fab_match.specs.Matcher.{has_id, without};
 ghost use Rattle.fab_rx.specs.declared.stored.Waiting.{Waiting};
 ghost use Rattle.fab_rx.specs.Table.{at};
-ghost use Rattle.fab_rx.specs.Sharing.{IsUsable, is_over, is_spent, kept_or, left_by, multi_at, multi_in, placed_in, released_of, used_up_by};
+ghost use Rattle.fab_rx.specs.Sharing.{IsUsable, is_closed, is_over, is_spent, kept_or, left_by, multi_at, multi_in, placed_in, released_of, taken_in, used_in, used_up_by};
 ghost use Rattle.fab_rx.specs.Results.{completed};
 
 use crate::filling::{placed, tag_of};
@@ -58,6 +58,18 @@ impl Waiting {
             .len()
             .saturating_sub(multi.used as usize);
         free < multi.least as usize
+    }
+
+    /// Whether it has less free than it must have to stay posted, once so many more bytes are given away.
+    fn leaves(&self, total: u32) -> bool
+        requires usable { IsUsable self.now }
+        ensures { result ≡ is_spent (used_up_by total self.now) }
+    {
+        let Some(multi) = self.multi else {
+            return false;
+        };
+        let free = self.seat.buf.as_slice().len() - multi.used as usize;
+        free - (total as usize).min(free) < multi.least as usize
     }
 
     /// The bytes come into its buffer from the place on, as many as fit.
@@ -132,7 +144,7 @@ pub fn give_room<M: Matcher>(
     total: u32,
 )
     requires usable { IsSomeAnd (at seats.old id) IsUsable }
-    requires room { vec_len closing.old < vec_capacity closing.old }
+    requires room { is_some (left_by total (at seats.old id)) ≡ true → vec_len closing.old < vec_capacity closing.old }
     ensures cells { seats.new.cells ≡ slice_set seats.old.cells id (option_map (used_up_by total) (at seats.old id)) }
     ensures free { seats.new.free ≡ seats.old.free }
     ensures posted { M.posted matcher.new ≡ kept_or (left_by total (at seats.old id)) (M.posted matcher.old) (without id (M.posted matcher.old)) }
@@ -202,6 +214,53 @@ pub fn part(seats: &Table<Waiting>, id: u32, start: u32, source: u32, head: &Ite
     }
 }
 
+/// Whether the multi-receive under an id is over once so many more bytes are given away: it must leave the
+/// posted receives, and no item is under way to it.
+pub fn closes(seats: &Table<Waiting>, coming: &[Option<Begun>], id: u32, total: u32) -> bool
+    requires usable { IsSomeAnd (at seats.now id) IsUsable }
+    ensures { result ≡ is_closed coming.now id total (at seats.now id) }
+{
+    let Some(waiting) = seats.get(id) else {
+        unreachable!()
+    };
+    waiting.leaves(total) && !is_fed(coming, id)
+}
+
+/// The multi-receive under an id gets its last message, which is whole, and its buffer comes back.
+pub fn close(seats: &mut Table<Waiting>, id: u32, total: u32, start: u32, bytes: &[u8]) -> Released
+    requires usable { IsSomeAnd (at seats.old id) IsUsable }
+    ensures buffer { Some result ≡ option_map (λ w. released_of id (taken_in total start bytes.now w)) (at seats.old id) }
+    ensures cells { seats.new.cells ≡ slice_set seats.old.cells id None }
+    ensures free { length seats.new.free ≡ length seats.old.free + 1 }
+{
+    let Some(waiting) = seats.take(id) else {
+        unreachable!()
+    };
+    let Waiting { seat, multi } = waiting.used_up(total).placed(start, bytes);
+    Released {
+        id,
+        ctx: seat.ctx,
+        used: given_away(multi),
+        buf: seat.buf,
+    }
+}
+
+fn given_away(multi: Option<Multi>) -> u32
+    ensures { result ≡ used_in multi }
+{
+    match multi {
+        Some(multi) => multi.used,
+        None => 0,
+    }
+}
+
+/// Whether the multi-receive under an id is closing.
+pub fn is_closing(closing: &[(u32, u64)], id: u32) -> bool
+    ensures { result ≡ has_id id closing.now }
+{
+    closing.iter().any(|closed| closed.0 == id)
+}
+
 fn place_of(closing: &[(u32, u64)], id: u32) -> Option<usize>
     ensures { result ≡ position (λ closed. closed.0 == id) closing.now }
 {
@@ -217,7 +276,7 @@ pub fn release(
     id: u32,
 ) -> Option<Released>
     requires there { has_id id closing.old.items ≡ true → IsSome (multi_at seats.old id) }
-    ensures buffer { result ≡ cond (is_over coming.now closing.old.items id) (option_map released_of (at seats.old id)) None }
+    ensures buffer { result ≡ cond (is_over coming.now closing.old.items id) (option_map (released_of id) (at seats.old id)) None }
     ensures cells { seats.new.cells ≡ cond (is_over coming.now closing.old.items id) (slice_set seats.old.cells id None) seats.old.cells }
     ensures free { length seats.new.free ≡ cond (is_over coming.now closing.old.items id) (length seats.old.free + 1) (length seats.old.free) }
     ensures rest { closing.new.items ≡ cond (is_over coming.now closing.old.items id) (without id closing.old.items) closing.old.items }
@@ -235,6 +294,7 @@ pub fn release(
     };
     let Some(multi) = multi else { unreachable!() };
     Some(Released {
+        id,
         ctx: seat.ctx,
         used: multi.used,
         buf: seat.buf,

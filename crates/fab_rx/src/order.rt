@@ -17,6 +17,13 @@ fn place_of(order: &VecDeque<u32>, id: u32) -> Option<usize>
     order.iter().position(|other| *other == id)
 }
 
+/// Whether an id is one of them.
+pub fn has(order: &VecDeque<u32>, id: u32) -> bool
+    ensures { result ≡ list_any (λ other. other == id) order.now.items }
+{
+    order.iter().any(|other| *other == id)
+}
+
 /// Takes an id out. The others keep their order.
 pub fn strike(order: &mut VecDeque<u32>, id: u32)
     ensures rest { order.new.items ≡ remove_first (λ other. other == id) order.old.items }

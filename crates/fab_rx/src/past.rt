@@ -2,6 +2,7 @@
 ghost use Rattle.std.specs.Prelude.{ℕ};
 ghost use Rattle.fab_rx.specs.Leaving.{cancelling};
 ghost use Rattle.fab_rx.specs.Arriving.{arriving, finishing, growing, multi_by, nothing_arrived, opening, posting, receive_by};
+ghost use Rattle.fab_rx.specs.Drawing.{drawing};
 ghost use Rattle.fab_rx.specs.Claims.{any_tagged, claiming_first, discarding, dropping, taking};
 
 use fab_base::{Buf, ItemHead, Want};
@@ -65,8 +66,8 @@ pub struct Shares<C> {
     caller: PhantomData<C>,
 }
 
-impl<'a, X, C: Caller<X>> Change<(&'a X, &'a Want, &'a Buf, u32, u64), Past> for Shares<C> {
-    ghost after = { λ x v. opening (multi_by (C.call x.0.now) x.1.now x.2.now x.3 x.4) v };
+impl<'a, X, C: Caller<X>> Change<(&'a X, &'a Want, &'a Buf, u32, u64, u32), Past> for Shares<C> {
+    ghost after = { λ x v. opening x.5 (multi_by (C.call x.0.now) x.1.now x.2.now x.3 x.4) v };
 }
 
 pub struct Claims;
@@ -87,6 +88,12 @@ pub struct Takes<C> {
 
 impl<'a, X, C: Caller<X>> Change<(&'a X, &'a Buf, u64), Past> for Takes<C> {
     ghost after = { λ x v. taking (receive_by (C.call x.0.now) any_tagged x.1.now x.2) v };
+}
+
+pub struct Draws;
+
+impl Change<(), Past> for Draws {
+    ghost after = { λ x v. drawing v };
 }
 
 pub struct Drops;

@@ -29,9 +29,11 @@ pub struct Seen {
     pub whole: bool,
 }
 
-/// A multi-receive that is over, with its buffer, of which so many bytes were given away.
+/// A multi-receive that is over, with its buffer, of which so many bytes were given away. The id is free from
+/// now on.
 #[derive(Drop)]
 pub struct Released {
+    pub id: u32,
     pub ctx: u64,
     pub used: u32,
     pub buf: Buf,
@@ -49,9 +51,20 @@ pub enum Finished {
     Answer(Item),
 }
 
-/// A receive that was cancelled (fi_cancel of fi_endpoint(3)), with its buffer.
+/// What a draw brought a multi-receive: a message whose rest still comes, one that is whole, or one that is
+/// whole and the last. One that is whole is owed its reply now, where `head.ack` asks for one at its match.
+#[derive(Drop)]
+pub enum Drawn {
+    GoesOn,
+    Part(Completed),
+    Last(Completed, Released),
+}
+
+/// A receive that was cancelled (fi_cancel of fi_endpoint(3)), with its buffer. That of many messages had an
+/// id, which is free from now on.
 #[derive(Drop)]
 pub struct Cancelled {
+    pub id: Option<u32>,
     pub ctx: u64,
     pub buf: Buf,
 }

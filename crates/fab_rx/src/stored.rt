@@ -1,7 +1,7 @@
 //! What is stored of receives, of unexpected messages, and of items that are not whole.
 ghost use Rattle.std.specs.Prelude.{◌≡◌};
 ghost use Rattle.fab_rx.specs.Stored.{entries_by, seen_of};
-ghost use Rattle.fab_rx.specs.Homes.{is_part_of};
+ghost use Rattle.fab_rx.specs.Homes.{is_part_of, part_id};
 
 use crate::results::Seen;
 use fab_base::{Buf, ItemHead, Want};
@@ -89,6 +89,16 @@ impl Begun {
         match self.way {
             Way::Into(_) | Way::Part { .. } => 1,
             Way::Keep { .. } | Way::Throw | Way::Gather(_) => 0,
+        }
+    }
+
+    /// The id of the multi-receive to which it goes.
+    pub fn part_id(&self) -> Option<u32>
+        ensures { result ≡ part_id self.now.way }
+    {
+        match self.way {
+            Way::Part { id, .. } => Some(id),
+            Way::Into(_) | Way::Keep { .. } | Way::Throw | Way::Gather(_) => None,
         }
     }
 

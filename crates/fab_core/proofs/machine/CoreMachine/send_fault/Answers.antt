@@ -1,6 +1,4 @@
-use Rattle.std.proofs.Common.{sym, ◌∙◌}
 use Rattle.fab_core.specs.Parts.{state_of}
-use Rattle.fab_core.specs.Orders.{order_of}
 use Rattle.fab_core.proofs.Calling.{if_transmit_some, if_transmit_none}
 use Rattle.fab_core.proofs.machine.CoreMachine.send_fault.Goals as goal
 

@@ -1,8 +1,8 @@
-use Rattle.std.proofs.Common.{◌≡◌, ◌∙◌, ◌<◌, length, sym, ap, subst}
-use Rattle.fab_rx.specs.Arriving.{Arriving, begun_of}
-use Rattle.fab_core.specs.Parts.{IsTogether, Parts}
+use Rattle.std.proofs.Common.{◌≡◌, ◌∙◌, ◌<◌, length, sym, subst}
+use Rattle.fab_rx.specs.Arriving.{begun_of}
+use Rattle.fab_core.specs.Parts.{Parts}
 use Rattle.fab_core.specs.Doing.{}
-use Rattle.fab_core.proofs.Beginning.{arrives_plain, arrives_roomed, most_same, arrives_served}
+use Rattle.fab_core.proofs.Beginning.{arrives_plain, most_same, arrives_served}
 use Rattle.fab_core.proofs.parts.Core.begin.Goals as goal
 
 pub invariant_of-self-then-not-asks : goal.invariant_of-self-then-not-asks

@@ -1,5 +1,4 @@
-use Rattle.std.proofs.Common.{◌≡◌, ◌∙◌, ◌<◌, ◌≤◌, not, nat_lt, true, false, sym, ap, arith}
-use Rattle.std.specs.Prelude.{is_none}
+use Rattle.std.proofs.Common.{◌≡◌, ◌∙◌, not, nat_lt, true, false, sym, ap, arith}
 use Rattle.std.proofs.lemmas.Bool.Decides.{nat_tests}
 use Rattle.fab_core.proofs.Judging.{first_of_three, none_is, none_of_three, second_of_three, some_is, third_of_three}
 use Rattle.fab_core.proofs.parts.Core.claimed_fault.Goals as goal

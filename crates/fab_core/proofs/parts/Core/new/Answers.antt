@@ -1,4 +1,4 @@
-use Rattle.std.proofs.Common.{refl, sym, ap}
+use Rattle.std.proofs.Common.{sym, ap}
 use Rattle.fab_rx.specs.Arriving.{Arriving}
 use Rattle.fab_tx.specs.Transit.{Transit}
 use Rattle.fab_core.proofs.Serves.{serving_begins}

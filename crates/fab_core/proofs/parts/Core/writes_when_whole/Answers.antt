@@ -1,7 +1,7 @@
-use Rattle.std.proofs.Common.{◌≡◌, ◌∙◌, sym, ap}
+use Rattle.std.proofs.Common.{◌∙◌, sym, ap}
 use Rattle.std.proofs.lemmas.Bool.{eq-eqb}
 use Rattle.fab_core.specs.Requests.{writes_data}
-use Rattle.fab_core.proofs.Feeding.{writes_first, writes_later, writes_reply, writes_request}
+use Rattle.fab_core.proofs.Feeding.{writes_first, writes_reply, writes_request}
 use Rattle.fab_core.proofs.parts.Core.writes_when_whole.Goals as goal
 
 pub returns-then-is_request : goal.returns-then-is_request

@@ -91,16 +91,16 @@ returns-clause-outcome g c =
     let there = item_there (λ item. length item.bytes ≡ item.head.total) (begun_of c.self.inside.past source)
     (subst (λ (v : Arriving). IsSomeAnd (begun_of v source) (λ item. length item.bytes ≡ item.head.total)) (sym c.self.view_is) c.requires.whole) in
     let v = c.self.inside.past in
-    let told : c.match-way.result ≡ handed (last_of source v) (ended (coming_from v.rx source) source there.0) = elim c.match-way.branch [
+    let told : c.match-way.result ≡ handed v (last_of source v) (ended (coming_from v.rx source) source there.0) = elim c.match-way.branch [
       | in-Into w ↦ w.result-is ∙ outcome_into _ _ _ _ _ _ _ c.self.invariant.kept source within there.0 there.1 c.in-Some.begun c.in-Some.ensures.value w.in-Into.seat w.in-Into.is w.complete.result w.complete.ensures
       | in-Part w ↦
           let put = w.place.ensures.cells ∙ ap (λ xs. set c.self.inside.seats.cells w.in-Part.id (option_map (placed_in w.in-Part.at xs) (at c.self.inside.seats w.in-Part.id))) w.as_slice.ensures.value in
           let slice = w.as_slice-in-Part.ensures.value ∙ c.lift.ensures.rest in
-          let buffer = w.release-released.ensures.buffer ∙ ap (λ xs. cond (is_over xs c.self.inside.closing.items w.in-Part.id) (option_map released_of (at w.place.new.self w.in-Part.id)) None) slice in
-          w.result-is ∙ w.received.ensures (last_of source v) (buffer ∙ buffer_part _ _ _ _ _ _ _ c.self.invariant.kept _ c.self.invariant.shared source within there.0 there.1 c.in-Some.begun c.in-Some.ensures.value w.in-Part.id w.in-Part.at w.in-Part.bytes w.in-Part.is w.place.new.self put) ∙ ap (handed (last_of source v)) (part_ends _ _ _ _ _ _ _ c.self.invariant.kept _ c.self.invariant.shared source within there.0 there.1 c.in-Some.begun c.in-Some.ensures.value w.in-Part.id w.in-Part.at w.in-Part.bytes w.in-Part.is w.part-completed.result w.part-completed.ensures)
+          let buffer = w.release-released.ensures.buffer ∙ ap (λ xs. cond (is_over xs c.self.inside.closing.items w.in-Part.id) (option_map (released_of w.in-Part.id) (at w.place.new.self w.in-Part.id)) None) slice in
+          w.result-is ∙ w.received.ensures v (last_of source v) (buffer ∙ buffer_part _ _ _ _ _ _ _ c.self.invariant.kept _ c.self.invariant.shared source within there.0 there.1 c.in-Some.begun c.in-Some.ensures.value w.in-Part.id w.in-Part.at w.in-Part.bytes w.in-Part.is w.place.new.self put) ∙ ap (handed v (last_of source v)) (part_ends _ _ _ _ _ _ _ c.self.invariant.kept _ c.self.invariant.shared source within there.0 there.1 c.in-Some.begun c.in-Some.ensures.value w.in-Part.id w.in-Part.at w.in-Part.bytes w.in-Part.is w.part-completed.result w.part-completed.ensures)
       | in-Keep w ↦ w.result-is ∙ outcome_kept _ _ _ _ _ _ _ c.self.invariant.kept source within there.0 there.1 c.in-Some.begun c.in-Some.ensures.value w.in-Keep.id w.in-Keep.bytes w.in-Keep.is
       | in-Throw w ↦ w.result-is ∙ outcome_thrown _ _ _ _ _ _ _ c.self.invariant.kept source within there.0 there.1 c.in-Some.begun c.in-Some.ensures.value w.in-Throw.is
       | in-Gather w ↦ w.result-is ∙ outcome_gathered _ _ _ _ _ _ _ c.self.invariant.kept source within there.0 there.1 c.in-Some.begun c.in-Some.ensures.value w.in-Gather.bytes w.in-Gather.is w.from_vec-in-Gather.result w.from_vec-in-Gather.ensures w.gathered.result w.gathered.ensures
     ] in
-    subst (λ (v : Arriving). IfSome (begun_of v source) (λ item. c.match-way.result ≡ handed (last_of source v) (ended (coming_from v.rx source) source item))) c.self.view_is
-    (at_some (begun_of v source) there.0 there.1 (λ item. c.match-way.result ≡ handed (last_of source v) (ended (coming_from v.rx source) source item)) told)
+    subst (λ (v : Arriving). IfSome (begun_of v source) (λ item. c.match-way.result ≡ handed v (last_of source v) (ended (coming_from v.rx source) source item))) c.self.view_is
+    (at_some (begun_of v source) there.0 there.1 (λ item. c.match-way.result ≡ handed v (last_of source v) (ended (coming_from v.rx source) source item)) told)

@@ -39,4 +39,4 @@ invariant_of-self-2 g c =
 pub returns-clause-found : goal.returns-clause-found
 returns-clause-found g c =
     let e = ap (find (may_leave_at c.args.ctx c.self.inside.seats c.self.inside.coming.items)) (sym c.self.invariant.order) ∙ ap (λ (xs : List (Option Begun)). find (may_leave_at c.args.ctx c.self.inside.seats xs) c.self.inside.order.items) (sym c.as_slice.ensures.value) ∙ sym c.in-Some.ensures in
-    rw (← c.self.view_is) (cancelled_is _ _ _ _ _ _ _ c.self.invariant.kept c.self.invariant.numbers _ c.self.invariant.shared c.args.ctx c.in-Some.meant e c.in-Some-take.field-0 c.in-Some-take.ensures.value)
+    rw (← c.self.view_is, c.id_where.ensures) (cancelled_is _ _ _ _ _ _ _ c.self.invariant.kept c.self.invariant.numbers _ c.self.invariant.shared c.args.ctx c.in-Some.meant e c.in-Some-take.field-0 c.in-Some-take.ensures.value)

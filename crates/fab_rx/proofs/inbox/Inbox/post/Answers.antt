@@ -40,7 +40,7 @@ invariant_of-self g c =
     let fit : IsFit r = record { single = λ alone. refl; within = omega arith; small = λ some. absurd (cc) } in
     let new = fresh_seat _ _ _ _ _ _ _ c.self.invariant.kept c.put-id.result c.put-id.ensures.empty in
     rw (c.note.ensures, c.add_posted.ensures.posted, c.add_posted.ensures.unexpected, c.add_posted.ensures.room, none) (record {
-      kept = joins _ _ _ _ _ _ _ c.self.invariant.kept c.put-id.result c.put-id.ensures.empty r fit (less none) c.put-id.new.self c.put-id.ensures.within c.put-id.ensures.cells (r.call + 1) c.self.inside.past.multi;
+      kept = joins _ _ _ _ _ _ _ c.self.invariant.kept c.put-id.result c.put-id.ensures.empty r fit (less none) c.put-id.new.self c.put-id.ensures.within c.put-id.ensures.cells (r.call + 1) c.self.inside.past.multis;
       order = joined _ _ _ (c.put-id.result, c.args.want) c.self.invariant.order c.push_back_reserved.ensures.items;
       reserved = rw c.push_back_reserved.ensures.capacity c.self.invariant.reserved;
       numbers = rw none at (numbers_join c.self.inside.past c.self.invariant.numbers r later none);
@@ -98,7 +98,7 @@ invariant_of-self-2 g c =
       order = c.self.invariant.order;
       reserved = c.self.invariant.reserved;
       numbers = numbers_given c.self.inside.past c.self.invariant.numbers t.member r later;
-      shared = multi_moved _ _ _ _ _ _ _ _ _ _ c.self.invariant.shared c.in-Some.id t.member (found_partly _ _ _ _ _ _ _ c.self.invariant.kept c.args.want c.in-Some.id (sym c.in-Some.ensures.first) t.member here) long (redirected c.args.buf c.args.ctx) (Into r 0) (λ b. (r, refl, refl, c.self.invariant.shared.fresh r.call later)) (r.call + 1) (omega arith) _ (c.give.ensures.coming t.member here);
+      shared = multi_moved _ _ _ _ _ _ _ _ _ _ c.self.invariant.shared c.in-Some.id t.member (found_partly _ _ _ _ _ _ _ c.self.invariant.kept c.args.want c.in-Some.id (sym c.in-Some.ensures.first) t.member here) long (redirected c.args.buf c.args.ctx) (Into r 0) (λ b k. (r, refl, refl, c.self.invariant.shared.fresh r.call later)) (r.call + 1) (omega arith) _ (c.give.ensures.coming t.member here);
       closable = rw (c.give.ensures.coming t.member here, length_turned _ _ _ _) c.self.invariant.closable;
       aside =
           unexpected_claims _ _ _ _ _ _ _ c.self.invariant.kept _ _ c.self.invariant.aside c.in-Some.id c.give.new.parcels c.give.ensures.cells c.give.ensures.free (redirected c.args.buf c.args.ctx) (Into r 0) turns _ c.give.ensures.coming (r.call + 1) c.args.want (sym c.in-Some.ensures.first) _ rest c.remove_unexpected.ensures.gone;

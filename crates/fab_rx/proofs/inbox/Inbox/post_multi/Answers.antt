@@ -1,4 +1,4 @@
-use Rattle.std.proofs.Common.{ℕ, ◌+◌, ◌<◌, ◌≤◌, ◌∙◌, true, length, subst, sym, ap, refl, arith}
+use Rattle.std.proofs.Common.{ℕ, ◌∷◌, ◌+◌, ◌<◌, ◌≤◌, ◌∙◌, true, length, subst, sym, ap, refl, arith}
 use Rattle.std.specs.Prelude.{unwrap_or}
 use Rattle.std.proofs.lemmas.List.{length-map}
 use Rattle.fab_base.specs.declared.items.Want.{Want}
@@ -11,6 +11,11 @@ use Rattle.fab_rx.proofs.Numbering.{numbers_joined}
 use Rattle.fab_rx.proofs.Posting.{fresh_seat, joins}
 use Rattle.fab_rx.proofs.Sharing.{multi_opened}
 use Rattle.fab_rx.proofs.inbox.Inbox.post_multi.Goals as goal
+
+pub next_id-next-requires : goal.next_id-next-requires
+next_id-next-requires g c =
+    let less : length c.self.inside.past.rx.posted < c.self.inside.past.most = subst (λ (v : Arriving). length v.rx.posted < v.most) (sym c.self.view_is) c.requires.room in
+    seat_free _ _ _ _ _ _ _ c.self.invariant.kept _ c.self.invariant.shared less
 
 pub put-id-requires : goal.put-id-requires
 put-id-requires g c =
@@ -42,8 +47,9 @@ invariant_of-self g c =
     let r = multi_by (g.C.Caller.call c.args.about.now) c.args.want c.args.buf c.args.least c.args.ctx in
     let fit : IsFit r = record { single = λ alone. absurd (cc); within = omega arith; small = λ some. c.requires.small } in
     let new = fresh_seat _ _ _ _ _ _ _ c.self.invariant.kept c.put-id.result c.put-id.ensures.empty in
-    rw (c.note.ensures, c.add_posted.ensures.posted, c.add_posted.ensures.unexpected, c.add_posted.ensures.room) (record {
-      kept = joins _ _ _ _ _ _ _ c.self.invariant.kept c.put-id.result c.put-id.ensures.empty r fit less c.put-id.new.self c.put-id.ensures.within c.put-id.ensures.cells (r.call + 1) true;
+    let same = c.next_id-next.ensures.id ∙ sym c.put-id.ensures.id in
+    rw (c.note.ensures, same, c.add_posted.ensures.posted, c.add_posted.ensures.unexpected, c.add_posted.ensures.room) (record {
+      kept = joins _ _ _ _ _ _ _ c.self.invariant.kept c.put-id.result c.put-id.ensures.empty r fit less c.put-id.new.self c.put-id.ensures.within c.put-id.ensures.cells (r.call + 1) ((c.put-id.result, r.call) ∷ c.self.inside.past.multis);
       order = joined _ _ _ (c.put-id.result, c.args.want) c.self.invariant.order c.push_back_reserved.ensures.items;
       reserved = rw c.push_back_reserved.ensures.capacity c.self.invariant.reserved;
       numbers = numbers_joined c.self.inside.past c.self.invariant.numbers r later;

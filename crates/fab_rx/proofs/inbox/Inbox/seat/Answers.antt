@@ -47,7 +47,7 @@ give_room-requires-clause-room g c =
     let e = sym c.in-Some.ensures.first in
     let less = room_to_close _ _ _ _ _ _ _ c.self.invariant.kept _ c.self.invariant.shared source within nothing in
     let closable = c.self.invariant.closable in
-    omega arith
+    λ left. omega arith
 
 pub invariant_of-self-in-Some-multi_at : goal.invariant_of-self-in-Some-multi_at
 invariant_of-self-in-Some-multi_at g c = by_left (left_by c.args.head.now.total (at c.self.inside.seats c.in-Some.id)) refl
