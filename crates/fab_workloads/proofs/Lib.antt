@@ -1,0 +1,5 @@
+mod Few
+mod Granted
+mod Joined
+mod Rows
+mod Windows
