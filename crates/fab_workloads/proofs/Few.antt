@@ -45,18 +45,18 @@ window_most count window (suc v) = omega (arith, capped (v * window) window coun
 pub window_few : (count window w : ℕ) → window ≤ 256 → sent_by count window w - sent_by count window (w - 1) ≤ 256
 window_few count window w most = omega (arith, window_most count window w, most)
 
-in_window_long : (count window w : ℕ) (f : ℕ → LineOp)
+pub in_window_long : (count window w : ℕ) (f : ℕ → LineOp)
     → length (in_window count window w (λ m. f m ∷ [])) ≡ sent_by count window w - sent_by count window (w - 1)
 in_window_long count window w f =
     joined_singles (sent_by count window w - sent_by count window (w - 1)) (λ k. f (sent_by count window (w - 1) + k))
 
-sending_few : (count window : ℕ) (payload : List ℕ) (w : ℕ) → window ≤ 256 → length (sending count window payload w) ≤ 600
+pub sending_few : (count window : ℕ) (payload : List ℕ) (w : ℕ) → window ≤ 256 → length (sending count window payload w) ≤ 600
 sending_few count window payload w most =
     let sends = in_window count window w (λ m. send m 1 m (Hex payload) ∷ []) in
     let rest : List LineOp = receive (count + w) 1 (count + w) 4 ∷ wait (count + w) ∷ [] in
     omega (arith, length-append sends rest, in_window_long count window w (λ m. send m 1 m (Hex payload)), window_few count window w most)
 
-receiving_few : (size count window w : ℕ) → window ≤ 256 → length (receiving size count window w) ≤ 600
+pub receiving_few : (size count window w : ℕ) → window ≤ 256 → length (receiving size count window w) ≤ 600
 receiving_few size count window w most =
     let posts = in_window count window w (λ m. receive m 0 m size ∷ []) in
     let waits = in_window count window w (λ m. wait m ∷ []) in
@@ -76,7 +76,7 @@ choice_few : (b : Bool) (xs : List LineOp) → length xs ≤ 600 → length (if 
 choice_few true xs few = few
 choice_few false xs few = omega arith
 
-lines_few : (number peers messages p : ℕ) → messages ≤ 8_192 → length (sends number peers messages p ++ receives number peers messages p) ≤ 9_830_400
+pub lines_few : (number peers messages p : ℕ) → messages ≤ 8_192 → length (sends number peers messages p ++ receives number peers messages p) ≤ 9_830_400
 lines_few number peers messages p most = omega (
   arith,
   length-append (sends number peers messages p) (receives number peers messages p),
@@ -93,7 +93,7 @@ all_few f (suc n) few =
 
 -- ---- the script
 
-windows_few : (count window : ℕ) → count ≤ 10_000 → window ≤ 256 → windows count window ≤ 10_256
+pub windows_few : (count window : ℕ) → count ≤ 10_000 → window ≤ 256 → windows count window ≤ 10_256
 windows_few count window few most = omega (arith, div-le_self (count + (window - 1)) window, few, most)
 
 pub few_lines : (w : Workload) (file : List ℕ) → IsWithin w → sum_by length (ops_of w file) ≤ 1_000_000_000

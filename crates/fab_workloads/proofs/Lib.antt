@@ -1,4 +1,4 @@
-mod Few
+pub mod Few
 mod Granted
 mod Joined
 mod Rows

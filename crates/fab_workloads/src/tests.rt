@@ -1,4 +1,7 @@
 //! The lines that commands write, from their words on, and the lines of a script.
+ghost use Rattle.std.specs.Prelude.{IfOk};
+ghost use Rattle.fab_workloads.specs.Commands.{IsWithin};
+
 use crate::{Workload, bench_line, bound, payload_file, workload_of};
 use fab_base::{LineOp, Text};
 use std::alloc::Global;
@@ -13,7 +16,9 @@ fn words(alloc: Global, line: &str) -> Result<Vec<Text>, Fail> {
 }
 
 /// What these words ask for.
-fn asked(alloc: Global, line: &str) -> Result<Workload, Fail> {
+fn asked(alloc: Global, line: &str) -> Result<Workload, Fail>
+    ensures { IfOk result IsWithin }
+{
     let words = words(alloc, line)?;
     match workload_of(&words) {
         Some(workload) => Ok(workload),
@@ -99,6 +104,6 @@ fn a_short_file_is_followed_by_zeros(rt: HostRuntime) -> Result<(), Fail> {
         )
     );
     assert!(rt; matches!(&lines[2].op, LineOp::Wait { ctx: Some(2) }));
-    assert!(rt; peers[1].as_slice()[0].number == 4);
+    assert!(rt; matches!(peers[1].as_slice(), [first, ..] if first.number == 4));
     Ok(())
 }
