@@ -1,7 +1,7 @@
 mod Bandwidth
 mod Batches
 mod Done
-mod Every
+pub mod Every
 mod Generated
 mod Joined
 mod Ops

@@ -2,4 +2,5 @@ pub mod Few
 mod Granted
 mod Joined
 mod Rows
+mod Sums
 mod Windows

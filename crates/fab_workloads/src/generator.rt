@@ -1,5 +1,6 @@
 //! The messages that `gen` makes of a number, and their lines.
 ghost use Rattle.std.specs.Prelude.{◌≡◌, ◌≤◌, ◌<◌, ◌+◌, ◌++◌, ◌^◌, [], map, sum, IfOk, OnOk};
+ghost use Rattle.fab_model.specs.Calls.{upto};
 ghost use Rattle.fab_workloads.specs.Generator.{drawn, next_drawn, source_of, dest_of, tag_of, length_of, byte_of, bytes_of, send_of, receive_of, sends, receives, total, generated_bytes, generated_sum};
 
 use crate::lines::{receive, send, wait};
@@ -68,16 +69,26 @@ impl Drawn {
         Ok(bytes)
     }
 
-    /// What its bytes come to.
+    /// What its first bytes come to.
+    fn sum_of_first(self, n: u32) -> u64
+        requires { n < 256 }
+        ensures value { result ≡ sum (map (byte_of self.x) (upto n)) }
+        ensures few { result ≤ 65_280 }
+    {
+        let mut sum: u64 = 0;
+        for j in 0..n {
+            sum += u64::from(self.byte(j));
+        }
+        sum
+    }
+
+    /// What its bytes come to: each 256 that follow one another come to 32,640, wherever they begin.
     fn sum(self) -> u64
         ensures value { result ≡ sum (bytes_of self.x) }
         ensures few { result ≤ 4_177_920 }
     {
-        let mut sum: u64 = 0;
-        for j in 0..self.len() {
-            sum += u64::from(self.byte(j));
-        }
-        sum
+        let len = self.len();
+        32_640 * u64::from(len / 256) + self.sum_of_first(len % 256)
     }
 }
 
