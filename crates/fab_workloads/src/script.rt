@@ -158,7 +158,8 @@ fn all_numbered(alloc: Global, lists: Vec<Vec<LineOp>>) -> Result<List<List<Line
 #[tactic(auto, unfolding(crate::specs::Script::bound_of))]
 pub fn bound(alloc: Global, workload: Workload, file: &[u8]) -> Result<Bound, NoMemory>
     requires { IsWithin workload }
-    ensures { IfOk result (λ bound. bound ≡ bound_of workload file.now) }
+    ensures value { IfOk result (λ bound. bound ≡ bound_of workload file.now) }
+    ensures sized { IfOk result (λ bound. (2 ≤ bound.script.conf.info.cq) × (4 ≤ bound.script.conf.info.log)) }
 {
     let ops = ops_of(alloc, workload, file)?;
     let peers = all_numbered(alloc, ops)?;
