@@ -1,0 +1,14 @@
+use Rattle.std.proofs.Common.{ap, ap₂, sym, ◌++◌, ◌+◌, ◌∙◌, ◌≡◌}
+use Rattle.fab_workloads.specs.Generator.{drawn, next_drawn, receive_of}
+use Rattle.fab_workloads.proofs.Joined.{drawn_more, joined_after}
+use Rattle.fab_workloads.proofs.generator.add_receives.Goals as goal
+
+pub loop-m-preserved : goal.loop-m-preserved
+loop-m-preserved c =
+    let m = c.loop-m.m in
+    let x : c.next-drawn.result.x ≡ drawn c.args.number (m + 1) = c.next-drawn.ensures ∙ ap next_drawn c.loop-m.invariant.0 ∙ sym (drawn_more c.args.number m) in
+    let ctx = ap₂ (λ n k. n + (k + 1)) c.from.ensures c.from-in-loop-m.ensures in (
+      x,
+      joined_after m (λ m. receive_of c.args.peers c.args.p (c.args.messages + m) (drawn c.args.number m)) c.args.ops.now.items c.loop-m.ops.items _
+          (c.in_ok-add_receive.ensures ∙ ap₂ (λ k y. c.loop-m.ops.items ++ receive_of c.args.peers c.args.p k y) ctx x) c.loop-m.invariant.1,
+    )

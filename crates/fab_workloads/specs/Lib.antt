@@ -1,0 +1,5 @@
+pub mod Commands
+pub mod Lines
+pub mod Generator
+pub mod Script
+pub mod Bench

@@ -1,0 +1,20 @@
+//! The scripts that the commands `pingpong`, `bandwidth` and `gen` run, and the line that each prints.
+//!
+//! A [`Workload`] is what the words of such a command ask for ([`workload_of`]). [`bound`] makes its script, with the
+//! bytes in it, and [`bench_line`] the line that is printed at the end. The definitions are in specs/: `Commands` has
+//! the words and their ranges, `Lines` the lines of `pingpong` and `bandwidth`, `Generator` the messages of `gen` and
+//! their lines, `Script` the script as a whole, and `Bench` the line that is printed. That these scripts are settled, and
+//! that none gets stuck, is the law of the crate `fab_workload_laws`.
+#![tactic(auto)]
+
+mod bench;
+mod generator;
+mod lines;
+mod script;
+#[cfg(test)]
+mod tests;
+mod workload;
+
+pub use bench::bench_line;
+pub use script::bound;
+pub use workload::{Workload, payload_file, workload_of};
