@@ -1,0 +1,17 @@
+pub mod Again
+pub mod Calm
+pub mod Cutting
+pub mod Files
+pub mod Filling
+pub mod Gets
+pub mod Judging
+pub mod Lists
+pub mod Multis
+pub mod Numerals
+pub mod Parts
+pub mod Replaying
+pub mod Resting
+pub mod Starting
+pub mod Steps
+pub mod Telling
+pub mod Tests

@@ -1,0 +1,4 @@
+pub mod Reading
+pub mod Rest
+pub mod Seen
+pub mod Verdict

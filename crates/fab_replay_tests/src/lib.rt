@@ -1,0 +1,8 @@
+//! Tests of `fab_replay`: what it says of reports that were made, changed, cut short or left out.
+//!
+//! They stand in a crate of their own, so that `fab_replay` isn't proved twice, and since a script is read
+//! above it.
+#![tactic(auto)]
+
+#[cfg(test)]
+mod verdicts;

@@ -1,0 +1,84 @@
+-- Words with a blank before each.
+use Rattle.std.proofs.Common.{◌≡◌, ℕ, List, [], ◌∷◌, ◌++◌, ◌≤◌, ◌⊎◌, inl, inr, length, drop, min, arith, refl, sym, ap, ◌∙◌, append_assoc, map, codes, Result, Ok, Err, OnOk}
+use Rattle.std.proofs.lemmas.List.{append-nil}
+use Rattle.std.specs.List.{join_with_byte}
+use Rattle.fab_model.specs.Words.{Word, line_of, text_of}
+use Rattle.std.proofs.Math.ListN.{drop_of_length-le}
+use Rattle.fab_base.specs.declared.entries.Kept.{Kept}
+use Rattle.fab_base.specs.declared.script.Line.{Line}
+use Rattle.fab_base.specs.declared.peers.LineResult.{LineResult}
+use Rattle.fab_model.specs.Report.{kept_words, done_lines}
+use Rattle.fab_report.specs.Texts.{after_blanks}
+
+pub after_blanks-append : (xs ys : List Word) → after_blanks (xs ++ ys) ≡ after_blanks xs ++ after_blanks ys
+after_blanks-append [] ys = refl
+after_blanks-append (x ∷ xs) ys =
+    ap (λ text. 32 ∷ x ++ text) (after_blanks-append xs ys) ∙ sym (append_assoc (32 ∷ x) (after_blanks xs) (after_blanks ys))
+
+pub joined : (x : Word) (xs : List Word) → join_with_byte 32 (x ∷ xs) ≡ x ++ after_blanks xs
+joined x [] = sym (append-nil x)
+joined x (y ∷ ys) = ap (λ text. x ++ 32 ∷ text) (joined y ys)
+
+pub line_of-cons : (x : Word) (xs : List Word) → line_of (x ∷ xs) ≡ x ++ after_blanks xs ++ 10 ∷ []
+line_of-cons x xs = ap (λ text. text ++ 10 ∷ []) (joined x xs)
+
+pub text_of-append : (xs ys : List (List Word)) → text_of (xs ++ ys) ≡ text_of xs ++ text_of ys
+text_of-append [] ys = refl
+text_of-append (x ∷ xs) ys =
+    ap (λ text. line_of x ++ text) (text_of-append xs ys) ∙ sym (append_assoc (line_of x) (text_of xs) (text_of ys))
+
+-- the lines of the entries left
+abbrev pub left_text : List Kept → List ℕ
+left_text kept = text_of (map (λ k. codes "left" ∷ kept_words k) kept)
+
+-- words after words
+pub words_more : (from now next : List ℕ) (xs ys : List Word) → now ≡ from ++ after_blanks xs → next ≡ now ++ after_blanks ys → next ≡ from ++ after_blanks (xs ++ ys)
+words_more from now next xs ys wrote writes =
+    writes ∙ ap (λ text. text ++ after_blanks ys) wrote ∙ append_assoc from (after_blanks xs) (after_blanks ys)
+    ∙ ap (λ text. from ++ text) (sym (after_blanks-append xs ys))
+
+-- the same for a last call whose answer is handed on
+pub words_last : {T E : Type 0} (r : Result T E) (from now next : List ℕ) (xs ys : List Word) → now ≡ from ++ after_blanks xs → OnOk r (next ≡ now ++ after_blanks ys) → OnOk r (next ≡ from ++ after_blanks (xs ++ ys))
+words_last (Ok x) from now next xs ys wrote writes = words_more from now next xs ys wrote writes
+words_last (Err e) from now next xs ys wrote writes = tt
+
+-- a first word, the words after it, and the line's end
+pub line_done : (from begun now next : List ℕ) (x : Word) (xs : List Word) → begun ≡ from ++ x → now ≡ begun ++ after_blanks xs → next ≡ now ++ 10 ∷ [] → next ≡ from ++ line_of (x ∷ xs)
+line_done from begun now next x xs first words end =
+    end ∙ ap (λ text. text ++ 10 ∷ []) (words ∙ ap (λ text. text ++ after_blanks xs) first ∙ append_assoc from x (after_blanks xs))
+    ∙ append_assoc from (x ++ after_blanks xs) (10 ∷ []) ∙ ap (λ text. from ++ text) (sym (line_of-cons x xs))
+
+-- no line is done where there are no lines, or no results
+done_lines-none : (lines : List Line) (results : List LineResult) → (lines ≡ []) ⊎ (results ≡ []) → done_lines lines results ≡ []
+done_lines-none [] results none = refl
+done_lines-none (line ∷ lines) [] none = refl
+done_lines-none (line ∷ lines) (x ∷ results) (inl none) = cc
+done_lines-none (line ∷ lines) (x ∷ results) (inr none) = cc
+
+either_within : (m n i : ℕ) → i ≡ min m n → (m ≤ i) ⊎ (n ≤ i)
+either_within m n i is = grind arith
+
+one_empty : (lines : List Line) (results : List LineResult) (i : ℕ) → (length lines ≤ i) ⊎ (length results ≤ i) → (drop i lines ≡ []) ⊎ (drop i results ≡ [])
+one_empty lines results i (inl short) = inl (drop_of_length-le lines short)
+one_empty lines results i (inr short) = inr (drop_of_length-le results short)
+
+-- at the end of a loop over lines and results all done lines are written
+pub done_all : (lines : List Line) (results : List LineResult) (i : ℕ) (from now text : List ℕ) → i ≡ min (length lines) (length results) → now ++ text_of (done_lines (drop i lines) (drop i results)) ≡ from ++ text → now ≡ from ++ text
+done_all lines results i from now text end so_far =
+    sym (append-nil now)
+    ∙ ap (λ rest. now ++ text_of rest) (sym (done_lines-none (drop i lines) (drop i results) (one_empty lines results i (either_within (length lines) (length results) i end))))
+    ∙ so_far
+
+-- the parts of a peer's text
+pub part_more : (from now next : List ℕ) (xs ys : List (List Word)) → now ≡ from ++ text_of xs → next ≡ now ++ text_of ys → next ≡ from ++ text_of (xs ++ ys)
+part_more from now next xs ys wrote writes =
+    writes ∙ ap (λ text. text ++ text_of ys) wrote ∙ append_assoc from (text_of xs) (text_of ys)
+    ∙ ap (λ text. from ++ text) (sym (text_of-append xs ys))
+
+-- a last line, whose answer is handed on
+pub part_last : {T E : Type 0} (r : Result T E) (from now next : List ℕ) (xs : List (List Word)) (y : List Word) → now ≡ from ++ text_of xs → OnOk r (next ≡ now ++ line_of y) → OnOk r (next ≡ from ++ text_of (xs ++ y ∷ []))
+part_last (Ok x) from now next xs y wrote writes =
+    part_more from now next xs (y ∷ []) wrote (writes ∙ ap (λ text. now ++ text) (sym (append-nil (line_of y))))
+part_last (Err e) from now next xs y wrote writes = tt
+
+pub ruleset blanks = (after_blanks-append, append_assoc, append-nil)

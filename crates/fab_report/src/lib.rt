@@ -1,0 +1,9 @@
+//! The text of a report, part by part: its first line, the part of each peer, and its last line.
+//!
+//! It knows what a peer's lines did, what it read and which steps it took, and nothing of how it came to
+//! that.
+#![tactic(auto)]
+
+mod report;
+
+pub use report::{add_first, add_last, add_peer};
