@@ -78,8 +78,8 @@ part_fed id place mid (Keep n bytes) k = eq-eqb id id refl
 part_fed id place mid Throw k = absurd k
 part_fed id place mid (Gather bytes) k = absurd k
 
-module _ (ps : List (ℕ × Want)) (us : List (ℕ × Sign)) (room : ℕ) (seats : Cells Waiting) (parcels : Cells Parcel) (coming : List (Option Begun)) (ids : List ℕ) (capacity : ℕ) (claims : List (ℕ × ℕ)) (claimable : ℕ) (cs : List (ℕ × ℕ)) (room_to_close : ℕ) (v : Arriving)
-    (inv : IsInbox ps us room seats parcels coming ids capacity claims claimable cs room_to_close v) (id : ℕ) (e : find (draws_at seats us) ids ≡ Some id) (q : Multi) (shared_at : multi_at seats id ≡ Some q) where
+module _ (ps : List (ℕ × Want)) (us : List (ℕ × Sign)) (room : ℕ) (seats : Cells Waiting) (parcels : Cells Parcel) (coming : List (Option Begun)) (ids : List ℕ) (capacity : ℕ) (claims : List (ℕ × ℕ)) (claimable : ℕ) (cs : List (ℕ × ℕ)) (room_to_close : ℕ) (shares : Bool) (v : Arriving)
+    (inv : IsInbox ps us room seats parcels coming ids capacity claims claimable cs room_to_close shares v) (id : ℕ) (e : find (draws_at seats us) ids ≡ Some id) (q : Multi) (shared_at : multi_at seats id ≡ Some q) where
   abbrev test : Receive → Bool
   test = draws v.rx.unexpected
 
@@ -343,7 +343,7 @@ module _ (ps : List (ℕ × Want)) (us : List (ℕ × Sign)) (room : ℕ) (seats
           abbrev pub Given : Cells Waiting → Type 0
           Given seats_then = (posted : List (ℕ × Want)) (order : List ℕ) (fits_in : ℕ) (closing : List (ℕ × ℕ)) (to_close : ℕ) → posted ≡ kept_or (left_by total (at seats id)) ps (without id ps) → (is_some (left_by total (at seats id)) ≡ true → has_id id posted ≡ false)
               → order ≡ kept_or (left_by total (at seats id)) ids (remove_first (λ other. other == id) ids) → fits_in ≡ capacity → ((ctx : ℕ) → left_by total (at seats id) ≡ Some ctx → closing ≡ cs ++ (id, ctx) ∷ [])
-              → (left_by total (at seats id) ≡ None → closing ≡ cs) → to_close ≡ room_to_close → IsInbox posted rest room seats_then others now order fits_in claims claimable closing to_close (drawing v)
+              → (left_by total (at seats id) ≡ None → closing ≡ cs) → to_close ≡ room_to_close → IsInbox posted rest room seats_then others now order fits_in claims claimable closing to_close shares (drawing v)
 
           -- ---- the receive has given room to it
 
@@ -354,7 +354,7 @@ module _ (ps : List (ℕ × Want)) (us : List (ℕ × Sign)) (room : ℕ) (seats
             given : Given seats_then
             given posted order fits_in closing to_close is_posted gone is_order is_capacity closes opens is_room = by (left_by total (at seats id)) refl
               where
-                by : (o : Option ℕ) → left_by total (at seats id) ≡ o → IsInbox posted rest room seats_then others now order fits_in claims claimable closing to_close (drawing v)
+                by : (o : Option ℕ) → left_by total (at seats id) ≡ o → IsInbox posted rest room seats_then others now order fits_in claims claimable closing to_close shares (drawing v)
                 by None stay =
                     rw (is_posted, is_order, stay, is_capacity, opens stay, is_room, eq_on stay) (record {
                       kept = kept_on ps rest room seats others now left kept_left cs multi_left (draws_at seats us) test agree id e_ps q shared_at g same fitting f alike seats_then cells free;
@@ -364,6 +364,7 @@ module _ (ps : List (ℕ × Want)) (us : List (ℕ × Sign)) (room : ℕ) (seats
                       aside = claims_left;
                       shared = multi_on ps rest room seats others now left kept_left cs multi_left (draws_at seats us) test agree id e_ps q shared_at g same fitting f alike seats_then cells free;
                       closable = let closable = inv.closable in let same_long = long in omega arith;
+                      sharing = inv.sharing;
                     })
                 by (Some ctx) leave =
                     let left_ctx : ctx ≡ r.ctx = (left_some total (waiting_of r) ctx (ap (left_by total) (sym r_there) ∙ leave)).1 in
@@ -381,6 +382,7 @@ module _ (ps : List (ℕ × Want)) (us : List (ℕ × Sign)) (room : ℕ) (seats
                       shared = subst (λ (y : Receive). AreMulti posted (cs ++ (id, ctx) ∷ []) seats_then now (remove_first test v.rx.posted) (v.rx.closing ++ g y ∷ []) comes v.next v.multis v.most) same_giver
                           (multi_off ps rest room seats others now left kept_left cs multi_left (draws_at seats us) test agree id e_ps q shared_at g same fitting f alike seats_then cells free ctx is_ctx fed posted out lacking);
                       closable = let closable = inv.closable in let same_long = long in omega arith;
+                      sharing = inv.sharing;
                     })
 
           on_by : left_by total (at seats id) ≡ None → stays total r ≡ true
@@ -481,7 +483,7 @@ module _ (ps : List (ℕ × Want)) (us : List (ℕ × Sign)) (room : ℕ) (seats
                     ∙ ap (set seats.cells id) (rw (r_there, r_some.2) refl)
 
             pub drawn_over : is_closed coming id total (at seats id) ≡ true → (seats_then : Cells Waiting) → seats_then.cells ≡ set seats.cells id None → length seats_then.free ≡ length seats.free + 1 → (posted : List (ℕ × Want)) → posted ≡ without id ps → has_id id posted ≡ false
-                → (order : List ℕ) → order ≡ remove_first (λ other. other == id) ids → (fits_in : ℕ) → fits_in ≡ capacity → IsInbox posted rest room seats_then others now order fits_in claims claimable cs room_to_close (drawing v)
+                → (order : List ℕ) → order ≡ remove_first (λ other. other == id) ids → (fits_in : ℕ) → fits_in ≡ capacity → IsInbox posted rest room seats_then others now order fits_in claims claimable cs room_to_close shares (drawing v)
             drawn_over over seats_then cells one_more posted out lacking order is_order fits_in is_capacity =
                 let is = over_yes over in
                 let unfed = ap (list_any (is_fed_by id)) now_is ∙ is.2 in
@@ -493,4 +495,5 @@ module _ (ps : List (ℕ × Want)) (us : List (ℕ × Sign)) (room : ℕ) (seats
                   aside = claims_left;
                   shared = multi_out ps rest room seats others now left kept_left cs multi_left (draws_at seats us) test agree id e_ps q shared_at unfed seats_then cells one_more posted out lacking;
                   closable = let closable = inv.closable in let same_long = long in omega arith;
+                  sharing = inv.sharing;
                 })

@@ -55,5 +55,6 @@ invariant_of-self g c =
       numbers = numbers_joined c.self.inside.past c.self.invariant.numbers r later;
       shared = multi_opened _ _ _ _ _ _ _ _ _ _ c.self.invariant.shared c.put-id.result c.args.want c.put-id.ensures.empty r c.put-id.new.self c.put-id.ensures.cells c.put-id.ensures.free new c.args.least refl later c.self.invariant.numbers;
       closable = c.self.invariant.closable;
+      sharing = λ none. absurd (cc);
       aside = c.self.invariant.aside;
     })
