@@ -1,5 +1,5 @@
 -- A draw: what is stored stays true, and what it hands out is what the machine's draw writes.
-use Rattle.std.proofs.Common.{◌≡◌, ◌≢◌, ◌⊎◌, inl, inr, ℕ, ◌+◌, ◌<◌, ◌≤◌, ◌==◌, ◌&&◌, Bool, true, false, not, List, [], ◌∷◌, ◌++◌, length, map, Option, Some, None, get_or, set, refl, sym, ap, subst, ◌∙◌, arith, length-append}
+use Rattle.std.proofs.Common.{◌≡◌, ℕ, ◌+◌, ◌<◌, ◌==◌, Bool, true, false, not, List, [], ◌∷◌, ◌++◌, length, map, Option, Some, None, get_or, set, refl, sym, ap, subst, ◌∙◌, arith}
 use Rattle.std.specs.Prelude.{find, is_some, IsSomeAnd}
 use Rattle.std.specs.Option.{option_map}
 use Rattle.std.specs.List.{AllByRecursion, list_any}
@@ -13,10 +13,10 @@ use Rattle.fab_base.specs.declared.operations.Arrival.{Arrival}
 use Rattle.fab_base.specs.declared.operations.Coming.{Coming}
 use Rattle.fab_base.specs.declared.operations.Coming.TheVariants.{Into as IntoReceive}
 use Rattle.fab_model.specs.Matching.{change_first, remove_first, takes}
-use Rattle.fab_model.specs.State.{Receiving, is_into, under_way}
+use Rattle.fab_model.specs.State.{Receiving, under_way}
 use Rattle.fab_model.specs.Complete.{filled, filling, is_made_by}
 use Rattle.fab_model.specs.Receiving.{draws, goes}
-use Rattle.fab_model.specs.Arrivals.{seated, shut, stays, used_up}
+use Rattle.fab_model.specs.Arrivals.{seated, stays, used_up}
 use Rattle.fab_match.specs.Signs.{fits}
 use Rattle.fab_match.specs.Matcher.{first_id, has_id, without}
 use Rattle.fab_rx.specs.declared.stored.Waiting.{Waiting}
@@ -27,7 +27,6 @@ use Rattle.fab_rx.specs.declared.stored.Way.TheVariants.{Into, Part, Keep, Throw
 use Rattle.fab_rx.specs.declared.stored.Begun.{Begun}
 use Rattle.fab_rx.specs.declared.results.Completed.{Completed}
 use Rattle.fab_rx.specs.declared.results.Released.{Released}
-use Rattle.fab_rx.specs.declared.results.Drawn.{Drawn}
 use Rattle.fab_rx.specs.declared.results.Drawn.TheVariants.{GoesOn, Part as PartDrawn, Last}
 use Rattle.fab_rx.specs.Table.{Cells, at}
 use Rattle.fab_rx.specs.Arriving.{Arriving, shared, with_receiving}
@@ -37,7 +36,7 @@ use Rattle.fab_rx.specs.Drawing.{drawing, drawn, drawn_as, drawn_into, drawn_las
 use Rattle.fab_rx.specs.Stored.{AreClaimed, GoesBy, IsComing, IsFit, IsKept, IsKeptAs, IsKeptWay, Lies, Sits, gone_on, parcel_of, part_way, turned, waiting_of}
 use Rattle.fab_rx.specs.Homes.{AreMulti, GoesHomeBy, IsPart, is_fed_by, is_part_of}
 use Rattle.fab_rx.specs.Numbers.{IsNumbered}
-use Rattle.fab_rx.specs.Sharing.{IsUsable, is_closed, is_spent, kept_or, left_by, multi_at, placed_in, released_of, taken_in, used_up_by}
+use Rattle.fab_rx.specs.Sharing.{IsUsable, is_closed, kept_or, left_by, multi_at, placed_in, released_of, taken_in, used_up_by}
 use Rattle.fab_rx.specs.Whole.{IsInbox}
 use Rattle.fab_rx.proofs.Tables.{id_within}
 use Rattle.fab_rx.proofs.Tying.{IsTaken}
@@ -53,8 +52,8 @@ use Rattle.fab_rx.proofs.Taking.{fit_used, left_none, left_some, seated_off, sea
 use Rattle.fab_rx.proofs.Pasting.{length_paste_at}
 use Rattle.fab_rx.proofs.Onces.{any_where, change_none, change_twice, others_none}
 use Rattle.fab_rx.proofs.Closing.{apart_alone, closing_less_by, others_unfed}
-use Rattle.fab_rx.proofs.Shutting.{closes_as, fed_as, fed_if, last_if, none_made, open_if, shared_fed, shared_last, shared_on, there_is}
-use Rattle.fab_rx.proofs.Giving.{IsSameBut, call, fit, giver, giver_found, home, kept_off, kept_on, kept_out, multi, multi_off, multi_on, multi_out, numbers_off, numbers_on, part, room_given, some, there, unclosed, want_same}
+use Rattle.fab_rx.proofs.Shutting.{closes_as, fed_as, last_if, none_made, shared_fed, shared_last, shared_on, there_is}
+use Rattle.fab_rx.proofs.Giving.{IsSameBut, fit, giver, giver_found, home, kept_off, kept_on, kept_out, multi, multi_off, multi_on, multi_out, numbers_off, numbers_on, part, room_given, some, there, unclosed, want_same}
 
 -- a kept message goes on as a part
 part_goes : (parcels others : Cells Parcel) (s id place mid : ℕ) (r : Receive) → place ≡ r.used → (way : Way) (w : Coming) (i : Item) → IsKeptWay mid way → GoesBy parcels s way w i → GoesBy others s (part_way id place way) (IntoReceive r r.used) i

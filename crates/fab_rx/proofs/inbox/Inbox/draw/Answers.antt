@@ -1,4 +1,4 @@
-use Rattle.std.proofs.Common.{◌≡◌, ◌∙◌, ◌==◌, ◌<◌, ◌≤◌, ℕ, true, false, List, None, Option, Some, length, set, map, refl, sym, ap, subst, rules, get_or, arith}
+use Rattle.std.proofs.Common.{◌≡◌, ◌∙◌, ℕ, true, false, List, None, Option, Some, set, sym, ap, subst, rules, arith}
 use Rattle.std.specs.Prelude.{find, is_some}
 use Rattle.std.specs.Option.{option_map}
 use Rattle.fab_base.specs.declared.items.Want.{Want}
@@ -7,13 +7,9 @@ use Rattle.fab_match.specs.Matcher.{first_id, without}
 use Rattle.fab_match.specs.Signs.{fits}
 use Rattle.fab_match.proofs.Pairs.{without-first}
 use Rattle.fab_rx.specs.declared.stored.Begun.{Begun}
-use Rattle.fab_rx.specs.declared.stored.Waiting.{Waiting}
-use Rattle.fab_rx.specs.declared.stored.Multi.{Multi}
-use Rattle.fab_rx.specs.declared.results.Released.{Released}
-use Rattle.fab_rx.specs.Table.{Cells, at}
+use Rattle.fab_rx.specs.Table.{at}
 use Rattle.fab_rx.specs.Arriving.{Arriving}
 use Rattle.fab_rx.specs.Draws.{draws_at, draws_by}
-use Rattle.fab_rx.specs.Stored.{gone_on}
 use Rattle.fab_rx.specs.Sharing.{is_closed, kept_or, left_by, multi_at, placed_in, released_of, taken_in}
 use Rattle.fab_rx.proofs.Drawing.{due_where}
 use Rattle.fab_rx.proofs.Leaving.{passes}

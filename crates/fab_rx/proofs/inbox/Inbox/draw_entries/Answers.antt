@@ -1,4 +1,4 @@
-use Rattle.std.proofs.Common.{◌≡◌, ◌∙◌, true, false, List, None, Option, Some, refl, sym, ap, rules}
+use Rattle.std.proofs.Common.{◌≡◌, ◌∙◌, true, false, List, None, Option, Some, sym, ap, rules}
 use Rattle.std.specs.Prelude.{find, is_some}
 use Rattle.fab_match.specs.Matcher.{first_id}
 use Rattle.fab_match.specs.Signs.{fits}

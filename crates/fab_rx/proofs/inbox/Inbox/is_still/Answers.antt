@@ -1,4 +1,4 @@
-use Rattle.std.proofs.Common.{◌≡◌, ◌∙◌, ◌==◌, true, false, length, refl, sym, ap, rules}
+use Rattle.std.proofs.Common.{◌≡◌, ◌∙◌, false, length, sym, rules}
 use Rattle.std.proofs.lemmas.Bool.{eqb-true}
 use Rattle.fab_rx.proofs.Known.{still_alone}
 use Rattle.fab_rx.proofs.Drawing.{still_empty}

@@ -1,4 +1,4 @@
-use Rattle.std.proofs.Common.{ℕ, ◌∷◌, ◌+◌, ◌<◌, ◌≤◌, ◌∙◌, true, length, subst, sym, ap, refl, arith}
+use Rattle.std.proofs.Common.{ℕ, ◌∷◌, ◌+◌, ◌<◌, ◌≤◌, ◌∙◌, length, subst, sym, ap, refl, arith}
 use Rattle.std.specs.Prelude.{unwrap_or}
 use Rattle.std.proofs.lemmas.List.{length-map}
 use Rattle.fab_base.specs.declared.items.Want.{Want}
