@@ -1,5 +1,5 @@
 -- A draw: what is stored stays true, and what it hands out is what the machine's draw writes.
-use Rattle.std.proofs.Common.{◌≡◌, ◌≢◌, ◌⊎◌, inl, inr, ℕ, ◌+◌, ◌<◌, ◌≤◌, ◌==◌, ◌&&◌, Bool, true, false, not, List, [], ◌∷◌, ◌++◌, length, map, Option, Some, None, get_or, set, refl, sym, ap, subst, ◌∙◌, arith, length-append}
+use Rattle.std.proofs.Common.{◌≡◌, ℕ, ◌+◌, ◌<◌, ◌==◌, Bool, true, false, not, List, [], ◌∷◌, ◌++◌, length, map, Option, Some, None, get_or, set, refl, sym, ap, subst, ◌∙◌, arith}
 use Rattle.std.specs.Prelude.{find, is_some, IsSomeAnd}
 use Rattle.std.specs.Option.{option_map}
 use Rattle.std.specs.List.{AllByRecursion, list_any}
@@ -13,10 +13,10 @@ use Rattle.fab_base.specs.declared.operations.Arrival.{Arrival}
 use Rattle.fab_base.specs.declared.operations.Coming.{Coming}
 use Rattle.fab_base.specs.declared.operations.Coming.TheVariants.{Into as IntoReceive}
 use Rattle.fab_model.specs.Matching.{change_first, remove_first, takes}
-use Rattle.fab_model.specs.State.{Receiving, is_into, under_way}
+use Rattle.fab_model.specs.State.{Receiving, under_way}
 use Rattle.fab_model.specs.Complete.{filled, filling, is_made_by}
 use Rattle.fab_model.specs.Receiving.{draws, goes}
-use Rattle.fab_model.specs.Arrivals.{seated, shut, stays, used_up}
+use Rattle.fab_model.specs.Arrivals.{seated, stays, used_up}
 use Rattle.fab_match.specs.Signs.{fits}
 use Rattle.fab_match.specs.Matcher.{first_id, has_id, without}
 use Rattle.fab_rx.specs.declared.stored.Waiting.{Waiting}
@@ -27,7 +27,6 @@ use Rattle.fab_rx.specs.declared.stored.Way.TheVariants.{Into, Part, Keep, Throw
 use Rattle.fab_rx.specs.declared.stored.Begun.{Begun}
 use Rattle.fab_rx.specs.declared.results.Completed.{Completed}
 use Rattle.fab_rx.specs.declared.results.Released.{Released}
-use Rattle.fab_rx.specs.declared.results.Drawn.{Drawn}
 use Rattle.fab_rx.specs.declared.results.Drawn.TheVariants.{GoesOn, Part as PartDrawn, Last}
 use Rattle.fab_rx.specs.Table.{Cells, at}
 use Rattle.fab_rx.specs.Arriving.{Arriving, shared, with_receiving}
@@ -37,7 +36,7 @@ use Rattle.fab_rx.specs.Drawing.{drawing, drawn, drawn_as, drawn_into, drawn_las
 use Rattle.fab_rx.specs.Stored.{AreClaimed, GoesBy, IsComing, IsFit, IsKept, IsKeptAs, IsKeptWay, Lies, Sits, gone_on, parcel_of, part_way, turned, waiting_of}
 use Rattle.fab_rx.specs.Homes.{AreMulti, GoesHomeBy, IsPart, is_fed_by, is_part_of}
 use Rattle.fab_rx.specs.Numbers.{IsNumbered}
-use Rattle.fab_rx.specs.Sharing.{IsUsable, is_closed, is_spent, kept_or, left_by, multi_at, placed_in, released_of, taken_in, used_up_by}
+use Rattle.fab_rx.specs.Sharing.{IsUsable, is_closed, kept_or, left_by, multi_at, placed_in, released_of, taken_in, used_up_by}
 use Rattle.fab_rx.specs.Whole.{IsInbox}
 use Rattle.fab_rx.proofs.Tables.{id_within}
 use Rattle.fab_rx.proofs.Tying.{IsTaken}
@@ -53,8 +52,8 @@ use Rattle.fab_rx.proofs.Taking.{fit_used, left_none, left_some, seated_off, sea
 use Rattle.fab_rx.proofs.Pasting.{length_paste_at}
 use Rattle.fab_rx.proofs.Onces.{any_where, change_none, change_twice, others_none}
 use Rattle.fab_rx.proofs.Closing.{apart_alone, closing_less_by, others_unfed}
-use Rattle.fab_rx.proofs.Shutting.{closes_as, fed_as, fed_if, last_if, none_made, open_if, shared_fed, shared_last, shared_on, there_is}
-use Rattle.fab_rx.proofs.Giving.{IsSameBut, call, fit, giver, giver_found, home, kept_off, kept_on, kept_out, multi, multi_off, multi_on, multi_out, numbers_off, numbers_on, part, room_given, some, there, unclosed, want_same}
+use Rattle.fab_rx.proofs.Shutting.{closes_as, fed_as, last_if, none_made, shared_fed, shared_last, shared_on, there_is}
+use Rattle.fab_rx.proofs.Giving.{IsSameBut, fit, giver, giver_found, home, kept_off, kept_on, kept_out, multi, multi_off, multi_on, multi_out, numbers_off, numbers_on, part, room_given, some, there, unclosed, want_same}
 
 -- a kept message goes on as a part
 part_goes : (parcels others : Cells Parcel) (s id place mid : ℕ) (r : Receive) → place ≡ r.used → (way : Way) (w : Coming) (i : Item) → IsKeptWay mid way → GoesBy parcels s way w i → GoesBy others s (part_way id place way) (IntoReceive r r.used) i
@@ -78,8 +77,8 @@ part_fed id place mid (Keep n bytes) k = eq-eqb id id refl
 part_fed id place mid Throw k = absurd k
 part_fed id place mid (Gather bytes) k = absurd k
 
-module _ (ps : List (ℕ × Want)) (us : List (ℕ × Sign)) (room : ℕ) (seats : Cells Waiting) (parcels : Cells Parcel) (coming : List (Option Begun)) (ids : List ℕ) (capacity : ℕ) (claims : List (ℕ × ℕ)) (claimable : ℕ) (cs : List (ℕ × ℕ)) (room_to_close : ℕ) (v : Arriving)
-    (inv : IsInbox ps us room seats parcels coming ids capacity claims claimable cs room_to_close v) (id : ℕ) (e : find (draws_at seats us) ids ≡ Some id) (q : Multi) (shared_at : multi_at seats id ≡ Some q) where
+module _ (ps : List (ℕ × Want)) (us : List (ℕ × Sign)) (room : ℕ) (seats : Cells Waiting) (parcels : Cells Parcel) (coming : List (Option Begun)) (ids : List ℕ) (capacity : ℕ) (claims : List (ℕ × ℕ)) (claimable : ℕ) (cs : List (ℕ × ℕ)) (room_to_close : ℕ) (shares : Bool) (v : Arriving)
+    (inv : IsInbox ps us room seats parcels coming ids capacity claims claimable cs room_to_close shares v) (id : ℕ) (e : find (draws_at seats us) ids ≡ Some id) (q : Multi) (shared_at : multi_at seats id ≡ Some q) where
   abbrev test : Receive → Bool
   test = draws v.rx.unexpected
 
@@ -343,7 +342,7 @@ module _ (ps : List (ℕ × Want)) (us : List (ℕ × Sign)) (room : ℕ) (seats
           abbrev pub Given : Cells Waiting → Type 0
           Given seats_then = (posted : List (ℕ × Want)) (order : List ℕ) (fits_in : ℕ) (closing : List (ℕ × ℕ)) (to_close : ℕ) → posted ≡ kept_or (left_by total (at seats id)) ps (without id ps) → (is_some (left_by total (at seats id)) ≡ true → has_id id posted ≡ false)
               → order ≡ kept_or (left_by total (at seats id)) ids (remove_first (λ other. other == id) ids) → fits_in ≡ capacity → ((ctx : ℕ) → left_by total (at seats id) ≡ Some ctx → closing ≡ cs ++ (id, ctx) ∷ [])
-              → (left_by total (at seats id) ≡ None → closing ≡ cs) → to_close ≡ room_to_close → IsInbox posted rest room seats_then others now order fits_in claims claimable closing to_close (drawing v)
+              → (left_by total (at seats id) ≡ None → closing ≡ cs) → to_close ≡ room_to_close → IsInbox posted rest room seats_then others now order fits_in claims claimable closing to_close shares (drawing v)
 
           -- ---- the receive has given room to it
 
@@ -354,7 +353,7 @@ module _ (ps : List (ℕ × Want)) (us : List (ℕ × Sign)) (room : ℕ) (seats
             given : Given seats_then
             given posted order fits_in closing to_close is_posted gone is_order is_capacity closes opens is_room = by (left_by total (at seats id)) refl
               where
-                by : (o : Option ℕ) → left_by total (at seats id) ≡ o → IsInbox posted rest room seats_then others now order fits_in claims claimable closing to_close (drawing v)
+                by : (o : Option ℕ) → left_by total (at seats id) ≡ o → IsInbox posted rest room seats_then others now order fits_in claims claimable closing to_close shares (drawing v)
                 by None stay =
                     rw (is_posted, is_order, stay, is_capacity, opens stay, is_room, eq_on stay) (record {
                       kept = kept_on ps rest room seats others now left kept_left cs multi_left (draws_at seats us) test agree id e_ps q shared_at g same fitting f alike seats_then cells free;
@@ -364,6 +363,7 @@ module _ (ps : List (ℕ × Want)) (us : List (ℕ × Sign)) (room : ℕ) (seats
                       aside = claims_left;
                       shared = multi_on ps rest room seats others now left kept_left cs multi_left (draws_at seats us) test agree id e_ps q shared_at g same fitting f alike seats_then cells free;
                       closable = let closable = inv.closable in let same_long = long in omega arith;
+                      sharing = inv.sharing;
                     })
                 by (Some ctx) leave =
                     let left_ctx : ctx ≡ r.ctx = (left_some total (waiting_of r) ctx (ap (left_by total) (sym r_there) ∙ leave)).1 in
@@ -381,6 +381,7 @@ module _ (ps : List (ℕ × Want)) (us : List (ℕ × Sign)) (room : ℕ) (seats
                       shared = subst (λ (y : Receive). AreMulti posted (cs ++ (id, ctx) ∷ []) seats_then now (remove_first test v.rx.posted) (v.rx.closing ++ g y ∷ []) comes v.next v.multis v.most) same_giver
                           (multi_off ps rest room seats others now left kept_left cs multi_left (draws_at seats us) test agree id e_ps q shared_at g same fitting f alike seats_then cells free ctx is_ctx fed posted out lacking);
                       closable = let closable = inv.closable in let same_long = long in omega arith;
+                      sharing = inv.sharing;
                     })
 
           on_by : left_by total (at seats id) ≡ None → stays total r ≡ true
@@ -481,7 +482,7 @@ module _ (ps : List (ℕ × Want)) (us : List (ℕ × Sign)) (room : ℕ) (seats
                     ∙ ap (set seats.cells id) (rw (r_there, r_some.2) refl)
 
             pub drawn_over : is_closed coming id total (at seats id) ≡ true → (seats_then : Cells Waiting) → seats_then.cells ≡ set seats.cells id None → length seats_then.free ≡ length seats.free + 1 → (posted : List (ℕ × Want)) → posted ≡ without id ps → has_id id posted ≡ false
-                → (order : List ℕ) → order ≡ remove_first (λ other. other == id) ids → (fits_in : ℕ) → fits_in ≡ capacity → IsInbox posted rest room seats_then others now order fits_in claims claimable cs room_to_close (drawing v)
+                → (order : List ℕ) → order ≡ remove_first (λ other. other == id) ids → (fits_in : ℕ) → fits_in ≡ capacity → IsInbox posted rest room seats_then others now order fits_in claims claimable cs room_to_close shares (drawing v)
             drawn_over over seats_then cells one_more posted out lacking order is_order fits_in is_capacity =
                 let is = over_yes over in
                 let unfed = ap (list_any (is_fed_by id)) now_is ∙ is.2 in
@@ -493,4 +494,5 @@ module _ (ps : List (ℕ × Want)) (us : List (ℕ × Sign)) (room : ℕ) (seats
                   aside = claims_left;
                   shared = multi_out ps rest room seats others now left kept_left cs multi_left (draws_at seats us) test agree id e_ps q shared_at unfed seats_then cells one_more posted out lacking;
                   closable = let closable = inv.closable in let same_long = long in omega arith;
+                  sharing = inv.sharing;
                 })

@@ -20,7 +20,7 @@ use Rattle.fab_rx.specs.Numbers.{IsNumbered}
 use Rattle.fab_rx.specs.Sharing.{multi_at, multi_in}
 use Rattle.fab_rx.proofs.Tables.{id_within}
 use Rattle.fab_rx.proofs.Tying.{eqb-false, retied, retied_but, same_or, tied_both, tied_push}
-use Rattle.fab_rx.proofs.Apart.{apart_claim, apart_fewer, apart_rest, lacked_other, not_claimed}
+use Rattle.fab_rx.proofs.Apart.{apart_claim, apart_fewer, apart_rest, not_claimed}
 use Rattle.fab_rx.proofs.Changing.{kept_changed}
 use Rattle.fab_rx.proofs.Keeping.{at_other, at_same, sits_at}
 use Rattle.fab_rx.proofs.Numbering.{numbers_changed, numbers_leave_by}

@@ -1,7 +1,6 @@
 -- What callers know of the receive half between calls.
 use Rattle.std.proofs.Common.{◌≡◌, ◌≢◌, ℕ, zero, suc, replicate, nat_le, ◌≤◌, Bool, true, false, List, [], ◌∷◌, ◌++◌, ◌==◌, length, Option, Some, None, get_or, refl, sym, ap, subst, ◌∙◌, arith}
 use Rattle.std.specs.Prelude.{find, is_some, unwrap_or, IfSome}
-use Rattle.std.specs.Option.{option_map}
 use Rattle.std.proofs.lemmas.Bool.{eq-eqb}
 use Rattle.std.specs.List.{AllZip, list_any, AllByRecursion}
 use Rattle.std.proofs.lemmas.List.Elements.{All-from_recursion}
@@ -14,7 +13,7 @@ use Rattle.fab_base.specs.declared.operations.Arrival.{Arrival}
 use Rattle.fab_base.specs.declared.operations.Coming.{Coming}
 use Rattle.fab_model.specs.Matching.{is_message}
 use Rattle.fab_model.specs.State.{coming_from}
-use Rattle.fab_model.specs.Receiving.{draws}
+use Rattle.fab_model.specs.Receiving.{draw_due, draws}
 use Rattle.fab_model.specs.Arrivals.{is_wanted, way_of}
 use Rattle.fab_base.specs.declared.items.Kind.{Kind}
 use Rattle.fab_base.specs.declared.items.Kind.TheVariants.{Msg, TagMsg, WriteReq, ReadReq, AtomicReq, Reply}
@@ -258,3 +257,7 @@ module _ (ps : List (ℕ × Want)) (us : List (ℕ × Sign)) (room : ℕ) (seats
     aside = All-from_recursion (λ k. PartlyIn v k.1) v.rx.claimed (claims_partly parcels coming v kept.ways cs v.rx.claimed claims.messages);
     room = let same = posted_count in let few = kept.few in omega arith;
   }
+
+  -- no draw is due where no multi-receive was posted
+  pub still_alone : (closing : List (ℕ × ℕ)) → AreMulti ps closing seats coming v.rx.posted v.rx.closing v.rx.coming v.next v.multis v.most → v.multis ≡ [] → draw_due v.rx ≡ false
+  still_alone closing m alone = (is_plain closing m alone).still

@@ -1,7 +1,6 @@
 -- The buffer that is lent is that of the multi-receive which stands under the id.
-use Rattle.std.proofs.Common.{◌≡◌, ℕ, ◌==◌, Bool, true, false, ◌||◌, List, [], ◌∷◌, ◌++◌, map, Option, Some, None, refl, sym, ap, subst, ◌∙◌}
+use Rattle.std.proofs.Common.{◌≡◌, ℕ, ◌==◌, Bool, true, false, ◌||◌, List, [], ◌∷◌, ◌++◌, map, Option, Some, None, refl, sym, ap, ◌∙◌}
 use Rattle.std.specs.Prelude.{find, is_some, IsSomeAnd}
-use Rattle.std.specs.Option.{option_map}
 use Rattle.std.specs.List.{AllZip, list_any}
 use Rattle.std.proofs.lemmas.Bool.{eqb-true, eq-eqb}
 use Rattle.std.proofs.lemmas.List.Folds.{list_any-append}
@@ -11,7 +10,6 @@ use Rattle.fab_base.specs.declared.operations.Receive.{Receive}
 use Rattle.fab_model.specs.Complete.{is_made_by}
 use Rattle.fab_match.specs.Matcher.{has_id}
 use Rattle.fab_rx.specs.declared.stored.Waiting.{Waiting}
-use Rattle.fab_rx.specs.declared.stored.Multi.{Multi}
 use Rattle.fab_rx.specs.declared.stored.Parcel.{Parcel}
 use Rattle.fab_rx.specs.declared.stored.Begun.{Begun}
 use Rattle.fab_rx.specs.Table.{Cells, at}
@@ -19,7 +17,7 @@ use Rattle.fab_rx.specs.Arriving.{Arriving, call_in, open_under}
 use Rattle.fab_rx.specs.Stored.{IsKept, Sits, multi_of, waiting_of}
 use Rattle.fab_rx.specs.Homes.{AreMulti, IsHome, Rests}
 use Rattle.fab_rx.specs.Sharing.{multi_at, multi_in}
-use Rattle.fab_rx.proofs.Known.{call_of_home, not_multi}
+use Rattle.fab_rx.proofs.Known.{call_of_home}
 use Rattle.fab_rx.proofs.Taking.{is_multi}
 
 -- what is known of a receive by its id

@@ -1,6 +1,6 @@
 //! Unexpected messages that posted multi-receives match (FI_MULTI_RECV of fi_msg(3)): a draw is due for each.
 //! No draw takes memory.
-ghost use Rattle.std.specs.Prelude.{◌≡◌, true, find};
+ghost use Rattle.std.specs.Prelude.{◌≡◌, true, false, find};
 ghost use Rattle.fab_model.specs.Receiving.{draw_due};
 ghost use Rattle.fab_rx.specs.Draws.{draws_at};
 ghost use Rattle.fab_rx.specs.Drawing.{drawing, drawn, entries_drawn};
@@ -38,11 +38,23 @@ fn first_drawing<M: Matcher>(
 }
 
 impl<M: Matcher> Inbox<M> {
-    /// Whether a posted multi-receive matches an unexpected message.
+    /// Whether a posted multi-receive matches an unexpected message. Takes no time where no multi-receive was
+    /// ever posted, and where no message is unexpected.
     pub fn is_draw_due(&self) -> bool
         ensures { result ≡ draw_due self.now.rx }
     {
+        if self.is_still() {
+            return false;
+        }
         first_drawing(&self.order, &self.seats, &self.matcher).is_some()
+    }
+
+    /// Whether no draw is due because no multi-receive was posted, or because no message is unexpected or
+    /// claimed.
+    fn is_still(&self) -> bool
+        ensures { result ≡ true → draw_due self.now.rx ≡ false }
+    {
+        !self.shares || self.parcels.is_empty()
     }
 
     /// How many completions [`draw`](Inbox::draw) hands out, that of a buffer which comes back counted: at most
@@ -50,6 +62,9 @@ impl<M: Matcher> Inbox<M> {
     pub fn draw_entries(&self) -> u32
         ensures { result ≡ entries_drawn (drawn self.now) }
     {
+        if self.is_still() {
+            return 0;
+        }
         let Some(id) = first_drawing(&self.order, &self.seats, &self.matcher) else {
             return 0;
         };

@@ -44,6 +44,7 @@ pub struct Inbox<M: Matcher> {
     pub(crate) order: VecDeque<u32>,
     pub(crate) claims: Vec<(u32, u64)>,
     pub(crate) closing: Vec<(u32, u64)>,
+    pub(crate) shares: bool,
     pub(crate) alloc: Global,
 }
 
@@ -57,7 +58,7 @@ impl<M: Matcher> Model for Inbox<M> {
 
     ghost view = { λ i. i.past };
 
-    ghost invariant = { λ i. IsInbox (M.posted i.matcher) (M.unexpected i.matcher) (M.room i.matcher) i.seats i.parcels i.coming.items i.order.items (deque_capacity i.order) i.claims.items (vec_capacity i.claims) i.closing.items (vec_capacity i.closing) i.past };
+    ghost invariant = { λ i. IsInbox (M.posted i.matcher) (M.unexpected i.matcher) (M.room i.matcher) i.seats i.parcels i.coming.items i.order.items (deque_capacity i.order) i.claims.items (vec_capacity i.claims) i.closing.items (vec_capacity i.closing) i.shares i.past };
 }
 
 pub(crate) fn is_message(kind: Kind) -> bool
@@ -89,6 +90,7 @@ impl<M: Matcher> Inbox<M> {
             order,
             claims: Vec::new(alloc),
             closing,
+            shares: false,
             alloc,
         })
     }
@@ -395,6 +397,7 @@ impl<M: Matcher> Inbox<M> {
             matcher,
             seats,
             order,
+            shares,
             ..
         } = self;
         let next = seats.next_id();
@@ -410,6 +413,7 @@ impl<M: Matcher> Inbox<M> {
         let id = seats.put(Waiting { seat, multi });
         order.push_back_reserved(id);
         matcher.add_posted(id, want);
+        *shares = true;
         id
     }
 

@@ -8,9 +8,10 @@
 //! (FI_PEEK, FI_CLAIM and FI_DISCARD of fi_tagged(3)): its bytes stay where they are until they leave.
 //!
 //! A multi-receive (FI_MULTI_RECV of fi_msg(3)) stays posted and takes message after message, each at a place of its
-//! own. A message under way to it gathers elsewhere, and comes into its buffer once it is whole. Once too little of the
-//! buffer is free it is closing: it leaves the posted receives, and its buffer comes back with its last message. Draws
-//! are not made yet: [`Inbox::is_draw_due`](inbox::Inbox::is_draw_due) says where one is due.
+//! own. A message under way to it gathers elsewhere, and comes into its buffer once it is whole: so the buffer can be
+//! lent meanwhile ([`Inbox::buffer_of`](inbox::Inbox::buffer_of)). Once too little of the buffer is free it is closing: it
+//! leaves the posted receives, and its buffer comes back with its last message. What no receive took it gets by draws
+//! ([`Inbox::draw`](inbox::Inbox::draw)), one message at a time.
 //!
 //! Contracts see the machine's own lists with all that ever came. Stored is only what is still needed: a
 //! [`Record`](fab_record::record::Record) holds the rest, and the invariant says how the two belong together.

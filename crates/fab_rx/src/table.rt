@@ -1,5 +1,5 @@
 //! A table that keeps values under ids of its own choice.
-ghost use Rattle.std.specs.Prelude.{◌≡◌, ◌+◌, ◌<◌, ◌≤◌, ◌^◌, ℕ, [], ◌∷◌, ◌++◌, length, Some, None, IsSome, IfOk, OnOk, OnErr, OnSome, IfNone, replicate, slice_set};
+ghost use Rattle.std.specs.Prelude.{◌≡◌, ◌==◌, ◌+◌, ◌<◌, ◌≤◌, ◌^◌, ℕ, [], ◌∷◌, ◌++◌, length, Some, None, IsSome, IfOk, OnOk, OnErr, OnSome, IfNone, replicate, slice_set};
 ghost use Rattle.std.specs.Option.{option_copied};
 ghost use Rattle.fab_rx.specs.Table.{at, next_id};
 
@@ -68,6 +68,13 @@ impl<T: Drop> Table<T> {
             return self.grow();
         }
         Ok(())
+    }
+
+    /// Whether no id has a value.
+    pub fn is_empty(&self) -> bool
+        ensures { result ≡ (length self.now.free == length self.now.cells) }
+    {
+        self.free.len() == self.cells.len()
     }
 
     /// How many ids there are.

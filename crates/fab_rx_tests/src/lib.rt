@@ -7,3 +7,5 @@
 mod claims;
 #[cfg(test)]
 mod messages;
+#[cfg(test)]
+mod multis;

@@ -1,10 +1,9 @@
-use Rattle.std.proofs.Common.{◌≡◌, ◌∙◌, ◌==◌, ◌||◌, Bool, ℕ, true, false, List, None, Some, map, refl, sym, ap, rules}
-use Rattle.std.specs.Prelude.{IsSomeAnd, is_some}
+use Rattle.std.proofs.Common.{◌≡◌, ◌∙◌, ◌==◌, ◌||◌, ℕ, true, false, List, None, Some, sym, ap, rules}
+use Rattle.std.specs.Prelude.{is_some}
 use Rattle.std.specs.List.{list_any}
 use Rattle.fab_match.specs.Matcher.{has_id}
 use Rattle.fab_rx.specs.Table.{at}
 use Rattle.fab_rx.specs.Sharing.{multi_in}
-use Rattle.fab_rx.specs.Arriving.{open_under}
 use Rattle.fab_rx.proofs.Lent.{lent, none_open, none_stands}
 use Rattle.fab_rx.proofs.inbox.Inbox.buffer_of.Goals as goal
 

@@ -1,11 +1,9 @@
-use Rattle.std.proofs.Common.{◌≡◌, ◌∙◌, ◌&&◌, ◌<◌, true, false, not, List, None, Option, Some, length, set, refl, sym, ap, subst, rules, get_or}
-use Rattle.std.specs.Prelude.{is_some}
+use Rattle.std.proofs.Common.{◌≡◌, ◌∙◌, ◌&&◌, ◌<◌, true, false, not, List, None, Option, Some, length, set, sym, ap, subst, rules, get_or}
 use Rattle.std.specs.List.{list_any}
 use Rattle.fab_match.specs.Matcher.{has_id}
 use Rattle.fab_rx.specs.declared.stored.Begun.{Begun}
 use Rattle.fab_rx.specs.Arriving.{Arriving}
 use Rattle.fab_rx.specs.Homes.{is_fed_by, part_in}
-use Rattle.fab_rx.specs.Results.{last_of}
 use Rattle.fab_rx.proofs.Ending.{last_told, none_told}
 use Rattle.fab_rx.proofs.inbox.Inbox.closes.Goals as goal
 

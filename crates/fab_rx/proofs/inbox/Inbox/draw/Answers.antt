@@ -1,4 +1,4 @@
-use Rattle.std.proofs.Common.{◌≡◌, ◌∙◌, ◌==◌, ◌<◌, ◌≤◌, ℕ, true, false, List, None, Option, Some, length, set, map, refl, sym, ap, subst, rules, get_or, arith}
+use Rattle.std.proofs.Common.{◌≡◌, ◌∙◌, ℕ, true, false, List, None, Option, Some, set, sym, ap, subst, rules, arith}
 use Rattle.std.specs.Prelude.{find, is_some}
 use Rattle.std.specs.Option.{option_map}
 use Rattle.fab_base.specs.declared.items.Want.{Want}
@@ -7,13 +7,9 @@ use Rattle.fab_match.specs.Matcher.{first_id, without}
 use Rattle.fab_match.specs.Signs.{fits}
 use Rattle.fab_match.proofs.Pairs.{without-first}
 use Rattle.fab_rx.specs.declared.stored.Begun.{Begun}
-use Rattle.fab_rx.specs.declared.stored.Waiting.{Waiting}
-use Rattle.fab_rx.specs.declared.stored.Multi.{Multi}
-use Rattle.fab_rx.specs.declared.results.Released.{Released}
-use Rattle.fab_rx.specs.Table.{Cells, at}
+use Rattle.fab_rx.specs.Table.{at}
 use Rattle.fab_rx.specs.Arriving.{Arriving}
 use Rattle.fab_rx.specs.Draws.{draws_at, draws_by}
-use Rattle.fab_rx.specs.Stored.{gone_on}
 use Rattle.fab_rx.specs.Sharing.{is_closed, kept_or, left_by, multi_at, placed_in, released_of, taken_in}
 use Rattle.fab_rx.proofs.Drawing.{due_where}
 use Rattle.fab_rx.proofs.Leaving.{passes}
@@ -59,13 +55,13 @@ lift-requires g c =
     let q = c.in-Some-multi_at.multi in
     let e : find (draws_at c.self.inside.seats us) c.self.inside.order.items ≡ Some id = search rules in
     let shared : multi_at c.self.inside.seats id ≡ Some q = search rules in
-    let d = drawer_told _ _ _ _ _ _ _ _ _ _ _ _ _ c.self.invariant id e q shared in
+    let d = drawer_told _ _ _ _ _ _ _ _ _ _ _ _ _ _ c.self.invariant id e q shared in
     let mid = c.in-Some-first_unexpected.message in
     let first : first_id (λ sign. fits q.want sign) us ≡ Some mid = sym c.in-Some-first_unexpected.ensures.first in
     let p = c.in-Some-take.parcel in
     let taken : at c.self.inside.parcels mid ≡ Some p = sym c.in-Some-take.ensures.value in
     let none : p.bytes ≡ None = search rules in
-    let within = rest_within _ _ _ _ _ _ _ _ _ _ _ _ _ c.self.invariant id e q shared d.0 d.1 mid first p taken none in
+    let within = rest_within _ _ _ _ _ _ _ _ _ _ _ _ _ _ c.self.invariant id e q shared d.0 d.1 mid first p taken none in
     omega arith
 
 pub unreachable-requires-in_default-lift : goal.unreachable-requires-in_default-lift
@@ -75,13 +71,13 @@ unreachable-requires-in_default-lift g c =
     let q = c.in-Some-multi_at.multi in
     let e : find (draws_at c.self.inside.seats us) c.self.inside.order.items ≡ Some id = search rules in
     let shared : multi_at c.self.inside.seats id ≡ Some q = search rules in
-    let d = drawer_told _ _ _ _ _ _ _ _ _ _ _ _ _ c.self.invariant id e q shared in
+    let d = drawer_told _ _ _ _ _ _ _ _ _ _ _ _ _ _ c.self.invariant id e q shared in
     let mid = c.in-Some-first_unexpected.message in
     let first : first_id (λ sign. fits q.want sign) us ≡ Some mid = sym c.in-Some-first_unexpected.ensures.first in
     let p = c.in-Some-take.parcel in
     let taken : at c.self.inside.parcels mid ≡ Some p = sym c.in-Some-take.ensures.value in
     let none : p.bytes ≡ None = search rules in
-    rest_begun _ _ _ _ _ _ _ _ _ _ _ _ _ c.self.invariant id e q shared d.0 d.1 mid first p taken none (search rules)
+    rest_begun _ _ _ _ _ _ _ _ _ _ _ _ _ _ c.self.invariant id e q shared d.0 d.1 mid first p taken none (search rules)
 
 pub give_room-requires-clause-usable : goal.give_room-requires-clause-usable
 give_room-requires-clause-usable g c =
@@ -90,8 +86,8 @@ give_room-requires-clause-usable g c =
     let q = c.in-Some-multi_at.multi in
     let e : find (draws_at c.self.inside.seats us) c.self.inside.order.items ≡ Some id = search rules in
     let shared : multi_at c.self.inside.seats id ≡ Some q = search rules in
-    let d = drawer_told _ _ _ _ _ _ _ _ _ _ _ _ _ c.self.invariant id e q shared in
-    usable_drawn _ _ _ _ _ _ _ _ _ _ _ _ _ c.self.invariant id e q shared d.0 d.1
+    let d = drawer_told _ _ _ _ _ _ _ _ _ _ _ _ _ _ c.self.invariant id e q shared in
+    usable_drawn _ _ _ _ _ _ _ _ _ _ _ _ _ _ c.self.invariant id e q shared d.0 d.1
 
 pub give_room-requires-clause-room : goal.give_room-requires-clause-room
 give_room-requires-clause-room g c =
@@ -100,13 +96,13 @@ give_room-requires-clause-room g c =
     let q = c.in-Some-multi_at.multi in
     let e : find (draws_at c.self.inside.seats us) c.self.inside.order.items ≡ Some id = search rules in
     let shared : multi_at c.self.inside.seats id ≡ Some q = search rules in
-    let d = drawer_told _ _ _ _ _ _ _ _ _ _ _ _ _ c.self.invariant id e q shared in
+    let d = drawer_told _ _ _ _ _ _ _ _ _ _ _ _ _ _ c.self.invariant id e q shared in
     let mid = c.in-Some-first_unexpected.message in
     let first : first_id (λ sign. fits q.want sign) us ≡ Some mid = sym c.in-Some-first_unexpected.ensures.first in
     let p = c.in-Some-take.parcel in
     let taken : at c.self.inside.parcels mid ≡ Some p = sym c.in-Some-take.ensures.value in
     let none : p.bytes ≡ None = search rules in
-    let less = room_rest _ _ _ _ _ _ _ _ _ _ _ _ _ c.self.invariant id e q shared d.0 d.1 mid first p taken none in
+    let less = room_rest _ _ _ _ _ _ _ _ _ _ _ _ _ _ c.self.invariant id e q shared d.0 d.1 mid first p taken none in
     let closable = c.self.invariant.closable in
     λ leaves. omega arith
 
@@ -117,17 +113,17 @@ invariant_of-self g c =
     let q = c.in-Some-multi_at.multi in
     let e : find (draws_at c.self.inside.seats us) c.self.inside.order.items ≡ Some id = search rules in
     let shared : multi_at c.self.inside.seats id ≡ Some q = search rules in
-    let d = drawer_told _ _ _ _ _ _ _ _ _ _ _ _ _ c.self.invariant id e q shared in
+    let d = drawer_told _ _ _ _ _ _ _ _ _ _ _ _ _ _ c.self.invariant id e q shared in
     let mid = c.in-Some-first_unexpected.message in
     let first : first_id (λ sign. fits q.want sign) us ≡ Some mid = sym c.in-Some-first_unexpected.ensures.first in
     let p = c.in-Some-take.parcel in
     let taken : at c.self.inside.parcels mid ≡ Some p = sym c.in-Some-take.ensures.value in
     let none : p.bytes ≡ None = search rules in
     let rest = c.remove_unexpected.ensures.rest ∙ without-first (λ sign. fits q.want sign) mid us c.in-Some-first_unexpected.ensures.distinct first in
-    let now = turned_rest _ _ _ _ _ _ _ _ _ _ _ _ _ c.self.invariant id e q shared d.0 d.1 mid first p taken none c.in-Some-lift.begun c.in-Some-lift.ensures.value _ (c.set_down.ensures ∙ ap (λ (xs : List (Option Begun)). set xs p.source (Some c.gone_on.result)) c.lift.ensures.rest ∙ ap (λ (b : Begun). set (set c.self.inside.coming.items p.source None) p.source (Some b)) c.gone_on.ensures) in
+    let now = turned_rest _ _ _ _ _ _ _ _ _ _ _ _ _ _ c.self.invariant id e q shared d.0 d.1 mid first p taken none c.in-Some-lift.begun c.in-Some-lift.ensures.value _ (c.set_down.ensures ∙ ap (λ (xs : List (Option Begun)). set xs p.source (Some c.gone_on.result)) c.lift.ensures.rest ∙ ap (λ (b : Begun). set (set c.self.inside.coming.items p.source None) p.source (Some b)) c.gone_on.ensures) in
     let posted = c.give_room.ensures.posted ∙ ap (λ (xs : List (ℕ × Want)). kept_or (left_by p.head.total (at c.self.inside.seats id)) xs (without id xs)) c.remove_unexpected.ensures.posted in
     rw (c.note.ensures, c.give_room.ensures.unexpected, c.give_room.ensures.most, c.remove_unexpected.ensures.room)
-    (drawn_rest _ _ _ _ _ _ _ _ _ _ _ _ _ c.self.invariant id e q shared d.0 d.1 mid first p taken _ c.take.ensures.cells c.in-Some-take.ensures.free _ rest c.remove_unexpected.ensures.gone _ now none _ c.give_room.ensures.cells c.give_room.ensures.free _ _ _ _ _ posted c.give_room.ensures.gone c.give_room.ensures.order c.give_room.ensures.capacity c.give_room.ensures.closing c.give_room.ensures.open c.give_room.ensures.closable)
+    (drawn_rest _ _ _ _ _ _ _ _ _ _ _ _ _ _ c.self.invariant id e q shared d.0 d.1 mid first p taken _ c.take.ensures.cells c.in-Some-take.ensures.free _ rest c.remove_unexpected.ensures.gone _ now none _ c.give_room.ensures.cells c.give_room.ensures.free _ _ _ _ _ posted c.give_room.ensures.gone c.give_room.ensures.order c.give_room.ensures.capacity c.give_room.ensures.closing c.give_room.ensures.open c.give_room.ensures.closable)
 
 pub returns-in_default-bytes-clause-outcome : goal.returns-in_default-bytes-clause-outcome
 returns-in_default-bytes-clause-outcome g c =
@@ -136,13 +132,13 @@ returns-in_default-bytes-clause-outcome g c =
     let q = c.in-Some-multi_at.multi in
     let e : find (draws_at c.self.inside.seats us) c.self.inside.order.items ≡ Some id = search rules in
     let shared : multi_at c.self.inside.seats id ≡ Some q = search rules in
-    let d = drawer_told _ _ _ _ _ _ _ _ _ _ _ _ _ c.self.invariant id e q shared in
+    let d = drawer_told _ _ _ _ _ _ _ _ _ _ _ _ _ _ c.self.invariant id e q shared in
     let mid = c.in-Some-first_unexpected.message in
     let first : first_id (λ sign. fits q.want sign) us ≡ Some mid = sym c.in-Some-first_unexpected.ensures.first in
     let p = c.in-Some-take.parcel in
     let taken : at c.self.inside.parcels mid ≡ Some p = sym c.in-Some-take.ensures.value in
     let none : p.bytes ≡ None = search rules in
-    rw (← c.self.view_is) (rest_drawn _ _ _ _ _ _ _ _ _ _ _ _ _ c.self.invariant id e q shared d.0 d.1 mid first p taken none)
+    rw (← c.self.view_is) (rest_drawn _ _ _ _ _ _ _ _ _ _ _ _ _ _ c.self.invariant id e q shared d.0 d.1 mid first p taken none)
 
 pub closes-requires : goal.closes-requires
 closes-requires g c =
@@ -151,8 +147,8 @@ closes-requires g c =
     let q = c.in-Some-multi_at.multi in
     let e : find (draws_at c.self.inside.seats us) c.self.inside.order.items ≡ Some id = search rules in
     let shared : multi_at c.self.inside.seats id ≡ Some q = search rules in
-    let d = drawer_told _ _ _ _ _ _ _ _ _ _ _ _ _ c.self.invariant id e q shared in
-    record { usable = usable_drawn _ _ _ _ _ _ _ _ _ _ _ _ _ c.self.invariant id e q shared d.0 d.1 }
+    let d = drawer_told _ _ _ _ _ _ _ _ _ _ _ _ _ _ c.self.invariant id e q shared in
+    record { usable = usable_drawn _ _ _ _ _ _ _ _ _ _ _ _ _ _ c.self.invariant id e q shared d.0 d.1 }
 
 pub close-over-requires : goal.close-over-requires
 close-over-requires g c =
@@ -161,8 +157,8 @@ close-over-requires g c =
     let q = c.in-Some-multi_at.multi in
     let e : find (draws_at c.self.inside.seats us) c.self.inside.order.items ≡ Some id = search rules in
     let shared : multi_at c.self.inside.seats id ≡ Some q = search rules in
-    let d = drawer_told _ _ _ _ _ _ _ _ _ _ _ _ _ c.self.invariant id e q shared in
-    record { usable = usable_drawn _ _ _ _ _ _ _ _ _ _ _ _ _ c.self.invariant id e q shared d.0 d.1 }
+    let d = drawer_told _ _ _ _ _ _ _ _ _ _ _ _ _ _ c.self.invariant id e q shared in
+    record { usable = usable_drawn _ _ _ _ _ _ _ _ _ _ _ _ _ _ c.self.invariant id e q shared d.0 d.1 }
 
 pub invariant_of-self-then-closes : goal.invariant_of-self-then-closes
 invariant_of-self-then-closes g c =
@@ -171,7 +167,7 @@ invariant_of-self-then-closes g c =
     let q = c.in-Some-multi_at.multi in
     let e : find (draws_at c.self.inside.seats us) c.self.inside.order.items ≡ Some id = search rules in
     let shared : multi_at c.self.inside.seats id ≡ Some q = search rules in
-    let d = drawer_told _ _ _ _ _ _ _ _ _ _ _ _ _ c.self.invariant id e q shared in
+    let d = drawer_told _ _ _ _ _ _ _ _ _ _ _ _ _ _ c.self.invariant id e q shared in
     let mid = c.in-Some-first_unexpected.message in
     let first : first_id (λ sign. fits q.want sign) us ≡ Some mid = sym c.in-Some-first_unexpected.ensures.first in
     let p = c.in-Some-take.parcel in
@@ -182,7 +178,7 @@ invariant_of-self-then-closes g c =
     let over : is_closed c.self.inside.coming.items id p.head.total (at c.self.inside.seats id) ≡ true = slice ∙ sym c.closes.ensures ∙ search rules in
     let posted = c.remove_posted.ensures.rest ∙ ap (λ (xs : List (ℕ × Want)). without id xs) c.remove_unexpected.ensures.posted in
     rw (c.note.ensures, c.remove_posted.ensures.unexpected, c.remove_posted.ensures.room, c.remove_unexpected.ensures.room)
-    (drawn_over _ _ _ _ _ _ _ _ _ _ _ _ _ c.self.invariant id e q shared d.0 d.1 mid first p taken _ c.take.ensures.cells c.in-Some-take.ensures.free _ rest c.remove_unexpected.ensures.gone _ (turned_whole _ _ _ _ _ _ _ _ _ _ _ _ _ c.self.invariant id e q shared d.0 d.1 mid first p taken _ whole) _ whole over _ c.close-over.ensures.cells c.close-over.ensures.free _ posted c.remove_posted.ensures.gone _ c.strike.ensures.rest _ c.strike.ensures.capacity)
+    (drawn_over _ _ _ _ _ _ _ _ _ _ _ _ _ _ c.self.invariant id e q shared d.0 d.1 mid first p taken _ c.take.ensures.cells c.in-Some-take.ensures.free _ rest c.remove_unexpected.ensures.gone _ (turned_whole _ _ _ _ _ _ _ _ _ _ _ _ _ _ c.self.invariant id e q shared d.0 d.1 mid first p taken _ whole) _ whole over _ c.close-over.ensures.cells c.close-over.ensures.free _ posted c.remove_posted.ensures.gone _ c.strike.ensures.rest _ c.strike.ensures.capacity)
 
 pub returns-then-closes-clause-outcome : goal.returns-then-closes-clause-outcome
 returns-then-closes-clause-outcome g c =
@@ -191,7 +187,7 @@ returns-then-closes-clause-outcome g c =
     let q = c.in-Some-multi_at.multi in
     let e : find (draws_at c.self.inside.seats us) c.self.inside.order.items ≡ Some id = search rules in
     let shared : multi_at c.self.inside.seats id ≡ Some q = search rules in
-    let d = drawer_told _ _ _ _ _ _ _ _ _ _ _ _ _ c.self.invariant id e q shared in
+    let d = drawer_told _ _ _ _ _ _ _ _ _ _ _ _ _ _ c.self.invariant id e q shared in
     let mid = c.in-Some-first_unexpected.message in
     let first : first_id (λ sign. fits q.want sign) us ≡ Some mid = sym c.in-Some-first_unexpected.ensures.first in
     let p = c.in-Some-take.parcel in
@@ -201,7 +197,7 @@ returns-then-closes-clause-outcome g c =
     let over : is_closed c.self.inside.coming.items id p.head.total (at c.self.inside.seats id) ≡ true = slice ∙ sym c.closes.ensures ∙ search rules in
     let is_bytes : c.as_slice-then-closes.result.now ≡ c.in-Some-bytes.bytes = search rules in
     let buffer = c.close-over.ensures.buffer ∙ ap (λ (xs : List ℕ). option_map (λ w. released_of id (taken_in p.head.total q.used xs w)) (at c.self.inside.seats id)) is_bytes in
-    rw (← c.self.view_is) (told_last _ _ _ _ _ _ _ _ _ _ _ _ _ c.self.invariant id e q shared d.0 d.1 mid first p taken _ whole over _ (completes _ _ _ _ _ _ _ _ _ _ _ _ _ c.self.invariant id e q shared d.0 d.1 mid first p taken _ whole _ c.part-completed.ensures) _ buffer)
+    rw (← c.self.view_is) (told_last _ _ _ _ _ _ _ _ _ _ _ _ _ _ c.self.invariant id e q shared d.0 d.1 mid first p taken _ whole over _ (completes _ _ _ _ _ _ _ _ _ _ _ _ _ _ c.self.invariant id e q shared d.0 d.1 mid first p taken _ whole _ c.part-completed.ensures) _ buffer)
 
 pub give_room-requires-2-clause-usable : goal.give_room-requires-2-clause-usable
 give_room-requires-2-clause-usable g c =
@@ -210,8 +206,8 @@ give_room-requires-2-clause-usable g c =
     let q = c.in-Some-multi_at.multi in
     let e : find (draws_at c.self.inside.seats us) c.self.inside.order.items ≡ Some id = search rules in
     let shared : multi_at c.self.inside.seats id ≡ Some q = search rules in
-    let d = drawer_told _ _ _ _ _ _ _ _ _ _ _ _ _ c.self.invariant id e q shared in
-    usable_drawn _ _ _ _ _ _ _ _ _ _ _ _ _ c.self.invariant id e q shared d.0 d.1
+    let d = drawer_told _ _ _ _ _ _ _ _ _ _ _ _ _ _ c.self.invariant id e q shared in
+    usable_drawn _ _ _ _ _ _ _ _ _ _ _ _ _ _ c.self.invariant id e q shared d.0 d.1
 
 pub give_room-requires-2-clause-room : goal.give_room-requires-2-clause-room
 give_room-requires-2-clause-room g c =
@@ -220,7 +216,7 @@ give_room-requires-2-clause-room g c =
     let q = c.in-Some-multi_at.multi in
     let e : find (draws_at c.self.inside.seats us) c.self.inside.order.items ≡ Some id = search rules in
     let shared : multi_at c.self.inside.seats id ≡ Some q = search rules in
-    let d = drawer_told _ _ _ _ _ _ _ _ _ _ _ _ _ c.self.invariant id e q shared in
+    let d = drawer_told _ _ _ _ _ _ _ _ _ _ _ _ _ _ c.self.invariant id e q shared in
     let mid = c.in-Some-first_unexpected.message in
     let first : first_id (λ sign. fits q.want sign) us ≡ Some mid = sym c.in-Some-first_unexpected.ensures.first in
     let p = c.in-Some-take.parcel in
@@ -228,7 +224,7 @@ give_room-requires-2-clause-room g c =
     let slice = ap (λ (xs : List (Option Begun)). is_closed xs id p.head.total (at c.self.inside.seats id)) (sym c.as_slice.ensures.value) in
     let goes_on : is_closed c.self.inside.coming.items id p.head.total (at c.self.inside.seats id) ≡ false = slice ∙ sym c.closes.ensures ∙ search rules in
     let closable = c.self.invariant.closable in
-    λ leaves. let less = room_part _ _ _ _ _ _ _ _ _ _ _ _ _ c.self.invariant id e q shared d.0 d.1 mid first p taken goes_on leaves in omega arith
+    λ leaves. let less = room_part _ _ _ _ _ _ _ _ _ _ _ _ _ _ c.self.invariant id e q shared d.0 d.1 mid first p taken goes_on leaves in omega arith
 
 pub invariant_of-self-2 : goal.invariant_of-self-2
 invariant_of-self-2 g c =
@@ -237,7 +233,7 @@ invariant_of-self-2 g c =
     let q = c.in-Some-multi_at.multi in
     let e : find (draws_at c.self.inside.seats us) c.self.inside.order.items ≡ Some id = search rules in
     let shared : multi_at c.self.inside.seats id ≡ Some q = search rules in
-    let d = drawer_told _ _ _ _ _ _ _ _ _ _ _ _ _ c.self.invariant id e q shared in
+    let d = drawer_told _ _ _ _ _ _ _ _ _ _ _ _ _ _ c.self.invariant id e q shared in
     let mid = c.in-Some-first_unexpected.message in
     let first : first_id (λ sign. fits q.want sign) us ≡ Some mid = sym c.in-Some-first_unexpected.ensures.first in
     let p = c.in-Some-take.parcel in
@@ -250,7 +246,7 @@ invariant_of-self-2 g c =
     let put = c.place.ensures.cells ∙ ap (λ (xs : List ℕ). set c.give_room-2.new.seats.cells id (option_map (placed_in q.used xs) (at c.give_room-2.new.seats id))) is_bytes in
     let posted = c.give_room-2.ensures.posted ∙ ap (λ (xs : List (ℕ × Want)). kept_or (left_by p.head.total (at c.self.inside.seats id)) xs (without id xs)) c.remove_unexpected.ensures.posted in
     rw (c.note.ensures, c.give_room-2.ensures.unexpected, c.give_room-2.ensures.most, c.remove_unexpected.ensures.room)
-    (drawn_part _ _ _ _ _ _ _ _ _ _ _ _ _ c.self.invariant id e q shared d.0 d.1 mid first p taken _ c.take.ensures.cells c.in-Some-take.ensures.free _ rest c.remove_unexpected.ensures.gone _ (turned_whole _ _ _ _ _ _ _ _ _ _ _ _ _ c.self.invariant id e q shared d.0 d.1 mid first p taken _ whole) _ whole goes_on _ _ c.give_room-2.ensures.cells c.give_room-2.ensures.free put c.place.ensures.free _ _ _ _ _ posted c.give_room-2.ensures.gone c.give_room-2.ensures.order c.give_room-2.ensures.capacity c.give_room-2.ensures.closing c.give_room-2.ensures.open c.give_room-2.ensures.closable)
+    (drawn_part _ _ _ _ _ _ _ _ _ _ _ _ _ _ c.self.invariant id e q shared d.0 d.1 mid first p taken _ c.take.ensures.cells c.in-Some-take.ensures.free _ rest c.remove_unexpected.ensures.gone _ (turned_whole _ _ _ _ _ _ _ _ _ _ _ _ _ _ c.self.invariant id e q shared d.0 d.1 mid first p taken _ whole) _ whole goes_on _ _ c.give_room-2.ensures.cells c.give_room-2.ensures.free put c.place.ensures.free _ _ _ _ _ posted c.give_room-2.ensures.gone c.give_room-2.ensures.order c.give_room-2.ensures.capacity c.give_room-2.ensures.closing c.give_room-2.ensures.open c.give_room-2.ensures.closable)
 
 pub returns-clause-outcome : goal.returns-clause-outcome
 returns-clause-outcome g c =
@@ -259,7 +255,7 @@ returns-clause-outcome g c =
     let q = c.in-Some-multi_at.multi in
     let e : find (draws_at c.self.inside.seats us) c.self.inside.order.items ≡ Some id = search rules in
     let shared : multi_at c.self.inside.seats id ≡ Some q = search rules in
-    let d = drawer_told _ _ _ _ _ _ _ _ _ _ _ _ _ c.self.invariant id e q shared in
+    let d = drawer_told _ _ _ _ _ _ _ _ _ _ _ _ _ _ c.self.invariant id e q shared in
     let mid = c.in-Some-first_unexpected.message in
     let first : first_id (λ sign. fits q.want sign) us ≡ Some mid = sym c.in-Some-first_unexpected.ensures.first in
     let p = c.in-Some-take.parcel in
@@ -267,4 +263,4 @@ returns-clause-outcome g c =
     let whole : p.bytes ≡ Some c.in-Some-bytes.bytes = search rules in
     let slice = ap (λ (xs : List (Option Begun)). is_closed xs id p.head.total (at c.self.inside.seats id)) (sym c.as_slice.ensures.value) in
     let goes_on : is_closed c.self.inside.coming.items id p.head.total (at c.self.inside.seats id) ≡ false = slice ∙ sym c.closes.ensures ∙ search rules in
-    rw (← c.self.view_is) (told_part _ _ _ _ _ _ _ _ _ _ _ _ _ c.self.invariant id e q shared d.0 d.1 mid first p taken _ whole goes_on _ (completes _ _ _ _ _ _ _ _ _ _ _ _ _ c.self.invariant id e q shared d.0 d.1 mid first p taken _ whole _ c.part-completed.ensures))
+    rw (← c.self.view_is) (told_part _ _ _ _ _ _ _ _ _ _ _ _ _ _ c.self.invariant id e q shared d.0 d.1 mid first p taken _ whole goes_on _ (completes _ _ _ _ _ _ _ _ _ _ _ _ _ _ c.self.invariant id e q shared d.0 d.1 mid first p taken _ whole _ c.part-completed.ensures))

@@ -1,4 +1,4 @@
-use Rattle.std.proofs.Common.{◌≡◌, ◌∙◌, true, false, List, None, Option, Some, refl, sym, ap, rules}
+use Rattle.std.proofs.Common.{◌≡◌, ◌∙◌, true, false, List, None, Option, Some, sym, ap, rules}
 use Rattle.std.specs.Prelude.{find, is_some}
 use Rattle.fab_match.specs.Matcher.{first_id}
 use Rattle.fab_match.specs.Signs.{fits}
@@ -7,12 +7,15 @@ use Rattle.fab_rx.specs.Table.{at}
 use Rattle.fab_rx.specs.Draws.{draws_at, draws_by}
 use Rattle.fab_rx.specs.Drawing.{entries_drawn}
 use Rattle.fab_rx.specs.Sharing.{is_closed, multi_at}
-use Rattle.fab_rx.proofs.Drawing.{undrawn}
+use Rattle.fab_rx.proofs.Drawing.{undrawn, undue}
 use Rattle.fab_rx.proofs.Leaving.{passes}
 use Rattle.fab_rx.proofs.Finding.{message_there}
 use Rattle.fab_rx.proofs.Shutting.{there_is}
 use Rattle.fab_rx.proofs.Draught.{drawer_told, one_counts, rest_drawn, two_count, usable_drawn}
 use Rattle.fab_rx.proofs.inbox.Inbox.draw_entries.Goals as goal
+
+pub returns-then-is_still : goal.returns-then-is_still
+returns-then-is_still g c = sym (ap entries_drawn (undue c.args.self.now (c.is_still.ensures (search rules))))
 
 pub returns-in_default : goal.returns-in_default
 returns-in_default g c =
@@ -49,13 +52,13 @@ returns-then-is_none g c =
     let q = c.in-Some-multi_at.multi in
     let e : find (draws_at c.self.inside.seats us) c.self.inside.order.items ≡ Some id = search rules in
     let shared : multi_at c.self.inside.seats id ≡ Some q = search rules in
-    let d = drawer_told _ _ _ _ _ _ _ _ _ _ _ _ _ c.self.invariant id e q shared in
+    let d = drawer_told _ _ _ _ _ _ _ _ _ _ _ _ _ _ c.self.invariant id e q shared in
     let mid = c.in-Some-first_unexpected.message in
     let first : first_id (λ sign. fits q.want sign) us ≡ Some mid = sym c.in-Some-first_unexpected.ensures.first in
     let p = c.in-Some-get.parcel.now in
     let taken : at c.self.inside.parcels mid ≡ Some p = search rules in
     let none : p.bytes ≡ None = search rules in
-    rw (← c.self.view_is) (ap entries_drawn (rest_drawn _ _ _ _ _ _ _ _ _ _ _ _ _ c.self.invariant id e q shared d.0 d.1 mid first p taken none))
+    rw (← c.self.view_is) (ap entries_drawn (rest_drawn _ _ _ _ _ _ _ _ _ _ _ _ _ _ c.self.invariant id e q shared d.0 d.1 mid first p taken none))
 
 pub closes-requires : goal.closes-requires
 closes-requires g c =
@@ -64,8 +67,8 @@ closes-requires g c =
     let q = c.in-Some-multi_at.multi in
     let e : find (draws_at c.self.inside.seats us) c.self.inside.order.items ≡ Some id = search rules in
     let shared : multi_at c.self.inside.seats id ≡ Some q = search rules in
-    let d = drawer_told _ _ _ _ _ _ _ _ _ _ _ _ _ c.self.invariant id e q shared in
-    record { usable = usable_drawn _ _ _ _ _ _ _ _ _ _ _ _ _ c.self.invariant id e q shared d.0 d.1 }
+    let d = drawer_told _ _ _ _ _ _ _ _ _ _ _ _ _ _ c.self.invariant id e q shared in
+    record { usable = usable_drawn _ _ _ _ _ _ _ _ _ _ _ _ _ _ c.self.invariant id e q shared d.0 d.1 }
 
 pub returns-then-closes : goal.returns-then-closes
 returns-then-closes g c =
@@ -74,7 +77,7 @@ returns-then-closes g c =
     let q = c.in-Some-multi_at.multi in
     let e : find (draws_at c.self.inside.seats us) c.self.inside.order.items ≡ Some id = search rules in
     let shared : multi_at c.self.inside.seats id ≡ Some q = search rules in
-    let d = drawer_told _ _ _ _ _ _ _ _ _ _ _ _ _ c.self.invariant id e q shared in
+    let d = drawer_told _ _ _ _ _ _ _ _ _ _ _ _ _ _ c.self.invariant id e q shared in
     let mid = c.in-Some-first_unexpected.message in
     let first : first_id (λ sign. fits q.want sign) us ≡ Some mid = sym c.in-Some-first_unexpected.ensures.first in
     let p = c.in-Some-get.parcel.now in
@@ -83,7 +86,7 @@ returns-then-closes g c =
     let some : is_some p.bytes ≡ true = search rules in
     let whole = there_is p.bytes some in
     let over : is_closed c.self.inside.coming.items id p.head.total (at c.self.inside.seats id) ≡ true = slice ∙ sym c.closes.ensures ∙ search rules in
-    rw (← c.self.view_is) (two_count _ _ _ _ _ _ _ _ _ _ _ _ _ c.self.invariant id e q shared d.0 d.1 mid first p taken whole.0 whole.1 over)
+    rw (← c.self.view_is) (two_count _ _ _ _ _ _ _ _ _ _ _ _ _ _ c.self.invariant id e q shared d.0 d.1 mid first p taken whole.0 whole.1 over)
 
 pub returns : goal.returns
 returns g c =
@@ -92,7 +95,7 @@ returns g c =
     let q = c.in-Some-multi_at.multi in
     let e : find (draws_at c.self.inside.seats us) c.self.inside.order.items ≡ Some id = search rules in
     let shared : multi_at c.self.inside.seats id ≡ Some q = search rules in
-    let d = drawer_told _ _ _ _ _ _ _ _ _ _ _ _ _ c.self.invariant id e q shared in
+    let d = drawer_told _ _ _ _ _ _ _ _ _ _ _ _ _ _ c.self.invariant id e q shared in
     let mid = c.in-Some-first_unexpected.message in
     let first : first_id (λ sign. fits q.want sign) us ≡ Some mid = sym c.in-Some-first_unexpected.ensures.first in
     let p = c.in-Some-get.parcel.now in
@@ -101,4 +104,4 @@ returns g c =
     let some : is_some p.bytes ≡ true = search rules in
     let whole = there_is p.bytes some in
     let goes_on : is_closed c.self.inside.coming.items id p.head.total (at c.self.inside.seats id) ≡ false = slice ∙ sym c.closes.ensures ∙ search rules in
-    rw (← c.self.view_is) (one_counts _ _ _ _ _ _ _ _ _ _ _ _ _ c.self.invariant id e q shared d.0 d.1 mid first p taken whole.0 whole.1 goes_on)
+    rw (← c.self.view_is) (one_counts _ _ _ _ _ _ _ _ _ _ _ _ _ _ c.self.invariant id e q shared d.0 d.1 mid first p taken whole.0 whole.1 goes_on)

@@ -19,5 +19,6 @@ invariant_of-self g c =
       numbers = c.self.invariant.numbers;
       shared = multi_grown _ _ _ _ _ _ _ c.self.invariant.kept _ c.self.invariant.shared source within c.in-Some.begun c.in-Some.ensures.value c.filled.result c.args.bytes.now _ after (λ way. c.filled.ensures.home _ _ _ way) c.filled.ensures.part;
       closable = rw (after, length-set, length-set) c.self.invariant.closable;
+      sharing = c.self.invariant.sharing;
       aside = claims_grown _ _ _ _ _ _ _ c.self.invariant.kept source within there.0 there.1 c.in-Some.begun c.in-Some.ensures.value _ _ c.self.invariant.aside c.filled.result c.args.bytes.now _ after c.filled.ensures.id;
     })

@@ -29,6 +29,7 @@ invariant_of-self g c =
         numbers = numbers;
         shared = multi_ended _ _ _ _ _ _ _ c.self.invariant.kept _ c.self.invariant.shared source within c.in-Some.begun c.in-Some.ensures.value _ w.in-Into.is (λ id. refl) _ c.lift.ensures.rest;
         closable = rw (c.lift.ensures.rest, length-set) c.self.invariant.closable;
+        sharing = c.self.invariant.sharing;
         aside = claims_still _ _ _ _ _ _ _ c.self.invariant.kept source within there.0 there.1 c.in-Some.begun c.in-Some.ensures.value _ _ c.self.invariant.aside _ c.lift.ensures.rest _ w.in-Into.is (λ id k. k);
       })
       | in-Part w ↦
@@ -44,6 +45,7 @@ invariant_of-self g c =
             numbers = numbers;
             shared = rw c.lift.ensures.rest (multi_part _ _ _ _ _ _ _ c.self.invariant.kept _ c.self.invariant.shared source within there.0 there.1 c.in-Some.begun c.in-Some.ensures.value w.in-Part.id w.in-Part.at w.in-Part.bytes w.in-Part.is w.place.new.self put w.release-released.new.seats cells count w.place.ensures.free _ rest);
             closable = rw (c.lift.ensures.rest, length-set, w.release-released.ensures.closable) c.self.invariant.closable;
+            sharing = c.self.invariant.sharing;
             aside = claims_still _ _ _ _ _ _ _ c.self.invariant.kept source within there.0 there.1 c.in-Some.begun c.in-Some.ensures.value _ _ c.self.invariant.aside _ c.lift.ensures.rest _ w.in-Part.is (λ id k. k);
           })
       | in-Keep w ↦ rw (w.self-inside-is, c.note.ensures) (record {
@@ -53,6 +55,7 @@ invariant_of-self g c =
         numbers = numbers;
         shared = multi_ended _ _ _ _ _ _ _ c.self.invariant.kept _ c.self.invariant.shared source within c.in-Some.begun c.in-Some.ensures.value _ w.in-Keep.is (λ id. refl) _ c.lift.ensures.rest;
         closable = rw (c.lift.ensures.rest, length-set) c.self.invariant.closable;
+        sharing = c.self.invariant.sharing;
         aside = claims_as_kept _ _ _ _ _ _ _ c.self.invariant.kept source within there.0 there.1 c.in-Some.begun c.in-Some.ensures.value _ c.lift.ensures.rest _ _ c.self.invariant.aside w.in-Keep.id w.in-Keep.bytes w.from_vec.result _ w.in-Keep.is w.from_vec.ensures w.set.ensures.cells w.set.ensures.free;
       })
       | in-Throw w ↦ rw (w.self-inside-is, c.note.ensures) (record {
@@ -62,6 +65,7 @@ invariant_of-self g c =
         numbers = numbers;
         shared = multi_ended _ _ _ _ _ _ _ c.self.invariant.kept _ c.self.invariant.shared source within c.in-Some.begun c.in-Some.ensures.value _ w.in-Throw.is (λ id. refl) _ c.lift.ensures.rest;
         closable = rw (c.lift.ensures.rest, length-set) c.self.invariant.closable;
+        sharing = c.self.invariant.sharing;
         aside = claims_still _ _ _ _ _ _ _ c.self.invariant.kept source within there.0 there.1 c.in-Some.begun c.in-Some.ensures.value _ _ c.self.invariant.aside _ c.lift.ensures.rest _ w.in-Throw.is (λ id k. k);
       })
       | in-Gather w ↦ rw (w.self-inside-is, c.note.ensures) (record {
@@ -71,6 +75,7 @@ invariant_of-self g c =
         numbers = numbers;
         shared = multi_ended _ _ _ _ _ _ _ c.self.invariant.kept _ c.self.invariant.shared source within c.in-Some.begun c.in-Some.ensures.value _ w.in-Gather.is (λ id. refl) _ c.lift.ensures.rest;
         closable = rw (c.lift.ensures.rest, length-set) c.self.invariant.closable;
+        sharing = c.self.invariant.sharing;
         aside = claims_still _ _ _ _ _ _ _ c.self.invariant.kept source within there.0 there.1 c.in-Some.begun c.in-Some.ensures.value _ _ c.self.invariant.aside _ c.lift.ensures.rest _ w.in-Gather.is (λ id k. k);
       })
     ]

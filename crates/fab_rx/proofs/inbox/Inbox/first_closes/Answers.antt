@@ -1,10 +1,9 @@
-use Rattle.std.proofs.Common.{◌≡◌, ◌∙◌, ◌<◌, true, false, List, None, Option, Some, length, refl, sym, ap, subst, rules}
+use Rattle.std.proofs.Common.{◌≡◌, ◌∙◌, ◌<◌, true, false, List, None, Option, Some, length, sym, ap, subst, rules}
 use Rattle.std.specs.Prelude.{is_some}
 use Rattle.fab_model.specs.Matching.{is_message}
 use Rattle.fab_match.specs.Matcher.{first_id}
 use Rattle.fab_match.specs.Signs.{fits}
 use Rattle.fab_rx.specs.declared.stored.Begun.{Begun}
-use Rattle.fab_rx.specs.declared.stored.Multi.{Multi}
 use Rattle.fab_rx.specs.Table.{at}
 use Rattle.fab_rx.specs.Sharing.{is_closed, multi_at}
 use Rattle.fab_rx.specs.Arriving.{Arriving, begun_of}

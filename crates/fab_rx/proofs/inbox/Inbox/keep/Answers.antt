@@ -26,6 +26,7 @@ invariant_of-self-in_err-add_unexpected g c =
       numbers = c.self.invariant.numbers;
       shared = c.self.invariant.shared;
       closable = c.self.invariant.closable;
+      sharing = c.self.invariant.sharing;
       aside = rw c.reserve.ensures.items (claims_widened _ _ _ _ _ _ c.self.invariant.aside c.make_room.new.self _ c.make_room.ensures.same c.make_room.ensures.more fits);
     })
 
@@ -48,6 +49,7 @@ invariant_of-self-2 g c =
       reserved = c.self.invariant.reserved;
       shared = multi_keep _ _ _ _ _ _ _ c.self.invariant.kept _ c.self.invariant.shared source c.args.head.now within nothing _ c.put-id.result c.in_ok-bytes.bytes refl c.requires.message untaken;
       closable = rw length-set c.self.invariant.closable;
+      sharing = c.self.invariant.sharing;
       numbers = numbers_keep c.self.inside.past c.self.invariant.numbers source c.args.head.now c.requires.message untaken;
       aside = rw c.reserve.ensures.items
           (claims_kept _ _ _ _ _ _ _ c.self.invariant.kept _ _ c.self.invariant.aside source c.args.head.now within nothing c.requires.message c.put-id.result c.make_room.new.self c.make_room.ensures.same c.put-id.ensures.empty c.make_room.ensures.more c.sign_of.result _ _ _ _ c.put-id.ensures.cells c.put-id.ensures.free fits);

@@ -30,6 +30,7 @@ invariant_of-self-2 g c =
       kept = left _ _ _ _ _ _ _ c.self.invariant.kept c.self.invariant.numbers _ c.self.invariant.shared c.args.ctx c.in-Some.meant e _ _ c.remove_posted.ensures.rest c.remove_posted.ensures.gone c.take.ensures.cells c.in-Some-take.ensures.free;
       shared = multi_left _ _ _ _ _ _ _ c.self.invariant.kept c.self.invariant.numbers _ c.self.invariant.shared c.args.ctx c.in-Some.meant e _ _ c.remove_posted.ensures.rest c.remove_posted.ensures.gone c.take.ensures.cells c.in-Some-take.ensures.free;
       closable = c.self.invariant.closable;
+      sharing = c.self.invariant.sharing;
       order = struck _ _ _ _ c.in-Some.meant c.self.invariant.order c.remove_posted.ensures.rest c.strike.ensures.rest;
       reserved = rw c.strike.ensures.capacity c.self.invariant.reserved;
       numbers = numbers_leave c.self.inside.past c.self.invariant.numbers _;

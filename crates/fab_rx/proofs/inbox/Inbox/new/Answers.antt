@@ -1,4 +1,4 @@
-use Rattle.std.proofs.Common.{ℕ, Option, None, ◌∙◌, ap, arith, map, sym}
+use Rattle.std.proofs.Common.{ℕ, Option, None, ◌∙◌, ap, arith, map, sym, refl}
 use Rattle.fab_base.specs.declared.items.Want.{Want}
 use Rattle.std.proofs.lemmas.List.{length-replicate}
 use Rattle.fab_rx.specs.declared.stored.Begun.{Begun}
@@ -16,6 +16,7 @@ invariant_of-result g c =
       reserved = c.in_ok-order.ensures.capacity;
       shared = multi_begins _ _ _ _ _ _ c.in_ok-matcher.ensures.posted c.in_ok-closing.ensures.items c.in_ok-seats.ensures c.in_ok-coming.ensures;
       closable = rw c.in_ok-coming.ensures (let long = length-replicate {A = Option Begun} c.args.peers None in let room = c.in_ok-closing.ensures.capacity in omega arith);
+      sharing = λ none. refl;
       numbers = numbers_begin c.args.peers;
       aside = rw c.new-4.ensures.items (claims_begin _ _ _ _ c.in_ok-matcher.ensures.unexpected c.new-3.ensures);
     })

@@ -46,6 +46,7 @@ invariant_of-self g c =
       numbers = rw none at (numbers_join c.self.inside.past c.self.invariant.numbers r later none);
       shared = multi_join _ _ _ _ _ _ _ _ _ _ c.self.invariant.shared c.put-id.result c.args.want c.put-id.ensures.empty r c.put-id.new.self c.put-id.ensures.cells c.put-id.ensures.free new refl later;
       closable = c.self.invariant.closable;
+      sharing = c.self.invariant.sharing;
       aside = c.self.invariant.aside;
     })
 
@@ -100,6 +101,7 @@ invariant_of-self-2 g c =
       numbers = numbers_given c.self.inside.past c.self.invariant.numbers t.member r later;
       shared = multi_moved _ _ _ _ _ _ _ _ _ _ c.self.invariant.shared c.in-Some.id t.member (found_partly _ _ _ _ _ _ _ c.self.invariant.kept c.args.want c.in-Some.id (sym c.in-Some.ensures.first) t.member here) long (redirected c.args.buf c.args.ctx) (Into r 0) (λ b k. (r, refl, refl, c.self.invariant.shared.fresh r.call later)) (r.call + 1) (omega arith) _ (c.give.ensures.coming t.member here);
       closable = rw (c.give.ensures.coming t.member here, length_turned _ _ _ _) c.self.invariant.closable;
+      sharing = c.self.invariant.sharing;
       aside =
           unexpected_claims _ _ _ _ _ _ _ c.self.invariant.kept _ _ c.self.invariant.aside c.in-Some.id c.give.new.parcels c.give.ensures.cells c.give.ensures.free (redirected c.args.buf c.args.ctx) (Into r 0) turns _ c.give.ensures.coming (r.call + 1) c.args.want (sym c.in-Some.ensures.first) _ rest c.remove_unexpected.ensures.gone;
     })

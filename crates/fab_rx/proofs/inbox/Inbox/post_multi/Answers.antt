@@ -1,4 +1,4 @@
-use Rattle.std.proofs.Common.{ℕ, ◌∷◌, ◌+◌, ◌<◌, ◌≤◌, ◌∙◌, true, length, subst, sym, ap, refl, arith}
+use Rattle.std.proofs.Common.{ℕ, ◌∷◌, ◌+◌, ◌<◌, ◌≤◌, ◌∙◌, length, subst, sym, ap, refl, arith}
 use Rattle.std.specs.Prelude.{unwrap_or}
 use Rattle.std.proofs.lemmas.List.{length-map}
 use Rattle.fab_base.specs.declared.items.Want.{Want}
@@ -55,5 +55,6 @@ invariant_of-self g c =
       numbers = numbers_joined c.self.inside.past c.self.invariant.numbers r later;
       shared = multi_opened _ _ _ _ _ _ _ _ _ _ c.self.invariant.shared c.put-id.result c.args.want c.put-id.ensures.empty r c.put-id.new.self c.put-id.ensures.cells c.put-id.ensures.free new c.args.least refl later c.self.invariant.numbers;
       closable = c.self.invariant.closable;
+      sharing = λ none. absurd (cc);
       aside = c.self.invariant.aside;
     })

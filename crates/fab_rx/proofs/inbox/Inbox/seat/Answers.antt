@@ -53,7 +53,7 @@ pub invariant_of-self-in-Some-multi_at : goal.invariant_of-self-in-Some-multi_at
 invariant_of-self-in-Some-multi_at g c = by_left (left_by c.args.head.now.total (at c.self.inside.seats c.in-Some.id)) refl
   where
     by_left : (o : Option ℕ) → left_by c.args.head.now.total (at c.self.inside.seats c.in-Some.id) ≡ o
-        → IsInbox (g.M.Matcher.posted c.give_room.new.matcher) (g.M.Matcher.unexpected c.give_room.new.matcher) (g.M.Matcher.room c.give_room.new.matcher) c.give_room.new.seats c.self.inside.parcels c.set_down.new.coming.items c.give_room.new.order.items (deque_capacity c.give_room.new.order) c.self.inside.claims.items (vec_capacity c.self.inside.claims) c.give_room.new.closing.items (vec_capacity c.give_room.new.closing) c.note.new.self
+        → IsInbox (g.M.Matcher.posted c.give_room.new.matcher) (g.M.Matcher.unexpected c.give_room.new.matcher) (g.M.Matcher.room c.give_room.new.matcher) c.give_room.new.seats c.self.inside.parcels c.set_down.new.coming.items c.give_room.new.order.items (deque_capacity c.give_room.new.order) c.self.inside.claims.items (vec_capacity c.self.inside.claims) c.give_room.new.closing.items (vec_capacity c.give_room.new.closing) c.self.inside.shares c.note.new.self
     -- it stays posted
     by_left None stay =
         let source = c.args.source in
@@ -70,6 +70,7 @@ invariant_of-self-in-Some-multi_at g c = by_left (left_by c.args.head.now.total 
           numbers = numbers_on _ _ _ _ _ _ _ c.self.invariant.kept _ c.self.invariant.shared source c.args.head.now within nothing c.requires.message c.sign_of.result c.sign_of.ensures.fits c.in-Some.id e c.in-Some-multi_at.multi (search rules) c.give_room.new.seats c.give_room.ensures.cells c.give_room.ensures.free c.in_ok-bytes.bytes c.in_ok-bytes.ensures.items c.in_ok-bytes.ensures.capacity stay c.self.invariant.numbers;
           shared = rw (c.give_room.ensures.open stay) (multi_on _ _ _ _ _ _ _ c.self.invariant.kept _ c.self.invariant.shared source c.args.head.now within nothing c.requires.message c.sign_of.result c.sign_of.ensures.fits c.in-Some.id e c.in-Some-multi_at.multi (search rules) c.give_room.new.seats c.give_room.ensures.cells c.give_room.ensures.free c.in_ok-bytes.bytes c.in_ok-bytes.ensures.items c.in_ok-bytes.ensures.capacity stay);
           closable = rw (length-set, c.give_room.ensures.closable) c.self.invariant.closable;
+          sharing = c.self.invariant.sharing;
           aside = claims_arrived _ _ _ _ _ _ _ c.self.invariant.kept _ _ c.self.invariant.aside source c.args.head.now within nothing _;
         })
     -- it closes
@@ -90,6 +91,7 @@ invariant_of-self-in-Some-multi_at g c = by_left (left_by c.args.head.now.total 
           numbers = numbers_off _ _ _ _ _ _ _ c.self.invariant.kept _ c.self.invariant.shared source c.args.head.now within nothing c.requires.message c.sign_of.result c.sign_of.ensures.fits c.in-Some.id e c.in-Some-multi_at.multi (search rules) c.give_room.new.seats c.give_room.ensures.cells c.give_room.ensures.free c.in_ok-bytes.bytes c.in_ok-bytes.ensures.items c.in_ok-bytes.ensures.capacity ctx stay _ refl rest gone c.self.invariant.numbers;
           shared = rw (c.give_room.ensures.closing ctx stay) (multi_off _ _ _ _ _ _ _ c.self.invariant.kept _ c.self.invariant.shared source c.args.head.now within nothing c.requires.message c.sign_of.result c.sign_of.ensures.fits c.in-Some.id e c.in-Some-multi_at.multi (search rules) c.give_room.new.seats c.give_room.ensures.cells c.give_room.ensures.free c.in_ok-bytes.bytes c.in_ok-bytes.ensures.items c.in_ok-bytes.ensures.capacity ctx stay _ refl rest gone);
           closable = rw (length-set, c.give_room.ensures.closable) c.self.invariant.closable;
+          sharing = c.self.invariant.sharing;
           aside = claims_arrived _ _ _ _ _ _ _ c.self.invariant.kept _ _ c.self.invariant.aside source c.args.head.now within nothing _;
         })
 
@@ -124,6 +126,7 @@ invariant_of-self-2 g c =
       numbers = numbers_seat c.self.inside.past c.self.invariant.numbers source c.args.head.now c.requires.message t.member t.found single;
       shared = multi_seat _ _ _ _ _ _ _ c.self.invariant.kept _ c.self.invariant.shared source c.args.head.now within nothing c.requires.message c.sign_of.result c.sign_of.ensures.fits c.in-Some.id e c.in-Some-take.field-0 there alone single2 _ c.remove_posted.ensures.rest rest _ c.take.ensures.cells c.in-Some-take.ensures.free _ refl;
       closable = rw length-set c.self.invariant.closable;
+      sharing = c.self.invariant.sharing;
       aside = claims_arrived _ _ _ _ _ _ _ c.self.invariant.kept _ _ c.self.invariant.aside source c.args.head.now within nothing _;
     })
 

@@ -1,0 +1,227 @@
+//! Multi-receives: messages side by side in one buffer, which comes back with the last one.
+use crate::messages::{ANY, ByHand, THREE, is_kept};
+use fab_base::{Buf, Entry, ErrKind, ItemHead, Taken};
+use fab_match::ListMatcher;
+use fab_rx::{Cancelled, Completed, Drawn, Finished, Inbox};
+use std::test::Fail;
+
+fn is_part(done: &Completed, at: u32, len: u32) -> bool {
+    match &done.entry {
+        Taken::Success(
+            Entry::Part {
+                ctx: 3,
+                at: from,
+                len: count,
+                ..
+            },
+        ) => done.good && *from == at && *count == len,
+        _ => false,
+    }
+}
+
+/// Whether so many bytes came from the place on, and so many were cut off.
+fn is_cut(done: &Completed, at: u32, len: u32, olen: u32) -> bool {
+    match &done.entry {
+        Taken::Failure(entry) => {
+            !done.good
+                && entry.kind == ErrKind::Truncated
+                && entry.at == Some(at)
+                && entry.len == len
+                && entry.olen == olen
+        }
+        Taken::Success(_) => false,
+    }
+}
+
+/// Whether the item was the last message, after which the buffer has these bytes, of which so many were
+/// given away.
+fn is_over(finished: &Finished, used: u32, bytes: &[u8]) -> bool {
+    match finished {
+        Finished::Last(_, released) => {
+            released.ctx == 3 && released.used == used && released.buf.as_slice() == bytes
+        }
+        _ => false,
+    }
+}
+
+fn is_last_part(finished: &Finished, at: u32, len: u32) -> bool {
+    match finished {
+        Finished::Last(done, _) => is_part(done, at, len),
+        _ => false,
+    }
+}
+
+fn is_last_cut(finished: &Finished, at: u32, len: u32, olen: u32) -> bool {
+    match finished {
+        Finished::Last(done, _) => is_cut(done, at, len, olen),
+        _ => false,
+    }
+}
+
+/// Whether the item was a message of the multi-receive, and not its last one.
+fn is_placed(finished: &Finished, at: u32, len: u32) -> bool {
+    match finished {
+        Finished::Received(done) => is_part(done, at, len),
+        _ => false,
+    }
+}
+
+/// Whether the draw brought a message that is whole, and not the last one.
+fn is_drawn(drawn: &Drawn, at: u32, len: u32) -> bool {
+    match drawn {
+        Drawn::Part(done) => is_part(done, at, len),
+        _ => false,
+    }
+}
+
+/// Whether the draw brought the last message, after which the buffer of this id has these bytes, of which
+/// so many were given away.
+fn is_drawn_last(drawn: &Drawn, at: u32, len: u32, id: u32, used: u32, bytes: &[u8]) -> bool {
+    match drawn {
+        Drawn::Last(done, over) => {
+            is_part(done, at, len)
+                && over.id == id
+                && over.ctx == 3
+                && over.used == used
+                && over.buf.as_slice() == bytes
+        }
+        _ => false,
+    }
+}
+
+/// Whether these bytes are lent under the id.
+fn is_lent(inbox: &Inbox<ListMatcher>, id: u32, bytes: &[u8]) -> bool {
+    match inbox.buffer_of(id) {
+        Some(lent) => lent == bytes,
+        None => false,
+    }
+}
+
+fn is_left(cancelled: &Option<Cancelled>, bytes: &[u8]) -> bool {
+    match cancelled {
+        Some(cancelled) => {
+            cancelled.id.is_some() && cancelled.ctx == 3 && cancelled.buf.as_slice() == bytes
+        }
+        None => false,
+    }
+}
+
+#[test]
+fn the_buffer_comes_back_once_its_last_message_is_whole(rt: HostRuntime) -> Result<(), Fail> {
+    let buf = Buf::copy(rt.alloc(), &[9, 9, 9, 9, 9, 9, 9, 9])?;
+    let mut inbox = Inbox::<ListMatcher>::new(rt.alloc(), 2, 2)?;
+    let id = inbox.post_multi::<u64, ByHand>(&0, ANY, buf, 3, 3);
+    inbox.arrive(1, &THREE)?;
+    assert!(rt; !inbox.may_cancel(Some(3)));
+    assert!(rt; !inbox.first_closes(0, &THREE));
+    inbox.arrive(0, &THREE)?;
+    inbox.fill(0, &[4, 5]);
+    inbox.fill(1, &[1, 2, 3]);
+    assert!(rt; is_lent(&inbox, id, &[9, 9, 9, 9, 9, 9, 9, 9]));
+    inbox.fill(0, &[6]);
+    assert!(rt; !inbox.closes(0));
+    assert!(rt; is_placed(&inbox.finish(0), 3, 3));
+    assert!(rt; is_lent(&inbox, id, &[9, 9, 9, 4, 5, 6, 9, 9]));
+    assert!(rt; inbox.closes(1));
+    let last = inbox.finish(1);
+    assert!(rt; is_last_part(&last, 0, 3));
+    assert!(rt; is_over(&last, 6, &[1, 2, 3, 4, 5, 6, 9, 9]));
+    assert!(rt; !inbox.may_cancel(None));
+    assert!(rt; inbox.buffer_of(id).is_none());
+    Ok(())
+}
+
+#[test]
+fn a_message_is_cut_off_at_what_is_free(rt: HostRuntime) -> Result<(), Fail> {
+    let buf = Buf::copy(rt.alloc(), &[9, 9, 9, 9])?;
+    let mut inbox = Inbox::<ListMatcher>::new(rt.alloc(), 2, 2)?;
+    inbox.post_multi::<u64, ByHand>(&0, ANY, buf, 1, 3);
+    inbox.arrive(1, &THREE)?;
+    inbox.fill(1, &[1, 2, 3]);
+    assert!(rt; is_placed(&inbox.finish(1), 0, 3));
+    assert!(rt; inbox.first_closes(1, &THREE));
+    inbox.arrive(1, &THREE)?;
+    inbox.fill(1, &[4, 5, 6]);
+    let last = inbox.finish(1);
+    assert!(rt; is_last_cut(&last, 3, 1, 2));
+    assert!(rt; is_over(&last, 4, &[1, 2, 3, 4]));
+    Ok(())
+}
+
+#[test]
+fn one_that_is_cancelled_has_what_came(rt: HostRuntime) -> Result<(), Fail> {
+    let buf = Buf::copy(rt.alloc(), &[9, 9, 9, 9])?;
+    let mut inbox = Inbox::<ListMatcher>::new(rt.alloc(), 2, 2)?;
+    inbox.post_multi::<u64, ByHand>(&0, ANY, buf, 1, 3);
+    inbox.arrive(1, &THREE)?;
+    inbox.fill(1, &[1, 2, 3]);
+    assert!(rt; is_placed(&inbox.finish(1), 0, 3));
+    assert!(rt; is_left(&inbox.cancel(3), &[1, 2, 3, 9]));
+    Ok(())
+}
+
+/// A message of two bytes.
+const TWO: ItemHead = ItemHead { total: 2, ..THREE };
+
+#[test]
+fn a_draw_takes_a_message_that_is_whole(rt: HostRuntime) -> Result<(), Fail> {
+    let buf = Buf::copy(rt.alloc(), &[9, 9, 9, 9, 9, 9, 9, 9])?;
+    let mut inbox = Inbox::<ListMatcher>::new(rt.alloc(), 2, 2)?;
+    inbox.arrive(1, &THREE)?;
+    inbox.fill(1, &[1, 2, 3]);
+    assert!(rt; is_kept(&inbox.finish(1)));
+    assert!(rt; !inbox.is_draw_due());
+    assert_eq!(rt; inbox.draw_entries(), 0);
+    let id = inbox.post_multi::<u64, ByHand>(&0, ANY, buf, 3, 3);
+    assert!(rt; is_lent(&inbox, id, &[9, 9, 9, 9, 9, 9, 9, 9]));
+    assert!(rt; inbox.is_draw_due());
+    assert_eq!(rt; inbox.draw_entries(), 1);
+    assert!(rt; is_drawn(&inbox.draw(), 0, 3));
+    assert!(rt; !inbox.is_draw_due());
+    assert!(rt; is_lent(&inbox, id, &[1, 2, 3, 9, 9, 9, 9, 9]));
+    assert!(rt; is_left(&inbox.cancel(3), &[1, 2, 3, 9, 9, 9, 9, 9]));
+    assert!(rt; inbox.buffer_of(id).is_none());
+    Ok(())
+}
+
+#[test]
+fn a_message_that_is_not_whole_goes_on_into_what_drew_it(rt: HostRuntime) -> Result<(), Fail> {
+    let buf = Buf::copy(rt.alloc(), &[9, 9, 9, 9])?;
+    let mut inbox = Inbox::<ListMatcher>::new(rt.alloc(), 2, 2)?;
+    inbox.arrive(1, &THREE)?;
+    inbox.fill(1, &[1]);
+    let id = inbox.post_multi::<u64, ByHand>(&0, ANY, buf, 1, 3);
+    assert!(rt; inbox.is_draw_due());
+    assert_eq!(rt; inbox.draw_entries(), 0);
+    assert!(rt; matches!(inbox.draw(), Drawn::GoesOn));
+    assert!(rt; !inbox.is_draw_due());
+    assert!(rt; !inbox.may_cancel(Some(3)));
+    inbox.fill(1, &[2, 3]);
+    assert!(rt; is_lent(&inbox, id, &[9, 9, 9, 9]));
+    assert!(rt; is_placed(&inbox.finish(1), 0, 3));
+    assert!(rt; is_lent(&inbox, id, &[1, 2, 3, 9]));
+    Ok(())
+}
+
+#[test]
+fn a_draw_brings_the_buffer_back_with_its_last_message(rt: HostRuntime) -> Result<(), Fail> {
+    let buf = Buf::copy(rt.alloc(), &[9, 9, 9, 9, 9, 9, 9, 9, 9, 9])?;
+    let mut inbox = Inbox::<ListMatcher>::new(rt.alloc(), 2, 2)?;
+    inbox.arrive(1, &THREE)?;
+    inbox.fill(1, &[1, 2, 3]);
+    assert!(rt; is_kept(&inbox.finish(1)));
+    inbox.arrive(1, &TWO)?;
+    inbox.fill(1, &[4, 5]);
+    assert!(rt; is_kept(&inbox.finish(1)));
+    let id = inbox.post_multi::<u64, ByHand>(&0, ANY, buf, 6, 3);
+    assert!(rt; inbox.is_draw_due());
+    assert_eq!(rt; inbox.draw_entries(), 1);
+    assert!(rt; is_drawn(&inbox.draw(), 0, 3));
+    assert!(rt; inbox.is_draw_due());
+    assert_eq!(rt; inbox.draw_entries(), 2);
+    let bytes = [1, 2, 3, 4, 5, 9, 9, 9, 9, 9];
+    assert!(rt; is_drawn_last(&inbox.draw(), 3, 2, id, 5, &bytes));
+    assert!(rt; !inbox.is_draw_due());
+    assert!(rt; inbox.buffer_of(id).is_none());
+    Ok(())
+}
