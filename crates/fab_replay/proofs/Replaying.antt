@@ -70,16 +70,16 @@ module _ (bound : Bound) (peers : List Peer) (p : ℕ) (peer : Peer) (within : p
         let rest : left_of after ≡ drop (suc peer.taken) peer.steps = ap₂ (λ (k : ℕ) (xs : List Step). drop k xs) (taken ∙ add-one peer.taken) steps in
         turn_taken (rule fabric) (moment_of bound peers) p step (drop (suc peer.taken) peer.steps) (actor_of bound after.actor) next_left (ruled ∙ stands)
         ∙ ap₂ (λ (states : List Actor) (left : List (List Step)). let m : Moment Actor Step = record { states = states; left = left } in Some m)
-          (sym (map-set (λ (q : Peer). actor_of bound q.actor) peers p after)) (sym (map-set left_of peers p after ∙ ap (λ l. set (map left_of peers) p l) rest))
+        (sym (map-set (λ (q : Peer). actor_of bound q.actor) peers p after)) (sym (map-set left_of peers p after ∙ ap (λ l. set (map left_of peers) p l) rest))
 
     left_it : (after : Peer) → fabric.step (seen fabric (actors_of bound peers) p) (actor_of bound peer.actor) step ≡ None → actor_of bound after.actor ≡ actor_of bound peer.actor → after.taken ≡ peer.taken + 0 → after.steps ≡ peer.steps
         → (turn (rule fabric) (moment_of bound peers) p ≡ None) × (moment_of bound (set peers p after) ≡ moment_of bound peers)
     left_it after stands same taken steps = (
       (let gone : rule fabric (actors_of bound peers) p step ≡ None = ruled ∙ stands in rw (next_left, gone) refl),
       (let rest : left_of after ≡ left_of (get_or peers p peer) = ap₂ (λ (k : ℕ) (xs : List Step). drop k xs) (omega arith) steps ∙ ap left_of is in
-      ap₂ (λ (states : List Actor) (left : List (List Step)). let m : Moment Actor Step = record { states = states; left = left } in m)
-      (map-set_same (λ (q : Peer). actor_of bound q.actor) peers p after peer (same ∙ ap (λ (q : Peer). actor_of bound q.actor) is))
-      (map-set_same left_of peers p after peer rest)),
+          ap₂ (λ (states : List Actor) (left : List (List Step)). let m : Moment Actor Step = record { states = states; left = left } in m)
+          (map-set_same (λ (q : Peer). actor_of bound q.actor) peers p after peer (same ∙ ap (λ (q : Peer). actor_of bound q.actor) is))
+          (map-set_same left_of peers p after peer rest)),
     )
 
     pub stepped : {E : Type 0} (r : Result Bool E) (after : Peer) (x : Option Actor) → x ≡ fabric.step (seen fabric (actors_of bound peers) p) (actor_of bound peer.actor) step

@@ -106,6 +106,7 @@ told_lists peers text lists e = by (lists_told peers (pieces_at 10 text)) refl e
     counted : (all : List (List Step)) (b : Bool) → eqb (length all) peers ≡ b → cond b (Some all) None ≡ Some lists → (all ≡ lists) × (length lists ≡ peers)
     counted all true is f = let same : all ≡ lists = cc in (same, ap length (sym same) ∙ eqb-true (length all) peers is)
     counted all false is f = absurd (cc)
+
     by : (o : Option (List (List Step))) → lists_told peers (pieces_at 10 text) ≡ o → if_as_many peers o ≡ Some lists → (lists_told peers (pieces_at 10 text) ≡ Some lists) × (length lists ≡ peers)
     by None is f = absurd (cc)
     by (Some all) is f = let both = counted all (eqb (length all) peers) refl f in (is ∙ ap Some both.0, both.1)

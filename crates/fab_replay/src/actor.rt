@@ -11,9 +11,7 @@ ghost use Rattle.fab_machine.specs.Seen.{seen_call};
 ghost use Rattle.fab_replay.specs.Seen.{actor_of, Took};
 
 use crate::lines::call_of;
-use fab_base::{
-    Bound, Class, Entry, Fault, Kept, Line, LineOp, LineResult, NoMemory, Taken,
-};
+use fab_base::{Bound, Class, Entry, Fault, Kept, Line, LineOp, LineResult, NoMemory, Taken};
 use fab_machine::calls::Call;
 use fab_machine::lists::number_at;
 use fab_machine::state::State;

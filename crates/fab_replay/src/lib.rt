@@ -18,5 +18,5 @@ mod turns;
 mod verdicts;
 mod writing;
 
-pub use verdicts::{Verdict, check};
 pub use reading::read_schedule;
+pub use verdicts::{Verdict, check};

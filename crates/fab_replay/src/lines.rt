@@ -7,7 +7,8 @@ ghost use Rattle.fab_model.specs.Calls.{Look, word_bytes, message, request, atom
 ghost use Rattle.fab_machine.specs.Seen.{seen_call};
 
 use fab_base::{
-    Atom, AtomicOp, Bound, Buf, BytesWord, Form, Kind, Level, LineOp, NoMemory, Num, Payload, PeekHow, Text,
+    Atom, AtomicOp, Bound, Buf, BytesWord, Form, Kind, Level, LineOp, NoMemory, Num, Payload,
+    PeekHow, Text,
 };
 use fab_machine::calls::Call;
 use fab_machine::lists::split;
@@ -36,7 +37,11 @@ fn bytes_of(alloc: Global, bound: &Bound, word: &BytesWord) -> Result<Buf, NoMem
         BytesWord::Hex(bytes) => Buf::copy(alloc, bytes.as_slice()),
         BytesWord::Zero(n) => Buf::zeros(alloc, *n),
         BytesWord::File { id, at, len } => {
-            let file = payload(bound.script.payloads.as_slice(), bound.files.as_slice(), *id);
+            let file = payload(
+                bound.script.payloads.as_slice(),
+                bound.files.as_slice(),
+                *id,
+            );
             let (_, rest) = split(file, *at as usize);
             let (part, _) = split(rest, *len as usize);
             Buf::copy(alloc, part)
@@ -162,7 +167,17 @@ fn message_call(alloc: Global, bound: &Bound, op: &LineOp) -> Result<Option<Call
             completion,
         } => {
             let bytes = bytes_of(alloc, bound, bytes)?;
-            message(alloc, Kind::Msg, Some(*ctx), *dest, 0, bytes, *imm, *level, *completion)
+            message(
+                alloc,
+                Kind::Msg,
+                Some(*ctx),
+                *dest,
+                0,
+                bytes,
+                *imm,
+                *level,
+                *completion,
+            )
         }
         LineOp::TSend {
             ctx,
@@ -174,11 +189,31 @@ fn message_call(alloc: Global, bound: &Bound, op: &LineOp) -> Result<Option<Call
             completion,
         } => {
             let bytes = bytes_of(alloc, bound, bytes)?;
-            message(alloc, Kind::TagMsg, Some(*ctx), *dest, *tag, bytes, *imm, *level, *completion)
+            message(
+                alloc,
+                Kind::TagMsg,
+                Some(*ctx),
+                *dest,
+                *tag,
+                bytes,
+                *imm,
+                *level,
+                *completion,
+            )
         }
         LineOp::Inject { dest, bytes, imm } => {
             let bytes = bytes_of(alloc, bound, bytes)?;
-            message(alloc, Kind::Msg, None, *dest, 0, bytes, *imm, Level::Inject, false)
+            message(
+                alloc,
+                Kind::Msg,
+                None,
+                *dest,
+                0,
+                bytes,
+                *imm,
+                Level::Inject,
+                false,
+            )
         }
         LineOp::TInject {
             dest,
@@ -187,7 +222,17 @@ fn message_call(alloc: Global, bound: &Bound, op: &LineOp) -> Result<Option<Call
             imm,
         } => {
             let bytes = bytes_of(alloc, bound, bytes)?;
-            message(alloc, Kind::TagMsg, None, *dest, *tag, bytes, *imm, Level::Inject, false)
+            message(
+                alloc,
+                Kind::TagMsg,
+                None,
+                *dest,
+                *tag,
+                bytes,
+                *imm,
+                Level::Inject,
+                false,
+            )
         }
         _ => Err(NoMemory),
     }
@@ -222,7 +267,9 @@ fn receive_call(op: &LineOp) -> Result<Option<Call>, NoMemory>
     ensures { (bound : BoundScript) → IfOk result (λ call. option_map seen_call call ≡ call_of (bind_op bound op.now)) }
 {
     match op {
-        LineOp::Recv { ctx, source, len } => Ok(Some(posting(false, *source, 0, 0, *len, None, *ctx))),
+        LineOp::Recv { ctx, source, len } => Ok(Some(posting(
+            false, *source, 0, 0, *len, None, *ctx,
+        ))),
         LineOp::TRecv {
             ctx,
             source,
@@ -397,7 +444,16 @@ fn atomic_call(alloc: Global, op: &LineOp) -> Result<Option<Call>, NoMemory>
             let values = values.clone()?;
             let none = Buf::empty(alloc);
             Ok(Some(atomic(
-                *ctx, *dest, *key, *at, atom, count, values, none, *completion, None,
+                *ctx,
+                *dest,
+                *key,
+                *at,
+                atom,
+                count,
+                values,
+                none,
+                *completion,
+                None,
             )))
         }
         LineOp::Fetch {

@@ -61,7 +61,12 @@ fn first_left(peers: &[Peer]) -> Option<usize>
 }
 
 /// What is said of a lawful schedule, at the end of whose replay the peers are.
-fn compared(alloc: Global, bound: &Bound, peers: &mut [Peer], text: &[u8]) -> Result<Verdict, NoMemory>
+fn compared(
+    alloc: Global,
+    bound: &Bound,
+    peers: &mut [Peer],
+    text: &[u8],
+) -> Result<Verdict, NoMemory>
     ensures { IfOk result (λ verdict. verdict ≡ compared (actors_of bound.now peers.old) (report_of (actors_of bound.now peers.old) (steps_of peers.old)) text.now) }
 {
     let own = report(alloc, bound, peers)?;
@@ -75,12 +80,7 @@ fn compared(alloc: Global, bound: &Bound, peers: &mut [Peer], text: &[u8]) -> Re
 }
 
 /// What is said of the schedule that these peers are to take, from where they are.
-fn judge(
-    alloc: Global,
-    bound: &Bound,
-    peers: &mut [Peer],
-    text: &[u8],
-) -> Result<Verdict, NoMemory>
+fn judge(alloc: Global, bound: &Bound, peers: &mut [Peer], text: &[u8]) -> Result<Verdict, NoMemory>
     ensures { IfOk result (λ verdict. verdict ≡ judged (steps_of peers.old) (replay (rule fabric) (moment_of bound.now peers.old)) text.now) }
 {
     run(bound, peers)?;
