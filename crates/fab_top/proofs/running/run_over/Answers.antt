@@ -10,10 +10,10 @@ use Rattle.fab_finish.specs.Joined.{member_actor, member_steps}
 use Rattle.fab_finish.specs.Joined.{Member}
 use Rattle.fab_top.proofs.Bounding.{opening_is}
 use Rattle.fab_top.proofs.Telling.{reports}
-use Rattle.fab_top.proofs.running.run_script.Goals as goal
+use Rattle.fab_top.proofs.running.run_over.Goals as goal
 
 pub returns : goal.returns
-returns c =
+returns g c =
     let b = c.args.bound.now in
     let peers = c.in_ok-peers.peers.items in
     let lists = map (λ (l : _). l.items) c.in_ok-lists.lists.items in
