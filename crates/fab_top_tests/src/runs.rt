@@ -214,9 +214,7 @@ pub(crate) fn runs_to<R: Abort + Threads + Wait + Sync, G: Gate>(
     let mut depot = depot_of(alloc, bytes, &[])?;
     let mut sink = sink_of(alloc);
     let mut clock = MemoryClock::new(Vec::new(alloc));
-    let end = run(
-        rt, alloc, &words, &mut depot, &mut sink, &mut clock, gate,
-    );
+    let end = run(rt, alloc, &words, &mut depot, &mut sink, &mut clock, gate);
     assert_eq!(rt; sink.bytes.as_slice(), report.as_bytes());
     assert_eq!(rt; end == Status::Done, is_done);
     assert_eq!(rt; end == Status::Stuck, !is_done);
