@@ -4,6 +4,8 @@
 #![tactic(auto)]
 
 #[cfg(test)]
+mod gates;
+#[cfg(test)]
 mod info;
 #[cfg(test)]
 mod looks;
@@ -19,3 +21,5 @@ mod payloads;
 mod reports;
 #[cfg(test)]
 mod runs;
+#[cfg(test)]
+mod threads;
