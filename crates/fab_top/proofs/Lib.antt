@@ -5,3 +5,4 @@ pub mod Bounding
 pub mod Telling
 pub mod Offered
 pub mod Loads
+pub mod Granted

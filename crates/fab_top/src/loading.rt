@@ -1,5 +1,5 @@
 //! A script and its payload files, loaded and put together.
-ghost use Rattle.std.specs.Prelude.{◌≡◌, ◌≤◌, Some, IfOk, IfErr};
+ghost use Rattle.std.specs.Prelude.{◌≡◌, ◌<◌, ◌≤◌, Some, IfOk, IfErr};
 ghost use Rattle.fab_grammar.specs.Grammar.{script_of};
 ghost use Rattle.fab_top.specs.Loading.{AreUnloaded, AreWhole, IsRead, IsUnloaded, IsUnread, IsUnspelt, IsWhole};
 ghost use Rattle.fab_top.specs.Refused.{end_of};
@@ -78,6 +78,9 @@ pub fn load_script<D: Depot>(alloc: Global, depot: &mut D, name: &Text) -> Resul
     ensures files { D.files depot.new ≡ D.files depot.old }
     ensures ok { IfOk result (λ bound. IsRead (D.files depot.old) name.now bound) }
     ensures sized { IfOk result (λ bound. (2 ≤ bound.script.conf.info.cq) × (4 ≤ bound.script.conf.info.log)) }
+    ensures peers { IfOk result (λ bound. (0 < bound.script.conf.peers) × (bound.script.conf.peers ≤ 32)) }
+    ensures lane { IfOk result (λ bound. (0 < bound.script.conf.info.lane) × (bound.script.conf.info.lane ≤ 1024)) }
+    ensures pool { IfOk result (λ bound. (0 < bound.script.conf.info.pool) × (bound.script.conf.info.pool ≤ 1024)) }
     ensures err { IfErr result (λ status. IsUnread (D.files depot.old) name.now (D.faults depot.old) (D.faults depot.new) (D.failed_name depot.new) status) }
 {
     let bytes = load_file(alloc, depot, name)?;

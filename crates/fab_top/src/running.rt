@@ -1,6 +1,8 @@
 //! The top call: a command from its words to its report.
 ghost use Rattle.std.specs.Prelude.{◌≡◌, ◌<◌, ◌≤◌, ◌↔◌, ◌⊎◌, ℕ, List, true, false, None, Some, IfOk, string_bytes, length, map, take};
 ghost use Rattle.std.specs.Io.KnownBytes.{append_known};
+ghost use Rattle.std.specs.List.{All};
+ghost use Rattle.fab_finish.specs.Joined.{start};
 ghost use Rattle.fab_base.specs.declared.status.Status.TheVariants.{Done, Stuck, Usage, ScriptRefused, TooLong, ReadFault, WriteFault};
 ghost use Rattle.fab_base.specs.declared.status.Why.{Why};
 ghost use Rattle.fab_model.specs.Calls.{upto};
@@ -19,7 +21,9 @@ use crate::outside::{Clock, Depot, Failed, Sink};
 use crate::whole::{all_done, report};
 use crate::writing::write_all;
 use fab_base::{Bound, Gate, Hints, Line, NoMemory, Status, Text};
-use fab_peer::run_peers;
+use fab_peer::machines;
+use fab_phases::phases::run_phases;
+use fab_quantum::calls::Machinery;
 use fab_script::lines;
 use std::alloc::Global;
 use std::sync::Wait;
@@ -43,18 +47,48 @@ fn lines_of_all(alloc: Global, bound: &Bound) -> Result<Vec<Vec<Line>>, NoMemory
     Ok(lists)
 }
 
-/// Runs a bound script's peers until none can go on, and reports what they did.
-fn run_script(alloc: Global, bound: &Bound) -> Result<Ran, NoMemory>
-    requires cq { 2 ≤ bound.now.script.conf.info.cq }
+/// Runs a bound script's peers over these machines until none can go on, first in threads and then in one, and reports
+/// what they did.
+fn run_over<C: Machinery + Drop + Send, G: Gate, R: Threads + Wait + Sync>(
+    rt: &R,
+    alloc: Global,
+    bound: &Bound,
+    machines: Vec<C>,
+    gate: &G,
+) -> Result<Ran, NoMemory>
+    requires count { length machines.items ≡ bound.now.script.conf.peers }
     requires log { 4 ≤ bound.now.script.conf.info.log }
+    requires start { All (λ m. C.held m ≡ start bound.now.script.conf) machines.items }
+    requires peers { (0 < bound.now.script.conf.peers) × (bound.now.script.conf.peers ≤ 32) }
+    requires lane { (0 < bound.now.script.conf.info.lane) × (bound.now.script.conf.info.lane ≤ 1024) }
+    requires pool { (0 < bound.now.script.conf.info.pool) × (bound.now.script.conf.info.pool ≤ 1024) }
     ensures { IfOk result (λ ran. Reports bound.now (string_bytes ran.text) ran.done) }
 {
     let lists = lines_of_all(alloc, bound)?;
-    let peers = run_peers(alloc, &bound.script.conf, lists)?;
+    let peers = run_phases(rt, alloc, &bound.script.conf, lists, machines, gate)?;
+    let text = report(alloc, &peers)?;
     Ok(Ran {
-        text: report(alloc, &peers)?,
+        text,
         done: all_done(&peers),
     })
+}
+
+/// Runs a bound script's peers, each with a machine of its own, and reports what they did.
+fn run_script<G: Gate, R: Threads + Wait + Sync>(
+    rt: &R,
+    alloc: Global,
+    bound: &Bound,
+    gate: &G,
+) -> Result<Ran, NoMemory>
+    requires cq { 2 ≤ bound.now.script.conf.info.cq }
+    requires log { 4 ≤ bound.now.script.conf.info.log }
+    requires peers { (0 < bound.now.script.conf.peers) × (bound.now.script.conf.peers ≤ 32) }
+    requires lane { (0 < bound.now.script.conf.info.lane) × (bound.now.script.conf.info.lane ≤ 1024) }
+    requires pool { (0 < bound.now.script.conf.info.pool) × (bound.now.script.conf.info.pool ≤ 1024) }
+    ensures { IfOk result (λ ran. Reports bound.now (string_bytes ran.text) ran.done) }
+{
+    let machines = machines(alloc, &bound.script.conf)?;
+    run_over(rt, alloc, bound, machines, gate)
 }
 
 /// Writes the text, and says how the command ends.
@@ -96,6 +130,11 @@ fn tell_offer<S: Sink>(alloc: Global, sink: &mut S, hints: Option<Hints>) -> Sta
 /// what is granted (fi_getinfo(3)) to whoever asks for these capabilities, whose names are joined by commas, or has no
 /// hints where CAPS is `-`.
 ///
+/// The peers take their turns in rounds, each turn in a thread of its own over lock-free lanes, until a round moves
+/// nothing or all lines are done, and then in one thread until none can go on. The gate is told when a turn in a thread
+/// begins and ends. Which of two peers' messages comes first may depend on the threads, so two runs of a script may
+/// write two reports.
+///
 /// The report is that of one lawful schedule, the one that its own trace lines tell: in some order of
 /// turns the peers' steps led from the script's opening to the states that it reports. In these the
 /// peers are at rest: nothing is on its way, no completion is unread, and no line can be done. At `Done`
@@ -109,13 +148,13 @@ fn tell_offer<S: Sink>(alloc: Global, sink: &mut S, hints: Option<Hints>) -> Sta
 ///
 /// The clock must be new: it has given no moment.
 pub fn run<R, D: Depot, S: Sink, C: Clock, G: Gate>(
-    _rt: &R,
+    rt: &R,
     alloc: Global,
     words: &[Text],
     depot: &mut D,
     sink: &mut S,
     _clock: &mut C,
-    _gate: &G,
+    gate: &G,
 ) -> Status
 where
     R: Threads + Wait + Sync,
@@ -144,7 +183,7 @@ where
         Ok(bound) => bound,
         Err(status) => return status,
     };
-    match run_script(alloc, &bound) {
+    match run_script(rt, alloc, &bound, gate) {
         Ok(ran) => write_text(sink, &ran),
         Err(NoMemory) => Status::NoMemory,
     }

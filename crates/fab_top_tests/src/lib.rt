@@ -6,6 +6,8 @@
 #[cfg(test)]
 mod faults;
 #[cfg(test)]
+mod gates;
+#[cfg(test)]
 mod info;
 #[cfg(test)]
 mod looks;
@@ -21,3 +23,5 @@ mod payloads;
 mod reports;
 #[cfg(test)]
 mod runs;
+#[cfg(test)]
+mod threads;

@@ -76,7 +76,8 @@ const ASIDE_REPORT: &str = "fabric 1 peers 1\n\
     trace D S0 R D S0 R D H0 T0 H0 T0 R D D R D D D R D D D R D D\n\
     end done\n";
 
-/// Messages of one peer are looked at, claimed and dropped, discarded, and received in order; each reply goes out when its message has gone.
+/// Messages of one peer are looked at, claimed and dropped, discarded, and received in order; each reply goes out when
+/// its message has gone. Whoever sent them waits for each reply before it says that the receiver may go on.
 const LOOKED_AT: &str =
     "# What a receiver does with messages that no receive asked for: it looks, drops what it claimed, and discards.\n\
     fabric 1\n\
@@ -85,10 +86,12 @@ const LOOKED_AT: &str =
     tsend 1 1 7 text:first level=match\n\
     tsend 2 1 7 text:second level=match\n\
     tsend 3 1 7 zero:10000 level=match data=9\n\
-    tsend 4 1 8 text:go level=delivery\n\
+    tsend 4 1 8 text:go\n\
     wait 4\n\
-    wait 1\n\
     wait 2\n\
+    tsend 5 1 8 text:on\n\
+    wait 1\n\
+    tsend 6 1 8 text:on\n\
     wait 3\n\
     peer 1\n\
     trecv 9 0 8 0 2\n\
@@ -102,9 +105,13 @@ const LOOKED_AT: &str =
     wait 2\n\
     wait 3\n\
     wait 4\n\
+    trecv 8 0 8 0 2\n\
+    wait 8\n\
     drop 2\n\
     wait 2\n\
     drop 2\n\
+    trecv 7 0 8 0 2\n\
+    wait 7\n\
     trecv 5 * 7 0 4\n\
     wait 5\n\
     peek 6 * 7 0\n\
@@ -117,30 +124,38 @@ const LOOKED_AT_REPORT: &str = "fabric 1 peers 2\n\
     7 tsend ok\n\
     8 tsend ok\n\
     9 wait 4 FI_TAGGED FI_SEND\n\
-    10 wait 1 FI_TAGGED FI_SEND\n\
-    11 wait 2 FI_TAGGED FI_SEND\n\
-    12 wait 3 FI_TAGGED FI_SEND\n\
-    trace D S1 D S1 D S1 D S1 H1 T1 R D H1 T1 H1 T1 H1 T1 R R R D D D\n\
+    10 wait 2 FI_TAGGED FI_SEND\n\
+    11 tsend ok\n\
+    12 wait 1 FI_TAGGED FI_SEND\n\
+    13 tsend ok\n\
+    14 wait 3 FI_TAGGED FI_SEND\n\
+    left 5 FI_TAGGED FI_SEND\n\
+    left 6 FI_TAGGED FI_SEND\n\
+    trace D S1 D S1 D S1 D S1 R D H1 T1 R D D S1 R H1 T1 R D D S1 R H1 T1 R D\n\
     peer 1\n\
-    14 trecv ok\n\
-    15 wait 9 FI_TAGGED FI_RECV from 0 tag 8 len 2 bytes 676f\n\
-    16 peek ok\n\
-    17 claim ok\n\
-    18 claim refused FI_EINVAL\n\
-    19 discard ok\n\
-    20 peek ok\n\
-    21 wait 1 FI_TAGGED FI_RECV FI_PEEK from 0 tag 7 len 5\n\
-    22 wait 2 FI_TAGGED FI_RECV FI_CLAIM from 0 tag 7 len 5\n\
-    23 wait 3 FI_TAGGED FI_RECV FI_DISCARD from 0 tag 7 len 6\n\
-    24 wait 4 FI_TAGGED FI_RECV FI_PEEK from 0 tag 7 data 9 len 10000\n\
-    25 drop ok\n\
-    26 wait 2 FI_TAGGED FI_RECV FI_DISCARD from 0 tag 7 len 5\n\
-    27 drop refused FI_ENOENT\n\
-    28 trecv ok\n\
-    29 wait 5 error FI_ETRUNC from 0 tag 7 data 9 len 4 olen 9996 bytes 00000000\n\
-    30 peek ok\n\
-    31 wait 6 error FI_ENOMSG\n\
-    trace D H0 T0 H0 T0 H0 T0 H0 T0 S0 R D D R D R D D R D R D D D D D R D D D R D D R S0 S0 S0 D\n\
+    16 trecv ok\n\
+    17 wait 9 FI_TAGGED FI_RECV from 0 tag 8 len 2 bytes 676f\n\
+    18 peek ok\n\
+    19 claim ok\n\
+    20 claim refused FI_EINVAL\n\
+    21 discard ok\n\
+    22 peek ok\n\
+    23 wait 1 FI_TAGGED FI_RECV FI_PEEK from 0 tag 7 len 5\n\
+    24 wait 2 FI_TAGGED FI_RECV FI_CLAIM from 0 tag 7 len 5\n\
+    25 wait 3 FI_TAGGED FI_RECV FI_DISCARD from 0 tag 7 len 6\n\
+    26 wait 4 FI_TAGGED FI_RECV FI_PEEK from 0 tag 7 data 9 len 10000\n\
+    27 trecv ok\n\
+    28 wait 8 FI_TAGGED FI_RECV from 0 tag 8 len 2 bytes 6f6e\n\
+    29 drop ok\n\
+    30 wait 2 FI_TAGGED FI_RECV FI_DISCARD from 0 tag 7 len 5\n\
+    31 drop refused FI_ENOENT\n\
+    32 trecv ok\n\
+    33 wait 7 FI_TAGGED FI_RECV from 0 tag 8 len 2 bytes 6f6e\n\
+    34 trecv ok\n\
+    35 wait 5 error FI_ETRUNC from 0 tag 7 data 9 len 4 olen 9996 bytes 00000000\n\
+    36 peek ok\n\
+    37 wait 6 error FI_ENOMSG\n\
+    trace D H0 T0 H0 T0 H0 T0 H0 T0 R D D R D R D D R D R D D D D D S0 H0 T0 R D D R D D D S0 H0 T0 R D D R D D R D S0\n\
     end done\n";
 
 const ROWS: [Row; 3] = [

@@ -20,33 +20,6 @@ const UNEXPECTED_REPORT: &str = "fabric 1 peers 1\n\
     trace D S0 H0 T0 S0 H0 T0 R D D R D\n\
     end done\n";
 
-/// Of two messages of one peer, each receive of that peer gets the first that it matches.
-const IN_ORDER: &str = "fabric 1\n\
-    peers 2\n\
-    peer 0\n\
-    trecv 1 1 5 0 4\n\
-    trecv 2 1 0 0xffffffffffffffff 4\n\
-    wait 1\n\
-    wait 2\n\
-    peer 1\n\
-    tsend 3 0 7 text:x\n\
-    tsend 4 0 5 text:y\n";
-
-const IN_ORDER_REPORT: &str = "fabric 1 peers 2\n\
-    peer 0\n\
-    4 trecv ok\n\
-    5 trecv ok\n\
-    6 wait 1 FI_TAGGED FI_RECV from 1 tag 5 len 1 bytes 79\n\
-    7 wait 2 FI_TAGGED FI_RECV from 1 tag 7 len 1 bytes 78\n\
-    trace D D H1 T1 H1 T1 R R D D\n\
-    peer 1\n\
-    9 tsend ok\n\
-    10 tsend ok\n\
-    left 3 FI_TAGGED FI_SEND\n\
-    left 4 FI_TAGGED FI_SEND\n\
-    trace D S0 R D S0 R\n\
-    end done\n";
-
 /// A message longer than its receive.
 const CUT: &str = "fabric 1\n\
     peers 2\n\
@@ -145,38 +118,6 @@ const SELECTIVE_REPORT: &str = "fabric 1 peers 1\n\
     trace D S0 D S0 R D H0 T0 H0 T0\n\
     end done\n";
 
-/// All sizes at their least: both messages are longer than all lanes and buffers.
-const LEAST: &str = "fabric 1\n\
-    peers 2\n\
-    lane 1\n\
-    pool 1\n\
-    tx 1\n\
-    rx 1\n\
-    cq 2\n\
-    peer 0\n\
-    tsend 1 1 1 zero:9000\n\
-    trecv 2 1 2 0 2\n\
-    wait 2\n\
-    peer 1\n\
-    tsend 1 0 2 zero:9000\n\
-    trecv 2 0 1 0 2\n\
-    wait 2\n";
-
-const LEAST_REPORT: &str = "fabric 1 peers 2\n\
-    peer 0\n\
-    9 tsend ok\n\
-    10 trecv ok\n\
-    11 wait 2 error FI_ETRUNC from 1 tag 2 len 2 olen 8998 bytes 0000\n\
-    left 1 FI_TAGGED FI_SEND\n\
-    trace D S1 R D H1 T1 R D\n\
-    peer 1\n\
-    13 tsend ok\n\
-    14 trecv ok\n\
-    15 wait 2 error FI_ETRUNC from 0 tag 1 len 2 olen 8998 bytes 0000\n\
-    left 1 FI_TAGGED FI_SEND\n\
-    trace D S0 R D H0 T0 R D\n\
-    end done\n";
-
 /// What is too long, or goes to nobody, is refused, and nothing is lost by it.
 const REFUSED: &str = "fabric 1\n\
     peers 1\n\
@@ -208,15 +149,13 @@ const REFUSED_REPORT: &str = "fabric 1 peers 1\n\
     trace D D D D D D D S0 R D H0 T0 R D D\n\
     end done\n";
 
-const ROWS: [Row; 9] = [
+const ROWS: [Row; 7] = [
     (UNEXPECTED, UNEXPECTED_REPORT, true),
-    (IN_ORDER, IN_ORDER_REPORT, true),
     (CUT, CUT_REPORT, true),
     (NO_BYTES, NO_BYTES_REPORT, true),
     (ITSELF, ITSELF_REPORT, true),
     (NOT_GRANTED, NOT_GRANTED_REPORT, true),
     (SELECTIVE, SELECTIVE_REPORT, true),
-    (LEAST, LEAST_REPORT, true),
     (REFUSED, REFUSED_REPORT, true),
 ];
 

@@ -1,4 +1,5 @@
 //! Whole runs over memory: what they write, and how they end.
+use crate::gates::OpenGate;
 use fab_base::{Buf, Gate, Status, Text, Why};
 use fab_top::{MemoryClock, MemoryDepot, MemorySink, run};
 use std::alloc::Global;
@@ -76,32 +77,6 @@ const WAITING_REPORT: &str = "fabric 1 peers 2\n\
     trace D\n\
     end stuck\n";
 
-const IN_ORDER: &str = "fabric 1\n\
-    peers 2\n\
-    peer 0\n\
-    trecv 1 * 5 0 4\n\
-    trecv 2 * 0 18446744073709551615 4\n\
-    wait 1\n\
-    wait 2\n\
-    peer 1\n\
-    tsend 3 0 7 text:x\n\
-    tsend 4 0 5 text:y\n";
-
-const IN_ORDER_REPORT: &str = "fabric 1 peers 2\n\
-    peer 0\n\
-    4 trecv ok\n\
-    5 trecv ok\n\
-    6 wait 1 FI_TAGGED FI_RECV from 1 tag 5 len 1 bytes 79\n\
-    7 wait 2 FI_TAGGED FI_RECV from 1 tag 7 len 1 bytes 78\n\
-    trace D D H1 T1 H1 T1 R R D D\n\
-    peer 1\n\
-    9 tsend ok\n\
-    10 tsend ok\n\
-    left 3 FI_TAGGED FI_SEND\n\
-    left 4 FI_TAGGED FI_SEND\n\
-    trace D S0 R D S0 R\n\
-    end done\n";
-
 const CUT: &str = "fabric 1\n\
     peers 2\n\
     peer 0\n\
@@ -164,14 +139,6 @@ const UNBUILT: &str = "fabric 1\n\
     peer 0\n\
     mrecv 1 * 16\n";
 
-struct OpenGate;
-
-impl Gate for OpenGate {
-    fn enter(&self, _peer: u32, _round: u32) {}
-
-    fn leave(&self, _peer: u32, _round: u32) {}
-}
-
 /// A depot with one file, named `it`, in which the loads of these numbers fail.
 fn depot_of(alloc: Global, bytes: Buf, failing: &[u64]) -> Result<MemoryDepot, Fail> {
     let mut files = Vec::new(alloc);
@@ -224,44 +191,44 @@ pub(crate) fn is_too_long(end: &Status, file: &str) -> bool {
 /// A script, its report, and whether all lines are done.
 pub(crate) type Row = (&'static str, &'static str, bool);
 
-const ROWS: [Row; 8] = [
+const ROWS: [Row; 7] = [
     (NO_LINES, NO_LINES_REPORT, true),
     (CANCELED, CANCELED_REPORT, true),
     (HELLO, HELLO_REPORT, true),
     (ITSELF, ITSELF_REPORT, true),
-    (IN_ORDER, IN_ORDER_REPORT, true),
     (CUT, CUT_REPORT, true),
     (NO_BYTES, NO_BYTES_REPORT, true),
     (WAITING, WAITING_REPORT, false),
 ];
 
-/// A script runs to its report.
-fn runs_to<R: Abort + Threads + Wait + Sync>(
+/// A script runs to its report, with its turns let in by this gate.
+pub(crate) fn runs_to<R: Abort + Threads + Wait + Sync, G: Gate>(
     rt: &R,
     alloc: Global,
-    words: &[Text],
     row: Row,
+    gate: &G,
 ) -> Result<(), Fail> {
     let (script, report, is_done) = row;
+    let words = texts_of(alloc, &["script", "it"])?;
     let bytes = Buf::copy(alloc, script.as_bytes())?;
     let mut depot = depot_of(alloc, bytes, &[])?;
     let mut sink = sink_of(alloc);
-    let end = end_of(rt, alloc, words, &mut depot, &mut sink);
+    let mut clock = MemoryClock::new(Vec::new(alloc));
+    let end = run(rt, alloc, &words, &mut depot, &mut sink, &mut clock, gate);
     assert_eq!(rt; sink.bytes.as_slice(), report.as_bytes());
     assert_eq!(rt; end == Status::Done, is_done);
     assert_eq!(rt; end == Status::Stuck, !is_done);
     Ok(())
 }
 
-/// Scripts run to their reports.
+/// Scripts run to their reports, which are the same in every order of turns.
 pub(crate) fn run_to<R: Abort + Threads + Wait + Sync>(
     rt: &R,
     alloc: Global,
     rows: &[Row],
 ) -> Result<(), Fail> {
-    let words = texts_of(alloc, &["script", "it"])?;
     for row in rows {
-        runs_to(rt, alloc, &words, *row)?;
+        runs_to(rt, alloc, *row, &OpenGate)?;
     }
     Ok(())
 }

@@ -10,10 +10,10 @@ use Rattle.fab_finish.specs.Joined.{member_actor, member_steps}
 use Rattle.fab_finish.specs.Joined.{Member}
 use Rattle.fab_top.proofs.Bounding.{opening_is}
 use Rattle.fab_top.proofs.Telling.{reports}
-use Rattle.fab_top.proofs.running.run_script.Goals as goal
+use Rattle.fab_top.proofs.running.run_over.Goals as goal
 
 pub returns : goal.returns
-returns c =
+returns g c =
     let b = c.args.bound.now in
     let peers = c.in_ok-peers.peers.items in
     let lists = map (λ (l : _). l.items) c.in_ok-lists.lists.items in
@@ -21,6 +21,6 @@ returns c =
     let start : opened b.script.conf lists ≡ opening b = ap (opened b.script.conf) are ∙ opening_is b in
     let reached : Reached (rule fabric) (opening b) (map member_steps peers) (map member_actor peers) = subst (λ first. Reached (rule fabric) first (map member_steps peers) (map member_actor peers)) start c.in_ok-peers.ensures.reached in
     let few : length peers ≤ 10 ^ 64 = search rules in
-    let text = subst (λ (xs : List Member). string_bytes c.in_ok-report.field-0 ≡ report_of (map member_actor xs) (map member_steps xs)) c.deref.ensures.value c.in_ok-report.ensures in
+    let text = subst (λ (xs : List Member). string_bytes c.in_ok-text.text ≡ report_of (map member_actor xs) (map member_steps xs)) c.deref.ensures.value c.in_ok-text.ensures in
     let done = c.all_done.ensures ∙ ap (λ (xs : List Member). all_done (map member_actor xs)) c.deref-2.ensures.value in
     reports b peers _ _ reached c.in_ok-peers.ensures.rest c.in_ok-peers.ensures.cleared few text done
