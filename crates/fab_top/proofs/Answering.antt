@@ -7,44 +7,20 @@ use Rattle.fab_workloads.specs.declared.workload.Workload.{Workload}
 use Rattle.fab_workloads.specs.Commands.{payload_file, workload_of}
 use Rattle.fab_top.specs.Commands.{script_file}
 use Rattle.fab_top.specs.Loading.{Files, IsOver, IsUnread}
-use Rattle.fab_top.specs.Runs.{EndsBench, IsAnswered, IsUnhindered, TellsOffer, WritesReport}
-
--- the status of a writing
-pub text_answered : (files : Files) (words : List (List ℕ)) (f f' s s' : ℕ) (X : Type 0) (status : Status) → WritesReport status → (status ≡ WriteFault → Rose s s' × X)
-    → IsUnhindered files words f f' s s' → IsAnswered status
-text_answered files words f f' s s' X Done ends fault u = tt
-text_answered files words f f' s s' X Stuck ends fault u = tt
-text_answered files words f f' s s' X Usage ends fault u = absurd ends
-text_answered files words f f' s s' X (ScriptRefused line why) ends fault u = absurd ends
-text_answered files words f f' s s' X (TooLong name) ends fault u = absurd ends
-text_answered files words f f' s s' X (ReadFault name) ends fault u = absurd ends
-text_answered files words f f' s s' X WriteFault ends fault u = absurd (u.takes (fault refl).0)
-text_answered files words f f' s s' X NoMemory ends fault u = tt
-
-pub offer_answered : (files : Files) (words : List (List ℕ)) (f f' s s' : ℕ) (X : Type 0) (status : Status) → TellsOffer status → (status ≡ WriteFault → Rose s s' × X)
-    → IsUnhindered files words f f' s s' → IsAnswered status
-offer_answered files words f f' s s' X Done ends fault u = tt
-offer_answered files words f f' s s' X Stuck ends fault u = tt
-offer_answered files words f f' s s' X Usage ends fault u = absurd ends
-offer_answered files words f f' s s' X (ScriptRefused line why) ends fault u = absurd ends
-offer_answered files words f f' s s' X (TooLong name) ends fault u = absurd ends
-offer_answered files words f f' s s' X (ReadFault name) ends fault u = absurd ends
-offer_answered files words f f' s s' X WriteFault ends fault u = absurd (u.takes (fault refl).0)
-offer_answered files words f f' s s' X NoMemory ends fault u = tt
+use Rattle.fab_top.specs.Runs.{EndsBench, IsAnswered, IsUnhindered}
 
 -- the status of a workload's command
-pub bench_answered : (files : Files) (words : List (List ℕ)) (f f' s s' : ℕ) (X Y : Type 0) (w : Workload) (status : Status) → workload_of words ≡ Some w → EndsBench status
-    → ((name : List ℕ) → status ≡ TooLong name → (payload_file words ≡ Some name) × IsOver files name)
-    → ((name : List ℕ) → status ≡ ReadFault name → (payload_file words ≡ Some name) × Rose f f' × Y)
-    → (status ≡ WriteFault → Rose s s' × X) → IsUnhindered files words f f' s s' → IsAnswered status
-bench_answered files words f f' s s' X Y w Done is ends long unread fault u = tt
-bench_answered files words f f' s s' X Y w Stuck is ends long unread fault u = tt
-bench_answered files words f f' s s' X Y w Usage is ends long unread fault u = absurd ends
-bench_answered files words f f' s s' X Y w (ScriptRefused line why) is ends long unread fault u = absurd ends
-bench_answered files words f f' s s' X Y w (TooLong name) is ends long unread fault u = (let l = long name refl in absurd (u.within name (inr (w, is, l.0)) l.1))
-bench_answered files words f f' s s' X Y w (ReadFault name) is ends long unread fault u = absurd (u.loads (unread name refl).1)
-bench_answered files words f f' s s' X Y w WriteFault is ends long unread fault u = absurd (u.takes (fault refl).0)
-bench_answered files words f f' s s' X Y w NoMemory is ends long unread fault u = tt
+pub bench_answered : (files : Files) (words : List (List ℕ)) (f f' s s' : ℕ) (w : Workload) (status : Status) → workload_of words ≡ Some w → EndsBench status
+    → ((name : List ℕ) → status ≡ TooLong name → (payload_file words ≡ Some name) × IsOver files name) → ((name : List ℕ) → status ≡ ReadFault name → Rose f f')
+    → (status ≡ WriteFault → Rose s s') → IsUnhindered files words f f' s s' → IsAnswered status
+bench_answered files words f f' s s' w Done is ends long unread fault u = tt
+bench_answered files words f f' s s' w Stuck is ends long unread fault u = tt
+bench_answered files words f f' s s' w Usage is ends long unread fault u = absurd ends
+bench_answered files words f f' s s' w (ScriptRefused line why) is ends long unread fault u = absurd ends
+bench_answered files words f f' s s' w (TooLong name) is ends long unread fault u = (let l = long name refl in absurd (u.within name (inr (w, is, l.0)) l.1))
+bench_answered files words f f' s s' w (ReadFault name) is ends long unread fault u = absurd (u.loads (unread name refl))
+bench_answered files words f f' s s' w WriteFault is ends long unread fault u = absurd (u.takes (fault refl))
+bench_answered files words f f' s s' w NoMemory is ends long unread fault u = tt
 
 -- the status where no script was read
 pub unread_answered : (files : Files) (words : List (List ℕ)) (f f' s s' : ℕ) (failed : Option (List ℕ)) (file : List ℕ) (status : Status) → script_file words ≡ Some file

@@ -1,5 +1,5 @@
 -- What holds of the script of a workload, and of every run of it.
-use Rattle.std.proofs.Common.{◌≡◌, ◌<◌, ◌≤◌, ℕ, List, Bool, true, Result, Ok, Err, inl, inr, refl, sym, ap, subst, ◌∙◌, arith}
+use Rattle.std.proofs.Common.{◌≡◌, ◌<◌, ◌≤◌, ℕ, List, Bool, true, Result, Ok, Err, sym, ap, subst, ◌∙◌, arith}
 use Rattle.std.specs.Prelude.{IfOk}
 use Rattle.fab_base.specs.declared.script.Bound.{Bound}
 use Rattle.fab_base.specs.declared.script.Conf.{Conf}
@@ -8,8 +8,7 @@ use Rattle.fab_workloads.specs.declared.workload.Workload.{Workload}
 use Rattle.fab_workloads.specs.declared.workload.Workload.TheVariants.{Pingpong, Bandwidth, Generated}
 use Rattle.fab_workloads.specs.Commands.{IsWithin}
 use Rattle.fab_workloads.specs.Script.{bound_of, conf_of, peers_of}
-use Rattle.fab_workload_laws.proofs.Every.{none_stuck}
-use Rattle.fab_top.specs.Outside.{Next}
+use Rattle.fab_workload_laws.specs.Laws.{NoneIsStuck}
 use Rattle.fab_top.specs.Runs.{ComesToRest}
 
 -- its settings are those of its number of peers
@@ -38,22 +37,12 @@ pub peers_granted : (w : Workload) (file : List ℕ) (b : Bound) → IsWithin w 
 peers_granted w file b within is = subst (λ (c : Conf). (0 < c.peers) × (c.peers ≤ 32)) (sym (settings w file b is)) (few_peers w within)
 
 -- wherever a run of it comes to rest, all lines are done
-pub always_done : (w : Workload) (file : List ℕ) (b : Bound) (done : Bool) → IsWithin w → b ≡ bound_of w file → ComesToRest b done → done ≡ true
-always_done w file b done within is r =
+pub always_done : NoneIsStuck → (w : Workload) (file : List ℕ) (b : Bound) (done : Bool) → IsWithin w → b ≡ bound_of w file → ComesToRest b done → done ≡ true
+always_done none_stuck w file b done within is r =
     let lawful : Lawful (bound_of w file) r.0 = subst (λ (x : Bound). Lawful x r.0) is r.1 in
     let rest : at_rest (replayed (bound_of w file) r.0).states ≡ true = subst (λ (x : Bound). at_rest (replayed x r.0).states ≡ true) is r.2 in
     sym r.3 ∙ ap (λ (x : Bound). all_done (replayed x r.0).states) is ∙ none_stuck w file within r.0 lawful rest
 
-pub all_complete : {E : Type 0} (w : Workload) (file : List ℕ) (b : Bound) → IsWithin w → b ≡ bound_of w file → (r : Result Bool E) → IfOk r (λ done. ComesToRest b done) → IfOk r (λ done. done ≡ true)
-all_complete w file b within is (Ok done) rests = always_done w file b done within is rests
-all_complete w file b within is (Err e) rests = tt
-
--- a clock that had given no moment gives two
-pub two_given : (a b c : ℕ) → a ≡ 0 → Next a b → Next b c → c ≡ 2
-two_given a b c none (inl one) (inl two) = omega (arith, none, one, two)
-two_given a b c none (inl one) (inr two) = absurd (omega (arith, none, one, two.0))
-two_given a b c none (inr one) second = absurd (omega (arith, none, one.0))
-
-pub one_given : (a b : ℕ) → a ≡ 0 → Next a b → 0 < b
-one_given a b none (inl one) = omega (arith, none, one)
-one_given a b none (inr one) = absurd (omega (arith, none, one.0))
+pub all_complete : {E : Type 0} → NoneIsStuck → (w : Workload) (file : List ℕ) (b : Bound) → IsWithin w → b ≡ bound_of w file → (r : Result Bool E) → IfOk r (λ done. ComesToRest b done) → IfOk r (λ done. done ≡ true)
+all_complete none_stuck w file b within is (Ok done) rests = always_done none_stuck w file b done within is rests
+all_complete none_stuck w file b within is (Err e) rests = tt

@@ -28,6 +28,7 @@ use fab_peer::machines;
 use fab_phases::phases::run_phases;
 use fab_quantum::calls::Machinery;
 use fab_script::lines;
+use fab_workload_laws::laws::law_workloads_done;
 use fab_workloads::{Workload, bench_line, bound, payload_file, workload_of};
 use std::alloc::Global;
 use std::sync::Wait;
@@ -129,6 +130,7 @@ fn complete<G: Gate, R: Threads + Wait + Sync>(
     requires script { (file : List ℕ) × (script.now ≡ bound_of workload file) }
     ensures { IfOk result (λ done. done ≡ true) }
 {
+    law_workloads_done();
     let machines = machines(alloc, &script.script.conf)?;
     complete_over(rt, alloc, script, machines, gate)
 }
