@@ -42,7 +42,11 @@ fn tell<E: Sink>(errors: &mut E, status: &Status) -> Result<(), Failed>
 {
     match status {
         Status::Done | Status::Stuck => Ok(()),
-        Status::Usage => tell_named(errors, "usage: ", "fabric_pingpong script FILE | info CAPS"),
+        Status::Usage => tell_named(
+            errors,
+            "usage: ",
+            "fabric_pingpong script FILE | pingpong FILE SIZE COUNT | bandwidth FILE SIZE COUNT WINDOW | gen NUMBER PEERS MESSAGES | info CAPS",
+        ),
         Status::ScriptRefused { line, why } => tell_refused(errors, *line, *why),
         Status::TooLong { name } => tell_named(errors, "too long: ", name.as_str()),
         Status::ReadFault { name } => tell_named(errors, "read fault: ", name.as_str()),

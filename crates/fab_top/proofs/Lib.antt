@@ -6,3 +6,5 @@ pub mod Telling
 pub mod Offered
 pub mod Loads
 pub mod Granted
+pub mod Workloads
+pub mod Answering

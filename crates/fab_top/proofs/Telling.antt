@@ -13,7 +13,7 @@ use Rattle.fab_model.proofs.Names.{lawful_report_tells}
 use Rattle.fab_finish.specs.Joined.{member_actor, member_steps}
 use Rattle.fab_finish.specs.Joined.{AreCleared}
 use Rattle.fab_finish.specs.Joined.{Member}
-use Rattle.fab_top.specs.Runs.{nothing_posted, Reports}
+use Rattle.fab_top.specs.Runs.{nothing_posted, Reports, ComesToRest}
 
 none_posted : (all : List Actor) → AreCleared all → nothing_posted all ≡ true
 none_posted [] cleared = refl
@@ -38,3 +38,10 @@ reports bound peers text done reached rest cleared few is ends =
       done_is = ap (λ x. all_done (replayed bound x).states) told ∙ ap all_done lawful.1 ∙ sym ends;
       cleared = λ all. ap (λ x. nothing_posted (replayed bound x).states) told ∙ ap nothing_posted lawful.1 ∙ none_posted states (cleared (sym ends ∙ all));
     }
+
+-- what peers did that came to rest is a lawful schedule
+pub comes_to_rest : (bound : Bound) (peers : List Member) (done : Bool) → Reached (rule fabric) (opening bound) (map member_steps peers) (map member_actor peers)
+    → at_rest (map member_actor peers) ≡ true → done ≡ all_done (map member_actor peers) → ComesToRest bound done
+comes_to_rest bound peers done reached rest ends =
+    let lawful = reached_lawful bound (map member_steps peers) (map member_actor peers) reached in
+    (map member_steps peers, lawful.0, ap at_rest lawful.1 ∙ rest, ap all_done lawful.1 ∙ sym ends)

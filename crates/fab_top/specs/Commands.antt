@@ -1,13 +1,14 @@
 -- What the words of a command ask for.
 --     script_file words      the file whose script is to be run, where the words are `script FILE`
 --     info_hints words       what is asked for of the provider (fi_getinfo(3)), where they are `info CAPS`
---     IsNoCommand words      the words are of neither form
+--     IsNoCommand words      the words are of no form: neither of these, nor that of a workload (`pingpong`, `bandwidth` or `gen`)
 use Rattle.std.specs.Prelude.{◌≡◌, ℕ, List, [], ◌∷◌, bytes_eq, codes, Option, Some, None, option_map, if◌then◌else◌}
 use Rattle.std.specs.Result.{result_ok}
 use Rattle.fab_base.specs.declared.caps.Caps.{Caps}
 use Rattle.fab_base.specs.declared.caps.Hints.{Hints}
 use Rattle.fab_grammar.specs.Capabilities.{caps_of}
 use Rattle.fab_grammar.specs.Settings.{asking}
+use Rattle.fab_workloads.specs.Commands.{workload_of}
 
 -- `script FILE`
 abbrev pub script_file : List (List ℕ) → Option (List ℕ)
@@ -27,4 +28,4 @@ info_hints (verb ∷ caps ∷ []) = if bytes_eq verb (codes "info") then hints_i
 info_hints _ = None
 
 abbrev pub IsNoCommand : List (List ℕ) → Type 0
-IsNoCommand words = (script_file words ≡ None) × (info_hints words ≡ None)
+IsNoCommand words = (script_file words ≡ None) × (info_hints words ≡ None) × (workload_of words ≡ None)

@@ -4,21 +4,29 @@
 --     IsRefused ..            the words name a file that is refused as a script
 --     Writes, WritesPart      the report is written, or a part of it
 --     Tells, TellsPart        what is granted is written, or a part of it
-use Rattle.std.specs.Prelude.{◌≡◌, ℕ, ◌<◌, Bool, true, List, length, take, Option, Some}
+--     Benches, BenchesPart    the line of a workload is written, or a part of it
+--     ComesToRest bound done  some lawful schedule leads the peers to rest
+--     IsUnhindered ..         nothing stands in the way of the command
+use Rattle.std.specs.Prelude.{◌≡◌, ℕ, ◌<◌, ◌⊎◌, Bool, true, List, length, take, Option, Some}
 use Rattle.std.specs.Io.KnownBytes.{append_known}
 use Rattle.std.specs.List.{list_all}
+use Rattle.fab_base.specs.Counts.{Rose}
 use Rattle.fab_base.specs.declared.caps.Hints.{Hints}
+use Rattle.fab_base.specs.declared.peers.Step.{Step}
 use Rattle.fab_base.specs.declared.script.Bound.{Bound}
 use Rattle.fab_base.specs.declared.status.Status.{Status}
-use Rattle.fab_base.specs.declared.status.Status.TheVariants.{Done, Stuck, WriteFault, NoMemory}
+use Rattle.fab_base.specs.declared.status.Status.TheVariants.{Done, Stuck, TooLong, ReadFault, WriteFault, NoMemory}
 use Rattle.fab_base.specs.declared.status.Why.{Why}
 use Rattle.fab_model.specs.Negotiation.{grant}
 use Rattle.fab_model.specs.Peers.{Actor}
 use Rattle.fab_model.specs.Replay.{Lawful, replayed, at_rest, all_done, is_empty}
 use Rattle.fab_model.specs.Report.{report, traces}
-use Rattle.fab_top.specs.Commands.{script_file, info_hints}
+use Rattle.fab_top.specs.Commands.{script_file, info_hints, IsNoCommand}
 use Rattle.fab_top.specs.Info.{info_text}
-use Rattle.fab_top.specs.Loading.{Files, IsRead, IsWrong, LeadsTo}
+use Rattle.fab_top.specs.Loading.{Files, IsOver, IsRead, IsWrong, LeadsTo}
+use Rattle.fab_workloads.specs.declared.workload.Workload.{Workload}
+use Rattle.fab_workloads.specs.Bench.{bench_line}
+use Rattle.fab_workloads.specs.Commands.{payload_file, workload_of}
 
 -- no receive of any peer is posted
 abbrev pub nothing_posted : List Actor → Bool
@@ -32,9 +40,19 @@ pub record Reports (bound : Bound) (text : List ℕ) (done : Bool) : Type 0 wher
   pub done_is : all_done (replayed bound (traces text)).states ≡ done
   pub cleared : done ≡ true → nothing_posted (replayed bound (traces text)).states ≡ true
 
--- the words name a script, and this is its file or one of its payload files, which the order of checks comes to
+-- some lawful schedule leads the peers to rest, and this says whether all lines are done then
+abbrev pub ComesToRest : Bound → Bool → Type 0
+ComesToRest bound done =
+    (schedule : List (List Step)) × Lawful bound schedule × (at_rest (replayed bound schedule).states ≡ true)
+    × (all_done (replayed bound schedule).states ≡ done)
+
+-- the words name a workload, and this is the file whose first bytes it sends
+abbrev pub IsPayload : List (List ℕ) → List ℕ → Type 0
+IsPayload words name = (workload : Workload) × (workload_of words ≡ Some workload) × (payload_file words ≡ Some name)
+
+-- the words name a script, and this is its file or one of its payload files, which the order of checks comes to; or they name a workload, and this is its file
 abbrev pub AskFor : Files → List (List ℕ) → List ℕ → Type 0
-AskFor files words name = (file : List ℕ) × (script_file words ≡ Some file) × LeadsTo files file name
+AskFor files words name = ((file : List ℕ) × (script_file words ≡ Some file) × LeadsTo files file name) ⊎ IsPayload words name
 
 -- the words name a file that spells no script, or a script of which a line names bytes that are not there: this is the first such line, and the first rule that it breaks
 abbrev pub IsRefused : Files → List (List ℕ) → ℕ → Why → Type 0
@@ -77,6 +95,22 @@ pub record TellsPart (words : List (List ℕ)) (before after : Option (List ℕ)
   pub fewer : some < length (info_text (grant hints))
   pub written : after ≡ append_known before (take some (info_text (grant hints)))
 
+-- the words name a workload, and its line is written, with the first and the last moment of a clock that has given exactly two
+pub record Benches (words : List (List ℕ)) (given first last : ℕ) (before after : Option (List ℕ)) : Type 0 where
+  pub workload : Workload
+  pub command : workload_of words ≡ Some workload
+  pub moments : given ≡ 2
+  pub written : after ≡ append_known before (bench_line workload first last)
+
+-- the same, of which only the first bytes are written
+pub record BenchesPart (words : List (List ℕ)) (given first last : ℕ) (before after : Option (List ℕ)) : Type 0 where
+  pub workload : Workload
+  pub command : workload_of words ≡ Some workload
+  pub moments : given ≡ 2
+  pub some : ℕ
+  pub fewer : some < length (bench_line workload first last)
+  pub written : after ≡ append_known before (take some (bench_line workload first last))
+
 -- the statuses at which a report is written, or a part of one
 abbrev pub WritesReport : Status → Type 0
 WritesReport Done = Unit {0}
@@ -90,6 +124,30 @@ TellsOffer Done = Unit {0}
 TellsOffer WriteFault = Unit {0}
 TellsOffer NoMemory = Unit {0}
 TellsOffer status = ⊥
+
+-- the statuses of a workload's command
+abbrev pub EndsBench : Status → Type 0
+EndsBench Done = Unit {0}
+EndsBench (TooLong name) = Unit {0}
+EndsBench (ReadFault name) = Unit {0}
+EndsBench WriteFault = Unit {0}
+EndsBench NoMemory = Unit {0}
+EndsBench status = ⊥
+
+-- the statuses at which the command was carried out, or memory is wanting
+abbrev pub IsAnswered : Status → Type 0
+IsAnswered Done = Unit {0}
+IsAnswered Stuck = Unit {0}
+IsAnswered NoMemory = Unit {0}
+IsAnswered status = ⊥
+
+-- the words are a command, no fault came of the files or of the output, no file that is asked for is too long, and no script is refused
+pub record IsUnhindered (files : Files) (words : List (List ℕ)) (faults faults' failures failures' : ℕ) : Type 0 where
+  pub command : IsNoCommand words → ⊥
+  pub loads : Rose faults faults' → ⊥
+  pub takes : Rose failures failures' → ⊥
+  pub within : (name : List ℕ) → AskFor files words name → IsOver files name → ⊥
+  pub spelt : (line : ℕ) (why : Why) → IsRefused files words line why → ⊥
 
 -- the statuses at which nothing is written
 abbrev pub IsSilent : Status → Type 0

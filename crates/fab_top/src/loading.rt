@@ -1,4 +1,4 @@
-//! A script and its payload files, loaded and put together.
+//! A script and its payload files, loaded and put together; a file of a workload.
 ghost use Rattle.std.specs.Prelude.{◌≡◌, ◌<◌, ◌≤◌, Some, IfOk, IfErr};
 ghost use Rattle.fab_grammar.specs.Grammar.{script_of};
 ghost use Rattle.fab_top.specs.Loading.{AreUnloaded, AreWhole, IsRead, IsUnloaded, IsUnread, IsUnspelt, IsWhole};
@@ -13,7 +13,7 @@ use std::alloc::Global;
 const FILE_MAX: u64 = 67_108_864;
 
 /// The file of this name, or how the run ends.
-fn load_file<D: Depot>(alloc: Global, depot: &mut D, name: &Text) -> Result<Buf, Status>
+pub fn load_file<D: Depot>(alloc: Global, depot: &mut D, name: &Text) -> Result<Buf, Status>
     ensures files { D.files depot.new ≡ D.files depot.old }
     ensures never_falls { D.faults depot.old ≤ D.faults depot.new }
     ensures ok { IfOk result (λ bytes. IsWhole (D.files depot.old) name.now bytes) }

@@ -1,5 +1,5 @@
 //! The top call: a command from its words to its report.
-ghost use Rattle.std.specs.Prelude.{◌≡◌, ◌<◌, ◌≤◌, ◌↔◌, ◌⊎◌, ℕ, List, true, false, None, Some, IfOk, string_bytes, length, map, take};
+ghost use Rattle.std.specs.Prelude.{◌≡◌, ◌<◌, ◌≤◌, ◌↔◌, ◌⊎◌, ℕ, List, true, false, None, Some, IfOk, IfErr, OnOk, string_bytes, length, map, take};
 ghost use Rattle.std.specs.Io.KnownBytes.{append_known};
 ghost use Rattle.std.specs.List.{All};
 ghost use Rattle.fab_finish.specs.Joined.{start};
@@ -11,20 +11,25 @@ ghost use Rattle.fab_base.specs.Counts.{Rose};
 ghost use Rattle.fab_model.specs.Negotiation.{grant};
 ghost use Rattle.fab_top.specs.Commands.{IsNoCommand};
 ghost use Rattle.fab_top.specs.Info.{info_text};
-ghost use Rattle.fab_top.specs.Loading.{IsOver};
-ghost use Rattle.fab_top.specs.Runs.{Reports, AskFor, IsRefused, Writes, WritesPart, Tells, TellsPart, TellsOffer, IsSilent, WritesReport};
+ghost use Rattle.fab_top.specs.Loading.{IsOver, IsUnloaded};
+ghost use Rattle.fab_top.specs.Runs.{Reports, ComesToRest, AskFor, IsRefused, Writes, WritesPart, Tells, TellsPart, TellsOffer, Benches, BenchesPart, EndsBench, IsUnhindered, IsAnswered, IsSilent, WritesReport};
+ghost use Rattle.fab_workloads.specs.Bench.{bench_line};
+ghost use Rattle.fab_workloads.specs.Commands.{IsWithin, payload_file, workload_of};
+ghost use Rattle.fab_workloads.specs.Script.{bound_of};
 
 use crate::commands::{info_hints, script_file};
 use crate::info::info_text;
-use crate::loading::load_script;
+use crate::loading::{load_file, load_script};
 use crate::outside::{Clock, Depot, Failed, Sink};
 use crate::whole::{all_done, report};
 use crate::writing::write_all;
-use fab_base::{Bound, Gate, Hints, Line, NoMemory, Status, Text};
+use fab_base::{Bound, Buf, Gate, Hints, Line, NoMemory, Status, Text};
 use fab_peer::machines;
 use fab_phases::phases::run_phases;
 use fab_quantum::calls::Machinery;
 use fab_script::lines;
+use fab_workload_laws::laws::law_workloads_done;
+use fab_workloads::{Workload, bench_line, bound, payload_file, workload_of};
 use std::alloc::Global;
 use std::sync::Wait;
 use std::thread::Threads;
@@ -91,6 +96,87 @@ fn run_script<G: Gate, R: Threads + Wait + Sync>(
     run_over(rt, alloc, bound, machines, gate)
 }
 
+/// Runs a bound script's peers over these machines until none can go on, first in threads and then in one, and says
+/// whether all lines are done.
+fn complete_over<M: Machinery + Drop + Send, G: Gate, R: Threads + Wait + Sync>(
+    rt: &R,
+    alloc: Global,
+    bound: &Bound,
+    machines: Vec<M>,
+    gate: &G,
+) -> Result<bool, NoMemory>
+    requires count { length machines.items ≡ bound.now.script.conf.peers }
+    requires log { 4 ≤ bound.now.script.conf.info.log }
+    requires start { All (λ m. M.held m ≡ start bound.now.script.conf) machines.items }
+    requires peers { (0 < bound.now.script.conf.peers) × (bound.now.script.conf.peers ≤ 32) }
+    requires lane { (0 < bound.now.script.conf.info.lane) × (bound.now.script.conf.info.lane ≤ 1024) }
+    requires pool { (0 < bound.now.script.conf.info.pool) × (bound.now.script.conf.info.pool ≤ 1024) }
+    ensures { IfOk result (λ done. ComesToRest bound.now done) }
+{
+    let lists = lines_of_all(alloc, bound)?;
+    let peers = run_phases(rt, alloc, &bound.script.conf, lists, machines, gate)?;
+    Ok(all_done(&peers))
+}
+
+/// Runs a workload's peers until all their lines are done: no workload's script rests before.
+fn complete<G: Gate, R: Threads + Wait + Sync>(
+    rt: &R,
+    alloc: Global,
+    workload: Workload,
+    script: &Bound,
+    gate: &G,
+) -> Result<bool, NoMemory>
+    requires within { IsWithin workload }
+    requires script { (file : List ℕ) × (script.now ≡ bound_of workload file) }
+    ensures { IfOk result (λ done. done ≡ true) }
+{
+    law_workloads_done();
+    let machines = machines(alloc, &script.script.conf)?;
+    complete_over(rt, alloc, script, machines, gate)
+}
+
+/// Runs a workload's peers between two looks at the clock, and makes the line that is written.
+fn time_run<C: Clock, G: Gate, R: Threads + Wait + Sync>(
+    rt: &R,
+    alloc: Global,
+    workload: Workload,
+    script: &Bound,
+    clock: &mut C,
+    gate: &G,
+) -> Result<Ran, NoMemory>
+    requires within { IsWithin workload }
+    requires script { (file : List ℕ) × (script.now ≡ bound_of workload file) }
+    requires new { C.given clock.old ≡ 0 }
+    ensures moments { OnOk result (C.given clock.new ≡ 2) }
+    ensures line { IfOk result (λ ran. string_bytes ran.text ≡ bench_line workload (C.first clock.new) (C.last clock.new)) }
+    ensures done { IfOk result (λ ran. ran.done ≡ true) }
+{
+    let before = clock.now();
+    let done = complete(rt, alloc, workload, script, gate)?;
+    let after = clock.now();
+    let text = bench_line(alloc, workload, before, after)?;
+    Ok(Ran { text, done })
+}
+
+/// Makes the script of a workload, runs it, and makes the line that is written.
+fn run_workload<C: Clock, G: Gate, R: Threads + Wait + Sync>(
+    rt: &R,
+    alloc: Global,
+    workload: Workload,
+    file: &[u8],
+    clock: &mut C,
+    gate: &G,
+) -> Result<Ran, NoMemory>
+    requires within { IsWithin workload }
+    requires new { C.given clock.old ≡ 0 }
+    ensures moments { OnOk result (C.given clock.new ≡ 2) }
+    ensures line { IfOk result (λ ran. string_bytes ran.text ≡ bench_line workload (C.first clock.new) (C.last clock.new)) }
+    ensures done { IfOk result (λ ran. ran.done ≡ true) }
+{
+    let script = bound(alloc, workload, file)?;
+    time_run(rt, alloc, workload, &script, clock, gate)
+}
+
 /// Writes the text, and says how the command ends.
 fn write_text<S: Sink>(sink: &mut S, ran: &Ran) -> Status
     ensures done { result ≡ Done → (ran.now.done ≡ true) × (S.bytes sink.new ≡ append_known (S.bytes sink.old) (string_bytes ran.now.text)) }
@@ -125,15 +211,70 @@ fn tell_offer<S: Sink>(alloc: Global, sink: &mut S, hints: Option<Hints>) -> Sta
     }
 }
 
+/// The file that the words of a workload name, or no bytes where they name none.
+fn load_payload<D: Depot>(alloc: Global, depot: &mut D, words: &[Text]) -> Result<Buf, Status>
+    ensures files { D.files depot.new ≡ D.files depot.old }
+    ensures err { IfErr result (λ status. (name : List ℕ) × (payload_file words.now ≡ Some name)
+        × IsUnloaded (D.files depot.old) name (D.faults depot.old) (D.faults depot.new) (D.failed_name depot.new) status) }
+{
+    match payload_file(words) {
+        Some(name) => load_file(alloc, depot, name),
+        None => Ok(Buf::empty(alloc)),
+    }
+}
+
+/// Loads the file of the workload that these words are, runs it and writes its line, and says how the command ends.
+fn carry_out_workload<R, D: Depot, S: Sink, C: Clock, G: Gate>(
+    rt: &R,
+    alloc: Global,
+    words: &[Text],
+    workload: Workload,
+    depot: &mut D,
+    sink: &mut S,
+    clock: &mut C,
+    gate: &G,
+) -> Status
+where
+    R: Threads + Wait + Sync,
+    requires within { IsWithin workload }
+    requires is { workload_of words.now ≡ Some workload }
+    requires new { C.given clock.old ≡ 0 }
+    ensures too_long { (name : List ℕ) → result ≡ TooLong name → (payload_file words.now ≡ Some name) × IsOver (D.files depot.old) name }
+    ensures read_fault { (name : List ℕ) → result ≡ ReadFault name → (payload_file words.now ≡ Some name)
+        × Rose (D.faults depot.old) (D.faults depot.new) × (D.failed_name depot.new ≡ Some name) }
+    ensures done { result ≡ Done → Benches words.now (C.given clock.new) (C.first clock.new) (C.last clock.new) (S.bytes sink.old) (S.bytes sink.new) }
+    ensures write_fault { result ≡ WriteFault → Rose (S.faults sink.old) (S.faults sink.new)
+        × BenchesPart words.now (C.given clock.new) (C.first clock.new) (C.last clock.new) (S.bytes sink.old) (S.bytes sink.new) }
+    ensures silent { IsSilent result → S.bytes sink.new ≡ S.bytes sink.old }
+    ensures ends { EndsBench result }
+    ensures files { D.files depot.new ≡ D.files depot.old }
+{
+    let payload = match load_payload(alloc, depot, words) {
+        Ok(payload) => payload,
+        Err(status) => return status,
+    };
+    match run_workload(rt, alloc, workload, payload.as_slice(), clock, gate) {
+        Ok(ran) => write_text(sink, &ran),
+        Err(NoMemory) => Status::NoMemory,
+    }
+}
+
 /// Carries out the command that these words are. `script FILE` loads the file and the payload files of the script
 /// that it spells, in the order of their lines, runs the script's peers, and writes their report. `info CAPS` writes
 /// what is granted (fi_getinfo(3)) to whoever asks for these capabilities, whose names are joined by commas, or has no
 /// hints where CAPS is `-`.
 ///
+/// `pingpong FILE SIZE COUNT`, `bandwidth FILE SIZE COUNT WINDOW` and `gen NUMBER PEERS MESSAGES` run the script of a
+/// workload in the same way, and write one line ([`bench_line`]). The messages of the first two have the file's first
+/// bytes, SIZE of them (up to 16,777,216), followed by zeros where the file is shorter; `gen` loads no file. COUNT is 1 to
+/// 10,000, SIZE times COUNT up to 67,108,864, WINDOW 1 to 256, PEERS 1 to 32 and MESSAGES up to 8,192. The clock is read
+/// before the peers run and when they have finished, and never by another command.
+///
 /// The peers take their turns in rounds, each turn in a thread of its own over lock-free lanes, until a round moves
 /// nothing or all lines are done, and then in one thread until none can go on. The gate is told when a turn in a thread
 /// begins and ends. Which of two peers' messages comes first may depend on the threads, so two runs of a script may
-/// write two reports.
+/// write two reports. The line of a workload is the same but for the time: its script has one answer, and no run of it ends
+/// at `Stuck`.
 ///
 /// The report is that of one lawful schedule, the one that its own trace lines tell: in some order of
 /// turns the peers' steps led from the script's opening to the states that it reports. In these the
@@ -144,7 +285,8 @@ fn tell_offer<S: Sink>(alloc: Global, sink: &mut S, hints: Option<Hints>) -> Sta
 ///
 /// `ScriptRefused` names the first line that breaks a rule of the language, and the first rule that it breaks; with
 /// `FileRange`, which is looked at last, the first line that names bytes which its payload file has not. `TooLong` and
-/// `ReadFault` name the file. `NoMemory` may come before anything is written.
+/// `ReadFault` name the file. `NoMemory` may come before anything is written. Where the words are a command, neither the
+/// files nor the output fail, no file is too long and no script is refused, the end is `Done`, `Stuck` or `NoMemory`.
 ///
 /// The clock must be new: it has given no moment.
 pub fn run<R, D: Depot, S: Sink, C: Clock, G: Gate>(
@@ -153,28 +295,35 @@ pub fn run<R, D: Depot, S: Sink, C: Clock, G: Gate>(
     words: &[Text],
     depot: &mut D,
     sink: &mut S,
-    _clock: &mut C,
+    clock: &mut C,
     gate: &G,
 ) -> Status
 where
     R: Threads + Wait + Sync,
-    requires { C.given _clock.old ≡ 0 }
+    requires { C.given clock.old ≡ 0 }
     ensures usage { (result ≡ Usage) ↔ IsNoCommand words.now }
     ensures refused { (line : ℕ) (why : Why) → result ≡ ScriptRefused line why → IsRefused (D.files depot.old) words.now line why }
     ensures too_long { (name : List ℕ) → result ≡ TooLong name → AskFor (D.files depot.old) words.now name × IsOver (D.files depot.old) name }
     ensures read_fault { (name : List ℕ) → result ≡ ReadFault name → AskFor (D.files depot.old) words.now name
         × Rose (D.faults depot.old) (D.faults depot.new) × (D.failed_name depot.new ≡ Some name) }
     ensures done { result ≡ Done → Writes (D.files depot.old) words.now true (S.bytes sink.old) (S.bytes sink.new)
-        ⊎ Tells words.now (S.bytes sink.old) (S.bytes sink.new) }
+        ⊎ Tells words.now (S.bytes sink.old) (S.bytes sink.new)
+        ⊎ Benches words.now (C.given clock.new) (C.first clock.new) (C.last clock.new) (S.bytes sink.old) (S.bytes sink.new) }
     ensures stuck { result ≡ Stuck → Writes (D.files depot.old) words.now false (S.bytes sink.old) (S.bytes sink.new) }
     ensures write_fault { result ≡ WriteFault → Rose (S.faults sink.old) (S.faults sink.new)
         × (WritesPart (D.files depot.old) words.now (S.bytes sink.old) (S.bytes sink.new)
-        ⊎ TellsPart words.now (S.bytes sink.old) (S.bytes sink.new)) }
+        ⊎ TellsPart words.now (S.bytes sink.old) (S.bytes sink.new)
+        ⊎ BenchesPart words.now (C.given clock.new) (C.first clock.new) (C.last clock.new) (S.bytes sink.old) (S.bytes sink.new)) }
     ensures silent { IsSilent result → S.bytes sink.new ≡ S.bytes sink.old }
     ensures files { D.files depot.new ≡ D.files depot.old }
+    ensures complete { IsUnhindered (D.files depot.old) words.now (D.faults depot.old) (D.faults depot.new) (S.faults sink.old) (S.faults sink.new)
+        → IsAnswered result }
 {
     if let Some(hints) = info_hints(words) {
         return tell_offer(alloc, sink, hints);
+    }
+    if let Some(workload) = workload_of(words) {
+        return carry_out_workload(rt, alloc, words, workload, depot, sink, clock, gate);
     }
     let Some(name) = script_file(words) else {
         return Status::Usage;

@@ -25,3 +25,5 @@ mod reports;
 mod runs;
 #[cfg(test)]
 mod threads;
+#[cfg(test)]
+mod workloads;

@@ -256,9 +256,13 @@ fn is_no_command<R: Abort + Threads + Wait + Sync>(
 
 #[test]
 fn other_words_are_no_command(rt: HostRuntime) -> Result<(), Fail> {
-    let rows: [&[&str]; 10] = [
+    let rows: [&[&str]; 14] = [
         &[],
         &["pingpong", "f", "4096", "0"],
+        &["pingpong", "f", "16777216", "5"],
+        &["bandwidth", "f", "1", "1", "257"],
+        &["gen", "1", "33", "1"],
+        &["gen", "1", "1"],
         &["script"],
         &["scripts", "it"],
         &["script", "it", "it"],

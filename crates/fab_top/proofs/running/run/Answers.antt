@@ -1,0 +1,16 @@
+use Rattle.std.proofs.Common.{sym}
+use Rattle.fab_top.proofs.Answering.{bench_answered, unread_answered}
+use Rattle.fab_top.proofs.running.run.Goals as goal
+
+pub returns-in-Some-workload_of-clause-complete : goal.returns-in-Some-workload_of-clause-complete
+returns-in-Some-workload_of-clause-complete g c =
+    let e = c.carry_out_workload.ensures in
+    bench_answered (g.D.Depot.files c.args.depot.now) c.args.words.now (g.D.Depot.faults c.args.depot.now) (g.D.Depot.faults c.carry_out_workload.new.depot)
+    (g.S.Sink.faults c.args.sink.now) (g.S.Sink.faults c.carry_out_workload.new.sink) c.in-Some-workload_of.workload c.carry_out_workload.result
+    (sym c.in-Some-workload_of.ensures.value) e.ends e.too_long (λ name is. (e.read_fault name is).1) (λ is. (e.write_fault is).0)
+
+pub returns-in-Err-clause-complete : goal.returns-in-Err-clause-complete
+returns-in-Err-clause-complete g c =
+    unread_answered (g.D.Depot.files c.args.depot.now) c.args.words.now (g.D.Depot.faults c.args.depot.now) (g.D.Depot.faults c.load_script.new.depot)
+    (g.S.Sink.faults c.args.sink.now) (g.S.Sink.faults c.args.sink.now) (g.D.Depot.failed_name c.load_script.new.depot) c.in-Some-script_file.name.now c.in-Err.status
+    (sym c.in-Some-script_file.ensures) c.in-Err.ensures.err
