@@ -40,5 +40,4 @@ steady p ok rx tx read room =
       items = tx.items;
       out = λ d. out_at p d (tx.placed d);
       addressed = λ i t is. (let lt = ok.addressed i t is in omega (arith, lt, places));
-      still = (rx.plain ok.plain).still;
     }

@@ -57,6 +57,16 @@ impl<M: Matcher> Machine for Core<M> {
         }
     }
 
+    fn is_draw_due(&self) -> bool {
+        self.rx.is_draw_due()
+    }
+
+    /// No multi-receive was posted, so no draw is ever due.
+    fn draw(&mut self) -> bool {
+        self.rx.known();
+        unreachable!()
+    }
+
     fn send_fault(&self, message: &Message, bytes: &[u8]) -> Option<Fault> {
         self.message_fault(message, bytes)
     }
