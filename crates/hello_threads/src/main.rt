@@ -88,12 +88,7 @@ fn send<R: Wait, E: Speaks>(rt: &R, endpoint: &mut E, dest: u32, tag: u64, text:
 }
 
 /// Receives a message with this tag of any peer, of as many bytes as the buffer has.
-fn receive<R: Wait, E: Speaks>(
-    rt: &R,
-    endpoint: &mut E,
-    tag: u64,
-    room: Buf,
-) -> Option<Message> {
+fn receive<R: Wait, E: Speaks>(rt: &R, endpoint: &mut E, tag: u64, room: Buf) -> Option<Message> {
     if endpoint.trecv(None, tag, 0, room, 0).is_err() {
         return None;
     }
@@ -101,12 +96,7 @@ fn receive<R: Wait, E: Speaks>(
 }
 
 /// Answers one question, which it gives.
-fn answer<R: Wait, E: Speaks>(
-    rt: &R,
-    mut endpoint: E,
-    room: Buf,
-    told: Buf,
-) -> Option<Message> {
+fn answer<R: Wait, E: Speaks>(rt: &R, mut endpoint: E, room: Buf, told: Buf) -> Option<Message> {
     let asked = receive(rt, &mut endpoint, ASK, room);
     send(rt, &mut endpoint, 1, TELL, told);
     asked
