@@ -6,4 +6,4 @@
 
 mod peers;
 
-pub use peers::machines;
+pub use peers::{Cores, Opens};

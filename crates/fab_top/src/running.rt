@@ -24,7 +24,7 @@ use crate::outside::{Clock, Depot, Failed, Sink};
 use crate::whole::{all_done, report};
 use crate::writing::write_all;
 use fab_base::{Bound, Buf, Gate, Hints, Line, NoMemory, Status, Text};
-use fab_peer::machines;
+use fab_peer::{Cores, Opens};
 use fab_phases::phases::run_phases;
 use fab_quantum::calls::Machinery;
 use fab_script::lines;
@@ -79,9 +79,10 @@ fn run_over<C: Machinery + Drop + Send, G: Gate, R: Threads + Wait + Sync>(
 }
 
 /// Runs a bound script's peers, each with a machine of its own, and reports what they did.
-fn run_script<G: Gate, R: Threads + Wait + Sync>(
+fn run_script<O: Opens, G: Gate, R: Threads + Wait + Sync>(
     rt: &R,
     alloc: Global,
+    opener: &O,
     bound: &Bound,
     gate: &G,
 ) -> Result<Ran, NoMemory>
@@ -92,7 +93,7 @@ fn run_script<G: Gate, R: Threads + Wait + Sync>(
     requires pool { (0 < bound.now.script.conf.info.pool) × (bound.now.script.conf.info.pool ≤ 1024) }
     ensures { IfOk result (λ ran. Reports bound.now (string_bytes ran.text) ran.done) }
 {
-    let machines = machines(alloc, &bound.script.conf)?;
+    let machines = opener.machines(alloc, &bound.script.conf)?;
     run_over(rt, alloc, bound, machines, gate)
 }
 
@@ -119,9 +120,10 @@ fn complete_over<M: Machinery + Drop + Send, G: Gate, R: Threads + Wait + Sync>(
 }
 
 /// Runs a workload's peers until all their lines are done: no workload's script rests before.
-fn complete<G: Gate, R: Threads + Wait + Sync>(
+fn complete<O: Opens, G: Gate, R: Threads + Wait + Sync>(
     rt: &R,
     alloc: Global,
+    opener: &O,
     workload: Workload,
     script: &Bound,
     gate: &G,
@@ -131,14 +133,15 @@ fn complete<G: Gate, R: Threads + Wait + Sync>(
     ensures { IfOk result (λ done. done ≡ true) }
 {
     law_workloads_done();
-    let machines = machines(alloc, &script.script.conf)?;
+    let machines = opener.machines(alloc, &script.script.conf)?;
     complete_over(rt, alloc, script, machines, gate)
 }
 
 /// Runs a workload's peers between two looks at the clock, and makes the line that is written.
-fn time_run<C: Clock, G: Gate, R: Threads + Wait + Sync>(
+fn time_run<O: Opens, C: Clock, G: Gate, R: Threads + Wait + Sync>(
     rt: &R,
     alloc: Global,
+    opener: &O,
     workload: Workload,
     script: &Bound,
     clock: &mut C,
@@ -152,16 +155,17 @@ fn time_run<C: Clock, G: Gate, R: Threads + Wait + Sync>(
     ensures done { IfOk result (λ ran. ran.done ≡ true) }
 {
     let before = clock.now();
-    let done = complete(rt, alloc, workload, script, gate)?;
+    let done = complete(rt, alloc, opener, workload, script, gate)?;
     let after = clock.now();
     let text = bench_line(alloc, workload, before, after)?;
     Ok(Ran { text, done })
 }
 
 /// Makes the script of a workload, runs it, and makes the line that is written.
-fn run_workload<C: Clock, G: Gate, R: Threads + Wait + Sync>(
+fn run_workload<O: Opens, C: Clock, G: Gate, R: Threads + Wait + Sync>(
     rt: &R,
     alloc: Global,
+    opener: &O,
     workload: Workload,
     file: &[u8],
     clock: &mut C,
@@ -174,7 +178,7 @@ fn run_workload<C: Clock, G: Gate, R: Threads + Wait + Sync>(
     ensures done { IfOk result (λ ran. ran.done ≡ true) }
 {
     let script = bound(alloc, workload, file)?;
-    time_run(rt, alloc, workload, &script, clock, gate)
+    time_run(rt, alloc, opener, workload, &script, clock, gate)
 }
 
 /// Writes the text, and says how the command ends.
@@ -224,9 +228,10 @@ fn load_payload<D: Depot>(alloc: Global, depot: &mut D, words: &[Text]) -> Resul
 }
 
 /// Loads the file of the workload that these words are, runs it and writes its line, and says how the command ends.
-fn carry_out_workload<R, D: Depot, S: Sink, C: Clock, G: Gate>(
+fn carry_out_workload<R, O: Opens, D: Depot, S: Sink, C: Clock, G: Gate>(
     rt: &R,
     alloc: Global,
+    opener: &O,
     words: &[Text],
     workload: Workload,
     depot: &mut D,
@@ -253,7 +258,7 @@ where
         Ok(payload) => payload,
         Err(status) => return status,
     };
-    match run_workload(rt, alloc, workload, payload.as_slice(), clock, gate) {
+    match run_workload(rt, alloc, opener, workload, payload.as_slice(), clock, gate) {
         Ok(ran) => write_text(sink, &ran),
         Err(NoMemory) => Status::NoMemory,
     }
@@ -323,7 +328,7 @@ where
         return tell_offer(alloc, sink, hints);
     }
     if let Some(workload) = workload_of(words) {
-        return carry_out_workload(rt, alloc, words, workload, depot, sink, clock, gate);
+        return carry_out_workload(rt, alloc, &Cores, words, workload, depot, sink, clock, gate);
     }
     let Some(name) = script_file(words) else {
         return Status::Usage;
@@ -332,7 +337,7 @@ where
         Ok(bound) => bound,
         Err(status) => return status,
     };
-    match run_script(rt, alloc, &bound, gate) {
+    match run_script(rt, alloc, &Cores, &bound, gate) {
         Ok(ran) => write_text(sink, &ran),
         Err(NoMemory) => Status::NoMemory,
     }
