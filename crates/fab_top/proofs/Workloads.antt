@@ -1,6 +1,5 @@
 -- What holds of the script of a workload, and of every run of it.
-use Rattle.std.proofs.Common.{◌≡◌, ◌<◌, ◌≤◌, ℕ, List, Bool, true, Result, Ok, Err, sym, ap, subst, ◌∙◌, arith}
-use Rattle.std.specs.Prelude.{IfOk}
+use Rattle.std.proofs.Common.{◌≡◌, ◌<◌, ◌≤◌, ℕ, List, Bool, true, sym, ap, subst, ◌∙◌, arith}
 use Rattle.fab_base.specs.declared.script.Bound.{Bound}
 use Rattle.fab_base.specs.declared.script.Conf.{Conf}
 use Rattle.fab_model.specs.Replay.{Lawful, replayed, at_rest, all_done}
@@ -42,7 +41,3 @@ always_done none_stuck w file b done within is r =
     let lawful : Lawful (bound_of w file) r.0 = subst (λ (x : Bound). Lawful x r.0) is r.1 in
     let rest : at_rest (replayed (bound_of w file) r.0).states ≡ true = subst (λ (x : Bound). at_rest (replayed x r.0).states ≡ true) is r.2 in
     sym r.3 ∙ ap (λ (x : Bound). all_done (replayed x r.0).states) is ∙ none_stuck w file within r.0 lawful rest
-
-pub all_complete : {E : Type 0} → NoneIsStuck → (w : Workload) (file : List ℕ) (b : Bound) → IsWithin w → b ≡ bound_of w file → (r : Result Bool E) → IfOk r (λ done. ComesToRest b done) → IfOk r (λ done. done ≡ true)
-all_complete none_stuck w file b within is (Ok done) rests = always_done none_stuck w file b done within is rests
-all_complete none_stuck w file b within is (Err e) rests = tt

@@ -119,25 +119,27 @@ fn complete_over<M: Machinery + Drop + Send, G: Gate, R: Threads + Wait + Sync>(
     Ok(all_done(&peers))
 }
 
-/// Runs a workload's peers until all their lines are done: no workload's script rests before.
+/// Runs a bound script's peers, each with a machine of its own, until none can go on, and says whether all lines are done.
 fn complete<O: Opens, G: Gate, R: Threads + Wait + Sync>(
     rt: &R,
     alloc: Global,
     opener: &O,
-    workload: Workload,
-    script: &Bound,
+    bound: &Bound,
     gate: &G,
 ) -> Result<bool, NoMemory>
-    requires within { IsWithin workload }
-    requires script { (file : List ℕ) × (script.now ≡ bound_of workload file) }
-    ensures { IfOk result (λ done. done ≡ true) }
+    requires cq { 2 ≤ bound.now.script.conf.info.cq }
+    requires log { 4 ≤ bound.now.script.conf.info.log }
+    requires peers { (0 < bound.now.script.conf.peers) × (bound.now.script.conf.peers ≤ 32) }
+    requires lane { (0 < bound.now.script.conf.info.lane) × (bound.now.script.conf.info.lane ≤ 1024) }
+    requires pool { (0 < bound.now.script.conf.info.pool) × (bound.now.script.conf.info.pool ≤ 1024) }
+    ensures { IfOk result (λ done. ComesToRest bound.now done) }
 {
-    law_workloads_done();
-    let machines = opener.machines(alloc, &script.script.conf)?;
-    complete_over(rt, alloc, script, machines, gate)
+    let machines = opener.machines(alloc, &bound.script.conf)?;
+    complete_over(rt, alloc, bound, machines, gate)
 }
 
-/// Runs a workload's peers between two looks at the clock, and makes the line that is written.
+/// Runs a workload's peers between two looks at the clock, and makes the line that is written. All lines are done: no
+/// workload's script rests before.
 fn time_run<O: Opens, C: Clock, G: Gate, R: Threads + Wait + Sync>(
     rt: &R,
     alloc: Global,
@@ -154,8 +156,9 @@ fn time_run<O: Opens, C: Clock, G: Gate, R: Threads + Wait + Sync>(
     ensures line { IfOk result (λ ran. string_bytes ran.text ≡ bench_line workload (C.first clock.new) (C.last clock.new)) }
     ensures done { IfOk result (λ ran. ran.done ≡ true) }
 {
+    law_workloads_done();
     let before = clock.now();
-    let done = complete(rt, alloc, opener, workload, script, gate)?;
+    let done = complete(rt, alloc, opener, script, gate)?;
     let after = clock.now();
     let text = bench_line(alloc, workload, before, after)?;
     Ok(Ran { text, done })
