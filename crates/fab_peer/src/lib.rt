@@ -4,6 +4,8 @@
 //! over any machine behind their endpoints. Here the machine is chosen: `fab_core`, with matching in hashed bins.
 #![tactic(auto)]
 
+mod machine;
 mod peers;
 
-pub use peers::{Cores, Opens};
+pub use machine::ScriptMachine;
+pub use peers::machines;

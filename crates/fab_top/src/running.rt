@@ -24,7 +24,7 @@ use crate::outside::{Clock, Depot, Failed, Sink};
 use crate::whole::{all_done, report};
 use crate::writing::write_all;
 use fab_base::{Bound, Buf, Gate, Hints, Line, NoMemory, Status, Text};
-use fab_peer::{Cores, Opens};
+use fab_peer::machines;
 use fab_phases::phases::run_phases;
 use fab_quantum::calls::Machinery;
 use fab_script::lines;
@@ -79,10 +79,9 @@ fn run_over<C: Machinery + Drop + Send, G: Gate, R: Threads + Wait + Sync>(
 }
 
 /// Runs a bound script's peers, each with a machine of its own, and reports what they did.
-fn run_script<O: Opens, G: Gate, R: Threads + Wait + Sync>(
+fn run_script<G: Gate, R: Threads + Wait + Sync>(
     rt: &R,
     alloc: Global,
-    opener: &O,
     bound: &Bound,
     gate: &G,
 ) -> Result<Ran, NoMemory>
@@ -93,7 +92,7 @@ fn run_script<O: Opens, G: Gate, R: Threads + Wait + Sync>(
     requires pool { (0 < bound.now.script.conf.info.pool) × (bound.now.script.conf.info.pool ≤ 1024) }
     ensures { IfOk result (λ ran. Reports bound.now (string_bytes ran.text) ran.done) }
 {
-    let machines = opener.machines(alloc, &bound.script.conf)?;
+    let machines = machines(alloc, &bound.script.conf)?;
     run_over(rt, alloc, bound, machines, gate)
 }
 
@@ -120,10 +119,9 @@ fn complete_over<M: Machinery + Drop + Send, G: Gate, R: Threads + Wait + Sync>(
 }
 
 /// Runs a bound script's peers, each with a machine of its own, until none can go on, and says whether all lines are done.
-fn complete<O: Opens, G: Gate, R: Threads + Wait + Sync>(
+fn complete<G: Gate, R: Threads + Wait + Sync>(
     rt: &R,
     alloc: Global,
-    opener: &O,
     bound: &Bound,
     gate: &G,
 ) -> Result<bool, NoMemory>
@@ -134,16 +132,15 @@ fn complete<O: Opens, G: Gate, R: Threads + Wait + Sync>(
     requires pool { (0 < bound.now.script.conf.info.pool) × (bound.now.script.conf.info.pool ≤ 1024) }
     ensures { IfOk result (λ done. ComesToRest bound.now done) }
 {
-    let machines = opener.machines(alloc, &bound.script.conf)?;
+    let machines = machines(alloc, &bound.script.conf)?;
     complete_over(rt, alloc, bound, machines, gate)
 }
 
 /// Runs a workload's peers between two looks at the clock, and makes the line that is written. All lines are done: no
 /// workload's script rests before.
-fn time_run<O: Opens, C: Clock, G: Gate, R: Threads + Wait + Sync>(
+fn time_run<C: Clock, G: Gate, R: Threads + Wait + Sync>(
     rt: &R,
     alloc: Global,
-    opener: &O,
     workload: Workload,
     script: &Bound,
     clock: &mut C,
@@ -158,17 +155,16 @@ fn time_run<O: Opens, C: Clock, G: Gate, R: Threads + Wait + Sync>(
 {
     law_workloads_done();
     let before = clock.now();
-    let done = complete(rt, alloc, opener, script, gate)?;
+    let done = complete(rt, alloc, script, gate)?;
     let after = clock.now();
     let text = bench_line(alloc, workload, before, after)?;
     Ok(Ran { text, done })
 }
 
 /// Makes the script of a workload, runs it, and makes the line that is written.
-fn run_workload<O: Opens, C: Clock, G: Gate, R: Threads + Wait + Sync>(
+fn run_workload<C: Clock, G: Gate, R: Threads + Wait + Sync>(
     rt: &R,
     alloc: Global,
-    opener: &O,
     workload: Workload,
     file: &[u8],
     clock: &mut C,
@@ -181,7 +177,7 @@ fn run_workload<O: Opens, C: Clock, G: Gate, R: Threads + Wait + Sync>(
     ensures done { IfOk result (λ ran. ran.done ≡ true) }
 {
     let script = bound(alloc, workload, file)?;
-    time_run(rt, alloc, opener, workload, &script, clock, gate)
+    time_run(rt, alloc, workload, &script, clock, gate)
 }
 
 /// Writes the text, and says how the command ends.
@@ -231,10 +227,9 @@ fn load_payload<D: Depot>(alloc: Global, depot: &mut D, words: &[Text]) -> Resul
 }
 
 /// Loads the file of the workload that these words are, runs it and writes its line, and says how the command ends.
-fn carry_out_workload<R, O: Opens, D: Depot, S: Sink, C: Clock, G: Gate>(
+fn carry_out_workload<R, D: Depot, S: Sink, C: Clock, G: Gate>(
     rt: &R,
     alloc: Global,
-    opener: &O,
     words: &[Text],
     workload: Workload,
     depot: &mut D,
@@ -261,7 +256,7 @@ where
         Ok(payload) => payload,
         Err(status) => return status,
     };
-    match run_workload(rt, alloc, opener, workload, payload.as_slice(), clock, gate) {
+    match run_workload(rt, alloc, workload, payload.as_slice(), clock, gate) {
         Ok(ran) => write_text(sink, &ran),
         Err(NoMemory) => Status::NoMemory,
     }
@@ -331,7 +326,7 @@ where
         return tell_offer(alloc, sink, hints);
     }
     if let Some(workload) = workload_of(words) {
-        return carry_out_workload(rt, alloc, &Cores, words, workload, depot, sink, clock, gate);
+        return carry_out_workload(rt, alloc, words, workload, depot, sink, clock, gate);
     }
     let Some(name) = script_file(words) else {
         return Status::Usage;
@@ -340,7 +335,7 @@ where
         Ok(bound) => bound,
         Err(status) => return status,
     };
-    match run_script(rt, alloc, &Cores, &bound, gate) {
+    match run_script(rt, alloc, &bound, gate) {
         Ok(ran) => write_text(sink, &ran),
         Err(NoMemory) => Status::NoMemory,
     }

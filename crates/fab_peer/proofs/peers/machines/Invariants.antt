@@ -5,4 +5,4 @@ use Rattle.fab_finish.specs.Joined.{start}
 use Rattle.fab_peer.proofs.peers.machines.Given as goal
 
 abbrev pub invariant-loop-peer : goal.invariant-loop-peer
-invariant-loop-peer l = (length l.all.items ≡ l._peer) × All (λ machine. held_of machine ≡ start l.conf) l.all.items
+invariant-loop-peer l = (length l.all.items ≡ l._peer) × All (λ machine. held_of machine.core ≡ start l.conf) l.all.items

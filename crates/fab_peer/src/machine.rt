@@ -1,0 +1,206 @@
+//! The machine under the endpoint of a script's peer.
+//!
+//! It is a core with matching in hashed bins, under a name without parameters. Whoever runs peers over any machine is
+//! handed this one: for a core itself, each of its clauses would be spelled out over the parameters of the caller, which
+//! is more than one check can compare.
+ghost use Rattle.fab_core.specs.Parts.{held_of};
+
+use fab_av::InsertReport;
+use fab_base::{Access, Buf, Class, Entry, ErrEntry, Fault, FrameHead, NoMemory, Refused, Text};
+use fab_bins::BinMatcher;
+use fab_core::Core;
+use fab_face::keeping::{Addressing, Counting};
+use fab_face::looking::{Look, Looking};
+use fab_face::machine::{Ask, Machine, Message, Next};
+use fab_face::requesting::{Request, Requesting};
+use fab_face::targets::Targets;
+
+/// The machine under the endpoint of a script's peer.
+#[derive(Drop)]
+pub struct ScriptMachine {
+    pub(crate) core: Core<BinMatcher>,
+}
+
+impl Machine for ScriptMachine {
+    ghost held = { λ m. held_of m.core };
+
+    fn known(&self) {
+        self.core.known()
+    }
+
+    fn next(&self, dest: u32) -> Option<Next<'_>> {
+        self.core.next(dest)
+    }
+
+    fn place(&self, dest: u32) -> u32 {
+        self.core.place(dest)
+    }
+
+    fn sent_fits(&self, dest: u32) -> bool {
+        self.core.sent_fits(dest)
+    }
+
+    fn go_on(&mut self, dest: u32, place: u32) {
+        self.core.go_on(dest, place)
+    }
+
+    fn finish(&mut self, dest: u32) {
+        self.core.finish(dest)
+    }
+
+    fn take(&mut self, source: u32, head: &FrameHead, bytes: &[u8]) -> Result<bool, NoMemory> {
+        self.core.take(source, head, bytes)
+    }
+
+    fn is_draw_due(&self) -> bool {
+        self.core.is_draw_due()
+    }
+
+    fn draw(&mut self) -> bool {
+        self.core.draw()
+    }
+
+    fn send_fault(&self, message: &Message, bytes: &[u8]) -> Option<Fault> {
+        self.core.send_fault(message, bytes)
+    }
+
+    fn is_full(&self) -> bool {
+        self.core.is_full()
+    }
+
+    fn most_tx(&self) -> u32 {
+        self.core.most_tx()
+    }
+
+    fn peer_at(&self, index: u32) -> Option<u32> {
+        self.core.peer_at(index)
+    }
+
+    fn send(&mut self, message: &Message, buf: Buf) {
+        self.core.send(message, buf)
+    }
+
+    fn inject(&mut self, message: &Message, bytes: &[u8]) {
+        self.core.inject(message, bytes)
+    }
+
+    fn post_fault(&self, ask: &Ask, buf: &Buf) -> Option<Fault> {
+        self.core.post_fault(ask, buf)
+    }
+
+    fn post(&mut self, ask: &Ask, buf: Buf) -> Result<(), Refused> {
+        self.core.post(ask, buf)
+    }
+
+    fn may_cancel(&self, ctx: Option<u64>) -> bool {
+        self.core.may_cancel(ctx)
+    }
+
+    fn cancel(&mut self, ctx: Option<u64>) -> Result<(), Fault> {
+        self.core.cancel(ctx)
+    }
+
+    fn pop(&mut self) -> Result<Entry, Fault> {
+        self.core.pop()
+    }
+
+    fn pop_error(&mut self) -> Result<ErrEntry, Fault> {
+        self.core.pop_error()
+    }
+
+    fn awaiting(&self) -> u32 {
+        self.core.awaiting()
+    }
+}
+
+impl Looking for ScriptMachine {
+    fn look_fault(&self, look: &Look) -> Option<Fault> {
+        self.core.look_fault(look)
+    }
+
+    fn look(&mut self, look: &Look) -> Result<(), Fault> {
+        self.core.look(look)
+    }
+
+    fn take_fault(&self, buf: &Buf, ctx: u64) -> Option<Fault> {
+        self.core.take_fault(buf, ctx)
+    }
+
+    fn take_claimed(&mut self, buf: Buf, ctx: u64) -> Result<(), Refused> {
+        self.core.take_claimed(buf, ctx)
+    }
+
+    fn drop_fault(&self, ctx: u64) -> Option<Fault> {
+        self.core.drop_fault(ctx)
+    }
+
+    fn drop_claimed(&mut self, ctx: u64) -> Result<(), Fault> {
+        self.core.drop_claimed(ctx)
+    }
+}
+
+impl Requesting for ScriptMachine {
+    fn request_fault(&self, request: &Request, bytes: &[u8], compared: &[u8]) -> Option<Fault> {
+        self.core.request_fault(request, bytes, compared)
+    }
+
+    fn request_owned(&mut self, request: &Request, buf: Buf) {
+        self.core.request_owned(request, buf)
+    }
+
+    fn request_copied(
+        &mut self,
+        request: &Request,
+        bytes: &[u8],
+        compared: &[u8],
+        buf: Option<Buf>,
+    ) {
+        self.core.request_copied(request, bytes, compared, buf)
+    }
+}
+
+impl Targets for ScriptMachine {
+    fn reg(&mut self, key: u64, access: Access, buf: Buf) -> Result<(), Refused> {
+        self.core.reg(key, access, buf)
+    }
+
+    fn close_region(&mut self, key: u64) -> Result<Buf, Fault> {
+        self.core.close_region(key)
+    }
+
+    fn region_bytes(&self, key: u64) -> Option<&[u8]> {
+        self.core.region_bytes(key)
+    }
+
+    fn put(&mut self, key: u64, at: u64, src: &[u8]) -> Result<(), Fault> {
+        self.core.put(key, at, src)
+    }
+}
+
+impl Counting for ScriptMachine {
+    fn successes(&self, class: Class) -> u64 {
+        self.core.successes(class)
+    }
+
+    fn errors(&self, class: Class) -> u64 {
+        self.core.errors(class)
+    }
+
+    fn count_up(&mut self, class: Class, n: u64) {
+        self.core.count_up(class, n)
+    }
+}
+
+impl Addressing for ScriptMachine {
+    fn insert(&mut self, names: &[Text]) -> Result<InsertReport, NoMemory> {
+        self.core.insert(names)
+    }
+
+    fn remove(&mut self, index: u32) -> Result<(), Fault> {
+        self.core.remove(index)
+    }
+
+    fn index_of(&self, peer: u32) -> Option<u32> {
+        self.core.index_of(peer)
+    }
+}
