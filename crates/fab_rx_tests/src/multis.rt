@@ -1,8 +1,8 @@
 //! Multi-receives: messages side by side in one buffer, which comes back with the last one.
-use crate::messages::{ANY, ByHand, THREE, is_kept};
-use fab_base::{Buf, Entry, ErrKind, ItemHead, Taken};
+use crate::messages::{ANY, ByHand, THREE};
+use fab_base::{Buf, Entry, ErrKind, Taken};
 use fab_match::ListMatcher;
-use fab_rx::{Cancelled, Completed, Drawn, Finished, Inbox};
+use fab_rx::{Cancelled, Completed, Finished, Inbox};
 use std::test::Fail;
 
 fn is_part(done: &Completed, at: u32, len: u32) -> bool {
@@ -67,28 +67,6 @@ fn is_placed(finished: &Finished, at: u32, len: u32) -> bool {
 }
 
 /// Whether the draw brought a message that is whole, and not the last one.
-fn is_drawn(drawn: &Drawn, at: u32, len: u32) -> bool {
-    match drawn {
-        Drawn::Part(done) => is_part(done, at, len),
-        _ => false,
-    }
-}
-
-/// Whether the draw brought the last message, after which the buffer of this id has these bytes, of which
-/// so many were given away.
-fn is_drawn_last(drawn: &Drawn, at: u32, len: u32, id: u32, used: u32, bytes: &[u8]) -> bool {
-    match drawn {
-        Drawn::Last(done, over) => {
-            is_part(done, at, len)
-                && over.id == id
-                && over.ctx == 3
-                && over.used == used
-                && over.buf.as_slice() == bytes
-        }
-        _ => false,
-    }
-}
-
 /// Whether these bytes are lent under the id.
 fn is_lent(inbox: &Inbox<ListMatcher>, id: u32, bytes: &[u8]) -> bool {
     match inbox.buffer_of(id) {
@@ -157,71 +135,5 @@ fn one_that_is_cancelled_has_what_came(rt: HostRuntime) -> Result<(), Fail> {
     inbox.fill(1, &[1, 2, 3]);
     assert!(rt; is_placed(&inbox.finish(1), 0, 3));
     assert!(rt; is_left(&inbox.cancel(3), &[1, 2, 3, 9]));
-    Ok(())
-}
-
-/// A message of two bytes.
-const TWO: ItemHead = ItemHead { total: 2, ..THREE };
-
-#[test]
-fn a_draw_takes_a_message_that_is_whole(rt: HostRuntime) -> Result<(), Fail> {
-    let buf = Buf::copy(rt.alloc(), &[9, 9, 9, 9, 9, 9, 9, 9])?;
-    let mut inbox = Inbox::<ListMatcher>::new(rt.alloc(), 2, 2)?;
-    inbox.arrive(1, &THREE)?;
-    inbox.fill(1, &[1, 2, 3]);
-    assert!(rt; is_kept(&inbox.finish(1)));
-    assert!(rt; !inbox.is_draw_due());
-    assert_eq!(rt; inbox.draw_entries(), 0);
-    let id = inbox.post_multi::<u64, ByHand>(&0, ANY, buf, 3, 3);
-    assert!(rt; is_lent(&inbox, id, &[9, 9, 9, 9, 9, 9, 9, 9]));
-    assert!(rt; inbox.is_draw_due());
-    assert_eq!(rt; inbox.draw_entries(), 1);
-    assert!(rt; is_drawn(&inbox.draw(), 0, 3));
-    assert!(rt; !inbox.is_draw_due());
-    assert!(rt; is_lent(&inbox, id, &[1, 2, 3, 9, 9, 9, 9, 9]));
-    assert!(rt; is_left(&inbox.cancel(3), &[1, 2, 3, 9, 9, 9, 9, 9]));
-    assert!(rt; inbox.buffer_of(id).is_none());
-    Ok(())
-}
-
-#[test]
-fn a_message_that_is_not_whole_goes_on_into_what_drew_it(rt: HostRuntime) -> Result<(), Fail> {
-    let buf = Buf::copy(rt.alloc(), &[9, 9, 9, 9])?;
-    let mut inbox = Inbox::<ListMatcher>::new(rt.alloc(), 2, 2)?;
-    inbox.arrive(1, &THREE)?;
-    inbox.fill(1, &[1]);
-    let id = inbox.post_multi::<u64, ByHand>(&0, ANY, buf, 1, 3);
-    assert!(rt; inbox.is_draw_due());
-    assert_eq!(rt; inbox.draw_entries(), 0);
-    assert!(rt; matches!(inbox.draw(), Drawn::GoesOn));
-    assert!(rt; !inbox.is_draw_due());
-    assert!(rt; !inbox.may_cancel(Some(3)));
-    inbox.fill(1, &[2, 3]);
-    assert!(rt; is_lent(&inbox, id, &[9, 9, 9, 9]));
-    assert!(rt; is_placed(&inbox.finish(1), 0, 3));
-    assert!(rt; is_lent(&inbox, id, &[1, 2, 3, 9]));
-    Ok(())
-}
-
-#[test]
-fn a_draw_brings_the_buffer_back_with_its_last_message(rt: HostRuntime) -> Result<(), Fail> {
-    let buf = Buf::copy(rt.alloc(), &[9, 9, 9, 9, 9, 9, 9, 9, 9, 9])?;
-    let mut inbox = Inbox::<ListMatcher>::new(rt.alloc(), 2, 2)?;
-    inbox.arrive(1, &THREE)?;
-    inbox.fill(1, &[1, 2, 3]);
-    assert!(rt; is_kept(&inbox.finish(1)));
-    inbox.arrive(1, &TWO)?;
-    inbox.fill(1, &[4, 5]);
-    assert!(rt; is_kept(&inbox.finish(1)));
-    let id = inbox.post_multi::<u64, ByHand>(&0, ANY, buf, 6, 3);
-    assert!(rt; inbox.is_draw_due());
-    assert_eq!(rt; inbox.draw_entries(), 1);
-    assert!(rt; is_drawn(&inbox.draw(), 0, 3));
-    assert!(rt; inbox.is_draw_due());
-    assert_eq!(rt; inbox.draw_entries(), 2);
-    let bytes = [1, 2, 3, 4, 5, 9, 9, 9, 9, 9];
-    assert!(rt; is_drawn_last(&inbox.draw(), 3, 2, id, 5, &bytes));
-    assert!(rt; !inbox.is_draw_due());
-    assert!(rt; inbox.buffer_of(id).is_none());
     Ok(())
 }
