@@ -1,5 +1,5 @@
--- A receive call: while no draw is due, it is the machine's call and nothing else.
-use Rattle.std.proofs.Common.{◌⊎◌, inl, inr, ◌≡◌, ◌≢◌, ◌+◌, ℕ, Bool, true, false, [], ◌∷◌, length, Option, Some, None, refl, sym, ap, subst, arith}
+-- A receive call: draws, the machine's call, and the draws that are due then.
+use Rattle.std.proofs.Common.{◌⊎◌, inl, inr, ◌≡◌, ◌≢◌, ℕ, Bool, true, false, [], ◌∷◌, Option, Some, None, refl, sym, ap, ◌∙◌, subst, arith}
 use Rattle.std.specs.Prelude.{◌==◌}
 use Rattle.fab_base.specs.declared.faults.Fault.{Fault}
 use Rattle.fab_base.specs.declared.faults.Fault.TheVariants.{Again, NotSupported, MsgSize, Invalid, NoData, NoKey, Range, NoEntry, Avail, NoMemory as LacksMemory}
@@ -7,17 +7,20 @@ use Rattle.fab_base.specs.declared.faults.Busy.TheVariants.{TxFull, PostedFull, 
 use Rattle.fab_base.specs.declared.operations.Receive.{Receive}
 use Rattle.fab_base.specs.declared.peers.LineResult.TheVariants.{Refused}
 use Rattle.fab_model.specs.State.{State}
-use Rattle.fab_model.specs.Receiving.{Posting, draw_due, post, post_fault, cancel, cancel_fault}
+use Rattle.fab_model.specs.Receiving.{Posting, post, post_fault, cancel, cancel_fault}
 use Rattle.fab_model.specs.Sending.{first_fault}
 use Rattle.fab_model.specs.Calls.{Call, Post, answer, do_call}
 use Rattle.fab_face.specs.Held.{Held, Seen}
 use Rattle.fab_face.specs.Acts.{Did, DoesCall, Went}
-use Rattle.fab_face.specs.Answers.{HasPlaces, IsShort, Judged, Drawn, Receives, ReceivesNot, is_final}
+use Rattle.fab_face.specs.Answers.{HasPlaces, IsShort, Judged, Receives, ReceivesNot, is_final, is_early}
 use Rattle.fab_face.specs.Machine.{StayNext, cancelling}
 use Rattle.std.specs.Prelude.{Result, Err, IfErr}
 use Rattle.fab_face.specs.declared.events.Event.TheVariants.{Call as Called}
 use Rattle.fab_ep.specs.Sends.{logging}
-use Rattle.fab_face.proofs.Joining.{went_none, went_did, ported_same}
+use Rattle.fab_ep.specs.Draws.{Crowded, Drawing, Draws}
+use Rattle.fab_ep.proofs.Due.{grounds_draws, went_draws}
+use Rattle.fab_ep.proofs.Lasting.{Lasts, Persists}
+use Rattle.fab_face.proofs.Joining.{went_none, went_then, went_did, ported_same}
 use Rattle.fab_ep.specs.Tries.{IsTied}
 use Rattle.fab_ep.proofs.Accepting.{tied_did}
 
@@ -89,69 +92,123 @@ if_err P r why is p = rw is p
 lacks_not : (why : Fault) → IsAnswered why → why ≢ LacksMemory
 lacks_not why ours is = elim ours [ inl told ↦ absurd (cc (rw is at told)) | inr passing ↦ absurd (cc (rw is at passing)) ]
 
+early_last : (why : Fault) → is_early why ≡ true → is_final (Refused why) ≡ false → ⊥
+early_last (Again busy) early passing = absurd (cc)
+early_last NotSupported early passing = absurd (cc)
+early_last MsgSize early passing = absurd (cc)
+early_last Invalid early passing = absurd (cc)
+early_last NoData early passing = absurd (cc)
+early_last NoKey early passing = absurd (cc)
+early_last Range early passing = absurd (cc)
+early_last NoEntry early passing = absurd (cc)
+early_last Avail early passing = absurd (cc)
+early_last LacksMemory early passing = absurd (cc)
+
+passing_late : (why : Fault) → is_final (Refused why) ≡ false → is_early why ≡ false
+passing_late why passing = by (is_early why) refl
+  where
+    by : (e : Bool) → is_early why ≡ e → is_early why ≡ false
+    by true e = absurd (early_last why e passing)
+    by false e = e
+
 module _ {Home : Type 0} where
-  no_draw : (a : Seen Home) → draw_due a.held.state.rx ≡ false → Drawn a
-  no_draw a still due = absurd (cc (rw still at due))
-
   -- a call is never short where a refusal that may pass is told
-  judged_as : (call : Call) (a : Seen Home) (short : Type 0) (why : Fault) → IsAnswered why → (short → is_final (Refused why) ≡ false → ⊥) → do_call a.held.state call ≡ (Refused why, a.held.state) → Judged call a a short why
-  judged_as call a short NotSupported ours never is = is
-  judged_as call a short MsgSize ours never is = is
-  judged_as call a short Invalid ours never is = is
-  judged_as call a short NoEntry ours never is = is
-  judged_as call a short (Again (CqFull n)) ours never is = (is, λ s. never s refl)
-  judged_as call a short (Again (PostedFull n)) ours never is = (is, λ s. never s refl)
-  judged_as call a short (Again (TxFull n)) ours never is = (is, λ s. never s refl)
-  judged_as call a short (Again (LogFull n)) ours never is = elim ours [ inl told ↦ absurd (cc) | inr passing ↦ absurd (cc) ]
-  judged_as call a short NoData ours never is = is
-  judged_as call a short NoKey ours never is = is
-  judged_as call a short Range ours never is = is
-  judged_as call a short Avail ours never is = is
-  judged_as call a short LacksMemory ours never is = elim ours [ inl told ↦ absurd (cc) | inr passing ↦ absurd (cc) ]
+  judged_as : (call : Call) (a b : Seen Home) (short : Type 0) (why : Fault) → IsAnswered why → (short → is_final (Refused why) ≡ false → ⊥) → do_call b.held.state call ≡ (Refused why, b.held.state) → Judged call a b short why
+  judged_as call a b short NotSupported ours never is = is
+  judged_as call a b short MsgSize ours never is = is
+  judged_as call a b short Invalid ours never is = is
+  judged_as call a b short NoEntry ours never is = is
+  judged_as call a b short (Again (CqFull n)) ours never is = (is, λ s. never s refl)
+  judged_as call a b short (Again (PostedFull n)) ours never is = (is, λ s. never s refl)
+  judged_as call a b short (Again (TxFull n)) ours never is = (is, λ s. never s refl)
+  judged_as call a b short (Again (LogFull n)) ours never is = elim ours [ inl told ↦ absurd (cc) | inr passing ↦ absurd (cc) ]
+  judged_as call a b short NoData ours never is = is
+  judged_as call a b short NoKey ours never is = is
+  judged_as call a b short Range ours never is = is
+  judged_as call a b short Avail ours never is = is
+  judged_as call a b short LacksMemory ours never is = elim ours [ inl told ↦ absurd (cc) | inr passing ↦ absurd (cc) ]
 
-  -- a refusal that changes nothing
-  pub receives_not : (call : Call) (a : Seen Home) (why : Fault) → Ours call → draw_due a.held.state.rx ≡ false → do_call a.held.state call ≡ (Refused why, a.held.state) → (is_final (Refused why) ≡ true ⊎ HasPlaces a) → ReceivesNot call a a why
-  receives_not call a why ours still is room =
+  -- a refusal before which nothing moves
+  pub refused_early : (call : Call) (a : Seen Home) (why : Fault) → Ours call → is_early why ≡ true → do_call a.held.state call ≡ (Refused why, a.held.state) → ReceivesNot call a a why
+  refused_early call a why ours early is =
       let answered : IsAnswered why = ours a.held.state why (ap (λ x. x.0) is) in
-      let never : (IsShort a ⊎ ((draw_due a.held.state.rx ≡ true) × (a.log_size ≡ length a.log + 1))) → (is_final (Refused why) ≡ false) → ⊥ = λ short passing. (elim short [
-        | inl s ↦ elim room [ inl last ↦ absurd (cc) | inr places ↦ omega (arith, s, places) ]
-        | inr due ↦ absurd (cc (rw still at due.0))
-      ]) in
       record {
         acts = [];
         draws = refl;
         went = went_none (Some call) a a refl refl refl (ported_same a.lanes a.lanes refl);
         pushed = refl;
-        judged = judged_as call a _ why answered never is;
+        judged = judged_as call a a (Crowded a a) why answered (λ crowded passing. absurd (early_last why early passing)) is;
         early = λ e. refl;
         short = λ s. refl;
         memory = lacks_not why answered;
-        drawn = λ e. no_draw a still;
+        drawn = λ e. absurd (cc);
       }
 
-  pub receives_short : (call : Call) (a : Seen Home) → draw_due a.held.state.rx ≡ false → IsShort a → is_final (do_call a.held.state call).0 ≡ false → ReceivesNot call a a (Again (LogFull a.log_size))
-  receives_short call a still short granted = record {
-    acts = [];
-    draws = refl;
-    went = went_none (Some call) a a refl refl refl (ported_same a.lanes a.lanes refl);
-    pushed = refl;
-    judged = (refl, inl short, granted);
-    early = λ e. refl;
-    short = λ s. refl;
-    memory = λ lacks. absurd (cc);
-    drawn = λ e. no_draw a still;
-  }
+  -- no draw is made where the log was short
+  none_short : (a b : Seen Home) → (d : Drawing a b) → IsShort a → d.acts ≡ []
+  none_short a b d short = elim d.room [ inl none ↦ none | inr places ↦ absurd (omega (arith, short, places)) ]
 
-  pub receives : (call : Call) (a b : Seen Home) → HasPlaces a → Went (Some call) a b (Did ∷ []) → b.pushed ≡ a.pushed → draw_due b.held.state.rx ≡ false → Receives call a b
-  receives call a b places went pushed still = record { before = []; after = []; draws = refl; then_draws = refl; went = went; pushed = pushed; places = places; drawn = no_draw b still }
+  -- the machine's refusal behind the draws
+  pub refused_after : (call : Call) (a b : Seen Home) (why : Fault) → Ours call → Draws a b → is_early why ≡ false → do_call b.held.state call ≡ (Refused why, b.held.state) → ((is_final (Refused why) ≡ true) ⊎ (Crowded a b → ⊥)) → ReceivesNot call a b why
+  refused_after call a b why ours drawn late is room =
+      let d = drawn.0 in
+      let answered : IsAnswered why = ours b.held.state why (ap (λ x. x.0) is) in
+      record {
+        acts = d.acts;
+        draws = d.draws;
+        went = went_draws (Some call) a b d;
+        pushed = d.pushed;
+        judged = judged_as call a b (Crowded a b) why answered (λ crowded passing. elim room [ inl last ↦ absurd (cc) | inr free ↦ free crowded ]) is;
+        early = λ e. absurd (cc);
+        short = none_short a b d;
+        memory = lacks_not why answered;
+        drawn = λ e. drawn.1;
+      }
+
+  -- draws leave a call granted that is not refused for good
+  pub still_granted : (call : Call) (a b : Seen Home) → Lasts call → Draws a b → is_final (do_call a.held.state call).0 ≡ false → is_final (do_call b.held.state call).0 ≡ false
+  still_granted call a b lasts drawn granted = (let d = drawn.0 in lasts a.held.state b.held.state (grounds_draws d.acts a.held b.held d.draws (let went = d.went in went.goes)) ∙ granted)
+
+  -- the log has no place for the call behind the draws
+  receives_crowded : (call : Call) (a b : Seen Home) → Draws a b → Crowded a b → is_final (do_call b.held.state call).0 ≡ false → ReceivesNot call a b (Again (LogFull a.log_size))
+  receives_crowded call a b drawn crowded granted =
+      let d = drawn.0 in
+      record {
+        acts = d.acts;
+        draws = d.draws;
+        went = went_draws (Some call) a b d;
+        pushed = d.pushed;
+        judged = (refl, crowded, granted);
+        early = λ e. absurd (cc);
+        short = none_short a b d;
+        memory = λ lacks. absurd (cc);
+        drawn = λ e. drawn.1;
+      }
 
   pub tied_received : (a b : Seen Home) (call : Call) → IsTied a → DoesCall (Some call) a.held b.held → StayNext a.held.state b.held.state → b.log ≡ a.log → b.log_size ≡ a.log_size → b.lanes ≡ a.lanes → IsTied b
   tied_received a b call tied does stays log size lanes =
       tied_did a b tied (λ d item lt is. stays d item is) (ap (λ (h : Held). h.places) does.1) (ap (λ (h : Held). h.begun) does.1) (rw (log, size) tied.within) size lanes
 
+  -- the same, where the call was found to be granted there
+  pub crowded_there : (call : Call) (a b : Seen Home) (why : Fault) → Draws a b → is_final (do_call b.held.state call).0 ≡ false → why ≡ Again (LogFull a.log_size) → Crowded a b → ReceivesNot call a b why
+  crowded_there call a b why drawn granted is crowded = rw is (receives_crowded call a b drawn crowded granted)
+
+  pub crowded_out : (call : Call) (a b : Seen Home) (why : Fault) → Lasts call → Draws a b → is_final (do_call a.held.state call).0 ≡ false → why ≡ Again (LogFull a.log_size) → Crowded a b → ReceivesNot call a b why
+  crowded_out call a b why lasts drawn granted is crowded = crowded_there call a b why drawn (still_granted call a b lasts drawn granted) is crowded
+
   -- what may pass later, told by the machine
-  pub refused_by : (call : Call) (a : Seen Home) (h : Held) (why : Fault) → h ≡ a.held → Ours call → draw_due a.held.state.rx ≡ false → do_call a.held.state call ≡ (Refused why, a.held.state) → HasPlaces a → ReceivesNot call a (record a { held = h }) why
-  refused_by call a h why same ours still is places = subst (λ (x : Held). ReceivesNot call a (record a { held = x }) why) (sym same) (receives_not call a why ours still is (inr places))
+  pub refused_by : (call : Call) (a b : Seen Home) (h : Held) (why : Fault) → h ≡ b.held → Ours call → Draws a b → (Crowded a b → ⊥) → is_final (do_call b.held.state call).0 ≡ false → do_call b.held.state call ≡ (Refused why, b.held.state) → ReceivesNot call a (record b { held = h }) why
+  refused_by call a b h why same ours drawn free granted is =
+      let passing : is_final (Refused why) ≡ false = ap is_final (sym (ap (λ x. x.0) is)) ∙ granted in
+      subst (λ (x : Held). ReceivesNot call a (record b { held = x }) why) (sym same) (refused_after call a b why ours drawn (passing_late why passing) is (inr free))
+
+  -- a refusal for good that is not early, told behind the draws
+  pub refused_last : (call : Call) (a b : Seen Home) (why : Fault) → Ours call → Persists call → (is_early why ≡ true → b ≡ a) → (is_early why ≡ false → Draws a b) → do_call a.held.state call ≡ (Refused why, a.held.state) → is_final (Refused why) ≡ true → ReceivesNot call a b why
+  refused_last call a b why ours persists early draws is last = by (is_early why) refl
+    where
+      by : (e : Bool) → is_early why ≡ e → ReceivesNot call a b why
+      by true e = rw (early e) (refused_early call a why ours e is)
+      by false e = (let drawn = draws e in refused_after call a b why ours drawn e (persists a.held.state b.held.state why (grounds_draws drawn.0.acts a.held b.held drawn.0.draws (let went = drawn.0.went in went.goes)) is last) (inl last))
 
   went_received : (call : Call) (a : Seen Home) (h : Held) → DoesCall (Some call) a.held h → Went (Some call) a (logging Called (record a { held = h })) (Did ∷ [])
   went_received call a h does = (let p = ported_same a.lanes a.lanes refl in went_did call a (logging Called (record a { held = h })) does.0 does.1 refl refl (record {
@@ -169,6 +226,19 @@ module _ {Home : Type 0} where
     out_after = p.out_after;
   }))
 
-  pub received : (call : Call) (a b : Seen Home) (h : Held) → HasPlaces a → DoesCall (Some call) a.held h → b ≡ logging Called (record a { held = h }) → draw_due b.held.state.rx ≡ false → Receives call a b
-  received call a b h places does is still =
-      receives call a b places (subst (λ (x : Seen Home). Went (Some call) a x (Did ∷ [])) (sym is) (went_received call a h does)) (ap (λ (x : Seen Home). x.pushed) is) still
+  -- a call that is Ok, between its draws
+  pub received : (call : Call) (a b c : Seen Home) (h : Held) → Draws a b → HasPlaces a → DoesCall (Some call) b.held h → Draws (logging Called (record b { held = h })) c → Receives call a c
+  received call a b c h drawn places does then =
+      let d = drawn.0 in
+      let e = then.0 in
+      let mid = logging Called (record b { held = h }) in
+      record {
+        before = d.acts;
+        after = e.acts;
+        draws = d.draws;
+        then_draws = e.draws;
+        went = went_then (Some call) a b c d.acts (Did ∷ e.acts) (went_draws (Some call) a b d) (went_then (Some call) b mid c (Did ∷ []) e.acts (went_received call b h does) (went_draws (Some call) mid c e));
+        pushed = e.pushed ∙ d.pushed;
+        places = places;
+        drawn = then.1;
+      }

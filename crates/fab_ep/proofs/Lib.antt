@@ -1,3 +1,5 @@
+mod Due
+mod Lasting
 mod Turning
 mod Posting
 mod Taking

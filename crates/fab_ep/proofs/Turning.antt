@@ -1,5 +1,5 @@
 -- Steps of progress, one after another.
-use Rattle.std.proofs.Common.{◌≡◌, ◌<◌, ◌≤◌, ◌+◌, ◌⊎◌, inl, inr, ℕ, Bool, true, false, ◌||◌, List, [], ◌∷◌, ◌++◌, append-nil, Some, None, Result, Ok, Err, refl, sym, ap, ◌∙◌, subst, arith, cond}
+use Rattle.std.proofs.Common.{◌≡◌, ◌≢◌, ◌<◌, ◌≤◌, ◌+◌, ◌⊎◌, inl, inr, ℕ, Bool, true, false, ◌||◌, List, [], ◌∷◌, ◌++◌, append-nil, Some, None, Result, Ok, Err, refl, sym, ap, ◌∙◌, subst, arith, cond}
 use Rattle.std.specs.Prelude.{count_by, ◌↔◌}
 use Rattle.std.proofs.lemmas.Bool.{cases_eq, and_from}
 use Rattle.std.proofs.lemmas.List.Sums.{sum_by-append, sum_by_push}
@@ -13,14 +13,15 @@ use Rattle.fab_face.specs.declared.events.Moved.{Moved as Answer}
 use Rattle.fab_face.specs.declared.events.Stop.{Stop}
 use Rattle.fab_face.specs.declared.events.Stop.TheVariants.{Idle, Budget, CqFull as StoppedCqFull}
 use Rattle.fab_face.specs.Held.{Held, Seen, next_frame}
-use Rattle.fab_face.specs.Acts.{Act, Took, Posted, Went, is_move, is_take, is_post}
-use Rattle.fab_face.specs.Answers.{AllAre, IsShort, SawEmpty, SawFull, LentLacks, NextLacks, FrameLacks, SentLacks, StopsAs, Progressed}
-use Rattle.fab_face.proofs.Joining.{went_none, went_then}
+use Rattle.fab_face.specs.Acts.{Act, Did, Took, Posted, Drew, Had, Went, is_move, is_take, is_post, is_draw}
+use Rattle.fab_face.specs.Answers.{AllAre, HasPlaces, IsShort, SawEmpty, SawFull, DrawLacks, LentLacks, NextLacks, FrameLacks, SentLacks, StopsAs, Progressed}
+use Rattle.fab_face.proofs.Joining.{draws_move, went_none, went_then}
 use Rattle.fab_face.proofs.Joining.{ported_same}
 use Rattle.fab_ep.specs.declared.endpoint.Tried.{Tried}
 use Rattle.fab_ep.specs.declared.endpoint.Tried.TheVariants.{Moved, Nothing, Held as HeldBack, Short}
 use Rattle.fab_ep.specs.declared.endpoint.Turn.{Turn}
-use Rattle.fab_ep.specs.Tries.{Calm, CalmOut, CalmIn, TriesOut, TriesIn, OutAt, InAt, Turning, TurnedOn, Turns, moved_one, is_held, is_short}
+use Rattle.fab_ep.specs.Tries.{Calm, CalmOut, CalmIn, TriesOut, TriesIn, OutAt, InAt, Turning, WentRound, CutShort, Rounds, Quiet, TurnedOn, Turns, moved_one, is_held, is_short}
+use Rattle.fab_ep.specs.Draws.{Draws}
 
 -- ---- lists of acts
 
@@ -35,6 +36,15 @@ count_yes test xs act is = sum_by_push (λ a. cond (test a) 1 0) xs act ∙ ap (
 
 count_no : (test : Act → Bool) (xs : List Act) (act : Act) → test act ≡ false → count_by test (xs ++ act ∷ []) ≡ count_by test xs + 0
 count_no test xs act is = sum_by_push (λ a. cond (test a) 1 0) xs act ∙ ap (λ b. count_by test xs + cond b 1 0) is
+
+-- draws are no frames
+draws_none : (acts : List Act) → AllAre is_draw acts → (count_by is_take acts ≡ 0) × (count_by is_post acts ≡ 0)
+draws_none [] are = (refl, refl)
+draws_none (Did ∷ acts) are = absurd (cc)
+draws_none (Took source f ∷ acts) are = absurd (cc)
+draws_none (Posted dest f ∷ acts) are = absurd (cc)
+draws_none (Drew ∷ acts) are = draws_none acts are
+draws_none (Had ∷ acts) are = absurd (cc)
 
 -- ---- counts
 
@@ -51,6 +61,10 @@ or_left a b is = rw is refl
 or_right : (a b : Bool) → b ≡ true → (a || b) ≡ true
 or_right true b is = refl
 or_right false b is = is
+
+not_true : (b : Bool) → b ≢ true → b ≡ false
+not_true true other = absurd (other refl)
+not_true false other = refl
 
 or_either : (a b : Bool) → (a || b) ≡ true → (a ≡ true) ⊎ (b ≡ true)
 or_either true b is = inl refl
@@ -107,6 +121,7 @@ module _ {Home : Type 0} where
         ]
         | inr now ↦ inr (k, lacks now)
       ];
+      same = λ none. calm.calm.held ∙ was.same none;
     }
 
     calm_in : Turning a e taken posted held (k + 1) k → CalmIn e e1 k → InAt (held || more) a e1 k → (more ≡ true → LentLacks e1 k) → Turning a e1 taken posted (held || more) (k + 1) (k + 1)
@@ -128,6 +143,7 @@ module _ {Home : Type 0} where
         ]
         | inr now ↦ inl (k, omega arith, lacks now)
       ];
+      same = λ none. calm.calm.held ∙ was.same none;
     }
 
   -- a frame moved
@@ -143,6 +159,7 @@ module _ {Home : Type 0} where
     outs = λ none. absurd (omega (arith, none, some));
     ins = λ none. absurd (omega (arith, none, some));
     some = λ none. absurd (omega (arith, none, some));
+    same = λ none. absurd (omega (arith, none, some));
   }
     where
       is_one : (act : Act) → is_move act ≡ true → AllAre is_move (act ∷ [])
@@ -181,13 +198,14 @@ module _ {Home : Type 0} where
     outs = λ none d below. absurd (omega (arith, below));
     ins = λ none s below. absurd (omega (arith, below));
     some = λ none is. absurd (cc);
+    same = λ none. refl;
   }
 
   -- at its end
-  pub turned_to : (left : ℕ) (a e : Seen Home) (taken posted : ℕ) (held short : Bool) (ko ki : ℕ) → Turning a e taken posted held ko ki → taken + posted ≤ left → draw_due e.held.state.rx ≡ false
+  pub turned_to : (left : ℕ) (a e : Seen Home) (taken posted : ℕ) (held short : Bool) (ko ki : ℕ) → Turning a e taken posted held ko ki → taken + posted ≤ left
       → (short ≡ true → IsShort e) → (short ≡ false → taken + posted ≡ 0 → (ko ≡ e.lanes.peers) × (ki ≡ e.lanes.peers))
-      → TurnedOn left a e (record { taken = taken; posted = posted; held = held; short = short })
-  turned_to left a e taken posted held short ko ki was most still is_short all = record {
+      → WentRound left a e (record { taken = taken; posted = posted; held = held; short = short })
+  turned_to left a e taken posted held short ko ki was most is_short all = record {
     acts = was.acts;
     moves = was.moves;
     went = was.went;
@@ -195,7 +213,6 @@ module _ {Home : Type 0} where
     posts = was.posts;
     most = most;
     short = is_short;
-    still = still;
     quiet = λ un none. (let ends = all un none in
         let t : taken ≡ 0 = omega (arith, none) in
         let p : posted ≡ 0 = omega (arith, none) in
@@ -218,8 +235,8 @@ module _ {Home : Type 0} where
   short_out a e e1 taken posted k ko ki held HeldBack was tries is = absurd (cc)
 
   pub turned_short : (left : ℕ) (a e e1 : Seen Home) (taken posted t p ko ki : ℕ) (held held' : Bool) (m : ℕ) → Turning a e taken posted held ko ki → Calm e e1 → IsShort e → t ≡ taken → p ≡ posted
-      → taken + posted ≤ left → draw_due e1.held.state.rx ≡ false → TurnedOn left a e1 (record { taken = t; posted = p; held = held'; short = true })
-  turned_short left a e e1 taken posted t p ko ki held held' m was calm short t_is p_is most still = record {
+      → taken + posted ≤ left → WentRound left a e1 (record { taken = t; posted = p; held = held'; short = true })
+  turned_short left a e e1 taken posted t p ko ki held held' m was calm short t_is p_is most = record {
     acts = was.acts;
     moves = was.moves;
     went = went_calm a e e1 was.acts was.went calm;
@@ -227,34 +244,93 @@ module _ {Home : Type 0} where
     posts = was.posts ∙ sym p_is;
     most = omega (arith, most, t_is, p_is);
     short = λ is. rw (calm.log, calm.size) short;
-    still = still;
     quiet = λ un none. absurd (cc);
   }
 
   pub out_short : (left : ℕ) (a e e1 : Seen Home) (taken posted k ko ki : ℕ) (held held' : Bool) (t : Tried) → Turning a e taken posted held ko ki → TriesOut e e1 k (Ok t) → is_short t ≡ true
-      → taken + posted ≤ left → draw_due e1.held.state.rx ≡ false → TurnedOn left a e1 (record { taken = taken; posted = posted + moved_one t; held = held'; short = true })
-  out_short left a e e1 taken posted k ko ki held held' Short was tries is most still = turned_short left a e e1 taken posted taken (posted + 0) ko ki held held' 0 was tries.0 tries.1 refl (omega arith) most still
-  out_short left a e e1 taken posted k ko ki held held' Moved was tries is most still = absurd (cc)
-  out_short left a e e1 taken posted k ko ki held held' Nothing was tries is most still = absurd (cc)
-  out_short left a e e1 taken posted k ko ki held held' HeldBack was tries is most still = absurd (cc)
+      → taken + posted ≤ left → WentRound left a e1 (record { taken = taken; posted = posted + moved_one t; held = held'; short = true })
+  out_short left a e e1 taken posted k ko ki held held' Short was tries is most = turned_short left a e e1 taken posted taken (posted + 0) ko ki held held' 0 was tries.0 tries.1 refl (omega arith) most
+  out_short left a e e1 taken posted k ko ki held held' Moved was tries is most = absurd (cc)
+  out_short left a e e1 taken posted k ko ki held held' Nothing was tries is most = absurd (cc)
+  out_short left a e e1 taken posted k ko ki held held' HeldBack was tries is most = absurd (cc)
 
   pub in_short : (left : ℕ) (a e e1 : Seen Home) (taken posted k ko ki : ℕ) (held held' : Bool) (t : Tried) → Turning a e taken posted held ko ki → TriesIn e e1 k (Ok t) → is_short t ≡ true
-      → taken + posted ≤ left → draw_due e1.held.state.rx ≡ false → TurnedOn left a e1 (record { taken = taken + moved_one t; posted = posted; held = held'; short = true })
-  in_short left a e e1 taken posted k ko ki held held' Short was tries is most still = turned_short left a e e1 taken posted (taken + 0) posted ko ki held held' 0 was tries.0 tries.1 (omega arith) refl most still
-  in_short left a e e1 taken posted k ko ki held held' Moved was tries is most still = absurd (cc)
-  in_short left a e e1 taken posted k ko ki held held' Nothing was tries is most still = absurd (cc)
-  in_short left a e e1 taken posted k ko ki held held' HeldBack was tries is most still = absurd (cc)
+      → taken + posted ≤ left → WentRound left a e1 (record { taken = taken + moved_one t; posted = posted; held = held'; short = true })
+  in_short left a e e1 taken posted k ko ki held held' Short was tries is most = turned_short left a e e1 taken posted (taken + 0) posted ko ki held held' 0 was tries.0 tries.1 (omega arith) refl most
+  in_short left a e e1 taken posted k ko ki held held' Moved was tries is most = absurd (cc)
+  in_short left a e e1 taken posted k ko ki held held' Nothing was tries is most = absurd (cc)
+  in_short left a e e1 taken posted k ko ki held held' HeldBack was tries is most = absurd (cc)
 
   -- an exit by want of memory
   pub turning_err : (left : ℕ) (a e e1 : Seen Home) (taken posted ko ki : ℕ) (held : Bool) → Turning a e taken posted held ko ki → Calm e e1 → taken + posted ≤ left
-      → (acts : List Act) × AllAre is_move acts × Went None a e1 acts × (count_by is_take acts + count_by is_post acts ≤ left)
+      → CutShort left a e1
   turning_err left a e e1 taken posted ko ki held was calm most = (was.acts, was.moves, went_calm a e e1 was.acts was.went calm, (let t = was.takes in let p = was.posts in omega (arith, t, p, most)))
 
   pub peers_same : (a e : Seen Home) {taken posted : ℕ} {held : Bool} {ko ki : ℕ} → Turning a e taken posted held ko ki → e.lanes.peers ≡ a.lanes.peers
   peers_same a e was = was.went.ported.peers
 
-  pub err_of : (left : ℕ) (a e : Seen Home) (r : Result Turn NoMemory) (why : NoMemory) → r ≡ Err why → (acts : List Act) × AllAre is_move acts × Went None a e acts × (count_by is_take acts + count_by is_post acts ≤ left) → Turns left a e r
+  pub err_of : (left : ℕ) (a e : Seen Home) (r : Result Turn NoMemory) (why : NoMemory) → r ≡ Err why → CutShort left a e → Rounds left a e r
   err_of left a e r why is some = rw is some
+
+  -- ---- a turn: draws, and a round of frames
+
+  -- the log is short behind the draws
+  pub turn_short : (left : ℕ) (a b : Seen Home) → Draws a b → IsShort b → TurnedOn left a b (record { taken = 0; posted = 0; held = false; short = true })
+  turn_short left a b drawn short =
+      let d = drawn.0 in
+      let none = draws_none d.acts d.draws in
+      record {
+        acts = d.acts;
+        moves = draws_move d.acts d.draws;
+        went = d.went;
+        takes = none.0;
+        posts = none.1;
+        most = omega arith;
+        short = λ is. short;
+        quiet = λ un zero_. absurd (cc);
+      }
+
+  quiet_of : (a b e : Seen Home) (held due : Bool) → Draws a b → HasPlaces b → due ≡ draw_due b.held.state.rx → Turning b e 0 0 held e.lanes.peers e.lanes.peers → Quiet a e (held || due)
+  quiet_of a b e held due drawn places is round =
+      let d = drawn.0 in
+      let same = round.same refl in
+      let lacks : draw_due b.held.state.rx ≡ true → DrawLacks e.held = λ yes. rw same (elim (drawn.1 yes) [ inl none ↦ (yes, none) | inr short ↦ absurd (omega (arith, short, places)) ]) in
+      record {
+        draws = λ yes. (let now : draw_due b.held.state.rx ≡ true = rw same at yes in (or_right held due (is ∙ now), lacks now));
+        outs = λ k below some. elim (round.outs refl k below some) [ inl full ↦ inl (full_on a b e d.acts k d.went full) | inr held_ ↦ inr (or_left held due held_.0, held_.1) ];
+        ins = λ k below. elim (round.ins refl k below) [ inl empty ↦ inl (empty_on a b e d.acts k d.went empty) | inr held_ ↦ inr (or_left held due held_.0, held_.1) ];
+        some = λ yes. elim (or_either held due yes) [
+          | inl before ↦ elim (round.some refl before) [ inl (s, below, lent) ↦ inr (inl (s, lent)) | inr next ↦ inr (inr next) ]
+          | inr now ↦ inl (lacks (sym is ∙ now))
+        ];
+      }
+
+  pub turned_round : (left : ℕ) (a b e : Seen Home) (due : Bool) (t : Turn) → Draws a b → HasPlaces b → due ≡ draw_due b.held.state.rx → WentRound left b e t
+      → TurnedOn left a e (record { taken = t.taken; posted = t.posted; held = t.held || due; short = t.short })
+  turned_round left a b e due t drawn places is round =
+      let d = drawn.0 in
+      let none = draws_none d.acts d.draws in
+      record {
+        acts = d.acts ++ round.acts;
+        moves = all_append is_move d.acts round.acts (draws_move d.acts d.draws) round.moves;
+        went = went_then None a b e d.acts round.acts d.went round.went;
+        takes = (let c = count_append is_take d.acts round.acts in let z = none.0 in let r = round.takes in omega (arith, c, z, r));
+        posts = (let c = count_append is_post d.acts round.acts in let z = none.1 in let r = round.posts in omega (arith, c, z, r));
+        most = round.most;
+        short = round.short;
+        quiet = λ un zero_. quiet_of a b e t.held due drawn places is (round.quiet un zero_);
+      }
+
+  pub turn_err : (left : ℕ) (a b e : Seen Home) (r : Result Turn NoMemory) (why : NoMemory) → r ≡ Err why → Draws a b → CutShort left b e → Turns left a e r
+  turn_err left a b e r why is drawn (acts, moves, went, few) =
+      let d = drawn.0 in
+      let none = draws_none d.acts d.draws in
+      rw is (
+        d.acts ++ acts,
+        all_append is_move d.acts acts (draws_move d.acts d.draws) moves,
+        went_then None a b e d.acts acts d.went went,
+        (let t = count_append is_take d.acts acts in let p = count_append is_post d.acts acts in let zt = none.0 in let zp = none.1 in omega (arith, t, p, zt, zp, few)),
+      )
 
   -- ---- turns, one after another
 
@@ -305,20 +381,17 @@ module _ {Home : Type 0} where
   stops_at a b e taken posted left t stop was turn un none (inl (held, is)) =
       let last = turn.quiet un none in
       rw is (record {
-        some = elim (last.some refl held) [
-          | inl (s, below, lent) ↦ inr (inl (s, lent))
-          | inr next ↦ inr (inr next)
-        ];
-        draws = λ due. (let still = turn.still in absurd (cc));
-        empty = λ s below. elim (last.ins refl s below) [ inl saw ↦ inl (empty_on a b e was.acts s was.went saw) | inr lacks ↦ inr lacks.1 ];
-        full = λ d below some. elim (last.outs refl d below some) [ inl saw ↦ inl (full_on a b e was.acts d was.went saw) | inr lacks ↦ inr lacks.1 ];
+        some = last.some held;
+        draws = λ due. (let lacks = last.draws due in lacks.1);
+        empty = λ s below. elim (last.ins s below) [ inl saw ↦ inl (empty_on a b e was.acts s was.went saw) | inr lacks ↦ inr lacks.1 ];
+        full = λ d below some. elim (last.outs d below some) [ inl saw ↦ inl (full_on a b e was.acts d was.went saw) | inr lacks ↦ inr lacks.1 ];
       })
   stops_at a b e taken posted left t stop was turn un none (inr (held, is)) =
       let last = turn.quiet un none in
       rw is (record {
-        draws = turn.still;
-        empty = λ s below. elim (last.ins refl s below) [ inl saw ↦ empty_on a b e was.acts s was.went saw | inr lacks ↦ (let yes = lacks.0 in absurd (cc)) ];
-        full = λ d below some. elim (last.outs refl d below some) [ inl saw ↦ full_on a b e was.acts d was.went saw | inr lacks ↦ (let yes = lacks.0 in absurd (cc)) ];
+        draws = not_true (draw_due e.held.state.rx) (λ due. (let yes = (last.draws due).0 in cc));
+        empty = λ s below. elim (last.ins s below) [ inl saw ↦ empty_on a b e was.acts s was.went saw | inr lacks ↦ (let yes = lacks.0 in absurd (cc)) ];
+        full = λ d below some. elim (last.outs d below some) [ inl saw ↦ full_on a b e was.acts d was.went saw | inr lacks ↦ (let yes = lacks.0 in absurd (cc)) ];
       })
 
 pub one_at_most : (t : Tried) → moved_one t ≤ 1

@@ -1,3 +1,4 @@
 pub mod Tries
 pub mod Sends
 pub mod Reads
+pub mod Draws

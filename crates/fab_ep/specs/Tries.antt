@@ -10,7 +10,7 @@ use Rattle.fab_link.specs.Meaning.{end_of, taken_end}
 use Rattle.fab_model.specs.Receiving.{draw_due}
 use Rattle.fab_face.specs.Held.{Held, Seen, IsPlaced, IsGathered, next_frame, next_item, begun_of}
 use Rattle.fab_face.specs.Acts.{Act, Posted, Took, Ported, Went, is_move, is_take, is_post}
-use Rattle.fab_face.specs.Answers.{AllAre, IsShort, SawEmpty, SawFull, LentLacks, NextLacks, IsHeld}
+use Rattle.fab_face.specs.Answers.{AllAre, IsShort, SawEmpty, SawFull, LentLacks, NextLacks, DrawLacks, IsHeld}
 use Rattle.fab_ep.specs.declared.endpoint.Tried.{Tried}
 use Rattle.fab_ep.specs.declared.endpoint.Tried.TheVariants.{Moved, Nothing, Held as HeldBack, Short}
 use Rattle.fab_ep.specs.declared.endpoint.Turn.{Turn}
@@ -104,6 +104,33 @@ pub record Turning {Home : Type 0} (a e : Seen Home) (taken posted : ℕ) (held 
   pub outs : taken + posted ≡ 0 → (d : ℕ) → d < out → OutAt held a e d
   pub ins : taken + posted ≡ 0 → (s : ℕ) → s < in_ → InAt held a e s
   pub some : taken + posted ≡ 0 → held ≡ true → ((s : ℕ) × (s < in_) × LentLacks e s) ⊎ ((d : ℕ) × NextLacks e d)
+  pub same : taken + posted ≡ 0 → e.held ≡ a.held
+
+-- a round of frames
+pub record WentRound {Home : Type 0} (left : ℕ) (a e : Seen Home) (t : Turn) : Type 0 where
+  pub acts : List Act
+  pub moves : AllAre is_move acts
+  pub went : Went None a e acts
+  pub takes : count_by is_take acts ≡ t.taken
+  pub posts : count_by is_post acts ≡ t.posted
+  pub most : t.taken + t.posted ≤ left
+  pub short : t.short ≡ true → IsShort e
+  pub quiet : t.short ≡ false → t.taken + t.posted ≡ 0 → Turning a e 0 0 t.held e.lanes.peers e.lanes.peers
+
+-- so many frames at most, and then memory was lacking
+abbrev pub CutShort : {Home : Type 0} → ℕ → Seen Home → Seen Home → Type 0
+CutShort left a e = (acts : List Act) × AllAre is_move acts × Went None a e acts × (count_by is_take acts + count_by is_post acts ≤ left)
+
+abbrev pub Rounds : {Home : Type 0} → ℕ → Seen Home → Seen Home → Result Turn NoMemory → Type 0
+Rounds left a e (Ok t) = WentRound left a e t
+Rounds left a e (Err _) = CutShort left a e
+
+-- no frame moved, and all lanes were looked at: what was seen, and what waits for room
+pub record Quiet {Home : Type 0} (a e : Seen Home) (held : Bool) : Type 0 where
+  pub draws : draw_due e.held.state.rx ≡ true → (held ≡ true) × DrawLacks e.held
+  pub outs : (d : ℕ) → d < e.lanes.peers → OutAt held a e d
+  pub ins : (s : ℕ) → s < e.lanes.peers → InAt held a e s
+  pub some : held ≡ true → DrawLacks e.held ⊎ (((s : ℕ) × LentLacks e s) ⊎ ((d : ℕ) × NextLacks e d))
 
 -- a turn
 pub record TurnedOn {Home : Type 0} (left : ℕ) (a e : Seen Home) (t : Turn) : Type 0 where
@@ -114,12 +141,11 @@ pub record TurnedOn {Home : Type 0} (left : ℕ) (a e : Seen Home) (t : Turn) : 
   pub posts : count_by is_post acts ≡ t.posted
   pub most : t.taken + t.posted ≤ left
   pub short : t.short ≡ true → IsShort e
-  pub still : draw_due e.held.state.rx ≡ false
-  pub quiet : t.short ≡ false → t.taken + t.posted ≡ 0 → Turning a e 0 0 t.held e.lanes.peers e.lanes.peers
+  pub quiet : t.short ≡ false → t.taken + t.posted ≡ 0 → Quiet a e t.held
 
 abbrev pub Turns : {Home : Type 0} → ℕ → Seen Home → Seen Home → Result Turn NoMemory → Type 0
 Turns left a e (Ok t) = TurnedOn left a e t
-Turns left a e (Err _) = (acts : List Act) × AllAre is_move acts × Went None a e acts × (count_by is_take acts + count_by is_post acts ≤ left)
+Turns left a e (Err _) = CutShort left a e
 
 -- ---- a push
 

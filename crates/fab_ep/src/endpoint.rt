@@ -4,12 +4,11 @@ ghost use Rattle.std.specs.VecDeque.{deque_len, deque_capacity};
 ghost use Rattle.fab_base.specs.declared.frames.Frame.{Frame};
 ghost use Rattle.fab_wire.specs.Joined.{is_last};
 ghost use Rattle.fab_link.specs.Meaning.{Others};
-ghost use Rattle.fab_model.specs.Receiving.{draw_due};
 ghost use Rattle.fab_face.specs.Held.{IsOpen, next_frame};
 ghost use Rattle.fab_face.specs.Acts.{only};
 ghost use Rattle.fab_face.specs.Answers.{IsShort, HasPlaces, Progressed};
 ghost use Rattle.fab_face.specs.Ports.{seen, IsFresh};
-ghost use Rattle.fab_ep.specs.Tries.{HeldStays, Pushes, PushesOut, PushesOn, PushesTo, IsTied, PostsOut, TriesOut, TriesIn, Turns, has_moved, moved_one, is_held, is_short, left_for};
+ghost use Rattle.fab_ep.specs.Tries.{HeldStays, Pushes, PushesOut, PushesOn, PushesTo, IsTied, PostsOut, TriesOut, TriesIn, Rounds, Turns, has_moved, moved_one, is_held, is_short, left_for};
 
 use crate::frames::post_next;
 use fab_base::NoMemory;
@@ -149,13 +148,6 @@ impl<P: Port, C: Machine> Endpoint<P, C> {
             log_size,
             pushed: false,
         })
-    }
-
-    /// No draw is due.
-    pub(crate) fn steady(&self)
-        ensures { draw_due self.now.held.state.rx ≡ false }
-    {
-        self.core.known();
     }
 
     /// Posts the next frame for a peer, where the port and the completion queue allow it. The log has a
@@ -332,11 +324,11 @@ impl<P: Port, C: Machine> Endpoint<P, C> {
         Ok(Tried::Moved)
     }
 
-    /// One turn: for each peer in order, posts a frame and takes one, where that may be and while
-    /// fewer than `left` have moved.
-    pub(crate) fn turn(&mut self, left: u32) -> Result<Turn, NoMemory>
+    /// A round of frames: for each peer in order, posts a frame and takes one, where that may be and
+    /// while fewer than `left` have moved.
+    fn round(&mut self, left: u32) -> Result<Turn, NoMemory>
         requires some { 0 < left }
-        ensures turns { Turns left (seen P.Port self.old) (seen P.Port self.new) result }
+        ensures rounds { Rounds left (seen P.Port self.old) (seen P.Port self.new) result }
         ensures pushed { self.new.pushed ≡ self.old.pushed }
     {
         let peers = self.port.peers();
@@ -345,7 +337,6 @@ impl<P: Port, C: Machine> Endpoint<P, C> {
         let mut held = false;
         for peer in 0..peers {
             if left <= taken + posted {
-                self.steady();
                 return Ok(Turn {
                     taken,
                     posted,
@@ -357,7 +348,6 @@ impl<P: Port, C: Machine> Endpoint<P, C> {
             posted += moved_one(&out);
             held = either(held, is_held(&out));
             if was_short(&out) {
-                self.steady();
                 return Ok(Turn {
                     taken,
                     posted,
@@ -366,7 +356,6 @@ impl<P: Port, C: Machine> Endpoint<P, C> {
                 });
             }
             if left <= taken + posted {
-                self.steady();
                 return Ok(Turn {
                     taken,
                     posted,
@@ -378,7 +367,6 @@ impl<P: Port, C: Machine> Endpoint<P, C> {
             taken += moved_one(&came);
             held = either(held, is_held(&came));
             if was_short(&came) {
-                self.steady();
                 return Ok(Turn {
                     taken,
                     posted,
@@ -387,7 +375,6 @@ impl<P: Port, C: Machine> Endpoint<P, C> {
                 });
             }
         }
-        self.steady();
         Ok(Turn {
             taken,
             posted,
@@ -396,8 +383,33 @@ impl<P: Port, C: Machine> Endpoint<P, C> {
         })
     }
 
-    /// Posts and takes frames in turns, until a turn moves nothing, `budget` frames have moved, or the
-    /// log is short.
+    /// One turn: the draws that are due, as far as there is room for them, and then a round of frames.
+    fn turn(&mut self, left: u32) -> Result<Turn, NoMemory>
+        requires some { 0 < left }
+        ensures turns { Turns left (seen P.Port self.old) (seen P.Port self.new) result }
+        ensures pushed { self.new.pushed ≡ self.old.pushed }
+    {
+        self.draw_all();
+        if is_short(&self.log, self.log_size) {
+            return Ok(Turn {
+                taken: 0,
+                posted: 0,
+                held: false,
+                short: true,
+            });
+        }
+        let due = self.core.is_draw_due();
+        let round = self.round(left)?;
+        Ok(Turn {
+            taken: round.taken,
+            posted: round.posted,
+            held: either(round.held, due),
+            short: round.short,
+        })
+    }
+
+    /// Draws, posts and takes frames in turns, until a turn moves no frame, `budget` frames have moved, or
+    /// the log is short.
     pub(crate) fn move_frames(&mut self, budget: u32) -> Result<Moved, NoMemory>
         ensures { Progressed budget (seen P.Port self.old) (seen P.Port self.new) result }
     {

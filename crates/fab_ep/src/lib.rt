@@ -7,10 +7,12 @@
 #![tactic(auto)]
 
 mod calls;
+mod drawing;
 pub mod endpoint;
 mod frames;
 mod keeping;
 mod looking;
+mod multis;
 mod plain;
 mod receiving;
 mod regions;

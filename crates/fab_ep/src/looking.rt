@@ -6,8 +6,8 @@ ghost use Rattle.fab_face.specs.Answers.{Receives, ReceivesNot};
 ghost use Rattle.fab_face.specs.Looking.{looking};
 ghost use Rattle.fab_face.specs.Ports.{seen};
 
-use crate::endpoint::{Endpoint, is_short};
-use fab_base::{Buf, Busy, Fault, PeekHow, Refused};
+use crate::endpoint::Endpoint;
+use fab_base::{Buf, Fault, PeekHow, Refused};
 use fab_face::calls::Looks;
 use fab_face::looking::{Look, Looking};
 use fab_link::Port;
@@ -18,16 +18,12 @@ impl<P: Port, C: Looking> Endpoint<P, C> {
         ensures ok { OnOk result (Receives (looking look.now) (seen P.Port self.old) (seen P.Port self.new)) }
         ensures err { IfErr result (λ why. ReceivesNot (looking look.now) (seen P.Port self.old) (seen P.Port self.new) why) }
     {
-        self.core.known();
         if let Some(why) = self.core.look_fault(look) {
             return Err(why);
         }
-        if is_short(&self.log, self.log_size) {
-            return Err(Fault::Again(Busy::LogFull(self.log_size)));
-        }
+        self.draw_before()?;
         self.core.look(look)?;
-        self.log_call();
-        self.steady();
+        self.log_received();
         Ok(())
     }
 
@@ -36,17 +32,15 @@ impl<P: Port, C: Looking> Endpoint<P, C> {
         ensures ok { OnOk result (Receives (TakeClaimed buf ctx) (seen P.Port self.old) (seen P.Port self.new)) }
         ensures err { IfErr result (λ r. (r.buf ≡ buf) × ReceivesNot (TakeClaimed buf ctx) (seen P.Port self.old) (seen P.Port self.new) r.why) }
     {
-        self.core.known();
         if let Some(why) = self.core.take_fault(&buf, ctx) {
+            self.draw_unless_early(&why);
             return Err(Refused { why, buf });
         }
-        if is_short(&self.log, self.log_size) {
-            let why = Fault::Again(Busy::LogFull(self.log_size));
+        if let Err(why) = self.draw_before() {
             return Err(Refused { why, buf });
         }
         self.core.take_claimed(buf, ctx)?;
-        self.log_call();
-        self.steady();
+        self.log_received();
         Ok(())
     }
 
@@ -55,16 +49,13 @@ impl<P: Port, C: Looking> Endpoint<P, C> {
         ensures ok { OnOk result (Receives (DropClaimed ctx) (seen P.Port self.old) (seen P.Port self.new)) }
         ensures err { IfErr result (λ why. ReceivesNot (DropClaimed ctx) (seen P.Port self.old) (seen P.Port self.new) why) }
     {
-        self.core.known();
         if let Some(why) = self.core.drop_fault(ctx) {
+            self.draw_unless_early(&why);
             return Err(why);
         }
-        if is_short(&self.log, self.log_size) {
-            return Err(Fault::Again(Busy::LogFull(self.log_size)));
-        }
+        self.draw_before()?;
         self.core.drop_claimed(ctx)?;
-        self.log_call();
-        self.steady();
+        self.log_received();
         Ok(())
     }
 }

@@ -4,8 +4,8 @@ ghost use Rattle.fab_face.specs.Answers.{Receives, ReceivesNot};
 ghost use Rattle.fab_face.specs.Machine.{asking, cancelling};
 ghost use Rattle.fab_face.specs.Ports.{seen};
 
-use crate::endpoint::{Endpoint, is_short};
-use fab_base::{Buf, Busy, Fault, Refused};
+use crate::endpoint::Endpoint;
+use fab_base::{Buf, Fault, Refused};
 use fab_face::calls::Receives;
 use fab_face::machine::{Ask, Machine};
 use fab_link::Port;
@@ -16,17 +16,14 @@ impl<P: Port, C: Machine> Endpoint<P, C> {
         ensures ok { OnOk result (Receives (asking ask.now buf) (seen P.Port self.old) (seen P.Port self.new)) }
         ensures err { IfErr result (λ r. (r.buf ≡ buf) × ReceivesNot (asking ask.now buf) (seen P.Port self.old) (seen P.Port self.new) r.why) }
     {
-        self.core.known();
         if let Some(why) = self.core.post_fault(ask, &buf) {
             return Err(Refused { why, buf });
         }
-        if is_short(&self.log, self.log_size) {
-            let why = Fault::Again(Busy::LogFull(self.log_size));
+        if let Err(why) = self.draw_before() {
             return Err(Refused { why, buf });
         }
         self.core.post(ask, buf)?;
-        self.log_call();
-        self.steady();
+        self.log_received();
         Ok(())
     }
 
@@ -35,16 +32,13 @@ impl<P: Port, C: Machine> Endpoint<P, C> {
         ensures ok { OnOk result (Receives (cancelling ctx) (seen P.Port self.old) (seen P.Port self.new)) }
         ensures err { IfErr result (λ why. ReceivesNot (cancelling ctx) (seen P.Port self.old) (seen P.Port self.new) why) }
     {
-        self.core.known();
+        let ready = self.draw_before();
         if !self.core.may_cancel(ctx) {
             return Err(Fault::NoEntry);
         }
-        if is_short(&self.log, self.log_size) {
-            return Err(Fault::Again(Busy::LogFull(self.log_size)));
-        }
+        ready?;
         self.core.cancel(ctx)?;
-        self.log_call();
-        self.steady();
+        self.log_received();
         Ok(())
     }
 }

@@ -1,25 +1,46 @@
-use Rattle.std.proofs.Common.{rules, refl, inl}
+use Rattle.std.proofs.Common.{rules, ◌≡◌, refl, false}
+use Rattle.fab_model.specs.Calls.{do_call}
+use Rattle.fab_face.specs.Answers.{is_final}
+use Rattle.fab_face.specs.Machine.{asking}
 use Rattle.fab_face.specs.Ports.{seen}
-use Rattle.fab_ep.proofs.Answering.{if_err, refused_by, received, receives_not, receives_short, tied_received, posts_ours}
+use Rattle.fab_ep.proofs.Answering.{crowded_out, if_err, posts_ours, received, refused_by, refused_early, still_granted, tied_received}
+use Rattle.fab_ep.proofs.Lasting.{posts_early, posts_last}
 use Rattle.fab_ep.proofs.endpoint.Endpoint.post.Goals as goal
 
 pub returns-in-Some-clause-err : goal.returns-in-Some-clause-err
-returns-in-Some-clause-err g c = (refl, rw (← c.self.view_is) (receives_not _ _ c.in-Some.why (posts_ours _) c.known.ensures.still c.in-Some.ensures.some (inl c.in-Some.ensures.lasting)))
+returns-in-Some-clause-err g c =
+    (refl, rw (← c.self.view_is) (refused_early _ _ c.in-Some.why (posts_ours _) (posts_early _ _ _ c.in-Some.ensures.some c.in-Some.ensures.lasting) c.in-Some.ensures.some))
 
-pub returns-then-is_short-clause-err : goal.returns-then-is_short-clause-err
-returns-then-is_short-clause-err g c = (refl, rw (← c.self.view_is) (receives_short _ _ c.known.ensures.still (c.if-is_short.ensures.short refl) c.in_default.ensures.none))
+pub returns-in-Err-clause-err : goal.returns-in-Err-clause-err
+returns-in-Err-clause-err g c =
+    let call = asking c.args.ask.now c.args.buf in
+    let granted : is_final (do_call c.args.self.now.held.state call).0 ≡ false = rw (← c.self.view_is) c.in_default.ensures.none in
+    (refl, crowded_out call (seen g.P.Port c.args.self.now) _ _ (posts_last _) c.draw_before.ensures.draws granted c.in-Err.ensures.err.0 c.in-Err.ensures.err.1)
+
+pub post-requires : goal.post-requires
+post-requires g c =
+    let call = asking c.args.ask.now c.args.buf in
+    let granted : is_final (do_call c.args.self.now.held.state call).0 ≡ false = rw (← c.self.view_is) c.in_default.ensures.none in
+    let then = still_granted call (seen g.P.Port c.args.self.now) (seen g.P.Port c.draw_before.new.self) (posts_last _) c.draw_before.ensures.draws granted in
+    record { granted = rw (← c.self-2.view_is) at then }
 
 pub returns-in_err-post-clause-err : goal.returns-in_err-post-clause-err
 returns-in_err-post-clause-err g c =
-    if_err _ c.from_residual.result c.in_err-post.field-0.0 (search rules)
-    (c.in_err-post.ensures.err.0, rw (← c.self.view_is) (refused_by _ _ _ _ c.in_err-post.ensures.stays (posts_ours _) c.known.ensures.still c.in_err-post.ensures.err.1 (c.if-is_short.ensures.room refl)))
+    let call = asking c.args.ask.now c.args.buf in
+    let granted : is_final (do_call c.args.self.now.held.state call).0 ≡ false = rw (← c.self.view_is) c.in_default.ensures.none in
+    let then = still_granted call (seen g.P.Port c.args.self.now) (seen g.P.Port c.draw_before.new.self) (posts_last _) c.draw_before.ensures.draws granted in
+    if_err _ c.from_residual.result c.in_err-post.field-0.0 (search rules) (
+      c.in_err-post.ensures.err.0,
+      refused_by call (seen g.P.Port c.args.self.now) _ _ _ c.in_err-post.ensures.stays (posts_ours _) (rw (← c.self-2.view_is) at c.draw_before.ensures.draws) (rw (← c.self-2.view_is) at c.in_default-draw_before.ensures.ok.1) (rw (← c.self-2.view_is) at then) c.in_err-post.ensures.err.1,
+    )
 
 pub invariant_of-self-2 : goal.invariant_of-self-2
-invariant_of-self-2 g c = (
-  c.self.invariant.0,
-  tied_received (seen g.P.Port (record { port = c.self.inside.port; held = g.C.Machine.held c.self.inside.core; log = c.self.inside.log.items; log_size = c.self.inside.log_size; pushed = c.self.inside.pushed })) _ _
-      c.self.invariant.1 c.in_ok-post.ensures.ok c.in_ok-post.ensures.next refl refl refl,
-)
+invariant_of-self-2 g c =
+    let i = c.self-2.inside in (
+      c.self-2.invariant.0,
+      tied_received (seen g.P.Port (record { port = i.port; held = g.C.Machine.held i.core; log = i.log.items; log_size = i.log_size; pushed = i.pushed })) _ _ c.self-2.invariant.1 c.in_ok-post.ensures.ok c.in_ok-post.ensures.next refl refl refl,
+    )
 
 pub returns-clause-ok : goal.returns-clause-ok
-returns-clause-ok g c = rw (← c.self.view_is) (received _ _ _ _ (c.if-is_short.ensures.room refl) c.in_ok-post.ensures.ok c.log_call.ensures c.steady.ensures)
+returns-clause-ok g c =
+    received _ (seen g.P.Port c.args.self.now) _ _ _ (rw (← c.self-2.view_is) at c.draw_before.ensures.draws) c.in_default-draw_before.ensures.ok.0 c.in_ok-post.ensures.ok c.log_received.ensures

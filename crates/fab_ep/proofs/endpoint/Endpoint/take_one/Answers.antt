@@ -1,10 +1,10 @@
-use Rattle.std.proofs.Common.{rules, refl, ap, Ok, ◌∷◌, []}
+use Rattle.std.proofs.Common.{rules, refl, ap, Ok, Some, ◌∷◌, []}
 use Rattle.fab_wire.specs.Frames.{lent_frame}
 use Rattle.fab_face.specs.Acts.{Ported, Took}
 use Rattle.fab_face.specs.Ports.{seen, lanes_in}
 use Rattle.fab_face.specs.declared.events.Event.TheVariants.{Head, Tail}
 use Rattle.fab_face.proofs.Joining.{moved_same, moved_took}
-use Rattle.fab_ep.proofs.Taking.{took_none, saw_lent, took_ported, tied_took, went_took, most_two}
+use Rattle.fab_ep.proofs.Taking.{peeked, tied_looked, took_none, saw_lent, took_ported, tied_took, went_took, most_two}
 use Rattle.fab_ep.proofs.endpoint.Endpoint.take_one.Goals as goal
 
 pub returns-then-not-branch-clause-tries : goal.returns-then-not-branch-clause-tries
@@ -53,3 +53,15 @@ returns-in_err-take-clause-tries g c =
     rw (← c.self.view_is)
     (took_none _ _ c.args.source c.in-Some.frame _ _ (search rules) (c.in_err-take.ensures.err) refl refl (rw c.in-Some.is at after.0)
     (record { others = after.1; outs = after.2; number = after.3; peers = after.4; home = after.5; in_list = ap g.P.Port.in_list after.5 }) (moved_same _ _ after.6))
+
+pub invariant_of-self-then-not-branch : goal.invariant_of-self-then-not-branch
+invariant_of-self-then-not-branch g c =
+    let m = g.P.Port in
+    let i = c.self.inside in
+    let after = c.front.follows.holds-at-none in (
+      c.self.invariant.0,
+      tied_looked (seen m (record { port = i.port; held = g.C.Machine.held i.core; log = i.log.items; log_size = i.log_size; pushed = i.pushed })) _ c.self.invariant.1
+          (c.in_ok-take.ensures.stays (ap Ok c.if-not-branch.true)) refl refl
+          (peeked _ (lanes_in m c.front.follows.lender-at-none) c.args.source (Some c.in-Some.frame) (rw c.in-Some.is at after.0)
+          (record { others = after.1; outs = after.2; number = after.3; peers = after.4; home = after.5; in_list = ap m.in_list after.5 }) (moved_same _ _ after.6)),
+    )

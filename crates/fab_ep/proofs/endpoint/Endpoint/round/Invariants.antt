@@ -1,7 +1,7 @@
 use Rattle.std.proofs.Common.{◌≡◌, ◌≤◌, ◌+◌}
 use Rattle.fab_face.specs.Ports.{seen}
 use Rattle.fab_ep.specs.Tries.{Turning}
-use Rattle.fab_ep.proofs.endpoint.Endpoint.turn.Given as goal
+use Rattle.fab_ep.proofs.endpoint.Endpoint.round.Given as goal
 
 abbrev pub invariant-loop-peer : goal.invariant-loop-peer
 invariant-loop-peer g l = record {

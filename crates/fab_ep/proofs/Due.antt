@@ -1,0 +1,142 @@
+-- Draws: what the machine's draw makes of what is held, and draws one after another.
+use Rattle.std.proofs.Common.{◌⊎◌, inl, inr, ◌≡◌, ◌<◌, ℕ, Bool, true, false, ◌||◌, ◌&&◌, List, [], ◌∷◌, ◌++◌, length, length-append, append-nil, Option, Some, None, refl, sym, ap, ◌∙◌, subst, arith, rules}
+use Rattle.std.specs.Prelude.{find, is_some}
+use Rattle.std.specs.List.{list_any}
+use Rattle.std.proofs.lemmas.Bool.{and_from}
+use Rattle.std.proofs.lemmas.List.Folds.{list_all-append}
+use Rattle.fab_base.specs.declared.operations.Arrival.{Arrival}
+use Rattle.fab_base.specs.declared.operations.Receive.{Receive}
+use Rattle.fab_model.specs.Matching.{takes, remove_first}
+use Rattle.fab_model.specs.State.{State, with_rx}
+use Rattle.fab_model.specs.Complete.{fill, release, release_multi, reply, book}
+use Rattle.fab_model.specs.Receiving.{draws, draw_due, give, without_first}
+use Rattle.fab_model.specs.Arrivals.{do_draw, seating}
+use Rattle.fab_model.specs.Calls.{Call}
+use Rattle.fab_face.specs.declared.events.Event.TheVariants.{Draw as DrawEvent}
+use Rattle.fab_face.specs.Held.{Held, Seen}
+use Rattle.fab_face.specs.Acts.{Act, Did, Took, Posted, Drew, Had, Goes, GoesBy, Went, is_draw, events}
+use Rattle.fab_face.specs.Answers.{AllAre, HasPlaces}
+use Rattle.fab_face.proofs.Joining.{went_none, went_then, ported_same}
+use Rattle.fab_ep.specs.Draws.{Drawing, Draws, DrawsOne}
+
+-- ---- one draw takes a message out of the unexpected ones
+
+any_after : {X : Type 0} (test : X → Bool) (x : X) (xs : List X) → list_any test (x ∷ xs) ≡ true → test x ≡ false → list_any test xs ≡ true
+any_after test x xs is none = (let both : (test x || list_any test xs) ≡ true = is in rw none at both)
+
+remove_shorter : {X : Type 0} (test : X → Bool) (xs : List X) → list_any test xs ≡ true → length (remove_first test xs) < length xs
+remove_shorter test [] is = absurd (cc)
+remove_shorter {X = X} test (x ∷ xs) is = by (test x) (λ none. remove_shorter test xs (any_after test x xs is none))
+  where
+    by : (b : Bool) → (b ≡ false → length (remove_first test xs) < length xs) → length (let ys : List X = elim b [ true ↦ xs | false ↦ x ∷ remove_first test xs ] in ys) < length (x ∷ xs)
+    by true less = omega arith
+    by false less = (let l = less refl in omega (arith, l))
+
+-- what is found where something passes
+found : {X : Type 0} (test : X → Bool) (xs : List X) → list_any test xs ≡ true → (x : X) × (find test xs ≡ Some x) × (test x ≡ true)
+found test [] is = absurd (cc)
+found {X = X} test (x ∷ xs) is = by (test x) refl (λ none. found test xs (any_after test x xs is none))
+  where
+    by : (b : Bool) → test x ≡ b → (test x ≡ false → (y : X) × (find test xs ≡ Some y) × (test y ≡ true)) → (y : X) × (find test (x ∷ xs) ≡ Some y) × (test y ≡ true)
+    by true e more = (x, rw e refl, e)
+    by false e more = rw e (more e)
+
+and_right : (a b : Bool) → (a && b) ≡ true → b ≡ true
+and_right true b is = is
+and_right false b is = absurd (cc)
+
+give_unexpected : (r : Receive) (place : ℕ) (a : Arrival) (s : State) → (release r (give r place a s)).rx.unexpected ≡ s.rx.unexpected
+unfolding release_multi give fill book reply
+give_unexpected r place a s = grind rules
+
+pub draw_shorter : (s : State) → draw_due s.rx ≡ true → length (do_draw s).rx.unexpected < length s.rx.unexpected
+unfolding do_draw
+draw_shorter s due =
+    let (r, is, wants) = found (draws s.rx.unexpected) s.rx.posted due in
+    let any = and_right (is_some r.least) (list_any (takes r.want) s.rx.unexpected) wants in
+    let (a, at, passes) = found (takes r.want) s.rx.unexpected any in
+    rw (is, at, do_draw)
+    (rw (give_unexpected r r.used a (with_rx (without_first r.want (seating a.head.total r s.rx.unexpected s.rx)) s))
+    (remove_shorter (takes r.want) s.rx.unexpected any))
+
+pub drew_shorter : (h k : Held) → Goes None h Drew k → length k.state.rx.unexpected < length h.state.rx.unexpected
+drew_shorter h k goes = subst (λ (x : Held). length x.state.rx.unexpected < length h.state.rx.unexpected) (sym goes.2) (draw_shorter h.state goes.0)
+
+-- ---- draws change nothing that the refusals for good look at
+
+pub record SameGrounds (s t : State) : Type 0 where
+  pub caps : t.caps ≡ s.caps
+  pub av : t.av ≡ s.av
+  pub claimed : t.rx.claimed ≡ s.rx.claimed
+
+same_grounds : (s : State) → SameGrounds s s
+same_grounds s = record { caps = refl; av = refl; claimed = refl }
+
+grounds_option : {X : Type 0} (s : State) (o : Option X) (some : X → State) → ((x : X) → SameGrounds s (some x)) → SameGrounds s (elim o [ None ↦ s | Some x ↦ some x ])
+grounds_option s None some f = same_grounds s
+grounds_option s (Some x) some f = f x
+
+grounds_give : (r : Receive) (place : ℕ) (a : Arrival) (s : State) → SameGrounds s (release r (give r place a s))
+unfolding release_multi give fill book reply
+grounds_give r place a s = record { caps = grind rules; av = grind rules; claimed = grind rules }
+
+grounds_draw : (s : State) → SameGrounds s (do_draw s)
+unfolding do_draw
+grounds_draw s = grounds_option s (find (draws s.rx.unexpected) s.rx.posted) _ (λ r.
+    grounds_option s (find (takes r.want) s.rx.unexpected) _ (λ a.
+    let given = grounds_give r r.used a (with_rx (without_first r.want (seating a.head.total r s.rx.unexpected s.rx)) s) in
+    record { caps = given.caps; av = given.av; claimed = given.claimed }))
+
+pub grounds_draws : (acts : List Act) (h k : Held) → AllAre is_draw acts → GoesBy None h acts k → SameGrounds h.state k.state
+grounds_draws [] h k are goes = subst (λ (x : Held). SameGrounds h.state x.state) goes (record { caps = refl; av = refl; claimed = refl })
+grounds_draws (Did ∷ acts) h k are goes = absurd (cc)
+grounds_draws (Took source f ∷ acts) h k are goes = absurd (cc)
+grounds_draws (Posted d f ∷ acts) h k are goes = absurd (cc)
+grounds_draws (Drew ∷ acts) h k are (mid, one, rest) =
+    let first : SameGrounds h.state mid.state = subst (λ (x : Held). SameGrounds h.state x.state) (sym one.2) (grounds_draw h.state) in
+    let then = grounds_draws acts mid k are rest in
+    record { caps = then.caps ∙ first.caps; av = then.av ∙ first.av; claimed = then.claimed ∙ first.claimed }
+grounds_draws (Had ∷ acts) h k are goes = absurd (cc)
+
+-- a call is part of no draw
+goes_as : (call : Option Call) (acts : List Act) (h k : Held) → AllAre is_draw acts → GoesBy None h acts k → GoesBy call h acts k
+goes_as call [] h k are goes = goes
+goes_as call (Did ∷ acts) h k are goes = absurd (cc)
+goes_as call (Took source f ∷ acts) h k are goes = absurd (cc)
+goes_as call (Posted d f ∷ acts) h k are goes = absurd (cc)
+goes_as call (Drew ∷ acts) h k are (mid, one, rest) = (mid, one, goes_as call acts mid k are rest)
+goes_as call (Had ∷ acts) h k are goes = absurd (cc)
+
+-- ---- endpoints
+
+module _ {Home : Type 0} where
+  went_as : (call : Option Call) (a b : Seen Home) (acts : List Act) → AllAre is_draw acts → Went None a b acts → Went call a b acts
+  went_as call a b acts are went = record { goes = goes_as call acts a.held b.held are went.goes; log = went.log; size = went.size; ported = went.ported }
+
+  pub went_draws : (call : Option Call) (a b : Seen Home) → (d : Drawing a b) → Went call a b d.acts
+  went_draws call a b d = went_as call a b d.acts d.draws d.went
+
+  -- ---- draws, one after another
+
+  pub drawing_none : (a : Seen Home) → Drawing a a
+  drawing_none a = record { acts = []; draws = refl; went = went_none None a a refl refl refl (ported_same a.lanes a.lanes refl); pushed = refl; room = inl refl; place = λ places. omega (arith, places) }
+
+  pub drawing_on : (a e e1 : Seen Home) → Drawing a e → DrawsOne e e1 true → Drawing a e1
+  drawing_on a e e1 was (places, went, pushed) = record {
+    acts = was.acts ++ Drew ∷ [];
+    draws = list_all-append is_draw was.acts (Drew ∷ []) ∙ and_from _ _ was.draws refl;
+    went = went_then None a e e1 was.acts (Drew ∷ []) was.went went;
+    pushed = pushed ∙ was.pushed;
+    room = inr (had was.room);
+    place = λ had_. (let l = ap length went.log ∙ length-append e.log (DrawEvent ∷ []) in let s = went.size in omega (arith, l, s, places));
+  }
+    where
+      had : ((was.acts ≡ []) ⊎ HasPlaces a) → HasPlaces a
+      had (inr room) = room
+      had (inl none) = (
+          let whole = was.went in
+          let log : e.log ≡ a.log = whole.log ∙ ap (λ acts. a.log ++ events acts) none ∙ append-nil a.log in
+          rw (← log, ← whole.size) places)
+
+  pub draws_end : (a e e1 : Seen Home) → Drawing a e → DrawsOne e e1 false → Draws a e1
+  draws_end a e e1 was (same, drawn) = (rw same was, drawn)
