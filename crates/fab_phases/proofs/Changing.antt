@@ -52,7 +52,7 @@ module _ {X W : Type 0} (peer : X → Peer (Whole RingPort)) (held : W → Held)
 
   -- the endpoint was open when its port was parted from it
   open_at : (k : ℕ) (r : X) → slice_get rs k ≡ Some r → IsOpen (seen_ring (peer r).endpoint)
-  open_at k r has = let w = member ws k (omega (arith, slice_get_within rs k r has, count)) in (each k r w.0 has w.1).1.0
+  open_at k r has = let w = member ws k (omega (arith, slice_get_within rs k r has, count)) in (each k r w.0 has w.1).1
 
   items_all : (k : ℕ) (x : Past) → slice_get pasts k ≡ Some x → AreItems x.living.held
   items_all k x has = let m = mapped (λ r. past_at (peer r)) rs k x has in subst (λ (z : Past). AreItems z.living.held) m.2 (open_at k m.0 m.1).items
@@ -62,7 +62,7 @@ module _ {X W : Type 0} (peer : X → Peer (Whole RingPort)) (held : W → Held)
       let m = mapped (λ r. past_at (peer r)) rs k x has in
       let w = member ws k (omega (arith, slice_get_within rs k m.0 m.1, count)) in
       let e = each k m.0 w.0 m.1 w.1 in
-      subst (λ (z : Past). IsCounted z.living) (e.0 ∙ m.2) e.1.1
+      subst (λ (z : Past). IsCounted z.living) (e.0 ∙ m.2) e.2
 
   same_moves : map told_moves pasts ≡ map moves_of ports
   same_moves = map-map told_moves (λ r. past_at (peer r)) rs ∙ sym (map-map moves_of (λ r. (peer r).endpoint.port) rs)
