@@ -14,10 +14,10 @@ pub enum Language {
 }
 
 /// The one table of what is carried out.
-fn is_carried_out(verb: Verb) -> bool
-    ensures { result ≡ is_carried_out verb }
+fn is_carried_out(_verb: Verb) -> bool
+    ensures { result ≡ is_carried_out _verb }
 {
-    !matches!(verb, Verb::MRecv)
+    true
 }
 
 impl Language {

@@ -102,17 +102,6 @@ fn lines_that_are_carried_out(rt: HostRuntime) -> Result<(), Fail> {
     are_built(&rt, rt.alloc(), &LINES)
 }
 
-/// The kind of lines that is not carried out yet.
-const UNBUILT: [Row; 2] = [
-    (b"mrecv 1 * 4096\n", Some(Why::Unbuilt)),
-    (b"mrecv 1 * 4096 min=256\n", Some(Why::Unbuilt)),
-];
-
-#[test]
-fn lines_that_are_not_built(rt: HostRuntime) -> Result<(), Fail> {
-    are_built(&rt, rt.alloc(), &UNBUILT)
-}
-
 /// Sends.
 const SENDS: [Row; 28] = [
     (b"tsend 1 0 0x10000000000000000 text:a", Some(Why::Number)),
@@ -249,7 +238,7 @@ fn other_lines_of_the_whole_language(rt: HostRuntime) -> Result<(), Fail> {
 }
 
 /// The lines of docs/SCRIPT.md that are carried out.
-const MANUAL: [Row; 27] = [
+const MANUAL: [Row; 29] = [
     (b"send 1 0 text:hello", None),
     (b"send 1 0 hex:68656C6c6f", None),
     (b"send 1 0 zero:8", None),
@@ -275,6 +264,8 @@ const MANUAL: [Row; 27] = [
     (b"recv 1 * 16", None),
     (b"recv 1 0 16", None),
     (b"trecv 1 0 7 0 16", None),
+    (b"mrecv 1 * 4096", None),
+    (b"mrecv 1 * 4096 min=256", None),
     (b"peek 1 * 7 0", None),
     (b"claim 1 * 7 0", None),
     (b"discard 1 * 7 0", None),

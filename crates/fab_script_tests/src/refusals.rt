@@ -22,7 +22,7 @@ fn are_whole(rt: &impl Abort, alloc: Global, rows: &[Row]) {
 /// Texts of lines that are carried out.
 const TEXTS: [Row; 27] = [
     (b"fabric 1\njump hex:61\n", Some((2, Why::Verb))),
-    (b"fabric 1\nmrecv 1 * 4\n", Some((2, Why::Unbuilt))),
+    (b"fabric 1\nmrecv 1 * 4\n", Some((2, Why::Order))),
     (
         b"fabric 1\npeers 1\npeer 0\npayload 1 a\n",
         Some((4, Why::Order)),
