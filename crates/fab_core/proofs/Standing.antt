@@ -30,8 +30,9 @@ use Rattle.fab_rx.specs.Opened.{AreOpened, IsPosted, is_multi, opened, sized}
 use Rattle.fab_rx.proofs.Numbering.{below_found, closed_coming, distinct_changed}
 use Rattle.fab_rma.specs.Serving.{outcome_at}
 use Rattle.fab_tx.specs.Transit.{Transit, ended, finds_answered}
+use Rattle.fab_tx.specs.declared.results.Ended.{Ended}
 use Rattle.fab_core.specs.Parts.{Parts}
-use Rattle.fab_core.specs.Doing.{as_operation, booked, cq_after, entry_at_end, heading, let_back, received, sent, tail, with_arriving, written_if}
+use Rattle.fab_core.specs.Doing.{as_operation, booked, cq_after, entry_at_end, heading, let_back, received, sent, tail, well_entry, with_arriving, written_if}
 use Rattle.fab_core.specs.Requests.{data_of}
 use Rattle.fab_core.specs.Lent.{GoesInto, IsComingIn, IsLent, IsLentBy, IsOther, is_ending}
 use Rattle.fab_core.proofs.Lending.{lent_called, lent_moved}
@@ -105,12 +106,12 @@ module _ (rx : Receiving) (known : List (ℕ × ℕ)) (ops : List Operation) (cq
   end_lent : (outcome : Outcome) (bytes : List ℕ) (o : Operation) → IsOther known calls o → IsLent rx known ops (written_if (Some o.call) (entry_at_end outcome bytes (ended o)) cq) calls multis
   end_lent outcome bytes o other = written_lent (Some o.call) (entry_at_end outcome bytes (ended o)) (λ c of. (let same : o.call ≡ c = cc in (subst (λ (k : ℕ). k < calls) same other.0, ap (is_multi known) (sym same) ∙ other.1))) (single outcome)
     where
-      well : (b : Bool) → o.silent ≡ b → (entry : Taken) → entry_at_end Done bytes (ended o) ≡ Some entry → IsOfSingle entry
-      well true is entry e = let no : None ≡ Some entry = rw is at e in absurd (cc)
-      well false is entry e = of_some (Success (success_of (as_operation (ended o)) bytes)) entry (rw is at e) (success_single (as_operation (ended o)) bytes)
+      well : (b : Bool) (x : Ended) (entry : Taken) → well_entry b bytes x ≡ Some entry → IsOfSingle entry
+      well true x entry e = absurd (cc)
+      well false x entry e = of_some (Success (success_of (as_operation x) bytes)) entry e (success_single (as_operation x) bytes)
 
       single : (outcome : Outcome) (entry : Taken) → entry_at_end outcome bytes (ended o) ≡ Some entry → IsOfSingle entry
-      single Done entry e = well o.silent refl entry e
+      single Done entry e = well o.silent (ended o) entry e
       single BadKey entry e = of_some (error o.ctx NoKey (ended o).buf) entry e (record { part = refl; goes_on = refl })
       single BadAccess entry e = of_some (error o.ctx Access (ended o).buf) entry e (record { part = refl; goes_on = refl })
       single BadRange entry e = of_some (error o.ctx Range (ended o).buf) entry e (record { part = refl; goes_on = refl })
