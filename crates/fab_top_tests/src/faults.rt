@@ -92,12 +92,9 @@ fn tells_the_file<R: Abort + Threads + Wait + Sync>(
 
 #[test]
 fn each_load_that_fails_is_told_by_its_file(rt: HostRuntime) -> Result<(), Fail> {
-    let mut load = 1;
-    for (file, _bytes) in FILES {
-        tells_the_file(&rt, rt.alloc(), load, file)?;
-        load += 1;
-    }
-    Ok(())
+    tells_the_file(&rt, rt.alloc(), 1, "it")?;
+    tells_the_file(&rt, rt.alloc(), 2, "a")?;
+    tells_the_file(&rt, rt.alloc(), 3, "b")
 }
 
 /// The run in which the write of this number fails has written what came before it.
@@ -106,10 +103,12 @@ fn leaves_the_first_bytes<R: Abort + Threads + Wait + Sync>(
     alloc: Global,
     before: usize,
 ) -> Result<(), Fail> {
-    let mut sink = sink_of(alloc, before as u64 + 1)?;
+    let mut sink = sink_of(alloc, (before as u64).saturating_add(1))?;
     let end = run_in(rt, alloc, 0, &mut sink)?;
     assert!(rt; end == Status::WriteFault);
-    assert_eq!(rt; sink.bytes.as_slice(), &REPORT.as_bytes()[..before * PIECE]);
+    let written = sink.bytes.as_slice();
+    assert_eq!(rt; written.len(), before.saturating_mul(PIECE));
+    assert!(rt; REPORT.as_bytes().starts_with(written));
     Ok(())
 }
 
