@@ -1,6 +1,5 @@
 pub mod Outside
 pub mod Refused
-pub mod Texts
 pub mod Commands
 pub mod Info
 pub mod Memory

@@ -6,8 +6,7 @@
 //! count of faults, so that a fault in the answer is never made up. [`MemoryDepot`], [`MemorySink`]
 //! and [`MemoryClock`] are the same over memory, and tell everything.
 //!
-//! [`write_all`] hands a whole text to a sink. [`add_first`], [`add_peer`] and [`add_last`] make the
-//! text of a report.
+//! [`write_all`] hands a whole text to a sink.
 #![tactic(auto)]
 
 mod commands;
@@ -15,13 +14,11 @@ mod info;
 mod loading;
 mod memory;
 mod outside;
-mod report;
 mod running;
 mod whole;
 mod writing;
 
 pub use memory::{MemoryClock, MemoryDepot, MemorySink};
 pub use outside::{Clock, Depot, Failed, LoadRefused, Sink};
-pub use report::{add_first, add_last, add_peer};
 pub use running::run;
 pub use writing::write_all;
