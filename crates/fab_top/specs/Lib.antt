@@ -4,4 +4,5 @@ pub mod Commands
 pub mod Info
 pub mod Memory
 pub mod Loading
+pub mod Checking
 pub mod Runs

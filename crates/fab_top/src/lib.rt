@@ -1,5 +1,5 @@
 //! The top of the library: one call that carries out a command: it runs a script from its file to its report, runs a
-//! workload and tells how long it took, or tells what the provider grants.
+//! workload and tells how long it took, checks a report, or tells what the provider grants.
 //!
 //! What lies outside the program is handed in as three traits: a [`Depot`] gives files, a [`Sink`]
 //! takes the text, a [`Clock`] tells the time. Each tells what it did in ghost members, among them a
@@ -9,6 +9,7 @@
 //! [`write_all`] hands a whole text to a sink.
 #![tactic(auto)]
 
+mod checking;
 mod commands;
 mod info;
 mod loading;
