@@ -8,10 +8,10 @@ use Rattle.fab_base.specs.declared.script.Bound.{Bound}
 use Rattle.fab_model.specs.Orders.{Moment}
 use Rattle.fab_model.specs.Peers.{Actor}
 use Rattle.fab_model.specs.Replay.{Lawful, replayed, at_rest}
-use Rattle.fab_model.specs.Report.{report, report_of}
+use Rattle.fab_model.specs.Report.{report}
 use Rattle.fab_replay.specs.declared.verdicts.Verdict.{Verdict}
 use Rattle.fab_replay.specs.declared.verdicts.Verdict.TheVariants as answer
-use Rattle.fab_replay.specs.Meaning.{IsReport, IsLeftOver, IsOther, Means}
+use Rattle.fab_replay.specs.Meaning.{Means}
 use Rattle.fab_replay.specs.Reading.{schedule_told}
 use Rattle.fab_replay.specs.Verdict.{first_left, number_left, common, compared, judged, verdict}
 
