@@ -50,12 +50,7 @@ const NO_VERB: &str = "fabric 1\n\
 
 /// A depot with this script, named `it`, this text, named `trace`, and the file `a` of 5 bytes, in which the loads of
 /// these numbers fail.
-fn depot_of(
-    alloc: Global,
-    script: &str,
-    trace: Buf,
-    failing: &[u64],
-) -> Result<MemoryDepot, Fail> {
+fn depot_of(alloc: Global, script: &str, trace: Buf, failing: &[u64]) -> Result<MemoryDepot, Fail> {
     let mut files = Vec::new(alloc);
     files.push((Text::copy(alloc, "trace")?, trace))?;
     for (name, bytes) in [("it", script), ("a", "abcde")] {
@@ -186,11 +181,10 @@ fn a_trace_past_the_limit_is_too_long(rt: HostRuntime) -> Result<(), Fail> {
 }
 
 #[test]
-fn a_script_that_is_refused_is_told_before_its_trace_is_loaded(rt: HostRuntime) -> Result<(), Fail> {
-    let rows = [
-        (NO_VERB, 4, Why::Verb, 1),
-        (BEHIND, 5, Why::FileRange, 2),
-    ];
+fn a_script_that_is_refused_is_told_before_its_trace_is_loaded(
+    rt: HostRuntime,
+) -> Result<(), Fail> {
+    let rows = [(NO_VERB, 4, Why::Verb, 1), (BEHIND, 5, Why::FileRange, 2)];
     for (script, line, why, loads) in rows {
         let trace = Buf::empty(rt.alloc());
         let mut depot = depot_of(rt.alloc(), script, trace, &[3])?;
