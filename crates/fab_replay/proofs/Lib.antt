@@ -16,3 +16,4 @@ pub mod Starting
 pub mod Steps
 pub mod Telling
 pub mod Tests
+pub mod Written

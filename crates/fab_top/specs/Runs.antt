@@ -23,6 +23,8 @@ use Rattle.fab_model.specs.Negotiation.{grant}
 use Rattle.fab_model.specs.Peers.{Actor}
 use Rattle.fab_model.specs.Replay.{Lawful, replayed, at_rest, all_done, is_empty}
 use Rattle.fab_model.specs.Report.{report, traces}
+use Rattle.fab_replay.specs.declared.verdicts.Verdict.TheVariants as answer
+use Rattle.fab_replay.specs.Verdict.{verdict}
 use Rattle.fab_top.specs.Checking.{IsChecked, LeadsOn}
 use Rattle.fab_top.specs.Commands.{script_file, info_hints, replay_files, IsNoCommand}
 use Rattle.fab_top.specs.Info.{info_text}
@@ -35,13 +37,14 @@ use Rattle.fab_workloads.specs.Commands.{payload_file, workload_of}
 abbrev pub nothing_posted : List Actor → Bool
 nothing_posted all = list_all (λ (a : Actor). is_empty a.state.rx.posted) all
 
--- The text is the report of the schedule that its own trace lines tell, and this schedule is lawful. At its end the peers are at rest; whether all lines are done then, and if so, nothing is posted.
+-- The text is the report of the schedule that its own trace lines tell, and this schedule is lawful. At its end the peers are at rest; whether all lines are done then, and if so, nothing is posted. So `replay` answers `lawful, at rest` of it.
 pub record Reports (bound : Bound) (text : List ℕ) (done : Bool) : Type 0 where
   pub lawful : Lawful bound (traces text)
   pub text_is : text ≡ report bound (traces text)
   pub rest : at_rest (replayed bound (traces text)).states ≡ true
   pub done_is : all_done (replayed bound (traces text)).states ≡ done
   pub cleared : done ≡ true → nothing_posted (replayed bound (traces text)).states ≡ true
+  pub found : verdict bound text ≡ answer.Lawful true
 
 -- some lawful schedule leads the peers to rest, and this says whether all lines are done then
 abbrev pub ComesToRest : Bound → Bool → Type 0
