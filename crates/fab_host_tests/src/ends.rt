@@ -76,6 +76,7 @@ fn each_end_has_its_status_and_its_line(rt: HostRuntime) -> Result<(), Fail> {
         (it, DONE, none, none, 0, ""),
         (it, STUCK, none, none, 1, ""),
         (&["script"], DONE, none, none, 2, usage),
+        (&["replay", "it", "it"], DONE, none, none, 0, ""),
         (
             it,
             NO_VERB,
