@@ -2,13 +2,12 @@
 use Rattle.std.proofs.Common.{◌≡◌, ℕ, ◌+◌, Bool, true, false, List, length, Option, Some, None, refl, sym, ap, ◌∙◌}
 use Rattle.std.specs.Prelude.{nat_lt, position}
 use Rattle.fab_base.specs.declared.faults.Fault.{Fault}
-use Rattle.fab_base.specs.declared.items.Access.{Access}
 use Rattle.fab_base.specs.declared.peers.LineResult.{LineResult}
 use Rattle.fab_base.specs.declared.script.Bound.{Bound}
 use Rattle.fab_base.specs.declared.script.LineOp.{LineOp}
 use Rattle.fab_base.specs.declared.script.LineOp.TheVariants.{Wait, Reach}
 use Rattle.fab_model.specs.State.{State, Region, lookup}
-use Rattle.fab_model.specs.Calls.{Call, Transmit, Post, Look, TakeClaimed, DropClaimed, Cancel, CancelFirst, Insert, Remove, Reg, Close, Put, Show, Count, answer, do_call, call_of, insert, insert_new, is_peer, peer_named, remove, region_of, reg, close, put, show}
+use Rattle.fab_model.specs.Calls.{Call, Transmit, Post, Look, TakeClaimed, DropClaimed, Cancel, CancelFirst, Insert, Remove, Reg, Close, Put, Show, Count, answer, do_call, call_of, insert, insert_new, is_peer, peer_named, remove, region_of, reg, close, put}
 use Rattle.fab_model.specs.Peers.{Actor, is_again, after_call, call_line, do_line, with_result, with_state}
 use Rattle.fab_model.specs.Replay.{bind_op}
 

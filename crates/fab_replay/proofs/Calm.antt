@@ -1,10 +1,9 @@
 -- Whether all peers are calm.
-use Rattle.std.proofs.Common.{◌≡◌, ℕ, Bool, true, false, not, ◌&&◌, List, [], ◌∷◌, length, map, refl, sym, ap, ap₂, ◌∙◌}
+use Rattle.std.proofs.Common.{◌≡◌, ℕ, Bool, true, false, not, ◌&&◌, List, [], ◌∷◌, length, map, refl, sym, ap, ◌∙◌}
 use Rattle.std.specs.List.{list_all}
 use Rattle.std.proofs.lemmas.List.{length-map}
-use Rattle.std.proofs.lemmas.List.Folds.{list_all-map}
 use Rattle.fab_base.specs.declared.script.Bound.{Bound}
-use Rattle.fab_model.specs.Peers.{Actor, Facts, facts, all_below, has_all, is_calm}
+use Rattle.fab_model.specs.Peers.{Facts, facts, all_below, has_all, is_calm}
 use Rattle.fab_replay.specs.declared.turns.Peer.{Peer}
 use Rattle.fab_replay.specs.Seen.{actor_of, actors_of}
 

@@ -1,6 +1,6 @@
 -- How many entries a draw and the bytes of an item write: what is told before of the room that they need is what is so after.
 use Rattle.std.proofs.Common.{◌≡◌, ℕ, zero, suc, ◌+◌, ◌<◌, ◌≤◌, Bool, true, false, not, ◌&&◌, ◌||◌, cond, List, [], ◌∷◌, ◌++◌, length, take, drop, Option, Some, None, refl, sym, ap, ap₂, subst, ◌∙◌, arith, length-append, eqb}
-use Rattle.std.specs.Prelude.{find, is_some, is_none, nat_lt, slice_set, slice_index_or}
+use Rattle.std.specs.Prelude.{find, is_some, nat_lt, slice_set}
 use Rattle.std.specs.List.{list_any}
 use Rattle.std.proofs.lemmas.Bool.{eq-eqb, ltb-true, ltb-false, lt-ltb}
 use Rattle.std.proofs.lemmas.Bool.Decides.{nat_tests}
@@ -19,8 +19,8 @@ use Rattle.fab_base.specs.declared.operations.Operation.{Operation}
 use Rattle.fab_model.specs.State.{State, Receiving, Completions, Region, coming_from, under_way, is_into, fits, writing, with_rx, with_tx}
 use Rattle.fab_model.specs.Matching.{change_first, takes}
 use Rattle.fab_model.specs.Complete.{fill, fill_multi, filled, filling, is_made_by, release, release_multi, book, reply, at_either}
-use Rattle.fab_model.specs.Receiving.{draws, give, goes, without_first}
-use Rattle.fab_model.specs.Arrivals.{stays, shut, used_up, seating, do_draw, made_whole, tail_to, do_tail, keeping, do_request, remote_data, with_regions}
+use Rattle.fab_model.specs.Receiving.{draws, give, without_first}
+use Rattle.fab_model.specs.Arrivals.{stays, shut, seating, do_draw, made_whole, tail_to, do_tail, do_request, remote_data}
 use Rattle.fab_model.specs.Sending.{is_answered_by, answering, do_answer}
 use Rattle.fab_model.specs.Target.{is_keyed, outcome_of, perform}
 use Rattle.fab_machine.specs.Room.{has_room, entries_given, entries_taken, entries_drawn, is_let_go, entries_into, entries_to, entries_tail, entries_told, entries_of_end, is_under_way_besides}

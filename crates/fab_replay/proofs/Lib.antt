@@ -6,6 +6,7 @@ pub mod Filling
 pub mod Gets
 pub mod Judging
 pub mod Lists
+pub mod Meaning
 pub mod Multis
 pub mod Numerals
 pub mod Parts
@@ -15,3 +16,4 @@ pub mod Starting
 pub mod Steps
 pub mod Telling
 pub mod Tests
+pub mod Written

@@ -1,7 +1,6 @@
 -- Multi-receives made and released, and the buffer of one.
-use Rattle.std.proofs.Common.{◌≡◌, ℕ, zero, ◌+◌, ◌-◌, ◌<◌, ◌≤◌, ◌⊎◌, inl, inr, ◌==◌, Bool, true, false, List, [], ◌∷◌, ◌++◌, length, take, drop, map, min, count_by, Option, Some, None, refl, sym, ap, ap₂, ◌∙◌, arith, eqb, ltb, cond}
+use Rattle.std.proofs.Common.{◌≡◌, ℕ, ◌+◌, ◌-◌, ◌<◌, ◌≤◌, ◌⊎◌, inl, inr, Bool, false, List, [], ◌∷◌, ◌++◌, length, take, drop, map, min, count_by, Option, Some, None, refl, sym, ap, ap₂, ◌∙◌, arith, eqb, ltb, cond}
 use Rattle.std.specs.Prelude.{zip, find, unwrap_or}
-use Rattle.std.specs.Option.{option_or}
 use Rattle.std.proofs.Math.ListN.{drop_of_length-le}
 use Rattle.std.proofs.lemmas.Bool.{ne_eqb}
 use Rattle.std.proofs.lemmas.Bool.Decides.{nat_tests}

@@ -1,5 +1,5 @@
 -- The parts of a report, one peer after another.
-use Rattle.std.proofs.Common.{◌≡◌, ◌<◌, ◌≤◌, ◌+◌, ◌&&◌, ℕ, zero, suc, Bool, List, [], ◌∷◌, ◌++◌, length, drop, map, get_or, slice_get, Option, Some, None, refl, sym, ap, ap₂, ◌∙◌, arith, append_assoc, append-nil, codes, decimal}
+use Rattle.std.proofs.Common.{◌≡◌, ◌<◌, ◌≤◌, ◌+◌, ◌&&◌, ℕ, zero, suc, List, [], ◌∷◌, ◌++◌, length, drop, map, get_or, slice_get, Option, Some, None, refl, sym, ap, ◌∙◌, arith, append_assoc, append-nil}
 use Rattle.std.specs.List.{list_all}
 use Rattle.std.specs.Option.{option_map}
 use Rattle.std.proofs.lemmas.List.{length-map}
@@ -12,8 +12,8 @@ use Rattle.fab_base.specs.declared.script.Bound.{Bound}
 use Rattle.fab_base.specs.declared.script.Line.{Line}
 use Rattle.fab_base.specs.declared.script.LineOp.{LineOp}
 use Rattle.fab_base.specs.declared.script.LineOp.TheVariants.{Wait}
-use Rattle.fab_model.specs.Peers.{Actor, is_finished}
-use Rattle.fab_model.specs.Report.{all_lines, actor_lines, done_lines, stuck_line, kept_words, pending_line, step_word, verb_of, peer_lines, pending_of, report_of, report_lines, first_line, last_line}
+use Rattle.fab_model.specs.Peers.{is_finished}
+use Rattle.fab_model.specs.Report.{all_lines, actor_lines, done_lines, stuck_line, verb_of, peer_lines, pending_of, report_of, report_lines, first_line, last_line}
 use Rattle.fab_model.specs.Replay.{all_done, bind_op, bind_line, lines_of}
 use Rattle.fab_model.specs.Words.{text_of, line_of}
 use Rattle.fab_report.proofs.Blanks.{text_of-append}

@@ -1,14 +1,12 @@
 -- The replay, turn by turn.
 use Rattle.std.proofs.Common.{◌≡◌, ℕ, zero, suc, ◌+◌, ◌<◌, Bool, true, false, cond, List, [], ◌∷◌, length, map, drop, get_or, set, slice_get, Option, Some, None, Result, Ok, Err, IfOk, refl, sym, ap, ap₂, subst, ◌∙◌, arith, inl, inr, add-one}
-use Rattle.std.specs.Option.{option_or, option_and_then}
 use Rattle.std.proofs.Math.Seq.{map-set_same}
 use Rattle.std.proofs.lemmas.Bool.{cases_lt}
 use Rattle.std.proofs.lemmas.List.{length-map, map-set, length-set}
 use Rattle.std.proofs.lemmas.Option.{slice_get-map, slice_get_read}
 use Rattle.fab_base.specs.declared.peers.Step.{Step}
 use Rattle.fab_base.specs.declared.script.Bound.{Bound}
-use Rattle.fab_model.specs.Laws.{Run}
-use Rattle.fab_model.specs.Orders.{Moment, turn, turn_with, lowest, replay, replay_for, steps_left}
+use Rattle.fab_model.specs.Orders.{Moment, turn, lowest, replay, replay_for, steps_left}
 use Rattle.fab_model.specs.Peers.{Actor, fabric}
 use Rattle.fab_model.specs.Views.{rule, seen}
 use Rattle.fab_model.proofs.Confluence.{lowest_some}

@@ -1,12 +1,11 @@
 -- What is read strictly is what `traces` reads.
-use Rattle.std.proofs.Common.{◌≡◌, ℕ, Bool, true, false, cond, List, [], ◌∷◌, ◌++◌, length, take, drop, filter_map, map, Option, Some, None, refl, sym, ap, ap₂, subst, ◌∙◌, eqb, codes}
+use Rattle.std.proofs.Common.{◌≡◌, ℕ, Bool, true, false, cond, List, [], ◌∷◌, ◌++◌, length, take, drop, filter_map, map, Option, Some, None, refl, sym, ap, ◌∙◌, eqb, codes}
 use Rattle.std.specs.Prelude.{bytes_eq}
-use Rattle.std.specs.List.{cons_option}
 use Rattle.std.proofs.lemmas.Bool.{eqb-true}
 use Rattle.std.proofs.lemmas.List.{take-append-drop}
 use Rattle.std.proofs.lemmas.Slice.Eq.{bytes_eq-Decides}
 use Rattle.fab_base.specs.declared.peers.Step.{Step}
-use Rattle.fab_model.specs.Words.{Word, pieces_at, onto_first, lines_in}
+use Rattle.fab_model.specs.Words.{Word, pieces_at, onto_first}
 use Rattle.fab_model.specs.Report.{numbered, step_in, trace_in, traces}
 use Rattle.fab_replay.specs.Reading.{names_peer, step_told, steps_told, steps_behind, with_rest, begins_trace, lists_told, if_as_many, schedule_told}
 

@@ -2,3 +2,4 @@ pub mod Reading
 pub mod Rest
 pub mod Seen
 pub mod Verdict
+pub mod Meaning

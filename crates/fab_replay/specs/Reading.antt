@@ -3,7 +3,7 @@
 --     lists_told peers lines       the steps of each line that begins with `trace`
 --     schedule_told peers text     one list of steps for each peer
 -- `traces` of fab_model reads every text, and passes over words that are no steps. Where both read one, they read the same.
-use Rattle.std.specs.Prelude.{ℕ, Bool, true, false, not, ◌&&◌, ◌==◌, nat_lt, nat_le, List, [], ◌∷◌, ◌++◌, length, take, drop, Option, Some, None, codes, bytes_eq, if◌then◌else◌}
+use Rattle.std.specs.Prelude.{ℕ, Bool, false, not, ◌&&◌, ◌==◌, nat_lt, nat_le, List, [], ◌∷◌, ◌++◌, length, take, drop, Option, Some, None, codes, bytes_eq, if◌then◌else◌}
 use Rattle.std.specs.List.{list_all}
 use Rattle.fab_base.specs.declared.peers.Step.{Step}
 use Rattle.fab_model.specs.Words.{Word, pieces_at, read_decimal}

@@ -2,7 +2,7 @@
 --     verdict bound text      the answer
 --     first_left 0 left       the lowest peer that has a step left
 --     common xs ys            how many bytes both begin with: where they first differ, or the shorter ends
-use Rattle.std.specs.Prelude.{ℕ, zero, suc, ◌+◌, ◌-◌, Bool, true, false, ◌==◌, List, [], ◌∷◌, length, Option, Some, None, slice_index_or, bytes_eq, if◌then◌else◌}
+use Rattle.std.specs.Prelude.{ℕ, ◌+◌, ◌-◌, ◌==◌, List, [], ◌∷◌, length, Option, Some, None, slice_index_or, bytes_eq, if◌then◌else◌}
 use Rattle.fab_base.specs.declared.peers.Step.{Step}
 use Rattle.fab_base.specs.declared.script.Bound.{Bound}
 use Rattle.fab_model.specs.Orders.{Moment}

@@ -4,6 +4,7 @@ ghost use Rattle.fab_model.specs.Orders.{replay};
 ghost use Rattle.fab_model.specs.Peers.{fabric};
 ghost use Rattle.fab_model.specs.Report.{report_of};
 ghost use Rattle.fab_model.specs.Views.{rule};
+ghost use Rattle.fab_replay.specs.Meaning.{Means};
 ghost use Rattle.fab_replay.specs.Seen.{actors_of, steps_of, left_of, moment_of};
 ghost use Rattle.fab_replay.specs.Verdict.{first_left, common, compared, judged, verdict};
 
@@ -101,7 +102,8 @@ fn judge(alloc: Global, bound: &Bound, peers: &mut [Peer], text: &[u8]) -> Resul
 /// report of that schedule. It takes memory in proportion to the script's items and the text, and its
 /// one failure is want of memory.
 pub fn check(alloc: Global, bound: &Bound, text: &[u8]) -> Result<Verdict, NoMemory>
-    ensures { IfOk result (λ answer. answer ≡ verdict bound.now text.now) }
+    ensures verdict { IfOk result (λ answer. answer ≡ verdict bound.now text.now) }
+    ensures means { IfOk result (λ answer. Means bound.now text.now answer) }
 {
     let Some(schedule) = read_schedule(alloc, text, bound.script.conf.peers)? else {
         return Ok(Verdict::NoSchedule);

@@ -5,9 +5,11 @@ use Rattle.fab_base.specs.declared.status.Status.{Status}
 use Rattle.fab_base.specs.declared.status.Status.TheVariants.{Done, Stuck, Usage, ScriptRefused, TooLong, ReadFault, WriteFault, NoMemory}
 use Rattle.fab_workloads.specs.declared.workload.Workload.{Workload}
 use Rattle.fab_workloads.specs.Commands.{payload_file, workload_of}
-use Rattle.fab_top.specs.Commands.{script_file}
-use Rattle.fab_top.specs.Loading.{Files, IsOver, IsUnread}
-use Rattle.fab_top.specs.Runs.{EndsBench, IsAnswered, IsUnhindered}
+use Rattle.fab_base.specs.declared.status.Why.{Why}
+use Rattle.fab_top.specs.Checking.{LeadsOn}
+use Rattle.fab_top.specs.Commands.{replay_files, script_file}
+use Rattle.fab_top.specs.Loading.{Files, IsOver, IsUnread, IsWrong}
+use Rattle.fab_top.specs.Runs.{EndsBench, EndsCheck, IsAnswered, IsUnhindered}
 
 -- the status of a workload's command
 pub bench_answered : (files : Files) (words : List (List ℕ)) (f f' s s' : ℕ) (w : Workload) (status : Status) → workload_of words ≡ Some w → EndsBench status
@@ -17,7 +19,7 @@ bench_answered files words f f' s s' w Done is ends long unread fault u = tt
 bench_answered files words f f' s s' w Stuck is ends long unread fault u = tt
 bench_answered files words f f' s s' w Usage is ends long unread fault u = absurd ends
 bench_answered files words f f' s s' w (ScriptRefused line why) is ends long unread fault u = absurd ends
-bench_answered files words f f' s s' w (TooLong name) is ends long unread fault u = (let l = long name refl in absurd (u.within name (inr (w, is, l.0)) l.1))
+bench_answered files words f f' s s' w (TooLong name) is ends long unread fault u = (let l = long name refl in absurd (u.within name (inr (inl (w, is, l.0))) l.1))
 bench_answered files words f f' s s' w (ReadFault name) is ends long unread fault u = absurd (u.loads (unread name refl))
 bench_answered files words f f' s s' w WriteFault is ends long unread fault u = absurd (u.takes (fault refl))
 bench_answered files words f f' s s' w NoMemory is ends long unread fault u = tt
@@ -28,8 +30,22 @@ pub unread_answered : (files : Files) (words : List (List ℕ)) (f f' s s' : ℕ
 unread_answered files words f f' s s' failed file Done is unread u = tt
 unread_answered files words f f' s s' failed file Stuck is unread u = tt
 unread_answered files words f f' s s' failed file Usage is unread u = absurd unread
-unread_answered files words f f' s s' failed file (ScriptRefused line why) is unread u = absurd (u.spelt line why (file, is, unread))
+unread_answered files words f f' s s' failed file (ScriptRefused line why) is unread u = absurd (u.spelt line why (file, inl is, unread))
 unread_answered files words f f' s s' failed file (TooLong name) is unread u = absurd (u.within name (inl (file, is, unread.0)) unread.1)
 unread_answered files words f f' s s' failed file (ReadFault name) is unread u = absurd (u.loads unread.1)
 unread_answered files words f f' s s' failed file WriteFault is unread u = absurd unread
 unread_answered files words f f' s s' failed file NoMemory is unread u = tt
+
+-- the status of the command that checks a report
+pub check_answered : (files : Files) (words : List (List ℕ)) (f f' s s' : ℕ) (file trace : List ℕ) (status : Status) → replay_files words ≡ Some (file, trace) → EndsCheck status
+    → ((line : ℕ) (why : Why) → status ≡ ScriptRefused line why → IsWrong files file line why)
+    → ((name : List ℕ) → status ≡ TooLong name → LeadsOn files file trace name × IsOver files name) → ((name : List ℕ) → status ≡ ReadFault name → Rose f f')
+    → (status ≡ WriteFault → Rose s s') → IsUnhindered files words f f' s s' → IsAnswered status
+check_answered files words f f' s s' file trace Done is ends wrong long unread fault u = tt
+check_answered files words f f' s s' file trace Stuck is ends wrong long unread fault u = tt
+check_answered files words f f' s s' file trace Usage is ends wrong long unread fault u = absurd ends
+check_answered files words f f' s s' file trace (ScriptRefused line why) is ends wrong long unread fault u = absurd (u.spelt line why (file, inr (trace, is), wrong line why refl))
+check_answered files words f f' s s' file trace (TooLong name) is ends wrong long unread fault u = (let l = long name refl in absurd (u.within name (inr (inr (file, trace, is, l.0))) l.1))
+check_answered files words f f' s s' file trace (ReadFault name) is ends wrong long unread fault u = absurd (u.loads (unread name refl))
+check_answered files words f f' s s' file trace WriteFault is ends wrong long unread fault u = absurd (u.takes (fault refl))
+check_answered files words f f' s s' file trace NoMemory is ends wrong long unread fault u = tt

@@ -1,4 +1,3 @@
-pub mod Blanks
 pub mod Pieces
 pub mod Parts
 pub mod Bounding

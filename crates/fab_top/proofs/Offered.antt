@@ -7,8 +7,8 @@ use Rattle.fab_base.specs.declared.caps.Caps.{Caps}
 use Rattle.fab_grammar.specs.Capabilities.{cap_name}
 use Rattle.fab_model.specs.Words.{Word, line_of, text_of}
 use Rattle.fab_top.specs.Info.{cap_names}
-use Rattle.fab_top.specs.Texts.{after_blanks}
-use Rattle.fab_top.proofs.Blanks.{part_more}
+use Rattle.fab_report.specs.Texts.{after_blanks}
+use Rattle.fab_report.proofs.Blanks.{part_more}
 
 -- what is still to be written of these capabilities
 abbrev pub names_left : Caps → List Cap → List ℕ

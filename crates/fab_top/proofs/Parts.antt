@@ -11,7 +11,7 @@ use Rattle.fab_model.specs.Replay.{all_done}
 use Rattle.fab_model.specs.Words.{text_of, line_of}
 use Rattle.fab_finish.specs.Joined.{member_actor, member_steps}
 use Rattle.fab_finish.specs.Joined.{Member}
-use Rattle.fab_top.proofs.Blanks.{text_of-append}
+use Rattle.fab_report.proofs.Blanks.{text_of-append}
 
 pub list_all-map : {A B : Type 0} (f : B → Bool) (g : A → B) (xs : List A) → list_all (λ x. f (g x)) xs ≡ list_all f (map g xs)
 list_all-map f g [] = refl

@@ -1,7 +1,8 @@
 -- What the words of a command ask for.
 --     script_file words      the file whose script is to be run, where the words are `script FILE`
 --     info_hints words       what is asked for of the provider (fi_getinfo(3)), where they are `info CAPS`
---     IsNoCommand words      the words are of no form: neither of these, nor that of a workload (`pingpong`, `bandwidth` or `gen`)
+--     replay_files words     the script's file and its report's, where they are `replay FILE TRACE`
+--     IsNoCommand words      the words are of no form: none of these, nor that of a workload (`pingpong`, `bandwidth` or `gen`)
 use Rattle.std.specs.Prelude.{◌≡◌, ℕ, List, [], ◌∷◌, bytes_eq, codes, Option, Some, None, option_map, if◌then◌else◌}
 use Rattle.std.specs.Result.{result_ok}
 use Rattle.fab_base.specs.declared.caps.Caps.{Caps}
@@ -27,5 +28,10 @@ abbrev pub info_hints : List (List ℕ) → Option (Option Hints)
 info_hints (verb ∷ caps ∷ []) = if bytes_eq verb (codes "info") then hints_in caps else None
 info_hints _ = None
 
+-- `replay FILE TRACE`
+abbrev pub replay_files : List (List ℕ) → Option (List ℕ × List ℕ)
+replay_files (verb ∷ file ∷ trace ∷ []) = if bytes_eq verb (codes "replay") then Some (file, trace) else None
+replay_files _ = None
+
 abbrev pub IsNoCommand : List (List ℕ) → Type 0
-IsNoCommand words = (script_file words ≡ None) × (info_hints words ≡ None) × (workload_of words ≡ None)
+IsNoCommand words = (script_file words ≡ None) × (info_hints words ≡ None) × (workload_of words ≡ None) × (replay_files words ≡ None)

@@ -1,10 +1,12 @@
 -- What a run of a command does.
 --     Reports bound text      the text is the report of the lawful schedule that its trace lines tell, and at its end the peers are at rest
 --     AskFor files words name the words lead to this file
+--     NamesScript words file  the words name this file as a script
 --     IsRefused ..            the words name a file that is refused as a script
 --     Writes, WritesPart      the report is written, or a part of it
 --     Tells, TellsPart        what is granted is written, or a part of it
 --     Benches, BenchesPart    the line of a workload is written, or a part of it
+--     Checks, ChecksPart      what is to be said of a report is written, or a part of it
 --     ComesToRest bound done  some lawful schedule leads the peers to rest
 --     IsUnhindered ..         nothing stands in the way of the command
 use Rattle.std.specs.Prelude.{◌≡◌, ℕ, ◌<◌, ◌⊎◌, Bool, true, List, length, take, Option, Some}
@@ -15,13 +17,16 @@ use Rattle.fab_base.specs.declared.caps.Hints.{Hints}
 use Rattle.fab_base.specs.declared.peers.Step.{Step}
 use Rattle.fab_base.specs.declared.script.Bound.{Bound}
 use Rattle.fab_base.specs.declared.status.Status.{Status}
-use Rattle.fab_base.specs.declared.status.Status.TheVariants.{Done, Stuck, TooLong, ReadFault, WriteFault, NoMemory}
+use Rattle.fab_base.specs.declared.status.Status.TheVariants.{Done, Stuck, ScriptRefused, TooLong, ReadFault, WriteFault, NoMemory}
 use Rattle.fab_base.specs.declared.status.Why.{Why}
 use Rattle.fab_model.specs.Negotiation.{grant}
 use Rattle.fab_model.specs.Peers.{Actor}
 use Rattle.fab_model.specs.Replay.{Lawful, replayed, at_rest, all_done, is_empty}
 use Rattle.fab_model.specs.Report.{report, traces}
-use Rattle.fab_top.specs.Commands.{script_file, info_hints, IsNoCommand}
+use Rattle.fab_replay.specs.declared.verdicts.Verdict.TheVariants as answer
+use Rattle.fab_replay.specs.Verdict.{verdict}
+use Rattle.fab_top.specs.Checking.{IsChecked, LeadsOn}
+use Rattle.fab_top.specs.Commands.{script_file, info_hints, replay_files, IsNoCommand}
 use Rattle.fab_top.specs.Info.{info_text}
 use Rattle.fab_top.specs.Loading.{Files, IsOver, IsRead, IsWrong, LeadsTo}
 use Rattle.fab_workloads.specs.declared.workload.Workload.{Workload}
@@ -32,13 +37,14 @@ use Rattle.fab_workloads.specs.Commands.{payload_file, workload_of}
 abbrev pub nothing_posted : List Actor → Bool
 nothing_posted all = list_all (λ (a : Actor). is_empty a.state.rx.posted) all
 
--- The text is the report of the schedule that its own trace lines tell, and this schedule is lawful. At its end the peers are at rest; whether all lines are done then, and if so, nothing is posted.
+-- The text is the report of the schedule that its own trace lines tell, and this schedule is lawful. At its end the peers are at rest; whether all lines are done then, and if so, nothing is posted. So `replay` answers `lawful, at rest` of it.
 pub record Reports (bound : Bound) (text : List ℕ) (done : Bool) : Type 0 where
   pub lawful : Lawful bound (traces text)
   pub text_is : text ≡ report bound (traces text)
   pub rest : at_rest (replayed bound (traces text)).states ≡ true
   pub done_is : all_done (replayed bound (traces text)).states ≡ done
   pub cleared : done ≡ true → nothing_posted (replayed bound (traces text)).states ≡ true
+  pub found : verdict bound text ≡ answer.Lawful true
 
 -- some lawful schedule leads the peers to rest, and this says whether all lines are done then
 abbrev pub ComesToRest : Bound → Bool → Type 0
@@ -50,13 +56,21 @@ ComesToRest bound done =
 abbrev pub IsPayload : List (List ℕ) → List ℕ → Type 0
 IsPayload words name = (workload : Workload) × (workload_of words ≡ Some workload) × (payload_file words ≡ Some name)
 
--- the words name a script, and this is its file or one of its payload files, which the order of checks comes to; or they name a workload, and this is its file
+-- the words name a script and a trace, and this is a file of the script, or the trace
+abbrev pub IsOfReplay : Files → List (List ℕ) → List ℕ → Type 0
+IsOfReplay files words name = (file trace : List ℕ) × (replay_files words ≡ Some (file, trace)) × LeadsOn files file trace name
+
+-- the words name a script, and this is its file or one of its payload files, which the order of checks comes to, or the trace that is read last; or they name a workload, and this is its file
 abbrev pub AskFor : Files → List (List ℕ) → List ℕ → Type 0
-AskFor files words name = ((file : List ℕ) × (script_file words ≡ Some file) × LeadsTo files file name) ⊎ IsPayload words name
+AskFor files words name = ((file : List ℕ) × (script_file words ≡ Some file) × LeadsTo files file name) ⊎ IsPayload words name ⊎ IsOfReplay files words name
+
+-- to run it, or to check a report of it
+abbrev pub NamesScript : List (List ℕ) → List ℕ → Type 0
+NamesScript words file = (script_file words ≡ Some file) ⊎ ((trace : List ℕ) × (replay_files words ≡ Some (file, trace)))
 
 -- the words name a file that spells no script, or a script of which a line names bytes that are not there: this is the first such line, and the first rule that it breaks
 abbrev pub IsRefused : Files → List (List ℕ) → ℕ → Why → Type 0
-IsRefused files words line why = (file : List ℕ) × (script_file words ≡ Some file) × IsWrong files file line why
+IsRefused files words line why = (file : List ℕ) × NamesScript words file × IsWrong files file line why
 
 -- the words name a file that spells a script, and a report of this script with its payload files is written
 pub record Writes (files : Files) (words : List (List ℕ)) (done : Bool) (before after : Option (List ℕ)) : Type 0 where
@@ -111,12 +125,38 @@ pub record BenchesPart (words : List (List ℕ)) (given first last : ℕ) (befor
   pub fewer : some < length (bench_line workload first last)
   pub written : after ≡ append_known before (take some (bench_line workload first last))
 
+-- the words name a script and a trace, and the line on the trace, as a report of that script with its payload files, is written
+pub record Checks (files : Files) (words : List (List ℕ)) (before after : Option (List ℕ)) : Type 0 where
+  pub file : List ℕ
+  pub trace : List ℕ
+  pub command : replay_files words ≡ Some (file, trace)
+  pub line : List ℕ
+  pub checked : IsChecked files file trace line
+  pub written : after ≡ append_known before line
+
+-- the same, of which only the first bytes are written
+pub record ChecksPart (files : Files) (words : List (List ℕ)) (before after : Option (List ℕ)) : Type 0 where
+  pub file : List ℕ
+  pub trace : List ℕ
+  pub command : replay_files words ≡ Some (file, trace)
+  pub line : List ℕ
+  pub checked : IsChecked files file trace line
+  pub some : ℕ
+  pub fewer : some < length line
+  pub written : after ≡ append_known before (take some line)
+
 -- the statuses at which a report is written, or a part of one
 abbrev pub WritesReport : Status → Type 0
 WritesReport Done = Unit {0}
 WritesReport Stuck = Unit {0}
 WritesReport WriteFault = Unit {0}
 WritesReport status = ⊥
+
+-- the statuses at which a line is written, or a part of it
+abbrev pub WritesLine : Status → Type 0
+WritesLine Done = Unit {0}
+WritesLine WriteFault = Unit {0}
+WritesLine status = ⊥
 
 -- the statuses at which what is granted is written, or a part of it, or memory is wanting
 abbrev pub TellsOffer : Status → Type 0
@@ -133,6 +173,11 @@ EndsBench (ReadFault name) = Unit {0}
 EndsBench WriteFault = Unit {0}
 EndsBench NoMemory = Unit {0}
 EndsBench status = ⊥
+
+-- the statuses of the command that checks a report
+abbrev pub EndsCheck : Status → Type 0
+EndsCheck (ScriptRefused line why) = Unit {0}
+EndsCheck status = EndsBench status
 
 -- the statuses at which the command was carried out, or memory is wanting
 abbrev pub IsAnswered : Status → Type 0

@@ -1,6 +1,6 @@
 //! What the words of a command ask for.
 ghost use Rattle.std.specs.Prelude.{◌≡◌, option_map};
-ghost use Rattle.fab_top.specs.Commands.{script_file, info_hints, hints_in};
+ghost use Rattle.fab_top.specs.Commands.{script_file, replay_files, info_hints, hints_in};
 
 use fab_base::{Hints, Text};
 use fab_grammar::{asking, read_caps};
@@ -13,6 +13,16 @@ pub fn script_file(words: &[Text]) -> Option<&Text>
         return None;
     }
     Some(&words[1])
+}
+
+/// The file of a script and that of its report, where the words are `replay FILE TRACE`.
+pub fn replay_files(words: &[Text]) -> Option<(&Text, &Text)>
+    ensures { option_map (λ files. (files.0.now, files.1.now)) result ≡ replay_files words.now }
+{
+    if words.len() != 3 || words[0].as_str() != "replay" {
+        return None;
+    }
+    Some((&words[1], &words[2]))
 }
 
 /// What is asked for of the provider, where the words are `info CAPS`.

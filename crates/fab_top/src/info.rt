@@ -5,7 +5,7 @@ ghost use Rattle.std.specs.Prelude.{◌≡◌, ◌++◌, IfOk, OnOk, option_copi
 ghost use Rattle.fab_model.specs.Negotiation.{all_caps, grant};
 ghost use Rattle.fab_model.specs.Words.{line_of, text_of};
 ghost use Rattle.fab_top.specs.Info.{bytes_line, cap_names, caps_line, info_lines, info_text, sizes_line};
-ghost use Rattle.fab_top.specs.Texts.{after_blanks};
+ghost use Rattle.fab_report.specs.Texts.{after_blanks};
 
 use fab_base::{Caps, Hints, Info, NoMemory};
 use fab_grammar::{CAPS, cap_name};

@@ -40,6 +40,7 @@ fn load_payloads<D: Depot>(
     payloads: &[Payload],
 ) -> Result<Vec<Buf>, Status>
     ensures files { D.files depot.new ≡ D.files depot.old }
+    ensures never_falls { D.faults depot.old ≤ D.faults depot.new }
     ensures ok { IfOk result (λ all. AreWhole (D.files depot.old) payloads.now all.items) }
     ensures err { IfErr result (λ status. AreUnloaded (D.files depot.old) payloads.now (D.faults depot.old) (D.faults depot.new) (D.failed_name depot.new) status) }
 {
@@ -76,6 +77,7 @@ fn read_script(alloc: Global, bytes: &[u8]) -> Result<Script, Status>
 /// how the run ends.
 pub fn load_script<D: Depot>(alloc: Global, depot: &mut D, name: &Text) -> Result<Bound, Status>
     ensures files { D.files depot.new ≡ D.files depot.old }
+    ensures never_falls { D.faults depot.old ≤ D.faults depot.new }
     ensures ok { IfOk result (λ bound. IsRead (D.files depot.old) name.now bound) }
     ensures sized { IfOk result (λ bound. (2 ≤ bound.script.conf.info.cq) × (4 ≤ bound.script.conf.info.log)) }
     ensures peers { IfOk result (λ bound. (0 < bound.script.conf.peers) × (bound.script.conf.peers ≤ 32)) }

@@ -12,12 +12,13 @@ ghost use Rattle.fab_model.specs.Negotiation.{grant};
 ghost use Rattle.fab_top.specs.Commands.{IsNoCommand};
 ghost use Rattle.fab_top.specs.Info.{info_text};
 ghost use Rattle.fab_top.specs.Loading.{IsOver, IsUnloaded};
-ghost use Rattle.fab_top.specs.Runs.{Reports, ComesToRest, AskFor, IsRefused, Writes, WritesPart, Tells, TellsPart, TellsOffer, Benches, BenchesPart, EndsBench, IsUnhindered, IsAnswered, IsSilent, WritesReport};
+ghost use Rattle.fab_top.specs.Runs.{Reports, ComesToRest, AskFor, IsRefused, Writes, WritesPart, Tells, TellsPart, TellsOffer, Benches, BenchesPart, EndsBench, Checks, ChecksPart, IsUnhindered, IsAnswered, IsSilent, WritesReport};
 ghost use Rattle.fab_workloads.specs.Bench.{bench_line};
 ghost use Rattle.fab_workloads.specs.Commands.{IsWithin, payload_file, workload_of};
 ghost use Rattle.fab_workloads.specs.Script.{bound_of};
 
-use crate::commands::{info_hints, script_file};
+use crate::checking::carry_out_check;
+use crate::commands::{info_hints, replay_files, script_file};
 use crate::info::info_text;
 use crate::loading::{load_file, load_script};
 use crate::outside::{Clock, Depot, Failed, Sink};
@@ -273,6 +274,12 @@ where
 /// 10,000, SIZE times COUNT up to 67,108,864, WINDOW 1 to 256, PEERS 1 to 32 and MESSAGES up to 8,192. The clock is read
 /// before the peers run and when they have finished, and never by another command.
 ///
+/// `replay FILE TRACE` runs nothing. It loads the script's files in the same way and then TRACE, and writes one line on
+/// whether TRACE is the report of a lawful schedule of the script ([`fab_replay::check`]): `lawful, at rest`;
+/// `lawful, not at rest`; `not lawful peer K step I`, where the I-th step (from 1) of peer K cannot be taken; `differs at N`,
+/// where the report of the schedule that it tells is another text from the N-th byte on (from 0); `no schedule`.
+/// Each of the five ends at `Done`.
+///
 /// The peers take their turns in rounds, each turn in a thread of its own over lock-free lanes, until a round moves
 /// nothing or all lines are done, and then in one thread until none can go on. The gate is told when a turn in a thread
 /// begins and ends. Which of two peers' messages comes first may depend on the threads, so two runs of a script may
@@ -311,12 +318,14 @@ where
         × Rose (D.faults depot.old) (D.faults depot.new) × (D.failed_name depot.new ≡ Some name) }
     ensures done { result ≡ Done → Writes (D.files depot.old) words.now true (S.bytes sink.old) (S.bytes sink.new)
         ⊎ Tells words.now (S.bytes sink.old) (S.bytes sink.new)
-        ⊎ Benches words.now (C.given clock.new) (C.first clock.new) (C.last clock.new) (S.bytes sink.old) (S.bytes sink.new) }
+        ⊎ Benches words.now (C.given clock.new) (C.first clock.new) (C.last clock.new) (S.bytes sink.old) (S.bytes sink.new)
+        ⊎ Checks (D.files depot.old) words.now (S.bytes sink.old) (S.bytes sink.new) }
     ensures stuck { result ≡ Stuck → Writes (D.files depot.old) words.now false (S.bytes sink.old) (S.bytes sink.new) }
     ensures write_fault { result ≡ WriteFault → Rose (S.faults sink.old) (S.faults sink.new)
         × (WritesPart (D.files depot.old) words.now (S.bytes sink.old) (S.bytes sink.new)
         ⊎ TellsPart words.now (S.bytes sink.old) (S.bytes sink.new)
-        ⊎ BenchesPart words.now (C.given clock.new) (C.first clock.new) (C.last clock.new) (S.bytes sink.old) (S.bytes sink.new)) }
+        ⊎ BenchesPart words.now (C.given clock.new) (C.first clock.new) (C.last clock.new) (S.bytes sink.old) (S.bytes sink.new)
+        ⊎ ChecksPart (D.files depot.old) words.now (S.bytes sink.old) (S.bytes sink.new)) }
     ensures silent { IsSilent result → S.bytes sink.new ≡ S.bytes sink.old }
     ensures files { D.files depot.new ≡ D.files depot.old }
     ensures complete { IsUnhindered (D.files depot.old) words.now (D.faults depot.old) (D.faults depot.new) (S.faults sink.old) (S.faults sink.new)
@@ -327,6 +336,9 @@ where
     }
     if let Some(workload) = workload_of(words) {
         return carry_out_workload(rt, alloc, words, workload, depot, sink, clock, gate);
+    }
+    if let Some((file, trace)) = replay_files(words) {
+        return carry_out_check(alloc, file, trace, depot, sink);
     }
     let Some(name) = script_file(words) else {
         return Status::Usage;

@@ -7,12 +7,12 @@ ghost use Rattle.fab_model.specs.Report.{all_lines, report_of};
 ghost use Rattle.fab_model.specs.Replay.{all_done};
 ghost use Rattle.fab_finish.specs.Joined.{member_actor, member_steps};
 
-use crate::report::{add_first, add_last, add_peer};
 use fab_base::NoMemory;
 use fab_ep::endpoint::Endpoint;
 use fab_link::PlainPort;
 use fab_quantum::calls::Machinery;
 use fab_quantum::peer::Peer;
+use fab_report::{add_first, add_last, add_peer};
 use std::alloc::Global;
 
 /// A peer over a plain port, whatever its machine.

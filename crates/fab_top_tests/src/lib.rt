@@ -1,4 +1,5 @@
-//! Tests of `fab_top`: whole runs over memory, what is granted, the text of reports, and the outside over memory.
+//! Tests of `fab_top`: whole runs over memory, what is granted, the text of reports, what is said of them, and the
+//! outside over memory.
 //!
 //! They stand in a crate of their own, so that `fab_top` isn't proved twice.
 #![tactic(auto)]
@@ -19,6 +20,8 @@ mod messages;
 mod onesided;
 #[cfg(test)]
 mod payloads;
+#[cfg(test)]
+mod replays;
 #[cfg(test)]
 mod reports;
 #[cfg(test)]

@@ -3,7 +3,7 @@ use fab_base::{
     Buf, Busy, BytesWord, Entry, ErrEntry, ErrKind, Fault, Kept, Level, Line, LineOp, LineResult,
     NoMemory, PeekHow, Step, Taken,
 };
-use fab_top::{add_first, add_last, add_peer};
+use fab_report::{add_first, add_last, add_peer};
 use std::alloc::Global;
 use std::process::Abort;
 use std::test::Fail;

@@ -1,5 +1,6 @@
 //! Whole runs over memory: what they write, and how they end.
 use crate::gates::OpenGate;
+use crate::replays::says;
 use fab_base::{Buf, Gate, Status, Text, Why};
 use fab_top::{MemoryClock, MemoryDepot, MemorySink, run};
 use std::alloc::Global;
@@ -8,7 +9,7 @@ use std::sync::Wait;
 use std::test::Fail;
 use std::thread::Threads;
 
-const HELLO: &str = "fabric 1\n\
+pub(crate) const HELLO: &str = "fabric 1\n\
     peers 2\n\
     peer 0\n\
     trecv 1 * 7 0 16\n\
@@ -16,7 +17,7 @@ const HELLO: &str = "fabric 1\n\
     peer 1\n\
     tsend 2 0 7 text:hello\n";
 
-const HELLO_REPORT: &str = "fabric 1 peers 2\n\
+pub(crate) const HELLO_REPORT: &str = "fabric 1 peers 2\n\
     peer 0\n\
     4 trecv ok\n\
     5 wait 1 FI_TAGGED FI_RECV from 1 tag 7 len 5 bytes 68656c6c6f\n\
@@ -221,7 +222,7 @@ pub(crate) fn runs_to<R: Abort + Threads + Wait + Sync, G: Gate>(
     Ok(())
 }
 
-/// Scripts run to their reports, which are the same in every order of turns.
+/// Scripts run to their reports, which are the same in every order of turns, and each report is found lawful.
 pub(crate) fn run_to<R: Abort + Threads + Wait + Sync>(
     rt: &R,
     alloc: Global,
@@ -229,6 +230,8 @@ pub(crate) fn run_to<R: Abort + Threads + Wait + Sync>(
 ) -> Result<(), Fail> {
     for row in rows {
         runs_to(rt, alloc, *row, &OpenGate)?;
+        let (script, report, _) = *row;
+        says(rt, alloc, script, report, "lawful, at rest\n")?;
     }
     Ok(())
 }
@@ -256,7 +259,7 @@ fn is_no_command<R: Abort + Threads + Wait + Sync>(
 
 #[test]
 fn other_words_are_no_command(rt: HostRuntime) -> Result<(), Fail> {
-    let rows: [&[&str]; 14] = [
+    let rows: [&[&str]; 18] = [
         &[],
         &["pingpong", "f", "4096", "0"],
         &["pingpong", "f", "16777216", "5"],
@@ -266,6 +269,10 @@ fn other_words_are_no_command(rt: HostRuntime) -> Result<(), Fail> {
         &["script"],
         &["scripts", "it"],
         &["script", "it", "it"],
+        &["replay"],
+        &["replay", "it"],
+        &["replays", "it", "it"],
+        &["replay", "it", "it", "it"],
         &["info"],
         &["info", ""],
         &["info", "FI_MSG,"],

@@ -1,4 +1,4 @@
-//! Runs each example, one after another, and prints its report behind its name.
+//! Runs each example, one after another, and prints its report behind its name; then checks the report that is kept of it.
 //!
 //! One program for all of them: each program of the repository is built whole, by two compilers.
 #![tactic(auto)]
@@ -12,44 +12,45 @@ use std::sync::Wait;
 use std::thread::Threads;
 use std::{io, rt};
 
-/// The scripts, in the folder in which the program runs.
-const SCRIPTS: [&str; 9] = [
-    "empty.fabric",
-    "canceled.fabric",
-    "stuck.fabric",
-    "levels.fabric",
-    "large.fabric",
-    "looks.fabric",
-    "onesided.fabric",
-    "atomics.fabric",
-    "files.fabric",
+/// The scripts and their reports, in the folder in which the program runs.
+const EXAMPLES: [(&str, &str); 9] = [
+    ("empty.fabric", "empty.report"),
+    ("canceled.fabric", "canceled.report"),
+    ("stuck.fabric", "stuck.report"),
+    ("levels.fabric", "levels.report"),
+    ("large.fabric", "large.report"),
+    ("looks.fabric", "looks.report"),
+    ("onesided.fabric", "onesided.report"),
+    ("atomics.fabric", "atomics.report"),
+    ("files.fabric", "files.report"),
 ];
 
-/// The words of the command that runs a script.
-fn words(alloc: Global, script: &str) -> Result<Vec<Text>, NoMemory> {
-    let mut words = Vec::new(alloc);
-    words.push(Text::copy(alloc, "script")?)?;
-    words.push(Text::copy(alloc, script)?)?;
-    Ok(words)
+/// The words of a command.
+fn texts(alloc: Global, words: &[&str]) -> Result<Vec<Text>, NoMemory> {
+    let mut texts = Vec::new(alloc);
+    for word in words {
+        texts.push(Text::copy(alloc, word)?)?;
+    }
+    Ok(texts)
 }
 
-/// How the run of a script ended.
+/// How a command ended.
 fn ending(status: &Status) -> &'static str {
     match status {
         Status::Done => "done",
         Status::Stuck => "stuck",
-        _ => "no report",
+        _ => "not done",
     }
 }
 
-/// Runs one script.
-fn run_one<R, E: Write + Drop>(rt: &R, errors: E, script: &str) -> io::Result<()>
+/// Carries out one command, behind this name.
+fn run_one<R, E: Write + Drop>(rt: &R, errors: E, name: &str, words: &[&str]) -> io::Result<()>
 where
     R: Files + rt::Clock + Print + AllocGlobal + Threads + Wait + Sync,
 {
     let alloc = rt.alloc();
-    println!(rt; "== {}", script)?;
-    let Ok(words) = words(alloc, script) else {
+    println!(rt; "== {}", name)?;
+    let Ok(words) = texts(alloc, words) else {
         return println!(rt; "no memory");
     };
     let mut depot = FileDepot::new(rt);
@@ -70,8 +71,9 @@ where
 }
 
 fn main(rt: HostRuntime) -> io::Result<()> {
-    for script in SCRIPTS {
-        run_one(&rt, rt.stderr(), script)?;
+    for (script, report) in EXAMPLES {
+        run_one(&rt, rt.stderr(), script, &["script", script])?;
+        run_one(&rt, rt.stderr(), report, &["replay", script, report])?;
     }
     Ok(())
 }

@@ -1,6 +1,5 @@
-use Rattle.std.proofs.Common.{◌≡◌, Some, None, sym, ap, ◌∙◌, rules}
+use Rattle.std.proofs.Common.{◌≡◌, Some, None, sym, ◌∙◌, rules}
 use Rattle.std.specs.Prelude.{find}
-use Rattle.std.specs.Option.{option_map}
 use Rattle.fab_model.specs.Peers.{first_some, released_buf}
 use Rattle.fab_machine.specs.Seen.{state_of}
 use Rattle.fab_replay.specs.Seen.{is_made}

@@ -1,4 +1,4 @@
-use Rattle.std.proofs.Common.{◌≡◌, ℕ, suc, length, Bor, Option, Some, None}
+use Rattle.std.proofs.Common.{◌≡◌, suc, length}
 use Rattle.std.specs.Option.{option_copied, option_map_or}
 use Rattle.fab_model.specs.Words.{pieces_at}
 use Rattle.fab_replay.specs.Reading.{lists_told, pieces_left, behind_all}

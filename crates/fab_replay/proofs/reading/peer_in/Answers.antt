@@ -1,7 +1,5 @@
-use Rattle.std.proofs.Common.{arith, ◌≤◌}
-use Rattle.std.proofs.lemmas.Grind.{common_steps}
+use Rattle.std.proofs.Common.{arith}
 use Rattle.fab_replay.proofs.Numerals.{not_digit, too_great}
-use Rattle.fab_model.specs.Words.{read_decimal}
 use Rattle.fab_replay.proofs.reading.peer_in.Goals as goal
 use Rattle.fab_replay.proofs.reading.peer_in.Goals.{then-not-is_digit-via-then-not-is_digit, then-not-is_digit-via-else-not-is_digit+then-number-from}
 

@@ -1,4 +1,4 @@
-use Rattle.std.proofs.Common.{Some, ◌≡◌, sym, ◌∙◌, ap}
+use Rattle.std.proofs.Common.{sym, ◌∙◌}
 use Rattle.fab_replay.proofs.Telling.{lists_are}
 use Rattle.fab_replay.proofs.reading.read_schedule.Goals as goal
 

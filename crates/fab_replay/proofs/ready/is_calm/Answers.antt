@@ -1,5 +1,4 @@
-use Rattle.std.proofs.Common.{rules, refl}
-use Rattle.fab_replay.specs.Seen.{actors_of}
+use Rattle.std.proofs.Common.{rules}
 use Rattle.fab_replay.proofs.Calm.{calm_is, not_calm}
 use Rattle.fab_replay.proofs.ready.is_calm.Goals as goal
 

@@ -1,4 +1,4 @@
-use Rattle.std.proofs.Common.{◌≡◌, Some, sym, ap, ◌∙◌, rules, get_or, slice_get, arith, ◌<◌, length}
+use Rattle.std.proofs.Common.{◌≡◌, Some, sym, ap, ◌∙◌, rules, get_or, slice_get, ◌<◌, length}
 use Rattle.fab_replay.specs.Seen.{actor_of, actors_of}
 use Rattle.fab_replay.proofs.Replaying.{actor_here, took_true, took_false}
 use Rattle.fab_replay.proofs.Resting.{none_more, none_not, same_after}

@@ -1,4 +1,4 @@
-use Rattle.std.proofs.Common.{◌≡◌, Some, ap, sym, ◌∙◌, rules, length}
+use Rattle.std.proofs.Common.{◌≡◌, Some, sym, ◌∙◌, rules, length}
 use Rattle.fab_model.specs.Orders.{turn, lowest}
 use Rattle.fab_model.specs.Peers.{fabric}
 use Rattle.fab_model.specs.Views.{rule}

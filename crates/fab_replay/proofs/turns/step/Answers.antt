@@ -1,4 +1,4 @@
-use Rattle.std.proofs.Common.{◌≡◌, refl, sym, ap, ◌∙◌, rules, Some, None, slice_get, get_or}
+use Rattle.std.proofs.Common.{◌≡◌, refl, sym, ap, ◌∙◌, rules, None, slice_get, get_or}
 use Rattle.fab_replay.specs.Seen.{actor_of, led}
 use Rattle.fab_replay.proofs.Replaying.{here, actor_here, no_step, stepped, same_steps, same_step}
 use Rattle.fab_replay.proofs.turns.step.Goals as goal

@@ -1,7 +1,7 @@
 use Rattle.std.proofs.Common.{codes}
 use Rattle.fab_model.specs.Negotiation.{all_caps}
 use Rattle.fab_top.specs.Info.{cap_names}
-use Rattle.fab_top.proofs.Blanks.{line_done}
+use Rattle.fab_report.proofs.Blanks.{line_done}
 use Rattle.fab_top.proofs.info.add_caps.Goals as goal
 
 pub returns : goal.returns

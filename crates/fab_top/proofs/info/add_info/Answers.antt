@@ -1,7 +1,7 @@
 use Rattle.std.proofs.Common.{◌≡◌, List, [], ◌∷◌, ◌++◌, codes, string_bytes}
 use Rattle.fab_model.specs.Words.{Word, text_of}
 use Rattle.fab_top.specs.Info.{bytes_line, caps_line, sizes_line}
-use Rattle.fab_top.proofs.Blanks.{part_last}
+use Rattle.fab_report.proofs.Blanks.{part_last}
 use Rattle.fab_top.proofs.Offered.{line_more}
 use Rattle.fab_top.proofs.info.add_info.Goals as goal
 

@@ -1,7 +1,6 @@
 use Rattle.std.proofs.Common.{◌≡◌, ap, ◌∙◌, sym, rules, Some, true, false}
 use Rattle.fab_model.specs.Peers.{with_state}
 use Rattle.fab_model.specs.Arrivals.{do_tail}
-use Rattle.fab_machine.specs.Seen.{state_of}
 use Rattle.fab_replay.specs.Seen.{actor_of}
 use Rattle.fab_replay.proofs.Steps.{tail_by}
 use Rattle.fab_replay.proofs.actor.Actor.completed.Goals as goal

@@ -1,4 +1,4 @@
-use Rattle.std.proofs.Common.{arith, ◌∙◌, rules, ◌≡◌, count_by, take, refl}
+use Rattle.std.proofs.Common.{◌∙◌, rules, count_by, take, refl}
 use Rattle.fab_model.specs.Peers.{is_release}
 use Rattle.fab_replay.specs.Seen.{actor_of}
 use Rattle.fab_replay.proofs.Multis.{only_is, one_more_is, none_is, zero_below}
