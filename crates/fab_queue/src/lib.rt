@@ -14,3 +14,6 @@
 mod inlet;
 mod lane;
 mod outlet;
+mod port;
+
+pub use port::QueuePort;
