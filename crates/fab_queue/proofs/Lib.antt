@@ -1,3 +1,4 @@
 mod Lanes
 mod Ends
 mod Told
+mod Clauses

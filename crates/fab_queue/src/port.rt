@@ -17,6 +17,7 @@ use fab_base::FrameRef;
 use fab_link::PostRefused;
 use fab_record::record::{Begins, Change, Record};
 use fab_wire::Move;
+use std::alloc::Global;
 use std::marker::Model;
 use std::sync::Wait;
 
@@ -57,10 +58,10 @@ const MOST: u64 = 1 << 62;
 
 /// A port over queues: one peer's end of the lanes to and from every peer.
 ///
-/// Its calls are given no runtime, so it keeps the one that it was made with.
+/// Its calls are given no runtime, so it keeps that with which it was made.
 #[derive(Drop)]
-pub struct QueuePort<'a, R: Wait + Sync> {
-    pub(crate) rt: &'a R,
+pub struct QueuePort<R: Wait + Copy> {
+    pub(crate) rt: R,
     pub(crate) me: u32,
     /// The greatest number of a frame that was posted or taken.
     pub(crate) clock: u64,
@@ -69,7 +70,7 @@ pub struct QueuePort<'a, R: Wait + Sync> {
     pub(crate) moves: Record<(), Moves, Unmoved>,
 }
 
-impl<'a, R: Wait + Sync> Model for QueuePort<'a, R> {
+impl<R: Wait + Copy> Model for QueuePort<R> {
     ghost use Rattle.fab_queue.specs.Ports.{Queued, IsTold};
 
     ghost Value = { Queued };
@@ -79,7 +80,7 @@ impl<'a, R: Wait + Sync> Model for QueuePort<'a, R> {
     ghost invariant = { λ a. IsTold a.clock (record { number = a.me; outs = a.outs.items; ins = a.ins.items; moves = a.moves }) };
 }
 
-impl<'a, R: Wait + Sync> QueuePort<'a, R> {
+impl<R: Wait + Copy> QueuePort<R> {
     /// This peer's number.
     pub(crate) fn number(&self) -> u32
         ensures { result ≡ self.now.number }
@@ -92,6 +93,11 @@ impl<'a, R: Wait + Sync> QueuePort<'a, R> {
         ensures { result ≡ length self.now.outs }
     {
         self.outs.len() as u32
+    }
+
+    /// Where its lists have their memory.
+    pub(crate) fn alloc(&self) -> Global {
+        *self.outs.allocator()
     }
 
     /// The number of the next frame, unless it would be too great.
@@ -128,7 +134,7 @@ impl<'a, R: Wait + Sync> QueuePort<'a, R> {
         ensures err { OnErr result (IsErrOf result PostRefused.LaneFull) }
     {
         let number = sent.number;
-        let Ok(()) = self.outs[dest as usize].post(self.rt, sent) else {
+        let Ok(()) = self.outs[dest as usize].post(&self.rt, sent) else {
             return Err(PostRefused::LaneFull);
         };
         self.clock = number;
@@ -138,16 +144,17 @@ impl<'a, R: Wait + Sync> QueuePort<'a, R> {
 
     /// Looks for the next frame of a peer, unless one is lent.
     pub(crate) fn look(&mut self, src: u32)
-        requires { src < length self.old.ins }
+        requires { src < length self.old.outs }
+        ensures within { src < length self.old.ins }
         ensures one { Looked (in_at self.old src) (in_at self.new src) }
         ensures rest { self.new ≡ with_in self.old src (in_at self.new src) self.old.moves }
     {
-        self.ins[src as usize].look(self.rt);
+        self.ins[src as usize].look(&self.rt);
     }
 
     /// The frame of a peer that is lent.
     pub(crate) fn lent(&self, src: u32) -> Option<FrameRef<'_>>
-        requires { src < length self.now.ins }
+        requires { src < length self.now.outs }
         ensures lent { lent_frames result ≡ (in_of self.now src).lent }
         ensures next { IfSome result (λ f. MayCome (taken_end (in_of self.now src)) (lent_frame f)) }
     {
@@ -156,9 +163,10 @@ impl<'a, R: Wait + Sync> QueuePort<'a, R> {
 
     /// Steps over the frame of a peer that is lent.
     pub(crate) fn take(&mut self, src: u32)
-        requires below { src < length self.old.ins }
+        requires below { src < length self.old.outs }
         requires lent { IsSome (in_at self.old src).lent }
-        ensures { (x : Sent) → (in_at self.old src).lent ≡ Some x
+        ensures within { src < length self.old.ins }
+        ensures taken { (x : Sent) → (in_at self.old src).lent ≡ Some x
             → self.new ≡ with_in self.old src (taken_one (in_at self.old src) x) (self.old.moves ++ Take src x.number ∷ []) }
     {
         let number = self.ins[src as usize].advance();
