@@ -1,3 +1,4 @@
 pub mod Lanes
 pub mod Ends
 pub mod Ports
+pub mod Laid

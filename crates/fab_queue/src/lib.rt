@@ -13,6 +13,7 @@
 
 mod inlet;
 mod lane;
+mod laying;
 mod meaning;
 mod outlet;
 mod port;
