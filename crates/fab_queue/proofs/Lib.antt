@@ -2,3 +2,6 @@ mod Lanes
 mod Ends
 mod Told
 mod Clauses
+mod Members
+mod Growing
+mod Opening

@@ -2,3 +2,4 @@ pub mod Lanes
 pub mod Ends
 pub mod Ports
 pub mod Laid
+pub mod Made

@@ -17,5 +17,7 @@ mod laying;
 mod meaning;
 mod outlet;
 mod port;
+mod queues;
 
 pub use port::QueuePort;
+pub use queues::Queues;
