@@ -5,3 +5,5 @@ mod Clauses
 mod Members
 mod Growing
 mod Opening
+mod Draining
+mod Succeeding

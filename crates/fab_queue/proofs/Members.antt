@@ -1,5 +1,6 @@
 -- The members of lists of lists.
-use Rattle.std.proofs.Common.{◌≡◌, ◌≢◌, ℕ, zero, suc, ◌<◌, ◌≤◌, List, [], ◌∷◌, ◌++◌, length, set, get_or, sym, refl, ap, ◌∙◌, subst, arith}
+use Rattle.std.proofs.Common.{◌≡◌, ◌≢◌, ℕ, zero, suc, ◌+◌, ◌<◌, ◌≤◌, List, [], ◌∷◌, ◌++◌, length, take, drop, set, get_or, sym, refl, ap, ◌∙◌, subst, arith, length-append, append-nil}
+use Rattle.std.proofs.lemmas.List.{take_all, drop_all}
 use Rattle.std.specs.Prelude.{Vec}
 use Rattle.std.specs.declared.alloc.Global.{Global}
 use Rattle.fab_queue.specs.Laid.{members}
@@ -38,3 +39,13 @@ module _ {X : Type 0} where
   members_push_none [] v none all (suc k) = refl
   members_push_none (x ∷ xs) v none all zero = all 0
   members_push_none (x ∷ xs) v none all (suc k) = members_push_none xs v none (λ j. all (suc j)) k
+
+  pub members_of : (vs : List (Vec X Global)) (d : Vec X Global) (k : ℕ) → k < length vs → (get_or vs k d).items ≡ members vs k
+  members_of vs d k near = members_at vs (get_or vs k d) d k near refl
+
+  pub none_more : (vs : List (Vec X Global)) (v : Vec X Global) (n : ℕ) → (length vs ≡ n) × ((k : ℕ) → members vs k ≡ []) → v.items ≡ [] → (length (vs ++ v ∷ []) ≡ n + 1) × ((k : ℕ) → members (vs ++ v ∷ []) k ≡ [])
+  none_more vs v n all none = (length-append vs (v ∷ []) ∙ ap (λ (z : ℕ). z + 1) all.0, members_push_none vs v none all.1)
+
+-- a slice of a list, written back
+pub written_back : {X : Type 0} (old new : List X) (n : ℕ) → length new ≡ length old → n ≡ length old → take n (new ++ drop (length new) old) ≡ new
+written_back {X = X} old new n same e = ap (λ (z : List X). take n (new ++ z)) (drop_all (length new) old (omega (arith, same))) ∙ ap (take n) (append-nil new) ∙ take_all n new (omega (arith, same, e))

@@ -61,13 +61,13 @@ module _ (room peers : ℕ) (outs : List (Vec Out Global)) (ins : List (Vec In G
   pub out_new : (s d : ℕ) → s < peers → (a : TableId) × (r : ℕ) × (out_in (row outs s) d ≡ new_out a r)
   out_new s d near = elim (dec_le peers d) [
     | Prim.yes far ↦ (no_lane, 0, get_or-eq_default (row outs s) (new_out no_lane 0) (subst (λ (z : ℕ). z ≤ d) (sym (k.each_row s near)) far))
-    | Prim.no low ↦ let there = k.each s d near (omega (arith, low)) in (there.0, room, there.1)
+    | Prim.no low ↦ let there = k.each s d near (omega (arith, low)) in ((in_in (column ins d) s).lane, room, there.0)
   ]
 
   pub in_new : (s d : ℕ) → d < peers → (a : TableId) × (in_in (column ins d) s ≡ new_in a)
   in_new s d near = elim (dec_le peers s) [
     | Prim.yes far ↦ (no_lane, get_or-eq_default (column ins d) (new_in no_lane) (subst (λ (z : ℕ). z ≤ s) (sym (k.each_column d near)) far))
-    | Prim.no low ↦ let there = k.each s d (omega (arith, low)) near in (there.0, there.2)
+    | Prim.no low ↦ let there = k.each s d (omega (arith, low)) near in ((in_in (column ins d) s).lane, there.1)
   ]
 
   pub empty_ends : (me : ℕ) → me < peers → AreEmpty (row outs me) (column ins me)
@@ -79,9 +79,9 @@ module _ (room peers : ℕ) (outs : List (Vec Out Global)) (ins : List (Vec In G
         count = o.count;
         numbers = λ j p there. ap (λ (q : Queued). q.number) (o.each j p there);
         sizes = λ j p there. let is = o.each j p there in
-            (ap (λ (q : Queued). length q.outs) is ∙ k.each_row j (low j p there), λ d near. ap (λ (q : Queued). (out_in q.outs d).room) is ∙ ap (λ (z : Out). z.room) (k.each j d (low j p there) near).1);
+            (ap (λ (q : Queued). length q.outs) is ∙ k.each_row j (low j p there), λ d near. ap (λ (q : Queued). (out_in q.outs d).room) is ∙ ap (λ (z : Out). z.room) (k.each j d (low j p there) near).0);
         joined = λ s d a b at_s at_d. let laid = k.each s d (low s a at_s) (low d b at_d) in
-            ap (λ (q : Queued). (out_in q.outs d).lane) (o.each s a at_s) ∙ ap (λ (z : Out). z.lane) laid.1 ∙ sym (ap (λ (z : In). z.lane) laid.2) ∙ sym (ap (λ (q : Queued). (in_in q.ins s).lane) (o.each d b at_d));
+            ap (λ (q : Queued). (out_in q.outs d).lane) (o.each s a at_s) ∙ ap (λ (z : Out). z.lane) laid.0 ∙ sym (ap (λ (q : Queued). (in_in q.ins s).lane) (o.each d b at_d));
         fresh = λ j p there. let is = o.each j p there in let near = low j p there in (
           ap (λ (q : Queued). q.moves) is,
           λ d. let a = out_new j d near in let b = in_new d j near in

@@ -5,7 +5,6 @@
 --     AreLaid               so have the first m peers to all
 use Rattle.std.specs.Prelude.{◌≡◌, ℕ, zero, suc, ◌<◌, ◌≤◌, List, [], ◌∷◌, ◌++◌, length, slice_index_or, Vec}
 use Rattle.std.specs.declared.alloc.Global.{Global}
-use Rattle.atomic_table.specs.Seated.{TableId}
 use Rattle.fab_queue.specs.Ends.{Out, In, new_out, new_in}
 use Rattle.fab_queue.specs.Ports.{no_lane}
 
@@ -29,7 +28,7 @@ in_in xs s = slice_index_or xs s (new_in no_lane)
 
 -- the ends of one lane, which is empty and never was full
 abbrev pub IsLaid : ℕ → Out → In → Type 0
-IsLaid room o i = (lane : TableId) × (o ≡ new_out lane room) × (i ≡ new_in lane)
+IsLaid room o i = (o ≡ new_out i.lane room) × (i ≡ new_in i.lane)
 
 pub record AreLaidFrom (room : ℕ) (old new : List (Vec In Global)) (outs : List Out) (n : ℕ) : Type 0 where
   pub count : length new ≡ length old

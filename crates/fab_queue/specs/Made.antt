@@ -11,6 +11,11 @@ use Rattle.fab_queue.specs.Ends.{Out, In}
 use Rattle.fab_queue.specs.Ports.{Queued, out_at, in_at, out_of, in_of, number_of, peers_of, room_of, moves_of, lanes_of}
 use Rattle.fab_queue.specs.Laid.{members, out_in, in_in}
 
+-- the lanes between so many peers, of so many frames each
+pub record Between : Type 0 where
+  pub peers : ℕ
+  pub lane : ℕ
+
 -- nothing was posted or taken at these ends
 abbrev pub AreEmpty : List Out → List In → Type 0
 AreEmpty outs ins = ((d : ℕ) → (out_in outs d).posted ≡ []) × ((s : ℕ) → (in_in ins s).taken ≡ [])

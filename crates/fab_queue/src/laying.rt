@@ -1,8 +1,6 @@
 //! How the lanes between all peers are made.
 ghost use Rattle.std.specs.Prelude.{◌≡◌, ℕ, ◌<◌, ◌≤◌, [], IfOk, length};
-ghost use Rattle.atomic_table.specs.Seated.{TableId};
-ghost use Rattle.fab_queue.specs.Ends.{new_out, new_in};
-ghost use Rattle.fab_queue.specs.Laid.{column, AreLaidFrom, AreLaid};
+ghost use Rattle.fab_queue.specs.Laid.{column, IsLaid, AreLaidFrom, AreLaid};
 
 use crate::inlet::Inlet;
 use crate::lane::open_lane;
@@ -18,7 +16,7 @@ pub(crate) type AllEnds = (Vec<Vec<Outlet>>, Vec<Vec<Inlet>>);
 /// A lane of so many frames: the end at which one peer posts, and that at which another takes.
 fn lay(alloc: Global, room: u32) -> Result<(Outlet, Inlet), NoMemory>
     requires { (0 < room) × (room ≤ 1024) }
-    ensures { IfOk result (λ e. (lane : TableId) × (e.0 ≡ new_out lane room) × (e.1 ≡ new_in lane)) }
+    ensures { IfOk result (λ e. IsLaid room e.0 e.1) }
 {
     let (lane, writer, reader) = open_lane(alloc, room)?;
     let lane = Arc::new(alloc, lane)?;

@@ -11,6 +11,7 @@
 //! inside the lanes.
 #![tactic(auto)]
 
+mod emptying;
 mod inlet;
 mod lane;
 mod laying;

@@ -1,5 +1,5 @@
 //! The lanes between all peers, and their ports.
-ghost use Rattle.std.specs.Prelude.{◌≡◌, ◌^◌, ◌<◌, ◌≤◌, IfOk, length};
+ghost use Rattle.std.specs.Prelude.{◌≡◌, ℕ, ◌^◌, ◌<◌, ◌≤◌, IfOk, length};
 ghost use Rattle.fab_queue.specs.Laid.{AreLaid};
 ghost use Rattle.fab_queue.specs.Made.{IsOpened, AreEmpty, AreMade};
 
@@ -10,6 +10,7 @@ use crate::port::QueuePort;
 use fab_base::NoMemory;
 use fab_record::record::Record;
 use std::alloc::Global;
+use std::marker::Model;
 use std::mem;
 use std::sync::Wait;
 
@@ -21,7 +22,18 @@ pub struct Queues<R: Wait + Copy> {
     lane: u32,
     outs: Vec<Vec<Outlet>>,
     ins: Vec<Vec<Inlet>>,
-    ghost laid: { AreLaid lane peers peers outs.items ins.items },
+}
+
+impl<R: Wait + Copy> Model for Queues<R> {
+    ghost use Rattle.std.specs.Prelude.{◌≤◌};
+    ghost use Rattle.fab_queue.specs.Made.{Between};
+    ghost use Rattle.fab_queue.specs.Laid.{AreLaid};
+
+    ghost Value = { Between };
+
+    ghost view = { λ a. record { peers = a.peers; lane = a.lane } };
+
+    ghost invariant = { λ a. (a.peers ≤ 32) × AreLaid a.lane a.peers a.peers a.outs.items a.ins.items };
 }
 
 impl<R: Wait + Copy> QueuePort<R> {
@@ -74,17 +86,31 @@ impl<R: Wait + Copy> Queues<R> {
         let Queues {
             rt,
             peers,
-            mut outs,
-            mut ins,
+            outs,
+            ins,
             ..
         } = self;
-        let mut all = Vec::with_capacity(alloc, peers as usize)?;
-        for me in 0..peers {
-            let own_outs = mem::replace(&mut outs[me as usize], Vec::new(alloc));
-            let own_ins = mem::replace(&mut ins[me as usize], Vec::new(alloc));
-            let port = QueuePort::open(alloc, rt, me, own_outs, own_ins)?;
-            all.push(port)?;
-        }
-        Ok(all)
+        open_all(alloc, rt, peers, outs, ins)
     }
+}
+
+/// A port over the ends of each peer's lanes, of which none was used.
+fn open_all<R: Wait + Copy>(
+    alloc: Global,
+    rt: R,
+    peers: u32,
+    mut outs: Vec<Vec<Outlet>>,
+    mut ins: Vec<Vec<Inlet>>,
+) -> Result<Vec<QueuePort<R>>, NoMemory>
+    requires { (room : ℕ) × AreLaid room peers peers outs.items ins.items }
+    ensures { (room : ℕ) → AreLaid room peers peers outs.items ins.items → IfOk result (λ v. AreMade peers room v.items) }
+{
+    let mut all = Vec::with_capacity(alloc, peers as usize)?;
+    for me in 0..peers {
+        let own_outs = mem::replace(&mut outs[me as usize], Vec::new(alloc));
+        let own_ins = mem::replace(&mut ins[me as usize], Vec::new(alloc));
+        let port = QueuePort::open(alloc, rt, me, own_outs, own_ins)?;
+        all.push(port)?;
+    }
+    Ok(all)
 }

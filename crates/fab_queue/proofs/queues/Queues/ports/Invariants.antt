@@ -1,5 +1,0 @@
-use Rattle.fab_queue.specs.Made.{AreOpened}
-use Rattle.fab_queue.proofs.queues.Queues.ports.Given as goal
-
-abbrev pub invariant-loop-me : goal.invariant-loop-me
-invariant-loop-me g l = AreOpened l.fn.self.outs.items l.outs.items l.fn.self.ins.items l.ins.items l.all.items l.me
