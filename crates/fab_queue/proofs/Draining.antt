@@ -60,6 +60,9 @@ emptying_goes_on v before w w' frames capacity x k one = let first = one.first k
   room = (let a = length_more frames x.frame in let b = k.room in omega (arith, a, b, less));
 }
 
+pub emptying_wider : (v : Log) (before : List Frame) (w : Log) (frames : List Frame) (capacity wider : ℕ) → capacity ≤ wider → Emptying v before w frames capacity → Emptying v before w frames wider
+emptying_wider v before w frames capacity wider wide k = record { since = k.since; left = k.left; puts = k.puts; gets = k.gets; same = k.same; got = k.got; whole = k.whole; cut = k.cut; frames_are = k.frames_are; room = (let a = k.room in omega (arith, a, wide)) }
+
 -- there is room for the next frame
 pub has_room : (v : Log) (before : List Frame) (w w' : Log) (frames : List Frame) (capacity : ℕ) (x : Sent) → Emptying v before w frames capacity → GotOne w x w' → length frames < capacity
 has_room v before w w' frames capacity x k one = let first = one.first k.puts in let less = one_less w.put w.got x k.left first.0 (k.same ∙ k.whole) first.1 in let b = k.room in omega (arith, b, less)

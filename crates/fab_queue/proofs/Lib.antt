@@ -7,3 +7,6 @@ mod Growing
 mod Opening
 mod Draining
 mod Succeeding
+mod Receiving
+mod Rooming
+mod Gathering

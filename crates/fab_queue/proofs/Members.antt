@@ -46,6 +46,10 @@ module _ {X : Type 0} where
   pub none_more : (vs : List (Vec X Global)) (v : Vec X Global) (n : ℕ) → (length vs ≡ n) × ((k : ℕ) → members vs k ≡ []) → v.items ≡ [] → (length (vs ++ v ∷ []) ≡ n + 1) × ((k : ℕ) → members (vs ++ v ∷ []) k ≡ [])
   none_more vs v n all none = (length-append vs (v ∷ []) ∙ ap (λ (z : ℕ). z + 1) all.0, members_push_none vs v none all.1)
 
+  pub members_seam : (vs : List (Vec X Global)) (v : Vec X Global) (ws : List (Vec X Global)) → members (vs ++ v ∷ ws) (length vs) ≡ v.items
+  members_seam [] v ws = refl
+  members_seam (x ∷ xs) v ws = members_seam xs v ws
+
 -- a slice of a list, written back
 pub written_back : {X : Type 0} (old new : List X) (n : ℕ) → length new ≡ length old → n ≡ length old → take n (new ++ drop (length new) old) ≡ new
 written_back {X = X} old new n same e = ap (λ (z : List X). take n (new ++ z)) (drop_all (length new) old (omega (arith, same))) ∙ ap (take n) (append-nil new) ∙ take_all n new (omega (arith, same, e))

@@ -1,6 +1,6 @@
 //! How the lanes between all peers are made.
 ghost use Rattle.std.specs.Prelude.{◌≡◌, ℕ, ◌<◌, ◌≤◌, [], IfOk, length};
-ghost use Rattle.fab_queue.specs.Laid.{column, IsLaid, AreLaidFrom, AreLaid};
+ghost use Rattle.fab_queue.specs.Laid.{members, IsLaid, AreLaidFrom, AreLaid};
 
 use crate::inlet::Inlet;
 use crate::lane::open_lane;
@@ -57,16 +57,16 @@ fn lay_from(
     Ok(outs)
 }
 
-/// So many lists of inlets, with none in any.
-fn no_inlets(alloc: Global, peers: u32) -> Result<Vec<Vec<Inlet>>, NoMemory>
-    ensures count { IfOk result (λ v. length v.items ≡ peers) }
-    ensures none { IfOk result (λ v. (d : ℕ) → column v.items d ≡ []) }
+/// So many lists, with no member in any.
+pub(crate) fn no_lists<T: Drop>(alloc: Global, count: u32) -> Result<Vec<Vec<T>>, NoMemory>
+    ensures count { IfOk result (λ v. length v.items ≡ count) }
+    ensures none { IfOk result (λ v. (k : ℕ) → members v.items k ≡ []) }
 {
-    let mut ins = Vec::with_capacity(alloc, peers as usize)?;
-    for _peer in 0..peers {
-        ins.push(Vec::new(alloc))?;
+    let mut lists = Vec::with_capacity(alloc, count as usize)?;
+    for _list in 0..count {
+        lists.push(Vec::new(alloc))?;
     }
-    Ok(ins)
+    Ok(lists)
 }
 
 /// The lanes between so many peers.
@@ -74,7 +74,7 @@ pub(crate) fn lay_all(alloc: Global, peers: u32, room: u32) -> Result<AllEnds, N
     requires { (0 < room) × (room ≤ 1024) }
     ensures { IfOk result (λ e. AreLaid room peers peers e.0.items e.1.items) }
 {
-    let mut ins = no_inlets(alloc, peers)?;
+    let mut ins = no_lists::<Inlet>(alloc, peers)?;
     let mut outs = Vec::with_capacity(alloc, peers as usize)?;
     for _peer in 0..peers {
         let own = lay_from(alloc, room, ins.as_mut_slice())?;

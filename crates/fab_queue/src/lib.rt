@@ -12,6 +12,7 @@
 #![tactic(auto)]
 
 mod emptying;
+mod gathering;
 mod inlet;
 mod lane;
 mod laying;
@@ -19,6 +20,8 @@ mod meaning;
 mod outlet;
 mod port;
 mod queues;
+mod rooms;
 
+pub use gathering::{QueuesRefused, gather};
 pub use port::QueuePort;
 pub use queues::Queues;
