@@ -9,4 +9,4 @@ mod Draining
 mod Succeeding
 mod Receiving
 mod Rooming
-mod Gathering
+mod Coming
