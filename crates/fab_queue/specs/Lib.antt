@@ -3,4 +3,3 @@ pub mod Ends
 pub mod Ports
 pub mod Laid
 pub mod Made
-pub mod Gather
