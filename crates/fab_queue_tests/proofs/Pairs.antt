@@ -1,11 +1,10 @@
 -- Two ports, together.
-use Rattle.std.proofs.Common.{◌≡◌, ℕ, zero, suc, ◌<◌, List, [], ◌∷◌, ◌++◌, length, sym, refl, ap, ◌∙◌, subst, arith, length-append, Some, None}
+use Rattle.std.proofs.Common.{◌≡◌, ℕ, suc, List, [], ◌∷◌, ◌++◌, length, sym, refl, ap, ◌∙◌, subst, arith, length-append, Some, None}
 use Rattle.std.specs.Prelude.{slice_get}
-use Rattle.std.proofs.lemmas.Option.{none-some, same_Some, slice_get_within}
 use Rattle.fab_wire.specs.Cut.{IsBetweenItems}
 use Rattle.fab_wire.specs.Frames.{last_head}
 use Rattle.fab_link.specs.Meaning.{Outgoing, end_of}
-use Rattle.fab_queue.specs.Ports.{Queued, number_of, peers_of, lanes_of, out_of}
+use Rattle.fab_queue.specs.Ports.{Queued, lanes_of, out_of}
 use Rattle.fab_queue.specs.Made.{AreMade}
 use Rattle.fab_queue_tests.specs.Pair.{IsEnd, ArePaired}
 
