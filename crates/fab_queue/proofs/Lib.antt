@@ -1,0 +1,7 @@
+mod Lanes
+mod Ends
+mod Told
+mod Clauses
+mod Members
+mod Growing
+mod Opening

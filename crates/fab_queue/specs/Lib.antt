@@ -1,0 +1,5 @@
+pub mod Lanes
+pub mod Ends
+pub mod Ports
+pub mod Laid
+pub mod Made

@@ -1,0 +1,21 @@
+-- A whole message leaves its lane between items.
+use Rattle.std.proofs.Common.{◌≡◌, ◌≢◌, ℕ, [], ◌∷◌, ◌++◌, sym, ap, ◌∙◌, subst, Ok, Err}
+use mathlib.Core.Logic.{dite}
+use native.Mathlib.Decide.{ℕ_discrete}
+use Rattle.std.specs.Prelude.{Result, OnOk, OnErr}
+use Rattle.fab_base.specs.declared.frames.Frame.{Frame}
+use Rattle.fab_wire.specs.Frames.{IsLast, last_head}
+use Rattle.fab_wire.specs.Cut.{IsBetweenItems}
+use Rattle.fab_wire.proofs.Lanes.{last_head-push}
+use Rattle.fab_link.specs.declared.port.PostRefused.{PostRefused}
+use Rattle.fab_link.specs.Meaning.{Outgoing, end_of}
+
+between_by : (o o' : Outgoing) (f : Frame) (r : Result (Unit {0}) PostRefused) → OnOk r (o'.frames ≡ o.frames ++ f ∷ []) → OnErr r (o'.frames ≡ o.frames) → o'.after ≡ o.after → IsBetweenItems (end_of o) → IsLast f.head → IsBetweenItems (end_of o')
+between_by o o' f (Ok u) ok err after was last = subst IsBetweenItems (sym (ap (last_head o'.after) ok ∙ last_head-push o'.after o.frames f)) last
+between_by o o' f (Err e) ok err after was last = subst IsBetweenItems (λ i. last_head (sym after i) (sym err i)) was
+
+pub between_after : (old new : ℕ → Outgoing) (dest : ℕ) (f : Frame) (r : Result (Unit {0}) PostRefused) → OnOk r ((new dest).frames ≡ (old dest).frames ++ f ∷ []) → OnErr r ((new dest).frames ≡ (old dest).frames) → (new dest).after ≡ (old dest).after
+    → ((d : ℕ) → d ≢ dest → new d ≡ old d) → ((d : ℕ) → IsBetweenItems (end_of (old d))) → IsLast f.head → (d : ℕ) → IsBetweenItems (end_of (new d))
+between_after old new dest f r ok err after others was last d = dite (ℕ_discrete d dest)
+    (λ is. subst (λ (z : ℕ). IsBetweenItems (end_of (new z))) (sym is) (between_by (old dest) (new dest) f r ok err after (was dest) last))
+    (λ ne. subst IsBetweenItems (ap end_of (sym (others d ne))) (was d))
