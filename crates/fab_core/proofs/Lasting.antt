@@ -1,6 +1,6 @@
 -- What holds of multi-receives, as the calls of a core find it and leave it.
-use Rattle.std.proofs.Common.{◌≡◌, ℕ, ◌+◌, ◌≤◌, List, [], ◌∷◌, ◌++◌, true, false, Option, Some, None, refl, sym, ap, subst, ◌∙◌, arith}
-use Rattle.std.specs.Prelude.{find, is_some, OnErr, OnOk, Result, Ok, Err}
+use Rattle.std.proofs.Common.{◌≡◌, ℕ, ◌+◌, ◌≤◌, List, [], ◌∷◌, ◌++◌, length, true, false, Option, Some, None, refl, sym, ap, subst, ◌∙◌, arith}
+use Rattle.std.specs.Prelude.{find, is_some, slice_index, OnErr, OnOk, Result, Ok, Err}
 use Rattle.std.specs.Option.{option_map}
 use Rattle.std.proofs.lemmas.List.Elements.{All-nil}
 use Rattle.fab_base.specs.declared.entries.Entry.{Entry}
@@ -9,6 +9,7 @@ use Rattle.fab_base.specs.declared.entries.ErrKind.TheVariants.{Canceled}
 use Rattle.fab_base.specs.declared.entries.Taken.{Taken}
 use Rattle.fab_base.specs.declared.entries.Taken.TheVariants.{Success, Failure}
 use Rattle.fab_base.specs.declared.faults.Fault.{Fault}
+use Rattle.fab_base.specs.declared.faults.Fault.TheVariants.{Avail, NoEntry}
 use Rattle.fab_base.specs.declared.faults.NoMemory.{NoMemory}
 use Rattle.fab_base.specs.declared.items.Item.{Item}
 use Rattle.fab_base.specs.declared.items.ItemHead.{ItemHead}
@@ -18,13 +19,13 @@ use Rattle.fab_base.specs.declared.operations.Coming.{Coming}
 use Rattle.fab_base.specs.declared.operations.Operation.{Operation}
 use Rattle.fab_base.specs.declared.operations.Receive.{Receive}
 use Rattle.fab_base.specs.declared.operations.Written.{Written}
-use Rattle.fab_model.specs.State.{Completions, Receiving, Transmitting, writing}
+use Rattle.fab_model.specs.State.{Completions, Receiving, Transmitting, coming_from, writing}
 use Rattle.fab_model.specs.Complete.{at_match, error}
 use Rattle.fab_model.specs.Receiving.{cancellable, without_posted}
 use Rattle.fab_model.specs.Peers.{unread}
 use Rattle.fab_model.specs.Sending.{accepting, ending}
 use Rattle.fab_cq.specs.Queues.{error_of, nothing_written, success_of, taking_out}
-use Rattle.fab_rx.specs.Arriving.{Arriving, arriving, nothing_arrived}
+use Rattle.fab_rx.specs.Arriving.{Arriving, arriving, begun_of, nothing_arrived, with_receiving}
 use Rattle.fab_rx.specs.Results.{cancelled, completed, posted_as}
 use Rattle.fab_rx.specs.Leaving.{is_meant}
 use Rattle.fab_rx.specs.declared.results.Cancelled.{Cancelled}
@@ -34,11 +35,14 @@ use Rattle.fab_rx.specs.declared.results.Posted.TheVariants.{GoesOn, Joined, Who
 use Rattle.fab_rx.proofs.Known.{none_in_row}
 use Rattle.fab_tx.specs.Transit.{Transit, ended, finishing, nothing_accepted}
 use Rattle.fab_tx.specs.declared.results.Ended.{Ended}
-use Rattle.fab_core.specs.Parts.{Parts}
+use Rattle.fab_face.specs.Acts.{has_read}
+use Rattle.fab_face.specs.Answers.{PopsNot}
+use Rattle.fab_core.specs.Parts.{IsFitting, IsTogether, Parts, held_of, owed}
 use Rattle.fab_core.specs.Doing.{entry_at_end, given_found, received, written_if}
 use Rattle.fab_core.specs.Multis.{read_by}
 use Rattle.fab_core.specs.Lent.{IsComingIn, IsLent, IsLentBy, IsOther}
 use Rattle.fab_core.proofs.Lending.{lent_read}
+use Rattle.fab_core.proofs.Together.{together_with}
 use Rattle.fab_core.proofs.Posting.{left_lent}
 use Rattle.fab_core.proofs.Standing.{accepted_lent, heading_lent, sent_lent}
 
@@ -118,6 +122,55 @@ module _ (p : Parts) (ok : IsLentBy p) where
       by : (o : Option Written) → unread p.cq ≡ o → IsLent p.rx.rx p.rx.multis p.tx.tx.live (taking_out p.cq) p.calls (read_by (unread p.cq) p.multis)
       by None none = let no = is ∙ ap error_of none in absurd (cc)
       by (Some w) first = read_lent w first
+
+  -- what is left of it
+  abbrev read_from : Parts
+  read_from = record p { cq = taking_out p.cq; multis = read_by (unread p.cq) p.multis }
+
+  read_is : (entry : Taken) (w : Written) → unread p.cq ≡ Some w → w.entry ≡ entry → (w : Written) × (unread p.cq ≡ Some w) × (w.entry ≡ entry) × (held_of read_from ≡ has_read w (held_of p))
+  read_is entry w first is = (w, first, is, ap (λ (o : Option Written). held_of (record p { cq = taking_out p.cq; multis = read_by o p.multis })) first)
+
+  pub popped_is : (entry : Entry) → Ok entry ≡ success_of (unread p.cq) → (w : Written) × (unread p.cq ≡ Some w) × (w.entry ≡ Success entry) × (held_of read_from ≡ has_read w (held_of p))
+  popped_is entry is = by (unread p.cq) refl
+    where
+      of : (w : Written) (e : Taken) → w.entry ≡ e → Ok entry ≡ success_of (Some w) → w.entry ≡ Success entry
+      of w (Success x) e same = let both : Ok entry ≡ Ok x = rw e at same in let one : entry ≡ x = cc in e ∙ ap (λ (x : Entry). Success x) (sym one)
+      of w (Failure x) e same = let no = rw e at same in absurd (cc)
+
+      by : (o : Option Written) → unread p.cq ≡ o → (w : Written) × (unread p.cq ≡ Some w) × (w.entry ≡ Success entry) × (held_of read_from ≡ has_read w (held_of p))
+      by None none = let no = is ∙ ap success_of none in absurd (cc)
+      by (Some w) first = read_is (Success entry) w first (of w w.entry refl (is ∙ ap success_of first))
+
+  pub popped_error_is : (entry : ErrEntry) → Ok entry ≡ error_of (unread p.cq) → (w : Written) × (unread p.cq ≡ Some w) × (w.entry ≡ Failure entry) × (held_of read_from ≡ has_read w (held_of p))
+  popped_error_is entry is = by (unread p.cq) refl
+    where
+      of : (w : Written) (e : Taken) → w.entry ≡ e → Ok entry ≡ error_of (Some w) → w.entry ≡ Failure entry
+      of w (Failure x) e same = let both : Ok entry ≡ Ok x = rw e at same in let one : entry ≡ x = cc in e ∙ ap (λ (x : ErrEntry). Failure x) (sym one)
+      of w (Success x) e same = let no = rw e at same in absurd (cc)
+
+      by : (o : Option Written) → unread p.cq ≡ o → (w : Written) × (unread p.cq ≡ Some w) × (w.entry ≡ Failure entry) × (held_of read_from ≡ has_read w (held_of p))
+      by None none = let no = is ∙ ap error_of none in absurd (cc)
+      by (Some w) first = read_is (Failure entry) w first (of w w.entry refl (is ∙ ap error_of first))
+
+pub pops_not : (cq : Completions) (why : Fault) → Err why ≡ success_of (unread cq) → PopsNot cq why
+pops_not cq why is = by (unread cq) refl
+  where
+    of : (w : Written) → unread cq ≡ Some w → (e : Taken) → w.entry ≡ e → Err why ≡ success_of (Some w) → PopsNot cq why
+    of w first (Success x) e same = let no = rw e at same in absurd (cc)
+    of w first (Failure x) e same = let both : Err why ≡ Err Avail = rw e at same in let one : why ≡ Avail = cc in subst (PopsNot cq) (sym one) (w, first, (x, e))
+
+    by : (o : Option Written) → unread cq ≡ o → PopsNot cq why
+    by None none = let both : Err why ≡ Err NoEntry = is ∙ ap success_of none in let one : why ≡ NoEntry = cc in subst (PopsNot cq) (sym one) none
+    by (Some w) first = of w first w.entry refl (is ∙ ap success_of first)
+
+-- a posted receive leaves, and the parts belong together
+pub left_together : (p q : Parts) → IsTogether p → (ctx : Option ℕ) → q.rx ≡ with_receiving (without_posted (is_meant ctx) p.rx.rx) p.rx → q.cq.size ≡ p.cq.size → q.tx ≡ p.tx → q.av ≡ p.av → q.calls ≡ p.calls + 1 → IsTogether q
+left_together p q ok ctx rx size tx av calls =
+    let earlier = ok.earlier in
+    let next : q.rx.next ≡ p.rx.next = ap (λ (v : Arriving). v.next) rx in
+    together_with p q ok size (ap (λ (t : Transit). length t.tx.sent) tx) av (ap (λ (v : Arriving). length v.begun) rx) (omega (arith, earlier, next, calls))
+    (λ s. subst (λ (v : Arriving). IsFitting (coming_from v.rx s) (begun_of v s)) (sym rx) (ok.fitting s))
+    (λ s. subst (λ (v : Arriving). owed s v ≤ slice_index q.tx.rooms s) (sym rx) (subst (λ (t : Transit). owed s p.rx ≤ slice_index t.rooms s) (sym tx) (ok.rooms s)))
 
 -- ---- a receive gets a message
 
