@@ -6,3 +6,4 @@ pub mod Orders
 pub mod Requests
 pub mod Looks
 pub mod Asking
+pub mod Lent

@@ -12,6 +12,7 @@ use Rattle.fab_base.specs.declared.entries.Taken.{Taken}
 use Rattle.fab_base.specs.declared.entries.Taken.TheVariants.{Success, Failure}
 use Rattle.fab_base.specs.declared.entries.Entry.{Entry}
 use Rattle.fab_base.specs.declared.entries.ErrEntry.{ErrEntry}
+use Rattle.fab_base.specs.declared.entries.ErrKind.TheVariants.{Canceled}
 use Rattle.fab_base.specs.declared.faults.NoMemory.{NoMemory}
 use Rattle.fab_base.specs.declared.faults.Fault.{Fault}
 use Rattle.fab_base.specs.declared.faults.Fault.TheVariants.{Again, NotSupported, MsgSize, Invalid, NoEntry, Avail, NoMemory as LacksMemory}
@@ -303,6 +304,8 @@ LendsNone h ctx at len = (multi_of h ctx ≡ None) ⊎ ((call : ℕ) × (multi_o
 pub record IsSharedBy (h : Held) (w : Written) : Type 0 where
   pub parts : (ctx at len : ℕ) → part_of w.entry ≡ Some (ctx, at, len) → (call : ℕ) × (w.call ≡ Some call) × Contains h.multis (ctx, call) × (at + len ≤ length (multi_buf h.state (Some call)))
   pub ends : (ctx used : ℕ) (buf : List ℕ) → w.entry ≡ Success (Released ctx used buf) → (call : ℕ) × (w.call ≡ Some call) × Contains h.multis (ctx, call)
+  -- a cancel is no part
+  pub cancels : (e : ErrEntry) → w.entry ≡ Failure e → e.kind ≡ Canceled → e.at ≡ None
 
 -- what is unread of multi-receives is of those whose end was not read, each of a call of its own
 pub record IsSharing (h : Held) : Type 0 where
