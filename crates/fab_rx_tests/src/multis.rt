@@ -66,7 +66,6 @@ fn is_placed(finished: &Finished, at: u32, len: u32) -> bool {
     }
 }
 
-/// Whether the draw brought a message that is whole, and not the last one.
 /// Whether these bytes are lent under the id.
 fn is_lent(inbox: &Inbox<ListMatcher>, id: u32, bytes: &[u8]) -> bool {
     match inbox.buffer_of(id) {
