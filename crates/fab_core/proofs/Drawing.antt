@@ -108,7 +108,7 @@ module _ (p : Parts) (rx : IsArriving p.rx) (d : IsDrawn p.rx) where
       (rw (get_or-set_same p.rx.rx.coming d.a.source (Some (Into d.r d.r.used)) None within) (same_eq d.r.call)) in
       rw (d.first, d.found, none, do_draw, give) (busy_stays d.r (state_of (with_arriving (with_receiving (goes d.a.source (Into d.r d.r.used) (set_apart d.r d.a p.rx.rx)) p.rx) p)) d.least d.multi busy)
 
-  pub handed_by : (bytes : List ℕ) (q : Parts) (o : Option Receive) → closed_if d.r.least d.r.call (filling d.r d.r.used bytes (set_apart d.r d.a p.rx.rx)) ≡ o
+  handed_by : (bytes : List ℕ) (q : Parts) (o : Option Receive) → closed_if d.r.least d.r.call (filling d.r d.r.used bytes (set_apart d.r d.a p.rx.rx)) ≡ o
       → let_back o (received (Some d.r.call) (at_match d.a.head.ack) (completed d.r d.r.used d.a.source d.a.head bytes) q) ≡ drew_as (drawn_last (option_map (released p.rx) o) (completed d.r d.r.used d.a.source d.a.head bytes)) (Some d.r.call) q
   handed_by bytes q None e = refl
   handed_by bytes q (Some l) e = (let same = back_call_if d.r.least d.r (filling d.r d.r.used bytes (set_apart d.r d.a p.rx.rx)) l e in rw same refl)

@@ -20,10 +20,3 @@ mod Judging
 mod Aside
 mod Asking
 mod Addressed
-mod Lending
-mod Opening
-mod Stepping
-mod Standing
-mod Posting
-mod Seating
-mod Lasting

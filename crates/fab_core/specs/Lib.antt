@@ -6,4 +6,3 @@ pub mod Orders
 pub mod Requests
 pub mod Looks
 pub mod Asking
-pub mod Lent

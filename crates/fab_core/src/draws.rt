@@ -20,7 +20,6 @@ impl<M: Matcher> Core<M> {
         ensures { self.new ≡ drew self.old }
     {
         self.rx.known();
-        self.rx.opened();
         self.tx.known();
         let about = Snapshot::of(&self.rx);
         let drawn = self.rx.draw();

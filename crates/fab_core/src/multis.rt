@@ -4,7 +4,7 @@ ghost use Rattle.fab_model.specs.Peers.{unread};
 ghost use Rattle.fab_base.specs.declared.peers.LineResult.TheVariants.{Refused as Answer};
 ghost use Rattle.fab_model.specs.Calls.{do_call};
 ghost use Rattle.fab_face.specs.Acts.{DoesCall};
-ghost use Rattle.fab_face.specs.Answers.{IsSharing, is_final};
+ghost use Rattle.fab_face.specs.Answers.{is_final};
 ghost use Rattle.fab_face.specs.Machine.{StayNext};
 ghost use Rattle.fab_face.specs.Multis.{multi_asking};
 ghost use Rattle.fab_core.specs.Parts.{held_of, state_of};
@@ -133,7 +133,6 @@ impl<M: Matcher> Core<M> {
         ensures { IsShared ask.now buf self.old self.new }
     {
         self.rx.known();
-        self.rx.opened();
         let want = Want {
             tagged: false,
             tag: 0,
@@ -146,13 +145,6 @@ impl<M: Matcher> Core<M> {
             .rx
             .post_multi::<Snapshot<Calls>, ThisCall>(&about, want, buf, ask.least, ask.ctx);
         call(&mut self.calls);
-    }
-
-    /// Does nothing, and tells what holds of multi-receives between calls.
-    pub fn sharing(&self)
-        ensures { IsSharing (held_of self.now) }
-    {
-        let _ = &self.multis;
     }
 
     /// Why a multi-receive is refused for a reason that does not pass. `None` exactly where it is not.

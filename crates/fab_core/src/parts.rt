@@ -74,7 +74,6 @@ impl<M: Matcher> Model for Core<M> {
     ghost use Rattle.std.specs.Prelude.{◌≡◌};
     ghost use Rattle.fab_core.specs.Parts.{IsTogether, Parts};
     ghost use Rattle.fab_core.specs.Requests.{IsServing};
-    ghost use Rattle.fab_core.specs.Lent.{IsLent};
 
     ghost Value = { Parts };
 
@@ -82,8 +81,7 @@ impl<M: Matcher> Model for Core<M> {
 
     ghost invariant = { λ c. (c.most_tx ≡ c.tx.most) × (c.most_rx ≡ c.rx.most)
         × IsTogether (record { caps = c.caps; selective = c.selective; av = c.av; rx = c.rx; tx = c.tx; target = c.target; cq = c.cq; counters = c.counters; calls = c.calls; multis = c.multis })
-        × IsServing c.rx.begun c.target
-        × IsLent c.rx.rx c.rx.multis c.tx.tx.live c.cq c.calls c.multis };
+        × IsServing c.rx.begun c.target };
 }
 
 /// One more call is accepted. It costs nothing that can fail.

@@ -142,7 +142,6 @@ impl<M: Matcher> Core<M> {
         ensures err { OnErr result (held_of self.new ≡ held_of self.old) }
     {
         self.rx.known();
-        self.rx.opened();
         if is_request(head.kind) {
             self.target.make_room(source, head)?;
             return self.begin_owing(source, head);
@@ -164,7 +163,6 @@ impl<M: Matcher> Core<M> {
         ensures err { OnErr result (held_of self.new ≡ held_of self.old) }
     {
         self.rx.known();
-        self.rx.opened();
         self.tx.known();
         self.tx.make_room(source)?;
         let arrived = self.rx.arrive(source, head);
@@ -299,7 +297,6 @@ impl<M: Matcher> Core<M> {
         ensures { IfSome (begun_of self.old.rx source) (λ item. self.new ≡ tail source item self.old) }
     {
         self.rx.known();
-        self.rx.opened();
         self.tx.known();
         let about = (Snapshot::of(&self.rx), source);
         let finished = self.rx.finish(source);

@@ -26,4 +26,3 @@ pub mod Shutting
 pub mod Giving
 pub mod Draught
 mod Worked
-pub mod Opened

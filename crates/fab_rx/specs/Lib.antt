@@ -10,4 +10,3 @@ pub mod Draws
 pub mod Drawing
 pub mod Leaving
 pub mod Claims
-pub mod Opened
