@@ -38,8 +38,8 @@ use Rattle.fab_tx.specs.declared.results.Ended.{Ended}
 use Rattle.fab_face.specs.Acts.{has_read}
 use Rattle.fab_face.specs.Answers.{PopsNot}
 use Rattle.fab_core.specs.Parts.{IsFitting, IsTogether, Parts, held_of, owed}
-use Rattle.fab_core.specs.Doing.{entry_at_end, given_found, received, written_if}
-use Rattle.fab_core.specs.Multis.{read_by}
+use Rattle.fab_core.specs.Doing.{entry_at_end, given_found, received, unread_of, written_if}
+use Rattle.fab_core.specs.Members.{Members, let_any_go, nobody, read_by}
 use Rattle.fab_core.specs.Lent.{IsComingIn, IsLent, IsLentBy, IsOther}
 use Rattle.fab_core.proofs.Lending.{lent_read}
 use Rattle.fab_core.proofs.Together.{together_with}
@@ -48,9 +48,9 @@ use Rattle.fab_core.proofs.Standing.{accepted_lent, heading_lent, sent_lent}
 
 -- ---- nothing has happened
 
-pub lent_begins : (rx : Arriving) (tx : Transit) (cq : Completions) (calls : ℕ) (multis : List (ℕ × ℕ)) (peers most_rx most_tx size : ℕ) → rx ≡ nothing_arrived peers most_rx → tx ≡ nothing_accepted peers most_tx → cq ≡ nothing_written size → calls ≡ 0 → multis ≡ []
+pub lent_begins : (rx : Arriving) (tx : Transit) (cq : Completions) (calls : ℕ) (multis : Members) (peers most_rx most_tx size room : ℕ) → rx ≡ nothing_arrived peers most_rx → tx ≡ nothing_accepted peers most_tx → cq ≡ nothing_written size → calls ≡ 0 → multis ≡ nobody room
     → IsLent rx.rx rx.multis tx.tx.live cq calls multis
-lent_begins rx tx cq calls multis peers most_rx most_tx size is_rx is_tx is_cq is_calls is_multis = rw (is_rx, is_tx, is_cq, is_calls, is_multis) (record {
+lent_begins rx tx cq calls multis peers most_rx most_tx size room is_rx is_tx is_cq is_calls is_multis = rw (is_rx, is_tx, is_cq, is_calls, is_multis) (record {
   made = λ i w call e of. absurd (cc);
   early = λ call e. absurd (cc);
   others = All-nil (IsOther [] 0);
@@ -60,11 +60,14 @@ lent_begins rx tx cq calls multis peers most_rx most_tx size is_rx is_tx is_cq i
   coming = λ s. rw (none_in_row {X = Coming} peers s) tt;
   unread = λ i w le e. absurd (cc);
   last = λ i j w u call le lt e. absurd (cc);
+  taken = omega arith;
+  placed = tt;
+  single = tt;
 })
 
 -- ---- calls
 
-pub accepting_lent : (rx : Receiving) (known : List (ℕ × ℕ)) (tx : Transmitting) (cq : Completions) (calls : ℕ) (multis : List (ℕ × ℕ)) → IsLent rx known tx.live cq calls multis → (t : ℕ) (x : Item) (o : Operation) → o.call ≡ calls → IsLent rx known (accepting t x o tx).live cq (calls + 1) multis
+pub accepting_lent : (rx : Receiving) (known : List (ℕ × ℕ)) (tx : Transmitting) (cq : Completions) (calls : ℕ) (multis : Members) → IsLent rx known tx.live cq calls multis → (t : ℕ) (x : Item) (o : Operation) → o.call ≡ calls → IsLent rx known (accepting t x o tx).live cq (calls + 1) multis
 unfolding accepting
 accepting_lent rx known tx cq calls multis ok t x o this = accepted_lent rx known tx.live cq calls multis ok o this
 
@@ -94,11 +97,11 @@ module _ (p : Parts) (ok : IsLentBy p) where
 
   -- a posted receive leaves
   pub left_some : AreOpened p.rx → p.rx.next ≤ p.calls → (ctx : Option ℕ) (x : Cancelled) → Some x ≡ option_map (cancelled p.rx) (cancellable (is_meant ctx) p.rx.rx)
-      → IsLent (without_posted (is_meant ctx) p.rx.rx) p.rx.multis p.tx.tx.live (writing (option_map (λ r. r.call) (cancellable (is_meant ctx) p.rx.rx)) (error (Some x.ctx) Canceled (Some x.buf)) p.cq) (p.calls + 1) p.multis
+      → IsLent (without_posted (is_meant ctx) p.rx.rx) p.rx.multis p.tx.tx.live (writing (option_map (λ r. r.call) (cancellable (is_meant ctx) p.rx.rx)) (error (Some x.ctx) Canceled (Some x.buf)) p.cq) (p.calls + 1) (let_any_go x.id (unread_of p.cq) p.multis)
   left_some is earlier ctx x left = by (cancellable (is_meant ctx) p.rx.rx) refl
     where
       by : (o : Option Receive) → cancellable (is_meant ctx) p.rx.rx ≡ o
-          → IsLent (without_posted (is_meant ctx) p.rx.rx) p.rx.multis p.tx.tx.live (writing (option_map (λ r. r.call) (cancellable (is_meant ctx) p.rx.rx)) (error (Some x.ctx) Canceled (Some x.buf)) p.cq) (p.calls + 1) p.multis
+          → IsLent (without_posted (is_meant ctx) p.rx.rx) p.rx.multis p.tx.tx.live (writing (option_map (λ r. r.call) (cancellable (is_meant ctx) p.rx.rx)) (error (Some x.ctx) Canceled (Some x.buf)) p.cq) (p.calls + 1) (let_any_go x.id (unread_of p.cq) p.multis)
       by None none = let no : Some x ≡ None = left ∙ ap (option_map (cancelled p.rx)) none in absurd (cc)
       by (Some r) some =
           let both : Some x ≡ Some (cancelled p.rx r) = left ∙ ap (option_map (cancelled p.rx)) some in

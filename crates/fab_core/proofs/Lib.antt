@@ -20,6 +20,8 @@ mod Judging
 mod Aside
 mod Asking
 mod Addressed
+mod Listing
+mod Placing
 mod Lending
 mod Opening
 mod Stepping
@@ -27,3 +29,5 @@ mod Standing
 mod Posting
 mod Seating
 mod Lasting
+mod Lends
+mod Few

@@ -1,8 +1,9 @@
 -- Receive calls keep what holds of multi-receives.
 use Rattle.std.proofs.Common.{◌≡◌, ◌≢◌, inl, inr, ℕ, ◌+◌, ◌<◌, ◌≤◌, ◌==◌, ◌&&◌, Bool, true, false, not, List, [], ◌∷◌, ◌++◌, length, get_or, set, Option, Some, None, refl, sym, ap, subst, ◌∙◌, arith}
-use Rattle.std.specs.Prelude.{find, is_some}
+use Rattle.std.specs.Prelude.{find, is_some, All, IfSome}
 use Rattle.std.specs.Option.{option_map}
-use Rattle.std.proofs.lemmas.Bool.{eq-eqb}
+use Rattle.std.proofs.lemmas.Bool.{eqb-true, eq-eqb, ne_eqb}
+use Rattle.std.proofs.lemmas.List.Elements.{All-append}
 use Rattle.fab_base.specs.declared.entries.ErrEntry.{ErrEntry}
 use Rattle.fab_base.specs.declared.entries.ErrKind.TheVariants.{Canceled}
 use Rattle.fab_base.specs.declared.entries.PeekHow.{PeekHow}
@@ -19,7 +20,8 @@ use Rattle.fab_model.specs.Matching.{remove_first, takes}
 use Rattle.fab_model.specs.State.{Completions, Receiving, coming_from, under_way, writing}
 use Rattle.fab_model.specs.Complete.{at_match, error}
 use Rattle.fab_model.specs.Receiving.{cancellable, claiming, goes, joining_posted, may_leave, without_claim, without_first}
-use Rattle.fab_rx.specs.Arriving.{given}
+use Rattle.fab_model.proofs.Firsts.{IfSome-find}
+use Rattle.fab_rx.specs.Arriving.{IsArriving, IsNamed, call_in, given, id_in, opening}
 use Rattle.fab_rx.specs.Claims.{claim_under, claimed_to, discarded, dropped, thrown}
 use Rattle.fab_rx.specs.Leaving.{is_meant}
 use Rattle.fab_rx.specs.Opened.{AreOpened, IsPosted, is_multi, opened, sized}
@@ -28,15 +30,20 @@ use Rattle.fab_rx.proofs.Numbering.{below_found, others_below}
 use Rattle.fab_tx.specs.Transit.{Transit}
 use Rattle.fab_face.specs.declared.multis.MultiAsk.{MultiAsk}
 use Rattle.fab_core.specs.Parts.{Parts}
-use Rattle.fab_core.specs.Doing.{called, given_whole, left_by, posted_by, receive_now, with_arriving}
+use Rattle.fab_core.specs.Doing.{called, given_whole, left_by, posted_by, receive_now, unread_of, with_arriving}
+use Rattle.fab_core.specs.Members.{Members, let_any_go}
 use Rattle.fab_core.specs.Looks.{claim_by, claim_receive, dropped_by, is_due_now, looked_by, met_by, parted, parted_by, taken_by, told}
 use Rattle.fab_core.specs.Multis.{shared_by, shared_now}
 use Rattle.fab_core.specs.Lent.{GoesInto, IsComingIn, IsLent, IsLentBy, IsUnread}
 use Rattle.fab_core.proofs.Doing.{passes}
-use Rattle.fab_core.proofs.Lending.{and_both, lent_moved, lent_shared, lent_written, other_back}
+use Rattle.fab_core.proofs.Lending.{and_both, lent_moved, lent_shared, lent_written, other_back, places_kept}
 use Rattle.fab_core.proofs.Opening.{coming_left, coming_moved, coming_set, distinct_left, seek, seek_besides, seek_gone, seek_is, seek_none, seek_other, seek_parts, seek_removed, taker_is, taker_open}
-use Rattle.fab_core.proofs.Stepping.{IsOfSingle, lent_back, lent_other, lent_received}
+use Rattle.fab_core.proofs.Stepping.{IsOfSingle, lent_left, lent_other, lent_received}
 use Rattle.fab_core.proofs.Standing.{booked_lent, called_lent, this_other}
+
+none_of : {X : Type 0} (o : Option X) → is_some o ≡ false → o ≡ None
+none_of None e = refl
+none_of (Some x) e = absurd (cc)
 
 same_failure : (y x : ErrEntry) → Failure y ≡ Failure x → y ≡ x
 same_failure y x e = cc
@@ -121,16 +128,17 @@ module _ (p : Parts) (ok : IsLentBy p) (is : AreOpened p.rx) (ctx : Option ℕ) 
     entry = error (Some r.ctx) Canceled (Some r.buf)
 
     -- the buffer of a multi-receive comes back, or that of a receive for one message
-    cancelled_lent : (o : Option ℕ) → r.least ≡ o → r.call < p.calls → IsLent rest p.rx.multis p.tx.tx.live (writing (Some r.call) entry p.cq) p.calls p.multis
+    cancelled_lent : (o : Option ℕ) → r.least ≡ o → r.call < p.calls → IsLent rest p.rx.multis p.tx.tx.live (writing (Some r.call) entry p.cq) p.calls (let_any_go (id_in p.rx.multis r.call) (unread_of p.cq) p.multis)
     cancelled_lent (Some least) multi made =
         let is_known : is_multi p.rx.multis r.call ≡ true = it.multi ∙ ap is_some multi in
-        lent_back p.rx.rx p.rx.multis p.tx.tx.live p.cq p.calls p.multis ok rest r entry gone (taker_open p.rx.rx p.rx.multis is.posted is.once (may_leave p.rx.rx (is_meant ctx)) 0 r found) others is_known refl refl
+        lent_left p.rx.rx p.rx.multis p.tx.tx.live p.cq p.calls p.multis ok rest r entry gone (taker_open p.rx.rx p.rx.multis is.posted is.once (may_leave p.rx.rx (is_meant ctx)) 0 r found) others is_known refl refl refl
         (λ ctx used buf e. absurd (cc)) (λ x e. at_none x e) coming
       where
         at_none : (x : ErrEntry) → entry ≡ Failure x → x.at ≡ None
         at_none x e = ap (λ (x : ErrEntry). x.at) (sym (same_failure _ x e))
     cancelled_lent None single made =
         let unknown : is_multi p.rx.multis r.call ≡ false = it.multi ∙ ap is_some single in
+        subst (λ (o : Option ℕ). IsLent rest p.rx.multis p.tx.tx.live (writing (Some r.call) entry p.cq) p.calls (let_any_go o (unread_of p.cq) p.multis)) (sym (none_of (id_in p.rx.multis r.call) unknown)) (
         lent_written p.rx.rx p.rx.multis p.tx.tx.live p.cq p.calls p.multis ok rest (Some r.call) entry
         (λ c known. inl (others c (λ same. (let no : true ≡ false = sym known ∙ ap (is_multi p.rx.multis) same ∙ unknown in absurd (cc))),
             other_back c (record { call = Some r.call; entry = entry }) (λ of. (let same : r.call ≡ c = cc in let no : true ≡ false = sym known ∙ ap (is_multi p.rx.multis) (sym same) ∙ unknown in absurd (cc)))))
@@ -141,7 +149,7 @@ module _ (p : Parts) (ok : IsLentBy p) (is : AreOpened p.rx) (ctx : Option ℕ) 
           ends = λ ctx used buf e. absurd (cc);
           cancels = λ x e kind. at_none x e;
           back = λ c of known ending. (let same : r.call ≡ c = cc in let no : true ≡ false = sym known ∙ ap (is_multi p.rx.multis) (sym same) ∙ unknown in absurd (cc));
-        }) coming
+        }) coming p.multis.places (places_kept p.rx.rx p.rx.multis p.tx.tx.live p.cq p.calls p.multis ok rest (Some r.call) entry (λ c known. others c (λ same. (let no : true ≡ false = sym known ∙ ap (is_multi p.rx.multis) same ∙ unknown in absurd (cc))))))
       where
         at_none : (x : ErrEntry) → entry ≡ Failure x → x.at ≡ None
         at_none x e = ap (λ (x : ErrEntry). x.at) (sym (same_failure _ x e))
@@ -153,17 +161,52 @@ module _ (p : Parts) (ok : IsLentBy p) (is : AreOpened p.rx) (ctx : Option ℕ) 
       by None e = let no : false ≡ true = sym (ap is_some e) ∙ there in absurd (cc)
       by (Some r) e =
           let made : r.call < p.calls = (let lt = below_found (may_leave p.rx.rx (is_meant ctx)) p.rx.next p.rx.rx.posted r is.below e in omega (arith, lt, earlier)) in
-          rw e (called_lent _ p.rx.multis p.tx.tx.live _ p.calls p.multis (cancelled_lent r e r.least refl made))
+          rw e (called_lent _ p.rx.multis p.tx.tx.live _ p.calls _ (cancelled_lent r e r.least refl made))
 
 -- ---- a multi-receive
 
-pub shared_lent : (p : Parts) → IsLentBy p → AreOpened p.rx → p.rx.next ≤ p.calls → (id : ℕ) (a : MultiAsk) (buf : List ℕ) → IsLentBy (shared_by id a buf p)
-shared_lent p ok is earlier id a buf =
-    lent_shared p.rx.rx p.rx.multis p.tx.tx.live p.cq p.calls p.multis ok (joining_posted (shared_now a buf p) p.rx.rx) id a.ctx (length buf)
-    (seek_is p.calls (p.rx.rx.posted ++ shared_now a buf p ∷ []) p.rx.rx.closing (Some (a.ctx, length buf)) (seek p.calls p.rx.rx.closing)
-        (seek_is p.calls p.rx.rx.posted (shared_now a buf p ∷ []) None (Some (a.ctx, length buf)) (seek_none p.calls p.rx.rx.posted (others_below p.rx.next p.calls p.rx.rx.posted earlier is.below)) (rw (eq-eqb p.calls p.calls refl) refl)) refl)
-    (λ c other. seek_parts c p.rx.rx.posted (p.rx.rx.posted ++ shared_now a buf p ∷ []) p.rx.rx.closing p.rx.rx.closing (seek_besides c p.rx.rx.posted (shared_now a buf p) other) refl)
-    (λ s. refl)
+module _ (p : Parts) (ok : IsLentBy p) (earlier : p.rx.next ≤ p.calls) (id : ℕ) (a : MultiAsk) (buf : List ℕ) (now : IsArriving (opening id (shared_now a buf p) p.rx)) (is_now : AreOpened (opening id (shared_now a buf p) p.rx)) where
+  abbrev more : Receiving
+  more = joining_posted (shared_now a buf p) p.rx.rx
+
+  abbrev wider : List (ℕ × ℕ)
+  wider = (id, p.calls) ∷ p.rx.multis
+
+  others_open : (c : ℕ) → c ≢ p.calls → opened more c ≡ opened p.rx.rx c
+  others_open c other = seek_parts c p.rx.rx.posted (p.rx.rx.posted ++ shared_now a buf p ∷ []) p.rx.rx.closing p.rx.rx.closing (seek_besides c p.rx.rx.posted (shared_now a buf p) other) refl
+
+  abbrev TellsMulti : Receive → Type 0
+  TellsMulti r = is_multi wider r.call ≡ true → is_some r.least ≡ true
+
+  all_multi : All TellsMulti (more.posted ++ more.closing)
+  all_multi = All-append TellsMulti more.posted more.closing (λ k d lt m. sym (is_now.posted k d lt).multi ∙ m) (λ k d lt m. (is_now.closing k d lt).1)
+
+  -- the id is not that of another one that is posted or closing
+  fresh_id : (k c : ℕ) → c ≢ p.calls → id_in p.rx.multis c ≡ Some k → is_some (opened p.rx.rx c) ≡ true → k ≢ id
+  fresh_id k c other home there = by (find (λ (r : Receive). c == r.call) (more.posted ++ more.closing)) refl
+    where
+      home_now : id_in wider c ≡ Some k
+      home_now = rw (ne_eqb p.calls c (λ e. other (sym e))) home
+
+      by : (o : Option Receive) → find (λ (r : Receive). c == r.call) (more.posted ++ more.closing) ≡ o → k ≢ id
+      by None e = let no : false ≡ true = sym (ap (λ o. is_some (option_map sized o)) e) ∙ ap is_some (others_open c other) ∙ there in absurd (cc)
+      by (Some r) e same =
+          let its : c ≡ r.call = eqb-true c r.call (passes (λ (r : Receive). c == r.call) (more.posted ++ more.closing) r e) in
+          let tells : TellsMulti r = subst (λ (o : Option Receive). IfSome o TellsMulti) e (IfSome-find (λ (r : Receive). c == r.call) TellsMulti (more.posted ++ more.closing) all_multi) in
+          let named : IsNamed wider r = subst (λ (o : Option Receive). IfSome o (IsNamed wider)) e (IfSome-find (λ (r : Receive). c == r.call) (IsNamed wider) (more.posted ++ more.closing) now.named) in
+          let n = named (tells (ap (is_multi wider) (sym its) ∙ ap is_some home_now)) in
+          let both : Some n.0 ≡ Some k = sym n.1 ∙ ap (id_in wider) (sym its) ∙ home_now in
+          let one : n.0 ≡ k = cc in
+          let first : call_in wider id ≡ Some p.calls = rw (eq-eqb id id refl) refl in
+          let again : Some r.call ≡ Some p.calls = sym n.2 ∙ ap (call_in wider) (one ∙ same) ∙ first in
+          let that : r.call ≡ p.calls = cc in absurd (other (its ∙ that))
+
+  pub shared_lent : AreOpened p.rx → IsLentBy (shared_by id a buf p)
+  shared_lent is =
+      lent_shared p.rx.rx p.rx.multis p.tx.tx.live p.cq p.calls p.multis ok more id a.ctx (length buf)
+      (seek_is p.calls (p.rx.rx.posted ++ shared_now a buf p ∷ []) p.rx.rx.closing (Some (a.ctx, length buf)) (seek p.calls p.rx.rx.closing)
+          (seek_is p.calls p.rx.rx.posted (shared_now a buf p ∷ []) None (Some (a.ctx, length buf)) (seek_none p.calls p.rx.rx.posted (others_below p.rx.next p.calls p.rx.rx.posted earlier is.below)) (rw (eq-eqb p.calls p.calls refl) refl)) refl)
+      others_open (λ s. refl) fresh_id
 
 -- ---- looks, and claimed messages
 
@@ -171,11 +214,11 @@ told_single : (how : PeekHow) (ctx : ℕ) (met : Option Seen) → IsOfSingle (to
 told_single how ctx None = record { part = refl; goes_on = refl }
 told_single how ctx (Some m) = record { part = refl; goes_on = refl }
 
-parted_lent : (met : Option Seen) (rx : Receiving) (known : List (ℕ × ℕ)) (tx : Transit) (cq : Completions) (calls : ℕ) (multis : List (ℕ × ℕ)) → IsLent rx known tx.tx.live cq calls multis → IsLent rx known (parted met tx).tx.live cq calls multis
+parted_lent : (met : Option Seen) (rx : Receiving) (known : List (ℕ × ℕ)) (tx : Transit) (cq : Completions) (calls : ℕ) (multis : Members) → IsLent rx known tx.tx.live cq calls multis → IsLent rx known (parted met tx).tx.live cq calls multis
 parted_lent None rx known tx cq calls multis ok = ok
 parted_lent (Some m) rx known tx cq calls multis ok = booked_lent (is_due_now m) m.source m.head rx known tx cq calls multis ok
 
-parted_by_lent : (how : PeekHow) (met : Option Seen) (rx : Receiving) (known : List (ℕ × ℕ)) (tx : Transit) (cq : Completions) (calls : ℕ) (multis : List (ℕ × ℕ)) → IsLent rx known tx.tx.live cq calls multis → IsLent rx known (parted_by how met tx).tx.live cq calls multis
+parted_by_lent : (how : PeekHow) (met : Option Seen) (rx : Receiving) (known : List (ℕ × ℕ)) (tx : Transit) (cq : Completions) (calls : ℕ) (multis : Members) → IsLent rx known tx.tx.live cq calls multis → IsLent rx known (parted_by how met tx).tx.live cq calls multis
 parted_by_lent Peek met rx known tx cq calls multis ok = ok
 parted_by_lent Claim met rx known tx cq calls multis ok = ok
 parted_by_lent Discard met rx known tx cq calls multis ok = parted_lent met rx known tx cq calls multis ok

@@ -1,6 +1,6 @@
 -- A draw keeps what holds of multi-receives.
 use Rattle.std.proofs.Common.{◌≡◌, ℕ, ◌+◌, ◌≤◌, ◌==◌, Bool, true, false, List, [], ◌∷◌, ◌++◌, append-nil, length, get_or, set, Option, Some, None, refl, sym, ap, subst, ◌∙◌, arith}
-use Rattle.std.specs.Prelude.{find, is_some}
+use Rattle.std.specs.Prelude.{find, is_some, unwrap_or}
 use Rattle.std.proofs.lemmas.Bool.{eq-eqb}
 use Rattle.fab_base.specs.declared.entries.Entry.TheVariants.{Released}
 use Rattle.fab_base.specs.declared.entries.Taken.TheVariants.{Success}
@@ -11,7 +11,7 @@ use Rattle.fab_model.specs.State.{Receiving, coming_from, writing}
 use Rattle.fab_model.specs.Complete.{at_match, entry_of, filled, filling, fill_multi, is_made_by}
 use Rattle.fab_model.specs.Receiving.{draw_due, draws, goes}
 use Rattle.fab_model.specs.Arrivals.{seated, shut, stays, used_up}
-use Rattle.fab_rx.specs.Arriving.{IsArriving, shared, with_receiving, without_closed}
+use Rattle.fab_rx.specs.Arriving.{IsArriving, id_in, shared, with_receiving, without_closed}
 use Rattle.fab_rx.specs.Drawing.{drawing, drawn, set_apart}
 use Rattle.fab_rx.specs.Results.{closed_by, closed_if, completed}
 use Rattle.fab_rx.specs.Opened.{AreOpened, is_multi, opened, sized}
@@ -19,7 +19,8 @@ use Rattle.fab_rx.proofs.Numbering.{closed_coming}
 use Rattle.fab_rx.proofs.Onces.{change_last, others_none, remove_last}
 use Rattle.fab_rx.proofs.Taking.{seated_off, shut_off, shut_on}
 use Rattle.fab_core.specs.Parts.{Parts}
-use Rattle.fab_core.specs.Doing.{let_back, received, with_arriving}
+use Rattle.fab_core.specs.Doing.{let_back, received, unread_of, with_arriving}
+use Rattle.fab_core.specs.Members.{let_go}
 use Rattle.fab_core.specs.Draws.{drew}
 use Rattle.fab_core.specs.Lent.{GoesInto, IsComingIn, IsLent, IsLentBy}
 use Rattle.fab_core.proofs.Drawing.{IsDrawn, handed_by, who_draws}
@@ -106,7 +107,8 @@ module _ (p : Parts) (ok : IsLentBy p) (is : AreOpened p.rx) (earlier : p.rx.nex
       known_multi : is_multi p.rx.multis d.r.call ≡ true
       known_multi = (subst (λ (o : Option ℕ). GoesInto p.rx.rx p.rx.multis p.calls o d.r d.r.used) d.multi (goes_on p.rx.rx (λ c k. refl))).0
 
-      over_lent : IsLent (without_closed d.r.call full) p.rx.multis p.tx.tx.live (writing (Some x.call) (Success (Released x.ctx x.used x.buf)) (writing (Some d.r.call) (entry_of d.r d.r.used d.a.source d.a.head bytes) p.cq)) p.calls p.multis
+      over_lent : IsLent (without_closed d.r.call full) p.rx.multis p.tx.tx.live (writing (Some x.call) (Success (Released x.ctx x.used x.buf)) (writing (Some d.r.call) (entry_of d.r d.r.used d.a.source d.a.head bytes) p.cq)) p.calls
+          (let_go (unwrap_or (id_in p.rx.multis x.call) 0) (unread_of (writing (Some d.r.call) (entry_of d.r d.r.used d.a.source d.a.head bytes) p.cq)) p.multis)
       over_lent = lent_closed full p.rx.multis p.tx.tx.live (writing (Some d.r.call) (entry_of d.r d.r.used d.a.source d.a.head bytes) p.cq) p.calls p.multis received_full d.r.call x last none_posted rest_none known_multi (λ s. ap (λ xs. get_or xs s None) (closed_coming d.r.call full))
 
     abbrev with_message : Receiving → Parts
@@ -120,7 +122,8 @@ module _ (p : Parts) (ok : IsLentBy p) (is : AreOpened p.rx) (earlier : p.rx.nex
         by None none = subst (λ (c : Option Receive). IsLentBy (let_back c (with_message (without_closed d.r.call full)))) (sym none)
             (subst (λ (rx : Receiving). IsLentBy (with_message rx)) (sym (unclosed_same d.r.call full none)) (booked_lent (at_match d.a.head.ack) d.a.source d.a.head full p.rx.multis p.tx (writing (Some d.r.call) (entry_of d.r d.r.used d.a.source d.a.head bytes) p.cq) p.calls p.multis received_full))
         by (Some x) last = subst (λ (c : Option Receive). IsLentBy (let_back c (with_message (without_closed d.r.call full)))) (sym last)
-            (booked_lent (at_match d.a.head.ack) d.a.source d.a.head (without_closed d.r.call full) p.rx.multis p.tx (writing (Some x.call) (Success (Released x.ctx x.used x.buf)) (writing (Some d.r.call) (entry_of d.r d.r.used d.a.source d.a.head bytes) p.cq)) p.calls p.multis (over_lent x last))
+            (booked_lent (at_match d.a.head.ack) d.a.source d.a.head (without_closed d.r.call full) p.rx.multis p.tx (writing (Some x.call) (Success (Released x.ctx x.used x.buf)) (writing (Some d.r.call) (entry_of d.r d.r.used d.a.source d.a.head bytes) p.cq)) p.calls
+                (let_go (unwrap_or (id_in p.rx.multis x.call) 0) (unread_of (writing (Some d.r.call) (entry_of d.r d.r.used d.a.source d.a.head bytes) p.cq)) p.multis) (over_lent x last))
 
 pub drew_lent : (p : Parts) → IsLentBy p → IsArriving p.rx → AreOpened p.rx → p.rx.next ≤ p.calls → draw_due p.rx.rx ≡ true → IsLentBy (drew p)
 drew_lent p ok rx is earlier due = by (who_draws p.rx due).a.bytes refl
@@ -130,4 +133,4 @@ drew_lent p ok rx is earlier due = by (who_draws p.rx due).a.bytes refl
     by (Some bytes) some =
         let d = who_draws p.rx due in
         let q = with_arriving (with_receiving (shared d.r.least d.r d.r.used bytes (set_apart d.r d.a p.rx.rx)) p.rx) p in
-        rw (d.first, d.found, some) (subst IsLentBy (handed_by p rx d bytes q (closed_if d.r.least d.r.call (filling d.r d.r.used bytes (set_apart d.r d.a p.rx.rx))) refl) (into_by p ok is earlier d bytes d.r.least refl))
+        rw (d.first, d.found, some) (subst IsLentBy (handed_by p rx d bytes q refl (closed_if d.r.least d.r.call (filling d.r d.r.used bytes (set_apart d.r d.a p.rx.rx))) refl) (into_by p ok is earlier d bytes d.r.least refl))

@@ -1,6 +1,6 @@
 -- What the steps of an endpoint make of its parts keeps what holds of multi-receives.
 use Rattle.std.proofs.Common.{◌≡◌, ◌≢◌, ◌⊎◌, inl, inr, ℕ, zero, suc, ◌+◌, ◌<◌, ◌≤◌, ◌==◌, Bool, true, false, List, [], ◌∷◌, ◌++◌, append-nil, length, get_or, set, Option, Some, None, refl, sym, ap, subst, ◌∙◌, arith}
-use Rattle.std.specs.Prelude.{find, is_some, All, slice_index, slice_set}
+use Rattle.std.specs.Prelude.{find, is_some, unwrap_or, All, slice_index, slice_set}
 use Rattle.std.specs.Option.{option_map}
 use Rattle.std.proofs.lemmas.Bool.{eqb-true, eq-eqb, ne_eqb}
 use Rattle.std.proofs.lemmas.List.Elements.{All-append, All-cons, All-nil, All-tail}
@@ -23,7 +23,7 @@ use Rattle.fab_model.specs.State.{Completions, Receiving, coming_from, raise, wr
 use Rattle.fab_model.specs.Complete.{at_delivery, at_either, entry_of, error, filled, filling, fill_multi, is_made_by}
 use Rattle.fab_model.specs.Sending.{answering, is_answered, is_answered_by, is_of_item, success_of, transmitting}
 use Rattle.fab_model.specs.Arrivals.{heading_message, heading_other, is_wanted, keeping, made_whole, newcomer, seated, shut, taker, way_of}
-use Rattle.fab_rx.specs.Arriving.{Arriving, bytes_come, begun_of, finishing, shared, without_closed}
+use Rattle.fab_rx.specs.Arriving.{Arriving, bytes_come, begun_of, finishing, id_in, shared, without_closed}
 use Rattle.fab_rx.specs.Results.{closed_by, closed_if, completed}
 use Rattle.fab_rx.specs.Numbers.{AreBelow, AreDistinct}
 use Rattle.fab_rx.specs.Opened.{AreOpened, IsPosted, is_multi, opened, sized}
@@ -32,7 +32,8 @@ use Rattle.fab_rma.specs.Serving.{outcome_at}
 use Rattle.fab_tx.specs.Transit.{Transit, ended, finds_answered}
 use Rattle.fab_tx.specs.declared.results.Ended.{Ended}
 use Rattle.fab_core.specs.Parts.{Parts}
-use Rattle.fab_core.specs.Doing.{as_operation, booked, cq_after, entry_at_end, heading, let_back, received, sent, tail, well_entry, with_arriving, written_if}
+use Rattle.fab_core.specs.Doing.{as_operation, booked, cq_after, entry_at_end, heading, let_back, received, sent, tail, unread_of, well_entry, with_arriving, written_if}
+use Rattle.fab_core.specs.Members.{Members, let_go}
 use Rattle.fab_core.specs.Requests.{data_of}
 use Rattle.fab_core.specs.Lent.{GoesInto, IsComingIn, IsLent, IsLentBy, IsOther, is_ending}
 use Rattle.fab_core.proofs.Lending.{lent_called, lent_moved}
@@ -93,11 +94,11 @@ data_single Done source head entry e = by head.kind refl head.imm refl
     by WriteReq is None imm = let no : None ≡ Some entry = rw (is, imm) at e in absurd (cc)
     by WriteReq is (Some n) imm = of_some (Success (RemoteData source n)) entry (rw (is, imm) at e) (record { part = refl; goes_on = refl })
 
-pub booked_lent : (due : Bool) (source : ℕ) (head : ItemHead) (rx : Receiving) (known : List (ℕ × ℕ)) (tx : Transit) (cq : Completions) (calls : ℕ) (multis : List (ℕ × ℕ)) → IsLent rx known tx.tx.live cq calls multis → IsLent rx known (booked due source head tx).tx.live cq calls multis
+pub booked_lent : (due : Bool) (source : ℕ) (head : ItemHead) (rx : Receiving) (known : List (ℕ × ℕ)) (tx : Transit) (cq : Completions) (calls : ℕ) (multis : Members) → IsLent rx known tx.tx.live cq calls multis → IsLent rx known (booked due source head tx).tx.live cq calls multis
 booked_lent true source head rx known tx cq calls multis ok = ok
 booked_lent false source head rx known tx cq calls multis ok = ok
 
-module _ (rx : Receiving) (known : List (ℕ × ℕ)) (ops : List Operation) (cq : Completions) (calls : ℕ) (multis : List (ℕ × ℕ)) (ok : IsLent rx known ops cq calls multis) where
+module _ (rx : Receiving) (known : List (ℕ × ℕ)) (ops : List Operation) (cq : Completions) (calls : ℕ) (multis : Members) (ok : IsLent rx known ops cq calls multis) where
   written_lent : (call : Option ℕ) (o : Option Taken) → ((c : ℕ) → call ≡ Some c → (c < calls) × (is_multi known c ≡ false)) → ((entry : Taken) → o ≡ Some entry → IsOfSingle entry) → IsLent rx known ops (written_if call o cq) calls multis
   written_lent call None other single = ok
   written_lent call (Some entry) other single = (let s = single entry refl in lent_other rx known ops cq calls multis ok rx (λ c is. refl) ok.coming call entry other s.part s.goes_on)
@@ -260,7 +261,8 @@ module _ (p : Parts) (ok : IsLentBy p) (is : AreOpened p.rx) (source : ℕ) (ite
       known_multi : is_multi p.rx.multis r.call ≡ true
       known_multi = (subst (λ (o : Option ℕ). GoesInto p.rx.rx p.rx.multis p.calls o r place) multi goes).0
 
-      closed_lent : IsLent (without_closed r.call full) p.rx.multis p.tx.tx.live (writing (Some x.call) (Success (Released x.ctx x.used x.buf)) (writing (Some r.call) (entry_of r place source item.head item.bytes) p.cq)) p.calls p.multis
+      closed_lent : IsLent (without_closed r.call full) p.rx.multis p.tx.tx.live (writing (Some x.call) (Success (Released x.ctx x.used x.buf)) (writing (Some r.call) (entry_of r place source item.head item.bytes) p.cq)) p.calls
+          (let_go (unwrap_or (id_in p.rx.multis x.call) 0) (unread_of (writing (Some r.call) (entry_of r place source item.head item.bytes) p.cq)) p.multis)
       closed_lent = lent_closed full p.rx.multis p.tx.tx.live (writing (Some r.call) (entry_of r place source item.head item.bytes) p.cq) p.calls p.multis received_full r.call x last none_posted rest_none known_multi (λ s. ap (λ xs. get_or xs s None) (closed_coming r.call full))
 
     -- the parts, with the message in the receive
@@ -275,7 +277,8 @@ module _ (p : Parts) (ok : IsLentBy p) (is : AreOpened p.rx) (source : ℕ) (ite
         by None none = subst (λ (c : Option Receive). IsLentBy (let_back c (with_message (without_closed r.call full)))) (sym none)
             (subst (λ (rx : Receiving). IsLentBy (with_message rx)) (sym (unclosed_same r.call full none)) (booked_lent (at_either item.head.ack) source item.head full p.rx.multis p.tx (writing (Some r.call) (entry_of r place source item.head item.bytes) p.cq) p.calls p.multis received_full))
         by (Some x) last = subst (λ (c : Option Receive). IsLentBy (let_back c (with_message (without_closed r.call full)))) (sym last)
-            (booked_lent (at_either item.head.ack) source item.head (without_closed r.call full) p.rx.multis p.tx (writing (Some x.call) (Success (Released x.ctx x.used x.buf)) (writing (Some r.call) (entry_of r place source item.head item.bytes) p.cq)) p.calls p.multis (closed_lent least multi x last))
+            (booked_lent (at_either item.head.ack) source item.head (without_closed r.call full) p.rx.multis p.tx (writing (Some x.call) (Success (Released x.ctx x.used x.buf)) (writing (Some r.call) (entry_of r place source item.head item.bytes) p.cq)) p.calls
+                (let_go (unwrap_or (id_in p.rx.multis x.call) 0) (unread_of (writing (Some r.call) (entry_of r place source item.head item.bytes) p.cq)) p.multis) (closed_lent least multi x last))
 
   tail_by : (c : Option Coming) → coming_from p.rx.rx source ≡ c → IsLentBy (tail source item p)
   unfolding answering
@@ -299,7 +302,7 @@ sent_lent p ok dest = ended_lent p.rx.rx p.rx.multis p.tx.tx.live p.cq p.calls p
 
 -- ---- a call is accepted
 
-module _ (rx : Receiving) (known : List (ℕ × ℕ)) (ops : List Operation) (cq : Completions) (calls : ℕ) (multis : List (ℕ × ℕ)) (ok : IsLent rx known ops cq calls multis) where
+module _ (rx : Receiving) (known : List (ℕ × ℕ)) (ops : List Operation) (cq : Completions) (calls : ℕ) (multis : Members) (ok : IsLent rx known ops cq calls multis) where
   pub this_other : is_multi known calls ≡ false
   this_other = by (is_multi known calls) refl
     where

@@ -4,8 +4,11 @@
 --     is_ending entry          the last entry of a receive
 --     IsComingIn               what comes goes to a place within a multi-receive that is posted or closing, or to a receive for one message
 --     IsUnread                 an unread entry is of a multi-receive whose end was not read
+--     IsPlaced                 what is stored of one whose end was not read: where its buffer is
+--     AreSingle                no two are of one call
 --     IsLent                   all of it
-use Rattle.std.specs.Prelude.{◌≡◌, ◌≢◌, ℕ, ◌+◌, ◌<◌, ◌≤◌, Bool, true, false, List, [], length, Option, Some, None, is_some, slice_get, unwrap_or, All, Contains}
+use Rattle.std.specs.List.{AllZip}
+use Rattle.std.specs.Prelude.{◌≡◌, ◌≢◌, ℕ, ◌+◌, ◌<◌, ◌≤◌, Bool, true, false, List, [], ◌∷◌, length, Option, Some, None, is_some, slice_get, unwrap_or, All, Contains}
 use Rattle.fab_base.specs.declared.entries.Entry.{Entry}
 use Rattle.fab_base.specs.declared.entries.Entry.TheVariants.{Released}
 use Rattle.fab_base.specs.declared.entries.ErrEntry.{ErrEntry}
@@ -20,7 +23,17 @@ use Rattle.fab_base.specs.declared.operations.Written.{Written}
 use Rattle.fab_model.specs.State.{Completions, Receiving, coming_from}
 use Rattle.fab_model.specs.Peers.{first_some, part_of, released_buf}
 use Rattle.fab_rx.specs.Opened.{is_multi, opened, sized}
+use Rattle.fab_cq.specs.Queues.{buffer_in, later}
+use Rattle.fab_rx.specs.Arriving.{call_in, id_in}
+use Rattle.fab_core.specs.declared.places.Place.{Place}
+use Rattle.fab_core.specs.declared.places.Place.TheVariants.{Open, Ended}
+use Rattle.fab_core.specs.declared.places.Member.{Member}
+use Rattle.fab_core.specs.Members.{Members}
 use Rattle.fab_core.specs.Parts.{Parts}
+
+-- there is memory for each one that may be posted, closing, or ended and unread
+abbrev pub HasPlaces : ℕ → ℕ → ℕ → Members → Type 0
+HasPlaces most peers size multis = most + peers + size < multis.room
 
 abbrev pub back_of : Completions → ℕ → Option (List ℕ)
 back_of cq call = first_some (released_buf (Some call)) cq.written
@@ -53,23 +66,46 @@ pub record IsUnread (rx : Receiving) (known : List (ℕ × ℕ)) (cq : Completio
   -- the end of a multi-receive gives its buffer back
   pub back : (call : ℕ) → w.call ≡ Some call → is_multi known call ≡ true → is_ending w.entry ≡ true → is_some (released_buf (Some call) w) ≡ true
 
+-- ---- what is stored
+
+-- the buffer is with the receive under the id, or in the unread entry that gives it back
+abbrev pub IsAt : Receiving → List (ℕ × ℕ) → Completions → ℕ → Place → Type 0
+IsAt rx known cq call (Open id) = (id_in known call ≡ Some id) × (call_in known id ≡ Some call) × (is_some (opened rx call) ≡ true)
+IsAt rx known cq call (Ended n) = (w : Written) × (buf : List ℕ) × (later n cq ≡ Some w) × (w.call ≡ Some call) × (is_ending w.entry ≡ true) × (buffer_in w.entry ≡ Some buf) × (back_of cq call ≡ Some buf)
+
+pub record IsPlaced (rx : Receiving) (known : List (ℕ × ℕ)) (cq : Completions) (s : Member) (m : ℕ × ℕ) : Type 0 where
+  pub ctx : s.ctx ≡ m.0
+  pub multi : is_multi known m.1 ≡ true
+  pub place : IsAt rx known cq m.1 s.place
+
+abbrev pub AreOthers : ℕ → List (ℕ × ℕ) → Type 0
+AreOthers call [] = Unit {0}
+AreOthers call (m ∷ ms) = (m.1 ≢ call) × AreOthers call ms
+
+abbrev pub AreSingle : List (ℕ × ℕ) → Type 0
+AreSingle [] = Unit {0}
+AreSingle (m ∷ ms) = AreOthers m.1 ms × AreSingle ms
+
 -- the operation is of an earlier call, which posted no multi-receive
 abbrev pub IsOther : List (ℕ × ℕ) → ℕ → Operation → Type 0
 IsOther known calls o = (o.call < calls) × (is_multi known o.call ≡ false)
 
 -- `known` are all multi-receives ever posted, `multis` those whose end was not read
-pub record IsLent (rx : Receiving) (known : List (ℕ × ℕ)) (ops : List Operation) (cq : Completions) (calls : ℕ) (multis : List (ℕ × ℕ)) : Type 0 where
+pub record IsLent (rx : Receiving) (known : List (ℕ × ℕ)) (ops : List Operation) (cq : Completions) (calls : ℕ) (multis : Members) : Type 0 where
   pub made : (i : ℕ) (w : Written) (call : ℕ) → slice_get cq.written i ≡ Some w → w.call ≡ Some call → call < calls
   pub early : (call : ℕ) → is_multi known call ≡ true → call < calls
   pub others : All (IsOther known calls) ops
-  pub posted : (m : ℕ × ℕ) → Contains multis m → is_multi known m.1 ≡ true
-  pub once : (c d call : ℕ) → Contains multis (c, call) → Contains multis (d, call) → c ≡ d
+  pub posted : (m : ℕ × ℕ) → Contains multis.list m → is_multi known m.1 ≡ true
+  pub once : (c d call : ℕ) → Contains multis.list (c, call) → Contains multis.list (d, call) → c ≡ d
   -- of one that is posted or closing, the end was not read, and no buffer came back
-  pub stands : (call : ℕ) (x : ℕ × ℕ) → is_multi known call ≡ true → opened rx call ≡ Some x → Contains multis (x.0, call) × (back_of cq call ≡ None)
+  pub stands : (call : ℕ) (x : ℕ × ℕ) → is_multi known call ≡ true → opened rx call ≡ Some x → Contains multis.list (x.0, call) × (back_of cq call ≡ None)
   pub coming : (s : ℕ) → IsComingIn rx known calls (coming_from rx s)
-  pub unread : (i : ℕ) (w : Written) → cq.taken_out ≤ i → slice_get cq.written i ≡ Some w → IsUnread rx known cq multis w
+  pub unread : (i : ℕ) (w : Written) → cq.taken_out ≤ i → slice_get cq.written i ≡ Some w → IsUnread rx known cq multis.list w
   -- behind the entry that gives the buffer back none is of the same call
   pub last : (i j : ℕ) (w u : Written) (call : ℕ) → cq.taken_out ≤ i → i < j → slice_get cq.written i ≡ Some w → slice_get cq.written j ≡ Some u → is_multi known call ≡ true → is_some (released_buf (Some call) w) ≡ true → u.call ≢ Some call
+  pub taken : cq.taken_out ≤ length cq.written
+  pub placed : AllZip (IsPlaced rx known cq) multis.places multis.list
+  pub single : AreSingle multis.list
 
 -- the same of an endpoint's parts
 abbrev pub IsLentBy : Parts → Type 0

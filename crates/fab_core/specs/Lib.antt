@@ -1,3 +1,4 @@
+pub mod Members
 pub mod Parts
 pub mod Doing
 pub mod Multis

@@ -28,6 +28,7 @@ impl<M: Matcher> Core<M> {
             tx,
             cq,
             counters,
+            multis,
             alloc,
             ..
         } = self;
@@ -42,7 +43,7 @@ impl<M: Matcher> Core<M> {
             Drawn::Last(completed, released) => {
                 let due = at_match(completed.head.ack);
                 hand_last::<Snapshot<Inbox<M>>, OfDrawer>(
-                    *alloc, cq, counters, tx, &about, due, completed, released,
+                    *alloc, cq, counters, tx, multis, &about, due, completed, released,
                 );
             }
         }

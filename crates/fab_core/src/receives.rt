@@ -202,6 +202,7 @@ impl<M: Matcher> Core<M> {
         };
         call(&mut self.calls);
         self.counters.count(Class::Recv, false);
+        self.multis.let_any_go(left.id, self.cq.waiting());
         self.cq
             .write::<(Snapshot<Inbox<M>>, Option<u64>), OfReceive>(&about, canceled(left));
         Ok(())

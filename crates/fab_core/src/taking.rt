@@ -281,7 +281,7 @@ impl<M: Matcher> Core<M> {
         ensures next { StayNext (state_of self.old) (state_of self.new) }
         ensures begun { self.new.rx.begun ≡ slice_set self.old.rx.begun source None }
         ensures places { self.new.tx.places ≡ self.old.tx.places }
-        ensures multis { self.new.multis ≡ self.old.multis }
+        ensures multis { self.new.multis.list ≡ self.old.multis.list }
         ensures fits { fits self.new.cq ≡ true }
     {
         self.rx.known();
@@ -308,6 +308,7 @@ impl<M: Matcher> Core<M> {
             target,
             cq,
             counters,
+            multis,
             alloc,
             ..
         } = self;
@@ -321,7 +322,7 @@ impl<M: Matcher> Core<M> {
             Finished::Last(completed, released) => {
                 let due = at_either(completed.head.ack);
                 hand_last::<(Snapshot<Inbox<M>>, u32), IntoReceive>(
-                    *alloc, cq, counters, tx, &about, due, completed, released,
+                    *alloc, cq, counters, tx, multis, &about, due, completed, released,
                 );
             }
             Finished::Kept(head) => book(*alloc, tx, at_delivery(head.ack), source, &head),

@@ -1,10 +1,11 @@
 -- What is known of the receives that are posted or closing.
-use Rattle.std.proofs.Common.{◌≡◌, ℕ, ◌==◌, Bool, true, false, List, [], ◌∷◌, ◌++◌, Option, Some, None, refl, sym, ap, ◌∙◌}
+use Rattle.std.proofs.Common.{◌≡◌, ℕ, ◌+◌, ◌≤◌, ◌==◌, Bool, true, false, List, [], ◌∷◌, ◌++◌, length, length-append, Option, Some, None, refl, sym, ap, ◌∙◌, arith}
 use Rattle.std.proofs.lemmas.Bool.{eq-eqb}
 use Rattle.std.specs.Prelude.{is_some}
 use Rattle.std.specs.Option.{option_map}
 use Rattle.std.specs.List.{AllZip, AllByRecursion}
 use Rattle.std.proofs.lemmas.List.Elements.{All-from_recursion}
+use Rattle.std.proofs.lemmas.Slice.Zip.{AllZip-long}
 use Rattle.fab_base.specs.declared.items.Want.{Want}
 use Rattle.fab_base.specs.declared.items.Sign.{Sign}
 use Rattle.fab_base.specs.declared.operations.Receive.{Receive}
@@ -50,11 +51,11 @@ module _ (multis : List (ℕ × ℕ)) (homes : ℕ → Option ℕ) (calls : ℕ 
   all_posted (p ∷ ps) (r ∷ rs) t h =
       (record { multi = ap is_some (sym (ids r.call)) ∙ ap is_some h.0.home ∙ some_map r.least p.0; within = t.0.fit.within }, all_posted ps rs t.1 h.1)
 
-  all_closing : (cs : List (ℕ × ℕ)) (rs : List Receive) → AllZip (Rests homes calls seats) cs rs → AllByRecursion (λ r. is_multi multis r.call ≡ true) rs
+  all_closing : (cs : List (ℕ × ℕ)) (rs : List Receive) → AllZip (Rests homes calls seats) cs rs → AllByRecursion (λ r. (is_multi multis r.call ≡ true) × (is_some r.least ≡ true)) rs
   all_closing [] [] t = tt
   all_closing [] (r ∷ rs) t = absurd t
   all_closing (c ∷ cs) [] t = absurd t
-  all_closing (c ∷ cs) (r ∷ rs) t = (ap is_some (sym (ids r.call)) ∙ ap is_some t.0.home, all_closing cs rs t.1)
+  all_closing (c ∷ cs) (r ∷ rs) t = ((ap is_some (sym (ids r.call)) ∙ ap is_some t.0.home, t.0.multi), all_closing cs rs t.1)
 
   -- a receive at home under none of these ids has another call than those that are closing
   others_rest : (call : ℕ) (cs : List (ℕ × ℕ)) (rs : List Receive) → AllZip (Rests homes calls seats) cs rs → ((id : ℕ) → homes call ≡ Some id → has_id id cs ≡ false) → HaveOtherCalls call rs
@@ -97,8 +98,12 @@ pub are_opened : (ps : List (ℕ × Want)) (us : List (ℕ × Sign)) (room : ℕ
     → IsNumbered v.rx.posted v.rx.coming v.next → (cs : List (ℕ × ℕ)) → AreMulti ps cs seats coming v.rx.posted v.rx.closing v.rx.coming v.next v.multis v.most → AreOpened v
 are_opened ps us room seats parcels coming v kept numbers cs m = record {
   posted = All-from_recursion (IsPosted v.multis) v.rx.posted (all_posted v.multis m.homes m.calls seats m.ids ps v.rx.posted kept.receives m.posted_home);
-  closing = All-from_recursion (λ r. is_multi v.multis r.call ≡ true) v.rx.closing (all_closing v.multis m.homes m.calls seats m.ids cs v.rx.closing m.closing_rest);
+  closing = All-from_recursion (λ r. (is_multi v.multis r.call ≡ true) × (is_some r.least ≡ true)) v.rx.closing (all_closing v.multis m.homes m.calls seats m.ids cs v.rx.closing m.closing_rest);
   below = numbers.below;
   once = distinct_all v.multis m.homes m.calls seats m.ids cs v.rx.closing m.closing_rest ps v.rx.posted m.posted_home m.apart numbers.distinct;
   fresh = λ call le. ap is_some (sym (m.ids call) ∙ m.fresh call le);
+  room = (let many = AllZip-long (Sits seats) ps v.rx.posted kept.receives in
+      let few = AllZip-long (Rests m.homes m.calls seats) cs v.rx.closing m.closing_rest in
+      let both = length-append v.rx.posted v.rx.closing in
+      let spare = m.spare in let peers = kept.peers in omega (arith, many, few, both, spare, peers));
 }

@@ -2,7 +2,7 @@
 --     is_multi multis call     the call posted a multi-receive here
 --     opened rx call           context and length of the receive of the call, posted or closing
 --     AreOpened v              what holds between calls
-use Rattle.std.specs.Prelude.{◌≡◌, ℕ, ◌≤◌, ◌==◌, ◌++◌, Bool, true, false, List, length, Option, is_some, find, All}
+use Rattle.std.specs.Prelude.{◌≡◌, ℕ, ◌+◌, ◌≤◌, ◌==◌, ◌++◌, Bool, true, false, List, length, Option, is_some, find, All}
 use Rattle.std.specs.Option.{option_map}
 use Rattle.fab_base.specs.declared.operations.Receive.{Receive}
 use Rattle.fab_model.specs.State.{Receiving}
@@ -25,8 +25,10 @@ pub record IsPosted (multis : List (ℕ × ℕ)) (r : Receive) : Type 0 where
 
 pub record AreOpened (v : Arriving) : Type 0 where
   pub posted : All (IsPosted v.multis) v.rx.posted
-  pub closing : All (λ r. is_multi v.multis r.call ≡ true) v.rx.closing
+  pub closing : All (λ r. (is_multi v.multis r.call ≡ true) × (is_some r.least ≡ true)) v.rx.closing
   -- each was posted before the next call
   pub below : AreBelow v.next v.rx.posted
   pub once : AreDistinct (v.rx.posted ++ v.rx.closing)
   pub fresh : (call : ℕ) → v.next ≤ call → is_multi v.multis call ≡ false
+  -- as many as may be posted, and one for each source, whose item closes it
+  pub room : length (v.rx.posted ++ v.rx.closing) ≤ v.most + length v.begun

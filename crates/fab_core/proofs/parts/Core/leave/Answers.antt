@@ -12,5 +12,6 @@ invariant_of-self g c =
       c.self.invariant.1 ∙ sym (ap (λ (v : Arriving). v.most) c.withdraw.ensures.rest),
       left_together p _ c.self.invariant.2 c.args.ctx c.withdraw.ensures.rest (ap (λ (cq : Completions). cq.size) c.write.ensures.written) refl refl c.call.ensures,
       rw c.withdraw.ensures.rest c.self.invariant.3,
-      rw (c.withdraw.ensures.rest, c.write.ensures.written, c.call.ensures, c.canceled.ensures, c.of.ensures) (left_some p c.self.invariant.4 c.opened.ensures c.self.invariant.2.earlier c.args.ctx c.in-Some.left (sym c.in-Some.is ∙ c.withdraw.ensures.found)),
+      rw (c.withdraw.ensures.rest, c.write.ensures.written, c.call.ensures, c.canceled.ensures, c.of.ensures, c.let_any_go.ensures, c.waiting.ensures) (left_some p c.self.invariant.4 c.opened.ensures c.self.invariant.2.earlier c.args.ctx c.in-Some.left (sym c.in-Some.is ∙ c.withdraw.ensures.found)),
+      rw (c.write.ensures.written, c.let_any_go.ensures) c.self.invariant.5,
     )
