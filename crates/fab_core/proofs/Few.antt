@@ -56,8 +56,12 @@ later_call (x ∷ ws) zero zero c w e is =
     let same : x ≡ w = cc in
     let its : call_or x ≡ c = ap (λ (w : Written). unwrap_or w.call 0) same ∙ ap (λ o. unwrap_or o 0) is in
     subst (λ (k : ℕ). Contains (call_or x ∷ map call_or ws) k) its (contains_here (call_or x) (map call_or ws))
-later_call (x ∷ ws) zero (suc n) c w e is = contains_later (call_or x) c (map call_or ws) (later_call ws zero n c w (subst (λ (i : ℕ). slice_get (x ∷ ws) i ≡ Some w) (omega arith) e) is)
-later_call (x ∷ ws) (suc k) n c w e is = later_call ws k n c w (subst (λ (i : ℕ). slice_get (x ∷ ws) i ≡ Some w) (omega arith) e) is
+later_call (x ∷ ws) zero (suc n) c w e is =
+    let place : zero + suc n ≡ suc (zero + n) = omega arith in
+    contains_later (call_or x) c (map call_or ws) (later_call ws zero n c w (subst (λ (i : ℕ). slice_get (x ∷ ws) i ≡ Some w) place e) is)
+later_call (x ∷ ws) (suc k) n c w e is =
+    let place : suc k + n ≡ suc (k + n) = omega arith in
+    later_call ws k n c w (subst (λ (i : ℕ). slice_get (x ∷ ws) i ≡ Some w) place e) is
 
 module _ (p : Parts) (ok : IsLentBy p) where
   abbrev calls_open : List ℕ

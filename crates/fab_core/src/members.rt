@@ -91,14 +91,14 @@ impl Multis {
     }
 
     /// The buffer of the one under the id comes back with an entry before which so many are unread.
-    pub(crate) fn let_go(&mut self, id: u32, before: u32)
+    pub(crate) fn let_go(&mut self, id: u32, before: usize)
         ensures { self.new ≡ let_go id before self.old }
     {
         let_go(&mut self.places, id, before);
     }
 
     /// The same where there is an id, else nothing.
-    pub(crate) fn let_any_go(&mut self, id: Option<u32>, before: u32)
+    pub(crate) fn let_any_go(&mut self, id: Option<u32>, before: usize)
         ensures { self.new ≡ let_any_go id before self.old }
     {
         if let Some(id) = id {

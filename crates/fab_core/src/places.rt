@@ -8,7 +8,7 @@ ghost use Rattle.fab_core.specs.Members.{ended_at, is_first, let_one_go, moved_u
 #[derive(Clone, Copy, Drop)]
 pub enum Place {
     Open(u32),
-    Ended(u32),
+    Ended(usize),
 }
 
 /// A multi-receive whose end was not read: its context, and where its buffer is.
@@ -19,7 +19,7 @@ pub struct Member {
 }
 
 /// The place, once the buffer of the one under the id has come back with an entry before which so many are unread.
-fn ended_at(place: Place, id: u32, before: u32) -> Place
+fn ended_at(place: Place, id: u32, before: usize) -> Place
     ensures { result ≡ ended_at id before place }
 {
     match place {
@@ -57,7 +57,7 @@ impl Member {
 }
 
 /// The buffer of the one under the id comes back with an entry before which so many are unread.
-pub(crate) fn let_go(places: &mut Vec<Member>, id: u32, before: u32)
+pub(crate) fn let_go(places: &mut Vec<Member>, id: u32, before: usize)
     ensures items { places.new.items ≡ map (let_one_go id before) places.old.items }
     ensures capacity { vec_capacity places.new ≡ vec_capacity places.old }
 {

@@ -18,8 +18,14 @@ entry_there (w ∷ ws) (suc n) entry lt first = entry_there ws n entry (omega (a
 entry_later : (ws : List Written) (k n : ℕ) (entry : Taken) → k + n < length ws → entry ≡ get_or (drop k (entries_of ws)) n entry → (w : Written) × (slice_get ws (k + n) ≡ Some w) × (w.entry ≡ entry)
 entry_later [] k n entry lt is = absurd (omega (arith, lt))
 entry_later (w ∷ ws) zero zero entry lt is = (w, refl, sym is)
-entry_later (w ∷ ws) zero (suc n) entry lt is = let more = entry_later ws zero n entry (omega (arith, lt)) is in (more.0, subst (λ (k : ℕ). slice_get (w ∷ ws) k ≡ Some more.0) (omega arith) more.1, more.2)
-entry_later (w ∷ ws) (suc k) n entry lt is = let more = entry_later ws k n entry (omega (arith, lt)) is in (more.0, subst (λ (i : ℕ). slice_get (w ∷ ws) i ≡ Some more.0) (omega arith) more.1, more.2)
+entry_later (w ∷ ws) zero (suc n) entry lt is =
+    let more = entry_later ws zero n entry (omega (arith, lt)) is in
+    let place : suc (zero + n) ≡ zero + suc n = omega arith in
+    (more.0, subst (λ (i : ℕ). slice_get (w ∷ ws) i ≡ Some more.0) place more.1, more.2)
+entry_later (w ∷ ws) (suc k) n entry lt is =
+    let more = entry_later ws k n entry (omega (arith, lt)) is in
+    let place : suc (k + n) ≡ suc k + n = omega arith in
+    (more.0, subst (λ (i : ℕ). slice_get (w ∷ ws) i ≡ Some more.0) place more.1, more.2)
 
 module _ {entries : List Taken} {capacity limit : ℕ} {cq : Completions} (kept : IsKept entries capacity limit cq) where
   how_many : length entries ≡ length cq.written - cq.taken_out

@@ -109,20 +109,20 @@ impl Queue {
     }
 
     /// How many entries are unread.
-    pub fn waiting(&self) -> u32
+    pub fn waiting(&self) -> usize
         ensures { result ≡ length self.now.written - self.now.taken_out }
     {
-        self.unread.len() as u32
+        self.unread.len()
     }
 
     /// Lends the bytes of the buffer that an unread entry gives back, before which so many are unread: the release
     /// of a multi-receive (FI_MULTI_RECV of fi_msg(3)), or an error. `None` exactly where there is no such entry, or
     /// it gives none back.
-    pub fn buffer_at(&self, place: u32) -> Option<&[u8]>
+    pub fn buffer_at(&self, place: usize) -> Option<&[u8]>
         ensures some { IfSome result (λ bytes. given_back place self.now ≡ Some bytes.now) }
         ensures none { IfNone result (given_back place self.now ≡ None) }
     {
-        let Some(entry) = self.unread.get(place as usize) else {
+        let Some(entry) = self.unread.get(place) else {
             return None;
         };
         let Some(buf) = buffer_in(entry) else {
