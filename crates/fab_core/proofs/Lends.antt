@@ -132,3 +132,7 @@ module _ (p : Parts) (ok : IsLentBy p) (ctx : ℕ) {X : Type 0} (now : X → Lis
 pub none_of_place : (o : Option Member) → option_map (λ (m : Member). m.place) o ≡ None → o ≡ None
 none_of_place None e = refl
 none_of_place (Some m) e = absurd (cc)
+
+pub no_place : {X : Type 0} (o : Option X) → ((x : X) → o ≡ Some x → ⊥) → o ≡ None
+no_place None never = refl
+no_place (Some x) never = absurd (never x refl)

@@ -19,7 +19,7 @@
 //! | `multis` | multi-receives are judged and posted, and bytes of them lent |
 //! | `members`, `places` | those whose end was not read, and where their buffers are |
 //! | `keeping` | counters and addresses |
-//! | `machine`, `looking`, `sharing` | all of it as the endpoint's machine |
+//! | `machine`, `looking`, `receiving` | all of it as the endpoint's machine |
 //! | `targets` | the regions, as their owner calls them |
 #![tactic(auto)]
 
@@ -36,10 +36,10 @@ mod multis;
 mod parts;
 mod places;
 mod receives;
+mod receiving;
 mod requests;
 mod sending;
 mod serving;
-mod sharing;
 mod taking;
 mod targets;
 

@@ -1,5 +1,5 @@
 use Rattle.fab_core.proofs.Sharing.{buffer_short, if_shares, if_shares_next, if_shares_not}
-use Rattle.fab_core.proofs.sharing.CoreMultiReceiving.post_multi.Goals as goal
+use Rattle.fab_core.proofs.receiving.CoreMultiReceiving.post_multi.Goals as goal
 
 pub share-requires : goal.share-requires
 share-requires g c = record { small = buffer_short c.args.self.now c.args.ask.now c.args.buf c.requires.granted }
