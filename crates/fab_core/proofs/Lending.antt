@@ -78,7 +78,7 @@ some_value (Some x) e = (x, refl)
 -- ---- an unread entry
 
 module _ (rx next : Receiving) (known after : List (ℕ × ℕ)) (cq later : Completions) (multis rest : List (ℕ × ℕ)) (w : Written) where
-  pub unread_kept : ((ctx call : ℕ) → w.call ≡ Some call → Contains multis.list (ctx, call) → Contains rest (ctx, call) × (size_of next later call ≡ size_of rx cq call))
+  pub unread_kept : ((ctx call : ℕ) → w.call ≡ Some call → Contains multis (ctx, call) → Contains rest (ctx, call) × (size_of next later call ≡ size_of rx cq call))
       → ((call : ℕ) → w.call ≡ Some call → is_multi after call ≡ true → is_multi known call ≡ true) → IsUnread rx known cq multis w → IsUnread next after later rest w
   unread_kept keep before u = record {
     parts = λ ctx at len e. (let h = u.parts ctx at len e in let k = keep ctx h.0 h.1 h.2 in (h.0, h.1, k.0, let s = k.1 in let le = h.3 in omega (arith, s, le)));

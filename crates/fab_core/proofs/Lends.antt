@@ -50,7 +50,7 @@ module _ (p : Parts) (ok : IsLentBy p) (ctx : ℕ) where
           let m = zip_found (IsPlaced p.rx.rx p.rx.multis p.cq) of_ctx has_ctx same_test p.multis.places p.multis.list ok.placed s found in
           let both : Some s.place ≡ Some place = sym (ap (λ (o : Option Member). option_map (λ (m : Member). m.place) o) found) ∙ e in
           let same : s.place ≡ place = cc in
-          (m.0.1, ap (λ (o : Option (ℕ × ℕ)). option_map (λ (m : ℕ × ℕ). m.1) o) m.1, subst (λ (q : Place). IsAt p.rx.rx p.rx.multis p.cq m.0.1 q) same m.2.place)
+          (m.0.1, ap (λ (o : Option (ℕ × ℕ)). option_map (λ (m : ℕ × ℕ). m.1) o) m.1, m.2.multi, subst (λ (q : Place). IsAt p.rx.rx p.rx.multis p.cq m.0.1 q) same m.2.place)
 
   open_buf : (c : ℕ) (r : Receive) → find (λ (r : Receive). c == r.call) (p.rx.rx.posted ++ p.rx.rx.closing) ≡ Some r → multi_buf (state_of p) (Some c) ≡ r.buf
   open_buf c r e = rw (e, multi_buf) refl

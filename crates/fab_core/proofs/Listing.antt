@@ -99,7 +99,7 @@ module _ {X : Type 0} (f : X → X) where
   abbrev pub turned_to : List X → ℕ → List X
   turned_to xs k = map f (take k xs) ++ drop k xs
 
-  pub turned_step : (xs : List X) (k : ℕ) (d : X) → k < length xs → set (turned_to xs k) k (f (get_or (turned_to xs k) k d)) ≡ turned_to xs (k + 1)
+  pub turned_step : (xs : List X) (k : ℕ) (d : X) → k < length xs → set (turned_to xs k) k (f (get_or (turned_to xs k) k d)) ≡ turned_to xs (suc k)
   turned_step [] k d lt = absurd (omega (arith, lt))
   turned_step (x ∷ xs) zero d lt = refl
   turned_step (x ∷ xs) (suc k) d lt = ap (λ (ys : List X). f x ∷ ys) (turned_step xs k d (omega (arith, lt)))

@@ -41,9 +41,9 @@ module _ {A B : Type 0} (R : A → B → Type 0) where
       where
         by : (v : Bool) → s a ≡ v → (find s xs ≡ Some x → (y : B) × (find t ys ≡ Some y) × R x y) → (y : B) × (find t (b ∷ ys) ≡ Some y) × R x y
         by true is more =
-            let yes : t b ≡ true = sym (same a b z.0) ∙ is in
+            let has : t b ≡ true = sym (same a b z.0) ∙ is in
             let both : Some a ≡ Some x = rw is at e in
-            let one : a ≡ x = cc in (b, rw yes refl, subst (λ (x : A). R x b) one z.0)
+            let one : a ≡ x = cc in (b, rw has refl, subst (λ (x : A). R x b) one z.0)
         by false is more =
             let no : t b ≡ false = sym (same a b z.0) ∙ is in
             let rest = more (rw is at e) in (rest.0, rw no rest.1, rest.2)
@@ -89,17 +89,17 @@ single_push (x ∷ ms) m o other = (others_push x.1 ms m o.0 (other x (contains_
 module _ {A : Type 0} (R S : A → ℕ × ℕ → Type 0) (s : A → Bool) (t : ℕ × ℕ → Bool) (f : A → A)
     (same : (x : A) (m : ℕ × ℕ) → R x m → s x ≡ t m) (one : (m n : ℕ × ℕ) → t m ≡ true → t n ≡ true → n.1 ≡ m.1) (kept : (x : A) (m : ℕ × ℕ) → R x m → t m ≡ false → S (f x) m) where
   passes_not : (m n : ℕ × ℕ) → t m ≡ true → n.1 ≢ m.1 → t n ≡ false
-  passes_not m n yes other = by (t n) refl
+  passes_not m n its other = by (t n) refl
     where
       by : (b : Bool) → t n ≡ b → t n ≡ false
-      by true is = absurd (other (one m n yes is))
+      by true is = absurd (other (one m n its is))
       by false is = is
 
   zip_rest : (m : ℕ × ℕ) → t m ≡ true → (xs : List A) (ms : List (ℕ × ℕ)) → AllZip R xs ms → AreOthers m.1 ms → AllZip S (map f xs) ms
-  zip_rest m yes [] [] z o = tt
-  zip_rest m yes [] (n ∷ ms) z o = absurd z
-  zip_rest m yes (x ∷ xs) [] z o = absurd z
-  zip_rest m yes (x ∷ xs) (n ∷ ms) z o = (kept x n z.0 (passes_not m n yes o.0), zip_rest m yes xs ms z.1 o.1)
+  zip_rest m its [] [] z o = tt
+  zip_rest m its [] (n ∷ ms) z o = absurd z
+  zip_rest m its (x ∷ xs) [] z o = absurd z
+  zip_rest m its (x ∷ xs) (n ∷ ms) z o = (kept x n z.0 (passes_not m n its o.0), zip_rest m its xs ms z.1 o.1)
 
   pub zip_read : (xs : List A) (ms : List (ℕ × ℕ)) → AllZip R xs ms → AreSingle ms → AllZip S (map f (remove_first s xs)) (remove_first t ms)
   zip_read [] [] z o = tt
@@ -108,5 +108,5 @@ module _ {A : Type 0} (R S : A → ℕ × ℕ → Type 0) (s : A → Bool) (t : 
   zip_read (x ∷ xs) (m ∷ ms) z o = by (t m) refl (zip_read xs ms z.1 o.1)
     where
       by : (b : Bool) → t m ≡ b → AllZip S (map f (remove_first s xs)) (remove_first t ms) → AllZip S (map f (remove_first s (x ∷ xs))) (remove_first t (m ∷ ms))
-      by true is more = let yes : s x ≡ true = same x m z.0 ∙ is in rw (yes, is, remove_first) (zip_rest m is xs ms z.1 o.0)
+      by true is more = let has : s x ≡ true = same x m z.0 ∙ is in rw (has, is, remove_first) (zip_rest m is xs ms z.1 o.0)
       by false is more = let no : s x ≡ false = same x m z.0 ∙ is in rw (no, is, remove_first) (kept x m z.0 is, more)

@@ -189,7 +189,7 @@ module _ (p : Parts) (ok : IsLentBy p) (earlier : p.rx.next ≤ p.calls) (id : �
       home_now = rw (ne_eqb p.calls c (λ e. other (sym e))) home
 
       by : (o : Option Receive) → find (λ (r : Receive). c == r.call) (more.posted ++ more.closing) ≡ o → k ≢ id
-      by None e = let no : false ≡ true = sym (ap (λ o. is_some (option_map sized o)) e) ∙ ap is_some (others_open c other) ∙ there in absurd (cc)
+      by None e same = let no : false ≡ true = sym (ap (λ o. is_some (option_map sized o)) e) ∙ ap is_some (others_open c other) ∙ there in absurd (cc)
       by (Some r) e same =
           let its : c ≡ r.call = eqb-true c r.call (passes (λ (r : Receive). c == r.call) (more.posted ++ more.closing) r e) in
           let tells : TellsMulti r = subst (λ (o : Option Receive). IfSome o TellsMulti) e (IfSome-find (λ (r : Receive). c == r.call) TellsMulti (more.posted ++ more.closing) all_multi) in
