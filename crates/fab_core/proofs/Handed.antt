@@ -207,8 +207,7 @@ module _ (p : Parts) (ok : IsTogether p) (rx : IsArriving p.rx) (tx : IsTransit 
     -- the parts then, by what is handed out
     abbrev pub last_then : Completed → Released → Parts
     last_then x y = record (then (booked (at_either x.head.ack) x.source x.head p.tx)
-        (writing (call_into (coming_from p.rx.rx source)) (Success (GivenBack y.ctx y.used y.buf)) (writing (call_into (coming_from p.rx.rx source)) x.entry p.cq)) (counting Recv x.good p.counters))
-    { multis = let_go y.id (unread_of (writing (call_into (coming_from p.rx.rx source)) x.entry p.cq)) p.multis }
+        (writing (call_into (coming_from p.rx.rx source)) (Success (GivenBack y.ctx y.used y.buf)) (writing (call_into (coming_from p.rx.rx source)) x.entry p.cq)) (counting Recv x.good p.counters)) { multis = let_go y.id (unread_of (writing (call_into (coming_from p.rx.rx source)) x.entry p.cq)) p.multis }
 
     last_same : last_then (completed went.r went.place source item.head item.bytes) (released p.rx went.l) ≡ tail source item p
     last_same = (let same = back_call p.rx source went.r went.place went.l went.way went.last in rw (went.last, went.way, same) refl)

@@ -104,6 +104,11 @@ module _ {X : Type 0} (f : X → X) where
   turned_step (x ∷ xs) zero d lt = refl
   turned_step (x ∷ xs) (suc k) d lt = ap (λ (ys : List X). f x ∷ ys) (turned_step xs k d (omega (arith, lt)))
 
+  pub turned_by : (xs items : List X) (k : ℕ) (x y : X) → items ≡ turned_to xs k → k < length xs → x ≡ get_or items k x → y ≡ f x → set items k y ≡ turned_to xs (k + 1)
+  turned_by xs items k x y is lt at e =
+      let next : suc k ≡ k + 1 = omega arith in
+      ap (λ (z : X). set items k z) (e ∙ ap f at) ∙ ap (λ (zs : List X). set zs k (f (get_or zs k x))) is ∙ turned_step xs k x lt ∙ ap (turned_to xs) next
+
   pub turned_all : (xs : List X) (k : ℕ) → length xs ≤ k → turned_to xs k ≡ map f xs
   turned_all [] zero le = refl
   turned_all [] (suc k) le = refl

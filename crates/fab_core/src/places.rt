@@ -1,5 +1,5 @@
 //! Where the buffers of multi-receives are (FI_MULTI_RECV of fi_msg(3)).
-ghost use Rattle.std.specs.Prelude.{◌≡◌, map, vec_capacity};
+ghost use Rattle.std.specs.Prelude.{◌≡◌, map, position, vec_capacity};
 ghost use Rattle.fab_model.specs.Matching.{remove_first};
 ghost use Rattle.fab_core.specs.Members.{ended_at, is_first, let_one_go, moved_up, one_read};
 
@@ -83,12 +83,18 @@ fn move_up(places: &mut Vec<Member>)
     }
 }
 
+fn place_of_first(places: &[Member]) -> Option<usize>
+    ensures { result ≡ position is_first places.now }
+{
+    places.iter().position(|member| member.is_first())
+}
+
 /// The one leaves whose end is the first unread entry.
 fn strike(places: &mut Vec<Member>)
     ensures items { places.new.items ≡ remove_first is_first places.old.items }
     ensures capacity { vec_capacity places.new ≡ vec_capacity places.old }
 {
-    let Some(place) = places.iter().position(|member| member.is_first()) else {
+    let Some(place) = place_of_first(places.as_slice()) else {
         return;
     };
     places.remove(place);

@@ -48,7 +48,7 @@ invariant_of-self-2 g c =
     let there = item_there (λ item. length item.bytes ≡ item.head.total) (begun_of p.rx c.args.source) (subst (λ (p : Parts). IsSomeAnd (begun_of p.rx c.args.source) (λ item. length item.bytes ≡ item.head.total)) (sym c.self.view_is) c.requires.whole) in
     let outcome = sym (of_begun (λ item. c.finish-finished.result ≡ handed p.rx (last_of c.args.source p.rx) (ended (coming_from p.rx.rx c.args.source) c.args.source item)) (begun_of p.rx c.args.source) there.0 there.1 c.finish-finished.ensures.outcome) in
     let end = end_answer p c.self.invariant.2 c.known.ensures c.known-2.ensures c.args.source within there.0 there.1 c.in-Answer.item (outcome ∙ c.in-Answer.is) in
-    rw (c.finish-finished.ensures.new, c.answer.ensures.tx, c.answer.ensures.cq, c.answer.ensures.counters) (c.self.invariant.0 ∙ sym end.2, c.self.invariant.1, end.1, serving_whole c.self.inside.rx.begun c.self.inside.target c.self.invariant.3 c.args.source, subst IsLentBy (sym end.0) (tail_lent p c.self.invariant.4 c.opened.ensures c.args.source there.0), c.self.invariant.5)
+    rw (c.finish-finished.ensures.new, c.answer.ensures.tx, c.answer.ensures.cq, c.answer.ensures.counters) (c.self.invariant.0 ∙ sym end.2, c.self.invariant.1, end.1, serving_whole c.self.inside.rx.begun c.self.inside.target c.self.invariant.3 c.args.source, subst IsLentBy (sym end.0) (tail_lent p c.self.invariant.4 c.opened.ensures c.args.source there.0), subst (λ (n : ℕ). HasPlaces c.self.inside.most_rx c.self.inside.av.peers n c.self.inside.multis) (sym (size_after _ _ _ _)) c.self.invariant.5)
 
 pub returns-in-Received : goal.returns-in-Received
 returns-in-Received g c =
@@ -110,7 +110,7 @@ invariant_of-self-in-Request g c =
     let there = item_there (λ item. length item.bytes ≡ item.head.total) (begun_of p.rx c.args.source) (subst (λ (p : Parts). IsSomeAnd (begun_of p.rx c.args.source) (λ item. length item.bytes ≡ item.head.total)) (sym c.self.view_is) c.requires.whole) in
     let outcome = sym (of_begun (λ item. c.finish-finished.result ≡ handed p.rx (last_of c.args.source p.rx) (ended (coming_from p.rx.rx c.args.source) c.args.source item)) (begun_of p.rx c.args.source) there.0 there.1 c.finish-finished.ensures.outcome) in
     let end = end_request p c.self.invariant.2 c.known.ensures c.known-2.ensures c.args.source within there.0 there.1 c.in-Request.item (outcome ∙ c.in-Request.is) in
-    rw (c.finish-finished.ensures.new, c.serve.ensures.tx, c.serve.ensures.cq, c.serve.ensures.target) (c.self.invariant.0 ∙ sym end.2, c.self.invariant.1, end.1, serving_served c.self.inside.rx.begun c.self.inside.target c.self.invariant.3 c.args.source 0 _ refl, subst IsLentBy (sym end.0) (tail_lent p c.self.invariant.4 c.opened.ensures c.args.source there.0), c.self.invariant.5)
+    rw (c.finish-finished.ensures.new, c.serve.ensures.tx, c.serve.ensures.cq, c.serve.ensures.target) (c.self.invariant.0 ∙ sym end.2, c.self.invariant.1, end.1, serving_served c.self.inside.rx.begun c.self.inside.target c.self.invariant.3 c.args.source 0 _ refl, subst IsLentBy (sym end.0) (tail_lent p c.self.invariant.4 c.opened.ensures c.args.source there.0), subst (λ (n : ℕ). HasPlaces c.self.inside.most_rx c.self.inside.av.peers n c.self.inside.multis) (sym (size_written _ _ _)) c.self.invariant.5)
 
 pub hand_last-requires-clause-written : goal.hand_last-requires-clause-written
 hand_last-requires-clause-written g c =
