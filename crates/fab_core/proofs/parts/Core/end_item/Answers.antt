@@ -1,6 +1,8 @@
 use Rattle.fab_core.specs.Lent.{IsLentBy}
 use Rattle.fab_core.proofs.Standing.{tail_lent}
-use Rattle.std.proofs.Common.{◌≡◌, ◌∙◌, ◌<◌, true, length, sym, subst, refl}
+use Rattle.std.proofs.Common.{◌≡◌, ◌∙◌, ◌<◌, ℕ, true, length, sym, subst, refl}
+use Rattle.fab_core.specs.Lent.{HasPlaces}
+use Rattle.fab_core.proofs.Together.{size_after, size_written}
 use Rattle.std.specs.Prelude.{IsSomeAnd, IsTrue, is_some}
 use Rattle.fab_base.specs.declared.items.Item.{Item}
 use Rattle.fab_model.specs.State.{coming_from}
