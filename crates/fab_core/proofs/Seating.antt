@@ -44,7 +44,7 @@ module _ (p : Parts) (ok : IsLentBy p) (is : AreOpened p.rx) (earlier : p.rx.nex
   going_lent =
       lent_moved p.rx.rx p.rx.multis p.tx.tx.live p.cq p.calls p.multis ok (goes d.a.source (Into d.r d.r.used) apart) apart_same
       (coming_set (goes d.a.source (Into d.r d.r.used) apart) p.rx.multis p.calls p.rx.rx.coming d.a.source (Some (Into d.r d.r.used))
-          (λ s. coming_moved p.rx.rx (goes d.a.source (Into d.r d.r.used) apart) p.rx.multis p.calls (coming_from p.rx.rx s) apart_same (ok.coming s)) (goes_on (goes d.a.source (Into d.r d.r.used) apart) apart_same))
+      (λ s. coming_moved p.rx.rx (goes d.a.source (Into d.r d.r.used) apart) p.rx.multis p.calls (coming_from p.rx.rx s) apart_same (ok.coming s)) (goes_on (goes d.a.source (Into d.r d.r.used) apart) apart_same))
 
   module _ (bytes : List ℕ) where
     abbrev full : Receiving
