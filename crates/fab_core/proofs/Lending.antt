@@ -358,9 +358,10 @@ module _ (rx : Receiving) (known : List (ℕ × ℕ)) (ops : List Operation) (cq
     stands_new : (x : ℕ × ℕ) → opened next calls ≡ Some x → Contains longer (x.0, calls) × (back_of cq calls ≡ None)
     stands_new x e =
         let both : Some (ctx, n) ≡ Some x = sym joined ∙ e in
-        let pair : (ctx, n) ≡ x = cc in
-        (subst (λ (y : ℕ × ℕ). Contains longer (y.0, calls)) pair (Contains-append_right multis.list ((ctx, calls) ∷ []) (ctx, calls) (contains_here (ctx, calls) [])),
-         first_all (released_buf (Some calls)) cq.written (λ i w at. other_back calls w (λ is. (let lt = ok.made i w calls at is in absurd (omega (arith, lt))))))
+        let pair : (ctx, n) ≡ x = cc in (
+          subst (λ (y : ℕ × ℕ). Contains longer (y.0, calls)) pair (Contains-append_right multis.list ((ctx, calls) ∷ []) (ctx, calls) (contains_here (ctx, calls) [])),
+          first_all (released_buf (Some calls)) cq.written (λ i w at. other_back calls w (λ is. (let lt = ok.made i w calls at is in absurd (omega (arith, lt))))),
+        )
 
     abbrev IsNew : ℕ × ℕ → Type 0
     IsNew m = ◌≡◌ {A = ℕ × ℕ} (ctx, calls) m

@@ -140,8 +140,10 @@ module _ (p : Parts) (ok : IsLentBy p) (is : AreOpened p.rx) (ctx : Option ℕ) 
         let unknown : is_multi p.rx.multis r.call ≡ false = it.multi ∙ ap is_some single in
         subst (λ (o : Option ℕ). IsLent rest p.rx.multis p.tx.tx.live (writing (Some r.call) entry p.cq) p.calls (let_any_go o (unread_of p.cq) p.multis)) (sym (none_of (id_in p.rx.multis r.call) unknown)) (
         lent_written p.rx.rx p.rx.multis p.tx.tx.live p.cq p.calls p.multis ok rest (Some r.call) entry
-        (λ c known. inl (others c (λ same. (let no : true ≡ false = sym known ∙ ap (is_multi p.rx.multis) same ∙ unknown in absurd (cc))),
-            other_back c (record { call = Some r.call; entry = entry }) (λ of. (let same : r.call ≡ c = cc in let no : true ≡ false = sym known ∙ ap (is_multi p.rx.multis) (sym same) ∙ unknown in absurd (cc)))))
+        (λ c known. inl (
+          others c (λ same. (let no : true ≡ false = sym known ∙ ap (is_multi p.rx.multis) same ∙ unknown in absurd (cc))),
+          other_back c (record { call = Some r.call; entry = entry }) (λ of. (let same : r.call ≡ c = cc in let no : true ≡ false = sym known ∙ ap (is_multi p.rx.multis) (sym same) ∙ unknown in absurd (cc))),
+        ))
         (λ c of. (let same : r.call ≡ c = cc in subst (λ (k : ℕ). k < p.calls) same made))
         (λ c of known. (let same : r.call ≡ c = cc in let no : true ≡ false = sym known ∙ ap (is_multi p.rx.multis) (sym same) ∙ unknown in absurd (cc)))
         (record {
@@ -205,7 +207,7 @@ module _ (p : Parts) (ok : IsLentBy p) (earlier : p.rx.next ≤ p.calls) (id : �
   shared_lent is =
       lent_shared p.rx.rx p.rx.multis p.tx.tx.live p.cq p.calls p.multis ok more id a.ctx (length buf)
       (seek_is p.calls (p.rx.rx.posted ++ shared_now a buf p ∷ []) p.rx.rx.closing (Some (a.ctx, length buf)) (seek p.calls p.rx.rx.closing)
-          (seek_is p.calls p.rx.rx.posted (shared_now a buf p ∷ []) None (Some (a.ctx, length buf)) (seek_none p.calls p.rx.rx.posted (others_below p.rx.next p.calls p.rx.rx.posted earlier is.below)) (rw (eq-eqb p.calls p.calls refl) refl)) refl)
+      (seek_is p.calls p.rx.rx.posted (shared_now a buf p ∷ []) None (Some (a.ctx, length buf)) (seek_none p.calls p.rx.rx.posted (others_below p.rx.next p.calls p.rx.rx.posted earlier is.below)) (rw (eq-eqb p.calls p.calls refl) refl)) refl)
       others_open (λ s. refl) fresh_id
 
 -- ---- looks, and claimed messages

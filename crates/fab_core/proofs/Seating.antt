@@ -45,7 +45,7 @@ module _ (p : Parts) (ok : IsLentBy p) (is : AreOpened p.rx) (earlier : p.rx.nex
   going_lent =
       lent_moved p.rx.rx p.rx.multis p.tx.tx.live p.cq p.calls p.multis ok (goes d.a.source (Into d.r d.r.used) apart) apart_same
       (coming_set (goes d.a.source (Into d.r d.r.used) apart) p.rx.multis p.calls p.rx.rx.coming d.a.source (Some (Into d.r d.r.used))
-          (λ s. coming_moved p.rx.rx (goes d.a.source (Into d.r d.r.used) apart) p.rx.multis p.calls (coming_from p.rx.rx s) apart_same (ok.coming s)) (goes_on (goes d.a.source (Into d.r d.r.used) apart) apart_same))
+      (λ s. coming_moved p.rx.rx (goes d.a.source (Into d.r d.r.used) apart) p.rx.multis p.calls (coming_from p.rx.rx s) apart_same (ok.coming s)) (goes_on (goes d.a.source (Into d.r d.r.used) apart) apart_same))
 
   module _ (bytes : List ℕ) where
     abbrev full : Receiving
@@ -123,7 +123,7 @@ module _ (p : Parts) (ok : IsLentBy p) (is : AreOpened p.rx) (earlier : p.rx.nex
             (subst (λ (rx : Receiving). IsLentBy (with_message rx)) (sym (unclosed_same d.r.call full none)) (booked_lent (at_match d.a.head.ack) d.a.source d.a.head full p.rx.multis p.tx (writing (Some d.r.call) (entry_of d.r d.r.used d.a.source d.a.head bytes) p.cq) p.calls p.multis received_full))
         by (Some x) last = subst (λ (c : Option Receive). IsLentBy (let_back c (with_message (without_closed d.r.call full)))) (sym last)
             (booked_lent (at_match d.a.head.ack) d.a.source d.a.head (without_closed d.r.call full) p.rx.multis p.tx (writing (Some x.call) (Success (Released x.ctx x.used x.buf)) (writing (Some d.r.call) (entry_of d.r d.r.used d.a.source d.a.head bytes) p.cq)) p.calls
-                (let_go (unwrap_or (id_in p.rx.multis x.call) 0) (unread_of (writing (Some d.r.call) (entry_of d.r d.r.used d.a.source d.a.head bytes) p.cq)) p.multis) (over_lent x last))
+            (let_go (unwrap_or (id_in p.rx.multis x.call) 0) (unread_of (writing (Some d.r.call) (entry_of d.r d.r.used d.a.source d.a.head bytes) p.cq)) p.multis) (over_lent x last))
 
 pub drew_lent : (p : Parts) → IsLentBy p → IsArriving p.rx → AreOpened p.rx → p.rx.next ≤ p.calls → draw_due p.rx.rx ≡ true → IsLentBy (drew p)
 drew_lent p ok rx is earlier due = by (who_draws p.rx due).a.bytes refl

@@ -278,7 +278,7 @@ module _ (p : Parts) (ok : IsLentBy p) (is : AreOpened p.rx) (source : ℕ) (ite
             (subst (λ (rx : Receiving). IsLentBy (with_message rx)) (sym (unclosed_same r.call full none)) (booked_lent (at_either item.head.ack) source item.head full p.rx.multis p.tx (writing (Some r.call) (entry_of r place source item.head item.bytes) p.cq) p.calls p.multis received_full))
         by (Some x) last = subst (λ (c : Option Receive). IsLentBy (let_back c (with_message (without_closed r.call full)))) (sym last)
             (booked_lent (at_either item.head.ack) source item.head (without_closed r.call full) p.rx.multis p.tx (writing (Some x.call) (Success (Released x.ctx x.used x.buf)) (writing (Some r.call) (entry_of r place source item.head item.bytes) p.cq)) p.calls
-                (let_go (unwrap_or (id_in p.rx.multis x.call) 0) (unread_of (writing (Some r.call) (entry_of r place source item.head item.bytes) p.cq)) p.multis) (closed_lent least multi x last))
+            (let_go (unwrap_or (id_in p.rx.multis x.call) 0) (unread_of (writing (Some r.call) (entry_of r place source item.head item.bytes) p.cq)) p.multis) (closed_lent least multi x last))
 
   tail_by : (c : Option Coming) → coming_from p.rx.rx source ≡ c → IsLentBy (tail source item p)
   unfolding answering

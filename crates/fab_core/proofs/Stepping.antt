@@ -114,12 +114,12 @@ module _ (rx : Receiving) (known : List (ℕ × ℕ)) (ops : List Operation) (cq
               (record {
                 parts = λ ctx at len is.
                     (let both : Some (r.ctx, place, e.len) ≡ Some (ctx, at, len) = sym e.part ∙ is in
-                     let triple : (r.ctx, place, e.len) ≡ (ctx, at, len) = cc in
-                     let c : r.ctx ≡ ctx = ap (λ (t : ℕ × ℕ × ℕ). t.0) triple in
-                     let a : place ≡ at = ap (λ (t : ℕ × ℕ × ℕ). t.1) triple in
-                     let l : e.len ≡ len = ap (λ (t : ℕ × ℕ × ℕ). t.2) triple in
-                     let le = e.within in
-                     (r.call, refl, subst (λ (k : ℕ). Contains multis.list (k, r.call)) c there.0, omega (arith, a, l, le, size)));
+                    let triple : (r.ctx, place, e.len) ≡ (ctx, at, len) = cc in
+                    let c : r.ctx ≡ ctx = ap (λ (t : ℕ × ℕ × ℕ). t.0) triple in
+                    let a : place ≡ at = ap (λ (t : ℕ × ℕ × ℕ). t.1) triple in
+                    let l : e.len ≡ len = ap (λ (t : ℕ × ℕ × ℕ). t.2) triple in
+                    let le = e.within in
+                    (r.call, refl, subst (λ (k : ℕ). Contains multis.list (k, r.call)) c there.0, omega (arith, a, l, le, size)));
                 ends = λ ctx used buf is. (let no : true ≡ false = sym (ap is_ending is) ∙ e.goes_on in absurd (cc));
                 cancels = λ x is kind. (let no : true ≡ false = sym (ap is_ending is ∙ cancel_ends x kind) ∙ e.goes_on in absurd (cc));
                 back = λ call is there ending. (let no : true ≡ false = sym ending ∙ e.goes_on in absurd (cc));
