@@ -95,7 +95,7 @@ module _ {X : Type 0} (test : X → Bool) where
   without_step x xs true is e more = absurd (cc)
   without_step x xs false is e more = rw (is, remove_first) (ap (λ ys. x ∷ ys) (more e))
 
-  without_none : (xs : List X) → find test xs ≡ None → remove_first test xs ≡ xs
+  pub without_none : (xs : List X) → find test xs ≡ None → remove_first test xs ≡ xs
   without_none [] e = refl
   without_none (x ∷ xs) e = without_step x xs (test x) refl e (without_none xs)
 

@@ -108,16 +108,16 @@ module _ (p : Parts) (rx : IsArriving p.rx) (d : IsDrawn p.rx) where
       (rw (get_or-set_same p.rx.rx.coming d.a.source (Some (Into d.r d.r.used)) None within) (same_eq d.r.call)) in
       rw (d.first, d.found, none, do_draw, give) (busy_stays d.r (state_of (with_arriving (with_receiving (goes d.a.source (Into d.r d.r.used) (set_apart d.r d.a p.rx.rx)) p.rx) p)) d.least d.multi busy)
 
-  handed_by : (bytes : List ℕ) (q : Parts) (o : Option Receive) → closed_if d.r.least d.r.call (filling d.r d.r.used bytes (set_apart d.r d.a p.rx.rx)) ≡ o
+  pub handed_by : (bytes : List ℕ) (q : Parts) → q.rx.multis ≡ p.rx.multis → (o : Option Receive) → closed_if d.r.least d.r.call (filling d.r d.r.used bytes (set_apart d.r d.a p.rx.rx)) ≡ o
       → let_back o (received (Some d.r.call) (at_match d.a.head.ack) (completed d.r d.r.used d.a.source d.a.head bytes) q) ≡ drew_as (drawn_last (option_map (released p.rx) o) (completed d.r d.r.used d.a.source d.a.head bytes)) (Some d.r.call) q
-  handed_by bytes q None e = refl
-  handed_by bytes q (Some l) e = (let same = back_call_if d.r.least d.r (filling d.r d.r.used bytes (set_apart d.r d.a p.rx.rx)) l e in rw same refl)
+  handed_by bytes q known None e = refl
+  handed_by bytes q known (Some l) e = (let same = back_call_if d.r.least d.r (filling d.r d.r.used bytes (set_apart d.r d.a p.rx.rx)) l e in rw (known, same) refl)
 
   drawn_some : (bytes : List ℕ) → d.a.bytes ≡ Some bytes → do_draw (state_of p) ≡ state_of (drew p)
   unfolding do_draw give
   drawn_some bytes some =
       let q = with_arriving (with_receiving (shared d.r.least d.r d.r.used bytes (set_apart d.r d.a p.rx.rx)) p.rx) p in
-      rw (d.first, d.found, some, do_draw, give) (completed_is d.r d.r.used d.a.source d.a.head bytes (at_match d.a.head.ack) d.r.least refl apart ∙ ap state_of (handed_by bytes q (closed_if d.r.least d.r.call (filling d.r d.r.used bytes (set_apart d.r d.a p.rx.rx))) refl))
+      rw (d.first, d.found, some, do_draw, give) (completed_is d.r d.r.used d.a.source d.a.head bytes (at_match d.a.head.ack) d.r.least refl apart ∙ ap state_of (handed_by bytes q refl (closed_if d.r.least d.r.call (filling d.r d.r.used bytes (set_apart d.r d.a p.rx.rx))) refl))
 
   pub drew_is : do_draw (state_of p) ≡ state_of (drew p)
   drew_is = by d.a.bytes refl

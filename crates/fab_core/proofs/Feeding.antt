@@ -259,13 +259,13 @@ module _ (p : Parts) (ok : IsTogether p) (rx : IsArriving p.rx) (source : ℕ) (
       same = rw (← fed_state p source f, ← fed_begun p source f within next) refl
 
   pub goes_last : (is_first f ≡ true → draw_due p.rx.rx ≡ false) → (q t : Parts) → held_of q ≡ held_of (fed source f p) → fits (state_of t).cq ≡ true → state_of t ≡ do_tail (state_of q) source (grown (begun_of p.rx source) f).head (grown (begun_of p.rx source) f).bytes
-      → t.rx.begun ≡ slice_set q.rx.begun source None → t.tx.places ≡ q.tx.places → t.multis ≡ q.multis → is_last f.head ≡ true → Goes None (held_of p) (Took source f) (held_of t)
+      → t.rx.begun ≡ slice_set q.rx.begun source None → t.tx.places ≡ q.tx.places → t.multis.list ≡ q.multis.list → is_last f.head ≡ true → Goes None (held_of p) (Took source f) (held_of t)
   goes_last ready q t is room state begun places multis last =
       let now : state_of q ≡ headed (is_first f) (state_of p) source f.head.item = ap (λ (h : Held). h.state) is ∙ fed_state p source f in
       let end : state_of t ≡ do_tail (headed (is_first f) (state_of p) source f.head.item) source (grown (begun_of p.rx source) f).head (grown (begun_of p.rx source) f).bytes = state ∙ ap (λ (s : State). do_tail s source (grown (begun_of p.rx source) f).head (grown (begun_of p.rx source) f).bytes) now in
       let cleared : t.rx.begun ≡ slice_set p.rx.begun source None = begun ∙ ap (λ (xs : List (Option Item)). slice_set xs source None) (ap (λ (h : Held). h.begun) is ∙ fed_begun p source f within next) ∙ set-set p.rx.begun source _ None in
       let kept : t.tx.places ≡ p.tx.places = places ∙ ap (λ (h : Held). h.places) is in
-      let same : t.multis ≡ p.multis = multis ∙ ap (λ (h : Held). h.multis) is in
+      let same : t.multis.list ≡ p.multis.list = multis ∙ ap (λ (h : Held). h.multis) is in
       (within, omega (arith, within, rx.tails), comes ready (is_first f) refl, rw last (heads_tails, rw (← end) room, rw (← end, ← cleared, ← kept, ← same) refl))
 
   -- it waits for room
@@ -386,7 +386,7 @@ module _ (p : Parts) (ok : IsTogether p) (rx : IsArriving p.rx) (source : ℕ) (
     last_room_back = rw (same, same_cq) (not_either _ _ (or_neither _ _ nothing_lacks).1)
 
   pub last_goes : (is_first f ≡ true → draw_due p.rx.rx ≡ false) → (q t : Parts) → held_of q ≡ held_of (fed source f p) → q.rx ≡ (fed source f p).rx → fits t.cq ≡ true → IfSome (begun_of q.rx source) (λ item. state_of t ≡ do_tail (state_of q) source item.head item.bytes)
-      → t.rx.begun ≡ slice_set q.rx.begun source None → t.tx.places ≡ q.tx.places → t.multis ≡ q.multis → is_last f.head ≡ true → Goes None (held_of p) (Took source f) (held_of t)
+      → t.rx.begun ≡ slice_set q.rx.begun source None → t.tx.places ≡ q.tx.places → t.multis.list ≡ q.multis.list → is_last f.head ≡ true → Goes None (held_of p) (Took source f) (held_of t)
   last_goes ready q t held same room state begun places multis last =
       let here : begun_of q.rx source ≡ Some (grown (begun_of p.rx source) f) = ap (λ (v : Arriving). begun_of v source) same ∙ fed_here p source f within next in
       goes_last p ok rx source f within next ready q t held room (subst (λ (i : Option Item). IfSome i (λ item. state_of t ≡ do_tail (state_of q) source item.head item.bytes)) here state) begun places multis last

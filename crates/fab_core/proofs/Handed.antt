@@ -33,7 +33,8 @@ use Rattle.fab_rma.specs.Serving.{Serving, is_request, outcome_at, room_for}
 use Rattle.fab_wire.specs.Frames.{IsSound}
 use Rattle.fab_model.specs.Target.{perform}
 use Rattle.fab_core.specs.Parts.{IsFitting, IsTogether, Parts, is_due, state_of}
-use Rattle.fab_core.specs.Doing.{booked, counters_after, cq_after, receive_now, tail, written_if}
+use Rattle.fab_core.specs.Members.{let_go}
+use Rattle.fab_core.specs.Doing.{booked, counters_after, cq_after, receive_now, tail, unread_of, written_if}
 use Rattle.fab_core.proofs.Doing.{passes, tail_is}
 use Rattle.fab_core.proofs.Next.{IsLeft, tail_left, tail_next}
 use Rattle.fab_core.proofs.Together.{book_room, match_room, most_booked, size_after, together_answered, together_booked, together_given, together_posted, size_written, together_requested}
@@ -205,8 +206,8 @@ module _ (p : Parts) (ok : IsTogether p) (rx : IsArriving p.rx) (tx : IsTransit 
 
     -- the parts then, by what is handed out
     abbrev pub last_then : Completed → Released → Parts
-    last_then x y = then (booked (at_either x.head.ack) x.source x.head p.tx)
-        (writing (call_into (coming_from p.rx.rx source)) (Success (GivenBack y.ctx y.used y.buf)) (writing (call_into (coming_from p.rx.rx source)) x.entry p.cq)) (counting Recv x.good p.counters)
+    last_then x y = record (then (booked (at_either x.head.ack) x.source x.head p.tx)
+        (writing (call_into (coming_from p.rx.rx source)) (Success (GivenBack y.ctx y.used y.buf)) (writing (call_into (coming_from p.rx.rx source)) x.entry p.cq)) (counting Recv x.good p.counters)) { multis = let_go y.id (unread_of (writing (call_into (coming_from p.rx.rx source)) x.entry p.cq)) p.multis }
 
     last_same : last_then (completed went.r went.place source item.head item.bytes) (released p.rx went.l) ≡ tail source item p
     last_same = (let same = back_call p.rx source went.r went.place went.l went.way went.last in rw (went.last, went.way, same) refl)

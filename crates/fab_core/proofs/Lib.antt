@@ -20,3 +20,14 @@ mod Judging
 mod Aside
 mod Asking
 mod Addressed
+mod Listing
+mod Placing
+mod Lending
+mod Opening
+mod Stepping
+mod Standing
+mod Posting
+mod Seating
+mod Lasting
+mod Lends
+mod Few

@@ -71,7 +71,7 @@ booked_places false source head v = refl
 pub record IsLeft (p q : Parts) (source : ℕ) : Type 0 where
   pub begun : q.rx.begun ≡ slice_set p.rx.begun source None
   pub places : q.tx.places ≡ p.tx.places
-  pub multis : q.multis ≡ p.multis
+  pub multis : q.multis.list ≡ p.multis.list
 
 ends_left : (p : Parts) (source : ℕ) (item : Item) (c : Option Coming) → IsLeft p (whole c source item (with_arriving (finishing source p.rx) p)) source
 ends_left p source item None = record { begun = refl; places = booked_places _ source item.head p.tx; multis = refl }

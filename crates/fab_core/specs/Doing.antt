@@ -9,7 +9,7 @@
 --     sent                            an item is transmitted
 --     posted_by, left_by              a receive call, a cancel
 --     accepted_by                     a message is accepted
-use Rattle.std.specs.Prelude.{ℕ, ◌+◌, ◌∷◌, Bool, true, false, ◌&&◌, ◌||◌, ◌==◌, not, List, [], length, Option, Some, None, is_none, is_some, find, nat_lt, nat_le}
+use Rattle.std.specs.Prelude.{ℕ, ◌+◌, ◌-◌, ◌∷◌, Bool, true, false, ◌&&◌, ◌||◌, ◌==◌, not, List, [], length, Option, Some, None, is_none, is_some, find, nat_lt, nat_le, unwrap_or}
 use Rattle.fab_base.specs.declared.entries.Class.TheVariants.{Recv}
 use Rattle.fab_base.specs.declared.entries.Entry.TheVariants.{Released}
 use Rattle.fab_base.specs.declared.entries.ErrKind.TheVariants.{Canceled}
@@ -35,7 +35,7 @@ use Rattle.fab_model.specs.State.{Completions, State, Transmitting, coming_from,
 use Rattle.fab_model.specs.Complete.{at_delivery, at_either, at_match, error, reply_head}
 use Rattle.fab_model.specs.Receiving.{Posting, cancellable, least_is_wrong, may_receive, source_is_known, without_posted}
 use Rattle.fab_model.specs.Sending.{Order, class_of, ending, first_fault, head_of, is_granted, is_silent, is_too_long, is_well_formed, refusal_of, success_of}
-use Rattle.fab_rx.specs.Arriving.{Arriving, arriving, finishing, growing, posting, receive_by, with_receiving}
+use Rattle.fab_rx.specs.Arriving.{Arriving, arriving, finishing, growing, id_in, posting, receive_by, with_receiving}
 use Rattle.fab_rx.specs.Leaving.{is_meant}
 use Rattle.fab_rx.specs.Results.{completed, last_of}
 use Rattle.fab_rx.specs.declared.results.Completed.{Completed}
@@ -44,6 +44,7 @@ use Rattle.fab_tx.specs.Transit.{Transit, accepting_by, answered_by, booking, en
 use Rattle.fab_tx.specs.declared.results.Ended.{Ended}
 use Rattle.fab_model.specs.Target.{perform}
 use Rattle.fab_rma.specs.Serving.{is_request, outcome_at}
+use Rattle.fab_core.specs.Members.{let_any_go, let_go}
 use Rattle.fab_core.specs.Parts.{Parts, state_of}
 use Rattle.fab_core.specs.Requests.{data_of, reply_of, served, writes_data}
 
@@ -141,10 +142,14 @@ fed source f p = growing_by source f.bytes (with_arriving (arrived (f.head.from 
 abbrev pub received : Option ℕ → Bool → Completed → Parts → Parts
 received call due c p = record p { cq = writing call c.entry p.cq; counters = counting Recv c.good p.counters; tx = booked due c.source c.head p.tx }
 
+-- how many entries are unread
+abbrev pub unread_of : Completions → ℕ
+unread_of cq = length cq.written - cq.taken_out
+
 -- the buffer of a multi-receive comes back, where one does
 abbrev pub let_back : Option Receive → Parts → Parts
 let_back None p = p
-let_back (Some r) p = record p { cq = writing (Some r.call) (Success (Released r.ctx r.used r.buf)) p.cq }
+let_back (Some r) p = record p { cq = writing (Some r.call) (Success (Released r.ctx r.used r.buf)) p.cq; multis = let_go (unwrap_or (id_in p.rx.multis r.call) 0) (unread_of p.cq) p.multis }
 
 -- the request is performed, its reply is booked, and a write that tells of itself does so
 abbrev pub requested : ℕ → Item → Parts → Parts
@@ -195,7 +200,7 @@ posted_by want buf ctx p =
 
 abbrev pub canceled : Option Receive → Parts → Parts
 canceled None p = p
-canceled (Some r) p = called (record p { cq = writing (Some r.call) (error (Some r.ctx) Canceled (Some r.buf)) p.cq; counters = counting Recv false p.counters })
+canceled (Some r) p = called (record p { cq = writing (Some r.call) (error (Some r.ctx) Canceled (Some r.buf)) p.cq; counters = counting Recv false p.counters; multis = let_any_go (id_in p.rx.multis r.call) (unread_of p.cq) p.multis })
 
 abbrev pub left_by : Option ℕ → Parts → Parts
 left_by ctx p = canceled (cancellable (is_meant ctx) p.rx.rx) (with_arriving (with_receiving (without_posted (is_meant ctx) p.rx.rx) p.rx) p)

@@ -10,7 +10,8 @@ use Rattle.fab_rx.specs.Drawing.{drawer, drawing, drawn}
 use Rattle.fab_rx.specs.declared.results.Drawn.{Drawn}
 use Rattle.fab_rx.specs.declared.results.Drawn.TheVariants.{GoesOn, Part, Last}
 use Rattle.fab_core.specs.Parts.{Parts}
-use Rattle.fab_core.specs.Doing.{received, with_arriving}
+use Rattle.fab_core.specs.Doing.{received, unread_of, with_arriving}
+use Rattle.fab_core.specs.Members.{let_go}
 
 -- the call of the receive that draws
 abbrev pub call_drawn : Receiving → Option ℕ
@@ -20,7 +21,7 @@ call_drawn rx = option_map (λ r. r.call) (drawer rx)
 abbrev pub drew_as : Drawn → Option ℕ → Parts → Parts
 drew_as GoesOn call p = p
 drew_as (Part x) call p = received call (at_match x.head.ack) x p
-drew_as (Last x y) call p = let q = received call (at_match x.head.ack) x p in record q { cq = writing call (Success (GivenBack y.ctx y.used y.buf)) q.cq }
+drew_as (Last x y) call p = let q = received call (at_match x.head.ack) x p in record q { cq = writing call (Success (GivenBack y.ctx y.used y.buf)) q.cq; multis = let_go y.id (unread_of q.cq) q.multis }
 
 abbrev pub drew : Parts → Parts
 drew p = drew_as (drawn p.rx) (call_drawn p.rx.rx) (with_arriving (drawing p.rx) p)

@@ -1,3 +1,4 @@
+pub mod Members
 pub mod Parts
 pub mod Doing
 pub mod Multis
@@ -6,3 +7,4 @@ pub mod Orders
 pub mod Requests
 pub mod Looks
 pub mod Asking
+pub mod Lent

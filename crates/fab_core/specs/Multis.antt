@@ -1,26 +1,23 @@
 -- Multi-receives (FI_MULTI_RECV of fi_msg(3)).
---     read_by first multis      those whose end was not read, once this entry is
 --     sharing_of ask buf        the call, as the machine has it
 --     passing_multi p           why it is refused now
 --     shared_by id ask buf p    it is posted, under this id
 --     IsShared ask buf p q      it is posted
+--     HasBuffer h ctx bytes     the buffer of the oldest one of the context
 use Rattle.std.specs.Prelude.{◌≡◌, ℕ, ◌++◌, ◌∷◌, [], false, cond, List, length, Option, Some, None, nat_le}
 use Rattle.fab_base.specs.declared.faults.Busy.TheVariants.{CqFull, PostedFull}
 use Rattle.fab_base.specs.declared.faults.Fault.{Fault}
 use Rattle.fab_base.specs.declared.faults.Fault.TheVariants.{Again}
 use Rattle.fab_base.specs.declared.operations.Receive.{Receive}
-use Rattle.fab_base.specs.declared.operations.Written.{Written}
-use Rattle.fab_model.specs.Matching.{remove_first}
 use Rattle.fab_model.specs.Receiving.{Posting, draw_due, want_of}
 use Rattle.fab_rx.specs.Arriving.{multi_by, opening}
-use Rattle.fab_face.specs.Acts.{is_end_of}
+use Rattle.fab_model.specs.Peers.{multi_buf}
+use Rattle.fab_face.specs.Answers.{multi_of}
+use Rattle.fab_face.specs.Held.{Held}
 use Rattle.fab_face.specs.declared.multis.MultiAsk.{MultiAsk}
 use Rattle.fab_core.specs.Parts.{Parts, state_of}
 use Rattle.fab_core.specs.Doing.{called, with_arriving}
-
-abbrev pub read_by : Option Written → List (ℕ × ℕ) → List (ℕ × ℕ)
-read_by None multis = multis
-read_by (Some w) multis = remove_first (is_end_of w) multis
+use Rattle.fab_core.specs.Members.{enlisted}
 
 abbrev pub sharing_of : MultiAsk → List ℕ → Posting
 sharing_of a buf = record { tagged = false; source = a.source; tag = 0; ignore = 0; buf = buf; least = Some a.least; ctx = a.ctx }
@@ -34,7 +31,10 @@ abbrev pub shared_now : MultiAsk → List ℕ → Parts → Receive
 shared_now a buf p = multi_by (Some p.calls) (want_of (state_of p) false a.source 0 0) buf a.least a.ctx
 
 abbrev pub shared_by : ℕ → MultiAsk → List ℕ → Parts → Parts
-shared_by id a buf p = record (called (with_arriving (opening id (shared_now a buf p) p.rx) p)) { multis = p.multis ++ (a.ctx, p.calls) ∷ [] }
+shared_by id a buf p = record (called (with_arriving (opening id (shared_now a buf p) p.rx) p)) { multis = enlisted id a.ctx p.calls p.multis }
 
 abbrev pub IsShared : MultiAsk → List ℕ → Parts → Parts → Type 0
 IsShared a buf p q = (id : ℕ) × (q ≡ shared_by id a buf p)
+
+abbrev pub HasBuffer : Held → ℕ → List ℕ → Type 0
+HasBuffer h ctx bytes = (call : ℕ) × (multi_of h ctx ≡ Some call) × (multi_buf h.state (Some call) ≡ bytes)

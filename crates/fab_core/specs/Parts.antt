@@ -19,6 +19,7 @@ use Rattle.fab_model.specs.State.{Completions, State, coming_from, lookup}
 use Rattle.fab_rx.specs.Arriving.{Arriving, begun_of}
 use Rattle.fab_tx.specs.Transit.{Transit}
 use Rattle.fab_face.specs.Held.{Held}
+use Rattle.fab_core.specs.Members.{Members}
 use Rattle.fab_rma.specs.Serving.{Serving, is_request}
 
 pub record Parts : Type 0 where
@@ -33,8 +34,8 @@ pub record Parts : Type 0 where
   pub counters : List Tally
   -- how many transmit and receive calls were accepted
   pub calls : ℕ
-  -- multi-receives whose release or cancel was not read, oldest first: context, and number of the call
-  pub multis : List (ℕ × ℕ)
+  -- multi-receives whose release or cancel was not read, oldest first
+  pub multis : Members
 
 abbrev pub state_of : Parts → State
 state_of p = record {
@@ -52,7 +53,7 @@ state_of p = record {
 }
 
 abbrev pub held_of : Parts → Held
-held_of p = record { state = state_of p; places = p.tx.places; begun = p.rx.begun; multis = p.multis }
+held_of p = record { state = state_of p; places = p.tx.places; begun = p.rx.begun; multis = p.multis.list }
 
 -- ---- replies that are to be booked
 

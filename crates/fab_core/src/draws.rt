@@ -20,6 +20,7 @@ impl<M: Matcher> Core<M> {
         ensures { self.new ≡ drew self.old }
     {
         self.rx.known();
+        self.rx.opened();
         self.tx.known();
         let about = Snapshot::of(&self.rx);
         let drawn = self.rx.draw();
@@ -27,6 +28,7 @@ impl<M: Matcher> Core<M> {
             tx,
             cq,
             counters,
+            multis,
             alloc,
             ..
         } = self;
@@ -41,7 +43,7 @@ impl<M: Matcher> Core<M> {
             Drawn::Last(completed, released) => {
                 let due = at_match(completed.head.ack);
                 hand_last::<Snapshot<Inbox<M>>, OfDrawer>(
-                    *alloc, cq, counters, tx, &about, due, completed, released,
+                    *alloc, cq, counters, tx, multis, &about, due, completed, released,
                 );
             }
         }

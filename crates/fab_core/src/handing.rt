@@ -6,8 +6,10 @@ ghost use Rattle.fab_base.specs.declared.entries.Taken.TheVariants.{Success};
 ghost use Rattle.fab_model.specs.Complete.{at_delivery, at_either, at_match, reply_head};
 ghost use Rattle.fab_model.specs.State.{counting, writing};
 ghost use Rattle.fab_cq.specs.Queues.{has_room};
-ghost use Rattle.fab_core.specs.Doing.{booked, reply_to};
+ghost use Rattle.fab_core.specs.Doing.{booked, reply_to, unread_of};
+ghost use Rattle.fab_core.specs.Members.{let_go};
 
+use crate::members::Multis;
 use fab_base::{Ack, Buf, Class, Entry, Item, ItemHead, Kind, Outcome, Taken};
 use fab_cq::{Counters, Queue};
 use fab_record::caller::Caller;
@@ -119,6 +121,7 @@ pub(crate) fn hand_last<X, C: Caller<X>>(
     cq: &mut Queue,
     counters: &mut Counters,
     tx: &mut Outbox,
+    multis: &mut Multis,
     about: &X,
     due: bool,
     completed: Completed,
@@ -129,7 +132,9 @@ pub(crate) fn hand_last<X, C: Caller<X>>(
     ensures cq { cq.new ≡ writing (C.call about.now) (Success (GivenBack released.ctx released.used released.buf)) (writing (C.call about.now) completed.entry cq.old) }
     ensures counters { counters.new ≡ counting Recv completed.good counters.old }
     ensures tx { tx.new ≡ booked due completed.source completed.head tx.old }
+    ensures multis { multis.new ≡ let_go released.id (unread_of (writing (C.call about.now) completed.entry cq.old)) multis.old }
 {
+    let id = released.id;
     let entry = given_back(released);
     let Completed {
         entry: message,
@@ -139,6 +144,7 @@ pub(crate) fn hand_last<X, C: Caller<X>>(
     } = completed;
     counters.count(Class::Recv, good);
     cq.write::<X, C>(about, message);
+    multis.let_go(id, cq.waiting());
     cq.write::<X, C>(about, entry);
     book(alloc, tx, due, source, &head);
 }

@@ -16,9 +16,10 @@
 //! | `handing` | replies are booked |
 //! | `looks` | unexpected messages are looked at and set aside, claimed ones taken and dropped |
 //! | `draws` | multi-receives take unexpected messages |
-//! | `multis` | multi-receives, from their call until their end is read |
+//! | `multis` | multi-receives are judged and posted, and bytes of them lent |
+//! | `members`, `places` | those whose end was not read, and where their buffers are |
 //! | `keeping` | counters and addresses |
-//! | `machine`, `looking` | all of it as the endpoint's machine |
+//! | `machine`, `looking`, `receiving` | all of it as the endpoint's machine |
 //! | `targets` | the regions, as their owner calls them |
 #![tactic(auto)]
 
@@ -30,9 +31,12 @@ mod keeping;
 mod looking;
 mod looks;
 mod machine;
+mod members;
 mod multis;
 mod parts;
+mod places;
 mod receives;
+mod receiving;
 mod requests;
 mod sending;
 mod serving;

@@ -1,7 +1,6 @@
 //! A core is the machine under an endpoint.
 ghost use Rattle.fab_core.specs.Parts.{held_of};
 
-use crate::multis::read;
 use crate::parts::Core;
 use crate::taking::is_last;
 use fab_base::{Buf, Entry, ErrEntry, Fault, FrameHead, NoMemory, Refused};
@@ -136,7 +135,7 @@ impl<M: Matcher> Machine for Core<M> {
         let before = Snapshot::of(&self.cq);
         match self.cq.read() {
             Ok(entry) => {
-                read(&mut self.multis, &before);
+                self.multis.read(&before);
                 Ok(entry)
             }
             Err(why) => Err(why),
@@ -147,7 +146,7 @@ impl<M: Matcher> Machine for Core<M> {
         let before = Snapshot::of(&self.cq);
         match self.cq.read_err() {
             Ok(entry) => {
-                read(&mut self.multis, &before);
+                self.multis.read(&before);
                 Ok(entry)
             }
             Err(why) => Err(why),

@@ -1,14 +1,15 @@
 //! What a core is made of.
-ghost use Rattle.std.specs.Prelude.{◌≡◌, ℕ, ◌+◌, ◌≤◌, IfOk, IfErr, replicate, [], None};
+ghost use Rattle.std.specs.Prelude.{◌≡◌, ℕ, ◌+◌, ◌≤◌, IfOk, IfErr, replicate, None};
 ghost use Rattle.fab_cq.specs.Counts.{no_counts};
 ghost use Rattle.fab_cq.specs.Queues.{nothing_written};
 ghost use Rattle.fab_rma.specs.Serving.{nothing_served};
 ghost use Rattle.fab_rx.specs.Arriving.{nothing_arrived};
 ghost use Rattle.fab_tx.specs.Transit.{nothing_accepted};
+ghost use Rattle.fab_core.specs.Members.{most_multis, nobody};
 ghost use Rattle.fab_core.specs.Parts.{held_of};
 ghost use Rattle.fab_core.specs.Doing.{called};
 
-use crate::multis::Multis;
+use crate::members::Multis;
 use fab_av::Av;
 use fab_base::{Caps, Info, NoMemory};
 use fab_cq::{Counters, Queue};
@@ -74,6 +75,7 @@ impl<M: Matcher> Model for Core<M> {
     ghost use Rattle.std.specs.Prelude.{◌≡◌};
     ghost use Rattle.fab_core.specs.Parts.{IsTogether, Parts};
     ghost use Rattle.fab_core.specs.Requests.{IsServing};
+    ghost use Rattle.fab_core.specs.Lent.{HasPlaces, IsLent};
 
     ghost Value = { Parts };
 
@@ -81,7 +83,9 @@ impl<M: Matcher> Model for Core<M> {
 
     ghost invariant = { λ c. (c.most_tx ≡ c.tx.most) × (c.most_rx ≡ c.rx.most)
         × IsTogether (record { caps = c.caps; selective = c.selective; av = c.av; rx = c.rx; tx = c.tx; target = c.target; cq = c.cq; counters = c.counters; calls = c.calls; multis = c.multis })
-        × IsServing c.rx.begun c.target };
+        × IsServing c.rx.begun c.target
+        × IsLent c.rx.rx c.rx.multis c.tx.tx.live c.cq c.calls c.multis
+        × HasPlaces c.most_rx c.av.peers c.cq.size c.multis };
 }
 
 /// One more call is accepted. It costs nothing that can fail.
@@ -101,6 +105,13 @@ struct Halves<M: Matcher> {
     multis: Multis,
 }
 
+/// How many multi-receives may be posted, closing, or ended and unread, and one more.
+fn most_multis(most: u32, peers: u32, entries: u32) -> usize
+    ensures { result ≡ most_multis most peers entries }
+{
+    most as usize + peers as usize + entries as usize + 1
+}
+
 /// Takes the memory for so many peers.
 fn make_halves<M: Matcher>(alloc: Global, info: &Info, peers: u32) -> Result<Halves<M>, NoMemory>
     requires size { 2 ≤ info.now.cq }
@@ -109,13 +120,13 @@ fn make_halves<M: Matcher>(alloc: Global, info: &Info, peers: u32) -> Result<Hal
     ensures target { IfOk result (λ h. h.target ≡ nothing_served peers) }
     ensures cq { IfOk result (λ h. h.cq ≡ nothing_written info.now.cq) }
     ensures calls { IfOk result (λ h. h.calls ≡ 0) }
-    ensures multis { IfOk result (λ h. h.multis ≡ []) }
+    ensures multis { IfOk result (λ h. h.multis ≡ nobody (most_multis info.now.rx peers info.now.cq)) }
 {
     let tx = Outbox::new(alloc, peers, info.tx)?;
     let target = Target::new(alloc, peers)?;
     let cq = Queue::new(alloc, info.cq)?;
     let calls = Record::new(alloc, &())?;
-    let multis = Record::new(alloc, &())?;
+    let multis = Multis::new(alloc, most_multis(info.rx, peers, info.cq))?;
     let rx = Inbox::new(alloc, peers, info.rx)?;
     Ok(Halves {
         rx,
@@ -143,7 +154,7 @@ impl<M: Matcher> Core<M> {
           cq = nothing_written info.now.cq;
           counters = no_counts;
           calls = 0;
-          multis = [];
+          multis = nobody (most_multis info.now.rx av.peers info.now.cq);
         }) }
         ensures err { IfErr result (λ back. back ≡ av) }
     {

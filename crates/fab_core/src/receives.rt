@@ -1,12 +1,15 @@
 //! Receives are judged, posted and cancelled (fi_msg(3), fi_tagged(3), fi_cancel of fi_endpoint(3)).
 ghost use Rattle.std.specs.Prelude.{◌≡◌, ◌<◌, Some, None, length, IsTrue, OnErr, OnOk, IfErr, true, false, is_some};
+ghost use Rattle.std.specs.Option.{option_map};
 ghost use Rattle.fab_base.specs.declared.entries.ErrKind.TheVariants.{Canceled};
 ghost use Rattle.fab_base.specs.declared.faults.Fault.TheVariants.{Again};
 ghost use Rattle.fab_base.specs.declared.faults.Busy.TheVariants.{CqFull};
 ghost use Rattle.fab_model.specs.Complete.{error};
-ghost use Rattle.fab_model.specs.Receiving.{cancellable, may_receive, source_is_known, used_source};
+ghost use Rattle.fab_model.specs.Receiving.{cancellable, may_receive, source_is_known, used_source, without_posted};
 ghost use Rattle.fab_cq.specs.Queues.{has_room};
+ghost use Rattle.fab_rx.specs.Arriving.{with_receiving};
 ghost use Rattle.fab_rx.specs.Leaving.{is_meant};
+ghost use Rattle.fab_rx.specs.Results.{cancelled};
 ghost use Rattle.fab_core.specs.Parts.{state_of};
 ghost use Rattle.fab_core.specs.Doing.{left_by, lasting_post, posted_by};
 ghost use Rattle.fab_core.specs.Orders.{is_held, posting_of, wanted, passing_post};
@@ -39,6 +42,17 @@ fn canceled(left: Cancelled) -> Taken
         olen: 0,
         buf: Some(buf),
     })
+}
+
+/// The first posted receive of this context to which nothing is under way leaves, of any where none is named.
+fn withdraw<M: Matcher>(rx: &mut Inbox<M>, ctx: Option<u64>) -> Option<Cancelled>
+    ensures found { result ≡ option_map (cancelled rx.old) (cancellable (is_meant ctx) rx.old.rx) }
+    ensures rest { rx.new ≡ with_receiving (without_posted (is_meant ctx) rx.old.rx) rx.old }
+{
+    match ctx {
+        Some(ctx) => rx.cancel(ctx),
+        None => rx.cancel_first(),
+    }
 }
 
 impl<M: Matcher> Core<M> {
@@ -178,17 +192,17 @@ impl<M: Matcher> Core<M> {
         ensures err { IfErr result (λ why. (why ≡ Again (CqFull self.old.cq.size)) × (is_held 1 self.old ≡ true)) }
         ensures stays { OnErr result (self.new ≡ self.old) }
     {
+        self.rx.opened();
         if self.is_held(1) {
             return Err(self.held());
         }
         let about = (Snapshot::of(&self.rx), ctx);
-        let left = match ctx {
-            Some(ctx) => self.rx.cancel(ctx),
-            None => self.rx.cancel_first(),
+        let Some(left) = withdraw(&mut self.rx, ctx) else {
+            unreachable!()
         };
-        let Some(left) = left else { unreachable!() };
         call(&mut self.calls);
         self.counters.count(Class::Recv, false);
+        self.multis.let_any_go(left.id, self.cq.waiting());
         self.cq
             .write::<(Snapshot<Inbox<M>>, Option<u64>), OfReceive>(&about, canceled(left));
         Ok(())

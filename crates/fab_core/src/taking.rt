@@ -142,6 +142,7 @@ impl<M: Matcher> Core<M> {
         ensures err { OnErr result (held_of self.new ≡ held_of self.old) }
     {
         self.rx.known();
+        self.rx.opened();
         if is_request(head.kind) {
             self.target.make_room(source, head)?;
             return self.begin_owing(source, head);
@@ -163,6 +164,7 @@ impl<M: Matcher> Core<M> {
         ensures err { OnErr result (held_of self.new ≡ held_of self.old) }
     {
         self.rx.known();
+        self.rx.opened();
         self.tx.known();
         self.tx.make_room(source)?;
         let arrived = self.rx.arrive(source, head);
@@ -279,7 +281,7 @@ impl<M: Matcher> Core<M> {
         ensures next { StayNext (state_of self.old) (state_of self.new) }
         ensures begun { self.new.rx.begun ≡ slice_set self.old.rx.begun source None }
         ensures places { self.new.tx.places ≡ self.old.tx.places }
-        ensures multis { self.new.multis ≡ self.old.multis }
+        ensures multis { self.new.multis.list ≡ self.old.multis.list }
         ensures fits { fits self.new.cq ≡ true }
     {
         self.rx.known();
@@ -297,6 +299,7 @@ impl<M: Matcher> Core<M> {
         ensures { IfSome (begun_of self.old.rx source) (λ item. self.new ≡ tail source item self.old) }
     {
         self.rx.known();
+        self.rx.opened();
         self.tx.known();
         let about = (Snapshot::of(&self.rx), source);
         let finished = self.rx.finish(source);
@@ -305,6 +308,7 @@ impl<M: Matcher> Core<M> {
             target,
             cq,
             counters,
+            multis,
             alloc,
             ..
         } = self;
@@ -318,7 +322,7 @@ impl<M: Matcher> Core<M> {
             Finished::Last(completed, released) => {
                 let due = at_either(completed.head.ack);
                 hand_last::<(Snapshot<Inbox<M>>, u32), IntoReceive>(
-                    *alloc, cq, counters, tx, &about, due, completed, released,
+                    *alloc, cq, counters, tx, multis, &about, due, completed, released,
                 );
             }
             Finished::Kept(head) => book(*alloc, tx, at_delivery(head.ack), source, &head),

@@ -3,10 +3,14 @@
 --     has_room n cq            n more entries may be unread
 --     IsNext entry cq          the oldest unread entry is this one
 --     taking_out cq            one more entry is read
+--     later n cq               the unread entry before which so many are unread
+--     buffer_in entry          the buffer that the end of a receive gives back
+--     given_back n cq          the buffer that this unread entry gives back
 --     success_of, error_of     what a read of the oldest unread entry answers, if any is
 --     IsKept                   what is stored is what is unread
-use Rattle.std.specs.Prelude.{◌≡◌, ℕ, ◌+◌, ◌-◌, ◌≤◌, Bool, nat_le, List, [], length, map, drop, Option, Some, None, Result, Ok, Err}
+use Rattle.std.specs.Prelude.{◌≡◌, ℕ, ◌+◌, ◌-◌, ◌≤◌, Bool, nat_le, List, [], length, map, drop, slice_get, Option, Some, None, Result, Ok, Err}
 use Rattle.fab_base.specs.declared.entries.Entry.{Entry}
+use Rattle.fab_base.specs.declared.entries.Entry.TheVariants.{Released}
 use Rattle.fab_base.specs.declared.entries.ErrEntry.{ErrEntry}
 use Rattle.fab_base.specs.declared.entries.Taken.{Taken}
 use Rattle.fab_base.specs.declared.entries.Taken.TheVariants.{Success, Failure}
@@ -27,6 +31,21 @@ IsNext entry cq = (w : Written) × (unread cq ≡ Some w) × (w.entry ≡ entry)
 
 abbrev pub taking_out : Completions → Completions
 taking_out cq = record cq { taken_out = cq.taken_out + 1 }
+
+-- the unread entry before which so many are unread
+abbrev pub later : ℕ → Completions → Option Written
+later n cq = slice_get cq.written (cq.taken_out + n)
+
+-- the buffer that the release of a multi-receive gives back, or an error
+abbrev pub buffer_in : Taken → Option (List ℕ)
+buffer_in entry = elim entry [ Success entry ↦ elim entry [ Released ctx used buf ↦ Some buf | _ ↦ None ] | Failure e ↦ e.buf ]
+
+abbrev pub buffer_by : Option Written → Option (List ℕ)
+buffer_by None = None
+buffer_by (Some w) = buffer_in w.entry
+
+abbrev pub given_back : ℕ → Completions → Option (List ℕ)
+given_back n cq = buffer_by (later n cq)
 
 -- fi_cq_read gives a success, and says FI_EAVAIL where an error stands
 abbrev pub success_of : Option Written → Result Entry Fault

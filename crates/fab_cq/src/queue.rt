@@ -1,10 +1,10 @@
 //! The completion queue.
-ghost use Rattle.std.specs.Prelude.{◌≡◌, ℕ, ◌+◌, ◌-◌, ◌≤◌, length, IfOk, OnOk, OnErr, IfSome, IfNone, IsTrue, None};
+ghost use Rattle.std.specs.Prelude.{◌≡◌, ℕ, ◌+◌, ◌-◌, ◌≤◌, length, IfOk, OnOk, OnErr, IfSome, IfNone, IsTrue, Some, None};
 ghost use Rattle.fab_model.specs.State.{Completions, writing, fits};
 ghost use Rattle.fab_model.specs.Peers.{unread};
-ghost use Rattle.fab_cq.specs.Queues.{nothing_written, has_room, IsNext, taking_out, success_of, error_of};
+ghost use Rattle.fab_cq.specs.Queues.{nothing_written, has_room, IsNext, taking_out, success_of, error_of, buffer_in, given_back};
 
-use fab_base::{Entry, ErrEntry, Fault, NoMemory, Taken};
+use fab_base::{Buf, Entry, ErrEntry, Fault, NoMemory, Taken};
 use fab_record::caller::Caller;
 use fab_record::record::{Begins, Change, Record};
 use std::alloc::Global;
@@ -69,6 +69,18 @@ impl Model for Queue {
     ghost invariant = { λ q. IsKept q.unread.items (deque_capacity q.unread) q.size q.past };
 }
 
+/// The buffer that an entry gives back, where it is the release of a multi-receive or an error.
+fn buffer_in(entry: &Taken) -> Option<&Buf>
+    ensures some { IfSome result (λ buf. buffer_in entry.now ≡ Some buf.now) }
+    ensures none { IfNone result (buffer_in entry.now ≡ None) }
+{
+    match entry {
+        Taken::Success(Entry::Released { buf, .. }) => Some(buf),
+        Taken::Success(_) => None,
+        Taken::Failure(error) => error.buf.as_ref(),
+    }
+}
+
 impl Queue {
     /// An empty queue in which `size` entries may be unread. It reserves the memory for all of them, and answers
     /// `NoMemory` where there is none.
@@ -94,6 +106,29 @@ impl Queue {
         ensures { result ≡ self.now.size }
     {
         self.size
+    }
+
+    /// How many entries are unread.
+    pub fn waiting(&self) -> usize
+        ensures { result ≡ length self.now.written - self.now.taken_out }
+    {
+        self.unread.len()
+    }
+
+    /// Lends the bytes of the buffer that an unread entry gives back, before which so many are unread: the release
+    /// of a multi-receive (FI_MULTI_RECV of fi_msg(3)), or an error. `None` exactly where there is no such entry, or
+    /// it gives none back.
+    pub fn buffer_at(&self, place: usize) -> Option<&[u8]>
+        ensures some { IfSome result (λ bytes. given_back place self.now ≡ Some bytes.now) }
+        ensures none { IfNone result (given_back place self.now ≡ None) }
+    {
+        let Some(entry) = self.unread.get(place) else {
+            return None;
+        };
+        let Some(buf) = buffer_in(entry) else {
+            return None;
+        };
+        Some(buf.as_slice())
     }
 
     /// Whether so many more entries may be written, so that the queue fits with them.

@@ -26,3 +26,4 @@ pub mod Shutting
 pub mod Giving
 pub mod Draught
 mod Worked
+pub mod Opened

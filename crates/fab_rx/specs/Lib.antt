@@ -10,3 +10,4 @@ pub mod Draws
 pub mod Drawing
 pub mod Leaving
 pub mod Claims
+pub mod Opened

@@ -3,6 +3,7 @@ ghost use Rattle.std.specs.Prelude.{◌≡◌, ◌==◌, ◌||◌, None, IfNone,
 ghost use Rattle.std.specs.List.{list_any};
 ghost use Rattle.fab_match.specs.Matcher.{has_id};
 ghost use Rattle.fab_rx.specs.Arriving.{open_under};
+ghost use Rattle.fab_rx.specs.Opened.{AreOpened};
 
 use crate::inbox::Inbox;
 use crate::multis::is_closing;
@@ -18,6 +19,13 @@ fn stands(order: &VecDeque<u32>, closing: &[(u32, u64)], id: u32) -> bool
 }
 
 impl<M: Matcher> Inbox<M> {
+    /// What holds of the receives that are posted or closing. It costs nothing.
+    pub fn opened(&self)
+        ensures { AreOpened self.now }
+    {
+        let _ = &self.past;
+    }
+
     /// The bytes of the multi-receive under an id that is posted or closing. A message that is still arriving
     /// has not changed them. `None` exactly where none stands under the id.
     pub fn buffer_of(&self, id: u32) -> Option<&[u8]>

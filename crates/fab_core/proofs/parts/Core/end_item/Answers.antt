@@ -1,4 +1,8 @@
-use Rattle.std.proofs.Common.{◌≡◌, ◌∙◌, ◌<◌, true, length, sym, subst, refl}
+use Rattle.fab_core.specs.Lent.{IsLentBy}
+use Rattle.fab_core.proofs.Standing.{tail_lent}
+use Rattle.std.proofs.Common.{◌≡◌, ◌∙◌, ◌<◌, ℕ, true, length, sym, subst, refl}
+use Rattle.fab_core.specs.Lent.{HasPlaces}
+use Rattle.fab_core.proofs.Together.{size_after, size_written}
 use Rattle.std.specs.Prelude.{IsSomeAnd, IsTrue, is_some}
 use Rattle.fab_base.specs.declared.items.Item.{Item}
 use Rattle.fab_model.specs.State.{coming_from}
@@ -19,7 +23,7 @@ invariant_of-self g c =
     let there = item_there (λ item. length item.bytes ≡ item.head.total) (begun_of p.rx c.args.source) (subst (λ (p : Parts). IsSomeAnd (begun_of p.rx c.args.source) (λ item. length item.bytes ≡ item.head.total)) (sym c.self.view_is) c.requires.whole) in
     let outcome = sym (of_begun (λ item. c.finish-finished.result ≡ handed p.rx (last_of c.args.source p.rx) (ended (coming_from p.rx.rx c.args.source) c.args.source item)) (begun_of p.rx c.args.source) there.0 there.1 c.finish-finished.ensures.outcome) in
     let end = end_received p c.self.invariant.2 c.known.ensures c.known-2.ensures c.args.source within there.0 there.1 c.in-Received.completed (outcome ∙ c.in-Received.is) in
-    rw (c.finish-finished.ensures.new, c.hand_over.ensures.tx, c.hand_over.ensures.cq, c.hand_over.ensures.counters, c.at_either-due.ensures, c.of.ensures) (c.self.invariant.0 ∙ sym end.2, c.self.invariant.1, end.1, serving_whole c.self.inside.rx.begun c.self.inside.target c.self.invariant.3 c.args.source)
+    rw (c.finish-finished.ensures.new, c.hand_over.ensures.tx, c.hand_over.ensures.cq, c.hand_over.ensures.counters, c.at_either-due.ensures, c.of.ensures) (c.self.invariant.0 ∙ sym end.2, c.self.invariant.1, end.1, serving_whole c.self.inside.rx.begun c.self.inside.target c.self.invariant.3 c.args.source, subst IsLentBy (sym end.0) (tail_lent p c.self.invariant.4 c.opened.ensures c.args.source there.0), c.self.invariant.5)
 
 pub invariant_of-self-in-Kept : goal.invariant_of-self-in-Kept
 invariant_of-self-in-Kept g c =
@@ -28,7 +32,7 @@ invariant_of-self-in-Kept g c =
     let there = item_there (λ item. length item.bytes ≡ item.head.total) (begun_of p.rx c.args.source) (subst (λ (p : Parts). IsSomeAnd (begun_of p.rx c.args.source) (λ item. length item.bytes ≡ item.head.total)) (sym c.self.view_is) c.requires.whole) in
     let outcome = sym (of_begun (λ item. c.finish-finished.result ≡ handed p.rx (last_of c.args.source p.rx) (ended (coming_from p.rx.rx c.args.source) c.args.source item)) (begun_of p.rx c.args.source) there.0 there.1 c.finish-finished.ensures.outcome) in
     let end = end_kept p c.self.invariant.2 c.known.ensures c.known-2.ensures c.args.source within there.0 there.1 c.in-Kept.head (outcome ∙ c.in-Kept.is) in
-    rw (c.finish-finished.ensures.new, c.book.ensures, c.at_delivery.ensures) (c.self.invariant.0 ∙ sym end.2, c.self.invariant.1, end.1, serving_whole c.self.inside.rx.begun c.self.inside.target c.self.invariant.3 c.args.source)
+    rw (c.finish-finished.ensures.new, c.book.ensures, c.at_delivery.ensures) (c.self.invariant.0 ∙ sym end.2, c.self.invariant.1, end.1, serving_whole c.self.inside.rx.begun c.self.inside.target c.self.invariant.3 c.args.source, subst IsLentBy (sym end.0) (tail_lent p c.self.invariant.4 c.opened.ensures c.args.source there.0), c.self.invariant.5)
 
 pub invariant_of-self-in-Thrown : goal.invariant_of-self-in-Thrown
 invariant_of-self-in-Thrown g c =
@@ -37,7 +41,7 @@ invariant_of-self-in-Thrown g c =
     let there = item_there (λ item. length item.bytes ≡ item.head.total) (begun_of p.rx c.args.source) (subst (λ (p : Parts). IsSomeAnd (begun_of p.rx c.args.source) (λ item. length item.bytes ≡ item.head.total)) (sym c.self.view_is) c.requires.whole) in
     let outcome = sym (of_begun (λ item. c.finish-finished.result ≡ handed p.rx (last_of c.args.source p.rx) (ended (coming_from p.rx.rx c.args.source) c.args.source item)) (begun_of p.rx c.args.source) there.0 there.1 c.finish-finished.ensures.outcome) in
     let end = end_thrown p c.self.invariant.2 c.known.ensures c.known-2.ensures c.args.source within there.0 there.1 c.in-Thrown.head (outcome ∙ c.in-Thrown.is) in
-    rw (c.finish-finished.ensures.new, c.book-in-Thrown.ensures, c.at_either.ensures) (c.self.invariant.0 ∙ sym end.2, c.self.invariant.1, end.1, serving_whole c.self.inside.rx.begun c.self.inside.target c.self.invariant.3 c.args.source)
+    rw (c.finish-finished.ensures.new, c.book-in-Thrown.ensures, c.at_either.ensures) (c.self.invariant.0 ∙ sym end.2, c.self.invariant.1, end.1, serving_whole c.self.inside.rx.begun c.self.inside.target c.self.invariant.3 c.args.source, subst IsLentBy (sym end.0) (tail_lent p c.self.invariant.4 c.opened.ensures c.args.source there.0), c.self.invariant.5)
 
 pub invariant_of-self-2 : goal.invariant_of-self-2
 invariant_of-self-2 g c =
@@ -46,7 +50,7 @@ invariant_of-self-2 g c =
     let there = item_there (λ item. length item.bytes ≡ item.head.total) (begun_of p.rx c.args.source) (subst (λ (p : Parts). IsSomeAnd (begun_of p.rx c.args.source) (λ item. length item.bytes ≡ item.head.total)) (sym c.self.view_is) c.requires.whole) in
     let outcome = sym (of_begun (λ item. c.finish-finished.result ≡ handed p.rx (last_of c.args.source p.rx) (ended (coming_from p.rx.rx c.args.source) c.args.source item)) (begun_of p.rx c.args.source) there.0 there.1 c.finish-finished.ensures.outcome) in
     let end = end_answer p c.self.invariant.2 c.known.ensures c.known-2.ensures c.args.source within there.0 there.1 c.in-Answer.item (outcome ∙ c.in-Answer.is) in
-    rw (c.finish-finished.ensures.new, c.answer.ensures.tx, c.answer.ensures.cq, c.answer.ensures.counters) (c.self.invariant.0 ∙ sym end.2, c.self.invariant.1, end.1, serving_whole c.self.inside.rx.begun c.self.inside.target c.self.invariant.3 c.args.source)
+    rw (c.finish-finished.ensures.new, c.answer.ensures.tx, c.answer.ensures.cq, c.answer.ensures.counters) (c.self.invariant.0 ∙ sym end.2, c.self.invariant.1, end.1, serving_whole c.self.inside.rx.begun c.self.inside.target c.self.invariant.3 c.args.source, subst IsLentBy (sym end.0) (tail_lent p c.self.invariant.4 c.opened.ensures c.args.source there.0), subst (λ (n : ℕ). HasPlaces c.self.inside.most_rx c.self.inside.av.peers n c.self.inside.multis) (sym (size_after _ _ _ _)) c.self.invariant.5)
 
 pub returns-in-Received : goal.returns-in-Received
 returns-in-Received g c =
@@ -108,7 +112,7 @@ invariant_of-self-in-Request g c =
     let there = item_there (λ item. length item.bytes ≡ item.head.total) (begun_of p.rx c.args.source) (subst (λ (p : Parts). IsSomeAnd (begun_of p.rx c.args.source) (λ item. length item.bytes ≡ item.head.total)) (sym c.self.view_is) c.requires.whole) in
     let outcome = sym (of_begun (λ item. c.finish-finished.result ≡ handed p.rx (last_of c.args.source p.rx) (ended (coming_from p.rx.rx c.args.source) c.args.source item)) (begun_of p.rx c.args.source) there.0 there.1 c.finish-finished.ensures.outcome) in
     let end = end_request p c.self.invariant.2 c.known.ensures c.known-2.ensures c.args.source within there.0 there.1 c.in-Request.item (outcome ∙ c.in-Request.is) in
-    rw (c.finish-finished.ensures.new, c.serve.ensures.tx, c.serve.ensures.cq, c.serve.ensures.target) (c.self.invariant.0 ∙ sym end.2, c.self.invariant.1, end.1, serving_served c.self.inside.rx.begun c.self.inside.target c.self.invariant.3 c.args.source 0 _ refl)
+    rw (c.finish-finished.ensures.new, c.serve.ensures.tx, c.serve.ensures.cq, c.serve.ensures.target) (c.self.invariant.0 ∙ sym end.2, c.self.invariant.1, end.1, serving_served c.self.inside.rx.begun c.self.inside.target c.self.invariant.3 c.args.source 0 _ refl, subst IsLentBy (sym end.0) (tail_lent p c.self.invariant.4 c.opened.ensures c.args.source there.0), subst (λ (n : ℕ). HasPlaces c.self.inside.most_rx c.self.inside.av.peers n c.self.inside.multis) (sym (size_written _ _ _)) c.self.invariant.5)
 
 pub hand_last-requires-clause-written : goal.hand_last-requires-clause-written
 hand_last-requires-clause-written g c =
@@ -133,7 +137,7 @@ invariant_of-self-in-Last g c =
     let there = item_there (λ item. length item.bytes ≡ item.head.total) (begun_of p.rx c.args.source) (subst (λ (p : Parts). IsSomeAnd (begun_of p.rx c.args.source) (λ item. length item.bytes ≡ item.head.total)) (sym c.self.view_is) c.requires.whole) in
     let outcome = sym (of_begun (λ item. c.finish-finished.result ≡ handed p.rx (last_of c.args.source p.rx) (ended (coming_from p.rx.rx c.args.source) c.args.source item)) (begun_of p.rx c.args.source) there.0 there.1 c.finish-finished.ensures.outcome) in
     let end = end_last p c.self.invariant.2 c.known.ensures c.known-2.ensures c.args.source within there.0 there.1 c.in-Last.completed c.in-Last.released (outcome ∙ c.in-Last.is) in
-    rw (c.finish-finished.ensures.new, c.hand_last.ensures.tx, c.hand_last.ensures.cq, c.hand_last.ensures.counters, c.at_either-due-in-Last.ensures, c.of.ensures) (c.self.invariant.0 ∙ sym end.2, c.self.invariant.1, end.1, serving_whole c.self.inside.rx.begun c.self.inside.target c.self.invariant.3 c.args.source)
+    rw (c.finish-finished.ensures.new, c.hand_last.ensures.tx, c.hand_last.ensures.cq, c.hand_last.ensures.counters, c.hand_last.ensures.multis, c.at_either-due-in-Last.ensures, c.of.ensures) (c.self.invariant.0 ∙ sym end.2, c.self.invariant.1, end.1, serving_whole c.self.inside.rx.begun c.self.inside.target c.self.invariant.3 c.args.source, subst IsLentBy (sym end.0) (tail_lent p c.self.invariant.4 c.opened.ensures c.args.source there.0), c.self.invariant.5)
 
 pub returns-in-Last : goal.returns-in-Last
 returns-in-Last g c =
@@ -142,7 +146,7 @@ returns-in-Last g c =
     let there = item_there (λ item. length item.bytes ≡ item.head.total) (begun_of p.rx c.args.source) (subst (λ (p : Parts). IsSomeAnd (begun_of p.rx c.args.source) (λ item. length item.bytes ≡ item.head.total)) (sym c.self.view_is) c.requires.whole) in
     let outcome = sym (of_begun (λ item. c.finish-finished.result ≡ handed p.rx (last_of c.args.source p.rx) (ended (coming_from p.rx.rx c.args.source) c.args.source item)) (begun_of p.rx c.args.source) there.0 there.1 c.finish-finished.ensures.outcome) in
     let end = end_last p c.self.invariant.2 c.known.ensures c.known-2.ensures c.args.source within there.0 there.1 c.in-Last.completed c.in-Last.released (outcome ∙ c.in-Last.is) in
-    rw (← c.self.view_is, c.finish-finished.ensures.new, c.hand_last.ensures.tx, c.hand_last.ensures.cq, c.hand_last.ensures.counters, c.at_either-due-in-Last.ensures, c.of.ensures) (if_begun (λ item. _ ≡ tail c.args.source item p) (begun_of p.rx c.args.source) there.0 there.1 end.0)
+    rw (← c.self.view_is, c.finish-finished.ensures.new, c.hand_last.ensures.tx, c.hand_last.ensures.cq, c.hand_last.ensures.counters, c.hand_last.ensures.multis, c.at_either-due-in-Last.ensures, c.of.ensures) (if_begun (λ item. _ ≡ tail c.args.source item p) (begun_of p.rx c.args.source) there.0 there.1 end.0)
 
 pub hand_over-requires-clause-room : goal.hand_over-requires-clause-room
 hand_over-requires-clause-room g c = λ due.

@@ -1,3 +1,5 @@
+use Rattle.fab_core.specs.Lent.{IsLentBy}
+use Rattle.fab_core.proofs.Seating.{drew_lent}
 use Rattle.std.proofs.Common.{◌≡◌, ◌∙◌, true, refl, sym, subst}
 use Rattle.fab_model.specs.Receiving.{draw_due}
 use Rattle.fab_cq.specs.Queues.{has_room}
@@ -38,19 +40,19 @@ pub invariant_of-self : goal.invariant_of-self
 invariant_of-self g c =
     let p : Parts = record { caps = c.self.inside.caps; selective = c.self.inside.selective; av = c.self.inside.av; rx = c.self.inside.rx; tx = c.self.inside.tx; target = c.self.inside.target; cq = c.self.inside.cq; counters = c.self.inside.counters; calls = c.self.inside.calls; multis = c.self.inside.multis } in
     let due : draw_due p.rx.rx ≡ true = subst (λ (p : Parts). draw_due p.rx.rx ≡ true) (sym c.self.view_is) c.requires.due in
-    rw c.draw-drawn.ensures.new (c.self.invariant.0, c.self.invariant.1, draw_going p c.self.invariant.2 c.known.ensures c.known-2.ensures due (message_of p c.draw-drawn.result c.draw-drawn.ensures.outcome (GoesOn) c.in-GoesOn.is) _ refl refl refl refl refl, c.self.invariant.3)
+    rw c.draw-drawn.ensures.new (c.self.invariant.0, c.self.invariant.1, draw_going p c.self.invariant.2 c.known.ensures c.known-2.ensures due (message_of p c.draw-drawn.result c.draw-drawn.ensures.outcome (GoesOn) c.in-GoesOn.is) _ refl refl refl refl refl, c.self.invariant.3, subst IsLentBy (sym (drew_by p GoesOn (sym c.in-GoesOn.is ∙ c.draw-drawn.ensures.outcome))) (drew_lent p c.self.invariant.4 c.known.ensures c.opened.ensures c.self.invariant.2.earlier due), c.self.invariant.5)
 
 pub invariant_of-self-in-Part : goal.invariant_of-self-in-Part
 invariant_of-self-in-Part g c =
     let p : Parts = record { caps = c.self.inside.caps; selective = c.self.inside.selective; av = c.self.inside.av; rx = c.self.inside.rx; tx = c.self.inside.tx; target = c.self.inside.target; cq = c.self.inside.cq; counters = c.self.inside.counters; calls = c.self.inside.calls; multis = c.self.inside.multis } in
     let due : draw_due p.rx.rx ≡ true = subst (λ (p : Parts). draw_due p.rx.rx ≡ true) (sym c.self.view_is) c.requires.due in
-    rw (c.draw-drawn.ensures.new, c.hand_over.ensures.tx, c.hand_over.ensures.cq, c.hand_over.ensures.counters, c.at_match-due.ensures) (c.self.invariant.0 ∙ sym (most_booked _ _ _ c.self.inside.tx), c.self.invariant.1, draw_together p c.self.invariant.2 c.known.ensures c.known-2.ensures due c.in-Part.completed (message_of p c.draw-drawn.result c.draw-drawn.ensures.outcome (Part c.in-Part.completed) c.in-Part.is) _ refl refl refl refl refl, c.self.invariant.3)
+    rw (c.draw-drawn.ensures.new, c.hand_over.ensures.tx, c.hand_over.ensures.cq, c.hand_over.ensures.counters, c.at_match-due.ensures, c.of-about.ensures) (c.self.invariant.0 ∙ sym (most_booked _ _ _ c.self.inside.tx), c.self.invariant.1, draw_together p c.self.invariant.2 c.known.ensures c.known-2.ensures due c.in-Part.completed (message_of p c.draw-drawn.result c.draw-drawn.ensures.outcome (Part c.in-Part.completed) c.in-Part.is) _ refl refl refl refl refl, c.self.invariant.3, subst IsLentBy (sym (drew_by p (Part c.in-Part.completed) (sym c.in-Part.is ∙ c.draw-drawn.ensures.outcome))) (drew_lent p c.self.invariant.4 c.known.ensures c.opened.ensures c.self.invariant.2.earlier due), c.self.invariant.5)
 
 pub invariant_of-self-2 : goal.invariant_of-self-2
 invariant_of-self-2 g c =
     let p : Parts = record { caps = c.self.inside.caps; selective = c.self.inside.selective; av = c.self.inside.av; rx = c.self.inside.rx; tx = c.self.inside.tx; target = c.self.inside.target; cq = c.self.inside.cq; counters = c.self.inside.counters; calls = c.self.inside.calls; multis = c.self.inside.multis } in
     let due : draw_due p.rx.rx ≡ true = subst (λ (p : Parts). draw_due p.rx.rx ≡ true) (sym c.self.view_is) c.requires.due in
-    rw (c.draw-drawn.ensures.new, c.hand_last.ensures.tx, c.hand_last.ensures.cq, c.hand_last.ensures.counters, c.at_match-due-in-Last.ensures) (c.self.invariant.0 ∙ sym (most_booked _ _ _ c.self.inside.tx), c.self.invariant.1, draw_together p c.self.invariant.2 c.known.ensures c.known-2.ensures due c.in-Last.completed (message_of p c.draw-drawn.result c.draw-drawn.ensures.outcome (Last c.in-Last.completed c.in-Last.released) c.in-Last.is) _ refl refl refl refl refl, c.self.invariant.3)
+    rw (c.draw-drawn.ensures.new, c.hand_last.ensures.tx, c.hand_last.ensures.cq, c.hand_last.ensures.counters, c.hand_last.ensures.multis, c.at_match-due-in-Last.ensures, c.of-about.ensures) (c.self.invariant.0 ∙ sym (most_booked _ _ _ c.self.inside.tx), c.self.invariant.1, draw_together p c.self.invariant.2 c.known.ensures c.known-2.ensures due c.in-Last.completed (message_of p c.draw-drawn.result c.draw-drawn.ensures.outcome (Last c.in-Last.completed c.in-Last.released) c.in-Last.is) _ refl refl refl refl refl, c.self.invariant.3, subst IsLentBy (sym (drew_by p (Last c.in-Last.completed c.in-Last.released) (sym c.in-Last.is ∙ c.draw-drawn.ensures.outcome))) (drew_lent p c.self.invariant.4 c.known.ensures c.opened.ensures c.self.invariant.2.earlier due), c.self.invariant.5)
 
 pub returns-in-GoesOn : goal.returns-in-GoesOn
 returns-in-GoesOn g c =
@@ -68,4 +70,4 @@ pub returns : goal.returns
 returns g c =
     let p : Parts = record { caps = c.self.inside.caps; selective = c.self.inside.selective; av = c.self.inside.av; rx = c.self.inside.rx; tx = c.self.inside.tx; target = c.self.inside.target; cq = c.self.inside.cq; counters = c.self.inside.counters; calls = c.self.inside.calls; multis = c.self.inside.multis } in
     let due : draw_due p.rx.rx ≡ true = subst (λ (p : Parts). draw_due p.rx.rx ≡ true) (sym c.self.view_is) c.requires.due in
-    rw (← c.self.view_is, c.draw-drawn.ensures.new, c.hand_last.ensures.tx, c.hand_last.ensures.cq, c.hand_last.ensures.counters, c.at_match-due-in-Last.ensures, c.of-about.ensures) (drew_by p (Last c.in-Last.completed c.in-Last.released) (sym c.in-Last.is ∙ c.draw-drawn.ensures.outcome))
+    rw (← c.self.view_is, c.draw-drawn.ensures.new, c.hand_last.ensures.tx, c.hand_last.ensures.cq, c.hand_last.ensures.counters, c.hand_last.ensures.multis, c.at_match-due-in-Last.ensures, c.of-about.ensures) (drew_by p (Last c.in-Last.completed c.in-Last.released) (sym c.in-Last.is ∙ c.draw-drawn.ensures.outcome))
