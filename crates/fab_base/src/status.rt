@@ -10,8 +10,6 @@ pub enum Why {
     Header,
     /// The first word is no verb and no setting.
     Verb,
-    /// A kind of line that the program does not carry out yet.
-    Unbuilt,
     /// A setting after the first `peer`, or another line before it.
     Order,
     /// A setting or a peer for the second time.

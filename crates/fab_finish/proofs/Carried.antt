@@ -16,6 +16,7 @@ use Rattle.fab_model.proofs.Turns.{slice_get-set_other, slice_get-set_same}
 use Rattle.fab_face.specs.Held.{Held}
 use Rattle.fab_face.specs.Ports.{Whole}
 use Rattle.fab_quantum.specs.Agreed.{Agrees}
+use Rattle.fab_quantum.specs.Turns.{Living, IsCounted}
 use Rattle.fab_finish.specs.Joined.{Member, member_actor, member_steps, actors, schedules, lane, IsOwn, IsJoined}
 use Rattle.fab_finish.proofs.Joining.{set_itself, last_behind, lane_is, lane_own, lane_other}
 
@@ -91,6 +92,7 @@ module _ (ps : List Member) (k : ℕ) (a : Member) (e : Whole Plain) (is_a : sli
       let posted : (λ d. outs d ++ (out_of a.endpoint.port d).frames) ≡ (λ d. outs d ++ (out_of e.port d).frames) = fun_ext (λ d. ap (λ (o : Posted). outs d ++ o.frames) (sym (keeps.out d))) in
       record {
         log = ap (λ (x : Whole Plain). x.log) rest ∙ own.log;
+        counted = subst (λ (h : Held). let x : Living = record { held = h; lines = a.lines.items; results = a.results.items; kept = a.kept.items } in IsCounted x) (sym held_is) own.counted;
         lanes = keeps.lanes ∙ own.lanes;
         agrees = subst (λ (h : Held). Agrees (length ps) h (λ s. ins s ++ (in_of e.port s).taken) (λ d. outs d ++ (out_of e.port d).frames)) (sym held_is)
             (subst (λ (t : ℕ → List Frame). Agrees (length ps) a.endpoint.held t (λ d. outs d ++ (out_of e.port d).frames)) taken

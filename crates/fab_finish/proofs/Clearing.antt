@@ -76,4 +76,4 @@ pub all_quiet : (ps : List Member) → IsJoined ps → AreStill ps → (k : ℕ)
 all_quiet ps joined_ps still k p has =
     let own = joined_ps.own k p has in
     let calm = still.each k p has in
-    record { log = own.log; draws = calm.draws }
+    record { counted = own.counted; log = own.log; draws = calm.draws }

@@ -21,7 +21,7 @@ use Rattle.fab_model.proofs.Views.{prefix_self}
 use Rattle.fab_model.proofs.Walks.{walk_leads, reached_more}
 use Rattle.fab_face.specs.Held.{begun_of}
 use Rattle.fab_face.specs.Acts.{Act, steps_of, taken_of, posted_to}
-use Rattle.fab_quantum.specs.Turns.{Turned, Shows, joined_from, is_some_act}
+use Rattle.fab_quantum.specs.Turns.{IsCounted, living_of, Turned, Shows, joined_from, is_some_act}
 use Rattle.fab_quantum.specs.Agreed.{Agrees}
 use Rattle.fab_quantum.proofs.Agreeing.{agrees_turned, posted_first, shown_of}
 use Rattle.fab_finish.specs.Joined.{Member, told_of, member_actor, member_steps, actors, schedules, lane, IsOwn, IsJoined, GoesOn}
@@ -192,8 +192,8 @@ module _ (ps : List Member) (k : ℕ) (a b : Member) (acts : List Act) (joined_p
       ap (λ xs. slice_set (schedules ps) k (xs ++ steps)) own ∙ ap (slice_set (schedules ps) k) (sym turned.schedule) ∙ sym (map-set member_steps ps k b) in
       subst (λ x. Reached (rule fabric) first x (actors qs)) grown (subst (λ x. Reached (rule fabric) first (slice_set (schedules ps) k (slice_index_or (schedules ps) k [] ++ steps)) x) states more)
 
-  own_b : b.endpoint.log ≡ [] → IsOwn (length ps) (joined_ps.ins k) (joined_ps.outs k) b
-  own_b log =
+  own_b : b.endpoint.log ≡ [] → IsCounted (living_of (told_of b)) → IsOwn (length ps) (joined_ps.ins k) (joined_ps.outs k) b
+  own_b log counted =
       let ins = joined_ps.ins k in
       let outs = joined_ps.outs k in
       let taken : (λ s. (ins s ++ (in_of a.endpoint.port s).taken) ++ taken_of s acts) ≡ (λ s. ins s ++ (in_of b.endpoint.port s).taken) =
@@ -204,6 +204,7 @@ module _ (ps : List Member) (k : ℕ) (a b : Member) (acts : List Act) (joined_p
       (λ d below. ap (λ (x : Option FrameHead). last_head x (out_of a.endpoint.port d).frames) (own_a.out_after d) ∙ sym (last_behind None (outs d) (out_of a.endpoint.port d).frames)) own_a.agrees in
       record {
         log = log;
+        counted = counted;
         lanes = turned.ported.peers ∙ own_a.lanes;
         agrees = subst (λ (t : ℕ → List Frame). Agrees (length ps) b.endpoint.held t (λ d. outs d ++ (out_of b.endpoint.port d).frames)) taken
             (subst (λ (o : ℕ → List Frame). Agrees (length ps) b.endpoint.held (λ s. (ins s ++ (in_of a.endpoint.port s).taken) ++ taken_of s acts) o) posted agrees);
@@ -235,8 +236,8 @@ module _ (ps : List Member) (k : ℕ) (a b : Member) (acts : List Act) (joined_p
     | inr there ↦ ap (λ (l : Lane). take l.moved l.out.frames) (lane_other ps k j d b there)
   ]
 
-  pub turn_joined : b.endpoint.log ≡ [] → IsJoined (slice_set ps k b)
-  turn_joined log =
+  pub turn_joined : b.endpoint.log ≡ [] → IsCounted (living_of (told_of b)) → IsJoined (slice_set ps k b)
+  turn_joined log counted =
       let long : length (slice_set ps k b) ≡ length ps = length-set ps k b in
       record {
         ins = joined_ps.ins;
@@ -247,14 +248,14 @@ module _ (ps : List Member) (k : ℕ) (a b : Member) (acts : List Act) (joined_p
           | inl here ↦ (
               let is : Some p ≡ Some b = sym has ∙ ap (slice_get (slice_set ps k b)) here ∙ slice_get-set_same ps k b k_below in
               let same : p ≡ b = cc in
-              subst (λ i. IsOwn (length ps) (joined_ps.ins i) (joined_ps.outs i) p) (sym here) (subst (λ (x : Member). IsOwn (length ps) (joined_ps.ins k) (joined_ps.outs k) x) (sym same) (own_b log)))
+              subst (λ i. IsOwn (length ps) (joined_ps.ins i) (joined_ps.outs i) p) (sym here) (subst (λ (x : Member). IsOwn (length ps) (joined_ps.ins k) (joined_ps.outs k) x) (sym same) (own_b log counted)))
           | inr there ↦ joined_ps.own j p (sym (slice_get-set_other ps k j b (λ e. there (sym e))) ∙ has)
         ]);
         came = λ s r below. ap (λ fs. joined_ps.ins r s ++ fs) (in_kept r s) ∙ joined_ps.came s r (omega (arith, below, long)) ∙ ap (λ fs. joined_ps.outs s r ++ fs) (sym (out_kept s r));
       }
 
 -- both, where the turn succeeded
-pub turned_all : {E : Type 0} (r : Result Bool E) (ps : List Member) (k : ℕ) (a b : Member) → IsJoined ps → slice_get ps k ≡ Some a → OnOk r (b.endpoint.log ≡ [])
+pub turned_all : {E : Type 0} (r : Result Bool E) (ps : List Member) (k : ℕ) (a b : Member) → IsJoined ps → slice_get ps k ≡ Some a → OnOk r (b.endpoint.log ≡ []) → OnOk r (IsCounted (living_of (told_of b)))
     → IfOk r (λ moved. (acts : List Act) × Turned (told_of a) (told_of b) acts × (moved ≡ is_some_act acts)) → OnOk r (IsJoined (slice_set ps k b)) × OnOk r (GoesOn ps (slice_set ps k b))
-turned_all (Ok moved) ps k a b joined_ps is_a log (acts, turned, is) = (turn_joined ps k a b acts joined_ps is_a turned log, turn_goes_on ps k a b acts joined_ps is_a turned)
-turned_all (Err e) ps k a b joined_ps is_a log turned = (_, _)
+turned_all (Ok moved) ps k a b joined_ps is_a log counted (acts, turned, is) = (turn_joined ps k a b acts joined_ps is_a turned log counted, turn_goes_on ps k a b acts joined_ps is_a turned)
+turned_all (Err e) ps k a b joined_ps is_a log counted turned = (_, _)

@@ -19,7 +19,8 @@ use Rattle.fab_face.specs.Held.{Held, next_item}
 use Rattle.fab_face.specs.Ports.{Whole}
 use Rattle.fab_ep.specs.Tries.{IsTied}
 use Rattle.fab_quantum.specs.Agreed.{Agrees}
-use Rattle.fab_quantum.specs.Turns.{Told, part_at, posted_part}
+use Rattle.fab_quantum.specs.Turns.{Told, Living, IsCounted, part_at, posted_part}
+use Rattle.fab_quantum.proofs.Counting.{counted_new}
 use Rattle.fab_finish.specs.Joined.{Member, seen_plain, told_of, member_actor, member_steps, actors, schedules, lane, IsOwn, opened, start, Opens, OpensAt}
 use Rattle.fab_finish.proofs.Joining.{lane_is, lane_none}
 
@@ -93,6 +94,8 @@ opens_at conf k lines p port held log actor steps =
       lanes = fresh_lanes;
       own = record {
         log = log;
+        counted = subst (λ (x : Living). IsCounted x) (λ i. record { held = sym held i; lines = p.lines.items; results = ap (λ (x : Actor). x.results) (sym actor) i; kept = ap (λ (x : Actor). x.kept) (sym actor) i })
+            (counted_new (start conf) p.lines.items refl refl);
         lanes = ap (λ (q : Plain). length q.lanes) port ∙ long n (fresh_lane None None);
         agrees = subst (λ (h : Held). Agrees n h (λ s. (in_of p.endpoint.port s).taken) (λ d. (out_of p.endpoint.port d).frames)) (sym held) (start_agrees conf p.endpoint.port fresh_lanes);
         moved = λ d. (let m = ap (λ (l : Lane). l.moved) (fresh_lanes d) in omega (arith, m));

@@ -24,7 +24,7 @@ use Rattle.fab_model.specs.Views.{rule}
 use Rattle.fab_face.specs.Held.{Held, Seen, next_frame}
 use Rattle.fab_face.specs.Ports.{Whole}
 use Rattle.fab_quantum.specs.declared.peer.Peer.{Peer}
-use Rattle.fab_quantum.specs.Turns.{Told, told, actor_of, IsRead}
+use Rattle.fab_quantum.specs.Turns.{Told, told, living_of, actor_of, IsCounted, IsRead}
 use Rattle.fab_quantum.specs.Agreed.{Agrees}
 
 -- ---- a peer
@@ -70,9 +70,10 @@ schedules ps = map member_steps ps
 abbrev pub lane : List Member → ℕ → ℕ → Lane
 lane ps k d = option_map_or (λ (p : Member). lane_at p.endpoint.port d) (slice_get ps k) (fresh_lane None None)
 
--- Of one peer among so many, which took these frames and posted these before it had its port: its log is empty, its port goes on behind them, and it holds what all its frames say.
+-- Of one peer among so many, which took these frames and posted these before it had its port: its log is empty, its multi-receives are counted, its port goes on behind them, and it holds what all its frames say.
 pub record IsOwn (n : ℕ) (ins outs : ℕ → List Frame) (p : Member) : Type 0 where
   pub log : p.endpoint.log ≡ []
+  pub counted : IsCounted (living_of (told_of p))
   pub lanes : length p.endpoint.port.lanes ≡ n
   pub agrees : Agrees n p.endpoint.held (λ s. ins s ++ (in_of p.endpoint.port s).taken) (λ d. outs d ++ (out_of p.endpoint.port d).frames)
   pub moved : (d : ℕ) → (lane_at p.endpoint.port d).moved ≤ length (lane_at p.endpoint.port d).out.frames

@@ -2,12 +2,10 @@
 use Rattle.std.proofs.Common.{◌≡◌, ℕ, Bool, true, false, cond, ◌||◌, not, List, [], ◌∷◌, Option, Some, None, refl}
 use Rattle.fab_base.specs.declared.status.Why.{Why}
 use Rattle.fab_base.specs.declared.status.Why.TheVariants as why
-use Rattle.fab_grammar.specs.declared.language.Language.{Language}
 use Rattle.fab_grammar.specs.declared.verbs.Kind.{Kind}
 use Rattle.fab_grammar.specs.declared.verbs.Kind.TheVariants as kind
 use Rattle.fab_grammar.specs.declared.verbs.Verb.{Verb}
 use Rattle.fab_grammar.specs.Before.{Before}
-use Rattle.fab_grammar.specs.Language.{is_built}
 use Rattle.fab_grammar.specs.Lines.{op_of}
 use Rattle.fab_words.specs.Rows.{is_text, words_of}
 use Rattle.fab_grammar.specs.Settings.{setting_of, peer_of}
@@ -80,21 +78,20 @@ kind_in_time kind.Setting before number verb args e = setting_in_time before num
 kind_in_time kind.Peer before number verb args e = peer_in_time before number args e
 kind_in_time kind.Call before number verb args e = call_in_time before number verb args e
 
-verb_in_time : (language : Language) (before : Before) (number : ℕ) (verb : Option Verb) (args : List (List ℕ)) → first_of (verb_rules language before number verb args) ≡ None → is_late number ≡ false
-verb_in_time language before number None args e = cc
-verb_in_time language before number (Some verb) args e =
-    kind_in_time (kind_of verb) before number verb args (rest_of (not (is_built language verb)) why.Unbuilt (kind_rules (kind_of verb) before number verb args) e)
+verb_in_time : (before : Before) (number : ℕ) (verb : Option Verb) (args : List (List ℕ)) → first_of (verb_rules before number verb args) ≡ None → is_late number ≡ false
+verb_in_time before number None args e = cc
+verb_in_time before number (Some verb) args e = kind_in_time (kind_of verb) before number verb args e
 
 either_in_time : (test : Bool) (a b : Rules) (number : ℕ) → (first_of a ≡ None → is_late number ≡ false) → (first_of b ≡ None → is_late number ≡ false) → first_of (cond test a b) ≡ None → is_late number ≡ false
 either_in_time true a b number f g e = f e
 either_in_time false a b number f g e = g e
 
-word_in_time : (language : Language) (before : Before) (number : ℕ) (words : List (List ℕ)) → first_of (word_rules language before number words) ≡ None → is_late number ≡ false
-word_in_time language before number [] e = only_rule (is_late number) why.Limit e
-word_in_time language before number (word ∷ args) e =
-    either_in_time before.has_header (verb_rules language before number (verb_of word) args) (header_rules number (word ∷ args)) number
-    (verb_in_time language before number (verb_of word) args) (last_of_2 (not (is_header (word ∷ args))) (is_late number) why.Header why.Limit) e
+word_in_time : (before : Before) (number : ℕ) (words : List (List ℕ)) → first_of (word_rules before number words) ≡ None → is_late number ≡ false
+word_in_time before number [] e = only_rule (is_late number) why.Limit e
+word_in_time before number (word ∷ args) e =
+    either_in_time before.has_header (verb_rules before number (verb_of word) args) (header_rules number (word ∷ args)) number
+    (verb_in_time before number (verb_of word) args) (last_of_2 (not (is_header (word ∷ args))) (is_late number) why.Header why.Limit) e
 
-pub in_time : (language : Language) (before : Before) (number : ℕ) (line : List ℕ) → why_of language before number line ≡ None → is_late number ≡ false
+pub in_time : (before : Before) (number : ℕ) (line : List ℕ) → why_of before number line ≡ None → is_late number ≡ false
 unfolding why_of
-in_time language before number line e = word_in_time language before number (words_of line) (rest_of (not (is_text line)) why.NotText (word_rules language before number (words_of line)) e)
+in_time before number line e = word_in_time before number (words_of line) (rest_of (not (is_text line)) why.NotText (word_rules before number (words_of line)) e)

@@ -8,7 +8,6 @@ use Rattle.fab_base.specs.declared.items.AtomicOp.TheVariants.{Sum}
 use Rattle.fab_base.specs.declared.items.Num.TheVariants.{I16}
 use Rattle.fab_base.specs.declared.script.LineOp.TheVariants.{TSend, TRecv, Wait, Atomic}
 use Rattle.fab_words.specs.declared.fault.Fault.TheVariants.{Words}
-use Rattle.fab_grammar.specs.declared.language.Language.TheVariants.{Whole}
 use Rattle.fab_grammar.specs.declared.verbs.Verb.TheVariants as verb
 use Rattle.fab_grammar.specs.Lines.{op_of}
 use Rattle.fab_grammar.specs.Grammar.{script_of, script_with, refusal_of, verdict}
@@ -62,6 +61,6 @@ unfolding grammar
 elements = refl
 
 -- a wish is for the size that its line names
-wish : verdict Whole (line (codes "fabric 1") (line (codes "peers 2") (line (codes "tx 5") []))) ≡ Ok (script_with (conf_of (record no_settings { peers = Some 2; tx = Some 5 }) 2 (record whole { tx = 5 })) [] ([] ∷ [] ∷ []))
+wish : verdict (line (codes "fabric 1") (line (codes "peers 2") (line (codes "tx 5") []))) ≡ Ok (script_with (conf_of (record no_settings { peers = Some 2; tx = Some 5 }) 2 (record whole { tx = 5 })) [] ([] ∷ [] ∷ []))
 unfolding grammar
 wish = refl

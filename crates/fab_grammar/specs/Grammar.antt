@@ -1,7 +1,7 @@
 -- The script that a file's bytes spell.
---     verdict language bytes      the script, or the first line that breaks a rule and the first rule that it breaks
---     script_of bytes             the script, where the bytes are one
---     refusal_of bytes            why they are none
+--     verdict bytes        the script, or the first line that breaks a rule and the first rule that it breaks
+--     script_of bytes      the script, where the bytes are one
+--     refusal_of bytes     why they are none
 use Rattle.std.specs.Prelude.{ℕ, ◌+◌, if◌then◌else◌, List, [], ◌∷◌, length, Option, Some, None, Result, Ok, Err}
 use Rattle.std.specs.Result.{result_ok, result_err}
 use Rattle.fab_base.specs.declared.status.Why.{Why}
@@ -12,8 +12,6 @@ use Rattle.fab_base.specs.declared.script.Line.{Line}
 use Rattle.fab_base.specs.declared.script.Payload.{Payload}
 use Rattle.fab_base.specs.declared.script.Script.{Script}
 use Rattle.fab_model.specs.Negotiation.{grant}
-use Rattle.fab_grammar.specs.declared.language.Language.{Language}
-use Rattle.fab_grammar.specs.declared.language.Language.TheVariants.{Built}
 use Rattle.fab_grammar.specs.Before.{Before, nothing, parts_of}
 use Rattle.fab_grammar.specs.Conf.{conf_of}
 use Rattle.fab_grammar.specs.Settings.{hints_of}
@@ -24,11 +22,11 @@ abbrev pub Refusal : Type 0
 Refusal = ℕ × Why
 
 -- what the lines say, the first of which has this number; or the first that breaks a rule
-unfoldable pub read_lines : Language → Before → ℕ → List (List ℕ) → Result Before Refusal
-read_lines language before number [] = Ok before
-read_lines language before number (line ∷ lines) = elim (why_of language before number line) [
+unfoldable pub read_lines : Before → ℕ → List (List ℕ) → Result Before Refusal
+read_lines before number [] = Ok before
+read_lines before number (line ∷ lines) = elim (why_of before number line) [
   | Some why ↦ Err (number, why)
-  | None ↦ read_lines language (with_line before number line) (number + 1) lines
+  | None ↦ read_lines (with_line before number line) (number + 1) lines
 ]
 
 abbrev pub script_with : Conf → List Payload → List (List Line) → Script
@@ -51,12 +49,11 @@ abbrev pub then_script : ℕ → Result Before Refusal → Result Script Refusal
 then_script count (Ok before) = script_said count before
 then_script count (Err refusal) = Err refusal
 
-unfoldable pub verdict : Language → List ℕ → Result Script Refusal
-verdict language bytes = then_script (length (lines_of bytes)) (read_lines language nothing 1 (lines_of bytes))
+unfoldable pub verdict : List ℕ → Result Script Refusal
+verdict bytes = then_script (length (lines_of bytes)) (read_lines nothing 1 (lines_of bytes))
 
--- of the lines that the program carries out
 unfoldable pub script_of : List ℕ → Option Script
-script_of bytes = result_ok (verdict Built bytes)
+script_of bytes = result_ok (verdict bytes)
 
 unfoldable pub refusal_of : List ℕ → Option Refusal
-refusal_of bytes = result_err (verdict Built bytes)
+refusal_of bytes = result_err (verdict bytes)

@@ -1,10 +1,8 @@
 pub mod Atomics
 pub mod Before
-pub mod Built
 pub mod Capabilities
 pub mod Conf
 pub mod Grammar
-pub mod Language
 pub mod Lines
 pub mod Opened
 pub mod Options

@@ -1,6 +1,6 @@
 -- The rules of a line, each a test of the line and of what the lines before it say, beside the reason for which a line is refused that breaks it.
 --     setting_rules, peer_rules, call_rules      of a setting, of `peer K`, and of a line that a peer does
---     why_of language before number line         the first rule that a line breaks; None where it breaks none
+--     why_of before number line                  the first rule that a line breaks; None where it breaks none
 --     with_line before number line               what is said with this line, where it breaks none
 use Rattle.std.specs.Prelude.{ℕ, ◌+◌, Bool, true, false, not, ◌||◌, ◌&&◌, ◌==◌, nat_lt, nat_le, if◌then◌else◌, List, [], ◌∷◌, ◌++◌, length, sum_by, codes, bytes_eq, Option, Some, None, is_none, Result, Ok, Err}
 use Rattle.std.specs.List.{list_any}
@@ -12,7 +12,6 @@ use Rattle.fab_model.specs.Negotiation.{grant}
 use Rattle.fab_words.specs.declared.fault.Fault.{Fault}
 use Rattle.fab_words.specs.declared.fault.Fault.TheVariants.{Words, Number, Limit}
 use Rattle.fab_grammar.specs.declared.items.Item.TheVariants.{Peer, Does}
-use Rattle.fab_grammar.specs.declared.language.Language.{Language}
 use Rattle.fab_grammar.specs.declared.settings.Setting.{Setting}
 use Rattle.fab_grammar.specs.declared.settings.Setting.TheVariants.{Peers, Capabilities, File}
 use Rattle.fab_grammar.specs.declared.settings.Settings.{Settings}
@@ -21,7 +20,6 @@ use Rattle.fab_grammar.specs.declared.verbs.Kind.TheVariants as kind
 use Rattle.fab_grammar.specs.declared.verbs.Verb.{Verb}
 use Rattle.fab_grammar.specs.declared.verbs.Verb.TheVariants as verb
 use Rattle.fab_grammar.specs.Before.{Before, count_in, has_opened, opened_by, size_of}
-use Rattle.fab_grammar.specs.Language.{is_built}
 use Rattle.fab_grammar.specs.Lines.{op_of, op_size}
 use Rattle.fab_words.specs.Rows.{is_text, words_of}
 use Rattle.fab_grammar.specs.Settings.{setting_of, peer_of, is_made, making, asking}
@@ -132,9 +130,9 @@ kind_rules kind.Setting before number verb args = setting_rules before number ve
 kind_rules kind.Peer before number verb args = peer_rules before number args
 kind_rules kind.Call before number verb args = call_rules before number verb args
 
-abbrev pub verb_rules : Language → Before → ℕ → Option Verb → List (List ℕ) → Rules
-verb_rules language before number None args = (true, why.Verb) ∷ []
-verb_rules language before number (Some verb) args = (not (is_built language verb), why.Unbuilt) ∷ kind_rules (kind_of verb) before number verb args
+abbrev pub verb_rules : Before → ℕ → Option Verb → List (List ℕ) → Rules
+verb_rules before number None args = (true, why.Verb) ∷ []
+verb_rules before number (Some verb) args = kind_rules (kind_of verb) before number verb args
 
 -- `fabric 1`
 abbrev pub is_header : List (List ℕ) → Bool
@@ -144,12 +142,12 @@ is_header _ = false
 abbrev pub header_rules : ℕ → List (List ℕ) → Rules
 header_rules number words = (not (is_header words), why.Header) ∷ (is_late number, why.Limit) ∷ []
 
-abbrev pub word_rules : Language → Before → ℕ → List (List ℕ) → Rules
-word_rules language before number [] = (is_late number, why.Limit) ∷ []
-word_rules language before number (word ∷ args) = if before.has_header then verb_rules language before number (verb_of word) args else header_rules number (word ∷ args)
+abbrev pub word_rules : Before → ℕ → List (List ℕ) → Rules
+word_rules before number [] = (is_late number, why.Limit) ∷ []
+word_rules before number (word ∷ args) = if before.has_header then verb_rules before number (verb_of word) args else header_rules number (word ∷ args)
 
-unfoldable pub why_of : Language → Before → ℕ → List ℕ → Option Why
-why_of language before number line = first_of ((not (is_text line), why.NotText) ∷ word_rules language before number (words_of line))
+unfoldable pub why_of : Before → ℕ → List ℕ → Option Why
+why_of before number line = first_of ((not (is_text line), why.NotText) ∷ word_rules before number (words_of line))
 
 -- what is said with one setting more, one peer more, or one line more of a peer
 abbrev pub with_setting : Before → Result Setting Fault → Before

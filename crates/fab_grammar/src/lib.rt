@@ -2,7 +2,7 @@
 //!
 //! The grammar is in specs/: `Verbs` has the first words of lines, `Settings` and `Lines` say what one line asks
 //! for (with `Options`, `Sends`, `Atomics` and `Capabilities`), `Rules` for which reason a line is refused,
-//! `Language` which lines are carried out, and `Grammar` puts a script together. The code reads one line.
+//! and `Grammar` puts a script together. The code reads one line.
 //!
 //! A new kind of line has its definition in specs/Lines.antt and its reader in lines.rt, or in the files of its
 //! subject, as Atomics and Sends.
@@ -11,7 +11,6 @@
 mod atomics;
 mod capabilities;
 mod items;
-mod language;
 mod lines;
 mod options;
 mod sends;
@@ -21,7 +20,6 @@ mod verbs;
 pub use atomics::{atom_name, element_size, greatest, num_name};
 pub use capabilities::{CAPS, cap_name, read_caps};
 pub use items::Item;
-pub use language::Language;
 pub use lines::{class_name, read_op};
 pub use options::{Allowed, Optional, Options};
 pub use settings::{Setting, Settings, asking, read_peer, read_setting};

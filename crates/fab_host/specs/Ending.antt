@@ -9,7 +9,7 @@ use Rattle.fab_base.specs.Counts.{Rose}
 use Rattle.fab_base.specs.declared.status.Status.{Status}
 use Rattle.fab_base.specs.declared.status.Status.TheVariants.{Done, Stuck, Usage, ScriptRefused, TooLong, ReadFault, WriteFault, NoMemory}
 use Rattle.fab_base.specs.declared.status.Why.{Why}
-use Rattle.fab_base.specs.declared.status.Why.TheVariants.{NotText, Header, Verb, Unbuilt, Order, Twice, Words, Number, Peer, Limit, NoData, Missing, FileRange}
+use Rattle.fab_base.specs.declared.status.Why.TheVariants.{NotText, Header, Verb, Order, Twice, Words, Number, Peer, Limit, NoData, Missing, FileRange}
 use Rattle.fab_top.specs.Runs.{Writes, Tells, Benches, Checks}
 
 abbrev pub status_number : Status → ℕ
@@ -26,7 +26,6 @@ abbrev pub why_name : Why → List ℕ
 why_name NotText = codes "NotText"
 why_name Header = codes "Header"
 why_name Verb = codes "Verb"
-why_name Unbuilt = codes "Unbuilt"
 why_name Order = codes "Order"
 why_name Twice = codes "Twice"
 why_name Words = codes "Words"

@@ -97,7 +97,6 @@ fn name_of(why: Why) -> &'static str
         Why::NotText => "NotText",
         Why::Header => "Header",
         Why::Verb => "Verb",
-        Why::Unbuilt => "Unbuilt",
         Why::Order => "Order",
         Why::Twice => "Twice",
         Why::Words => "Words",

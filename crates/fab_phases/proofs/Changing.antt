@@ -16,6 +16,7 @@ use Rattle.fab_table.specs.declared.fabric.Fabric.{Fabric}
 use Rattle.fab_ring.specs.declared.port.RingPort.{RingPort}
 use Rattle.fab_ring.specs.Ports.{moves_of}
 use Rattle.fab_ring.specs.Gather.{AreAll, Gathered}
+use Rattle.fab_quantum.specs.Turns.{IsCounted}
 use Rattle.fab_threads.specs.Pasts.{Past}
 use Rattle.fab_threads.specs.Law as law
 use Rattle.fab_threads.specs.Law.{AreTogether, told_moves}
@@ -32,7 +33,7 @@ use Rattle.fab_phases.proofs.Following.{ties, joined, actors_follow, schedules_f
 
 module _ {X W : Type 0} (peer : X → Peer (Whole RingPort)) (held : W → Held) (unseated : W → Unseated) (f : Fabric) (rs : List X) (ws : List W) (plains : List Plain) (few : length rs < 2 ^ 32)
     (all : AreAll f (map (λ r. (peer r).endpoint.port) rs)) (count : length ws ≡ length rs)
-    (each : Paired (λ r w. (past_with (held w) (unseated w) (peer r).endpoint.port ≡ past_at (peer r)) × IsOpen (seen_ring (peer r).endpoint)) rs ws) (gathered : Gathered (map (λ r. (peer r).endpoint.port) rs) plains)
+    (each : Paired (λ r w. (past_with (held w) (unseated w) (peer r).endpoint.port ≡ past_at (peer r)) × IsOpen (seen_ring (peer r).endpoint) × IsCounted (living_with (held w) (unseated w))) rs ws) (gathered : Gathered (map (λ r. (peer r).endpoint.port) rs) plains)
     (merge : merges (map moves_of (map (λ r. (peer r).endpoint.port) rs)) ≡ true) (law_holds : AreGathered (map (λ r. past_at (peer r)) rs) → AreTogether (map (λ r. past_at (peer r)) rs)) where
   -- what the peers did, and their ports
   abbrev pub pasts : List Past
@@ -55,6 +56,13 @@ module _ {X W : Type 0} (peer : X → Peer (Whole RingPort)) (held : W → Held)
 
   items_all : (k : ℕ) (x : Past) → slice_get pasts k ≡ Some x → AreItems x.living.held
   items_all k x has = let m = mapped (λ r. past_at (peer r)) rs k x has in subst (λ (z : Past). AreItems z.living.held) m.2 (open_at k m.0 m.1).items
+
+  counted_all : (k : ℕ) (x : Past) → slice_get pasts k ≡ Some x → IsCounted x.living
+  counted_all k x has =
+      let m = mapped (λ r. past_at (peer r)) rs k x has in
+      let w = member ws k (omega (arith, slice_get_within rs k m.0 m.1, count)) in
+      let e = each k m.0 w.0 m.1 w.1 in
+      subst (λ (z : Past). IsCounted z.living) (e.0 ∙ m.2) e.2
 
   same_moves : map told_moves pasts ≡ map moves_of ports
   same_moves = map-map told_moves (λ r. past_at (peer r)) rs ∙ sym (map-map moves_of (λ r. (peer r).endpoint.port) rs)
@@ -104,7 +112,7 @@ module _ {X W : Type 0} (peer : X → Peer (Whole RingPort)) (held : W → Held)
 
     pub joined_here : IsJoined ps
     joined_here =
-        joined f ports plains pasts all many told_all gathered together ps (omega (arith, few, length-map rs (λ r. (peer r).endpoint.port))) long follows
+        joined f ports plains pasts all many told_all gathered together ps (omega (arith, few, length-map rs (λ r. (peer r).endpoint.port))) long follows counted_all
 
     pub actors_here : actors ps ≡ law.actors pasts
     actors_here = actors_follow pasts ps (long ∙ sym many) seated_here

@@ -14,7 +14,7 @@ use Rattle.fab_link.specs.Plain.{Lane, Plain, lane_at, fresh_lane}
 use Rattle.fab_model.specs.Peers.{Actor}
 use Rattle.fab_face.specs.Held.{Held, IsGathered, IsPlaced, IsOut, AreItems, next_item, begun_of}
 use Rattle.fab_ep.specs.Tries.{IsTied}
-use Rattle.fab_quantum.specs.Turns.{Living, actor_in}
+use Rattle.fab_quantum.specs.Turns.{IsCounted, Living, actor_in}
 use Rattle.fab_quantum.specs.Agreed.{Agrees}
 use Rattle.fab_table.specs.declared.fabric.Fabric.{Fabric}
 use Rattle.fab_ring.specs.declared.port.RingPort.{RingPort}
@@ -77,7 +77,7 @@ module _ (f : Fabric) (ports : List RingPort) (plains : List Plain) (pasts : Lis
 
   -- ---- all peers
 
-  module _ (ps : List Member) (few : length ports < 2 ^ 32) (long : length ps ≡ length ports) (follows : (k : ℕ) (x : Past) (q : Plain) (p : Member) → slice_get pasts k ≡ Some x → slice_get plains k ≡ Some q → slice_get ps k ≡ Some p → Follows x q p) where
+  module _ (ps : List Member) (few : length ports < 2 ^ 32) (long : length ps ≡ length ports) (follows : (k : ℕ) (x : Past) (q : Plain) (p : Member) → slice_get pasts k ≡ Some x → slice_get plains k ≡ Some q → slice_get ps k ≡ Some p → Follows x q p) (counted : (k : ℕ) (x : Past) → slice_get pasts k ≡ Some x → IsCounted x.living) where
     -- the peer that was at the place, with its ports
     past_of : (k : ℕ) (p : Member) → slice_get ps k ≡ Some p → (x : Past) × (slice_get pasts k ≡ Some x) × (a : RingPort) × (slice_get ports k ≡ Some a) × Tells x a × (q : Plain) × (slice_get plains k ≡ Some q) × Follows x q p
     past_of k p has =
@@ -101,6 +101,7 @@ module _ (f : Fabric) (ports : List RingPort) (plains : List Plain) (pasts : Lis
         (subst (λ (o : ℕ → List Frame). Agrees (length pasts) x.living.held x.ins o) outs agrees))) in
         record {
           log = on.seated.log;
+          counted = subst IsCounted (sym on.seated.living_is) (counted k x hx);
           lanes = ap (λ (z : Plain). length z.lanes) on.port ∙ goes.peers ∙ peers_all f ports plains pasts all many told gathered k a ha ∙ sym long;
           agrees = subst (λ (z : Plain). Agrees (length ps) p.endpoint.held (λ s. ins_at pasts k s ++ (plain.in_of z s).taken) (λ d. outs_at pasts k d ++ (plain.out_of z d).frames)) (sym on.port) same;
           moved = λ d. (

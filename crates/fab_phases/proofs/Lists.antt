@@ -1,7 +1,7 @@
 -- Members of lists by their places.
-use Rattle.std.proofs.Common.{◌≡◌, ◌<◌, ◌+◌, ℕ, List, [], ◌∷◌, ◌++◌, length, map, drop, take, Some, sym, ap, subst, ◌∙◌, arith}
-use Rattle.std.specs.Prelude.{slice_get, slice_index_or, Result, Ok, Err, IfOk, OnOk}
-use Rattle.std.specs.List.{All}
+use Rattle.std.proofs.Common.{◌≡◌, ◌<◌, ◌+◌, ℕ, zero, suc, Bool, true, false, List, [], ◌∷◌, ◌++◌, length, map, drop, take, Some, refl, sym, ap, subst, ◌∙◌, arith}
+use Rattle.std.specs.Prelude.{slice_get, slice_index_or, Result, Ok, Err, IfOk, OnOk, ◌||◌}
+use Rattle.std.specs.List.{All, list_any}
 use Rattle.std.proofs.lemmas.List.{get_or-drop, map-append, take_more, take_all}
 use Rattle.std.proofs.lemmas.Option.{slice_get_within, get_or_from_slice_get}
 use Rattle.fab_finish.proofs.Joining.{got}
@@ -52,3 +52,17 @@ ok_both P Q S then (Err e) p q = _
 pub ok_always : {X E : Type 0} (P : Type 0) → P → (r : Result X E) → OnOk r P
 ok_always P p (Ok x) = p
 ok_always P p (Err e) = _
+
+neither_left : (a b : Bool) → (a || b) ≡ false → a ≡ false
+neither_left false b e = refl
+neither_left true b e = absurd (cc)
+
+neither_right : (a b : Bool) → (a || b) ≡ false → b ≡ false
+neither_right false b e = e
+neither_right true b e = absurd (cc)
+
+-- where no member passes a test, the one at a place does not
+pub none_at : {X : Type 0} (test : X → Bool) (xs : List X) (k : ℕ) (x : X) → list_any test xs ≡ false → slice_get xs k ≡ Some x → test x ≡ false
+none_at test [] k x none has = absurd (cc)
+none_at test (y ∷ ys) zero x none has = let same : y ≡ x = cc in subst (λ z. test z ≡ false) same (neither_left (test y) (list_any test ys) none)
+none_at test (y ∷ ys) (suc k) x none has = none_at test ys k x (neither_right (test y) (list_any test ys) none) has

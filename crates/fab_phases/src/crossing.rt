@@ -3,8 +3,10 @@
 //! An endpoint is closed, and another is opened over the plain port with what the machine holds: one that only gave its
 //! port up could not be let go where memory lacks before it has another.
 ghost use Rattle.std.specs.Prelude.{◌≡◌, ◌<◌, ◌≤◌, ◌^◌, ℕ, [], length, map, false, IfOk, OnOk};
+ghost use Rattle.std.specs.List.{list_any};
 ghost use Rattle.fab_face.specs.Held.{IsOpen};
 ghost use Rattle.fab_ep.specs.Tries.{IsTied};
+ghost use Rattle.fab_quantum.specs.Turns.{IsCounted};
 ghost use Rattle.fab_threads.specs.Law.{AreTogether, actors as actors_in, schedules as schedules_in};
 ghost use Rattle.fab_rounds.specs.Opened.{AreGathered};
 ghost use Rattle.fab_finish.specs.Joined.{IsJoined, actors, schedules, seen_plain};
@@ -36,6 +38,7 @@ fn part<C: Machinery + Drop>(runner: Runner<RingPort, C>) -> (Parted<C>, RingPor
     ensures past { past_with (C.held result.0.machine) result.0.peer result.1 ≡ past_at runner.peer }
     ensures port { result.1 ≡ runner.peer.endpoint.port }
     ensures open { IsOpen (seen_ring runner.peer.endpoint) }
+    ensures counted { runner.failed ≡ false → IsCounted (living_with (C.held result.0.machine) result.0.peer) }
 {
     let peer = runner.into_peer();
     peer.endpoint.known();
@@ -53,9 +56,10 @@ fn part_all<C: Machinery + Drop>(
     alloc: Global,
     mut runners: Vec<Runner<RingPort, C>>,
 ) -> Result<(Vec<Parted<C>>, Vec<RingPort>), NoMemory>
+    requires well { list_any (λ r. r.failed) runners.items ≡ false }
     ensures count { IfOk result (λ both. length both.0.items ≡ length runners.items) }
     ensures ports { IfOk result (λ both. both.1.items ≡ map (λ r. r.peer.endpoint.port) runners.items) }
-    ensures each { IfOk result (λ both. Paired (λ r w. (past_with (C.held w.machine) w.peer r.peer.endpoint.port ≡ past_at r.peer) × IsOpen (seen_ring r.peer.endpoint)) runners.items both.0.items) }
+    ensures each { IfOk result (λ both. Paired (λ r w. (past_with (C.held w.machine) w.peer r.peer.endpoint.port ≡ past_at r.peer) × IsOpen (seen_ring r.peer.endpoint) × IsCounted (living_with (C.held w.machine) w.peer)) runners.items both.0.items) }
 {
     let mut parted = Vec::new(alloc);
     let mut ports = Vec::new(alloc);
@@ -117,6 +121,7 @@ pub(crate) fn cross<C: Machinery + Drop>(
 ) -> Result<Vec<Peer<Endpoint<PlainPort, C>>>, NoMemory>
     requires log { 4 ≤ log_size }
     requires few { length runners.items < 2 ^ 32 }
+    requires well { list_any (λ r. r.failed) runners.items ≡ false }
     requires all { (f : Fabric) × AreAll f (map (λ r. r.peer.endpoint.port) runners.items) }
     requires together { AreGathered (map (λ r. past_at r.peer) runners.items) → AreTogether (map (λ r. past_at r.peer) runners.items) }
     ensures gathered { OnOk result (AreGathered (map (λ r. past_at r.peer) runners.items)) }

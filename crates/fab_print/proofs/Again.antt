@@ -25,7 +25,6 @@ use Rattle.fab_words.specs.Rows.{lines_of}
 use Rattle.fab_words.specs.Words.{read_number}
 use Rattle.fab_grammar.specs.declared.items.Item.{Item}
 use Rattle.fab_grammar.specs.declared.items.Item.TheVariants.{Peer, Does}
-use Rattle.fab_grammar.specs.declared.language.Language.{Language}
 use Rattle.fab_grammar.specs.declared.settings.Setting.{Setting}
 use Rattle.fab_grammar.specs.declared.settings.Setting.TheVariants.{Peers, Wish, Capabilities, Selective, File}
 use Rattle.fab_grammar.specs.declared.settings.Settings.{Settings}
@@ -80,41 +79,41 @@ caps_kept c = by_any (has_any c all_caps) refl
 
 -- ---- what was read, written again
 -- each operation that was read is written so that it reads again
-abbrev pub OpsAgain : Language → Type 0
-OpsAgain language = (op : LineOp) → WasRead language op → Again language op
+abbrev pub OpsAgain : Type 0
+OpsAgain = (op : LineOp) → WasRead op → Again op
 
-until_again : (language : Language) → OpsAgain language → (items : List Item) → AllOps language items → LinesAgain language (until_peer items)
-until_again language again [] a = tt
-until_again language again (Peer k ∷ items) a = tt
-until_again language again (Does line ∷ items) a = (again line.op a.0, until_again language again items a.1)
+until_again : OpsAgain → (items : List Item) → AllOps items → LinesAgain (until_peer items)
+until_again again [] a = tt
+until_again again (Peer k ∷ items) a = tt
+until_again again (Does line ∷ items) a = (again line.op a.0, until_again again items a.1)
 
-either_again : (language : Language) (b : Bool) (x y : List Line) → LinesAgain language x → LinesAgain language y → LinesAgain language (cond b x y)
-either_again language true x y a c = a
-either_again language false x y a c = c
+either_again : (b : Bool) (x y : List Line) → LinesAgain x → LinesAgain y → LinesAgain (cond b x y)
+either_again true x y a c = a
+either_again false x y a c = c
 
-part_again : (language : Language) → OpsAgain language → (k : ℕ) (items : List Item) → AllOps language items → LinesAgain language (part_of k items)
-part_again language again k [] a = tt
-part_again language again k (Peer j ∷ items) a = either_again language (eqb j k) (until_peer items) (part_of k items) (until_again language again items a) (part_again language again k items a)
-part_again language again k (Does line ∷ items) a = part_again language again k items a.1
+part_again : OpsAgain → (k : ℕ) (items : List Item) → AllOps items → LinesAgain (part_of k items)
+part_again again k [] a = tt
+part_again again k (Peer j ∷ items) a = either_again (eqb j k) (until_peer items) (part_of k items) (until_again again items a) (part_again again k items a)
+part_again again k (Does line ∷ items) a = part_again again k items a.1
 
-parts_again : (language : Language) → OpsAgain language → (items : List Item) → AllOps language items → (ks : List ℕ) → PartsAgain language (map (λ k. part_of k items) ks)
-parts_again language again items a [] = tt
-parts_again language again items a (k ∷ ks) = (part_again language again k items a, parts_again language again items a ks)
+parts_again : OpsAgain → (items : List Item) → AllOps items → (ks : List ℕ) → PartsAgain (map (λ k. part_of k items) ks)
+parts_again again items a [] = tt
+parts_again again items a (k ∷ ks) = (part_again again k items a, parts_again again items a ks)
 
-files_again : (language : Language) (payloads : List Payload) → AllFiles language payloads → FilesAgain language payloads
-files_again language [] a = tt
-files_again language (p ∷ ps) a = (setting_again language (File p) a.0, files_again language ps a.1)
+files_again : (payloads : List Payload) → AllFiles payloads → FilesAgain payloads
+files_again [] a = tt
+files_again (p ∷ ps) a = (setting_again (File p) a.0, files_again ps a.1)
 
-wish_again : (language : Language) (size : Size) (o : Option ℕ) → IfSome o (λ n. SettingRead language (Wish size n)) → Wishes language size o
-wish_again language size None r = tt
-wish_again language size (Some n) r = setting_again language (Wish size n) r
+wish_again : (size : Size) (o : Option ℕ) → IfSome o (λ n. SettingRead (Wish size n)) → Wishes size o
+wish_again size None r = tt
+wish_again size (Some n) r = setting_again (Wish size n) r
 
-peers_again : (language : Language) (o : Option ℕ) (n : ℕ) → o ≡ Some n → IfSome o (λ m. SettingRead language (Peers m)) → SettingAgain language (Peers n)
-peers_again language o n e r = setting_again language (Peers n) (subst (λ p. IfSome p (λ m. SettingRead language (Peers m))) e r)
+peers_again : (o : Option ℕ) (n : ℕ) → o ≡ Some n → IfSome o (λ m. SettingRead (Peers m)) → SettingAgain (Peers n)
+peers_again o n e r = setting_again (Peers n) (subst (λ p. IfSome p (λ m. SettingRead (Peers m))) e r)
 
-caps_again : (language : Language) (o : Option Caps) → IfSome o (λ c. SettingRead language (Capabilities c)) → IfSome o (λ c. is_refused (Ok (Capabilities c)) ≡ false) → has_any (asked_caps o) all_caps ≡ true → SettingAgain language (Capabilities (asked_caps o)) × (is_refused (Ok (Capabilities (asked_caps o))) ≡ false)
-caps_again language None r g e = cc
-caps_again language (Some c) r g e = (setting_again language (Capabilities c) r, g)
+caps_again : (o : Option Caps) → IfSome o (λ c. SettingRead (Capabilities c)) → IfSome o (λ c. is_refused (Ok (Capabilities c)) ≡ false) → has_any (asked_caps o) all_caps ≡ true → SettingAgain (Capabilities (asked_caps o)) × (is_refused (Ok (Capabilities (asked_caps o))) ≡ false)
+caps_again None r g e = cc
+caps_again (Some c) r g e = (setting_again (Capabilities c) r, g)
 
 -- ---- there are not too many peers, and not too many lines
 peers_within : (said : Result ℕ Fault) (n : ℕ) → map_ok Peers (between (limits_of size.Peers) said) ≡ Ok (Peers n) → n ≤ 32
@@ -127,9 +126,9 @@ peers_within (Ok m) n e = by_test (leb m 32) refl (leb 1 m && leb m 32) refl e
         grind (arith, nat_tests)
     by_test b l false w e = cc
 
-peers_few : (language : Language) (n : ℕ) → SettingAgain language (Peers n) → n ≤ 4294967296
+peers_few : (n : ℕ) → SettingAgain (Peers n) → n ≤ 4294967296
 unfolding setting_of wish_of size_of
-peers_few language n a =
+peers_few n a =
     let few = peers_within (read_number (decimal n)) n a.reads in
     omega arith
 
@@ -190,9 +189,9 @@ rows_few settings items a b h k = omega (arith, length-append (map setting_row s
 within_all : (x a : ℕ) → x ≤ a → 1 + a ≤ 100000 → 1 + suc x ≤ 100001
 within_all x a h k = omega arith
 
-rows_count : (before : Before) (total n : ℕ) (info : Info) (language : Language) → Said language before total → before.has_header ≡ true → before.settings.peers ≡ Some n → 1 + length (rows_of (script_said_by before n info)) ≤ 100001
+rows_count : (before : Before) (total n : ℕ) (info : Info) → Said before total → before.has_header ≡ true → before.settings.peers ≡ Some n → 1 + length (rows_of (script_said_by before n info)) ≤ 100001
 unfolding rows_of hints_of
-rows_count before total n info language s header e =
+rows_count before total n info s header e =
     let settings = settings_for (hints_of before.settings) (conf_of before.settings n info) before.payloads in
     let few : length settings ≤ made_count before.settings + length before.payloads = settings_count before.settings n info before.payloads e in
     let rows : length (map setting_row settings ++ map item_row (items_of 0 (parts_of n before.items))) ≤ made_count before.settings + length before.payloads + length before.items =
@@ -200,16 +199,16 @@ rows_count before total n info language s header e =
     let all : 1 + suc (length (map setting_row settings ++ map item_row (items_of 0 (parts_of n before.items)))) ≤ 100001 = within_all _ _ rows (omega (arith, s.needed, s.few, ap true_count header)) in
     all
 
-take_all_files : (language : Language) (settings : Settings) (payloads : List Payload) (rows : List (List (List ℕ))) (Goal : Before → Type 0) → FilesAgain language payloads → is_distinct (map id_of payloads) ≡ true → length payloads ≤ 64
-    → Rest language (said_so_far settings payloads) rows Goal
-    → Rest language (said_so_far settings []) (map setting_row (map File payloads ++ []) ++ rows) Goal
-take_all_files language settings payloads rows Goal again distinct few rest =
-    subst (λ ss. Rest language (said_so_far settings []) (map setting_row ss ++ rows) Goal) (sym (append-nil (map File payloads))) (take_files language settings [] payloads payloads rows Goal refl again distinct few rest)
+take_all_files : (settings : Settings) (payloads : List Payload) (rows : List (List (List ℕ))) (Goal : Before → Type 0) → FilesAgain payloads → is_distinct (map id_of payloads) ≡ true → length payloads ≤ 64
+    → Rest (said_so_far settings payloads) rows Goal
+    → Rest (said_so_far settings []) (map setting_row (map File payloads ++ []) ++ rows) Goal
+take_all_files settings payloads rows Goal again distinct few rest =
+    subst (λ ss. Rest (said_so_far settings []) (map setting_row ss ++ rows) Goal) (sym (append-nil (map File payloads))) (take_files settings [] payloads payloads rows Goal refl again distinct few rest)
 
-rows_outcome : (language : Language) → OpsAgain language → (before : Before) (total n : ℕ) (info : Info) → Said language before total → before.has_header ≡ true → before.settings.peers ≡ Some n
-    → Outcome language nothing 1 (rows_of (script_said_by before n info)) (Ends (made_again before.settings n) before.payloads (items_of 0 (parts_of n before.items)))
+rows_outcome : OpsAgain → (before : Before) (total n : ℕ) (info : Info) → Said before total → before.has_header ≡ true → before.settings.peers ≡ Some n
+    → Outcome nothing 1 (rows_of (script_said_by before n info)) (Ends (made_again before.settings n) before.payloads (items_of 0 (parts_of n before.items)))
 unfolding rows_of hints_of
-rows_outcome language again before total n info s header e =
+rows_outcome again before total n info s header e =
     let set = before.settings in
     let caps = asked_caps set.caps in
     let kept = kept_caps caps in
@@ -224,22 +223,22 @@ rows_outcome language again before total n info s header e =
     let tx = wished size.Tx set.tx ++ rx in
     let pool = wished size.Pool set.pool ++ tx in
     let lane = wished size.Lane set.lane ++ pool in
-    let peers = peers_again language set.peers n e s.made.peers in
+    let peers = peers_again set.peers n e s.made.peers in
     let long : length parts ≡ n = length-map-range_with_len (λ k. part_of k before.items) 0 n in
     let little : parts_size parts ≤ 67108864 = omega (arith, written_size n before.items, s.size) in
-    let fit = items_fit language n parts (omega arith) (parts_again language again before.items s.ops (range_with_len 0 n)) little in
-    take_header language nothing (map setting_row (asked caps ++ (Peers n ∷ lane)) ++ rows) Goal refl
-    (take_caps language caps (Peers n ∷ lane) rows Goal (caps_again language set.caps s.made.caps s.made.granted)
-    (take_peers language kept n lane rows Goal peers
-    (take_lane language kept (Some n) set.lane pool rows Goal (wish_again language size.Lane set.lane s.made.lane)
-    (take_pool language kept (Some n) set.lane set.pool tx rows Goal (wish_again language size.Pool set.pool s.made.pool)
-    (take_tx language kept (Some n) set.lane set.pool set.tx rx rows Goal (wish_again language size.Tx set.tx s.made.tx)
-    (take_rx language kept (Some n) set.lane set.pool set.tx set.rx cq rows Goal (wish_again language size.Rx set.rx s.made.rx)
-    (take_cq language kept (Some n) set.lane set.pool set.tx set.rx set.cq chosen rows Goal (wish_again language size.Cq set.cq s.made.cq)
-    (take_selective language kept (Some n) set.lane set.pool set.tx set.rx set.cq set.is_selective files rows Goal (λ b. setting_again language Selective (s.made.selective b))
-    (take_all_files language (made_again set n) before.payloads rows Goal (files_again language before.payloads s.files) s.distinct s.few_files
-    (take_items language (made_again set n) before.payloads n refl (peers_few language n peers) items fit))))))))))
-    1 (rows_count before total n info language s header e)
+    let fit = items_fit n parts (omega arith) (parts_again again before.items s.ops (range_with_len 0 n)) little in
+    take_header nothing (map setting_row (asked caps ++ (Peers n ∷ lane)) ++ rows) Goal refl
+    (take_caps caps (Peers n ∷ lane) rows Goal (caps_again set.caps s.made.caps s.made.granted)
+    (take_peers kept n lane rows Goal peers
+    (take_lane kept (Some n) set.lane pool rows Goal (wish_again size.Lane set.lane s.made.lane)
+    (take_pool kept (Some n) set.lane set.pool tx rows Goal (wish_again size.Pool set.pool s.made.pool)
+    (take_tx kept (Some n) set.lane set.pool set.tx rx rows Goal (wish_again size.Tx set.tx s.made.tx)
+    (take_rx kept (Some n) set.lane set.pool set.tx set.rx cq rows Goal (wish_again size.Rx set.rx s.made.rx)
+    (take_cq kept (Some n) set.lane set.pool set.tx set.rx set.cq chosen rows Goal (wish_again size.Cq set.cq s.made.cq)
+    (take_selective kept (Some n) set.lane set.pool set.tx set.rx set.cq set.is_selective files rows Goal (λ b. setting_again Selective (s.made.selective b))
+    (take_all_files (made_again set n) before.payloads rows Goal (files_again before.payloads s.files) s.distinct s.few_files
+    (take_items (made_again set n) before.payloads n refl (peers_few n peers) items fit))))))))))
+    1 (rows_count before total n info s header e)
 
 -- ---- the script that they say
 same_hints : (s : Settings) (n : ℕ) → s.peers ≡ Some n → hints_of (made_again s n) ≡ hints_of s
@@ -262,21 +261,21 @@ same_script n info before after hints selective payloads parts =
     ∙ (ap (λ (ps : List Payload). script_with (conf_of before.settings n info) ps (map (map without_number) (parts_of n after.items))) payloads
     ∙ ap (λ (ls : List (List Line)). script_with (conf_of before.settings n info) before.payloads ls) parts))
 
-reads_said : (language : Language) → OpsAgain language → (before : Before) (total n : ℕ) (info : Info) → Said language before total → before.has_header ≡ true → before.settings.peers ≡ Some n → grant (Some (hints_of before.settings)) ≡ Some info → IsSame (script_said_by before n info) (verdict language (printed (script_said_by before n info)))
+reads_said : OpsAgain → (before : Before) (total n : ℕ) (info : Info) → Said before total → before.has_header ≡ true → before.settings.peers ≡ Some n → grant (Some (hints_of before.settings)) ≡ Some info → IsSame (script_said_by before n info) (verdict (printed (script_said_by before n info)))
 unfolding verdict
-reads_said language again before total n info s header e given =
+reads_said again before total n info s header e given =
     let script = script_said_by before n info in
-    let o = rows_outcome language again before total n info s header e in
+    let o = rows_outcome again before total n info s header e in
     let end = o.goal in
     let count = length (lines_of (printed script)) in
-    let read : read_lines language nothing 1 (lines_of (printed script)) ≡ Ok o.after = text_read language nothing 1 (rows_of script) o.after o.written o.reads in
+    let read : read_lines nothing 1 (lines_of (printed script)) ≡ Ok o.after = text_read nothing 1 (rows_of script) o.after o.written o.reads in
     let hints : hints_of o.after.settings ≡ hints_of before.settings = ap hints_of end.settings ∙ same_hints before.settings n e in
     let peers : o.after.settings.peers ≡ Some n = ap (λ (t : Settings). t.peers) end.settings in
     let grants : grant (Some (hints_of o.after.settings)) ≡ Some info = ap (λ h. grant (Some h)) hints ∙ given in
     let parts : map (map without_number) (parts_of n o.after.items) ≡ map (map without_number) (parts_of n before.items) =
     parts_plain n o.after.items (items_of 0 (parts_of n before.items)) end.items ∙ ap (map (map without_number)) (parts_written n (parts_of n before.items) (length-map-range_with_len (λ k. part_of k before.items) 0 n)) in
     let same = same_script n info before o.after hints (ap (λ (t : Settings). t.is_selective) end.settings) end.payloads parts in
-    let said : then_script count (read_lines language nothing 1 (lines_of (printed script))) ≡ Ok (script_said_by o.after n info) = ap (then_script count) read ∙ said_by_rows count n info o.after end.header peers grants in
+    let said : then_script count (read_lines nothing 1 (lines_of (printed script))) ≡ Ok (script_said_by o.after n info) = ap (then_script count) read ∙ said_by_rows count n info o.after end.header peers grants in
     subst (IsSame script) (sym said) same
 
 -- ---- what a script says that was read
@@ -303,17 +302,17 @@ was_said count before script e = by_header before.has_header refl before.setting
     by_header true h None p f = cc
     by_header true h (Some n) p f = by_grant n (grant (Some (hints_of before.settings))) h p refl f
 
-then_again : (language : Language) → OpsAgain language → (count : ℕ) (read : Result Before Refusal) (script : Script) → ((after : Before) → read ≡ Ok after → (total : ℕ) × Said language after total) → then_script count read ≡ Ok script → IsSame script (verdict language (printed script))
-then_again language again count (Err refusal) script said e = cc
-then_again language again count (Ok after) script said e =
+then_again : OpsAgain → (count : ℕ) (read : Result Before Refusal) (script : Script) → ((after : Before) → read ≡ Ok after → (total : ℕ) × Said after total) → then_script count read ≡ Ok script → IsSame script (verdict (printed script))
+then_again again count (Err refusal) script said e = cc
+then_again again count (Ok after) script said e =
     let s = said after refl in
     let w = was_said count after script e in
-    subst (λ t. IsSame t (verdict language (printed t))) w.script (reads_said language again after s.0 w.n w.info s.1 w.header w.peers w.grants)
+    subst (λ t. IsSame t (verdict (printed t))) w.script (reads_said again after s.0 w.n w.info s.1 w.header w.peers w.grants)
 
--- A script that lines of a language gave is written in lines of it, and they give the same script up to the numbers of lines.
-pub reads_if_again : (language : Language) → OpsAgain language → (bytes : List ℕ) (script : Script) → verdict language bytes ≡ Ok script → IsSame script (verdict language (printed script))
+-- A script that a text gave is written in lines that give the same script up to the numbers of lines.
+pub reads_if_again : OpsAgain → (bytes : List ℕ) (script : Script) → verdict bytes ≡ Ok script → IsSame script (verdict (printed script))
 unfolding verdict
-reads_if_again language again bytes script e = then_again language again (length (lines_of bytes)) (read_lines language nothing 1 (lines_of bytes)) script (all_said language (lines_of bytes)) e
+reads_if_again again bytes script e = then_again again (length (lines_of bytes)) (read_lines nothing 1 (lines_of bytes)) script (all_said (lines_of bytes)) e
 
-pub reads_again : (language : Language) (bytes : List ℕ) (script : Script) → verdict language bytes ≡ Ok script → IsSame script (verdict language (printed script))
-reads_again language bytes script e = reads_if_again language (op_again language) bytes script e
+pub reads_again : (bytes : List ℕ) (script : Script) → verdict bytes ≡ Ok script → IsSame script (verdict (printed script))
+reads_again bytes script e = reads_if_again op_again bytes script e

@@ -13,15 +13,12 @@ use Rattle.fab_words.specs.Words.{first_of}
 use Rattle.fab_words.specs.Written.{is_word}
 use Rattle.fab_grammar.specs.declared.items.Item.{Item}
 use Rattle.fab_grammar.specs.declared.items.Item.TheVariants.{Peer, Does}
-use Rattle.fab_grammar.specs.declared.language.Language.{Language}
-use Rattle.fab_grammar.specs.declared.language.Language.TheVariants.{Built, Whole}
 use Rattle.fab_grammar.specs.declared.settings.Settings.{Settings}
 use Rattle.fab_grammar.specs.declared.verbs.Kind.{Kind}
 use Rattle.fab_grammar.specs.declared.verbs.Kind.TheVariants as kind
 use Rattle.fab_grammar.specs.declared.verbs.Verb.{Verb}
 use Rattle.fab_grammar.specs.declared.verbs.Verb.TheVariants as verb
 use Rattle.fab_grammar.specs.Before.{Before, count_in, has_opened, is_filled, opened_by, size_of}
-use Rattle.fab_grammar.specs.Language.{is_built}
 use Rattle.fab_grammar.specs.Lines.{op_of, op_size}
 use Rattle.fab_grammar.specs.Rules.{is_late, is_words, is_number, is_limit, is_again, names_one, is_no_peer, is_too_much, peer_rules, call_rules, kind_rules, with_peer, with_call, with_kind, with_words}
 use Rattle.fab_grammar.specs.Settings.{peer_of}
@@ -43,11 +40,6 @@ peer_again k small = read_number_decimal k small
 peer_words : (k : ℕ) → k < 2 ^ 64 → list_all is_word (decimal k ∷ []) ≡ true
 peer_words k small = ap (λ b. b && true) (is_word-decimal k)
 
-built_form : (language : Language) → is_built language verb.Peer ≡ true
-unfolding is_built
-built_form Built = refl
-built_form Whole = refl
-
 peer_rule : (before : Before) (number k : ℕ) → k < 2 ^ 64 → list_any (λ j. eqb j k) (opened_by before.items) ≡ false → k < count_in before → is_late number ≡ false → first_of (peer_rules before number (decimal k ∷ [])) ≡ None
 unfolding peer_rules
 peer_rule before number k small new below late =
@@ -57,12 +49,12 @@ peer_rule before number k small new below late =
     let limit : (is_limit (peer_of (decimal k ∷ [])) || is_late number) ≡ false = ap (λ s. is_limit s || is_late number) said ∙ late in
     none_first (peer_rules before number (decimal k ∷ [])) (again, (ap is_words said, (ap is_number said, (ap (is_no_peer before) said ∙ there, (limit, tt)))))
 
-take_peer : (language : Language) (before : Before) (k : ℕ) (rows : List (List (List ℕ))) (Goal : Before → Type 0) → before.has_header ≡ true → k < 2 ^ 64 → list_any (λ j. eqb j k) (opened_by before.items) ≡ false → k < count_in before
-    → Rest language (record before { items = before.items ++ Peer k ∷ [] }) rows Goal → Rest language before (item_row (Peer k) ∷ rows) Goal
-take_peer language before k rows Goal header small new below rest = take_row language before (item_row (Peer k)) rows Goal (verb_row verb.Peer (decimal k ∷ []) (peer_words k small)) (λ number late.
+take_peer : (before : Before) (k : ℕ) (rows : List (List (List ℕ))) (Goal : Before → Type 0) → before.has_header ≡ true → k < 2 ^ 64 → list_any (λ j. eqb j k) (opened_by before.items) ≡ false → k < count_in before
+    → Rest (record before { items = before.items ++ Peer k ∷ [] }) rows Goal → Rest before (item_row (Peer k) ∷ rows) Goal
+take_peer before k rows Goal header small new below rest = take_row before (item_row (Peer k)) rows Goal (verb_row verb.Peer (decimal k ∷ []) (peer_words k small)) (λ number late.
     let args : List (List ℕ) = decimal k ∷ [] in
     let next : with_words before number (item_row (Peer k)) ≡ record before { items = before.items ++ Peer k ∷ [] } = verb_said before number verb.Peer args header ∙ ap (with_peer before) (peer_again k small) in
-    (verb_fits language before number verb.Peer args header (built_form language) (peer_rule before number k small new below late), subst (λ b. Rest language b rows Goal) (sym next) rest))
+    (verb_fits before number verb.Peer args header (peer_rule before number k small new below late), subst (λ b. Rest b rows Goal) (sym next) rest))
 
 -- ---- a line of a peer
 call_rule : (before : Before) (number : ℕ) (verb : Verb) (args : List (List ℕ)) (op : LineOp) → op_of verb args ≡ Ok op → has_opened before ≡ true → sum_by size_of before.items + op_size op ≤ 67108864 → is_late number ≡ false → first_of (call_rules before number verb args) ≡ None
@@ -80,21 +72,21 @@ kind_said : (before : Before) (number : ℕ) (verb : Verb) (args : List (List �
 kind_said before number verb args op k e = ap (λ l. with_kind l before number verb args) k ∙ ap (with_call before number) e
 
 -- the line has the number at which it stands
-take_call : (language : Language) (before : Before) (op : LineOp) (rows : List (List (List ℕ))) (Goal : Before → Type 0) → before.has_header ≡ true → Again language op → has_opened before ≡ true → sum_by size_of before.items + op_size op ≤ 67108864
-    → ((number : ℕ) → Rest language (with_call before number (Ok op)) rows Goal) → Rest language before (row_of op ∷ rows) Goal
-take_call language before op rows Goal header again opened few rest = take_row language before (row_of op) rows Goal (verb_row (verb_for op) (args_for op) again.words) (λ number late.
+take_call : (before : Before) (op : LineOp) (rows : List (List (List ℕ))) (Goal : Before → Type 0) → before.has_header ≡ true → Again op → has_opened before ≡ true → sum_by size_of before.items + op_size op ≤ 67108864
+    → ((number : ℕ) → Rest (with_call before number (Ok op)) rows Goal) → Rest before (row_of op ∷ rows) Goal
+take_call before op rows Goal header again opened few rest = take_row before (row_of op) rows Goal (verb_row (verb_for op) (args_for op) again.words) (λ number late.
     let v = verb_for op in
     let args = args_for op in
     let rules = call_rule before number v args op again.reads opened few late in
     let next : with_words before number (row_of op) ≡ with_call before number (Ok op) = verb_said before number v args header ∙ kind_said before number v args op again.kind again.reads in
-    (verb_fits language before number v args header again.built (kind_rule (kind_of v) before number v args again.kind rules), subst (λ b. Rest language b rows Goal) (sym next) (rest number)))
+    (verb_fits before number v args header (kind_rule (kind_of v) before number v args again.kind rules), subst (λ b. Rest b rows Goal) (sym next) (rest number)))
 
 -- ---- all of them
 -- The rules hold of these items: all peers opened so far are below `low`, some is where that is not 0, and the lines so far have this size.
-abbrev pub ItemsFit : Language → ℕ → ℕ → ℕ → List Item → Type 0
-ItemsFit language n low size [] = Unit {0}
-ItemsFit language n low size (Peer k ∷ items) = (low ≤ k) × (k < n) × ItemsFit language n (k + 1) size items
-ItemsFit language n low size (Does line ∷ items) = (0 < low) × Again language line.op × (size + op_size line.op ≤ 67108864) × ItemsFit language n low (size + op_size line.op) items
+abbrev pub ItemsFit : ℕ → ℕ → ℕ → List Item → Type 0
+ItemsFit n low size [] = Unit {0}
+ItemsFit n low size (Peer k ∷ items) = (low ≤ k) × (k < n) × ItemsFit n (k + 1) size items
+ItemsFit n low size (Does line ∷ items) = (0 < low) × Again line.op × (size + op_size line.op ≤ 67108864) × ItemsFit n low (size + op_size line.op) items
 
 record Opened (done : List Item) (low size : ℕ) : Type 0 where
   pub below : list_all (λ j. ltb j low) (opened_by done) ≡ true
@@ -164,21 +156,21 @@ same_but_number : (done items : List Item) (line : Line) (number : ℕ) → map 
 same_but_number [] items line number = refl
 same_but_number (item ∷ done) items line number = ap (λ l. plain item ∷ l) (same_but_number done items line number)
 
-take_items_after : (language : Language) (settings : Settings) (payloads : List Payload) (n : ℕ) → settings.peers ≡ Some n → n ≤ 4294967296 → (done items all : List Item) (low size : ℕ) → Opened done low size → ItemsFit language n low size items → map plain (done ++ items) ≡ map plain all
-    → Rest language (all_said settings payloads done) (map item_row items) (Ends settings payloads all)
-take_items_after language settings payloads n peers few done [] all low size o f e =
-    take_none language (all_said settings payloads done) (Ends settings payloads all) (record { header = refl; settings = refl; payloads = refl; items = sym (ap (map plain) (append-nil done)) ∙ e })
-take_items_after language settings payloads n peers few done (Peer k ∷ items) all low size o f e =
+take_items_after : (settings : Settings) (payloads : List Payload) (n : ℕ) → settings.peers ≡ Some n → n ≤ 4294967296 → (done items all : List Item) (low size : ℕ) → Opened done low size → ItemsFit n low size items → map plain (done ++ items) ≡ map plain all
+    → Rest (all_said settings payloads done) (map item_row items) (Ends settings payloads all)
+take_items_after settings payloads n peers few done [] all low size o f e =
+    take_none (all_said settings payloads done) (Ends settings payloads all) (record { header = refl; settings = refl; payloads = refl; items = sym (ap (map plain) (append-nil done)) ∙ e })
+take_items_after settings payloads n peers few done (Peer k ∷ items) all low size o f e =
     let count : count_in (all_said settings payloads done) ≡ n = ap (λ p. unwrap_or p 0) peers in
     let small : k < 2 ^ 64 = omega (arith, f.1) in
     let below : k < count_in (all_said settings payloads done) = omega (arith, f.1) in
-    take_peer language (all_said settings payloads done) k (map item_row items) (Ends settings payloads all) refl small (none_same (opened_by done) low k f.0 o.below) below
-    (take_items_after language settings payloads n peers few (done ++ Peer k ∷ []) items all (k + 1) size (opened_peer done low size k o f.0) f.2 (ap (map plain) (append_assoc done (Peer k ∷ []) items) ∙ e))
-take_items_after language settings payloads n peers few done (Does line ∷ items) all low size o f e =
+    take_peer (all_said settings payloads done) k (map item_row items) (Ends settings payloads all) refl small (none_same (opened_by done) low k f.0 o.below) below
+    (take_items_after settings payloads n peers few (done ++ Peer k ∷ []) items all (k + 1) size (opened_peer done low size k o f.0) f.2 (ap (map plain) (append_assoc done (Peer k ∷ []) items) ∙ e))
+take_items_after settings payloads n peers few done (Does line ∷ items) all low size o f e =
     let fits : sum_by size_of done + op_size line.op ≤ 67108864 = omega (arith, o.sum, f.2) in
-    take_call language (all_said settings payloads done) line.op (map item_row items) (Ends settings payloads all) refl f.1 (o.some f.0) fits (λ number.
+    take_call (all_said settings payloads done) line.op (map item_row items) (Ends settings payloads all) refl f.1 (o.some f.0) fits (λ number.
     let numbered : Line = record { number = number; op = line.op } in
-    take_items_after language settings payloads n peers few (done ++ Does numbered ∷ []) items all low (size + op_size line.op) (opened_line done low size numbered o) f.3 (same_but_number done items line number ∙ e))
+    take_items_after settings payloads n peers few (done ++ Does numbered ∷ []) items all low (size + op_size line.op) (opened_line done low size numbered o) f.3 (same_but_number done items line number ∙ e))
 
-pub take_items : (language : Language) (settings : Settings) (payloads : List Payload) (n : ℕ) → settings.peers ≡ Some n → n ≤ 4294967296 → (items : List Item) → ItemsFit language n 0 0 items → Rest language (all_said settings payloads []) (map item_row items) (Ends settings payloads items)
-take_items language settings payloads n peers few items f = take_items_after language settings payloads n peers few [] items items 0 0 (record { below = refl; some = λ h. absurd (omega arith); sum = refl }) f refl
+pub take_items : (settings : Settings) (payloads : List Payload) (n : ℕ) → settings.peers ≡ Some n → n ≤ 4294967296 → (items : List Item) → ItemsFit n 0 0 items → Rest (all_said settings payloads []) (map item_row items) (Ends settings payloads items)
+take_items settings payloads n peers few items f = take_items_after settings payloads n peers few [] items items 0 0 (record { below = refl; some = λ h. absurd (omega arith); sum = refl }) f refl

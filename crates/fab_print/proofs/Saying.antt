@@ -21,7 +21,6 @@ use Rattle.fab_words.specs.Written.{is_word}
 use Rattle.fab_words.specs.Faults.{map_ok, ◌&◌}
 use Rattle.fab_grammar.specs.declared.items.Item.{Item}
 use Rattle.fab_grammar.specs.declared.items.Item.TheVariants.{Peer, Does}
-use Rattle.fab_grammar.specs.declared.language.Language.{Language}
 use Rattle.fab_grammar.specs.declared.settings.Setting.{Setting}
 use Rattle.fab_grammar.specs.declared.settings.Setting.TheVariants.{Peers, Wish, Capabilities, Selective, File}
 use Rattle.fab_grammar.specs.declared.settings.Settings.{Settings}
@@ -32,7 +31,6 @@ use Rattle.fab_grammar.specs.declared.verbs.Verb.TheVariants as verb
 use Rattle.fab_grammar.specs.Before.{Before, nothing, is_distinct, size_of}
 use Rattle.fab_grammar.specs.Capabilities.{caps_of}
 use Rattle.fab_grammar.specs.Grammar.{Refusal, read_lines}
-use Rattle.fab_grammar.specs.Language.{is_built}
 use Rattle.fab_grammar.specs.Lines.{op_of, op_size}
 use Rattle.fab_grammar.specs.Rules.{is_late, is_limit, is_set, is_declared, has_id, is_one_too_many, is_refused, is_too_much, setting_rules, peer_rules, call_rules, kind_rules, verb_rules, header_rules, word_rules, why_of, with_setting, with_peer, with_call, with_kind, with_verb, with_words, with_line}
 use Rattle.fab_grammar.specs.Settings.{size_of as size_said, caps_setting, selective_setting, payload_setting, a_file, wish_of, setting_of, peer_of, making, wishing}
@@ -45,31 +43,31 @@ use Rattle.fab_spell.proofs.Said.{both_said, some_said}
 use Rattle.fab_print.proofs.Rules.{all_fail, words_of_text}
 
 -- ---- settings that were made were read
-pub record AllMade (language : Language) (s : Settings) : Type 0 where
-  pub caps : IfSome s.caps (λ c. SettingRead language (Capabilities c))
+pub record AllMade (s : Settings) : Type 0 where
+  pub caps : IfSome s.caps (λ c. SettingRead (Capabilities c))
   pub granted : IfSome s.caps (λ c. is_refused (Ok (Capabilities c)) ≡ false)
-  pub peers : IfSome s.peers (λ n. SettingRead language (Peers n))
-  pub lane : IfSome s.lane (λ n. SettingRead language (Wish size.Lane n))
-  pub pool : IfSome s.pool (λ n. SettingRead language (Wish size.Pool n))
-  pub tx : IfSome s.tx (λ n. SettingRead language (Wish size.Tx n))
-  pub rx : IfSome s.rx (λ n. SettingRead language (Wish size.Rx n))
-  pub cq : IfSome s.cq (λ n. SettingRead language (Wish size.Cq n))
-  pub selective : s.is_selective ≡ true → SettingRead language Selective
+  pub peers : IfSome s.peers (λ n. SettingRead (Peers n))
+  pub lane : IfSome s.lane (λ n. SettingRead (Wish size.Lane n))
+  pub pool : IfSome s.pool (λ n. SettingRead (Wish size.Pool n))
+  pub tx : IfSome s.tx (λ n. SettingRead (Wish size.Tx n))
+  pub rx : IfSome s.rx (λ n. SettingRead (Wish size.Rx n))
+  pub cq : IfSome s.cq (λ n. SettingRead (Wish size.Cq n))
+  pub selective : s.is_selective ≡ true → SettingRead Selective
 
-wish_made : (language : Language) (s : Settings) (size : Size) (n : ℕ) → AllMade language s → SettingRead language (Wish size n) → AllMade language (wishing s size n)
-wish_made language s size.Lane n m r = record { caps = m.caps; granted = m.granted; peers = m.peers; lane = r; pool = m.pool; tx = m.tx; rx = m.rx; cq = m.cq; selective = m.selective }
-wish_made language s size.Pool n m r = record { caps = m.caps; granted = m.granted; peers = m.peers; lane = m.lane; pool = r; tx = m.tx; rx = m.rx; cq = m.cq; selective = m.selective }
-wish_made language s size.Tx n m r = record { caps = m.caps; granted = m.granted; peers = m.peers; lane = m.lane; pool = m.pool; tx = r; rx = m.rx; cq = m.cq; selective = m.selective }
-wish_made language s size.Rx n m r = record { caps = m.caps; granted = m.granted; peers = m.peers; lane = m.lane; pool = m.pool; tx = m.tx; rx = r; cq = m.cq; selective = m.selective }
-wish_made language s size.Cq n m r = record { caps = m.caps; granted = m.granted; peers = m.peers; lane = m.lane; pool = m.pool; tx = m.tx; rx = m.rx; cq = r; selective = m.selective }
-wish_made language s _ n m r = m
+wish_made : (s : Settings) (size : Size) (n : ℕ) → AllMade s → SettingRead (Wish size n) → AllMade (wishing s size n)
+wish_made s size.Lane n m r = record { caps = m.caps; granted = m.granted; peers = m.peers; lane = r; pool = m.pool; tx = m.tx; rx = m.rx; cq = m.cq; selective = m.selective }
+wish_made s size.Pool n m r = record { caps = m.caps; granted = m.granted; peers = m.peers; lane = m.lane; pool = r; tx = m.tx; rx = m.rx; cq = m.cq; selective = m.selective }
+wish_made s size.Tx n m r = record { caps = m.caps; granted = m.granted; peers = m.peers; lane = m.lane; pool = m.pool; tx = r; rx = m.rx; cq = m.cq; selective = m.selective }
+wish_made s size.Rx n m r = record { caps = m.caps; granted = m.granted; peers = m.peers; lane = m.lane; pool = m.pool; tx = m.tx; rx = r; cq = m.cq; selective = m.selective }
+wish_made s size.Cq n m r = record { caps = m.caps; granted = m.granted; peers = m.peers; lane = m.lane; pool = m.pool; tx = m.tx; rx = m.rx; cq = r; selective = m.selective }
+wish_made s _ n m r = m
 
-setting_made : (language : Language) (s : Settings) (setting : Setting) → AllMade language s → SettingRead language setting → is_refused (Ok setting) ≡ false → AllMade language (making s setting)
-setting_made language s (Peers n) m r g = record { caps = m.caps; granted = m.granted; peers = r; lane = m.lane; pool = m.pool; tx = m.tx; rx = m.rx; cq = m.cq; selective = m.selective }
-setting_made language s (Wish size n) m r g = wish_made language s size n m r
-setting_made language s (Capabilities caps) m r g = record { caps = r; granted = g; peers = m.peers; lane = m.lane; pool = m.pool; tx = m.tx; rx = m.rx; cq = m.cq; selective = m.selective }
-setting_made language s Selective m r g = record { caps = m.caps; granted = m.granted; peers = m.peers; lane = m.lane; pool = m.pool; tx = m.tx; rx = m.rx; cq = m.cq; selective = λ e. r }
-setting_made language s (File payload) m r g = m
+setting_made : (s : Settings) (setting : Setting) → AllMade s → SettingRead setting → is_refused (Ok setting) ≡ false → AllMade (making s setting)
+setting_made s (Peers n) m r g = record { caps = m.caps; granted = m.granted; peers = r; lane = m.lane; pool = m.pool; tx = m.tx; rx = m.rx; cq = m.cq; selective = m.selective }
+setting_made s (Wish size n) m r g = wish_made s size n m r
+setting_made s (Capabilities caps) m r g = record { caps = r; granted = g; peers = m.peers; lane = m.lane; pool = m.pool; tx = m.tx; rx = m.rx; cq = m.cq; selective = m.selective }
+setting_made s Selective m r g = record { caps = m.caps; granted = m.granted; peers = m.peers; lane = m.lane; pool = m.pool; tx = m.tx; rx = m.rx; cq = m.cq; selective = λ e. r }
+setting_made s (File payload) m r g = m
 
 -- how many there are
 abbrev pub some_count : {A : Type 0} → Option A → ℕ
@@ -106,13 +104,13 @@ making_count s Selective = omega (arith, true_more s.is_selective)
 making_count s (File payload) = omega arith
 
 -- ---- payload files
-abbrev pub AllFiles : Language → List Payload → Type 0
-AllFiles language [] = Unit {0}
-AllFiles language (payload ∷ payloads) = SettingRead language (File payload) × AllFiles language payloads
+abbrev pub AllFiles : List Payload → Type 0
+AllFiles [] = Unit {0}
+AllFiles (payload ∷ payloads) = SettingRead (File payload) × AllFiles payloads
 
-files_more : (language : Language) (payloads : List Payload) (payload : Payload) → AllFiles language payloads → SettingRead language (File payload) → AllFiles language (payloads ++ payload ∷ [])
-files_more language [] payload f r = (r, tt)
-files_more language (p ∷ ps) payload f r = (f.0, files_more language ps payload f.1 r)
+files_more : (payloads : List Payload) (payload : Payload) → AllFiles payloads → SettingRead (File payload) → AllFiles (payloads ++ payload ∷ [])
+files_more [] payload f r = (r, tt)
+files_more (p ∷ ps) payload f r = (f.0, files_more ps payload f.1 r)
 
 abbrev pub id_of : Payload → ℕ
 id_of payload = payload.id
@@ -165,20 +163,20 @@ file_declared verb.Cq args payload before e = absurd (not_file (Wish size.Cq) (s
 file_declared _ args payload before e = cc
 
 -- ---- lines of peers
-abbrev pub AllOps : Language → List Item → Type 0
-AllOps language [] = Unit {0}
-AllOps language (Peer k ∷ items) = AllOps language items
-AllOps language (Does line ∷ items) = WasRead language line.op × AllOps language items
+abbrev pub AllOps : List Item → Type 0
+AllOps [] = Unit {0}
+AllOps (Peer k ∷ items) = AllOps items
+AllOps (Does line ∷ items) = WasRead line.op × AllOps items
 
-ops_peer : (language : Language) (items : List Item) (k : ℕ) → AllOps language items → AllOps language (items ++ Peer k ∷ [])
-ops_peer language [] k a = tt
-ops_peer language (Peer j ∷ items) k a = ops_peer language items k a
-ops_peer language (Does line ∷ items) k a = (a.0, ops_peer language items k a.1)
+ops_peer : (items : List Item) (k : ℕ) → AllOps items → AllOps (items ++ Peer k ∷ [])
+ops_peer [] k a = tt
+ops_peer (Peer j ∷ items) k a = ops_peer items k a
+ops_peer (Does line ∷ items) k a = (a.0, ops_peer items k a.1)
 
-ops_line : (language : Language) (items : List Item) (line : Line) → AllOps language items → WasRead language line.op → AllOps language (items ++ Does line ∷ [])
-ops_line language [] line a r = (r, tt)
-ops_line language (Peer j ∷ items) line a r = ops_line language items line a r
-ops_line language (Does other ∷ items) line a r = (a.0, ops_line language items line a.1 r)
+ops_line : (items : List Item) (line : Line) → AllOps items → WasRead line.op → AllOps (items ++ Does line ∷ [])
+ops_line [] line a r = (r, tt)
+ops_line (Peer j ∷ items) line a r = ops_line items line a r
+ops_line (Does other ∷ items) line a r = (a.0, ops_line items line a.1 r)
 
 -- ---- all that is said
 -- as many lines as these are needed to say it
@@ -186,12 +184,12 @@ abbrev pub needed : Before → ℕ
 needed before = true_count before.has_header + made_count before.settings + length before.payloads + length before.items
 
 -- what so many lines said
-pub record Said (language : Language) (before : Before) (count : ℕ) : Type 0 where
-  pub made : AllMade language before.settings
-  pub files : AllFiles language before.payloads
+pub record Said (before : Before) (count : ℕ) : Type 0 where
+  pub made : AllMade before.settings
+  pub files : AllFiles before.payloads
   pub distinct : is_distinct (map id_of before.payloads) ≡ true
   pub few_files : length before.payloads ≤ 64
-  pub ops : AllOps language before.items
+  pub ops : AllOps before.items
   pub size : sum_by size_of before.items ≤ 67108864
   pub needed : needed before ≤ count
   pub few : count ≤ 100000
@@ -200,16 +198,16 @@ not_late : (n : ℕ) → is_late n ≡ false → n ≤ 100000
 not_late n e = grind (arith, nat_tests)
 
 -- a line that says nothing
-idle : (language : Language) (before : Before) (count : ℕ) → Said language before count → is_late (count + 1) ≡ false → Said language before (count + 1)
-idle language before count s late = record { made = s.made; files = s.files; distinct = s.distinct; few_files = s.few_files; ops = s.ops; size = s.size; needed = omega (arith, s.needed); few = not_late (count + 1) late }
+idle : (before : Before) (count : ℕ) → Said before count → is_late (count + 1) ≡ false → Said before (count + 1)
+idle before count s late = record { made = s.made; files = s.files; distinct = s.distinct; few_files = s.few_files; ops = s.ops; size = s.size; needed = omega (arith, s.needed); few = not_late (count + 1) late }
 
-header_said : (language : Language) (before : Before) (count : ℕ) → Said language before count → before.has_header ≡ false → is_late (count + 1) ≡ false → Said language (record before { has_header = true }) (count + 1)
-header_said language before count s none late = record { made = s.made; files = s.files; distinct = s.distinct; few_files = s.few_files; ops = s.ops; size = s.size; needed = omega (arith, s.needed, ap true_count none); few = not_late (count + 1) late }
+header_said : (before : Before) (count : ℕ) → Said before count → before.has_header ≡ false → is_late (count + 1) ≡ false → Said (record before { has_header = true }) (count + 1)
+header_said before count s none late = record { made = s.made; files = s.files; distinct = s.distinct; few_files = s.few_files; ops = s.ops; size = s.size; needed = omega (arith, s.needed, ap true_count none); few = not_late (count + 1) late }
 
 -- ---- a setting
-made_said : (language : Language) (before : Before) (count : ℕ) (setting : Setting) → Said language before count → SettingRead language setting → is_refused (Ok setting) ≡ false → is_late (count + 1) ≡ false → Said language (record before { settings = making before.settings setting }) (count + 1)
-made_said language before count setting s r g late = record {
-  made = setting_made language before.settings setting s.made r g;
+made_said : (before : Before) (count : ℕ) (setting : Setting) → Said before count → SettingRead setting → is_refused (Ok setting) ≡ false → is_late (count + 1) ≡ false → Said (record before { settings = making before.settings setting }) (count + 1)
+made_said before count setting s r g late = record {
+  made = setting_made before.settings setting s.made r g;
   files = s.files;
   distinct = s.distinct;
   few_files = s.few_files;
@@ -219,13 +217,13 @@ made_said language before count setting s r g late = record {
   few = not_late (count + 1) late;
 }
 
-file_taken : (language : Language) (before : Before) (count : ℕ) (payload : Payload) → Said language before count → SettingRead language (File payload) → list_any (λ (p : Payload). eqb p.id payload.id) before.payloads ≡ false → is_one_too_many before (Ok (File payload)) ≡ false → is_late (count + 1) ≡ false → Said language (record before { payloads = before.payloads ++ payload ∷ [] }) (count + 1)
-file_taken language before count payload s r new few late =
+file_taken : (before : Before) (count : ℕ) (payload : Payload) → Said before count → SettingRead (File payload) → list_any (λ (p : Payload). eqb p.id payload.id) before.payloads ≡ false → is_one_too_many before (Ok (File payload)) ≡ false → is_late (count + 1) ≡ false → Said (record before { payloads = before.payloads ++ payload ∷ [] }) (count + 1)
+file_taken before count payload s r new few late =
     let fewer : length before.payloads < 64 = grind (arith, nat_tests) in
     let more : length (before.payloads ++ payload ∷ []) ≡ length before.payloads + 1 = length-append before.payloads (payload ∷ []) in
     record {
       made = s.made;
-      files = files_more language before.payloads payload s.files r;
+      files = files_more before.payloads payload s.files r;
       distinct = ap is_distinct (map-append id_of before.payloads (payload ∷ [])) ∙ distinct_push (map id_of before.payloads) payload.id s.distinct (sym (any_id before.payloads payload.id) ∙ new);
       few_files = omega arith;
       ops = s.ops;
@@ -234,52 +232,52 @@ file_taken language before count payload s r new few late =
       few = not_late (count + 1) late;
     }
 
-setting_said : (language : Language) (before : Before) (count : ℕ) (verb : Verb) (args : List (List ℕ)) (said : Result Setting Fault) → Said language before count → kind_of verb ≡ kind.Setting → list_all is_word args ≡ true → is_built language verb ≡ true → setting_of verb args ≡ said → is_late (count + 1) ≡ false → is_set before verb args ≡ false → is_one_too_many before said ≡ false → is_refused said ≡ false → Said language (with_setting before said) (count + 1)
-setting_said language before count verb args (Err fault) s k w b e late set many refused = idle language before count s late
-setting_said language before count verb args (Ok (File payload)) s k w b e late set many refused =
-    file_taken language before count payload s (record { verb = verb; args = args; kind = k; words = w; built = b; reads = e }) (sym (file_declared verb args payload before e) ∙ set) many late
-setting_said language before count verb args (Ok (Peers n)) s k w b e late set many refused =
-    made_said language before count (Peers n) s (record { verb = verb; args = args; kind = k; words = w; built = b; reads = e }) refused late
-setting_said language before count verb args (Ok (Wish size n)) s k w b e late set many refused =
-    made_said language before count (Wish size n) s (record { verb = verb; args = args; kind = k; words = w; built = b; reads = e }) refused late
-setting_said language before count verb args (Ok (Capabilities caps)) s k w b e late set many refused =
-    made_said language before count (Capabilities caps) s (record { verb = verb; args = args; kind = k; words = w; built = b; reads = e }) refused late
-setting_said language before count verb args (Ok Selective) s k w b e late set many refused =
-    made_said language before count Selective s (record { verb = verb; args = args; kind = k; words = w; built = b; reads = e }) refused late
+setting_said : (before : Before) (count : ℕ) (verb : Verb) (args : List (List ℕ)) (said : Result Setting Fault) → Said before count → kind_of verb ≡ kind.Setting → list_all is_word args ≡ true → setting_of verb args ≡ said → is_late (count + 1) ≡ false → is_set before verb args ≡ false → is_one_too_many before said ≡ false → is_refused said ≡ false → Said (with_setting before said) (count + 1)
+setting_said before count verb args (Err fault) s k w e late set many refused = idle before count s late
+setting_said before count verb args (Ok (File payload)) s k w e late set many refused =
+    file_taken before count payload s (record { verb = verb; args = args; kind = k; words = w; reads = e }) (sym (file_declared verb args payload before e) ∙ set) many late
+setting_said before count verb args (Ok (Peers n)) s k w e late set many refused =
+    made_said before count (Peers n) s (record { verb = verb; args = args; kind = k; words = w; reads = e }) refused late
+setting_said before count verb args (Ok (Wish size n)) s k w e late set many refused =
+    made_said before count (Wish size n) s (record { verb = verb; args = args; kind = k; words = w; reads = e }) refused late
+setting_said before count verb args (Ok (Capabilities caps)) s k w e late set many refused =
+    made_said before count (Capabilities caps) s (record { verb = verb; args = args; kind = k; words = w; reads = e }) refused late
+setting_said before count verb args (Ok Selective) s k w e late set many refused =
+    made_said before count Selective s (record { verb = verb; args = args; kind = k; words = w; reads = e }) refused late
 
-setting_kept : (language : Language) (before : Before) (count : ℕ) (verb : Verb) (args : List (List ℕ)) → Said language before count → kind_of verb ≡ kind.Setting → list_all is_word args ≡ true → is_built language verb ≡ true → first_of (setting_rules before (count + 1) verb args) ≡ None → Said language (with_setting before (setting_of verb args)) (count + 1)
+setting_kept : (before : Before) (count : ℕ) (verb : Verb) (args : List (List ℕ)) → Said before count → kind_of verb ≡ kind.Setting → list_all is_word args ≡ true → first_of (setting_rules before (count + 1) verb args) ≡ None → Said (with_setting before (setting_of verb args)) (count + 1)
 unfolding setting_rules
-setting_kept language before count verb args s k w b e =
+setting_kept before count verb args s k w e =
     let said = setting_of verb args in
     let none = all_fail (setting_rules before (count + 1) verb args) e in
     let limit = or_false (is_limit said || is_late (count + 1)) (is_one_too_many before said) none.1.1.1.1.0 in
-    setting_said language before count verb args said s k w b refl (or_false (is_limit said) (is_late (count + 1)) limit.0).1 none.1.0 limit.1 none.1.1.1.1.1.0
+    setting_said before count verb args said s k w refl (or_false (is_limit said) (is_late (count + 1)) limit.0).1 none.1.0 limit.1 none.1.1.1.1.1.0
 
 -- ---- a peer, and a line of one
-peer_said : (language : Language) (before : Before) (count : ℕ) (said : Result ℕ Fault) → Said language before count → is_late (count + 1) ≡ false → Said language (with_peer before said) (count + 1)
-peer_said language before count (Err fault) s late = idle language before count s late
-peer_said language before count (Ok k) s late =
+peer_said : (before : Before) (count : ℕ) (said : Result ℕ Fault) → Said before count → is_late (count + 1) ≡ false → Said (with_peer before said) (count + 1)
+peer_said before count (Err fault) s late = idle before count s late
+peer_said before count (Ok k) s late =
     let more : length (before.items ++ Peer k ∷ []) ≡ length before.items + 1 = length-append before.items (Peer k ∷ []) in
     record {
       made = s.made;
       files = s.files;
       distinct = s.distinct;
       few_files = s.few_files;
-      ops = ops_peer language before.items k s.ops;
+      ops = ops_peer before.items k s.ops;
       size = omega (arith, s.size, sum_by_push size_of before.items (Peer k));
       needed = omega (arith, s.needed);
       few = not_late (count + 1) late;
     }
 
-peer_kept : (language : Language) (before : Before) (count : ℕ) (args : List (List ℕ)) → Said language before count → first_of (peer_rules before (count + 1) args) ≡ None → Said language (with_peer before (peer_of args)) (count + 1)
+peer_kept : (before : Before) (count : ℕ) (args : List (List ℕ)) → Said before count → first_of (peer_rules before (count + 1) args) ≡ None → Said (with_peer before (peer_of args)) (count + 1)
 unfolding peer_rules
-peer_kept language before count args s e =
+peer_kept before count args s e =
     let none = all_fail (peer_rules before (count + 1) args) e in
-    peer_said language before count (peer_of args) s (or_false (is_limit (peer_of args)) (is_late (count + 1)) none.1.1.1.1.0).1
+    peer_said before count (peer_of args) s (or_false (is_limit (peer_of args)) (is_late (count + 1)) none.1.1.1.1.0).1
 
-call_said : (language : Language) (before : Before) (count : ℕ) (verb : Verb) (args : List (List ℕ)) (said : Result LineOp Fault) → Said language before count → kind_of verb ≡ kind.Call → list_all is_word args ≡ true → is_built language verb ≡ true → op_of verb args ≡ said → is_late (count + 1) ≡ false → is_too_much before said ≡ false → Said language (with_call before (count + 1) said) (count + 1)
-call_said language before count verb args (Err fault) s k w b e late much = idle language before count s late
-call_said language before count verb args (Ok op) s k w b e late much =
+call_said : (before : Before) (count : ℕ) (verb : Verb) (args : List (List ℕ)) (said : Result LineOp Fault) → Said before count → kind_of verb ≡ kind.Call → list_all is_word args ≡ true → op_of verb args ≡ said → is_late (count + 1) ≡ false → is_too_much before said ≡ false → Said (with_call before (count + 1) said) (count + 1)
+call_said before count verb args (Err fault) s k w e late much = idle before count s late
+call_said before count verb args (Ok op) s k w e late much =
     let line : Line = record { number = count + 1; op = op } in
     let more : length (before.items ++ Does line ∷ []) ≡ length before.items + 1 = length-append before.items (Does line ∷ []) in
     let little : sum_by size_of before.items + op_size op ≤ 67108864 = grind (arith, nat_tests) in
@@ -288,71 +286,70 @@ call_said language before count verb args (Ok op) s k w b e late much =
       files = s.files;
       distinct = s.distinct;
       few_files = s.few_files;
-      ops = ops_line language before.items line s.ops (record { verb = verb; args = args; kind = k; words = w; built = b; reads = e });
+      ops = ops_line before.items line s.ops (record { verb = verb; args = args; kind = k; words = w; reads = e });
       size = omega (arith, little, sum_by_push size_of before.items (Does line));
       needed = omega (arith, s.needed);
       few = not_late (count + 1) late;
     }
 
-call_kept : (language : Language) (before : Before) (count : ℕ) (verb : Verb) (args : List (List ℕ)) → Said language before count → kind_of verb ≡ kind.Call → list_all is_word args ≡ true → is_built language verb ≡ true → first_of (call_rules before (count + 1) verb args) ≡ None → Said language (with_call before (count + 1) (op_of verb args)) (count + 1)
+call_kept : (before : Before) (count : ℕ) (verb : Verb) (args : List (List ℕ)) → Said before count → kind_of verb ≡ kind.Call → list_all is_word args ≡ true → first_of (call_rules before (count + 1) verb args) ≡ None → Said (with_call before (count + 1) (op_of verb args)) (count + 1)
 unfolding call_rules
-call_kept language before count verb args s k w b e =
+call_kept before count verb args s k w e =
     let said = op_of verb args in
     let none = all_fail (call_rules before (count + 1) verb args) e in
     let limit = or_false (is_limit said || is_late (count + 1)) (is_too_much before said) none.1.1.1.0 in
-    call_said language before count verb args said s k w b refl (or_false (is_limit said) (is_late (count + 1)) limit.0).1 limit.1
+    call_said before count verb args said s k w refl (or_false (is_limit said) (is_late (count + 1)) limit.0).1 limit.1
 
 -- ---- a line
-kind_kept : (language : Language) (before : Before) (count : ℕ) (k : Kind) (verb : Verb) (args : List (List ℕ)) → Said language before count → kind_of verb ≡ k → list_all is_word args ≡ true → is_built language verb ≡ true → first_of (kind_rules k before (count + 1) verb args) ≡ None → Said language (with_kind k before (count + 1) verb args) (count + 1)
-kind_kept language before count kind.Setting verb args s k w b e = setting_kept language before count verb args s k w b e
-kind_kept language before count kind.Peer verb args s k w b e = peer_kept language before count args s e
-kind_kept language before count kind.Call verb args s k w b e = call_kept language before count verb args s k w b e
+kind_kept : (before : Before) (count : ℕ) (k : Kind) (verb : Verb) (args : List (List ℕ)) → Said before count → kind_of verb ≡ k → list_all is_word args ≡ true → first_of (kind_rules k before (count + 1) verb args) ≡ None → Said (with_kind k before (count + 1) verb args) (count + 1)
+kind_kept before count kind.Setting verb args s k w e = setting_kept before count verb args s k w e
+kind_kept before count kind.Peer verb args s k w e = peer_kept before count args s e
+kind_kept before count kind.Call verb args s k w e = call_kept before count verb args s k w e
+
+verb_kept : (before : Before) (count : ℕ) (verb : Option Verb) (args : List (List ℕ)) → Said before count → list_all is_word args ≡ true → first_of (verb_rules before (count + 1) verb args) ≡ None → Said (with_verb before (count + 1) verb args) (count + 1)
+verb_kept before count None args s w e = cc
+verb_kept before count (Some verb) args s w e =
+    kind_kept before count (kind_of verb) verb args s refl w e
+
+head_kept : (before : Before) (count : ℕ) (words args : List (List ℕ)) (verb : Option Verb) (b : Bool) → before.has_header ≡ b → Said before count → list_all is_word args ≡ true → first_of (cond b (verb_rules before (count + 1) verb args) (header_rules (count + 1) words)) ≡ None → Said (cond b (with_verb before (count + 1) verb args) (record before { has_header = true })) (count + 1)
+head_kept before count words args verb true h s w e = verb_kept before count verb args s w e
+head_kept before count words args verb false h s w e =
+    let none = all_fail (header_rules (count + 1) words) e in
+    header_said before count s h none.1.0
+
+words_kept : (before : Before) (count : ℕ) (words : List (List ℕ)) → Said before count → list_all is_word words ≡ true → first_of (word_rules before (count + 1) words) ≡ None → Said (with_words before (count + 1) words) (count + 1)
+words_kept before count [] s w e =
+    let none = all_fail ((is_late (count + 1), why.Limit) ∷ []) e in
+    idle before count s none.0
+words_kept before count (word ∷ args) s w e =
+    head_kept before count (word ∷ args) args (verb_of word) before.has_header refl s (and_true (is_word word) (list_all is_word args) w).1 e
 
 not_false : (b : Bool) → not b ≡ false → b ≡ true
 not_false true e = refl
 not_false false e = cc
 
-verb_kept : (language : Language) (before : Before) (count : ℕ) (verb : Option Verb) (args : List (List ℕ)) → Said language before count → list_all is_word args ≡ true → first_of (verb_rules language before (count + 1) verb args) ≡ None → Said language (with_verb before (count + 1) verb args) (count + 1)
-verb_kept language before count None args s w e = cc
-verb_kept language before count (Some verb) args s w e =
-    let rules = kind_rules (kind_of verb) before (count + 1) verb args in
-    kind_kept language before count (kind_of verb) verb args s refl w (not_false (is_built language verb) (first_fails (not (is_built language verb)) why.Unbuilt rules e)) (rest_of (not (is_built language verb)) why.Unbuilt rules e)
-
-head_kept : (language : Language) (before : Before) (count : ℕ) (words args : List (List ℕ)) (verb : Option Verb) (b : Bool) → before.has_header ≡ b → Said language before count → list_all is_word args ≡ true → first_of (cond b (verb_rules language before (count + 1) verb args) (header_rules (count + 1) words)) ≡ None → Said language (cond b (with_verb before (count + 1) verb args) (record before { has_header = true })) (count + 1)
-head_kept language before count words args verb true h s w e = verb_kept language before count verb args s w e
-head_kept language before count words args verb false h s w e =
-    let none = all_fail (header_rules (count + 1) words) e in
-    header_said language before count s h none.1.0
-
-words_kept : (language : Language) (before : Before) (count : ℕ) (words : List (List ℕ)) → Said language before count → list_all is_word words ≡ true → first_of (word_rules language before (count + 1) words) ≡ None → Said language (with_words before (count + 1) words) (count + 1)
-words_kept language before count [] s w e =
-    let none = all_fail ((is_late (count + 1), why.Limit) ∷ []) e in
-    idle language before count s none.0
-words_kept language before count (word ∷ args) s w e =
-    head_kept language before count (word ∷ args) args (verb_of word) before.has_header refl s (and_true (is_word word) (list_all is_word args) w).1 e
-
-line_kept : (language : Language) (before : Before) (count : ℕ) (line : List ℕ) → Said language before count → why_of language before (count + 1) line ≡ None → Said language (with_line before (count + 1) line) (count + 1)
+line_kept : (before : Before) (count : ℕ) (line : List ℕ) → Said before count → why_of before (count + 1) line ≡ None → Said (with_line before (count + 1) line) (count + 1)
 unfolding why_of with_line
-line_kept language before count line s e =
-    let rules = word_rules language before (count + 1) (words_of line) in
+line_kept before count line s e =
+    let rules = word_rules before (count + 1) (words_of line) in
     let text : is_text line ≡ true = not_false (is_text line) (first_fails (not (is_text line)) why.NotText rules e) in
-    words_kept language before count (words_of line) s (words_of_text line text) (rest_of (not (is_text line)) why.NotText rules e)
+    words_kept before count (words_of line) s (words_of_text line text) (rest_of (not (is_text line)) why.NotText rules e)
 
 -- ---- all lines
-pub lines_said : (language : Language) (before : Before) (count : ℕ) (lines : List (List ℕ)) (after : Before) → Said language before count → read_lines language before (count + 1) lines ≡ Ok after → (total : ℕ) × Said language after total
+pub lines_said : (before : Before) (count : ℕ) (lines : List (List ℕ)) (after : Before) → Said before count → read_lines before (count + 1) lines ≡ Ok after → (total : ℕ) × Said after total
 unfolding read_lines
-lines_said language before count [] after s e =
+lines_said before count [] after s e =
     let same : before ≡ after = cc in
-    (count, subst (λ b. Said language b count) same s)
-lines_said language before count (line ∷ lines) after s e =
-    by_why (why_of language before (count + 1) line) refl (λ none f. lines_said language (with_line before (count + 1) line) (count + 1) lines after (line_kept language before count line s none) f) e
+    (count, subst (λ b. Said b count) same s)
+lines_said before count (line ∷ lines) after s e =
+    by_why (why_of before (count + 1) line) refl (λ none f. lines_said (with_line before (count + 1) line) (count + 1) lines after (line_kept before count line s none) f) e
   where
-    by_why : (rules : Option Why) → why_of language before (count + 1) line ≡ rules → (why_of language before (count + 1) line ≡ None → read_lines language (with_line before (count + 1) line) (count + 1 + 1) lines ≡ Ok after → (total : ℕ) × Said language after total) → elim rules as (λ _. Result Before Refusal) [ Some why ↦ Err (count + 1, why) | None ↦ read_lines language (with_line before (count + 1) line) (count + 1 + 1) lines ] ≡ Ok after → (total : ℕ) × Said language after total
+    by_why : (rules : Option Why) → why_of before (count + 1) line ≡ rules → (why_of before (count + 1) line ≡ None → read_lines (with_line before (count + 1) line) (count + 1 + 1) lines ≡ Ok after → (total : ℕ) × Said after total) → elim rules as (λ _. Result Before Refusal) [ Some why ↦ Err (count + 1, why) | None ↦ read_lines (with_line before (count + 1) line) (count + 1 + 1) lines ] ≡ Ok after → (total : ℕ) × Said after total
     by_why (Some why) r f rest = cc
     by_why None r f rest = f r rest
 
-nothing_made : (language : Language) → Said language nothing 0
-nothing_made language = record {
+nothing_made : Said nothing 0
+nothing_made = record {
   made = record { caps = tt; granted = tt; peers = tt; lane = tt; pool = tt; tx = tt; rx = tt; cq = tt; selective = λ e. cc };
   files = tt;
   distinct = refl;
@@ -363,5 +360,5 @@ nothing_made language = record {
   few = omega arith;
 }
 
-pub all_said : (language : Language) (lines : List (List ℕ)) (after : Before) → read_lines language nothing 1 lines ≡ Ok after → (total : ℕ) × Said language after total
-all_said language lines after e = lines_said language nothing 0 lines after (nothing_made language) e
+pub all_said : (lines : List (List ℕ)) (after : Before) → read_lines nothing 1 lines ≡ Ok after → (total : ℕ) × Said after total
+all_said lines after e = lines_said nothing 0 lines after nothing_made e

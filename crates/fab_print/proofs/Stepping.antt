@@ -1,46 +1,43 @@
 -- Rows that are read one after another.
---     Rest language before rows Goal      from what is said before, these rows can be written and break no rule wherever they stand within 100,000 lines, and the goal holds of what is said then
-use Rattle.std.proofs.Common.{◌≡◌, ◌&&◌, ℕ, ◌+◌, ◌≤◌, true, false, cond, not, List, [], ◌∷◌, length, Some, None, sym, ap, subst, ◌∙◌, refl, arith}
+--     Rest before rows Goal      from what is said before, these rows can be written and break no rule wherever they stand within 100,000 lines, and the goal holds of what is said then
+use Rattle.std.proofs.Common.{◌≡◌, ◌&&◌, ℕ, ◌+◌, ◌≤◌, true, false, cond, List, [], ◌∷◌, length, Some, None, sym, ap, subst, ◌∙◌, refl, arith}
 use Rattle.std.specs.Prelude.{codes}
 use Rattle.std.specs.List.{list_all}
 use Rattle.std.proofs.lemmas.Bool.Decides.{nat_tests}
-use Rattle.fab_base.specs.declared.status.Why.TheVariants as why
 use Rattle.fab_words.specs.Words.{first_of}
 use Rattle.fab_words.specs.Written.{is_word, is_row}
-use Rattle.fab_grammar.specs.declared.language.Language.{Language}
 use Rattle.fab_grammar.specs.declared.verbs.Verb.{Verb}
 use Rattle.fab_grammar.specs.declared.verbs.Verb.TheVariants as verb
 use Rattle.fab_grammar.specs.Before.{Before}
 use Rattle.fab_grammar.specs.Reads.{Reads}
 use Rattle.fab_grammar.specs.Rules.{is_late, header_rules, kind_rules, verb_rules, word_rules, with_kind, with_verb, with_words}
-use Rattle.fab_grammar.specs.Language.{is_built}
 use Rattle.fab_grammar.specs.Verbs.{name_of, verb_of, kind_of}
 use Rattle.fab_print.specs.Print.{header_row}
 use Rattle.fab_print.proofs.Rules.{none_first}
 
-pub record Outcome (language : Language) (before : Before) (number : ℕ) (rows : List (List (List ℕ))) (Goal : Before → Type 0) : Type 0 where
+pub record Outcome (before : Before) (number : ℕ) (rows : List (List (List ℕ))) (Goal : Before → Type 0) : Type 0 where
   pub after : Before
   pub written : list_all is_row rows ≡ true
-  pub reads : Reads language before number rows after
+  pub reads : Reads before number rows after
   pub goal : Goal after
 
-abbrev pub Rest : Language → Before → List (List (List ℕ)) → (Before → Type 0) → Type 0
-Rest language before rows Goal = (number : ℕ) → number + length rows ≤ 100001 → Outcome language before number rows Goal
+abbrev pub Rest : Before → List (List (List ℕ)) → (Before → Type 0) → Type 0
+Rest before rows Goal = (number : ℕ) → number + length rows ≤ 100001 → Outcome before number rows Goal
 
 in_time : (number more : ℕ) → number + (more + 1) ≤ 100001 → is_late number ≡ false
 in_time number more h = grind (arith, nat_tests)
 
 -- one row, and what follows it
-pub take_row : (language : Language) (before : Before) (row : List (List ℕ)) (rows : List (List (List ℕ))) (Goal : Before → Type 0) → is_row row ≡ true → ((number : ℕ) → is_late number ≡ false → (first_of (word_rules language before number row) ≡ None) × Rest language (with_words before number row) rows Goal) → Rest language before (row ∷ rows) Goal
-take_row language before row rows Goal words fits = λ number bound.
+pub take_row : (before : Before) (row : List (List ℕ)) (rows : List (List (List ℕ))) (Goal : Before → Type 0) → is_row row ≡ true → ((number : ℕ) → is_late number ≡ false → (first_of (word_rules before number row) ≡ None) × Rest (with_words before number row) rows Goal) → Rest before (row ∷ rows) Goal
+take_row before row rows Goal words fits = λ number bound.
     let late : is_late number ≡ false = in_time number (length rows) (omega arith) in
     let here = fits number late in
     let rest = here.1 (number + 1) (omega arith) in
     record { after = rest.after; written = ap (λ b. b && list_all is_row rows) words ∙ rest.written; reads = (here.0, rest.reads); goal = rest.goal }
 
 -- no row is left
-pub take_none : (language : Language) (before : Before) (Goal : Before → Type 0) → Goal before → Rest language before [] Goal
-take_none language before Goal g = λ number bound. record { after = before; written = refl; reads = refl; goal = g }
+pub take_none : (before : Before) (Goal : Before → Type 0) → Goal before → Rest before [] Goal
+take_none before Goal g = λ number bound. record { after = before; written = refl; reads = refl; goal = g }
 
 -- ---- verbs
 pub verb_named : (verb : Verb) → verb_of (name_of verb) ≡ Some verb
@@ -53,11 +50,10 @@ verb_row verb.Peers args e = e
 verb_row _ args e = e
 
 -- a row of a verb after the header
-pub verb_fits : (language : Language) (before : Before) (number : ℕ) (verb : Verb) (args : List (List ℕ)) → before.has_header ≡ true → is_built language verb ≡ true → first_of (kind_rules (kind_of verb) before number verb args) ≡ None → first_of (word_rules language before number (name_of verb ∷ args)) ≡ None
-verb_fits language before number verb args header built none =
-    ap (λ b. first_of (cond b (verb_rules language before number (verb_of (name_of verb)) args) (header_rules number (name_of verb ∷ args)))) header
-    ∙ (ap (λ o. first_of (verb_rules language before number o args)) (verb_named verb)
-    ∙ (ap (λ b. first_of ((not b, why.Unbuilt) ∷ kind_rules (kind_of verb) before number verb args)) built ∙ none))
+pub verb_fits : (before : Before) (number : ℕ) (verb : Verb) (args : List (List ℕ)) → before.has_header ≡ true → first_of (kind_rules (kind_of verb) before number verb args) ≡ None → first_of (word_rules before number (name_of verb ∷ args)) ≡ None
+verb_fits before number verb args header none =
+    ap (λ b. first_of (cond b (verb_rules before number (verb_of (name_of verb)) args) (header_rules number (name_of verb ∷ args)))) header
+    ∙ (ap (λ o. first_of (verb_rules before number o args)) (verb_named verb) ∙ none)
 
 pub verb_said : (before : Before) (number : ℕ) (verb : Verb) (args : List (List ℕ)) → before.has_header ≡ true → with_words before number (name_of verb ∷ args) ≡ with_kind (kind_of verb) before number verb args
 verb_said before number verb args header =
@@ -65,13 +61,13 @@ verb_said before number verb args header =
     ∙ ap (λ o. with_verb before number o args) (verb_named verb)
 
 -- ---- the header
-pub take_header : (language : Language) (before : Before) (rows : List (List (List ℕ))) (Goal : Before → Type 0) → before.has_header ≡ false → Rest language (record before { has_header = true }) rows Goal → Rest language before (header_row ∷ rows) Goal
-take_header language before rows Goal none rest = take_row language before header_row rows Goal refl (λ number late.
+pub take_header : (before : Before) (rows : List (List (List ℕ))) (Goal : Before → Type 0) → before.has_header ≡ false → Rest (record before { has_header = true }) rows Goal → Rest before (header_row ∷ rows) Goal
+take_header before rows Goal none rest = take_row before header_row rows Goal refl (λ number late.
     let verb = verb_of (codes "fabric") in
     let args : List (List ℕ) = codes "1" ∷ [] in
-    let fits : first_of (word_rules language before number header_row) ≡ None =
-    ap (λ b. first_of (cond b (verb_rules language before number verb args) (header_rules number header_row))) none
+    let fits : first_of (word_rules before number header_row) ≡ None =
+    ap (λ b. first_of (cond b (verb_rules before number verb args) (header_rules number header_row))) none
     ∙ none_first (header_rules number header_row) (refl, (late, tt)) in
     let next : with_words before number header_row ≡ record before { has_header = true } =
     ap (λ b. cond b (with_verb before number verb args) (record before { has_header = true })) none in
-    (fits, subst (λ b. Rest language b rows Goal) (sym next) rest))
+    (fits, subst (λ b. Rest b rows Goal) (sym next) rest))

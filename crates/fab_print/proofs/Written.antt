@@ -12,7 +12,6 @@ use Rattle.fab_model.specs.Words.{text_of}
 use Rattle.fab_words.specs.Rows.{is_blank, is_filled, is_line_feed, is_comment, is_text, words_if, words_of, blank_split, ends_with_return, without_return, lines_of_parts, lines_of}
 use Rattle.fab_words.specs.Words.{first_of}
 use Rattle.fab_words.specs.Written.{is_word, is_row}
-use Rattle.fab_grammar.specs.declared.language.Language.{Language}
 use Rattle.fab_grammar.specs.Before.{Before}
 use Rattle.fab_grammar.specs.Grammar.{read_lines}
 use Rattle.fab_grammar.specs.Reads.{Reads}
@@ -152,34 +151,34 @@ lines_back (row ∷ rows) e =
     ∙ ap (λ lines. join_with_byte 32 row ∷ lines) (lines_back rows both.1))
 
 -- ---- what is read
-row_fits : (language : Language) (before : Before) (number : ℕ) (row : List (List ℕ)) → is_row row ≡ true → first_of (word_rules language before number row) ≡ None → why_of language before number (join_with_byte 32 row) ≡ None
+row_fits : (before : Before) (number : ℕ) (row : List (List ℕ)) → is_row row ≡ true → first_of (word_rules before number row) ≡ None → why_of before number (join_with_byte 32 row) ≡ None
 unfolding why_of
-row_fits language before number row e none =
+row_fits before number row e none =
     let text = text_back row e in
     let words = words_back row e in
-    ap (λ b. first_of ((not b, why.NotText) ∷ word_rules language before number (words_of (join_with_byte 32 row)))) text
-    ∙ (ap (λ ws. first_of (word_rules language before number ws)) words ∙ none)
+    ap (λ b. first_of ((not b, why.NotText) ∷ word_rules before number (words_of (join_with_byte 32 row)))) text
+    ∙ (ap (λ ws. first_of (word_rules before number ws)) words ∙ none)
 
-row_said : (language : Language) (before : Before) (number : ℕ) (row : List (List ℕ)) → is_row row ≡ true → with_line before number (join_with_byte 32 row) ≡ with_words before number row
+row_said : (before : Before) (number : ℕ) (row : List (List ℕ)) → is_row row ≡ true → with_line before number (join_with_byte 32 row) ≡ with_words before number row
 unfolding with_line
-row_said language before number row e = ap (with_words before number) (words_back row e)
+row_said before number row e = ap (with_words before number) (words_back row e)
 
-line_taken : (language : Language) (before : Before) (number : ℕ) (line : List ℕ) (lines : List (List ℕ)) → why_of language before number line ≡ None → read_lines language before number (line ∷ lines) ≡ read_lines language (with_line before number line) (number + 1) lines
+line_taken : (before : Before) (number : ℕ) (line : List ℕ) (lines : List (List ℕ)) → why_of before number line ≡ None → read_lines before number (line ∷ lines) ≡ read_lines (with_line before number line) (number + 1) lines
 unfolding read_lines
-line_taken language before number line lines e = rw (e, read_lines) refl
+line_taken before number line lines e = rw (e, read_lines) refl
 
-no_line : (language : Language) (before : Before) (number : ℕ) → read_lines language before number [] ≡ Ok before
+no_line : (before : Before) (number : ℕ) → read_lines before number [] ≡ Ok before
 unfolding read_lines
-no_line language before number = refl
+no_line before number = refl
 
-rows_read : (language : Language) (before : Before) (number : ℕ) (rows : List (List (List ℕ))) (after : Before) → list_all is_row rows ≡ true → Reads language before number rows after → read_lines language before number (map (join_with_byte 32) rows) ≡ Ok after
-rows_read language before number [] after e r = no_line language before number ∙ ap Ok r
-rows_read language before number (row ∷ rows) after e r =
+rows_read : (before : Before) (number : ℕ) (rows : List (List (List ℕ))) (after : Before) → list_all is_row rows ≡ true → Reads before number rows after → read_lines before number (map (join_with_byte 32) rows) ≡ Ok after
+rows_read before number [] after e r = no_line before number ∙ ap Ok r
+rows_read before number (row ∷ rows) after e r =
     let both = and_true (is_row row) (list_all is_row rows) e in
-    line_taken language before number (join_with_byte 32 row) (map (join_with_byte 32) rows) (row_fits language before number row both.0 r.0)
-    ∙ (ap (λ b. read_lines language b (number + 1) (map (join_with_byte 32) rows)) (row_said language before number row both.0)
-    ∙ rows_read language (with_words before number row) (number + 1) rows after both.1 r.1)
+    line_taken before number (join_with_byte 32 row) (map (join_with_byte 32) rows) (row_fits before number row both.0 r.0)
+    ∙ (ap (λ b. read_lines b (number + 1) (map (join_with_byte 32) rows)) (row_said before number row both.0)
+    ∙ rows_read (with_words before number row) (number + 1) rows after both.1 r.1)
 
 -- Lines that break no rule are read, where they are written by their words.
-pub text_read : (language : Language) (before : Before) (number : ℕ) (rows : List (List (List ℕ))) (after : Before) → list_all is_row rows ≡ true → Reads language before number rows after → read_lines language before number (lines_of (text_of rows)) ≡ Ok after
-text_read language before number rows after e r = ap (read_lines language before number) (lines_back rows e) ∙ rows_read language before number rows after e r
+pub text_read : (before : Before) (number : ℕ) (rows : List (List (List ℕ))) (after : Before) → list_all is_row rows ≡ true → Reads before number rows after → read_lines before number (lines_of (text_of rows)) ≡ Ok after
+text_read before number rows after e r = ap (read_lines before number) (lines_back rows e) ∙ rows_read before number rows after e r

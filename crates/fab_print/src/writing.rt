@@ -7,7 +7,6 @@ ghost use Rattle.fab_model.specs.Negotiation.{has_any};
 ghost use Rattle.fab_model.specs.Words.{text_of};
 ghost use Rattle.fab_grammar.specs.declared.items.Item.{Item};
 ghost use Rattle.fab_grammar.specs.declared.items.Item.TheVariants as item;
-ghost use Rattle.fab_grammar.specs.declared.language.Language.{Language};
 ghost use Rattle.fab_grammar.specs.declared.settings.Setting.TheVariants as setting;
 ghost use Rattle.fab_grammar.specs.Grammar.{verdict};
 ghost use Rattle.fab_print.specs.Print.{IsSame, asked, hints_for, items_of, items_text, part_items, printed, selected, settings_for, settings_text, sizes, wished};
@@ -17,12 +16,11 @@ use fab_grammar::CAPS;
 use fab_spell::{add_caps_line, add_line, add_payload, add_peers, add_selective, add_size};
 use std::alloc::Global;
 
-/// The text of a script. Of a script that a text gave it gives a text of the same language, which gives the same
-/// script, up to the numbers of its lines.
+/// The text of a script. Of a script that a text gave it gives a text that gives the same script, up to the numbers
+/// of its lines.
 pub fn print(alloc: Global, script: &Script) -> Result<Text, NoMemory>
     ensures printed { IfOk result (λ text. text ≡ printed script.now) }
-    ensures again { (language : Language) (bytes : List ℕ) → verdict language bytes ≡ Ok script.now →
-        IfOk result (λ text. IsSame script.now (verdict language text)) }
+    ensures again { (bytes : List ℕ) → verdict bytes ≡ Ok script.now → IfOk result (λ text. IsSame script.now (verdict text)) }
 {
     let mut out = String::new(alloc);
     add_script(&mut out, script)?;

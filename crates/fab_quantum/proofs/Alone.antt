@@ -1,5 +1,5 @@
 -- A line that a peer does alone, and what it makes of the peer.
-use Rattle.std.proofs.Common.{◌≡◌, ◌≢◌, ℕ, ◌+◌, length, Bool, true, false, List, [], ◌∷◌, ◌++◌, map, Option, Some, None, Result, Ok, Err, OnOk, IfOk, IfErr, refl, sym, ap, ◌∙◌, subst₂}
+use Rattle.std.proofs.Common.{◌≡◌, ◌≢◌, ℕ, ◌+◌, length, Bool, true, false, List, [], ◌∷◌, ◌++◌, map, Option, Some, None, Result, Ok, Err, OnOk, IfOk, IfErr, refl, sym, ap, ◌∙◌, subst, subst₂}
 use Rattle.std.specs.Prelude.{nat_le, nat_lt, position}
 use Rattle.std.specs.Option.{option_map}
 use Rattle.fab_base.specs.declared.items.Access.{Access}
@@ -22,8 +22,10 @@ use Rattle.fab_face.specs.Acts.{Did, Ported}
 use Rattle.fab_face.specs.Answers.{Locally}
 use Rattle.fab_face.proofs.Joining.{ported_same}
 use Rattle.fab_quantum.specs.declared.peer.Outcome.{Outcome}
-use Rattle.fab_quantum.specs.Turns.{Told, actor_in, actor_of, SameParts, WentOn, with_seen, next_op, noted, why_of}
+use Rattle.fab_quantum.specs.Turns.{Told, living_of, actor_in, actor_of, waited_back, SameParts, IsCounted, WentOn, with_seen, next_op, noted, why_of}
 use Rattle.fab_quantum.proofs.Paths.{living}
+use Rattle.fab_quantum.proofs.Writing.{Adds, adds_call}
+use Rattle.fab_quantum.proofs.Counting.{counted_grown, counted_noted}
 use Rattle.fab_quantum.proofs.Calling.{IsCalled, did_lives, next_is, lived_same}
 
 -- ---- the calls are never told to come again
@@ -115,9 +117,9 @@ module _ {Home : Type 0} where
     out_after = p.out_after;
   }
 
-  did_alone : (a b : Told Home) (e : Seen Home) (outcome : LineResult) → do_next (actor_of a) ≡ Some (actor_in (living e.held a.lines (a.results ++ outcome ∷ []) a.kept)) → SameParts a.seen.held e.held
+  did_alone : (a b : Told Home) (e : Seen Home) (outcome : LineResult) → ((ctx : ℕ) → waited_back ctx outcome ≡ false) → (IsCounted (living_of a) → IsCounted (living e.held a.lines a.results a.kept)) → do_next (actor_of a) ≡ Some (actor_in (living e.held a.lines (a.results ++ outcome ∷ []) a.kept)) → SameParts a.seen.held e.held
       → e.lanes ≡ a.seen.lanes → e.log ≡ [] → b ≡ noted outcome (with_seen a e) → WentOn a b true true
-  did_alone a b e outcome step parts lanes log is = rw is (record {
+  did_alone a b e outcome plain grown step parts lanes log is = rw is (record {
     acts = Did ∷ [];
     lived = record {
       lives = (living e.held a.lines (a.results ++ outcome ∷ []) a.kept, (step, parts), refl);
@@ -129,20 +131,22 @@ module _ {Home : Type 0} where
     log = log;
     is_done = λ was. refl;
     lines = refl;
+    counted = λ c. counted_noted a.lines a.results a.kept e.held outcome plain (grown c);
   })
 
-  pub here_line : (a b : Told Home) (e : Seen Home) (call : Call) (outcome : LineResult) → IsCalled a.lines a.results a.kept call → IsFinal call → a.seen.log ≡ []
+  pub here_line : (a b : Told Home) (e : Seen Home) (call : Call) (outcome : LineResult) → ((ctx : ℕ) → waited_back ctx outcome ≡ false) → IsCalled a.lines a.results a.kept call → IsFinal call → a.seen.log ≡ []
       → Locally call outcome a.seen e → b ≡ noted outcome (with_seen a e) → WentOn a b true true
-  here_line a b e call outcome next final none here is =
+  here_line a b e call outcome plain next final none here is =
       let again : is_again outcome ≡ false = sym (ap (λ (d : LineResult × State). is_again d.0) here.answered) ∙ final a.seen.held.state in
       let parts : SameParts a.seen.held e.held = (ap (λ (x : Seen Home). x.held.places) here.changed, ap (λ (x : Seen Home). x.held.begun) here.changed) in
       let step = did_lives a.seen.held e.held a.lines a.results a.kept call outcome next here.answered again parts in
-      did_alone a b e outcome step.0 parts (ap (λ (x : Seen Home). x.lanes) here.changed) (ap (λ (x : Seen Home). x.log) here.changed ∙ none) is
+      let adds : Adds 1 a.seen.held.state e.held.state = subst (λ (x : LineResult × State). Adds 1 a.seen.held.state x.1) here.answered (adds_call a.seen.held.state call) in
+      did_alone a b e outcome plain (counted_grown a.lines a.results a.kept 1 a.seen.held e.held adds (ap (λ (x : Seen Home). x.held.multis) here.changed)) step.0 parts (ap (λ (x : Seen Home). x.lanes) here.changed) (ap (λ (x : Seen Home). x.log) here.changed ∙ none) is
 
   -- a call that changes nothing
-  pub still_line : (a b : Told Home) (call : Call) (outcome : LineResult) → IsCalled a.lines a.results a.kept call → IsFinal call → a.seen.log ≡ []
+  pub still_line : (a b : Told Home) (call : Call) (outcome : LineResult) → ((ctx : ℕ) → waited_back ctx outcome ≡ false) → IsCalled a.lines a.results a.kept call → IsFinal call → a.seen.log ≡ []
       → do_call a.seen.held.state call ≡ (outcome, a.seen.held.state) → b ≡ noted outcome a → WentOn a b true true
-  still_line a b call outcome next final none answered is = here_line a b a.seen call outcome next final none (record { answered = answered; changed = refl }) is
+  still_line a b call outcome plain next final none answered is = here_line a b a.seen call outcome plain next final none (record { answered = answered; changed = refl }) is
 
   -- the same, as a function of a peer sees it
   pub noted_line : (r : Result Outcome NoMemory) (a b : Told Home) (Q : Type 0) → (Q → WentOn a b true true) → OnOk r Q → IfOk r (λ o. (o.done ≡ true) × (o.moved ≡ true)) → IfOk r (λ o. WentOn a b o.done o.moved)
@@ -152,8 +156,8 @@ module _ {Home : Type 0} where
   pub settled_line : (r : Result Outcome NoMemory) (a b : Told Home) (e : Seen Home) (call : Call) (why : Result (Unit {0}) Fault) → IsCalled a.lines a.results a.kept call → IsFinal call → a.seen.log ≡ []
       → OnOk why (Locally call Done a.seen e) → IfErr why (λ f. f ≢ LacksMemory → Locally call (Refused f) a.seen e)
       → OnOk r (b ≡ noted (answer_of why) (with_seen a e)) → OnOk r (why ≢ Err LacksMemory) → IfOk r (λ o. (o.done ≡ true) × (o.moved ≡ true)) → IfOk r (λ o. WentOn a b o.done o.moved)
-  settled_line (Ok o) a b e call (Ok u) next final none ok err is memory done = noted_line (Ok o) a b _ (here_line a b e call Done next final none ok) is done
-  settled_line (Ok o) a b e call (Err f) next final none ok err is memory done = noted_line (Ok o) a b _ (here_line a b e call (Refused f) next final none (err (λ lacks. memory (ap Err lacks)))) is done
+  settled_line (Ok o) a b e call (Ok u) next final none ok err is memory done = noted_line (Ok o) a b _ (here_line a b e call Done (λ ctx. refl) next final none ok) is done
+  settled_line (Ok o) a b e call (Err f) next final none ok err is memory done = noted_line (Ok o) a b _ (here_line a b e call (Refused f) (λ ctx. refl) next final none (err (λ lacks. memory (ap Err lacks)))) is done
   settled_line (Err _) a b e call why next final none ok err is memory done = tt
 
   -- ---- the calls of the lines
@@ -161,34 +165,34 @@ module _ {Home : Type 0} where
   pub calls_reg : (a : Told Home) (key : ℕ) (access : Access) (word : BytesWord) (bytes : List ℕ) → next_op a ≡ Some (line.Reg key access word) → bytes ≡ word_bytes word
       → IsCalled a.lines a.results a.kept (Reg key access bytes)
   unfolding do_line call_of
-  calls_reg a key access word bytes next is m =
-      next_is (actor_in (living m a.lines a.results a.kept)) _ next ∙ ap (λ bs. call_line (actor_in (living m a.lines a.results a.kept)) (Reg key access bs)) (sym is)
+  calls_reg a key access word bytes next is =
+      ((λ m. next_is (actor_in (living m a.lines a.results a.kept)) _ next ∙ ap (λ bs. call_line (actor_in (living m a.lines a.results a.kept)) (Reg key access bs)) (sym is)), tt)
 
   pub calls_close : (a : Told Home) (key : ℕ) → next_op a ≡ Some (line.Close key) → IsCalled a.lines a.results a.kept (Close key)
   unfolding do_line call_of
-  calls_close a key next m = next_is (actor_in (living m a.lines a.results a.kept)) _ next
+  calls_close a key next = ((λ m. next_is (actor_in (living m a.lines a.results a.kept)) _ next), tt)
 
   pub calls_put : (a : Told Home) (key at : ℕ) (word : BytesWord) (bytes : List ℕ) → next_op a ≡ Some (line.Put key at word) → bytes ≡ word_bytes word
       → IsCalled a.lines a.results a.kept (Put key at bytes)
   unfolding do_line call_of
-  calls_put a key at word bytes next is m =
-      next_is (actor_in (living m a.lines a.results a.kept)) _ next ∙ ap (λ bs. call_line (actor_in (living m a.lines a.results a.kept)) (Put key at bs)) (sym is)
+  calls_put a key at word bytes next is =
+      ((λ m. next_is (actor_in (living m a.lines a.results a.kept)) _ next ∙ ap (λ bs. call_line (actor_in (living m a.lines a.results a.kept)) (Put key at bs)) (sym is)), tt)
 
   pub calls_show : (a : Told Home) (key : ℕ) → next_op a ≡ Some (line.Show key) → IsCalled a.lines a.results a.kept (Show key)
   unfolding do_line call_of
-  calls_show a key next m = next_is (actor_in (living m a.lines a.results a.kept)) _ next
+  calls_show a key next = ((λ m. next_is (actor_in (living m a.lines a.results a.kept)) _ next), tt)
 
   pub calls_insert : (a : Told Home) (name : List ℕ) → next_op a ≡ Some (line.Insert name) → IsCalled a.lines a.results a.kept (Insert name)
   unfolding do_line call_of
-  calls_insert a name next m = next_is (actor_in (living m a.lines a.results a.kept)) _ next
+  calls_insert a name next = ((λ m. next_is (actor_in (living m a.lines a.results a.kept)) _ next), tt)
 
   pub calls_remove : (a : Told Home) (index : ℕ) → next_op a ≡ Some (line.Remove index) → IsCalled a.lines a.results a.kept (Remove index)
   unfolding do_line call_of
-  calls_remove a index next m = next_is (actor_in (living m a.lines a.results a.kept)) _ next
+  calls_remove a index next = ((λ m. next_is (actor_in (living m a.lines a.results a.kept)) _ next), tt)
 
   pub calls_count : (a : Told Home) (class : Class) → next_op a ≡ Some (line.Count class) → IsCalled a.lines a.results a.kept (Count class)
   unfolding do_line call_of
-  calls_count a class next m = next_is (actor_in (living m a.lines a.results a.kept)) _ next
+  calls_count a class next = ((λ m. next_is (actor_in (living m a.lines a.results a.kept)) _ next), tt)
 
   -- ---- regions
 
@@ -220,13 +224,14 @@ module _ {Home : Type 0} where
     log = log;
     is_done = λ was. absurd (cc was);
     lines = refl;
+    counted = λ c. c;
   })
 
   pub reach_done : (a b : Told Home) (class : Class) (n : ℕ) → next_op a ≡ Some (line.Reach class n) → nat_le n (tally_of a.seen.held.state.counters class).ok ≡ true → a.seen.log ≡ [] → b ≡ noted Done a → WentOn a b true true
   unfolding do_line
   reach_done a b class n next enough log is =
       let step : do_next (actor_of a) ≡ Some (actor_in (living a.seen.held a.lines (a.results ++ Done ∷ []) a.kept)) = next_is (actor_of a) (line.Reach class n) next ∙ rw (enough, do_line) refl in
-      did_alone a b a.seen Done step (refl, refl) refl log is
+      did_alone a b a.seen Done (λ ctx. refl) (λ c. c) step (refl, refl) refl log is
 
 -- ---- what calls answer
 

@@ -1,6 +1,8 @@
 -- A line whose call was answered, and what it makes of a peer.
 use Rattle.std.proofs.Common.{◌≡◌, ◌≢◌, ◌<◌, ◌≤◌, ◌+◌, ◌-◌, ◌⊎◌, inl, inr, ℕ, zero, suc, Bool, true, false, ◌||◌, List, [], ◌∷◌, ◌++◌, length, map, get_or, Option, Some, None, Result, Ok, Err, OnOk, IfErr, refl, sym, ap, ◌∙◌, subst, subst₂, arith, append-nil, append_assoc}
-use Rattle.std.specs.Prelude.{slice_get, replicate, find, is_some}
+use Rattle.std.specs.Prelude.{◌==◌, slice_get, replicate, find, count_by, take, drop, min, unwrap_or}
+use Rattle.std.proofs.lemmas.Bool.{eqb-true, eq-eqb}
+use Rattle.fab_base.specs.declared.operations.Written.{Written}
 use Rattle.std.proofs.lemmas.Option.{slice_get_within}
 use Rattle.fab_base.specs.declared.entries.PeekHow.{PeekHow}
 use Rattle.fab_base.specs.declared.entries.PeekHow.TheVariants as how
@@ -22,18 +24,19 @@ use Rattle.fab_base.specs.declared.peers.Step.TheVariants.{Do, Read}
 use Rattle.fab_base.specs.declared.script.BytesWord.{BytesWord}
 use Rattle.fab_base.specs.declared.script.Line.{Line}
 use Rattle.fab_base.specs.declared.script.LineOp.{LineOp}
-use Rattle.fab_base.specs.declared.script.LineOp.TheVariants.{Send, TSend, Inject, TInject, Recv, TRecv, Take, Wait, Cancel as CancelLine, DropClaimed as DropLine}
+use Rattle.fab_base.specs.declared.script.LineOp.TheVariants.{Send, TSend, Inject, TInject, Recv, TRecv, MRecv, Take, Wait, Cancel as CancelLine, DropClaimed as DropLine}
 use Rattle.fab_model.specs.Receiving.{draw_due}
 use Rattle.fab_model.specs.State.{State}
 use Rattle.fab_model.specs.Calls.{Call, Cancel, Look as LookCall, TakeClaimed, DropClaimed, do_call, call_of, message, word_bytes}
-use Rattle.fab_model.specs.Peers.{Actor, do_next, do_line, call_line, after_call, is_again, is_of_ctx, next_line, with_result, with_state, wait_line, read_next, bytes_kept, part_of, unread}
+use Rattle.fab_model.specs.Peers.{Actor, do_next, do_line, call_line, after_call, is_again, is_of_ctx, is_only_multi, multi_buf, next_line, with_result, with_state, wait_line, read_next, bytes_kept, part_of, unread}
 use Rattle.fab_face.specs.Held.{Held, Lanes, Seen, IsOpen}
-use Rattle.fab_face.specs.Acts.{Act, Did, Took, Posted, Drew, Had, Went, Ported, steps_of, steps_by, events, is_move}
-use Rattle.fab_face.specs.Answers.{AllAre, Judged, IsShort, Sends, SendsNot, Receives, ReceivesNot, Pops, receive_call}
+use Rattle.fab_face.specs.Acts.{Act, Did, Took, Posted, Drew, Had, Went, Ported, steps_of, steps_by, events, has_read, is_move}
+use Rattle.fab_face.specs.Answers.{AllAre, Judged, IsShort, IsSharing, Sends, SendsNot, Receives, ReceivesNot, Pops, after_read, receive_call}
 use Rattle.fab_quantum.specs.Looks.{look_line}
-use Rattle.fab_quantum.specs.Turns.{Told, living_of, actor_in, actor_of, SameParts, Lives, Lived, WentOn, Answered, why_of, drained, with_seen, is_some_act, is_some_event, next_op, step_of, ReadOn, IsRead, is_read}
+use Rattle.fab_quantum.specs.Turns.{Told, living_of, actor_in, actor_of, hands_back, waited_back, multis_done, IsCounted, SameParts, Lives, Lived, WentOn, Answered, why_of, drained, with_seen, is_only, LentIf, Lent, HasRead, is_some_act, is_some_event, next_op, step_of, ReadOn, IsRead, is_read}
 use Rattle.fab_face.proofs.Joining.{posts_move, draws_move, ported_same, ported_then}
 use Rattle.fab_quantum.proofs.Paths.{living, lives_append, goes_split, moves_live, posts_some, draws_some, some_did, none_acts, steps_told, steps_called, some_append, lived_then}
+use Rattle.fab_quantum.proofs.Counting.{IsMarked, MarkedBy, counted_moves, counted_noted, counted_call, counted_waited, counted_read, lent_is}
 
 -- ---- one line
 
@@ -43,22 +46,22 @@ after_answer a outcome s again = rw (again, after_call) refl
 after_again : (a : Actor) (outcome : LineResult) (s : State) → is_again outcome ≡ true → after_call a (outcome, s) ≡ None
 after_again a outcome s again = rw (again, after_call) refl
 
--- whatever is held, the next line is this call
+-- whatever is held, the next line is this call; a multi-receive is of a line that says so
 abbrev pub IsCalled : List Line → List LineResult → List Kept → Call → Type 0
-IsCalled lines results kept call = (m : Held) → do_next (actor_in (living m lines results kept)) ≡ call_line (actor_in (living m lines results kept)) call
+IsCalled lines results kept call = ((m : Held) → do_next (actor_in (living m lines results kept)) ≡ call_line (actor_in (living m lines results kept)) call) × IsMarked lines results call
 
 pub did_lives : (m k : Held) (lines : List Line) (results : List LineResult) (kept : List Kept) (call : Call) (outcome : LineResult)
     → IsCalled lines results kept call → do_call m.state call ≡ (outcome, k.state) → is_again outcome ≡ false → SameParts m k
     → Lives (living m lines results kept) Did (living k lines (results ++ outcome ∷ []) kept)
 unfolding call_line
 did_lives m k lines results kept call outcome next done again same =
-    (next m ∙ ap (after_call (actor_in (living m lines results kept))) done ∙ after_answer (actor_in (living m lines results kept)) outcome k.state again, same)
+    (next.0 m ∙ ap (after_call (actor_in (living m lines results kept))) done ∙ after_answer (actor_in (living m lines results kept)) outcome k.state again, same)
 
 pub again_held : (m : Held) (lines : List Line) (results : List LineResult) (kept : List Kept) (call : Call) (outcome : LineResult)
     → IsCalled lines results kept call → do_call m.state call ≡ (outcome, m.state) → is_again outcome ≡ true → do_next (actor_in (living m lines results kept)) ≡ None
 unfolding call_line
 again_held m lines results kept call outcome next done again =
-    next m ∙ ap (after_call (actor_in (living m lines results kept))) done ∙ after_again (actor_in (living m lines results kept)) outcome m.state again
+    next.0 m ∙ ap (after_call (actor_in (living m lines results kept))) done ∙ after_again (actor_in (living m lines results kept)) outcome m.state again
 
 pub next_is : (a : Actor) (op : LineOp) → option_map (λ (line : Line). line.op) (next_line a) ≡ Some op → do_next a ≡ do_line a op
 unfolding do_next
@@ -72,65 +75,92 @@ pub calls_tsend : {Home : Type 0} (a : Told Home) (ctx dest tag : ℕ) (word : B
     → next_op a ≡ Some (TSend ctx dest tag word imm level completion) → bytes ≡ word_bytes word
     → IsCalled a.lines a.results a.kept (message TagMsg (Some ctx) dest tag bytes imm level completion)
 unfolding do_line call_of
-calls_tsend a ctx dest tag word imm level completion bytes next is m =
-    next_is (actor_in (living m a.lines a.results a.kept)) _ next
-    ∙ ap (λ bs. call_line (actor_in (living m a.lines a.results a.kept)) (message TagMsg (Some ctx) dest tag bs imm level completion)) (sym is)
+calls_tsend a ctx dest tag word imm level completion bytes next is = (
+  (λ m. next_is (actor_in (living m a.lines a.results a.kept)) _ next
+      ∙ ap (λ bs. call_line (actor_in (living m a.lines a.results a.kept)) (message TagMsg (Some ctx) dest tag bs imm level completion)) (sym is)),
+  tt,
+)
 
 pub calls_trecv : {Home : Type 0} (a : Told Home) (ctx : ℕ) (source : Option ℕ) (tag ignore len : ℕ) (buf : List ℕ)
     → next_op a ≡ Some (TRecv ctx source tag ignore len) → buf ≡ replicate len 0 → IsCalled a.lines a.results a.kept (receive_call true source tag ignore buf None ctx)
 unfolding do_line call_of
-calls_trecv a ctx source tag ignore len buf next is m =
-    next_is (actor_in (living m a.lines a.results a.kept)) _ next
-    ∙ ap (λ bs. call_line (actor_in (living m a.lines a.results a.kept)) (receive_call true source tag ignore bs None ctx)) (sym is)
+calls_trecv a ctx source tag ignore len buf next is = (
+  (λ m. next_is (actor_in (living m a.lines a.results a.kept)) _ next
+      ∙ ap (λ bs. call_line (actor_in (living m a.lines a.results a.kept)) (receive_call true source tag ignore bs None ctx)) (sym is)),
+  tt,
+)
 
 pub calls_send : {Home : Type 0} (a : Told Home) (ctx dest : ℕ) (word : BytesWord) (imm : Option ℕ) (level : Level) (completion : Bool) (bytes : List ℕ)
     → next_op a ≡ Some (Send ctx dest word imm level completion) → bytes ≡ word_bytes word
     → IsCalled a.lines a.results a.kept (message Msg (Some ctx) dest 0 bytes imm level completion)
 unfolding do_line call_of
-calls_send a ctx dest word imm level completion bytes next is m =
-    next_is (actor_in (living m a.lines a.results a.kept)) _ next
-    ∙ ap (λ bs. call_line (actor_in (living m a.lines a.results a.kept)) (message Msg (Some ctx) dest 0 bs imm level completion)) (sym is)
+calls_send a ctx dest word imm level completion bytes next is = (
+  (λ m. next_is (actor_in (living m a.lines a.results a.kept)) _ next
+      ∙ ap (λ bs. call_line (actor_in (living m a.lines a.results a.kept)) (message Msg (Some ctx) dest 0 bs imm level completion)) (sym is)),
+  tt,
+)
 
 pub calls_inject : {Home : Type 0} (a : Told Home) (dest : ℕ) (word : BytesWord) (imm : Option ℕ) (bytes : List ℕ)
     → next_op a ≡ Some (Inject dest word imm) → bytes ≡ word_bytes word → IsCalled a.lines a.results a.kept (message Msg None dest 0 bytes imm Level.Inject false)
 unfolding do_line call_of
-calls_inject a dest word imm bytes next is m =
-    next_is (actor_in (living m a.lines a.results a.kept)) _ next
-    ∙ ap (λ bs. call_line (actor_in (living m a.lines a.results a.kept)) (message Msg None dest 0 bs imm Level.Inject false)) (sym is)
+calls_inject a dest word imm bytes next is = (
+  (λ m. next_is (actor_in (living m a.lines a.results a.kept)) _ next
+      ∙ ap (λ bs. call_line (actor_in (living m a.lines a.results a.kept)) (message Msg None dest 0 bs imm Level.Inject false)) (sym is)),
+  tt,
+)
 
 pub calls_tinject : {Home : Type 0} (a : Told Home) (dest tag : ℕ) (word : BytesWord) (imm : Option ℕ) (bytes : List ℕ)
     → next_op a ≡ Some (TInject dest tag word imm) → bytes ≡ word_bytes word → IsCalled a.lines a.results a.kept (message TagMsg None dest tag bytes imm Level.Inject false)
 unfolding do_line call_of
-calls_tinject a dest tag word imm bytes next is m =
-    next_is (actor_in (living m a.lines a.results a.kept)) _ next
-    ∙ ap (λ bs. call_line (actor_in (living m a.lines a.results a.kept)) (message TagMsg None dest tag bs imm Level.Inject false)) (sym is)
+calls_tinject a dest tag word imm bytes next is = (
+  (λ m. next_is (actor_in (living m a.lines a.results a.kept)) _ next
+      ∙ ap (λ bs. call_line (actor_in (living m a.lines a.results a.kept)) (message TagMsg None dest tag bs imm Level.Inject false)) (sym is)),
+  tt,
+)
 
 pub calls_recv : {Home : Type 0} (a : Told Home) (ctx : ℕ) (source : Option ℕ) (len : ℕ) (buf : List ℕ)
     → next_op a ≡ Some (Recv ctx source len) → buf ≡ replicate len 0 → IsCalled a.lines a.results a.kept (receive_call false source 0 0 buf None ctx)
 unfolding do_line call_of
-calls_recv a ctx source len buf next is m =
-    next_is (actor_in (living m a.lines a.results a.kept)) _ next
-    ∙ ap (λ bs. call_line (actor_in (living m a.lines a.results a.kept)) (receive_call false source 0 0 bs None ctx)) (sym is)
+calls_recv a ctx source len buf next is = (
+  (λ m. next_is (actor_in (living m a.lines a.results a.kept)) _ next
+      ∙ ap (λ bs. call_line (actor_in (living m a.lines a.results a.kept)) (receive_call false source 0 0 bs None ctx)) (sym is)),
+  tt,
+)
+
+pub calls_mrecv : {Home : Type 0} (a : Told Home) (ctx : ℕ) (source : Option ℕ) (len : ℕ) (least : Option ℕ) (buf : List ℕ) (lowest : ℕ)
+    → next_op a ≡ Some (MRecv ctx source len least) → buf ≡ replicate len 0 → lowest ≡ unwrap_or least (min 64 len) → IsCalled a.lines a.results a.kept (receive_call false source 0 0 buf (Some lowest) ctx)
+unfolding do_line call_of
+calls_mrecv a ctx source len least buf lowest next is lowest_is = (
+  (λ m. next_is (actor_in (living m a.lines a.results a.kept)) _ next
+      ∙ (λ i. call_line (actor_in (living m a.lines a.results a.kept)) (receive_call false source 0 0 (sym is i) (Some (sym lowest_is i)) ctx))),
+  marked (slice_get a.lines (length a.results)) refl next,
+)
+  where
+    marked : (o : Option Line) → slice_get a.lines (length a.results) ≡ o → option_map (λ (line : Line). line.op) o ≡ Some (MRecv ctx source len least) → MarkedBy a.lines a.results ctx (Some lowest)
+    marked None there e = absurd (cc)
+    marked (Some line) there e = (line, there, (let op : line.op ≡ MRecv ctx source len least = cc in rw op (eq-eqb ctx ctx refl)))
 
 pub calls_cancel : {Home : Type 0} (a : Told Home) (ctx : ℕ) → next_op a ≡ Some (CancelLine ctx) → IsCalled a.lines a.results a.kept (Cancel ctx)
 unfolding do_line call_of
-calls_cancel a ctx next m = next_is (actor_in (living m a.lines a.results a.kept)) _ next
+calls_cancel a ctx next = ((λ m. next_is (actor_in (living m a.lines a.results a.kept)) _ next), tt)
 
 pub calls_look : {Home : Type 0} (a : Told Home) (how : PeekHow) (ctx : ℕ) (source : Option ℕ) (tag ignore : ℕ) → next_op a ≡ Some (look_line how ctx source tag ignore) → IsCalled a.lines a.results a.kept (LookCall how source tag ignore ctx)
 unfolding do_line call_of
-calls_look a how.Peek ctx source tag ignore next m = next_is (actor_in (living m a.lines a.results a.kept)) _ next
-calls_look a how.Claim ctx source tag ignore next m = next_is (actor_in (living m a.lines a.results a.kept)) _ next
-calls_look a how.Discard ctx source tag ignore next m = next_is (actor_in (living m a.lines a.results a.kept)) _ next
+calls_look a how.Peek ctx source tag ignore next = ((λ m. next_is (actor_in (living m a.lines a.results a.kept)) _ next), tt)
+calls_look a how.Claim ctx source tag ignore next = ((λ m. next_is (actor_in (living m a.lines a.results a.kept)) _ next), tt)
+calls_look a how.Discard ctx source tag ignore next = ((λ m. next_is (actor_in (living m a.lines a.results a.kept)) _ next), tt)
 
 pub calls_take : {Home : Type 0} (a : Told Home) (ctx len : ℕ) (buf : List ℕ) → next_op a ≡ Some (Take ctx len) → buf ≡ replicate len 0 → IsCalled a.lines a.results a.kept (TakeClaimed buf ctx)
 unfolding do_line call_of
-calls_take a ctx len buf next is m =
-    next_is (actor_in (living m a.lines a.results a.kept)) _ next
-    ∙ ap (λ bs. call_line (actor_in (living m a.lines a.results a.kept)) (TakeClaimed bs ctx)) (sym is)
+calls_take a ctx len buf next is = (
+  (λ m. next_is (actor_in (living m a.lines a.results a.kept)) _ next
+      ∙ ap (λ bs. call_line (actor_in (living m a.lines a.results a.kept)) (TakeClaimed bs ctx)) (sym is)),
+  tt,
+)
 
 pub calls_drop : {Home : Type 0} (a : Told Home) (ctx : ℕ) → next_op a ≡ Some (DropLine ctx) → IsCalled a.lines a.results a.kept (DropClaimed ctx)
 unfolding do_line call_of
-calls_drop a ctx next m = next_is (actor_in (living m a.lines a.results a.kept)) _ next
+calls_drop a ctx next = ((λ m. next_is (actor_in (living m a.lines a.results a.kept)) _ next), tt)
 
 -- ---- why a call is refused
 
@@ -240,6 +270,7 @@ module _ {Home : Type 0} (a : Told Home) (e : Seen Home) (call : Call) (next : I
         log = refl;
         is_done = λ was. refl;
         lines = refl;
+        counted = counted_call a.lines a.results a.kept call ok.before ok.after a.seen.held e.held next.1 before after ok.went.goes;
       })
   sends_on fixed dest buf (Err r) b true sound ok err (final, memory, is) =
       let nay = err.1 in
@@ -252,6 +283,7 @@ module _ {Home : Type 0} (a : Told Home) (e : Seen Home) (call : Call) (next : I
         log = refl;
         is_done = λ was. refl;
         lines = refl;
+        counted = λ c. counted_noted a.lines a.results a.kept e.held (Refused r.why) (λ ctx. refl) (counted_moves a.lines a.results a.kept (Some call) nay.acts a.seen.held e.held moves nay.went.goes c);
       })
   sends_on fixed dest buf (Err r) b false sound ok err (again, is) =
       let nay = err.1 in
@@ -265,6 +297,7 @@ module _ {Home : Type 0} (a : Told Home) (e : Seen Home) (call : Call) (next : I
         log = refl;
         is_done = λ was. absurd (cc was);
         lines = refl;
+        counted = counted_moves a.lines a.results a.kept (Some call) nay.acts a.seen.held e.held moves nay.went.goes;
       })
 
   pub receives_on : (r : Result (Unit {0}) Fault) (b : Told Home) (done : Bool) → IsOpen a.seen → IsOpen e
@@ -281,6 +314,7 @@ module _ {Home : Type 0} (a : Told Home) (e : Seen Home) (call : Call) (next : I
         log = refl;
         is_done = λ was. refl;
         lines = refl;
+        counted = counted_call a.lines a.results a.kept call ok.before ok.after a.seen.held e.held next.1 before after ok.went.goes;
       })
   receives_on (Err f) b true sound opened ok nay (final, memory, is) =
       let moves = draws_move nay.acts nay.draws in
@@ -292,6 +326,7 @@ module _ {Home : Type 0} (a : Told Home) (e : Seen Home) (call : Call) (next : I
         log = refl;
         is_done = λ was. refl;
         lines = refl;
+        counted = λ c. counted_noted a.lines a.results a.kept e.held (Refused f) (λ ctx. refl) (counted_moves a.lines a.results a.kept (Some call) nay.acts a.seen.held e.held moves nay.went.goes c);
       })
   receives_on (Err f) b false sound opened ok nay (again, is) =
       let moves = draws_move nay.acts nay.draws in
@@ -305,6 +340,7 @@ module _ {Home : Type 0} (a : Told Home) (e : Seen Home) (call : Call) (next : I
         log = refl;
         is_done = λ was. absurd (cc was);
         lines = refl;
+        counted = counted_moves a.lines a.results a.kept (Some call) nay.acts a.seen.held e.held moves nay.went.goes;
       })
     where
       not_short : (acts : List Act) → acts ≡ [] → e.log ≡ a.seen.log ++ events acts → (IsShort a.seen ⊎ ((draw_due e.held.state.rx ≡ true) × (e.log_size ≡ length e.log + 1))) → ⊥
@@ -362,6 +398,7 @@ module _ {Home : Type 0} where
     log = log;
     is_done = λ was. absurd (cc was);
     lines = refl;
+    counted = λ c. c;
   })
 
   pub wait_done : (a b : Told Home) (ctx : Option ℕ) (k : Kept) → next_op a ≡ Some (Wait ctx) → find (is_of_ctx ctx) a.kept ≡ Some k → a.seen.log ≡ []
@@ -395,43 +432,75 @@ module _ {Home : Type 0} where
         log = log;
         is_done = λ was. refl;
         lines = refl;
+        counted = counted_waited a.lines a.results a.kept a.seen.held (is_of_ctx ctx) k found;
       })
 
-  -- an entry that is no part is read and kept
-  read_lives : (a : Told Home) (entry : Taken) (e : Seen Home) → Pops entry a.seen e → part_of entry ≡ None
-      → Lives (living_of a) Had (living_of (record a { seen = e; kept = a.kept ++ record { entry = entry; bytes = None } ∷ [] }))
-  unfolding read_next bytes_kept
-  read_lives a entry e pops plain =
-      let is : part_of pops.written.entry ≡ None = ap part_of pops.is ∙ plain in
-      let held = ap (λ (x : Seen Home). x.held) pops.read in
-      let step : read_next (actor_of a) ≡ Some (actor_of (record a { seen = e; kept = a.kept ++ record { entry = entry; bytes = None } ∷ [] })) =
-      rw (pops.first, read_next) (rw (bytes_kept, is) (λ i. Some (record { state = sym (ap (λ (h : Held). h.state) held) i; lines = a.lines; results = a.results; kept = a.kept ++ record { entry = pops.is i; bytes = None } ∷ [] }))) in
-      (step, (ap (λ (h : Held). h.places) held, ap (λ (h : Held). h.begun) held))
+  read_lives : (a : Told Home) (w : Written) → unread a.seen.held.state.cq ≡ Some w
+      → Lives (living_of a) Had (living_of (record a { seen = after_read w a.seen; kept = a.kept ++ record { entry = w.entry; bytes = bytes_kept (actor_of a) w } ∷ [] }))
+  unfolding read_next
+  read_lives a w first = (rw (first, read_next) refl, (refl, refl))
 
   pub reads_none : (a : Told Home) → ReadOn a a false
-  reads_none a = record { acts = []; lived = lived_same a; any_is = refl; lanes = refl; log = refl; lines = refl; results = refl; reads = refl }
+  reads_none a = record { acts = []; lived = lived_same a; any_is = refl; lanes = refl; log = refl; lines = refl; results = refl; reads = refl; counted = λ c. c }
+
+  -- what the peer knows is what the machine counts
+  only_is : (a : Told Home) (ctx : ℕ) → IsCounted (living_of a) → is_only a ctx ≡ is_only_multi (actor_of a) ctx
+  only_is a ctx c = ap (λ n. multis_done a.lines a.results ctx == n + 1) (c.known ctx)
+
+  -- no more was read to be released than lines were done
+  pub few_released : (a : Told Home) (ctx : ℕ) → IsCounted (living_of a) → count_by (hands_back ctx) a.kept + count_by (waited_back ctx) a.results ≤ multis_done a.lines a.results ctx
+  few_released a ctx c = omega (arith, c.lines_are ctx, c.known ctx)
+
+  -- what the endpoint lends after the read are the bytes that the machine keeps
+  pub reads_one : (a b : Told Home) (entry : Taken) (e : Seen Home) (bytes : Option (List ℕ)) → IsCounted (living_of a) → IsSharing a.seen.held → Pops entry a.seen e → Lent (with_seen a e) (part_of entry) bytes
+      → b ≡ record a { seen = e; kept = a.kept ++ record { entry = entry; bytes = bytes } ∷ []; schedule = a.schedule ++ Read ∷ [] } → HasRead a b
+  unfolding bytes_kept
+  reads_one a b entry e bytes c sharing pops lent is =
+      let w = pops.written in
+      let as_lent : Lent (with_seen a (after_read w a.seen)) (part_of w.entry) bytes = subst₂ (λ x t. Lent (with_seen a x) (part_of t) bytes) pops.read (sym pops.is) lent in
+      let kept : bytes ≡ bytes_kept (actor_of a) w = by_part w pops.first (part_of w.entry) refl as_lent in
+      let all : b ≡ record a { seen = after_read w a.seen; kept = a.kept ++ record { entry = w.entry; bytes = bytes_kept (actor_of a) w } ∷ []; schedule = a.schedule ++ Read ∷ [] } =
+      is ∙ (λ i. record { seen = pops.read i; lines = a.lines; results = a.results; kept = a.kept ++ record { entry = sym pops.is i; bytes = kept i } ∷ []; schedule = a.schedule ++ Read ∷ [] }) in
+      record {
+        entry = w;
+        first = pops.first;
+        read = all;
+        counted = subst (λ (x : Told Home). IsCounted (living_of x)) (sym all) (counted_read a.seen.held w sharing pops.first a.lines a.results a.kept (record { entry = w.entry; bytes = bytes_kept (actor_of a) w }) refl c);
+      }
+    where
+      by_only : (w : Written) → unread a.seen.held.state.cq ≡ Some w → (part : ℕ × ℕ × ℕ) → part_of w.entry ≡ Some part → (o : Bool) → is_only a part.0 ≡ o → LentIf o (has_read w a.seen.held) part.0 part.1 part.2 bytes
+          → bytes ≡ (elim o [ true ↦ Some (take part.2 (drop part.1 (multi_buf a.seen.held.state w.call))) | false ↦ None ])
+      by_only w first part there false only none = none
+      by_only w first part there true only lends =
+          let one : multis_done a.lines a.results part.0 ≡ count_by (hands_back part.0) a.kept + count_by (waited_back part.0) a.results + 1 = eqb-true _ _ only in
+          lent_is a.seen.held w sharing first part bytes there (omega (arith, one, c.lines_are part.0, c.known part.0)) lends
+
+      by_part : (w : Written) → unread a.seen.held.state.cq ≡ Some w → (o : Option (ℕ × ℕ × ℕ)) → part_of w.entry ≡ o → Lent (with_seen a (after_read w a.seen)) o bytes → bytes ≡ bytes_kept (actor_of a) w
+      by_part w first None there none = rw (there, bytes_kept) none
+      by_part w first (Some part) there lends =
+          rw (there, bytes_kept) (rw (← only_is a part.0 c) (by_only w first part there (is_only a part.0) refl lends))
 
   -- with each entry read, fewer are unread
-  pub reads_less : (a b : Seen Home) (entry : Taken) → Pops entry a b → length b.held.state.cq.written - b.held.state.cq.taken_out < length a.held.state.cq.written - a.held.state.cq.taken_out
-  reads_less a b entry pops =
-      let within = slice_get_within a.held.state.cq.written a.held.state.cq.taken_out pops.written pops.first in
-      rw pops.read (omega (arith, within))
+  pub reads_less : (a b : Told Home) → HasRead a b → length b.seen.held.state.cq.written - b.seen.held.state.cq.taken_out < length a.seen.held.state.cq.written - a.seen.held.state.cq.taken_out
+  reads_less a b r =
+      let within = slice_get_within a.seen.held.state.cq.written a.seen.held.state.cq.taken_out r.entry r.first in
+      rw r.read (omega (arith, within))
 
-  pub reads_on : (a b c : Told Home) (any : Bool) (entry : Taken) (e : Seen Home) → ReadOn a b any → Pops entry b.seen e → part_of entry ≡ None
-      → c ≡ record b { seen = e; kept = b.kept ++ record { entry = entry; bytes = None } ∷ []; schedule = b.schedule ++ Read ∷ [] } → ReadOn a c true
-  reads_on a b c any entry e on pops plain is = rw is (record {
+  pub reads_on : (a b c : Told Home) (any : Bool) → ReadOn a b any → HasRead b c → ReadOn a c true
+  reads_on a b c any on r = rw r.read (record {
     acts = on.acts ++ Had ∷ [];
     lived = lived_then a b _ on.acts (Had ∷ []) on.lived (record {
-      lives = (_, read_lives b entry e pops plain, refl);
+      lives = (_, read_lives b r.entry r.first, refl);
       schedule = refl;
-      ported = ported_had b.seen.lanes e.lanes (ap (λ (x : Seen Home). x.lanes) pops.read);
+      ported = ported_had b.seen.lanes b.seen.lanes refl;
     });
     any_is = sym (some_append on.acts (Had ∷ []) ∙ or_true (is_some_act on.acts));
-    lanes = ap (λ (x : Seen Home). x.lanes) pops.read ∙ on.lanes;
-    log = ap (λ (x : Seen Home). x.log) pops.read ∙ on.log;
+    lanes = on.lanes;
+    log = on.log;
     lines = on.lines;
     results = on.results;
     reads = read_more on.acts on.reads;
+    counted = λ counted. subst (λ (x : Told Home). IsCounted (living_of x)) r.read r.counted;
   })
     where
       read_more : (acts : List Act) → AllAre is_read acts → AllAre is_read (acts ++ Had ∷ [])
@@ -462,14 +531,6 @@ module _ {Home : Type 0} where
         out_after = p.out_after;
       }
 
-  -- a read leaves fewer entries unread
-  pub read_less : (entry : Taken) (a b : Seen Home) → Pops entry a b → length b.held.state.cq.written - b.held.state.cq.taken_out < length a.held.state.cq.written - a.held.state.cq.taken_out
-  read_less entry a b pops =
-      let within = slice_get_within a.held.state.cq.written a.held.state.cq.taken_out pops.written pops.first in
-      let w : length b.held.state.cq.written ≡ length a.held.state.cq.written = ap (λ (x : Seen Home). length x.held.state.cq.written) pops.read in
-      let t : b.held.state.cq.taken_out ≡ a.held.state.cq.taken_out + 1 = ap (λ (x : Seen Home). x.held.state.cq.taken_out) pops.read in
-      omega (arith, within, w, t)
-
   -- where there is no first unread entry, all are read
   pub none_unread : (e : Seen Home) → IsOpen e → unread e.held.state.cq ≡ None → IsRead e
   none_unread e sound none = let past = none_past e.held.state.cq.written e.held.state.cq.taken_out none in omega (arith, past, sound.read)
@@ -478,10 +539,6 @@ module _ {Home : Type 0} where
       none_past [] k none = omega arith
       none_past (x ∷ xs) zero none = absurd (cc)
       none_past (x ∷ xs) (suc k) none = let more = none_past xs k none in omega (arith, more)
-
-pub none_of : {X : Type 0} (o : Option X) → is_some o ≡ false → o ≡ None
-none_of None e = refl
-none_of (Some x) e = absurd (cc)
 
 is_at : {X : Type 0} (xs : List X) (n : ℕ) (x : X) → n < length xs → x ≡ get_or xs n x → slice_get xs n ≡ Some x
 is_at [] n x within found = absurd (omega (arith, within))
@@ -505,4 +562,5 @@ finished_on a none log = record {
   log = log;
   is_done = λ was. absurd (cc was);
   lines = refl;
+  counted = λ c. c;
 }

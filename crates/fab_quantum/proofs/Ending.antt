@@ -23,8 +23,10 @@ use Rattle.fab_model.proofs.Parts.{some_is, some_same, if_gives}
 use Rattle.fab_face.specs.Held.{Held, Seen}
 use Rattle.fab_face.specs.Acts.{Act, Did, Took, Posted, Drew, Had, GoesBy, steps_of, events, is_draw}
 use Rattle.fab_face.specs.Answers.{AllAre, Receives, ReceivesNot}
-use Rattle.fab_quantum.specs.Turns.{Told, Living, living_of, actor_in, actor_of, LivesBy, Ended, IsQuiet, ReadOn, is_read}
+use Rattle.fab_quantum.specs.Turns.{Told, Living, IsCounted, living_of, actor_in, actor_of, LivesBy, Ended, IsQuiet, ReadOn, is_read}
+use Rattle.fab_face.proofs.Joining.{draws_move}
 use Rattle.fab_quantum.proofs.Paths.{goes_split}
+use Rattle.fab_quantum.proofs.Counting.{counted_final}
 use Rattle.fab_quantum.proofs.Showing.{had_walk, walk_append}
 
 -- ---- the machine's cancel
@@ -203,7 +205,11 @@ module _ {Home : Type 0} where
           size = stays.size;
           coming = stays.coming;
         },
-        record { log = refl; draws = stays.draws },
+        record {
+          counted = counted_final a.lines a.results a.kept r.before r.after a.seen.held e.held (draws_move r.before r.draws) (draws_move r.after r.then_draws) r.went.goes quiet.counted;
+          log = refl;
+          draws = stays.draws;
+        },
         fewer,
       )
 
@@ -217,7 +223,7 @@ module _ {Home : Type 0} where
       let results = ap (λ (x : Told Home). x.results) is in
       let kept = ap (λ (x : Told Home). x.kept) is in (
         ended_same a b (λ i. record { state = ap (λ (h : Held). h.state) same.0 i; lines = lines i; results = results i; kept = kept i }) (ap (λ (x : Told Home). x.schedule) is),
-        record { log = r.went.log ∙ ap (λ xs. a.seen.log ++ events xs) acts ∙ append-nil a.seen.log ∙ quiet.log; draws = ap (λ (h : Held). draw_due h.state.rx) same.0 ∙ quiet.draws },
+        record { counted = subst (λ (x : Living). IsCounted x) (λ i. record { held = sym same.0 i; lines = sym lines i; results = sym results i; kept = sym kept i }) quiet.counted; log = r.went.log ∙ ap (λ xs. a.seen.log ++ events xs) acts ∙ append-nil a.seen.log ∙ quiet.log; draws = ap (λ (h : Held). draw_due h.state.rx) same.0 ∙ quiet.draws },
         same.1,
         same.0,
       )
@@ -279,7 +285,7 @@ module _ {Home : Type 0} (a b : Told Home) (any : Bool) (on : ReadOn a b any) wh
   }
 
   pub read_quiet : IsQuiet a → IsQuiet b
-  read_quiet quiet = record { log = on.log ∙ quiet.log; draws = ap draw_due kept.rx ∙ quiet.draws }
+  read_quiet quiet = record { counted = on.counted quiet.counted; log = on.log ∙ quiet.log; draws = ap draw_due kept.rx ∙ quiet.draws }
 
   pub read_posted : length b.seen.held.state.rx.posted ≡ length a.seen.held.state.rx.posted
   read_posted = ap (λ (rx : Receiving). length rx.posted) kept.rx

@@ -1,4 +1,6 @@
 pub mod Paths
+pub mod Writing
+pub mod Counting
 pub mod Calling
 pub mod Requesting
 pub mod Alone

@@ -5,7 +5,7 @@ use Rattle.fab_face.specs.Held.{Held, IsOpen}
 use Rattle.fab_quantum.proofs.Sending.{transmits_by, lives_ready}
 use Rattle.fab_quantum.proofs.Cutting.{cut_by}
 use Rattle.fab_face.specs.Acts.{Act}
-use Rattle.fab_quantum.specs.Turns.{Told, Living, living_of, actor_in, Lived, WentOn, ReadOn, MovedOn, IsRead, IsStill, Turned, is_some_act}
+use Rattle.fab_quantum.specs.Turns.{Told, Living, living_of, actor_in, Lived, IsCounted, WentOn, ReadOn, MovedOn, IsRead, IsStill, Turned, is_some_act}
 use Rattle.fab_face.proofs.Joining.{ported_then}
 use Rattle.fab_quantum.proofs.Paths.{lived_then, lived_none, some_append, none_acts}
 use Rattle.fab_quantum.proofs.Idling.{idle_then}
@@ -25,9 +25,9 @@ or_true false = refl
 
 module _ {Home : Type 0} where
   -- a line that was not done ends the lines
-  pub lines_end : (a b c : Told Home) (acts : List Act) (moved done more all : Bool) → Lived a b acts → moved ≡ is_some_act acts → b.lines ≡ a.lines
+  pub lines_end : (a b c : Told Home) (acts : List Act) (moved done more all : Bool) → (IsCounted (living_of a) → IsCounted (living_of b)) → Lived a b acts → moved ≡ is_some_act acts → b.lines ≡ a.lines
       → WentOn b c done more → done ≡ false → all ≡ (moved || more) → WentOn a c false all
-  lines_end a b c acts moved done more all lived is lines w nay is_all = record {
+  lines_end a b c acts moved done more all counted lived is lines w nay is_all = record {
     acts = acts ++ w.acts;
     lived = lived_then a b c acts w.acts lived w.lived;
     moved_is = is_all ∙ ap (λ x. x || more) is ∙ ap (λ x. is_some_act acts || x) w.moved_is ∙ sym (some_append acts w.acts);
@@ -35,6 +35,7 @@ module _ {Home : Type 0} where
     log = w.log;
     is_done = λ d. absurd (cc d);
     lines = w.lines ∙ lines;
+    counted = λ c. w.counted (counted c);
   }
 
   -- a line that was done, and the reads after it
@@ -49,8 +50,8 @@ module _ {Home : Type 0} where
       ((acts ++ w.acts) ++ r.acts, lived_then a c d (acts ++ w.acts) r.acts (lived_then a b c acts w.acts lived w.lived) r.lived, here ∙ sym there)
 
   -- all lines that may be done in a turn were done
-  pub lines_all : (a b : Told Home) (acts : List Act) (moved : Bool) → Lived a b acts → moved ≡ is_some_act acts → moved ≡ true → b.lines ≡ a.lines → b.seen.log ≡ [] → WentOn a b false moved
-  lines_all a b acts moved lived is some lines log = record {
+  pub lines_all : (a b : Told Home) (acts : List Act) (moved : Bool) → (IsCounted (living_of a) → IsCounted (living_of b)) → Lived a b acts → moved ≡ is_some_act acts → moved ≡ true → b.lines ≡ a.lines → b.seen.log ≡ [] → WentOn a b false moved
+  lines_all a b acts moved counted lived is some lines log = record {
     acts = acts;
     lived = lived;
     moved_is = is;
@@ -58,6 +59,7 @@ module _ {Home : Type 0} where
     log = log;
     is_done = λ d. absurd (cc d);
     lines = lines;
+    counted = counted;
   }
 
   module _ (a b c d f : Told Home) (read done went again : Bool) (r : ReadOn a b read) (l : WentOn b c false done) (m : MovedOn c d went) (s : ReadOn d f again) where

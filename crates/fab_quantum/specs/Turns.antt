@@ -4,24 +4,28 @@
 --     Shows v h frames  in this view, these frames are of what the senders accepted, and what is whole with them is transmitted
 --     Turned a b acts   the schedule grew by the steps of these acts, they lead from a to b wherever the frames taken are shown, and they are all that the port moved
 --     IsStill a b       nothing can be done, as the turn from a to b itself saw
+--     IsCounted p       the endpoint's multi-receives and the releases read, against the peer's lines
 --     Ended a b         the last steps of a peer: receives cancelled, and their completions read
-use Rattle.std.specs.Prelude.{◌≡◌, ◌≢◌, ℕ, ◌+◌, ◌<◌, ◌≤◌, Bool, true, false, List, [], ◌∷◌, ◌++◌, zero, suc, take, drop, length, map, fold, Option, Some, None, Result, Ok, Err, slice_index, slice_get}
+use Rattle.std.specs.Prelude.{◌≡◌, ◌≢◌, ℕ, ◌+◌, ◌<◌, ◌≤◌, Bool, true, false, List, [], ◌∷◌, ◌++◌, zero, suc, take, drop, length, map, fold, Option, Some, None, Result, Ok, Err, slice_index, slice_get, ◌==◌, count_by, zip}
 use Rattle.std.specs.Option.{option_map}
+use Rattle.fab_base.specs.declared.operations.Written.{Written}
 use Rattle.fab_base.specs.declared.script.LineOp.{LineOp}
+use Rattle.fab_base.specs.declared.entries.Entry.TheVariants.{Released}
 use Rattle.fab_base.specs.declared.entries.Kept.{Kept}
+use Rattle.fab_base.specs.declared.entries.Taken.TheVariants.{Success, Failure}
 use Rattle.fab_base.specs.declared.faults.Fault.{Fault}
 use Rattle.fab_base.specs.declared.faults.Fault.TheVariants.{NoMemory as LacksMemory}
 use Rattle.fab_base.specs.declared.faults.Refused.{Refused as RefusedWith}
 use Rattle.fab_base.specs.declared.frames.Frame.{Frame}
 use Rattle.fab_base.specs.declared.items.Item.{Item}
 use Rattle.fab_base.specs.declared.peers.LineResult.{LineResult}
-use Rattle.fab_base.specs.declared.peers.LineResult.TheVariants.{Done, Refused}
+use Rattle.fab_base.specs.declared.peers.LineResult.TheVariants.{Done, Refused, Waited}
 use Rattle.fab_base.specs.declared.peers.Step.{Step}
-use Rattle.fab_base.specs.declared.peers.Step.TheVariants.{Do, Head, Tail, Draw, Sent as SentStep}
+use Rattle.fab_base.specs.declared.peers.Step.TheVariants.{Do, Head, Tail, Draw, Read, Sent as SentStep}
 use Rattle.fab_base.specs.declared.script.Line.{Line}
 use Rattle.fab_wire.specs.Joined.{with_frame, Gathered, AreFirst}
-use Rattle.fab_model.specs.Peers.{Actor, fabric, facts, do_next, read_next, is_again}
-use Rattle.fab_model.specs.State.{accepted_for}
+use Rattle.fab_model.specs.Peers.{Actor, fabric, facts, do_next, read_next, is_again, unread, bytes_kept, is_release, is_multi_line}
+use Rattle.fab_model.specs.State.{State, accepted_for}
 use Rattle.fab_model.specs.Receiving.{draw_due}
 use Rattle.fab_model.specs.Views.{View, Walk, IsPrefixOf}
 use Rattle.fab_face.specs.declared.events.Event.{Event}
@@ -29,7 +33,7 @@ use Rattle.fab_face.specs.declared.events.Event.TheVariants.{Call as Called, Hea
 use Rattle.fab_quantum.specs.declared.peer.Peer.{Peer}
 use Rattle.fab_face.specs.Held.{Held, Seen, begun_of, next_item}
 use Rattle.fab_face.specs.Acts.{Act, Did, Took, Posted, Drew, Had, Goes, Ported, steps_of, taken_of, posted_to}
-use Rattle.fab_face.specs.Answers.{IsIdle, AllAre}
+use Rattle.fab_face.specs.Answers.{IsIdle, AllAre, Lends, LendsNone, after_read}
 use Rattle.fab_link.specs.Meaning.{end_of}
 use Rattle.fab_wire.specs.Frames.{IsLane}
 
@@ -69,6 +73,34 @@ actor_in p = record { state = p.held.state; lines = p.lines; results = p.results
 
 abbrev pub actor_of : {Home : Type 0} → Told Home → Actor
 actor_of a = actor_in (living_of a)
+
+-- ---- multi-receives (FI_MULTI_RECV of fi_msg(3))
+
+-- a completion that the peer read, and one that a wait took, hands a buffer of the context back
+abbrev pub hands_back : ℕ → Kept → Bool
+hands_back ctx k = elim k.entry [ Success entry ↦ elim entry [ Released c used buf ↦ c == ctx | _ ↦ false ] | Failure _ ↦ false ]
+
+abbrev pub waited_back : ℕ → LineResult → Bool
+waited_back ctx (Waited k) = hands_back ctx k
+waited_back ctx _ = false
+
+-- of the context: the lines that were Ok, those whose end was not read, and the releases that were read
+abbrev pub multis_done : List Line → List LineResult → ℕ → ℕ
+multis_done lines results ctx = count_by (is_multi_line ctx) (zip lines results)
+
+abbrev pub multis_open : Held → ℕ → ℕ
+multis_open h ctx = count_by (λ (m : ℕ × ℕ). m.0 == ctx) h.multis
+
+abbrev pub releases_read : State → ℕ → ℕ
+releases_read s ctx = count_by (is_release ctx) (take s.cq.taken_out s.cq.written)
+
+-- the endpoint has no multi-receives but those of the peer's lines, and the peer knows which releases it read: it keeps them, or a wait took them
+pub record IsCounted (p : Living) : Type 0 where
+  pub within : p.held.state.cq.taken_out ≤ length p.held.state.cq.written
+  pub lines_are : (ctx : ℕ) → multis_open p.held ctx + releases_read p.held.state ctx ≤ multis_done p.lines p.results ctx
+  pub known : (ctx : ℕ) → count_by (hands_back ctx) p.kept + count_by (waited_back ctx) p.results ≡ releases_read p.held.state ctx
+
+-- ---- one act
 
 -- nothing that is unfinished changed
 abbrev pub SameParts : Held → Held → Type 0
@@ -178,6 +210,7 @@ pub record WentOn {Home : Type 0} (a b : Told Home) (done moved : Bool) : Type 0
   pub log : b.seen.log ≡ []
   pub is_done : done ≡ true → moved ≡ true
   pub lines : b.lines ≡ a.lines
+  pub counted : IsCounted (living_of a) → IsCounted (living_of b)
 
 -- ---- inside a turn
 
@@ -200,6 +233,31 @@ abbrev pub is_read : Act → Bool
 is_read Had = true
 is_read _ = false
 
+-- by what the peer knows, one multi-receive of the context, and no other, was not read to be released
+abbrev pub is_only : {Home : Type 0} → Told Home → ℕ → Bool
+is_only a ctx = multis_done a.lines a.results ctx == count_by (hands_back ctx) a.kept + count_by (waited_back ctx) a.results + 1
+
+abbrev pub LentIf : Bool → Held → ℕ → ℕ → ℕ → Option (List ℕ) → Type 0
+LentIf false h ctx at len bytes = bytes ≡ None
+LentIf true h ctx at len None = LendsNone h ctx at len
+LentIf true h ctx at len (Some bytes) = Lends h ctx at len bytes
+
+-- the endpoint lends the bytes of a part where that multi-receive is its context's only one
+abbrev pub Lent : {Home : Type 0} → Told Home → Option (ℕ × ℕ × ℕ) → Option (List ℕ) → Type 0
+Lent a None bytes = bytes ≡ None
+Lent a (Some part) bytes = LentIf (is_only a part.0) a.seen.held part.0 part.1 part.2 bytes
+
+-- the first unread entry was read, and is kept with the bytes that the machine asks for
+pub record HasRead {Home : Type 0} (a b : Told Home) : Type 0 where
+  pub entry : Written
+  pub first : unread a.seen.held.state.cq ≡ Some entry
+  pub read : b ≡ record a {
+    seen = after_read entry a.seen;
+    kept = a.kept ++ record { entry = entry.entry; bytes = bytes_kept (actor_of a) entry } ∷ [];
+    schedule = a.schedule ++ Read ∷ [];
+  }
+  pub counted : IsCounted (living_of b)
+
 -- entries were read, and nothing else was done
 pub record ReadOn {Home : Type 0} (a b : Told Home) (any : Bool) : Type 0 where
   pub acts : List Act
@@ -210,6 +268,7 @@ pub record ReadOn {Home : Type 0} (a b : Told Home) (any : Bool) : Type 0 where
   pub lines : b.lines ≡ a.lines
   pub results : b.results ≡ a.results
   pub reads : AllAre is_read acts
+  pub counted : IsCounted (living_of a) → IsCounted (living_of b)
 
 abbrev pub IsRead : {Home : Type 0} → Seen Home → Type 0
 IsRead e = e.held.state.cq.taken_out ≡ length e.held.state.cq.written
@@ -222,6 +281,7 @@ pub record MovedOn {Home : Type 0} (a b : Told Home) (moved : Bool) : Type 0 whe
   pub log : b.seen.log ≡ []
   pub lines : b.lines ≡ a.lines
   pub idle : moved ≡ false → IsRead a.seen → IsIdle a.seen b.seen
+  pub counted : IsCounted (living_of a) → IsCounted (living_of b)
 
 -- ---- the end
 
@@ -235,7 +295,8 @@ pub record Ended {Home : Type 0} (a b : Told Home) : Type 0 where
   pub size : b.seen.held.state.cq.size ≡ a.seen.held.state.cq.size
   pub coming : b.seen.held.state.rx.coming ≡ a.seen.held.state.rx.coming
 
--- no event is left in the log, and no draw is due
+-- no event is left in the log, no draw is due, and the multi-receives are counted
 pub record IsQuiet {Home : Type 0} (a : Told Home) : Type 0 where
+  pub counted : IsCounted (living_of a)
   pub log : a.seen.log ≡ []
   pub draws : draw_due a.seen.held.state.rx ≡ false

@@ -1,17 +1,19 @@
 //! What a peer asks of its endpoint, and an endpoint of its machine.
 use fab_face::calls::{
-    Addresses, Counters, Logs, Looks, Messages, Progress, Receives, Regions, Requests,
+    Addresses, Counters, Logs, Looks, Messages, Multis, Progress, Receives, Regions, Requests,
 };
 use fab_face::keeping::{Addressing, Counting};
 use fab_face::looking::Looking;
+use fab_face::multis::MultiReceiving;
 use fab_face::requesting::Requesting;
 use fab_face::targets::Targets;
 
-/// An endpoint with the calls of all lines, but for those of multi-receives.
+/// An endpoint with the calls of all lines.
 pub trait Calls: Messages
     + Requests
     + Receives
     + Looks
+    + Multis
     + Regions
     + Counters
     + Addresses
@@ -19,10 +21,19 @@ pub trait Calls: Messages
     + Logs {}
 
 impl<
-    E: Messages + Requests + Receives + Looks + Regions + Counters + Addresses + Progress + Logs,
+    E: Messages
+        + Requests
+        + Receives
+        + Looks
+        + Multis
+        + Regions
+        + Counters
+        + Addresses
+        + Progress
+        + Logs,
 > Calls for E {}
 
 /// A machine whose endpoint has these calls.
-pub trait Machinery: Looking + Requesting + Targets + Counting + Addressing {}
+pub trait Machinery: Looking + MultiReceiving + Requesting + Targets + Counting + Addressing {}
 
-impl<C: Looking + Requesting + Targets + Counting + Addressing> Machinery for C {}
+impl<C: Looking + MultiReceiving + Requesting + Targets + Counting + Addressing> Machinery for C {}

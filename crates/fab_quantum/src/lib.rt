@@ -7,5 +7,6 @@ pub mod calls;
 mod keeping;
 mod looks;
 pub mod peer;
+mod reading;
 mod regions;
 mod requests;

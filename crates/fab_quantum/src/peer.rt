@@ -1,15 +1,14 @@
 //! A peer over any endpoint: it does its lines, in turns.
 ghost use Rattle.std.specs.Prelude.{◌≡◌, ◌≢◌, ◌<◌, ◌||◌, length, ℕ, Some, None, Ok, Err, IfOk, OnOk, IfSome, IfNone, find, position, is_some, nat_lt, ◌+◌, [], true, false, Bool};
-ghost use Rattle.fab_base.specs.declared.script.LineOp.TheVariants.{Wait, Recv, TRecv, Send, TSend, Inject, TInject, Cancel};
+ghost use Rattle.fab_base.specs.declared.script.LineOp.TheVariants.{Wait, Recv, TRecv, MRecv, Send, TSend, Inject, TInject, Cancel};
 ghost use Rattle.fab_base.specs.declared.script.BytesWord.{BytesWord};
 ghost use Rattle.fab_base.specs.declared.faults.Fault.TheVariants.{NoMemory as LacksMemory};
 ghost use Rattle.fab_av.specs.Addresses.{answer_of};
 ghost use Rattle.fab_model.specs.Matching.{remove_first};
 ghost use Rattle.fab_model.specs.Calls.{word_bytes};
-ghost use Rattle.fab_model.specs.Peers.{ctx_of, is_of_ctx, part_of, unread, is_finished};
+ghost use Rattle.fab_model.specs.Peers.{ctx_of, is_of_ctx, is_finished};
 ghost use Rattle.fab_model.specs.Receiving.{cancellable};
 ghost use Rattle.fab_model.specs.Report.{pending_of};
-ghost use Rattle.fab_face.specs.Answers.{Pops};
 ghost use Rattle.fab_quantum.specs.Turns.{step_of, why_of};
 
 pub mod seats;
@@ -19,7 +18,6 @@ use fab_base::{
     Buf, BytesWord, Entry, Fault, Flags, Kept, Line, LineOp, LineResult, NoMemory, Refused, Step,
     Taken,
 };
-use fab_face::calls::Progress;
 use fab_face::events::Event;
 use std::alloc::Global;
 
@@ -74,19 +72,6 @@ fn is_above_zero(a: u32) -> bool
     ensures { result ≡ nat_lt 0 a }
 {
     a > 0
-}
-
-/// Whether the entry is a part of a multi-receive.
-fn is_part(entry: &Taken) -> bool
-    ensures { result ≡ is_some (part_of entry.now) }
-{
-    match entry {
-        Taken::Failure(error) => error.at.is_some(),
-        Taken::Success(entry) => match entry {
-            Entry::Part { .. } => true,
-            _ => false,
-        },
-    }
 }
 
 /// The context under which a completion comes.
@@ -148,24 +133,10 @@ pub(crate) fn word_bytes(alloc: Global, word: &BytesWord) -> Result<Buf, NoMemor
     }
 }
 
-/// Reads the first completion, a success or an error.
-fn next_entry<E: Progress>(endpoint: &mut E) -> Option<Taken>
-    ensures some { IfSome result (λ entry. Pops entry (E.seen endpoint.old) (E.seen endpoint.new)) }
-    ensures none { IfNone result ((E.seen endpoint.new ≡ E.seen endpoint.old) × (unread (E.seen endpoint.old).held.state.cq ≡ None)) }
-{
-    match endpoint.cq_readerr() {
-        Ok(error) => Some(Taken::Failure(error)),
-        Err(_) => match endpoint.cq_pop() {
-            Ok(entry) => Some(Taken::Success(entry)),
-            Err(_) => None,
-        },
-    }
-}
-
 impl<E: Calls> Peer<E> {
     ghost use Rattle.std.specs.Prelude.{List};
     ghost use Rattle.fab_face.specs.Acts.{Act};
-    ghost use Rattle.fab_quantum.specs.Turns.{MovedOn, told, actor_of, drained, is_some_event, ReadOn, IsRead, WentOn, Answered, Lived, IsStill, is_some_act, next_op, noted, Turned, Ended, IsQuiet};
+    ghost use Rattle.fab_quantum.specs.Turns.{MovedOn, told, actor_of, living_of, drained, is_some_event, IsRead, IsCounted, WentOn, Answered, Lived, IsStill, is_some_act, next_op, noted, Turned, Ended, IsQuiet};
     ghost use Rattle.fab_face.specs.Answers.{IsIdle};
 
     /// A peer that is to do these lines over this endpoint. It takes no memory.
@@ -193,25 +164,6 @@ impl<E: Calls> Peer<E> {
             self.schedule.push(step_of(event))?;
             any = true;
         }
-        Ok(any)
-    }
-
-    /// Reads completions until there is none, and keeps them. Whether there was one. This peer gives up
-    /// at a part of a multi-receive.
-    fn read_all(&mut self) -> Result<bool, NoMemory>
-        ensures on { IfOk result (λ any. ReadOn (told E.seen self.old) (told E.seen self.new) any) }
-        ensures read { OnOk result (IsRead (E.seen self.new.endpoint)) }
-    {
-        let mut any = false;
-        'entries: while let Some(entry) = next_entry(&mut self.endpoint) {
-            if is_part(&entry) {
-                return Err(NoMemory);
-            }
-            self.kept.push(Kept { entry, bytes: None })?;
-            self.schedule.push(Step::Read)?;
-            any = true;
-        }
-        self.endpoint.known();
         Ok(any)
     }
 
@@ -416,6 +368,33 @@ impl<E: Calls> Peer<E> {
         })
     }
 
+    /// The line `mrecv`, with a buffer of zeros. Where it names no least free space, this is 64 bytes, or the length of the
+    /// buffer if that is less.
+    fn mrecv(
+        &mut self,
+        ctx: u64,
+        source: Option<u32>,
+        len: u32,
+        min: Option<u32>,
+    ) -> Result<Outcome, NoMemory>
+        requires log { (E.seen self.old.endpoint).log ≡ [] }
+        requires next { next_op (told E.seen self.old) ≡ Some (MRecv ctx source len min) }
+        ensures { IfOk result (λ o. WentOn (told E.seen self.old) (told E.seen self.new) o.done o.moved) }
+    {
+        let buf = Buf::zeros(self.alloc, len as u64)?;
+        let least = min.unwrap_or(64_u32.min(len));
+        self.endpoint.known();
+        let answer = self.endpoint.recv_multi(source, buf, least, ctx);
+        self.endpoint.known();
+        let why = why_of(answer);
+        let drew = self.drain()?;
+        let done = self.answered(why)?;
+        Ok(Outcome {
+            done,
+            moved: either(done, drew),
+        })
+    }
+
     /// The line `cancel`.
     fn cancel(&mut self, ctx: u64) -> Result<Outcome, NoMemory>
         requires log { (E.seen self.old.endpoint).log ≡ [] }
@@ -525,12 +504,18 @@ impl<E: Calls> Peer<E> {
                 ignore,
                 len,
             } => self.trecv(ctx, source, tag, ignore, len),
+            LineOp::MRecv {
+                ctx,
+                source,
+                len,
+                min,
+            } => self.mrecv(ctx, source, len, min),
             LineOp::Cancel { ctx } => self.cancel(ctx),
             _ => Err(NoMemory),
         }
     }
 
-    /// Does the next line, if there is one and it can be done. This peer gives up at a multi-receive.
+    /// Does the next line, if there is one and it can be done.
     fn do_line(&mut self) -> Result<Outcome, NoMemory>
         requires log { (E.seen self.old.endpoint).log ≡ [] }
         ensures { IfOk result (λ o. WentOn (told E.seen self.old) (told E.seen self.new) o.done o.moved) }
@@ -545,7 +530,8 @@ impl<E: Calls> Peer<E> {
             LineOp::Wait { ctx } => self.wait(ctx),
             LineOp::Send { .. } | LineOp::TSend { .. } => self.do_send(),
             LineOp::Inject { .. } | LineOp::TInject { .. } => self.do_inject(),
-            LineOp::Recv { .. } | LineOp::TRecv { .. } | LineOp::Cancel { .. } => self.do_receive(),
+            LineOp::Recv { .. } | LineOp::TRecv { .. } => self.do_receive(),
+            LineOp::MRecv { .. } | LineOp::Cancel { .. } => self.do_receive(),
             LineOp::Peek { .. } | LineOp::Claim { .. } | LineOp::Discard { .. } => self.do_look(),
             LineOp::Take { .. } | LineOp::DropClaimed { .. } => self.do_look(),
             LineOp::Read { .. } | LineOp::Write { .. } | LineOp::WInject { .. } => self.do_remote(),
@@ -556,7 +542,6 @@ impl<E: Calls> Peer<E> {
             LineOp::Put { .. } | LineOp::Show { .. } => self.do_region(),
             LineOp::Count { .. } | LineOp::Reach { .. } => self.do_keeping(),
             LineOp::Insert { .. } | LineOp::Remove { .. } => self.do_keeping(),
-            LineOp::MRecv { .. } => Err(NoMemory),
         }
     }
 
@@ -564,6 +549,7 @@ impl<E: Calls> Peer<E> {
     /// anything moved.
     fn do_lines(&mut self) -> Result<bool, NoMemory>
         requires log { (E.seen self.old.endpoint).log ≡ [] }
+        requires counted { IsCounted (living_of (told E.seen self.old)) }
         ensures { IfOk result (λ moved. WentOn (told E.seen self.old) (told E.seen self.new) false moved) }
     {
         let mut moved = false;
@@ -595,7 +581,9 @@ impl<E: Calls> Peer<E> {
     /// progress with up to 64 frames, and reads again. Whether anything moved.
     pub fn quantum(&mut self) -> Result<bool, NoMemory>
         requires log { (E.seen self.old.endpoint).log ≡ [] }
+        requires counted { IsCounted (living_of (told E.seen self.old)) }
         ensures log { OnOk result ((E.seen self.new.endpoint).log ≡ []) }
+        ensures counted { OnOk result (IsCounted (living_of (told E.seen self.new))) }
         ensures turned { IfOk result (λ moved. (acts : List Act) × Turned (told E.seen self.old) (told E.seen self.new) acts × (moved ≡ is_some_act acts)) }
         ensures still { result ≡ Ok false → IsStill (told E.seen self.old) (told E.seen self.new) }
     {

@@ -2,7 +2,7 @@
 ghost use Rattle.std.specs.Prelude.{◌≡◌, ◌<◌, ◌≤◌, ℕ, [], true, false, IfOk, OnErr};
 ghost use Rattle.fab_face.specs.Ports.{seen};
 ghost use Rattle.fab_model.specs.Peers.{is_finished};
-ghost use Rattle.fab_quantum.specs.Turns.{told, actor_of, IsStill};
+ghost use Rattle.fab_quantum.specs.Turns.{told, living_of, actor_of, IsCounted, IsStill};
 ghost use Rattle.fab_rounds.specs.Rounds.{TurnedAs, size};
 
 use fab_base::NoMemory;
@@ -19,6 +19,7 @@ pub struct Runner<P: Port, C: Machinery> {
     pub(crate) moved: bool,
     pub(crate) failed: bool,
     ghost quiet: { failed ≡ false → peer.endpoint.log ≡ [] },
+    ghost counted: { failed ≡ false → IsCounted (living_of (told (seen P.Port) peer)) },
     ghost kept: { failed ≡ true → moved ≡ false },
 }
 
@@ -26,6 +27,7 @@ impl<P: Port, C: Machinery> Runner<P, C> {
     /// A peer that took no turn yet.
     pub fn new(peer: Peer<Endpoint<P, C>>) -> Runner<P, C>
         requires log { peer.endpoint.log ≡ [] }
+        requires counted { IsCounted (living_of (told (seen P.Port) peer)) }
         ensures peer { result.peer ≡ peer }
         ensures moved { result.moved ≡ false }
         ensures failed { result.failed ≡ false }
@@ -44,10 +46,12 @@ impl<P: Port, C: Machinery> Runner<P, C> {
         &self.peer
     }
 
-    /// Gives the peer back. Where no turn of it lacked memory, its endpoint's log is empty.
+    /// Gives the peer back. Where no turn of it lacked memory, its endpoint's log is empty and its multi-receives are
+    /// counted.
     pub fn into_peer(self) -> Peer<Endpoint<P, C>>
         ensures peer { result ≡ self.peer }
         ensures log { self.failed ≡ false → result.endpoint.log ≡ [] }
+        ensures counted { self.failed ≡ false → IsCounted (living_of (told (seen P.Port) result)) }
     {
         let Runner {
             peer,

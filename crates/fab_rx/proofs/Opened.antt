@@ -62,17 +62,19 @@ module _ (multis : List (ℕ × ℕ)) (homes : ℕ → Option ℕ) (calls : ℕ 
   others_rest call [] [] t lacks = tt
   others_rest call [] (r ∷ rs) t lacks = absurd t
   others_rest call (c ∷ cs) [] t lacks = absurd t
-  others_rest call (c ∷ cs) (r ∷ rs) t lacks =
-      ((λ same. let home : homes call ≡ Some c.0 = ap homes (sym same) ∙ t.0.home in let no : true ≡ false = sym (has_first c cs) ∙ lacks c.0 home in absurd (cc)),
-       others_rest call cs rs t.1 (λ id home. lacks_rest id c cs (lacks id home)))
+  others_rest call (c ∷ cs) (r ∷ rs) t lacks = (
+    (λ same. let home : homes call ≡ Some c.0 = ap homes (sym same) ∙ t.0.home in let no : true ≡ false = sym (has_first c cs) ∙ lacks c.0 home in absurd (cc)),
+    others_rest call cs rs t.1 (λ id home. lacks_rest id c cs (lacks id home)),
+  )
 
   distinct_closing : (cs : List (ℕ × ℕ)) (rs : List Receive) (ps : List (ℕ × Want)) → AllZip (Rests homes calls seats) cs rs → AreApart ps cs → AreDistinct rs
   distinct_closing [] [] ps t a = tt
   distinct_closing [] (r ∷ rs) ps t a = absurd t
   distinct_closing (c ∷ cs) [] ps t a = absurd t
-  distinct_closing (c ∷ cs) (r ∷ rs) ps t a =
-      (others_rest r.call cs rs t.1 (λ id home. let both : Some c.0 ≡ Some id = sym t.0.home ∙ home in let same : c.0 ≡ id = cc in ap (λ k. has_id k cs) (sym same) ∙ a.1),
-       distinct_closing cs rs ps t.1 a.2)
+  distinct_closing (c ∷ cs) (r ∷ rs) ps t a = (
+    others_rest r.call cs rs t.1 (λ id home. let both : Some c.0 ≡ Some id = sym t.0.home ∙ home in let same : c.0 ≡ id = cc in ap (λ k. has_id k cs) (sym same) ∙ a.1),
+    distinct_closing cs rs ps t.1 a.2,
+  )
 
   others_both : (call : ℕ) (rs cls : List Receive) → HaveOtherCalls call rs → HaveOtherCalls call cls → HaveOtherCalls call (rs ++ cls)
   others_both call [] cls h k = k
@@ -90,9 +92,10 @@ module _ (multis : List (ℕ × ℕ)) (homes : ℕ → Option ℕ) (calls : ℕ 
     distinct_all [] [] h a d = distinct_closing cs closing [] rest a
     distinct_all [] (r ∷ rs) h a d = absurd h
     distinct_all (p ∷ ps) [] h a d = absurd h
-    distinct_all (p ∷ ps) (r ∷ rs) h a d =
-        (others_both r.call rs closing d.0 (others_rest r.call cs closing rest (λ id home. ap (λ k. has_id k cs) (sym (homed p r h.0 id home)) ∙ not_claimed (p ∷ ps) cs p.0 (has_first p ps) a)),
-         distinct_all ps rs h.1 (apart_rest p ps cs a) d.1)
+    distinct_all (p ∷ ps) (r ∷ rs) h a d = (
+      others_both r.call rs closing d.0 (others_rest r.call cs closing rest (λ id home. ap (λ k. has_id k cs) (sym (homed p r h.0 id home)) ∙ not_claimed (p ∷ ps) cs p.0 (has_first p ps) a)),
+      distinct_all ps rs h.1 (apart_rest p ps cs a) d.1,
+    )
 
 pub are_opened : (ps : List (ℕ × Want)) (us : List (ℕ × Sign)) (room : ℕ) (seats : Cells Waiting) (parcels : Cells Parcel) (coming : List (Option Begun)) (v : Arriving) → IsKept ps us room seats parcels coming v
     → IsNumbered v.rx.posted v.rx.coming v.next → (cs : List (ℕ × ℕ)) → AreMulti ps cs seats coming v.rx.posted v.rx.closing v.rx.coming v.next v.multis v.most → AreOpened v

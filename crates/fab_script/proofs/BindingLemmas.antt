@@ -17,7 +17,6 @@ use Rattle.fab_base.specs.declared.script.Script.{Script}
 use Rattle.fab_base.specs.declared.status.Why.{Why}
 use Rattle.fab_base.specs.declared.status.Why.TheVariants as why
 use Rattle.fab_model.specs.Negotiation.{is_refused, granted_info, grant_of, grant, size_of as granted_size}
-use Rattle.fab_grammar.specs.declared.language.Language.{Language}
 use Rattle.fab_grammar.specs.declared.settings.Setting.{Setting}
 use Rattle.fab_grammar.specs.declared.settings.Setting.TheVariants.{Peers, Wish, Capabilities, Selective, File}
 use Rattle.fab_grammar.specs.declared.settings.Settings.{Settings}
@@ -274,11 +273,11 @@ pub record IsRead (script : Script) : Type 0 where
   pub granted : grant script.conf.hints ≡ Some script.conf.info
   pub peers : script.conf.peers ≡ script.conf.info.peers
 
-pub was_read : (language : Language) (text : List ℕ) (script : Script) → verdict language text ≡ Ok script → IsRead script
-was_read language text script e =
-    let s = spelt language text script e in
+pub was_read : (text : List ℕ) (script : Script) → verdict text ≡ Ok script → IsRead script
+was_read text script e =
+    let s = spelt text script e in
     let kept : Kept s.after =
-    lines_keep language Kept header_kept (λ before number verb args kept built none. with_kind_kept (kind_of verb) before number verb args kept none) nothing 1 (lines_of text) s.after (record { distinct = refl; some = λ n none. cc none }) s.lines in
+    lines_keep Kept header_kept (λ before number verb args kept none. with_kind_kept (kind_of verb) before number verb args kept none) nothing 1 (lines_of text) s.after (record { distinct = refl; some = λ n none. cc none }) s.lines in
     subst IsRead s.is (record {
       lists = length-map-range_with_len (λ k. part_of k s.after.items) 0 s.count;
       distinct = kept.distinct;

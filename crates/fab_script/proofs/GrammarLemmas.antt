@@ -7,7 +7,6 @@ use Rattle.fab_base.specs.declared.status.Why.TheVariants as why
 use Rattle.fab_model.specs.Negotiation.{grant}
 use Rattle.fab_grammar.specs.Conf.{conf_of}
 use Rattle.fab_grammar.specs.Settings.{hints_of}
-use Rattle.fab_grammar.specs.declared.language.Language.{Language}
 use Rattle.fab_script.specs.declared.reader.Reader.{Reader}
 use Rattle.fab_script.specs.declared.refused.Refused.TheVariants.{Why as Because}
 use Rattle.fab_grammar.specs.Before.{Before, nothing, parts_of}
@@ -19,10 +18,10 @@ use Rattle.fab_script.specs.Parts.{Holds, Answers}
 use Rattle.fab_grammar.specs.Grammar.{script_with, granted, of_peers, read_lines, verdict, then_script, script_said}
 
 -- The lines before are taken: what they say, which the reader has, and what the lines that are left make of it.
-pub record Progress (language : Language) (bytes : List ℕ) (left : ℕ × List (List ℕ)) (reader : Reader) : Type 0 where
+pub record Progress (bytes : List ℕ) (left : ℕ × List (List ℕ)) (reader : Reader) : Type 0 where
   pub before : Before
   pub holds : Holds reader before
-  pub rest : read_lines language nothing 1 (lines_of bytes) ≡ read_lines language before (left.0 + 1) left.1
+  pub rest : read_lines nothing 1 (lines_of bytes) ≡ read_lines before (left.0 + 1) left.1
   pub count : length (lines_of bytes) ≡ left.0 + length left.1
   pub few : left.0 ≤ 100000
 
@@ -55,23 +54,23 @@ script_without_peers count reader before h header peers =
     let said : before.settings.peers ≡ None = ap (λ s. s.peers) (sym h.settings) ∙ peers in
     rw (sym h.header, header, said) refl
 
-no_line : (language : Language) (before : Before) (number : ℕ) → read_lines language before number [] ≡ Ok before
+no_line : (before : Before) (number : ℕ) → read_lines before number [] ≡ Ok before
 unfolding read_lines
-no_line language before number = refl
+no_line before number = refl
 
-line_taken : (language : Language) (before : Before) (number : ℕ) (line : List ℕ) (lines : List (List ℕ)) → why_of language before number line ≡ None → read_lines language before number (line ∷ lines) ≡ read_lines language (with_line before number line) (number + 1) lines
+line_taken : (before : Before) (number : ℕ) (line : List ℕ) (lines : List (List ℕ)) → why_of before number line ≡ None → read_lines before number (line ∷ lines) ≡ read_lines (with_line before number line) (number + 1) lines
 unfolding read_lines
-line_taken language before number line lines e = rw (e, read_lines) refl
+line_taken before number line lines e = rw (e, read_lines) refl
 
-line_refused : (language : Language) (before : Before) (number : ℕ) (line : List ℕ) (lines : List (List ℕ)) (why : Why) → why_of language before number line ≡ Some why → read_lines language before number (line ∷ lines) ≡ Err (number, why)
+line_refused : (before : Before) (number : ℕ) (line : List ℕ) (lines : List (List ℕ)) (why : Why) → why_of before number line ≡ Some why → read_lines before number (line ∷ lines) ≡ Err (number, why)
 unfolding read_lines
-line_refused language before number line lines why e = rw (e, read_lines) refl
+line_refused before number line lines why e = rw (e, read_lines) refl
 
-pub progress_none : (language : Language) (bytes : List ℕ) (left : ℕ × List (List ℕ)) (reader : Reader) → left ≡ (0, lines_of bytes) → Holds reader nothing → Progress language bytes left reader
-progress_none language bytes left reader e h = record {
+pub progress_none : (bytes : List ℕ) (left : ℕ × List (List ℕ)) (reader : Reader) → left ≡ (0, lines_of bytes) → Holds reader nothing → Progress bytes left reader
+progress_none bytes left reader e h = record {
   before = nothing;
   holds = h;
-  rest = ap (λ l. read_lines language nothing (l.0 + 1) l.1) (sym e);
+  rest = ap (λ l. read_lines nothing (l.0 + 1) l.1) (sym e);
   count = omega (arith, ap (λ l. l.0) e, ap (λ l. length l.1) e);
   few = omega (arith, ap (λ l. l.0) e);
 }
@@ -89,33 +88,33 @@ few_lines left number next n m late =
     omega arith
 
 -- a line that is taken, one that is refused, and the end
-pub progress_taken : (language : Language) (bytes : List ℕ) (left next : ℕ × List (List ℕ)) (old new : Reader) (number : ℕ) (line : List ℕ) (p : Progress language bytes left old) → number ≡ left.0 + 1 → next.0 ≡ left.0 + 1 → left.1 ≡ line ∷ next.1 → Answers (why_of language p.before number line) (with_line p.before number line) new (Ok tt) → Progress language bytes next new
-progress_taken language bytes left next old new number line p n m lines answer = by_rule (why_of language p.before number line) refl answer
+pub progress_taken : (bytes : List ℕ) (left next : ℕ × List (List ℕ)) (old new : Reader) (number : ℕ) (line : List ℕ) (p : Progress bytes left old) → number ≡ left.0 + 1 → next.0 ≡ left.0 + 1 → left.1 ≡ line ∷ next.1 → Answers (why_of p.before number line) (with_line p.before number line) new (Ok tt) → Progress bytes next new
+progress_taken bytes left next old new number line p n m lines answer = by_rule (why_of p.before number line) refl answer
   where
-    by_rule : (rules : Option Why) → why_of language p.before number line ≡ rules → Answers rules (with_line p.before number line) new (Ok tt) → Progress language bytes next new
+    by_rule : (rules : Option Why) → why_of p.before number line ≡ rules → Answers rules (with_line p.before number line) new (Ok tt) → Progress bytes next new
     by_rule (Some why) e a = absurd a
     by_rule None e a = record {
       before = with_line p.before number line;
       holds = a;
-      rest = p.rest ∙ (ap (λ k. read_lines language p.before k left.1) (sym n) ∙ (ap (read_lines language p.before number) lines
-          ∙ (line_taken language p.before number line next.1 e ∙ ap (λ k. read_lines language (with_line p.before number line) k next.1) (number_next number left.0 next.0 n m))));
+      rest = p.rest ∙ (ap (λ k. read_lines p.before k left.1) (sym n) ∙ (ap (read_lines p.before number) lines
+          ∙ (line_taken p.before number line next.1 e ∙ ap (λ k. read_lines (with_line p.before number line) k next.1) (number_next number left.0 next.0 n m))));
       count = omega (arith, p.count, ap length lines);
-      few = few_lines left.0 number next.0 n m (in_time language p.before number line e);
+      few = few_lines left.0 number next.0 n m (in_time p.before number line e);
     }
 
-pub progress_refused : (language : Language) (bytes : List ℕ) (left : ℕ × List (List ℕ)) (rest : List (List ℕ)) (old new : Reader) (number : ℕ) (line : List ℕ) (why : Why) (p : Progress language bytes left old) → number ≡ left.0 + 1 → left.1 ≡ line ∷ rest → Answers (why_of language p.before number line) (with_line p.before number line) new (Err (Because why)) → verdict language bytes ≡ Err (number, why)
+pub progress_refused : (bytes : List ℕ) (left : ℕ × List (List ℕ)) (rest : List (List ℕ)) (old new : Reader) (number : ℕ) (line : List ℕ) (why : Why) (p : Progress bytes left old) → number ≡ left.0 + 1 → left.1 ≡ line ∷ rest → Answers (why_of p.before number line) (with_line p.before number line) new (Err (Because why)) → verdict bytes ≡ Err (number, why)
 unfolding verdict
-progress_refused language bytes left rest old new number line why p n lines answer = by_rule (why_of language p.before number line) refl answer
+progress_refused bytes left rest old new number line why p n lines answer = by_rule (why_of p.before number line) refl answer
   where
-    by_rule : (rules : Option Why) → why_of language p.before number line ≡ rules → Answers rules (with_line p.before number line) new (Err (Because why)) → verdict language bytes ≡ Err (number, why)
+    by_rule : (rules : Option Why) → why_of p.before number line ≡ rules → Answers rules (with_line p.before number line) new (Err (Because why)) → verdict bytes ≡ Err (number, why)
     by_rule None e a = absurd a
     by_rule (Some given) e a =
-        let all = p.rest ∙ (ap (λ k. read_lines language p.before k left.1) (sym n) ∙ (ap (read_lines language p.before number) lines ∙ line_refused language p.before number line rest given e)) in
+        let all = p.rest ∙ (ap (λ k. read_lines p.before k left.1) (sym n) ∙ (ap (read_lines p.before number) lines ∙ line_refused p.before number line rest given e)) in
         ap (then_script (length (lines_of bytes))) all ∙ ap (λ w. Err (number, w)) (sym a)
 
-pub progress_done : (language : Language) (bytes : List ℕ) (left : ℕ × List (List ℕ)) (reader : Reader) (p : Progress language bytes left reader) → left.1 ≡ [] → verdict language bytes ≡ script_said left.0 p.before
+pub progress_done : (bytes : List ℕ) (left : ℕ × List (List ℕ)) (reader : Reader) (p : Progress bytes left reader) → left.1 ≡ [] → verdict bytes ≡ script_said left.0 p.before
 unfolding verdict
-progress_done language bytes left reader p none =
-    let all = p.rest ∙ (ap (read_lines language p.before (left.0 + 1)) none ∙ no_line language p.before (left.0 + 1)) in
+progress_done bytes left reader p none =
+    let all = p.rest ∙ (ap (read_lines p.before (left.0 + 1)) none ∙ no_line p.before (left.0 + 1)) in
     let count : length (lines_of bytes) ≡ left.0 = omega (arith, p.count, ap length none) in
     ap (then_script (length (lines_of bytes))) all ∙ ap (λ n. script_said n p.before) count

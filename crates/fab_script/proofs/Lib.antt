@@ -3,7 +3,7 @@ pub mod HoldsLemmas
 pub mod GrammarLemmas
 pub mod ReaderLemmas
 pub mod KeptLemmas
-pub mod BuiltLemmas
+pub mod SizeLemmas
 pub mod Payloads
 pub mod BindingLemmas
 mod Worked

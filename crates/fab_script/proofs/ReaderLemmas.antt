@@ -7,7 +7,6 @@ use Rattle.fab_base.specs.declared.status.Why.{Why}
 use Rattle.fab_base.specs.declared.status.Why.TheVariants as why
 use Rattle.fab_words.specs.declared.fault.Fault.{Fault}
 use Rattle.fab_words.specs.declared.fault.Fault.TheVariants.{Words, Number, Limit}
-use Rattle.fab_grammar.specs.declared.language.Language.{Language}
 use Rattle.fab_words.specs.Rows.{is_text, words_of}
 use Rattle.fab_script.specs.declared.reader.Reader.{Reader}
 use Rattle.fab_script.specs.declared.refused.Refused.{Refused}
@@ -141,6 +140,6 @@ setting_answer before number verb args setting reader result closed unset said l
     rw (none, said) answer
 
 -- a line of text, by its words
-pub line_answer : (language : Language) (before : Before) (number : ℕ) (line : List ℕ) (words : List (List ℕ)) (reader : Reader) (result : Result (Unit {0}) Refused) → is_text line ≡ true → words_of line ≡ words → Answers (first_of (word_rules language before number words)) (with_words before number words) reader result → Answers (why_of language before number line) (with_line before number line) reader result
+pub line_answer : (before : Before) (number : ℕ) (line : List ℕ) (words : List (List ℕ)) (reader : Reader) (result : Result (Unit {0}) Refused) → is_text line ≡ true → words_of line ≡ words → Answers (first_of (word_rules before number words)) (with_words before number words) reader result → Answers (why_of before number line) (with_line before number line) reader result
 unfolding why_of with_line
-line_answer language before number line words reader result text e answer = rw (text, e) answer
+line_answer before number line words reader result text e answer = rw (text, e) answer

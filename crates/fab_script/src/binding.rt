@@ -4,7 +4,6 @@ ghost use Rattle.std.specs.List.{filter_map, reduce};
 ghost use Rattle.fab_base.specs.declared.script.BytesWord.TheVariants.{File as FileWord};
 ghost use Rattle.fab_grammar.specs.Grammar.{verdict};
 ghost use Rattle.fab_grammar.specs.Rules.{has_id};
-ghost use Rattle.fab_grammar.specs.declared.language.Language.{Language as AnyLanguage};
 ghost use Rattle.fab_model.specs.Replay.{payload};
 ghost use Rattle.fab_script.specs.Bound.{bytes_of, has_bytes, is_inside, lines_outside, outside, IsSound};
 ghost use Rattle.fab_script.specs.Refused.{IsScript, IsRefusal};
@@ -114,7 +113,7 @@ pub fn bind(script: Script, files: Vec<Buf>) -> Result<Bound, ParseRefused>
     ensures bound { IfOk result (λ b. b ≡ record { script = script; files = files.items }) }
     ensures inside { IfOk result (λ b. outside script files.items ≡ None) }
     ensures refused { IfErr result (λ e. IsScript e × IsRefusal e (outside script files.items)) }
-    ensures sound { (language : AnyLanguage) (text : List ℕ) → verdict language text ≡ Ok script → IfOk result IsSound }
+    ensures sound { (text : List ℕ) → verdict text ≡ Ok script → IfOk result IsSound }
 {
     let first = first_of_all(script.payloads.as_slice(), &files, script.peers.as_slice());
     if let Some(line) = first {

@@ -1,17 +1,14 @@
 //! From the bytes of a file to its script.
-ghost use Rattle.std.specs.Prelude.{◌≡◌, ◌≤◌, true, Some, None, map, IfOk, IfErr};
-ghost use Rattle.fab_grammar.specs.Built.{all_built};
+ghost use Rattle.std.specs.Prelude.{◌≡◌, ◌≤◌, Some, None, map, IfOk, IfErr};
 ghost use Rattle.fab_grammar.specs.Before.{Before};
 ghost use Rattle.fab_grammar.specs.Grammar.{script_with, script_said, verdict, script_of, refusal_of};
 ghost use Rattle.fab_script.specs.Parts.{Holds};
 ghost use Rattle.fab_script.specs.Refused.{IsScript, IsRefusal, IsVerdict};
-ghost use Rattle.fab_grammar.specs.declared.language.Language.TheVariants.{Built};
 
 use crate::parts::Parts;
 use crate::reader::Reader;
 use crate::refused::{ParseRefused, Refused};
 use fab_base::{Conf, Line, List, NoMemory, Payload, Script, Why};
-use fab_grammar::Language;
 use fab_info::getinfo;
 use fab_words::Lines;
 use std::alloc::Global;
@@ -23,21 +20,19 @@ pub fn parse(alloc: Global, bytes: &[u8]) -> Result<Script, ParseRefused>
     ensures script { IfOk result (λ script. script_of bytes.now ≡ Some script) }
     ensures refused { IfErr result (λ e. IsScript e → script_of bytes.now ≡ None) }
     ensures reason { IfErr result (λ e. IsRefusal e (refusal_of bytes.now)) }
-    ensures built { IfOk result (λ script. all_built script.peers ≡ true) }
     ensures sized { IfOk result (λ script. (2 ≤ script.conf.info.cq) × (4 ≤ script.conf.info.log)) }
 {
-    read(alloc, Language::Built, bytes)
+    read(alloc, bytes)
 }
 
-/// Reads a script whose lines are of this language (docs/SCRIPT.md): [`parse`] reads those that are carried out today.
-/// An `Err` that is not `NoMemory` names the first line that breaks a rule, and the first rule that it breaks.
-pub fn read(alloc: Global, language: Language, bytes: &[u8]) -> Result<Script, ParseRefused>
-    ensures { IsVerdict (verdict language bytes.now) result }
+/// The verdict of the grammar on a text, line by line.
+fn read(alloc: Global, bytes: &[u8]) -> Result<Script, ParseRefused>
+    ensures { IsVerdict (verdict bytes.now) result }
 {
     let mut reader = Reader::new(alloc);
     let mut lines = Lines::new(bytes);
     while let Some((number, line)) = lines.next() {
-        match reader.take(alloc, language, number, line) {
+        match reader.take(alloc, number, line) {
             Ok(()) => {}
             Err(Refused::Why(why)) => return Err(ParseRefused::Script { line: number, why }),
             Err(Refused::NoMemory) => return Err(ParseRefused::NoMemory),

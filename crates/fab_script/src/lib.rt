@@ -1,9 +1,8 @@
 //! Scripts: from the bytes of a file to the lines of each peer.
 //!
-//! [`parse`] reads a text by the grammar of docs/SCRIPT.md, as far as its lines are carried out today. The grammar
-//! itself is in the crate `fab_grammar`, and [`read`] takes its whole language. The code goes over the text once, line by line. [`bind`] puts a script
-//! and its payload files together, and [`lines`] gives the lines of a peer with their bytes. [`print`], of the crate
-//! `fab_print`, writes a script such that it reads again.
+//! [`parse`] reads a text by the grammar of docs/SCRIPT.md, which is in the crate `fab_grammar`. It goes over the text
+//! once, line by line. [`bind`] puts a script and its payload files together, and [`lines`] gives the lines of a peer
+//! with their bytes. [`print`], of the crate `fab_print`, writes a script such that it reads again.
 #![tactic(auto)]
 
 mod binding;
@@ -16,5 +15,5 @@ mod refused;
 pub use binding::bind;
 pub use bound_lines::lines;
 pub use fab_print::print;
-pub use grammar::{parse, read};
+pub use grammar::parse;
 pub use refused::ParseRefused;

@@ -10,14 +10,11 @@ ghost use Rattle.fab_grammar.specs.Lines.{op_of};
 ghost use Rattle.fab_grammar.specs.Verbs.{verb_of};
 ghost use Rattle.fab_base.specs.declared.status.Why.TheVariants.{Limit};
 ghost use Rattle.fab_script.specs.declared.refused.Refused.TheVariants.{Why as Because};
-ghost use Rattle.fab_grammar.specs.declared.language.Language.{Language};
 
 use crate::parts::Parts;
 use crate::refused::Refused;
 use fab_base::{Line, Payload, Why};
-use fab_grammar::{
-    Kind, Language, Setting, Settings, Verb, asking, read_op, read_peer, read_setting,
-};
+use fab_grammar::{Kind, Setting, Settings, Verb, asking, read_op, read_peer, read_setting};
 use fab_info::getinfo;
 use fab_words::{Fault, Words, all_text, is, number};
 use std::alloc::Global;
@@ -52,15 +49,9 @@ impl Reader {
 
     /// Takes a line, or says which rule it breaks.
     #[tactic(auto, unfolding(fab_grammar::specs::Rules::why_of, fab_grammar::specs::Rules::with_line))]
-    pub(crate) fn take(
-        &mut self,
-        alloc: Global,
-        language: Language,
-        number: u32,
-        line: &[u8],
-    ) -> Result<(), Refused>
+    pub(crate) fn take(&mut self, alloc: Global, number: u32, line: &[u8]) -> Result<(), Refused>
         ensures { (before : Before) → Holds self.old before →
-            Answers (why_of language before number line.now) (with_line before number line.now) self.new result }
+            Answers (why_of before number line.now) (with_line before number line.now) self.new result }
     {
         if !all_text(line) {
             return Err(Refused::Why(Why::NotText));
@@ -68,17 +59,15 @@ impl Reader {
         let mut words = Words::of_line(line);
         match words.next() {
             None => in_time(number),
-            Some(word) if self.has_header => self.take_line(
-                alloc, language, number, word, &mut words,
-            ),
+            Some(word) if self.has_header => self.take_line(alloc, number, word, &mut words),
             Some(word) => self.take_header(number, word, &mut words),
         }
     }
 
     /// Takes the header.
     fn take_header(&mut self, number: u32, word: &[u8], args: &mut Words) -> Result<(), Refused>
-        ensures { (before : Before) → Holds self.old before → before.has_header ≡ false → (language : Language) →
-            Answers (first_of (word_rules language before number (word.now ∷ args.old))) (with_words before number (word.now ∷ args.old)) self.new result }
+        ensures { (before : Before) → Holds self.old before → before.has_header ≡ false →
+            Answers (first_of (word_rules before number (word.now ∷ args.old))) (with_words before number (word.now ∷ args.old)) self.new result }
     {
         if !is_header(word, args) {
             return Err(Refused::Why(Why::Header));
@@ -92,20 +81,16 @@ impl Reader {
     fn take_line(
         &mut self,
         alloc: Global,
-        language: Language,
         number: u32,
         word: &[u8],
         args: &mut Words,
     ) -> Result<(), Refused>
         ensures { (before : Before) → Holds self.old before →
-            Answers (first_of (verb_rules language before number (verb_of word.now) args.old)) (with_verb before number (verb_of word.now) args.old) self.new result }
+            Answers (first_of (verb_rules before number (verb_of word.now) args.old)) (with_verb before number (verb_of word.now) args.old) self.new result }
     {
         let Some(verb) = Verb::of(word) else {
             return Err(Refused::Why(Why::Verb));
         };
-        if !language.has(verb) {
-            return Err(Refused::Why(Why::Unbuilt));
-        }
         match verb.kind() {
             Kind::Setting => self.take_setting(alloc, number, verb, args),
             Kind::Peer => self.take_peer(number, args),

@@ -1,5 +1,5 @@
 //! Which line is named whose bytes are not there, and the lines of a script with their bytes.
-use crate::asking::whole;
+use crate::asking::said;
 use fab_base::{Bound, Buf, BytesWord, Line, LineOp, Why};
 use fab_script::{ParseRefused, bind, lines};
 use std::alloc::Global;
@@ -15,9 +15,9 @@ fn files_of(alloc: Global, count: usize, bytes: &[u8]) -> Result<Vec<Buf>, Fail>
     Ok(files)
 }
 
-/// Reads a script of the whole language, and binds it to as many files of 5 bytes as it has payloads.
+/// Reads a script, and binds it to as many files of 5 bytes as it has payloads.
 fn bind_text(alloc: Global, text: &[u8]) -> Result<Result<Bound, ParseRefused>, Fail> {
-    let script = whole(alloc, text)?;
+    let script = said(alloc, text)?;
     let files = files_of(alloc, script.payloads.as_slice().len(), b"abcde")?;
     if files.len() != script.payloads.as_slice().len() {
         return Err("a file for each payload".into());

@@ -1,5 +1,5 @@
 //! Limits of texts, of lines and of bytes: what is just within them, and one more.
-use crate::asking::{ONE, built, ending_in, is_built, is_whole};
+use crate::asking::{ONE, ending_in, is_judged, said};
 use fab_base::Why;
 use std::alloc::Global;
 use std::process::Abort;
@@ -19,13 +19,13 @@ fn send_of(alloc: Global, len: usize) -> Result<Vec<u8>, Fail> {
 #[test]
 fn long_text(rt: HostRuntime) -> Result<(), Fail> {
     let longer = send_of(rt.alloc(), 4097)?;
-    let script = built(rt.alloc(), &longer)?;
+    let script = said(rt.alloc(), &longer)?;
     assert_eq!(rt; script.peers.as_slice().len(), 1);
     Ok(())
 }
 
-/// A text of the whole language that sends this many bytes, each written by this text.
-fn whole_send_of(alloc: Global, front: &[u8], byte: &[u8], len: usize) -> Result<Vec<u8>, Fail> {
+/// A text that sends this many bytes, each written by this text.
+fn send_of_each(alloc: Global, front: &[u8], byte: &[u8], len: usize) -> Result<Vec<u8>, Fail> {
     let mut text = Vec::from_slice(alloc, ONE)?;
     text.extend_from_slice(b"send 1 0 ")?;
     text.extend_from_slice(front)?;
@@ -40,10 +40,10 @@ fn whole_send_of(alloc: Global, front: &[u8], byte: &[u8], len: usize) -> Result
 fn most_bytes_of_a_word(rt: HostRuntime) -> Result<(), Fail> {
     let table: [(&[u8], &[u8]); 2] = [(b"text:", b"a"), (b"hex:", b"6a")];
     for (front, byte) in table {
-        let mut text = whole_send_of(rt.alloc(), front, byte, 33_554_432)?;
-        is_whole(&rt, rt.alloc(), &text, None);
+        let mut text = send_of_each(rt.alloc(), front, byte, 33_554_432)?;
+        is_judged(&rt, rt.alloc(), &text, None);
         text.extend_from_slice(byte)?;
-        is_whole(&rt, rt.alloc(), &text, Some((4, Why::Limit)));
+        is_judged(&rt, rt.alloc(), &text, Some((4, Why::Limit)));
     }
     Ok(())
 }
@@ -60,9 +60,9 @@ take 1 1
 fetch 1 0 1 0 FI_ATOMIC_READ u64 *4194304
 ",
     )?;
-    is_whole(&rt, rt.alloc(), &text, None);
+    is_judged(&rt, rt.alloc(), &text, None);
     text.extend_from_slice(b"mrecv 1 * 1\n")?;
-    is_whole(&rt, rt.alloc(), &text, Some((9, Why::Limit)));
+    is_judged(&rt, rt.alloc(), &text, Some((9, Why::Limit)));
     Ok(())
 }
 
@@ -70,9 +70,9 @@ fetch 1 0 1 0 FI_ATOMIC_READ u64 *4194304
 fn sum_of_bytes(rt: HostRuntime) -> Result<(), Fail> {
     let mut text = Vec::from_slice(rt.alloc(), ONE)?;
     text.extend_from_slice(b"trecv 1 * 7 0 33554432\ntrecv 2 * 7 0 33554432\n")?;
-    is_built(&rt, rt.alloc(), &text, None);
+    is_judged(&rt, rt.alloc(), &text, None);
     text.extend_from_slice(b"tsend 3 0 7 text:a\n")?;
-    is_built(&rt, rt.alloc(), &text, Some((6, Why::Limit)));
+    is_judged(&rt, rt.alloc(), &text, Some((6, Why::Limit)));
     Ok(())
 }
 
@@ -89,11 +89,11 @@ fn lines_of(alloc: Global, count: usize) -> Result<Vec<u8>, Fail> {
 #[test]
 fn number_of_lines(rt: HostRuntime) -> Result<(), Fail> {
     let mut text = lines_of(rt.alloc(), 100_000)?;
-    is_built(&rt, rt.alloc(), &text, None);
+    is_judged(&rt, rt.alloc(), &text, None);
     text.push(b' ')?;
-    is_built(&rt, rt.alloc(), &text, Some((100_001, Why::Limit)));
+    is_judged(&rt, rt.alloc(), &text, Some((100_001, Why::Limit)));
     text.extend_from_slice(b"jump")?;
-    is_built(&rt, rt.alloc(), &text, Some((100_001, Why::Verb)));
+    is_judged(&rt, rt.alloc(), &text, Some((100_001, Why::Verb)));
     Ok(())
 }
 
@@ -112,7 +112,7 @@ fn reasons_beyond_the_last_line(rt: HostRuntime) -> Result<(), Fail> {
     }
     for (line, why) in table {
         let text = ending_in(rt.alloc(), &lines, line)?;
-        is_whole(&rt, rt.alloc(), &text, Some((100_001, why)));
+        is_judged(&rt, rt.alloc(), &text, Some((100_001, why)));
     }
     Ok(())
 }
@@ -124,7 +124,7 @@ fn many_lines(rt: HostRuntime) -> Result<(), Fail> {
     for _ in 3..100_000 {
         text.extend_from_slice(b"tsend 1 0 7 text:abc\n")?;
     }
-    let script = built(rt.alloc(), &text)?;
+    let script = said(rt.alloc(), &text)?;
     let peers = script.peers.as_slice();
     assert_eq!(rt; peers.len(), 1);
     assert_eq!(rt; peers[0].as_slice().len(), 99_997);
@@ -138,8 +138,8 @@ fn number_of_payloads(rt: HostRuntime) -> Result<(), Fail> {
     for id in 10..74 {
         text.extend_from_slice(format!(in rt.alloc(); "payload {id} f\n")?.as_bytes())?;
     }
-    is_whole(&rt, rt.alloc(), &text, None);
+    is_judged(&rt, rt.alloc(), &text, None);
     text.extend_from_slice(b"payload 9 f\n")?;
-    is_whole(&rt, rt.alloc(), &text, Some((67, Why::Limit)));
+    is_judged(&rt, rt.alloc(), &text, Some((67, Why::Limit)));
     Ok(())
 }

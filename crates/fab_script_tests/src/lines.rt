@@ -1,6 +1,6 @@
 //! One line after the opening of a peer: which are read, and for which reason the others are refused. And the lines
 //! and settings of the manual.
-use crate::asking::{ONE, ending_in, is_built, is_whole};
+use crate::asking::{ONE, ending_in, is_judged};
 use fab_base::Why;
 use std::alloc::Global;
 use std::process::Abort;
@@ -9,29 +9,20 @@ use std::test::Fail;
 /// A line, and why it is refused.
 type Row = (&'static [u8], Option<Why>);
 
-/// Lines are read or refused as their rows say, where the language is the built one. Each is the fourth of its script.
-fn are_built(rt: &impl Abort, alloc: Global, rows: &[Row]) -> Result<(), Fail> {
+/// Lines are read or refused as their rows say. Each is the fourth of its script.
+fn are_judged(rt: &impl Abort, alloc: Global, rows: &[Row]) -> Result<(), Fail> {
     for (line, why) in rows {
         let text = ending_in(alloc, ONE, line)?;
-        is_built(rt, alloc, &text, why.map(|why| (4, why)));
+        is_judged(rt, alloc, &text, why.map(|why| (4, why)));
     }
     Ok(())
 }
 
-/// The same, where the language is the whole one.
-fn are_whole(rt: &impl Abort, alloc: Global, rows: &[Row]) -> Result<(), Fail> {
-    for (line, why) in rows {
-        let text = ending_in(alloc, ONE, line)?;
-        is_whole(rt, alloc, &text, why.map(|why| (4, why)));
-    }
-    Ok(())
-}
-
-/// Lines after this front are carried out.
+/// Lines after this front are read.
 fn are_read(rt: &impl Abort, alloc: Global, front: &[u8], lines: &[&[u8]]) -> Result<(), Fail> {
     for line in lines {
         let text = ending_in(alloc, front, line)?;
-        is_built(rt, alloc, &text, None);
+        is_judged(rt, alloc, &text, None);
     }
     Ok(())
 }
@@ -61,8 +52,8 @@ const WAITS: [Row; 20] = [
 ];
 
 #[test]
-fn waits_that_are_carried_out(rt: HostRuntime) -> Result<(), Fail> {
-    are_built(&rt, rt.alloc(), &WAITS)
+fn judged_waits(rt: HostRuntime) -> Result<(), Fail> {
+    are_judged(&rt, rt.alloc(), &WAITS)
 }
 
 /// Other lines.
@@ -98,19 +89,8 @@ const LINES: [Row; 28] = [
 ];
 
 #[test]
-fn lines_that_are_carried_out(rt: HostRuntime) -> Result<(), Fail> {
-    are_built(&rt, rt.alloc(), &LINES)
-}
-
-/// The kind of lines that is not carried out yet.
-const UNBUILT: [Row; 2] = [
-    (b"mrecv 1 * 4096\n", Some(Why::Unbuilt)),
-    (b"mrecv 1 * 4096 min=256\n", Some(Why::Unbuilt)),
-];
-
-#[test]
-fn lines_that_are_not_built(rt: HostRuntime) -> Result<(), Fail> {
-    are_built(&rt, rt.alloc(), &UNBUILT)
+fn judged_lines(rt: HostRuntime) -> Result<(), Fail> {
+    are_judged(&rt, rt.alloc(), &LINES)
 }
 
 /// Sends.
@@ -149,8 +129,8 @@ const SENDS: [Row; 28] = [
 ];
 
 #[test]
-fn sends_of_the_whole_language(rt: HostRuntime) -> Result<(), Fail> {
-    are_whole(&rt, rt.alloc(), &SENDS)
+fn judged_sends(rt: HostRuntime) -> Result<(), Fail> {
+    are_judged(&rt, rt.alloc(), &SENDS)
 }
 
 /// Receives, and what is done with unexpected messages.
@@ -177,8 +157,8 @@ const RECEIVES: [Row; 19] = [
 ];
 
 #[test]
-fn receives_of_the_whole_language(rt: HostRuntime) -> Result<(), Fail> {
-    are_whole(&rt, rt.alloc(), &RECEIVES)
+fn judged_receives(rt: HostRuntime) -> Result<(), Fail> {
+    are_judged(&rt, rt.alloc(), &RECEIVES)
 }
 
 /// Atomics.
@@ -213,8 +193,8 @@ const ATOMICS: [Row; 21] = [
 ];
 
 #[test]
-fn atomics_of_the_whole_language(rt: HostRuntime) -> Result<(), Fail> {
-    are_whole(&rt, rt.alloc(), &ATOMICS)
+fn judged_atomics(rt: HostRuntime) -> Result<(), Fail> {
+    are_judged(&rt, rt.alloc(), &ATOMICS)
 }
 
 /// All other kinds of lines.
@@ -244,12 +224,12 @@ const OTHERS: [Row; 22] = [
 ];
 
 #[test]
-fn other_lines_of_the_whole_language(rt: HostRuntime) -> Result<(), Fail> {
-    are_whole(&rt, rt.alloc(), &OTHERS)
+fn judged_other_lines(rt: HostRuntime) -> Result<(), Fail> {
+    are_judged(&rt, rt.alloc(), &OTHERS)
 }
 
-/// The lines of docs/SCRIPT.md that are carried out.
-const MANUAL: [Row; 27] = [
+/// The lines on messages of docs/SCRIPT.md.
+const MANUAL: [Row; 29] = [
     (b"send 1 0 text:hello", None),
     (b"send 1 0 hex:68656C6c6f", None),
     (b"send 1 0 zero:8", None),
@@ -275,6 +255,8 @@ const MANUAL: [Row; 27] = [
     (b"recv 1 * 16", None),
     (b"recv 1 0 16", None),
     (b"trecv 1 0 7 0 16", None),
+    (b"mrecv 1 * 4096", None),
+    (b"mrecv 1 * 4096 min=256", None),
     (b"peek 1 * 7 0", None),
     (b"claim 1 * 7 0", None),
     (b"discard 1 * 7 0", None),
@@ -287,7 +269,7 @@ const MANUAL: [Row; 27] = [
 
 #[test]
 fn messages_of_the_manual(rt: HostRuntime) -> Result<(), Fail> {
-    are_built(&rt, rt.alloc(), &MANUAL)
+    are_judged(&rt, rt.alloc(), &MANUAL)
 }
 
 /// Its other lines.

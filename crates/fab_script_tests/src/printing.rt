@@ -1,14 +1,14 @@
 //! Scripts that are read, printed and read again.
-use crate::asking::{built, is_text, whole};
+use crate::asking::{is_text, said};
 use fab_base::Text;
 use fab_script::print;
 use std::alloc::Global;
 use std::process::Abort;
 use std::test::Fail;
 
-/// The text that is printed of what a text of the whole language says.
+/// The text that is printed of what a text says.
 fn print_again(alloc: Global, text: &[u8]) -> Result<Text, Fail> {
-    let script = whole(alloc, text)?;
+    let script = said(alloc, text)?;
     let printed = print(alloc, &script);
     drop(script);
     Ok(printed?)
@@ -179,17 +179,9 @@ fn printed_texts(rt: HostRuntime) -> Result<(), Fail> {
     Ok(())
 }
 
-/// The text that is printed of what a text of lines that are carried out says.
-fn print_built(alloc: Global, text: &[u8]) -> Result<Text, Fail> {
-    let script = built(alloc, text)?;
-    let printed = print(alloc, &script);
-    drop(script);
-    Ok(printed?)
-}
-
-/// What is carried out stays what is carried out.
+/// What is printed reads again.
 #[test]
-fn printed_in_the_built_language(rt: HostRuntime) -> Result<(), Fail> {
+fn printed_scripts_read_again(rt: HostRuntime) -> Result<(), Fail> {
     let text = b"fabric 1
 peers 2
 peer 1
@@ -198,10 +190,10 @@ peer 0
 trecv 1 * 7 0 16
 wait 1
 ";
-    let printed = print_built(rt.alloc(), text)?;
-    let again = print_built(rt.alloc(), printed.as_str().as_bytes())?;
+    let printed = print_again(rt.alloc(), text)?;
+    let again = print_again(rt.alloc(), printed.as_str().as_bytes())?;
     is_text(&rt, again.as_str(), printed.as_str());
-    let script = built(rt.alloc(), again.as_str().as_bytes())?;
+    let script = said(rt.alloc(), again.as_str().as_bytes())?;
     assert_eq!(rt; script.peers.as_slice().len(), 2);
     Ok(())
 }

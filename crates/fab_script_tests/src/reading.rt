@@ -1,5 +1,5 @@
 //! Scripts that are read: their lines, their settings and what is granted.
-use crate::asking::{ONE, built, ending_in, whole};
+use crate::asking::{ONE, ending_in, said};
 use fab_base::{BytesWord, Caps, Info, Level, Line, LineOp, Script};
 use std::process::Abort;
 use std::test::Fail;
@@ -59,7 +59,7 @@ fn two_peers<'a>(rt: &impl Abort, script: &'a Script) -> (&'a [Line], &'a [Line]
 fn one_message(rt: HostRuntime) -> Result<(), Fail> {
     let text =
         b"fabric 1\npeers 2\npeer 0\ntrecv 1 * 7 0 16\nwait 1\npeer 1\ntsend 2 0 7 text:hello\n";
-    let script = built(rt.alloc(), text)?;
+    let script = said(rt.alloc(), text)?;
     assert_eq!(rt; script.version, 1);
     assert!(rt; script.payloads.as_slice().is_empty());
     let (first, second) = two_peers(&rt, &script);
@@ -87,7 +87,7 @@ fn are_the_defaults(rt: &impl Abort, info: &Info) {
 
 #[test]
 fn sizes_are_the_defaults(rt: HostRuntime) -> Result<(), Fail> {
-    let script = built(rt.alloc(), b"fabric 1\npeers 32\n")?;
+    let script = said(rt.alloc(), b"fabric 1\npeers 32\n")?;
     let conf = &script.conf;
     assert_eq!(rt; conf.peers, 32);
     assert!(rt; !conf.selective);
@@ -105,7 +105,7 @@ fn sizes_are_the_defaults(rt: HostRuntime) -> Result<(), Fail> {
 fn spaces_empty_lines_and_order_of_peers(rt: HostRuntime) -> Result<(), Fail> {
     let text =
         b"\n  # remark \n fabric\t1 \r\n\npeers 0x2\n\n peer 1\nwait 18446744073709551615\n\npeer  0\n  tsend 00 4294967295 0 text:";
-    let script = built(rt.alloc(), text)?;
+    let script = said(rt.alloc(), text)?;
     let (first, second) = two_peers(&rt, &script);
     assert_eq!(rt; first.len(), 1);
     assert!(rt; is_tsend(&first[0], 11, (0, 4_294_967_295, 0), b""));
@@ -118,7 +118,7 @@ fn spaces_empty_lines_and_order_of_peers(rt: HostRuntime) -> Result<(), Fail> {
 fn settings_and_their_info(rt: HostRuntime) -> Result<(), Fail> {
     let text =
         b"fabric 1\ncaps FI_TAGGED,FI_SEND\ncq 2\npeers 3\ntx 5\npayload 9 name\nselective\n";
-    let script = whole(rt.alloc(), text)?;
+    let script = said(rt.alloc(), text)?;
     let info = script.conf.info;
     assert_eq!(rt; (info.peers, info.lane, info.tx, info.cq), (3, 64, 5, 2));
     assert!(rt; info.caps.tagged && info.caps.send && !info.caps.recv && !info.caps.msg);
@@ -148,7 +148,7 @@ fn values_of(line: Option<&Line>) -> Option<&[u8]> {
 #[test]
 fn elements_of_an_atomic(rt: HostRuntime) -> Result<(), Fail> {
     let text = ending_in(rt.alloc(), ONE, b"atomic 1 0 1 0 FI_SUM i16 -2,300\n")?;
-    let script = whole(rt.alloc(), &text)?;
+    let script = said(rt.alloc(), &text)?;
     let lines = script.peers.as_slice().first();
     let line = lines.and_then(|lines| lines.as_slice().first());
     let bytes: &[u8] = b"\xfe\xff\x2c\x01";

@@ -1,5 +1,5 @@
 //! Texts that are refused, and the line and the reason that is named.
-use crate::asking::{is_built, is_whole};
+use crate::asking::is_judged;
 use fab_base::Why;
 use std::alloc::Global;
 use std::process::Abort;
@@ -7,22 +7,16 @@ use std::process::Abort;
 /// A text, and the line and the reason for which it is refused. None: it is read.
 type Row = (&'static [u8], Option<(u32, Why)>);
 
-fn are_built(rt: &impl Abort, alloc: Global, rows: &[Row]) {
+fn are_judged(rt: &impl Abort, alloc: Global, rows: &[Row]) {
     for (text, refused) in rows {
-        is_built(rt, alloc, text, *refused);
+        is_judged(rt, alloc, text, *refused);
     }
 }
 
-fn are_whole(rt: &impl Abort, alloc: Global, rows: &[Row]) {
-    for (text, refused) in rows {
-        is_whole(rt, alloc, text, *refused);
-    }
-}
-
-/// Texts of lines that are carried out.
+/// Texts.
 const TEXTS: [Row; 27] = [
     (b"fabric 1\njump hex:61\n", Some((2, Why::Verb))),
-    (b"fabric 1\nmrecv 1 * 4\n", Some((2, Why::Unbuilt))),
+    (b"fabric 1\nmrecv 1 * 4\n", Some((2, Why::Order))),
     (
         b"fabric 1\npeers 1\npeer 0\npayload 1 a\n",
         Some((4, Why::Order)),
@@ -61,7 +55,7 @@ const TEXTS: [Row; 27] = [
 
 #[test]
 fn refused_texts(rt: HostRuntime) {
-    are_built(&rt, rt.alloc(), &TEXTS);
+    are_judged(&rt, rt.alloc(), &TEXTS);
 }
 
 /// The refusals of docs/SCRIPT.md that no other table has.
@@ -83,7 +77,7 @@ const MANUAL: [Row; 4] = [
 
 #[test]
 fn refusals_of_the_manual(rt: HostRuntime) {
-    are_built(&rt, rt.alloc(), &MANUAL);
+    are_judged(&rt, rt.alloc(), &MANUAL);
 }
 
 /// Each reason at the least text that has it, and where another reason would come later.
@@ -115,7 +109,7 @@ const REASONS: [Row; 20] = [
 
 #[test]
 fn reasons_in_their_order(rt: HostRuntime) {
-    are_whole(&rt, rt.alloc(), &REASONS);
+    are_judged(&rt, rt.alloc(), &REASONS);
 }
 
 /// Limits of settings, and capabilities.
@@ -150,5 +144,5 @@ const SETTINGS: [Row; 17] = [
 
 #[test]
 fn reasons_of_settings(rt: HostRuntime) {
-    are_whole(&rt, rt.alloc(), &SETTINGS);
+    are_judged(&rt, rt.alloc(), &SETTINGS);
 }

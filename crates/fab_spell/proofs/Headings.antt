@@ -11,30 +11,18 @@ use Rattle.fab_words.specs.declared.fault.Fault.TheVariants.{Limit}
 use Rattle.fab_words.specs.Faults.{◌&◌, map_ok}
 use Rattle.fab_words.specs.Words.{read_number, read_text}
 use Rattle.fab_words.specs.Written.{is_word}
-use Rattle.fab_grammar.specs.declared.language.Language.{Language}
-use Rattle.fab_grammar.specs.declared.language.Language.TheVariants.{Built, Whole}
 use Rattle.fab_grammar.specs.declared.settings.Setting.{Setting}
-use Rattle.fab_grammar.specs.declared.settings.Setting.TheVariants.{Peers, Wish, Capabilities, Selective, File}
-use Rattle.fab_grammar.specs.declared.verbs.Kind.TheVariants as kind
+use Rattle.fab_grammar.specs.declared.settings.Setting.TheVariants.{Peers, Wish, Capabilities, Selective}
 use Rattle.fab_grammar.specs.declared.verbs.Verb.{Verb}
 use Rattle.fab_grammar.specs.declared.verbs.Verb.TheVariants as verb
 use Rattle.fab_grammar.specs.Capabilities.{caps_of}
-use Rattle.fab_grammar.specs.Language.{is_built}
 use Rattle.fab_grammar.specs.Settings.{between, size_of, caps_setting, selective_setting, a_file, payload_setting, wish_of, setting_of}
-use Rattle.fab_grammar.specs.Verbs.{kind_of}
 use Rattle.fab_grammar.proofs.PartLemmas.{and_true}
-use Rattle.fab_spell.specs.Headings.{caps_word, size_verb, setting_verb, setting_args, SettingRead, SettingAgain}
+use Rattle.fab_spell.specs.Headings.{caps_word, SettingRead, SettingAgain}
 use Rattle.fab_spell.proofs.Decimals.{read_number_again}
 use Rattle.fab_spell.proofs.Numbers.{is_word-decimal}
 use Rattle.fab_spell.proofs.Said.{text_said}
-use Rattle.fab_spell.proofs.BuiltLines.{whole_built}
 use Rattle.fab_spell.proofs.CapsNames.{caps_again}
-
--- what holds of the written line in each language
-record Spelled (s : Setting) : Type 0 where
-  kind : kind_of (setting_verb s) ≡ kind.Setting
-  words : list_all is_word (setting_args s) ≡ true
-  reads : setting_of (setting_verb s) (setting_args s) ≡ Ok s
 
 alone : (word : List ℕ) → is_word word ≡ true → list_all is_word (word ∷ []) ≡ true
 alone word e = and_from (is_word word) true e refl
@@ -77,7 +65,7 @@ both_said (Ok a) (Err g) p e = cc
 both_said (Err f) (Ok b) p e = cc
 both_said (Err f) (Err g) p e = cc
 
-file_again : (id name : List ℕ) (p : ℕ × List ℕ) → list_all is_word (id ∷ name ∷ []) ≡ true → (read_number id & read_text name) ≡ Ok p → Spelled (a_file p)
+file_again : (id name : List ℕ) (p : ℕ × List ℕ) → list_all is_word (id ∷ name ∷ []) ≡ true → (read_number id & read_text name) ≡ Ok p → SettingAgain (a_file p)
 unfolding setting_of payload_setting
 file_again id name p words e =
     let said = both_said (read_number id) (read_text name) p e in
@@ -93,72 +81,72 @@ file_again id name p words e =
 
 -- each setting
 
-peers_spelled : (args : List (List ℕ)) (s : Setting) → map_ok Peers (size_of size.Peers args) ≡ Ok s → Spelled s
+peers_spelled : (args : List (List ℕ)) (s : Setting) → map_ok Peers (size_of size.Peers args) ≡ Ok s → SettingAgain s
 unfolding setting_of wish_of
 peers_spelled args s e =
     let made = made_of Peers (size_of size.Peers args) s e in
     let again = size_again size.Peers args made.0 made.1 in
-    subst Spelled made.2 (record { kind = refl; words = again.words; reads = ap (map_ok Peers) again.reads })
+    subst SettingAgain made.2 (record { kind = refl; words = again.words; reads = ap (map_ok Peers) again.reads })
 
-lane_spelled : (args : List (List ℕ)) (s : Setting) → map_ok (Wish size.Lane) (size_of size.Lane args) ≡ Ok s → Spelled s
+lane_spelled : (args : List (List ℕ)) (s : Setting) → map_ok (Wish size.Lane) (size_of size.Lane args) ≡ Ok s → SettingAgain s
 unfolding setting_of wish_of
 lane_spelled args s e =
     let made = made_of (Wish size.Lane) (size_of size.Lane args) s e in
     let again = size_again size.Lane args made.0 made.1 in
-    subst Spelled made.2 (record { kind = refl; words = again.words; reads = ap (map_ok (Wish size.Lane)) again.reads })
+    subst SettingAgain made.2 (record { kind = refl; words = again.words; reads = ap (map_ok (Wish size.Lane)) again.reads })
 
-pool_spelled : (args : List (List ℕ)) (s : Setting) → map_ok (Wish size.Pool) (size_of size.Pool args) ≡ Ok s → Spelled s
+pool_spelled : (args : List (List ℕ)) (s : Setting) → map_ok (Wish size.Pool) (size_of size.Pool args) ≡ Ok s → SettingAgain s
 unfolding setting_of wish_of
 pool_spelled args s e =
     let made = made_of (Wish size.Pool) (size_of size.Pool args) s e in
     let again = size_again size.Pool args made.0 made.1 in
-    subst Spelled made.2 (record { kind = refl; words = again.words; reads = ap (map_ok (Wish size.Pool)) again.reads })
+    subst SettingAgain made.2 (record { kind = refl; words = again.words; reads = ap (map_ok (Wish size.Pool)) again.reads })
 
-tx_spelled : (args : List (List ℕ)) (s : Setting) → map_ok (Wish size.Tx) (size_of size.Tx args) ≡ Ok s → Spelled s
+tx_spelled : (args : List (List ℕ)) (s : Setting) → map_ok (Wish size.Tx) (size_of size.Tx args) ≡ Ok s → SettingAgain s
 unfolding setting_of wish_of
 tx_spelled args s e =
     let made = made_of (Wish size.Tx) (size_of size.Tx args) s e in
     let again = size_again size.Tx args made.0 made.1 in
-    subst Spelled made.2 (record { kind = refl; words = again.words; reads = ap (map_ok (Wish size.Tx)) again.reads })
+    subst SettingAgain made.2 (record { kind = refl; words = again.words; reads = ap (map_ok (Wish size.Tx)) again.reads })
 
-rx_spelled : (args : List (List ℕ)) (s : Setting) → map_ok (Wish size.Rx) (size_of size.Rx args) ≡ Ok s → Spelled s
+rx_spelled : (args : List (List ℕ)) (s : Setting) → map_ok (Wish size.Rx) (size_of size.Rx args) ≡ Ok s → SettingAgain s
 unfolding setting_of wish_of
 rx_spelled args s e =
     let made = made_of (Wish size.Rx) (size_of size.Rx args) s e in
     let again = size_again size.Rx args made.0 made.1 in
-    subst Spelled made.2 (record { kind = refl; words = again.words; reads = ap (map_ok (Wish size.Rx)) again.reads })
+    subst SettingAgain made.2 (record { kind = refl; words = again.words; reads = ap (map_ok (Wish size.Rx)) again.reads })
 
-cq_spelled : (args : List (List ℕ)) (s : Setting) → map_ok (Wish size.Cq) (size_of size.Cq args) ≡ Ok s → Spelled s
+cq_spelled : (args : List (List ℕ)) (s : Setting) → map_ok (Wish size.Cq) (size_of size.Cq args) ≡ Ok s → SettingAgain s
 unfolding setting_of wish_of
 cq_spelled args s e =
     let made = made_of (Wish size.Cq) (size_of size.Cq args) s e in
     let again = size_again size.Cq args made.0 made.1 in
-    subst Spelled made.2 (record { kind = refl; words = again.words; reads = ap (map_ok (Wish size.Cq)) again.reads })
+    subst SettingAgain made.2 (record { kind = refl; words = again.words; reads = ap (map_ok (Wish size.Cq)) again.reads })
 
-caps_spelled : (args : List (List ℕ)) (s : Setting) → caps_setting args ≡ Ok s → Spelled s
+caps_spelled : (args : List (List ℕ)) (s : Setting) → caps_setting args ≡ Ok s → SettingAgain s
 unfolding setting_of caps_setting
 caps_spelled [] s e = cc
 caps_spelled (word ∷ []) s e =
     let made = made_of Capabilities (caps_of word) s e in
     let again = caps_again word made.0 made.1 in
-    subst Spelled made.2 (record { kind = refl; words = alone (caps_word made.0) again.1; reads = ap (map_ok Capabilities) again.0 })
+    subst SettingAgain made.2 (record { kind = refl; words = alone (caps_word made.0) again.1; reads = ap (map_ok Capabilities) again.0 })
 caps_spelled (word ∷ next ∷ more) s e = cc
 
-selective_spelled : (args : List (List ℕ)) (s : Setting) → selective_setting args ≡ Ok s → Spelled s
+selective_spelled : (args : List (List ℕ)) (s : Setting) → selective_setting args ≡ Ok s → SettingAgain s
 unfolding setting_of selective_setting
-selective_spelled [] s e = let same : Selective ≡ s = cc in subst Spelled same (record { kind = refl; words = refl; reads = refl })
+selective_spelled [] s e = let same : Selective ≡ s = cc in subst SettingAgain same (record { kind = refl; words = refl; reads = refl })
 selective_spelled (word ∷ more) s e = cc
 
-payload_spelled : (args : List (List ℕ)) (s : Setting) → list_all is_word args ≡ true → payload_setting args ≡ Ok s → Spelled s
+payload_spelled : (args : List (List ℕ)) (s : Setting) → list_all is_word args ≡ true → payload_setting args ≡ Ok s → SettingAgain s
 unfolding payload_setting
 payload_spelled [] s words e = cc
 payload_spelled (id ∷ []) s words e = cc
 payload_spelled (id ∷ name ∷ []) s words e =
     let made = made_of a_file (read_number id & read_text name) s e in
-    subst Spelled made.2 (file_again id name made.0 words made.1)
+    subst SettingAgain made.2 (file_again id name made.0 words made.1)
 payload_spelled (id ∷ name ∷ next ∷ more) s words e = cc
 
-spelled : (verb : Verb) (args : List (List ℕ)) (s : Setting) → list_all is_word args ≡ true → setting_of verb args ≡ Ok s → Spelled s
+spelled : (verb : Verb) (args : List (List ℕ)) (s : Setting) → list_all is_word args ≡ true → setting_of verb args ≡ Ok s → SettingAgain s
 unfolding setting_of wish_of
 spelled verb.Peers args s words e = peers_spelled args s e
 spelled verb.Lane args s words e = lane_spelled args s e
@@ -171,29 +159,5 @@ spelled verb.Selective args s words e = selective_spelled args s e
 spelled verb.Payload args s words e = payload_spelled args s words e
 spelled _ args s words e = cc
 
--- the language
-
-size_built : (size : Size) → is_built Built (size_verb size) ≡ true
-unfolding is_built
-size_built size.Lane = refl
-size_built size.Pool = refl
-size_built size.Tx = refl
-size_built size.Rx = refl
-size_built size.Cq = refl
-size_built size = refl
-
-setting_built : (s : Setting) → is_built Built (setting_verb s) ≡ true
-unfolding is_built
-setting_built (Peers n) = refl
-setting_built (Wish size n) = size_built size
-setting_built (Capabilities caps) = refl
-setting_built Selective = refl
-setting_built (File payload) = refl
-
-pub setting_again : (language : Language) (s : Setting) → SettingRead language s → SettingAgain language s
-setting_again Whole s read =
-    let again = spelled read.verb read.args s read.words read.reads in
-    record { kind = again.kind; words = again.words; built = whole_built (setting_verb s); reads = again.reads }
-setting_again Built s read =
-    let again = spelled read.verb read.args s read.words read.reads in
-    record { kind = again.kind; words = again.words; built = setting_built s; reads = again.reads }
+pub setting_again : (s : Setting) → SettingRead s → SettingAgain s
+setting_again s read = spelled read.verb read.args s read.words read.reads

@@ -1,5 +1,4 @@
 pub mod Blanks
-pub mod BuiltLines
 pub mod ByteWords
 pub mod CapsNames
 pub mod CapsText
@@ -17,5 +16,4 @@ pub mod Receives
 pub mod Remote
 pub mod Said
 pub mod Sends
-pub mod Spelt
 mod Worked

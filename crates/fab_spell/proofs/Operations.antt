@@ -3,22 +3,17 @@ use Rattle.std.proofs.Common.{◌≡◌, ℕ, true, List}
 use Rattle.std.specs.Prelude.{Ok}
 use Rattle.std.specs.List.{list_all}
 use Rattle.fab_base.specs.declared.script.LineOp.{LineOp}
-use Rattle.fab_grammar.specs.declared.language.Language.{Language}
-use Rattle.fab_grammar.specs.declared.language.Language.TheVariants.{Built, Whole}
 use Rattle.fab_grammar.specs.declared.verbs.Verb.{Verb}
 use Rattle.fab_grammar.specs.declared.verbs.Verb.TheVariants as verb
 use Rattle.fab_grammar.specs.Lines.{op_of}
 use Rattle.fab_words.specs.Written.{is_word}
 use Rattle.fab_spell.specs.Again.{WasRead, Again}
-use Rattle.fab_spell.specs.Spelling.{verb_for}
-use Rattle.fab_spell.proofs.BuiltLines.{built_again, whole_built}
 use Rattle.fab_spell.proofs.Own.{reg_spelt, close_spelt, put_spelt, show_spelt, insert_spelt, remove_spelt, wait_spelt, count_spelt, reach_spelt}
 use Rattle.fab_spell.proofs.Receives.{recv_spelt, trecv_spelt, mrecv_spelt, peek_spelt, claim_spelt, discard_spelt, take_spelt, drop_spelt, cancel_spelt}
 use Rattle.fab_spell.proofs.Remote.{read_spelt, write_spelt, winject_spelt, atomic_spelt, fetch_spelt, compare_spelt}
 use Rattle.fab_spell.proofs.Sends.{send_spelt, tsend_spelt, inject_spelt, tinject_spelt}
-use Rattle.fab_spell.proofs.Spelt.{Spelt}
 
-op_spelt : (verb : Verb) (args : List (List ℕ)) (op : LineOp) → list_all is_word args ≡ true → op_of verb args ≡ Ok op → Spelt op
+op_spelt : (verb : Verb) (args : List (List ℕ)) (op : LineOp) → list_all is_word args ≡ true → op_of verb args ≡ Ok op → Again op
 unfolding op_of
 op_spelt verb.Send args op are e = send_spelt args op are e
 op_spelt verb.TSend args op are e = tsend_spelt args op are e
@@ -50,10 +45,5 @@ op_spelt verb.Count args op are e = count_spelt args op e
 op_spelt verb.Reach args op are e = reach_spelt args op e
 op_spelt _ args op are e = cc
 
-pub op_again : (language : Language) (op : LineOp) → WasRead language op → Again language op
-op_again Whole op was =
-    let spelt = op_spelt was.verb was.args op was.words was.reads in
-    record { kind = spelt.call; words = spelt.words; built = whole_built (verb_for op); reads = spelt.reads }
-op_again Built op was =
-    let spelt = op_spelt was.verb was.args op was.words was.reads in
-    record { kind = spelt.call; words = spelt.words; built = built_again was.verb was.args op was.built was.reads; reads = spelt.reads }
+pub op_again : (op : LineOp) → WasRead op → Again op
+op_again op was = op_spelt was.verb was.args op was.words was.reads

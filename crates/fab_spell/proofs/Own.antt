@@ -20,7 +20,7 @@ use Rattle.fab_spell.proofs.Numbers.{is_word-decimal, any-decimal}
 use Rattle.fab_spell.proofs.Receives.{number_line_again}
 use Rattle.fab_spell.proofs.Said.{both_said, said_by, said_if}
 use Rattle.fab_spell.proofs.Sends.{first_word, other_words}
-use Rattle.fab_spell.proofs.Spelt.{Spelt}
+use Rattle.fab_spell.specs.Again.{Again}
 
 -- ---- regions
 right_again : (read write : Bool) → (read_rights (right_word read write) ≡ Ok (rights read write)) × (is_word (right_word read write) ≡ true)
@@ -30,7 +30,7 @@ right_again true false = (refl, refl)
 right_again false true = (refl, refl)
 right_again false false = (refl, refl)
 
-pub reg_spelt : (args : List (List ℕ)) (op : LineOp) → list_all is_word args ≡ true → reg_of args ≡ Ok op → Spelt op
+pub reg_spelt : (args : List (List ℕ)) (op : LineOp) → list_all is_word args ≡ true → reg_of args ≡ Ok op → Again op
 unfolding reg_of op_of verb_for args_for
 reg_spelt (key ∷ access ∷ bytes ∷ []) op are e =
     let said = said_by a_reg (read_number key & read_rights access & read_bytes bytes) op e in
@@ -39,14 +39,14 @@ reg_spelt (key ∷ access ∷ bytes ∷ []) op are e =
     let two = both_said (read_number key) (read_rights access) p.0 all.0 in
     let again = bytes_again bytes p.1 (first_word bytes [] (other_words access (bytes ∷ []) (other_words key (access ∷ bytes ∷ []) are))) all.1 in
     let right = right_again p.0.1.remote_read p.0.1.remote_write in
-    subst Spelt said.2 (record {
-      call = refl;
+    subst Again said.2 (record {
+      kind = refl;
       words = rw (is_word-decimal p.0.0, right.1, again.word) refl;
       reads = rw (read_number_again key p.0.0 two.0, right.0, again.reads) refl;
     })
 reg_spelt _ op are e = cc
 
-pub put_spelt : (args : List (List ℕ)) (op : LineOp) → list_all is_word args ≡ true → put_of args ≡ Ok op → Spelt op
+pub put_spelt : (args : List (List ℕ)) (op : LineOp) → list_all is_word args ≡ true → put_of args ≡ Ok op → Again op
 unfolding put_of op_of verb_for args_for
 put_spelt (key ∷ at ∷ bytes ∷ []) op are e =
     let said = said_by a_put (read_number key & read_number at & read_bytes bytes) op e in
@@ -54,24 +54,24 @@ put_spelt (key ∷ at ∷ bytes ∷ []) op are e =
     let all = both_said (read_number key & read_number at) (read_bytes bytes) p said.1 in
     let two = both_said (read_number key) (read_number at) p.0 all.0 in
     let again = bytes_again bytes p.1 (first_word bytes [] (other_words at (bytes ∷ []) (other_words key (at ∷ bytes ∷ []) are))) all.1 in
-    subst Spelt said.2 (record {
-      call = refl;
+    subst Again said.2 (record {
+      kind = refl;
       words = rw (is_word-decimal p.0.0, is_word-decimal p.0.1, again.word) refl;
       reads = rw (read_number_again key p.0.0 two.0, read_number_again at p.0.1 two.1, again.reads) refl;
     })
 put_spelt _ op are e = cc
 
-pub close_spelt : (args : List (List ℕ)) (op : LineOp) → map_ok Close (number_line args) ≡ Ok op → Spelt op
+pub close_spelt : (args : List (List ℕ)) (op : LineOp) → map_ok Close (number_line args) ≡ Ok op → Again op
 unfolding op_of verb_for args_for
 close_spelt args op e =
     let said = said_by Close (number_line args) op e in
-    subst Spelt said.2 (record { call = refl; words = rw (is_word-decimal said.0) refl; reads = ap (map_ok Close) (number_line_again args said.0 said.1) })
+    subst Again said.2 (record { kind = refl; words = rw (is_word-decimal said.0) refl; reads = ap (map_ok Close) (number_line_again args said.0 said.1) })
 
-pub show_spelt : (args : List (List ℕ)) (op : LineOp) → map_ok Show (number_line args) ≡ Ok op → Spelt op
+pub show_spelt : (args : List (List ℕ)) (op : LineOp) → map_ok Show (number_line args) ≡ Ok op → Again op
 unfolding op_of verb_for args_for
 show_spelt args op e =
     let said = said_by Show (number_line args) op e in
-    subst Spelt said.2 (record { call = refl; words = rw (is_word-decimal said.0) refl; reads = ap (map_ok Show) (number_line_again args said.0 said.1) })
+    subst Again said.2 (record { kind = refl; words = rw (is_word-decimal said.0) refl; reads = ap (map_ok Show) (number_line_again args said.0 said.1) })
 
 -- ---- the address vector
 text_again : (word text : List ℕ) → read_text word ≡ Ok text → (word ≡ text) × (read_text text ≡ Ok text)
@@ -81,40 +81,40 @@ text_again word text e =
     let same : word ≡ text = cc (said.1) in
     (same, subst (λ w. cond (is_utf8 w) (Ok w) (Err Words) ≡ Ok w) same (rw said.0 refl))
 
-pub insert_spelt : (args : List (List ℕ)) (op : LineOp) → list_all is_word args ≡ true → insert_of args ≡ Ok op → Spelt op
+pub insert_spelt : (args : List (List ℕ)) (op : LineOp) → list_all is_word args ≡ true → insert_of args ≡ Ok op → Again op
 unfolding insert_of op_of verb_for args_for
 insert_spelt (name ∷ []) op are e =
     let said = said_by Insert (read_text name) op e in
     let text = text_again name said.0 said.1 in
-    subst Spelt said.2 (record {
-      call = refl;
+    subst Again said.2 (record {
+      kind = refl;
       words = subst (λ w. list_all is_word (w ∷ []) ≡ true) text.0 are;
       reads = ap (map_ok Insert) text.1;
     })
 insert_spelt _ op are e = cc
 
-pub remove_spelt : (args : List (List ℕ)) (op : LineOp) → remove_of args ≡ Ok op → Spelt op
+pub remove_spelt : (args : List (List ℕ)) (op : LineOp) → remove_of args ≡ Ok op → Again op
 unfolding remove_of op_of verb_for args_for
 remove_spelt (index ∷ []) op e =
     let said = said_by Remove (read_index index) op e in
-    subst Spelt said.2 (record { call = refl; words = rw (is_word-decimal said.0) refl; reads = ap (map_ok Remove) (read_index_again index said.0 said.1) })
+    subst Again said.2 (record { kind = refl; words = rw (is_word-decimal said.0) refl; reads = ap (map_ok Remove) (read_index_again index said.0 said.1) })
 remove_spelt _ op e = cc
 
 -- ---- completions
-wait_said : (any : Bool) (ctx : List ℕ) (op : LineOp) → cond any (Ok (Wait None)) (map_ok (λ n. Wait (Some n)) (read_number ctx)) ≡ Ok op → Spelt op
+wait_said : (any : Bool) (ctx : List ℕ) (op : LineOp) → cond any (Ok (Wait None)) (map_ok (λ n. Wait (Some n)) (read_number ctx)) ≡ Ok op → Again op
 unfolding wait_of op_of verb_for args_for
 wait_said true ctx op e =
     let same : Wait None ≡ op = cc in
-    subst Spelt same (record { call = refl; words = refl; reads = refl })
+    subst Again same (record { kind = refl; words = refl; reads = refl })
 wait_said false ctx op e =
     let said = said_by (λ n. Wait (Some n)) (read_number ctx) op e in
-    subst Spelt said.2 (record {
-      call = refl;
+    subst Again said.2 (record {
+      kind = refl;
       words = rw (is_word-decimal said.0) refl;
       reads = rw (any-decimal said.0, read_number_again ctx said.0 said.1) refl;
     })
 
-pub wait_spelt : (args : List (List ℕ)) (op : LineOp) → wait_of args ≡ Ok op → Spelt op
+pub wait_spelt : (args : List (List ℕ)) (op : LineOp) → wait_of args ≡ Ok op → Again op
 unfolding wait_of
 wait_spelt (ctx ∷ []) op e = wait_said (bytes_eq ctx (codes "*")) ctx op e
 wait_spelt _ op e = cc
@@ -129,23 +129,23 @@ class_again class.Write = (refl, refl)
 class_again class.RemoteRead = (refl, refl)
 class_again class.RemoteWrite = (refl, refl)
 
-pub count_spelt : (args : List (List ℕ)) (op : LineOp) → count_of args ≡ Ok op → Spelt op
+pub count_spelt : (args : List (List ℕ)) (op : LineOp) → count_of args ≡ Ok op → Again op
 unfolding count_of op_of verb_for args_for
 count_spelt (word ∷ []) op e =
     let said = said_by Count (read_class word) op e in
     let again = class_again said.0 in
-    subst Spelt said.2 (record { call = refl; words = rw (again.1) refl; reads = ap (map_ok Count) again.0 })
+    subst Again said.2 (record { kind = refl; words = rw (again.1) refl; reads = ap (map_ok Count) again.0 })
 count_spelt _ op e = cc
 
-pub reach_spelt : (args : List (List ℕ)) (op : LineOp) → reach_of args ≡ Ok op → Spelt op
+pub reach_spelt : (args : List (List ℕ)) (op : LineOp) → reach_of args ≡ Ok op → Again op
 unfolding reach_of op_of verb_for args_for
 reach_spelt (word ∷ n ∷ []) op e =
     let said = said_by a_reach (read_class word & read_number n) op e in
     let p = said.0 in
     let all = both_said (read_class word) (read_number n) p said.1 in
     let again = class_again p.0 in
-    subst Spelt said.2 (record {
-      call = refl;
+    subst Again said.2 (record {
+      kind = refl;
       words = rw (again.1, is_word-decimal p.1) refl;
       reads = rw (again.0, read_number_again n p.1 all.1) refl;
     })

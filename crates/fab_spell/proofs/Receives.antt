@@ -13,23 +13,23 @@ use Rattle.fab_spell.proofs.Decimals.{read_number_again, read_len_again}
 use Rattle.fab_spell.proofs.Numbers.{is_word-decimal, is_word-source, source_again}
 use Rattle.fab_spell.proofs.Optional.{options_said, min_again, multi_options, are_words-min}
 use Rattle.fab_spell.proofs.Said.{both_said, said_by}
-use Rattle.fab_spell.proofs.Spelt.{Spelt}
+use Rattle.fab_spell.specs.Again.{Again}
 
-pub recv_spelt : (args : List (List ℕ)) (op : LineOp) → recv_of args ≡ Ok op → Spelt op
+pub recv_spelt : (args : List (List ℕ)) (op : LineOp) → recv_of args ≡ Ok op → Again op
 unfolding recv_of op_of verb_for args_for
 recv_spelt (ctx ∷ source ∷ len ∷ []) op e =
     let said = said_by a_recv (read_number ctx & read_source source & read_len len) op e in
     let p = said.0 in
     let all = both_said (read_number ctx & read_source source) (read_len len) p said.1 in
     let two = both_said (read_number ctx) (read_source source) p.0 all.0 in
-    subst Spelt said.2 (record {
-      call = refl;
+    subst Again said.2 (record {
+      kind = refl;
       words = rw (is_word-decimal p.0.0, is_word-source p.0.1, is_word-decimal p.1) refl;
       reads = rw (read_number_again ctx p.0.0 two.0, source_again source p.0.1 two.1, read_len_again len p.1 all.1) refl;
     })
 recv_spelt _ op e = cc
 
-pub trecv_spelt : (args : List (List ℕ)) (op : LineOp) → trecv_of args ≡ Ok op → Spelt op
+pub trecv_spelt : (args : List (List ℕ)) (op : LineOp) → trecv_of args ≡ Ok op → Again op
 unfolding trecv_of op_of verb_for args_for
 trecv_spelt (ctx ∷ source ∷ tag ∷ ignore ∷ len ∷ []) op e =
     let said = said_by a_trecv (read_number ctx & read_source source & read_number tag & read_number ignore & read_len len) op e in
@@ -38,14 +38,14 @@ trecv_spelt (ctx ∷ source ∷ tag ∷ ignore ∷ len ∷ []) op e =
     let four = both_said (read_number ctx & read_source source & read_number tag) (read_number ignore) p.0 all.0 in
     let three = both_said (read_number ctx & read_source source) (read_number tag) p.0.0 four.0 in
     let two = both_said (read_number ctx) (read_source source) p.0.0.0 three.0 in
-    subst Spelt said.2 (record {
-      call = refl;
+    subst Again said.2 (record {
+      kind = refl;
       words = rw (is_word-decimal p.0.0.0.0, is_word-source p.0.0.0.1, is_word-decimal p.0.0.1, is_word-decimal p.0.1, is_word-decimal p.1) refl;
       reads = rw (read_number_again ctx p.0.0.0.0 two.0, source_again source p.0.0.0.1 two.1, read_number_again tag p.0.0.1 three.1, read_number_again ignore p.0.1 four.1, read_len_again len p.1 all.1) refl;
     })
 trecv_spelt _ op e = cc
 
-pub mrecv_spelt : (args : List (List ℕ)) (op : LineOp) → mrecv_of args ≡ Ok op → Spelt op
+pub mrecv_spelt : (args : List (List ℕ)) (op : LineOp) → mrecv_of args ≡ Ok op → Again op
 unfolding mrecv_of op_of verb_for args_for
 mrecv_spelt (ctx ∷ source ∷ len ∷ options) op e =
     let said = said_by an_mrecv (read_number ctx & read_source source & read_len len & read_options for_multi options) op e in
@@ -54,8 +54,8 @@ mrecv_spelt (ctx ∷ source ∷ len ∷ options) op e =
     let three = both_said (read_number ctx & read_source source) (read_len len) p.0 all.0 in
     let two = both_said (read_number ctx) (read_source source) p.0.0 three.0 in
     let min = min_again options p.1 (options_said for_multi options p.1 all.1) in
-    subst Spelt said.2 (record {
-      call = refl;
+    subst Again said.2 (record {
+      kind = refl;
       words = rw (is_word-decimal p.0.0.0, is_word-source p.0.0.1, is_word-decimal p.0.1) (are_words-min p.1.min);
       reads = rw (read_number_again ctx p.0.0.0 two.0, source_again source p.0.0.1 two.1, read_len_again len p.0.1 three.1, multi_options p.1.min min) refl;
     })
@@ -71,48 +71,48 @@ look_said (ctx ∷ source ∷ tag ∷ ignore ∷ []) p e =
     rw (read_number_again ctx p.0.0.0 two.0, source_again source p.0.0.1 two.1, read_number_again tag p.0.1 three.1, read_number_again ignore p.1 all.1) refl
 look_said _ p e = cc
 
-pub peek_spelt : (args : List (List ℕ)) (op : LineOp) → map_ok a_peek (look_of args) ≡ Ok op → Spelt op
+pub peek_spelt : (args : List (List ℕ)) (op : LineOp) → map_ok a_peek (look_of args) ≡ Ok op → Again op
 unfolding op_of verb_for args_for
 peek_spelt args op e =
     let said = said_by a_peek (look_of args) op e in
     let p = said.0 in
-    subst Spelt said.2 (record {
-      call = refl;
+    subst Again said.2 (record {
+      kind = refl;
       words = rw (is_word-decimal p.0.0.0, is_word-source p.0.0.1, is_word-decimal p.0.1, is_word-decimal p.1) refl;
       reads = ap (map_ok a_peek) (look_said args p said.1);
     })
 
-pub claim_spelt : (args : List (List ℕ)) (op : LineOp) → map_ok a_claim (look_of args) ≡ Ok op → Spelt op
+pub claim_spelt : (args : List (List ℕ)) (op : LineOp) → map_ok a_claim (look_of args) ≡ Ok op → Again op
 unfolding op_of verb_for args_for
 claim_spelt args op e =
     let said = said_by a_claim (look_of args) op e in
     let p = said.0 in
-    subst Spelt said.2 (record {
-      call = refl;
+    subst Again said.2 (record {
+      kind = refl;
       words = rw (is_word-decimal p.0.0.0, is_word-source p.0.0.1, is_word-decimal p.0.1, is_word-decimal p.1) refl;
       reads = ap (map_ok a_claim) (look_said args p said.1);
     })
 
-pub discard_spelt : (args : List (List ℕ)) (op : LineOp) → map_ok a_discard (look_of args) ≡ Ok op → Spelt op
+pub discard_spelt : (args : List (List ℕ)) (op : LineOp) → map_ok a_discard (look_of args) ≡ Ok op → Again op
 unfolding op_of verb_for args_for
 discard_spelt args op e =
     let said = said_by a_discard (look_of args) op e in
     let p = said.0 in
-    subst Spelt said.2 (record {
-      call = refl;
+    subst Again said.2 (record {
+      kind = refl;
       words = rw (is_word-decimal p.0.0.0, is_word-source p.0.0.1, is_word-decimal p.0.1, is_word-decimal p.1) refl;
       reads = ap (map_ok a_discard) (look_said args p said.1);
     })
 
 -- ---- claimed messages
-pub take_spelt : (args : List (List ℕ)) (op : LineOp) → take_of args ≡ Ok op → Spelt op
+pub take_spelt : (args : List (List ℕ)) (op : LineOp) → take_of args ≡ Ok op → Again op
 unfolding take_of op_of verb_for args_for
 take_spelt (ctx ∷ len ∷ []) op e =
     let said = said_by a_take (read_number ctx & read_len len) op e in
     let p = said.0 in
     let all = both_said (read_number ctx) (read_len len) p said.1 in
-    subst Spelt said.2 (record {
-      call = refl;
+    subst Again said.2 (record {
+      kind = refl;
       words = rw (is_word-decimal p.0, is_word-decimal p.1) refl;
       reads = rw (read_number_again ctx p.0 all.0, read_len_again len p.1 all.1) refl;
     })
@@ -123,14 +123,14 @@ unfolding number_line
 number_line_again (word ∷ []) n e = read_number_again word n e
 number_line_again _ n e = cc
 
-pub drop_spelt : (args : List (List ℕ)) (op : LineOp) → map_ok DropClaimed (number_line args) ≡ Ok op → Spelt op
+pub drop_spelt : (args : List (List ℕ)) (op : LineOp) → map_ok DropClaimed (number_line args) ≡ Ok op → Again op
 unfolding op_of verb_for args_for
 drop_spelt args op e =
     let said = said_by DropClaimed (number_line args) op e in
-    subst Spelt said.2 (record { call = refl; words = rw (is_word-decimal said.0) refl; reads = ap (map_ok DropClaimed) (number_line_again args said.0 said.1) })
+    subst Again said.2 (record { kind = refl; words = rw (is_word-decimal said.0) refl; reads = ap (map_ok DropClaimed) (number_line_again args said.0 said.1) })
 
-pub cancel_spelt : (args : List (List ℕ)) (op : LineOp) → map_ok Cancel (number_line args) ≡ Ok op → Spelt op
+pub cancel_spelt : (args : List (List ℕ)) (op : LineOp) → map_ok Cancel (number_line args) ≡ Ok op → Again op
 unfolding op_of verb_for args_for
 cancel_spelt args op e =
     let said = said_by Cancel (number_line args) op e in
-    subst Spelt said.2 (record { call = refl; words = rw (is_word-decimal said.0) refl; reads = ap (map_ok Cancel) (number_line_again args said.0 said.1) })
+    subst Again said.2 (record { kind = refl; words = rw (is_word-decimal said.0) refl; reads = ap (map_ok Cancel) (number_line_again args said.0 said.1) })

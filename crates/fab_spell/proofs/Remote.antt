@@ -26,7 +26,7 @@ use Rattle.fab_spell.proofs.Numbers.{is_word-decimal}
 use Rattle.fab_spell.proofs.Optional.{options_said, imm_again, inject_options, write_options, atomic_options, are_words-imm, are_words-completion, are_words-append}
 use Rattle.fab_spell.proofs.Said.{both_said, said_by}
 use Rattle.fab_spell.proofs.Sends.{first_word, other_words}
-use Rattle.fab_spell.proofs.Spelt.{Spelt}
+use Rattle.fab_spell.specs.Again.{Again}
 
 target_again : (dest key at : List ℕ) (p : (ℕ × ℕ) × ℕ) → read_target dest key at ≡ Ok p → read_target (decimal p.0.0) (decimal p.0.1) (decimal p.1) ≡ Ok p
 unfolding read_target
@@ -41,21 +41,21 @@ remote_again ctx dest key at p e =
     let two = both_said (read_number ctx) (read_target dest key at) p e in
     rw (read_number_again ctx p.0 two.0, target_again dest key at p.1 two.1) refl
 
-pub read_spelt : (args : List (List ℕ)) (op : LineOp) → read_of args ≡ Ok op → Spelt op
+pub read_spelt : (args : List (List ℕ)) (op : LineOp) → read_of args ≡ Ok op → Again op
 unfolding read_of op_of verb_for args_for
 read_spelt (ctx ∷ dest ∷ key ∷ at ∷ len ∷ []) op e =
     let said = said_by a_read (read_number ctx & read_target dest key at & read_len len) op e in
     let p = said.0 in
     let all = both_said (read_number ctx & read_target dest key at) (read_len len) p said.1 in
     let two = both_said (read_number ctx) (read_target dest key at) p.0 all.0 in
-    subst Spelt said.2 (record {
-      call = refl;
+    subst Again said.2 (record {
+      kind = refl;
       words = rw (is_word-decimal p.0.0, is_word-decimal p.0.1.0.0, is_word-decimal p.0.1.0.1, is_word-decimal p.0.1.1, is_word-decimal p.1) refl;
       reads = rw (read_number_again ctx p.0.0 two.0, target_again dest key at p.0.1 two.1, read_len_again len p.1 all.1) refl;
     })
 read_spelt _ op e = cc
 
-pub write_spelt : (args : List (List ℕ)) (op : LineOp) → list_all is_word args ≡ true → write_of args ≡ Ok op → Spelt op
+pub write_spelt : (args : List (List ℕ)) (op : LineOp) → list_all is_word args ≡ true → write_of args ≡ Ok op → Again op
 unfolding write_of op_of verb_for args_for
 write_spelt (ctx ∷ dest ∷ key ∷ at ∷ bytes ∷ options) op are e =
     let said = said_by a_write (read_remote ctx dest key at & read_bytes bytes & read_options for_write options) op e in
@@ -66,15 +66,15 @@ write_spelt (ctx ∷ dest ∷ key ∷ at ∷ bytes ∷ options) op are e =
     let is = first_word bytes options (other_words at (bytes ∷ options) (other_words key (at ∷ bytes ∷ options) (other_words dest (key ∷ at ∷ bytes ∷ options) (other_words ctx (dest ∷ key ∷ at ∷ bytes ∷ options) are)))) in
     let again = bytes_again bytes p.0.1 is two.1 in
     let imm = imm_again options p.1 (options_said for_write options p.1 all.1) in
-    subst Spelt said.2 (record {
-      call = refl;
+    subst Again said.2 (record {
+      kind = refl;
       words = rw (is_word-decimal r.0, is_word-decimal r.1.0.0, is_word-decimal r.1.0.1, is_word-decimal r.1.1, again.word)
           (are_words-append (imm_words p.1.imm) (completion_words p.1.completion) (are_words-imm p.1.imm) (are_words-completion p.1.completion));
       reads = rw (remote_again ctx dest key at r two.0, again.reads, write_options p.1.imm p.1.completion imm) refl;
     })
 write_spelt _ op are e = cc
 
-pub winject_spelt : (args : List (List ℕ)) (op : LineOp) → list_all is_word args ≡ true → winject_of args ≡ Ok op → Spelt op
+pub winject_spelt : (args : List (List ℕ)) (op : LineOp) → list_all is_word args ≡ true → winject_of args ≡ Ok op → Again op
 unfolding winject_of op_of verb_for args_for
 winject_spelt (dest ∷ key ∷ at ∷ bytes ∷ options) op are e =
     let said = said_by a_winject (read_target dest key at & read_bytes bytes & read_options for_inject options) op e in
@@ -85,8 +85,8 @@ winject_spelt (dest ∷ key ∷ at ∷ bytes ∷ options) op are e =
     let is = first_word bytes options (other_words at (bytes ∷ options) (other_words key (at ∷ bytes ∷ options) (other_words dest (key ∷ at ∷ bytes ∷ options) are))) in
     let again = bytes_again bytes p.0.1 is two.1 in
     let imm = imm_again options p.1 (options_said for_inject options p.1 all.1) in
-    subst Spelt said.2 (record {
-      call = refl;
+    subst Again said.2 (record {
+      kind = refl;
       words = rw (is_word-decimal r.0.0, is_word-decimal r.0.1, is_word-decimal r.1, again.word) (are_words-imm p.1.imm);
       reads = rw (target_again dest key at r two.0, again.reads, inject_options p.1.imm imm) refl;
     })
@@ -192,7 +192,7 @@ kind_same : (r : Result (AtomicOp × Num) Fault) (a b : AtomicOp × Num) → r �
 kind_same r a b e f = cc
 
 -- ---- atomics
-pub atomic_spelt : (args : List (List ℕ)) (op : LineOp) → atomic_of args ≡ Ok op → Spelt op
+pub atomic_spelt : (args : List (List ℕ)) (op : LineOp) → atomic_of args ≡ Ok op → Again op
 unfolding atomic_of read_request op_of verb_for args_for
 atomic_spelt (ctx ∷ dest ∷ key ∷ at ∷ atom ∷ num ∷ values ∷ options) op e =
     let said = said_by an_atomic (read_remote ctx dest key at & read_operand atom num values & read_options for_atomic options) op e in
@@ -202,14 +202,14 @@ atomic_spelt (ctx ∷ dest ∷ key ∷ at ∷ atom ∷ num ∷ values ∷ option
     let r = p.0.0 in
     let q = p.0.1 in
     let again = values_said q.0.0 q.0.1 values q.1 (request_said atom num values q two.1).1 in
-    subst Spelt said.2 (record {
-      call = refl;
+    subst Again said.2 (record {
+      kind = refl;
       words = rw (is_word-decimal r.0, is_word-decimal r.1.0.0, is_word-decimal r.1.0.1, is_word-decimal r.1.1, (atom_again q.0.0).1, (num_again q.0.1).1, again.alone_word) (are_words-completion p.1.completion);
       reads = rw (remote_again ctx dest key at r two.0, operand_again q.0 (operand_word q.0.0 q.0.1 q.1.0 0) (q.1.0, again.n) again.alone, atomic_options p.1.completion) refl;
     })
 atomic_spelt _ op e = cc
 
-pub fetch_spelt : (args : List (List ℕ)) (op : LineOp) → fetch_of args ≡ Ok op → Spelt op
+pub fetch_spelt : (args : List (List ℕ)) (op : LineOp) → fetch_of args ≡ Ok op → Again op
 unfolding fetch_of read_request op_of verb_for args_for
 fetch_spelt (ctx ∷ dest ∷ key ∷ at ∷ atom ∷ num ∷ values ∷ []) op e =
     let said = said_by a_fetch (read_remote ctx dest key at & read_operand atom num values) op e in
@@ -218,14 +218,14 @@ fetch_spelt (ctx ∷ dest ∷ key ∷ at ∷ atom ∷ num ∷ values ∷ []) op 
     let r = p.0 in
     let q = p.1 in
     let again = values_said q.0.0 q.0.1 values q.1 (request_said atom num values q two.1).1 in
-    subst Spelt said.2 (record {
-      call = refl;
+    subst Again said.2 (record {
+      kind = refl;
       words = rw (is_word-decimal r.0, is_word-decimal r.1.0.0, is_word-decimal r.1.0.1, is_word-decimal r.1.1, (atom_again q.0.0).1, (num_again q.0.1).1, again.fetched_word) refl;
       reads = rw (remote_again ctx dest key at r two.0, operand_again q.0 (operand_word q.0.0 q.0.1 q.1.0 q.1.1) q.1 again.fetched) refl;
     })
 fetch_spelt _ op e = cc
 
-pub compare_spelt : (args : List (List ℕ)) (op : LineOp) → compare_of args ≡ Ok op → Spelt op
+pub compare_spelt : (args : List (List ℕ)) (op : LineOp) → compare_of args ≡ Ok op → Again op
 unfolding compare_of read_request op_of verb_for args_for
 compare_spelt (ctx ∷ dest ∷ key ∷ at ∷ atom ∷ num ∷ values ∷ compares ∷ []) op e =
     let said = said_by a_compare (read_remote ctx dest key at & read_operand atom num values & read_operand atom num compares) op e in
@@ -240,8 +240,8 @@ compare_spelt (ctx ∷ dest ∷ key ∷ at ∷ atom ∷ num ∷ values ∷ compa
     let compared : read_values q.0.0 q.0.1 compares ≡ Ok p.1.1 = subst (λ (k : AtomicOp × Num). read_values k.0 k.1 compares ≡ Ok p.1.1) same second.1 in
     let again = values_said q.0.0 q.0.1 values q.1 first.1 in
     let other = values_said q.0.0 q.0.1 compares p.1.1 compared in
-    subst Spelt said.2 (record {
-      call = refl;
+    subst Again said.2 (record {
+      kind = refl;
       words = rw (is_word-decimal r.0, is_word-decimal r.1.0.0, is_word-decimal r.1.0.1, is_word-decimal r.1.1, (atom_again q.0.0).1, (num_again q.0.1).1, again.alone_word, other.alone_word) refl;
       reads = rw (remote_again ctx dest key at r two.0, operand_again q.0 (operand_word q.0.0 q.0.1 q.1.0 0) (q.1.0, again.n) again.alone, operand_again q.0 (operand_word q.0.0 q.0.1 p.1.1.0 0) (p.1.1.0, other.n) other.alone) refl;
     })

@@ -18,7 +18,7 @@ use Rattle.fab_spell.proofs.Decimals.{read_number_again, read_index_again}
 use Rattle.fab_spell.proofs.Numbers.{is_word-decimal}
 use Rattle.fab_spell.proofs.Optional.{options_said, imm_again, inject_options, send_options, are_words-imm, are_words-level, are_words-completion, are_words-append}
 use Rattle.fab_spell.proofs.Said.{both_said, said_by}
-use Rattle.fab_spell.proofs.Spelt.{Spelt}
+use Rattle.fab_spell.specs.Again.{Again}
 
 -- the words of a line are words
 pub first_word : (word : List ℕ) (words : List (List ℕ)) → list_all is_word (word ∷ words) ≡ true → is_word word ≡ true
@@ -43,7 +43,7 @@ tagged_again ctx dest tag p e =
     let two = both_said (read_to ctx dest) (read_number tag) p e in
     rw (to_again ctx dest p.0 two.0, read_number_again tag p.1 two.1) refl
 
-pub send_spelt : (args : List (List ℕ)) (op : LineOp) → list_all is_word args ≡ true → send_of args ≡ Ok op → Spelt op
+pub send_spelt : (args : List (List ℕ)) (op : LineOp) → list_all is_word args ≡ true → send_of args ≡ Ok op → Again op
 unfolding send_of op_of verb_for args_for
 send_spelt (ctx ∷ dest ∷ bytes ∷ options) op are e =
     let said = said_by a_send (read_to ctx dest & read_bytes bytes & read_options for_send options) op e in
@@ -53,14 +53,14 @@ send_spelt (ctx ∷ dest ∷ bytes ∷ options) op are e =
     let is = first_word bytes options (other_words dest (bytes ∷ options) (other_words ctx (dest ∷ bytes ∷ options) are)) in
     let again = bytes_again bytes p.0.1 is two.1 in
     let imm = imm_again options p.1 (options_said for_send options p.1 all.1) in
-    subst Spelt said.2 (record {
-      call = refl;
+    subst Again said.2 (record {
+      kind = refl;
       words = rw (is_word-decimal p.0.0.0, is_word-decimal p.0.0.1, again.word) (are_words-send p.1.imm p.1.level p.1.completion);
       reads = rw (to_again ctx dest p.0.0 two.0, again.reads, send_options p.1.imm p.1.level p.1.completion imm) refl;
     })
 send_spelt _ op are e = cc
 
-pub tsend_spelt : (args : List (List ℕ)) (op : LineOp) → list_all is_word args ≡ true → tsend_of args ≡ Ok op → Spelt op
+pub tsend_spelt : (args : List (List ℕ)) (op : LineOp) → list_all is_word args ≡ true → tsend_of args ≡ Ok op → Again op
 unfolding tsend_of op_of verb_for args_for
 tsend_spelt (ctx ∷ dest ∷ tag ∷ bytes ∷ options) op are e =
     let said = said_by a_tsend (read_tagged ctx dest tag & read_bytes bytes & read_options for_send options) op e in
@@ -70,14 +70,14 @@ tsend_spelt (ctx ∷ dest ∷ tag ∷ bytes ∷ options) op are e =
     let is = first_word bytes options (other_words tag (bytes ∷ options) (other_words dest (tag ∷ bytes ∷ options) (other_words ctx (dest ∷ tag ∷ bytes ∷ options) are))) in
     let again = bytes_again bytes p.0.1 is two.1 in
     let imm = imm_again options p.1 (options_said for_send options p.1 all.1) in
-    subst Spelt said.2 (record {
-      call = refl;
+    subst Again said.2 (record {
+      kind = refl;
       words = rw (is_word-decimal p.0.0.0.0, is_word-decimal p.0.0.0.1, is_word-decimal p.0.0.1, again.word) (are_words-send p.1.imm p.1.level p.1.completion);
       reads = rw (tagged_again ctx dest tag p.0.0 two.0, again.reads, send_options p.1.imm p.1.level p.1.completion imm) refl;
     })
 tsend_spelt _ op are e = cc
 
-pub inject_spelt : (args : List (List ℕ)) (op : LineOp) → list_all is_word args ≡ true → inject_of args ≡ Ok op → Spelt op
+pub inject_spelt : (args : List (List ℕ)) (op : LineOp) → list_all is_word args ≡ true → inject_of args ≡ Ok op → Again op
 unfolding inject_of op_of verb_for args_for
 inject_spelt (dest ∷ bytes ∷ options) op are e =
     let said = said_by an_inject (read_index dest & read_bytes bytes & read_options for_inject options) op e in
@@ -86,14 +86,14 @@ inject_spelt (dest ∷ bytes ∷ options) op are e =
     let two = both_said (read_index dest) (read_bytes bytes) p.0 all.0 in
     let again = bytes_again bytes p.0.1 (first_word bytes options (other_words dest (bytes ∷ options) are)) two.1 in
     let imm = imm_again options p.1 (options_said for_inject options p.1 all.1) in
-    subst Spelt said.2 (record {
-      call = refl;
+    subst Again said.2 (record {
+      kind = refl;
       words = rw (is_word-decimal p.0.0, again.word) (are_words-imm p.1.imm);
       reads = rw (read_index_again dest p.0.0 two.0, again.reads, inject_options p.1.imm imm) refl;
     })
 inject_spelt _ op are e = cc
 
-pub tinject_spelt : (args : List (List ℕ)) (op : LineOp) → list_all is_word args ≡ true → tinject_of args ≡ Ok op → Spelt op
+pub tinject_spelt : (args : List (List ℕ)) (op : LineOp) → list_all is_word args ≡ true → tinject_of args ≡ Ok op → Again op
 unfolding tinject_of op_of verb_for args_for
 tinject_spelt (dest ∷ tag ∷ bytes ∷ options) op are e =
     let said = said_by a_tinject (read_index dest & read_number tag & read_bytes bytes & read_options for_inject options) op e in
@@ -104,8 +104,8 @@ tinject_spelt (dest ∷ tag ∷ bytes ∷ options) op are e =
     let is = first_word bytes options (other_words tag (bytes ∷ options) (other_words dest (tag ∷ bytes ∷ options) are)) in
     let again = bytes_again bytes p.0.1 is three.1 in
     let imm = imm_again options p.1 (options_said for_inject options p.1 all.1) in
-    subst Spelt said.2 (record {
-      call = refl;
+    subst Again said.2 (record {
+      kind = refl;
       words = rw (is_word-decimal p.0.0.0, is_word-decimal p.0.0.1, again.word) (are_words-imm p.1.imm);
       reads = rw (read_index_again dest p.0.0.0 two.0, read_number_again tag p.0.0.1 two.1, again.reads, inject_options p.1.imm imm) refl;
     })

@@ -1,28 +1,24 @@
 -- An operation that a line asked for, and the line that is written for it.
---     WasRead language op      a line of this language asked for it
---     Again language op        the line that `Spelling` writes for it is of this language, and asks for it again
+--     WasRead op      a line asked for it
+--     Again op        the line that `Spelling` writes for it asks for it again
 use Rattle.std.specs.Prelude.{◌≡◌, ℕ, true, List, Ok}
 use Rattle.std.specs.List.{list_all}
 use Rattle.fab_base.specs.declared.script.LineOp.{LineOp}
 use Rattle.fab_words.specs.Written.{is_word}
-use Rattle.fab_grammar.specs.declared.language.Language.{Language}
 use Rattle.fab_grammar.specs.declared.verbs.Kind.TheVariants as kind
 use Rattle.fab_grammar.specs.declared.verbs.Verb.{Verb}
-use Rattle.fab_grammar.specs.Language.{is_built}
 use Rattle.fab_grammar.specs.Lines.{op_of}
 use Rattle.fab_grammar.specs.Verbs.{kind_of}
 use Rattle.fab_spell.specs.Spelling.{verb_for, args_for}
 
-pub record WasRead (language : Language) (op : LineOp) : Type 0 where
+pub record WasRead (op : LineOp) : Type 0 where
   pub verb : Verb
   pub args : List (List ℕ)
   pub kind : kind_of verb ≡ kind.Call
   pub words : list_all is_word args ≡ true
-  pub built : is_built language verb ≡ true
   pub reads : op_of verb args ≡ Ok op
 
-pub record Again (language : Language) (op : LineOp) : Type 0 where
+pub record Again (op : LineOp) : Type 0 where
   pub kind : kind_of (verb_for op) ≡ kind.Call
   pub words : list_all is_word (args_for op) ≡ true
-  pub built : is_built language (verb_for op) ≡ true
   pub reads : op_of (verb_for op) (args_for op) ≡ Ok op

@@ -2,8 +2,8 @@
 --     caps_word caps                       the names of the capabilities, joined by commas
 --     setting_verb s, setting_args s       the setting's verb, and the words after it
 --     setting_row s                        the whole line
---     SettingRead language s               a line of this language made the setting
---     SettingAgain language s              the line that is written for it is of this language, and makes it again
+--     SettingRead s                        a line made the setting
+--     SettingAgain s                       the line that is written for it makes it again
 use Rattle.std.specs.Prelude.{◌≡◌, ℕ, true, List, [], ◌∷◌, map, filter, decimal, Ok}
 use Rattle.std.specs.List.{list_all, join_with_byte}
 use Rattle.fab_base.specs.Granted.{has}
@@ -12,14 +12,12 @@ use Rattle.fab_base.specs.declared.limits.Size.{Size}
 use Rattle.fab_base.specs.declared.limits.Size.TheVariants as size
 use Rattle.fab_model.specs.Negotiation.{all_caps}
 use Rattle.fab_words.specs.Written.{is_word}
-use Rattle.fab_grammar.specs.declared.language.Language.{Language}
 use Rattle.fab_grammar.specs.declared.settings.Setting.{Setting}
 use Rattle.fab_grammar.specs.declared.settings.Setting.TheVariants.{Peers, Wish, Capabilities, Selective, File}
 use Rattle.fab_grammar.specs.declared.verbs.Kind.TheVariants as kind
 use Rattle.fab_grammar.specs.declared.verbs.Verb.{Verb}
 use Rattle.fab_grammar.specs.declared.verbs.Verb.TheVariants as verb
 use Rattle.fab_grammar.specs.Capabilities.{cap_name}
-use Rattle.fab_grammar.specs.Language.{is_built}
 use Rattle.fab_grammar.specs.Settings.{setting_of}
 use Rattle.fab_grammar.specs.Verbs.{name_of, kind_of}
 
@@ -55,16 +53,14 @@ setting_args (File payload) = decimal payload.id ∷ payload.name ∷ []
 abbrev pub setting_row : Setting → List (List ℕ)
 setting_row s = name_of (setting_verb s) ∷ setting_args s
 
-pub record SettingRead (language : Language) (s : Setting) : Type 0 where
+pub record SettingRead (s : Setting) : Type 0 where
   pub verb : Verb
   pub args : List (List ℕ)
   pub kind : kind_of verb ≡ kind.Setting
   pub words : list_all is_word args ≡ true
-  pub built : is_built language verb ≡ true
   pub reads : setting_of verb args ≡ Ok s
 
-pub record SettingAgain (language : Language) (s : Setting) : Type 0 where
+pub record SettingAgain (s : Setting) : Type 0 where
   pub kind : kind_of (setting_verb s) ≡ kind.Setting
   pub words : list_all is_word (setting_args s) ≡ true
-  pub built : is_built language (setting_verb s) ≡ true
   pub reads : setting_of (setting_verb s) (setting_args s) ≡ Ok s

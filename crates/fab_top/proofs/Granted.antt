@@ -8,7 +8,6 @@ use Rattle.fab_base.specs.declared.limits.Size.{Size}
 use Rattle.fab_base.specs.declared.limits.Size.TheVariants.{Peers, Lane, Pool}
 use Rattle.fab_base.specs.declared.script.Bound.{Bound}
 use Rattle.fab_base.specs.declared.script.Script.{Script}
-use Rattle.fab_grammar.specs.declared.language.Language.TheVariants.{Built}
 use Rattle.fab_grammar.specs.Grammar.{verdict, script_of}
 use Rattle.fab_model.specs.Negotiation.{is_refused, granted_info, grant_of, grant, no_hints}
 use Rattle.fab_info.specs.Negotiation.{IsWithin, number}
@@ -52,9 +51,9 @@ ok_of : {A E : Type 0} (r : Result A E) (x : A) → result_ok r ≡ Some x → r
 ok_of (Ok a) x e = cc
 ok_of (Err f) x e = cc
 
-pub said : (text : List ℕ) (script : Script) → script_of text ≡ Some script → verdict Built text ≡ Ok script
+pub said : (text : List ℕ) (script : Script) → script_of text ≡ Some script → verdict text ≡ Ok script
 unfolding script_of
-said text script e = ok_of (verdict Built text) script e
+said text script e = ok_of (verdict text) script e
 
 -- what holds of every value holds of that which a `map_err` hands on
 pub handed_on : {A E F : Type 0} (P Q : A → Type 0) (G : E → F → Type 0) → ((x : A) → P x → Q x) → (r : Result A E) (s : Result A F)

@@ -135,10 +135,10 @@ const CANCELED_REPORT: &str = "fabric 1 peers 1\n\
     trace D X R\n\
     end done\n";
 
-const UNBUILT: &str = "fabric 1\n\
+const NO_VERB: &str = "fabric 1\n\
     peers 2\n\
     peer 0\n\
-    mrecv 1 * 16\n";
+    jump 1 * 16\n";
 
 /// A depot with one file, named `it`, in which the loads of these numbers fail.
 fn depot_of(alloc: Global, bytes: Buf, failing: &[u64]) -> Result<MemoryDepot, Fail> {
@@ -298,13 +298,13 @@ fn a_failed_load_is_told_by_its_name(rt: HostRuntime) -> Result<(), Fail> {
 }
 
 #[test]
-fn a_script_of_a_line_that_is_not_built_is_refused(rt: HostRuntime) -> Result<(), Fail> {
+fn a_script_of_a_line_of_no_verb_is_refused(rt: HostRuntime) -> Result<(), Fail> {
     let words = texts_of(rt.alloc(), &["script", "it"])?;
-    let bytes = Buf::copy(rt.alloc(), UNBUILT.as_bytes())?;
+    let bytes = Buf::copy(rt.alloc(), NO_VERB.as_bytes())?;
     let mut depot = depot_of(rt.alloc(), bytes, &[])?;
     let mut sink = sink_of(rt.alloc());
     let end = end_of(&rt, rt.alloc(), &words, &mut depot, &mut sink);
-    let why = Why::Unbuilt;
+    let why = Why::Verb;
     assert!(rt; end == Status::ScriptRefused { line: 4, why });
     assert_eq!(rt; sink.calls, 0);
     Ok(())

@@ -7,8 +7,9 @@ use Rattle.fab_face.specs.Held.{IsOpen}
 use Rattle.fab_ring.specs.declared.port.RingPort.{RingPort}
 use Rattle.fab_ring.proofs.Making.{paired_more}
 use Rattle.fab_finish.proofs.Starting.{drop_more}
-use Rattle.fab_phases.specs.Phases.{seen_ring, past_at, past_with}
-use Rattle.fab_phases.proofs.Lists.{first_left, taken_more, taken_all}
+use Rattle.fab_quantum.specs.Turns.{IsCounted}
+use Rattle.fab_phases.specs.Phases.{seen_ring, past_at, past_with, living_with}
+use Rattle.fab_phases.proofs.Lists.{first_left, taken_more, taken_all, none_at}
 use Rattle.fab_phases.proofs.crossing.part_all.Goals as goal
 
 pub remove-requires : goal.remove-requires
@@ -37,8 +38,8 @@ loop-peer-preserved g c =
       ports = taken_more (map (λ x. x.peer.endpoint.port) rs) c.loop-peer.ports.items c.push-in-loop-peer.new.self.items n c.part-one.result.1 inv.ports c.in_ok-push-2.ensures.items
           (slice_get-map (λ x. x.peer.endpoint.port) rs n ∙ ap (option_map (λ x. x.peer.endpoint.port)) there ∙ ap Some (sym e.port));
       each = paired_more rs c.loop-peer.parted.items c.push.new.self.items n r w
-          (λ x y. (past_with (g.C.Machine.held y.machine) y.peer x.peer.endpoint.port ≡ past_at x.peer) × IsOpen (seen_ring x.peer.endpoint)) inv.count there c.in_ok-push.ensures.items
-          (subst (λ (p : RingPort). past_with (g.C.Machine.held w.machine) w.peer p ≡ past_at r.peer) e.port e.past, e.open) inv.each;
+          (λ x y. (past_with (g.C.Machine.held y.machine) y.peer x.peer.endpoint.port ≡ past_at x.peer) × IsOpen (seen_ring x.peer.endpoint) × IsCounted (living_with (g.C.Machine.held y.machine) y.peer)) inv.count there c.in_ok-push.ensures.items
+          (subst (λ (p : RingPort). past_with (g.C.Machine.held w.machine) w.peer p ≡ past_at r.peer) e.port e.past, e.open, e.counted (none_at (λ x. x.failed) rs n r c.requires.well there)) inv.each;
     }
 
 pub returns-clause-count : goal.returns-clause-count

@@ -1,4 +1,5 @@
-use Rattle.std.proofs.Common.{ap, ◌∙◌, ◌≡◌, [], false}
+use Rattle.std.proofs.Common.{ap, ◌∙◌, ◌≡◌, [], false, refl, sym, subst}
+use Rattle.fab_face.specs.Held.{Held}
 use Rattle.fab_face.specs.Ports.{Whole}
 use Rattle.fab_ring.specs.declared.port.RingPort.{RingPort}
 use Rattle.fab_threads.specs.Pasts.{past_of, begun}
@@ -11,3 +12,9 @@ pub returns-clause-past : goal.returns-clause-past
 returns-clause-past g c =
     let e : Whole RingPort = record { port = c.args.port; held = g.C.Machine.held c.args.machine; log = []; log_size = c.args.conf.now.info.log; pushed = false } in
     ok_then _ (λ r. past_at r.peer ≡ begun (at_start c.args.conf.now c.args.lines.items)) (λ r told. ap past_of told ∙ past_new c.args.conf.now c.args.lines.items e c.requires.start c.requires.port) c.start.result c.start.ensures.told
+
+pub start-requires-clause-multis : goal.start-requires-clause-multis
+start-requires-clause-multis g c = subst (λ (h : Held). h.multis ≡ []) (sym c.requires.start) refl
+
+pub start-requires-clause-unread : goal.start-requires-clause-unread
+start-requires-clause-unread g c = subst (λ (h : Held). h.state.cq.taken_out ≡ 0) (sym c.requires.start) refl

@@ -1,4 +1,5 @@
-use Rattle.std.proofs.Common.{◌≡◌, ◌∙◌, List, map, true, ap, refl, sym, subst}
+use Rattle.std.proofs.Common.{◌≡◌, ◌∙◌, List, map, true, false, ap, refl, sym, subst, arith}
+use Rattle.std.specs.List.{list_any}
 use Rattle.std.specs.Vec.{with_items}
 use Rattle.std.proofs.lemmas.List.{with_items_is}
 use Rattle.fab_model.specs.Calls.{upto}
@@ -77,3 +78,10 @@ returns-clause-cleared g c =
     let ended : (with_items c.in_ok-peers.peers last).items ≡ last = with_items_is c.in_ok-peers.peers last (c.finish.auto.peers ∙ c.as_mut_slice-2.ensures.len) in
     subst (λ (ps : List Member). all_done (actors ps) ≡ true → AreCleared (actors ps)) (sym ended)
     (λ done. drained_clears c.as_mut_slice-2.result.now last c.in_ok-finish.field-0 c.in_ok-finish.ensures.cleared c.in_ok-finish.ensures.stuck done conf lists first)
+
+pub cross-requires-clause-well : goal.cross-requires-clause-well
+cross-requires-clause-well g c =
+    let new = c.run_rounds.new.peers in
+    let is : (with_items c.in_ok-runners.runners new).items ≡ new = with_items_is c.in_ok-runners.runners new (c.run_rounds.auto.peers ∙ c.as_mut_slice.ensures.len) in
+    let e = c.in_ok-run_rounds.ensures in
+    subst (λ rs. list_any (λ r. r.failed) rs ≡ false) (sym is) (e.ok (e.made.1 (omega arith)))

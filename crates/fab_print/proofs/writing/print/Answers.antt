@@ -6,7 +6,7 @@ use Rattle.fab_print.proofs.Again.{reads_again}
 use Rattle.fab_print.proofs.writing.print.Goals as goal
 
 pub returns-clause-again : goal.returns-clause-again
-returns-clause-again c = λ language bytes said.
+returns-clause-again c = λ bytes said.
     let script = c.args.script.now in
     let text : c.deref.result.now ≡ printed script = c.deref.ensures ∙ (c.in_ok-add_script.ensures ∙ ap (λ front. front ++ printed script) c.new-out.ensures.bytes) in
-    IfOk-weaker c.copy.result (λ t. t ≡ c.deref.result.now) (λ t. IsSame script (verdict language t)) (λ t is. subst (λ x. IsSame script (verdict language x)) (sym (is ∙ text)) (reads_again language bytes script said)) c.copy.ensures
+    IfOk-weaker c.copy.result (λ t. t ≡ c.deref.result.now) (λ t. IsSame script (verdict t)) (λ t is. subst (λ x. IsSame script (verdict x)) (sym (is ∙ text)) (reads_again bytes script said)) c.copy.ensures

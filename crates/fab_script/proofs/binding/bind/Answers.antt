@@ -9,5 +9,5 @@ pub returns-clause-inside : goal.returns-clause-inside
 returns-clause-inside c = first_is_outside c.args.script c.args.files.items None (search rules)
 
 pub returns-clause-sound : goal.returns-clause-sound
-returns-clause-sound c = λ language text said.
-    sound_with c.args.script _ (was_read language text c.args.script said) (search rules) (first_is_outside c.args.script _ None (search rules))
+returns-clause-sound c = λ text said.
+    sound_with c.args.script _ (was_read text c.args.script said) (search rules) (first_is_outside c.args.script _ None (search rules))

@@ -31,3 +31,6 @@ pub returns-clause-ended : goal.returns-clause-ended
 returns-clause-ended g c =
     let seen = g.E.Sees.seen in
     ended_then (told seen c.args.self.now) (told seen c.receives.self) (told seen c.cancel_first.new.self) c.receives.invariant.ended c.in_ok-cancel_first.ensures.ended
+
+pub read_all-requires : goal.read_all-requires
+read_all-requires g c = record { counted = c.in_ok-cancel_first.ensures.quiet.counted }

@@ -1,6 +1,6 @@
 use Rattle.std.proofs.Common.{◌≡◌, ◌<◌, true, [], List}
 use Rattle.fab_face.specs.Acts.{Act}
-use Rattle.fab_quantum.specs.Turns.{Lived, told, is_some_act}
+use Rattle.fab_quantum.specs.Turns.{IsCounted, Lived, living_of, told, is_some_act}
 use Rattle.fab_quantum.proofs.peer.Peer.do_lines.Given as goal
 
 abbrev pub invariant-loop-round : goal.invariant-loop-round
@@ -9,6 +9,7 @@ invariant-loop-round g l =
     record {
       lived : (acts : List Act) × Lived (told seen l.fn.self) (told seen l.self) acts × (l.moved ≡ is_some_act acts);
       log : (seen l.self.endpoint).log ≡ [];
+      counted : IsCounted (living_of (told seen l.self));
       lines : l.self.lines.items ≡ l.fn.self.lines.items;
       moved : 0 < l.round → l.moved ≡ true;
     }

@@ -31,3 +31,9 @@ cancel-requires-clause-next g c =
     let found = c.in-Some.ensures.lookup in
     let count : c.len.result ≡ length c.args.self.now.results.items = search rules in
     next_by (told g.E.Sees.seen c.args.self.now) c.deref.result.now c.len.result c.in-Some.line.now _ c.deref.ensures.value count (ltb-true _ _ (sym found.0)) found.1 c.in-Cancel.is
+
+pub mrecv-requires-clause-next : goal.mrecv-requires-clause-next
+mrecv-requires-clause-next g c =
+    let found = c.in-Some.ensures.lookup in
+    let count : c.len.result ≡ length c.args.self.now.results.items = search rules in
+    next_by (told g.E.Sees.seen c.args.self.now) c.deref.result.now c.len.result c.in-Some.line.now _ c.deref.ensures.value count (ltb-true _ _ (sym found.0)) found.1 c.in-MRecv.is

@@ -1,4 +1,4 @@
-use Rattle.std.proofs.Common.{◌≡◌, ◌∙◌, sym, ap, rules}
+use Rattle.std.proofs.Common.{◌≡◌, ◌∙◌, sym, ap, rules, refl}
 use Rattle.fab_base.specs.declared.peers.LineResult.TheVariants.{Index}
 use Rattle.fab_model.specs.State.{lookup}
 use Rattle.fab_model.specs.Calls.{Insert}
@@ -13,6 +13,6 @@ returns g c =
     let e = seen c.insert.new.self in
     let done = c.in_ok-report.ensures.ok in
     let first : c.flatten-index.result ≡ lookup c.in_ok-report.report.indices 0 = search rules in
-    let went = here_line a (told seen c.noted.new.self) e (Insert c.args.name) (Index c.flatten-index.result) (calls_insert a c.args.name c.requires.next) (insert_final c.args.name) c.requires.log
+    let went = here_line a (told seen c.noted.new.self) e (Insert c.args.name) (Index c.flatten-index.result) (λ ctx. refl) (calls_insert a c.args.name c.requires.next) (insert_final c.args.name) c.requires.log
     (record { answered = one_inserted a.seen.held.state e.held.state c.args.name c.in_ok-report.report.indices done.answers ∙ ap (λ i. (Index i, e.held.state)) (sym first); changed = done.changed }) in
     noted_line c.noted.result a (told seen c.noted.new.self) _ went c.noted.ensures.told c.noted.ensures.done

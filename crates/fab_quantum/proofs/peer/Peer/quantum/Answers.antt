@@ -17,3 +17,15 @@ returns-clause-still g c e =
     let is = c.either-3.ensures ∙ ap (λ x. x || c.either-2.result) c.either.ensures ∙ ap (λ x. (c.in_ok-read.read || c.in_ok-done.done) || x) c.either-2.ensures in
     still (told seen c.args.self.now) (told seen c.read_all.new.self) (told seen c.do_lines.new.self) (told seen c.go_on.new.self) (told seen c.read_all-2.new.self) c.in_ok-read.read c.in_ok-done.done c.in_ok-went.went c.in_ok-again.again
     c.in_ok-read.ensures.on c.in_ok-done.ensures c.in_ok-went.ensures c.in_ok-again.ensures.on c.in_ok-read.ensures.read c.in_ok-again.ensures.read (sym is ∙ none)
+
+pub read_all-requires : goal.read_all-requires
+read_all-requires g c = record { counted = c.requires.counted }
+
+pub do_lines-requires-clause-counted : goal.do_lines-requires-clause-counted
+do_lines-requires-clause-counted g c = c.in_ok-read.ensures.on.counted c.requires.counted
+
+pub read_all-requires-2 : goal.read_all-requires-2
+read_all-requires-2 g c = record { counted = c.in_ok-went.ensures.counted (c.in_ok-done.ensures.counted (c.in_ok-read.ensures.on.counted c.requires.counted)) }
+
+pub returns-clause-counted : goal.returns-clause-counted
+returns-clause-counted g c = c.in_ok-again.ensures.on.counted (c.in_ok-went.ensures.counted (c.in_ok-done.ensures.counted (c.in_ok-read.ensures.on.counted c.requires.counted)))

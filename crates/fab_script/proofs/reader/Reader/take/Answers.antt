@@ -9,4 +9,4 @@ returns-in-Some-2 c = λ before h.
     let text : is_text c.args.line.now ≡ true = sym c.if-not-all_text.ensures in
     let words : words_of c.args.line.now ≡ word ∷ c.next.new.self = sym c.of_line-words.ensures ∙ c.in-Some.ensures in
     let none : before.has_header ≡ false = sym h.header ∙ c.if-self.false in
-    line_answer c.args.language before c.args.number c.args.line.now (word ∷ c.next.new.self) c.take_header.new.self c.take_header.result text words (c.take_header.ensures before h none c.args.language)
+    line_answer before c.args.number c.args.line.now (word ∷ c.next.new.self) c.take_header.new.self c.take_header.result text words (c.take_header.ensures before h none)
