@@ -17,6 +17,8 @@ mod memory;
 #[cfg(test)]
 mod messages;
 #[cfg(test)]
+mod multis;
+#[cfg(test)]
 mod onesided;
 #[cfg(test)]
 mod payloads;
