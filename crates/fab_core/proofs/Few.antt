@@ -1,5 +1,5 @@
 -- There are no more multi-receives whose end was not read than those posted or closing and the unread entries.
-use Rattle.std.proofs.Common.{◌≡◌, ◌≢◌, ◌⊎◌, inl, inr, ℕ, zero, suc, ◌+◌, ◌-◌, ◌<◌, ◌≤◌, ◌==◌, Bool, true, false, List, [], ◌∷◌, ◌++◌, length, length-append, length-drop, map, drop, Option, Some, None, refl, sym, ap, subst, ◌∙◌, arith}
+use Rattle.std.proofs.Common.{◌≡◌, ◌≢◌, ◌⊎◌, inl, inr, ℕ, zero, suc, ◌+◌, ◌<◌, ◌≤◌, ◌==◌, Bool, true, false, List, [], ◌∷◌, ◌++◌, length, length-append, length-drop, map, drop, Option, Some, None, refl, sym, ap, subst, ◌∙◌, arith}
 use Rattle.std.specs.Prelude.{find, is_some, slice_get, unwrap_or, Contains}
 use Rattle.std.specs.Option.{option_map}
 use Rattle.std.proofs.lemmas.Bool.{eqb-true, eq-eqb, ne_eqb}
@@ -9,7 +9,7 @@ use Rattle.std.proofs.lemmas.Slice.Zip.{AllZip-long}
 use Rattle.fab_base.specs.declared.operations.Receive.{Receive}
 use Rattle.fab_base.specs.declared.operations.Written.{Written}
 use Rattle.fab_model.specs.Matching.{remove_first}
-use Rattle.fab_rx.specs.Opened.{opened, sized}
+use Rattle.fab_rx.specs.Opened.{sized}
 use Rattle.fab_core.specs.declared.places.Place.{Place}
 use Rattle.fab_core.specs.declared.places.Place.TheVariants.{Open, Ended}
 use Rattle.fab_core.specs.Doing.{unread_of}

@@ -1,6 +1,6 @@
 -- What holds of multi-receives, as the calls of a core find it and leave it.
-use Rattle.std.proofs.Common.{◌≡◌, ℕ, ◌+◌, ◌≤◌, List, [], ◌∷◌, ◌++◌, length, true, false, Option, Some, None, refl, sym, ap, subst, ◌∙◌, arith}
-use Rattle.std.specs.Prelude.{find, is_some, slice_index, OnErr, OnOk, Result, Ok, Err}
+use Rattle.std.proofs.Common.{◌≡◌, ℕ, ◌+◌, ◌≤◌, List, [], length, Option, Some, None, refl, sym, ap, subst, ◌∙◌, arith}
+use Rattle.std.specs.Prelude.{is_some, slice_index, OnErr, OnOk, Result, Ok, Err}
 use Rattle.std.specs.Option.{option_map}
 use Rattle.std.proofs.lemmas.List.Elements.{All-nil}
 use Rattle.fab_base.specs.declared.entries.Entry.{Entry}
@@ -31,7 +31,7 @@ use Rattle.fab_rx.specs.Leaving.{is_meant}
 use Rattle.fab_rx.specs.declared.results.Cancelled.{Cancelled}
 use Rattle.fab_rx.specs.Opened.{AreOpened}
 use Rattle.fab_rx.specs.declared.results.Completed.{Completed}
-use Rattle.fab_rx.specs.declared.results.Posted.TheVariants.{GoesOn, Joined, Whole}
+use Rattle.fab_rx.specs.declared.results.Posted.TheVariants.{GoesOn, Whole}
 use Rattle.fab_rx.proofs.Known.{none_in_row}
 use Rattle.fab_tx.specs.Transit.{Transit, ended, finishing, nothing_accepted}
 use Rattle.fab_tx.specs.declared.results.Ended.{Ended}
@@ -40,7 +40,7 @@ use Rattle.fab_face.specs.Answers.{PopsNot}
 use Rattle.fab_core.specs.Parts.{IsFitting, IsTogether, Parts, held_of, owed}
 use Rattle.fab_core.specs.Doing.{entry_at_end, given_found, received, unread_of, written_if}
 use Rattle.fab_core.specs.Members.{Members, let_any_go, nobody, read_by}
-use Rattle.fab_core.specs.Lent.{IsComingIn, IsLent, IsLentBy, IsOther}
+use Rattle.fab_core.specs.Lent.{IsLent, IsLentBy, IsOther}
 use Rattle.fab_core.proofs.Lending.{lent_read}
 use Rattle.fab_core.proofs.Together.{together_with}
 use Rattle.fab_core.proofs.Posting.{left_lent}

@@ -1,14 +1,11 @@
 -- What holds of multi-receives is kept where entries are written and read, and where calls are made.
 use Rattle.std.proofs.Common.{◌≡◌, ◌≢◌, ◌⊎◌, inl, inr, ℕ, zero, suc, ◌+◌, ◌-◌, ◌<◌, ◌≤◌, ◌==◌, ◌&&◌, Bool, true, false, List, [], ◌∷◌, ◌++◌, length, length-append, map, Option, Some, None, refl, sym, ap, subst, ◌∙◌, arith}
-use Rattle.std.specs.Prelude.{slice_get, is_some, find, unwrap_or, All, Contains}
+use Rattle.std.specs.Prelude.{slice_get, is_some, find, All, Contains}
 use Rattle.std.specs.List.{AllZip}
-use Rattle.std.specs.Option.{option_map}
 use Rattle.std.proofs.lemmas.Bool.{eqb-true, eq-eqb, ne_eqb}
 use Rattle.std.proofs.lemmas.Option.{slice_get_within}
 use Rattle.std.proofs.lemmas.List.Elements.{Contains-append_left, Contains-append_right, Contains-append_cases}
-use Rattle.fab_base.specs.declared.entries.Entry.TheVariants.{Released}
 use Rattle.fab_base.specs.declared.entries.Taken.{Taken}
-use Rattle.fab_base.specs.declared.entries.Taken.TheVariants.{Success, Failure}
 use Rattle.fab_base.specs.declared.operations.Coming.{Coming}
 use Rattle.fab_base.specs.declared.operations.Coming.TheVariants.{Into, Keep, Throw, Request, Answer}
 use Rattle.fab_base.specs.declared.operations.Operation.{Operation}
@@ -16,20 +13,20 @@ use Rattle.fab_base.specs.declared.operations.Receive.{Receive}
 use Rattle.fab_base.specs.declared.operations.Written.{Written}
 use Rattle.fab_model.specs.Matching.{remove_first}
 use Rattle.fab_model.specs.State.{Completions, Receiving, State, coming_from, writing}
-use Rattle.fab_model.specs.Peers.{first_some, multi_buf, released_buf, same_ctx}
+use Rattle.fab_model.specs.Peers.{multi_buf, released_buf, same_ctx}
 use Rattle.fab_cq.specs.Queues.{buffer_in, later, taking_out}
 use Rattle.fab_face.specs.Acts.{is_end_of}
 use Rattle.fab_face.specs.Answers.{IsSharing}
 use Rattle.fab_rx.specs.Arriving.{call_in, id_in}
-use Rattle.fab_rx.specs.Opened.{is_multi, opened, sized}
+use Rattle.fab_rx.specs.Opened.{is_multi, opened}
 use Rattle.fab_core.specs.declared.places.Place.{Place}
 use Rattle.fab_core.specs.declared.places.Place.TheVariants.{Open, Ended}
 use Rattle.fab_core.specs.declared.places.Member.{Member}
-use Rattle.fab_core.specs.Members.{Members, ended_at, enlisted, is_first, is_next, let_go, let_one_go, moved_up, one_read, read_by}
+use Rattle.fab_core.specs.Members.{Members, ended_at, enlisted, is_first, is_next, let_one_go, moved_up, one_read, read_by}
 use Rattle.fab_core.specs.Parts.{Parts, held_of, state_of}
 use Rattle.fab_core.specs.Doing.{unread_of}
 use Rattle.fab_core.specs.Lent.{GoesInto, IsAt, IsComingIn, IsLent, IsLentBy, IsOther, IsPlaced, IsUnread, back_of, is_ending, size_by, size_of}
-use Rattle.fab_core.proofs.Listing.{contains_cases, contains_fewer, contains_here, contains_kept, contains_later, first_all, first_kept, first_none, first_push, first_pushed, get_kept, get_last, get_push}
+use Rattle.fab_core.proofs.Listing.{contains_cases, contains_fewer, contains_here, contains_kept, first_all, first_kept, first_none, first_push, first_pushed, get_kept, get_last, get_push}
 use Rattle.fab_core.proofs.Placing.{single_fewer, single_push, zip_each, zip_push, zip_read, zip_turned}
 
 -- ---- entries and their calls

@@ -1,5 +1,5 @@
 -- The multi-receives that are posted or closing, where the receive half changes.
-use Rattle.std.proofs.Common.{◌≡◌, ◌≢◌, ◌⊎◌, inl, inr, ℕ, zero, suc, ◌+◌, ◌-◌, ◌<◌, ◌≤◌, ◌==◌, Bool, true, false, not, List, [], ◌∷◌, ◌++◌, append-nil, length, get_or, set, Option, Some, None, refl, sym, ap, subst, ◌∙◌, arith}
+use Rattle.std.proofs.Common.{◌≡◌, ◌≢◌, ◌⊎◌, inl, inr, ℕ, zero, suc, ◌==◌, Bool, true, false, List, [], ◌∷◌, ◌++◌, append-nil, get_or, set, Option, Some, None, refl, sym, ap, subst, ◌∙◌}
 use Rattle.std.specs.Prelude.{find, is_some, All, IfSome}
 use Rattle.std.specs.List.{list_any}
 use Rattle.std.specs.Option.{option_map}
@@ -20,7 +20,6 @@ use Rattle.fab_rx.specs.Opened.{IsPosted, is_multi, opened, sized}
 use Rattle.fab_rx.proofs.Ending.{closed_now, closed_still, found_last, none_last}
 use Rattle.fab_rx.proofs.Keeping.{single_seated, single_shut}
 use Rattle.fab_rx.proofs.Numbering.{found_other, others_found}
-use Rattle.fab_rx.proofs.Onces.{change_last, change_none, remove_last}
 use Rattle.fab_rx.proofs.Pasting.{length_paste_at}
 use Rattle.fab_rx.proofs.Taking.{seated_off, seated_on, shut_off, shut_on}
 use Rattle.fab_core.specs.Lent.{GoesInto, IsComingIn}

@@ -1,5 +1,5 @@
 -- Receive calls keep what holds of multi-receives.
-use Rattle.std.proofs.Common.{◌≡◌, ◌≢◌, inl, inr, ℕ, ◌+◌, ◌<◌, ◌≤◌, ◌==◌, ◌&&◌, Bool, true, false, not, List, [], ◌∷◌, ◌++◌, length, get_or, set, Option, Some, None, refl, sym, ap, subst, ◌∙◌, arith}
+use Rattle.std.proofs.Common.{◌≡◌, ◌≢◌, inl, ℕ, ◌+◌, ◌<◌, ◌≤◌, ◌==◌, Bool, true, false, not, List, [], ◌∷◌, ◌++◌, length, get_or, Option, Some, None, refl, sym, ap, subst, ◌∙◌, arith}
 use Rattle.std.specs.Prelude.{find, is_some, All, IfSome}
 use Rattle.std.specs.Option.{option_map}
 use Rattle.std.proofs.lemmas.Bool.{eqb-true, eq-eqb, ne_eqb}
@@ -9,7 +9,7 @@ use Rattle.fab_base.specs.declared.entries.ErrKind.TheVariants.{Canceled}
 use Rattle.fab_base.specs.declared.entries.PeekHow.{PeekHow}
 use Rattle.fab_base.specs.declared.entries.PeekHow.TheVariants.{Peek, Claim, Discard}
 use Rattle.fab_base.specs.declared.entries.Taken.{Taken}
-use Rattle.fab_base.specs.declared.entries.Taken.TheVariants.{Success, Failure}
+use Rattle.fab_base.specs.declared.entries.Taken.TheVariants.{Failure}
 use Rattle.fab_base.specs.declared.items.Item.{Item}
 use Rattle.fab_base.specs.declared.items.Want.{Want}
 use Rattle.fab_base.specs.declared.operations.Arrival.{Arrival}
@@ -34,7 +34,7 @@ use Rattle.fab_core.specs.Doing.{called, given_whole, left_by, posted_by, receiv
 use Rattle.fab_core.specs.Members.{Members, let_any_go}
 use Rattle.fab_core.specs.Looks.{claim_by, claim_receive, dropped_by, is_due_now, looked_by, met_by, parted, parted_by, taken_by, told}
 use Rattle.fab_core.specs.Multis.{shared_by, shared_now}
-use Rattle.fab_core.specs.Lent.{GoesInto, IsComingIn, IsLent, IsLentBy, IsUnread}
+use Rattle.fab_core.specs.Lent.{GoesInto, IsComingIn, IsLent, IsLentBy}
 use Rattle.fab_core.proofs.Doing.{passes}
 use Rattle.fab_core.proofs.Lending.{and_both, lent_moved, lent_shared, lent_written, other_back, places_kept}
 use Rattle.fab_core.proofs.Opening.{coming_left, coming_moved, coming_set, distinct_left, seek, seek_besides, seek_gone, seek_is, seek_none, seek_other, seek_parts, seek_removed, taker_is, taker_open}

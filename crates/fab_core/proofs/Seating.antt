@@ -1,6 +1,6 @@
 -- A draw keeps what holds of multi-receives.
-use Rattle.std.proofs.Common.{◌≡◌, ℕ, ◌+◌, ◌≤◌, ◌==◌, Bool, true, false, List, [], ◌∷◌, ◌++◌, append-nil, length, get_or, set, Option, Some, None, refl, sym, ap, subst, ◌∙◌, arith}
-use Rattle.std.specs.Prelude.{find, is_some, unwrap_or}
+use Rattle.std.proofs.Common.{◌≡◌, ℕ, ◌≤◌, Bool, true, false, List, [], ◌∷◌, ◌++◌, append-nil, get_or, Option, Some, None, refl, sym, ap, subst, ◌∙◌}
+use Rattle.std.specs.Prelude.{find, unwrap_or}
 use Rattle.std.proofs.lemmas.Bool.{eq-eqb}
 use Rattle.fab_base.specs.declared.entries.Entry.TheVariants.{Released}
 use Rattle.fab_base.specs.declared.entries.Taken.TheVariants.{Success}
@@ -12,7 +12,7 @@ use Rattle.fab_model.specs.Complete.{at_match, entry_of, filled, filling, fill_m
 use Rattle.fab_model.specs.Receiving.{draw_due, draws, goes}
 use Rattle.fab_model.specs.Arrivals.{seated, shut, stays, used_up}
 use Rattle.fab_rx.specs.Arriving.{IsArriving, id_in, shared, with_receiving, without_closed}
-use Rattle.fab_rx.specs.Drawing.{drawing, drawn, set_apart}
+use Rattle.fab_rx.specs.Drawing.{set_apart}
 use Rattle.fab_rx.specs.Results.{closed_by, closed_if, completed}
 use Rattle.fab_rx.specs.Opened.{AreOpened, is_multi, opened, sized}
 use Rattle.fab_rx.proofs.Numbering.{closed_coming}
@@ -22,7 +22,7 @@ use Rattle.fab_core.specs.Parts.{Parts}
 use Rattle.fab_core.specs.Doing.{let_back, received, unread_of, with_arriving}
 use Rattle.fab_core.specs.Members.{let_go}
 use Rattle.fab_core.specs.Draws.{drew}
-use Rattle.fab_core.specs.Lent.{GoesInto, IsComingIn, IsLent, IsLentBy}
+use Rattle.fab_core.specs.Lent.{GoesInto, IsLent, IsLentBy}
 use Rattle.fab_core.proofs.Drawing.{IsDrawn, handed_by, who_draws}
 use Rattle.fab_core.proofs.Lending.{lent_moved}
 use Rattle.fab_core.proofs.Opening.{closed_seek, coming_moved, coming_set, distinct_left, fill_same, filling_same, others_other, seated_same, seek, seek_gone, seek_none, unclosed_same}

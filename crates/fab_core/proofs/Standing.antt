@@ -1,13 +1,11 @@
 -- What the steps of an endpoint make of its parts keeps what holds of multi-receives.
-use Rattle.std.proofs.Common.{◌≡◌, ◌≢◌, ◌⊎◌, inl, inr, ℕ, zero, suc, ◌+◌, ◌<◌, ◌≤◌, ◌==◌, Bool, true, false, List, [], ◌∷◌, ◌++◌, append-nil, length, get_or, set, Option, Some, None, refl, sym, ap, subst, ◌∙◌, arith}
+use Rattle.std.proofs.Common.{◌≡◌, ℕ, ◌+◌, ◌<◌, ◌≤◌, Bool, true, false, List, [], ◌∷◌, ◌++◌, get_or, set, Option, Some, None, refl, sym, ap, subst, ◌∙◌, arith}
 use Rattle.std.specs.Prelude.{find, is_some, unwrap_or, All, slice_index, slice_set}
-use Rattle.std.specs.Option.{option_map}
-use Rattle.std.proofs.lemmas.Bool.{eqb-true, eq-eqb, ne_eqb}
 use Rattle.std.proofs.lemmas.List.Elements.{All-append, All-cons, All-nil, All-tail}
 use Rattle.fab_base.specs.declared.entries.Entry.TheVariants.{Released, RemoteData}
 use Rattle.fab_base.specs.declared.entries.ErrKind.TheVariants.{NoKey, Access, Range}
 use Rattle.fab_base.specs.declared.entries.Taken.{Taken}
-use Rattle.fab_base.specs.declared.entries.Taken.TheVariants.{Success, Failure}
+use Rattle.fab_base.specs.declared.entries.Taken.TheVariants.{Success}
 use Rattle.fab_base.specs.declared.items.Item.{Item}
 use Rattle.fab_base.specs.declared.items.ItemHead.{ItemHead}
 use Rattle.fab_base.specs.declared.items.Kind.{Kind}
@@ -18,28 +16,27 @@ use Rattle.fab_base.specs.declared.operations.Coming.{Coming}
 use Rattle.fab_base.specs.declared.operations.Coming.TheVariants.{Into, Keep, Throw, Request, Answer}
 use Rattle.fab_base.specs.declared.operations.Operation.{Operation}
 use Rattle.fab_base.specs.declared.operations.Receive.{Receive}
-use Rattle.fab_model.specs.Matching.{change_first, is_message, remove_first}
+use Rattle.fab_model.specs.Matching.{is_message, remove_first}
 use Rattle.fab_model.specs.State.{Completions, Receiving, coming_from, raise, writing}
 use Rattle.fab_model.specs.Complete.{at_delivery, at_either, entry_of, error, filled, filling, fill_multi, is_made_by}
 use Rattle.fab_model.specs.Sending.{answering, is_answered, is_answered_by, is_of_item, success_of, transmitting}
 use Rattle.fab_model.specs.Arrivals.{heading_message, heading_other, is_wanted, keeping, made_whole, newcomer, seated, shut, taker, way_of}
-use Rattle.fab_rx.specs.Arriving.{Arriving, bytes_come, begun_of, finishing, id_in, shared, without_closed}
+use Rattle.fab_rx.specs.Arriving.{bytes_come, begun_of, id_in, shared, without_closed}
 use Rattle.fab_rx.specs.Results.{closed_by, closed_if, completed}
-use Rattle.fab_rx.specs.Numbers.{AreBelow, AreDistinct}
+use Rattle.fab_rx.specs.Numbers.{AreDistinct}
 use Rattle.fab_rx.specs.Opened.{AreOpened, IsPosted, is_multi, opened, sized}
 use Rattle.fab_rx.proofs.Numbering.{below_found, closed_coming, distinct_changed}
 use Rattle.fab_rma.specs.Serving.{outcome_at}
-use Rattle.fab_tx.specs.Transit.{Transit, ended, finds_answered}
+use Rattle.fab_tx.specs.Transit.{Transit, ended}
 use Rattle.fab_tx.specs.declared.results.Ended.{Ended}
 use Rattle.fab_core.specs.Parts.{Parts}
 use Rattle.fab_core.specs.Doing.{as_operation, booked, cq_after, entry_at_end, heading, let_back, received, sent, tail, unread_of, well_entry, with_arriving, written_if}
 use Rattle.fab_core.specs.Members.{Members, let_go}
 use Rattle.fab_core.specs.Requests.{data_of}
-use Rattle.fab_core.specs.Lent.{GoesInto, IsComingIn, IsLent, IsLentBy, IsOther, is_ending}
+use Rattle.fab_core.specs.Lent.{GoesInto, IsComingIn, IsLent, IsLentBy, IsOther}
 use Rattle.fab_core.proofs.Lending.{lent_called, lent_moved}
-use Rattle.fab_core.proofs.Opening.{closed_call, closed_found, closed_seek, coming_moved, coming_set, distinct_left, distinct_right, filling_same, fill_same, seated_same, seek, seek_apart, seek_changed, seek_gone, taker_is, taker_open, unclosed_same}
+use Rattle.fab_core.proofs.Opening.{closed_call, closed_found, closed_seek, coming_moved, coming_set, distinct_right, filling_same, fill_same, seated_same, seek, seek_apart, seek_gone, taker_is, taker_open, unclosed_same}
 use Rattle.fab_core.proofs.Stepping.{IsOfSingle, lent_closed, lent_other, lent_received}
-use Rattle.fab_core.proofs.Doing.{passes}
 
 -- ---- operations and their entries
 

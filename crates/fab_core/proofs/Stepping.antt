@@ -1,7 +1,6 @@
 -- What holds of multi-receives is kept where messages come into receives.
-use Rattle.std.proofs.Common.{◌≡◌, ◌≢◌, ◌⊎◌, inl, inr, ℕ, zero, suc, ◌+◌, ◌-◌, ◌<◌, ◌≤◌, ◌==◌, Bool, true, false, List, [], ◌∷◌, ◌++◌, length, map, get_or, set, Option, Some, None, refl, sym, ap, subst, ◌∙◌, arith}
-use Rattle.std.specs.Prelude.{find, is_some, unwrap_or, All, Contains}
-use Rattle.std.specs.Option.{option_map}
+use Rattle.std.proofs.Common.{◌≡◌, ◌≢◌, inl, inr, ℕ, ◌+◌, ◌-◌, ◌<◌, ◌≤◌, ◌==◌, Bool, true, false, List, length, map, Option, Some, None, refl, sym, ap, subst, ◌∙◌, arith}
+use Rattle.std.specs.Prelude.{is_some, unwrap_or, Contains}
 use Rattle.std.proofs.lemmas.Bool.{eqb-true, eq-eqb, leb-true}
 use Rattle.fab_base.specs.declared.entries.Entry.TheVariants.{Released}
 use Rattle.fab_base.specs.declared.entries.ErrEntry.{ErrEntry}
@@ -14,8 +13,8 @@ use Rattle.fab_base.specs.declared.operations.Operation.{Operation}
 use Rattle.fab_base.specs.declared.operations.Receive.{Receive}
 use Rattle.fab_base.specs.declared.operations.Written.{Written}
 use Rattle.fab_model.specs.Matching.{remove_first}
-use Rattle.fab_model.specs.State.{Completions, Receiving, coming_from, under_way, writing}
-use Rattle.fab_model.specs.Complete.{entry_of, error, has_space, is_made_by, received, truncated}
+use Rattle.fab_model.specs.State.{Completions, Receiving, coming_from, writing}
+use Rattle.fab_model.specs.Complete.{entry_of, has_space, is_made_by, received, truncated}
 use Rattle.fab_model.specs.Peers.{part_of, released_buf, same_ctx}
 use Rattle.fab_cq.specs.Queues.{buffer_in}
 use Rattle.fab_rx.specs.Arriving.{call_in, id_in, without_closed}

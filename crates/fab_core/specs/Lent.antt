@@ -9,7 +9,6 @@
 --     IsLent                   all of it
 use Rattle.std.specs.List.{AllZip}
 use Rattle.std.specs.Prelude.{◌≡◌, ◌≢◌, ℕ, ◌+◌, ◌<◌, ◌≤◌, Bool, true, false, List, [], ◌∷◌, length, Option, Some, None, is_some, slice_get, unwrap_or, All, Contains}
-use Rattle.fab_base.specs.declared.entries.Entry.{Entry}
 use Rattle.fab_base.specs.declared.entries.Entry.TheVariants.{Released}
 use Rattle.fab_base.specs.declared.entries.ErrEntry.{ErrEntry}
 use Rattle.fab_base.specs.declared.entries.ErrKind.TheVariants.{Canceled}

@@ -4,7 +4,7 @@
 --     enlisted id ctx call m  one more is posted under the id
 --     let_go id n m         the buffer of the one under the id comes back with an entry before which so many are unread
 --     read_by first m       those whose end was not read, once this first unread entry is
-use Rattle.std.specs.Prelude.{ℕ, ◌+◌, ◌-◌, ◌==◌, ◌++◌, ◌∷◌, [], Bool, true, false, cond, List, map, Option, Some, None}
+use Rattle.std.specs.Prelude.{ℕ, ◌+◌, ◌-◌, ◌==◌, ◌++◌, ◌∷◌, [], Bool, false, cond, List, map, Option, Some, None}
 use Rattle.fab_base.specs.declared.operations.Written.{Written}
 use Rattle.fab_model.specs.Matching.{remove_first}
 use Rattle.fab_face.specs.Acts.{is_end_of}

@@ -4,7 +4,7 @@
 --     shared_by id ask buf p    it is posted, under this id
 --     IsShared ask buf p q      it is posted
 --     HasBuffer h ctx bytes     the buffer of the oldest one of the context
-use Rattle.std.specs.Prelude.{◌≡◌, ℕ, ◌++◌, ◌∷◌, [], false, cond, List, length, Option, Some, None, nat_le}
+use Rattle.std.specs.Prelude.{◌≡◌, ℕ, false, cond, List, length, Option, Some, None, nat_le}
 use Rattle.fab_base.specs.declared.faults.Busy.TheVariants.{CqFull, PostedFull}
 use Rattle.fab_base.specs.declared.faults.Fault.{Fault}
 use Rattle.fab_base.specs.declared.faults.Fault.TheVariants.{Again}

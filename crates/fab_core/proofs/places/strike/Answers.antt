@@ -1,4 +1,4 @@
-use Rattle.std.proofs.Common.{◌≡◌, ◌∙◌, None, Some, sym, ap, rules}
+use Rattle.std.proofs.Common.{◌≡◌, ◌∙◌, None, Some, sym, rules}
 use Rattle.std.specs.Prelude.{position}
 use Rattle.fab_model.proofs.Firsts.{remove_first_at, remove_first-none, list_any-none}
 use Rattle.fab_core.specs.Members.{is_first}

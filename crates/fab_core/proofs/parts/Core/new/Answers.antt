@@ -1,5 +1,5 @@
 use Rattle.fab_core.proofs.Lasting.{lent_begins}
-use Rattle.std.proofs.Common.{◌+◌, ◌<◌, sym, ap, arith}
+use Rattle.std.proofs.Common.{sym, ap, arith}
 use Rattle.fab_rx.specs.Arriving.{Arriving}
 use Rattle.fab_tx.specs.Transit.{Transit}
 use Rattle.fab_core.proofs.Serves.{serving_begins}
