@@ -49,13 +49,17 @@ fn is_piece(frame: &Frame, from: u32, len: u32) -> bool
 }
 
 /// Whether the message is sent to peer 0.
+#[tactic(auto, using(crate::proofs::Keeping::keeps_sent, crate::proofs::Keeping::keeps_unsent))]
 fn sends<E: Messages>(alloc: Global, endpoint: &mut E) -> bool
     ensures { Keeps (E.seen endpoint.old) (E.seen endpoint.new) }
 {
     let Ok(buf) = Buf::zeros(alloc, LEN as u64) else {
         return false;
     };
-    endpoint.tsend(0, 4, buf, None, 1, COMPLETES).is_ok()
+    match endpoint.tsend(0, 4, buf, None, 1, COMPLETES) {
+        Ok(()) => true,
+        Err(_) => false,
+    }
 }
 
 /// The two frames of the message, which is sent.
@@ -77,6 +81,7 @@ fn frames<E: Messages + Carried>(alloc: Global, endpoint: &mut E) -> Option<(Fra
 }
 
 /// Whether progress takes one frame, and posts none.
+#[tactic(auto, using(crate::proofs::Keeping::keeps_progressed))]
 fn takes_frame<E: Progress>(endpoint: &mut E) -> bool
     ensures { Keeps (E.seen endpoint.old) (E.seen endpoint.new) }
 {
@@ -87,10 +92,14 @@ fn takes_frame<E: Progress>(endpoint: &mut E) -> bool
 }
 
 /// Whether the message is claimed.
+#[tactic(auto, using(crate::proofs::Keeping::keeps_received, crate::proofs::Keeping::keeps_refused))]
 fn claims<E: Looks>(endpoint: &mut E) -> bool
     ensures { Keeps (E.seen endpoint.old) (E.seen endpoint.new) }
 {
-    endpoint.claim(None, 4, 0, 9).is_ok()
+    match endpoint.claim(None, 4, 0, 9) {
+        Ok(()) => true,
+        Err(_) => false,
+    }
 }
 
 /// Whether an entry tells of the claim.
@@ -108,6 +117,7 @@ fn is_claim(entry: Entry) -> bool {
 }
 
 /// Whether the claim is the first completion.
+#[tactic(auto, using(crate::proofs::Keeping::keeps_popped, crate::proofs::Keeping::keeps_same))]
 fn reads_claim<E: Progress>(endpoint: &mut E) -> bool
     ensures { Keeps (E.seen endpoint.old) (E.seen endpoint.new) }
 {
@@ -118,16 +128,21 @@ fn reads_claim<E: Progress>(endpoint: &mut E) -> bool
 }
 
 /// Whether the message that is claimed is received.
+#[tactic(auto, using(crate::proofs::Keeping::keeps_received, crate::proofs::Keeping::keeps_refused))]
 fn takes<E: Looks>(alloc: Global, endpoint: &mut E) -> bool
     ensures { Keeps (E.seen endpoint.old) (E.seen endpoint.new) }
 {
     let Ok(buf) = Buf::zeros(alloc, LEN as u64) else {
         return false;
     };
-    endpoint.take(buf, 9).is_ok()
+    match endpoint.take(buf, 9) {
+        Ok(()) => true,
+        Err(_) => false,
+    }
 }
 
 /// Whether nothing is complete.
+#[tactic(auto, using(crate::proofs::Keeping::keeps_reading))]
 fn reads_nothing<E: Progress>(endpoint: &mut E) -> bool
     ensures { Keeps (E.seen endpoint.old) (E.seen endpoint.new) }
 {
