@@ -22,7 +22,7 @@ keeps_went : {Home : Type 0} (call : Option Call) (old new : Seen Home) (acts : 
 keeps_went call old new acts went = (
   went.ported.peers,
   λ s. ap (λ (after : Option FrameHead). last_head after (listed (new.lanes.in_list s))) (went.ported.in_after s)
-    ∙ ap (λ (f : ℕ → Option (List Frame)). last_head (old.lanes.ins s).after (listed (f s))) went.ported.in_list,
+      ∙ ap (λ (f : ℕ → Option (List Frame)). last_head (old.lanes.ins s).after (listed (f s))) went.ported.in_list,
 )
 
 pub keeps_sent : {Home : Type 0} (fixed : _) (call : Call) (dest : ℕ) (old new : Seen Home) → Sends fixed call dest old new → Keeps old new
