@@ -11,7 +11,7 @@ use fab_base::{
     Access, AtomicOp, Buf, Class, Entry, ErrEntry, Fault, Flags, NoMemory, Num, Refused, Text,
 };
 use fab_face::calls::{
-    Addresses, Counters, Logs, Looks, Messages, Progress, Receives, Regions, Requests, Sees,
+    Addresses, Counters, Logs, Looks, Messages, Multis, Progress, Receives, Regions, Requests, Sees,
 };
 use fab_face::events::{Event, Moved};
 use fab_open::Endpoint;
@@ -216,6 +216,27 @@ impl Looks for RingEndpoint {
 
     fn drop_claimed(&mut self, ctx: u64) -> Result<(), Fault> {
         self.inner.drop_claimed(ctx)
+    }
+}
+
+#[tactic(auto, unfolding(crate::specs::Seen::ring_seen))]
+impl Multis for RingEndpoint {
+    fn sharing(&self) {
+        self.inner.sharing();
+    }
+
+    fn recv_multi(
+        &mut self,
+        source: Option<u32>,
+        buf: Buf,
+        min: u32,
+        ctx: u64,
+    ) -> Result<(), Refused> {
+        self.inner.recv_multi(source, buf, min, ctx)
+    }
+
+    fn multi_bytes(&self, ctx: u64, at: u32, len: u32) -> Option<&[u8]> {
+        self.inner.multi_bytes(ctx, at, len)
     }
 }
 
