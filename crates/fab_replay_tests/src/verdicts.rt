@@ -60,6 +60,46 @@ const NOTHING_DONE: &str = "fabric 1 peers 2\n\
 
 const EMPTY: &str = "fabric 1\npeers 2\n";
 
+/// Two messages came before the buffer is posted that they go into.
+const MANY: &str = "fabric 1\n\
+    peers 1\n\
+    peer 0\n\
+    send 1 0 text:abc level=delivery\n\
+    wait 1\n\
+    send 2 0 text:de level=delivery\n\
+    wait 2\n\
+    mrecv 3 * 10 min=6\n\
+    wait 3\n\
+    wait 3\n\
+    wait 3\n";
+
+const MANY_REPORT: &str = "fabric 1 peers 1\n\
+    peer 0\n\
+    4 send ok\n\
+    5 wait 1 FI_SEND\n\
+    6 send ok\n\
+    7 wait 2 FI_SEND\n\
+    8 mrecv ok\n\
+    9 wait 3 FI_RECV from 0 at 0 len 3 bytes 616263\n\
+    10 wait 3 FI_RECV from 0 at 3 len 2 bytes 6465\n\
+    11 wait 3 FI_MULTI_RECV used 5\n\
+    trace D S0 H0 T0 S0 H0 T0 R D D S0 H0 T0 S0 H0 T0 R D D M M R R R D D D\n\
+    end done\n";
+
+/// A completion is read before the draw that writes it.
+const DRAWN_LATE: &str = "fabric 1 peers 1\n\
+    peer 0\n\
+    4 send ok\n\
+    5 wait 1 FI_SEND\n\
+    6 send ok\n\
+    7 wait 2 FI_SEND\n\
+    8 mrecv ok\n\
+    9 wait 3 FI_RECV from 0 at 0 len 3 bytes 616263\n\
+    10 wait 3 FI_RECV from 0 at 3 len 2 bytes 6465\n\
+    11 wait 3 FI_MULTI_RECV used 5\n\
+    trace D S0 H0 T0 S0 H0 T0 R D D S0 H0 T0 S0 H0 T0 R D D M R R M R D D D\n\
+    end done\n";
+
 /// What is said of the text as a report of the script, which has no payload files.
 fn said(alloc: Global, script: &str, text: &str) -> Option<Verdict> {
     let Ok(script) = parse(alloc, script.as_bytes()) else {
@@ -91,6 +131,16 @@ fn says_of_reports(rt: HostRuntime) -> Result<(), Fail> {
         (NOTHING_DONE, Verdict::Lawful { rest: false }),
     ];
     expect_all(&rt, rt.alloc(), HELLO, &rows);
+    Ok(())
+}
+
+#[test]
+fn says_of_reports_of_multi_receives(rt: HostRuntime) -> Result<(), Fail> {
+    let rows = [
+        (MANY_REPORT, Verdict::Lawful { rest: true }),
+        (DRAWN_LATE, Verdict::Left { peer: 0, step: 22 }),
+    ];
+    expect_all(&rt, rt.alloc(), MANY, &rows);
     Ok(())
 }
 

@@ -7,6 +7,8 @@
 #[cfg(test)]
 mod faults;
 #[cfg(test)]
+mod full;
+#[cfg(test)]
 mod gates;
 #[cfg(test)]
 mod info;
@@ -16,6 +18,8 @@ mod looks;
 mod memory;
 #[cfg(test)]
 mod messages;
+#[cfg(test)]
+mod multis;
 #[cfg(test)]
 mod onesided;
 #[cfg(test)]

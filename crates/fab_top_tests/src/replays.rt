@@ -131,19 +131,30 @@ const CHANGES: [(&str, &str, &str); 24] = [
     ("end done", "trace\nend done", "no schedule\n"),
 ];
 
-#[test]
-fn each_change_of_a_report_is_told(rt: HostRuntime) -> Result<(), Fail> {
-    for (old, new, line) in CHANGES {
-        let parts = HELLO_REPORT.split_once(old);
+/// Of the report of a script, changed at one place in each of these ways, this is said.
+pub(crate) fn each_says<R: Abort + Threads + Wait + Sync>(
+    rt: &R,
+    alloc: Global,
+    script: &str,
+    report: &str,
+    changes: &[(&str, &str, &str)],
+) -> Result<(), Fail> {
+    for (old, new, line) in changes {
+        let parts = report.split_once(*old);
         assert!(rt; parts.is_some(), "{old}");
         let (front, back) = parts.unwrap_or(("", ""));
-        let mut text = String::new(rt.alloc());
+        let mut text = String::new(alloc);
         text.push_str(front)?;
         text.push_str(new)?;
         text.push_str(back)?;
-        says(&rt, rt.alloc(), HELLO, text.as_str(), line)?;
+        says(rt, alloc, script, text.as_str(), line)?;
     }
     Ok(())
+}
+
+#[test]
+fn each_change_of_a_report_is_told(rt: HostRuntime) -> Result<(), Fail> {
+    each_says(&rt, rt.alloc(), HELLO, HELLO_REPORT, &CHANGES)
 }
 
 /// The check in which the load of this number fails tells its file, and writes nothing.

@@ -140,8 +140,16 @@ const NO_VERB: &str = "fabric 1\n\
     peer 0\n\
     jump 1 * 16\n";
 
+/// The buffers of all lines are longer than what a script may have.
+const TOO_MUCH: &str = "fabric 1\n\
+    peers 1\n\
+    peer 0\n\
+    mrecv 1 * 33554432\n\
+    mrecv 2 * 33554432 min=1\n\
+    mrecv 3 * 1\n";
+
 /// A depot with one file, named `it`, in which the loads of these numbers fail.
-fn depot_of(alloc: Global, bytes: Buf, failing: &[u64]) -> Result<MemoryDepot, Fail> {
+pub(crate) fn depot_of(alloc: Global, bytes: Buf, failing: &[u64]) -> Result<MemoryDepot, Fail> {
     let mut files = Vec::new(alloc);
     files.push((Text::copy(alloc, "it")?, bytes))?;
     Ok(MemoryDepot::new(files, Vec::from_slice(alloc, failing)?))
@@ -298,15 +306,17 @@ fn a_failed_load_is_told_by_its_name(rt: HostRuntime) -> Result<(), Fail> {
 }
 
 #[test]
-fn a_script_of_a_line_of_no_verb_is_refused(rt: HostRuntime) -> Result<(), Fail> {
+fn scripts_are_refused_by_line_and_reason(rt: HostRuntime) -> Result<(), Fail> {
     let words = texts_of(rt.alloc(), &["script", "it"])?;
-    let bytes = Buf::copy(rt.alloc(), NO_VERB.as_bytes())?;
-    let mut depot = depot_of(rt.alloc(), bytes, &[])?;
-    let mut sink = sink_of(rt.alloc());
-    let end = end_of(&rt, rt.alloc(), &words, &mut depot, &mut sink);
-    let why = Why::Verb;
-    assert!(rt; end == Status::ScriptRefused { line: 4, why });
-    assert_eq!(rt; sink.calls, 0);
+    let rows = [(NO_VERB, 4, Why::Verb), (TOO_MUCH, 6, Why::Limit)];
+    for (script, line, why) in rows {
+        let bytes = Buf::copy(rt.alloc(), script.as_bytes())?;
+        let mut depot = depot_of(rt.alloc(), bytes, &[])?;
+        let mut sink = sink_of(rt.alloc());
+        let end = end_of(&rt, rt.alloc(), &words, &mut depot, &mut sink);
+        assert!(rt; end == Status::ScriptRefused { line, why });
+        assert_eq!(rt; sink.calls, 0);
+    }
     Ok(())
 }
 

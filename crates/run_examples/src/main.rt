@@ -13,13 +13,16 @@ use std::thread::Threads;
 use std::{io, rt};
 
 /// The scripts and their reports, in the folder in which the program runs.
-const EXAMPLES: [(&str, &str); 9] = [
+const EXAMPLES: [(&str, &str); 12] = [
     ("empty.fabric", "empty.report"),
     ("canceled.fabric", "canceled.report"),
     ("stuck.fabric", "stuck.report"),
     ("levels.fabric", "levels.report"),
     ("large.fabric", "large.report"),
+    ("claim.fabric", "claim.report"),
+    ("discard.fabric", "discard.report"),
     ("looks.fabric", "looks.report"),
+    ("multi.fabric", "multi.report"),
     ("onesided.fabric", "onesided.report"),
     ("atomics.fabric", "atomics.report"),
     ("files.fabric", "files.report"),
