@@ -4,10 +4,12 @@
 //! ```text
 //! fab_info     getinfo        what is granted
 //!        |  endpoints
-//! one Endpoint for each peer  moved to the thread that speaks for the peer; its calls are the traits of fab_face
+//! one RingEndpoint a peer     moved to the thread that speaks for the peer; its calls are the traits of fab_face
 //! ```
 #![tactic(auto)]
 
+mod endpoint;
 mod opening;
 
-pub use opening::{RingEndpoint, endpoints};
+pub use endpoint::RingEndpoint;
+pub use opening::endpoints;

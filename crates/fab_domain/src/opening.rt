@@ -5,14 +5,12 @@ ghost use Rattle.fab_face.specs.Ports.{is_granted};
 ghost use Rattle.fab_open.specs.Opening.{why_not};
 ghost use Rattle.fab_domain.specs.Domain.{AreLanes, AreOpened, AreReady, IsOpened, IsReady, port_of};
 
+use crate::endpoint::RingEndpoint;
 use fab_av::Av;
 use fab_base::{Fault, Info, NoMemory};
-use fab_open::{Endpoint, is_granted, open};
+use fab_open::{is_granted, open};
 use fab_ring::{RingPort, Rings};
 use std::alloc::Global;
-
-/// An endpoint over lanes in memory that all peers of its domain share.
-pub type RingEndpoint = Endpoint<RingPort>;
 
 /// The endpoint over this port, with all peers in its address vector, each at the index of its number.
 fn open_one(
@@ -27,7 +25,10 @@ fn open_one(
     ensures opened { IfOk result (IsOpened info.now selective) }
 {
     let av = Av::all(alloc, info.peers)?;
-    open(alloc, port, av, info, selective).map_err(|_back| NoMemory)
+    match open(alloc, port, av, info, selective) {
+        Ok(inner) => Ok(RingEndpoint { inner }),
+        Err(_back) => Err(NoMemory),
+    }
 }
 
 /// The endpoints over these ports, in their order.

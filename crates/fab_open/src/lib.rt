@@ -8,9 +8,11 @@
 //! Endpoint             sends, receives, progress and completions: the traits of fab_face
 //! ```
 //!
-//! The machine behind an endpoint is that of `fab_core`, with matching in hashed bins.
+//! The machine behind an endpoint is `BinMachine`: that of `fab_core`, with matching in hashed bins.
 #![tactic(auto)]
 
+mod machine;
 mod opening;
 
+pub use machine::BinMachine;
 pub use opening::{Endpoint, OpenRefused, is_granted, open};

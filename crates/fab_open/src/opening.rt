@@ -4,15 +4,14 @@ ghost use Rattle.fab_base.specs.Offer.{limits_of};
 ghost use Rattle.fab_face.specs.Ports.{IsFresh, is_granted, opened, within};
 ghost use Rattle.fab_open.specs.Opening.{why_not};
 
+use crate::machine::BinMachine;
 use fab_av::Av;
 use fab_base::{Fault, Info, Size};
-use fab_bins::BinMatcher;
-use fab_core::Core;
 use fab_link::Port;
 use std::alloc::Global;
 
 /// An endpoint over a port, with matching in hashed bins. Its calls are those of the traits of `fab_face`.
-pub type Endpoint<P> = fab_ep::endpoint::Endpoint<P, Core<BinMatcher>>;
+pub type Endpoint<P> = fab_ep::endpoint::Endpoint<P, BinMachine>;
 
 /// Why an endpoint was not opened, with what it was to be opened over.
 #[derive(Drop)]
@@ -75,16 +74,16 @@ pub fn open<P: Port>(
         });
     }
     let why = Fault::NoMemory;
-    let core = match Core::new(alloc, info, selective, av) {
-        Ok(core) => core,
+    let machine = match BinMachine::new(alloc, info, selective, av) {
+        Ok(machine) => machine,
         Err(av) => return Err(OpenRefused { why, port, av }),
     };
-    match Endpoint::over(alloc, port, core, info.log) {
+    match Endpoint::over(alloc, port, machine, info.log) {
         Ok(endpoint) => Ok(endpoint),
-        Err((port, core)) => Err(OpenRefused {
+        Err((port, machine)) => Err(OpenRefused {
             why,
             port,
-            av: core.into_av(),
+            av: machine.into_av(),
         }),
     }
 }

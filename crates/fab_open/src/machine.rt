@@ -1,28 +1,54 @@
-//! The machine under the endpoint of a script's peer.
+//! The machine under an endpoint: a core with matching in hashed bins, under a name without parameters.
 //!
-//! It is a core with matching in hashed bins, under a name without parameters. Whoever runs peers over any machine is
-//! handed this one: for a core itself, each of its clauses would be spelled out over the parameters of the caller, which
-//! is more than one check can compare.
-ghost use Rattle.fab_core.specs.Parts.{held_of};
+//! A caller that is given a type with parameters compares each clause of its calls over all of them; of this one it
+//! compares names alone.
+ghost use Rattle.std.specs.Prelude.{◌≡◌, ◌≤◌, IfOk, IfErr};
+ghost use Rattle.fab_open.specs.Machine.{machine_held};
+ghost use Rattle.fab_open.specs.Opening.{unused};
 
-use fab_av::InsertReport;
-use fab_base::{Access, Buf, Class, Entry, ErrEntry, Fault, FrameHead, NoMemory, Refused, Text};
+use fab_av::{Av, InsertReport};
+use fab_base::{
+    Access, Buf, Class, Entry, ErrEntry, Fault, FrameHead, Info, NoMemory, Refused, Text,
+};
 use fab_bins::BinMatcher;
 use fab_core::Core;
 use fab_face::keeping::{Addressing, Counting};
 use fab_face::looking::{Look, Looking};
 use fab_face::machine::{Ask, Machine, Message, Next};
+use fab_face::multis::{MultiAsk, MultiReceiving};
 use fab_face::requesting::{Request, Requesting};
 use fab_face::targets::Targets;
+use std::alloc::Global;
 
-/// The machine under the endpoint of a script's peer.
+/// The machine of an endpoint, with matching in hashed bins.
 #[derive(Drop)]
-pub struct ScriptMachine {
+pub struct BinMachine {
     pub(crate) core: Core<BinMatcher>,
 }
 
-impl Machine for ScriptMachine {
-    ghost held = { λ m. held_of m.core };
+impl BinMachine {
+    /// The machine of an endpoint with these sizes and capabilities, for the peers of the address vector. It takes all
+    /// memory that its calls need, but for messages that come unexpected, for requests of peers and for the replies that
+    /// they are owed; where there is none, the address vector comes back.
+    pub fn new(alloc: Global, info: &Info, selective: bool, av: Av) -> Result<BinMachine, Av>
+        requires size { 2 ≤ info.now.cq }
+        ensures ok { IfOk result (λ machine. machine.core ≡ unused av info.now selective) }
+        ensures err { IfErr result (λ back. back ≡ av) }
+    {
+        let core = Core::new(alloc, info, selective, av)?;
+        Ok(BinMachine { core })
+    }
+
+    /// Gives up everything but the address vector.
+    pub fn into_av(self) -> Av
+        ensures { result ≡ self.core.av }
+    {
+        self.core.into_av()
+    }
+}
+
+impl Machine for BinMachine {
+    ghost held = { machine_held };
 
     fn known(&self) {
         self.core.known()
@@ -113,7 +139,7 @@ impl Machine for ScriptMachine {
     }
 }
 
-impl Looking for ScriptMachine {
+impl Looking for BinMachine {
     fn look_fault(&self, look: &Look) -> Option<Fault> {
         self.core.look_fault(look)
     }
@@ -139,7 +165,25 @@ impl Looking for ScriptMachine {
     }
 }
 
-impl Requesting for ScriptMachine {
+impl MultiReceiving for BinMachine {
+    fn sharing(&self) {
+        self.core.sharing()
+    }
+
+    fn multi_fault(&self, ask: &MultiAsk, buf: &Buf) -> Option<Fault> {
+        self.core.multi_fault(ask, buf)
+    }
+
+    fn post_multi(&mut self, ask: &MultiAsk, buf: Buf) -> Result<(), Refused> {
+        self.core.post_multi(ask, buf)
+    }
+
+    fn multi_bytes(&self, ctx: u64, at: u32, len: u32) -> Option<&[u8]> {
+        self.core.multi_bytes(ctx, at, len)
+    }
+}
+
+impl Requesting for BinMachine {
     fn request_fault(&self, request: &Request, bytes: &[u8], compared: &[u8]) -> Option<Fault> {
         self.core.request_fault(request, bytes, compared)
     }
@@ -159,7 +203,7 @@ impl Requesting for ScriptMachine {
     }
 }
 
-impl Targets for ScriptMachine {
+impl Targets for BinMachine {
     fn reg(&mut self, key: u64, access: Access, buf: Buf) -> Result<(), Refused> {
         self.core.reg(key, access, buf)
     }
@@ -177,7 +221,7 @@ impl Targets for ScriptMachine {
     }
 }
 
-impl Counting for ScriptMachine {
+impl Counting for BinMachine {
     fn successes(&self, class: Class) -> u64 {
         self.core.successes(class)
     }
@@ -191,7 +235,7 @@ impl Counting for ScriptMachine {
     }
 }
 
-impl Addressing for ScriptMachine {
+impl Addressing for BinMachine {
     fn insert(&mut self, names: &[Text]) -> Result<InsertReport, NoMemory> {
         self.core.insert(names)
     }

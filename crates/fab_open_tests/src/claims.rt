@@ -1,0 +1,213 @@
+//! A message is claimed and taken while its second frame is still to come.
+ghost use Rattle.std.specs.Prelude.{◌≡◌, ◌<◌, length, true, None, Some, IfSome};
+ghost use Rattle.fab_wire.specs.Frames.{MayCome};
+ghost use Rattle.fab_open_tests.specs.Came.{IsNew, Keeps, message_head, piece_head};
+
+use crate::carried::Carried;
+use crate::opening::opened;
+use fab_base::{
+    Ack, Buf, Entry, Fault, Flags, Frame, FrameHead, ItemHead, Kind, Level, Outcome, PeekHow,
+};
+use fab_face::calls::{Looks, Messages, Progress};
+use std::alloc::Global;
+use std::test::Fail;
+
+/// How many bytes the message has.
+const LEN: u32 = 5000;
+
+const COMPLETES: Flags = Flags {
+    completion: true,
+    level: Level::Transmit,
+};
+
+/// The head of the message.
+fn message() -> ItemHead
+    ensures { result ≡ message_head }
+{
+    ItemHead {
+        kind: Kind::TagMsg,
+        op: 0,
+        tag: 4,
+        imm: None,
+        ack: Ack::Nothing,
+        key: 0,
+        at: 0,
+        count: 0,
+        atom: None,
+        outcome: Outcome::Done,
+        total: LEN,
+    }
+}
+
+/// Whether the frame has these bytes of the message.
+fn is_piece(frame: &Frame, from: u32, len: u32) -> bool
+    ensures head { result ≡ true → frame.now.head ≡ piece_head from len }
+    ensures bytes { result ≡ true → length frame.now.bytes ≡ len }
+{
+    let item = message();
+    frame.head == FrameHead { item, from, len } && frame.bytes.as_slice().len() == len as usize
+}
+
+/// Whether the message is sent to peer 0.
+#[tactic(auto, using(crate::proofs::Keeping::keeps_sent, crate::proofs::Keeping::keeps_unsent))]
+fn sends<E: Messages>(alloc: Global, endpoint: &mut E) -> bool
+    ensures { Keeps (E.seen endpoint.old) (E.seen endpoint.new) }
+{
+    let Ok(buf) = Buf::zeros(alloc, LEN as u64) else {
+        return false;
+    };
+    match endpoint.tsend(0, 4, buf, None, 1, COMPLETES) {
+        Ok(()) => true,
+        Err(_) => false,
+    }
+}
+
+/// The two frames of the message, which is sent.
+fn frames<E: Messages + Carried>(alloc: Global, endpoint: &mut E) -> Option<(Frame, Frame)>
+    requires { 0 < (E.seen endpoint.old).lanes.peers }
+    ensures first { IfSome result (λ two. MayCome None two.0) }
+    ensures second { IfSome result (λ two. MayCome (Some two.0.head) two.1) }
+{
+    if !sends(alloc, endpoint) {
+        return None;
+    }
+    let first = endpoint.hand_out(0)?;
+    let second = endpoint.hand_out(0)?;
+    if is_piece(&first, 0, 4096) && is_piece(&second, 4096, 904) {
+        Some((first, second))
+    } else {
+        None
+    }
+}
+
+/// Whether progress takes one frame, and posts none.
+#[tactic(auto, using(crate::proofs::Keeping::keeps_progressed))]
+fn takes_frame<E: Progress>(endpoint: &mut E) -> bool
+    ensures { Keeps (E.seen endpoint.old) (E.seen endpoint.new) }
+{
+    match endpoint.progress(8) {
+        Ok(moved) => moved.taken == 1 && moved.posted == 0,
+        Err(_) => false,
+    }
+}
+
+/// Whether the message is claimed.
+#[tactic(auto, using(crate::proofs::Keeping::keeps_received, crate::proofs::Keeping::keeps_refused))]
+fn claims<E: Looks>(endpoint: &mut E) -> bool
+    ensures { Keeps (E.seen endpoint.old) (E.seen endpoint.new) }
+{
+    match endpoint.claim(None, 4, 0, 9) {
+        Ok(()) => true,
+        Err(_) => false,
+    }
+}
+
+/// Whether an entry tells of the claim.
+fn is_claim(entry: Entry) -> bool {
+    match entry {
+        Entry::Peeked {
+            ctx,
+            how,
+            source,
+            len,
+            ..
+        } => ctx == 9 && how == PeekHow::Claim && source == 1 && len == LEN,
+        _ => false,
+    }
+}
+
+/// Whether the claim is the first completion.
+#[tactic(auto, using(crate::proofs::Keeping::keeps_popped, crate::proofs::Keeping::keeps_same))]
+fn reads_claim<E: Progress>(endpoint: &mut E) -> bool
+    ensures { Keeps (E.seen endpoint.old) (E.seen endpoint.new) }
+{
+    match endpoint.cq_pop() {
+        Ok(entry) => is_claim(entry),
+        Err(_) => false,
+    }
+}
+
+/// Whether the message that is claimed is received.
+#[tactic(auto, using(crate::proofs::Keeping::keeps_received, crate::proofs::Keeping::keeps_refused))]
+fn takes<E: Looks>(alloc: Global, endpoint: &mut E) -> bool
+    ensures { Keeps (E.seen endpoint.old) (E.seen endpoint.new) }
+{
+    let Ok(buf) = Buf::zeros(alloc, LEN as u64) else {
+        return false;
+    };
+    match endpoint.take(buf, 9) {
+        Ok(()) => true,
+        Err(_) => false,
+    }
+}
+
+/// Whether nothing is complete.
+#[tactic(auto, using(crate::proofs::Keeping::keeps_reading))]
+fn reads_nothing<E: Progress>(endpoint: &mut E) -> bool
+    ensures { Keeps (E.seen endpoint.old) (E.seen endpoint.new) }
+{
+    match endpoint.cq_read(8) {
+        Err(Fault::NoEntry) => true,
+        _ => false,
+    }
+}
+
+/// Whether an entry tells of the whole message.
+fn is_message(entry: Entry) -> bool {
+    match entry {
+        Entry::Received {
+            ctx,
+            source,
+            len,
+            buf,
+            ..
+        } => ctx == 9 && source == 1 && len == LEN && buf.as_slice().len() == LEN as usize,
+        _ => false,
+    }
+}
+
+/// Whether the whole message is the next completion.
+fn reads_message<E: Progress>(endpoint: &mut E) -> bool {
+    match endpoint.cq_read(8) {
+        Ok(entry) => is_message(entry),
+        Err(_) => false,
+    }
+}
+
+/// Whether the message is claimed and taken, and not yet whole.
+fn claims_early<E: Looks + Progress>(alloc: Global, endpoint: &mut E) -> bool
+    ensures { Keeps (E.seen endpoint.old) (E.seen endpoint.new) }
+{
+    takes_frame(endpoint)
+        && claims(endpoint)
+        && reads_claim(endpoint)
+        && takes(alloc, endpoint)
+        && reads_nothing(endpoint)
+}
+
+/// Whether a message of peer 1 is taken by peer 0 between its two frames, and then completes.
+fn completes<E: Messages + Looks + Progress + Carried>(
+    alloc: Global,
+    zero: &mut E,
+    one: &mut E,
+) -> bool
+    requires zero { IsNew (E.seen zero.old) }
+    requires one { IsNew (E.seen one.old) }
+{
+    let Some((first, second)) = frames(alloc, one) else {
+        return false;
+    };
+    zero.hand_in(1, first)
+        && claims_early(alloc, zero)
+        && zero.hand_in(1, second)
+        && reads_message(zero)
+}
+
+#[test]
+fn a_claimed_message_is_taken_before_it_is_whole(rt: HostRuntime) -> Result<(), Fail> {
+    let (Some(mut zero), Some(mut one)) = (opened(rt.alloc(), 0), opened(rt.alloc(), 1)) else {
+        return Err("not opened")?;
+    };
+    assert!(rt; completes(rt.alloc(), &mut zero, &mut one));
+    Ok(())
+}
