@@ -139,8 +139,9 @@ pub(crate) fn each_says<R: Abort + Threads + Wait + Sync>(
     report: &str,
     changes: &[(&str, &str, &str)],
 ) -> Result<(), Fail> {
-    for (old, new, line) in changes {
-        let parts = report.split_once(*old);
+    for change in changes {
+        let (old, new, line) = *change;
+        let parts = report.split_once(old);
         assert!(rt; parts.is_some(), "{old}");
         let (front, back) = parts.unwrap_or(("", ""));
         let mut text = String::new(alloc);
