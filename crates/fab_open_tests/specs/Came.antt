@@ -3,6 +3,7 @@
 --     Keeps old new   no frame came, and the peers are as many
 --     IsNew e         an endpoint of two peers to which nothing came
 --     IsNewOver e     the same of one over a plain port
+--     IsReady p       such a port as it is made
 --     message_head    a message of 5,000 bytes
 --     piece_head      a frame of it
 use Rattle.std.specs.Prelude.{◌≡◌, ℕ, List, [], length, Option, Some, None}
@@ -13,7 +14,8 @@ use Rattle.fab_base.specs.declared.items.ItemHead.{ItemHead}
 use Rattle.fab_base.specs.declared.items.Kind.TheVariants.{TagMsg}
 use Rattle.fab_base.specs.declared.items.Outcome.TheVariants.{Done}
 use Rattle.fab_wire.specs.Frames.{last_head}
-use Rattle.fab_link.specs.Plain.{Plain, lane_at}
+use Rattle.fab_link.specs.Meaning.{AreFresh}
+use Rattle.fab_link.specs.Plain.{Plain, fresh_lane, in_of, lane_at, out_of}
 use Rattle.fab_face.specs.Held.{Seen}
 use Rattle.fab_face.specs.Ports.{Whole}
 
@@ -32,6 +34,12 @@ IsNew e = (e.lanes.peers ≡ 2) × ((s : ℕ) → came e s ≡ None)
 
 abbrev pub IsNewOver : Whole Plain → Type 0
 IsNewOver e = (length e.port.lanes ≡ 2) × ((s : ℕ) → last_head (lane_at e.port s).in_after (lane_at e.port s).in_list ≡ None)
+
+-- a plain port for two peers as it is made
+pub record IsReady (p : Plain) : Type 0 where
+  pub peers : length p.lanes ≡ 2
+  pub lanes : (d : ℕ) → lane_at p d ≡ fresh_lane None None
+  pub fresh : (d : ℕ) → AreFresh (out_of p d) (in_of p d)
 
 -- ---- a message
 

@@ -1,7 +1,7 @@
 //! A message is claimed and taken while its second frame is still to come.
 ghost use Rattle.std.specs.Prelude.{◌≡◌, ◌<◌, length, true, None, Some, IfSome};
 ghost use Rattle.fab_wire.specs.Frames.{MayCome};
-ghost use Rattle.fab_open_tests.specs.Came.{IsNew, Keeps, message_head, piece_head};
+ghost use Rattle.fab_open_tests.specs.Came.{IsNew, IsNewOver, Keeps, message_head, piece_head};
 
 use crate::carried::Carried;
 use crate::opening::opened;
@@ -9,6 +9,8 @@ use fab_base::{
     Ack, Buf, Entry, Fault, Flags, Frame, FrameHead, ItemHead, Kind, Level, Outcome, PeekHow,
 };
 use fab_face::calls::{Looks, Messages, Progress};
+use fab_link::PlainPort;
+use fab_open::Endpoint;
 use std::alloc::Global;
 use std::test::Fail;
 
@@ -203,11 +205,26 @@ fn completes<E: Messages + Looks + Progress + Carried>(
         && reads_message(zero)
 }
 
+/// The same between peer 0 and a new peer 1.
+fn completes_from_new(alloc: Global, zero: &mut Endpoint<PlainPort>) -> bool
+    requires { IsNewOver zero.old }
+{
+    match opened(alloc, 1) {
+        Some(mut one) => completes(alloc, zero, &mut one),
+        None => false,
+    }
+}
+
+/// The same between two new peers.
+fn completes_between_new(alloc: Global) -> bool {
+    match opened(alloc, 0) {
+        Some(mut zero) => completes_from_new(alloc, &mut zero),
+        None => false,
+    }
+}
+
 #[test]
 fn a_claimed_message_is_taken_before_it_is_whole(rt: HostRuntime) -> Result<(), Fail> {
-    let (Some(mut zero), Some(mut one)) = (opened(rt.alloc(), 0), opened(rt.alloc(), 1)) else {
-        return Err("not opened")?;
-    };
-    assert!(rt; completes(rt.alloc(), &mut zero, &mut one));
+    assert!(rt; completes_between_new(rt.alloc()));
     Ok(())
 }

@@ -32,11 +32,16 @@ fn lends_own<E: Multis>(alloc: Global, endpoint: &mut E) -> bool {
         && lends_none(endpoint, 4, 0, 1)
 }
 
+/// The same of a new endpoint.
+fn new_lends_own(alloc: Global) -> bool {
+    match opened(alloc, 0) {
+        Some(mut endpoint) => lends_own(alloc, &mut endpoint),
+        None => false,
+    }
+}
+
 #[test]
 fn bytes_of_a_multi_receive_are_lent(rt: HostRuntime) -> Result<(), Fail> {
-    let Some(mut endpoint) = opened(rt.alloc(), 0) else {
-        return Err("not opened")?;
-    };
-    assert!(rt; lends_own(rt.alloc(), &mut endpoint));
+    assert!(rt; new_lends_own(rt.alloc()));
     Ok(())
 }

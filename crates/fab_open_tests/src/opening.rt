@@ -1,18 +1,16 @@
 //! An endpoint of two peers over a plain port.
-ghost use Rattle.std.specs.Prelude.{IfSome};
-ghost use Rattle.fab_open_tests.specs.Came.{IsNewOver};
+ghost use Rattle.std.specs.Prelude.{◌≡◌, IfSome};
+ghost use Rattle.fab_open_tests.specs.Came.{IsNewOver, IsReady};
 
 use fab_av::Av;
-use fab_base::{Caps, Hints};
+use fab_base::{Caps, Hints, Info};
 use fab_info::getinfo;
 use fab_link::PlainPort;
 use fab_open::{Endpoint, open};
 use std::alloc::Global;
 
-/// The endpoint of this peer, with all that is on offer.
-pub fn opened(alloc: Global, number: u32) -> Option<Endpoint<PlainPort>>
-    ensures { IfSome result (λ e. IsNewOver e) }
-{
+/// All that is on offer, for two peers.
+fn offered() -> Option<Info> {
     let hints = Hints {
         caps: Caps::none(),
         peers: Some(2),
@@ -25,8 +23,37 @@ pub fn opened(alloc: Global, number: u32) -> Option<Endpoint<PlainPort>>
         inject: None,
         message: None,
     };
-    let info = getinfo(Some(&hints)).ok()?;
-    let port = PlainPort::new(alloc, number, 2).ok()?;
+    getinfo(Some(&hints)).ok()
+}
+
+/// The port of this peer.
+fn new_port(alloc: Global, number: u32) -> Option<PlainPort>
+    ensures { IfSome result (λ p. IsReady p) }
+{
+    match PlainPort::new(alloc, number, 2) {
+        Ok(port) => Some(port),
+        Err(_) => None,
+    }
+}
+
+/// The endpoint over this port.
+fn open_over(alloc: Global, port: PlainPort, info: &Info, av: Av) -> Option<Endpoint<PlainPort>>
+    requires ready { IsReady port }
+    requires peers { av.peers ≡ 2 }
+    ensures { IfSome result (λ e. IsNewOver e) }
+{
+    match open(alloc, port, av, info, false) {
+        Ok(endpoint) => Some(endpoint),
+        Err(_) => None,
+    }
+}
+
+/// The endpoint of this peer, with all that is on offer.
+pub fn opened(alloc: Global, number: u32) -> Option<Endpoint<PlainPort>>
+    ensures { IfSome result (λ e. IsNewOver e) }
+{
+    let info = offered()?;
+    let port = new_port(alloc, number)?;
     let av = Av::all(alloc, 2).ok()?;
-    open(alloc, port, av, &info, false).ok()
+    open_over(alloc, port, &info, av)
 }

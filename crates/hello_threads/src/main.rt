@@ -13,6 +13,12 @@ use std::sync::Wait;
 use std::thread::Threads;
 use std::{io, thread};
 
+/// The calls that are made here. What makes them is written over any endpoint that has them: the clauses of a given one
+/// would be carried through each function.
+trait Calls: Messages + Receives + Progress {}
+
+impl<E: Messages + Receives + Progress> Calls for E {}
+
 /// The tags of a question and of its answer.
 const ASK: u64 = 1;
 
@@ -64,7 +70,7 @@ fn message_of(entry: Entry) -> Option<Message> {
 }
 
 /// Waits for the next completion, and gives its message.
-fn completion<R: Wait>(rt: &R, endpoint: &mut RingEndpoint) -> Option<Message> {
+fn completion<R: Wait, E: Calls>(rt: &R, endpoint: &mut E) -> Option<Message> {
     for _ in rt.forever() {
         match endpoint.cq_read(64) {
             Ok(entry) => return message_of(entry),
@@ -76,14 +82,14 @@ fn completion<R: Wait>(rt: &R, endpoint: &mut RingEndpoint) -> Option<Message> {
 }
 
 /// Sends a message to the other peer, and waits until it is out.
-fn send<R: Wait>(rt: &R, endpoint: &mut RingEndpoint, dest: u32, tag: u64, text: Buf) {
+fn send<R: Wait, E: Calls>(rt: &R, endpoint: &mut E, dest: u32, tag: u64, text: Buf) {
     if endpoint.tsend(dest, tag, text, None, 0, FLAGS).is_ok() {
         completion(rt, endpoint);
     }
 }
 
 /// Receives a message with this tag of any peer, of as many bytes as the buffer has.
-fn receive<R: Wait>(rt: &R, endpoint: &mut RingEndpoint, tag: u64, room: Buf) -> Option<Message> {
+fn receive<R: Wait, E: Calls>(rt: &R, endpoint: &mut E, tag: u64, room: Buf) -> Option<Message> {
     if endpoint.trecv(None, tag, 0, room, 0).is_err() {
         return None;
     }
@@ -91,14 +97,24 @@ fn receive<R: Wait>(rt: &R, endpoint: &mut RingEndpoint, tag: u64, room: Buf) ->
 }
 
 /// Answers one question, which it gives.
-fn answer<R: Wait>(rt: &R, mut endpoint: RingEndpoint, room: Buf, told: Buf) -> Option<Message> {
+fn answer<R: Wait, E: Calls + Drop>(
+    rt: &R,
+    mut endpoint: E,
+    room: Buf,
+    told: Buf,
+) -> Option<Message> {
     let asked = receive(rt, &mut endpoint, ASK, room);
     send(rt, &mut endpoint, 1, TELL, told);
     asked
 }
 
 /// Asks a question, and gives the answer.
-fn ask<R: Wait>(rt: &R, mut endpoint: RingEndpoint, room: Buf, asked: Buf) -> Option<Message> {
+fn ask<R: Wait, E: Calls + Drop>(
+    rt: &R,
+    mut endpoint: E,
+    room: Buf,
+    asked: Buf,
+) -> Option<Message> {
     send(rt, &mut endpoint, 0, ASK, asked);
     receive(rt, &mut endpoint, TELL, room)
 }

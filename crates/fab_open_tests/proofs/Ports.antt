@@ -1,0 +1,46 @@
+-- Plain ports as they are made.
+use Rattle.std.proofs.Common.{◌≡◌, ℕ, zero, suc, List, length, Option, None, refl, sym, ap, subst, ◌∙◌}
+use Rattle.std.specs.Prelude.{replicate}
+use Rattle.fab_base.specs.declared.frames.FrameHead.{FrameHead}
+use Rattle.fab_wire.specs.Cut.{IsBetweenItems}
+use Rattle.fab_wire.specs.Frames.{last_head}
+use Rattle.fab_link.specs.Meaning.{AreFresh}
+use Rattle.fab_link.specs.Plain.{Lane, Plain, fresh_lane, in_of, lane_at, out_of}
+use Rattle.fab_link.specs.declared.port.Port.{Ghosts}
+use Rattle.fab_face.specs.Held.{Held}
+use Rattle.fab_face.specs.Ports.{IsFresh, Whole}
+use Rattle.fab_open_tests.specs.Came.{IsNewOver, IsReady}
+
+abbrev two_lanes : ℕ → Plain
+two_lanes number = record { number = number; lanes = replicate 2 (fresh_lane None None) }
+
+lane_made : (number d : ℕ) → lane_at (two_lanes number) d ≡ fresh_lane None None
+lane_made number zero = refl
+lane_made number (suc zero) = refl
+lane_made number (suc (suc d)) = refl
+
+pub ready_made : (number : ℕ) (p : Plain) → p ≡ record { number = number; lanes = replicate 2 (fresh_lane None None) } → ((d : ℕ) → AreFresh (out_of p d) (in_of p d)) → IsReady p
+ready_made number p is fresh = record {
+  peers = ap (λ (q : Plain). length q.lanes) is;
+  lanes = λ d. ap (λ (q : Plain). lane_at q d) is ∙ lane_made number d;
+  fresh = fresh;
+}
+
+pub fresh_made : {P : Type 0} (M : Ghosts P) (port : P) → ((d : ℕ) → AreFresh (M.outs port d) (M.ins port d)) → ((d : ℕ) → (M.outs port d).after ≡ None) → ((s : ℕ) → (M.ins port s).after ≡ None) → IsFresh M port
+fresh_made M port fresh outs ins = record {
+  posted = λ d. (fresh d).frames;
+  taken = λ s. (fresh s).taken;
+  closed = λ s. (fresh s).lent;
+  out_after = λ d below. subst IsBetweenItems (sym (outs d)) tt;
+  in_after = λ s below. subst IsBetweenItems (sym (ins s)) tt;
+}
+
+pub after_out : (p : Plain) → IsReady p → (d : ℕ) → (out_of p d).after ≡ None
+after_out p ready d = ap (λ (lane : Lane). lane.out.after) (ready.lanes d)
+
+pub after_in : (p : Plain) → IsReady p → (d : ℕ) → (in_of p d).after ≡ None
+after_in p ready d = ap (λ (lane : Lane). lane.in_after) (ready.lanes d)
+
+pub opened_new : (e : Whole Plain) (p : Plain) → e.port ≡ p → IsReady p → IsNewOver e
+opened_new e p is ready = subst (λ (q : Plain). (length q.lanes ≡ 2) × ((s : ℕ) → last_head (lane_at q s).in_after (lane_at q s).in_list ≡ None)) (sym is)
+    (ready.peers, λ s. ap (λ (lane : Lane). last_head lane.in_after lane.in_list) (ready.lanes s))
