@@ -1,9 +1,10 @@
 -- What was inside the lanes is what comes to plain ports, and the moves of all ports merge.
-use Rattle.std.proofs.Common.{◌≡◌, ℕ, zero, suc, ◌+◌, ◌<◌, ◌≤◌, true, List, [], ◌∷◌, ◌++◌, map, length, get_or, sym, refl, ap, ◌∙◌, subst, arith, length-map}
+use Rattle.std.proofs.Common.{◌≡◌, ℕ, zero, suc, ◌+◌, ◌<◌, ◌≤◌, true, List, [], ◌∷◌, ◌++◌, map, length, get_or, sym, refl, ap, ◌∙◌, subst, arith}
 use mathlib.Core.List.{IsPrefix, map-append}
 use mathlib.Core.Logic.{dite}
 use native.Mathlib.Decide.{dec_le}
 use Rattle.std.specs.Prelude.{Option, Some, None, slice_get, Vec}
+use Rattle.std.proofs.lemmas.List.{length-map}
 use Rattle.std.proofs.lemmas.List.Elements.{All-from_get_or}
 use Rattle.std.specs.declared.alloc.Global.{Global}
 use Rattle.std.proofs.Math.ListN.{get_or-eq_default}
@@ -40,6 +41,10 @@ moves_past (x ∷ xs) (suc k) far = moves_past xs k (omega arith)
 
 fresh_with : (a c : Option FrameHead) (fs : List Frame) → AreFresh (plain.outgoing (record (fresh_lane a c) { in_list = fs })) (plain.incoming (record (fresh_lane a c) { in_list = fs }))
 fresh_with a c fs = record { frames = refl; lane_full_seen = refl; pool_full_seen = refl; taken = refl; lent = refl; empty_seen = refl }
+
+pub few_ports : (ports : List Queued) (plain : List Plain) → AreAll ports → AreSuccessors ports plain → length ports < 4294967296
+few_ports ports plain all succ = let p = there_is ports 0 all.some in let q = there_is plain 0 (subst (λ (n : ℕ). 0 < n) (sym succ.count) all.some) in
+    subst (λ (n : ℕ). n < 4294967296) (all.sizes 0 p.0 p.1) (succ.each 0 p.0 q.0 p.1 q.1).1.few
 
 module _ (ports : List Queued) (before after : List Plain) (rooms : List (Vec (Vec Frame Global) Global)) (outs : List (Vec Out Global)) (ins : List (Vec In Global)) (all : AreAll ports) (succ : AreSuccessors ports before) (apart : AreApart ports outs ins 0) where
   low : (k : ℕ) (p : Queued) → slice_get ports k ≡ Some p → k < length ports
@@ -78,6 +83,7 @@ module _ (ports : List Queued) (before after : List Plain) (rooms : List (Vec (V
           sources = apart.outs_count ∙ sym count;
           rooms_count = own.count ∙ sym count;
           lanes_count = both.0.goes_on.peers ∙ all.sizes r p here ∙ sym count;
+          few = subst (λ (n : ℕ). n < 4294967296) (all.sizes r p here ∙ sym count) both.1.few;
           below = λ s l. let a = source s l in subst (λ (z : ℕ × ℕ). z.0 < z.1) (λ i. (sym number i, sym (long_row s a.0 a.1) i)) near;
           joined = λ s l. let a = source s l in
               (λ i. (out_in (row_is s a.0 a.1 i) (number i)).lane) ∙ all.joined s r a.0 p a.1 here ∙ (λ i. (in_in (sym (column_is r p here) i) s).lane);

@@ -9,4 +9,5 @@ mod Draining
 mod Succeeding
 mod Receiving
 mod Rooming
+mod Apart
 mod Coming

@@ -4,7 +4,7 @@ use mathlib.Core.Logic.{dite}
 use native.Mathlib.Decide.{ℕ_discrete}
 use Rattle.std.specs.Prelude.{Option, Some, None, slice_get, slice_set, Vec, vec_capacity, option_to_list}
 use Rattle.std.specs.declared.alloc.Global.{Global}
-use Rattle.std.proofs.lemmas.List.{set-get_or}
+use Rattle.std.proofs.lemmas.List.{set-get_or, get_or_default}
 use Rattle.std.proofs.lemmas.Option.{none-some, same_Some, slice_get_within}
 use Rattle.std.proofs.Math.Seq.{get_or-append_seam}
 use Rattle.fab_base.specs.declared.frames.Frame.{Frame}
@@ -15,7 +15,7 @@ use Rattle.fab_queue.specs.Ends.{Out, In, new_out, new_in}
 use Rattle.fab_queue.specs.Ports.{no_lane}
 use Rattle.fab_queue.specs.Laid.{members, row, column, out_in, in_in}
 use Rattle.fab_queue.specs.Gather.{taken_end_of, Drained, Receives, Received, ReceivesAll, ReceivedAll}
-use Rattle.fab_queue.proofs.Members.{members_set_same, members_set_other, members_seam}
+use Rattle.fab_queue.proofs.Members.{members_of, members_set_same, members_set_other, members_seam}
 
 pub record Receiving (outs0 outs : List (Vec Out Global)) (ins0 ins : List In) (rooms0 rooms : List (Vec Frame Global)) (port0 port : Plain) : Type 0 where
   pub outs_count : length outs ≡ length outs0
@@ -50,7 +50,7 @@ receiving_starts outs ins rooms port port' is r = subst (Receiving outs outs ins
 pub received : (outs0 outs : List (Vec Out Global)) (ins0 ins : List In) (rooms0 rooms : List (Vec Frame Global)) (port0 port : Plain) → Receiving outs0 outs ins0 ins rooms0 rooms port0 port → length ins ≡ 0 → Received outs0 ins0 port0 port
 received outs0 outs ins0 ins rooms0 rooms port0 port k none = record { number = k.number; count = k.count; same = k.same; each = λ s near. k.each s (omega (arith, none)) near }
 
-at_seam : {X : Type 0} (xs : List X) (x : X) (ys : List X) → slice_get (xs ++ x ∷ ys) (length xs) ≡ Some x
+pub at_seam : {X : Type 0} (xs : List X) (x : X) (ys : List X) → slice_get (xs ++ x ∷ ys) (length xs) ≡ Some x
 at_seam [] x ys = refl
 at_seam (z ∷ zs) x ys = at_seam zs x ys
 
@@ -78,6 +78,9 @@ module _ (outs0 outs : List (Vec Out Global)) (ins0 ins ins' : List In) (rooms0 
   -- the source and its end of the lane are there
   pub near_source : length ins' < length outs
   near_source = subst (λ (n : ℕ). length ins' < n) (sym (k.outs_count ∙ r.sources)) low
+
+  pub few_sources : length ins' < 4294967296
+  few_sources = let l = low in let f : length ins0 < 4294967296 = r.few in omega (arith, l, f)
 
   pub near_end : port0.number < length (row outs (length ins'))
   near_end = subst (λ (n : ℕ). port0.number < n) (ap length (sym (k.rows (length ins')))) (r.below (length ins') low)
@@ -137,12 +140,29 @@ same_rows outs s d v o near is same t = dite (ℕ_discrete t s)
     (λ at. subst (λ (z : ℕ). row (set outs s v) z ≡ row outs z) (sym at) (members_set_same outs s v near ∙ is ∙ ap (λ (z : Out). set (row outs s) d z) same ∙ set-get_or (row outs s) d (new_out no_lane 0)))
     (λ ne. members_set_other outs s t v ne)
 
+-- an end that was reached through its row
+pub wide_row : (outs : List (Vec Out Global)) (z : Vec Out Global) (s' s d d' : ℕ) → s' ≡ s → d' ≡ d → s < length outs → d < length (row outs s) → d' < length (get_or outs s' z).items
+wide_row outs z s' s d d' at n near end = subst (λ (k : ℕ × ℕ). k.0 < length (get_or outs k.1 z).items) (λ i. (sym n i, sym at i)) (subst (λ (l : List Out). d < length l) (sym (members_of outs z s near)) end)
+
+pub end_at : (outs : List (Vec Out Global)) (z : Vec Out Global) (s' s d d' : ℕ) → s' ≡ s → d' ≡ d → s < length outs → d < length (row outs s) → (x y : Out) → x ≡ get_or (get_or outs s' z).items d' y → x ≡ out_in (row outs s) d
+end_at outs z s' s d d' at n near end x y e = e ∙ get_or_default (get_or outs s' z).items d' y (new_out no_lane 0) (wide_row outs z s' s d d' at n near end)
+    ∙ (λ i. out_in (get_or outs (at i) z).items (n i)) ∙ ap (λ (l : List Out). out_in l d) (members_of outs z s near)
+
+-- an end that was reached through its row, and stays as it was, leaves all as they were
+pub kept_rows : (outs : List (Vec Out Global)) (z : Vec Out Global) (s' s d d' : ℕ) → s' ≡ s → d' ≡ d → s < length outs → d < length (row outs s) → (x y o : Out) → x ≡ get_or (get_or outs s' z).items d' y → o ≡ x
+    → (v : Vec Out Global) → v.items ≡ set (get_or outs s' z).items d' o → (t : ℕ) → row (set outs s' v) t ≡ row outs t
+kept_rows outs z s' s d d' at n near end x y o e same v is =
+    let near' : s' < length outs = subst (λ (k : ℕ). k < length outs) (sym at) near in let here = members_of outs z s' near' in
+    same_rows outs s' d' v o near' (is ∙ ap (λ (l : List Out). set l d' o) here)
+        (same ∙ e ∙ get_or_default (get_or outs s' z).items d' y (new_out no_lane 0) (wide_row outs z s' s d d' at n near end) ∙ ap (λ (l : List Out). out_in l d') here)
+
 -- what may be received by ends with the same rows
 pub receives_same : (outs outs' : List (Vec Out Global)) (ins : List In) (rooms : List (Vec Frame Global)) (port : Plain) → length outs' ≡ length outs → ((s : ℕ) → row outs' s ≡ row outs s) → Receives outs ins rooms port → Receives outs' ins rooms port
 receives_same outs outs' ins rooms port count rows r = record {
   sources = count ∙ r.sources;
   rooms_count = r.rooms_count;
   lanes_count = r.lanes_count;
+  few = r.few;
   below = λ s near. subst (λ (l : List Out). port.number < length l) (sym (rows s)) (r.below s near);
   joined = λ s near. subst (λ (l : List Out). (out_in l port.number).lane ≡ (in_in ins s).lane) (sym (rows s)) (r.joined s near);
   room = λ s w at. subst (λ (l : List Out). (w.items ≡ []) × ((out_in l port.number).room + 1 ≤ vec_capacity w)) (sym (rows s)) (r.room s w at);

@@ -1,7 +1,7 @@
 -- The plain ports that go on where ports ended.
-use Rattle.std.proofs.Common.{◌≡◌, ℕ, zero, suc, ◌<◌, ◌≤◌, List, [], ◌∷◌, map, length, get_or, sym, refl, ap, ◌∙◌, subst, arith}
+use Rattle.std.proofs.Common.{◌≡◌, ℕ, zero, suc, ◌<◌, ◌≤◌, List, [], ◌∷◌, map, length, get_or, sym, refl, ap, ◌∙◌, subst, arith, Ok, Err}
 use native.Mathlib.Decide.{dec_le}
-use Rattle.std.specs.Prelude.{Option, Some, None}
+use Rattle.std.specs.Prelude.{Option, Some, None, Result, IfOk}
 use Rattle.std.proofs.Math.ListN.{get_or-eq_default}
 use Rattle.fab_base.specs.declared.frames.FrameHead.{FrameHead}
 use Rattle.fab_link.specs.Meaning.{AreFresh}
@@ -37,3 +37,8 @@ module _ (p : Queued) (q : Plain) (posted taken : List (Option FrameHead)) (k : 
     };
     lanes = λ s. lane_is s ∙ (λ i. fresh_lane (sym (ap (λ (l : plain.Lane). l.out.after) (lane_is s)) i) (sym (ap (λ (l : plain.Lane). l.in_after) (lane_is s)) i));
   }
+
+pub all_succeeds : {E : Type 0} (p : Queued) (posted taken : List (Option FrameHead)) (k : IsSound p) → posted ≡ map posted_end p.outs → taken ≡ map taken_end_of p.ins → (r : Result Plain E) → IfOk r (λ q. q.number ≡ p.number) → IfOk r (λ q. length q.lanes ≡ length p.outs)
+    → IfOk r (λ q. (d : ℕ) → d < length p.outs → lane_at q d ≡ fresh_lane (get_or posted d None) (get_or taken d None)) → IfOk r (λ q. (d : ℕ) → AreFresh (plain.out_of q d) (plain.in_of q d)) → IfOk r (λ q. Succeeds p q × IsSound p)
+all_succeeds p posted taken k posted_is taken_is (Ok q) number peers lanes fresh = (succeeds p q posted taken k posted_is taken_is peers lanes number fresh, k)
+all_succeeds p posted taken k posted_is taken_is (Err e) number peers lanes fresh = tt

@@ -4,7 +4,7 @@
 --     Succeeds ..            a plain port that goes on, to which nothing came yet
 --     IsRoom ..              the room that is made for what is inside the lanes
 --     Drained ..             all that was inside a lane came
-use Rattle.std.specs.Prelude.{◌≡◌, ℕ, ◌+◌, ◌<◌, ◌≤◌, List, [], ◌++◌, length, Option, Some, None, slice_get, Vec, vec_capacity, true}
+use Rattle.std.specs.Prelude.{◌≡◌, ℕ, ◌+◌, ◌^◌, ◌<◌, ◌≤◌, List, [], ◌++◌, length, Option, Some, None, slice_get, Vec, vec_capacity, true}
 use Rattle.std.specs.declared.alloc.Global.{Global}
 use Rattle.fab_base.specs.declared.frames.FrameHead.{FrameHead}
 use Rattle.fab_base.specs.declared.frames.Frame.{Frame}
@@ -96,6 +96,7 @@ pub record Receives (outs : List (Vec Out Global)) (ins : List In) (rooms : List
   pub sources : length outs ≡ length ins
   pub rooms_count : length rooms ≡ length ins
   pub lanes_count : length port.lanes ≡ length ins
+  pub few : length ins < 2 ^ 32
   pub below : (s : ℕ) → s < length ins → port.number < length (row outs s)
   pub joined : (s : ℕ) → s < length ins → (out_in (row outs s) port.number).lane ≡ (in_in ins s).lane
   pub room : (s : ℕ) (w : Vec Frame Global) → slice_get rooms s ≡ Some w → (w.items ≡ []) × ((out_in (row outs s) port.number).room + 1 ≤ vec_capacity w)

@@ -1,6 +1,7 @@
-use Rattle.std.proofs.Common.{◌≡◌, ◌<◌, ◌++◌, ◌∷◌, [], List, length, ◌∙◌, rules, arith}
+use Rattle.std.proofs.Common.{◌≡◌, ◌<◌, ◌++◌, ◌∷◌, [], List, length, ap, ◌∙◌, rules, arith}
 use Rattle.std.specs.Prelude.{vec_capacity}
 use Rattle.fab_base.specs.declared.frames.Frame.{Frame}
+use Rattle.fab_queue.specs.declared.lane.Log.{Log}
 use Rattle.fab_queue.specs.Lanes.{known}
 use Rattle.fab_queue.proofs.Lanes.{gets, inside}
 use Rattle.fab_queue.proofs.Draining.{emptying_starts, emptying_goes_on, emptying_wider, has_room, fewer, emptied}
@@ -34,5 +35,11 @@ loop-sent-preserved g c =
       rw grown (emptying_wider _ _ _ _ _ _ c.push.ensures.capacity (emptying_goes_on _ _ _ _ c.loop-sent.frames.items (vec_capacity c.loop-sent.frames) c.in-Some.sent c.loop-sent.invariant.1 one)),
     )
 
-pub returns : goal.returns
-returns g c = ?
+pub returns-clause-pass : goal.returns-clause-pass
+returns-clause-pass g c = let same = (c.in_default.ensures {u = tt}).queue in let before = c.loop-sent.invariant.0 in (same.0 ∙ before.0, same.1 ∙ before.1, same.2 ∙ before.2)
+
+pub returns-clause-puts : goal.returns-clause-puts
+returns-clause-puts g c = let i = c.loop-sent.invariant.1 in let is = (c.in_default.ensures {u = tt}).rule.0 in (ap (λ (u : Log). u.puts) is ∙ i.puts, ap (λ (u : Log). u.put) is ∙ i.same)
+
+pub returns-clause-inside : goal.returns-clause-inside
+returns-clause-inside g c = emptied _ _ _ _ _ c.loop-sent.invariant.1 (c.in_default.ensures {u = tt}).rule.1

@@ -8,8 +8,10 @@ use Rattle.fab_queue.specs.Gather.{AreRooms}
 use Rattle.fab_queue.proofs.Rooming.{pairs_more}
 use Rattle.fab_queue.proofs.rooms.rooms.Goals as goal
 
-pub rooms_to-rooms-requires : goal.rooms_to-rooms-requires
-rooms_to-rooms-requires g c = ?
+pub rooms_to-requires : goal.rooms_to-requires
+rooms_to-requires g c =
+    let here = slice_get_read c.args.ports.now (length c.args.ports.now) c.loop-reader.reader-index c.reader-item.result refl c.loop-reader-test.true c.reader-item.is in
+    λ s p at. subst (λ (z : ℕ × ℕ). z.0 < z.1) (λ i. (sym (c.number.ensures ∙ c.requires.numbers c.loop-reader.reader-index c.reader-item.result here) i, sym (c.requires.sizes s p at) i)) c.loop-reader-test.true
 
 pub loop-reader-preserved : goal.loop-reader-preserved
 loop-reader-preserved g c = let i = c.loop-reader.invariant in let grown : c.push.new.self.items ≡ c.loop-reader.all.items ++ c.in_ok-rooms.rooms ∷ [] = search rules in

@@ -8,8 +8,8 @@ use Rattle.fab_queue.specs.Gather.{IsRoom}
 use Rattle.fab_queue.proofs.Rooming.{pairs_more}
 use Rattle.fab_queue.proofs.rooms.rooms_to.Goals as goal
 
-pub room_to-room-requires : goal.room_to-room-requires
-room_to-room-requires g c = c.requires c.loop-source.source-index c.source-item.result (slice_get_read c.args.ports.now (length c.args.ports.now) c.loop-source.source-index c.source-item.result refl c.loop-source-test.true c.source-item.is)
+pub room_to-requires : goal.room_to-requires
+room_to-requires g c = c.requires c.loop-source.source-index c.source-item.result (slice_get_read c.args.ports.now (length c.args.ports.now) c.loop-source.source-index c.source-item.result refl c.loop-source-test.true c.source-item.is)
 
 pub loop-source-preserved : goal.loop-source-preserved
 loop-source-preserved g c = let i = c.loop-source.invariant in let grown : c.push.new.self.items ≡ c.loop-source.rooms.items ++ c.in_ok-room.room ∷ [] = search rules in
