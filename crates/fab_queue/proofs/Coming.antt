@@ -3,7 +3,7 @@ use Rattle.std.proofs.Common.{◌≡◌, ℕ, zero, suc, ◌+◌, ◌<◌, ◌�
 use mathlib.Core.List.{IsPrefix, map-append}
 use mathlib.Core.Logic.{dite}
 use native.Mathlib.Decide.{dec_le}
-use Rattle.std.specs.Prelude.{Option, Some, None, slice_get, Vec}
+use Rattle.std.specs.Prelude.{Option, Some, None, slice_get, Vec, vec_capacity}
 use Rattle.std.proofs.lemmas.List.{length-map}
 use Rattle.std.proofs.lemmas.List.Elements.{All-from_get_or}
 use Rattle.std.specs.declared.alloc.Global.{Global}
@@ -88,7 +88,7 @@ module _ (ports : List Queued) (before after : List Plain) (rooms : List (Vec (V
           joined = λ s l. let a = source s l in
               (λ i. (out_in (row_is s a.0 a.1 i) (number i)).lane) ∙ all.joined s r a.0 p a.1 here ∙ (λ i. (in_in (sym (column_is r p here) i) s).lane);
           room = λ s v at. let a = there_is ports s (subst (λ (n : ℕ). s < n) own.count (slice_get_within w.items s v at)) in let fits = own.each s a.0 v a.1 at in
-              (fits.0, subst (λ (z : List Out × ℕ). (out_in z.0 z.1).room + 1 ≤ _) (λ i. (sym (row_is s a.0 a.1) i, sym both.0.goes_on.number i)) fits.1);
+              (fits.0, subst (λ (z : List Out × ℕ). (out_in z.0 z.1).room + 1 ≤ vec_capacity v) (λ i. (sym (row_is s a.0 a.1) i, sym both.0.goes_on.number i)) fits.1);
           none = λ s l. ap (λ (z : plain.Lane). z.in_list) (both.0.lanes s);
           after = λ s l. both.0.goes_on.in_after s ∙ ap (λ (z : List In). taken_end_of (in_in z s)) (sym (column_is r p here));
         };
@@ -114,7 +114,7 @@ module _ (ports : List Queued) (before after : List Plain) (rooms : List (Vec (V
     goes_on r b q at_r at_q = let old = plain_at r b at_r in let one = got.each r old.0 q old.1 at_q in let now = lane_now r b old.0 q at_r old.1 at_q in let was = old.2.goes_on in record {
       number = one.number ∙ was.number;
       peers = one.count ∙ was.peers;
-      fresh = λ d. subst (λ (z : plain.Lane). AreFresh (plain.outgoing z) (plain.incoming z)) (sym (now d)) (fresh_with _ _ _);
+      fresh = λ d. subst (λ (z : plain.Lane). AreFresh (plain.outgoing z) (plain.incoming z)) (sym (now d)) (fresh_with (lane_at old.0 d).out.after (lane_at old.0 d).in_after (lane_at q d).in_list);
       out_after = λ d. ap (λ (z : plain.Lane). z.out.after) (now d) ∙ was.out_after d;
       in_after = λ s. ap (λ (z : plain.Lane). z.in_after) (now s) ∙ was.in_after s;
     }

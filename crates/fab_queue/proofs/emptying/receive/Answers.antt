@@ -1,5 +1,5 @@
 use Rattle.std.proofs.Common.{rules, ◌≡◌, ℕ, ◌+◌, ◌<◌, ◌≤◌, List, [], ◌∷◌, ◌++◌, length, get_or, refl, sym, ap, ◌∙◌, subst, arith, length-append, length-set}
-use Rattle.std.specs.Prelude.{Vec}
+use Rattle.std.specs.Prelude.{Vec, vec_capacity}
 use Rattle.std.specs.declared.alloc.Global.{Global}
 use Rattle.fab_base.specs.declared.frames.Frame.{Frame}
 use Rattle.fab_wire.specs.Frames.{IsLane}
@@ -46,7 +46,7 @@ drain-frames-requires-clause-room g c =
     let end = near_end _ _ _ _ _ _ _ _ _ _ _ _ c.requires c.loop-inlet.invariant.1 c.in-Some.ensures.items c.in-Some-pop.ensures.items in
     let is = end_at c.loop-inlet.outs _ _ _ c.args.port.now.number c.me-reader.result at n near end c.index_mut.result.now _ c.index_mut.ensures.value in
     let fits = roomy _ _ _ _ _ _ _ _ _ _ _ _ c.requires c.loop-inlet.invariant.1 c.in-Some.ensures.items c.in-Some-pop.ensures.items in
-    (fits.0, subst (λ (o : Out). o.room + 1 ≤ _) (sym is) fits.1)
+    (fits.0, subst (λ (o : Out). o.room + 1 ≤ vec_capacity c.in-Some-pop.room) (sym is) fits.1)
 
 pub overflow_cast-source : goal.overflow_cast-source
 overflow_cast-source g c =

@@ -23,7 +23,7 @@ overflow_cast-len-2 g c =
     let few = few_ports c.args.ports.items c.in-Ok.plain.items c.requires succ in let l : c.len-2.result ≡ length c.args.ports.items = search rules in omega (arith, few, l)
 
 pub index-requires : goal.index-requires
-index-requires g c = c.requires.some
+index-requires g c = let some = c.requires.some in let o = c.args.ports.ok in omega (arith, some, o)
 
 pub take_apart-requires : goal.take_apart-requires
 take_apart-requires g c =
