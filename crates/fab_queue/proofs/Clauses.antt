@@ -1,5 +1,5 @@
 -- A look at a lane, and a step over its frame, in the words of all ports.
-use Rattle.std.proofs.Common.{◌≡◌, ◌≢◌, ℕ, suc, ◌<◌, ◌+◌, ◌++◌, ◌∷◌, [], length, List, Some, None, arith, refl, sym, ap, ◌∙◌, subst, inl, inr, set, get_or-set_other, get_or-set_same, length-set}
+use Rattle.std.proofs.Common.{◌≡◌, ◌≢◌, ℕ, suc, ◌<◌, ◌++◌, ◌∷◌, [], length, List, Some, None, arith, refl, sym, ap, ◌∙◌, subst, inl, inr, get_or-set_other, get_or-set_same}
 use std.Path.{fun_ext}
 use mathlib.Core.List.{map-append}
 use mathlib.Core.Logic.{dite}
@@ -16,7 +16,7 @@ use Rattle.fab_link.specs.Meaning.{Incoming, Fronted, Gives, GrewBy, taken_end, 
 use Rattle.fab_link.specs.Plain.{lent_frames}
 use Rattle.fab_queue.specs.declared.lane.Sent.{Sent}
 use Rattle.fab_queue.specs.Lanes.{frame_of, frames_of}
-use Rattle.fab_queue.specs.Ends.{Out, In, new_in, frame_in, taken_one, Looked, LookedAt}
+use Rattle.fab_queue.specs.Ends.{In, new_in, frame_in, taken_one, Looked, LookedAt}
 use Rattle.fab_queue.specs.Ports.{Queued, no_lane, in_at, out_of, in_of, incoming, with_in, moves_of, lanes_of}
 
 -- what `front` says of one lane

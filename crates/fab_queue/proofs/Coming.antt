@@ -1,9 +1,8 @@
 -- What was inside the lanes is what comes to plain ports, and the moves of all ports merge.
 use Rattle.std.proofs.Common.{◌≡◌, ℕ, zero, suc, ◌+◌, ◌<◌, ◌≤◌, true, List, [], ◌∷◌, ◌++◌, map, length, get_or, sym, refl, ap, ◌∙◌, subst, arith}
 use mathlib.Core.List.{IsPrefix, map-append}
-use mathlib.Core.Logic.{dite}
 use native.Mathlib.Decide.{dec_le}
-use Rattle.std.specs.Prelude.{Option, Some, None, slice_get, Vec, vec_capacity}
+use Rattle.std.specs.Prelude.{Option, Some, slice_get, Vec, vec_capacity}
 use Rattle.std.proofs.lemmas.List.{length-map}
 use Rattle.std.proofs.lemmas.List.Elements.{All-from_get_or}
 use Rattle.std.specs.declared.alloc.Global.{Global}
@@ -17,12 +16,11 @@ use Rattle.fab_wire.proofs.Merging.{stamped_merge}
 use Rattle.fab_link.specs.Meaning.{AreFresh}
 use Rattle.fab_link.specs.Plain as plain
 use Rattle.fab_link.specs.Plain.{Plain, lane_at, fresh_lane}
-use Rattle.fab_queue.specs.declared.lane.Sent.{Sent}
 use Rattle.fab_queue.specs.Lanes.{frame_of, frames_of}
-use Rattle.fab_queue.specs.Ends.{Out, In, new_out, new_in}
-use Rattle.fab_queue.specs.Ports.{Queued, no_lane, out_at, in_at, out_of, in_of, number, moves_of, IsSound}
-use Rattle.fab_queue.specs.Laid.{members, row, column, out_in, in_in}
-use Rattle.fab_queue.specs.Gather.{AreAll, GoesOn, Gathered, taken_end_of, Succeeds, AreSuccessors, AreRooms, AreAllRooms, AreApart, Drained, Receives, Received, ReceivesAll, ReceivedAll}
+use Rattle.fab_queue.specs.Ends.{Out, In, new_in}
+use Rattle.fab_queue.specs.Ports.{Queued, no_lane, out_at, in_at, number, moves_of, IsSound}
+use Rattle.fab_queue.specs.Laid.{row, column, out_in, in_in}
+use Rattle.fab_queue.specs.Gather.{AreAll, GoesOn, Gathered, taken_end_of, Succeeds, AreSuccessors, AreAllRooms, AreApart, Drained, ReceivesAll, ReceivedAll}
 
 pub there_is : {X : Type 0} (xs : List X) (k : ℕ) → k < length xs → (x : X) × (slice_get xs k ≡ Some x)
 there_is [] k near = absurd (omega arith)

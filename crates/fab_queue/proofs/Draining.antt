@@ -1,10 +1,10 @@
 -- All that is inside a lane is taken out.
-use Rattle.std.proofs.Common.{◌≡◌, ℕ, zero, suc, ◌+◌, ◌-◌, ◌<◌, ◌≤◌, true, List, [], ◌∷◌, ◌++◌, map, length, sym, refl, ap, ◌∙◌, subst, arith, append_assoc, append-nil, length-append}
-use mathlib.Core.List.{IsPrefix, map-append}
-use Rattle.std.specs.Prelude.{Option, Some, None, option_to_list}
+use Rattle.std.proofs.Common.{◌≡◌, ℕ, ◌+◌, ◌-◌, ◌<◌, ◌≤◌, true, List, [], ◌∷◌, ◌++◌, length, sym, refl, ap, ◌∙◌, subst, arith, append_assoc, append-nil, length-append}
+use mathlib.Core.List.{map-append}
+use Rattle.std.specs.Prelude.{Option, None, option_to_list}
 use Rattle.fab_base.specs.declared.frames.FrameHead.{FrameHead}
 use Rattle.fab_base.specs.declared.frames.Frame.{Frame}
-use Rattle.fab_wire.specs.Frames.{last_head, IsLane}
+use Rattle.fab_wire.specs.Frames.{IsLane}
 use Rattle.fab_queue.specs.declared.lane.Sent.{Sent}
 use Rattle.fab_queue.specs.declared.lane.Log.{Log}
 use Rattle.fab_queue.specs.Lanes.{frame_of, frames_of, log, GotOne, Holds}

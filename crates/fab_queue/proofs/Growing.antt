@@ -1,13 +1,13 @@
 -- The lanes between all peers, as they are made one by one.
-use Rattle.std.proofs.Common.{◌≡◌, ◌≢◌, ℕ, zero, suc, ◌+◌, ◌<◌, ◌≤◌, List, [], ◌∷◌, ◌++◌, length, set, get_or, sym, refl, ap, ◌∙◌, subst, arith, length-set, length-append}
+use Rattle.std.proofs.Common.{◌≡◌, ℕ, ◌+◌, ◌<◌, List, [], ◌∷◌, ◌++◌, length, set, sym, refl, ap, ◌∙◌, subst, arith, length-set, length-append}
 use mathlib.Core.Logic.{dite}
-use native.Mathlib.Decide.{ℕ_discrete, dec_le}
+use native.Mathlib.Decide.{ℕ_discrete}
 use Rattle.std.specs.Prelude.{Vec}
 use Rattle.std.specs.declared.alloc.Global.{Global}
 use Rattle.std.proofs.lemmas.List.{get_or_push, get_or_append_left}
 use Rattle.fab_queue.specs.Ends.{Out, In, new_out, new_in}
 use Rattle.fab_queue.specs.Ports.{no_lane}
-use Rattle.fab_queue.specs.Laid.{members, row, column, out_in, in_in, IsLaid, AreLaidFrom, AreLaid}
+use Rattle.fab_queue.specs.Laid.{row, column, out_in, in_in, IsLaid, AreLaidFrom, AreLaid}
 use Rattle.fab_queue.proofs.Members.{members_set_same, members_set_other, members_before, members_last}
 
 length_more : {X : Type 0} (xs : List X) (x : X) → length (xs ++ x ∷ []) ≡ length xs + 1
@@ -56,10 +56,10 @@ laid_peer room peers m outs old new v k more = record {
   each_column = λ d near. let there = more.each d (subst (λ (z : ℕ). d < z) (sym k.columns) near) in ap length there.2 ∙ length_more (column old d) there.0 ∙ ap (λ (z : ℕ). z + 1) (k.each_column d near);
   each = λ s d low near. let there = more.each d (subst (λ (z : ℕ). d < z) (sym k.columns) near) in let long = k.each_column d near in dite (ℕ_discrete s m)
       (λ is. let mine : in_in (column new d) s ≡ there.0 = ap (λ (z : List In). in_in z s) there.2 ∙ get_or_push (column old d) there.0 (new_in no_lane) s (long ∙ sym is) in
-          let own : row (outs ++ v ∷ []) s ≡ v.items = members_last outs v s (is ∙ sym k.rows) in
-          subst (λ (z : Out × In). IsLaid room z.0 z.1) (λ j. (out_in (sym own j) d, sym mine j)) there.1)
+      let own : row (outs ++ v ∷ []) s ≡ v.items = members_last outs v s (is ∙ sym k.rows) in
+      subst (λ (z : Out × In). IsLaid room z.0 z.1) (λ j. (out_in (sym own j) d, sym mine j)) there.1)
       (λ ne. let low' : s < m = omega (arith, low, ne) in
-          let mine : in_in (column new d) s ≡ in_in (column old d) s = ap (λ (z : List In). in_in z s) there.2 ∙ get_or_append_left (column old d) (there.0 ∷ []) (new_in no_lane) s (subst (λ (z : ℕ). s < z) (sym long) low') in
-          let own : row (outs ++ v ∷ []) s ≡ row outs s = members_before outs v s (subst (λ (z : ℕ). s < z) (sym k.rows) low') in
-          subst (λ (z : Out × In). IsLaid room z.0 z.1) (λ j. (out_in (sym own j) d, sym mine j)) (k.each s d low' near));
+      let mine : in_in (column new d) s ≡ in_in (column old d) s = ap (λ (z : List In). in_in z s) there.2 ∙ get_or_append_left (column old d) (there.0 ∷ []) (new_in no_lane) s (subst (λ (z : ℕ). s < z) (sym long) low') in
+      let own : row (outs ++ v ∷ []) s ≡ row outs s = members_before outs v s (subst (λ (z : ℕ). s < z) (sym k.rows) low') in
+      subst (λ (z : Out × In). IsLaid room z.0 z.1) (λ j. (out_in (sym own j) d, sym mine j)) (k.each s d low' near));
 }

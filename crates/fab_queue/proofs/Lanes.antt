@@ -1,14 +1,14 @@
 -- Each call on a queue keeps the rule of its lane.
-use Rattle.std.proofs.Common.{◌≡◌, ◌≢◌, ℕ, zero, suc, true, false, true≢false, List, [], ◌∷◌, ◌++◌, map, length, set, sym, refl, ap, ◌∙◌, subst, ⊎_elim, append_assoc}
+use Rattle.std.proofs.Common.{◌≡◌, ◌≢◌, ℕ, zero, suc, true, false, true≢false, List, [], ◌∷◌, ◌++◌, length, set, sym, refl, ap, ◌∙◌, subst, ⊎_elim, append_assoc}
 use mathlib.Core.Option.{some, some-ne-none}
-use mathlib.Core.List.{IsPrefix, map-append}
+use mathlib.Core.List.{map-append}
 use lib.ListN.{get_elem?}
 use Rattle.std.specs.Prelude.{Option, Some, None}
 use Rattle.crossbeam_queue.specs.Fifo.{Pushes, Pops, Forks, Merges, Learns}
 use Rattle.crossbeam_queue.proofs.Lists.{at_set, at_snoc}
 use Rattle.fab_base.specs.declared.frames.FrameHead.{FrameHead}
 use Rattle.fab_base.specs.declared.frames.Frame.{Frame}
-use Rattle.fab_wire.specs.Frames.{last_head, MayCome, IsLane}
+use Rattle.fab_wire.specs.Frames.{last_head, IsLane}
 use Rattle.fab_wire.proofs.Lanes.{IsLane-push}
 use Rattle.fab_queue.specs.declared.lane.Sent.{Sent}
 use Rattle.fab_queue.specs.declared.lane.Log.{Log}

@@ -1,8 +1,7 @@
 -- Ports over new lanes.
-use Rattle.std.proofs.Common.{◌≡◌, ◌≢◌, ℕ, zero, suc, ◌+◌, ◌^◌, ◌<◌, ◌≤◌, List, [], ◌∷◌, ◌++◌, map, length, set, get_or, sym, refl, ap, ◌∙◌, subst, arith, inl, inr, length-set, length-append}
-use mathlib.Core.Logic.{dite}
-use native.Mathlib.Decide.{ℕ_discrete, dec_le}
-use Rattle.std.specs.Prelude.{Option, Some, None, slice_get, Vec, ◌⊎◌}
+use Rattle.std.proofs.Common.{◌≡◌, ℕ, zero, suc, ◌+◌, ◌^◌, ◌<◌, ◌≤◌, List, [], ◌∷◌, ◌++◌, map, length, set, sym, refl, ap, ◌∙◌, subst, arith, inl, inr, length-set, length-append}
+use native.Mathlib.Decide.{dec_le}
+use Rattle.std.specs.Prelude.{Some, slice_get, Vec, ◌⊎◌}
 use Rattle.std.specs.declared.alloc.Global.{Global}
 use Rattle.std.proofs.Math.ListN.{get_or-eq_default}
 use Rattle.std.proofs.lemmas.Option.{none-some, same_Some, slice_get_within}
@@ -10,7 +9,7 @@ use Rattle.atomic_table.specs.Seated.{TableId}
 use Rattle.fab_link.specs.Meaning.{AreFresh}
 use Rattle.fab_queue.specs.Ends.{Out, In, new_out, new_in}
 use Rattle.fab_queue.specs.Ports.{Queued, no_lane, number, outgoing, incoming, IsTold}
-use Rattle.fab_queue.specs.Laid.{members, row, column, out_in, in_in, IsLaid, AreLaid}
+use Rattle.fab_queue.specs.Laid.{members, row, column, out_in, in_in, AreLaid}
 use Rattle.fab_queue.specs.Made.{AreEmpty, IsOpened, AreOpened, AreMade}
 use Rattle.fab_queue.proofs.Members.{members_set_other}
 

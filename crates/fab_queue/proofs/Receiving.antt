@@ -2,7 +2,7 @@
 use Rattle.std.proofs.Common.{◌≡◌, ◌≢◌, ℕ, zero, suc, ◌+◌, ◌<◌, ◌≤◌, List, [], ◌∷◌, ◌++◌, length, set, get_or, sym, refl, ap, ◌∙◌, subst, arith, length-set, length-append, append_assoc, append-nil, get_or-set_same, get_or-set_other}
 use mathlib.Core.Logic.{dite}
 use native.Mathlib.Decide.{ℕ_discrete}
-use Rattle.std.specs.Prelude.{Option, Some, None, slice_get, slice_set, Vec, vec_capacity, option_to_list}
+use Rattle.std.specs.Prelude.{Some, None, slice_get, Vec, vec_capacity}
 use Rattle.std.specs.declared.alloc.Global.{Global}
 use Rattle.std.proofs.lemmas.List.{set-get_or, get_or_default}
 use Rattle.std.proofs.lemmas.Option.{none-some, same_Some, slice_get_within}
@@ -13,7 +13,7 @@ use Rattle.fab_link.specs.Plain as plain
 use Rattle.fab_link.specs.Plain.{Plain, lane_at, with_lane, fresh_lane}
 use Rattle.fab_queue.specs.Ends.{Out, In, new_out, new_in}
 use Rattle.fab_queue.specs.Ports.{no_lane}
-use Rattle.fab_queue.specs.Laid.{members, row, column, out_in, in_in}
+use Rattle.fab_queue.specs.Laid.{row, column, out_in, in_in}
 use Rattle.fab_queue.specs.Gather.{taken_end_of, Drained, Receives, Received, ReceivesAll, ReceivedAll}
 use Rattle.fab_queue.proofs.Members.{members_of, members_set_same, members_set_other, members_seam}
 
@@ -125,12 +125,12 @@ module _ (outs0 outs : List (Vec Out Global)) (ins0 ins ins' : List In) (rooms0 
       count = ap (λ (p : Plain). length p.lanes) is ∙ length-set port.lanes (length ins') (record (lane_at port (length ins')) { in_list = fs }) ∙ k.count;
       same = λ s. dite (ℕ_discrete s (length ins'))
           (λ at. subst (λ (z : ℕ). lane_at port' z ≡ record (lane_at port0 z) { in_list = (lane_at port' z).in_list }) (sym at)
-              (here ∙ (λ j. record (k.same (length ins') j) { in_list = sym (ap (λ (z : plain.Lane). z.in_list) here) j })))
+          (here ∙ (λ j. record (k.same (length ins') j) { in_list = sym (ap (λ (z : plain.Lane). z.in_list) here) j })))
           (λ ne. there s ne ∙ k.same s ∙ (λ j. record (lane_at port0 s) { in_list = (sym (there s ne) j).in_list }));
       none = λ s near. let l = long in ap (λ (z : plain.Lane). z.in_list) (there s (λ at. omega (arith, near, at))) ∙ k.none s (omega (arith, near, l));
       each = λ s far near. dite (ℕ_discrete s (length ins'))
           (λ at. subst (λ (z : ℕ). Drained (out_in (row outs0 z) port0.number) (in_in ins0 z) (lane_at port' z).in_list) (sym at)
-              (subst (λ (z : Out × In × List Frame). Drained z.0 z.1 z.2) (λ j. (same_end j, sym mine j, sym (ap (λ (z : plain.Lane). z.in_list) here) j)) took))
+          (subst (λ (z : Out × In × List Frame). Drained z.0 z.1 z.2) (λ j. (same_end j, sym mine j, sym (ap (λ (z : plain.Lane). z.in_list) here) j)) took))
           (λ ne. let l = long in subst (λ (z : plain.Lane). Drained (out_in (row outs0 s) port0.number) (in_in ins0 s) z.in_list) (sym (there s ne)) (k.each s (omega (arith, far, ne, l)) near));
     }
 
@@ -154,7 +154,7 @@ pub kept_rows : (outs : List (Vec Out Global)) (z : Vec Out Global) (s' s d d' :
 kept_rows outs z s' s d d' at n near end x y o e same v is =
     let near' : s' < length outs = subst (λ (k : ℕ). k < length outs) (sym at) near in let here = members_of outs z s' near' in
     same_rows outs s' d' v o near' (is ∙ ap (λ (l : List Out). set l d' o) here)
-        (same ∙ e ∙ get_or_default (get_or outs s' z).items d' y (new_out no_lane 0) (wide_row outs z s' s d d' at n near end) ∙ ap (λ (l : List Out). out_in l d') here)
+    (same ∙ e ∙ get_or_default (get_or outs s' z).items d' y (new_out no_lane 0) (wide_row outs z s' s d d' at n near end) ∙ ap (λ (l : List Out). out_in l d') here)
 
 -- what may be received by ends with the same rows
 pub receives_same : (outs outs' : List (Vec Out Global)) (ins : List In) (rooms : List (Vec Frame Global)) (port : Plain) → length outs' ≡ length outs → ((s : ℕ) → row outs' s ≡ row outs s) → Receives outs ins rooms port → Receives outs' ins rooms port
@@ -261,6 +261,6 @@ module _ (outs0 outs : List (Vec Out Global)) (ins0 ins ins' : List (Vec In Glob
     left = λ t near. let l = all_long in get_set_other ports (length ins') t q (λ z. omega (arith, near, z)) ∙ k.left t (omega (arith, near, l));
     each = λ t x y far at_x at_y. dite (ℕ_discrete t (length ins'))
         (λ is. let same_x : p ≡ x = same_Some p x (sym (port_was p at) ∙ ap (slice_get ports0) (sym is) ∙ at_x) in let same_y : q ≡ y = get_set_same ports (length ins') q y (ap (slice_get (set ports (length ins') q)) (sym is) ∙ at_y) in
-            subst (λ (z : List In × Plain × Plain). Received outs0 z.0 z.1 z.2) (λ j. ((sym column_here ∙ ap (column ins0) (sym is)) j, same_x j, same_y j)) (received_same outs0 outs i.items p q k.rows got))
+        subst (λ (z : List In × Plain × Plain). Received outs0 z.0 z.1 z.2) (λ j. ((sym column_here ∙ ap (column ins0) (sym is)) j, same_x j, same_y j)) (received_same outs0 outs i.items p q k.rows got))
         (λ ne. let l = all_long in k.each t x y (omega (arith, far, ne, l)) at_x (sym (get_set_other ports (length ins') t q ne) ∙ at_y));
   }

@@ -1,7 +1,7 @@
 -- The plain ports that go on where ports ended.
 use Rattle.std.proofs.Common.{◌≡◌, ℕ, zero, suc, ◌<◌, ◌≤◌, List, [], ◌∷◌, map, length, get_or, sym, refl, ap, ◌∙◌, subst, arith, Ok, Err}
 use native.Mathlib.Decide.{dec_le}
-use Rattle.std.specs.Prelude.{Option, Some, None, Result, IfOk}
+use Rattle.std.specs.Prelude.{Option, None, Result, IfOk}
 use Rattle.std.proofs.Math.ListN.{get_or-eq_default}
 use Rattle.fab_base.specs.declared.frames.FrameHead.{FrameHead}
 use Rattle.fab_link.specs.Meaning.{AreFresh}
@@ -9,7 +9,7 @@ use Rattle.fab_link.specs.Plain as plain
 use Rattle.fab_link.specs.Plain.{Plain, lane_at, fresh_lane}
 use Rattle.fab_queue.specs.Ends.{new_out, new_in}
 use Rattle.fab_queue.specs.Ports.{Queued, no_lane, out_at, in_at, IsSound}
-use Rattle.fab_queue.specs.Gather.{posted_end, taken_end_of, GoesOn, Succeeds}
+use Rattle.fab_queue.specs.Gather.{posted_end, taken_end_of, Succeeds}
 
 map_at : {X Y : Type 0} (f : X → Y) (xs : List X) (d : ℕ) (x : X) (y : Y) → d < length xs → get_or (map f xs) d y ≡ f (get_or xs d x)
 map_at f [] d x y near = absurd (omega arith)

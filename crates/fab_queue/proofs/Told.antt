@@ -9,7 +9,7 @@ use Rattle.fab_wire.specs.Merged.{IsStampedAbove, posts_to, takes_of}
 use Rattle.fab_queue.specs.declared.lane.Sent.{Sent}
 use Rattle.std.specs.Prelude.{Option, Some, None, IsSome}
 use Rattle.fab_queue.specs.Ends.{Out, In, new_out, new_in, taken_one}
-use Rattle.fab_queue.specs.Ports.{Queued, no_lane, out_at, in_at, with_out, with_in, number, stamp, greatest, clock_of, IsSound, IsTold}
+use Rattle.fab_queue.specs.Ports.{Queued, no_lane, out_at, in_at, with_out, with_in, number, stamp, greatest, clock_of, IsTold}
 
 greatest_more : (g : ℕ) (ms : List Move) (m : Move) → greatest g (ms ++ m ∷ []) ≡ max (greatest g ms) (stamp m)
 greatest_more g [] m = refl

@@ -3,7 +3,7 @@
 --     seen_full              a post found the lane full
 --     Looked, taken_one      a look, and a step over the frame that is lent
 --     MayPut, MayGet         what an end keeps, and what its pass knows
-use Rattle.std.specs.Prelude.{◌≡◌, ℕ, ◌+◌, ◌⊎◌, true, List, [], ◌∷◌, ◌++◌, length, Option, Some, None, IsSome, option_to_list}
+use Rattle.std.specs.Prelude.{◌≡◌, ℕ, ◌+◌, ◌⊎◌, true, List, [], ◌∷◌, ◌++◌, length, Option, Some, None, option_to_list}
 use Rattle.atomic_table.specs.Seated.{TableId}
 use Rattle.fab_base.specs.declared.frames.FrameHead.{FrameHead}
 use Rattle.fab_base.specs.declared.frames.Frame.{Frame}

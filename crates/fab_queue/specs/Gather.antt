@@ -4,7 +4,7 @@
 --     Succeeds ..            a plain port that goes on, to which nothing came yet
 --     IsRoom ..              the room that is made for what is inside the lanes
 --     Drained ..             all that was inside a lane came
-use Rattle.std.specs.Prelude.{◌≡◌, ℕ, ◌+◌, ◌^◌, ◌<◌, ◌≤◌, List, [], ◌++◌, length, Option, Some, None, slice_get, Vec, vec_capacity, true}
+use Rattle.std.specs.Prelude.{◌≡◌, ℕ, ◌+◌, ◌^◌, ◌<◌, ◌≤◌, List, [], ◌++◌, length, Option, Some, None, slice_get, Vec, vec_capacity}
 use Rattle.std.specs.declared.alloc.Global.{Global}
 use Rattle.fab_base.specs.declared.frames.FrameHead.{FrameHead}
 use Rattle.fab_base.specs.declared.frames.Frame.{Frame}
@@ -16,8 +16,8 @@ use Rattle.fab_queue.specs.declared.lane.Sent.{Sent}
 use Rattle.fab_queue.specs.declared.lane.Log.{Log}
 use Rattle.fab_queue.specs.Lanes.{frames_of}
 use Rattle.fab_queue.specs.Ends.{Out, In}
-use Rattle.fab_queue.specs.Ports.{Queued, out_at, in_at, out_of, in_of, number_of, peers_of, room_of, IsSound}
-use Rattle.fab_queue.specs.Laid.{members, row, column, out_in, in_in}
+use Rattle.fab_queue.specs.Ports.{Queued, out_of, in_of, number_of, peers_of, room_of, IsSound}
+use Rattle.fab_queue.specs.Laid.{row, column, out_in, in_in}
 use Rattle.fab_queue.specs.Made.{AreJoined}
 
 -- these are the ports of all peers, in order

@@ -4,7 +4,7 @@
 --     Ordered             the rule: what was put is what was got, and then what is inside, each frame behind those before it
 --     put_one, GotOne     what one more frame does to a pass
 --     EndsWith, Holds     what a pass learns of what is inside
-use Rattle.std.specs.Prelude.{◌≡◌, ℕ, Bool, true, List, [], ◌∷◌, ◌++◌, map, Option, None}
+use Rattle.std.specs.Prelude.{◌≡◌, ℕ, Bool, true, List, [], ◌∷◌, ◌++◌, map, None}
 use mathlib.Core.Option.{some}
 use mathlib.Core.List.{IsPrefix}
 use lib.ListN.{get_elem?}

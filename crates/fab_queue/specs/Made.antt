@@ -8,7 +8,7 @@ use Rattle.std.specs.declared.alloc.Global.{Global}
 use Rattle.fab_wire.specs.Cut.{IsBetweenItems}
 use Rattle.fab_link.specs.Meaning.{AreFresh, end_of}
 use Rattle.fab_queue.specs.Ends.{Out, In}
-use Rattle.fab_queue.specs.Ports.{Queued, out_at, in_at, out_of, in_of, number_of, peers_of, room_of, moves_of, lanes_of}
+use Rattle.fab_queue.specs.Ports.{Queued, out_of, in_of, number_of, peers_of, room_of, moves_of, lanes_of}
 use Rattle.fab_queue.specs.Laid.{members, out_in, in_in}
 
 -- the lanes between so many peers, of so many frames each

@@ -2,7 +2,7 @@
 --     Queued                its number, its ends by peer, and the order of what was posted and taken
 --     out_of, in_of         its ends in the words of all ports
 --     IsTold                the order tells what was posted and taken, and is stamped
-use Rattle.std.specs.Prelude.{◌≡◌, ℕ, ◌^◌, ◌<◌, max, List, [], ◌∷◌, length, map, Some, None, slice_index_or, slice_set}
+use Rattle.std.specs.Prelude.{◌≡◌, ℕ, ◌^◌, ◌<◌, max, List, [], ◌∷◌, length, map, None, slice_index_or, slice_set}
 use Rattle.atomic_table.specs.Seated.{TableId}
 use Rattle.fab_wire.specs.declared.moves.Move.{Move}
 use Rattle.fab_wire.specs.declared.moves.Move.TheVariants.{Post, Take}

@@ -40,11 +40,7 @@ fn lay(alloc: Global, room: u32) -> Result<(Outlet, Inlet), NoMemory>
 }
 
 /// The lanes from one peer to each: the ends at which it posts. Each of `ins` gets the other end of one.
-fn lay_from(
-    alloc: Global,
-    room: u32,
-    ins: &mut [Vec<Inlet>],
-) -> Result<Vec<Outlet>, NoMemory>
+fn lay_from(alloc: Global, room: u32, ins: &mut [Vec<Inlet>]) -> Result<Vec<Outlet>, NoMemory>
     requires { (0 < room) × (room ≤ 1024) }
     ensures { IfOk result (λ outs. AreLaidFrom room ins.old ins.new outs.items (length ins.old)) }
 {

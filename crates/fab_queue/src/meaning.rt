@@ -81,10 +81,13 @@ impl<R: Wait + Copy> Port for QueuePort<R> {
         let Ok(bytes) = Buf::copy(self.alloc(), bytes) else {
             return Err(PostRefused::NoMemory);
         };
-        self.send(dest, Sent {
-            frame: Frame { head, bytes },
-            number,
-        })
+        self.send(
+            dest,
+            Sent {
+                frame: Frame { head, bytes },
+                number,
+            },
+        )
     }
 
     fn front(&mut self, src: u32) -> Option<FrameRef<'_>> {

@@ -138,7 +138,8 @@ impl<R: Wait + Copy> QueuePort<R> {
             return Err(PostRefused::LaneFull);
         };
         self.clock = number;
-        self.moves.note::<Move, OneMore>(&Move::Post { dest, number });
+        self.moves
+            .note::<Move, OneMore>(&Move::Post { dest, number });
         Ok(())
     }
 
@@ -171,6 +172,7 @@ impl<R: Wait + Copy> QueuePort<R> {
     {
         let number = self.ins[src as usize].advance();
         self.clock = self.clock.max(number);
-        self.moves.note::<Move, OneMore>(&Move::Take { src, number });
+        self.moves
+            .note::<Move, OneMore>(&Move::Take { src, number });
     }
 }

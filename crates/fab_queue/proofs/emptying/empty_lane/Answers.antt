@@ -1,8 +1,6 @@
-use Rattle.std.proofs.Common.{◌≡◌, ◌<◌, ◌++◌, ◌∷◌, [], List, length, ap, ◌∙◌, rules, arith}
+use Rattle.std.proofs.Common.{◌≡◌, ◌++◌, ◌∷◌, [], ap, ◌∙◌, rules, arith}
 use Rattle.std.specs.Prelude.{vec_capacity}
-use Rattle.fab_base.specs.declared.frames.Frame.{Frame}
 use Rattle.fab_queue.specs.declared.lane.Log.{Log}
-use Rattle.fab_queue.specs.Lanes.{known}
 use Rattle.fab_queue.proofs.Lanes.{gets, inside}
 use Rattle.fab_queue.proofs.Draining.{emptying_starts, emptying_goes_on, emptying_wider, has_room, fewer, emptied}
 use Rattle.fab_queue.proofs.emptying.empty_lane.Goals as goal

@@ -1,4 +1,4 @@
-use Rattle.std.proofs.Common.{◌≡◌, ◌-◌, length}
+use Rattle.std.proofs.Common.{◌-◌, length}
 use Rattle.std.specs.Prelude.{vec_capacity}
 use Rattle.crossbeam_queue.specs.Passes.{IsSamePass}
 use Rattle.fab_queue.specs.Lanes.{known}

@@ -1,13 +1,12 @@
-use Rattle.std.proofs.Common.{rules, ◌≡◌, ℕ, ◌+◌, ◌<◌, ◌≤◌, List, [], ◌∷◌, ◌++◌, length, get_or, refl, sym, ap, ◌∙◌, subst, arith, length-append, length-set}
+use Rattle.std.proofs.Common.{rules, ◌≡◌, ℕ, ◌+◌, ◌<◌, ◌≤◌, List, [], ◌∷◌, length, get_or, refl, sym, ap, ◌∙◌, subst, arith, length-append, length-set}
 use Rattle.std.specs.Prelude.{Vec, vec_capacity}
 use Rattle.std.specs.declared.alloc.Global.{Global}
 use Rattle.fab_base.specs.declared.frames.Frame.{Frame}
 use Rattle.fab_wire.specs.Frames.{IsLane}
-use Rattle.fab_link.specs.Plain.{Plain, lane_at, with_lane}
-use Rattle.fab_queue.specs.Ends.{Out, In}
-use Rattle.fab_queue.specs.Laid.{row, out_in}
+use Rattle.fab_link.specs.Plain.{lane_at, with_lane}
+use Rattle.fab_queue.specs.Ends.{Out}
 use Rattle.fab_queue.specs.Gather.{Drained}
-use Rattle.fab_queue.proofs.Receiving.{receiving_starts, received, few_sources, near_source, near_end, same_end, joined, roomy, near_lane, nothing_came, may_come, goes_on, kept_rows, end_at, wide_row}
+use Rattle.fab_queue.proofs.Receiving.{receiving_starts, received, few_sources, near_source, near_end, joined, roomy, near_lane, nothing_came, may_come, goes_on, kept_rows, end_at, wide_row}
 use Rattle.fab_queue.proofs.emptying.receive.Goals as goal
 
 pub loop-inlet-init : goal.loop-inlet-init
@@ -67,7 +66,7 @@ pub adopt-requires-clause-continues : goal.adopt-requires-clause-continues
 adopt-requires-clause-continues g c =
     let at : c.len-source.result ≡ length c.pop.new.self.items = search rules in
     subst (λ (n : ℕ). IsLane (lane_at c.loop-inlet.port n).in_after c.drain-frames.result.items) (sym at)
-        (may_come _ _ _ _ _ _ _ _ _ _ _ _ c.requires c.loop-inlet.invariant.1 c.in-Some.ensures.items c.in-Some-pop.ensures.items c.drain-frames.result.items c.drain-frames.ensures.drained.cut)
+    (may_come _ _ _ _ _ _ _ _ _ _ _ _ c.requires c.loop-inlet.invariant.1 c.in-Some.ensures.items c.in-Some-pop.ensures.items c.drain-frames.result.items c.drain-frames.ensures.drained.cut)
 
 pub loop-inlet-preserved : goal.loop-inlet-preserved
 loop-inlet-preserved g c =
@@ -76,8 +75,7 @@ loop-inlet-preserved g c =
     let end = near_end _ _ _ _ _ _ _ _ _ _ _ _ c.requires c.loop-inlet.invariant.1 c.in-Some.ensures.items c.in-Some-pop.ensures.items in
     let is = end_at c.loop-inlet.outs _ _ _ c.args.port.now.number c.me-reader.result at n near end c.index_mut.result.now _ c.index_mut.ensures.value in
     let fs : List Frame = c.drain-frames.result.items in let p = c.loop-inlet.port in
-    let came : c.adopt.new.self ≡ with_lane p (length c.pop.new.self.items) (record (lane_at p (length c.pop.new.self.items)) { in_list = fs }) = subst (λ (z : ℕ). c.adopt.new.self ≡ with_lane p z (record (lane_at p z) { in_list = fs })) at c.adopt.ensures in
-    (
+    let came : c.adopt.new.self ≡ with_lane p (length c.pop.new.self.items) (record (lane_at p (length c.pop.new.self.items)) { in_list = fs }) = subst (λ (z : ℕ). c.adopt.new.self ≡ with_lane p z (record (lane_at p z) { in_list = fs })) at c.adopt.ensures in (
       n,
       goes_on _ _ _ _ _ _ _ _ _ _ _ _ c.requires c.loop-inlet.invariant.1 c.in-Some.ensures.items c.in-Some-pop.ensures.items _ c.adopt.new.self fs
           (length-set c.loop-inlet.outs c.len-source.result _)

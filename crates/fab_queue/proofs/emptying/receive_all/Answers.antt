@@ -1,4 +1,4 @@
-use Rattle.std.proofs.Common.{rules, ◌≡◌, ℕ, ◌<◌, List, [], ◌∷◌, ◌++◌, length, get_or, set, sym, ap, ◌∙◌, subst, arith, length-append}
+use Rattle.std.proofs.Common.{rules, ◌≡◌, ℕ, ◌<◌, [], ◌∷◌, length, get_or, set, sym, ap, ◌∙◌, subst, arith, length-append}
 use Rattle.std.specs.Prelude.{Some, slice_get}
 use Rattle.std.proofs.lemmas.Option.{slice_get-get_or}
 use Rattle.fab_link.specs.Plain.{Plain}
@@ -33,7 +33,7 @@ loop-own-preserved g c =
     let p : Plain = get_or c.loop-own.ports c.len-reader.result c.index-ports-reader.result in
     let here : slice_get c.loop-own.ports (length c.pop.new.self.items) ≡ Some p = slice_get-get_or c.loop-own.ports (length c.pop.new.self.items) c.index-ports-reader.result near ∙ (λ k. Some (get_or c.loop-own.ports (sym at k) c.index-ports-reader.result)) in
     subst (λ (n : ℕ). ReceivingAll c.args.outs.now c.receive.new.outs c.args.ins.items c.pop.new.self.items c.args.rooms.items c.pop-in-Some.new.self.items c.args.ports.now (set c.loop-own.ports n c.receive.new.port)) (sym at)
-        (all_goes_on _ _ _ _ _ _ _ _ _ _ _ _ c.requires c.loop-own.invariant c.in-Some.ensures.items c.in-Some-pop.ensures.items c.receive.new.outs p c.receive.new.port c.receive.ensures.outs.0 c.receive.ensures.outs.1 here c.receive.ensures.received)
+    (all_goes_on _ _ _ _ _ _ _ _ _ _ _ _ c.requires c.loop-own.invariant c.in-Some.ensures.items c.in-Some-pop.ensures.items c.receive.new.outs p c.receive.new.port c.receive.ensures.outs.0 c.receive.ensures.outs.1 here c.receive.ensures.received)
 
 pub returns : goal.returns
 returns g c = let none : length c.loop-own.ins.items ≡ 0 = (let e = (c.in_default.ensures {u = tt}).cases in let o = c.loop-own.ins.ok in omega arith) in received_all _ _ _ _ _ _ _ _ c.loop-own.invariant none

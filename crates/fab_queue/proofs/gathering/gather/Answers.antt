@@ -1,4 +1,4 @@
-use Rattle.std.proofs.Common.{rules, ◌≡◌, ℕ, ◌<◌, List, ◌++◌, length, take, drop, sym, ap, ◌∙◌, subst, arith}
+use Rattle.std.proofs.Common.{rules, ◌≡◌, List, length, sym, ap, ◌∙◌, subst, arith}
 use Rattle.std.specs.Prelude.{Vec}
 use Rattle.std.specs.declared.alloc.Global.{Global}
 use Rattle.fab_link.specs.Plain.{Plain}
@@ -41,8 +41,8 @@ receive_all-requires g c =
     let back_o = written_back c.in-Ok-no_lists.outs.items outs c.in-Ok-no_lists.outs.len (apart.outs_count ∙ sym (c.in-Ok-no_lists.ensures.count ∙ l)) lo in
     let back_i = written_back c.in-Ok-no_lists-2.ins.items ins c.in-Ok-no_lists-2.ins.len (apart.ins_count ∙ sym (c.in-Ok-no_lists-2.ensures.count ∙ m)) li in
     subst (λ (z : List (Vec Out Global) × List (Vec In Global) × List Plain). ReceivesAll z.0 z.1 c.in-Ok-rooms.rooms.items z.2)
-        (λ i. (sym (c.as_mut_slice-3.ensures.value ∙ back_o) i, sym back_i i, sym c.as_mut_slice-4.ensures.value i))
-        (receives ports c.in-Ok.plain.items c.in-Ok.plain.items c.in-Ok-rooms.rooms.items outs ins c.requires succ apart room)
+    (λ i. (sym (c.as_mut_slice-3.ensures.value ∙ back_o) i, sym back_i i, sym c.as_mut_slice-4.ensures.value i))
+    (receives ports c.in-Ok.plain.items c.in-Ok.plain.items c.in-Ok-rooms.rooms.items outs ins c.requires succ apart room)
 
 pub returns-clause-gathered : goal.returns-clause-gathered
 returns-clause-gathered g c =

@@ -1,7 +1,4 @@
 use Rattle.std.proofs.Common.{rules, ◌≡◌, ℕ, ◌<◌, List, [], ◌∷◌, ◌++◌, length, set, sym, ap, ◌∙◌, subst, arith, append-nil, append_assoc}
-use Rattle.std.specs.Prelude.{Vec}
-use Rattle.std.specs.declared.alloc.Global.{Global}
-use Rattle.fab_queue.specs.Ends.{Out, In}
 use Rattle.fab_queue.specs.Ports.{Queued}
 use Rattle.fab_queue.specs.Gather.{AreApart}
 use Rattle.fab_queue.proofs.Apart.{apart_starts, apart_more, apart_near}
@@ -23,8 +20,7 @@ bounds-ins-place g c =
 pub loop-port-preserved : goal.loop-port-preserved
 loop-port-preserved g c =
     let at : c.len-place.result ≡ length c.pop.new.self.items = search rules in let i = c.loop-port.invariant in let ports : List Queued = c.pop.new.self.items in let p : Queued = c.in-Some.port in
-    let last : c.loop-port.ports.items ≡ ports ++ p ∷ [] = c.in-Some.ensures.items in
-    (
+    let last : c.loop-port.ports.items ≡ ports ++ p ∷ [] = c.in-Some.ensures.items in (
       (p ∷ i.0.0, i.0.1 ∙ ap (λ (l : List Queued). l ++ i.0.0) last ∙ append_assoc ports (p ∷ []) i.0.0),
       subst (λ (n : ℕ). AreApart c.args.ports.items (set c.loop-port.outs n c.port.inside.outs) (set c.loop-port.ins n c.port.inside.ins) (length ports)) (sym at)
           (apart_more c.args.ports.items c.loop-port.ports.items ports i.0.0 c.loop-port.outs c.loop-port.ins p c.port.inside.outs c.port.inside.ins last i.0.1

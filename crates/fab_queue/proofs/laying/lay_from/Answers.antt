@@ -1,4 +1,4 @@
-use Rattle.std.proofs.Common.{◌≡◌, ◌<◌, ◌++◌, ◌∷◌, [], List, length, ap, ◌∙◌, rules}
+use Rattle.std.proofs.Common.{◌<◌, ◌++◌, ◌∷◌, [], List, length, ap, ◌∙◌, rules}
 use Rattle.fab_queue.specs.Ends.{In}
 use Rattle.fab_queue.proofs.Members.{members_of}
 use Rattle.fab_queue.proofs.Growing.{laid_more}

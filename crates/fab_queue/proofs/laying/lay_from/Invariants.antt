@@ -1,4 +1,3 @@
-use Rattle.std.proofs.Common.{◌≡◌, length}
 use Rattle.fab_queue.specs.Laid.{AreLaidFrom}
 use Rattle.fab_queue.proofs.laying.lay_from.Given as goal
 

@@ -1,8 +1,7 @@
-use Rattle.std.proofs.Common.{◌≡◌, ℕ, ◌<◌, ◌≤◌, List, length, sym, subst, ap, ◌∙◌, rules, arith}
+use Rattle.std.proofs.Common.{◌≡◌, ℕ, ◌<◌, List, length, sym, subst, ap, ◌∙◌, rules, arith}
 use Rattle.std.specs.Prelude.{Vec}
 use Rattle.std.specs.declared.alloc.Global.{Global}
 use Rattle.fab_queue.specs.Ends.{Out, In}
-use Rattle.fab_queue.specs.Laid.{members}
 use Rattle.fab_queue.specs.Made.{AreEmpty, AreOpened}
 use Rattle.fab_queue.proofs.Opening.{opened_more, empty_ends, made}
 use Rattle.fab_queue.proofs.Members.{members_at}
@@ -44,4 +43,4 @@ pub returns : goal.returns
 returns g c =
     λ room laid. let at : c.loop-me.me ≡ c.args.peers = omega (arith, c.loop-me-test.false, c.loop-me.auto.me-end) in
     made room c.args.peers c.args.outs.items c.args.ins.items laid c.loop-me.outs.items c.loop-me.ins.items c.loop-me.all.items
-        (subst (λ (n : ℕ). AreOpened c.args.outs.items c.loop-me.outs.items c.args.ins.items c.loop-me.ins.items c.loop-me.all.items n) at c.loop-me.invariant)
+    (subst (λ (n : ℕ). AreOpened c.args.outs.items c.loop-me.outs.items c.args.ins.items c.loop-me.ins.items c.loop-me.all.items n) at c.loop-me.invariant)

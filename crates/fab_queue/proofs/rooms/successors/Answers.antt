@@ -1,4 +1,4 @@
-use Rattle.std.proofs.Common.{rules, ◌≡◌, ◌+◌, ℕ, [], ◌∷◌, ◌++◌, length, ap, ◌∙◌, length-append}
+use Rattle.std.proofs.Common.{rules, ◌≡◌, ◌+◌, ℕ, [], ◌∷◌, ◌++◌, ap, ◌∙◌, length-append}
 use Rattle.fab_link.specs.Plain.{Plain}
 use Rattle.fab_queue.specs.Ports.{Queued, IsSound}
 use Rattle.fab_queue.specs.Gather.{Succeeds}

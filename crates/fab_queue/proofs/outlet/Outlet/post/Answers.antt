@@ -1,4 +1,4 @@
-use Rattle.std.proofs.Common.{◌∙◌, subst, sym, rules}
+use Rattle.std.proofs.Common.{◌∙◌, subst, sym}
 use Rattle.fab_queue.specs.Lanes.{Continues}
 use Rattle.fab_queue.proofs.Lanes.{puts, last_inside}
 use Rattle.fab_queue.proofs.Ends.{put_more}

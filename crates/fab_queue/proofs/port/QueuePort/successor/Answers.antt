@@ -3,7 +3,6 @@ use Rattle.std.proofs.lemmas.List.{length-map}
 use Rattle.std.specs.Prelude.{Option, None, IfOk}
 use Rattle.fab_base.specs.declared.frames.FrameHead.{FrameHead}
 use Rattle.fab_link.specs.Plain.{lane_at, fresh_lane}
-use Rattle.fab_queue.specs.Ends.{Out, In}
 use Rattle.fab_queue.specs.Ports.{Queued, IsSound}
 use Rattle.fab_queue.specs.Gather.{posted_end, taken_end_of, Succeeds}
 use Rattle.fab_queue.proofs.Succeeding.{all_succeeds}
@@ -30,7 +29,7 @@ returns g c =
     let posted_is : posted ≡ map posted_end p.outs = c.as_slice-3.ensures.value ∙ c.in_ok-posted.ensures ∙ ap (map posted_end) c.as_slice.ensures.value in
     let taken_is : taken ≡ map taken_end_of p.ins = c.as_slice-4.ensures.value ∙ c.in_ok-taken.ensures ∙ ap (map taken_end_of) c.as_slice-2.ensures.value in
     subst (λ (z : Queued). IfOk r (λ q. Succeeds z q × IsSound z)) c.self.view_is
-        (all_succeeds p posted taken c.self.invariant.1 posted_is taken_is r new.number
-        (subst (λ (n : ℕ). IfOk r (λ q. length q.lanes ≡ n)) l new.peers)
-        (subst (λ (n : ℕ). IfOk r (λ q. (d : ℕ) → d < n → lane_at q d ≡ fresh_lane (get_or posted d None) (get_or taken d None))) l new.lanes)
-        new.fresh)
+    (all_succeeds p posted taken c.self.invariant.1 posted_is taken_is r new.number
+    (subst (λ (n : ℕ). IfOk r (λ q. length q.lanes ≡ n)) l new.peers)
+    (subst (λ (n : ℕ). IfOk r (λ q. (d : ℕ) → d < n → lane_at q d ≡ fresh_lane (get_or posted d None) (get_or taken d None))) l new.lanes)
+    new.fresh)
