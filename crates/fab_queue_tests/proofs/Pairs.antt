@@ -23,8 +23,8 @@ of_pair F a b fa fb (suc (suc k)) p e = absurd (none-some p e)
 pair_joined : (a b : Queued) → ArePaired (lanes_of a) (lanes_of b) → AreJoined (pair a b)
 pair_joined a b k s d x y at_s at_d =
     of_pair (λ i p. (j : ℕ) (q : Queued) → slice_get (pair a b) j ≡ Some q → (lanes_of p).to j ≡ (lanes_of q).from i) a b
-        (of_pair (λ j q. (lanes_of a).to j ≡ (lanes_of q).from 0) a b k.zero_zero k.zero_one)
-        (of_pair (λ j q. (lanes_of b).to j ≡ (lanes_of q).from 1) a b k.one_zero k.one_one) s x at_s d y at_d
+    (of_pair (λ j q. (lanes_of a).to j ≡ (lanes_of q).from 0) a b k.zero_zero k.zero_one)
+    (of_pair (λ j q. (lanes_of b).to j ≡ (lanes_of q).from 1) a b k.one_zero k.one_one) s x at_s d y at_d
 
 pub pair_all : (a b : Queued) (ports : List Queued) → ports ≡ pair a b → number_of a ≡ 0 → peers_of a ≡ 2 → number_of b ≡ 1 → peers_of b ≡ 2 → ArePaired (lanes_of a) (lanes_of b) → AreAll ports
 pair_all a b ports is na pa nb pb k = subst AreAll (sym is) record {
