@@ -1,4 +1,4 @@
-use Rattle.std.proofs.Common.{rules, ◌≡◌, ℕ, subst, sym}
+use Rattle.std.proofs.Common.{◌≡◌, ℕ, subst}
 use Rattle.fab_queue.specs.Made.{AreMade}
 use Rattle.fab_queue_tests.proofs.Pairs.{pair_made}
 use Rattle.fab_queue_tests.proofs.ports.two_ports.Goals as goal
