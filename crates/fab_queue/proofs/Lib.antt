@@ -5,3 +5,9 @@ mod Clauses
 mod Members
 mod Growing
 mod Opening
+mod Draining
+mod Succeeding
+mod Receiving
+mod Rooming
+mod Apart
+mod Coming

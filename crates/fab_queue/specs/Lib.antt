@@ -3,3 +3,4 @@ pub mod Ends
 pub mod Ports
 pub mod Laid
 pub mod Made
+pub mod Gather

@@ -6,8 +6,13 @@
 //!
 //! `lane` has the queue of one lane and its rule, `outlet` and `inlet` the two ends of a lane, `port` what a
 //! peer does at its ends, and `meaning` says it in the words of all ports. `laying` makes the lanes.
+//!
+//! [`gather`] makes plain ports of the ports of all peers: `rooms` takes the memory, and `emptying` takes what is
+//! inside the lanes.
 #![tactic(auto)]
 
+mod emptying;
+mod gathering;
 mod inlet;
 mod lane;
 mod laying;
@@ -15,6 +20,8 @@ mod meaning;
 mod outlet;
 mod port;
 mod queues;
+mod rooms;
 
+pub use gathering::{QueuesRefused, gather};
 pub use port::QueuePort;
 pub use queues::Queues;

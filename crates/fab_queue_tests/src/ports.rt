@@ -43,7 +43,7 @@ fn whole(tag: u64, total: u32) -> FrameHead
 }
 
 /// Posts a message of one frame.
-fn post<R: Wait + Copy>(
+pub(crate) fn post<R: Wait + Copy>(
     port: &mut QueuePort<R>,
     dest: u32,
     tag: u64,
@@ -60,8 +60,20 @@ fn post<R: Wait + Copy>(
     port.post(dest, whole(tag, bytes.len() as u32), bytes)
 }
 
+/// The tag of the next frame of a peer, with how many bytes it has.
+pub(crate) fn next<P: Port>(port: &mut P, src: u32) -> Option<(u64, usize)>
+    requires { src < P.peer_count port.old }
+    ensures number { P.number port.new ≡ P.number port.old }
+    ensures peers { P.peer_count port.new ≡ P.peer_count port.old }
+    ensures home { P.home port.new ≡ P.home port.old }
+    ensures outs { P.outs port.new ≡ P.outs port.old }
+{
+    let frame = port.front(src)?;
+    Some((frame.head.item.tag, frame.bytes.len()))
+}
+
 /// Steps over the next frame of a peer, and gives its tag and length.
-fn take<P: Port>(port: &mut P, src: u32) -> Option<(u64, usize)>
+pub(crate) fn take<P: Port>(port: &mut P, src: u32) -> Option<(u64, usize)>
     requires { src < P.peer_count port.old }
     ensures number { P.number port.new ≡ P.number port.old }
     ensures peers { P.peer_count port.new ≡ P.peer_count port.old }
@@ -75,7 +87,7 @@ fn take<P: Port>(port: &mut P, src: u32) -> Option<(u64, usize)>
 }
 
 /// The ports of two peers.
-fn two_ports<R: Wait + Copy>(
+pub(crate) fn two_ports<R: Wait + Copy>(
     alloc: Global,
     rt: R,
     lane: u32,
