@@ -1,10 +1,9 @@
 -- Plain ports as they are made.
-use Rattle.std.proofs.Common.{◌≡◌, ◌<◌, Bool, true, true≢false, Result, Ok, Err, ℕ, zero, suc, List, [], ◌∷◌, ◌++◌, length, Option, None, Some, refl, sym, ap, subst, ◌∙◌}
+use Rattle.std.proofs.Common.{◌≡◌, ◌<◌, Bool, true, true≢false, Result, Ok, Err, ℕ, zero, suc, [], ◌∷◌, ◌++◌, length, None, Some, refl, sym, ap, subst, ◌∙◌}
 use Rattle.std.specs.Prelude.{OnOk, replicate}
 use Rattle.std.specs.Result.{is_ok}
 use Rattle.std.proofs.lemmas.List.{get_or-set_same}
 use Rattle.fab_base.specs.declared.frames.Frame.{Frame}
-use Rattle.fab_base.specs.declared.frames.FrameHead.{FrameHead}
 use Rattle.fab_wire.specs.Cut.{IsBetweenItems}
 use Rattle.fab_wire.specs.Frames.{last_head}
 use Rattle.fab_wire.proofs.Lanes.{last_head-push}
