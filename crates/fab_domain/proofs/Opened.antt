@@ -1,5 +1,5 @@
 -- Ports as they are made may be opened, one after another.
-use Rattle.std.proofs.Common.{◌≡◌, ◌<◌, ℕ, zero, suc, List, [], ◌∷◌, ◌++◌, length, map, sym, subst, ap, ◌∙◌, arith, append_assoc}
+use Rattle.std.proofs.Common.{◌≡◌, ℕ, zero, suc, List, [], ◌∷◌, ◌++◌, length, map, sym, subst, ap, ◌∙◌, arith, append_assoc}
 use Rattle.std.specs.Prelude.{Result, Ok, Err, IfOk, Vec, slice_index_or, ◌+◌}
 use Rattle.std.specs.List.{All, remove}
 use Rattle.std.specs.declared.alloc.Global.{Global}

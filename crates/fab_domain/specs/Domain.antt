@@ -1,7 +1,7 @@
 -- The endpoints of all peers of one domain (fi_domain(3)).
 --     AreLanes info ports          new ports of all peers over one table, with the sizes granted
 --     AreOpened info sel all       an endpoint over each, as it is opened
-use Rattle.std.specs.Prelude.{◌≡◌, ℕ, Bool, List, length, map, Some, slice_get}
+use Rattle.std.specs.Prelude.{◌≡◌, ℕ, Bool, List, map, Some}
 use Rattle.std.specs.List.{All}
 use Rattle.fab_base.specs.declared.caps.Info.{Info}
 use Rattle.fab_link.specs.Meaning.{AreFresh}

@@ -10,10 +10,10 @@ use Rattle.fab_base.specs.declared.frames.FrameHead.{FrameHead}
 use Rattle.fab_wire.specs.Frames.{last_head}
 use Rattle.fab_model.specs.Calls.{Call}
 use Rattle.fab_face.specs.declared.events.Moved.{Moved}
-use Rattle.fab_face.specs.Acts.{Act, Ported, Went}
+use Rattle.fab_face.specs.Acts.{Act, Went}
 use Rattle.fab_face.specs.Answers.{Pops, Progressed, ReadsAs, ReadsOn, Receives, ReceivesNot, Sends, SendsNot}
 use Rattle.fab_face.specs.Held.{Seen}
-use Rattle.fab_open_tests.specs.Came.{Keeps, came, listed}
+use Rattle.fab_open_tests.specs.Came.{Keeps, listed}
 
 pub keeps_again : {Home : Type 0} (a b c : Seen Home) → Keeps a b → Keeps b c → Keeps a c
 keeps_again a b c ab bc = (bc.0 ∙ ab.0, λ s. bc.1 s ∙ ab.1 s)

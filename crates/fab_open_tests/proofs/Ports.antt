@@ -1,13 +1,15 @@
 -- Plain ports as they are made.
-use Rattle.std.proofs.Common.{◌≡◌, ℕ, zero, suc, List, length, Option, None, refl, sym, ap, subst, ◌∙◌}
-use Rattle.std.specs.Prelude.{replicate}
-use Rattle.fab_base.specs.declared.frames.FrameHead.{FrameHead}
+use Rattle.std.proofs.Common.{◌≡◌, ◌<◌, Bool, true, true≢false, Result, Ok, Err, ℕ, zero, suc, [], ◌∷◌, ◌++◌, length, None, Some, refl, sym, ap, subst, ◌∙◌}
+use Rattle.std.specs.Prelude.{OnOk, replicate}
+use Rattle.std.specs.Result.{is_ok}
+use Rattle.std.proofs.lemmas.List.{get_or-set_same}
+use Rattle.fab_base.specs.declared.frames.Frame.{Frame}
 use Rattle.fab_wire.specs.Cut.{IsBetweenItems}
 use Rattle.fab_wire.specs.Frames.{last_head}
+use Rattle.fab_wire.proofs.Lanes.{last_head-push}
 use Rattle.fab_link.specs.Meaning.{AreFresh}
-use Rattle.fab_link.specs.Plain.{Lane, Plain, fresh_lane, in_of, lane_at, out_of}
+use Rattle.fab_link.specs.Plain.{Lane, Plain, fresh_lane, in_of, lane_at, out_of, with_lane}
 use Rattle.fab_link.specs.declared.port.Port.{Ghosts}
-use Rattle.fab_face.specs.Held.{Held}
 use Rattle.fab_face.specs.Ports.{IsFresh, Whole}
 use Rattle.fab_open_tests.specs.Came.{IsNewOver, IsReady}
 
@@ -44,3 +46,19 @@ after_in p ready d = ap (λ (lane : Lane). lane.in_after) (ready.lanes d)
 pub opened_new : (e : Whole Plain) (p : Plain) → e.port ≡ p → IsReady p → IsNewOver e
 opened_new e p is ready = subst (λ (q : Plain). (length q.lanes ≡ 2) × ((s : ℕ) → last_head (lane_at q s).in_after (lane_at q s).in_list ≡ None)) (sym is)
     (ready.peers, λ s. ap (λ (lane : Lane). last_head lane.in_after lane.in_list) (ready.lanes s))
+
+-- ---- a frame is brought
+
+abbrev with_frame : Plain → ℕ → Frame → Plain
+with_frame p source f = with_lane p source (record (lane_at p source) { in_list = (lane_at p source).in_list ++ f ∷ [] })
+
+brought : (p q : Plain) (source : ℕ) (f : Frame) → source < length p.lanes → q ≡ with_frame p source f → last_head (lane_at q source).in_after (lane_at q source).in_list ≡ Some f.head
+brought p q source f below is =
+    ap (λ (x : Plain). last_head (lane_at x source).in_after (lane_at x source).in_list) is
+    ∙ ap (λ (lane : Lane). last_head lane.in_after lane.in_list) (get_or-set_same p.lanes source (record (lane_at p source) { in_list = (lane_at p source).in_list ++ f ∷ [] }) (fresh_lane None None) below)
+    ∙ last_head-push (lane_at p source).in_after (lane_at p source).in_list f
+
+pub brought_if : {A E : Type 0} (r : Result A E) (answer : Bool) (p q : Plain) (source : ℕ) (f : Frame) → answer ≡ is_ok r → source < length p.lanes → OnOk r (q ≡ with_frame p source f) → answer ≡ true
+    → last_head (lane_at q source).in_after (lane_at q source).in_list ≡ Some f.head
+brought_if (Ok a) answer p q source f value below ok holds = brought p q source f below ok
+brought_if (Err e) answer p q source f value below ok holds = absurd (true≢false (sym holds ∙ value))

@@ -1,4 +1,4 @@
-use Rattle.std.proofs.Common.{◌≡◌, ◌∷◌, [], length, length-append, arith}
+use Rattle.std.proofs.Common.{◌≡◌, ◌∷◌, [], length-append, arith}
 use Rattle.std.proofs.lemmas.List.Elements.{All-push}
 use Rattle.fab_open.specs.Machine.{machine_held}
 use Rattle.fab_open.specs.declared.machine.BinMachine.{BinMachine}
