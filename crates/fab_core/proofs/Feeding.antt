@@ -27,13 +27,14 @@ use Rattle.fab_face.specs.Answers.{FrameLacks}
 use Rattle.fab_face.specs.Machine.{IsNext, StayNext}
 use Rattle.fab_rma.specs.Serving.{is_request, outcome_at}
 use Rattle.fab_core.specs.Parts.{IsFitting, IsTogether, Parts, held_of, state_of}
-use Rattle.fab_core.specs.Doing.{answer_writes, arrived, fed, lacks_at_tail, tail, writes_at_tail}
+use Rattle.fab_ends.specs.Ends.{answer_writes}
+use Rattle.fab_core.specs.Doing.{arrived, fed, lacks_at_tail, tail, writes_at_tail}
 use Rattle.fab_core.proofs.Doing.{heading_is, tail_is}
 use Rattle.fab_tx.specs.Transit.{is_reply}
 use Rattle.fab_core.proofs.Fits.{fits_tail}
 use Rattle.fab_core.proofs.Steady.{item_there}
 use Rattle.fab_core.proofs.Together.{fitting_arrived}
-use Rattle.fab_core.specs.Requests.{writes_data}
+use Rattle.fab_ends.specs.Served.{writes_data}
 
 -- ---- a first frame, or another one
 

@@ -20,7 +20,6 @@ mod Judging
 mod Aside
 mod Asking
 mod Addressed
-mod Listing
 mod Placing
 mod Lending
 mod Opening

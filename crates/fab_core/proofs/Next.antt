@@ -19,7 +19,8 @@ use Rattle.fab_tx.specs.Transit.{Transit, next_item}
 use Rattle.fab_core.specs.Parts.{Parts, state_of}
 use Rattle.fab_rx.specs.Arriving.{finishing}
 use Rattle.fab_rx.specs.Results.{last_of}
-use Rattle.fab_core.specs.Doing.{booked, let_back, posted_by, tail, whole, with_arriving}
+use Rattle.fab_ends.specs.Ends.{booked}
+use Rattle.fab_core.specs.Doing.{let_back, posted_by, tail, whole, with_arriving}
 
 -- what is accepted for each peer goes on from what was, and as much of it is transmitted
 abbrev pub GoesOn : Transmitting → Transmitting → Type 0

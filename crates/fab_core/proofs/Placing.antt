@@ -4,7 +4,7 @@ use Rattle.std.specs.Prelude.{find, Contains}
 use Rattle.std.specs.List.{AllZip}
 use Rattle.fab_model.specs.Matching.{remove_first}
 use Rattle.fab_core.specs.Lent.{AreOthers, AreSingle}
-use Rattle.fab_core.proofs.Listing.{contains_cases, contains_here, contains_later}
+use Rattle.fab_ends.proofs.Listing.{contains_cases, contains_here, contains_later}
 
 module _ {A B : Type 0} (R : A → B → Type 0) where
   pub zip_push : (xs : List A) (ys : List B) (x : A) (y : B) → AllZip R xs ys → R x y → AllZip R (xs ++ x ∷ []) (ys ++ y ∷ [])

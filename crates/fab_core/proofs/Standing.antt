@@ -30,9 +30,10 @@ use Rattle.fab_rma.specs.Serving.{outcome_at}
 use Rattle.fab_tx.specs.Transit.{Transit, ended}
 use Rattle.fab_tx.specs.declared.results.Ended.{Ended}
 use Rattle.fab_core.specs.Parts.{Parts}
-use Rattle.fab_core.specs.Doing.{as_operation, booked, cq_after, entry_at_end, heading, let_back, received, sent, tail, unread_of, well_entry, with_arriving, written_if}
-use Rattle.fab_core.specs.Members.{Members, let_go}
-use Rattle.fab_core.specs.Requests.{data_of}
+use Rattle.fab_ends.specs.Ends.{as_operation, booked, cq_after, entry_at_end, unread_of, well_entry, written_if}
+use Rattle.fab_core.specs.Doing.{heading, let_back, received, sent, tail, with_arriving}
+use Rattle.fab_ends.specs.Members.{Members, let_go}
+use Rattle.fab_ends.specs.Served.{data_of}
 use Rattle.fab_core.specs.Lent.{GoesInto, IsComingIn, IsLent, IsLentBy, IsOther}
 use Rattle.fab_core.proofs.Lending.{lent_called, lent_moved}
 use Rattle.fab_core.proofs.Opening.{closed_call, closed_found, closed_seek, coming_moved, coming_set, distinct_right, filling_same, fill_same, seated_same, seek, seek_apart, seek_gone, taker_is, taker_open, unclosed_same}

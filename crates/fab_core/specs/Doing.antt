@@ -1,6 +1,4 @@
 -- What the steps of an endpoint make of its parts.
---     booked due source head tx       a reply to the item is booked, where one is due
---     entry_at_end outcome bytes e    the completion of an operation that ended, if one is written
 --     ending_by                       an operation ends, where there is one
 --     received                        a receive completes
 --     requested                       a request is performed
@@ -44,46 +42,12 @@ use Rattle.fab_tx.specs.Transit.{Transit, accepting_by, answered_by, booking, en
 use Rattle.fab_tx.specs.declared.results.Ended.{Ended}
 use Rattle.fab_model.specs.Target.{perform}
 use Rattle.fab_rma.specs.Serving.{is_request, outcome_at}
-use Rattle.fab_core.specs.Members.{let_any_go, let_go}
+use Rattle.fab_ends.specs.Ends.{answer_writes, booked, counters_after, cq_after, unread_of, written_if}
+use Rattle.fab_ends.specs.Members.{let_any_go, let_go}
 use Rattle.fab_core.specs.Parts.{Parts, state_of}
-use Rattle.fab_core.specs.Requests.{data_of, reply_of, served, writes_data}
-
--- ---- replies
-
-abbrev pub reply_to : ItemHead → Item
-reply_to head = record { head = reply_head head.op Done 0; bytes = [] }
-
-abbrev pub booked : Bool → ℕ → ItemHead → Transit → Transit
-booked true source head tx = booking source (reply_to head) tx
-booked false source head tx = tx
+use Rattle.fab_ends.specs.Served.{data_of, reply_of, served, writes_data}
 
 -- ---- the end of an operation
-
--- an operation of which only what is handed out is known
-abbrev pub as_operation : Ended → Operation
-as_operation e = record { call = 0; dest = 0; place = 0; head = e.head; level = Level.Transmit; ctx = e.ctx; buf = e.buf; silent = e.silent }
-
-abbrev pub well_entry : Bool → List ℕ → Ended → Option Taken
-well_entry true bytes e = None
-well_entry false bytes e = Some (Success (success_of (as_operation e) bytes))
-
-abbrev pub entry_at_end : Outcome → List ℕ → Ended → Option Taken
-entry_at_end outcome bytes e = elim (refusal_of outcome) [
-  | Some kind ↦ Some (error e.ctx kind e.buf)
-  | None ↦ well_entry e.silent bytes e
-]
-
-abbrev pub written_if : Option ℕ → Option Taken → Completions → Completions
-written_if call None cq = cq
-written_if call (Some entry) cq = writing call entry cq
-
-abbrev pub cq_after : Outcome → List ℕ → Option Operation → Completions → Completions
-cq_after outcome bytes None cq = cq
-cq_after outcome bytes (Some o) cq = written_if (Some o.call) (entry_at_end outcome bytes (ended o)) cq
-
-abbrev pub counters_after : Outcome → Option Operation → List Tally → List Tally
-counters_after outcome None counters = counters
-counters_after outcome (Some o) counters = counting (class_of o.head) (is_none (refusal_of outcome)) counters
 
 abbrev pub ending_by : Outcome → List ℕ → Option Operation → Parts → Parts
 ending_by outcome bytes o p = record p { cq = cq_after outcome bytes o p.cq; counters = counters_after outcome o p.counters }
@@ -99,14 +63,6 @@ sent dest p = ending_by Done [] (ending dest p.tx.tx) (with_transit (finishing_s
 
 abbrev pub answered : ℕ → Item → Parts → Parts
 answered source item p = ending_by item.head.outcome item.bytes (finds_answered source item.head p.tx.tx) (with_transit (answered_by source item.head p.tx) p)
-
--- the end of an operation writes a completion
-abbrev pub writes_end : Outcome → Bool → Bool
-writes_end outcome silent = not silent || is_some (refusal_of outcome)
-
--- so does the operation that this reply answers, if there is one
-abbrev pub answer_writes : ℕ → ItemHead → Transmitting → Bool
-answer_writes source reply tx = elim (finds_answered source reply tx) [ None ↦ false | Some o ↦ writes_end reply.outcome o.silent ]
 
 -- ---- what comes in
 
@@ -141,10 +97,6 @@ fed source f p = growing_by source f.bytes (with_arriving (arrived (f.head.from 
 -- the entry of this call is written, the receive counts, and a reply that is due is booked
 abbrev pub received : Option ℕ → Bool → Completed → Parts → Parts
 received call due c p = record p { cq = writing call c.entry p.cq; counters = counting Recv c.good p.counters; tx = booked due c.source c.head p.tx }
-
--- how many entries are unread
-abbrev pub unread_of : Completions → ℕ
-unread_of cq = length cq.written - cq.taken_out
 
 -- the buffer of a multi-receive comes back, where one does
 abbrev pub let_back : Option Receive → Parts → Parts

@@ -1,4 +1,3 @@
-pub mod Members
 pub mod Parts
 pub mod Doing
 pub mod Multis

@@ -30,7 +30,8 @@ use Rattle.fab_rx.specs.declared.results.Seen.{Seen}
 use Rattle.fab_tx.specs.Transit.{Transit}
 use Rattle.fab_face.specs.declared.looking.Look.{Look}
 use Rattle.fab_core.specs.Parts.{Parts}
-use Rattle.fab_core.specs.Doing.{booked, called, given_found, with_arriving}
+use Rattle.fab_ends.specs.Ends.{booked}
+use Rattle.fab_core.specs.Doing.{called, given_found, with_arriving}
 
 abbrev pub look_want : State → Look → Want
 look_want s l = want_of s true l.source l.tag l.ignore

@@ -17,7 +17,7 @@ use Rattle.fab_face.specs.Held.{Held}
 use Rattle.fab_face.specs.declared.multis.MultiAsk.{MultiAsk}
 use Rattle.fab_core.specs.Parts.{Parts, state_of}
 use Rattle.fab_core.specs.Doing.{called, with_arriving}
-use Rattle.fab_core.specs.Members.{enlisted}
+use Rattle.fab_ends.specs.Members.{enlisted}
 
 abbrev pub sharing_of : MultiAsk → List ℕ → Posting
 sharing_of a buf = record { tagged = false; source = a.source; tag = 0; ignore = 0; buf = buf; least = Some a.least; ctx = a.ctx }

@@ -19,7 +19,7 @@ use Rattle.fab_model.specs.State.{Completions, State, coming_from, lookup}
 use Rattle.fab_rx.specs.Arriving.{Arriving, begun_of}
 use Rattle.fab_tx.specs.Transit.{Transit}
 use Rattle.fab_face.specs.Held.{Held}
-use Rattle.fab_core.specs.Members.{Members}
+use Rattle.fab_ends.specs.Members.{Members}
 use Rattle.fab_rma.specs.Serving.{Serving, is_request}
 
 pub record Parts : Type 0 where

@@ -1,8 +1,4 @@
--- What a request does at its target when it is whole, and what holds before it is (fi_rma(3), fi_atomic(3)).
---     reply_of head done         the reply to a request that was performed
---     data_of outcome source head      the completion of a write that tells its target of it, where one is written
---     writes_data outcome head   whether one is
---     served source item target  the target after the request
+-- What holds of requests at their target before they are whole (fi_rma(3), fi_atomic(3)), and of regions.
 --     IsServing begun target     what holds between calls
 --     lacks caps access          a right that a region would give was not granted
 use Rattle.std.specs.Prelude.{◌≡◌, ℕ, ◌≤◌, Bool, true, false, not, ◌&&◌, ◌||◌, List, length, Option, None, IfSome, is_some, slice_index, slice_index_or, slice_set}
@@ -21,20 +17,6 @@ use Rattle.fab_wire.specs.Frames.{IsSound}
 use Rattle.fab_model.specs.Complete.{reply_head}
 use Rattle.fab_model.specs.Target.{Performed, perform}
 use Rattle.fab_rma.specs.Serving.{Serving, is_request, room_for}
-
-abbrev pub reply_of : ItemHead → Performed → Item
-reply_of head done = record { head = reply_head head.op done.outcome (length done.bytes); bytes = done.bytes }
-
-abbrev pub data_of : Outcome → ℕ → ItemHead → Option Taken
-data_of Done source head = elim head.kind [ WriteReq ↦ option_map (λ imm. Success (RemoteData source imm)) head.imm | _ ↦ None ]
-data_of _ source head = None
-
-abbrev pub writes_data : Outcome → ItemHead → Bool
-writes_data Done head = elim head.kind [ WriteReq ↦ is_some head.imm | _ ↦ false ]
-writes_data _ head = false
-
-abbrev pub served : ℕ → Item → Serving → Serving
-served source item target = record { regions = (perform target.regions item.head item.bytes).regions; rooms = slice_set target.rooms source 0 }
 
 -- a request that is begun makes sense, and there is room for what it hands back
 abbrev pub IsAwaited : Serving → ℕ → Item → Type 0

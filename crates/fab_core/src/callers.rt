@@ -1,35 +1,15 @@
 //! To which call a completion belongs: contracts alone know, from the halves as they were.
-ghost use Rattle.std.specs.Prelude.{None, Some};
 ghost use Rattle.std.specs.Option.{option_map};
 ghost use Rattle.fab_model.specs.State.{coming_from};
 ghost use Rattle.fab_model.specs.Receiving.{cancellable};
-ghost use Rattle.fab_model.specs.Sending.{ending};
 ghost use Rattle.fab_rx.specs.Leaving.{is_meant};
 ghost use Rattle.fab_rx.specs.Results.{call_into};
-ghost use Rattle.fab_tx.specs.Transit.{finds_answered};
 ghost use Rattle.fab_core.specs.Draws.{call_drawn};
 
-use crate::parts::Calls;
-use fab_base::ItemHead;
 use fab_match::Matcher;
 use fab_record::caller::Caller;
 use fab_rx::Inbox;
-use fab_tx::Outbox;
 use std::snapshot::Snapshot;
-
-/// No call: what other peers do to a target.
-pub(crate) struct OfNoCall;
-
-impl Caller<()> for OfNoCall {
-    ghost call = { λ _. None };
-}
-
-/// The call that is being made, after so many.
-pub(crate) struct ThisCall;
-
-impl Caller<Snapshot<Calls>> for ThisCall {
-    ghost call = { λ x. Some x.value };
-}
 
 /// The call of the receive into which the item of this source goes.
 pub(crate) struct IntoReceive;
@@ -50,18 +30,4 @@ pub(crate) struct OfReceive;
 
 impl<M: Matcher> Caller<(Snapshot<Inbox<M>>, Option<u64>)> for OfReceive {
     ghost call = { λ x. option_map (λ r. r.call) (cancellable (is_meant x.1) x.0.value.rx) };
-}
-
-/// The call of the operation that ends when the next item for this peer is transmitted.
-pub(crate) struct EndsWhenSent;
-
-impl Caller<(Snapshot<Outbox>, u32)> for EndsWhenSent {
-    ghost call = { λ x. option_map (λ o. o.call) (ending x.1 x.0.value.tx) };
-}
-
-/// The call of the operation that this reply of this peer ends.
-pub(crate) struct EndsWhenAnswered;
-
-impl Caller<(Snapshot<Outbox>, u32, ItemHead)> for EndsWhenAnswered {
-    ghost call = { λ x. option_map (λ o. o.call) (finds_answered x.1 x.2 x.0.value.tx) };
 }

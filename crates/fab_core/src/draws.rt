@@ -6,8 +6,8 @@ ghost use Rattle.fab_rx.specs.Drawing.{drawn, entries_drawn};
 ghost use Rattle.fab_core.specs.Draws.{drew};
 
 use crate::callers::OfDrawer;
-use crate::handing::{at_match, hand_last, hand_over};
 use crate::parts::Core;
+use fab_ends::handing::{at_match, hand_last, hand_over};
 use fab_match::Matcher;
 use fab_rx::{Drawn, Inbox};
 use std::snapshot::Snapshot;

@@ -25,21 +25,16 @@
 
 mod callers;
 mod draws;
-mod ending;
-mod handing;
 mod keeping;
 mod looking;
 mod looks;
 mod machine;
-mod members;
 mod multis;
 mod parts;
-mod places;
 mod receives;
 mod receiving;
 mod requests;
 mod sending;
-mod serving;
 mod taking;
 mod targets;
 

@@ -13,11 +13,11 @@ ghost use Rattle.fab_core.specs.Parts.{state_of};
 ghost use Rattle.fab_core.specs.Orders.{is_held};
 ghost use Rattle.fab_core.specs.Looks.{dropped_by, is_due_now, is_held_take, lacks_take, lasting_claimed, lasting_look, look_want, looked, looked_by, parted, parted_by, taken_by, told};
 
-use crate::callers::ThisCall;
-use crate::handing::{at_match, book, hand_over};
-use crate::parts::{Calls, Core, call};
+use crate::parts::Core;
 use crate::receives::MOST_BYTES;
 use fab_base::{Buf, Busy, Entry, ErrEntry, ErrKind, Fault, PeekHow, Refused, Taken, Want};
+use fab_ends::calls::{Calls, ThisCall, call};
+use fab_ends::handing::{at_match, book, hand_over};
 use fab_face::looking::Look;
 use fab_match::Matcher;
 use fab_rx::{Inbox, Posted, Seen};

@@ -5,11 +5,11 @@ ghost use Rattle.fab_core.specs.Parts.{held_of, state_of};
 ghost use Rattle.fab_core.specs.Doing.{lasting_post};
 ghost use Rattle.fab_core.specs.Multis.{HasBuffer, IsShared, passing_multi, sharing_of};
 
-use crate::callers::ThisCall;
-use crate::parts::{Calls, Core, call};
-use crate::places::Place;
+use crate::parts::Core;
 use crate::receives::MOST_BYTES;
 use fab_base::{Buf, Busy, Fault, Refused, Want};
+use fab_ends::calls::{Calls, ThisCall, call};
+use fab_ends::places::Place;
 use fab_face::multis::MultiAsk;
 use fab_match::Matcher;
 use std::snapshot::Snapshot;

@@ -5,51 +5,21 @@ ghost use Rattle.fab_cq.specs.Queues.{nothing_written};
 ghost use Rattle.fab_rma.specs.Serving.{nothing_served};
 ghost use Rattle.fab_rx.specs.Arriving.{nothing_arrived};
 ghost use Rattle.fab_tx.specs.Transit.{nothing_accepted};
-ghost use Rattle.fab_core.specs.Members.{most_multis, nobody};
+ghost use Rattle.fab_ends.specs.Members.{most_multis, nobody};
 ghost use Rattle.fab_core.specs.Parts.{held_of};
-ghost use Rattle.fab_core.specs.Doing.{called};
 
-use crate::members::Multis;
 use fab_av::Av;
 use fab_base::{Caps, Info, NoMemory};
 use fab_cq::{Counters, Queue};
+use fab_ends::calls::Calls;
+use fab_ends::members::Multis;
 use fab_match::Matcher;
-use fab_record::record::{Begins, Change, Record};
+use fab_record::record::Record;
 use fab_rma::Target;
 use fab_rx::Inbox;
 use fab_tx::Outbox;
 use std::alloc::Global;
 use std::marker::Model;
-
-/// How many transmit and receive calls were accepted. No value of it is made.
-pub(crate) struct CallCount {
-    unused: (),
-}
-
-impl Model for CallCount {
-    ghost use Rattle.std.specs.Prelude.{ℕ};
-
-    ghost Value = { ℕ };
-
-    ghost view = { λ _. 0 };
-}
-
-/// No call was accepted.
-pub(crate) struct NoCall;
-
-impl Begins<(), CallCount> for NoCall {
-    ghost first = { λ _. 0 };
-}
-
-/// One more call is accepted.
-struct OneMore;
-
-impl Change<(), CallCount> for OneMore {
-    ghost after = { λ _ n. n + 1 };
-}
-
-/// The number of calls, which nothing stores.
-pub(crate) type Calls = Record<(), CallCount, NoCall>;
 
 /// The machine of one endpoint (fi_endpoint(3)): what it received and transmits, its regions, its
 /// completion queue, its counters and its address vector. Contracts see all that ever came and went out; stored is what is still
@@ -86,13 +56,6 @@ impl<M: Matcher> Model for Core<M> {
         × IsServing c.rx.begun c.target
         × IsLent c.rx.rx c.rx.multis c.tx.tx.live c.cq c.calls c.multis
         × HasPlaces c.most_rx c.av.peers c.cq.size c.multis };
-}
-
-/// One more call is accepted. It costs nothing that can fail.
-pub(crate) fn call(calls: &mut Calls)
-    ensures { calls.new ≡ calls.old + 1 }
-{
-    calls.note::<(), OneMore>(&());
 }
 
 /// What a core is made of besides its address vector.

@@ -14,10 +14,11 @@ ghost use Rattle.fab_core.specs.Parts.{state_of};
 ghost use Rattle.fab_core.specs.Doing.{left_by, lasting_post, posted_by};
 ghost use Rattle.fab_core.specs.Orders.{is_held, posting_of, wanted, passing_post};
 
-use crate::callers::{OfReceive, ThisCall};
-use crate::handing::{at_match, hand_over};
-use crate::parts::{Calls, Core, call};
+use crate::callers::OfReceive;
+use crate::parts::Core;
 use fab_base::{Buf, Busy, Class, ErrEntry, ErrKind, Fault, Refused, Taken, Want};
+use fab_ends::calls::{Calls, ThisCall, call};
+use fab_ends::handing::{at_match, hand_over};
 use fab_face::machine::Ask;
 use fab_match::Matcher;
 use fab_rx::{Cancelled, Inbox, Posted};

@@ -8,10 +8,10 @@ ghost use Rattle.fab_core.specs.Parts.{state_of};
 ghost use Rattle.fab_core.specs.Asking.{accepted_as};
 ghost use Rattle.fab_core.specs.Doing.{lasting_transmit};
 
-use crate::callers::ThisCall;
-use crate::parts::{Calls, Core, call};
+use crate::parts::Core;
 use fab_atomics::element_size;
 use fab_base::{Ack, Atom, AtomicOp, Buf, Caps, Fault, Form, ItemHead, Kind, Level, Num, Outcome};
+use fab_ends::calls::{Calls, ThisCall, call};
 use fab_face::requesting::{Asked, Request, Requesting};
 use fab_match::Matcher;
 use std::snapshot::Snapshot;

@@ -10,10 +10,10 @@ ghost use Rattle.fab_core.specs.Parts.{state_of};
 ghost use Rattle.fab_core.specs.Doing.{accepted_by, lasting_transmit, sent};
 ghost use Rattle.fab_core.specs.Orders.{most_of, order_of};
 
-use crate::callers::{EndsWhenSent, ThisCall};
-use crate::ending::end;
-use crate::parts::{Calls, Core, call};
+use crate::parts::Core;
 use fab_base::{Ack, Buf, Caps, Fault, ItemHead, Kind, Level, Outcome};
+use fab_ends::calls::{Calls, EndsWhenSent, ThisCall, call};
+use fab_ends::ending::end;
 use fab_face::machine::Message;
 use fab_match::Matcher;
 use fab_tx::Outbox;

@@ -13,16 +13,17 @@ ghost use Rattle.fab_rx.specs.Arriving.{arriving, bare, begun_of};
 ghost use Rattle.fab_rx.specs.Results.{last_of};
 ghost use Rattle.fab_tx.specs.Transit.{answered_by, finds_answered, is_reply};
 ghost use Rattle.fab_core.specs.Parts.{held_of, state_of};
-ghost use Rattle.fab_core.specs.Doing.{answer_writes, arrived, asks, counters_after, cq_after, fed, heading, lacks_at_tail, tail, writes_at_tail};
+ghost use Rattle.fab_ends.specs.Ends.{answer_writes, counters_after, cq_after};
+ghost use Rattle.fab_core.specs.Doing.{arrived, asks, fed, heading, lacks_at_tail, tail, writes_at_tail};
 ghost use Rattle.fab_core.specs.Requests.{IsAwaited};
 
-use crate::callers::{EndsWhenAnswered, IntoReceive};
-use crate::ending::{end, writes_at_end};
-use crate::handing::{at_delivery, at_either, book, hand_last, hand_over};
+use crate::callers::IntoReceive;
 use crate::parts::Core;
-use crate::serving::{is_request, serve, writes_data};
 use fab_base::{FrameHead, Item, ItemHead, Kind, NoMemory};
 use fab_cq::{Counters, Queue};
+use fab_ends::ending::{answer, answer_writes};
+use fab_ends::handing::{at_delivery, at_either, book, hand_last, hand_over};
+use fab_ends::serving::{is_request, serve, writes_data};
 use fab_match::Matcher;
 use fab_rx::{Finished, Inbox};
 use fab_tx::Outbox;
@@ -54,45 +55,6 @@ fn asks(head: &ItemHead) -> bool
         Kind::Msg | Kind::TagMsg => at_either(head.ack),
         Kind::WriteReq | Kind::ReadReq | Kind::AtomicReq => true,
         Kind::Reply => false,
-    }
-}
-
-/// Whether the end of the operation that this reply answers writes a completion.
-fn answer_writes(tx: &Outbox, source: u32, reply: &ItemHead) -> bool
-    ensures { result ≡ answer_writes source reply.now tx.now.tx }
-{
-    match tx.answered(source, reply) {
-        None => false,
-        Some(silent) => writes_at_end(reply.outcome, silent),
-    }
-}
-
-/// A reply is whole: the operation that it answers ends.
-fn answer(
-    alloc: Global,
-    tx: &mut Outbox,
-    cq: &mut Queue,
-    counters: &mut Counters,
-    source: u32,
-    item: Item,
-)
-    requires room { answer_writes source item.head tx.old.tx ≡ true → IsTrue (has_room 1 cq.old) }
-    ensures tx { tx.new ≡ answered_by source item.head tx.old }
-    ensures cq { cq.new ≡ cq_after item.head.outcome item.bytes (finds_answered source item.head tx.old.tx) cq.old }
-    ensures counters { counters.new ≡ counters_after item.head.outcome (finds_answered source item.head tx.old.tx) counters.old }
-{
-    let Item { head, bytes } = item;
-    let about = (Snapshot::of(tx), source, head);
-    if let Some(ended) = tx.answer(source, &head) {
-        end::<(Snapshot<Outbox>, u32, ItemHead), EndsWhenAnswered>(
-            alloc,
-            cq,
-            counters,
-            &about,
-            head.outcome,
-            bytes,
-            ended,
-        );
     }
 }
 

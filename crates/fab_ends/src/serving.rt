@@ -6,17 +6,17 @@ ghost use Rattle.fab_model.specs.Target.{perform};
 ghost use Rattle.fab_cq.specs.Queues.{has_room};
 ghost use Rattle.fab_rma.specs.Serving.{is_request, outcome_at, room_for};
 ghost use Rattle.fab_tx.specs.Transit.{booking};
-ghost use Rattle.fab_core.specs.Doing.{written_if};
-ghost use Rattle.fab_core.specs.Requests.{data_of, reply_of, served, writes_data};
+ghost use Rattle.fab_ends.specs.Ends.{written_if};
+ghost use Rattle.fab_ends.specs.Served.{data_of, reply_of, served, writes_data};
 
-use crate::callers::OfNoCall;
+use crate::calls::OfNoCall;
 use fab_base::{Ack, Entry, Item, ItemHead, Kind, Outcome, Taken};
 use fab_cq::Queue;
 use fab_rma::{Reply, Target};
 use fab_tx::Outbox;
 
 /// Whether the item asks its target for something.
-pub(crate) fn is_request(kind: Kind) -> bool
+pub fn is_request(kind: Kind) -> bool
     ensures { result ≡ is_request kind }
 {
     match kind {
@@ -26,7 +26,7 @@ pub(crate) fn is_request(kind: Kind) -> bool
 }
 
 /// Whether the target is told of a request with this outcome: of a write with remote data that was done.
-pub(crate) fn writes_data(outcome: Outcome, head: &ItemHead) -> bool
+pub fn writes_data(outcome: Outcome, head: &ItemHead) -> bool
     ensures { result ≡ writes_data outcome head.now }
 {
     match outcome {
@@ -74,7 +74,7 @@ fn reply_of(head: &ItemHead, done: Reply) -> Item
 
 /// A request is performed, its reply is booked in room that was made for it, and a write with remote data
 /// tells of itself.
-pub(crate) fn serve(tx: &mut Outbox, cq: &mut Queue, target: &mut Target, source: u32, item: Item)
+pub fn serve(tx: &mut Outbox, cq: &mut Queue, target: &mut Target, source: u32, item: Item)
     requires peer { source < length tx.old.tx.sent }
     requires room { 0 < slice_index tx.old.rooms source }
     requires source { source < length target.old.rooms }

@@ -1,7 +1,7 @@
 use Rattle.std.proofs.Common.{◌<◌, ◌∙◌, arith, length, length-set, refl}
-use Rattle.fab_core.specs.Members.{let_one_go}
-use Rattle.fab_core.proofs.Listing.{turned_by}
-use Rattle.fab_core.proofs.places.let_go.Goals as goal
+use Rattle.fab_ends.specs.Members.{let_one_go}
+use Rattle.fab_ends.proofs.Listing.{turned_by}
+use Rattle.fab_ends.proofs.places.let_go.Goals as goal
 
 pub loop-k-preserved : goal.loop-k-preserved
 loop-k-preserved c =

@@ -8,9 +8,9 @@ use Rattle.std.specs.Prelude.{ℕ, ◌+◌, ◌-◌, ◌==◌, ◌++◌, ◌∷�
 use Rattle.fab_base.specs.declared.operations.Written.{Written}
 use Rattle.fab_model.specs.Matching.{remove_first}
 use Rattle.fab_face.specs.Acts.{is_end_of}
-use Rattle.fab_core.specs.declared.places.Place.{Place}
-use Rattle.fab_core.specs.declared.places.Place.TheVariants.{Open, Ended}
-use Rattle.fab_core.specs.declared.places.Member.{Member}
+use Rattle.fab_ends.specs.declared.places.Place.{Place}
+use Rattle.fab_ends.specs.declared.places.Place.TheVariants.{Open, Ended}
+use Rattle.fab_ends.specs.declared.places.Member.{Member}
 
 pub record Members : Type 0 where
   -- context, and number of the call

@@ -3,10 +3,10 @@
 ghost use Rattle.std.specs.Prelude.{◌≡◌, ◌<◌, ◌==◌, ◌++◌, ◌∷◌, [], IfOk, find, length};
 ghost use Rattle.std.specs.Option.{option_map};
 ghost use Rattle.fab_model.specs.Peers.{unread};
-ghost use Rattle.fab_core.specs.declared.places.Member.{Member as OneMember};
-ghost use Rattle.fab_core.specs.Members.{enlisted, let_any_go, let_go, list_read, nobody, read_by};
+ghost use Rattle.fab_ends.specs.declared.places.Member.{Member as OneMember};
+ghost use Rattle.fab_ends.specs.Members.{enlisted, let_any_go, let_go, list_read, nobody, read_by};
 
-use crate::parts::Calls;
+use crate::calls::Calls;
 use crate::places::{Member, Place, let_go, read};
 use fab_base::NoMemory;
 use fab_cq::Queue;
@@ -17,7 +17,7 @@ use std::snapshot::Snapshot;
 
 /// The context and the call of each multi-receive whose release or cancel was not read, oldest first. No value
 /// of it is made.
-pub(crate) struct MultiList {
+pub struct MultiList {
     unused: (),
 }
 
@@ -30,7 +30,7 @@ impl Model for MultiList {
 }
 
 /// None was posted.
-pub(crate) struct NoMulti;
+pub struct NoMulti;
 
 impl Begins<(), MultiList> for NoMulti {
     ghost first = { λ _. [] };
@@ -59,7 +59,7 @@ pub struct Multis {
 
 impl Model for Multis {
     ghost use Rattle.std.specs.Prelude.{vec_capacity};
-    ghost use Rattle.fab_core.specs.Members.{Members};
+    ghost use Rattle.fab_ends.specs.Members.{Members};
 
     ghost Value = { Members };
 
@@ -68,7 +68,7 @@ impl Model for Multis {
 
 impl Multis {
     /// None, with memory for so many.
-    pub(crate) fn new(alloc: Global, most: usize) -> Result<Multis, NoMemory>
+    pub fn new(alloc: Global, most: usize) -> Result<Multis, NoMemory>
         ensures { IfOk result (λ multis. multis ≡ nobody most) }
     {
         let past = Record::new(alloc, &())?;
@@ -77,7 +77,7 @@ impl Multis {
     }
 
     /// A multi-receive is posted under the id by the call that is being made, after so many.
-    pub(crate) fn enlist(&mut self, calls: &Calls, id: u32, ctx: u64)
+    pub fn enlist(&mut self, calls: &Calls, id: u32, ctx: u64)
         requires room { length self.old.places < self.old.room }
         ensures { self.new ≡ enlisted id ctx calls.now self.old }
     {
@@ -91,14 +91,14 @@ impl Multis {
     }
 
     /// The buffer of the one under the id comes back with an entry before which so many are unread.
-    pub(crate) fn let_go(&mut self, id: u32, before: usize)
+    pub fn let_go(&mut self, id: u32, before: usize)
         ensures { self.new ≡ let_go id before self.old }
     {
         let_go(&mut self.places, id, before);
     }
 
     /// The same where there is an id, else nothing.
-    pub(crate) fn let_any_go(&mut self, id: Option<u32>, before: usize)
+    pub fn let_any_go(&mut self, id: Option<u32>, before: usize)
         ensures { self.new ≡ let_any_go id before self.old }
     {
         if let Some(id) = id {
@@ -107,7 +107,7 @@ impl Multis {
     }
 
     /// The first unread entry of the queue, as it was, is read.
-    pub(crate) fn read(&mut self, before: &Snapshot<Queue>)
+    pub fn read(&mut self, before: &Snapshot<Queue>)
         ensures { self.new ≡ read_by (unread before.now.value) self.old }
     {
         let Multis { past, places } = self;
@@ -116,7 +116,7 @@ impl Multis {
     }
 
     /// Where the buffer of the oldest one of the context is.
-    pub(crate) fn place_of(&self, ctx: u64) -> Option<Place>
+    pub fn place_of(&self, ctx: u64) -> Option<Place>
         ensures { result ≡ option_map (λ (m : OneMember). m.place) (find (λ (m : OneMember). m.ctx == ctx) self.now.places) }
     {
         let member = self.places.iter().find(|member| member.ctx == ctx)?;

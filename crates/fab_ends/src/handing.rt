@@ -6,8 +6,8 @@ ghost use Rattle.fab_base.specs.declared.entries.Taken.TheVariants.{Success};
 ghost use Rattle.fab_model.specs.Complete.{at_delivery, at_either, at_match, reply_head};
 ghost use Rattle.fab_model.specs.State.{counting, writing};
 ghost use Rattle.fab_cq.specs.Queues.{has_room};
-ghost use Rattle.fab_core.specs.Doing.{booked, reply_to, unread_of};
-ghost use Rattle.fab_core.specs.Members.{let_go};
+ghost use Rattle.fab_ends.specs.Ends.{booked, reply_to, unread_of};
+ghost use Rattle.fab_ends.specs.Members.{let_go};
 
 use crate::members::Multis;
 use fab_base::{Ack, Buf, Class, Entry, Item, ItemHead, Kind, Outcome, Taken};
@@ -18,7 +18,7 @@ use fab_tx::Outbox;
 use std::alloc::Global;
 
 /// Whether a reply is due once the message is delivered.
-pub(crate) fn at_delivery(ack: Ack) -> bool
+pub fn at_delivery(ack: Ack) -> bool
     ensures { result ≡ at_delivery ack }
 {
     match ack {
@@ -28,7 +28,7 @@ pub(crate) fn at_delivery(ack: Ack) -> bool
 }
 
 /// Whether a reply is due once a receive has taken the message.
-pub(crate) fn at_match(ack: Ack) -> bool
+pub fn at_match(ack: Ack) -> bool
     ensures { result ≡ at_match ack }
 {
     match ack {
@@ -38,7 +38,7 @@ pub(crate) fn at_match(ack: Ack) -> bool
 }
 
 /// Whether a reply is due at either.
-pub(crate) fn at_either(ack: Ack) -> bool
+pub fn at_either(ack: Ack) -> bool
     ensures { result ≡ at_either ack }
 {
     match ack {
@@ -70,7 +70,7 @@ fn reply_to(alloc: Global, head: &ItemHead) -> Item
 }
 
 /// Books a reply to an item of this peer where one is due, in room that was made for it.
-pub(crate) fn book(alloc: Global, tx: &mut Outbox, due: bool, source: u32, head: &ItemHead)
+pub fn book(alloc: Global, tx: &mut Outbox, due: bool, source: u32, head: &ItemHead)
     requires room { due ≡ true → (source < length tx.old.tx.sent) × (0 < slice_index tx.old.rooms source) }
     ensures { tx.new ≡ booked due source head.now tx.old }
 {
@@ -81,7 +81,7 @@ pub(crate) fn book(alloc: Global, tx: &mut Outbox, due: bool, source: u32, head:
 
 /// A receive completes: it counts, and its entry is written under the call that `C` names. A reply is
 /// booked where one is due.
-pub(crate) fn hand_over<X, C: Caller<X>>(
+pub fn hand_over<X, C: Caller<X>>(
     alloc: Global,
     cq: &mut Queue,
     counters: &mut Counters,
@@ -116,7 +116,7 @@ fn given_back(released: Released) -> Taken
 }
 
 /// The same of the last message of a multi-receive, whose buffer comes back behind it.
-pub(crate) fn hand_last<X, C: Caller<X>>(
+pub fn hand_last<X, C: Caller<X>>(
     alloc: Global,
     cq: &mut Queue,
     counters: &mut Counters,

@@ -5,13 +5,16 @@ ghost use Rattle.fab_model.specs.Complete.{error};
 ghost use Rattle.fab_model.specs.State.{counting};
 ghost use Rattle.fab_model.specs.Sending.{class_of, is_answered, refusal_of, success_of};
 ghost use Rattle.fab_cq.specs.Queues.{has_room};
-ghost use Rattle.fab_core.specs.Doing.{as_operation, entry_at_end, writes_end, written_if};
+ghost use Rattle.fab_tx.specs.Transit.{answered_by, finds_answered};
+ghost use Rattle.fab_ends.specs.Ends.{answer_writes, as_operation, counters_after, cq_after, entry_at_end, writes_end, written_if};
 
-use fab_base::{Buf, Class, Entry, ErrEntry, ErrKind, Form, ItemHead, Kind, Outcome, Taken};
+use crate::calls::EndsWhenAnswered;
+use fab_base::{Buf, Class, Entry, ErrEntry, ErrKind, Form, Item, ItemHead, Kind, Outcome, Taken};
 use fab_cq::{Counters, Queue};
 use fab_record::caller::Caller;
-use fab_tx::Ended;
+use fab_tx::{Ended, Outbox};
 use std::alloc::Global;
+use std::snapshot::Snapshot;
 
 /// The error that an outcome makes, and none where it is done.
 fn refusal_of(outcome: Outcome) -> Option<ErrKind>
@@ -133,14 +136,14 @@ fn entry_at_end(alloc: Global, outcome: Outcome, bytes: Buf, ended: Ended) -> Op
 }
 
 /// Whether the end of an operation with this outcome writes a completion.
-pub(crate) fn writes_at_end(outcome: Outcome, silent: bool) -> bool
+pub fn writes_at_end(outcome: Outcome, silent: bool) -> bool
     ensures { result ≡ writes_end outcome silent }
 {
     !silent || refusal_of(outcome).is_some()
 }
 
 /// An operation ends with this outcome and these bytes of its reply. `C` names its call.
-pub(crate) fn end<X, C: Caller<X>>(
+pub fn end<X, C: Caller<X>>(
     alloc: Global,
     cq: &mut Queue,
     counters: &mut Counters,
@@ -156,5 +159,44 @@ pub(crate) fn end<X, C: Caller<X>>(
     counters.count(class_of(&ended.head), refusal_of(outcome).is_none());
     if let Some(entry) = entry_at_end(alloc, outcome, bytes, ended) {
         cq.write::<X, C>(about, entry);
+    }
+}
+
+/// Whether the end of the operation that this reply answers writes a completion.
+pub fn answer_writes(tx: &Outbox, source: u32, reply: &ItemHead) -> bool
+    ensures { result ≡ answer_writes source reply.now tx.now.tx }
+{
+    match tx.answered(source, reply) {
+        None => false,
+        Some(silent) => writes_at_end(reply.outcome, silent),
+    }
+}
+
+/// A reply is whole: the operation that it answers ends.
+pub fn answer(
+    alloc: Global,
+    tx: &mut Outbox,
+    cq: &mut Queue,
+    counters: &mut Counters,
+    source: u32,
+    item: Item,
+)
+    requires room { answer_writes source item.head tx.old.tx ≡ true → IsTrue (has_room 1 cq.old) }
+    ensures tx { tx.new ≡ answered_by source item.head tx.old }
+    ensures cq { cq.new ≡ cq_after item.head.outcome item.bytes (finds_answered source item.head tx.old.tx) cq.old }
+    ensures counters { counters.new ≡ counters_after item.head.outcome (finds_answered source item.head tx.old.tx) counters.old }
+{
+    let Item { head, bytes } = item;
+    let about = (Snapshot::of(tx), source, head);
+    if let Some(ended) = tx.answer(source, &head) {
+        end::<(Snapshot<Outbox>, u32, ItemHead), EndsWhenAnswered>(
+            alloc,
+            cq,
+            counters,
+            &about,
+            head.outcome,
+            bytes,
+            ended,
+        );
     }
 }

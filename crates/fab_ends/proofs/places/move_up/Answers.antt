@@ -1,7 +1,7 @@
 use Rattle.std.proofs.Common.{◌<◌, ◌∙◌, arith, length, length-set, refl}
-use Rattle.fab_core.specs.Members.{one_read}
-use Rattle.fab_core.proofs.Listing.{turned_by}
-use Rattle.fab_core.proofs.places.move_up.Goals as goal
+use Rattle.fab_ends.specs.Members.{one_read}
+use Rattle.fab_ends.proofs.Listing.{turned_by}
+use Rattle.fab_ends.proofs.places.move_up.Goals as goal
 
 pub loop-k-preserved : goal.loop-k-preserved
 loop-k-preserved c =

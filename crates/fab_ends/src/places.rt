@@ -1,7 +1,7 @@
 //! Where the buffers of multi-receives are (FI_MULTI_RECV of fi_msg(3)).
 ghost use Rattle.std.specs.Prelude.{◌≡◌, map, position, vec_capacity};
 ghost use Rattle.fab_model.specs.Matching.{remove_first};
-ghost use Rattle.fab_core.specs.Members.{ended_at, is_first, let_one_go, moved_up, one_read};
+ghost use Rattle.fab_ends.specs.Members.{ended_at, is_first, let_one_go, moved_up, one_read};
 
 /// Where the buffer of a multi-receive is: with the receive under an id, or in the unread entry that gives it back,
 /// before which so many are unread.
@@ -57,7 +57,7 @@ impl Member {
 }
 
 /// The buffer of the one under the id comes back with an entry before which so many are unread.
-pub(crate) fn let_go(places: &mut Vec<Member>, id: u32, before: usize)
+pub fn let_go(places: &mut Vec<Member>, id: u32, before: usize)
     ensures items { places.new.items ≡ map (let_one_go id before) places.old.items }
     ensures capacity { vec_capacity places.new ≡ vec_capacity places.old }
 {
@@ -101,7 +101,7 @@ fn strike(places: &mut Vec<Member>)
 }
 
 /// One more entry is read. The one leaves whose end it is.
-pub(crate) fn read(places: &mut Vec<Member>)
+pub fn read(places: &mut Vec<Member>)
     ensures items { places.new.items ≡ map one_read (remove_first is_first places.old.items) }
     ensures capacity { vec_capacity places.new ≡ vec_capacity places.old }
 {
