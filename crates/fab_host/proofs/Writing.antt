@@ -3,7 +3,7 @@ use Rattle.std.proofs.Common.{◌≡◌, ℕ, ◌<◌, ◌≤◌, ◌+◌, ◌/�
 use Rattle.std.specs.Prelude.{codes, decimal, Result, Ok, Err, OnOk}
 use Rattle.std.specs.Io.KnownBytes.{append_known}
 use Rattle.std.proofs.lemmas.Fmt.{decimal_step, decimal_digit}
-use Rattle.fab_top.proofs.Pieces.{append_known-append}
+use Rattle.fab_outside.proofs.Pieces.{append_known-append}
 
 -- what follows from a success follows where there is one
 pub on_ok : {A E P Q : Type 0} (r : Result A E) → (P → Q) → OnOk r P → OnOk r Q

@@ -2,10 +2,10 @@
 ghost use Rattle.std.specs.Prelude.{◌≡◌, ◌+◌, ◌^◌, ◌<◌, ◌≤◌, IfOk, IfSome, OnErr, is_ok, if◌then◌else◌, None, length, take, vec_len};
 ghost use Rattle.std.specs.Io.KnownBytes.{Appends, Keeps};
 ghost use Rattle.fab_base.specs.Counts.{Rose, counted};
-ghost use Rattle.fab_top.specs.Refused.{IfTooLong};
+ghost use Rattle.fab_outside.specs.Refused.{IfTooLong};
 
 use fab_base::{Buf, Gate, NoMemory, Text};
-use fab_top::{Clock, Depot, Failed, LoadRefused, Sink};
+use fab_outside::{Clock, Depot, Failed, LoadRefused, Sink};
 use std::alloc::{AllocError, Global};
 use std::io::{Read, Write};
 use std::rt::Files;

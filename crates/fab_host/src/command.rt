@@ -6,14 +6,15 @@ ghost use Rattle.fab_base.specs.Counts.{Rose};
 ghost use Rattle.fab_base.specs.declared.status.Status.TheVariants.{Done, Stuck, Usage, ScriptRefused, TooLong, ReadFault, WriteFault};
 ghost use Rattle.fab_base.specs.declared.status.Why.{Why};
 ghost use Rattle.fab_top.specs.Commands.{IsNoCommand};
-ghost use Rattle.fab_top.specs.Loading.{IsOver};
+ghost use Rattle.fab_outside.specs.Loading.{IsOver};
 ghost use Rattle.fab_top.specs.Runs.{AskFor, IsRefused, Writes, WritesPart, Tells, TellsPart, Benches, BenchesPart, Checks, ChecksPart, IsUnhindered, IsAnswered, IsSilent};
 ghost use Rattle.fab_host.specs.Ending.{status_number, IsTold, HasAnswered, HasReported};
 
 use crate::adapters::{FileDepot, OpenGate, OutSink, WallClock};
 use crate::ending::end;
 use fab_base::{Gate, NoMemory, Status, Text};
-use fab_top::{Clock, Depot, Sink, run};
+use fab_outside::{Clock, Depot, Sink};
+use fab_top::run;
 use std::alloc::Global;
 use std::env::Args;
 use std::io::{ErrorKind, Write};

@@ -6,7 +6,7 @@ ghost use Rattle.fab_base.specs.Counts.{Rose};
 ghost use Rattle.fab_host.specs.Ending.{status_number, why_name, line_of_end, IsTold};
 
 use fab_base::{Status, Why};
-use fab_top::{Failed, Sink, write_all};
+use fab_outside::{Failed, Sink, write_all};
 use std::process::ExitCode;
 
 /// Tells the end on one line, unless the whole text was written, and gives the exit status. Where

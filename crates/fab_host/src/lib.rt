@@ -1,4 +1,4 @@
-//! The outside world of the program: the real files, output and clock behind the traits of `fab_top`, the words
+//! The outside world of the program: the real files, output and clock behind the traits of `fab_outside`, the words
 //! of the command line, the exit status, and the line on standard error.
 //!
 //! [`program`] is all that a `main` does: it makes the real files, output and clock, and calls [`carry_out`], which

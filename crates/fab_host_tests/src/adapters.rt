@@ -1,7 +1,7 @@
 //! The real files, an output and a clock behind the traits of `fab_top`.
 use fab_base::Text;
 use fab_host::{FileDepot, OutSink, WallClock};
-use fab_top::{Clock, Depot, Failed, LoadRefused, Sink, write_all};
+use fab_outside::{Clock, Depot, Failed, LoadRefused, Sink, write_all};
 use std::cell::Cell;
 use std::io::{ErrorKind, Write};
 use std::test::Fail;

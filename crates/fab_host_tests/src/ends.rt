@@ -1,7 +1,7 @@
 //! Each end of the program, with its exit status and its line on standard error.
 use fab_base::{Buf, Status, Text};
 use fab_host::{Ended, OpenGate, carry_out, end};
-use fab_top::{MemoryClock, MemoryDepot, MemorySink};
+use fab_outside::{MemoryClock, MemoryDepot, MemorySink};
 use std::alloc::Global;
 use std::process::ExitCode;
 use std::sync::Wait;

@@ -1,9 +1,5 @@
-pub mod Pieces
 pub mod Parts
 pub mod Bounding
 pub mod Telling
-pub mod Offered
-pub mod Loads
-pub mod Granted
 pub mod Workloads
 pub mod Answering

@@ -11,7 +11,7 @@ use Rattle.fab_base.specs.declared.status.Status.TheVariants.{ScriptRefused, Too
 use Rattle.fab_replay.specs.declared.verdicts.Verdict.{Verdict}
 use Rattle.fab_replay.specs.declared.verdicts.Verdict.TheVariants.{Lawful, Left, Differs, NoSchedule}
 use Rattle.fab_replay.specs.Verdict.{verdict}
-use Rattle.fab_top.specs.Loading.{Files, IsOver, IsRead, IsWhole, IsWrong, LeadsTo}
+use Rattle.fab_outside.specs.Loading.{Files, IsOver, IsRead, IsWhole, IsWrong, LeadsTo}
 
 abbrev pub verdict_line : Verdict → List ℕ
 verdict_line (Lawful true) = codes "lawful, at rest" ++ 10 ∷ []

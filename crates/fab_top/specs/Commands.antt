@@ -1,37 +1,8 @@
--- What the words of a command ask for.
---     script_file words      the file whose script is to be run, where the words are `script FILE`
---     info_hints words       what is asked for of the provider (fi_getinfo(3)), where they are `info CAPS`
---     replay_files words     the script's file and its report's, where they are `replay FILE TRACE`
---     IsNoCommand words      the words are of no form: none of these, nor that of a workload (`pingpong`, `bandwidth` or `gen`)
-use Rattle.std.specs.Prelude.{◌≡◌, ℕ, List, [], ◌∷◌, bytes_eq, codes, Option, Some, None, option_map, if◌then◌else◌}
-use Rattle.std.specs.Result.{result_ok}
-use Rattle.fab_base.specs.declared.caps.Caps.{Caps}
-use Rattle.fab_base.specs.declared.caps.Hints.{Hints}
-use Rattle.fab_grammar.specs.Capabilities.{caps_of}
-use Rattle.fab_grammar.specs.Settings.{asking}
+-- Words that are no command.
+--     IsNoCommand words      the words are of no form: none of `script`, `info` and `replay`, nor that of a workload (`pingpong`, `bandwidth` or `gen`)
+use Rattle.std.specs.Prelude.{◌≡◌, ℕ, List, None}
+use Rattle.fab_outside.specs.Commands.{info_hints, replay_files, script_file}
 use Rattle.fab_workloads.specs.Commands.{workload_of}
-
--- `script FILE`
-abbrev pub script_file : List (List ℕ) → Option (List ℕ)
-script_file (verb ∷ file ∷ []) = if bytes_eq verb (codes "script") then Some file else None
-script_file _ = None
-
-abbrev pub hints_for : Caps → Option Hints
-hints_for caps = Some (asking caps)
-
--- `-` is no hints; else the commas join the names of the capabilities that are asked for
-unfoldable pub hints_in : List ℕ → Option (Option Hints)
-hints_in caps = if bytes_eq caps (codes "-") then Some None else option_map hints_for (result_ok (caps_of caps))
-
--- `info CAPS`
-abbrev pub info_hints : List (List ℕ) → Option (Option Hints)
-info_hints (verb ∷ caps ∷ []) = if bytes_eq verb (codes "info") then hints_in caps else None
-info_hints _ = None
-
--- `replay FILE TRACE`
-abbrev pub replay_files : List (List ℕ) → Option (List ℕ × List ℕ)
-replay_files (verb ∷ file ∷ trace ∷ []) = if bytes_eq verb (codes "replay") then Some (file, trace) else None
-replay_files _ = None
 
 abbrev pub IsNoCommand : List (List ℕ) → Type 0
 IsNoCommand words = (script_file words ≡ None) × (info_hints words ≡ None) × (workload_of words ≡ None) × (replay_files words ≡ None)

@@ -1,8 +1,3 @@
-pub mod Outside
-pub mod Refused
 pub mod Commands
-pub mod Info
-pub mod Memory
-pub mod Loading
 pub mod Checking
 pub mod Runs

@@ -26,9 +26,10 @@ use Rattle.fab_model.specs.Report.{report, traces}
 use Rattle.fab_replay.specs.declared.verdicts.Verdict.TheVariants as answer
 use Rattle.fab_replay.specs.Verdict.{verdict}
 use Rattle.fab_top.specs.Checking.{IsChecked, LeadsOn}
-use Rattle.fab_top.specs.Commands.{script_file, info_hints, replay_files, IsNoCommand}
-use Rattle.fab_top.specs.Info.{info_text}
-use Rattle.fab_top.specs.Loading.{Files, IsOver, IsRead, IsWrong, LeadsTo}
+use Rattle.fab_outside.specs.Commands.{script_file, info_hints, replay_files}
+use Rattle.fab_top.specs.Commands.{IsNoCommand}
+use Rattle.fab_outside.specs.Info.{info_text}
+use Rattle.fab_outside.specs.Loading.{Files, IsOver, IsRead, IsWrong, LeadsTo}
 use Rattle.fab_workloads.specs.declared.workload.Workload.{Workload}
 use Rattle.fab_workloads.specs.Bench.{bench_line}
 use Rattle.fab_workloads.specs.Commands.{payload_file, workload_of}

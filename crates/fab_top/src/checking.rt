@@ -6,13 +6,12 @@ ghost use Rattle.fab_base.specs.declared.status.Status.TheVariants.{Done, Script
 ghost use Rattle.fab_base.specs.declared.status.Why.{Why};
 ghost use Rattle.fab_replay.specs.Verdict.{verdict};
 ghost use Rattle.fab_top.specs.Checking.{verdict_line, IsChecked, IsUnchecked, LeadsOn};
-ghost use Rattle.fab_top.specs.Loading.{IsOver, IsWrong};
+ghost use Rattle.fab_outside.specs.Loading.{IsOver, IsWrong};
 ghost use Rattle.fab_top.specs.Runs.{EndsCheck, IsSilent, WritesLine};
 
-use crate::loading::{load_file, load_script};
-use crate::outside::{Depot, Failed, Sink};
-use crate::writing::write_all;
 use fab_base::{Bound, NoMemory, Status, Text};
+use fab_outside::loading::{load_file, load_script};
+use fab_outside::{Depot, Failed, Sink, write_all};
 use fab_replay::{Verdict, check};
 use std::alloc::Global;
 

@@ -1,7 +1,7 @@
 //! Each load and each write of a run fails in turn.
 use crate::runs::{end_of, is_read_fault, texts_of};
 use fab_base::{Buf, Status, Text};
-use fab_top::{MemoryDepot, MemorySink};
+use fab_outside::{MemoryDepot, MemorySink};
 use std::alloc::Global;
 use std::process::Abort;
 use std::sync::Wait;

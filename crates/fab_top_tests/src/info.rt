@@ -1,7 +1,7 @@
 //! `info` over memory: what it writes, and how it ends.
 use crate::runs::{end_of, sink_of, texts_of};
 use fab_base::Status;
-use fab_top::{MemoryDepot, MemorySink};
+use fab_outside::{MemoryDepot, MemorySink};
 use std::alloc::Global;
 use std::process::Abort;
 use std::sync::Wait;

@@ -1,7 +1,7 @@
 //! Payload files in runs over memory.
 use crate::runs::{end_of, is_read_fault, is_too_long, sink_of, texts_of};
 use fab_base::{Buf, Status, Text, Why};
-use fab_top::{MemoryDepot, MemorySink};
+use fab_outside::{MemoryDepot, MemorySink};
 use std::alloc::Global;
 use std::sync::Wait;
 use std::test::Fail;

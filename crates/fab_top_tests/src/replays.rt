@@ -1,7 +1,7 @@
 //! `replay` over memory: what it says of reports that were made, changed, cut short or left out, and how it ends.
 use crate::runs::{HELLO, HELLO_REPORT, end_of, is_read_fault, is_too_long, sink_of, texts_of};
 use fab_base::{Buf, Status, Text, Why};
-use fab_top::{MemoryDepot, MemorySink};
+use fab_outside::{MemoryDepot, MemorySink};
 use std::alloc::Global;
 use std::process::Abort;
 use std::sync::Wait;

@@ -2,7 +2,8 @@
 use crate::gates::OpenGate;
 use crate::replays::says;
 use fab_base::{Buf, Gate, Status, Text, Why};
-use fab_top::{MemoryClock, MemoryDepot, MemorySink, run};
+use fab_outside::{MemoryClock, MemoryDepot, MemorySink};
+use fab_top::run;
 use std::alloc::Global;
 use std::process::Abort;
 use std::sync::Wait;

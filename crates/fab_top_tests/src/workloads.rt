@@ -3,7 +3,8 @@
 use crate::gates::{Meeting, OpenGate};
 use crate::runs::{is_read_fault, sink_of, texts_of};
 use fab_base::{Buf, Gate, Status, Text};
-use fab_top::{MemoryClock, MemoryDepot, MemorySink, run};
+use fab_outside::{MemoryClock, MemoryDepot, MemorySink};
+use fab_top::run;
 use std::alloc::Global;
 use std::process::Abort;
 use std::sync::Wait;

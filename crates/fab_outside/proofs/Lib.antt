@@ -1,0 +1,4 @@
+pub mod Pieces
+pub mod Offered
+pub mod Loads
+pub mod Granted

@@ -1,9 +1,0 @@
-use Rattle.std.proofs.Common.{◌≡◌, ◌≤◌, take}
-use Rattle.fab_top.specs.Loading.{AreWhole}
-use Rattle.fab_top.proofs.loading.load_payloads.Given as goal
-
-abbrev pub invariant-loop-payload : goal.invariant-loop-payload
-invariant-loop-payload g l =
-    (g.D.Depot.files l.depot ≡ g.D.Depot.files l.initial.depot)
-    × (g.D.Depot.faults l.initial.depot ≤ g.D.Depot.faults l.depot)
-    × AreWhole (g.D.Depot.files l.initial.depot) (take l.payload-index l.payloads) l.files.items
