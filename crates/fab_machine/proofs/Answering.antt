@@ -16,7 +16,7 @@ use Rattle.fab_model.specs.Receiving.{Posting, goes, give, without_first, may_re
 use Rattle.fab_model.proofs.Firsts.{first_at, first_none, remove_first_at}
 use Rattle.fab_machine.specs.Room.{waits, place_fault, entries_drawn, entries_taken}
 use Rattle.fab_machine.specs.Places.{placed, kept_newcomer, seated_at, seated_in}
-use Rattle.fab_machine.proofs.Changing.{change_first_at}
+use Rattle.fab_items.proofs.Changing.{change_first_at}
 use Rattle.fab_machine.proofs.Growing.{fits_post_none, fits_post_some, fits_cancel}
 
 -- ---- posting

@@ -1,4 +1,3 @@
 pub mod Seen
 pub mod Room
 pub mod Places
-pub mod NewElements

@@ -1,11 +1,9 @@
 -- What the plain lists of a peer are in the machine.
 --     rx_of, tx_of, cq_of      its parts
 --     state_of s      the peer's machine
---     order_of, posting_of, seen_call      a call
---     performed_of p regions      what a request did
+--     posting_of, seen_call      a call
 use Rattle.std.specs.Prelude.{List, replicate}
 use Rattle.fab_model.specs.State as machine
-use Rattle.fab_model.specs.Sending.{Order}
 use Rattle.fab_model.specs.Receiving.{Posting}
 use Rattle.fab_model.specs.Calls as calls
 use Rattle.fab_machine.specs.declared.calls.Call.{Call}
@@ -14,9 +12,7 @@ use Rattle.fab_machine.specs.declared.state.Receiving.{Receiving}
 use Rattle.fab_machine.specs.declared.state.Transmitting.{Transmitting}
 use Rattle.fab_machine.specs.declared.state.Completions.{Completions}
 use Rattle.fab_machine.specs.declared.state.State.{State}
-use Rattle.fab_model.specs.Target as target
-use Rattle.fab_machine.specs.declared.target.Performed.{Performed}
-use Rattle.fab_machine.specs.declared.orders.Order as orders
+use Rattle.fab_items.specs.Seen.{order_of}
 use Rattle.fab_machine.specs.declared.receiving.Posting as receiving
 
 abbrev pub rx_of : Receiving → machine.Receiving
@@ -51,25 +47,6 @@ state_of s = record {
   calls = s.calls;
 }
 
-abbrev pub order_of : orders.Order → Order
-order_of o = record {
-  kind = o.kind;
-  injected = o.injected;
-  dest = o.dest;
-  tag = o.tag;
-  imm = o.imm;
-  key = o.key;
-  at = o.at;
-  count = o.count;
-  atom = o.atom;
-  bytes = o.bytes;
-  compared = o.compared;
-  ctx = o.ctx;
-  level = o.level;
-  completion = o.completion;
-  buf = o.buf;
-}
-
 -- a receive's buffer is filled with zeros
 abbrev pub posting_of : receiving.Posting → Posting
 posting_of p = record { tagged = p.tagged; source = p.source; tag = p.tag; ignore = p.ignore; buf = replicate p.len 0; least = p.least; ctx = p.ctx }
@@ -88,6 +65,3 @@ seen_call (Close key) = calls.Close key
 seen_call (Put key at bytes) = calls.Put key at bytes
 seen_call (Show key) = calls.Show key
 seen_call (Count class) = calls.Count class
-
-abbrev pub performed_of : Performed → List machine.Region → target.Performed
-performed_of p regions = record { outcome = p.outcome; bytes = p.bytes; regions = regions }

@@ -3,9 +3,9 @@ ghost use Rattle.std.specs.Prelude.{◌≡◌, ◌+◌, ◌++◌, ◌∷◌, [],
 ghost use Rattle.fab_model.specs.Calls.{upto, peer_named, is_peer, insert_new, insert, remove};
 ghost use Rattle.fab_machine.specs.Seen.{state_of};
 
-use crate::lists::narrowed;
 use crate::state::State;
 use fab_base::{Fault, LineResult, NoMemory};
+use fab_items::lists::narrowed;
 use std::alloc::Global;
 
 /// Whether the peer of this number has this name.

@@ -7,68 +7,11 @@ ghost use Rattle.fab_model.specs.Arrivals.{used_up, stays, seated, shut, is_want
 ghost use Rattle.fab_machine.specs.Seen.{rx_of, state_of};
 ghost use Rattle.fab_machine.specs.Places.{seated_in, kept_newcomer, placed};
 
-use crate::lists::{narrowed, number_at, raise};
-use crate::matching::{is_message, matches};
 use crate::state::{Receiving, State};
-use fab_base::{
-    Ack, Arrival, Buf, Coming, Entry, ItemHead, Kind, NoMemory, Outcome, Receive, Taken,
-};
-
-/// How many bytes of the receive are given away once it took a message of this length.
-pub fn used_up(total: u32, receive: &Receive) -> Result<u32, NoMemory>
-    ensures { IfOk result (λ used. used_up total receive.now ≡ record receive.now { used = used }) }
-{
-    let used = receive.used as usize;
-    let free = receive.buf.as_slice().len().saturating_sub(used);
-    narrowed(used + free.min(total as usize))
-}
-
-/// Whether the receive stays posted when so many of its bytes are given away: a multi-receive does while
-/// it has its least free space left.
-pub fn stays(used: u32, receive: &Receive) -> bool
-    ensures { (total : ℕ) → used_up total receive.now ≡ record receive.now { used = used } → result ≡ stays total receive.now }
-{
-    match receive.least {
-        None => false,
-        Some(least) => {
-            receive.buf.as_slice().len().saturating_sub(used as usize) >= least as usize
-        }
-    }
-}
-
-fn copied(receive: &Receive) -> Result<Receive, NoMemory>
-    ensures { IfOk result (λ copy. copy ≡ receive.now) }
-{
-    let buf = receive.buf.clone()?;
-    Ok(Receive {
-        call: receive.call,
-        want: receive.want,
-        buf,
-        ctx: receive.ctx,
-        least: receive.least,
-        used: receive.used,
-    })
-}
-
-/// Whether a reply is due once the message is delivered.
-pub fn at_delivery(ack: Ack) -> bool
-    ensures { result ≡ at_delivery ack }
-{
-    match ack {
-        Ack::Delivery => true,
-        Ack::Match | Ack::Nothing => false,
-    }
-}
-
-/// Whether a reply is due once the message is delivered or a receive has taken it.
-pub fn at_either(ack: Ack) -> bool
-    ensures { result ≡ at_either ack }
-{
-    match ack {
-        Ack::Nothing => false,
-        Ack::Delivery | Ack::Match => true,
-    }
-}
+use fab_base::{Arrival, Coming, ItemHead, Kind, NoMemory, Receive};
+use fab_items::lists::{number_at, raise};
+use fab_items::matching::matches;
+use fab_items::receives::{copied, stays, used_up};
 
 impl Receiving {
     /// The multi-receive at this place takes a message of this length. It stays posted, or it is closing.

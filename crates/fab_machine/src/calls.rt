@@ -3,10 +3,10 @@ ghost use Rattle.std.specs.Prelude.{◌≡◌, IfOk};
 ghost use Rattle.fab_model.specs.Calls.{Count, do_call};
 ghost use Rattle.fab_machine.specs.Seen.{seen_call, state_of};
 
-use crate::orders::Order;
 use crate::receiving::Posting;
 use crate::state::State;
 use fab_base::{Access, Buf, Class, LineResult, NoMemory, PeekHow, Text};
+use fab_items::orders::Order;
 
 /// A call of an endpoint. The buffer of a take has `len` zeros.
 #[derive(Drop)]

@@ -6,9 +6,9 @@ ghost use Rattle.fab_model.specs.Receiving.{may_leave, cancellable, without_post
 ghost use Rattle.fab_machine.specs.Seen.{rx_of, state_of};
 ghost use Rattle.fab_machine.specs.Places.{chosen};
 
-use crate::entries::plain_error;
 use crate::state::{Receiving, State};
 use fab_base::{Class, ErrKind, Fault, LineResult, NoMemory, Receive};
+use fab_items::entries::plain_error;
 
 impl Receiving {
     /// Whether the receive has this context, where one is named, and no items under way.

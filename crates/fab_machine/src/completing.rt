@@ -7,10 +7,11 @@ ghost use Rattle.fab_model.specs.Matching.{change_first, remove_first};
 ghost use Rattle.fab_model.specs.Complete.{release, is_made_by, filled, fill_multi, filling, fill, let_go, release_multi, joining, reply_head, reply, book};
 ghost use Rattle.fab_machine.specs.Seen.{rx_of, tx_of, state_of};
 
-use crate::entries::{entry_of, has_space, paste};
-use crate::lists::narrowed;
 use crate::state::{Receiving, State, Transmitting};
-use fab_base::{Ack, Buf, Class, Entry, Item, ItemHead, Kind, NoMemory, Outcome, Receive, Taken};
+use fab_base::{Buf, Class, Entry, Item, ItemHead, NoMemory, Outcome, Receive, Taken};
+use fab_items::entries::{entry_of, has_space, paste};
+use fab_items::lists::narrowed;
+use fab_items::orders::reply_head;
 
 /// Where the first of these receives stands that this call made.
 fn place_of_made(receives: &[Receive], call: u64) -> Option<usize>
@@ -62,25 +63,6 @@ impl Transmitting {
             self.accepted[to as usize].push(item)?;
         }
         Ok(())
-    }
-}
-
-/// The head of a reply to this operation.
-fn reply_head(op: u64, outcome: Outcome, total: u32) -> ItemHead
-    ensures { result ≡ reply_head op outcome total }
-{
-    ItemHead {
-        kind: Kind::Reply,
-        op,
-        tag: 0,
-        imm: None,
-        ack: Ack::Nothing,
-        key: 0,
-        at: 0,
-        count: 0,
-        atom: None,
-        outcome,
-        total,
     }
 }
 

@@ -10,19 +10,13 @@
 
 mod addresses;
 mod arrivals;
-mod atomics;
 pub mod calls;
 mod cancelling;
 mod completing;
-mod entries;
-pub mod lists;
 mod looking;
-mod matching;
-pub mod orders;
 pub mod receiving;
 mod regions;
 mod room;
 mod sending;
 pub mod state;
 mod tails;
-mod target;

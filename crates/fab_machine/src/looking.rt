@@ -9,11 +9,12 @@ ghost use Rattle.fab_model.specs.Receiving.{want_of, peeked, claim_of, claiming,
 ghost use Rattle.fab_machine.specs.Seen.{cq_of, rx_of, state_of};
 ghost use Rattle.fab_machine.specs.Room.{has_room, entries_given};
 
-use crate::entries::plain_error;
-use crate::matching::first_taken;
-use crate::receiving::{entries_given, peeked};
+use crate::receiving::entries_given;
 use crate::state::{Receiving, State};
 use fab_base::{Arrival, Buf, ErrKind, Fault, LineResult, NoMemory, PeekHow, Receive, Taken, Want};
+use fab_items::entries::plain_error;
+use fab_items::matching::first_taken;
+use fab_items::receives::peeked;
 
 impl Receiving {
     /// The arrival is set aside under the context.

@@ -13,13 +13,11 @@ ghost use Rattle.fab_machine.specs.Seen.{posting_of, rx_of, state_of};
 ghost use Rattle.fab_machine.specs.Room.{entries_given, waits, place_fault};
 ghost use Rattle.fab_machine.specs.Places.{taken_first, claimed_under};
 
-use crate::entries::plain_error;
-use crate::matching::{first_taken, take_arrival, takes_any};
 use crate::state::{Receiving, State};
-use fab_base::{
-    Ack, Arrival, Buf, Busy, Coming, Entry, ErrKind, Fault, LineResult, NoMemory, PeekHow, Receive,
-    Taken, Want,
-};
+use fab_base::{Arrival, Buf, Busy, Coming, Fault, LineResult, NoMemory, Receive, Want};
+use fab_items::entries::plain_error;
+use fab_items::matching::{first_taken, take_arrival};
+use fab_items::receives::{at_match, draws};
 
 /// A call of recv, trecv or recv_multi. `source` is an index of the address vector, `len` the length of
 /// the buffer, which is filled with zeros.
@@ -32,23 +30,6 @@ pub struct Posting {
     pub len: u32,
     pub least: Option<u32>,
     pub ctx: u64,
-}
-
-/// Whether the multi-receive takes one of these arrivals.
-pub fn draws(unexpected: &[Arrival], receive: &Receive) -> bool
-    ensures { result ≡ draws unexpected.now receive.now }
-{
-    receive.least.is_some() && takes_any(unexpected, &receive.want)
-}
-
-/// Whether a reply is due once a receive has taken the message.
-pub fn at_match(ack: Ack) -> bool
-    ensures { result ≡ at_match ack }
-{
-    match ack {
-        Ack::Match => true,
-        Ack::Delivery | Ack::Nothing => false,
-    }
 }
 
 /// A multi-receive's least free space is above 0 and at most its length.
@@ -66,20 +47,6 @@ fn place_of_claim(claimed: &[(u64, Arrival)], ctx: u64) -> Option<usize>
     ensures { result ≡ position (λ c. c.0 == ctx) claimed.now }
 {
     claimed.iter().position(|claim| claim.0 == ctx)
-}
-
-/// What a look tells of the message that it found.
-pub fn peeked(how: PeekHow, ctx: u64, arrival: &Arrival) -> Entry
-    ensures { result ≡ peeked how ctx arrival.now }
-{
-    Entry::Peeked {
-        ctx,
-        how,
-        source: arrival.source,
-        tag: arrival.head.tag,
-        imm: arrival.head.imm,
-        len: arrival.head.total,
-    }
 }
 
 /// How many entries a receive writes that takes this arrival at once: none where it is not whole.

@@ -3,9 +3,9 @@ ghost use Rattle.std.specs.Prelude.{◌≡◌, ◌+◌, ◌++◌, ◌∷◌, [],
 ghost use Rattle.fab_model.specs.Calls.{reg, close, put, show};
 ghost use Rattle.fab_machine.specs.Seen.{state_of};
 
-use crate::state::{Region, State};
-use crate::target::{put_at, region_at, take_region};
+use crate::state::State;
 use fab_base::{Access, Buf, Fault, LineResult, NoMemory};
+use fab_items::target::{Region, put_at, region_at, take_region};
 
 impl State {
     /// A call of reg: a region under a key that is free.

@@ -6,13 +6,13 @@ ghost use Rattle.fab_model.specs.Complete.{is_made_by};
 ghost use Rattle.fab_machine.specs.Seen.{rx_of, state_of};
 ghost use Rattle.fab_machine.specs.Room.{entries_ended, entries_sent, entries_told, is_under_way_besides, entries_into, entries_tail, is_let_go, entries_drawn};
 
-use crate::arrivals::{stays, used_up};
-use crate::lists::split;
-use crate::matching::first_taken;
 use crate::receiving::entries_given;
 use crate::state::{Receiving, State, is_into};
-use crate::target::outcome_of;
 use fab_base::{Arrival, Coming, ItemHead, Kind, NoMemory, Operation, Outcome, Receive};
+use fab_items::lists::split;
+use fab_items::matching::first_taken;
+use fab_items::receives::{stays, used_up};
+use fab_items::target::outcome_of;
 
 /// How many entries the end of an operation writes.
 fn entries_at_end(outcome: Outcome, operation: &Operation) -> usize

@@ -5,18 +5,16 @@ ghost use Rattle.fab_base.specs.declared.items.Outcome.TheVariants.{Done};
 ghost use Rattle.fab_model.specs.State.{accepted_for, awaits, with_tx};
 ghost use Rattle.fab_model.specs.Matching.{remove_first};
 ghost use Rattle.fab_model.specs.Calls.{Transmit, do_call};
-ghost use Rattle.fab_model.specs.Sending.{accepting, item_of, operation_of, transmit, success_of, refusal_of, end_with, ends_at_sent, is_of_item, ending, transmitting, do_sent, expects, is_answered_by, answering, do_answer};
-ghost use Rattle.fab_machine.specs.Seen.{order_of, tx_of, state_of};
+ghost use Rattle.fab_model.specs.Sending.{transmit_fault, accepting, item_of, operation_of, transmit, success_of, refusal_of, end_with, ends_at_sent, is_of_item, ending, transmitting, do_sent, expects, is_answered_by, answering, do_answer};
+ghost use Rattle.fab_items.specs.Seen.{order_of};
+ghost use Rattle.fab_machine.specs.Seen.{tx_of, state_of};
 
-use crate::entries::plain_error;
-use crate::lists::{number_at, one_more, raise};
-use crate::matching::{is_message, is_tagged};
-use crate::orders::{Order, class_of, is_answered};
 use crate::state::{State, Transmitting};
-use fab_base::{
-    Ack, Buf, Entry, ErrKind, Item, ItemHead, Kind, LineResult, NoMemory, Operation, Outcome, Taken,
-};
-use std::alloc::Global;
+use fab_base::{Buf, Busy, Fault, Item, ItemHead, LineResult, NoMemory, Operation, Outcome, Taken};
+use fab_items::entries::{plain_error, refusal_of, success_of};
+use fab_items::lists::{number_at, one_more, raise};
+use fab_items::matching::is_message;
+use fab_items::orders::{Order, class_of, is_answered, is_granted, joined};
 
 /// Whether the operation is a message that completes when it is transmitted.
 fn ends_at_sent(operation: &Operation) -> bool
@@ -163,62 +161,30 @@ fn take_ended(live: &mut Vec<Operation>, to: u32, place: u64) -> Option<Operatio
     Some(live.remove(at))
 }
 
-fn buf_or_none(alloc: Global, buf: Option<Buf>) -> Buf
-    ensures { result ≡ unwrap_or buf [] }
-{
-    match buf {
-        Some(buf) => buf,
-        None => Buf::empty(alloc),
-    }
-}
-
-/// The success of an operation whose reply has these bytes.
-#[tactic(auto, unfolding(fab_model::specs::Sending::success_of))]
-fn success_of(alloc: Global, operation: Operation, bytes: Buf) -> Entry
-    ensures { result ≡ success_of operation bytes }
-{
-    let Operation { head, ctx, buf, .. } = operation;
-    let ctx = ctx.unwrap_or(0);
-    let buf = buf_or_none(alloc, buf);
-    match head.kind {
-        Kind::ReadReq => Entry::Read { ctx, buf: bytes },
-        Kind::WriteReq => Entry::Wrote { ctx, buf },
-        Kind::AtomicReq => {
-            if is_answered(&head) {
-                Entry::Fetched { ctx, result: bytes }
-            } else {
-                Entry::Updated { ctx }
-            }
-        }
-        Kind::Msg | Kind::TagMsg | Kind::Reply => {
-            let tagged = is_tagged(head.kind);
-            Entry::Sent { ctx, tagged, buf }
-        }
-    }
-}
-
-/// The error that tells this outcome.
-fn refusal_of(outcome: Outcome) -> Option<ErrKind>
-    ensures { result ≡ refusal_of outcome }
-{
-    match outcome {
-        Outcome::Done => None,
-        Outcome::BadKey => Some(ErrKind::NoKey),
-        Outcome::BadAccess => Some(ErrKind::Access),
-        Outcome::BadRange => Some(ErrKind::Range),
-    }
-}
-
-/// The operation's bytes, the operand first and then the compares.
-fn joined(bytes: Buf, compared: &Buf) -> Result<Buf, NoMemory>
-    ensures { IfOk result (λ b. b ≡ bytes ++ compared.now) }
-{
-    let mut bytes = bytes.into_vec();
-    bytes.extend_from_slice(compared.as_slice())?;
-    Ok(Buf::from_vec(bytes))
-}
-
 impl State {
+    /// Why the transmit call is refused, the first reason first.
+    #[tactic(auto, unfolding(fab_model::specs::Sending::transmit_fault))]
+    pub fn transmit_fault(&self, order: &Order) -> Option<Fault>
+        ensures { result ≡ transmit_fault (state_of self.now) (order_of order.now) }
+    {
+        if !is_granted(&self.caps, order.kind, order.atom) {
+            return Some(Fault::NotSupported);
+        }
+        if order.is_too_long() {
+            return Some(Fault::MsgSize);
+        }
+        if self.lookup(order.dest).is_none()
+            || self.tx.ops >= 4_611_686_018_427_387_904
+            || !order.is_well_formed()
+        {
+            return Some(Fault::Invalid);
+        }
+        if self.tx.live.len() >= self.most_tx as usize {
+            return Some(Fault::Again(Busy::TxFull(self.most_tx)));
+        }
+        None
+    }
+
     /// The transmit call, if it is not refused.
     #[tactic(auto, unfolding(fab_model::specs::Sending::transmit, fab_model::specs::Sending::transmit_to))]
     fn transmit(&mut self, order: Order) -> Result<(), NoMemory>

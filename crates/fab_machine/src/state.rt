@@ -9,13 +9,12 @@ ghost use Rattle.std.specs.Option.{option_map};
 ghost use Rattle.fab_machine.specs.Room.{has_room};
 ghost use Rattle.fab_machine.specs.Seen.{rx_of, cq_of, state_of};
 
-use crate::lists::{number_at, one_more};
 use fab_base::{
-    Access, Arrival, Buf, Caps, Class, Coming, Item, List, NoMemory, Operation, Receive, Taken,
-    Tally, Written,
+    Arrival, Caps, Class, Coming, Item, List, NoMemory, Operation, Receive, Taken, Tally, Written,
 };
+use fab_items::lists::one_more;
+use fab_items::target::Region;
 use std::alloc::Global;
-use std::marker::Model;
 
 /// What arrived, and which receives wait for it.
 #[derive(Drop)]
@@ -44,22 +43,6 @@ pub struct Completions {
     pub written: Vec<Written>,
     pub taken_out: usize,
     pub size: u32,
-}
-
-/// A memory region.
-#[derive(Drop)]
-pub struct Region {
-    pub key: u64,
-    pub access: Access,
-    pub bytes: Buf,
-}
-
-impl Model for Region {
-    ghost use Rattle.fab_model.specs.State.{Region as MachineRegion};
-
-    ghost Value = { MachineRegion };
-
-    ghost view = { λ r. record { key = r.key; access = r.access; bytes = r.bytes } };
 }
 
 /// One peer's machine.

@@ -4,11 +4,11 @@ ghost use Rattle.fab_base.specs.declared.operations.Coming.TheVariants.{Into};
 ghost use Rattle.fab_model.specs.Arrivals.{do_head, do_draw, completed, keeping, remote_data, do_request, tail_to, do_tail};
 ghost use Rattle.fab_machine.specs.Seen.{rx_of, state_of};
 
-use crate::arrivals::{at_delivery, at_either};
-use crate::matching::is_message;
 use crate::state::{Receiving, State};
-use crate::target::perform;
 use fab_base::{Arrival, Buf, Coming, Entry, ItemHead, Kind, NoMemory, Outcome, Receive, Taken};
+use fab_items::matching::is_message;
+use fab_items::receives::{at_delivery, at_either};
+use fab_items::target::perform;
 
 /// The arrival has its bytes, if they are these.
 fn complete(arrival: &mut Arrival, source: u32, bytes: &Buf) -> Result<(), NoMemory>

@@ -10,7 +10,7 @@ use crate::actor::{Actor, lines_in};
 use fab_base::{
     Bound, Buf, Entry, Kept, Line, LineOp, LineResult, NoMemory, Receive, Taken, Written,
 };
-use fab_machine::lists::split;
+use fab_items::lists::split;
 use fab_machine::state::State;
 
 /// The context, the place and the length of a part, or of a truncated part.

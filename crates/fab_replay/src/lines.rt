@@ -11,8 +11,8 @@ use fab_base::{
     PeekHow, Text,
 };
 use fab_machine::calls::Call;
-use fab_machine::lists::split;
-use fab_machine::orders::{Order, element_size};
+use fab_items::lists::split;
+use fab_items::orders::{Order, element_size};
 use fab_machine::receiving::Posting;
 use std::alloc::Global;
 

@@ -18,7 +18,7 @@ ghost use Rattle.fab_replay.specs.Seen.{actor_of, actors_of, led, Took};
 use crate::actor::Actor;
 use crate::turns::Peer;
 use fab_base::{Bound, Item, ItemHead, NoMemory, Step};
-use fab_machine::lists::number_at;
+use fab_items::lists::number_at;
 
 /// A step that is to be taken. What it needs of other peers is there, or it does not stand.
 #[derive(Drop)]

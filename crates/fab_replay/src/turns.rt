@@ -8,7 +8,7 @@ ghost use Rattle.fab_replay.specs.Seen.{actor_of, steps_of, moment_of, led, Took
 use crate::actor::Actor;
 use crate::ready::{Ready, prepare};
 use fab_base::{Bound, List, NoMemory, Step};
-use fab_machine::lists::one_more;
+use fab_items::lists::one_more;
 
 /// A peer with the steps of its schedule, and how many of these it took.
 #[derive(Drop)]

@@ -14,7 +14,7 @@ use crate::rest::are_at_rest;
 use crate::turns::{Peer, run};
 use crate::writing::report;
 use fab_base::{Bound, NoMemory};
-use fab_machine::lists::{narrowed, one_more};
+use fab_items::lists::{narrowed, one_more};
 use std::alloc::Global;
 
 /// What a checker says of a text, as the report of a run of a script.

@@ -2,7 +2,7 @@ use Rattle.std.proofs.Common.{rules, Some, None, ◌≡◌, sym, ap, ◌∙◌, 
 use Rattle.std.specs.Prelude.{position, slice_set}
 use Rattle.fab_base.specs.declared.operations.Receive.{Receive}
 use Rattle.fab_model.specs.Complete.{is_made_by, filled}
-use Rattle.fab_machine.proofs.Changing.{change_first_at, change_first_none}
+use Rattle.fab_items.proofs.Changing.{change_first_at, change_first_none}
 use Rattle.fab_machine.proofs.completing.fill_first.Goals as goal
 
 abbrev with_buf : Receive → List ℕ → Receive

@@ -1,10 +1,15 @@
-//! The completion of a receive (fi_cq(3)).
-ghost use Rattle.std.specs.Prelude.{◌≡◌, ◌+◌, ◌-◌, length, IfOk, OnOk, None, Some};
+//! The completions of receives and operations (fi_cq(3)).
+ghost use Rattle.std.specs.Prelude.{◌≡◌, ◌+◌, ◌-◌, [], length, IfOk, OnOk, None, Some, unwrap_or};
 ghost use Rattle.fab_model.specs.Complete.{paste, tag_of, error, has_space, received, truncated, entry_of};
+ghost use Rattle.fab_model.specs.Sending.{refusal_of, success_of};
 
 use crate::lists::narrowed;
 use crate::matching::is_tagged;
-use fab_base::{Buf, Entry, ErrEntry, ErrKind, ItemHead, NoMemory, Receive, Taken};
+use crate::orders::is_answered;
+use fab_base::{
+    Buf, Entry, ErrEntry, ErrKind, ItemHead, Kind, NoMemory, Operation, Outcome, Receive, Taken,
+};
+use std::alloc::Global;
 
 /// Puts these bytes into the buffer from the place on, as many as fit.
 #[tactic(auto, unfolding(fab_model::specs::Complete::paste))]
@@ -145,4 +150,50 @@ pub fn entry_of(
     }
     let free = narrowed(free_from(&receive, place))?;
     Ok(truncated(receive, free, place, source, head, bytes))
+}
+
+fn buf_or_none(alloc: Global, buf: Option<Buf>) -> Buf
+    ensures { result ≡ unwrap_or buf [] }
+{
+    match buf {
+        Some(buf) => buf,
+        None => Buf::empty(alloc),
+    }
+}
+
+/// The success of an operation whose reply has these bytes.
+#[tactic(auto, unfolding(fab_model::specs::Sending::success_of))]
+pub fn success_of(alloc: Global, operation: Operation, bytes: Buf) -> Entry
+    ensures { result ≡ success_of operation bytes }
+{
+    let Operation { head, ctx, buf, .. } = operation;
+    let ctx = ctx.unwrap_or(0);
+    let buf = buf_or_none(alloc, buf);
+    match head.kind {
+        Kind::ReadReq => Entry::Read { ctx, buf: bytes },
+        Kind::WriteReq => Entry::Wrote { ctx, buf },
+        Kind::AtomicReq => {
+            if is_answered(&head) {
+                Entry::Fetched { ctx, result: bytes }
+            } else {
+                Entry::Updated { ctx }
+            }
+        }
+        Kind::Msg | Kind::TagMsg | Kind::Reply => {
+            let tagged = is_tagged(head.kind);
+            Entry::Sent { ctx, tagged, buf }
+        }
+    }
+}
+
+/// The error that tells this outcome.
+pub fn refusal_of(outcome: Outcome) -> Option<ErrKind>
+    ensures { result ≡ refusal_of outcome }
+{
+    match outcome {
+        Outcome::Done => None,
+        Outcome::BadKey => Some(ErrKind::NoKey),
+        Outcome::BadAccess => Some(ErrKind::Access),
+        Outcome::BadRange => Some(ErrKind::Range),
+    }
 }

@@ -3,7 +3,7 @@ use Rattle.std.proofs.Common.{◌≡◌, ℕ, zero, suc, ◌+◌, ◌-◌, ◌/�
 use Rattle.fab_base.specs.declared.items.Atom.{Atom}
 use Rattle.fab_base.specs.Elements.{element_size}
 use Rattle.fab_model.specs.Target.{elements, bytes_of}
-use Rattle.fab_machine.specs.NewElements.{new_bytes}
+use Rattle.fab_items.specs.NewElements.{new_bytes}
 
 pub push_step : (out target : List ℕ) (size i left : ℕ) → i < size → out ++ bytes_of (size - i) left ≡ target → (out ++ left % 256 ∷ []) ++ bytes_of (size - (i + 1)) (left / 256) ≡ target
 push_step out target size i left lt e =

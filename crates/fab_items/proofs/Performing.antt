@@ -6,7 +6,7 @@ use Rattle.fab_base.specs.declared.items.Outcome.{Outcome}
 use Rattle.fab_base.specs.declared.items.Outcome.TheVariants.{Done, BadKey, BadAccess, BadRange}
 use Rattle.fab_model.specs.State.{Region}
 use Rattle.fab_model.specs.Target.{is_keyed, outcome_of, refused_by, performed_in, perform}
-use Rattle.fab_machine.specs.NewElements.{is_done}
+use Rattle.fab_items.specs.NewElements.{is_done}
 
 pub perform_none : (regions : List Region) (head : ItemHead) (bytes : List ℕ) → find (is_keyed head.key) regions ≡ None → refused_by BadKey regions ≡ perform regions head bytes
 unfolding perform outcome_of

@@ -2,8 +2,8 @@ use Rattle.std.proofs.Common.{rules, Some, None, ◌≡◌, sym, ap, ◌∙◌}
 use Rattle.std.specs.Prelude.{position, slice_set}
 use Rattle.fab_model.specs.State.{Region}
 use Rattle.fab_model.specs.Target.{is_keyed, put_range}
-use Rattle.fab_machine.proofs.Changing.{change_first_at, change_first_none}
-use Rattle.fab_machine.proofs.target.put_at.Goals as goal
+use Rattle.fab_items.proofs.Changing.{change_first_at, change_first_none}
+use Rattle.fab_items.proofs.target.put_at.Goals as goal
 
 pub returns-in_default : goal.returns-in_default
 returns-in_default c =

@@ -1,6 +1,6 @@
 //! The elements of an atomic (fi_atomic(3)): each is read as a number, changed, and written.
 ghost use Rattle.std.specs.Prelude.{◌≡◌, ◌+◌, ◌*◌, ◌^◌, ◌%◌, ◌<◌, ◌≤◌, ◌++◌, [], length, take, drop, IfOk, OnOk};
-ghost use Rattle.fab_machine.specs.NewElements.{new_bytes};
+ghost use Rattle.fab_items.specs.NewElements.{new_bytes};
 ghost use Rattle.fab_base.specs.declared.items.AtomicOp.TheVariants.{Mswap};
 ghost use Rattle.fab_model.specs.Target.{is_signed, span, rank, below, element, elements, number_of, bytes_of};
 

@@ -2,17 +2,33 @@
 ghost use Rattle.std.specs.Prelude.{◌≡◌, [], take, drop, find, position, IfNone, OnOk, IfOk, Some};
 ghost use Rattle.std.specs.Option.{option_map};
 ghost use Rattle.fab_base.specs.declared.items.Outcome.{Outcome};
-ghost use Rattle.fab_machine.specs.Seen.{performed_of};
-ghost use Rattle.fab_machine.specs.NewElements.{is_done};
+ghost use Rattle.fab_items.specs.Seen.{performed_of};
+ghost use Rattle.fab_items.specs.NewElements.{is_done};
 ghost use Rattle.fab_model.specs.Matching.{change_first, remove_first};
 ghost use Rattle.fab_model.specs.Target.{is_read_only, is_base, may_access, reach_of, outcome_of, is_keyed, range_of, changed_range, put_range, handed_back, perform};
 
 use crate::atomics::elements;
 use crate::lists::split;
-use crate::state::Region;
 use fab_base::{Access, Atom, AtomicOp, Buf, Form, ItemHead, Kind, NoMemory, Outcome};
 use std::alloc::Global;
+use std::marker::Model;
 use std::mem;
+
+/// A memory region.
+#[derive(Drop)]
+pub struct Region {
+    pub key: u64,
+    pub access: Access,
+    pub bytes: Buf,
+}
+
+impl Model for Region {
+    ghost use Rattle.fab_model.specs.State.{Region as MachineRegion};
+
+    ghost Value = { MachineRegion };
+
+    ghost view = { λ r. record { key = r.key; access = r.access; bytes = r.bytes } };
+}
 
 /// What a request did: its outcome, and the bytes that the reply hands back.
 #[derive(Drop)]

@@ -1,14 +1,13 @@
-//! Transmit calls, and why they are refused (fi_msg(3), fi_tagged(3), fi_rma(3), fi_atomic(3)).
-ghost use Rattle.std.specs.Prelude.{◌≡◌, ◌+◌, ◌≤◌, length, IfOk};
+//! Transmit calls, and the items that they make (fi_msg(3), fi_tagged(3), fi_rma(3), fi_atomic(3)).
+ghost use Rattle.std.specs.Prelude.{◌≡◌, ◌+◌, ◌++◌, ◌≤◌, length, IfOk};
 ghost use Rattle.fab_base.specs.Elements.{element_size, is_of_form};
-ghost use Rattle.fab_model.specs.Sending.{atom_is_granted, is_granted, most_bytes, is_too_long, is_well_formed, transmit_fault, ack_of, head_of, is_silent, is_answered, class_of};
-ghost use Rattle.fab_machine.specs.Seen.{order_of, state_of};
+ghost use Rattle.fab_model.specs.Sending.{atom_is_granted, is_granted, most_bytes, is_too_long, is_well_formed, ack_of, head_of, is_silent, is_answered, class_of};
+ghost use Rattle.fab_model.specs.Complete.{reply_head};
+ghost use Rattle.fab_items.specs.Seen.{order_of};
 
 use crate::matching::is_message;
-use crate::state::State;
 use fab_base::{
-    Ack, Atom, AtomicOp, Buf, Busy, Caps, Class, Fault, Form, ItemHead, Kind, Level, NoMemory, Num,
-    Outcome,
+    Ack, Atom, AtomicOp, Buf, Caps, Class, Form, ItemHead, Kind, Level, NoMemory, Num, Outcome,
 };
 
 /// A transmit call. `injected` says that it is one of the inject calls. `bytes` are those of the message,
@@ -47,7 +46,7 @@ pub fn element_size(num: Num) -> usize
 }
 
 /// Whether the operation may be asked for in this form.
-fn is_of_form(op: AtomicOp, form: Form) -> bool
+pub fn is_of_form(op: AtomicOp, form: Form) -> bool
     ensures { result ≡ is_of_form op form }
 {
     match op {
@@ -73,7 +72,7 @@ fn is_of_form(op: AtomicOp, form: Form) -> bool
 }
 
 /// Whether the capabilities that an atomic needs besides FI_ATOMIC are granted.
-fn atom_is_granted(caps: &Caps, atom: Option<Atom>) -> bool
+pub fn atom_is_granted(caps: &Caps, atom: Option<Atom>) -> bool
     ensures { result ≡ atom_is_granted caps.now atom }
 {
     let Some(atom) = atom else {
@@ -90,7 +89,7 @@ fn atom_is_granted(caps: &Caps, atom: Option<Atom>) -> bool
 }
 
 /// Whether the capabilities that a call needs are granted.
-fn is_granted(caps: &Caps, kind: Kind, atom: Option<Atom>) -> bool
+pub fn is_granted(caps: &Caps, kind: Kind, atom: Option<Atom>) -> bool
     ensures { result ≡ is_granted caps.now kind atom }
 {
     match kind {
@@ -104,7 +103,7 @@ fn is_granted(caps: &Caps, kind: Kind, atom: Option<Atom>) -> bool
 }
 
 /// The most bytes of a call, its operand, compare and buffer included.
-fn most_bytes(kind: Kind, injected: bool) -> u64
+pub fn most_bytes(kind: Kind, injected: bool) -> u64
     ensures most { result ≡ most_bytes kind injected }
     ensures narrow { result ≤ 16_777_216 }
 {
@@ -122,7 +121,7 @@ impl Order {
         self.bytes.as_slice().len() as u128 + self.compared.as_slice().len() as u128
     }
 
-    fn is_too_long(&self) -> bool
+    pub fn is_too_long(&self) -> bool
         ensures { result ≡ is_too_long (order_of self.now) }
     {
         let most = most_bytes(self.kind, self.injected);
@@ -131,7 +130,7 @@ impl Order {
 
     /// Whether `at` and all lengths are multiples of the element's size and agree, and the operation
     /// belongs to the form.
-    fn is_well_formed(&self) -> bool
+    pub fn is_well_formed(&self) -> bool
         ensures { result ≡ is_well_formed (order_of self.now) self.now.atom }
     {
         let Some(atom) = self.atom else {
@@ -180,7 +179,7 @@ impl Order {
 }
 
 /// When the target owes a reply: messages ask for it by their level.
-fn ack_of(kind: Kind, level: Level) -> Ack
+pub fn ack_of(kind: Kind, level: Level) -> Ack
     ensures { result ≡ ack_of kind level }
 {
     if !is_message(kind) {
@@ -223,27 +222,30 @@ pub fn class_of(head: &ItemHead) -> Class
     }
 }
 
-impl State {
-    /// Why the transmit call is refused, the first reason first.
-    #[tactic(auto, unfolding(fab_model::specs::Sending::transmit_fault))]
-    pub fn transmit_fault(&self, order: &Order) -> Option<Fault>
-        ensures { result ≡ transmit_fault (state_of self.now) (order_of order.now) }
-    {
-        if !is_granted(&self.caps, order.kind, order.atom) {
-            return Some(Fault::NotSupported);
-        }
-        if order.is_too_long() {
-            return Some(Fault::MsgSize);
-        }
-        if self.lookup(order.dest).is_none()
-            || self.tx.ops >= 4_611_686_018_427_387_904
-            || !order.is_well_formed()
-        {
-            return Some(Fault::Invalid);
-        }
-        if self.tx.live.len() >= self.most_tx as usize {
-            return Some(Fault::Again(Busy::TxFull(self.most_tx)));
-        }
-        None
+/// The head of a reply to this operation.
+pub fn reply_head(op: u64, outcome: Outcome, total: u32) -> ItemHead
+    ensures { result ≡ reply_head op outcome total }
+{
+    ItemHead {
+        kind: Kind::Reply,
+        op,
+        tag: 0,
+        imm: None,
+        ack: Ack::Nothing,
+        key: 0,
+        at: 0,
+        count: 0,
+        atom: None,
+        outcome,
+        total,
     }
+}
+
+/// The operation's bytes, the operand first and then the compares.
+pub fn joined(bytes: Buf, compared: &Buf) -> Result<Buf, NoMemory>
+    ensures { IfOk result (λ b. b ≡ bytes ++ compared.now) }
+{
+    let mut bytes = bytes.into_vec();
+    bytes.extend_from_slice(compared.as_slice())?;
+    Ok(Buf::from_vec(bytes))
 }

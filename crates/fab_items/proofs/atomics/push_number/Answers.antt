@@ -1,6 +1,6 @@
 use Rattle.std.proofs.Common.{◌<◌, arith}
-use Rattle.fab_machine.proofs.Elements.{push_step}
-use Rattle.fab_machine.proofs.atomics.push_number.Goals as goal
+use Rattle.fab_items.proofs.Elements.{push_step}
+use Rattle.fab_items.proofs.atomics.push_number.Goals as goal
 
 pub loop-byte-preserved : goal.loop-byte-preserved
 loop-byte-preserved c =

@@ -2,7 +2,7 @@ use Rattle.std.proofs.Common.{rules, Some, None, ◌≡◌, sym, ap, ◌∙◌}
 use Rattle.std.specs.Prelude.{position}
 use Rattle.fab_model.specs.Matching.{takes}
 use Rattle.fab_model.proofs.Firsts.{first_at, first_none}
-use Rattle.fab_machine.proofs.matching.take_arrival.Goals as goal
+use Rattle.fab_items.proofs.matching.take_arrival.Goals as goal
 
 pub returns-in_default-clause-found : goal.returns-in_default-clause-found
 returns-in_default-clause-found c =

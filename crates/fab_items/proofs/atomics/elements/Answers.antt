@@ -1,7 +1,7 @@
 use Rattle.std.proofs.Common.{◌≡◌, ◌-◌, ◌<◌, length, arith, ◌∙◌}
 use Rattle.std.proofs.lemmas.Bool.Decides.{nat_tests}
-use Rattle.fab_machine.proofs.Elements.{elements_step, elements_end, elements_all}
-use Rattle.fab_machine.proofs.atomics.elements.Goals as goal
+use Rattle.fab_items.proofs.Elements.{elements_step, elements_end, elements_all}
+use Rattle.fab_items.proofs.atomics.elements.Goals as goal
 
 pub returns-then-is_empty : goal.returns-then-is_empty
 returns-then-is_empty c =

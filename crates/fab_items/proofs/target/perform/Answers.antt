@@ -5,9 +5,9 @@ use Rattle.fab_base.specs.declared.items.Outcome.TheVariants.{Done}
 use Rattle.fab_model.specs.Matching.{change_first}
 use Rattle.fab_model.specs.State.{Region}
 use Rattle.fab_model.specs.Target.{Performed, is_keyed, range_of, reach_of, handed_back, changed_range, put_range}
-use Rattle.fab_machine.specs.NewElements.{is_done}
-use Rattle.fab_machine.proofs.Performing.{perform_none, perform_refused, perform_done, done_is}
-use Rattle.fab_machine.proofs.target.perform.Goals as goal
+use Rattle.fab_items.specs.NewElements.{is_done}
+use Rattle.fab_items.proofs.Performing.{perform_none, perform_refused, perform_done, done_is}
+use Rattle.fab_items.proofs.target.perform.Goals as goal
 
 abbrev made : Outcome → List ℕ → List Region → Performed
 made outcome bytes regions = record { outcome = outcome; bytes = bytes; regions = regions }

@@ -1,0 +1,2 @@
+pub mod NewElements
+pub mod Seen
