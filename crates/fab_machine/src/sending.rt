@@ -10,7 +10,9 @@ ghost use Rattle.fab_items.specs.Seen.{order_of};
 ghost use Rattle.fab_machine.specs.Seen.{tx_of, state_of};
 
 use crate::state::{State, Transmitting};
-use fab_base::{Buf, Busy, Fault, Item, ItemHead, LineResult, NoMemory, Operation, Outcome, Taken};
+use fab_base::{
+    Ack, Buf, Busy, Fault, Item, ItemHead, LineResult, NoMemory, Operation, Outcome, Taken,
+};
 use fab_items::entries::{plain_error, refusal_of, success_of};
 use fab_items::lists::{number_at, one_more, raise};
 use fab_items::matching::is_message;
