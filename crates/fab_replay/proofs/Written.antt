@@ -1,7 +1,7 @@
 -- The report of a lawful schedule tells this schedule to the strict reader.
 --     Written peers lines schedule      lines that are read back, of which those that begin with `trace` tell this schedule
-use Rattle.std.proofs.Common.{◌≡◌, ◌≢◌, ◌≤◌, ◌<◌, ◌+◌, ◌-◌, ◌*◌, ◌/◌, ◌%◌, ◌^◌, ℕ, suc, Bool, true, false, not, ◌&&◌, List, [], ◌∷◌, ◌++◌, map, All, length, take, drop, Option, Some, None, refl, sym, ap, ap₂, subst, ◌∙◌, arith, append_assoc, append-nil, codes, decimal, eqb, slice_get, length-append}
-use Rattle.std.specs.Prelude.{nat_lt, nat_le, bytes_eq}
+use Rattle.std.proofs.Common.{◌≡◌, ◌≢◌, ◌≤◌, ◌<◌, ◌+◌, ◌-◌, ◌*◌, ◌/◌, ◌%◌, ◌^◌, ℕ, Bool, true, false, not, ◌&&◌, List, [], ◌∷◌, ◌++◌, map, All, length, take, drop, Option, Some, None, refl, sym, ap, subst, ◌∙◌, arith, append_assoc, append-nil, codes, decimal, eqb, slice_get, length-append}
+use Rattle.std.specs.Prelude.{nat_lt}
 use Rattle.std.specs.List.{join_with_byte, list_all}
 use Rattle.std.proofs.lemmas.Bool.{and_parts, and_from, eq-eqb, ne_eqb, lt-ltb, ltb-true}
 use Rattle.std.proofs.lemmas.Fmt.{decimal_by_steps_wide}
@@ -22,7 +22,7 @@ use Rattle.fab_model.specs.Report.{kept_words, done_lines, stuck_line, pending_l
 use Rattle.fab_model.specs.Words.{Word, read_decimal, pieces_at, onto_first, text_of}
 use Rattle.fab_model.proofs.Names.{lawful_names, replayed_sound}
 use Rattle.fab_model.proofs.Pieces.{plain, readable}
-use Rattle.fab_model.proofs.Plain.{other, decimal_digits, decimal_some, plain_decimal, plain_steps, other_line, other_numbered, others_done, others_stuck, others_left, others_pending}
+use Rattle.fab_model.proofs.Plain.{other, decimal_digits, plain_decimal, plain_steps, other_line, other_numbered, others_done, others_stuck, others_left, others_pending}
 use Rattle.fab_replay.specs.Reading.{is_digit, is_numeral, names_peer, step_told, steps_told, steps_behind, begins_trace, lists_told, schedule_told}
 
 -- ---- numbers

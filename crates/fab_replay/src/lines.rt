@@ -1,14 +1,15 @@
 //! The call that a line makes, with the bytes of its payload files.
 ghost use Rattle.std.specs.Prelude.{◌≡◌, IfOk, Some};
 ghost use Rattle.std.specs.Option.{option_map};
+ghost use Rattle.fab_base.specs.declared.items.Kind.TheVariants.{Msg, TagMsg};
 ghost use Rattle.fab_base.specs.declared.script.Bound.{Bound as BoundScript};
 ghost use Rattle.fab_model.specs.Replay.{payload, bind_word, bind_op};
 ghost use Rattle.fab_model.specs.Calls.{Look, word_bytes, message, request, atomic, posting, fetched, call_of};
 ghost use Rattle.fab_machine.specs.Seen.{seen_call};
 
 use fab_base::{
-    Atom, AtomicOp, Bound, Buf, BytesWord, Form, Kind, Level, LineOp, NoMemory, Num, Payload,
-    PeekHow, Text,
+    Atom, AtomicOp, Bound, Buf, BytesWord, Flags, Form, Kind, Level, LineOp, NoMemory, Num,
+    Payload, PeekHow, Text,
 };
 use fab_machine::calls::Call;
 use fab_items::lists::split;
@@ -49,6 +50,12 @@ fn bytes_of(alloc: Global, bound: &Bound, word: &BytesWord) -> Result<Buf, NoMem
     }
 }
 
+fn flags(level: Level, completion: bool) -> Flags
+    ensures { result ≡ record { completion = completion; level = level } }
+{
+    Flags { completion, level }
+}
+
 /// A call that sends a message.
 fn message(
     alloc: Global,
@@ -58,10 +65,9 @@ fn message(
     tag: u64,
     bytes: Buf,
     imm: Option<u64>,
-    level: Level,
-    completion: bool,
+    flags: Flags,
 ) -> Result<Option<Call>, NoMemory>
-    ensures { IfOk result (λ call. option_map seen_call call ≡ Some (message kind ctx dest tag bytes imm level completion)) }
+    ensures { IfOk result (λ call. option_map seen_call call ≡ Some (message kind ctx dest tag bytes imm flags.level flags.completion)) }
 {
     let buf = bytes.clone()?;
     Ok(Some(Call::Transmit(Order {
@@ -77,10 +83,98 @@ fn message(
         bytes,
         compared: Buf::empty(alloc),
         ctx,
-        level,
-        completion,
+        level: flags.level,
+        completion: flags.completion,
         buf: Some(buf),
     })))
+}
+
+/// A call that sends a message without a tag.
+fn untagged(
+    alloc: Global,
+    ctx: Option<u64>,
+    dest: u32,
+    bytes: Buf,
+    imm: Option<u64>,
+    flags: Flags,
+) -> Result<Option<Call>, NoMemory>
+    ensures { IfOk result (λ call. option_map seen_call call ≡ Some (message Msg ctx dest 0 bytes imm flags.level flags.completion)) }
+{
+    message(alloc, Kind::Msg, ctx, dest, 0, bytes, imm, flags)
+}
+
+/// A call that sends a message with a tag.
+fn tagged(
+    alloc: Global,
+    ctx: Option<u64>,
+    dest: u32,
+    tag: u64,
+    bytes: Buf,
+    imm: Option<u64>,
+    flags: Flags,
+) -> Result<Option<Call>, NoMemory>
+    ensures { IfOk result (λ call. option_map seen_call call ≡ Some (message TagMsg ctx dest tag bytes imm flags.level flags.completion)) }
+{
+    message(alloc, Kind::TagMsg, ctx, dest, tag, bytes, imm, flags)
+}
+
+/// The call of a line that sends a message and asks how it went. It gives up at a line of another kind.
+#[tactic(auto, unfolding(fab_model::specs::Calls::call_of))]
+fn send_call(alloc: Global, bound: &Bound, op: &LineOp) -> Result<Option<Call>, NoMemory>
+    ensures { IfOk result (λ call. option_map seen_call call ≡ call_of (bind_op bound.now op.now)) }
+{
+    match op {
+        LineOp::Send {
+            ctx,
+            dest,
+            bytes,
+            imm,
+            level,
+            completion,
+        } => {
+            let bytes = bytes_of(alloc, bound, bytes)?;
+            let flags = flags(*level, *completion);
+            untagged(alloc, Some(*ctx), *dest, bytes, *imm, flags)
+        }
+        LineOp::TSend {
+            ctx,
+            dest,
+            tag,
+            bytes,
+            imm,
+            level,
+            completion,
+        } => {
+            let bytes = bytes_of(alloc, bound, bytes)?;
+            let flags = flags(*level, *completion);
+            tagged(alloc, Some(*ctx), *dest, *tag, bytes, *imm, flags)
+        }
+        _ => Err(NoMemory),
+    }
+}
+
+/// The call of a line that injects a message. It gives up at a line of another kind.
+#[tactic(auto, unfolding(fab_model::specs::Calls::call_of))]
+fn inject_call(alloc: Global, bound: &Bound, op: &LineOp) -> Result<Option<Call>, NoMemory>
+    ensures { IfOk result (λ call. option_map seen_call call ≡ call_of (bind_op bound.now op.now)) }
+{
+    let flags = flags(Level::Inject, false);
+    match op {
+        LineOp::Inject { dest, bytes, imm } => {
+            let bytes = bytes_of(alloc, bound, bytes)?;
+            untagged(alloc, None, *dest, bytes, *imm, flags)
+        }
+        LineOp::TInject {
+            dest,
+            tag,
+            bytes,
+            imm,
+        } => {
+            let bytes = bytes_of(alloc, bound, bytes)?;
+            tagged(alloc, None, *dest, *tag, bytes, *imm, flags)
+        }
+        _ => Err(NoMemory),
+    }
 }
 
 /// A call that asks for a read or a write.
@@ -150,92 +244,6 @@ fn atomic(
         completion,
         buf,
     })
-}
-
-/// The call of a line that sends a message. It gives up at a line of another kind.
-#[tactic(auto, unfolding(fab_model::specs::Calls::call_of))]
-fn message_call(alloc: Global, bound: &Bound, op: &LineOp) -> Result<Option<Call>, NoMemory>
-    ensures { IfOk result (λ call. option_map seen_call call ≡ call_of (bind_op bound.now op.now)) }
-{
-    match op {
-        LineOp::Send {
-            ctx,
-            dest,
-            bytes,
-            imm,
-            level,
-            completion,
-        } => {
-            let bytes = bytes_of(alloc, bound, bytes)?;
-            message(
-                alloc,
-                Kind::Msg,
-                Some(*ctx),
-                *dest,
-                0,
-                bytes,
-                *imm,
-                *level,
-                *completion,
-            )
-        }
-        LineOp::TSend {
-            ctx,
-            dest,
-            tag,
-            bytes,
-            imm,
-            level,
-            completion,
-        } => {
-            let bytes = bytes_of(alloc, bound, bytes)?;
-            message(
-                alloc,
-                Kind::TagMsg,
-                Some(*ctx),
-                *dest,
-                *tag,
-                bytes,
-                *imm,
-                *level,
-                *completion,
-            )
-        }
-        LineOp::Inject { dest, bytes, imm } => {
-            let bytes = bytes_of(alloc, bound, bytes)?;
-            message(
-                alloc,
-                Kind::Msg,
-                None,
-                *dest,
-                0,
-                bytes,
-                *imm,
-                Level::Inject,
-                false,
-            )
-        }
-        LineOp::TInject {
-            dest,
-            tag,
-            bytes,
-            imm,
-        } => {
-            let bytes = bytes_of(alloc, bound, bytes)?;
-            message(
-                alloc,
-                Kind::TagMsg,
-                None,
-                *dest,
-                *tag,
-                bytes,
-                *imm,
-                Level::Inject,
-                false,
-            )
-        }
-        _ => Err(NoMemory),
-    }
 }
 
 /// A call that posts a receive.
@@ -331,84 +339,102 @@ fn look_call(op: &LineOp) -> Result<Option<Call>, NoMemory>
     }
 }
 
-/// The call of a line that reads or writes the memory of another peer. It gives up at a line of another
-/// kind.
+/// The call of the line `read`. It gives up at a line of another kind.
 #[tactic(auto, unfolding(fab_model::specs::Calls::call_of))]
-fn request_call(alloc: Global, bound: &Bound, op: &LineOp) -> Result<Option<Call>, NoMemory>
+fn read_call(alloc: Global, op: &LineOp) -> Result<Option<Call>, NoMemory>
+    ensures { (bound : BoundScript) → IfOk result (λ call. option_map seen_call call ≡ call_of (bind_op bound op.now)) }
+{
+    let LineOp::Read {
+        ctx,
+        dest,
+        key,
+        at,
+        len,
+    } = op
+    else {
+        return Err(NoMemory);
+    };
+    let count = u64::from(*len);
+    let buf = Buf::zeros(alloc, count)?;
+    let none = Buf::empty(alloc);
+    Ok(Some(request(
+        alloc,
+        Kind::ReadReq,
+        Some(*ctx),
+        *dest,
+        *key,
+        *at,
+        count,
+        none,
+        None,
+        true,
+        Some(buf),
+    )))
+}
+
+/// The call of the line `write`. It gives up at a line of another kind.
+#[tactic(auto, unfolding(fab_model::specs::Calls::call_of))]
+fn write_call(alloc: Global, bound: &Bound, op: &LineOp) -> Result<Option<Call>, NoMemory>
     ensures { IfOk result (λ call. option_map seen_call call ≡ call_of (bind_op bound.now op.now)) }
 {
-    match op {
-        LineOp::Read {
-            ctx,
-            dest,
-            key,
-            at,
-            len,
-        } => {
-            let buf = Buf::zeros(alloc, u64::from(*len))?;
-            Ok(Some(request(
-                alloc,
-                Kind::ReadReq,
-                Some(*ctx),
-                *dest,
-                *key,
-                *at,
-                u64::from(*len),
-                Buf::empty(alloc),
-                None,
-                true,
-                Some(buf),
-            )))
-        }
-        LineOp::Write {
-            ctx,
-            dest,
-            key,
-            at,
-            bytes,
-            imm,
-            completion,
-        } => {
-            let bytes = bytes_of(alloc, bound, bytes)?;
-            let buf = bytes.clone()?;
-            Ok(Some(request(
-                alloc,
-                Kind::WriteReq,
-                Some(*ctx),
-                *dest,
-                *key,
-                *at,
-                0,
-                bytes,
-                *imm,
-                *completion,
-                Some(buf),
-            )))
-        }
-        LineOp::WInject {
-            dest,
-            key,
-            at,
-            bytes,
-            imm,
-        } => {
-            let bytes = bytes_of(alloc, bound, bytes)?;
-            Ok(Some(request(
-                alloc,
-                Kind::WriteReq,
-                None,
-                *dest,
-                *key,
-                *at,
-                0,
-                bytes,
-                *imm,
-                false,
-                None,
-            )))
-        }
-        _ => Err(NoMemory),
-    }
+    let LineOp::Write {
+        ctx,
+        dest,
+        key,
+        at,
+        bytes,
+        imm,
+        completion,
+    } = op
+    else {
+        return Err(NoMemory);
+    };
+    let bytes = bytes_of(alloc, bound, bytes)?;
+    let buf = bytes.clone()?;
+    Ok(Some(request(
+        alloc,
+        Kind::WriteReq,
+        Some(*ctx),
+        *dest,
+        *key,
+        *at,
+        0,
+        bytes,
+        *imm,
+        *completion,
+        Some(buf),
+    )))
+}
+
+/// The call of the line `winject`. It gives up at a line of another kind.
+#[tactic(auto, unfolding(fab_model::specs::Calls::call_of))]
+fn inject_write_call(alloc: Global, bound: &Bound, op: &LineOp) -> Result<Option<Call>, NoMemory>
+    ensures { IfOk result (λ call. option_map seen_call call ≡ call_of (bind_op bound.now op.now)) }
+{
+    let LineOp::WInject {
+        dest,
+        key,
+        at,
+        bytes,
+        imm,
+    } = op
+    else {
+        return Err(NoMemory);
+    };
+    let bytes = bytes_of(alloc, bound, bytes)?;
+    Ok(Some(request(
+        alloc,
+        Kind::WriteReq,
+        None,
+        *dest,
+        *key,
+        *at,
+        0,
+        bytes,
+        *imm,
+        false,
+        None,
+    )))
 }
 
 /// How many bytes a fetch asks for: as many as its operand has, or those of so many elements where it has
@@ -423,103 +449,120 @@ fn fetched(num: Num, values: &Buf, count: u32) -> u64
     len as u64
 }
 
-/// The call of a line that asks for an atomic. It gives up at a line of another kind.
-#[tactic(auto, unfolding(fab_model::specs::Calls::call_of))]
-fn atomic_call(alloc: Global, op: &LineOp) -> Result<Option<Call>, NoMemory>
-    ensures { (bound : BoundScript) → IfOk result (λ call. option_map seen_call call ≡ call_of (bind_op bound op.now)) }
-{
-    match op {
-        LineOp::Atomic {
-            ctx,
-            dest,
-            key,
-            at,
-            op,
-            num,
-            values,
-            completion,
-        } => {
-            let atom = atom(*op, *num, Form::Base);
-            let count = values.as_slice().len() as u64;
-            let values = values.clone()?;
-            let none = Buf::empty(alloc);
-            Ok(Some(atomic(
-                *ctx,
-                *dest,
-                *key,
-                *at,
-                atom,
-                count,
-                values,
-                none,
-                *completion,
-                None,
-            )))
-        }
-        LineOp::Fetch {
-            ctx,
-            dest,
-            key,
-            at,
-            op,
-            num,
-            values,
-            count,
-        } => {
-            let atom = atom(*op, *num, Form::Fetch);
-            let count = fetched(*num, values, *count);
-            let values = values.clone()?;
-            let none = Buf::empty(alloc);
-            let buf = Buf::zeros(alloc, count)?;
-            Ok(Some(atomic(
-                *ctx,
-                *dest,
-                *key,
-                *at,
-                atom,
-                count,
-                values,
-                none,
-                true,
-                Some(buf),
-            )))
-        }
-        LineOp::Compare {
-            ctx,
-            dest,
-            key,
-            at,
-            op,
-            num,
-            values,
-            compares,
-        } => {
-            let atom = atom(*op, *num, Form::Compare);
-            let count = values.as_slice().len() as u64;
-            let values = values.clone()?;
-            let compares = compares.clone()?;
-            let buf = Buf::zeros(alloc, count)?;
-            Ok(Some(atomic(
-                *ctx,
-                *dest,
-                *key,
-                *at,
-                atom,
-                count,
-                values,
-                compares,
-                true,
-                Some(buf),
-            )))
-        }
-        _ => Err(NoMemory),
-    }
-}
-
 fn atom(op: AtomicOp, num: Num, form: Form) -> Atom
     ensures { result ≡ record { op = op; num = num; form = form } }
 {
     Atom { op, num, form }
+}
+
+/// The call of the line `atomic`. It gives up at a line of another kind.
+#[tactic(auto, unfolding(fab_model::specs::Calls::call_of))]
+fn update_call(alloc: Global, op: &LineOp) -> Result<Option<Call>, NoMemory>
+    ensures { (bound : BoundScript) → IfOk result (λ call. option_map seen_call call ≡ call_of (bind_op bound op.now)) }
+{
+    let LineOp::Atomic {
+        ctx,
+        dest,
+        key,
+        at,
+        op,
+        num,
+        values,
+        completion,
+    } = op
+    else {
+        return Err(NoMemory);
+    };
+    let atom = atom(*op, *num, Form::Base);
+    let count = values.as_slice().len() as u64;
+    let values = values.clone()?;
+    let none = Buf::empty(alloc);
+    Ok(Some(atomic(
+        *ctx,
+        *dest,
+        *key,
+        *at,
+        atom,
+        count,
+        values,
+        none,
+        *completion,
+        None,
+    )))
+}
+
+/// The call of the line `fetch`. It gives up at a line of another kind.
+#[tactic(auto, unfolding(fab_model::specs::Calls::call_of))]
+fn fetch_call(alloc: Global, op: &LineOp) -> Result<Option<Call>, NoMemory>
+    ensures { (bound : BoundScript) → IfOk result (λ call. option_map seen_call call ≡ call_of (bind_op bound op.now)) }
+{
+    let LineOp::Fetch {
+        ctx,
+        dest,
+        key,
+        at,
+        op,
+        num,
+        values,
+        count,
+    } = op
+    else {
+        return Err(NoMemory);
+    };
+    let atom = atom(*op, *num, Form::Fetch);
+    let count = fetched(*num, values, *count);
+    let values = values.clone()?;
+    let none = Buf::empty(alloc);
+    let buf = Buf::zeros(alloc, count)?;
+    Ok(Some(atomic(
+        *ctx,
+        *dest,
+        *key,
+        *at,
+        atom,
+        count,
+        values,
+        none,
+        true,
+        Some(buf),
+    )))
+}
+
+/// The call of the line `compare`. It gives up at a line of another kind.
+#[tactic(auto, unfolding(fab_model::specs::Calls::call_of))]
+fn compare_call(alloc: Global, op: &LineOp) -> Result<Option<Call>, NoMemory>
+    ensures { (bound : BoundScript) → IfOk result (λ call. option_map seen_call call ≡ call_of (bind_op bound op.now)) }
+{
+    let LineOp::Compare {
+        ctx,
+        dest,
+        key,
+        at,
+        op,
+        num,
+        values,
+        compares,
+    } = op
+    else {
+        return Err(NoMemory);
+    };
+    let atom = atom(*op, *num, Form::Compare);
+    let count = values.as_slice().len() as u64;
+    let values = values.clone()?;
+    let compares = compares.clone()?;
+    let buf = Buf::zeros(alloc, count)?;
+    Ok(Some(atomic(
+        *ctx,
+        *dest,
+        *key,
+        *at,
+        atom,
+        count,
+        values,
+        compares,
+        true,
+        Some(buf),
+    )))
 }
 
 /// The call of a line on the peer's own regions. It gives up at a line of another kind.
@@ -579,16 +622,16 @@ pub fn call_of(alloc: Global, bound: &Bound, op: &LineOp) -> Result<Option<Call>
     ensures { IfOk result (λ call. option_map seen_call call ≡ call_of (bind_op bound.now op.now)) }
 {
     match op {
-        LineOp::Send { .. } | LineOp::TSend { .. } => message_call(alloc, bound, op),
-        LineOp::Inject { .. } | LineOp::TInject { .. } => message_call(alloc, bound, op),
+        LineOp::Send { .. } | LineOp::TSend { .. } => send_call(alloc, bound, op),
+        LineOp::Inject { .. } | LineOp::TInject { .. } => inject_call(alloc, bound, op),
         LineOp::Recv { .. } | LineOp::TRecv { .. } | LineOp::MRecv { .. } => receive_call(op),
         LineOp::Peek { .. } | LineOp::Claim { .. } | LineOp::Discard { .. } => look_call(op),
-        LineOp::Read { .. } | LineOp::Write { .. } | LineOp::WInject { .. } => {
-            request_call(alloc, bound, op)
-        }
-        LineOp::Atomic { .. } | LineOp::Fetch { .. } | LineOp::Compare { .. } => {
-            atomic_call(alloc, op)
-        }
+        LineOp::Read { .. } => read_call(alloc, op),
+        LineOp::Write { .. } => write_call(alloc, bound, op),
+        LineOp::WInject { .. } => inject_write_call(alloc, bound, op),
+        LineOp::Atomic { .. } => update_call(alloc, op),
+        LineOp::Fetch { .. } => fetch_call(alloc, op),
+        LineOp::Compare { .. } => compare_call(alloc, op),
         LineOp::Reg { .. } | LineOp::Close { .. } => region_call(alloc, bound, op),
         LineOp::Put { .. } | LineOp::Show { .. } => region_call(alloc, bound, op),
         LineOp::Take { .. } | LineOp::DropClaimed { .. } => own_call(alloc, op),

@@ -105,9 +105,11 @@ fn add_len(out: &mut String, len: u64, bytes: &[u8]) -> Result<(), NoMemory>
     add_bytes(out, bytes)
 }
 
-fn add_whole(out: &mut String, bytes: &Buf) -> Result<(), NoMemory>
-    ensures { OnOk result (string_bytes out.new ≡ string_bytes out.old ++ after_blanks (len_words (length bytes.now) bytes.now)) }
+/// A name, and all these bytes.
+fn add_whole(out: &mut String, name: &str, bytes: &Buf) -> Result<(), NoMemory>
+    ensures { OnOk result (string_bytes out.new ≡ string_bytes out.old ++ name.now ++ after_blanks (len_words (length bytes.now) bytes.now)) }
 {
+    out.push_str(name)?;
     let bytes = bytes.as_slice();
     add_len(out, bytes.len() as u64, bytes)
 }
@@ -260,6 +262,26 @@ fn add_peeked(
     add_named(out, "len", Some(len as u64))
 }
 
+/// A multi-receive that was released.
+fn add_released(out: &mut String, used: u32) -> Result<(), NoMemory>
+    ensures { OnOk result (string_bytes out.new ≡ string_bytes out.old ++ after_blanks (codes "FI_MULTI_RECV" ∷ named (codes "used") (Some used))) }
+{
+    write!(out, " FI_MULTI_RECV used {used}")?;
+    Ok(())
+}
+
+/// Data that came with a write into the own memory.
+fn add_remote_data(out: &mut String, source: u32, imm: u64) -> Result<(), NoMemory>
+    ensures { OnOk result (string_bytes out.new ≡ string_bytes out.old
+        ++ after_blanks (codes "FI_RMA" ∷ codes "FI_REMOTE_WRITE" ∷ codes "FI_REMOTE_CQ_DATA" ∷ named (codes "from") (Some source) ++ named (codes "data") (Some imm))) }
+{
+    write!(
+        out,
+        " FI_RMA FI_REMOTE_WRITE FI_REMOTE_CQ_DATA from {source} data {imm}"
+    )?;
+    Ok(())
+}
+
 /// A success, with the bytes that were kept of a part.
 #[tactic(auto, using(crate::proofs::Blanks::blanks))]
 fn add_success(out: &mut String, entry: &Entry, kept: &[u8]) -> Result<(), NoMemory>
@@ -283,10 +305,7 @@ fn add_success(out: &mut String, entry: &Entry, kept: &[u8]) -> Result<(), NoMem
             len,
             ..
         } => add_part(out, *source, *imm, *at, *len, kept),
-        Entry::Released { used, .. } => {
-            add_text(out, " FI_MULTI_RECV")?;
-            add_named(out, "used", Some(*used as u64))
-        }
+        Entry::Released { used, .. } => add_released(out, *used),
         Entry::Peeked {
             how,
             source,
@@ -295,21 +314,11 @@ fn add_success(out: &mut String, entry: &Entry, kept: &[u8]) -> Result<(), NoMem
             len,
             ..
         } => add_peeked(out, *how, *source, *tag, *imm, *len),
-        Entry::Read { buf, .. } => {
-            add_text(out, " FI_READ")?;
-            add_whole(out, buf)
-        }
+        Entry::Read { buf, .. } => add_whole(out, " FI_READ", buf),
         Entry::Wrote { .. } => add_text(out, " FI_WRITE"),
         Entry::Updated { .. } => add_text(out, " FI_ATOMIC FI_WRITE"),
-        Entry::Fetched { result: old, .. } => {
-            add_text(out, " FI_ATOMIC FI_READ")?;
-            add_whole(out, old)
-        }
-        Entry::RemoteData { source, imm } => {
-            add_text(out, " FI_RMA FI_REMOTE_WRITE FI_REMOTE_CQ_DATA from")?;
-            add_number(out, *source as u64)?;
-            add_named(out, "data", Some(*imm))
-        }
+        Entry::Fetched { result: old, .. } => add_whole(out, " FI_ATOMIC FI_READ", old),
+        Entry::RemoteData { source, imm } => add_remote_data(out, *source, *imm),
     }
 }
 
