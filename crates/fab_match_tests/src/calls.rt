@@ -1,5 +1,5 @@
 //! Calls of a store of any kind, with their answers.
-use fab_base::{NoMemory, Sign, Want};
+use fab_base::{Sign, Want};
 use fab_match::{Matcher, take_posted, take_unexpected};
 
 /// What is called.
@@ -50,18 +50,22 @@ pub(crate) fn post<M: Matcher>(store: &mut M, id: u32, want: Want) -> bool {
     true
 }
 
-fn arrive<M: Matcher>(store: &mut M, id: u32, sign: Sign) -> Result<bool, NoMemory> {
+/// Whether a message is added. None where there is no memory.
+fn arrive<M: Matcher>(store: &mut M, id: u32, sign: Sign) -> Option<bool> {
     if store.has_unexpected(id) {
-        return Ok(false);
+        return Some(false);
     }
-    store.add_unexpected(id, sign)?;
-    Ok(true)
+    match store.add_unexpected(id, sign) {
+        Ok(()) => Some(true),
+        Err(_) => None,
+    }
 }
 
-pub(crate) fn apply<M: Matcher>(store: &mut M, call: &Call) -> Result<Answer, NoMemory> {
-    Ok(match call {
+/// The answer to a call. None where there is no memory.
+pub(crate) fn apply<M: Matcher>(store: &mut M, call: &Call) -> Option<Answer> {
+    Some(match call {
         Call::Post(id, want) => post(store, *id, *want).into(),
-        Call::Arrive(id, sign) => arrive(store, *id, *sign)?.into(),
+        Call::Arrive(id, sign) => return arrive(store, *id, *sign).map(Answer::from),
         Call::FirstPosted(sign) => store.first_posted(sign).into(),
         Call::FirstUnexpected(want) => store.first_unexpected(want).into(),
         Call::RemovePosted(id) => store.remove_posted(*id).into(),
@@ -71,15 +75,12 @@ pub(crate) fn apply<M: Matcher>(store: &mut M, call: &Call) -> Result<Answer, No
     })
 }
 
-/// The place of the first call of the list that does not give its answer.
-pub(crate) fn first_wrong<M: Matcher>(
-    store: &mut M,
-    steps: &[Step],
-) -> Result<Option<usize>, NoMemory> {
-    for (at, (call, answer)) in steps.iter().enumerate() {
-        if apply(store, call)? != *answer {
-            return Ok(Some(at));
+/// Whether each call of the list gives its answer.
+pub(crate) fn gives_all<M: Matcher>(store: &mut M, steps: &[Step]) -> bool {
+    for (call, answer) in steps {
+        if apply(store, call) != Some(*answer) {
+            return false;
         }
     }
-    Ok(None)
+    true
 }

@@ -2,9 +2,10 @@
 ghost use Rattle.std.specs.Prelude.{◌<◌};
 
 use crate::calls::{Call, apply};
-use fab_base::{NoMemory, Sign, Want};
+use fab_base::{Sign, Want};
 use fab_bins::BinMatcher;
 use fab_match::{ListMatcher, Matcher};
+use std::alloc::Global;
 use std::test::Fail;
 
 fn want(tag: u64, ignore: u64, source: Option<u32>) -> Want {
@@ -82,26 +83,39 @@ fn drawn_call(seed: &mut u64) -> Call {
     }
 }
 
-/// The number of the first of 4,000 calls that the two stores answer differently.
-fn first_difference(
-    lists: &mut ListMatcher,
-    bins: &mut BinMatcher,
-) -> Result<Option<u32>, NoMemory> {
+/// Whether the two stores answer this call alike.
+fn agree<A: Matcher, B: Matcher>(first: &mut A, second: &mut B, call: &Call) -> bool {
+    match apply(first, call) {
+        Some(answer) => apply(second, call) == Some(answer),
+        None => false,
+    }
+}
+
+/// Whether they answer each of 4,000 calls alike.
+fn agree_on_many<A: Matcher, B: Matcher>(first: &mut A, second: &mut B) -> bool {
     let mut seed = 23;
-    for at in 0..4000 {
+    for _at in 0..4000 {
         let call = drawn_call(&mut seed);
-        let answer = apply(lists, &call)?;
-        if apply(bins, &call)? != answer {
-            return Ok(Some(at));
+        if !agree(first, second, &call) {
+            return false;
         }
     }
-    Ok(None)
+    true
+}
+
+/// Whether two new stores do.
+fn new_agree<A: Matcher + Drop, B: Matcher + Drop>(alloc: Global) -> bool {
+    let Ok(mut first) = A::new(alloc, 16) else {
+        return false;
+    };
+    let Ok(mut second) = B::new(alloc, 16) else {
+        return false;
+    };
+    agree_on_many(&mut first, &mut second)
 }
 
 #[test]
 fn both_stores_agree_on_many_calls(rt: HostRuntime) -> Result<(), Fail> {
-    let mut lists = ListMatcher::new(rt.alloc(), 16)?;
-    let mut bins = BinMatcher::new(rt.alloc(), 16)?;
-    assert_eq!(rt; first_difference(&mut lists, &mut bins)?, None);
+    assert!(rt; new_agree::<ListMatcher, BinMatcher>(rt.alloc()));
     Ok(())
 }

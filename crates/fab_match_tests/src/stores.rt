@@ -3,48 +3,48 @@ ghost use Rattle.std.specs.Prelude.{◌≡◌};
 ghost use Rattle.fab_model.specs.Matching.{remove_first};
 ghost use Rattle.fab_match.specs.Signs.{fits};
 
-use crate::calls::{Step, first_wrong, post};
+use crate::calls::{Step, gives_all, post};
 use crate::lists::{LISTS, OF_THREE, RANDOM};
-use fab_base::{NoMemory, Sign, Want};
+use fab_base::{Sign, Want};
 use fab_bins::BinMatcher;
 use fab_match::{ListMatcher, Matcher, take_posted};
 use std::alloc::Global;
 use std::process::Abort;
 use std::test::Fail;
 
-/// The place of the first call of the list that a new store of this kind, with room for so many receives, does
-/// not answer as told.
-fn wrong_of<M: Matcher + Drop>(
-    alloc: Global,
-    room: u32,
-    list: &[Step],
-) -> Result<Option<usize>, NoMemory> {
-    let mut store = M::new(alloc, room)?;
-    first_wrong(&mut store, list)
+/// Whether a new store of this kind, with room for so many receives, answers each call of the list as told.
+fn gives<M: Matcher + Drop>(alloc: Global, room: u32, list: &[Step]) -> bool {
+    match M::new(alloc, room) {
+        Ok(mut store) => gives_all(&mut store, list),
+        Err(_) => false,
+    }
+}
+
+/// Whether both stores do.
+fn both_give(alloc: Global, room: u32, list: &[Step]) -> bool {
+    gives::<ListMatcher>(alloc, room, list) && gives::<BinMatcher>(alloc, room, list)
 }
 
 /// Each list gives its answers over both stores.
-fn both_give(rt: &impl Abort, alloc: Global, room: u32, lists: &[&[Step]]) -> Result<(), Fail> {
+fn all_give(rt: &impl Abort, alloc: Global, room: u32, lists: &[&[Step]]) {
     for (at, list) in lists.iter().enumerate() {
-        let of_lists = wrong_of::<ListMatcher>(alloc, room, list)?;
-        let of_bins = wrong_of::<BinMatcher>(alloc, room, list)?;
-        assert_eq!(rt; (of_lists, of_bins), (None, None), "list {at}");
+        assert!(rt; both_give(alloc, room, list), "list {at}");
     }
-    Ok(())
 }
 
 #[test]
 fn each_list_of_calls_gives_its_answers(rt: HostRuntime) -> Result<(), Fail> {
     for lists in LISTS {
-        both_give(&rt, rt.alloc(), 4, lists)?;
+        all_give(&rt, rt.alloc(), 4, lists);
     }
-    both_give(&rt, rt.alloc(), 3, &OF_THREE)
+    all_give(&rt, rt.alloc(), 3, &OF_THREE);
+    Ok(())
 }
 
 #[test]
 fn random_lists_give_their_answers(rt: HostRuntime) -> Result<(), Fail> {
     for lists in RANDOM {
-        both_give(&rt, rt.alloc(), 4, lists)?;
+        all_give(&rt, rt.alloc(), 4, lists);
     }
     Ok(())
 }
@@ -56,23 +56,38 @@ fn take_of_lists(store: &mut ListMatcher, sign: &Sign) -> Option<u32>
     take_posted(store, sign)
 }
 
+const SIGN: Sign = Sign {
+    tagged: true,
+    tag: 5,
+    source: 3,
+};
+
+const WANT: Want = Want {
+    tagged: true,
+    tag: 4,
+    ignore: 1,
+    source: None,
+};
+
+/// Whether two receives are posted.
+fn posts_two<M: Matcher>(store: &mut M) -> bool {
+    post(store, 8, WANT) && post(store, 9, WANT)
+}
+
+/// Whether the first of them is taken, and the second is then the first.
+fn takes_first(store: &mut ListMatcher) -> bool {
+    take_of_lists(store, &SIGN) == Some(8) && store.first_posted(&SIGN) == Some(9)
+}
+
+fn new_takes_first(alloc: Global) -> bool {
+    match ListMatcher::new(alloc, 2) {
+        Ok(mut store) => posts_two(&mut store) && takes_first(&mut store),
+        Err(_) => false,
+    }
+}
+
 #[test]
 fn the_first_match_is_taken_and_the_rest_stays(rt: HostRuntime) -> Result<(), Fail> {
-    let mut store = ListMatcher::new(rt.alloc(), 2)?;
-    let sign = Sign {
-        tagged: true,
-        tag: 5,
-        source: 3,
-    };
-    let want = Want {
-        tagged: true,
-        tag: 4,
-        ignore: 1,
-        source: None,
-    };
-    assert!(rt; post(&mut store, 8, want));
-    assert!(rt; post(&mut store, 9, want));
-    assert_eq!(rt; take_of_lists(&mut store, &sign), Some(8));
-    assert_eq!(rt; store.first_posted(&sign), Some(9));
+    assert!(rt; new_takes_first(rt.alloc()));
     Ok(())
 }

@@ -11,7 +11,6 @@ ghost use Rattle.fab_atomics.specs.Operands.{operand_len, compare_len};
 
 use fab_atomics::{apply, element_size};
 use fab_base::{AtomicOp, Num};
-use std::alloc::Global;
 use std::process::Abort;
 use std::test::Fail;
 
@@ -303,108 +302,153 @@ fn letter(x: u64, ones: u64, is_signed: bool) -> u8 {
     }
 }
 
-/// The letters of the new elements, of an operation with this element to compare with. The old ones are handed back.
-fn letters(
-    rt: &impl Abort,
-    alloc: Global,
-    op: AtomicOp,
-    num: Num,
-    values: &[u64],
-    compare: u64,
-) -> Result<Vec<u8>, Fail> {
+/// Whether the new elements of one target have these letters, and the old one is handed back each time.
+fn has_letters(op: AtomicOp, num: Num, t: u64, values: &[u64], compare: u64, want: &[u8]) -> bool {
     let (ones, is_signed) = ones_of(num);
-    let mut letters = Vec::new(alloc);
-    for t in values {
-        for b in values {
-            let (new, old) = one(op, num, *t, *b, compare);
-            assert!(rt; old == *t);
-            letters.push(letter(new, ones, is_signed))?;
+    for (b, wanted) in values.iter().zip(want) {
+        let (new, old) = one(op, num, t, *b, compare);
+        if old != t || letter(new, ones, is_signed) != *wanted {
+            return false;
         }
     }
-    Ok(letters)
+    values.len() == want.len()
 }
 
-/// The elements of one type are those of a row, where the place of the compare is one of its values.
-fn is_row(rt: &impl Abort, alloc: Global, row: &Row, num: Num) -> Result<(), Fail> {
+/// The same of each of the values as target, one behind the other.
+fn have_letters(op: AtomicOp, num: Num, values: &[u64], compare: u64, want: &[u8]) -> bool {
+    let mut rest = want;
+    for t in values {
+        let Some((letters, others)) = rest.split_at_checked(values.len()) else {
+            return false;
+        };
+        if !has_letters(op, num, *t, values, compare, letters) {
+            return false;
+        }
+        rest = others;
+    }
+    rest.is_empty()
+}
+
+/// The same where the place of the compare is one of the values.
+fn have_letters_at(op: AtomicOp, num: Num, values: &[u64], place: usize, want: &[u8]) -> bool {
+    match values.get(place) {
+        Some(compare) => have_letters(op, num, values, *compare, want),
+        None => true,
+    }
+}
+
+/// Whether the elements of one type are those of a row.
+fn is_row(row: &Row, num: Num) -> bool {
     let (op, place, signed, unsigned) = *row;
     let (ones, is_signed) = ones_of(num);
-    let want = if is_signed { signed } else { unsigned };
-    let all = [0, 1, ones / 2, ones / 2 + 1, ones];
-    let few = [0, 1, ones];
-    let values: &[u64] = if is_signed { &all } else { &few };
-    if place < values.len() {
-        let found = letters(rt, alloc, op, num, values, values[place])?;
-        assert!(rt; found.as_slice() == want, "place {place}, up to {ones}");
+    if is_signed {
+        let values = [0, 1, ones / 2, ones / 2 + 1, ones];
+        return have_letters_at(op, num, &values, place, signed);
     }
-    Ok(())
+    have_letters_at(op, num, &[0, 1, ones], place, unsigned)
+}
+
+/// Whether the elements of each type are those of the row.
+fn is_row_of_all(row: &Row) -> bool {
+    for num in NUMS {
+        if !is_row(row, num) {
+            return false;
+        }
+    }
+    true
 }
 
 /// The elements of each type are those of each row.
-fn are_rows(rt: &impl Abort, alloc: Global, rows: &[Row]) -> Result<(), Fail> {
-    for row in rows {
-        for num in &NUMS {
-            is_row(rt, alloc, row, *num)?;
-        }
+fn are_rows(rt: &impl Abort, rows: &[Row]) {
+    for (place, row) in rows.iter().enumerate() {
+        assert!(rt; is_row_of_all(row), "row {place}");
     }
-    Ok(())
 }
 
 #[test]
 fn elements_are_those_of_the_table(rt: HostRuntime) -> Result<(), Fail> {
-    are_rows(&rt, rt.alloc(), &PLAIN)?;
-    are_rows(&rt, rt.alloc(), &SWAPS)?;
-    are_rows(&rt, rt.alloc(), &MASKED)
+    are_rows(&rt, &PLAIN);
+    are_rows(&rt, &SWAPS);
+    are_rows(&rt, &MASKED);
+    Ok(())
 }
 
-#[test]
-fn ranges_are_done_whole(rt: HostRuntime) -> Result<(), Fail> {
-    let mut old = [0; 1];
-    let mut target = [0x7f];
-    apply(AtomicOp::Sum, Num::I8, &mut target, &[1], &[], &mut old);
-    assert_eq!(rt; (target, old), ([0x80], [0x7f]));
-    let mut target = [7];
-    apply(
-        AtomicOp::CswapLe,
-        Num::U8,
-        &mut target,
-        &[1],
-        &[5],
-        &mut old,
-    );
-    assert_eq!(rt; (target, old), ([1], [7]));
-    let mut target = [0xf0];
-    apply(
-        AtomicOp::Mswap,
-        Num::U8,
-        &mut target,
-        &[60],
-        &[15],
-        &mut old,
-    );
-    assert_eq!(rt; (target, old), ([0xfc], [0xf0]));
+/// Does an atomic, where the lengths belong together.
+fn is_applied(
+    op: AtomicOp,
+    num: Num,
+    target: &mut [u8],
+    operand: &[u8],
+    compare: &[u8],
+    old: &mut [u8],
+) -> bool {
+    let len = target.len();
+    if len % element_size(num) != 0
+        || operand.len() != operand_len(op, len)
+        || compare.len() != compare_len(op, len)
+        || old.len() != len
+    {
+        return false;
+    }
+    apply(op, num, target, operand, compare, old);
+    true
+}
 
+/// Whether an element of one byte becomes this one, and is handed back as it was.
+fn becomes(op: AtomicOp, num: Num, from: u8, operand: u8, compare: &[u8], to: u8) -> bool {
+    let mut target = [from];
+    let mut old = [0];
+    is_applied(op, num, &mut target, &[operand], compare, &mut old)
+        && target == [to]
+        && old == [from]
+}
+
+const FROM: [u8; 6] = [0xff, 0x00, 0x34, 0x12, 0xff, 0xff];
+
+const TO: [u8; 6] = [0x00, 0x01, 0x36, 0x12, 0x00, 0x00];
+
+/// Whether each element of a range is changed, and the range is handed back as it was.
+fn range_becomes() -> bool {
+    let mut target = FROM;
     let mut old = [0; 6];
-    let mut target = [0xff, 0x00, 0x34, 0x12, 0xff, 0xff];
-    let before = target;
-    apply(
+    let operand = [1, 0, 2, 0, 1, 0];
+    is_applied(
         AtomicOp::Sum,
         Num::U16,
         &mut target,
-        &[1, 0, 2, 0, 1, 0],
+        &operand,
         &[],
         &mut old,
-    );
-    assert_eq!(rt; target, [0x00, 0x01, 0x36, 0x12, 0x00, 0x00]);
-    assert_eq!(rt; old, before);
-    apply(
+    ) && target == TO
+        && old == FROM
+}
+
+/// Whether a range that is read is handed back, and stays.
+fn range_is_read() -> bool {
+    let mut target = TO;
+    let mut old = FROM;
+    is_applied(
         AtomicOp::AtomicRead,
         Num::U16,
         &mut target,
         &[],
         &[],
         &mut old,
-    );
-    assert_eq!(rt; target, old);
-    apply(AtomicOp::AtomicRead, Num::I64, &mut [], &[], &[], &mut []);
+    ) && target == TO
+        && old == TO
+}
+
+fn no_range_is_read() -> bool {
+    is_applied(AtomicOp::AtomicRead, Num::I64, &mut [], &[], &[], &mut [])
+}
+
+#[test]
+fn ranges_are_done_whole(rt: HostRuntime) -> Result<(), Fail> {
+    assert!(rt; becomes(AtomicOp::Sum, Num::I8, 0x7f, 1, &[], 0x80));
+    assert!(rt; becomes(AtomicOp::CswapLe, Num::U8, 7, 1, &[5], 1));
+    assert!(rt; becomes(AtomicOp::Mswap, Num::U8, 0xf0, 60, &[15], 0xfc));
+    assert!(rt; range_becomes());
+    assert!(rt; range_is_read());
+    assert!(rt; no_range_is_read());
     Ok(())
 }

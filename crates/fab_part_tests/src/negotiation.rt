@@ -121,23 +121,56 @@ const GRANTS: [(&[Cap], &[Cap]); 9] = [
     (&[Source], &[MultiRecv, Source, LocalComm]),
 ];
 
+/// Whether these capabilities are granted, and the sizes that are granted without a wish.
+fn has_defaults(info: &Info, caps: &[Cap]) -> bool {
+    info.caps == hints(caps).caps && numbers(info) == DEFAULTS
+}
+
+/// What these hints are granted.
+fn granted(hints: &Hints) -> Option<Info> {
+    match getinfo(Some(hints)) {
+        Ok(info) => Some(info),
+        Err(_) => None,
+    }
+}
+
+/// Whether these hints are refused.
+fn is_refused(hints: &Hints) -> bool {
+    match getinfo(Some(hints)) {
+        Err(Fault::NoData) => true,
+        _ => false,
+    }
+}
+
+/// Whether who asks for these capabilities is granted those.
+fn grants(asked: &[Cap], want: &[Cap]) -> bool {
+    match granted(&hints(asked)) {
+        Some(info) => has_defaults(&info, want),
+        None => false,
+    }
+}
+
 #[test]
 fn grants_capabilities(rt: HostRuntime) -> Result<(), Fail> {
     for (row, (asked, want)) in GRANTS.iter().enumerate() {
-        let info = getinfo(Some(&hints(asked)))?;
-        assert!(rt; info.caps == hints(want).caps, "row {row}");
-        assert_eq!(rt; numbers(&info), DEFAULTS);
+        assert!(rt; grants(asked, want), "row {row}");
     }
     Ok(())
 }
 
+/// Whether who gives no hints is granted the whole offer.
+fn grants_all() -> bool {
+    match getinfo(None) {
+        Ok(info) => has_defaults(&info, &OFFER),
+        Err(_) => false,
+    }
+}
+
 #[test]
 fn all_is_granted_where_nothing_is_asked_for(rt: HostRuntime) -> Result<(), Fail> {
-    let info = getinfo(None)?;
-    assert!(rt; info.caps == hints(&OFFER).caps);
-    assert_eq!(rt; numbers(&info), DEFAULTS);
+    assert!(rt; grants_all());
     for refused in [[Fence, Msg], [RmaEvent, Rma]] {
-        assert!(rt; getinfo(Some(&hints(&refused))) == Err(Fault::NoData));
+        assert!(rt; is_refused(&hints(&refused)));
     }
     Ok(())
 }
@@ -192,11 +225,18 @@ fn all_but(place: usize, granted: u32) -> [u32; 9] {
     all
 }
 
+/// Whether the wish is granted so, and no other size changes.
+fn grants_wish(place: usize, wanted: u32, size: u32) -> bool {
+    match granted(&wish(place, wanted)) {
+        Some(info) => numbers(&info) == all_but(place, size),
+        None => false,
+    }
+}
+
 #[test]
 fn grants_wishes(rt: HostRuntime) -> Result<(), Fail> {
-    for (place, wanted, granted) in GRANTED {
-        let info = getinfo(Some(&wish(place, wanted)))?;
-        assert_eq!(rt; numbers(&info), all_but(place, granted), "{place} {wanted}");
+    for (place, wanted, size) in GRANTED {
+        assert!(rt; grants_wish(place, wanted, size), "{place} {wanted}");
     }
     Ok(())
 }
@@ -204,9 +244,6 @@ fn grants_wishes(rt: HostRuntime) -> Result<(), Fail> {
 #[test]
 fn refuses_wishes(rt: HostRuntime) {
     for (place, wanted) in REFUSED {
-        assert!(rt;
-            getinfo(Some(&wish(place, wanted))) == Err(Fault::NoData),
-            "{place} {wanted}"
-        );
+        assert!(rt; is_refused(&wish(place, wanted)), "{place} {wanted}");
     }
 }

@@ -1,7 +1,7 @@
 //! Regions by hand: each answer is the one that fi_mr(3) and the offsets of the region give.
 use fab_base::{Access, Buf, Fault};
 use fab_mr::Regions;
-use std::process::Abort;
+use std::alloc::Global;
 use std::test::Fail;
 
 const READ_WRITE: Access = Access {
@@ -14,88 +14,128 @@ const READ: Access = Access {
     remote_write: false,
 };
 
-/// The region is registered.
-fn registers(rt: &impl Abort, regions: &mut Regions, key: u64, access: Access, buf: Buf) {
-    assert!(rt; regions.reg(key, access, buf).is_ok());
-}
-
-/// The key is in use, and the buffer comes back.
-fn refuses(rt: &impl Abort, regions: &mut Regions, key: u64, buf: Buf, bytes: &[u8]) {
-    let back = match regions.reg(key, READ, buf) {
-        Ok(()) => None,
-        Err(refused) => Some((refused.why, refused.buf)),
+/// Whether a region of these bytes is registered.
+fn registers(alloc: Global, regions: &mut Regions, key: u64, access: Access, bytes: &[u8]) -> bool {
+    let Ok(buf) = Buf::copy(alloc, bytes) else {
+        return false;
     };
-    assert!(rt; back.is_some_and(|(why, buf)| why == Fault::NoKey && buf.as_slice() == bytes));
+    regions.reg(key, access, buf).is_ok()
 }
 
-/// A write gives this answer.
-fn writes(
-    rt: &impl Abort,
-    regions: &mut Regions,
-    put: (u64, u64, &[u8]),
-    answer: Result<(), Fault>,
-) {
-    let (key, at, src) = put;
-    assert_eq!(rt; regions.put(key, at, src), answer, "{key} {at}");
-}
-
-/// The region has these bytes, or there is none.
-fn has_bytes(rt: &impl Abort, regions: &Regions, key: u64, bytes: Option<&[u8]>) {
-    assert_eq!(rt; regions.bytes(key), bytes);
-}
-
-/// The region has these rights, or there is none.
-fn has_access(rt: &impl Abort, regions: &Regions, key: u64, access: Option<Access>) {
-    assert_eq!(rt; regions.access(key), access);
-}
-
-/// A region is closed and gives its bytes back, or there is none.
-fn closes(rt: &impl Abort, regions: &mut Regions, key: u64, bytes: Result<&[u8], Fault>) {
-    let closed = regions.close(key);
-    let found = match &closed {
-        Ok(buf) => Ok(buf.as_slice()),
-        Err(why) => Err(*why),
+/// Whether the key is in use, and the buffer comes back.
+fn refuses(alloc: Global, regions: &mut Regions, key: u64, bytes: &[u8]) -> bool {
+    let Ok(buf) = Buf::copy(alloc, bytes) else {
+        return false;
     };
-    assert_eq!(rt; found, bytes);
+    match regions.reg(key, READ, buf) {
+        Ok(()) => false,
+        Err(refused) => refused.why == Fault::NoKey && refused.buf.as_slice() == bytes,
+    }
+}
+
+/// Whether a write gives this answer.
+fn writes(regions: &mut Regions, key: u64, at: u64, src: &[u8], answer: Result<(), Fault>) -> bool {
+    regions.put(key, at, src) == answer
+}
+
+/// Whether the region has these bytes.
+fn has_bytes(regions: &Regions, key: u64, bytes: &[u8]) -> bool {
+    regions.bytes(key) == Some(bytes)
+}
+
+fn has_none(regions: &Regions, key: u64) -> bool {
+    regions.bytes(key).is_none()
+}
+
+/// Whether the region has these rights, or there is none.
+fn has_access(regions: &Regions, key: u64, access: Option<Access>) -> bool {
+    regions.access(key) == access
+}
+
+/// Whether the region is closed, and gives these bytes back.
+fn closes(regions: &mut Regions, key: u64, bytes: &[u8]) -> bool {
+    match regions.close(key) {
+        Ok(buf) => buf.as_slice() == bytes,
+        Err(_) => false,
+    }
+}
+
+fn closes_none(regions: &mut Regions, key: u64) -> bool {
+    match regions.close(key) {
+        Ok(_) => false,
+        Err(why) => why == Fault::NoKey,
+    }
+}
+
+/// Whether two regions are registered, and one is written, whose key no other region gets.
+fn has_two(alloc: Global, regions: &mut Regions) -> bool {
+    registers(alloc, regions, 10, READ_WRITE, &[0; 8])
+        && registers(alloc, regions, u64::MAX, READ, b"x")
+        && writes(regions, 10, 4, b"abcd", Ok(()))
+        && has_bytes(regions, 10, b"\0\0\0\0abcd")
+        && refuses(alloc, regions, 10, b"z")
+        && has_access(regions, 10, Some(READ_WRITE))
+        && has_access(regions, u64::MAX, Some(READ))
+        && has_access(regions, 0, None)
+}
+
+/// Whether that one is closed, and the other stays.
+fn closes_one(regions: &mut Regions) -> bool {
+    closes_none(regions, 0)
+        && closes(regions, 10, b"\0\0\0\0abcd")
+        && has_none(regions, 10)
+        && has_bytes(regions, u64::MAX, b"x")
+}
+
+fn new_closes_one(alloc: Global) -> bool {
+    let mut regions = Regions::new(alloc);
+    has_two(alloc, &mut regions) && closes_one(&mut regions)
 }
 
 #[test]
 fn a_region_is_registered_written_and_closed(rt: HostRuntime) -> Result<(), Fail> {
-    let alloc = rt.alloc();
-    let mut regions = Regions::new(alloc);
-    registers(&rt, &mut regions, 10, READ_WRITE, Buf::zeros(alloc, 8)?);
-    registers(&rt, &mut regions, u64::MAX, READ, Buf::copy(alloc, b"x")?);
-    writes(&rt, &mut regions, (10, 4, b"abcd"), Ok(()));
-    has_bytes(&rt, &regions, 10, Some(b"\0\0\0\0abcd"));
-    refuses(&rt, &mut regions, 10, Buf::copy(alloc, b"z")?, b"z");
-    has_access(&rt, &regions, 10, Some(READ_WRITE));
-    has_access(&rt, &regions, u64::MAX, Some(READ));
-    has_access(&rt, &regions, 0, None);
-    closes(&rt, &mut regions, 0, Err(Fault::NoKey));
-    closes(&rt, &mut regions, 10, Ok(b"\0\0\0\0abcd"));
-    has_bytes(&rt, &regions, 10, None);
-    has_bytes(&rt, &regions, u64::MAX, Some(b"x"));
+    assert!(rt; new_closes_one(rt.alloc()));
     Ok(())
+}
+
+/// Key, offset and bytes of a write, and the answer.
+type Put = (u64, u64, &'static [u8], Result<(), Fault>);
+
+const PUTS: [Put; 8] = [
+    (0, 4, b"wxyzv", Err(Fault::Range)),
+    (0, 8, b"", Ok(())),
+    (0, 8, b"w", Err(Fault::Range)),
+    (0, 9, b"", Err(Fault::Range)),
+    (0, u64::MAX, b"", Err(Fault::Range)),
+    (0, u64::MAX, b"w", Err(Fault::Range)),
+    (0, u64::MAX - 1, b"wx", Err(Fault::Range)),
+    (1, 0, b"", Err(Fault::NoKey)),
+];
+
+/// Whether the write gives its answer, and changes no byte of the region 0.
+fn is_put(regions: &mut Regions, put: &Put) -> bool {
+    let (key, at, src, answer) = *put;
+    writes(regions, key, at, src, answer) && has_bytes(regions, 0, &[0; 8])
+}
+
+/// The place of the first write that doesn't give its answer.
+fn first_wrong(regions: &mut Regions) -> Option<usize> {
+    for (place, put) in PUTS.iter().enumerate() {
+        if !is_put(regions, put) {
+            return Some(place);
+        }
+    }
+    None
+}
+
+/// Whether each write to a new region of eight bytes gives its answer.
+fn writes_end_within(alloc: Global) -> bool {
+    let mut regions = Regions::new(alloc);
+    registers(alloc, &mut regions, 0, READ, &[0; 8]) && first_wrong(&mut regions).is_none()
 }
 
 #[test]
 fn a_write_ends_within_the_region(rt: HostRuntime) -> Result<(), Fail> {
-    let alloc = rt.alloc();
-    let mut regions = Regions::new(alloc);
-    registers(&rt, &mut regions, 0, READ, Buf::zeros(alloc, 8)?);
-    let table: [(u64, u64, &[u8], Result<(), Fault>); 8] = [
-        (0, 4, b"wxyzv", Err(Fault::Range)),
-        (0, 8, b"", Ok(())),
-        (0, 8, b"w", Err(Fault::Range)),
-        (0, 9, b"", Err(Fault::Range)),
-        (0, u64::MAX, b"", Err(Fault::Range)),
-        (0, u64::MAX, b"w", Err(Fault::Range)),
-        (0, u64::MAX - 1, b"wx", Err(Fault::Range)),
-        (1, 0, b"", Err(Fault::NoKey)),
-    ];
-    for (key, at, src, answer) in table {
-        writes(&rt, &mut regions, (key, at, src), answer);
-        has_bytes(&rt, &regions, 0, Some(&[0; 8]));
-    }
+    assert!(rt; writes_end_within(rt.alloc()));
     Ok(())
 }

@@ -1,96 +1,74 @@
 //! Messages that come before and after their receives, and receives that are cancelled.
-ghost use Rattle.std.specs.Prelude.{ℕ, Some};
+ghost use Rattle.std.specs.Prelude.{◌≡◌};
+ghost use Rattle.fab_rx_tests.specs.Begun.{none_begun};
 
-use fab_base::{Ack, Buf, Entry, ItemHead, Kind, Outcome, Taken, Want};
-use fab_match::ListMatcher;
-use fab_record::caller::Caller;
-use fab_rx::{Cancelled, Finished, Inbox, Posted};
+use crate::calls::{ANY, begins, comes, ends, inbox_of_two, is_kept, joins, receives};
+use fab_match::Matcher;
+use fab_rx::{Cancelled, Inbox};
+use std::alloc::Global;
 use std::test::Fail;
 
-/// Calls that are numbered by hand.
-pub(crate) struct ByHand {
-    unused: (),
-}
-
-impl Caller<u64> for ByHand {
-    ghost call = { λ number. Some number };
-}
-
-pub(crate) const ANY: Want = Want {
-    tagged: false,
-    tag: 0,
-    ignore: 0,
-    source: None,
-};
-
-/// An untagged message of three bytes.
-pub(crate) const THREE: ItemHead = ItemHead {
-    kind: Kind::Msg,
-    op: 5,
-    tag: 0,
-    imm: None,
-    ack: Ack::Nothing,
-    key: 0,
-    at: 0,
-    count: 0,
-    atom: None,
-    outcome: Outcome::Done,
-    total: 3,
-};
-
-fn is_joined(posted: &Posted) -> bool {
-    matches!(posted, Posted::Joined)
-}
-
-pub(crate) fn is_kept(finished: &Finished) -> bool {
-    matches!(finished, Finished::Kept(_))
-}
-
 /// Whether the buffer that comes back has these bytes.
-fn is_left(cancelled: &Option<Cancelled>, bytes: &[u8]) -> bool {
+fn is_left(cancelled: Option<Cancelled>, bytes: &[u8]) -> bool {
     match cancelled {
         Some(cancelled) => cancelled.buf.as_slice() == bytes,
         None => false,
     }
 }
 
-/// Whether a receive got a message of so many bytes, after which its buffer has these.
-pub(crate) fn is_received(posted: &Posted, count: u32, bytes: &[u8]) -> bool {
-    match posted {
-        Posted::Whole(done) => done.good && is_success(&done.entry, count, bytes),
-        _ => false,
-    }
+fn cancels<M: Matcher>(inbox: &mut Inbox<M>, bytes: &[u8]) -> bool {
+    is_left(inbox.cancel(7), bytes)
 }
 
-fn is_success(entry: &Taken, count: u32, bytes: &[u8]) -> bool {
-    match entry {
-        Taken::Success(Entry::Received { buf, len, .. }) => {
-            *len == count && buf.as_slice() == bytes
-        }
-        _ => false,
+fn cancels_no_other<M: Matcher>(inbox: &mut Inbox<M>) -> bool {
+    inbox.cancel(6).is_none()
+}
+
+fn cancels_no_first<M: Matcher>(inbox: &mut Inbox<M>) -> bool {
+    inbox.cancel_first().is_none()
+}
+
+/// Whether the first receive that is posted is cancelled, by its own context alone.
+fn is_cancelled<M: Matcher>(alloc: Global, inbox: &mut Inbox<M>) -> bool {
+    joins(alloc, inbox, &[9, 8])
+        && cancels_no_other(inbox)
+        && cancels(inbox, &[9, 8])
+        && cancels_no_first(inbox)
+}
+
+fn is_cancelled_in_new(alloc: Global) -> bool {
+    match inbox_of_two(alloc) {
+        Some(mut inbox) => is_cancelled(alloc, &mut inbox),
+        None => false,
     }
 }
 
 #[test]
 fn the_first_posted_is_cancelled_with_its_buffer(rt: HostRuntime) -> Result<(), Fail> {
-    let buf = Buf::copy(rt.alloc(), &[9, 8])?;
-    let mut inbox = Inbox::<ListMatcher>::new(rt.alloc(), 2, 2)?;
-    assert!(rt; is_joined(&inbox.post::<u64, ByHand>(&0, ANY, buf, 7)));
-    assert!(rt; inbox.cancel(6).is_none());
-    assert!(rt; is_left(&inbox.cancel(7), &[9, 8]));
-    assert!(rt; inbox.cancel_first().is_none());
+    assert!(rt; is_cancelled_in_new(rt.alloc()));
     Ok(())
+}
+
+/// Whether a message that comes first is kept, and its receive then gets it.
+fn is_kept_for_receive<M: Matcher>(alloc: Global, inbox: &mut Inbox<M>) -> bool
+    requires { inbox.old.begun ≡ none_begun }
+{
+    if !begins(inbox, 1) {
+        return false;
+    }
+    comes(inbox, 1, &[1, 2, 3]);
+    is_kept(ends(inbox, 1)) && inbox.found(&ANY) == Some(true) && receives(alloc, inbox)
+}
+
+fn is_kept_in_new(alloc: Global) -> bool {
+    match inbox_of_two(alloc) {
+        Some(mut inbox) => is_kept_for_receive(alloc, &mut inbox),
+        None => false,
+    }
 }
 
 #[test]
 fn a_message_that_came_first_is_kept_for_its_receive(rt: HostRuntime) -> Result<(), Fail> {
-    let buf = Buf::copy(rt.alloc(), &[9, 9, 9, 9])?;
-    let mut inbox = Inbox::<ListMatcher>::new(rt.alloc(), 2, 2)?;
-    inbox.arrive(1, &THREE)?;
-    inbox.fill(1, &[1, 2, 3]);
-    assert!(rt; is_kept(&inbox.finish(1)));
-    assert_eq!(rt; inbox.found(&ANY), Some(true));
-    let posted = inbox.post::<u64, ByHand>(&0, ANY, buf, 7);
-    assert!(rt; is_received(&posted, 3, &[1, 2, 3, 9]));
+    assert!(rt; is_kept_in_new(rt.alloc()));
     Ok(())
 }

@@ -4,10 +4,11 @@ ghost use Rattle.fab_base.specs.declared.items.Ack.TheVariants.{Nothing};
 ghost use Rattle.fab_base.specs.declared.items.Kind.TheVariants.{Reply};
 ghost use Rattle.fab_base.specs.declared.items.Outcome.TheVariants.{Done};
 
-use fab_base::{Ack, Buf, Item, ItemHead, Kind, Level, NoMemory, Outcome};
+use fab_base::{Ack, Buf, Item, ItemHead, Kind, Level, Outcome};
 use fab_record::caller::Caller;
 use fab_tx::{Ended, Outbox};
 use std::alloc::Global;
+use std::test::Fail;
 
 /// Of no call.
 struct NoCall;
@@ -42,19 +43,21 @@ fn may_accept(outbox: &Outbox, dest: u32) -> bool
     outbox.has_peer(dest) && !outbox.is_full() && outbox.may_count()
 }
 
-/// Accepts a message of three bytes, where that may be.
-fn send(outbox: &mut Outbox, alloc: Global, ctx: u64, ack: Ack) -> Result<bool, NoMemory> {
-    let buf = Buf::copy(alloc, &[1, 2, 3])?;
+/// Whether a message of three bytes is accepted.
+fn sends(alloc: Global, outbox: &mut Outbox, ctx: u64, ack: Ack) -> bool {
     if !may_accept(outbox, 0) {
-        return Ok(false);
+        return false;
     }
+    let Ok(buf) = Buf::copy(alloc, &[1, 2, 3]) else {
+        return false;
+    };
     let head = head_of(Kind::Msg, outbox.ops(), ack, 0, 3);
     outbox.accept_owned::<(), NoCall>(&(), 0, head, Level::Transmit, Some(ctx), buf, false);
-    Ok(true)
+    true
 }
 
-/// Accepts an injected message of two bytes, where that may be.
-fn inject(outbox: &mut Outbox) -> bool {
+/// Whether an injected message of two bytes is accepted.
+fn injects(outbox: &mut Outbox) -> bool {
     if !may_accept(outbox, 0) {
         return false;
     }
@@ -63,12 +66,14 @@ fn inject(outbox: &mut Outbox) -> bool {
     true
 }
 
-/// Accepts a read of two bytes, where that may be.
-fn read(outbox: &mut Outbox, alloc: Global, ctx: u64) -> Result<bool, NoMemory> {
-    let buf = Buf::zeros(alloc, 2)?;
+/// Whether a read of two bytes is accepted.
+fn reads(alloc: Global, outbox: &mut Outbox, ctx: u64) -> bool {
     if !may_accept(outbox, 0) {
-        return Ok(false);
+        return false;
     }
+    let Ok(buf) = Buf::zeros(alloc, 2) else {
+        return false;
+    };
     let head = head_of(Kind::ReadReq, outbox.ops(), Ack::Nothing, 2, 0);
     outbox.accept_copied::<(), NoCall>(
         &(),
@@ -81,7 +86,7 @@ fn read(outbox: &mut Outbox, alloc: Global, ctx: u64) -> Result<bool, NoMemory> 
         Some(buf),
         false,
     );
-    Ok(true)
+    true
 }
 
 /// Whether the item that is next for peer 0 has these bytes.
@@ -103,33 +108,90 @@ fn send_next(outbox: &mut Outbox) -> Option<Ended> {
     outbox.finish(0)
 }
 
-fn context_of(ended: &Option<Ended>) -> Option<u64> {
-    ended.as_ref()?.ctx
+/// Whether the operation of this context ended.
+fn is_of(ended: Option<Ended>, ctx: u64) -> bool {
+    match ended {
+        Some(ended) => ended.ctx == Some(ctx),
+        None => false,
+    }
+}
+
+/// Whether it did, and its buffer comes back with these bytes.
+fn is_of_with(ended: Option<Ended>, ctx: u64, bytes: &[u8]) -> bool {
+    match ended {
+        Some(ended) => ended.ctx == Some(ctx) && has_bytes(&ended.buf, bytes),
+        None => false,
+    }
+}
+
+fn has_bytes(buf: &Option<Buf>, bytes: &[u8]) -> bool {
+    match buf {
+        Some(buf) => buf.as_slice() == bytes,
+        None => false,
+    }
+}
+
+/// Whether an operation ended that writes no entry and has no buffer.
+fn is_silent(ended: Option<Ended>) -> bool {
+    match ended {
+        Some(ended) => ended.silent && ended.buf.is_none(),
+        None => false,
+    }
+}
+
+/// Whether sending the next item for peer 0 ends no operation.
+fn ends_none(outbox: &mut Outbox) -> bool {
+    send_next(outbox).is_none()
+}
+
+/// Whether so many operations are under way, of which so many await a reply.
+fn counts(outbox: &Outbox, in_use: u32, awaiting: u32) -> bool {
+    outbox.in_use() == in_use && outbox.awaiting() == awaiting
+}
+
+/// Whether there are peers 0 and 1 alone.
+fn has_two_peers(outbox: &Outbox) -> bool {
+    outbox.known();
+    outbox.has_peer(1) && !outbox.has_peer(2)
+}
+
+/// Whether three operations were accepted, as many as may be under way.
+fn is_full_of_three(outbox: &Outbox) -> bool {
+    outbox.is_full() && outbox.ops() == 3 && outbox.in_use() == 3
+}
+
+/// Whether three operations are accepted, and no fourth one.
+fn accepts_three(alloc: Global, outbox: &mut Outbox) -> bool {
+    has_two_peers(outbox)
+        && sends(alloc, outbox, 7, Ack::Nothing)
+        && injects(outbox)
+        && sends(alloc, outbox, 8, Ack::Nothing)
+        && is_full_of_three(outbox)
+        && !injects(outbox)
+        && is_full_of_three(outbox)
+}
+
+/// Whether they go out in this order.
+fn sends_three(outbox: &mut Outbox) -> bool {
+    goes_next(outbox, &[1, 2, 3])
+        && is_of_with(send_next(outbox), 7, &[1, 2, 3])
+        && goes_next(outbox, &[4, 5])
+        && is_silent(send_next(outbox))
+        && is_of(send_next(outbox), 8)
+        && ends_none(outbox)
+        && counts(outbox, 0, 0)
+}
+
+fn goes_out_in_order(alloc: Global) -> bool {
+    match Outbox::new(alloc, 2, 3) {
+        Ok(mut outbox) => accepts_three(alloc, &mut outbox) && sends_three(&mut outbox),
+        Err(_) => false,
+    }
 }
 
 #[test]
-fn items_go_out_in_the_order_accepted(rt: HostRuntime) -> Result<(), NoMemory> {
-    let mut outbox = Outbox::new(rt.alloc(), 2, 3)?;
-    outbox.known();
-    assert!(rt; outbox.has_peer(1) && !outbox.has_peer(2));
-    assert!(rt; send(&mut outbox, rt.alloc(), 7, Ack::Nothing)?);
-    assert!(rt; inject(&mut outbox));
-    assert!(rt; send(&mut outbox, rt.alloc(), 8, Ack::Nothing)?);
-    assert!(rt; outbox.is_full() && !inject(&mut outbox));
-    assert_eq!(rt; outbox.in_use(), 3);
-    assert_eq!(rt; outbox.ops(), 3);
-    assert!(rt; goes_next(&outbox, &[1, 2, 3]));
-    let first = send_next(&mut outbox);
-    assert_eq!(rt; context_of(&first), Some(7));
-    assert!(rt;
-        first.is_some_and(|ended| ended
-            .buf
-            .is_some_and(|buf| buf.as_slice() == [1, 2, 3].as_slice()))
-    );
-    assert!(rt; goes_next(&outbox, &[4, 5]));
-    assert!(rt; send_next(&mut outbox).is_some_and(|ended| ended.silent && ended.buf.is_none()));
-    assert_eq!(rt; context_of(&send_next(&mut outbox)), Some(8));
-    assert!(rt; send_next(&mut outbox).is_none() && outbox.in_use() == 0);
+fn items_go_out_in_the_order_accepted(rt: HostRuntime) -> Result<(), Fail> {
+    assert!(rt; goes_out_in_order(rt.alloc()));
     Ok(())
 }
 
@@ -140,39 +202,71 @@ fn reply_to(op: u64, total: u32) -> ItemHead
     head_of(Kind::Reply, op, Ack::Nothing, 0, total)
 }
 
+/// Whether the reply of a peer ends the operation of this context.
+fn answers(outbox: &mut Outbox, op: u64, total: u32, ctx: u64) -> bool {
+    is_of(outbox.answer(0, &reply_to(op, total)), ctx)
+}
+
+/// Whether the reply of a peer ends no operation.
+fn answers_none(outbox: &mut Outbox, source: u32, op: u64, total: u32) -> bool {
+    outbox.answer(source, &reply_to(op, total)).is_none()
+}
+
+/// Whether the reply of peer 0 would end an operation, and whether that one is silent.
+fn answered(outbox: &Outbox, op: u64, total: u32) -> Option<bool> {
+    outbox.answered(0, &reply_to(op, total))
+}
+
+/// Whether a read and a message that its target answers are sent, and await their replies.
+fn awaits_two(alloc: Global, outbox: &mut Outbox) -> bool {
+    reads(alloc, outbox, 7)
+        && sends(alloc, outbox, 8, Ack::Delivery)
+        && counts(outbox, 2, 0)
+        && answered(outbox, 0, 2).is_none()
+        && goes_next(outbox, &[])
+        && ends_none(outbox)
+        && ends_none(outbox)
+        && counts(outbox, 2, 2)
+}
+
+/// Whether each ends with its own reply.
+fn ends_two(outbox: &mut Outbox) -> bool {
+    answers_none(outbox, 0, 0, 1)
+        && answers_none(outbox, 1, 0, 2)
+        && answered(outbox, 1, 0) == Some(false)
+        && answers(outbox, 1, 0, 8)
+        && answers(outbox, 0, 2, 7)
+        && counts(outbox, 0, 0)
+}
+
+fn replies_are_awaited(alloc: Global) -> bool {
+    match Outbox::new(alloc, 1, 3) {
+        Ok(mut outbox) => awaits_two(alloc, &mut outbox) && ends_two(&mut outbox),
+        Err(_) => false,
+    }
+}
+
 #[test]
-fn an_operation_that_is_answered_awaits_its_reply(rt: HostRuntime) -> Result<(), NoMemory> {
-    let mut outbox = Outbox::new(rt.alloc(), 1, 3)?;
-    assert!(rt; read(&mut outbox, rt.alloc(), 7)?);
-    assert!(rt; send(&mut outbox, rt.alloc(), 8, Ack::Delivery)?);
-    assert!(rt; outbox.awaiting() == 0 && outbox.answered(0, &reply_to(0, 2)).is_none());
-    assert!(rt; goes_next(&outbox, &[]));
-    assert!(rt; send_next(&mut outbox).is_none() && send_next(&mut outbox).is_none());
-    assert!(rt; outbox.awaiting() == 2 && outbox.in_use() == 2);
-    assert!(rt;
-        outbox.answer(0, &reply_to(0, 1)).is_none() && outbox.answer(1, &reply_to(0, 2)).is_none()
-    );
-    assert_eq!(rt; outbox.answered(0, &reply_to(1, 0)), Some(false));
-    assert_eq!(rt; context_of(&outbox.answer(0, &reply_to(1, 0))), Some(8));
-    assert_eq!(rt; context_of(&outbox.answer(0, &reply_to(0, 2))), Some(7));
-    assert!(rt; outbox.awaiting() == 0 && outbox.in_use() == 0);
+fn an_operation_that_is_answered_awaits_its_reply(rt: HostRuntime) -> Result<(), Fail> {
+    assert!(rt; replies_are_awaited(rt.alloc()));
     Ok(())
 }
 
-/// Books a reply of one byte to peer 0, where it is a peer.
-fn book(outbox: &mut Outbox, alloc: Global) -> Result<bool, NoMemory> {
-    let bytes = Buf::copy(alloc, &[6])?;
-    if !outbox.has_peer(0) {
-        return Ok(false);
-    }
+/// Whether a reply of one byte to peer 0 is booked.
+fn books(alloc: Global, outbox: &mut Outbox) -> bool {
     outbox.known();
-    outbox.make_room(0)?;
+    if !outbox.has_peer(0) || outbox.make_room(0).is_err() {
+        return false;
+    }
+    let Ok(bytes) = Buf::copy(alloc, &[6]) else {
+        return false;
+    };
     let reply = Item {
         head: reply_to(0, 1),
         bytes,
     };
     outbox.book(0, reply);
-    Ok(true)
+    true
 }
 
 /// Posts one byte of the next item for peer 0, where there are more.
@@ -192,17 +286,37 @@ fn writes(outbox: &Outbox) -> bool {
     outbox.has_peer(0) && outbox.writes(0)
 }
 
+/// Whether a reply is booked between two operations.
+fn books_between(alloc: Global, outbox: &mut Outbox) -> bool {
+    sends(alloc, outbox, 7, Ack::Nothing)
+        && books(alloc, outbox)
+        && injects(outbox)
+        && counts(outbox, 2, 0)
+}
+
+/// Whether it goes out between them.
+fn sends_between(outbox: &mut Outbox) -> bool {
+    writes(outbox)
+        && post_a_byte(outbox) == Some(1)
+        && is_of(send_next(outbox), 7)
+        && goes_next(outbox, &[6])
+        && !writes(outbox)
+        && post_a_byte(outbox) == Some(0)
+        && ends_none(outbox)
+        && counts(outbox, 1, 0)
+        && goes_next(outbox, &[4, 5])
+        && !writes(outbox)
+}
+
+fn goes_out_between(alloc: Global) -> bool {
+    match Outbox::new(alloc, 1, 3) {
+        Ok(mut outbox) => books_between(alloc, &mut outbox) && sends_between(&mut outbox),
+        Err(_) => false,
+    }
+}
+
 #[test]
-fn a_reply_goes_out_behind_what_was_accepted(rt: HostRuntime) -> Result<(), NoMemory> {
-    let mut outbox = Outbox::new(rt.alloc(), 1, 3)?;
-    assert!(rt; send(&mut outbox, rt.alloc(), 7, Ack::Nothing)?);
-    assert!(rt; book(&mut outbox, rt.alloc())? && inject(&mut outbox));
-    assert!(rt; outbox.in_use() == 2 && writes(&outbox));
-    assert_eq!(rt; post_a_byte(&mut outbox), Some(1));
-    assert_eq!(rt; context_of(&send_next(&mut outbox)), Some(7));
-    assert!(rt; goes_next(&outbox, &[6]) && !writes(&outbox));
-    assert_eq!(rt; post_a_byte(&mut outbox), Some(0));
-    assert!(rt; send_next(&mut outbox).is_none() && outbox.in_use() == 1);
-    assert!(rt; goes_next(&outbox, &[4, 5]) && !writes(&outbox));
+fn a_reply_goes_out_behind_what_was_accepted(rt: HostRuntime) -> Result<(), Fail> {
+    assert!(rt; goes_out_between(rt.alloc()));
     Ok(())
 }
