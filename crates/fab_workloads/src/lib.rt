@@ -11,8 +11,6 @@ mod bench;
 mod generator;
 mod lines;
 mod script;
-#[cfg(test)]
-mod tests;
 mod workload;
 
 pub use bench::bench_line;
