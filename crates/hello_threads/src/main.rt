@@ -4,7 +4,7 @@
 //! fi_domain(3)), so each waits by reading its completion queue.
 #![tactic(auto)]
 
-use fab_base::{Buf, Caps, Entry, Fault, Flags, Hints, Level};
+use fab_base::{Buf, Caps, Entry, Fault, Flags, Hints, Level, NoMemory};
 use fab_domain::{RingEndpoint, endpoints};
 use fab_face::calls::{Messages, Progress, Receives};
 use fab_info::getinfo;
@@ -30,9 +30,9 @@ const FLAGS: Flags = Flags {
     level: Level::Transmit,
 };
 
-/// Opens the endpoints of two peers that may send and receive tagged messages.
-fn open(alloc: Global) -> Result<(RingEndpoint, RingEndpoint), Fault> {
-    let hints = Hints {
+/// What is asked for: two peers that may send and receive tagged messages.
+fn hints() -> Hints {
+    Hints {
         caps: Caps {
             tagged: true,
             ..Caps::none()
@@ -46,12 +46,13 @@ fn open(alloc: Global) -> Result<(RingEndpoint, RingEndpoint), Fault> {
         log: None,
         inject: None,
         message: None,
-    };
-    let info = getinfo(Some(&hints))?;
-    let mut all = endpoints(alloc, &info, false)?;
-    let one = all.pop().ok_or(Fault::NoEntry)?;
-    let zero = all.pop().ok_or(Fault::NoEntry)?;
-    Ok((zero, one))
+    }
+}
+
+/// Opens the endpoints of all peers.
+fn open(alloc: Global) -> Result<Vec<RingEndpoint>, Fault> {
+    let info = getinfo(Some(&hints()))?;
+    endpoints(alloc, &info, false)
 }
 
 /// A message as it came.
@@ -128,25 +129,69 @@ fn print(rt: &HostRuntime, who: &str, message: Option<Message>) -> io::Result<()
     println!(rt; "{}: from {}: {}", who, message.source, text)
 }
 
+/// What each peer sends, and the buffers for what it receives.
+#[derive(Drop)]
+struct Texts {
+    question: Buf,
+    reply: Buf,
+    room: Buf,
+    reply_room: Buf,
+}
+
+fn make_texts(alloc: Global) -> Result<Texts, NoMemory> {
+    Ok(Texts {
+        question: Buf::copy(alloc, b"six times seven")?,
+        reply: Buf::copy(alloc, b"forty-two")?,
+        room: Buf::zeros(alloc, 15)?,
+        reply_room: Buf::zeros(alloc, 9)?,
+    })
+}
+
 /// Lets two threads speak, and gives what each received.
-fn exchange<R: Threads + Wait + Sync>(
+fn speak<R: Threads + Wait + Sync, E: Calls + Drop + Send>(
     rt: &R,
-    alloc: Global,
-) -> Result<(Option<Message>, Option<Message>), Fault> {
-    let question = Buf::copy(alloc, b"six times seven")?;
-    let reply = Buf::copy(alloc, b"forty-two")?;
-    let room = Buf::zeros(alloc, 15)?;
-    let reply_room = Buf::zeros(alloc, 9)?;
-    let (zero, one) = open(alloc)?;
-    Ok(thread::join(
+    zero: E,
+    one: E,
+    texts: Texts,
+) -> (Option<Message>, Option<Message>) {
+    let Texts {
+        question,
+        reply,
+        room,
+        reply_room,
+    } = texts;
+    thread::join(
         rt,
         || -> Option<Message> { answer(rt, zero, room, reply) },
         || -> Option<Message> { ask(rt, one, reply_room, question) },
-    ))
+    )
+}
+
+/// Lets the first two peers speak, each in a thread of its own.
+fn speak_all<R: Threads + Wait + Sync, E: Calls + Drop + Send>(
+    rt: &R,
+    mut all: Vec<E>,
+    texts: Texts,
+) -> Option<(Option<Message>, Option<Message>)> {
+    let one = all.pop()?;
+    let zero = all.pop()?;
+    Some(speak(rt, zero, one, texts))
+}
+
+/// Opens the endpoints, and lets them speak.
+fn exchange<R: Threads + Wait + Sync>(
+    rt: &R,
+    alloc: Global,
+) -> Option<(Option<Message>, Option<Message>)> {
+    let texts = make_texts(alloc).ok()?;
+    match open(alloc) {
+        Ok(all) => speak_all(rt, all, texts),
+        Err(_) => None,
+    }
 }
 
 fn main(rt: HostRuntime) -> io::Result<()> {
-    let Ok((asked, told)) = exchange(&rt, rt.alloc()) else {
+    let Some((asked, told)) = exchange(&rt, rt.alloc()) else {
         return println!(rt; "not opened");
     };
     print(&rt, "peer 0", asked)?;
