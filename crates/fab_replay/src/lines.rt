@@ -1,5 +1,5 @@
 //! The call that a line makes, with the bytes of its payload files.
-ghost use Rattle.std.specs.Prelude.{◌≡◌, IfOk, Some};
+ghost use Rattle.std.specs.Prelude.{◌≡◌, IfOk, IfSome, None, Some};
 ghost use Rattle.std.specs.Option.{option_map};
 ghost use Rattle.fab_base.specs.declared.items.Kind.TheVariants.{Msg, TagMsg};
 ghost use Rattle.fab_base.specs.declared.script.Bound.{Bound as BoundScript};
@@ -8,8 +8,8 @@ ghost use Rattle.fab_model.specs.Calls.{Look, word_bytes, message, request, atom
 ghost use Rattle.fab_machine.specs.Seen.{seen_call};
 
 use fab_base::{
-    Atom, AtomicOp, Bound, Buf, BytesWord, Flags, Form, Kind, Level, LineOp, NoMemory, Num,
-    Payload, PeekHow, Text,
+    Atom, Bound, Buf, BytesWord, Flags, Form, Kind, Level, LineOp, NoMemory, Num, Payload, PeekHow,
+    Text,
 };
 use fab_machine::calls::Call;
 use fab_items::lists::split;
@@ -50,26 +50,24 @@ fn bytes_of(alloc: Global, bound: &Bound, word: &BytesWord) -> Result<Buf, NoMem
     }
 }
 
-fn flags(level: Level, completion: bool) -> Flags
-    ensures { result ≡ record { completion = completion; level = level } }
-{
-    Flags { completion, level }
-}
-
-/// A call that sends a message.
+/// A call that sends a message, with a tag where there is one.
 fn message(
     alloc: Global,
-    kind: Kind,
     ctx: Option<u64>,
     dest: u32,
-    tag: u64,
+    tag: Option<u64>,
     bytes: Buf,
     imm: Option<u64>,
     flags: Flags,
 ) -> Result<Option<Call>, NoMemory>
-    ensures { IfOk result (λ call. option_map seen_call call ≡ Some (message kind ctx dest tag bytes imm flags.level flags.completion)) }
+    ensures untagged { tag ≡ None → IfOk result (λ call. option_map seen_call call ≡ Some (message Msg ctx dest 0 bytes imm flags.level flags.completion)) }
+    ensures tagged { IfSome tag (λ t. IfOk result (λ call. option_map seen_call call ≡ Some (message TagMsg ctx dest t bytes imm flags.level flags.completion))) }
 {
     let buf = bytes.clone()?;
+    let (kind, tag) = match tag {
+        None => (Kind::Msg, 0),
+        Some(tag) => (Kind::TagMsg, tag),
+    };
     Ok(Some(Call::Transmit(Order {
         kind,
         injected: ctx.is_none(),
@@ -89,35 +87,6 @@ fn message(
     })))
 }
 
-/// A call that sends a message without a tag.
-fn untagged(
-    alloc: Global,
-    ctx: Option<u64>,
-    dest: u32,
-    bytes: Buf,
-    imm: Option<u64>,
-    flags: Flags,
-) -> Result<Option<Call>, NoMemory>
-    ensures { IfOk result (λ call. option_map seen_call call ≡ Some (message Msg ctx dest 0 bytes imm flags.level flags.completion)) }
-{
-    message(alloc, Kind::Msg, ctx, dest, 0, bytes, imm, flags)
-}
-
-/// A call that sends a message with a tag.
-fn tagged(
-    alloc: Global,
-    ctx: Option<u64>,
-    dest: u32,
-    tag: u64,
-    bytes: Buf,
-    imm: Option<u64>,
-    flags: Flags,
-) -> Result<Option<Call>, NoMemory>
-    ensures { IfOk result (λ call. option_map seen_call call ≡ Some (message TagMsg ctx dest tag bytes imm flags.level flags.completion)) }
-{
-    message(alloc, Kind::TagMsg, ctx, dest, tag, bytes, imm, flags)
-}
-
 /// The call of a line that sends a message and asks how it went. It gives up at a line of another kind.
 #[tactic(auto, unfolding(fab_model::specs::Calls::call_of))]
 fn send_call(alloc: Global, bound: &Bound, op: &LineOp) -> Result<Option<Call>, NoMemory>
@@ -133,8 +102,11 @@ fn send_call(alloc: Global, bound: &Bound, op: &LineOp) -> Result<Option<Call>, 
             completion,
         } => {
             let bytes = bytes_of(alloc, bound, bytes)?;
-            let flags = flags(*level, *completion);
-            untagged(alloc, Some(*ctx), *dest, bytes, *imm, flags)
+            let flags = Flags {
+                completion: *completion,
+                level: *level,
+            };
+            message(alloc, Some(*ctx), *dest, None, bytes, *imm, flags)
         }
         LineOp::TSend {
             ctx,
@@ -146,8 +118,11 @@ fn send_call(alloc: Global, bound: &Bound, op: &LineOp) -> Result<Option<Call>, 
             completion,
         } => {
             let bytes = bytes_of(alloc, bound, bytes)?;
-            let flags = flags(*level, *completion);
-            tagged(alloc, Some(*ctx), *dest, *tag, bytes, *imm, flags)
+            let flags = Flags {
+                completion: *completion,
+                level: *level,
+            };
+            message(alloc, Some(*ctx), *dest, Some(*tag), bytes, *imm, flags)
         }
         _ => Err(NoMemory),
     }
@@ -158,11 +133,14 @@ fn send_call(alloc: Global, bound: &Bound, op: &LineOp) -> Result<Option<Call>, 
 fn inject_call(alloc: Global, bound: &Bound, op: &LineOp) -> Result<Option<Call>, NoMemory>
     ensures { IfOk result (λ call. option_map seen_call call ≡ call_of (bind_op bound.now op.now)) }
 {
-    let flags = flags(Level::Inject, false);
+    let flags = Flags {
+        completion: false,
+        level: Level::Inject,
+    };
     match op {
         LineOp::Inject { dest, bytes, imm } => {
             let bytes = bytes_of(alloc, bound, bytes)?;
-            untagged(alloc, None, *dest, bytes, *imm, flags)
+            message(alloc, None, *dest, None, bytes, *imm, flags)
         }
         LineOp::TInject {
             dest,
@@ -171,7 +149,7 @@ fn inject_call(alloc: Global, bound: &Bound, op: &LineOp) -> Result<Option<Call>
             imm,
         } => {
             let bytes = bytes_of(alloc, bound, bytes)?;
-            tagged(alloc, None, *dest, *tag, bytes, *imm, flags)
+            message(alloc, None, *dest, Some(*tag), bytes, *imm, flags)
         }
         _ => Err(NoMemory),
     }
@@ -449,12 +427,6 @@ fn fetched(num: Num, values: &Buf, count: u32) -> u64
     len as u64
 }
 
-fn atom(op: AtomicOp, num: Num, form: Form) -> Atom
-    ensures { result ≡ record { op = op; num = num; form = form } }
-{
-    Atom { op, num, form }
-}
-
 /// The call of the line `atomic`. It gives up at a line of another kind.
 #[tactic(auto, unfolding(fab_model::specs::Calls::call_of))]
 fn update_call(alloc: Global, op: &LineOp) -> Result<Option<Call>, NoMemory>
@@ -473,7 +445,11 @@ fn update_call(alloc: Global, op: &LineOp) -> Result<Option<Call>, NoMemory>
     else {
         return Err(NoMemory);
     };
-    let atom = atom(*op, *num, Form::Base);
+    let atom = Atom {
+        op: *op,
+        num: *num,
+        form: Form::Base,
+    };
     let count = values.as_slice().len() as u64;
     let values = values.clone()?;
     let none = Buf::empty(alloc);
@@ -509,7 +485,11 @@ fn fetch_call(alloc: Global, op: &LineOp) -> Result<Option<Call>, NoMemory>
     else {
         return Err(NoMemory);
     };
-    let atom = atom(*op, *num, Form::Fetch);
+    let atom = Atom {
+        op: *op,
+        num: *num,
+        form: Form::Fetch,
+    };
     let count = fetched(*num, values, *count);
     let values = values.clone()?;
     let none = Buf::empty(alloc);
@@ -546,7 +526,11 @@ fn compare_call(alloc: Global, op: &LineOp) -> Result<Option<Call>, NoMemory>
     else {
         return Err(NoMemory);
     };
-    let atom = atom(*op, *num, Form::Compare);
+    let atom = Atom {
+        op: *op,
+        num: *num,
+        form: Form::Compare,
+    };
     let count = values.as_slice().len() as u64;
     let values = values.clone()?;
     let compares = compares.clone()?;
