@@ -11,3 +11,4 @@ pub mod Releasing
 pub mod Lanes
 pub mod Coming
 pub mod Wholes
+pub mod Rounds
