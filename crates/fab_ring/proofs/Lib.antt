@@ -12,3 +12,4 @@ pub mod Lanes
 pub mod Coming
 pub mod Wholes
 pub mod Rounds
+pub mod Trying

@@ -66,6 +66,7 @@ impl RingPort {
             dest: to,
             put,
             number: self.clock + 1,
+            cell,
             place: (lane * room + cell) as usize,
         };
         if !send_next(&self.fabric, &mut self.seat, &next, head, bytes) {
