@@ -61,11 +61,6 @@ raised_all : (ts : List ℕ) → raised (length ts) ts ≡ one_more ts
 raised_all [] = refl
 raised_all (t ∷ ts) = ap (λ (z : List ℕ). (t + 1) ∷ z) (raised_all ts)
 
-raised_past : (j : ℕ) (ts : List ℕ) → slice_index (raised j ts) j ≡ slice_index ts j
-raised_past zero ts = refl
-raised_past (suc j) [] = refl
-raised_past (suc j) (t ∷ ts) = raised_past j ts
-
 module _ (p p' : Part) (d : ℕ) (o : Out) (ms : List Move) (near : d < length p.outs) (is : p' ≡ with_out p d o ms) where
   out_here : out_at p' d ≡ o
   out_here = ap (λ (z : Part). out_at z d) is ∙ get_or-set_same p.outs d o (new_out 0) near
@@ -89,11 +84,11 @@ full_noticed o ts f (inr t) = ((let e = t.0 in omega arith), inr (inr (inl t.0),
 
 sent_noticed : (o : Out) (pool : ℕ) (slot : Option ℕ) (ts : List ℕ) (f : ℕ) → IsSent o pool slot ts f → ((least ts ≡ least o.tried) × (f ≡ o.full_at)) ⊎ ((least o.tried < least ts) × (f ≡ length o.posted))
 sent_noticed o pool slot ts f (inl t) = inl (ap least t.1, t.2)
-sent_noticed o pool slot ts f (inr t) = t.2.1
+sent_noticed o pool slot ts f (inr t) = t.2.2
 
 sent_some : (o : Out) (pool : ℕ) (slot : Option ℕ) (ts : List ℕ) (f : ℕ) → 0 < pool → IsSent o pool slot ts f → (j : ℕ) × (j < pool) × (slice_index ts j ≡ slice_index o.tried j)
 sent_some o pool slot ts f pos (inl t) = (0, pos, ap (λ (z : List ℕ). slice_index z 0) t.1)
-sent_some o pool slot ts f pos (inr t) = (t.0, t.1, ap (λ (z : List ℕ). slice_index z t.0) t.2.0 ∙ raised_past t.0 o.tried)
+sent_some o pool slot ts f pos (inr t) = (t.0, t.1, t.2.0)
 
 not_ok : {x : Unit {0}} {e : PostRefused} → Ok x ≡ Err e → ⊥
 not_ok e = cc

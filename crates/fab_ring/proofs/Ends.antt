@@ -51,20 +51,16 @@ pub least_all : (ts : List ℕ) → 0 < length ts → least (raised (length ts) 
 least_all [] h = absurd (let no_one : 0 < 0 = h in omega arith)
 least_all (t ∷ ts) h = from_all t ts
 
-raised_more : (j : ℕ) (ts : List ℕ) → j < length ts → tried_more (raised j ts) j ≡ raised (suc j) ts
+pub raised_more : (j : ℕ) (ts : List ℕ) → j < length ts → tried_more (raised j ts) j ≡ raised (suc j) ts
 raised_more j [] h = absurd (let no_one : j < 0 = h in omega arith)
 raised_more zero (t ∷ ts) h = refl
 raised_more (suc j) (t ∷ ts) h = ap (λ (z : List ℕ). (t + 1) ∷ z) (raised_more j ts (omega arith))
 
-full_by : (o : Out) (ts : List ℕ) (f j : ℕ) (b : Bool) → nat_lt (least ts) (least (tried_more ts j)) ≡ b → ((least ts ≡ least o.tried) × (f ≡ o.full_at)) ⊎ ((least o.tried < least ts) × (f ≡ length o.posted))
+pub full_by : (o : Out) (ts : List ℕ) (f j : ℕ) (b : Bool) → nat_lt (least ts) (least (tried_more ts j)) ≡ b → ((least ts ≡ least o.tried) × (f ≡ o.full_at)) ⊎ ((least o.tried < least ts) × (f ≡ length o.posted))
     → ((least (tried_more ts j) ≡ least o.tried) × ((if b then length o.posted else f) ≡ o.full_at)) ⊎ ((least o.tried < least (tried_more ts j)) × ((if b then length o.posted else f) ≡ length o.posted))
 full_by o ts f j true is was = let lt = ltb-true (least ts) (least (tried_more ts j)) is in inr (⊎_elim (λ w. let e = w.0 in omega arith) (λ w. let e = w.0 in omega arith) was, refl)
 full_by o ts f j false is was = let le = least_up ts j in let ge = ltb-false (least ts) (least (tried_more ts j)) is in let same : least (tried_more ts j) ≡ least ts = omega arith in
     ⊎_elim (λ w. inl (same ∙ w.0, w.1)) (λ w. inr (let e = w.0 in omega arith, w.1)) was
-
--- one try more
-pub tried_up : (o : Out) (j : ℕ) (ts : List ℕ) (f : ℕ) → IsTried o j ts f → j < length o.tried → IsTried o (j + 1) (tried_more ts j) (if nat_lt (least ts) (least (tried_more ts j)) then length o.posted else f)
-tried_up o j ts f t near = (ap (λ (z : List ℕ). tried_more z j) t.0 ∙ raised_more j o.tried near ∙ ap (λ (n : ℕ). raised n o.tried) (let e : suc j ≡ j + 1 = omega arith in e), full_by o ts f j (nat_lt (least ts) (least (tried_more ts j))) refl t.1)
 
 pub part_set : (v : View) (p : Part) → length v.parts ≡ 1 → part_at (with_part v 0 p) 0 ≡ p
 part_set v p one = get_or-set_same v.parts 0 p (new_part 0 0 0 0) (omega arith)
@@ -191,7 +187,7 @@ sent_over v d one near o o' n = let p : Part = part_at v 0 in let ms : List Move
     (λ i. with_part (new_out_view v 0 d o) 0 (with_out (part_out v d one near o i) d o' ((part_out v d one near o i).moves ++ Post d n ∷ [])))
     ∙ ap (λ (z : Part). with_part (new_out_view v 0 d o) 0 z) (out_over p d o o' p.moves ms) ∙ (λ i. record { parts = set-set v.parts 0 (with_out p d o p.moves) (with_out p d o' ms) i })
 
-raised_length : (j : ℕ) (ts : List ℕ) → length (raised j ts) ≡ length ts
+pub raised_length : (j : ℕ) (ts : List ℕ) → length (raised j ts) ≡ length ts
 raised_length zero ts = refl
 raised_length (suc j) [] = refl
 raised_length (suc j) (t ∷ ts) = ap suc (raised_length j ts)
@@ -201,7 +197,7 @@ tried_length o j ts f t = ap length t.0 ∙ raised_length j o.tried
 
 pub sent_length : (o : Out) (pool : ℕ) (slot : Option ℕ) (ts : List ℕ) (f : ℕ) → IsSent o pool slot ts f → length ts ≡ length o.tried
 sent_length o pool slot ts f (inl t) = ap length t.1
-sent_length o pool slot ts f (inr t) = tried_length o t.0 ts f t.2
+sent_length o pool slot ts f (inr t) = t.2.1
 
 pub in_over : (p : Part) (s : ℕ) (u u' : In) (ms ms' : List Move) → with_in (with_in p s u ms) s u' ms' ≡ with_in p s u' ms'
 in_over p s u u' ms ms' = λ i. record { me = p.me; peers = p.peers; room = p.room; pool = p.pool; outs = p.outs; ins = set-set p.ins s u u' i; moves = ms' }

@@ -11,3 +11,5 @@ pub mod Releasing
 pub mod Lanes
 pub mod Coming
 pub mod Wholes
+pub mod Rounds
+pub mod Trying

@@ -3,10 +3,11 @@
 --     ring h n f            the lists h f, .., h (n - 1), h 0, .., h (f - 1), one after the other
 --     held p s              the places in hand for the frame of s that is open
 --     Fits                  what a port keeps agrees with what its seat knows
+--     Rounds                the cells of the next frames are those of their numbers
 --     Told                  the commands and buffers that a port keeps say its open frames
 --     Ends                  the heads that a port keeps are those of the last frames posted and taken
 --     Comes                 an open frame may come behind those taken
-use Rattle.std.specs.Prelude.{◌≡◌, ℕ, zero, suc, ◌+◌, ◌-◌, ◌*◌, ◌^◌, ◌<◌, ◌≤◌, Bool, true, false, List, [], ◌∷◌, ◌++◌, length, map, slice_index, slice_index_or, slice_get, Option, Some, None}
+use Rattle.std.specs.Prelude.{◌≡◌, ℕ, zero, suc, ◌+◌, ◌-◌, ◌*◌, ◌%◌, ◌^◌, ◌<◌, ◌≤◌, Bool, true, false, List, [], ◌∷◌, ◌++◌, length, map, slice_index, slice_index_or, slice_get, Option, Some, None}
 use Rattle.std.specs.Option.{is_some}
 use Rattle.fab_base.specs.declared.frames.FrameHead.{FrameHead}
 use Rattle.fab_wire.specs.Frames.{last_head, MayCome}
@@ -84,6 +85,13 @@ pub record Fits (me peers room pool clock turn : ℕ) (puts gots : List ℕ) (op
   pub each_got : (s : ℕ) → s < peers → (slice_index gots s ≡ length (in_at p s).taken) × (slice_index_or open_now s false ≡ is_some (in_at p s).opened) × (slice_index_or lent s false ≡ (in_at p s).lent)
       × ((x : Sent) → (in_at p s).opened ≡ Some x → length (in_at p s).taken + 1 < 2 ^ 64) × ((in_at p s).lent ≡ true → HasSlot (peers * pool) (in_at p s).opened)
   pub hand_is : hand ≡ ring (held p) peers turn
+
+-- round a lane of so many cells
+pub record Rounds (peers room : ℕ) (puts gots put_cells got_cells : List ℕ) : Type 0 where
+  pub all_put_cells : length put_cells ≡ peers
+  pub all_got_cells : length got_cells ≡ peers
+  pub each_put_cell : (d : ℕ) → d < peers → slice_index put_cells d ≡ slice_index puts d % room
+  pub each_got_cell : (s : ℕ) → s < peers → slice_index got_cells s ≡ slice_index gots s % room
 
 -- a command and a buffer say a frame
 abbrev pub Tells : Sent → Command → List ℕ → Type 0

@@ -1,8 +1,11 @@
--- Tries on the slots of a pool, one after the other from the first on.
+-- Tries on the slots of a pool, one after the other.
 --     raised j ts           the counts after a try on each of the first j slots found it taken
---     IsTried o j ts f      so are the counts ts after them, and f is where the least of them last rose
+--     between a b ts        those after a try on each from the a-th to the one before the b-th did
+--     AreCounts o ts f      f is where the least of the counts ts last rose
+--     IsTried o j ts f      ts are the counts after the tries on the first j slots
+--     IsMissed o j ts f     the j-th slot wasn't found taken
 --     tried_out, posted_out, full_out ..    a lane after what one call did
-use Rattle.std.specs.Prelude.{◌≡◌, ℕ, zero, suc, ◌+◌, ◌<◌, ◌⊎◌, Bool, List, [], ◌∷◌, length, Option, None}
+use Rattle.std.specs.Prelude.{◌≡◌, ℕ, zero, suc, ◌+◌, ◌<◌, ◌⊎◌, Bool, List, [], ◌∷◌, length, slice_index, Option, None}
 use Rattle.fab_base.specs.declared.frames.FrameHead.{FrameHead}
 use Rattle.fab_wire.specs.Frames.{frame}
 use Rattle.fab_table.specs.declared.kinds.Sent.{Sent}
@@ -14,8 +17,23 @@ raised zero ts = ts
 raised (suc j) [] = []
 raised (suc j) (t ∷ ts) = (t + 1) ∷ raised j ts
 
+abbrev pub between : ℕ → ℕ → List ℕ → List ℕ
+between zero b ts = raised b ts
+between (suc a) zero ts = ts
+between (suc a) (suc b) [] = []
+between (suc a) (suc b) (t ∷ ts) = t ∷ between a b ts
+
+abbrev pub AreCounts : Out → List ℕ → ℕ → Type 0
+AreCounts o ts f = ((least ts ≡ least o.tried) × (f ≡ o.full_at)) ⊎ ((least o.tried < least ts) × (f ≡ length o.posted))
+
 abbrev pub IsTried : Out → ℕ → List ℕ → ℕ → Type 0
-IsTried o j ts f = (ts ≡ raised j o.tried) × (((least ts ≡ least o.tried) × (f ≡ o.full_at)) ⊎ ((least o.tried < least ts) × (f ≡ length o.posted)))
+IsTried o j ts f = (ts ≡ raised j o.tried) × AreCounts o ts f
+
+abbrev pub IsTriedFrom : Out → ℕ → ℕ → List ℕ → ℕ → Type 0
+IsTriedFrom o a b ts f = (ts ≡ between a b o.tried) × AreCounts o ts f
+
+abbrev pub IsMissed : Out → ℕ → List ℕ → ℕ → Type 0
+IsMissed o j ts f = (slice_index ts j ≡ slice_index o.tried j) × (length ts ≡ length o.tried) × AreCounts o ts f
 
 -- a lane with these counts, and this cell and slot in hand
 abbrev pub tried_out : Out → List ℕ → ℕ → Bool → Option ℕ → Out
@@ -27,4 +45,4 @@ sent_as head bytes n slot = record { frame = frame head bytes; number = n; slot 
 
 -- a frame got this slot, or none, with these counts of the tries before
 abbrev pub IsSent : Out → ℕ → Option ℕ → List ℕ → ℕ → Type 0
-IsSent o pool slot ts f = ((slot ≡ None) × (ts ≡ o.tried) × (f ≡ o.full_at)) ⊎ ((j : ℕ) × (j < pool) × IsTried o j ts f)
+IsSent o pool slot ts f = ((slot ≡ None) × (ts ≡ o.tried) × (f ≡ o.full_at)) ⊎ ((j : ℕ) × (j < pool) × IsMissed o j ts f)

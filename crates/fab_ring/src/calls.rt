@@ -1,5 +1,5 @@
 //! What the calls of a port do to what its seat knows.
-ghost use Rattle.std.specs.Prelude.{◌≡◌, ◌≢◌, ℕ, ◌+◌, ◌-◌, ◌*◌, ◌<◌, ◌≤◌, ◌^◌, ◌⊎◌, true, false, List, [], ◌∷◌, ◌++◌, length, Option, None, Some, IsSome, IsErrOf, OnOk, Err};
+ghost use Rattle.std.specs.Prelude.{◌≡◌, ◌≢◌, ℕ, ◌+◌, ◌-◌, ◌*◌, ◌%◌, ◌<◌, ◌≤◌, ◌^◌, ◌⊎◌, true, false, List, [], ◌∷◌, ◌++◌, length, Option, None, Some, IsSome, IsErrOf, OnOk, Err};
 ghost use Rattle.fab_wire.specs.declared.moves.Move.TheVariants.{Post, Take};
 ghost use Rattle.fab_wire.specs.Frames.{last_head, Continues, MayCome};
 ghost use Rattle.fab_link.specs.Plain.{lent_frames};
@@ -17,6 +17,17 @@ use fab_link::PostRefused;
 
 /// A frame's number is at most this.
 const MOST: u64 = 1 << 62;
+
+/// The cell behind this one, round a lane of so many.
+fn cell_after(cell: u64, room: u64) -> u64
+    requires { cell < room }
+    ensures { (k : ℕ) → cell ≡ k % room → result ≡ (k + 1) % room }
+{
+    if cell + 1 < room {
+        return cell + 1;
+    }
+    0
+}
 
 impl RingPort {
     /// Posts a frame where a look shows room for it, and one try on each slot of the peer's pool finds a
@@ -49,17 +60,20 @@ impl RingPort {
             return Err(PostRefused::LaneFull);
         }
         let lane = me * self.fabric.peers() + to;
+        let cell = self.put_cells[dest as usize];
         let next = Next {
             me,
             dest: to,
             put,
             number: self.clock + 1,
-            place: (lane * room + put % room) as usize,
+            cell,
+            place: (lane * room + cell) as usize,
         };
         if !send_next(&self.fabric, &mut self.seat, &next, head, bytes) {
             return Err(PostRefused::PoolFull);
         }
         self.puts[dest as usize] = put + 1;
+        self.put_cells[dest as usize] = cell_after(cell, room);
         self.posted_ends[dest as usize] = Some(head);
         self.clock += 1;
         Ok(())
@@ -138,11 +152,12 @@ impl RingPort {
         let got = self.gots[src as usize];
         let room = self.fabric.room();
         let lane = src as u64 * self.fabric.peers() + me;
+        let cell = self.got_cells[src as usize];
         let next = Oldest {
             me,
             src: src as u64,
             got,
-            place: (lane * room + got % room) as usize,
+            place: (lane * room + cell) as usize,
         };
         let found = open_next(
             &self.fabric,
@@ -227,6 +242,8 @@ impl RingPort {
         self.fabric
             .give_back(&mut self.seat, 0, self.me as u64, src as u64, got);
         self.gots[src as usize] = got + 1;
+        let cell = self.got_cells[src as usize];
+        self.got_cells[src as usize] = cell_after(cell, self.fabric.room());
         self.taken_ends[src as usize] = Some(self.commands[src as usize].head);
         self.opened[src as usize] = false;
         self.clock = self.clock.max(number);

@@ -60,6 +60,8 @@ impl RingPort {
         let peers = fabric.peers() as usize;
         let puts = Vec::from_elem(alloc, 0u64, peers)?;
         let gots = Vec::from_elem(alloc, 0u64, peers)?;
+        let put_cells = Vec::from_elem(alloc, 0u64, peers)?;
+        let got_cells = Vec::from_elem(alloc, 0u64, peers)?;
         let opened = Vec::from_elem(alloc, false, peers)?;
         let lent = Vec::from_elem(alloc, false, peers)?;
         let commands = commands(alloc, peers)?;
@@ -74,6 +76,8 @@ impl RingPort {
             turn: 0,
             puts,
             gots,
+            put_cells,
+            got_cells,
             opened,
             lent,
             commands,

@@ -9,24 +9,62 @@ ghost use Rattle.fab_table.specs.Views.{frames_of, with_part, with_out, posted_o
 ghost use Rattle.fab_table.specs.Rule.{greatest};
 ghost use Rattle.fab_table.specs.Plays.{next_cell, slot_home, new_out_view, post_view};
 ghost use Rattle.fab_table.specs.Seats.{IsOf, IsSame, carried, view_of_seat, sat, part_of, out_of, named};
-ghost use Rattle.fab_ring.specs.Tries.{IsTried, IsSent, tried_out, sent_as};
+ghost use Rattle.fab_ring.specs.Tries.{IsTried, IsTriedFrom, IsMissed, IsSent, tried_out, sent_as};
 ghost use Rattle.fab_ring.specs.Alone.{IsAlone};
 
 use fab_base::FrameHead;
 use fab_table::{Fabric, PeerSeat};
 
-/// Where the next frame to a peer goes: how many were posted before, its number, and its cell's place.
+/// Where the next frame to a peer goes: how many were posted before, its number, its cell among those of
+/// the lane, and that cell's place.
 #[derive(Clone, Copy, Drop)]
 pub(crate) struct Next {
     pub me: u64,
     pub dest: u64,
     pub put: u64,
     pub number: u64,
+    pub cell: u64,
     pub place: usize,
 }
 
-/// Tries the slots of the peer's pool from the first on, until one was free. The cell in hand names
-/// the one that is tried.
+/// Tries the slots of the peer's pool from one on and before another, until one was free. The cell in hand
+/// names the one that is tried.
+fn claim_between(
+    fabric: &Fabric,
+    seat: &mut PeerSeat,
+    next: &Next,
+    from: u64,
+    to: u64,
+) -> Option<u64>
+    requires alone { IsAlone fabric.now seat.old next.now.me }
+    requires below { next.now.dest < fabric.now.peers }
+    requires idle { (out_of seat.old 0 next.now.dest).claim ≡ None }
+    requires sized { length (out_of seat.old 0 next.now.dest).tried ≡ fabric.now.pool }
+    requires hand { (c : Command) × (carried seat.old ≡ (next.now.place, Cell c) ∷ rest (carried seat.old)) }
+    requires range { (from ≤ to) × (to ≤ fabric.now.pool) }
+    ensures seat { IsSame seat.old seat.new }
+    ensures none { result ≡ None → (c : Command) × (ts : List ℕ) × (f : ℕ) × IsTriedFrom (out_of seat.old 0 next.now.dest) from to ts f
+        × (sat seat.new ≡ (new_out_view (view_of_seat seat.old) 0 next.now.dest (tried_out (out_of seat.old 0 next.now.dest) ts f (out_of seat.old 0 next.now.dest).writing None), (next.now.place, Cell c) ∷ rest (carried seat.old)))
+        × ((k : Command) (q : ℕ) → carried seat.old ≡ (next.now.place, Cell k) ∷ rest (carried seat.old) → named c q ≡ named k q) }
+    ensures some { (c : Command) (q : ℕ) → carried seat.old ≡ (next.now.place, Cell c) ∷ rest (carried seat.old) → result ≡ Some q
+        → (b : List ℕ) × (j : ℕ) × (ts : List ℕ) × (f : ℕ) × (length b ≡ 4096) × (from ≤ j) × (j < to) × (q < fabric.now.peers * fabric.now.pool) × IsTriedFrom (out_of seat.old 0 next.now.dest) from j ts f
+        × (sat seat.new ≡ (new_out_view (view_of_seat seat.old) 0 next.now.dest (tried_out (out_of seat.old 0 next.now.dest) ts f (out_of seat.old 0 next.now.dest).writing (Some q)), (slot_home (view_of_seat seat.old) 0 q, Pool b) ∷ (next.now.place, Cell (named c q)) ∷ rest (carried seat.old))) }
+{
+    let pool = fabric.pool();
+    let mut j = from;
+    while j < to {
+        let slot = next.dest * pool + j;
+        fabric.name_slot(seat, next.place, slot);
+        if fabric.claim(seat, 0, next.me, next.dest, j) {
+            return Some(slot);
+        }
+        j += 1;
+    }
+    None
+}
+
+/// Tries each slot of the peer's pool until one was free: first that with the number of the frame's cell,
+/// which the last frame there has most likely left, then those behind it, and round.
 fn claim_any(fabric: &Fabric, seat: &mut PeerSeat, next: &Next) -> Option<u64>
     requires alone { IsAlone fabric.now seat.old next.now.me }
     requires below { next.now.dest < fabric.now.peers }
@@ -37,20 +75,16 @@ fn claim_any(fabric: &Fabric, seat: &mut PeerSeat, next: &Next) -> Option<u64>
     ensures none { result ≡ None → (c : Command) × (ts : List ℕ) × (f : ℕ) × IsTried (out_of seat.old 0 next.now.dest) fabric.now.pool ts f
         × (sat seat.new ≡ (new_out_view (view_of_seat seat.old) 0 next.now.dest (tried_out (out_of seat.old 0 next.now.dest) ts f (out_of seat.old 0 next.now.dest).writing None), (next.now.place, Cell c) ∷ rest (carried seat.old))) }
     ensures some { (c : Command) (q : ℕ) → carried seat.old ≡ (next.now.place, Cell c) ∷ rest (carried seat.old) → result ≡ Some q
-        → (b : List ℕ) × (j : ℕ) × (ts : List ℕ) × (f : ℕ) × (length b ≡ 4096) × (j < fabric.now.pool) × (q < fabric.now.peers * fabric.now.pool) × IsTried (out_of seat.old 0 next.now.dest) j ts f
+        → (b : List ℕ) × (j : ℕ) × (ts : List ℕ) × (f : ℕ) × (length b ≡ 4096) × (j < fabric.now.pool) × (q < fabric.now.peers * fabric.now.pool) × IsMissed (out_of seat.old 0 next.now.dest) j ts f
         × (sat seat.new ≡ (new_out_view (view_of_seat seat.old) 0 next.now.dest (tried_out (out_of seat.old 0 next.now.dest) ts f (out_of seat.old 0 next.now.dest).writing (Some q)), (slot_home (view_of_seat seat.old) 0 q, Pool b) ∷ (next.now.place, Cell (named c q)) ∷ rest (carried seat.old))) }
 {
     let pool = fabric.pool();
-    let mut j = 0;
-    while j < pool {
-        let slot = next.dest * pool + j;
-        fabric.name_slot(seat, next.place, slot);
-        if fabric.claim(seat, 0, next.me, next.dest, j) {
-            return Some(slot);
-        }
-        j += 1;
+    let first = next.cell.min(pool);
+    let found = claim_between(fabric, seat, next, first, pool);
+    match found {
+        Some(slot) => Some(slot),
+        None => claim_between(fabric, seat, next, 0, first),
     }
-    None
 }
 
 /// Posts a frame whose bytes fit into the cell in hand.
@@ -99,7 +133,7 @@ pub(crate) fn send_pooled(
     ensures seat { IsSame seat.old seat.new }
     ensures full { result ≡ false → (ts : List ℕ) × (f : ℕ) × IsTried (out_of seat.old 0 next.now.dest) fabric.now.pool ts f
         × (sat seat.new ≡ (new_out_view (view_of_seat seat.old) 0 next.now.dest (tried_out (out_of seat.old 0 next.now.dest) ts f false None), rest (carried seat.old))) }
-    ensures sent { result ≡ true → (q : ℕ) × (j : ℕ) × (ts : List ℕ) × (f : ℕ) × (j < fabric.now.pool) × IsTried (out_of seat.old 0 next.now.dest) j ts f
+    ensures sent { result ≡ true → (q : ℕ) × (j : ℕ) × (ts : List ℕ) × (f : ℕ) × (j < fabric.now.pool) × IsMissed (out_of seat.old 0 next.now.dest) j ts f
         × (sat seat.new ≡ (with_part (view_of_seat seat.old) 0 (with_out (part_of seat.old 0) next.now.dest (posted_one (tried_out (out_of seat.old 0 next.now.dest) ts f true None) (sent_as head bytes.now next.now.number (Some q))) ((part_of seat.old 0).moves ++ Post next.now.dest next.now.number ∷ [])), rest (carried seat.old))) }
 {
     fabric.write(seat, next.place, next.number, head, &[]);

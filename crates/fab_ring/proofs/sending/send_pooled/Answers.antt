@@ -12,7 +12,7 @@ use Rattle.fab_table.specs.Views.{frames_of, part_at, out_at, with_out}
 use Rattle.fab_table.specs.Rule.{said_pooled, greatest}
 use Rattle.fab_table.specs.Plays.{Sat, new_out_view, post_view, next_cell, slot_home}
 use Rattle.fab_table.specs.Seats.{carried, view_of_seat, sat, named, written}
-use Rattle.fab_ring.specs.Tries.{IsTried, tried_out, sent_as}
+use Rattle.fab_ring.specs.Tries.{IsTried, IsMissed, tried_out, sent_as}
 use Rattle.fab_ring.proofs.Hold.{home_small}
 use Rattle.fab_ring.proofs.Ends.{one_set, post_over, here_out, part_out, home_over, next_over, left_all}
 use Rattle.fab_ring.proofs.sending.send_pooled.Goals as goal
@@ -130,7 +130,7 @@ returns-clause-sent c = let v : View = view_of_seat c.args.seat.now in let d : �
       got.2,
       got.3,
       got.5,
-      subst (λ (m : Sat). IsTried (out_at (part_at m.0 0) d) got.1 got.2 got.3) w got.7,
+      subst (λ (m : Sat). IsMissed (out_at (part_at m.0 0) d) got.1 got.2 got.3) w got.7,
       c.publish_pooled.ensures.view (slot_home v 0 q) (named k q) b₂ hand_is ∙ (λ i. (post_view (fs i).0 0 d (said_pooled (named k q) b₂), rest (rest (fs i).1))) ∙ (λ i. (post_view (new_out_view v 0 d o₂) 0 d (sent_as c.args.head (said i) n (Some q)), hand))
           ∙ (λ i. (post_over v d a.one low o₂ (sent_as c.args.head c.args.bytes.now n (Some q)) i, hand)),
     )

@@ -72,6 +72,7 @@ invariant_of-self-2 c = let q = c.seek.new.self in let P = c.args.self.now in le
       at = (c.free_pooled.ensures.seat.0 ∙ q.at.0, all.0);
       fits = subst (λ (z : Part × List (ℕ × Slot)). Fits q.me f.peers f.room f.pool q.clock (q.turn + 1) q.puts.items q.gots.items q.opened.items (set q.lent.items s false) z.0 (shapes z.1)) (λ i. (sym all.1 i, sym all.2 i))
           (subst (Fits q.me f.peers f.room f.pool q.clock (q.turn + 1) q.puts.items q.gots.items q.opened.items (set q.lent.items s false) (with_in p s u' p.moves)) (sym shaped) (fits_free _ _ _ _ _ _ _ _ _ _ _ _ q.fits s x near c.seek.ensures.turn l.2));
+      rounds = q.rounds;
       told = subst (Told f.peers q.commands.items q.buffers.items) (sym all.1) (told_in _ _ _ p s u' p.moves inside (λ y e. e) q.told);
       ends = subst (λ (z : Part). Ends f.peers q.posted_ends.items q.taken_ends.items z) (sym all.1) (ends_in _ _ _ p s u' p.moves near inside refl q.ends);
       comes = subst (λ (z : Part). ∥ Comes z ∥₁) (sym all.1) ∣ comes_in p s u' p.moves inside (λ y e. comes_now p q.comes s y e) (comes_now p q.comes) ∣₁;

@@ -1,4 +1,4 @@
-use Rattle.std.proofs.Common.{◌≡◌, ℕ, ◌+◌, ◌*◌, ◌<◌, true, false, List, [], ◌∷◌, ◌++◌, length, get_or, set, sym, refl, ap, ◌∙◌, subst}
+use Rattle.std.proofs.Common.{◌≡◌, ℕ, ◌+◌, ◌*◌, ◌%◌, ◌<◌, true, false, List, [], ◌∷◌, ◌++◌, length, get_or, set, sym, refl, ap, ◌∙◌, subst}
 use Rattle.std.specs.Prelude.{None}
 use Rattle.std.proofs.lemmas.Option.{same_Some, none-some}
 use Rattle.std.specs.Arc.{arc_value}
@@ -11,12 +11,26 @@ use Rattle.fab_table.specs.declared.kinds.Part.{Part}
 use Rattle.fab_table.specs.Views.{frames_of, part_at, in_at, with_in, saw_frame, saw_empty}
 use Rattle.fab_table.specs.Plays.{Sat, slot_home, oldest_of}
 use Rattle.fab_ring.specs.Hands.{shapes, Fits, Tells, Told, Ends, Comes}
-use Rattle.fab_ring.proofs.Hold.{get_any, flag_at, nothing, shapes_two, fits_empty, fits_open, fits_open_slot}
+use Rattle.fab_ring.proofs.Hold.{get_any, flag_at, nothing, shapes_two, fits_empty, fits_open, fits_open_slot, got_len}
+use Rattle.fab_ring.proofs.Rounds.{got_cell, cell_small}
+use Rattle.std.proofs.Math.Nat.{mod-lt}
 use Rattle.fab_ring.proofs.Ends.{in_all}
 use Rattle.fab_ring.proofs.Told.{told_set, comes_in}
 use Rattle.fab_ring.proofs.Lasts.{ends_in}
 use Rattle.fab_ring.proofs.Facts.{comes_now}
 use Rattle.fab_ring.proofs.port.RingPort.look.Goals as goal
+
+pub overflow_add-next : goal.overflow_add-next
+overflow_add-next c = let q = c.seek.new.self in let f = arc_value q.fabric in let s : ℕ = c.args.src in let m : Sat = q.seat.seat.me in let p : Part = part_at m.0 0 in let near : s < f.peers = subst (λ t. s < t.peers) (sym c.seek.ensures.port.0) c.requires in
+    let got = got_len _ _ _ _ _ _ _ _ _ _ _ _ q.fits s c.index-got.result.now near c.index-got.ensures in let cell = got_cell _ _ _ _ _ _ q.rounds s c.index-got.result.now c.index-cell.result.now near (got ∙ sym (q.fits.each_got s near).0) c.index-cell.ensures in
+    let peers : c.peers.result ≡ f.peers = c.peers.ensures ∙ ap (λ t. t.peers) c.deref-2.ensures in let rooms : c.room-room.result ≡ f.room = c.room-room.ensures ∙ ap (λ t. t.room) c.deref.ensures in
+    record { fits = subst (λ (z : ℕ × ℕ × ℕ). (s * z.0 + q.me) * z.1 + z.2 < 18446744073709551616) (λ i. (sym peers i, sym rooms i, sym cell i)) (cell_small f.peers f.room s q.me (c.index-got.result.now % f.room) f.sized.6 f.sized.4 near q.fits.below (mod-lt c.index-got.result.now f.sized.3)) }
+
+pub open_next-found-requires-clause-place : goal.open_next-found-requires-clause-place
+open_next-found-requires-clause-place c = let q = c.seek.new.self in let f = arc_value q.fabric in let s : ℕ = c.args.src in let m : Sat = q.seat.seat.me in let p : Part = part_at m.0 0 in let near : s < f.peers = subst (λ t. s < t.peers) (sym c.seek.ensures.port.0) c.requires in
+    let got = got_len _ _ _ _ _ _ _ _ _ _ _ _ q.fits s c.index-got.result.now near c.index-got.ensures in let cell = got_cell _ _ _ _ _ _ q.rounds s c.index-got.result.now c.index-cell.result.now near (got ∙ sym (q.fits.each_got s near).0) c.index-cell.ensures in
+    let peers : c.peers.result ≡ p.peers = c.peers.ensures ∙ ap (λ t. t.peers) c.deref-2.ensures ∙ sym q.fits.peers_is in let rooms : c.room-room.result ≡ p.room = c.room-room.ensures ∙ ap (λ t. t.room) c.deref.ensures ∙ sym q.fits.room_is in
+    λ i. (s * peers i + sym q.fits.me_is i) * rooms i + (cell ∙ (λ j. got j % sym q.fits.room_is j)) i
 
 pub invariant_of-self-in-Empty : goal.invariant_of-self-in-Empty
 invariant_of-self-in-Empty c = let q = c.seek.new.self in let P = c.args.self.now in let f = arc_value q.fabric in let s : ℕ = c.args.src in let m : Sat = q.seat.seat.me in let p : Part = part_at m.0 0 in let u : In = in_at p s in
@@ -27,6 +41,7 @@ invariant_of-self-in-Empty c = let q = c.seek.new.self in let P = c.args.self.no
     record {
       at = (c.open_next-found.ensures.seat.0 ∙ q.at.0, all.0);
       fits = subst (λ (z : Part × List (ℕ × Slot)). Fits q.me f.peers f.room f.pool q.clock q.turn q.puts.items q.gots.items q.opened.items q.lent.items z.0 (shapes z.1)) (λ i. (sym all.1 i, sym all.2 i)) (fits_empty _ _ _ _ _ _ _ _ _ _ _ _ q.fits s (length u.taken) near closed);
+      rounds = q.rounds;
       told = subst (Told f.peers (set q.commands.items s new_c) (set q.buffers.items s new_b)) (sym all.1) (told_set _ _ _ p s u' new_c new_b p.moves near inside (ap length got.1 ∙ sized) (λ x e. absurd (none-some x (sym closed ∙ e))) q.told);
       ends = subst (λ (z : Part). Ends f.peers q.posted_ends.items q.taken_ends.items z) (sym all.1) (ends_in _ _ _ p s u' p.moves near inside refl q.ends);
       comes = subst (λ (z : Part). ∥ Comes z ∥₁) (sym all.1) ∣ comes_in p s u' p.moves inside (λ x e. absurd (none-some x (sym closed ∙ e))) (comes_now p q.comes) ∣₁;
@@ -41,6 +56,7 @@ invariant_of-self-in-Inline c = let q = c.seek.new.self in let P = c.args.self.n
     record {
       at = (c.open_next-found.ensures.seat.0 ∙ q.at.0, all.0);
       fits = subst (λ (z : Part × List (ℕ × Slot)). Fits q.me f.peers f.room f.pool q.clock q.turn q.puts.items q.gots.items (set q.opened.items s true) q.lent.items z.0 (shapes z.1)) (λ i. (sym all.1 i, sym all.2 i)) (fits_open _ _ _ _ _ _ _ _ _ _ _ _ q.fits s got.0 x near c.seek.ensures.turn closed got.3 got.4 got.5);
+      rounds = q.rounds;
       told = subst (Told f.peers (set q.commands.items s new_c) (set q.buffers.items s new_b)) (sym all.1) (told_set _ _ _ p s u' new_c new_b p.moves near inside (ap length got.8 ∙ sized) (λ y e. subst (λ (z : Sent). Tells z new_c new_b) (same_Some x y e) got.7) q.told);
       ends = subst (λ (z : Part). Ends f.peers q.posted_ends.items q.taken_ends.items z) (sym all.1) (ends_in _ _ _ p s u' p.moves near inside refl q.ends);
       comes = subst (λ (z : Part). ∥ Comes z ∥₁) (sym all.1) ∣ comes_in p s u' p.moves inside (λ y e. subst (λ (z : Sent). MayCome (last_head None (frames_of u.taken)) z.frame) (same_Some x y e) got.6) (comes_now p q.comes) ∣₁;
@@ -57,6 +73,7 @@ invariant_of-self-in-Pooled c = let q = c.seek.new.self in let P = c.args.self.n
     record {
       at = (c.open_next-found.ensures.seat.0 ∙ q.at.0, all.0);
       fits = subst (λ (z : Part × List (ℕ × Slot)). Fits q.me f.peers f.room f.pool q.clock (q.turn + 1) q.puts.items q.gots.items (set q.opened.items s true) (set q.lent.items s true) z.0 (shapes z.1)) (λ i. (sym all.1 i, sym all.2 i)) (subst (Fits q.me f.peers f.room f.pool q.clock (q.turn + 1) q.puts.items q.gots.items (set q.opened.items s true) (set q.lent.items s true) (with_in p s u' p.moves)) (sym shaped) (fits_open_slot _ _ _ _ _ _ _ _ _ _ _ _ q.fits s got.0 k x near c.seek.ensures.turn closed got.4 got.5 got.6 low));
+      rounds = q.rounds;
       told = subst (Told f.peers (set q.commands.items s new_c) (set q.buffers.items s new_b)) (sym all.1) (told_set _ _ _ p s u' new_c new_b p.moves near inside got.10 (λ w e. subst (λ (v : Sent). Tells v new_c new_b) (same_Some x w e) got.9) q.told);
       ends = subst (λ (z : Part). Ends f.peers q.posted_ends.items q.taken_ends.items z) (sym all.1) (ends_in _ _ _ p s u' p.moves near inside refl q.ends);
       comes = subst (λ (z : Part). ∥ Comes z ∥₁) (sym all.1) ∣ comes_in p s u' p.moves inside (λ w e. subst (λ (v : Sent). MayCome (last_head None (frames_of u.taken)) v.frame) (same_Some x w e) got.8) (comes_now p q.comes) ∣₁;

@@ -1,4 +1,4 @@
-use Rattle.std.proofs.Common.{◌≡◌, ℕ, ◌+◌, ◌*◌, ◌%◌, ◌<◌, true, false, List, [], ◌∷◌, ◌++◌, length, set, sym, refl, ap, ◌∙◌, subst, arith, inl, inr}
+use Rattle.std.proofs.Common.{◌≡◌, ℕ, ◌+◌, ◌*◌, ◌%◌, ◌<◌, true, false, List, [], ◌∷◌, ◌++◌, length, set, sym, refl, ap, ◌∙◌, subst, arith, inl, inr, length-set}
 use Rattle.std.specs.Prelude.{Some, None}
 use Rattle.std.specs.Arc.{arc_value}
 use Rattle.atomic_table.specs.Table.{rest}
@@ -18,6 +18,8 @@ use Rattle.fab_ring.proofs.Hold.{fits_saw, fits_post, put_len}
 use Rattle.fab_ring.proofs.Ends.{tried_length, sent_length, out_all, sent_over, view_over, here_out, next_over}
 use Rattle.fab_ring.proofs.Told.{told_out, comes_out}
 use Rattle.fab_ring.proofs.Lasts.{ends_out, ends_post}
+use Rattle.fab_ring.proofs.Rounds.{put_cell, rounds_put, cell_small}
+use Rattle.std.proofs.Math.Nat.{mod-lt}
 use Rattle.fab_ring.proofs.port.RingPort.send.Goals as goal
 
 pub invariant_of-self : goal.invariant_of-self
@@ -27,6 +29,7 @@ invariant_of-self c = let q = c.args.self.now in let f = arc_value q.fabric in l
     record {
       at = (c.look_got-got.ensures.seat.0 ∙ q.at.0, all.0);
       fits = subst (λ (z : Part × List (ℕ × Slot)). Fits q.me f.peers f.room f.pool q.clock q.turn q.puts.items q.gots.items q.opened.items q.lent.items z.0 (shapes z.1)) (λ i. (sym all.1 i, sym all.2 i)) (fits_saw _ _ _ _ _ _ _ _ _ _ _ _ q.fits d o₁ low refl mine.1 mine.3 mine.4);
+      rounds = q.rounds;
       told = subst (Told f.peers q.commands.items q.buffers.items) (sym all.1) (told_out _ _ _ p d o₁ p.moves q.told);
       ends = subst (λ (z : Part). Ends f.peers q.posted_ends.items q.taken_ends.items z) (sym all.1) (ends_out _ _ _ p d o₁ p.moves low inside refl q.ends);
       comes = subst (λ (z : Part). ∥ Comes z ∥₁) (sym all.1) (comes_out p d o₁ p.moves q.comes);
@@ -39,6 +42,7 @@ invariant_of-self-then-self-ge-MOST c = let q = c.args.self.now in let f = arc_v
     record {
       at = (c.look_got-got.ensures.seat.0 ∙ q.at.0, all.0);
       fits = subst (λ (z : Part × List (ℕ × Slot)). Fits q.me f.peers f.room f.pool q.clock q.turn q.puts.items q.gots.items q.opened.items q.lent.items z.0 (shapes z.1)) (λ i. (sym all.1 i, sym all.2 i)) (fits_saw _ _ _ _ _ _ _ _ _ _ _ _ q.fits d o₁ low refl mine.1 mine.3 mine.4);
+      rounds = q.rounds;
       told = subst (Told f.peers q.commands.items q.buffers.items) (sym all.1) (told_out _ _ _ p d o₁ p.moves q.told);
       ends = subst (λ (z : Part). Ends f.peers q.posted_ends.items q.taken_ends.items z) (sym all.1) (ends_out _ _ _ p d o₁ p.moves low inside refl q.ends);
       comes = subst (λ (z : Part). ∥ Comes z ∥₁) (sym all.1) (comes_out p d o₁ p.moves q.comes);
@@ -50,7 +54,34 @@ send_next-requires-clause-place c = let q = c.args.self.now in let f = arc_value
     let mine = q.fits.each_put d low in let space : length o.posted < r + p.room = (let le = saw.0 in let t = c.if-put-got.false in omega arith) in
     let few : greatest 0 p.moves < most = (let t = c.if-self-ge-MOST.false in let e = q.fits.clock_is in omega arith) in let took = saw.3 space few in let o₁ : Out = saw_room o r in let v₁ : View = new_out_view m.0 0 d o₁ in
     let all_peers : c.peers.result ≡ p.peers = c.peers.ensures ∙ ap (λ t. t.peers) c.deref-3.ensures ∙ sym q.fits.peers_is in
-    (λ i. (sym q.fits.me_is i * all_peers i + d) * wide i + put i % wide i) ∙ sym (next_over m.0 d q.at.1 inside o₁ refl) ∙ ap (λ (z : Sat). next_cell z.0 0 d) (sym took.1)
+    let rooms : c.room-room.result ≡ f.room = c.room-room.ensures ∙ ap (λ t. t.room) c.deref-2.ensures in let cell : c.index-cell.result.now ≡ c.index-put.result.now % f.room = put_cell _ _ _ _ _ _ q.rounds d c.index-put.result.now c.index-cell.result.now low (put ∙ sym mine.0) c.index-cell.ensures in
+    (λ i. (sym q.fits.me_is i * all_peers i + d) * wide i + (cell ∙ (λ j. put j % sym q.fits.room_is j)) i) ∙ sym (next_over m.0 d q.at.1 inside o₁ refl) ∙ ap (λ (z : Sat). next_cell z.0 0 d) (sym took.1)
+
+pub overflow_add-next-2 : goal.overflow_add-next-2
+overflow_add-next-2 c = let q = c.args.self.now in let f = arc_value q.fabric in let d : ℕ = c.args.dest in let m : Sat = q.seat.seat.me in let p : Part = part_at m.0 0 in let o : Out = out_at p d in let low : d < f.peers = c.requires.below in let inside : d < length p.outs = subst (λ (z : ℕ). d < z) (sym q.fits.all_outs) low in
+    let saw = c.look_got-got.ensures.view in let r : ℕ = c.look_got-got.result in let put = put_len _ _ _ _ _ _ _ _ _ _ _ _ q.fits d c.index-put.result.now low c.index-put.ensures in let wide : c.room-room.result ≡ p.room = c.room-room.ensures ∙ ap (λ t. t.room) c.deref-2.ensures ∙ sym q.fits.room_is in
+    let mine = q.fits.each_put d low in let space : length o.posted < r + p.room = (let le = saw.0 in let t = c.if-put-got.false in omega arith) in
+    let few : greatest 0 p.moves < most = (let t = c.if-self-ge-MOST.false in let e = q.fits.clock_is in omega arith) in let took = saw.3 space few in let o₁ : Out = saw_room o r in let v₁ : View = new_out_view m.0 0 d o₁ in
+    let rooms : c.room-room.result ≡ f.room = c.room-room.ensures ∙ ap (λ t. t.room) c.deref-2.ensures in let cell : c.index-cell.result.now ≡ c.index-put.result.now % f.room = put_cell _ _ _ _ _ _ q.rounds d c.index-put.result.now c.index-cell.result.now low (put ∙ sym mine.0) c.index-cell.ensures in
+    let peers : c.peers.result ≡ f.peers = c.peers.ensures ∙ ap (λ t. t.peers) c.deref-3.ensures in
+    record { fits = subst (λ (z : ℕ × ℕ × ℕ). (q.me * z.0 + d) * z.1 + z.2 < 18446744073709551616) (λ i. (sym peers i, sym rooms i, sym cell i)) (cell_small f.peers f.room q.me d (c.index-put.result.now % f.room) f.sized.6 f.sized.4 q.fits.below low (mod-lt c.index-put.result.now f.sized.3)) }
+
+pub send_next-requires-clause-alone : goal.send_next-requires-clause-alone
+send_next-requires-clause-alone c = let q = c.args.self.now in let f = arc_value q.fabric in let d : ℕ = c.args.dest in let m : Sat = q.seat.seat.me in let p : Part = part_at m.0 0 in let o : Out = out_at p d in let low : d < f.peers = c.requires.below in let inside : d < length p.outs = subst (λ (z : ℕ). d < z) (sym q.fits.all_outs) low in
+    let saw = c.look_got-got.ensures.view in let r : ℕ = c.look_got-got.result in let put = put_len _ _ _ _ _ _ _ _ _ _ _ _ q.fits d c.index-put.result.now low c.index-put.ensures in let wide : c.room-room.result ≡ p.room = c.room-room.ensures ∙ ap (λ t. t.room) c.deref-2.ensures ∙ sym q.fits.room_is in
+    let mine = q.fits.each_put d low in let space : length o.posted < r + p.room = (let le = saw.0 in let t = c.if-put-got.false in omega arith) in
+    let few : greatest 0 p.moves < most = (let t = c.if-self-ge-MOST.false in let e = q.fits.clock_is in omega arith) in let took = saw.3 space few in let o₁ : Out = saw_room o r in let v₁ : View = new_out_view m.0 0 d o₁ in
+    let all = out_all m _ d o₁ p.moves _ q.at.1 took.1 in let f' = c.deref-4.result.now in let at : f ≡ f' = sym c.deref-4.ensures in record {
+      of = c.look_got-got.ensures.seat.0 ∙ q.at.0 ∙ ap (λ t. t.table.shared.table_id) at;
+      one = all.0;
+      me_is = ap (λ (z : Part). z.me) all.1 ∙ q.fits.me_is;
+      peers = ap (λ (z : Part). z.peers) all.1 ∙ q.fits.peers_is ∙ ap (λ t. t.peers) at;
+      room = ap (λ (z : Part). z.room) all.1 ∙ q.fits.room_is ∙ ap (λ t. t.room) at;
+      pool = ap (λ (z : Part). z.pool) all.1 ∙ q.fits.pool_is ∙ ap (λ t. t.pool) at;
+      below = subst (λ t. q.me < t.peers) at q.fits.below;
+      all_outs = ap (λ (z : Part). length z.outs) all.1 ∙ length-set p.outs d o₁ ∙ q.fits.all_outs ∙ ap (λ t. t.peers) at;
+      all_ins = ap (λ (z : Part). length z.ins) all.1 ∙ q.fits.all_ins ∙ ap (λ t. t.peers) at;
+    }
 
 pub invariant_of-self-then-not-send_next : goal.invariant_of-self-then-not-send_next
 invariant_of-self-then-not-send_next c = let q = c.args.self.now in let f = arc_value q.fabric in let d : ℕ = c.args.dest in let m : Sat = q.seat.seat.me in let p : Part = part_at m.0 0 in let o : Out = out_at p d in let low : d < f.peers = c.requires.below in let inside : d < length p.outs = subst (λ (z : ℕ). d < z) (sym q.fits.all_outs) low in
@@ -63,6 +94,7 @@ invariant_of-self-then-not-send_next c = let q = c.args.self.now in let f = arc_
     record {
       at = (c.send_next.ensures.seat.0 ∙ c.look_got-got.ensures.seat.0 ∙ q.at.0, all.0);
       fits = subst (λ (z : Part × List (ℕ × Slot)). Fits q.me f.peers f.room f.pool q.clock q.turn q.puts.items q.gots.items q.opened.items q.lent.items z.0 (shapes z.1)) (λ i. (sym all.1 i, sym all.2 i)) (fits_saw _ _ _ _ _ _ _ _ _ _ _ _ q.fits d o₂ low refl refl refl (tried_length o f.pool got.0 got.1 tries ∙ mine.4));
+      rounds = q.rounds;
       told = subst (Told f.peers q.commands.items q.buffers.items) (sym all.1) (told_out _ _ _ p d o₂ p.moves q.told);
       ends = subst (λ (z : Part). Ends f.peers q.posted_ends.items q.taken_ends.items z) (sym all.1) (ends_out _ _ _ p d o₂ p.moves low inside refl q.ends);
       comes = subst (λ (z : Part). ∥ Comes z ∥₁) (sym all.1) (comes_out p d o₂ p.moves q.comes);
@@ -78,6 +110,13 @@ returns-then-not-send_next-clause-pool_full c = let q = c.args.self.now in let f
     let all = out_all m _ d o₂ p.moves m.1 q.at.1 (got.4 ∙ (λ i. (new_out_view (took.1 i).0 0 d (tried_out (out_at (part_at (took.1 i).0 0) d) got.0 got.1 false None), rest (took.1 i).1)) ∙ (λ i. (new_out_view v₁ 0 d (tried_out (here i) got.0 got.1 false None), m.1)) ∙ (λ i. (view_over m.0 d q.at.1 inside o₁ o₂ i, m.1))) in
     λ _. (r, got.0, got.1, subst (λ (z : ℕ). length o.posted < r + z) q.fits.room_is space, few, got.2, tries, all.1)
 
+pub cell_after-requires : goal.cell_after-requires
+cell_after-requires c = let q = c.args.self.now in let f = arc_value q.fabric in let d : ℕ = c.args.dest in let m : Sat = q.seat.seat.me in let p : Part = part_at m.0 0 in let o : Out = out_at p d in let low : d < f.peers = c.requires.below in let inside : d < length p.outs = subst (λ (z : ℕ). d < z) (sym q.fits.all_outs) low in
+    let saw = c.look_got-got.ensures.view in let r : ℕ = c.look_got-got.result in let put = put_len _ _ _ _ _ _ _ _ _ _ _ _ q.fits d c.index-put.result.now low c.index-put.ensures in let wide : c.room-room.result ≡ p.room = c.room-room.ensures ∙ ap (λ t. t.room) c.deref-2.ensures ∙ sym q.fits.room_is in
+    let mine = q.fits.each_put d low in
+    let rooms : c.room-room.result ≡ f.room = c.room-room.ensures ∙ ap (λ t. t.room) c.deref-2.ensures in let cell : c.index-cell.result.now ≡ c.index-put.result.now % f.room = put_cell _ _ _ _ _ _ q.rounds d c.index-put.result.now c.index-cell.result.now low (put ∙ sym mine.0) c.index-cell.ensures in
+    subst (λ (z : ℕ). z < c.room-room.result) (sym (cell ∙ (λ i. c.index-put.result.now % sym rooms i))) (mod-lt c.index-put.result.now (subst (λ (z : ℕ). 0 < z) (sym rooms) f.sized.3))
+
 pub invariant_of-self-2 : goal.invariant_of-self-2
 invariant_of-self-2 c = let q = c.args.self.now in let f = arc_value q.fabric in let d : ℕ = c.args.dest in let m : Sat = q.seat.seat.me in let p : Part = part_at m.0 0 in let o : Out = out_at p d in let low : d < f.peers = c.requires.below in let inside : d < length p.outs = subst (λ (z : ℕ). d < z) (sym q.fits.all_outs) low in
     let saw = c.look_got-got.ensures.view in let r : ℕ = c.look_got-got.result in let put = put_len _ _ _ _ _ _ _ _ _ _ _ _ q.fits d c.index-put.result.now low c.index-put.ensures in let wide : c.room-room.result ≡ p.room = c.room-room.ensures ∙ ap (λ t. t.room) c.deref-2.ensures ∙ sym q.fits.room_is in
@@ -87,9 +126,11 @@ invariant_of-self-2 c = let q = c.args.self.now in let f = arc_value q.fabric in
     let is : IsSent o f.pool got.0 got.1 got.2 = subst (λ (z : Out × ℕ). IsSent z.0 z.1 got.0 got.1 got.2) (λ i. ((ap (λ (z : Sat). out_at (part_at z.0 0) d) took.1 ∙ here) i, pools i)) got.3 in
     let all = out_all m _ d (posted_one o₂ x) ms m.1 q.at.1 (got.4 ∙ (λ i. (with_part (took.1 i).0 0 (with_out (part_at (took.1 i).0 0) d (posted_one (tried_out (out_at (part_at (took.1 i).0 0) d) got.1 got.2 true None) x) ((part_at (took.1 i).0 0).moves ++ Post d n ∷ [])), rest (took.1 i).1))
     ∙ (λ i. (with_part v₁ 0 (with_out (part_at v₁ 0) d (posted_one (tried_out (here i) got.1 got.2 true None) x) ((part_at v₁ 0).moves ++ Post d n ∷ [])), m.1)) ∙ (λ i. (sent_over m.0 d q.at.1 inside o₁ (posted_one o₂ x) n i, m.1))) in
+    let rooms : c.room-room.result ≡ f.room = c.room-room.ensures ∙ ap (λ t. t.room) c.deref-2.ensures in let cell : c.index-cell.result.now ≡ c.index-put.result.now % f.room = put_cell _ _ _ _ _ _ q.rounds d c.index-put.result.now c.index-cell.result.now low (put ∙ sym mine.0) c.index-cell.ensures in
     record {
       at = (c.send_next.ensures.seat.0 ∙ c.look_got-got.ensures.seat.0 ∙ q.at.0, all.0);
       fits = subst (λ (z : Part × List (ℕ × Slot)). Fits q.me f.peers f.room f.pool (q.clock + 1) q.turn (set q.puts.items d (c.index-put.result.now + 1)) q.gots.items q.opened.items q.lent.items z.0 (shapes z.1)) (λ i. (sym all.1 i, sym all.2 i)) (fits_post _ _ _ _ _ _ _ _ _ _ _ _ q.fits d (c.index-put.result.now + 1) o₂ x low (ap (λ (z : ℕ). z + 1) (put ∙ sym mine.0)) refl refl (sent_length o f.pool got.0 got.1 got.2 is ∙ mine.4));
+      rounds = rounds_put _ _ _ _ _ _ q.rounds d (c.index-put.result.now + 1) c.cell_after.result low (subst (λ (z : ℕ). d < z) (sym q.fits.all_puts) low) (c.cell_after.ensures c.index-put.result.now (cell ∙ (λ i. c.index-put.result.now % sym rooms i)) ∙ (λ i. (c.index-put.result.now + 1) % rooms i));
       told = subst (Told f.peers q.commands.items q.buffers.items) (sym all.1) (told_out _ _ _ p d (posted_one o₂ x) ms q.told);
       ends = subst (λ (z : Part). Ends f.peers (set q.posted_ends.items d (Some c.args.head)) q.taken_ends.items z) (sym all.1) (ends_post _ _ _ p d (posted_one o₂ x) x ms low inside refl q.ends);
       comes = subst (λ (z : Part). ∥ Comes z ∥₁) (sym all.1) (comes_out p d (posted_one o₂ x) ms q.comes);
