@@ -1,0 +1,66 @@
+//! Times endpoints between two threads, each over lanes that both share.
+//!
+//! `endpoint_bench bench` prints a table: for tagged messages of 1, 64, 4,096 and 65,536 bytes and of 1 MiB a ping-pong, as
+//! the time of one way, and a stream one way in windows of 16 with an acknowledgement, as the time of one message. Each
+//! is the best and the median of 100 short runs. `endpoint_bench soak` sends 1,000,000 messages of 64 bytes one way, and
+//! `endpoint_bench soak NUMBER` so many, in whole windows of 16; they are for whoever looks at the memory that this takes.
+//! `endpoint_bench` alone makes one run of each exchange and prints no time.
+#![tactic(auto)]
+
+mod measuring;
+mod opening;
+mod speaker;
+
+use crate::measuring::soak;
+use crate::opening::{all_times, times};
+use fab_bench::table::print_table;
+use std::{env, io};
+
+/// How many runs of each exchange the table has.
+const RUNS: u64 = 100;
+
+/// What is asked for on the command line.
+enum Asked {
+    Nothing,
+    Bench,
+    Soak(u64),
+}
+
+/// What the first words ask for.
+fn read_words(rt: &HostRuntime) -> io::Result<Asked> {
+    let mut words = env::args(rt)?;
+    let _name = words.next();
+    let Some(word) = words.next() else {
+        return Ok(Asked::Nothing);
+    };
+    match word.as_str() {
+        "bench" => Ok(Asked::Bench),
+        "soak" => Ok(Asked::Soak(number(words.next()))),
+        _ => Ok(Asked::Nothing),
+    }
+}
+
+/// How many messages a soak has.
+fn number(word: Option<String>) -> u64 {
+    match word {
+        Some(word) => word.as_str().parse::<u64>().unwrap_or(0),
+        None => 1_000_000,
+    }
+}
+
+fn main(rt: HostRuntime) -> io::Result<()> {
+    match read_words(&rt)? {
+        Asked::Bench => {
+            let all = all_times(&rt, rt.alloc(), RUNS)?;
+            print_table(&rt, all)
+        }
+        Asked::Soak(messages) => {
+            let _times = times(&rt, rt.alloc(), &soak(messages), 0)?;
+            println!(rt; "{messages} messages")
+        }
+        Asked::Nothing => {
+            let all = all_times(&rt, rt.alloc(), 0)?;
+            println!(rt; "{} exchanges", all.len())
+        }
+    }
+}

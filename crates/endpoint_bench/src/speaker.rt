@@ -1,0 +1,185 @@
+//! An endpoint that speaks with one other peer.
+use fab_base::{Buf, Entry, Flags, Level, NoMemory};
+use fab_bench::runs::Party;
+use fab_face::calls::{Logs, Messages, Progress, Receives};
+use std::alloc::Global;
+use std::thread;
+
+/// The calls that a speaker makes.
+pub trait Calls: Messages + Receives + Progress + Logs {}
+
+impl<E: Messages + Receives + Progress + Logs> Calls for E {}
+
+/// The tag of all messages.
+const TAG: u64 = 7;
+
+/// The most bytes that go out copied, by an inject call; of more, the buffer is handed over and comes back.
+const COPIED: usize = 4096;
+
+/// How many frames one read moves at most.
+const BUDGET: u32 = 1;
+
+/// After so many reads in a row that brought nothing another thread may go on.
+const PATIENCE: u32 = 200;
+
+const FLAGS: Flags = Flags {
+    completion: true,
+    level: Level::Transmit,
+};
+
+/// An endpoint with receives that are posted again as soon as they complete, and the buffers of messages that
+/// were sent.
+#[derive(Drop)]
+pub struct Speaker<E: Calls + Drop> {
+    alloc: Global,
+    endpoint: E,
+    other: u32,
+    spare: Vec<Buf>,
+    /// How many messages came that were not asked for yet.
+    came: u64,
+    /// How many reads in a row brought nothing.
+    idle: u32,
+}
+
+/// What was read.
+enum Taken {
+    Came(Buf),
+    Sent(Buf),
+    Nothing,
+}
+
+/// What a completion says of buffers.
+fn taken_of(entry: Entry) -> Taken {
+    match entry {
+        Entry::Received { buf, .. } => Taken::Came(buf),
+        Entry::Sent { buf, .. } => Taken::Sent(buf),
+        _ => Taken::Nothing,
+    }
+}
+
+/// The next completion, after progress. The log is emptied, which nobody reads here.
+fn take_next<E: Calls>(endpoint: &mut E) -> Taken {
+    endpoint.log_clear();
+    match endpoint.cq_read(BUDGET) {
+        Ok(entry) => taken_of(entry),
+        Err(_) => Taken::Nothing,
+    }
+}
+
+/// Posts a receive of any message.
+fn post<E: Calls>(endpoint: &mut E, room: Buf) {
+    let _ = endpoint.trecv(None, TAG, 0, room, 0);
+}
+
+/// Sends bytes that are copied.
+fn send_copied<E: Calls>(endpoint: &mut E, other: u32, bytes: &[u8]) -> bool {
+    endpoint.tinject(other, TAG, bytes, None).is_ok()
+}
+
+/// Sends a buffer, which comes back where it is refused.
+fn send_whole<E: Calls>(endpoint: &mut E, other: u32, buf: Buf) -> Option<Buf> {
+    match endpoint.tsend(other, TAG, buf, None, 0, FLAGS) {
+        Ok(()) => None,
+        Err(refused) => Some(refused.buf),
+    }
+}
+
+impl<E: Calls + Drop> Speaker<E> {
+    /// Posts so many receives, of so many bytes each.
+    pub fn new(
+        alloc: Global,
+        mut endpoint: E,
+        other: u32,
+        ahead: u64,
+        room: usize,
+    ) -> Result<Speaker<E>, NoMemory> {
+        for _ in 0..ahead {
+            let room = Buf::zeros(alloc, room as u64)?;
+            post(&mut endpoint, room);
+        }
+        Ok(Speaker {
+            alloc,
+            endpoint,
+            other,
+            spare: Vec::new(alloc),
+            came: 0,
+            idle: 0,
+        })
+    }
+
+    /// Reads the next completion: the buffer of a message that came is posted again, and that of one that was sent
+    /// is kept.
+    fn read(&mut self) {
+        match take_next(&mut self.endpoint) {
+            Taken::Came(buf) => {
+                self.came = self.came.saturating_add(1);
+                post(&mut self.endpoint, buf);
+            }
+            Taken::Sent(buf) => self.keep(buf),
+            Taken::Nothing => return self.rest(),
+        }
+        self.idle = 0;
+    }
+
+    /// Lets another thread go on, after many reads that brought nothing.
+    fn rest(&mut self) {
+        self.idle = self.idle.saturating_add(1);
+        if self.idle < PATIENCE {
+            return;
+        }
+        self.idle = 0;
+        thread::yield_now();
+    }
+
+    /// Keeps a buffer for a later message.
+    fn keep(&mut self, buf: Buf) {
+        let _ = self.spare.push(buf);
+    }
+
+    /// A buffer with these bytes: one that was sent before, where it has as many, or a copy.
+    fn buffer(&mut self, bytes: &[u8]) -> Option<Buf> {
+        match self.spare.pop() {
+            Some(buf) if buf.as_slice().len() == bytes.len() => Some(buf),
+            _ => Buf::copy(self.alloc, bytes).ok(),
+        }
+    }
+
+    /// Sends a message whose buffer comes back.
+    fn send(&mut self, bytes: &[u8]) -> bool {
+        let Some(buf) = self.buffer(bytes) else {
+            return false;
+        };
+        match send_whole(&mut self.endpoint, self.other, buf) {
+            None => true,
+            Some(back) => {
+                self.keep(back);
+                false
+            }
+        }
+    }
+}
+
+impl<E: Calls + Drop> Party for Speaker<E> {
+    fn put(&mut self, bytes: &[u8]) -> bool {
+        let done = if bytes.len() <= COPIED {
+            send_copied(&mut self.endpoint, self.other, bytes)
+        } else {
+            self.send(bytes)
+        };
+        if !done {
+            self.read();
+        }
+        done
+    }
+
+    fn take(&mut self, _into: &mut [u8]) -> bool {
+        if self.came == 0 {
+            self.read();
+        }
+        if self.came == 0 {
+            return false;
+        }
+        self.came -= 1;
+        true
+    }
+}
