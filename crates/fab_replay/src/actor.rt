@@ -12,8 +12,8 @@ ghost use Rattle.fab_replay.specs.Seen.{actor_of, Took};
 
 use crate::lines::call_of;
 use fab_base::{Bound, Class, Entry, Fault, Kept, Line, LineOp, LineResult, NoMemory, Taken};
-use fab_machine::calls::Call;
 use fab_items::lists::number_at;
+use fab_machine::calls::Call;
 use fab_machine::state::State;
 
 /// A peer of the replay. Its lines stand in the script, under its number.

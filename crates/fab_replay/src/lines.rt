@@ -11,9 +11,9 @@ use fab_base::{
     Atom, Bound, Buf, BytesWord, Flags, Form, Kind, Level, LineOp, NoMemory, Num, Payload, PeekHow,
     Text,
 };
-use fab_machine::calls::Call;
 use fab_items::lists::split;
 use fab_items::orders::{Order, element_size};
+use fab_machine::calls::Call;
 use fab_machine::receiving::Posting;
 use std::alloc::Global;
 

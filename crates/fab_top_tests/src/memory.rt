@@ -1,6 +1,8 @@
 //! The depot, the sink and the clock over memory.
 use fab_base::{Buf, Text};
-use fab_outside::{Clock, Depot, Failed, LoadRefused, MemoryClock, MemoryDepot, MemorySink, Sink, write_all};
+use fab_outside::{
+    Clock, Depot, Failed, LoadRefused, MemoryClock, MemoryDepot, MemorySink, Sink, write_all,
+};
 use std::alloc::Global;
 use std::process::Abort;
 use std::test::Fail;
