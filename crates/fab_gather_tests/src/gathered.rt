@@ -42,7 +42,7 @@ fn whole(tag: u64, total: u32) -> FrameHead
 }
 
 /// Posts a message of one frame.
-fn post(port: &mut RingPort, dest: u32, tag: u64, bytes: &[u8]) -> bool
+pub(crate) fn post(port: &mut RingPort, dest: u32, tag: u64, bytes: &[u8]) -> bool
     requires below { dest < peers_of port.old }
     requires short { length bytes.now ≤ 4096 }
     requires between { (d : ℕ) → IsBetweenItems (end_of (out_of port.old d)) }
@@ -82,7 +82,11 @@ fn take<P: Port>(port: &mut P, src: u32) -> Option<(u64, usize)>
 }
 
 /// The ports of two peers.
-fn two_ports(alloc: Global, lane: u32, pool: u32) -> Result<(RingPort, RingPort), NoMemory>
+pub(crate) fn two_ports(
+    alloc: Global,
+    lane: u32,
+    pool: u32,
+) -> Result<(RingPort, RingPort), NoMemory>
     requires lane { (0 < lane) × (lane ≤ 1024) }
     requires pool { (0 < pool) × (pool ≤ 1024) }
     ensures { IfOk result (λ r. IsEnd 0 r.0 × IsEnd 1 r.1 × (table_of r.1 ≡ table_of r.0)) }
@@ -99,7 +103,11 @@ fn two_ports(alloc: Global, lane: u32, pool: u32) -> Result<(RingPort, RingPort)
 }
 
 /// The plain ports of two peers.
-fn pair_gathered(alloc: Global, zero: RingPort, one: RingPort) -> Result<Vec<PlainPort>, NoMemory>
+pub(crate) fn pair_gathered(
+    alloc: Global,
+    zero: RingPort,
+    one: RingPort,
+) -> Result<Vec<PlainPort>, NoMemory>
     requires zero { (number_of zero ≡ 0) × (peers_of zero ≡ 2) }
     requires one { (number_of one ≡ 1) × (table_of one ≡ table_of zero) }
     ensures { IfOk result (λ v. (k : ℕ) (q : Plain) → slice_get v.items k ≡ Some q → length q.lanes ≡ 2) }
@@ -114,7 +122,7 @@ fn pair_gathered(alloc: Global, zero: RingPort, one: RingPort) -> Result<Vec<Pla
 }
 
 /// The last of the plain ports of two peers.
-fn last(ports: &mut Vec<PlainPort>) -> Result<PlainPort, NoMemory>
+pub(crate) fn last(ports: &mut Vec<PlainPort>) -> Result<PlainPort, NoMemory>
     requires { (k : ℕ) (q : Plain) → slice_get ports.old.items k ≡ Some q → length q.lanes ≡ 2 }
     ensures rest { (k : ℕ) (q : Plain) → slice_get ports.new.items k ≡ Some q → length q.lanes ≡ 2 }
     ensures last { IfOk result (λ q. length q.lanes ≡ 2) }

@@ -5,3 +5,5 @@
 
 #[cfg(test)]
 mod gathered;
+#[cfg(test)]
+mod middle;
