@@ -1,0 +1,171 @@
+//! The calls that are tested, and what the tests say of them.
+//!
+//! Each call stands in a function of its own without a contract, over any endpoint that has it, so that a test carries no
+//! clauses of the calls before.
+use fab_base::{Access, Buf, Entry, Fault, Flags, Level};
+use fab_face::calls::{Looks, Messages, Progress, Receives, Regions, Requests};
+use fab_face::events::{Moved, Stop};
+use std::alloc::Global;
+
+const COMPLETES: Flags = Flags {
+    completion: true,
+    level: Level::Transmit,
+};
+
+/// The calls that are tested.
+pub trait Calls: Messages + Requests + Receives + Looks + Progress + Regions {}
+
+impl<E: Messages + Requests + Receives + Looks + Progress + Regions> Calls for E {}
+
+/// Sends so many bytes to peer 0. A refusal is told with the length of the buffer that it hands back.
+pub fn send<E: Messages>(
+    alloc: Global,
+    endpoint: &mut E,
+    len: u64,
+    ctx: u64,
+) -> Result<(), (Fault, usize)> {
+    let Ok(message) = Buf::zeros(alloc, len) else {
+        return Err((Fault::NoMemory, 0));
+    };
+    endpoint
+        .send(0, message, None, ctx, COMPLETES)
+        .map_err(|refused| (refused.why, refused.buf.as_slice().len()))
+}
+
+/// A receive that completed.
+#[derive(Clone, Copy, Drop, Eq, PartialEq)]
+pub struct Came {
+    pub ctx: u64,
+    pub source: u32,
+    pub len: u32,
+}
+
+fn came_of(entry: Entry) -> Option<Came> {
+    match entry {
+        Entry::Received {
+            ctx,
+            source,
+            len,
+            ..
+        } => Some(Came { ctx, source, len }),
+        _ => None,
+    }
+}
+
+/// The next completion, if it is that of a receive.
+pub fn next_came<E: Progress>(endpoint: &mut E) -> Option<Came> {
+    came_of(endpoint.cq_read(8).ok()?)
+}
+
+fn sent_of(entry: Entry) -> Option<u64> {
+    match entry {
+        Entry::Sent { ctx, .. } => Some(ctx),
+        _ => None,
+    }
+}
+
+/// The context of the next completion, if it is that of a message that was sent.
+pub fn sent<E: Progress>(endpoint: &mut E) -> Option<u64> {
+    sent_of(endpoint.cq_pop().ok()?)
+}
+
+fn brought_of(entry: Entry) -> Option<Buf> {
+    match entry {
+        Entry::Read { buf, .. } => Some(buf),
+        Entry::Fetched { result, .. } => Some(result),
+        _ => None,
+    }
+}
+
+/// Whether the next completion is that of a read or a fetch which brought these bytes.
+pub fn brings<E: Progress>(endpoint: &mut E, bytes: &[u8]) -> bool {
+    let Ok(entry) = endpoint.cq_read(8) else {
+        return false;
+    };
+    brought_of(entry).is_some_and(|buf| buf.as_slice() == bytes)
+}
+
+/// Whether a receive of so many bytes is posted.
+pub fn receives<E: Receives>(
+    alloc: Global,
+    endpoint: &mut E,
+    source: Option<u32>,
+    len: u64,
+    ctx: u64,
+) -> bool {
+    let Ok(buf) = Buf::zeros(alloc, len) else {
+        return false;
+    };
+    endpoint.recv(source, buf, ctx).is_ok()
+}
+
+/// Whether progress takes and posts so many frames, and ends so.
+pub fn moves<E: Progress>(
+    endpoint: &mut E,
+    budget: u32,
+    taken: u32,
+    posted: u32,
+    stop: Stop,
+) -> bool {
+    let moved = Moved {
+        taken,
+        posted,
+        stop,
+    };
+    endpoint.progress(budget) == Ok(moved)
+}
+
+/// Why a receive is not cancelled.
+pub fn cancels<E: Receives>(endpoint: &mut E, ctx: u64) -> Result<(), Fault> {
+    endpoint.cancel(ctx)
+}
+
+/// Looks for a message with this tag.
+pub fn looks<E: Looks>(endpoint: &mut E, tag: u64, ctx: u64) -> Result<(), Fault> {
+    endpoint.peek(None, tag, 0, ctx)
+}
+
+/// Why no completion is popped.
+pub fn pops_not<E: Progress>(endpoint: &mut E) -> Option<Fault> {
+    endpoint.cq_pop().err()
+}
+
+/// The context of the next completion, if it is an error.
+pub fn failed<E: Progress>(endpoint: &mut E) -> Option<u64> {
+    endpoint.cq_readerr().ok()?.ctx
+}
+
+/// Whether a region of these bytes is registered, which others may read and write.
+pub fn registers<E: Regions>(alloc: Global, endpoint: &mut E, key: u64, bytes: &[u8]) -> bool {
+    let Ok(buf) = Buf::copy(alloc, bytes) else {
+        return false;
+    };
+    let access = Access {
+        remote_read: true,
+        remote_write: true,
+    };
+    endpoint.reg(key, access, buf).is_ok()
+}
+
+/// Whether the region has these bytes.
+pub fn has<E: Regions>(endpoint: &E, key: u64, bytes: &[u8]) -> bool {
+    endpoint.region_bytes(key) == Some(bytes)
+}
+
+/// Why a region is not closed.
+pub fn closes_not<E: Regions>(endpoint: &mut E, key: u64) -> Option<Fault> {
+    endpoint.close_region(key).err()
+}
+
+/// Whether a write into a region of peer 1 is accepted.
+pub fn writes<E: Requests>(endpoint: &mut E, key: u64, at: u64, bytes: &[u8]) -> bool {
+    endpoint.inject_write(1, key, at, bytes, None).is_ok()
+}
+
+/// Whether a read of a region of peer 1 is accepted.
+pub fn reads<E: Requests>(alloc: Global, endpoint: &mut E, key: u64, at: u64, len: u64) -> bool {
+    let Ok(buf) = Buf::zeros(alloc, len) else {
+        return false;
+    };
+    endpoint.read(1, key, at, buf, 1).is_ok()
+}

@@ -1,0 +1,11 @@
+//! The calls of endpoints over lanes that peers share, tested.
+//!
+//! They stand in a crate of their own, so that `fab_domain` isn't proved twice.
+#![tactic(auto)]
+
+#[cfg(test)]
+mod calls;
+#[cfg(test)]
+mod opening;
+#[cfg(test)]
+mod rows;

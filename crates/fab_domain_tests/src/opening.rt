@@ -1,0 +1,88 @@
+//! Endpoints over lanes are named here alone: what is tested is generic.
+use crate::rows::{Row, Sizes};
+use fab_base::{Caps, Hints, Info};
+use fab_domain::{RingEndpoint, endpoints};
+use fab_info::getinfo;
+use std::alloc::Global;
+use std::test::Fail;
+
+/// The endpoints of two peers.
+#[derive(Drop)]
+struct Pair {
+    zero: RingEndpoint,
+    one: RingEndpoint,
+}
+
+/// All that is on offer, for two peers, with these sizes.
+fn granted(sizes: Sizes) -> Option<Info> {
+    let hints = Hints {
+        caps: Caps::none(),
+        peers: Some(2),
+        lane: Some(sizes.lane),
+        pool: Some(sizes.lane),
+        tx: Some(sizes.tx),
+        rx: None,
+        cq: Some(sizes.cq),
+        log: None,
+        inject: None,
+        message: None,
+    };
+    getinfo(Some(&hints)).ok()
+}
+
+/// The endpoints of all peers.
+fn opened(alloc: Global, info: &Info) -> Vec<RingEndpoint> {
+    match endpoints(alloc, info, false) {
+        Ok(all) => all,
+        Err(_) => Vec::new(alloc),
+    }
+}
+
+/// The last two of these endpoints.
+fn last_two(mut all: Vec<RingEndpoint>) -> Option<Pair> {
+    match (all.pop(), all.pop()) {
+        (Some(one), Some(zero)) => Some(Pair { zero, one }),
+        _ => None,
+    }
+}
+
+/// Whether the row holds between two new endpoints.
+fn holds(alloc: Global, row: Row) -> bool {
+    let Some(info) = granted(row.sizes()) else {
+        return false;
+    };
+    match last_two(opened(alloc, &info)) {
+        Some(mut pair) => row.holds(alloc, &mut pair.zero, &mut pair.one),
+        None => false,
+    }
+}
+
+#[test]
+fn a_message_under_way(rt: HostRuntime) -> Result<(), Fail> {
+    assert!(rt; holds(rt.alloc(), Row::UnderWay));
+    Ok(())
+}
+
+#[test]
+fn everything_full(rt: HostRuntime) -> Result<(), Fail> {
+    assert!(rt; holds(rt.alloc(), Row::AllFull));
+    Ok(())
+}
+
+#[test]
+fn a_full_completion_queue(rt: HostRuntime) -> Result<(), Fail> {
+    assert!(rt; holds(rt.alloc(), Row::QueueFull));
+    Ok(())
+}
+
+#[test]
+fn a_directed_receive(rt: HostRuntime) -> Result<(), Fail> {
+    assert!(rt; holds(rt.alloc(), Row::Directed));
+    Ok(())
+}
+
+#[test]
+fn a_region_is_written_and_read(rt: HostRuntime) -> Result<(), Fail> {
+    assert!(rt; holds(rt.alloc(), Row::Served));
+    Ok(())
+}

@@ -1,0 +1,134 @@
+//! Calls one at a time, between endpoints whose lanes, operations and completion queues are short.
+use crate::calls::{
+    Calls, Came, brings, cancels, closes_not, failed, has, looks, moves, next_came, pops_not,
+    reads, receives, registers, send, sent, writes,
+};
+use fab_base::{Busy, Fault};
+use fab_face::events::Stop;
+use std::alloc::Global;
+
+/// How many frames a lane holds, and how many operations and completions an endpoint.
+#[derive(Clone, Copy, Drop)]
+pub struct Sizes {
+    pub lane: u32,
+    pub tx: u32,
+    pub cq: u32,
+}
+
+/// What is tested between two new endpoints.
+#[derive(Clone, Copy, Drop)]
+pub enum Row {
+    UnderWay,
+    AllFull,
+    QueueFull,
+    Directed,
+    Served,
+}
+
+impl Row {
+    /// The sizes with which the endpoints are opened.
+    pub fn sizes(self) -> Sizes {
+        let (lane, tx, cq) = match self {
+            Row::UnderWay => (1, 4, 8),
+            Row::AllFull => (1, 1, 8),
+            Row::QueueFull => (1, 1, 2),
+            Row::Directed | Row::Served => (4, 4, 8),
+        };
+        Sizes { lane, tx, cq }
+    }
+
+    /// Whether all calls answer as they should.
+    pub fn holds<E: Calls>(self, alloc: Global, zero: &mut E, one: &mut E) -> bool {
+        match self {
+            Row::UnderWay => completes_whole(alloc, zero, one),
+            Row::AllFull => goes_on(alloc, zero, one),
+            Row::QueueFull => waits_for_room(zero),
+            Row::Directed => takes_from(alloc, zero, one),
+            Row::Served => serves(alloc, zero, one),
+        }
+    }
+}
+
+/// A receive that is matched is not cancelled, and completes with the last frame of its message.
+fn completes_whole<E: Calls>(alloc: Global, zero: &mut E, one: &mut E) -> bool {
+    let posted = receives(alloc, zero, None, 8000, 1);
+    let went = send(alloc, one, 5000, 2) == Ok(());
+    let first = moves(zero, 8, 1, 0, Stop::Idle);
+    let waits = cancels(zero, 1) == Err(Fault::NoEntry);
+    let second = moves(one, 8, 0, 1, Stop::Idle);
+    let came = Came {
+        ctx: 1,
+        source: 1,
+        len: 5000,
+    };
+    let whole = next_came(zero) == Some(came);
+    posted && went && first && waits && second && whole
+}
+
+/// Where the one operation is under way, a message is refused with its buffer, until the lane has room: the push of
+/// the next call posts the rest.
+fn goes_on<E: Calls>(alloc: Global, zero: &mut E, one: &mut E) -> bool {
+    let large = send(alloc, one, 5000, 1) == Ok(());
+    let full = send(alloc, one, 1, 2) == Err((Fault::Again(Busy::TxFull(1)), 1));
+    let taken = moves(zero, 1, 1, 0, Stop::Budget);
+    let room = send(alloc, one, 1, 2) == Ok(());
+    let done = sent(one) == Some(1);
+    let rest = moves(zero, 8, 1, 0, Stop::Idle);
+    let small = moves(one, 8, 0, 1, Stop::Idle);
+    let posted = receives(alloc, zero, None, 5000, 3);
+    let came = Came {
+        ctx: 3,
+        source: 1,
+        len: 5000,
+    };
+    let whole = next_came(zero) == Some(came);
+    large && full && taken && room && done && rest && small && posted && whole
+}
+
+/// Two looks fill the completion queue; the third waits until an error is read.
+fn waits_for_room<E: Calls>(zero: &mut E) -> bool {
+    let one = looks(zero, 5, 1) == Ok(());
+    let two = looks(zero, 5, 2) == Ok(());
+    let third = looks(zero, 5, 3) == Err(Fault::Again(Busy::CqFull(2)));
+    let pops = pops_not(zero) == Some(Fault::Avail);
+    let reads = failed(zero) == Some(1);
+    let again = looks(zero, 5, 3) == Ok(());
+    one && two && third && pops && reads && again
+}
+
+/// A receive from one peer leaves the message of another where it is.
+fn takes_from<E: Calls>(alloc: Global, zero: &mut E, one: &mut E) -> bool {
+    let own = send(alloc, zero, 2, 5) == Ok(());
+    let other = send(alloc, one, 3, 6) == Ok(());
+    let both = moves(zero, 8, 2, 0, Stop::Idle);
+    let posted = receives(alloc, zero, Some(1), 4, 1);
+    let done = sent(zero) == Some(5);
+    let from = next_came(zero)
+        == Some(Came {
+            ctx: 1,
+            source: 1,
+            len: 3,
+        });
+    let rest = receives(alloc, zero, None, 4, 2);
+    let left = next_came(zero)
+        == Some(Came {
+            ctx: 2,
+            source: 0,
+            len: 2,
+        });
+    own && other && both && posted && done && from && rest && left
+}
+
+/// A region is written by another peer, and read by it.
+fn serves<E: Calls>(alloc: Global, zero: &mut E, one: &mut E) -> bool {
+    let registered = registers(alloc, one, 9, b"01234567");
+    let asked = writes(zero, 9, 2, b"abcd");
+    let served = moves(one, 8, 1, 1, Stop::Idle);
+    let written = has(one, 9, b"01abcd67");
+    let accepted = reads(alloc, zero, 9, 3, 3);
+    let answered = moves(one, 8, 1, 1, Stop::Idle);
+    let brought = brings(zero, b"bcd");
+    let closed = closes_not(one, 9).is_none();
+    let gone = closes_not(one, 9) == Some(Fault::NoKey);
+    registered && asked && served && written && accepted && answered && brought && closed && gone
+}
