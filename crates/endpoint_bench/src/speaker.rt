@@ -37,6 +37,8 @@ pub struct Speaker<E: Calls + Drop> {
     spare: Vec<Buf>,
     /// How many messages came that were not asked for yet.
     came: u64,
+    /// Whether a message whose buffer comes back is not yet on the lane as a whole.
+    under_way: bool,
     /// How many reads in a row brought nothing.
     idle: u32,
 }
@@ -103,6 +105,7 @@ impl<E: Calls + Drop> Speaker<E> {
             other,
             spare: Vec::new(alloc),
             came: 0,
+            under_way: false,
             idle: 0,
         })
     }
@@ -115,7 +118,10 @@ impl<E: Calls + Drop> Speaker<E> {
                 self.came = self.came.saturating_add(1);
                 post(&mut self.endpoint, buf);
             }
-            Taken::Sent(buf) => self.keep(buf),
+            Taken::Sent(buf) => {
+                self.under_way = false;
+                self.keep(buf);
+            }
             Taken::Nothing => return self.rest(),
         }
         self.idle = 0;
@@ -144,6 +150,17 @@ impl<E: Calls + Drop> Speaker<E> {
         }
     }
 
+    /// Sends a message whose buffer comes back, and tells whether all of it is on the lane: whoever stops before
+    /// would leave the rest unsent.
+    fn send_through(&mut self, bytes: &[u8]) -> bool {
+        if !self.under_way {
+            self.under_way = self.send(bytes);
+        }
+        let was = self.under_way;
+        self.read();
+        was && !self.under_way
+    }
+
     /// Sends a message whose buffer comes back.
     fn send(&mut self, bytes: &[u8]) -> bool {
         let Some(buf) = self.buffer(bytes) else {
@@ -161,11 +178,10 @@ impl<E: Calls + Drop> Speaker<E> {
 
 impl<E: Calls + Drop> Party for Speaker<E> {
     fn put(&mut self, bytes: &[u8]) -> bool {
-        let done = if bytes.len() <= COPIED {
-            send_copied(&mut self.endpoint, self.other, bytes)
-        } else {
-            self.send(bytes)
-        };
+        if bytes.len() > COPIED {
+            return self.send_through(bytes);
+        }
+        let done = send_copied(&mut self.endpoint, self.other, bytes);
         if !done {
             self.read();
         }
