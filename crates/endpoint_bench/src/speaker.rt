@@ -1,4 +1,8 @@
 //! An endpoint that speaks with one other peer.
+//!
+//! What is timed of a ping-pong is what each side does one after the other: a message goes out, the receive of the one that
+//! came before it is posted again, and reads follow until the next one came. A message is answered before its buffer is
+//! posted again, while the answer is under way, and one receive more than messages can come stands posted for that.
 use fab_base::{Buf, Entry, Flags, Level, NoMemory};
 use fab_bench::runs::Party;
 use fab_face::calls::{Logs, Messages, Progress, Receives};
@@ -27,8 +31,7 @@ const FLAGS: Flags = Flags {
     level: Level::Transmit,
 };
 
-/// An endpoint with receives that are posted again as soon as they complete, and the buffers of messages that
-/// were sent.
+/// An endpoint with receives that are posted again once they are complete, and the buffers of messages that were sent.
 #[derive(Drop)]
 pub struct Speaker<E: Calls + Drop> {
     alloc: Global,
@@ -37,6 +40,8 @@ pub struct Speaker<E: Calls + Drop> {
     spare: Vec<Buf>,
     /// How many messages came that were not asked for yet.
     came: u64,
+    /// The buffer of the last one that came, until it is posted again.
+    late: Option<Buf>,
     /// Whether a message whose buffer comes back is not yet on the lane as a whole.
     under_way: bool,
     /// How many reads in a row brought nothing.
@@ -87,7 +92,7 @@ fn send_whole<E: Calls>(endpoint: &mut E, other: u32, buf: Buf) -> Option<Buf> {
 }
 
 impl<E: Calls + Drop> Speaker<E> {
-    /// Posts so many receives, of so many bytes each.
+    /// Posts so many receives and one more, of so many bytes each.
     pub fn new(
         alloc: Global,
         mut endpoint: E,
@@ -95,7 +100,7 @@ impl<E: Calls + Drop> Speaker<E> {
         ahead: u64,
         room: usize,
     ) -> Result<Speaker<E>, NoMemory> {
-        for _ in 0..ahead {
+        for _ in 0..ahead.saturating_add(1) {
             let room = Buf::zeros(alloc, room as u64)?;
             post(&mut endpoint, room);
         }
@@ -105,18 +110,20 @@ impl<E: Calls + Drop> Speaker<E> {
             other,
             spare: Vec::new(alloc),
             came: 0,
+            late: None,
             under_way: false,
             idle: 0,
         })
     }
 
-    /// Reads the next completion: the buffer of a message that came is posted again, and that of one that was sent
-    /// is kept.
+    /// Reads the next completion: the buffer of a message that came is posted again later, and that of one that was
+    /// sent is kept.
     fn read(&mut self) {
         match take_next(&mut self.endpoint) {
             Taken::Came(buf) => {
                 self.came = self.came.saturating_add(1);
-                post(&mut self.endpoint, buf);
+                self.post_late();
+                self.late = Some(buf);
             }
             Taken::Sent(buf) => {
                 self.under_way = false;
@@ -125,6 +132,14 @@ impl<E: Calls + Drop> Speaker<E> {
             Taken::Nothing => return self.rest(),
         }
         self.idle = 0;
+    }
+
+    /// Posts the receive again whose message came last. The log is emptied before, so that it has a place for the call.
+    fn post_late(&mut self) {
+        if let Some(buf) = self.late.take() {
+            self.endpoint.log_clear();
+            post(&mut self.endpoint, buf);
+        }
     }
 
     /// Lets another thread go on, after many reads that brought nothing.
@@ -156,6 +171,7 @@ impl<E: Calls + Drop> Speaker<E> {
         if !self.under_way {
             self.under_way = self.send(bytes);
         }
+        self.post_late();
         let was = self.under_way;
         self.read();
         was && !self.under_way
@@ -182,6 +198,7 @@ impl<E: Calls + Drop> Party for Speaker<E> {
             return self.send_through(bytes);
         }
         let done = send_copied(&mut self.endpoint, self.other, bytes);
+        self.post_late();
         if !done {
             self.read();
         }
@@ -190,6 +207,7 @@ impl<E: Calls + Drop> Party for Speaker<E> {
 
     fn take(&mut self, _into: &mut [u8]) -> bool {
         if self.came == 0 {
+            self.post_late();
             self.read();
         }
         if self.came == 0 {
