@@ -167,15 +167,19 @@ impl<M: Matcher> Core<M> {
         head.from == 0 && self.rx.is_draw_due()
     }
 
-    /// Whether the last frame of an item waits for room in the completion queue.
+    /// Whether the last frame of an item waits for room in the completion queue. With room for two entries nothing
+    /// has to be looked for.
     pub(crate) fn lacks(&self, source: u32, head: &FrameHead) -> bool
         requires source { source < length self.now.rx.begun }
         requires first { head.now.from ≡ 0 → begun_of self.now.rx source ≡ None }
         requires next { head.now.from ≢ 0 → IsSomeAnd (begun_of self.now.rx source) (λ item. item.head ≡ head.now.item) }
         ensures { result ≡ lacks_at_tail (arrived (head.now.from == 0) source head.now.item self.now.rx) source head.now.item self.now }
     {
+        if self.cq.has_room(2) {
+            return false;
+        }
         self.writes_when_whole(source, head) && !self.cq.has_room(1)
-            || !self.cq.has_room(2) && self.closes_when_whole(source, head)
+            || self.closes_when_whole(source, head)
     }
 
     /// Takes a frame that is not the last one of its item.

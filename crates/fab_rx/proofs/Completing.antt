@@ -107,18 +107,8 @@ module _ (r : Receive) (place source : ℕ) (head : ItemHead) (bytes : List ℕ)
       by None e = absurd (let no : false ≡ true = rw e at multi in cc)
       by (Some least) e = rw (space, entry_of, truncated, e, same, tagged, room) refl
 
-module _ (parcels : Cells Parcel) (source : ℕ) (b : Begun) (c : Coming) (item : Item) (is : IsComing parcels source b c item) where
-  -- more bytes of the message come into the receive
-  pub into_more : (seat : Seat) (bytes buf : List ℕ) → b.way ≡ Into seat → b.got + length bytes ≤ b.head.total → buf ≡ paste seat.buf b.got bytes
-      → IsComing parcels source (record { head = b.head; got = b.got + length bytes; way = Into (record { buf = buf; ctx = seat.ctx }) }) c (lengthened bytes item)
-  into_more seat bytes buf way fits pasted =
-      let goes : GoesBy parcels source (Into seat) c item = rw way at is.way in
-      let long = length-append item.bytes bytes in
-      let got = is.got in
-      let total : item.head.total ≡ b.head.total = ap (λ (h : ItemHead). h.total) is.head in
-      record {
-        head = is.head;
-        got = omega arith;
-        within = omega arith;
-        way = (goes.0, goes.1, goes.2, rw (pasted, goes.3, is.got) (ap (λ filled. record { buf = filled; ctx = goes.0.ctx }) (paste_more goes.0.buf item.bytes bytes)));
-      }
+-- more bytes of the message come into the receive
+pub into_more : (parcels : Cells Parcel) (source got : ℕ) (c : Coming) (item : Item) (seat : Seat) (bytes buf : List ℕ) → length item.bytes ≡ got → GoesBy parcels source (Into seat) c item → buf ≡ paste seat.buf got bytes
+    → GoesBy parcels source (Into (record { buf = buf; ctx = seat.ctx })) c (lengthened bytes item)
+into_more parcels source got c item seat bytes buf so_far goes pasted =
+    (goes.0, goes.1, goes.2, rw (pasted, goes.3, ← so_far) (ap (λ filled. record { buf = filled; ctx = goes.0.ctx }) (paste_more goes.0.buf item.bytes bytes)))

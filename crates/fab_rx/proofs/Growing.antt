@@ -2,7 +2,7 @@
 use Rattle.std.proofs.Common.{◌≡◌, ◌≢◌, ◌⊎◌, inl, inr, ℕ, ◌+◌, ◌<◌, ◌==◌, Bool, true, false, List, length, Option, Some, None, get_or, set, refl, sym, ap, subst, ◌∙◌, arith, length-set}
 use Rattle.std.specs.Prelude.{IsSomeAnd, Vec}
 use Rattle.std.proofs.lemmas.Bool.{eqb-true, eq-eqb}
-use Rattle.std.proofs.lemmas.List.{set-get_or, set-set}
+use Rattle.std.proofs.lemmas.List.{set-get_or}
 use Rattle.fab_base.specs.declared.items.Item.{Item}
 use Rattle.fab_base.specs.declared.items.Kind.{Kind}
 use Rattle.fab_base.specs.declared.items.Kind.TheVariants.{Msg, TagMsg, WriteReq, ReadReq, AtomicReq, Reply}
@@ -23,6 +23,7 @@ use Rattle.fab_rx.specs.declared.stored.Way.TheVariants.{Into, Part, Keep, Throw
 use Rattle.fab_rx.specs.declared.stored.Begun.{Begun}
 use Rattle.fab_rx.specs.Table.{Cells, at}
 use Rattle.fab_rx.specs.Arriving.{Arriving, begun_of, bytes_come, count_begun, finishing, growing, kept as kept_by, lengthened, shared, without_closed}
+use Rattle.fab_rx.specs.Homes.{IsMore}
 use Rattle.fab_rx.specs.Stored.{AreClaimed, GoesBy, IsClaim, IsComing, IsKept, IsKeptAs, IsKeptWay, IsWay, Lies, parcel_of, parcel_without}
 use Rattle.fab_rx.proofs.Tables.{id_within}
 use Rattle.fab_rx.proofs.Tying.{same_or, retied, retied_map}
@@ -32,6 +33,16 @@ use Rattle.fab_rx.proofs.Keeping.{IsStored, at_other, at_same, counts_set, lies_
 pub item_there : (P : Item → Type 0) (o : Option Item) → IsSomeAnd o P → (item : Item) × (o ≡ Some item) × P item
 item_there P None h = absurd h
 item_there P (Some item) h = (item, refl, h)
+
+-- more bytes came of what is stored, as it says
+pub more_there : (bytes : List ℕ) (source : ℕ) (coming next : List (Option Begun)) → IsSomeAnd (get_or coming source None) (λ b. (new : Begun) × (next ≡ set coming source (Some new)) × IsMore bytes b new)
+    → (b : Begun) × (get_or coming source None ≡ Some b) × (new : Begun) × (next ≡ set coming source (Some new)) × IsMore bytes b new
+more_there bytes source coming next h = by (get_or coming source None) refl h
+  where
+    by : (o : Option Begun) → get_or coming source None ≡ o → IsSomeAnd o (λ b. (new : Begun) × (next ≡ set coming source (Some new)) × IsMore bytes b new)
+        → (b : Begun) × (get_or coming source None ≡ Some b) × (new : Begun) × (next ≡ set coming source (Some new)) × IsMore bytes b new
+    by None is h = absurd h
+    by (Some b) is h = (b, is, h.0, h.1, h.2)
 
 -- what is no message is not kept
 pub kept_other : (kind : Kind) (source : ℕ) (bytes : List ℕ) (rx : Receiving) → kept_by (Some (way_of kind)) source bytes rx ≡ rx
@@ -77,12 +88,11 @@ module _ (ps : List (ℕ × Want)) (us : List (ℕ × Sign)) (room : ℕ) (seats
   counted = kept.under_way source within ∙ ap (λ (i : Option Item). get_or v.rx.tails source 0 + count_begun i) begun
 
   -- more of its bytes came
-  pub grows : (b : Begun) (bytes : List ℕ) (rest : List (Option Begun)) → rest ≡ set (set coming source None) source (Some b) → IsComing parcels source b stored.way (lengthened bytes item) → ((id : ℕ) → IsKeptWay id stored.begun.way → IsKeptWay id b.way)
+  pub grows : (b : Begun) (bytes : List ℕ) (rest : List (Option Begun)) → rest ≡ set coming source (Some b) → IsComing parcels source b stored.way (lengthened bytes item) → ((id : ℕ) → IsKeptWay id stored.begun.way → IsKeptWay id b.way)
       → IsKept ps us room seats parcels rest (growing source bytes v)
   grows b bytes rest is comes ids =
-      let once : rest ≡ set coming source (Some b) = is ∙ set-set coming source None (Some b) in
       let now = Some (lengthened bytes item) in
-      rw (once, begun) (record {
+      rw (is, begun) (record {
         receives = kept.receives;
         messages = retied (Lies parcels coming) (Lies parcels (set coming source (Some b))) us v.rx.unexpected
             (λ p a l. lies_set parcels coming source (Some b) p a (row ps us room seats parcels coming v kept source within)
@@ -210,7 +220,7 @@ module _ (ps : List (ℕ × Want)) (us : List (ℕ × Sign)) (room : ℕ) (seats
     comes : IsComing parcels source b stored.way item
     comes = subst (λ (x : Begun). IsComing parcels source x stored.way item) (sym equal) stored.coming
 
-    pub grows_by : (new : Begun) (bytes : List ℕ) (rest : List (Option Begun)) → rest ≡ set (set coming source None) source (Some new)
+    pub grows_by : (new : Begun) (bytes : List ℕ) (rest : List (Option Begun)) → rest ≡ set coming source (Some new)
         → ((ps : Cells Parcel) (s : ℕ) (c : Coming) (i : Item) → IsComing ps s b c i → IsComing ps s new c (lengthened bytes i)) → ((id : ℕ) → IsKeptWay id b.way → IsKeptWay id new.way)
         → IsKept ps us room seats parcels rest (growing source bytes v)
     grows_by new bytes rest is more ids =
@@ -233,11 +243,9 @@ module _ (ps : List (ℕ × Want)) (us : List (ℕ × Sign)) (room : ℕ) (seats
         reserved = aside.reserved;
       }
 
-      pub claims_grown : (new : Begun) (bytes : List ℕ) (rest : List (Option Begun)) → rest ≡ set (set coming source None) source (Some new) → ((id : ℕ) → IsKeptWay id b.way → IsKeptWay id new.way)
+      pub claims_grown : (new : Begun) (bytes : List ℕ) (rest : List (Option Begun)) → rest ≡ set coming source (Some new) → ((id : ℕ) → IsKeptWay id b.way → IsKeptWay id new.way)
           → AreClaimed us parcels rest cs capacity (growing source bytes v).rx.claimed
-      claims_grown new bytes rest is ids =
-          let once : rest ≡ set coming source (Some new) = is ∙ set-set coming source None (Some new) in
-          rw once (claims_set (Some new) ids)
+      claims_grown new bytes rest is ids = rw is (claims_set (Some new) ids)
 
       claimed_still : (way : Way) → b.way ≡ way → ((id : ℕ) → IsKeptWay id way → ⊥) → (finishing source v).rx.claimed ≡ v.rx.claimed
       unfolding made_whole

@@ -3,7 +3,7 @@ use Rattle.std.proofs.Common.{◌≡◌, ℕ, ◌+◌, ◌<◌, true, false, Lis
 use Rattle.std.specs.Prelude.{Vec, is_some, replicate}
 use Rattle.std.specs.List.{AllZip}
 use Rattle.std.proofs.lemmas.Bool.{eqb-true, eq-eqb}
-use Rattle.std.proofs.lemmas.List.{append-nil, set-get_or, set-set, length-replicate}
+use Rattle.std.proofs.lemmas.List.{append-nil, set-get_or, length-replicate}
 use Rattle.fab_base.specs.declared.items.ItemHead.{ItemHead}
 use Rattle.fab_base.specs.declared.items.Want.{Want}
 use Rattle.fab_base.specs.declared.items.Sign.{Sign}
@@ -134,13 +134,12 @@ module _ (ps : List (ℕ × Want)) (us : List (ℕ × Sign)) (room : ℕ) (seats
   -- ---- its bytes come, and it ends
 
   module _ (source : ℕ) (within : source < length v.begun) (b : Begun) (is_stored : Some b ≡ get_or coming source None) where
-    pub multi_grown : (new : Begun) (bytes : List ℕ) (rest : List (Option Begun)) → rest ≡ set (set coming source None) source (Some new)
+    pub multi_grown : (new : Begun) (bytes : List ℕ) (rest : List (Option Begun)) → rest ≡ set coming source (Some new)
         → ((c : Option Coming) → GoesHomeBy m.homes m.calls seats b.way c → GoesHomeBy m.homes m.calls seats new.way c) → ((id : ℕ) → is_part_of id new.way ≡ is_part_of id b.way) → AreMulti ps cs seats rest v.rx.posted v.rx.closing v.rx.coming v.next v.multis v.most
     multi_grown new bytes rest is home same =
-        let once : rest ≡ set coming source (Some new) = is ∙ set-set coming source None (Some new) in
         let c = get_or v.rx.coming source None in
         let was : GoesHomeBy m.homes m.calls seats b.way c = subst (λ (o : Option Begun). GoesHome m.homes m.calls seats o c) (sym is_stored) (m.ways source) in
-        rw once (subst (λ (xs : List (Option Coming)). AreMulti ps cs seats (set coming source (Some new)) v.rx.posted v.rx.closing xs v.next v.multis v.most) (set-get_or v.rx.coming source None)
+        rw is (subst (λ (xs : List (Option Coming)). AreMulti ps cs seats (set coming source (Some new)) v.rx.posted v.rx.closing xs v.next v.multis v.most) (set-get_or v.rx.coming source None)
         (change source (Some new) c within (home c was) (λ id fed. same id ∙ subst (λ (o : Option Begun). is_fed_by id o ≡ true) (sym is_stored) fed)))
 
     -- an item that goes to no multi-receive

@@ -3,24 +3,27 @@
 --     part_id way             the id of the one to which the item goes
 --     is_fed_by id begun      the same of what is stored of a source
 --     IsHome, Rests           what is known of a receive that is posted, and of a multi-receive that is closing
+--     IsMore                  more bytes come of what is stored of an item
 --     IsPart                  what is known of the multi-receive under the id to which an item goes
 --     AreMulti                all of it: homes gives the id of a multi-receive by the number of its call, calls the number by the id
 use Rattle.std.specs.Prelude.{◌≡◌, ℕ, ◌+◌, ◌==◌, ◌≤◌, Bool, true, false, List, [], length, Option, Some, None, is_some, slice_index_or, unwrap_or}
 use Rattle.std.specs.List.{AllZip, AllByRecursion, list_any}
 use Rattle.std.specs.Option.{option_map}
+use Rattle.fab_base.specs.declared.items.Item.{Item}
 use Rattle.fab_base.specs.declared.items.Kind.{Kind}
 use Rattle.fab_base.specs.declared.items.Want.{Want}
 use Rattle.fab_base.specs.declared.operations.Receive.{Receive}
 use Rattle.fab_base.specs.declared.operations.Coming.{Coming}
 use Rattle.fab_base.specs.declared.operations.Coming.TheVariants.{Into as IntoReceive, Keep as KeepIt, Throw as ThrowIt}
 use Rattle.fab_model.specs.Arrivals.{way_of}
+use Rattle.fab_rx.specs.declared.stored.Parcel.{Parcel}
 use Rattle.fab_rx.specs.declared.stored.Waiting.{Waiting}
 use Rattle.fab_rx.specs.declared.stored.Way.{Way}
 use Rattle.fab_rx.specs.declared.stored.Way.TheVariants.{Into, Part, Keep, Throw, Gather}
 use Rattle.fab_rx.specs.declared.stored.Begun.{Begun}
 use Rattle.fab_rx.specs.Table.{Cells, at}
-use Rattle.fab_rx.specs.Arriving.{call_in, id_in}
-use Rattle.fab_rx.specs.Stored.{AreApart, IsFit, waiting_of}
+use Rattle.fab_rx.specs.Arriving.{call_in, id_in, lengthened}
+use Rattle.fab_rx.specs.Stored.{AreApart, IsComing, IsFit, IsKeptWay, waiting_of}
 
 -- ---- items under way
 
@@ -81,6 +84,15 @@ GoesHomeBy homes calls seats (Gather bytes) c = (kind : Kind) × (c ≡ Some (wa
 abbrev pub GoesHome : (ℕ → Option ℕ) → (ℕ → ℕ) → Cells Waiting → Option Begun → Option Coming → Type 0
 GoesHome homes calls seats None c = c ≡ None
 GoesHome homes calls seats (Some b) c = GoesHomeBy homes calls seats b.way c
+
+-- ---- more bytes come
+
+-- what is stored of an item, b, is that of the item with these bytes besides in new
+pub record IsMore (bytes : List ℕ) (b new : Begun) : Type 0 where
+  pub coming : (parcels : Cells Parcel) (source : ℕ) (c : Coming) (item : Item) → IsComing parcels source b c item → IsComing parcels source new c (lengthened bytes item)
+  pub id : (id : ℕ) → IsKeptWay id b.way → IsKeptWay id new.way
+  pub home : (homes : ℕ → Option ℕ) (calls : ℕ → ℕ) (seats : Cells Waiting) (c : Option Coming) → GoesHomeBy homes calls seats b.way c → GoesHomeBy homes calls seats new.way c
+  pub part : (id : ℕ) → is_part_of id new.way ≡ is_part_of id b.way
 
 -- ---- all of it
 

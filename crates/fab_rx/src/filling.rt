@@ -1,5 +1,5 @@
 //! Bytes of items, as they come: into a receive's buffer or one of their own.
-ghost use Rattle.std.specs.Prelude.{◌≡◌, ◌+◌, ◌<◌, ◌≤◌, ◌++◌, ℕ, List, Option, None, Some, length, slice_index_or, slice_set, vec_len, vec_capacity};
+ghost use Rattle.std.specs.Prelude.{◌≡◌, ◌+◌, ◌<◌, ◌≤◌, ◌++◌, ℕ, List, Option, None, Some, IsSomeAnd, length, slice_index_or, slice_set, vec_len, vec_capacity};
 ghost use Rattle.fab_base.specs.declared.items.Item.{Item};
 ghost use Rattle.fab_base.specs.declared.operations.Receive.{Receive};
 ghost use Rattle.fab_base.specs.declared.operations.Coming.{Coming};
@@ -8,24 +8,31 @@ ghost use Rattle.fab_rx.specs.declared.stored.Parcel.{Parcel};
 ghost use Rattle.fab_rx.specs.Table.{Cells};
 ghost use Rattle.fab_rx.specs.Arriving.{IsSingle, lengthened};
 ghost use Rattle.fab_rx.specs.Results.{completed};
-ghost use Rattle.fab_rx.specs.Stored.{HasRoomFor, IsComing, IsKeptWay, gone_on, moved, redirected, seat_with, thrown_on};
+ghost use Rattle.fab_rx.specs.Stored.{GoesBy, HasRoomFor, IsKeptWay, WayHasRoomFor, gone_on, moved, redirected, seat_with, thrown_on};
 ghost use Rattle.fab_rx.specs.declared.stored.Waiting.{Waiting};
-ghost use Rattle.fab_rx.specs.Homes.{GoesHomeBy, is_part_of};
+ghost use Rattle.fab_rx.specs.Homes.{GoesHomeBy, IsMore, is_part_of};
 
 use crate::results::Completed;
 use crate::stored::{Begun, Seat, Way};
 use fab_base::{Buf, Entry, ErrEntry, ErrKind, ItemHead, Kind, Taken};
+
+/// These bytes come into the buffer from the place `at` on, as many as fit.
+fn place(buf: &mut Buf, at: usize, bytes: &[u8])
+    ensures { buf.new ≡ paste buf.old at bytes.now }
+{
+    let room = buf.as_slice().len().saturating_sub(at);
+    let fit = bytes.len().min(room);
+    if fit > 0 {
+        buf.write_at(at, &bytes[..fit]);
+    }
+}
 
 /// The buffer with these bytes in it from the place `at` on, as many as fit.
 pub fn placed(buf: Buf, at: usize, bytes: &[u8]) -> Buf
     ensures { result ≡ paste buf at bytes.now }
 {
     let mut buf = buf;
-    let room = buf.as_slice().len().saturating_sub(at);
-    let fit = bytes.len().min(room);
-    if fit > 0 {
-        buf.write_at(at, &bytes[..fit]);
-    }
+    place(&mut buf, at, bytes);
     buf
 }
 
@@ -91,69 +98,50 @@ pub fn complete(seat: Seat, source: u32, head: &ItemHead) -> Completed
     }
 }
 
-/// The item with more of its bytes, for which there is room.
-pub fn filled(begun: Begun, bytes: &[u8]) -> Begun
-    requires { HasRoomFor (length bytes.now) begun }
-    ensures coming { (parcels : Cells Parcel) (source : ℕ) (c : Coming) (item : Item) → IsComing parcels source begun c item → IsComing parcels source result c (lengthened bytes.now item) }
-    ensures id { (id : ℕ) → IsKeptWay id begun.way → IsKeptWay id result.way }
-    ensures home { (homes : ℕ → Option ℕ) (calls : ℕ → ℕ) (seats : Cells Waiting) (c : Option Coming) → GoesHomeBy homes calls seats begun.way c → GoesHomeBy homes calls seats result.way c }
-    ensures part { (id : ℕ) → is_part_of id result.way ≡ is_part_of id begun.way }
+/// More bytes come on the way of an item, of which `got` came before.
+fn go_on(way: &mut Way, got: u32, bytes: &[u8])
+    requires { WayHasRoomFor (length bytes.now) way.old }
+    ensures coming { (parcels : Cells Parcel) (source : ℕ) (c : Coming) (item : Item) → length item.bytes ≡ got → GoesBy parcels source way.old c item → GoesBy parcels source way.new c (lengthened bytes.now item) }
+    ensures id { (id : ℕ) → IsKeptWay id way.old → IsKeptWay id way.new }
+    ensures home { (homes : ℕ → Option ℕ) (calls : ℕ → ℕ) (seats : Cells Waiting) (c : Option Coming) → GoesHomeBy homes calls seats way.old c → GoesHomeBy homes calls seats way.new c }
+    ensures part { (id : ℕ) → is_part_of id way.new ≡ is_part_of id way.old }
 {
-    let Begun { head, got, way } = begun;
-    let more = got + bytes.len() as u32;
     match way {
-        Way::Into(Seat { buf, ctx }) => Begun {
-            head,
-            got: more,
-            way: Way::Into(Seat {
-                buf: placed(buf, got as usize, bytes),
-                ctx,
-            }),
-        },
+        Way::Into(seat) => place(&mut seat.buf, got as usize, bytes),
         Way::Part {
-            id,
-            at,
-            bytes: mut gathered,
-        } => {
-            append(&mut gathered, bytes);
-            Begun {
-                head,
-                got: more,
-                way: Way::Part {
-                    id,
-                    at,
-                    bytes: gathered,
-                },
-            }
-        }
+            bytes: gathered,
+            ..
+        } => append(gathered, bytes),
         Way::Keep {
-            id,
-            bytes: mut gathered,
-        } => {
-            append(&mut gathered, bytes);
-            Begun {
-                head,
-                got: more,
-                way: Way::Keep {
-                    id,
-                    bytes: gathered,
-                },
-            }
-        }
-        Way::Throw => Begun {
-            head,
-            got: more,
-            way: Way::Throw,
-        },
-        Way::Gather(mut gathered) => {
-            append(&mut gathered, bytes);
-            Begun {
-                head,
-                got: more,
-                way: Way::Gather(gathered),
-            }
-        }
+            bytes: gathered,
+            ..
+        } => append(gathered, bytes),
+        Way::Throw => {}
+        Way::Gather(gathered) => append(gathered, bytes),
     }
+}
+
+/// More bytes come of an item. There is room for them.
+fn grow(begun: &mut Begun, bytes: &[u8])
+    requires { HasRoomFor (length bytes.now) begun.old }
+    ensures { IsMore bytes.now begun.old begun.new }
+{
+    // No more than its head says, which has 32 bits.
+    let _total = begun.head.total;
+    go_on(&mut begun.way, begun.got, bytes);
+    begun.got += bytes.len() as u32;
+}
+
+/// More bytes come of what is under way of a source. There is room for them.
+pub fn fill(coming: &mut Vec<Option<Begun>>, source: u32, bytes: &[u8])
+    requires source { source < vec_len coming.old }
+    requires room { IsSomeAnd (slice_index_or coming.old.items source None) (HasRoomFor (length bytes.now)) }
+    ensures { IsSomeAnd (slice_index_or coming.old.items source None) (λ b. (new : Begun) × (coming.new.items ≡ slice_set coming.old.items source (Some new)) × IsMore bytes.now b new) }
+{
+    let Some(begun) = &mut coming[source as usize] else {
+        unreachable!()
+    };
+    grow(begun, bytes);
 }
 
 /// The buffer with the bytes that were gathered for a message.

@@ -11,7 +11,7 @@ ghost use Rattle.fab_base.specs.declared.operations.Receive.{Receive};
 ghost use Rattle.fab_rx.specs.declared.results.Finished.TheVariants.{Received};
 ghost use Rattle.fab_rx.specs.Results.{cancelled, ended, entries_due, handed, last_of, posted_as, released as released_as};
 
-use crate::filling::{complete, filled, lift, set_down};
+use crate::filling::{complete, fill, lift, set_down};
 use crate::multis::{give_room, multi_at, part, release};
 use crate::order::{first_meant, strike};
 use crate::outgoing::give;
@@ -288,11 +288,8 @@ impl<M: Matcher> Inbox<M> {
         ensures { self.new ≡ growing source bytes.now self.old }
     {
         let Inbox { past, coming, .. } = self;
-        let Some(begun) = lift(coming, source) else {
-            unreachable!()
-        };
         past.note::<(u32, &[u8]), Grows>(&(source, bytes));
-        set_down(coming, source, filled(begun, bytes));
+        fill(coming, source, bytes);
     }
 
     /// The item that is begun is whole: its receive completes, or it is kept, thrown away or handed
