@@ -17,7 +17,7 @@ use Rattle.fab_ep.specs.declared.endpoint.Turn.{Turn}
 
 -- the item that the machine lends
 abbrev pub next_of : Next → Item
-next_of n = record { head = n.head; bytes = n.bytes.now }
+next_of n = record { head = n.head.now; bytes = n.bytes.now }
 
 -- between calls: the log, and the ends of the port's lists
 pub record IsTied {Home : Type 0} (e : Seen Home) : Type 0 where

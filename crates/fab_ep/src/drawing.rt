@@ -47,11 +47,20 @@ impl<P: Port, C: Machine> Endpoint<P, C> {
         true
     }
 
-    /// Makes the draws that are due, as far as there is room for them.
-    pub(crate) fn draw_all(&mut self)
+    /// Makes draws until none is due, or there is no room for one.
+    fn draw_on(&mut self)
         ensures { Draws (seen P.Port self.old) (seen P.Port self.new) }
     {
         while self.draw_one() {}
+    }
+
+    /// Makes the draws that are due, as far as there is room for them. Most often none is, and that is seen at once.
+    pub(crate) fn draw_all(&mut self)
+        ensures { Draws (seen P.Port self.old) (seen P.Port self.new) }
+    {
+        if self.core.is_draw_due() {
+            self.draw_on();
+        }
     }
 
     /// Makes the draws that are due, where a receive call is refused with a fault that lets them be made.

@@ -30,8 +30,8 @@ pub fn post_next<P: Port>(
     requires below { dest < P.peer_count port.old }
     requires placed { IsPlaced (end_of (P.outs port.old dest)) place (Some (next_of item.now)) }
     requires whole { IsItem (next_of item.now) }
-    requires sound { IsSound item.now.head }
-    requires within { place ≤ item.now.head.total }
+    requires sound { IsSound item.now.head.now }
+    requires within { place ≤ item.now.head.now.total }
     ensures yes { result ≡ Ok true → Ported (lanes_in P.Port port.old) (lanes_in P.Port port.new) (Posted dest (piece (next_of item.now) place) ∷ []) }
     ensures no { result ≡ Ok false → Ported (lanes_in P.Port port.old) (lanes_in P.Port port.new) [] }
     ensures full { result ≡ Ok false → SawFull (lanes_in P.Port port.old) (lanes_in P.Port port.new) dest }
@@ -45,7 +45,7 @@ pub fn post_next<P: Port>(
     let start = place as usize;
     let end = start + len as usize;
     let head = FrameHead {
-        item: item.head,
+        item: *item.head,
         from: place,
         len,
     };

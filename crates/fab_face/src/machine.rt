@@ -40,10 +40,10 @@ pub struct Ask {
     pub ctx: u64,
 }
 
-/// The item that goes out next to a peer.
+/// The item that goes out next to a peer, lent.
 #[derive(Clone, Copy, Drop)]
 pub struct Next<'a> {
-    pub head: ItemHead,
+    pub head: &'a ItemHead,
     pub bytes: &'a [u8],
 }
 
@@ -61,7 +61,7 @@ pub trait Machine {
     /// The item that is next for a peer. `None` exactly where nothing waits for it.
     fn next(&self, dest: u32) -> Option<Next<'_>>
         requires { dest < length (held self.now).places }
-        ensures some { IfSome result (λ n. next_item (held self.now).state dest ≡ Some (record { head = n.head; bytes = n.bytes.now })) }
+        ensures some { IfSome result (λ n. next_item (held self.now).state dest ≡ Some (record { head = n.head.now; bytes = n.bytes.now })) }
         ensures none { IfNone result (next_item (held self.now).state dest ≡ None) };
 
     /// How many bytes of it are posted.

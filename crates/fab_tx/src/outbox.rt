@@ -237,12 +237,12 @@ impl Outbox {
     /// Lends the item that is next for a peer, and `None` exactly where none waits.
     pub fn next(&self, dest: u32) -> Option<Next<'_>>
         requires { dest < length self.now.tx.sent }
-        ensures some { IfSome result (λ next. next_item self.now.tx dest ≡ Some (record { head = next.head; bytes = next.bytes.now })) }
+        ensures some { IfSome result (λ next. next_item self.now.tx dest ≡ Some (record { head = next.head.now; bytes = next.bytes.now })) }
         ensures none { IfNone result (next_item self.now.tx dest ≡ None) }
     {
         match self.lanes[dest as usize].waiting.front()? {
             Waiting::Booked(reply) => Some(Next {
-                head: reply.head,
+                head: &reply.head,
                 bytes: reply.bytes.as_slice(),
             }),
             Waiting::Own => {
@@ -251,7 +251,7 @@ impl Outbox {
                 };
                 let live = &self.live[at];
                 Some(Next {
-                    head: live.head,
+                    head: &live.head,
                     bytes: waiting_bytes(live),
                 })
             }
