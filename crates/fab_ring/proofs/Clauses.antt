@@ -1,5 +1,5 @@
 -- What a call did to a part of the view, in the words of all ports.
-use Rattle.std.proofs.Common.{◌≡◌, ◌≢◌, ℕ, zero, suc, ◌+◌, ◌<◌, ◌≤◌, ◌⊎◌, ⊎_elim, inl, inr, true, false, List, [], ◌∷◌, ◌++◌, length, slice_index, sym, refl, ap, ◌∙◌, subst, arith, le_refl, Some, None, Ok, Err, get_or-set_same, get_or-set_other}
+use Rattle.std.proofs.Common.{◌≡◌, ◌≢◌, ℕ, ◌+◌, ◌<◌, ◌≤◌, ◌⊎◌, ⊎_elim, inl, inr, true, false, List, [], ◌∷◌, ◌++◌, length, slice_index, sym, refl, ap, ◌∙◌, subst, arith, le_refl, Some, None, Ok, Err, get_or-set_same, get_or-set_other}
 use lib.ListN.{length-map}
 use mathlib.Core.List.{map-append}
 use Rattle.std.specs.Prelude.{Option, Result, IsErrOf, OnOk, OnErr, IsSome, IfSome, IfNone}

@@ -29,6 +29,17 @@ fn cell_after(cell: u64, room: u64) -> u64
     0
 }
 
+/// Writes a head over the one that is kept, with no copy in between: a call's time is short of that.
+fn overwrite(end: &mut Option<FrameHead>, head: &FrameHead)
+    ensures { end.new ≡ Some head.now }
+{
+    let Some(kept) = end else {
+        *end = Some(*head);
+        return;
+    };
+    *kept = *head;
+}
+
 impl RingPort {
     /// Posts a frame where a look shows room for it, and one try on each slot of the peer's pool finds a
     /// free one where it needs one.
@@ -244,7 +255,8 @@ impl RingPort {
         self.gots[src as usize] = got + 1;
         let cell = self.got_cells[src as usize];
         self.got_cells[src as usize] = cell_after(cell, self.fabric.room());
-        self.taken_ends[src as usize] = Some(self.commands[src as usize].head);
+        let end = &mut self.taken_ends[src as usize];
+        overwrite(end, &self.commands[src as usize].head);
         self.opened[src as usize] = false;
         self.clock = self.clock.max(number);
     }

@@ -1,8 +1,9 @@
 use Rattle.std.proofs.Common.{◌≡◌, ℕ, ◌+◌, ◌%◌, max, ◌<◌, false, List, [], ◌∷◌, ◌++◌, length, set, get_or-set_same, sym, refl, ap, ◌∙◌, subst}
-use Rattle.std.specs.Prelude.{Some}
+use Rattle.std.specs.Prelude.{Option, Some}
 use Rattle.std.proofs.lemmas.Option.{same_Some, none-some, slice_get-get_or}
 use Rattle.std.specs.Arc.{arc_value}
 use Rattle.atomic_table.specs.Table.{rest}
+use Rattle.fab_base.specs.declared.frames.FrameHead.{FrameHead}
 use Rattle.fab_wire.specs.declared.moves.Move.{Move}
 use Rattle.fab_wire.specs.declared.moves.Move.TheVariants.{Take}
 use Rattle.fab_table.specs.declared.kinds.Command.{Command}
@@ -91,7 +92,7 @@ invariant_of-self c = let q = c.seek.new.self in let P = c.args.self.now in let 
           (fits_take _ _ _ _ _ _ _ _ _ _ _ _ q.fits s (c.index-got.result.now + 1) c.max-self.result x near c.seek.ensures.turn held_is given (ap (λ (z : ℕ). z + 1) (got ∙ sym (q.fits.each_got s near).0)) (c.max-self.ensures ∙ ap (max q.clock) says.0)));
       rounds = rounds_got _ _ _ _ _ _ q.rounds s (c.index-got.result.now + 1) c.cell_after.result near (subst (λ (z : ℕ). s < z) (sym q.fits.all_gots) near) (c.cell_after.ensures c.index-got.result.now (cell ∙ (λ i. c.index-got.result.now % sym rooms i)) ∙ (λ i. (c.index-got.result.now + 1) % rooms i));
       told = subst (Told f.peers q.commands.items q.buffers.items) (sym all.1) (told_in _ _ _ p s u' ms inside (λ y e. absurd (none-some y e)) q.told);
-      ends = subst (λ (z : Part). Ends f.peers q.posted_ends.items (set q.taken_ends.items s (Some c.index-2.result.now.head)) z) (sym all.1) (ends_take _ _ _ p s u' x c.index-2.result.now.head ms near inside refl said.2 q.ends);
+      ends = subst (λ (z : Part). Ends f.peers q.posted_ends.items (set q.taken_ends.items s c.overwrite.new.end) z) (sym all.1) (subst (λ (h : Option FrameHead). Ends f.peers q.posted_ends.items (set q.taken_ends.items s h) (with_in p s u' ms)) (sym c.overwrite.ensures) (ends_take _ _ _ p s u' x c.index-2.result.now.head ms near inside refl said.2 q.ends));
       comes = subst (λ (z : Part). ∥ Comes z ∥₁) (sym all.1) ∣ comes_in p s u' ms inside (λ y e. absurd (none-some y e)) (comes_now p q.comes) ∣₁;
     }
 
