@@ -1,6 +1,6 @@
 //! An endpoint that speaks with one other peer.
 //!
-//! What is timed of a ping-pong is what each side does one after the other: a message goes out, the receive of the one that
+//! What is timed of a ping-pong is what each side does in turn: a message goes out, the receive of the one that
 //! came before it is posted again, and reads follow until the next one came. A message is answered before its buffer is
 //! posted again, while the answer is under way, and one receive more than messages can come stands posted for that.
 use fab_base::{Buf, Entry, Flags, Level, NoMemory};

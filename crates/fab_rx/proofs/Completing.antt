@@ -1,5 +1,5 @@
 -- A receive's buffer fills as bytes come, and its completion tells what they were.
-use Rattle.std.proofs.Common.{◌≡◌, ℕ, ◌+◌, ◌-◌, ◌≤◌, ◌<◌, true, false, List, length, Option, Some, None, refl, ap, ◌∙◌, arith, length-append}
+use Rattle.std.proofs.Common.{◌≡◌, ℕ, ◌-◌, ◌≤◌, ◌<◌, true, false, List, length, Option, Some, None, refl, ap, ◌∙◌, arith}
 use Rattle.std.specs.Prelude.{is_some}
 use Rattle.std.proofs.lemmas.Bool.Decides.{nat_tests}
 use Rattle.fab_base.specs.declared.items.Item.{Item}
@@ -14,11 +14,10 @@ use Rattle.fab_rx.specs.declared.results.Completed.{Completed}
 use Rattle.fab_rx.specs.declared.stored.Seat.{Seat}
 use Rattle.fab_rx.specs.declared.stored.Parcel.{Parcel}
 use Rattle.fab_rx.specs.declared.stored.Way.TheVariants.{Into}
-use Rattle.fab_rx.specs.declared.stored.Begun.{Begun}
 use Rattle.fab_rx.specs.Table.{Cells}
 use Rattle.fab_rx.specs.Arriving.{IsSingle, lengthened}
 use Rattle.fab_rx.specs.Results.{completed}
-use Rattle.fab_rx.specs.Stored.{GoesBy, IsComing, seat_with}
+use Rattle.fab_rx.specs.Stored.{GoesBy, seat_with}
 use Rattle.fab_rx.proofs.Pasting.{paste_more, length_paste}
 
 module _ (r : Receive) (single : IsSingle r) (source : ℕ) (head : ItemHead) (bytes : List ℕ) where

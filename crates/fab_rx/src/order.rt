@@ -1,7 +1,7 @@
 //! The ids of the posted receives in the order posted.
-ghost use Rattle.std.specs.Prelude.{◌≡◌, ◌==◌, find, position};
+ghost use Rattle.std.specs.Prelude.{◌≡◌, ◌==◌, ◌<◌, find, position, remove};
 ghost use Rattle.std.specs.List.{list_any};
-ghost use Rattle.std.specs.VecDeque.{deque_capacity};
+ghost use Rattle.std.specs.VecDeque.{deque_capacity, deque_len};
 ghost use Rattle.fab_model.specs.Matching.{remove_first};
 ghost use Rattle.fab_rx.specs.Table.{at};
 ghost use Rattle.fab_rx.specs.Homes.{is_fed_by};
@@ -24,6 +24,19 @@ pub fn has(order: &VecDeque<u32>, id: u32) -> bool
     order.iter().any(|other| *other == id)
 }
 
+/// Takes the id at a place out, most often the first.
+fn take_at(order: &mut VecDeque<u32>, place: usize)
+    requires { place < deque_len order.old }
+    ensures rest { order.new.items ≡ remove order.old.items place }
+    ensures capacity { deque_capacity order.new ≡ deque_capacity order.old }
+{
+    if place == 0 {
+        order.pop_front();
+        return;
+    }
+    order.remove(place);
+}
+
 /// Takes an id out. The others keep their order.
 pub fn strike(order: &mut VecDeque<u32>, id: u32)
     ensures rest { order.new.items ≡ remove_first (λ other. other == id) order.old.items }
@@ -32,7 +45,7 @@ pub fn strike(order: &mut VecDeque<u32>, id: u32)
     let Some(place) = place_of(order, id) else {
         return;
     };
-    order.remove(place);
+    take_at(order, place);
 }
 
 /// Whether the receive under an id has this context, where one is named.

@@ -16,7 +16,7 @@ use crate::past::{
 use crate::results::{Ended, Next};
 use crate::stored::{
     Lane, Live, Waiting, count_awaiting, empty_lanes, ended_of, ends_when_sent, first_answered,
-    first_waiting, spare_buffers, starts_own, waiting_bytes,
+    first_waiting, spare_buffers, starts_own, take_out, waiting_bytes,
 };
 use fab_base::{Buf, Item, ItemHead, Level, NoMemory};
 use fab_record::caller::Caller;
@@ -319,7 +319,7 @@ impl Outbox {
             unreachable!()
         };
         if ends_when_sent(&live[at].head) {
-            let Some(live) = live.remove(at) else {
+            let Some(live) = take_out(live, at) else {
                 unreachable!()
             };
             let (ended, inject) = ended_of(live);
@@ -361,7 +361,7 @@ impl Outbox {
         } = self;
         past.note::<(u32, &ItemHead), Answers>(&(source, reply));
         let at = first_answered(live, source, reply)?;
-        let Some(live) = live.remove(at) else {
+        let Some(live) = take_out(live, at) else {
             unreachable!()
         };
         let (ended, inject) = ended_of(live);

@@ -1,8 +1,9 @@
 //! What an outbox stores.
-ghost use Rattle.std.specs.Prelude.{◌≡◌, ◌≤◌, IfOk, count_by, length, position, vec_capacity};
+ghost use Rattle.std.specs.Prelude.{◌≡◌, ◌≤◌, ◌+◌, ◌<◌, ◌↔◌, IfNone, IfOk, IfSome, IsSome, OnSome, remove, slice_index_or, count_by, length, position, vec_capacity};
 ghost use Rattle.fab_model.specs.Matching.{is_message};
 ghost use Rattle.fab_model.specs.Sending.{is_answered};
 ghost use Rattle.std.specs.List.{All};
+ghost use Rattle.std.specs.VecDeque.{deque_capacity, deque_len};
 ghost use Rattle.fab_tx.specs.Stored.{IsEmptyLane, bytes_of, ends_at_sent_by, expects_by, is_answered_as, is_first_for, starts_own};
 ghost use Rattle.fab_tx.specs.Transit.{seen_buf};
 
@@ -88,6 +89,21 @@ pub fn first_waiting(live: &VecDeque<Live>, dest: u32) -> Option<usize>
     ensures { result ≡ position (is_first_for dest) live.now.items }
 {
     live.iter().position(|l| l.dest == dest && !l.awaits)
+}
+
+/// Takes an operation out, most often the oldest.
+pub fn take_out(live: &mut VecDeque<Live>, at: usize) -> Option<Live>
+    ensures value { IfSome result (λ y. y ≡ slice_index_or live.old.items at y) }
+    ensures items { OnSome result (live.new.items ≡ remove live.old.items at) }
+    ensures len { OnSome result (deque_len live.new + 1 ≡ deque_len live.old) }
+    ensures variant { IsSome result ↔ (at < deque_len live.old) }
+    ensures unchanged { IfNone result (live.new ≡ live.old) }
+    ensures capacity { deque_capacity live.new ≡ deque_capacity live.old }
+{
+    if at == 0 && !live.is_empty() {
+        return live.pop_front();
+    }
+    live.remove(at)
 }
 
 /// The bytes of an operation's item that is not transmitted.

@@ -22,12 +22,12 @@ pub invariant_of-self-2 : goal.invariant_of-self-2
 invariant_of-self-2 c =
     let v = c.self.inside.past in
     let f = found_at v.tx c.args.source c.args.reply.now c.self.inside.live.items v.tx.live c.self.invariant.live c.in_ok-at.at (sym c.first_answered.ensures ∙ c.in_ok-at.was) in
-    let items : c.remove.new.self.items ≡ remove c.self.inside.live.items f.0.place = c.in-Some.ensures.items ∙ ap (remove c.self.inside.live.items) (sym f.1) in
+    let items : c.take_out.new.live.items ≡ remove c.self.inside.live.items f.0.place = c.in-Some.ensures.items ∙ ap (remove c.self.inside.live.items) (sym f.1) in
     let fewer = c.in-Some.ensures.len in
     let spares = c.self.invariant.spares in
     let more : length c.push_reserved.new.self.items ≡ length c.self.inside.spare.items + 1 = rw c.push_reserved.ensures.items (length-append c.self.inside.spare.items _) in
     rw (c.note.ensures, c.in-Some.ensures.capacity, c.push_reserved.ensures.capacity)
-    (answered_kept _ _ _ _ _ _ _ v c.self.invariant c.args.source c.args.reply.now _ _ (ap (map shown) items ∙ f.0.rest) (omega (arith, fewer, spares, more, c.self.inside.live.ok.0, c.remove.new.self.ok.0)))
+    (answered_kept _ _ _ _ _ _ _ v c.self.invariant c.args.source c.args.reply.now _ _ (ap (map shown) items ∙ f.0.rest) (omega (arith, fewer, spares, more, c.self.inside.live.ok.0, c.take_out.new.live.ok.0)))
 
 pub returns-clause-outcome : goal.returns-clause-outcome
 returns-clause-outcome c =

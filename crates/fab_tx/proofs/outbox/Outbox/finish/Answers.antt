@@ -49,10 +49,10 @@ invariant_of-self-then-ends_when_sent c =
     let old : lane.waiting.items ≡ Own ∷ c.pop_front.new.self.items = own_first lane.waiting.items c.pop_front.new.self.items (sym c.starts_own-own.ensures ∙ c.if-not-own.false) c.pop_front.ensures.rest in
     let found = sym c.first_waiting.ensures ∙ c.in-Some.is in
     let ends : ends_at_sent_by c.index.result.now.head ≡ true = sym c.ends_when_sent.ensures ∙ c.if-ends_when_sent.true in
-    let fewer = c.in-Some-remove.ensures.len in
-    rw (c.note.ensures, c.in-Some-remove.ensures.capacity, c.push_reserved.ensures.capacity)
-    (own_ended_at _ _ _ _ _ _ _ v c.self.invariant d lane below c.index_mut-lane.ensures.value (transmitting d v.tx) is.0 is.1 is.2 is.3 c.pop_front.new.self.items old (record { waiting = c.pop_front.new.self; place = 0; room = lane.room }) c.in-Some.at c.index.result.now _ _ found c.index.ensures ends c.in-Some-remove.ensures.items
-    (omega (arith, fewer, c.self.inside.live.ok.0, c.remove.new.self.ok.0)) (rw c.push_reserved.ensures.items (length-append c.self.inside.spare.items _)) refl c.pop_front.ensures.capacity refl refl)
+    let fewer = c.in-Some-take_out.ensures.len in
+    rw (c.note.ensures, c.in-Some-take_out.ensures.capacity, c.push_reserved.ensures.capacity)
+    (own_ended_at _ _ _ _ _ _ _ v c.self.invariant d lane below c.index_mut-lane.ensures.value (transmitting d v.tx) is.0 is.1 is.2 is.3 c.pop_front.new.self.items old (record { waiting = c.pop_front.new.self; place = 0; room = lane.room }) c.in-Some.at c.index.result.now _ _ found c.index.ensures ends c.in-Some-take_out.ensures.items
+    (omega (arith, fewer, c.self.inside.live.ok.0, c.take_out.new.live.ok.0)) (rw c.push_reserved.ensures.items (length-append c.self.inside.spare.items _)) refl c.pop_front.ensures.capacity refl refl)
 
 pub returns-then-ends_when_sent-clause-outcome : goal.returns-then-ends_when_sent-clause-outcome
 returns-then-ends_when_sent-clause-outcome c =
@@ -65,7 +65,7 @@ returns-then-ends_when_sent-clause-outcome c =
     let found = sym c.first_waiting.ensures ∙ c.in-Some.is in
     let ends : ends_at_sent_by c.index.result.now.head ≡ true = sym c.ends_when_sent.ensures ∙ c.if-ends_when_sent.true in
     ap (λ e. Some e) c.ended_of-ended.ensures
-    ∙ sym (ap (λ (v : Transit). option_map ended (ending d v.tx)) (sym c.self.view_is) ∙ own_ends _ _ _ _ _ _ _ v c.self.invariant d lane below c.index_mut-lane.ensures.value (transmitting d v.tx) is.0 is.1 is.2 is.3 c.pop_front.new.self.items old c.in-Some.at c.in-Some-remove.live c.index.result.now found c.in-Some-remove.ensures.value c.index.ensures ends)
+    ∙ sym (ap (λ (v : Transit). option_map ended (ending d v.tx)) (sym c.self.view_is) ∙ own_ends _ _ _ _ _ _ _ v c.self.invariant d lane below c.index_mut-lane.ensures.value (transmitting d v.tx) is.0 is.1 is.2 is.3 c.pop_front.new.self.items old c.in-Some.at c.in-Some-take_out.live c.index.result.now found c.in-Some-take_out.ensures.value c.index.ensures ends)
 
 pub invariant_of-self-2 : goal.invariant_of-self-2
 invariant_of-self-2 c =
