@@ -1,5 +1,5 @@
 -- The end of a peer: what is still posted is cancelled, and the completions are read.
-use Rattle.std.proofs.Common.{◌≡◌, ◌<◌, ◌||◌, ◌&&◌, Bool, true, false, not, cond, List, [], ◌∷◌, ◌++◌, length, Option, Some, None, refl, sym, ap, ◌∙◌, subst, arith, append-nil, append_assoc}
+use Rattle.std.proofs.Common.{◌≡◌, ◌<◌, ◌+◌, ◌⊎◌, inl, inr, ◌||◌, ◌&&◌, Bool, true, false, not, cond, List, [], ◌∷◌, ◌++◌, length, Option, Some, None, refl, sym, ap, ◌∙◌, subst, arith, append-nil, append_assoc}
 use Rattle.std.specs.Prelude.{find, is_some, is_none}
 use Rattle.std.specs.List.{list_any}
 use Rattle.fab_base.specs.declared.entries.Class.TheVariants.{Recv}
@@ -17,15 +17,18 @@ use Rattle.fab_model.specs.Complete.{error}
 use Rattle.fab_model.specs.State.{State, Receiving, fits, with_rx, write, count, called}
 use Rattle.fab_model.specs.Receiving.{draw_due, draws, may_leave, cancellable, without_posted, cancel, cancel_fault, lacks_room}
 use Rattle.fab_model.specs.Calls.{Call, CancelFirst, do_call, answer}
-use Rattle.fab_model.specs.Peers.{Actor, Facts, facts, fabric, step, final_step, with_state, is_finished, unread, read_next}
+use Rattle.fab_model.specs.Peers.{Actor, Facts, facts, fabric, step, final_step, with_state, is_again, is_finished, unread, read_next}
 use Rattle.fab_model.specs.Views.{View, Walk}
 use Rattle.fab_model.proofs.Parts.{some_is, some_same, if_gives}
-use Rattle.fab_face.specs.Held.{Held, Seen}
+use Rattle.fab_face.specs.Held.{Held, Seen, IsOpen}
 use Rattle.fab_face.specs.Acts.{Act, Did, Took, Posted, Drew, Had, GoesBy, steps_of, events, is_draw}
-use Rattle.fab_face.specs.Answers.{AllAre, Receives, ReceivesNot}
-use Rattle.fab_quantum.specs.Turns.{Told, Living, IsCounted, living_of, actor_in, actor_of, LivesBy, Ended, IsQuiet, ReadOn, is_read}
+use Rattle.fab_face.specs.Answers.{AllAre, Receives, ReceivesNot, IsShort}
+use Rattle.fab_quantum.specs.Turns.{Told, Living, IsCounted, living_of, actor_in, actor_of, LivesBy, Ended, IsQuiet, IsRead, ReadOn, is_read}
 use Rattle.fab_face.proofs.Joining.{draws_move}
 use Rattle.fab_quantum.proofs.Paths.{goes_split}
+use Rattle.fab_quantum.proofs.Calling.{judged_final, judged_again}
+use Rattle.fab_quantum.proofs.Idling.{fits_two}
+use Rattle.fab_quantum.proofs.Writing.{adds_more, adds_cancel}
 use Rattle.fab_quantum.proofs.Counting.{counted_final}
 use Rattle.fab_quantum.proofs.Showing.{had_walk, walk_append}
 
@@ -71,6 +74,16 @@ call_finds s e = by_found (cancellable (λ r. true) s.rx) refl
     by_found (Some r) is =
         let other : answer (cond (is_none (Some r)) (Some NoEntry) (cond (lacks_room s (cancel s (λ r. true))) (Some (Again (CqFull s.cq.size))) None)) s (cancel s (λ r. true)) ≡ (Refused NoEntry, s) = rw is at e in
         absurd (by_room (lacks_room s (cancel s (λ r. true))) (Again (CqFull s.cq.size)) (cancel s (λ r. true)) (λ same. cc) other)
+
+-- where it has room, a cancel is refused for want of a receive alone
+refused_first : (none lacks : Bool) (x y why : Fault) (s after : State) → lacks ≡ false → answer (cond none (Some x) (cond lacks (Some y) None)) s after ≡ (Refused why, s) → why ≡ x
+refused_first true lacks x y why s after room e = let same : Refused x ≡ Refused why = ap (λ (x : LineResult × State). x.0) e in cc
+refused_first false true x y why s after room e = absurd (cc)
+refused_first false false x y why s after room e = let same : Done ≡ Refused why = ap (λ (x : LineResult × State). x.0) e in absurd (cc)
+
+call_refuses : (s : State) (why : Fault) → draw_due s.rx ≡ false → fits (cancel s (λ r. true)).cq ≡ true → do_call s CancelFirst ≡ (Refused why, s) → why ≡ NoEntry
+unfolding do_call cancel_fault
+call_refuses s why due room e = refused_first (is_none (cancellable (λ r. true) s.rx)) (lacks_room s (cancel s (λ r. true))) NoEntry _ why s (cancel s (λ r. true)) (rw (due, room) refl) e
 
 neither : (a b : Bool) → (a || b) ≡ false → (a ≡ false) × (b ≡ false)
 neither true b e = absurd (cc)
@@ -147,8 +160,30 @@ module _ {Home : Type 0} (a : Told Home) (e : Seen Home) (quiet : IsQuiet a) whe
       let last : mid ≡ e.held = no_draws (Some CancelFirst) r.after mid e.held r.then_draws parts.2.2 none in
       did ∙ ap (λ (h : Held). (Done, h.state)) last
 
-  refused_by : ReceivesNot CancelFirst a.seen e NoEntry → (e.held ≡ a.seen.held) × (cancellable (λ r. true) e.held.state.rx ≡ None)
-  refused_by r = (sym (no_draws (Some CancelFirst) r.acts a.seen.held e.held r.draws r.went.goes quiet.draws), call_finds e.held.state r.judged)
+  -- refused, where all was read: there is no such receive
+  module _ (sound : IsOpen a.seen) (read : IsRead a.seen) (why : Fault) (r : ReceivesNot CancelFirst a.seen e why) where
+    same_held : a.seen.held ≡ e.held
+    same_held = no_draws (Some CancelFirst) r.acts a.seen.held e.held r.draws r.went.goes quiet.draws
+
+    no_draw : draw_due e.held.state.rx ≡ false
+    no_draw = ap (λ (h : Held). draw_due h.state.rx) (sym same_held) ∙ quiet.draws
+
+    has_room : fits (cancel e.held.state (λ r. true)).cq ≡ true
+    has_room = subst (λ (h : Held). fits (cancel h.state (λ r. true)).cq ≡ true) same_held
+        (fits_two a.seen.held.state _ (adds_more 1 2 a.seen.held.state _ (omega arith) (adds_cancel a.seen.held.state (λ r. true))) read sound.cq)
+
+    not_short : (IsShort a.seen ⊎ ((draw_due e.held.state.rx ≡ true) × (e.log_size ≡ length e.log + 1))) → ⊥
+    not_short (inl short) = let l : length a.seen.log ≡ 0 = ap length quiet.log in omega (arith, short, l, sound.log)
+    not_short (inr (due, left)) = (let none = no_draw in cc)
+
+    says : (again : Bool) → is_again (Refused why) ≡ again → do_call e.held.state CancelFirst ≡ (Refused why, e.held.state)
+    says true is = judged_again CancelFirst a.seen e _ why r.judged is not_short
+    says false is = judged_final CancelFirst a.seen e _ why r.judged is r.memory
+
+    refused_by : (e.held ≡ a.seen.held) × (cancellable (λ r. true) e.held.state.rx ≡ None)
+    refused_by =
+        let is = call_refuses e.held.state why no_draw has_room (says _ refl) in
+        (sym same_held, call_finds e.held.state (says _ refl ∙ ap (λ (f : Fault). (Refused f, e.held.state)) is))
 
 and_three : (a b c : Bool) → a ≡ true → b ≡ true → c ≡ true → (a && b && c) ≡ true
 and_three a b c x y z = rw (x, y, z) refl
@@ -214,10 +249,10 @@ module _ {Home : Type 0} where
       )
 
   -- no receive may be cancelled
-  pub none_cancelled : (a b : Told Home) → IsQuiet a → ReceivesNot CancelFirst a.seen b.seen NoEntry → b ≡ record a { seen = b.seen }
+  pub none_cancelled : (a b : Told Home) → IsQuiet a → IsOpen a.seen → IsRead a.seen → (why : Fault) → ReceivesNot CancelFirst a.seen b.seen why → b ≡ record a { seen = b.seen }
       → Ended a b × IsQuiet b × (cancellable (λ r. true) b.seen.held.state.rx ≡ None) × (b.seen.held ≡ a.seen.held)
-  none_cancelled a b quiet r is =
-      let same = refused_by a b.seen quiet r in
+  none_cancelled a b quiet sound read why r is =
+      let same = refused_by a b.seen quiet sound read why r in
       let acts = no_acts a.seen.held r.acts b.seen.held r.draws r.went.goes quiet.draws in
       let lines = ap (λ (x : Told Home). x.lines) is in
       let results = ap (λ (x : Told Home). x.results) is in

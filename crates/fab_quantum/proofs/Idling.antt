@@ -20,7 +20,7 @@ use Rattle.fab_quantum.proofs.Counting.{counted_moves}
 use Rattle.fab_quantum.proofs.Writing.{Adds, adds_then, adds_more, adds_draw, adds_tail, adds_sent, adds_headed}
 
 -- where all is read and two entries have room, what writes at most two fits
-fits_two : (s u : State) → Adds 2 s u → s.cq.taken_out ≡ length s.cq.written → 2 ≤ s.cq.size → fits u.cq ≡ true
+pub fits_two : (s u : State) → Adds 2 s u → s.cq.taken_out ≡ length s.cq.written → 2 ≤ s.cq.size → fits u.cq ≡ true
 fits_two s u a read size = le-leb (length u.cq.written - u.cq.taken_out) u.cq.size (omega (arith, a.read, a.size, a.most, read, size))
 
 -- nothing waits for room in a completion queue that is all read

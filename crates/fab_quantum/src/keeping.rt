@@ -1,5 +1,5 @@
 //! The lines on a peer's own counters and addresses (fi_cntr(3), fi_av(3)).
-ghost use Rattle.std.specs.Prelude.{◌≡◌, [], IfOk, Some};
+ghost use Rattle.std.specs.Prelude.{◌≡◌, [], true, IfOk, IfSome, Some};
 ghost use Rattle.fab_base.specs.declared.script.LineOp.TheVariants.{Insert, Remove, Count, Reach};
 
 use crate::calls::Calls;
@@ -7,6 +7,7 @@ use crate::peer::{Outcome, Peer};
 use fab_base::{Class, LineOp, LineResult, NoMemory, Text};
 
 impl<E: Calls> Peer<E> {
+    ghost use Rattle.fab_quantum.specs.Kinds.{is_own};
     ghost use Rattle.fab_quantum.specs.Turns.{told, next_op, WentOn};
 
     /// The line `count`.
@@ -57,9 +58,10 @@ impl<E: Calls> Peer<E> {
         self.settled(answer)
     }
 
-    /// Does the next line, if it is one on counters or addresses. It gives up at a line of another kind.
+    /// Does the next line, which is one on counters or addresses, if there is one.
     pub(crate) fn do_keeping(&mut self) -> Result<Outcome, NoMemory>
         requires log { (E.seen self.old.endpoint).log ≡ [] }
+        requires kind { IfSome (next_op (told E.seen self.old)) (λ op. is_own op ≡ true) }
         ensures { IfOk result (λ o. WentOn (told E.seen self.old) (told E.seen self.new) o.done o.moved) }
     {
         let Some(line) = self.lines.get(self.results.len()) else {
@@ -76,7 +78,7 @@ impl<E: Calls> Peer<E> {
                 self.insert(name)
             }
             LineOp::Remove { index } => self.remove(index),
-            _ => Err(NoMemory),
+            _ => unreachable!(),
         }
     }
 }

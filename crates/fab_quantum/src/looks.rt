@@ -1,5 +1,5 @@
 //! The lines that look at unexpected messages, and those on claimed ones (fi_tagged(3)).
-ghost use Rattle.std.specs.Prelude.{◌≡◌, [], OnOk, IfOk, IfErr, Some};
+ghost use Rattle.std.specs.Prelude.{◌≡◌, [], true, OnOk, IfOk, IfErr, IfSome, Some};
 ghost use Rattle.fab_base.specs.declared.script.LineOp.TheVariants.{Take, DropClaimed};
 ghost use Rattle.fab_model.specs.Calls.{Look};
 ghost use Rattle.fab_face.specs.Answers.{Receives, ReceivesNot};
@@ -30,6 +30,7 @@ fn look_by<E: Looks>(
 }
 
 impl<E: Calls> Peer<E> {
+    ghost use Rattle.fab_quantum.specs.Kinds.{is_look};
     ghost use Rattle.fab_quantum.specs.Turns.{told, next_op, WentOn};
 
     /// The line `peek`, `claim` or `discard`.
@@ -92,9 +93,10 @@ impl<E: Calls> Peer<E> {
         })
     }
 
-    /// Does the next line, if there is one and it can be done. It gives up at a line of another kind.
+    /// Does the next line, which is one on unexpected or claimed messages, if there is one.
     pub(crate) fn do_look(&mut self) -> Result<Outcome, NoMemory>
         requires log { (E.seen self.old.endpoint).log ≡ [] }
+        requires kind { IfSome (next_op (told E.seen self.old)) (λ op. is_look op ≡ true) }
         ensures { IfOk result (λ o. WentOn (told E.seen self.old) (told E.seen self.new) o.done o.moved) }
     {
         let Some(line) = self.lines.get(self.results.len()) else {
@@ -124,7 +126,7 @@ impl<E: Calls> Peer<E> {
             } => self.look(PeekHow::Discard, ctx, source, tag, ignore),
             LineOp::Take { ctx, len } => self.take(ctx, len),
             LineOp::DropClaimed { ctx } => self.drop_claimed(ctx),
-            _ => Err(NoMemory),
+            _ => unreachable!(),
         }
     }
 }

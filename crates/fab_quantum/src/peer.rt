@@ -135,6 +135,7 @@ pub(crate) fn word_bytes(alloc: Global, word: &BytesWord) -> Result<Buf, NoMemor
 
 impl<E: Calls> Peer<E> {
     ghost use Rattle.std.specs.Prelude.{List};
+    ghost use Rattle.fab_quantum.specs.Kinds.{is_send, is_inject, is_on_receives};
     ghost use Rattle.fab_face.specs.Acts.{Act};
     ghost use Rattle.fab_quantum.specs.Turns.{MovedOn, told, actor_of, living_of, drained, is_some_event, IsRead, IsCounted, WentOn, Answered, Lived, IsStill, is_some_act, next_op, noted, Turned, Ended, IsQuiet};
     ghost use Rattle.fab_face.specs.Answers.{IsIdle};
@@ -412,9 +413,10 @@ impl<E: Calls> Peer<E> {
         })
     }
 
-    /// Does the next line, if it is a send. It gives up at a line of another kind.
+    /// Does the next line, which is a send, if there is one.
     fn do_send(&mut self) -> Result<Outcome, NoMemory>
         requires log { (E.seen self.old.endpoint).log ≡ [] }
+        requires kind { IfSome (next_op (told E.seen self.old)) (λ op. is_send op ≡ true) }
         ensures { IfOk result (λ o. WentOn (told E.seen self.old) (told E.seen self.new) o.done o.moved) }
     {
         let Some(line) = self.lines.get(self.results.len()) else {
@@ -447,13 +449,14 @@ impl<E: Calls> Peer<E> {
                 let buf = word_bytes(self.alloc, bytes)?;
                 self.tsend(ctx, dest, tag, buf, imm, Flags { completion, level })
             }
-            _ => Err(NoMemory),
+            _ => unreachable!(),
         }
     }
 
-    /// Does the next line, if it is a send whose bytes are copied. It gives up at a line of another kind.
+    /// Does the next line, which is a send whose bytes are copied, if there is one.
     fn do_inject(&mut self) -> Result<Outcome, NoMemory>
         requires log { (E.seen self.old.endpoint).log ≡ [] }
+        requires kind { IfSome (next_op (told E.seen self.old)) (λ op. is_inject op ≡ true) }
         ensures { IfOk result (λ o. WentOn (told E.seen self.old) (told E.seen self.new) o.done o.moved) }
     {
         let Some(line) = self.lines.get(self.results.len()) else {
@@ -480,13 +483,14 @@ impl<E: Calls> Peer<E> {
                 let buf = word_bytes(self.alloc, bytes)?;
                 self.tinject(dest, tag, &buf, imm)
             }
-            _ => Err(NoMemory),
+            _ => unreachable!(),
         }
     }
 
-    /// Does the next line, if it is one on posted receives. It gives up at a line of another kind.
+    /// Does the next line, which is one on posted receives, if there is one.
     fn do_receive(&mut self) -> Result<Outcome, NoMemory>
         requires log { (E.seen self.old.endpoint).log ≡ [] }
+        requires kind { IfSome (next_op (told E.seen self.old)) (λ op. is_on_receives op ≡ true) }
         ensures { IfOk result (λ o. WentOn (told E.seen self.old) (told E.seen self.new) o.done o.moved) }
     {
         let Some(line) = self.lines.get(self.results.len()) else {
@@ -511,7 +515,7 @@ impl<E: Calls> Peer<E> {
                 min,
             } => self.mrecv(ctx, source, len, min),
             LineOp::Cancel { ctx } => self.cancel(ctx),
-            _ => Err(NoMemory),
+            _ => unreachable!(),
         }
     }
 
@@ -599,32 +603,35 @@ impl<E: Calls> Peer<E> {
     /// Cancels the first posted receive that may be cancelled, if there is one.
     fn cancel_first(&mut self) -> Result<bool, NoMemory>
         requires quiet { IsQuiet (told E.seen self.old) }
+        requires read { IsRead (E.seen self.old.endpoint) }
         ensures ended { OnOk result (Ended (told E.seen self.old) (told E.seen self.new)) }
         ensures quiet { OnOk result (IsQuiet (told E.seen self.new)) }
         ensures fewer { result ≡ Ok true → length (E.seen self.new.endpoint).held.state.rx.posted < length (E.seen self.old.endpoint).held.state.rx.posted }
         ensures none { result ≡ Ok false → cancellable (λ r. true) (E.seen self.new.endpoint).held.state.rx ≡ None }
         ensures same { result ≡ Ok false → (E.seen self.new.endpoint).held ≡ (E.seen self.old.endpoint).held }
     {
+        self.endpoint.known();
         match self.endpoint.cancel_first() {
             Ok(()) => {
                 self.endpoint.log_clear();
                 self.schedule.push(Step::Final)?;
                 Ok(true)
             }
-            Err(Fault::NoEntry) => Ok(false),
-            Err(_) => Err(NoMemory),
+            // All is read, so a cancel has room, and only the want of a receive refuses it.
+            Err(_) => Ok(false),
         }
     }
 
-    /// Cancels the posted receives that may be cancelled, in order, and reads all completions after each
+    /// Cancels the posted receives that may be cancelled, in order, and reads all completions before and after each
     /// (fi_cancel of fi_endpoint(3)).
     pub fn cancel_posted(&mut self) -> Result<(), NoMemory>
         requires quiet { IsQuiet (told E.seen self.old) }
         ensures ended { OnOk result (Ended (told E.seen self.old) (told E.seen self.new)) }
         ensures quiet { OnOk result (IsQuiet (told E.seen self.new)) }
-        ensures read { OnOk result (IsRead (E.seen self.old.endpoint) → IsRead (E.seen self.new.endpoint)) }
+        ensures read { OnOk result (IsRead (E.seen self.new.endpoint)) }
         ensures none { OnOk result (cancellable (λ r. true) (E.seen self.new.endpoint).held.state.rx ≡ None) }
     {
+        self.read_all()?;
         'receives: while self.cancel_first()? {
             self.read_all()?;
         }

@@ -1,5 +1,5 @@
 //! The lines on a peer's own regions (fi_mr(3)).
-ghost use Rattle.std.specs.Prelude.{◌≡◌, [], IfOk, Some};
+ghost use Rattle.std.specs.Prelude.{◌≡◌, [], true, IfOk, IfSome, Some};
 ghost use Rattle.fab_base.specs.declared.script.BytesWord.{BytesWord};
 ghost use Rattle.fab_base.specs.declared.script.LineOp.TheVariants.{Reg, Close, Put, Show};
 ghost use Rattle.fab_model.specs.Calls.{word_bytes};
@@ -9,6 +9,7 @@ use crate::peer::{Outcome, Peer, why_of, word_bytes};
 use fab_base::{Access, Buf, Fault, LineOp, LineResult, NoMemory};
 
 impl<E: Calls> Peer<E> {
+    ghost use Rattle.fab_quantum.specs.Kinds.{is_on_regions};
     ghost use Rattle.fab_quantum.specs.Turns.{told, next_op, WentOn};
 
     /// The line `reg`.
@@ -56,9 +57,10 @@ impl<E: Calls> Peer<E> {
         self.noted(LineResult::Bytes(bytes))
     }
 
-    /// Does the next line, if it is one on regions. It gives up at a line of another kind.
+    /// Does the next line, which is one on regions, if there is one.
     pub(crate) fn do_region(&mut self) -> Result<Outcome, NoMemory>
         requires log { (E.seen self.old.endpoint).log ≡ [] }
+        requires kind { IfSome (next_op (told E.seen self.old)) (λ op. is_on_regions op ≡ true) }
         ensures { IfOk result (λ o. WentOn (told E.seen self.old) (told E.seen self.new) o.done o.moved) }
     {
         let Some(line) = self.lines.get(self.results.len()) else {
@@ -82,7 +84,7 @@ impl<E: Calls> Peer<E> {
                 self.put(key, at, &buf)
             }
             LineOp::Show { key } => self.show(key),
-            _ => Err(NoMemory),
+            _ => unreachable!(),
         }
     }
 }

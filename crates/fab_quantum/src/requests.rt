@@ -1,5 +1,5 @@
 //! The lines that ask another peer for something: reads, writes and atomics (fi_rma(3), fi_atomic(3)).
-ghost use Rattle.std.specs.Prelude.{◌≡◌, ℕ, [], length, replicate, IfOk, Some};
+ghost use Rattle.std.specs.Prelude.{◌≡◌, ℕ, [], true, length, replicate, IfOk, IfSome, Some};
 ghost use Rattle.fab_base.specs.declared.script.BytesWord.{BytesWord};
 ghost use Rattle.fab_base.specs.declared.script.LineOp.TheVariants.{Read, Write, WInject, Atomic, Fetch, Compare};
 ghost use Rattle.fab_model.specs.Calls.{fetched, word_bytes};
@@ -21,6 +21,7 @@ fn fetched(num: Num, values: &Buf, count: u32) -> u64
 }
 
 impl<E: Calls> Peer<E> {
+    ghost use Rattle.fab_quantum.specs.Kinds.{is_transfer, is_atomic};
     ghost use Rattle.fab_quantum.specs.Turns.{told, next_op, WentOn};
 
     /// The line `read`.
@@ -209,9 +210,10 @@ impl<E: Calls> Peer<E> {
         })
     }
 
-    /// Does the next line, if it is a read or a write. It gives up at a line of another kind.
+    /// Does the next line, which is a read or a write, if there is one.
     pub(crate) fn do_remote(&mut self) -> Result<Outcome, NoMemory>
         requires log { (E.seen self.old.endpoint).log ≡ [] }
+        requires kind { IfSome (next_op (told E.seen self.old)) (λ op. is_transfer op ≡ true) }
         ensures { IfOk result (λ o. WentOn (told E.seen self.old) (told E.seen self.new) o.done o.moved) }
     {
         let Some(line) = self.lines.get(self.results.len()) else {
@@ -250,13 +252,14 @@ impl<E: Calls> Peer<E> {
                 let buf = word_bytes(self.alloc, bytes)?;
                 self.inject_write(dest, key, at, &buf, imm)
             }
-            _ => Err(NoMemory),
+            _ => unreachable!(),
         }
     }
 
-    /// Does the next line, if it is an atomic. It gives up at a line of another kind.
+    /// Does the next line, which is an atomic, if there is one.
     pub(crate) fn do_atomic(&mut self) -> Result<Outcome, NoMemory>
         requires log { (E.seen self.old.endpoint).log ≡ [] }
+        requires kind { IfSome (next_op (told E.seen self.old)) (λ op. is_atomic op ≡ true) }
         ensures { IfOk result (λ o. WentOn (told E.seen self.old) (told E.seen self.new) o.done o.moved) }
     {
         let Some(line) = self.lines.get(self.results.len()) else {
@@ -308,7 +311,7 @@ impl<E: Calls> Peer<E> {
                 let buf = Buf::zeros(self.alloc, operand.as_slice().len() as u64)?;
                 self.compare(ctx, dest, key, at, op, num, &operand, &other, buf)
             }
-            _ => Err(NoMemory),
+            _ => unreachable!(),
         }
     }
 }

@@ -2,7 +2,7 @@ use Rattle.std.proofs.Common.{◌≡◌, ◌<◌, ◌∙◌, ℕ, length, slice_
 use Rattle.fab_model.specs.Peers.{is_calm}
 use Rattle.fab_finish.specs.Joined.{actors}
 use Rattle.fab_finish.specs.Rests.{AreCancelled}
-use Rattle.fab_finish.proofs.Joining.{got, actor_at}
+use Rattle.fab_finish.proofs.Joining.{got}
 use Rattle.fab_finish.proofs.Ending.{rest_calm, end_facts, end_goes_on, cancelled_none, cancelled_more, rest_after, done_after}
 use Rattle.fab_finish.proofs.finish.cancel_all.Goals as goal
 
@@ -30,12 +30,10 @@ loop-number-preserved g c =
     let is_a = got now n c.index-peers-number.result below in
     let e = c.in_ok-cancel_posted.ensures in
     let calm = ap is_calm inv.facts_are ∙ rest_calm (actors old) c.requires.rest c.requires.done in
-    let was = sym (inv.cancelled.after n (λ l. omega (arith, l))) ∙ is_a in
-    let read = c.requires.rest.read n _ (actor_at old n a was) in
     record {
       ends = λ conf lists reached. end_goes_on now n a b is_a e.ended calm conf lists (inv.ends conf lists reached);
       facts_are = end_facts now n a b is_a e.ended ∙ inv.facts_are;
-      cancelled = cancelled_more old now n a b inv.cancelled is_a (record { facts_are = e.ended.facts_are; tx = e.ended.tx; coming = e.ended.coming; read = e.read read; none = e.none });
+      cancelled = cancelled_more old now n a b inv.cancelled is_a (record { facts_are = e.ended.facts_are; tx = e.ended.tx; coming = e.ended.coming; read = e.read; none = e.none });
     }
 
 pub returns-clause-rest : goal.returns-clause-rest

@@ -8,7 +8,7 @@ invariant-receives g l =
     record {
       ended : Ended (told seen l.fn.self) (told seen l.self);
       quiet : IsQuiet (told seen l.self);
-      read : IsRead (seen l.fn.self.endpoint) → IsRead (seen l.self.endpoint);
+      read : IsRead (seen l.self.endpoint);
     }
 
 abbrev pub decreases-receives : goal.decreases-receives
