@@ -63,7 +63,7 @@ first_of conf lists p = at_start conf (slice_index_or lists p [])
 -- ---- between the ports
 
 abbrev pub living_with : Held → Unseated → Living
-living_with h u = record { held = h; lines = u.lines.items; results = u.results.items; kept = u.kept.items }
+living_with h u = record { held = h; lines = u.lines.items; results = u.results.items; kept = u.kept }
 
 abbrev pub past_with : Held → Unseated → RingPort → Past
 past_with h u port = record {

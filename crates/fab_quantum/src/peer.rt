@@ -1,5 +1,5 @@
 //! A peer over any endpoint: it does its lines, in turns.
-ghost use Rattle.std.specs.Prelude.{◌≡◌, ◌≢◌, ◌<◌, ◌||◌, length, ℕ, Some, None, Ok, Err, IfOk, OnOk, IfSome, IfNone, find, position, is_some, nat_lt, ◌+◌, [], true, false, Bool};
+ghost use Rattle.std.specs.Prelude.{◌≡◌, ◌≢◌, ◌<◌, ◌||◌, length, ℕ, Some, None, Ok, Err, IfOk, OnOk, OnErr, IfSome, IfNone, find, position, is_some, nat_lt, ◌+◌, [], true, false, Bool};
 ghost use Rattle.fab_base.specs.declared.script.LineOp.TheVariants.{Wait, Recv, TRecv, MRecv, Send, TSend, Inject, TInject, Cancel};
 ghost use Rattle.fab_base.specs.declared.script.BytesWord.{BytesWord};
 ghost use Rattle.fab_base.specs.declared.faults.Fault.TheVariants.{NoMemory as LacksMemory};
@@ -14,12 +14,14 @@ ghost use Rattle.fab_quantum.specs.Turns.{step_of, why_of};
 pub mod seats;
 
 use crate::calls::Calls;
+use crate::kept::KeptList;
 use fab_base::{
     Buf, BytesWord, Entry, Fault, Flags, Kept, Line, LineOp, LineResult, NoMemory, Refused, Step,
     Taken,
 };
 use fab_face::events::Event;
 use std::alloc::Global;
+use std::mem::replace;
 
 /// A peer with its endpoint, its lines, the results of those done, the completions kept, and its schedule.
 ///
@@ -29,7 +31,7 @@ pub struct Peer<E: Calls> {
     pub endpoint: E,
     pub(crate) lines: Vec<Line>,
     pub(crate) results: Vec<LineResult>,
-    pub(crate) kept: Vec<Kept>,
+    pub(crate) kept: KeptList,
     pub(crate) schedule: Vec<Step>,
     pub(crate) alloc: Global,
 }
@@ -112,11 +114,11 @@ fn place_of(kept: &[Kept], ctx: Option<u64>) -> Option<usize>
 }
 
 /// Takes the oldest kept completion of this context.
-fn take_kept(kept: &mut Vec<Kept>, ctx: Option<u64>) -> Option<Kept>
-    ensures found { result ≡ find (is_of_ctx ctx) kept.old.items }
-    ensures rest { kept.new.items ≡ remove_first (is_of_ctx ctx) kept.old.items }
+fn take_kept(kept: &mut KeptList, ctx: Option<u64>) -> Option<Kept>
+    ensures found { result ≡ find (is_of_ctx ctx) kept.old }
+    ensures rest { kept.new ≡ remove_first (is_of_ctx ctx) kept.old }
 {
-    let Some(at) = place_of(kept, ctx) else {
+    let Some(at) = place_of(kept.as_slice(), ctx) else {
         return None;
     };
     Some(kept.remove(at))
@@ -149,7 +151,7 @@ impl<E: Calls> Peer<E> {
             endpoint,
             lines,
             results: Vec::new(alloc),
-            kept: Vec::new(alloc),
+            kept: KeptList::new(alloc),
             schedule: Vec::new(alloc),
             alloc,
         }
@@ -581,9 +583,9 @@ impl<E: Calls> Peer<E> {
         Ok(either(either(took, posted), logged))
     }
 
-    /// A turn of the peer: it reads all completions, does up to 16 lines and reads after each, makes
-    /// progress with up to 64 frames, and reads again. Whether anything moved.
-    pub fn quantum(&mut self) -> Result<bool, NoMemory>
+    /// Reads all completions, does up to 16 lines and reads after each, makes progress with up to 64 frames, and reads
+    /// again. Whether anything moved.
+    fn turn(&mut self) -> Result<bool, NoMemory>
         requires log { (E.seen self.old.endpoint).log ≡ [] }
         requires counted { IsCounted (living_of (told E.seen self.old)) }
         ensures log { OnOk result ((E.seen self.new.endpoint).log ≡ []) }
@@ -598,6 +600,27 @@ impl<E: Calls> Peer<E> {
         let again = self.read_all()?;
         self.endpoint.known();
         Ok(either(either(read, done), either(went, again)))
+    }
+
+    /// A turn of the peer: it reads all completions, does up to 16 lines and reads after each, makes progress with up to
+    /// 64 frames, and reads again. Whether anything moved.
+    ///
+    /// Want of memory leaves the schedule as it was; of the rest of the peer nothing is known then.
+    pub fn quantum(&mut self) -> Result<bool, NoMemory>
+        requires log { (E.seen self.old.endpoint).log ≡ [] }
+        requires counted { IsCounted (living_of (told E.seen self.old)) }
+        ensures log { OnOk result ((E.seen self.new.endpoint).log ≡ []) }
+        ensures counted { OnOk result (IsCounted (living_of (told E.seen self.new))) }
+        ensures turned { IfOk result (λ moved. (acts : List Act) × Turned (told E.seen self.old) (told E.seen self.new) acts × (moved ≡ is_some_act acts)) }
+        ensures still { result ≡ Ok false → IsStill (told E.seen self.old) (told E.seen self.new) }
+        ensures stays { OnErr result ((told E.seen self.new).schedule ≡ (told E.seen self.old).schedule) }
+    {
+        let before = replace(&mut self.schedule, Vec::new(self.alloc));
+        let answer = self.turn();
+        let mut steps = replace(&mut self.schedule, before);
+        let moved = answer?;
+        self.schedule.append(&mut steps)?;
+        Ok(moved)
     }
 
     /// Cancels the first posted receive that may be cancelled, if there is one.

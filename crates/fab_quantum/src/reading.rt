@@ -104,7 +104,7 @@ impl<E: Calls> Peer<E> {
     /// Whether one multi-receive of the context, and no other, was not read to be released. The lines before that were
     /// Ok are counted, not the endpoint's buffers.
     fn is_only(&self, ctx: u64) -> bool
-        requires few { count_by (hands_back ctx) self.now.kept.items + count_by (waited_back ctx) self.now.results.items ≤ multis_done self.now.lines.items self.now.results.items ctx }
+        requires few { count_by (hands_back ctx) self.now.kept + count_by (waited_back ctx) self.now.results.items ≤ multis_done self.now.lines.items self.now.results.items ctx }
         ensures { result ≡ is_only (told E.seen self.now) ctx }
     {
         let kept = count_kept(self.kept.as_slice(), ctx);
@@ -115,7 +115,7 @@ impl<E: Calls> Peer<E> {
 
     /// The bytes to be kept with a part that was just read.
     fn bytes_of(&self, part: Option<(u64, u32, u32)>) -> Result<Option<Buf>, NoMemory>
-        requires few { (ctx : ℕ) → count_by (hands_back ctx) self.now.kept.items + count_by (waited_back ctx) self.now.results.items ≤ multis_done self.now.lines.items self.now.results.items ctx }
+        requires few { (ctx : ℕ) → count_by (hands_back ctx) self.now.kept + count_by (waited_back ctx) self.now.results.items ≤ multis_done self.now.lines.items self.now.results.items ctx }
         ensures { IfOk result (λ bytes. Lent (told E.seen self.now) part bytes) }
     {
         let Some((ctx, at, len)) = part else {

@@ -82,8 +82,8 @@ impl<P: Port, C: Machinery> Runner<P, C> {
         self.peer.finished()
     }
 
-    /// One turn. Its answer is kept: whether it moved anything, or that memory ran out. After want of memory nothing is
-    /// known of the peer but that it stays as it is.
+    /// One turn. Its answer is kept: whether it moved anything, or that memory ran out. Want of memory leaves the schedule
+    /// as it was; from then on nothing is known of the rest of the peer but that it stays as it is.
     pub fn quantum(&mut self) -> Result<bool, NoMemory>
         ensures turned { self.new.failed ≡ false → (self.old.failed ≡ false) × TurnedAs (told (seen P.Port) self.old.peer) (told (seen P.Port) self.new.peer) self.new.moved }
         ensures still { self.new.failed ≡ false → self.new.moved ≡ false → IsStill (told (seen P.Port) self.old.peer) (told (seen P.Port) self.new.peer) }
@@ -91,6 +91,7 @@ impl<P: Port, C: Machinery> Runner<P, C> {
         ensures risen { self.new.moved ≡ true → size (told (seen P.Port) self.old.peer) < size (told (seen P.Port) self.new.peer) }
         ensures ok { IfOk result (λ moved. (self.new.moved ≡ moved) × (self.new.failed ≡ false)) }
         ensures err { OnErr result ((self.new.moved ≡ false) × (self.new.failed ≡ true)) }
+        ensures stays { OnErr result ((told (seen P.Port) self.new.peer).schedule ≡ (told (seen P.Port) self.old.peer).schedule) }
         ensures failed { self.old.failed ≡ true → self.new ≡ self.old }
     {
         if self.failed {

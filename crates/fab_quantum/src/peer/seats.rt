@@ -3,8 +3,9 @@ ghost use Rattle.std.specs.Prelude.{◌≡◌};
 ghost use Rattle.fab_quantum.specs.Turns.{told};
 
 use crate::calls::Calls;
+use crate::kept::KeptList;
 use crate::peer::Peer;
-use fab_base::{Kept, Line, LineResult, Step};
+use fab_base::{Line, LineResult, Step};
 use std::alloc::Global;
 
 /// A peer without its endpoint: its lines, the results of those done, the completions kept, and its schedule.
@@ -12,7 +13,7 @@ use std::alloc::Global;
 pub struct Unseated {
     lines: Vec<Line>,
     results: Vec<LineResult>,
-    kept: Vec<Kept>,
+    kept: KeptList,
     schedule: Vec<Step>,
     alloc: Global,
 }
@@ -25,7 +26,7 @@ impl<E: Calls> Peer<E> {
           seen = E.seen result.1;
           lines = result.0.lines.items;
           results = result.0.results.items;
-          kept = result.0.kept.items;
+          kept = result.0.kept;
           schedule = result.0.schedule.items;
         } }
     {
@@ -56,7 +57,7 @@ impl Unseated {
           seen = E.seen endpoint;
           lines = self.lines.items;
           results = self.results.items;
-          kept = self.kept.items;
+          kept = self.kept;
           schedule = self.schedule.items;
         } }
     {

@@ -6,22 +6,22 @@ use Rattle.fab_quantum.proofs.peer.take_kept.Goals as goal
 
 pub returns-in_default-clause-found : goal.returns-in_default-clause-found
 returns-in_default-clause-found c =
-    let none : position (is_of_ctx c.args.ctx) c.args.kept.now.items ≡ None = search rules in
-    sym ((first_none (is_of_ctx c.args.ctx) c.args.kept.now.items none).0)
+    let none : position (is_of_ctx c.args.ctx) c.args.kept.now ≡ None = search rules in
+    sym ((first_none (is_of_ctx c.args.ctx) c.args.kept.now none).0)
 
 pub returns-in_default-clause-rest : goal.returns-in_default-clause-rest
 returns-in_default-clause-rest c =
-    let none : position (is_of_ctx c.args.ctx) c.args.kept.now.items ≡ None = search rules in
-    sym ((first_none (is_of_ctx c.args.ctx) c.args.kept.now.items none).1)
+    let none : position (is_of_ctx c.args.ctx) c.args.kept.now ≡ None = search rules in
+    sym ((first_none (is_of_ctx c.args.ctx) c.args.kept.now none).1)
 
 pub returns-clause-found : goal.returns-clause-found
 returns-clause-found c =
-    let at : position (is_of_ctx c.args.ctx) c.args.kept.now.items ≡ Some c.in-Some.at = search rules in
-    let first = first_at (is_of_ctx c.args.ctx) c.remove.result c.args.kept.now.items c.in-Some.at at in
+    let at : position (is_of_ctx c.args.ctx) c.args.kept.now ≡ Some c.in-Some.at = search rules in
+    let first = first_at (is_of_ctx c.args.ctx) c.remove.result c.args.kept.now c.in-Some.at at in
     ap Some c.remove.ensures.value ∙ sym (first.found)
 
 pub returns-clause-rest : goal.returns-clause-rest
 returns-clause-rest c =
-    let at : position (is_of_ctx c.args.ctx) c.args.kept.now.items ≡ Some c.in-Some.at = search rules in
-    let first = first_at (is_of_ctx c.args.ctx) c.remove.result c.args.kept.now.items c.in-Some.at at in
-    c.remove.ensures.items ∙ sym (first.rest)
+    let at : position (is_of_ctx c.args.ctx) c.args.kept.now ≡ Some c.in-Some.at = search rules in
+    let first = first_at (is_of_ctx c.args.ctx) c.remove.result c.args.kept.now c.in-Some.at at in
+    c.remove.ensures.rest ∙ sym (first.rest)

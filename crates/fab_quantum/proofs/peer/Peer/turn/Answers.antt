@@ -1,7 +1,7 @@
 use Rattle.std.proofs.Common.{◌≡◌, ◌||◌, false, ap, sym, ◌∙◌}
 use Rattle.fab_quantum.specs.Turns.{told}
 use Rattle.fab_quantum.proofs.Turning.{turned, still}
-use Rattle.fab_quantum.proofs.peer.Peer.quantum.Goals as goal
+use Rattle.fab_quantum.proofs.peer.Peer.turn.Goals as goal
 
 pub returns-clause-turned : goal.returns-clause-turned
 returns-clause-turned g c =
