@@ -20,7 +20,7 @@ use std::alloc::Global;
 
 /// How a run ended: all lines are done and no receive is posted, or some line could not be done.
 #[derive(Clone, Copy, Debug, Drop, Eq, PartialEq)]
-pub enum Finish {
+pub enum Ending {
     Drained,
     Stuck,
 }
@@ -64,20 +64,20 @@ fn cancel_all<C: Machinery + Drop>(
 /// After want of memory a frame that was on its way may be lost, so the peers are then only read or dropped.
 pub fn finish<C: Machinery + Drop>(
     peers: &mut [Peer<Endpoint<PlainPort, C>>],
-) -> Result<Finish, NoMemory>
+) -> Result<Ending, NoMemory>
     requires joined { IsJoined peers.old }
     ensures ends { OnOk result (Ends peers.old peers.new) }
     ensures rest { OnOk result (at_rest (actors peers.new) ≡ true) }
-    ensures drained { result ≡ Ok Finish.Drained → all_done (actors peers.new) ≡ true }
-    ensures stuck { result ≡ Ok Finish.Stuck → all_done (actors peers.new) ≡ false }
-    ensures cleared { result ≡ Ok Finish.Drained → Clears peers.old peers.new }
+    ensures drained { result ≡ Ok Ending.Drained → all_done (actors peers.new) ≡ true }
+    ensures stuck { result ≡ Ok Ending.Stuck → all_done (actors peers.new) ≡ false }
+    ensures cleared { result ≡ Ok Ending.Drained → Clears peers.old peers.new }
 {
     settle(peers)?;
     if !all_done(peers) {
-        return Ok(Finish::Stuck);
+        return Ok(Ending::Stuck);
     }
     cancel_all(peers)?;
-    Ok(Finish::Drained)
+    Ok(Ending::Drained)
 }
 
 /// Runs peers that do these lists of lines, each over a machine that holds what an endpoint holds when it is opened,

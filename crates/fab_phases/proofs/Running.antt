@@ -13,8 +13,8 @@ use Rattle.fab_model.specs.Views.{rule}
 use Rattle.fab_quantum.specs.Turns.{actor_in}
 use Rattle.fab_threads.specs.Pasts.{Past}
 use Rattle.fab_threads.specs.Law as law
-use Rattle.fab_finish.specs.declared.finish.Finish.{Finish}
-use Rattle.fab_finish.specs.declared.finish.Finish.TheVariants.{Drained, Stuck}
+use Rattle.fab_finish.specs.declared.finish.Ending.{Ending}
+use Rattle.fab_finish.specs.declared.finish.Ending.TheVariants.{Drained, Stuck}
 use Rattle.fab_finish.specs.Joined.{Member, actors, schedules, opened, Clears}
 use Rattle.fab_phases.specs.Phases.{first_of}
 use Rattle.fab_phases.proofs.Starting.{opening_is}
@@ -28,6 +28,6 @@ reached_here conf lists pasts ps reached steps states =
     (subst (λ (x : List Actor). Reached (rule fabric) (map actor_in (map (first_of conf lists) (upto conf.peers))) (law.schedules pasts) x) (sym states) reached))
 
 -- where all lines are done, the run is drained
-pub drained_clears : (ps qs : List Member) (e : Finish) → ((let r : Result Finish NoMemory = Ok e in r) ≡ Ok Drained → Clears ps qs) → ((let r : Result Finish NoMemory = Ok e in r) ≡ Ok Stuck → all_done (actors qs) ≡ false) → all_done (actors qs) ≡ true → Clears ps qs
+pub drained_clears : (ps qs : List Member) (e : Ending) → ((let r : Result Ending NoMemory = Ok e in r) ≡ Ok Drained → Clears ps qs) → ((let r : Result Ending NoMemory = Ok e in r) ≡ Ok Stuck → all_done (actors qs) ≡ false) → all_done (actors qs) ≡ true → Clears ps qs
 drained_clears ps qs Drained clears stuck done = clears refl
 drained_clears ps qs Stuck clears stuck done = absurd (let not = stuck refl in cc)

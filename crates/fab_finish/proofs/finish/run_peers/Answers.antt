@@ -7,8 +7,8 @@ use Rattle.fab_model.specs.Orders.{Reached}
 use Rattle.fab_model.specs.Peers.{fabric}
 use Rattle.fab_model.specs.Replay.{all_done}
 use Rattle.fab_model.specs.Views.{rule}
-use Rattle.fab_finish.specs.declared.finish.Finish.{Finish}
-use Rattle.fab_finish.specs.declared.finish.Finish.TheVariants.{Drained, Stuck}
+use Rattle.fab_finish.specs.declared.finish.Ending.{Ending}
+use Rattle.fab_finish.specs.declared.finish.Ending.TheVariants.{Drained, Stuck}
 use Rattle.fab_finish.specs.Joined.{Member, actors, schedules, opened, AreCleared, Clears}
 use Rattle.fab_finish.proofs.Starting.{start_reached}
 use Rattle.fab_finish.proofs.finish.run_peers.Goals as goal
@@ -23,7 +23,7 @@ returns-clause-reached g c =
     subst (λ (ps : List Member). Reached (rule fabric) (opened conf lists) (schedules ps) (actors ps)) (sym is) (c.in_ok-_end.ensures.ends conf lists began)
 
 -- where all lines are done, the run is drained
-drained_clears : (ps qs : List Member) (e : Finish) → ((let r : Result Finish NoMemory = Ok e in r) ≡ Ok Drained → Clears ps qs) → ((let r : Result Finish NoMemory = Ok e in r) ≡ Ok Stuck → all_done (actors qs) ≡ false) → all_done (actors qs) ≡ true → Clears ps qs
+drained_clears : (ps qs : List Member) (e : Ending) → ((let r : Result Ending NoMemory = Ok e in r) ≡ Ok Drained → Clears ps qs) → ((let r : Result Ending NoMemory = Ok e in r) ≡ Ok Stuck → all_done (actors qs) ≡ false) → all_done (actors qs) ≡ true → Clears ps qs
 drained_clears ps qs Drained clears stuck done = clears refl
 drained_clears ps qs Stuck clears stuck done = absurd (let not = stuck refl in cc)
 
