@@ -140,6 +140,7 @@ module _ {Home : Type 0} where
         judged = judged_as call a a (Crowded a a) why answered (λ crowded passing. absurd (early_last why early passing)) is;
         early = λ e. refl;
         short = λ s. refl;
+        place = λ places. omega (arith, places);
         memory = lacks_not why answered;
         drawn = λ e. absurd (cc);
       }
@@ -161,6 +162,7 @@ module _ {Home : Type 0} where
         judged = judged_as call a b (Crowded a b) why answered (λ crowded passing. elim room [ inl last ↦ absurd (cc) | inr free ↦ free crowded ]) is;
         early = λ e. absurd (cc);
         short = none_short a b d;
+        place = d.place;
         memory = lacks_not why answered;
         drawn = λ e. drawn.1;
       }
@@ -181,6 +183,7 @@ module _ {Home : Type 0} where
         judged = (refl, crowded, granted);
         early = λ e. absurd (cc);
         short = none_short a b d;
+        place = d.place;
         memory = λ lacks. absurd (cc);
         drawn = λ e. drawn.1;
       }

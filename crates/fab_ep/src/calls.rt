@@ -47,6 +47,7 @@ impl<P: Port, C: Machine> Progress for Endpoint<P, C> {
 
     fn cq_read(&mut self, budget: u32) -> Result<Entry, Fault> {
         let moved = self.move_frames(budget);
+        self.core.known();
         let popped = self.core.pop();
         read_as(popped, moved.is_err())
     }

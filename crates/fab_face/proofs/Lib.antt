@@ -1,2 +1,4 @@
 pub mod Joining
 pub mod Tied
+pub mod Writing
+pub mod Holding

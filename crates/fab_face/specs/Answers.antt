@@ -212,6 +212,8 @@ pub record ReceivesNot {Home : Type 0} (call : Call) (old new : Seen Home) (faul
   pub judged : Judged call old new (IsShort old ⊎ ((draw_due new.held.state.rx ≡ true) × (new.log_size ≡ length new.log + 1))) fault
   pub early : is_early fault ≡ true → acts ≡ []
   pub short : IsShort old → acts ≡ []
+  -- the last place of the log is never taken by a draw
+  pub place : HasPlaces old → length new.log + 1 ≤ new.log_size
   pub memory : fault ≢ LacksMemory
   pub drawn : is_early fault ≡ false → Drawn new
 
@@ -264,6 +266,8 @@ pub record ReadsOn {Home : Type 0} (budget : ℕ) (old new : Seen Home) (answer 
   pub moved : Result Moved NoMemory
   pub progressed : Progressed budget old mid moved
   pub popped : ReadsAs mid new moved answer
+  -- where all is read, nothing waits for room in the completion queue: the budget is spent, or progress was idle, or the log is short
+  pub waits : answer ≡ Err NoEntry → (count_by is_take progressed.acts + count_by is_post progressed.acts ≡ budget) ⊎ (IsIdle old mid ⊎ IsShort mid)
 
 -- ---- the calls by their arguments
 

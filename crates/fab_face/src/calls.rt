@@ -266,7 +266,8 @@ pub trait Progress: Sees {
         ensures ok { IfOk result (λ entry. Pops (Failure entry) (Self.seen self.old) (Self.seen self.new)) }
         ensures err { IfErr result (λ why. (Self.seen self.new ≡ Self.seen self.old) × PopsNotErr (Self.seen self.old).held.state.cq why) };
 
-    /// Makes progress, and then takes the first completion.
+    /// Makes progress, and then takes the first completion. `NoEntry` where there is none: then `budget` frames
+    /// were moved, or nothing is left to move, or the log has fewer than two free places.
     fn cq_read(&mut self, budget: u32) -> Result<Entry, Fault>
         ensures { ReadsOn budget (Self.seen self.old) (Self.seen self.new) result };
 }

@@ -24,7 +24,7 @@ use Rattle.fab_face.proofs.Joining.{ported_same}
 use Rattle.fab_quantum.specs.declared.peer.Outcome.{Outcome}
 use Rattle.fab_quantum.specs.Turns.{Told, living_of, actor_in, actor_of, waited_back, SameParts, IsCounted, WentOn, with_seen, next_op, noted, why_of}
 use Rattle.fab_quantum.proofs.Paths.{living}
-use Rattle.fab_quantum.proofs.Writing.{Adds, adds_call}
+use Rattle.fab_face.proofs.Writing.{Adds, adds_call}
 use Rattle.fab_quantum.proofs.Counting.{counted_grown, counted_noted}
 use Rattle.fab_quantum.proofs.Calling.{IsCalled, did_lives, next_is, lived_same}
 

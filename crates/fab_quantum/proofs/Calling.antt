@@ -33,7 +33,7 @@ use Rattle.fab_face.specs.Held.{Held, Lanes, Seen, IsOpen}
 use Rattle.fab_face.specs.Acts.{Act, Did, Took, Posted, Drew, Had, Went, Ported, steps_of, steps_by, events, has_read, is_move}
 use Rattle.fab_face.specs.Answers.{AllAre, Judged, IsShort, IsSharing, Sends, SendsNot, Receives, ReceivesNot, Pops, after_read, receive_call}
 use Rattle.fab_quantum.specs.Looks.{look_line}
-use Rattle.fab_quantum.specs.Turns.{Told, living_of, actor_in, actor_of, hands_back, waited_back, multis_done, IsCounted, SameParts, Lives, Lived, WentOn, Answered, why_of, drained, with_seen, is_only, LentIf, Lent, HasRead, is_some_act, is_some_event, next_op, step_of, ReadOn, IsRead, is_read}
+use Rattle.fab_quantum.specs.Turns.{Told, living_of, actor_in, actor_of, hands_back, waited_back, multis_done, IsCounted, SameParts, Lives, Lived, WentOn, Answered, why_of, drained, with_seen, is_only, LentIf, Lent, HasRead, is_some_act, is_some_event, next_op, step_of, ReadOn, is_read}
 use Rattle.fab_face.proofs.Joining.{posts_move, draws_move, ported_same, ported_then}
 use Rattle.fab_quantum.proofs.Paths.{living, lives_append, goes_split, moves_live, posts_some, draws_some, some_did, none_acts, steps_told, steps_called, some_append, lived_then}
 use Rattle.fab_quantum.proofs.Counting.{IsMarked, MarkedBy, counted_moves, counted_noted, counted_call, counted_waited, counted_read, lent_is}
@@ -530,15 +530,6 @@ module _ {Home : Type 0} where
         in_after = p.in_after;
         out_after = p.out_after;
       }
-
-  -- where there is no first unread entry, all are read
-  pub none_unread : (e : Seen Home) → IsOpen e → unread e.held.state.cq ≡ None → IsRead e
-  none_unread e sound none = let past = none_past e.held.state.cq.written e.held.state.cq.taken_out none in omega (arith, past, sound.read)
-    where
-      none_past : {X : Type 0} (xs : List X) (k : ℕ) → slice_get xs k ≡ None → length xs ≤ k
-      none_past [] k none = omega arith
-      none_past (x ∷ xs) zero none = absurd (cc)
-      none_past (x ∷ xs) (suc k) none = let more = none_past xs k none in omega (arith, more)
 
 is_at : {X : Type 0} (xs : List X) (n : ℕ) (x : X) → n < length xs → x ≡ get_or xs n x → slice_get xs n ≡ Some x
 is_at [] n x within found = absurd (omega (arith, within))

@@ -27,7 +27,7 @@ use Rattle.fab_face.specs.Acts.{Act, Did, Took, Posted, Drew, Had, Goes, GoesBy,
 use Rattle.fab_face.specs.Answers.{AllAre, IsSharedBy, IsSharing, multi_of}
 use Rattle.fab_quantum.specs.Turns.{IsCounted, LentIf, hands_back, waited_back, multis_open, releases_read}
 use Rattle.fab_quantum.proofs.Paths.{living, goes_split}
-use Rattle.fab_quantum.proofs.Writing.{Adds, adds_none, adds_then, adds_draw, adds_tail, adds_sent, adds_headed, adds_call}
+use Rattle.fab_face.proofs.Writing.{Adds, adds_none, adds_then, adds_draw, adds_tail, adds_sent, adds_headed, adds_call}
 
 -- ---- lists
 

@@ -27,8 +27,8 @@ use Rattle.fab_quantum.specs.Turns.{Told, Living, IsCounted, living_of, actor_in
 use Rattle.fab_face.proofs.Joining.{draws_move}
 use Rattle.fab_quantum.proofs.Paths.{goes_split}
 use Rattle.fab_quantum.proofs.Calling.{judged_final, judged_again}
-use Rattle.fab_quantum.proofs.Idling.{fits_two}
-use Rattle.fab_quantum.proofs.Writing.{adds_more, adds_cancel}
+use Rattle.fab_face.proofs.Holding.{fits_two}
+use Rattle.fab_face.proofs.Writing.{adds_more, adds_cancel}
 use Rattle.fab_quantum.proofs.Counting.{counted_final}
 use Rattle.fab_quantum.proofs.Showing.{had_walk, walk_append}
 

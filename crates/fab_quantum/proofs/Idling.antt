@@ -1,44 +1,20 @@
 -- When nothing moved, nothing can.
-use Rattle.std.proofs.Common.{◌≡◌, ◌≤◌, ◌+◌, ◌-◌, inl, inr, ◌^◌, ℕ, Bool, true, false, ◌||◌, List, [], ◌∷◌, ◌++◌, length, append-nil, map, None, Ok, refl, sym, ap, ◌∙◌, subst, arith}
+use Rattle.std.proofs.Common.{◌≡◌, ◌≤◌, ◌+◌, inl, inr, ◌^◌, ℕ, Bool, true, false, ◌||◌, List, [], ◌∷◌, ◌++◌, length, append-nil, map, None, Ok, refl, sym, ap, ◌∙◌, subst, arith}
 use Rattle.std.proofs.lemmas.List.Sums.{sum_by-cons}
 use Rattle.std.specs.Prelude.{cond, count_by, nat_lt}
-use Rattle.std.proofs.lemmas.Bool.{le-leb, lt-ltb, cases_eq}
+use Rattle.std.proofs.lemmas.Bool.{lt-ltb, cases_eq}
 use Rattle.fab_face.proofs.Joining.{ported_same}
 use Rattle.fab_quantum.proofs.Paths.{moves_live, steps_told, none_acts}
 use Rattle.fab_base.specs.Counts.{Rose}
-use Rattle.fab_wire.specs.Joined.{grown}
-use Rattle.fab_model.specs.State.{State, fits}
-use Rattle.fab_model.specs.Receiving.{draw_due}
 use Rattle.fab_face.specs.declared.events.Moved.{Moved}
 use Rattle.fab_face.specs.declared.events.Stop.{Stop}
 use Rattle.fab_face.specs.declared.events.Stop.TheVariants.{Idle, Budget, CqFull as StoppedCqFull, LogFull as StoppedLogFull}
-use Rattle.fab_face.specs.Held.{Held, Seen, IsOpen, begun_of}
-use Rattle.fab_face.specs.Acts.{Act, Did, Took, Posted, Drew, Had, GoesBy, Ported, events, is_first, is_move, is_take, is_post}
-use Rattle.fab_face.specs.Answers.{AllAre, Progressed, StopsAs, IsIdle, IsHeldBack}
+use Rattle.fab_face.specs.Held.{Held, Seen, IsOpen}
+use Rattle.fab_face.specs.Acts.{Act, Did, Took, Posted, Drew, Had, GoesBy, Ported, events, is_move, is_take, is_post}
+use Rattle.fab_face.specs.Answers.{AllAre, Progressed, StopsAs, IsIdle}
 use Rattle.fab_quantum.specs.Turns.{Told, MovedOn, IsRead, drained, with_seen, step_of, is_some_act, is_some_event}
 use Rattle.fab_quantum.proofs.Counting.{counted_moves}
-use Rattle.fab_quantum.proofs.Writing.{Adds, adds_then, adds_more, adds_draw, adds_tail, adds_sent, adds_headed}
-
--- where all is read and two entries have room, what writes at most two fits
-pub fits_two : (s u : State) → Adds 2 s u → s.cq.taken_out ≡ length s.cq.written → 2 ≤ s.cq.size → fits u.cq ≡ true
-fits_two s u a read size = le-leb (length u.cq.written - u.cq.taken_out) u.cq.size (omega (arith, a.read, a.size, a.most, read, size))
-
--- nothing waits for room in a completion queue that is all read
-module _ {Home : Type 0} where
-  never_held : (old new : Seen Home) → IsHeldBack old new → IsRead new → 2 ≤ new.held.state.cq.size → ⊥
-  never_held old new back read size =
-      let s = new.held.state in
-      let no_draw : draw_due s.rx ≡ true → ⊥ = λ due. (let fits_it = fits_two s _ (adds_draw s) read size in let lacks = (back.draws due).1 in cc) in
-      elim back.some [
-        | inl draw ↦ no_draw draw.0
-        | inr rest ↦ elim rest [
-          | inl (k, (f, lent, lacks)) ↦ elim lacks [
-            | inl held ↦ no_draw held.1
-            | inr full ↦ (let fits_it = fits_two s _ (adds_then 0 2 s _ _ (adds_headed (is_first f) s k f.head.item) (adds_tail _ k (grown (begun_of new.held k) f).head (grown (begun_of new.held k) f).bytes)) read size in let lacks_it = full.1 in cc)
-          ]
-          | inr (d, (f, next, (last, lacks))) ↦ (let fits_it = fits_two s _ (adds_more 1 2 s _ (omega arith) (adds_sent s d)) read size in cc)
-        ]
-      ]
+use Rattle.fab_face.proofs.Holding.{never_held}
 
 -- ---- counts
 

@@ -1,5 +1,4 @@
 pub mod Paths
-pub mod Writing
 pub mod Counting
 pub mod Calling
 pub mod Requesting

@@ -1,7 +1,8 @@
 use Rattle.std.proofs.Common.{◌≡◌, None, Ok, sym, ap, subst}
 use Rattle.fab_model.specs.Peers.{unread}
 use Rattle.fab_quantum.specs.Turns.{Told, ReadOn, told}
-use Rattle.fab_quantum.proofs.Calling.{reads_on, reads_none, reads_less, none_unread}
+use Rattle.fab_face.proofs.Holding.{none_unread}
+use Rattle.fab_quantum.proofs.Calling.{reads_on, reads_none, reads_less}
 use Rattle.fab_quantum.proofs.peer.Peer.read_all.Goals as goal
 
 pub entries-init : goal.entries-init
