@@ -1,5 +1,5 @@
 //! What a core is made of.
-ghost use Rattle.std.specs.Prelude.{◌≡◌, ℕ, ◌+◌, ◌≤◌, IfOk, IfErr, replicate, None};
+ghost use Rattle.std.specs.Prelude.{◌≡◌, ℕ, ◌+◌, ◌≤◌, length, IfOk, IfErr, replicate, None};
 ghost use Rattle.fab_cq.specs.Counts.{no_counts};
 ghost use Rattle.fab_cq.specs.Queues.{nothing_written};
 ghost use Rattle.fab_rma.specs.Serving.{nothing_served};
@@ -14,6 +14,7 @@ use fab_cq::{Counters, Queue};
 use fab_ends::calls::Calls;
 use fab_ends::members::Multis;
 use fab_match::Matcher;
+use fab_mr::Regions;
 use fab_record::record::Record;
 use fab_rma::Target;
 use fab_rx::Inbox;
@@ -152,10 +153,12 @@ impl<M: Matcher> Core<M> {
 }
 
 impl<M: Matcher + Drop> Core<M> {
-    /// Gives up everything but the address vector.
-    pub fn into_av(self) -> Av
-        ensures { result ≡ self.av }
+    /// Gives up everything but the address vector and the regions. Buffers of unfinished operations are dropped.
+    pub fn into_parts(self) -> (Av, Regions)
+        ensures av { result.0 ≡ self.av }
+        ensures peers { result.0.peers ≡ length self.tx.tx.sent }
+        ensures regions { result.1 ≡ self.target.regions }
     {
-        self.av
+        (self.av, self.target.into_regions())
     }
 }

@@ -2,8 +2,10 @@
 //!
 //! A caller that is given a type with parameters compares each clause of its calls over all of them; of this one it
 //! compares names alone. What contracts see of it is `ring_seen`.
-ghost use Rattle.std.specs.Prelude.{true};
+ghost use Rattle.std.specs.Prelude.{◌≡◌, true};
+ghost use Rattle.fab_ring.specs.Ports.{peers_of};
 ghost use Rattle.fab_table.specs.declared.fabric.Fabric.{Fabric};
+ghost use Rattle.fab_domain.specs.Domain.{port_of};
 ghost use Rattle.fab_domain.specs.Seen.{ring_seen};
 
 use fab_av::InsertReport;
@@ -14,7 +16,7 @@ use fab_face::calls::{
     Addresses, Counters, Logs, Looks, Messages, Multis, Progress, Receives, Regions, Requests, Sees,
 };
 use fab_face::events::{Event, Moved};
-use fab_open::Endpoint;
+use fab_open::{Closed, Endpoint, close};
 use fab_ring::RingPort;
 use std::marker::Model;
 
@@ -32,6 +34,19 @@ impl Model for RingEndpoint {
     ghost Value = { Whole RingPort };
 
     ghost view = { λ e. e.inner };
+}
+
+impl RingEndpoint {
+    /// Closes the endpoint (fi_close of fi_endpoint(3)). Its port, its address vector and its regions come back, and
+    /// all else is given up: buffers of unfinished operations and unread completions are dropped. It takes no memory.
+    pub fn close(self) -> Closed<RingPort>
+        ensures port { result.port ≡ port_of self }
+        ensures av { result.av.indices ≡ self.held.state.av }
+        ensures peers { result.av.peers ≡ peers_of (port_of self) }
+        ensures regions { result.regions ≡ self.held.state.regions }
+    {
+        close(self.inner)
+    }
 }
 
 #[tactic(auto, unfolding(crate::specs::Seen::ring_seen))]

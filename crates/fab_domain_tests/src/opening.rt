@@ -1,8 +1,10 @@
 //! Endpoints over lanes are named here alone: what is tested is generic.
+use crate::calls::registers;
 use crate::rows::{Row, Sizes};
 use fab_base::{Caps, Hints, Info};
 use fab_domain::{RingEndpoint, endpoints};
 use fab_info::getinfo;
+use fab_mr::Regions;
 use std::alloc::Global;
 use std::test::Fail;
 
@@ -55,6 +57,38 @@ fn holds(alloc: Global, row: Row) -> bool {
         Some(mut pair) => row.holds(alloc, &mut pair.zero, &mut pair.one),
         None => false,
     }
+}
+
+/// Whether the region has these bytes.
+fn has(regions: &Regions, bytes: &[u8]) -> bool {
+    regions.bytes(9) == Some(bytes)
+}
+
+/// Whether an endpoint that is closed gives back the region that was registered, and the addresses of both peers.
+fn gives_back(alloc: Global, mut pair: Pair) -> bool {
+    if !registers(alloc, &mut pair.one, 9, b"01234567") {
+        return false;
+    }
+    let closed = pair.one.close();
+    let known = (closed.av.index_of(0), closed.av.index_of(1)) == (Some(0), Some(1));
+    known && has(&closed.regions, b"01234567")
+}
+
+/// The same of one of two new endpoints.
+fn new_gives_back(alloc: Global) -> bool {
+    let Some(info) = granted(Row::Served.sizes()) else {
+        return false;
+    };
+    match last_two(opened(alloc, &info)) {
+        Some(pair) => gives_back(alloc, pair),
+        None => false,
+    }
+}
+
+#[test]
+fn a_closed_endpoint_gives_back(rt: HostRuntime) -> Result<(), Fail> {
+    assert!(rt; new_gives_back(rt.alloc()));
+    Ok(())
 }
 
 #[test]

@@ -5,7 +5,7 @@ use Rattle.std.proofs.lemmas.List.{get_or-replicate, length-replicate}
 use Rattle.fab_base.specs.Offer.{limits_of}
 use Rattle.fab_base.specs.declared.caps.Info.{Info}
 use Rattle.fab_base.specs.declared.items.Item.{Item}
-use Rattle.fab_base.specs.declared.limits.Size.TheVariants.{Peers, Lane, Pool, Tx, Rx, Cq, Log}
+use Rattle.fab_base.specs.declared.limits.Size.TheVariants.{Peers, Lane, Pool, Tx, Rx, Cq, Log, Inject, Message}
 use Rattle.fab_av.specs.Addresses.{Addresses}
 use Rattle.fab_link.specs.declared.port.Port.{Ghosts}
 use Rattle.fab_face.specs.Ports.{IsFresh, is_granted, opened, seen, within}
@@ -14,10 +14,13 @@ use Rattle.fab_ep.specs.Tries.{IsTied}
 -- what is granted has a log of four events at least
 pub log_granted : (i : Info) (peers : ℕ) → is_granted i peers ≡ true → 4 ≤ i.log
 log_granted i peers granted =
-    let all = and_parts (
+    let up_to_cq =
     (i.peers == peers) && within (limits_of Peers) i.peers && within (limits_of Lane) i.lane && within (limits_of Pool) i.pool && within (limits_of Tx) i.tx
-    && within (limits_of Rx) i.rx && within (limits_of Cq) i.cq) (within (limits_of Log) i.log) granted in
-    leb-true 4 i.log (and_parts _ _ all.1).0
+    && within (limits_of Rx) i.rx && within (limits_of Cq) i.cq in
+    let up_to_log = up_to_cq && within (limits_of Log) i.log in
+    let up_to_inject = and_parts (up_to_log && within (limits_of Inject) i.inject) (within (limits_of Message) i.message) granted in
+    let log = and_parts up_to_cq (within (limits_of Log) i.log) (and_parts up_to_log (within (limits_of Inject) i.inject) up_to_inject.0).0 in
+    leb-true 4 i.log (and_parts _ _ log.1).0
 
 pub opened_tied : {P : Type 0} (M : Ghosts P) (port : P) (av : Addresses) (info : Info) (selective : Bool) → av.peers ≡ M.peer_count port → IsFresh M port → 4 ≤ info.log
     → IsTied (seen M (opened port av info selective))

@@ -2,7 +2,7 @@
 //!
 //! A caller that is given a type with parameters compares each clause of its calls over all of them; of this one it
 //! compares names alone.
-ghost use Rattle.std.specs.Prelude.{◌≡◌, ◌≤◌, IfOk, IfErr};
+ghost use Rattle.std.specs.Prelude.{◌≡◌, ◌≤◌, length, IfOk, IfErr};
 ghost use Rattle.fab_open.specs.Machine.{machine_held};
 ghost use Rattle.fab_open.specs.Opening.{unused};
 
@@ -18,6 +18,7 @@ use fab_face::machine::{Ask, Machine, Message, Next};
 use fab_face::multis::{MultiAsk, MultiReceiving};
 use fab_face::requesting::{Request, Requesting};
 use fab_face::targets::Targets;
+use fab_mr::Regions;
 use std::alloc::Global;
 
 /// The machine of an endpoint, with matching in hashed bins.
@@ -39,11 +40,13 @@ impl BinMachine {
         Ok(BinMachine { core })
     }
 
-    /// Gives up everything but the address vector.
-    pub fn into_av(self) -> Av
-        ensures { result ≡ self.core.av }
+    /// Gives up everything but the address vector and the regions. Buffers of unfinished operations are dropped.
+    pub fn into_parts(self) -> (Av, Regions)
+        ensures av { result.0 ≡ self.core.av }
+        ensures peers { result.0.peers ≡ length self.core.tx.tx.sent }
+        ensures regions { result.1 ≡ self.core.target.regions }
     {
-        self.core.into_av()
+        self.core.into_parts()
     }
 }
 

@@ -41,6 +41,8 @@ pub fn is_granted(info: &Info, peers: u32) -> bool
         && is_within(Size::Rx, info.rx)
         && is_within(Size::Cq, info.cq)
         && is_within(Size::Log, info.log)
+        && is_within(Size::Inject, info.inject)
+        && is_within(Size::Message, info.message)
 }
 
 /// Opens an endpoint (fi_endpoint(3), with fi_ep_bind and fi_enable done) over a port that no frame has gone
@@ -80,10 +82,9 @@ pub fn open<P: Port>(
     };
     match Endpoint::over(alloc, port, machine, info.log) {
         Ok(endpoint) => Ok(endpoint),
-        Err((port, machine)) => Err(OpenRefused {
-            why,
-            port,
-            av: machine.into_av(),
-        }),
+        Err((port, machine)) => {
+            let (av, _regions) = machine.into_parts();
+            Err(OpenRefused { why, port, av })
+        }
     }
 }

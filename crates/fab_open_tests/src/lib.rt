@@ -9,6 +9,10 @@ mod carried;
 #[cfg(test)]
 mod claims;
 #[cfg(test)]
+mod closing;
+#[cfg(test)]
 mod multis;
 #[cfg(test)]
 mod opening;
+#[cfg(test)]
+mod refusals;

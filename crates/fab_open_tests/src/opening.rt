@@ -10,7 +10,7 @@ use fab_open::{Endpoint, open};
 use std::alloc::Global;
 
 /// All that is on offer, for two peers.
-fn offered() -> Option<Info> {
+pub fn offered() -> Option<Info> {
     let hints = Hints {
         caps: Caps::none(),
         peers: Some(2),
@@ -27,7 +27,7 @@ fn offered() -> Option<Info> {
 }
 
 /// The port of this peer.
-fn new_port(alloc: Global, number: u32) -> Option<PlainPort>
+pub fn new_port(alloc: Global, number: u32) -> Option<PlainPort>
     ensures { IfSome result (λ p. IsReady p) }
 {
     match PlainPort::new(alloc, number, 2) {

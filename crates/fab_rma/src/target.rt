@@ -198,6 +198,13 @@ impl Target {
         self.regions.put(key, at, src)
     }
 
+    /// Gives up everything but the regions.
+    pub fn into_regions(self) -> Regions
+        ensures { result ≡ self.regions }
+    {
+        self.regions
+    }
+
     // ---- the requests of other peers
 
     /// What becomes of the request (fi_rma(3)): `BadKey` where no region has its key, else `BadAccess`
