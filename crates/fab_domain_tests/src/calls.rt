@@ -2,7 +2,7 @@
 //!
 //! Each call stands in a function of its own without a contract, over any endpoint that has it, so that a test carries no
 //! clauses of the calls before.
-use fab_base::{Access, Buf, Entry, Fault, Flags, Level};
+use fab_base::{Access, Buf, Entry, ErrEntry, ErrKind, Fault, Flags, Level, Refused};
 use fab_face::calls::{Looks, Messages, Progress, Receives, Regions, Requests};
 use fab_face::events::{Moved, Stop};
 use std::alloc::Global;
@@ -30,6 +30,41 @@ pub fn send<E: Messages>(
     endpoint
         .send(0, message, None, ctx, COMPLETES)
         .map_err(|refused| (refused.why, refused.buf.as_slice().len()))
+}
+
+/// A message of so many bytes, none of which is a zero.
+fn message(alloc: Global, len: u64) -> Option<Buf> {
+    match vec![in alloc; b'x'; len as usize] {
+        Ok(bytes) => Some(Buf::from_vec(bytes)),
+        Err(_) => None,
+    }
+}
+
+/// The reason of a refusal that hands these bytes back.
+fn why_with(refused: Refused, bytes: &[u8]) -> Option<Fault> {
+    if refused.buf.as_slice() == bytes {
+        Some(refused.why)
+    } else {
+        None
+    }
+}
+
+/// Why a message of so many bytes is refused. The buffer comes back with them.
+pub fn refuses<E: Messages>(alloc: Global, endpoint: &mut E, len: u64, ctx: u64) -> Option<Fault> {
+    let same = message(alloc, len)?;
+    let given = message(alloc, len)?;
+    match endpoint.send(0, given, None, ctx, COMPLETES) {
+        Ok(()) => None,
+        Err(refused) => why_with(refused, same.as_slice()),
+    }
+}
+
+/// Sends a copy of so many bytes to peer 0.
+pub fn injects<E: Messages>(alloc: Global, endpoint: &mut E, len: u64) -> Result<(), Fault> {
+    let Ok(message) = Buf::zeros(alloc, len) else {
+        return Err(Fault::NoMemory);
+    };
+    endpoint.inject(0, message.as_slice(), None)
 }
 
 /// A receive that completed.
@@ -130,9 +165,17 @@ pub fn pops_not<E: Progress>(endpoint: &mut E) -> Option<Fault> {
     endpoint.cq_pop().err()
 }
 
-/// The context of the next completion, if it is an error.
-pub fn failed<E: Progress>(endpoint: &mut E) -> Option<u64> {
-    endpoint.cq_readerr().ok()?.ctx
+/// The context of a look that found no message.
+fn missed_by(error: ErrEntry) -> Option<u64> {
+    match error.kind {
+        ErrKind::NoMsg => error.ctx,
+        _ => None,
+    }
+}
+
+/// The context of the next completion, if it is that of a look that found no message.
+pub fn missed<E: Progress>(endpoint: &mut E) -> Option<u64> {
+    missed_by(endpoint.cq_readerr().ok()?)
 }
 
 /// Whether a region of these bytes is registered, which others may read and write.

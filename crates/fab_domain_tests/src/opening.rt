@@ -120,3 +120,9 @@ fn a_region_is_written_and_read(rt: HostRuntime) -> Result<(), Fail> {
     assert!(rt; holds(rt.alloc(), Row::Served));
     Ok(())
 }
+
+#[test]
+fn a_message_too_long(rt: HostRuntime) -> Result<(), Fail> {
+    assert!(rt; holds(rt.alloc(), Row::Longest));
+    Ok(())
+}

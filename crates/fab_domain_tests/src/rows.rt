@@ -1,7 +1,7 @@
 //! Calls one at a time, between endpoints whose lanes, operations and completion queues are short.
 use crate::calls::{
-    Calls, Came, brings, cancels, closes_not, failed, has, looks, moves, next_came, pops_not,
-    reads, receives, registers, send, sent, writes,
+    Calls, Came, brings, cancels, closes_not, has, injects, looks, missed, moves, next_came,
+    pops_not, reads, receives, refuses, registers, send, sent, writes,
 };
 use fab_base::{Busy, Fault};
 use fab_face::events::Stop;
@@ -23,6 +23,7 @@ pub enum Row {
     QueueFull,
     Directed,
     Served,
+    Longest,
 }
 
 impl Row {
@@ -33,6 +34,7 @@ impl Row {
             Row::AllFull => (1, 1, 8),
             Row::QueueFull => (1, 1, 2),
             Row::Directed | Row::Served => (4, 4, 8),
+            Row::Longest => (64, 64, 1024),
         };
         Sizes { lane, tx, cq }
     }
@@ -45,6 +47,7 @@ impl Row {
             Row::QueueFull => waits_for_room(zero),
             Row::Directed => takes_from(alloc, zero, one),
             Row::Served => serves(alloc, zero, one),
+            Row::Longest => refuses_longer(alloc, one),
         }
     }
 }
@@ -91,9 +94,10 @@ fn waits_for_room<E: Calls>(zero: &mut E) -> bool {
     let two = looks(zero, 5, 2) == Ok(());
     let third = looks(zero, 5, 3) == Err(Fault::Again(Busy::CqFull(2)));
     let pops = pops_not(zero) == Some(Fault::Avail);
-    let reads = failed(zero) == Some(1);
+    let first = missed(zero) == Some(1);
     let again = looks(zero, 5, 3) == Ok(());
-    one && two && third && pops && reads && again
+    let rest = missed(zero) == Some(2) && missed(zero) == Some(3);
+    one && two && third && pops && first && again && rest
 }
 
 /// A receive from one peer leaves the message of another where it is.
@@ -131,4 +135,13 @@ fn serves<E: Calls>(alloc: Global, zero: &mut E, one: &mut E) -> bool {
     let closed = closes_not(one, 9).is_none();
     let gone = closes_not(one, 9) == Some(Fault::NoKey);
     registered && asked && served && written && accepted && answered && brought && closed && gone
+}
+
+/// The longest message and the longest that is copied are sent, and none that is longer.
+fn refuses_longer<E: Calls>(alloc: Global, one: &mut E) -> bool {
+    let longest = send(alloc, one, 16_777_216, 1) == Ok(());
+    let longer = refuses(alloc, one, 16_777_217, 2) == Some(Fault::MsgSize);
+    let copied = injects(alloc, one, 4096) == Ok(());
+    let too_long = injects(alloc, one, 4097) == Err(Fault::MsgSize);
+    longest && longer && copied && too_long
 }

@@ -75,7 +75,7 @@ const BOTH: &str = "fabric 1\n\
     peers 2\n\
     peer 0\n\
     trecv 1 1 5 0 4\n\
-    trecv 2 * 0 18446744073709551615 4\n\
+    trecv 2 1 0 0xffffffffffffffff 4\n\
     wait 1\n\
     wait 2\n\
     peer 1\n\
