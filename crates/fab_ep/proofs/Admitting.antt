@@ -1,5 +1,5 @@
 -- A transmit call before its message is accepted.
-use Rattle.std.proofs.Common.{◌≡◌, ◌≢◌, ◌≤◌, ◌+◌, ℕ, Bool, true, false, ◌||◌, List, [], ◌∷◌, Option, Some, None, Result, Ok, Err, refl, sym, ap, ◌∙◌, subst, arith}
+use Rattle.std.proofs.Common.{◌≡◌, ◌≢◌, ◌≤◌, ◌+◌, ℕ, Bool, true, false, ◌||◌, List, [], ◌∷◌, Option, Some, None, Result, Ok, Err, refl, sym, ap, ◌∙◌, subst, arith, inl, inr}
 use Rattle.std.specs.Prelude.{nat_le, OnErr}
 use Rattle.std.proofs.lemmas.Bool.Decides.{nat_tests}
 use Rattle.fab_base.specs.declared.faults.Fault.{Fault}
@@ -148,6 +148,7 @@ module _ {Home : Type 0} where
         judged = judged_early (Transmit o) a (unpushed a) (IsShort a) why early is;
         early = λ e. refl;
         short = λ s. refl;
+        still = λ e. refl;
         memory = λ lacks. absurd (early_not why early lacks);
         only_if_full = λ some. absurd (some refl);
         tried = λ n full. absurd (early_full why n early full);
@@ -162,6 +163,7 @@ module _ {Home : Type 0} where
     judged = (refl, short, granted);
     early = λ e. refl;
     short = λ s. refl;
+    still = λ e. refl;
     memory = λ lacks. absurd (cc);
     only_if_full = λ some. absurd (some refl);
     tried = λ n full. absurd (cc);
@@ -191,6 +193,7 @@ module _ {Home : Type 0} where
     judged = ((λ short. absurd (omega (arith, short, places))), still_final o push.acts a.held b.held push.push (let went = push.went in went.goes) ∙ granted);
     early = λ e. absurd (cc);
     short = λ s. absurd (omega (arith, s, places));
+    still = λ e. elim e [ inl early ↦ absurd (cc) | inr s ↦ absurd (omega (arith, s, places)) ];
     memory = λ lacks. (not_true fixed free, is_full_by _ _ full);
     only_if_full = λ some. is_full_by _ _ full;
     tried = λ n is. absurd (cc);
@@ -216,6 +219,7 @@ module _ {Home : Type 0} where
         judged = (full_is b.held.state o granted_then then_full ∙ ap (λ n. (Refused (Again (TxFull n)), b.held.state)) (same.most ∙ sym is_most), (λ short. absurd (omega (arith, short, places))));
         early = λ e. absurd (cc);
         short = λ s. absurd (omega (arith, s, places));
+        still = λ e. elim e [ inl early ↦ absurd (cc) | inr s ↦ absurd (omega (arith, s, places)) ];
         memory = λ lacks. absurd (cc);
         only_if_full = λ some. is_full_by _ _ full;
         tried = λ n is d below f next. push.tried refl d below f next;

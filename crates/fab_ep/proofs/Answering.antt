@@ -137,6 +137,7 @@ module _ {Home : Type 0} where
         draws = refl;
         went = went_none (Some call) a a refl refl refl (ported_same a.lanes a.lanes refl);
         pushed = refl;
+        lanes = refl;
         judged = judged_as call a a (Crowded a a) why answered (λ crowded passing. absurd (early_last why early passing)) is;
         early = λ e. refl;
         short = λ s. refl;
@@ -159,6 +160,7 @@ module _ {Home : Type 0} where
         draws = d.draws;
         went = went_draws (Some call) a b d;
         pushed = d.pushed;
+        lanes = d.lanes;
         judged = judged_as call a b (Crowded a b) why answered (λ crowded passing. elim room [ inl last ↦ absurd (cc) | inr free ↦ free crowded ]) is;
         early = λ e. absurd (cc);
         short = none_short a b d;
@@ -180,6 +182,7 @@ module _ {Home : Type 0} where
         draws = d.draws;
         went = went_draws (Some call) a b d;
         pushed = d.pushed;
+        lanes = d.lanes;
         judged = (refl, crowded, granted);
         early = λ e. absurd (cc);
         short = none_short a b d;
@@ -242,6 +245,7 @@ module _ {Home : Type 0} where
         then_draws = e.draws;
         went = went_then (Some call) a b c d.acts (Did ∷ e.acts) (went_draws (Some call) a b d) (went_then (Some call) b mid c (Did ∷ []) e.acts (went_received call b h does) (went_draws (Some call) mid c e));
         pushed = e.pushed ∙ d.pushed;
+        lanes = e.lanes ∙ d.lanes;
         places = places;
         drawn = then.1;
       }

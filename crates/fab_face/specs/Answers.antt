@@ -183,6 +183,8 @@ pub record SendsNot {Home : Type 0} (fixed : Bool) (call : Call) (old new : Seen
   pub judged : Judged call old new (IsShort old) fault
   pub early : is_early fault ≡ true → acts ≡ []
   pub short : IsShort old → acts ≡ []
+  -- before these refusals the port is not asked
+  pub still : (is_early fault ≡ true) ⊎ IsShort old → new.lanes ≡ old.lanes
   pub memory : fault ≡ LacksMemory → (fixed ≡ false) × IsFull old
   pub only_if_full : acts ≢ [] → IsFull old
   -- where entries are the trouble, each next frame was refused in this call or is held back
@@ -200,6 +202,7 @@ pub record Receives {Home : Type 0} (call : Call) (old new : Seen Home) : Type 0
   pub then_draws : AllAre is_draw after
   pub went : Went (Some call) old new (before ++ Did ∷ after)
   pub pushed : new.pushed ≡ old.pushed
+  pub lanes : new.lanes ≡ old.lanes
   pub places : HasPlaces old
   pub drawn : Drawn new
 
@@ -209,6 +212,7 @@ pub record ReceivesNot {Home : Type 0} (call : Call) (old new : Seen Home) (faul
   pub draws : AllAre is_draw acts
   pub went : Went (Some call) old new acts
   pub pushed : new.pushed ≡ old.pushed
+  pub lanes : new.lanes ≡ old.lanes
   pub judged : Judged call old new (IsShort old ⊎ ((draw_due new.held.state.rx ≡ true) × (new.log_size ≡ length new.log + 1))) fault
   pub early : is_early fault ≡ true → acts ≡ []
   pub short : IsShort old → acts ≡ []
