@@ -9,6 +9,12 @@ mod carried;
 #[cfg(test)]
 mod claims;
 #[cfg(test)]
+mod directed;
+#[cfg(test)]
+mod filling;
+#[cfg(test)]
+mod frames;
+#[cfg(test)]
 mod multis;
 #[cfg(test)]
 mod opening;
