@@ -1,8 +1,8 @@
 -- Plain ports as they are made.
-use Rattle.std.proofs.Common.{◌≡◌, ◌<◌, Bool, true, true≢false, Result, Ok, Err, ℕ, zero, suc, [], ◌∷◌, ◌++◌, length, None, Some, refl, sym, ap, subst, ◌∙◌}
-use Rattle.std.specs.Prelude.{OnOk, replicate}
+use Rattle.std.proofs.Common.{◌≡◌, ◌<◌, Bool, true, true≢false, Result, Ok, Err, ℕ, zero, suc, List, [], ◌∷◌, ◌++◌, length, None, Some, refl, sym, ap, subst, ◌∙◌}
+use Rattle.std.specs.Prelude.{◌≢◌, OnOk, replicate, slice_index_or}
 use Rattle.std.specs.Result.{is_ok}
-use Rattle.std.proofs.lemmas.List.{get_or-set_same}
+use Rattle.std.proofs.lemmas.List.{get_or-set_other, get_or-set_same, length-replicate}
 use Rattle.fab_base.specs.declared.frames.Frame.{Frame}
 use Rattle.fab_wire.specs.Cut.{IsBetweenItems}
 use Rattle.fab_wire.specs.Frames.{last_head}
@@ -13,18 +13,18 @@ use Rattle.fab_link.specs.declared.port.Port.{Ghosts}
 use Rattle.fab_face.specs.Ports.{IsFresh, Whole}
 use Rattle.fab_open_tests.specs.Came.{IsNewOver, IsReady}
 
-abbrev two_lanes : ℕ → Plain
-two_lanes number = record { number = number; lanes = replicate 2 (fresh_lane None None) }
+abbrev lanes_made : ℕ → List Lane
+lanes_made n = replicate n (fresh_lane None None)
 
-lane_made : (number d : ℕ) → lane_at (two_lanes number) d ≡ fresh_lane None None
-lane_made number zero = refl
-lane_made number (suc zero) = refl
-lane_made number (suc (suc d)) = refl
+lane_made : (n d : ℕ) → slice_index_or (lanes_made n) d (fresh_lane None None) ≡ fresh_lane None None
+lane_made zero d = refl
+lane_made (suc n) zero = refl
+lane_made (suc n) (suc d) = lane_made n d
 
-pub ready_made : (number : ℕ) (p : Plain) → p ≡ record { number = number; lanes = replicate 2 (fresh_lane None None) } → ((d : ℕ) → AreFresh (out_of p d) (in_of p d)) → IsReady p
-ready_made number p is fresh = record {
-  peers = ap (λ (q : Plain). length q.lanes) is;
-  lanes = λ d. ap (λ (q : Plain). lane_at q d) is ∙ lane_made number d;
+pub ready_made : (n number : ℕ) (p : Plain) → p ≡ record { number = number; lanes = replicate n (fresh_lane None None) } → ((d : ℕ) → AreFresh (out_of p d) (in_of p d)) → IsReady n p
+ready_made n number p is fresh = record {
+  peers = ap (λ (q : Plain). length q.lanes) is ∙ length-replicate n (fresh_lane None None);
+  lanes = λ d. ap (λ (q : Plain). lane_at q d) is ∙ lane_made n d;
   fresh = fresh;
 }
 
@@ -37,14 +37,14 @@ fresh_made M port fresh outs ins = record {
   in_after = λ s below. subst IsBetweenItems (sym (ins s)) tt;
 }
 
-pub after_out : (p : Plain) → IsReady p → (d : ℕ) → (out_of p d).after ≡ None
-after_out p ready d = ap (λ (lane : Lane). lane.out.after) (ready.lanes d)
+pub after_out : (n : ℕ) (p : Plain) → IsReady n p → (d : ℕ) → (out_of p d).after ≡ None
+after_out n p ready d = ap (λ (lane : Lane). lane.out.after) (ready.lanes d)
 
-pub after_in : (p : Plain) → IsReady p → (d : ℕ) → (in_of p d).after ≡ None
-after_in p ready d = ap (λ (lane : Lane). lane.in_after) (ready.lanes d)
+pub after_in : (n : ℕ) (p : Plain) → IsReady n p → (d : ℕ) → (in_of p d).after ≡ None
+after_in n p ready d = ap (λ (lane : Lane). lane.in_after) (ready.lanes d)
 
-pub opened_new : (e : Whole Plain) (p : Plain) → e.port ≡ p → IsReady p → IsNewOver e
-opened_new e p is ready = subst (λ (q : Plain). (length q.lanes ≡ 2) × ((s : ℕ) → last_head (lane_at q s).in_after (lane_at q s).in_list ≡ None)) (sym is)
+pub opened_new : (n : ℕ) (e : Whole Plain) (p : Plain) → e.port ≡ p → IsReady n p → IsNewOver n e
+opened_new n e p is ready = subst (λ (q : Plain). (length q.lanes ≡ n) × ((s : ℕ) → last_head (lane_at q s).in_after (lane_at q s).in_list ≡ None)) (sym is)
     (ready.peers, λ s. ap (λ (lane : Lane). last_head lane.in_after lane.in_list) (ready.lanes s))
 
 -- ---- a frame is brought
@@ -62,3 +62,16 @@ pub brought_if : {A E : Type 0} (r : Result A E) (answer : Bool) (p q : Plain) (
     → last_head (lane_at q source).in_after (lane_at q source).in_list ≡ Some f.head
 brought_if (Ok a) answer p q source f value below ok holds = brought p q source f below ok
 brought_if (Err e) answer p q source f value below ok holds = absurd (true≢false (sym holds ∙ value))
+
+-- ---- the other peers keep theirs
+
+others : (p q : Plain) (source : ℕ) (f : Frame) (s : ℕ) → q ≡ with_frame p source f → s ≢ source
+    → last_head (lane_at q s).in_after (lane_at q s).in_list ≡ last_head (lane_at p s).in_after (lane_at p s).in_list
+others p q source f s is apart =
+    ap (λ (x : Plain). last_head (lane_at x s).in_after (lane_at x s).in_list) is
+    ∙ ap (λ (lane : Lane). last_head lane.in_after lane.in_list) (get_or-set_other p.lanes source s (record (lane_at p source) { in_list = (lane_at p source).in_list ++ f ∷ [] }) (fresh_lane None None) apart)
+
+pub others_if : {A E : Type 0} (r : Result A E) (answer : Bool) (p q : Plain) (source : ℕ) (f : Frame) (s : ℕ) → answer ≡ is_ok r → OnOk r (q ≡ with_frame p source f) → answer ≡ true → s ≢ source
+    → last_head (lane_at q s).in_after (lane_at q s).in_list ≡ last_head (lane_at p s).in_after (lane_at p s).in_list
+others_if (Ok a) answer p q source f s value ok holds apart = others p q source f s ok apart
+others_if (Err e) answer p q source f s value ok holds apart = absurd (true≢false (sym holds ∙ value))

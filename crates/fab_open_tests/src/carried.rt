@@ -1,5 +1,5 @@
 //! Endpoints whose frames are carried by hand.
-ghost use Rattle.std.specs.Prelude.{◌≡◌, ◌<◌, true, Some};
+ghost use Rattle.std.specs.Prelude.{◌≡◌, ◌≢◌, ◌<◌, ℕ, true, Some};
 ghost use Rattle.fab_wire.specs.Frames.{MayCome};
 ghost use Rattle.fab_open_tests.specs.Came.{came, Keeps};
 
@@ -21,6 +21,7 @@ pub trait Carried: Sees {
         requires below { source < (Self.seen self.old).lanes.peers }
         requires continues { MayCome (came (Self.seen self.old) source) frame }
         ensures came { result ≡ true → came (Self.seen self.new) source ≡ Some frame.head }
+        ensures others { (s : ℕ) → result ≡ true → s ≢ source → came (Self.seen self.new) s ≡ came (Self.seen self.old) s }
         ensures peers { (Self.seen self.new).lanes.peers ≡ (Self.seen self.old).lanes.peers };
 }
 

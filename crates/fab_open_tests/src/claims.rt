@@ -1,54 +1,17 @@
 //! A message is claimed and taken while its second frame is still to come.
-ghost use Rattle.std.specs.Prelude.{◌≡◌, ◌<◌, length, true, None, Some, IfSome};
+ghost use Rattle.std.specs.Prelude.{◌<◌, None, Some, IfSome};
 ghost use Rattle.fab_wire.specs.Frames.{MayCome};
-ghost use Rattle.fab_open_tests.specs.Came.{IsNew, IsNewOver, Keeps, message_head, piece_head};
+ghost use Rattle.fab_open_tests.specs.Came.{IsNew, IsNewOver, Keeps};
 
 use crate::carried::Carried;
+use crate::frames::{COMPLETES, LEN, message, reads_nothing, takes_frame, two_frames};
 use crate::opening::opened;
-use fab_base::{
-    Ack, Buf, Entry, Fault, Flags, Frame, FrameHead, ItemHead, Kind, Level, Outcome, PeekHow,
-};
+use fab_base::{Buf, Entry, Frame, Kind, PeekHow};
 use fab_face::calls::{Looks, Messages, Progress};
 use fab_link::PlainPort;
 use fab_open::Endpoint;
 use std::alloc::Global;
 use std::test::Fail;
-
-/// How many bytes the message has.
-const LEN: u32 = 5000;
-
-const COMPLETES: Flags = Flags {
-    completion: true,
-    level: Level::Transmit,
-};
-
-/// The head of the message.
-fn message() -> ItemHead
-    ensures { result ≡ message_head }
-{
-    ItemHead {
-        kind: Kind::TagMsg,
-        op: 0,
-        tag: 4,
-        imm: None,
-        ack: Ack::Nothing,
-        key: 0,
-        at: 0,
-        count: 0,
-        atom: None,
-        outcome: Outcome::Done,
-        total: LEN,
-    }
-}
-
-/// Whether the frame has these bytes of the message.
-fn is_piece(frame: &Frame, from: u32, len: u32) -> bool
-    ensures head { result ≡ true → frame.now.head ≡ piece_head from len }
-    ensures bytes { result ≡ true → length frame.now.bytes ≡ len }
-{
-    let item = message();
-    frame.head == FrameHead { item, from, len } && frame.bytes.as_slice().len() == len as usize
-}
 
 /// Whether the message is sent to peer 0.
 #[tactic(auto, using(crate::proofs::Keeping::keeps_sent, crate::proofs::Keeping::keeps_unsent))]
@@ -73,24 +36,7 @@ fn frames<E: Messages + Carried>(alloc: Global, endpoint: &mut E) -> Option<(Fra
     if !sends(alloc, endpoint) {
         return None;
     }
-    let first = endpoint.hand_out(0)?;
-    let second = endpoint.hand_out(0)?;
-    if is_piece(&first, 0, 4096) && is_piece(&second, 4096, 904) {
-        Some((first, second))
-    } else {
-        None
-    }
-}
-
-/// Whether progress takes one frame, and posts none.
-#[tactic(auto, using(crate::proofs::Keeping::keeps_progressed))]
-fn takes_frame<E: Progress>(endpoint: &mut E) -> bool
-    ensures { Keeps (E.seen endpoint.old) (E.seen endpoint.new) }
-{
-    match endpoint.progress(8) {
-        Ok(moved) => moved.taken == 1 && moved.posted == 0,
-        Err(_) => false,
-    }
+    two_frames(endpoint, message(Kind::TagMsg, 4, LEN))
 }
 
 /// Whether the message is claimed.
@@ -143,17 +89,6 @@ fn takes<E: Looks>(alloc: Global, endpoint: &mut E) -> bool
     }
 }
 
-/// Whether nothing is complete.
-#[tactic(auto, using(crate::proofs::Keeping::keeps_reading))]
-fn reads_nothing<E: Progress>(endpoint: &mut E) -> bool
-    ensures { Keeps (E.seen endpoint.old) (E.seen endpoint.new) }
-{
-    match endpoint.cq_read(8) {
-        Err(Fault::NoEntry) => true,
-        _ => false,
-    }
-}
-
 /// Whether an entry tells of the whole message.
 fn is_message(entry: Entry) -> bool {
     match entry {
@@ -193,8 +128,8 @@ fn completes<E: Messages + Looks + Progress + Carried>(
     zero: &mut E,
     one: &mut E,
 ) -> bool
-    requires zero { IsNew (E.seen zero.old) }
-    requires one { IsNew (E.seen one.old) }
+    requires zero { IsNew 2 (E.seen zero.old) }
+    requires one { IsNew 2 (E.seen one.old) }
 {
     let Some((first, second)) = frames(alloc, one) else {
         return false;
@@ -207,7 +142,7 @@ fn completes<E: Messages + Looks + Progress + Carried>(
 
 /// The same between peer 0 and a new peer 1.
 fn completes_from_new(alloc: Global, zero: &mut Endpoint<PlainPort>) -> bool
-    requires { IsNewOver zero.old }
+    requires { IsNewOver 2 zero.old }
 {
     match opened(alloc, 1) {
         Some(mut one) => completes(alloc, zero, &mut one),

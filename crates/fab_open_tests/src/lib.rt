@@ -11,6 +11,12 @@ mod claims;
 #[cfg(test)]
 mod closing;
 #[cfg(test)]
+mod directed;
+#[cfg(test)]
+mod filling;
+#[cfg(test)]
+mod frames;
+#[cfg(test)]
 mod multis;
 #[cfg(test)]
 mod opening;

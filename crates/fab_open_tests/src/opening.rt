@@ -1,5 +1,5 @@
-//! An endpoint of two peers over a plain port.
-ghost use Rattle.std.specs.Prelude.{◌≡◌, IfSome};
+//! An endpoint over a plain port.
+ghost use Rattle.std.specs.Prelude.{IfSome};
 ghost use Rattle.fab_open_tests.specs.Came.{IsNewOver, IsReady};
 
 use fab_av::Av;
@@ -9,11 +9,11 @@ use fab_link::PlainPort;
 use fab_open::{Endpoint, open};
 use std::alloc::Global;
 
-/// All that is on offer, for two peers.
-pub fn offered() -> Option<Info> {
+/// All that is on offer, for so many peers.
+pub fn offered(peers: u32) -> Option<Info> {
     let hints = Hints {
         caps: Caps::none(),
-        peers: Some(2),
+        peers: Some(peers),
         lane: None,
         pool: None,
         tx: None,
@@ -26,11 +26,12 @@ pub fn offered() -> Option<Info> {
     getinfo(Some(&hints)).ok()
 }
 
-/// The port of this peer.
-pub fn new_port(alloc: Global, number: u32) -> Option<PlainPort>
-    ensures { IfSome result (λ p. IsReady p) }
+/// The port of this peer, one of so many.
+#[tactic(auto, using(crate::proofs::Ports::ready_made))]
+pub fn new_port(alloc: Global, number: u32, peers: u32) -> Option<PlainPort>
+    ensures { IfSome result (λ p. IsReady peers p) }
 {
-    match PlainPort::new(alloc, number, 2) {
+    match PlainPort::new(alloc, number, peers) {
         Ok(port) => Some(port),
         Err(_) => None,
     }
@@ -38,9 +39,8 @@ pub fn new_port(alloc: Global, number: u32) -> Option<PlainPort>
 
 /// The endpoint over this port.
 fn open_over(alloc: Global, port: PlainPort, info: &Info, av: Av) -> Option<Endpoint<PlainPort>>
-    requires ready { IsReady port }
-    requires peers { av.peers ≡ 2 }
-    ensures { IfSome result (λ e. IsNewOver e) }
+    requires { IsReady av.peers port }
+    ensures { IfSome result (λ e. IsNewOver av.peers e) }
 {
     match open(alloc, port, av, info, false) {
         Ok(endpoint) => Some(endpoint),
@@ -48,12 +48,19 @@ fn open_over(alloc: Global, port: PlainPort, info: &Info, av: Av) -> Option<Endp
     }
 }
 
-/// The endpoint of this peer, with all that is on offer.
-pub fn opened(alloc: Global, number: u32) -> Option<Endpoint<PlainPort>>
-    ensures { IfSome result (λ e. IsNewOver e) }
+/// The endpoint of this peer, one of so many, with all that is on offer.
+pub fn opened_among(alloc: Global, number: u32, peers: u32) -> Option<Endpoint<PlainPort>>
+    ensures { IfSome result (λ e. IsNewOver peers e) }
 {
-    let info = offered()?;
-    let port = new_port(alloc, number)?;
-    let av = Av::all(alloc, 2).ok()?;
+    let info = offered(peers)?;
+    let port = new_port(alloc, number, peers)?;
+    let av = Av::all(alloc, peers).ok()?;
     open_over(alloc, port, &info, av)
+}
+
+/// The endpoint of this peer, one of two, with all that is on offer.
+pub fn opened(alloc: Global, number: u32) -> Option<Endpoint<PlainPort>>
+    ensures { IfSome result (λ e. IsNewOver 2 e) }
+{
+    opened_among(alloc, number, 2)
 }

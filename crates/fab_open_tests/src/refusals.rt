@@ -38,7 +38,7 @@ fn with(mut info: Info, size: Size, number: u32) -> Info {
 
 /// What comes of opening an endpoint over this port.
 fn opened_over(alloc: Global, port: PlainPort, av: Av, info: &Info) -> Result<(), Back>
-    requires ready { IsReady port }
+    requires ready { IsReady 2 port }
     requires peers { av.peers ≡ 2 }
 {
     match open(alloc, port, av, info, false) {
@@ -54,8 +54,8 @@ fn opened_over(alloc: Global, port: PlainPort, av: Av, info: &Info) -> Result<()
 
 /// The same for peer 1 of two, with this number for one size; nothing where memory lacks before.
 fn opened_with(alloc: Global, size: Size, number: u32) -> Option<Result<(), Back>> {
-    let info = with(offered()?, size, number);
-    let port = new_port(alloc, 1)?;
+    let info = with(offered(2)?, size, number);
+    let port = new_port(alloc, 1, 2)?;
     let av = Av::all(alloc, 2).ok()?;
     Some(opened_over(alloc, port, av, &info))
 }

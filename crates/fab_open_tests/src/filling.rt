@@ -1,0 +1,148 @@
+//! A receive into which a message is under way is not cancelled.
+ghost use Rattle.std.specs.Prelude.{◌<◌, None, Some, IfSome};
+ghost use Rattle.fab_wire.specs.Frames.{MayCome};
+ghost use Rattle.fab_open_tests.specs.Came.{IsNew, IsNewOver, Keeps};
+
+use crate::carried::Carried;
+use crate::frames::{COMPLETES, LEN, message, reads_nothing, takes_frame, two_frames};
+use crate::opening::opened;
+use fab_base::{Buf, Entry, Fault, Frame, Kind};
+use fab_face::calls::{Messages, Progress, Receives};
+use fab_link::PlainPort;
+use fab_open::Endpoint;
+use std::alloc::Global;
+use std::test::Fail;
+
+/// How many bytes the receive takes.
+const SPACE: u32 = 8000;
+
+/// Whether the message is sent to peer 0.
+#[tactic(auto, using(crate::proofs::Keeping::keeps_sent, crate::proofs::Keeping::keeps_unsent))]
+fn sends<E: Messages>(alloc: Global, endpoint: &mut E) -> bool
+    ensures { Keeps (E.seen endpoint.old) (E.seen endpoint.new) }
+{
+    let Ok(buf) = Buf::zeros(alloc, LEN as u64) else {
+        return false;
+    };
+    match endpoint.send(0, buf, None, 2, COMPLETES) {
+        Ok(()) => true,
+        Err(_) => false,
+    }
+}
+
+/// The two frames of the message, which is sent.
+fn frames<E: Messages + Carried>(alloc: Global, endpoint: &mut E) -> Option<(Frame, Frame)>
+    requires { 0 < (E.seen endpoint.old).lanes.peers }
+    ensures first { IfSome result (λ two. MayCome None two.0) }
+    ensures second { IfSome result (λ two. MayCome (Some two.0.head) two.1) }
+{
+    if !sends(alloc, endpoint) {
+        return None;
+    }
+    two_frames(endpoint, message(Kind::Msg, 0, LEN))
+}
+
+/// Whether the receive is posted.
+#[tactic(auto, using(crate::proofs::Keeping::keeps_received, crate::proofs::Keeping::keeps_refused))]
+fn receives<E: Receives>(alloc: Global, endpoint: &mut E) -> bool
+    ensures { Keeps (E.seen endpoint.old) (E.seen endpoint.new) }
+{
+    let Ok(buf) = Buf::zeros(alloc, SPACE as u64) else {
+        return false;
+    };
+    match endpoint.recv(None, buf, 1) {
+        Ok(()) => true,
+        Err(_) => false,
+    }
+}
+
+/// Whether the receive is none that can be cancelled.
+#[tactic(auto, using(crate::proofs::Keeping::keeps_received, crate::proofs::Keeping::keeps_refused))]
+fn cancels_not<E: Receives>(endpoint: &mut E) -> bool
+    ensures { Keeps (E.seen endpoint.old) (E.seen endpoint.new) }
+{
+    match endpoint.cancel(1) {
+        Err(Fault::NoEntry) => true,
+        _ => false,
+    }
+}
+
+/// Whether an entry tells of the whole message.
+fn is_message(entry: Entry) -> bool {
+    match entry {
+        Entry::Received {
+            ctx,
+            source,
+            tag,
+            imm,
+            len,
+            buf,
+        } => {
+            ctx == 1
+                && source == 1
+                && tag.is_none()
+                && imm.is_none()
+                && len == LEN
+                && buf.as_slice().len() == SPACE as usize
+        }
+        _ => false,
+    }
+}
+
+/// Whether the whole message is the next completion.
+fn reads_message<E: Progress>(endpoint: &mut E) -> bool {
+    match endpoint.cq_read(8) {
+        Ok(entry) => is_message(entry),
+        Err(_) => false,
+    }
+}
+
+/// Whether the first frame is taken, and the receive neither completes nor is cancelled.
+fn is_under_way<E: Receives + Progress>(endpoint: &mut E) -> bool
+    ensures { Keeps (E.seen endpoint.old) (E.seen endpoint.new) }
+{
+    takes_frame(endpoint) && reads_nothing(endpoint) && cancels_not(endpoint)
+}
+
+/// Whether a receive of peer 0 waits for the second frame of a message of peer 1, and then completes.
+fn fills<E: Messages + Receives + Progress + Carried>(
+    alloc: Global,
+    zero: &mut E,
+    one: &mut E,
+) -> bool
+    requires zero { IsNew 2 (E.seen zero.old) }
+    requires one { IsNew 2 (E.seen one.old) }
+{
+    let Some((first, second)) = frames(alloc, one) else {
+        return false;
+    };
+    receives(alloc, zero)
+        && zero.hand_in(1, first)
+        && is_under_way(zero)
+        && zero.hand_in(1, second)
+        && reads_message(zero)
+}
+
+/// The same between peer 0 and a new peer 1.
+fn fills_from_new(alloc: Global, zero: &mut Endpoint<PlainPort>) -> bool
+    requires { IsNewOver 2 zero.old }
+{
+    match opened(alloc, 1) {
+        Some(mut one) => fills(alloc, zero, &mut one),
+        None => false,
+    }
+}
+
+/// The same between two new peers.
+fn fills_between_new(alloc: Global) -> bool {
+    match opened(alloc, 0) {
+        Some(mut zero) => fills_from_new(alloc, &mut zero),
+        None => false,
+    }
+}
+
+#[test]
+fn a_receive_that_is_filled_is_not_cancelled(rt: HostRuntime) -> Result<(), Fail> {
+    assert!(rt; fills_between_new(rt.alloc()));
+    Ok(())
+}
