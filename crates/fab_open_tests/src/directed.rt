@@ -1,17 +1,27 @@
 //! A receive from one of two peers that sent under one tag.
-ghost use Rattle.std.specs.Prelude.{◌≡◌, ◌≢◌, ◌<◌, ℕ, true, None, IfSome};
+ghost use Rattle.std.specs.Prelude.{◌≡◌, ◌≢◌, ◌<◌, ℕ, length, true, None, IfSome};
+ghost use Rattle.fab_base.specs.declared.items.Kind.TheVariants.{TagMsg};
 ghost use Rattle.fab_wire.specs.Frames.{MayCome};
-ghost use Rattle.fab_open_tests.specs.Came.{IsNew, IsNewOver, Keeps, came};
+ghost use Rattle.fab_open_tests.specs.Came.{IsNew, IsNewOver, Keeps, came, message_head, piece_head};
 
 use crate::carried::Carried;
-use crate::frames::{COMPLETES, is_piece, message};
+use crate::frames::{COMPLETES, message};
 use crate::opening::opened_among;
-use fab_base::{Buf, Entry, Frame, Kind, PeekHow};
+use fab_base::{Buf, Entry, Frame, FrameHead, Kind, PeekHow};
 use fab_face::calls::{Looks, Messages, Progress, Receives};
 use fab_link::PlainPort;
 use fab_open::Endpoint;
 use std::alloc::Global;
 use std::test::Fail;
+
+/// Whether the frame has these bytes of the message.
+fn is_piece(frame: &Frame, from: u32, len: u32) -> bool
+    ensures head { result ≡ true → frame.now.head ≡ piece_head (message_head TagMsg 4 1) from len }
+    ensures bytes { result ≡ true → length frame.now.bytes ≡ len }
+{
+    let item = message(Kind::TagMsg, 4, 1);
+    frame.head == FrameHead { item, from, len } && frame.bytes.as_slice().len() == len as usize
+}
 
 /// Whether these bytes are sent to peer 0.
 #[tactic(auto, using(crate::proofs::Keeping::keeps_sent, crate::proofs::Keeping::keeps_unsent))]
@@ -36,7 +46,7 @@ fn frame<E: Messages + Carried>(alloc: Global, endpoint: &mut E, bytes: &[u8]) -
         return None;
     }
     let only = endpoint.hand_out(0)?;
-    if is_piece(&only, message(Kind::TagMsg, 4, 1), 0, 1) {
+    if is_piece(&only, 0, 1) {
         Some(only)
     } else {
         None

@@ -1,12 +1,13 @@
 //! A receive into which a message is under way is not cancelled.
-ghost use Rattle.std.specs.Prelude.{◌<◌, None, Some, IfSome};
+ghost use Rattle.std.specs.Prelude.{◌≡◌, ◌<◌, length, true, None, Some, IfSome};
+ghost use Rattle.fab_base.specs.declared.items.Kind.TheVariants.{Msg};
 ghost use Rattle.fab_wire.specs.Frames.{MayCome};
-ghost use Rattle.fab_open_tests.specs.Came.{IsNew, IsNewOver, Keeps};
+ghost use Rattle.fab_open_tests.specs.Came.{IsNew, IsNewOver, Keeps, message_head, piece_head};
 
 use crate::carried::Carried;
-use crate::frames::{COMPLETES, LEN, message, reads_nothing, takes_frame, two_frames};
+use crate::frames::{COMPLETES, LEN, message, reads_nothing, takes_frame};
 use crate::opening::opened;
-use fab_base::{Buf, Entry, Fault, Frame, Kind};
+use fab_base::{Buf, Entry, Fault, Frame, FrameHead, Kind};
 use fab_face::calls::{Messages, Progress, Receives};
 use fab_link::PlainPort;
 use fab_open::Endpoint;
@@ -15,6 +16,15 @@ use std::test::Fail;
 
 /// How many bytes the receive takes.
 const SPACE: u32 = 8000;
+
+/// Whether the frame has these bytes of the message.
+fn is_piece(frame: &Frame, from: u32, len: u32) -> bool
+    ensures head { result ≡ true → frame.now.head ≡ piece_head (message_head Msg 0 5000) from len }
+    ensures bytes { result ≡ true → length frame.now.bytes ≡ len }
+{
+    let item = message(Kind::Msg, 0, LEN);
+    frame.head == FrameHead { item, from, len } && frame.bytes.as_slice().len() == len as usize
+}
 
 /// Whether the message is sent to peer 0.
 #[tactic(auto, using(crate::proofs::Keeping::keeps_sent, crate::proofs::Keeping::keeps_unsent))]
@@ -39,7 +49,13 @@ fn frames<E: Messages + Carried>(alloc: Global, endpoint: &mut E) -> Option<(Fra
     if !sends(alloc, endpoint) {
         return None;
     }
-    two_frames(endpoint, message(Kind::Msg, 0, LEN))
+    let first = endpoint.hand_out(0)?;
+    let second = endpoint.hand_out(0)?;
+    if is_piece(&first, 0, 4096) && is_piece(&second, 4096, 904) {
+        Some((first, second))
+    } else {
+        None
+    }
 }
 
 /// Whether the receive is posted.
