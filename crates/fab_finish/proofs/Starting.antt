@@ -84,11 +84,12 @@ start_tied conf k log_size most =
       taken = λ s below. rw (fresh_at n k s, same_at {X = Option Item} n s None) tt;
     }
 
-pub opens_at : (conf : Conf) (k : ℕ) (lines : List Line) (p : Member) → p.endpoint.port ≡ port_of conf.peers k → p.endpoint.held ≡ start conf → p.endpoint.log ≡ [] → member_actor p ≡ newly conf lines → member_steps p ≡ [] → OpensAt conf lines p
+pub opens_at : (conf : Conf) (k : ℕ) (lines : List Line) (p : Member) → p.endpoint.port ≡ port_of conf.peers k → p.endpoint.held ≡ start conf → p.endpoint.log ≡ [] → member_actor p ≡ newly conf lines → member_steps p ≡ [] → OpensAt conf k lines p
 opens_at conf k lines p port held log actor steps =
     let n = conf.peers in
     let fresh_lanes : (d : ℕ) → lane_at p.endpoint.port d ≡ fresh_lane None None = (λ d. ap (λ (q : Plain). lane_at q d) port ∙ fresh_at n k d) in
     record {
+      number = ap (λ (q : Plain). q.number) port;
       actor_is = actor;
       steps_are = steps;
       lanes = fresh_lanes;
@@ -120,22 +121,23 @@ pub record Opened (conf : Conf) (lists : List (List Line)) (n : ℕ) (ps : List 
   pub count : length ps ≡ n
   pub actors_are : actors ps ≡ map (first_actor conf lists) (upto n)
   pub schedules_are : schedules ps ≡ replicate n []
+  pub numbers : (k : ℕ) (p : Member) → slice_get ps k ≡ Some p → p.endpoint.port.number ≡ k
   pub own : (k : ℕ) (p : Member) → slice_get ps k ≡ Some p → IsOwn conf.peers (λ s. []) (λ d. []) p × ((d : ℕ) → lane_at p.endpoint.port d ≡ fresh_lane None None)
 
 pub opened_none : (conf : Conf) (lists : List (List Line)) → Opened conf lists 0 []
-opened_none conf lists = record { count = refl; actors_are = refl; schedules_are = refl; own = λ k p has. absurd (cc) }
+opened_none conf lists = record { count = refl; actors_are = refl; schedules_are = refl; numbers = λ k p has. absurd (cc); own = λ k p has. absurd (cc) }
 
-get_push : {X : Type 0} (xs : List X) (x y : X) (k : ℕ) → slice_get (xs ++ x ∷ []) k ≡ Some y → (slice_get xs k ≡ Some y) ⊎ (x ≡ y)
-get_push [] x y zero e = inr (cc)
+get_push : {X : Type 0} (xs : List X) (x y : X) (k : ℕ) → slice_get (xs ++ x ∷ []) k ≡ Some y → (slice_get xs k ≡ Some y) ⊎ ((x ≡ y) × (k ≡ length xs))
+get_push [] x y zero e = inr (cc, refl)
 get_push [] x y (suc k) e = absurd (cc)
 get_push (z ∷ xs) x y zero e = inl e
-get_push (z ∷ xs) x y (suc k) e = get_push xs x y k e
+get_push (z ∷ xs) x y (suc k) e = elim (get_push xs x y k e) [ inl before ↦ inl before | inr last ↦ inr (last.0, ap suc last.1) ]
 
 replicate-more : {X : Type 0} (n : ℕ) (x : X) → replicate n x ++ x ∷ [] ≡ replicate (suc n) x
 replicate-more zero x = refl
 replicate-more (suc n) x = ap (λ xs. x ∷ xs) (replicate-more n x)
 
-pub opened_more : (conf : Conf) (lists : List (List Line)) (n : ℕ) (ps : List Member) (p : Member) (lines : List Line) → Opened conf lists n ps → OpensAt conf lines p → lines ≡ slice_index_or lists n [] → Opened conf lists (n + 1) (ps ++ p ∷ [])
+pub opened_more : (conf : Conf) (lists : List (List Line)) (n : ℕ) (ps : List Member) (p : Member) (lines : List Line) → Opened conf lists n ps → OpensAt conf n lines p → lines ≡ slice_index_or lists n [] → Opened conf lists (n + 1) (ps ++ p ∷ [])
 opened_more conf lists n ps p lines opened at is =
     let one : n + 1 ≡ suc n = omega arith in
     let next : upto (n + 1) ≡ upto n ++ n ∷ [] = ap upto one in
@@ -149,7 +151,11 @@ opened_more conf lists n ps p lines opened at is =
           map-append member_steps ps (p ∷ []) ∙ ap (λ xs. xs ++ member_steps p ∷ []) opened.schedules_are ∙ ap (λ x. replicate n [] ++ x ∷ []) at.steps_are ∙ replicate-more n [] ∙ ap (λ m. replicate m []) (sym one);
       own = λ k q has. elim (get_push ps p q k has) [
         | inl before ↦ opened.own k q before
-        | inr same ↦ subst (λ (x : Member). IsOwn conf.peers (λ s. []) (λ d. []) x × ((d : ℕ) → lane_at x.endpoint.port d ≡ fresh_lane None None)) same (at.own, at.lanes)
+        | inr last ↦ subst (λ (x : Member). IsOwn conf.peers (λ s. []) (λ d. []) x × ((d : ℕ) → lane_at x.endpoint.port d ≡ fresh_lane None None)) last.0 (at.own, at.lanes)
+      ];
+      numbers = λ k q has. elim (get_push ps p q k has) [
+        | inl before ↦ opened.numbers k q before
+        | inr last ↦ ap (λ (x : Member). x.endpoint.port.number) (sym last.0) ∙ at.number ∙ sym (last.1 ∙ opened.count)
       ];
     }
 
@@ -187,6 +193,7 @@ module _ (conf : Conf) (lists : List (List Line)) (ps : List Member) (few : conf
       own = λ k p has. subst (λ n. IsOwn n (λ s. []) (λ d. []) p) (sym all.count) (all.own k p has).0;
       came = λ s r below. rw (fresh_lanes s r, fresh_lanes r s) refl;
     };
+    numbers = all.numbers;
     actors_are = all.actors_are;
     schedules_are = all.schedules_are ∙ ap (λ n. replicate n []) (sym all.count);
   }

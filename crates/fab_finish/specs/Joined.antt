@@ -108,8 +108,9 @@ Ends ps qs =
 abbrev pub start : Conf → Held
 start conf = record { state = fresh conf; places = replicate conf.peers 0; begun = replicate conf.peers None; multis = [] }
 
--- a peer of these lines at their start, over a fresh port, which posted and took nothing
-pub record OpensAt (conf : Conf) (lines : List Line) (p : Member) : Type 0 where
+-- a peer of these lines at their start, over a fresh port of this number, which posted and took nothing
+pub record OpensAt (conf : Conf) (k : ℕ) (lines : List Line) (p : Member) : Type 0 where
+  pub number : p.endpoint.port.number ≡ k
   pub actor_is : member_actor p ≡ newly conf lines
   pub steps_are : member_steps p ≡ []
   pub lanes : (d : ℕ) → lane_at p.endpoint.port d ≡ fresh_lane None None
@@ -117,6 +118,7 @@ pub record OpensAt (conf : Conf) (lines : List Line) (p : Member) : Type 0 where
 
 pub record Opens (conf : Conf) (lists : List (List Line)) (ps : List Member) : Type 0 where
   pub joined : IsJoined ps
+  pub numbers : (k : ℕ) (p : Member) → slice_get ps k ≡ Some p → p.endpoint.port.number ≡ k
   pub actors_are : actors ps ≡ opened conf lists
   pub schedules_are : schedules ps ≡ replicate (length ps) []
 

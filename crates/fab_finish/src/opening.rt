@@ -21,7 +21,7 @@ pub fn take_first(alloc: Global, lists: &mut Vec<Vec<Line>>) -> Vec<Line>
     lists.remove(0)
 }
 
-/// A peer over a new port that is to do these lines.
+/// A peer over a new port of this number that is to do these lines.
 fn open_one<C: Machinery + Drop>(
     alloc: Global,
     conf: &Conf,
@@ -31,7 +31,7 @@ fn open_one<C: Machinery + Drop>(
 ) -> Result<Peer<Endpoint<PlainPort, C>>, NoMemory>
     requires log { 4 ≤ conf.now.info.log }
     requires start { C.held machine ≡ start conf.now }
-    ensures { IfOk result (λ p. OpensAt conf.now lines.items p) }
+    ensures { IfOk result (λ p. OpensAt conf.now number lines.items p) }
 {
     machine.known();
     let port = PlainPort::new(alloc, number, conf.peers)?;
@@ -41,8 +41,8 @@ fn open_one<C: Machinery + Drop>(
     }
 }
 
-/// All peers at the start of their lines, each over a machine that holds what an endpoint holds when it is opened. The
-/// peers have the lists in their order; a peer without a list has no lines.
+/// All peers at the start of their lines, each over a port of its number and a machine that holds what an endpoint holds
+/// when it is opened. The peers have the lists in their order; a peer without a list has no lines.
 pub fn open<C: Machinery + Drop>(
     alloc: Global,
     conf: &Conf,
