@@ -115,7 +115,7 @@ module _ (bound : Bound) where
   -- ---- calls and waits
 
   abbrev pub is_call : LineOp → Bool
-  is_call (TSend ctx dest tag bytes imm level completion) = true
+  is_call (TSend ctx dest tag bytes imm level completion fence) = true
   is_call (TRecv ctx source tag ignore len) = true
   is_call _ = false
 
@@ -124,7 +124,7 @@ module _ (bound : Bound) where
   either (Some fault) = (Refused fault, refl)
 
   pub call_done : (all : List (List LineResult)) (p : ℕ) (op : LineOp) → is_call op ≡ true → (x : LineResult) × (result_of bound all p op ≡ Some x)
-  call_done all p (TSend ctx dest tag bytes imm level completion) e = either (refusal bound.script.conf (TSend ctx dest tag bytes imm level completion))
+  call_done all p (TSend ctx dest tag bytes imm level completion fence) e = either (refusal bound.script.conf (TSend ctx dest tag bytes imm level completion fence))
   call_done all p (TRecv ctx source tag ignore len) e = either (refusal bound.script.conf (TRecv ctx source tag ignore len))
   call_done all p op e = absurd (cc (e))
 

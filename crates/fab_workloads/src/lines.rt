@@ -27,6 +27,7 @@ pub(crate) fn send(
         imm: None,
         level: Level::Transmit,
         completion: false,
+        fence: false,
     })
 }
 
@@ -42,6 +43,7 @@ fn acknowledge(ctx: u64) -> LineOp
         imm: None,
         level: Level::Transmit,
         completion: false,
+        fence: false,
     }
 }
 

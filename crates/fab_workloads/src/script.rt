@@ -7,7 +7,7 @@ ghost use Rattle.fab_workloads.specs.Script.{bound_of, conf_of, hints_for, ops_o
 
 use crate::workload::Workload;
 use crate::{generator, lines};
-use fab_base::{Bound, Buf, Caps, Conf, Hints, Line, LineOp, List, NoMemory, Script};
+use fab_base::{Api, Bound, Buf, Caps, Conf, Hints, Line, LineOp, List, NoMemory, Script};
 use fab_info::getinfo;
 use std::alloc::Global;
 
@@ -45,7 +45,7 @@ fn conf_of(peers: u32) -> Conf
     ensures { result ≡ conf_of peers }
 {
     let hints = hints_for(peers);
-    let Ok(info) = getinfo(Some(&hints)) else {
+    let Ok(info) = getinfo(Api::One, Some(&hints)) else {
         unreachable!()
     };
     Conf {
