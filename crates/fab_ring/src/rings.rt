@@ -60,6 +60,7 @@ impl RingPort {
         let peers = fabric.peers() as usize;
         let puts = Vec::from_elem(alloc, 0u64, peers)?;
         let gots = Vec::from_elem(alloc, 0u64, peers)?;
+        let gots_seen = Vec::from_elem(alloc, 0u64, peers)?;
         let put_cells = Vec::from_elem(alloc, 0u64, peers)?;
         let got_cells = Vec::from_elem(alloc, 0u64, peers)?;
         let opened = Vec::from_elem(alloc, false, peers)?;
@@ -76,6 +77,7 @@ impl RingPort {
             turn: 0,
             puts,
             gots,
+            gots_seen,
             put_cells,
             got_cells,
             opened,
