@@ -156,7 +156,12 @@ const SAID: [Said; 2] = [
 
 /// Whether the text has these bytes.
 fn has(text: &[u8], part: &[u8]) -> bool {
-    text.windows(part.len()).any(|window| window == part)
+    for at in 0..text.len() {
+        if text[at..].starts_with(part) {
+            return true;
+        }
+    }
+    false
 }
 
 #[test]
