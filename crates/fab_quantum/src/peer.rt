@@ -438,17 +438,12 @@ impl<E: Calls> Peer<E> {
                 fence,
             } => {
                 let buf = word_bytes(self.alloc, bytes)?;
-                self.send(
-                    ctx,
-                    dest,
-                    buf,
-                    imm,
-                    Flags {
-                        completion,
-                        level,
-                        fence,
-                    },
-                )
+                let flags = Flags {
+                    completion,
+                    level,
+                    fence,
+                };
+                self.send(ctx, dest, buf, imm, flags)
             }
             LineOp::TSend {
                 ctx,
@@ -461,18 +456,12 @@ impl<E: Calls> Peer<E> {
                 fence,
             } => {
                 let buf = word_bytes(self.alloc, bytes)?;
-                self.tsend(
-                    ctx,
-                    dest,
-                    tag,
-                    buf,
-                    imm,
-                    Flags {
-                        completion,
-                        level,
-                        fence,
-                    },
-                )
+                let flags = Flags {
+                    completion,
+                    level,
+                    fence,
+                };
+                self.tsend(ctx, dest, tag, buf, imm, flags)
             }
             _ => unreachable!(),
         }
