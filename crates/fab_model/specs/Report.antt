@@ -24,7 +24,7 @@ use Rattle.fab_base.specs.declared.script.Bound.{Bound}
 use Rattle.fab_base.specs.declared.script.Line.{Line}
 use Rattle.fab_base.specs.declared.script.LineOp.{LineOp}
 use Rattle.fab_base.specs.declared.script.LineOp.TheVariants.{Send, TSend, Inject, TInject, Recv, TRecv, MRecv, Take, DropClaimed, Cancel, Write, WInject, Atomic, Fetch, Compare, Reg, Close, Put, Show, Insert, Remove, Wait, Count, Reach}
-use Rattle.fab_model.specs.State.{awaits, held_count}
+use Rattle.fab_model.specs.State.{awaits, deferred_count}
 use Rattle.fab_model.specs.Peers.{Actor, ctx_of}
 use Rattle.fab_model.specs.Replay.{replayed, all_done}
 use Rattle.fab_model.specs.Words.{Word, text_of, lines_in, hex_or_dash, read_decimal}
@@ -188,7 +188,7 @@ pending_of a = count_by (awaits a.state.tx) a.state.tx.live
 
 -- how many operations of the peer are not transmitted
 abbrev pub deferred_of : Actor → ℕ
-deferred_of a = count_by (λ o. not (awaits a.state.tx o)) a.state.tx.live + held_count a.state.tx
+deferred_of a = deferred_count a.state.tx
 
 abbrev pub actor_lines : ℕ → Actor → List Step → List (List Word)
 actor_lines p a steps = peer_lines p a.lines a.results a.kept (pending_of a) (deferred_of a) steps
