@@ -10,6 +10,7 @@ use std::alloc::Global;
 const COMPLETES: Flags = Flags {
     completion: true,
     level: Level::Transmit,
+    fence: false,
 };
 
 /// The calls that are tested.

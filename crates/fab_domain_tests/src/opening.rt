@@ -1,7 +1,7 @@
 //! Endpoints over lanes are named here alone: what is tested is generic.
 use crate::calls::registers;
 use crate::rows::{Row, Sizes};
-use fab_base::{Caps, Hints, Info};
+use fab_base::{Api, Caps, Hints, Info};
 use fab_domain::{RingEndpoint, endpoints};
 use fab_info::getinfo;
 use fab_mr::Regions;
@@ -29,7 +29,7 @@ fn granted(sizes: Sizes) -> Option<Info> {
         inject: None,
         message: None,
     };
-    getinfo(Some(&hints)).ok()
+    getinfo(Api::One, Some(&hints)).ok()
 }
 
 /// The endpoints of all peers.

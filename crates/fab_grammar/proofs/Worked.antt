@@ -13,6 +13,7 @@ use Rattle.fab_grammar.specs.Lines.{op_of}
 use Rattle.fab_grammar.specs.Grammar.{script_of, script_with, refusal_of, verdict}
 use Rattle.fab_grammar.specs.Conf.{conf_of}
 use Rattle.fab_grammar.specs.Settings.{no_settings}
+use Rattle.fab_base.specs.declared.caps.Api.TheVariants.{One}
 use Rattle.fab_base.specs.declared.caps.Info.{Info}
 use Rattle.fab_base.specs.Offer.{is_offered}
 use Rattle.fab_model.specs.Negotiation.{caps_of}
@@ -23,11 +24,11 @@ line text rest = text ++ 10 ∷ rest
 
 -- what is granted to 2 peers that ask for nothing else
 abbrev whole : Info
-whole = record { caps = caps_of is_offered; peers = 2; lane = 64; pool = 32; tx = 64; rx = 256; cq = 1024; log = 4096; inject = 4096; message = 16777216 }
+whole = record { api = One; caps = caps_of (is_offered One); peers = 2; lane = 64; pool = 32; tx = 64; rx = 256; cq = 1024; log = 4096; inject = 4096; message = 16777216 }
 
 -- one tagged message, the last line without its line feed
 hello : script_of (line (codes "fabric 1") (line (codes "peers 2") (line (codes "peer 0") (line (codes "trecv 1 * 7 0 16") (line (codes "wait 1") (line (codes " peer  1 ") (codes "tsend 2 0 7 text:hello")))))))
-    ≡ Some (script_with (conf_of (record no_settings { peers = Some 2 }) 2 whole) [] ((record { number = 4; op = TRecv 1 None 7 0 16 } ∷ record { number = 5; op = Wait (Some 1) } ∷ []) ∷ (record { number = 7; op = TSend 2 0 7 (Text (codes "hello")) None Transmit false } ∷ []) ∷ []))
+    ≡ Some (script_with (conf_of (record no_settings { peers = Some 2 }) 2 whole) [] ((record { number = 4; op = TRecv 1 None 7 0 16 } ∷ record { number = 5; op = Wait (Some 1) } ∷ []) ∷ (record { number = 7; op = TSend 2 0 7 (Text (codes "hello")) None Transmit false false } ∷ []) ∷ []))
 unfolding grammar
 hello = refl
 
@@ -56,7 +57,7 @@ unfolding grammar
 once = refl
 
 -- an element's bytes, the lowest first
-elements : op_of verb.Atomic (codes "1" ∷ codes "0" ∷ codes "1" ∷ codes "0" ∷ codes "FI_SUM" ∷ codes "i16" ∷ codes "300,-2" ∷ []) ≡ Ok (Atomic 1 0 1 0 Sum I16 (44 ∷ 1 ∷ 254 ∷ 255 ∷ []) false)
+elements : op_of verb.Atomic (codes "1" ∷ codes "0" ∷ codes "1" ∷ codes "0" ∷ codes "FI_SUM" ∷ codes "i16" ∷ codes "300,-2" ∷ []) ≡ Ok (Atomic 1 0 1 0 Sum I16 (44 ∷ 1 ∷ 254 ∷ 255 ∷ []) false false)
 unfolding grammar
 elements = refl
 

@@ -6,6 +6,7 @@ use Rattle.std.specs.Prelude.{ℕ, ◌+◌, if◌then◌else◌, List, [], ◌�
 use Rattle.std.specs.Result.{result_ok, result_err}
 use Rattle.fab_base.specs.declared.status.Why.{Why}
 use Rattle.fab_base.specs.declared.status.Why.TheVariants as why
+use Rattle.fab_base.specs.declared.caps.Api.TheVariants.{One}
 use Rattle.fab_base.specs.declared.caps.Info.{Info}
 use Rattle.fab_base.specs.declared.script.Conf.{Conf}
 use Rattle.fab_base.specs.declared.script.Line.{Line}
@@ -38,7 +39,7 @@ granted count before n (Some info) = Ok (script_with (conf_of before.settings n 
 granted count before n None = Err (count, why.NoData)
 
 abbrev pub of_peers : ℕ → Before → Option ℕ → Result Script Refusal
-of_peers count before (Some n) = granted count before n (grant (Some (hints_of before.settings)))
+of_peers count before (Some n) = granted count before n (grant One (Some (hints_of before.settings)))
 of_peers count before None = Err (count, why.Missing)
 
 -- A file of so many lines, none of which is refused: line 0 where none has words, and the last line where the number of peers is missing.

@@ -20,8 +20,8 @@ use Rattle.fab_words.specs.Words.{read_number, read_index, read_len, read_source
 
 -- the bytes that a line sends, or makes room for; values of atomics do not count
 abbrev pub op_size : LineOp → ℕ
-op_size (op.Send ctx dest bytes imm level completion) = bytes_size bytes
-op_size (op.TSend ctx dest tag bytes imm level completion) = bytes_size bytes
+op_size (op.Send ctx dest bytes imm level completion fence) = bytes_size bytes
+op_size (op.TSend ctx dest tag bytes imm level completion fence) = bytes_size bytes
 op_size (op.Inject dest bytes imm) = bytes_size bytes
 op_size (op.TInject dest tag bytes imm) = bytes_size bytes
 op_size (op.Recv ctx source len) = len
@@ -29,7 +29,7 @@ op_size (op.TRecv ctx source tag ignore len) = len
 op_size (op.MRecv ctx source len min) = len
 op_size (op.Take ctx len) = len
 op_size (op.Read ctx dest key at len) = len
-op_size (op.Write ctx dest key at bytes imm completion) = bytes_size bytes
+op_size (op.Write ctx dest key at bytes imm completion fence) = bytes_size bytes
 op_size (op.WInject dest key at bytes imm) = bytes_size bytes
 op_size (op.Reg key access bytes) = bytes_size bytes
 op_size (op.Put key at bytes) = bytes_size bytes

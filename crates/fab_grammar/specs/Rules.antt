@@ -6,6 +6,7 @@ use Rattle.std.specs.Prelude.{ℕ, ◌+◌, Bool, true, false, not, ◌||◌, �
 use Rattle.std.specs.List.{list_any}
 use Rattle.fab_base.specs.declared.status.Why.{Why}
 use Rattle.fab_base.specs.declared.status.Why.TheVariants as why
+use Rattle.fab_base.specs.declared.caps.Api.TheVariants.{One}
 use Rattle.fab_base.specs.declared.script.LineOp.{LineOp}
 use Rattle.fab_base.specs.declared.script.Payload.{Payload}
 use Rattle.fab_model.specs.Negotiation.{grant}
@@ -85,7 +86,7 @@ is_one_too_many before _ = false
 
 -- the provider does not grant these capabilities
 abbrev pub is_refused : Result Setting Fault → Bool
-is_refused (Ok (Capabilities caps)) = is_none (grant (Some (asking caps)))
+is_refused (Ok (Capabilities caps)) = is_none (grant One (Some (asking caps)))
 is_refused _ = false
 
 unfoldable pub setting_rules : Before → ℕ → Verb → List (List ℕ) → Rules

@@ -46,7 +46,7 @@ for_multi = allowing false false false true
 
 -- `send C D BYTES`
 abbrev pub a_send : ((ℕ × ℕ) × BytesWord) × Options → LineOp
-a_send (((ctx, dest), bytes), o) = op.Send ctx dest bytes o.imm o.level o.completion
+a_send (((ctx, dest), bytes), o) = op.Send ctx dest bytes o.imm o.level o.completion false
 
 unfoldable pub send_of : List (List ℕ) → Result LineOp Fault
 send_of (ctx ∷ dest ∷ bytes ∷ options) = map_ok a_send (read_to ctx dest & read_bytes bytes & read_options for_send options)
@@ -54,7 +54,7 @@ send_of _ = Err Words
 
 -- `tsend C D TAG BYTES`
 abbrev pub a_tsend : (((ℕ × ℕ) × ℕ) × BytesWord) × Options → LineOp
-a_tsend ((((ctx, dest), tag), bytes), o) = op.TSend ctx dest tag bytes o.imm o.level o.completion
+a_tsend ((((ctx, dest), tag), bytes), o) = op.TSend ctx dest tag bytes o.imm o.level o.completion false
 
 unfoldable pub tsend_of : List (List ℕ) → Result LineOp Fault
 tsend_of (ctx ∷ dest ∷ tag ∷ bytes ∷ options) = map_ok a_tsend (read_tagged ctx dest tag & read_bytes bytes & read_options for_send options)
@@ -86,7 +86,7 @@ mrecv_of _ = Err Words
 
 -- `write C D KEY AT BYTES`
 abbrev pub a_write : ((ℕ × ((ℕ × ℕ) × ℕ)) × BytesWord) × Options → LineOp
-a_write (((ctx, ((dest, key), at)), bytes), o) = op.Write ctx dest key at bytes o.imm o.completion
+a_write (((ctx, ((dest, key), at)), bytes), o) = op.Write ctx dest key at bytes o.imm o.completion false
 
 unfoldable pub write_of : List (List ℕ) → Result LineOp Fault
 write_of (ctx ∷ dest ∷ key ∷ at ∷ bytes ∷ options) = map_ok a_write (read_remote ctx dest key at & read_bytes bytes & read_options for_write options)

@@ -6,6 +6,7 @@
 --     hints_of settings           what is asked for of the provider (fi_getinfo(3))
 use Rattle.std.specs.Prelude.{ℕ, Bool, true, false, ◌&&◌, nat_le, if◌then◌else◌, is_some, List, [], ◌∷◌, Option, Some, None, Result, Ok, Err}
 use Rattle.fab_base.specs.Offer.{limits_of}
+use Rattle.fab_base.specs.declared.caps.Api.TheVariants.{One}
 use Rattle.fab_base.specs.declared.caps.Caps.{Caps}
 use Rattle.fab_base.specs.declared.caps.Hints.{Hints}
 use Rattle.fab_base.specs.declared.limits.Limits.{Limits}
@@ -30,7 +31,7 @@ between limits (Err fault) = Err fault
 
 -- a size within its limits
 unfoldable pub size_of : Size → List (List ℕ) → Result ℕ Fault
-size_of size (word ∷ []) = between (limits_of size) (read_number word)
+size_of size (word ∷ []) = between (limits_of One size) (read_number word)
 size_of size _ = Err Words
 
 -- `caps LIST`

@@ -336,6 +336,7 @@ pub(crate) fn atomic(alloc: Global, args: &mut Words) -> Result<Read<LineOp>, No
         num,
         values,
         completion: o.completion,
+        fence: false,
     }))
 }
 

@@ -87,6 +87,7 @@ pub(crate) fn send(alloc: Global, args: &mut Words) -> Result<Read<LineOp>, NoMe
         imm: o.imm,
         level: o.level,
         completion: o.completion,
+        fence: false,
     }))
 }
 
@@ -109,6 +110,7 @@ pub(crate) fn tsend(alloc: Global, args: &mut Words) -> Result<Read<LineOp>, NoM
         imm: o.imm,
         level: o.level,
         completion: o.completion,
+        fence: false,
     }))
 }
 
@@ -170,6 +172,7 @@ pub(crate) fn write(alloc: Global, args: &mut Words) -> Result<Read<LineOp>, NoM
         bytes,
         imm: o.imm,
         completion: o.completion,
+        fence: false,
     }))
 }
 

@@ -4,7 +4,7 @@ ghost use Rattle.fab_grammar.specs.Settings.{between, size_of, caps_setting, sel
 
 use crate::capabilities::{none, read_caps};
 use crate::verbs::Verb;
-use fab_base::{Caps, Hints, Limits, NoMemory, Payload, Size};
+use fab_base::{Api, Caps, Hints, Limits, NoMemory, Payload, Size};
 use fab_words::{Fault, Read, Words, both, read_number, read_text};
 use std::alloc::Global;
 
@@ -142,7 +142,7 @@ fn read_size(size: Size, args: &mut Words) -> Read<u32>
     ensures { result ≡ size_of size args.old }
 {
     let number = read_number(args.one().ok_or(Fault::Words)?)?;
-    between(size.limits(), number)
+    between(size.limits(Api::One), number)
 }
 
 /// `caps LIST`.

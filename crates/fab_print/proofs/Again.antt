@@ -7,6 +7,7 @@ use Rattle.std.proofs.lemmas.Bool.Decides.{nat_tests}
 use Rattle.std.proofs.lemmas.List.{append-nil, length-map}
 use Rattle.std.proofs.lemmas.List.FromFn.{length-map-range_with_len}
 use Rattle.fab_base.specs.Offer.{limits_of}
+use Rattle.fab_base.specs.declared.caps.Api.TheVariants.{One}
 use Rattle.fab_base.specs.declared.caps.Caps.{Caps}
 use Rattle.fab_base.specs.declared.caps.Hints.{Hints}
 use Rattle.fab_base.specs.declared.caps.Info.{Info}
@@ -116,7 +117,7 @@ caps_again None r g e = cc
 caps_again (Some c) r g e = (setting_again (Capabilities c) r, g)
 
 -- ---- there are not too many peers, and not too many lines
-peers_within : (said : Result ℕ Fault) (n : ℕ) → map_ok Peers (between (limits_of size.Peers) said) ≡ Ok (Peers n) → n ≤ 32
+peers_within : (said : Result ℕ Fault) (n : ℕ) → map_ok Peers (between (limits_of One size.Peers) said) ≡ Ok (Peers n) → n ≤ 32
 peers_within (Err fault) n e = cc
 peers_within (Ok m) n e = by_test (leb m 32) refl (leb 1 m && leb m 32) refl e
   where
@@ -247,7 +248,7 @@ same_hints s n e =
     ap (λ (c : Caps). record no_hints { caps = c; peers = Some n; lane = s.lane; pool = s.pool; tx = s.tx; rx = s.rx; cq = s.cq }) (caps_kept (asked_caps s.caps))
     ∙ ap (λ (o : Option ℕ). record no_hints { caps = asked_caps s.caps; peers = o; lane = s.lane; pool = s.pool; tx = s.tx; rx = s.rx; cq = s.cq }) (sym e)
 
-said_by_rows : (count n : ℕ) (info : Info) (after : Before) → after.has_header ≡ true → after.settings.peers ≡ Some n → grant (Some (hints_of after.settings)) ≡ Some info → script_said count after ≡ Ok (script_said_by after n info)
+said_by_rows : (count n : ℕ) (info : Info) (after : Before) → after.has_header ≡ true → after.settings.peers ≡ Some n → grant One (Some (hints_of after.settings)) ≡ Some info → script_said count after ≡ Ok (script_said_by after n info)
 unfolding script_said
 said_by_rows count n info after header peers given =
     ap (λ b. cond b (of_peers count after after.settings.peers) (Err (0, why.Header))) header
@@ -261,7 +262,7 @@ same_script n info before after hints selective payloads parts =
     ∙ (ap (λ (ps : List Payload). script_with (conf_of before.settings n info) ps (map (map without_number) (parts_of n after.items))) payloads
     ∙ ap (λ (ls : List (List Line)). script_with (conf_of before.settings n info) before.payloads ls) parts))
 
-reads_said : OpsAgain → (before : Before) (total n : ℕ) (info : Info) → Said before total → before.has_header ≡ true → before.settings.peers ≡ Some n → grant (Some (hints_of before.settings)) ≡ Some info → IsSame (script_said_by before n info) (verdict (printed (script_said_by before n info)))
+reads_said : OpsAgain → (before : Before) (total n : ℕ) (info : Info) → Said before total → before.has_header ≡ true → before.settings.peers ≡ Some n → grant One (Some (hints_of before.settings)) ≡ Some info → IsSame (script_said_by before n info) (verdict (printed (script_said_by before n info)))
 unfolding verdict
 reads_said again before total n info s header e given =
     let script = script_said_by before n info in
@@ -271,7 +272,7 @@ reads_said again before total n info s header e given =
     let read : read_lines nothing 1 (lines_of (printed script)) ≡ Ok o.after = text_read nothing 1 (rows_of script) o.after o.written o.reads in
     let hints : hints_of o.after.settings ≡ hints_of before.settings = ap hints_of end.settings ∙ same_hints before.settings n e in
     let peers : o.after.settings.peers ≡ Some n = ap (λ (t : Settings). t.peers) end.settings in
-    let grants : grant (Some (hints_of o.after.settings)) ≡ Some info = ap (λ h. grant (Some h)) hints ∙ given in
+    let grants : grant One (Some (hints_of o.after.settings)) ≡ Some info = ap (λ h. grant One (Some h)) hints ∙ given in
     let parts : map (map without_number) (parts_of n o.after.items) ≡ map (map without_number) (parts_of n before.items) =
     parts_plain n o.after.items (items_of 0 (parts_of n before.items)) end.items ∙ ap (map (map without_number)) (parts_written n (parts_of n before.items) (length-map-range_with_len (λ k. part_of k before.items) 0 n)) in
     let same = same_script n info before o.after hints (ap (λ (t : Settings). t.is_selective) end.settings) end.payloads parts in
@@ -284,14 +285,14 @@ record WasSaid (before : Before) (read : Script) : Type 0 where
   pub info : Info
   pub header : before.has_header ≡ true
   pub peers : before.settings.peers ≡ Some n
-  pub grants : grant (Some (hints_of before.settings)) ≡ Some info
+  pub grants : grant One (Some (hints_of before.settings)) ≡ Some info
   pub script : script_said_by before n info ≡ read
 
 was_said : (count : ℕ) (before : Before) (script : Script) → script_said count before ≡ Ok script → WasSaid before script
 unfolding script_said
 was_said count before script e = by_header before.has_header refl before.settings.peers refl e
   where
-    by_grant : (n : ℕ) (o : Option Info) → before.has_header ≡ true → before.settings.peers ≡ Some n → grant (Some (hints_of before.settings)) ≡ o → granted count before n o ≡ Ok script → WasSaid before script
+    by_grant : (n : ℕ) (o : Option Info) → before.has_header ≡ true → before.settings.peers ≡ Some n → grant One (Some (hints_of before.settings)) ≡ o → granted count before n o ≡ Ok script → WasSaid before script
     by_grant n None h p g f = cc
     by_grant n (Some info) h p g f =
         let same : script_said_by before n info ≡ script = cc in
@@ -300,7 +301,7 @@ was_said count before script e = by_header before.has_header refl before.setting
     by_header : (b : Bool) → before.has_header ≡ b → (peers : Option ℕ) → before.settings.peers ≡ peers → cond b (of_peers count before peers) (Err (0, why.Header)) ≡ Ok script → WasSaid before script
     by_header false h peers p f = cc
     by_header true h None p f = cc
-    by_header true h (Some n) p f = by_grant n (grant (Some (hints_of before.settings))) h p refl f
+    by_header true h (Some n) p f = by_grant n (grant One (Some (hints_of before.settings))) h p refl f
 
 then_again : OpsAgain → (count : ℕ) (read : Result Before Refusal) (script : Script) → ((after : Before) → read ≡ Ok after → (total : ℕ) × Said after total) → then_script count read ≡ Ok script → IsSame script (verdict (printed script))
 then_again again count (Err refusal) script said e = cc

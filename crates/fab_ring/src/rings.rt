@@ -94,7 +94,7 @@ impl Rings {
     /// The lanes between so many peers, of `lane` frames each, and a pool of so many slots of 4,096 bytes for
     /// each peer. All memory of the lanes is taken here.
     pub fn new(alloc: Global, peers: u32, lane: u32, pool: u32) -> Result<Rings, NoMemory>
-        requires peers { (0 < peers) × (peers ≤ 32) }
+        requires peers { (0 < peers) × (peers ≤ 64) }
         requires lane { (0 < lane) × (lane ≤ 1024) }
         requires pool { (0 < pool) × (pool ≤ 1024) }
         ensures { IfOk result (λ r. (rings_peers r ≡ peers) × (rings_room r ≡ lane) × (rings_pool r ≡ pool)) }

@@ -6,6 +6,7 @@ use Rattle.std.proofs.lemmas.Bool.Decides.{nat_tests}
 use Rattle.std.proofs.lemmas.List.{map-append}
 use Rattle.std.proofs.lemmas.List.FromFn.{length-map-range_with_len}
 use Rattle.fab_base.specs.Offer.{limits_of}
+use Rattle.fab_base.specs.declared.caps.Api.TheVariants.{One}
 use Rattle.fab_base.specs.declared.caps.Hints.{Hints}
 use Rattle.fab_base.specs.declared.caps.Info.{Info}
 use Rattle.fab_base.specs.declared.limits.Size.{Size}
@@ -156,7 +157,7 @@ at_least_one true n m within k e =
     subst (λ i. 0 < i) same one
 at_least_one false n m within k e = cc
 
-between_one : (said : Result ℕ Fault) (k : ℕ) → between (limits_of size.Peers) said ≡ Ok k → 0 < k
+between_one : (said : Result ℕ Fault) (k : ℕ) → between (limits_of One size.Peers) said ≡ Ok k → 0 < k
 between_one (Ok n) k e = at_least_one (leb 1 n && leb n 32) n 32 refl k e
 between_one (Err fault) k e = cc
 
@@ -250,16 +251,16 @@ as_wished true n e some =
     absurd (omega (arith, zero, some))
 as_wished false n e some = refl
 
-peers_granted : (refused : Bool) (h : Hints) (n : ℕ) (info : Info) → h.peers ≡ Some n → 0 < n → elim refused as (λ _. Option Info) [ true ↦ None | false ↦ Some (granted_info h) ] ≡ Some info → n ≡ info.peers
+peers_granted : (refused : Bool) (h : Hints) (n : ℕ) (info : Info) → h.peers ≡ Some n → 0 < n → elim refused as (λ _. Option Info) [ true ↦ None | false ↦ Some (granted_info One h) ] ≡ Some info → n ≡ info.peers
 peers_granted true h n info wish some e = cc
 peers_granted false h n info wish some e =
-    let same : granted_info h ≡ info = cc in
-    let as_many : granted_size size.Peers (Some n) ≡ n = as_wished (eqb n 0) n refl some in
-    sym as_many ∙ ap (granted_size size.Peers) (sym wish) ∙ ap (λ (i : Info). i.peers) same
+    let same : granted_info One h ≡ info = cc in
+    let as_many : granted_size One size.Peers (Some n) ≡ n = as_wished (eqb n 0) n refl some in
+    sym as_many ∙ ap (granted_size One size.Peers) (sym wish) ∙ ap (λ (i : Info). i.peers) same
 
-grants_peers : (h : Hints) (n : ℕ) (info : Info) → h.peers ≡ Some n → 0 < n → grant (Some h) ≡ Some info → n ≡ info.peers
+grants_peers : (h : Hints) (n : ℕ) (info : Info) → h.peers ≡ Some n → 0 < n → grant One (Some h) ≡ Some info → n ≡ info.peers
 unfolding grant grant_of
-grants_peers h n info wish some e = peers_granted (is_refused h) h n info wish some e
+grants_peers h n info wish some e = peers_granted (is_refused One h) h n info wish some e
 
 hints_peers : (s : Settings) → (hints_of s).peers ≡ s.peers
 unfolding hints_of
@@ -270,7 +271,7 @@ pub record IsRead (script : Script) : Type 0 where
   pub lists : length script.peers ≡ script.conf.peers
   pub distinct : is_distinct (map (λ p. p.id) script.payloads) ≡ true
   pub version : script.version ≡ 1
-  pub granted : grant script.conf.hints ≡ Some script.conf.info
+  pub granted : grant One script.conf.hints ≡ Some script.conf.info
   pub peers : script.conf.peers ≡ script.conf.info.peers
 
 pub was_read : (text : List ℕ) (script : Script) → verdict text ≡ Ok script → IsRead script

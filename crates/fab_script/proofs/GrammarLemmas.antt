@@ -1,6 +1,7 @@
 -- The lines that are left, read one after another.
 use Rattle.std.proofs.Common.{◌≡◌, ℕ, ◌+◌, ◌≤◌, List, [], ◌∷◌, cond, length, map, true, false, Option, Some, None, sym, ap, ◌∙◌, refl, arith}
 use Rattle.std.specs.Prelude.{Ok, Err, unwrap_or}
+use Rattle.fab_base.specs.declared.caps.Api.TheVariants.{One}
 use Rattle.fab_base.specs.declared.caps.Info.{Info}
 use Rattle.fab_base.specs.declared.status.Why.{Why}
 use Rattle.fab_base.specs.declared.status.Why.TheVariants as why
@@ -26,11 +27,11 @@ pub record Progress (bytes : List ℕ) (left : ℕ × List (List ℕ)) (reader :
   pub few : left.0 ≤ 100000
 
 -- where no line is refused
-pub script_made : (count n : ℕ) (info : Info) (reader : Reader) (before : Before) → Holds reader before → reader.has_header ≡ true → reader.settings.peers ≡ Some n → grant (Some (hints_of reader.settings)) ≡ Some info → script_said count before ≡ Ok (script_with (conf_of reader.settings n info) reader.payloads.items (map (λ part. part.items) reader.parts.lines.items))
+pub script_made : (count n : ℕ) (info : Info) (reader : Reader) (before : Before) → Holds reader before → reader.has_header ≡ true → reader.settings.peers ≡ Some n → grant One (Some (hints_of reader.settings)) ≡ Some info → script_said count before ≡ Ok (script_with (conf_of reader.settings n info) reader.payloads.items (map (λ part. part.items) reader.parts.lines.items))
 unfolding script_said
 script_made count n info reader before h header peers given =
     let said : before.settings.peers ≡ Some n = ap (λ s. s.peers) (sym h.settings) ∙ peers in
-    let grants : grant (Some (hints_of before.settings)) ≡ Some info = ap (λ s. grant (Some (hints_of s))) (sym h.settings) ∙ given in
+    let grants : grant One (Some (hints_of before.settings)) ≡ Some info = ap (λ s. grant One (Some (hints_of s))) (sym h.settings) ∙ given in
     let parts : map (λ part. part.items) reader.parts.lines.items ≡ parts_of n before.items =
     h.parts.lines ∙ ap (λ o. parts_of (unwrap_or o 0) before.items) said in
     let has : before.has_header ≡ true = sym h.header ∙ header in
@@ -40,11 +41,11 @@ script_made count n info reader before h header peers given =
     ∙ (ap (λ p. Ok (script_with (conf_of reader.settings n info) p (parts_of n before.items))) (sym h.payloads)
     ∙ ap (λ l. Ok (script_with (conf_of reader.settings n info) reader.payloads.items l)) (sym parts)))))
 
-pub script_not_granted : (count n : ℕ) (reader : Reader) (before : Before) → Holds reader before → reader.has_header ≡ true → reader.settings.peers ≡ Some n → grant (Some (hints_of reader.settings)) ≡ None → script_said count before ≡ Err (count, why.NoData)
+pub script_not_granted : (count n : ℕ) (reader : Reader) (before : Before) → Holds reader before → reader.has_header ≡ true → reader.settings.peers ≡ Some n → grant One (Some (hints_of reader.settings)) ≡ None → script_said count before ≡ Err (count, why.NoData)
 unfolding script_said
 script_not_granted count n reader before h header peers given =
     let said : before.settings.peers ≡ Some n = ap (λ s. s.peers) (sym h.settings) ∙ peers in
-    let grants : grant (Some (hints_of before.settings)) ≡ None = ap (λ s. grant (Some (hints_of s))) (sym h.settings) ∙ given in
+    let grants : grant One (Some (hints_of before.settings)) ≡ None = ap (λ s. grant One (Some (hints_of s))) (sym h.settings) ∙ given in
     let has : before.has_header ≡ true = sym h.header ∙ header in
     ap (λ b. cond b (of_peers count before before.settings.peers) (Err (0, why.Header))) has ∙ (ap (of_peers count before) said ∙ ap (granted count before n) grants)
 

@@ -1,6 +1,7 @@
 -- What holds of all that the lines before say, line by line; and the script that they spell.
 use Rattle.std.proofs.Common.{◌≡◌, ℕ, ◌+◌, Bool, true, false, cond, not, List, [], ◌∷◌, length, Option, Some, None, subst, refl}
 use Rattle.std.specs.Prelude.{Result, Ok, Err}
+use Rattle.fab_base.specs.declared.caps.Api.TheVariants.{One}
 use Rattle.fab_base.specs.declared.caps.Info.{Info}
 use Rattle.fab_base.specs.declared.script.Script.{Script}
 use Rattle.fab_base.specs.declared.status.Why.{Why}
@@ -57,18 +58,18 @@ pub record Spelt (text : List ℕ) (script : Script) : Type 0 where
   pub count : ℕ
   pub info : Info
   pub peers : after.settings.peers ≡ Some count
-  pub granted : grant (Some (hints_of after.settings)) ≡ Some info
+  pub granted : grant One (Some (hints_of after.settings)) ≡ Some info
   pub is : script_with (conf_of after.settings count info) after.payloads (parts_of count after.items) ≡ script
 
 module _ (text : List ℕ) (script : Script) where
-  by_grant : (count n : ℕ) (after : Before) (o : Option Info) → read_lines nothing 1 (lines_of text) ≡ Ok after → after.settings.peers ≡ Some n → grant (Some (hints_of after.settings)) ≡ o → granted count after n o ≡ Ok script → Spelt text script
+  by_grant : (count n : ℕ) (after : Before) (o : Option Info) → read_lines nothing 1 (lines_of text) ≡ Ok after → after.settings.peers ≡ Some n → grant One (Some (hints_of after.settings)) ≡ o → granted count after n o ≡ Ok script → Spelt text script
   by_grant count n after None lines peers g e = cc
   by_grant count n after (Some info) lines peers g e = record { after = after; lines = lines; count = n; info = info; peers = peers; granted = g; is = cc }
 
   by_peers : (count : ℕ) (after : Before) (has : Bool) (peers : Option ℕ) → read_lines nothing 1 (lines_of text) ≡ Ok after → after.settings.peers ≡ peers → cond has (of_peers count after peers) (Err (0, why.Header)) ≡ Ok script → Spelt text script
   by_peers count after false peers lines p e = cc
   by_peers count after true None lines p e = cc
-  by_peers count after true (Some n) lines p e = by_grant count n after (grant (Some (hints_of after.settings))) lines p refl e
+  by_peers count after true (Some n) lines p e = by_grant count n after (grant One (Some (hints_of after.settings))) lines p refl e
 
   by_lines : (count : ℕ) (read : Result Before Refusal) → read_lines nothing 1 (lines_of text) ≡ read → then_script count read ≡ Ok script → Spelt text script
   unfolding script_said

@@ -4,6 +4,7 @@ use Rattle.std.specs.Prelude.{Result, Ok, Err, IfOk}
 use Rattle.std.specs.List.{list_any}
 use Rattle.std.proofs.lemmas.Bool.{ltb-false}
 use Rattle.fab_base.specs.declared.script.Script.{Script}
+use Rattle.fab_base.specs.declared.caps.Api.TheVariants.{One}
 use Rattle.fab_base.specs.declared.caps.Hints.{Hints}
 use Rattle.fab_base.specs.declared.caps.Info.{Info}
 use Rattle.fab_base.specs.declared.limits.Size.TheVariants as size
@@ -36,11 +37,11 @@ wished_least : (least greatest default n : ℕ) (b : Bool) → least ≤ default
 wished_least least greatest default n true within e = within
 wished_least least greatest default n false within e = ltb-false n least (left_false (ltb n least) (ltb greatest n) e)
 
-cq_least : (wanted : Option ℕ) → wish_is_refused size.Cq wanted ≡ false → 2 ≤ granted_size size.Cq wanted
+cq_least : (wanted : Option ℕ) → wish_is_refused One size.Cq wanted ≡ false → 2 ≤ granted_size One size.Cq wanted
 cq_least None e = omega arith
 cq_least (Some n) e = wished_least 2 65536 1024 n (eqb n 0) (omega arith) e
 
-log_least : (wanted : Option ℕ) → wish_is_refused size.Log wanted ≡ false → 4 ≤ granted_size size.Log wanted
+log_least : (wanted : Option ℕ) → wish_is_refused One size.Log wanted ≡ false → 4 ≤ granted_size One size.Log wanted
 log_least None e = omega arith
 log_least (Some n) e = wished_least 4 65536 4096 n (eqb n 0) (omega arith) e
 
@@ -56,16 +57,16 @@ seventh false false false false false false true h i j is = absurd (cc)
 seventh false false false false false false false true i j is = absurd (cc)
 seventh false false false false false false false false i j is = (refl, refl)
 
-granted_least : (refused : Bool) (h : Hints) (info : Info) → is_refused h ≡ refused → elim refused as (λ _. Option Info) [ true ↦ None | false ↦ Some (granted_info h) ] ≡ Some info → (2 ≤ info.cq) × (4 ≤ info.log)
+granted_least : (refused : Bool) (h : Hints) (info : Info) → is_refused One h ≡ refused → elim refused as (λ _. Option Info) [ true ↦ None | false ↦ Some (granted_info One h) ] ≡ Some info → (2 ≤ info.cq) × (4 ≤ info.log)
 granted_least true h info is e = cc
 granted_least false h info is e =
-    let same : granted_info h ≡ info = cc in
-    let tests = seventh (list_any (is_not_offered h.caps) all_caps) (wish_is_refused size.Peers h.peers) (wish_is_refused size.Lane h.lane) (wish_is_refused size.Pool h.pool) (wish_is_refused size.Tx h.tx) (wish_is_refused size.Rx h.rx) (wish_is_refused size.Cq h.cq) (wish_is_refused size.Log h.log) (wish_is_refused size.Inject h.inject) (wish_is_refused size.Message h.message) is in
+    let same : granted_info One h ≡ info = cc in
+    let tests = seventh (list_any (is_not_offered One h.caps) all_caps) (wish_is_refused One size.Peers h.peers) (wish_is_refused One size.Lane h.lane) (wish_is_refused One size.Pool h.pool) (wish_is_refused One size.Tx h.tx) (wish_is_refused One size.Rx h.rx) (wish_is_refused One size.Cq h.cq) (wish_is_refused One size.Log h.log) (wish_is_refused One size.Inject h.inject) (wish_is_refused One size.Message h.message) is in
     subst (λ i. (2 ≤ i.cq) × (4 ≤ i.log)) same (cq_least h.cq tests.0, log_least h.log tests.1)
 
-info_sized : (h : Hints) (info : Info) → grant (Some h) ≡ Some info → (2 ≤ info.cq) × (4 ≤ info.log)
+info_sized : (h : Hints) (info : Info) → grant One (Some h) ≡ Some info → (2 ≤ info.cq) × (4 ≤ info.log)
 unfolding grant grant_of
-info_sized h info e = granted_least (is_refused h) h info refl e
+info_sized h info e = granted_least (is_refused One h) h info refl e
 
 -- what the program can rely on
 script_sized : (bytes : List ℕ) (script : Script) → verdict bytes ≡ Ok script → IsSized script

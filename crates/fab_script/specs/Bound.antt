@@ -5,6 +5,7 @@
 --     IsSound bound                    and the settings are granted
 use Rattle.std.specs.Prelude.{◌≡◌, ℕ, min, ◌+◌, Bool, true, not, ◌&&◌, nat_le, List, length, filter, map, Option, Some, None, option_map}
 use Rattle.std.specs.List.{concat, list_all, reduce}
+use Rattle.fab_base.specs.declared.caps.Api.TheVariants.{One}
 use Rattle.fab_base.specs.declared.script.Bound.{Bound}
 use Rattle.fab_base.specs.declared.script.BytesWord.{BytesWord}
 use Rattle.fab_base.specs.declared.script.BytesWord.TheVariants.{File}
@@ -22,11 +23,11 @@ use Rattle.fab_model.specs.Replay.{payload}
 
 -- how the line names bytes, where it does
 abbrev pub bytes_of : LineOp → Option BytesWord
-bytes_of (Send ctx dest word imm level completion) = Some word
-bytes_of (TSend ctx dest tag word imm level completion) = Some word
+bytes_of (Send ctx dest word imm level completion fence) = Some word
+bytes_of (TSend ctx dest tag word imm level completion fence) = Some word
 bytes_of (Inject dest word imm) = Some word
 bytes_of (TInject dest tag word imm) = Some word
-bytes_of (Write ctx dest key at word imm completion) = Some word
+bytes_of (Write ctx dest key at word imm completion fence) = Some word
 bytes_of (WInject dest key at word imm) = Some word
 bytes_of (Reg key access word) = Some word
 bytes_of (Put key at word) = Some word
@@ -61,5 +62,5 @@ pub record IsComplete (b : Bound) : Type 0 where
 pub record IsSound (b : Bound) : Type 0 where
   pub complete : IsComplete b
   pub version : b.script.version ≡ 1
-  pub granted : grant b.script.conf.hints ≡ Some b.script.conf.info
+  pub granted : grant One b.script.conf.hints ≡ Some b.script.conf.info
   pub peers : b.script.conf.peers ≡ b.script.conf.info.peers

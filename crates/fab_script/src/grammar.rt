@@ -8,7 +8,7 @@ ghost use Rattle.fab_script.specs.Refused.{IsScript, IsRefusal, IsVerdict};
 use crate::parts::Parts;
 use crate::reader::Reader;
 use crate::refused::{ParseRefused, Refused};
-use fab_base::{Conf, Line, List, NoMemory, Payload, Script, Why};
+use fab_base::{Api, Conf, Line, List, NoMemory, Payload, Script, Why};
 use fab_info::getinfo;
 use fab_words::Lines;
 use std::alloc::Global;
@@ -58,7 +58,7 @@ fn script(alloc: Global, count: u32, reader: Reader) -> Result<Script, ParseRefu
         });
     };
     let hints = reader.settings.hints();
-    let Ok(info) = getinfo(Some(&hints)) else {
+    let Ok(info) = getinfo(Api::One, Some(&hints)) else {
         return Err(ParseRefused::Script {
             line: count,
             why: Why::NoData,

@@ -13,7 +13,7 @@ ghost use Rattle.fab_script.specs.declared.refused.Refused.TheVariants.{Why as B
 
 use crate::parts::Parts;
 use crate::refused::Refused;
-use fab_base::{Line, Payload, Why};
+use fab_base::{Api, Line, Payload, Why};
 use fab_grammar::{Kind, Setting, Settings, Verb, asking, read_op, read_peer, read_setting};
 use fab_info::getinfo;
 use fab_words::{Fault, Words, all_text, is, number};
@@ -259,7 +259,7 @@ fn is_refused(setting: &Setting) -> bool
     ensures { result ≡ is_refused (Ok setting.now) }
 {
     match setting {
-        Setting::Capabilities(caps) => getinfo(Some(&asking(*caps))).is_err(),
+        Setting::Capabilities(caps) => getinfo(Api::One, Some(&asking(*caps))).is_err(),
         _ => false,
     }
 }

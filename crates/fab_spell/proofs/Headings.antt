@@ -3,6 +3,7 @@ use Rattle.std.proofs.Common.{◌≡◌, ℕ, Bool, true, false, cond, ◌&&◌,
 use Rattle.std.proofs.lemmas.Bool.{and_from}
 use Rattle.std.specs.List.{list_all}
 use Rattle.fab_base.specs.Offer.{limits_of}
+use Rattle.fab_base.specs.declared.caps.Api.TheVariants.{One}
 use Rattle.fab_base.specs.declared.limits.Limits.{Limits}
 use Rattle.fab_base.specs.declared.limits.Size.{Size}
 use Rattle.fab_base.specs.declared.limits.Size.TheVariants as size
@@ -50,9 +51,9 @@ size_again : (size : Size) (args : List (List ℕ)) (n : ℕ) → size_of size a
 unfolding size_of
 size_again size [] n e = cc
 size_again size (word ∷ []) n e =
-    let said = between_said (limits_of size) (read_number word) n e in
+    let said = between_said (limits_of One size) (read_number word) n e in
     record {
-      reads = ap (between (limits_of size)) (read_number_again word n said ∙ sym said) ∙ e;
+      reads = ap (between (limits_of One size)) (read_number_again word n said ∙ sym said) ∙ e;
       words = alone (decimal n) (is_word-decimal n);
     }
 size_again size (word ∷ next ∷ more) n e = cc

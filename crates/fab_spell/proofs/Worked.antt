@@ -1,5 +1,5 @@
 -- Lines as they are written, worked out by the definitions alone: a word left out, changed or exchanged gives another line.
-use Rattle.std.proofs.Common.{◌≡◌, [], ◌∷◌, ◌++◌, Some, None, true, refl}
+use Rattle.std.proofs.Common.{◌≡◌, [], ◌∷◌, ◌++◌, Some, None, true, false, refl}
 use Rattle.std.specs.Fmt.{digits}
 use Rattle.std.specs.Prelude.{codes}
 use Rattle.fab_base.specs.declared.items.AtomicOp.TheVariants.{AtomicRead}
@@ -16,7 +16,7 @@ unfolding digits verb_for args_for
 fetch = refl
 
 -- both digits of each byte, remote data and the level
-send : line_of (row_of (Send 1 2 (Hex (106 ∷ 255 ∷ [])) (Some 9) Delivery true)) ≡ codes "send 1 2 hex:6aff data=9 level=delivery completion" ++ 10 ∷ []
+send : line_of (row_of (Send 1 2 (Hex (106 ∷ 255 ∷ [])) (Some 9) Delivery true false)) ≡ codes "send 1 2 hex:6aff data=9 level=delivery completion" ++ 10 ∷ []
 unfolding digits verb_for args_for bytes_word
 send = refl
 

@@ -70,6 +70,7 @@ fn add_args(out: &mut String, op: &LineOp) -> Result<(), NoMemory>
             imm,
             level,
             completion,
+            ..
         } => {
             add_numbers(out, &[*ctx, u64::from(*dest)])?;
             add_message(out, bytes, *imm, *level, *completion)
@@ -82,6 +83,7 @@ fn add_args(out: &mut String, op: &LineOp) -> Result<(), NoMemory>
             imm,
             level,
             completion,
+            ..
         } => {
             add_numbers(out, &[*ctx, u64::from(*dest), *tag])?;
             add_message(out, bytes, *imm, *level, *completion)
@@ -197,6 +199,7 @@ fn add_remote_args(out: &mut String, op: &LineOp) -> Result<(), NoMemory>
             bytes,
             imm,
             completion,
+            ..
         } => {
             add_numbers(out, &[*ctx, u64::from(*dest), *key, *at])?;
             add_data(out, bytes)?;
@@ -233,6 +236,7 @@ fn add_atomic_args(out: &mut String, op: &LineOp) -> Result<(), NoMemory>
             num,
             values,
             completion,
+            ..
         } => {
             add_numbers(out, &[*ctx, u64::from(*dest), *key, *at])?;
             add_atom(out, *op, *num)?;

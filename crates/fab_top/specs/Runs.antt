@@ -13,6 +13,7 @@ use Rattle.std.specs.Prelude.{◌≡◌, ℕ, ◌<◌, ◌⊎◌, Bool, true, Li
 use Rattle.std.specs.Io.KnownBytes.{append_known}
 use Rattle.std.specs.List.{list_all}
 use Rattle.fab_base.specs.Counts.{Rose}
+use Rattle.fab_base.specs.declared.caps.Api.TheVariants.{Two}
 use Rattle.fab_base.specs.declared.caps.Hints.{Hints}
 use Rattle.fab_base.specs.declared.peers.Step.{Step}
 use Rattle.fab_base.specs.declared.script.Bound.{Bound}
@@ -100,15 +101,15 @@ pub record WritesPart (files : Files) (words : List (List ℕ)) (before after : 
 pub record Tells (words : List (List ℕ)) (before after : Option (List ℕ)) : Type 0 where
   pub hints : Option Hints
   pub command : info_hints words ≡ Some hints
-  pub written : after ≡ append_known before (info_text (grant hints))
+  pub written : after ≡ append_known before (info_text (grant Two hints))
 
 -- the same, of which only the first bytes are written
 pub record TellsPart (words : List (List ℕ)) (before after : Option (List ℕ)) : Type 0 where
   pub hints : Option Hints
   pub command : info_hints words ≡ Some hints
   pub some : ℕ
-  pub fewer : some < length (info_text (grant hints))
-  pub written : after ≡ append_known before (take some (info_text (grant hints)))
+  pub fewer : some < length (info_text (grant Two hints))
+  pub written : after ≡ append_known before (take some (info_text (grant Two hints)))
 
 -- the words name a workload, and its line is written, with the first and the last moment of a clock that has given exactly two
 pub record Benches (words : List (List ℕ)) (given first last : ℕ) (before after : Option (List ℕ)) : Type 0 where

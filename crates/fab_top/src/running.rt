@@ -3,6 +3,7 @@ ghost use Rattle.std.specs.Prelude.{◌≡◌, ◌<◌, ◌≤◌, ◌↔◌, �
 ghost use Rattle.std.specs.Io.KnownBytes.{append_known};
 ghost use Rattle.std.specs.List.{All};
 ghost use Rattle.fab_finish.specs.Joined.{start};
+ghost use Rattle.fab_base.specs.declared.caps.Api.TheVariants.{Two};
 ghost use Rattle.fab_base.specs.declared.status.Status.TheVariants.{Done, Stuck, Usage, ScriptRefused, TooLong, ReadFault, WriteFault};
 ghost use Rattle.fab_base.specs.declared.status.Why.{Why};
 ghost use Rattle.fab_model.specs.Calls.{upto};
@@ -64,14 +65,14 @@ fn run_over<C: Machinery + Drop + Send, G: Gate, R: Threads + Wait + Sync>(
     requires count { length machines.items ≡ bound.now.script.conf.peers }
     requires log { 4 ≤ bound.now.script.conf.info.log }
     requires start { All (λ m. C.held m ≡ start bound.now.script.conf) machines.items }
-    requires peers { (0 < bound.now.script.conf.peers) × (bound.now.script.conf.peers ≤ 32) }
+    requires peers { (0 < bound.now.script.conf.peers) × (bound.now.script.conf.peers ≤ 64) }
     requires lane { (0 < bound.now.script.conf.info.lane) × (bound.now.script.conf.info.lane ≤ 1024) }
     requires pool { (0 < bound.now.script.conf.info.pool) × (bound.now.script.conf.info.pool ≤ 1024) }
     ensures { IfOk result (λ ran. Reports bound.now (string_bytes ran.text) ran.done) }
 {
     let lists = lines_of_all(alloc, bound)?;
     let peers = run_phases(rt, alloc, &bound.script.conf, lists, machines, gate)?;
-    let text = report(alloc, &peers)?;
+    let text = report(alloc, bound.script.version, &peers)?;
     Ok(Ran {
         text,
         done: all_done(&peers),
@@ -87,7 +88,7 @@ fn run_script<G: Gate, R: Threads + Wait + Sync>(
 ) -> Result<Ran, NoMemory>
     requires cq { 2 ≤ bound.now.script.conf.info.cq }
     requires log { 4 ≤ bound.now.script.conf.info.log }
-    requires peers { (0 < bound.now.script.conf.peers) × (bound.now.script.conf.peers ≤ 32) }
+    requires peers { (0 < bound.now.script.conf.peers) × (bound.now.script.conf.peers ≤ 64) }
     requires lane { (0 < bound.now.script.conf.info.lane) × (bound.now.script.conf.info.lane ≤ 1024) }
     requires pool { (0 < bound.now.script.conf.info.pool) × (bound.now.script.conf.info.pool ≤ 1024) }
     ensures { IfOk result (λ ran. Reports bound.now (string_bytes ran.text) ran.done) }
@@ -108,7 +109,7 @@ fn complete_over<M: Machinery + Drop + Send, G: Gate, R: Threads + Wait + Sync>(
     requires count { length machines.items ≡ bound.now.script.conf.peers }
     requires log { 4 ≤ bound.now.script.conf.info.log }
     requires start { All (λ m. M.held m ≡ start bound.now.script.conf) machines.items }
-    requires peers { (0 < bound.now.script.conf.peers) × (bound.now.script.conf.peers ≤ 32) }
+    requires peers { (0 < bound.now.script.conf.peers) × (bound.now.script.conf.peers ≤ 64) }
     requires lane { (0 < bound.now.script.conf.info.lane) × (bound.now.script.conf.info.lane ≤ 1024) }
     requires pool { (0 < bound.now.script.conf.info.pool) × (bound.now.script.conf.info.pool ≤ 1024) }
     ensures { IfOk result (λ done. ComesToRest bound.now done) }
@@ -127,7 +128,7 @@ fn complete<G: Gate, R: Threads + Wait + Sync>(
 ) -> Result<bool, NoMemory>
     requires cq { 2 ≤ bound.now.script.conf.info.cq }
     requires log { 4 ≤ bound.now.script.conf.info.log }
-    requires peers { (0 < bound.now.script.conf.peers) × (bound.now.script.conf.peers ≤ 32) }
+    requires peers { (0 < bound.now.script.conf.peers) × (bound.now.script.conf.peers ≤ 64) }
     requires lane { (0 < bound.now.script.conf.info.lane) × (bound.now.script.conf.info.lane ≤ 1024) }
     requires pool { (0 < bound.now.script.conf.info.pool) × (bound.now.script.conf.info.pool ≤ 1024) }
     ensures { IfOk result (λ done. ComesToRest bound.now done) }
@@ -202,9 +203,9 @@ fn write_text<S: Sink>(sink: &mut S, ran: &Ran) -> Status
 
 /// Writes what these hints are granted, and says how the command ends.
 fn tell_offer<S: Sink>(alloc: Global, sink: &mut S, hints: Option<Hints>) -> Status
-    ensures done { result ≡ Done → S.bytes sink.new ≡ append_known (S.bytes sink.old) (info_text (grant hints)) }
+    ensures done { result ≡ Done → S.bytes sink.new ≡ append_known (S.bytes sink.old) (info_text (grant Two hints)) }
     ensures write_fault { result ≡ WriteFault → Rose (S.faults sink.old) (S.faults sink.new)
-        × ((n : ℕ) × (n < length (info_text (grant hints))) × (S.bytes sink.new ≡ append_known (S.bytes sink.old) (take n (info_text (grant hints))))) }
+        × ((n : ℕ) × (n < length (info_text (grant Two hints))) × (S.bytes sink.new ≡ append_known (S.bytes sink.old) (take n (info_text (grant Two hints))))) }
     ensures silent { IsSilent result → S.bytes sink.new ≡ S.bytes sink.old }
     ensures ends { TellsOffer result }
 {

@@ -7,6 +7,8 @@
 #[cfg(test)]
 mod faults;
 #[cfg(test)]
+mod fences;
+#[cfg(test)]
 mod full;
 #[cfg(test)]
 mod gates;
