@@ -14,5 +14,6 @@ mod script;
 mod workload;
 
 pub use bench::bench_line;
+pub use generator::next_drawn;
 pub use script::bound;
-pub use workload::{Workload, payload_file, workload_of};
+pub use workload::{Workload, number_within, payload_file, workload_of};
