@@ -38,7 +38,7 @@ upto_get n p lt =
     let there = slice_get-get_or (upto n) p 0 (omega (arith, lt, length-upto n)) in
     there ∙ ap Some (upto_at n p (get_or (upto n) p 0) there)
 
-none_done : {X : Type 0} (xs : List X) (p : ℕ) → get_or (map (λ (x : X). let none : List LineResult = [] in none) xs) p [] ≡ []
+pub none_done : {X : Type 0} (xs : List X) (p : ℕ) → get_or (map (λ (x : X). let none : List LineResult = [] in none) xs) p [] ≡ []
 none_done [] p = refl
 none_done (x ∷ xs) zero = refl
 none_done (x ∷ xs) (suc p) = none_done xs p
@@ -55,7 +55,7 @@ module _ (bound : Bound) where
   abbrev pub Agree : Moment (List LineResult) Line → Type 0
   Agree m = (length m.states ≡ peers) × (length m.left ≡ peers) × ((p : ℕ) → p < peers → slice_get m.left p ≡ Some (drop (done m.states p) (lines_of bound p)))
 
-  agree_start : Agree (unanswered bound)
+  pub agree_start : Agree (unanswered bound)
   agree_start = (
     length-map (upto peers) (λ p. let none : List LineResult = [] in none) ∙ length-upto peers,
     length-map (upto peers) (lines_of bound) ∙ length-upto peers,
@@ -63,7 +63,7 @@ module _ (bound : Bound) where
         ∙ ap (λ n. Some (drop n (lines_of bound p))) (sym (ap length (none_done (upto peers) p))),
   )
 
-  agree_turn : (m x : Moment (List LineResult) Line) (p : ℕ) → Agree m → turn (answering bound) m p ≡ Some x → Agree x
+  pub agree_turn : (m x : Moment (List LineResult) Line) (p : ℕ) → Agree m → turn (answering bound) m p ≡ Some x → Agree x
   agree_turn m x p agree t = subst Agree (sym is.5) (length-set m.states p is.2 ∙ agree.0, length-set m.left p is.1 ∙ agree.1, λ q lt. at q lt (cases_eq p q))
     where
       is : (a : Line) × (rest : List Line) × (s : List LineResult) × (slice_get m.left p ≡ Some (a ∷ rest)) × (answering bound m.states p a ≡ Some s) × (x ≡ moved m p s rest)

@@ -15,5 +15,6 @@ mod workload;
 
 pub use bench::bench_line;
 pub use generator::next_drawn;
-pub use script::bound;
+pub use lines::{receive, send, wait};
+pub use script::{all_numbered, bound, conf_of};
 pub use workload::{Workload, number_within, payload_file, workload_of};

@@ -39,7 +39,7 @@ fn hints_for(peers: u32) -> Hints
 }
 
 /// The settings: what is granted (fi_getinfo(3)) to whoever asks for this number of peers.
-fn conf_of(peers: u32) -> Conf
+pub fn conf_of(peers: u32) -> Conf
     requires least { 1 ≤ peers }
     requires most { peers ≤ 32 }
     ensures { result ≡ conf_of peers }
@@ -138,7 +138,7 @@ fn numbered(alloc: Global, first: u32, ops: Vec<LineOp>) -> Result<List<Line>, N
 }
 
 /// All lines, numbered in order of peers.
-fn all_numbered(alloc: Global, lists: Vec<Vec<LineOp>>) -> Result<List<List<Line>>, NoMemory>
+pub fn all_numbered(alloc: Global, lists: Vec<Vec<LineOp>>) -> Result<List<List<Line>>, NoMemory>
     requires { sum_by (λ ops. length ops.items) lists.items ≤ 1_000_000_000 }
     ensures { IfOk result (λ peers. peers ≡ all_numbered 1 (map (λ ops. ops.items) lists.items)) }
 {
