@@ -308,7 +308,7 @@ fn read_request(
 fn for_atomic() -> Allowed
     ensures { result ≡ for_atomic }
 {
-    Allowed::new(false, false, true, false)
+    Allowed::new(false, false, true, true, false)
 }
 
 /// `atomic C D KEY AT OP NUM VALUES` (fi_atomic of fi_atomic(3)).
@@ -336,7 +336,7 @@ pub(crate) fn atomic(alloc: Global, args: &mut Words) -> Result<Read<LineOp>, No
         num,
         values,
         completion: o.completion,
-        fence: false,
+        fence: o.fence,
     }))
 }
 

@@ -2,10 +2,9 @@
 --     is_inside payloads files op      the bytes that the line names of a file are there
 --     outside script files             why the files don't fit the script: the first line that names bytes which are not there
 --     IsComplete bound                 each line has its bytes
---     IsSound bound                    and the settings are granted
+--     IsSound bound                    and the settings are granted, in the version of the script
 use Rattle.std.specs.Prelude.{◌≡◌, ℕ, min, ◌+◌, Bool, true, not, ◌&&◌, nat_le, List, length, filter, map, Option, Some, None, option_map}
 use Rattle.std.specs.List.{concat, list_all, reduce}
-use Rattle.fab_base.specs.declared.caps.Api.TheVariants.{One}
 use Rattle.fab_base.specs.declared.script.Bound.{Bound}
 use Rattle.fab_base.specs.declared.script.BytesWord.{BytesWord}
 use Rattle.fab_base.specs.declared.script.BytesWord.TheVariants.{File}
@@ -18,6 +17,7 @@ use Rattle.fab_base.specs.declared.status.Why.{Why}
 use Rattle.fab_base.specs.declared.status.Why.TheVariants.{FileRange}
 use Rattle.fab_grammar.specs.Before.{is_distinct}
 use Rattle.fab_grammar.specs.Rules.{has_id}
+use Rattle.fab_grammar.specs.Versions.{version_of}
 use Rattle.fab_model.specs.Negotiation.{grant}
 use Rattle.fab_model.specs.Replay.{payload}
 
@@ -58,9 +58,9 @@ pub record IsComplete (b : Bound) : Type 0 where
   pub distinct : is_distinct (map (λ p. p.id) b.script.payloads) ≡ true
   pub inside : list_all (list_all (λ line. is_inside b.script.payloads b.files line.op)) b.script.peers ≡ true
 
--- the settings are what the provider answers to the wishes (fi_getinfo(3))
+-- the settings are what the provider answers to the wishes in this version (fi_getinfo(3)), the first or the second
 pub record IsSound (b : Bound) : Type 0 where
   pub complete : IsComplete b
-  pub version : b.script.version ≡ 1
-  pub granted : grant One b.script.conf.hints ≡ Some b.script.conf.info
+  pub version : b.script.version ≡ version_of b.script.conf.info.api
+  pub granted : grant b.script.conf.info.api b.script.conf.hints ≡ Some b.script.conf.info
   pub peers : b.script.conf.peers ≡ b.script.conf.info.peers

@@ -75,6 +75,10 @@ abbrev pub completion_words : Bool → List Word
 completion_words false = []
 completion_words true = codes "completion" ∷ []
 
+abbrev pub fence_words : Bool → List Word
+fence_words false = []
+fence_words true = codes "fence" ∷ []
+
 abbrev pub min_words : Option ℕ → List Word
 min_words None = []
 min_words (Some n) = (codes "min=" ++ decimal n) ∷ []
@@ -126,7 +130,7 @@ own_args _ = []
 -- of atomics; only a `fetch` keeps how many elements are read
 abbrev pub atomic_args : LineOp → List Word
 atomic_args (op.Atomic ctx dest key at atom num values completion fence) =
-    decimal ctx ∷ decimal dest ∷ decimal key ∷ decimal at ∷ atom_name atom ∷ num_name num ∷ operand_word atom num values 0 ∷ completion_words completion
+    decimal ctx ∷ decimal dest ∷ decimal key ∷ decimal at ∷ atom_name atom ∷ num_name num ∷ operand_word atom num values 0 ∷ completion_words completion ++ fence_words fence
 atomic_args (op.Fetch ctx dest key at atom num values count) =
     decimal ctx ∷ decimal dest ∷ decimal key ∷ decimal at ∷ atom_name atom ∷ num_name num ∷ operand_word atom num values count ∷ []
 atomic_args (op.Compare ctx dest key at atom num values compares) =
@@ -137,7 +141,7 @@ atomic_args op = own_args op
 abbrev pub remote_args : LineOp → List Word
 remote_args (op.Read ctx dest key at len) = decimal ctx ∷ decimal dest ∷ decimal key ∷ decimal at ∷ decimal len ∷ []
 remote_args (op.Write ctx dest key at bytes imm completion fence) =
-    decimal ctx ∷ decimal dest ∷ decimal key ∷ decimal at ∷ bytes_word bytes ∷ imm_words imm ++ completion_words completion
+    decimal ctx ∷ decimal dest ∷ decimal key ∷ decimal at ∷ bytes_word bytes ∷ imm_words imm ++ completion_words completion ++ fence_words fence
 remote_args (op.WInject dest key at bytes imm) = decimal dest ∷ decimal key ∷ decimal at ∷ bytes_word bytes ∷ imm_words imm
 remote_args op = atomic_args op
 
@@ -160,15 +164,15 @@ receive_args (op.MRecv ctx source len min) = decimal ctx ∷ source_word source 
 receive_args op = look_args op
 
 -- the words of a send after those that say where it goes
-abbrev pub message_words : BytesWord → Option ℕ → Level → Bool → List Word
-message_words bytes imm level completion = bytes_word bytes ∷ imm_words imm ++ level_words level ++ completion_words completion
+abbrev pub message_words : BytesWord → Option ℕ → Level → Bool → Bool → List Word
+message_words bytes imm level completion fence = bytes_word bytes ∷ imm_words imm ++ level_words level ++ completion_words completion ++ fence_words fence
 
 -- of sends, and of all other lines
 unfoldable pub args_for : LineOp → List Word
 args_for (op.Send ctx dest bytes imm level completion fence) =
-    decimal ctx ∷ decimal dest ∷ message_words bytes imm level completion
+    decimal ctx ∷ decimal dest ∷ message_words bytes imm level completion fence
 args_for (op.TSend ctx dest tag bytes imm level completion fence) =
-    decimal ctx ∷ decimal dest ∷ decimal tag ∷ message_words bytes imm level completion
+    decimal ctx ∷ decimal dest ∷ decimal tag ∷ message_words bytes imm level completion fence
 args_for (op.Inject dest bytes imm) = decimal dest ∷ bytes_word bytes ∷ imm_words imm
 args_for (op.TInject dest tag bytes imm) = decimal dest ∷ decimal tag ∷ bytes_word bytes ∷ imm_words imm
 args_for op = receive_args op
