@@ -9,11 +9,11 @@ use Rattle.fab_base.specs.declared.operations.Held.{Held as Waiting}
 use Rattle.fab_base.specs.declared.peers.LineResult.TheVariants.{Done}
 use Rattle.fab_wire.specs.Joined.{is_last}
 use Rattle.fab_model.specs.State.{State, Transmitting, accepted_for, held_for, lookup}
-use Rattle.fab_model.specs.Sending.{Order, operation_of, is_busy, let_out, transmit_fault, transmit, transmit_to}
+use Rattle.fab_model.specs.Sending.{AreFenced, Order, operation_of, is_busy, let_out, transmit_fault, transmit, transmit_to}
 use Rattle.fab_model.specs.Calls.{Transmit, answer, do_call}
 use Rattle.fab_model.proofs.Fences.{waits_has}
 use Rattle.fab_model.proofs.Letting.{going_out, accepts_held, accepts_at_once}
-use Rattle.fab_face.specs.Held.{Held, AreFenced, Lanes, Seen, next_item, next_frame}
+use Rattle.fab_face.specs.Held.{Held, Lanes, Seen, next_item, next_frame}
 use Rattle.fab_face.specs.Acts.{Act, Did, Took, Posted, Drew, Had, Departs, DoesCall, GoesBy, Ported, Went, is_post}
 use Rattle.fab_face.specs.Answers.{AllAre, SawFull, Sends}
 use Rattle.fab_face.proofs.Joining.{went_then}

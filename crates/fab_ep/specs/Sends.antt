@@ -5,9 +5,9 @@ use Rattle.std.specs.List.{list_any}
 use Rattle.fab_base.specs.declared.frames.Frame.{Frame}
 use Rattle.fab_wire.specs.Joined.{is_last}
 use Rattle.fab_model.specs.State.{accepted_for, fits, held_for, in_use, lookup}
-use Rattle.fab_model.specs.Sending.{do_sent}
+use Rattle.fab_model.specs.Sending.{AreFenced, do_sent}
 use Rattle.fab_model.specs.Calls.{Call, do_call}
-use Rattle.fab_face.specs.Held.{Held, Seen, AreFenced, next_item, next_frame}
+use Rattle.fab_face.specs.Held.{Held, Seen, next_item, next_frame}
 use Rattle.fab_face.specs.declared.events.Event.{Event}
 use Rattle.fab_face.specs.Acts.{Act, Posted, Went, is_post, posted_to}
 use Rattle.fab_ep.specs.Tries.{Calm}

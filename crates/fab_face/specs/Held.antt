@@ -4,7 +4,7 @@
 --     Seen      an endpoint: what is held, the log, and the port
 --     next_frame h d      the frame that goes to peer d next
 --     IsOpen e  what holds of an endpoint between its calls
-use Rattle.std.specs.Prelude.{◌≡◌, ℕ, ◌+◌, ◌-◌, ◌<◌, ◌≤◌, ◌⊎◌, min, Bool, List, [], length, zero, suc, Option, Some, None, slice_get, slice_index, slice_index_or}
+use Rattle.std.specs.Prelude.{◌≡◌, ℕ, ◌+◌, ◌-◌, ◌<◌, ◌≤◌, ◌⊎◌, min, Bool, List, length, zero, suc, Option, Some, None, slice_get, slice_index, slice_index_or}
 use Rattle.std.specs.Option.{option_map}
 use Rattle.fab_base.specs.declared.items.Item.{Item}
 use Rattle.fab_base.specs.declared.frames.FrameHead.{FrameHead}
@@ -13,8 +13,8 @@ use Rattle.fab_wire.specs.declared.moves.Move.{Move}
 use Rattle.fab_wire.specs.Cut.{frame_of, IsBetweenItems, IsItem}
 use Rattle.fab_wire.specs.Frames.{IsSound}
 use Rattle.fab_link.specs.Meaning.{Outgoing, Incoming, end_of, taken_end}
-use Rattle.fab_model.specs.State.{State, Transmitting, accepted_for, held_for}
-use Rattle.fab_model.specs.Sending.{is_busy, let_out}
+use Rattle.fab_model.specs.State.{State, accepted_for}
+use Rattle.fab_model.specs.Sending.{AreFenced}
 use Rattle.fab_face.specs.declared.events.Event.{Event}
 
 -- ---- what is held
@@ -87,11 +87,6 @@ IsOut h = (d : ℕ) → IsOutAt h d
 -- all items accepted for any peer make sense, and have as many bytes as their heads name
 abbrev pub AreItems : Held → Type 0
 AreItems h = (d i : ℕ) (item : Item) → slice_get (accepted_for h.state.tx d) i ≡ Some item → IsItem item × IsSound item.head
-
--- What a fence holds back for a peer has to wait: the first of it has a fence, and some operation for the peer has not ended. So nothing
--- is held for a peer with nothing under way.
-abbrev pub AreFenced : Transmitting → Type 0
-AreFenced tx = (t : ℕ) → let_out (is_busy tx t) (held_for tx t) ≡ []
 
 -- what was posted to a peer ends where its next item goes on
 abbrev pub IsPlaced : Option FrameHead → ℕ → Option Item → Type 0

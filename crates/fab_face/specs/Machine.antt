@@ -10,11 +10,11 @@ use Rattle.fab_base.specs.declared.items.Kind.TheVariants.{Msg, TagMsg}
 use Rattle.fab_base.specs.declared.items.Item.{Item}
 use Rattle.fab_base.specs.declared.frames.Frame.{Frame}
 use Rattle.fab_model.specs.State.{State, lookup}
-use Rattle.fab_model.specs.Sending.{do_sent}
+use Rattle.fab_model.specs.Sending.{AreFenced, do_sent}
 use Rattle.fab_model.specs.Calls.{Call, Cancel, CancelFirst, message}
 use Rattle.fab_face.specs.declared.machine.Message.{Message}
 use Rattle.fab_face.specs.declared.machine.Ask.{Ask}
-use Rattle.fab_face.specs.Held.{Held, begun_of, next_item, AreFenced, AreItems, IsOut, count_begun}
+use Rattle.fab_face.specs.Held.{Held, begun_of, next_item, AreItems, IsOut, count_begun}
 use Rattle.fab_face.specs.Acts.{is_first}
 use Rattle.fab_face.specs.Answers.{receive_call}
 

@@ -3,7 +3,7 @@
 --     transmit_fault s o, transmit s o      why the call is refused; the state after it is Ok
 --     do_sent s t      the oldest item for t that is not transmitted is transmitted
 --     do_answer s source head bytes      a reply is whole
-use Rattle.std.specs.Prelude.{ℕ, ◌+◌, ◌%◌, Bool, true, false, not, ◌&&◌, ◌||◌, ◌==◌, nat_lt, nat_le, List, [], ◌∷◌, ◌++◌, length, Option, Some, None, slice_set, slice_index, is_none, find, map, unwrap_or, cond}
+use Rattle.std.specs.Prelude.{◌≡◌, ℕ, ◌+◌, ◌%◌, Bool, true, false, not, ◌&&◌, ◌||◌, ◌==◌, nat_lt, nat_le, List, [], ◌∷◌, ◌++◌, length, Option, Some, None, slice_set, slice_index, is_none, find, map, unwrap_or, cond}
 use Rattle.std.specs.List.{list_any}
 use Rattle.fab_base.specs.declared.items.Kind.{Kind}
 use Rattle.fab_base.specs.declared.items.Kind.TheVariants.{Msg, TagMsg, WriteReq, ReadReq, AtomicReq, Reply}
@@ -166,6 +166,11 @@ operation_at t place o = record { call = o.call; dest = t; place = place; head =
 abbrev pub operations_from : ℕ → ℕ → List Held → List Operation
 operations_from t place [] = []
 operations_from t place (o ∷ out) = operation_at t place o ∷ operations_from t (place + 1) out
+
+-- What a fence holds back for a peer has to wait: the first of it has a fence, and some operation for the peer has not ended. So nothing
+-- is held for a peer with nothing under way.
+abbrev pub AreFenced : Transmitting → Type 0
+AreFenced tx = (t : ℕ) → let_out (is_busy tx t) (held_for tx t) ≡ []
 
 abbrev pub items_of : List Held → List Item
 items_of held = map (λ (o : Held). o.item) held

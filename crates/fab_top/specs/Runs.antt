@@ -14,12 +14,13 @@ use Rattle.std.specs.Io.KnownBytes.{append_known}
 use Rattle.std.specs.List.{list_all}
 use Rattle.fab_base.specs.Counts.{Rose}
 use Rattle.fab_base.specs.declared.caps.Api.TheVariants.{Two}
-use Rattle.fab_base.specs.declared.caps.Hints.{Hints}
+use Rattle.fab_base.specs.declared.caps.Caps.{Caps}
 use Rattle.fab_base.specs.declared.peers.Step.{Step}
 use Rattle.fab_base.specs.declared.script.Bound.{Bound}
 use Rattle.fab_base.specs.declared.status.Status.{Status}
 use Rattle.fab_base.specs.declared.status.Status.TheVariants.{Done, Stuck, ScriptRefused, TooLong, ReadFault, WriteFault, NoMemory}
 use Rattle.fab_base.specs.declared.status.Why.{Why}
+use Rattle.fab_grammar.specs.Settings.{asking}
 use Rattle.fab_model.specs.Negotiation.{grant}
 use Rattle.fab_model.specs.Peers.{Actor}
 use Rattle.fab_model.specs.Replay.{Lawful, replayed, at_rest, all_done, is_empty}
@@ -27,9 +28,9 @@ use Rattle.fab_model.specs.Report.{report, traces}
 use Rattle.fab_replay.specs.declared.verdicts.Verdict.TheVariants as answer
 use Rattle.fab_replay.specs.Verdict.{verdict}
 use Rattle.fab_top.specs.Checking.{IsChecked, LeadsOn}
-use Rattle.fab_outside.specs.Commands.{script_file, info_hints, replay_files}
+use Rattle.fab_outside.specs.Commands.{script_file, info_caps, replay_files}
 use Rattle.fab_top.specs.Commands.{IsNoCommand}
-use Rattle.fab_outside.specs.Info.{info_text}
+use Rattle.fab_outside.specs.Info.{info_text, offer}
 use Rattle.fab_outside.specs.Loading.{Files, IsOver, IsRead, IsWrong, LeadsTo}
 use Rattle.fab_workloads.specs.declared.workload.Workload.{Workload}
 use Rattle.fab_workloads.specs.Bench.{bench_line}
@@ -97,19 +98,21 @@ pub record WritesPart (files : Files) (words : List (List ℕ)) (before after : 
   pub fewer : some < length text
   pub written : after ≡ append_known before (take some text)
 
--- the words ask what is granted, and the answer is written
+-- the words ask what is granted to whoever asks for these capabilities, and the answer is written
 pub record Tells (words : List (List ℕ)) (before after : Option (List ℕ)) : Type 0 where
-  pub hints : Option Hints
-  pub command : info_hints words ≡ Some hints
-  pub written : after ≡ append_known before (info_text (grant Two hints))
+  pub caps : Caps
+  pub command : info_caps words ≡ Some caps
+  pub granted : grant Two (Some (asking caps)) ≡ Some (offer caps)
+  pub written : after ≡ append_known before (info_text caps)
 
 -- the same, of which only the first bytes are written
 pub record TellsPart (words : List (List ℕ)) (before after : Option (List ℕ)) : Type 0 where
-  pub hints : Option Hints
-  pub command : info_hints words ≡ Some hints
+  pub caps : Caps
+  pub command : info_caps words ≡ Some caps
+  pub granted : grant Two (Some (asking caps)) ≡ Some (offer caps)
   pub some : ℕ
-  pub fewer : some < length (info_text (grant Two hints))
-  pub written : after ≡ append_known before (take some (info_text (grant Two hints)))
+  pub fewer : some < length (info_text caps)
+  pub written : after ≡ append_known before (take some (info_text caps))
 
 -- the words name a workload, and its line is written, with the first and the last moment of a clock that has given exactly two
 pub record Benches (words : List (List ℕ)) (given first last : ℕ) (before after : Option (List ℕ)) : Type 0 where

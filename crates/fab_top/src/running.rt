@@ -9,9 +9,10 @@ ghost use Rattle.fab_base.specs.declared.status.Why.{Why};
 ghost use Rattle.fab_model.specs.Calls.{upto};
 ghost use Rattle.fab_model.specs.Replay.{lines_of};
 ghost use Rattle.fab_base.specs.Counts.{Rose};
+ghost use Rattle.fab_grammar.specs.Settings.{asking};
 ghost use Rattle.fab_model.specs.Negotiation.{grant};
 ghost use Rattle.fab_top.specs.Commands.{IsNoCommand};
-ghost use Rattle.fab_outside.specs.Info.{info_text};
+ghost use Rattle.fab_outside.specs.Info.{info_text, offer};
 ghost use Rattle.fab_outside.specs.Loading.{IsOver, IsUnloaded};
 ghost use Rattle.fab_top.specs.Runs.{Reports, ComesToRest, AskFor, IsRefused, Writes, WritesPart, Tells, TellsPart, TellsOffer, Benches, BenchesPart, EndsBench, Checks, ChecksPart, IsUnhindered, IsAnswered, IsSilent, WritesReport};
 ghost use Rattle.fab_workloads.specs.Bench.{bench_line};
@@ -20,8 +21,8 @@ ghost use Rattle.fab_workloads.specs.Script.{bound_of};
 
 use crate::checking::carry_out_check;
 use crate::whole::{all_done, report};
-use fab_base::{Bound, Buf, Gate, Hints, Line, NoMemory, Status, Text};
-use fab_outside::commands::{info_hints, replay_files, script_file};
+use fab_base::{Bound, Buf, Caps, Gate, Line, NoMemory, Status, Text};
+use fab_outside::commands::{info_caps, replay_files, script_file};
 use fab_outside::info::info_text;
 use fab_outside::loading::{load_file, load_script};
 use fab_outside::{Clock, Depot, Failed, Sink, write_all};
@@ -201,15 +202,16 @@ fn write_text<S: Sink>(sink: &mut S, ran: &Ran) -> Status
     }
 }
 
-/// Writes what these hints are granted, and says how the command ends.
-fn tell_offer<S: Sink>(alloc: Global, sink: &mut S, hints: Option<Hints>) -> Status
-    ensures done { result ≡ Done → S.bytes sink.new ≡ append_known (S.bytes sink.old) (info_text (grant Two hints)) }
+/// Writes what is granted to whoever asks for these capabilities, and says how the command ends.
+fn tell_offer<S: Sink>(alloc: Global, sink: &mut S, caps: Caps) -> Status
+    ensures granted { grant Two (Some (asking caps)) ≡ Some (offer caps) }
+    ensures done { result ≡ Done → S.bytes sink.new ≡ append_known (S.bytes sink.old) (info_text caps) }
     ensures write_fault { result ≡ WriteFault → Rose (S.faults sink.old) (S.faults sink.new)
-        × ((n : ℕ) × (n < length (info_text (grant Two hints))) × (S.bytes sink.new ≡ append_known (S.bytes sink.old) (take n (info_text (grant Two hints))))) }
+        × ((n : ℕ) × (n < length (info_text caps)) × (S.bytes sink.new ≡ append_known (S.bytes sink.old) (take n (info_text caps)))) }
     ensures silent { IsSilent result → S.bytes sink.new ≡ S.bytes sink.old }
     ensures ends { TellsOffer result }
 {
-    match info_text(alloc, hints.as_ref()) {
+    match info_text(alloc, caps) {
         Ok(text) => write_text(sink, &Ran { text, done: true }),
         Err(NoMemory) => Status::NoMemory,
     }
@@ -265,8 +267,8 @@ where
 
 /// Carries out the command that these words are. `script FILE` loads the file and the payload files of the script
 /// that it spells, in the order of their lines, runs the script's peers, and writes their report. `info CAPS` writes
-/// what is granted (fi_getinfo(3)) to whoever asks for these capabilities, whose names are joined by commas, or has no
-/// hints where CAPS is `-`.
+/// what the second version of the interface grants (fi_getinfo(3)) to whoever asks for these capabilities, whose names are
+/// joined by commas, or for none where CAPS is `-`.
 ///
 /// `pingpong FILE SIZE COUNT`, `bandwidth FILE SIZE COUNT WINDOW` and `gen NUMBER PEERS MESSAGES` run the script of a
 /// workload in the same way, and write one line ([`bench_line`]). The messages of the first two have the file's first
@@ -291,7 +293,7 @@ where
 /// peers are at rest: nothing is on its way, no completion is unread, and no line can be done. At `Done`
 /// all lines are done, and no receive is posted any more; at `Stuck` some line is not done. At
 /// `WriteFault` the first bytes of such a report are written, and at every other status none. `info` ends at
-/// `Done`, also where nothing is granted, at `WriteFault` or at `NoMemory`. The files stay as they are.
+/// `Done`, at `WriteFault` or at `NoMemory`. The files stay as they are.
 ///
 /// `ScriptRefused` names the first line that breaks a rule of the language, and the first rule that it breaks; with
 /// `FileRange`, which is looked at last, the first line that names bytes which its payload file has not. `TooLong` and
@@ -331,8 +333,8 @@ where
     ensures complete { IsUnhindered (D.files depot.old) words.now (D.faults depot.old) (D.faults depot.new) (S.faults sink.old) (S.faults sink.new)
         → IsAnswered result }
 {
-    if let Some(hints) = info_hints(words) {
-        return tell_offer(alloc, sink, hints);
+    if let Some(caps) = info_caps(words) {
+        return tell_offer(alloc, sink, caps);
     }
     if let Some(workload) = workload_of(words) {
         return carry_out_workload(rt, alloc, words, workload, depot, sink, clock, gate);

@@ -1,5 +1,5 @@
 //! Runs with fences (FI_FENCE of fi_msg(3)), and of the second version of scripts: what is reported of them.
-use crate::runs::{Row, end_of, depot_of, run_to, sink_of, texts_of};
+use crate::runs::{Row, depot_of, end_of, run_to, sink_of, texts_of};
 use fab_base::{Buf, Status, Why};
 use std::alloc::Global;
 use std::process::Abort;
@@ -143,7 +143,10 @@ const GREATEST: &str = "fabric 2\n\
 type Said = (&'static str, &'static [&'static str]);
 
 const SAID: [Said; 2] = [
-    (CROSSED, &["\n7 wait 2 FI_WRITE\n", "\n12 wait 2 FI_WRITE\n"]),
+    (
+        CROSSED,
+        &["\n7 wait 2 FI_WRITE\n", "\n12 wait 2 FI_WRITE\n"],
+    ),
     (
         GREATEST,
         &[
@@ -189,7 +192,11 @@ fn versions_have_limits_of_their_own(rt: HostRuntime) -> Result<(), Fail> {
         ("fabric 1\npeers 33\n", 2, Why::Limit),
         ("fabric 3\n", 1, Why::Header),
         ("fabric 1\npeers 1\ncaps FI_RMA_EVENT\n", 3, Why::NoData),
-        ("fabric 1\npeers 1\npeer 0\nwrite 1 0 0 0 text:a fence fence\n", 4, Why::Words),
+        (
+            "fabric 1\npeers 1\npeer 0\nwrite 1 0 0 0 text:a fence fence\n",
+            4,
+            Why::Words,
+        ),
     ];
     for (script, line, why) in rows {
         let bytes = Buf::copy(rt.alloc(), script.as_bytes())?;

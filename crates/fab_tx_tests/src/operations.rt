@@ -63,7 +63,18 @@ fn injects(outbox: &mut Outbox) -> bool {
         return false;
     }
     let head = head_of(Kind::Msg, outbox.ops(), Ack::Nothing, 0, 2);
-    outbox.accept_copied::<(), NoCall>(&(), 0, head, Level::Inject, None, &[4, 5], &[], None, true, false);
+    outbox.accept_copied::<(), NoCall>(
+        &(),
+        0,
+        head,
+        Level::Inject,
+        None,
+        &[4, 5],
+        &[],
+        None,
+        true,
+        false,
+    );
     true
 }
 
@@ -332,16 +343,7 @@ fn sends_fenced(alloc: Global, outbox: &mut Outbox, ctx: u64) -> bool {
         return false;
     };
     let head = head_of(Kind::Msg, outbox.ops(), Ack::Nothing, 0, 3);
-    outbox.accept_owned::<(), NoCall>(
-        &(),
-        0,
-        head,
-        Level::Transmit,
-        Some(ctx),
-        buf,
-        false,
-        true,
-    );
+    outbox.accept_owned::<(), NoCall>(&(), 0, head, Level::Transmit, Some(ctx), buf, false, true);
     true
 }
 
@@ -358,6 +360,7 @@ fn holds_two(alloc: Global, outbox: &mut Outbox) -> bool {
         && injects(outbox)
         && idles(outbox)
         && counts(outbox, 3, 1)
+        && outbox.deferred() == 2
         && outbox.is_full()
 }
 
@@ -373,6 +376,7 @@ fn lets_two_out(alloc: Global, outbox: &mut Outbox) -> bool {
         && goes_next(outbox, &[4, 5])
         && is_silent(send_next(outbox))
         && counts(outbox, 0, 0)
+        && outbox.deferred() == 0
 }
 
 fn goes_out_behind_a_fence(alloc: Global) -> bool {
