@@ -7,6 +7,7 @@
 --     Tells, TellsPart        what is granted is written, or a part of it
 --     Benches, BenchesPart    the line of a workload is written, or a part of it
 --     Checks, ChecksPart      what is to be said of a report is written, or a part of it
+--     Sums, SumsPart          what the words of a window hold is written, or a part of it
 --     ComesToRest bound done  some lawful schedule leads the peers to rest
 --     IsUnhindered ..         nothing stands in the way of the command
 use Rattle.std.specs.Prelude.{◌≡◌, ℕ, ◌<◌, ◌⊎◌, Bool, true, List, length, take, Option, Some}
@@ -32,6 +33,8 @@ use Rattle.fab_outside.specs.Commands.{script_file, info_caps, replay_files}
 use Rattle.fab_top.specs.Commands.{IsNoCommand}
 use Rattle.fab_outside.specs.Info.{info_text, offer}
 use Rattle.fab_outside.specs.Loading.{Files, IsOver, IsRead, IsWrong, LeadsTo}
+use Rattle.fab_window_run.specs.declared.asked.Asked.{Asked}
+use Rattle.fab_window_run.specs.Commands.{asked_text, window_of}
 use Rattle.fab_workloads.specs.declared.workload.Workload.{Workload}
 use Rattle.fab_workloads.specs.Bench.{bench_line}
 use Rattle.fab_workloads.specs.Commands.{payload_file, workload_of}
@@ -150,6 +153,20 @@ pub record ChecksPart (files : Files) (words : List (List ℕ)) (before after : 
   pub fewer : some < length line
   pub written : after ≡ append_known before (take some line)
 
+-- the words ask peers to add to a window, and what its words hold at last is written: a function of what was asked
+pub record Sums (words : List (List ℕ)) (before after : Option (List ℕ)) : Type 0 where
+  pub asked : Asked
+  pub command : window_of words ≡ Some asked
+  pub written : after ≡ append_known before (asked_text asked)
+
+-- the same, of which only the first bytes are written
+pub record SumsPart (words : List (List ℕ)) (before after : Option (List ℕ)) : Type 0 where
+  pub asked : Asked
+  pub command : window_of words ≡ Some asked
+  pub some : ℕ
+  pub fewer : some < length (asked_text asked)
+  pub written : after ≡ append_known before (take some (asked_text asked))
+
 -- the statuses at which a report is written, or a part of one
 abbrev pub WritesReport : Status → Type 0
 WritesReport Done = Unit {0}
@@ -163,12 +180,12 @@ WritesLine Done = Unit {0}
 WritesLine WriteFault = Unit {0}
 WritesLine status = ⊥
 
--- the statuses at which what is granted is written, or a part of it, or memory is wanting
-abbrev pub TellsOffer : Status → Type 0
-TellsOffer Done = Unit {0}
-TellsOffer WriteFault = Unit {0}
-TellsOffer NoMemory = Unit {0}
-TellsOffer status = ⊥
+-- the statuses of a command that asks for no file: its text is written, or a part of it, or memory is wanting
+abbrev pub EndsText : Status → Type 0
+EndsText Done = Unit {0}
+EndsText WriteFault = Unit {0}
+EndsText NoMemory = Unit {0}
+EndsText status = ⊥
 
 -- the statuses of a workload's command
 abbrev pub EndsBench : Status → Type 0

@@ -139,22 +139,12 @@ const GREATEST: &str = "fabric 2\n\
     tsend 3 0 3 zero:4\n\
     send 4 0 zero:268435457\n";
 
-/// A script, and lines that its report has in every order of turns.
-type Said = (&'static str, &'static [&'static str]);
+const CROSSED_LINES: &[&str] = &["\n7 wait 2 FI_WRITE\n", "\n12 wait 2 FI_WRITE\n"];
 
-const SAID: [Said; 2] = [
-    (
-        CROSSED,
-        &["\n7 wait 2 FI_WRITE\n", "\n12 wait 2 FI_WRITE\n"],
-    ),
-    (
-        GREATEST,
-        &[
-            "fabric 2 peers 2\n",
-            "\n5 wait 1 error FI_ETRUNC from 1 tag 3 len 4 olen 268435452 bytes 00000000\n",
-            "\n7 tsend ok\n8 tsend ok\n9 send refused FI_EMSGSIZE\n",
-        ],
-    ),
+const GREATEST_LINES: &[&str] = &[
+    "fabric 2 peers 2\n",
+    "\n5 wait 1 error FI_ETRUNC from 1 tag 3 len 4 olen 268435452 bytes 00000000\n",
+    "\n7 tsend ok\n8 tsend ok\n9 send refused FI_EMSGSIZE\n",
 ];
 
 /// Whether the text has these bytes.
@@ -167,20 +157,33 @@ fn has(text: &[u8], part: &[u8]) -> bool {
     false
 }
 
-#[test]
-fn replies_pass_fences_and_messages_may_be_longer(rt: HostRuntime) -> Result<(), Fail> {
-    for (script, lines) in SAID {
-        let words = texts_of(rt.alloc(), &["script", "it"])?;
-        let bytes = Buf::copy(rt.alloc(), script.as_bytes())?;
-        let mut depot = depot_of(rt.alloc(), bytes, &[])?;
-        let mut sink = sink_of(rt.alloc());
-        let end = end_of(&rt, rt.alloc(), &words, &mut depot, &mut sink);
-        assert!(rt; end == Status::Done);
-        for line in lines {
-            assert!(rt; has(sink.bytes.as_slice(), line.as_bytes()));
-        }
+/// All lines of the script are done, and its report has these lines in every order of turns.
+fn has_lines<R: Abort + Threads + Wait + Sync>(
+    rt: &R,
+    alloc: Global,
+    script: &str,
+    lines: &[&str],
+) -> Result<(), Fail> {
+    let words = texts_of(alloc, &["script", "it"])?;
+    let bytes = Buf::copy(alloc, script.as_bytes())?;
+    let mut depot = depot_of(alloc, bytes, &[])?;
+    let mut sink = sink_of(alloc);
+    let end = end_of(rt, alloc, &words, &mut depot, &mut sink);
+    assert!(rt; end == Status::Done);
+    for line in lines {
+        assert!(rt; has(sink.bytes.as_slice(), line.as_bytes()));
     }
     Ok(())
+}
+
+#[test]
+fn replies_pass_fences(rt: HostRuntime) -> Result<(), Fail> {
+    has_lines(&rt, rt.alloc(), CROSSED, CROSSED_LINES)
+}
+
+#[test]
+fn messages_of_the_second_version_may_be_longer(rt: HostRuntime) -> Result<(), Fail> {
+    has_lines(&rt, rt.alloc(), GREATEST, GREATEST_LINES)
 }
 
 /// The limits are those of the version, and another version is none.
