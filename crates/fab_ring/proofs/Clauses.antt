@@ -105,7 +105,7 @@ module _ (p p' : Part) (d room pool : ℕ) (head : FrameHead) (bytes : List ℕ)
         lane_full = λ e. absurd (not_ok e);
         pool_full = λ e. absurd (not_ok e);
         no_memory = λ e. absurd (not_ok e);
-        noticed = subst (λ (z : Out). Noticed (outgoing o) (outgoing z)) (sym here) record { after = refl; lane_full = le_refl o.full_seen; pool_full = seen.0; full_at = seen.1 };
+        noticed = subst (λ (z : Out). Noticed (outgoing o) (outgoing z)) (sym here) record { after = refl; owed = refl; lane_full = le_refl o.full_seen; pool_full = seen.0; full_at = seen.1 };
         moves = (n, ap (λ (z : List Move). Some z) (moves_out p p' d o' ms near s.7));
         unmoved = tt;
         others = others_out p p' d o' ms near s.7;
@@ -123,7 +123,7 @@ module _ (p p' : Part) (d room pool : ℕ) (head : FrameHead) (bytes : List ℕ)
     lane_full = λ _. (inl (subst (λ (z : Out). o.full_seen < z.full_seen) (sym here) (omega arith)), ap (λ (z : Out). z.full_at) here ∙ frames_length o.posted);
     pool_full = λ e. absurd (cc);
     no_memory = λ e. absurd (cc);
-    noticed = subst (λ (z : Out). Noticed (outgoing o) (outgoing z)) (sym here) record { after = refl; lane_full = omega arith; pool_full = le_refl (least o.tried); full_at = inr (inl (inl (omega arith)), frames_length o.posted) };
+    noticed = subst (λ (z : Out). Noticed (outgoing o) (outgoing z)) (sym here) record { after = refl; owed = refl; lane_full = omega arith; pool_full = le_refl (least o.tried); full_at = inr (inl (inl (omega arith)), frames_length o.posted) };
     moves = tt;
     unmoved = ap (λ (z : List Move). Some z) (moves_out p p' d o' p.moves near s.2);
     others = others_out p p' d o' p.moves near s.2;
@@ -143,7 +143,7 @@ module _ (p p' : Part) (d room pool : ℕ) (head : FrameHead) (bytes : List ℕ)
         lane_full = λ e. absurd (cc);
         pool_full = λ _. (inl (subst (λ (z : Out). least o.tried < least z.tried) (sym here) rose), ap (λ (z : Out). z.full_at) here ∙ ⊎_elim (λ t. absurd (let e = t.0 in omega arith)) (λ t. t.1) s.6.1 ∙ frames_length o.posted);
         no_memory = λ e. absurd (cc);
-        noticed = subst (λ (z : Out). Noticed (outgoing o) (outgoing z)) (sym here) record { after = refl; lane_full = le_refl o.full_seen; pool_full = seen.0; full_at = seen.1 };
+        noticed = subst (λ (z : Out). Noticed (outgoing o) (outgoing z)) (sym here) record { after = refl; owed = refl; lane_full = le_refl o.full_seen; pool_full = seen.0; full_at = seen.1 };
         moves = tt;
         unmoved = ap (λ (z : List Move). Some z) (moves_out p p' d o' p.moves near s.7);
         others = others_out p p' d o' p.moves near s.7;

@@ -4,7 +4,7 @@ ghost use Rattle.fab_table.specs.declared.fabric.Fabric.{Fabric};
 ghost use Rattle.fab_base.specs.Counts.{Rose};
 ghost use Rattle.fab_wire.specs.declared.moves.Move.TheVariants.{Post};
 ghost use Rattle.fab_wire.specs.Frames.{frame, Continues};
-ghost use Rattle.fab_link.specs.Meaning.{Others, end_of, Noticed, GrewBy};
+ghost use Rattle.fab_link.specs.Meaning.{Others, end_of, Noticed, Repays, GrewBy};
 ghost use Rattle.fab_table.specs.Plays.{most};
 ghost use Rattle.fab_ring.specs.Ports.{number_of, peers_of, room_of, pool_of, out_of, in_of, moves_of, table_of, got_seen, tries, clock_of, one_more};
 
@@ -47,6 +47,7 @@ impl Port for RingPort {
         requires below { dest < peers_of self.old }
         requires continues { Continues (end_of (out_of self.old dest)) head }
         requires filled { length bytes.now ≡ head.len }
+        requires repays { Repays (out_of self.old dest) (in_of self.old dest) head }
         ensures ok { OnOk result ((out_of self.new dest).frames ≡ (out_of self.old dest).frames ++ frame head bytes.now ∷ []) }
         ensures err { OnErr result ((out_of self.new dest).frames ≡ (out_of self.old dest).frames) }
         ensures lane_full { IsErrOf result PostRefused.LaneFull
