@@ -21,6 +21,9 @@ use Rattle.fab_ring.proofs.Lasts.{ends_out, ends_post}
 use Rattle.fab_ring.proofs.Rounds.{put_cell, rounds_put, cell_small}
 use Rattle.fab_ring.proofs.Seeing.{sees_out, seen_at}
 use Rattle.std.proofs.Math.Nat.{mod-lt}
+use Rattle.fab_ring.specs.declared.port.RingPort.{RingPort}
+use Rattle.fab_ring.specs.Ports.{part_of}
+use Rattle.fab_ring.proofs.port.RingPort.send.Goals.{then-put-got-via-then-put-got, then-put-got-via-else-put-got+then-self-ge-MOST}
 use Rattle.fab_ring.proofs.port.RingPort.send.Goals as goal
 
 pub invariant_of-self : goal.invariant_of-self
