@@ -2,7 +2,10 @@
 use Rattle.std.proofs.Common.{◌≡◌, ◌⊎◌, inl, inr, ℕ, ◌+◌, ◌-◌, ◌<◌, ◌≤◌, length, Option, Some, None, refl, sym, ap, ◌∙◌, arith}
 use Rattle.std.specs.Prelude.{IsSomeAnd, slice_index}
 use Rattle.fab_base.specs.declared.items.Item.{Item}
-use Rattle.fab_rx.specs.Arriving.{IsArriving, begun_of, count_begun as count_in}
+use Rattle.fab_base.specs.declared.operations.Arrival.{Arrival}
+use Rattle.std.proofs.lemmas.List.Elements.{All-weaker}
+use Rattle.fab_face.specs.Owed.{PartlyIn as PartlyFor}
+use Rattle.fab_rx.specs.Arriving.{Arriving, IsArriving, PartlyIn, begun_of, count_begun as count_in}
 use Rattle.fab_tx.specs.Transit.{IsTransit}
 use Rattle.fab_face.specs.Held.{count_begun, next_item, IsOutAt}
 use Rattle.fab_face.specs.Machine.{IsSteady}
@@ -20,6 +23,9 @@ item_there P (Some item) h = (item, refl, h)
 out_at : (p : Parts) (d : ℕ) → (slice_index p.tx.places d ≡ 0) ⊎ IsSomeAnd (next_item (held_of p).state d) (λ item. slice_index p.tx.places d < item.head.total) → IsOutAt (held_of p) d
 out_at p d (inl nothing) = inl nothing
 out_at p d (inr some) = inr (item_there (λ item. slice_index p.tx.places d < item.head.total) (next_item (held_of p).state d) some)
+
+coming : (v : Arriving) (a : Arrival) → PartlyIn v a → PartlyFor v.rx v.begun a
+coming v a is none = let i = is none in record { way = i.way; item = i.item; begun_is = i.begun; head = i.head }
 
 pub steady : (p : Parts) → IsTogether p → IsArriving p.rx → IsTransit p.tx → p.cq.taken_out ≤ length p.cq.written → length p.cq.written - p.cq.taken_out ≤ p.cq.size → IsSteady (held_of p)
 steady p ok rx tx read room =
@@ -41,4 +47,8 @@ steady p ok rx tx read room =
       items = tx.items;
       out = λ d. out_at p d (tx.placed d);
       addressed = λ i t is. (let lt = ok.addressed i t is in omega (arith, lt, places));
+      partly = record {
+        unexpected = All-weaker (PartlyIn p.rx) (PartlyFor p.rx.rx p.rx.begun) (λ a. coming p.rx a) p.rx.rx.unexpected rx.partly;
+        claimed = All-weaker (λ (c : ℕ × Arrival). PartlyIn p.rx c.1) (λ (c : ℕ × Arrival). PartlyFor p.rx.rx p.rx.begun c.1) (λ c. coming p.rx c.1) p.rx.rx.claimed rx.aside;
+      };
     }

@@ -13,10 +13,12 @@ use Rattle.fab_model.specs.Sending.{AreFenced, Order, operation_of, is_busy, let
 use Rattle.fab_model.specs.Calls.{Transmit, answer, do_call}
 use Rattle.fab_model.proofs.Fences.{waits_has}
 use Rattle.fab_model.proofs.Letting.{going_out, accepts_held, accepts_at_once}
-use Rattle.fab_face.specs.Held.{Held, Lanes, Seen, next_item, next_frame}
-use Rattle.fab_face.specs.Acts.{Act, Did, Took, Posted, Drew, Had, Departs, DoesCall, GoesBy, Ported, Went, is_post}
+use Rattle.fab_face.specs.Held.{due, IsPledged, Held, Lanes, Seen, next_item, next_frame}
+use Rattle.fab_face.specs.Machine.{IsSteady, StayNext}
+use Rattle.fab_face.proofs.Repaid.{did_due, did_pledged, drew_due, drew_pledged, repaid_still}
+use Rattle.fab_face.specs.Acts.{Act, Did, Took, Posted, Drew, Had, Departs, DoesCall, Goes, GoesBy, Ported, Went, is_post}
 use Rattle.fab_face.specs.Answers.{AllAre, SawFull, Sends}
-use Rattle.fab_face.proofs.Joining.{went_then}
+use Rattle.fab_face.proofs.Joining.{went_then, ported_same}
 use Rattle.fab_ep.specs.Tries.{IsTied}
 use Rattle.fab_ep.specs.Sends.{Admits, LetsOut, IsOnly, IsFree}
 use Rattle.fab_ep.proofs.Admitting.{went_as, posts_keep}
@@ -128,20 +130,29 @@ none_item h d none = by (next_item h.state d) refl
 
 module _ {Home : Type 0} where
   pub tied_did : (a b : Seen Home) → IsTied a → ((d : ℕ) (item : Item) → d < a.lanes.peers → next_item a.held.state d ≡ Some item → next_item b.held.state d ≡ Some item) → b.held.places ≡ a.held.places → b.held.begun ≡ a.held.begun
-      → length b.log ≤ b.log_size → b.log_size ≡ a.log_size → b.lanes ≡ a.lanes → IsTied b
-  tied_did a b tied stays places begun within size lanes = record {
+      → length b.log ≤ b.log_size → b.log_size ≡ a.log_size → b.lanes ≡ a.lanes → IsPledged b.held → ((d op : ℕ) → due b.held d op ≤ due a.held d op) → IsTied b
+  tied_did a b tied stays places begun within size lanes pledged less = record {
     log = rw size tied.log;
     within = within;
     peers = ap length places ∙ tied.peers ∙ sym (ap (λ (x : Lanes Home). x.peers) lanes);
     posted = λ d lt. (let below : d < a.lanes.peers = subst (λ (x : Lanes Home). d < x.peers) lanes lt in
         rw (lanes, places) (placed_next _ _ _ _ (λ item is. stays d item below is) (tied.posted d below)));
     taken = λ s lt. (let below : s < a.lanes.peers = subst (λ (x : Lanes Home). s < x.peers) lanes lt in rw (lanes, begun) (tied.taken s below));
+    pledged = pledged;
+    repaid = repaid_still a.lanes b.lanes a.held b.held (ported_same a.lanes b.lanes lanes) less tied.repaid;
   }
 
-  pub tied_accepted : (a b : Seen Home) (o : Order) → IsTied a → AreFenced a.held.state.tx → length a.held.state.tx.accepted ≡ length a.held.places → DoesCall (Some (Transmit o)) a.held b.held → b.log ≡ a.log → b.log_size ≡ a.log_size → b.lanes ≡ a.lanes → IsTied b
-  tied_accepted a b o tied fenced all does log size lanes =
-      tied_did a b tied (λ d item lt is. next_stays a.held.state b.held.state d item (let p = tied.peers in omega (arith, lt, all, p)) (joins a.held.state b.held.state o fenced does.0) is)
+  pub tied_accepted : (a b : Seen Home) (o : Order) → IsTied a → IsSteady a.held → DoesCall (Some (Transmit o)) a.held b.held → b.log ≡ a.log → b.log_size ≡ a.log_size → b.lanes ≡ a.lanes → IsTied b
+  tied_accepted a b o tied steady does log size lanes =
+      let all = steady.accepted in
+      tied_did a b tied (λ d item lt is. next_stays a.held.state b.held.state d item (let p = tied.peers in omega (arith, lt, all, p)) (joins a.held.state b.held.state o steady.fenced does.0) is)
       (ap (λ (h : Held). h.places) does.1) (ap (λ (h : Held). h.begun) does.1) (rw (log, size) tied.within) size lanes
+      (did_pledged (Transmit o) a.held b.held does steady.partly tied.pledged) (did_due (Transmit o) a.held b.held does)
+
+  pub tied_drew : (a b : Seen Home) → IsTied a → Goes None a.held Drew b.held → StayNext a.held.state b.held.state → length b.log ≤ b.log_size → b.log_size ≡ a.log_size → b.lanes ≡ a.lanes → IsSteady a.held → IsTied b
+  tied_drew a b tied goes stays within size lanes steady =
+      tied_did a b tied (λ d item lt is. stays d item is) (ap (λ (h : Held). h.places) goes.2) (ap (λ (h : Held). h.begun) goes.2) within size lanes
+      (drew_pledged a.held b.held goes.2 steady.partly tied.pledged) (drew_due a.held b.held goes.2)
 
   -- ---- the whole call
 

@@ -13,7 +13,8 @@ use Rattle.fab_model.specs.Calls.{Call, Post, answer, do_call}
 use Rattle.fab_face.specs.Held.{Held, Seen}
 use Rattle.fab_face.specs.Acts.{Did, DoesCall, Went}
 use Rattle.fab_face.specs.Answers.{HasPlaces, IsShort, Judged, Receives, ReceivesNot, is_final, is_early}
-use Rattle.fab_face.specs.Machine.{StayNext, cancelling}
+use Rattle.fab_face.specs.Machine.{IsSteady, StayNext, cancelling}
+use Rattle.fab_face.proofs.Repaid.{did_due, did_pledged}
 use Rattle.std.specs.Prelude.{Result, Err, IfErr}
 use Rattle.fab_face.specs.declared.events.Event.TheVariants.{Call as Called}
 use Rattle.fab_ep.specs.Sends.{logging}
@@ -191,9 +192,10 @@ module _ {Home : Type 0} where
         drawn = λ e. drawn.1;
       }
 
-  pub tied_received : (a b : Seen Home) (call : Call) → IsTied a → DoesCall (Some call) a.held b.held → StayNext a.held.state b.held.state → b.log ≡ a.log → b.log_size ≡ a.log_size → b.lanes ≡ a.lanes → IsTied b
-  tied_received a b call tied does stays log size lanes =
+  pub tied_received : (a b : Seen Home) (call : Call) → IsTied a → DoesCall (Some call) a.held b.held → StayNext a.held.state b.held.state → b.log ≡ a.log → b.log_size ≡ a.log_size → b.lanes ≡ a.lanes → IsSteady a.held → IsTied b
+  tied_received a b call tied does stays log size lanes steady =
       tied_did a b tied (λ d item lt is. stays d item is) (ap (λ (h : Held). h.places) does.1) (ap (λ (h : Held). h.begun) does.1) (rw (log, size) tied.within) size lanes
+      (did_pledged call a.held b.held does steady.partly tied.pledged) (did_due call a.held b.held does)
 
   -- the same, where the call was found to be granted there
   pub crowded_there : (call : Call) (a b : Seen Home) (why : Fault) → Draws a b → is_final (do_call b.held.state call).0 ≡ false → why ≡ Again (LogFull a.log_size) → Crowded a b → ReceivesNot call a b why
@@ -230,6 +232,7 @@ module _ {Home : Type 0} where
     in_list = refl;
     in_after = p.in_after;
     out_after = p.out_after;
+    owed = p.owed;
   }))
 
   -- a call that is Ok, between its draws

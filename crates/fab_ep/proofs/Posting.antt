@@ -9,10 +9,13 @@ use Rattle.fab_wire.specs.Joined.{is_last}
 use Rattle.fab_wire.proofs.Lanes.{last_head-push}
 use Rattle.fab_link.specs.Meaning.{Outgoing, Incoming, Noticed, Others, end_of, taken_end}
 use Rattle.fab_face.specs.Held.{IsOut, IsOpen, Held, Lanes, Seen, IsPlaced, piece, next_item, next_frame}
-use Rattle.fab_face.specs.Acts.{Posted, Took, Ported, only}
+use Rattle.fab_face.specs.Acts.{Goes, Posted, Took, Ported, only}
 use Rattle.fab_face.proofs.Joining.{moved_same}
 use Rattle.fab_face.proofs.Tied.{placed_last, placed_more}
 use Rattle.fab_face.specs.Machine.{finished, gone_on, IsSteady}
+use Rattle.fab_face.proofs.Repaid.{posted_pledged, repaid_posted}
+use Rattle.fab_model.specs.State.{fits}
+use Rattle.fab_model.specs.Sending.{do_sent}
 use Rattle.fab_ep.specs.Tries.{IsTied}
 
 pub same_peer : (k : ℕ) → (k == k) ≡ true
@@ -124,14 +127,39 @@ not_posted a b dest frames noticed others ins number peers home in_list moves = 
     | inl here ↦ rw here noticed.after
     | inr other ↦ ap (λ (o : Outgoing). o.after) (others d other)
   ];
+  owed = λ d. elim (cases_eq d dest) [
+    | inl here ↦ rw here noticed.owed
+    | inr other ↦ ap (λ (o : Outgoing). o.owed) (others d other)
+  ];
 }
+
+-- a piece of the next item is posted: another one, the last one
+goes_more : (h t : Held) (dest : ℕ) (item : Item) (place : ℕ) → IsSteady h → dest < length h.places → next_item h.state dest ≡ Some item → place ≡ slice_index h.places dest → 4096 < item.head.total - place → t ≡ gone_on dest (place + 4096) h → Goes None h (Posted dest (piece item place)) t
+goes_more h t dest item place is below next at more held =
+    let len : min 4096 (item.head.total - place) ≡ 4096 = omega (arith, more) in
+    let frame : next_frame h dest ≡ Some (piece item place) = rw (next, ← at) refl in (
+      below,
+      (let n = is.sent in omega (arith, n, below)),
+      frame,
+      rw (last_not item place more) (held ∙ sym (ap (λ n. gone_on dest (place + n) h) len)),
+    )
+
+goes_last : (h t : Held) (dest : ℕ) (item : Item) (place : ℕ) → IsSteady h → dest < length h.places → next_item h.state dest ≡ Some item → place ≡ slice_index h.places dest → place + min 4096 (item.head.total - place) ≡ item.head.total → fits (do_sent h.state dest).cq ≡ true → t ≡ finished dest h → Goes None h (Posted dest (piece item place)) t
+goes_last h t dest item place is below next at last room held =
+    let frame : next_frame h dest ≡ Some (piece item place) = rw (next, ← at) refl in (
+      below,
+      (let n = is.sent in omega (arith, n, below)),
+      frame,
+      rw (last_is item place last) (room, held),
+    )
 
 module _ {Home : Type 0} (a b : Seen Home) (dest : ℕ) (item : Item) (place : ℕ) where
   -- a piece that is not the last is posted
   pub tied_more : IsTied a → dest < a.lanes.peers → next_item a.held.state dest ≡ Some item → place ≡ slice_index a.held.places dest → 4096 < item.head.total - place
-      → b.held ≡ gone_on dest (place + 4096) a.held → b.log ≡ a.log → b.log_size ≡ a.log_size → Ported a.lanes b.lanes (Posted dest (piece item place) ∷ []) → IsTied b
-  tied_more tied below next at more held log size ported =
+      → b.held ≡ gone_on dest (place + 4096) a.held → b.log ≡ a.log → b.log_size ≡ a.log_size → Ported a.lanes b.lanes (Posted dest (piece item place) ∷ []) → IsSteady a.held → IsTied b
+  tied_more tied below next at more held log size ported steady =
       let known : dest < length a.held.places = omega (arith, below, tied.peers) in
+      let goes = goes_more a.held b.held dest item place steady known next at more held in
       record {
         log = rw size tied.log;
         within = rw (size, log) tied.within;
@@ -146,14 +174,17 @@ module _ {Home : Type 0} (a b : Seen Home) (dest : ℕ) (item : Item) (place : �
               rw (out_other a.lanes b.lanes dest d (piece item place) other ported, held, get_or-set_other a.held.places dest d (place + 4096) 0 other) (tied.posted d (omega (arith, lt, ported.peers)))
         ];
         taken = λ s lt. rw (in_still a.lanes b.lanes dest s (piece item place) ported, held) (tied.taken s (omega (arith, lt, ported.peers)));
+        pledged = posted_pledged a.held b.held dest (piece item place) None goes tied.pledged;
+        repaid = repaid_posted a.lanes b.lanes None a.held b.held dest (piece item place) ported goes tied.repaid;
       }
 
   -- the last piece is posted
   pub tied_last : IsTied a → dest < a.lanes.peers → place + min 4096 (item.head.total - place) ≡ item.head.total
       → b.held ≡ finished dest a.held → ((d : ℕ) → d ≢ dest → next_item b.held.state d ≡ next_item a.held.state d) → length b.log ≤ b.log_size → b.log_size ≡ a.log_size
-      → Ported a.lanes b.lanes (Posted dest (piece item place) ∷ []) → IsTied b
-  tied_last tied below at held others within size ported =
+      → Ported a.lanes b.lanes (Posted dest (piece item place) ∷ []) → IsSteady a.held → next_item a.held.state dest ≡ Some item → place ≡ slice_index a.held.places dest → fits (do_sent a.held.state dest).cq ≡ true → IsTied b
+  tied_last tied below at held others within size ported steady next here room =
       let known : dest < length a.held.places = omega (arith, below, tied.peers) in
+      let goes = goes_last a.held b.held dest item place steady known next here at room held in
       let places : b.held.places ≡ slice_set a.held.places dest 0 = ap (λ (h : Held). h.places) held in
       let begun : b.held.begun ≡ a.held.begun = ap (λ (h : Held). h.begun) held in
       record {
@@ -167,6 +198,8 @@ module _ {Home : Type 0} (a b : Seen Home) (dest : ℕ) (item : Item) (place : �
               rw (out_other a.lanes b.lanes dest d (piece item place) other ported, others d other, places, get_or-set_other a.held.places dest d 0 0 other) (tied.posted d (omega (arith, lt, ported.peers)))
         ];
         taken = λ s lt. rw (in_still a.lanes b.lanes dest s (piece item place) ported, begun) (tied.taken s (omega (arith, lt, ported.peers)));
+        pledged = posted_pledged a.held b.held dest (piece item place) None goes tied.pledged;
+        repaid = repaid_posted a.lanes b.lanes None a.held b.held dest (piece item place) ported goes tied.repaid;
       }
 
 -- the two parts of what stands between calls
@@ -190,4 +223,6 @@ open_of e tied is = record {
   out = is.out;
   posted = tied.posted;
   taken = tied.taken;
+  pledged = tied.pledged;
+  repaid = tied.repaid;
 }

@@ -12,13 +12,14 @@ use Rattle.fab_wire.specs.Frames.{lent_frame, MayCome}
 use Rattle.fab_wire.specs.Joined.{is_last, grown}
 use Rattle.fab_link.specs.Meaning.{Outgoing, Incoming, Others, Fronted, advanced, end_of, taken_end}
 use Rattle.fab_model.specs.State.{State}
-use Rattle.fab_face.specs.Held.{Held, Lanes, Seen, IsPlaced, IsGathered, next_item, begun_of}
+use Rattle.fab_face.proofs.Repaid.{repaid_still, repaid_took, took_owes}
+use Rattle.fab_face.specs.Held.{due, IsPledged, Held, Lanes, Seen, IsPlaced, IsGathered, next_item, begun_of}
 use Rattle.fab_face.specs.Acts.{Took, Ported, MovedBy, Went, Goes, Ends, only, is_first, ways_of}
 use Rattle.fab_face.specs.Answers.{SawEmpty, LentLacks, FrameLacks}
 use Rattle.fab_face.specs.declared.events.Event.{Event}
 use Rattle.fab_face.specs.declared.events.Event.TheVariants.{Head as Headed, Tail as Tailed}
 use Rattle.fab_face.proofs.Tied.{gathered_first, gathered_next, gathered_last, gathered_more}
-use Rattle.fab_face.specs.Machine.{IsNext, StayNext}
+use Rattle.fab_face.specs.Machine.{IsSteady, IsNext, StayNext}
 use Rattle.fab_base.specs.declared.faults.NoMemory.{NoMemory}
 use Rattle.fab_ep.specs.declared.endpoint.Tried.{Tried}
 use Rattle.fab_ep.specs.Tries.{IsTied, CalmIn, TriesIn}
@@ -72,6 +73,7 @@ module _ {Home : Type 0} where
           | inr other ↦ ap (λ (i : Incoming). i.after) (same.others s other)
         ];
         out_after = λ d. ap (λ (o : ℕ → Outgoing). (o d).after) same.outs;
+        owed = λ d. ap (λ (o : ℕ → Outgoing). (o d).owed) same.outs;
       }
 
   calm_by : (a b : Seen Home) (source : ℕ) (o : Option FrameRef) → b.held ≡ a.held → b.log ≡ a.log → b.log_size ≡ a.log_size → Fronted (a.lanes.ins source) (b.lanes.ins source) o → Same a.lanes b.lanes source
@@ -112,6 +114,8 @@ module _ {Home : Type 0} where
     peers = ap (λ (h : Held). length h.places) held ∙ tied.peers ∙ sym ported.peers;
     posted = λ d lt. rw (still_out a.lanes b.lanes d ported, held) (tied.posted d (omega (arith, lt, ported.peers)));
     taken = λ s lt. rw (still_in a.lanes b.lanes s ported, held) (tied.taken s (omega (arith, lt, ported.peers)));
+    pledged = subst (λ (h : Held). IsPledged h) (sym held) tied.pledged;
+    repaid = repaid_still a.lanes b.lanes a.held b.held ported (λ d op. let e = ap (λ (h : Held). due h d op) held in omega (arith, e)) tied.repaid;
   }
 
   -- ---- taking
@@ -144,6 +148,7 @@ module _ {Home : Type 0} where
           | inr other ↦ ap (λ (i : Incoming). i.after) (others s other)
         ];
         out_after = λ d. ap (λ (o : ℕ → Outgoing). (o d).after) outs;
+        owed = λ d. ap (λ (o : ℕ → Outgoing). (o d).owed) outs;
       }
 
 -- the frame that comes is next for what is begun
@@ -187,9 +192,11 @@ module _ {Home : Type 0} (a b : Seen Home) (source : ℕ) (f : Frame) where
       gathered_more (begun_of a.held source) f is comes.1 comes.0.1 came.1 came.0
 
   pub tied_took : IsTied a → source < a.lanes.peers → Ported a.lanes b.lanes (Took source f ∷ []) → Goes None a.held (Took source f) b.held → MayCome (taken_end (a.lanes.ins source)) f
-      → StayNext a.held.state b.held.state → b.held.places ≡ a.held.places → length b.log ≤ b.log_size → b.log_size ≡ a.log_size → IsTied b
-  tied_took tied below ported (known, in_tails, comes, ends) may stays places within size =
+      → StayNext a.held.state b.held.state → b.held.places ≡ a.held.places → length b.log ≤ b.log_size → b.log_size ≡ a.log_size → IsSteady a.held → IsTied b
+  tied_took tied below ported (known, in_tails, comes, ends) may stays places within size steady =
       let begun = begun_after (is_last f.head) _ known ends in
+      let goes : Goes None a.held (Took source f) b.held = (known, in_tails, comes, ends) in
+      let in_coming : source < length a.held.state.rx.coming = (let n = steady.coming in let m = steady.begun in omega (arith, n, m, known)) in
       record {
         log = rw size tied.log;
         within = within;
@@ -204,6 +211,8 @@ module _ {Home : Type 0} (a b : Seen Home) (source : ℕ) (f : Frame) where
               rw (in_other a.lanes b.lanes source s f other ported, begun, get_or-set_other a.held.begun source s (after_last (is_last f.head) (grown (begun_of a.held source) f)) None other)
               (tied.taken s (omega (arith, lt, ported.peers)))
         ];
+        pledged = (took_owes a.held b.held source f goes in_coming steady.partly tied.pledged).0;
+        repaid = repaid_took a.lanes b.lanes a.held b.held source f ported goes in_coming steady.partly tied.pledged tied.repaid;
       }
 
   pub went_took : Goes None a.held (Took source f) b.held → (mid : List Event) → mid ≡ a.log ++ only (is_first f) (Headed source) → b.log ≡ mid ++ only (is_last f.head) (Tailed source) → b.log_size ≡ a.log_size

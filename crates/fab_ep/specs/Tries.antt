@@ -9,7 +9,7 @@ use Rattle.fab_base.specs.declared.items.Item.{Item}
 use Rattle.fab_face.specs.declared.machine.Next.{Next}
 use Rattle.fab_link.specs.Meaning.{end_of, taken_end}
 use Rattle.fab_model.specs.Receiving.{draw_due}
-use Rattle.fab_face.specs.Held.{Held, Seen, IsPlaced, IsGathered, next_frame, next_item, begun_of}
+use Rattle.fab_face.specs.Held.{Held, Seen, IsPledged, IsRepaid, IsPlaced, IsGathered, next_frame, next_item, begun_of}
 use Rattle.fab_face.specs.Acts.{Act, Posted, Took, Ported, Went, is_move, is_take, is_post}
 use Rattle.fab_face.specs.Answers.{AllAre, IsShort, SawEmpty, SawFull, LentLacks, NextLacks, DrawLacks, IsHeld}
 use Rattle.fab_ep.specs.declared.endpoint.Tried.{Tried}
@@ -20,13 +20,15 @@ use Rattle.fab_ep.specs.declared.endpoint.Turn.{Turn}
 abbrev pub next_of : Next → Item
 next_of n = record { head = n.head.now; bytes = n.bytes.now }
 
--- between calls: the log, and the ends of the port's lists
+-- between calls: the log, the ends of the port's lists, and the replies that are owed
 pub record IsTied {Home : Type 0} (e : Seen Home) : Type 0 where
   pub log : 4 ≤ e.log_size
   pub within : length e.log ≤ e.log_size
   pub peers : length e.held.places ≡ e.lanes.peers
   pub posted : (d : ℕ) → d < e.lanes.peers → IsPlaced (end_of (e.lanes.outs d)) (slice_index e.held.places d) (next_item e.held.state d)
   pub taken : (s : ℕ) → s < e.lanes.peers → IsGathered (taken_end (e.lanes.ins s)) (begun_of e.held s)
+  pub pledged : IsPledged e.held
+  pub repaid : IsRepaid e.lanes e.held
 
 -- nothing moved
 pub record Calm {Home : Type 0} (old new : Seen Home) : Type 0 where

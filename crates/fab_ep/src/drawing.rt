@@ -40,6 +40,7 @@ impl<P: Port, C: Machine> Endpoint<P, C> {
         if is_short(&self.log, self.log_size) {
             return false;
         }
+        self.core.known();
         if !self.core.draw() {
             return false;
         }

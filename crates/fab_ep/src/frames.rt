@@ -1,6 +1,6 @@
 //! One frame posted over any port: what a transmit call and progress do again and again.
 ghost use Rattle.std.specs.Prelude.{◌≡◌, ◌≢◌, ◌<◌, ◌≤◌, ◌∷◌, [], Ok, true, false, Some, OnErr, min};
-ghost use Rattle.fab_link.specs.Meaning.{Others, end_of};
+ghost use Rattle.fab_link.specs.Meaning.{Others, Repays, end_of};
 ghost use Rattle.fab_wire.specs.Cut.{IsItem};
 ghost use Rattle.fab_wire.specs.Frames.{IsSound};
 ghost use Rattle.fab_face.specs.Held.{IsPlaced, piece};
@@ -32,6 +32,7 @@ pub fn post_next<P: Port>(
     requires whole { IsItem (next_of item.now) }
     requires sound { IsSound item.now.head.now }
     requires within { place ≤ item.now.head.now.total }
+    requires repays { Repays (P.outs port.old dest) (P.ins port.old dest) (piece (next_of item.now) place).head }
     ensures yes { result ≡ Ok true → Ported (lanes_in P.Port port.old) (lanes_in P.Port port.new) (Posted dest (piece (next_of item.now) place) ∷ []) }
     ensures no { result ≡ Ok false → Ported (lanes_in P.Port port.old) (lanes_in P.Port port.new) [] }
     ensures full { result ≡ Ok false → SawFull (lanes_in P.Port port.old) (lanes_in P.Port port.new) dest }

@@ -22,6 +22,7 @@ impl<P: Port, C: Looking> Endpoint<P, C> {
             return Err(why);
         }
         self.draw_before()?;
+        self.core.known();
         self.core.look(look)?;
         self.log_received();
         Ok(())
@@ -39,6 +40,7 @@ impl<P: Port, C: Looking> Endpoint<P, C> {
         if let Err(why) = self.draw_before() {
             return Err(Refused { why, buf });
         }
+        self.core.known();
         self.core.take_claimed(buf, ctx)?;
         self.log_received();
         Ok(())
@@ -54,6 +56,7 @@ impl<P: Port, C: Looking> Endpoint<P, C> {
             return Err(why);
         }
         self.draw_before()?;
+        self.core.known();
         self.core.drop_claimed(ctx)?;
         self.log_received();
         Ok(())

@@ -22,6 +22,7 @@ impl<P: Port, C: MultiReceiving> Endpoint<P, C> {
         if let Err(why) = self.draw_before() {
             return Err(Refused { why, buf });
         }
+        self.core.known();
         self.core.post_multi(ask, buf)?;
         self.log_received();
         Ok(())

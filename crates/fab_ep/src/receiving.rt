@@ -22,6 +22,7 @@ impl<P: Port, C: Machine> Endpoint<P, C> {
         if let Err(why) = self.draw_before() {
             return Err(Refused { why, buf });
         }
+        self.core.known();
         self.core.post(ask, buf)?;
         self.log_received();
         Ok(())
@@ -37,6 +38,7 @@ impl<P: Port, C: Machine> Endpoint<P, C> {
             return Err(Fault::NoEntry);
         }
         ready?;
+        self.core.known();
         self.core.cancel(ctx)?;
         self.log_received();
         Ok(())

@@ -1,6 +1,7 @@
 //! An endpoint that changes its port, and one that is given up.
 ghost use Rattle.std.specs.Prelude.{◌≡◌};
-ghost use Rattle.fab_face.specs.Ports.{GoesOn};
+ghost use Rattle.fab_face.specs.Held.{IsRepaid};
+ghost use Rattle.fab_face.specs.Ports.{GoesOn, lanes_in};
 
 use crate::endpoint::Endpoint;
 use fab_face::events::Event;
@@ -78,9 +79,11 @@ impl<P: Port, C: Machine> Endpoint<P, C> {
 }
 
 impl<P: Port, C: Machine> Unseated<P, C> {
-    /// Goes on over this port, which goes on where the old one ended. It takes no memory.
+    /// Goes on over this port, which goes on where the old one ended. Where it tells what the peers are owed, that is no
+    /// less than the replies that are still to be posted. It takes no memory.
     pub fn reseat<Q: Port>(self, port: Q) -> Endpoint<Q, C>
-        requires { GoesOn P.Port Q.Port self.port port }
+        requires goes_on { GoesOn P.Port Q.Port self.port port }
+        requires repaid { IsRepaid (lanes_in Q.Port port) self.held }
         ensures { result ≡ record { port = port; held = self.held; log = self.log; log_size = self.log_size; pushed = self.pushed } }
     {
         let Unseated {

@@ -73,6 +73,7 @@ module _ {Home : Type 0} where
     in_list = refl;
     in_after = λ s. refl;
     out_after = λ d. refl;
+    owed = λ d. refl;
   })
 
   pub ported_then : (a b c : Lanes Home) (xs ys : List Act) → Ported a b xs → Ported b c ys → Ported a c (xs ++ ys)
@@ -89,6 +90,7 @@ module _ {Home : Type 0} where
     in_list = q.in_list ∙ p.in_list;
     in_after = λ s. q.in_after s ∙ p.in_after s;
     out_after = λ d. q.out_after d ∙ p.out_after d;
+    owed = λ d. q.owed d ∙ p.owed d;
   }
 
 -- ---- endpoints

@@ -2,3 +2,8 @@ pub mod Joining
 pub mod Tied
 pub mod Writing
 pub mod Holding
+pub mod Counts
+pub mod Owed
+pub mod Owing
+pub mod Arriving
+pub mod Repaid

@@ -210,6 +210,7 @@ pub record Ported {Home : Type 0} (old new : Lanes Home) (acts : List Act) : Typ
   pub in_list : new.in_list ≡ old.in_list
   pub in_after : (s : ℕ) → (new.ins s).after ≡ (old.ins s).after
   pub out_after : (d : ℕ) → (new.outs d).after ≡ (old.outs d).after
+  pub owed : (d : ℕ) → (new.outs d).owed ≡ (old.outs d).owed
 
 pub record Went {Home : Type 0} (call : Option Call) (old new : Seen Home) (acts : List Act) : Type 0 where
   pub goes : GoesBy call old.held acts new.held

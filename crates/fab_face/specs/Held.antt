@@ -3,6 +3,7 @@
 --     Lanes     what its port means
 --     Seen      an endpoint: what is held, the log, and the port
 --     next_frame h d      the frame that goes to peer d next
+--     due h d op          the replies to an operation that are still to be posted to the peer d
 --     IsOpen e  what holds of an endpoint between its calls
 use Rattle.std.specs.Prelude.{◌≡◌, ℕ, ◌+◌, ◌-◌, ◌<◌, ◌≤◌, ◌⊎◌, min, Bool, List, length, zero, suc, Option, Some, None, slice_get, slice_index, slice_index_or}
 use Rattle.std.specs.Option.{option_map}
@@ -12,10 +13,11 @@ use Rattle.fab_base.specs.declared.frames.Frame.{Frame}
 use Rattle.fab_wire.specs.declared.moves.Move.{Move}
 use Rattle.fab_wire.specs.Cut.{frame_of, IsBetweenItems, IsItem}
 use Rattle.fab_wire.specs.Frames.{IsSound}
-use Rattle.fab_link.specs.Meaning.{Outgoing, Incoming, end_of, taken_end}
+use Rattle.fab_link.specs.Meaning.{Outgoing, Incoming, Owes, end_of, taken_end}
 use Rattle.fab_model.specs.State.{State, accepted_for}
 use Rattle.fab_model.specs.Sending.{AreFenced}
 use Rattle.fab_face.specs.declared.events.Event.{Event}
+use Rattle.fab_face.specs.Owed.{Pledged, dues}
 
 -- ---- what is held
 
@@ -103,6 +105,20 @@ abbrev pub count_begun : Option Item → ℕ
 count_begun None = 0
 count_begun (Some item) = 1
 
+-- ---- replies
+
+-- how many replies to this operation are still to be posted to the peer, those counted that whole messages have still to book
+abbrev pub due : Held → ℕ → ℕ → ℕ
+due h d op = dues h.state h.places d op
+
+-- what is coming will have booked no more than it owes
+abbrev pub IsPledged : Held → Type 0
+IsPledged h = Pledged h.state.rx h.begun
+
+-- each peer is owed what is due to it, where the port tells what it is owed
+abbrev pub IsRepaid : {Home : Type 0} → Lanes Home → Held → Type 0
+IsRepaid lanes h = (d op : ℕ) → d < lanes.peers → Owes (lanes.outs d) (lanes.ins d) op (due h d op)
+
 -- Between calls: the sizes are those that an endpoint may be opened with, every list by peer has a member for each, and the port's lists end where the unfinished items go on.
 pub record IsOpen {Home : Type 0} (e : Seen Home) : Type 0 where
   pub cq : 2 ≤ e.held.state.cq.size
@@ -123,3 +139,5 @@ pub record IsOpen {Home : Type 0} (e : Seen Home) : Type 0 where
   pub out : IsOut e.held
   pub posted : (d : ℕ) → d < e.lanes.peers → IsPlaced (end_of (e.lanes.outs d)) (slice_index e.held.places d) (next_item e.held.state d)
   pub taken : (s : ℕ) → s < e.lanes.peers → IsGathered (taken_end (e.lanes.ins s)) (begun_of e.held s)
+  pub pledged : IsPledged e.held
+  pub repaid : IsRepaid e.lanes e.held

@@ -1,4 +1,5 @@
 pub mod Held
+pub mod Owed
 pub mod Acts
 pub mod Answers
 pub mod Ports

@@ -15,6 +15,7 @@ use Rattle.fab_model.specs.Calls.{Call, Cancel, CancelFirst, message}
 use Rattle.fab_face.specs.declared.machine.Message.{Message}
 use Rattle.fab_face.specs.declared.machine.Ask.{Ask}
 use Rattle.fab_face.specs.Held.{Held, begun_of, next_item, AreItems, IsOut, count_begun}
+use Rattle.fab_face.specs.Owed.{IsPartly}
 use Rattle.fab_face.specs.Acts.{is_first}
 use Rattle.fab_face.specs.Answers.{receive_call}
 
@@ -35,6 +36,8 @@ pub record IsSteady (h : Held) : Type 0 where
   pub items : AreItems h
   pub out : IsOut h
   pub addressed : (i t : ℕ) → lookup h.state.av i ≡ Some t → t < length h.places
+  -- a message that is not whole is the one that is coming
+  pub partly : IsPartly h.state.rx h.begun
 
 abbrev pub IsNext : Option Item → Frame → Type 0
 IsNext None f = is_first f ≡ true

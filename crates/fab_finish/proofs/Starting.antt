@@ -17,6 +17,7 @@ use Rattle.fab_model.specs.Views.{rule}
 use Rattle.fab_model.proofs.Walks.{none_taken, reached_opening}
 use Rattle.fab_face.specs.Held.{Held, next_item}
 use Rattle.fab_face.specs.Ports.{Whole}
+use Rattle.fab_face.proofs.Repaid.{nothing_pledged}
 use Rattle.fab_ep.specs.Tries.{IsTied}
 use Rattle.fab_quantum.specs.Agreed.{Agrees}
 use Rattle.fab_quantum.specs.Turns.{Told, Living, IsCounted, part_at, posted_part}
@@ -82,6 +83,8 @@ start_tied conf k log_size most =
       peers = long n 0 ∙ sym (long n (fresh_lane None None));
       posted = λ d below. rw (fresh_at n k d, same_at {X = ℕ} n d 0) tt;
       taken = λ s below. rw (fresh_at n k s, same_at {X = Option Item} n s None) tt;
+      pledged = nothing_pledged (start conf) (λ s. same_at {X = Option Item} n s None) refl refl;
+      repaid = λ d op below. tt;
     }
 
 pub opens_at : (conf : Conf) (k : ℕ) (lines : List Line) (p : Member) → p.endpoint.port ≡ port_of conf.peers k → p.endpoint.held ≡ start conf → p.endpoint.log ≡ [] → member_actor p ≡ newly conf lines → member_steps p ≡ [] → OpensAt conf k lines p

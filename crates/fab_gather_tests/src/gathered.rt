@@ -1,7 +1,8 @@
 //! Frames before and after ports are gathered.
-ghost use Rattle.std.specs.Prelude.{◌≡◌, ◌<◌, ◌≤◌, ℕ, length, IfOk, Some, slice_get};
+ghost use Rattle.std.specs.Prelude.{◌≡◌, ◌<◌, ◌≤◌, ℕ, length, IfOk, Some, slice_get, false};
 ghost use Rattle.fab_wire.specs.Cut.{IsBetweenItems};
 ghost use Rattle.fab_wire.specs.Frames.{IsSound};
+ghost use Rattle.fab_wire.specs.Owing.{begins_reply};
 ghost use Rattle.fab_link.specs.Plain.{Plain};
 ghost use Rattle.fab_link.specs.Meaning.{end_of};
 ghost use Rattle.fab_ring.specs.Ports.{number_of, peers_of, table_of, out_of};
@@ -20,6 +21,7 @@ fn whole(tag: u64, total: u32) -> FrameHead
     ensures len { result.len ≡ total }
     ensures total { result.item.total ≡ total }
     ensures sound { IsSound result.item }
+    ensures message { begins_reply result ≡ false }
 {
     let item = ItemHead {
         kind: Kind::TagMsg,

@@ -91,7 +91,7 @@ field_kept f p i new l e = fun_ext (λ d. elim (cases_eq d i) [ inl h ↦ rw h (
 
 -- a change of what came leaves what was posted
 pub out_kept : (p : Plain) (i : ℕ) (new : Lane) → i < length p.lanes → new.out ≡ (lane_at p i).out → out_of (with_lane p i new) ≡ out_of p
-out_kept p i new l e = field_kept outgoing p i new l (ap (λ x. record { after = x.after; frames = x.frames; lane_full_seen = 0; pool_full_seen = 0; full_at = 0 }) e)
+out_kept p i new l e = field_kept outgoing p i new l (ap (λ x. record { after = x.after; owed = None; frames = x.frames; lane_full_seen = 0; pool_full_seen = 0; full_at = 0 }) e)
 
 pub home_kept : (p : Plain) (i : ℕ) (new : Lane) → i < length p.lanes → new.in_list ≡ (lane_at p i).in_list → new.moved ≡ (lane_at p i).moved
     → home_of (with_lane p i new) ≡ home_of p

@@ -1,5 +1,5 @@
 -- What a port means, and what its calls do to that meaning.
-use Rattle.std.specs.Prelude.{◌≡◌, ◌≢◌, ℕ, ◌≤◌, ◌⊎◌, List, [], ◌∷◌, ◌++◌, length, Option, Some, None, ⊤}
+use Rattle.std.specs.Prelude.{◌≡◌, ◌≢◌, ℕ, ◌≤◌, ◌⊎◌, true, List, [], ◌∷◌, ◌++◌, length, Option, Some, None, IfSome, ⊤}
 use Rattle.std.specs.Borrow.{follows_so, Fml, RattleType, MutBor}
 use mathlib.Core.Option.{none}
 use Rattle.fab_base.specs.Counts.{Rose}
@@ -8,11 +8,14 @@ use Rattle.fab_base.specs.declared.frames.Frame.{Frame}
 use Rattle.fab_base.specs.declared.frames.FrameRef.{FrameRef}
 use Rattle.fab_wire.specs.declared.moves.Move.{Move}
 use Rattle.fab_wire.specs.Frames.{lent_frame, last_head, MayCome}
+use Rattle.fab_wire.specs.Owing.{begins_reply, IsOwed}
 
 -- one direction of a port towards one peer: what was posted to it
 pub record Outgoing : Type 0 where
   -- the head of the last frame before the list
   pub after : Option FrameHead
+  -- by operation, how many replies the peer was owed before the list, where the port tells it
+  pub owed : Option (ℕ → ℕ)
   -- the frames posted
   pub frames : List Frame
   pub lane_full_seen : ℕ
@@ -58,9 +61,18 @@ end_of o = last_head o.after o.frames
 abbrev pub taken_end : Incoming → Option FrameHead
 taken_end i = last_head i.after i.taken
 
+-- the peer is owed at least so many replies to this operation, where the port tells it
+abbrev pub Owes : Outgoing → Incoming → ℕ → ℕ → Type 0
+Owes o i op n = IfSome o.owed (λ before. IsOwed before o.frames i.taken op n)
+
+-- the frame is not the first one of a reply, or the reply is owed
+abbrev pub Repays : Outgoing → Incoming → FrameHead → Type 0
+Repays o i head = begins_reply head ≡ true → Owes o i head.item.op 1
+
 -- what a call of `post` may do to the lane to its peer besides appending
 pub record Noticed (old new : Outgoing) : Type 0 where
   pub after : new.after ≡ old.after
+  pub owed : new.owed ≡ old.owed
   pub lane_full : old.lane_full_seen ≤ new.lane_full_seen
   pub pool_full : old.pool_full_seen ≤ new.pool_full_seen
   -- `full_at` changes only with a count, and then to the number of frames posted before

@@ -36,6 +36,7 @@ left lane = drop lane.moved lane.out.frames
 abbrev pub outgoing : Lane → Outgoing
 outgoing lane = record {
   after = lane.out.after;
+  owed = None;
   frames = lane.out.frames;
   lane_full_seen = 0;
   pool_full_seen = 0;

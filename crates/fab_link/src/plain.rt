@@ -2,7 +2,7 @@
 ghost use Rattle.std.specs.Prelude.{IsErrOf, ◌≡◌, ◌≢◌, ℕ, ◌+◌, ◌^◌, ◌<◌, ◌≤◌, ◌++◌, ◌∷◌, [], length, replicate, true, false, None, Some, IfSome, IfNone, MatchOption, drop, slice_index_or, IfOk, IfErr, OnOk, OnErr, slice_set};
 ghost use Rattle.fab_wire.specs.Frames.{frame, last_head, MayCome, Continues, IsLane};
 ghost use Rattle.fab_wire.specs.declared.moves.Move.TheVariants.{Post};
-ghost use Rattle.fab_link.specs.Meaning.{Others, end_of, Noticed, AreFresh, GrewBy};
+ghost use Rattle.fab_link.specs.Meaning.{Repays, Others, end_of, Noticed, AreFresh, GrewBy};
 ghost use Rattle.fab_base.specs.Counts.{Rose};
 ghost use Rattle.fab_link.specs.Plain.{lane_at, with_lane, left, fresh_lane, looked, lent_frames, IsSoundLane, out_of, in_of, PlainHome, home_of, take_prefix};
 
@@ -198,6 +198,7 @@ impl Port for PlainPort {
         requires below { dest < length self.old.lanes }
         requires continues { Continues (end_of (out_of self.old dest)) head }
         requires filled { length bytes.now ≡ head.len }
+        requires repays { Repays (out_of self.old dest) (in_of self.old dest) head }
         ensures ok { OnOk result ((out_of self.new dest).frames ≡ (out_of self.old dest).frames ++ frame head bytes.now ∷ []) }
         ensures err { OnErr result ((out_of self.new dest).frames ≡ (out_of self.old dest).frames) }
         ensures lane_full { IsErrOf result PostRefused.LaneFull

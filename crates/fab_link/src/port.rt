@@ -6,7 +6,7 @@ ghost use Rattle.fab_base.specs.declared.frames.Frame.{Frame};
 ghost use Rattle.fab_wire.specs.Frames.{frame, lent_frame, Continues};
 ghost use Rattle.fab_wire.specs.declared.moves.Move.{Move};
 ghost use Rattle.fab_wire.specs.declared.moves.Move.TheVariants.{Post, Take};
-ghost use Rattle.fab_link.specs.Meaning.{Outgoing, Incoming, Rests, Others, end_of, Noticed, Gives, Fronted, advanced, GrewBy};
+ghost use Rattle.fab_link.specs.Meaning.{Outgoing, Incoming, Rests, Others, end_of, Noticed, Repays, Gives, Fronted, advanced, GrewBy};
 ghost use Rattle.fab_base.specs.Counts.{Rose};
 
 use fab_base::{FrameHead, FrameRef};
@@ -61,7 +61,8 @@ pub trait Port {
     fn peers(&self) -> u32
         ensures { result ≡ peer_count self.now };
 
-    /// Posts a frame to a peer: the next one of its item, cut where an item is cut.
+    /// Posts a frame to a peer: the next one of its item, cut where an item is cut. A reply begins only
+    /// where the peer is owed one, if the port tells what it is owed.
     ///
     /// A refusal leaves the frames posted as they were. [`PostRefused::LaneFull`] and
     /// [`PostRefused::PoolFull`] come only where the call itself saw the lane or the pool full.
@@ -69,6 +70,7 @@ pub trait Port {
         requires below { dest < peer_count self.old }
         requires continues { Continues (end_of (outs self.old dest)) head }
         requires filled { length bytes.now ≡ head.len }
+        requires repays { Repays (outs self.old dest) (ins self.old dest) head }
         ensures ok { OnOk result ((outs self.new dest).frames
             ≡ (outs self.old dest).frames ++ frame head bytes.now ∷ []) }
         ensures err { OnErr result ((outs self.new dest).frames ≡ (outs self.old dest).frames) }

@@ -17,12 +17,13 @@ use Rattle.fab_link_tests.specs.declared.narrow.Greeting.TheVariants.{Waiting, L
 abbrev pub out_of : NarrowPort → ℕ → Outgoing
 out_of p zero = record {
   after = None;
+  owed = None;
   frames = map (λ head. frame head []) p.heads.items;
   lane_full_seen = p.lane_full_seen;
   pool_full_seen = p.pool_full_seen;
   full_at = p.full_at;
 }
-out_of p (suc d) = record { after = None; frames = []; lane_full_seen = 0; pool_full_seen = 0; full_at = 0 }
+out_of p (suc d) = record { after = None; owed = None; frames = []; lane_full_seen = 0; pool_full_seen = 0; full_at = 0 }
 
 -- an empty message
 abbrev pub greeting_head : FrameHead

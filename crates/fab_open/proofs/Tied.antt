@@ -1,5 +1,6 @@
 -- An endpoint that is opened over a fresh port stands between calls.
-use Rattle.std.proofs.Common.{◌≡◌, ℕ, ◌≤◌, Bool, true, ◌&&◌, ◌==◌, Option, None, ◌∙◌, arith}
+use Rattle.std.proofs.Common.{◌≡◌, ℕ, zero, suc, ◌≤◌, Bool, true, ◌&&◌, ◌==◌, List, [], Option, None, get_or, refl, ◌∙◌, arith}
+use Rattle.std.specs.Prelude.{replicate}
 use Rattle.std.proofs.lemmas.Bool.{and_parts, leb-true}
 use Rattle.std.proofs.lemmas.List.{get_or-replicate, length-replicate}
 use Rattle.fab_base.specs.Offer.{limits_of, most_message}
@@ -8,7 +9,9 @@ use Rattle.fab_base.specs.declared.items.Item.{Item}
 use Rattle.fab_base.specs.declared.limits.Size.TheVariants.{Peers, Lane, Pool, Tx, Rx, Cq, Log, Inject}
 use Rattle.fab_av.specs.Addresses.{Addresses}
 use Rattle.fab_link.specs.declared.port.Port.{Ghosts}
-use Rattle.fab_face.specs.Ports.{IsFresh, is_granted, opened, seen, within}
+use Rattle.fab_face.specs.Held.{Held}
+use Rattle.fab_face.specs.Ports.{IsFresh, is_granted, lanes_in, opened, seen, within}
+use Rattle.fab_face.proofs.Repaid.{nothing_due, nothing_pledged, nothing_repaid}
 use Rattle.fab_ep.specs.Tries.{IsTied}
 
 -- what is granted has a log of four events at least
@@ -22,6 +25,16 @@ log_granted i peers granted =
     let log = and_parts up_to_cq (within (limits_of i.api Log) i.log) (and_parts up_to_log (within (limits_of i.api Inject) i.inject) up_to_inject.0).0 in
     leb-true 4 i.log (and_parts _ _ log.1).0
 
+none_at : (n s : ℕ) → get_or (replicate {A = Option Item} n None) s None ≡ None
+none_at zero s = refl
+none_at (suc n) zero = refl
+none_at (suc n) (suc s) = none_at n s
+
+empty_at : (n d : ℕ) → get_or (replicate {A = List Item} n []) d [] ≡ []
+empty_at zero d = refl
+empty_at (suc n) zero = refl
+empty_at (suc n) (suc d) = empty_at n d
+
 pub opened_tied : {P : Type 0} (M : Ghosts P) (port : P) (av : Addresses) (info : Info) (selective : Bool) → av.peers ≡ M.peer_count port → IsFresh M port → 4 ≤ info.log
     → IsTied (seen M (opened port av info selective))
 opened_tied M port av info selective count fresh most = record {
@@ -30,4 +43,9 @@ opened_tied M port av info selective count fresh most = record {
   peers = length-replicate {A = ℕ} av.peers 0 ∙ count;
   posted = λ d below. rw (fresh.posted d, get_or-replicate {A = ℕ} av.peers d 0 0 (omega (arith, below, count))) (fresh.out_after d below);
   taken = λ s below. rw (fresh.taken s, get_or-replicate {A = Option Item} av.peers s None None (omega (arith, below, count))) (fresh.in_after s below);
+  pledged = nothing_pledged h (λ s. none_at av.peers s) refl refl;
+  repaid = nothing_repaid (lanes_in M port) h (nothing_due h (λ d. empty_at av.peers d) refl refl) fresh.posted;
 }
+  where
+    h : Held
+    h = (opened port av info selective).held

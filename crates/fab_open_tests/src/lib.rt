@@ -22,3 +22,5 @@ mod multis;
 mod opening;
 #[cfg(test)]
 mod refusals;
+#[cfg(test)]
+mod stray;

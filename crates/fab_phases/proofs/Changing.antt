@@ -90,7 +90,7 @@ module _ {X W : Type 0} (peer : X → Peer (Whole RingPort)) (held : W → Held)
       let peers = peers_all f ports plains pasts all many told_all gathered k (peer r).endpoint.port port in
       let same : held w ≡ (peer r).endpoint.held = ap (λ (z : Past). z.living.held) is in
       subst (λ (h : Held). IsTied (seen_plain (record { port = q; held = h; log = []; log_size = log_size; pushed = false }))) (sym same)
-      (ties f ports plains pasts all many told_all gathered together k log_size (past_at (peer r)) q (past_there k r hr) hq most (opened.places ∙ peers) opened.out opened.items)
+      (ties f ports plains pasts all many told_all gathered together k log_size (past_at (peer r)) q (past_there k r hr) hq most (opened.places ∙ peers) opened.out opened.items opened.pledged)
 
   -- ---- seated
 

@@ -12,7 +12,7 @@ use Rattle.fab_link.specs.Meaning.{end_of, taken_end}
 use Rattle.fab_link.specs.Plain as plain
 use Rattle.fab_link.specs.Plain.{Lane, Plain, lane_at, fresh_lane}
 use Rattle.fab_model.specs.Peers.{Actor}
-use Rattle.fab_face.specs.Held.{Held, IsGathered, IsPlaced, IsOut, AreItems, next_item, begun_of}
+use Rattle.fab_face.specs.Held.{IsPledged, Held, IsGathered, IsPlaced, IsOut, AreItems, next_item, begun_of}
 use Rattle.fab_ep.specs.Tries.{IsTied}
 use Rattle.fab_quantum.specs.Turns.{IsCounted, Living, actor_in}
 use Rattle.fab_quantum.specs.Agreed.{Agrees}
@@ -53,8 +53,8 @@ module _ (f : Fabric) (ports : List RingPort) (plains : List Plain) (pasts : Lis
 
   -- an endpoint may go on with what the peer holds
   pub ties : (k log_size : ℕ) (x : Past) (q : Plain) → slice_get pasts k ≡ Some x → slice_get plains k ≡ Some q → 4 ≤ log_size → length x.living.held.places ≡ length ports → IsOut x.living.held
-      → AreItems x.living.held → IsTied (seen_plain (record { port = q; held = x.living.held; log = []; log_size = log_size; pushed = false }))
-  ties k log_size x q has here most places out items =
+      → AreItems x.living.held → IsPledged x.living.held → IsTied (seen_plain (record { port = q; held = x.living.held; log = []; log_size = log_size; pushed = false }))
+  ties k log_size x q has here most places out items pledged =
       let p = port_at f ports plains pasts all many told gathered k x has in
       let goes = gathered.goes_on k p.0 q p.1 here in
       let peers : length q.lanes ≡ length ports = goes.peers ∙ peers_all f ports plains pasts all many told gathered k p.0 p.1 in
@@ -73,6 +73,8 @@ module _ (f : Fabric) (ports : List RingPort) (plains : List Plain) (pasts : Lis
             ap (last_head (plain.in_of q s).after) (taken_none p.0 q goes s) ∙ goes.in_after s ∙ ap (last_head None) (sym (p.2.ins s)) in
             subst (λ (e : Option FrameHead). IsGathered e (begun_of x.living.held s)) (sym end)
             (taken_ends (length pasts) x.living.held x.ins x.outs agrees s (taken_lane k s x has (omega (arith, below, peers, many)))));
+        pledged = pledged;
+        repaid = λ d op below. tt;
       }
 
   -- ---- all peers

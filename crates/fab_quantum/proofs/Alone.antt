@@ -115,6 +115,7 @@ module _ {Home : Type 0} where
     in_list = p.in_list;
     in_after = p.in_after;
     out_after = p.out_after;
+    owed = p.owed;
   }
 
   did_alone : (a b : Told Home) (e : Seen Home) (outcome : LineResult) → ((ctx : ℕ) → waited_back ctx outcome ≡ false) → (IsCounted (living_of a) → IsCounted (living e.held a.lines a.results a.kept)) → do_next (actor_of a) ≡ Some (actor_in (living e.held a.lines (a.results ++ outcome ∷ []) a.kept)) → SameParts a.seen.held e.held

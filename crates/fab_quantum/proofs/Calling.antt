@@ -250,6 +250,7 @@ module _ {Home : Type 0} (a : Told Home) (e : Seen Home) (call : Call) (next : I
         in_list = refl;
         in_after = p.in_after;
         out_after = p.out_after;
+        owed = p.owed;
       }
 
   -- where nothing moved, the log is empty
@@ -425,6 +426,7 @@ module _ {Home : Type 0} where
             in_list = refl;
             in_after = p.in_after;
             out_after = p.out_after;
+            owed = p.owed;
           });
         };
         moved_is = refl;
@@ -529,6 +531,7 @@ module _ {Home : Type 0} where
         in_list = p.in_list;
         in_after = p.in_after;
         out_after = p.out_after;
+        owed = p.owed;
       }
 
 is_at : {X : Type 0} (xs : List X) (n : ℕ) (x : X) → n < length xs → x ≡ get_or xs n x → slice_get xs n ≡ Some x

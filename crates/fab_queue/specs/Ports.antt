@@ -37,7 +37,7 @@ with_in p s i moves = record { number = p.number; outs = p.outs; ins = slice_set
 
 -- a pool is never full, since there is none
 abbrev pub outgoing : Out → Outgoing
-outgoing o = record { after = None; frames = frames_of o.posted; lane_full_seen = o.full_seen; pool_full_seen = 0; full_at = o.full_at }
+outgoing o = record { after = None; owed = None; frames = frames_of o.posted; lane_full_seen = o.full_seen; pool_full_seen = 0; full_at = o.full_at }
 
 abbrev pub incoming : In → Incoming
 incoming i = record { after = None; taken = frames_of i.taken; lent = frame_in i.lent; empty_seen = i.empty_seen; empty_at = i.empty_at }

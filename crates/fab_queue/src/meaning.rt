@@ -3,7 +3,7 @@ ghost use Rattle.std.specs.Prelude.{◌≡◌, ◌≢◌, ◌<◌, ◌≤◌, �
 ghost use Rattle.fab_base.specs.Counts.{Rose};
 ghost use Rattle.fab_wire.specs.Frames.{frame, Continues};
 ghost use Rattle.fab_wire.specs.declared.moves.Move.TheVariants.{Post};
-ghost use Rattle.fab_link.specs.Meaning.{Others, end_of, Noticed, GrewBy};
+ghost use Rattle.fab_link.specs.Meaning.{Others, end_of, Noticed, Repays, GrewBy};
 ghost use Rattle.fab_queue.specs.Ports.{Lanes, number_of, peers_of, room_of, out_of, in_of, moves_of, lanes_of, clock_of, most};
 
 use crate::lane::Sent;
@@ -47,6 +47,7 @@ impl<R: Wait + Copy> Port for QueuePort<R> {
         requires below { dest < peers_of self.old }
         requires continues { Continues (end_of (out_of self.old dest)) head }
         requires filled { length bytes.now ≡ head.len }
+        requires repays { Repays (out_of self.old dest) (in_of self.old dest) head }
         ensures ok { OnOk result ((out_of self.new dest).frames ≡ (out_of self.old dest).frames ++ frame head bytes.now ∷ []) }
         ensures err { OnErr result ((out_of self.new dest).frames ≡ (out_of self.old dest).frames) }
         ensures lane_full { IsErrOf result PostRefused.LaneFull

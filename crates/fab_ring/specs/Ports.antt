@@ -13,9 +13,9 @@ use Rattle.fab_table.specs.Views.{frames_of, least, part_at, out_at, in_at}
 use Rattle.fab_table.specs.Rule.{greatest}
 use Rattle.fab_ring.specs.declared.port.RingPort.{RingPort}
 
--- a full pool is the count of its slots that was raised least
+-- nothing was owed before the port was made, and a full pool is the count of its slots that was raised least
 abbrev pub outgoing : Out → Outgoing
-outgoing o = record { after = None; frames = frames_of o.posted; lane_full_seen = o.full_seen; pool_full_seen = least o.tried; full_at = o.full_at }
+outgoing o = record { after = None; owed = Some (λ op. 0); frames = frames_of o.posted; lane_full_seen = o.full_seen; pool_full_seen = least o.tried; full_at = o.full_at }
 
 abbrev pub frame_in : Option Sent → Option Frame
 frame_in None = None
@@ -60,6 +60,17 @@ got_seen p d = (out_at (part_of p) d).got_seen
 
 abbrev pub tries : RingPort → ℕ → List ℕ
 tries p d = (out_at (part_of p) d).tried
+
+-- the pool slot that each of these frames got
+abbrev pub slot_of : Sent → Option ℕ
+slot_of x = x.slot
+
+abbrev pub slots_of : List Sent → List (Option ℕ)
+slots_of xs = map slot_of xs
+
+-- the pool slot that each frame posted to d got
+abbrev pub slots : RingPort → ℕ → List (Option ℕ)
+slots p d = slots_of (out_at (part_of p) d).posted
 
 -- the greatest number of a frame that was posted or taken
 abbrev pub clock_of : RingPort → ℕ

@@ -5,6 +5,7 @@ ghost use Rattle.fab_wire.specs.Frames.{last_head, Continues, MayCome};
 ghost use Rattle.fab_link.specs.Plain.{lent_frames};
 ghost use Rattle.fab_table.specs.declared.kinds.Sent.{Sent};
 ghost use Rattle.fab_table.specs.Views.{frames_of, out_at, in_at, with_out, with_in, saw_full, saw_room, posted_one, saw_empty, saw_frame, freed_one, taken_one};
+ghost use Rattle.fab_table.specs.Rule.{Repays};
 ghost use Rattle.fab_table.specs.Plays.{most};
 ghost use Rattle.fab_ring.specs.Tries.{IsTried, IsSent, tried_out, sent_as};
 ghost use Rattle.fab_ring.specs.Ports.{part_of, peers_of, room_of, pool_of, clock_of, in_of, SamePort};
@@ -49,9 +50,10 @@ impl RingPort {
         requires below { dest < peers_of self.old }
         requires continues { Continues (last_head None (frames_of (out_at (part_of self.old) dest).posted)) head }
         requires filled { length bytes.now ≡ head.len }
+        requires repays { Repays (out_at (part_of self.old) dest) (in_at (part_of self.old) dest) head }
         ensures port { SamePort self.old self.new }
         ensures sent { OnOk result ((r : ℕ) × (slot : Option ℕ) × (ts : List ℕ) × (f : ℕ) × (length (out_at (part_of self.old) dest).posted < r + room_of self.old) × (clock_of self.old < most)
-            × IsSent (out_at (part_of self.old) dest) (pool_of self.old) slot ts f
+            × IsSent (out_at (part_of self.old) dest) (pool_of self.old) (length bytes.now) slot ts f
             × (part_of self.new ≡ with_out (part_of self.old) dest (posted_one (tried_out (saw_room (out_at (part_of self.old) dest) r) ts f true None) (sent_as head bytes.now (clock_of self.old + 1) slot)) ((part_of self.old).moves ++ Post dest (clock_of self.old + 1) ∷ []))) }
         ensures lane_full { IsErrOf result PostRefused.LaneFull → (r : ℕ) × ((length (out_at (part_of self.old) dest).posted ≡ r + room_of self.old) ⊎ (most ≤ clock_of self.old))
             × (part_of self.new ≡ with_out (part_of self.old) dest (saw_full (out_at (part_of self.old) dest) r) (part_of self.old).moves) }

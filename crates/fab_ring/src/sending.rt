@@ -6,9 +6,9 @@ ghost use Rattle.fab_wire.specs.Frames.{last_head, Continues};
 ghost use Rattle.fab_table.specs.declared.kinds.Command.{Command};
 ghost use Rattle.fab_table.specs.declared.kinds.Slot.TheVariants.{Cell, Pool};
 ghost use Rattle.fab_table.specs.Views.{frames_of, with_part, with_out, posted_one};
-ghost use Rattle.fab_table.specs.Rule.{greatest};
+ghost use Rattle.fab_table.specs.Rule.{Repays, greatest};
 ghost use Rattle.fab_table.specs.Plays.{SawGot, most, next_cell, slot_home, new_out_view, post_view};
-ghost use Rattle.fab_table.specs.Seats.{IsOf, IsSame, IsAt, carried, view_of_seat, sat, part_of, out_of, named};
+ghost use Rattle.fab_table.specs.Seats.{IsOf, IsSame, IsAt, carried, view_of_seat, sat, part_of, out_of, in_of, named};
 ghost use Rattle.fab_ring.specs.Tries.{IsTried, IsTriedFrom, IsMissed, IsSent, tried_out, sent_as};
 ghost use Rattle.fab_ring.specs.Alone.{IsAlone};
 
@@ -138,6 +138,7 @@ pub(crate) fn send_inline(
     requires hand { (c : Command) × (carried seat.old ≡ (next.now.place, Cell c) ∷ rest (carried seat.old)) }
     requires continues { Continues (last_head None (frames_of (out_of seat.old 0 next.now.dest).posted)) head }
     requires filled { (length bytes.now ≡ head.len) × (head.len ≤ 64) }
+    requires repays { Repays (out_of seat.old 0 next.now.dest) (in_of seat.old 0 next.now.dest) head }
     ensures seat { IsSame seat.old seat.new }
     ensures view { sat seat.new ≡ (post_view (view_of_seat seat.old) 0 next.now.dest (sent_as head bytes.now next.now.number None), rest (carried seat.old)) }
 {
@@ -164,6 +165,7 @@ pub(crate) fn send_pooled(
     requires hand { (c : Command) × (carried seat.old ≡ (next.now.place, Cell c) ∷ rest (carried seat.old)) }
     requires continues { Continues (last_head None (frames_of (out_of seat.old 0 next.now.dest).posted)) head }
     requires filled { length bytes.now ≡ head.len }
+    requires repays { Repays (out_of seat.old 0 next.now.dest) (in_of seat.old 0 next.now.dest) head }
     ensures seat { IsSame seat.old seat.new }
     ensures full { result ≡ false → (ts : List ℕ) × (f : ℕ) × IsTried (out_of seat.old 0 next.now.dest) fabric.now.pool ts f
         × (sat seat.new ≡ (new_out_view (view_of_seat seat.old) 0 next.now.dest (tried_out (out_of seat.old 0 next.now.dest) ts f false None), rest (carried seat.old))) }
@@ -200,10 +202,11 @@ pub(crate) fn send_next(
     requires hand { (c : Command) × (carried seat.old ≡ (next.now.place, Cell c) ∷ rest (carried seat.old)) }
     requires continues { Continues (last_head None (frames_of (out_of seat.old 0 next.now.dest).posted)) head }
     requires filled { length bytes.now ≡ head.len }
+    requires repays { Repays (out_of seat.old 0 next.now.dest) (in_of seat.old 0 next.now.dest) head }
     ensures seat { IsSame seat.old seat.new }
     ensures full { result ≡ false → (ts : List ℕ) × (f : ℕ) × (64 < length bytes.now) × IsTried (out_of seat.old 0 next.now.dest) fabric.now.pool ts f
         × (sat seat.new ≡ (new_out_view (view_of_seat seat.old) 0 next.now.dest (tried_out (out_of seat.old 0 next.now.dest) ts f false None), rest (carried seat.old))) }
-    ensures sent { result ≡ true → (slot : Option ℕ) × (ts : List ℕ) × (f : ℕ) × IsSent (out_of seat.old 0 next.now.dest) fabric.now.pool slot ts f
+    ensures sent { result ≡ true → (slot : Option ℕ) × (ts : List ℕ) × (f : ℕ) × IsSent (out_of seat.old 0 next.now.dest) fabric.now.pool (length bytes.now) slot ts f
         × (sat seat.new ≡ (with_part (view_of_seat seat.old) 0 (with_out (part_of seat.old 0) next.now.dest (posted_one (tried_out (out_of seat.old 0 next.now.dest) ts f true None) (sent_as head bytes.now next.now.number slot)) ((part_of seat.old 0).moves ++ Post next.now.dest next.now.number ∷ [])), rest (carried seat.old))) }
 {
     if bytes.len() <= 64 {

@@ -1,7 +1,8 @@
 //! Frames between ports of one table.
-ghost use Rattle.std.specs.Prelude.{◌≡◌, ◌<◌, ◌≤◌, ℕ, length, IfSome};
+ghost use Rattle.std.specs.Prelude.{◌≡◌, ◌<◌, ◌≤◌, ℕ, length, IfSome, false};
 ghost use Rattle.fab_wire.specs.Cut.{IsBetweenItems};
 ghost use Rattle.fab_wire.specs.Frames.{IsSound};
+ghost use Rattle.fab_wire.specs.Owing.{begins_reply};
 ghost use Rattle.fab_link.specs.Meaning.{end_of};
 ghost use Rattle.fab_ring.specs.Ports.{peers_of, out_of};
 ghost use Rattle.fab_ring.specs.Made.{IsNew, AreNew};
@@ -20,6 +21,7 @@ fn whole(tag: u64, total: u32) -> FrameHead
     ensures len { result.len ≡ total }
     ensures total { result.item.total ≡ total }
     ensures sound { IsSound result.item }
+    ensures message { begins_reply result ≡ false }
 {
     let item = ItemHead {
         kind: Kind::TagMsg,

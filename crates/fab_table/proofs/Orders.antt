@@ -1,5 +1,5 @@
 -- The order of one peer's moves, as it grows.
-use Rattle.std.proofs.Common.{◌≡◌, ℕ, ◌+◌, ◌<◌, ◌≤◌, max, eqb, cond, Bool, true, false, List, [], ◌∷◌, ◌++◌, map, length, sym, refl, ap, ◌∙◌, subst, arith, length-set, eq-eqb, ne_eqb, append-nil}
+use Rattle.std.proofs.Common.{◌≡◌, ℕ, zero, suc, ◌+◌, ◌<◌, ◌≤◌, max, get_or, set, eqb, cond, Bool, true, false, List, [], ◌∷◌, ◌++◌, map, length, sym, refl, ap, ◌∙◌, subst, arith, length-set, eq-eqb, ne_eqb, append-nil}
 use mathlib.Core.List.{map-append}
 use Rattle.fab_wire.specs.declared.moves.Move.{Move}
 use Rattle.fab_wire.specs.declared.moves.Move.TheVariants.{Post, Take}
@@ -8,8 +8,10 @@ use Rattle.fab_table.specs.declared.kinds.Sent.{Sent}
 use Rattle.fab_table.specs.declared.kinds.Out.{Out}
 use Rattle.fab_table.specs.declared.kinds.In.{In}
 use Rattle.fab_table.specs.declared.kinds.Part.{Part}
-use Rattle.fab_table.specs.Views.{new_out, new_in, out_at, in_at, with_out, with_in, posted_one, taken_one}
-use Rattle.fab_table.specs.Rule.{number, number_of, greatest, Kept}
+use Rattle.fab_table.specs.Views.{frame_of, frames_of, new_out, new_in, out_at, in_at, with_out, with_in, posted_one, taken_one}
+use Rattle.fab_table.specs.Rule.{Owes, Repays, number, number_of, greatest, Kept}
+use Rattle.fab_wire.specs.Owing.{IsOwed}
+use Rattle.fab_wire.proofs.Owed.{repays, owed_still}
 use Rattle.fab_table.proofs.Rows.{each_set}
 
 pub greatest_more : (g : ℕ) (ms : List Move) (m : Move) → greatest g (ms ++ m ∷ []) ≡ max (greatest g ms) (number_of m)
@@ -43,7 +45,18 @@ takes_more d [] m = refl
 takes_more d (Post e k ∷ xs) m = takes_more d xs m
 takes_more d (Take e k ∷ xs) m = (λ i. cond (eqb e d) (k ∷ takes_more d xs m i) (takes_more d xs m i)) ∙ cond_more (eqb e d) k (takes_of d xs) (takes_of d (m ∷ []))
 
+-- what holds of the new member, and of each other, holds of each after, and where there is none
+set_each : {A : Type 0} (F : ℕ → A → Type 0) (l : List A) (i : ℕ) (a d : A) → F i a → ((k : ℕ) → F k (get_or l k d)) → (k : ℕ) → F k (get_or (set l i a) k d)
+set_each F [] i a d here others k = others k
+set_each F (x ∷ xs) zero a d here others zero = here
+set_each F (x ∷ xs) zero a d here others (suc k) = others (suc k)
+set_each F (x ∷ xs) (suc i) a d here others zero = others zero
+set_each F (x ∷ xs) (suc i) a d here others (suc k) = set_each (λ j. F (suc j)) xs i a d here (λ j. others (suc j)) k
+
 module _ (p : Part) (k : Kept p) (d : ℕ) where
+  frames_more : (xs : List Sent) (x : Sent) → frames_of (xs ++ x ∷ []) ≡ frames_of xs ++ x.frame ∷ []
+  frames_more xs x = map-append frame_of xs (x ∷ [])
+
   -- a step that is no post and no take
   pub kept_out : (o : Out) → d < length p.outs → o.posted ≡ (out_at p d).posted → Kept (with_out p d o p.moves)
   kept_out o near same = record {
@@ -52,6 +65,7 @@ module _ (p : Part) (k : Kept p) (d : ℕ) where
         (subst (λ (z : ℕ). e < z) (length-set p.outs d o) l);
     takes = k.takes;
     no_takes = k.no_takes;
+    repaid = λ e op. set_each (λ q z. Owes z (in_at p q) op 0) p.outs d o (new_out 0) (subst (λ z. IsOwed (λ op. 0) (frames_of z) (frames_of (in_at p d).taken) op 0) (sym same) (k.repaid d op)) (λ q. k.repaid q op) e;
   }
 
   pub kept_in : (u : In) → d < length p.ins → u.taken ≡ (in_at p d).taken → Kept (with_in p d u p.moves)
@@ -61,11 +75,12 @@ module _ (p : Part) (k : Kept p) (d : ℕ) where
     takes = λ e l. each_set (λ q (z : In). takes_of q p.moves ≡ map number z.taken) p.ins d u new_in (k.takes d near ∙ ap (map number) (sym same)) (λ q ne inside. k.takes q inside) e
         (subst (λ (z : ℕ). e < z) (length-set p.ins d u) l);
     no_takes = λ s far. k.no_takes s (subst (λ (z : ℕ). z ≤ s) (length-set p.ins d u) far);
+    repaid = λ e op. set_each (λ q z. Owes (out_at p q) z op 0) p.ins d u new_in (subst (λ z. IsOwed (λ op. 0) (frames_of (out_at p d).posted) (frames_of z) op 0) (sym same) (k.repaid d op)) (λ q. k.repaid q op) e;
   }
 
   -- a post, with the next number
-  pub kept_post : (x : Sent) → d < length p.outs → x.number ≡ greatest 0 p.moves + 1 → Kept (with_out p d (posted_one (out_at p d) x) (p.moves ++ Post d x.number ∷ []))
-  kept_post x near next = let m : Move = Post d x.number in record {
+  pub kept_post : (x : Sent) → d < length p.outs → x.number ≡ greatest 0 p.moves + 1 → Repays (out_at p d) (in_at p d) x.frame.head → Kept (with_out p d (posted_one (out_at p d) x) (p.moves ++ Post d x.number ∷ []))
+  kept_post x near next owed = let m : Move = Post d x.number in record {
     stamped = stamped_post 0 p.moves d x.number k.stamped next;
     posts = λ e l. each_set (λ q (z : Out). posts_to q (p.moves ++ m ∷ []) ≡ map number z.posted) p.outs d (posted_one (out_at p d) x) (new_out 0)
         (posts_more d p.moves m ∙ (λ i. k.posts d near i ++ cond (eq-eqb d d refl i) (x.number ∷ []) []) ∙ sym (map-append number (out_at p d).posted (x ∷ [])))
@@ -73,6 +88,8 @@ module _ (p : Part) (k : Kept p) (d : ℕ) where
         (subst (λ (z : ℕ). e < z) (length-set p.outs d (posted_one (out_at p d) x)) l);
     takes = λ e l. takes_more e p.moves m ∙ append-nil (takes_of e p.moves) ∙ k.takes e l;
     no_takes = λ s far. takes_more s p.moves m ∙ append-nil (takes_of s p.moves) ∙ k.no_takes s far;
+    repaid = λ e op. set_each (λ q z. Owes z (in_at p q) op 0) p.outs d (posted_one (out_at p d) x) (new_out 0)
+        (subst (λ z. IsOwed (λ op. 0) z (frames_of (in_at p d).taken) op 0) (sym (frames_more (out_at p d).posted x)) (repays (λ op. 0) op (frames_of (out_at p d).posted) (frames_of (in_at p d).taken) x.frame (k.repaid d op) owed)) (λ q. k.repaid q op) e;
   }
 
   pub kept_take : (x : Sent) → d < length p.ins → Kept (with_in p d (taken_one (in_at p d) x) (p.moves ++ Take d x.number ∷ []))
@@ -85,4 +102,6 @@ module _ (p : Part) (k : Kept p) (d : ℕ) where
         (subst (λ (z : ℕ). e < z) (length-set p.ins d (taken_one (in_at p d) x)) l);
     no_takes = λ s far. let far' : length p.ins ≤ s = subst (λ (z : ℕ). z ≤ s) (length-set p.ins d (taken_one (in_at p d) x)) far in
         takes_more s p.moves m ∙ (λ i. takes_of s p.moves ++ cond (ne_eqb d s (λ e. omega arith) i) (x.number ∷ []) []) ∙ append-nil (takes_of s p.moves) ∙ k.no_takes s far';
+    repaid = λ e op. set_each (λ q z. Owes (out_at p q) z op 0) p.ins d (taken_one (in_at p d) x) new_in
+        (subst (λ z. IsOwed (λ op. 0) (frames_of (out_at p d).posted) z op 0) (sym (frames_more (in_at p d).taken x)) (owed_still (λ op. 0) op 0 (frames_of (out_at p d).posted) (frames_of (in_at p d).taken) (x.frame ∷ []) (k.repaid d op))) (λ q. k.repaid q op) e;
   }

@@ -18,7 +18,8 @@ use Rattle.fab_table.specs.declared.kinds.Out.{Out}
 use Rattle.fab_table.specs.declared.kinds.In.{In}
 use Rattle.fab_table.specs.declared.kinds.Part.{Part}
 use Rattle.fab_table.specs.declared.kinds.View.{View}
-use Rattle.fab_table.specs.Views.{pool_word, new_out, new_in, new_part, parts_from, everyone, nobody, only_first, but_first, both, part_at, lane_of, put_word, got_word}
+use Rattle.fab_wire.specs.Owing.{IsOwed}
+use Rattle.fab_table.specs.Views.{frames_of, pool_word, new_out, new_in, new_part, parts_from, everyone, nobody, only_first, but_first, both, part_at, in_at, lane_of, put_word, got_word}
 use Rattle.fab_table.specs.Plays.{Sat, learned}
 use Rattle.fab_table.specs.Rule.{free, IsCell, IsBuf, Lane, OutOk, InOk, number, Kept, PartOk, Ruled}
 use Rattle.fab_table.proofs.Rows.{at_end, pick, pair_below}
@@ -167,12 +168,18 @@ module _ (n room pool i : ℕ) where
   abbrev p : Part
   p = new_part n room pool i
 
+  none_posted : (m d : ℕ) → (get_or (replicate m (new_out pool)) d (new_out 0)).posted ≡ []
+  none_posted zero d = refl
+  none_posted (suc m) zero = refl
+  none_posted (suc m) (suc d) = none_posted m d
+
   new_kept : Kept p
   new_kept = record {
     stamped = tt;
     posts = λ d near. ap (λ (z : Out). map number z.posted) (sym (same_within n d (new_out pool) (new_out 0) (subst (λ (z : ℕ). d < z) (length-replicate n (new_out pool)) near)));
     takes = λ d near. ap (λ (z : In). map number z.taken) (sym (same_all n d new_in));
     no_takes = λ s far. refl;
+    repaid = λ d op. subst (λ (z : List Sent). IsOwed (λ op. 0) (frames_of z) (frames_of (in_at p d).taken) op 0) (sym (none_posted n d)) (omega arith);
   }
 
   new_ok : i < n → PartOk n room pool (λ _. empty_lane) (λ m. (0, m)) 0 i p

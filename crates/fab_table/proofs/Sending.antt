@@ -22,8 +22,8 @@ use Rattle.fab_table.specs.declared.kinds.Slot.TheVariants.{Cell, Pool}
 use Rattle.fab_table.specs.declared.kinds.Out.{Out}
 use Rattle.fab_table.specs.declared.kinds.Part.{Part}
 use Rattle.fab_table.specs.declared.kinds.View.{View}
-use Rattle.fab_table.specs.Views.{frames_of, claimed_one, refused_one, left_one, pool_word, pool_home, part_at, out_at, saw_full, saw_room, posted_one, lane_of, put_word, got_word, still_word}
-use Rattle.fab_table.specs.Rule.{IsCell, CellAt, said_inline, said_pooled, Fills, IsBuf, greatest, Place, sent, claimed, free, PlaceOk, Homes, Lane, cell_of, LaneOk, Ruled}
+use Rattle.fab_table.specs.Views.{frames_of, claimed_one, refused_one, left_one, pool_word, pool_home, part_at, out_at, in_at, saw_full, saw_room, posted_one, lane_of, put_word, got_word, still_word}
+use Rattle.fab_table.specs.Rule.{Repays, IsCell, CellAt, said_inline, said_pooled, Fills, IsBuf, greatest, Place, sent, claimed, free, PlaceOk, Homes, Lane, cell_of, LaneOk, Ruled}
 use Rattle.fab_table.specs.Plays.{claims, ClaimsAt, reserves_cell, ReservesAt, leaves, posts_pooled, claim_view, slot_home, most, Sat, out_lane, next_cell, new_out_view, post_view, SawGot, saw_got, posts}
 use Rattle.fab_table.proofs.Rows.{put, pair_once, pair_below}
 use Rattle.fab_table.proofs.Cells.{stays, with_writing, with_post, reserves, joins, returns}
@@ -119,10 +119,10 @@ reserves_one k slots id me w i d near low is idle seen s r wide at small =
 
 -- a frame is published
 pub posts_one : (k : Layout) (slots id : ℕ) (me : Sat) (w i d new : ℕ) (c₀ : Command) → i < length me.0.parts → d < (part_at me.0 i).peers → w ≡ put_word (out_lane me.0 i d) → (out_at (part_at me.0 i) d).writing ≡ true
-    → new ≡ length (out_at (part_at me.0 i) d).posted + 1 → c₀.number ≡ greatest 0 (part_at me.0 i).moves + 1 → (out_at (part_at me.0 i) d).claim ≡ None → c₀.slot ≡ None → MayCome (last_head None (frames_of (out_at (part_at me.0 i) d).posted)) (said_inline c₀).frame → c₀.head.len ≤ 64 → me.1 ≡ (next_cell me.0 i d, Cell c₀) ∷ rest me.1
+    → new ≡ length (out_at (part_at me.0 i) d).posted + 1 → c₀.number ≡ greatest 0 (part_at me.0 i).moves + 1 → (out_at (part_at me.0 i) d).claim ≡ None → c₀.slot ≡ None → MayCome (last_head None (frames_of (out_at (part_at me.0 i) d).posted)) (said_inline c₀).frame → Repays (out_at (part_at me.0 i) d) (in_at (part_at me.0 i) d) c₀.head → c₀.head.len ≤ 64 → me.1 ≡ (next_cell me.0 i d, Cell c₀) ∷ rest me.1
     → Allows (Ruled k) slots id me w (λ _. new) (λ _. posts (step slots w new 0 none) me)
 unfolding command_in command_or
-posts_one k slots id me w i d new c₀ near low is hand up next idle inline comes sized carried s r wide at small = let x : Sent = said_inline c₀ in
+posts_one k slots id me w i d new c₀ near low is hand up next idle inline comes owed sized carried s r wide at small = let x : Sent = said_inline c₀ in
     let v : View = me.0 in let p : Part = part_at v i in let o : Out = out_at p d in let known = mine k s r id v at i near in let n : ℕ = k.peers in let room : ℕ = k.room in
     let low' : d < n = subst (λ (z : ℕ). d < z) known.peers low in let l : ℕ = lane_of n p.me d in let lane : Lane = r.lane l in let f = known.outs d low' in let below = pair_below n n p.me d known.below low' in
     let put : ℕ = get_or s.words (put_word l) 0 in let got : ℕ = get_or s.words (got_word l) 0 in
@@ -142,7 +142,7 @@ posts_one k slots id me w i d new c₀ near low is hand up next idle inline come
     (subst (λ (z : ℕ × ℕ). LaneOk room (l * room) z.0 z.1 hs (with_post lane x)) (λ a. (sym first a, sym second a)) joined)
     ((λ a. f.0 a ++ x ∷ []), f.1, refl, refl)
     (λ u h. let b = h.1 in let le = ok.behind in (h.0 ∙ sym (take-append-le lane.got lane.posted (x ∷ []) le), (let e = length-append lane.posted (x ∷ []) in omega arith), h.2, h.3))
-    (kept_post p known.kept d x within_outs next) in (
+    (kept_post p known.kept d x within_outs next owed) in (
       post_view v i d x,
       gives,
       tt,
@@ -161,10 +161,10 @@ free_home n lane q word home (sent s d k) e ok = absurd (let f = ok.0 in omega a
 
 -- a frame is published whose bytes are in the slot in hand
 pub posts_pooled_one : (k : Layout) (slots id : ℕ) (me : Sat) (w i d new q : ℕ) (c₀ : Command) (b : List ℕ) (more : List (ℕ × Slot)) → i < length me.0.parts → d < (part_at me.0 i).peers → w ≡ put_word (out_lane me.0 i d) → (out_at (part_at me.0 i) d).writing ≡ true
-    → new ≡ length (out_at (part_at me.0 i) d).posted + 1 → c₀.number ≡ greatest 0 (part_at me.0 i).moves + 1 → (out_at (part_at me.0 i) d).claim ≡ Some q → c₀.slot ≡ Some q → MayCome (last_head None (frames_of (out_at (part_at me.0 i) d).posted)) (said_pooled c₀ b).frame → length b ≡ 4096 → me.1 ≡ (slot_home me.0 i q, Pool b) ∷ (next_cell me.0 i d, Cell c₀) ∷ more
+    → new ≡ length (out_at (part_at me.0 i) d).posted + 1 → c₀.number ≡ greatest 0 (part_at me.0 i).moves + 1 → (out_at (part_at me.0 i) d).claim ≡ Some q → c₀.slot ≡ Some q → MayCome (last_head None (frames_of (out_at (part_at me.0 i) d).posted)) (said_pooled c₀ b).frame → Repays (out_at (part_at me.0 i) d) (in_at (part_at me.0 i) d) c₀.head → length b ≡ 4096 → me.1 ≡ (slot_home me.0 i q, Pool b) ∷ (next_cell me.0 i d, Cell c₀) ∷ more
     → Allows (Ruled k) slots id me w (λ _. new) (λ _. posts_pooled (step slots w new 0 none) me)
 unfolding command_in command_or buffer_in buffer_or
-posts_pooled_one k slots id me w i d new q c₀ b more near low is hand up next held large comes sized carried s r wide at small = let x : Sent = said_pooled c₀ b in let fits : Fills x (Pool b) = (sized, refl) in
+posts_pooled_one k slots id me w i d new q c₀ b more near low is hand up next held large comes owed sized carried s r wide at small = let x : Sent = said_pooled c₀ b in let fits : Fills x (Pool b) = (sized, refl) in
     let v : View = me.0 in let p : Part = part_at v i in let o : Out = out_at p d in let known = mine k s r id v at i near in let n : ℕ = k.peers in let room : ℕ = k.room in
     let low' : d < n = subst (λ (z : ℕ). d < z) known.peers low in let l : ℕ = lane_of n p.me d in let lane : Lane = r.lane l in let f = known.outs d low' in let below = pair_below n n p.me d known.below low' in
     let was_put : ℕ = get_or s.words (put_word l) 0 in let got : ℕ = get_or s.words (got_word l) 0 in
@@ -188,7 +188,7 @@ posts_pooled_one k slots id me w i d new q c₀ b more near low is hand up next 
     (subst (λ (z : ℕ × ℕ). LaneOk room (l * room) z.0 z.1 hs (with_post lane x)) (λ a. (sym first a, sym second a)) joined)
     ((λ a. f.0 a ++ x ∷ []), f.1, refl, refl)
     (λ u h. let b = h.1 in let le = ok.behind in (h.0 ∙ sym (take-append-le lane.got lane.posted (x ∷ []) le), (let e = length-append lane.posted (x ∷ []) in omega arith), h.2, h.3))
-    (kept_post p known.kept d x within_outs next) in (
+    (kept_post p known.kept d x within_outs next owed) in (
       post_view v i d x,
       chain gives gives,
       (tt, tt),

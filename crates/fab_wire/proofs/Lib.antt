@@ -3,3 +3,4 @@ pub mod Joining
 pub mod Parts
 pub mod Merging
 mod Samples
+pub mod Owed

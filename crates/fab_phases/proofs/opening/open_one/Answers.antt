@@ -1,5 +1,8 @@
-use Rattle.std.proofs.Common.{ap, ◌∙◌, ◌≡◌, [], false, refl, sym, subst}
-use Rattle.fab_face.specs.Held.{Held}
+use Rattle.std.proofs.Common.{ap, ◌∙◌, ◌≡◌, ℕ, [], None, false, refl, sym, subst}
+use Rattle.fab_face.specs.Held.{Held, IsPledged, due}
+use Rattle.fab_face.proofs.Repaid.{nothing_due, nothing_pledged}
+use Rattle.fab_finish.specs.Joined.{start}
+use Rattle.fab_finish.proofs.Starting.{same_at}
 use Rattle.fab_face.specs.Ports.{Whole}
 use Rattle.fab_ring.specs.declared.port.RingPort.{RingPort}
 use Rattle.fab_threads.specs.Pasts.{past_of, begun}
@@ -18,3 +21,9 @@ start-requires-clause-multis g c = subst (λ (h : Held). h.multis ≡ []) (sym c
 
 pub start-requires-clause-unread : goal.start-requires-clause-unread
 start-requires-clause-unread g c = subst (λ (h : Held). h.state.cq.taken_out ≡ 0) (sym c.requires.start) refl
+
+pub start-requires-clause-none_due : goal.start-requires-clause-none_due
+start-requires-clause-none_due g c = subst (λ (h : Held). (d op : ℕ) → due h d op ≡ 0) (sym c.requires.start) (nothing_due (start c.args.conf.now) (λ d. same_at c.args.conf.now.peers d []) refl refl)
+
+pub start-requires-clause-pledged : goal.start-requires-clause-pledged
+start-requires-clause-pledged g c = subst (λ (h : Held). IsPledged h) (sym c.requires.start) (nothing_pledged (start c.args.conf.now) (λ s. same_at c.args.conf.now.peers s None) refl refl)

@@ -6,8 +6,8 @@ use Rattle.fab_table.specs.declared.kinds.Command.{Command}
 use Rattle.fab_table.specs.declared.kinds.Slot.{Slot}
 use Rattle.fab_table.specs.declared.kinds.Slot.TheVariants.{Cell}
 use Rattle.fab_table.specs.declared.kinds.View.{View}
-use Rattle.fab_table.specs.Views.{frames_of, part_at, out_at}
-use Rattle.fab_table.specs.Rule.{said_inline, greatest}
+use Rattle.fab_table.specs.Views.{frames_of, part_at, out_at, in_at}
+use Rattle.fab_table.specs.Rule.{Repays, said_inline, greatest}
 use Rattle.fab_table.specs.Plays.{Sat, post_view, next_cell}
 use Rattle.fab_table.specs.Seats.{carried, view_of_seat, written}
 use Rattle.fab_ring.specs.Tries.{sent_as}
@@ -35,8 +35,8 @@ publish-requires-clause-count c = let v : View = view_of_seat c.args.seat.now in
 pub publish-requires-clause-cell : goal.publish-requires-clause-cell
 publish-requires-clause-cell c = let v : View = view_of_seat c.args.seat.now in let d : ℕ = c.args.next.now.dest in let a = c.requires.alone in let place : ℕ = c.args.next.now.place in let hand : List (ℕ × Slot) = rest (carried c.args.seat.now) in let n : ℕ = c.args.next.now.number in
     let c₀ : Command = c.requires.hand.0 in let k : Command = written c₀ n c.args.head c.args.bytes.now in let w = c.write.ensures.view c₀ c.requires.hand.1 in let said : take c.args.head.len k.inline ≡ c.args.bytes.now = take_all c.args.head.len c.args.bytes.now (drop (length c.args.bytes.now) c₀.inline) c.requires.filled.0 in
-    subst (λ (m : Sat). (x : Command) × (m.1 ≡ (next_cell m.0 0 d, Cell x) ∷ rest m.1) × (x.slot ≡ None) × (x.head.len ≤ 64) × (x.number ≡ greatest 0 (part_at m.0 0).moves + 1) × MayCome (last_head None (frames_of (out_at (part_at m.0 0) d).posted)) (said_inline x).frame) (sym w)
-    (k, (λ i. (c.requires.place i, Cell k) ∷ hand), refl, c.requires.filled.1, c.requires.number, (c.requires.continues, ap length said ∙ c.requires.filled.0))
+    subst (λ (m : Sat). (x : Command) × (m.1 ≡ (next_cell m.0 0 d, Cell x) ∷ rest m.1) × (x.slot ≡ None) × (x.head.len ≤ 64) × (x.number ≡ greatest 0 (part_at m.0 0).moves + 1) × MayCome (last_head None (frames_of (out_at (part_at m.0 0) d).posted)) (said_inline x).frame × Repays (out_at (part_at m.0 0) d) (in_at (part_at m.0 0) d) x.head) (sym w)
+    (k, (λ i. (c.requires.place i, Cell k) ∷ hand), refl, c.requires.filled.1, c.requires.number, (c.requires.continues, ap length said ∙ c.requires.filled.0), c.requires.repays)
 
 pub returns-clause-view : goal.returns-clause-view
 returns-clause-view c = let v : View = view_of_seat c.args.seat.now in let d : ℕ = c.args.next.now.dest in let a = c.requires.alone in let place : ℕ = c.args.next.now.place in let hand : List (ℕ × Slot) = rest (carried c.args.seat.now) in let n : ℕ = c.args.next.now.number in

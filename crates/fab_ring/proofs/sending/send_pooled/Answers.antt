@@ -6,10 +6,11 @@ use Rattle.fab_table.specs.declared.kinds.Command.{Command}
 use Rattle.fab_table.specs.declared.kinds.Slot.{Slot}
 use Rattle.fab_table.specs.declared.kinds.Slot.TheVariants.{Cell, Pool}
 use Rattle.fab_table.specs.declared.kinds.Out.{Out}
+use Rattle.fab_table.specs.declared.kinds.In.{In}
 use Rattle.fab_table.specs.declared.kinds.Part.{Part}
 use Rattle.fab_table.specs.declared.kinds.View.{View}
-use Rattle.fab_table.specs.Views.{frames_of, part_at, out_at, with_out}
-use Rattle.fab_table.specs.Rule.{said_pooled, greatest}
+use Rattle.fab_table.specs.Views.{frames_of, part_at, out_at, in_at, with_out}
+use Rattle.fab_table.specs.Rule.{Repays, said_pooled, greatest}
 use Rattle.fab_table.specs.Plays.{Sat, new_out_view, post_view, next_cell, slot_home}
 use Rattle.fab_table.specs.Seats.{carried, view_of_seat, sat, named, written}
 use Rattle.fab_ring.specs.Tries.{IsTried, IsMissed, tried_out, sent_as}
@@ -101,7 +102,7 @@ publish_pooled-requires-clause-slot c = let v : View = view_of_seat c.args.seat.
     let fs : sat c.fill.new.seat ≡ (new_out_view v 0 d o₂, (slot_home v 0 q, Pool b₂) ∷ (place, Cell (named k q)) ∷ hand) = fl.1 ∙ (λ i. ((cs i).0, (at i, Pool b₂) ∷ rest (cs i).1)) in
     let part = part_out v d a.one low o₂ in let here = here_out v d a.one low o₂ in let said : take c.args.head.len b₂ ≡ c.args.bytes.now = (λ i. take (sym c.requires.filled i) b₂) ∙ fl.3 in
     subst (λ (m : Sat). (q : ℕ) × (c₁ : Command) × (b₁ : List ℕ) × (m.1 ≡ (slot_home m.0 0 q, Pool b₁) ∷ (next_cell m.0 0 d, Cell c₁) ∷ rest (rest m.1)) × ((out_at (part_at m.0 0) d).claim ≡ Some q) × (c₁.slot ≡ Some q) × (length b₁ ≡ 4096)
-    × (c₁.number ≡ greatest 0 (part_at m.0 0).moves + 1) × MayCome (last_head None (frames_of (out_at (part_at m.0 0) d).posted)) (said_pooled c₁ b₁).frame) (sym fs) (
+    × (c₁.number ≡ greatest 0 (part_at m.0 0).moves + 1) × MayCome (last_head None (frames_of (out_at (part_at m.0 0) d).posted)) (said_pooled c₁ b₁).frame × Repays (out_at (part_at m.0 0) d) (in_at (part_at m.0 0) d) c₁.head) (sym fs) (
       q,
       named k q,
       b₂,
@@ -111,6 +112,7 @@ publish_pooled-requires-clause-slot c = let v : View = view_of_seat c.args.seat.
       fl.2 ∙ got.4,
       c.requires.number ∙ ap (λ (z : Part). greatest 0 z.moves + 1) (sym part),
       (subst (λ (z : Out). Continues (last_head None (frames_of z.posted)) c.args.head) (sym here) c.requires.continues, ap length said ∙ c.requires.filled),
+      subst (λ (z : Out × In). Repays z.0 z.1 c.args.head) (λ i. (sym here i, in_at (sym part i) d)) c.requires.repays,
     )
 
 pub returns-clause-sent : goal.returns-clause-sent

@@ -43,7 +43,7 @@ pub invariant_of-self-2 : goal.invariant_of-self-2
 invariant_of-self-2 g c =
     let i = c.self-2.inside in (
       c.self-2.invariant.0,
-      tied_received (seen g.P.Port (record { port = i.port; held = g.C.Machine.held i.core; log = i.log.items; log_size = i.log_size; pushed = i.pushed })) _ _ c.self-2.invariant.1 c.in_ok-take_claimed.ensures.ok c.in_ok-take_claimed.ensures.next refl refl refl,
+      tied_received (seen g.P.Port (record { port = i.port; held = g.C.Machine.held i.core; log = i.log.items; log_size = i.log_size; pushed = i.pushed })) _ _ c.self-2.invariant.1 c.in_ok-take_claimed.ensures.ok c.in_ok-take_claimed.ensures.next refl refl refl c.known.ensures,
     )
 
 pub returns-clause-ok : goal.returns-clause-ok

@@ -1,4 +1,4 @@
-use Rattle.std.proofs.Common.{rules, refl, ap, Ok, Some, ◌∷◌, []}
+use Rattle.std.proofs.Common.{rules, refl, ap, Ok, Some, None, ◌∷◌, []}
 use Rattle.fab_wire.specs.Frames.{lent_frame}
 use Rattle.fab_face.specs.Acts.{Ported, Took}
 use Rattle.fab_face.specs.Ports.{seen, lanes_in}
@@ -29,7 +29,7 @@ invariant_of-self-2 g c =
       search rules,
       tied_took (seen m (record { port = i.port; held = g.C.Machine.held i.core; log = i.log.items; log_size = i.log_size; pushed = i.pushed })) _ c.args.source (lent_frame c.in-Some.frame)
           c.self.invariant.1 (search rules) took (c.in_ok-take.ensures.yes taken) c.in-Some.ensures.gives.0 (c.in_ok-take.ensures.next taken) c.in_ok-take.ensures.places
-          (most_two i.log.items c.log_if.new.log.items c.log_if-2.new.log.items _ _ (Head c.args.source) (Tail c.args.source) i.log_size (c.is_short.ensures.room c.if-is_short.false) c.log_if.ensures.items c.log_if-2.ensures.items) refl,
+          (most_two i.log.items c.log_if.new.log.items c.log_if-2.new.log.items _ _ (Head c.args.source) (Tail c.args.source) i.log_size (c.is_short.ensures.room c.if-is_short.false) c.log_if.ensures.items c.log_if-2.ensures.items) refl c.known.ensures,
     )
 
 pub returns-clause-tries : goal.returns-clause-tries
@@ -62,6 +62,30 @@ invariant_of-self-then-not-branch g c =
       c.self.invariant.0,
       tied_looked (seen m (record { port = i.port; held = g.C.Machine.held i.core; log = i.log.items; log_size = i.log_size; pushed = i.pushed })) _ c.self.invariant.1
           (c.in_ok-take.ensures.stays (ap Ok c.if-not-branch.true)) refl refl
+          (peeked _ (lanes_in m c.front.follows.lender-at-none) c.args.source (Some c.in-Some.frame) (rw c.in-Some.is at after.0)
+          (record { others = after.1; outs = after.2; number = after.3; peers = after.4; home = after.5; in_list = ap m.in_list after.5 }) (moved_same _ _ after.6)),
+    )
+
+pub invariant_of-self-in_default : goal.invariant_of-self-in_default
+invariant_of-self-in_default g c =
+    let m = g.P.Port in
+    let i = c.self.inside in
+    let after = c.front.follows.holds-at-none in (
+      c.self.invariant.0,
+      tied_looked (seen m (record { port = i.port; held = g.C.Machine.held i.core; log = i.log.items; log_size = i.log_size; pushed = i.pushed })) _ c.self.invariant.1
+          refl refl refl
+          (peeked _ (lanes_in m c.front.follows.lender-at-none) c.args.source None (rw c.in_default.is at after.0)
+          (record { others = after.1; outs = after.2; number = after.3; peers = after.4; home = after.5; in_list = ap m.in_list after.5 }) (moved_same _ _ after.6)),
+    )
+
+pub invariant_of-self-in_err-take : goal.invariant_of-self-in_err-take
+invariant_of-self-in_err-take g c =
+    let m = g.P.Port in
+    let i = c.self.inside in
+    let after = c.front.follows.holds-at-none in (
+      c.self.invariant.0,
+      tied_looked (seen m (record { port = i.port; held = g.C.Machine.held i.core; log = i.log.items; log_size = i.log_size; pushed = i.pushed })) _ c.self.invariant.1
+          c.in_err-take.ensures.err refl refl
           (peeked _ (lanes_in m c.front.follows.lender-at-none) c.args.source (Some c.in-Some.frame) (rw c.in-Some.is at after.0)
           (record { others = after.1; outs = after.2; number = after.3; peers = after.4; home = after.5; in_list = ap m.in_list after.5 }) (moved_same _ _ after.6)),
     )
