@@ -1,5 +1,5 @@
 -- What a port means, and what its calls do to that meaning.
-use Rattle.std.specs.Prelude.{◌≡◌, ◌≢◌, ℕ, ◌+◌, ◌≤◌, ◌⊎◌, true, List, [], ◌∷◌, ◌++◌, length, Option, Some, None, IfSome, ⊤}
+use Rattle.std.specs.Prelude.{◌≡◌, ◌≢◌, ℕ, ◌≤◌, ◌⊎◌, true, List, [], ◌∷◌, ◌++◌, length, Option, Some, None, IfSome, ⊤}
 use Rattle.std.specs.Borrow.{follows_so, Fml, RattleType, MutBor}
 use mathlib.Core.Option.{none}
 use Rattle.fab_base.specs.Counts.{Rose}
@@ -8,7 +8,7 @@ use Rattle.fab_base.specs.declared.frames.Frame.{Frame}
 use Rattle.fab_base.specs.declared.frames.FrameRef.{FrameRef}
 use Rattle.fab_wire.specs.declared.moves.Move.{Move}
 use Rattle.fab_wire.specs.Frames.{lent_frame, last_head, MayCome}
-use Rattle.fab_wire.specs.Owing.{begins_reply, replies, owing}
+use Rattle.fab_wire.specs.Owing.{begins_reply, IsOwed}
 
 -- one direction of a port towards one peer: what was posted to it
 pub record Outgoing : Type 0 where
@@ -61,10 +61,9 @@ end_of o = last_head o.after o.frames
 abbrev pub taken_end : Incoming → Option FrameHead
 taken_end i = last_head i.after i.taken
 
--- The peer is owed at least so many replies to this operation, where the port tells it: the items of the operation that
--- owe one and were taken whole, with those before the list, are at least so many more than the replies that were begun.
+-- the peer is owed at least so many replies to this operation, where the port tells it
 abbrev pub Owes : Outgoing → Incoming → ℕ → ℕ → Type 0
-Owes o i op n = IfSome o.owed (λ before. replies op o.frames + n ≤ before op + owing op i.taken)
+Owes o i op n = IfSome o.owed (λ before. IsOwed before o.frames i.taken op n)
 
 -- the frame is not the first one of a reply, or the reply is owed
 abbrev pub Repays : Outgoing → Incoming → FrameHead → Type 0

@@ -9,9 +9,9 @@ use Rattle.fab_table.specs.declared.kinds.Out.{Out}
 use Rattle.fab_table.specs.declared.kinds.In.{In}
 use Rattle.fab_table.specs.declared.kinds.Part.{Part}
 use Rattle.fab_table.specs.Views.{frame_of, frames_of, new_out, new_in, out_at, in_at, with_out, with_in, posted_one, taken_one}
-use Rattle.fab_table.specs.Rule.{Repays, number, number_of, greatest, Kept}
-use Rattle.fab_wire.specs.Owing.{replies, owing}
-use Rattle.fab_wire.proofs.Owed.{repays, owing_more}
+use Rattle.fab_table.specs.Rule.{Owes, Repays, number, number_of, greatest, Kept}
+use Rattle.fab_wire.specs.Owing.{IsOwed}
+use Rattle.fab_wire.proofs.Owed.{repays, owed_still}
 use Rattle.fab_table.proofs.Rows.{each_set}
 
 pub greatest_more : (g : ℕ) (ms : List Move) (m : Move) → greatest g (ms ++ m ∷ []) ≡ max (greatest g ms) (number_of m)
@@ -54,9 +54,6 @@ set_each F (x ∷ xs) (suc i) a d here others zero = others zero
 set_each F (x ∷ xs) (suc i) a d here others (suc k) = set_each (λ j. F (suc j)) xs i a d here (λ j. others (suc j)) k
 
 module _ (p : Part) (k : Kept p) (d : ℕ) where
-  abbrev Repaid : ℕ → ℕ → Out → In → Type 0
-  Repaid op q o u = replies op (frames_of o.posted) ≤ owing op (frames_of u.taken)
-
   frames_more : (xs : List Sent) (x : Sent) → frames_of (xs ++ x ∷ []) ≡ frames_of xs ++ x.frame ∷ []
   frames_more xs x = map-append frame_of xs (x ∷ [])
 
@@ -68,7 +65,7 @@ module _ (p : Part) (k : Kept p) (d : ℕ) where
         (subst (λ (z : ℕ). e < z) (length-set p.outs d o) l);
     takes = k.takes;
     no_takes = k.no_takes;
-    repaid = λ e op. set_each (λ q z. Repaid op q z (in_at p q)) p.outs d o (new_out 0) (subst (λ z. replies op (frames_of z) ≤ owing op (frames_of (in_at p d).taken)) (sym same) (k.repaid d op)) (λ q. k.repaid q op) e;
+    repaid = λ e op. set_each (λ q z. Owes z (in_at p q) op 0) p.outs d o (new_out 0) (subst (λ z. IsOwed (λ op. 0) (frames_of z) (frames_of (in_at p d).taken) op 0) (sym same) (k.repaid d op)) (λ q. k.repaid q op) e;
   }
 
   pub kept_in : (u : In) → d < length p.ins → u.taken ≡ (in_at p d).taken → Kept (with_in p d u p.moves)
@@ -78,7 +75,7 @@ module _ (p : Part) (k : Kept p) (d : ℕ) where
     takes = λ e l. each_set (λ q (z : In). takes_of q p.moves ≡ map number z.taken) p.ins d u new_in (k.takes d near ∙ ap (map number) (sym same)) (λ q ne inside. k.takes q inside) e
         (subst (λ (z : ℕ). e < z) (length-set p.ins d u) l);
     no_takes = λ s far. k.no_takes s (subst (λ (z : ℕ). z ≤ s) (length-set p.ins d u) far);
-    repaid = λ e op. set_each (λ q z. Repaid op q (out_at p q) z) p.ins d u new_in (subst (λ z. replies op (frames_of (out_at p d).posted) ≤ owing op (frames_of z)) (sym same) (k.repaid d op)) (λ q. k.repaid q op) e;
+    repaid = λ e op. set_each (λ q z. Owes (out_at p q) z op 0) p.ins d u new_in (subst (λ z. IsOwed (λ op. 0) (frames_of (out_at p d).posted) (frames_of z) op 0) (sym same) (k.repaid d op)) (λ q. k.repaid q op) e;
   }
 
   -- a post, with the next number
@@ -91,8 +88,8 @@ module _ (p : Part) (k : Kept p) (d : ℕ) where
         (subst (λ (z : ℕ). e < z) (length-set p.outs d (posted_one (out_at p d) x)) l);
     takes = λ e l. takes_more e p.moves m ∙ append-nil (takes_of e p.moves) ∙ k.takes e l;
     no_takes = λ s far. takes_more s p.moves m ∙ append-nil (takes_of s p.moves) ∙ k.no_takes s far;
-    repaid = λ e op. set_each (λ q z. Repaid op q z (in_at p q)) p.outs d (posted_one (out_at p d) x) (new_out 0)
-        (subst (λ z. replies op z ≤ owing op (frames_of (in_at p d).taken)) (sym (frames_more (out_at p d).posted x)) (repays op (frames_of (out_at p d).posted) (frames_of (in_at p d).taken) x.frame (k.repaid d op) owed)) (λ q. k.repaid q op) e;
+    repaid = λ e op. set_each (λ q z. Owes z (in_at p q) op 0) p.outs d (posted_one (out_at p d) x) (new_out 0)
+        (subst (λ z. IsOwed (λ op. 0) z (frames_of (in_at p d).taken) op 0) (sym (frames_more (out_at p d).posted x)) (repays (λ op. 0) op (frames_of (out_at p d).posted) (frames_of (in_at p d).taken) x.frame (k.repaid d op) owed)) (λ q. k.repaid q op) e;
   }
 
   pub kept_take : (x : Sent) → d < length p.ins → Kept (with_in p d (taken_one (in_at p d) x) (p.moves ++ Take d x.number ∷ []))
@@ -105,6 +102,6 @@ module _ (p : Part) (k : Kept p) (d : ℕ) where
         (subst (λ (z : ℕ). e < z) (length-set p.ins d (taken_one (in_at p d) x)) l);
     no_takes = λ s far. let far' : length p.ins ≤ s = subst (λ (z : ℕ). z ≤ s) (length-set p.ins d (taken_one (in_at p d) x)) far in
         takes_more s p.moves m ∙ (λ i. takes_of s p.moves ++ cond (ne_eqb d s (λ e. omega arith) i) (x.number ∷ []) []) ∙ append-nil (takes_of s p.moves) ∙ k.no_takes s far';
-    repaid = λ e op. set_each (λ q z. Repaid op q (out_at p q) z) p.ins d (taken_one (in_at p d) x) new_in
-        (subst (λ z. replies op (frames_of (out_at p d).posted) ≤ owing op z) (sym (frames_more (in_at p d).taken x)) (let le = k.repaid d op in omega (arith, le, owing_more op (frames_of (in_at p d).taken) (x.frame ∷ [])))) (λ q. k.repaid q op) e;
+    repaid = λ e op. set_each (λ q z. Owes (out_at p q) z op 0) p.ins d (taken_one (in_at p d) x) new_in
+        (subst (λ z. IsOwed (λ op. 0) (frames_of (out_at p d).posted) z op 0) (sym (frames_more (in_at p d).taken x)) (owed_still (λ op. 0) op 0 (frames_of (out_at p d).posted) (frames_of (in_at p d).taken) (x.frame ∷ []) (k.repaid d op))) (λ q. k.repaid q op) e;
   }

@@ -18,7 +18,7 @@ use Rattle.fab_table.specs.declared.kinds.Out.{Out}
 use Rattle.fab_table.specs.declared.kinds.In.{In}
 use Rattle.fab_table.specs.declared.kinds.Part.{Part}
 use Rattle.fab_table.specs.declared.kinds.View.{View}
-use Rattle.fab_wire.specs.Owing.{replies, owing}
+use Rattle.fab_wire.specs.Owing.{IsOwed}
 use Rattle.fab_table.specs.Views.{frames_of, pool_word, new_out, new_in, new_part, parts_from, everyone, nobody, only_first, but_first, both, part_at, in_at, lane_of, put_word, got_word}
 use Rattle.fab_table.specs.Plays.{Sat, learned}
 use Rattle.fab_table.specs.Rule.{free, IsCell, IsBuf, Lane, OutOk, InOk, number, Kept, PartOk, Ruled}
@@ -179,8 +179,7 @@ module _ (n room pool i : ℕ) where
     posts = λ d near. ap (λ (z : Out). map number z.posted) (sym (same_within n d (new_out pool) (new_out 0) (subst (λ (z : ℕ). d < z) (length-replicate n (new_out pool)) near)));
     takes = λ d near. ap (λ (z : In). map number z.taken) (sym (same_all n d new_in));
     no_takes = λ s far. refl;
-    repaid = λ d op. let taken : ℕ = owing op (frames_of (in_at p d).taken) in
-        subst (λ (z : List Sent). replies op (frames_of z) ≤ taken) (sym (none_posted n d)) (let none : 0 ≤ taken = omega arith in none);
+    repaid = λ d op. subst (λ (z : List Sent). IsOwed (λ op. 0) (frames_of z) (frames_of (in_at p d).taken) op 0) (sym (none_posted n d)) (omega arith);
   }
 
   new_ok : i < n → PartOk n room pool (λ _. empty_lane) (λ m. (0, m)) 0 i p

@@ -13,7 +13,7 @@ use Rattle.fab_wire.specs.declared.moves.Move.{Move}
 use Rattle.fab_wire.specs.declared.moves.Move.TheVariants.{Post, Take}
 use Rattle.fab_wire.specs.Frames.{frame, IsLane}
 use Rattle.fab_base.specs.declared.frames.FrameHead.{FrameHead}
-use Rattle.fab_wire.specs.Owing.{begins_reply, replies, owing}
+use Rattle.fab_wire.specs.Owing.{begins_reply, IsOwed}
 use Rattle.fab_wire.specs.Merged.{IsStamped, posts_to, takes_of}
 use Rattle.fab_table.specs.declared.kinds.Command.{Command}
 use Rattle.fab_table.specs.declared.kinds.Sent.{Sent}
@@ -117,9 +117,13 @@ abbrev pub greatest : ℕ → List Move → ℕ
 greatest g [] = g
 greatest g (m ∷ ms) = greatest (max g (number_of m)) ms
 
--- a reply begins only where fewer were begun than items of its operation that owe one were taken whole of the same peer
+-- so many replies more to an operation are owed to a peer, by what was posted to it and taken of it
+abbrev pub Owes : Out → In → ℕ → ℕ → Type 0
+Owes o u op n = IsOwed (λ op. 0) (frames_of o.posted) (frames_of u.taken) op n
+
+-- the frame is not the first one of a reply, or the reply is owed
 abbrev pub Repays : Out → In → FrameHead → Type 0
-Repays o u head = begins_reply head ≡ true → replies head.item.op (frames_of o.posted) < owing head.item.op (frames_of u.taken)
+Repays o u head = begins_reply head ≡ true → Owes o u head.item.op 1
 
 -- The merge rule: the peer's moves are stamped, and name the frames that it posted and took. The rule of replies: to each
 -- peer it began at most as many to an operation as it took whole items of the operation that owe one. All these are facts
@@ -129,7 +133,7 @@ pub record Kept (p : Part) : Type 0 where
   pub posts : (d : ℕ) → d < length p.outs → posts_to d p.moves ≡ map number (out_at p d).posted
   pub takes : (s : ℕ) → s < length p.ins → takes_of s p.moves ≡ map number (in_at p s).taken
   pub no_takes : (s : ℕ) → length p.ins ≤ s → takes_of s p.moves ≡ []
-  pub repaid : (d op : ℕ) → replies op (frames_of (out_at p d).posted) ≤ owing op (frames_of (in_at p d).taken)
+  pub repaid : (d op : ℕ) → Owes (out_at p d) (in_at p d) op 0
 
 -- what the part p knows, where it is the i-th of the seat j
 pub record PartOk (n room pool : ℕ) (lane : ℕ → Lane) (spot : ℕ → ℕ × ℕ) (j i : ℕ) (p : Part) : Type 0 where

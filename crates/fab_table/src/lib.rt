@@ -15,19 +15,21 @@
 //!
 //! Each peer has a seat, with which alone it steps. A place is in the hand of one seat or at home, and
 //! only who has it in hand reads or writes it, as plain memory. Each hot word stands 128 bytes from the
-//! next. The rule that holds between any two steps is in specs/Rule, what a step tells its peer in
-//! specs/Plays. This crate has one function for each kind of step (`steps`), and those that touch the
+//! next. The rule that holds between any two steps is in specs/Rule, and `laws` says what it comes to; what
+//! a step tells its peer is in specs/Plays. This crate has one function for each kind of step (`steps`), and those that touch the
 //! place in hand (`hand`).
 #![tactic(auto)]
 
 mod fabric;
 mod hand;
 mod kinds;
+mod laws;
 mod making;
 mod rule;
 mod steps;
 
 pub use fabric::{Fabric, PeerSeat};
 pub use kinds::{Command, In, Layout, Out, Part, Sent, Slot, View};
+pub use laws::law_lane_rule;
 pub use making::{SLOT_BYTES, blank};
 pub use rule::LaneRule;

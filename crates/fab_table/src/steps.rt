@@ -9,7 +9,7 @@ ghost use Rattle.fab_table.specs.declared.kinds.Sent.{Sent};
 ghost use Rattle.fab_table.specs.declared.kinds.Slot.{Slot};
 ghost use Rattle.fab_table.specs.declared.kinds.Slot.TheVariants.{Cell, Pool};
 ghost use Rattle.fab_table.specs.Views.{frames_of, but_first, only_first, both, left_one};
-ghost use Rattle.fab_table.specs.Rule.{said_inline, said_pooled, Says, Fills, IsBuf, Repays, greatest};
+ghost use Rattle.fab_table.specs.Rule.{said_inline, said_pooled, Says, Fills, IsBuf, Owes, Repays, greatest};
 ghost use Rattle.fab_table.specs.Plays.{ClaimsAt, FreesAt, ReservesAt, SawGot, SawPut, learned, next_cell, oldest_cell, slot_home, post_view, take_view, shut_view, new_out_view};
 ghost use Rattle.fab_table.specs.Seats.{IsOf, IsSame, IsAt, carried, view_of_seat, sat, part_of, out_of, in_of};
 
@@ -211,7 +211,11 @@ impl Fabric {
     /// A look that tells what holds of the seat's parts, and between each two of them.
     pub fn learn(&self, seat: &mut PeerSeat)
         requires { IsOf self.now seat.old }
-        ensures { IsSame seat.old seat.new × learned (sat seat.old) (sat seat.new) }
+        ensures seat { IsSame seat.old seat.new }
+        ensures learned { learned (sat seat.old) (sat seat.new) }
+
+        // No peer began more replies to another than it took items of it that owe one (`law_lane_rule`).
+        ensures repaid { (a d op : ℕ) → a < length (view_of_seat seat.new).parts → Owes (out_of seat.new a d) (in_of seat.new a d) op 0 }
     {
         self.table.shared.load::<Learns>(&mut seat.seat, 0);
     }

@@ -37,6 +37,14 @@ invariant_of-self c = let q = c.args.self.now in let f = arc_value q.fabric in l
       comes = subst (λ (z : Part). ∥ Comes z ∥₁) (sym all.1) (comes_out p d o₁ p.moves q.comes);
     }
 
+pub returns-then-put-got-clause-unlooked : goal.returns-then-put-got-clause-unlooked
+returns-then-put-got-clause-unlooked c = let q = c.args.self.now in let f = arc_value q.fabric in let d : ℕ = c.args.dest in let m : Sat = q.seat.seat.me in let p : Part = part_at m.0 0 in let o : Out = out_at p d in let low : d < f.peers = c.requires.below in let inside : d < length p.outs = subst (λ (z : ℕ). d < z) (sym q.fits.all_outs) low in
+    let saw = c.hold_next-got.ensures.view in let r : ℕ = c.hold_next-got.result in let put = put_len _ _ _ _ _ _ _ _ _ _ _ _ q.fits d c.index-put.result.now low c.index-put.ensures in let wide : c.room-room.result ≡ p.room = c.room-room.ensures ∙ ap (λ t. t.room) c.deref-2.ensures ∙ sym q.fits.room_is in
+    let full = saw.2 (inl (let t = c.if-put-got.true in let le = saw.0 in omega arith)) in let o₁ : Out = saw_full o r in let all = out_all m _ d o₁ p.moves m.1 q.at.1 full in
+    let seen = seen_at _ _ p q.sees d c.index.result.now low c.index.ensures in
+    λ space₀ few₀. ap (λ (z : Part). (out_at z d).got_seen) all.1 ∙ ap (λ (z : Out). z.got_seen) (get_or-set_same p.outs d o₁ (new_out 0) inside)
+    ∙ c.hold_next-got.ensures.unlooked (subst (λ (z : ℕ × ℕ × ℕ). z.0 < z.1 + z.2) (λ i. (sym put i, sym seen i, ap (λ t. t.room) (sym c.deref.ensures) i)) space₀) (subst (λ (z : ℕ). z < most) (sym q.fits.clock_is) few₀) ∙ seen
+
 pub invariant_of-self-then-self-ge-MOST : goal.invariant_of-self-then-self-ge-MOST
 invariant_of-self-then-self-ge-MOST c = let q = c.args.self.now in let f = arc_value q.fabric in let d : ℕ = c.args.dest in let m : Sat = q.seat.seat.me in let p : Part = part_at m.0 0 in let o : Out = out_at p d in let low : d < f.peers = c.requires.below in let inside : d < length p.outs = subst (λ (z : ℕ). d < z) (sym q.fits.all_outs) low in
     let saw = c.hold_next-got.ensures.view in let r : ℕ = c.hold_next-got.result in let put = put_len _ _ _ _ _ _ _ _ _ _ _ _ q.fits d c.index-put.result.now low c.index-put.ensures in let wide : c.room-room.result ≡ p.room = c.room-room.ensures ∙ ap (λ t. t.room) c.deref-2.ensures ∙ sym q.fits.room_is in
