@@ -298,6 +298,14 @@ next_repays lanes h dest item below next repaid begun = go (lanes.outs dest).owe
         let o : replies item.head.op (lanes.outs dest).frames + due h dest item.head.op ≤ before item.head.op + owing item.head.op (lanes.ins dest).taken = rw e at (repaid dest item.head.op below) in
         rw e (omega (arith, o, some))
 
+-- None is begun that is not owed: no second one to the same item, and none before the last frame of its item is taken.
+pub none_unowed : {Home : Type 0} (lanes : Lanes Home) (h : Held) (dest : ℕ) (item : Item) (before : ℕ → ℕ) → dest < lanes.peers → IsRepaid lanes h → next_item h.state dest ≡ Some item → slice_index h.places dest ≡ 0 → is_reply item.head.kind ≡ true
+    → (lanes.outs dest).owed ≡ Some before → replies item.head.op (lanes.outs dest).frames ≡ before item.head.op + owing item.head.op (lanes.ins dest).taken → ⊥
+none_unowed lanes h dest item before below repaid next start reply told all =
+    let begins : begins_reply (piece item (slice_index h.places dest)).head ≡ true = rw (start, reply) refl in
+    let owed : replies item.head.op (lanes.outs dest).frames + 1 ≤ before item.head.op + owing item.head.op (lanes.ins dest).taken = rw told at (next_repays lanes h dest item below next repaid begins) in
+    absurd (omega (arith, owed, all))
+
 -- ---- at the opening
 
 -- nothing is due where nothing was accepted and nothing came
