@@ -262,8 +262,12 @@ keeps_all source bytes s t us cs = (here, away)
 
     here : (op : ℕ) → (to_book t.rx source op ≡ to_book s.rx source op + kept_for s.rx source op) × (kept_for t.rx source op ≡ 0)
     here op = (
-      omega (arith, debts source op, count_sum (λ a. is_debt source op (completed source bytes a)) (is_debt source op) (is_pledge source op) s.rx.unexpected (debt_here source bytes op),
-          count_sum (λ (c : ℕ × Arrival). is_debt source op (completed source bytes c.1)) (λ (c : ℕ × Arrival). is_debt source op c.1) (λ (c : ℕ × Arrival). is_pledge source op c.1) s.rx.claimed (λ c. debt_here source bytes op c.1)),
+      omega (
+        arith,
+        debts source op,
+        count_sum (λ a. is_debt source op (completed source bytes a)) (is_debt source op) (is_pledge source op) s.rx.unexpected (debt_here source bytes op),
+        count_sum (λ (c : ℕ × Arrival). is_debt source op (completed source bytes c.1)) (λ (c : ℕ × Arrival). is_debt source op c.1) (λ (c : ℕ × Arrival). is_pledge source op c.1) s.rx.claimed (λ c. debt_here source bytes op c.1),
+      ),
       omega (arith, pledges source op, never (λ a. is_pledge source op (completed source bytes a)) s.rx.unexpected (pledge_here source bytes op), never (λ (c : ℕ × Arrival). is_pledge source op (completed source bytes c.1)) s.rx.claimed (λ c. pledge_here source bytes op c.1)),
     )
 
@@ -364,9 +368,9 @@ module _ (s : State) (source : ℕ) (head : ItemHead) (bytes : List ℕ) where
           let e = ended head.outcome o v in
           tailed_as (Some Answer) (end_with head.outcome bytes o v) alone way refl (ap (λ (x : Receiving). x.unexpected) e.1) (ap (λ (x : Receiving). x.claimed) e.1) (ap (λ (x : Receiving). x.coming) e.1)
           (λ places d op.
-              let f : to_post (end_with head.outcome bytes o v).tx places d op ≡ to_post (going_on source tx) places d op = ap (λ (x : Transmitting). to_post x places d op) e.0 in
-              let l : to_post (going_on source tx) places d op ≤ to_post s.tx places d op = lets_post op source (held_for tx source) tx (omega arith) places d in
-              omega (arith, f, l))
+          let f : to_post (end_with head.outcome bytes o v).tx places d op ≡ to_post (going_on source tx) places d op = ap (λ (x : Transmitting). to_post x places d op) e.0 in
+          let l : to_post (going_on source tx) places d op ≤ to_post s.tx places d op = lets_post op source (held_for tx source) tx (omega arith) places d in
+          omega (arith, f, l))
 
   pub tail_tailed : Alone s.rx source → Tailed (coming_from s.rx source) source head s (do_tail s source head bytes)
   unfolding do_tail tail_to made_whole
