@@ -24,13 +24,13 @@ use Rattle.fab_table.specs.Rule.{greatest}
 use Rattle.fab_table.specs.Plays.{most}
 use Rattle.fab_ring.specs.Tries.{raised, IsTried, IsSent, tried_out, sent_as}
 use Rattle.fab_ring.specs.Hands.{Comes}
-use Rattle.fab_ring.specs.Ports.{outgoing, incoming, frame_in, one_more}
+use Rattle.fab_ring.specs.Ports.{outgoing, incoming, frame_in, one_more, slot_of, slots_of}
 use Rattle.fab_ring.proofs.Ends.{least_all}
 
 -- what `post` may have done
 module _ (p p' : Part) (d room pool : ℕ) (head : FrameHead) (bytes : List ℕ) where
   abbrev pub DidSend : Type 0
-  DidSend = (r : ℕ) × (slot : Option ℕ) × (ts : List ℕ) × (f : ℕ) × (length (out_at p d).posted < r + room) × (greatest 0 p.moves < most) × IsSent (out_at p d) pool slot ts f
+  DidSend = (r : ℕ) × (slot : Option ℕ) × (ts : List ℕ) × (f : ℕ) × (length (out_at p d).posted < r + room) × (greatest 0 p.moves < most) × IsSent (out_at p d) pool (length bytes) slot ts f
       × (p' ≡ with_out p d (posted_one (tried_out (saw_room (out_at p d) r) ts f true None) (sent_as head bytes (greatest 0 p.moves + 1) slot)) (p.moves ++ Post d (greatest 0 p.moves + 1) ∷ []))
 
   abbrev pub DidFill : Type 0
@@ -56,6 +56,10 @@ pub record Posting (p p' : Part) (d room pool : ℕ) (head : FrameHead) (bytes :
   pub room_is : result ≢ Err LaneFull → (length (frames_of (out_at p d).posted) < (out_at p' d).got_seen + room) × (greatest 0 p.moves < most)
   pub each_slot : IsErrOf result PoolFull → (64 < length bytes) × ((out_at p' d).tried ≡ one_more (out_at p d).tried)
   pub some_slot : result ≢ Err PoolFull → (j : ℕ) × (j < pool) × (slice_index (out_at p' d).tried j ≡ slice_index (out_at p d).tried j)
+  pub no_slot : length bytes ≤ 64 → ((out_at p' d).tried ≡ (out_at p d).tried) × OnOk result (slots_of (out_at p' d).posted ≡ slots_of (out_at p d).posted ++ None ∷ [])
+  pub one_look : IsErrOf result LaneFull → (out_at p' d).full_seen ≡ (out_at p d).full_seen + 1
+  pub no_look : result ≢ Err LaneFull → (out_at p' d).full_seen ≡ (out_at p d).full_seen
+  pub one_round : IsErrOf result PoolFull → least (out_at p' d).tried ≡ least (out_at p d).tried + 1
 
 raised_all : (ts : List ℕ) → raised (length ts) ts ≡ one_more ts
 raised_all [] = refl
@@ -82,13 +86,18 @@ full_noticed : (o : Out) (ts : List ℕ) (f : ℕ) → ((least ts ≡ least o.tr
 full_noticed o ts f (inl t) = ((let e = t.0 in omega arith), inl (refl, t.0, t.1))
 full_noticed o ts f (inr t) = ((let e = t.0 in omega arith), inr (inr (inl t.0), t.1 ∙ frames_length o.posted))
 
-sent_noticed : (o : Out) (pool : ℕ) (slot : Option ℕ) (ts : List ℕ) (f : ℕ) → IsSent o pool slot ts f → ((least ts ≡ least o.tried) × (f ≡ o.full_at)) ⊎ ((least o.tried < least ts) × (f ≡ length o.posted))
-sent_noticed o pool slot ts f (inl t) = inl (ap least t.1, t.2)
-sent_noticed o pool slot ts f (inr t) = t.2.2
+sent_noticed : (o : Out) (pool size : ℕ) (slot : Option ℕ) (ts : List ℕ) (f : ℕ) → IsSent o pool size slot ts f → ((least ts ≡ least o.tried) × (f ≡ o.full_at)) ⊎ ((least o.tried < least ts) × (f ≡ length o.posted))
+sent_noticed o pool size slot ts f (inl t) = inl (ap least t.1, t.2)
+sent_noticed o pool size slot ts f (inr t) = t.2.2
 
-sent_some : (o : Out) (pool : ℕ) (slot : Option ℕ) (ts : List ℕ) (f : ℕ) → 0 < pool → IsSent o pool slot ts f → (j : ℕ) × (j < pool) × (slice_index ts j ≡ slice_index o.tried j)
-sent_some o pool slot ts f pos (inl t) = (0, pos, ap (λ (z : List ℕ). slice_index z 0) t.1)
-sent_some o pool slot ts f pos (inr t) = (t.0, t.1, t.2.0)
+sent_some : (o : Out) (pool size : ℕ) (slot : Option ℕ) (ts : List ℕ) (f : ℕ) → 0 < pool → IsSent o pool size slot ts f → (j : ℕ) × (j < pool) × (slice_index ts j ≡ slice_index o.tried j)
+sent_some o pool size slot ts f pos (inl t) = (0, pos, ap (λ (z : List ℕ). slice_index z 0) t.1)
+sent_some o pool size slot ts f pos (inr t) = (t.0, t.1, t.2.0)
+
+-- a short frame has no slot, and none was tried
+sent_short : (o : Out) (pool size : ℕ) (slot : Option ℕ) (ts : List ℕ) (f : ℕ) → IsSent o pool size slot ts f → size ≤ 64 → (slot ≡ None) × (ts ≡ o.tried)
+sent_short o pool size slot ts f (inl t) short = (t.0, t.1)
+sent_short o pool size slot ts f (inr t) short = absurd (let long : 64 < size = t.3 in omega (arith, long, short))
 
 not_ok : {x : Unit {0}} {e : PostRefused} → Ok x ≡ Err e → ⊥
 not_ok e = cc
@@ -99,7 +108,7 @@ module _ (p p' : Part) (d room pool : ℕ) (head : FrameHead) (bytes : List ℕ)
 
   did_send : (u : Unit {0}) → DidSend p p' d room pool head bytes → Posting p p' d room pool head bytes (Ok u)
   did_send u s = let n : ℕ = greatest 0 p.moves + 1 in let x : Sent = sent_as head bytes n s.1 in let o' : Out = posted_one (tried_out (saw_room o s.0) s.2 s.3 true None) x in let ms : List Move = p.moves ++ Post d n ∷ [] in
-      let here = out_here p p' d o' ms near s.7 in let seen = full_noticed o s.2 s.3 (sent_noticed o pool s.1 s.2 s.3 s.6) in record {
+      let here = out_here p p' d o' ms near s.7 in let seen = full_noticed o s.2 s.3 (sent_noticed o pool (length bytes) s.1 s.2 s.3 s.6) in record {
         ok = ap (λ (z : Out). frames_of z.posted) here ∙ map-append frame_of o.posted (x ∷ []);
         err = tt;
         lane_full = λ e. absurd (not_ok e);
@@ -113,7 +122,12 @@ module _ (p p' : Part) (d room pool : ℕ) (head : FrameHead) (bytes : List ℕ)
         full = λ e. absurd (not_ok e);
         room_is = λ _. (subst (λ (z : ℕ × ℕ). z.0 < z.1 + room) (λ i. (frames_length o.posted i, sym (ap (λ (z : Out). z.got_seen) here) i)) s.4, s.5);
         each_slot = λ e. absurd (not_ok e);
-        some_slot = λ _. let j = sent_some o pool s.1 s.2 s.3 pos s.6 in (j.0, j.1, ap (λ (z : Out). slice_index z.tried j.0) here ∙ j.2);
+        some_slot = λ _. let j = sent_some o pool (length bytes) s.1 s.2 s.3 pos s.6 in (j.0, j.1, ap (λ (z : Out). slice_index z.tried j.0) here ∙ j.2);
+        no_slot = λ short. let none = sent_short o pool (length bytes) s.1 s.2 s.3 s.6 short in
+            (ap (λ (z : Out). z.tried) here ∙ none.1, ap (λ (z : Out). slots_of z.posted) here ∙ map-append slot_of o.posted (x ∷ []) ∙ ap (λ (z : Option ℕ). slots_of o.posted ++ z ∷ []) none.0);
+        one_look = λ e. absurd (not_ok e);
+        no_look = λ _. ap (λ (z : Out). z.full_seen) here;
+        one_round = λ e. absurd (not_ok e);
       }
 
   did_fill : DidFill p p' d room pool head bytes → Posting p p' d room pool head bytes (Err LaneFull)
@@ -132,6 +146,10 @@ module _ (p p' : Part) (d room pool : ℕ) (head : FrameHead) (bytes : List ℕ)
     room_is = λ ne. absurd (ne refl);
     each_slot = λ e. absurd (cc);
     some_slot = λ _. (0, pos, ap (λ (z : Out). slice_index z.tried 0) here);
+    no_slot = λ _. (ap (λ (z : Out). z.tried) here, tt);
+    one_look = λ _. ap (λ (z : Out). z.full_seen) here;
+    no_look = λ ne. absurd (ne refl);
+    one_round = λ e. absurd (cc);
   }
 
   did_try : DidTry p p' d room pool head bytes → Posting p p' d room pool head bytes (Err PoolFull)
@@ -152,6 +170,10 @@ module _ (p p' : Part) (d room pool : ℕ) (head : FrameHead) (bytes : List ℕ)
         room_is = λ _. (subst (λ (z : ℕ × ℕ). z.0 < z.1 + room) (λ i. (frames_length o.posted i, sym (ap (λ (z : Out). z.got_seen) here) i)) s.3, s.4);
         each_slot = λ _. (s.5, ap (λ (z : Out). z.tried) here ∙ all ∙ raised_all o.tried);
         some_slot = λ ne. absurd (ne refl);
+        no_slot = λ short. absurd (let long : 64 < length bytes = s.5 in omega (arith, long, short));
+        one_look = λ e. absurd (cc);
+        no_look = λ _. ap (λ (z : Out). z.full_seen) here;
+        one_round = λ _. ap (λ (z : Out). least z.tried) here ∙ up;
       }
 
   pub posting : (result : Result (Unit {0}) PostRefused) → OnOk result (DidSend p p' d room pool head bytes) → (IsErrOf result LaneFull → DidFill p p' d room pool head bytes) → (IsErrOf result PoolFull → DidTry p p' d room pool head bytes) → result ≢ Err NoMemory

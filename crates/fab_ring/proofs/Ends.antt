@@ -195,9 +195,9 @@ raised_length (suc j) (t ∷ ts) = ap suc (raised_length j ts)
 pub tried_length : (o : Out) (j : ℕ) (ts : List ℕ) (f : ℕ) → IsTried o j ts f → length ts ≡ length o.tried
 tried_length o j ts f t = ap length t.0 ∙ raised_length j o.tried
 
-pub sent_length : (o : Out) (pool : ℕ) (slot : Option ℕ) (ts : List ℕ) (f : ℕ) → IsSent o pool slot ts f → length ts ≡ length o.tried
-sent_length o pool slot ts f (inl t) = ap length t.1
-sent_length o pool slot ts f (inr t) = t.2.1
+pub sent_length : (o : Out) (pool size : ℕ) (slot : Option ℕ) (ts : List ℕ) (f : ℕ) → IsSent o pool size slot ts f → length ts ≡ length o.tried
+sent_length o pool size slot ts f (inl t) = ap length t.1
+sent_length o pool size slot ts f (inr t) = t.2.1
 
 pub in_over : (p : Part) (s : ℕ) (u u' : In) (ms ms' : List Move) → with_in (with_in p s u ms) s u' ms' ≡ with_in p s u' ms'
 in_over p s u u' ms ms' = λ i. record { me = p.me; peers = p.peers; room = p.room; pool = p.pool; outs = p.outs; ins = set-set p.ins s u u' i; moves = ms' }

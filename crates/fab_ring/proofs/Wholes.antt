@@ -13,14 +13,16 @@ use Rattle.fab_wire.specs.declared.moves.Move.{Move}
 use Rattle.fab_wire.specs.declared.moves.Move.TheVariants.{Post, Take}
 use Rattle.fab_wire.specs.Frames.{last_head, MayCome, IsLane}
 use Rattle.fab_wire.specs.Merged.{IsStampedAbove, IsStamped, posts_to, takes_of, merges}
+use Rattle.fab_wire.specs.Owing.{IsOwed}
 use Rattle.fab_wire.proofs.Merging.{stamped_merge}
-use Rattle.fab_link.specs.Meaning.{AreFresh}
+use Rattle.fab_link.specs.Meaning.{AreFresh, Incoming}
 use Rattle.fab_link.specs.Plain as plain
 use Rattle.fab_link.specs.Plain.{Plain, Lane, lane_at, fresh_lane}
 use Rattle.fab_table.specs.declared.fabric.Fabric.{Fabric}
 use Rattle.fab_table.specs.declared.fabric.PeerSeat.{PeerSeat}
 use Rattle.fab_table.specs.declared.kinds.Sent.{Sent}
 use Rattle.fab_table.specs.declared.kinds.Out.{Out}
+use Rattle.fab_table.specs.declared.kinds.In.{In}
 use Rattle.fab_table.specs.Views.{frame_of, frames_of, new_out, part_at, in_at, out_at}
 use Rattle.fab_table.specs.Rule.{Kept, number}
 use Rattle.fab_table.specs.Plays.{Sat, learned}
@@ -28,8 +30,8 @@ use Rattle.fab_table.specs.Seats as seats
 use Rattle.fab_table.specs.Seats.{sat, view_of_seat}
 use Rattle.fab_ring.specs.declared.port.RingPort.{RingPort}
 use Rattle.fab_ring.specs.declared.rooms.Inside.{Inside}
-use Rattle.fab_ring.specs.Ports.{frame_in, part_of, moves_of}
-use Rattle.fab_ring.specs.Gather.{AreAll, GoesOn, Gathered, Released, IsPartOf, IsJoined, IsRoom, AreAllRooms, Succeeds, AreSuccessors, IsWhole, Awaits, Leads, AwaitsAll, Emptied, Brought, ReceivedAll}
+use Rattle.fab_ring.specs.Ports.{frame_in, incoming, part_of, moves_of}
+use Rattle.fab_ring.specs.Gather.{AreAll, AreOwed, GoesOn, Gathered, Released, IsPartOf, IsJoined, IsRoom, AreAllRooms, Succeeds, AreSuccessors, IsWhole, Awaits, Leads, AwaitsAll, Emptied, Brought, ReceivedAll}
 use Rattle.fab_ring.proofs.Facts.{comes_now}
 use Rattle.fab_ring.proofs.Joined.{last_head-append, frames_append}
 
@@ -180,6 +182,14 @@ map_past [] k h = refl
 map_past (x ∷ xs) zero h = absurd (let no : suc (length xs) ≤ 0 = h in omega arith)
 map_past (x ∷ xs) (suc k) h = map_past xs k (let le : suc (length xs) ≤ suc k = h in omega arith)
 
+-- what comes of a peer, where this frame lies open, once it is taken
+abbrev advanced_by : In → Option Sent → Incoming
+advanced_by u o = elim (frame_in o) [ None ↦ incoming u | Some f ↦ record (incoming u) { taken = (incoming u).taken ++ f ∷ []; lent = None } ]
+
+advanced_taken : (u : In) (o : Option Sent) → (advanced_by u o).taken ≡ frames_of (u.taken ++ option_to_list o)
+advanced_taken u None = ap frames_of (sym (append-nil u.taken))
+advanced_taken u (Some x) = sym (map-append frame_of u.taken (x ∷ []))
+
 module _ (f : Fabric) (ports : List RingPort) (t : PeerSeat) (all : AreAll f ports) (whole : IsWhole f ports t) (feeds : Fed f t) (kept : (k : ℕ) → k < f.peers → Kept (seats.part_of t k)) where
   takes_before : (d s : ℕ) (p : RingPort) → slice_get ports d ≡ Some p → IsPrefix (takes_of s (moves_of p)) (takes_of s (seats.part_of t d).moves)
   takes_before d s p here = let m = (whole.parts d p here).moves in (takes_of s m.0, sym (takes_front s (moves_of p) m.0) ∙ ap (takes_of s) m.1)
@@ -195,6 +205,12 @@ module _ (f : Fabric) (ports : List RingPort) (t : PeerSeat) (all : AreAll f por
   no_takes : (s d : ℕ) (b : RingPort) → slice_get ports d ≡ Some b → length ports ≤ s → takes_of s (moves_of b) ≡ []
   no_takes s d b at_d far = let ld = slice_get_within ports d b at_d in let n = all.count in let low_d : d < f.peers = omega arith in let jd = whole.joined.each d low_d in let e = jd.all_ins in let p = takes_before d s b at_d in
       let none = (kept d low_d).no_takes s (omega arith) in let short = ap length (p.1 ∙ none) in let long = length-append (takes_of s (moves_of b)) p.0 in nothing_more (takes_of s (moves_of b)) (omega arith)
+
+  -- what the rule says of the seat, it says of the ports
+  pub all_owed : AreOwed ports
+  all_owed k p here d op = let l = slice_get_within ports k p here in let n = all.count in let released = whole.parts k p here in
+      subst (λ (z : List Frame). IsOwed (λ op. 0) (frames_of (out_at (part_of p) d).posted) z op 0) (sym (advanced_taken (in_at (part_of p) d) (in_at (part_of p) d).opened))
+      (subst (λ (z : List Sent × List Sent). IsOwed (λ op. 0) (frames_of z.0) (frames_of z.1) op 0) (λ i. ((slice_index_or (released.outs i) d (new_out 0)).posted, released.taken d i)) ((kept k (omega arith)).repaid d op))
 
   pub all_merge : merges (map moves_of ports) ≡ true
   all_merge = stamped_merge (map moves_of ports)

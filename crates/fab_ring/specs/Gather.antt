@@ -1,6 +1,7 @@
 -- Ports gathered into plain ports.
 --     AreAll f ports         the ports of all peers of one table, in order
 --     Gathered ports plain   each plain port goes on where its port ended, and what was inside a lane is what came
+--     AreOwed ports          no port began a reply that it does not owe
 --     Released p q           what a seat knows after each frame that lay open was stepped over
 --     IsJoined f s           a seat that speaks for all peers, with nothing in hand
 --     Grew s t r e xs        these frames more were taken of one lane
@@ -15,7 +16,7 @@ use Rattle.fab_base.specs.declared.frames.FrameHead.{FrameHead}
 use Rattle.fab_base.specs.declared.frames.Frame.{Frame}
 use Rattle.fab_wire.specs.Frames.{last_head, IsLane}
 use Rattle.fab_wire.specs.Merged.{posts_to}
-use Rattle.fab_link.specs.Meaning.{AreFresh, end_of, taken_end}
+use Rattle.fab_link.specs.Meaning.{AreFresh, Owes, advanced, end_of, taken_end}
 use Rattle.fab_link.specs.Plain as plain
 use Rattle.fab_link.specs.Plain.{Plain, lane_at, fresh_lane}
 use Rattle.fab_table.specs.declared.fabric.Fabric.{Fabric}
@@ -54,6 +55,10 @@ pub record Gathered (ports : List RingPort) (all : List Plain) : Type 0 where
   -- what s posted to r is what r had taken of it, and then what came
   pub inside : (s r : ℕ) (a b : RingPort) (q : Plain) → slice_get ports s ≡ Some a → slice_get ports r ≡ Some b → slice_get all r ≡ Some q
       → (out_of a r).frames ≡ (in_of b s).taken ++ (lane_at q s).in_list
+
+-- to no peer more replies to an operation were begun than are owed it, the frame that lies lent taken
+abbrev pub AreOwed : List RingPort → Type 0
+AreOwed ports = (k : ℕ) (p : RingPort) → slice_get ports k ≡ Some p → (d op : ℕ) → Owes (out_of p d) (advanced (in_of p d)) op 0
 
 -- each frame that lay open was stepped over
 pub record Released (p q : Part) : Type 0 where

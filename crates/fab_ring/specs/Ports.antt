@@ -61,6 +61,17 @@ got_seen p d = (out_at (part_of p) d).got_seen
 abbrev pub tries : RingPort → ℕ → List ℕ
 tries p d = (out_at (part_of p) d).tried
 
+-- the pool slot that each of these frames got
+abbrev pub slot_of : Sent → Option ℕ
+slot_of x = x.slot
+
+abbrev pub slots_of : List Sent → List (Option ℕ)
+slots_of xs = map slot_of xs
+
+-- the pool slot that each frame posted to d got
+abbrev pub slots : RingPort → ℕ → List (Option ℕ)
+slots p d = slots_of (out_at (part_of p) d).posted
+
 -- the greatest number of a frame that was posted or taken
 abbrev pub clock_of : RingPort → ℕ
 clock_of p = greatest 0 (moves_of p)

@@ -43,6 +43,6 @@ tried_out o ts f w c = record { posted = o.posted; got_seen = o.got_seen; full_s
 abbrev pub sent_as : FrameHead → List ℕ → ℕ → Option ℕ → Sent
 sent_as head bytes n slot = record { frame = frame head bytes; number = n; slot = slot }
 
--- a frame got this slot, or none, with these counts of the tries before
-abbrev pub IsSent : Out → ℕ → Option ℕ → List ℕ → ℕ → Type 0
-IsSent o pool slot ts f = ((slot ≡ None) × (ts ≡ o.tried) × (f ≡ o.full_at)) ⊎ ((j : ℕ) × (j < pool) × IsMissed o j ts f)
+-- a frame of so many bytes got this slot, with these counts of the tries before; or it was short, got none, and none was tried
+abbrev pub IsSent : Out → ℕ → ℕ → Option ℕ → List ℕ → ℕ → Type 0
+IsSent o pool size slot ts f = ((slot ≡ None) × (ts ≡ o.tried) × (f ≡ o.full_at)) ⊎ ((j : ℕ) × (j < pool) × IsMissed o j ts f × (64 < size))

@@ -53,7 +53,7 @@ impl RingPort {
         requires repays { Repays (out_at (part_of self.old) dest) (in_at (part_of self.old) dest) head }
         ensures port { SamePort self.old self.new }
         ensures sent { OnOk result ((r : ℕ) × (slot : Option ℕ) × (ts : List ℕ) × (f : ℕ) × (length (out_at (part_of self.old) dest).posted < r + room_of self.old) × (clock_of self.old < most)
-            × IsSent (out_at (part_of self.old) dest) (pool_of self.old) slot ts f
+            × IsSent (out_at (part_of self.old) dest) (pool_of self.old) (length bytes.now) slot ts f
             × (part_of self.new ≡ with_out (part_of self.old) dest (posted_one (tried_out (saw_room (out_at (part_of self.old) dest) r) ts f true None) (sent_as head bytes.now (clock_of self.old + 1) slot)) ((part_of self.old).moves ++ Post dest (clock_of self.old + 1) ∷ []))) }
         ensures lane_full { IsErrOf result PostRefused.LaneFull → (r : ℕ) × ((length (out_at (part_of self.old) dest).posted ≡ r + room_of self.old) ⊎ (most ≤ clock_of self.old))
             × (part_of self.new ≡ with_out (part_of self.old) dest (saw_full (out_at (part_of self.old) dest) r) (part_of self.old).moves) }

@@ -3,7 +3,7 @@ ghost use Rattle.std.specs.Prelude.{◌≡◌, map, IfErr, IfOk, OnOk, IsTrue};
 ghost use Rattle.fab_wire.specs.Merged.{merges};
 ghost use Rattle.fab_table.specs.declared.fabric.Fabric.{Fabric};
 ghost use Rattle.fab_ring.specs.Ports.{moves_of};
-ghost use Rattle.fab_ring.specs.Gather.{AreAll, Gathered};
+ghost use Rattle.fab_ring.specs.Gather.{AreAll, AreOwed, Gathered};
 
 use crate::emptying::receive_all;
 use crate::joining::join_all;
@@ -28,6 +28,9 @@ pub fn gather(alloc: Global, ports: Vec<RingPort>) -> Result<Vec<PlainPort>, Gat
 
     // The posts and takes of all ports stand in one order.
     ensures merged { OnOk result (IsTrue (merges (map moves_of ports.items))) }
+
+    // No reply is stray: each that a port began was owed, as the table's rule says (`law_lane_rule`).
+    ensures repaid { OnOk result (AreOwed ports.items) }
 {
     let Ok(mut plain) = successors(alloc, ports.as_slice()) else {
         return Err(GatherRefused { ports });

@@ -6,7 +6,7 @@ ghost use Rattle.fab_wire.specs.declared.moves.Move.TheVariants.{Post};
 ghost use Rattle.fab_wire.specs.Frames.{frame, Continues};
 ghost use Rattle.fab_link.specs.Meaning.{Others, end_of, Noticed, Repays, GrewBy};
 ghost use Rattle.fab_table.specs.Plays.{most};
-ghost use Rattle.fab_ring.specs.Ports.{number_of, peers_of, room_of, pool_of, out_of, in_of, moves_of, table_of, got_seen, tries, clock_of, one_more};
+ghost use Rattle.fab_ring.specs.Ports.{number_of, peers_of, room_of, pool_of, out_of, in_of, moves_of, table_of, got_seen, tries, slots, clock_of, one_more};
 
 use crate::port::RingPort;
 use fab_base::{FrameHead, FrameRef};
@@ -79,6 +79,15 @@ impl Port for RingPort {
         ensures each_slot { IsErrOf result PostRefused.PoolFull → (64 < length bytes.now) × (tries self.new dest ≡ one_more (tries self.old dest)) }
         ensures some_slot { result ≢ Err PostRefused.PoolFull
             → (j : ℕ) × (j < pool_of self.old) × (slice_index (tries self.new dest) j ≡ slice_index (tries self.old dest) j) }
+
+        // A frame of at most 64 bytes asks for no slot: none is tried, and it gets none.
+        ensures no_slot { length bytes.now ≤ 64 → (tries self.new dest ≡ tries self.old dest)
+            × OnOk result (slots self.new dest ≡ slots self.old dest ++ None ∷ []) }
+
+        // A refusal raises its count by just one: one look, or one try on each slot.
+        ensures one_look { IsErrOf result PostRefused.LaneFull → (out_of self.new dest).lane_full_seen ≡ (out_of self.old dest).lane_full_seen + 1 }
+        ensures no_look { result ≢ Err PostRefused.LaneFull → (out_of self.new dest).lane_full_seen ≡ (out_of self.old dest).lane_full_seen }
+        ensures one_round { IsErrOf result PostRefused.PoolFull → (out_of self.new dest).pool_full_seen ≡ (out_of self.old dest).pool_full_seen + 1 }
     {
         self.send(dest, head, bytes)
     }

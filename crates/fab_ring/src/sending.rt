@@ -206,7 +206,7 @@ pub(crate) fn send_next(
     ensures seat { IsSame seat.old seat.new }
     ensures full { result ≡ false → (ts : List ℕ) × (f : ℕ) × (64 < length bytes.now) × IsTried (out_of seat.old 0 next.now.dest) fabric.now.pool ts f
         × (sat seat.new ≡ (new_out_view (view_of_seat seat.old) 0 next.now.dest (tried_out (out_of seat.old 0 next.now.dest) ts f false None), rest (carried seat.old))) }
-    ensures sent { result ≡ true → (slot : Option ℕ) × (ts : List ℕ) × (f : ℕ) × IsSent (out_of seat.old 0 next.now.dest) fabric.now.pool slot ts f
+    ensures sent { result ≡ true → (slot : Option ℕ) × (ts : List ℕ) × (f : ℕ) × IsSent (out_of seat.old 0 next.now.dest) fabric.now.pool (length bytes.now) slot ts f
         × (sat seat.new ≡ (with_part (view_of_seat seat.old) 0 (with_out (part_of seat.old 0) next.now.dest (posted_one (tried_out (out_of seat.old 0 next.now.dest) ts f true None) (sent_as head bytes.now next.now.number slot)) ((part_of seat.old 0).moves ++ Post next.now.dest next.now.number ∷ [])), rest (carried seat.old))) }
 {
     if bytes.len() <= 64 {

@@ -4,7 +4,7 @@ use Rattle.fab_table.specs.declared.fabric.Fabric.{Fabric}
 use Rattle.fab_table.specs.Seats.{sat}
 use Rattle.fab_ring.specs.declared.port.RingPort.{RingPort}
 use Rattle.fab_ring.specs.Gather.{AreAll, IsJoined, AreSuccessors, AreAllRooms, AwaitsAll, ReceivedAll, Gathered}
-use Rattle.fab_ring.proofs.Wholes.{fed, fed_same, whole_same, all_await, all_gathered, all_merge, seam}
+use Rattle.fab_ring.proofs.Wholes.{fed, fed_same, whole_same, all_await, all_gathered, all_merge, all_owed, seam}
 use Rattle.fab_ring.proofs.gathering.gather.Goals as goal
 
 pub rooms-requires : goal.rooms-requires
@@ -46,3 +46,10 @@ returns-clause-merged c =
     let u = c.learn.new.seat in let is : sat u ≡ sat t = c.learn.ensures.learned.0 in let there = whole_same f c.args.ports.items t u c.learn.ensures.seat.0 is whole in let feeds = fed_same f t u is (fed f t u whole.joined c.learn.ensures.learned) in
     let succ = subst (λ (z : List RingPort). AreSuccessors z c.in-Ok.plain.items) c.as_slice.ensures.value c.in-Ok.ensures in let room = subst (λ (z : List RingPort). AreAllRooms z c.in-Ok-rooms.rooms.items) c.as_slice-2.ensures.value c.in-Ok-rooms.ensures in
     all_merge f c.args.ports.items t all whole (fed f t u whole.joined c.learn.ensures.learned) (λ k low. c.learn.ensures.learned.1 k (subst (λ (z : ℕ). k < z) (sym whole.joined.count) low))
+
+pub returns-clause-repaid : goal.returns-clause-repaid
+returns-clause-repaid c =
+    let f = c.requires.0 in let all = c.requires.1 in let t = c.join_all-fabric.result.1 in let whole = c.join_all-fabric.ensures.whole f all in let table = c.join_all-fabric.ensures.table f all in
+    let u = c.learn.new.seat in let is : sat u ≡ sat t = c.learn.ensures.learned.0 in let there = whole_same f c.args.ports.items t u c.learn.ensures.seat.0 is whole in let feeds = fed_same f t u is (fed f t u whole.joined c.learn.ensures.learned) in
+    let succ = subst (λ (z : List RingPort). AreSuccessors z c.in-Ok.plain.items) c.as_slice.ensures.value c.in-Ok.ensures in let room = subst (λ (z : List RingPort). AreAllRooms z c.in-Ok-rooms.rooms.items) c.as_slice-2.ensures.value c.in-Ok-rooms.ensures in
+    all_owed f c.args.ports.items t all whole (fed f t u whole.joined c.learn.ensures.learned) (λ k low. c.learn.ensures.learned.1 k (subst (λ (z : ℕ). k < z) (sym whole.joined.count) low))

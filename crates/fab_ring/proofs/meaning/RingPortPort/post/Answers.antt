@@ -75,6 +75,26 @@ returns-clause-some_slot c = let q = c.args.self.now in let f = arc_value q.fabr
     let all = posting p (part_at n.seat.seat.me.0 0) d f.room f.pool c.args.head c.args.bytes.now (subst (λ (z : ℕ). d < z) (sym q.fits.all_outs) c.requires.below) (q.fits.each_put d c.requires.below).4 f.sized.7 c.send.result c.send.ensures.sent c.send.ensures.lane_full c.send.ensures.pool_full c.send.ensures.memory in
     all.some_slot
 
+pub returns-clause-no_slot : goal.returns-clause-no_slot
+returns-clause-no_slot c = let q = c.args.self.now in let f = arc_value q.fabric in let n = c.send.new.self in let d : ℕ = c.args.dest in let p : Part = part_at q.seat.seat.me.0 0 in
+    let all = posting p (part_at n.seat.seat.me.0 0) d f.room f.pool c.args.head c.args.bytes.now (subst (λ (z : ℕ). d < z) (sym q.fits.all_outs) c.requires.below) (q.fits.each_put d c.requires.below).4 f.sized.7 c.send.result c.send.ensures.sent c.send.ensures.lane_full c.send.ensures.pool_full c.send.ensures.memory in
+    all.no_slot
+
+pub returns-clause-one_look : goal.returns-clause-one_look
+returns-clause-one_look c = let q = c.args.self.now in let f = arc_value q.fabric in let n = c.send.new.self in let d : ℕ = c.args.dest in let p : Part = part_at q.seat.seat.me.0 0 in
+    let all = posting p (part_at n.seat.seat.me.0 0) d f.room f.pool c.args.head c.args.bytes.now (subst (λ (z : ℕ). d < z) (sym q.fits.all_outs) c.requires.below) (q.fits.each_put d c.requires.below).4 f.sized.7 c.send.result c.send.ensures.sent c.send.ensures.lane_full c.send.ensures.pool_full c.send.ensures.memory in
+    all.one_look
+
+pub returns-clause-no_look : goal.returns-clause-no_look
+returns-clause-no_look c = let q = c.args.self.now in let f = arc_value q.fabric in let n = c.send.new.self in let d : ℕ = c.args.dest in let p : Part = part_at q.seat.seat.me.0 0 in
+    let all = posting p (part_at n.seat.seat.me.0 0) d f.room f.pool c.args.head c.args.bytes.now (subst (λ (z : ℕ). d < z) (sym q.fits.all_outs) c.requires.below) (q.fits.each_put d c.requires.below).4 f.sized.7 c.send.result c.send.ensures.sent c.send.ensures.lane_full c.send.ensures.pool_full c.send.ensures.memory in
+    all.no_look
+
+pub returns-clause-one_round : goal.returns-clause-one_round
+returns-clause-one_round c = let q = c.args.self.now in let f = arc_value q.fabric in let n = c.send.new.self in let d : ℕ = c.args.dest in let p : Part = part_at q.seat.seat.me.0 0 in
+    let all = posting p (part_at n.seat.seat.me.0 0) d f.room f.pool c.args.head c.args.bytes.now (subst (λ (z : ℕ). d < z) (sym q.fits.all_outs) c.requires.below) (q.fits.each_put d c.requires.below).4 f.sized.7 c.send.result c.send.ensures.sent c.send.ensures.lane_full c.send.ensures.pool_full c.send.ensures.memory in
+    all.one_round
+
 pub returns-clause-unlooked : goal.returns-clause-unlooked
 returns-clause-unlooked c = let q = c.args.self.now in let d : ℕ = c.args.dest in let p : Part = part_at q.seat.seat.me.0 0 in
     λ space few. c.send.ensures.unlooked (subst (λ (z : ℕ). z < (out_at p d).got_seen + (arc_value q.fabric).room) (sym (frames_length (out_at p d).posted)) space) few

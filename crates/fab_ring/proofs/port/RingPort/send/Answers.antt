@@ -21,6 +21,9 @@ use Rattle.fab_ring.proofs.Lasts.{ends_out, ends_post}
 use Rattle.fab_ring.proofs.Rounds.{put_cell, rounds_put, cell_small}
 use Rattle.fab_ring.proofs.Seeing.{sees_out, seen_at}
 use Rattle.std.proofs.Math.Nat.{mod-lt}
+use Rattle.fab_ring.specs.declared.port.RingPort.{RingPort}
+use Rattle.fab_ring.specs.Ports.{part_of}
+use Rattle.fab_ring.proofs.port.RingPort.send.Goals.{then-put-got-via-then-put-got, then-put-got-via-else-put-got+then-self-ge-MOST}
 use Rattle.fab_ring.proofs.port.RingPort.send.Goals as goal
 
 pub invariant_of-self : goal.invariant_of-self
@@ -38,12 +41,14 @@ invariant_of-self c = let q = c.args.self.now in let f = arc_value q.fabric in l
     }
 
 pub returns-then-put-got-clause-unlooked : goal.returns-then-put-got-clause-unlooked
-returns-then-put-got-clause-unlooked c = let q = c.args.self.now in let f = arc_value q.fabric in let d : ℕ = c.args.dest in let m : Sat = q.seat.seat.me in let p : Part = part_at m.0 0 in let o : Out = out_at p d in let low : d < f.peers = c.requires.below in let inside : d < length p.outs = subst (λ (z : ℕ). d < z) (sym q.fits.all_outs) low in
+returns-then-put-got-clause-unlooked c = let q = c.args.self.now in let d : ℕ = c.args.dest in let m : Sat = q.seat.seat.me in let p : Part = part_at m.0 0 in let o : Out = out_at p d in let low : d < (arc_value q.fabric).peers = c.requires.below in let inside : d < length p.outs = subst (λ (z : ℕ). d < z) (sym q.fits.all_outs) low in
     let saw = c.hold_next-got.ensures.view in let r : ℕ = c.hold_next-got.result in let put = put_len _ _ _ _ _ _ _ _ _ _ _ _ q.fits d c.index-put.result.now low c.index-put.ensures in let wide : c.room-room.result ≡ p.room = c.room-room.ensures ∙ ap (λ t. t.room) c.deref-2.ensures ∙ sym q.fits.room_is in
-    let full = saw.2 (inl (let t = c.if-put-got.true in let le = saw.0 in omega arith)) in let o₁ : Out = saw_full o r in let all = out_all m _ d o₁ p.moves m.1 q.at.1 full in
-    let seen = seen_at _ _ p q.sees d c.index.result.now low c.index.ensures in
-    λ space₀ few₀. ap (λ (z : Part). (out_at z d).got_seen) all.1 ∙ ap (λ (z : Out). z.got_seen) (get_or-set_same p.outs d o₁ (new_out 0) inside)
-    ∙ c.hold_next-got.ensures.unlooked (subst (λ (z : ℕ × ℕ × ℕ). z.0 < z.1 + z.2) (λ i. (sym put i, sym seen i, ap (λ t. t.room) (sym c.deref.ensures) i)) space₀) (subst (λ (z : ℕ). z < most) (sym q.fits.clock_is) few₀) ∙ seen
+    let seen = seen_at _ _ p q.sees d c.index.result.now low c.index.ensures in λ space₀ few₀. elim c.then-put-got.branch [
+      | then-put-got-via-then-put-got w ↦ let full = saw.2 (inl (let t = w.if-put-got.true in let le = saw.0 in omega arith)) in let o₁ : Out = saw_full o r in let all = out_all m _ d o₁ p.moves m.1 q.at.1 full in
+          ap (λ (z : RingPort). (out_at (part_of z) d).got_seen) w.self-is ∙ ap (λ (z : Part). (out_at z d).got_seen) all.1 ∙ ap (λ (z : Out). z.got_seen) (get_or-set_same p.outs d o₁ (new_out 0) inside)
+          ∙ c.hold_next-got.ensures.unlooked (subst (λ (z : ℕ × ℕ × ℕ). z.0 < z.1 + z.2) (λ i. (sym put i, sym seen i, ap (λ t. t.room) (sym c.deref.ensures) i)) space₀) (subst (λ (z : ℕ). z < most) (sym q.fits.clock_is) few₀) ∙ seen
+      | then-put-got-via-else-put-got+then-self-ge-MOST w ↦ absurd (let t = w.if-self-ge-MOST.true in let e = q.fits.clock_is in omega (arith, t, e, few₀))
+    ]
 
 pub invariant_of-self-then-self-ge-MOST : goal.invariant_of-self-then-self-ge-MOST
 invariant_of-self-then-self-ge-MOST c = let q = c.args.self.now in let f = arc_value q.fabric in let d : ℕ = c.args.dest in let m : Sat = q.seat.seat.me in let p : Part = part_at m.0 0 in let o : Out = out_at p d in let low : d < f.peers = c.requires.below in let inside : d < length p.outs = subst (λ (z : ℕ). d < z) (sym q.fits.all_outs) low in
@@ -147,13 +152,13 @@ invariant_of-self-2 c = let q = c.args.self.now in let f = arc_value q.fabric in
     let mine = q.fits.each_put d low in let space : length o.posted < r + p.room = (let le = saw.0 in let t = c.if-put-got.false in omega arith) in
     let few : greatest 0 p.moves < most = (let t = c.if-self-ge-MOST.false in let e = q.fits.clock_is in omega arith) in let took = saw.3 space few in let o₁ : Out = saw_room o r in let v₁ : View = new_out_view m.0 0 d o₁ in
     let here = here_out m.0 d q.at.1 inside o₁ in let pools = ap (λ t. t.pool) c.deref-4.ensures in let got = c.send_next.ensures.sent c.if-not-send_next.false in let n : ℕ = q.clock + 1 in let x : Sent = sent_as c.args.head c.args.bytes.now n got.0 in let o₂ : Out = tried_out o₁ got.1 got.2 true None in let ms : List Move = p.moves ++ Post d n ∷ [] in
-    let is : IsSent o f.pool got.0 got.1 got.2 = subst (λ (z : Out × ℕ). IsSent z.0 z.1 got.0 got.1 got.2) (λ i. ((ap (λ (z : Sat). out_at (part_at z.0 0) d) took.1 ∙ here) i, pools i)) got.3 in
+    let is : IsSent o f.pool (length c.args.bytes.now) got.0 got.1 got.2 = subst (λ (z : Out × ℕ). IsSent z.0 z.1 (length c.args.bytes.now) got.0 got.1 got.2) (λ i. ((ap (λ (z : Sat). out_at (part_at z.0 0) d) took.1 ∙ here) i, pools i)) got.3 in
     let all = out_all m _ d (posted_one o₂ x) ms m.1 q.at.1 (got.4 ∙ (λ i. (with_part (took.1 i).0 0 (with_out (part_at (took.1 i).0 0) d (posted_one (tried_out (out_at (part_at (took.1 i).0 0) d) got.1 got.2 true None) x) ((part_at (took.1 i).0 0).moves ++ Post d n ∷ [])), rest (took.1 i).1))
     ∙ (λ i. (with_part v₁ 0 (with_out (part_at v₁ 0) d (posted_one (tried_out (here i) got.1 got.2 true None) x) ((part_at v₁ 0).moves ++ Post d n ∷ [])), m.1)) ∙ (λ i. (sent_over m.0 d q.at.1 inside o₁ (posted_one o₂ x) n i, m.1))) in
     let rooms : c.room-room.result ≡ f.room = c.room-room.ensures ∙ ap (λ t. t.room) c.deref-2.ensures in let cell : c.index-cell.result.now ≡ c.index-put.result.now % f.room = put_cell _ _ _ _ _ _ q.rounds d c.index-put.result.now c.index-cell.result.now low (put ∙ sym mine.0) c.index-cell.ensures in
     record {
       at = (c.send_next.ensures.seat.0 ∙ c.hold_next-got.ensures.seat.0 ∙ q.at.0, all.0);
-      fits = subst (λ (z : Part × List (ℕ × Slot)). Fits q.me f.peers f.room f.pool (q.clock + 1) q.turn (set q.puts.items d (c.index-put.result.now + 1)) q.gots.items q.opened.items q.lent.items z.0 (shapes z.1)) (λ i. (sym all.1 i, sym all.2 i)) (fits_post _ _ _ _ _ _ _ _ _ _ _ _ q.fits d (c.index-put.result.now + 1) o₂ x low (ap (λ (z : ℕ). z + 1) (put ∙ sym mine.0)) refl refl (sent_length o f.pool got.0 got.1 got.2 is ∙ mine.4));
+      fits = subst (λ (z : Part × List (ℕ × Slot)). Fits q.me f.peers f.room f.pool (q.clock + 1) q.turn (set q.puts.items d (c.index-put.result.now + 1)) q.gots.items q.opened.items q.lent.items z.0 (shapes z.1)) (λ i. (sym all.1 i, sym all.2 i)) (fits_post _ _ _ _ _ _ _ _ _ _ _ _ q.fits d (c.index-put.result.now + 1) o₂ x low (ap (λ (z : ℕ). z + 1) (put ∙ sym mine.0)) refl refl (sent_length o f.pool (length c.args.bytes.now) got.0 got.1 got.2 is ∙ mine.4));
       rounds = rounds_put _ _ _ _ _ _ q.rounds d (c.index-put.result.now + 1) c.cell_after.result low (subst (λ (z : ℕ). d < z) (sym q.fits.all_puts) low) (c.cell_after.ensures c.index-put.result.now (cell ∙ (λ i. c.index-put.result.now % sym rooms i)) ∙ (λ i. (c.index-put.result.now + 1) % rooms i));
       sees = subst (Sees f.peers (set q.gots_seen.items d r)) (sym all.1) (sees_out _ _ p q.sees d r (posted_one o₂ x) ms low q.fits.all_outs refl (let le : r ≤ length o.posted = saw.0 in let long = length-append o.posted (x ∷ []) in omega arith));
       told = subst (Told f.peers q.commands.items q.buffers.items) (sym all.1) (told_out _ _ _ p d (posted_one o₂ x) ms q.told);
@@ -167,7 +172,7 @@ returns-clause-sent c = let q = c.args.self.now in let f = arc_value q.fabric in
     let mine = q.fits.each_put d low in let space : length o.posted < r + p.room = (let le = saw.0 in let t = c.if-put-got.false in omega arith) in
     let few : greatest 0 p.moves < most = (let t = c.if-self-ge-MOST.false in let e = q.fits.clock_is in omega arith) in let took = saw.3 space few in let o₁ : Out = saw_room o r in let v₁ : View = new_out_view m.0 0 d o₁ in
     let here = here_out m.0 d q.at.1 inside o₁ in let pools = ap (λ t. t.pool) c.deref-4.ensures in let got = c.send_next.ensures.sent c.if-not-send_next.false in let n : ℕ = q.clock + 1 in let x : Sent = sent_as c.args.head c.args.bytes.now n got.0 in let o₂ : Out = tried_out o₁ got.1 got.2 true None in let ms : List Move = p.moves ++ Post d n ∷ [] in
-    let is : IsSent o f.pool got.0 got.1 got.2 = subst (λ (z : Out × ℕ). IsSent z.0 z.1 got.0 got.1 got.2) (λ i. ((ap (λ (z : Sat). out_at (part_at z.0 0) d) took.1 ∙ here) i, pools i)) got.3 in
+    let is : IsSent o f.pool (length c.args.bytes.now) got.0 got.1 got.2 = subst (λ (z : Out × ℕ). IsSent z.0 z.1 (length c.args.bytes.now) got.0 got.1 got.2) (λ i. ((ap (λ (z : Sat). out_at (part_at z.0 0) d) took.1 ∙ here) i, pools i)) got.3 in
     let all = out_all m _ d (posted_one o₂ x) ms m.1 q.at.1 (got.4 ∙ (λ i. (with_part (took.1 i).0 0 (with_out (part_at (took.1 i).0 0) d (posted_one (tried_out (out_at (part_at (took.1 i).0 0) d) got.1 got.2 true None) x) ((part_at (took.1 i).0 0).moves ++ Post d n ∷ [])), rest (took.1 i).1))
     ∙ (λ i. (with_part v₁ 0 (with_out (part_at v₁ 0) d (posted_one (tried_out (here i) got.1 got.2 true None) x) ((part_at v₁ 0).moves ++ Post d n ∷ [])), m.1)) ∙ (λ i. (sent_over m.0 d q.at.1 inside o₁ (posted_one o₂ x) n i, m.1))) in
     (r, got.0, got.1, got.2, subst (λ (z : ℕ). length o.posted < r + z) q.fits.room_is space, few, is, all.1 ∙ (λ i. with_out p d (posted_one o₂ (sent_as c.args.head c.args.bytes.now (q.fits.clock_is i + 1) got.0)) (p.moves ++ Post d (q.fits.clock_is i + 1) ∷ [])))
@@ -178,7 +183,7 @@ returns-clause-unlooked c = let q = c.args.self.now in let f = arc_value q.fabri
     let mine = q.fits.each_put d low in let space : length o.posted < r + p.room = (let le = saw.0 in let t = c.if-put-got.false in omega arith) in
     let few : greatest 0 p.moves < most = (let t = c.if-self-ge-MOST.false in let e = q.fits.clock_is in omega arith) in let took = saw.3 space few in let o₁ : Out = saw_room o r in let v₁ : View = new_out_view m.0 0 d o₁ in
     let here = here_out m.0 d q.at.1 inside o₁ in let pools = ap (λ t. t.pool) c.deref-4.ensures in let got = c.send_next.ensures.sent c.if-not-send_next.false in let n : ℕ = q.clock + 1 in let x : Sent = sent_as c.args.head c.args.bytes.now n got.0 in let o₂ : Out = tried_out o₁ got.1 got.2 true None in let ms : List Move = p.moves ++ Post d n ∷ [] in
-    let is : IsSent o f.pool got.0 got.1 got.2 = subst (λ (z : Out × ℕ). IsSent z.0 z.1 got.0 got.1 got.2) (λ i. ((ap (λ (z : Sat). out_at (part_at z.0 0) d) took.1 ∙ here) i, pools i)) got.3 in
+    let is : IsSent o f.pool (length c.args.bytes.now) got.0 got.1 got.2 = subst (λ (z : Out × ℕ). IsSent z.0 z.1 (length c.args.bytes.now) got.0 got.1 got.2) (λ i. ((ap (λ (z : Sat). out_at (part_at z.0 0) d) took.1 ∙ here) i, pools i)) got.3 in
     let all = out_all m _ d (posted_one o₂ x) ms m.1 q.at.1 (got.4 ∙ (λ i. (with_part (took.1 i).0 0 (with_out (part_at (took.1 i).0 0) d (posted_one (tried_out (out_at (part_at (took.1 i).0 0) d) got.1 got.2 true None) x) ((part_at (took.1 i).0 0).moves ++ Post d n ∷ [])), rest (took.1 i).1))
     ∙ (λ i. (with_part v₁ 0 (with_out (part_at v₁ 0) d (posted_one (tried_out (here i) got.1 got.2 true None) x) ((part_at v₁ 0).moves ++ Post d n ∷ [])), m.1)) ∙ (λ i. (sent_over m.0 d q.at.1 inside o₁ (posted_one o₂ x) n i, m.1))) in
     let seen = seen_at _ _ p q.sees d c.index.result.now low c.index.ensures in
