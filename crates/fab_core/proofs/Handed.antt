@@ -32,7 +32,8 @@ use Rattle.fab_tx.specs.Transit.{IsTransit, Transit, answered_by, finds_answered
 use Rattle.fab_rma.specs.Serving.{Serving, is_request, outcome_at, room_for}
 use Rattle.fab_wire.specs.Frames.{IsSound}
 use Rattle.fab_model.specs.Target.{perform}
-use Rattle.fab_core.specs.Parts.{IsFitting, IsTogether, Parts, is_due, state_of}
+use Rattle.fab_face.specs.Owed.{is_due}
+use Rattle.fab_core.specs.Parts.{IsFitting, IsTogether, Parts, state_of}
 use Rattle.fab_ends.specs.Members.{let_go}
 use Rattle.fab_ends.specs.Ends.{booked, counters_after, cq_after, unread_of, written_if}
 use Rattle.fab_core.specs.Doing.{receive_now, tail}

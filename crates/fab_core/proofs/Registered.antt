@@ -63,13 +63,14 @@ module _ (p : Parts) (key : ℕ) (access : Access) (bytes : List ℕ) where
   pub record Registers (result : Result (Unit {0}) Refused) (x : Serving) : Type 0 where
     pub ok : OnOk result (DoesHere (Reg key access bytes) Done (held_of p) (held_of (with_target x p)))
     pub err : IfErr result (λ r. r.why ≢ NoMemory → DoesHere (Reg key access bytes) (Answer r.why) (held_of p) (held_of (with_target x p)))
+    pub lacks : IfErr result (λ r. r.why ≡ NoMemory → (do_call (state_of p) (Reg key access bytes)).0 ≡ Done)
     pub back : IfErr result (λ r. r.buf ≡ bytes)
     pub stays : OnErr result (held_of (with_target x p) ≡ held_of p)
 
   module _ (x : Serving) (granted : lacks p.caps access ≡ false) where
     free_by : (result : Result (Unit {0}) Refused) → region_at p.target.regions key ≡ None → IfErr result (λ r. r ≡ record { why = NoMemory; buf = bytes }) → OnOk result (x.regions ≡ p.target.regions ++ region key access bytes ∷ []) → OnErr result (x ≡ p.target) → Registers result x
-    free_by (Ok u) none want ok same = record { ok = leads p (Reg key access bytes) x Done _ ok (reg_by false false granted (ap is_some none)); err = tt; back = tt; stays = tt }
-    free_by (Err r) none want ok same = record { ok = tt; err = λ other. absurd (other (ap (λ (r : Refused). r.why) want)); back = ap (λ (r : Refused). r.buf) want; stays = still p x same }
+    free_by (Ok u) none want ok same = record { ok = leads p (Reg key access bytes) x Done _ ok (reg_by false false granted (ap is_some none)); err = tt; lacks = tt; back = tt; stays = tt }
+    free_by (Err r) none want ok same = record { ok = tt; err = λ other. absurd (other (ap (λ (r : Refused). r.why) want)); lacks = λ _. ap (λ (y : LineResult × State). y.0) (reg_by false false granted (ap is_some none)); back = ap (λ (r : Refused). r.buf) want; stays = still p x same }
 
     used_by : (result : Result (Unit {0}) Refused) (r : Region) → region_at p.target.regions key ≡ Some r → result ≡ Err (record { why = NoKey; buf = bytes }) → OnErr result (x ≡ p.target) → Registers result x
     used_by (Ok u) r some refused same = absurd (cc)
@@ -78,6 +79,7 @@ module _ (p : Parts) (key : ℕ) (access : Access) (bytes : List ℕ) where
         record {
           ok = tt;
           err = λ other. subst (λ (f : Fault). DoesHere (Reg key access bytes) (Answer f) (held_of p) (held_of (with_target x p))) (sym (ap (λ (r : Refused). r.why) e)) (stays p (Reg key access bytes) x (Answer NoKey) same (reg_by false true granted (ap is_some some)));
+          lacks = λ want. absurd (let bad : NoKey ≡ NoMemory = sym (ap (λ (r : Refused). r.why) e) ∙ want in cc (bad));
           back = ap (λ (r : Refused). r.buf) e;
           stays = still p x same;
         }

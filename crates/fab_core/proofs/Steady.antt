@@ -47,6 +47,8 @@ steady p ok rx tx read room =
       items = tx.items;
       out = λ d. out_at p d (tx.placed d);
       addressed = λ i t is. (let lt = ok.addressed i t is in omega (arith, lt, places));
+      used = tx.used;
+      receives = rx.room;
       partly = record {
         unexpected = All-weaker (PartlyIn p.rx) (PartlyFor p.rx.rx p.rx.begun) (λ a. coming p.rx a) p.rx.rx.unexpected rx.partly;
         claimed = All-weaker (λ (c : ℕ × Arrival). PartlyIn p.rx c.1) (λ (c : ℕ × Arrival). PartlyFor p.rx.rx p.rx.begun c.1) (λ c. coming p.rx c.1) p.rx.rx.claimed rx.aside;

@@ -13,12 +13,13 @@ use Rattle.fab_base.specs.declared.operations.Coming.{Coming}
 use Rattle.fab_base.specs.declared.operations.Coming.TheVariants.{Into, Keep, Throw, Request, Answer}
 use Rattle.fab_base.specs.declared.operations.Tally.{Tally}
 use Rattle.fab_av.specs.Addresses.{Addresses}
-use Rattle.fab_model.specs.Complete.{at_delivery, at_either, at_match}
+use Rattle.fab_model.specs.Complete.{at_match}
 use Rattle.fab_model.specs.Matching.{is_message}
 use Rattle.fab_model.specs.State.{Completions, State, coming_from, lookup}
 use Rattle.fab_rx.specs.Arriving.{Arriving, begun_of}
 use Rattle.fab_tx.specs.Transit.{Transit}
 use Rattle.fab_face.specs.Held.{Held}
+use Rattle.fab_face.specs.Owed.{is_due}
 use Rattle.fab_ends.specs.Members.{Members}
 use Rattle.fab_rma.specs.Serving.{Serving, is_request}
 
@@ -64,15 +65,7 @@ abbrev pub bit : Bool → ℕ
 bit true = 1
 bit false = 0
 
--- a reply is booked when the item that is coming is whole
-abbrev pub is_due : Option Coming → ItemHead → Bool
-is_due (Some (Into r place)) head = at_either head.ack
-is_due (Some Keep) head = at_delivery head.ack
-is_due (Some Throw) head = at_either head.ack
-is_due (Some Request) head = true
-is_due (Some Answer) head = false
-is_due None head = false
-
+-- 1 where a reply is booked when the item that is coming is whole
 abbrev pub due_for : Option Coming → Option Item → ℕ
 due_for coming None = 0
 due_for coming (Some item) = bit (is_due coming item.head)

@@ -21,7 +21,7 @@ use Rattle.fab_ep.specs.Sends.{logging}
 use Rattle.fab_ep.specs.Draws.{Crowded, Drawing, Draws}
 use Rattle.fab_ep.proofs.Due.{grounds_draws, went_draws}
 use Rattle.fab_ep.proofs.Lasting.{Lasts, Persists}
-use Rattle.fab_face.proofs.Joining.{went_none, went_then, went_did, ported_same}
+use Rattle.fab_face.proofs.Joining.{went_none, went_then, went_did, ported_did, ported_same}
 use Rattle.fab_ep.specs.Tries.{IsTied}
 use Rattle.fab_ep.proofs.Accepting.{tied_did}
 
@@ -219,21 +219,7 @@ module _ {Home : Type 0} where
       by false e = (let drawn = draws e in refused_after call a b why ours drawn e (persists a.held.state b.held.state why (grounds_draws drawn.0.acts a.held b.held drawn.0.draws (let went = drawn.0.went in went.goes)) is last) (inl last))
 
   went_received : (call : Call) (a : Seen Home) (h : Held) → DoesCall (Some call) a.held h → Went (Some call) a (logging Called (record a { held = h })) (Did ∷ [])
-  went_received call a h does = (let p = ported_same a.lanes a.lanes refl in went_did call a (logging Called (record a { held = h })) does.0 does.1 refl refl (record {
-    taken = p.taken;
-    posted = p.posted;
-    moves = p.moves;
-    empty_seen = p.empty_seen;
-    lane_full = p.lane_full;
-    pool_full = p.pool_full;
-    number = refl;
-    peers = refl;
-    home = refl;
-    in_list = refl;
-    in_after = p.in_after;
-    out_after = p.out_after;
-    owed = p.owed;
-  }))
+  went_received call a h does = went_did call a (logging Called (record a { held = h })) does.0 does.1 refl refl (ported_did a.lanes a.lanes refl)
 
   -- a call that is Ok, between its draws
   pub received : (call : Call) (a b c : Seen Home) (h : Held) → Draws a b → HasPlaces a → DoesCall (Some call) b.held h → Draws (logging Called (record b { held = h })) c → Receives call a c
@@ -250,5 +236,6 @@ module _ {Home : Type 0} where
         pushed = e.pushed ∙ d.pushed;
         lanes = e.lanes ∙ d.lanes;
         places = places;
+        place = elim e.room [ inl none ↦ inl none | inr room ↦ inr (e.place room) ];
         drawn = then.1;
       }

@@ -1,8 +1,9 @@
 -- A frame is posted: the log and the ends of the port's lists.
-use Rattle.std.proofs.Common.{inl, inr, ◌≡◌, ◌≢◌, ◌<◌, ◌≤◌, ◌+◌, ◌-◌, min, ℕ, true, false, [], ◌∷◌, ◌++◌, length, length-set, get_or-set_same, get_or-set_other, append-nil, Some, None, refl, sym, ap, ◌∙◌, subst, arith}
+use Rattle.std.proofs.Common.{◌⊎◌, inl, inr, ◌≡◌, ◌≢◌, ◌<◌, ◌≤◌, ◌+◌, ◌-◌, min, ℕ, true, false, [], ◌∷◌, ◌++◌, length, length-set, get_or-set_same, get_or-set_other, append-nil, Some, None, refl, sym, ap, ◌∙◌, subst, arith}
 use Rattle.std.specs.Prelude.{slice_index, slice_set, ◌==◌}
 use Rattle.std.proofs.lemmas.Bool.{cases_eq, eq-eqb}
 use Rattle.std.proofs.lemmas.Bool.Decides.{nat_tests}
+use Rattle.fab_base.specs.Counts.{Rose}
 use Rattle.fab_base.specs.declared.frames.Frame.{Frame}
 use Rattle.fab_base.specs.declared.items.Item.{Item}
 use Rattle.fab_wire.specs.Joined.{is_last}
@@ -99,6 +100,10 @@ module _ {Home : Type 0} (a b : Lanes Home) where
       let after = p.out_after d in
       rw (posted, after) refl
 
+-- where a count last rose changes only as it rises
+pub noticed_at : (x y : Outgoing) → Noticed x y → (Rose x.lane_full_seen y.lane_full_seen ⊎ Rose x.pool_full_seen y.pool_full_seen) ⊎ (y.full_at ≡ x.full_at)
+noticed_at x y noticed = elim noticed.full_at [ inl still ↦ inr still.2 | inr rose ↦ inl rose.0 ]
+
 -- the port refused a frame for this peer
 pub not_posted : {Home : Type 0} (a b : Lanes Home) (dest : ℕ) → (b.outs dest).frames ≡ (a.outs dest).frames → Noticed (a.outs dest) (b.outs dest) → Others dest a.outs b.outs → b.ins ≡ a.ins → b.number ≡ a.number
     → b.peers ≡ a.peers → b.home ≡ a.home → b.in_list ≡ a.in_list → b.moves ≡ a.moves → Ported a b []
@@ -118,6 +123,12 @@ not_posted a b dest frames noticed others ins number peers home in_list moves = 
     | inl here ↦ rw here noticed.pool_full
     | inr other ↦ (let e = ap (λ (o : Outgoing). o.pool_full_seen) (others d other) in omega (arith, e))
   ];
+  empty_at = λ s. inr (ap (λ (i : ℕ → Incoming). (i s).empty_at) ins);
+  full_at = λ d. elim (cases_eq d dest) [
+    | inl here ↦ rw here (noticed_at (a.outs dest) (b.outs dest) noticed)
+    | inr other ↦ inr (ap (λ (o : Outgoing). o.full_at) (others d other))
+  ];
+  lent = λ s f none lent. ap (λ (i : ℕ → Incoming). (i s).lent) ins ∙ lent;
   number = number;
   peers = peers;
   home = home;
@@ -209,6 +220,10 @@ open_of e tied is = record {
   log = tied.log;
   read = is.read;
   within = tied.within;
+  unread = is.room;
+  used = is.used;
+  receives = is.receives;
+  addressed = λ i t at. (let lt = is.addressed i t at in let p = tied.peers in omega (arith, lt, p));
   places = tied.peers;
   begun = is.begun ∙ tied.peers;
   heads = is.heads ∙ tied.peers;

@@ -1,5 +1,5 @@
 -- A frame is looked at, and taken.
-use Rattle.std.proofs.Common.{inl, inr, ◌≡◌, ◌<◌, ◌≤◌, ◌+◌, ℕ, zero, suc, Bool, true, false, List, [], ◌∷◌, ◌++◌, length, length-append, get_or-set_same, get_or-set_other, append-nil, append_assoc, Option, Some, None, Result, Err, refl, sym, ap, ◌∙◌, subst, arith}
+use Rattle.std.proofs.Common.{◌⊎◌, inl, inr, ◌≡◌, ◌<◌, ◌≤◌, ◌+◌, ℕ, zero, suc, Bool, true, false, List, [], ◌∷◌, ◌++◌, length, length-append, get_or-set_same, get_or-set_other, append-nil, append_assoc, Option, Some, None, Result, Err, refl, sym, ap, ◌∙◌, subst, arith}
 use Rattle.std.specs.Prelude.{slice_index, slice_set, IfSome}
 use Rattle.std.proofs.lemmas.Bool.{cases_eq, eqb-true}
 use Rattle.fab_base.specs.Counts.{Rose}
@@ -47,9 +47,22 @@ fronted_facts : (x y : Incoming) (o : Option FrameRef) → Fronted x y o → (y.
 fronted_facts x y None (is, rose) = (ap (λ (i : Incoming). i.taken) is, ap (λ (i : Incoming). i.after) is, no_less_rose x.empty_seen y.empty_seen rose)
 fronted_facts x y (Some f) is = (ap (λ (i : Incoming). i.taken) is, ap (λ (i : Incoming). i.after) is, no_less_same x.empty_seen y.empty_seen (ap (λ (i : Incoming). i.empty_seen) is))
 
+-- what is lent already is lent again
+abbrev pub LentAgain : Incoming → Option FrameRef → Type 0
+LentAgain i None = Unit {0}
+LentAgain i (Some f) = (g : Frame) → i.lent ≡ Some g → lent_frame f ≡ g
+
+fronted_lent : (x y : Incoming) (o : Option FrameRef) → Fronted x y o → LentAgain x o → (g : Frame) → x.lent ≡ Some g → y.lent ≡ Some g
+fronted_lent x y None (is, rose) again g lent = ap (λ (i : Incoming). i.lent) is ∙ lent
+fronted_lent x y (Some f) is again g lent = ap (λ (i : Incoming). i.lent) is ∙ ap Some (again g lent)
+
+fronted_at : (x y : Incoming) (o : Option FrameRef) → Fronted x y o → Rose x.empty_seen y.empty_seen ⊎ (y.empty_at ≡ x.empty_at)
+fronted_at x y None (is, rose) = inl rose
+fronted_at x y (Some f) is = inr (ap (λ (i : Incoming). i.empty_at) is)
+
 module _ {Home : Type 0} where
-  pub peeked : (a b : Lanes Home) (source : ℕ) (o : Option FrameRef) → Fronted (a.ins source) (b.ins source) o → Same a b source → MovedBy a.moves b.moves [] → Ported a b []
-  peeked a b source o fronted same moves =
+  pub peeked : (a b : Lanes Home) (source : ℕ) (o : Option FrameRef) → Fronted (a.ins source) (b.ins source) o → LentAgain (a.ins source) o → Same a b source → MovedBy a.moves b.moves [] → Ported a b []
+  peeked a b source o fronted again same moves =
       let facts = fronted_facts (a.ins source) (b.ins source) o fronted in
       record {
         taken = λ s. elim (cases_eq s source) [
@@ -64,6 +77,15 @@ module _ {Home : Type 0} where
         ];
         lane_full = λ d. (let e = ap (λ (o : ℕ → Outgoing). (o d).lane_full_seen) same.outs in omega (arith, e));
         pool_full = λ d. (let e = ap (λ (o : ℕ → Outgoing). (o d).pool_full_seen) same.outs in omega (arith, e));
+        empty_at = λ s. elim (cases_eq s source) [
+          | inl here ↦ rw here (fronted_at (a.ins source) (b.ins source) o fronted)
+          | inr other ↦ inr (ap (λ (i : Incoming). i.empty_at) (same.others s other))
+        ];
+        full_at = λ d. inr (ap (λ (o : ℕ → Outgoing). (o d).full_at) same.outs);
+        lent = λ s f none lent. elim (cases_eq s source) [
+          | inl here ↦ rw here (fronted_lent (a.ins source) (b.ins source) o fronted again f (rw here at lent))
+          | inr other ↦ ap (λ (i : Incoming). i.lent) (same.others s other) ∙ lent
+        ];
         number = same.number;
         peers = same.peers;
         home = same.home;
@@ -76,23 +98,23 @@ module _ {Home : Type 0} where
         owed = λ d. ap (λ (o : ℕ → Outgoing). (o d).owed) same.outs;
       }
 
-  calm_by : (a b : Seen Home) (source : ℕ) (o : Option FrameRef) → b.held ≡ a.held → b.log ≡ a.log → b.log_size ≡ a.log_size → Fronted (a.lanes.ins source) (b.lanes.ins source) o → Same a.lanes b.lanes source
+  calm_by : (a b : Seen Home) (source : ℕ) (o : Option FrameRef) → b.held ≡ a.held → b.log ≡ a.log → b.log_size ≡ a.log_size → Fronted (a.lanes.ins source) (b.lanes.ins source) o → LentAgain (a.lanes.ins source) o → Same a.lanes b.lanes source
       → MovedBy a.lanes.moves b.lanes.moves [] → CalmIn a b source
-  calm_by a b source o held log size fronted same moves = record {
-    calm = record { held = held; log = log; size = size; ported = peeked a.lanes b.lanes source o fronted same moves };
+  calm_by a b source o held log size fronted again same moves = record {
+    calm = record { held = held; log = log; size = size; ported = peeked a.lanes b.lanes source o fronted again same moves };
     ins = same.others;
     outs = same.outs;
   }
 
   -- want of memory
   pub took_none : (a b : Seen Home) (source : ℕ) (f : FrameRef) (r : Result Tried NoMemory) (why : NoMemory) → r ≡ Err why → b.held ≡ a.held → b.log ≡ a.log → b.log_size ≡ a.log_size
-      → Fronted (a.lanes.ins source) (b.lanes.ins source) (Some f) → Same a.lanes b.lanes source → MovedBy a.lanes.moves b.lanes.moves [] → TriesIn a b source r
-  took_none a b source f r why is held log size fronted same moves = rw is (let calm = calm_by a b source (Some f) held log size fronted same moves in calm.calm)
+      → Fronted (a.lanes.ins source) (b.lanes.ins source) (Some f) → LentAgain (a.lanes.ins source) (Some f) → Same a.lanes b.lanes source → MovedBy a.lanes.moves b.lanes.moves [] → TriesIn a b source r
+  took_none a b source f r why is held log size fronted again same moves = rw is (let calm = calm_by a b source (Some f) held log size fronted again same moves in calm.calm)
 
   pub saw_none : (a b : Seen Home) (source : ℕ) → b.held ≡ a.held → b.log ≡ a.log → b.log_size ≡ a.log_size → Fronted (a.lanes.ins source) (b.lanes.ins source) None → Same a.lanes b.lanes source
       → MovedBy a.lanes.moves b.lanes.moves [] → IfSome (a.lanes.in_list source) (λ xs. (a.lanes.ins source).taken ≡ xs) → CalmIn a b source × SawEmpty a.lanes b.lanes source
   saw_none a b source held log size fronted same moves all = (
-    calm_by a b source None held log size fronted same moves,
+    calm_by a b source None held log size fronted tt same moves,
     record {
       rose = fronted.1;
       at_end = ap (λ (i : Incoming). i.empty_at) fronted.0 ∙ ap length (sym (ap (λ (i : Incoming). i.taken) fronted.0));
@@ -100,10 +122,10 @@ module _ {Home : Type 0} where
     },
   )
 
-  pub saw_lent : (a b : Seen Home) (source : ℕ) (f : FrameRef) → b.held ≡ a.held → b.log ≡ a.log → b.log_size ≡ a.log_size → Fronted (a.lanes.ins source) (b.lanes.ins source) (Some f) → Same a.lanes b.lanes source
+  pub saw_lent : (a b : Seen Home) (source : ℕ) (f : FrameRef) → b.held ≡ a.held → b.log ≡ a.log → b.log_size ≡ a.log_size → Fronted (a.lanes.ins source) (b.lanes.ins source) (Some f) → LentAgain (a.lanes.ins source) (Some f) → Same a.lanes b.lanes source
       → MovedBy a.lanes.moves b.lanes.moves [] → FrameLacks a.held source (lent_frame f) → CalmIn a b source × LentLacks b source
-  saw_lent a b source f held log size fronted same moves lacks = (
-    calm_by a b source (Some f) held log size fronted same moves,
+  saw_lent a b source f held log size fronted again same moves lacks = (
+    calm_by a b source (Some f) held log size fronted again same moves,
     (lent_frame f, ap (λ (i : Incoming). i.lent) fronted, subst (λ (h : Held). FrameLacks h source (lent_frame f)) (sym held) lacks),
   )
 
@@ -139,6 +161,15 @@ module _ {Home : Type 0} where
         ];
         lane_full = λ d. (let e = ap (λ (o : ℕ → Outgoing). (o d).lane_full_seen) outs in omega (arith, e));
         pool_full = λ d. (let e = ap (λ (o : ℕ → Outgoing). (o d).pool_full_seen) outs in omega (arith, e));
+        empty_at = λ s. elim (cases_eq s source) [
+          | inl here ↦ rw here (inr (ap (λ (i : Incoming). i.empty_at) now))
+          | inr other ↦ inr (ap (λ (i : Incoming). i.empty_at) (others s other))
+        ];
+        full_at = λ d. inr (ap (λ (o : ℕ → Outgoing). (o d).full_at) outs);
+        lent = λ s g none lent. elim (cases_eq s source) [
+          | inl here ↦ absurd (let bad : lent_frame f ∷ [] ≡ [] = rw (here, same_peer source) at none in cc (bad))
+          | inr other ↦ ap (λ (i : Incoming). i.lent) (others s other) ∙ lent
+        ];
         number = then.number ∙ same.number;
         peers = then.peers ∙ same.peers;
         home = then.home ∙ same.home;

@@ -20,14 +20,15 @@ use Rattle.fab_base.specs.declared.operations.Coming.{Coming}
 use Rattle.fab_base.specs.declared.operations.Coming.TheVariants.{Into, Keep, Throw, Request, Answer}
 use Rattle.fab_base.specs.declared.operations.Operation.{Operation}
 use Rattle.fab_model.specs.Matching.{is_message}
-use Rattle.fab_model.specs.State.{State, Receiving, Transmitting, accepted_for, coming_from, raise, with_rx, with_tx}
+use Rattle.fab_model.specs.State.{State, Receiving, Transmitting, accepted_for, held_for, coming_from, raise, with_rx, with_tx}
 use Rattle.fab_model.specs.Complete.{at_delivery, at_either, at_match, book, fill, release, release_multi, reply}
-use Rattle.fab_model.specs.Sending.{answering, do_answer, end_with, is_answered_by}
+use Rattle.fab_model.specs.Sending.{answering, do_answer, end_with, going_on, is_answered_by}
 use Rattle.fab_model.specs.Target.{perform}
-use Rattle.fab_model.specs.Arrivals.{completed, do_head, do_request, do_tail, heading_message, heading_other, keeping, made_whole, newcomer, remote_data, tail_to, taker, way_of, with_regions}
+use Rattle.fab_model.specs.Arrivals.{completed, do_head, do_request, do_tail, heading_message, heading_other, keeping, made_whole, newcomer, remote_data, remote_event, tail_to, taker, way_of, with_regions}
 use Rattle.fab_wire.specs.Owing.{is_reply, owes, owes_by, asks}
 use Rattle.fab_face.specs.Owed.{dues, is_answer, unbegun, to_post, is_debt, to_book, is_pledge, is_due, due_for, asked_by, kept_for, begun_in, Pledged, IsComing, PartlyIn, IsPartly}
 use Rattle.fab_face.proofs.Counts.{one, count_cons, count_snoc, count_same, count_map, count_none, count_sum}
+use Rattle.fab_face.proofs.Letting.{lets_post}
 use Rattle.fab_face.proofs.Owed.{get_or-set, booked_one, either_split}
 
 abbrev pub is_keep : Option Coming → Bool
@@ -261,8 +262,12 @@ keeps_all source bytes s t us cs = (here, away)
 
     here : (op : ℕ) → (to_book t.rx source op ≡ to_book s.rx source op + kept_for s.rx source op) × (kept_for t.rx source op ≡ 0)
     here op = (
-      omega (arith, debts source op, count_sum (λ a. is_debt source op (completed source bytes a)) (is_debt source op) (is_pledge source op) s.rx.unexpected (debt_here source bytes op),
-          count_sum (λ (c : ℕ × Arrival). is_debt source op (completed source bytes c.1)) (λ (c : ℕ × Arrival). is_debt source op c.1) (λ (c : ℕ × Arrival). is_pledge source op c.1) s.rx.claimed (λ c. debt_here source bytes op c.1)),
+      omega (
+        arith,
+        debts source op,
+        count_sum (λ a. is_debt source op (completed source bytes a)) (is_debt source op) (is_pledge source op) s.rx.unexpected (debt_here source bytes op),
+        count_sum (λ (c : ℕ × Arrival). is_debt source op (completed source bytes c.1)) (λ (c : ℕ × Arrival). is_debt source op c.1) (λ (c : ℕ × Arrival). is_pledge source op c.1) s.rx.claimed (λ c. debt_here source bytes op c.1),
+      ),
       omega (arith, pledges source op, never (λ a. is_pledge source op (completed source bytes a)) s.rx.unexpected (pledge_here source bytes op), never (λ (c : ℕ × Arrival). is_pledge source op (completed source bytes c.1)) s.rx.claimed (λ c. pledge_here source bytes op c.1)),
     )
 
@@ -341,7 +346,7 @@ module _ (s : State) (source : ℕ) (head : ItemHead) (bytes : List ℕ) where
       let p = perform whole.regions head bytes in
       let v1 : State = with_regions p.regions whole in
       let v2 : State = reply source head.op p.outcome p.bytes v1 in
-      let v3 : State = remote_data p.outcome source head v2 in
+      let v3 : State = remote_data p.outcome source head (remote_event p.outcome head v2) in
       let tx : v3.tx ≡ v2.tx = grind rules in
       let rx : v3.rx ≡ v2.rx = grind rules in
       tailed_as (Some Request) v3 alone way refl (ap (λ (x : Receiving). x.unexpected) rx) (ap (λ (x : Receiving). x.claimed) rx) (ap (λ (x : Receiving). x.coming) rx)
@@ -355,13 +360,17 @@ module _ (s : State) (source : ℕ) (head : ItemHead) (bytes : List ℕ) where
   unfolding do_answer made_whole answering
   answered alone way = go (find (is_answered_by whole.tx source head) whole.tx.live)
     where
-      go : (x : Option Operation) → (let u : State = elim x [ None ↦ whole | Some o ↦ end_with head.outcome bytes o (with_tx (answering source head whole.tx) whole) ] in Tailed (Some Answer) source head s u)
+      go : (x : Option Operation) → (let u : State = elim x [ None ↦ whole | Some o ↦ end_with head.outcome bytes o (with_tx (going_on source (answering source head whole.tx)) whole) ] in Tailed (Some Answer) source head s u)
       go None = tailed_as (Some Answer) whole alone way refl refl refl refl (λ places d op. omega arith)
       go (Some o) =
-          let v : State = with_tx (answering source head whole.tx) whole in
+          let tx : Transmitting = answering source head whole.tx in
+          let v : State = with_tx (going_on source tx) whole in
           let e = ended head.outcome o v in
           tailed_as (Some Answer) (end_with head.outcome bytes o v) alone way refl (ap (λ (x : Receiving). x.unexpected) e.1) (ap (λ (x : Receiving). x.claimed) e.1) (ap (λ (x : Receiving). x.coming) e.1)
-          (λ places d op. let f : to_post (end_with head.outcome bytes o v).tx places d op ≡ to_post v.tx places d op = ap (λ (x : Transmitting). to_post x places d op) e.0 in omega (arith, f))
+          (λ places d op.
+          let f : to_post (end_with head.outcome bytes o v).tx places d op ≡ to_post (going_on source tx) places d op = ap (λ (x : Transmitting). to_post x places d op) e.0 in
+          let l : to_post (going_on source tx) places d op ≤ to_post s.tx places d op = lets_post op source (held_for tx source) tx (omega arith) places d in
+          omega (arith, f, l))
 
   pub tail_tailed : Alone s.rx source → Tailed (coming_from s.rx source) source head s (do_tail s source head bytes)
   unfolding do_tail tail_to made_whole

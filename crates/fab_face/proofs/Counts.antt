@@ -47,14 +47,19 @@ pub count_sum : {X : Type 0} (p q r : X → Bool) (xs : List X) → ((x : X) →
 count_sum p q r [] same = refl
 count_sum p q r (x ∷ xs) same = omega (arith, count_sum p q r xs same, count_cons p x xs, count_cons q x xs, count_cons r x xs, same x)
 
-none_dropped : {X : Type 0} (p : X → Bool) (n : ℕ) → count_by p (drop n []) ≡ 0
+pub none_dropped : {X : Type 0} (p : X → Bool) (n : ℕ) → count_by p (drop n []) ≡ 0
 none_dropped p zero = refl
 none_dropped p (suc n) = refl
 
-pub count_dropped : {X : Type 0} (p : X → Bool) (n : ℕ) (xs : List X) (x : X) → count_by p (drop n (xs ++ x ∷ [])) ≤ count_by p (drop n xs) + one (p x)
-count_dropped p zero xs x = omega (arith, count_snoc p xs x)
-count_dropped p (suc n) [] x = let e : count_by p (drop (suc n) ([] ++ x ∷ [])) ≡ 0 = none_dropped p n in omega (arith, e)
-count_dropped p (suc n) (y ∷ xs) x = count_dropped p n xs x
+pub count_drop : {X : Type 0} (p : X → Bool) (n : ℕ) (xs : List X) → count_by p (drop n xs) ≤ count_by p xs
+count_drop p zero xs = omega arith
+count_drop p (suc n) [] = omega arith
+count_drop p (suc n) (x ∷ xs) = omega (arith, count_drop p n xs, count_cons p x xs)
+
+pub count_dropped : {X : Type 0} (p : X → Bool) (n : ℕ) (xs ys : List X) → count_by p (drop n (xs ++ ys)) ≤ count_by p (drop n xs) + count_by p ys
+count_dropped p zero xs ys = omega (arith, count_by-append p xs ys)
+count_dropped p (suc n) [] ys = omega (arith, count_drop p (suc n) ys)
+count_dropped p (suc n) (x ∷ xs) ys = count_dropped p n xs ys
 
 pub drop_next : {X : Type 0} (n : ℕ) (xs : List X) (x : X) → slice_get xs n ≡ Some x → drop n xs ≡ x ∷ drop (suc n) xs
 drop_next n [] x e = absurd (cc (e))

@@ -1,12 +1,14 @@
 -- How acts join: their kinds, what they do to a port, and where they lead.
-use Rattle.std.proofs.Common.{◌≡◌, ◌<◌, ◌+◌, ℕ, List, [], ◌∷◌, ◌++◌, length, map, Option, Some, None, refl, sym, ap, ◌∙◌, subst, append_assoc, append-nil, arith}
+use Rattle.std.proofs.Common.{◌≡◌, ◌⊎◌, inl, inr, ◌<◌, ◌≤◌, ◌+◌, ◌^◌, ℕ, List, [], ◌∷◌, ◌++◌, length, map, Option, Some, None, refl, sym, ap, ◌∙◌, subst, append_assoc, append-nil, arith}
+use Rattle.std.proofs.lemmas.Bool.{cases_eq}
 use Rattle.std.proofs.lemmas.List.{map-append}
 use Rattle.std.proofs.lemmas.Grind.{flat_map-append}
+use Rattle.fab_base.specs.Counts.{Rose}
 use Rattle.fab_base.specs.declared.frames.Frame.{Frame}
 use Rattle.fab_base.specs.declared.peers.LineResult.TheVariants.{Done}
 use Rattle.fab_wire.specs.declared.moves.Move.{Move}
 use Rattle.fab_wire.specs.declared.moves.Move.TheVariants.{Post as Out, Take as In}
-use Rattle.fab_link.specs.Meaning.{GrewBy}
+use Rattle.fab_link.specs.Meaning.{GrewBy, Incoming, Outgoing}
 use Rattle.fab_wire.specs.Joined.{is_last}
 use Rattle.fab_model.specs.Calls.{Call, do_call}
 use Rattle.fab_face.specs.declared.events.Event.TheVariants.{Call as Called, Sent as Transmitted}
@@ -58,15 +60,57 @@ moved_took a m b source is grew = moved_one a b (In source) (From source) (λ n.
 pub moved_posted : (a b : Option (List Move)) (dest : ℕ) → GrewBy (Out dest) a b → MovedBy a b (To dest ∷ [])
 moved_posted a b dest grew = moved_one a b (Out dest) (To dest) (λ n. refl) grew
 
+-- a count that rose between two others that never fall
+rose_before : (a b c : ℕ) → a ≤ b → Rose b c → Rose a c
+rose_before a b c le (inl less) = inl (omega (arith, le, less))
+rose_before a b c le (inr last) = elim (cases_eq a b) [
+  | inl same ↦ inr (same ∙ last.0, last.1)
+  | inr other ↦ (let e = last.0 in inl (omega (arith, le, other, e)))
+]
+
+rose_behind : (a b c : ℕ) → Rose a b → b ≤ c → Rose a c
+rose_behind a b c (inl less) le = inl (omega (arith, le, less))
+rose_behind a b c (inr last) le = elim (cases_eq b c) [
+  | inl same ↦ inr (last.0 ∙ same, subst (λ n. n + 1 ≡ 2 ^ 64) same last.1)
+  | inr other ↦ (let e = last.0 in inl (omega (arith, le, other, e)))
+]
+
+none_before : {X : Type 0} (xs ys : List X) → xs ++ ys ≡ [] → xs ≡ []
+none_before [] ys none = refl
+none_before (x ∷ xs) ys none = absurd (cc (none))
+
+none_behind : {X : Type 0} (xs ys : List X) → xs ++ ys ≡ [] → ys ≡ []
+none_behind [] ys none = none
+none_behind (x ∷ xs) ys none = absurd (cc (none))
+
+empty_then : (a b c : Incoming) → a.empty_seen ≤ b.empty_seen → b.empty_seen ≤ c.empty_seen → Rose a.empty_seen b.empty_seen ⊎ (b.empty_at ≡ a.empty_at) → Rose b.empty_seen c.empty_seen ⊎ (c.empty_at ≡ b.empty_at)
+    → Rose a.empty_seen c.empty_seen ⊎ (c.empty_at ≡ a.empty_at)
+empty_then a b c le then p (inl rose) = inl (rose_before _ _ _ le rose)
+empty_then a b c le then (inl rose) (inr same) = inl (rose_behind _ _ _ rose then)
+empty_then a b c le then (inr was) (inr same) = inr (same ∙ was)
+
+full_then : (a b c : Outgoing) → a.lane_full_seen ≤ b.lane_full_seen → b.lane_full_seen ≤ c.lane_full_seen → a.pool_full_seen ≤ b.pool_full_seen → b.pool_full_seen ≤ c.pool_full_seen
+    → (Rose a.lane_full_seen b.lane_full_seen ⊎ Rose a.pool_full_seen b.pool_full_seen) ⊎ (b.full_at ≡ a.full_at) → (Rose b.lane_full_seen c.lane_full_seen ⊎ Rose b.pool_full_seen c.pool_full_seen) ⊎ (c.full_at ≡ b.full_at)
+    → (Rose a.lane_full_seen c.lane_full_seen ⊎ Rose a.pool_full_seen c.pool_full_seen) ⊎ (c.full_at ≡ a.full_at)
+full_then a b c lane_le lane_then pool_le pool_then p (inl (inl lane)) = inl (inl (rose_before _ _ _ lane_le lane))
+full_then a b c lane_le lane_then pool_le pool_then p (inl (inr pool)) = inl (inr (rose_before _ _ _ pool_le pool))
+full_then a b c lane_le lane_then pool_le pool_then (inl (inl lane)) (inr same) = inl (inl (rose_behind _ _ _ lane lane_then))
+full_then a b c lane_le lane_then pool_le pool_then (inl (inr pool)) (inr same) = inl (inr (rose_behind _ _ _ pool pool_then))
+full_then a b c lane_le lane_then pool_le pool_then (inr was) (inr same) = inr (same ∙ was)
+
 module _ {Home : Type 0} where
-  pub ported_same : (a b : Lanes Home) → b ≡ a → Ported a b []
-  ported_same a b is = subst (λ (x : Lanes Home). Ported a x []) (sym is) (record {
-    taken = λ s. sym (append-nil ((a.ins s).taken));
-    posted = λ d. sym (append-nil ((a.outs d).frames));
-    moves = moved_none a.moves;
+  -- acts that take and post nothing
+  pub ported_still : (a b : Lanes Home) (acts : List Act) → b ≡ a → ((s : ℕ) → taken_of s acts ≡ []) → ((d : ℕ) → posted_to d acts ≡ []) → ways_of acts ≡ [] → Ported a b acts
+  ported_still a b acts is took posted ways = subst (λ (x : Lanes Home). Ported a x acts) (sym is) (record {
+    taken = λ s. rw (took s) (sym (append-nil ((a.ins s).taken)));
+    posted = λ d. rw (posted d) (sym (append-nil ((a.outs d).frames)));
+    moves = rw ways (moved_none a.moves);
     empty_seen = λ s. omega arith;
     lane_full = λ d. omega arith;
     pool_full = λ d. omega arith;
+    empty_at = λ s. inr refl;
+    full_at = λ d. inr refl;
+    lent = λ s f none lent. lent;
     number = refl;
     peers = refl;
     home = refl;
@@ -76,6 +120,15 @@ module _ {Home : Type 0} where
     owed = λ d. refl;
   })
 
+  pub ported_same : (a b : Lanes Home) → b ≡ a → Ported a b []
+  ported_same a b is = ported_still a b [] is (λ s. refl) (λ d. refl) refl
+
+  pub ported_did : (a b : Lanes Home) → b ≡ a → Ported a b (Did ∷ [])
+  ported_did a b is = ported_still a b (Did ∷ []) is (λ s. refl) (λ d. refl) refl
+
+  pub ported_had : (a b : Lanes Home) → b ≡ a → Ported a b (Had ∷ [])
+  ported_had a b is = ported_still a b (Had ∷ []) is (λ s. refl) (λ d. refl) refl
+
   pub ported_then : (a b c : Lanes Home) (xs ys : List Act) → Ported a b xs → Ported b c ys → Ported a c (xs ++ ys)
   ported_then a b c xs ys p q = record {
     taken = λ s. q.taken s ∙ ap (λ fs. fs ++ taken_of s ys) (p.taken s) ∙ append_assoc ((a.ins s).taken) (taken_of s xs) (taken_of s ys) ∙ ap (λ fs. (a.ins s).taken ++ fs) (sym (flat_map-append (taken_by s) xs ys));
@@ -84,6 +137,11 @@ module _ {Home : Type 0} where
     empty_seen = λ s. (let x = p.empty_seen s in let y = q.empty_seen s in omega (arith, x, y));
     lane_full = λ d. (let x = p.lane_full d in let y = q.lane_full d in omega (arith, x, y));
     pool_full = λ d. (let x = p.pool_full d in let y = q.pool_full d in omega (arith, x, y));
+    empty_at = λ s. empty_then (a.ins s) (b.ins s) (c.ins s) (p.empty_seen s) (q.empty_seen s) (p.empty_at s) (q.empty_at s);
+    full_at = λ d. full_then (a.outs d) (b.outs d) (c.outs d) (p.lane_full d) (q.lane_full d) (p.pool_full d) (q.pool_full d) (p.full_at d) (q.full_at d);
+    lent = λ s f none lent.
+        let both : taken_of s xs ++ taken_of s ys ≡ [] = sym (flat_map-append (taken_by s) xs ys) ∙ none in
+        q.lent s f (none_behind (taken_of s xs) (taken_of s ys) both) (p.lent s f (none_before (taken_of s xs) (taken_of s ys) both) lent);
     number = q.number ∙ p.number;
     peers = q.peers ∙ p.peers;
     home = q.home ∙ p.home;

@@ -3,6 +3,7 @@ pub mod Tied
 pub mod Writing
 pub mod Holding
 pub mod Counts
+pub mod Letting
 pub mod Owed
 pub mod Owing
 pub mod Arriving

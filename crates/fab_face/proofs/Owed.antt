@@ -54,7 +54,7 @@ keeps_same s t tx us cs coming = record {
 
 pub booked_one : (source op' : ℕ) (outcome : Outcome) (bytes : List ℕ) (s : State) (places : List ℕ) (d op : ℕ) → to_post (reply source op' outcome bytes s).tx places d op ≤ to_post s.tx places d op + one ((source == d) && (op' == op))
 unfolding reply
-booked_one source op' outcome bytes s places d op = go (slice_index places d) (get_or-set s.tx.accepted source d _ [])
+booked_one source op' outcome bytes s places d op = (let l = go (slice_index places d) (get_or-set s.tx.accepted source d _ []) in omega (arith, l))
   where
     item : Item
     item = record { head = Rattle.fab_model.specs.Complete.reply_head op' outcome (length bytes); bytes = bytes }
@@ -64,8 +64,8 @@ booked_one source op' outcome bytes s places d op = go (slice_index places d) (g
     dropped n (inl same) = rw same (omega arith)
     dropped n (inr (is, more)) =
         let t : (source == d) ≡ true = grind (arith, nat_tests, is) in
-        let l = count_dropped (is_answer op) n (accepted_for s.tx source) item in
-        let e : one (is_answer op item) ≡ one (op' == op) = refl in
+        let l = count_dropped (is_answer op) n (accepted_for s.tx source) (item ∷ []) in
+        let e : count_by (is_answer op) (item ∷ []) ≡ 0 + one (op' == op) = refl in
         let f : one ((source == d) && (op' == op)) ≡ one (op' == op) = rw t refl in
         let at : accepted_for s.tx source ≡ accepted_for s.tx d = ap (accepted_for s.tx) is in
         rw more (let g : count_by (is_answer op) (drop n (accepted_for s.tx source)) ≡ count_by (is_answer op) (drop n (accepted_for s.tx d)) = ap (λ xs. count_by (is_answer op) (drop n xs)) at in omega (arith, l, e, f, g))

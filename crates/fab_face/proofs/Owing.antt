@@ -18,16 +18,18 @@ use Rattle.fab_base.specs.declared.entries.Class.TheVariants.{Recv}
 use Rattle.fab_base.specs.declared.peers.LineResult.{LineResult}
 use Rattle.fab_base.specs.declared.operations.Receive.{Receive}
 use Rattle.fab_base.specs.declared.operations.Arrival.{Arrival}
+use Rattle.fab_base.specs.declared.operations.Held.{Held}
 use Rattle.fab_model.specs.Matching.{remove_first, takes}
-use Rattle.fab_model.specs.State.{State, Receiving, Transmitting, accepted_for, called, count, in_use, lookup, with_rx, with_tx, write}
+use Rattle.fab_model.specs.State.{State, Receiving, Transmitting, accepted_for, held_for, called, count, in_use, lookup, with_rx, with_tx, write}
 use Rattle.fab_model.specs.Complete.{error, release}
-use Rattle.fab_model.specs.Sending.{Order, accepting, first_fault, is_granted, is_too_long, is_well_formed, item_of, operation_of, transmit, transmit_fault, transmit_to}
+use Rattle.fab_model.specs.Sending.{Order, accepting, first_fault, is_granted, is_too_long, is_well_formed, items_of, operation_of, transmit, transmit_fault, transmit_to}
 use Rattle.fab_model.specs.Receiving.{Posting, cancel, cancellable, claim_of, claiming, draws, drop_arrival, drop_claimed, give, joining_posted, look, look_at, peeked, post, receive_of, take_claimed, taken_by, taking, want_of, without_claim, without_first, without_posted}
 use Rattle.fab_model.specs.Arrivals.{do_draw, seating}
 use Rattle.fab_model.specs.Calls.{Call, Transmit, Post, Look, TakeClaimed, DropClaimed, Cancel, CancelFirst, Insert, Remove, Reg, Close, Put, Show, Count, answer, close, do_call, insert, insert_new, is_peer, peer_named, put, reg, remove}
 use Rattle.fab_wire.specs.Owing.{is_reply}
 use Rattle.fab_face.specs.Owed.{is_answer, unbegun, to_post, is_debt, to_book, is_pledge, kept_for, IsPartly, Pledged}
-use Rattle.fab_face.proofs.Counts.{one, count_snoc, count_removed, count_dropped}
+use Rattle.fab_face.proofs.Counts.{one, count_snoc, count_removed, count_map}
+use Rattle.fab_face.proofs.Letting.{lets_post}
 use Rattle.fab_face.proofs.Owed.{Keeps, keeps_same, get_or-set, Gone, gone_unexpected, gone_claimed, gives, drops, release_keeps}
 
 first_is : (b : Bool) (f : Fault) (rest : List (Bool × Fault)) → first_fault ((b, f) ∷ rest) ≡ None → b ≡ false
@@ -43,29 +45,15 @@ module _ (s : State) where
   accepts_item : (t : ℕ) (o : Order) → is_reply o.kind ≡ false → Keeps s (transmit_to t s o)
   unfolding transmit_to accepting
   accepts_item t o asks = record {
-    due = λ places d op. (let e = go places d op (slice_index places d) (get_or-set s.tx.accepted t d (accepted_for s.tx t ++ item ∷ []) []) in omega (arith, e));
+    due = λ places d op. (let l = lets_post op t (held_for s.tx t ++ operation_of s o ∷ []) (record s.tx { ops = s.tx.ops + 1 }) (few op) places d in omega (arith, l));
     pledged = λ begun partly p. p;
   }
     where
-      item : Item
-      item = item_of s.tx.ops o
-
-      none : (op : ℕ) → one (is_answer op item) ≡ 0
-      none op = rw asks refl
-
-      dropped : (d op n : ℕ) → (get_or (set s.tx.accepted t (accepted_for s.tx t ++ item ∷ [])) d [] ≡ accepted_for s.tx d) ⊎ ((t ≡ d) × (get_or (set s.tx.accepted t (accepted_for s.tx t ++ item ∷ [])) d [] ≡ accepted_for s.tx t ++ item ∷ []))
-          → count_by (is_answer op) (drop n (get_or (set s.tx.accepted t (accepted_for s.tx t ++ item ∷ [])) d [])) ≤ count_by (is_answer op) (drop n (accepted_for s.tx d))
-      dropped d op n (inl same) = rw same (omega arith)
-      dropped d op n (inr (is, more)) =
-          let l = count_dropped (is_answer op) n (accepted_for s.tx t) item in
-          let at : accepted_for s.tx t ≡ accepted_for s.tx d = ap (accepted_for s.tx) is in
-          let g : count_by (is_answer op) (drop n (accepted_for s.tx t)) ≡ count_by (is_answer op) (drop n (accepted_for s.tx d)) = ap (λ xs. count_by (is_answer op) (drop n xs)) at in
-          rw more (omega (arith, l, g, none op))
-
-      go : (places : List ℕ) (d op place : ℕ) → (get_or (set s.tx.accepted t (accepted_for s.tx t ++ item ∷ [])) d [] ≡ accepted_for s.tx d) ⊎ ((t ≡ d) × (get_or (set s.tx.accepted t (accepted_for s.tx t ++ item ∷ [])) d [] ≡ accepted_for s.tx t ++ item ∷ []))
-          → count_by (is_answer op) (unbegun place (slice_index s.tx.sent d) (get_or (set s.tx.accepted t (accepted_for s.tx t ++ item ∷ [])) d [])) ≤ count_by (is_answer op) (unbegun place (slice_index s.tx.sent d) (accepted_for s.tx d))
-      go places d op zero e = dropped d op (slice_index s.tx.sent d) e
-      go places d op (suc k) e = dropped d op (suc (slice_index s.tx.sent d)) e
+      few : (op : ℕ) → count_by (is_answer op) (items_of (held_for s.tx t ++ operation_of s o ∷ [])) ≤ count_by (is_answer op) (items_of (held_for s.tx t))
+      few op =
+          let p : Held → Bool = λ h. is_answer op h.item in
+          let none : one (p (operation_of s o)) ≡ 0 = rw asks refl in
+          omega (arith, none, count_snoc p (held_for s.tx t) (operation_of s o), count_map (is_answer op) (λ (h : Held). h.item) (held_for s.tx t ++ operation_of s o ∷ []), count_map (is_answer op) (λ (h : Held). h.item) (held_for s.tx t))
 
   transmits : (o : Order) → is_reply o.kind ≡ false → Keeps s (transmit s o)
   unfolding transmit
@@ -79,7 +67,7 @@ module _ (s : State) where
   granted : (o : Order) → transmit_fault s o ≡ None → is_reply o.kind ≡ false
   unfolding transmit_fault
   granted o e = go (is_granted s.caps o.kind o.atom) refl (first_is (not (is_granted s.caps o.kind o.atom)) NotSupported (
-      (is_too_long o, MsgSize)
+      (is_too_long s.most_message o, MsgSize)
       ∷ (is_none (lookup s.av o.dest) || nat_le 4_611_686_018_427_387_904 s.tx.ops || not (is_well_formed o o.atom), Invalid)
       ∷ (nat_le s.most_tx (in_use s.tx), Again (TxFull s.most_tx))
       ∷ []

@@ -14,14 +14,15 @@ use Rattle.fab_wire.specs.Joined.{is_last, grown}
 use Rattle.fab_wire.specs.Owing.{begins_reply, ends_owing, is_reply, owes, replies, owing}
 use Rattle.fab_wire.proofs.Owed.{replies-append, owing-append}
 use Rattle.fab_link.specs.Meaning.{Owes, Repays}
-use Rattle.fab_model.specs.State.{State, Transmitting, accepted_for, coming_from, raise, with_tx}
-use Rattle.fab_model.specs.Sending.{do_sent, end_with, ending, transmitting}
+use Rattle.fab_model.specs.State.{State, Transmitting, accepted_for, held_for, coming_from, raise, with_tx}
+use Rattle.fab_model.specs.Sending.{do_sent, end_with, ending, going_on, items_of, letting_out, transmitting}
 use Rattle.fab_model.specs.Arrivals.{do_head, do_tail, do_draw}
 use Rattle.fab_model.specs.Calls.{Call, do_call}
 use Rattle.fab_face.specs.Held.{due, IsPledged, IsRepaid, Held, Lanes, begun_of, next_item, next_frame, piece, with_machine}
 use Rattle.fab_face.specs.Acts.{Act, Comes, Departs, DoesCall, Ends, Goes, Ported, Posted, Took, does, headed, is_first, only, posted_by, posted_to, taken_by, taken_of}
 use Rattle.fab_face.specs.Owed.{dues, is_answer, unbegun, to_post, to_book, due_for, asked_by, kept_for, begun_in, Pledged, IsPartly}
-use Rattle.fab_face.proofs.Counts.{one, count_cons, drop_next}
+use Rattle.fab_face.proofs.Counts.{one, count_cons, drop_next, none_dropped}
+use Rattle.fab_face.proofs.Letting.{standing, lets_out}
 use Rattle.fab_face.proofs.Owed.{Keeps}
 use Rattle.fab_face.proofs.Owing.{call_keeps, draws_keep}
 use Rattle.fab_face.proofs.Arriving.{Alone, BegunOf, alone_partly, head_dues, head_pledged, tail_tailed, tailed_dues, tailed_pledged}
@@ -71,13 +72,33 @@ ended : (o : Operation) (v : State) → ((end_with Done [] o v).tx ≡ v.tx) × 
 unfolding end_with
 ended o v = (grind rules, grind rules)
 
-sent_parts : (s : State) (t : ℕ) → ((do_sent s t).rx ≡ s.rx) × ((do_sent s t).tx.accepted ≡ s.tx.accepted) × ((do_sent s t).tx.sent ≡ raise s.tx.sent t)
-unfolding do_sent transmitting
-sent_parts s t = go (ending t s.tx)
+abbrev sent_by : State → ℕ → Option Operation → State
+sent_by s t x = elim x [ None ↦ with_tx (transmitting t s.tx) s | Some o ↦ end_with Done [] o (with_tx (going_on t (transmitting t s.tx)) s) ]
+
+record SentParts (s : State) (t : ℕ) : Type 0 where
+  rx : (do_sent s t).rx ≡ s.rx
+  sent : (do_sent s t).tx.sent ≡ raise s.tx.sent t
+  fewer : (op d n : ℕ) → standing op (do_sent s t).tx d n ≤ standing op s.tx d n
+
+sent_parts : (s : State) (t : ℕ) → SentParts s t
+unfolding do_sent transmitting letting_out
+sent_parts s t = record { rx = rx (ending t s.tx); sent = sent (ending t s.tx); fewer = λ op d n. fewer op d n (ending t s.tx) }
   where
-    go : (o : Option Operation) → (let u : State = elim o [ None ↦ with_tx (transmitting t s.tx) s | Some o ↦ end_with Done [] o (with_tx (transmitting t s.tx) s) ] in (u.rx ≡ s.rx) × (u.tx.accepted ≡ s.tx.accepted) × (u.tx.sent ≡ raise s.tx.sent t))
-    go None = (refl, refl, refl)
-    go (Some o) = let e = ended o (with_tx (transmitting t s.tx) s) in (e.1, ap (λ (x : Transmitting). x.accepted) e.0, ap (λ (x : Transmitting). x.sent) e.0)
+    rx : (x : Option Operation) → (sent_by s t x).rx ≡ s.rx
+    rx None = refl
+    rx (Some o) = (ended o (with_tx (going_on t (transmitting t s.tx)) s)).1
+
+    sent : (x : Option Operation) → (sent_by s t x).tx.sent ≡ raise s.tx.sent t
+    sent None = refl
+    sent (Some o) = ap (λ (x : Transmitting). x.sent) (ended o (with_tx (going_on t (transmitting t s.tx)) s)).0
+
+    fewer : (op d n : ℕ) (x : Option Operation) → standing op (sent_by s t x).tx d n ≤ standing op s.tx d n
+    fewer op d n None = omega arith
+    fewer op d n (Some o) =
+        let tx : Transmitting = transmitting t s.tx in
+        let e : standing op (sent_by s t (Some o)).tx d n ≡ standing op (going_on t tx) d n = ap (λ (x : Transmitting). standing op x d n) (ended o (with_tx (going_on t tx) s)).0 in
+        let l : standing op (going_on t tx) d n ≤ standing op s.tx d n = lets_out op t (held_for tx t) tx (omega arith) d n in
+        omega (arith, e, l)
 
 some_begun : (n sent : ℕ) (items : List Item) → 0 < n → unbegun n sent items ≡ drop (suc sent) items
 some_begun zero sent items lt = absurd (omega (arith, lt))
@@ -103,25 +124,26 @@ module _ (h t : Held) (dest : ℕ) (f : Frame) (call : Option Call) (goes : Goes
       go (Some item) e = (item, e, (let g : Some (piece item (slice_index h.places dest)) ≡ Some f = rw e at goes.2 in cc))
 
   posted_rx : (last : Bool) → Departs last h dest (f.head.from + f.head.len) t → (t.state.rx ≡ h.state.rx) × (t.begun ≡ h.begun)
-  posted_rx true (room, is) = (ap (λ (x : Held). x.state.rx) is ∙ (sent_parts h.state dest).0, ap (λ (x : Held). x.begun) is)
+  posted_rx true (room, is) = (ap (λ (x : Held). x.state.rx) is ∙ (sent_parts h.state dest).rx, ap (λ (x : Held). x.begun) is)
   posted_rx false is = (ap (λ (x : Held). x.state.rx) is, ap (λ (x : Held). x.begun) is)
 
   pub posted_pledged : IsPledged h → IsPledged t
   posted_pledged p = let e = posted_rx (is_last f.head) goes.3 in rw (e.0, e.1) p
 
-  -- the items for the peer, how many are transmitted, and how much of the next one is posted
-  posted_here : (last : Bool) → is_last f.head ≡ last → Departs last h dest (f.head.from + f.head.len) t → (op : ℕ) → to_post t.state.tx t.places dest op + one (begins_reply f.head && (f.head.item.op == op)) ≡ to_post h.state.tx h.places dest op
+  -- the replies for the peer of which no frame is posted
+  posted_here : (last : Bool) → is_last f.head ≡ last → Departs last h dest (f.head.from + f.head.len) t → (op : ℕ) → to_post t.state.tx t.places dest op + one (begins_reply f.head && (f.head.item.op == op)) ≤ to_post h.state.tx h.places dest op
   posted_here true e (room, is) op =
       let parts = sent_parts h.state dest in
       let i = item_is in
       let places : slice_index t.places dest ≡ 0 = ap (λ (x : Held). slice_index x.places dest) is ∙ get_or-set_same h.places dest 0 0 goes.0 in
-      let sent : slice_index t.state.tx.sent dest ≡ slice_index h.state.tx.sent dest + 1 = ap (λ (x : Held). slice_index x.state.tx.sent dest) is ∙ ap (λ xs. slice_index xs dest) parts.2 ∙ get_or-set_same h.state.tx.sent dest (slice_index h.state.tx.sent dest + 1) 0 goes.1 in
+      let sent : slice_index t.state.tx.sent dest ≡ slice_index h.state.tx.sent dest + 1 = ap (λ (x : Held). slice_index x.state.tx.sent dest) is ∙ ap (λ xs. slice_index xs dest) parts.sent ∙ get_or-set_same h.state.tx.sent dest (slice_index h.state.tx.sent dest + 1) 0 goes.1 in
       let next_one : slice_index t.state.tx.sent dest ≡ suc (slice_index h.state.tx.sent dest) = omega (arith, sent) in
-      let items : accepted_for t.state.tx dest ≡ accepted_for h.state.tx dest = ap (λ (x : Held). accepted_for x.state.tx dest) is ∙ ap (λ xs. get_or xs dest []) parts.1 in
+      let fewer : standing op t.state.tx dest (suc (slice_index h.state.tx.sent dest)) ≤ standing op h.state.tx dest (suc (slice_index h.state.tx.sent dest)) =
+      subst (λ (x : State). standing op x.tx dest (suc (slice_index h.state.tx.sent dest)) ≤ standing op h.state.tx dest (suc (slice_index h.state.tx.sent dest))) (sym (ap (λ (x : Held). x.state) is)) (parts.fewer op dest (suc (slice_index h.state.tx.sent dest))) in
       let b = begins (slice_index h.places dest) (slice_index h.state.tx.sent dest) op (accepted_for h.state.tx dest) i.0 i.1 in
-      let c : count_by (is_answer op) (drop (suc (slice_index h.state.tx.sent dest)) (accepted_for h.state.tx dest)) + one (begins_reply f.head && (f.head.item.op == op)) ≡ to_post h.state.tx h.places dest op =
-      subst (λ (x : Frame). count_by (is_answer op) (drop (suc (slice_index h.state.tx.sent dest)) (accepted_for h.state.tx dest)) + one (begins_reply x.head && (x.head.item.op == op)) ≡ to_post h.state.tx h.places dest op) i.2 b in
-      rw (places, next_one, items) c
+      let c : standing op h.state.tx dest (suc (slice_index h.state.tx.sent dest)) + one (begins_reply f.head && (f.head.item.op == op)) ≡ to_post h.state.tx h.places dest op =
+      subst (λ (x : Frame). standing op h.state.tx dest (suc (slice_index h.state.tx.sent dest)) + one (begins_reply x.head && (x.head.item.op == op)) ≡ to_post h.state.tx h.places dest op) i.2 (omega (arith, b)) in
+      rw (places, next_one) (omega (arith, fewer, c))
   posted_here false e is op =
       let i = item_is in
       let places : slice_index t.places dest ≡ f.head.from + f.head.len = ap (λ (x : Held). slice_index x.places dest) is ∙ get_or-set_same h.places dest (f.head.from + f.head.len) 0 goes.0 in
@@ -130,29 +152,34 @@ module _ (h t : Held) (dest : ℕ) (f : Frame) (call : Option Call) (goes : Goes
       let at : f.head.from + f.head.len ≡ slice_index h.places dest + min 4096 (i.0.head.total - slice_index h.places dest) = sym (ap (λ (x : Frame). x.head.from + x.head.len) i.2) in
       let some : 0 < f.head.from + f.head.len = omega (arith, at, more) in
       let b = begins (slice_index h.places dest) (slice_index h.state.tx.sent dest) op (accepted_for h.state.tx dest) i.0 i.1 in
-      let c : count_by (is_answer op) (drop (suc (slice_index h.state.tx.sent dest)) (accepted_for h.state.tx dest)) + one (begins_reply f.head && (f.head.item.op == op)) ≡ to_post h.state.tx h.places dest op =
-      subst (λ (x : Frame). count_by (is_answer op) (drop (suc (slice_index h.state.tx.sent dest)) (accepted_for h.state.tx dest)) + one (begins_reply x.head && (x.head.item.op == op)) ≡ to_post h.state.tx h.places dest op) i.2 b in
-      rw (places, tx, some_begun (f.head.from + f.head.len) (slice_index h.state.tx.sent dest) (accepted_for h.state.tx dest) some) c
+      let c : standing op h.state.tx dest (suc (slice_index h.state.tx.sent dest)) + one (begins_reply f.head && (f.head.item.op == op)) ≡ to_post h.state.tx h.places dest op =
+      subst (λ (x : Frame). standing op h.state.tx dest (suc (slice_index h.state.tx.sent dest)) + one (begins_reply x.head && (x.head.item.op == op)) ≡ to_post h.state.tx h.places dest op) i.2 (omega (arith, b)) in
+      rw (places, tx, some_begun (f.head.from + f.head.len) (slice_index h.state.tx.sent dest) (accepted_for h.state.tx dest) some) (omega (arith, c))
 
-  posted_away : (last : Bool) → Departs last h dest (f.head.from + f.head.len) t → (d op : ℕ) → d ≢ dest → to_post t.state.tx t.places d op ≡ to_post h.state.tx h.places d op
+  posted_away : (last : Bool) → Departs last h dest (f.head.from + f.head.len) t → (d op : ℕ) → d ≢ dest → to_post t.state.tx t.places d op ≤ to_post h.state.tx h.places d op
   posted_away true (room, is) d op ne =
       let parts = sent_parts h.state dest in
       let places : slice_index t.places d ≡ slice_index h.places d = ap (λ (x : Held). slice_index x.places d) is ∙ get_or-set_other h.places dest d 0 0 ne in
-      let sent : slice_index t.state.tx.sent d ≡ slice_index h.state.tx.sent d = ap (λ (x : Held). slice_index x.state.tx.sent d) is ∙ ap (λ xs. slice_index xs d) parts.2 ∙ get_or-set_other h.state.tx.sent dest d (slice_index h.state.tx.sent dest + 1) 0 ne in
-      let items : accepted_for t.state.tx d ≡ accepted_for h.state.tx d = ap (λ (x : Held). accepted_for x.state.tx d) is ∙ ap (λ xs. get_or xs d []) parts.1 in
-      rw (places, sent, items) refl
+      let sent : slice_index t.state.tx.sent d ≡ slice_index h.state.tx.sent d = ap (λ (x : Held). slice_index x.state.tx.sent d) is ∙ ap (λ xs. slice_index xs d) parts.sent ∙ get_or-set_other h.state.tx.sent dest d (slice_index h.state.tx.sent dest + 1) 0 ne in
+      let fewer : (n : ℕ) → standing op t.state.tx d n ≤ standing op h.state.tx d n = λ n. subst (λ (x : State). standing op x.tx d n ≤ standing op h.state.tx d n) (sym (ap (λ (x : Held). x.state) is)) (parts.fewer op d n) in
+      rw (places, sent) (by fewer (slice_index h.places d) (slice_index h.state.tx.sent d))
+    where
+      by : ((n : ℕ) → standing op t.state.tx d n ≤ standing op h.state.tx d n) → (place sent : ℕ)
+          → count_by (is_answer op) (unbegun place sent (accepted_for t.state.tx d)) + count_by (is_answer op) (items_of (held_for t.state.tx d)) ≤ count_by (is_answer op) (unbegun place sent (accepted_for h.state.tx d)) + count_by (is_answer op) (items_of (held_for h.state.tx d))
+      by fewer zero sent = fewer sent
+      by fewer (suc k) sent = fewer (suc sent)
   posted_away false is d op ne =
       let places : slice_index t.places d ≡ slice_index h.places d = ap (λ (x : Held). slice_index x.places d) is ∙ get_or-set_other h.places dest d (f.head.from + f.head.len) 0 ne in
       let tx : t.state.tx ≡ h.state.tx = ap (λ (x : Held). x.state.tx) is in
-      rw (places, tx) refl
+      rw (places, tx) (omega arith)
 
-  pub posted_due : (d op : ℕ) → due t d op + replies op (posted_to d (Posted dest f ∷ [])) ≡ due h d op
+  pub posted_due : (d op : ℕ) → due t d op + replies op (posted_to d (Posted dest f ∷ [])) ≤ due h d op
   posted_due d op = go (cases_eq d dest)
     where
       rx : to_book t.state.rx d op ≡ to_book h.state.rx d op
       rx = ap (λ x. to_book x d op) (posted_rx (is_last f.head) goes.3).0
 
-      go : (d ≡ dest) ⊎ (d ≢ dest) → due t d op + replies op (posted_to d (Posted dest f ∷ [])) ≡ due h d op
+      go : (d ≡ dest) ⊎ (d ≢ dest) → due t d op + replies op (posted_to d (Posted dest f ∷ [])) ≤ due h d op
       go (inl e) =
           let yes_ : (dest == d) ≡ true = grind (arith, nat_tests, e) in
           let p : replies op (posted_to d (Posted dest f ∷ [])) ≡ one (begins_reply f.head && (f.head.item.op == op)) = rw yes_ (let z : replies op (f ∷ []) ≡ 0 + one (begins_reply f.head && (f.head.item.op == op)) = refl in omega (arith, z)) in
@@ -271,16 +298,23 @@ next_repays lanes h dest item below next repaid begun = go (lanes.outs dest).owe
         let o : replies item.head.op (lanes.outs dest).frames + due h dest item.head.op ≤ before item.head.op + owing item.head.op (lanes.ins dest).taken = rw e at (repaid dest item.head.op below) in
         rw e (omega (arith, o, some))
 
+-- None is begun that is not owed: no second one to the same item, and none before the last frame of its item is taken.
+pub none_unowed : {Home : Type 0} (lanes : Lanes Home) (h : Held) (dest : ℕ) (item : Item) (before : ℕ → ℕ) → dest < lanes.peers → IsRepaid lanes h → next_item h.state dest ≡ Some item → slice_index h.places dest ≡ 0 → is_reply item.head.kind ≡ true
+    → (lanes.outs dest).owed ≡ Some before → replies item.head.op (lanes.outs dest).frames ≡ before item.head.op + owing item.head.op (lanes.ins dest).taken → ⊥
+none_unowed lanes h dest item before below repaid next start reply told all =
+    let begins : begins_reply (piece item (slice_index h.places dest)).head ≡ true = rw (start, reply) refl in
+    let owed : replies item.head.op (lanes.outs dest).frames + 1 ≤ before item.head.op + owing item.head.op (lanes.ins dest).taken = rw told at (next_repays lanes h dest item below next repaid begins) in
+    absurd (omega (arith, owed, all))
+
 -- ---- at the opening
 
 -- nothing is due where nothing was accepted and nothing came
-pub nothing_due : (h : Held) → ((d : ℕ) → accepted_for h.state.tx d ≡ []) → h.state.rx.unexpected ≡ [] → h.state.rx.claimed ≡ [] → (d op : ℕ) → due h d op ≡ 0
-nothing_due h none us cs d op = rw (us, cs, none d) (go (slice_index h.places d) (slice_index h.state.tx.sent d))
+pub nothing_due : (h : Held) → ((d : ℕ) → accepted_for h.state.tx d ≡ []) → ((d : ℕ) → held_for h.state.tx d ≡ []) → h.state.rx.unexpected ≡ [] → h.state.rx.claimed ≡ [] → (d op : ℕ) → due h d op ≡ 0
+nothing_due h none no_held us cs d op = rw (us, cs, none d, no_held d) (go (slice_index h.places d) (slice_index h.state.tx.sent d))
   where
-    go : (place sent : ℕ) → count_by (is_answer op) (unbegun place sent []) + (0 + 0) ≡ 0
-    go zero zero = refl
-    go zero (suc n) = refl
-    go (suc k) n = refl
+    go : (place sent : ℕ) → count_by (is_answer op) (unbegun place sent []) + 0 + (0 + 0) ≡ 0
+    go zero sent = omega (arith, none_dropped (is_answer op) sent)
+    go (suc k) sent = omega (arith, none_dropped (is_answer op) (suc sent))
 
 pub nothing_pledged : (h : Held) → ((s : ℕ) → begun_of h s ≡ None) → h.state.rx.unexpected ≡ [] → h.state.rx.claimed ≡ [] → IsPledged h
 nothing_pledged h none us cs d op = rw (us, cs, none d) (omega arith)

@@ -4,8 +4,9 @@
 --     GoesBy call h acts t  the acts, one after another, lead from h to t
 --     steps_of acts         the steps of a schedule that they are
 --     Went call old new acts      the acts lead from the endpoint old to new, and they are all that its log and its port grew by
-use Rattle.std.specs.Prelude.{◌≡◌, ℕ, ◌+◌, ◌≤◌, Bool, true, false, ◌&&◌, ◌==◌, List, [], ◌∷◌, ◌++◌, length, map, Option, Some, None, slice_index, slice_set, ◌<◌}
+use Rattle.std.specs.Prelude.{◌≡◌, ◌⊎◌, ℕ, ◌+◌, ◌≤◌, Bool, true, false, ◌&&◌, ◌==◌, List, [], ◌∷◌, ◌++◌, length, map, Option, Some, None, slice_index, slice_set, ◌<◌}
 use Rattle.std.specs.List.{flat_map}
+use Rattle.fab_base.specs.Counts.{Rose}
 use Rattle.fab_base.specs.declared.items.Item.{Item}
 use Rattle.fab_base.specs.declared.items.ItemHead.{ItemHead}
 use Rattle.fab_base.specs.declared.frames.Frame.{Frame}
@@ -196,7 +197,8 @@ abbrev pub MovedBy : Option (List Move) → Option (List Move) → List Way → 
 MovedBy None new ways = new ≡ None
 MovedBy (Some moves) new ways = (more : List Move) × (new ≡ Some (moves ++ more)) × (map way more ≡ ways)
 
--- the port took and posted what the acts say, in their order. Counts of what it saw never fall, and nothing else changed
+-- The port took and posted what the acts say, in their order. Besides, it may have looked: counts of what it saw never fall, where each last
+-- rose is noted, and a frame may be lent that was not taken. Nothing else changed.
 pub record Ported {Home : Type 0} (old new : Lanes Home) (acts : List Act) : Type 0 where
   pub taken : (s : ℕ) → (new.ins s).taken ≡ (old.ins s).taken ++ taken_of s acts
   pub posted : (d : ℕ) → (new.outs d).frames ≡ (old.outs d).frames ++ posted_to d acts
@@ -204,6 +206,11 @@ pub record Ported {Home : Type 0} (old new : Lanes Home) (acts : List Act) : Typ
   pub empty_seen : (s : ℕ) → (old.ins s).empty_seen ≤ (new.ins s).empty_seen
   pub lane_full : (d : ℕ) → (old.outs d).lane_full_seen ≤ (new.outs d).lane_full_seen
   pub pool_full : (d : ℕ) → (old.outs d).pool_full_seen ≤ (new.outs d).pool_full_seen
+  -- where a count last rose changes only as it rises
+  pub empty_at : (s : ℕ) → Rose (old.ins s).empty_seen (new.ins s).empty_seen ⊎ ((new.ins s).empty_at ≡ (old.ins s).empty_at)
+  pub full_at : (d : ℕ) → (Rose (old.outs d).lane_full_seen (new.outs d).lane_full_seen ⊎ Rose (old.outs d).pool_full_seen (new.outs d).pool_full_seen) ⊎ ((new.outs d).full_at ≡ (old.outs d).full_at)
+  -- a frame that is lent stays so until it is taken
+  pub lent : (s : ℕ) (f : Frame) → taken_of s acts ≡ [] → (old.ins s).lent ≡ Some f → (new.ins s).lent ≡ Some f
   pub number : new.number ≡ old.number
   pub peers : new.peers ≡ old.peers
   pub home : new.home ≡ old.home

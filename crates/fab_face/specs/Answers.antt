@@ -204,6 +204,8 @@ pub record Receives {Home : Type 0} (call : Call) (old new : Seen Home) : Type 0
   pub pushed : new.pushed ≡ old.pushed
   pub lanes : new.lanes ≡ old.lanes
   pub places : HasPlaces old
+  -- the last place of the log is never taken by a draw
+  pub place : (after ≡ []) ⊎ (length new.log + 1 ≤ new.log_size)
   pub drawn : Drawn new
 
 -- a receive call that is refused: the draws, and the machine's fault after them

@@ -14,7 +14,7 @@ use Rattle.fab_wire.specs.declared.moves.Move.{Move}
 use Rattle.fab_wire.specs.Cut.{frame_of, IsBetweenItems, IsItem}
 use Rattle.fab_wire.specs.Frames.{IsSound}
 use Rattle.fab_link.specs.Meaning.{Outgoing, Incoming, Owes, end_of, taken_end}
-use Rattle.fab_model.specs.State.{State, accepted_for}
+use Rattle.fab_model.specs.State.{State, accepted_for, in_use, lookup}
 use Rattle.fab_model.specs.Sending.{AreFenced}
 use Rattle.fab_face.specs.declared.events.Event.{Event}
 use Rattle.fab_face.specs.Owed.{Pledged, dues}
@@ -125,6 +125,11 @@ pub record IsOpen {Home : Type 0} (e : Seen Home) : Type 0 where
   pub log : 4 ≤ e.log_size
   pub read : e.held.state.cq.taken_out ≤ length e.held.state.cq.written
   pub within : length e.log ≤ e.log_size
+  -- entries unread, operations under way and receives posted are no more than may be, and addresses are of peers
+  pub unread : length e.held.state.cq.written - e.held.state.cq.taken_out ≤ e.held.state.cq.size
+  pub used : in_use e.held.state.tx ≤ e.held.state.most_tx
+  pub receives : length e.held.state.rx.posted ≤ e.held.state.most_rx
+  pub addressed : (i t : ℕ) → lookup e.held.state.av i ≡ Some t → t < e.lanes.peers
   pub places : length e.held.places ≡ e.lanes.peers
   pub begun : length e.held.begun ≡ e.lanes.peers
   pub heads : length e.held.state.rx.heads ≡ e.lanes.peers

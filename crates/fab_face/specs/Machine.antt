@@ -9,7 +9,7 @@ use Rattle.fab_base.specs.declared.items.Kind.{Kind}
 use Rattle.fab_base.specs.declared.items.Kind.TheVariants.{Msg, TagMsg}
 use Rattle.fab_base.specs.declared.items.Item.{Item}
 use Rattle.fab_base.specs.declared.frames.Frame.{Frame}
-use Rattle.fab_model.specs.State.{State, lookup}
+use Rattle.fab_model.specs.State.{State, in_use, lookup}
 use Rattle.fab_model.specs.Sending.{AreFenced, do_sent}
 use Rattle.fab_model.specs.Calls.{Call, Cancel, CancelFirst, message}
 use Rattle.fab_face.specs.declared.machine.Message.{Message}
@@ -36,6 +36,9 @@ pub record IsSteady (h : Held) : Type 0 where
   pub items : AreItems h
   pub out : IsOut h
   pub addressed : (i t : ℕ) → lookup h.state.av i ≡ Some t → t < length h.places
+  -- no more operations are under way, and no more receives posted, than may be
+  pub used : in_use h.state.tx ≤ h.state.most_tx
+  pub receives : length h.state.rx.posted ≤ h.state.most_rx
   -- a message that is not whole is the one that is coming
   pub partly : IsPartly h.state.rx h.begun
 

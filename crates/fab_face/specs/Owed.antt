@@ -15,7 +15,8 @@ use Rattle.fab_base.specs.declared.operations.Coming.{Coming}
 use Rattle.fab_base.specs.declared.operations.Coming.TheVariants.{Into, Keep, Throw, Request, Answer}
 use Rattle.fab_wire.specs.Owing.{is_reply, owes}
 use Rattle.fab_model.specs.Complete.{at_delivery, at_either, at_match}
-use Rattle.fab_model.specs.State.{State, Receiving, Transmitting, accepted_for, coming_from}
+use Rattle.fab_model.specs.State.{State, Receiving, Transmitting, accepted_for, held_for, coming_from}
+use Rattle.fab_model.specs.Sending.{items_of}
 use Rattle.std.specs.Prelude.{slice_index_or}
 
 -- ---- booked, and not begun
@@ -28,8 +29,11 @@ abbrev pub unbegun : ℕ → ℕ → List Item → List Item
 unbegun zero sent items = drop sent items
 unbegun (suc place) sent items = drop (suc sent) items
 
+-- Of the items that a fence holds back no frame is posted either. None of them is a reply, so they add nothing: they are counted so that
+-- nothing has to be known of them when they go out.
 abbrev pub to_post : Transmitting → List ℕ → ℕ → ℕ → ℕ
-to_post tx places d op = count_by (is_answer op) (unbegun (slice_index places d) (slice_index tx.sent d) (accepted_for tx d))
+to_post tx places d op =
+    count_by (is_answer op) (unbegun (slice_index places d) (slice_index tx.sent d) (accepted_for tx d)) + count_by (is_answer op) (items_of (held_for tx d))
 
 -- ---- to be booked
 

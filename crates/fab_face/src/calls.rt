@@ -9,7 +9,7 @@ ghost use Rattle.fab_base.specs.declared.peers.LineResult.TheVariants.{Done, Ref
 ghost use Rattle.fab_base.specs.declared.faults.Fault.TheVariants.{NoMemory as LacksMemory};
 ghost use Rattle.fab_av.specs.Addresses.{inserting};
 ghost use Rattle.fab_model.specs.State.{tally_of, awaits, deferred_count, add_capped};
-ghost use Rattle.fab_model.specs.Calls.{TakeClaimed, DropClaimed, Cancel, CancelFirst, Look, Remove, Reg, Close, Put, message, request, atomic, is_peer, region_of};
+ghost use Rattle.fab_model.specs.Calls.{do_call, TakeClaimed, DropClaimed, Cancel, CancelFirst, Look, Remove, Reg, Close, Put, message, request, atomic, is_peer, region_of};
 ghost use Rattle.fab_face.specs.Held.{Seen, IsOpen, with_machine};
 ghost use Rattle.fab_face.specs.Answers.{Sends, SendsNot, Receives, ReceivesNot, Progressed, Locally, Pops, PopsNot, PopsNotErr, ReadsOn, receive_call, atom, Inserts, adding, IsSharing, Lends, LendsNone};
 ghost use Rattle.std.specs.Option.{option_map};
@@ -311,10 +311,11 @@ pub trait Addresses: Sees {
 
 /// Memory regions (fi_mr(3)).
 pub trait Regions: Sees {
-    /// Registers a region under its key (fi_mr_reg).
+    /// Registers a region under its key (fi_mr_reg). Want of memory is answered only where nothing else stands against it.
     fn reg(&mut self, key: u64, access: Access, buf: Buf) -> Result<(), Refused>
         ensures ok { OnOk result (Locally (Reg key access buf) Done (Self.seen self.old) (Self.seen self.new)) }
-        ensures err { IfErr result (λ r. (r.buf ≡ buf) × (Self.seen self.new ≡ Self.seen self.old) × (r.why ≢ LacksMemory → Locally (Reg key access buf) (Answer r.why) (Self.seen self.old) (Self.seen self.new))) };
+        ensures err { IfErr result (λ r. (r.buf ≡ buf) × (Self.seen self.new ≡ Self.seen self.old) × (r.why ≢ LacksMemory → Locally (Reg key access buf) (Answer r.why) (Self.seen self.old) (Self.seen self.new))) }
+        ensures lacks { IfErr result (λ r. r.why ≡ LacksMemory → (do_call (Self.seen self.old).held.state (Reg key access buf)).0 ≡ Done) };
 
     /// Closes a region and hands its bytes back (fi_close of fi_mr(3)).
     fn close_region(&mut self, key: u64) -> Result<Buf, Fault>

@@ -3,7 +3,7 @@ ghost use Rattle.std.specs.Prelude.{◌≡◌, ◌≢◌, OnOk, OnErr, IfOk, IfE
 ghost use Rattle.std.specs.Option.{option_map};
 ghost use Rattle.fab_base.specs.declared.faults.Fault.TheVariants.{NoMemory as LacksMemory};
 ghost use Rattle.fab_base.specs.declared.peers.LineResult.TheVariants.{Done, Refused as Answer, Bytes};
-ghost use Rattle.fab_model.specs.Calls.{Reg, Close, Put, region_of};
+ghost use Rattle.fab_model.specs.Calls.{Reg, Close, Put, do_call, region_of};
 ghost use Rattle.fab_face.specs.Targets.{DoesHere};
 
 use crate::machine::Machine;
@@ -18,6 +18,7 @@ pub trait Targets: Machine {
     fn reg(&mut self, key: u64, access: Access, buf: Buf) -> Result<(), Refused>
         ensures ok { OnOk result (DoesHere (Reg key access buf) Done (Self.held self.old) (Self.held self.new)) }
         ensures err { IfErr result (λ r. r.why ≢ LacksMemory → DoesHere (Reg key access buf) (Answer r.why) (Self.held self.old) (Self.held self.new)) }
+        ensures lacks { IfErr result (λ r. r.why ≡ LacksMemory → (do_call (Self.held self.old).state (Reg key access buf)).0 ≡ Done) }
         ensures back { IfErr result (λ r. r.buf ≡ buf) }
         ensures stays { OnErr result (Self.held self.new ≡ Self.held self.old) };
 

@@ -25,15 +25,11 @@ log_granted i peers granted =
     let log = and_parts up_to_cq (within (limits_of i.api Log) i.log) (and_parts up_to_log (within (limits_of i.api Inject) i.inject) up_to_inject.0).0 in
     leb-true 4 i.log (and_parts _ _ log.1).0
 
-none_at : (n s : ℕ) → get_or (replicate {A = Option Item} n None) s None ≡ None
-none_at zero s = refl
-none_at (suc n) zero = refl
-none_at (suc n) (suc s) = none_at n s
-
-empty_at : (n d : ℕ) → get_or (replicate {A = List Item} n []) d [] ≡ []
-empty_at zero d = refl
-empty_at (suc n) zero = refl
-empty_at (suc n) (suc d) = empty_at n d
+-- the same for every peer, and for any number besides
+same_at : {X : Type 0} (n d : ℕ) (x : X) → get_or (replicate n x) d x ≡ x
+same_at zero d x = refl
+same_at (suc n) zero x = refl
+same_at (suc n) (suc d) x = same_at n d x
 
 pub opened_tied : {P : Type 0} (M : Ghosts P) (port : P) (av : Addresses) (info : Info) (selective : Bool) → av.peers ≡ M.peer_count port → IsFresh M port → 4 ≤ info.log
     → IsTied (seen M (opened port av info selective))
@@ -43,8 +39,8 @@ opened_tied M port av info selective count fresh most = record {
   peers = length-replicate {A = ℕ} av.peers 0 ∙ count;
   posted = λ d below. rw (fresh.posted d, get_or-replicate {A = ℕ} av.peers d 0 0 (omega (arith, below, count))) (fresh.out_after d below);
   taken = λ s below. rw (fresh.taken s, get_or-replicate {A = Option Item} av.peers s None None (omega (arith, below, count))) (fresh.in_after s below);
-  pledged = nothing_pledged h (λ s. none_at av.peers s) refl refl;
-  repaid = nothing_repaid (lanes_in M port) h (nothing_due h (λ d. empty_at av.peers d) refl refl) fresh.posted;
+  pledged = nothing_pledged h (λ s. same_at av.peers s None) refl refl;
+  repaid = nothing_repaid (lanes_in M port) h (nothing_due h (λ d. same_at av.peers d []) (λ d. same_at av.peers d []) refl refl) fresh.posted;
 }
   where
     h : Held

@@ -17,10 +17,10 @@ use Rattle.fab_model.specs.State.{State, Region, lookup, tally_of}
 use Rattle.fab_model.specs.Sending.{first_fault}
 use Rattle.fab_model.specs.Calls.{Call, Insert, Remove, Reg, Close, Put, Show, Count, do_call, call_of, answer, word_bytes, reg, close, put, show, remove, insert, insert_new, region_of, peer_named, is_peer}
 use Rattle.fab_model.specs.Peers.{do_next, do_line, call_line, is_again}
-use Rattle.fab_face.specs.Held.{Lanes, Seen}
-use Rattle.fab_face.specs.Acts.{Did, Ported}
+use Rattle.fab_face.specs.Held.{Seen}
+use Rattle.fab_face.specs.Acts.{Did}
 use Rattle.fab_face.specs.Answers.{Locally}
-use Rattle.fab_face.proofs.Joining.{ported_same}
+use Rattle.fab_face.proofs.Joining.{ported_did}
 use Rattle.fab_quantum.specs.declared.peer.Outcome.{Outcome}
 use Rattle.fab_quantum.specs.Turns.{Told, living_of, actor_in, actor_of, waited_back, SameParts, IsCounted, WentOn, with_seen, next_op, noted, why_of}
 use Rattle.fab_quantum.proofs.Paths.{living}
@@ -101,23 +101,6 @@ count_final class s = refl
 -- ---- a line that is done alone
 
 module _ {Home : Type 0} where
-  ported_did : (x y : Lanes Home) → y ≡ x → Ported x y (Did ∷ [])
-  ported_did x y same = let p = ported_same x y same in record {
-    taken = p.taken;
-    posted = p.posted;
-    moves = p.moves;
-    empty_seen = p.empty_seen;
-    lane_full = p.lane_full;
-    pool_full = p.pool_full;
-    number = p.number;
-    peers = p.peers;
-    home = p.home;
-    in_list = p.in_list;
-    in_after = p.in_after;
-    out_after = p.out_after;
-    owed = p.owed;
-  }
-
   did_alone : (a b : Told Home) (e : Seen Home) (outcome : LineResult) → ((ctx : ℕ) → waited_back ctx outcome ≡ false) → (IsCounted (living_of a) → IsCounted (living e.held a.lines a.results a.kept)) → do_next (actor_of a) ≡ Some (actor_in (living e.held a.lines (a.results ++ outcome ∷ []) a.kept)) → SameParts a.seen.held e.held
       → e.lanes ≡ a.seen.lanes → e.log ≡ [] → b ≡ noted outcome (with_seen a e) → WentOn a b true true
   did_alone a b e outcome plain grown step parts lanes log is = rw is (record {

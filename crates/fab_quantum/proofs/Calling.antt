@@ -29,12 +29,12 @@ use Rattle.fab_model.specs.Receiving.{draw_due}
 use Rattle.fab_model.specs.State.{State}
 use Rattle.fab_model.specs.Calls.{Call, Cancel, Look as LookCall, TakeClaimed, DropClaimed, do_call, call_of, message, word_bytes}
 use Rattle.fab_model.specs.Peers.{Actor, do_next, do_line, call_line, after_call, is_again, is_of_ctx, is_only_multi, multi_buf, next_line, with_result, with_state, wait_line, read_next, bytes_kept, part_of, unread}
-use Rattle.fab_face.specs.Held.{Held, Lanes, Seen, IsOpen}
+use Rattle.fab_face.specs.Held.{Held, Seen, IsOpen}
 use Rattle.fab_face.specs.Acts.{Act, Did, Took, Posted, Drew, Had, Went, Ported, steps_of, steps_by, events, has_read, is_move}
 use Rattle.fab_face.specs.Answers.{AllAre, Judged, IsShort, IsSharing, Sends, SendsNot, Receives, ReceivesNot, Pops, after_read, receive_call}
 use Rattle.fab_quantum.specs.Looks.{look_line}
 use Rattle.fab_quantum.specs.Turns.{Told, living_of, actor_in, actor_of, hands_back, waited_back, multis_done, IsCounted, SameParts, Lives, Lived, WentOn, Answered, why_of, drained, with_seen, is_only, LentIf, Lent, HasRead, is_some_act, is_some_event, next_op, step_of, ReadOn, is_read}
-use Rattle.fab_face.proofs.Joining.{posts_move, draws_move, ported_same, ported_then}
+use Rattle.fab_face.proofs.Joining.{posts_move, draws_move, ported_did, ported_had, ported_same, ported_then}
 use Rattle.fab_quantum.proofs.Paths.{living, lives_append, goes_split, moves_live, posts_some, draws_some, some_did, none_acts, steps_told, steps_called, some_append, lived_then}
 use Rattle.fab_quantum.proofs.Counting.{IsMarked, MarkedBy, counted_moves, counted_noted, counted_call, counted_waited, counted_read, lent_is}
 
@@ -233,25 +233,8 @@ module _ {Home : Type 0} (a : Told Home) (e : Seen Home) (call : Call) (next : I
         (living e.held a.lines (a.results ++ Refused f ∷ []) a.kept, did_lives e.held e.held a.lines a.results a.kept call (Refused f) next done again (refl, refl), refl);
     schedule = ap (λ l. l ++ Do ∷ []) (logged_is acts (steps_of acts) went.log (steps_told acts are)) ∙ append_assoc a.schedule (steps_of acts) (Do ∷ [])
         ∙ ap (λ steps. a.schedule ++ steps) (sym (flat_map-append steps_by acts (Did ∷ [])));
-    ported = ported_then a.seen.lanes e.lanes e.lanes acts (Did ∷ []) went.ported (ported_did e.lanes);
+    ported = ported_then a.seen.lanes e.lanes e.lanes acts (Did ∷ []) went.ported (ported_did e.lanes e.lanes refl);
   }
-    where
-      ported_did : (x : Lanes Home) → Ported x x (Did ∷ [])
-      ported_did x = let p = ported_same x x refl in record {
-        taken = p.taken;
-        posted = p.posted;
-        moves = p.moves;
-        empty_seen = p.empty_seen;
-        lane_full = p.lane_full;
-        pool_full = p.pool_full;
-        number = refl;
-        peers = refl;
-        home = refl;
-        in_list = refl;
-        in_after = p.in_after;
-        out_after = p.out_after;
-        owed = p.owed;
-      }
 
   -- where nothing moved, the log is empty
   still_log : (acts : List Act) → acts ≡ [] → e.log ≡ a.seen.log ++ events acts → e.log ≡ []
@@ -413,21 +396,7 @@ module _ {Home : Type 0} where
         lived = record {
           lives = (after, (step, (refl, refl)), refl);
           schedule = refl;
-          ported = (let p = ported_same a.seen.lanes a.seen.lanes refl in record {
-            taken = p.taken;
-            posted = p.posted;
-            moves = p.moves;
-            empty_seen = p.empty_seen;
-            lane_full = p.lane_full;
-            pool_full = p.pool_full;
-            number = refl;
-            peers = refl;
-            home = refl;
-            in_list = refl;
-            in_after = p.in_after;
-            out_after = p.out_after;
-            owed = p.owed;
-          });
+          ported = ported_did a.seen.lanes a.seen.lanes refl;
         };
         moved_is = refl;
         held = λ nay. absurd (cc nay);
@@ -516,23 +485,6 @@ module _ {Home : Type 0} where
       or_true : (b : Bool) → (b || true) ≡ true
       or_true true = refl
       or_true false = refl
-
-      ported_had : (x y : Lanes Home) → y ≡ x → Ported x y (Had ∷ [])
-      ported_had x y same = let p = ported_same x y same in record {
-        taken = p.taken;
-        posted = p.posted;
-        moves = p.moves;
-        empty_seen = p.empty_seen;
-        lane_full = p.lane_full;
-        pool_full = p.pool_full;
-        number = p.number;
-        peers = p.peers;
-        home = p.home;
-        in_list = p.in_list;
-        in_after = p.in_after;
-        out_after = p.out_after;
-        owed = p.owed;
-      }
 
 is_at : {X : Type 0} (xs : List X) (n : ℕ) (x : X) → n < length xs → x ≡ get_or xs n x → slice_get xs n ≡ Some x
 is_at [] n x within found = absurd (omega (arith, within))

@@ -23,7 +23,7 @@ pub start-requires-clause-unread : goal.start-requires-clause-unread
 start-requires-clause-unread g c = subst (λ (h : Held). h.state.cq.taken_out ≡ 0) (sym c.requires.start) refl
 
 pub start-requires-clause-none_due : goal.start-requires-clause-none_due
-start-requires-clause-none_due g c = subst (λ (h : Held). (d op : ℕ) → due h d op ≡ 0) (sym c.requires.start) (nothing_due (start c.args.conf.now) (λ d. same_at c.args.conf.now.peers d []) refl refl)
+start-requires-clause-none_due g c = subst (λ (h : Held). (d op : ℕ) → due h d op ≡ 0) (sym c.requires.start) (nothing_due (start c.args.conf.now) (λ d. same_at c.args.conf.now.peers d []) (λ d. same_at c.args.conf.now.peers d []) refl refl)
 
 pub start-requires-clause-pledged : goal.start-requires-clause-pledged
 start-requires-clause-pledged g c = subst (λ (h : Held). IsPledged h) (sym c.requires.start) (nothing_pledged (start c.args.conf.now) (λ s. same_at c.args.conf.now.peers s None) refl refl)

@@ -1,7 +1,7 @@
 use Rattle.std.proofs.Common.{rules, refl, ◌∙◌}
 use Rattle.fab_face.specs.Ports.{seen}
 use Rattle.fab_ep.proofs.Staying.{stays_then, stays_none}
-use Rattle.fab_ep.proofs.Pushing.{posting_none, posting_on, pushed_err}
+use Rattle.fab_ep.proofs.Pushing.{posting_none, posting_on, pushed_end, pushed_err}
 use Rattle.fab_ep.proofs.endpoint.Endpoint.push_to.Goals as goal
 
 pub loop-init : goal.loop-init
@@ -33,3 +33,6 @@ returns-in_err-push_on-clause-stays g c = stays_then (seen g.P.Port c.args.self.
 
 pub returns-clause-stays : goal.returns-clause-stays
 returns-clause-stays g c = stays_then (seen g.P.Port c.args.self.now) (seen g.P.Port c.loop.self) (seen g.P.Port c.push_on.new.self) c.args.dest c.loop.invariant.stays c.in_ok-push_on.ensures.stays
+
+pub returns-clause-pushes : goal.returns-clause-pushes
+returns-clause-pushes g c = pushed_end (seen g.P.Port c.args.self.now) (seen g.P.Port c.loop.self) (seen g.P.Port c.push_on.new.self) c.args.dest c.args.dest c.loop.invariant.pushed (search rules)

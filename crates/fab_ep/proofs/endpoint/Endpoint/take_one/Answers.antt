@@ -12,7 +12,7 @@ returns-then-not-branch-clause-tries g c =
     let after = c.front.follows.holds-at-none in
     let no = ap Ok c.if-not-branch.true in
     rw (← c.self.view_is)
-    (saw_lent _ _ c.args.source c.in-Some.frame (c.in_ok-take.ensures.stays no) refl refl (rw c.in-Some.is at after.0)
+    (saw_lent _ _ c.args.source c.in-Some.frame (c.in_ok-take.ensures.stays no) refl refl (rw c.in-Some.is at after.0) c.in-Some.ensures.gives.1
     (record { others = after.1; outs = after.2; number = after.3; peers = after.4; home = after.5; in_list = ap g.P.Port.in_list after.5 }) (moved_same _ _ after.6) (c.in_ok-take.ensures.no no))
 
 pub invariant_of-self-2 : goal.invariant_of-self-2
@@ -51,7 +51,7 @@ pub returns-in_err-take-clause-tries : goal.returns-in_err-take-clause-tries
 returns-in_err-take-clause-tries g c =
     let after = c.front.follows.holds-at-none in
     rw (← c.self.view_is)
-    (took_none _ _ c.args.source c.in-Some.frame _ _ (search rules) (c.in_err-take.ensures.err) refl refl (rw c.in-Some.is at after.0)
+    (took_none _ _ c.args.source c.in-Some.frame _ _ (search rules) (c.in_err-take.ensures.err) refl refl (rw c.in-Some.is at after.0) c.in-Some.ensures.gives.1
     (record { others = after.1; outs = after.2; number = after.3; peers = after.4; home = after.5; in_list = ap g.P.Port.in_list after.5 }) (moved_same _ _ after.6))
 
 pub invariant_of-self-then-not-branch : goal.invariant_of-self-then-not-branch
@@ -62,7 +62,7 @@ invariant_of-self-then-not-branch g c =
       c.self.invariant.0,
       tied_looked (seen m (record { port = i.port; held = g.C.Machine.held i.core; log = i.log.items; log_size = i.log_size; pushed = i.pushed })) _ c.self.invariant.1
           (c.in_ok-take.ensures.stays (ap Ok c.if-not-branch.true)) refl refl
-          (peeked _ (lanes_in m c.front.follows.lender-at-none) c.args.source (Some c.in-Some.frame) (rw c.in-Some.is at after.0)
+          (peeked _ (lanes_in m c.front.follows.lender-at-none) c.args.source (Some c.in-Some.frame) (rw c.in-Some.is at after.0) c.in-Some.ensures.gives.1
           (record { others = after.1; outs = after.2; number = after.3; peers = after.4; home = after.5; in_list = ap m.in_list after.5 }) (moved_same _ _ after.6)),
     )
 
@@ -74,7 +74,7 @@ invariant_of-self-in_default g c =
       c.self.invariant.0,
       tied_looked (seen m (record { port = i.port; held = g.C.Machine.held i.core; log = i.log.items; log_size = i.log_size; pushed = i.pushed })) _ c.self.invariant.1
           refl refl refl
-          (peeked _ (lanes_in m c.front.follows.lender-at-none) c.args.source None (rw c.in_default.is at after.0)
+          (peeked _ (lanes_in m c.front.follows.lender-at-none) c.args.source None (rw c.in_default.is at after.0) tt
           (record { others = after.1; outs = after.2; number = after.3; peers = after.4; home = after.5; in_list = ap m.in_list after.5 }) (moved_same _ _ after.6)),
     )
 
@@ -86,6 +86,6 @@ invariant_of-self-in_err-take g c =
       c.self.invariant.0,
       tied_looked (seen m (record { port = i.port; held = g.C.Machine.held i.core; log = i.log.items; log_size = i.log_size; pushed = i.pushed })) _ c.self.invariant.1
           c.in_err-take.ensures.err refl refl
-          (peeked _ (lanes_in m c.front.follows.lender-at-none) c.args.source (Some c.in-Some.frame) (rw c.in-Some.is at after.0)
+          (peeked _ (lanes_in m c.front.follows.lender-at-none) c.args.source (Some c.in-Some.frame) (rw c.in-Some.is at after.0) c.in-Some.ensures.gives.1
           (record { others = after.1; outs = after.2; number = after.3; peers = after.4; home = after.5; in_list = ap m.in_list after.5 }) (moved_same _ _ after.6)),
     )
