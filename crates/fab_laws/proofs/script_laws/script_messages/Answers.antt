@@ -1,0 +1,9 @@
+-- The law is proved over any program, and a script is one.
+use Rattle.fab_laws.proofs.ScriptLaws.{script_entries_tell, script_receives_tell}
+use Rattle.fab_laws.proofs.script_laws.script_messages.Goals as goal
+
+pub returns-clause-entries : goal.returns-clause-entries
+returns-clause-entries c = script_entries_tell
+
+pub returns-clause-receives : goal.returns-clause-receives
+returns-clause-receives c = script_receives_tell
