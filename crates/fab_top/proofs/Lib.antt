@@ -3,3 +3,4 @@ pub mod Bounding
 pub mod Telling
 pub mod Workloads
 pub mod Answering
+pub mod Sticking

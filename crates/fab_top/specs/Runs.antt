@@ -8,10 +8,13 @@
 --     Benches, BenchesPart    the line of a workload is written, or a part of it
 --     Checks, ChecksPart      what is to be said of a report is written, or a part of it
 --     ComesToRest bound done  some lawful schedule leads the peers to rest
+--     NeverSticks ..          the script is settled, and its answer does all lines
 --     IsUnhindered ..         nothing stands in the way of the command
-use Rattle.std.specs.Prelude.{◌≡◌, ℕ, ◌<◌, ◌⊎◌, Bool, true, List, length, take, Option, Some}
+use Rattle.std.specs.Prelude.{◌≡◌, ℕ, ◌<◌, ◌⊎◌, Bool, true, List, length, take, Option, Some, None, is_none}
 use Rattle.std.specs.Io.KnownBytes.{append_known}
 use Rattle.std.specs.List.{list_all}
+use Rattle.fab_answer.specs.Answer.{answer as answer_of}
+use Rattle.fab_answer.specs.Settled.{is_settled}
 use Rattle.fab_base.specs.Counts.{Rose}
 use Rattle.fab_base.specs.declared.caps.Hints.{Hints}
 use Rattle.fab_base.specs.declared.peers.Step.{Step}
@@ -145,6 +148,23 @@ pub record ChecksPart (files : Files) (words : List (List ℕ)) (before after : 
   pub some : ℕ
   pub fewer : some < length line
   pub written : after ≡ append_known before (take some line)
+
+-- the script is settled, and its one answer does all its lines
+abbrev pub DoesAll : Bound → Type 0
+DoesAll bound = (is_settled bound ≡ true) × (list_all is_none (answer_of bound).next ≡ true)
+
+-- the words name a file that spells a script, which is not one that is settled and whose answer does all lines
+abbrev pub MayStick : Files → List (List ℕ) → Type 0
+MayStick files words = (file : List ℕ) × (bound : Bound) × (script_file words ≡ Some file) × IsRead files file bound × (DoesAll bound → ⊥)
+
+-- files are told
+abbrev pub AreTold : Files → Type 0
+AreTold None = ⊥
+AreTold (Some file) = Unit {0}
+
+-- the words name a file that is told, and it spells a settled script whose answer does all lines
+abbrev pub NeverSticks : Files → List (List ℕ) → Type 0
+NeverSticks files words = AreTold files × ((file : List ℕ) × (bound : Bound) × (script_file words ≡ Some file) × IsRead files file bound × DoesAll bound)
 
 -- the statuses at which a report is written, or a part of one
 abbrev pub WritesReport : Status → Type 0

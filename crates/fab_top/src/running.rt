@@ -1,5 +1,5 @@
 //! The top call: a command from its words to its report.
-ghost use Rattle.std.specs.Prelude.{◌≡◌, ◌<◌, ◌≤◌, ◌↔◌, ◌⊎◌, ℕ, List, true, false, None, Some, IfOk, IfErr, OnOk, string_bytes, length, map, take};
+ghost use Rattle.std.specs.Prelude.{◌≡◌, ◌≢◌, ◌<◌, ◌≤◌, ◌↔◌, ◌⊎◌, ℕ, List, true, false, None, Some, IfOk, IfErr, OnOk, string_bytes, length, map, take};
 ghost use Rattle.std.specs.Io.KnownBytes.{append_known};
 ghost use Rattle.std.specs.List.{All};
 ghost use Rattle.fab_finish.specs.Joined.{start};
@@ -12,13 +12,14 @@ ghost use Rattle.fab_model.specs.Negotiation.{grant};
 ghost use Rattle.fab_top.specs.Commands.{IsNoCommand};
 ghost use Rattle.fab_outside.specs.Info.{info_text};
 ghost use Rattle.fab_outside.specs.Loading.{IsOver, IsUnloaded};
-ghost use Rattle.fab_top.specs.Runs.{Reports, ComesToRest, AskFor, IsRefused, Writes, WritesPart, Tells, TellsPart, TellsOffer, Benches, BenchesPart, EndsBench, Checks, ChecksPart, IsUnhindered, IsAnswered, IsSilent, WritesReport};
+ghost use Rattle.fab_top.specs.Runs.{Reports, ComesToRest, AskFor, IsRefused, Writes, WritesPart, Tells, TellsPart, TellsOffer, Benches, BenchesPart, EndsBench, Checks, ChecksPart, IsUnhindered, IsAnswered, IsSilent, MayStick, NeverSticks, WritesReport};
 ghost use Rattle.fab_workloads.specs.Bench.{bench_line};
 ghost use Rattle.fab_workloads.specs.Commands.{IsWithin, payload_file, workload_of};
 ghost use Rattle.fab_workloads.specs.Script.{bound_of};
 
 use crate::checking::carry_out_check;
 use crate::whole::{all_done, report};
+use fab_answer::laws::law_one_answer;
 use fab_base::{Bound, Buf, Gate, Hints, Line, NoMemory, Status, Text};
 use fab_outside::commands::{info_hints, replay_files, script_file};
 use fab_outside::info::info_text;
@@ -288,7 +289,8 @@ where
 /// The report is that of one lawful schedule, the one that its own trace lines tell: in some order of
 /// turns the peers' steps led from the script's opening to the states that it reports. In these the
 /// peers are at rest: nothing is on its way, no completion is unread, and no line can be done. At `Done`
-/// all lines are done, and no receive is posted any more; at `Stuck` some line is not done. At
+/// all lines are done, and no receive is posted any more; at `Stuck` some line is not done, and the script is not one that is
+/// settled and whose answer does all lines: where files are told, such a script never ends at `Stuck`. At
 /// `WriteFault` the first bytes of such a report are written, and at every other status none. `info` ends at
 /// `Done`, also where nothing is granted, at `WriteFault` or at `NoMemory`. The files stay as they are.
 ///
@@ -320,6 +322,8 @@ where
         ⊎ Benches words.now (C.given clock.new) (C.first clock.new) (C.last clock.new) (S.bytes sink.old) (S.bytes sink.new)
         ⊎ Checks (D.files depot.old) words.now (S.bytes sink.old) (S.bytes sink.new) }
     ensures stuck { result ≡ Stuck → Writes (D.files depot.old) words.now false (S.bytes sink.old) (S.bytes sink.new) }
+    ensures sticks { result ≡ Stuck → MayStick (D.files depot.old) words.now }
+    ensures whole { NeverSticks (D.files depot.old) words.now → result ≢ Stuck }
     ensures write_fault { result ≡ WriteFault → Rose (S.faults sink.old) (S.faults sink.new)
         × (WritesPart (D.files depot.old) words.now (S.bytes sink.old) (S.bytes sink.new)
         ⊎ TellsPart words.now (S.bytes sink.old) (S.bytes sink.new)
@@ -346,6 +350,7 @@ where
         Ok(bound) => bound,
         Err(status) => return status,
     };
+    law_one_answer();
     match run_script(rt, alloc, &bound, gate) {
         Ok(ran) => write_text(sink, &ran),
         Err(NoMemory) => Status::NoMemory,
