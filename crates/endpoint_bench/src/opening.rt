@@ -1,6 +1,6 @@
 //! Endpoints are named here alone: what is done with them is generic.
 use crate::measuring::{exchanges, times_between};
-use fab_base::{Caps, Hints, Info};
+use fab_base::{Api, Caps, Hints, Info};
 use fab_bench::runs::{Exchange, Times};
 use fab_domain::{RingEndpoint, endpoints};
 use fab_info::getinfo;
@@ -34,7 +34,7 @@ fn granted() -> Option<Info> {
         inject: None,
         message: None,
     };
-    getinfo(Some(&hints)).ok()
+    getinfo(Api::One, Some(&hints)).ok()
 }
 
 /// The endpoints of all peers.

@@ -29,6 +29,7 @@ const PATIENCE: u32 = 200;
 const FLAGS: Flags = Flags {
     completion: true,
     level: Level::Transmit,
+    fence: false,
 };
 
 /// An endpoint with receives that are posted again once they are complete, and the buffers of messages that were sent.

@@ -1,9 +1,11 @@
--- What the provider offers (fi_getinfo(3)): the limits of each size, and the capabilities.
---     limits_of size      its least value, the one granted without a wish, and its greatest
---     is_offered cap      the capability may be asked for
+-- What the provider offers in each version of its interface (fi_getinfo(3)): the limits of each size, and the capabilities.
+--     limits_of api size      its least value, the one granted without a wish, and its greatest
+--     is_offered api cap      the capability may be asked for
 use Rattle.std.specs.Prelude.{ℕ, Bool, true, false}
+use Rattle.fab_base.specs.declared.caps.Api.{Api}
+use Rattle.fab_base.specs.declared.caps.Api.TheVariants.{One, Two}
 use Rattle.fab_base.specs.declared.caps.Cap.{Cap}
-use Rattle.fab_base.specs.declared.caps.Cap.TheVariants.{RmaEvent, Fence}
+use Rattle.fab_base.specs.declared.caps.Cap.TheVariants.{RmaEvent}
 use Rattle.fab_base.specs.declared.limits.Limits.{Limits}
 use Rattle.fab_base.specs.declared.limits.Size.{Size}
 use Rattle.fab_base.specs.declared.limits.Size.TheVariants.{Peers, Lane, Pool, Tx, Rx, Cq, Log, Inject, Message}
@@ -11,19 +13,30 @@ use Rattle.fab_base.specs.declared.limits.Size.TheVariants.{Peers, Lane, Pool, T
 abbrev pub limits : ℕ → ℕ → ℕ → Limits
 limits least default greatest = record { least = least; default = default; greatest = greatest }
 
-abbrev pub limits_of : Size → Limits
-limits_of Peers = limits 1 32 32
-limits_of Lane = limits 1 64 1024
-limits_of Pool = limits 1 32 1024
-limits_of Tx = limits 1 64 1024
-limits_of Rx = limits 1 256 4096
-limits_of Cq = limits 2 1024 65536
-limits_of Log = limits 4 4096 65536
-limits_of Inject = limits 1 4096 4096
-limits_of Message = limits 1 16777216 16777216
+abbrev pub most_peers : Api → ℕ
+most_peers One = 32
+most_peers Two = 64
 
--- all capabilities but fences and remote events
-abbrev pub is_offered : Cap → Bool
-is_offered RmaEvent = false
-is_offered Fence = false
-is_offered _ = true
+abbrev pub most_message : Api → ℕ
+most_message One = 16_777_216
+most_message Two = 268_435_456
+
+abbrev pub limits_of : Api → Size → Limits
+limits_of api Peers = limits 1 32 (most_peers api)
+limits_of api Lane = limits 1 64 1024
+limits_of api Pool = limits 1 32 1024
+limits_of api Tx = limits 1 64 1024
+limits_of api Rx = limits 1 256 4096
+limits_of api Cq = limits 2 1024 65536
+limits_of api Log = limits 4 4096 65536
+limits_of api Inject = limits 1 4096 4096
+limits_of api Message = limits 1 (most_message api) (most_message api)
+
+abbrev pub has_remote_events : Api → Bool
+has_remote_events One = false
+has_remote_events Two = true
+
+-- all capabilities, but remote events only in the second version
+abbrev pub is_offered : Api → Cap → Bool
+is_offered api RmaEvent = has_remote_events api
+is_offered api _ = true

@@ -22,7 +22,7 @@ mod script;
 mod status;
 
 pub use buffers::{Buf, List, Text};
-pub use caps::{Cap, Caps, Hints, Info};
+pub use caps::{Api, Cap, Caps, Hints, Info};
 pub use entries::{Class, Entry, ErrEntry, ErrKind, Kept, PeekHow, Taken};
 pub use faults::{Busy, Fault, NoMemory, Refused};
 pub use frames::{Frame, FrameHead, FrameRef};
@@ -30,7 +30,7 @@ pub use items::{
     Access, Ack, Atom, AtomicOp, Form, Item, ItemHead, Kind, Num, Outcome, Sign, Want,
 };
 pub use limits::{Limits, Size};
-pub use operations::{Arrival, Coming, Operation, Receive, Tally, Written};
+pub use operations::{Arrival, Coming, Held, Operation, Receive, Tally, Written};
 pub use peers::{Flags, Gate, Level, LineResult, Step};
 pub use script::{Bound, BytesWord, Conf, Line, LineOp, Payload, Script};
 pub use status::{Status, Why};

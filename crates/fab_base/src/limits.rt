@@ -1,8 +1,8 @@
 //! The sizes of an endpoint and their limits, and the capabilities on offer: the one table of both (fi_getinfo(3)).
 ghost use Rattle.std.specs.Prelude.{◌≡◌};
-ghost use Rattle.fab_base.specs.Offer.{limits_of, is_offered};
+ghost use Rattle.fab_base.specs.Offer.{limits_of, is_offered, most_message, most_peers};
 
-use crate::caps::Cap;
+use crate::caps::{Api, Cap};
 
 /// A number that an application may ask for when it negotiates (fi_getinfo(3)).
 #[derive(Clone, Copy, Drop, Eq, PartialEq)]
@@ -37,11 +37,11 @@ pub struct Limits {
 
 impl Size {
     /// The limits of this size.
-    pub fn limits(self) -> Limits
-        ensures { result ≡ limits_of self }
+    pub fn limits(self, api: Api) -> Limits
+        ensures { result ≡ limits_of api self }
     {
         let (least, default, greatest) = match self {
-            Size::Peers => (1, 32, 32),
+            Size::Peers => (1, 32, api.most_peers()),
             Size::Lane => (1, 64, 1_024),
             Size::Pool => (1, 32, 1_024),
             Size::Tx => (1, 64, 1_024),
@@ -49,7 +49,7 @@ impl Size {
             Size::Cq => (2, 1_024, 65_536),
             Size::Log => (4, 4_096, 65_536),
             Size::Inject => (1, 4_096, 4_096),
-            Size::Message => (1, 16_777_216, 16_777_216),
+            Size::Message => (1, api.most_message(), api.most_message()),
         };
         Limits {
             least,
@@ -59,13 +59,35 @@ impl Size {
     }
 }
 
-impl Cap {
-    /// Whether the capability is on offer: all are but fences and remote events.
-    pub fn is_offered(self) -> bool
-        ensures { result ≡ is_offered self }
+impl Api {
+    /// How many peers there may be.
+    fn most_peers(self) -> u32
+        ensures { result ≡ most_peers self }
     {
         match self {
-            Cap::RmaEvent | Cap::Fence => false,
+            Api::One => 32,
+            Api::Two => 64,
+        }
+    }
+
+    /// How many bytes a message or a read may have.
+    fn most_message(self) -> u32
+        ensures { result ≡ most_message self }
+    {
+        match self {
+            Api::One => 16_777_216,
+            Api::Two => 268_435_456,
+        }
+    }
+}
+
+impl Cap {
+    /// Whether the capability is on offer: all are, but remote events only in the second version.
+    pub fn is_offered(self, api: Api) -> bool
+        ensures { result ≡ is_offered api self }
+    {
+        match self {
+            Cap::RmaEvent => api == Api::Two,
             Cap::Msg
             | Cap::Tagged
             | Cap::Rma
@@ -79,6 +101,7 @@ impl Cap {
             | Cap::RemoteWrite
             | Cap::MultiRecv
             | Cap::Source
+            | Cap::Fence
             | Cap::LocalComm => true,
         }
     }

@@ -1,7 +1,7 @@
 //! What an endpoint keeps of its operations: receives, arrivals, transmit operations, and what it wrote.
 use crate::buffers::Buf;
 use crate::entries::Taken;
-use crate::items::{ItemHead, Want};
+use crate::items::{Item, ItemHead, Want};
 use crate::peers::Level;
 
 /// A receive that is posted, or into which an item goes. `call` is the number of its call.
@@ -39,7 +39,7 @@ pub enum Coming {
     Answer,
 }
 
-/// A transmit operation that has not ended. `place` is its item's number among those accepted for
+/// A transmit operation that has not ended. `place` is its item's number among those that go out to
 /// `dest`, from 0. A silent one writes no completion when it succeeds.
 #[derive(Drop)]
 pub struct Operation {
@@ -51,6 +51,19 @@ pub struct Operation {
     pub ctx: Option<u64>,
     pub buf: Option<Buf>,
     pub silent: bool,
+}
+
+/// A transmit operation that a fence holds back (FI_FENCE of fi_msg(3)): its own fence, or that of
+/// one accepted before it for the same peer. Its item has no place yet.
+#[derive(Drop)]
+pub struct Held {
+    pub call: u64,
+    pub item: Item,
+    pub level: Level,
+    pub ctx: Option<u64>,
+    pub buf: Option<Buf>,
+    pub silent: bool,
+    pub fence: bool,
 }
 
 /// A completion with the number of the call that it belongs to, if any.

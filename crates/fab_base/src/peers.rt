@@ -13,11 +13,13 @@ pub enum Level {
     Match,
 }
 
-/// The flags of a transmit call: whether it asks for a completion (FI_COMPLETION), and at which level.
+/// The flags of a transmit call: whether it asks for a completion (FI_COMPLETION), at which level, and whether it waits for
+/// the operations accepted before it for the same peer (FI_FENCE).
 #[derive(Clone, Copy, Drop, Eq, PartialEq)]
 pub struct Flags {
     pub completion: bool,
     pub level: Level,
+    pub fence: bool,
 }
 
 /// One step of a peer's schedule.

@@ -25,6 +25,7 @@ pub enum LineOp {
         imm: Option<u64>,
         level: Level,
         completion: bool,
+        fence: bool,
     },
     TSend {
         ctx: u64,
@@ -34,6 +35,7 @@ pub enum LineOp {
         imm: Option<u64>,
         level: Level,
         completion: bool,
+        fence: bool,
     },
     Inject {
         dest: u32,
@@ -107,6 +109,7 @@ pub enum LineOp {
         bytes: BytesWord,
         imm: Option<u64>,
         completion: bool,
+        fence: bool,
     },
     WInject {
         dest: u32,
@@ -124,6 +127,7 @@ pub enum LineOp {
         num: Num,
         values: Buf,
         completion: bool,
+        fence: bool,
     },
     Fetch {
         ctx: u64,

@@ -92,23 +92,23 @@ both_false true b e = absurd (cc)
 both_false false true e = absurd (cc)
 both_false false false e = (refl, refl)
 
-most_at_most : (kind : Kind) (injected : Bool) → most_bytes kind injected ≤ 16_777_216
-most_at_most AtomicReq true = omega arith
-most_at_most AtomicReq false = omega arith
-most_at_most Msg true = omega arith
-most_at_most Msg false = omega arith
-most_at_most TagMsg true = omega arith
-most_at_most TagMsg false = omega arith
-most_at_most WriteReq true = omega arith
-most_at_most WriteReq false = omega arith
-most_at_most ReadReq true = omega arith
-most_at_most ReadReq false = omega arith
-most_at_most Reply true = omega arith
-most_at_most Reply false = omega arith
+most_in_word : (most : ℕ) (kind : Kind) (injected : Bool) → most < 4_294_967_296 → most_bytes most kind injected < 4_294_967_296
+most_in_word most AtomicReq true word = omega (arith, word)
+most_in_word most AtomicReq false word = omega (arith, word)
+most_in_word most Msg true word = omega (arith, word)
+most_in_word most Msg false word = omega (arith, word)
+most_in_word most TagMsg true word = omega (arith, word)
+most_in_word most TagMsg false word = omega (arith, word)
+most_in_word most WriteReq true word = omega (arith, word)
+most_in_word most WriteReq false word = omega (arith, word)
+most_in_word most ReadReq true word = omega (arith, word)
+most_in_word most ReadReq false word = omega (arith, word)
+most_in_word most Reply true word = omega (arith, word)
+most_in_word most Reply false word = omega (arith, word)
 
 module _ (p : Parts) (o : Order) (granted : is_final (do_call (state_of p) (Transmit o)).0 ≡ false) where
-  passed : (is_too_long o ≡ false) × ((is_none (lookup p.av.indices o.dest) || nat_le 4_611_686_018_427_387_904 p.tx.tx.ops || not (is_well_formed o o.atom)) ≡ false)
-  passed = three (not (is_granted p.caps o.kind o.atom)) (is_too_long o) (is_none (lookup p.av.indices o.dest) || nat_le 4_611_686_018_427_387_904 p.tx.tx.ops || not (is_well_formed o o.atom)) (not_lasting (state_of p) o granted)
+  passed : (is_too_long p.most_message o ≡ false) × ((is_none (lookup p.av.indices o.dest) || nat_le 4_611_686_018_427_387_904 p.tx.tx.ops || not (is_well_formed o o.atom)) ≡ false)
+  passed = three (not (is_granted p.caps o.kind o.atom)) (is_too_long p.most_message o) (is_none (lookup p.av.indices o.dest) || nat_le 4_611_686_018_427_387_904 p.tx.tx.ops || not (is_well_formed o o.atom)) (not_lasting (state_of p) o granted)
 
   valid : (is_none (lookup p.av.indices o.dest) ≡ false) × (nat_le 4_611_686_018_427_387_904 p.tx.tx.ops ≡ false) × (is_well_formed o o.atom ≡ true)
   valid = or_false _ _ _ passed.1
@@ -127,19 +127,19 @@ module _ (p : Parts) (o : Order) (granted : is_final (do_call (state_of p) (Tran
   pub formed : is_well_formed o o.atom ≡ true
   formed = valid.2
 
-  pub short : length o.bytes + length o.compared ≤ most_bytes o.kind o.injected
-  short = ltb-false (most_bytes o.kind o.injected) (length o.bytes + length o.compared) (both_false _ _ passed.0).0
+  pub short : length o.bytes + length o.compared ≤ most_bytes p.most_message o.kind o.injected
+  short = ltb-false (most_bytes p.most_message o.kind o.injected) (length o.bytes + length o.compared) (both_false _ _ passed.0).0
 
-  pub few_counted : o.count ≤ most_bytes o.kind o.injected
-  few_counted = ltb-false (most_bytes o.kind o.injected) o.count (both_false _ _ passed.0).1
+  pub few_counted : o.count ≤ most_bytes p.most_message o.kind o.injected
+  few_counted = ltb-false (most_bytes p.most_message o.kind o.injected) o.count (both_false _ _ passed.0).1
 
-  pub bytes_word : length o.bytes < 4_294_967_296
-  bytes_word = (let s = short in let most = most_at_most o.kind o.injected in omega (arith, s, most))
+  pub bytes_word : p.most_message < 4_294_967_296 → length o.bytes < 4_294_967_296
+  bytes_word word = (let s = short in let most = most_in_word p.most_message o.kind o.injected word in omega (arith, s, most))
 
-  pub count_word : o.count < 4_294_967_296
-  count_word = (let s = few_counted in let most = most_at_most o.kind o.injected in omega (arith, s, most))
+  pub count_word : p.most_message < 4_294_967_296 → o.count < 4_294_967_296
+  count_word word = (let s = few_counted in let most = most_in_word p.most_message o.kind o.injected word in omega (arith, s, most))
 
-  pub few_copied : min (most_bytes o.kind o.injected) (length o.bytes + length o.compared) ≤ 4_096 → length o.bytes + length o.compared ≤ 4_096
+  pub few_copied : min (most_bytes p.most_message o.kind o.injected) (length o.bytes + length o.compared) ≤ 4_096 → length o.bytes + length o.compared ≤ 4_096
   few_copied least = (let s = short in omega (arith, s, least))
 
 -- ---- the head of a request makes sense
@@ -209,7 +209,7 @@ module _ (p : Parts) (r : Request) (bytes compared : List ℕ) (buf : Option (Li
           let all = five (r.at % element_size atom.num == 0) (r.count % element_size atom.num == 0) (is_of_form atom.op atom.form) (length bytes == elim atom.op [ AtomicRead ↦ 0 | _ ↦ r.count ]) (length compared == elim atom.form [ Base ↦ 0 | Fetch ↦ 0 | Compare ↦ r.count ]) well in
           let operand : length bytes ≡ operand_bytes atom.op r.count = eqb-true _ _ all.3 ∙ operand_is atom.op r.count in
           let compare : length compared ≡ compare_bytes atom.form r.count = eqb-true _ _ all.4 ∙ compare_is atom.form r.count in
-          let few : r.count ≤ 4_096 = subst (λ (a : Asked). r.count ≤ most_bytes (kind_asked a) (is_none r.ctx)) e (few_counted p o granted) in
+          let few : r.count ≤ 4_096 = subst (λ (a : Asked). r.count ≤ most_bytes p.most_message (kind_asked a) (is_none r.ctx)) e (few_counted p o granted) in
           rw e (record {
             of_form = all.2;
             aligned = eqb-true _ _ all.0;

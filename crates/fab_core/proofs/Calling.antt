@@ -52,7 +52,7 @@ module _ (s : State) (o : Order) where
 
   judged : transmit_fault s o ≡ elim (lasting_transmit s o) [ Some f ↦ Some f | None ↦ cond full (Some (Again (TxFull s.most_tx))) None ]
   unfolding transmit_fault
-  judged = behind (not (is_granted s.caps o.kind o.atom)) (is_too_long o) (is_none (lookup s.av o.dest) || nat_le 4_611_686_018_427_387_904 s.tx.ops || not (is_well_formed o o.atom)) full NotSupported MsgSize Invalid (Again (TxFull s.most_tx))
+  judged = behind (not (is_granted s.caps o.kind o.atom)) (is_too_long s.most_message o) (is_none (lookup s.av o.dest) || nat_le 4_611_686_018_427_387_904 s.tx.ops || not (is_well_formed o o.atom)) full NotSupported MsgSize Invalid (Again (TxFull s.most_tx))
 
   pub transmit_refused : (why : Fault) → lasting_transmit s o ≡ Some why → do_call s (Transmit o) ≡ (Refused why, s)
   unfolding do_call
@@ -116,8 +116,8 @@ module _ (p : Parts) (m : Message) (bytes : List ℕ) (granted : is_final (do_ca
   three false false true e = absurd (cc)
   three false false false e = (refl, refl)
 
-  passed : (is_too_long (order_of m bytes) ≡ false) × ((is_none (lookup p.av.indices m.dest) || nat_le 4_611_686_018_427_387_904 p.tx.tx.ops || false) ≡ false)
-  passed = three (not (is_granted p.caps (order_of m bytes).kind None)) (is_too_long (order_of m bytes)) (is_none (lookup p.av.indices m.dest) || nat_le 4_611_686_018_427_387_904 p.tx.tx.ops || false) none_lasting
+  passed : (is_too_long p.most_message (order_of m bytes) ≡ false) × ((is_none (lookup p.av.indices m.dest) || nat_le 4_611_686_018_427_387_904 p.tx.tx.ops || false) ≡ false)
+  passed = three (not (is_granted p.caps (order_of m bytes).kind None)) (is_too_long p.most_message (order_of m bytes)) (is_none (lookup p.av.indices m.dest) || nat_le 4_611_686_018_427_387_904 p.tx.tx.ops || false) none_lasting
 
   or_false : (a b c : Bool) → (a || b || c) ≡ false → (a ≡ false) × (b ≡ false)
   or_false true b c e = absurd (cc)
@@ -139,26 +139,26 @@ module _ (p : Parts) (m : Message) (bytes : List ℕ) (granted : is_final (do_ca
   pub counts : p.tx.tx.ops < 4_611_686_018_427_387_904
   counts = leb-false _ _ (or_false _ _ _ passed.1).1
 
-  pub short : length bytes ≤ most_of m
-  short = (let e = ltb-false (most_of m) (length bytes + 0) (either_false (nat_lt (most_of m) (length bytes + 0)) (nat_lt (most_of m) 0) passed.0) in omega (arith, e))
+  pub short : length bytes ≤ most_of p.most_message m
+  short = (let e = ltb-false (most_of p.most_message m) (length bytes + 0) (either_false (nat_lt (most_of p.most_message m) (length bytes + 0)) (nat_lt (most_of p.most_message m) 0) passed.0) in omega (arith, e))
 
-most_at_most : (tagged injected : Bool) → most_bytes (kind_of tagged) injected ≤ 16_777_216
-most_at_most true true = omega arith
-most_at_most true false = omega arith
-most_at_most false true = omega arith
-most_at_most false false = omega arith
+most_in_word : (most : ℕ) (tagged injected : Bool) → most < 4_294_967_296 → most_bytes most (kind_of tagged) injected < 4_294_967_296
+most_in_word most true true word = omega (arith, word)
+most_in_word most true false word = omega (arith, word)
+most_in_word most false true word = omega (arith, word)
+most_in_word most false false word = omega (arith, word)
 
-pub fits_in_word : (p : Parts) (m : Message) (bytes : List ℕ) → is_final (do_call (state_of p) (sending m bytes)).0 ≡ false → length bytes < 4_294_967_296
-fits_in_word p m bytes granted = (let s = short p m bytes granted in let most = most_at_most m.tagged (is_none m.ctx) in omega (arith, s, most))
+pub fits_in_word : (p : Parts) (m : Message) (bytes : List ℕ) → is_final (do_call (state_of p) (sending m bytes)).0 ≡ false → p.most_message < 4_294_967_296 → length bytes < 4_294_967_296
+fits_in_word p m bytes granted word = (let s = short p m bytes granted in let most = most_in_word p.most_message m.tagged (is_none m.ctx) word in omega (arith, s, most))
 
-copied_most : (tagged : Bool) → most_bytes (kind_of tagged) true ≤ 4_096
-copied_most true = omega arith
-copied_most false = omega arith
+copied_most : (most : ℕ) (tagged : Bool) → most_bytes most (kind_of tagged) true ≤ 4_096
+copied_most most true = omega arith
+copied_most most false = omega arith
 
 pub few_copied : (p : Parts) (m : Message) (bytes : List ℕ) → is_final (do_call (state_of p) (sending m bytes)).0 ≡ false → m.ctx ≡ None → length bytes ≤ 4_096
 few_copied p m bytes granted none =
     let s = short p m bytes granted in
-    let most : most_of m ≤ 4_096 = rw none (copied_most m.tagged) in
+    let most : most_of p.most_message m ≤ 4_096 = rw none (copied_most p.most_message m.tagged) in
     omega (arith, s, most)
 
 -- ---- receives
@@ -175,7 +175,7 @@ module _ (s : State) (a : Posting) where
 
   post_judged : post_fault s a ≡ elim (lasting_post s a) [ Some f ↦ Some f | None ↦ again ]
   unfolding post_fault
-  post_judged = posted_five (not (may_receive s a.tagged)) (nat_lt 16_777_216 (length a.buf)) (not (source_is_known s a.source) || least_is_wrong a) (lacks_room s (post s a)) (is_none (taken_by (receive_of s a) s) && nat_le s.most_rx (length s.rx.posted)) NotSupported MsgSize Invalid (Again (CqFull s.cq.size)) (Again (PostedFull s.most_rx))
+  post_judged = posted_five (not (may_receive s a.tagged)) (nat_lt s.most_message (length a.buf)) (not (source_is_known s a.source) || least_is_wrong a) (lacks_room s (post s a)) (is_none (taken_by (receive_of s a) s) && nat_le s.most_rx (length s.rx.posted)) NotSupported MsgSize Invalid (Again (CqFull s.cq.size)) (Again (PostedFull s.most_rx))
 
   pub post_refused : (why : Fault) → lasting_post s a ≡ Some why → do_call s (Post a) ≡ (Refused why, s)
   unfolding do_call

@@ -17,12 +17,14 @@ use Rattle.fab_model.specs.Matching.{is_message, remove_first, takes}
 use Rattle.fab_model.specs.State.{State, Transmitting, awaits, coming_from, under_way}
 use Rattle.fab_model.specs.Complete.{at_delivery, at_either, at_match, book, fill, filling, fill_multi, is_made_by, let_go, release, release_multi, reply}
 use Rattle.fab_model.specs.Receiving.{cancel, cancellable, give, post, without_first}
-use Rattle.fab_model.specs.Sending.{answering, do_answer, do_sent, end_with, ending, expects, is_answered_by, refusal_of, success_of, transmit_to}
+use Rattle.fab_model.specs.Sending.{answering, do_answer, do_sent, end_with, ending, expects, going_on, is_answered_by, refusal_of, success_of, transmit_to, transmitting}
 use Rattle.fab_model.specs.Arrivals.{do_head, do_tail, keeping, made_whole, tail_to}
 use Rattle.fab_rx.specs.Arriving.{begun_of, shared, with_receiving, without_closed}
 use Rattle.fab_rx.specs.Leaving.{is_meant}
 use Rattle.fab_rx.specs.Results.{closed_by, closed_if, completed}
-use Rattle.fab_tx.specs.Transit.{answered_by, finds_answered, finishing as finishing_sent, seen_buf}
+use Rattle.fab_tx.specs.Transit.{finds_answered, seen_buf, with_transmitting}
+use Rattle.fab_tx.proofs.Steps.{transmitted_none, transmitted_some}
+use Rattle.fab_tx.proofs.Answering.{answered_none, answered_some}
 use Rattle.fab_face.specs.declared.machine.Ask.{Ask}
 use Rattle.fab_face.specs.declared.machine.Message.{Message}
 use Rattle.fab_core.specs.Parts.{IsFitting, Parts, state_of}
@@ -116,8 +118,9 @@ unfolding do_sent
 sent_is p dest = by (ending dest p.tx.tx) refl
   where
     by : (o : Option Operation) → ending dest p.tx.tx ≡ o → do_sent (state_of p) dest ≡ state_of (sent dest p)
-    by None e = rw (e, do_sent) refl
-    by (Some o) e = rw (e, do_sent) (end_is Done [] o (λ kind is. absurd (cc)) (with_transit (finishing_sent dest p.tx) p))
+    by None e = rw (transmitted_none dest p.tx.tx e, e, do_sent) refl
+    by (Some o) e = rw (transmitted_some dest p.tx.tx o e, e, do_sent)
+        (end_is Done [] o (λ kind is. absurd (cc)) (with_transit (record p.tx { tx = going_on dest (transmitting dest p.tx.tx); places = slice_set p.tx.places dest 0 }) p))
 
 -- ---- a reply
 
@@ -136,8 +139,9 @@ unfolding do_answer answering
 answered_is p source item = by (finds_answered source item.head p.tx.tx) refl
   where
     by : (o : Option Operation) → finds_answered source item.head p.tx.tx ≡ o → do_answer (state_of p) source item.head item.bytes ≡ state_of (answered source item p)
-    by None e = rw (e, do_answer, without_none (is_answered_by p.tx.tx source item.head) p.tx.tx.live e) refl
-    by (Some o) e = rw (e, do_answer) (end_is item.head.outcome item.bytes o (expected p.tx.tx source item.head o (passes (is_answered_by p.tx.tx source item.head) p.tx.tx.live o e)) (with_transit (answered_by source item.head p.tx) p))
+    by None e = rw (answered_none p.tx.tx source item.head e, e, do_answer) refl
+    by (Some o) e = rw (answered_some p.tx.tx source item.head o e, e, do_answer)
+        (end_is item.head.outcome item.bytes o (expected p.tx.tx source item.head o (passes (is_answered_by p.tx.tx source item.head) p.tx.tx.live o e)) (with_transit (with_transmitting (going_on source (answering source item.head p.tx.tx)) p.tx) p))
 
 -- ---- arrivals
 

@@ -39,7 +39,7 @@ use Rattle.fab_core.specs.Doing.{receive_now, tail}
 use Rattle.fab_core.proofs.Doing.{passes, tail_is}
 use Rattle.fab_core.proofs.Next.{IsLeft, tail_left, tail_next}
 use Rattle.fab_core.proofs.Together.{book_room, match_room, most_booked, size_after, together_answered, together_booked, together_given, together_posted, size_written, together_requested}
-use Rattle.fab_ends.specs.Served.{data_of, reply_of, served}
+use Rattle.fab_ends.specs.Served.{counted, data_of, reply_of, served}
 use Rattle.fab_core.specs.Requests.{IsAwaited, IsServing}
 
 pub ended_received : (c : Option Coming) (source : ℕ) (item : Item) (x : Completed) → ended c source item ≡ Received x → (r : Receive) × (place : ℕ) × (c ≡ Some (Into r place)) × (x ≡ completed r place source item.head item.bytes)
@@ -167,7 +167,7 @@ module _ (p : Parts) (ok : IsTogether p) (rx : IsArriving p.rx) (tx : IsTransit 
 
   -- the parts then, but for what is named
   abbrev then : Transit → Completions → List Tally → Parts
-  then tx' cq' counters' = record { caps = p.caps; selective = p.selective; av = p.av; rx = finishing source p.rx; tx = tx'; target = p.target; cq = cq'; counters = counters'; calls = p.calls; multis = p.multis }
+  then tx' cq' counters' = record { caps = p.caps; selective = p.selective; most_message = p.most_message; av = p.av; rx = finishing source p.rx; tx = tx'; target = p.target; cq = cq'; counters = counters'; calls = p.calls; multis = p.multis }
 
   -- what holds of what an end makes: it is the machine's, and the parts belong together
   abbrev pub IsEnd : Parts → Type 0
@@ -253,10 +253,10 @@ module _ (p : Parts) (ok : IsTogether p) (rx : IsArriving p.rx) (tx : IsTransit 
       subst (λ (y : Item). IsSound y.head × (room_for y.head ≤ slice_index target.rooms source)) (sym e.1) (awaited request)
 
   pub end_request : (came : Item) → Hands (RequestCame came)
-      → IsEnd (record (then (booking source (reply_of came.head (perform p.target.regions came.head came.bytes)) p.tx) (written_if None (data_of (outcome_at p.target.regions came.head) source came.head) p.cq) p.counters) { target = served source came p.target })
+      → IsEnd (record (then (booking source (reply_of came.head (perform p.target.regions came.head came.bytes)) p.tx) (written_if None (data_of (outcome_at p.target.regions came.head) source came.head) p.cq) (counted (outcome_at p.target.regions came.head) p.caps.rma_event came.head p.counters)) { target = served source came p.target })
   end_request came is =
       let e = ended_request (coming_from p.rx.rx source) source item came (unhanded p.rx (last_of source p.rx) (ended (coming_from p.rx.rx source) source item) (RequestCame came) is (λ x y same. absurd (cc))) in
-      subst (λ (y : Item). IsEnd (record (then (booking source (reply_of y.head (perform p.target.regions y.head y.bytes)) p.tx) (written_if None (data_of (outcome_at p.target.regions y.head) source y.head) p.cq) p.counters) { target = served source y p.target })) (sym e.1)
+      subst (λ (y : Item). IsEnd (record (then (booking source (reply_of y.head (perform p.target.regions y.head y.bytes)) p.tx) (written_if None (data_of (outcome_at p.target.regions y.head) source y.head) p.cq) (counted (outcome_at p.target.regions y.head) p.caps.rma_event y.head p.counters)) { target = served source y p.target })) (sym e.1)
       (rw e.0 refl, together_requested p ok source item within begun tx.rooms e.0 _ _ (size_written None (data_of (outcome_at p.target.regions item.head) source item.head) p.cq) refl refl refl refl, refl)
 
   -- what the machine says of it

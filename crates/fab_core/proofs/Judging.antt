@@ -166,7 +166,7 @@ look_judged s after l = behind_two (not (may_receive s true)) (not (source_is_kn
 
 claimed_judged : (s after : State) (buf : List ℕ) (ctx : ℕ) → claimed_fault s buf ctx after ≡ judged (lasting_claimed s (length buf) ctx) (lacks_room s after) (CqFull s.cq.size)
 unfolding claimed_fault
-claimed_judged s after buf ctx = behind_three (not (may_receive s true)) (nat_lt 16_777_216 (length buf)) (is_none (claim_of ctx s)) (lacks_room s after) (CqFull s.cq.size)
+claimed_judged s after buf ctx = behind_three (not (may_receive s true)) (nat_lt s.most_message (length buf)) (is_none (claim_of ctx s)) (lacks_room s after) (CqFull s.cq.size)
 
 -- ---- the calls
 
@@ -225,7 +225,7 @@ module _ (p : Parts) (read : p.cq.taken_out ≤ length p.cq.written) (now : fits
 
         by : (o : Option (ℕ × Arrival)) → find (λ k. k.0 == ctx) p.rx.rx.claimed ≡ o → (k : ℕ × Arrival) × (find (λ k. k.0 == ctx) p.rx.rx.claimed ≡ Some k)
         by (Some k) e = (k, e)
-        by None e = absurd (some_fault (not (may_receive s true)) (nat_lt 16_777_216 n) (is_none (claim_of ctx s)) none (lacking (find (λ k. k.0 == ctx) p.rx.rx.claimed) e))
+        by None e = absurd (some_fault (not (may_receive s true)) (nat_lt s.most_message n) (is_none (claim_of ctx s)) none (lacking (find (λ k. k.0 == ctx) p.rx.rx.claimed) e))
 
     -- a drop
     pub drop_call : do_call s (DropClaimed ctx) ≡ answer (judged (lasting_claimed s 0 ctx) (lacks_room s (drop_claimed s ctx)) (CqFull p.cq.size)) s (drop_claimed s ctx)

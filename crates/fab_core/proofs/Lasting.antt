@@ -11,11 +11,11 @@ use Rattle.fab_base.specs.declared.entries.Taken.TheVariants.{Success, Failure}
 use Rattle.fab_base.specs.declared.faults.Fault.{Fault}
 use Rattle.fab_base.specs.declared.faults.Fault.TheVariants.{Avail, NoEntry}
 use Rattle.fab_base.specs.declared.faults.NoMemory.{NoMemory}
-use Rattle.fab_base.specs.declared.items.Item.{Item}
 use Rattle.fab_base.specs.declared.items.ItemHead.{ItemHead}
 use Rattle.fab_base.specs.declared.items.Outcome.TheVariants.{Done}
 use Rattle.fab_base.specs.declared.operations.Arrival.{Arrival}
 use Rattle.fab_base.specs.declared.operations.Coming.{Coming}
+use Rattle.fab_base.specs.declared.operations.Held.{Held}
 use Rattle.fab_base.specs.declared.operations.Operation.{Operation}
 use Rattle.fab_base.specs.declared.operations.Receive.{Receive}
 use Rattle.fab_base.specs.declared.operations.Written.{Written}
@@ -35,6 +35,7 @@ use Rattle.fab_rx.specs.declared.results.Posted.TheVariants.{GoesOn, Whole}
 use Rattle.fab_rx.proofs.Known.{none_in_row}
 use Rattle.fab_tx.specs.Transit.{Transit, ended, finishing, nothing_accepted}
 use Rattle.fab_tx.specs.declared.results.Ended.{Ended}
+use Rattle.fab_tx.proofs.Answering.{replicate_get}
 use Rattle.fab_face.specs.Acts.{has_read}
 use Rattle.fab_face.specs.Answers.{PopsNot}
 use Rattle.fab_core.specs.Parts.{IsFitting, IsTogether, Parts, held_of, owed}
@@ -50,11 +51,11 @@ use Rattle.fab_core.proofs.Standing.{accepted_lent, heading_lent, sent_lent}
 -- ---- nothing has happened
 
 pub lent_begins : (rx : Arriving) (tx : Transit) (cq : Completions) (calls : ℕ) (multis : Members) (peers most_rx most_tx size room : ℕ) → rx ≡ nothing_arrived peers most_rx → tx ≡ nothing_accepted peers most_tx → cq ≡ nothing_written size → calls ≡ 0 → multis ≡ nobody room
-    → IsLent rx.rx rx.multis tx.tx.live cq calls multis
+    → IsLent rx.rx rx.multis tx.tx cq calls multis
 lent_begins rx tx cq calls multis peers most_rx most_tx size room is_rx is_tx is_cq is_calls is_multis = rw (is_rx, is_tx, is_cq, is_calls, is_multis) (record {
   made = λ i w call e of. absurd (cc);
   early = λ call e. absurd (cc);
-  others = All-nil (IsOther [] 0);
+  others = (All-nil (λ (o : Operation). IsOther [] 0 o.call), λ t. rw (replicate_get {X = List Held} peers t []) (All-nil (λ (h : Held). IsOther [] 0 h.call)));
   posted = λ m there. (let lt = there.1 in absurd (omega (arith, lt)));
   once = λ c d call there other. (let lt = there.1 in absurd (omega (arith, lt)));
   stands = λ call x e is. absurd (cc);
@@ -68,41 +69,40 @@ lent_begins rx tx cq calls multis peers most_rx most_tx size room is_rx is_tx is
 
 -- ---- calls
 
-pub accepting_lent : (rx : Receiving) (known : List (ℕ × ℕ)) (tx : Transmitting) (cq : Completions) (calls : ℕ) (multis : Members) → IsLent rx known tx.live cq calls multis → (t : ℕ) (x : Item) (o : Operation) → o.call ≡ calls → IsLent rx known (accepting t x o tx).live cq (calls + 1) multis
-unfolding accepting
-accepting_lent rx known tx cq calls multis ok t x o this = accepted_lent rx known tx.live cq calls multis ok o this
+pub accepting_lent : (rx : Receiving) (known : List (ℕ × ℕ)) (tx : Transmitting) (cq : Completions) (calls : ℕ) (multis : Members) → IsLent rx known tx cq calls multis → (t : ℕ) (h : Held) → h.call ≡ calls → IsLent rx known (accepting t h tx) cq (calls + 1) multis
+accepting_lent rx known tx cq calls multis ok t h this = accepted_lent rx known tx cq calls multis ok t h this
 
 module _ (p : Parts) (ok : IsLentBy p) where
   -- an item is transmitted
-  pub transmitted_some : (dest : ℕ) (e : Ended) → Some e ≡ option_map ended (ending dest p.tx.tx) → IsLent p.rx.rx p.rx.multis (finishing dest p.tx).tx.live (written_if (option_map (λ o. o.call) (ending dest p.tx.tx)) (entry_at_end Done [] e) p.cq) p.calls p.multis
+  pub transmitted_some : (dest : ℕ) (e : Ended) → Some e ≡ option_map ended (ending dest p.tx.tx) → IsLent p.rx.rx p.rx.multis (finishing dest p.tx).tx (written_if (option_map (λ o. o.call) (ending dest p.tx.tx)) (entry_at_end Done [] e) p.cq) p.calls p.multis
   transmitted_some dest e is = by (ending dest p.tx.tx) refl
     where
-      by : (o : Option Operation) → ending dest p.tx.tx ≡ o → IsLent p.rx.rx p.rx.multis (finishing dest p.tx).tx.live (written_if (option_map (λ o. o.call) (ending dest p.tx.tx)) (entry_at_end Done [] e) p.cq) p.calls p.multis
+      by : (o : Option Operation) → ending dest p.tx.tx ≡ o → IsLent p.rx.rx p.rx.multis (finishing dest p.tx).tx (written_if (option_map (λ o. o.call) (ending dest p.tx.tx)) (entry_at_end Done [] e) p.cq) p.calls p.multis
       by None none = let no : Some e ≡ None = is ∙ ap (option_map ended) none in absurd (cc)
       by (Some o) some =
           let both : Some e ≡ Some (ended o) = is ∙ ap (option_map ended) some in
           let same : e ≡ ended o = cc in
           rw (some, same) (rw some at (sent_lent p ok dest))
 
-  pub transmitted_none : (dest : ℕ) (e : Option Ended) → e ≡ option_map ended (ending dest p.tx.tx) → ((x : Ended) → e ≡ Some x → ⊥) → IsLent p.rx.rx p.rx.multis (finishing dest p.tx).tx.live p.cq p.calls p.multis
+  pub transmitted_none : (dest : ℕ) (e : Option Ended) → e ≡ option_map ended (ending dest p.tx.tx) → ((x : Ended) → e ≡ Some x → ⊥) → IsLent p.rx.rx p.rx.multis (finishing dest p.tx).tx p.cq p.calls p.multis
   transmitted_none dest e is none = by (ending dest p.tx.tx) refl
     where
-      by : (o : Option Operation) → ending dest p.tx.tx ≡ o → IsLent p.rx.rx p.rx.multis (finishing dest p.tx).tx.live p.cq p.calls p.multis
+      by : (o : Option Operation) → ending dest p.tx.tx ≡ o → IsLent p.rx.rx p.rx.multis (finishing dest p.tx).tx p.cq p.calls p.multis
       by None nothing = rw nothing at (sent_lent p ok dest)
       by (Some o) some = absurd (none (ended o) (is ∙ ap (option_map ended) some))
 
   -- an item arrives, where there is memory
-  pub arrives_lent : AreOpened p.rx → p.rx.next ≤ p.calls → (source : ℕ) (head : ItemHead) (r : Result (Unit {0}) NoMemory) (v : Arriving) → OnOk r (v ≡ arriving source head p.rx) → OnErr r (v ≡ p.rx) → IsLent v.rx v.multis p.tx.tx.live p.cq p.calls p.multis
+  pub arrives_lent : AreOpened p.rx → p.rx.next ≤ p.calls → (source : ℕ) (head : ItemHead) (r : Result (Unit {0}) NoMemory) (v : Arriving) → OnOk r (v ≡ arriving source head p.rx) → OnErr r (v ≡ p.rx) → IsLent v.rx v.multis p.tx.tx p.cq p.calls p.multis
   arrives_lent is earlier source head (Ok u) v done same = rw done (heading_lent p ok is earlier source head)
   arrives_lent is earlier source head (Err why) v done same = rw same ok
 
   -- a posted receive leaves
   pub left_some : AreOpened p.rx → p.rx.next ≤ p.calls → (ctx : Option ℕ) (x : Cancelled) → Some x ≡ option_map (cancelled p.rx) (cancellable (is_meant ctx) p.rx.rx)
-      → IsLent (without_posted (is_meant ctx) p.rx.rx) p.rx.multis p.tx.tx.live (writing (option_map (λ r. r.call) (cancellable (is_meant ctx) p.rx.rx)) (error (Some x.ctx) Canceled (Some x.buf)) p.cq) (p.calls + 1) (let_any_go x.id (unread_of p.cq) p.multis)
+      → IsLent (without_posted (is_meant ctx) p.rx.rx) p.rx.multis p.tx.tx (writing (option_map (λ r. r.call) (cancellable (is_meant ctx) p.rx.rx)) (error (Some x.ctx) Canceled (Some x.buf)) p.cq) (p.calls + 1) (let_any_go x.id (unread_of p.cq) p.multis)
   left_some is earlier ctx x left = by (cancellable (is_meant ctx) p.rx.rx) refl
     where
       by : (o : Option Receive) → cancellable (is_meant ctx) p.rx.rx ≡ o
-          → IsLent (without_posted (is_meant ctx) p.rx.rx) p.rx.multis p.tx.tx.live (writing (option_map (λ r. r.call) (cancellable (is_meant ctx) p.rx.rx)) (error (Some x.ctx) Canceled (Some x.buf)) p.cq) (p.calls + 1) (let_any_go x.id (unread_of p.cq) p.multis)
+          → IsLent (without_posted (is_meant ctx) p.rx.rx) p.rx.multis p.tx.tx (writing (option_map (λ r. r.call) (cancellable (is_meant ctx) p.rx.rx)) (error (Some x.ctx) Canceled (Some x.buf)) p.cq) (p.calls + 1) (let_any_go x.id (unread_of p.cq) p.multis)
       by None none = let no : Some x ≡ None = left ∙ ap (option_map (cancelled p.rx)) none in absurd (cc)
       by (Some r) some =
           let both : Some x ≡ Some (cancelled p.rx r) = left ∙ ap (option_map (cancelled p.rx)) some in
@@ -110,20 +110,20 @@ module _ (p : Parts) (ok : IsLentBy p) where
           rw (some, same) (rw some at (left_lent p ok is ctx earlier (ap is_some some)))
 
   -- the first unread entry is read
-  read_lent : (w : Written) → unread p.cq ≡ Some w → IsLent p.rx.rx p.rx.multis p.tx.tx.live (taking_out p.cq) p.calls (read_by (unread p.cq) p.multis)
-  read_lent w first = subst (λ (o : Option Written). IsLent p.rx.rx p.rx.multis p.tx.tx.live (taking_out p.cq) p.calls (read_by o p.multis)) (sym first) (lent_read p.rx.rx p.rx.multis p.tx.tx.live p.cq p.calls p.multis ok w first)
+  read_lent : (w : Written) → unread p.cq ≡ Some w → IsLent p.rx.rx p.rx.multis p.tx.tx (taking_out p.cq) p.calls (read_by (unread p.cq) p.multis)
+  read_lent w first = subst (λ (o : Option Written). IsLent p.rx.rx p.rx.multis p.tx.tx (taking_out p.cq) p.calls (read_by o p.multis)) (sym first) (lent_read p.rx.rx p.rx.multis p.tx.tx p.cq p.calls p.multis ok w first)
 
-  pub popped_lent : (entry : Entry) → Ok entry ≡ success_of (unread p.cq) → IsLent p.rx.rx p.rx.multis p.tx.tx.live (taking_out p.cq) p.calls (read_by (unread p.cq) p.multis)
+  pub popped_lent : (entry : Entry) → Ok entry ≡ success_of (unread p.cq) → IsLent p.rx.rx p.rx.multis p.tx.tx (taking_out p.cq) p.calls (read_by (unread p.cq) p.multis)
   popped_lent entry is = by (unread p.cq) refl
     where
-      by : (o : Option Written) → unread p.cq ≡ o → IsLent p.rx.rx p.rx.multis p.tx.tx.live (taking_out p.cq) p.calls (read_by (unread p.cq) p.multis)
+      by : (o : Option Written) → unread p.cq ≡ o → IsLent p.rx.rx p.rx.multis p.tx.tx (taking_out p.cq) p.calls (read_by (unread p.cq) p.multis)
       by None none = let no = is ∙ ap success_of none in absurd (cc)
       by (Some w) first = read_lent w first
 
-  pub popped_error_lent : (entry : ErrEntry) → Ok entry ≡ error_of (unread p.cq) → IsLent p.rx.rx p.rx.multis p.tx.tx.live (taking_out p.cq) p.calls (read_by (unread p.cq) p.multis)
+  pub popped_error_lent : (entry : ErrEntry) → Ok entry ≡ error_of (unread p.cq) → IsLent p.rx.rx p.rx.multis p.tx.tx (taking_out p.cq) p.calls (read_by (unread p.cq) p.multis)
   popped_error_lent entry is = by (unread p.cq) refl
     where
-      by : (o : Option Written) → unread p.cq ≡ o → IsLent p.rx.rx p.rx.multis p.tx.tx.live (taking_out p.cq) p.calls (read_by (unread p.cq) p.multis)
+      by : (o : Option Written) → unread p.cq ≡ o → IsLent p.rx.rx p.rx.multis p.tx.tx (taking_out p.cq) p.calls (read_by (unread p.cq) p.multis)
       by None none = let no = is ∙ ap error_of none in absurd (cc)
       by (Some w) first = read_lent w first
 

@@ -1,6 +1,6 @@
 -- What holds of multi-receives is kept where entries are written and read, and where calls are made.
 use Rattle.std.proofs.Common.{◌≡◌, ◌≢◌, ◌⊎◌, inl, inr, ℕ, zero, suc, ◌+◌, ◌-◌, ◌<◌, ◌≤◌, ◌==◌, ◌&&◌, Bool, true, false, List, [], ◌∷◌, ◌++◌, length, length-append, map, Option, Some, None, refl, sym, ap, subst, ◌∙◌, arith}
-use Rattle.std.specs.Prelude.{slice_get, is_some, find, All, Contains}
+use Rattle.std.specs.Prelude.{slice_get, is_some, find, Contains}
 use Rattle.std.specs.List.{AllZip}
 use Rattle.std.proofs.lemmas.Bool.{eqb-true, eq-eqb, ne_eqb}
 use Rattle.std.proofs.lemmas.Option.{slice_get_within}
@@ -8,11 +8,10 @@ use Rattle.std.proofs.lemmas.List.Elements.{Contains-append_left, Contains-appen
 use Rattle.fab_base.specs.declared.entries.Taken.{Taken}
 use Rattle.fab_base.specs.declared.operations.Coming.{Coming}
 use Rattle.fab_base.specs.declared.operations.Coming.TheVariants.{Into, Keep, Throw, Request, Answer}
-use Rattle.fab_base.specs.declared.operations.Operation.{Operation}
 use Rattle.fab_base.specs.declared.operations.Receive.{Receive}
 use Rattle.fab_base.specs.declared.operations.Written.{Written}
 use Rattle.fab_model.specs.Matching.{remove_first}
-use Rattle.fab_model.specs.State.{Completions, Receiving, State, coming_from, writing}
+use Rattle.fab_model.specs.State.{Completions, Receiving, State, Transmitting, coming_from, writing}
 use Rattle.fab_model.specs.Peers.{multi_buf, released_buf, same_ctx}
 use Rattle.fab_cq.specs.Queues.{buffer_in, later, taking_out}
 use Rattle.fab_face.specs.Acts.{is_end_of}
@@ -25,7 +24,7 @@ use Rattle.fab_ends.specs.declared.places.Member.{Member}
 use Rattle.fab_ends.specs.Members.{Members, ended_at, enlisted, is_first, is_next, let_one_go, moved_up, one_read, read_by}
 use Rattle.fab_core.specs.Parts.{Parts, held_of, state_of}
 use Rattle.fab_ends.specs.Ends.{unread_of}
-use Rattle.fab_core.specs.Lent.{GoesInto, IsAt, IsComingIn, IsLent, IsLentBy, IsOther, IsPlaced, IsUnread, back_of, is_ending, size_by, size_of}
+use Rattle.fab_core.specs.Lent.{AreApart, GoesInto, IsAt, IsComingIn, IsLent, IsLentBy, IsOther, IsPlaced, IsUnread, back_of, is_ending, size_by, size_of}
 use Rattle.fab_ends.proofs.Listing.{contains_cases, contains_fewer, contains_here, contains_kept, first_all, first_kept, first_none, first_push, first_pushed, get_kept, get_last, get_push}
 use Rattle.fab_core.proofs.Placing.{single_fewer, single_push, zip_each, zip_push, zip_read, zip_turned}
 
@@ -86,13 +85,13 @@ module _ (rx next : Receiving) (known after : List (ℕ × ℕ)) (cq later : Com
 
 -- ---- the receive half changes
 
-module _ (rx : Receiving) (known : List (ℕ × ℕ)) (ops : List Operation) (cq : Completions) (calls : ℕ) (multis : Members) (ok : IsLent rx known ops cq calls multis) where
+module _ (rx : Receiving) (known : List (ℕ × ℕ)) (tx : Transmitting) (cq : Completions) (calls : ℕ) (multis : Members) (ok : IsLent rx known tx cq calls multis) where
   -- no multi-receive leaves, and no buffer changes its length
   moved_place : (next : Receiving) → ((call : ℕ) → is_multi known call ≡ true → opened next call ≡ opened rx call) → (call : ℕ) → is_multi known call ≡ true → (p : Place) → IsAt rx known cq call p → IsAt next known cq call p
   moved_place next same call is (Open id) h = (h.0, h.1, ap is_some (same call is) ∙ h.2)
   moved_place next same call is (Ended n) h = h
 
-  pub lent_moved : (next : Receiving) → ((call : ℕ) → is_multi known call ≡ true → opened next call ≡ opened rx call) → ((s : ℕ) → IsComingIn next known calls (coming_from next s)) → IsLent next known ops cq calls multis
+  pub lent_moved : (next : Receiving) → ((call : ℕ) → is_multi known call ≡ true → opened next call ≡ opened rx call) → ((s : ℕ) → IsComingIn next known calls (coming_from next s)) → IsLent next known tx cq calls multis
   lent_moved next same coming = record {
     made = ok.made;
     early = ok.early;
@@ -122,7 +121,7 @@ module _ (rx : Receiving) (known : List (ℕ × ℕ)) (ops : List Operation) (cq
   coming_later more le (Some Request) h = h
   coming_later more le (Some Answer) h = h
 
-  pub lent_called : (more : ℕ) (after : List Operation) → calls ≤ more → All (IsOther known more) after → IsLent rx known after cq more multis
+  pub lent_called : (more : ℕ) (after : Transmitting) → calls ≤ more → AreApart known more after → IsLent rx known after cq more multis
   lent_called more after le others = record {
     made = λ i w call e is. (let lt = ok.made i w call e is in omega (arith, lt, le));
     early = λ call is. (let lt = ok.early call is in omega (arith, lt, le));
@@ -165,7 +164,7 @@ module _ (rx : Receiving) (known : List (ℕ × ℕ)) (ops : List Operation) (cq
 
       pub lent_written : ((c : ℕ) → call ≡ Some c → c < calls) → ((c : ℕ) → call ≡ Some c → is_multi known c ≡ true → back_of cq c ≡ None)
           → IsUnread rx known cq multis.list new → ((s : ℕ) → IsComingIn next known calls (coming_from next s)) → (places : List Member) → AllZip (IsPlaced next known more) places multis.list
-          → IsLent next known ops more calls (record { list = multis.list; places = places; room = multis.room })
+          → IsLent next known tx more calls (record { list = multis.list; places = places; room = multis.room })
       lent_written made before fine coming places placed = record {
         made = λ i w c e is. elim (get_push cq.written new w i e) [ inl h ↦ ok.made i w c h is | inr h ↦ made c (ap (λ (w : Written). w.call) (sym h.1) ∙ is) ];
         early = ok.early;
@@ -295,7 +294,7 @@ module _ (rx : Receiving) (known : List (ℕ × ℕ)) (ops : List Operation) (cq
         (λ s m p not_it. record { ctx = p.ctx; multi = p.multi; place = place_after m.1 p.multi s.place p.place (next_by m p.multi s.place p.place false not_it) })
         multis.places multis.list ok.placed ok.single
 
-    pub lent_read : IsLent rx known ops (taking_out cq) calls (read_by (Some w) multis)
+    pub lent_read : IsLent rx known tx (taking_out cq) calls (read_by (Some w) multis)
     lent_read = record {
       made = ok.made;
       early = ok.early;
@@ -409,11 +408,14 @@ module _ (rx : Receiving) (known : List (ℕ × ℕ)) (ops : List Operation) (cq
     placed_more = zip_push (IsPlaced next wider cq) multis.places multis.list (record { ctx = ctx; place = Open id }) (ctx, calls)
         (zip_each (IsPlaced rx known cq) (IsPlaced next wider cq) (λ s m p. record { ctx = p.ctx; multi = known_other m.1 (early_other m.1 p.multi) ∙ p.multi; place = place_more m.1 (early_other m.1 p.multi) s.place p.place }) multis.places multis.list ok.placed) place_new
 
-    pub lent_shared : IsLent next ((id, calls) ∷ known) ops cq (calls + 1) (enlisted id ctx calls multis)
+    other_more : (call : ℕ) → IsOther known calls call → IsOther wider (calls + 1) call
+    other_more call other = (let below = other.0 in omega (arith, below), known_other call (below_other call other.0) ∙ other.1)
+
+    pub lent_shared : IsLent next ((id, calls) ∷ known) tx cq (calls + 1) (enlisted id ctx calls multis)
     lent_shared = record {
       made = λ i w c e is. (let lt = ok.made i w c e is in omega (arith, lt));
       early = λ c is. early_by c (known_cases c is);
-      others = λ k d lt. (let h = ok.others k d lt in (let below = h.0 in omega (arith, below), known_other _ (below_other _ h.0) ∙ h.1));
+      others = (λ k d lt. other_more _ (ok.others.0 k d lt), λ t k d lt. other_more _ (ok.others.1 t k d lt));
       posted = λ m there. posted_by m (cases_of m there);
       once = λ c d call a b. once_by c d call (cases_of (c, call) a) (cases_of (d, call) b);
       stands = λ c x is e. stands_by c x (known_cases c is) e;

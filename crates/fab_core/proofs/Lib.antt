@@ -20,6 +20,7 @@ mod Judging
 mod Aside
 mod Asking
 mod Addressed
+mod Apart
 mod Placing
 mod Lending
 mod Opening

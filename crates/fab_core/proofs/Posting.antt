@@ -52,11 +52,11 @@ same_failure y x e = cc
 -- ---- a receive for one message
 
 module _ (p : Parts) (ok : IsLentBy p) (r : Receive) (single : r.least ≡ None) (this : r.call ≡ p.calls) where
-  later : IsLent p.rx.rx p.rx.multis p.tx.tx.live p.cq (p.calls + 1) p.multis
-  later = called_lent p.rx.rx p.rx.multis p.tx.tx.live p.cq p.calls p.multis ok
+  later : IsLent p.rx.rx p.rx.multis p.tx.tx p.cq (p.calls + 1) p.multis
+  later = called_lent p.rx.rx p.rx.multis p.tx.tx p.cq p.calls p.multis ok
 
   unknown : is_multi p.rx.multis r.call ≡ false
-  unknown = ap (is_multi p.rx.multis) this ∙ this_other p.rx.rx p.rx.multis p.tx.tx.live p.cq p.calls p.multis ok
+  unknown = ap (is_multi p.rx.multis) this ∙ this_other p.rx.rx p.rx.multis p.tx.tx p.cq p.calls p.multis ok
 
   goes_in : (next : Receiving) → GoesInto next p.rx.multis (p.calls + 1) r.least r 0
   goes_in next = subst (λ (o : Option ℕ). GoesInto next p.rx.multis (p.calls + 1) o r 0) (sym single) (unknown, omega (arith, this))
@@ -65,10 +65,10 @@ module _ (p : Parts) (ok : IsLentBy p) (r : Receive) (single : r.least ≡ None)
   other_known c is same = let no : true ≡ false = sym is ∙ ap (is_multi p.rx.multis) same ∙ unknown in absurd (cc)
 
   -- it joins those posted
-  pub joined_lent : IsLent (joining_posted r p.rx.rx) p.rx.multis p.tx.tx.live p.cq (p.calls + 1) p.multis
+  pub joined_lent : IsLent (joining_posted r p.rx.rx) p.rx.multis p.tx.tx p.cq (p.calls + 1) p.multis
   joined_lent =
       let same : (c : ℕ) → is_multi p.rx.multis c ≡ true → opened (joining_posted r p.rx.rx) c ≡ opened p.rx.rx c = λ c is. seek_parts c p.rx.rx.posted (p.rx.rx.posted ++ r ∷ []) p.rx.rx.closing p.rx.rx.closing (seek_besides c p.rx.rx.posted r (other_known c is)) refl in
-      lent_moved p.rx.rx p.rx.multis p.tx.tx.live p.cq (p.calls + 1) p.multis later (joining_posted r p.rx.rx) same
+      lent_moved p.rx.rx p.rx.multis p.tx.tx p.cq (p.calls + 1) p.multis later (joining_posted r p.rx.rx) same
       (λ s. coming_moved p.rx.rx (joining_posted r p.rx.rx) p.rx.multis (p.calls + 1) (coming_from p.rx.rx s) same (later.coming s))
 
   -- it gets a message that left these
@@ -78,11 +78,11 @@ module _ (p : Parts) (ok : IsLentBy p) (r : Receive) (single : r.least ≡ None)
 
     pub given_lent : (o : Option (List ℕ)) → IsLentBy (given_whole o a r (called (with_arriving (record { rx = given o a.source r rest; begun = begun; most = most; next = next; multis = p.rx.multis }) p)))
     given_lent None =
-        lent_moved p.rx.rx p.rx.multis p.tx.tx.live p.cq (p.calls + 1) p.multis later (goes a.source (Into r 0) rest) (λ c is. same c)
+        lent_moved p.rx.rx p.rx.multis p.tx.tx p.cq (p.calls + 1) p.multis later (goes a.source (Into r 0) rest) (λ c is. same c)
         (coming_set (goes a.source (Into r 0) rest) p.rx.multis (p.calls + 1) rest.coming a.source (Some (Into r 0)) (λ s. coming_moved rest (goes a.source (Into r 0) rest) p.rx.multis (p.calls + 1) (coming_from rest s) (λ c is. refl) (moved s)) (goes_in (goes a.source (Into r 0) rest)))
     given_lent (Some bytes) =
         booked_lent (at_match a.head.ack) a.source a.head rest p.rx.multis p.tx _ (p.calls + 1) p.multis
-        (lent_received p.rx.rx p.rx.multis p.tx.tx.live p.cq (p.calls + 1) p.multis later rest (λ c is. same c) moved r 0 a.source a.head bytes (goes_in p.rx.rx))
+        (lent_received p.rx.rx p.rx.multis p.tx.tx p.cq (p.calls + 1) p.multis later rest (λ c is. same c) moved r 0 a.source a.head bytes (goes_in p.rx.rx))
 
 pub posted_lent : (p : Parts) → IsLentBy p → (want : Want) (buf : List ℕ) (ctx : ℕ) → IsLentBy (posted_by want buf ctx p)
 posted_lent p ok want buf ctx = by (find (takes want) p.rx.rx.unexpected) refl
@@ -129,18 +129,18 @@ module _ (p : Parts) (ok : IsLentBy p) (is : AreOpened p.rx) (ctx : Option ℕ) 
     entry = error (Some r.ctx) Canceled (Some r.buf)
 
     -- the buffer of a multi-receive comes back, or that of a receive for one message
-    cancelled_lent : (o : Option ℕ) → r.least ≡ o → r.call < p.calls → IsLent rest p.rx.multis p.tx.tx.live (writing (Some r.call) entry p.cq) p.calls (let_any_go (id_in p.rx.multis r.call) (unread_of p.cq) p.multis)
+    cancelled_lent : (o : Option ℕ) → r.least ≡ o → r.call < p.calls → IsLent rest p.rx.multis p.tx.tx (writing (Some r.call) entry p.cq) p.calls (let_any_go (id_in p.rx.multis r.call) (unread_of p.cq) p.multis)
     cancelled_lent (Some least) multi made =
         let is_known : is_multi p.rx.multis r.call ≡ true = it.multi ∙ ap is_some multi in
-        lent_left p.rx.rx p.rx.multis p.tx.tx.live p.cq p.calls p.multis ok rest r entry gone (taker_open p.rx.rx p.rx.multis is.posted is.once (may_leave p.rx.rx (is_meant ctx)) 0 r found) others is_known refl refl refl
+        lent_left p.rx.rx p.rx.multis p.tx.tx p.cq p.calls p.multis ok rest r entry gone (taker_open p.rx.rx p.rx.multis is.posted is.once (may_leave p.rx.rx (is_meant ctx)) 0 r found) others is_known refl refl refl
         (λ ctx used buf e. absurd (cc)) (λ x e. at_none x e) coming
       where
         at_none : (x : ErrEntry) → entry ≡ Failure x → x.at ≡ None
         at_none x e = ap (λ (x : ErrEntry). x.at) (sym (same_failure _ x e))
     cancelled_lent None single made =
         let unknown : is_multi p.rx.multis r.call ≡ false = it.multi ∙ ap is_some single in
-        subst (λ (o : Option ℕ). IsLent rest p.rx.multis p.tx.tx.live (writing (Some r.call) entry p.cq) p.calls (let_any_go o (unread_of p.cq) p.multis)) (sym (none_of (id_in p.rx.multis r.call) unknown)) (
-        lent_written p.rx.rx p.rx.multis p.tx.tx.live p.cq p.calls p.multis ok rest (Some r.call) entry
+        subst (λ (o : Option ℕ). IsLent rest p.rx.multis p.tx.tx (writing (Some r.call) entry p.cq) p.calls (let_any_go o (unread_of p.cq) p.multis)) (sym (none_of (id_in p.rx.multis r.call) unknown)) (
+        lent_written p.rx.rx p.rx.multis p.tx.tx p.cq p.calls p.multis ok rest (Some r.call) entry
         (λ c known. inl (
           others c (λ same. (let no : true ≡ false = sym known ∙ ap (is_multi p.rx.multis) same ∙ unknown in absurd (cc))),
           other_back c (record { call = Some r.call; entry = entry }) (λ of. (let same : r.call ≡ c = cc in let no : true ≡ false = sym known ∙ ap (is_multi p.rx.multis) (sym same) ∙ unknown in absurd (cc))),
@@ -152,7 +152,7 @@ module _ (p : Parts) (ok : IsLentBy p) (is : AreOpened p.rx) (ctx : Option ℕ) 
           ends = λ ctx used buf e. absurd (cc);
           cancels = λ x e kind. at_none x e;
           back = λ c of known ending. (let same : r.call ≡ c = cc in let no : true ≡ false = sym known ∙ ap (is_multi p.rx.multis) (sym same) ∙ unknown in absurd (cc));
-        }) coming p.multis.places (places_kept p.rx.rx p.rx.multis p.tx.tx.live p.cq p.calls p.multis ok rest (Some r.call) entry (λ c known. others c (λ same. (let no : true ≡ false = sym known ∙ ap (is_multi p.rx.multis) same ∙ unknown in absurd (cc))))))
+        }) coming p.multis.places (places_kept p.rx.rx p.rx.multis p.tx.tx p.cq p.calls p.multis ok rest (Some r.call) entry (λ c known. others c (λ same. (let no : true ≡ false = sym known ∙ ap (is_multi p.rx.multis) same ∙ unknown in absurd (cc))))))
       where
         at_none : (x : ErrEntry) → entry ≡ Failure x → x.at ≡ None
         at_none x e = ap (λ (x : ErrEntry). x.at) (sym (same_failure _ x e))
@@ -164,7 +164,7 @@ module _ (p : Parts) (ok : IsLentBy p) (is : AreOpened p.rx) (ctx : Option ℕ) 
       by None e = let no : false ≡ true = sym (ap is_some e) ∙ there in absurd (cc)
       by (Some r) e =
           let made : r.call < p.calls = (let lt = below_found (may_leave p.rx.rx (is_meant ctx)) p.rx.next p.rx.rx.posted r is.below e in omega (arith, lt, earlier)) in
-          rw e (called_lent _ p.rx.multis p.tx.tx.live _ p.calls _ (cancelled_lent r e r.least refl made))
+          rw e (called_lent _ p.rx.multis p.tx.tx _ p.calls _ (cancelled_lent r e r.least refl made))
 
 -- ---- a multi-receive
 
@@ -206,7 +206,7 @@ module _ (p : Parts) (ok : IsLentBy p) (earlier : p.rx.next ≤ p.calls) (id : �
 
   pub shared_lent : AreOpened p.rx → IsLentBy (shared_by id a buf p)
   shared_lent is =
-      lent_shared p.rx.rx p.rx.multis p.tx.tx.live p.cq p.calls p.multis ok more id a.ctx (length buf)
+      lent_shared p.rx.rx p.rx.multis p.tx.tx p.cq p.calls p.multis ok more id a.ctx (length buf)
       (seek_is p.calls (p.rx.rx.posted ++ shared_now a buf p ∷ []) p.rx.rx.closing (Some (a.ctx, length buf)) (seek p.calls p.rx.rx.closing)
       (seek_is p.calls p.rx.rx.posted (shared_now a buf p ∷ []) None (Some (a.ctx, length buf)) (seek_none p.calls p.rx.rx.posted (others_below p.rx.next p.calls p.rx.rx.posted earlier is.below)) (rw (eq-eqb p.calls p.calls refl) refl)) refl)
       others_open (λ s. refl) fresh_id
@@ -217,26 +217,26 @@ told_single : (how : PeekHow) (ctx : ℕ) (met : Option Seen) → IsOfSingle (to
 told_single how ctx None = record { part = refl; goes_on = refl }
 told_single how ctx (Some m) = record { part = refl; goes_on = refl }
 
-parted_lent : (met : Option Seen) (rx : Receiving) (known : List (ℕ × ℕ)) (tx : Transit) (cq : Completions) (calls : ℕ) (multis : Members) → IsLent rx known tx.tx.live cq calls multis → IsLent rx known (parted met tx).tx.live cq calls multis
+parted_lent : (met : Option Seen) (rx : Receiving) (known : List (ℕ × ℕ)) (tx : Transit) (cq : Completions) (calls : ℕ) (multis : Members) → IsLent rx known tx.tx cq calls multis → IsLent rx known (parted met tx).tx cq calls multis
 parted_lent None rx known tx cq calls multis ok = ok
 parted_lent (Some m) rx known tx cq calls multis ok = booked_lent (is_due_now m) m.source m.head rx known tx cq calls multis ok
 
-parted_by_lent : (how : PeekHow) (met : Option Seen) (rx : Receiving) (known : List (ℕ × ℕ)) (tx : Transit) (cq : Completions) (calls : ℕ) (multis : Members) → IsLent rx known tx.tx.live cq calls multis → IsLent rx known (parted_by how met tx).tx.live cq calls multis
+parted_by_lent : (how : PeekHow) (met : Option Seen) (rx : Receiving) (known : List (ℕ × ℕ)) (tx : Transit) (cq : Completions) (calls : ℕ) (multis : Members) → IsLent rx known tx.tx cq calls multis → IsLent rx known (parted_by how met tx).tx cq calls multis
 parted_by_lent Peek met rx known tx cq calls multis ok = ok
 parted_by_lent Claim met rx known tx cq calls multis ok = ok
 parted_by_lent Discard met rx known tx cq calls multis ok = parted_lent met rx known tx cq calls multis ok
 
 module _ (p : Parts) (ok : IsLentBy p) where
-  after : IsLent p.rx.rx p.rx.multis p.tx.tx.live p.cq (p.calls + 1) p.multis
-  after = called_lent p.rx.rx p.rx.multis p.tx.tx.live p.cq p.calls p.multis ok
+  after : IsLent p.rx.rx p.rx.multis p.tx.tx p.cq (p.calls + 1) p.multis
+  after = called_lent p.rx.rx p.rx.multis p.tx.tx p.cq p.calls p.multis ok
 
   -- the receive half changes as to no posted receive, and what is told of the call is written
   module _ (next : Receiving) (same : (c : ℕ) → opened next c ≡ opened p.rx.rx c) (coming : (s : ℕ) → IsComingIn next p.rx.multis (p.calls + 1) (coming_from next s)) where
-    told_lent : (how : PeekHow) (ctx : ℕ) (met : Option Seen) → IsLent next p.rx.multis p.tx.tx.live (writing (Some p.calls) (told how ctx met) p.cq) (p.calls + 1) p.multis
+    told_lent : (how : PeekHow) (ctx : ℕ) (met : Option Seen) → IsLent next p.rx.multis p.tx.tx (writing (Some p.calls) (told how ctx met) p.cq) (p.calls + 1) p.multis
     told_lent how ctx met =
         let s = told_single how ctx met in
-        lent_other p.rx.rx p.rx.multis p.tx.tx.live p.cq (p.calls + 1) p.multis after next (λ c is. same c) coming (Some p.calls) (told how ctx met)
-        (λ c of. (let this : p.calls ≡ c = cc in (omega (arith, this), ap (is_multi p.rx.multis) (sym this) ∙ this_other p.rx.rx p.rx.multis p.tx.tx.live p.cq p.calls p.multis ok))) s.part s.goes_on
+        lent_other p.rx.rx p.rx.multis p.tx.tx p.cq (p.calls + 1) p.multis after next (λ c is. same c) coming (Some p.calls) (told how ctx met)
+        (λ c of. (let this : p.calls ≡ c = cc in (omega (arith, this), ap (is_multi p.rx.multis) (sym this) ∙ this_other p.rx.rx p.rx.multis p.tx.tx p.cq p.calls p.multis ok))) s.part s.goes_on
 
   -- of a message that leaves the rest is thrown away
   module _ (rest : Receiving) (same : (c : ℕ) → opened rest c ≡ opened p.rx.rx c) (coming : rest.coming ≡ p.rx.rx.coming) where
@@ -254,7 +254,7 @@ module _ (p : Parts) (ok : IsLentBy p) where
   pub looked_lent : (how : PeekHow) (want : Want) (ctx : ℕ) → IsLentBy (looked_by how want ctx p)
   looked_lent how want ctx = by how (find (takes want) p.rx.rx.unexpected) refl
     where
-      kept : (how : PeekHow) (next : Receiving) → ((c : ℕ) → opened next c ≡ opened p.rx.rx c) → ((s : ℕ) → IsComingIn next p.rx.multis (p.calls + 1) (coming_from next s)) → IsLent next p.rx.multis (parted_by how (met_by want p) p.tx).tx.live (writing (Some p.calls) (told how ctx (met_by want p)) p.cq) (p.calls + 1) p.multis
+      kept : (how : PeekHow) (next : Receiving) → ((c : ℕ) → opened next c ≡ opened p.rx.rx c) → ((s : ℕ) → IsComingIn next p.rx.multis (p.calls + 1) (coming_from next s)) → IsLent next p.rx.multis (parted_by how (met_by want p) p.tx).tx (writing (Some p.calls) (told how ctx (met_by want p)) p.cq) (p.calls + 1) p.multis
       kept how next same ways = parted_by_lent how (met_by want p) next p.rx.multis p.tx (writing (Some p.calls) (told how ctx (met_by want p)) p.cq) (p.calls + 1) p.multis (told_lent next same ways how ctx (met_by want p))
 
       by : (how : PeekHow) (o : Option Arrival) → find (takes want) p.rx.rx.unexpected ≡ o → IsLentBy (looked_by how want ctx p)
@@ -267,7 +267,7 @@ module _ (p : Parts) (ok : IsLentBy p) where
   pub dropped_lent : (ctx : ℕ) → IsLentBy (dropped_by ctx p)
   dropped_lent ctx = by (claim_under ctx p.rx.rx) refl
     where
-      kept : (next : Receiving) → ((c : ℕ) → opened next c ≡ opened p.rx.rx c) → ((s : ℕ) → IsComingIn next p.rx.multis (p.calls + 1) (coming_from next s)) → IsLent next p.rx.multis (parted (claim_by ctx p) p.tx).tx.live (writing (Some p.calls) (told Discard ctx (claim_by ctx p)) p.cq) (p.calls + 1) p.multis
+      kept : (next : Receiving) → ((c : ℕ) → opened next c ≡ opened p.rx.rx c) → ((s : ℕ) → IsComingIn next p.rx.multis (p.calls + 1) (coming_from next s)) → IsLent next p.rx.multis (parted (claim_by ctx p) p.tx).tx (writing (Some p.calls) (told Discard ctx (claim_by ctx p)) p.cq) (p.calls + 1) p.multis
       kept next same ways = parted_lent (claim_by ctx p) next p.rx.multis p.tx (writing (Some p.calls) (told Discard ctx (claim_by ctx p)) p.cq) (p.calls + 1) p.multis (told_lent next same ways Discard ctx (claim_by ctx p))
 
       by : (o : Option Arrival) → claim_under ctx p.rx.rx ≡ o → IsLentBy (dropped_by ctx p)

@@ -42,9 +42,9 @@ module _ (p : Parts) (ok : IsLentBy p) (is : AreOpened p.rx) (earlier : p.rx.nex
   goes_on next same = taken_into p ok is earlier (draws p.rx.rx.unexpected) d.a.head.total d.r d.first next same
 
   -- the rest of a message that is not whole goes there
-  going_lent : IsLent (goes d.a.source (Into d.r d.r.used) apart) p.rx.multis p.tx.tx.live p.cq p.calls p.multis
+  going_lent : IsLent (goes d.a.source (Into d.r d.r.used) apart) p.rx.multis p.tx.tx p.cq p.calls p.multis
   going_lent =
-      lent_moved p.rx.rx p.rx.multis p.tx.tx.live p.cq p.calls p.multis ok (goes d.a.source (Into d.r d.r.used) apart) apart_same
+      lent_moved p.rx.rx p.rx.multis p.tx.tx p.cq p.calls p.multis ok (goes d.a.source (Into d.r d.r.used) apart) apart_same
       (coming_set (goes d.a.source (Into d.r d.r.used) apart) p.rx.multis p.calls p.rx.rx.coming d.a.source (Some (Into d.r d.r.used))
       (λ s. coming_moved p.rx.rx (goes d.a.source (Into d.r d.r.used) apart) p.rx.multis p.calls (coming_from p.rx.rx s) apart_same (ok.coming s)) (goes_on (goes d.a.source (Into d.r d.r.used) apart) apart_same))
 
@@ -55,9 +55,9 @@ module _ (p : Parts) (ok : IsLentBy p) (is : AreOpened p.rx) (earlier : p.rx.nex
     full_same : (c : ℕ) → is_multi p.rx.multis c ≡ true → opened full c ≡ opened p.rx.rx c
     full_same c k = filling_same d.r d.r.used bytes apart c ∙ apart_same c k
 
-    received_full : IsLent full p.rx.multis p.tx.tx.live (writing (Some d.r.call) (entry_of d.r d.r.used d.a.source d.a.head bytes) p.cq) p.calls p.multis
+    received_full : IsLent full p.rx.multis p.tx.tx (writing (Some d.r.call) (entry_of d.r d.r.used d.a.source d.a.head bytes) p.cq) p.calls p.multis
     received_full =
-        lent_received p.rx.rx p.rx.multis p.tx.tx.live p.cq p.calls p.multis ok full full_same (λ s. coming_moved p.rx.rx full p.rx.multis p.calls (coming_from p.rx.rx s) full_same (ok.coming s))
+        lent_received p.rx.rx p.rx.multis p.tx.tx p.cq p.calls p.multis ok full full_same (λ s. coming_moved p.rx.rx full p.rx.multis p.calls (coming_from p.rx.rx s) full_same (ok.coming s))
         d.r d.r.used d.a.source d.a.head bytes (goes_on p.rx.rx (λ c k. refl))
 
     fill_is : (xs : List Receive) → fill_multi d.r d.r.used bytes xs ≡ change_first (is_made_by d.r.call) (filled d.r.used bytes) xs
@@ -108,9 +108,9 @@ module _ (p : Parts) (ok : IsLentBy p) (is : AreOpened p.rx) (earlier : p.rx.nex
       known_multi : is_multi p.rx.multis d.r.call ≡ true
       known_multi = (subst (λ (o : Option ℕ). GoesInto p.rx.rx p.rx.multis p.calls o d.r d.r.used) d.multi (goes_on p.rx.rx (λ c k. refl))).0
 
-      over_lent : IsLent (without_closed d.r.call full) p.rx.multis p.tx.tx.live (writing (Some x.call) (Success (Released x.ctx x.used x.buf)) (writing (Some d.r.call) (entry_of d.r d.r.used d.a.source d.a.head bytes) p.cq)) p.calls
+      over_lent : IsLent (without_closed d.r.call full) p.rx.multis p.tx.tx (writing (Some x.call) (Success (Released x.ctx x.used x.buf)) (writing (Some d.r.call) (entry_of d.r d.r.used d.a.source d.a.head bytes) p.cq)) p.calls
           (let_go (unwrap_or (id_in p.rx.multis x.call) 0) (unread_of (writing (Some d.r.call) (entry_of d.r d.r.used d.a.source d.a.head bytes) p.cq)) p.multis)
-      over_lent = lent_closed full p.rx.multis p.tx.tx.live (writing (Some d.r.call) (entry_of d.r d.r.used d.a.source d.a.head bytes) p.cq) p.calls p.multis received_full d.r.call x last none_posted rest_none known_multi (λ s. ap (λ xs. get_or xs s None) (closed_coming d.r.call full))
+      over_lent = lent_closed full p.rx.multis p.tx.tx (writing (Some d.r.call) (entry_of d.r d.r.used d.a.source d.a.head bytes) p.cq) p.calls p.multis received_full d.r.call x last none_posted rest_none known_multi (λ s. ap (λ xs. get_or xs s None) (closed_coming d.r.call full))
 
     abbrev with_message : Receiving → Parts
     with_message rx = received (Some d.r.call) (at_match d.a.head.ack) (completed d.r d.r.used d.a.source d.a.head bytes) (with_arriving (with_receiving rx p.rx) p)

@@ -1,5 +1,5 @@
 -- Requests: what holds of those that are begun, and what the end of one makes of the parts.
-use Rattle.std.proofs.Common.{◌≡◌, ◌≢◌, inl, inr, ℕ, List, length, length-set, replicate, Option, Some, None, get_or, get_or-set_same, get_or-set_other, refl, sym, ◌∙◌, subst, arith}
+use Rattle.std.proofs.Common.{◌≡◌, ◌≢◌, inl, inr, ℕ, Bool, true, false, List, length, length-set, replicate, Option, Some, None, get_or, get_or-set_same, get_or-set_other, refl, sym, ap, ◌∙◌, subst, arith}
 use Rattle.std.specs.Prelude.{IfSome, is_some, slice_index_or, slice_set}
 use Rattle.std.specs.Option.{option_map}
 use Rattle.std.proofs.lemmas.Bool.{cases_eq, cases_lt}
@@ -12,13 +12,13 @@ use Rattle.fab_base.specs.declared.items.Outcome.{Outcome}
 use Rattle.fab_base.specs.declared.items.Outcome.TheVariants.{Done, BadKey, BadAccess, BadRange}
 use Rattle.fab_model.specs.State.{State}
 use Rattle.fab_model.specs.Complete.{reply}
-use Rattle.fab_model.specs.Arrivals.{do_request, remote_data, with_regions}
+use Rattle.fab_model.specs.Arrivals.{do_request, remote_data, remote_event, with_regions}
 use Rattle.fab_model.specs.Target.{perform}
 use Rattle.fab_rx.specs.Arriving.{Arriving, begun_of, growing, lengthened}
 use Rattle.fab_rma.specs.Serving.{Serving, nothing_served}
 use Rattle.fab_rma.proofs.Performing.{outcome_is}
 use Rattle.fab_core.specs.Parts.{Parts, state_of}
-use Rattle.fab_ends.specs.Served.{data_of, writes_data}
+use Rattle.fab_ends.specs.Served.{counted, data_of, writes_data}
 use Rattle.fab_core.specs.Requests.{IsAwaited, IsServing}
 use Rattle.fab_ends.specs.Ends.{written_if}
 use Rattle.fab_core.specs.Doing.{requested}
@@ -115,6 +115,17 @@ told BadKey head s source = refl
 told BadAccess head s source = refl
 told BadRange head s source = refl
 
+-- it counts where such events do
+counts : (o : Outcome) (head : ItemHead) (s : State) → remote_event o head s ≡ record s { counters = counted o s.caps.rma_event head s.counters }
+counts BadKey head s = refl
+counts BadAccess head s = refl
+counts BadRange head s = refl
+counts Done head s = by s.caps.rma_event refl
+  where
+    by : (b : Bool) → s.caps.rma_event ≡ b → remote_event Done head s ≡ record s { counters = counted Done s.caps.rma_event head s.counters }
+    by true e = rw e refl
+    by false e = rw e refl
+
 -- its reply is booked, and the regions are those after it
 abbrev replied : Parts → ℕ → Item → State
 replied p source item =
@@ -124,8 +135,11 @@ replied p source item =
 pub requested_is : (p : Parts) (source : ℕ) (item : Item) → do_request (state_of p) source item.head item.bytes ≡ state_of (requested source item p)
 unfolding do_request reply
 requested_is p source item =
-    subst (λ (o : Outcome). remote_data (perform p.target.regions item.head item.bytes).outcome source item.head (replied p source item) ≡ record (replied p source item) { cq = written_if None (data_of o source item.head) p.cq })
-    (outcome_is p.target.regions item.head item.bytes) (told (perform p.target.regions item.head item.bytes).outcome item.head (replied p source item) source)
+    let done = perform p.target.regions item.head item.bytes in
+    let s = replied p source item in
+    subst (λ (o : Outcome). remote_data done.outcome source item.head (remote_event done.outcome item.head s) ≡ record s { cq = written_if None (data_of o source item.head) p.cq; counters = counted o p.caps.rma_event item.head p.counters })
+    (outcome_is p.target.regions item.head item.bytes)
+    (ap (remote_data done.outcome source item.head) (counts done.outcome item.head s) ∙ told done.outcome item.head (record s { counters = counted done.outcome p.caps.rma_event item.head p.counters }) source)
 
 -- a completion is written where the outcome says so
 pub writes_told : (o : Outcome) (source : ℕ) (head : ItemHead) → is_some (data_of o source head) ≡ writes_data o head

@@ -46,11 +46,11 @@ module _ (p : Parts) (a : MultiAsk) (buf : List ℕ) (granted : is_final (do_cal
   abbrev s : State
   s = state_of p
 
-  pub buffer_short : length buf < 4_294_967_296
-  buffer_short =
+  pub buffer_short : p.most_message < 4_294_967_296 → length buf < 4_294_967_296
+  buffer_short word =
       let none = post_not_lasting s (sharing_of a buf) granted in
-      let short = ltb-false 16_777_216 (length buf) (three_none (not (may_receive s false)) (nat_lt 16_777_216 (length buf)) (not (source_is_known s a.source) || least_is_wrong (sharing_of a buf)) none) in
-      omega (arith, short)
+      let short = ltb-false p.most_message (length buf) (three_none (not (may_receive s false)) (nat_lt p.most_message (length buf)) (not (source_is_known s a.source) || least_is_wrong (sharing_of a buf)) none) in
+      omega (arith, short, word)
 
 module _ (p : Parts) (a : MultiAsk) (buf : List ℕ) (now : fits p.cq ≡ true) where
   shared_is : (id : ℕ) → post (state_of p) (sharing_of a buf) ≡ state_of (shared_by id a buf p)

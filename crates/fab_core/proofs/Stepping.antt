@@ -9,11 +9,10 @@ use Rattle.fab_base.specs.declared.entries.Taken.{Taken}
 use Rattle.fab_base.specs.declared.entries.Taken.TheVariants.{Success, Failure}
 use Rattle.fab_base.specs.declared.items.ItemHead.{ItemHead}
 use Rattle.fab_base.specs.declared.operations.Coming.{Coming}
-use Rattle.fab_base.specs.declared.operations.Operation.{Operation}
 use Rattle.fab_base.specs.declared.operations.Receive.{Receive}
 use Rattle.fab_base.specs.declared.operations.Written.{Written}
 use Rattle.fab_model.specs.Matching.{remove_first}
-use Rattle.fab_model.specs.State.{Completions, Receiving, coming_from, writing}
+use Rattle.fab_model.specs.State.{Completions, Receiving, Transmitting, coming_from, writing}
 use Rattle.fab_model.specs.Complete.{entry_of, has_space, is_made_by, received, truncated}
 use Rattle.fab_model.specs.Peers.{part_of, released_buf, same_ctx}
 use Rattle.fab_cq.specs.Queues.{buffer_in}
@@ -80,26 +79,26 @@ module _ (r : Receive) (place source : ℕ) (head : ItemHead) (bytes : List ℕ)
       by true is = rw (is, entry_of, received, single) (record { part = refl; goes_on = refl })
       by false is = rw (is, entry_of, truncated, single) (record { part = refl; goes_on = refl })
 
-module _ (rx : Receiving) (known : List (ℕ × ℕ)) (ops : List Operation) (cq : Completions) (calls : ℕ) (multis : Members) (ok : IsLent rx known ops cq calls multis) where
+module _ (rx : Receiving) (known : List (ℕ × ℕ)) (tx : Transmitting) (cq : Completions) (calls : ℕ) (multis : Members) (ok : IsLent rx known tx cq calls multis) where
   -- ---- an entry of a call that posted no multi-receive
 
   module _ (next : Receiving) (same : (c : ℕ) → is_multi known c ≡ true → opened next c ≡ opened rx c) (coming : (s : ℕ) → IsComingIn next known calls (coming_from next s)) where
-    pub lent_other : (call : Option ℕ) (entry : Taken) → ((c : ℕ) → call ≡ Some c → (c < calls) × (is_multi known c ≡ false)) → part_of entry ≡ None → is_ending entry ≡ false → IsLent next known ops (writing call entry cq) calls multis
+    pub lent_other : (call : Option ℕ) (entry : Taken) → ((c : ℕ) → call ≡ Some c → (c < calls) × (is_multi known c ≡ false)) → part_of entry ≡ None → is_ending entry ≡ false → IsLent next known tx (writing call entry cq) calls multis
     lent_other call entry other none goes_on =
-        lent_written rx known ops cq calls multis ok next call entry (λ c is. inl (same c is, other_back c (record { call = call; entry = entry }) (λ of. (let no : true ≡ false = sym is ∙ (other c of).1 in absurd (cc)))))
+        lent_written rx known tx cq calls multis ok next call entry (λ c is. inl (same c is, other_back c (record { call = call; entry = entry }) (λ of. (let no : true ≡ false = sym is ∙ (other c of).1 in absurd (cc)))))
         (λ c of. (other c of).0) (λ c of is. (let no : true ≡ false = sym is ∙ (other c of).1 in absurd (cc))) (plain_unread rx known cq multis.list (record { call = call; entry = entry }) none goes_on) coming
-        multis.places (places_kept rx known ops cq calls multis ok next call entry same)
+        multis.places (places_kept rx known tx cq calls multis ok next call entry same)
 
     -- ---- the entry of a receive into which a message came
 
     module _ (r : Receive) (place source : ℕ) (head : ItemHead) (bytes : List ℕ) where
-      pub lent_received : GoesInto rx known calls r.least r place → IsLent next known ops (writing (Some r.call) (entry_of r place source head bytes) cq) calls multis
+      pub lent_received : GoesInto rx known calls r.least r place → IsLent next known tx (writing (Some r.call) (entry_of r place source head bytes) cq) calls multis
       lent_received goes = by r.least refl goes
         where
           this : Written
           this = record { call = Some r.call; entry = entry_of r place source head bytes }
 
-          by : (o : Option ℕ) → r.least ≡ o → GoesInto rx known calls o r place → IsLent next known ops (writing (Some r.call) (entry_of r place source head bytes) cq) calls multis
+          by : (o : Option ℕ) → r.least ≡ o → GoesInto rx known calls o r place → IsLent next known tx (writing (Some r.call) (entry_of r place source head bytes) cq) calls multis
           by None single goes =
               let e = single_entry r place source head bytes single in
               lent_other (Some r.call) (entry_of r place source head bytes) (λ c of. (let same : r.call ≡ c = cc in (subst (λ (k : ℕ). k < calls) same goes.1, ap (is_multi known) (sym same) ∙ goes.0))) e.part e.goes_on
@@ -107,7 +106,7 @@ module _ (rx : Receiving) (known : List (ℕ × ℕ)) (ops : List Operation) (cq
               let e = multi_entry r place source head bytes goes.2 least multi in
               let there = ok.stands r.call (sized r) goes.0 goes.1 in
               let size : size_of rx cq r.call ≡ length r.buf = ap (λ o. size_by o (back_of cq r.call)) goes.1 in
-              lent_written rx known ops cq calls multis ok next (Some r.call) (entry_of r place source head bytes) (λ c is. inl (same c is, keeps_buf c this e.keeps))
+              lent_written rx known tx cq calls multis ok next (Some r.call) (entry_of r place source head bytes) (λ c is. inl (same c is, keeps_buf c this e.keeps))
               (λ c of. (let same : r.call ≡ c = cc in subst (λ (k : ℕ). k < calls) same (ok.early r.call goes.0)))
               (λ c of is. (let same : r.call ≡ c = cc in ap (back_of cq) (sym same) ∙ there.1))
               (record {
@@ -122,7 +121,7 @@ module _ (rx : Receiving) (known : List (ℕ × ℕ)) (ops : List Operation) (cq
                 ends = λ ctx used buf is. (let no : true ≡ false = sym (ap is_ending is) ∙ e.goes_on in absurd (cc));
                 cancels = λ x is kind. (let no : true ≡ false = sym (ap is_ending is ∙ cancel_ends x kind) ∙ e.goes_on in absurd (cc));
                 back = λ call is there ending. (let no : true ≡ false = sym ending ∙ e.goes_on in absurd (cc));
-              }) coming multis.places (places_kept rx known ops cq calls multis ok next (Some r.call) (entry_of r place source head bytes) same)
+              }) coming multis.places (places_kept rx known tx cq calls multis ok next (Some r.call) (entry_of r place source head bytes) same)
 
   -- ---- the buffer of a multi-receive comes back
 
@@ -143,10 +142,10 @@ module _ (rx : Receiving) (known : List (ℕ × ℕ)) (ops : List Operation) (cq
         by (Ended n) h none = let no : Some h.1 ≡ None = sym h.6 ∙ none in absurd (cc)
 
     back_under : (id : ℕ) → id_in known r.call ≡ Some id → call_in known id ≡ Some r.call → is_ending entry ≡ true → buffer_in entry ≡ Some r.buf → part_of entry ≡ None → ((ctx used : ℕ) (buf : List ℕ) → entry ≡ Success (Released ctx used buf) → r.ctx ≡ ctx)
-        → ((e : ErrEntry) → entry ≡ Failure e → e.at ≡ None) → ((s : ℕ) → IsComingIn next known calls (coming_from next s)) → IsLent next known ops (writing (Some r.call) entry cq) calls (let_go id (unread_of cq) multis)
+        → ((e : ErrEntry) → entry ≡ Failure e → e.at ≡ None) → ((s : ℕ) → IsComingIn next known calls (coming_from next s)) → IsLent next known tx (writing (Some r.call) entry cq) calls (let_go id (unread_of cq) multis)
     back_under id home mine ends has none same_context no_place coming =
         let there = ok.stands r.call (sized r) is_known open_now in
-        lent_written rx known ops cq calls multis ok next (Some r.call) entry (λ c is. becomes c (c == r.call) refl)
+        lent_written rx known tx cq calls multis ok next (Some r.call) entry (λ c is. becomes c (c == r.call) refl)
         (λ c of. (let same : r.call ≡ c = cc in subst (λ (k : ℕ). k < calls) same (ok.early r.call is_known)))
         (λ c of is. (let same : r.call ≡ c = cc in ap (back_of cq) (sym same) ∙ there.1))
         (record {
@@ -155,24 +154,24 @@ module _ (rx : Receiving) (known : List (ℕ × ℕ)) (ops : List Operation) (cq
           cancels = λ e is kind. no_place e is;
           back = λ call of is ending. (let same : r.call ≡ call = cc in subst (λ (k : ℕ). is_some (released_buf (Some k) at_end) ≡ true) same (ap is_some (brings has)));
         }) coming (map (let_one_go id (unread_of cq)) multis.places)
-        (places_turned rx known ops cq calls multis ok next (Some r.call) entry id r.call r.buf home mine refl ends has there.1 others)
+        (places_turned rx known tx cq calls multis ok next (Some r.call) entry id r.call r.buf home mine refl ends has there.1 others)
       where
-        becomes : (c : ℕ) (b : Bool) → (c == r.call) ≡ b → Becomes rx known ops cq calls multis ok next (Some r.call) entry c
+        becomes : (c : ℕ) (b : Bool) → (c == r.call) ≡ b → Becomes rx known tx cq calls multis ok next (Some r.call) entry c
         becomes c true is = let same : r.call ≡ c = sym (eqb-true c r.call is) in
-            subst (λ (k : ℕ). Becomes rx known ops cq calls multis ok next (Some r.call) entry k) same (inr (sized r, r.buf, gone, open_now, brings has, refl))
+            subst (λ (k : ℕ). Becomes rx known tx cq calls multis ok next (Some r.call) entry k) same (inr (sized r, r.buf, gone, open_now, brings has, refl))
         becomes c false is =
             let other : c ≢ r.call = λ same. (let no : true ≡ false = sym (eq-eqb c r.call same) ∙ is in absurd (cc)) in
             inl (others c other, other_back c at_end (λ of. (let same : r.call ≡ c = cc in absurd (other (sym same)))))
 
     module _ (ends : is_ending entry ≡ true) (has : buffer_in entry ≡ Some r.buf) (none : part_of entry ≡ None) (same_context : (ctx used : ℕ) (buf : List ℕ) → entry ≡ Success (Released ctx used buf) → r.ctx ≡ ctx) (no_place : (e : ErrEntry) → entry ≡ Failure e → e.at ≡ None)
         (coming : (s : ℕ) → IsComingIn next known calls (coming_from next s)) where
-      pub lent_back : IsLent next known ops (writing (Some r.call) entry cq) calls (let_go (unwrap_or (id_in known r.call) 0) (unread_of cq) multis)
+      pub lent_back : IsLent next known tx (writing (Some r.call) entry cq) calls (let_go (unwrap_or (id_in known r.call) 0) (unread_of cq) multis)
       lent_back = let h = its_home in
-          subst (λ (o : Option ℕ). IsLent next known ops (writing (Some r.call) entry cq) calls (let_go (unwrap_or o 0) (unread_of cq) multis)) (sym h.1) (back_under h.0 h.1 h.2 ends has none same_context no_place coming)
+          subst (λ (o : Option ℕ). IsLent next known tx (writing (Some r.call) entry cq) calls (let_go (unwrap_or o 0) (unread_of cq) multis)) (sym h.1) (back_under h.0 h.1 h.2 ends has none same_context no_place coming)
 
-      pub lent_left : IsLent next known ops (writing (Some r.call) entry cq) calls (let_any_go (id_in known r.call) (unread_of cq) multis)
+      pub lent_left : IsLent next known tx (writing (Some r.call) entry cq) calls (let_any_go (id_in known r.call) (unread_of cq) multis)
       lent_left = let h = its_home in
-          subst (λ (o : Option ℕ). IsLent next known ops (writing (Some r.call) entry cq) calls (let_any_go o (unread_of cq) multis)) (sym h.1) (back_under h.0 h.1 h.2 ends has none same_context no_place coming)
+          subst (λ (o : Option ℕ). IsLent next known tx (writing (Some r.call) entry cq) calls (let_any_go o (unread_of cq) multis)) (sym h.1) (back_under h.0 h.1 h.2 ends has none same_context no_place coming)
 
   -- one that is closing has no item under way any more
   module _ (call : ℕ) (x : Receive) (last : closed_by call rx ≡ Some x) (none : seek call rx.posted ≡ None) (rest : seek call (remove_first (is_made_by call) rx.closing) ≡ None) (is_known : is_multi known call ≡ true)
@@ -180,7 +179,7 @@ module _ (rx : Receiving) (known : List (ℕ × ℕ)) (ops : List Operation) (cq
     same_call : x.call ≡ call
     same_call = closed_call call rx x last
 
-    pub lent_closed : IsLent (without_closed call rx) known ops (writing (Some x.call) (Success (Released x.ctx x.used x.buf)) cq) calls (let_go (unwrap_or (id_in known x.call) 0) (unread_of cq) multis)
+    pub lent_closed : IsLent (without_closed call rx) known tx (writing (Some x.call) (Success (Released x.ctx x.used x.buf)) cq) calls (let_go (unwrap_or (id_in known x.call) 0) (unread_of cq) multis)
     lent_closed =
         lent_back (without_closed call rx) x (Success (Released x.ctx x.used x.buf))
         (ap (opened (without_closed call rx)) same_call ∙ closed_gone call rx x last none rest)

@@ -14,15 +14,18 @@ use Rattle.fab_base.specs.declared.items.Outcome.{Outcome}
 use Rattle.fab_base.specs.declared.operations.Arrival.{Arrival}
 use Rattle.fab_base.specs.declared.operations.Coming.{Coming}
 use Rattle.fab_base.specs.declared.operations.Coming.TheVariants.{Into, Keep, Throw, Request, Answer}
+use Rattle.fab_base.specs.declared.operations.Held.{Held}
 use Rattle.fab_base.specs.declared.operations.Operation.{Operation}
 use Rattle.fab_base.specs.declared.operations.Receive.{Receive}
 use Rattle.fab_model.specs.Matching.{is_message, takes}
 use Rattle.fab_model.specs.State.{Completions, Transmitting, coming_from, lookup}
 use Rattle.fab_model.specs.Complete.{at_match}
-use Rattle.fab_model.specs.Sending.{transmitting, accepting, answering}
+use Rattle.fab_model.specs.Sending.{accepting, answering, ending, going_on, letting_out, transmitting}
 use Rattle.fab_model.specs.Arrivals.{heading_message, heading_other, taker, way_of}
 use Rattle.fab_rx.specs.Arriving.{Arriving, IsArriving, IsPartly, PartlyIn, arriving, bare, begun_of, finishing, growing, headed, lengthened, nothing_arrived, posting}
-use Rattle.fab_tx.specs.Transit.{Transit, answered_by, booking, ended, nothing_accepted, with_room}
+use Rattle.fab_tx.specs.Transit.{Transit, answered, answered_by, booking, ended, finds_answered, nothing_accepted, transmitted, with_room}
+use Rattle.fab_tx.proofs.Steps.{transmitted_none, transmitted_some}
+use Rattle.fab_tx.proofs.Answering.{answered_none, answered_some}
 use Rattle.fab_av.specs.Addresses.{Addresses}
 use Rattle.fab_rma.specs.Serving.{is_request}
 use Rattle.fab_core.specs.Parts.{IsFitting, IsTogether, Parts, bit, is_due, is_owed, owed}
@@ -92,17 +95,32 @@ module _ (p q : Parts) (ok : IsTogether p) (size : q.cq.size ≡ p.cq.size) (sen
 
 -- ---- sizes
 
-pub sent_accepting : (t : ℕ) (x : Item) (o : Operation) (tx : Transmitting) → length (accepting t x o tx).sent ≡ length tx.sent
-unfolding accepting
-sent_accepting t x o tx = refl
+pub sent_accepting : (t : ℕ) (h : Held) (tx : Transmitting) → length (accepting t h tx).sent ≡ length tx.sent
+unfolding accepting letting_out
+sent_accepting t h tx = refl
 
-pub sent_transmitting : (t : ℕ) (tx : Transmitting) → length (transmitting t tx).sent ≡ length tx.sent
+sent_going : (t : ℕ) (tx : Transmitting) → length (going_on t tx).sent ≡ length tx.sent
+unfolding letting_out
+sent_going t tx = refl
+
+pub sent_transmitted : (t : ℕ) (tx : Transmitting) → length (transmitted t tx).sent ≡ length tx.sent
 unfolding transmitting
-sent_transmitting t tx = length-set tx.sent t (get_or tx.sent t 0 + 1)
+sent_transmitted t tx = by (ending t tx) refl
+  where
+    raised : length (transmitting t tx).sent ≡ length tx.sent
+    raised = length-set tx.sent t (get_or tx.sent t 0 + 1)
 
-pub sent_answering : (source : ℕ) (reply : ItemHead) (tx : Transmitting) → length (answering source reply tx).sent ≡ length tx.sent
+    by : (o : Option Operation) → ending t tx ≡ o → length (transmitted t tx).sent ≡ length tx.sent
+    by None e = rw (transmitted_none t tx e) raised
+    by (Some o) e = rw (transmitted_some t tx o e) (sent_going t (transmitting t tx) ∙ raised)
+
+pub sent_answered : (source : ℕ) (reply : ItemHead) (tx : Transmitting) → length (answered source reply tx).sent ≡ length tx.sent
 unfolding answering
-sent_answering source reply tx = refl
+sent_answered source reply tx = by (finds_answered source reply tx) refl
+  where
+    by : (o : Option Operation) → finds_answered source reply tx ≡ o → length (answered source reply tx).sent ≡ length tx.sent
+    by None e = rw (answered_none tx source reply e) refl
+    by (Some o) e = rw (answered_some tx source reply o e) (sent_going source (answering source reply tx))
 
 pub sent_booked : (due : Bool) (source : ℕ) (head : ItemHead) (tx : Transit) → length (booked due source head tx).tx.sent ≡ length tx.tx.sent
 sent_booked true source head tx = refl
@@ -260,7 +278,7 @@ module _ (p : Parts) (ok : IsTogether p) (source : ℕ) (item : Item) (within : 
       (λ s. ap (λ (v : Transit). slice_index v.rooms s) tx ∙ booked_rooms due source item.head p.tx s ∙ ap (λ b. slice_index (slice_set p.tx.rooms source (slice_index p.tx.rooms source - bit b)) s) (sym is))
 
   pub together_answered : coming_from p.rx.rx source ≡ Some Answer → (reply : ItemHead) (q : Parts) → q.cq.size ≡ p.cq.size → q.av ≡ p.av → q.rx ≡ finishing source p.rx → q.calls ≡ p.calls → q.tx ≡ answered_by source reply p.tx → IsTogether q
-  together_answered is reply q size av rx calls tx = together_whole q size av rx calls (ap (λ (v : Transit). length v.tx.sent) tx ∙ sent_answering source reply p.tx.tx)
+  together_answered is reply q size av rx calls tx = together_whole q size av rx calls (ap (λ (v : Transit). length v.tx.sent) tx ∙ sent_answered source reply p.tx.tx)
       (λ s. ap (λ (v : Transit). slice_index v.rooms s) tx ∙ booked_rooms false source reply p.tx s ∙ ap (λ (c : Option Coming). slice_index (slice_set p.tx.rooms source (slice_index p.tx.rooms source - bit (is_due c item.head))) s) (sym is))
 
   pub together_requested : coming_from p.rx.rx source ≡ Some Request → (reply : Item) (q : Parts) → q.cq.size ≡ p.cq.size → q.av ≡ p.av → q.rx ≡ finishing source p.rx → q.calls ≡ p.calls → q.tx ≡ booking source reply p.tx → IsTogether q

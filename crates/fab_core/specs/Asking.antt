@@ -8,4 +8,4 @@ use Rattle.fab_core.specs.Doing.{called, with_transit}
 
 abbrev pub accepted_as : ℕ → Order → Parts → Parts
 accepted_as t o p =
-    called (with_transit (accepting_by (Some p.calls) t (head_of p.tx.tx.ops o) o.level o.ctx (o.bytes ++ o.compared) o.buf (is_silent (state_of p) o) p.tx) p)
+    called (with_transit (accepting_by (Some p.calls) t (head_of p.tx.tx.ops o) o.level o.ctx (o.bytes ++ o.compared) o.buf (is_silent (state_of p) o) o.fence p.tx) p)

@@ -7,11 +7,10 @@
 --     sent                            an item is transmitted
 --     posted_by, left_by              a receive call, a cancel
 --     accepted_by                     a message is accepted
-use Rattle.std.specs.Prelude.{ℕ, ◌+◌, ◌-◌, ◌∷◌, Bool, true, false, ◌&&◌, ◌||◌, ◌==◌, not, List, [], length, Option, Some, None, is_none, is_some, find, nat_lt, nat_le, unwrap_or}
+use Rattle.std.specs.Prelude.{ℕ, ◌+◌, ◌∷◌, Bool, true, false, ◌&&◌, ◌||◌, ◌==◌, not, List, [], length, Option, Some, None, is_none, is_some, find, nat_lt, nat_le, unwrap_or}
 use Rattle.fab_base.specs.declared.entries.Class.TheVariants.{Recv}
 use Rattle.fab_base.specs.declared.entries.Entry.TheVariants.{Released}
 use Rattle.fab_base.specs.declared.entries.ErrKind.TheVariants.{Canceled}
-use Rattle.fab_base.specs.declared.entries.Taken.{Taken}
 use Rattle.fab_base.specs.declared.entries.Taken.TheVariants.{Success}
 use Rattle.fab_base.specs.declared.faults.Fault.{Fault}
 use Rattle.fab_base.specs.declared.faults.Fault.TheVariants.{NotSupported, MsgSize, Invalid}
@@ -26,26 +25,23 @@ use Rattle.fab_base.specs.declared.operations.Coming.{Coming}
 use Rattle.fab_base.specs.declared.operations.Coming.TheVariants.{Into, Keep, Throw, Request, Answer}
 use Rattle.fab_base.specs.declared.operations.Operation.{Operation}
 use Rattle.fab_base.specs.declared.operations.Receive.{Receive}
-use Rattle.fab_base.specs.declared.operations.Tally.{Tally}
-use Rattle.fab_base.specs.declared.peers.Level.{Level}
 use Rattle.fab_model.specs.Matching.{is_message, takes}
-use Rattle.fab_model.specs.State.{Completions, State, Transmitting, coming_from, counting, lookup, writing, Region}
-use Rattle.fab_model.specs.Complete.{at_delivery, at_either, at_match, error, reply_head}
+use Rattle.fab_model.specs.State.{State, Transmitting, coming_from, counting, lookup, writing, Region}
+use Rattle.fab_model.specs.Complete.{at_delivery, at_either, at_match, error}
 use Rattle.fab_model.specs.Receiving.{Posting, cancellable, least_is_wrong, may_receive, source_is_known, without_posted}
-use Rattle.fab_model.specs.Sending.{Order, class_of, ending, first_fault, head_of, is_granted, is_silent, is_too_long, is_well_formed, refusal_of, success_of}
+use Rattle.fab_model.specs.Sending.{Order, ending, first_fault, head_of, is_granted, is_silent, is_too_long, is_well_formed}
 use Rattle.fab_rx.specs.Arriving.{Arriving, arriving, finishing, growing, id_in, posting, receive_by, with_receiving}
 use Rattle.fab_rx.specs.Leaving.{is_meant}
 use Rattle.fab_rx.specs.Results.{completed, last_of}
 use Rattle.fab_rx.specs.declared.results.Completed.{Completed}
 use Rattle.fab_cq.specs.Queues.{has_room}
-use Rattle.fab_tx.specs.Transit.{Transit, accepting_by, answered_by, booking, ended, finds_answered, finishing as finishing_sent}
-use Rattle.fab_tx.specs.declared.results.Ended.{Ended}
+use Rattle.fab_tx.specs.Transit.{Transit, accepting_by, answered_by, booking, finds_answered, finishing as finishing_sent}
 use Rattle.fab_model.specs.Target.{perform}
 use Rattle.fab_rma.specs.Serving.{is_request, outcome_at}
 use Rattle.fab_ends.specs.Ends.{answer_writes, booked, counters_after, cq_after, unread_of, written_if}
 use Rattle.fab_ends.specs.Members.{let_any_go, let_go}
 use Rattle.fab_core.specs.Parts.{Parts, state_of}
-use Rattle.fab_ends.specs.Served.{data_of, reply_of, served, writes_data}
+use Rattle.fab_ends.specs.Served.{counted, data_of, reply_of, served, writes_data}
 
 -- ---- the end of an operation
 
@@ -103,12 +99,13 @@ abbrev pub let_back : Option Receive → Parts → Parts
 let_back None p = p
 let_back (Some r) p = record p { cq = writing (Some r.call) (Success (Released r.ctx r.used r.buf)) p.cq; multis = let_go (unwrap_or (id_in p.rx.multis r.call) 0) (unread_of p.cq) p.multis }
 
--- the request is performed, its reply is booked, and a write that tells of itself does so
+-- the request is performed, its reply is booked, it counts where such events do, and a write that tells of itself does so
 abbrev pub requested : ℕ → Item → Parts → Parts
 requested source item p = record p {
   target = served source item p.target;
   tx = booking source (reply_of item.head (perform p.target.regions item.head item.bytes)) p.tx;
   cq = written_if None (data_of (outcome_at p.target.regions item.head) source item.head) p.cq;
+  counters = counted (outcome_at p.target.regions item.head) p.caps.rma_event item.head p.counters;
 }
 
 abbrev pub whole : Option Coming → ℕ → Item → Parts → Parts
@@ -160,7 +157,7 @@ left_by ctx p = canceled (cancellable (is_meant ctx) p.rx.rx) (with_arriving (wi
 -- a message is accepted for the peer
 abbrev pub accepted_by : ℕ → Order → Parts → Parts
 accepted_by t o p =
-    called (with_transit (accepting_by (Some p.calls) t (head_of p.tx.tx.ops o) o.level o.ctx o.bytes (Some o.bytes) (is_silent (state_of p) o) p.tx) p)
+    called (with_transit (accepting_by (Some p.calls) t (head_of p.tx.tx.ops o) o.level o.ctx o.bytes (Some o.bytes) (is_silent (state_of p) o) o.fence p.tx) p)
 
 -- ---- refusals
 
@@ -168,7 +165,7 @@ accepted_by t o p =
 abbrev pub lasting_transmit : State → Order → Option Fault
 lasting_transmit s o = first_fault (
     (not (is_granted s.caps o.kind o.atom), NotSupported)
-    ∷ (is_too_long o, MsgSize)
+    ∷ (is_too_long s.most_message o, MsgSize)
     ∷ (is_none (lookup s.av o.dest) || nat_le 4_611_686_018_427_387_904 s.tx.ops || not (is_well_formed o o.atom), Invalid)
     ∷ []
     )
@@ -176,7 +173,7 @@ lasting_transmit s o = first_fault (
 abbrev pub lasting_post : State → Posting → Option Fault
 lasting_post s p = first_fault (
     (not (may_receive s p.tagged), NotSupported)
-    ∷ (nat_lt 16_777_216 (length p.buf), MsgSize)
+    ∷ (nat_lt s.most_message (length p.buf), MsgSize)
     ∷ (not (source_is_known s p.source) || least_is_wrong p, Invalid)
     ∷ []
     )

@@ -6,6 +6,7 @@
 --     IsUnread                 an unread entry is of a multi-receive whose end was not read
 --     IsPlaced                 what is stored of one whose end was not read: where its buffer is
 --     AreSingle                no two are of one call
+--     AreApart                 no operation is of a call that posted one
 --     IsLent                   all of it
 use Rattle.std.specs.List.{AllZip}
 use Rattle.std.specs.Prelude.{◌≡◌, ◌≢◌, ℕ, ◌+◌, ◌<◌, ◌≤◌, Bool, true, false, List, [], ◌∷◌, length, Option, Some, None, is_some, slice_get, unwrap_or, All, Contains}
@@ -16,10 +17,11 @@ use Rattle.fab_base.specs.declared.entries.Taken.{Taken}
 use Rattle.fab_base.specs.declared.entries.Taken.TheVariants.{Success, Failure}
 use Rattle.fab_base.specs.declared.operations.Coming.{Coming}
 use Rattle.fab_base.specs.declared.operations.Coming.TheVariants.{Into}
+use Rattle.fab_base.specs.declared.operations.Held.{Held}
 use Rattle.fab_base.specs.declared.operations.Operation.{Operation}
 use Rattle.fab_base.specs.declared.operations.Receive.{Receive}
 use Rattle.fab_base.specs.declared.operations.Written.{Written}
-use Rattle.fab_model.specs.State.{Completions, Receiving, coming_from}
+use Rattle.fab_model.specs.State.{Completions, Receiving, Transmitting, coming_from, held_for}
 use Rattle.fab_model.specs.Peers.{first_some, part_of, released_buf}
 use Rattle.fab_rx.specs.Opened.{is_multi, opened, sized}
 use Rattle.fab_cq.specs.Queues.{buffer_in, later}
@@ -85,15 +87,19 @@ abbrev pub AreSingle : List (ℕ × ℕ) → Type 0
 AreSingle [] = Unit {0}
 AreSingle (m ∷ ms) = AreOthers m.1 ms × AreSingle ms
 
--- the operation is of an earlier call, which posted no multi-receive
-abbrev pub IsOther : List (ℕ × ℕ) → ℕ → Operation → Type 0
-IsOther known calls o = (o.call < calls) × (is_multi known o.call ≡ false)
+-- the call is an earlier one, which posted no multi-receive
+abbrev pub IsOther : List (ℕ × ℕ) → ℕ → ℕ → Type 0
+IsOther known calls call = (call < calls) × (is_multi known call ≡ false)
+
+-- so are those of all operations: of those that are live, and of those that a fence holds back
+abbrev pub AreApart : List (ℕ × ℕ) → ℕ → Transmitting → Type 0
+AreApart known calls tx = All (λ (o : Operation). IsOther known calls o.call) tx.live × ((t : ℕ) → All (λ (h : Held). IsOther known calls h.call) (held_for tx t))
 
 -- `known` are all multi-receives ever posted, `multis` those whose end was not read
-pub record IsLent (rx : Receiving) (known : List (ℕ × ℕ)) (ops : List Operation) (cq : Completions) (calls : ℕ) (multis : Members) : Type 0 where
+pub record IsLent (rx : Receiving) (known : List (ℕ × ℕ)) (tx : Transmitting) (cq : Completions) (calls : ℕ) (multis : Members) : Type 0 where
   pub made : (i : ℕ) (w : Written) (call : ℕ) → slice_get cq.written i ≡ Some w → w.call ≡ Some call → call < calls
   pub early : (call : ℕ) → is_multi known call ≡ true → call < calls
-  pub others : All (IsOther known calls) ops
+  pub others : AreApart known calls tx
   pub posted : (m : ℕ × ℕ) → Contains multis.list m → is_multi known m.1 ≡ true
   pub once : (c d call : ℕ) → Contains multis.list (c, call) → Contains multis.list (d, call) → c ≡ d
   -- of one that is posted or closing, the end was not read, and no buffer came back
@@ -108,4 +114,4 @@ pub record IsLent (rx : Receiving) (known : List (ℕ × ℕ)) (ops : List Opera
 
 -- the same of an endpoint's parts
 abbrev pub IsLentBy : Parts → Type 0
-IsLentBy p = IsLent p.rx.rx p.rx.multis p.tx.tx.live p.cq p.calls p.multis
+IsLentBy p = IsLent p.rx.rx p.rx.multis p.tx.tx p.cq p.calls p.multis

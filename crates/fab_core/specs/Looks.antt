@@ -96,7 +96,7 @@ lasting_look s l = first_fault (
 abbrev pub lasting_claimed : State → ℕ → ℕ → Option Fault
 lasting_claimed s n ctx = first_fault (
     (not (may_receive s true), NotSupported)
-    ∷ (nat_lt 16_777_216 n, MsgSize)
+    ∷ (nat_lt s.most_message n, MsgSize)
     ∷ (is_none (claim_of ctx s), NoEntry)
     ∷ []
     )

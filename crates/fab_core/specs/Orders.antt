@@ -1,7 +1,7 @@
 -- A message, and a receive, as the machine's own words for them.
 --     order_of message bytes      the transmit call
 --     posting_of ask buf          the receive call
---     most_of message             the most bytes that it may have
+--     most_of most message        the most bytes that it may have, where a message may have so many
 --     wanted s ask                what the receive matches
 --     is_held n p                 a receive call waits: a draw is due, or so many entries have no room
 --     passing_post want p         why it is refused now
@@ -37,14 +37,15 @@ order_of m bytes = record {
   ctx = m.ctx;
   level = m.flags.level;
   completion = m.flags.completion;
+  fence = m.flags.fence;
   buf = Some bytes;
 }
 
 abbrev pub posting_of : Ask → List ℕ → Posting
 posting_of a buf = record { tagged = a.tagged; source = a.source; tag = a.tag; ignore = a.ignore; buf = buf; least = None; ctx = a.ctx }
 
-abbrev pub most_of : Message → ℕ
-most_of m = most_bytes (kind_of m.tagged) (is_none m.ctx)
+abbrev pub most_of : ℕ → Message → ℕ
+most_of most m = most_bytes most (kind_of m.tagged) (is_none m.ctx)
 
 -- what the receive matches
 abbrev pub wanted : State → Ask → Want

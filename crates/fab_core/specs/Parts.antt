@@ -25,6 +25,8 @@ use Rattle.fab_rma.specs.Serving.{Serving, is_request}
 pub record Parts : Type 0 where
   pub caps : Caps
   pub selective : Bool
+  -- how many bytes a message may have
+  pub most_message : ℕ
   pub av : Addresses
   pub rx : Arriving
   pub tx : Transit
@@ -43,6 +45,7 @@ state_of p = record {
   selective = p.selective;
   most_tx = p.tx.most;
   most_rx = p.rx.most;
+  most_message = p.most_message;
   av = p.av.indices;
   regions = p.target.regions;
   rx = p.rx.rx;

@@ -1,21 +1,11 @@
 -- What holds of requests at their target before they are whole (fi_rma(3), fi_atomic(3)), and of regions.
 --     IsServing begun target     what holds between calls
 --     lacks caps access          a right that a region would give was not granted
-use Rattle.std.specs.Prelude.{◌≡◌, ℕ, ◌≤◌, Bool, true, false, not, ◌&&◌, ◌||◌, List, length, Option, None, IfSome, is_some, slice_index, slice_index_or, slice_set}
-use Rattle.std.specs.Option.{option_map}
+use Rattle.std.specs.Prelude.{◌≡◌, ℕ, ◌≤◌, Bool, true, not, ◌&&◌, ◌||◌, List, length, Option, None, IfSome, slice_index, slice_index_or}
 use Rattle.fab_base.specs.declared.caps.Caps.{Caps}
-use Rattle.fab_base.specs.declared.entries.Entry.TheVariants.{RemoteData}
-use Rattle.fab_base.specs.declared.entries.Taken.{Taken}
-use Rattle.fab_base.specs.declared.entries.Taken.TheVariants.{Success}
 use Rattle.fab_base.specs.declared.items.Access.{Access}
 use Rattle.fab_base.specs.declared.items.Item.{Item}
-use Rattle.fab_base.specs.declared.items.ItemHead.{ItemHead}
-use Rattle.fab_base.specs.declared.items.Kind.TheVariants.{WriteReq}
-use Rattle.fab_base.specs.declared.items.Outcome.{Outcome}
-use Rattle.fab_base.specs.declared.items.Outcome.TheVariants.{Done}
 use Rattle.fab_wire.specs.Frames.{IsSound}
-use Rattle.fab_model.specs.Complete.{reply_head}
-use Rattle.fab_model.specs.Target.{Performed, perform}
 use Rattle.fab_rma.specs.Serving.{Serving, is_request, room_for}
 
 -- a request that is begun makes sense, and there is room for what it hands back

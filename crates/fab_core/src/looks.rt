@@ -14,7 +14,6 @@ ghost use Rattle.fab_core.specs.Orders.{is_held};
 ghost use Rattle.fab_core.specs.Looks.{dropped_by, is_due_now, is_held_take, lacks_take, lasting_claimed, lasting_look, look_want, looked, looked_by, parted, parted_by, taken_by, told};
 
 use crate::parts::Core;
-use crate::receives::MOST_BYTES;
 use fab_base::{Buf, Busy, Entry, ErrEntry, ErrKind, Fault, PeekHow, Refused, Taken, Want};
 use fab_ends::calls::{Calls, ThisCall, call};
 use fab_ends::handing::{at_match, book, hand_over};
@@ -138,7 +137,7 @@ impl<M: Matcher> Core<M> {
         if !self.may_receive(true) {
             return Some(Fault::NotSupported);
         }
-        if bytes > MOST_BYTES {
+        if bytes > self.most_message as usize {
             return Some(Fault::MsgSize);
         }
         if !self.has_claim(ctx) {

@@ -156,4 +156,8 @@ impl<M: Matcher> Machine for Core<M> {
     fn awaiting(&self) -> u32 {
         self.tx.awaiting()
     }
+
+    fn deferred(&self) -> u32 {
+        self.tx.deferred()
+    }
 }

@@ -6,7 +6,6 @@ ghost use Rattle.fab_core.specs.Doing.{lasting_post};
 ghost use Rattle.fab_core.specs.Multis.{HasBuffer, IsShared, passing_multi, sharing_of};
 
 use crate::parts::Core;
-use crate::receives::MOST_BYTES;
 use fab_base::{Buf, Busy, Fault, Refused, Want};
 use fab_ends::calls::{Calls, ThisCall, call};
 use fab_ends::places::Place;
@@ -29,7 +28,7 @@ impl<M: Matcher> Core<M> {
         if !self.may_receive(false) {
             return Some(Fault::NotSupported);
         }
-        if buf.as_slice().len() > MOST_BYTES {
+        if buf.as_slice().len() > self.most_message as usize {
             return Some(Fault::MsgSize);
         }
         if !self.knows(ask.source) || least_is_wrong(ask.least, buf) {

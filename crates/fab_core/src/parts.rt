@@ -31,6 +31,7 @@ pub struct Core<M: Matcher> {
     pub(crate) selective: bool,
     pub(crate) most_tx: u32,
     pub(crate) most_rx: u32,
+    pub(crate) most_message: u32,
     pub(crate) av: Av,
     pub(crate) rx: Inbox<M>,
     pub(crate) tx: Outbox,
@@ -50,12 +51,12 @@ impl<M: Matcher> Model for Core<M> {
 
     ghost Value = { Parts };
 
-    ghost view = { λ c. record { caps = c.caps; selective = c.selective; av = c.av; rx = c.rx; tx = c.tx; target = c.target; cq = c.cq; counters = c.counters; calls = c.calls; multis = c.multis } };
+    ghost view = { λ c. record { caps = c.caps; selective = c.selective; most_message = c.most_message; av = c.av; rx = c.rx; tx = c.tx; target = c.target; cq = c.cq; counters = c.counters; calls = c.calls; multis = c.multis } };
 
     ghost invariant = { λ c. (c.most_tx ≡ c.tx.most) × (c.most_rx ≡ c.rx.most)
-        × IsTogether (record { caps = c.caps; selective = c.selective; av = c.av; rx = c.rx; tx = c.tx; target = c.target; cq = c.cq; counters = c.counters; calls = c.calls; multis = c.multis })
+        × IsTogether (record { caps = c.caps; selective = c.selective; most_message = c.most_message; av = c.av; rx = c.rx; tx = c.tx; target = c.target; cq = c.cq; counters = c.counters; calls = c.calls; multis = c.multis })
         × IsServing c.rx.begun c.target
-        × IsLent c.rx.rx c.rx.multis c.tx.tx.live c.cq c.calls c.multis
+        × IsLent c.rx.rx c.rx.multis c.tx.tx c.cq c.calls c.multis
         × HasPlaces c.most_rx c.av.peers c.cq.size c.multis };
 }
 
@@ -111,6 +112,7 @@ impl<M: Matcher> Core<M> {
         ensures ok { IfOk result (λ core. core ≡ record {
           caps = info.now.caps;
           selective = selective;
+          most_message = info.now.message;
           av = av;
           rx = nothing_arrived av.peers info.now.rx;
           tx = nothing_accepted av.peers info.now.tx;
@@ -139,6 +141,7 @@ impl<M: Matcher> Core<M> {
             selective,
             most_tx: info.tx,
             most_rx: info.rx,
+            most_message: info.message,
             av,
             rx,
             tx,

@@ -24,9 +24,6 @@ use fab_match::Matcher;
 use fab_rx::{Cancelled, Inbox, Posted};
 use std::snapshot::Snapshot;
 
-/// The most bytes of a receive's buffer.
-pub(crate) const MOST_BYTES: usize = 16_777_216;
-
 /// The completion of a receive that was cancelled, with its buffer.
 fn canceled(left: Cancelled) -> Taken
     ensures { result ≡ error (Some left.ctx) Canceled (Some left.buf) }
@@ -107,7 +104,7 @@ impl<M: Matcher> Core<M> {
         if !self.may_receive(ask.tagged) {
             return Some(Fault::NotSupported);
         }
-        if buf.as_slice().len() > MOST_BYTES {
+        if buf.as_slice().len() > self.most_message as usize {
             return Some(Fault::MsgSize);
         }
         if !self.knows(ask.source) {

@@ -2,6 +2,7 @@
 ghost use Rattle.std.specs.Prelude.{◌≡◌, ◌<◌, ◌≤◌, ◌^◌, ◌+◌, ◌%◌, ◌==◌, ℕ, List, [], Option, Some, None, is_none, length};
 ghost use Rattle.fab_base.specs.Elements.{is_of_form};
 ghost use Rattle.fab_wire.specs.Frames.{IsSound};
+ghost use Rattle.fab_model.specs.State.{in_use};
 ghost use Rattle.fab_model.specs.Sending.{atom_is_granted, head_of, is_granted, is_silent, is_too_long, is_well_formed, most_bytes};
 ghost use Rattle.fab_face.specs.Requesting.{atom_asked, kind_asked, order_asked};
 ghost use Rattle.fab_core.specs.Parts.{state_of};
@@ -16,9 +17,7 @@ use fab_face::requesting::{Asked, Request, Requesting};
 use fab_match::Matcher;
 use std::snapshot::Snapshot;
 
-/// The most bytes of a read or a write, and of an atomic or a write whose bytes are copied.
-const MOST_BYTES: usize = 16_777_216;
-
+/// The most bytes of an atomic, or of a write whose bytes are copied.
 const MOST_COPIED: usize = 4_096;
 
 fn kind_asked(asked: Asked) -> Kind
@@ -65,9 +64,9 @@ fn may_ask(caps: &Caps, asked: Asked) -> bool
     }
 }
 
-/// The most bytes of a request, its buffer included.
-fn most_bytes(request: &Request) -> usize
-    ensures { result ≡ most_bytes (kind_asked request.now.asked) (is_none request.now.ctx) }
+/// The most bytes of a request, its buffer included, where a read or a write may have so many.
+fn most_bytes(request: &Request, most: u32) -> usize
+    ensures { result ≡ most_bytes most (kind_asked request.now.asked) (is_none request.now.ctx) }
 {
     match request.asked {
         Asked::Atomic(_) => MOST_COPIED,
@@ -75,17 +74,17 @@ fn most_bytes(request: &Request) -> usize
             if request.ctx.is_none() {
                 MOST_COPIED
             } else {
-                MOST_BYTES
+                most as usize
             }
         }
     }
 }
 
 /// Whether a request has or asks for more bytes than it may.
-fn is_too_long(request: &Request, bytes: &[u8], compared: &[u8]) -> bool
-    ensures { result ≡ is_too_long (order_asked request.now bytes.now compared.now None) }
+fn is_too_long(most: u32, request: &Request, bytes: &[u8], compared: &[u8]) -> bool
+    ensures { result ≡ is_too_long most (order_asked request.now bytes.now compared.now None) }
 {
-    let most = most_bytes(request);
+    let most = most_bytes(request, most);
     bytes.len().saturating_add(compared.len()) > most || request.count > most
 }
 
@@ -146,7 +145,7 @@ impl<M: Matcher> Core<M> {
         if !may_ask(&self.caps, request.asked) {
             return Some(Fault::NotSupported);
         }
-        if is_too_long(request, bytes, compared) {
+        if is_too_long(self.most_message, request, bytes, compared) {
             return Some(Fault::MsgSize);
         }
         if self.av.lookup(request.dest).is_err()
@@ -190,7 +189,7 @@ impl<M: Matcher> Core<M> {
     /// Accepts a request for a peer, with its buffer.
     fn ask_owned(&mut self, dest: u32, request: &Request, buf: Buf)
         requires peer { dest < length self.old.tx.tx.sent }
-        requires room { length self.old.tx.tx.live < self.old.tx.most }
+        requires room { in_use self.old.tx.tx < self.old.tx.most }
         requires counts { self.old.tx.tx.ops < 2 ^ 62 }
         requires count { request.now.count < 2 ^ 32 }
         requires total { length buf < 2 ^ 32 }
@@ -203,7 +202,16 @@ impl<M: Matcher> Core<M> {
         let level = Level::Delivery;
         let ctx = request.ctx;
         self.tx
-            .accept_owned::<Snapshot<Calls>, ThisCall>(&about, dest, head, level, ctx, buf, silent);
+            .accept_owned::<Snapshot<Calls>, ThisCall>(
+                &about,
+                dest,
+                head,
+                level,
+                ctx,
+                buf,
+                silent,
+                request.fence,
+            );
         call(&mut self.calls);
     }
 
@@ -217,7 +225,7 @@ impl<M: Matcher> Core<M> {
         buf: Option<Buf>,
     )
         requires peer { dest < length self.old.tx.tx.sent }
-        requires room { length self.old.tx.tx.live < self.old.tx.most }
+        requires room { in_use self.old.tx.tx < self.old.tx.most }
         requires counts { self.old.tx.tx.ops < 2 ^ 62 }
         requires count { request.now.count < 2 ^ 32 }
         requires few { length bytes.now + length compared.now ≤ 4096 }
@@ -230,7 +238,16 @@ impl<M: Matcher> Core<M> {
         let level = Level::Delivery;
         let ctx = request.ctx;
         self.tx.accept_copied::<Snapshot<Calls>, ThisCall>(
-            &about, dest, head, level, ctx, bytes, compared, buf, silent,
+            &about,
+            dest,
+            head,
+            level,
+            ctx,
+            bytes,
+            compared,
+            buf,
+            silent,
+            request.fence,
         );
         call(&mut self.calls);
     }

@@ -1,8 +1,8 @@
 //! Messages that go out are judged and accepted (fi_msg(3), fi_tagged(3)).
 ghost use Rattle.std.specs.Prelude.{◌≡◌, ◌<◌, ◌≤◌, ◌^◌, ◌+◌, Bool, true, false, IsTrue, IsSome, ◌&&◌, ◌||◌, not, Some, None, is_none, length, List, ℕ, nat_lt};
 ghost use Rattle.fab_wire.specs.Frames.{IsSound};
-ghost use Rattle.fab_model.specs.Sending.{head_of, is_granted, is_silent, ack_of};
-ghost use Rattle.fab_model.specs.Sending.{ending};
+ghost use Rattle.fab_model.specs.State.{in_use};
+ghost use Rattle.fab_model.specs.Sending.{ack_of, ending, head_of, is_granted, is_silent};
 ghost use Rattle.fab_cq.specs.Queues.{has_room};
 ghost use Rattle.fab_tx.specs.Transit.{next_item, writes_when_sent};
 ghost use Rattle.fab_face.specs.Machine.{kind_of};
@@ -19,9 +19,7 @@ use fab_match::Matcher;
 use fab_tx::Outbox;
 use std::snapshot::Snapshot;
 
-/// The most bytes of a message, and of one whose bytes are copied.
-const MOST_BYTES: usize = 16_777_216;
-
+/// The most bytes of a message whose bytes are copied.
 const MOST_COPIED: usize = 4_096;
 
 fn kind_of(tagged: bool) -> Kind
@@ -53,13 +51,14 @@ fn may_send(caps: &Caps, tagged: bool) -> bool
     }
 }
 
-fn most_bytes(message: &Message) -> usize
-    ensures { result ≡ most_of message.now }
+/// The most bytes of this message, where one may have so many.
+fn most_bytes(message: &Message, most: u32) -> usize
+    ensures { result ≡ most_of most message.now }
 {
     if message.ctx.is_none() {
         MOST_COPIED
     } else {
-        MOST_BYTES
+        most as usize
     }
 }
 
@@ -79,7 +78,7 @@ impl<M: Matcher> Core<M> {
         if !may_send(&self.caps, message.tagged) {
             return Some(Fault::NotSupported);
         }
-        if bytes.len() > most_bytes(message) {
+        if bytes.len() > most_bytes(message, self.most_message) {
             return Some(Fault::MsgSize);
         }
         if self.av.lookup(message.dest).is_err() || !self.tx.may_count() {
@@ -117,7 +116,7 @@ impl<M: Matcher> Core<M> {
     /// Accepts a message for a peer, with its buffer.
     pub(crate) fn accept(&mut self, dest: u32, message: &Message, buf: Buf)
         requires peer { dest < length self.old.tx.tx.sent }
-        requires room { length self.old.tx.tx.live < self.old.tx.most }
+        requires room { in_use self.old.tx.tx < self.old.tx.most }
         requires counts { self.old.tx.tx.ops < 2 ^ 62 }
         requires total { length buf < 2 ^ 32 }
         requires sound { IsSound (head_of self.old.tx.tx.ops (order_of message.now buf)) }
@@ -134,6 +133,7 @@ impl<M: Matcher> Core<M> {
             message.ctx,
             buf,
             silent,
+            message.flags.fence,
         );
         call(&mut self.calls);
     }
@@ -141,7 +141,7 @@ impl<M: Matcher> Core<M> {
     /// Accepts a message for a peer, whose bytes are copied and which is silent.
     pub(crate) fn accept_copy(&mut self, dest: u32, message: &Message, bytes: &[u8])
         requires peer { dest < length self.old.tx.tx.sent }
-        requires room { length self.old.tx.tx.live < self.old.tx.most }
+        requires room { in_use self.old.tx.tx < self.old.tx.most }
         requires counts { self.old.tx.tx.ops < 2 ^ 62 }
         requires few { length bytes.now ≤ 4096 }
         requires copied { message.now.ctx ≡ None }
@@ -160,6 +160,7 @@ impl<M: Matcher> Core<M> {
             &[],
             None,
             true,
+            message.flags.fence,
         );
         call(&mut self.calls);
     }

@@ -270,6 +270,7 @@ impl<M: Matcher> Core<M> {
         let about = (Snapshot::of(&self.rx), source);
         let finished = self.rx.finish(source);
         let Core {
+            caps,
             tx,
             target,
             cq,
@@ -293,7 +294,15 @@ impl<M: Matcher> Core<M> {
             }
             Finished::Kept(head) => book(*alloc, tx, at_delivery(head.ack), source, &head),
             Finished::Thrown(head) => book(*alloc, tx, at_either(head.ack), source, &head),
-            Finished::Request(item) => serve(tx, cq, target, source, item),
+            Finished::Request(item) => serve(
+                tx,
+                cq,
+                counters,
+                target,
+                caps.rma_event,
+                source,
+                item,
+            ),
             Finished::Answer(item) => answer(*alloc, tx, cq, counters, source, item),
         }
     }

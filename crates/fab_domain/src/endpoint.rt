@@ -341,6 +341,10 @@ impl Logs for RingEndpoint {
         self.inner.awaiting()
     }
 
+    fn deferred(&self) -> u32 {
+        self.inner.deferred()
+    }
+
     fn pushed(&self) -> bool {
         self.inner.pushed()
     }

@@ -2,20 +2,28 @@
 //!
 //! Each call stands in a function of its own without a contract, over any endpoint that has it, so that a test carries no
 //! clauses of the calls before.
-use fab_base::{Access, Buf, Entry, ErrEntry, ErrKind, Fault, Flags, Level, Refused};
-use fab_face::calls::{Looks, Messages, Progress, Receives, Regions, Requests};
+use fab_base::{Access, Buf, Class, Entry, ErrEntry, ErrKind, Fault, Flags, Level, Refused};
+use fab_face::calls::{Counters, Logs, Looks, Messages, Progress, Receives, Regions, Requests};
 use fab_face::events::{Moved, Stop};
 use std::alloc::Global;
 
 const COMPLETES: Flags = Flags {
     completion: true,
     level: Level::Transmit,
+    fence: false,
+};
+
+const FENCED: Flags = Flags {
+    completion: true,
+    level: Level::Transmit,
+    fence: true,
 };
 
 /// The calls that are tested.
-pub trait Calls: Messages + Requests + Receives + Looks + Progress + Regions {}
+pub trait Calls: Messages + Requests + Receives + Looks + Progress + Regions + Counters + Logs {}
 
-impl<E: Messages + Requests + Receives + Looks + Progress + Regions> Calls for E {}
+impl<E: Messages + Requests + Receives + Looks + Progress + Regions + Counters + Logs> Calls
+    for E {}
 
 /// Sends so many bytes to peer 0. A refusal is told with the length of the buffer that it hands back.
 pub fn send<E: Messages>(
@@ -30,6 +38,27 @@ pub fn send<E: Messages>(
     endpoint
         .send(0, message, None, ctx, COMPLETES)
         .map_err(|refused| (refused.why, refused.buf.as_slice().len()))
+}
+
+/// Sends one byte to peer 1, behind all that was sent to it before (FI_FENCE).
+pub fn fences<E: Messages>(alloc: Global, endpoint: &mut E, ctx: u64) -> Result<(), Fault> {
+    let Ok(message) = Buf::zeros(alloc, 1) else {
+        return Err(Fault::NoMemory);
+    };
+    endpoint
+        .tsend(1, 5, message, None, ctx, FENCED)
+        .map_err(|refused| refused.why)
+}
+
+/// How many operations are not transmitted, and how many await an answer.
+pub fn under_way<E: Logs>(endpoint: &E) -> (u32, u32) {
+    (endpoint.deferred(), endpoint.awaiting())
+}
+
+/// How many requests of other peers wrote here, and how many read.
+pub fn served<E: Counters>(endpoint: &E) -> (u64, u64) {
+    let written = endpoint.cntr_read(Class::RemoteWrite);
+    (written, endpoint.cntr_read(Class::RemoteRead))
 }
 
 /// A message of so many bytes, none of which is a zero.

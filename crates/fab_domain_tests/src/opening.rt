@@ -1,7 +1,7 @@
 //! Endpoints over lanes are named here alone: what is tested is generic.
 use crate::calls::registers;
 use crate::rows::{Row, Sizes};
-use fab_base::{Caps, Hints, Info};
+use fab_base::{Api, Caps, Hints, Info};
 use fab_domain::{RingEndpoint, endpoints};
 use fab_info::getinfo;
 use fab_mr::Regions;
@@ -16,7 +16,7 @@ struct Pair {
 }
 
 /// All that is on offer, for two peers, with these sizes.
-fn granted(sizes: Sizes) -> Option<Info> {
+fn granted(api: Api, sizes: Sizes) -> Option<Info> {
     let hints = Hints {
         caps: Caps::none(),
         peers: Some(2),
@@ -29,7 +29,7 @@ fn granted(sizes: Sizes) -> Option<Info> {
         inject: None,
         message: None,
     };
-    getinfo(Some(&hints)).ok()
+    getinfo(api, Some(&hints)).ok()
 }
 
 /// The endpoints of all peers.
@@ -50,7 +50,7 @@ fn last_two(mut all: Vec<RingEndpoint>) -> Option<Pair> {
 
 /// Whether the row holds between two new endpoints.
 fn holds(alloc: Global, row: Row) -> bool {
-    let Some(info) = granted(row.sizes()) else {
+    let Some(info) = granted(row.api(), row.sizes()) else {
         return false;
     };
     match last_two(opened(alloc, &info)) {
@@ -76,7 +76,7 @@ fn gives_back(alloc: Global, mut pair: Pair) -> bool {
 
 /// The same of one of two new endpoints.
 fn new_gives_back(alloc: Global) -> bool {
-    let Some(info) = granted(Row::Served.sizes()) else {
+    let Some(info) = granted(Api::One, Row::Served.sizes()) else {
         return false;
     };
     match last_two(opened(alloc, &info)) {
@@ -124,5 +124,17 @@ fn a_region_is_written_and_read(rt: HostRuntime) -> Result<(), Fail> {
 #[test]
 fn a_message_too_long(rt: HostRuntime) -> Result<(), Fail> {
     assert!(rt; holds(rt.alloc(), Row::Longest));
+    Ok(())
+}
+
+#[test]
+fn a_fence_waits_for_an_answer(rt: HostRuntime) -> Result<(), Fail> {
+    assert!(rt; holds(rt.alloc(), Row::Fenced));
+    Ok(())
+}
+
+#[test]
+fn requests_count_at_their_target(rt: HostRuntime) -> Result<(), Fail> {
+    assert!(rt; holds(rt.alloc(), Row::Counted));
     Ok(())
 }

@@ -1,9 +1,10 @@
 //! Calls one at a time, between endpoints whose lanes, operations and completion queues are short.
 use crate::calls::{
-    Calls, Came, brings, cancels, closes_not, has, injects, looks, missed, moves, next_came,
-    pops_not, reads, receives, refuses, registers, send, sent, writes,
+    Calls, Came, brings, cancels, closes_not, fences, has, injects, looks, missed, moves,
+    next_came, pops_not, reads, receives, refuses, registers, send, sent, served, under_way,
+    writes,
 };
-use fab_base::{Busy, Fault};
+use fab_base::{Api, Busy, Fault};
 use fab_face::events::Stop;
 use std::alloc::Global;
 
@@ -24,6 +25,8 @@ pub enum Row {
     Directed,
     Served,
     Longest,
+    Fenced,
+    Counted,
 }
 
 impl Row {
@@ -35,8 +38,18 @@ impl Row {
             Row::QueueFull => (1, 1, 2),
             Row::Directed | Row::Served => (4, 4, 8),
             Row::Longest => (64, 64, 1024),
+            Row::Fenced => (4, 2, 8),
+            Row::Counted => (4, 4, 8),
         };
         Sizes { lane, tx, cq }
+    }
+
+    /// The version that the endpoints are opened for: the second where remote events are asked for.
+    pub fn api(self) -> Api {
+        match self {
+            Row::Counted => Api::Two,
+            _ => Api::One,
+        }
     }
 
     /// Whether all calls answer as they should.
@@ -48,6 +61,8 @@ impl Row {
             Row::Directed => takes_from(alloc, zero, one),
             Row::Served => serves(alloc, zero, one),
             Row::Longest => refuses_longer(alloc, one),
+            Row::Fenced => holds_back(alloc, zero, one),
+            Row::Counted => counts_served(alloc, zero, one),
         }
     }
 }
@@ -144,4 +159,41 @@ fn refuses_longer<E: Calls>(alloc: Global, one: &mut E) -> bool {
     let copied = injects(alloc, one, 4096) == Ok(());
     let too_long = injects(alloc, one, 4097) == Err(Fault::MsgSize);
     longest && longer && copied && too_long
+}
+
+/// A message with a fence waits behind a read until that is answered. It is one of those under way meanwhile.
+fn holds_back<E: Calls>(alloc: Global, zero: &mut E, one: &mut E) -> bool {
+    let registered = registers(alloc, one, 9, b"01234567");
+    let accepted = reads(alloc, zero, 9, 3, 3);
+    let fenced = fences(alloc, zero, 2) == Ok(());
+    let held = under_way(zero) == (1, 1);
+    let full = fences(alloc, zero, 3) == Err(Fault::Again(Busy::TxFull(2)));
+    let answered = moves(one, 8, 1, 1, Stop::Idle);
+    let gone_on = moves(zero, 8, 1, 1, Stop::Idle);
+    let none = under_way(zero) == (0, 0);
+    let brought = brings(zero, b"345");
+    let done = sent(zero) == Some(2);
+    registered
+        && accepted
+        && fenced
+        && held
+        && full
+        && answered
+        && gone_on
+        && none
+        && brought
+        && done
+}
+
+/// A write and a read count at the peer whose region they reach, and those that are refused do not.
+fn counts_served<E: Calls>(alloc: Global, zero: &mut E, one: &mut E) -> bool {
+    let registered = registers(alloc, one, 9, b"01234567");
+    let before = served(one) == (0, 0);
+    let asked = writes(zero, 9, 2, b"abcd") && reads(alloc, zero, 9, 3, 3);
+    let both = moves(one, 8, 2, 2, Stop::Idle);
+    let counted = served(one) == (1, 1);
+    let beyond = writes(zero, 9, 8, b"a") && writes(zero, 8, 0, b"a");
+    let refused = moves(one, 8, 2, 2, Stop::Idle);
+    let same = served(one) == (1, 1);
+    registered && before && asked && both && counted && beyond && refused && same
 }

@@ -29,7 +29,7 @@ fn refusal_of(outcome: Outcome) -> Option<ErrKind>
 }
 
 /// Whether the reply has bytes: a read, or a fetching or comparing atomic.
-fn is_answered(head: &ItemHead) -> bool
+pub(crate) fn is_answered(head: &ItemHead) -> bool
     ensures { result ≡ is_answered head.now }
 {
     match head.kind {

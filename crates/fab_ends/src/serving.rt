@@ -1,5 +1,6 @@
 //! A request is whole: its target performs it (fi_rma(3), fi_atomic(3)).
 ghost use Rattle.std.specs.Prelude.{◌≡◌, ◌<◌, ◌≤◌, ◌^◌, true, IsTrue, None, length, slice_index};
+ghost use Rattle.fab_model.specs.Arrivals.{remote_class};
 ghost use Rattle.fab_model.specs.Complete.{reply_head};
 ghost use Rattle.fab_wire.specs.Frames.{IsSound};
 ghost use Rattle.fab_model.specs.Target.{perform};
@@ -7,11 +8,12 @@ ghost use Rattle.fab_cq.specs.Queues.{has_room};
 ghost use Rattle.fab_rma.specs.Serving.{is_request, outcome_at, room_for};
 ghost use Rattle.fab_tx.specs.Transit.{booking};
 ghost use Rattle.fab_ends.specs.Ends.{written_if};
-ghost use Rattle.fab_ends.specs.Served.{data_of, reply_of, served, writes_data};
+ghost use Rattle.fab_ends.specs.Served.{counted, data_of, reply_of, served, writes_data};
 
 use crate::calls::OfNoCall;
-use fab_base::{Ack, Entry, Item, ItemHead, Kind, Outcome, Taken};
-use fab_cq::Queue;
+use crate::ending::is_answered;
+use fab_base::{Ack, Class, Entry, Item, ItemHead, Kind, Outcome, Taken};
+use fab_cq::{Counters, Queue};
 use fab_rma::{Reply, Target};
 use fab_tx::Outbox;
 
@@ -48,6 +50,31 @@ fn data_of(outcome: Outcome, source: u32, head: &ItemHead) -> Option<Taken>
     }
 }
 
+/// What a request counts as at its target (fi_cntr(3)).
+fn remote_class(head: &ItemHead) -> Class
+    ensures { result ≡ remote_class head.now }
+{
+    if is_answered(head) {
+        Class::RemoteRead
+    } else {
+        Class::RemoteWrite
+    }
+}
+
+/// Counts a request with this outcome, where it was done and such `events` count (FI_RMA_EVENT).
+fn count(counters: &mut Counters, outcome: Outcome, events: bool, head: &ItemHead)
+    ensures { counters.new ≡ counted outcome events head.now counters.old }
+{
+    match outcome {
+        Outcome::Done => {
+            if events {
+                counters.count(remote_class(head), true);
+            }
+        }
+        Outcome::BadKey | Outcome::BadAccess | Outcome::BadRange => {}
+    }
+}
+
 /// The reply to a request.
 fn reply_of(head: &ItemHead, done: Reply) -> Item
     requires few { length done.bytes < 2 ^ 32 }
@@ -72,9 +99,17 @@ fn reply_of(head: &ItemHead, done: Reply) -> Item
     }
 }
 
-/// A request is performed, its reply is booked in room that was made for it, and a write with remote data
-/// tells of itself.
-pub fn serve(tx: &mut Outbox, cq: &mut Queue, target: &mut Target, source: u32, item: Item)
+/// A request is performed, its reply is booked in room that was made for it, it counts where such `events` do, and a
+/// write with remote data tells of itself.
+pub fn serve(
+    tx: &mut Outbox,
+    cq: &mut Queue,
+    counters: &mut Counters,
+    target: &mut Target,
+    events: bool,
+    source: u32,
+    item: Item,
+)
     requires peer { source < length tx.old.tx.sent }
     requires room { 0 < slice_index tx.old.rooms source }
     requires source { source < length target.old.rooms }
@@ -85,10 +120,12 @@ pub fn serve(tx: &mut Outbox, cq: &mut Queue, target: &mut Target, source: u32, 
     requires told { writes_data (outcome_at target.old.regions item.head) item.head ≡ true → IsTrue (has_room 1 cq.old) }
     ensures tx { tx.new ≡ booking source (reply_of item.head (perform target.old.regions item.head item.bytes)) tx.old }
     ensures cq { cq.new ≡ written_if None (data_of (outcome_at target.old.regions item.head) source item.head) cq.old }
+    ensures counters { counters.new ≡ counted (outcome_at target.old.regions item.head) events item.head counters.old }
     ensures target { target.new ≡ served source item target.old }
 {
     let Item { head, bytes } = item;
     let done = target.perform(source, &head, bytes.as_slice());
+    count(counters, done.outcome, events, &head);
     if let Some(entry) = data_of(done.outcome, source, &head) {
         cq.write::<(), OfNoCall>(&(), entry);
     }

@@ -1,15 +1,18 @@
 -- A message is accepted, and goes out as far as it may.
-use Rattle.std.proofs.Common.{◌⊎◌, inl, inr, ◌≡◌, ◌≢◌, ◌<◌, ◌≤◌, ◌+◌, ℕ, zero, suc, Bool, true, false, ◌||◌, List, [], ◌∷◌, ◌++◌, length, length-append, get_or-set_same, get_or-set_other, append-nil, Option, Some, None, refl, sym, ap, ◌∙◌, subst, arith}
+use Rattle.std.proofs.Common.{◌⊎◌, inl, inr, ◌≡◌, ◌≢◌, ◌<◌, ◌≤◌, ◌+◌, ℕ, zero, suc, Bool, true, false, ◌&&◌, ◌||◌, List, [], ◌∷◌, ◌++◌, length, length-append, get_or-set_same, get_or-set_other, append-nil, Option, Some, None, refl, sym, ap, ◌∙◌, subst, arith}
 use Rattle.std.specs.Prelude.{slice_index, slice_get}
 use Rattle.std.specs.List.{list_any}
 use Rattle.std.proofs.lemmas.Bool.{cases_eq}
 use Rattle.fab_base.specs.declared.faults.Fault.{Fault}
 use Rattle.fab_base.specs.declared.items.Item.{Item}
+use Rattle.fab_base.specs.declared.operations.Held.{Held as Waiting}
 use Rattle.fab_base.specs.declared.peers.LineResult.TheVariants.{Done}
 use Rattle.fab_wire.specs.Joined.{is_last}
-use Rattle.fab_model.specs.State.{State, accepted_for, lookup}
-use Rattle.fab_model.specs.Sending.{Order, item_of, transmit_fault, transmit, transmit_to, accepting}
+use Rattle.fab_model.specs.State.{State, Transmitting, accepted_for, held_for, lookup}
+use Rattle.fab_model.specs.Sending.{AreFenced, Order, operation_of, is_busy, let_out, transmit_fault, transmit, transmit_to}
 use Rattle.fab_model.specs.Calls.{Transmit, answer, do_call}
+use Rattle.fab_model.proofs.Fences.{waits_has}
+use Rattle.fab_model.proofs.Letting.{going_out, accepts_held, accepts_at_once}
 use Rattle.fab_face.specs.Held.{Held, Lanes, Seen, next_item, next_frame}
 use Rattle.fab_face.specs.Acts.{Act, Did, Took, Posted, Drew, Had, Departs, DoesCall, GoesBy, Ported, Went, is_post}
 use Rattle.fab_face.specs.Answers.{AllAre, SawFull, Sends}
@@ -18,6 +21,7 @@ use Rattle.fab_ep.specs.Tries.{IsTied}
 use Rattle.fab_ep.specs.Sends.{Admits, LetsOut, IsOnly, IsFree}
 use Rattle.fab_ep.proofs.Admitting.{went_as, posts_keep}
 use Rattle.fab_ep.proofs.Pushing.{any_append}
+use Rattle.fab_ep.proofs.Falling.{get_append}
 use Rattle.fab_ep.proofs.Sent.{sent_next}
 use Rattle.fab_ep.proofs.Taking.{placed_next}
 use Rattle.fab_ep.proofs.Turning.{rose_on}
@@ -32,36 +36,49 @@ is_transmitted : (s t : State) (o : Order) → do_call s (Transmit o) ≡ (Done,
 unfolding do_call
 is_transmitted s t o is = done_by (transmit_fault s o) s (transmit s o) t is
 
--- one item joins those accepted for a peer, at most, and nothing is transmitted
+-- ---- what a fence does
+
+-- an operation waits behind those that are held, or where its own fence holds it
+accepts : (busy : Bool) (held : List Waiting) (o : Waiting) → let_out busy held ≡ [] → (let_out busy (held ++ o ∷ []) ≡ []) ⊎ ((held ≡ []) × ((busy && o.fence) ≡ false))
+accepts busy [] o none = elim (by (busy && o.fence) refl) [ inl waits ↦ inl waits | inr free ↦ inr (refl, free) ]
+  where
+    by : (b : Bool) → (busy && o.fence) ≡ b → (let_out busy (o ∷ []) ≡ []) ⊎ ((busy && o.fence) ≡ false)
+    by true is = inl (rw (is, let_out) refl)
+    by false is = inr is
+accepts busy (h ∷ held) o none = (let waits = waits_has busy h held none in inl (rw (waits.0, waits.1) refl))
+
+-- What the machine makes of a transmit call for the peers: nothing is transmitted, and at most one item joins those accepted
+-- for a peer. Where one does, nothing is held back for it.
 pub record Joins (s u : State) : Type 0 where
   pub sent : u.tx.sent ≡ s.tx.sent
-  pub accepted : (d : ℕ) → d < length s.tx.accepted → (more : List Item) × (accepted_for u.tx d ≡ accepted_for s.tx d ++ more) × (length more ≤ 1)
+  pub accepted : (d : ℕ) → d < length s.tx.accepted → (more : List Item) × (accepted_for u.tx d ≡ accepted_for s.tx d ++ more) × ((more ≡ []) ⊎ ((length more ≤ 1) × (held_for u.tx d ≡ [])))
 
-joins_same : (s : State) → Joins s s
-joins_same s = record { sent = refl; accepted = λ d below. ([], sym (append-nil (accepted_for s.tx d)), omega arith) }
+joins_none : (s u : State) → u.tx.sent ≡ s.tx.sent → u.tx.accepted ≡ s.tx.accepted → Joins s u
+joins_none s u sent same = record { sent = sent; accepted = λ d below. ([], rw same (sym (append-nil (accepted_for s.tx d))), inl refl) }
 
-joins_to : (s : State) (o : Order) (t : ℕ) → Joins s (transmit_to t s o)
-unfolding transmit_to accepting
-joins_to s o t = record {
-  sent = refl;
+joins_one : (s u : State) (t : ℕ) (o : Waiting) → held_for s.tx t ≡ [] → u.tx ≡ going_out t o (record s.tx { ops = s.tx.ops + 1 }) → Joins s u
+joins_one s u t o none is = record {
+  sent = ap (λ (x : Transmitting). x.sent) is;
   accepted = λ d below. elim (cases_eq d t) [
-    | inl here ↦ (item_of s.tx.ops o ∷ [], rw here (get_or-set_same s.tx.accepted t (accepted_for s.tx t ++ item_of s.tx.ops o ∷ []) [] (subst (λ n. n < length s.tx.accepted) here below)), omega arith)
-    | inr other ↦ ([], get_or-set_other s.tx.accepted t d (accepted_for s.tx t ++ item_of s.tx.ops o ∷ []) [] other ∙ sym (append-nil (accepted_for s.tx d)), omega arith)
+    | inl here ↦ (o.item ∷ [], rw (here, is) (get_or-set_same s.tx.accepted t (accepted_for s.tx t ++ o.item ∷ []) [] (subst (λ n. n < length s.tx.accepted) here below)), inr (omega arith, rw (here, is) none))
+    | inr other ↦ ([], rw is (get_or-set_other s.tx.accepted t d (accepted_for s.tx t ++ o.item ∷ []) [] other) ∙ sym (append-nil (accepted_for s.tx d)), inl refl)
   ];
 }
 
-joins_by : (s : State) (o : Order) (at : Option ℕ) → lookup s.av o.dest ≡ at → Joins s (transmit s o)
+joins_to : (s : State) (o : Order) (t : ℕ) → AreFenced s.tx → Joins s (transmit_to t s o)
+unfolding transmit_to
+joins_to s o t fenced = elim (accepts (is_busy s.tx t) (held_for s.tx t) (operation_of s o) (fenced t)) [
+  | inl waits ↦ (let is = accepts_held t (operation_of s o) s.tx waits in joins_none s (transmit_to t s o) (ap (λ (x : Transmitting). x.sent) is) (ap (λ (x : Transmitting). x.accepted) is))
+  | inr goes ↦ joins_one s (transmit_to t s o) t (operation_of s o) goes.0 (accepts_at_once t (operation_of s o) s.tx goes.0 goes.1)
+]
+
+joins_by : (s : State) (o : Order) (at : Option ℕ) → AreFenced s.tx → lookup s.av o.dest ≡ at → Joins s (transmit s o)
 unfolding transmit
-joins_by s o None is = rw (is, transmit) (joins_same s)
-joins_by s o (Some t) is = rw (is, transmit) (joins_to s o t)
+joins_by s o None fenced is = rw (is, transmit) (joins_none s s refl refl)
+joins_by s o (Some t) fenced is = rw (is, transmit) (joins_to s o t fenced)
 
-pub joins : (s t : State) (o : Order) → do_call s (Transmit o) ≡ (Done, t) → Joins s t
-joins s t o is = subst (λ (x : State). Joins s x) (sym (is_transmitted s t o is)) (joins_by s o (lookup s.av o.dest) refl)
-
-get_append : {X : Type 0} (xs ys : List X) (k : ℕ) (x : X) → slice_get xs k ≡ Some x → slice_get (xs ++ ys) k ≡ Some x
-get_append [] ys k x is = absurd (cc)
-get_append (y ∷ xs) ys zero x is = is
-get_append (y ∷ xs) ys (suc k) x is = get_append xs ys k x is
+pub joins : (s t : State) (o : Order) → AreFenced s.tx → do_call s (Transmit o) ≡ (Done, t) → Joins s t
+joins s t o fenced is = subst (λ (x : State). Joins s x) (sym (is_transmitted s t o is)) (joins_by s o (lookup s.av o.dest) fenced refl)
 
 past_end : {X : Type 0} (xs : List X) (k : ℕ) → slice_get xs k ≡ None → length xs ≤ k
 past_end [] k is = omega arith
@@ -74,15 +91,18 @@ next_stays s u d item below j is =
     let more = j.accepted d below in
     rw (j.sent, more.1) (get_append (accepted_for s.tx d) more.0 (slice_index s.tx.sent d) item is)
 
--- where nothing waited, one item waits at most
+-- where nothing waited, one item waits at most, with nothing held back behind it
 pub only_one : (h t : Held) (d : ℕ) → d < length h.state.tx.accepted → Joins h.state t.state → next_item h.state d ≡ None → IsOnly t d
 only_one h t d below j none =
     let more = j.accepted d below in
-    let end = past_end (accepted_for h.state.tx d) (slice_index h.state.tx.sent d) none in
-    let sent = ap (λ xs. slice_index xs d) j.sent in
-    let l = ap length more.1 ∙ length-append (accepted_for h.state.tx d) more.0 in
-    let few = more.2 in
-    omega (arith, end, sent, l, few)
+    elim more.2 [
+      | inl same ↦ inl (rw (j.sent, more.1, same, append-nil (accepted_for h.state.tx d)) none)
+      | inr one ↦
+          let end = past_end (accepted_for h.state.tx d) (slice_index h.state.tx.sent d) none in
+          let sent = ap (λ xs. slice_index xs d) j.sent in
+          let l = ap length more.1 ∙ length-append (accepted_for h.state.tx d) more.0 in
+          inr (omega (arith, end, sent, l, one.0), one.1)
+    ]
 
 -- ---- between calls
 
@@ -118,9 +138,9 @@ module _ {Home : Type 0} where
     taken = λ s lt. (let below : s < a.lanes.peers = subst (λ (x : Lanes Home). s < x.peers) lanes lt in rw (lanes, begun) (tied.taken s below));
   }
 
-  pub tied_accepted : (a b : Seen Home) (o : Order) → IsTied a → length a.held.state.tx.accepted ≡ length a.held.places → DoesCall (Some (Transmit o)) a.held b.held → b.log ≡ a.log → b.log_size ≡ a.log_size → b.lanes ≡ a.lanes → IsTied b
-  tied_accepted a b o tied all does log size lanes =
-      tied_did a b tied (λ d item lt is. next_stays a.held.state b.held.state d item (let p = tied.peers in omega (arith, lt, all, p)) (joins a.held.state b.held.state o does.0) is)
+  pub tied_accepted : (a b : Seen Home) (o : Order) → IsTied a → AreFenced a.held.state.tx → length a.held.state.tx.accepted ≡ length a.held.places → DoesCall (Some (Transmit o)) a.held b.held → b.log ≡ a.log → b.log_size ≡ a.log_size → b.lanes ≡ a.lanes → IsTied b
+  tied_accepted a b o tied fenced all does log size lanes =
+      tied_did a b tied (λ d item lt is. next_stays a.held.state b.held.state d item (let p = tied.peers in omega (arith, lt, all, p)) (joins a.held.state b.held.state o fenced does.0) is)
       (ap (λ (h : Held). h.places) does.1) (ap (λ (h : Held). h.begun) does.1) (rw (log, size) tied.within) size lanes
 
   -- ---- the whole call
@@ -136,7 +156,7 @@ module _ {Home : Type 0} where
       let goes = did.goes in
       let does : DoesCall (Some (Transmit o)) m.held goes.0 = goes.1 in
       let to : goes.0 ≡ e.held = goes.2 in
-      subst (λ (x : Held). IsOnly x t) to (only_one m.held goes.0 t free.listed (joins m.held.state goes.0.state o does.0) free.free)
+      subst (λ (x : Held). IsOnly x t) to (only_one m.held goes.0 t free.listed (joins m.held.state goes.0.state o free.fenced does.0) free.free)
 
   pub sends_out : (fixed : Bool) (o : Order) (a m e b : Seen Home) (dest t : ℕ) → Admits (Transmit o) a m → IsFree m dest t → Went (Some (Transmit o)) m e (Did ∷ []) → e.pushed ≡ m.pushed → LetsOut fixed e b t → Sends fixed (Transmit o) dest a b
   sends_out fixed o a m e b dest t admits free did same out =

@@ -45,9 +45,9 @@ early_by false false true b4 most s after why is last = (let e : Invalid ≡ why
 early_by false false false true most s after why is last = (let e : Again (TxFull most) ≡ why = cc in absurd (cc (rw (← e) at last)))
 early_by false false false false most s after why is last = absurd (cc)
 
-pub final_is : (s : State) (o : Order) → (b : Bool) × ((t : State) → t.caps ≡ s.caps → t.av ≡ s.av → t.tx.ops ≡ s.tx.ops → is_final (do_call t (Transmit o)).0 ≡ b)
+pub final_is : (s : State) (o : Order) → (b : Bool) × ((t : State) → t.caps ≡ s.caps → t.av ≡ s.av → t.most_message ≡ s.most_message → t.tx.ops ≡ s.tx.ops → is_final (do_call t (Transmit o)).0 ≡ b)
 unfolding do_call transmit_fault
-final_is s o = (is_final (do_call s (Transmit o)).0, λ t caps av ops. final_by _ _ _ _ t.most_tx t (transmit t o) ∙ rw (caps, av, ops) refl ∙ sym (final_by _ _ _ _ s.most_tx s (transmit s o)))
+final_is s o = (is_final (do_call s (Transmit o)).0, λ t caps av message ops. final_by _ _ _ _ t.most_tx t (transmit t o) ∙ rw (caps, av, message, ops) refl ∙ sym (final_by _ _ _ _ s.most_tx s (transmit s o)))
 
 pub full_is : (s : State) (o : Order) → is_final (do_call s (Transmit o)).0 ≡ false → nat_le s.most_tx (in_use s.tx) ≡ true → do_call s (Transmit o) ≡ (Refused (Again (TxFull s.most_tx)), s)
 unfolding do_call transmit_fault
@@ -64,19 +64,20 @@ pub record SameTests (s t : State) : Type 0 where
   pub av : t.av ≡ s.av
   pub ops : t.tx.ops ≡ s.tx.ops
   pub most : t.most_tx ≡ s.most_tx
+  pub message : t.most_message ≡ s.most_message
 
 after_departs : (last : Bool) (h t : Held) (d place : ℕ) → Departs last h d place t → SameTests h.state t.state
-after_departs true h t d place (room, is) = rw is (let k = keeps_sent h.state d in record { caps = k.caps; av = k.av; ops = sent_ops h.state d; most = k.most })
-after_departs false h t d place is = rw is (record { caps = refl; av = refl; ops = refl; most = refl })
+after_departs true h t d place (room, is) = rw is (let k = keeps_sent h.state d in record { caps = k.caps; av = k.av; ops = sent_ops h.state d; most = k.most; message = k.message })
+after_departs false h t d place is = rw is (record { caps = refl; av = refl; ops = refl; most = refl; message = refl })
 
 pub posts_keep : (call : Option Call) (acts : List Act) (h k : Held) → AllAre is_post acts → GoesBy call h acts k → SameTests h.state k.state
-posts_keep call [] h k are goes = subst (λ (x : Held). SameTests h.state x.state) goes (record { caps = refl; av = refl; ops = refl; most = refl })
+posts_keep call [] h k are goes = subst (λ (x : Held). SameTests h.state x.state) goes (record { caps = refl; av = refl; ops = refl; most = refl; message = refl })
 posts_keep call (Did ∷ acts) h k are goes = absurd (cc)
 posts_keep call (Took source f ∷ acts) h k are goes = absurd (cc)
 posts_keep call (Posted d f ∷ acts) h k are (mid, one, rest) =
     let first = after_departs (is_last f.head) h mid d (f.head.from + f.head.len) one.3 in
     let then = posts_keep call acts mid k are rest in
-    record { caps = then.caps ∙ first.caps; av = then.av ∙ first.av; ops = then.ops ∙ first.ops; most = then.most ∙ first.most }
+    record { caps = then.caps ∙ first.caps; av = then.av ∙ first.av; ops = then.ops ∙ first.ops; most = then.most ∙ first.most; message = then.message ∙ first.message }
 posts_keep call (Drew ∷ acts) h k are goes = absurd (cc)
 posts_keep call (Had ∷ acts) h k are goes = absurd (cc)
 
@@ -84,7 +85,7 @@ pub still_final : (o : Order) (acts : List Act) (h k : Held) → AllAre is_post 
 still_final o acts h k are goes =
     let same = posts_keep None acts h k are goes in
     let final = final_is h.state o in
-    final.1 k.state same.caps same.av same.ops ∙ sym (final.1 h.state refl refl refl)
+    final.1 k.state same.caps same.av same.message same.ops ∙ sym (final.1 h.state refl refl refl refl)
 
 -- a call is part of none of these acts
 pub goes_as : (call : Option Call) (acts : List Act) (h k : Held) → AllAre is_post acts → GoesBy None h acts k → GoesBy call h acts k

@@ -67,10 +67,11 @@ drew_shorter h k goes = subst (λ (x : Held). length x.state.rx.unexpected < len
 pub record SameGrounds (s t : State) : Type 0 where
   pub caps : t.caps ≡ s.caps
   pub av : t.av ≡ s.av
+  pub message : t.most_message ≡ s.most_message
   pub claimed : t.rx.claimed ≡ s.rx.claimed
 
 same_grounds : (s : State) → SameGrounds s s
-same_grounds s = record { caps = refl; av = refl; claimed = refl }
+same_grounds s = record { caps = refl; av = refl; message = refl; claimed = refl }
 
 grounds_option : {X : Type 0} (s : State) (o : Option X) (some : X → State) → ((x : X) → SameGrounds s (some x)) → SameGrounds s (elim o [ None ↦ s | Some x ↦ some x ])
 grounds_option s None some f = same_grounds s
@@ -78,24 +79,24 @@ grounds_option s (Some x) some f = f x
 
 grounds_give : (r : Receive) (place : ℕ) (a : Arrival) (s : State) → SameGrounds s (release r (give r place a s))
 unfolding release_multi give fill book reply
-grounds_give r place a s = record { caps = grind rules; av = grind rules; claimed = grind rules }
+grounds_give r place a s = record { caps = grind rules; av = grind rules; message = grind rules; claimed = grind rules }
 
 grounds_draw : (s : State) → SameGrounds s (do_draw s)
 unfolding do_draw
 grounds_draw s = grounds_option s (find (draws s.rx.unexpected) s.rx.posted) _ (λ r.
     grounds_option s (find (takes r.want) s.rx.unexpected) _ (λ a.
     let given = grounds_give r r.used a (with_rx (without_first r.want (seating a.head.total r s.rx.unexpected s.rx)) s) in
-    record { caps = given.caps; av = given.av; claimed = given.claimed }))
+    record { caps = given.caps; av = given.av; message = given.message; claimed = given.claimed }))
 
 pub grounds_draws : (acts : List Act) (h k : Held) → AllAre is_draw acts → GoesBy None h acts k → SameGrounds h.state k.state
-grounds_draws [] h k are goes = subst (λ (x : Held). SameGrounds h.state x.state) goes (record { caps = refl; av = refl; claimed = refl })
+grounds_draws [] h k are goes = subst (λ (x : Held). SameGrounds h.state x.state) goes (record { caps = refl; av = refl; message = refl; claimed = refl })
 grounds_draws (Did ∷ acts) h k are goes = absurd (cc)
 grounds_draws (Took source f ∷ acts) h k are goes = absurd (cc)
 grounds_draws (Posted d f ∷ acts) h k are goes = absurd (cc)
 grounds_draws (Drew ∷ acts) h k are (mid, one, rest) =
     let first : SameGrounds h.state mid.state = subst (λ (x : Held). SameGrounds h.state x.state) (sym one.2) (grounds_draw h.state) in
     let then = grounds_draws acts mid k are rest in
-    record { caps = then.caps ∙ first.caps; av = then.av ∙ first.av; claimed = then.claimed ∙ first.claimed }
+    record { caps = then.caps ∙ first.caps; av = then.av ∙ first.av; message = then.message ∙ first.message; claimed = then.claimed ∙ first.claimed }
 grounds_draws (Had ∷ acts) h k are goes = absurd (cc)
 
 -- a call is part of no draw

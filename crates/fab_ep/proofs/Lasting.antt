@@ -76,16 +76,16 @@ claimed_last false false true b4 c4 cq cq' s t after after' why is last = (let e
 claimed_last false false false true c4 cq cq' s t after after' why is last = (let first = ap (λ x. x.0) is in let e : Again (CqFull cq) ≡ why = cc in absurd (cc (rw (← e) at last)))
 claimed_last false false false false c4 cq cq' s t after after' why is last = absurd (cc (ap (λ x. x.0) is))
 
-claimed_same : (b1 b2 b3 b4 c1 c3 c4 : Bool) (cq cq' : ℕ) (s t after after' : State) (why : Fault) → c1 ≡ b1 → c3 ≡ b3
+claimed_same : (b1 b2 b3 b4 c1 c2 c3 c4 : Bool) (cq cq' : ℕ) (s t after after' : State) (why : Fault) → c1 ≡ b1 → c2 ≡ b2 → c3 ≡ b3
     → answer (first_fault ((b1, NotSupported) ∷ (b2, MsgSize) ∷ (b3, NoEntry) ∷ (b4, Again (CqFull cq)) ∷ [])) s after ≡ (Refused why, s) → is_final (Refused why) ≡ true
-    → answer (first_fault ((c1, NotSupported) ∷ (b2, MsgSize) ∷ (c3, NoEntry) ∷ (c4, Again (CqFull cq')) ∷ [])) t after' ≡ (Refused why, t)
-claimed_same b1 b2 b3 b4 c1 c3 c4 cq cq' s t after after' why e1 e3 is last = rw (e1, e3) (claimed_last b1 b2 b3 b4 c4 cq cq' s t after after' why is last)
+    → answer (first_fault ((c1, NotSupported) ∷ (c2, MsgSize) ∷ (c3, NoEntry) ∷ (c4, Again (CqFull cq')) ∷ [])) t after' ≡ (Refused why, t)
+claimed_same b1 b2 b3 b4 c1 c2 c3 c4 cq cq' s t after after' why e1 e2 e3 is last = rw (e1, e2, e3) (claimed_last b1 b2 b3 b4 c4 cq cq' s t after after' why is last)
 
 -- ---- by the calls
 
 pub posts_last : (p : Posting) → Lasts (Post p)
 unfolding do_call post_fault
-posts_last p = λ s t same. posted_final _ _ _ _ _ _ _ t (post t p) ∙ rw (same.caps, same.av) refl ∙ sym (posted_final _ _ _ _ _ _ _ s (post s p))
+posts_last p = λ s t same. posted_final _ _ _ _ _ _ _ t (post t p) ∙ rw (same.caps, same.av, same.message) refl ∙ sym (posted_final _ _ _ _ _ _ _ s (post s p))
 
 pub posts_early : (p : Posting) → IsEarly (Post p)
 unfolding do_call post_fault
@@ -102,22 +102,22 @@ looks_early l = λ s why is last. looked_early _ _ _ _ s (look l.how (want_of s 
 
 pub takes_last : (buf : List ℕ) (ctx : ℕ) → Lasts (TakeClaimed buf ctx)
 unfolding do_call claimed_fault
-takes_last buf ctx = λ s t same. claimed_final _ _ _ _ _ t (take_claimed t buf ctx) ∙ rw (same.caps, same.claimed) refl ∙ sym (claimed_final _ _ _ _ _ s (take_claimed s buf ctx))
+takes_last buf ctx = λ s t same. claimed_final _ _ _ _ _ t (take_claimed t buf ctx) ∙ rw (same.caps, same.message, same.claimed) refl ∙ sym (claimed_final _ _ _ _ _ s (take_claimed s buf ctx))
 
 pub takes_persist : (buf : List ℕ) (ctx : ℕ) → Persists (TakeClaimed buf ctx)
 unfolding do_call claimed_fault
 takes_persist buf ctx = λ s t why same is last.
-    claimed_same (not (may_receive s true)) (nat_lt 16_777_216 (length buf)) (is_none (claim_of ctx s)) (lacks_room s (take_claimed s buf ctx)) (not (may_receive t true)) (is_none (claim_of ctx t)) (lacks_room t (take_claimed t buf ctx))
-    s.cq.size t.cq.size s t (take_claimed s buf ctx) (take_claimed t buf ctx) why (rw same.caps refl) (rw same.claimed refl) is last
+    claimed_same (not (may_receive s true)) (nat_lt s.most_message (length buf)) (is_none (claim_of ctx s)) (lacks_room s (take_claimed s buf ctx)) (not (may_receive t true)) (nat_lt t.most_message (length buf)) (is_none (claim_of ctx t)) (lacks_room t (take_claimed t buf ctx))
+    s.cq.size t.cq.size s t (take_claimed s buf ctx) (take_claimed t buf ctx) why (rw same.caps refl) (rw same.message refl) (rw same.claimed refl) is last
 
 pub drops_last : (ctx : ℕ) → Lasts (DropClaimed ctx)
 unfolding do_call claimed_fault
 drops_last ctx = λ s t same.
-    claimed_final (not (may_receive t true)) false (is_none (claim_of ctx t)) (lacks_room t (drop_claimed t ctx)) t.cq.size t (drop_claimed t ctx) ∙ rw (same.caps, same.claimed) refl
-    ∙ sym (claimed_final (not (may_receive s true)) false (is_none (claim_of ctx s)) (lacks_room s (drop_claimed s ctx)) s.cq.size s (drop_claimed s ctx))
+    claimed_final (not (may_receive t true)) (nat_lt t.most_message 0) (is_none (claim_of ctx t)) (lacks_room t (drop_claimed t ctx)) t.cq.size t (drop_claimed t ctx) ∙ rw (same.caps, same.message, same.claimed) refl
+    ∙ sym (claimed_final (not (may_receive s true)) (nat_lt s.most_message 0) (is_none (claim_of ctx s)) (lacks_room s (drop_claimed s ctx)) s.cq.size s (drop_claimed s ctx))
 
 pub drops_persist : (ctx : ℕ) → Persists (DropClaimed ctx)
 unfolding do_call claimed_fault
 drops_persist ctx = λ s t why same is last.
-    claimed_same (not (may_receive s true)) false (is_none (claim_of ctx s)) (lacks_room s (drop_claimed s ctx)) (not (may_receive t true)) (is_none (claim_of ctx t)) (lacks_room t (drop_claimed t ctx))
-    s.cq.size t.cq.size s t (drop_claimed s ctx) (drop_claimed t ctx) why (rw same.caps refl) (rw same.claimed refl) is last
+    claimed_same (not (may_receive s true)) (nat_lt s.most_message 0) (is_none (claim_of ctx s)) (lacks_room s (drop_claimed s ctx)) (not (may_receive t true)) (nat_lt t.most_message 0) (is_none (claim_of ctx t)) (lacks_room t (drop_claimed t ctx))
+    s.cq.size t.cq.size s t (drop_claimed s ctx) (drop_claimed t ctx) why (rw same.caps refl) (rw same.message refl) (rw same.claimed refl) is last

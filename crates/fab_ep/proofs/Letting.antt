@@ -1,5 +1,5 @@
 -- What goes out at once of an item that was just accepted.
-use Rattle.std.proofs.Common.{inl, inr, ◌≡◌, ◌≢◌, ◌<◌, ◌≤◌, ◌+◌, ℕ, Bool, true, false, ◌||◌, List, [], ◌∷◌, ◌++◌, length, get_or-set_same, append-nil, Option, Some, None, Result, Ok, Err, refl, sym, ap, ◌∙◌, subst, arith}
+use Rattle.std.proofs.Common.{inl, inr, ◌≡◌, ◌≢◌, ◌<◌, ◌≤◌, ◌+◌, ℕ, Bool, true, false, ◌||◌, List, [], ◌∷◌, ◌++◌, length, get_or-set_same, append-nil, Option, Some, None, Result, Ok, Err, refl, sym, ap, ◌∙◌, subst}
 use Rattle.std.specs.Prelude.{slice_index, OnErr}
 use Rattle.std.specs.List.{list_any}
 use Rattle.std.proofs.lemmas.Grind.{flat_map-append}
@@ -9,7 +9,7 @@ use Rattle.std.proofs.lemmas.Option.{slice_get_past}
 use Rattle.fab_base.specs.declared.faults.NoMemory.{NoMemory}
 use Rattle.fab_base.specs.declared.frames.Frame.{Frame}
 use Rattle.fab_wire.specs.Joined.{is_last}
-use Rattle.fab_model.specs.State.{accepted_for}
+use Rattle.fab_model.specs.State.{State, Transmitting, accepted_for, held_for}
 use Rattle.fab_model.specs.Sending.{do_sent}
 use Rattle.fab_face.specs.declared.events.Event.TheVariants.{Sent as Transmitted}
 use Rattle.fab_face.specs.Held.{Held, Seen, next_item, next_frame}
@@ -22,26 +22,27 @@ use Rattle.fab_ep.specs.Tries.{PostsOut, has_moved, left_for}
 use Rattle.fab_ep.specs.Sends.{IsOnly, LetsOutOne, LetsOut}
 use Rattle.fab_ep.proofs.Posting.{other_peer}
 use Rattle.fab_ep.proofs.Pushing.{or_true, or_false, any_append}
-use Rattle.fab_ep.proofs.Sent.{sent_accepted, sent_sent}
+use Rattle.fab_ep.proofs.Sent.{transmitting_parts, sent_alone, sent_sent}
 use Rattle.fab_ep.proofs.Turning.{went_calm, full_on}
 use Rattle.fab_ep.proofs.Falling.{left_falls}
-use Rattle.fab_face.specs.Held.{IsOut}
+use Rattle.fab_face.specs.Machine.{IsSteady}
 
 -- ---- the last frame of the only item
 
-none_waits : (last : Bool) (h t : Held) (d place : ℕ) → IsOnly h d → d < length h.state.tx.sent → Departs last h d place t → last ≡ true → next_item t.state d ≡ None
-none_waits true h t d place one in_sent (room, at) is =
-    let accepted = sent_accepted h.state d in
-    let sent : slice_index (do_sent h.state d).tx.sent d ≡ slice_index h.state.tx.sent d + 1 = rw (sent_sent h.state d) (get_or-set_same h.state.tx.sent d (slice_index h.state.tx.sent d + 1) 0 in_sent) in
-    rw (at, accepted, sent) (slice_get_past (accepted_for h.state.tx d) (slice_index h.state.tx.sent d + 1) one)
-none_waits false h t d place one in_sent departs is = absurd (cc)
+none_then : (s : State) (d : ℕ) → length (accepted_for s.tx d) ≤ slice_index s.tx.sent d + 1 → held_for s.tx d ≡ [] → d < length s.tx.sent → next_item (do_sent s d) d ≡ None
+none_then s d few none in_sent =
+    let accepted : (do_sent s d).tx.accepted ≡ s.tx.accepted = ap (λ (tx : Transmitting). tx.accepted) (sent_alone s d none) ∙ (transmitting_parts d s.tx).0 in
+    let sent : slice_index (do_sent s d).tx.sent d ≡ slice_index s.tx.sent d + 1 = rw (sent_sent s d) (get_or-set_same s.tx.sent d (slice_index s.tx.sent d + 1) 0 in_sent) in
+    rw (accepted, sent) (slice_get_past (accepted_for s.tx d) (slice_index s.tx.sent d + 1) few)
 
-still_only : (last : Bool) (h t : Held) (d place : ℕ) → IsOnly h d → d < length h.state.tx.sent → Departs last h d place t → IsOnly t d
-still_only true h t d place one in_sent (room, at) =
-    let accepted = sent_accepted h.state d in
-    let sent : slice_index (do_sent h.state d).tx.sent d ≡ slice_index h.state.tx.sent d + 1 = rw (sent_sent h.state d) (get_or-set_same h.state.tx.sent d (slice_index h.state.tx.sent d + 1) 0 in_sent) in
-    rw (at, accepted, sent) (omega (arith, one))
-still_only false h t d place one in_sent at = rw at one
+none_waits : (last : Bool) (h t : Held) (d place : ℕ) → IsOnly h d → next_item h.state d ≢ None → d < length h.state.tx.sent → Departs last h d place t → last ≡ true → next_item t.state d ≡ None
+none_waits true h t d place (inl none) some in_sent departs is = absurd (some none)
+none_waits true h t d place (inr (few, none)) some in_sent (room, at) is = rw at (none_then h.state d few none in_sent)
+none_waits false h t d place one some in_sent departs is = absurd (cc)
+
+still_only : (last : Bool) (h t : Held) (d place : ℕ) → IsOnly h d → next_item h.state d ≢ None → d < length h.state.tx.sent → Departs last h d place t → IsOnly t d
+still_only true h t d place one some in_sent departs = inl (none_waits true h t d place one some in_sent departs refl)
+still_only false h t d place one some in_sent at = rw at one
 
 some_frame : (o : Option Frame) (f : Frame) → o ≡ Some f → o ≢ None
 some_frame o f is none = absurd (cc (rw is at none))
@@ -75,10 +76,10 @@ module _ {Home : Type 0} where
     place = λ some. place;
   }
 
-  place_after : (last : Bool) (e e1 : Seen Home) (d : ℕ) (f : Frame) → is_last f.head ≡ last → IsOnly e.held d → d < length e.held.state.tx.sent → Departs last e.held d (f.head.from + f.head.len) e1.held
+  place_after : (last : Bool) (e e1 : Seen Home) (d : ℕ) (f : Frame) → is_last f.head ≡ last → IsOnly e.held d → next_item e.held.state d ≢ None → d < length e.held.state.tx.sent → Departs last e.held d (f.head.from + f.head.len) e1.held
       → (length e.log + 1 ≤ e.log_size) → e1.log ≡ e.log ++ only (is_last f.head) (Transmitted d) → e1.log_size ≡ e.log_size → next_frame e1.held d ≢ None → length e1.log + 1 ≤ e1.log_size
-  place_after true e e1 d f is one in_sent departs place log size some = absurd (some (none_next e1.held d (none_waits true e.held e1.held d (f.head.from + f.head.len) one in_sent departs refl)))
-  place_after false e e1 d f is one in_sent departs place log size some =
+  place_after true e e1 d f is one waits in_sent departs place log size some = absurd (some (none_next e1.held d (none_waits true e.held e1.held d (f.head.from + f.head.len) one waits in_sent departs refl)))
+  place_after false e e1 d f is one waits in_sent departs place log size some =
       let same : e1.log ≡ e.log = log ∙ ap (λ b. e.log ++ only b (Transmitted d)) is ∙ append-nil e.log in
       rw (same, size) place
 
@@ -88,6 +89,7 @@ module _ {Home : Type 0} where
       let step : Goes None e.held (Posted d f) goes.0 = goes.1 in
       let to : goes.0 ≡ e1.held = goes.2 in
       let some : next_frame e.held d ≢ None = some_frame (next_frame e.held d) f step.2 in
+      let waits : next_item e.held.state d ≢ None = λ none. some (none_next e.held d none) in
       let departs : Departs (is_last f.head) e.held d (f.head.from + f.head.len) e1.held = subst (λ (x : Held). Departs (is_last f.head) e.held d (f.head.from + f.head.len) x) to step.3 in
       let log : e1.log ≡ e.log ++ only (is_last f.head) (Transmitted d) = went.log ∙ ap (λ es. e.log ++ es) (append-nil (only (is_last f.head) (Transmitted d))) in
       record {
@@ -96,8 +98,8 @@ module _ {Home : Type 0} where
         went = went_then None a e e1 was.acts (Posted d f ∷ []) was.went went;
         pushed = flag ∙ sym (ap (λ b. a.pushed || b) (any_append is_post was.acts (Posted d f ∷ []) ∙ or_true (list_any is_post was.acts)) ∙ or_true a.pushed);
         own = λ k other. flat_map-append (posted_by k) was.acts (Posted d f ∷ []) ∙ rw (was.own k other, other_peer d k other) refl;
-        one = still_only (is_last f.head) e.held e1.held d _ was.one step.1 departs;
-        place = place_after (is_last f.head) e e1 d f refl was.one step.1 departs (was.place some) log went.size;
+        one = still_only (is_last f.head) e.held e1.held d _ was.one waits step.1 departs;
+        place = place_after (is_last f.head) e e1 d f refl was.one waits step.1 departs (was.place some) log went.size;
       }
 
   pub letting_end : (fixed : Bool) (a e e1 : Seen Home) (d : ℕ) → Letting a e d → LetsOutOne fixed e e1 d false → LetsOut fixed a e1 d
@@ -129,8 +131,8 @@ module _ {Home : Type 0} where
   lets_none fixed a b d (Ok t) other posts free same = absurd (other t refl)
   lets_none fixed a b d (Err why) other posts free same = (posts, (λ f next. inr (inr (not_true_out fixed free))), same)
 
-  pub falls_out : (a b : Seen Home) (d : ℕ) (t : Tried) → IsOut a.held → PostsOut a b d (Ok t) → has_moved t ≡ true → left_for b.held d < left_for a.held d
-  falls_out a b d Moved out (f, went) is = left_falls a b d f out went
-  falls_out a b d Nothing out posts is = absurd (cc)
-  falls_out a b d HeldBack out posts is = absurd (cc)
-  falls_out a b d Short out posts is = absurd (cc)
+  pub falls_out : (a b : Seen Home) (d : ℕ) (t : Tried) → IsSteady a.held → PostsOut a b d (Ok t) → has_moved t ≡ true → left_for b.held d < left_for a.held d
+  falls_out a b d Moved steady (f, went) is = left_falls a b d f steady went
+  falls_out a b d Nothing steady posts is = absurd (cc)
+  falls_out a b d HeldBack steady posts is = absurd (cc)
+  falls_out a b d Short steady posts is = absurd (cc)

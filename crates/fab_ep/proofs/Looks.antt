@@ -1,7 +1,7 @@
 -- How looks, and receives and drops of claimed messages, are refused.
 --     looks_ours, takes_ours, drops_ours      their faults are told, or may pass
 use Rattle.std.proofs.Common.{inl, inr, ◌≡◌, ℕ, Bool, true, false, List, [], ◌∷◌, not, refl, subst}
-use Rattle.std.specs.Prelude.{is_none}
+use Rattle.std.specs.Prelude.{is_none, nat_lt}
 use Rattle.fab_base.specs.declared.faults.Fault.{Fault}
 use Rattle.fab_base.specs.declared.faults.Fault.TheVariants.{Again, NotSupported, MsgSize, Invalid, NoEntry}
 use Rattle.fab_base.specs.declared.faults.Busy.TheVariants.{CqFull}
@@ -37,4 +37,4 @@ takes_ours buf ctx = λ s why is. claimed_by _ _ _ _ _ s (take_claimed s buf ctx
 
 pub drops_ours : (ctx : ℕ) → Ours (DropClaimed ctx)
 unfolding do_call claimed_fault
-drops_ours ctx = λ s why is. claimed_by (not (may_receive s true)) false (is_none (claim_of ctx s)) (lacks_room s (drop_claimed s ctx)) s.cq.size s (drop_claimed s ctx) why is
+drops_ours ctx = λ s why is. claimed_by (not (may_receive s true)) (nat_lt s.most_message 0) (is_none (claim_of ctx s)) (lacks_room s (drop_claimed s ctx)) s.cq.size s (drop_claimed s ctx) why is

@@ -183,6 +183,8 @@ open_of e tied is = record {
   coming = is.coming ∙ tied.peers;
   sent = is.sent ∙ tied.peers;
   accepted = is.accepted ∙ tied.peers;
+  held = is.held ∙ tied.peers;
+  fenced = is.fenced;
   under_way = λ s lt. is.under_way s (let p = tied.peers in omega (arith, lt, p));
   items = is.items;
   out = is.out;

@@ -1,16 +1,18 @@
 -- What waits for other peers while one is pushed to.
 use Rattle.std.proofs.Common.{inl, inr, ◌≡◌, ◌≢◌, ◌<◌, ◌+◌, ◌-◌, ℕ, Bool, true, false, ◌||◌, List, [], ◌∷◌, ◌++◌, length, length-append, get_or-set_other, cond, Option, Some, None, Result, Ok, Err, refl, sym, ap, ◌∙◌, subst, arith, rules}
 use Rattle.std.specs.Prelude.{find, slice_index}
+use Rattle.std.specs.Option.{option_or}
 use Rattle.std.specs.List.{list_any}
-use Rattle.std.proofs.lemmas.List.Folds.{list_all-append}
+use Rattle.std.proofs.lemmas.List.Folds.{list_all-append, find-append}
 use Rattle.std.proofs.lemmas.Bool.{and_from, cases_eq}
 use Rattle.std.proofs.lemmas.Bool.Decides.{nat_tests}
 use Rattle.fab_base.specs.declared.faults.NoMemory.{NoMemory}
 use Rattle.fab_base.specs.declared.items.Outcome.TheVariants.{Done}
+use Rattle.fab_base.specs.declared.operations.Held.{Held as Waiting}
 use Rattle.fab_base.specs.declared.operations.Operation.{Operation}
 use Rattle.fab_model.specs.Matching.{remove_first}
-use Rattle.fab_model.specs.State.{State, Completions, Transmitting, fits, with_tx}
-use Rattle.fab_model.specs.Sending.{ending, is_of_item, transmitting, end_with, do_sent}
+use Rattle.fab_model.specs.State.{State, Completions, Transmitting, accepted_for, held_for, fits, with_tx}
+use Rattle.fab_model.specs.Sending.{ending, is_busy, let_out, operations_from, letting_out, going_on, is_of_item, transmitting, end_with, do_sent}
 use Rattle.fab_wire.specs.Joined.{is_last}
 use Rattle.fab_face.specs.Held.{Held, Seen, next_frame}
 use Rattle.fab_face.specs.Acts.{Act, Went, Departs, is_post}
@@ -20,7 +22,8 @@ use Rattle.fab_face.proofs.Joining.{ported_same}
 use Rattle.fab_ep.specs.declared.endpoint.Tried.{Tried}
 use Rattle.fab_ep.specs.declared.endpoint.Tried.TheVariants.{Moved, Nothing, Held as HeldBack, Short}
 use Rattle.fab_ep.specs.Tries.{Calm, TriesOut, PushedTo, Pushed, Pushes, HeldStays, IsTried}
-use Rattle.fab_ep.proofs.Sent.{sent_is_none, sent_is_some, sent_next, keeps_sent}
+use Rattle.fab_ep.proofs.Posting.{other_peer}
+use Rattle.fab_ep.proofs.Sent.{on_as, sent_on, sent_is_none, sent_is_some, sent_next, keeps_sent}
 use Rattle.fab_ep.proofs.Turning.{full_on}
 use Rattle.fab_ep.proofs.Pushing.{or_false, or_assoc, any_append}
 
@@ -37,9 +40,29 @@ found_still t p k q (o ∷ live) other = by (is_of_item t p o) refl (found_still
     by true is more = rw (is, remove_first, unlike t p k q o other is) refl
     by false is more = rw (is, remove_first) (ap (λ x. cond (is_of_item k q o) (Some o) x) more)
 
-ending_still : (tx : Transmitting) (t k : ℕ) → k ≢ t → ending k (transmitting t tx) ≡ ending k tx
+transmitting_still : (tx : Transmitting) (t k : ℕ) → k ≢ t → ending k (transmitting t tx) ≡ ending k tx
 unfolding transmitting
-ending_still tx t k other = rw (get_or-set_other tx.sent t k (slice_index tx.sent t + 1) 0 other) (found_still t (slice_index tx.sent t) k (slice_index tx.sent k) tx.live other)
+transmitting_still tx t k other = rw (get_or-set_other tx.sent t k (slice_index tx.sent t + 1) 0 other) (found_still t (slice_index tx.sent t) k (slice_index tx.sent k) tx.live other)
+
+none_of : (t k q place : ℕ) (out : List Waiting) → k ≢ t → find (is_of_item k q) (operations_from t place out) ≡ None
+none_of t k q place [] other = refl
+none_of t k q place (o ∷ out) other = rw (other_peer t k other) (none_of t k q (place + 1) out other)
+
+or_that : (o : Option Operation) → option_or o None ≡ o
+or_that None = refl
+or_that (Some o) = refl
+
+going_still : (tx : Transmitting) (t k : ℕ) → k ≢ t → ending k (going_on t tx) ≡ ending k tx
+unfolding letting_out
+going_still tx t k other =
+    let out = let_out (is_busy tx t) (held_for tx t) in
+    find-append (is_of_item k (slice_index tx.sent k)) tx.live (operations_from t (length (accepted_for tx t)) out)
+    ∙ ap (option_or (ending k tx)) (none_of t k (slice_index tx.sent k) (length (accepted_for tx t)) out other) ∙ or_that (ending k tx)
+
+ending_still : (tx : Transmitting) (t k : ℕ) → k ≢ t → ending k (sent_on t tx) ≡ ending k tx
+ending_still tx t k other =
+    let still = transmitting_still tx t k other in
+    on_as (λ next. ending k next ≡ ending k tx) t tx still (going_still (transmitting t tx) t k other ∙ still)
 
 -- ---- how many entries a Sent writes
 
@@ -69,7 +92,7 @@ longer_sent s t = by (ending t s.tx) refl
   where
     by : (o : Option Operation) → ending t s.tx ≡ o → Longer (writes (ending t s.tx)) s (do_sent s t)
     by None is = rw (is, sent_is_none s t is) (record { read = refl; size = refl; count = omega arith })
-    by (Some o) is = rw (is, sent_is_some s t o is) (let l = longer_end o (with_tx (transmitting t s.tx) s) in record { read = l.read; size = l.size; count = l.count })
+    by (Some o) is = rw (is, sent_is_some s t o is) (let l = longer_end o (with_tx (going_on t (transmitting t s.tx)) s) in record { read = l.read; size = l.size; count = l.count })
 
 lacks : (cq : Completions) → fits cq ≡ false → cq.size < length cq.written - cq.taken_out
 lacks cq is = grind (arith, nat_tests, is)

@@ -4,8 +4,8 @@ use Rattle.std.specs.Prelude.{◌≡◌, ◌≢◌, ℕ, ◌+◌, ◌≤◌, ◌
 use Rattle.std.specs.List.{list_any}
 use Rattle.fab_base.specs.declared.frames.Frame.{Frame}
 use Rattle.fab_wire.specs.Joined.{is_last}
-use Rattle.fab_model.specs.State.{accepted_for, fits, in_use, lookup}
-use Rattle.fab_model.specs.Sending.{do_sent}
+use Rattle.fab_model.specs.State.{accepted_for, fits, held_for, in_use, lookup}
+use Rattle.fab_model.specs.Sending.{AreFenced, do_sent}
 use Rattle.fab_model.specs.Calls.{Call, do_call}
 use Rattle.fab_face.specs.Held.{Held, Seen, next_item, next_frame}
 use Rattle.fab_face.specs.declared.events.Event.{Event}
@@ -24,9 +24,9 @@ pub record Admits {Home : Type 0} (call : Call) (old new : Seen Home) : Type 0 w
   pub granted : is_final (do_call new.held.state call).0 ≡ false
   pub room : nat_le new.held.state.most_tx (in_use new.held.state.tx) ≡ false
 
--- at most one item waits for the peer
+-- nothing waits for the peer, or one item, behind which no fence holds anything back
 abbrev pub IsOnly : Held → ℕ → Type 0
-IsOnly h d = length (accepted_for h.state.tx d) ≤ slice_index h.state.tx.sent d + 1
+IsOnly h d = (next_item h.state d ≡ None) ⊎ ((length (accepted_for h.state.tx d) ≤ slice_index h.state.tx.sent d + 1) × (held_for h.state.tx d ≡ []))
 
 -- the frame that is next was refused in this call, or is the last one and its entry has no room; a port that takes memory may have lacked it
 abbrev pub IsHeldOut : {Home : Type 0} → Bool → Seen Home → Seen Home → ℕ → Type 0
@@ -47,12 +47,13 @@ pub record LetsOut {Home : Type 0} (fixed : Bool) (old new : Seen Home) (d : ℕ
   pub own : (k : ℕ) → k ≢ d → posted_to k acts ≡ []
   pub held : IsHeldOut fixed old new d
 
--- the peer stands at this index, and nothing waits for it
+-- the peer stands at this index, and no item waits for it but what a fence holds back
 pub record IsFree {Home : Type 0} (e : Seen Home) (index t : ℕ) : Type 0 where
   pub at : lookup e.held.state.av index ≡ Some t
   pub below : t < e.lanes.peers
   pub listed : t < length e.held.state.tx.accepted
   pub free : next_item e.held.state t ≡ None
+  pub fenced : AreFenced e.held.state.tx
 
 abbrev pub logging : {Home : Type 0} → Event → Seen Home → Seen Home
 logging event e = record e { log = e.log ++ event ∷ [] }

@@ -1,7 +1,8 @@
 -- What a step of progress does: one frame posted or taken, or none, and why.
-use Rattle.std.specs.Prelude.{◌≡◌, ◌≢◌, ℕ, ◌+◌, ◌<◌, ◌≤◌, ◌⊎◌, Bool, true, false, ◌||◌, List, [], ◌∷◌, length, Some, None, Result, Ok, Err, count_by, slice_index, drop, ◌-◌}
+use Rattle.std.specs.Prelude.{◌≡◌, ◌≢◌, ℕ, ◌+◌, ◌<◌, ◌≤◌, ◌⊎◌, Bool, true, false, ◌||◌, List, [], ◌∷◌, ◌++◌, length, Some, None, Result, Ok, Err, count_by, slice_index, drop, ◌-◌}
 use Rattle.std.specs.List.{list_any, sum_by}
-use Rattle.fab_model.specs.State.{accepted_for}
+use Rattle.fab_model.specs.State.{accepted_for, held_for}
+use Rattle.fab_model.specs.Sending.{items_of}
 use Rattle.fab_base.specs.declared.faults.NoMemory.{NoMemory}
 use Rattle.fab_base.specs.declared.frames.Frame.{Frame}
 use Rattle.fab_base.specs.declared.items.Item.{Item}
@@ -167,12 +168,12 @@ PushesOn old new d (Ok true) = ((f : Frame) × Went None old new (Posted d f ∷
 PushesOn old new d (Ok false) = CalmOut old new d × IsTried old new d × (new.pushed ≡ old.pushed)
 PushesOn old new d (Err _) = Calm old new × (new.pushed ≡ old.pushed)
 
--- what waits for a peer: a number that falls with each frame posted to it
+-- what waits for a peer, with what a fence holds back for it: a number that falls with each frame posted to it
 abbrev pub left_of : List Item → ℕ → ℕ
 left_of items place = sum_by (λ item. item.head.total + 1) items - place
 
 abbrev pub left_for : Held → ℕ → ℕ
-left_for h d = left_of (drop (slice_index h.state.tx.sent d) (accepted_for h.state.tx d)) (slice_index h.places d)
+left_for h d = left_of (drop (slice_index h.state.tx.sent d) (accepted_for h.state.tx d ++ items_of (held_for h.state.tx d))) (slice_index h.places d)
 
 -- all frames of this peer that may go are posted
 pub record PushedTo {Home : Type 0} (old new : Seen Home) (d : ℕ) (whole : Bool) : Type 0 where

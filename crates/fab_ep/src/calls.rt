@@ -66,6 +66,10 @@ impl<P: Port, C: Machine> Logs for Endpoint<P, C> {
         self.core.awaiting()
     }
 
+    fn deferred(&self) -> u32 {
+        self.core.deferred()
+    }
+
     fn pushed(&self) -> bool {
         self.pushed
     }

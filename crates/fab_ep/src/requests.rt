@@ -50,7 +50,7 @@ impl<P: Port, C: Requesting> Endpoint<P, C> {
     /// Accepts a request whose bytes are copied, and logs the call.
     fn accept_copied(&mut self, request: &Request, bytes: &[u8], compared: &[u8], buf: Option<Buf>)
         requires granted { is_final (do_call self.old.held.state (requesting request.now bytes.now compared.now buf)).0 ≡ false }
-        requires few { min (most_bytes (kind_asked request.now.asked) (is_none request.now.ctx)) (length bytes.now + length compared.now) ≤ 4096 }
+        requires few { (most : ℕ) → min (most_bytes most (kind_asked request.now.asked) (is_none request.now.ctx)) (length bytes.now + length compared.now) ≤ 4096 }
         requires room { nat_le self.old.held.state.most_tx (in_use self.old.held.state.tx) ≡ false }
         requires place { length self.old.log + 1 ≤ self.old.log_size }
         ensures did { Went (Some (requesting request.now bytes.now compared.now buf)) (seen P.Port self.old) (seen P.Port self.new) (Did ∷ []) }
@@ -81,7 +81,7 @@ impl<P: Port, C: Requesting> Endpoint<P, C> {
     /// Accepts a request that was admitted, whose bytes are copied, and posts what may go at once.
     fn go_out(&mut self, request: &Request, bytes: &[u8], compared: &[u8], buf: Option<Buf>)
         requires granted { is_final (do_call self.old.held.state (requesting request.now bytes.now compared.now buf)).0 ≡ false }
-        requires few { min (most_bytes (kind_asked request.now.asked) (is_none request.now.ctx)) (length bytes.now + length compared.now) ≤ 4096 }
+        requires few { (most : ℕ) → min (most_bytes most (kind_asked request.now.asked) (is_none request.now.ctx)) (length bytes.now + length compared.now) ≤ 4096 }
         requires room { nat_le self.old.held.state.most_tx (in_use self.old.held.state.tx) ≡ false }
         requires places { length self.old.log + 2 ≤ self.old.log_size }
         ensures { (first : Seen P.Home) → Admits (requesting request.now bytes.now compared.now buf) first (seen P.Port self.old)
@@ -103,7 +103,7 @@ impl<P: Port, C: Requesting> Endpoint<P, C> {
         compared: &[u8],
         buf: Buf,
     ) -> Result<(), Refused>
-        requires few { min (most_bytes (kind_asked request.now.asked) (is_none request.now.ctx)) (length bytes.now + length compared.now) ≤ 4096 }
+        requires few { (most : ℕ) → min (most_bytes most (kind_asked request.now.asked) (is_none request.now.ctx)) (length bytes.now + length compared.now) ≤ 4096 }
         ensures ok { OnOk result (Sends P.FIXED (requesting request.now bytes.now compared.now (Some buf)) request.now.dest (seen P.Port self.old) (seen P.Port self.new)) }
         ensures err { IfErr result (λ r. (r.buf ≡ buf) × SendsNot P.FIXED (requesting request.now bytes.now compared.now (Some buf)) (seen P.Port self.old) (seen P.Port self.new) r.why) }
     {
@@ -116,7 +116,7 @@ impl<P: Port, C: Requesting> Endpoint<P, C> {
 
     /// Asks for what gives no buffer back.
     fn ask(&mut self, request: &Request, bytes: &[u8]) -> Result<(), Fault>
-        requires few { min (most_bytes (kind_asked request.now.asked) (is_none request.now.ctx)) (length bytes.now + 0) ≤ 4096 }
+        requires few { (most : ℕ) → min (most_bytes most (kind_asked request.now.asked) (is_none request.now.ctx)) (length bytes.now + 0) ≤ 4096 }
         ensures ok { OnOk result (Sends P.FIXED (requesting request.now bytes.now [] None) request.now.dest (seen P.Port self.old) (seen P.Port self.new)) }
         ensures err { IfErr result (λ why. SendsNot P.FIXED (requesting request.now bytes.now [] None) (seen P.Port self.old) (seen P.Port self.new) why) }
     {
@@ -137,6 +137,7 @@ impl<P: Port, C: Requesting> Requests for Endpoint<P, C> {
             imm: None,
             ctx: Some(ctx),
             completion: true,
+            fence: false,
         };
         self.ask_into(&request, &[], &[], buf)
     }
@@ -160,6 +161,7 @@ impl<P: Port, C: Requesting> Requests for Endpoint<P, C> {
             imm,
             ctx: Some(ctx),
             completion: flags.completion,
+            fence: flags.fence,
         };
         self.ask_owned(&request, buf)
     }
@@ -181,6 +183,7 @@ impl<P: Port, C: Requesting> Requests for Endpoint<P, C> {
             imm,
             ctx: None,
             completion: false,
+            fence: false,
         };
         self.ask(&request, bytes)
     }
@@ -206,6 +209,7 @@ impl<P: Port, C: Requesting> Requests for Endpoint<P, C> {
             imm: None,
             ctx: Some(ctx),
             completion: flags.completion,
+            fence: flags.fence,
         };
         self.ask(&request, operand)
     }
@@ -231,6 +235,7 @@ impl<P: Port, C: Requesting> Requests for Endpoint<P, C> {
             imm: None,
             ctx: Some(ctx),
             completion: true,
+            fence: false,
         };
         self.ask_into(&request, operand, &[], result_)
     }
@@ -257,6 +262,7 @@ impl<P: Port, C: Requesting> Requests for Endpoint<P, C> {
             imm: None,
             ctx: Some(ctx),
             completion: true,
+            fence: false,
         };
         self.ask_into(&request, operand, compare, result_)
     }

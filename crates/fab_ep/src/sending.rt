@@ -25,6 +25,7 @@ use fab_link::Port;
 const SILENT: Flags = Flags {
     completion: false,
     level: Level::Inject,
+    fence: false,
 };
 
 impl<P: Port, C: Machine> Endpoint<P, C> {

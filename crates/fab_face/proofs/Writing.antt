@@ -22,12 +22,12 @@ use Rattle.fab_base.specs.declared.items.Want.{Want}
 use Rattle.fab_model.specs.Calls.{Call, Transmit, Post, Look, TakeClaimed, DropClaimed, Cancel, CancelFirst, Insert, Remove, Reg, Close, Put, Show, Count, do_call, answer, insert, remove, reg, close, put}
 use Rattle.fab_model.specs.State.{State, Completions, called, coming_from, lookup, with_rx, with_tx, write, count, under_way}
 use Rattle.fab_model.specs.Complete.{fill, release, release_multi, let_go, is_made_by, reply, book, at_delivery, at_either, at_match}
-use Rattle.fab_model.specs.Sending.{Order, do_sent, do_answer, end_with, ending, transmitting, answering, is_answered_by, refusal_of, class_of, transmit, transmit_to}
+use Rattle.fab_model.specs.Sending.{Order, do_sent, do_answer, end_with, ending, transmitting, going_on, answering, is_answered_by, refusal_of, class_of, transmit, transmit_to}
 use Rattle.fab_model.specs.Receiving.{Posting, draws, give, without_first, receive_of, taken_by, post, drop_arrival, look, look_at, take_claimed, taking, claim_of, without_claim, drop_claimed, cancel, cancellable, without_posted, want_of}
 use Rattle.fab_model.specs.Matching.{takes}
 use Rattle.fab_base.specs.declared.operations.Written.{Written}
 use Rattle.fab_model.specs.Target.{perform}
-use Rattle.fab_model.specs.Arrivals.{do_head, do_draw, seating, keeping, remote_data, with_regions, do_request, tail_to, made_whole, do_tail}
+use Rattle.fab_model.specs.Arrivals.{do_head, do_draw, seating, keeping, remote_class, remote_data, remote_event, with_regions, do_request, tail_to, made_whole, do_tail}
 use Rattle.fab_face.specs.Acts.{headed}
 
 -- ---- at most n entries are written, and none is read
@@ -115,7 +115,7 @@ adds_end outcome bytes o s =
 adds_answer : (s : State) (source : ℕ) (head : ItemHead) (bytes : List ℕ) → Adds 1 s (do_answer s source head bytes)
 unfolding do_answer
 adds_answer s source head bytes = adds_option 1 s (find (is_answered_by s.tx source head) s.tx.live) _ _ (adds_none 1 s _ refl) (λ o.
-    let before = with_tx (answering source head s.tx) s in
+    let before = with_tx (going_on source (answering source head s.tx)) s in
     adds_then 0 1 s before _ (adds_none 0 s before refl) (adds_end head.outcome bytes o before))
 
 adds_data : (outcome : Outcome) (source : ℕ) (head : ItemHead) (s : State) → Adds 1 s (remote_data outcome source head s)
@@ -126,11 +126,20 @@ adds_data Good source head s = by_kind head.kind
     by_kind _ = adds_none 1 s _ refl
 adds_data _ source head s = adds_none 1 s _ refl
 
+event_cq : (outcome : Outcome) (head : ItemHead) (s : State) → (remote_event outcome head s).cq ≡ s.cq
+event_cq Good head s = by_cap s.caps.rma_event
+  where
+    by_cap : (b : Bool) → (let t : State = elim b [ true ↦ count (remote_class head) true s | false ↦ s ] in t.cq ≡ s.cq)
+    by_cap true = refl
+    by_cap false = refl
+event_cq _ head s = refl
+
 adds_request : (s : State) (source : ℕ) (head : ItemHead) (bytes : List ℕ) → Adds 1 s (do_request s source head bytes)
 unfolding do_request reply
 adds_request s source head bytes =
     let p = perform s.regions head bytes in
-    adds_then 0 1 s (reply source head.op p.outcome p.bytes (with_regions p.regions s)) _ (adds_none 0 s _ refl) (adds_data p.outcome source head _)
+    let replied = reply source head.op p.outcome p.bytes (with_regions p.regions s) in
+    adds_then 0 1 s (remote_event p.outcome head replied) _ (adds_none 0 s _ (event_cq p.outcome head replied)) (adds_data p.outcome source head _)
 
 adds_to : (c : Option Coming) (s : State) (source : ℕ) (head : ItemHead) (bytes : List ℕ) → Adds 2 s (tail_to c s source head bytes)
 unfolding tail_to keeping
@@ -149,7 +158,7 @@ adds_tail s source head bytes = adds_then 0 2 s (with_rx (made_whole source s.rx
 pub adds_sent : (s : State) (t : ℕ) → Adds 1 s (do_sent s t)
 unfolding do_sent
 adds_sent s t = adds_option 1 s (ending t s.tx) _ _ (adds_none 1 s _ refl) (λ o.
-    let before = with_tx (transmitting t s.tx) s in adds_then 0 1 s before _ (adds_none 0 s before refl) (adds_end Good [] o before))
+    let before = with_tx (going_on t (transmitting t s.tx)) s in adds_then 0 1 s before _ (adds_none 0 s before refl) (adds_end Good [] o before))
 
 head_cq : (s : State) (source : ℕ) (head : ItemHead) → (do_head s source head).cq ≡ s.cq
 unfolding do_head

@@ -14,6 +14,7 @@ use Rattle.fab_wire.specs.Cut.{frame_of, IsBetweenItems, IsItem}
 use Rattle.fab_wire.specs.Frames.{IsSound}
 use Rattle.fab_link.specs.Meaning.{Outgoing, Incoming, end_of, taken_end}
 use Rattle.fab_model.specs.State.{State, accepted_for}
+use Rattle.fab_model.specs.Sending.{AreFenced}
 use Rattle.fab_face.specs.declared.events.Event.{Event}
 
 -- ---- what is held
@@ -115,6 +116,8 @@ pub record IsOpen {Home : Type 0} (e : Seen Home) : Type 0 where
   pub coming : length e.held.state.rx.coming ≡ e.lanes.peers
   pub sent : length e.held.state.tx.sent ≡ e.lanes.peers
   pub accepted : length e.held.state.tx.accepted ≡ e.lanes.peers
+  pub held : length e.held.state.tx.held ≡ e.lanes.peers
+  pub fenced : AreFenced e.held.state.tx
   pub under_way : (s : ℕ) → s < e.lanes.peers → slice_index e.held.state.rx.heads s ≡ slice_index e.held.state.rx.tails s + count_begun (begun_of e.held s)
   pub items : AreItems e.held
   pub out : IsOut e.held

@@ -10,7 +10,7 @@ use Rattle.fab_base.specs.declared.items.Kind.TheVariants.{Msg, TagMsg}
 use Rattle.fab_base.specs.declared.items.Item.{Item}
 use Rattle.fab_base.specs.declared.frames.Frame.{Frame}
 use Rattle.fab_model.specs.State.{State, lookup}
-use Rattle.fab_model.specs.Sending.{do_sent}
+use Rattle.fab_model.specs.Sending.{AreFenced, do_sent}
 use Rattle.fab_model.specs.Calls.{Call, Cancel, CancelFirst, message}
 use Rattle.fab_face.specs.declared.machine.Message.{Message}
 use Rattle.fab_face.specs.declared.machine.Ask.{Ask}
@@ -29,6 +29,8 @@ pub record IsSteady (h : Held) : Type 0 where
   pub coming : length h.state.rx.coming ≡ length h.places
   pub sent : length h.state.tx.sent ≡ length h.places
   pub accepted : length h.state.tx.accepted ≡ length h.places
+  pub held : length h.state.tx.held ≡ length h.places
+  pub fenced : AreFenced h.state.tx
   pub under_way : (s : ℕ) → s < length h.places → slice_index h.state.rx.heads s ≡ slice_index h.state.rx.tails s + count_begun (begun_of h s)
   pub items : AreItems h
   pub out : IsOut h
@@ -51,7 +53,7 @@ abbrev pub kind_of : Bool → Kind
 kind_of tagged = cond tagged TagMsg Msg
 
 abbrev pub sending : Message → List ℕ → Call
-sending s bytes = message (kind_of s.tagged) s.ctx s.dest s.tag bytes s.imm s.flags.level s.flags.completion
+sending s bytes = message (kind_of s.tagged) s.ctx s.dest s.tag bytes s.imm s.flags.level s.flags.completion s.flags.fence
 
 abbrev pub asking : Ask → List ℕ → Call
 asking a buf = receive_call a.tagged a.source a.tag a.ignore buf None a.ctx

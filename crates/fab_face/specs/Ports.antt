@@ -5,8 +5,8 @@
 use Rattle.std.specs.Prelude.{◌≡◌, ℕ, ◌<◌, Bool, false, ◌&&◌, ◌==◌, nat_le, replicate, List, [], None}
 use Rattle.fab_base.specs.declared.caps.Info.{Info}
 use Rattle.fab_base.specs.declared.limits.Limits.{Limits}
-use Rattle.fab_base.specs.declared.limits.Size.TheVariants.{Peers, Lane, Pool, Tx, Rx, Cq, Log, Inject, Message}
-use Rattle.fab_base.specs.Offer.{limits_of}
+use Rattle.fab_base.specs.declared.limits.Size.TheVariants.{Peers, Lane, Pool, Tx, Rx, Cq, Log, Inject}
+use Rattle.fab_base.specs.Offer.{limits_of, most_message}
 use Rattle.fab_av.specs.Addresses.{Addresses}
 use Rattle.fab_wire.specs.Cut.{IsBetweenItems}
 use Rattle.fab_link.specs.Meaning.{end_of, taken_end}
@@ -52,9 +52,9 @@ within l n = nat_le l.least n && nat_le n l.greatest
 -- the numbers are those of the offer, for so many peers
 abbrev pub is_granted : Info → ℕ → Bool
 is_granted i peers =
-    (i.peers == peers) && within (limits_of Peers) i.peers && within (limits_of Lane) i.lane && within (limits_of Pool) i.pool && within (limits_of Tx) i.tx
-    && within (limits_of Rx) i.rx && within (limits_of Cq) i.cq && within (limits_of Log) i.log
-    && within (limits_of Inject) i.inject && within (limits_of Message) i.message
+    (i.peers == peers) && within (limits_of i.api Peers) i.peers && within (limits_of i.api Lane) i.lane && within (limits_of i.api Pool) i.pool
+    && within (limits_of i.api Tx) i.tx && within (limits_of i.api Rx) i.rx && within (limits_of i.api Cq) i.cq && within (limits_of i.api Log) i.log
+    && within (limits_of i.api Inject) i.inject && (i.message == most_message i.api)
 
 -- the endpoint as it is opened
 abbrev pub opened : {P : Type 0} → P → Addresses → Info → Bool → Whole P

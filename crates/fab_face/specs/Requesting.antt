@@ -39,6 +39,7 @@ order_asked r bytes compared buf = record {
   ctx = r.ctx;
   level = Level.Delivery;
   completion = r.completion;
+  fence = r.fence;
   buf = buf;
 }
 

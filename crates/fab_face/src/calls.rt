@@ -8,7 +8,7 @@ ghost use Rattle.fab_base.specs.declared.peers.Level.TheVariants.{Inject};
 ghost use Rattle.fab_base.specs.declared.peers.LineResult.TheVariants.{Done, Refused as Answer, Index, Bytes};
 ghost use Rattle.fab_base.specs.declared.faults.Fault.TheVariants.{NoMemory as LacksMemory};
 ghost use Rattle.fab_av.specs.Addresses.{inserting};
-ghost use Rattle.fab_model.specs.State.{tally_of, awaits, add_capped};
+ghost use Rattle.fab_model.specs.State.{tally_of, awaits, deferred_count, add_capped};
 ghost use Rattle.fab_model.specs.Calls.{TakeClaimed, DropClaimed, Cancel, CancelFirst, Look, Remove, Reg, Close, Put, message, request, atomic, is_peer, region_of};
 ghost use Rattle.fab_face.specs.Held.{Seen, IsOpen, with_machine};
 ghost use Rattle.fab_face.specs.Answers.{Sends, SendsNot, Receives, ReceivesNot, Progressed, Locally, Pops, PopsNot, PopsNotErr, ReadsOn, receive_call, atom, Inserts, adding, IsSharing, Lends, LendsNone};
@@ -50,8 +50,8 @@ pub trait Messages: Sees {
         ctx: u64,
         flags: Flags,
     ) -> Result<(), Refused>
-        ensures ok { OnOk result (Sends Self.fixed (message Msg (Some ctx) dest 0 buf imm flags.level flags.completion) dest (Self.seen self.old) (Self.seen self.new)) }
-        ensures err { IfErr result (λ r. (r.buf ≡ buf) × SendsNot Self.fixed (message Msg (Some ctx) dest 0 buf imm flags.level flags.completion) (Self.seen self.old) (Self.seen self.new) r.why) };
+        ensures ok { OnOk result (Sends Self.fixed (message Msg (Some ctx) dest 0 buf imm flags.level flags.completion flags.fence) dest (Self.seen self.old) (Self.seen self.new)) }
+        ensures err { IfErr result (λ r. (r.buf ≡ buf) × SendsNot Self.fixed (message Msg (Some ctx) dest 0 buf imm flags.level flags.completion flags.fence) (Self.seen self.old) (Self.seen self.new) r.why) };
 
     /// Sends a tagged message (fi_tsend of fi_tagged(3), and fi_tsenddata). The buffer comes back in its
     /// completion, or in the refusal.
@@ -64,28 +64,28 @@ pub trait Messages: Sees {
         ctx: u64,
         flags: Flags,
     ) -> Result<(), Refused>
-        ensures ok { OnOk result (Sends Self.fixed (message TagMsg (Some ctx) dest tag buf imm flags.level flags.completion) dest (Self.seen self.old) (Self.seen self.new)) }
-        ensures err { IfErr result (λ r. (r.buf ≡ buf) × SendsNot Self.fixed (message TagMsg (Some ctx) dest tag buf imm flags.level flags.completion) (Self.seen self.old) (Self.seen self.new) r.why) };
+        ensures ok { OnOk result (Sends Self.fixed (message TagMsg (Some ctx) dest tag buf imm flags.level flags.completion flags.fence) dest (Self.seen self.old) (Self.seen self.new)) }
+        ensures err { IfErr result (λ r. (r.buf ≡ buf) × SendsNot Self.fixed (message TagMsg (Some ctx) dest tag buf imm flags.level flags.completion flags.fence) (Self.seen self.old) (Self.seen self.new) r.why) };
 
     /// Sends an untagged message of at most 4,096 bytes, which are copied (fi_inject, fi_injectdata): no
     /// completion is written.
     fn inject(&mut self, dest: u32, bytes: &[u8], imm: Option<u64>) -> Result<(), Fault>
-        ensures ok { OnOk result (Sends Self.fixed (message Msg None dest 0 bytes.now imm Inject false) dest (Self.seen self.old) (Self.seen self.new)) }
-        ensures err { IfErr result (λ why. SendsNot Self.fixed (message Msg None dest 0 bytes.now imm Inject false) (Self.seen self.old) (Self.seen self.new) why) };
+        ensures ok { OnOk result (Sends Self.fixed (message Msg None dest 0 bytes.now imm Inject false false) dest (Self.seen self.old) (Self.seen self.new)) }
+        ensures err { IfErr result (λ why. SendsNot Self.fixed (message Msg None dest 0 bytes.now imm Inject false false) (Self.seen self.old) (Self.seen self.new) why) };
 
     /// Sends a tagged message of at most 4,096 bytes, which are copied (fi_tinject, fi_tinjectdata): no
     /// completion is written.
     fn tinject(&mut self, dest: u32, tag: u64, bytes: &[u8], imm: Option<u64>) -> Result<(), Fault>
-        ensures ok { OnOk result (Sends Self.fixed (message TagMsg None dest tag bytes.now imm Inject false) dest (Self.seen self.old) (Self.seen self.new)) }
-        ensures err { IfErr result (λ why. SendsNot Self.fixed (message TagMsg None dest tag bytes.now imm Inject false) (Self.seen self.old) (Self.seen self.new) why) };
+        ensures ok { OnOk result (Sends Self.fixed (message TagMsg None dest tag bytes.now imm Inject false false) dest (Self.seen self.old) (Self.seen self.new)) }
+        ensures err { IfErr result (λ why. SendsNot Self.fixed (message TagMsg None dest tag bytes.now imm Inject false false) (Self.seen self.old) (Self.seen self.new) why) };
 }
 
 /// Reads, writes and atomics on regions of a peer (fi_rma(3), fi_atomic(3)).
 pub trait Requests: Sees {
     /// Reads a region of the peer into the buffer, all of it (fi_read of fi_rma(3)).
     fn read(&mut self, dest: u32, key: u64, at: u64, buf: Buf, ctx: u64) -> Result<(), Refused>
-        ensures ok { OnOk result (Sends Self.fixed (request ReadReq (Some ctx) dest key at (length buf) [] None true (Some buf)) dest (Self.seen self.old) (Self.seen self.new)) }
-        ensures err { IfErr result (λ r. (r.buf ≡ buf) × SendsNot Self.fixed (request ReadReq (Some ctx) dest key at (length buf) [] None true (Some buf)) (Self.seen self.old) (Self.seen self.new) r.why) };
+        ensures ok { OnOk result (Sends Self.fixed (request ReadReq (Some ctx) dest key at (length buf) [] None true false (Some buf)) dest (Self.seen self.old) (Self.seen self.new)) }
+        ensures err { IfErr result (λ r. (r.buf ≡ buf) × SendsNot Self.fixed (request ReadReq (Some ctx) dest key at (length buf) [] None true false (Some buf)) (Self.seen self.old) (Self.seen self.new) r.why) };
 
     /// Writes the buffer into a region of the peer (fi_write, fi_writedata).
     fn write(
@@ -98,8 +98,8 @@ pub trait Requests: Sees {
         ctx: u64,
         flags: Flags,
     ) -> Result<(), Refused>
-        ensures ok { OnOk result (Sends Self.fixed (request WriteReq (Some ctx) dest key at 0 buf imm flags.completion (Some buf)) dest (Self.seen self.old) (Self.seen self.new)) }
-        ensures err { IfErr result (λ r. (r.buf ≡ buf) × SendsNot Self.fixed (request WriteReq (Some ctx) dest key at 0 buf imm flags.completion (Some buf)) (Self.seen self.old) (Self.seen self.new) r.why) };
+        ensures ok { OnOk result (Sends Self.fixed (request WriteReq (Some ctx) dest key at 0 buf imm flags.completion flags.fence (Some buf)) dest (Self.seen self.old) (Self.seen self.new)) }
+        ensures err { IfErr result (λ r. (r.buf ≡ buf) × SendsNot Self.fixed (request WriteReq (Some ctx) dest key at 0 buf imm flags.completion flags.fence (Some buf)) (Self.seen self.old) (Self.seen self.new) r.why) };
 
     /// Writes at most 4,096 bytes, which are copied, into a region of the peer (fi_inject_write). A
     /// completion is written only where the peer refuses.
@@ -111,8 +111,8 @@ pub trait Requests: Sees {
         bytes: &[u8],
         imm: Option<u64>,
     ) -> Result<(), Fault>
-        ensures ok { OnOk result (Sends Self.fixed (request WriteReq None dest key at 0 bytes.now imm false None) dest (Self.seen self.old) (Self.seen self.new)) }
-        ensures err { IfErr result (λ why. SendsNot Self.fixed (request WriteReq None dest key at 0 bytes.now imm false None) (Self.seen self.old) (Self.seen self.new) why) };
+        ensures ok { OnOk result (Sends Self.fixed (request WriteReq None dest key at 0 bytes.now imm false false None) dest (Self.seen self.old) (Self.seen self.new)) }
+        ensures err { IfErr result (λ why. SendsNot Self.fixed (request WriteReq None dest key at 0 bytes.now imm false false None) (Self.seen self.old) (Self.seen self.new) why) };
 
     /// Changes elements of a region of the peer (fi_atomic(3)).
     fn atomic(
@@ -126,8 +126,8 @@ pub trait Requests: Sees {
         ctx: u64,
         flags: Flags,
     ) -> Result<(), Fault>
-        ensures ok { OnOk result (Sends Self.fixed (atomic ctx dest key at (atom op num Base) (length operand.now) operand.now [] flags.completion None) dest (Self.seen self.old) (Self.seen self.new)) }
-        ensures err { IfErr result (λ why. SendsNot Self.fixed (atomic ctx dest key at (atom op num Base) (length operand.now) operand.now [] flags.completion None) (Self.seen self.old) (Self.seen self.new) why) };
+        ensures ok { OnOk result (Sends Self.fixed (atomic ctx dest key at (atom op num Base) (length operand.now) operand.now [] flags.completion flags.fence None) dest (Self.seen self.old) (Self.seen self.new)) }
+        ensures err { IfErr result (λ why. SendsNot Self.fixed (atomic ctx dest key at (atom op num Base) (length operand.now) operand.now [] flags.completion flags.fence None) (Self.seen self.old) (Self.seen self.new) why) };
 
     /// Changes elements of a region of the peer and gets the old ones (fi_fetch_atomic).
     fn fetch_atomic(
@@ -141,8 +141,8 @@ pub trait Requests: Sees {
         result_: Buf,
         ctx: u64,
     ) -> Result<(), Refused>
-        ensures ok { OnOk result (Sends Self.fixed (atomic ctx dest key at (atom op num Fetch) (length result_) operand.now [] true (Some result_)) dest (Self.seen self.old) (Self.seen self.new)) }
-        ensures err { IfErr result (λ r. (r.buf ≡ result_) × SendsNot Self.fixed (atomic ctx dest key at (atom op num Fetch) (length result_) operand.now [] true (Some result_)) (Self.seen self.old) (Self.seen self.new) r.why) };
+        ensures ok { OnOk result (Sends Self.fixed (atomic ctx dest key at (atom op num Fetch) (length result_) operand.now [] true false (Some result_)) dest (Self.seen self.old) (Self.seen self.new)) }
+        ensures err { IfErr result (λ r. (r.buf ≡ result_) × SendsNot Self.fixed (atomic ctx dest key at (atom op num Fetch) (length result_) operand.now [] true false (Some result_)) (Self.seen self.old) (Self.seen self.new) r.why) };
 
     /// Changes elements of a region of the peer that compare as asked, and gets the old ones
     /// (fi_compare_atomic).
@@ -158,8 +158,8 @@ pub trait Requests: Sees {
         result_: Buf,
         ctx: u64,
     ) -> Result<(), Refused>
-        ensures ok { OnOk result (Sends Self.fixed (atomic ctx dest key at (atom op num Compare) (length result_) operand.now compare.now true (Some result_)) dest (Self.seen self.old) (Self.seen self.new)) }
-        ensures err { IfErr result (λ r. (r.buf ≡ result_) × SendsNot Self.fixed (atomic ctx dest key at (atom op num Compare) (length result_) operand.now compare.now true (Some result_)) (Self.seen self.old) (Self.seen self.new) r.why) };
+        ensures ok { OnOk result (Sends Self.fixed (atomic ctx dest key at (atom op num Compare) (length result_) operand.now compare.now true false (Some result_)) dest (Self.seen self.old) (Self.seen self.new)) }
+        ensures err { IfErr result (λ r. (r.buf ≡ result_) × SendsNot Self.fixed (atomic ctx dest key at (atom op num Compare) (length result_) operand.now compare.now true false (Some result_)) (Self.seen self.old) (Self.seen self.new) r.why) };
 }
 
 /// Receives (fi_msg(3), fi_tagged(3)). None of these calls takes memory.
@@ -345,6 +345,10 @@ pub trait Logs: Sees {
     /// How many operations are transmitted and await the answer of their peer.
     fn awaiting(&self) -> u32
         ensures { result ≡ count_by (awaits (Self.seen self.now).held.state.tx) (Self.seen self.now).held.state.tx.live };
+
+    /// How many operations are not transmitted: their items wait for their lanes, or a fence holds them back (FI_FENCE).
+    fn deferred(&self) -> u32
+        ensures { result ≡ deferred_count (Self.seen self.now).held.state.tx };
 
     /// Whether the last transmit call posted a frame.
     fn pushed(&self) -> bool

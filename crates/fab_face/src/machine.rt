@@ -4,7 +4,7 @@ ghost use Rattle.fab_base.specs.declared.items.Item.{Item};
 ghost use Rattle.fab_base.specs.declared.peers.LineResult.TheVariants.{Done, Refused as Answer};
 ghost use Rattle.fab_base.specs.declared.entries.Taken.TheVariants.{Success, Failure};
 ghost use Rattle.fab_wire.specs.Frames.{frame, IsSound};
-ghost use Rattle.fab_model.specs.State.{fits, in_use, awaits, lookup};
+ghost use Rattle.fab_model.specs.State.{fits, in_use, awaits, deferred_count, lookup};
 ghost use Rattle.fab_model.specs.Sending.{do_sent};
 ghost use Rattle.fab_model.specs.Receiving.{draw_due};
 ghost use Rattle.fab_model.specs.Arrivals.{do_draw};
@@ -200,4 +200,8 @@ pub trait Machine {
     /// How many operations are transmitted and await the answer of their peer.
     fn awaiting(&self) -> u32
         ensures { result ≡ count_by (awaits (held self.now).state.tx) (held self.now).state.tx.live };
+
+    /// How many operations are not transmitted: their items wait, or a fence holds them back.
+    fn deferred(&self) -> u32
+        ensures { result ≡ deferred_count (held self.now).state.tx };
 }

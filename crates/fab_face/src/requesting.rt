@@ -32,6 +32,7 @@ pub struct Request {
     pub imm: Option<u64>,
     pub ctx: Option<u64>,
     pub completion: bool,
+    pub fence: bool,
 }
 
 /// The machine of an endpoint that asks for reads, writes and atomics. None of its calls takes memory.
@@ -52,7 +53,7 @@ pub trait Requesting: Machine {
     /// Accepts a request whose bytes are copied, at most 4,096, with the buffer that comes back.
     fn request_copied(&mut self, request: &Request, bytes: &[u8], compared: &[u8], buf: Option<Buf>)
         requires granted { is_final (do_call (Self.held self.old).state (requesting request.now bytes.now compared.now buf)).0 ≡ false }
-        requires few { min (most_bytes (kind_asked request.now.asked) (is_none request.now.ctx)) (length bytes.now + length compared.now) ≤ 4096 }
+        requires few { min (most_bytes (Self.held self.old).state.most_message (kind_asked request.now.asked) (is_none request.now.ctx)) (length bytes.now + length compared.now) ≤ 4096 }
         requires room { nat_le (Self.held self.old).state.most_tx (in_use (Self.held self.old).state.tx) ≡ false }
         ensures { DoesCall (Some (requesting request.now bytes.now compared.now buf)) (Self.held self.old) (Self.held self.new) };
 }

@@ -16,7 +16,8 @@ use Rattle.fab_model.specs.Views.{rule, seen}
 use Rattle.fab_model.proofs.Patient.{sender_is}
 use Rattle.fab_laws.proofs.Memory.{leads_good}
 use Rattle.fab_laws.proofs.replies.Owed.{OwedAt}
-use Rattle.fab_laws.proofs.replies.Stray.{AllOwed, turn_owed, fresh_owed}
+use Rattle.fab_laws.proofs.fences.Hold.{fresh_ordered}
+use Rattle.fab_laws.proofs.replies.Stray.{AllOwed, InOrder, turn_owed, fresh_owed}
 use Rattle.fab_quantum.specs.Turns.{IsQuiet}
 use Rattle.fab_finish.specs.Joined.{Member, told_of, member_actor, actors, IsJoined, AreStill, opened, AreCleared}
 use Rattle.fab_finish.specs.Rests.{Rest, CancelNone, AreCancelled}
@@ -28,6 +29,7 @@ all_owed : (conf : Conf) (lists : List (List Line)) (turns : List (Turn Step)) (
 all_owed conf lists turns states leads = leads_good (AllOwed conf.peers) (turn_owed conf.peers) turns (opened conf lists) states (record {
   sound = start_sound conf lists;
   owed = λ p a has. subst (λ (x : Actor). OwedAt conf.peers (seen fabric (opened conf lists) p) x.state) (starts_at conf lists p a has).1 (fresh_owed conf (seen fabric (opened conf lists) p));
+  ordered = λ p a has. subst (λ (x : Actor). InOrder conf.peers x.state) (starts_at conf lists p a has).1 ([], fresh_ordered conf);
 }) leads
 
 -- where all that was accepted is whole, nothing comes

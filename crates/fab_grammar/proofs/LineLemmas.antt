@@ -1,40 +1,41 @@
 -- A line with another number of words.
 use Rattle.std.proofs.Common.{◌≡◌, ◌≢◌, ◌<◌, ℕ, List, [], ◌∷◌, length, ap, refl, arith}
 use Rattle.std.specs.Prelude.{Err}
+use Rattle.fab_base.specs.declared.caps.Api.{Api}
 use Rattle.fab_base.specs.declared.limits.Size.{Size}
 use Rattle.fab_words.specs.declared.fault.Fault.{Fault}
 use Rattle.fab_words.specs.declared.fault.Fault.TheVariants.{Words}
 use Rattle.fab_words.specs.Faults.{◌&◌, map_ok}
 use Rattle.fab_grammar.specs.Atomics.{atomic_of, fetch_of, compare_of}
 use Rattle.fab_grammar.specs.Sends.{send_of, tsend_of, inject_of, tinject_of, mrecv_of, write_of, winject_of}
-use Rattle.fab_words.specs.Words.{read_number, read_source, read_len}
+use Rattle.fab_words.specs.Words.{read_number, read_source, read_up_to}
 use Rattle.fab_grammar.specs.Lines.{a_trecv, trecv_of, wait_of, recv_of, look_of, take_of, number_line, remove_of, insert_of, read_of, reg_of, put_of, count_of, reach_of}
 use Rattle.fab_grammar.specs.Settings.{size_of, caps_setting, selective_setting, payload_setting, peer_of}
 
-pub trecv_of_other : (args : List (List ℕ)) → length args ≢ 5 → trecv_of args ≡ Err Words
+pub trecv_of_other : (most : ℕ) (args : List (List ℕ)) → length args ≢ 5 → trecv_of most args ≡ Err Words
 unfolding trecv_of
-trecv_of_other (a ∷ b ∷ c ∷ d ∷ e ∷ []) h = absurd (h (omega arith))
-trecv_of_other _ h = refl
+trecv_of_other most (a ∷ b ∷ c ∷ d ∷ e ∷ []) h = absurd (h (omega arith))
+trecv_of_other most _ h = refl
 
 pub wait_of_other : (args : List (List ℕ)) → length args ≢ 1 → wait_of args ≡ Err Words
 unfolding wait_of
 wait_of_other (a ∷ []) h = absurd (h (omega arith))
 wait_of_other _ h = refl
 
-pub recv_of_other : (args : List (List ℕ)) → length args ≢ 3 → recv_of args ≡ Err Words
+pub recv_of_other : (most : ℕ) (args : List (List ℕ)) → length args ≢ 3 → recv_of most args ≡ Err Words
 unfolding recv_of
-recv_of_other (a ∷ b ∷ c ∷ []) h = absurd (h (omega arith))
-recv_of_other _ h = refl
+recv_of_other most (a ∷ b ∷ c ∷ []) h = absurd (h (omega arith))
+recv_of_other most _ h = refl
 
 pub look_of_other : (args : List (List ℕ)) → length args ≢ 4 → look_of args ≡ Err Words
 unfolding look_of
 look_of_other (a ∷ b ∷ c ∷ d ∷ []) h = absurd (h (omega arith))
 look_of_other _ h = refl
 
-pub take_of_other : (args : List (List ℕ)) → length args ≢ 2 → take_of args ≡ Err Words
+pub take_of_other : (most : ℕ) (args : List (List ℕ)) → length args ≢ 2 → take_of most args ≡ Err Words
 unfolding take_of
-take_of_other (a ∷ b ∷ []) h = absurd (h (omega arith))
-take_of_other _ h = refl
+take_of_other most (a ∷ b ∷ []) h = absurd (h (omega arith))
+take_of_other most _ h = refl
 
 pub number_line_other : (args : List (List ℕ)) → length args ≢ 1 → number_line args ≡ Err Words
 unfolding number_line
@@ -51,20 +52,20 @@ unfolding insert_of
 insert_of_other (a ∷ []) h = absurd (h (omega arith))
 insert_of_other _ h = refl
 
-pub read_of_other : (args : List (List ℕ)) → length args ≢ 5 → read_of args ≡ Err Words
+pub read_of_other : (most : ℕ) (args : List (List ℕ)) → length args ≢ 5 → read_of most args ≡ Err Words
 unfolding read_of
-read_of_other (a ∷ b ∷ c ∷ d ∷ e ∷ []) h = absurd (h (omega arith))
-read_of_other _ h = refl
+read_of_other most (a ∷ b ∷ c ∷ d ∷ e ∷ []) h = absurd (h (omega arith))
+read_of_other most _ h = refl
 
-pub reg_of_other : (args : List (List ℕ)) → length args ≢ 3 → reg_of args ≡ Err Words
+pub reg_of_other : (most : ℕ) (args : List (List ℕ)) → length args ≢ 3 → reg_of most args ≡ Err Words
 unfolding reg_of
-reg_of_other (a ∷ b ∷ c ∷ []) h = absurd (h (omega arith))
-reg_of_other _ h = refl
+reg_of_other most (a ∷ b ∷ c ∷ []) h = absurd (h (omega arith))
+reg_of_other most _ h = refl
 
-pub put_of_other : (args : List (List ℕ)) → length args ≢ 3 → put_of args ≡ Err Words
+pub put_of_other : (most : ℕ) (args : List (List ℕ)) → length args ≢ 3 → put_of most args ≡ Err Words
 unfolding put_of
-put_of_other (a ∷ b ∷ c ∷ []) h = absurd (h (omega arith))
-put_of_other _ h = refl
+put_of_other most (a ∷ b ∷ c ∷ []) h = absurd (h (omega arith))
+put_of_other most _ h = refl
 
 pub count_of_other : (args : List (List ℕ)) → length args ≢ 1 → count_of args ≡ Err Words
 unfolding count_of
@@ -76,40 +77,40 @@ unfolding reach_of
 reach_of_other (a ∷ b ∷ []) h = absurd (h (omega arith))
 reach_of_other _ h = refl
 
-pub send_of_other : (args : List (List ℕ)) → length args < 3 → send_of args ≡ Err Words
+pub send_of_other : (most : ℕ) (args : List (List ℕ)) → length args < 3 → send_of most args ≡ Err Words
 unfolding send_of
-send_of_other (a ∷ b ∷ c ∷ options) h = absurd (omega arith)
-send_of_other _ h = refl
+send_of_other most (a ∷ b ∷ c ∷ options) h = absurd (omega arith)
+send_of_other most _ h = refl
 
-pub tsend_of_other : (args : List (List ℕ)) → length args < 4 → tsend_of args ≡ Err Words
+pub tsend_of_other : (most : ℕ) (args : List (List ℕ)) → length args < 4 → tsend_of most args ≡ Err Words
 unfolding tsend_of
-tsend_of_other (a ∷ b ∷ c ∷ d ∷ options) h = absurd (omega arith)
-tsend_of_other _ h = refl
+tsend_of_other most (a ∷ b ∷ c ∷ d ∷ options) h = absurd (omega arith)
+tsend_of_other most _ h = refl
 
-pub inject_of_other : (args : List (List ℕ)) → length args < 2 → inject_of args ≡ Err Words
+pub inject_of_other : (most : ℕ) (args : List (List ℕ)) → length args < 2 → inject_of most args ≡ Err Words
 unfolding inject_of
-inject_of_other (a ∷ b ∷ options) h = absurd (omega arith)
-inject_of_other _ h = refl
+inject_of_other most (a ∷ b ∷ options) h = absurd (omega arith)
+inject_of_other most _ h = refl
 
-pub tinject_of_other : (args : List (List ℕ)) → length args < 3 → tinject_of args ≡ Err Words
+pub tinject_of_other : (most : ℕ) (args : List (List ℕ)) → length args < 3 → tinject_of most args ≡ Err Words
 unfolding tinject_of
-tinject_of_other (a ∷ b ∷ c ∷ options) h = absurd (omega arith)
-tinject_of_other _ h = refl
+tinject_of_other most (a ∷ b ∷ c ∷ options) h = absurd (omega arith)
+tinject_of_other most _ h = refl
 
-pub mrecv_of_other : (args : List (List ℕ)) → length args < 3 → mrecv_of args ≡ Err Words
+pub mrecv_of_other : (most : ℕ) (args : List (List ℕ)) → length args < 3 → mrecv_of most args ≡ Err Words
 unfolding mrecv_of
-mrecv_of_other (a ∷ b ∷ c ∷ options) h = absurd (omega arith)
-mrecv_of_other _ h = refl
+mrecv_of_other most (a ∷ b ∷ c ∷ options) h = absurd (omega arith)
+mrecv_of_other most _ h = refl
 
-pub write_of_other : (args : List (List ℕ)) → length args < 5 → write_of args ≡ Err Words
+pub write_of_other : (most : ℕ) (args : List (List ℕ)) → length args < 5 → write_of most args ≡ Err Words
 unfolding write_of
-write_of_other (a ∷ b ∷ c ∷ d ∷ e ∷ options) h = absurd (omega arith)
-write_of_other _ h = refl
+write_of_other most (a ∷ b ∷ c ∷ d ∷ e ∷ options) h = absurd (omega arith)
+write_of_other most _ h = refl
 
-pub winject_of_other : (args : List (List ℕ)) → length args < 4 → winject_of args ≡ Err Words
+pub winject_of_other : (most : ℕ) (args : List (List ℕ)) → length args < 4 → winject_of most args ≡ Err Words
 unfolding winject_of
-winject_of_other (a ∷ b ∷ c ∷ d ∷ options) h = absurd (omega arith)
-winject_of_other _ h = refl
+winject_of_other most (a ∷ b ∷ c ∷ d ∷ options) h = absurd (omega arith)
+winject_of_other most _ h = refl
 
 -- atomics: less than four words, or another number after these
 pub atomic_of_other : (args : List (List ℕ)) → length args < 4 → atomic_of args ≡ Err Words
@@ -148,10 +149,10 @@ compare_of_rest a b c d _ h = refl
 
 pub ruleset compare_other = (compare_of_other, compare_of_rest)
 
-pub size_of_other : (size : Size) (args : List (List ℕ)) → length args ≢ 1 → size_of size args ≡ Err Words
+pub size_of_other : (api : Api) (size : Size) (args : List (List ℕ)) → length args ≢ 1 → size_of api size args ≡ Err Words
 unfolding size_of
-size_of_other size (a ∷ []) h = absurd (h (omega arith))
-size_of_other size _ h = refl
+size_of_other api size (a ∷ []) h = absurd (h (omega arith))
+size_of_other api size _ h = refl
 
 pub caps_other : (args : List (List ℕ)) → length args ≢ 1 → caps_setting args ≡ Err Words
 unfolding caps_setting
@@ -174,6 +175,6 @@ peer_of_other (a ∷ []) h = absurd (h (omega arith))
 peer_of_other _ h = refl
 
 -- what is wrong with the words is wrong with the line
-pub trecv_fault : (ctx source tag ignore len : List ℕ) (fault : Fault) → (read_number ctx & read_source source & read_number tag & read_number ignore & read_len len) ≡ Err fault → trecv_of (ctx ∷ source ∷ tag ∷ ignore ∷ len ∷ []) ≡ Err fault
+pub trecv_fault : (most : ℕ) (ctx source tag ignore len : List ℕ) (fault : Fault) → (read_number ctx & read_source source & read_number tag & read_number ignore & read_up_to most len) ≡ Err fault → trecv_of most (ctx ∷ source ∷ tag ∷ ignore ∷ len ∷ []) ≡ Err fault
 unfolding trecv_of
-trecv_fault ctx source tag ignore len fault e = ap (map_ok a_trecv) e
+trecv_fault most ctx source tag ignore len fault e = ap (map_ok a_trecv) e

@@ -1,5 +1,7 @@
 -- A line that breaks no rule.
-use Rattle.std.proofs.Common.{◌≡◌, ℕ, Bool, true, false, cond, ◌||◌, not, List, [], ◌∷◌, Option, Some, None, refl}
+use Rattle.std.proofs.Common.{◌≡◌, ℕ, Bool, true, false, ◌||◌, not, List, [], ◌∷◌, Option, Some, None, refl}
+use Rattle.std.specs.Prelude.{is_none}
+use Rattle.fab_base.specs.declared.caps.Api.{Api}
 use Rattle.fab_base.specs.declared.status.Why.{Why}
 use Rattle.fab_base.specs.declared.status.Why.TheVariants as why
 use Rattle.fab_grammar.specs.declared.verbs.Kind.{Kind}
@@ -10,8 +12,9 @@ use Rattle.fab_grammar.specs.Lines.{op_of}
 use Rattle.fab_words.specs.Rows.{is_text, words_of}
 use Rattle.fab_grammar.specs.Settings.{setting_of, peer_of}
 use Rattle.fab_grammar.specs.Verbs.{verb_of, kind_of}
+use Rattle.fab_grammar.specs.Versions.{header_of, most_bytes}
 use Rattle.fab_words.specs.Words.{first_of}
-use Rattle.fab_grammar.specs.Rules.{Rules, is_late, is_header, is_limit, is_one_too_many, is_too_much, setting_rules, peer_rules, call_rules, kind_rules, verb_rules, header_rules, word_rules, why_of}
+use Rattle.fab_grammar.specs.Rules.{Rules, is_late, is_limit, is_one_too_many, is_too_much, setting_rules, peer_rules, call_rules, kind_rules, verb_rules, header_rules, word_rules, why_of}
 use Rattle.fab_grammar.proofs.PartLemmas.{or_false}
 
 -- where no test holds, the last does not
@@ -55,11 +58,11 @@ pub rest_of : (a : Bool) (u : Why) (rules : Rules) → first_of ((a, u) ∷ rule
 rest_of true u rules e = cc
 rest_of false u rules e = e
 
-setting_in_time : (before : Before) (number : ℕ) (verb : Verb) (args : List (List ℕ)) → first_of (setting_rules before number verb args) ≡ None → is_late number ≡ false
+setting_in_time : (api : Api) (before : Before) (number : ℕ) (verb : Verb) (args : List (List ℕ)) → first_of (setting_rules api before number verb args) ≡ None → is_late number ≡ false
 unfolding setting_rules
-setting_in_time before number verb args e =
-    let limit = last_fails (but_last (setting_rules before number verb args)) (but_last_none (setting_rules before number verb args) e) in
-    (or_false (is_limit (setting_of verb args)) (is_late number) (or_false (is_limit (setting_of verb args) || is_late number) (is_one_too_many before (setting_of verb args)) limit).0).1
+setting_in_time api before number verb args e =
+    let limit = last_fails (but_last (setting_rules api before number verb args)) (but_last_none (setting_rules api before number verb args) e) in
+    (or_false (is_limit (setting_of api verb args)) (is_late number) (or_false (is_limit (setting_of api verb args) || is_late number) (is_one_too_many before (setting_of api verb args)) limit).0).1
 
 peer_in_time : (before : Before) (number : ℕ) (args : List (List ℕ)) → first_of (peer_rules before number args) ≡ None → is_late number ≡ false
 unfolding peer_rules
@@ -67,30 +70,28 @@ peer_in_time before number args e =
     let limit = last_fails (peer_rules before number args) e in
     (or_false (is_limit (peer_of args)) (is_late number) limit).1
 
-call_in_time : (before : Before) (number : ℕ) (verb : Verb) (args : List (List ℕ)) → first_of (call_rules before number verb args) ≡ None → is_late number ≡ false
+call_in_time : (api : Api) (before : Before) (number : ℕ) (verb : Verb) (args : List (List ℕ)) → first_of (call_rules api before number verb args) ≡ None → is_late number ≡ false
 unfolding call_rules
-call_in_time before number verb args e =
-    let limit = last_fails (call_rules before number verb args) e in
-    (or_false (is_limit (op_of verb args)) (is_late number) (or_false (is_limit (op_of verb args) || is_late number) (is_too_much before (op_of verb args)) limit).0).1
+call_in_time api before number verb args e =
+    let limit = last_fails (call_rules api before number verb args) e in
+    (or_false (is_limit (op_of (most_bytes api) verb args)) (is_late number) (or_false (is_limit (op_of (most_bytes api) verb args) || is_late number) (is_too_much api before (op_of (most_bytes api) verb args)) limit).0).1
 
-kind_in_time : (k : Kind) (before : Before) (number : ℕ) (verb : Verb) (args : List (List ℕ)) → first_of (kind_rules k before number verb args) ≡ None → is_late number ≡ false
-kind_in_time kind.Setting before number verb args e = setting_in_time before number verb args e
-kind_in_time kind.Peer before number verb args e = peer_in_time before number args e
-kind_in_time kind.Call before number verb args e = call_in_time before number verb args e
+kind_in_time : (k : Kind) (api : Api) (before : Before) (number : ℕ) (verb : Verb) (args : List (List ℕ)) → first_of (kind_rules k api before number verb args) ≡ None → is_late number ≡ false
+kind_in_time kind.Setting api before number verb args e = setting_in_time api before number verb args e
+kind_in_time kind.Peer api before number verb args e = peer_in_time before number args e
+kind_in_time kind.Call api before number verb args e = call_in_time api before number verb args e
 
-verb_in_time : (before : Before) (number : ℕ) (verb : Option Verb) (args : List (List ℕ)) → first_of (verb_rules before number verb args) ≡ None → is_late number ≡ false
-verb_in_time before number None args e = cc
-verb_in_time before number (Some verb) args e = kind_in_time (kind_of verb) before number verb args e
-
-either_in_time : (test : Bool) (a b : Rules) (number : ℕ) → (first_of a ≡ None → is_late number ≡ false) → (first_of b ≡ None → is_late number ≡ false) → first_of (cond test a b) ≡ None → is_late number ≡ false
-either_in_time true a b number f g e = f e
-either_in_time false a b number f g e = g e
+verb_in_time : (api : Api) (before : Before) (number : ℕ) (verb : Option Verb) (args : List (List ℕ)) → first_of (verb_rules api before number verb args) ≡ None → is_late number ≡ false
+verb_in_time api before number None args e = cc
+verb_in_time api before number (Some verb) args e = kind_in_time (kind_of verb) api before number verb args e
 
 word_in_time : (before : Before) (number : ℕ) (words : List (List ℕ)) → first_of (word_rules before number words) ≡ None → is_late number ≡ false
 word_in_time before number [] e = only_rule (is_late number) why.Limit e
-word_in_time before number (word ∷ args) e =
-    either_in_time before.has_header (verb_rules before number (verb_of word) args) (header_rules number (word ∷ args)) number
-    (verb_in_time before number (verb_of word) args) (last_of_2 (not (is_header (word ∷ args))) (is_late number) why.Header why.Limit) e
+word_in_time before number (word ∷ args) e = by_version before.api e
+  where
+    by_version : (o : Option Api) → first_of (elim o as (λ _. Rules) [ None ↦ header_rules number (word ∷ args) | Some api ↦ verb_rules api before number (verb_of word) args ]) ≡ None → is_late number ≡ false
+    by_version None e = last_of_2 (is_none (header_of (word ∷ args))) (is_late number) why.Header why.Limit e
+    by_version (Some api) e = verb_in_time api before number (verb_of word) args e
 
 pub in_time : (before : Before) (number : ℕ) (line : List ℕ) → why_of before number line ≡ None → is_late number ≡ false
 unfolding why_of

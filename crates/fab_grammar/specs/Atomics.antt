@@ -162,11 +162,11 @@ unfoldable pub read_request : List ℕ → List ℕ → List ℕ → List ℕ �
 read_request ctx dest key at atom num values = read_remote ctx dest key at & read_operand atom num values
 
 abbrev pub for_atomic : Allowed
-for_atomic = allowing false false true false
+for_atomic = allowing false false true true false
 
 -- `atomic C D KEY AT OP NUM VALUES`
 abbrev pub an_atomic : Request × Options → LineOp
-an_atomic (((ctx, ((dest, key), at)), ((atom, num), values)), o) = op.Atomic ctx dest key at atom num values.0 o.completion
+an_atomic (((ctx, ((dest, key), at)), ((atom, num), values)), o) = op.Atomic ctx dest key at atom num values.0 o.completion o.fence
 
 unfoldable pub atomic_of : List (List ℕ) → Result LineOp Fault
 atomic_of (ctx ∷ dest ∷ key ∷ at ∷ atom ∷ num ∷ values ∷ options) = map_ok an_atomic (read_request ctx dest key at atom num values & read_options for_atomic options)

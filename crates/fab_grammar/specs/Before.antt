@@ -5,6 +5,7 @@
 --     parts_of n items             the lines of each of n peers
 use Rattle.std.specs.Prelude.{ℕ, Bool, true, false, not, ◌&&◌, ◌==◌, if◌then◌else◌, List, [], ◌∷◌, map, filter_map, Option, Some, None, unwrap_or}
 use Rattle.std.specs.List.{list_any, range_with_len}
+use Rattle.fab_base.specs.declared.caps.Api.{Api}
 use Rattle.fab_base.specs.declared.script.Line.{Line}
 use Rattle.fab_grammar.specs.declared.items.Item.{Item}
 use Rattle.fab_grammar.specs.declared.items.Item.TheVariants.{Peer, Does}
@@ -13,15 +14,15 @@ use Rattle.fab_grammar.specs.declared.settings.Settings.{Settings}
 use Rattle.fab_grammar.specs.Settings.{no_settings}
 use Rattle.fab_grammar.specs.Lines.{op_size}
 
--- whether the header was there, the settings, the payload files, and the lines of the peers' parts
+-- the version that the header names, if it was there, the settings, the payload files, and the lines of the peers' parts
 pub record Before : Type 0 where
-  pub has_header : Bool
+  pub api : Option Api
   pub settings : Settings
   pub payloads : List Payload
   pub items : List Item
 
 abbrev pub nothing : Before
-nothing = record { has_header = false; settings = no_settings; payloads = []; items = [] }
+nothing = record { api = None; settings = no_settings; payloads = []; items = [] }
 
 -- no peer is below it where their number was not said
 abbrev pub count_in : Before → ℕ

@@ -11,3 +11,4 @@ pub mod Rules
 pub mod Sends
 pub mod Settings
 pub mod Verbs
+pub mod Versions

@@ -1,6 +1,6 @@
 -- What one line asks for.
---     op_of verb args      what a line that a peer does asks for, of the words after its verb
---     op_size op           the bytes that it sends, or makes room for
+--     op_of most verb args      what a line that a peer does asks for, of the words after its verb: at most so many bytes
+--     op_size op                the bytes that it sends, or makes room for
 use Rattle.std.specs.Prelude.{ℕ, Bool, true, false, if◌then◌else◌, List, [], ◌∷◌, codes, bytes_eq, find, Option, Some, None, Result, Ok, Err, ok_or}
 use Rattle.fab_base.specs.declared.entries.Class.{Class}
 use Rattle.fab_base.specs.declared.entries.Class.TheVariants as class
@@ -16,12 +16,12 @@ use Rattle.fab_grammar.specs.Atomics.{atomic_of, fetch_of, compare_of}
 use Rattle.fab_words.specs.Bytes.{read_bytes, bytes_size}
 use Rattle.fab_words.specs.Faults.{◌&◌, map_ok}
 use Rattle.fab_grammar.specs.Sends.{read_target, send_of, tsend_of, inject_of, tinject_of, mrecv_of, write_of, winject_of}
-use Rattle.fab_words.specs.Words.{read_number, read_index, read_len, read_source, read_text}
+use Rattle.fab_words.specs.Words.{read_number, read_index, read_up_to, read_source, read_text}
 
 -- the bytes that a line sends, or makes room for; values of atomics do not count
 abbrev pub op_size : LineOp → ℕ
-op_size (op.Send ctx dest bytes imm level completion) = bytes_size bytes
-op_size (op.TSend ctx dest tag bytes imm level completion) = bytes_size bytes
+op_size (op.Send ctx dest bytes imm level completion fence) = bytes_size bytes
+op_size (op.TSend ctx dest tag bytes imm level completion fence) = bytes_size bytes
 op_size (op.Inject dest bytes imm) = bytes_size bytes
 op_size (op.TInject dest tag bytes imm) = bytes_size bytes
 op_size (op.Recv ctx source len) = len
@@ -29,7 +29,7 @@ op_size (op.TRecv ctx source tag ignore len) = len
 op_size (op.MRecv ctx source len min) = len
 op_size (op.Take ctx len) = len
 op_size (op.Read ctx dest key at len) = len
-op_size (op.Write ctx dest key at bytes imm completion) = bytes_size bytes
+op_size (op.Write ctx dest key at bytes imm completion fence) = bytes_size bytes
 op_size (op.WInject dest key at bytes imm) = bytes_size bytes
 op_size (op.Reg key access bytes) = bytes_size bytes
 op_size (op.Put key at bytes) = bytes_size bytes
@@ -39,18 +39,18 @@ op_size _ = 0
 abbrev pub a_trecv : (((ℕ × Option ℕ) × ℕ) × ℕ) × ℕ → LineOp
 a_trecv ((((ctx, source), tag), ignore), len) = op.TRecv ctx source tag ignore len
 
-unfoldable pub trecv_of : List (List ℕ) → Result LineOp Fault
-trecv_of (ctx ∷ source ∷ tag ∷ ignore ∷ len ∷ []) =
-    map_ok a_trecv (read_number ctx & read_source source & read_number tag & read_number ignore & read_len len)
-trecv_of _ = Err Words
+unfoldable pub trecv_of : ℕ → List (List ℕ) → Result LineOp Fault
+trecv_of most (ctx ∷ source ∷ tag ∷ ignore ∷ len ∷ []) =
+    map_ok a_trecv (read_number ctx & read_source source & read_number tag & read_number ignore & read_up_to most len)
+trecv_of most _ = Err Words
 
 -- `recv C SRC LEN`
 abbrev pub a_recv : (ℕ × Option ℕ) × ℕ → LineOp
 a_recv ((ctx, source), len) = op.Recv ctx source len
 
-unfoldable pub recv_of : List (List ℕ) → Result LineOp Fault
-recv_of (ctx ∷ source ∷ len ∷ []) = map_ok a_recv (read_number ctx & read_source source & read_len len)
-recv_of _ = Err Words
+unfoldable pub recv_of : ℕ → List (List ℕ) → Result LineOp Fault
+recv_of most (ctx ∷ source ∷ len ∷ []) = map_ok a_recv (read_number ctx & read_source source & read_up_to most len)
+recv_of most _ = Err Words
 
 -- `peek`, `claim` and `discard C SRC TAG IGNORE`
 abbrev pub Look : Type 0
@@ -73,9 +73,9 @@ a_discard (((ctx, source), tag), ignore) = op.Discard ctx source tag ignore
 abbrev pub a_take : ℕ × ℕ → LineOp
 a_take (ctx, len) = op.Take ctx len
 
-unfoldable pub take_of : List (List ℕ) → Result LineOp Fault
-take_of (ctx ∷ len ∷ []) = map_ok a_take (read_number ctx & read_len len)
-take_of _ = Err Words
+unfoldable pub take_of : ℕ → List (List ℕ) → Result LineOp Fault
+take_of most (ctx ∷ len ∷ []) = map_ok a_take (read_number ctx & read_up_to most len)
+take_of most _ = Err Words
 
 -- one number: the context of `drop` and `cancel`, the key of `close` and `show`
 unfoldable pub number_line : List (List ℕ) → Result ℕ Fault
@@ -96,9 +96,9 @@ insert_of _ = Err Words
 abbrev pub a_read : (ℕ × ((ℕ × ℕ) × ℕ)) × ℕ → LineOp
 a_read ((ctx, ((dest, key), at)), len) = op.Read ctx dest key at len
 
-unfoldable pub read_of : List (List ℕ) → Result LineOp Fault
-read_of (ctx ∷ dest ∷ key ∷ at ∷ len ∷ []) = map_ok a_read (read_number ctx & read_target dest key at & read_len len)
-read_of _ = Err Words
+unfoldable pub read_of : ℕ → List (List ℕ) → Result LineOp Fault
+read_of most (ctx ∷ dest ∷ key ∷ at ∷ len ∷ []) = map_ok a_read (read_number ctx & read_target dest key at & read_up_to most len)
+read_of most _ = Err Words
 
 -- `r`, `w`, `rw` or `-`
 abbrev pub rights : Bool → Bool → Access
@@ -116,17 +116,17 @@ read_rights word =
 abbrev pub a_reg : (ℕ × Access) × BytesWord → LineOp
 a_reg ((key, access), bytes) = op.Reg key access bytes
 
-unfoldable pub reg_of : List (List ℕ) → Result LineOp Fault
-reg_of (key ∷ access ∷ bytes ∷ []) = map_ok a_reg (read_number key & read_rights access & read_bytes bytes)
-reg_of _ = Err Words
+unfoldable pub reg_of : ℕ → List (List ℕ) → Result LineOp Fault
+reg_of most (key ∷ access ∷ bytes ∷ []) = map_ok a_reg (read_number key & read_rights access & read_bytes most bytes)
+reg_of most _ = Err Words
 
 -- `put KEY AT BYTES`
 abbrev pub a_put : (ℕ × ℕ) × BytesWord → LineOp
 a_put ((key, at), bytes) = op.Put key at bytes
 
-unfoldable pub put_of : List (List ℕ) → Result LineOp Fault
-put_of (key ∷ at ∷ bytes ∷ []) = map_ok a_put (read_number key & read_number at & read_bytes bytes)
-put_of _ = Err Words
+unfoldable pub put_of : ℕ → List (List ℕ) → Result LineOp Fault
+put_of most (key ∷ at ∷ bytes ∷ []) = map_ok a_put (read_number key & read_number at & read_bytes most bytes)
+put_of most _ = Err Words
 
 -- `wait C`, `wait *`
 unfoldable pub wait_of : List (List ℕ) → Result LineOp Fault
@@ -163,33 +163,33 @@ unfoldable pub reach_of : List (List ℕ) → Result LineOp Fault
 reach_of (class ∷ n ∷ []) = map_ok a_reach (read_class class & read_number n)
 reach_of _ = Err Words
 
-unfoldable pub op_of : Verb → List (List ℕ) → Result LineOp Fault
-op_of verb.Send args = send_of args
-op_of verb.TSend args = tsend_of args
-op_of verb.Inject args = inject_of args
-op_of verb.TInject args = tinject_of args
-op_of verb.MRecv args = mrecv_of args
-op_of verb.Write args = write_of args
-op_of verb.WInject args = winject_of args
-op_of verb.Recv args = recv_of args
-op_of verb.TRecv args = trecv_of args
-op_of verb.Peek args = map_ok a_peek (look_of args)
-op_of verb.Claim args = map_ok a_claim (look_of args)
-op_of verb.Discard args = map_ok a_discard (look_of args)
-op_of verb.Take args = take_of args
-op_of verb.DropClaimed args = map_ok op.DropClaimed (number_line args)
-op_of verb.Cancel args = map_ok op.Cancel (number_line args)
-op_of verb.Read args = read_of args
-op_of verb.Atomic args = atomic_of args
-op_of verb.Fetch args = fetch_of args
-op_of verb.Compare args = compare_of args
-op_of verb.Reg args = reg_of args
-op_of verb.Close args = map_ok op.Close (number_line args)
-op_of verb.Put args = put_of args
-op_of verb.Show args = map_ok op.Show (number_line args)
-op_of verb.Insert args = insert_of args
-op_of verb.Remove args = remove_of args
-op_of verb.Wait args = wait_of args
-op_of verb.Count args = count_of args
-op_of verb.Reach args = reach_of args
-op_of _ args = Err Words
+unfoldable pub op_of : ℕ → Verb → List (List ℕ) → Result LineOp Fault
+op_of most verb.Send args = send_of most args
+op_of most verb.TSend args = tsend_of most args
+op_of most verb.Inject args = inject_of most args
+op_of most verb.TInject args = tinject_of most args
+op_of most verb.MRecv args = mrecv_of most args
+op_of most verb.Write args = write_of most args
+op_of most verb.WInject args = winject_of most args
+op_of most verb.Recv args = recv_of most args
+op_of most verb.TRecv args = trecv_of most args
+op_of most verb.Peek args = map_ok a_peek (look_of args)
+op_of most verb.Claim args = map_ok a_claim (look_of args)
+op_of most verb.Discard args = map_ok a_discard (look_of args)
+op_of most verb.Take args = take_of most args
+op_of most verb.DropClaimed args = map_ok op.DropClaimed (number_line args)
+op_of most verb.Cancel args = map_ok op.Cancel (number_line args)
+op_of most verb.Read args = read_of most args
+op_of most verb.Atomic args = atomic_of args
+op_of most verb.Fetch args = fetch_of args
+op_of most verb.Compare args = compare_of args
+op_of most verb.Reg args = reg_of most args
+op_of most verb.Close args = map_ok op.Close (number_line args)
+op_of most verb.Put args = put_of most args
+op_of most verb.Show args = map_ok op.Show (number_line args)
+op_of most verb.Insert args = insert_of args
+op_of most verb.Remove args = remove_of args
+op_of most verb.Wait args = wait_of args
+op_of most verb.Count args = count_of args
+op_of most verb.Reach args = reach_of args
+op_of most _ args = Err Words

@@ -1,11 +1,12 @@
 -- The rules of a line, each a test of the line and of what the lines before it say, beside the reason for which a line is refused that breaks it.
---     setting_rules, peer_rules, call_rules      of a setting, of `peer K`, and of a line that a peer does
+--     setting_rules, peer_rules, call_rules      of a setting, of `peer K`, and of a line that a peer does, after the header of a version
 --     why_of before number line                  the first rule that a line breaks; None where it breaks none
 --     with_line before number line               what is said with this line, where it breaks none
-use Rattle.std.specs.Prelude.{ℕ, ◌+◌, Bool, true, false, not, ◌||◌, ◌&&◌, ◌==◌, nat_lt, nat_le, if◌then◌else◌, List, [], ◌∷◌, ◌++◌, length, sum_by, codes, bytes_eq, Option, Some, None, is_none, Result, Ok, Err}
+use Rattle.std.specs.Prelude.{ℕ, ◌+◌, Bool, true, false, not, ◌||◌, ◌==◌, nat_lt, nat_le, List, [], ◌∷◌, ◌++◌, length, sum_by, Option, Some, None, is_none, Result, Ok, Err}
 use Rattle.std.specs.List.{list_any}
 use Rattle.fab_base.specs.declared.status.Why.{Why}
 use Rattle.fab_base.specs.declared.status.Why.TheVariants as why
+use Rattle.fab_base.specs.declared.caps.Api.{Api}
 use Rattle.fab_base.specs.declared.script.LineOp.{LineOp}
 use Rattle.fab_base.specs.declared.script.Payload.{Payload}
 use Rattle.fab_model.specs.Negotiation.{grant}
@@ -24,6 +25,7 @@ use Rattle.fab_grammar.specs.Lines.{op_of, op_size}
 use Rattle.fab_words.specs.Rows.{is_text, words_of}
 use Rattle.fab_grammar.specs.Settings.{setting_of, peer_of, is_made, making, asking}
 use Rattle.fab_grammar.specs.Verbs.{verb_of, kind_of}
+use Rattle.fab_grammar.specs.Versions.{header_of, most_bytes, most_in_all}
 use Rattle.fab_words.specs.Words.{first_of, number_of}
 
 abbrev pub Rules : Type 0
@@ -84,18 +86,18 @@ is_one_too_many before (Ok (File payload)) = nat_le 64 (length before.payloads)
 is_one_too_many before _ = false
 
 -- the provider does not grant these capabilities
-abbrev pub is_refused : Result Setting Fault → Bool
-is_refused (Ok (Capabilities caps)) = is_none (grant (Some (asking caps)))
-is_refused _ = false
+abbrev pub is_refused : Api → Result Setting Fault → Bool
+is_refused api (Ok (Capabilities caps)) = is_none (grant api (Some (asking caps)))
+is_refused api _ = false
 
-unfoldable pub setting_rules : Before → ℕ → Verb → List (List ℕ) → Rules
-setting_rules before number verb args = let said = setting_of verb args in
+unfoldable pub setting_rules : Api → Before → ℕ → Verb → List (List ℕ) → Rules
+setting_rules api before number verb args = let said = setting_of api verb args in
     (has_opened before, why.Order)
     ∷ (is_set before verb args, why.Twice)
     ∷ (is_words said, why.Words)
     ∷ (is_number said, why.Number)
     ∷ (is_limit said || is_late number || is_one_too_many before said, why.Limit)
-    ∷ (is_refused said, why.NoData)
+    ∷ (is_refused api said, why.NoData)
     ∷ []
 
 -- the peer is not there
@@ -112,39 +114,34 @@ peer_rules before number args = let said = peer_of args in
     ∷ (is_limit said || is_late number, why.Limit)
     ∷ []
 
--- the bytes of all lines, this one among them, are at most 67,108,864
-abbrev pub is_too_much : Before → Result LineOp Fault → Bool
-is_too_much before (Ok op) = nat_lt 67108864 (sum_by size_of before.items + op_size op)
-is_too_much before (Err fault) = false
+-- the bytes of all lines, this one among them, are too many
+abbrev pub is_too_much : Api → Before → Result LineOp Fault → Bool
+is_too_much api before (Ok op) = nat_lt (most_in_all api) (sum_by size_of before.items + op_size op)
+is_too_much api before (Err fault) = false
 
-unfoldable pub call_rules : Before → ℕ → Verb → List (List ℕ) → Rules
-call_rules before number verb args = let said = op_of verb args in
+unfoldable pub call_rules : Api → Before → ℕ → Verb → List (List ℕ) → Rules
+call_rules api before number verb args = let said = op_of (most_bytes api) verb args in
     (not (has_opened before), why.Order)
     ∷ (is_words said, why.Words)
     ∷ (is_number said, why.Number)
-    ∷ (is_limit said || is_late number || is_too_much before said, why.Limit)
+    ∷ (is_limit said || is_late number || is_too_much api before said, why.Limit)
     ∷ []
 
-abbrev pub kind_rules : Kind → Before → ℕ → Verb → List (List ℕ) → Rules
-kind_rules kind.Setting before number verb args = setting_rules before number verb args
-kind_rules kind.Peer before number verb args = peer_rules before number args
-kind_rules kind.Call before number verb args = call_rules before number verb args
+abbrev pub kind_rules : Kind → Api → Before → ℕ → Verb → List (List ℕ) → Rules
+kind_rules kind.Setting api before number verb args = setting_rules api before number verb args
+kind_rules kind.Peer api before number verb args = peer_rules before number args
+kind_rules kind.Call api before number verb args = call_rules api before number verb args
 
-abbrev pub verb_rules : Before → ℕ → Option Verb → List (List ℕ) → Rules
-verb_rules before number None args = (true, why.Verb) ∷ []
-verb_rules before number (Some verb) args = kind_rules (kind_of verb) before number verb args
-
--- `fabric 1`
-abbrev pub is_header : List (List ℕ) → Bool
-is_header (name ∷ version ∷ []) = bytes_eq name (codes "fabric") && bytes_eq version (codes "1")
-is_header _ = false
+abbrev pub verb_rules : Api → Before → ℕ → Option Verb → List (List ℕ) → Rules
+verb_rules api before number None args = (true, why.Verb) ∷ []
+verb_rules api before number (Some verb) args = kind_rules (kind_of verb) api before number verb args
 
 abbrev pub header_rules : ℕ → List (List ℕ) → Rules
-header_rules number words = (not (is_header words), why.Header) ∷ (is_late number, why.Limit) ∷ []
+header_rules number words = (is_none (header_of words), why.Header) ∷ (is_late number, why.Limit) ∷ []
 
 abbrev pub word_rules : Before → ℕ → List (List ℕ) → Rules
 word_rules before number [] = (is_late number, why.Limit) ∷ []
-word_rules before number (word ∷ args) = if before.has_header then verb_rules before number (verb_of word) args else header_rules number (word ∷ args)
+word_rules before number (word ∷ args) = elim before.api [ None ↦ header_rules number (word ∷ args) | Some api ↦ verb_rules api before number (verb_of word) args ]
 
 unfoldable pub why_of : Before → ℕ → List ℕ → Option Why
 why_of before number line = first_of ((not (is_text line), why.NotText) ∷ word_rules before number (words_of line))
@@ -163,18 +160,18 @@ abbrev pub with_call : Before → ℕ → Result LineOp Fault → Before
 with_call before number (Ok op) = record before { items = before.items ++ Does (record { number = number; op = op }) ∷ [] }
 with_call before number (Err fault) = before
 
-abbrev pub with_kind : Kind → Before → ℕ → Verb → List (List ℕ) → Before
-with_kind kind.Setting before number verb args = with_setting before (setting_of verb args)
-with_kind kind.Peer before number verb args = with_peer before (peer_of args)
-with_kind kind.Call before number verb args = with_call before number (op_of verb args)
+abbrev pub with_kind : Kind → Api → Before → ℕ → Verb → List (List ℕ) → Before
+with_kind kind.Setting api before number verb args = with_setting before (setting_of api verb args)
+with_kind kind.Peer api before number verb args = with_peer before (peer_of args)
+with_kind kind.Call api before number verb args = with_call before number (op_of (most_bytes api) verb args)
 
-abbrev pub with_verb : Before → ℕ → Option Verb → List (List ℕ) → Before
-with_verb before number None args = before
-with_verb before number (Some verb) args = with_kind (kind_of verb) before number verb args
+abbrev pub with_verb : Api → Before → ℕ → Option Verb → List (List ℕ) → Before
+with_verb api before number None args = before
+with_verb api before number (Some verb) args = with_kind (kind_of verb) api before number verb args
 
 abbrev pub with_words : Before → ℕ → List (List ℕ) → Before
 with_words before number [] = before
-with_words before number (word ∷ args) = if before.has_header then with_verb before number (verb_of word) args else record before { has_header = true }
+with_words before number (word ∷ args) = elim before.api [ None ↦ record before { api = header_of (word ∷ args) } | Some api ↦ with_verb api before number (verb_of word) args ]
 
 unfoldable pub with_line : Before → ℕ → List ℕ → Before
 with_line before number line = with_words before number (words_of line)

@@ -1,11 +1,12 @@
 -- What the settings ask for.
---     setting_of verb args        what one says, of the words after its verb
+--     setting_of api verb args    what one says in this version, of the words after its verb
 --     peer_of args                `peer K`
 --     is_made settings verb       the setting was made
 --     making settings setting     the settings with one more
 --     hints_of settings           what is asked for of the provider (fi_getinfo(3))
 use Rattle.std.specs.Prelude.{ℕ, Bool, true, false, ◌&&◌, nat_le, if◌then◌else◌, is_some, List, [], ◌∷◌, Option, Some, None, Result, Ok, Err}
 use Rattle.fab_base.specs.Offer.{limits_of}
+use Rattle.fab_base.specs.declared.caps.Api.{Api}
 use Rattle.fab_base.specs.declared.caps.Caps.{Caps}
 use Rattle.fab_base.specs.declared.caps.Hints.{Hints}
 use Rattle.fab_base.specs.declared.limits.Limits.{Limits}
@@ -29,9 +30,9 @@ between limits (Ok n) = if nat_le limits.least n && nat_le n limits.greatest the
 between limits (Err fault) = Err fault
 
 -- a size within its limits
-unfoldable pub size_of : Size → List (List ℕ) → Result ℕ Fault
-size_of size (word ∷ []) = between (limits_of size) (read_number word)
-size_of size _ = Err Words
+unfoldable pub size_of : Api → Size → List (List ℕ) → Result ℕ Fault
+size_of api size (word ∷ []) = between (limits_of api size) (read_number word)
+size_of api size _ = Err Words
 
 -- `caps LIST`
 unfoldable pub caps_setting : List (List ℕ) → Result Setting Fault
@@ -52,20 +53,20 @@ payload_setting (id ∷ name ∷ []) = map_ok a_file (read_number id & read_text
 payload_setting _ = Err Words
 
 -- a setting of one number
-unfoldable pub wish_of : Verb → List (List ℕ) → Result Setting Fault
-wish_of verb.Peers args = map_ok Peers (size_of size.Peers args)
-wish_of verb.Lane args = map_ok (Wish size.Lane) (size_of size.Lane args)
-wish_of verb.Pool args = map_ok (Wish size.Pool) (size_of size.Pool args)
-wish_of verb.Tx args = map_ok (Wish size.Tx) (size_of size.Tx args)
-wish_of verb.Rx args = map_ok (Wish size.Rx) (size_of size.Rx args)
-wish_of verb.Cq args = map_ok (Wish size.Cq) (size_of size.Cq args)
-wish_of _ args = Err Words
+unfoldable pub wish_of : Api → Verb → List (List ℕ) → Result Setting Fault
+wish_of api verb.Peers args = map_ok Peers (size_of api size.Peers args)
+wish_of api verb.Lane args = map_ok (Wish size.Lane) (size_of api size.Lane args)
+wish_of api verb.Pool args = map_ok (Wish size.Pool) (size_of api size.Pool args)
+wish_of api verb.Tx args = map_ok (Wish size.Tx) (size_of api size.Tx args)
+wish_of api verb.Rx args = map_ok (Wish size.Rx) (size_of api size.Rx args)
+wish_of api verb.Cq args = map_ok (Wish size.Cq) (size_of api size.Cq args)
+wish_of api _ args = Err Words
 
-unfoldable pub setting_of : Verb → List (List ℕ) → Result Setting Fault
-setting_of verb.Caps args = caps_setting args
-setting_of verb.Selective args = selective_setting args
-setting_of verb.Payload args = payload_setting args
-setting_of verb args = wish_of verb args
+unfoldable pub setting_of : Api → Verb → List (List ℕ) → Result Setting Fault
+setting_of api verb.Caps args = caps_setting args
+setting_of api verb.Selective args = selective_setting args
+setting_of api verb.Payload args = payload_setting args
+setting_of api verb args = wish_of api verb args
 
 -- `peer K`
 unfoldable pub peer_of : List (List ℕ) → Result ℕ Fault

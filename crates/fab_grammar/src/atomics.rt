@@ -75,7 +75,7 @@ pub fn atom_name(atom: AtomicOp) -> &'static str
 
 /// The operation of this name.
 #[tactic(auto, unfolding(crate::specs::Atomics::atom_named))]
-fn atom_named(word: &[u8]) -> Option<AtomicOp>
+pub fn atom_named(word: &[u8]) -> Option<AtomicOp>
     ensures { result ≡ atom_named word.now }
 {
     ATOMS
@@ -102,7 +102,7 @@ pub fn num_name(num: Num) -> &'static str
 
 /// The kind of elements of this name.
 #[tactic(auto, unfolding(crate::specs::Atomics::num_named))]
-fn num_named(word: &[u8]) -> Option<Num>
+pub fn num_named(word: &[u8]) -> Option<Num>
     ensures { result ≡ num_named word.now }
 {
     NUMS.iter().copied().find(|num| is(word, num_name(*num)))
@@ -218,7 +218,7 @@ fn push_element(bytes: &mut Vec<u8>, num: Num, value: u64) -> Result<(), NoMemor
 
 /// The elements whose numbers the commas join.
 #[tactic(auto, unfolding(crate::specs::Atomics::read_elements))]
-fn read_elements(alloc: Global, num: Num, word: &[u8]) -> Result<Read<Buf>, NoMemory>
+pub fn read_elements(alloc: Global, num: Num, word: &[u8]) -> Result<Read<Buf>, NoMemory>
     ensures { IfOk result (λ read. read ≡ read_elements num word.now) }
 {
     let mut bytes = Vec::new(alloc);
@@ -308,7 +308,7 @@ fn read_request(
 fn for_atomic() -> Allowed
     ensures { result ≡ for_atomic }
 {
-    Allowed::new(false, false, true, false)
+    Allowed::new(false, false, true, true, false)
 }
 
 /// `atomic C D KEY AT OP NUM VALUES` (fi_atomic of fi_atomic(3)).
@@ -336,6 +336,7 @@ pub(crate) fn atomic(alloc: Global, args: &mut Words) -> Result<Read<LineOp>, No
         num,
         values,
         completion: o.completion,
+        fence: o.fence,
     }))
 }
 

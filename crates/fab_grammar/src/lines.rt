@@ -8,15 +8,15 @@ use crate::sends::{inject, mrecv, read_target, send, tinject, tsend, winject, wr
 use crate::verbs::Verb;
 use fab_base::{Access, Class, LineOp, NoMemory};
 use fab_words::{
-    Fault, Read, Words, both, is, read_bytes, read_index, read_len, read_number, read_source,
-    read_text,
+    Fault, Read, Words, both, is, read_bytes, read_index, read_number, read_source, read_text,
+    read_up_to,
 };
 use std::alloc::Global;
 
 /// `trecv C SRC TAG IGNORE LEN` (fi_trecv of fi_tagged(3)).
 #[tactic(auto, using(crate::proofs::LineLemmas::trecv_of_other), unfolding(crate::specs::Lines::trecv_of))]
-fn trecv(args: &mut Words) -> Read<LineOp>
-    ensures { result ≡ trecv_of args.old }
+fn trecv(most: u32, args: &mut Words) -> Read<LineOp>
+    ensures { result ≡ trecv_of most args.old }
 {
     let Some((ctx, source, tag, ignore, len)) = args.five() else {
         return Err(Fault::Words);
@@ -27,7 +27,7 @@ fn trecv(args: &mut Words) -> Read<LineOp>
     );
     let ((((ctx, source), tag), ignore), len) = both(
         both(start, read_number(ignore)),
-        read_len(len),
+        read_up_to(most, len),
     )?;
     Ok(LineOp::TRecv {
         ctx,
@@ -40,16 +40,17 @@ fn trecv(args: &mut Words) -> Read<LineOp>
 
 /// `recv C SRC LEN` (fi_recv of fi_msg(3)).
 #[tactic(auto, using(crate::proofs::LineLemmas::recv_of_other), unfolding(crate::specs::Lines::recv_of))]
-fn recv(args: &mut Words) -> Read<LineOp>
-    ensures { result ≡ recv_of args.old }
+fn recv(most: u32, args: &mut Words) -> Read<LineOp>
+    ensures { result ≡ recv_of most args.old }
 {
     let Some((ctx, source, len)) = args.three() else {
         return Err(Fault::Words);
     };
-    both(both(read_number(ctx), read_source(source)), read_len(len)).map(|(
-        (ctx, source),
-        len,
-    )| LineOp::Recv { ctx, source, len })
+    both(
+        both(read_number(ctx), read_source(source)),
+        read_up_to(most, len),
+    )
+    .map(|((ctx, source), len)| LineOp::Recv { ctx, source, len })
 }
 
 /// The words of a look at what has arrived: context, source, tag and ignored bits.
@@ -105,13 +106,13 @@ fn discard(look: Read<Look>) -> Read<LineOp>
 
 /// `take C LEN`.
 #[tactic(auto, using(crate::proofs::LineLemmas::take_of_other), unfolding(crate::specs::Lines::take_of))]
-fn take(args: &mut Words) -> Read<LineOp>
-    ensures { result ≡ take_of args.old }
+fn take(most: u32, args: &mut Words) -> Read<LineOp>
+    ensures { result ≡ take_of most args.old }
 {
     let Some((ctx, len)) = args.two() else {
         return Err(Fault::Words);
     };
-    both(read_number(ctx), read_len(len)).map(|(ctx, len)| LineOp::Take { ctx, len })
+    both(read_number(ctx), read_up_to(most, len)).map(|(ctx, len)| LineOp::Take { ctx, len })
 }
 
 /// One number.
@@ -144,15 +145,15 @@ fn insert(alloc: Global, args: &mut Words) -> Result<Read<LineOp>, NoMemory>
 
 /// `read C D KEY AT LEN` (fi_read of fi_rma(3)).
 #[tactic(auto, using(crate::proofs::LineLemmas::read_of_other), unfolding(crate::specs::Lines::read_of))]
-fn read(args: &mut Words) -> Read<LineOp>
-    ensures { result ≡ read_of args.old }
+fn read(most: u32, args: &mut Words) -> Read<LineOp>
+    ensures { result ≡ read_of most args.old }
 {
     let Some((ctx, dest, key, at, len)) = args.five() else {
         return Err(Fault::Words);
     };
     both(
         both(read_number(ctx), read_target(dest, key, at)),
-        read_len(len),
+        read_up_to(most, len),
     )
     .map(|((ctx, ((dest, key), at)), len)| LineOp::Read {
         ctx,
@@ -187,26 +188,26 @@ fn read_rights(word: &[u8]) -> Read<Access>
 
 /// `reg KEY RIGHTS BYTES` (fi_mr_reg of fi_mr(3)).
 #[tactic(auto, using(crate::proofs::LineLemmas::reg_of_other), unfolding(crate::specs::Lines::reg_of))]
-fn reg(alloc: Global, args: &mut Words) -> Result<Read<LineOp>, NoMemory>
-    ensures { IfOk result (λ read. read ≡ reg_of args.old) }
+fn reg(alloc: Global, most: u32, args: &mut Words) -> Result<Read<LineOp>, NoMemory>
+    ensures { IfOk result (λ read. read ≡ reg_of most args.old) }
 {
     let Some((key, access, bytes)) = args.three() else {
         return Ok(Err(Fault::Words));
     };
-    let bytes = read_bytes(alloc, bytes)?;
+    let bytes = read_bytes(alloc, most, bytes)?;
     let start = both(read_number(key), read_rights(access));
     Ok(both(start, bytes).map(|((key, access), bytes)| LineOp::Reg { key, access, bytes }))
 }
 
 /// `put KEY AT BYTES`.
 #[tactic(auto, using(crate::proofs::LineLemmas::put_of_other), unfolding(crate::specs::Lines::put_of))]
-fn put(alloc: Global, args: &mut Words) -> Result<Read<LineOp>, NoMemory>
-    ensures { IfOk result (λ read. read ≡ put_of args.old) }
+fn put(alloc: Global, most: u32, args: &mut Words) -> Result<Read<LineOp>, NoMemory>
+    ensures { IfOk result (λ read. read ≡ put_of most args.old) }
 {
     let Some((key, at, bytes)) = args.three() else {
         return Ok(Err(Fault::Words));
     };
-    let bytes = read_bytes(alloc, bytes)?;
+    let bytes = read_bytes(alloc, most, bytes)?;
     let start = both(read_number(key), read_number(at));
     Ok(both(start, bytes).map(|((key, at), bytes)| LineOp::Put { key, at, bytes }))
 }
@@ -289,36 +290,41 @@ fn reach(args: &mut Words) -> Read<LineOp>
     both(read_class(class), read_number(n)).map(|(class, n)| LineOp::Reach { class, n })
 }
 
-/// What a line asks for, of the words after its verb.
+/// What a line asks for, of the words after its verb: `most` bytes at the most.
 #[tactic(auto, unfolding(crate::specs::Lines::op_of))]
-pub fn read_op(alloc: Global, verb: Verb, args: &mut Words) -> Result<Read<LineOp>, NoMemory>
-    ensures { IfOk result (λ read. read ≡ op_of verb args.old) }
+pub fn read_op(
+    alloc: Global,
+    most: u32,
+    verb: Verb,
+    args: &mut Words,
+) -> Result<Read<LineOp>, NoMemory>
+    ensures { IfOk result (λ read. read ≡ op_of most verb args.old) }
 {
     match verb {
-        Verb::Send => send(alloc, args),
-        Verb::TSend => tsend(alloc, args),
-        Verb::Inject => inject(alloc, args),
-        Verb::TInject => tinject(alloc, args),
-        Verb::Write => write(alloc, args),
-        Verb::WInject => winject(alloc, args),
+        Verb::Send => send(alloc, most, args),
+        Verb::TSend => tsend(alloc, most, args),
+        Verb::Inject => inject(alloc, most, args),
+        Verb::TInject => tinject(alloc, most, args),
+        Verb::Write => write(alloc, most, args),
+        Verb::WInject => winject(alloc, most, args),
         Verb::Atomic => atomic(alloc, args),
         Verb::Fetch => fetch(alloc, args),
         Verb::Compare => compare(alloc, args),
-        Verb::Reg => reg(alloc, args),
-        Verb::Put => put(alloc, args),
+        Verb::Reg => reg(alloc, most, args),
+        Verb::Put => put(alloc, most, args),
         Verb::Insert => insert(alloc, args),
-        Verb::Recv => Ok(recv(args)),
-        Verb::TRecv => Ok(trecv(args)),
-        Verb::MRecv => Ok(mrecv(args)),
+        Verb::Recv => Ok(recv(most, args)),
+        Verb::TRecv => Ok(trecv(most, args)),
+        Verb::MRecv => Ok(mrecv(most, args)),
         Verb::Peek => Ok(peek(look(args))),
         Verb::Claim => Ok(claim(look(args))),
         Verb::Discard => Ok(discard(look(args))),
-        Verb::Take => Ok(take(args)),
+        Verb::Take => Ok(take(most, args)),
         Verb::DropClaimed => Ok(number_line(args).map(|ctx| LineOp::DropClaimed { ctx })),
         Verb::Cancel => Ok(number_line(args).map(|ctx| LineOp::Cancel { ctx })),
         Verb::Close => Ok(number_line(args).map(|key| LineOp::Close { key })),
         Verb::Show => Ok(number_line(args).map(|key| LineOp::Show { key })),
-        Verb::Read => Ok(read(args)),
+        Verb::Read => Ok(read(most, args)),
         Verb::Remove => Ok(remove(args)),
         Verb::Wait => Ok(wait(args)),
         Verb::Count => Ok(count(args)),

@@ -1,6 +1,6 @@
 //! The optional words of a line.
 ghost use Rattle.std.specs.Prelude.{◌≡◌, length, codes, option_copied};
-ghost use Rattle.fab_grammar.specs.Options.{level_name, level_named, optional_of, allows, without, are_options, value_after, read_if, level_in, has_completion, read_options, allowing};
+ghost use Rattle.fab_grammar.specs.Options.{level_name, level_named, optional_of, allows, without, are_options, value_after, read_if, level_in, has_word, read_options, allowing};
 ghost use Rattle.fab_words.specs.Words.{begins_with, read_number as a_number, read_index as an_index};
 
 use fab_base::Level;
@@ -12,6 +12,7 @@ pub enum Optional {
     Data,
     AtLevel(Level),
     Completion,
+    Fence,
     Min,
 }
 
@@ -21,6 +22,7 @@ pub struct Allowed {
     pub imm: bool,
     pub level: bool,
     pub completion: bool,
+    pub fence: bool,
     pub min: bool,
 }
 
@@ -30,6 +32,7 @@ pub struct Options {
     pub imm: Option<u64>,
     pub level: Level,
     pub completion: bool,
+    pub fence: bool,
     pub min: Option<u32>,
 }
 
@@ -73,6 +76,8 @@ fn optional_of(word: &[u8]) -> Option<Optional>
         Some(Optional::Data)
     } else if is(word, "completion") {
         Some(Optional::Completion)
+    } else if is(word, "fence") {
+        Some(Optional::Fence)
     } else if word.starts_with(b"min=") {
         Some(Optional::Min)
     } else {
@@ -82,13 +87,14 @@ fn optional_of(word: &[u8]) -> Option<Optional>
 
 impl Allowed {
     /// What a line may have.
-    pub fn new(imm: bool, level: bool, completion: bool, min: bool) -> Allowed
-        ensures { result ≡ allowing imm level completion min }
+    pub fn new(imm: bool, level: bool, completion: bool, fence: bool, min: bool) -> Allowed
+        ensures { result ≡ allowing imm level completion fence min }
     {
         Allowed {
             imm,
             level,
             completion,
+            fence,
             min,
         }
     }
@@ -100,6 +106,7 @@ impl Allowed {
             Some(Optional::Data) => self.imm,
             Some(Optional::AtLevel(_)) => self.level,
             Some(Optional::Completion) => self.completion,
+            Some(Optional::Fence) => self.fence,
             Some(Optional::Min) => self.min,
             None => false,
         }
@@ -113,6 +120,7 @@ impl Allowed {
             Some(Optional::Data) => self.imm = false,
             Some(Optional::AtLevel(_)) => self.level = false,
             Some(Optional::Completion) => self.completion = false,
+            Some(Optional::Fence) => self.fence = false,
             Some(Optional::Min) => self.min = false,
             None => {}
         }
@@ -178,13 +186,14 @@ fn level_in(args: &Words) -> Level
     }
 }
 
-#[tactic(auto, unfolding(crate::specs::Options::has_completion))]
-fn has_completion(args: &Words) -> bool
-    ensures { result ≡ has_completion args.now }
+/// Whether this is one of the words.
+#[tactic(auto, unfolding(crate::specs::Options::has_word))]
+fn has_word(name: &str, args: &Words) -> bool
+    ensures { result ≡ has_word name.now args.now }
 {
     let mut words = args.again();
     while let Some(word) = words.next() {
-        if is(word, "completion") {
+        if is(word, name) {
             return true;
         }
     }
@@ -200,11 +209,13 @@ pub(crate) fn read_options(allowed: Allowed, args: &Words) -> Read<Options>
         return Err(Fault::Words);
     }
     let level = level_in(args);
-    let completion = has_completion(args);
+    let completion = has_word("completion", args);
+    let fence = has_word("fence", args);
     both(imm_in(args), min_in(args)).map(|(imm, min)| Options {
         imm,
         level,
         completion,
+        fence,
         min,
     })
 }

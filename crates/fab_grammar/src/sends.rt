@@ -5,7 +5,7 @@ ghost use Rattle.fab_grammar.specs.Sends.{read_target, read_to, read_tagged, rea
 use crate::options::{Allowed, read_options};
 use fab_base::{LineOp, NoMemory};
 use fab_words::{
-    Fault, Read, Words, both, read_bytes, read_index, read_len, read_number, read_source,
+    Fault, Read, Words, both, read_bytes, read_index, read_number, read_source, read_up_to,
 };
 use std::alloc::Global;
 
@@ -49,36 +49,36 @@ pub(crate) fn read_remote(
 fn for_send() -> Allowed
     ensures { result ≡ for_send }
 {
-    Allowed::new(true, true, true, false)
+    Allowed::new(true, true, true, true, false)
 }
 
 fn for_inject() -> Allowed
     ensures { result ≡ for_inject }
 {
-    Allowed::new(true, false, false, false)
+    Allowed::new(true, false, false, false, false)
 }
 
 fn for_write() -> Allowed
     ensures { result ≡ for_write }
 {
-    Allowed::new(true, false, true, false)
+    Allowed::new(true, false, true, true, false)
 }
 
 fn for_multi() -> Allowed
     ensures { result ≡ for_multi }
 {
-    Allowed::new(false, false, false, true)
+    Allowed::new(false, false, false, false, true)
 }
 
 /// `send C D BYTES` (fi_send of fi_msg(3)).
 #[tactic(auto, using(crate::proofs::LineLemmas::send_of_other), unfolding(crate::specs::Sends::send_of))]
-pub(crate) fn send(alloc: Global, args: &mut Words) -> Result<Read<LineOp>, NoMemory>
-    ensures { IfOk result (λ read. read ≡ send_of args.old) }
+pub(crate) fn send(alloc: Global, most: u32, args: &mut Words) -> Result<Read<LineOp>, NoMemory>
+    ensures { IfOk result (λ read. read ≡ send_of most args.old) }
 {
     let Some((ctx, dest, bytes)) = args.first_three() else {
         return Ok(Err(Fault::Words));
     };
-    let bytes = read_bytes(alloc, bytes)?;
+    let bytes = read_bytes(alloc, most, bytes)?;
     let options = read_options(for_send(), args);
     Ok(both(both(read_to(ctx, dest), bytes), options).map(|(((ctx, dest), bytes), o)| LineOp::Send {
         ctx,
@@ -87,18 +87,19 @@ pub(crate) fn send(alloc: Global, args: &mut Words) -> Result<Read<LineOp>, NoMe
         imm: o.imm,
         level: o.level,
         completion: o.completion,
+        fence: o.fence,
     }))
 }
 
 /// `tsend C D TAG BYTES` (fi_tsend of fi_tagged(3)).
 #[tactic(auto, using(crate::proofs::LineLemmas::tsend_of_other), unfolding(crate::specs::Sends::tsend_of))]
-pub(crate) fn tsend(alloc: Global, args: &mut Words) -> Result<Read<LineOp>, NoMemory>
-    ensures { IfOk result (λ read. read ≡ tsend_of args.old) }
+pub(crate) fn tsend(alloc: Global, most: u32, args: &mut Words) -> Result<Read<LineOp>, NoMemory>
+    ensures { IfOk result (λ read. read ≡ tsend_of most args.old) }
 {
     let Some((ctx, dest, tag, bytes)) = args.first_four() else {
         return Ok(Err(Fault::Words));
     };
-    let bytes = read_bytes(alloc, bytes)?;
+    let bytes = read_bytes(alloc, most, bytes)?;
     let start = read_tagged(ctx, dest, tag);
     let options = read_options(for_send(), args);
     Ok(both(both(start, bytes), options).map(|((((ctx, dest), tag), bytes), o)| LineOp::TSend {
@@ -109,18 +110,19 @@ pub(crate) fn tsend(alloc: Global, args: &mut Words) -> Result<Read<LineOp>, NoM
         imm: o.imm,
         level: o.level,
         completion: o.completion,
+        fence: o.fence,
     }))
 }
 
 /// `inject D BYTES` (fi_inject of fi_msg(3)).
 #[tactic(auto, using(crate::proofs::LineLemmas::inject_of_other), unfolding(crate::specs::Sends::inject_of))]
-pub(crate) fn inject(alloc: Global, args: &mut Words) -> Result<Read<LineOp>, NoMemory>
-    ensures { IfOk result (λ read. read ≡ inject_of args.old) }
+pub(crate) fn inject(alloc: Global, most: u32, args: &mut Words) -> Result<Read<LineOp>, NoMemory>
+    ensures { IfOk result (λ read. read ≡ inject_of most args.old) }
 {
     let Some((dest, bytes)) = args.first_two() else {
         return Ok(Err(Fault::Words));
     };
-    let bytes = read_bytes(alloc, bytes)?;
+    let bytes = read_bytes(alloc, most, bytes)?;
     let options = read_options(for_inject(), args);
     Ok(both(both(read_index(dest), bytes), options).map(|((dest, bytes), o)| LineOp::Inject {
         dest,
@@ -131,13 +133,13 @@ pub(crate) fn inject(alloc: Global, args: &mut Words) -> Result<Read<LineOp>, No
 
 /// `tinject D TAG BYTES` (fi_tinject of fi_tagged(3)).
 #[tactic(auto, using(crate::proofs::LineLemmas::tinject_of_other), unfolding(crate::specs::Sends::tinject_of))]
-pub(crate) fn tinject(alloc: Global, args: &mut Words) -> Result<Read<LineOp>, NoMemory>
-    ensures { IfOk result (λ read. read ≡ tinject_of args.old) }
+pub(crate) fn tinject(alloc: Global, most: u32, args: &mut Words) -> Result<Read<LineOp>, NoMemory>
+    ensures { IfOk result (λ read. read ≡ tinject_of most args.old) }
 {
     let Some((dest, tag, bytes)) = args.first_three() else {
         return Ok(Err(Fault::Words));
     };
-    let bytes = read_bytes(alloc, bytes)?;
+    let bytes = read_bytes(alloc, most, bytes)?;
     let start = both(read_index(dest), read_number(tag));
     let options = read_options(for_inject(), args);
     Ok(both(both(start, bytes), options).map(|(((dest, tag), bytes), o)| LineOp::TInject {
@@ -150,13 +152,13 @@ pub(crate) fn tinject(alloc: Global, args: &mut Words) -> Result<Read<LineOp>, N
 
 /// `write C D KEY AT BYTES` (fi_write of fi_rma(3)).
 #[tactic(auto, using(crate::proofs::LineLemmas::write_of_other), unfolding(crate::specs::Sends::write_of))]
-pub(crate) fn write(alloc: Global, args: &mut Words) -> Result<Read<LineOp>, NoMemory>
-    ensures { IfOk result (λ read. read ≡ write_of args.old) }
+pub(crate) fn write(alloc: Global, most: u32, args: &mut Words) -> Result<Read<LineOp>, NoMemory>
+    ensures { IfOk result (λ read. read ≡ write_of most args.old) }
 {
     let Some((ctx, dest, key, at, bytes)) = args.first_five() else {
         return Ok(Err(Fault::Words));
     };
-    let bytes = read_bytes(alloc, bytes)?;
+    let bytes = read_bytes(alloc, most, bytes)?;
     let start = read_remote(ctx, dest, key, at);
     let options = read_options(for_write(), args);
     Ok(both(both(start, bytes), options).map(|(
@@ -170,18 +172,19 @@ pub(crate) fn write(alloc: Global, args: &mut Words) -> Result<Read<LineOp>, NoM
         bytes,
         imm: o.imm,
         completion: o.completion,
+        fence: o.fence,
     }))
 }
 
 /// `winject D KEY AT BYTES` (fi_inject_write of fi_rma(3)).
 #[tactic(auto, using(crate::proofs::LineLemmas::winject_of_other), unfolding(crate::specs::Sends::winject_of))]
-pub(crate) fn winject(alloc: Global, args: &mut Words) -> Result<Read<LineOp>, NoMemory>
-    ensures { IfOk result (λ read. read ≡ winject_of args.old) }
+pub(crate) fn winject(alloc: Global, most: u32, args: &mut Words) -> Result<Read<LineOp>, NoMemory>
+    ensures { IfOk result (λ read. read ≡ winject_of most args.old) }
 {
     let Some((dest, key, at, bytes)) = args.first_four() else {
         return Ok(Err(Fault::Words));
     };
-    let bytes = read_bytes(alloc, bytes)?;
+    let bytes = read_bytes(alloc, most, bytes)?;
     let options = read_options(for_inject(), args);
     Ok(both(both(read_target(dest, key, at), bytes), options).map(|(
         (((dest, key), at), bytes),
@@ -197,13 +200,16 @@ pub(crate) fn winject(alloc: Global, args: &mut Words) -> Result<Read<LineOp>, N
 
 /// `mrecv C SRC LEN` (FI_MULTI_RECV of fi_msg(3)).
 #[tactic(auto, using(crate::proofs::LineLemmas::mrecv_of_other), unfolding(crate::specs::Sends::mrecv_of))]
-pub(crate) fn mrecv(args: &mut Words) -> Read<LineOp>
-    ensures { result ≡ mrecv_of args.old }
+pub(crate) fn mrecv(most: u32, args: &mut Words) -> Read<LineOp>
+    ensures { result ≡ mrecv_of most args.old }
 {
     let Some((ctx, source, len)) = args.first_three() else {
         return Err(Fault::Words);
     };
-    let start = both(both(read_number(ctx), read_source(source)), read_len(len));
+    let start = both(
+        both(read_number(ctx), read_source(source)),
+        read_up_to(most, len),
+    );
     let options = read_options(for_multi(), args);
     both(start, options).map(|(((ctx, source), len), o)| LineOp::MRecv {
         ctx,

@@ -4,7 +4,7 @@ ghost use Rattle.fab_grammar.specs.Settings.{between, size_of, caps_setting, sel
 
 use crate::capabilities::{none, read_caps};
 use crate::verbs::Verb;
-use fab_base::{Caps, Hints, Limits, NoMemory, Payload, Size};
+use fab_base::{Api, Caps, Hints, Limits, NoMemory, Payload, Size};
 use fab_words::{Fault, Read, Words, both, read_number, read_text};
 use std::alloc::Global;
 
@@ -138,11 +138,11 @@ fn between(limits: Limits, number: u64) -> Read<u32>
 
 /// A size within its limits.
 #[tactic(auto, using(crate::proofs::LineLemmas::size_of_other), unfolding(crate::specs::Settings::size_of))]
-fn read_size(size: Size, args: &mut Words) -> Read<u32>
-    ensures { result ≡ size_of size args.old }
+fn read_size(api: Api, size: Size, args: &mut Words) -> Read<u32>
+    ensures { result ≡ size_of api size args.old }
 {
     let number = read_number(args.one().ok_or(Fault::Words)?)?;
-    between(size.limits(), number)
+    between(size.limits(api), number)
 }
 
 /// `caps LIST`.
@@ -176,31 +176,36 @@ fn read_payload(alloc: Global, args: &mut Words) -> Result<Read<Setting>, NoMemo
     Ok(both(read_number(id), name).map(|(id, name)| Setting::File(Payload { id, name })))
 }
 
-/// What a setting asks for, of the words after its verb.
+/// What a setting asks for in this version, of the words after its verb.
 #[tactic(auto, unfolding(crate::specs::Settings::setting_of))]
-pub fn read_setting(alloc: Global, verb: Verb, args: &mut Words) -> Result<Read<Setting>, NoMemory>
-    ensures { IfOk result (λ read. read ≡ setting_of verb args.old) }
+pub fn read_setting(
+    alloc: Global,
+    api: Api,
+    verb: Verb,
+    args: &mut Words,
+) -> Result<Read<Setting>, NoMemory>
+    ensures { IfOk result (λ read. read ≡ setting_of api verb args.old) }
 {
     match verb {
         Verb::Caps => Ok(read_capabilities(args)),
         Verb::Selective => Ok(read_selective(args)),
         Verb::Payload => read_payload(alloc, args),
-        _ => Ok(read_wish(verb, args)),
+        _ => Ok(read_wish(api, verb, args)),
     }
 }
 
 /// What a setting of one number asks for.
 #[tactic(auto, unfolding(crate::specs::Settings::wish_of))]
-fn read_wish(verb: Verb, args: &mut Words) -> Read<Setting>
-    ensures { result ≡ wish_of verb args.old }
+fn read_wish(api: Api, verb: Verb, args: &mut Words) -> Read<Setting>
+    ensures { result ≡ wish_of api verb args.old }
 {
     match verb {
-        Verb::Peers => Ok(Setting::Peers(read_size(Size::Peers, args)?)),
-        Verb::Lane => Ok(Setting::Wish(Size::Lane, read_size(Size::Lane, args)?)),
-        Verb::Pool => Ok(Setting::Wish(Size::Pool, read_size(Size::Pool, args)?)),
-        Verb::Tx => Ok(Setting::Wish(Size::Tx, read_size(Size::Tx, args)?)),
-        Verb::Rx => Ok(Setting::Wish(Size::Rx, read_size(Size::Rx, args)?)),
-        Verb::Cq => Ok(Setting::Wish(Size::Cq, read_size(Size::Cq, args)?)),
+        Verb::Peers => Ok(Setting::Peers(read_size(api, Size::Peers, args)?)),
+        Verb::Lane => Ok(Setting::Wish(Size::Lane, read_size(api, Size::Lane, args)?)),
+        Verb::Pool => Ok(Setting::Wish(Size::Pool, read_size(api, Size::Pool, args)?)),
+        Verb::Tx => Ok(Setting::Wish(Size::Tx, read_size(api, Size::Tx, args)?)),
+        Verb::Rx => Ok(Setting::Wish(Size::Rx, read_size(api, Size::Rx, args)?)),
+        Verb::Cq => Ok(Setting::Wish(Size::Cq, read_size(api, Size::Cq, args)?)),
         _ => Err(Fault::Words),
     }
 }

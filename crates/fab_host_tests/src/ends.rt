@@ -71,12 +71,13 @@ fn each_end_has_its_status_and_its_line(rt: HostRuntime) -> Result<(), Fail> {
     let none: &[u64] = &[];
     let first: &[u64] = &[1];
     let usage =
-        "usage: fabric_pingpong script FILE | pingpong FILE SIZE COUNT | bandwidth FILE SIZE COUNT WINDOW | gen NUMBER PEERS MESSAGES | info CAPS | replay FILE TRACE\n";
+        "usage: fabric_pingpong script FILE | pingpong FILE SIZE COUNT | bandwidth FILE SIZE COUNT WINDOW | gen NUMBER PEERS MESSAGES | info CAPS | replay FILE TRACE | window NUMBER PEERS WORDS ADDS\n";
     let rows = [
         (it, DONE, none, none, 0, ""),
         (it, STUCK, none, none, 1, ""),
         (&["script"], DONE, none, none, 2, usage),
         (&["replay", "it", "it"], DONE, none, none, 0, ""),
+        (&["window", "0", "2", "1", "1"], DONE, none, none, 0, ""),
         (
             it,
             NO_VERB,

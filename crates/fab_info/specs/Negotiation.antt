@@ -3,13 +3,14 @@
 --     wished hints size          the wish for this size; a wish of 0 counts as none
 --     number info size           the number granted for this size
 --     Includes larger smaller    every capability of the smaller set is in the larger
---     IsOffered caps             every capability of the set is on offer
+--     IsOffered api caps         every capability of the set is on offer
 --     SameIn group a b           two sets agree on the capabilities of this group
---     IsWithin size n            the number is within the limits of the size
---     CannotBeHad hints          a capability asked for is not on offer, or a wish is outside the limits of its size
+--     IsWithin api size n        the number is within the limits of the size
+--     CannotBeHad api hints      a capability asked for is not on offer, or a wish is outside the limits of its size
 use Rattle.std.specs.Prelude.{◌≡◌, ℕ, ◌<◌, ◌≤◌, ◌⊎◌, Bool, true, false, IsTrue, Option, Some, None, IsSomeAnd}
 use Rattle.fab_base.specs.Granted.{has}
 use Rattle.fab_base.specs.Offer.{limits_of, is_offered}
+use Rattle.fab_base.specs.declared.caps.Api.{Api}
 use Rattle.fab_base.specs.declared.caps.Cap.{Cap}
 use Rattle.fab_base.specs.declared.caps.Cap.TheVariants.{Msg, Tagged, Rma, Atomic, DirectedRecv}
 use Rattle.fab_base.specs.declared.caps.Caps.{Caps}
@@ -67,23 +68,23 @@ is_primary _ = false
 abbrev pub Includes : Caps → Caps → Type 0
 Includes larger smaller = (cap : Cap) → IsTrue (has smaller cap) → IsTrue (has larger cap)
 
-abbrev pub IsOffered : Caps → Type 0
-IsOffered caps = (cap : Cap) → IsTrue (has caps cap) → IsTrue (is_offered cap)
+abbrev pub IsOffered : Api → Caps → Type 0
+IsOffered api caps = (cap : Cap) → IsTrue (has caps cap) → IsTrue (is_offered api cap)
 
 abbrev pub SameIn : (Cap → Bool) → Caps → Caps → Type 0
 SameIn group a b = (cap : Cap) → IsTrue (group cap) → has a cap ≡ has b cap
 
 -- ---- sizes
 
-abbrev pub IsWithin : Size → ℕ → Type 0
-IsWithin size n = ((limits_of size).least ≤ n) × (n ≤ (limits_of size).greatest)
+abbrev pub IsWithin : Api → Size → ℕ → Type 0
+IsWithin api size n = ((limits_of api size).least ≤ n) × (n ≤ (limits_of api size).greatest)
 
-abbrev pub IsOutside : Size → ℕ → Type 0
-IsOutside size n = (n < (limits_of size).least) ⊎ ((limits_of size).greatest < n)
+abbrev pub IsOutside : Api → Size → ℕ → Type 0
+IsOutside api size n = (n < (limits_of api size).least) ⊎ ((limits_of api size).greatest < n)
 
 -- ---- why something is refused
 
-abbrev pub CannotBeHad : Option Hints → Type 0
-CannotBeHad hints =
-    ((cap : Cap) × IsTrue (has (asked hints) cap) × (is_offered cap ≡ false))
-    ⊎ ((size : Size) × IsSomeAnd (wished hints size) (IsOutside size))
+abbrev pub CannotBeHad : Api → Option Hints → Type 0
+CannotBeHad api hints =
+    ((cap : Cap) × IsTrue (has (asked hints) cap) × (is_offered api cap ≡ false))
+    ⊎ ((size : Size) × IsSomeAnd (wished hints size) (IsOutside api size))

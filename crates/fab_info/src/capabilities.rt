@@ -4,7 +4,7 @@ ghost use Rattle.std.specs.List.{list_any};
 ghost use Rattle.fab_base.specs.Offer.{is_offered};
 ghost use Rattle.fab_model.specs.Negotiation.{all_caps, has_any, modifier, grants, grants_of, caps_of, is_not_offered};
 
-use fab_base::{Cap, Caps};
+use fab_base::{Api, Cap, Caps};
 
 const ALL: [Cap; 16] = [
     Cap::Msg,
@@ -49,39 +49,40 @@ fn modifies(asked: &Caps, modified: &[Cap], modifiers: &[Cap], cap: Cap) -> bool
 }
 
 /// Whether something is asked for that is not on offer.
-pub(crate) fn is_refused(asked: &Caps) -> bool
-    ensures { result ≡ list_any (is_not_offered asked.now) all_caps }
+pub(crate) fn is_refused(api: Api, asked: &Caps) -> bool
+    ensures { result ≡ list_any (is_not_offered api asked.now) all_caps }
 {
-    ALL.iter().any(|cap| asked.has(*cap) && !cap.is_offered())
+    ALL.iter()
+        .any(|cap| asked.has(*cap) && !cap.is_offered(api))
 }
 
 /// All that is on offer.
-fn offer() -> Caps
-    ensures { result ≡ caps_of is_offered }
+fn offer(api: Api) -> Caps
+    ensures { result ≡ caps_of (is_offered api) }
 {
     Caps {
-        msg: Cap::Msg.is_offered(),
-        tagged: Cap::Tagged.is_offered(),
-        rma: Cap::Rma.is_offered(),
-        atomic: Cap::Atomic.is_offered(),
-        directed_recv: Cap::DirectedRecv.is_offered(),
-        send: Cap::Send.is_offered(),
-        recv: Cap::Recv.is_offered(),
-        read: Cap::Read.is_offered(),
-        write: Cap::Write.is_offered(),
-        remote_read: Cap::RemoteRead.is_offered(),
-        remote_write: Cap::RemoteWrite.is_offered(),
-        multi_recv: Cap::MultiRecv.is_offered(),
-        source: Cap::Source.is_offered(),
-        rma_event: Cap::RmaEvent.is_offered(),
-        fence: Cap::Fence.is_offered(),
-        local_comm: Cap::LocalComm.is_offered(),
+        msg: Cap::Msg.is_offered(api),
+        tagged: Cap::Tagged.is_offered(api),
+        rma: Cap::Rma.is_offered(api),
+        atomic: Cap::Atomic.is_offered(api),
+        directed_recv: Cap::DirectedRecv.is_offered(api),
+        send: Cap::Send.is_offered(api),
+        recv: Cap::Recv.is_offered(api),
+        read: Cap::Read.is_offered(api),
+        write: Cap::Write.is_offered(api),
+        remote_read: Cap::RemoteRead.is_offered(api),
+        remote_write: Cap::RemoteWrite.is_offered(api),
+        multi_recv: Cap::MultiRecv.is_offered(api),
+        source: Cap::Source.is_offered(api),
+        rma_event: Cap::RmaEvent.is_offered(api),
+        fence: Cap::Fence.is_offered(api),
+        local_comm: Cap::LocalComm.is_offered(api),
     }
 }
 
 /// What is granted to whoever asks for something: the secondary ones as they are on offer.
-fn share(asked: &Caps) -> Caps
-    ensures { result ≡ caps_of (grants_of asked.now) }
+fn share(api: Api, asked: &Caps) -> Caps
+    ensures { result ≡ caps_of (grants_of api asked.now) }
 {
     Caps {
         msg: asked.msg,
@@ -95,17 +96,17 @@ fn share(asked: &Caps) -> Caps
         write: modifies(asked, &MEMORY, &MEMORY_MODIFIERS, Cap::Write),
         remote_read: modifies(asked, &MEMORY, &MEMORY_MODIFIERS, Cap::RemoteRead),
         remote_write: modifies(asked, &MEMORY, &MEMORY_MODIFIERS, Cap::RemoteWrite),
-        ..offer()
+        ..offer(api)
     }
 }
 
 /// What is granted to whoever asks for these.
-pub(crate) fn granted(asked: &Caps) -> Caps
-    ensures { result ≡ caps_of (grants asked.now) }
+pub(crate) fn granted(api: Api, asked: &Caps) -> Caps
+    ensures { result ≡ caps_of (grants api asked.now) }
 {
     if has_any(asked, &ALL) {
-        share(asked)
+        share(api, asked)
     } else {
-        offer()
+        offer(api)
     }
 }

@@ -24,6 +24,7 @@ order_of o = record {
   ctx = o.ctx;
   level = o.level;
   completion = o.completion;
+  fence = o.fence;
   buf = o.buf;
 }
 

@@ -28,6 +28,7 @@ pub struct Order {
     pub ctx: Option<u64>,
     pub level: Level,
     pub completion: bool,
+    pub fence: bool,
     pub buf: Option<Buf>,
 }
 
@@ -102,14 +103,13 @@ pub fn is_granted(caps: &Caps, kind: Kind, atom: Option<Atom>) -> bool
     }
 }
 
-/// The most bytes of a call, its operand, compare and buffer included.
-pub fn most_bytes(kind: Kind, injected: bool) -> u64
-    ensures most { result ≡ most_bytes kind injected }
-    ensures narrow { result ≤ 16_777_216 }
+/// The most bytes of a call, its operand, compare and buffer included, where a message may have so many.
+pub fn most_bytes(most: u32, kind: Kind, injected: bool) -> u32
+    ensures { result ≡ most_bytes most kind injected }
 {
     match kind {
         Kind::AtomicReq => 4_096,
-        _ => if injected { 4_096 } else { 16_777_216 },
+        _ => if injected { 4_096 } else { most },
     }
 }
 
@@ -121,11 +121,12 @@ impl Order {
         self.bytes.as_slice().len() as u128 + self.compared.as_slice().len() as u128
     }
 
-    pub fn is_too_long(&self) -> bool
-        ensures { result ≡ is_too_long (order_of self.now) }
+    /// Whether it has too many bytes, where a message may have so many.
+    pub fn is_too_long(&self, most: u32) -> bool
+        ensures { result ≡ is_too_long most (order_of self.now) }
     {
-        let most = most_bytes(self.kind, self.injected);
-        self.total() > most as u128 || self.count > most
+        let most = most_bytes(most, self.kind, self.injected);
+        self.total() > most as u128 || self.count > most as u64
     }
 
     /// Whether `at` and all lengths are multiples of the element's size and agree, and the operation

@@ -21,13 +21,13 @@ use Rattle.fab_machine.proofs.Growing.{fits_post_none, fits_post_some, fits_canc
 
 -- ---- posting
 
-post_fault_by : (s : State) (p : Posting) (o : Option Arrival) → may_receive s p.tagged ≡ true → nat_lt 16_777_216 (length p.buf) ≡ false → source_is_known s p.source ≡ true → least_is_wrong p ≡ false
+post_fault_by : (s : State) (p : Posting) (o : Option Arrival) → may_receive s p.tagged ≡ true → nat_lt s.most_message (length p.buf) ≡ false → source_is_known s p.source ≡ true → least_is_wrong p ≡ false
     → taken_by (receive_of s p) s ≡ o → place_fault o s ≡ post_fault s p
 unfolding post_fault
 post_fault_by s p None may short known right e = rw (may, short, known, right, fits_post_none s p e, e) refl
 post_fault_by s p (Some a) may short known right e = rw (may, short, known, right, fits_post_some s p a e, e) refl
 
-pub post_fault_is : (s : State) (p : Posting) → may_receive s p.tagged ≡ true → nat_lt 16_777_216 (length p.buf) ≡ false → source_is_known s p.source ≡ true → least_is_wrong p ≡ false
+pub post_fault_is : (s : State) (p : Posting) → may_receive s p.tagged ≡ true → nat_lt s.most_message (length p.buf) ≡ false → source_is_known s p.source ≡ true → least_is_wrong p ≡ false
     → place_fault (taken_by (receive_of s p) s) s ≡ post_fault s p
 post_fault_is s p may short known right = post_fault_by s p (taken_by (receive_of s p) s) may short known right refl
 

@@ -17,7 +17,7 @@ use Rattle.fab_model.specs.State.{State, Completions, fits, writing, with_tx}
 use Rattle.fab_model.specs.Complete.{fill, book, reply}
 use Rattle.fab_model.specs.Matching.{takes}
 use Rattle.fab_model.specs.Receiving.{Posting, give, drop_arrival, taken_by, receive_of, post, look_at, look, claim_of, take_claimed, drop_claimed, cancellable, cancel}
-use Rattle.fab_model.specs.Sending.{refusal_of, end_with, ending, do_sent, transmitting}
+use Rattle.fab_model.specs.Sending.{refusal_of, end_with, ending, do_sent, transmitting, going_on}
 use Rattle.fab_machine.specs.Room.{has_room, entries_given, entries_ended, entries_sent}
 
 -- so many entries lead from one queue to the other
@@ -93,7 +93,7 @@ end_grows outcome bytes o s = end_grows_by outcome bytes o s (refusal_of outcome
 sent_grows_by : (s : State) (t : ℕ) (o : Option Operation) → ending t s.tx ≡ o → Grows (entries_sent t s) s.cq (do_sent s t).cq
 unfolding do_sent
 sent_grows_by s t None e = rw (e, do_sent) (none_written s.cq)
-sent_grows_by s t (Some o) e = rw (e, do_sent) (end_grows Done [] o (with_tx (transmitting t s.tx) s))
+sent_grows_by s t (Some o) e = rw (e, do_sent) (end_grows Done [] o (with_tx (going_on t (transmitting t s.tx)) s))
 
 pub fits_sent : (s : State) (t : ℕ) → fits (do_sent s t).cq ≡ has_room (entries_sent t s) s.cq
 fits_sent s t = fits_grown _ _ _ (sent_grows_by s t (ending t s.tx) refl)

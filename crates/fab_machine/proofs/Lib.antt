@@ -2,3 +2,4 @@ pub mod Parts
 pub mod Numbers
 pub mod Growing
 pub mod Answering
+pub mod LetOut

@@ -1,3 +1,4 @@
 pub mod Seen
 pub mod Room
 pub mod Places
+pub mod Letting

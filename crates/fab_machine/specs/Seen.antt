@@ -2,7 +2,7 @@
 --     rx_of, tx_of, cq_of      its parts
 --     state_of s      the peer's machine
 --     posting_of, seen_call      a call
-use Rattle.std.specs.Prelude.{List, replicate}
+use Rattle.std.specs.Prelude.{replicate}
 use Rattle.fab_model.specs.State as machine
 use Rattle.fab_model.specs.Receiving.{Posting}
 use Rattle.fab_model.specs.Calls as calls
@@ -27,7 +27,7 @@ rx_of rx = record {
 }
 
 abbrev pub tx_of : Transmitting → machine.Transmitting
-tx_of tx = record { accepted = tx.accepted.items; sent = tx.sent.items; live = tx.live.items; ops = tx.ops }
+tx_of tx = record { accepted = tx.accepted.items; sent = tx.sent.items; live = tx.live.items; held = tx.held.items; ops = tx.ops }
 
 abbrev pub cq_of : Completions → machine.Completions
 cq_of cq = record { written = cq.written.items; taken_out = cq.taken_out; size = cq.size }
@@ -38,6 +38,7 @@ state_of s = record {
   selective = s.selective;
   most_tx = s.most_tx;
   most_rx = s.most_rx;
+  most_message = s.most_message;
   av = s.av.items;
   regions = s.regions.items;
   rx = rx_of s.rx;

@@ -111,7 +111,7 @@ impl State {
         if !self.may_receive(true) {
             return Some(Fault::NotSupported);
         }
-        if len > 16_777_216 {
+        if len > self.most_message {
             return Some(Fault::MsgSize);
         }
         if self.rx.claim_of(ctx).is_none() {

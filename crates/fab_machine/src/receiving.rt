@@ -272,7 +272,7 @@ impl State {
         if !self.may_receive(posting.tagged) {
             return Some(Fault::NotSupported);
         }
-        if posting.len > 16_777_216 {
+        if posting.len > self.most_message {
             return Some(Fault::MsgSize);
         }
         if !self.source_is_known(posting.source) || least_is_wrong(posting) {

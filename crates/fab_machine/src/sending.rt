@@ -1,22 +1,26 @@
 //! What a peer transmits: the transmit calls, the transmission of an item, and the end of an operation.
-ghost use Rattle.std.specs.Prelude.{◌≡◌, ◌+◌, ◌++◌, ◌∷◌, [], length, OnOk, IfOk, IfSome, IfNone, find, position, unwrap_or};
+ghost use Rattle.std.specs.Prelude.{◌≡◌, ◌+◌, ◌++◌, ◌∷◌, [], length, OnOk, IfOk, IfSome, IfNone, find, position, unwrap_or, nat_le, true, false, ◌&&◌};
 ghost use Rattle.std.specs.Option.{option_map};
 ghost use Rattle.fab_base.specs.declared.items.Outcome.TheVariants.{Done};
-ghost use Rattle.fab_model.specs.State.{accepted_for, awaits, with_tx};
+ghost use Rattle.fab_model.specs.State.{accepted_for, held_for, in_use, awaits, with_tx};
 ghost use Rattle.fab_model.specs.Matching.{remove_first};
 ghost use Rattle.fab_model.specs.Calls.{Transmit, do_call};
-ghost use Rattle.fab_model.specs.Sending.{transmit_fault, accepting, item_of, operation_of, transmit, success_of, refusal_of, end_with, ends_at_sent, is_of_item, ending, transmitting, do_sent, expects, is_answered_by, answering, do_answer};
+ghost use Rattle.fab_model.specs.Sending.{is_busy, let_out, letting_out, going_on, transmit_fault, accepting, item_of, operation_of, transmit, success_of, refusal_of, end_with, ends_at_sent, is_of_item, ending, transmitting, do_sent, expects, is_answered_by, answering, do_answer};
 ghost use Rattle.fab_items.specs.Seen.{order_of};
 ghost use Rattle.fab_machine.specs.Seen.{tx_of, state_of};
+ghost use Rattle.fab_machine.specs.Letting.{going_out, holding, SomeFirst};
 
 use crate::state::{State, Transmitting};
 use fab_base::{
-    Ack, Buf, Busy, Fault, Item, ItemHead, LineResult, NoMemory, Operation, Outcome, Taken,
+    Ack, Buf, Busy, Fault, Held, Item, ItemHead, LineResult, List, NoMemory, Operation, Outcome,
+    Taken,
 };
 use fab_items::entries::{plain_error, refusal_of, success_of};
 use fab_items::lists::{number_at, one_more, raise};
 use fab_items::matching::is_message;
 use fab_items::orders::{Order, class_of, is_answered, is_granted, joined};
+use std::alloc::Global;
+use std::mem::replace;
 
 /// Whether the operation is a message that completes when it is transmitted.
 fn ends_at_sent(operation: &Operation) -> bool
@@ -74,14 +78,117 @@ impl Transmitting {
         operation.place < number_at(self.sent.as_slice(), operation.dest as usize)
     }
 
-    /// The item joins those accepted for the peer, and the operation those that have not ended.
+    /// Whether as many operations have not ended as there may be.
+    fn is_full(&self, most: u32) -> bool
+        ensures { result ≡ nat_le most (in_use (tx_of self.now)) }
+    {
+        let mut left = (most as usize).saturating_sub(self.live.len());
+        for held in self.held.iter() {
+            left = left.saturating_sub(held.as_slice().len());
+        }
+        left == 0
+    }
+
+    /// Whether some operation for the peer is live.
+    fn is_busy(&self, to: u32) -> bool
+        ensures { result ≡ is_busy (tx_of self.now) to }
+    {
+        self.live.iter().any(|o| o.dest == to)
+    }
+
+    /// The operation goes out: its item joins those accepted for the peer, and it is live.
+    fn go_out(&mut self, to: u32, operation: Held) -> Result<(), NoMemory>
+        ensures { OnOk result (tx_of self.new ≡ going_out to operation (tx_of self.old)) }
+    {
+        let place = self.accepted_len(to);
+        let Held {
+            call,
+            item,
+            level,
+            ctx,
+            buf,
+            silent,
+            ..
+        } = operation;
+        self.live.push(Operation {
+            call,
+            dest: to,
+            place,
+            head: item.head,
+            level,
+            ctx,
+            buf,
+            silent,
+        })?;
+        self.join(to, item)
+    }
+
+    /// These operations are held for the peer.
+    fn hold(&mut self, to: u32, held: Vec<Held>)
+        ensures { tx_of self.new ≡ holding to held.items (tx_of self.old) }
+    {
+        if (to as usize) < self.held.len() {
+            self.held[to as usize] = List::from_vec(held);
+        }
+    }
+
+    /// Whether the first of these operations for the peer goes out, if there is one.
+    fn first_goes(&self, to: u32, held: &[Held]) -> bool
+        ensures goes { result ≡ true → SomeFirst held.now (λ first. (is_busy (tx_of self.now) to && first.fence) ≡ false) }
+        ensures none { result ≡ false → let_out (is_busy (tx_of self.now) to) held.now ≡ [] }
+    {
+        match held.first() {
+            Some(first) => !(first.fence && self.is_busy(to)),
+            None => false,
+        }
+    }
+
+    /// Of these operations for the peer those go out that no fence holds back, one after another. The others are held.
+    fn let_out(&mut self, to: u32, held: Vec<Held>) -> Result<(), NoMemory>
+        ensures { OnOk result (tx_of self.new ≡ letting_out to held.items (tx_of self.old)) }
+    {
+        // No script gets here with another number than a peer's.
+        if to as usize >= self.accepted.len() {
+            return Err(NoMemory);
+        }
+        let mut held = held;
+        while self.first_goes(to, held.as_slice()) {
+            let first = held.remove(0);
+            self.go_out(to, first)?;
+        }
+        self.hold(to, held);
+        Ok(())
+    }
+
+    /// Takes what is held for the peer.
+    fn take_held(&mut self, alloc: Global, to: u32) -> Vec<Held>
+        ensures held { result.items ≡ held_for (tx_of self.old) to }
+        ensures rest { tx_of self.new ≡ holding to [] (tx_of self.old) }
+    {
+        if (to as usize) < self.held.len() {
+            replace(&mut self.held[to as usize], List::empty(alloc)).into_vec()
+        } else {
+            Vec::new(alloc)
+        }
+    }
+
+    /// Those held for the peer go out as far as no fence holds them back any more.
+    fn go_on(&mut self, alloc: Global, to: u32) -> Result<(), NoMemory>
+        ensures { OnOk result (tx_of self.new ≡ going_on to (tx_of self.old)) }
+    {
+        let held = self.take_held(alloc, to);
+        self.let_out(to, held)
+    }
+
+    /// The operation stands behind those held for the peer, or goes out at once.
     #[tactic(auto, unfolding(fab_model::specs::Sending::accepting))]
-    fn accept(&mut self, to: u32, item: Item, operation: Operation) -> Result<(), NoMemory>
-        ensures { OnOk result (tx_of self.new ≡ accepting to item operation (tx_of self.old)) }
+    fn accept(&mut self, alloc: Global, to: u32, operation: Held) -> Result<(), NoMemory>
+        ensures { OnOk result (tx_of self.new ≡ accepting to operation (tx_of self.old)) }
     {
         self.ops = one_more(self.ops)?;
-        self.live.push(operation)?;
-        self.join(to, item)
+        let mut held = self.take_held(alloc, to);
+        held.push(operation)?;
+        self.let_out(to, held)
     }
 
     /// The operation that ends when the next item for the peer is transmitted.
@@ -172,7 +279,7 @@ impl State {
         if !is_granted(&self.caps, order.kind, order.atom) {
             return Some(Fault::NotSupported);
         }
-        if order.is_too_long() {
+        if order.is_too_long(self.most_message) {
             return Some(Fault::MsgSize);
         }
         if self.lookup(order.dest).is_none()
@@ -181,7 +288,7 @@ impl State {
         {
             return Some(Fault::Invalid);
         }
-        if self.tx.live.len() >= self.most_tx as usize {
+        if self.tx.is_full(self.most_tx) {
             return Some(Fault::Again(Busy::TxFull(self.most_tx)));
         }
         None
@@ -203,21 +310,21 @@ impl State {
             ctx,
             level,
             completion,
+            fence,
             buf,
             ..
         } = order;
-        let operation = Operation {
+        let bytes = joined(bytes, &compared)?;
+        let operation = Held {
             call: self.calls,
-            dest: to,
-            place: self.tx.accepted_len(to),
-            head,
+            item: Item { head, bytes },
             level,
             ctx,
             buf,
             silent: injected || (self.selective && !completion),
+            fence,
         };
-        let bytes = joined(bytes, &compared)?;
-        self.tx.accept(to, Item { head, bytes }, operation)?;
+        self.tx.accept(self.alloc, to, operation)?;
         self.accept_call()
     }
 
@@ -267,7 +374,10 @@ impl State {
     {
         match self.tx.transmit(to)? {
             None => Ok(()),
-            Some(operation) => self.end_with(Outcome::Done, Buf::empty(self.alloc), operation),
+            Some(operation) => {
+                self.tx.go_on(self.alloc, to)?;
+                self.end_with(Outcome::Done, Buf::empty(self.alloc), operation)
+            }
         }
     }
 
@@ -278,7 +388,10 @@ impl State {
     {
         match self.tx.take_answered(source, reply) {
             None => Ok(()),
-            Some(operation) => self.end_with(reply.outcome, bytes, operation),
+            Some(operation) => {
+                self.tx.go_on(self.alloc, source)?;
+                self.end_with(reply.outcome, bytes, operation)
+            }
         }
     }
 }

@@ -10,7 +10,8 @@ ghost use Rattle.fab_machine.specs.Room.{has_room};
 ghost use Rattle.fab_machine.specs.Seen.{rx_of, cq_of, state_of};
 
 use fab_base::{
-    Arrival, Caps, Class, Coming, Item, List, NoMemory, Operation, Receive, Taken, Tally, Written,
+    Arrival, Caps, Class, Coming, Held, Item, List, NoMemory, Operation, Receive, Taken, Tally,
+    Written,
 };
 use fab_items::lists::one_more;
 use fab_items::target::Region;
@@ -34,6 +35,7 @@ pub struct Transmitting {
     pub accepted: Vec<List<Item>>,
     pub sent: Vec<u64>,
     pub live: Vec<Operation>,
+    pub held: Vec<List<Held>>,
     pub ops: u64,
 }
 
@@ -52,6 +54,7 @@ pub struct State {
     pub selective: bool,
     pub most_tx: u32,
     pub most_rx: u32,
+    pub most_message: u32,
     pub av: Vec<Option<u32>>,
     pub regions: Vec<Region>,
     pub rx: Receiving,

@@ -1,12 +1,15 @@
 //! What the bytes of an item do once all of them are there, and the draws.
 ghost use Rattle.std.specs.Prelude.{◌≡◌, map, OnOk, Some};
 ghost use Rattle.fab_base.specs.declared.operations.Coming.TheVariants.{Into};
-ghost use Rattle.fab_model.specs.Arrivals.{do_head, do_draw, completed, keeping, remote_data, do_request, tail_to, do_tail};
+ghost use Rattle.fab_model.specs.Arrivals.{do_head, do_draw, completed, keeping, remote_data, remote_event, do_request, tail_to, do_tail};
 ghost use Rattle.fab_machine.specs.Seen.{rx_of, state_of};
 
 use crate::state::{Receiving, State};
-use fab_base::{Arrival, Buf, Coming, Entry, ItemHead, Kind, NoMemory, Outcome, Receive, Taken};
+use fab_base::{
+    Arrival, Buf, Class, Coming, Entry, ItemHead, Kind, NoMemory, Outcome, Receive, Taken,
+};
 use fab_items::matching::is_message;
+use fab_items::orders::is_answered;
 use fab_items::receives::{at_delivery, at_either};
 use fab_items::target::perform;
 
@@ -71,6 +74,20 @@ impl State {
         }
     }
 
+    /// A performed request counts at its target where FI_RMA_EVENT is granted.
+    fn count_remote(&mut self, outcome: Outcome, head: &ItemHead)
+        ensures { state_of self.new ≡ remote_event outcome head.now (state_of self.old) }
+    {
+        if outcome == Outcome::Done && self.caps.rma_event {
+            let class = if is_answered(head) {
+                Class::RemoteRead
+            } else {
+                Class::RemoteWrite
+            };
+            self.count(class, true);
+        }
+    }
+
     /// A request is whole: it is performed, and its reply joins the items for its source.
     #[tactic(auto, unfolding(fab_model::specs::Arrivals::do_request))]
     fn do_request(&mut self, source: u32, head: &ItemHead, bytes: &[u8]) -> Result<(), NoMemory>
@@ -79,6 +96,7 @@ impl State {
         let performed = perform(self.alloc, &mut self.regions, head, bytes)?;
         let outcome = performed.outcome;
         self.reply(source, head.op, outcome, performed.bytes)?;
+        self.count_remote(outcome, head);
         self.tell_data(outcome, source, head)
     }
 

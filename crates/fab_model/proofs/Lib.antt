@@ -5,6 +5,7 @@ pub mod Views
 pub mod Parts
 pub mod Waits
 pub mod Passes
+pub mod Rests
 pub mod Grows
 pub mod Lasting
 pub mod Walks
@@ -17,6 +18,10 @@ pub mod Names
 pub mod Scripts
 pub mod Tests
 pub mod Firsts
+pub mod Steps
+pub mod Fences
+pub mod Holding
+pub mod Letting
 pub mod Refusals
 pub mod refused
 pub mod rows

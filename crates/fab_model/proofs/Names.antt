@@ -33,7 +33,7 @@ replayed_sound bound schedule =
 
 pub bound_report_tells : BoundReportTellsSchedule
 unfolding report
-bound_report_tells bound schedule same small = report_tells (replayed bound schedule).states schedule (same ∙ sym ((replayed_sound bound schedule).count)) small
+bound_report_tells bound schedule same small = report_tells bound.script.version (replayed bound schedule).states schedule (same ∙ sym ((replayed_sound bound schedule).count)) small
 
 -- ---- a lawful schedule
 

@@ -17,10 +17,10 @@ use Rattle.fab_base.specs.declared.operations.Coming.TheVariants.{Into, Keep, Th
 use Rattle.fab_model.specs.Matching.{takes}
 use Rattle.fab_model.specs.State.{State, Transmitting, accepted_for, coming_from, lookup, with_rx, with_tx, called}
 use Rattle.fab_model.specs.Complete.{fill, release, release_multi, reply, book, at_delivery, at_either, at_match}
-use Rattle.fab_model.specs.Sending.{Order, accepting, transmit, transmit_to, end_with, transmitting, ending, do_sent, do_answer, answering, is_answered_by}
+use Rattle.fab_model.specs.Sending.{Order, letting_out, going_on, accepting, transmit, transmit_to, end_with, transmitting, ending, do_sent, do_answer, answering, is_answered_by}
 use Rattle.fab_model.specs.Receiving.{Posting, give, drop_arrival, post, receive_of, taken_by, without_first, look, look_at, want_of, take_claimed, drop_claimed, claim_of, without_claim, taking, cancel, cancellable, draws}
 use Rattle.fab_model.specs.Target.{perform}
-use Rattle.fab_model.specs.Arrivals.{heading_message, heading_other, do_head, do_draw, seating, keeping, remote_data, with_regions, do_request, tail_to, made_whole, do_tail}
+use Rattle.fab_model.specs.Arrivals.{heading_message, heading_other, do_head, do_draw, seating, keeping, remote_data, remote_event, with_regions, do_request, tail_to, made_whole, do_tail}
 use Rattle.fab_model.specs.Calls.{Call, Transmit, Post, Look, TakeClaimed, DropClaimed, Cancel, CancelFirst, Insert, Remove, Reg, Close, Put, Show, Count, answer, insert, remove, reg, close, put, do_call}
 use Rattle.fab_model.specs.Views.{IsPrefixOf}
 use Rattle.fab_model.proofs.Views.{prefix_self, prefix_prefix}
@@ -52,12 +52,12 @@ passes_option s (Some x) none some n f = f x
 
 -- ---- replies
 
-appended : (xs : List (List Item)) (t q : ℕ) (item : Item) → IsPrefixOf (get_or xs q []) (get_or (set xs t (get_or xs t [] ++ item ∷ [])) q [])
-appended [] t q item = ([], refl)
-appended (x ∷ xs) zero zero item = (item ∷ [], refl)
-appended (x ∷ xs) zero (suc q) item = prefix_self _ _ refl
-appended (x ∷ xs) (suc t) zero item = prefix_self _ _ refl
-appended (x ∷ xs) (suc t) (suc q) item = appended xs t q item
+appended : (xs : List (List Item)) (t q : ℕ) (more : List Item) → IsPrefixOf (get_or xs q []) (get_or (set xs t (get_or xs t [] ++ more)) q [])
+appended [] t q more = ([], refl)
+appended (x ∷ xs) zero zero more = (more, refl)
+appended (x ∷ xs) zero (suc q) more = prefix_self _ _ refl
+appended (x ∷ xs) (suc t) zero more = prefix_self _ _ refl
+appended (x ∷ xs) (suc t) (suc q) more = appended xs t q more
 
 reply_passes : (source op : ℕ) (outcome : Outcome) (bytes : List ℕ) (s : State) → Passes s (reply source op outcome bytes s)
 unfolding reply
@@ -88,7 +88,12 @@ drop_passes a s = passes_option s a.bytes _ _ (same refl refl refl) (λ bytes. b
 
 -- ---- the end of an operation
 
-end_passes : (outcome : Outcome) (bytes : List ℕ) (o : Operation) (s : State) → Passes s (end_with outcome bytes o s)
+-- what goes out joins what was accepted
+going_passes : (t : ℕ) (s : State) → Passes s (with_tx (going_on t s.tx) s)
+unfolding letting_out
+going_passes t s = record { ready = λ q. appended s.tx.accepted t q _; count = length-set s.tx.accepted t _; sent = refl; tails = refl; size = refl }
+
+pub end_passes : (outcome : Outcome) (bytes : List ℕ) (o : Operation) (s : State) → Passes s (end_with outcome bytes o s)
 unfolding end_with
 end_passes outcome bytes o s = same (grind rules) (grind rules) (grind rules)
 
@@ -96,7 +101,7 @@ answer_passes : (s : State) (source : ℕ) (head : ItemHead) (bytes : List ℕ) 
 unfolding do_answer answering
 answer_passes s source head bytes = passes_option s (find (is_answered_by s.tx source head) s.tx.live) _ _ (same refl refl refl) (λ o.
     let ended : Passes s (with_tx (answering source head s.tx) s) = record { ready = λ q. prefix_self _ _ refl; count = refl; sent = refl; tails = refl; size = refl } in
-    then ended (end_passes head.outcome bytes o _))
+    then (then ended (going_passes source _)) (end_passes head.outcome bytes o _))
 
 -- ---- calls
 
@@ -104,8 +109,8 @@ fault_passes : (fault : Option Fault) (s after : State) → Passes s after → P
 fault_passes None s after passes = passes
 fault_passes (Some fault) s after passes = same refl refl refl
 
-transmit_passes : (s : State) (o : Order) → Passes s (transmit s o)
-unfolding transmit transmit_to accepting
+pub transmit_passes : (s : State) (o : Order) → Passes s (transmit s o)
+unfolding transmit transmit_to accepting letting_out
 transmit_passes s o = passes_option s (lookup s.av o.dest) _ _ (same refl refl refl)
     (λ t. record { ready = λ q. appended s.tx.accepted t q _; count = length-set s.tx.accepted t _; sent = refl; tails = refl; size = refl })
 
@@ -168,13 +173,17 @@ draw_passes s = passes_option s (find (draws s.rx.unexpected) s.rx.posted) _ _ (
 data_passes : (outcome : Outcome) (source : ℕ) (head : ItemHead) (s : State) → Passes s (remote_data outcome source head s)
 data_passes outcome source head s = same (grind rules) (grind rules) (grind rules)
 
+event_passes : (outcome : Outcome) (head : ItemHead) (s : State) → Passes s (remote_event outcome head s)
+event_passes outcome head s = same (grind rules) (grind rules) (grind rules)
+
 request_passes : (s : State) (source : ℕ) (head : ItemHead) (bytes : List ℕ) → Passes s (do_request s source head bytes)
 unfolding do_request
 request_passes s source head bytes =
     let p = perform s.regions head bytes in
-    then (then (same refl refl refl) (reply_passes source head.op p.outcome p.bytes (with_regions p.regions s))) (data_passes p.outcome source head _)
+    let replied = then (same refl refl refl) (reply_passes source head.op p.outcome p.bytes (with_regions p.regions s)) in
+    then (then replied (event_passes p.outcome head _)) (data_passes p.outcome source head _)
 
-to_passes : (c : Option Coming) (s : State) (source : ℕ) (head : ItemHead) (bytes : List ℕ) → Passes s (tail_to c s source head bytes)
+pub to_passes : (c : Option Coming) (s : State) (source : ℕ) (head : ItemHead) (bytes : List ℕ) → Passes s (tail_to c s source head bytes)
 unfolding tail_to keeping
 to_passes None s source head bytes = same refl refl refl
 to_passes (Some (Into r place)) s source head bytes = then (then (fill_passes r place source head bytes s) (book_passes (at_either head.ack) source head _)) (release_passes r _)
@@ -191,4 +200,4 @@ tail_passes s source head bytes = to_passes (coming_from s.rx source) _ source h
 -- an item that is transmitted is one more for its peer; the rest passes
 pub sent_passes : (s : State) (t : ℕ) → Passes (with_tx (transmitting t s.tx) s) (do_sent s t)
 unfolding do_sent
-sent_passes s t = passes_option _ (ending t s.tx) _ _ (same refl refl refl) (λ o. end_passes Done [] o _)
+sent_passes s t = passes_option _ (ending t s.tx) _ _ (same refl refl refl) (λ o. then (going_passes t (with_tx (transmitting t s.tx) s)) (end_passes Done [] o _))

@@ -88,26 +88,26 @@ all_below_at : (test : ℕ → Bool) (n k : ℕ) → all_below test n ≡ true �
 all_below_at test zero k all lt = absurd (omega arith)
 all_below_at test (suc n) k all lt = let b = and_parts _ _ all in elim (cases_eq k n) [ inl same ↦ ap test same ∙ b.1 | inr differ ↦ all_below_at test n k b.0 (omega arith) ]
 
-list_all_at : {X : Type 0} (test : X → Bool) (xs : List X) (k : ℕ) (x : X) → list_all test xs ≡ true → slice_get xs k ≡ Some x → test x ≡ true
+pub list_all_at : {X : Type 0} (test : X → Bool) (xs : List X) (k : ℕ) (x : X) → list_all test xs ≡ true → slice_get xs k ≡ Some x → test x ≡ true
 list_all_at test [] k x all e = absurd (cc)
 list_all_at test (y ∷ xs) zero x all e = let f : y ≡ x = cc in ap test (sym f) ∙ (and_parts _ _ all).0
 list_all_at test (y ∷ xs) (suc k) x all e = list_all_at test xs k x (and_parts _ _ all).1 e
 
-not_true : (b : Bool) → not b ≡ true → b ≡ false
+pub not_true : (b : Bool) → not b ≡ true → b ≡ false
 not_true true e = absurd (cc)
 not_true false e = refl
 
 facts_at : (states : List Actor) (p : ℕ) (a : Actor) → slice_get states p ≡ Some a → slice_get (map facts states) p ≡ Some (facts a)
 facts_at states p a e = slice_get-map facts states p ∙ ap (λ o. option_map facts o) e
 
-calm_done : (states : List Actor) (p : ℕ) (a : Actor) → is_calm (map facts states) ≡ true → slice_get states p ≡ Some a → (is_finished a ≡ true) × (draw_due a.state.rx ≡ false)
+pub calm_done : (states : List Actor) (p : ℕ) (a : Actor) → is_calm (map facts states) ≡ true → slice_get states p ≡ Some a → (is_finished a ≡ true) × (draw_due a.state.rx ≡ false)
 unfolding is_calm
 calm_done states p a c e =
     let b = and_parts _ _ (list_all_at (λ f. f.finished && not f.draw_due) (map facts states) p (facts a) (and_parts _ _ c).0 (facts_at states p a e)) in
     (b.0, not_true _ b.1)
 
 -- what the sender accepted for the receiver is whole there
-calm_whole :
+pub calm_whole :
     (states : List Actor) (p q : ℕ) (sender receiver : Actor) → is_calm (map facts states) ≡ true → slice_get states p ≡ Some sender → slice_get states q ≡ Some receiver
     → tails_of receiver p ≡ length (accepted_for sender.state.tx q)
 unfolding is_calm
@@ -140,7 +140,7 @@ accepted_within (x ∷ accepted) (suc t) k lt = let ih = accepted_within accepte
 
 -- ---- a final cancel
 
-neither : (a b : Bool) → (a || b) ≡ false → (a ≡ false) × (b ≡ false)
+pub neither : (a b : Bool) → (a || b) ≡ false → (a ≡ false) × (b ≡ false)
 neither true b e = absurd (cc)
 neither false b e = (refl, e)
 
@@ -216,7 +216,7 @@ fabric_patient peers = record {
 
 -- ---- the opening
 
-mapped : {X Y : Type 0} (f : X → Y) (xs : List X) (k : ℕ) (y : Y) → slice_get (map f xs) k ≡ Some y → (x : X) × (y ≡ f x)
+pub mapped : {X Y : Type 0} (f : X → Y) (xs : List X) (k : ℕ) (y : Y) → slice_get (map f xs) k ≡ Some y → (x : X) × (y ≡ f x)
 mapped f [] k y e = absurd (cc)
 mapped f (x ∷ xs) zero y e = (x, cc)
 mapped f (x ∷ xs) (suc k) y e = mapped f xs k y e

@@ -27,7 +27,7 @@ use Rattle.fab_base.specs.declared.script.LineOp.{LineOp}
 use Rattle.fab_base.specs.declared.script.LineOp.TheVariants.{Send, TSend, Inject, TInject, Recv, TRecv, MRecv, Take, DropClaimed, Cancel, Write, WInject, Atomic, Fetch, Compare, Reg, Close, Put, Show, Insert, Remove, Wait, Count, Reach}
 use Rattle.fab_model.specs.Peers.{ctx_of}
 use Rattle.fab_model.specs.Words.{Word, hex_digit, hex, hex_or_dash}
-use Rattle.fab_model.specs.Report.{fault_name, verb_of, ctx_word, named, received_words, len_words, how_word, entry_words, placed, error_words, taken_words, kept_words, result_words, done_lines, stuck_line, pending_line, step_word, trace_in}
+use Rattle.fab_model.specs.Report.{fault_name, verb_of, ctx_word, named, received_words, len_words, how_word, entry_words, placed, error_words, taken_words, kept_words, result_words, done_lines, stuck_line, amount_line, step_word, trace_in}
 use Rattle.fab_model.proofs.Pieces.{plain, readable}
 
 -- ---- digits
@@ -104,8 +104,8 @@ plain_fault Avail = refl
 
 plain_verb : (op : LineOp) → plain (verb_of op) ≡ true
 unfolding verb_of
-plain_verb (Send ctx dest word imm level completion) = refl
-plain_verb (TSend ctx dest tag word imm level completion) = refl
+plain_verb (Send ctx dest word imm level completion fence) = refl
+plain_verb (TSend ctx dest tag word imm level completion fence) = refl
 plain_verb (Inject dest word imm) = refl
 plain_verb (TInject dest tag word imm) = refl
 plain_verb (Recv a b c) = refl
@@ -118,9 +118,9 @@ plain_verb (Take a b) = refl
 plain_verb (DropClaimed a) = refl
 plain_verb (Cancel a) = refl
 plain_verb (LineOp.Read a b c d e) = refl
-plain_verb (Write a b c d e f g) = refl
+plain_verb (Write a b c d e f g h) = refl
 plain_verb (WInject a b c d e) = refl
-plain_verb (Atomic a b c d e f g h) = refl
+plain_verb (Atomic a b c d e f g h i) = refl
 plain_verb (Fetch a b c d e f g h) = refl
 plain_verb (Compare a b c d e f g h) = refl
 plain_verb (Reg a b c) = refl
@@ -253,9 +253,9 @@ pub others_left : (kept : List Kept) → list_all other (map (λ k. codes "left"
 others_left [] = refl
 others_left (k ∷ kept) = and_from _ _ (other_line (codes "left") (kept_words k) refl refl (plain_kept k)) (others_left kept)
 
-pub others_pending : (n : ℕ) → list_all other (pending_line n) ≡ true
-others_pending n = go (eqb n 0)
+pub others_amount : (word : Word) (n : ℕ) → plain word ≡ true → bytes_eq word (codes "trace") ≡ false → list_all other (amount_line word n) ≡ true
+others_amount word n p differs = go (eqb n 0)
   where
-    go : (none : Bool) → list_all other (elim none [ true ↦ [] | false ↦ (codes "pending" ∷ decimal n ∷ []) ∷ [] ]) ≡ true
+    go : (none : Bool) → list_all other (elim none [ true ↦ [] | false ↦ (word ∷ decimal n ∷ []) ∷ [] ]) ≡ true
     go true = refl
-    go false = and_from _ _ (other_numbered (codes "pending") n refl refl) refl
+    go false = and_from _ _ (other_numbered word n p differs) refl

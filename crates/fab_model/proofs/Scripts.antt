@@ -1,36 +1,21 @@
--- Bound scripts for the worked rows: default sizes, the whole offer.
+-- Bound scripts for the worked rows, of either version: default sizes, the whole offer.
 use Rattle.std.specs.Prelude.{Bool, ◌≡◌, ℕ, IsTrue, true, false, List, [], None, length}
-use Rattle.fab_base.specs.declared.caps.Caps.{Caps}
+use Rattle.fab_base.specs.Offer.{is_offered, most_message}
+use Rattle.fab_base.specs.declared.caps.Api.{Api}
+use Rattle.fab_base.specs.declared.caps.Api.TheVariants.{One, Two}
 use Rattle.fab_base.specs.declared.caps.Info.{Info}
 use Rattle.fab_base.specs.declared.script.Bound.{Bound}
 use Rattle.fab_base.specs.declared.script.Line.{Line}
 use Rattle.fab_base.specs.declared.script.LineOp.{LineOp}
+use Rattle.fab_model.specs.Negotiation.{caps_of}
 use Rattle.fab_model.specs.Report.{report, traces}
 use Rattle.fab_model.specs.Replay.{replayed, Lawful, at_rest}
 
-abbrev pub whole_offer : Caps
-whole_offer = record {
-  msg = true;
-  tagged = true;
-  rma = true;
-  atomic = true;
-  directed_recv = true;
-  send = true;
-  recv = true;
-  read = true;
-  write = true;
-  remote_read = true;
-  remote_write = true;
-  multi_recv = true;
-  source = true;
-  rma_event = false;
-  fence = false;
-  local_comm = true;
-}
-
-abbrev pub defaults : ℕ → Info
-defaults peers = record {
-  caps = whole_offer;
+-- what is granted to whoever asks for nothing, among so many peers
+abbrev pub defaults : Api → ℕ → Info
+defaults api peers = record {
+  api = api;
+  caps = caps_of (is_offered api);
   peers = peers;
   lane = 64;
   pool = 32;
@@ -39,15 +24,19 @@ defaults peers = record {
   cq = 1_024;
   log = 4_096;
   inject = 4_096;
-  message = 16_777_216;
+  message = most_message api;
 }
 
--- the script of these peers' lines, with these capabilities granted
-abbrev pub script_with : Caps → Bool → List (List Line) → Bound
-script_with caps selective peers = record {
+abbrev pub version_of : Api → ℕ
+version_of One = 1
+version_of Two = 2
+
+-- the script of these peers' lines, with what is granted
+abbrev pub script_with : Info → Bool → List (List Line) → Bound
+script_with info selective peers = record {
   script = record {
-    version = 1;
-    conf = record { hints = None; info = (let info = defaults (length peers) in record info { caps = caps }); peers = length peers; selective = selective };
+    version = version_of info.api;
+    conf = record { hints = None; info = info; peers = length peers; selective = selective };
     payloads = [];
     peers = peers;
   };
@@ -55,23 +44,28 @@ script_with caps selective peers = record {
 }
 
 abbrev pub script_of : List (List Line) → Bound
-script_of = script_with whole_offer false
+script_of peers = script_with (defaults One (length peers)) false peers
+
+abbrev pub second_script_of : List (List Line) → Bound
+second_script_of peers = script_with (defaults Two (length peers)) false peers
 
 abbrev pub selective_script_of : List (List Line) → Bound
-selective_script_of = script_with whole_offer true
+selective_script_of peers = script_with (defaults One (length peers)) true peers
 
 -- `caps FI_TAGGED`
 abbrev pub tagged_script_of : List (List Line) → Bound
-tagged_script_of = script_with (let caps = whole_offer in record caps {
-  msg = false;
-  rma = false;
-  atomic = false;
-  directed_recv = false;
-  read = false;
-  write = false;
-  remote_read = false;
-  remote_write = false;
-}) false
+tagged_script_of peers = script_with (let info = defaults One (length peers) in record info {
+  caps = (let caps = info.caps in record caps {
+    msg = false;
+    rma = false;
+    atomic = false;
+    directed_recv = false;
+    read = false;
+    write = false;
+    remote_read = false;
+    remote_write = false;
+  });
+}) false peers
 
 abbrev pub line : ℕ → LineOp → Line
 line number op = record { number = number; op = op }

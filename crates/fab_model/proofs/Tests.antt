@@ -249,13 +249,13 @@ cancel_is s test = agrees _ s _ _ (cancel_agrees (is_none (cancellable test s.rx
 call_agrees : (s : State) (c : Call) → Agrees (do_call s c).0 (call_tests s c)
 unfolding do_call transmit_fault post_fault look_fault claimed_fault cancel_fault insert remove reg close put show
 call_agrees s (Transmit o) = agrees _ s _ _ (transmit_agrees _ _ _ _ _)
-call_agrees s (Post p) = agrees _ s _ _ (post_agrees (not (may_receive s p.tagged)) (nat_lt 16_777_216 (length p.buf)) (not (source_is_known s p.source) || least_is_wrong p) (draw_due s.rx)
+call_agrees s (Post p) = agrees _ s _ _ (post_agrees (not (may_receive s p.tagged)) (nat_lt s.most_message (length p.buf)) (not (source_is_known s p.source) || least_is_wrong p) (draw_due s.rx)
     (fits (post s p).cq) (is_none (taken_by (receive_of s p) s) && nat_le s.most_rx (length s.rx.posted)) (CqFull s.cq.size) (PostedFull s.most_rx))
 call_agrees s (Look how source tag ignore ctx) = agrees _ s _ _ (look_agrees (not (may_receive s true)) (not (source_is_known s source) || is_claim how && is_some (claim_of ctx s)) (draw_due s.rx)
     (fits (look how (want_of s true source tag ignore) ctx s).cq) (CqFull s.cq.size))
 call_agrees s (TakeClaimed buf ctx) =
-    agrees _ s _ _ (claimed_agrees (not (may_receive s true)) (nat_lt 16_777_216 (length buf)) (is_none (claim_of ctx s)) (draw_due s.rx) (fits (take_claimed s buf ctx).cq) (CqFull s.cq.size))
-call_agrees s (DropClaimed ctx) = agrees _ s _ _ (claimed_agrees (not (may_receive s true)) false (is_none (claim_of ctx s)) (draw_due s.rx) (fits (drop_claimed s ctx).cq) (CqFull s.cq.size))
+    agrees _ s _ _ (claimed_agrees (not (may_receive s true)) (nat_lt s.most_message (length buf)) (is_none (claim_of ctx s)) (draw_due s.rx) (fits (take_claimed s buf ctx).cq) (CqFull s.cq.size))
+call_agrees s (DropClaimed ctx) = agrees _ s _ _ (claimed_agrees (not (may_receive s true)) (nat_lt s.most_message 0) (is_none (claim_of ctx s)) (draw_due s.rx) (fits (drop_claimed s ctx).cq) (CqFull s.cq.size))
 call_agrees s (Cancel ctx) = cancel_is s (λ r. r.ctx == ctx)
 call_agrees s CancelFirst = cancel_is s (λ r. true)
 call_agrees s (Insert name) = never _ (grind rules)

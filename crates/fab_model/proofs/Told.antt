@@ -17,9 +17,9 @@ use Rattle.fab_model.specs.Laws.{named_peer, NamesBelow, ReportTellsSchedule}
 use Rattle.fab_model.specs.Peers.{Actor}
 use Rattle.fab_model.specs.Replay.{all_done}
 use Rattle.fab_model.specs.Words.{Word, read_decimal}
-use Rattle.fab_model.specs.Report.{kept_words, done_lines, stuck_line, pending_line, pending_of, step_word, peer_lines, first_line, last_line, actor_lines, all_lines, report_lines, report_of, numbered, step_in, trace_in, traces}
+use Rattle.fab_model.specs.Report.{kept_words, done_lines, stuck_line, amount_line, pending_of, deferred_of, step_word, peer_lines, first_line, last_line, actor_lines, all_lines, report_lines, report_of, numbered, step_in, trace_in, traces}
 use Rattle.fab_model.proofs.Pieces.{readable, lines_back}
-use Rattle.fab_model.proofs.Plain.{decimal_some, plain_decimal, plain_steps, other, other_line, other_numbered, others_done, others_stuck, others_left, others_pending}
+use Rattle.fab_model.proofs.Plain.{decimal_some, plain_decimal, plain_steps, other, other_line, other_numbered, others_done, others_stuck, others_left, others_amount}
 
 -- ---- steps
 
@@ -83,15 +83,18 @@ tells_append xs ys s t p q = record {
 tells_steps : (steps : List Step) → All (λ step. named_peer step < 10 ^ 64) steps → Tells ((codes "trace" ∷ map step_word steps) ∷ []) (steps ∷ [])
 tells_steps steps small = record { readable = rw (plain_steps steps) refl; told = ap (λ ss. ss ∷ []) (steps_back steps small) }
 
-tells_peer : (p : ℕ) (lines : List Line) (results : List LineResult) (kept : List Kept) (pending : ℕ) (steps : List Step) → All (λ step. named_peer step < 10 ^ 64) steps → Tells (peer_lines p lines results kept pending steps) (steps ∷ [])
+tells_peer : (p : ℕ) (lines : List Line) (results : List LineResult) (kept : List Kept) (pending deferred : ℕ) (steps : List Step) → All (λ step. named_peer step < 10 ^ 64) steps
+    → Tells (peer_lines p lines results kept pending deferred steps) (steps ∷ [])
 unfolding peer_lines
-tells_peer p lines results kept pending steps small =
+tells_peer p lines results kept pending deferred steps small =
     let here : Tells ((codes "peer" ∷ decimal p ∷ []) ∷ []) [] = tells_others _ (and_from _ _ (other_numbered (codes "peer") p refl refl) refl) in
     let done = tells_others (done_lines lines results) (others_done lines results) in
     let stuck = tells_others (stuck_line (slice_get lines (length results))) (others_stuck (slice_get lines (length results))) in
     let left = tells_others (map (λ k. codes "left" ∷ kept_words k) kept) (others_left kept) in
-    let waiting = tells_others (pending_line pending) (others_pending pending) in
-    tells_append _ _ [] _ (tells_append _ _ [] [] (tells_append _ _ [] [] (tells_append _ _ [] [] (tells_append _ _ [] [] here done) stuck) left) waiting) (tells_steps steps small)
+    let waiting = tells_others (amount_line (codes "pending") pending) (others_amount (codes "pending") pending refl refl) in
+    let behind = tells_others (amount_line (codes "deferred") deferred) (others_amount (codes "deferred") deferred refl refl) in
+    tells_append _ _ [] _ (tells_append _ _ [] [] (tells_append _ _ [] [] (tells_append _ _ [] [] (tells_append _ _ [] [] (tells_append _ _ [] [] here done) stuck) left) waiting) behind)
+    (tells_steps steps small)
 
 tells_all : (p : ℕ) (all : List Actor) (schedule : List (List Step)) → length schedule ≡ length all → NamesBelow (10 ^ 64) schedule → Tells (all_lines p all schedule) schedule
 unfolding all_lines
@@ -100,27 +103,28 @@ tells_all p [] (steps ∷ schedule) same small = absurd (omega arith)
 tells_all p (a ∷ all) [] same small = absurd (omega arith)
 tells_all p (a ∷ all) (steps ∷ schedule) same small =
     let fits = λ (steps : List Step). All (λ step. named_peer step < 10 ^ 64) steps in
-    tells_append (actor_lines p a steps) (all_lines (p + 1) all schedule) (steps ∷ []) schedule (tells_peer p a.lines a.results a.kept (pending_of a) steps (All-head fits steps schedule small))
+    tells_append (actor_lines p a steps) (all_lines (p + 1) all schedule) (steps ∷ []) schedule (tells_peer p a.lines a.results a.kept (pending_of a) (deferred_of a) steps (All-head fits steps schedule small))
     (tells_all (p + 1) all schedule (omega arith) (All-tail fits steps schedule small))
 
 -- ---- the report
 
-tells_first : (peers : ℕ) → Tells (first_line peers ∷ []) []
-tells_first peers = tells_others _ (and_from _ _ (other_line (codes "fabric") (codes "1" ∷ codes "peers" ∷ decimal peers ∷ []) refl refl (rw (plain_decimal peers) refl)) refl)
+tells_first : (version peers : ℕ) → Tells (first_line version peers ∷ []) []
+tells_first version peers =
+    tells_others _ (and_from _ _ (other_line (codes "fabric") (decimal version ∷ codes "peers" ∷ decimal peers ∷ []) refl refl (rw (plain_decimal version, plain_decimal peers) refl)) refl)
 
 tells_last : (done : Bool) → Tells (last_line done ∷ []) []
 tells_last true = tells_others _ refl
 tells_last false = tells_others _ refl
 
-tells_report : (all : List Actor) (schedule : List (List Step)) → length schedule ≡ length all → NamesBelow (10 ^ 64) schedule → Tells (report_lines all schedule) schedule
+tells_report : (version : ℕ) (all : List Actor) (schedule : List (List Step)) → length schedule ≡ length all → NamesBelow (10 ^ 64) schedule → Tells (report_lines version all schedule) schedule
 unfolding report_lines
-tells_report all schedule same small =
+tells_report version all schedule same small =
     subst (Tells _) (append-nil schedule)
-    (tells_append (first_line (length all) ∷ []) _ [] _ (tells_first (length all)) (tells_append (all_lines 0 all schedule) _ schedule [] (tells_all 0 all schedule same small) (tells_last (all_done all))))
+    (tells_append (first_line version (length all) ∷ []) _ [] _ (tells_first version (length all)) (tells_append (all_lines 0 all schedule) _ schedule [] (tells_all 0 all schedule same small) (tells_last (all_done all))))
 
 pub report_tells : ReportTellsSchedule
 unfolding report_of traces
-report_tells all schedule same small =
-    let lines = report_lines all schedule in
-    let tells = tells_report all schedule same small in
+report_tells version all schedule same small =
+    let lines = report_lines version all schedule in
+    let tells = tells_report version all schedule same small in
     ap (filter_map trace_in) (lines_back lines tells.readable) ∙ filter_map-append trace_in lines (([] ∷ []) ∷ []) ∙ append-nil (filter_map trace_in lines) ∙ tells.told

@@ -10,15 +10,17 @@ use Rattle.fab_base.specs.declared.items.Outcome.TheVariants.{Done}
 use Rattle.fab_base.specs.declared.items.ItemHead.{ItemHead}
 use Rattle.fab_base.specs.declared.entries.Taken.TheVariants.{Success}
 use Rattle.fab_base.specs.declared.entries.Entry.TheVariants.{RemoteData}
+use Rattle.fab_base.specs.declared.entries.Class.{Class}
+use Rattle.fab_base.specs.declared.entries.Class.TheVariants.{RemoteRead, RemoteWrite}
 use Rattle.fab_base.specs.declared.operations.Receive.{Receive}
 use Rattle.fab_base.specs.declared.operations.Arrival.{Arrival}
 use Rattle.fab_base.specs.declared.operations.Coming.{Coming}
 use Rattle.fab_base.specs.declared.operations.Coming.TheVariants.{Into, Keep, Throw, Request, Answer}
 use Rattle.fab_model.specs.Matching.{is_message, matches, takes, remove_first, change_first}
-use Rattle.fab_model.specs.State.{State, Receiving, Region, raise, coming_from, with_rx, write}
+use Rattle.fab_model.specs.State.{State, Receiving, Region, raise, coming_from, with_rx, write, count}
 use Rattle.fab_model.specs.Complete.{fill, release, book, reply, at_delivery, at_either}
 use Rattle.fab_model.specs.Receiving.{draws, give, without_first}
-use Rattle.fab_model.specs.Sending.{do_answer}
+use Rattle.fab_model.specs.Sending.{is_answered, do_answer}
 use Rattle.fab_model.specs.Target.{perform}
 
 -- ---- a receive that takes a message of this length
@@ -121,13 +123,22 @@ remote_data Done source head s = elim head.kind [
 ]
 remote_data _ source head s = s
 
+-- a read, or an atomic that hands back the old elements, counts as one; what else was performed as a write (fi_cntr(3))
+abbrev pub remote_class : ItemHead → Class
+remote_class head = elim (is_answered head) [ true ↦ RemoteRead | false ↦ RemoteWrite ]
+
+-- a performed request counts at its target where FI_RMA_EVENT is granted
+abbrev pub remote_event : Outcome → ItemHead → State → State
+remote_event Done head s = elim s.caps.rma_event [ true ↦ count (remote_class head) true s | false ↦ s ]
+remote_event _ head s = s
+
 abbrev pub with_regions : List Region → State → State
 with_regions regions s = record s { regions = regions }
 
 unfoldable pub do_request : State → ℕ → ItemHead → List ℕ → State
 do_request s source head bytes =
     let p = perform s.regions head bytes in
-    remote_data p.outcome source head (reply source head.op p.outcome p.bytes (with_regions p.regions s))
+    remote_data p.outcome source head (remote_event p.outcome head (reply source head.op p.outcome p.bytes (with_regions p.regions s)))
 
 -- what the whole item does, by where it went
 unfoldable pub tail_to : Option Coming → State → ℕ → ItemHead → List ℕ → State

@@ -139,8 +139,8 @@ word_bytes (Hex bytes) = bytes
 word_bytes (Zero n) = replicate n 0
 word_bytes (File id at len) = []
 
-abbrev pub message : Kind → Option ℕ → ℕ → ℕ → List ℕ → Option ℕ → Level → Bool → Call
-message kind ctx dest tag bytes imm level completion = Transmit (record {
+abbrev pub message : Kind → Option ℕ → ℕ → ℕ → List ℕ → Option ℕ → Level → Bool → Bool → Call
+message kind ctx dest tag bytes imm level completion fence = Transmit (record {
   kind = kind;
   injected = is_none ctx;
   dest = dest;
@@ -155,11 +155,12 @@ message kind ctx dest tag bytes imm level completion = Transmit (record {
   ctx = ctx;
   level = level;
   completion = completion;
+  fence = fence;
   buf = Some bytes;
 })
 
-abbrev pub request : Kind → Option ℕ → ℕ → ℕ → ℕ → ℕ → List ℕ → Option ℕ → Bool → Option (List ℕ) → Call
-request kind ctx dest key at count bytes imm completion buf = Transmit (record {
+abbrev pub request : Kind → Option ℕ → ℕ → ℕ → ℕ → ℕ → List ℕ → Option ℕ → Bool → Bool → Option (List ℕ) → Call
+request kind ctx dest key at count bytes imm completion fence buf = Transmit (record {
   kind = kind;
   injected = is_none ctx;
   dest = dest;
@@ -174,11 +175,12 @@ request kind ctx dest key at count bytes imm completion buf = Transmit (record {
   ctx = ctx;
   level = Level.Delivery;
   completion = completion;
+  fence = fence;
   buf = buf;
 })
 
-abbrev pub atomic : ℕ → ℕ → ℕ → ℕ → Atom → ℕ → List ℕ → List ℕ → Bool → Option (List ℕ) → Call
-atomic ctx dest key at atom count operand compared completion buf = Transmit (record {
+abbrev pub atomic : ℕ → ℕ → ℕ → ℕ → Atom → ℕ → List ℕ → List ℕ → Bool → Bool → Option (List ℕ) → Call
+atomic ctx dest key at atom count operand compared completion fence buf = Transmit (record {
   kind = AtomicReq;
   injected = false;
   dest = dest;
@@ -193,6 +195,7 @@ atomic ctx dest key at atom count operand compared completion buf = Transmit (re
   ctx = Some ctx;
   level = Level.Delivery;
   completion = completion;
+  fence = fence;
   buf = buf;
 })
 
@@ -206,10 +209,10 @@ fetched num [] count = count * element_size num
 fetched num (x ∷ values) count = length (x ∷ values)
 
 unfoldable pub call_of : LineOp → Option Call
-call_of (Send ctx dest word imm level completion) = Some (message Msg (Some ctx) dest 0 (word_bytes word) imm level completion)
-call_of (TSend ctx dest tag word imm level completion) = Some (message TagMsg (Some ctx) dest tag (word_bytes word) imm level completion)
-call_of (Inject dest word imm) = Some (message Msg None dest 0 (word_bytes word) imm Level.Inject false)
-call_of (TInject dest tag word imm) = Some (message TagMsg None dest tag (word_bytes word) imm Level.Inject false)
+call_of (Send ctx dest word imm level completion fence) = Some (message Msg (Some ctx) dest 0 (word_bytes word) imm level completion fence)
+call_of (TSend ctx dest tag word imm level completion fence) = Some (message TagMsg (Some ctx) dest tag (word_bytes word) imm level completion fence)
+call_of (Inject dest word imm) = Some (message Msg None dest 0 (word_bytes word) imm Level.Inject false false)
+call_of (TInject dest tag word imm) = Some (message TagMsg None dest tag (word_bytes word) imm Level.Inject false false)
 call_of (Recv ctx source len) = Some (posting false source 0 0 len None ctx)
 call_of (TRecv ctx source tag ignore len) = Some (posting true source tag ignore len None ctx)
 call_of (MRecv ctx source len least) = Some (posting false source 0 0 len (Some (unwrap_or least (min 64 len))) ctx)
@@ -219,17 +222,17 @@ call_of (LineOp.Discard ctx source tag ignore) = Some (Look Discard source tag i
 call_of (Take ctx len) = Some (TakeClaimed (replicate len 0) ctx)
 call_of (LineOp.DropClaimed ctx) = Some (DropClaimed ctx)
 call_of (LineOp.Cancel ctx) = Some (Cancel ctx)
-call_of (Read ctx dest key at len) = Some (request ReadReq (Some ctx) dest key at len [] None true (Some (replicate len 0)))
-call_of (Write ctx dest key at word imm completion) =
-    Some (request WriteReq (Some ctx) dest key at 0 (word_bytes word) imm completion (Some (word_bytes word)))
-call_of (WInject dest key at word imm) = Some (request WriteReq None dest key at 0 (word_bytes word) imm false None)
-call_of (Atomic ctx dest key at op num values completion) =
-    Some (atomic ctx dest key at (record { op = op; num = num; form = Base }) (length values) values [] completion None)
+call_of (Read ctx dest key at len) = Some (request ReadReq (Some ctx) dest key at len [] None true false (Some (replicate len 0)))
+call_of (Write ctx dest key at word imm completion fence) =
+    Some (request WriteReq (Some ctx) dest key at 0 (word_bytes word) imm completion fence (Some (word_bytes word)))
+call_of (WInject dest key at word imm) = Some (request WriteReq None dest key at 0 (word_bytes word) imm false false None)
+call_of (Atomic ctx dest key at op num values completion fence) =
+    Some (atomic ctx dest key at (record { op = op; num = num; form = Base }) (length values) values [] completion fence None)
 call_of (LineOp.Fetch ctx dest key at op num values count) =
     let n = fetched num values count in
-    Some (atomic ctx dest key at (record { op = op; num = num; form = Fetch }) n values [] true (Some (replicate n 0)))
+    Some (atomic ctx dest key at (record { op = op; num = num; form = Fetch }) n values [] true false (Some (replicate n 0)))
 call_of (LineOp.Compare ctx dest key at op num values compares) =
-    Some (atomic ctx dest key at (record { op = op; num = num; form = Compare }) (length values) values compares true (Some (replicate (length values) 0)))
+    Some (atomic ctx dest key at (record { op = op; num = num; form = Compare }) (length values) values compares true false (Some (replicate (length values) 0)))
 call_of (LineOp.Reg key access word) = Some (Reg key access (word_bytes word))
 call_of (LineOp.Close key) = Some (Close key)
 call_of (LineOp.Put key at word) = Some (Put key at (word_bytes word))

@@ -51,8 +51,8 @@ NamesBelow n schedule = All (λ steps. All (λ step. named_peer step < n) steps)
 
 -- whatever states the peers are in, their report tells a schedule that has one list of steps for each of them; std's `decimal` writes only the last 64 digits of a number
 abbrev pub ReportTellsSchedule : Type 0
-ReportTellsSchedule = (all : List Actor) (schedule : List (List Step))
-    → length schedule ≡ length all → NamesBelow (10 ^ 64) schedule → traces (report_of all schedule) ≡ schedule
+ReportTellsSchedule = (version : ℕ) (all : List Actor) (schedule : List (List Step))
+    → length schedule ≡ length all → NamesBelow (10 ^ 64) schedule → traces (report_of version all schedule) ≡ schedule
 
 -- and so does the report of the replay of such a schedule, lawful or not
 abbrev pub BoundReportTellsSchedule : Type 0

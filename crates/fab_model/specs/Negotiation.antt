@@ -1,11 +1,12 @@
--- What an application is granted (fi_getinfo(3), "Capabilities").
---     grants asked cap      the capability is granted to whoever asks for this set
---     is_refused hints      FI_ENODATA: something asked for can't be had
---     grant hints           what is granted; None where it is refused
+-- What an application is granted in a version of the interface (fi_getinfo(3), "Capabilities").
+--     grants api asked cap      the capability is granted to whoever asks for this set
+--     is_refused api hints      FI_ENODATA: something asked for can't be had
+--     grant api hints           what is granted; None where it is refused
 use Rattle.std.specs.Prelude.{ℕ, Bool, true, false, not, ◌&&◌, ◌||◌, ◌==◌, nat_lt, List, [], ◌∷◌, Option, Some, None}
 use Rattle.std.specs.List.{list_any}
 use Rattle.fab_base.specs.Granted.{has}
 use Rattle.fab_base.specs.Offer.{limits_of, is_offered}
+use Rattle.fab_base.specs.declared.caps.Api.{Api}
 use Rattle.fab_base.specs.declared.caps.Cap.{Cap}
 use Rattle.fab_base.specs.declared.caps.Cap.TheVariants.{Msg, Tagged, Rma, Atomic, DirectedRecv, Send, Recv, Read, Write, RemoteRead, RemoteWrite, MultiRecv, Source, RmaEvent, Fence, LocalComm}
 use Rattle.fab_base.specs.declared.caps.Caps.{Caps}
@@ -35,27 +36,27 @@ abbrev pub modifier : Caps → List Cap → List Cap → Cap → Bool
 modifier asked modified modifiers cap = has asked cap || (has_any asked modified && not (has_any asked modifiers))
 
 -- what is granted to whoever asks for something: the primary ones asked for, modifiers as above, and all secondary ones on offer
-abbrev pub grants_of : Caps → Cap → Bool
-grants_of asked Msg = has asked Msg
-grants_of asked Tagged = has asked Tagged
-grants_of asked Rma = has asked Rma
-grants_of asked Atomic = has asked Atomic
-grants_of asked DirectedRecv = has asked DirectedRecv
-grants_of asked Send = modifier asked (Msg ∷ Tagged ∷ []) message_modifiers Send
-grants_of asked Recv = modifier asked (Msg ∷ Tagged ∷ []) message_modifiers Recv
-grants_of asked Read = modifier asked (Rma ∷ Atomic ∷ []) memory_modifiers Read
-grants_of asked Write = modifier asked (Rma ∷ Atomic ∷ []) memory_modifiers Write
-grants_of asked RemoteRead = modifier asked (Rma ∷ Atomic ∷ []) memory_modifiers RemoteRead
-grants_of asked RemoteWrite = modifier asked (Rma ∷ Atomic ∷ []) memory_modifiers RemoteWrite
-grants_of asked MultiRecv = is_offered MultiRecv
-grants_of asked Source = is_offered Source
-grants_of asked RmaEvent = is_offered RmaEvent
-grants_of asked Fence = is_offered Fence
-grants_of asked LocalComm = is_offered LocalComm
+abbrev pub grants_of : Api → Caps → Cap → Bool
+grants_of api asked Msg = has asked Msg
+grants_of api asked Tagged = has asked Tagged
+grants_of api asked Rma = has asked Rma
+grants_of api asked Atomic = has asked Atomic
+grants_of api asked DirectedRecv = has asked DirectedRecv
+grants_of api asked Send = modifier asked (Msg ∷ Tagged ∷ []) message_modifiers Send
+grants_of api asked Recv = modifier asked (Msg ∷ Tagged ∷ []) message_modifiers Recv
+grants_of api asked Read = modifier asked (Rma ∷ Atomic ∷ []) memory_modifiers Read
+grants_of api asked Write = modifier asked (Rma ∷ Atomic ∷ []) memory_modifiers Write
+grants_of api asked RemoteRead = modifier asked (Rma ∷ Atomic ∷ []) memory_modifiers RemoteRead
+grants_of api asked RemoteWrite = modifier asked (Rma ∷ Atomic ∷ []) memory_modifiers RemoteWrite
+grants_of api asked MultiRecv = is_offered api MultiRecv
+grants_of api asked Source = is_offered api Source
+grants_of api asked RmaEvent = is_offered api RmaEvent
+grants_of api asked Fence = is_offered api Fence
+grants_of api asked LocalComm = is_offered api LocalComm
 
 -- whoever asks for nothing is granted the whole offer
-abbrev pub grants : Caps → Cap → Bool
-grants asked cap = elim (has_any asked all_caps) [ true ↦ grants_of asked cap | false ↦ is_offered cap ]
+abbrev pub grants : Api → Caps → Cap → Bool
+grants api asked cap = elim (has_any asked all_caps) [ true ↦ grants_of api asked cap | false ↦ is_offered api cap ]
 
 abbrev pub caps_of : (Cap → Bool) → Caps
 caps_of member = record {
@@ -78,8 +79,8 @@ caps_of member = record {
 }
 
 -- a capability is asked for that is not on offer
-abbrev pub is_not_offered : Caps → Cap → Bool
-is_not_offered asked cap = has asked cap && not (is_offered cap)
+abbrev pub is_not_offered : Api → Caps → Cap → Bool
+is_not_offered api asked cap = has asked cap && not (is_offered api cap)
 
 -- ---- sizes
 
@@ -89,38 +90,39 @@ wish None = None
 wish (Some n) = elim (n == 0) [ true ↦ None | false ↦ Some n ]
 
 -- the wish is outside the limits of the size
-abbrev pub wish_is_refused : Size → Option ℕ → Bool
-wish_is_refused size wanted = elim (wish wanted) [
+abbrev pub wish_is_refused : Api → Size → Option ℕ → Bool
+wish_is_refused api size wanted = elim (wish wanted) [
   | None ↦ false
-  | Some n ↦ nat_lt n (limits_of size).least || nat_lt (limits_of size).greatest n
+  | Some n ↦ nat_lt n (limits_of api size).least || nat_lt (limits_of api size).greatest n
 ]
 
 -- granted as asked for, and its default without a wish
-abbrev pub size_of : Size → Option ℕ → ℕ
-size_of size wanted = elim (wish wanted) [ None ↦ (limits_of size).default | Some n ↦ n ]
+abbrev pub size_of : Api → Size → Option ℕ → ℕ
+size_of api size wanted = elim (wish wanted) [ None ↦ (limits_of api size).default | Some n ↦ n ]
 
 -- ---- the whole
 
-abbrev pub is_refused : Hints → Bool
-is_refused h =
-    list_any (is_not_offered h.caps) all_caps
-    || wish_is_refused Peers h.peers || wish_is_refused Lane h.lane || wish_is_refused Pool h.pool
-    || wish_is_refused Tx h.tx || wish_is_refused Rx h.rx || wish_is_refused Cq h.cq || wish_is_refused Log h.log
-    || wish_is_refused Inject h.inject || wish_is_refused Message h.message
+abbrev pub is_refused : Api → Hints → Bool
+is_refused api h =
+    list_any (is_not_offered api h.caps) all_caps
+    || wish_is_refused api Peers h.peers || wish_is_refused api Lane h.lane || wish_is_refused api Pool h.pool
+    || wish_is_refused api Tx h.tx || wish_is_refused api Rx h.rx || wish_is_refused api Cq h.cq || wish_is_refused api Log h.log
+    || wish_is_refused api Inject h.inject || wish_is_refused api Message h.message
 
 -- the sizes as asked for; what an inject call and a message may have is the offer
-abbrev pub granted_info : Hints → Info
-granted_info h = record {
-  caps = caps_of (grants h.caps);
-  peers = size_of Peers h.peers;
-  lane = size_of Lane h.lane;
-  pool = size_of Pool h.pool;
-  tx = size_of Tx h.tx;
-  rx = size_of Rx h.rx;
-  cq = size_of Cq h.cq;
-  log = size_of Log h.log;
-  inject = (limits_of Inject).default;
-  message = (limits_of Message).default;
+abbrev pub granted_info : Api → Hints → Info
+granted_info api h = record {
+  api = api;
+  caps = caps_of (grants api h.caps);
+  peers = size_of api Peers h.peers;
+  lane = size_of api Lane h.lane;
+  pool = size_of api Pool h.pool;
+  tx = size_of api Tx h.tx;
+  rx = size_of api Rx h.rx;
+  cq = size_of api Cq h.cq;
+  log = size_of api Log h.log;
+  inject = (limits_of api Inject).default;
+  message = (limits_of api Message).default;
 }
 
 -- no capability, and no wish
@@ -138,10 +140,10 @@ no_hints = record {
   message = None;
 }
 
-unfoldable pub grant_of : Hints → Option Info
-grant_of h = elim (is_refused h) [ true ↦ None | false ↦ Some (granted_info h) ]
+unfoldable pub grant_of : Api → Hints → Option Info
+grant_of api h = elim (is_refused api h) [ true ↦ None | false ↦ Some (granted_info api h) ]
 
 -- no hints are hints that ask for nothing
-unfoldable pub grant : Option Hints → Option Info
-grant None = grant_of no_hints
-grant (Some h) = grant_of h
+unfoldable pub grant : Api → Option Hints → Option Info
+grant api None = grant_of api no_hints
+grant api (Some h) = grant_of api h

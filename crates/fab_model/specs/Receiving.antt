@@ -113,7 +113,7 @@ lacks_room before after = draw_due before.rx || not (fits after.cq)
 unfoldable pub post_fault : State → Posting → Option Fault
 post_fault s p = first_fault (
     (not (may_receive s p.tagged), NotSupported)
-    ∷ (nat_lt 16_777_216 (length p.buf), MsgSize)
+    ∷ (nat_lt s.most_message (length p.buf), MsgSize)
     ∷ (not (source_is_known s p.source) || least_is_wrong p, Invalid)
     ∷ (lacks_room s (post s p), Again (CqFull s.cq.size))
     ∷ (is_none (taken_by (receive_of s p) s) && nat_le s.most_rx (length s.rx.posted), Again (PostedFull s.most_rx))
@@ -177,7 +177,7 @@ drop_claimed s ctx = elim (claim_of ctx s) [
 unfoldable pub claimed_fault : State → List ℕ → ℕ → State → Option Fault
 claimed_fault s buf ctx after = first_fault (
     (not (may_receive s true), NotSupported)
-    ∷ (nat_lt 16_777_216 (length buf), MsgSize)
+    ∷ (nat_lt s.most_message (length buf), MsgSize)
     ∷ (is_none (claim_of ctx s), NoEntry)
     ∷ (lacks_room s after, Again (CqFull s.cq.size))
     ∷ []

@@ -37,11 +37,11 @@ bind_word bound (Hex bytes) = Hex bytes
 bind_word bound (Zero n) = Zero n
 
 abbrev pub bind_op : Bound → LineOp → LineOp
-bind_op b (Send ctx dest word imm level completion) = Send ctx dest (bind_word b word) imm level completion
-bind_op b (TSend ctx dest tag word imm level completion) = TSend ctx dest tag (bind_word b word) imm level completion
+bind_op b (Send ctx dest word imm level completion fence) = Send ctx dest (bind_word b word) imm level completion fence
+bind_op b (TSend ctx dest tag word imm level completion fence) = TSend ctx dest tag (bind_word b word) imm level completion fence
 bind_op b (Inject dest word imm) = Inject dest (bind_word b word) imm
 bind_op b (TInject dest tag word imm) = TInject dest tag (bind_word b word) imm
-bind_op b (Write ctx dest key at word imm completion) = Write ctx dest key at (bind_word b word) imm completion
+bind_op b (Write ctx dest key at word imm completion fence) = Write ctx dest key at (bind_word b word) imm completion fence
 bind_op b (WInject dest key at word imm) = WInject dest key at (bind_word b word) imm
 bind_op b (Reg key access word) = Reg key access (bind_word b word)
 bind_op b (Put key at word) = Put key at (bind_word b word)
@@ -61,6 +61,7 @@ fresh conf = record {
   selective = conf.selective;
   most_tx = conf.info.tx;
   most_rx = conf.info.rx;
+  most_message = conf.info.message;
   av = map Some (upto conf.peers);
   regions = [];
   rx = record {
@@ -72,7 +73,7 @@ fresh conf = record {
     heads = replicate conf.peers 0;
     tails = replicate conf.peers 0;
   };
-  tx = record { accepted = replicate conf.peers []; sent = replicate conf.peers 0; live = []; ops = 0 };
+  tx = record { accepted = replicate conf.peers []; sent = replicate conf.peers 0; live = []; held = replicate conf.peers []; ops = 0 };
   cq = record { written = []; taken_out = 0; size = conf.info.cq };
   counters = replicate 6 nothing_counted;
   calls = 0;

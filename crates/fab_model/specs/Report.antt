@@ -1,9 +1,9 @@
 -- The report of a schedule, and the schedule that a report tells.
---     peer_lines p lines results kept pending steps      the lines of one peer's part, as words
---     report_of all schedule      the report of peers in these states that took these steps
+--     peer_lines p lines results kept pending deferred steps      the lines of one peer's part, as words
+--     report_of version all schedule      the report of peers in these states that took these steps, for a script of this version
 --     report bound schedule       that of the states in which the replay ends
 --     traces text                 the steps that its trace lines tell
-use Rattle.std.specs.Prelude.{Bool, slice_get, ℕ, ◌+◌, true, false, ◌==◌, List, [], ◌∷◌, ◌++◌, length, take, Option, Some, None, map, filter_map, codes, decimal, count_by, bytes_eq, unwrap_or}
+use Rattle.std.specs.Prelude.{Bool, slice_get, ℕ, ◌+◌, true, false, not, ◌==◌, List, [], ◌∷◌, ◌++◌, length, take, Option, Some, None, map, filter_map, codes, decimal, count_by, bytes_eq, unwrap_or}
 use Rattle.fab_base.specs.declared.faults.Fault.{Fault}
 use Rattle.fab_base.specs.declared.faults.Fault.TheVariants.{Again, NoMemory, NoData, Invalid, NoKey, Range, MsgSize, NotSupported, NoEntry, Avail}
 use Rattle.fab_base.specs.declared.entries.Entry.{Entry}
@@ -24,7 +24,7 @@ use Rattle.fab_base.specs.declared.script.Bound.{Bound}
 use Rattle.fab_base.specs.declared.script.Line.{Line}
 use Rattle.fab_base.specs.declared.script.LineOp.{LineOp}
 use Rattle.fab_base.specs.declared.script.LineOp.TheVariants.{Send, TSend, Inject, TInject, Recv, TRecv, MRecv, Take, DropClaimed, Cancel, Write, WInject, Atomic, Fetch, Compare, Reg, Close, Put, Show, Insert, Remove, Wait, Count, Reach}
-use Rattle.fab_model.specs.State.{awaits}
+use Rattle.fab_model.specs.State.{awaits, deferred_count}
 use Rattle.fab_model.specs.Peers.{Actor, ctx_of}
 use Rattle.fab_model.specs.Replay.{replayed, all_done}
 use Rattle.fab_model.specs.Words.{Word, text_of, lines_in, hex_or_dash, read_decimal}
@@ -44,8 +44,8 @@ fault_name NoEntry = codes "FI_ENOENT"
 fault_name Avail = codes "FI_EAVAIL"
 
 unfoldable pub verb_of : LineOp → Word
-verb_of (Send _ _ _ _ _ _) = codes "send"
-verb_of (TSend _ _ _ _ _ _ _) = codes "tsend"
+verb_of (Send _ _ _ _ _ _ _) = codes "send"
+verb_of (TSend _ _ _ _ _ _ _ _) = codes "tsend"
 verb_of (Inject _ _ _) = codes "inject"
 verb_of (TInject _ _ _ _) = codes "tinject"
 verb_of (Recv _ _ _) = codes "recv"
@@ -58,9 +58,9 @@ verb_of (Take _ _) = codes "take"
 verb_of (DropClaimed _) = codes "drop"
 verb_of (Cancel _) = codes "cancel"
 verb_of (LineOp.Read _ _ _ _ _) = codes "read"
-verb_of (Write _ _ _ _ _ _ _) = codes "write"
+verb_of (Write _ _ _ _ _ _ _ _) = codes "write"
 verb_of (WInject _ _ _ _ _) = codes "winject"
-verb_of (Atomic _ _ _ _ _ _ _ _) = codes "atomic"
+verb_of (Atomic _ _ _ _ _ _ _ _ _) = codes "atomic"
 verb_of (Fetch _ _ _ _ _ _ _ _) = codes "fetch"
 verb_of (Compare _ _ _ _ _ _ _ _) = codes "compare"
 verb_of (Reg _ _ _) = codes "reg"
@@ -154,8 +154,9 @@ abbrev pub stuck_line : Option Line → List (List Word)
 stuck_line None = []
 stuck_line (Some line) = (codes "stuck" ∷ codes "at" ∷ decimal line.number ∷ []) ∷ []
 
-abbrev pub pending_line : ℕ → List (List Word)
-pending_line n = elim (n == 0) [ true ↦ [] | false ↦ (codes "pending" ∷ decimal n ∷ []) ∷ [] ]
+-- a word and how many there are, where there are any
+abbrev pub amount_line : Word → ℕ → List (List Word)
+amount_line word n = elim (n == 0) [ true ↦ [] | false ↦ (word ∷ decimal n ∷ []) ∷ [] ]
 
 abbrev pub step_word : Step → Word
 step_word Do = codes "D"
@@ -166,16 +167,17 @@ step_word Draw = codes "M"
 step_word Read = codes "R"
 step_word Final = codes "X"
 
--- the lines of one peer's part, of its number, its lines, the results of those done, the entries left, how many operations are pending, and its steps
-unfoldable pub peer_lines : ℕ → List Line → List LineResult → List Kept → ℕ → List Step → List (List Word)
-peer_lines p lines results kept pending steps =
+-- the lines of one peer's part, of its number, its lines, the results of those done, the entries left, how many operations are pending and deferred, and its steps
+unfoldable pub peer_lines : ℕ → List Line → List LineResult → List Kept → ℕ → ℕ → List Step → List (List Word)
+peer_lines p lines results kept pending deferred steps =
     (codes "peer" ∷ decimal p ∷ []) ∷ done_lines lines results ++ stuck_line (slice_get lines (length results))
     ++ map (λ k. codes "left" ∷ kept_words k) kept
-    ++ pending_line pending
+    ++ amount_line (codes "pending") pending
+    ++ amount_line (codes "deferred") deferred
     ++ (codes "trace" ∷ map step_word steps) ∷ []
 
-abbrev pub first_line : ℕ → List Word
-first_line peers = codes "fabric" ∷ codes "1" ∷ codes "peers" ∷ decimal peers ∷ []
+abbrev pub first_line : ℕ → ℕ → List Word
+first_line version peers = codes "fabric" ∷ decimal version ∷ codes "peers" ∷ decimal peers ∷ []
 
 abbrev pub last_line : Bool → List Word
 last_line done = codes "end" ∷ elim done [ true ↦ codes "done" | false ↦ codes "stuck" ] ∷ []
@@ -184,22 +186,26 @@ last_line done = codes "end" ∷ elim done [ true ↦ codes "done" | false ↦ c
 abbrev pub pending_of : Actor → ℕ
 pending_of a = count_by (awaits a.state.tx) a.state.tx.live
 
+-- how many operations of the peer are not transmitted
+abbrev pub deferred_of : Actor → ℕ
+deferred_of a = deferred_count a.state.tx
+
 abbrev pub actor_lines : ℕ → Actor → List Step → List (List Word)
-actor_lines p a steps = peer_lines p a.lines a.results a.kept (pending_of a) steps
+actor_lines p a steps = peer_lines p a.lines a.results a.kept (pending_of a) (deferred_of a) steps
 
 unfoldable pub all_lines : ℕ → List Actor → List (List Step) → List (List Word)
 all_lines p [] schedule = []
 all_lines p (a ∷ rest) [] = actor_lines p a [] ++ all_lines (p + 1) rest []
 all_lines p (a ∷ rest) (steps ∷ schedule) = actor_lines p a steps ++ all_lines (p + 1) rest schedule
 
-unfoldable pub report_lines : List Actor → List (List Step) → List (List Word)
-report_lines all schedule = first_line (length all) ∷ all_lines 0 all schedule ++ last_line (all_done all) ∷ []
+unfoldable pub report_lines : ℕ → List Actor → List (List Step) → List (List Word)
+report_lines version all schedule = first_line version (length all) ∷ all_lines 0 all schedule ++ last_line (all_done all) ∷ []
 
-unfoldable pub report_of : List Actor → List (List Step) → List ℕ
-report_of all schedule = text_of (report_lines all schedule)
+unfoldable pub report_of : ℕ → List Actor → List (List Step) → List ℕ
+report_of version all schedule = text_of (report_lines version all schedule)
 
 unfoldable pub report : Bound → List (List Step) → List ℕ
-report bound schedule = report_of (replayed bound schedule).states schedule
+report bound schedule = report_of bound.script.version (replayed bound schedule).states schedule
 
 -- ---- reading the schedule back
 

@@ -3,7 +3,8 @@
 --     transmit_fault s o, transmit s o      why the call is refused; the state after it is Ok
 --     do_sent s t      the oldest item for t that is not transmitted is transmitted
 --     do_answer s source head bytes      a reply is whole
-use Rattle.std.specs.Prelude.{ℕ, ◌+◌, ◌%◌, Bool, true, false, not, ◌&&◌, ◌||◌, ◌==◌, nat_lt, nat_le, List, [], ◌∷◌, ◌++◌, length, Option, Some, None, slice_set, slice_index, is_none, find, unwrap_or, cond}
+use Rattle.std.specs.Prelude.{◌≡◌, ℕ, ◌+◌, ◌%◌, Bool, true, false, not, ◌&&◌, ◌||◌, ◌==◌, nat_lt, nat_le, List, [], ◌∷◌, ◌++◌, length, Option, Some, None, slice_set, slice_index, is_none, find, map, unwrap_or, cond}
+use Rattle.std.specs.List.{list_any}
 use Rattle.fab_base.specs.declared.items.Kind.{Kind}
 use Rattle.fab_base.specs.declared.items.Kind.TheVariants.{Msg, TagMsg, WriteReq, ReadReq, AtomicReq, Reply}
 use Rattle.fab_base.specs.declared.items.Ack.{Ack}
@@ -30,7 +31,8 @@ use Rattle.fab_model.specs.Matching.{is_message, is_tagged, remove_first}
 use Rattle.fab_base.specs.Elements.{element_size, is_of_form}
 use Rattle.fab_base.specs.declared.items.Item.{Item}
 use Rattle.fab_base.specs.declared.operations.Operation.{Operation}
-use Rattle.fab_model.specs.State.{State, Transmitting, accepted_for, awaits, in_use, lookup, raise, with_tx, write, count}
+use Rattle.fab_base.specs.declared.operations.Held.{Held}
+use Rattle.fab_model.specs.State.{State, Transmitting, accepted_for, held_for, awaits, in_use, lookup, raise, with_tx, write, count}
 use Rattle.fab_model.specs.Complete.{error}
 
 -- a transmit call. `injected` says that it is one of the inject calls, and `length compared` of its bytes are compares
@@ -49,6 +51,7 @@ pub record Order : Type 0 where
   pub ctx : Option ℕ
   pub level : Level
   pub completion : Bool
+  pub fence : Bool
   pub buf : Option (List ℕ)
 
 -- the fault of the first test that holds
@@ -73,14 +76,14 @@ is_granted caps WriteReq atom = caps.rma && caps.write
 is_granted caps AtomicReq atom = caps.atomic && atom_is_granted caps atom
 is_granted caps Reply atom = false
 
--- the most bytes of a call, its operand, compare and buffer included
-abbrev pub most_bytes : Kind → Bool → ℕ
-most_bytes AtomicReq injected = 4_096
-most_bytes kind true = 4_096
-most_bytes kind false = 16_777_216
+-- the most bytes of a call, its operand, compare and buffer included, where a message may have so many
+abbrev pub most_bytes : ℕ → Kind → Bool → ℕ
+most_bytes most AtomicReq injected = 4_096
+most_bytes most kind true = 4_096
+most_bytes most kind false = most
 
-abbrev pub is_too_long : Order → Bool
-is_too_long o = let most = most_bytes o.kind o.injected in nat_lt most (length o.bytes + length o.compared) || nat_lt most o.count
+abbrev pub is_too_long : ℕ → Order → Bool
+is_too_long most o = let most = most_bytes most o.kind o.injected in nat_lt most (length o.bytes + length o.compared) || nat_lt most o.count
 
 -- at and all lengths are multiples of the element's size and agree, and the operation belongs to the form
 abbrev pub is_well_formed : Order → Option Atom → Bool
@@ -95,7 +98,7 @@ is_well_formed o (Some atom) =
 unfoldable pub transmit_fault : State → Order → Option Fault
 transmit_fault s o = first_fault (
     (not (is_granted s.caps o.kind o.atom), NotSupported)
-    ∷ (is_too_long o, MsgSize)
+    ∷ (is_too_long s.most_message o, MsgSize)
     ∷ (is_none (lookup s.av o.dest) || nat_le 4_611_686_018_427_387_904 s.tx.ops || not (is_well_formed o o.atom), Invalid)
     ∷ (nat_le s.most_tx (in_use s.tx), Again (TxFull s.most_tx))
     ∷ []
@@ -130,29 +133,69 @@ is_silent s o = o.injected || (s.selective && not o.completion)
 abbrev pub item_of : ℕ → Order → Item
 item_of op o = record { head = head_of op o; bytes = o.bytes ++ o.compared }
 
-abbrev pub operation_of : State → Order → ℕ → Operation
-operation_of s o t = record {
+abbrev pub operation_of : State → Order → Held
+operation_of s o = record {
   call = s.calls;
-  dest = t;
-  place = length (accepted_for s.tx t);
-  head = head_of s.tx.ops o;
+  item = item_of s.tx.ops o;
   level = o.level;
   ctx = o.ctx;
   buf = o.buf;
   silent = is_silent s o;
+  fence = o.fence;
 }
 
--- the item joins those accepted for t, and the operation those that have not ended
-unfoldable pub accepting : ℕ → Item → Operation → Transmitting → Transmitting
-accepting t item operation tx = record {
-  accepted = slice_set tx.accepted t (accepted_for tx t ++ item ∷ []);
+-- some operation for t is live
+abbrev pub is_busy : Transmitting → ℕ → Bool
+is_busy tx t = list_any (λ (o : Operation). o.dest == t) tx.live
+
+-- Of operations for one peer, in the order accepted: those that go out, and those that a fence holds back (FI_FENCE of fi_msg(3)),
+-- with all behind it. A fence waits until none for the peer is live; each that goes out is live, so the next fence waits for it.
+abbrev pub let_out : Bool → List Held → List Held
+let_out busy [] = []
+let_out busy (o ∷ held) = elim (busy && o.fence) [ true ↦ [] | false ↦ o ∷ let_out true held ]
+
+abbrev pub held_back : Bool → List Held → List Held
+held_back busy [] = []
+held_back busy (o ∷ held) = elim (busy && o.fence) [ true ↦ o ∷ held | false ↦ held_back true held ]
+
+-- the operation, with its item at this place
+abbrev pub operation_at : ℕ → ℕ → Held → Operation
+operation_at t place o = record { call = o.call; dest = t; place = place; head = o.item.head; level = o.level; ctx = o.ctx; buf = o.buf; silent = o.silent }
+
+-- the operations, with their items one behind another from this place on
+abbrev pub operations_from : ℕ → ℕ → List Held → List Operation
+operations_from t place [] = []
+operations_from t place (o ∷ out) = operation_at t place o ∷ operations_from t (place + 1) out
+
+-- What a fence holds back for a peer has to wait: the first of it has a fence, and some operation for the peer has not ended. So nothing
+-- is held for a peer with nothing under way.
+abbrev pub AreFenced : Transmitting → Type 0
+AreFenced tx = (t : ℕ) → let_out (is_busy tx t) (held_for tx t) ≡ []
+
+abbrev pub items_of : List Held → List Item
+items_of held = map (λ (o : Held). o.item) held
+
+-- Of these operations for t, the items of those that go out join those accepted for t, and the operations are live; the others
+-- are held for t.
+unfoldable pub letting_out : ℕ → List Held → Transmitting → Transmitting
+letting_out t held tx = record {
+  accepted = slice_set tx.accepted t (accepted_for tx t ++ items_of (let_out (is_busy tx t) held));
   sent = tx.sent;
-  live = tx.live ++ operation ∷ [];
-  ops = tx.ops + 1;
+  live = tx.live ++ operations_from t (length (accepted_for tx t)) (let_out (is_busy tx t) held);
+  held = slice_set tx.held t (held_back (is_busy tx t) held);
+  ops = tx.ops;
 }
+
+-- those held for t go out as far as no fence holds them back any more
+abbrev pub going_on : ℕ → Transmitting → Transmitting
+going_on t tx = letting_out t (held_for tx t) tx
+
+-- the operation stands behind those held for t, and goes out at once where none is held and its own fence does not hold it
+unfoldable pub accepting : ℕ → Held → Transmitting → Transmitting
+accepting t o tx = letting_out t (held_for tx t ++ o ∷ []) (record tx { ops = tx.ops + 1 })
 
 unfoldable pub transmit_to : ℕ → State → Order → State
-transmit_to t s o = record s { tx = accepting t (item_of s.tx.ops o) (operation_of s o t) s.tx; calls = s.calls + 1 }
+transmit_to t s o = record s { tx = accepting t (operation_of s o) s.tx; calls = s.calls + 1 }
 
 unfoldable pub transmit : State → Order → State
 transmit s o = elim (lookup s.av o.dest) [ None ↦ s | Some t ↦ transmit_to t s o ]
@@ -216,11 +259,16 @@ transmitting t tx = record {
   accepted = tx.accepted;
   sent = raise tx.sent t;
   live = remove_first (is_of_item t (slice_index tx.sent t)) tx.live;
+  held = tx.held;
   ops = tx.ops;
 }
 
+-- where an operation ends, those that wait for it go on
 unfoldable pub do_sent : State → ℕ → State
-do_sent s t = elim (ending t s.tx) [ None ↦ with_tx (transmitting t s.tx) s | Some o ↦ end_with Done [] o (with_tx (transmitting t s.tx) s) ]
+do_sent s t = elim (ending t s.tx) [
+  | None ↦ with_tx (transmitting t s.tx) s
+  | Some o ↦ end_with Done [] o (with_tx (going_on t (transmitting t s.tx)) s)
+]
 
 -- the length of the reply that the operation expects, and whether it expects the outcome
 unfoldable pub expects : Operation → Outcome → ℕ → Bool
@@ -239,5 +287,5 @@ answering source reply tx = record tx { live = remove_first (is_answered_by tx s
 unfoldable pub do_answer : State → ℕ → ItemHead → List ℕ → State
 do_answer s source reply bytes = elim (find (is_answered_by s.tx source reply) s.tx.live) [
   | None ↦ s
-  | Some o ↦ end_with reply.outcome bytes o (with_tx (answering source reply s.tx) s)
+  | Some o ↦ end_with reply.outcome bytes o (with_tx (going_on source (answering source reply s.tx)) s)
 ]

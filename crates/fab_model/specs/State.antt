@@ -3,9 +3,9 @@
 --     Transmitting   what was accepted and how much of it is transmitted
 --     Completions    the completion queue (fi_cq(3))
 --     State          these, the address vector (fi_av(3)), the regions (fi_mr(3)) and the counters (fi_cntr(3))
---     Receive, Arrival, Coming, Operation, Written and Tally are types of fab_base
+--     Receive, Arrival, Coming, Operation, Held, Written and Tally are types of fab_base
 --     slice_index xs t of numbers, slice_index_or xs t d of others: a list by peer at peer t
-use Rattle.std.specs.Prelude.{ℕ, ◌+◌, ◌-◌, min, Bool, true, false, ◌==◌, nat_lt, nat_le, List, [], ◌∷◌, ◌++◌, length, Option, Some, None, slice_index, slice_index_or, slice_set}
+use Rattle.std.specs.Prelude.{ℕ, ◌+◌, ◌-◌, min, Bool, true, false, not, ◌==◌, nat_lt, nat_le, List, [], ◌∷◌, ◌++◌, length, Option, Some, None, slice_index, slice_index_or, slice_set, count_by, sum_by}
 use Rattle.std.specs.List.{list_any}
 use Rattle.fab_base.specs.declared.items.Item.{Item}
 use Rattle.fab_base.specs.declared.items.Access.{Access}
@@ -18,6 +18,7 @@ use Rattle.fab_base.specs.declared.operations.Arrival.{Arrival}
 use Rattle.fab_base.specs.declared.operations.Coming.{Coming}
 use Rattle.fab_base.specs.declared.operations.Coming.TheVariants.{Into, Keep, Throw, Request, Answer}
 use Rattle.fab_base.specs.declared.operations.Operation.{Operation}
+use Rattle.fab_base.specs.declared.operations.Held.{Held}
 use Rattle.fab_base.specs.declared.operations.Written.{Written}
 use Rattle.fab_base.specs.declared.operations.Tally.{Tally}
 
@@ -60,23 +61,36 @@ raise xs t = slice_set xs t (slice_index xs t + 1)
 -- ---- transmitting
 
 pub record Transmitting : Type 0 where
-  -- for each peer, the items accepted for it, in order, and how many of these are transmitted
+  -- for each peer, the items accepted for it that no fence holds back, in order, and how many of these are transmitted
   pub accepted : List (List Item)
   pub sent : List ℕ
-  -- the operations that have not ended
+  -- the operations with these items that have not ended
   pub live : List Operation
+  -- for each peer, the operations that a fence holds back (FI_FENCE of fi_msg(3)), in the order accepted, with their items
+  pub held : List (List Held)
   -- how many transmit calls were accepted: the next item's `op`
   pub ops : ℕ
 
 abbrev pub accepted_for : Transmitting → ℕ → List Item
 accepted_for tx t = slice_index_or tx.accepted t []
 
+abbrev pub held_for : Transmitting → ℕ → List Held
+held_for tx t = slice_index_or tx.held t []
+
+-- how many operations a fence holds back
+abbrev pub held_count : Transmitting → ℕ
+held_count tx = sum_by length tx.held
+
 abbrev pub in_use : Transmitting → ℕ
-in_use tx = length tx.live
+in_use tx = length tx.live + held_count tx
 
 -- the operation's item is transmitted
 abbrev pub awaits : Transmitting → Operation → Bool
 awaits tx o = nat_lt o.place (slice_index tx.sent o.dest)
+
+-- how many operations are not transmitted: those whose items go out, and those that a fence holds back
+abbrev pub deferred_count : Transmitting → ℕ
+deferred_count tx = count_by (λ o. not (awaits tx o)) tx.live + held_count tx
 
 -- ---- completions
 
@@ -134,9 +148,10 @@ pub record State : Type 0 where
   pub caps : Caps
   -- the endpoint was opened with selective completion
   pub selective : Bool
-  -- how many transmit operations may be under way, and how many receives posted
+  -- how many transmit operations may be under way, how many receives posted, and how many bytes a message may have
   pub most_tx : ℕ
   pub most_rx : ℕ
+  pub most_message : ℕ
   -- of each index of the address vector, the peer that stands there
   pub av : List (Option ℕ)
   pub regions : List Region

@@ -2,10 +2,10 @@
 use Rattle.std.proofs.Common.{◌≡◌, ℕ, ◌≤◌, Bool, true, ◌&&◌, ◌==◌, Option, None, ◌∙◌, arith}
 use Rattle.std.proofs.lemmas.Bool.{and_parts, leb-true}
 use Rattle.std.proofs.lemmas.List.{get_or-replicate, length-replicate}
-use Rattle.fab_base.specs.Offer.{limits_of}
+use Rattle.fab_base.specs.Offer.{limits_of, most_message}
 use Rattle.fab_base.specs.declared.caps.Info.{Info}
 use Rattle.fab_base.specs.declared.items.Item.{Item}
-use Rattle.fab_base.specs.declared.limits.Size.TheVariants.{Peers, Lane, Pool, Tx, Rx, Cq, Log, Inject, Message}
+use Rattle.fab_base.specs.declared.limits.Size.TheVariants.{Peers, Lane, Pool, Tx, Rx, Cq, Log, Inject}
 use Rattle.fab_av.specs.Addresses.{Addresses}
 use Rattle.fab_link.specs.declared.port.Port.{Ghosts}
 use Rattle.fab_face.specs.Ports.{IsFresh, is_granted, opened, seen, within}
@@ -15,11 +15,11 @@ use Rattle.fab_ep.specs.Tries.{IsTied}
 pub log_granted : (i : Info) (peers : ℕ) → is_granted i peers ≡ true → 4 ≤ i.log
 log_granted i peers granted =
     let up_to_cq =
-    (i.peers == peers) && within (limits_of Peers) i.peers && within (limits_of Lane) i.lane && within (limits_of Pool) i.pool && within (limits_of Tx) i.tx
-    && within (limits_of Rx) i.rx && within (limits_of Cq) i.cq in
-    let up_to_log = up_to_cq && within (limits_of Log) i.log in
-    let up_to_inject = and_parts (up_to_log && within (limits_of Inject) i.inject) (within (limits_of Message) i.message) granted in
-    let log = and_parts up_to_cq (within (limits_of Log) i.log) (and_parts up_to_log (within (limits_of Inject) i.inject) up_to_inject.0).0 in
+    (i.peers == peers) && within (limits_of i.api Peers) i.peers && within (limits_of i.api Lane) i.lane && within (limits_of i.api Pool) i.pool && within (limits_of i.api Tx) i.tx
+    && within (limits_of i.api Rx) i.rx && within (limits_of i.api Cq) i.cq in
+    let up_to_log = up_to_cq && within (limits_of i.api Log) i.log in
+    let up_to_inject = and_parts (up_to_log && within (limits_of i.api Inject) i.inject) (i.message == most_message i.api) granted in
+    let log = and_parts up_to_cq (within (limits_of i.api Log) i.log) (and_parts up_to_log (within (limits_of i.api Inject) i.inject) up_to_inject.0).0 in
     leb-true 4 i.log (and_parts _ _ log.1).0
 
 pub opened_tied : {P : Type 0} (M : Ghosts P) (port : P) (av : Addresses) (info : Info) (selective : Bool) → av.peers ≡ M.peer_count port → IsFresh M port → 4 ≤ info.log

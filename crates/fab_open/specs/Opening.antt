@@ -22,6 +22,7 @@ abbrev pub unused : Addresses → Info → Bool → Parts
 unused av info selective = record {
   caps = info.caps;
   selective = selective;
+  most_message = info.message;
   av = av;
   rx = nothing_arrived av.peers info.rx;
   tx = nothing_accepted av.peers info.tx;

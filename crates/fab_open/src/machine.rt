@@ -140,6 +140,10 @@ impl Machine for BinMachine {
     fn awaiting(&self) -> u32 {
         self.core.awaiting()
     }
+
+    fn deferred(&self) -> u32 {
+        self.core.deferred()
+    }
 }
 
 impl Looking for BinMachine {

@@ -6,7 +6,7 @@ ghost use Rattle.fab_open.specs.Opening.{why_not};
 
 use crate::machine::BinMachine;
 use fab_av::Av;
-use fab_base::{Fault, Info, Size};
+use fab_base::{Api, Fault, Info, Size};
 use fab_link::Port;
 use std::alloc::Global;
 
@@ -21,28 +21,29 @@ pub struct OpenRefused<P: Port> {
     pub av: Av,
 }
 
-/// Whether the number is within the limits of its size.
-fn is_within(size: Size, number: u32) -> bool
-    ensures { result ≡ within (limits_of size) number }
+/// Whether the number is within the limits of its size in this version.
+fn is_within(api: Api, size: Size, number: u32) -> bool
+    ensures { result ≡ within (limits_of api size) number }
 {
-    let limits = size.limits();
+    let limits = size.limits(api);
     limits.least <= number && number <= limits.greatest
 }
 
-/// Whether the numbers are within the limits of the offer (fi_getinfo(3)), and for so many peers.
+/// Whether the numbers are those of the offer in the version of `info` (fi_getinfo(3)), and for so many peers: within the
+/// limits, with messages of as many bytes as may be.
 pub fn is_granted(info: &Info, peers: u32) -> bool
     ensures { result ≡ is_granted info.now peers }
 {
     info.peers == peers
-        && is_within(Size::Peers, info.peers)
-        && is_within(Size::Lane, info.lane)
-        && is_within(Size::Pool, info.pool)
-        && is_within(Size::Tx, info.tx)
-        && is_within(Size::Rx, info.rx)
-        && is_within(Size::Cq, info.cq)
-        && is_within(Size::Log, info.log)
-        && is_within(Size::Inject, info.inject)
-        && is_within(Size::Message, info.message)
+        && is_within(info.api, Size::Peers, info.peers)
+        && is_within(info.api, Size::Lane, info.lane)
+        && is_within(info.api, Size::Pool, info.pool)
+        && is_within(info.api, Size::Tx, info.tx)
+        && is_within(info.api, Size::Rx, info.rx)
+        && is_within(info.api, Size::Cq, info.cq)
+        && is_within(info.api, Size::Log, info.log)
+        && is_within(info.api, Size::Inject, info.inject)
+        && info.message == Size::Message.limits(info.api).greatest
 }
 
 /// Opens an endpoint (fi_endpoint(3), with fi_ep_bind and fi_enable done) over a port that no frame has gone
@@ -52,7 +53,7 @@ pub fn is_granted(info: &Info, peers: u32) -> bool
 /// It takes all memory that the endpoint's calls need, but for messages that come unexpected, for requests of
 /// peers and for the replies that they are owed.
 ///
-/// `Invalid` exactly where a number of `info` is outside its limits, or not for as many peers as the port has;
+/// `Invalid` exactly where a number of `info` is not one of the offer, or not for as many peers as the port has;
 /// else it may answer `NoMemory`. A refusal hands the port and the address vector back.
 pub fn open<P: Port>(
     alloc: Global,

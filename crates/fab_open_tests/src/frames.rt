@@ -11,6 +11,7 @@ pub const LEN: u32 = 5000;
 pub const COMPLETES: Flags = Flags {
     completion: true,
     level: Level::Transmit,
+    fence: false,
 };
 
 /// The head of a message without remote data, which asks for no answer.

@@ -3,7 +3,7 @@ ghost use Rattle.std.specs.Prelude.{IfSome};
 ghost use Rattle.fab_open_tests.specs.Came.{IsNewOver, IsReady};
 
 use fab_av::Av;
-use fab_base::{Caps, Hints, Info};
+use fab_base::{Api, Caps, Hints, Info};
 use fab_info::getinfo;
 use fab_link::PlainPort;
 use fab_open::{Endpoint, open};
@@ -23,7 +23,7 @@ pub fn offered(peers: u32) -> Option<Info> {
         inject: None,
         message: None,
     };
-    getinfo(Some(&hints)).ok()
+    getinfo(Api::One, Some(&hints)).ok()
 }
 
 /// The port of this peer, one of so many.

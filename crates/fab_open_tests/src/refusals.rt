@@ -77,6 +77,7 @@ fn a_number_outside_its_limits_is_refused(rt: HostRuntime) -> Result<(), Fail> {
         (Size::Cq, 1),
         (Size::Log, 3),
         (Size::Inject, 4_097),
+        (Size::Message, 16_777_215),
         (Size::Message, 16_777_217),
     ] {
         assert!(rt; opened_with(rt.alloc(), size, number) == back);
@@ -91,7 +92,6 @@ fn a_number_at_its_limit_is_granted(rt: HostRuntime) -> Result<(), Fail> {
         (Size::Log, 4),
         (Size::Inject, 1),
         (Size::Inject, 4_096),
-        (Size::Message, 1),
         (Size::Message, 16_777_216),
     ] {
         assert!(rt; opened_with(rt.alloc(), size, number) == Some(Ok(())));

@@ -1,12 +1,19 @@
--- The text of what is granted, piece by piece.
-use Rattle.std.proofs.Common.{◌≡◌, ◌<◌, ◌+◌, ℕ, true, false, cond, List, [], ◌∷◌, ◌++◌, map, filter, length, drop, get_or, sym, ap, ◌∙◌, append_assoc}
+-- The text of what is granted, piece by piece, and that something is.
+use Rattle.std.proofs.Common.{◌≡◌, ◌<◌, ◌+◌, ℕ, true, false, cond, List, [], ◌∷◌, ◌++◌, map, filter, length, drop, get_or, Some, refl, sym, ap, ◌∙◌, append_assoc}
+use Rattle.std.specs.List.{list_any}
 use Rattle.std.proofs.lemmas.List.{append-nil, drop_more}
+use Rattle.std.proofs.Math.Bool.{and-false}
 use Rattle.fab_base.specs.Granted.{has}
+use Rattle.fab_base.specs.Offer.{is_offered}
+use Rattle.fab_base.specs.declared.caps.Api.TheVariants.{Two}
 use Rattle.fab_base.specs.declared.caps.Cap.{Cap}
+use Rattle.fab_base.specs.declared.caps.Cap.TheVariants.{RmaEvent}
 use Rattle.fab_base.specs.declared.caps.Caps.{Caps}
 use Rattle.fab_grammar.specs.Capabilities.{cap_name}
+use Rattle.fab_grammar.specs.Settings.{asking}
+use Rattle.fab_model.specs.Negotiation.{all_caps, is_not_offered, grant, grant_of}
 use Rattle.fab_model.specs.Words.{Word, line_of, text_of}
-use Rattle.fab_outside.specs.Info.{cap_names}
+use Rattle.fab_outside.specs.Info.{cap_names, offer}
 use Rattle.fab_report.specs.Texts.{after_blanks}
 use Rattle.fab_report.proofs.Blanks.{part_more}
 
@@ -45,3 +52,18 @@ cap_kept caps cs i d out begun now whole below e blank name is =
 pub line_more : (from now next : List ℕ) (xs : List (List Word)) (y : List Word) → now ≡ from ++ text_of xs → next ≡ now ++ line_of y → next ≡ from ++ text_of (xs ++ y ∷ [])
 line_more from now next xs y wrote writes =
     part_more from now next xs (y ∷ []) wrote (writes ∙ ap (λ text. now ++ text) (sym (append-nil (line_of y))))
+
+-- ---- what is on offer
+
+offered : (cap : Cap) → is_offered Two cap ≡ true
+offered RmaEvent = refl
+offered _ = refl
+
+none_missing : (caps : Caps) (list : List Cap) → list_any (is_not_offered Two caps) list ≡ false
+none_missing caps [] = refl
+none_missing caps (c ∷ list) = rw (offered c, and-false (has caps c)) (none_missing caps list)
+
+-- capabilities alone are granted
+pub none_refused : (caps : Caps) → grant Two (Some (asking caps)) ≡ Some (offer caps)
+unfolding grant grant_of
+none_refused caps = rw (none_missing caps all_caps) refl

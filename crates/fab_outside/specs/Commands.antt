@@ -1,30 +1,26 @@
 -- What the words of a command ask for.
 --     script_file words      the file whose script is to be run, where the words are `script FILE`
---     info_hints words       what is asked for of the provider (fi_getinfo(3)), where they are `info CAPS`
+--     info_caps words        the capabilities that are asked for of the provider (fi_getinfo(3)), where they are `info CAPS`
 --     replay_files words     the script's file and its report's, where they are `replay FILE TRACE`
-use Rattle.std.specs.Prelude.{ℕ, List, [], ◌∷◌, bytes_eq, codes, Option, Some, None, option_map, if◌then◌else◌}
+use Rattle.std.specs.Prelude.{ℕ, List, [], ◌∷◌, bytes_eq, codes, Option, Some, None, if◌then◌else◌}
 use Rattle.std.specs.Result.{result_ok}
 use Rattle.fab_base.specs.declared.caps.Caps.{Caps}
-use Rattle.fab_base.specs.declared.caps.Hints.{Hints}
 use Rattle.fab_grammar.specs.Capabilities.{caps_of}
-use Rattle.fab_grammar.specs.Settings.{asking}
+use Rattle.fab_model.specs.Negotiation.{no_hints}
 
 -- `script FILE`
 abbrev pub script_file : List (List ℕ) → Option (List ℕ)
 script_file (verb ∷ file ∷ []) = if bytes_eq verb (codes "script") then Some file else None
 script_file _ = None
 
-abbrev pub hints_for : Caps → Option Hints
-hints_for caps = Some (asking caps)
-
--- `-` is no hints; else the commas join the names of the capabilities that are asked for
-unfoldable pub hints_in : List ℕ → Option (Option Hints)
-hints_in caps = if bytes_eq caps (codes "-") then Some None else option_map hints_for (result_ok (caps_of caps))
+-- `-` asks for none; else the commas join the names of those that are asked for
+unfoldable pub caps_in : List ℕ → Option Caps
+caps_in caps = if bytes_eq caps (codes "-") then Some no_hints.caps else result_ok (caps_of caps)
 
 -- `info CAPS`
-abbrev pub info_hints : List (List ℕ) → Option (Option Hints)
-info_hints (verb ∷ caps ∷ []) = if bytes_eq verb (codes "info") then hints_in caps else None
-info_hints _ = None
+abbrev pub info_caps : List (List ℕ) → Option Caps
+info_caps (verb ∷ caps ∷ []) = if bytes_eq verb (codes "info") then caps_in caps else None
+info_caps _ = None
 
 -- `replay FILE TRACE`
 abbrev pub replay_files : List (List ℕ) → Option (List ℕ × List ℕ)

@@ -1,14 +1,21 @@
 -- What `info` writes, in the manner of fi_info(1).
+--     offer caps             what is granted to whoever asks for these capabilities, in the second version
 --     info_lines info        what is granted, line by line
---     info_text granted      the text; where nothing is granted it is the name of the error
-use Rattle.std.specs.Prelude.{ℕ, List, [], ◌∷◌, map, filter, codes, decimal, Option, Some, None}
+--     info_text caps         the text
+use Rattle.std.specs.Prelude.{ℕ, List, [], ◌∷◌, map, filter, codes, decimal}
 use Rattle.fab_base.specs.Granted.{has}
+use Rattle.fab_base.specs.declared.caps.Api.TheVariants.{Two}
 use Rattle.fab_base.specs.declared.caps.Cap.{Cap}
 use Rattle.fab_base.specs.declared.caps.Caps.{Caps}
 use Rattle.fab_base.specs.declared.caps.Info.{Info}
 use Rattle.fab_grammar.specs.Capabilities.{cap_name}
-use Rattle.fab_model.specs.Negotiation.{all_caps}
-use Rattle.fab_model.specs.Words.{Word, line_of, text_of}
+use Rattle.fab_grammar.specs.Settings.{asking}
+use Rattle.fab_model.specs.Negotiation.{all_caps, granted_info}
+use Rattle.fab_model.specs.Words.{Word, text_of}
+
+-- none that may be asked for is refused; whoever asks for none is granted all that is on offer
+abbrev pub offer : Caps → Info
+offer caps = granted_info Two (asking caps)
 
 -- of these capabilities, the names of those in the set
 abbrev pub cap_names : Caps → List Cap → List Word
@@ -38,6 +45,5 @@ info_lines info =
     ∷ sizes_line info
     ∷ []
 
-unfoldable pub info_text : Option Info → List ℕ
-info_text (Some info) = text_of (info_lines info)
-info_text None = line_of (codes "FI_ENODATA" ∷ [])
+unfoldable pub info_text : Caps → List ℕ
+info_text caps = text_of (info_lines (offer caps))

@@ -1,9 +1,10 @@
 //! What the words of a command ask for.
 ghost use Rattle.std.specs.Prelude.{◌≡◌, option_map};
-ghost use Rattle.fab_outside.specs.Commands.{script_file, replay_files, info_hints, hints_in};
+ghost use Rattle.fab_model.specs.Negotiation.{no_hints};
+ghost use Rattle.fab_outside.specs.Commands.{script_file, replay_files, info_caps, caps_in};
 
-use fab_base::{Hints, Text};
-use fab_grammar::{asking, read_caps};
+use fab_base::{Caps, Text};
+use fab_grammar::read_caps;
 
 /// The file whose script is to be run, where the words are `script FILE`.
 pub fn script_file(words: &[Text]) -> Option<&Text>
@@ -25,24 +26,29 @@ pub fn replay_files(words: &[Text]) -> Option<(&Text, &Text)>
     Some((&words[1], &words[2]))
 }
 
-/// What is asked for of the provider, where the words are `info CAPS`.
-pub fn info_hints(words: &[Text]) -> Option<Option<Hints>>
-    ensures { result ≡ info_hints words.now }
+/// The capabilities that are asked for of the provider, where the words are `info CAPS`.
+pub fn info_caps(words: &[Text]) -> Option<Caps>
+    ensures { result ≡ info_caps words.now }
 {
     if words.len() != 2 || words[0].as_str() != "info" {
         return None;
     }
-    read_hints(words[1].as_str())
+    caps_in(words[1].as_str())
 }
 
-/// `-` asks for nothing; else the commas join the capabilities that are asked for.
-#[tactic(auto, unfolding(crate::specs::Commands::hints_in))]
-fn read_hints(caps: &str) -> Option<Option<Hints>>
-    ensures { result ≡ hints_in caps.now }
+fn no_caps() -> Caps
+    ensures { result ≡ no_hints.caps }
+{
+    Caps::none()
+}
+
+/// `-` asks for none; else the commas join those that are asked for.
+#[tactic(auto, unfolding(crate::specs::Commands::caps_in))]
+fn caps_in(caps: &str) -> Option<Caps>
+    ensures { result ≡ caps_in caps.now }
 {
     if caps == "-" {
-        return Some(None);
+        return Some(no_caps());
     }
-    let caps = read_caps(caps.as_bytes()).ok()?;
-    Some(Some(asking(caps)))
+    read_caps(caps.as_bytes()).ok()
 }

@@ -1,14 +1,16 @@
 //! What `info` writes: what is granted (fi_getinfo(3)), in the manner of fi_info(1).
 //!
 //! Each function that appends to a text may have appended a part after want of memory.
-ghost use Rattle.std.specs.Prelude.{◌≡◌, ◌++◌, IfOk, OnOk, option_copied, string_bytes};
+ghost use Rattle.std.specs.Prelude.{◌≡◌, ◌++◌, IfOk, OnOk, Some, string_bytes};
+ghost use Rattle.fab_base.specs.declared.caps.Api.TheVariants.{Two};
+ghost use Rattle.fab_grammar.specs.Settings.{asking};
 ghost use Rattle.fab_model.specs.Negotiation.{all_caps, grant};
 ghost use Rattle.fab_model.specs.Words.{line_of, text_of};
-ghost use Rattle.fab_outside.specs.Info.{bytes_line, cap_names, caps_line, info_lines, info_text, sizes_line};
+ghost use Rattle.fab_outside.specs.Info.{bytes_line, cap_names, caps_line, info_lines, info_text, offer, sizes_line};
 ghost use Rattle.fab_report.specs.Texts.{after_blanks};
 
-use fab_base::{Caps, Hints, Info, NoMemory};
-use fab_grammar::{CAPS, cap_name};
+use fab_base::{Api, Caps, Info, NoMemory};
+use fab_grammar::{CAPS, asking, cap_name};
 use fab_info::getinfo;
 use std::alloc::Global;
 
@@ -82,15 +84,24 @@ fn add_info(out: &mut String, info: &Info) -> Result<(), NoMemory>
     add_sizes(out, info)
 }
 
-/// What these hints are granted, or the name of the error where that is nothing.
-#[tactic(auto, unfolding(crate::specs::Info::info_text))]
-pub fn info_text(alloc: Global, hints: Option<&Hints>) -> Result<String, NoMemory>
-    ensures { IfOk result (λ text. string_bytes text ≡ info_text (grant (option_copied hints.entry))) }
+/// What is granted to whoever asks for these capabilities, in the second version. It refuses none.
+#[tactic(auto, using(crate::proofs::Offered::none_refused))]
+fn offer(caps: Caps) -> Info
+    ensures offer { result ≡ offer caps }
+    ensures granted { grant Two (Some (asking caps)) ≡ Some result }
+{
+    let Ok(info) = getinfo(Api::Two, Some(&asking(caps))) else {
+        unreachable!()
+    };
+    info
+}
+
+/// The text of what is granted to whoever asks for these capabilities, in the second version (fi_getinfo(3)).
+pub fn info_text(alloc: Global, caps: Caps) -> Result<String, NoMemory>
+    ensures text { IfOk result (λ text. string_bytes text ≡ info_text caps) }
+    ensures granted { grant Two (Some (asking caps)) ≡ Some (offer caps) }
 {
     let mut out = String::new(alloc);
-    match getinfo(hints) {
-        Ok(info) => add_info(&mut out, &info)?,
-        Err(_) => out.push_str("FI_ENODATA\n")?,
-    }
+    add_info(&mut out, &offer(caps))?;
     Ok(out)
 }

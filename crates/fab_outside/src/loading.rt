@@ -80,7 +80,7 @@ pub fn load_script<D: Depot>(alloc: Global, depot: &mut D, name: &Text) -> Resul
     ensures never_falls { D.faults depot.old ≤ D.faults depot.new }
     ensures ok { IfOk result (λ bound. IsRead (D.files depot.old) name.now bound) }
     ensures sized { IfOk result (λ bound. (2 ≤ bound.script.conf.info.cq) × (4 ≤ bound.script.conf.info.log)) }
-    ensures peers { IfOk result (λ bound. (0 < bound.script.conf.peers) × (bound.script.conf.peers ≤ 32)) }
+    ensures peers { IfOk result (λ bound. (0 < bound.script.conf.peers) × (bound.script.conf.peers ≤ 64)) }
     ensures lane { IfOk result (λ bound. (0 < bound.script.conf.info.lane) × (bound.script.conf.info.lane ≤ 1024)) }
     ensures pool { IfOk result (λ bound. (0 < bound.script.conf.info.pool) × (bound.script.conf.info.pool ≤ 1024)) }
     ensures tx { IfOk result (λ bound. 1 ≤ bound.script.conf.info.tx) }

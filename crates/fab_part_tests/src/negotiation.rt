@@ -3,7 +3,7 @@ use fab_base::Cap::{
     Atomic, DirectedRecv, Fence, LocalComm, Msg, MultiRecv, Read, Recv, RemoteRead, RemoteWrite,
     Rma, RmaEvent, Send, Source, Tagged, Write,
 };
-use fab_base::{Cap, Caps, Fault, Hints, Info};
+use fab_base::{Api, Cap, Caps, Fault, Hints, Info};
 use fab_info::getinfo;
 use std::test::Fail;
 
@@ -60,11 +60,27 @@ fn numbers(info: &Info) -> [u32; 9] {
     ]
 }
 
-/// What is granted without a wish: 32 peers, lanes of 64, pools of 32, and so on.
-const DEFAULTS: [u32; 9] = [32, 64, 32, 64, 256, 1_024, 4_096, 4_096, 16_777_216];
+const BOTH: [Api; 2] = [Api::One, Api::Two];
 
-/// All that is offered.
-const OFFER: [Cap; 14] = [
+/// What is granted without a wish: 32 peers, lanes of 64, pools of 32, and so on.
+fn defaults(api: Api) -> [u32; 9] {
+    let message = match api {
+        Api::One => 16_777_216,
+        Api::Two => 268_435_456,
+    };
+    [32, 64, 32, 64, 256, 1_024, 4_096, 4_096, message]
+}
+
+/// What everyone is granted, whatever they ask for.
+fn everyones(api: Api) -> &'static [Cap] {
+    match api {
+        Api::One => &[MultiRecv, Source, Fence, LocalComm],
+        Api::Two => &[MultiRecv, Source, RmaEvent, Fence, LocalComm],
+    }
+}
+
+/// What is granted to those who ask for nothing, but for what everyone is granted.
+const OFFER: [Cap; 11] = [
     Msg,
     Tagged,
     Rma,
@@ -76,76 +92,55 @@ const OFFER: [Cap; 14] = [
     Write,
     RemoteRead,
     RemoteWrite,
-    MultiRecv,
-    Source,
-    LocalComm,
 ];
 
-/// What is asked for, and what is granted. A modifier that modifies nothing is granted by itself, and a secondary
-/// capability adds nothing.
-const GRANTS: [(&[Cap], &[Cap]); 9] = [
+/// What is asked for, and what is granted but for what everyone is granted. A modifier that modifies nothing is granted by
+/// itself, and a secondary capability adds nothing.
+const GRANTS: [(&[Cap], &[Cap]); 10] = [
     (&[], &OFFER),
-    (
-        &[Tagged, Send],
-        &[Tagged, Send, MultiRecv, Source, LocalComm],
-    ),
-    (
-        &[Tagged],
-        &[Tagged, Send, Recv, MultiRecv, Source, LocalComm],
-    ),
-    (&[Msg, Recv], &[Msg, Recv, MultiRecv, Source, LocalComm]),
-    (
-        &[Rma],
-        &[
-            Rma,
-            Read,
-            Write,
-            RemoteRead,
-            RemoteWrite,
-            MultiRecv,
-            Source,
-            LocalComm,
-        ],
-    ),
+    (&[Tagged, Send], &[Tagged, Send]),
+    (&[Tagged], &[Tagged, Send, Recv]),
+    (&[Msg, Recv], &[Msg, Recv]),
+    (&[Rma], &[Rma, Read, Write, RemoteRead, RemoteWrite]),
     (
         &[Msg, Atomic, RemoteRead],
-        &[
-            Msg, Atomic, Send, Recv, RemoteRead, MultiRecv, Source, LocalComm,
-        ],
+        &[Msg, Atomic, Send, Recv, RemoteRead],
     ),
-    (&[Send], &[Send, MultiRecv, Source, LocalComm]),
-    (
-        &[DirectedRecv],
-        &[DirectedRecv, MultiRecv, Source, LocalComm],
-    ),
-    (&[Source], &[MultiRecv, Source, LocalComm]),
+    (&[Send], &[Send]),
+    (&[DirectedRecv], &[DirectedRecv]),
+    (&[Source], &[]),
+    (&[Fence], &[]),
 ];
 
-/// Whether these capabilities are granted, and the sizes that are granted without a wish.
-fn has_defaults(info: &Info, caps: &[Cap]) -> bool {
-    info.caps == hints(caps).caps && numbers(info) == DEFAULTS
+/// Whether these capabilities and those of everyone are granted, and the sizes that are granted without a wish.
+fn has_defaults(api: Api, info: &Info, caps: &[Cap]) -> bool {
+    let mut want = hints(caps).caps;
+    for cap in everyones(api) {
+        want = want.with(*cap);
+    }
+    info.api == api && info.caps == want && numbers(info) == defaults(api)
 }
 
 /// What these hints are granted.
-fn granted(hints: &Hints) -> Option<Info> {
-    match getinfo(Some(hints)) {
+fn granted(api: Api, hints: &Hints) -> Option<Info> {
+    match getinfo(api, Some(hints)) {
         Ok(info) => Some(info),
         Err(_) => None,
     }
 }
 
 /// Whether these hints are refused.
-fn is_refused(hints: &Hints) -> bool {
-    match getinfo(Some(hints)) {
+fn is_refused(api: Api, hints: &Hints) -> bool {
+    match getinfo(api, Some(hints)) {
         Err(Fault::NoData) => true,
         _ => false,
     }
 }
 
 /// Whether who asks for these capabilities is granted those.
-fn grants(asked: &[Cap], want: &[Cap]) -> bool {
-    match granted(&hints(asked)) {
-        Some(info) => has_defaults(&info, want),
+fn grants(api: Api, asked: &[Cap], want: &[Cap]) -> bool {
+    match granted(api, &hints(asked)) {
+        Some(info) => has_defaults(api, &info, want),
         None => false,
     }
 }
@@ -153,32 +148,41 @@ fn grants(asked: &[Cap], want: &[Cap]) -> bool {
 #[test]
 fn grants_capabilities(rt: HostRuntime) -> Result<(), Fail> {
     for (row, (asked, want)) in GRANTS.iter().enumerate() {
-        assert!(rt; grants(asked, want), "row {row}");
+        for api in BOTH {
+            assert!(rt; grants(api, asked, want), "row {row}");
+        }
     }
     Ok(())
 }
 
 /// Whether who gives no hints is granted the whole offer.
-fn grants_all() -> bool {
-    match getinfo(None) {
-        Ok(info) => has_defaults(&info, &OFFER),
+fn grants_all(api: Api) -> bool {
+    match getinfo(api, None) {
+        Ok(info) => has_defaults(api, &info, &OFFER),
         Err(_) => false,
     }
 }
 
 #[test]
-fn all_is_granted_where_nothing_is_asked_for(rt: HostRuntime) -> Result<(), Fail> {
-    assert!(rt; grants_all());
-    for refused in [[Fence, Msg], [RmaEvent, Rma]] {
-        assert!(rt; is_refused(&hints(&refused)));
+fn all_is_granted_where_nothing_is_asked_for(rt: HostRuntime) {
+    for api in BOTH {
+        assert!(rt; grants_all(api));
     }
-    Ok(())
+}
+
+#[test]
+fn the_second_version_alone_has_remote_events(rt: HostRuntime) {
+    assert!(rt; is_refused(Api::One, &hints(&[RmaEvent])));
+    assert!(rt; is_refused(Api::One, &hints(&[Rma, RmaEvent])));
+    assert!(rt; grants(Api::Two, &[RmaEvent], &[]));
+    assert!(rt; grants(Api::Two, &[Atomic, Write, RmaEvent], &[Atomic, Write]));
 }
 
 /// Place, a wish, and what is granted for it: the least, the greatest, and none for 0.
-const GRANTED: [(usize, u32, u32); 20] = [
+const GRANTED: [(usize, u32, u32); 19] = [
     (0, 1, 1),
     (0, 32, 32),
+    (0, 0, 32),
     (1, 1, 1),
     (1, 1_024, 1_024),
     (1, 0, 64),
@@ -195,13 +199,21 @@ const GRANTED: [(usize, u32, u32); 20] = [
     (6, 65_536, 65_536),
     (7, 1, 4_096),
     (7, 4_096, 4_096),
-    (8, 1, 16_777_216),
-    (8, 16_777_216, 16_777_216),
+];
+
+/// The same of one version: how many peers, and how many bytes a message may have.
+const GRANTED_BY: [(Api, usize, u32, u32); 7] = [
+    (Api::One, 8, 1, 16_777_216),
+    (Api::One, 8, 16_777_216, 16_777_216),
+    (Api::Two, 0, 33, 33),
+    (Api::Two, 0, 64, 64),
+    (Api::Two, 8, 1, 268_435_456),
+    (Api::Two, 8, 16_777_217, 268_435_456),
+    (Api::Two, 8, 268_435_456, 268_435_456),
 ];
 
 /// Place, and a wish that is refused.
-const REFUSED: [(usize, u32); 11] = [
-    (0, 33),
+const REFUSED: [(usize, u32); 9] = [
     (1, 1_025),
     (2, 1_025),
     (3, 1_025),
@@ -211,12 +223,19 @@ const REFUSED: [(usize, u32); 11] = [
     (6, 65_537),
     (6, 3),
     (7, 4_097),
-    (8, 16_777_217),
+];
+
+/// The same of one version.
+const REFUSED_BY: [(Api, usize, u32); 4] = [
+    (Api::One, 0, 33),
+    (Api::One, 8, 16_777_217),
+    (Api::Two, 0, 65),
+    (Api::Two, 8, 268_435_457),
 ];
 
 /// What is granted where the size at this place is this one, and no other is wished for.
-fn all_but(place: usize, granted: u32) -> [u32; 9] {
-    let mut all = DEFAULTS;
+fn all_but(api: Api, place: usize, granted: u32) -> [u32; 9] {
+    let mut all = defaults(api);
     for (k, number) in all.iter_mut().enumerate() {
         if k == place {
             *number = granted;
@@ -226,9 +245,9 @@ fn all_but(place: usize, granted: u32) -> [u32; 9] {
 }
 
 /// Whether the wish is granted so, and no other size changes.
-fn grants_wish(place: usize, wanted: u32, size: u32) -> bool {
-    match granted(&wish(place, wanted)) {
-        Some(info) => numbers(&info) == all_but(place, size),
+fn grants_wish(api: Api, place: usize, wanted: u32, size: u32) -> bool {
+    match granted(api, &wish(place, wanted)) {
+        Some(info) => numbers(&info) == all_but(api, place, size),
         None => false,
     }
 }
@@ -236,7 +255,12 @@ fn grants_wish(place: usize, wanted: u32, size: u32) -> bool {
 #[test]
 fn grants_wishes(rt: HostRuntime) -> Result<(), Fail> {
     for (place, wanted, size) in GRANTED {
-        assert!(rt; grants_wish(place, wanted, size), "{place} {wanted}");
+        for api in BOTH {
+            assert!(rt; grants_wish(api, place, wanted, size), "{place} {wanted}");
+        }
+    }
+    for (api, place, wanted, size) in GRANTED_BY {
+        assert!(rt; grants_wish(api, place, wanted, size), "{place} {wanted}");
     }
     Ok(())
 }
@@ -244,6 +268,11 @@ fn grants_wishes(rt: HostRuntime) -> Result<(), Fail> {
 #[test]
 fn refuses_wishes(rt: HostRuntime) {
     for (place, wanted) in REFUSED {
-        assert!(rt; is_refused(&wish(place, wanted)), "{place} {wanted}");
+        for api in BOTH {
+            assert!(rt; is_refused(api, &wish(place, wanted)), "{place} {wanted}");
+        }
+    }
+    for (api, place, wanted) in REFUSED_BY {
+        assert!(rt; is_refused(api, &wish(place, wanted)), "{place} {wanted}");
     }
 }

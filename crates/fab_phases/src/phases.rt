@@ -46,7 +46,7 @@ pub fn run_phases<C: Machinery + Drop + Send, G: Gate, R: Threads + Wait + Sync>
     requires count { length machines.items ≡ conf.now.peers }
     requires log { 4 ≤ conf.now.info.log }
     requires start { All (λ m. C.held m ≡ start conf.now) machines.items }
-    requires peers { (0 < conf.now.peers) × (conf.now.peers ≤ 32) }
+    requires peers { (0 < conf.now.peers) × (conf.now.peers ≤ 64) }
     requires lane { (0 < conf.now.info.lane) × (conf.now.info.lane ≤ 1024) }
     requires pool { (0 < conf.now.info.pool) × (conf.now.info.pool ≤ 1024) }
     ensures reached { IfOk result (λ peers. Reached (rule fabric) (opened conf.now (map (λ l. l.items) lists.items)) (schedules peers.items) (actors peers.items)) }

@@ -3,11 +3,13 @@ use Rattle.std.proofs.Common.{◌≡◌, ℕ, zero, suc, ◌+◌, ◌<◌, ◌�
 use Rattle.std.specs.List.{sum_by, range_with_len}
 use Rattle.std.proofs.lemmas.Bool.Decides.{nat_tests}
 use Rattle.std.proofs.lemmas.List.Sums.{sum_by-cons}
+use Rattle.fab_base.specs.declared.caps.Api.{Api}
 use Rattle.fab_base.specs.declared.script.Line.{Line}
 use Rattle.fab_grammar.specs.declared.items.Item.{Item}
 use Rattle.fab_grammar.specs.declared.items.Item.TheVariants.{Peer, Does}
 use Rattle.fab_grammar.specs.Before.{until_peer, part_of, parts_of, size_of}
 use Rattle.fab_grammar.specs.Lines.{op_size}
+use Rattle.fab_grammar.specs.Versions.{most_bytes, most_in_all}
 use Rattle.fab_spell.specs.Again.{Again}
 use Rattle.fab_print.specs.Print.{part_items, items_of, without_number}
 use Rattle.fab_print.proofs.Peers.{ItemsFit, plain}
@@ -137,36 +139,36 @@ pub written_size : (n : ℕ) (items : List Item) → parts_size (parts_of n item
 written_size n items = omega (arith, parts_sized (λ k. part_of k items) 0 n, parts_weigh 0 line_size n items, items_sized items)
 
 -- ---- the rules hold of the items that are written
-abbrev pub LinesAgain : List Line → Type 0
-LinesAgain [] = Unit {0}
-LinesAgain (line ∷ lines) = Again line.op × LinesAgain lines
+abbrev pub LinesAgain : Api → List Line → Type 0
+LinesAgain api [] = Unit {0}
+LinesAgain api (line ∷ lines) = Again (most_bytes api) line.op × LinesAgain api lines
 
-abbrev pub PartsAgain : List (List Line) → Type 0
-PartsAgain [] = Unit {0}
-PartsAgain (part ∷ parts) = LinesAgain part × PartsAgain parts
+abbrev pub PartsAgain : Api → List (List Line) → Type 0
+PartsAgain api [] = Unit {0}
+PartsAgain api (part ∷ parts) = LinesAgain api part × PartsAgain api parts
 
-lines_fit : (n low size whole : ℕ) (lines : List Line) (items : List Item) → 0 < low → LinesAgain lines → size + lines_weight line_size lines ≡ whole → whole ≤ 67108864 → ItemsFit n low whole items → ItemsFit n low size (map Does lines ++ items)
-lines_fit n low size whole [] items some a e few f =
+lines_fit : (api : Api) (n low size whole : ℕ) (lines : List Line) (items : List Item) → 0 < low → LinesAgain api lines → size + lines_weight line_size lines ≡ whole → whole ≤ most_in_all api → ItemsFit api n low whole items → ItemsFit api n low size (map Does lines ++ items)
+lines_fit api n low size whole [] items some a e few f =
     let same : whole ≡ size = omega arith in
-    subst (λ s. ItemsFit n low s items) same f
-lines_fit n low size whole (line ∷ lines) items some a e few f =
-    (some, a.0, omega arith, lines_fit n low (size + op_size line.op) whole lines items some a.1 (omega arith) few f)
+    subst (λ s. ItemsFit api n low s items) same f
+lines_fit api n low size whole (line ∷ lines) items some a e few f =
+    (some, a.0, omega arith, lines_fit api n low (size + op_size line.op) whole lines items some a.1 (omega arith) few f)
 
-parts_fit : (n low size k : ℕ) (parts : List (List Line)) → low ≤ k → k + length parts ≤ n → PartsAgain parts → size + parts_size parts ≤ 67108864 → ItemsFit n low size (items_of k parts)
-parts_fit n low size k [] h below a few = tt
-parts_fit n low size k ([] ∷ parts) h below a few = parts_fit n low size (k + 1) parts (omega arith) (omega arith) a.1 (omega arith)
-parts_fit n low size k ((line ∷ lines) ∷ parts) h below a few =
+parts_fit : (api : Api) (n low size k : ℕ) (parts : List (List Line)) → low ≤ k → k + length parts ≤ n → PartsAgain api parts → size + parts_size parts ≤ most_in_all api → ItemsFit api n low size (items_of k parts)
+parts_fit api n low size k [] h below a few = tt
+parts_fit api n low size k ([] ∷ parts) h below a few = parts_fit api n low size (k + 1) parts (omega arith) (omega arith) a.1 (omega arith)
+parts_fit api n low size k ((line ∷ lines) ∷ parts) h below a few =
     let part = line ∷ lines in
     let whole = size + lines_weight line_size part in
     let some : 0 < k + 1 = omega arith in
     let here : k < n = omega arith in
     let next : k + 1 + length parts ≤ n = omega arith in
-    let fits : whole ≤ 67108864 = omega arith in
-    let rest : whole + parts_size parts ≤ 67108864 = omega arith in
-    (h, here, lines_fit n (k + 1) size whole part (items_of (k + 1) parts) some a.0 refl fits (parts_fit n (k + 1) whole (k + 1) parts (omega arith) next a.1 rest))
+    let fits : whole ≤ most_in_all api = omega arith in
+    let rest : whole + parts_size parts ≤ most_in_all api = omega arith in
+    (h, here, lines_fit api n (k + 1) size whole part (items_of (k + 1) parts) some a.0 refl fits (parts_fit api n (k + 1) whole (k + 1) parts (omega arith) next a.1 rest))
 
-pub items_fit : (n : ℕ) (parts : List (List Line)) → length parts ≤ n → PartsAgain parts → parts_size parts ≤ 67108864 → ItemsFit n 0 0 (items_of 0 parts)
-items_fit n parts few a little = parts_fit n 0 0 0 parts (omega arith) (omega arith) a (omega arith)
+pub items_fit : (api : Api) (n : ℕ) (parts : List (List Line)) → length parts ≤ n → PartsAgain api parts → parts_size parts ≤ most_in_all api → ItemsFit api n 0 0 (items_of 0 parts)
+items_fit api n parts few a little = parts_fit api n 0 0 0 parts (omega arith) (omega arith) a (omega arith)
 
 -- ---- the items that are written have these parts
 until_items : (k : ℕ) (parts : List (List Line)) → until_peer (items_of k parts) ≡ []

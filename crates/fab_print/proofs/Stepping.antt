@@ -1,17 +1,21 @@
 -- Rows that are read one after another.
 --     Rest before rows Goal      from what is said before, these rows can be written and break no rule wherever they stand within 100,000 lines, and the goal holds of what is said then
-use Rattle.std.proofs.Common.{◌≡◌, ◌&&◌, ℕ, ◌+◌, ◌≤◌, true, false, cond, List, [], ◌∷◌, length, Some, None, sym, ap, subst, ◌∙◌, refl, arith}
-use Rattle.std.specs.Prelude.{codes}
+use Rattle.std.proofs.Common.{◌≡◌, ◌&&◌, ℕ, ◌+◌, ◌≤◌, true, false, List, [], ◌∷◌, length, Some, None, sym, ap, subst, ◌∙◌, refl, arith}
+use Rattle.std.specs.Prelude.{codes, decimal, is_none}
+use Rattle.std.specs.Fmt.{digits}
 use Rattle.std.specs.List.{list_all}
 use Rattle.std.proofs.lemmas.Bool.Decides.{nat_tests}
+use Rattle.fab_base.specs.declared.caps.Api.{Api}
+use Rattle.fab_base.specs.declared.caps.Api.TheVariants.{One, Two}
 use Rattle.fab_words.specs.Words.{first_of}
 use Rattle.fab_words.specs.Written.{is_word, is_row}
 use Rattle.fab_grammar.specs.declared.verbs.Verb.{Verb}
 use Rattle.fab_grammar.specs.declared.verbs.Verb.TheVariants as verb
 use Rattle.fab_grammar.specs.Before.{Before}
 use Rattle.fab_grammar.specs.Reads.{Reads}
-use Rattle.fab_grammar.specs.Rules.{is_late, header_rules, kind_rules, verb_rules, word_rules, with_kind, with_verb, with_words}
+use Rattle.fab_grammar.specs.Rules.{Rules, is_late, header_rules, kind_rules, verb_rules, word_rules, with_kind, with_verb, with_words}
 use Rattle.fab_grammar.specs.Verbs.{name_of, verb_of, kind_of}
+use Rattle.fab_grammar.specs.Versions.{version_of, version_named, header_of}
 use Rattle.fab_print.specs.Print.{header_row}
 use Rattle.fab_print.proofs.Rules.{none_first}
 
@@ -50,24 +54,33 @@ verb_row verb.Peers args e = e
 verb_row _ args e = e
 
 -- a row of a verb after the header
-pub verb_fits : (before : Before) (number : ℕ) (verb : Verb) (args : List (List ℕ)) → before.has_header ≡ true → first_of (kind_rules (kind_of verb) before number verb args) ≡ None → first_of (word_rules before number (name_of verb ∷ args)) ≡ None
-verb_fits before number verb args header none =
-    ap (λ b. first_of (cond b (verb_rules before number (verb_of (name_of verb)) args) (header_rules number (name_of verb ∷ args)))) header
-    ∙ (ap (λ o. first_of (verb_rules before number o args)) (verb_named verb) ∙ none)
+pub verb_fits : (api : Api) (before : Before) (number : ℕ) (verb : Verb) (args : List (List ℕ)) → before.api ≡ Some api → first_of (kind_rules (kind_of verb) api before number verb args) ≡ None → first_of (word_rules before number (name_of verb ∷ args)) ≡ None
+verb_fits api before number verb args header none =
+    ap (λ o. first_of (elim o as (λ _. Rules) [ None ↦ header_rules number (name_of verb ∷ args) | Some named ↦ verb_rules named before number (verb_of (name_of verb)) args ])) header
+    ∙ (ap (λ o. first_of (verb_rules api before number o args)) (verb_named verb) ∙ none)
 
-pub verb_said : (before : Before) (number : ℕ) (verb : Verb) (args : List (List ℕ)) → before.has_header ≡ true → with_words before number (name_of verb ∷ args) ≡ with_kind (kind_of verb) before number verb args
-verb_said before number verb args header =
-    ap (λ b. cond b (with_verb before number (verb_of (name_of verb)) args) (record before { has_header = true })) header
-    ∙ ap (λ o. with_verb before number o args) (verb_named verb)
+pub verb_said : (api : Api) (before : Before) (number : ℕ) (verb : Verb) (args : List (List ℕ)) → before.api ≡ Some api → with_words before number (name_of verb ∷ args) ≡ with_kind (kind_of verb) api before number verb args
+verb_said api before number verb args header =
+    ap (λ o. elim o as (λ _. Before) [ None ↦ record before { api = header_of (name_of verb ∷ args) } | Some named ↦ with_verb named before number (verb_of (name_of verb)) args ]) header
+    ∙ ap (λ o. with_verb api before number o args) (verb_named verb)
 
 -- ---- the header
-pub take_header : (before : Before) (rows : List (List (List ℕ))) (Goal : Before → Type 0) → before.has_header ≡ false → Rest (record before { has_header = true }) rows Goal → Rest before (header_row ∷ rows) Goal
-take_header before rows Goal none rest = take_row before header_row rows Goal refl (λ number late.
+header_read : (api : Api) → (header_of (header_row (version_of api)) ≡ Some api) × (is_row (header_row (version_of api)) ≡ true)
+unfolding version_named digits
+header_read One = (refl, refl)
+header_read Two = (refl, refl)
+
+pub take_header : (api : Api) (before : Before) (rows : List (List (List ℕ))) (Goal : Before → Type 0) → before.api ≡ None → Rest (record before { api = Some api }) rows Goal → Rest before (header_row (version_of api) ∷ rows) Goal
+take_header api before rows Goal none rest =
+    let row = header_row (version_of api) in
+    let read = header_read api in
+    take_row before row rows Goal read.1 (λ number late.
     let verb = verb_of (codes "fabric") in
-    let args : List (List ℕ) = codes "1" ∷ [] in
-    let fits : first_of (word_rules before number header_row) ≡ None =
-    ap (λ b. first_of (cond b (verb_rules before number verb args) (header_rules number header_row))) none
-    ∙ none_first (header_rules number header_row) (refl, (late, tt)) in
-    let next : with_words before number header_row ≡ record before { has_header = true } =
-    ap (λ b. cond b (with_verb before number verb args) (record before { has_header = true })) none in
+    let args : List (List ℕ) = decimal (version_of api) ∷ [] in
+    let fits : first_of (word_rules before number row) ≡ None =
+    ap (λ o. first_of (elim o as (λ _. Rules) [ None ↦ header_rules number row | Some named ↦ verb_rules named before number verb args ])) none
+    ∙ none_first (header_rules number row) (ap is_none read.0, (late, tt)) in
+    let next : with_words before number row ≡ record before { api = Some api } =
+    ap (λ o. elim o as (λ _. Before) [ None ↦ record before { api = header_of row } | Some named ↦ with_verb named before number verb args ]) none
+    ∙ ap (λ o. record before { api = o }) read.0 in
     (fits, subst (λ b. Rest b rows Goal) (sym next) rest))

@@ -1,5 +1,5 @@
 -- The text of rows, piece by piece.
-use Rattle.std.proofs.Common.{◌≡◌, ℕ, ◌+◌, ◌<◌, ◌≤◌, List, [], ◌∷◌, ◌++◌, length, drop, get_or, map, codes, Option, Some, None, Result, Ok, Err, OnOk, unwrap_or, sym, ap, ◌∙◌, refl, append_assoc}
+use Rattle.std.proofs.Common.{◌≡◌, ℕ, ◌+◌, ◌<◌, ◌≤◌, List, [], ◌∷◌, ◌++◌, length, drop, get_or, map, Option, Some, None, Result, Ok, Err, OnOk, unwrap_or, sym, ap, ◌∙◌, refl, append_assoc}
 use Rattle.std.proofs.lemmas.List.{append-nil, drop_more, map-append}
 use Rattle.std.proofs.Math.ListN.{drop_of_length-le}
 use Rattle.fab_base.specs.declared.caps.Hints.{Hints}
@@ -14,7 +14,7 @@ use Rattle.fab_grammar.specs.declared.items.Item.{Item}
 use Rattle.fab_grammar.specs.declared.settings.Setting.{Setting}
 use Rattle.fab_grammar.specs.declared.settings.Setting.TheVariants.{Peers, File}
 use Rattle.fab_spell.specs.Headings.{setting_row}
-use Rattle.fab_print.specs.Print.{asked, hints_for, item_row, items_of, items_text, part_items, joined, printed, rows_of, selected, settings_for, settings_of, settings_text, sizes, wished}
+use Rattle.fab_print.specs.Print.{asked, header_row, hints_for, item_row, items_of, items_text, part_items, joined, printed, rows_of, selected, settings_for, settings_of, settings_text, sizes, wished}
 
 pub text_of-append : (xs ys : List (List (List ℕ))) → text_of (xs ++ ys) ≡ text_of xs ++ text_of ys
 text_of-append [] ys = refl
@@ -149,14 +149,14 @@ files_text h conf payloads =
     ∙ (append_assoc a (b ++ d) (e ++ f) ∙ (ap (λ t. a ++ t) (append_assoc b d (e ++ f)) ∙ sym (settings_for_text h conf payloads))))
 
 -- the header, the settings, and the parts
-rows_text : (script : Script) → codes "fabric 1\n" ++ (settings_text (settings_of script) ++ items_text (items_of 0 script.peers)) ≡ printed script
+rows_text : (script : Script) → line_of (header_row script.version) ++ (settings_text (settings_of script) ++ items_text (items_of 0 script.peers)) ≡ printed script
 unfolding rows_of
-rows_text script = ap (λ t. codes "fabric 1\n" ++ t) (sym (text_of-append (map setting_row (settings_of script)) (map item_row (items_of 0 script.peers))))
+rows_text script = ap (λ t. line_of (header_row script.version) ++ t) (sym (text_of-append (map setting_row (settings_of script)) (map item_row (items_of 0 script.peers))))
 
-pub script_written : {T E : Type 0} (r : Result T E) (from begun set filed next : List ℕ) (script : Script) → begun ≡ from ++ codes "fabric 1\n" → set ≡ begun ++ settings_text (settings_for (hints_for script.conf) script.conf []) → filed ≡ set ++ settings_text (map File script.payloads) → OnOk r (next ≡ filed ++ items_text (items_of 0 script.peers)) → OnOk r (next ≡ from ++ printed script)
+pub script_written : {T E : Type 0} (r : Result T E) (from begun set filed next : List ℕ) (script : Script) → begun ≡ from ++ line_of (header_row script.version) → set ≡ begun ++ settings_text (settings_for (hints_for script.conf) script.conf []) → filed ≡ set ++ settings_text (map File script.payloads) → OnOk r (next ≡ filed ++ items_text (items_of 0 script.peers)) → OnOk r (next ≡ from ++ printed script)
 script_written (Err x) from begun set filed next script a b d e = tt
 script_written (Ok x) from begun set filed next script a b d e =
-    let header = codes "fabric 1\n" in
+    let header = line_of (header_row script.version) in
     let conf = settings_text (settings_for (hints_for script.conf) script.conf []) in
     let files = settings_text (map File script.payloads) in
     let items = items_text (items_of 0 script.peers) in

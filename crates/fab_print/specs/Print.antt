@@ -80,11 +80,11 @@ abbrev pub items_text : List Item → List ℕ
 items_text items = text_of (map item_row items)
 
 -- ---- the whole
-abbrev pub header_row : List (List ℕ)
-header_row = codes "fabric" ∷ codes "1" ∷ []
+abbrev pub header_row : ℕ → List (List ℕ)
+header_row version = codes "fabric" ∷ decimal version ∷ []
 
 unfoldable pub rows_of : Script → List (List (List ℕ))
-rows_of script = header_row ∷ map setting_row (settings_of script) ++ map item_row (items_of 0 script.peers)
+rows_of script = header_row script.version ∷ map setting_row (settings_of script) ++ map item_row (items_of 0 script.peers)
 
 abbrev pub printed : Script → List ℕ
 printed script = text_of (rows_of script)

@@ -4,12 +4,12 @@
 ghost use Rattle.std.specs.Prelude.{◌≡◌, ◌++◌, ◌∷◌, [], ℕ, List, map, Ok, IfOk, OnOk, string_bytes};
 ghost use Rattle.fab_base.specs.declared.limits.Size.TheVariants as size;
 ghost use Rattle.fab_model.specs.Negotiation.{has_any};
-ghost use Rattle.fab_model.specs.Words.{text_of};
+ghost use Rattle.fab_model.specs.Words.{line_of};
 ghost use Rattle.fab_grammar.specs.declared.items.Item.{Item};
 ghost use Rattle.fab_grammar.specs.declared.items.Item.TheVariants as item;
 ghost use Rattle.fab_grammar.specs.declared.settings.Setting.TheVariants as setting;
 ghost use Rattle.fab_grammar.specs.Grammar.{verdict};
-ghost use Rattle.fab_print.specs.Print.{IsSame, asked, hints_for, items_of, items_text, part_items, printed, selected, settings_for, settings_text, sizes, wished};
+ghost use Rattle.fab_print.specs.Print.{IsSame, asked, header_row, hints_for, items_of, items_text, part_items, printed, selected, settings_for, settings_text, sizes, wished};
 
 use fab_base::{Cap, Caps, Conf, Hints, Line, NoMemory, Payload, Script, Size, Text};
 use fab_grammar::CAPS;
@@ -30,10 +30,18 @@ pub fn print(alloc: Global, script: &Script) -> Result<Text, NoMemory>
 fn add_script(out: &mut String, script: &Script) -> Result<(), NoMemory>
     ensures { OnOk result (string_bytes out.new ≡ string_bytes out.old ++ printed script.now) }
 {
-    out.push_str("fabric 1\n")?;
+    add_header(out, script.version)?;
     add_conf(out, &script.conf)?;
     add_payloads(out, script.payloads.as_slice())?;
     add_parts(out, script.peers.as_slice())
+}
+
+/// The version of the language.
+fn add_header(out: &mut String, version: u32) -> Result<(), NoMemory>
+    ensures { OnOk result (string_bytes out.new ≡ string_bytes out.old ++ line_of (header_row version)) }
+{
+    writeln!(out, "fabric {version}")?;
+    Ok(())
 }
 
 /// The settings that ask for what the script asks for.

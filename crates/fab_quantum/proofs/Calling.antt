@@ -71,13 +71,13 @@ next_is a op e = by_line (next_line a) refl e
     by_line None there e = absurd (cc)
     by_line (Some line) there e = let is : line.op ≡ op = cc in rw (there, do_next, is) refl
 
-pub calls_tsend : {Home : Type 0} (a : Told Home) (ctx dest tag : ℕ) (word : BytesWord) (imm : Option ℕ) (level : Level) (completion : Bool) (bytes : List ℕ)
-    → next_op a ≡ Some (TSend ctx dest tag word imm level completion) → bytes ≡ word_bytes word
-    → IsCalled a.lines a.results a.kept (message TagMsg (Some ctx) dest tag bytes imm level completion)
+pub calls_tsend : {Home : Type 0} (a : Told Home) (ctx dest tag : ℕ) (word : BytesWord) (imm : Option ℕ) (level : Level) (completion fence : Bool) (bytes : List ℕ)
+    → next_op a ≡ Some (TSend ctx dest tag word imm level completion fence) → bytes ≡ word_bytes word
+    → IsCalled a.lines a.results a.kept (message TagMsg (Some ctx) dest tag bytes imm level completion fence)
 unfolding do_line call_of
-calls_tsend a ctx dest tag word imm level completion bytes next is = (
+calls_tsend a ctx dest tag word imm level completion fence bytes next is = (
   (λ m. next_is (actor_in (living m a.lines a.results a.kept)) _ next
-      ∙ ap (λ bs. call_line (actor_in (living m a.lines a.results a.kept)) (message TagMsg (Some ctx) dest tag bs imm level completion)) (sym is)),
+      ∙ ap (λ bs. call_line (actor_in (living m a.lines a.results a.kept)) (message TagMsg (Some ctx) dest tag bs imm level completion fence)) (sym is)),
   tt,
 )
 
@@ -90,31 +90,31 @@ calls_trecv a ctx source tag ignore len buf next is = (
   tt,
 )
 
-pub calls_send : {Home : Type 0} (a : Told Home) (ctx dest : ℕ) (word : BytesWord) (imm : Option ℕ) (level : Level) (completion : Bool) (bytes : List ℕ)
-    → next_op a ≡ Some (Send ctx dest word imm level completion) → bytes ≡ word_bytes word
-    → IsCalled a.lines a.results a.kept (message Msg (Some ctx) dest 0 bytes imm level completion)
+pub calls_send : {Home : Type 0} (a : Told Home) (ctx dest : ℕ) (word : BytesWord) (imm : Option ℕ) (level : Level) (completion fence : Bool) (bytes : List ℕ)
+    → next_op a ≡ Some (Send ctx dest word imm level completion fence) → bytes ≡ word_bytes word
+    → IsCalled a.lines a.results a.kept (message Msg (Some ctx) dest 0 bytes imm level completion fence)
 unfolding do_line call_of
-calls_send a ctx dest word imm level completion bytes next is = (
+calls_send a ctx dest word imm level completion fence bytes next is = (
   (λ m. next_is (actor_in (living m a.lines a.results a.kept)) _ next
-      ∙ ap (λ bs. call_line (actor_in (living m a.lines a.results a.kept)) (message Msg (Some ctx) dest 0 bs imm level completion)) (sym is)),
+      ∙ ap (λ bs. call_line (actor_in (living m a.lines a.results a.kept)) (message Msg (Some ctx) dest 0 bs imm level completion fence)) (sym is)),
   tt,
 )
 
 pub calls_inject : {Home : Type 0} (a : Told Home) (dest : ℕ) (word : BytesWord) (imm : Option ℕ) (bytes : List ℕ)
-    → next_op a ≡ Some (Inject dest word imm) → bytes ≡ word_bytes word → IsCalled a.lines a.results a.kept (message Msg None dest 0 bytes imm Level.Inject false)
+    → next_op a ≡ Some (Inject dest word imm) → bytes ≡ word_bytes word → IsCalled a.lines a.results a.kept (message Msg None dest 0 bytes imm Level.Inject false false)
 unfolding do_line call_of
 calls_inject a dest word imm bytes next is = (
   (λ m. next_is (actor_in (living m a.lines a.results a.kept)) _ next
-      ∙ ap (λ bs. call_line (actor_in (living m a.lines a.results a.kept)) (message Msg None dest 0 bs imm Level.Inject false)) (sym is)),
+      ∙ ap (λ bs. call_line (actor_in (living m a.lines a.results a.kept)) (message Msg None dest 0 bs imm Level.Inject false false)) (sym is)),
   tt,
 )
 
 pub calls_tinject : {Home : Type 0} (a : Told Home) (dest tag : ℕ) (word : BytesWord) (imm : Option ℕ) (bytes : List ℕ)
-    → next_op a ≡ Some (TInject dest tag word imm) → bytes ≡ word_bytes word → IsCalled a.lines a.results a.kept (message TagMsg None dest tag bytes imm Level.Inject false)
+    → next_op a ≡ Some (TInject dest tag word imm) → bytes ≡ word_bytes word → IsCalled a.lines a.results a.kept (message TagMsg None dest tag bytes imm Level.Inject false false)
 unfolding do_line call_of
 calls_tinject a dest tag word imm bytes next is = (
   (λ m. next_is (actor_in (living m a.lines a.results a.kept)) _ next
-      ∙ ap (λ bs. call_line (actor_in (living m a.lines a.results a.kept)) (message TagMsg None dest tag bs imm Level.Inject false)) (sym is)),
+      ∙ ap (λ bs. call_line (actor_in (living m a.lines a.results a.kept)) (message TagMsg None dest tag bs imm Level.Inject false false)) (sym is)),
   tt,
 )
 

@@ -9,8 +9,8 @@ use Rattle.fab_base.specs.declared.script.LineOp.{LineOp}
 use Rattle.fab_base.specs.declared.script.LineOp.TheVariants.{Send, TSend, Inject, TInject, Recv, TRecv, MRecv, Cancel, Peek, Claim, Discard, Take, DropClaimed, Read, Write, WInject, Atomic, Fetch, Compare, Reg, Close, Put, Show, Insert, Remove, Count, Reach}
 
 abbrev pub is_send : LineOp → Bool
-is_send (Send ctx dest bytes imm level completion) = true
-is_send (TSend ctx dest tag bytes imm level completion) = true
+is_send (Send ctx dest bytes imm level completion fence) = true
+is_send (TSend ctx dest tag bytes imm level completion fence) = true
 is_send _ = false
 
 abbrev pub is_inject : LineOp → Bool
@@ -35,12 +35,12 @@ is_look _ = false
 
 abbrev pub is_transfer : LineOp → Bool
 is_transfer (Read ctx dest key at len) = true
-is_transfer (Write ctx dest key at bytes imm completion) = true
+is_transfer (Write ctx dest key at bytes imm completion fence) = true
 is_transfer (WInject dest key at bytes imm) = true
 is_transfer _ = false
 
 abbrev pub is_atomic : LineOp → Bool
-is_atomic (Atomic ctx dest key at op num values completion) = true
+is_atomic (Atomic ctx dest key at op num values completion fence) = true
 is_atomic (Fetch ctx dest key at op num values count) = true
 is_atomic (Compare ctx dest key at op num values compares) = true
 is_atomic _ = false

@@ -8,7 +8,7 @@ ghost use Rattle.fab_model.specs.Matching.{remove_first};
 ghost use Rattle.fab_model.specs.Calls.{word_bytes};
 ghost use Rattle.fab_model.specs.Peers.{ctx_of, is_of_ctx, is_finished};
 ghost use Rattle.fab_model.specs.Receiving.{cancellable};
-ghost use Rattle.fab_model.specs.Report.{pending_of};
+ghost use Rattle.fab_model.specs.Report.{pending_of, deferred_of};
 ghost use Rattle.fab_quantum.specs.Turns.{step_of, why_of};
 
 pub mod seats;
@@ -245,7 +245,7 @@ impl<E: Calls> Peer<E> {
         flags: Flags,
     ) -> Result<Outcome, NoMemory>
         requires log { (E.seen self.old.endpoint).log ≡ [] }
-        requires next { (word : BytesWord) × (next_op (told E.seen self.old) ≡ Some (Send ctx dest word imm flags.level flags.completion)) × (buf ≡ word_bytes word) }
+        requires next { (word : BytesWord) × (next_op (told E.seen self.old) ≡ Some (Send ctx dest word imm flags.level flags.completion flags.fence)) × (buf ≡ word_bytes word) }
         ensures { IfOk result (λ o. WentOn (told E.seen self.old) (told E.seen self.new) o.done o.moved) }
     {
         self.endpoint.known();
@@ -271,7 +271,7 @@ impl<E: Calls> Peer<E> {
         flags: Flags,
     ) -> Result<Outcome, NoMemory>
         requires log { (E.seen self.old.endpoint).log ≡ [] }
-        requires next { (word : BytesWord) × (next_op (told E.seen self.old) ≡ Some (TSend ctx dest tag word imm flags.level flags.completion)) × (buf ≡ word_bytes word) }
+        requires next { (word : BytesWord) × (next_op (told E.seen self.old) ≡ Some (TSend ctx dest tag word imm flags.level flags.completion flags.fence)) × (buf ≡ word_bytes word) }
         ensures { IfOk result (λ o. WentOn (told E.seen self.old) (told E.seen self.new) o.done o.moved) }
     {
         self.endpoint.known();
@@ -435,9 +435,15 @@ impl<E: Calls> Peer<E> {
                 imm,
                 level,
                 completion,
+                fence,
             } => {
                 let buf = word_bytes(self.alloc, bytes)?;
-                self.send(ctx, dest, buf, imm, Flags { completion, level })
+                let flags = Flags {
+                    completion,
+                    level,
+                    fence,
+                };
+                self.send(ctx, dest, buf, imm, flags)
             }
             LineOp::TSend {
                 ctx,
@@ -447,9 +453,15 @@ impl<E: Calls> Peer<E> {
                 imm,
                 level,
                 completion,
+                fence,
             } => {
                 let buf = word_bytes(self.alloc, bytes)?;
-                self.tsend(ctx, dest, tag, buf, imm, Flags { completion, level })
+                let flags = Flags {
+                    completion,
+                    level,
+                    fence,
+                };
+                self.tsend(ctx, dest, tag, buf, imm, flags)
             }
             _ => unreachable!(),
         }
@@ -701,5 +713,12 @@ impl<E: Calls> Peer<E> {
         ensures { result ≡ pending_of (actor_of (told E.seen self.now)) }
     {
         self.endpoint.awaiting()
+    }
+
+    /// How many operations are not transmitted: their items wait for their lanes, or a fence holds them back (FI_FENCE).
+    pub fn deferred(&self) -> u32
+        ensures { result ≡ deferred_of (actor_of (told E.seen self.now)) }
+    {
+        self.endpoint.deferred()
     }
 }

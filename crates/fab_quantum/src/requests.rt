@@ -59,16 +59,12 @@ impl<E: Calls> Peer<E> {
         at: u64,
         buf: Buf,
         imm: Option<u64>,
-        completion: bool,
+        flags: Flags,
     ) -> Result<Outcome, NoMemory>
         requires log { (E.seen self.old.endpoint).log ≡ [] }
-        requires next { (word : BytesWord) × (next_op (told E.seen self.old) ≡ Some (Write ctx dest key at word imm completion)) × (buf ≡ word_bytes word) }
+        requires next { (word : BytesWord) × (next_op (told E.seen self.old) ≡ Some (Write ctx dest key at word imm flags.completion flags.fence)) × (buf ≡ word_bytes word) }
         ensures { IfOk result (λ o. WentOn (told E.seen self.old) (told E.seen self.new) o.done o.moved) }
     {
-        let flags = Flags {
-            completion,
-            level: Level::Delivery,
-        };
         self.endpoint.known();
         let answer = self.endpoint.write(dest, key, at, buf, imm, ctx, flags);
         let why = why_of(answer);
@@ -117,16 +113,12 @@ impl<E: Calls> Peer<E> {
         op: AtomicOp,
         num: Num,
         operand: &Buf,
-        completion: bool,
+        flags: Flags,
     ) -> Result<Outcome, NoMemory>
         requires log { (E.seen self.old.endpoint).log ≡ [] }
-        requires next { next_op (told E.seen self.old) ≡ Some (Atomic ctx dest key at op num operand.now completion) }
+        requires next { next_op (told E.seen self.old) ≡ Some (Atomic ctx dest key at op num operand.now flags.completion flags.fence) }
         ensures { IfOk result (λ o. WentOn (told E.seen self.old) (told E.seen self.new) o.done o.moved) }
     {
-        let flags = Flags {
-            completion,
-            level: Level::Delivery,
-        };
         self.endpoint.known();
         let why = self
             .endpoint
@@ -238,9 +230,15 @@ impl<E: Calls> Peer<E> {
                 ref bytes,
                 imm,
                 completion,
+                fence,
             } => {
                 let buf = word_bytes(self.alloc, bytes)?;
-                self.write(ctx, dest, key, at, buf, imm, completion)
+                let flags = Flags {
+                    completion,
+                    level: Level::Delivery,
+                    fence,
+                };
+                self.write(ctx, dest, key, at, buf, imm, flags)
             }
             LineOp::WInject {
                 dest,
@@ -278,9 +276,15 @@ impl<E: Calls> Peer<E> {
                 num,
                 ref values,
                 completion,
+                fence,
             } => {
                 let operand = Buf::copy(self.alloc, values.as_slice())?;
-                self.atomic(ctx, dest, key, at, op, num, &operand, completion)
+                let flags = Flags {
+                    completion,
+                    level: Level::Delivery,
+                    fence,
+                };
+                self.atomic(ctx, dest, key, at, op, num, &operand, flags)
             }
             LineOp::Fetch {
                 ctx,

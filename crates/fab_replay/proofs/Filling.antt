@@ -16,12 +16,12 @@ use Rattle.fab_base.specs.declared.operations.Arrival.{Arrival}
 use Rattle.fab_base.specs.declared.operations.Coming.{Coming}
 use Rattle.fab_base.specs.declared.operations.Coming.TheVariants.{Into, Keep, Throw, Request, Answer}
 use Rattle.fab_base.specs.declared.operations.Operation.{Operation}
-use Rattle.fab_model.specs.State.{State, Receiving, Completions, Region, coming_from, under_way, is_into, fits, writing, with_rx, with_tx}
+use Rattle.fab_model.specs.State.{State, Receiving, Completions, Region, coming_from, under_way, is_into, fits, writing, with_rx, with_tx, count}
 use Rattle.fab_model.specs.Matching.{change_first, takes}
 use Rattle.fab_model.specs.Complete.{fill, fill_multi, filled, filling, is_made_by, release, release_multi, book, reply, at_either}
 use Rattle.fab_model.specs.Receiving.{draws, give, without_first}
-use Rattle.fab_model.specs.Arrivals.{stays, shut, seating, do_draw, made_whole, tail_to, do_tail, do_request, remote_data}
-use Rattle.fab_model.specs.Sending.{is_answered_by, answering, do_answer}
+use Rattle.fab_model.specs.Arrivals.{stays, shut, seating, do_draw, made_whole, tail_to, do_tail, do_request, remote_class, remote_data, remote_event, with_regions}
+use Rattle.fab_model.specs.Sending.{is_answered_by, answering, going_on, do_answer}
 use Rattle.fab_model.specs.Target.{is_keyed, outcome_of, perform}
 use Rattle.fab_machine.specs.Room.{has_room, entries_given, entries_taken, entries_drawn, is_let_go, entries_into, entries_to, entries_tail, entries_told, entries_of_end, is_under_way_besides}
 use Rattle.fab_machine.proofs.Growing.{Grows, fits_grown, give_grows, end_grows}
@@ -264,17 +264,31 @@ told_grows BadKey source head s = none_written s.cq
 told_grows BadAccess source head s = none_written s.cq
 told_grows BadRange source head s = none_written s.cq
 
+-- what counts at the target writes no entry
+event_cq : (o : Outcome) (head : ItemHead) (s : State) → (remote_event o head s).cq ≡ s.cq
+event_cq Done head s = counted s.caps.rma_event
+  where
+    counted : (b : Bool) → (let t : State = elim b [ true ↦ count (remote_class head) true s | false ↦ s ] in t.cq) ≡ s.cq
+    counted true = refl
+    counted false = refl
+event_cq BadKey head s = refl
+event_cq BadAccess head s = refl
+event_cq BadRange head s = refl
+
 request_grows : (s : State) (source : ℕ) (head : ItemHead) (bytes : List ℕ) → Grows (entries_told (outcome_of (find (is_keyed head.key) s.regions) head) head) s.cq (do_request s source head bytes).cq
 unfolding do_request reply
 request_grows s source head bytes =
     let o = outcome_of (find (is_keyed head.key) s.regions) head in
     let is : (perform s.regions head bytes).outcome ≡ o = performed_by s.regions head bytes (find (is_keyed head.key) s.regions) o refl refl in
-    subst (λ o. Grows (entries_told o head) s.cq (do_request s source head bytes).cq) is (told_grows (perform s.regions head bytes).outcome source head _)
+    let done = (perform s.regions head bytes).outcome in
+    let none = event_cq done head (reply source head.op done (perform s.regions head bytes).bytes (with_regions (perform s.regions head bytes).regions s)) in
+    subst (λ o. Grows (entries_told o head) s.cq (do_request s source head bytes).cq) is
+    (subst (λ cq. Grows (entries_told done head) cq (do_request s source head bytes).cq) none (told_grows done source head _))
 
 answer_by : (s : State) (source : ℕ) (head : ItemHead) (bytes : List ℕ) (o : Option Operation) → find (is_answered_by s.tx source head) s.tx.live ≡ o → Grows (entries_of_end head.outcome o) s.cq (do_answer s source head bytes).cq
 unfolding do_answer
 answer_by s source head bytes None e = rw (e, do_answer) (none_written s.cq)
-answer_by s source head bytes (Some o) e = rw (e, do_answer) (end_grows head.outcome bytes o (with_tx (answering source head s.tx) s))
+answer_by s source head bytes (Some o) e = rw (e, do_answer) (end_grows head.outcome bytes o (with_tx (going_on source (answering source head s.tx)) s))
 
 tail_grows : (s : State) (source : ℕ) (head : ItemHead) (bytes : List ℕ) (coming : Option Coming) → Grows (entries_to coming source head s) s.cq (tail_to coming (with_rx (made_whole source s.rx) s) source head bytes).cq
 unfolding tail_to made_whole

@@ -135,13 +135,16 @@ pub no_schedule : (bound : Bound) (text : List ℕ) → schedule_told bound.scri
 no_schedule bound text none = rw (none, verdict) refl
 
 module _ (bound : Bound) (text : List ℕ) (schedule : List (List Step)) (end : Moment Actor Step) (peers : List Peer) (there : moment_of bound peers ≡ end) (steps : steps_of peers ≡ schedule) where
-  is_judged : judged (steps_of peers) (moment_of bound peers) text ≡ judged schedule end text
-  is_judged = ap₂ (λ (s : List (List Step)) (m : Moment Actor Step). judged s m text) steps there
+  abbrev version : ℕ
+  version = bound.script.version
 
-  judged_ok : (v : Verdict) → first_left 0 (map left_of peers) ≡ None → v ≡ compared (actors_of bound peers) (report_of (actors_of bound peers) (steps_of peers)) text → v ≡ judged schedule end text
+  is_judged : judged version (steps_of peers) (moment_of bound peers) text ≡ judged version schedule end text
+  is_judged = ap₂ (λ (s : List (List Step)) (m : Moment Actor Step). judged version s m text) steps there
+
+  judged_ok : (v : Verdict) → first_left 0 (map left_of peers) ≡ None → v ≡ compared (actors_of bound peers) (report_of version (actors_of bound peers) (steps_of peers)) text → v ≡ judged version schedule end text
   judged_ok v none is = is ∙ sym (rw (none, judged) refl) ∙ is_judged
 
-  pub judged_none : {E : Type 0} (r : Result Verdict E) → first_left 0 (map left_of peers) ≡ None → IfOk r (λ v. v ≡ compared (actors_of bound peers) (report_of (actors_of bound peers) (steps_of peers)) text) → IfOk r (λ v. v ≡ judged schedule end text)
+  pub judged_none : {E : Type 0} (r : Result Verdict E) → first_left 0 (map left_of peers) ≡ None → IfOk r (λ v. v ≡ compared (actors_of bound peers) (report_of version (actors_of bound peers) (steps_of peers)) text) → IfOk r (λ v. v ≡ judged version schedule end text)
   judged_none (Ok v) none is = judged_ok v none is
   judged_none (Err e) none is = tt
 
@@ -154,20 +157,20 @@ module _ (bound : Bound) (text : List ℕ) (schedule : List (List Step)) (end : 
       let some_more : 0 < length (left_of peer) = subst (λ l. 0 < length l) left more in
       rw (left, all) (omega (arith, some_more, length-drop peer.taken peer.steps))
 
-  pub judged_left : (p n : ℕ) (peer : Peer) → first_left 0 (map left_of peers) ≡ Some p → slice_get peers p ≡ Some peer → n ≡ peer.taken + 1 → Left p n ≡ judged schedule end text
+  pub judged_left : (p n : ℕ) (peer : Peer) → first_left 0 (map left_of peers) ≡ Some p → slice_get peers p ≡ Some peer → n ≡ peer.taken + 1 → Left p n ≡ judged version schedule end text
   judged_left p n peer some here is = ap (Left p) (is ∙ sym (number_is p peer some here)) ∙ sym (rw (some, judged) refl) ∙ is_judged
 
   -- the peer read by its place
-  pub judged_left_read : (p q n : ℕ) (peer : Peer) → first_left 0 (map left_of peers) ≡ Some q → p ≡ q → q < length peers → peer ≡ get_or peers q peer → n ≡ peer.taken + 1 → Left p n ≡ judged schedule end text
+  pub judged_left_read : (p q n : ℕ) (peer : Peer) → first_left 0 (map left_of peers) ≡ Some q → p ≡ q → q < length peers → peer ≡ get_or peers q peer → n ≡ peer.taken + 1 → Left p n ≡ judged version schedule end text
   judged_left_read p q n peer some same within is one = ap (λ k. Left k n) same ∙ judged_left q n peer some (slice_get_read peers (length peers) q peer refl within is) one
 
 -- what is told is judged from the opening on
-whole_ok : (bound : Bound) (text : List ℕ) (schedule : List (List Step)) (v : Verdict) → schedule_told bound.script.conf.peers text ≡ Some schedule → v ≡ judged schedule (replay (rule fabric) (start bound schedule)) text → v ≡ verdict bound text
+whole_ok : (bound : Bound) (text : List ℕ) (schedule : List (List Step)) (v : Verdict) → schedule_told bound.script.conf.peers text ≡ Some schedule → v ≡ judged bound.script.version schedule (replay (rule fabric) (start bound schedule)) text → v ≡ verdict bound text
 unfolding replayed
 whole_ok bound text schedule v told is = is ∙ sym (rw (told, verdict) refl)
 
 pub whole : {E : Type 0} (bound : Bound) (text : List ℕ) (schedule : List (List Step)) (peers : List Peer) (r : Result Verdict E) → schedule_told bound.script.conf.peers text ≡ Some schedule → moment_of bound peers ≡ start bound schedule → steps_of peers ≡ schedule
-    → IfOk r (λ v. v ≡ judged (steps_of peers) (replay (rule fabric) (moment_of bound peers)) text) → IfOk r (λ v. v ≡ verdict bound text)
+    → IfOk r (λ v. v ≡ judged bound.script.version (steps_of peers) (replay (rule fabric) (moment_of bound peers)) text) → IfOk r (λ v. v ≡ verdict bound text)
 whole bound text schedule peers (Ok v) told begins steps is =
-    whole_ok bound text schedule v told (is ∙ ap₂ (λ (s : List (List Step)) (m : Moment Actor Step). judged s (replay (rule fabric) m) text) steps begins)
+    whole_ok bound text schedule v told (is ∙ ap₂ (λ (s : List (List Step)) (m : Moment Actor Step). judged bound.script.version s (replay (rule fabric) m) text) steps begins)
 whole bound text schedule peers (Err e) told begins steps is = tt

@@ -96,7 +96,7 @@ module _ (bound : Bound) (text : List ℕ) where
         }
 
   told-means : (o : Option (List (List Step))) → schedule_told bound.script.conf.peers text ≡ o
-      → Means bound text (elim o [ None ↦ answer.NoSchedule | Some schedule ↦ judged schedule (replayed bound schedule) text ])
+      → Means bound text (elim o [ None ↦ answer.NoSchedule | Some schedule ↦ judged bound.script.version schedule (replayed bound schedule) text ])
   unfolding report
   told-means None none = none
   told-means (Some schedule) told = judged-means schedule told (first_left 0 (replayed bound schedule).left) refl
@@ -106,7 +106,7 @@ module _ (bound : Bound) (text : List ℕ) where
 
   -- ---- and no other answer means it
 
-  first-step : (schedule : List (List Step)) → schedule_told bound.script.conf.peers text ≡ Some schedule → verdict bound text ≡ judged schedule (replayed bound schedule) text
+  first-step : (schedule : List (List Step)) → schedule_told bound.script.conf.peers text ≡ Some schedule → verdict bound text ≡ judged bound.script.version schedule (replayed bound schedule) text
   first-step schedule told = rw (told, verdict) refl
 
   lawful-step : (schedule : List (List Step)) → schedule_told bound.script.conf.peers text ≡ Some schedule → Lawful bound schedule

@@ -13,7 +13,7 @@ use Rattle.fab_base.specs.declared.script.Line.{Line}
 use Rattle.fab_base.specs.declared.script.LineOp.{LineOp}
 use Rattle.fab_base.specs.declared.script.LineOp.TheVariants.{Wait}
 use Rattle.fab_model.specs.Peers.{is_finished}
-use Rattle.fab_model.specs.Report.{all_lines, actor_lines, done_lines, stuck_line, verb_of, peer_lines, pending_of, report_of, report_lines, first_line, last_line}
+use Rattle.fab_model.specs.Report.{all_lines, actor_lines, done_lines, stuck_line, verb_of, peer_lines, pending_of, deferred_of, report_of, report_lines, first_line, last_line}
 use Rattle.fab_model.specs.Replay.{all_done, bind_op, bind_line, lines_of}
 use Rattle.fab_model.specs.Words.{text_of, line_of}
 use Rattle.fab_report.proofs.Blanks.{text_of-append}
@@ -39,9 +39,10 @@ stuck_by b (Some line) = refl
 stuck_bound : (b : Bound) (lines : List Line) (n : ℕ) → stuck_line (slice_get (map (bind_line b) lines) n) ≡ stuck_line (slice_get lines n)
 stuck_bound b lines n = ap stuck_line (slice_get-map (bind_line b) lines n) ∙ stuck_by b (slice_get lines n)
 
-pub peer_bound : (b : Bound) (p : ℕ) (lines : List Line) (results : List LineResult) (kept : List Kept) (pending : ℕ) (steps : List Step) → peer_lines p (map (bind_line b) lines) results kept pending steps ≡ peer_lines p lines results kept pending steps
+pub peer_bound : (b : Bound) (p : ℕ) (lines : List Line) (results : List LineResult) (kept : List Kept) (pending deferred : ℕ) (steps : List Step)
+    → peer_lines p (map (bind_line b) lines) results kept pending deferred steps ≡ peer_lines p lines results kept pending deferred steps
 unfolding peer_lines
-peer_bound b p lines results kept pending steps = rw (done_bound b lines results, stuck_bound b lines (length results)) refl
+peer_bound b p lines results kept pending deferred steps = rw (done_bound b lines results, stuck_bound b lines (length results)) refl
 
 -- ---- parts
 
@@ -81,22 +82,26 @@ pub parts_end : (b : Bound) (k : ℕ) (peers : List Peer) (now whole : List ℕ)
 parts_end b k peers now whole past so_far = sym (ap (λ text. now ++ text) (parts_over b k peers past) ∙ append-nil now) ∙ so_far
 
 -- the part of a peer, from the clauses of what tells its state
-pub part_of : (b : Bound) (k : ℕ) (x : Peer) (lines : List Line) (results : List LineResult) (kept : List Kept) (pending : ℕ) (steps : List Step) → map (bind_line b) lines ≡ lines_of b x.actor.number → results ≡ x.actor.results.items
-    → kept ≡ x.actor.kept.items → pending ≡ pending_of (actor_of b x.actor) → steps ≡ x.steps → text_of (peer_lines k lines results kept pending steps) ≡ text_of (actor_lines k (actor_of b x.actor) x.steps)
-part_of b k x lines results kept pending steps is r q n s =
-    ap text_of (sym (peer_bound b k lines results kept pending steps) ∙ ap (λ ls. peer_lines k ls results kept pending steps) is
-    ∙ ap (λ rs. peer_lines k (lines_of b x.actor.number) rs kept pending steps) r ∙ ap (λ ks. peer_lines k (lines_of b x.actor.number) x.actor.results.items ks pending steps) q
-    ∙ ap (λ m. peer_lines k (lines_of b x.actor.number) x.actor.results.items x.actor.kept.items m steps) n ∙ ap (λ ss. peer_lines k (lines_of b x.actor.number) x.actor.results.items x.actor.kept.items (pending_of (actor_of b x.actor)) ss) s)
+pub part_of : (b : Bound) (k : ℕ) (x : Peer) (lines : List Line) (results : List LineResult) (kept : List Kept) (pending deferred : ℕ) (steps : List Step) → map (bind_line b) lines ≡ lines_of b x.actor.number → results ≡ x.actor.results.items
+    → kept ≡ x.actor.kept.items → pending ≡ pending_of (actor_of b x.actor) → deferred ≡ deferred_of (actor_of b x.actor) → steps ≡ x.steps
+    → text_of (peer_lines k lines results kept pending deferred steps) ≡ text_of (actor_lines k (actor_of b x.actor) x.steps)
+part_of b k x lines results kept pending deferred steps is r q n d s =
+    let a = x.actor in
+    let own = lines_of b a.number in
+    ap text_of (sym (peer_bound b k lines results kept pending deferred steps) ∙ ap (λ ls. peer_lines k ls results kept pending deferred steps) is
+    ∙ ap (λ rs. peer_lines k own rs kept pending deferred steps) r ∙ ap (λ ks. peer_lines k own a.results.items ks pending deferred steps) q
+    ∙ ap (λ m. peer_lines k own a.results.items a.kept.items m deferred steps) n ∙ ap (λ m. peer_lines k own a.results.items a.kept.items (pending_of (actor_of b a)) m steps) d
+    ∙ ap (λ ss. peer_lines k own a.results.items a.kept.items (pending_of (actor_of b a)) (deferred_of (actor_of b a)) ss) s)
 
 -- the first line, all parts, and the last line
-pub whole_report : (b : Bound) (peers : List Peer) (x y z : List ℕ) → x ≡ line_of (first_line (length peers)) → y ≡ x ++ text_of (all_lines 0 (actors_of b peers) (steps_of peers))
-    → z ≡ y ++ line_of (last_line (all_done (actors_of b peers))) → z ≡ report_of (actors_of b peers) (steps_of peers)
+pub whole_report : (b : Bound) (peers : List Peer) (x y z : List ℕ) → x ≡ line_of (first_line b.script.version (length peers)) → y ≡ x ++ text_of (all_lines 0 (actors_of b peers) (steps_of peers))
+    → z ≡ y ++ line_of (last_line (all_done (actors_of b peers))) → z ≡ report_of b.script.version (actors_of b peers) (steps_of peers)
 unfolding report_of report_lines
 whole_report b peers x y z first parts last =
     let lines = all_lines 0 (actors_of b peers) (steps_of peers) in
     let end = last_line (all_done (actors_of b peers)) in
     let tail : text_of lines ++ line_of end ≡ text_of (lines ++ end ∷ []) = sym (text_of-append lines (end ∷ []) ∙ ap (λ text. text_of lines ++ text) (append-nil (line_of end))) in
-    let head : x ≡ line_of (first_line (length (actors_of b peers))) = first ∙ ap (λ n. line_of (first_line n)) (sym (length-map peers (λ (p : Peer). actor_of b p.actor))) in
+    let head : x ≡ line_of (first_line b.script.version (length (actors_of b peers))) = first ∙ ap (λ n. line_of (first_line b.script.version n)) (sym (length-map peers (λ (p : Peer). actor_of b p.actor))) in
     last ∙ ap (λ text. text ++ line_of end) parts ∙ append_assoc x (text_of lines) (line_of end) ∙ ap (λ text. x ++ text) tail ∙ ap (λ text. text ++ text_of (lines ++ end ∷ [])) head
 
 pub done_all : (b : Bound) (peers : List Peer) → list_all (λ (p : Peer). is_finished (actor_of b p.actor)) peers ≡ all_done (actors_of b peers)

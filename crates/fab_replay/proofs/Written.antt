@@ -18,11 +18,11 @@ use Rattle.fab_base.specs.declared.script.Line.{Line}
 use Rattle.fab_model.specs.Laws.{named_peer, NamesBelow}
 use Rattle.fab_model.specs.Peers.{Actor}
 use Rattle.fab_model.specs.Replay.{Lawful, replayed, all_done}
-use Rattle.fab_model.specs.Report.{kept_words, done_lines, stuck_line, pending_line, pending_of, step_word, peer_lines, first_line, last_line, actor_lines, all_lines, report_lines, report_of, report, numbered}
+use Rattle.fab_model.specs.Report.{kept_words, done_lines, stuck_line, amount_line, pending_of, deferred_of, step_word, peer_lines, first_line, last_line, actor_lines, all_lines, report_lines, report_of, report, numbered}
 use Rattle.fab_model.specs.Words.{Word, read_decimal, pieces_at, onto_first, text_of}
 use Rattle.fab_model.proofs.Names.{lawful_names, replayed_sound}
 use Rattle.fab_model.proofs.Pieces.{plain, readable}
-use Rattle.fab_model.proofs.Plain.{other, decimal_digits, plain_decimal, plain_steps, other_line, other_numbered, others_done, others_stuck, others_left, others_pending}
+use Rattle.fab_model.proofs.Plain.{other, decimal_digits, plain_decimal, plain_steps, other_line, other_numbered, others_done, others_stuck, others_left, others_amount}
 use Rattle.fab_replay.specs.Reading.{is_digit, is_numeral, names_peer, step_told, steps_told, steps_behind, begins_trace, lists_told, schedule_told}
 
 -- ---- numbers
@@ -207,17 +207,18 @@ trace-written peers steps few below = record {
   told = λ rest more is. rw (begins steps, behind peers steps few below, is) refl;
 }
 
-peer-written : (peers p : ℕ) (lines : List Line) (results : List LineResult) (kept : List Kept) (pending : ℕ) (steps : List Step) → peers ≤ 10 ^ 64 → All (Below peers) steps
-    → Written peers (peer_lines p lines results kept pending steps) (steps ∷ [])
+peer-written : (peers p : ℕ) (lines : List Line) (results : List LineResult) (kept : List Kept) (pending deferred : ℕ) (steps : List Step) → peers ≤ 10 ^ 64 → All (Below peers) steps
+    → Written peers (peer_lines p lines results kept pending deferred steps) (steps ∷ [])
 unfolding peer_lines
-peer-written peers p lines results kept pending steps few below =
+peer-written peers p lines results kept pending deferred steps few below =
     let here : Written peers ((codes "peer" ∷ decimal p ∷ []) ∷ []) [] = others-written peers _ (and_from _ _ (other_numbered (codes "peer") p refl refl) refl) refl in
     let done = others-written peers (done_lines lines results) (others_done lines results) (done-clear lines results) in
     let stuck = others-written peers (stuck_line (slice_get lines (length results))) (others_stuck (slice_get lines (length results))) (stuck-clear (slice_get lines (length results))) in
     let left = others-written peers (map (λ k. codes "left" ∷ kept_words k) kept) (others_left kept) (left-clear kept) in
-    let waiting = others-written peers (pending_line pending) (others_pending pending) (pending-clear pending) in
-    written-append peers _ _ [] _
-    (written-append peers _ _ [] [] (written-append peers _ _ [] [] (written-append peers _ _ [] [] (written-append peers _ _ [] [] here done) stuck) left) waiting) (trace-written peers steps few below)
+    let waiting = others-written peers (amount_line (codes "pending") pending) (others_amount (codes "pending") pending refl refl) (amount-clear (codes "pending") pending (λ words. refl)) in
+    let behind = others-written peers (amount_line (codes "deferred") deferred) (others_amount (codes "deferred") deferred refl refl) (amount-clear (codes "deferred") deferred (λ words. refl)) in
+    let before = written-append peers _ _ [] [] (written-append peers _ _ [] [] (written-append peers _ _ [] [] here done) stuck) left in
+    written-append peers _ _ [] _ (written-append peers _ _ [] [] (written-append peers _ _ [] [] before waiting) behind) (trace-written peers steps few below)
   where
     digit-clear : (ds : List ℕ) (words : List Word) → list_all (λ b. nat_lt 47 b && nat_lt b 58) ds ≡ true → no_t (ds ∷ words) ≡ true
     digit-clear [] words all = refl
@@ -239,12 +240,12 @@ peer-written peers p lines results kept pending steps few below =
     left-clear [] = refl
     left-clear (k ∷ kept) = left-clear kept
 
-    pending-clear : (n : ℕ) → list_all no_t (pending_line n) ≡ true
-    pending-clear n = go (eqb n 0)
+    amount-clear : (word : Word) (n : ℕ) → ((words : List Word) → no_t (word ∷ words) ≡ true) → list_all no_t (amount_line word n) ≡ true
+    amount-clear word n clear = go (eqb n 0)
       where
-        go : (none : Bool) → list_all no_t (elim none [ true ↦ [] | false ↦ (codes "pending" ∷ decimal n ∷ []) ∷ [] ]) ≡ true
+        go : (none : Bool) → list_all no_t (elim none [ true ↦ [] | false ↦ (word ∷ decimal n ∷ []) ∷ [] ]) ≡ true
         go true = refl
-        go false = refl
+        go false = and_from _ _ (clear (decimal n ∷ [])) refl
 
 all-written : (peers p : ℕ) (all : List Actor) (schedule : List (List Step)) → peers ≤ 10 ^ 64 → length schedule ≡ length all → NamesBelow peers schedule → Written peers (all_lines p all schedule) schedule
 unfolding all_lines
@@ -253,7 +254,7 @@ all-written peers p [] (steps ∷ schedule) few same below = absurd (omega arith
 all-written peers p (a ∷ all) [] few same below = absurd (omega arith)
 all-written peers p (a ∷ all) (steps ∷ schedule) few same below =
     written-append peers (actor_lines p a steps) (all_lines (p + 1) all schedule) (steps ∷ []) schedule
-    (peer-written peers p a.lines a.results a.kept (pending_of a) steps few (All-head (All (Below peers)) steps schedule below))
+    (peer-written peers p a.lines a.results a.kept (pending_of a) (deferred_of a) steps few (All-head (All (Below peers)) steps schedule below))
     (all-written peers (p + 1) all schedule few (omega arith) (All-tail (All (Below peers)) steps schedule below))
 
 -- ---- the report
@@ -262,12 +263,12 @@ last-written : (peers : ℕ) (done : Bool) → Written peers (last_line done ∷
 last-written peers true = others-written peers _ refl refl
 last-written peers false = others-written peers _ refl refl
 
-report-written : (peers : ℕ) (all : List Actor) (schedule : List (List Step)) → peers ≤ 10 ^ 64 → length schedule ≡ length all → NamesBelow peers schedule → Written peers (report_lines all schedule) schedule
+report-written : (version peers : ℕ) (all : List Actor) (schedule : List (List Step)) → peers ≤ 10 ^ 64 → length schedule ≡ length all → NamesBelow peers schedule → Written peers (report_lines version all schedule) schedule
 unfolding report_lines
-report-written peers all schedule few same below =
-    let first = others-written peers (first_line (length all) ∷ []) (and_from _ _ (other_line (codes "fabric") (codes "1" ∷ codes "peers" ∷ decimal (length all) ∷ []) refl refl (rw (plain_decimal (length all)) refl)) refl) refl in
+report-written version peers all schedule few same below =
+    let first = others-written peers (first_line version (length all) ∷ []) (and_from _ _ (other_line (codes "fabric") (decimal version ∷ codes "peers" ∷ decimal (length all) ∷ []) refl refl (rw (plain_decimal version, plain_decimal (length all)) refl)) refl) refl in
     subst (Written peers _) (append-nil schedule)
-    (written-append peers (first_line (length all) ∷ []) _ [] _ first (written-append peers (all_lines 0 all schedule) _ schedule [] (all-written peers 0 all schedule few same below) (last-written peers (all_done all))))
+    (written-append peers (first_line version (length all) ∷ []) _ [] _ first (written-append peers (all_lines 0 all schedule) _ schedule [] (all-written peers 0 all schedule few same below) (last-written peers (all_done all))))
 
 pub report_told : (bound : Bound) (schedule : List (List Step)) → Lawful bound schedule → length schedule ≡ bound.script.conf.peers → bound.script.conf.peers ≤ 10 ^ 64
     → schedule_told bound.script.conf.peers (report bound schedule) ≡ Some schedule
@@ -275,7 +276,8 @@ unfolding report report_of schedule_told
 report_told bound schedule lawful same few =
     let peers = bound.script.conf.peers in
     let all = (replayed bound schedule).states in
-    let w = report-written peers all schedule few (same ∙ sym ((replayed_sound bound schedule).count)) (lawful_names bound schedule lawful) in
-    let told : lists_told peers (pieces_at 10 (text_of (report_lines all schedule))) ≡ Some schedule =
-    ap (lists_told peers) (text-pieces (report_lines all schedule) w.readable) ∙ w.told ([] ∷ []) [] refl ∙ ap Some (append-nil schedule) in
+    let version = bound.script.version in
+    let w = report-written version peers all schedule few (same ∙ sym ((replayed_sound bound schedule).count)) (lawful_names bound schedule lawful) in
+    let told : lists_told peers (pieces_at 10 (text_of (report_lines version all schedule))) ≡ Some schedule =
+    ap (lists_told peers) (text-pieces (report_lines version all schedule) w.readable) ∙ w.told ([] ∷ []) [] refl ∙ ap Some (append-nil schedule) in
     rw (told, eq-eqb (length schedule) peers same) refl

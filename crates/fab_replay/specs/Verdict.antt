@@ -31,14 +31,14 @@ number_left schedule left p = length (slice_index_or schedule p []) - length (sl
 abbrev pub compared : List Actor → List ℕ → List ℕ → Verdict
 compared last report text = if bytes_eq report text then Lawful (at_rest last) else Differs (common report text)
 
-abbrev pub judged : List (List Step) → Moment Actor Step → List ℕ → Verdict
-judged schedule end text = elim (first_left 0 end.left) [
+abbrev pub judged : ℕ → List (List Step) → Moment Actor Step → List ℕ → Verdict
+judged version schedule end text = elim (first_left 0 end.left) [
   | Some p ↦ Left p (number_left schedule end.left p)
-  | None ↦ compared end.states (report_of end.states schedule) text
+  | None ↦ compared end.states (report_of version end.states schedule) text
 ]
 
 abbrev pub verdict : Bound → List ℕ → Verdict
 verdict bound text = elim (schedule_told bound.script.conf.peers text) [
   | None ↦ NoSchedule
-  | Some schedule ↦ judged schedule (replayed bound schedule) text
+  | Some schedule ↦ judged bound.script.version schedule (replayed bound schedule) text
 ]

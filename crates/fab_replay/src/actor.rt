@@ -1,12 +1,12 @@
 //! One peer of the replay: its machine, the results of its lines, and the completions that it read.
-ghost use Rattle.std.specs.Prelude.{◌≡◌, true, false, find, position, map, IfOk, IfNone, MatchOption};
+ghost use Rattle.std.specs.Prelude.{◌≡◌, ◌+◌, true, false, find, position, map, IfOk, IfNone, MatchOption};
 ghost use Rattle.std.specs.Option.{option_copied, option_map};
 ghost use Rattle.fab_base.specs.declared.script.LineOp.TheVariants.{Reach};
 ghost use Rattle.fab_base.specs.declared.script.Bound.{Bound as BoundScript};
 ghost use Rattle.fab_model.specs.Matching.{remove_first};
 ghost use Rattle.fab_model.specs.Peers.{ctx_of, is_of_ctx, is_again, wait_line, call_line, do_line, do_next, next_line, is_finished, sent_step, draw_step};
 ghost use Rattle.fab_model.specs.Replay.{bind_line, lines_of};
-ghost use Rattle.fab_model.specs.Report.{pending_of};
+ghost use Rattle.fab_model.specs.Report.{pending_of, deferred_of};
 ghost use Rattle.fab_machine.specs.Seen.{seen_call};
 ghost use Rattle.fab_replay.specs.Seen.{actor_of, Took};
 
@@ -91,6 +91,16 @@ fn final_answer(answer: LineResult) -> Option<LineResult>
     match answer {
         LineResult::Refused(Fault::Again(_)) => None,
         answer => Some(answer),
+    }
+}
+
+/// Both together, or want of memory where they pass 64 bits.
+fn sum(number: u64, more: usize) -> Result<u64, NoMemory>
+    ensures { IfOk result (λ all. all ≡ number + more) }
+{
+    match number.checked_add(more as u64) {
+        Some(all) => Ok(all),
+        None => Err(NoMemory),
     }
 }
 
@@ -198,5 +208,17 @@ impl Actor {
     {
         let tx = &self.state.tx;
         tx.live.iter().filter(|o| tx.awaits(o)).count()
+    }
+
+    /// How many operations are not transmitted: those whose items wait, and those that a fence holds back.
+    pub fn deferred(&self) -> Result<u64, NoMemory>
+        ensures { (bound : BoundScript) → IfOk result (λ deferred. deferred ≡ deferred_of (actor_of bound self.now)) }
+    {
+        let tx = &self.state.tx;
+        let mut deferred = tx.live.iter().filter(|o| !tx.awaits(o)).count() as u64;
+        for held in tx.held.iter() {
+            deferred = sum(deferred, held.as_slice().len())?;
+        }
+        Ok(deferred)
     }
 }

@@ -60,8 +60,8 @@ fn message(
     imm: Option<u64>,
     flags: Flags,
 ) -> Result<Option<Call>, NoMemory>
-    ensures untagged { tag ≡ None → IfOk result (λ call. option_map seen_call call ≡ Some (message Msg ctx dest 0 bytes imm flags.level flags.completion)) }
-    ensures tagged { IfSome tag (λ t. IfOk result (λ call. option_map seen_call call ≡ Some (message TagMsg ctx dest t bytes imm flags.level flags.completion))) }
+    ensures untagged { tag ≡ None → IfOk result (λ call. option_map seen_call call ≡ Some (message Msg ctx dest 0 bytes imm flags.level flags.completion flags.fence)) }
+    ensures tagged { IfSome tag (λ t. IfOk result (λ call. option_map seen_call call ≡ Some (message TagMsg ctx dest t bytes imm flags.level flags.completion flags.fence))) }
 {
     let buf = bytes.clone()?;
     let (kind, tag) = match tag {
@@ -83,6 +83,7 @@ fn message(
         ctx,
         level: flags.level,
         completion: flags.completion,
+        fence: flags.fence,
         buf: Some(buf),
     })))
 }
@@ -100,11 +101,13 @@ fn send_call(alloc: Global, bound: &Bound, op: &LineOp) -> Result<Option<Call>, 
             imm,
             level,
             completion,
+            fence,
         } => {
             let bytes = bytes_of(alloc, bound, bytes)?;
             let flags = Flags {
                 completion: *completion,
                 level: *level,
+                fence: *fence,
             };
             message(alloc, Some(*ctx), *dest, None, bytes, *imm, flags)
         }
@@ -116,11 +119,13 @@ fn send_call(alloc: Global, bound: &Bound, op: &LineOp) -> Result<Option<Call>, 
             imm,
             level,
             completion,
+            fence,
         } => {
             let bytes = bytes_of(alloc, bound, bytes)?;
             let flags = Flags {
                 completion: *completion,
                 level: *level,
+                fence: *fence,
             };
             message(alloc, Some(*ctx), *dest, Some(*tag), bytes, *imm, flags)
         }
@@ -136,6 +141,7 @@ fn inject_call(alloc: Global, bound: &Bound, op: &LineOp) -> Result<Option<Call>
     let flags = Flags {
         completion: false,
         level: Level::Inject,
+        fence: false,
     };
     match op {
         LineOp::Inject { dest, bytes, imm } => {
@@ -167,9 +173,10 @@ fn request(
     bytes: Buf,
     imm: Option<u64>,
     completion: bool,
+    fence: bool,
     buf: Option<Buf>,
 ) -> Call
-    ensures { seen_call result ≡ request kind ctx dest key at count bytes imm completion buf }
+    ensures { seen_call result ≡ request kind ctx dest key at count bytes imm completion fence buf }
 {
     Call::Transmit(Order {
         kind,
@@ -186,6 +193,7 @@ fn request(
         ctx,
         level: Level::Delivery,
         completion,
+        fence,
         buf,
     })
 }
@@ -201,9 +209,10 @@ fn atomic(
     operand: Buf,
     compared: Buf,
     completion: bool,
+    fence: bool,
     buf: Option<Buf>,
 ) -> Call
-    ensures { seen_call result ≡ atomic ctx dest key at atom count operand compared completion buf }
+    ensures { seen_call result ≡ atomic ctx dest key at atom count operand compared completion fence buf }
 {
     Call::Transmit(Order {
         kind: Kind::AtomicReq,
@@ -220,6 +229,7 @@ fn atomic(
         ctx: Some(ctx),
         level: Level::Delivery,
         completion,
+        fence,
         buf,
     })
 }
@@ -346,6 +356,7 @@ fn read_call(alloc: Global, op: &LineOp) -> Result<Option<Call>, NoMemory>
         none,
         None,
         true,
+        false,
         Some(buf),
     )))
 }
@@ -363,6 +374,7 @@ fn write_call(alloc: Global, bound: &Bound, op: &LineOp) -> Result<Option<Call>,
         bytes,
         imm,
         completion,
+        fence,
     } = op
     else {
         return Err(NoMemory);
@@ -380,6 +392,7 @@ fn write_call(alloc: Global, bound: &Bound, op: &LineOp) -> Result<Option<Call>,
         bytes,
         *imm,
         *completion,
+        *fence,
         Some(buf),
     )))
 }
@@ -411,6 +424,7 @@ fn inject_write_call(alloc: Global, bound: &Bound, op: &LineOp) -> Result<Option
         bytes,
         *imm,
         false,
+        false,
         None,
     )))
 }
@@ -441,6 +455,7 @@ fn update_call(alloc: Global, op: &LineOp) -> Result<Option<Call>, NoMemory>
         num,
         values,
         completion,
+        fence,
     } = op
     else {
         return Err(NoMemory);
@@ -463,6 +478,7 @@ fn update_call(alloc: Global, op: &LineOp) -> Result<Option<Call>, NoMemory>
         values,
         none,
         *completion,
+        *fence,
         None,
     )))
 }
@@ -504,6 +520,7 @@ fn fetch_call(alloc: Global, op: &LineOp) -> Result<Option<Call>, NoMemory>
         values,
         none,
         true,
+        false,
         Some(buf),
     )))
 }
@@ -545,6 +562,7 @@ fn compare_call(alloc: Global, op: &LineOp) -> Result<Option<Call>, NoMemory>
         values,
         compares,
         true,
+        false,
         Some(buf),
     )))
 }

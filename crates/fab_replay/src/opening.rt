@@ -7,7 +7,7 @@ ghost use Rattle.fab_replay.specs.Seen.{actor_of, moment_of, steps_of};
 
 use crate::actor::Actor;
 use crate::turns::Peer;
-use fab_base::{Bound, Coming, Conf, Item, List, NoMemory, Step, Tally};
+use fab_base::{Bound, Coming, Conf, List, NoMemory, Step, Tally};
 use fab_machine::state::{Completions, Receiving, State, Transmitting};
 use std::alloc::Global;
 
@@ -22,15 +22,15 @@ fn nothing_coming(alloc: Global, peers: u32) -> Result<Vec<Option<Coming>>, NoMe
     Ok(coming)
 }
 
-/// Nothing is accepted for any of so many peers.
-fn nothing_accepted(alloc: Global, peers: u32) -> Result<Vec<List<Item>>, NoMemory>
-    ensures { IfOk result (λ accepted. accepted.items ≡ replicate peers []) }
+/// An empty list for each of so many peers.
+fn empty_lists<T: Drop>(alloc: Global, peers: u32) -> Result<Vec<List<T>>, NoMemory>
+    ensures { IfOk result (λ lists. lists.items ≡ replicate peers []) }
 {
-    let mut accepted = Vec::new(alloc);
+    let mut lists = Vec::new(alloc);
     for peer in 0..peers {
-        accepted.push(List::empty(alloc))?;
+        lists.push(List::empty(alloc))?;
     }
-    Ok(accepted)
+    Ok(lists)
 }
 
 /// A 0 for each of so many peers.
@@ -70,14 +70,16 @@ fn fresh_receiving(alloc: Global, peers: u32) -> Result<Receiving, NoMemory>
 }
 
 fn fresh_transmitting(alloc: Global, peers: u32) -> Result<Transmitting, NoMemory>
-    ensures { IfOk result (λ tx. tx_of tx ≡ record { accepted = replicate peers []; sent = replicate peers 0; live = []; ops = 0 }) }
+    ensures { IfOk result (λ tx. tx_of tx ≡ record { accepted = replicate peers []; sent = replicate peers 0; live = []; held = replicate peers []; ops = 0 }) }
 {
-    let accepted = nothing_accepted(alloc, peers)?;
+    let accepted = empty_lists(alloc, peers)?;
     let sent = zeros(alloc, peers)?;
+    let held = empty_lists(alloc, peers)?;
     Ok(Transmitting {
         accepted,
         sent,
         live: Vec::new(alloc),
+        held,
         ops: 0,
     })
 }
@@ -94,6 +96,7 @@ fn fresh(alloc: Global, conf: &Conf) -> Result<State, NoMemory>
         selective: conf.selective,
         most_tx: conf.info.tx,
         most_rx: conf.info.rx,
+        most_message: conf.info.message,
         av,
         regions: Vec::new(alloc),
         rx,

@@ -68,7 +68,7 @@ fn compared(
     peers: &mut [Peer],
     text: &[u8],
 ) -> Result<Verdict, NoMemory>
-    ensures { IfOk result (λ verdict. verdict ≡ compared (actors_of bound.now peers.old) (report_of (actors_of bound.now peers.old) (steps_of peers.old)) text.now) }
+    ensures { IfOk result (λ verdict. verdict ≡ compared (actors_of bound.now peers.old) (report_of bound.now.script.version (actors_of bound.now peers.old) (steps_of peers.old)) text.now) }
 {
     let own = report(alloc, bound, peers)?;
     match first_difference(own.as_bytes(), text) {
@@ -82,7 +82,7 @@ fn compared(
 
 /// What is said of the schedule that these peers are to take, from where they are.
 fn judge(alloc: Global, bound: &Bound, peers: &mut [Peer], text: &[u8]) -> Result<Verdict, NoMemory>
-    ensures { IfOk result (λ verdict. verdict ≡ judged (steps_of peers.old) (replay (rule fabric) (moment_of bound.now peers.old)) text.now) }
+    ensures { IfOk result (λ verdict. verdict ≡ judged bound.now.script.version (steps_of peers.old) (replay (rule fabric) (moment_of bound.now peers.old)) text.now) }
 {
     run(bound, peers)?;
     match first_left(peers) {

@@ -35,6 +35,7 @@ fn add_peers(out: &mut String, bound: &Bound, peers: &[Peer]) -> Result<(), NoMe
             actor.results.as_slice(),
             actor.kept.as_slice(),
             actor.pending() as u64,
+            actor.deferred()?,
             peer.steps.as_slice(),
         )?;
     }
@@ -43,10 +44,10 @@ fn add_peers(out: &mut String, bound: &Bound, peers: &[Peer]) -> Result<(), NoMe
 
 /// The report of these peers, in their states and with their schedules.
 pub fn report(alloc: Global, bound: &Bound, peers: &[Peer]) -> Result<String, NoMemory>
-    ensures { IfOk result (λ text. string_bytes text ≡ report_of (actors_of bound.now peers.now) (steps_of peers.now)) }
+    ensures { IfOk result (λ text. string_bytes text ≡ report_of bound.now.script.version (actors_of bound.now peers.now) (steps_of peers.now)) }
 {
     let mut out = String::new(alloc);
-    add_first(&mut out, peers.len())?;
+    add_first(&mut out, bound.script.version, peers.len())?;
     add_peers(&mut out, bound, peers)?;
     add_last(&mut out, all_done(bound, peers))?;
     Ok(out)

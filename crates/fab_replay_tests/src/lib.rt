@@ -5,4 +5,6 @@
 #![tactic(auto)]
 
 #[cfg(test)]
+mod fences;
+#[cfg(test)]
 mod verdicts;

@@ -101,7 +101,7 @@ const DRAWN_LATE: &str = "fabric 1 peers 1\n\
     end done\n";
 
 /// What is said of the text as a report of the script, which has no payload files.
-fn said(alloc: Global, script: &str, text: &str) -> Option<Verdict> {
+pub(crate) fn said(alloc: Global, script: &str, text: &str) -> Option<Verdict> {
     let Ok(script) = parse(alloc, script.as_bytes()) else {
         return None;
     };

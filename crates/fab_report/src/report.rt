@@ -7,7 +7,7 @@ ghost use Rattle.std.specs.Prelude.{◌≡◌, ◌+◌, ◌++◌, ◌∷◌, [],
 ghost use Rattle.std.specs.Option.{option_copied};
 ghost use Rattle.fab_base.specs.declared.entries.ErrKind.{ErrKind};
 ghost use Rattle.fab_model.specs.Words.{line_of, text_of, hex_digit, hex, hex_or_dash};
-ghost use Rattle.fab_model.specs.Report.{fault_name, verb_of, ctx_word, named, received_words, len_words, how_word, entry_words, placed, error_words, taken_words, kept_words, result_words, done_lines, stuck_line, pending_line, step_word, peer_lines, first_line, last_line};
+ghost use Rattle.fab_model.specs.Report.{fault_name, verb_of, ctx_word, named, received_words, len_words, how_word, entry_words, placed, error_words, taken_words, kept_words, result_words, done_lines, stuck_line, amount_line, step_word, peer_lines, first_line, last_line};
 ghost use Rattle.fab_model.specs.Peers.{ctx_of};
 ghost use Rattle.fab_report.specs.Texts.{after_blanks};
 
@@ -16,11 +16,11 @@ use fab_base::{
     Taken,
 };
 
-/// The first line of a report over this many peers.
-pub fn add_first(out: &mut String, peers: usize) -> Result<(), NoMemory>
-    ensures { OnOk result (string_bytes out.new ≡ string_bytes out.old ++ line_of (first_line peers)) }
+/// The first line of a report over this many peers, for a script of this version.
+pub fn add_first(out: &mut String, version: u32, peers: usize) -> Result<(), NoMemory>
+    ensures { OnOk result (string_bytes out.new ≡ string_bytes out.old ++ line_of (first_line version peers)) }
 {
-    writeln!(out, "fabric 1 peers {peers}")?;
+    writeln!(out, "fabric {version} peers {peers}")?;
     Ok(())
 }
 
@@ -494,10 +494,19 @@ fn add_lefts(out: &mut String, kept: &[Kept]) -> Result<(), NoMemory>
 }
 
 fn add_pending(out: &mut String, pending: u64) -> Result<(), NoMemory>
-    ensures { OnOk result (string_bytes out.new ≡ string_bytes out.old ++ text_of (pending_line pending)) }
+    ensures { OnOk result (string_bytes out.new ≡ string_bytes out.old ++ text_of (amount_line (codes "pending") pending)) }
 {
     if pending != 0 {
         writeln!(out, "pending {pending}")?;
+    }
+    Ok(())
+}
+
+fn add_deferred(out: &mut String, deferred: u64) -> Result<(), NoMemory>
+    ensures { OnOk result (string_bytes out.new ≡ string_bytes out.old ++ text_of (amount_line (codes "deferred") deferred)) }
+{
+    if deferred != 0 {
+        writeln!(out, "deferred {deferred}")?;
     }
     Ok(())
 }
@@ -538,7 +547,7 @@ fn add_trace(out: &mut String, steps: &[Step]) -> Result<(), NoMemory>
 
 /// One peer's part: its number, its lines with what those that are done did, the line that it stands
 /// at where some are left, the entries that were read and that no `wait` took, how many of its
-/// operations await a reply, and the steps of its schedule.
+/// operations await a reply and how many are not transmitted, and the steps of its schedule.
 pub fn add_peer(
     out: &mut String,
     number: usize,
@@ -546,15 +555,17 @@ pub fn add_peer(
     results: &[LineResult],
     kept: &[Kept],
     pending: u64,
+    deferred: u64,
     steps: &[Step],
 ) -> Result<(), NoMemory>
     ensures { OnOk result (string_bytes out.new ≡ string_bytes out.old
-        ++ text_of (peer_lines number lines.now results.now kept.now pending steps.now)) }
+        ++ text_of (peer_lines number lines.now results.now kept.now pending deferred steps.now)) }
 {
     writeln!(out, "peer {number}")?;
     add_done_lines(out, lines, results)?;
     add_stuck(out, lines.get(results.len()))?;
     add_lefts(out, kept)?;
     add_pending(out, pending)?;
+    add_deferred(out, deferred)?;
     add_trace(out, steps)
 }

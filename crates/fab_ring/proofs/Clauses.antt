@@ -74,7 +74,7 @@ module _ (p p' : Part) (d : ℕ) (o : Out) (ms : List Move) (near : d < length p
   moves_out : p'.moves ≡ ms
   moves_out = ap (λ (z : Part). z.moves) is
 
-frames_length : (xs : List Sent) → length xs ≡ length (frames_of xs)
+pub frames_length : (xs : List Sent) → length xs ≡ length (frames_of xs)
 frames_length xs = sym (length-map xs frame_of)
 
 full_noticed : (o : Out) (ts : List ℕ) (f : ℕ) → ((least ts ≡ least o.tried) × (f ≡ o.full_at)) ⊎ ((least o.tried < least ts) × (f ≡ length o.posted)) → (least o.tried ≤ least ts)

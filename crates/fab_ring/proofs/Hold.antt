@@ -365,9 +365,9 @@ fits_new me peers room pool puts gots opened lent below is_p is_g is_o is_l = le
     }
 
 -- where a pool's slot lies
-pub home_small : (n room pool q : ℕ) → n ≤ 32 → room ≤ 1024 → pool ≤ 1024 → q < n * pool → n * n * room + q < 18446744073709551616
-home_small n room pool q hn hr hp low = let s : ℕ = n * n in let a : s ≤ 32 * n = mul-le-mul_right n hn in let b : s ≤ 1024 = omega arith in let t : ℕ = s * room in let c : t ≤ 1024 * room = mul-le-mul_right room b in
-    let u : ℕ = n * pool in let d : u ≤ 32 * pool = mul-le-mul_right pool hn in let low' : q < u = low in let g : t + q < 18446744073709551616 = omega arith in g
+pub home_small : (n room pool q : ℕ) → n ≤ 64 → room ≤ 1024 → pool ≤ 1024 → q < n * pool → n * n * room + q < 18446744073709551616
+home_small n room pool q hn hr hp low = let s : ℕ = n * n in let a : s ≤ 64 * n = mul-le-mul_right n hn in let b : s ≤ 4096 = omega arith in let t : ℕ = s * room in let c : t ≤ 4096 * room = mul-le-mul_right room b in
+    let u : ℕ = n * pool in let d : u ≤ 64 * pool = mul-le-mul_right pool hn in let low' : q < u = low in let g : t + q < 18446744073709551616 = omega arith in g
 
 pub shapes_two : (hand : List (ℕ × Slot)) (y z : ℕ × Slot) → shapes ((hand ++ y ∷ []) ++ z ∷ []) ≡ (shapes hand ++ shape y ∷ []) ++ shape z ∷ []
 shapes_two hand y z = map-append shape (hand ++ y ∷ []) (z ∷ []) ∙ ap (λ (l : List (ℕ × ℕ)). l ++ shape z ∷ []) (map-append shape hand (y ∷ []))

@@ -12,4 +12,5 @@ pub mod Lanes
 pub mod Coming
 pub mod Wholes
 pub mod Rounds
+pub mod Seeing
 pub mod Trying

@@ -18,9 +18,9 @@ after_last room cell k is end = let e : suc k ≡ k + 1 = omega arith in let f :
     sym (mod_self room) ∙ ap (λ (z : ℕ). z % room) (sym end ∙ sym f ∙ ap suc is) ∙ sym (suc-mod k room) ∙ ap (λ (z : ℕ). z % room) e
 
 -- where a lane's cell lies
-pub cell_small : (n room s me cell : ℕ) → n ≤ 32 → room ≤ 1024 → s < n → me < n → cell < room → (s * n + me) * room + cell < 18446744073709551616
-cell_small n room s me cell hn hr hs hm low = let t : ℕ = s * n in let a : t ≤ 32 * n = mul-le-mul_right n (let le : s ≤ 32 = omega arith in le) in let l : ℕ = t + me in let b : l ≤ 1056 = omega arith in
-    let u : ℕ = l * room in let d : u ≤ 1056 * room = mul-le-mul_right room b in let g : u + cell < 18446744073709551616 = omega arith in g
+pub cell_small : (n room s me cell : ℕ) → n ≤ 64 → room ≤ 1024 → s < n → me < n → cell < room → (s * n + me) * room + cell < 18446744073709551616
+cell_small n room s me cell hn hr hs hm low = let t : ℕ = s * n in let a : t ≤ 64 * n = mul-le-mul_right n (let le : s ≤ 64 = omega arith in le) in let l : ℕ = t + me in let b : l ≤ 4160 = omega arith in
+    let u : ℕ = l * room in let d : u ≤ 4160 * room = mul-le-mul_right room b in let g : u + cell < 18446744073709551616 = omega arith in g
 
 -- a list of numbers and one of cells, with one more of each
 next_cells : (peers room : ℕ) (ks cs : List ℕ) (d k m : ℕ) → d < length ks → d < length cs → m ≡ k % room → ((e : ℕ) → e < peers → get_or cs e 0 ≡ get_or ks e 0 % room)

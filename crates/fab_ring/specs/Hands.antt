@@ -4,6 +4,7 @@
 --     held p s              the places in hand for the frame of s that is open
 --     Fits                  what a port keeps agrees with what its seat knows
 --     Rounds                the cells of the next frames are those of their numbers
+--     Sees                  the counts of frames given back that a port keeps are those that its seat saw last
 --     Told                  the commands and buffers that a port keeps say its open frames
 --     Ends                  the heads that a port keeps are those of the last frames posted and taken
 --     Comes                 an open frame may come behind those taken
@@ -92,6 +93,11 @@ pub record Rounds (peers room : ℕ) (puts gots put_cells got_cells : List ℕ) 
   pub all_got_cells : length got_cells ≡ peers
   pub each_put_cell : (d : ℕ) → d < peers → slice_index put_cells d ≡ slice_index puts d % room
   pub each_got_cell : (s : ℕ) → s < peers → slice_index got_cells s ≡ slice_index gots s % room
+
+-- how many of the frames posted to each peer were seen given back
+pub record Sees (peers : ℕ) (seen : List ℕ) (p : Part) : Type 0 where
+  pub all_seen : length seen ≡ peers
+  pub each_seen : (d : ℕ) → d < peers → (slice_index seen d ≡ (out_at p d).got_seen) × ((out_at p d).got_seen ≤ length (out_at p d).posted)
 
 -- a command and a buffer say a frame
 abbrev pub Tells : Sent → Command → List ℕ → Type 0

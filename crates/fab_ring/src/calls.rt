@@ -11,12 +11,9 @@ ghost use Rattle.fab_ring.specs.Ports.{part_of, peers_of, room_of, pool_of, cloc
 
 use crate::port::RingPort;
 use crate::receiving::{Look, Oldest, free_pooled, open_next};
-use crate::sending::{Next, send_next};
+use crate::sending::{MOST, Next, Tally, hold_next, send_next};
 use fab_base::{FrameHead, FrameRef};
 use fab_link::PostRefused;
-
-/// A frame's number is at most this.
-const MOST: u64 = 1 << 62;
 
 /// The cell behind this one, round a lane of so many.
 fn cell_after(cell: u64, room: u64) -> u64
@@ -41,8 +38,8 @@ fn overwrite(end: &mut Option<FrameHead>, head: &FrameHead)
 }
 
 impl RingPort {
-    /// Posts a frame where a look shows room for it, and one try on each slot of the peer's pool finds a
-    /// free one where it needs one.
+    /// Posts a frame where there is room for it, by what was seen last or else by a look, and one try on each
+    /// slot of the peer's pool finds a free one where it needs one.
     pub(crate) fn send(
         &mut self,
         dest: u32,
@@ -62,10 +59,20 @@ impl RingPort {
             × (64 < length bytes.now) × IsTried (out_at (part_of self.old) dest) (pool_of self.old) ts f
             × (part_of self.new ≡ with_out (part_of self.old) dest (tried_out (saw_room (out_at (part_of self.old) dest) r) ts f false None) (part_of self.old).moves) }
         ensures memory { result ≢ Err PostRefused.NoMemory }
+        ensures unlooked { length (out_at (part_of self.old) dest).posted < (out_at (part_of self.old) dest).got_seen + room_of self.old → clock_of self.old < most
+            → (out_at (part_of self.new) dest).got_seen ≡ (out_at (part_of self.old) dest).got_seen }
     {
         let (me, to) = (self.me as u64, dest as u64);
-        let got = self.fabric.look_got(&mut self.seat, 0, me, to);
         let put = self.puts[dest as usize];
+        let tally = Tally {
+            me,
+            dest: to,
+            put,
+            seen: self.gots_seen[dest as usize],
+            clock: self.clock,
+        };
+        let got = hold_next(&self.fabric, &mut self.seat, &tally);
+        self.gots_seen[dest as usize] = got;
         let room = self.fabric.room();
         if put - got >= room || self.clock >= MOST {
             return Err(PostRefused::LaneFull);

@@ -65,13 +65,16 @@ impl Port for RingPort {
         ensures peers { peers_of self.new ≡ peers_of self.old }
         ensures home { table_of self.new ≡ table_of self.old }
 
-        // The look of this call showed a full lane, or the frame's number would be too great, exactly where the
-        // lane is called full; and each slot of the peer's pool was tried in it and found taken, exactly where
-        // the pool is.
+        // The last look showed a full lane, or the frame's number would be too great, exactly where the lane is
+        // called full; and each slot of the peer's pool was tried in this call and found taken, exactly where
+        // the pool is. Where what the look before had shown leaves room, this call makes none; so a lane that is
+        // called full was looked at in this call.
         ensures full { IsErrOf result PostRefused.LaneFull
             → (length (out_of self.old dest).frames ≡ got_seen self.new dest + room_of self.old) ⊎ (most ≤ clock_of self.old) }
         ensures room { result ≢ Err PostRefused.LaneFull
             → (length (out_of self.old dest).frames < got_seen self.new dest + room_of self.old) × (clock_of self.old < most) }
+        ensures unlooked { length (out_of self.old dest).frames < got_seen self.old dest + room_of self.old → clock_of self.old < most
+            → got_seen self.new dest ≡ got_seen self.old dest }
         ensures each_slot { IsErrOf result PostRefused.PoolFull → (64 < length bytes.now) × (tries self.new dest ≡ one_more (tries self.old dest)) }
         ensures some_slot { result ≢ Err PostRefused.PoolFull
             → (j : ℕ) × (j < pool_of self.old) × (slice_index (tries self.new dest) j ≡ slice_index (tries self.old dest) j) }

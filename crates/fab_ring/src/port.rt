@@ -3,7 +3,7 @@ ghost use Rattle.std.specs.Prelude.{◌≡◌, [], length};
 ghost use Rattle.std.specs.Arc.{arc_value};
 ghost use Rattle.fab_table.specs.Views.{part_at, everyone};
 ghost use Rattle.fab_table.specs.Seats.{IsOf};
-ghost use Rattle.fab_ring.specs.Hands.{shapes, Fits, Rounds, Told, Ends, Comes};
+ghost use Rattle.fab_ring.specs.Hands.{shapes, Fits, Rounds, Sees, Told, Ends, Comes};
 
 use fab_base::{Buf, FrameHead};
 use fab_table::{Command, Fabric, PeerSeat};
@@ -24,6 +24,8 @@ pub struct RingPort {
     /// By peer: how many frames were posted to it, and taken of it.
     pub(crate) puts: Vec<u64>,
     pub(crate) gots: Vec<u64>,
+    /// By peer: how many of the frames posted to it were given back when a look last showed that.
+    pub(crate) gots_seen: Vec<u64>,
     /// By peer: the cell of the next frame to it, and of the next of it, among those of the lane.
     pub(crate) put_cells: Vec<u64>,
     pub(crate) got_cells: Vec<u64>,
@@ -39,6 +41,7 @@ pub struct RingPort {
     ghost at: { IsOf (arc_value fabric) seat × (length seat.seat.me.0.parts ≡ 1) },
     ghost fits: { Fits me (arc_value fabric).peers (arc_value fabric).room (arc_value fabric).pool clock turn puts.items gots.items opened.items lent.items (part_at seat.seat.me.0 0) (shapes seat.seat.me.1) },
     ghost rounds: { Rounds (arc_value fabric).peers (arc_value fabric).room puts.items gots.items put_cells.items got_cells.items },
+    ghost sees: { Sees (arc_value fabric).peers gots_seen.items (part_at seat.seat.me.0 0) },
     ghost told: { Told (arc_value fabric).peers commands.items buffers.items (part_at seat.seat.me.0 0) },
     ghost ends: { Ends (arc_value fabric).peers posted_ends.items taken_ends.items (part_at seat.seat.me.0 0) },
     ghost comes: { ∥ Comes (part_at seat.seat.me.0 0) ∥₁ },

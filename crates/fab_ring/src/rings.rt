@@ -60,6 +60,7 @@ impl RingPort {
         let peers = fabric.peers() as usize;
         let puts = Vec::from_elem(alloc, 0u64, peers)?;
         let gots = Vec::from_elem(alloc, 0u64, peers)?;
+        let gots_seen = Vec::from_elem(alloc, 0u64, peers)?;
         let put_cells = Vec::from_elem(alloc, 0u64, peers)?;
         let got_cells = Vec::from_elem(alloc, 0u64, peers)?;
         let opened = Vec::from_elem(alloc, false, peers)?;
@@ -76,6 +77,7 @@ impl RingPort {
             turn: 0,
             puts,
             gots,
+            gots_seen,
             put_cells,
             got_cells,
             opened,
@@ -92,7 +94,7 @@ impl Rings {
     /// The lanes between so many peers, of `lane` frames each, and a pool of so many slots of 4,096 bytes for
     /// each peer. All memory of the lanes is taken here.
     pub fn new(alloc: Global, peers: u32, lane: u32, pool: u32) -> Result<Rings, NoMemory>
-        requires peers { (0 < peers) × (peers ≤ 32) }
+        requires peers { (0 < peers) × (peers ≤ 64) }
         requires lane { (0 < lane) × (lane ≤ 1024) }
         requires pool { (0 < pool) × (pool ≤ 1024) }
         ensures { IfOk result (λ r. (rings_peers r ≡ peers) × (rings_room r ≡ lane) × (rings_pool r ≡ pool)) }

@@ -7,13 +7,27 @@ ghost use Rattle.fab_table.specs.declared.kinds.Command.{Command};
 ghost use Rattle.fab_table.specs.declared.kinds.Slot.TheVariants.{Cell, Pool};
 ghost use Rattle.fab_table.specs.Views.{frames_of, with_part, with_out, posted_one};
 ghost use Rattle.fab_table.specs.Rule.{greatest};
-ghost use Rattle.fab_table.specs.Plays.{next_cell, slot_home, new_out_view, post_view};
-ghost use Rattle.fab_table.specs.Seats.{IsOf, IsSame, carried, view_of_seat, sat, part_of, out_of, named};
+ghost use Rattle.fab_table.specs.Plays.{SawGot, most, next_cell, slot_home, new_out_view, post_view};
+ghost use Rattle.fab_table.specs.Seats.{IsOf, IsSame, IsAt, carried, view_of_seat, sat, part_of, out_of, named};
 ghost use Rattle.fab_ring.specs.Tries.{IsTried, IsTriedFrom, IsMissed, IsSent, tried_out, sent_as};
 ghost use Rattle.fab_ring.specs.Alone.{IsAlone};
 
 use fab_base::FrameHead;
 use fab_table::{Fabric, PeerSeat};
+
+/// A frame's number is at most this.
+pub(crate) const MOST: u64 = 1 << 62;
+
+/// What a port keeps of the lane to a peer: how many frames were posted, and how many of them were seen given
+/// back; and the port's clock.
+#[derive(Clone, Copy, Drop)]
+pub(crate) struct Tally {
+    pub me: u64,
+    pub dest: u64,
+    pub put: u64,
+    pub seen: u64,
+    pub clock: u64,
+}
 
 /// Where the next frame to a peer goes: how many were posted before, its number, its cell among those of
 /// the lane, and that cell's place.
@@ -25,6 +39,26 @@ pub(crate) struct Next {
     pub number: u64,
     pub cell: u64,
     pub place: usize,
+}
+
+/// Where there is room for one more frame, its cell comes into hand. The word of the receiver, which it has most
+/// likely just written, is looked at only where what was seen of it last leaves no room. Answers how many
+/// frames were given back, as was seen last.
+pub(crate) fn hold_next(fabric: &Fabric, seat: &mut PeerSeat, tally: &Tally) -> u64
+    requires seat { IsOf fabric.now seat.old × IsAt fabric.now seat.old 0 tally.now.me × (tally.now.dest < fabric.now.peers) }
+    requires room { (part_of seat.old 0).room ≡ fabric.now.room }
+    requires idle { (out_of seat.old 0 tally.now.dest).writing ≡ false }
+    requires counts { (tally.now.put ≡ length (out_of seat.old 0 tally.now.dest).posted) × (tally.now.seen ≡ (out_of seat.old 0 tally.now.dest).got_seen) × (tally.now.seen ≤ tally.now.put) }
+    requires clock { tally.now.clock ≡ greatest 0 (part_of seat.old 0).moves }
+    ensures seat { IsSame seat.old seat.new }
+    ensures view { SawGot (sat seat.old) result (sat seat.new) 0 tally.now.dest }
+    ensures unlooked { tally.now.put < tally.now.seen + fabric.now.room → tally.now.clock < most → result ≡ tally.now.seen }
+{
+    if tally.put - tally.seen < fabric.room() && tally.clock < MOST {
+        fabric.reserve(seat, 0, tally.me, tally.dest);
+        return tally.seen;
+    }
+    fabric.look_got(seat, 0, tally.me, tally.dest)
 }
 
 /// Tries the slots of the peer's pool from one on and before another, until one was free. The cell in hand

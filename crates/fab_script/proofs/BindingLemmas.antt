@@ -5,7 +5,8 @@ use Rattle.std.specs.List.{concat, reduce, list_all, list_any}
 use Rattle.std.proofs.lemmas.Bool.Decides.{nat_tests}
 use Rattle.std.proofs.lemmas.List.{map-append}
 use Rattle.std.proofs.lemmas.List.FromFn.{length-map-range_with_len}
-use Rattle.fab_base.specs.Offer.{limits_of}
+use Rattle.fab_base.specs.Offer.{limits_of, most_peers}
+use Rattle.fab_base.specs.declared.caps.Api.{Api}
 use Rattle.fab_base.specs.declared.caps.Hints.{Hints}
 use Rattle.fab_base.specs.declared.caps.Info.{Info}
 use Rattle.fab_base.specs.declared.limits.Size.{Size}
@@ -31,6 +32,7 @@ use Rattle.fab_grammar.specs.Lines.{op_of}
 use Rattle.fab_grammar.specs.Rules.{has_id, is_declared, is_set, is_words, is_number, is_limit, is_late, is_one_too_many, is_refused as is_not_granted, kind_rules, setting_rules, with_setting, with_peer, with_call, with_kind}
 use Rattle.fab_grammar.specs.Settings.{a_file, between, wishing, size_of, payload_setting, caps_setting, selective_setting, wish_of, setting_of, peer_of, hints_of}
 use Rattle.fab_grammar.specs.Verbs.{kind_of}
+use Rattle.fab_grammar.specs.Versions.{version_of, most_bytes}
 use Rattle.fab_grammar.proofs.PartLemmas.{and_true, distinct_push}
 use Rattle.fab_grammar.proofs.RuleLemmas.{rest_of, first_fails}
 use Rattle.fab_words.specs.Faults.{◌&◌, map_ok}
@@ -156,24 +158,24 @@ at_least_one true n m within k e =
     subst (λ i. 0 < i) same one
 at_least_one false n m within k e = cc
 
-between_one : (said : Result ℕ Fault) (k : ℕ) → between (limits_of size.Peers) said ≡ Ok k → 0 < k
-between_one (Ok n) k e = at_least_one (leb 1 n && leb n 32) n 32 refl k e
-between_one (Err fault) k e = cc
+between_one : (api : Api) (said : Result ℕ Fault) (k : ℕ) → between (limits_of api size.Peers) said ≡ Ok k → 0 < k
+between_one api (Ok n) k e = at_least_one (leb 1 n && leb n (most_peers api)) n (most_peers api) refl k e
+between_one api (Err fault) k e = cc
 
-some_peers : (args : List (List ℕ)) (k : ℕ) → size_of size.Peers args ≡ Ok k → 0 < k
+some_peers : (api : Api) (args : List (List ℕ)) (k : ℕ) → size_of api size.Peers args ≡ Ok k → 0 < k
 unfolding size_of
-some_peers (word ∷ []) k e = between_one (read_number word) k e
-some_peers _ k e = cc
+some_peers api (word ∷ []) k e = between_one api (read_number word) k e
+some_peers api _ k e = cc
 
-wish_fits : (verb : Verb) (args : List (List ℕ)) (payloads : List Payload) (s : Setting) → wish_of verb args ≡ Ok s → Fits payloads s
+wish_fits : (api : Api) (verb : Verb) (args : List (List ℕ)) (payloads : List Payload) (s : Setting) → wish_of api verb args ≡ Ok s → Fits payloads s
 unfolding wish_of
-wish_fits verb.Peers args payloads s e = made payloads Peers (size_of size.Peers args) s (some_peers args) e
-wish_fits verb.Lane args payloads s e = made payloads (Wish size.Lane) (size_of size.Lane args) s (λ n said. tt) e
-wish_fits verb.Pool args payloads s e = made payloads (Wish size.Pool) (size_of size.Pool args) s (λ n said. tt) e
-wish_fits verb.Tx args payloads s e = made payloads (Wish size.Tx) (size_of size.Tx args) s (λ n said. tt) e
-wish_fits verb.Rx args payloads s e = made payloads (Wish size.Rx) (size_of size.Rx args) s (λ n said. tt) e
-wish_fits verb.Cq args payloads s e = made payloads (Wish size.Cq) (size_of size.Cq args) s (λ n said. tt) e
-wish_fits _ args payloads s e = cc
+wish_fits api verb.Peers args payloads s e = made payloads Peers (size_of api size.Peers args) s (some_peers api args) e
+wish_fits api verb.Lane args payloads s e = made payloads (Wish size.Lane) (size_of api size.Lane args) s (λ n said. tt) e
+wish_fits api verb.Pool args payloads s e = made payloads (Wish size.Pool) (size_of api size.Pool args) s (λ n said. tt) e
+wish_fits api verb.Tx args payloads s e = made payloads (Wish size.Tx) (size_of api size.Tx args) s (λ n said. tt) e
+wish_fits api verb.Rx args payloads s e = made payloads (Wish size.Rx) (size_of api size.Rx args) s (λ n said. tt) e
+wish_fits api verb.Cq args payloads s e = made payloads (Wish size.Cq) (size_of api size.Cq args) s (λ n said. tt) e
+wish_fits api _ args payloads s e = cc
 
 caps_fits : (args : List (List ℕ)) (payloads : List Payload) (s : Setting) → caps_setting args ≡ Ok s → Fits payloads s
 unfolding caps_setting
@@ -187,12 +189,12 @@ selective_fits [] payloads s e =
     subst (Fits payloads) same tt
 selective_fits _ payloads s e = cc
 
-setting_fits : (verb : Verb) (args : List (List ℕ)) (before : Before) (s : Setting) → is_set before verb args ≡ false → setting_of verb args ≡ Ok s → Fits before.payloads s
+setting_fits : (api : Api) (verb : Verb) (args : List (List ℕ)) (before : Before) (s : Setting) → is_set before verb args ≡ false → setting_of api verb args ≡ Ok s → Fits before.payloads s
 unfolding setting_of
-setting_fits verb.Caps args before s fresh e = caps_fits args before.payloads s e
-setting_fits verb.Selective args before s fresh e = selective_fits args before.payloads s e
-setting_fits verb.Payload args before s fresh e = payload_fits args before.payloads s fresh e
-setting_fits verb args before s fresh e = wish_fits verb args before.payloads s e
+setting_fits api verb.Caps args before s fresh e = caps_fits args before.payloads s e
+setting_fits api verb.Selective args before s fresh e = selective_fits args before.payloads s e
+setting_fits api verb.Payload args before s fresh e = payload_fits args before.payloads s fresh e
+setting_fits api verb args before s fresh e = wish_fits api verb args before.payloads s e
 
 wishing_peers : (s : Settings) (size : Size) (n : ℕ) → (wishing s size n).peers ≡ s.peers
 wishing_peers s size.Lane n = refl
@@ -225,21 +227,21 @@ with_call_kept before number (Ok op) kept = record { distinct = kept.distinct; s
 with_call_kept before number (Err fault) kept = kept
 
 -- a setting that breaks no rule was not made before
-fresh_setting : (before : Before) (number : ℕ) (verb : Verb) (args : List (List ℕ)) → first_of (setting_rules before number verb args) ≡ None → is_set before verb args ≡ false
+fresh_setting : (api : Api) (before : Before) (number : ℕ) (verb : Verb) (args : List (List ℕ)) → first_of (setting_rules api before number verb args) ≡ None → is_set before verb args ≡ false
 unfolding setting_rules
-fresh_setting before number verb args e =
-    let said = setting_of verb args in
-    let rest : List (Bool × Why) = (is_words said, why.Words) ∷ (is_number said, why.Number) ∷ (is_limit said || is_late number || is_one_too_many before said, why.Limit) ∷ (is_not_granted said, why.NoData) ∷ [] in
+fresh_setting api before number verb args e =
+    let said = setting_of api verb args in
+    let rest : List (Bool × Why) = (is_words said, why.Words) ∷ (is_number said, why.Number) ∷ (is_limit said || is_late number || is_one_too_many before said, why.Limit) ∷ (is_not_granted api said, why.NoData) ∷ [] in
     first_fails (is_set before verb args) why.Twice rest (rest_of (has_opened before) why.Order ((is_set before verb args, why.Twice) ∷ rest) e)
 
-with_kind_kept : (k : Kind) (before : Before) (number : ℕ) (verb : Verb) (args : List (List ℕ)) → Kept before → first_of (kind_rules k before number verb args) ≡ None → Kept (with_kind k before number verb args)
-with_kind_kept kind.Setting before number verb args kept e =
-    with_setting_kept before (setting_of verb args) kept (λ s. setting_fits verb args before s (fresh_setting before number verb args e))
-with_kind_kept kind.Peer before number verb args kept e = with_peer_kept before (peer_of args) kept
-with_kind_kept kind.Call before number verb args kept e = with_call_kept before number (op_of verb args) kept
+with_kind_kept : (k : Kind) (api : Api) (before : Before) (number : ℕ) (verb : Verb) (args : List (List ℕ)) → Kept before → first_of (kind_rules k api before number verb args) ≡ None → Kept (with_kind k api before number verb args)
+with_kind_kept kind.Setting api before number verb args kept e =
+    with_setting_kept before (setting_of api verb args) kept (λ s. setting_fits api verb args before s (fresh_setting api before number verb args e))
+with_kind_kept kind.Peer api before number verb args kept e = with_peer_kept before (peer_of args) kept
+with_kind_kept kind.Call api before number verb args kept e = with_call_kept before number (op_of (most_bytes api) verb args) kept
 
-header_kept : (before : Before) → Kept before → Kept (record before { has_header = true })
-header_kept before kept = record { distinct = kept.distinct; some = kept.some }
+header_kept : (before : Before) (named : Option Api) → Kept before → Kept (record before { api = named })
+header_kept before named kept = record { distinct = kept.distinct; some = kept.some }
 
 -- ---- the script
 
@@ -250,16 +252,27 @@ as_wished true n e some =
     absurd (omega (arith, zero, some))
 as_wished false n e some = refl
 
-peers_granted : (refused : Bool) (h : Hints) (n : ℕ) (info : Info) → h.peers ≡ Some n → 0 < n → elim refused as (λ _. Option Info) [ true ↦ None | false ↦ Some (granted_info h) ] ≡ Some info → n ≡ info.peers
-peers_granted true h n info wish some e = cc
-peers_granted false h n info wish some e =
-    let same : granted_info h ≡ info = cc in
-    let as_many : granted_size size.Peers (Some n) ≡ n = as_wished (eqb n 0) n refl some in
-    sym as_many ∙ ap (granted_size size.Peers) (sym wish) ∙ ap (λ (i : Info). i.peers) same
+peers_granted : (api : Api) (refused : Bool) (h : Hints) (n : ℕ) (info : Info) → h.peers ≡ Some n → 0 < n → elim refused as (λ _. Option Info) [ true ↦ None | false ↦ Some (granted_info api h) ] ≡ Some info → n ≡ info.peers
+peers_granted api true h n info wish some e = cc
+peers_granted api false h n info wish some e =
+    let same : granted_info api h ≡ info = cc in
+    let as_many : granted_size api size.Peers (Some n) ≡ n = as_wished (eqb n 0) n refl some in
+    sym as_many ∙ ap (granted_size api size.Peers) (sym wish) ∙ ap (λ (i : Info). i.peers) same
 
-grants_peers : (h : Hints) (n : ℕ) (info : Info) → h.peers ≡ Some n → 0 < n → grant (Some h) ≡ Some info → n ≡ info.peers
+grants_peers : (api : Api) (h : Hints) (n : ℕ) (info : Info) → h.peers ≡ Some n → 0 < n → grant api (Some h) ≡ Some info → n ≡ info.peers
 unfolding grant grant_of
-grants_peers h n info wish some e = peers_granted (is_refused h) h n info wish some e
+grants_peers api h n info wish some e = peers_granted api (is_refused api h) h n info wish some e
+
+-- and it is granted in the version that is asked
+version_granted : (api : Api) (refused : Bool) (h : Hints) (info : Info) → elim refused as (λ _. Option Info) [ true ↦ None | false ↦ Some (granted_info api h) ] ≡ Some info → api ≡ info.api
+version_granted api true h info e = cc
+version_granted api false h info e =
+    let same : granted_info api h ≡ info = cc in
+    ap (λ (i : Info). i.api) same
+
+grants_version : (api : Api) (h : Hints) (info : Info) → grant api (Some h) ≡ Some info → api ≡ info.api
+unfolding grant grant_of
+grants_version api h info e = version_granted api (is_refused api h) h info e
 
 hints_peers : (s : Settings) → (hints_of s).peers ≡ s.peers
 unfolding hints_of
@@ -269,21 +282,22 @@ hints_peers s = refl
 pub record IsRead (script : Script) : Type 0 where
   pub lists : length script.peers ≡ script.conf.peers
   pub distinct : is_distinct (map (λ p. p.id) script.payloads) ≡ true
-  pub version : script.version ≡ 1
-  pub granted : grant script.conf.hints ≡ Some script.conf.info
+  pub version : script.version ≡ version_of script.conf.info.api
+  pub granted : grant script.conf.info.api script.conf.hints ≡ Some script.conf.info
   pub peers : script.conf.peers ≡ script.conf.info.peers
 
 pub was_read : (text : List ℕ) (script : Script) → verdict text ≡ Ok script → IsRead script
 was_read text script e =
     let s = spelt text script e in
     let kept : Kept s.after =
-    lines_keep Kept header_kept (λ before number verb args kept none. with_kind_kept (kind_of verb) before number verb args kept none) nothing 1 (lines_of text) s.after (record { distinct = refl; some = λ n none. cc none }) s.lines in
+    lines_keep Kept header_kept (λ api before number verb args kept none. with_kind_kept (kind_of verb) api before number verb args kept none) nothing 1 (lines_of text) s.after (record { distinct = refl; some = λ n none. cc none }) s.lines in
+    let same : s.api ≡ s.info.api = grants_version s.api (hints_of s.after.settings) s.info s.granted in
     subst IsRead s.is (record {
       lists = length-map-range_with_len (λ k. part_of k s.after.items) 0 s.count;
       distinct = kept.distinct;
-      version = refl;
-      granted = s.granted;
-      peers = grants_peers (hints_of s.after.settings) s.count s.info (hints_peers s.after.settings ∙ s.peers) (kept.some s.count s.peers) s.granted;
+      version = ap version_of same;
+      granted = subst (λ api. grant api (Some (hints_of s.after.settings)) ≡ Some s.info) same s.granted;
+      peers = grants_peers s.api (hints_of s.after.settings) s.count s.info (hints_peers s.after.settings ∙ s.peers) (kept.some s.count s.peers) s.granted;
     })
 
 -- a script that was read, with one file for each payload, none of whose lines is outside

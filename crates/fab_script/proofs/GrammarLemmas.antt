@@ -1,7 +1,9 @@
 -- The lines that are left, read one after another.
-use Rattle.std.proofs.Common.{◌≡◌, ℕ, ◌+◌, ◌≤◌, List, [], ◌∷◌, cond, length, map, true, false, Option, Some, None, sym, ap, ◌∙◌, refl, arith}
-use Rattle.std.specs.Prelude.{Ok, Err, unwrap_or}
+use Rattle.std.proofs.Common.{◌≡◌, ℕ, ◌+◌, ◌≤◌, List, [], ◌∷◌, length, map, false, Option, Some, None, sym, ap, ◌∙◌, refl, arith}
+use Rattle.std.specs.Prelude.{Result, Ok, Err, unwrap_or}
+use Rattle.fab_base.specs.declared.caps.Api.{Api}
 use Rattle.fab_base.specs.declared.caps.Info.{Info}
+use Rattle.fab_base.specs.declared.script.Script.{Script}
 use Rattle.fab_base.specs.declared.status.Why.{Why}
 use Rattle.fab_base.specs.declared.status.Why.TheVariants as why
 use Rattle.fab_model.specs.Negotiation.{grant}
@@ -15,7 +17,7 @@ use Rattle.fab_grammar.specs.Rules.{is_late, why_of, with_line}
 use Rattle.std.proofs.lemmas.Bool.Decides.{nat_tests}
 use Rattle.fab_grammar.proofs.RuleLemmas.{in_time}
 use Rattle.fab_script.specs.Parts.{Holds, Answers}
-use Rattle.fab_grammar.specs.Grammar.{script_with, granted, of_peers, read_lines, verdict, then_script, script_said}
+use Rattle.fab_grammar.specs.Grammar.{Refusal, script_with, granted, of_peers, read_lines, verdict, then_script, script_said}
 
 -- The lines before are taken: what they say, which the reader has, and what the lines that are left make of it.
 pub record Progress (bytes : List ℕ) (left : ℕ × List (List ℕ)) (reader : Reader) : Type 0 where
@@ -26,31 +28,31 @@ pub record Progress (bytes : List ℕ) (left : ℕ × List (List ℕ)) (reader :
   pub few : left.0 ≤ 100000
 
 -- where no line is refused
-pub script_made : (count n : ℕ) (info : Info) (reader : Reader) (before : Before) → Holds reader before → reader.has_header ≡ true → reader.settings.peers ≡ Some n → grant (Some (hints_of reader.settings)) ≡ Some info → script_said count before ≡ Ok (script_with (conf_of reader.settings n info) reader.payloads.items (map (λ part. part.items) reader.parts.lines.items))
+pub script_made : (api : Api) (count n : ℕ) (info : Info) (reader : Reader) (before : Before) → Holds reader before → reader.api ≡ Some api → reader.settings.peers ≡ Some n → grant api (Some (hints_of reader.settings)) ≡ Some info → script_said count before ≡ Ok (script_with api (conf_of reader.settings n info) reader.payloads.items (map (λ part. part.items) reader.parts.lines.items))
 unfolding script_said
-script_made count n info reader before h header peers given =
+script_made api count n info reader before h header peers given =
     let said : before.settings.peers ≡ Some n = ap (λ s. s.peers) (sym h.settings) ∙ peers in
-    let grants : grant (Some (hints_of before.settings)) ≡ Some info = ap (λ s. grant (Some (hints_of s))) (sym h.settings) ∙ given in
+    let grants : grant api (Some (hints_of before.settings)) ≡ Some info = ap (λ s. grant api (Some (hints_of s))) (sym h.settings) ∙ given in
     let parts : map (λ part. part.items) reader.parts.lines.items ≡ parts_of n before.items =
     h.parts.lines ∙ ap (λ o. parts_of (unwrap_or o 0) before.items) said in
-    let has : before.has_header ≡ true = sym h.header ∙ header in
-    ap (λ b. cond b (of_peers count before before.settings.peers) (Err (0, why.Header))) has
-    ∙ (ap (of_peers count before) said ∙ (ap (granted count before n) grants
-    ∙ (ap (λ s. Ok (script_with (conf_of s n info) before.payloads (parts_of n before.items))) (sym h.settings)
-    ∙ (ap (λ p. Ok (script_with (conf_of reader.settings n info) p (parts_of n before.items))) (sym h.payloads)
-    ∙ ap (λ l. Ok (script_with (conf_of reader.settings n info) reader.payloads.items l)) (sym parts)))))
+    let has : before.api ≡ Some api = sym h.header ∙ header in
+    ap (λ o. elim o as (λ _. Result Script Refusal) [ None ↦ Err (0, why.Header) | Some named ↦ of_peers named count before before.settings.peers ]) has
+    ∙ (ap (of_peers api count before) said ∙ (ap (granted api count before n) grants
+    ∙ (ap (λ s. Ok (script_with api (conf_of s n info) before.payloads (parts_of n before.items))) (sym h.settings)
+    ∙ (ap (λ p. Ok (script_with api (conf_of reader.settings n info) p (parts_of n before.items))) (sym h.payloads)
+    ∙ ap (λ l. Ok (script_with api (conf_of reader.settings n info) reader.payloads.items l)) (sym parts)))))
 
-pub script_not_granted : (count n : ℕ) (reader : Reader) (before : Before) → Holds reader before → reader.has_header ≡ true → reader.settings.peers ≡ Some n → grant (Some (hints_of reader.settings)) ≡ None → script_said count before ≡ Err (count, why.NoData)
+pub script_not_granted : (api : Api) (count n : ℕ) (reader : Reader) (before : Before) → Holds reader before → reader.api ≡ Some api → reader.settings.peers ≡ Some n → grant api (Some (hints_of reader.settings)) ≡ None → script_said count before ≡ Err (count, why.NoData)
 unfolding script_said
-script_not_granted count n reader before h header peers given =
+script_not_granted api count n reader before h header peers given =
     let said : before.settings.peers ≡ Some n = ap (λ s. s.peers) (sym h.settings) ∙ peers in
-    let grants : grant (Some (hints_of before.settings)) ≡ None = ap (λ s. grant (Some (hints_of s))) (sym h.settings) ∙ given in
-    let has : before.has_header ≡ true = sym h.header ∙ header in
-    ap (λ b. cond b (of_peers count before before.settings.peers) (Err (0, why.Header))) has ∙ (ap (of_peers count before) said ∙ ap (granted count before n) grants)
+    let grants : grant api (Some (hints_of before.settings)) ≡ None = ap (λ s. grant api (Some (hints_of s))) (sym h.settings) ∙ given in
+    let has : before.api ≡ Some api = sym h.header ∙ header in
+    ap (λ o. elim o as (λ _. Result Script Refusal) [ None ↦ Err (0, why.Header) | Some named ↦ of_peers named count before before.settings.peers ]) has ∙ (ap (of_peers api count before) said ∙ ap (granted api count before n) grants)
 
-pub script_without_peers : (count : ℕ) (reader : Reader) (before : Before) → Holds reader before → reader.has_header ≡ true → reader.settings.peers ≡ None → script_said count before ≡ Err (count, why.Missing)
+pub script_without_peers : (api : Api) (count : ℕ) (reader : Reader) (before : Before) → Holds reader before → reader.api ≡ Some api → reader.settings.peers ≡ None → script_said count before ≡ Err (count, why.Missing)
 unfolding script_said
-script_without_peers count reader before h header peers =
+script_without_peers api count reader before h header peers =
     let said : before.settings.peers ≡ None = ap (λ s. s.peers) (sym h.settings) ∙ peers in
     rw (sym h.header, header, said) refl
 

@@ -2,6 +2,7 @@
 use Rattle.std.proofs.Common.{◌≡◌, ℕ, Bool, true, false, eqb, List, [], ◌∷◌, Option, Some, None, sym, ap, ◌∙◌, refl}
 use Rattle.std.specs.Prelude.{Result, Ok, Err, ok_or, is_some, is_none}
 use Rattle.std.specs.List.{list_any}
+use Rattle.fab_base.specs.declared.caps.Api.{Api}
 use Rattle.fab_base.specs.declared.script.LineOp.{LineOp}
 use Rattle.fab_base.specs.declared.status.Why.{Why}
 use Rattle.fab_base.specs.declared.status.Why.TheVariants as why
@@ -23,6 +24,7 @@ use Rattle.fab_grammar.specs.declared.verbs.Verb.TheVariants as verb
 use Rattle.fab_words.specs.Faults.{map_ok, ◌&◌}
 use Rattle.fab_grammar.specs.Before.{Before, has_opened, opened_by}
 use Rattle.fab_grammar.specs.Lines.{op_of}
+use Rattle.fab_grammar.specs.Versions.{most_bytes}
 use Rattle.fab_grammar.specs.Settings.{a_file, size_of, caps_setting, selective_setting, payload_setting, wish_of, setting_of, peer_of}
 use Rattle.fab_words.specs.Words.{first_of, number_of, read_number, read_text}
 use Rattle.fab_grammar.specs.Rules.{why_from, is_late, is_set, is_fresh, is_one_too_many, is_refused, setting_rules, with_setting, names_one, is_again, is_no_peer, peer_rules, is_too_much, call_rules, word_rules, with_words, why_of, with_line}
@@ -58,9 +60,9 @@ named_fresh peers (word ∷ []) k a e = ap (names_one peers) (sym (read_is (numb
 named_fresh peers (word ∷ next ∷ args) k a e = cc
 
 -- a line that a peer does
-pub call_taken : (before : Before) (number : ℕ) (verb : Verb) (args : List (List ℕ)) (op : LineOp) → has_opened before ≡ true → op_of verb args ≡ Ok op → is_late number ≡ false → is_too_much before (Ok op) ≡ false → first_of (call_rules before number verb args) ≡ None
+pub call_taken : (api : Api) (before : Before) (number : ℕ) (verb : Verb) (args : List (List ℕ)) (op : LineOp) → has_opened before ≡ true → op_of (most_bytes api) verb args ≡ Ok op → is_late number ≡ false → is_too_much api before (Ok op) ≡ false → first_of (call_rules api before number verb args) ≡ None
 unfolding call_rules
-call_taken before number verb args op opened e late few = rw (opened, e, late, few) refl
+call_taken api before number verb args op opened e late few = rw (opened, e, late, few) refl
 
 -- a setting
 fresh_unless_made : (settings : Settings) (o : Option ℕ) → settings.peers ≡ o → is_some o ≡ false → is_none settings.peers ≡ true
@@ -117,26 +119,26 @@ selective_fresh [] settings setting e =
     ap (is_fresh settings) (sym same)
 selective_fresh (a ∷ args) settings setting e = cc
 
-pub setting_fresh : (before : Before) (verb : Verb) (args : List (List ℕ)) (setting : Setting) → setting_of verb args ≡ Ok setting → is_set before verb args ≡ false → is_fresh before.settings setting ≡ true
+pub setting_fresh : (api : Api) (before : Before) (verb : Verb) (args : List (List ℕ)) (setting : Setting) → setting_of api verb args ≡ Ok setting → is_set before verb args ≡ false → is_fresh before.settings setting ≡ true
 unfolding setting_of wish_of
-setting_fresh before verb.Peers args setting e fresh = says_peers (size_of size.Peers args) true before.settings setting e (fresh_unless_made before.settings before.settings.peers refl fresh)
-setting_fresh before verb.Lane args setting e fresh = says_wish size.Lane (size_of size.Lane args) before.settings setting e
-setting_fresh before verb.Pool args setting e fresh = says_wish size.Pool (size_of size.Pool args) before.settings setting e
-setting_fresh before verb.Tx args setting e fresh = says_wish size.Tx (size_of size.Tx args) before.settings setting e
-setting_fresh before verb.Rx args setting e fresh = says_wish size.Rx (size_of size.Rx args) before.settings setting e
-setting_fresh before verb.Cq args setting e fresh = says_wish size.Cq (size_of size.Cq args) before.settings setting e
-setting_fresh before verb.Caps args setting e fresh = caps_fresh args before.settings setting e
-setting_fresh before verb.Selective args setting e fresh = selective_fresh args before.settings setting e
-setting_fresh before verb.Payload args setting e fresh = payload_fresh args before.settings setting e
-setting_fresh before _ args setting e fresh = cc
+setting_fresh api before verb.Peers args setting e fresh = says_peers (size_of api size.Peers args) true before.settings setting e (fresh_unless_made before.settings before.settings.peers refl fresh)
+setting_fresh api before verb.Lane args setting e fresh = says_wish size.Lane (size_of api size.Lane args) before.settings setting e
+setting_fresh api before verb.Pool args setting e fresh = says_wish size.Pool (size_of api size.Pool args) before.settings setting e
+setting_fresh api before verb.Tx args setting e fresh = says_wish size.Tx (size_of api size.Tx args) before.settings setting e
+setting_fresh api before verb.Rx args setting e fresh = says_wish size.Rx (size_of api size.Rx args) before.settings setting e
+setting_fresh api before verb.Cq args setting e fresh = says_wish size.Cq (size_of api size.Cq args) before.settings setting e
+setting_fresh api before verb.Caps args setting e fresh = caps_fresh args before.settings setting e
+setting_fresh api before verb.Selective args setting e fresh = selective_fresh args before.settings setting e
+setting_fresh api before verb.Payload args setting e fresh = payload_fresh args before.settings setting e
+setting_fresh api before _ args setting e fresh = cc
 
-setting_rules_none : (before : Before) (number : ℕ) (verb : Verb) (args : List (List ℕ)) (setting : Setting) → has_opened before ≡ false → is_set before verb args ≡ false → setting_of verb args ≡ Ok setting → is_late number ≡ false → is_one_too_many before (Ok setting) ≡ false → is_refused (Ok setting) ≡ false → first_of (setting_rules before number verb args) ≡ None
+setting_rules_none : (api : Api) (before : Before) (number : ℕ) (verb : Verb) (args : List (List ℕ)) (setting : Setting) → has_opened before ≡ false → is_set before verb args ≡ false → setting_of api verb args ≡ Ok setting → is_late number ≡ false → is_one_too_many before (Ok setting) ≡ false → is_refused api (Ok setting) ≡ false → first_of (setting_rules api before number verb args) ≡ None
 unfolding setting_rules
-setting_rules_none before number verb args setting closed unset said late few granted = rw (closed, unset, said, late, few, granted) refl
+setting_rules_none api before number verb args setting closed unset said late few granted = rw (closed, unset, said, late, few, granted) refl
 
-pub setting_answer : (before : Before) (number : ℕ) (verb : Verb) (args : List (List ℕ)) (setting : Setting) (reader : Reader) (result : Result (Unit {0}) Refused) → has_opened before ≡ false → is_set before verb args ≡ false → setting_of verb args ≡ Ok setting → is_late number ≡ false → is_one_too_many before (Ok setting) ≡ false → is_refused (Ok setting) ≡ false → Answers None (with_setting before (Ok setting)) reader result → Answers (first_of (setting_rules before number verb args)) (with_setting before (setting_of verb args)) reader result
-setting_answer before number verb args setting reader result closed unset said late few granted answer =
-    let none = setting_rules_none before number verb args setting closed unset said late few granted in
+pub setting_answer : (api : Api) (before : Before) (number : ℕ) (verb : Verb) (args : List (List ℕ)) (setting : Setting) (reader : Reader) (result : Result (Unit {0}) Refused) → has_opened before ≡ false → is_set before verb args ≡ false → setting_of api verb args ≡ Ok setting → is_late number ≡ false → is_one_too_many before (Ok setting) ≡ false → is_refused api (Ok setting) ≡ false → Answers None (with_setting before (Ok setting)) reader result → Answers (first_of (setting_rules api before number verb args)) (with_setting before (setting_of api verb args)) reader result
+setting_answer api before number verb args setting reader result closed unset said late few granted answer =
+    let none = setting_rules_none api before number verb args setting closed unset said late few granted in
     rw (none, said) answer
 
 -- a line of text, by its words

@@ -4,6 +4,7 @@ use Rattle.std.specs.Prelude.{Result, Ok, Err, IfOk}
 use Rattle.std.specs.List.{list_any}
 use Rattle.std.proofs.lemmas.Bool.{ltb-false}
 use Rattle.fab_base.specs.declared.script.Script.{Script}
+use Rattle.fab_base.specs.declared.caps.Api.{Api}
 use Rattle.fab_base.specs.declared.caps.Hints.{Hints}
 use Rattle.fab_base.specs.declared.caps.Info.{Info}
 use Rattle.fab_base.specs.declared.limits.Size.TheVariants as size
@@ -36,13 +37,13 @@ wished_least : (least greatest default n : ℕ) (b : Bool) → least ≤ default
 wished_least least greatest default n true within e = within
 wished_least least greatest default n false within e = ltb-false n least (left_false (ltb n least) (ltb greatest n) e)
 
-cq_least : (wanted : Option ℕ) → wish_is_refused size.Cq wanted ≡ false → 2 ≤ granted_size size.Cq wanted
-cq_least None e = omega arith
-cq_least (Some n) e = wished_least 2 65536 1024 n (eqb n 0) (omega arith) e
+cq_least : (api : Api) (wanted : Option ℕ) → wish_is_refused api size.Cq wanted ≡ false → 2 ≤ granted_size api size.Cq wanted
+cq_least api None e = omega arith
+cq_least api (Some n) e = wished_least 2 65536 1024 n (eqb n 0) (omega arith) e
 
-log_least : (wanted : Option ℕ) → wish_is_refused size.Log wanted ≡ false → 4 ≤ granted_size size.Log wanted
-log_least None e = omega arith
-log_least (Some n) e = wished_least 4 65536 4096 n (eqb n 0) (omega arith) e
+log_least : (api : Api) (wanted : Option ℕ) → wish_is_refused api size.Log wanted ≡ false → 4 ≤ granted_size api size.Log wanted
+log_least api None e = omega arith
+log_least api (Some n) e = wished_least 4 65536 4096 n (eqb n 0) (omega arith) e
 
 -- none of the tests fails where all together do not
 seventh : (a b c d e f g h i j : Bool) → (a || b || c || d || e || f || g || h || i || j) ≡ false → (g ≡ false) × (h ≡ false)
@@ -56,22 +57,22 @@ seventh false false false false false false true h i j is = absurd (cc)
 seventh false false false false false false false true i j is = absurd (cc)
 seventh false false false false false false false false i j is = (refl, refl)
 
-granted_least : (refused : Bool) (h : Hints) (info : Info) → is_refused h ≡ refused → elim refused as (λ _. Option Info) [ true ↦ None | false ↦ Some (granted_info h) ] ≡ Some info → (2 ≤ info.cq) × (4 ≤ info.log)
-granted_least true h info is e = cc
-granted_least false h info is e =
-    let same : granted_info h ≡ info = cc in
-    let tests = seventh (list_any (is_not_offered h.caps) all_caps) (wish_is_refused size.Peers h.peers) (wish_is_refused size.Lane h.lane) (wish_is_refused size.Pool h.pool) (wish_is_refused size.Tx h.tx) (wish_is_refused size.Rx h.rx) (wish_is_refused size.Cq h.cq) (wish_is_refused size.Log h.log) (wish_is_refused size.Inject h.inject) (wish_is_refused size.Message h.message) is in
-    subst (λ i. (2 ≤ i.cq) × (4 ≤ i.log)) same (cq_least h.cq tests.0, log_least h.log tests.1)
+granted_least : (api : Api) (refused : Bool) (h : Hints) (info : Info) → is_refused api h ≡ refused → elim refused as (λ _. Option Info) [ true ↦ None | false ↦ Some (granted_info api h) ] ≡ Some info → (2 ≤ info.cq) × (4 ≤ info.log)
+granted_least api true h info is e = cc
+granted_least api false h info is e =
+    let same : granted_info api h ≡ info = cc in
+    let tests = seventh (list_any (is_not_offered api h.caps) all_caps) (wish_is_refused api size.Peers h.peers) (wish_is_refused api size.Lane h.lane) (wish_is_refused api size.Pool h.pool) (wish_is_refused api size.Tx h.tx) (wish_is_refused api size.Rx h.rx) (wish_is_refused api size.Cq h.cq) (wish_is_refused api size.Log h.log) (wish_is_refused api size.Inject h.inject) (wish_is_refused api size.Message h.message) is in
+    subst (λ i. (2 ≤ i.cq) × (4 ≤ i.log)) same (cq_least api h.cq tests.0, log_least api h.log tests.1)
 
-info_sized : (h : Hints) (info : Info) → grant (Some h) ≡ Some info → (2 ≤ info.cq) × (4 ≤ info.log)
+info_sized : (api : Api) (h : Hints) (info : Info) → grant api (Some h) ≡ Some info → (2 ≤ info.cq) × (4 ≤ info.log)
 unfolding grant grant_of
-info_sized h info e = granted_least (is_refused h) h info refl e
+info_sized api h info e = granted_least api (is_refused api h) h info refl e
 
 -- what the program can rely on
 script_sized : (bytes : List ℕ) (script : Script) → verdict bytes ≡ Ok script → IsSized script
 script_sized bytes script e =
     let s = spelt bytes script e in
-    subst IsSized s.is (info_sized (hints_of s.after.settings) s.info s.granted)
+    subst IsSized s.is (info_sized s.api (hints_of s.after.settings) s.info s.granted)
 
 pub verdict_sized : (bytes : List ℕ) (result : Result Script ParseRefused) → IsVerdict (verdict bytes) result → IfOk result IsSized
 verdict_sized bytes (Ok script) e = script_sized bytes script e

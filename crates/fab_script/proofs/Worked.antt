@@ -2,6 +2,7 @@
 -- text is named, and whose lines are whose, stands in the rows of fab_grammar.
 use Rattle.std.proofs.Common.{◌≡◌, ℕ, List, [], ◌∷◌, None, true, false, refl}
 use Rattle.std.specs.Prelude.{codes, Ok}
+use Rattle.fab_base.specs.declared.caps.Api.TheVariants.{One, Two}
 use Rattle.fab_base.specs.declared.script.BytesWord.TheVariants.{Hex, File}
 use Rattle.fab_base.specs.declared.script.LineOp.TheVariants.{Put, TRecv}
 use Rattle.fab_base.specs.declared.script.Payload.{Payload}
@@ -41,8 +42,18 @@ late = refl
 abbrev before : Before
 before = record nothing { items = Does (record { number = 4; op = TRecv 1 None 7 0 33554432 }) ∷ Does (record { number = 5; op = TRecv 2 None 7 0 33554431 }) ∷ [] }
 
-full : is_too_much before (Ok (TRecv 3 None 7 0 1)) ≡ false
+full : is_too_much One before (Ok (TRecv 3 None 7 0 1)) ≡ false
 full = refl
 
-too_much : is_too_much before (Ok (TRecv 3 None 7 0 2)) ≡ true
+too_much : is_too_much One before (Ok (TRecv 3 None 7 0 2)) ≡ true
 too_much = refl
+
+-- and as many of the second version
+abbrev before_two : Before
+before_two = record nothing { items = Does (record { number = 4; op = TRecv 1 None 7 0 300000000 }) ∷ Does (record { number = 5; op = TRecv 2 None 7 0 299999999 }) ∷ [] }
+
+full_two : is_too_much Two before_two (Ok (TRecv 3 None 7 0 1)) ≡ false
+full_two = refl
+
+too_much_two : is_too_much Two before_two (Ok (TRecv 3 None 7 0 2)) ≡ true
+too_much_two = refl

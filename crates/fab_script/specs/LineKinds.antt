@@ -12,8 +12,8 @@ use Rattle.fab_base.specs.declared.script.LineOp.{LineOp}
 use Rattle.fab_base.specs.declared.script.LineOp.TheVariants.{Send, TSend, Inject, TInject, WInject, Write, Reg, Put, Atomic, Fetch, Compare, Recv, TRecv, MRecv, Take, Read, Peek, Claim, Discard, DropClaimed, Cancel, Close, Show, Insert, Remove, Wait, Count, Reach}
 
 abbrev pub is_send : LineOp → Bool
-is_send (Send ctx dest bytes imm level completion) = true
-is_send (TSend ctx dest tag bytes imm level completion) = true
+is_send (Send ctx dest bytes imm level completion fence) = true
+is_send (TSend ctx dest tag bytes imm level completion fence) = true
 is_send op = false
 
 abbrev pub is_inject : LineOp → Bool
@@ -23,13 +23,13 @@ is_inject (WInject dest key at bytes imm) = true
 is_inject op = false
 
 abbrev pub is_write : LineOp → Bool
-is_write (Write ctx dest key at bytes imm completion) = true
+is_write (Write ctx dest key at bytes imm completion fence) = true
 is_write (Reg key access bytes) = true
 is_write (Put key at bytes) = true
 is_write op = false
 
 abbrev pub is_atomic : LineOp → Bool
-is_atomic (Atomic ctx dest key at op num values completion) = true
+is_atomic (Atomic ctx dest key at op num values completion fence) = true
 is_atomic (Fetch ctx dest key at op num values count) = true
 is_atomic op = false
 

@@ -19,7 +19,7 @@ pub record HoldsParts (n : ℕ) (parts : Parts) (items : List Item) : Type 0 whe
   pub distinct : is_distinct (opened_by items) ≡ true
 
 pub record Holds (reader : Reader) (before : Before) : Type 0 where
-  pub header : reader.has_header ≡ before.has_header
+  pub header : reader.api ≡ before.api
   pub settings : reader.settings ≡ before.settings
   pub payloads : reader.payloads.items ≡ before.payloads
   pub parts : HoldsParts (count_in before) reader.parts before.items

@@ -44,6 +44,7 @@ fn bind_send(alloc: Global, bound: &Bound, op: &LineOp) -> Result<LineOp, NoMemo
             imm,
             level,
             completion,
+            fence,
         } => LineOp::Send {
             ctx,
             dest,
@@ -51,6 +52,7 @@ fn bind_send(alloc: Global, bound: &Bound, op: &LineOp) -> Result<LineOp, NoMemo
             imm,
             level,
             completion,
+            fence,
         },
         LineOp::TSend {
             ctx,
@@ -60,6 +62,7 @@ fn bind_send(alloc: Global, bound: &Bound, op: &LineOp) -> Result<LineOp, NoMemo
             imm,
             level,
             completion,
+            fence,
         } => LineOp::TSend {
             ctx,
             dest,
@@ -68,6 +71,7 @@ fn bind_send(alloc: Global, bound: &Bound, op: &LineOp) -> Result<LineOp, NoMemo
             imm,
             level,
             completion,
+            fence,
         },
         _ => unreachable!(),
     })
@@ -130,6 +134,7 @@ fn bind_write(alloc: Global, bound: &Bound, op: &LineOp) -> Result<LineOp, NoMem
             ref bytes,
             imm,
             completion,
+            fence,
         } => LineOp::Write {
             ctx,
             dest,
@@ -138,6 +143,7 @@ fn bind_write(alloc: Global, bound: &Bound, op: &LineOp) -> Result<LineOp, NoMem
             bytes: bind_word(alloc, bound, bytes)?,
             imm,
             completion,
+            fence,
         },
         LineOp::Reg {
             key,
@@ -172,6 +178,7 @@ fn copy_atomic(alloc: Global, op: &LineOp) -> Result<LineOp, NoMemory>
             num,
             ref values,
             completion,
+            fence,
         } => LineOp::Atomic {
             ctx,
             dest,
@@ -181,6 +188,7 @@ fn copy_atomic(alloc: Global, op: &LineOp) -> Result<LineOp, NoMemory>
             num,
             values: Buf::copy(alloc, values.as_slice())?,
             completion,
+            fence,
         },
         LineOp::Fetch {
             ctx,

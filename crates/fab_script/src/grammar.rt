@@ -8,7 +8,8 @@ ghost use Rattle.fab_script.specs.Refused.{IsScript, IsRefusal, IsVerdict};
 use crate::parts::Parts;
 use crate::reader::Reader;
 use crate::refused::{ParseRefused, Refused};
-use fab_base::{Conf, Line, List, NoMemory, Payload, Script, Why};
+use fab_base::{Api, Conf, Line, List, NoMemory, Payload, Script, Why};
+use fab_grammar::version_of;
 use fab_info::getinfo;
 use fab_words::Lines;
 use std::alloc::Global;
@@ -45,12 +46,12 @@ fn read(alloc: Global, bytes: &[u8]) -> Result<Script, ParseRefused>
 fn script(alloc: Global, count: u32, reader: Reader) -> Result<Script, ParseRefused>
     ensures { (before : Before) → Holds reader before → IsVerdict (script_said count before) result }
 {
-    if !reader.has_header {
+    let Some(api) = reader.api else {
         return Err(ParseRefused::Script {
             line: 0,
             why: Why::Header,
         });
-    }
+    };
     let Some(peers) = reader.settings.peers else {
         return Err(ParseRefused::Script {
             line: count,
@@ -58,7 +59,7 @@ fn script(alloc: Global, count: u32, reader: Reader) -> Result<Script, ParseRefu
         });
     };
     let hints = reader.settings.hints();
-    let Ok(info) = getinfo(Some(&hints)) else {
+    let Ok(info) = getinfo(api, Some(&hints)) else {
         return Err(ParseRefused::Script {
             line: count,
             why: Why::NoData,
@@ -70,22 +71,23 @@ fn script(alloc: Global, count: u32, reader: Reader) -> Result<Script, ParseRefu
         peers,
         selective: reader.settings.is_selective,
     };
-    Ok(script_with(alloc, conf, reader.payloads, reader.parts)?)
+    Ok(script_with(alloc, api, conf, reader.payloads, reader.parts)?)
 }
 
 /// The script with these parts.
 fn script_with(
     alloc: Global,
+    api: Api,
     conf: Conf,
     payloads: Vec<Payload>,
     parts: Parts,
 ) -> Result<Script, NoMemory>
-    ensures { IfOk result (λ s. s ≡ script_with conf payloads.items (map (λ part. part.items) parts.lines.items)) }
+    ensures { IfOk result (λ s. s ≡ script_with api conf payloads.items (map (λ part. part.items) parts.lines.items)) }
 {
     let Parts { lines, .. } = parts;
     let parts = lists(alloc, lines)?;
     Ok(Script {
-        version: 1,
+        version: version_of(api),
         conf,
         payloads: List::from_vec(payloads),
         peers: List::from_vec(parts),

@@ -1,13 +1,12 @@
 //! The lines of each peer, as they are gathered.
-ghost use Rattle.std.specs.Prelude.{◌≡◌, ◌<◌, ◌≤◌, ◌+◌, ◌∷◌, [], ◌++◌, ◌==◌, ℕ, List, false, nat_lt, All, IfOk, vec_len};
+ghost use Rattle.std.specs.Prelude.{◌≡◌, ◌<◌, ◌+◌, ◌^◌, ◌∷◌, [], ◌++◌, ◌==◌, ℕ, List, false, nat_lt, All, IfOk, vec_len};
 ghost use Rattle.fab_grammar.specs.Lines.{op_size};
+ghost use Rattle.fab_grammar.specs.Versions.{most_in_all};
 
-use fab_base::{Line, LineOp, NoMemory};
+use fab_base::{Api, Line, LineOp, NoMemory};
+use fab_grammar::most_in_all;
 use fab_words::bytes_size;
 use std::alloc::Global;
-
-/// The greatest sum of the bytes that the lines send or make room for.
-const SUM_MAX: u64 = 67_108_864;
 
 /// The lines of each peer, the peers that are opened, in order, and the sum of the lines' bytes.
 #[derive(Drop)]
@@ -16,7 +15,6 @@ pub(crate) struct Parts {
     pub opened: Vec<usize>,
     pub size: u64,
     ghost in_range: { All (λ k. k < vec_len lines) opened.items },
-    ghost few_bytes: { size ≤ 67108864 },
 }
 
 impl Parts {
@@ -80,16 +78,20 @@ impl Parts {
     }
 
     /// Whether the lines would have too many bytes with this one.
-    pub(crate) fn is_too_much(&self, op: &LineOp) -> bool
-        ensures { result ≡ nat_lt 67108864 (self.now.size + op_size op.now) }
+    pub(crate) fn is_too_much(&self, api: Api, op: &LineOp) -> bool
+        ensures { result ≡ nat_lt (most_in_all api) (self.now.size + op_size op.now) }
     {
-        size_of(op) > SUM_MAX - self.size
+        let most = most_in_all(api);
+        match self.size.checked_add(size_of(op)) {
+            Some(sum) => sum > most,
+            None => true,
+        }
     }
 
     /// Adds a line to the part of the peer that was opened last.
     pub(crate) fn add(&mut self, line: Line) -> Result<(), NoMemory>
         requires some { 0 < vec_len self.old.opened }
-        requires few { self.old.size + op_size line.op ≤ 67108864 }
+        requires few { self.old.size + op_size line.op < 2 ^ 64 }
         ensures { (n : ℕ) (items : List Item) → HoldsParts n self.old items → IfOk result (λ _. HoldsParts n self.new (items ++ Does line ∷ [])) }
     {
         let peer = self.opened[self.opened.len() - 1];

@@ -1,22 +1,26 @@
 //! The lines of a file, taken one after another.
-ghost use Rattle.std.specs.Prelude.{◌≡◌, ◌==◌, ℕ, List, [], ◌∷◌, true, false, MatchResult};
+ghost use Rattle.std.specs.Prelude.{◌≡◌, ◌==◌, ℕ, List, [], ◌∷◌, None, true, false, MatchResult};
 ghost use Rattle.std.specs.List.{list_any};
 ghost use Rattle.fab_grammar.specs.Before.{Before, nothing, has_opened};
 ghost use Rattle.fab_script.specs.Parts.{Holds, Answers};
 ghost use Rattle.fab_words.specs.Words.{first_of};
-ghost use Rattle.fab_grammar.specs.Rules.{is_late, is_header, is_set, is_fresh, is_again, is_declared, is_one_too_many, is_refused, setting_rules, peer_rules, call_rules, word_rules, verb_rules, why_of, with_setting, with_peer, with_call, with_verb, with_words, with_line};
+ghost use Rattle.fab_grammar.specs.Rules.{is_late, is_set, is_fresh, is_again, is_declared, is_one_too_many, is_refused, setting_rules, peer_rules, call_rules, word_rules, verb_rules, why_of, with_setting, with_peer, with_call, with_verb, with_words, with_line};
 ghost use Rattle.fab_grammar.specs.Settings.{setting_of, peer_of};
 ghost use Rattle.fab_grammar.specs.Lines.{op_of};
 ghost use Rattle.fab_grammar.specs.Verbs.{verb_of};
+ghost use Rattle.fab_grammar.specs.Versions.{most_bytes};
 ghost use Rattle.fab_base.specs.declared.status.Why.TheVariants.{Limit};
 ghost use Rattle.fab_script.specs.declared.refused.Refused.TheVariants.{Why as Because};
 
 use crate::parts::Parts;
 use crate::refused::Refused;
-use fab_base::{Line, Payload, Why};
-use fab_grammar::{Kind, Setting, Settings, Verb, asking, read_op, read_peer, read_setting};
+use fab_base::{Api, Line, Payload, Why};
+use fab_grammar::{
+    Kind, Setting, Settings, Verb, asking, most_bytes, read_header, read_op, read_peer,
+    read_setting,
+};
 use fab_info::getinfo;
-use fab_words::{Fault, Words, all_text, is, number};
+use fab_words::{Fault, Words, all_text, number};
 use std::alloc::Global;
 
 /// The greatest number of lines.
@@ -28,7 +32,8 @@ const PAYLOADS_MAX: usize = 64;
 /// What the lines before a line say.
 #[derive(Drop)]
 pub(crate) struct Reader {
-    pub has_header: bool,
+    /// The version that the header names, once it is read.
+    pub api: Option<Api>,
     pub settings: Settings,
     pub payloads: Vec<Payload>,
     pub parts: Parts,
@@ -40,7 +45,7 @@ impl Reader {
         ensures { Holds result nothing }
     {
         Reader {
-            has_header: false,
+            api: None,
             settings: Settings::new(),
             payloads: Vec::new(alloc),
             parts: Parts::new(alloc),
@@ -57,44 +62,47 @@ impl Reader {
             return Err(Refused::Why(Why::NotText));
         }
         let mut words = Words::of_line(line);
-        match words.next() {
-            None => in_time(number),
-            Some(word) if self.has_header => self.take_line(alloc, number, word, &mut words),
-            Some(word) => self.take_header(number, word, &mut words),
+        let Some(word) = words.next() else {
+            return in_time(number);
+        };
+        match self.api {
+            None => self.take_header(number, word, &mut words),
+            Some(api) => self.take_line(alloc, api, number, word, &mut words),
         }
     }
 
     /// Takes the header.
     fn take_header(&mut self, number: u32, word: &[u8], args: &mut Words) -> Result<(), Refused>
-        ensures { (before : Before) → Holds self.old before → before.has_header ≡ false →
+        ensures { (before : Before) → Holds self.old before → before.api ≡ None →
             Answers (first_of (word_rules before number (word.now ∷ args.old))) (with_words before number (word.now ∷ args.old)) self.new result }
     {
-        if !is_header(word, args) {
+        let Some(api) = read_header(word, args) else {
             return Err(Refused::Why(Why::Header));
-        }
+        };
         in_time(number)?;
-        self.has_header = true;
+        self.api = Some(api);
         Ok(())
     }
 
-    /// Takes a line after the header.
+    /// Takes a line after the header of this version.
     fn take_line(
         &mut self,
         alloc: Global,
+        api: Api,
         number: u32,
         word: &[u8],
         args: &mut Words,
     ) -> Result<(), Refused>
         ensures { (before : Before) → Holds self.old before →
-            Answers (first_of (verb_rules before number (verb_of word.now) args.old)) (with_verb before number (verb_of word.now) args.old) self.new result }
+            Answers (first_of (verb_rules api before number (verb_of word.now) args.old)) (with_verb api before number (verb_of word.now) args.old) self.new result }
     {
         let Some(verb) = Verb::of(word) else {
             return Err(Refused::Why(Why::Verb));
         };
         match verb.kind() {
-            Kind::Setting => self.take_setting(alloc, number, verb, args),
+            Kind::Setting => self.take_setting(alloc, api, number, verb, args),
             Kind::Peer => self.take_peer(number, args),
-            Kind::Call => self.take_call(alloc, number, verb, args),
+            Kind::Call => self.take_call(alloc, api, number, verb, args),
         }
     }
 
@@ -103,12 +111,13 @@ impl Reader {
     fn take_setting(
         &mut self,
         alloc: Global,
+        api: Api,
         number: u32,
         verb: Verb,
         args: &mut Words,
     ) -> Result<(), Refused>
         ensures { (before : Before) → Holds self.old before →
-            Answers (first_of (setting_rules before number verb args.old)) (with_setting before (setting_of verb args.old)) self.new result }
+            Answers (first_of (setting_rules api before number verb args.old)) (with_setting before (setting_of api verb args.old)) self.new result }
     {
         if self.parts.has_opened() {
             return Err(Refused::Why(Why::Order));
@@ -116,12 +125,12 @@ impl Reader {
         if self.is_set(verb, args) {
             return Err(Refused::Why(Why::Twice));
         }
-        let setting = read_setting(alloc, verb, args)??;
+        let setting = read_setting(alloc, api, verb, args)??;
         in_time(number)?;
         if self.is_one_too_many(&setting) {
             return Err(Refused::Why(Why::Limit));
         }
-        if is_refused(&setting) {
+        if is_refused(api, &setting) {
             return Err(Refused::Why(Why::NoData));
         }
         self.set(alloc, setting)
@@ -204,31 +213,25 @@ impl Reader {
     fn take_call(
         &mut self,
         alloc: Global,
+        api: Api,
         number: u32,
         verb: Verb,
         args: &mut Words,
     ) -> Result<(), Refused>
         ensures { (before : Before) → Holds self.old before →
-            Answers (first_of (call_rules before number verb args.old)) (with_call before number (op_of verb args.old)) self.new result }
+            Answers (first_of (call_rules api before number verb args.old)) (with_call before number (op_of (most_bytes api) verb args.old)) self.new result }
     {
         if !self.parts.has_opened() {
             return Err(Refused::Why(Why::Order));
         }
-        let op = read_op(alloc, verb, args)??;
+        let op = read_op(alloc, most_bytes(api), verb, args)??;
         // One way out while the line is alive, and not two: each drops it, kind by kind.
-        if is_late(number) || self.parts.is_too_much(&op) {
+        if is_late(number) || self.parts.is_too_much(api, &op) {
             return Err(Refused::Why(Why::Limit));
         }
         self.parts.add(Line { number, op })?;
         Ok(())
     }
-}
-
-/// Whether the line is `fabric 1`.
-fn is_header(word: &[u8], args: &mut Words) -> bool
-    ensures { result ≡ is_header (word.now ∷ args.old) }
-{
-    is(word, "fabric") && args.one().is_some_and(|version| is(version, "1"))
 }
 
 /// A script has at most 100,000 lines.
@@ -255,11 +258,11 @@ fn has_id(payloads: &[Payload], id: u64) -> bool
 }
 
 /// Whether the provider does not grant the capabilities.
-fn is_refused(setting: &Setting) -> bool
-    ensures { result ≡ is_refused (Ok setting.now) }
+fn is_refused(api: Api, setting: &Setting) -> bool
+    ensures { result ≡ is_refused api (Ok setting.now) }
 {
     match setting {
-        Setting::Capabilities(caps) => getinfo(Some(&asking(*caps))).is_err(),
+        Setting::Capabilities(caps) => getinfo(api, Some(&asking(*caps))).is_err(),
         _ => false,
     }
 }

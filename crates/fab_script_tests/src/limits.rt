@@ -24,9 +24,15 @@ fn long_text(rt: HostRuntime) -> Result<(), Fail> {
     Ok(())
 }
 
-/// A text that sends this many bytes, each written by this text.
-fn send_of_each(alloc: Global, front: &[u8], byte: &[u8], len: usize) -> Result<Vec<u8>, Fail> {
-    let mut text = Vec::from_slice(alloc, ONE)?;
+/// A text of this header that sends this many bytes, each written by this text.
+fn send_of_each(
+    alloc: Global,
+    header: &[u8],
+    front: &[u8],
+    byte: &[u8],
+    len: usize,
+) -> Result<Vec<u8>, Fail> {
+    let mut text = Vec::from_slice(alloc, header)?;
     text.extend_from_slice(b"send 1 0 ")?;
     text.extend_from_slice(front)?;
     for _ in 0..len {
@@ -35,15 +41,28 @@ fn send_of_each(alloc: Global, front: &[u8], byte: &[u8], len: usize) -> Result<
     Ok(text)
 }
 
+/// How bytes are written, front and each byte.
+const FORMS: [(&[u8], &[u8]); 2] = [(b"text:", b"a"), (b"hex:", b"6a")];
+
 /// 33,554,432 bytes, and one more.
 #[test]
 fn most_bytes_of_a_word(rt: HostRuntime) -> Result<(), Fail> {
-    let table: [(&[u8], &[u8]); 2] = [(b"text:", b"a"), (b"hex:", b"6a")];
-    for (front, byte) in table {
-        let mut text = send_of_each(rt.alloc(), front, byte, 33_554_432)?;
+    for (front, byte) in FORMS {
+        let mut text = send_of_each(rt.alloc(), ONE, front, byte, 33_554_432)?;
         is_judged(&rt, rt.alloc(), &text, None);
         text.extend_from_slice(byte)?;
         is_judged(&rt, rt.alloc(), &text, Some((4, Why::Limit)));
+    }
+    Ok(())
+}
+
+/// In the second version one more is not too many.
+#[test]
+fn more_bytes_of_a_word(rt: HostRuntime) -> Result<(), Fail> {
+    for (front, byte) in FORMS {
+        let header = b"fabric 2\npeers 1\npeer 0\n";
+        let text = send_of_each(rt.alloc(), header, front, byte, 33_554_433)?;
+        is_judged(&rt, rt.alloc(), &text, None);
     }
     Ok(())
 }
@@ -101,7 +120,7 @@ fn number_of_lines(rt: HostRuntime) -> Result<(), Fail> {
 #[test]
 fn reasons_beyond_the_last_line(rt: HostRuntime) -> Result<(), Fail> {
     let table: [(&[u8], Why); 4] = [
-        (b"caps FI_FENCE", Why::Limit),
+        (b"caps FI_RMA_EVENT", Why::Limit),
         (b"caps x", Why::Words),
         (b"peers 1", Why::Twice),
         (b"peer 1", Why::Peer),

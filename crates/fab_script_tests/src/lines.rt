@@ -133,6 +133,31 @@ fn judged_sends(rt: HostRuntime) -> Result<(), Fail> {
     are_judged(&rt, rt.alloc(), &SENDS)
 }
 
+/// Fences: of which lines they are a word.
+const FENCES: [Row; 16] = [
+    (b"send 1 0 text:a fence", None),
+    (b"send 1 0 text:a fence data=1 completion level=match", None),
+    (b"tsend 1 0 7 text:a fence", None),
+    (b"write 1 0 9 0 text:a data=1 fence completion", None),
+    (b"atomic 1 0 9 0 FI_SUM u8 1 completion fence", None),
+    (b"send 1 0 text:a fence fence", Some(Why::Words)),
+    (b"tsend 1 0 7 text:a fence=1", Some(Why::Words)),
+    (b"tsend 1 0 7 text:a Fence", Some(Why::Words)),
+    (b"inject 0 text:a fence", Some(Why::Words)),
+    (b"tinject 0 7 text:a fence", Some(Why::Words)),
+    (b"winject 0 9 0 text:a fence", Some(Why::Words)),
+    (b"read 1 0 9 0 8 fence", Some(Why::Words)),
+    (b"fetch 1 0 9 0 FI_SUM u8 1 fence", Some(Why::Words)),
+    (b"compare 1 0 9 0 FI_CSWAP u8 1 2 fence", Some(Why::Words)),
+    (b"recv 1 * 8 fence", Some(Why::Words)),
+    (b"mrecv 1 * 8 fence", Some(Why::Words)),
+];
+
+#[test]
+fn judged_fences(rt: HostRuntime) -> Result<(), Fail> {
+    are_judged(&rt, rt.alloc(), &FENCES)
+}
+
 /// Receives, and what is done with unexpected messages.
 const RECEIVES: [Row; 19] = [
     (b"mrecv 1 * 100 min=4294967295", None),
@@ -229,7 +254,7 @@ fn judged_other_lines(rt: HostRuntime) -> Result<(), Fail> {
 }
 
 /// The lines on messages of docs/SCRIPT.md.
-const MANUAL: [Row; 29] = [
+const MANUAL: [Row; 30] = [
     (b"send 1 0 text:hello", None),
     (b"send 1 0 hex:68656C6c6f", None),
     (b"send 1 0 zero:8", None),
@@ -239,6 +264,7 @@ const MANUAL: [Row; 29] = [
     (b"send 1 0 text:hello level=delivery", None),
     (b"send 1 0 text:hello level=match", None),
     (b"send 1 0 text:hello completion", None),
+    (b"send 1 0 text:hello fence", None),
     (
         b"send 1 0 text:hello data=9 level=delivery completion",
         None,
@@ -273,15 +299,17 @@ fn messages_of_the_manual(rt: HostRuntime) -> Result<(), Fail> {
 }
 
 /// Its other lines.
-const MANUAL_OTHERS: [&[u8]; 22] = [
+const MANUAL_OTHERS: [&[u8]; 24] = [
     b"send 1 0 file:1:0:5",
     b"read 1 0 9 0 8",
     b"write 1 0 9 0 text:hello",
     b"write 1 0 9 0 text:hello data=9 completion",
+    b"write 1 0 9 0 text:hello fence",
     b"winject 0 9 0 text:hello",
     b"winject 0 9 0 text:hello data=9",
     b"atomic 1 0 9 0 FI_SUM i32 5,-1",
     b"atomic 1 0 9 0 FI_SUM i32 5,-1 completion",
+    b"atomic 1 0 9 0 FI_SUM i32 5,-1 fence",
     b"fetch 1 0 9 0 FI_BOR u8 1,2,4",
     b"fetch 1 0 9 0 FI_ATOMIC_READ u64 *2",
     b"compare 1 0 9 0 FI_CSWAP u64 7 0",

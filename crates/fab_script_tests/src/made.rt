@@ -1,8 +1,8 @@
 //! The text of a few scripts that no text was read for.
 use crate::asking::is_text;
 use fab_base::{
-    Buf, BytesWord, Cap, Caps, Conf, Hints, Info, Level, Line, LineOp, List, NoMemory, Payload,
-    Script, Text,
+    Api, Buf, BytesWord, Cap, Caps, Conf, Hints, Info, Level, Line, LineOp, List, NoMemory,
+    Payload, Script, Text,
 };
 use fab_script::print;
 use std::alloc::Global;
@@ -12,6 +12,7 @@ use std::test::Fail;
 /// What is granted; no text depends on it.
 fn granted() -> Info {
     Info {
+        api: Api::One,
         caps: Caps::none(),
         peers: 2,
         lane: 64,
@@ -95,6 +96,7 @@ fn sending(alloc: Global) -> Result<List<Line>, NoMemory> {
             imm: None,
             level: Level::Transmit,
             completion: false,
+            fence: false,
         },
     )?;
     Ok(lines)
@@ -116,6 +118,7 @@ fn sending_a_file(alloc: Global) -> Result<List<Line>, NoMemory> {
             imm: Some(4),
             level: Level::Delivery,
             completion: true,
+            fence: true,
         },
     )?;
     Ok(lines)
@@ -186,7 +189,7 @@ cq 16
 selective
 payload 5 words
 peer 1
-send 3 0 file:5:0:8 data=4 level=delivery completion
+send 3 0 file:5:0:8 data=4 level=delivery completion fence
 ",
     )
 }
@@ -196,4 +199,17 @@ fn no_hints_and_no_lines(rt: HostRuntime) -> Result<(), Fail> {
     let alloc = rt.alloc();
     let empty = script(conf(None, 1, false), List::empty(alloc), List::empty(alloc));
     is_printed(&rt, alloc, empty, "fabric 1\npeers 1\n")
+}
+
+/// The header has the number of the version.
+#[test]
+fn the_second_version(rt: HostRuntime) -> Result<(), Fail> {
+    let alloc = rt.alloc();
+    let mut empty = script(
+        conf(None, 64, false),
+        List::empty(alloc),
+        List::empty(alloc),
+    );
+    empty.version = 2;
+    is_printed(&rt, alloc, empty, "fabric 2\npeers 64\n")
 }

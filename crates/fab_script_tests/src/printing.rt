@@ -16,7 +16,7 @@ fn print_again(alloc: Global, text: &[u8]) -> Result<Text, Fail> {
 
 /// Texts, and how their scripts are printed: settings in their order, numbers in decimal, optional words where they
 /// say what does not hold without them, and only peers that have lines.
-const PRINTED: [(&[u8], &str); 8] = [
+const PRINTED: [(&[u8], &str); 9] = [
     (
         b"# remark
 fabric\t1\r
@@ -55,18 +55,18 @@ payload 1 g
         b"fabric 1
 peers 2
 peer 1
-send 1 0 hex:6Aff completion level=match data=1
+send 1 0 hex:6Aff fence completion level=match data=1
 peer 0
-tsend 1 1 7 text:a level=transmit
+tsend 1 1 7 text:a fence level=transmit
 mrecv 1 * 9 min=0x3
 ",
         "fabric 1
 peers 2
 peer 0
-tsend 1 1 7 text:a
+tsend 1 1 7 text:a fence
 mrecv 1 * 9 min=3
 peer 1
-send 1 0 hex:6aff data=1 level=match completion
+send 1 0 hex:6aff data=1 level=match completion fence
 ",
     ),
     (
@@ -97,14 +97,14 @@ show 10
         b"fabric 1
 peers 1
 peer 0
-atomic 1 0 1 0 FI_SUM i8 -128,127,-0 completion
+atomic 1 0 1 0 FI_SUM i8 -128,127,-0 fence
 fetch 1 0 1 0 FI_ATOMIC_READ u8 *3
 compare 1 0 1 0 FI_CSWAP u64 18446744073709551615 00
 ",
         "fabric 1
 peers 1
 peer 0
-atomic 1 0 1 0 FI_SUM i8 -128,127,0 completion
+atomic 1 0 1 0 FI_SUM i8 -128,127,0 fence
 fetch 1 0 1 0 FI_ATOMIC_READ u8 *3
 compare 1 0 1 0 FI_CSWAP u64 18446744073709551615 0
 ",
@@ -138,7 +138,7 @@ cancel 1
 peers 1
 peer 0
 read 1 0 10 0 8
-write 1 0 10 0 text:a completion data=1
+write 1 0 10 0 text:a fence completion data=1
 winject 0 10 0 text:a
 insert shm://0
 remove 0
@@ -150,7 +150,7 @@ reach send 3
 peers 1
 peer 0
 read 1 0 10 0 8
-write 1 0 10 0 text:a data=1 completion
+write 1 0 10 0 text:a data=1 completion fence
 winject 0 10 0 text:a
 insert shm://0
 remove 0
@@ -164,6 +164,21 @@ reach send 3
 peers 32",
         "fabric 1
 peers 32
+",
+    ),
+    (
+        b"fabric 2
+caps FI_RMA_EVENT,FI_MSG
+peers 64
+peer 63
+send 1 0 zero:300000000 fence
+recv 2 * 300000000",
+        "fabric 2
+caps FI_MSG,FI_RMA_EVENT
+peers 64
+peer 63
+send 1 0 zero:300000000 fence
+recv 2 * 300000000
 ",
     ),
 ];

@@ -1,6 +1,6 @@
 //! Scripts that are read: their lines, their settings and what is granted.
 use crate::asking::{ONE, ending_in, said};
-use fab_base::{BytesWord, Caps, Info, Level, Line, LineOp, Script};
+use fab_base::{Api, BytesWord, Caps, Info, Level, Line, LineOp, Script};
 use std::process::Abort;
 use std::test::Fail;
 
@@ -29,6 +29,7 @@ fn is_tsend(line: &Line, number: u32, want: (u64, u32, u64), text: &[u8]) -> boo
             imm,
             level,
             completion,
+            fence,
         } => {
             line.number == number
                 && (*ctx, *dest, *tag) == want
@@ -36,6 +37,7 @@ fn is_tsend(line: &Line, number: u32, want: (u64, u32, u64), text: &[u8]) -> boo
                 && imm.is_none()
                 && *level == Level::Transmit
                 && !*completion
+                && !*fence
         }
         _ => false,
     }
@@ -82,7 +84,8 @@ fn are_the_defaults(rt: &impl Abort, info: &Info) {
         (256, 1024, 4096, 4096)
     );
     assert_eq!(rt; info.message, 16_777_216);
-    assert!(rt; info.caps.msg && info.caps.local_comm && !info.caps.rma_event && !info.caps.fence);
+    assert!(rt; info.api == Api::One && info.caps.msg && info.caps.local_comm);
+    assert!(rt; info.caps.fence && !info.caps.rma_event);
 }
 
 #[test]
@@ -98,6 +101,19 @@ fn sizes_are_the_defaults(rt: HostRuntime) -> Result<(), Fail> {
     assert_eq!(rt; asked, (true, Some(32), None));
     are_the_defaults(&rt, &conf.info);
     assert_eq!(rt; script.peers.as_slice().len(), 32);
+    Ok(())
+}
+
+/// The second version has larger messages, and remote events.
+#[test]
+fn offer_of_the_second_version(rt: HostRuntime) -> Result<(), Fail> {
+    let script = said(rt.alloc(), b"fabric 2\npeers 64\n")?;
+    let info = &script.conf.info;
+    assert_eq!(rt;
+        (script.version, info.peers, info.message),
+        (2, 64, 268_435_456)
+    );
+    assert!(rt; info.api == Api::Two && info.caps.fence && info.caps.rma_event);
     Ok(())
 }
 
@@ -142,6 +158,39 @@ fn values_of(line: Option<&Line>) -> Option<&[u8]> {
         ) => Some(values.as_slice()),
         _ => None,
     }
+}
+
+/// Whether a line is an atomic with these flags.
+fn has_flags(line: Option<&Line>, want: (bool, bool)) -> bool {
+    match line.map(|line| &line.op) {
+        Some(
+            LineOp::Atomic {
+                completion,
+                fence,
+                ..
+            },
+        ) => (*completion, *fence) == want,
+        _ => false,
+    }
+}
+
+/// A fence is no completion, and a completion is no fence.
+#[test]
+fn flags_of_an_atomic(rt: HostRuntime) -> Result<(), Fail> {
+    let table: [(&[u8], (bool, bool)); 4] = [
+        (b"atomic 1 0 1 0 FI_SUM u8 1", (false, false)),
+        (b"atomic 1 0 1 0 FI_SUM u8 1 completion", (true, false)),
+        (b"atomic 1 0 1 0 FI_SUM u8 1 fence", (false, true)),
+        (b"atomic 1 0 1 0 FI_SUM u8 1 fence completion", (true, true)),
+    ];
+    for (line, flags) in table {
+        let text = ending_in(rt.alloc(), ONE, line)?;
+        let script = said(rt.alloc(), &text)?;
+        let lines = script.peers.as_slice().first();
+        let line = lines.and_then(|lines| lines.as_slice().first());
+        assert!(rt; has_flags(line, flags));
+    }
+    Ok(())
 }
 
 /// Elements are little-endian, in two's complement: the bytes are worked out by hand.

@@ -25,7 +25,7 @@ const TEXTS: [Row; 27] = [
     (b"\n \n", Some((0, Why::Header))),
     (b"fabric 1", Some((1, Why::Missing))),
     (b"fabric 1\n\n\n", Some((3, Why::Missing))),
-    (b"fabric 2\n", Some((1, Why::Header))),
+    (b"fabric 3\n", Some((1, Why::Header))),
     (b"fabric 01\n", Some((1, Why::Header))),
     (b"fabric 1 1\n", Some((1, Why::Header))),
     (b"\npeers 2\n", Some((2, Why::Header))),
@@ -122,7 +122,7 @@ const SETTINGS: [Row; 17] = [
     (b"fabric 1\nlane 1025", Some((2, Why::Limit))),
     (b"fabric 1\ncq 1", Some((2, Why::Limit))),
     (b"fabric 1\nrx 4097", Some((2, Why::Limit))),
-    (b"fabric 1\ncaps FI_FENCE", Some((2, Why::NoData))),
+    (b"fabric 1\ncaps FI_RMA_EVENT", Some((2, Why::NoData))),
     (
         b"fabric 1\ncaps FI_MSG,FI_RMA_EVENT",
         Some((2, Why::NoData)),
@@ -145,4 +145,54 @@ const SETTINGS: [Row; 17] = [
 #[test]
 fn reasons_of_settings(rt: HostRuntime) {
     are_judged(&rt, rt.alloc(), &SETTINGS);
+}
+
+/// What a version offers, and its limits.
+const VERSIONS: [Row; 20] = [
+    (b"fabric 3", Some((1, Why::Header))),
+    (b"fabric 0", Some((1, Why::Header))),
+    (b"fabric 02", Some((1, Why::Header))),
+    (b"fabric 2 2", Some((1, Why::Header))),
+    (b"fabric 2", Some((1, Why::Missing))),
+    (b"fabric 2\nfabric 2", Some((2, Why::Verb))),
+    (b"fabric 2\nfabric 1", Some((2, Why::Verb))),
+    (b"fabric 2\npeers 64", None),
+    (b"fabric 2\npeers 65", Some((2, Why::Limit))),
+    (
+        b"fabric 1\npeers 1\ncaps FI_RMA_EVENT",
+        Some((3, Why::NoData)),
+    ),
+    (b"fabric 2\npeers 1\ncaps FI_RMA_EVENT", None),
+    (b"fabric 1\npeers 1\ncaps FI_FENCE", None),
+    (b"fabric 2\npeers 1\ncaps FI_FENCE,FI_RMA_EVENT", None),
+    (
+        b"fabric 1\npeers 1\npeer 0\nwrite 1 0 1 0 zero:300000000",
+        Some((4, Why::Limit)),
+    ),
+    (
+        b"fabric 2\npeers 1\npeer 0\nwrite 1 0 1 0 zero:300000000",
+        None,
+    ),
+    (
+        b"fabric 2\npeers 1\npeer 0\nread 1 0 1 0 300000001",
+        Some((4, Why::Limit)),
+    ),
+    (
+        b"fabric 2\npeers 1\npeer 0\nsend 1 0 file:1:0:300000001",
+        Some((4, Why::Limit)),
+    ),
+    (
+        b"fabric 2\npeers 1\npeer 0\nrecv 1 * 300000000\nreg 1 r file:1:0:300000000",
+        None,
+    ),
+    (
+        b"fabric 2\npeers 1\npeer 0\nrecv 1 * 300000000\nreg 1 r file:1:0:300000000\ntake 1 1",
+        Some((6, Why::Limit)),
+    ),
+    (b"fabric 2\npeers 1\nlane 1025", Some((3, Why::Limit))),
+];
+
+#[test]
+fn reasons_by_version(rt: HostRuntime) {
+    are_judged(&rt, rt.alloc(), &VERSIONS);
 }

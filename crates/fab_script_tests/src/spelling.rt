@@ -38,8 +38,9 @@ fn sends(rt: HostRuntime) -> Result<(), Fail> {
             imm: Some(9),
             level: Level::Delivery,
             completion: true,
+            fence: true,
         },
-        "send 1 2 hex:6869ff data=9 level=delivery completion\n",
+        "send 1 2 hex:6869ff data=9 level=delivery completion fence\n",
     );
     let bytes = text(alloc, b"hello")?;
     is_line(
@@ -53,6 +54,7 @@ fn sends(rt: HostRuntime) -> Result<(), Fail> {
             imm: None,
             level: Level::Transmit,
             completion: false,
+            fence: false,
         },
         "tsend 1 0 7 text:hello\n",
     );
@@ -185,6 +187,7 @@ fn regions_of_others(rt: HostRuntime) -> Result<(), Fail> {
             bytes,
             imm: None,
             completion: true,
+            fence: false,
         },
         "write 1 2 3 4 text: completion\n",
     );
@@ -219,9 +222,10 @@ fn atomics(rt: HostRuntime) -> Result<(), Fail> {
             op: AtomicOp::Sum,
             num: Num::I16,
             values,
-            completion: true,
+            completion: false,
+            fence: true,
         },
-        "atomic 1 2 3 4 FI_SUM i16 1,-1 completion\n",
+        "atomic 1 2 3 4 FI_SUM i16 1,-1 fence\n",
     );
     is_line(
         &rt,

@@ -16,10 +16,10 @@ use Rattle.fab_words.specs.declared.fault.Fault.TheVariants.{Words, Limit}
 use Rattle.fab_words.specs.Bytes.{few_bytes, of_hex, a_file_range, file_range, is_colon, read_bytes}
 use Rattle.fab_words.specs.Faults.{◌&◌, map_ok}
 use Rattle.fab_words.specs.Rows.{is_filled}
-use Rattle.fab_words.specs.Words.{begins_with, read_number, read_len}
+use Rattle.fab_words.specs.Words.{begins_with, read_number, read_up_to}
 use Rattle.fab_words.specs.Written.{is_word}
 use Rattle.fab_spell.specs.Spelling.{bytes_word}
-use Rattle.fab_spell.proofs.Decimals.{read_number_again, read_len_again}
+use Rattle.fab_spell.proofs.Decimals.{read_number_again, read_up_to_again}
 use Rattle.fab_spell.proofs.HexDigits.{hex_again, printable-hex}
 use Rattle.fab_spell.proofs.Numbers.{is_numeric, is_printable, digits-decimal, printable-digits}
 use Rattle.fab_spell.proofs.Said.{both_said, said_by, said_if}
@@ -28,8 +28,8 @@ use Rattle.hex.specs.declared.error.FromHexError.{FromHexError}
 use Rattle.hex.specs.declared.error.FromHexError.TheVariants.{OddLength}
 use Rattle.hex.proofs.HexLemmas.{decode_pairs-ok}
 
-pub record BytesAgain (bytes : BytesWord) : Type 0 where
-  pub reads : read_bytes (bytes_word bytes) ≡ Ok bytes
+pub record BytesAgain (most : ℕ) (bytes : BytesWord) : Type 0 where
+  pub reads : read_bytes most (bytes_word bytes) ≡ Ok bytes
   pub word : is_word (bytes_word bytes) ≡ true
 
 -- ---- texts
@@ -48,18 +48,18 @@ ascii-printable (b ∷ word) all =
 pub utf8-printable : (word : List ℕ) → list_all is_printable word ≡ true → is_utf8 word ≡ true
 utf8-printable word all = is_utf8-from_IsUtf8 word (IsUtf8-from_ascii word (ascii-printable word all))
 
-pub few : (bytes : List ℕ) (said word : BytesWord) → few_bytes bytes word ≡ Ok said → (leb (length bytes) 33554432 ≡ true) × (word ≡ said)
-few bytes said word e =
-    let fits = said_if (leb (length bytes) 33554432) (Ok word) Limit said e in
+pub few : (most : ℕ) (bytes : List ℕ) (said word : BytesWord) → few_bytes most bytes word ≡ Ok said → (leb (length bytes) most ≡ true) × (word ≡ said)
+few most bytes said word e =
+    let fits = said_if (leb (length bytes) most) (Ok word) Limit said e in
     let same : word ≡ said = cc (fits.1) in
     (fits.0, same)
 
-text_again : (bytes : List ℕ) (said : BytesWord) → list_all is_printable bytes ≡ true → few_bytes bytes (Text bytes) ≡ Ok said → BytesAgain said
+text_again : (most : ℕ) (bytes : List ℕ) (said : BytesWord) → list_all is_printable bytes ≡ true → few_bytes most bytes (Text bytes) ≡ Ok said → BytesAgain most said
 unfolding read_bytes bytes_word
-text_again bytes said all e =
-    let fits = few bytes said (Text bytes) e in
+text_again most bytes said all e =
+    let fits = few most bytes said (Text bytes) e in
     let text = utf8-printable bytes all in
-    subst BytesAgain fits.1 (record { reads = rw (text, fits.0) refl; word = rw (text, all) refl })
+    subst (BytesAgain most) fits.1 (record { reads = rw (text, fits.0) refl; word = rw (text, all) refl })
 
 -- ---- digits
 not_odd : (odd : Bool) (r : Result (List ℕ) FromHexError) (bytes : List ℕ) → cond odd (Err OddLength) r ≡ Ok bytes → r ≡ Ok bytes
@@ -69,25 +69,25 @@ not_odd false r bytes e = e
 decoded_bytes : (digits bytes : List ℕ) → decode_of digits ≡ Ok bytes → IsBytes bytes
 decoded_bytes digits bytes e = (decode_pairs-ok 0 digits bytes (not_odd (eqb (length digits % 2) 1) (decode_pairs 0 digits) bytes e)).2
 
-pub hex_said : (r : Result (List ℕ) FromHexError) (said : BytesWord) → of_hex r ≡ Ok said → (bytes : List ℕ) × (r ≡ Ok bytes) × (leb (length bytes) 33554432 ≡ true) × (Hex bytes ≡ said)
-hex_said (Ok bytes) said e =
-    let fits = few bytes said (Hex bytes) e in
+pub hex_said : (most : ℕ) (r : Result (List ℕ) FromHexError) (said : BytesWord) → of_hex most r ≡ Ok said → (bytes : List ℕ) × (r ≡ Ok bytes) × (leb (length bytes) most ≡ true) × (Hex bytes ≡ said)
+hex_said most (Ok bytes) said e =
+    let fits = few most bytes said (Hex bytes) e in
     (bytes, refl, fits.0, fits.1)
-hex_said (Err fault) said e = cc
+hex_said most (Err fault) said e = cc
 
-digits_again : (digits : List ℕ) (said : BytesWord) → of_hex (decode_of digits) ≡ Ok said → BytesAgain said
+digits_again : (most : ℕ) (digits : List ℕ) (said : BytesWord) → of_hex most (decode_of digits) ≡ Ok said → BytesAgain most said
 unfolding read_bytes bytes_word
-digits_again digits said e =
-    let h = hex_said (decode_of digits) said e in
+digits_again most digits said e =
+    let h = hex_said most (decode_of digits) said e in
     let all = decoded_bytes digits h.0 h.1 in
-    subst BytesAgain h.3 (record { reads = ap of_hex (hex_again h.0 all) ∙ rw h.2 refl; word = printable-hex h.0 all })
+    subst (BytesAgain most) h.3 (record { reads = ap (of_hex most) (hex_again h.0 all) ∙ rw h.2 refl; word = printable-hex h.0 all })
 
 -- ---- zeros
-zeros_again : (word : List ℕ) (said : BytesWord) → map_ok Zero (read_len word) ≡ Ok said → BytesAgain said
+zeros_again : (most : ℕ) (word : List ℕ) (said : BytesWord) → map_ok Zero (read_up_to most word) ≡ Ok said → BytesAgain most said
 unfolding read_bytes bytes_word
-zeros_again word said e =
-    let len = said_by Zero (read_len word) said e in
-    subst BytesAgain len.2 (record { reads = ap (map_ok Zero) (read_len_again word len.0 len.1); word = printable-digits (decimal len.0) (digits-decimal len.0).all })
+zeros_again most word said e =
+    let len = said_by Zero (read_up_to most word) said e in
+    subst (BytesAgain most) len.2 (record { reads = ap (map_ok Zero) (read_up_to_again most word len.0 len.1); word = printable-digits (decimal len.0) (digits-decimal len.0).all })
 
 -- ---- files
 no_colon : (word : List ℕ) → list_all is_numeric word ≡ true → All (λ b. is_colon b ≡ false) word
@@ -111,34 +111,34 @@ printable-file id at len =
     list_all-append is_printable (decimal id) (58 ∷ (decimal at ++ 58 ∷ decimal len))
     ∙ and_from _ _ (print id) (list_all-append is_printable (decimal at) (58 ∷ decimal len) ∙ and_from _ _ (print at) (print len))
 
-file_again : (parts : List (List ℕ)) (said : BytesWord) → file_range parts ≡ Ok said → BytesAgain said
+file_again : (most : ℕ) (parts : List (List ℕ)) (said : BytesWord) → file_range most parts ≡ Ok said → BytesAgain most said
 unfolding read_bytes bytes_word
-file_again (id ∷ at ∷ len ∷ []) said e =
-    let range = said_by a_file_range (read_number id & read_number at & read_len len) said e in
+file_again most (id ∷ at ∷ len ∷ []) said e =
+    let range = said_by a_file_range (read_number id & read_number at & read_up_to most len) said e in
     let p = range.0 in
-    let all = both_said (read_number id & read_number at) (read_len len) p range.1 in
+    let all = both_said (read_number id & read_number at) (read_up_to most len) p range.1 in
     let two = both_said (read_number id) (read_number at) p.0 all.0 in
-    let reads : map_ok a_file_range (read_number (decimal p.0.0) & read_number (decimal p.0.1) & read_len (decimal p.1)) ≡ Ok (File p.0.0 p.0.1 p.1) = rw (read_number_again id p.0.0 two.0, read_number_again at p.0.1 two.1, read_len_again len p.1 all.1) refl in
-    subst BytesAgain range.2 (record {
-      reads = ap file_range (three_parts p.0.0 p.0.1 p.1) ∙ reads;
+    let reads : map_ok a_file_range (read_number (decimal p.0.0) & read_number (decimal p.0.1) & read_up_to most (decimal p.1)) ≡ Ok (File p.0.0 p.0.1 p.1) = rw (read_number_again id p.0.0 two.0, read_number_again at p.0.1 two.1, read_up_to_again most len p.1 all.1) refl in
+    subst (BytesAgain most) range.2 (record {
+      reads = ap (file_range most) (three_parts p.0.0 p.0.1 p.1) ∙ reads;
       word = printable-file p.0.0 p.0.1 p.1;
     })
-file_again _ said e = cc
+file_again most _ said e = cc
 
 -- ---- all forms
-of_form : (text digits zeros file : Bool) (a b c d : Result BytesWord Fault) (said : BytesWord) → (a ≡ Ok said → BytesAgain said) → (b ≡ Ok said → BytesAgain said) → (c ≡ Ok said → BytesAgain said) → (d ≡ Ok said → BytesAgain said) → cond text a (cond digits b (cond zeros c (cond file d (Err Words)))) ≡ Ok said → BytesAgain said
-of_form true digits zeros file a b c d said f g h k e = f e
-of_form false true zeros file a b c d said f g h k e = g e
-of_form false false true file a b c d said f g h k e = h e
-of_form false false false true a b c d said f g h k e = k e
-of_form false false false false a b c d said f g h k e = cc
+of_form : (most : ℕ) (text digits zeros file : Bool) (a b c d : Result BytesWord Fault) (said : BytesWord) → (a ≡ Ok said → BytesAgain most said) → (b ≡ Ok said → BytesAgain most said) → (c ≡ Ok said → BytesAgain most said) → (d ≡ Ok said → BytesAgain most said) → cond text a (cond digits b (cond zeros c (cond file d (Err Words)))) ≡ Ok said → BytesAgain most said
+of_form most true digits zeros file a b c d said f g h k e = f e
+of_form most false true zeros file a b c d said f g h k e = g e
+of_form most false false true file a b c d said f g h k e = h e
+of_form most false false false true a b c d said f g h k e = k e
+of_form most false false false false a b c d said f g h k e = cc
 
 pub printable-word : (word : List ℕ) → is_word word ≡ true → list_all is_printable word ≡ true
 printable-word word e = (and_parts (is_filled word) (list_all is_printable word) e).1
 
-pub bytes_again : (word : List ℕ) (said : BytesWord) → is_word word ≡ true → read_bytes word ≡ Ok said → BytesAgain said
+pub bytes_again : (most : ℕ) (word : List ℕ) (said : BytesWord) → is_word word ≡ true → read_bytes most word ≡ Ok said → BytesAgain most said
 unfolding read_bytes
-bytes_again word said is e =
-    of_form (begins_with (codes "text:") word) (begins_with (codes "hex:") word) (begins_with (codes "zero:") word) (begins_with (codes "file:") word)
-    (few_bytes (drop 5 word) (Text (drop 5 word))) (of_hex (decode_of (drop 4 word))) (map_ok Zero (read_len (drop 5 word))) (file_range (slice_split is_colon (drop 5 word))) said
-    (text_again (drop 5 word) said (printable-drop 5 word (printable-word word is))) (digits_again (drop 4 word) said) (zeros_again (drop 5 word) said) (file_again (slice_split is_colon (drop 5 word)) said) e
+bytes_again most word said is e =
+    of_form most (begins_with (codes "text:") word) (begins_with (codes "hex:") word) (begins_with (codes "zero:") word) (begins_with (codes "file:") word)
+    (few_bytes most (drop 5 word) (Text (drop 5 word))) (of_hex most (decode_of (drop 4 word))) (map_ok Zero (read_up_to most (drop 5 word))) (file_range most (slice_split is_colon (drop 5 word))) said
+    (text_again most (drop 5 word) said (printable-drop 5 word (printable-word word is))) (digits_again most (drop 4 word) said) (zeros_again most (drop 5 word) said) (file_again most (slice_split is_colon (drop 5 word)) said) e

@@ -9,7 +9,7 @@ use Rattle.std.proofs.lemmas.Fmt.{decimal_is_IsNumeral, length-decimal-le}
 use Rattle.std.proofs.lemmas.Str.Parse.{digit_from_value}
 use Rattle.fab_words.specs.declared.fault.Fault.{Fault}
 use Rattle.fab_words.specs.declared.fault.Fault.TheVariants.{Number, Limit}
-use Rattle.fab_words.specs.Words.{only_if, is_numeral, numeral_of, begins_with, number_of, read_number, within, read_up_to, read_index, read_len}
+use Rattle.fab_words.specs.Words.{only_if, is_numeral, numeral_of, begins_with, number_of, read_number, within, read_up_to, read_index}
 use Rattle.fab_words.proofs.NumberLemmas.{numeral_of_digits}
 
 -- digits
@@ -129,7 +129,3 @@ read_up_to_again most word n e = let small = read_up_to_small most word n e in r
 pub read_index_again : (word : List ℕ) (n : ℕ) → read_index word ≡ Ok n → read_index (decimal n) ≡ Ok n
 unfolding read_index
 read_index_again word n e = read_up_to_again 4294967295 word n e
-
-pub read_len_again : (word : List ℕ) (n : ℕ) → read_len word ≡ Ok n → read_len (decimal n) ≡ Ok n
-unfolding read_len
-read_len_again word n e = read_up_to_again 33554432 word n e

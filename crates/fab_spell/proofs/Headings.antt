@@ -3,6 +3,7 @@ use Rattle.std.proofs.Common.{◌≡◌, ℕ, Bool, true, false, cond, ◌&&◌,
 use Rattle.std.proofs.lemmas.Bool.{and_from}
 use Rattle.std.specs.List.{list_all}
 use Rattle.fab_base.specs.Offer.{limits_of}
+use Rattle.fab_base.specs.declared.caps.Api.{Api}
 use Rattle.fab_base.specs.declared.limits.Limits.{Limits}
 use Rattle.fab_base.specs.declared.limits.Size.{Size}
 use Rattle.fab_base.specs.declared.limits.Size.TheVariants as size
@@ -42,20 +43,20 @@ between_said limits (Ok m) n e = ap Ok (by (leb limits.least m && leb m limits.g
     by false f = cc
 between_said limits (Err fault) n e = cc
 
-record SizeAgain (size : Size) (n : ℕ) : Type 0 where
-  reads : size_of size (decimal n ∷ []) ≡ Ok n
+record SizeAgain (api : Api) (size : Size) (n : ℕ) : Type 0 where
+  reads : size_of api size (decimal n ∷ []) ≡ Ok n
   words : list_all is_word (decimal n ∷ []) ≡ true
 
-size_again : (size : Size) (args : List (List ℕ)) (n : ℕ) → size_of size args ≡ Ok n → SizeAgain size n
+size_again : (api : Api) (size : Size) (args : List (List ℕ)) (n : ℕ) → size_of api size args ≡ Ok n → SizeAgain api size n
 unfolding size_of
-size_again size [] n e = cc
-size_again size (word ∷ []) n e =
-    let said = between_said (limits_of size) (read_number word) n e in
+size_again api size [] n e = cc
+size_again api size (word ∷ []) n e =
+    let said = between_said (limits_of api size) (read_number word) n e in
     record {
-      reads = ap (between (limits_of size)) (read_number_again word n said ∙ sym said) ∙ e;
+      reads = ap (between (limits_of api size)) (read_number_again word n said ∙ sym said) ∙ e;
       words = alone (decimal n) (is_word-decimal n);
     }
-size_again size (word ∷ next ∷ more) n e = cc
+size_again api size (word ∷ next ∷ more) n e = cc
 
 -- payloads
 
@@ -65,9 +66,9 @@ both_said (Ok a) (Err g) p e = cc
 both_said (Err f) (Ok b) p e = cc
 both_said (Err f) (Err g) p e = cc
 
-file_again : (id name : List ℕ) (p : ℕ × List ℕ) → list_all is_word (id ∷ name ∷ []) ≡ true → (read_number id & read_text name) ≡ Ok p → SettingAgain (a_file p)
+file_again : (api : Api) (id name : List ℕ) (p : ℕ × List ℕ) → list_all is_word (id ∷ name ∷ []) ≡ true → (read_number id & read_text name) ≡ Ok p → SettingAgain api (a_file p)
 unfolding setting_of payload_setting
-file_again id name p words e =
+file_again api id name p words e =
     let said = both_said (read_number id) (read_text name) p e in
     let same = text_said name p.1 said.1 in
     let number = read_number_again id p.0 said.0 in
@@ -81,83 +82,83 @@ file_again id name p words e =
 
 -- each setting
 
-peers_spelled : (args : List (List ℕ)) (s : Setting) → map_ok Peers (size_of size.Peers args) ≡ Ok s → SettingAgain s
+peers_spelled : (api : Api) (args : List (List ℕ)) (s : Setting) → map_ok Peers (size_of api size.Peers args) ≡ Ok s → SettingAgain api s
 unfolding setting_of wish_of
-peers_spelled args s e =
-    let made = made_of Peers (size_of size.Peers args) s e in
-    let again = size_again size.Peers args made.0 made.1 in
-    subst SettingAgain made.2 (record { kind = refl; words = again.words; reads = ap (map_ok Peers) again.reads })
+peers_spelled api args s e =
+    let made = made_of Peers (size_of api size.Peers args) s e in
+    let again = size_again api size.Peers args made.0 made.1 in
+    subst (SettingAgain api) made.2 (record { kind = refl; words = again.words; reads = ap (map_ok Peers) again.reads })
 
-lane_spelled : (args : List (List ℕ)) (s : Setting) → map_ok (Wish size.Lane) (size_of size.Lane args) ≡ Ok s → SettingAgain s
+lane_spelled : (api : Api) (args : List (List ℕ)) (s : Setting) → map_ok (Wish size.Lane) (size_of api size.Lane args) ≡ Ok s → SettingAgain api s
 unfolding setting_of wish_of
-lane_spelled args s e =
-    let made = made_of (Wish size.Lane) (size_of size.Lane args) s e in
-    let again = size_again size.Lane args made.0 made.1 in
-    subst SettingAgain made.2 (record { kind = refl; words = again.words; reads = ap (map_ok (Wish size.Lane)) again.reads })
+lane_spelled api args s e =
+    let made = made_of (Wish size.Lane) (size_of api size.Lane args) s e in
+    let again = size_again api size.Lane args made.0 made.1 in
+    subst (SettingAgain api) made.2 (record { kind = refl; words = again.words; reads = ap (map_ok (Wish size.Lane)) again.reads })
 
-pool_spelled : (args : List (List ℕ)) (s : Setting) → map_ok (Wish size.Pool) (size_of size.Pool args) ≡ Ok s → SettingAgain s
+pool_spelled : (api : Api) (args : List (List ℕ)) (s : Setting) → map_ok (Wish size.Pool) (size_of api size.Pool args) ≡ Ok s → SettingAgain api s
 unfolding setting_of wish_of
-pool_spelled args s e =
-    let made = made_of (Wish size.Pool) (size_of size.Pool args) s e in
-    let again = size_again size.Pool args made.0 made.1 in
-    subst SettingAgain made.2 (record { kind = refl; words = again.words; reads = ap (map_ok (Wish size.Pool)) again.reads })
+pool_spelled api args s e =
+    let made = made_of (Wish size.Pool) (size_of api size.Pool args) s e in
+    let again = size_again api size.Pool args made.0 made.1 in
+    subst (SettingAgain api) made.2 (record { kind = refl; words = again.words; reads = ap (map_ok (Wish size.Pool)) again.reads })
 
-tx_spelled : (args : List (List ℕ)) (s : Setting) → map_ok (Wish size.Tx) (size_of size.Tx args) ≡ Ok s → SettingAgain s
+tx_spelled : (api : Api) (args : List (List ℕ)) (s : Setting) → map_ok (Wish size.Tx) (size_of api size.Tx args) ≡ Ok s → SettingAgain api s
 unfolding setting_of wish_of
-tx_spelled args s e =
-    let made = made_of (Wish size.Tx) (size_of size.Tx args) s e in
-    let again = size_again size.Tx args made.0 made.1 in
-    subst SettingAgain made.2 (record { kind = refl; words = again.words; reads = ap (map_ok (Wish size.Tx)) again.reads })
+tx_spelled api args s e =
+    let made = made_of (Wish size.Tx) (size_of api size.Tx args) s e in
+    let again = size_again api size.Tx args made.0 made.1 in
+    subst (SettingAgain api) made.2 (record { kind = refl; words = again.words; reads = ap (map_ok (Wish size.Tx)) again.reads })
 
-rx_spelled : (args : List (List ℕ)) (s : Setting) → map_ok (Wish size.Rx) (size_of size.Rx args) ≡ Ok s → SettingAgain s
+rx_spelled : (api : Api) (args : List (List ℕ)) (s : Setting) → map_ok (Wish size.Rx) (size_of api size.Rx args) ≡ Ok s → SettingAgain api s
 unfolding setting_of wish_of
-rx_spelled args s e =
-    let made = made_of (Wish size.Rx) (size_of size.Rx args) s e in
-    let again = size_again size.Rx args made.0 made.1 in
-    subst SettingAgain made.2 (record { kind = refl; words = again.words; reads = ap (map_ok (Wish size.Rx)) again.reads })
+rx_spelled api args s e =
+    let made = made_of (Wish size.Rx) (size_of api size.Rx args) s e in
+    let again = size_again api size.Rx args made.0 made.1 in
+    subst (SettingAgain api) made.2 (record { kind = refl; words = again.words; reads = ap (map_ok (Wish size.Rx)) again.reads })
 
-cq_spelled : (args : List (List ℕ)) (s : Setting) → map_ok (Wish size.Cq) (size_of size.Cq args) ≡ Ok s → SettingAgain s
+cq_spelled : (api : Api) (args : List (List ℕ)) (s : Setting) → map_ok (Wish size.Cq) (size_of api size.Cq args) ≡ Ok s → SettingAgain api s
 unfolding setting_of wish_of
-cq_spelled args s e =
-    let made = made_of (Wish size.Cq) (size_of size.Cq args) s e in
-    let again = size_again size.Cq args made.0 made.1 in
-    subst SettingAgain made.2 (record { kind = refl; words = again.words; reads = ap (map_ok (Wish size.Cq)) again.reads })
+cq_spelled api args s e =
+    let made = made_of (Wish size.Cq) (size_of api size.Cq args) s e in
+    let again = size_again api size.Cq args made.0 made.1 in
+    subst (SettingAgain api) made.2 (record { kind = refl; words = again.words; reads = ap (map_ok (Wish size.Cq)) again.reads })
 
-caps_spelled : (args : List (List ℕ)) (s : Setting) → caps_setting args ≡ Ok s → SettingAgain s
+caps_spelled : (api : Api) (args : List (List ℕ)) (s : Setting) → caps_setting args ≡ Ok s → SettingAgain api s
 unfolding setting_of caps_setting
-caps_spelled [] s e = cc
-caps_spelled (word ∷ []) s e =
+caps_spelled api [] s e = cc
+caps_spelled api (word ∷ []) s e =
     let made = made_of Capabilities (caps_of word) s e in
     let again = caps_again word made.0 made.1 in
-    subst SettingAgain made.2 (record { kind = refl; words = alone (caps_word made.0) again.1; reads = ap (map_ok Capabilities) again.0 })
-caps_spelled (word ∷ next ∷ more) s e = cc
+    subst (SettingAgain api) made.2 (record { kind = refl; words = alone (caps_word made.0) again.1; reads = ap (map_ok Capabilities) again.0 })
+caps_spelled api (word ∷ next ∷ more) s e = cc
 
-selective_spelled : (args : List (List ℕ)) (s : Setting) → selective_setting args ≡ Ok s → SettingAgain s
+selective_spelled : (api : Api) (args : List (List ℕ)) (s : Setting) → selective_setting args ≡ Ok s → SettingAgain api s
 unfolding setting_of selective_setting
-selective_spelled [] s e = let same : Selective ≡ s = cc in subst SettingAgain same (record { kind = refl; words = refl; reads = refl })
-selective_spelled (word ∷ more) s e = cc
+selective_spelled api [] s e = let same : Selective ≡ s = cc in subst (SettingAgain api) same (record { kind = refl; words = refl; reads = refl })
+selective_spelled api (word ∷ more) s e = cc
 
-payload_spelled : (args : List (List ℕ)) (s : Setting) → list_all is_word args ≡ true → payload_setting args ≡ Ok s → SettingAgain s
+payload_spelled : (api : Api) (args : List (List ℕ)) (s : Setting) → list_all is_word args ≡ true → payload_setting args ≡ Ok s → SettingAgain api s
 unfolding payload_setting
-payload_spelled [] s words e = cc
-payload_spelled (id ∷ []) s words e = cc
-payload_spelled (id ∷ name ∷ []) s words e =
+payload_spelled api [] s words e = cc
+payload_spelled api (id ∷ []) s words e = cc
+payload_spelled api (id ∷ name ∷ []) s words e =
     let made = made_of a_file (read_number id & read_text name) s e in
-    subst SettingAgain made.2 (file_again id name made.0 words made.1)
-payload_spelled (id ∷ name ∷ next ∷ more) s words e = cc
+    subst (SettingAgain api) made.2 (file_again api id name made.0 words made.1)
+payload_spelled api (id ∷ name ∷ next ∷ more) s words e = cc
 
-spelled : (verb : Verb) (args : List (List ℕ)) (s : Setting) → list_all is_word args ≡ true → setting_of verb args ≡ Ok s → SettingAgain s
+spelled : (api : Api) (verb : Verb) (args : List (List ℕ)) (s : Setting) → list_all is_word args ≡ true → setting_of api verb args ≡ Ok s → SettingAgain api s
 unfolding setting_of wish_of
-spelled verb.Peers args s words e = peers_spelled args s e
-spelled verb.Lane args s words e = lane_spelled args s e
-spelled verb.Pool args s words e = pool_spelled args s e
-spelled verb.Tx args s words e = tx_spelled args s e
-spelled verb.Rx args s words e = rx_spelled args s e
-spelled verb.Cq args s words e = cq_spelled args s e
-spelled verb.Caps args s words e = caps_spelled args s e
-spelled verb.Selective args s words e = selective_spelled args s e
-spelled verb.Payload args s words e = payload_spelled args s words e
-spelled _ args s words e = cc
+spelled api verb.Peers args s words e = peers_spelled api args s e
+spelled api verb.Lane args s words e = lane_spelled api args s e
+spelled api verb.Pool args s words e = pool_spelled api args s e
+spelled api verb.Tx args s words e = tx_spelled api args s e
+spelled api verb.Rx args s words e = rx_spelled api args s e
+spelled api verb.Cq args s words e = cq_spelled api args s e
+spelled api verb.Caps args s words e = caps_spelled api args s e
+spelled api verb.Selective args s words e = selective_spelled api args s e
+spelled api verb.Payload args s words e = payload_spelled api args s words e
+spelled api _ args s words e = cc
 
-pub setting_again : (s : Setting) → SettingRead s → SettingAgain s
-setting_again s read = spelled read.verb read.args s read.words read.reads
+pub setting_again : (api : Api) (s : Setting) → SettingRead api s → SettingAgain api s
+setting_again api s read = spelled api read.verb read.args s read.words read.reads

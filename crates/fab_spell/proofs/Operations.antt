@@ -13,37 +13,37 @@ use Rattle.fab_spell.proofs.Receives.{recv_spelt, trecv_spelt, mrecv_spelt, peek
 use Rattle.fab_spell.proofs.Remote.{read_spelt, write_spelt, winject_spelt, atomic_spelt, fetch_spelt, compare_spelt}
 use Rattle.fab_spell.proofs.Sends.{send_spelt, tsend_spelt, inject_spelt, tinject_spelt}
 
-op_spelt : (verb : Verb) (args : List (List ℕ)) (op : LineOp) → list_all is_word args ≡ true → op_of verb args ≡ Ok op → Again op
+op_spelt : (most : ℕ) (verb : Verb) (args : List (List ℕ)) (op : LineOp) → list_all is_word args ≡ true → op_of most verb args ≡ Ok op → Again most op
 unfolding op_of
-op_spelt verb.Send args op are e = send_spelt args op are e
-op_spelt verb.TSend args op are e = tsend_spelt args op are e
-op_spelt verb.Inject args op are e = inject_spelt args op are e
-op_spelt verb.TInject args op are e = tinject_spelt args op are e
-op_spelt verb.Recv args op are e = recv_spelt args op e
-op_spelt verb.TRecv args op are e = trecv_spelt args op e
-op_spelt verb.MRecv args op are e = mrecv_spelt args op e
-op_spelt verb.Peek args op are e = peek_spelt args op e
-op_spelt verb.Claim args op are e = claim_spelt args op e
-op_spelt verb.Discard args op are e = discard_spelt args op e
-op_spelt verb.Take args op are e = take_spelt args op e
-op_spelt verb.DropClaimed args op are e = drop_spelt args op e
-op_spelt verb.Cancel args op are e = cancel_spelt args op e
-op_spelt verb.Read args op are e = read_spelt args op e
-op_spelt verb.Write args op are e = write_spelt args op are e
-op_spelt verb.WInject args op are e = winject_spelt args op are e
-op_spelt verb.Atomic args op are e = atomic_spelt args op e
-op_spelt verb.Fetch args op are e = fetch_spelt args op e
-op_spelt verb.Compare args op are e = compare_spelt args op e
-op_spelt verb.Reg args op are e = reg_spelt args op are e
-op_spelt verb.Close args op are e = close_spelt args op e
-op_spelt verb.Put args op are e = put_spelt args op are e
-op_spelt verb.Show args op are e = show_spelt args op e
-op_spelt verb.Insert args op are e = insert_spelt args op are e
-op_spelt verb.Remove args op are e = remove_spelt args op e
-op_spelt verb.Wait args op are e = wait_spelt args op e
-op_spelt verb.Count args op are e = count_spelt args op e
-op_spelt verb.Reach args op are e = reach_spelt args op e
-op_spelt _ args op are e = cc
+op_spelt most verb.Send args op are e = send_spelt most args op are e
+op_spelt most verb.TSend args op are e = tsend_spelt most args op are e
+op_spelt most verb.Inject args op are e = inject_spelt most args op are e
+op_spelt most verb.TInject args op are e = tinject_spelt most args op are e
+op_spelt most verb.Recv args op are e = recv_spelt most args op e
+op_spelt most verb.TRecv args op are e = trecv_spelt most args op e
+op_spelt most verb.MRecv args op are e = mrecv_spelt most args op e
+op_spelt most verb.Peek args op are e = peek_spelt most args op e
+op_spelt most verb.Claim args op are e = claim_spelt most args op e
+op_spelt most verb.Discard args op are e = discard_spelt most args op e
+op_spelt most verb.Take args op are e = take_spelt most args op e
+op_spelt most verb.DropClaimed args op are e = drop_spelt most args op e
+op_spelt most verb.Cancel args op are e = cancel_spelt most args op e
+op_spelt most verb.Read args op are e = read_spelt most args op e
+op_spelt most verb.Write args op are e = write_spelt most args op are e
+op_spelt most verb.WInject args op are e = winject_spelt most args op are e
+op_spelt most verb.Atomic args op are e = atomic_spelt most args op e
+op_spelt most verb.Fetch args op are e = fetch_spelt most args op e
+op_spelt most verb.Compare args op are e = compare_spelt most args op e
+op_spelt most verb.Reg args op are e = reg_spelt most args op are e
+op_spelt most verb.Close args op are e = close_spelt most args op e
+op_spelt most verb.Put args op are e = put_spelt most args op are e
+op_spelt most verb.Show args op are e = show_spelt most args op e
+op_spelt most verb.Insert args op are e = insert_spelt most args op are e
+op_spelt most verb.Remove args op are e = remove_spelt most args op e
+op_spelt most verb.Wait args op are e = wait_spelt most args op e
+op_spelt most verb.Count args op are e = count_spelt most args op e
+op_spelt most verb.Reach args op are e = reach_spelt most args op e
+op_spelt most _ args op are e = cc
 
-pub op_again : (op : LineOp) → WasRead op → Again op
-op_again op was = op_spelt was.verb was.args op was.words was.reads
+pub op_again : (most : ℕ) (op : LineOp) → WasRead most op → Again most op
+op_again most op was = op_spelt most was.verb was.args op was.words was.reads

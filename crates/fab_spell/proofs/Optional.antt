@@ -8,7 +8,7 @@ use Rattle.fab_base.specs.declared.peers.Level.{Level}
 use Rattle.fab_base.specs.declared.peers.Level.TheVariants as level
 use Rattle.fab_grammar.specs.declared.options.Allowed.{Allowed}
 use Rattle.fab_grammar.specs.declared.options.Options.{Options}
-use Rattle.fab_grammar.specs.Options.{level_named, optional_of, are_options, value_after, read_if, level_in, has_completion, the_options, read_options}
+use Rattle.fab_grammar.specs.Options.{level_named, optional_of, are_options, value_after, read_if, level_in, has_word, the_options, read_options}
 use Rattle.fab_grammar.specs.Sends.{for_send, for_inject, for_write, for_multi}
 use Rattle.fab_grammar.specs.Atomics.{for_atomic}
 use Rattle.fab_words.specs.declared.fault.Fault.{Fault}
@@ -16,7 +16,7 @@ use Rattle.fab_words.specs.declared.fault.Fault.TheVariants.{Words}
 use Rattle.fab_words.specs.Faults.{◌&◌, map_ok}
 use Rattle.fab_words.specs.Words.{read_number, read_index}
 use Rattle.fab_words.specs.Written.{is_word}
-use Rattle.fab_spell.specs.Spelling.{imm_words, level_words, completion_words, min_words}
+use Rattle.fab_spell.specs.Spelling.{imm_words, level_words, completion_words, fence_words, min_words}
 use Rattle.fab_spell.proofs.Decimals.{read_number_again, read_index_again}
 use Rattle.fab_spell.proofs.Numbers.{digits-decimal, printable-digits}
 use Rattle.fab_spell.proofs.Said.{both_said, said_by, said_if}
@@ -39,7 +39,8 @@ pub record Said (words : List (List ℕ)) (o : Options) : Type 0 where
   pub imm : read_if read_number (value_after (codes "data=") words) ≡ Ok o.imm
   pub min : read_if read_index (value_after (codes "min=") words) ≡ Ok o.min
   pub level : level_in words ≡ o.level
-  pub completion : has_completion words ≡ o.completion
+  pub completion : has_word (codes "completion") words ≡ o.completion
+  pub fence : has_word (codes "fence") words ≡ o.fence
 
 pub options_said : (allowed : Allowed) (words : List (List ℕ)) (o : Options) → read_options allowed words ≡ Ok o → Said words o
 unfolding read_options
@@ -49,7 +50,7 @@ options_said allowed words o e =
     let all = said_if (are_options allowed words) (map_ok (the_options words) (imm & min)) Words o e in
     let both = said_by (the_options words) (imm & min) o all.1 in
     let each = both_said imm min both.0 both.1 in
-    subst (Said words) both.2 (record { imm = each.0; min = each.1; level = refl; completion = refl })
+    subst (Said words) both.2 (record { imm = each.0; min = each.1; level = refl; completion = refl; fence = refl })
 
 pub imm_again : (words : List (List ℕ)) (o : Options) → Said words o → ReadsIf read_number o.imm
 imm_again words o said = if_again read_number read_number_again (value_after (codes "data=") words) o.imm said.imm
@@ -58,49 +59,53 @@ pub min_again : (words : List (List ℕ)) (o : Options) → Said words o → Rea
 min_again words o said = if_again read_index read_index_again (value_after (codes "min=") words) o.min said.min
 
 -- ---- of the lines that have them
-abbrev pub options : Option ℕ → Level → Bool → Option ℕ → Options
-options imm level completion min = record { imm = imm; level = level; completion = completion; min = min }
+abbrev pub options : Option ℕ → Level → Bool → Bool → Option ℕ → Options
+options imm level completion fence min = record { imm = imm; level = level; completion = completion; fence = fence; min = min }
 
-pub inject_options : (imm : Option ℕ) → ReadsIf read_number imm → read_options for_inject (imm_words imm) ≡ Ok (options imm level.Transmit false None)
-unfolding read_options level_in has_completion optional_of
+of_flags : (P : Bool → Bool → Type 0) → P true true → P true false → P false true → P false false → (a b : Bool) → P a b
+of_flags P both first second none true true = both
+of_flags P both first second none true false = first
+of_flags P both first second none false true = second
+of_flags P both first second none false false = none
+
+pub inject_options : (imm : Option ℕ) → ReadsIf read_number imm → read_options for_inject (imm_words imm) ≡ Ok (options imm level.Transmit false false None)
+unfolding read_options level_in has_word optional_of
 inject_options None h = refl
 inject_options (Some n) h = rw h refl
 
-pub multi_options : (min : Option ℕ) → ReadsIf read_index min → read_options for_multi (min_words min) ≡ Ok (options None level.Transmit false min)
-unfolding read_options level_in has_completion optional_of
+pub multi_options : (min : Option ℕ) → ReadsIf read_index min → read_options for_multi (min_words min) ≡ Ok (options None level.Transmit false false min)
+unfolding read_options level_in has_word optional_of
 multi_options None h = refl
 multi_options (Some n) h = rw h refl
 
-pub atomic_options : (completion : Bool) → read_options for_atomic (completion_words completion) ≡ Ok (options None level.Transmit completion None)
-unfolding read_options level_in has_completion optional_of
-atomic_options true = refl
-atomic_options false = refl
+abbrev AtomicAgain : Bool → Bool → Type 0
+AtomicAgain completion fence = read_options for_atomic (completion_words completion ++ fence_words fence) ≡ Ok (options None level.Transmit completion fence None)
 
-pub write_options : (imm : Option ℕ) (completion : Bool) → ReadsIf read_number imm → read_options for_write (imm_words imm ++ completion_words completion) ≡ Ok (options imm level.Transmit completion None)
-unfolding read_options level_in has_completion optional_of
-write_options None true h = refl
-write_options None false h = refl
-write_options (Some n) true h = rw h refl
-write_options (Some n) false h = rw h refl
+pub atomic_options : (completion fence : Bool) → AtomicAgain completion fence
+unfolding read_options level_in has_word optional_of
+atomic_options completion fence = of_flags AtomicAgain refl refl refl refl completion fence
 
-pub send_options : (imm : Option ℕ) (level : Level) (completion : Bool) → ReadsIf read_number imm → read_options for_send (imm_words imm ++ level_words level ++ completion_words completion) ≡ Ok (options imm level completion None)
-unfolding read_options level_in has_completion optional_of level_named
-send_options None level.Inject true h = refl
-send_options None level.Inject false h = refl
-send_options None level.Transmit true h = refl
-send_options None level.Transmit false h = refl
-send_options None level.Delivery true h = refl
-send_options None level.Delivery false h = refl
-send_options None level.Match true h = refl
-send_options None level.Match false h = refl
-send_options (Some n) level.Inject true h = rw h refl
-send_options (Some n) level.Inject false h = rw h refl
-send_options (Some n) level.Transmit true h = rw h refl
-send_options (Some n) level.Transmit false h = rw h refl
-send_options (Some n) level.Delivery true h = rw h refl
-send_options (Some n) level.Delivery false h = rw h refl
-send_options (Some n) level.Match true h = rw h refl
-send_options (Some n) level.Match false h = rw h refl
+abbrev WriteAgain : Option ℕ → Bool → Bool → Type 0
+WriteAgain imm completion fence = read_options for_write (imm_words imm ++ completion_words completion ++ fence_words fence) ≡ Ok (options imm level.Transmit completion fence None)
+
+pub write_options : (imm : Option ℕ) (completion fence : Bool) → ReadsIf read_number imm → WriteAgain imm completion fence
+unfolding read_options level_in has_word optional_of
+write_options None completion fence h = of_flags (WriteAgain None) refl refl refl refl completion fence
+write_options (Some n) completion fence h = of_flags (WriteAgain (Some n)) (rw h refl) (rw h refl) (rw h refl) (rw h refl) completion fence
+
+abbrev SendAgain : Option ℕ → Level → Bool → Bool → Type 0
+SendAgain imm level completion fence = read_options for_send (imm_words imm ++ level_words level ++ completion_words completion ++ fence_words fence) ≡ Ok (options imm level completion fence None)
+
+pub send_options : (imm : Option ℕ) (level : Level) (completion fence : Bool) → ReadsIf read_number imm → SendAgain imm level completion fence
+unfolding read_options level_in has_word optional_of level_named
+send_options None level.Inject completion fence h = of_flags (SendAgain None level.Inject) refl refl refl refl completion fence
+send_options None level.Transmit completion fence h = of_flags (SendAgain None level.Transmit) refl refl refl refl completion fence
+send_options None level.Delivery completion fence h = of_flags (SendAgain None level.Delivery) refl refl refl refl completion fence
+send_options None level.Match completion fence h = of_flags (SendAgain None level.Match) refl refl refl refl completion fence
+send_options (Some n) level.Inject completion fence h = of_flags (SendAgain (Some n) level.Inject) (rw h refl) (rw h refl) (rw h refl) (rw h refl) completion fence
+send_options (Some n) level.Transmit completion fence h = of_flags (SendAgain (Some n) level.Transmit) (rw h refl) (rw h refl) (rw h refl) (rw h refl) completion fence
+send_options (Some n) level.Delivery completion fence h = of_flags (SendAgain (Some n) level.Delivery) (rw h refl) (rw h refl) (rw h refl) (rw h refl) completion fence
+send_options (Some n) level.Match completion fence h = of_flags (SendAgain (Some n) level.Match) (rw h refl) (rw h refl) (rw h refl) (rw h refl) completion fence
 
 -- ---- they are words
 pub are_words-imm : (imm : Option ℕ) → list_all is_word (imm_words imm) ≡ true
@@ -120,6 +125,10 @@ are_words-level level.Match = refl
 pub are_words-completion : (completion : Bool) → list_all is_word (completion_words completion) ≡ true
 are_words-completion true = refl
 are_words-completion false = refl
+
+pub are_words-fence : (fence : Bool) → list_all is_word (fence_words fence) ≡ true
+are_words-fence true = refl
+are_words-fence false = refl
 
 pub are_words-append : (xs ys : List (List ℕ)) → list_all is_word xs ≡ true → list_all is_word ys ≡ true → list_all is_word (xs ++ ys) ≡ true
 are_words-append xs ys e f = list_all-append is_word xs ys ∙ and_from _ _ e f

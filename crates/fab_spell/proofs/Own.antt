@@ -30,123 +30,125 @@ right_again true false = (refl, refl)
 right_again false true = (refl, refl)
 right_again false false = (refl, refl)
 
-pub reg_spelt : (args : List (List ℕ)) (op : LineOp) → list_all is_word args ≡ true → reg_of args ≡ Ok op → Again op
-unfolding reg_of op_of verb_for args_for
-reg_spelt (key ∷ access ∷ bytes ∷ []) op are e =
-    let said = said_by a_reg (read_number key & read_rights access & read_bytes bytes) op e in
-    let p = said.0 in
-    let all = both_said (read_number key & read_rights access) (read_bytes bytes) p said.1 in
-    let two = both_said (read_number key) (read_rights access) p.0 all.0 in
-    let again = bytes_again bytes p.1 (first_word bytes [] (other_words access (bytes ∷ []) (other_words key (access ∷ bytes ∷ []) are))) all.1 in
-    let right = right_again p.0.1.remote_read p.0.1.remote_write in
-    subst Again said.2 (record {
-      kind = refl;
-      words = rw (is_word-decimal p.0.0, right.1, again.word) refl;
-      reads = rw (read_number_again key p.0.0 two.0, right.0, again.reads) refl;
-    })
-reg_spelt _ op are e = cc
+-- where a line may name so many bytes
+module _ (most : ℕ) where
+  pub reg_spelt : (args : List (List ℕ)) (op : LineOp) → list_all is_word args ≡ true → reg_of most args ≡ Ok op → Again most op
+  unfolding reg_of op_of verb_for args_for
+  reg_spelt (key ∷ access ∷ bytes ∷ []) op are e =
+      let said = said_by a_reg (read_number key & read_rights access & read_bytes most bytes) op e in
+      let p = said.0 in
+      let all = both_said (read_number key & read_rights access) (read_bytes most bytes) p said.1 in
+      let two = both_said (read_number key) (read_rights access) p.0 all.0 in
+      let again = bytes_again most bytes p.1 (first_word bytes [] (other_words access (bytes ∷ []) (other_words key (access ∷ bytes ∷ []) are))) all.1 in
+      let right = right_again p.0.1.remote_read p.0.1.remote_write in
+      subst (Again most) said.2 (record {
+        kind = refl;
+        words = rw (is_word-decimal p.0.0, right.1, again.word) refl;
+        reads = rw (read_number_again key p.0.0 two.0, right.0, again.reads) refl;
+      })
+  reg_spelt _ op are e = cc
 
-pub put_spelt : (args : List (List ℕ)) (op : LineOp) → list_all is_word args ≡ true → put_of args ≡ Ok op → Again op
-unfolding put_of op_of verb_for args_for
-put_spelt (key ∷ at ∷ bytes ∷ []) op are e =
-    let said = said_by a_put (read_number key & read_number at & read_bytes bytes) op e in
-    let p = said.0 in
-    let all = both_said (read_number key & read_number at) (read_bytes bytes) p said.1 in
-    let two = both_said (read_number key) (read_number at) p.0 all.0 in
-    let again = bytes_again bytes p.1 (first_word bytes [] (other_words at (bytes ∷ []) (other_words key (at ∷ bytes ∷ []) are))) all.1 in
-    subst Again said.2 (record {
-      kind = refl;
-      words = rw (is_word-decimal p.0.0, is_word-decimal p.0.1, again.word) refl;
-      reads = rw (read_number_again key p.0.0 two.0, read_number_again at p.0.1 two.1, again.reads) refl;
-    })
-put_spelt _ op are e = cc
+  pub put_spelt : (args : List (List ℕ)) (op : LineOp) → list_all is_word args ≡ true → put_of most args ≡ Ok op → Again most op
+  unfolding put_of op_of verb_for args_for
+  put_spelt (key ∷ at ∷ bytes ∷ []) op are e =
+      let said = said_by a_put (read_number key & read_number at & read_bytes most bytes) op e in
+      let p = said.0 in
+      let all = both_said (read_number key & read_number at) (read_bytes most bytes) p said.1 in
+      let two = both_said (read_number key) (read_number at) p.0 all.0 in
+      let again = bytes_again most bytes p.1 (first_word bytes [] (other_words at (bytes ∷ []) (other_words key (at ∷ bytes ∷ []) are))) all.1 in
+      subst (Again most) said.2 (record {
+        kind = refl;
+        words = rw (is_word-decimal p.0.0, is_word-decimal p.0.1, again.word) refl;
+        reads = rw (read_number_again key p.0.0 two.0, read_number_again at p.0.1 two.1, again.reads) refl;
+      })
+  put_spelt _ op are e = cc
 
-pub close_spelt : (args : List (List ℕ)) (op : LineOp) → map_ok Close (number_line args) ≡ Ok op → Again op
-unfolding op_of verb_for args_for
-close_spelt args op e =
-    let said = said_by Close (number_line args) op e in
-    subst Again said.2 (record { kind = refl; words = rw (is_word-decimal said.0) refl; reads = ap (map_ok Close) (number_line_again args said.0 said.1) })
+  pub close_spelt : (args : List (List ℕ)) (op : LineOp) → map_ok Close (number_line args) ≡ Ok op → Again most op
+  unfolding op_of verb_for args_for
+  close_spelt args op e =
+      let said = said_by Close (number_line args) op e in
+      subst (Again most) said.2 (record { kind = refl; words = rw (is_word-decimal said.0) refl; reads = ap (map_ok Close) (number_line_again args said.0 said.1) })
 
-pub show_spelt : (args : List (List ℕ)) (op : LineOp) → map_ok Show (number_line args) ≡ Ok op → Again op
-unfolding op_of verb_for args_for
-show_spelt args op e =
-    let said = said_by Show (number_line args) op e in
-    subst Again said.2 (record { kind = refl; words = rw (is_word-decimal said.0) refl; reads = ap (map_ok Show) (number_line_again args said.0 said.1) })
+  pub show_spelt : (args : List (List ℕ)) (op : LineOp) → map_ok Show (number_line args) ≡ Ok op → Again most op
+  unfolding op_of verb_for args_for
+  show_spelt args op e =
+      let said = said_by Show (number_line args) op e in
+      subst (Again most) said.2 (record { kind = refl; words = rw (is_word-decimal said.0) refl; reads = ap (map_ok Show) (number_line_again args said.0 said.1) })
 
--- ---- the address vector
-text_again : (word text : List ℕ) → read_text word ≡ Ok text → (word ≡ text) × (read_text text ≡ Ok text)
-unfolding read_text
-text_again word text e =
-    let said = said_if (is_utf8 word) (Ok word) Words text e in
-    let same : word ≡ text = cc (said.1) in
-    (same, subst (λ w. cond (is_utf8 w) (Ok w) (Err Words) ≡ Ok w) same (rw said.0 refl))
+  -- ---- the address vector
+  text_again : (word text : List ℕ) → read_text word ≡ Ok text → (word ≡ text) × (read_text text ≡ Ok text)
+  unfolding read_text
+  text_again word text e =
+      let said = said_if (is_utf8 word) (Ok word) Words text e in
+      let same : word ≡ text = cc (said.1) in
+      (same, subst (λ w. cond (is_utf8 w) (Ok w) (Err Words) ≡ Ok w) same (rw said.0 refl))
 
-pub insert_spelt : (args : List (List ℕ)) (op : LineOp) → list_all is_word args ≡ true → insert_of args ≡ Ok op → Again op
-unfolding insert_of op_of verb_for args_for
-insert_spelt (name ∷ []) op are e =
-    let said = said_by Insert (read_text name) op e in
-    let text = text_again name said.0 said.1 in
-    subst Again said.2 (record {
-      kind = refl;
-      words = subst (λ w. list_all is_word (w ∷ []) ≡ true) text.0 are;
-      reads = ap (map_ok Insert) text.1;
-    })
-insert_spelt _ op are e = cc
+  pub insert_spelt : (args : List (List ℕ)) (op : LineOp) → list_all is_word args ≡ true → insert_of args ≡ Ok op → Again most op
+  unfolding insert_of op_of verb_for args_for
+  insert_spelt (name ∷ []) op are e =
+      let said = said_by Insert (read_text name) op e in
+      let text = text_again name said.0 said.1 in
+      subst (Again most) said.2 (record {
+        kind = refl;
+        words = subst (λ w. list_all is_word (w ∷ []) ≡ true) text.0 are;
+        reads = ap (map_ok Insert) text.1;
+      })
+  insert_spelt _ op are e = cc
 
-pub remove_spelt : (args : List (List ℕ)) (op : LineOp) → remove_of args ≡ Ok op → Again op
-unfolding remove_of op_of verb_for args_for
-remove_spelt (index ∷ []) op e =
-    let said = said_by Remove (read_index index) op e in
-    subst Again said.2 (record { kind = refl; words = rw (is_word-decimal said.0) refl; reads = ap (map_ok Remove) (read_index_again index said.0 said.1) })
-remove_spelt _ op e = cc
+  pub remove_spelt : (args : List (List ℕ)) (op : LineOp) → remove_of args ≡ Ok op → Again most op
+  unfolding remove_of op_of verb_for args_for
+  remove_spelt (index ∷ []) op e =
+      let said = said_by Remove (read_index index) op e in
+      subst (Again most) said.2 (record { kind = refl; words = rw (is_word-decimal said.0) refl; reads = ap (map_ok Remove) (read_index_again index said.0 said.1) })
+  remove_spelt _ op e = cc
 
--- ---- completions
-wait_said : (any : Bool) (ctx : List ℕ) (op : LineOp) → cond any (Ok (Wait None)) (map_ok (λ n. Wait (Some n)) (read_number ctx)) ≡ Ok op → Again op
-unfolding wait_of op_of verb_for args_for
-wait_said true ctx op e =
-    let same : Wait None ≡ op = cc in
-    subst Again same (record { kind = refl; words = refl; reads = refl })
-wait_said false ctx op e =
-    let said = said_by (λ n. Wait (Some n)) (read_number ctx) op e in
-    subst Again said.2 (record {
-      kind = refl;
-      words = rw (is_word-decimal said.0) refl;
-      reads = rw (any-decimal said.0, read_number_again ctx said.0 said.1) refl;
-    })
+  -- ---- completions
+  wait_said : (any : Bool) (ctx : List ℕ) (op : LineOp) → cond any (Ok (Wait None)) (map_ok (λ n. Wait (Some n)) (read_number ctx)) ≡ Ok op → Again most op
+  unfolding wait_of op_of verb_for args_for
+  wait_said true ctx op e =
+      let same : Wait None ≡ op = cc in
+      subst (Again most) same (record { kind = refl; words = refl; reads = refl })
+  wait_said false ctx op e =
+      let said = said_by (λ n. Wait (Some n)) (read_number ctx) op e in
+      subst (Again most) said.2 (record {
+        kind = refl;
+        words = rw (is_word-decimal said.0) refl;
+        reads = rw (any-decimal said.0, read_number_again ctx said.0 said.1) refl;
+      })
 
-pub wait_spelt : (args : List (List ℕ)) (op : LineOp) → wait_of args ≡ Ok op → Again op
-unfolding wait_of
-wait_spelt (ctx ∷ []) op e = wait_said (bytes_eq ctx (codes "*")) ctx op e
-wait_spelt _ op e = cc
+  pub wait_spelt : (args : List (List ℕ)) (op : LineOp) → wait_of args ≡ Ok op → Again most op
+  unfolding wait_of
+  wait_spelt (ctx ∷ []) op e = wait_said (bytes_eq ctx (codes "*")) ctx op e
+  wait_spelt _ op e = cc
 
--- ---- counters
-class_again : (class : Class) → (read_class (class_name class) ≡ Ok class) × (is_word (class_name class) ≡ true)
-unfolding read_class class_named
-class_again class.Send = (refl, refl)
-class_again class.Recv = (refl, refl)
-class_again class.Read = (refl, refl)
-class_again class.Write = (refl, refl)
-class_again class.RemoteRead = (refl, refl)
-class_again class.RemoteWrite = (refl, refl)
+  -- ---- counters
+  class_again : (class : Class) → (read_class (class_name class) ≡ Ok class) × (is_word (class_name class) ≡ true)
+  unfolding read_class class_named
+  class_again class.Send = (refl, refl)
+  class_again class.Recv = (refl, refl)
+  class_again class.Read = (refl, refl)
+  class_again class.Write = (refl, refl)
+  class_again class.RemoteRead = (refl, refl)
+  class_again class.RemoteWrite = (refl, refl)
 
-pub count_spelt : (args : List (List ℕ)) (op : LineOp) → count_of args ≡ Ok op → Again op
-unfolding count_of op_of verb_for args_for
-count_spelt (word ∷ []) op e =
-    let said = said_by Count (read_class word) op e in
-    let again = class_again said.0 in
-    subst Again said.2 (record { kind = refl; words = rw (again.1) refl; reads = ap (map_ok Count) again.0 })
-count_spelt _ op e = cc
+  pub count_spelt : (args : List (List ℕ)) (op : LineOp) → count_of args ≡ Ok op → Again most op
+  unfolding count_of op_of verb_for args_for
+  count_spelt (word ∷ []) op e =
+      let said = said_by Count (read_class word) op e in
+      let again = class_again said.0 in
+      subst (Again most) said.2 (record { kind = refl; words = rw (again.1) refl; reads = ap (map_ok Count) again.0 })
+  count_spelt _ op e = cc
 
-pub reach_spelt : (args : List (List ℕ)) (op : LineOp) → reach_of args ≡ Ok op → Again op
-unfolding reach_of op_of verb_for args_for
-reach_spelt (word ∷ n ∷ []) op e =
-    let said = said_by a_reach (read_class word & read_number n) op e in
-    let p = said.0 in
-    let all = both_said (read_class word) (read_number n) p said.1 in
-    let again = class_again p.0 in
-    subst Again said.2 (record {
-      kind = refl;
-      words = rw (again.1, is_word-decimal p.1) refl;
-      reads = rw (again.0, read_number_again n p.1 all.1) refl;
-    })
-reach_spelt _ op e = cc
+  pub reach_spelt : (args : List (List ℕ)) (op : LineOp) → reach_of args ≡ Ok op → Again most op
+  unfolding reach_of op_of verb_for args_for
+  reach_spelt (word ∷ n ∷ []) op e =
+      let said = said_by a_reach (read_class word & read_number n) op e in
+      let p = said.0 in
+      let all = both_said (read_class word) (read_number n) p said.1 in
+      let again = class_again p.0 in
+      subst (Again most) said.2 (record {
+        kind = refl;
+        words = rw (again.1, is_word-decimal p.1) refl;
+        reads = rw (again.0, read_number_again n p.1 all.1) refl;
+      })
+  reach_spelt _ op e = cc

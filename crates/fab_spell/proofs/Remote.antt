@@ -1,5 +1,5 @@
 -- Lines on another peer's regions ask again.
-use Rattle.std.proofs.Common.{◌≡◌, ℕ, true, List, [], ◌∷◌, Some, decimal, arith, ap, subst, refl}
+use Rattle.std.proofs.Common.{◌≡◌, ℕ, true, List, [], ◌∷◌, ◌++◌, Some, decimal, arith, ap, subst, refl}
 use Rattle.std.specs.Prelude.{Result, Ok, Err, ok_or}
 use Rattle.std.specs.List.{list_all}
 use Rattle.fab_base.specs.declared.items.AtomicOp.{AtomicOp}
@@ -15,15 +15,15 @@ use Rattle.fab_words.specs.declared.fault.Fault.{Fault}
 use Rattle.fab_words.specs.declared.fault.Fault.TheVariants.{Words}
 use Rattle.fab_words.specs.Bytes.{read_bytes}
 use Rattle.fab_words.specs.Faults.{◌&◌, map_ok}
-use Rattle.fab_words.specs.Words.{read_number, read_up_to, read_index, read_len}
+use Rattle.fab_words.specs.Words.{read_number, read_up_to, read_index}
 use Rattle.fab_words.specs.Written.{is_word}
 use Rattle.fab_spell.specs.Elements.{values_word, count_word}
-use Rattle.fab_spell.specs.Spelling.{verb_for, args_for, operand_word, imm_words, completion_words}
+use Rattle.fab_spell.specs.Spelling.{verb_for, args_for, operand_word, imm_words, completion_words, fence_words}
 use Rattle.fab_spell.proofs.ByteWords.{bytes_again}
-use Rattle.fab_spell.proofs.Decimals.{read_number_decimal, read_number_again, read_index_again, read_len_again}
+use Rattle.fab_spell.proofs.Decimals.{read_number_decimal, read_number_again, read_index_again, read_up_to_again}
 use Rattle.fab_spell.proofs.Elements.{values_again, count_again}
 use Rattle.fab_spell.proofs.Numbers.{is_word-decimal}
-use Rattle.fab_spell.proofs.Optional.{options_said, imm_again, inject_options, write_options, atomic_options, are_words-imm, are_words-completion, are_words-append}
+use Rattle.fab_spell.proofs.Optional.{options_said, imm_again, inject_options, write_options, atomic_options, are_words-imm, are_words-completion, are_words-fence, are_words-append}
 use Rattle.fab_spell.proofs.Said.{both_said, said_by}
 use Rattle.fab_spell.proofs.Sends.{first_word, other_words}
 use Rattle.fab_spell.specs.Again.{Again}
@@ -40,57 +40,6 @@ unfolding read_remote
 remote_again ctx dest key at p e =
     let two = both_said (read_number ctx) (read_target dest key at) p e in
     rw (read_number_again ctx p.0 two.0, target_again dest key at p.1 two.1) refl
-
-pub read_spelt : (args : List (List ℕ)) (op : LineOp) → read_of args ≡ Ok op → Again op
-unfolding read_of op_of verb_for args_for
-read_spelt (ctx ∷ dest ∷ key ∷ at ∷ len ∷ []) op e =
-    let said = said_by a_read (read_number ctx & read_target dest key at & read_len len) op e in
-    let p = said.0 in
-    let all = both_said (read_number ctx & read_target dest key at) (read_len len) p said.1 in
-    let two = both_said (read_number ctx) (read_target dest key at) p.0 all.0 in
-    subst Again said.2 (record {
-      kind = refl;
-      words = rw (is_word-decimal p.0.0, is_word-decimal p.0.1.0.0, is_word-decimal p.0.1.0.1, is_word-decimal p.0.1.1, is_word-decimal p.1) refl;
-      reads = rw (read_number_again ctx p.0.0 two.0, target_again dest key at p.0.1 two.1, read_len_again len p.1 all.1) refl;
-    })
-read_spelt _ op e = cc
-
-pub write_spelt : (args : List (List ℕ)) (op : LineOp) → list_all is_word args ≡ true → write_of args ≡ Ok op → Again op
-unfolding write_of op_of verb_for args_for
-write_spelt (ctx ∷ dest ∷ key ∷ at ∷ bytes ∷ options) op are e =
-    let said = said_by a_write (read_remote ctx dest key at & read_bytes bytes & read_options for_write options) op e in
-    let p = said.0 in
-    let all = both_said (read_remote ctx dest key at & read_bytes bytes) (read_options for_write options) p said.1 in
-    let two = both_said (read_remote ctx dest key at) (read_bytes bytes) p.0 all.0 in
-    let r = p.0.0 in
-    let is = first_word bytes options (other_words at (bytes ∷ options) (other_words key (at ∷ bytes ∷ options) (other_words dest (key ∷ at ∷ bytes ∷ options) (other_words ctx (dest ∷ key ∷ at ∷ bytes ∷ options) are)))) in
-    let again = bytes_again bytes p.0.1 is two.1 in
-    let imm = imm_again options p.1 (options_said for_write options p.1 all.1) in
-    subst Again said.2 (record {
-      kind = refl;
-      words = rw (is_word-decimal r.0, is_word-decimal r.1.0.0, is_word-decimal r.1.0.1, is_word-decimal r.1.1, again.word)
-          (are_words-append (imm_words p.1.imm) (completion_words p.1.completion) (are_words-imm p.1.imm) (are_words-completion p.1.completion));
-      reads = rw (remote_again ctx dest key at r two.0, again.reads, write_options p.1.imm p.1.completion imm) refl;
-    })
-write_spelt _ op are e = cc
-
-pub winject_spelt : (args : List (List ℕ)) (op : LineOp) → list_all is_word args ≡ true → winject_of args ≡ Ok op → Again op
-unfolding winject_of op_of verb_for args_for
-winject_spelt (dest ∷ key ∷ at ∷ bytes ∷ options) op are e =
-    let said = said_by a_winject (read_target dest key at & read_bytes bytes & read_options for_inject options) op e in
-    let p = said.0 in
-    let all = both_said (read_target dest key at & read_bytes bytes) (read_options for_inject options) p said.1 in
-    let two = both_said (read_target dest key at) (read_bytes bytes) p.0 all.0 in
-    let r = p.0.0 in
-    let is = first_word bytes options (other_words at (bytes ∷ options) (other_words key (at ∷ bytes ∷ options) (other_words dest (key ∷ at ∷ bytes ∷ options) are))) in
-    let again = bytes_again bytes p.0.1 is two.1 in
-    let imm = imm_again options p.1 (options_said for_inject options p.1 all.1) in
-    subst Again said.2 (record {
-      kind = refl;
-      words = rw (is_word-decimal r.0.0, is_word-decimal r.0.1, is_word-decimal r.1, again.word) (are_words-imm p.1.imm);
-      reads = rw (target_again dest key at r two.0, again.reads, inject_options p.1.imm imm) refl;
-    })
-winject_spelt _ op are e = cc
 
 -- ---- operands
 atom_again : (atom : AtomicOp) → (atom_named (atom_name atom) ≡ Some atom) × (is_word (atom_name atom) ≡ true)
@@ -191,58 +140,113 @@ operand_again kind word values e = rw ((atom_again kind.0).0, (num_again kind.1)
 kind_same : (r : Result (AtomicOp × Num) Fault) (a b : AtomicOp × Num) → r ≡ Ok a → r ≡ Ok b → b ≡ a
 kind_same r a b e f = cc
 
--- ---- atomics
-pub atomic_spelt : (args : List (List ℕ)) (op : LineOp) → atomic_of args ≡ Ok op → Again op
-unfolding atomic_of read_request op_of verb_for args_for
-atomic_spelt (ctx ∷ dest ∷ key ∷ at ∷ atom ∷ num ∷ values ∷ options) op e =
-    let said = said_by an_atomic (read_remote ctx dest key at & read_operand atom num values & read_options for_atomic options) op e in
-    let p = said.0 in
-    let all = both_said (read_remote ctx dest key at & read_operand atom num values) (read_options for_atomic options) p said.1 in
-    let two = both_said (read_remote ctx dest key at) (read_operand atom num values) p.0 all.0 in
-    let r = p.0.0 in
-    let q = p.0.1 in
-    let again = values_said q.0.0 q.0.1 values q.1 (request_said atom num values q two.1).1 in
-    subst Again said.2 (record {
-      kind = refl;
-      words = rw (is_word-decimal r.0, is_word-decimal r.1.0.0, is_word-decimal r.1.0.1, is_word-decimal r.1.1, (atom_again q.0.0).1, (num_again q.0.1).1, again.alone_word) (are_words-completion p.1.completion);
-      reads = rw (remote_again ctx dest key at r two.0, operand_again q.0 (operand_word q.0.0 q.0.1 q.1.0 0) (q.1.0, again.n) again.alone, atomic_options p.1.completion) refl;
-    })
-atomic_spelt _ op e = cc
+-- ---- lines, where one may name so many bytes or make room for them
+module _ (most : ℕ) where
+  pub read_spelt : (args : List (List ℕ)) (op : LineOp) → read_of most args ≡ Ok op → Again most op
+  unfolding read_of op_of verb_for args_for
+  read_spelt (ctx ∷ dest ∷ key ∷ at ∷ len ∷ []) op e =
+      let said = said_by a_read (read_number ctx & read_target dest key at & read_up_to most len) op e in
+      let p = said.0 in
+      let all = both_said (read_number ctx & read_target dest key at) (read_up_to most len) p said.1 in
+      let two = both_said (read_number ctx) (read_target dest key at) p.0 all.0 in
+      subst (Again most) said.2 (record {
+        kind = refl;
+        words = rw (is_word-decimal p.0.0, is_word-decimal p.0.1.0.0, is_word-decimal p.0.1.0.1, is_word-decimal p.0.1.1, is_word-decimal p.1) refl;
+        reads = rw (read_number_again ctx p.0.0 two.0, target_again dest key at p.0.1 two.1, read_up_to_again most len p.1 all.1) refl;
+      })
+  read_spelt _ op e = cc
 
-pub fetch_spelt : (args : List (List ℕ)) (op : LineOp) → fetch_of args ≡ Ok op → Again op
-unfolding fetch_of read_request op_of verb_for args_for
-fetch_spelt (ctx ∷ dest ∷ key ∷ at ∷ atom ∷ num ∷ values ∷ []) op e =
-    let said = said_by a_fetch (read_remote ctx dest key at & read_operand atom num values) op e in
-    let p = said.0 in
-    let two = both_said (read_remote ctx dest key at) (read_operand atom num values) p said.1 in
-    let r = p.0 in
-    let q = p.1 in
-    let again = values_said q.0.0 q.0.1 values q.1 (request_said atom num values q two.1).1 in
-    subst Again said.2 (record {
-      kind = refl;
-      words = rw (is_word-decimal r.0, is_word-decimal r.1.0.0, is_word-decimal r.1.0.1, is_word-decimal r.1.1, (atom_again q.0.0).1, (num_again q.0.1).1, again.fetched_word) refl;
-      reads = rw (remote_again ctx dest key at r two.0, operand_again q.0 (operand_word q.0.0 q.0.1 q.1.0 q.1.1) q.1 again.fetched) refl;
-    })
-fetch_spelt _ op e = cc
+  pub write_spelt : (args : List (List ℕ)) (op : LineOp) → list_all is_word args ≡ true → write_of most args ≡ Ok op → Again most op
+  unfolding write_of op_of verb_for args_for
+  write_spelt (ctx ∷ dest ∷ key ∷ at ∷ bytes ∷ options) op are e =
+      let said = said_by a_write (read_remote ctx dest key at & read_bytes most bytes & read_options for_write options) op e in
+      let p = said.0 in
+      let all = both_said (read_remote ctx dest key at & read_bytes most bytes) (read_options for_write options) p said.1 in
+      let two = both_said (read_remote ctx dest key at) (read_bytes most bytes) p.0 all.0 in
+      let r = p.0.0 in
+      let is = first_word bytes options (other_words at (bytes ∷ options) (other_words key (at ∷ bytes ∷ options) (other_words dest (key ∷ at ∷ bytes ∷ options) (other_words ctx (dest ∷ key ∷ at ∷ bytes ∷ options) are)))) in
+      let again = bytes_again most bytes p.0.1 is two.1 in
+      let imm = imm_again options p.1 (options_said for_write options p.1 all.1) in
+      subst (Again most) said.2 (record {
+        kind = refl;
+        words = rw (is_word-decimal r.0, is_word-decimal r.1.0.0, is_word-decimal r.1.0.1, is_word-decimal r.1.1, again.word)
+            (are_words-append (imm_words p.1.imm ++ completion_words p.1.completion) (fence_words p.1.fence)
+            (are_words-append (imm_words p.1.imm) (completion_words p.1.completion) (are_words-imm p.1.imm) (are_words-completion p.1.completion)) (are_words-fence p.1.fence));
+        reads = rw (remote_again ctx dest key at r two.0, again.reads, write_options p.1.imm p.1.completion p.1.fence imm) refl;
+      })
+  write_spelt _ op are e = cc
 
-pub compare_spelt : (args : List (List ℕ)) (op : LineOp) → compare_of args ≡ Ok op → Again op
-unfolding compare_of read_request op_of verb_for args_for
-compare_spelt (ctx ∷ dest ∷ key ∷ at ∷ atom ∷ num ∷ values ∷ compares ∷ []) op e =
-    let said = said_by a_compare (read_remote ctx dest key at & read_operand atom num values & read_operand atom num compares) op e in
-    let p = said.0 in
-    let all = both_said (read_remote ctx dest key at & read_operand atom num values) (read_operand atom num compares) p said.1 in
-    let two = both_said (read_remote ctx dest key at) (read_operand atom num values) p.0 all.0 in
-    let r = p.0.0 in
-    let q = p.0.1 in
-    let first = request_said atom num values q two.1 in
-    let second = request_said atom num compares p.1 all.1 in
-    let same = kind_same (kind_words atom num) q.0 p.1.0 first.0 second.0 in
-    let compared : read_values q.0.0 q.0.1 compares ≡ Ok p.1.1 = subst (λ (k : AtomicOp × Num). read_values k.0 k.1 compares ≡ Ok p.1.1) same second.1 in
-    let again = values_said q.0.0 q.0.1 values q.1 first.1 in
-    let other = values_said q.0.0 q.0.1 compares p.1.1 compared in
-    subst Again said.2 (record {
-      kind = refl;
-      words = rw (is_word-decimal r.0, is_word-decimal r.1.0.0, is_word-decimal r.1.0.1, is_word-decimal r.1.1, (atom_again q.0.0).1, (num_again q.0.1).1, again.alone_word, other.alone_word) refl;
-      reads = rw (remote_again ctx dest key at r two.0, operand_again q.0 (operand_word q.0.0 q.0.1 q.1.0 0) (q.1.0, again.n) again.alone, operand_again q.0 (operand_word q.0.0 q.0.1 p.1.1.0 0) (p.1.1.0, other.n) other.alone) refl;
-    })
-compare_spelt _ op e = cc
+  pub winject_spelt : (args : List (List ℕ)) (op : LineOp) → list_all is_word args ≡ true → winject_of most args ≡ Ok op → Again most op
+  unfolding winject_of op_of verb_for args_for
+  winject_spelt (dest ∷ key ∷ at ∷ bytes ∷ options) op are e =
+      let said = said_by a_winject (read_target dest key at & read_bytes most bytes & read_options for_inject options) op e in
+      let p = said.0 in
+      let all = both_said (read_target dest key at & read_bytes most bytes) (read_options for_inject options) p said.1 in
+      let two = both_said (read_target dest key at) (read_bytes most bytes) p.0 all.0 in
+      let r = p.0.0 in
+      let is = first_word bytes options (other_words at (bytes ∷ options) (other_words key (at ∷ bytes ∷ options) (other_words dest (key ∷ at ∷ bytes ∷ options) are))) in
+      let again = bytes_again most bytes p.0.1 is two.1 in
+      let imm = imm_again options p.1 (options_said for_inject options p.1 all.1) in
+      subst (Again most) said.2 (record {
+        kind = refl;
+        words = rw (is_word-decimal r.0.0, is_word-decimal r.0.1, is_word-decimal r.1, again.word) (are_words-imm p.1.imm);
+        reads = rw (target_again dest key at r two.0, again.reads, inject_options p.1.imm imm) refl;
+      })
+  winject_spelt _ op are e = cc
+
+  -- ---- atomics
+  pub atomic_spelt : (args : List (List ℕ)) (op : LineOp) → atomic_of args ≡ Ok op → Again most op
+  unfolding atomic_of read_request op_of verb_for args_for
+  atomic_spelt (ctx ∷ dest ∷ key ∷ at ∷ atom ∷ num ∷ values ∷ options) op e =
+      let said = said_by an_atomic (read_remote ctx dest key at & read_operand atom num values & read_options for_atomic options) op e in
+      let p = said.0 in
+      let all = both_said (read_remote ctx dest key at & read_operand atom num values) (read_options for_atomic options) p said.1 in
+      let two = both_said (read_remote ctx dest key at) (read_operand atom num values) p.0 all.0 in
+      let r = p.0.0 in
+      let q = p.0.1 in
+      let again = values_said q.0.0 q.0.1 values q.1 (request_said atom num values q two.1).1 in
+      subst (Again most) said.2 (record {
+        kind = refl;
+        words = rw (is_word-decimal r.0, is_word-decimal r.1.0.0, is_word-decimal r.1.0.1, is_word-decimal r.1.1, (atom_again q.0.0).1, (num_again q.0.1).1, again.alone_word)
+            (are_words-append (completion_words p.1.completion) (fence_words p.1.fence) (are_words-completion p.1.completion) (are_words-fence p.1.fence));
+        reads = rw (remote_again ctx dest key at r two.0, operand_again q.0 (operand_word q.0.0 q.0.1 q.1.0 0) (q.1.0, again.n) again.alone, atomic_options p.1.completion p.1.fence) refl;
+      })
+  atomic_spelt _ op e = cc
+
+  pub fetch_spelt : (args : List (List ℕ)) (op : LineOp) → fetch_of args ≡ Ok op → Again most op
+  unfolding fetch_of read_request op_of verb_for args_for
+  fetch_spelt (ctx ∷ dest ∷ key ∷ at ∷ atom ∷ num ∷ values ∷ []) op e =
+      let said = said_by a_fetch (read_remote ctx dest key at & read_operand atom num values) op e in
+      let p = said.0 in
+      let two = both_said (read_remote ctx dest key at) (read_operand atom num values) p said.1 in
+      let r = p.0 in
+      let q = p.1 in
+      let again = values_said q.0.0 q.0.1 values q.1 (request_said atom num values q two.1).1 in
+      subst (Again most) said.2 (record {
+        kind = refl;
+        words = rw (is_word-decimal r.0, is_word-decimal r.1.0.0, is_word-decimal r.1.0.1, is_word-decimal r.1.1, (atom_again q.0.0).1, (num_again q.0.1).1, again.fetched_word) refl;
+        reads = rw (remote_again ctx dest key at r two.0, operand_again q.0 (operand_word q.0.0 q.0.1 q.1.0 q.1.1) q.1 again.fetched) refl;
+      })
+  fetch_spelt _ op e = cc
+
+  pub compare_spelt : (args : List (List ℕ)) (op : LineOp) → compare_of args ≡ Ok op → Again most op
+  unfolding compare_of read_request op_of verb_for args_for
+  compare_spelt (ctx ∷ dest ∷ key ∷ at ∷ atom ∷ num ∷ values ∷ compares ∷ []) op e =
+      let said = said_by a_compare (read_remote ctx dest key at & read_operand atom num values & read_operand atom num compares) op e in
+      let p = said.0 in
+      let all = both_said (read_remote ctx dest key at & read_operand atom num values) (read_operand atom num compares) p said.1 in
+      let two = both_said (read_remote ctx dest key at) (read_operand atom num values) p.0 all.0 in
+      let r = p.0.0 in
+      let q = p.0.1 in
+      let first = request_said atom num values q two.1 in
+      let second = request_said atom num compares p.1 all.1 in
+      let same = kind_same (kind_words atom num) q.0 p.1.0 first.0 second.0 in
+      let compared : read_values q.0.0 q.0.1 compares ≡ Ok p.1.1 = subst (λ (k : AtomicOp × Num). read_values k.0 k.1 compares ≡ Ok p.1.1) same second.1 in
+      let again = values_said q.0.0 q.0.1 values q.1 first.1 in
+      let other = values_said q.0.0 q.0.1 compares p.1.1 compared in
+      subst (Again most) said.2 (record {
+        kind = refl;
+        words = rw (is_word-decimal r.0, is_word-decimal r.1.0.0, is_word-decimal r.1.0.1, is_word-decimal r.1.1, (atom_again q.0.0).1, (num_again q.0.1).1, again.alone_word, other.alone_word) refl;
+        reads = rw (remote_again ctx dest key at r two.0, operand_again q.0 (operand_word q.0.0 q.0.1 q.1.0 0) (q.1.0, again.n) again.alone, operand_again q.0 (operand_word q.0.0 q.0.1 p.1.1.0 0) (p.1.1.0, other.n) other.alone) refl;
+      })
+  compare_spelt _ op e = cc

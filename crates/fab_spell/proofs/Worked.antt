@@ -15,8 +15,8 @@ fetch : line_of (row_of (Fetch 1 2 3 4 AtomicRead U8 [] 4)) ≡ codes "fetch 1 2
 unfolding digits verb_for args_for
 fetch = refl
 
--- both digits of each byte, remote data and the level
-send : line_of (row_of (Send 1 2 (Hex (106 ∷ 255 ∷ [])) (Some 9) Delivery true)) ≡ codes "send 1 2 hex:6aff data=9 level=delivery completion" ++ 10 ∷ []
+-- both digits of each byte, remote data, the level, and a fence behind them
+send : line_of (row_of (Send 1 2 (Hex (106 ∷ 255 ∷ [])) (Some 9) Delivery true true)) ≡ codes "send 1 2 hex:6aff data=9 level=delivery completion fence" ++ 10 ∷ []
 unfolding digits verb_for args_for bytes_word
 send = refl
 

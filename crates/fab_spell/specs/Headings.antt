@@ -2,11 +2,12 @@
 --     caps_word caps                       the names of the capabilities, joined by commas
 --     setting_verb s, setting_args s       the setting's verb, and the words after it
 --     setting_row s                        the whole line
---     SettingRead s                        a line made the setting
---     SettingAgain s                       the line that is written for it makes it again
+--     SettingRead api s                    a line made the setting, in this version
+--     SettingAgain api s                   the line that is written for it makes it again
 use Rattle.std.specs.Prelude.{◌≡◌, ℕ, true, List, [], ◌∷◌, map, filter, decimal, Ok}
 use Rattle.std.specs.List.{list_all, join_with_byte}
 use Rattle.fab_base.specs.Granted.{has}
+use Rattle.fab_base.specs.declared.caps.Api.{Api}
 use Rattle.fab_base.specs.declared.caps.Caps.{Caps}
 use Rattle.fab_base.specs.declared.limits.Size.{Size}
 use Rattle.fab_base.specs.declared.limits.Size.TheVariants as size
@@ -53,14 +54,14 @@ setting_args (File payload) = decimal payload.id ∷ payload.name ∷ []
 abbrev pub setting_row : Setting → List (List ℕ)
 setting_row s = name_of (setting_verb s) ∷ setting_args s
 
-pub record SettingRead (s : Setting) : Type 0 where
+pub record SettingRead (api : Api) (s : Setting) : Type 0 where
   pub verb : Verb
   pub args : List (List ℕ)
   pub kind : kind_of verb ≡ kind.Setting
   pub words : list_all is_word args ≡ true
-  pub reads : setting_of verb args ≡ Ok s
+  pub reads : setting_of api verb args ≡ Ok s
 
-pub record SettingAgain (s : Setting) : Type 0 where
+pub record SettingAgain (api : Api) (s : Setting) : Type 0 where
   pub kind : kind_of (setting_verb s) ≡ kind.Setting
   pub words : list_all is_word (setting_args s) ≡ true
-  pub reads : setting_of (setting_verb s) (setting_args s) ≡ Ok s
+  pub reads : setting_of api (setting_verb s) (setting_args s) ≡ Ok s

@@ -75,14 +75,18 @@ abbrev pub completion_words : Bool → List Word
 completion_words false = []
 completion_words true = codes "completion" ∷ []
 
+abbrev pub fence_words : Bool → List Word
+fence_words false = []
+fence_words true = codes "fence" ∷ []
+
 abbrev pub min_words : Option ℕ → List Word
 min_words None = []
 min_words (Some n) = (codes "min=" ++ decimal n) ∷ []
 
 -- ---- lines: the verb, and the words after it, of one kind of lines after the other
 unfoldable pub verb_for : LineOp → Verb
-verb_for (op.Send ctx dest bytes imm level completion) = verb.Send
-verb_for (op.TSend ctx dest tag bytes imm level completion) = verb.TSend
+verb_for (op.Send ctx dest bytes imm level completion fence) = verb.Send
+verb_for (op.TSend ctx dest tag bytes imm level completion fence) = verb.TSend
 verb_for (op.Inject dest bytes imm) = verb.Inject
 verb_for (op.TInject dest tag bytes imm) = verb.TInject
 verb_for (op.Recv ctx source len) = verb.Recv
@@ -95,9 +99,9 @@ verb_for (op.Take ctx len) = verb.Take
 verb_for (op.DropClaimed ctx) = verb.DropClaimed
 verb_for (op.Cancel ctx) = verb.Cancel
 verb_for (op.Read ctx dest key at len) = verb.Read
-verb_for (op.Write ctx dest key at bytes imm completion) = verb.Write
+verb_for (op.Write ctx dest key at bytes imm completion fence) = verb.Write
 verb_for (op.WInject dest key at bytes imm) = verb.WInject
-verb_for (op.Atomic ctx dest key at atom num values completion) = verb.Atomic
+verb_for (op.Atomic ctx dest key at atom num values completion fence) = verb.Atomic
 verb_for (op.Fetch ctx dest key at atom num values count) = verb.Fetch
 verb_for (op.Compare ctx dest key at atom num values compares) = verb.Compare
 verb_for (op.Reg key access bytes) = verb.Reg
@@ -125,8 +129,8 @@ own_args _ = []
 
 -- of atomics; only a `fetch` keeps how many elements are read
 abbrev pub atomic_args : LineOp → List Word
-atomic_args (op.Atomic ctx dest key at atom num values completion) =
-    decimal ctx ∷ decimal dest ∷ decimal key ∷ decimal at ∷ atom_name atom ∷ num_name num ∷ operand_word atom num values 0 ∷ completion_words completion
+atomic_args (op.Atomic ctx dest key at atom num values completion fence) =
+    decimal ctx ∷ decimal dest ∷ decimal key ∷ decimal at ∷ atom_name atom ∷ num_name num ∷ operand_word atom num values 0 ∷ completion_words completion ++ fence_words fence
 atomic_args (op.Fetch ctx dest key at atom num values count) =
     decimal ctx ∷ decimal dest ∷ decimal key ∷ decimal at ∷ atom_name atom ∷ num_name num ∷ operand_word atom num values count ∷ []
 atomic_args (op.Compare ctx dest key at atom num values compares) =
@@ -136,8 +140,8 @@ atomic_args op = own_args op
 -- of another peer's regions
 abbrev pub remote_args : LineOp → List Word
 remote_args (op.Read ctx dest key at len) = decimal ctx ∷ decimal dest ∷ decimal key ∷ decimal at ∷ decimal len ∷ []
-remote_args (op.Write ctx dest key at bytes imm completion) =
-    decimal ctx ∷ decimal dest ∷ decimal key ∷ decimal at ∷ bytes_word bytes ∷ imm_words imm ++ completion_words completion
+remote_args (op.Write ctx dest key at bytes imm completion fence) =
+    decimal ctx ∷ decimal dest ∷ decimal key ∷ decimal at ∷ bytes_word bytes ∷ imm_words imm ++ completion_words completion ++ fence_words fence
 remote_args (op.WInject dest key at bytes imm) = decimal dest ∷ decimal key ∷ decimal at ∷ bytes_word bytes ∷ imm_words imm
 remote_args op = atomic_args op
 
@@ -160,15 +164,15 @@ receive_args (op.MRecv ctx source len min) = decimal ctx ∷ source_word source 
 receive_args op = look_args op
 
 -- the words of a send after those that say where it goes
-abbrev pub message_words : BytesWord → Option ℕ → Level → Bool → List Word
-message_words bytes imm level completion = bytes_word bytes ∷ imm_words imm ++ level_words level ++ completion_words completion
+abbrev pub message_words : BytesWord → Option ℕ → Level → Bool → Bool → List Word
+message_words bytes imm level completion fence = bytes_word bytes ∷ imm_words imm ++ level_words level ++ completion_words completion ++ fence_words fence
 
 -- of sends, and of all other lines
 unfoldable pub args_for : LineOp → List Word
-args_for (op.Send ctx dest bytes imm level completion) =
-    decimal ctx ∷ decimal dest ∷ message_words bytes imm level completion
-args_for (op.TSend ctx dest tag bytes imm level completion) =
-    decimal ctx ∷ decimal dest ∷ decimal tag ∷ message_words bytes imm level completion
+args_for (op.Send ctx dest bytes imm level completion fence) =
+    decimal ctx ∷ decimal dest ∷ message_words bytes imm level completion fence
+args_for (op.TSend ctx dest tag bytes imm level completion fence) =
+    decimal ctx ∷ decimal dest ∷ decimal tag ∷ message_words bytes imm level completion fence
 args_for (op.Inject dest bytes imm) = decimal dest ∷ bytes_word bytes ∷ imm_words imm
 args_for (op.TInject dest tag bytes imm) = decimal dest ∷ decimal tag ∷ bytes_word bytes ∷ imm_words imm
 args_for op = receive_args op

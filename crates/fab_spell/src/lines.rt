@@ -4,8 +4,8 @@ ghost use Rattle.fab_model.specs.Words.{line_of};
 ghost use Rattle.fab_spell.specs.Spelling.{after_blanks, verb_for, own_args, atomic_args, remote_args, look_args, receive_args, args_for, row_of};
 
 use crate::words::{
-    add_atom, add_completion, add_context, add_data, add_imm, add_message, add_min, add_numbers,
-    add_operand, add_rights, add_source, add_word,
+    add_atom, add_completion, add_context, add_data, add_fence, add_imm, add_message, add_min,
+    add_numbers, add_operand, add_rights, add_source, add_word,
 };
 use fab_base::{LineOp, NoMemory};
 use fab_grammar::{Verb, class_name};
@@ -70,9 +70,10 @@ fn add_args(out: &mut String, op: &LineOp) -> Result<(), NoMemory>
             imm,
             level,
             completion,
+            fence,
         } => {
             add_numbers(out, &[*ctx, u64::from(*dest)])?;
-            add_message(out, bytes, *imm, *level, *completion)
+            add_message(out, bytes, *imm, *level, *completion, *fence)
         }
         LineOp::TSend {
             ctx,
@@ -82,9 +83,10 @@ fn add_args(out: &mut String, op: &LineOp) -> Result<(), NoMemory>
             imm,
             level,
             completion,
+            fence,
         } => {
             add_numbers(out, &[*ctx, u64::from(*dest), *tag])?;
-            add_message(out, bytes, *imm, *level, *completion)
+            add_message(out, bytes, *imm, *level, *completion, *fence)
         }
         LineOp::Inject { dest, bytes, imm } => {
             add_numbers(out, &[u64::from(*dest)])?;
@@ -197,11 +199,13 @@ fn add_remote_args(out: &mut String, op: &LineOp) -> Result<(), NoMemory>
             bytes,
             imm,
             completion,
+            fence,
         } => {
             add_numbers(out, &[*ctx, u64::from(*dest), *key, *at])?;
             add_data(out, bytes)?;
             add_imm(out, *imm)?;
-            add_completion(out, *completion)
+            add_completion(out, *completion)?;
+            add_fence(out, *fence)
         }
         LineOp::WInject {
             dest,
@@ -233,11 +237,13 @@ fn add_atomic_args(out: &mut String, op: &LineOp) -> Result<(), NoMemory>
             num,
             values,
             completion,
+            fence,
         } => {
             add_numbers(out, &[*ctx, u64::from(*dest), *key, *at])?;
             add_atom(out, *op, *num)?;
             add_operand(out, *op, *num, values, 0)?;
-            add_completion(out, *completion)
+            add_completion(out, *completion)?;
+            add_fence(out, *fence)
         }
         LineOp::Fetch {
             ctx,

@@ -1,7 +1,7 @@
 //! The words of a line, each with a blank before it.
 ghost use Rattle.std.specs.Prelude.{◌≡◌, ◌++◌, [], ◌∷◌, OnOk, string_bytes, codes, decimal, map};
 ghost use Rattle.fab_grammar.specs.Atomics.{atom_name, num_name};
-ghost use Rattle.fab_spell.specs.Spelling.{after_blanks, source_word, bytes_word, rights_word, operand_word, imm_words, level_words, completion_words, min_words, message_words};
+ghost use Rattle.fab_spell.specs.Spelling.{after_blanks, source_word, bytes_word, rights_word, operand_word, imm_words, level_words, completion_words, fence_words, min_words, message_words};
 
 use crate::bytes::add_bytes;
 use crate::values::add_values;
@@ -142,6 +142,17 @@ pub(crate) fn add_completion(out: &mut String, completion: bool) -> Result<(), N
     }
 }
 
+/// `fence`, where the operation waits for those before it.
+pub(crate) fn add_fence(out: &mut String, fence: bool) -> Result<(), NoMemory>
+    ensures { OnOk result (string_bytes out.new ≡ string_bytes out.old ++ after_blanks (fence_words fence)) }
+{
+    if fence {
+        add_word(out, "fence")
+    } else {
+        Ok(())
+    }
+}
+
 /// The bytes of a send, and its optional words.
 #[tactic(auto, using(crate::proofs::Blanks::blanks))]
 pub(crate) fn add_message(
@@ -150,11 +161,13 @@ pub(crate) fn add_message(
     imm: Option<u64>,
     level: Level,
     completion: bool,
+    fence: bool,
 ) -> Result<(), NoMemory>
-    ensures { OnOk result (string_bytes out.new ≡ string_bytes out.old ++ after_blanks (message_words bytes.now imm level completion)) }
+    ensures { OnOk result (string_bytes out.new ≡ string_bytes out.old ++ after_blanks (message_words bytes.now imm level completion fence)) }
 {
     add_data(out, bytes)?;
     add_imm(out, imm)?;
     add_level(out, level)?;
-    add_completion(out, completion)
+    add_completion(out, completion)?;
+    add_fence(out, fence)
 }

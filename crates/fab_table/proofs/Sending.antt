@@ -22,9 +22,9 @@ use Rattle.fab_table.specs.declared.kinds.Slot.TheVariants.{Cell, Pool}
 use Rattle.fab_table.specs.declared.kinds.Out.{Out}
 use Rattle.fab_table.specs.declared.kinds.Part.{Part}
 use Rattle.fab_table.specs.declared.kinds.View.{View}
-use Rattle.fab_table.specs.Views.{frames_of, claimed_one, refused_one, left_one, pool_word, pool_home, part_at, out_at, saw_full, saw_room, posted_one, lane_of, put_word, got_word}
+use Rattle.fab_table.specs.Views.{frames_of, claimed_one, refused_one, left_one, pool_word, pool_home, part_at, out_at, saw_full, saw_room, posted_one, lane_of, put_word, got_word, still_word}
 use Rattle.fab_table.specs.Rule.{IsCell, CellAt, said_inline, said_pooled, Fills, IsBuf, greatest, Place, sent, claimed, free, PlaceOk, Homes, Lane, cell_of, LaneOk, Ruled}
-use Rattle.fab_table.specs.Plays.{claims, ClaimsAt, leaves, posts_pooled, claim_view, slot_home, most, Sat, out_lane, next_cell, new_out_view, post_view, SawGot, saw_got, posts}
+use Rattle.fab_table.specs.Plays.{claims, ClaimsAt, reserves_cell, ReservesAt, leaves, posts_pooled, claim_view, slot_home, most, Sat, out_lane, next_cell, new_out_view, post_view, SawGot, saw_got, posts}
 use Rattle.fab_table.proofs.Rows.{put, pair_once, pair_below}
 use Rattle.fab_table.proofs.Cells.{stays, with_writing, with_post, reserves, joins, returns}
 use Rattle.fab_table.proofs.Orders.{kept_out, kept_post}
@@ -91,6 +91,31 @@ looks_got k slots id me w i d near low is idle s r wide at small =
       told _ (omega arith, omega arith, (λ why. absurd (⊎_elim (λ q. omega arith) (λ q. omega arith) why)), (λ _ _. (y.0, λ a. (new_out_view v i d o', (here a, Cell y.0) ∷ me.1)))),
     ))
     (λ full. refuse (inl (omega arith)))) (λ many. refuse (inr (omega arith)))
+
+-- the next cell comes into hand, since what was given back never falls
+pub reserves_one : (k : Layout) (slots id : ℕ) (me : Sat) (w i d : ℕ) → i < length me.0.parts → d < (part_at me.0 i).peers → w ≡ still_word (out_lane me.0 i d) → (out_at (part_at me.0 i) d).writing ≡ false
+    → length (out_at (part_at me.0 i) d).posted < (out_at (part_at me.0 i) d).got_seen + (part_at me.0 i).room → Allows (Ruled k) slots id me w (λ n. n) (λ _. reserves_cell (step slots w 0 0 none) me)
+reserves_one k slots id me w i d near low is idle seen s r wide at small =
+    let v : View = me.0 in let p : Part = part_at v i in let o : Out = out_at p d in let known = mine k s r id v at i near in let n : ℕ = k.peers in let room : ℕ = k.room in
+    let low' : d < n = subst (λ (z : ℕ). d < z) known.peers low in let l : ℕ = lane_of n p.me d in let lane : Lane = r.lane l in let x = known.outs d low' in let below = pair_below n n p.me d known.below low' in
+    let ok : LaneOk room (l * room) (get_or s.words (put_word l) 0) (get_or s.words (got_word l) 0) s.homes lane = r.each_lane l below in
+    let same : set s.words w (get_or s.words w 0) ≡ s.words = set-get_or s.words w 0 in let closed : lane.writing ≡ false = sym x.2 ∙ idle in
+    let long : length o.posted ≡ length lane.posted = ap length x.0 in let room_is : p.room ≡ room = known.wide in let c : ℕ = length lane.posted in let c_near : c % room < room = mod-lt c r.some_room in
+    let space : c < lane.got + room = (let le : o.got_seen ≤ lane.got = x.1 in let lt : length o.posted < o.got_seen + p.room = seen in omega arith) in
+    let y : (c₁ : Command) × (get_elem? s.homes (cell_of (l * room) room c) ≡ some (some (Cell c₁))) = the_cell (get_elem? s.homes (cell_of (l * room) room c)) (⊎_elim (λ q. absurd (true≢false (sym q.1 ∙ closed))) (λ h. h) (ok.free c (le_refl c) space)) in
+    let o' : Out = saw_room o o.got_seen in let slot : ℕ = cell_of (l * room) room c in let hs : Homes = set s.homes slot none in let within_outs : d < length p.outs = subst (λ (z : ℕ). d < z) (sym known.all_outs) low' in
+    let here : slot ≡ next_cell v i d = λ a. cell_of (lane_of (sym known.peers a) p.me d * sym room_is a) (sym room_is a) (sym long a) in (
+      new_out_view v i d o',
+      takes slot (Cell y.0),
+      y.1,
+      subst (λ (ws : List ℕ). Ruled k record { words = ws; homes = hs; views = set s.views id (new_out_view v i d o') }) (sym same)
+          (out_moves k s r id v at i near d (with_writing lane true) o' p.moves s.words hs r.place (pools_look n room k.pool r.lane r.place s.words s.homes r.pools p.me d known.below low' true s.words hs (λ q. refl) (pool_same k s r l (c % room) none below c_near)) low' refl (length-set s.homes slot none) (one_slot k s r l (c % room) none hs c_near refl)
+          (reserves room (l * room) (get_or s.words (put_word l) 0) (get_or s.words (got_word l) 0) s.homes lane ok space)
+          (x.0, x.1, refl, x.3) (λ u h. h) (kept_out p known.kept d o' within_outs refl)),
+      λ i' d' near' lower e. let h : out_lane v i' d' ≡ out_lane v i d = (let q : still_word (out_lane v i' d') ≡ still_word (out_lane v i d) = sym e ∙ is in omega arith) in
+          let both = same_out k s r id v at i d i' d' near near' low lower h in
+          subst (λ (z : ℕ × ℕ). ReservesAt me (new_out_view v i d o', (slot, Cell y.0) ∷ me.1) z.0 z.1) (λ a. (sym both.0 a, sym both.1 a)) (y.0, λ a. (new_out_view v i d o', (here a, Cell y.0) ∷ me.1)),
+    )
 
 -- a frame is published
 pub posts_one : (k : Layout) (slots id : ℕ) (me : Sat) (w i d new : ℕ) (c₀ : Command) → i < length me.0.parts → d < (part_at me.0 i).peers → w ≡ put_word (out_lane me.0 i d) → (out_at (part_at me.0 i) d).writing ≡ true

@@ -1,5 +1,6 @@
 -- What each kind of step tells. Here m is the seat before, n the seat after, and the word of the step says which lane it is.
 --     saw_got          a look at what the receiver gave back
+--     reserves_cell    a look at a word that is never written: the next cell comes into hand, since what was seen given back before leaves room
 --     claims           one try on a pool slot
 --     posts            a frame is published; posts_pooled: one whose bytes are in the slot in hand
 --     leaves           a look by which the sender's cell goes back
@@ -21,7 +22,7 @@ use Rattle.fab_table.specs.declared.kinds.Out.{Out}
 use Rattle.fab_table.specs.declared.kinds.In.{In}
 use Rattle.fab_table.specs.declared.kinds.Part.{Part}
 use Rattle.fab_table.specs.declared.kinds.View.{View}
-use Rattle.fab_table.specs.Views.{frames_of, part_at, out_at, in_at, with_part, with_out, with_in, saw_full, saw_room, posted_one, saw_empty, saw_frame, taken_one, lane_of, put_word, got_word, pool_word, pool_home, claimed_one, refused_one, freed_one, left_one, shut_one}
+use Rattle.fab_table.specs.Views.{frames_of, part_at, out_at, in_at, with_part, with_out, with_in, saw_full, saw_room, posted_one, saw_empty, saw_frame, taken_one, lane_of, put_word, got_word, still_word, pool_word, pool_home, claimed_one, refused_one, freed_one, left_one, shut_one}
 use Rattle.fab_table.specs.Rule.{cell_of, said_inline, said_pooled, Says, Fills, IsBuf, IsShort, greatest, Kept}
 
 -- the greatest number of a frame
@@ -76,6 +77,13 @@ SawGot m r n i d = let p = part_at m.0 i in let o = out_at p d in
 
 abbrev pub saw_got : Step Slot → Sat → ℕ → Sat → Type 0
 saw_got st m r n = (i d : ℕ) → i < length m.0.parts → d < (part_at m.0 i).peers → st.word ≡ got_word (out_lane m.0 i d) → SawGot m r n i d
+
+-- the next cell comes into hand, and the sender sees nothing new
+abbrev pub ReservesAt : Sat → Sat → ℕ → ℕ → Type 0
+ReservesAt m n i d = let o = out_at (part_at m.0 i) d in (c : Command) × (n ≡ (new_out_view m.0 i d (saw_room o o.got_seen), (next_cell m.0 i d, Cell c) ∷ m.1))
+
+abbrev pub reserves_cell : Step Slot → Sat → Sat → Type 0
+reserves_cell st m n = (i d : ℕ) → i < length m.0.parts → d < (part_at m.0 i).peers → st.word ≡ still_word (out_lane m.0 i d) → ReservesAt m n i d
 
 abbrev pub posts : Step Slot → Sat → Sat → Type 0
 posts st m n = (i d : ℕ) (c : Command) → i < length m.0.parts → d < (part_at m.0 i).peers → st.word ≡ put_word (out_lane m.0 i d) → m.1 ≡ (next_cell m.0 i d, Cell c) ∷ rest m.1

@@ -4,7 +4,7 @@
 --     part_at, out_at, in_at     a part of a view, and a lane of a part that the peer writes or reads
 --     saw_full, saw_room ..      a lane after a step
 --     lane_of n s d              the number of the lane from s to d, among n peers
---     put_word, got_word, pool_word, pool_home    where its words, and those of the pools, lie
+--     put_word, got_word, still_word, pool_word, pool_home    where its words, and those of the pools, lie
 use Rattle.std.specs.Prelude.{ℕ, zero, suc, ◌+◌, ◌*◌, min, Bool, true, false, List, [], ◌∷◌, ◌++◌, length, map, take, drop, replicate, slice_index, slice_index_or, slice_set, Option, Some, None, if◌then◌else◌, nat_lt}
 use Rattle.fab_base.specs.declared.frames.Frame.{Frame}
 use Rattle.fab_wire.specs.declared.moves.Move.{Move}
@@ -146,6 +146,10 @@ put_word l = l * 32
 
 abbrev pub got_word : ℕ → ℕ
 got_word l = l * 32 + 16
+
+-- a word of the lane, on a line of its own, that is never written: it stays in the sender's cache
+abbrev pub still_word : ℕ → ℕ
+still_word l = l * 32 + 8
 
 -- the word and the place of the q-th slot of all pools
 abbrev pub pool_word : ℕ → ℕ → ℕ

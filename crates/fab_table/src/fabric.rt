@@ -13,7 +13,7 @@ pub struct Fabric {
     pub(crate) peers: u64,
     pub(crate) room: u64,
     pub(crate) pool: u64,
-    ghost sized: { (table.shared.key.peers ≡ peers) × (table.shared.key.room ≡ room) × (table.shared.key.pool ≡ pool) × (0 < room) × (room ≤ 1024) × (0 < peers) × (peers ≤ 32) × (0 < pool) × (pool ≤ 1024) },
+    ghost sized: { (table.shared.key.peers ≡ peers) × (table.shared.key.room ≡ room) × (table.shared.key.pool ≡ pool) × (0 < room) × (room ≤ 1024) × (0 < peers) × (peers ≤ 64) × (0 < pool) × (pool ≤ 1024) },
     ghost words: { table.shared.table_id.words ≡ peers * peers * 32 + peers * pool * 16 },
 }
 

@@ -67,7 +67,7 @@ impl Fabric {
         room: u64,
         pool: u64,
     ) -> Result<(Fabric, PeerSeat), NoMemory>
-        requires peers { (0 < peers) × (peers ≤ 32) }
+        requires peers { (0 < peers) × (peers ≤ 64) }
         requires room { (0 < room) × (room ≤ 1024) }
         requires pool { (0 < pool) × (pool ≤ 1024) }
         ensures sizes { IfOk result (λ r. (r.0.peers ≡ peers) × (r.0.room ≡ room) × (r.0.pool ≡ pool)) }

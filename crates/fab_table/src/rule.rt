@@ -23,6 +23,15 @@ impl Play<Slot, View> for SeeGot {
     ghost then = { saw_got };
 }
 
+/// The sender's next cell comes into hand without a look at what was given back.
+pub struct Reserves;
+
+impl Play<Slot, View> for Reserves {
+    ghost use Rattle.fab_table.specs.Plays.{reserves_cell};
+
+    ghost then = { λ st m r n. reserves_cell st m n };
+}
+
 /// A frame is published.
 pub struct Posts;
 

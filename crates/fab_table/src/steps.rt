@@ -10,13 +10,13 @@ ghost use Rattle.fab_table.specs.declared.kinds.Slot.{Slot};
 ghost use Rattle.fab_table.specs.declared.kinds.Slot.TheVariants.{Cell, Pool};
 ghost use Rattle.fab_table.specs.Views.{frames_of, but_first, only_first, both, left_one};
 ghost use Rattle.fab_table.specs.Rule.{said_inline, said_pooled, Says, Fills, IsBuf, greatest};
-ghost use Rattle.fab_table.specs.Plays.{ClaimsAt, FreesAt, SawGot, SawPut, learned, next_cell, oldest_cell, slot_home, post_view, take_view, shut_view, new_out_view};
+ghost use Rattle.fab_table.specs.Plays.{ClaimsAt, FreesAt, ReservesAt, SawGot, SawPut, learned, next_cell, oldest_cell, slot_home, post_view, take_view, shut_view, new_out_view};
 ghost use Rattle.fab_table.specs.Seats.{IsOf, IsSame, IsAt, carried, view_of_seat, sat, part_of, out_of, in_of};
 
 use crate::fabric::{Fabric, PeerSeat};
 use crate::rule::{
-    Claims, Cut, Frees, Learns, Leaves, Posts, PostsPooled, SeeGot, SeePut, Shuts, ShutsPooled,
-    Takes, Whole,
+    Claims, Cut, Frees, Learns, Leaves, Posts, PostsPooled, Reserves, SeeGot, SeePut, Shuts,
+    ShutsPooled, Takes, Whole,
 };
 
 impl Fabric {
@@ -32,6 +32,21 @@ impl Fabric {
         self.table
             .shared
             .load::<SeeGot>(&mut seat.seat, lane * 32 + 16)
+    }
+
+    /// A look at a word of the lane to `dest` that nobody writes, so that it costs no time: where what was seen
+    /// given back before leaves room for one more frame, the cell of the next one comes into hand.
+    pub fn reserve(&self, seat: &mut PeerSeat, at: u64, me: u64, dest: u64)
+        requires seat { IsOf self.now seat.old × IsAt self.now seat.old at me × (dest < self.now.peers) }
+        requires idle { (out_of seat.old at dest).writing ≡ false }
+        requires room { length (out_of seat.old at dest).posted < (out_of seat.old at dest).got_seen + (part_of seat.old at).room }
+        ensures seat { IsSame seat.old seat.new }
+        ensures view { ReservesAt (sat seat.old) (sat seat.new) at dest }
+    {
+        let lane = (me * self.peers + dest) as usize;
+        self.table
+            .shared
+            .load::<Reserves>(&mut seat.seat, lane * 32 + 8);
     }
 
     /// A look by which that cell goes back unused.

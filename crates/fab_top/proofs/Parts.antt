@@ -6,7 +6,7 @@ use Rattle.fab_base.specs.declared.entries.Kept.{Kept}
 use Rattle.fab_base.specs.declared.peers.LineResult.{LineResult}
 use Rattle.fab_base.specs.declared.peers.Step.{Step}
 use Rattle.fab_base.specs.declared.script.Line.{Line}
-use Rattle.fab_model.specs.Report.{all_lines, actor_lines, peer_lines, pending_of, report_of, report_lines, first_line, last_line}
+use Rattle.fab_model.specs.Report.{all_lines, actor_lines, peer_lines, pending_of, deferred_of, report_of, report_lines, first_line, last_line}
 use Rattle.fab_model.specs.Replay.{all_done}
 use Rattle.fab_model.specs.Words.{text_of, line_of}
 use Rattle.fab_finish.specs.Joined.{member_actor, member_steps}
@@ -59,18 +59,18 @@ unfolding all_lines
 parts_end k peers now whole all wrote = let none : drop k peers ≡ [] = past peers k (sym all) in sym (append-nil now) ∙ rw none at wrote
 
 -- the first line, all parts, and the last line
-pub whole_report : (peers : List Member) (a b c : List ℕ) → a ≡ line_of (first_line (length peers)) → b ≡ a ++ text_of (all_lines 0 (map member_actor peers) (map member_steps peers))
-    → c ≡ b ++ line_of (last_line (all_done (map member_actor peers))) → c ≡ report_of (map member_actor peers) (map member_steps peers)
+pub whole_report : (version : ℕ) (peers : List Member) (a b c : List ℕ) → a ≡ line_of (first_line version (length peers)) → b ≡ a ++ text_of (all_lines 0 (map member_actor peers) (map member_steps peers))
+    → c ≡ b ++ line_of (last_line (all_done (map member_actor peers))) → c ≡ report_of version (map member_actor peers) (map member_steps peers)
 unfolding report_of report_lines
-whole_report peers a b c first parts last =
+whole_report version peers a b c first parts last =
     let lines = all_lines 0 (map member_actor peers) (map member_steps peers) in
     let end = last_line (all_done (map member_actor peers)) in
     let tail : text_of lines ++ line_of end ≡ text_of (lines ++ end ∷ []) = sym (text_of-append lines (end ∷ []) ∙ ap (λ text. text_of lines ++ text) (append-nil (line_of end))) in
-    let head : a ≡ line_of (first_line (length (map member_actor peers))) = first ∙ ap (λ n. line_of (first_line n)) (sym (length-map peers member_actor)) in
+    let head : a ≡ line_of (first_line version (length (map member_actor peers))) = first ∙ ap (λ n. line_of (first_line version n)) (sym (length-map peers member_actor)) in
     last ∙ ap (λ text. text ++ line_of end) parts ∙ append_assoc a (text_of lines) (line_of end) ∙ ap (λ text. a ++ text) tail ∙ ap (λ text. text ++ text_of (lines ++ end ∷ [])) head
 
 -- a part by what it is of
-pub part_of : (k : ℕ) (x : Member) (lines : List Line) (results : List LineResult) (kept : List Kept) (pending : ℕ) (steps : List Step)
-    → lines ≡ (member_actor x).lines → results ≡ (member_actor x).results → kept ≡ (member_actor x).kept → pending ≡ pending_of (member_actor x) → steps ≡ member_steps x
-    → text_of (peer_lines k lines results kept pending steps) ≡ text_of (actor_lines k (member_actor x) (member_steps x))
-part_of k x lines results kept pending steps a b c d e = rw (a, b, c, d, e) refl
+pub part_of : (k : ℕ) (x : Member) (lines : List Line) (results : List LineResult) (kept : List Kept) (pending deferred : ℕ) (steps : List Step)
+    → lines ≡ (member_actor x).lines → results ≡ (member_actor x).results → kept ≡ (member_actor x).kept → pending ≡ pending_of (member_actor x) → deferred ≡ deferred_of (member_actor x) → steps ≡ member_steps x
+    → text_of (peer_lines k lines results kept pending deferred steps) ≡ text_of (actor_lines k (member_actor x) (member_steps x))
+part_of k x lines results kept pending deferred steps a b c d e f = rw (a, b, c, d, e, f) refl

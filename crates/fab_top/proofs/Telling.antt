@@ -38,7 +38,7 @@ found_lawful bound schedule text lawful many few is rest =
     }))
 
 pub reports : (bound : Bound) (peers : List Member) (text : List ℕ) (done : Bool) → Reached (rule fabric) (opening bound) (map member_steps peers) (map member_actor peers)
-    → at_rest (map member_actor peers) ≡ true → (all_done (map member_actor peers) ≡ true → AreCleared (map member_actor peers)) → length peers ≤ 10 ^ 64 → text ≡ report_of (map member_actor peers) (map member_steps peers)
+    → at_rest (map member_actor peers) ≡ true → (all_done (map member_actor peers) ≡ true → AreCleared (map member_actor peers)) → length peers ≤ 10 ^ 64 → text ≡ report_of bound.script.version (map member_actor peers) (map member_steps peers)
     → done ≡ all_done (map member_actor peers) → Reports bound text done
 unfolding report
 reports bound peers text done reached rest cleared few is ends =
@@ -47,7 +47,7 @@ reports bound peers text done reached rest cleared few is ends =
     let lawful = reached_lawful bound schedule states reached in
     let count : length states ≡ bound.script.conf.peers = (reached_sound bound schedule states reached).count in
     let many : length schedule ≡ bound.script.conf.peers = length-map peers member_steps ∙ sym (length-map peers member_actor) ∙ count in
-    let whole : text ≡ report bound schedule = is ∙ ap (λ xs. report_of xs schedule) (sym lawful.1) in
+    let whole : text ≡ report bound schedule = is ∙ ap (λ xs. report_of bound.script.version xs schedule) (sym lawful.1) in
     let told : traces text ≡ schedule = ap traces whole ∙ lawful_report_tells bound schedule lawful.0 many (omega (arith, few, count, length-map peers member_actor)) in
     record {
       lawful = subst (λ x. Lawful bound x) (sym told) lawful.0;

@@ -27,13 +27,13 @@ lane_granted w file b is = subst (λ (c : Conf). (0 < c.info.lane) × (c.info.la
 pub pool_granted : (w : Workload) (file : List ℕ) (b : Bound) → b ≡ bound_of w file → (0 < b.script.conf.info.pool) × (b.script.conf.info.pool ≤ 1024)
 pool_granted w file b is = subst (λ (c : Conf). (0 < c.info.pool) × (c.info.pool ≤ 1024)) (sym (settings w file b is)) (omega arith, omega arith)
 
-few_peers : (w : Workload) → IsWithin w → (0 < peers_of w) × (peers_of w ≤ 32)
+few_peers : (w : Workload) → IsWithin w → (0 < peers_of w) × (peers_of w ≤ 64)
 few_peers (Pingpong size count) within = (omega arith, omega arith)
 few_peers (Bandwidth size count window) within = (omega arith, omega arith)
-few_peers (Generated number peers messages) within = (omega (arith, within.1), within.2)
+few_peers (Generated number peers messages) within = (omega (arith, within.1), omega (arith, within.2))
 
-pub peers_granted : (w : Workload) (file : List ℕ) (b : Bound) → IsWithin w → b ≡ bound_of w file → (0 < b.script.conf.peers) × (b.script.conf.peers ≤ 32)
-peers_granted w file b within is = subst (λ (c : Conf). (0 < c.peers) × (c.peers ≤ 32)) (sym (settings w file b is)) (few_peers w within)
+pub peers_granted : (w : Workload) (file : List ℕ) (b : Bound) → IsWithin w → b ≡ bound_of w file → (0 < b.script.conf.peers) × (b.script.conf.peers ≤ 64)
+peers_granted w file b within is = subst (λ (c : Conf). (0 < c.peers) × (c.peers ≤ 64)) (sym (settings w file b is)) (few_peers w within)
 
 -- wherever a run of it comes to rest, all lines are done
 pub always_done : NoneIsStuck → (w : Workload) (file : List ℕ) (b : Bound) (done : Bool) → IsWithin w → b ≡ bound_of w file → ComesToRest b done → done ≡ true

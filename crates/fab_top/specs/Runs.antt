@@ -7,6 +7,7 @@
 --     Tells, TellsPart        what is granted is written, or a part of it
 --     Benches, BenchesPart    the line of a workload is written, or a part of it
 --     Checks, ChecksPart      what is to be said of a report is written, or a part of it
+--     Sums, SumsPart          what the words of a window hold is written, or a part of it
 --     ComesToRest bound done  some lawful schedule leads the peers to rest
 --     NeverSticks ..          the script is settled, and its answer does all lines
 --     IsUnhindered ..         nothing stands in the way of the command
@@ -16,12 +17,14 @@ use Rattle.std.specs.List.{list_all}
 use Rattle.fab_answer.specs.Answer.{answer as answer_of}
 use Rattle.fab_answer.specs.Settled.{is_settled}
 use Rattle.fab_base.specs.Counts.{Rose}
-use Rattle.fab_base.specs.declared.caps.Hints.{Hints}
+use Rattle.fab_base.specs.declared.caps.Api.TheVariants.{Two}
+use Rattle.fab_base.specs.declared.caps.Caps.{Caps}
 use Rattle.fab_base.specs.declared.peers.Step.{Step}
 use Rattle.fab_base.specs.declared.script.Bound.{Bound}
 use Rattle.fab_base.specs.declared.status.Status.{Status}
 use Rattle.fab_base.specs.declared.status.Status.TheVariants.{Done, Stuck, ScriptRefused, TooLong, ReadFault, WriteFault, NoMemory}
 use Rattle.fab_base.specs.declared.status.Why.{Why}
+use Rattle.fab_grammar.specs.Settings.{asking}
 use Rattle.fab_model.specs.Negotiation.{grant}
 use Rattle.fab_model.specs.Peers.{Actor}
 use Rattle.fab_model.specs.Replay.{Lawful, replayed, at_rest, all_done, is_empty}
@@ -29,10 +32,12 @@ use Rattle.fab_model.specs.Report.{report, traces}
 use Rattle.fab_replay.specs.declared.verdicts.Verdict.TheVariants as answer
 use Rattle.fab_replay.specs.Verdict.{verdict}
 use Rattle.fab_top.specs.Checking.{IsChecked, LeadsOn}
-use Rattle.fab_outside.specs.Commands.{script_file, info_hints, replay_files}
+use Rattle.fab_outside.specs.Commands.{script_file, info_caps, replay_files}
 use Rattle.fab_top.specs.Commands.{IsNoCommand}
-use Rattle.fab_outside.specs.Info.{info_text}
+use Rattle.fab_outside.specs.Info.{info_text, offer}
 use Rattle.fab_outside.specs.Loading.{Files, IsOver, IsRead, IsWrong, LeadsTo}
+use Rattle.fab_window_run.specs.declared.asked.Asked.{Asked}
+use Rattle.fab_window_run.specs.Commands.{asked_text, window_of}
 use Rattle.fab_workloads.specs.declared.workload.Workload.{Workload}
 use Rattle.fab_workloads.specs.Bench.{bench_line}
 use Rattle.fab_workloads.specs.Commands.{payload_file, workload_of}
@@ -99,19 +104,21 @@ pub record WritesPart (files : Files) (words : List (List ℕ)) (before after : 
   pub fewer : some < length text
   pub written : after ≡ append_known before (take some text)
 
--- the words ask what is granted, and the answer is written
+-- the words ask what is granted to whoever asks for these capabilities, and the answer is written
 pub record Tells (words : List (List ℕ)) (before after : Option (List ℕ)) : Type 0 where
-  pub hints : Option Hints
-  pub command : info_hints words ≡ Some hints
-  pub written : after ≡ append_known before (info_text (grant hints))
+  pub caps : Caps
+  pub command : info_caps words ≡ Some caps
+  pub granted : grant Two (Some (asking caps)) ≡ Some (offer caps)
+  pub written : after ≡ append_known before (info_text caps)
 
 -- the same, of which only the first bytes are written
 pub record TellsPart (words : List (List ℕ)) (before after : Option (List ℕ)) : Type 0 where
-  pub hints : Option Hints
-  pub command : info_hints words ≡ Some hints
+  pub caps : Caps
+  pub command : info_caps words ≡ Some caps
+  pub granted : grant Two (Some (asking caps)) ≡ Some (offer caps)
   pub some : ℕ
-  pub fewer : some < length (info_text (grant hints))
-  pub written : after ≡ append_known before (take some (info_text (grant hints)))
+  pub fewer : some < length (info_text caps)
+  pub written : after ≡ append_known before (take some (info_text caps))
 
 -- the words name a workload, and its line is written, with the first and the last moment of a clock that has given exactly two
 pub record Benches (words : List (List ℕ)) (given first last : ℕ) (before after : Option (List ℕ)) : Type 0 where
@@ -149,6 +156,20 @@ pub record ChecksPart (files : Files) (words : List (List ℕ)) (before after : 
   pub fewer : some < length line
   pub written : after ≡ append_known before (take some line)
 
+-- the words ask peers to add to a window, and what its words hold at last is written: a function of what was asked
+pub record Sums (words : List (List ℕ)) (before after : Option (List ℕ)) : Type 0 where
+  pub asked : Asked
+  pub command : window_of words ≡ Some asked
+  pub written : after ≡ append_known before (asked_text asked)
+
+-- the same, of which only the first bytes are written
+pub record SumsPart (words : List (List ℕ)) (before after : Option (List ℕ)) : Type 0 where
+  pub asked : Asked
+  pub command : window_of words ≡ Some asked
+  pub some : ℕ
+  pub fewer : some < length (asked_text asked)
+  pub written : after ≡ append_known before (take some (asked_text asked))
+
 -- the script is settled, and its one answer does all its lines
 abbrev pub DoesAll : Bound → Type 0
 DoesAll bound = (is_settled bound ≡ true) × (list_all is_none (answer_of bound).next ≡ true)
@@ -179,12 +200,12 @@ WritesLine Done = Unit {0}
 WritesLine WriteFault = Unit {0}
 WritesLine status = ⊥
 
--- the statuses at which what is granted is written, or a part of it, or memory is wanting
-abbrev pub TellsOffer : Status → Type 0
-TellsOffer Done = Unit {0}
-TellsOffer WriteFault = Unit {0}
-TellsOffer NoMemory = Unit {0}
-TellsOffer status = ⊥
+-- the statuses of a command that asks for no file: its text is written, or a part of it, or memory is wanting
+abbrev pub EndsText : Status → Type 0
+EndsText Done = Unit {0}
+EndsText WriteFault = Unit {0}
+EndsText NoMemory = Unit {0}
+EndsText status = ⊥
 
 -- the statuses of a workload's command
 abbrev pub EndsBench : Status → Type 0

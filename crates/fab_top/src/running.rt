@@ -3,16 +3,19 @@ ghost use Rattle.std.specs.Prelude.{◌≡◌, ◌≢◌, ◌<◌, ◌≤◌, �
 ghost use Rattle.std.specs.Io.KnownBytes.{append_known};
 ghost use Rattle.std.specs.List.{All};
 ghost use Rattle.fab_finish.specs.Joined.{start};
+ghost use Rattle.fab_base.specs.declared.caps.Api.TheVariants.{Two};
 ghost use Rattle.fab_base.specs.declared.status.Status.TheVariants.{Done, Stuck, Usage, ScriptRefused, TooLong, ReadFault, WriteFault};
 ghost use Rattle.fab_base.specs.declared.status.Why.{Why};
 ghost use Rattle.fab_model.specs.Calls.{upto};
 ghost use Rattle.fab_model.specs.Replay.{lines_of};
 ghost use Rattle.fab_base.specs.Counts.{Rose};
+ghost use Rattle.fab_grammar.specs.Settings.{asking};
 ghost use Rattle.fab_model.specs.Negotiation.{grant};
 ghost use Rattle.fab_top.specs.Commands.{IsNoCommand};
-ghost use Rattle.fab_outside.specs.Info.{info_text};
+ghost use Rattle.fab_outside.specs.Info.{info_text, offer};
 ghost use Rattle.fab_outside.specs.Loading.{IsOver, IsUnloaded};
-ghost use Rattle.fab_top.specs.Runs.{Reports, ComesToRest, AskFor, IsRefused, Writes, WritesPart, Tells, TellsPart, TellsOffer, Benches, BenchesPart, EndsBench, Checks, ChecksPart, IsUnhindered, IsAnswered, IsSilent, MayStick, NeverSticks, WritesReport};
+ghost use Rattle.fab_top.specs.Runs.{Reports, ComesToRest, AskFor, IsRefused, Writes, WritesPart, Tells, TellsPart, EndsText, Benches, BenchesPart, EndsBench, Checks, ChecksPart, Sums, SumsPart, IsUnhindered, IsAnswered, IsSilent, MayStick, NeverSticks, WritesReport};
+ghost use Rattle.fab_window_run.specs.Commands.{asked_text, IsWithin as IsWindow, window_of};
 ghost use Rattle.fab_workloads.specs.Bench.{bench_line};
 ghost use Rattle.fab_workloads.specs.Commands.{IsWithin, payload_file, workload_of};
 ghost use Rattle.fab_workloads.specs.Script.{bound_of};
@@ -20,8 +23,8 @@ ghost use Rattle.fab_workloads.specs.Script.{bound_of};
 use crate::checking::carry_out_check;
 use crate::whole::{all_done, report};
 use fab_answer::laws::law_one_answer;
-use fab_base::{Bound, Buf, Gate, Hints, Line, NoMemory, Status, Text};
-use fab_outside::commands::{info_hints, replay_files, script_file};
+use fab_base::{Bound, Buf, Caps, Gate, Line, NoMemory, Status, Text};
+use fab_outside::commands::{info_caps, replay_files, script_file};
 use fab_outside::info::info_text;
 use fab_outside::loading::{load_file, load_script};
 use fab_outside::{Clock, Depot, Failed, Sink, write_all};
@@ -29,6 +32,7 @@ use fab_peer::machines;
 use fab_phases::phases::run_phases;
 use fab_quantum::calls::Machinery;
 use fab_script::lines;
+use fab_window_run::{Asked, window_of, window_text};
 use fab_workload_laws::laws::law_workloads_done;
 use fab_workloads::{Workload, bench_line, bound, payload_file, workload_of};
 use std::alloc::Global;
@@ -65,14 +69,14 @@ fn run_over<C: Machinery + Drop + Send, G: Gate, R: Threads + Wait + Sync>(
     requires count { length machines.items ≡ bound.now.script.conf.peers }
     requires log { 4 ≤ bound.now.script.conf.info.log }
     requires start { All (λ m. C.held m ≡ start bound.now.script.conf) machines.items }
-    requires peers { (0 < bound.now.script.conf.peers) × (bound.now.script.conf.peers ≤ 32) }
+    requires peers { (0 < bound.now.script.conf.peers) × (bound.now.script.conf.peers ≤ 64) }
     requires lane { (0 < bound.now.script.conf.info.lane) × (bound.now.script.conf.info.lane ≤ 1024) }
     requires pool { (0 < bound.now.script.conf.info.pool) × (bound.now.script.conf.info.pool ≤ 1024) }
     ensures { IfOk result (λ ran. Reports bound.now (string_bytes ran.text) ran.done) }
 {
     let lists = lines_of_all(alloc, bound)?;
     let peers = run_phases(rt, alloc, &bound.script.conf, lists, machines, gate)?;
-    let text = report(alloc, &peers)?;
+    let text = report(alloc, bound.script.version, &peers)?;
     Ok(Ran {
         text,
         done: all_done(&peers),
@@ -88,7 +92,7 @@ fn run_script<G: Gate, R: Threads + Wait + Sync>(
 ) -> Result<Ran, NoMemory>
     requires cq { 2 ≤ bound.now.script.conf.info.cq }
     requires log { 4 ≤ bound.now.script.conf.info.log }
-    requires peers { (0 < bound.now.script.conf.peers) × (bound.now.script.conf.peers ≤ 32) }
+    requires peers { (0 < bound.now.script.conf.peers) × (bound.now.script.conf.peers ≤ 64) }
     requires lane { (0 < bound.now.script.conf.info.lane) × (bound.now.script.conf.info.lane ≤ 1024) }
     requires pool { (0 < bound.now.script.conf.info.pool) × (bound.now.script.conf.info.pool ≤ 1024) }
     ensures { IfOk result (λ ran. Reports bound.now (string_bytes ran.text) ran.done) }
@@ -109,7 +113,7 @@ fn complete_over<M: Machinery + Drop + Send, G: Gate, R: Threads + Wait + Sync>(
     requires count { length machines.items ≡ bound.now.script.conf.peers }
     requires log { 4 ≤ bound.now.script.conf.info.log }
     requires start { All (λ m. M.held m ≡ start bound.now.script.conf) machines.items }
-    requires peers { (0 < bound.now.script.conf.peers) × (bound.now.script.conf.peers ≤ 32) }
+    requires peers { (0 < bound.now.script.conf.peers) × (bound.now.script.conf.peers ≤ 64) }
     requires lane { (0 < bound.now.script.conf.info.lane) × (bound.now.script.conf.info.lane ≤ 1024) }
     requires pool { (0 < bound.now.script.conf.info.pool) × (bound.now.script.conf.info.pool ≤ 1024) }
     ensures { IfOk result (λ done. ComesToRest bound.now done) }
@@ -128,7 +132,7 @@ fn complete<G: Gate, R: Threads + Wait + Sync>(
 ) -> Result<bool, NoMemory>
     requires cq { 2 ≤ bound.now.script.conf.info.cq }
     requires log { 4 ≤ bound.now.script.conf.info.log }
-    requires peers { (0 < bound.now.script.conf.peers) × (bound.now.script.conf.peers ≤ 32) }
+    requires peers { (0 < bound.now.script.conf.peers) × (bound.now.script.conf.peers ≤ 64) }
     requires lane { (0 < bound.now.script.conf.info.lane) × (bound.now.script.conf.info.lane ≤ 1024) }
     requires pool { (0 < bound.now.script.conf.info.pool) × (bound.now.script.conf.info.pool ≤ 1024) }
     ensures { IfOk result (λ done. ComesToRest bound.now done) }
@@ -201,15 +205,37 @@ fn write_text<S: Sink>(sink: &mut S, ran: &Ran) -> Status
     }
 }
 
-/// Writes what these hints are granted, and says how the command ends.
-fn tell_offer<S: Sink>(alloc: Global, sink: &mut S, hints: Option<Hints>) -> Status
-    ensures done { result ≡ Done → S.bytes sink.new ≡ append_known (S.bytes sink.old) (info_text (grant hints)) }
+/// Writes what is granted to whoever asks for these capabilities, and says how the command ends.
+fn tell_offer<S: Sink>(alloc: Global, sink: &mut S, caps: Caps) -> Status
+    ensures granted { grant Two (Some (asking caps)) ≡ Some (offer caps) }
+    ensures done { result ≡ Done → S.bytes sink.new ≡ append_known (S.bytes sink.old) (info_text caps) }
     ensures write_fault { result ≡ WriteFault → Rose (S.faults sink.old) (S.faults sink.new)
-        × ((n : ℕ) × (n < length (info_text (grant hints))) × (S.bytes sink.new ≡ append_known (S.bytes sink.old) (take n (info_text (grant hints))))) }
+        × ((n : ℕ) × (n < length (info_text caps)) × (S.bytes sink.new ≡ append_known (S.bytes sink.old) (take n (info_text caps)))) }
     ensures silent { IsSilent result → S.bytes sink.new ≡ S.bytes sink.old }
-    ensures ends { TellsOffer result }
+    ensures ends { EndsText result }
 {
-    match info_text(alloc, hints.as_ref()) {
+    match info_text(alloc, caps) {
+        Ok(text) => write_text(sink, &Ran { text, done: true }),
+        Err(NoMemory) => Status::NoMemory,
+    }
+}
+
+/// Has peers add to a window, writes what its words hold at last, and says how the command ends.
+fn tell_totals<S: Sink, G: Gate, R: Threads + Wait + Sync>(
+    rt: &R,
+    alloc: Global,
+    asked: Asked,
+    sink: &mut S,
+    gate: &G,
+) -> Status
+    requires { IsWindow asked }
+    ensures done { result ≡ Done → S.bytes sink.new ≡ append_known (S.bytes sink.old) (asked_text asked) }
+    ensures write_fault { result ≡ WriteFault → Rose (S.faults sink.old) (S.faults sink.new)
+        × ((n : ℕ) × (n < length (asked_text asked)) × (S.bytes sink.new ≡ append_known (S.bytes sink.old) (take n (asked_text asked)))) }
+    ensures silent { IsSilent result → S.bytes sink.new ≡ S.bytes sink.old }
+    ensures ends { EndsText result }
+{
+    match window_text(rt, alloc, gate, asked) {
         Ok(text) => write_text(sink, &Ran { text, done: true }),
         Err(NoMemory) => Status::NoMemory,
     }
@@ -265,8 +291,8 @@ where
 
 /// Carries out the command that these words are. `script FILE` loads the file and the payload files of the script
 /// that it spells, in the order of their lines, runs the script's peers, and writes their report. `info CAPS` writes
-/// what is granted (fi_getinfo(3)) to whoever asks for these capabilities, whose names are joined by commas, or has no
-/// hints where CAPS is `-`.
+/// what the second version of the interface grants (fi_getinfo(3)) to whoever asks for these capabilities, whose names are
+/// joined by commas, or for none where CAPS is `-`.
 ///
 /// `pingpong FILE SIZE COUNT`, `bandwidth FILE SIZE COUNT WINDOW` and `gen NUMBER PEERS MESSAGES` run the script of a
 /// workload in the same way, and write one line ([`bench_line`]). The messages of the first two have the file's first
@@ -280,9 +306,14 @@ where
 /// where the report of the schedule that it tells is another text from the N-th byte on (from 0); `no schedule`.
 /// Each of the five ends at `Done`.
 ///
-/// The peers take their turns in rounds, each turn in a thread of its own over lock-free lanes, until a round moves
-/// nothing or all lines are done, and then in one thread until none can go on. The gate is told when a turn in a thread
-/// begins and ends. Which of two peers' messages comes first may depend on the threads, so two runs of a script may
+/// `window NUMBER PEERS WORDS ADDS` has PEERS peers (1 to 32), each in a thread of its own, make ADDS additions (up to
+/// 100,000) each to WORDS words (1 to 1,024) that all of them share and that begin at 0, and writes what each word holds at
+/// last ([`window_text`]). What is added is drawn from NUMBER, so of the same words it always writes the same text. Each
+/// peer tells the gate when it begins and ends, with round 0; the rounds of the other commands are numbered from 1.
+///
+/// The peers of a script take their turns in rounds, each turn in a thread of its own over lock-free lanes, until a round
+/// moves nothing or all lines are done, and then in one thread until none can go on. The gate is told when a turn in a
+/// thread begins and ends. Which of two peers' messages comes first may depend on the threads, so two runs of a script may
 /// write two reports. The line of a workload is the same but for the time: its script has one answer, and no run of it ends
 /// at `Stuck`.
 ///
@@ -291,8 +322,8 @@ where
 /// peers are at rest: nothing is on its way, no completion is unread, and no line can be done. At `Done`
 /// all lines are done, and no receive is posted any more; at `Stuck` some line is not done, and the script is not one that is
 /// settled and whose answer does all lines: where files are told, such a script never ends at `Stuck`. At
-/// `WriteFault` the first bytes of such a report are written, and at every other status none. `info` ends at
-/// `Done`, also where nothing is granted, at `WriteFault` or at `NoMemory`. The files stay as they are.
+/// `WriteFault` the first bytes of such a report are written, and at every other status none. `info` and
+/// `window` end at `Done`, at `WriteFault` or at `NoMemory`. The files stay as they are.
 ///
 /// `ScriptRefused` names the first line that breaks a rule of the language, and the first rule that it breaks; with
 /// `FileRange`, which is looked at last, the first line that names bytes which its payload file has not. `TooLong` and
@@ -320,7 +351,8 @@ where
     ensures done { result ≡ Done → Writes (D.files depot.old) words.now true (S.bytes sink.old) (S.bytes sink.new)
         ⊎ Tells words.now (S.bytes sink.old) (S.bytes sink.new)
         ⊎ Benches words.now (C.given clock.new) (C.first clock.new) (C.last clock.new) (S.bytes sink.old) (S.bytes sink.new)
-        ⊎ Checks (D.files depot.old) words.now (S.bytes sink.old) (S.bytes sink.new) }
+        ⊎ Checks (D.files depot.old) words.now (S.bytes sink.old) (S.bytes sink.new)
+        ⊎ Sums words.now (S.bytes sink.old) (S.bytes sink.new) }
     ensures stuck { result ≡ Stuck → Writes (D.files depot.old) words.now false (S.bytes sink.old) (S.bytes sink.new) }
     ensures sticks { result ≡ Stuck → MayStick (D.files depot.old) words.now }
     ensures whole { NeverSticks (D.files depot.old) words.now → result ≢ Stuck }
@@ -328,20 +360,24 @@ where
         × (WritesPart (D.files depot.old) words.now (S.bytes sink.old) (S.bytes sink.new)
         ⊎ TellsPart words.now (S.bytes sink.old) (S.bytes sink.new)
         ⊎ BenchesPart words.now (C.given clock.new) (C.first clock.new) (C.last clock.new) (S.bytes sink.old) (S.bytes sink.new)
-        ⊎ ChecksPart (D.files depot.old) words.now (S.bytes sink.old) (S.bytes sink.new)) }
+        ⊎ ChecksPart (D.files depot.old) words.now (S.bytes sink.old) (S.bytes sink.new)
+        ⊎ SumsPart words.now (S.bytes sink.old) (S.bytes sink.new)) }
     ensures silent { IsSilent result → S.bytes sink.new ≡ S.bytes sink.old }
     ensures files { D.files depot.new ≡ D.files depot.old }
     ensures complete { IsUnhindered (D.files depot.old) words.now (D.faults depot.old) (D.faults depot.new) (S.faults sink.old) (S.faults sink.new)
         → IsAnswered result }
 {
-    if let Some(hints) = info_hints(words) {
-        return tell_offer(alloc, sink, hints);
+    if let Some(caps) = info_caps(words) {
+        return tell_offer(alloc, sink, caps);
     }
     if let Some(workload) = workload_of(words) {
         return carry_out_workload(rt, alloc, words, workload, depot, sink, clock, gate);
     }
     if let Some((file, trace)) = replay_files(words) {
         return carry_out_check(alloc, file, trace, depot, sink);
+    }
+    if let Some(asked) = window_of(words) {
+        return tell_totals(rt, alloc, asked, sink, gate);
     }
     let Some(name) = script_file(words) else {
         return Status::Usage;

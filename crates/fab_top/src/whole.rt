@@ -45,18 +45,23 @@ fn add_peers<C: Machinery>(out: &mut String, peers: &[Member<C>]) -> Result<(), 
             peer.results(),
             peer.kept(),
             u64::from(peer.awaiting()),
+            u64::from(peer.deferred()),
             peer.schedule(),
         )?;
     }
     Ok(())
 }
 
-/// The report of these peers, in their states and with their schedules.
-pub fn report<C: Machinery>(alloc: Global, peers: &[Member<C>]) -> Result<String, NoMemory>
-    ensures { IfOk result (λ text. string_bytes text ≡ report_of (map member_actor peers.now) (map member_steps peers.now)) }
+/// The report of these peers, in their states and with their schedules, of a script of this version.
+pub fn report<C: Machinery>(
+    alloc: Global,
+    version: u32,
+    peers: &[Member<C>],
+) -> Result<String, NoMemory>
+    ensures { IfOk result (λ text. string_bytes text ≡ report_of version (map member_actor peers.now) (map member_steps peers.now)) }
 {
     let mut out = String::new(alloc);
-    add_first(&mut out, peers.len())?;
+    add_first(&mut out, version, peers.len())?;
     add_peers(&mut out, peers)?;
     add_last(&mut out, all_done(peers))?;
     Ok(out)

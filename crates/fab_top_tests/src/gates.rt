@@ -15,9 +15,10 @@ impl Gate for OpenGate {
     fn leave(&self, _peer: u32, _round: u32) {}
 }
 
-/// In round 1, each of two turns waits until the other has begun.
+/// In one round, each of two turns waits until the other has begun.
 #[derive(Drop)]
 pub(crate) struct Meeting {
+    round: u32,
     first: AtomicBool,
     second: AtomicBool,
     /// How many turns saw the other begin.
@@ -25,8 +26,9 @@ pub(crate) struct Meeting {
 }
 
 impl Meeting {
-    pub(crate) fn new() -> Meeting {
+    pub(crate) fn new(round: u32) -> Meeting {
         Meeting {
+            round,
             first: AtomicBool::new(false),
             second: AtomicBool::new(false),
             seen: AtomicU32::new(0),
@@ -47,7 +49,7 @@ impl Meeting {
 
 impl Gate for Meeting {
     fn enter(&self, peer: u32, round: u32) {
-        if round != 1 {
+        if round != self.round {
             return;
         }
         if peer == 0 {

@@ -11,16 +11,23 @@ use std::thread::Threads;
 const OFFER: &str = "provider shm-threads\n\
     endpoint FI_EP_RDM\n\
     caps FI_MSG FI_TAGGED FI_RMA FI_ATOMIC FI_DIRECTED_RECV FI_SEND FI_RECV FI_READ FI_WRITE FI_REMOTE_READ \
-    FI_REMOTE_WRITE FI_MULTI_RECV FI_SOURCE FI_LOCAL_COMM\n\
+    FI_REMOTE_WRITE FI_MULTI_RECV FI_SOURCE FI_RMA_EVENT FI_FENCE FI_LOCAL_COMM\n\
     order FI_ORDER_SAS\n\
-    inline 64 piece 4096 inject 4096 message 16777216 atomic 4096\n\
+    inline 64 piece 4096 inject 4096 message 268435456 atomic 4096\n\
     peers 32 lane 64 pool 32 tx 64 rx 256 cq 1024\n";
 
 const TAGGED_SENDS: &str = "provider shm-threads\n\
     endpoint FI_EP_RDM\n\
-    caps FI_TAGGED FI_SEND FI_MULTI_RECV FI_SOURCE FI_LOCAL_COMM\n\
+    caps FI_TAGGED FI_SEND FI_MULTI_RECV FI_SOURCE FI_RMA_EVENT FI_FENCE FI_LOCAL_COMM\n\
     order FI_ORDER_SAS\n\
-    inline 64 piece 4096 inject 4096 message 16777216 atomic 4096\n\
+    inline 64 piece 4096 inject 4096 message 268435456 atomic 4096\n\
+    peers 32 lane 64 pool 32 tx 64 rx 256 cq 1024\n";
+
+const FENCES: &str = "provider shm-threads\n\
+    endpoint FI_EP_RDM\n\
+    caps FI_MULTI_RECV FI_SOURCE FI_RMA_EVENT FI_FENCE FI_LOCAL_COMM\n\
+    order FI_ORDER_SAS\n\
+    inline 64 piece 4096 inject 4096 message 268435456 atomic 4096\n\
     peers 32 lane 64 pool 32 tx 64 rx 256 cq 1024\n";
 
 /// `info` of these capabilities writes this text, and loads nothing.
@@ -45,7 +52,7 @@ fn info_tells_what_is_granted(rt: HostRuntime) -> Result<(), Fail> {
     let rows = [
         ("-", OFFER),
         ("FI_TAGGED,FI_SEND", TAGGED_SENDS),
-        ("FI_FENCE", "FI_ENODATA\n"),
+        ("FI_FENCE", FENCES),
     ];
     for (caps, text) in rows {
         tells(&rt, rt.alloc(), caps, text)?;

@@ -1,11 +1,13 @@
-//! Tests of `fab_top`: whole runs over memory, what is granted, the text of reports, what is said of them, and the
-//! outside over memory.
+//! Tests of `fab_top`: whole runs over memory, what is granted, the text of reports, what is said of them, windows, and
+//! the outside over memory.
 //!
 //! They stand in a crate of their own, so that `fab_top` isn't proved twice.
 #![tactic(auto)]
 
 #[cfg(test)]
 mod faults;
+#[cfg(test)]
+mod fences;
 #[cfg(test)]
 mod full;
 #[cfg(test)]
@@ -32,5 +34,7 @@ mod reports;
 mod runs;
 #[cfg(test)]
 mod threads;
+#[cfg(test)]
+mod windows;
 #[cfg(test)]
 mod workloads;

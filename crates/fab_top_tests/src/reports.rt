@@ -80,7 +80,7 @@ fn add_receiver(text: &mut String, alloc: Global) -> Result<(), NoMemory> {
         },
     ];
     let steps = [Step::Do, Step::Head(1), Step::Tail(1), Step::Read, Step::Do];
-    add_peer(text, 0, &lines, &results, &[], 0, &steps)
+    add_peer(text, 0, &lines, &results, &[], 0, 0, &steps)
 }
 
 /// The part of the peer that sent it.
@@ -101,20 +101,21 @@ fn add_sender(text: &mut String, alloc: Global) -> Result<(), NoMemory> {
         imm: None,
         level: Level::Transmit,
         completion: false,
+        fence: false,
     };
     let lines = [Line {
         number: 7,
         op: send,
     }];
     let steps = [Step::Do, Step::Sent(0), Step::Read];
-    add_peer(text, 1, &lines, &[LineResult::Done], &left, 0, &steps)
+    add_peer(text, 1, &lines, &[LineResult::Done], &left, 0, 0, &steps)
 }
 
 /// A tagged message of five bytes, in the words of a report.
 #[test]
 fn one_message_is_reported(rt: HostRuntime) -> Result<(), Fail> {
     let mut text = String::new(rt.alloc());
-    add_first(&mut text, 2)?;
+    add_first(&mut text, 1, 2)?;
     add_receiver(&mut text, rt.alloc())?;
     add_sender(&mut text, rt.alloc())?;
     add_last(&mut text, true)?;
@@ -132,7 +133,7 @@ fn one_message_is_reported(rt: HostRuntime) -> Result<(), Fail> {
     Ok(())
 }
 
-/// The part of a peer that stands at a line, with a reply outstanding, and every kind of step.
+/// The part of a peer that stands at a line, with replies outstanding, two operations deferred, and every kind of step.
 fn add_stuck(text: &mut String) -> Result<(), NoMemory> {
     let lines = [
         Line {
@@ -154,7 +155,7 @@ fn add_stuck(text: &mut String) -> Result<(), NoMemory> {
         Step::Read,
         Step::Final,
     ];
-    add_peer(text, 3, &lines, &results, &[], 21, &steps)
+    add_peer(text, 3, &lines, &results, &[], 21, 2, &steps)
 }
 
 #[test]
@@ -166,6 +167,7 @@ fn a_stuck_peer_is_reported(rt: HostRuntime) -> Result<(), Fail> {
         12 cancel refused FI_ENOENT\n\
         stuck at 13\n\
         pending 21\n\
+        deferred 2\n\
         trace D H10 T10 S31 M R X\n\
         end stuck\n";
     assert_eq!(rt; text.as_str(), want);
@@ -183,7 +185,7 @@ fn is_text<E>(rt: &impl Abort, text: &String, want: &Result<String, E>) {
 /// An entry that is left is told in these words.
 fn is_left(rt: &impl Abort, alloc: Global, kept: Kept, words: &str) {
     let mut text = String::new(alloc);
-    let added = add_peer(&mut text, 0, &[], &[], &[kept], 0, &[]);
+    let added = add_peer(&mut text, 0, &[], &[], &[kept], 0, 0, &[]);
     assert!(rt; added.is_ok());
     is_text(
         rt,
@@ -325,7 +327,7 @@ fn is_done(rt: &impl Abort, alloc: Global, outcome: LineResult, words: &str) {
         number: 4,
         op: LineOp::Wait { ctx: None },
     };
-    let added = add_peer(&mut text, 0, &[wait], &[outcome], &[], 0, &[]);
+    let added = add_peer(&mut text, 0, &[wait], &[outcome], &[], 0, 0, &[]);
     assert!(rt; added.is_ok());
     is_text(
         rt,

@@ -268,7 +268,7 @@ fn is_no_command<R: Abort + Threads + Wait + Sync>(
 
 #[test]
 fn other_words_are_no_command(rt: HostRuntime) -> Result<(), Fail> {
-    let rows: [&[&str]; 18] = [
+    let rows: [&[&str]; 25] = [
         &[],
         &["pingpong", "f", "4096", "0"],
         &["pingpong", "f", "16777216", "5"],
@@ -287,6 +287,13 @@ fn other_words_are_no_command(rt: HostRuntime) -> Result<(), Fail> {
         &["info", "FI_MSG,"],
         &["info", "FI_MSG FI_SEND"],
         &["info", "FI_MSG", "FI_SEND"],
+        &["window", "0", "2", "1"],
+        &["window", "0", "2", "1", "1", "1"],
+        &["window", "0", "0", "1", "1"],
+        &["window", "0", "33", "1", "1"],
+        &["window", "0", "2", "0", "1"],
+        &["window", "0", "2", "1025", "1"],
+        &["window", "0", "2", "1", "100001"],
     ];
     for words in rows {
         is_no_command(&rt, rt.alloc(), words)?;

@@ -149,7 +149,7 @@ const HALF_IN_LANE_REPORT: &str = "fabric 1 peers 2\n\
 
 #[test]
 fn turns_of_a_round_run_side_by_side(rt: HostRuntime) -> Result<(), Fail> {
-    let gate = Meeting::new();
+    let gate = Meeting::new(1);
     runs_to(&rt, rt.alloc(), (NO_LINES, NO_LINES_REPORT, true), &gate)?;
     assert_eq!(rt; gate.seen.load(Ordering::SeqCst), 2);
     Ok(())

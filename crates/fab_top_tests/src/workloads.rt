@@ -93,7 +93,7 @@ fn workloads_write_their_lines(rt: HostRuntime) -> Result<(), Fail> {
 #[test]
 fn turns_of_workloads_run_side_by_side(rt: HostRuntime) -> Result<(), Fail> {
     for row in [&PINGPONG, &BANDWIDTH, &ONE_MESSAGE] {
-        let gate = Meeting::new();
+        let gate = Meeting::new(1);
         writes(&rt, rt.alloc(), row, &gate)?;
         assert_eq!(rt; gate.seen.load(Ordering::SeqCst), 2);
     }

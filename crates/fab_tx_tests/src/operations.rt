@@ -1,5 +1,6 @@
 //! Operations of each kind, from their acceptance to their end, with a reply among them.
 ghost use Rattle.std.specs.Prelude.{◌≡◌, ◌<◌, ◌^◌, None, IsTrue, length};
+ghost use Rattle.fab_model.specs.State.{in_use};
 ghost use Rattle.fab_base.specs.declared.items.Ack.TheVariants.{Nothing};
 ghost use Rattle.fab_base.specs.declared.items.Kind.TheVariants.{Reply};
 ghost use Rattle.fab_base.specs.declared.items.Outcome.TheVariants.{Done};
@@ -38,7 +39,7 @@ fn head_of(kind: Kind, op: u64, ack: Ack, count: u32, total: u32) -> ItemHead
 }
 
 fn may_accept(outbox: &Outbox, dest: u32) -> bool
-    ensures { IsTrue result → (dest < length outbox.now.tx.sent) × (length outbox.now.tx.live < outbox.now.most) × (outbox.now.tx.ops < 2 ^ 62) }
+    ensures { IsTrue result → (dest < length outbox.now.tx.sent) × (in_use outbox.now.tx < outbox.now.most) × (outbox.now.tx.ops < 2 ^ 62) }
 {
     outbox.has_peer(dest) && !outbox.is_full() && outbox.may_count()
 }
@@ -52,7 +53,7 @@ fn sends(alloc: Global, outbox: &mut Outbox, ctx: u64, ack: Ack) -> bool {
         return false;
     };
     let head = head_of(Kind::Msg, outbox.ops(), ack, 0, 3);
-    outbox.accept_owned::<(), NoCall>(&(), 0, head, Level::Transmit, Some(ctx), buf, false);
+    outbox.accept_owned::<(), NoCall>(&(), 0, head, Level::Transmit, Some(ctx), buf, false, false);
     true
 }
 
@@ -62,7 +63,18 @@ fn injects(outbox: &mut Outbox) -> bool {
         return false;
     }
     let head = head_of(Kind::Msg, outbox.ops(), Ack::Nothing, 0, 2);
-    outbox.accept_copied::<(), NoCall>(&(), 0, head, Level::Inject, None, &[4, 5], &[], None, true);
+    outbox.accept_copied::<(), NoCall>(
+        &(),
+        0,
+        head,
+        Level::Inject,
+        None,
+        &[4, 5],
+        &[],
+        None,
+        true,
+        false,
+    );
     true
 }
 
@@ -84,6 +96,7 @@ fn reads(alloc: Global, outbox: &mut Outbox, ctx: u64) -> bool {
         &[],
         &[],
         Some(buf),
+        false,
         false,
     );
     true
@@ -318,5 +331,63 @@ fn goes_out_between(alloc: Global) -> bool {
 #[test]
 fn a_reply_goes_out_behind_what_was_accepted(rt: HostRuntime) -> Result<(), Fail> {
     assert!(rt; goes_out_between(rt.alloc()));
+    Ok(())
+}
+
+/// Whether a message of three bytes with a fence is accepted.
+fn sends_fenced(alloc: Global, outbox: &mut Outbox, ctx: u64) -> bool {
+    if !may_accept(outbox, 0) {
+        return false;
+    }
+    let Ok(buf) = Buf::copy(alloc, &[7, 8, 9]) else {
+        return false;
+    };
+    let head = head_of(Kind::Msg, outbox.ops(), Ack::Nothing, 0, 3);
+    outbox.accept_owned::<(), NoCall>(&(), 0, head, Level::Transmit, Some(ctx), buf, false, true);
+    true
+}
+
+/// Whether nothing is next for peer 0.
+fn idles(outbox: &Outbox) -> bool {
+    outbox.has_peer(0) && outbox.next(0).is_none()
+}
+
+/// Whether a message with a fence waits behind a read that awaits its reply, and one more behind it.
+fn holds_two(alloc: Global, outbox: &mut Outbox) -> bool {
+    reads(alloc, outbox, 7)
+        && ends_none(outbox)
+        && sends_fenced(alloc, outbox, 8)
+        && injects(outbox)
+        && idles(outbox)
+        && counts(outbox, 3, 1)
+        && outbox.deferred() == 2
+        && outbox.is_full()
+}
+
+/// Whether a reply goes out in front of both, and both once the read has ended.
+fn lets_two_out(alloc: Global, outbox: &mut Outbox) -> bool {
+    books(alloc, outbox)
+        && goes_next(outbox, &[6])
+        && ends_none(outbox)
+        && idles(outbox)
+        && answers(outbox, 0, 2, 7)
+        && goes_next(outbox, &[7, 8, 9])
+        && is_of_with(send_next(outbox), 8, &[7, 8, 9])
+        && goes_next(outbox, &[4, 5])
+        && is_silent(send_next(outbox))
+        && counts(outbox, 0, 0)
+        && outbox.deferred() == 0
+}
+
+fn goes_out_behind_a_fence(alloc: Global) -> bool {
+    match Outbox::new(alloc, 1, 3) {
+        Ok(mut outbox) => holds_two(alloc, &mut outbox) && lets_two_out(alloc, &mut outbox),
+        Err(_) => false,
+    }
+}
+
+#[test]
+fn a_fence_waits_for_what_is_live(rt: HostRuntime) -> Result<(), Fail> {
+    assert!(rt; goes_out_behind_a_fence(rt.alloc()));
     Ok(())
 }

@@ -86,6 +86,6 @@ pub parts_filled : (p : ℕ → Bool) (xs : List ℕ) → 0 < length (slice_spli
 parts_filled p xs = omega (arith, length-slice_split p xs)
 
 -- a range of another number of parts
-pub file_range_other : (parts : List (List ℕ)) → length parts ≢ 3 → file_range parts ≡ Err Words
-file_range_other (a ∷ b ∷ c ∷ []) h = absurd (h (omega arith))
-file_range_other _ h = refl
+pub file_range_other : (most : ℕ) (parts : List (List ℕ)) → length parts ≢ 3 → file_range most parts ≡ Err Words
+file_range_other most (a ∷ b ∷ c ∷ []) h = absurd (h (omega arith))
+file_range_other most _ h = refl

@@ -1,7 +1,7 @@
 -- What one word says.
 --     number_of word      1 to 20 decimal digits, or `0x` and 1 to 16 hexadecimal digits, below 2 ^ 64
 --     read_number word, read_up_to n word      a number, or a number of at most n
---     read_index word, read_len word, read_source word      what stands in these places
+--     read_index word, read_source word      what stands in these places
 use Rattle.std.specs.Prelude.{ℕ, ◌^◌, Bool, ◌&&◌, nat_lt, nat_le, if◌then◌else◌, List, [], ◌∷◌, length, drop, take, codes, bytes_eq, Option, Some, None, option_and_then, Result, Ok, Err, ok_or}
 use Rattle.std.specs.List.{list_all}
 use Rattle.fab_words.specs.declared.fault.Fault.{Fault}
@@ -50,12 +50,9 @@ within most (Err fault) = Err fault
 unfoldable pub read_up_to : ℕ → List ℕ → Result ℕ Fault
 read_up_to most word = within most (read_number word)
 
--- an index is below 2 ^ 32, and a length at most 33,554,432
+-- an index is below 2 ^ 32
 unfoldable pub read_index : List ℕ → Result ℕ Fault
 read_index word = read_up_to 4294967295 word
-
-unfoldable pub read_len : List ℕ → Result ℕ Fault
-read_len word = read_up_to 33554432 word
 
 -- `*`, or an index
 unfoldable pub read_source : List ℕ → Result (Option ℕ) Fault

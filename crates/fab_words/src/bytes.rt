@@ -4,60 +4,60 @@ ghost use Rattle.std.specs.List.{slice_split};
 ghost use Rattle.fab_base.specs.declared.script.BytesWord.TheVariants.{Text, Zero};
 ghost use Rattle.fab_words.specs.Bytes.{few_bytes, of_hex, is_colon, file_range, read_bytes, bytes_size};
 ghost use Rattle.fab_words.specs.Faults.{map_ok};
-ghost use Rattle.fab_words.specs.Words.{read_len};
+ghost use Rattle.fab_words.specs.Words.{read_up_to};
 ghost use Rattle.hex.specs.Hex.{decode_of};
 
 use crate::cut::first_part;
 use crate::fault::{Fault, Read, both};
-use crate::words::{BYTES_MAX, read_len, read_number};
+use crate::words::{read_number, read_up_to};
 use fab_base::{Buf, BytesWord, NoMemory};
 use hex::FromHexError;
 use std::alloc::Global;
 
-/// `text:`, `hex:`, `zero:N` or `file:ID:AT:LEN`.
+/// `text:`, `hex:`, `zero:N` or `file:ID:AT:LEN`, with at most `most` bytes.
 #[tactic(auto, unfolding(crate::specs::Bytes::read_bytes))]
-pub fn read_bytes(alloc: Global, word: &[u8]) -> Result<Read<BytesWord>, NoMemory>
-    ensures { IfOk result (λ read. read ≡ read_bytes word.now) }
+pub fn read_bytes(alloc: Global, most: u32, word: &[u8]) -> Result<Read<BytesWord>, NoMemory>
+    ensures { IfOk result (λ read. read ≡ read_bytes most word.now) }
 {
     if let Some(bytes) = word.strip_prefix(b"text:") {
-        read_literal(alloc, bytes)
+        read_literal(alloc, most, bytes)
     } else if let Some(digits) = word.strip_prefix(b"hex:") {
-        read_hex(alloc, digits)
+        read_hex(alloc, most, digits)
     } else if let Some(len) = word.strip_prefix(b"zero:") {
-        Ok(read_zeros(len))
+        Ok(read_zeros(most, len))
     } else if let Some(range) = word.strip_prefix(b"file:") {
-        Ok(read_range(range))
+        Ok(read_range(most, range))
     } else {
         Ok(Err(Fault::Words))
     }
 }
 
 /// The bytes as they are written.
-fn read_literal(alloc: Global, bytes: &[u8]) -> Result<Read<BytesWord>, NoMemory>
-    ensures { IfOk result (λ read. read ≡ few_bytes bytes.now (Text bytes.now)) }
+fn read_literal(alloc: Global, most: u32, bytes: &[u8]) -> Result<Read<BytesWord>, NoMemory>
+    ensures { IfOk result (λ read. read ≡ few_bytes most bytes.now (Text bytes.now)) }
 {
-    if bytes.len() > BYTES_MAX as usize {
+    if bytes.len() > most as usize {
         return Ok(Err(Fault::Limit));
     }
     Ok(Ok(BytesWord::Text(Buf::copy(alloc, bytes)?)))
 }
 
 /// Two hexadecimal digits a byte.
-fn read_hex(alloc: Global, digits: &[u8]) -> Result<Read<BytesWord>, NoMemory>
-    ensures { IfOk result (λ read. read ≡ of_hex (decode_of digits.now)) }
+fn read_hex(alloc: Global, most: u32, digits: &[u8]) -> Result<Read<BytesWord>, NoMemory>
+    ensures { IfOk result (λ read. read ≡ of_hex most (decode_of digits.now)) }
 {
     match hex::decode(alloc, digits) {
-        Ok(bytes) if bytes.len() > BYTES_MAX as usize => Ok(Err(Fault::Limit)),
+        Ok(bytes) if bytes.len() > most as usize => Ok(Err(Fault::Limit)),
         Ok(bytes) => Ok(Ok(BytesWord::Hex(Buf::from_vec(bytes)))),
         Err(FromHexError::OutOfMemory) => Err(NoMemory),
         Err(_) => Ok(Err(Fault::Words)),
     }
 }
 
-fn read_zeros(len: &[u8]) -> Read<BytesWord>
-    ensures { result ≡ map_ok Zero (read_len len.now) }
+fn read_zeros(most: u32, len: &[u8]) -> Read<BytesWord>
+    ensures { result ≡ map_ok Zero (read_up_to most len.now) }
 {
-    Ok(BytesWord::Zero(u64::from(read_len(len)?)))
+    Ok(BytesWord::Zero(u64::from(read_up_to(most, len)?)))
 }
 
 /// The parts between colons, where there are three.
@@ -77,11 +77,14 @@ fn three_parts(text: &[u8]) -> Option<(&[u8], &[u8], &[u8])>
 
 /// `ID:AT:LEN`.
 #[tactic(auto, using(crate::proofs::CutLemmas::file_range_other))]
-fn read_range(range: &[u8]) -> Read<BytesWord>
-    ensures { result ≡ file_range (slice_split is_colon range.now) }
+fn read_range(most: u32, range: &[u8]) -> Read<BytesWord>
+    ensures { result ≡ file_range most (slice_split is_colon range.now) }
 {
     let (id, at, len) = three_parts(range).ok_or(Fault::Words)?;
-    let ((id, at), len) = both(both(read_number(id), read_number(at)), read_len(len))?;
+    let ((id, at), len) = both(
+        both(read_number(id), read_number(at)),
+        read_up_to(most, len),
+    )?;
     Ok(BytesWord::File {
         id,
         at,

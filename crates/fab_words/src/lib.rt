@@ -15,6 +15,5 @@ pub use cut::first_part;
 pub use fault::{Fault, Read, both};
 pub use rows::{Lines, all_text};
 pub use words::{
-    BYTES_MAX, Words, is, number, numeral, read_index, read_len, read_number, read_source,
-    read_text, read_up_to,
+    Words, is, number, numeral, read_index, read_number, read_source, read_text, read_up_to,
 };

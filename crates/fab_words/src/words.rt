@@ -1,15 +1,12 @@
 //! The words of a line, and what one word says.
 ghost use Rattle.std.specs.Prelude.{◌≡◌, ◌<◌, ◌≤◌, [], ◌∷◌, ◌^◌, MatchOption, bytes_eq, length, ◌≢◌, IfOk, IsTrue, ◌↔◌};
-ghost use Rattle.fab_words.specs.Words.{numeral_of, number_of, read_number, read_up_to, read_index, read_len, read_source, read_text};
+ghost use Rattle.fab_words.specs.Words.{numeral_of, number_of, read_number, read_up_to, read_index, read_source, read_text};
 
 use crate::cut::cut_word;
 use crate::fault::{Fault, Read};
 use fab_base::{NoMemory, Text};
 use std::alloc::Global;
 use std::marker::Model;
-
-/// The most bytes of a line, or of a buffer.
-pub const BYTES_MAX: u32 = 33_554_432;
 
 /// The words that are left of a line.
 #[derive(Drop)]
@@ -230,14 +227,6 @@ pub fn read_index(word: &[u8]) -> Result<u32, Fault>
     ensures { result ≡ read_index word.now }
 {
     read_up_to(u32::MAX, word)
-}
-
-/// A number of bytes.
-#[tactic(auto, unfolding(crate::specs::Words::read_len))]
-pub fn read_len(word: &[u8]) -> Result<u32, Fault>
-    ensures { result ≡ read_len word.now }
-{
-    read_up_to(BYTES_MAX, word)
 }
 
 /// `*`, or an index of the address vector.

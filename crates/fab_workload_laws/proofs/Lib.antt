@@ -1,12 +1,12 @@
-mod Bandwidth
-mod Batches
-mod Done
+pub mod Bandwidth
+pub mod Batches
+pub mod Done
 pub mod Every
-mod Generated
-mod Joined
-mod Ops
-mod Pingpong
-mod Rooms
-mod Settings
-mod Settled
-mod Whole
+pub mod Generated
+pub mod Joined
+pub mod Ops
+pub mod Pingpong
+pub mod Rooms
+pub mod Settings
+pub mod Settled
+pub mod Whole

@@ -87,22 +87,22 @@ is_given (Text bytes) = true
 is_given (File id at len) = false
 
 abbrev pub is_simple : LineOp → Bool
-is_simple (TSend ctx dest tag word imm level completion) = is_given word && is_below_match level
+is_simple (TSend ctx dest tag word imm level completion fence) = is_given word && is_below_match level
 is_simple (TRecv ctx source tag ignore len) = is_some source
 is_simple (Wait ctx) = true
 is_simple _ = false
 
 pub simple_plain : (op : LineOp) → is_simple op ≡ true → is_plain op ≡ true
-simple_plain (TSend ctx dest tag word imm level completion) e = (and_parts _ _ e).1
+simple_plain (TSend ctx dest tag word imm level completion fence) e = (and_parts _ _ e).1
 simple_plain (TRecv ctx source tag ignore len) e = e
 simple_plain (Wait ctx) e = refl
 simple_plain op e = absurd (cc (e))
 
 simple_bound : (b : Bound) (op : LineOp) → is_simple op ≡ true → bind_op b op ≡ op
-simple_bound b (TSend ctx dest tag (Hex bytes) imm level completion) e = refl
-simple_bound b (TSend ctx dest tag (Zero len) imm level completion) e = refl
-simple_bound b (TSend ctx dest tag (Text bytes) imm level completion) e = refl
-simple_bound b (TSend ctx dest tag (File id at len) imm level completion) e = absurd (cc (e))
+simple_bound b (TSend ctx dest tag (Hex bytes) imm level completion fence) e = refl
+simple_bound b (TSend ctx dest tag (Zero len) imm level completion fence) e = refl
+simple_bound b (TSend ctx dest tag (Text bytes) imm level completion fence) e = refl
+simple_bound b (TSend ctx dest tag (File id at len) imm level completion fence) e = absurd (cc (e))
 simple_bound b (TRecv ctx source tag ignore len) e = refl
 simple_bound b (Wait ctx) e = refl
 simple_bound b op e = absurd (cc (e))

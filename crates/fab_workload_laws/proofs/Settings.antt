@@ -55,6 +55,7 @@ order c d tag word = record {
   ctx = Some c;
   level = Level.Transmit;
   completion = false;
+  fence = false;
   buf = Some (word_bytes word);
 }
 

@@ -38,7 +38,7 @@ upto_get n p lt =
     let there = slice_get-get_or (upto n) p 0 (omega (arith, lt, length-upto n)) in
     there ∙ ap Some (upto_at n p (get_or (upto n) p 0) there)
 
-none_done : {X : Type 0} (xs : List X) (p : ℕ) → get_or (map (λ (x : X). let none : List LineResult = [] in none) xs) p [] ≡ []
+pub none_done : {X : Type 0} (xs : List X) (p : ℕ) → get_or (map (λ (x : X). let none : List LineResult = [] in none) xs) p [] ≡ []
 none_done [] p = refl
 none_done (x ∷ xs) zero = refl
 none_done (x ∷ xs) (suc p) = none_done xs p
@@ -55,7 +55,7 @@ module _ (bound : Bound) where
   abbrev pub Agree : Moment (List LineResult) Line → Type 0
   Agree m = (length m.states ≡ peers) × (length m.left ≡ peers) × ((p : ℕ) → p < peers → slice_get m.left p ≡ Some (drop (done m.states p) (lines_of bound p)))
 
-  agree_start : Agree (unanswered bound)
+  pub agree_start : Agree (unanswered bound)
   agree_start = (
     length-map (upto peers) (λ p. let none : List LineResult = [] in none) ∙ length-upto peers,
     length-map (upto peers) (lines_of bound) ∙ length-upto peers,
@@ -63,7 +63,7 @@ module _ (bound : Bound) where
         ∙ ap (λ n. Some (drop n (lines_of bound p))) (sym (ap length (none_done (upto peers) p))),
   )
 
-  agree_turn : (m x : Moment (List LineResult) Line) (p : ℕ) → Agree m → turn (answering bound) m p ≡ Some x → Agree x
+  pub agree_turn : (m x : Moment (List LineResult) Line) (p : ℕ) → Agree m → turn (answering bound) m p ≡ Some x → Agree x
   agree_turn m x p agree t = subst Agree (sym is.5) (length-set m.states p is.2 ∙ agree.0, length-set m.left p is.1 ∙ agree.1, λ q lt. at q lt (cases_eq p q))
     where
       is : (a : Line) × (rest : List Line) × (s : List LineResult) × (slice_get m.left p ≡ Some (a ∷ rest)) × (answering bound m.states p a ≡ Some s) × (x ≡ moved m p s rest)
@@ -115,7 +115,7 @@ module _ (bound : Bound) where
   -- ---- calls and waits
 
   abbrev pub is_call : LineOp → Bool
-  is_call (TSend ctx dest tag bytes imm level completion) = true
+  is_call (TSend ctx dest tag bytes imm level completion fence) = true
   is_call (TRecv ctx source tag ignore len) = true
   is_call _ = false
 
@@ -124,7 +124,7 @@ module _ (bound : Bound) where
   either (Some fault) = (Refused fault, refl)
 
   pub call_done : (all : List (List LineResult)) (p : ℕ) (op : LineOp) → is_call op ≡ true → (x : LineResult) × (result_of bound all p op ≡ Some x)
-  call_done all p (TSend ctx dest tag bytes imm level completion) e = either (refusal bound.script.conf (TSend ctx dest tag bytes imm level completion))
+  call_done all p (TSend ctx dest tag bytes imm level completion fence) e = either (refusal bound.script.conf (TSend ctx dest tag bytes imm level completion fence))
   call_done all p (TRecv ctx source tag ignore len) e = either (refusal bound.script.conf (TRecv ctx source tag ignore len))
   call_done all p op e = absurd (cc (e))
 

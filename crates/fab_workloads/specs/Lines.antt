@@ -14,7 +14,7 @@ joined zero f = []
 joined (suc n) f = joined n f ++ f (n + 1)
 
 abbrev pub send : ℕ → ℕ → ℕ → BytesWord → LineOp
-send ctx dest tag bytes = TSend ctx dest tag bytes None Transmit false
+send ctx dest tag bytes = TSend ctx dest tag bytes None Transmit false false
 
 abbrev pub receive : ℕ → ℕ → ℕ → ℕ → LineOp
 receive ctx source tag len = TRecv ctx (Some source) tag 0 len

@@ -8,6 +8,7 @@ use Rattle.fab_base.specs.declared.script.Conf.{Conf}
 use Rattle.fab_base.specs.declared.script.Line.{Line}
 use Rattle.fab_base.specs.declared.script.LineOp.{LineOp}
 use Rattle.fab_model.specs.Calls.{upto}
+use Rattle.fab_base.specs.declared.caps.Api.TheVariants.{One}
 use Rattle.fab_model.specs.Negotiation.{granted_info, no_hints}
 use Rattle.fab_workloads.specs.declared.workload.Workload.{Workload}
 use Rattle.fab_workloads.specs.declared.workload.Workload.TheVariants.{Pingpong, Bandwidth, Generated}
@@ -38,7 +39,7 @@ abbrev pub hints_for : ℕ → Hints
 hints_for peers = record no_hints { peers = Some peers }
 
 abbrev pub conf_of : ℕ → Conf
-conf_of peers = record { hints = Some (hints_for peers); info = granted_info (hints_for peers); peers = peers; selective = false }
+conf_of peers = record { hints = Some (hints_for peers); info = granted_info One (hints_for peers); peers = peers; selective = false }
 
 -- the lines are numbered in order of peers
 abbrev pub numbered : ℕ → List LineOp → List Line

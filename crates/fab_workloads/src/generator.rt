@@ -7,6 +7,14 @@ use crate::lines::{receive, send, wait};
 use fab_base::{LineOp, NoMemory};
 use std::alloc::Global;
 
+/// The number that follows this one in a draw of numbers: a linear congruential generator. `gen` and `window` draw so.
+pub fn next_drawn(x: u64) -> u64
+    ensures { result ≡ next_drawn x }
+{
+    x.wrapping_mul(6_364_136_223_846_793_005)
+        .wrapping_add(1_442_695_040_888_963_407)
+}
+
 /// What stands for a message.
 #[derive(Clone, Copy, Drop)]
 struct Drawn {
@@ -14,15 +22,12 @@ struct Drawn {
 }
 
 impl Drawn {
-    /// What stands for the next one (a linear congruential generator).
+    /// What stands for the next one.
     fn next(self) -> Drawn
         ensures { result.x ≡ next_drawn self.x }
     {
         Drawn {
-            x: self
-                .x
-                .wrapping_mul(6_364_136_223_846_793_005)
-                .wrapping_add(1_442_695_040_888_963_407),
+            x: next_drawn(self.x),
         }
     }
 

@@ -14,5 +14,7 @@ mod script;
 mod workload;
 
 pub use bench::bench_line;
-pub use script::bound;
-pub use workload::{Workload, payload_file, workload_of};
+pub use generator::next_drawn;
+pub use lines::{receive, send, wait};
+pub use script::{all_numbered, bound, conf_of};
+pub use workload::{Workload, number_within, payload_file, workload_of};

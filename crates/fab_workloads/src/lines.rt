@@ -9,13 +9,7 @@ use fab_base::{Buf, BytesWord, Level, LineOp, NoMemory};
 use std::alloc::Global;
 
 /// A tagged send of these bytes (fi_tsend of fi_tagged(3)).
-pub(crate) fn send(
-    alloc: Global,
-    ctx: u64,
-    dest: u32,
-    tag: u64,
-    bytes: &[u8],
-) -> Result<LineOp, NoMemory>
+pub fn send(alloc: Global, ctx: u64, dest: u32, tag: u64, bytes: &[u8]) -> Result<LineOp, NoMemory>
     ensures { IfOk result (λ op. op ≡ send ctx dest tag (Hex bytes.now)) }
 {
     let bytes = Buf::copy(alloc, bytes)?;
@@ -27,6 +21,7 @@ pub(crate) fn send(
         imm: None,
         level: Level::Transmit,
         completion: false,
+        fence: false,
     })
 }
 
@@ -42,11 +37,12 @@ fn acknowledge(ctx: u64) -> LineOp
         imm: None,
         level: Level::Transmit,
         completion: false,
+        fence: false,
     }
 }
 
 /// A receive of the tag from this source (fi_trecv of fi_tagged(3)).
-pub(crate) fn receive(ctx: u64, source: u32, tag: u64, len: u32) -> LineOp
+pub fn receive(ctx: u64, source: u32, tag: u64, len: u32) -> LineOp
     ensures { result ≡ receive ctx source tag len }
 {
     LineOp::TRecv {
@@ -59,7 +55,7 @@ pub(crate) fn receive(ctx: u64, source: u32, tag: u64, len: u32) -> LineOp
 }
 
 /// A wait for the entry of this context.
-pub(crate) fn wait(ctx: u64) -> LineOp
+pub fn wait(ctx: u64) -> LineOp
     ensures { result ≡ wait ctx }
 {
     LineOp::Wait { ctx: Some(ctx) }

@@ -7,7 +7,7 @@ ghost use Rattle.fab_workloads.specs.Script.{bound_of, conf_of, hints_for, ops_o
 
 use crate::workload::Workload;
 use crate::{generator, lines};
-use fab_base::{Bound, Buf, Caps, Conf, Hints, Line, LineOp, List, NoMemory, Script};
+use fab_base::{Api, Bound, Buf, Caps, Conf, Hints, Line, LineOp, List, NoMemory, Script};
 use fab_info::getinfo;
 use std::alloc::Global;
 
@@ -39,13 +39,13 @@ fn hints_for(peers: u32) -> Hints
 }
 
 /// The settings: what is granted (fi_getinfo(3)) to whoever asks for this number of peers.
-fn conf_of(peers: u32) -> Conf
+pub fn conf_of(peers: u32) -> Conf
     requires least { 1 ≤ peers }
     requires most { peers ≤ 32 }
     ensures { result ≡ conf_of peers }
 {
     let hints = hints_for(peers);
-    let Ok(info) = getinfo(Some(&hints)) else {
+    let Ok(info) = getinfo(Api::One, Some(&hints)) else {
         unreachable!()
     };
     Conf {
@@ -138,7 +138,7 @@ fn numbered(alloc: Global, first: u32, ops: Vec<LineOp>) -> Result<List<Line>, N
 }
 
 /// All lines, numbered in order of peers.
-fn all_numbered(alloc: Global, lists: Vec<Vec<LineOp>>) -> Result<List<List<Line>>, NoMemory>
+pub fn all_numbered(alloc: Global, lists: Vec<Vec<LineOp>>) -> Result<List<List<Line>>, NoMemory>
     requires { sum_by (λ ops. length ops.items) lists.items ≤ 1_000_000_000 }
     ensures { IfOk result (λ peers. peers ≡ all_numbered 1 (map (λ ops. ops.items) lists.items)) }
 {

@@ -37,8 +37,8 @@ const COUNT_MAX: u32 = 10_000;
 /// The most bytes of all messages of one direction.
 const BYTES_MAX: u64 = 67_108_864;
 
-/// One to twenty decimal digits that say a number from `least` to `most`.
-fn number_within(least: u32, most: u32, word: &[u8]) -> Option<u32>
+/// The number from `least` to `most` that the word says in one to twenty decimal digits; `None` where it says none such.
+pub fn number_within(least: u32, most: u32, word: &[u8]) -> Option<u32>
     ensures value { result ≡ number_within least most word.now }
     ensures range { IfSome result (λ n. (least ≤ n) × (n ≤ most)) }
 {

@@ -4,7 +4,7 @@
 //! fi_domain(3)), so each waits by reading its completion queue.
 #![tactic(auto)]
 
-use fab_base::{Buf, Caps, Entry, Fault, Flags, Hints, Level, NoMemory};
+use fab_base::{Api, Buf, Caps, Entry, Fault, Flags, Hints, Level, NoMemory};
 use fab_domain::{RingEndpoint, endpoints};
 use fab_face::calls::{Messages, Progress, Receives};
 use fab_info::getinfo;
@@ -28,6 +28,7 @@ const TELL: u64 = 2;
 const FLAGS: Flags = Flags {
     completion: true,
     level: Level::Transmit,
+    fence: false,
 };
 
 /// What is asked for: two peers that may send and receive tagged messages.
@@ -51,7 +52,7 @@ fn hints() -> Hints {
 
 /// Opens the endpoints of all peers.
 fn open(alloc: Global) -> Result<Vec<RingEndpoint>, Fault> {
-    let info = getinfo(Some(&hints()))?;
+    let info = getinfo(Api::One, Some(&hints()))?;
     endpoints(alloc, &info, false)
 }
 

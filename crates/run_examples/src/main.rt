@@ -13,7 +13,7 @@ use std::thread::Threads;
 use std::{io, rt};
 
 /// The scripts and their reports, in the folder in which the program runs.
-const EXAMPLES: [(&str, &str); 12] = [
+const EXAMPLES: [(&str, &str); 14] = [
     ("empty.fabric", "empty.report"),
     ("canceled.fabric", "canceled.report"),
     ("stuck.fabric", "stuck.report"),
@@ -26,6 +26,8 @@ const EXAMPLES: [(&str, &str); 12] = [
     ("onesided.fabric", "onesided.report"),
     ("atomics.fabric", "atomics.report"),
     ("files.fabric", "files.report"),
+    ("fences.fabric", "fences.report"),
+    ("events.fabric", "events.report"),
 ];
 
 /// The words of a command.

@@ -29,7 +29,7 @@ no_entry = refuses _ _ _ _ 0 refl refl
 -- an entry that is written, and not read
 abbrev pub unread : Bound
 unread = script_of (
-    (line 4 (LineOp.TSend 1 0 7 (Text (codes "ab")) None Level.Transmit false) ∷ line 5 (LineOp.Wait (Some 1)) ∷ [])
+    (line 4 (LineOp.TSend 1 0 7 (Text (codes "ab")) None Level.Transmit false false) ∷ line 5 (LineOp.Wait (Some 1)) ∷ [])
     ∷ []
     )
 
@@ -40,7 +40,7 @@ not_read = refuses _ _ _ _ 0 refl refl
 -- a message that is not transmitted counts as none
 abbrev pub counted : Bound
 counted = script_of (
-    (line 4 (LineOp.TSend 1 0 7 (Text (codes "ab")) None Level.Transmit false) ∷ line 5 (LineOp.Reach Class.Send 1) ∷ [])
+    (line 4 (LineOp.TSend 1 0 7 (Text (codes "ab")) None Level.Transmit false false) ∷ line 5 (LineOp.Reach Class.Send 1) ∷ [])
     ∷ []
     )
 
@@ -58,6 +58,19 @@ transmits = sized 1 256 1024 (script_of (
 pub tx_full : Refuses transmits (traces (codes "trace D D\n")) 0 (true ∷ false ∷ [])
 unfolding machine
 tx_full = refuses _ _ _ _ 0 refl refl
+
+-- three transmit calls, and two may be under way: one that a fence holds back is
+abbrev pub fenced : Bound
+fenced = sized 2 256 1024 (script_of (
+    (line 4 (LineOp.TSend 1 0 7 (Text (codes "ab")) None Level.Match false false)
+    ∷ line 5 (LineOp.TSend 2 0 7 (Text (codes "cd")) None Level.Transmit false true)
+    ∷ line 6 (LineOp.TInject 0 7 (Text (codes "e")) None) ∷ [])
+    ∷ []
+    ))
+
+pub tx_full_of_held : Refuses fenced (traces (codes "trace D D S0 D\n")) 0 (true ∷ false ∷ [])
+unfolding machine
+tx_full_of_held = refuses _ _ _ _ 0 refl refl
 
 -- two receives, and one may be posted
 abbrev pub posts : Bound

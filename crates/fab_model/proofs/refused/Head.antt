@@ -1,5 +1,6 @@
--- The arrival of an item: it was accepted, none of the source is coming, and no draw is due.
+-- The arrival of an item: it was accepted and no fence holds it back, none of the source is coming, and no draw is due.
 use Rattle.std.specs.Prelude.{[], ◌∷◌, Some, None, true, false, codes, refl}
+use Rattle.fab_base.specs.declared.peers.Level.{Level}
 use Rattle.fab_base.specs.declared.script.Bound.{Bound}
 use Rattle.fab_base.specs.declared.script.BytesWord.TheVariants.{Text}
 use Rattle.fab_base.specs.declared.script.LineOp.{LineOp}
@@ -27,3 +28,18 @@ one_is_coming = refuses _ _ _ _ 0 refl refl
 pub draw_is_due : Refuses script (traces (codes "trace H1 T1 D H1\ntrace D D S0\n")) 0 (true ∷ true ∷ false ∷ [])
 unfolding machine
 draw_is_due = refuses _ _ _ _ 0 refl refl
+
+-- peer 1 sends a message that asks for a reply, one with a fence, and one behind it
+abbrev pub fenced : Bound
+fenced = script_of (
+    []
+    ∷ (line 6 (LineOp.TSend 1 0 7 (Text (codes "ab")) None Level.Delivery false false)
+    ∷ line 7 (LineOp.TSend 2 0 7 (Text (codes "cd")) None Level.Transmit false true)
+    ∷ line 8 (LineOp.TInject 0 7 (Text (codes "e")) None) ∷ [])
+    ∷ []
+    )
+
+-- the first is whole, but its reply is not: nothing passes the fence
+pub held_back : Refuses fenced (traces (codes "trace H1 T1 H1\ntrace D D D S0\n")) 0 (false ∷ true ∷ true ∷ [])
+unfolding machine
+held_back = refuses _ _ _ _ 0 refl refl

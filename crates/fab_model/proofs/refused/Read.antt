@@ -12,7 +12,7 @@ use Rattle.fab_model.proofs.Scripts.{script_of, line}
 -- a message of a peer to itself
 abbrev pub script : Bound
 script = script_of (
-    (line 4 (LineOp.TSend 1 0 7 (Text (codes "ab")) None Level.Transmit false) ∷ [])
+    (line 4 (LineOp.TSend 1 0 7 (Text (codes "ab")) None Level.Transmit false false) ∷ [])
     ∷ []
     )
 

@@ -11,7 +11,7 @@ pub script : Bound
 script = script_of (
     (line 4 (LineOp.Insert (codes "shm://1"))
     ∷ line 5 (LineOp.Remove 1)
-    ∷ line 6 (LineOp.Send 1 1 (Text (codes "a")) None Level.Transmit false)
+    ∷ line 6 (LineOp.Send 1 1 (Text (codes "a")) None Level.Transmit false false)
     ∷ line 7 (LineOp.Insert (codes "shm://1"))
     ∷ line 8 (LineOp.Insert (codes "shm://9"))
     ∷ line 9 (LineOp.Remove 1) ∷ [])

@@ -13,8 +13,8 @@ script = script_of (
     (line 4 (LineOp.Reg 5 (record { remote_read = true; remote_write = true }) (Hex (1 ∷ 2 ∷ [])))
     ∷ line 5 (LineOp.Fetch 1 0 5 0 AtomicOp.AtomicRead Num.U8 [] 2)
     ∷ line 6 (LineOp.Wait (Some 1))
-    ∷ line 7 (LineOp.Atomic 2 0 5 1 AtomicOp.Sum Num.U16 (1 ∷ 0 ∷ []) false)
-    ∷ line 8 (LineOp.Atomic 3 0 5 0 AtomicOp.Cswap Num.U8 (1 ∷ []) false) ∷ [])
+    ∷ line 7 (LineOp.Atomic 2 0 5 1 AtomicOp.Sum Num.U16 (1 ∷ 0 ∷ []) false false)
+    ∷ line 8 (LineOp.Atomic 3 0 5 0 AtomicOp.Cswap Num.U8 (1 ∷ []) false false) ∷ [])
     ∷ []
     )
 

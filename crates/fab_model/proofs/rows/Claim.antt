@@ -11,7 +11,7 @@ pub script : Bound
 script = script_of (
     (line 4 (LineOp.Peek 1 None 5 0)
     ∷ line 5 (LineOp.Wait (Some 1))
-    ∷ line 6 (LineOp.TSend 2 0 5 (Text (codes "hi")) None Level.Delivery false)
+    ∷ line 6 (LineOp.TSend 2 0 5 (Text (codes "hi")) None Level.Delivery false false)
     ∷ line 7 (LineOp.Wait (Some 2))
     ∷ line 8 (LineOp.Claim 3 None 5 0)
     ∷ line 9 (LineOp.Wait (Some 3))

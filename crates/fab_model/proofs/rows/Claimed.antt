@@ -9,8 +9,8 @@ use Rattle.fab_model.proofs.Scripts.{script_of, line, Shows}
 
 pub script : Bound
 script = script_of (
-    (line 4 (LineOp.TSend 1 0 5 (Text (codes "hi")) None Level.Transmit false)
-    ∷ line 5 (LineOp.TSend 2 0 8 (Text (codes "z")) None Level.Transmit false)
+    (line 4 (LineOp.TSend 1 0 5 (Text (codes "hi")) None Level.Transmit false false)
+    ∷ line 5 (LineOp.TSend 2 0 8 (Text (codes "z")) None Level.Transmit false false)
     ∷ line 6 (LineOp.TRecv 3 (Some 0) 8 0 1)
     ∷ line 7 (LineOp.Wait (Some 3))
     ∷ line 8 (LineOp.Claim 4 None 5 0)

@@ -11,7 +11,7 @@ use Rattle.fab_model.proofs.Scripts.{script_of, line, Shows}
 pub script : Bound
 script = script_of (
     (line 4 (LineOp.TRecv 1 (Some 0) 3 0 1)
-    ∷ line 5 (LineOp.TSend 2 0 3 (Text (codes "ab")) None Level.Transmit false)
+    ∷ line 5 (LineOp.TSend 2 0 3 (Text (codes "ab")) None Level.Transmit false false)
     ∷ line 6 (LineOp.Wait (Some 1))
     ∷ line 7 (LineOp.Count Class.Recv)
     ∷ line 8 (LineOp.Count Class.Send) ∷ [])

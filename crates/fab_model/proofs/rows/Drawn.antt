@@ -9,9 +9,9 @@ use Rattle.fab_model.proofs.Scripts.{script_of, line, Shows}
 
 pub script : Bound
 script = script_of (
-    (line 4 (LineOp.Send 1 0 (Text (codes "abc")) None Level.Delivery false)
+    (line 4 (LineOp.Send 1 0 (Text (codes "abc")) None Level.Delivery false false)
     ∷ line 5 (LineOp.Wait (Some 1))
-    ∷ line 6 (LineOp.Send 2 0 (Text (codes "de")) None Level.Delivery false)
+    ∷ line 6 (LineOp.Send 2 0 (Text (codes "de")) None Level.Delivery false false)
     ∷ line 7 (LineOp.Wait (Some 2))
     ∷ line 8 (LineOp.MRecv 3 None 10 (Some 6))
     ∷ line 9 (LineOp.Wait (Some 3))

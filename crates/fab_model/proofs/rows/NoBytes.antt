@@ -10,7 +10,7 @@ use Rattle.fab_model.proofs.Scripts.{script_of, line, Shows}
 pub script : Bound
 script = script_of (
     (line 4 (LineOp.TRecv 1 (Some 0) 1 0 0)
-    ∷ line 5 (LineOp.TSend 2 0 1 (Hex ([])) None Level.Transmit false)
+    ∷ line 5 (LineOp.TSend 2 0 1 (Hex ([])) None Level.Transmit false false)
     ∷ line 6 (LineOp.Wait (Some 1)) ∷ [])
     ∷ []
     )

@@ -9,7 +9,7 @@ use Rattle.fab_model.proofs.Scripts.{tagged_script_of, line, Shows}
 
 pub script : Bound
 script = tagged_script_of (
-    (line 5 (LineOp.Send 1 0 (Text (codes "a")) None Level.Transmit false) ∷ [])
+    (line 5 (LineOp.Send 1 0 (Text (codes "a")) None Level.Transmit false false) ∷ [])
     ∷ []
     )
 

@@ -13,8 +13,8 @@ script = script_of (
     ∷ line 5 (LineOp.TRecv 2 (Some 1) 0 18446744073709551615 4)
     ∷ line 6 (LineOp.Wait (Some 1))
     ∷ line 7 (LineOp.Wait (Some 2)) ∷ [])
-    ∷ (line 9 (LineOp.TSend 3 0 7 (Text (codes "x")) None Level.Transmit false)
-    ∷ line 10 (LineOp.TSend 4 0 5 (Text (codes "y")) None Level.Transmit false) ∷ [])
+    ∷ (line 9 (LineOp.TSend 3 0 7 (Text (codes "x")) None Level.Transmit false false)
+    ∷ line 10 (LineOp.TSend 4 0 5 (Text (codes "y")) None Level.Transmit false false) ∷ [])
     ∷ []
     )
 

@@ -9,14 +9,14 @@ use Rattle.fab_model.proofs.Scripts.{script_of, line, Shows}
 pub script : Bound
 script = script_of (
     (line 4 (LineOp.Reg 10 (record { remote_read = true; remote_write = true }) (Zero 8))
-    ∷ line 5 (LineOp.Write 1 0 10 4 (Text (codes "abcd")) None false)
+    ∷ line 5 (LineOp.Write 1 0 10 4 (Text (codes "abcd")) None false false)
     ∷ line 6 (LineOp.Wait (Some 1))
-    ∷ line 7 (LineOp.Write 2 0 10 5 (Text (codes "wxyz")) None false)
+    ∷ line 7 (LineOp.Write 2 0 10 5 (Text (codes "wxyz")) None false false)
     ∷ line 8 (LineOp.Wait (Some 2))
     ∷ line 9 (LineOp.Show 10)
     ∷ line 10 (LineOp.Read 3 0 10 8 0)
     ∷ line 11 (LineOp.Wait (Some 3))
-    ∷ line 12 (LineOp.Write 4 0 11 0 (Hex ([])) None false)
+    ∷ line 12 (LineOp.Write 4 0 11 0 (Hex ([])) None false false)
     ∷ line 13 (LineOp.Wait (Some 4))
     ∷ line 14 (LineOp.Reg 10 (record { remote_read = true; remote_write = false }) (Hex ([]))) ∷ [])
     ∷ []

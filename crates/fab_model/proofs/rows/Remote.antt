@@ -11,7 +11,7 @@ script = script_of (
     (line 4 (LineOp.Reg 7 (record { remote_read = false; remote_write = true }) (Zero 4))
     ∷ line 5 (LineOp.Wait None)
     ∷ line 6 (LineOp.Show 7) ∷ [])
-    ∷ (line 8 (LineOp.Write 1 0 7 1 (Text (codes "ab")) (Some 9) false)
+    ∷ (line 8 (LineOp.Write 1 0 7 1 (Text (codes "ab")) (Some 9) false false)
     ∷ line 9 (LineOp.Wait (Some 1)) ∷ [])
     ∷ []
     )

@@ -9,9 +9,9 @@ use Rattle.fab_model.proofs.Scripts.{script_of, line, Shows}
 
 pub script : Bound
 script = script_of (
-    (line 4 (LineOp.TSend 1 0 9 (Text (codes "ab")) None Level.Transmit false)
-    ∷ line 5 (LineOp.TSend 2 0 9 (Text (codes "cd")) None Level.Transmit false)
-    ∷ line 6 (LineOp.TSend 3 0 8 (Text (codes "z")) None Level.Transmit false)
+    (line 4 (LineOp.TSend 1 0 9 (Text (codes "ab")) None Level.Transmit false false)
+    ∷ line 5 (LineOp.TSend 2 0 9 (Text (codes "cd")) None Level.Transmit false false)
+    ∷ line 6 (LineOp.TSend 3 0 8 (Text (codes "z")) None Level.Transmit false false)
     ∷ line 7 (LineOp.TRecv 4 (Some 0) 8 0 1)
     ∷ line 8 (LineOp.Wait (Some 4))
     ∷ line 9 (LineOp.TRecv 5 None 9 0 8)

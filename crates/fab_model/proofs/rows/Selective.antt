@@ -9,8 +9,8 @@ use Rattle.fab_model.proofs.Scripts.{selective_script_of, line, Shows}
 
 pub script : Bound
 script = selective_script_of (
-    (line 5 (LineOp.TSend 1 0 1 (Text (codes "a")) None Level.Transmit false)
-    ∷ line 6 (LineOp.TSend 2 0 1 (Text (codes "b")) None Level.Transmit true)
+    (line 5 (LineOp.TSend 1 0 1 (Text (codes "a")) None Level.Transmit false false)
+    ∷ line 6 (LineOp.TSend 2 0 1 (Text (codes "b")) None Level.Transmit true false)
     ∷ line 7 (LineOp.Wait (Some 2)) ∷ [])
     ∷ []
     )

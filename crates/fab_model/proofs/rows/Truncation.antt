@@ -11,7 +11,7 @@ pub script : Bound
 script = script_of (
     (line 4 (LineOp.TRecv 1 (Some 1) 3 0 4)
     ∷ line 5 (LineOp.Wait (Some 1)) ∷ [])
-    ∷ (line 7 (LineOp.TSend 2 0 3 (Text (codes "0123456789")) None Level.Transmit false) ∷ [])
+    ∷ (line 7 (LineOp.TSend 2 0 3 (Text (codes "0123456789")) None Level.Transmit false false) ∷ [])
     ∷ []
     )
 

@@ -13,8 +13,8 @@ script = script_of (
     ∷ line 5 (LineOp.TRecv 2 None 0 0 1)
     ∷ line 6 (LineOp.Wait (Some 1))
     ∷ line 7 (LineOp.Wait (Some 2)) ∷ [])
-    ∷ (line 9 (LineOp.TSend 3 0 0 (Text (codes "a")) None Level.Transmit false) ∷ [])
-    ∷ (line 11 (LineOp.TSend 4 0 0 (Text (codes "b")) None Level.Transmit false) ∷ [])
+    ∷ (line 9 (LineOp.TSend 3 0 0 (Text (codes "a")) None Level.Transmit false false) ∷ [])
+    ∷ (line 11 (LineOp.TSend 4 0 0 (Text (codes "b")) None Level.Transmit false false) ∷ [])
     ∷ []
     )
 

@@ -9,7 +9,7 @@ use Rattle.fab_model.proofs.Scripts.{script_of, line, Shows}
 
 pub script : Bound
 script = script_of (
-    (line 4 (LineOp.TSend 1 0 5 (Text (codes "hi")) None Level.Delivery false)
+    (line 4 (LineOp.TSend 1 0 5 (Text (codes "hi")) None Level.Delivery false false)
     ∷ line 5 (LineOp.Wait (Some 1))
     ∷ line 6 (LineOp.TRecv 2 None 0 18446744073709551615 2)
     ∷ line 7 (LineOp.Wait (Some 2)) ∷ [])

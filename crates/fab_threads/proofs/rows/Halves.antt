@@ -36,7 +36,7 @@ use Rattle.fab_threads.proofs.Reaching.{threads_reach}
 use Rattle.fab_threads.proofs.rows.Hello.{resting, no_items}
 
 abbrev script : Bound
-script = script_of ((line 4 (LineOp.TRecv 1 None 7 0 8192) ∷ []) ∷ (line 6 (LineOp.TSend 2 0 7 (Zero 5000) None Level.Transmit false) ∷ []) ∷ [])
+script = script_of ((line 4 (LineOp.TRecv 1 None 7 0 8192) ∷ []) ∷ (line 6 (LineOp.TSend 2 0 7 (Zero 5000) None Level.Transmit false false) ∷ []) ∷ [])
 
 abbrev head : ItemHead
 head = record { kind = TagMsg; op = 0; tag = 7; imm = None; ack = Nothing; key = 0; at = 0; count = 0; atom = None; outcome = Done; total = 5000 }

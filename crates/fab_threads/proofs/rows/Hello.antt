@@ -36,7 +36,7 @@ abbrev script : Bound
 script = script_of (
     (line 4 (LineOp.TRecv 1 None 7 0 16)
     ∷ line 5 (LineOp.Wait (Some 1)) ∷ [])
-    ∷ (line 7 (LineOp.TSend 2 0 7 (Text (codes "hello")) None Level.Transmit false) ∷ [])
+    ∷ (line 7 (LineOp.TSend 2 0 7 (Text (codes "hello")) None Level.Transmit false false) ∷ [])
     ∷ []
     )
 

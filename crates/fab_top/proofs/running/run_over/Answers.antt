@@ -21,6 +21,6 @@ returns g c =
     let start : opened b.script.conf lists ≡ opening b = ap (opened b.script.conf) are ∙ opening_is b in
     let reached : Reached (rule fabric) (opening b) (map member_steps peers) (map member_actor peers) = subst (λ first. Reached (rule fabric) first (map member_steps peers) (map member_actor peers)) start c.in_ok-peers.ensures.reached in
     let few : length peers ≤ 10 ^ 64 = search rules in
-    let text = subst (λ (xs : List Member). string_bytes c.in_ok-text.text ≡ report_of (map member_actor xs) (map member_steps xs)) c.deref.ensures.value c.in_ok-text.ensures in
+    let text = subst (λ (xs : List Member). string_bytes c.in_ok-text.text ≡ report_of b.script.version (map member_actor xs) (map member_steps xs)) c.deref.ensures.value c.in_ok-text.ensures in
     let done = c.all_done.ensures ∙ ap (λ (xs : List Member). all_done (map member_actor xs)) c.deref-2.ensures.value in
     reports b peers _ _ reached c.in_ok-peers.ensures.rest c.in_ok-peers.ensures.cleared few text done

@@ -11,7 +11,7 @@ pub accept_copied-requires-clause-silent : goal.accept_copied-requires-clause-si
 accept_copied-requires-clause-silent g c = rw (c.request_head-head.ensures, asks_no_message c.args.request.now.asked) (λ is. absurd (cc))
 
 pub invariant_of-self : goal.invariant_of-self
-invariant_of-self g c = rw (c.accept_copied.ensures, c.call.ensures) (c.self.invariant.0, c.self.invariant.1, together_called _ _ c.self.invariant.2 refl (sent_accepting _ _ _ _) refl refl refl refl, c.self.invariant.3, accepting_lent c.self.inside.rx.rx c.self.inside.rx.multis c.self.inside.tx.tx c.self.inside.cq c.self.inside.calls c.self.inside.multis c.self.invariant.4 _ _ _ c.of-about.ensures, c.self.invariant.5)
+invariant_of-self g c = rw (c.accept_copied.ensures, c.call.ensures) (c.self.invariant.0, c.self.invariant.1, together_called _ _ c.self.invariant.2 refl (sent_accepting _ _ _) refl refl refl refl, c.self.invariant.3, accepting_lent c.self.inside.rx.rx c.self.inside.rx.multis c.self.inside.tx.tx c.self.inside.cq c.self.inside.calls c.self.inside.multis c.self.invariant.4 _ _ c.of-about.ensures, c.self.invariant.5)
 
 pub returns : goal.returns
 returns g c = rw (c.accept_copied.ensures, c.call.ensures, c.of-about.ensures, c.asks_silently-silent.ensures, c.request_head-head.ensures, asks_no_message c.args.request.now.asked, ← c.self.view_is) refl

@@ -16,6 +16,6 @@ invariant_of-self-then-not-asks g c =
       c.self.invariant.1 ∙ most_same _ c.self.invariant.2 c.known.ensures c.args.source c.args.head.now within nothing c.arrive.result c.arrive.new.self c.arrive.ensures.ok c.arrive.ensures.err,
       arrives_plain _ c.self.invariant.2 c.known.ensures c.args.source c.args.head.now within nothing c.arrive.result c.arrive.new.self c.arrive.ensures.ok c.arrive.ensures.err silent,
       arrives_served _ c.self.invariant.2 c.known.ensures c.args.source c.args.head.now within nothing c.arrive.result c.arrive.new.self c.arrive.ensures.ok c.arrive.ensures.err c.self.inside.target c.self.invariant.3 (λ request. absurd (cc)),
-      arrives_lent (record { caps = c.self.inside.caps; selective = c.self.inside.selective; av = c.self.inside.av; rx = c.self.inside.rx; tx = c.self.inside.tx; target = c.self.inside.target; cq = c.self.inside.cq; counters = c.self.inside.counters; calls = c.self.inside.calls; multis = c.self.inside.multis }) c.self.invariant.4 c.opened.ensures c.self.invariant.2.earlier c.args.source c.args.head.now c.arrive.result c.arrive.new.self c.arrive.ensures.ok c.arrive.ensures.err,
+      arrives_lent (record { caps = c.self.inside.caps; selective = c.self.inside.selective; most_message = c.self.inside.most_message; av = c.self.inside.av; rx = c.self.inside.rx; tx = c.self.inside.tx; target = c.self.inside.target; cq = c.self.inside.cq; counters = c.self.inside.counters; calls = c.self.inside.calls; multis = c.self.inside.multis }) c.self.invariant.4 c.opened.ensures c.self.invariant.2.earlier c.args.source c.args.head.now c.arrive.result c.arrive.new.self c.arrive.ensures.ok c.arrive.ensures.err,
       c.self.invariant.5,
     )

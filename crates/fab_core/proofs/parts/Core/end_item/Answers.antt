@@ -18,7 +18,7 @@ use Rattle.fab_core.proofs.parts.Core.end_item.Goals as goal
 
 pub invariant_of-self : goal.invariant_of-self
 invariant_of-self g c =
-    let p : Parts = record { caps = c.self.inside.caps; selective = c.self.inside.selective; av = c.self.inside.av; rx = c.self.inside.rx; tx = c.self.inside.tx; target = c.self.inside.target; cq = c.self.inside.cq; counters = c.self.inside.counters; calls = c.self.inside.calls; multis = c.self.inside.multis } in
+    let p : Parts = record { caps = c.self.inside.caps; selective = c.self.inside.selective; most_message = c.self.inside.most_message; av = c.self.inside.av; rx = c.self.inside.rx; tx = c.self.inside.tx; target = c.self.inside.target; cq = c.self.inside.cq; counters = c.self.inside.counters; calls = c.self.inside.calls; multis = c.self.inside.multis } in
     let within : c.args.source < length p.rx.begun = subst (λ (p : Parts). c.args.source < length p.rx.begun) (sym c.self.view_is) c.requires.source in
     let there = item_there (λ item. length item.bytes ≡ item.head.total) (begun_of p.rx c.args.source) (subst (λ (p : Parts). IsSomeAnd (begun_of p.rx c.args.source) (λ item. length item.bytes ≡ item.head.total)) (sym c.self.view_is) c.requires.whole) in
     let outcome = sym (of_begun (λ item. c.finish-finished.result ≡ handed p.rx (last_of c.args.source p.rx) (ended (coming_from p.rx.rx c.args.source) c.args.source item)) (begun_of p.rx c.args.source) there.0 there.1 c.finish-finished.ensures.outcome) in
@@ -27,7 +27,7 @@ invariant_of-self g c =
 
 pub invariant_of-self-in-Kept : goal.invariant_of-self-in-Kept
 invariant_of-self-in-Kept g c =
-    let p : Parts = record { caps = c.self.inside.caps; selective = c.self.inside.selective; av = c.self.inside.av; rx = c.self.inside.rx; tx = c.self.inside.tx; target = c.self.inside.target; cq = c.self.inside.cq; counters = c.self.inside.counters; calls = c.self.inside.calls; multis = c.self.inside.multis } in
+    let p : Parts = record { caps = c.self.inside.caps; selective = c.self.inside.selective; most_message = c.self.inside.most_message; av = c.self.inside.av; rx = c.self.inside.rx; tx = c.self.inside.tx; target = c.self.inside.target; cq = c.self.inside.cq; counters = c.self.inside.counters; calls = c.self.inside.calls; multis = c.self.inside.multis } in
     let within : c.args.source < length p.rx.begun = subst (λ (p : Parts). c.args.source < length p.rx.begun) (sym c.self.view_is) c.requires.source in
     let there = item_there (λ item. length item.bytes ≡ item.head.total) (begun_of p.rx c.args.source) (subst (λ (p : Parts). IsSomeAnd (begun_of p.rx c.args.source) (λ item. length item.bytes ≡ item.head.total)) (sym c.self.view_is) c.requires.whole) in
     let outcome = sym (of_begun (λ item. c.finish-finished.result ≡ handed p.rx (last_of c.args.source p.rx) (ended (coming_from p.rx.rx c.args.source) c.args.source item)) (begun_of p.rx c.args.source) there.0 there.1 c.finish-finished.ensures.outcome) in
@@ -36,7 +36,7 @@ invariant_of-self-in-Kept g c =
 
 pub invariant_of-self-in-Thrown : goal.invariant_of-self-in-Thrown
 invariant_of-self-in-Thrown g c =
-    let p : Parts = record { caps = c.self.inside.caps; selective = c.self.inside.selective; av = c.self.inside.av; rx = c.self.inside.rx; tx = c.self.inside.tx; target = c.self.inside.target; cq = c.self.inside.cq; counters = c.self.inside.counters; calls = c.self.inside.calls; multis = c.self.inside.multis } in
+    let p : Parts = record { caps = c.self.inside.caps; selective = c.self.inside.selective; most_message = c.self.inside.most_message; av = c.self.inside.av; rx = c.self.inside.rx; tx = c.self.inside.tx; target = c.self.inside.target; cq = c.self.inside.cq; counters = c.self.inside.counters; calls = c.self.inside.calls; multis = c.self.inside.multis } in
     let within : c.args.source < length p.rx.begun = subst (λ (p : Parts). c.args.source < length p.rx.begun) (sym c.self.view_is) c.requires.source in
     let there = item_there (λ item. length item.bytes ≡ item.head.total) (begun_of p.rx c.args.source) (subst (λ (p : Parts). IsSomeAnd (begun_of p.rx c.args.source) (λ item. length item.bytes ≡ item.head.total)) (sym c.self.view_is) c.requires.whole) in
     let outcome = sym (of_begun (λ item. c.finish-finished.result ≡ handed p.rx (last_of c.args.source p.rx) (ended (coming_from p.rx.rx c.args.source) c.args.source item)) (begun_of p.rx c.args.source) there.0 there.1 c.finish-finished.ensures.outcome) in
@@ -45,7 +45,7 @@ invariant_of-self-in-Thrown g c =
 
 pub invariant_of-self-2 : goal.invariant_of-self-2
 invariant_of-self-2 g c =
-    let p : Parts = record { caps = c.self.inside.caps; selective = c.self.inside.selective; av = c.self.inside.av; rx = c.self.inside.rx; tx = c.self.inside.tx; target = c.self.inside.target; cq = c.self.inside.cq; counters = c.self.inside.counters; calls = c.self.inside.calls; multis = c.self.inside.multis } in
+    let p : Parts = record { caps = c.self.inside.caps; selective = c.self.inside.selective; most_message = c.self.inside.most_message; av = c.self.inside.av; rx = c.self.inside.rx; tx = c.self.inside.tx; target = c.self.inside.target; cq = c.self.inside.cq; counters = c.self.inside.counters; calls = c.self.inside.calls; multis = c.self.inside.multis } in
     let within : c.args.source < length p.rx.begun = subst (λ (p : Parts). c.args.source < length p.rx.begun) (sym c.self.view_is) c.requires.source in
     let there = item_there (λ item. length item.bytes ≡ item.head.total) (begun_of p.rx c.args.source) (subst (λ (p : Parts). IsSomeAnd (begun_of p.rx c.args.source) (λ item. length item.bytes ≡ item.head.total)) (sym c.self.view_is) c.requires.whole) in
     let outcome = sym (of_begun (λ item. c.finish-finished.result ≡ handed p.rx (last_of c.args.source p.rx) (ended (coming_from p.rx.rx c.args.source) c.args.source item)) (begun_of p.rx c.args.source) there.0 there.1 c.finish-finished.ensures.outcome) in
@@ -54,7 +54,7 @@ invariant_of-self-2 g c =
 
 pub returns-in-Received : goal.returns-in-Received
 returns-in-Received g c =
-    let p : Parts = record { caps = c.self.inside.caps; selective = c.self.inside.selective; av = c.self.inside.av; rx = c.self.inside.rx; tx = c.self.inside.tx; target = c.self.inside.target; cq = c.self.inside.cq; counters = c.self.inside.counters; calls = c.self.inside.calls; multis = c.self.inside.multis } in
+    let p : Parts = record { caps = c.self.inside.caps; selective = c.self.inside.selective; most_message = c.self.inside.most_message; av = c.self.inside.av; rx = c.self.inside.rx; tx = c.self.inside.tx; target = c.self.inside.target; cq = c.self.inside.cq; counters = c.self.inside.counters; calls = c.self.inside.calls; multis = c.self.inside.multis } in
     let within : c.args.source < length p.rx.begun = subst (λ (p : Parts). c.args.source < length p.rx.begun) (sym c.self.view_is) c.requires.source in
     let there = item_there (λ item. length item.bytes ≡ item.head.total) (begun_of p.rx c.args.source) (subst (λ (p : Parts). IsSomeAnd (begun_of p.rx c.args.source) (λ item. length item.bytes ≡ item.head.total)) (sym c.self.view_is) c.requires.whole) in
     let outcome = sym (of_begun (λ item. c.finish-finished.result ≡ handed p.rx (last_of c.args.source p.rx) (ended (coming_from p.rx.rx c.args.source) c.args.source item)) (begun_of p.rx c.args.source) there.0 there.1 c.finish-finished.ensures.outcome) in
@@ -63,7 +63,7 @@ returns-in-Received g c =
 
 pub returns-in-Kept : goal.returns-in-Kept
 returns-in-Kept g c =
-    let p : Parts = record { caps = c.self.inside.caps; selective = c.self.inside.selective; av = c.self.inside.av; rx = c.self.inside.rx; tx = c.self.inside.tx; target = c.self.inside.target; cq = c.self.inside.cq; counters = c.self.inside.counters; calls = c.self.inside.calls; multis = c.self.inside.multis } in
+    let p : Parts = record { caps = c.self.inside.caps; selective = c.self.inside.selective; most_message = c.self.inside.most_message; av = c.self.inside.av; rx = c.self.inside.rx; tx = c.self.inside.tx; target = c.self.inside.target; cq = c.self.inside.cq; counters = c.self.inside.counters; calls = c.self.inside.calls; multis = c.self.inside.multis } in
     let within : c.args.source < length p.rx.begun = subst (λ (p : Parts). c.args.source < length p.rx.begun) (sym c.self.view_is) c.requires.source in
     let there = item_there (λ item. length item.bytes ≡ item.head.total) (begun_of p.rx c.args.source) (subst (λ (p : Parts). IsSomeAnd (begun_of p.rx c.args.source) (λ item. length item.bytes ≡ item.head.total)) (sym c.self.view_is) c.requires.whole) in
     let outcome = sym (of_begun (λ item. c.finish-finished.result ≡ handed p.rx (last_of c.args.source p.rx) (ended (coming_from p.rx.rx c.args.source) c.args.source item)) (begun_of p.rx c.args.source) there.0 there.1 c.finish-finished.ensures.outcome) in
@@ -72,7 +72,7 @@ returns-in-Kept g c =
 
 pub returns-in-Thrown : goal.returns-in-Thrown
 returns-in-Thrown g c =
-    let p : Parts = record { caps = c.self.inside.caps; selective = c.self.inside.selective; av = c.self.inside.av; rx = c.self.inside.rx; tx = c.self.inside.tx; target = c.self.inside.target; cq = c.self.inside.cq; counters = c.self.inside.counters; calls = c.self.inside.calls; multis = c.self.inside.multis } in
+    let p : Parts = record { caps = c.self.inside.caps; selective = c.self.inside.selective; most_message = c.self.inside.most_message; av = c.self.inside.av; rx = c.self.inside.rx; tx = c.self.inside.tx; target = c.self.inside.target; cq = c.self.inside.cq; counters = c.self.inside.counters; calls = c.self.inside.calls; multis = c.self.inside.multis } in
     let within : c.args.source < length p.rx.begun = subst (λ (p : Parts). c.args.source < length p.rx.begun) (sym c.self.view_is) c.requires.source in
     let there = item_there (λ item. length item.bytes ≡ item.head.total) (begun_of p.rx c.args.source) (subst (λ (p : Parts). IsSomeAnd (begun_of p.rx c.args.source) (λ item. length item.bytes ≡ item.head.total)) (sym c.self.view_is) c.requires.whole) in
     let outcome = sym (of_begun (λ item. c.finish-finished.result ≡ handed p.rx (last_of c.args.source p.rx) (ended (coming_from p.rx.rx c.args.source) c.args.source item)) (begun_of p.rx c.args.source) there.0 there.1 c.finish-finished.ensures.outcome) in
@@ -81,7 +81,7 @@ returns-in-Thrown g c =
 
 pub returns : goal.returns
 returns g c =
-    let p : Parts = record { caps = c.self.inside.caps; selective = c.self.inside.selective; av = c.self.inside.av; rx = c.self.inside.rx; tx = c.self.inside.tx; target = c.self.inside.target; cq = c.self.inside.cq; counters = c.self.inside.counters; calls = c.self.inside.calls; multis = c.self.inside.multis } in
+    let p : Parts = record { caps = c.self.inside.caps; selective = c.self.inside.selective; most_message = c.self.inside.most_message; av = c.self.inside.av; rx = c.self.inside.rx; tx = c.self.inside.tx; target = c.self.inside.target; cq = c.self.inside.cq; counters = c.self.inside.counters; calls = c.self.inside.calls; multis = c.self.inside.multis } in
     let within : c.args.source < length p.rx.begun = subst (λ (p : Parts). c.args.source < length p.rx.begun) (sym c.self.view_is) c.requires.source in
     let there = item_there (λ item. length item.bytes ≡ item.head.total) (begun_of p.rx c.args.source) (subst (λ (p : Parts). IsSomeAnd (begun_of p.rx c.args.source) (λ item. length item.bytes ≡ item.head.total)) (sym c.self.view_is) c.requires.whole) in
     let outcome = sym (of_begun (λ item. c.finish-finished.result ≡ handed p.rx (last_of c.args.source p.rx) (ended (coming_from p.rx.rx c.args.source) c.args.source item)) (begun_of p.rx c.args.source) there.0 there.1 c.finish-finished.ensures.outcome) in
@@ -90,7 +90,7 @@ returns g c =
 
 pub serve-requires-clause-sound : goal.serve-requires-clause-sound
 serve-requires-clause-sound g c =
-    let p : Parts = record { caps = c.self.inside.caps; selective = c.self.inside.selective; av = c.self.inside.av; rx = c.self.inside.rx; tx = c.self.inside.tx; target = c.self.inside.target; cq = c.self.inside.cq; counters = c.self.inside.counters; calls = c.self.inside.calls; multis = c.self.inside.multis } in
+    let p : Parts = record { caps = c.self.inside.caps; selective = c.self.inside.selective; most_message = c.self.inside.most_message; av = c.self.inside.av; rx = c.self.inside.rx; tx = c.self.inside.tx; target = c.self.inside.target; cq = c.self.inside.cq; counters = c.self.inside.counters; calls = c.self.inside.calls; multis = c.self.inside.multis } in
     let within : c.args.source < length p.rx.begun = subst (λ (p : Parts). c.args.source < length p.rx.begun) (sym c.self.view_is) c.requires.source in
     let there = item_there (λ item. length item.bytes ≡ item.head.total) (begun_of p.rx c.args.source) (subst (λ (p : Parts). IsSomeAnd (begun_of p.rx c.args.source) (λ item. length item.bytes ≡ item.head.total)) (sym c.self.view_is) c.requires.whole) in
     let outcome = sym (of_begun (λ item. c.finish-finished.result ≡ handed p.rx (last_of c.args.source p.rx) (ended (coming_from p.rx.rx c.args.source) c.args.source item)) (begun_of p.rx c.args.source) there.0 there.1 c.finish-finished.ensures.outcome) in
@@ -98,7 +98,7 @@ serve-requires-clause-sound g c =
 
 pub serve-requires-clause-whole : goal.serve-requires-clause-whole
 serve-requires-clause-whole g c =
-    let p : Parts = record { caps = c.self.inside.caps; selective = c.self.inside.selective; av = c.self.inside.av; rx = c.self.inside.rx; tx = c.self.inside.tx; target = c.self.inside.target; cq = c.self.inside.cq; counters = c.self.inside.counters; calls = c.self.inside.calls; multis = c.self.inside.multis } in
+    let p : Parts = record { caps = c.self.inside.caps; selective = c.self.inside.selective; most_message = c.self.inside.most_message; av = c.self.inside.av; rx = c.self.inside.rx; tx = c.self.inside.tx; target = c.self.inside.target; cq = c.self.inside.cq; counters = c.self.inside.counters; calls = c.self.inside.calls; multis = c.self.inside.multis } in
     let within : c.args.source < length p.rx.begun = subst (λ (p : Parts). c.args.source < length p.rx.begun) (sym c.self.view_is) c.requires.source in
     let there = item_there (λ item. length item.bytes ≡ item.head.total) (begun_of p.rx c.args.source) (subst (λ (p : Parts). IsSomeAnd (begun_of p.rx c.args.source) (λ item. length item.bytes ≡ item.head.total)) (sym c.self.view_is) c.requires.whole) in
     let outcome = sym (of_begun (λ item. c.finish-finished.result ≡ handed p.rx (last_of c.args.source p.rx) (ended (coming_from p.rx.rx c.args.source) c.args.source item)) (begun_of p.rx c.args.source) there.0 there.1 c.finish-finished.ensures.outcome) in
@@ -107,16 +107,16 @@ serve-requires-clause-whole g c =
 
 pub invariant_of-self-in-Request : goal.invariant_of-self-in-Request
 invariant_of-self-in-Request g c =
-    let p : Parts = record { caps = c.self.inside.caps; selective = c.self.inside.selective; av = c.self.inside.av; rx = c.self.inside.rx; tx = c.self.inside.tx; target = c.self.inside.target; cq = c.self.inside.cq; counters = c.self.inside.counters; calls = c.self.inside.calls; multis = c.self.inside.multis } in
+    let p : Parts = record { caps = c.self.inside.caps; selective = c.self.inside.selective; most_message = c.self.inside.most_message; av = c.self.inside.av; rx = c.self.inside.rx; tx = c.self.inside.tx; target = c.self.inside.target; cq = c.self.inside.cq; counters = c.self.inside.counters; calls = c.self.inside.calls; multis = c.self.inside.multis } in
     let within : c.args.source < length p.rx.begun = subst (λ (p : Parts). c.args.source < length p.rx.begun) (sym c.self.view_is) c.requires.source in
     let there = item_there (λ item. length item.bytes ≡ item.head.total) (begun_of p.rx c.args.source) (subst (λ (p : Parts). IsSomeAnd (begun_of p.rx c.args.source) (λ item. length item.bytes ≡ item.head.total)) (sym c.self.view_is) c.requires.whole) in
     let outcome = sym (of_begun (λ item. c.finish-finished.result ≡ handed p.rx (last_of c.args.source p.rx) (ended (coming_from p.rx.rx c.args.source) c.args.source item)) (begun_of p.rx c.args.source) there.0 there.1 c.finish-finished.ensures.outcome) in
     let end = end_request p c.self.invariant.2 c.known.ensures c.known-2.ensures c.args.source within there.0 there.1 c.in-Request.item (outcome ∙ c.in-Request.is) in
-    rw (c.finish-finished.ensures.new, c.serve.ensures.tx, c.serve.ensures.cq, c.serve.ensures.target) (c.self.invariant.0 ∙ sym end.2, c.self.invariant.1, end.1, serving_served c.self.inside.rx.begun c.self.inside.target c.self.invariant.3 c.args.source 0 _ refl, subst IsLentBy (sym end.0) (tail_lent p c.self.invariant.4 c.opened.ensures c.args.source there.0), subst (λ (n : ℕ). HasPlaces c.self.inside.most_rx c.self.inside.av.peers n c.self.inside.multis) (sym (size_written _ _ _)) c.self.invariant.5)
+    rw (c.finish-finished.ensures.new, c.serve.ensures.tx, c.serve.ensures.cq, c.serve.ensures.counters, c.serve.ensures.target) (c.self.invariant.0 ∙ sym end.2, c.self.invariant.1, end.1, serving_served c.self.inside.rx.begun c.self.inside.target c.self.invariant.3 c.args.source 0 _ refl, subst IsLentBy (sym end.0) (tail_lent p c.self.invariant.4 c.opened.ensures c.args.source there.0), subst (λ (n : ℕ). HasPlaces c.self.inside.most_rx c.self.inside.av.peers n c.self.inside.multis) (sym (size_written _ _ _)) c.self.invariant.5)
 
 pub hand_last-requires-clause-written : goal.hand_last-requires-clause-written
 hand_last-requires-clause-written g c =
-    let p : Parts = record { caps = c.self.inside.caps; selective = c.self.inside.selective; av = c.self.inside.av; rx = c.self.inside.rx; tx = c.self.inside.tx; target = c.self.inside.target; cq = c.self.inside.cq; counters = c.self.inside.counters; calls = c.self.inside.calls; multis = c.self.inside.multis } in
+    let p : Parts = record { caps = c.self.inside.caps; selective = c.self.inside.selective; most_message = c.self.inside.most_message; av = c.self.inside.av; rx = c.self.inside.rx; tx = c.self.inside.tx; target = c.self.inside.target; cq = c.self.inside.cq; counters = c.self.inside.counters; calls = c.self.inside.calls; multis = c.self.inside.multis } in
     let within : c.args.source < length p.rx.begun = subst (λ (p : Parts). c.args.source < length p.rx.begun) (sym c.self.view_is) c.requires.source in
     let there = item_there (λ item. length item.bytes ≡ item.head.total) (begun_of p.rx c.args.source) (subst (λ (p : Parts). IsSomeAnd (begun_of p.rx c.args.source) (λ item. length item.bytes ≡ item.head.total)) (sym c.self.view_is) c.requires.whole) in
     let outcome = sym (of_begun (λ item. c.finish-finished.result ≡ handed p.rx (last_of c.args.source p.rx) (ended (coming_from p.rx.rx c.args.source) c.args.source item)) (begun_of p.rx c.args.source) there.0 there.1 c.finish-finished.ensures.outcome) in
@@ -124,7 +124,7 @@ hand_last-requires-clause-written g c =
 
 pub hand_last-requires-clause-room : goal.hand_last-requires-clause-room
 hand_last-requires-clause-room g c = λ due.
-    let p : Parts = record { caps = c.self.inside.caps; selective = c.self.inside.selective; av = c.self.inside.av; rx = c.self.inside.rx; tx = c.self.inside.tx; target = c.self.inside.target; cq = c.self.inside.cq; counters = c.self.inside.counters; calls = c.self.inside.calls; multis = c.self.inside.multis } in
+    let p : Parts = record { caps = c.self.inside.caps; selective = c.self.inside.selective; most_message = c.self.inside.most_message; av = c.self.inside.av; rx = c.self.inside.rx; tx = c.self.inside.tx; target = c.self.inside.target; cq = c.self.inside.cq; counters = c.self.inside.counters; calls = c.self.inside.calls; multis = c.self.inside.multis } in
     let within : c.args.source < length p.rx.begun = subst (λ (p : Parts). c.args.source < length p.rx.begun) (sym c.self.view_is) c.requires.source in
     let there = item_there (λ item. length item.bytes ≡ item.head.total) (begun_of p.rx c.args.source) (subst (λ (p : Parts). IsSomeAnd (begun_of p.rx c.args.source) (λ item. length item.bytes ≡ item.head.total)) (sym c.self.view_is) c.requires.whole) in
     let outcome = sym (of_begun (λ item. c.finish-finished.result ≡ handed p.rx (last_of c.args.source p.rx) (ended (coming_from p.rx.rx c.args.source) c.args.source item)) (begun_of p.rx c.args.source) there.0 there.1 c.finish-finished.ensures.outcome) in
@@ -132,7 +132,7 @@ hand_last-requires-clause-room g c = λ due.
 
 pub invariant_of-self-in-Last : goal.invariant_of-self-in-Last
 invariant_of-self-in-Last g c =
-    let p : Parts = record { caps = c.self.inside.caps; selective = c.self.inside.selective; av = c.self.inside.av; rx = c.self.inside.rx; tx = c.self.inside.tx; target = c.self.inside.target; cq = c.self.inside.cq; counters = c.self.inside.counters; calls = c.self.inside.calls; multis = c.self.inside.multis } in
+    let p : Parts = record { caps = c.self.inside.caps; selective = c.self.inside.selective; most_message = c.self.inside.most_message; av = c.self.inside.av; rx = c.self.inside.rx; tx = c.self.inside.tx; target = c.self.inside.target; cq = c.self.inside.cq; counters = c.self.inside.counters; calls = c.self.inside.calls; multis = c.self.inside.multis } in
     let within : c.args.source < length p.rx.begun = subst (λ (p : Parts). c.args.source < length p.rx.begun) (sym c.self.view_is) c.requires.source in
     let there = item_there (λ item. length item.bytes ≡ item.head.total) (begun_of p.rx c.args.source) (subst (λ (p : Parts). IsSomeAnd (begun_of p.rx c.args.source) (λ item. length item.bytes ≡ item.head.total)) (sym c.self.view_is) c.requires.whole) in
     let outcome = sym (of_begun (λ item. c.finish-finished.result ≡ handed p.rx (last_of c.args.source p.rx) (ended (coming_from p.rx.rx c.args.source) c.args.source item)) (begun_of p.rx c.args.source) there.0 there.1 c.finish-finished.ensures.outcome) in
@@ -141,7 +141,7 @@ invariant_of-self-in-Last g c =
 
 pub returns-in-Last : goal.returns-in-Last
 returns-in-Last g c =
-    let p : Parts = record { caps = c.self.inside.caps; selective = c.self.inside.selective; av = c.self.inside.av; rx = c.self.inside.rx; tx = c.self.inside.tx; target = c.self.inside.target; cq = c.self.inside.cq; counters = c.self.inside.counters; calls = c.self.inside.calls; multis = c.self.inside.multis } in
+    let p : Parts = record { caps = c.self.inside.caps; selective = c.self.inside.selective; most_message = c.self.inside.most_message; av = c.self.inside.av; rx = c.self.inside.rx; tx = c.self.inside.tx; target = c.self.inside.target; cq = c.self.inside.cq; counters = c.self.inside.counters; calls = c.self.inside.calls; multis = c.self.inside.multis } in
     let within : c.args.source < length p.rx.begun = subst (λ (p : Parts). c.args.source < length p.rx.begun) (sym c.self.view_is) c.requires.source in
     let there = item_there (λ item. length item.bytes ≡ item.head.total) (begun_of p.rx c.args.source) (subst (λ (p : Parts). IsSomeAnd (begun_of p.rx c.args.source) (λ item. length item.bytes ≡ item.head.total)) (sym c.self.view_is) c.requires.whole) in
     let outcome = sym (of_begun (λ item. c.finish-finished.result ≡ handed p.rx (last_of c.args.source p.rx) (ended (coming_from p.rx.rx c.args.source) c.args.source item)) (begun_of p.rx c.args.source) there.0 there.1 c.finish-finished.ensures.outcome) in
@@ -150,7 +150,7 @@ returns-in-Last g c =
 
 pub hand_over-requires-clause-room : goal.hand_over-requires-clause-room
 hand_over-requires-clause-room g c = λ due.
-    let p : Parts = record { caps = c.self.inside.caps; selective = c.self.inside.selective; av = c.self.inside.av; rx = c.self.inside.rx; tx = c.self.inside.tx; target = c.self.inside.target; cq = c.self.inside.cq; counters = c.self.inside.counters; calls = c.self.inside.calls; multis = c.self.inside.multis } in
+    let p : Parts = record { caps = c.self.inside.caps; selective = c.self.inside.selective; most_message = c.self.inside.most_message; av = c.self.inside.av; rx = c.self.inside.rx; tx = c.self.inside.tx; target = c.self.inside.target; cq = c.self.inside.cq; counters = c.self.inside.counters; calls = c.self.inside.calls; multis = c.self.inside.multis } in
     let within : c.args.source < length p.rx.begun = subst (λ (p : Parts). c.args.source < length p.rx.begun) (sym c.self.view_is) c.requires.source in
     let there = item_there (λ item. length item.bytes ≡ item.head.total) (begun_of p.rx c.args.source) (subst (λ (p : Parts). IsSomeAnd (begun_of p.rx c.args.source) (λ item. length item.bytes ≡ item.head.total)) (sym c.self.view_is) c.requires.whole) in
     let outcome = sym (of_begun (λ item. c.finish-finished.result ≡ handed p.rx (last_of c.args.source p.rx) (ended (coming_from p.rx.rx c.args.source) c.args.source item)) (begun_of p.rx c.args.source) there.0 there.1 c.finish-finished.ensures.outcome) in
@@ -158,7 +158,7 @@ hand_over-requires-clause-room g c = λ due.
 
 pub serve-requires-clause-room : goal.serve-requires-clause-room
 serve-requires-clause-room g c =
-    let p : Parts = record { caps = c.self.inside.caps; selective = c.self.inside.selective; av = c.self.inside.av; rx = c.self.inside.rx; tx = c.self.inside.tx; target = c.self.inside.target; cq = c.self.inside.cq; counters = c.self.inside.counters; calls = c.self.inside.calls; multis = c.self.inside.multis } in
+    let p : Parts = record { caps = c.self.inside.caps; selective = c.self.inside.selective; most_message = c.self.inside.most_message; av = c.self.inside.av; rx = c.self.inside.rx; tx = c.self.inside.tx; target = c.self.inside.target; cq = c.self.inside.cq; counters = c.self.inside.counters; calls = c.self.inside.calls; multis = c.self.inside.multis } in
     let within : c.args.source < length p.rx.begun = subst (λ (p : Parts). c.args.source < length p.rx.begun) (sym c.self.view_is) c.requires.source in
     let there = item_there (λ item. length item.bytes ≡ item.head.total) (begun_of p.rx c.args.source) (subst (λ (p : Parts). IsSomeAnd (begun_of p.rx c.args.source) (λ item. length item.bytes ≡ item.head.total)) (sym c.self.view_is) c.requires.whole) in
     let outcome = sym (of_begun (λ item. c.finish-finished.result ≡ handed p.rx (last_of c.args.source p.rx) (ended (coming_from p.rx.rx c.args.source) c.args.source item)) (begun_of p.rx c.args.source) there.0 there.1 c.finish-finished.ensures.outcome) in
@@ -166,9 +166,9 @@ serve-requires-clause-room g c =
 
 pub returns-in-Request : goal.returns-in-Request
 returns-in-Request g c =
-    let p : Parts = record { caps = c.self.inside.caps; selective = c.self.inside.selective; av = c.self.inside.av; rx = c.self.inside.rx; tx = c.self.inside.tx; target = c.self.inside.target; cq = c.self.inside.cq; counters = c.self.inside.counters; calls = c.self.inside.calls; multis = c.self.inside.multis } in
+    let p : Parts = record { caps = c.self.inside.caps; selective = c.self.inside.selective; most_message = c.self.inside.most_message; av = c.self.inside.av; rx = c.self.inside.rx; tx = c.self.inside.tx; target = c.self.inside.target; cq = c.self.inside.cq; counters = c.self.inside.counters; calls = c.self.inside.calls; multis = c.self.inside.multis } in
     let within : c.args.source < length p.rx.begun = subst (λ (p : Parts). c.args.source < length p.rx.begun) (sym c.self.view_is) c.requires.source in
     let there = item_there (λ item. length item.bytes ≡ item.head.total) (begun_of p.rx c.args.source) (subst (λ (p : Parts). IsSomeAnd (begun_of p.rx c.args.source) (λ item. length item.bytes ≡ item.head.total)) (sym c.self.view_is) c.requires.whole) in
     let outcome = sym (of_begun (λ item. c.finish-finished.result ≡ handed p.rx (last_of c.args.source p.rx) (ended (coming_from p.rx.rx c.args.source) c.args.source item)) (begun_of p.rx c.args.source) there.0 there.1 c.finish-finished.ensures.outcome) in
     let end = end_request p c.self.invariant.2 c.known.ensures c.known-2.ensures c.args.source within there.0 there.1 c.in-Request.item (outcome ∙ c.in-Request.is) in
-    rw (← c.self.view_is, c.finish-finished.ensures.new, c.serve.ensures.tx, c.serve.ensures.cq, c.serve.ensures.target) (if_begun (λ item. _ ≡ tail c.args.source item p) (begun_of p.rx c.args.source) there.0 there.1 end.0)
+    rw (← c.self.view_is, c.finish-finished.ensures.new, c.serve.ensures.tx, c.serve.ensures.cq, c.serve.ensures.counters, c.serve.ensures.target) (if_begun (λ item. _ ≡ tail c.args.source item p) (begun_of p.rx c.args.source) there.0 there.1 end.0)

@@ -1,3 +1,5 @@
+use Rattle.std.proofs.Common.{ap, arith}
+use Rattle.fab_core.specs.Parts.{Parts}
 use Rattle.fab_face.specs.Requesting.{order_asked}
 use Rattle.fab_core.proofs.Asking.{asks, count_word, counts, few_copied, sound, stands}
 use Rattle.fab_core.proofs.requests.CoreRequesting.request_copied.Goals as goal
@@ -9,7 +11,7 @@ pub ask_copied-requires-clause-counts : goal.ask_copied-requires-clause-counts
 ask_copied-requires-clause-counts g c = counts c.args.self.now (order_asked c.args.request.now c.args.bytes.now c.args.compared.now c.args.buf) c.requires.granted
 
 pub ask_copied-requires-clause-count : goal.ask_copied-requires-clause-count
-ask_copied-requires-clause-count g c = count_word c.args.self.now (order_asked c.args.request.now c.args.bytes.now c.args.compared.now c.args.buf) c.requires.granted
+ask_copied-requires-clause-count g c = count_word c.args.self.now (order_asked c.args.request.now c.args.bytes.now c.args.compared.now c.args.buf) c.requires.granted (let same = ap (λ (p : Parts). p.most_message) c.self.view_is in omega (arith, same, c.self.ranges))
 
 pub ask_copied-requires-clause-few : goal.ask_copied-requires-clause-few
 ask_copied-requires-clause-few g c = few_copied c.args.self.now (order_asked c.args.request.now c.args.bytes.now c.args.compared.now c.args.buf) c.requires.granted c.requires.few

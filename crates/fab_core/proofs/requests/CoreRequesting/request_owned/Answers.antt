@@ -1,3 +1,5 @@
+use Rattle.std.proofs.Common.{ap, arith}
+use Rattle.fab_core.specs.Parts.{Parts}
 use Rattle.std.specs.Prelude.{[], Some}
 use Rattle.fab_face.specs.Requesting.{order_asked}
 use Rattle.fab_core.proofs.Asking.{asks, bytes_word, count_word, counts, sound, stands}
@@ -10,10 +12,10 @@ pub ask_owned-requires-clause-counts : goal.ask_owned-requires-clause-counts
 ask_owned-requires-clause-counts g c = counts c.args.self.now (order_asked c.args.request.now c.args.buf [] (Some c.args.buf)) c.requires.granted
 
 pub ask_owned-requires-clause-count : goal.ask_owned-requires-clause-count
-ask_owned-requires-clause-count g c = count_word c.args.self.now (order_asked c.args.request.now c.args.buf [] (Some c.args.buf)) c.requires.granted
+ask_owned-requires-clause-count g c = count_word c.args.self.now (order_asked c.args.request.now c.args.buf [] (Some c.args.buf)) c.requires.granted (let same = ap (λ (p : Parts). p.most_message) c.self.view_is in omega (arith, same, c.self.ranges))
 
 pub ask_owned-requires-clause-total : goal.ask_owned-requires-clause-total
-ask_owned-requires-clause-total g c = bytes_word c.args.self.now (order_asked c.args.request.now c.args.buf [] (Some c.args.buf)) c.requires.granted
+ask_owned-requires-clause-total g c = bytes_word c.args.self.now (order_asked c.args.request.now c.args.buf [] (Some c.args.buf)) c.requires.granted (let same = ap (λ (p : Parts). p.most_message) c.self.view_is in omega (arith, same, c.self.ranges))
 
 pub ask_owned-requires-clause-sound : goal.ask_owned-requires-clause-sound
 ask_owned-requires-clause-sound g c = sound c.args.self.now c.args.request.now c.args.buf [] (Some c.args.buf) c.requires.granted

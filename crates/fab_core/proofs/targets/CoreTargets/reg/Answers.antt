@@ -8,10 +8,10 @@ returns-then-lacks-clause-err g c = λ _. reg_lacks c.args.self.now c.args.key c
 
 pub returns-clause-ok : goal.returns-clause-ok
 returns-clause-ok g c =
-    let p : Parts = record { caps = c.self.inside.caps; selective = c.self.inside.selective; av = c.self.inside.av; rx = c.self.inside.rx; tx = c.self.inside.tx; target = c.self.inside.target; cq = c.self.inside.cq; counters = c.self.inside.counters; calls = c.self.inside.calls; multis = c.self.inside.multis } in
+    let p : Parts = record { caps = c.self.inside.caps; selective = c.self.inside.selective; most_message = c.self.inside.most_message; av = c.self.inside.av; rx = c.self.inside.rx; tx = c.self.inside.tx; target = c.self.inside.target; cq = c.self.inside.cq; counters = c.self.inside.counters; calls = c.self.inside.calls; multis = c.self.inside.multis } in
     rw (← c.self.view_is) ((registers p c.args.key c.args.access c.args.buf c.reg.new.self (sym c.lacks.ensures ∙ c.if-lacks.false) c.reg.result c.reg.ensures.in_use c.reg.ensures.free c.reg.ensures.ok c.reg.ensures.err).ok)
 
 pub returns-clause-err : goal.returns-clause-err
 returns-clause-err g c =
-    let p : Parts = record { caps = c.self.inside.caps; selective = c.self.inside.selective; av = c.self.inside.av; rx = c.self.inside.rx; tx = c.self.inside.tx; target = c.self.inside.target; cq = c.self.inside.cq; counters = c.self.inside.counters; calls = c.self.inside.calls; multis = c.self.inside.multis } in
+    let p : Parts = record { caps = c.self.inside.caps; selective = c.self.inside.selective; most_message = c.self.inside.most_message; av = c.self.inside.av; rx = c.self.inside.rx; tx = c.self.inside.tx; target = c.self.inside.target; cq = c.self.inside.cq; counters = c.self.inside.counters; calls = c.self.inside.calls; multis = c.self.inside.multis } in
     rw (← c.self.view_is) ((registers p c.args.key c.args.access c.args.buf c.reg.new.self (sym c.lacks.ensures ∙ c.if-lacks.false) c.reg.result c.reg.ensures.in_use c.reg.ensures.free c.reg.ensures.ok c.reg.ensures.err).err)

@@ -7,5 +7,5 @@ pub invariant_of-self : goal.invariant_of-self
 invariant_of-self g c = (
   c.self.invariant.0,
   tied_accepted (seen g.P.Port (record { port = c.self.inside.port; held = g.C.Machine.held c.self.inside.core; log = c.self.inside.log.items; log_size = c.self.inside.log_size; pushed = c.self.inside.pushed })) _ _
-      c.self.invariant.1 (c.known.ensures.accepted) c.inject.ensures refl refl refl,
+      c.self.invariant.1 c.known.ensures.fenced c.known.ensures.accepted c.inject.ensures refl refl refl,
 )

@@ -16,7 +16,7 @@ returns c =
     let p = posting_of c.args.posting.now in
     let may : may_receive s p.tagged ≡ true = search rules in
     let len = length-replicate {A = ℕ} c.args.posting.now.len 0 in
-    let short : nat_lt 16_777_216 (length p.buf) ≡ false = rw len (grind (arith, nat_tests, c.if-posting-gt16777216.false)) in
+    let short : nat_lt s.most_message (length p.buf) ≡ false = rw len (grind (arith, nat_tests, c.if-posting-self.false)) in
     let known : source_is_known s p.source ≡ true = search rules in
     let right : least_is_wrong p ≡ false = search rules in
     c.place_fault.ensures ∙ ap (λ (w : Want). place_fault (taken_first c.args.posting.now.least w (rx_of c.args.self.now.rx)) s) c.want_of-want.ensures

@@ -22,7 +22,7 @@ atomic-requires-clause-next g c =
     let count : c.len.result ≡ length c.args.self.now.results.items = search rules in
     let operand : l.values ≡ c.in_ok-operand-in-Atomic.operand = sym (c.in_ok-operand-in-Atomic.ensures ∙ c.as_slice.ensures) in
     next_by (told g.E.Sees.seen c.args.self.now) c.deref.result.now c.len.result c.in-Some.line.now _ c.deref.ensures.value count (ltb-true _ _ (sym found.0)) found.1 l.is
-    ∙ ap (λ vs. Some (Atomic l.ctx l.dest l.key l.at l.op l.num vs l.completion)) operand
+    ∙ ap (λ vs. Some (Atomic l.ctx l.dest l.key l.at l.op l.num vs l.completion l.fence)) operand
 
 pub fetch-requires-clause-next : goal.fetch-requires-clause-next
 fetch-requires-clause-next g c =

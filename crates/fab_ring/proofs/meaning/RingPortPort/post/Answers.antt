@@ -1,8 +1,8 @@
-use Rattle.std.proofs.Common.{ℕ, ◌<◌, sym, subst}
+use Rattle.std.proofs.Common.{ℕ, ◌+◌, ◌<◌, sym, subst}
 use Rattle.std.specs.Arc.{arc_value}
 use Rattle.fab_table.specs.declared.kinds.Part.{Part}
-use Rattle.fab_table.specs.Views.{part_at}
-use Rattle.fab_ring.proofs.Clauses.{posting}
+use Rattle.fab_table.specs.Views.{part_at, out_at}
+use Rattle.fab_ring.proofs.Clauses.{posting, frames_length}
 use Rattle.fab_ring.proofs.meaning.RingPortPort.post.Goals as goal
 
 pub returns-clause-ok : goal.returns-clause-ok
@@ -74,3 +74,7 @@ pub returns-clause-some_slot : goal.returns-clause-some_slot
 returns-clause-some_slot c = let q = c.args.self.now in let f = arc_value q.fabric in let n = c.send.new.self in let d : ℕ = c.args.dest in let p : Part = part_at q.seat.seat.me.0 0 in
     let all = posting p (part_at n.seat.seat.me.0 0) d f.room f.pool c.args.head c.args.bytes.now (subst (λ (z : ℕ). d < z) (sym q.fits.all_outs) c.requires.below) (q.fits.each_put d c.requires.below).4 f.sized.7 c.send.result c.send.ensures.sent c.send.ensures.lane_full c.send.ensures.pool_full c.send.ensures.memory in
     all.some_slot
+
+pub returns-clause-unlooked : goal.returns-clause-unlooked
+returns-clause-unlooked c = let q = c.args.self.now in let d : ℕ = c.args.dest in let p : Part = part_at q.seat.seat.me.0 0 in
+    λ space few. c.send.ensures.unlooked (subst (λ (z : ℕ). z < (out_at p d).got_seen + (arc_value q.fabric).room) (sym (frames_length (out_at p d).posted)) space) few

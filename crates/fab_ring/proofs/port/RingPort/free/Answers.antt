@@ -12,12 +12,13 @@ use Rattle.fab_table.specs.declared.kinds.In.{In}
 use Rattle.fab_table.specs.declared.kinds.Part.{Part}
 use Rattle.fab_table.specs.Views.{part_at, in_at, with_in, freed_one}
 use Rattle.fab_table.specs.Plays.{Sat, oldest_of}
-use Rattle.fab_ring.specs.Hands.{shape, shapes, held, Fits, Told, Ends, Comes}
+use Rattle.fab_ring.specs.Hands.{shape, shapes, held, Fits, Sees, Told, Ends, Comes}
 use Rattle.fab_ring.proofs.Hold.{lends_slot, behind, flag_at, cell_first, pool_first, fits_two, fits_free}
 use Rattle.fab_ring.proofs.Ends.{in_all}
 use Rattle.fab_ring.proofs.Told.{told_in, comes_in}
 use Rattle.fab_ring.proofs.Lasts.{ends_in}
 use Rattle.fab_ring.proofs.Facts.{comes_now}
+use Rattle.fab_ring.proofs.Seeing.{sees_in}
 use Rattle.fab_ring.proofs.port.RingPort.free.Goals as goal
 
 pub unreachable-requires : goal.unreachable-requires
@@ -73,6 +74,7 @@ invariant_of-self-2 c = let q = c.seek.new.self in let P = c.args.self.now in le
       fits = subst (λ (z : Part × List (ℕ × Slot)). Fits q.me f.peers f.room f.pool q.clock (q.turn + 1) q.puts.items q.gots.items q.opened.items (set q.lent.items s false) z.0 (shapes z.1)) (λ i. (sym all.1 i, sym all.2 i))
           (subst (Fits q.me f.peers f.room f.pool q.clock (q.turn + 1) q.puts.items q.gots.items q.opened.items (set q.lent.items s false) (with_in p s u' p.moves)) (sym shaped) (fits_free _ _ _ _ _ _ _ _ _ _ _ _ q.fits s x near c.seek.ensures.turn l.2));
       rounds = q.rounds;
+      sees = subst (Sees f.peers q.gots_seen.items) (sym all.1) (sees_in _ _ p q.sees s u' p.moves);
       told = subst (Told f.peers q.commands.items q.buffers.items) (sym all.1) (told_in _ _ _ p s u' p.moves inside (λ y e. e) q.told);
       ends = subst (λ (z : Part). Ends f.peers q.posted_ends.items q.taken_ends.items z) (sym all.1) (ends_in _ _ _ p s u' p.moves near inside refl q.ends);
       comes = subst (λ (z : Part). ∥ Comes z ∥₁) (sym all.1) ∣ comes_in p s u' p.moves inside (λ y e. comes_now p q.comes s y e) (comes_now p q.comes) ∣₁;

@@ -10,7 +10,7 @@ use Rattle.fab_table.specs.declared.kinds.In.{In}
 use Rattle.fab_table.specs.declared.kinds.Part.{Part}
 use Rattle.fab_table.specs.Views.{frames_of, part_at, in_at, with_in, saw_frame, saw_empty}
 use Rattle.fab_table.specs.Plays.{Sat, slot_home, oldest_of}
-use Rattle.fab_ring.specs.Hands.{shapes, Fits, Tells, Told, Ends, Comes}
+use Rattle.fab_ring.specs.Hands.{shapes, Fits, Sees, Tells, Told, Ends, Comes}
 use Rattle.fab_ring.proofs.Hold.{get_any, flag_at, nothing, shapes_two, fits_empty, fits_open, fits_open_slot, got_len}
 use Rattle.fab_ring.proofs.Rounds.{got_cell, cell_small}
 use Rattle.std.proofs.Math.Nat.{mod-lt}
@@ -18,6 +18,7 @@ use Rattle.fab_ring.proofs.Ends.{in_all}
 use Rattle.fab_ring.proofs.Told.{told_set, comes_in}
 use Rattle.fab_ring.proofs.Lasts.{ends_in}
 use Rattle.fab_ring.proofs.Facts.{comes_now}
+use Rattle.fab_ring.proofs.Seeing.{sees_in}
 use Rattle.fab_ring.proofs.port.RingPort.look.Goals as goal
 
 pub overflow_add-next : goal.overflow_add-next
@@ -42,6 +43,7 @@ invariant_of-self-in-Empty c = let q = c.seek.new.self in let P = c.args.self.no
       at = (c.open_next-found.ensures.seat.0 ∙ q.at.0, all.0);
       fits = subst (λ (z : Part × List (ℕ × Slot)). Fits q.me f.peers f.room f.pool q.clock q.turn q.puts.items q.gots.items q.opened.items q.lent.items z.0 (shapes z.1)) (λ i. (sym all.1 i, sym all.2 i)) (fits_empty _ _ _ _ _ _ _ _ _ _ _ _ q.fits s (length u.taken) near closed);
       rounds = q.rounds;
+      sees = subst (Sees f.peers q.gots_seen.items) (sym all.1) (sees_in _ _ p q.sees s u' p.moves);
       told = subst (Told f.peers (set q.commands.items s new_c) (set q.buffers.items s new_b)) (sym all.1) (told_set _ _ _ p s u' new_c new_b p.moves near inside (ap length got.1 ∙ sized) (λ x e. absurd (none-some x (sym closed ∙ e))) q.told);
       ends = subst (λ (z : Part). Ends f.peers q.posted_ends.items q.taken_ends.items z) (sym all.1) (ends_in _ _ _ p s u' p.moves near inside refl q.ends);
       comes = subst (λ (z : Part). ∥ Comes z ∥₁) (sym all.1) ∣ comes_in p s u' p.moves inside (λ x e. absurd (none-some x (sym closed ∙ e))) (comes_now p q.comes) ∣₁;
@@ -57,6 +59,7 @@ invariant_of-self-in-Inline c = let q = c.seek.new.self in let P = c.args.self.n
       at = (c.open_next-found.ensures.seat.0 ∙ q.at.0, all.0);
       fits = subst (λ (z : Part × List (ℕ × Slot)). Fits q.me f.peers f.room f.pool q.clock q.turn q.puts.items q.gots.items (set q.opened.items s true) q.lent.items z.0 (shapes z.1)) (λ i. (sym all.1 i, sym all.2 i)) (fits_open _ _ _ _ _ _ _ _ _ _ _ _ q.fits s got.0 x near c.seek.ensures.turn closed got.3 got.4 got.5);
       rounds = q.rounds;
+      sees = subst (Sees f.peers q.gots_seen.items) (sym all.1) (sees_in _ _ p q.sees s u' p.moves);
       told = subst (Told f.peers (set q.commands.items s new_c) (set q.buffers.items s new_b)) (sym all.1) (told_set _ _ _ p s u' new_c new_b p.moves near inside (ap length got.8 ∙ sized) (λ y e. subst (λ (z : Sent). Tells z new_c new_b) (same_Some x y e) got.7) q.told);
       ends = subst (λ (z : Part). Ends f.peers q.posted_ends.items q.taken_ends.items z) (sym all.1) (ends_in _ _ _ p s u' p.moves near inside refl q.ends);
       comes = subst (λ (z : Part). ∥ Comes z ∥₁) (sym all.1) ∣ comes_in p s u' p.moves inside (λ y e. subst (λ (z : Sent). MayCome (last_head None (frames_of u.taken)) z.frame) (same_Some x y e) got.6) (comes_now p q.comes) ∣₁;
@@ -74,6 +77,7 @@ invariant_of-self-in-Pooled c = let q = c.seek.new.self in let P = c.args.self.n
       at = (c.open_next-found.ensures.seat.0 ∙ q.at.0, all.0);
       fits = subst (λ (z : Part × List (ℕ × Slot)). Fits q.me f.peers f.room f.pool q.clock (q.turn + 1) q.puts.items q.gots.items (set q.opened.items s true) (set q.lent.items s true) z.0 (shapes z.1)) (λ i. (sym all.1 i, sym all.2 i)) (subst (Fits q.me f.peers f.room f.pool q.clock (q.turn + 1) q.puts.items q.gots.items (set q.opened.items s true) (set q.lent.items s true) (with_in p s u' p.moves)) (sym shaped) (fits_open_slot _ _ _ _ _ _ _ _ _ _ _ _ q.fits s got.0 k x near c.seek.ensures.turn closed got.4 got.5 got.6 low));
       rounds = q.rounds;
+      sees = subst (Sees f.peers q.gots_seen.items) (sym all.1) (sees_in _ _ p q.sees s u' p.moves);
       told = subst (Told f.peers (set q.commands.items s new_c) (set q.buffers.items s new_b)) (sym all.1) (told_set _ _ _ p s u' new_c new_b p.moves near inside got.10 (λ w e. subst (λ (v : Sent). Tells v new_c new_b) (same_Some x w e) got.9) q.told);
       ends = subst (λ (z : Part). Ends f.peers q.posted_ends.items q.taken_ends.items z) (sym all.1) (ends_in _ _ _ p s u' p.moves near inside refl q.ends);
       comes = subst (λ (z : Part). ∥ Comes z ∥₁) (sym all.1) ∣ comes_in p s u' p.moves inside (λ w e. subst (λ (v : Sent). MayCome (last_head None (frames_of u.taken)) v.frame) (same_Some x w e) got.8) (comes_now p q.comes) ∣₁;

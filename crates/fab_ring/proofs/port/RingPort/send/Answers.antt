@@ -1,4 +1,4 @@
-use Rattle.std.proofs.Common.{◌≡◌, ℕ, ◌+◌, ◌*◌, ◌%◌, ◌<◌, true, false, List, [], ◌∷◌, ◌++◌, length, set, sym, refl, ap, ◌∙◌, subst, arith, inl, inr, length-set}
+use Rattle.std.proofs.Common.{◌≡◌, ℕ, ◌+◌, ◌*◌, ◌%◌, ◌<◌, ◌≤◌, true, false, List, [], ◌∷◌, ◌++◌, length, set, sym, refl, ap, ◌∙◌, subst, arith, inl, inr, length-set, length-append, get_or-set_same}
 use Rattle.std.specs.Prelude.{Some, None}
 use Rattle.std.specs.Arc.{arc_value}
 use Rattle.atomic_table.specs.Table.{rest}
@@ -9,27 +9,29 @@ use Rattle.fab_table.specs.declared.kinds.Slot.{Slot}
 use Rattle.fab_table.specs.declared.kinds.Out.{Out}
 use Rattle.fab_table.specs.declared.kinds.Part.{Part}
 use Rattle.fab_table.specs.declared.kinds.View.{View}
-use Rattle.fab_table.specs.Views.{part_at, out_at, with_part, with_out, posted_one, saw_room, saw_full}
+use Rattle.fab_table.specs.Views.{new_out, part_at, out_at, with_part, with_out, posted_one, saw_room, saw_full}
 use Rattle.fab_table.specs.Rule.{greatest}
 use Rattle.fab_table.specs.Plays.{Sat, most, new_out_view, next_cell}
 use Rattle.fab_ring.specs.Tries.{IsTried, IsSent, tried_out, sent_as}
-use Rattle.fab_ring.specs.Hands.{shapes, Fits, Told, Ends, Comes}
+use Rattle.fab_ring.specs.Hands.{shapes, Fits, Sees, Told, Ends, Comes}
 use Rattle.fab_ring.proofs.Hold.{fits_saw, fits_post, put_len}
 use Rattle.fab_ring.proofs.Ends.{tried_length, sent_length, out_all, sent_over, view_over, here_out, next_over}
 use Rattle.fab_ring.proofs.Told.{told_out, comes_out}
 use Rattle.fab_ring.proofs.Lasts.{ends_out, ends_post}
 use Rattle.fab_ring.proofs.Rounds.{put_cell, rounds_put, cell_small}
+use Rattle.fab_ring.proofs.Seeing.{sees_out, seen_at}
 use Rattle.std.proofs.Math.Nat.{mod-lt}
 use Rattle.fab_ring.proofs.port.RingPort.send.Goals as goal
 
 pub invariant_of-self : goal.invariant_of-self
 invariant_of-self c = let q = c.args.self.now in let f = arc_value q.fabric in let d : ℕ = c.args.dest in let m : Sat = q.seat.seat.me in let p : Part = part_at m.0 0 in let o : Out = out_at p d in let low : d < f.peers = c.requires.below in let inside : d < length p.outs = subst (λ (z : ℕ). d < z) (sym q.fits.all_outs) low in
-    let saw = c.look_got-got.ensures.view in let r : ℕ = c.look_got-got.result in let put = put_len _ _ _ _ _ _ _ _ _ _ _ _ q.fits d c.index-put.result.now low c.index-put.ensures in let wide : c.room-room.result ≡ p.room = c.room-room.ensures ∙ ap (λ t. t.room) c.deref-2.ensures ∙ sym q.fits.room_is in
+    let saw = c.hold_next-got.ensures.view in let r : ℕ = c.hold_next-got.result in let put = put_len _ _ _ _ _ _ _ _ _ _ _ _ q.fits d c.index-put.result.now low c.index-put.ensures in let wide : c.room-room.result ≡ p.room = c.room-room.ensures ∙ ap (λ t. t.room) c.deref-2.ensures ∙ sym q.fits.room_is in
     let mine = q.fits.each_put d low in let full = saw.2 (inl (let t = c.if-put-got.true in let le = saw.0 in omega arith)) in let o₁ : Out = saw_full o r in let all = out_all m _ d o₁ p.moves m.1 q.at.1 full in
     record {
-      at = (c.look_got-got.ensures.seat.0 ∙ q.at.0, all.0);
+      at = (c.hold_next-got.ensures.seat.0 ∙ q.at.0, all.0);
       fits = subst (λ (z : Part × List (ℕ × Slot)). Fits q.me f.peers f.room f.pool q.clock q.turn q.puts.items q.gots.items q.opened.items q.lent.items z.0 (shapes z.1)) (λ i. (sym all.1 i, sym all.2 i)) (fits_saw _ _ _ _ _ _ _ _ _ _ _ _ q.fits d o₁ low refl mine.1 mine.3 mine.4);
       rounds = q.rounds;
+      sees = subst (Sees f.peers (set q.gots_seen.items d r)) (sym all.1) (sees_out _ _ p q.sees d r o₁ p.moves low q.fits.all_outs refl saw.0);
       told = subst (Told f.peers q.commands.items q.buffers.items) (sym all.1) (told_out _ _ _ p d o₁ p.moves q.told);
       ends = subst (λ (z : Part). Ends f.peers q.posted_ends.items q.taken_ends.items z) (sym all.1) (ends_out _ _ _ p d o₁ p.moves low inside refl q.ends);
       comes = subst (λ (z : Part). ∥ Comes z ∥₁) (sym all.1) (comes_out p d o₁ p.moves q.comes);
@@ -37,12 +39,13 @@ invariant_of-self c = let q = c.args.self.now in let f = arc_value q.fabric in l
 
 pub invariant_of-self-then-self-ge-MOST : goal.invariant_of-self-then-self-ge-MOST
 invariant_of-self-then-self-ge-MOST c = let q = c.args.self.now in let f = arc_value q.fabric in let d : ℕ = c.args.dest in let m : Sat = q.seat.seat.me in let p : Part = part_at m.0 0 in let o : Out = out_at p d in let low : d < f.peers = c.requires.below in let inside : d < length p.outs = subst (λ (z : ℕ). d < z) (sym q.fits.all_outs) low in
-    let saw = c.look_got-got.ensures.view in let r : ℕ = c.look_got-got.result in let put = put_len _ _ _ _ _ _ _ _ _ _ _ _ q.fits d c.index-put.result.now low c.index-put.ensures in let wide : c.room-room.result ≡ p.room = c.room-room.ensures ∙ ap (λ t. t.room) c.deref-2.ensures ∙ sym q.fits.room_is in
+    let saw = c.hold_next-got.ensures.view in let r : ℕ = c.hold_next-got.result in let put = put_len _ _ _ _ _ _ _ _ _ _ _ _ q.fits d c.index-put.result.now low c.index-put.ensures in let wide : c.room-room.result ≡ p.room = c.room-room.ensures ∙ ap (λ t. t.room) c.deref-2.ensures ∙ sym q.fits.room_is in
     let mine = q.fits.each_put d low in let full = saw.2 (inr (let t = c.if-self-ge-MOST.true in let e = q.fits.clock_is in omega arith)) in let o₁ : Out = saw_full o r in let all = out_all m _ d o₁ p.moves m.1 q.at.1 full in
     record {
-      at = (c.look_got-got.ensures.seat.0 ∙ q.at.0, all.0);
+      at = (c.hold_next-got.ensures.seat.0 ∙ q.at.0, all.0);
       fits = subst (λ (z : Part × List (ℕ × Slot)). Fits q.me f.peers f.room f.pool q.clock q.turn q.puts.items q.gots.items q.opened.items q.lent.items z.0 (shapes z.1)) (λ i. (sym all.1 i, sym all.2 i)) (fits_saw _ _ _ _ _ _ _ _ _ _ _ _ q.fits d o₁ low refl mine.1 mine.3 mine.4);
       rounds = q.rounds;
+      sees = subst (Sees f.peers (set q.gots_seen.items d r)) (sym all.1) (sees_out _ _ p q.sees d r o₁ p.moves low q.fits.all_outs refl saw.0);
       told = subst (Told f.peers q.commands.items q.buffers.items) (sym all.1) (told_out _ _ _ p d o₁ p.moves q.told);
       ends = subst (λ (z : Part). Ends f.peers q.posted_ends.items q.taken_ends.items z) (sym all.1) (ends_out _ _ _ p d o₁ p.moves low inside refl q.ends);
       comes = subst (λ (z : Part). ∥ Comes z ∥₁) (sym all.1) (comes_out p d o₁ p.moves q.comes);
@@ -50,7 +53,7 @@ invariant_of-self-then-self-ge-MOST c = let q = c.args.self.now in let f = arc_v
 
 pub send_next-requires-clause-place : goal.send_next-requires-clause-place
 send_next-requires-clause-place c = let q = c.args.self.now in let f = arc_value q.fabric in let d : ℕ = c.args.dest in let m : Sat = q.seat.seat.me in let p : Part = part_at m.0 0 in let o : Out = out_at p d in let low : d < f.peers = c.requires.below in let inside : d < length p.outs = subst (λ (z : ℕ). d < z) (sym q.fits.all_outs) low in
-    let saw = c.look_got-got.ensures.view in let r : ℕ = c.look_got-got.result in let put = put_len _ _ _ _ _ _ _ _ _ _ _ _ q.fits d c.index-put.result.now low c.index-put.ensures in let wide : c.room-room.result ≡ p.room = c.room-room.ensures ∙ ap (λ t. t.room) c.deref-2.ensures ∙ sym q.fits.room_is in
+    let saw = c.hold_next-got.ensures.view in let r : ℕ = c.hold_next-got.result in let put = put_len _ _ _ _ _ _ _ _ _ _ _ _ q.fits d c.index-put.result.now low c.index-put.ensures in let wide : c.room-room.result ≡ p.room = c.room-room.ensures ∙ ap (λ t. t.room) c.deref-2.ensures ∙ sym q.fits.room_is in
     let mine = q.fits.each_put d low in let space : length o.posted < r + p.room = (let le = saw.0 in let t = c.if-put-got.false in omega arith) in
     let few : greatest 0 p.moves < most = (let t = c.if-self-ge-MOST.false in let e = q.fits.clock_is in omega arith) in let took = saw.3 space few in let o₁ : Out = saw_room o r in let v₁ : View = new_out_view m.0 0 d o₁ in
     let all_peers : c.peers.result ≡ p.peers = c.peers.ensures ∙ ap (λ t. t.peers) c.deref-3.ensures ∙ sym q.fits.peers_is in
@@ -59,7 +62,7 @@ send_next-requires-clause-place c = let q = c.args.self.now in let f = arc_value
 
 pub overflow_add-next-2 : goal.overflow_add-next-2
 overflow_add-next-2 c = let q = c.args.self.now in let f = arc_value q.fabric in let d : ℕ = c.args.dest in let m : Sat = q.seat.seat.me in let p : Part = part_at m.0 0 in let o : Out = out_at p d in let low : d < f.peers = c.requires.below in let inside : d < length p.outs = subst (λ (z : ℕ). d < z) (sym q.fits.all_outs) low in
-    let saw = c.look_got-got.ensures.view in let r : ℕ = c.look_got-got.result in let put = put_len _ _ _ _ _ _ _ _ _ _ _ _ q.fits d c.index-put.result.now low c.index-put.ensures in let wide : c.room-room.result ≡ p.room = c.room-room.ensures ∙ ap (λ t. t.room) c.deref-2.ensures ∙ sym q.fits.room_is in
+    let saw = c.hold_next-got.ensures.view in let r : ℕ = c.hold_next-got.result in let put = put_len _ _ _ _ _ _ _ _ _ _ _ _ q.fits d c.index-put.result.now low c.index-put.ensures in let wide : c.room-room.result ≡ p.room = c.room-room.ensures ∙ ap (λ t. t.room) c.deref-2.ensures ∙ sym q.fits.room_is in
     let mine = q.fits.each_put d low in let space : length o.posted < r + p.room = (let le = saw.0 in let t = c.if-put-got.false in omega arith) in
     let few : greatest 0 p.moves < most = (let t = c.if-self-ge-MOST.false in let e = q.fits.clock_is in omega arith) in let took = saw.3 space few in let o₁ : Out = saw_room o r in let v₁ : View = new_out_view m.0 0 d o₁ in
     let rooms : c.room-room.result ≡ f.room = c.room-room.ensures ∙ ap (λ t. t.room) c.deref-2.ensures in let cell : c.index-cell.result.now ≡ c.index-put.result.now % f.room = put_cell _ _ _ _ _ _ q.rounds d c.index-put.result.now c.index-cell.result.now low (put ∙ sym mine.0) c.index-cell.ensures in
@@ -68,11 +71,11 @@ overflow_add-next-2 c = let q = c.args.self.now in let f = arc_value q.fabric in
 
 pub send_next-requires-clause-alone : goal.send_next-requires-clause-alone
 send_next-requires-clause-alone c = let q = c.args.self.now in let f = arc_value q.fabric in let d : ℕ = c.args.dest in let m : Sat = q.seat.seat.me in let p : Part = part_at m.0 0 in let o : Out = out_at p d in let low : d < f.peers = c.requires.below in let inside : d < length p.outs = subst (λ (z : ℕ). d < z) (sym q.fits.all_outs) low in
-    let saw = c.look_got-got.ensures.view in let r : ℕ = c.look_got-got.result in let put = put_len _ _ _ _ _ _ _ _ _ _ _ _ q.fits d c.index-put.result.now low c.index-put.ensures in let wide : c.room-room.result ≡ p.room = c.room-room.ensures ∙ ap (λ t. t.room) c.deref-2.ensures ∙ sym q.fits.room_is in
+    let saw = c.hold_next-got.ensures.view in let r : ℕ = c.hold_next-got.result in let put = put_len _ _ _ _ _ _ _ _ _ _ _ _ q.fits d c.index-put.result.now low c.index-put.ensures in let wide : c.room-room.result ≡ p.room = c.room-room.ensures ∙ ap (λ t. t.room) c.deref-2.ensures ∙ sym q.fits.room_is in
     let mine = q.fits.each_put d low in let space : length o.posted < r + p.room = (let le = saw.0 in let t = c.if-put-got.false in omega arith) in
     let few : greatest 0 p.moves < most = (let t = c.if-self-ge-MOST.false in let e = q.fits.clock_is in omega arith) in let took = saw.3 space few in let o₁ : Out = saw_room o r in let v₁ : View = new_out_view m.0 0 d o₁ in
     let all = out_all m _ d o₁ p.moves _ q.at.1 took.1 in let f' = c.deref-4.result.now in let at : f ≡ f' = sym c.deref-4.ensures in record {
-      of = c.look_got-got.ensures.seat.0 ∙ q.at.0 ∙ ap (λ t. t.table.shared.table_id) at;
+      of = c.hold_next-got.ensures.seat.0 ∙ q.at.0 ∙ ap (λ t. t.table.shared.table_id) at;
       one = all.0;
       me_is = ap (λ (z : Part). z.me) all.1 ∙ q.fits.me_is;
       peers = ap (λ (z : Part). z.peers) all.1 ∙ q.fits.peers_is ∙ ap (λ t. t.peers) at;
@@ -85,16 +88,17 @@ send_next-requires-clause-alone c = let q = c.args.self.now in let f = arc_value
 
 pub invariant_of-self-then-not-send_next : goal.invariant_of-self-then-not-send_next
 invariant_of-self-then-not-send_next c = let q = c.args.self.now in let f = arc_value q.fabric in let d : ℕ = c.args.dest in let m : Sat = q.seat.seat.me in let p : Part = part_at m.0 0 in let o : Out = out_at p d in let low : d < f.peers = c.requires.below in let inside : d < length p.outs = subst (λ (z : ℕ). d < z) (sym q.fits.all_outs) low in
-    let saw = c.look_got-got.ensures.view in let r : ℕ = c.look_got-got.result in let put = put_len _ _ _ _ _ _ _ _ _ _ _ _ q.fits d c.index-put.result.now low c.index-put.ensures in let wide : c.room-room.result ≡ p.room = c.room-room.ensures ∙ ap (λ t. t.room) c.deref-2.ensures ∙ sym q.fits.room_is in
+    let saw = c.hold_next-got.ensures.view in let r : ℕ = c.hold_next-got.result in let put = put_len _ _ _ _ _ _ _ _ _ _ _ _ q.fits d c.index-put.result.now low c.index-put.ensures in let wide : c.room-room.result ≡ p.room = c.room-room.ensures ∙ ap (λ t. t.room) c.deref-2.ensures ∙ sym q.fits.room_is in
     let mine = q.fits.each_put d low in let space : length o.posted < r + p.room = (let le = saw.0 in let t = c.if-put-got.false in omega arith) in
     let few : greatest 0 p.moves < most = (let t = c.if-self-ge-MOST.false in let e = q.fits.clock_is in omega arith) in let took = saw.3 space few in let o₁ : Out = saw_room o r in let v₁ : View = new_out_view m.0 0 d o₁ in
     let here = here_out m.0 d q.at.1 inside o₁ in let pools = ap (λ t. t.pool) c.deref-4.ensures in let got = c.send_next.ensures.full c.if-not-send_next.true in let o₂ : Out = tried_out o₁ got.0 got.1 false None in
     let tries : IsTried o f.pool got.0 got.1 = subst (λ (z : Out × ℕ). IsTried z.0 z.1 got.0 got.1) (λ i. ((ap (λ (z : Sat). out_at (part_at z.0 0) d) took.1 ∙ here) i, pools i)) got.3 in
     let all = out_all m _ d o₂ p.moves m.1 q.at.1 (got.4 ∙ (λ i. (new_out_view (took.1 i).0 0 d (tried_out (out_at (part_at (took.1 i).0 0) d) got.0 got.1 false None), rest (took.1 i).1)) ∙ (λ i. (new_out_view v₁ 0 d (tried_out (here i) got.0 got.1 false None), m.1)) ∙ (λ i. (view_over m.0 d q.at.1 inside o₁ o₂ i, m.1))) in
     record {
-      at = (c.send_next.ensures.seat.0 ∙ c.look_got-got.ensures.seat.0 ∙ q.at.0, all.0);
+      at = (c.send_next.ensures.seat.0 ∙ c.hold_next-got.ensures.seat.0 ∙ q.at.0, all.0);
       fits = subst (λ (z : Part × List (ℕ × Slot)). Fits q.me f.peers f.room f.pool q.clock q.turn q.puts.items q.gots.items q.opened.items q.lent.items z.0 (shapes z.1)) (λ i. (sym all.1 i, sym all.2 i)) (fits_saw _ _ _ _ _ _ _ _ _ _ _ _ q.fits d o₂ low refl refl refl (tried_length o f.pool got.0 got.1 tries ∙ mine.4));
       rounds = q.rounds;
+      sees = subst (Sees f.peers (set q.gots_seen.items d r)) (sym all.1) (sees_out _ _ p q.sees d r o₂ p.moves low q.fits.all_outs refl saw.0);
       told = subst (Told f.peers q.commands.items q.buffers.items) (sym all.1) (told_out _ _ _ p d o₂ p.moves q.told);
       ends = subst (λ (z : Part). Ends f.peers q.posted_ends.items q.taken_ends.items z) (sym all.1) (ends_out _ _ _ p d o₂ p.moves low inside refl q.ends);
       comes = subst (λ (z : Part). ∥ Comes z ∥₁) (sym all.1) (comes_out p d o₂ p.moves q.comes);
@@ -102,7 +106,7 @@ invariant_of-self-then-not-send_next c = let q = c.args.self.now in let f = arc_
 
 pub returns-then-not-send_next-clause-pool_full : goal.returns-then-not-send_next-clause-pool_full
 returns-then-not-send_next-clause-pool_full c = let q = c.args.self.now in let f = arc_value q.fabric in let d : ℕ = c.args.dest in let m : Sat = q.seat.seat.me in let p : Part = part_at m.0 0 in let o : Out = out_at p d in let low : d < f.peers = c.requires.below in let inside : d < length p.outs = subst (λ (z : ℕ). d < z) (sym q.fits.all_outs) low in
-    let saw = c.look_got-got.ensures.view in let r : ℕ = c.look_got-got.result in let put = put_len _ _ _ _ _ _ _ _ _ _ _ _ q.fits d c.index-put.result.now low c.index-put.ensures in let wide : c.room-room.result ≡ p.room = c.room-room.ensures ∙ ap (λ t. t.room) c.deref-2.ensures ∙ sym q.fits.room_is in
+    let saw = c.hold_next-got.ensures.view in let r : ℕ = c.hold_next-got.result in let put = put_len _ _ _ _ _ _ _ _ _ _ _ _ q.fits d c.index-put.result.now low c.index-put.ensures in let wide : c.room-room.result ≡ p.room = c.room-room.ensures ∙ ap (λ t. t.room) c.deref-2.ensures ∙ sym q.fits.room_is in
     let mine = q.fits.each_put d low in let space : length o.posted < r + p.room = (let le = saw.0 in let t = c.if-put-got.false in omega arith) in
     let few : greatest 0 p.moves < most = (let t = c.if-self-ge-MOST.false in let e = q.fits.clock_is in omega arith) in let took = saw.3 space few in let o₁ : Out = saw_room o r in let v₁ : View = new_out_view m.0 0 d o₁ in
     let here = here_out m.0 d q.at.1 inside o₁ in let pools = ap (λ t. t.pool) c.deref-4.ensures in let got = c.send_next.ensures.full c.if-not-send_next.true in let o₂ : Out = tried_out o₁ got.0 got.1 false None in
@@ -110,16 +114,28 @@ returns-then-not-send_next-clause-pool_full c = let q = c.args.self.now in let f
     let all = out_all m _ d o₂ p.moves m.1 q.at.1 (got.4 ∙ (λ i. (new_out_view (took.1 i).0 0 d (tried_out (out_at (part_at (took.1 i).0 0) d) got.0 got.1 false None), rest (took.1 i).1)) ∙ (λ i. (new_out_view v₁ 0 d (tried_out (here i) got.0 got.1 false None), m.1)) ∙ (λ i. (view_over m.0 d q.at.1 inside o₁ o₂ i, m.1))) in
     λ _. (r, got.0, got.1, subst (λ (z : ℕ). length o.posted < r + z) q.fits.room_is space, few, got.2, tries, all.1)
 
+pub returns-then-not-send_next-clause-unlooked : goal.returns-then-not-send_next-clause-unlooked
+returns-then-not-send_next-clause-unlooked c = let q = c.args.self.now in let f = arc_value q.fabric in let d : ℕ = c.args.dest in let m : Sat = q.seat.seat.me in let p : Part = part_at m.0 0 in let o : Out = out_at p d in let low : d < f.peers = c.requires.below in let inside : d < length p.outs = subst (λ (z : ℕ). d < z) (sym q.fits.all_outs) low in
+    let saw = c.hold_next-got.ensures.view in let r : ℕ = c.hold_next-got.result in let put = put_len _ _ _ _ _ _ _ _ _ _ _ _ q.fits d c.index-put.result.now low c.index-put.ensures in let wide : c.room-room.result ≡ p.room = c.room-room.ensures ∙ ap (λ t. t.room) c.deref-2.ensures ∙ sym q.fits.room_is in
+    let mine = q.fits.each_put d low in let space : length o.posted < r + p.room = (let le = saw.0 in let t = c.if-put-got.false in omega arith) in
+    let few : greatest 0 p.moves < most = (let t = c.if-self-ge-MOST.false in let e = q.fits.clock_is in omega arith) in let took = saw.3 space few in let o₁ : Out = saw_room o r in let v₁ : View = new_out_view m.0 0 d o₁ in
+    let here = here_out m.0 d q.at.1 inside o₁ in let pools = ap (λ t. t.pool) c.deref-4.ensures in let got = c.send_next.ensures.full c.if-not-send_next.true in let o₂ : Out = tried_out o₁ got.0 got.1 false None in
+    let tries : IsTried o f.pool got.0 got.1 = subst (λ (z : Out × ℕ). IsTried z.0 z.1 got.0 got.1) (λ i. ((ap (λ (z : Sat). out_at (part_at z.0 0) d) took.1 ∙ here) i, pools i)) got.3 in
+    let all = out_all m _ d o₂ p.moves m.1 q.at.1 (got.4 ∙ (λ i. (new_out_view (took.1 i).0 0 d (tried_out (out_at (part_at (took.1 i).0 0) d) got.0 got.1 false None), rest (took.1 i).1)) ∙ (λ i. (new_out_view v₁ 0 d (tried_out (here i) got.0 got.1 false None), m.1)) ∙ (λ i. (view_over m.0 d q.at.1 inside o₁ o₂ i, m.1))) in
+    let seen = seen_at _ _ p q.sees d c.index.result.now low c.index.ensures in
+    λ space₀ few₀. ap (λ (z : Part). (out_at z d).got_seen) all.1 ∙ ap (λ (z : Out). z.got_seen) (get_or-set_same p.outs d o₂ (new_out 0) inside)
+    ∙ c.hold_next-got.ensures.unlooked (subst (λ (z : ℕ × ℕ × ℕ). z.0 < z.1 + z.2) (λ i. (sym put i, sym seen i, ap (λ t. t.room) (sym c.deref.ensures) i)) space₀) (subst (λ (z : ℕ). z < most) (sym q.fits.clock_is) few₀) ∙ seen
+
 pub cell_after-requires : goal.cell_after-requires
 cell_after-requires c = let q = c.args.self.now in let f = arc_value q.fabric in let d : ℕ = c.args.dest in let m : Sat = q.seat.seat.me in let p : Part = part_at m.0 0 in let o : Out = out_at p d in let low : d < f.peers = c.requires.below in let inside : d < length p.outs = subst (λ (z : ℕ). d < z) (sym q.fits.all_outs) low in
-    let saw = c.look_got-got.ensures.view in let r : ℕ = c.look_got-got.result in let put = put_len _ _ _ _ _ _ _ _ _ _ _ _ q.fits d c.index-put.result.now low c.index-put.ensures in let wide : c.room-room.result ≡ p.room = c.room-room.ensures ∙ ap (λ t. t.room) c.deref-2.ensures ∙ sym q.fits.room_is in
+    let saw = c.hold_next-got.ensures.view in let r : ℕ = c.hold_next-got.result in let put = put_len _ _ _ _ _ _ _ _ _ _ _ _ q.fits d c.index-put.result.now low c.index-put.ensures in let wide : c.room-room.result ≡ p.room = c.room-room.ensures ∙ ap (λ t. t.room) c.deref-2.ensures ∙ sym q.fits.room_is in
     let mine = q.fits.each_put d low in
     let rooms : c.room-room.result ≡ f.room = c.room-room.ensures ∙ ap (λ t. t.room) c.deref-2.ensures in let cell : c.index-cell.result.now ≡ c.index-put.result.now % f.room = put_cell _ _ _ _ _ _ q.rounds d c.index-put.result.now c.index-cell.result.now low (put ∙ sym mine.0) c.index-cell.ensures in
     subst (λ (z : ℕ). z < c.room-room.result) (sym (cell ∙ (λ i. c.index-put.result.now % sym rooms i))) (mod-lt c.index-put.result.now (subst (λ (z : ℕ). 0 < z) (sym rooms) f.sized.3))
 
 pub invariant_of-self-2 : goal.invariant_of-self-2
 invariant_of-self-2 c = let q = c.args.self.now in let f = arc_value q.fabric in let d : ℕ = c.args.dest in let m : Sat = q.seat.seat.me in let p : Part = part_at m.0 0 in let o : Out = out_at p d in let low : d < f.peers = c.requires.below in let inside : d < length p.outs = subst (λ (z : ℕ). d < z) (sym q.fits.all_outs) low in
-    let saw = c.look_got-got.ensures.view in let r : ℕ = c.look_got-got.result in let put = put_len _ _ _ _ _ _ _ _ _ _ _ _ q.fits d c.index-put.result.now low c.index-put.ensures in let wide : c.room-room.result ≡ p.room = c.room-room.ensures ∙ ap (λ t. t.room) c.deref-2.ensures ∙ sym q.fits.room_is in
+    let saw = c.hold_next-got.ensures.view in let r : ℕ = c.hold_next-got.result in let put = put_len _ _ _ _ _ _ _ _ _ _ _ _ q.fits d c.index-put.result.now low c.index-put.ensures in let wide : c.room-room.result ≡ p.room = c.room-room.ensures ∙ ap (λ t. t.room) c.deref-2.ensures ∙ sym q.fits.room_is in
     let mine = q.fits.each_put d low in let space : length o.posted < r + p.room = (let le = saw.0 in let t = c.if-put-got.false in omega arith) in
     let few : greatest 0 p.moves < most = (let t = c.if-self-ge-MOST.false in let e = q.fits.clock_is in omega arith) in let took = saw.3 space few in let o₁ : Out = saw_room o r in let v₁ : View = new_out_view m.0 0 d o₁ in
     let here = here_out m.0 d q.at.1 inside o₁ in let pools = ap (λ t. t.pool) c.deref-4.ensures in let got = c.send_next.ensures.sent c.if-not-send_next.false in let n : ℕ = q.clock + 1 in let x : Sent = sent_as c.args.head c.args.bytes.now n got.0 in let o₂ : Out = tried_out o₁ got.1 got.2 true None in let ms : List Move = p.moves ++ Post d n ∷ [] in
@@ -128,9 +144,10 @@ invariant_of-self-2 c = let q = c.args.self.now in let f = arc_value q.fabric in
     ∙ (λ i. (with_part v₁ 0 (with_out (part_at v₁ 0) d (posted_one (tried_out (here i) got.1 got.2 true None) x) ((part_at v₁ 0).moves ++ Post d n ∷ [])), m.1)) ∙ (λ i. (sent_over m.0 d q.at.1 inside o₁ (posted_one o₂ x) n i, m.1))) in
     let rooms : c.room-room.result ≡ f.room = c.room-room.ensures ∙ ap (λ t. t.room) c.deref-2.ensures in let cell : c.index-cell.result.now ≡ c.index-put.result.now % f.room = put_cell _ _ _ _ _ _ q.rounds d c.index-put.result.now c.index-cell.result.now low (put ∙ sym mine.0) c.index-cell.ensures in
     record {
-      at = (c.send_next.ensures.seat.0 ∙ c.look_got-got.ensures.seat.0 ∙ q.at.0, all.0);
+      at = (c.send_next.ensures.seat.0 ∙ c.hold_next-got.ensures.seat.0 ∙ q.at.0, all.0);
       fits = subst (λ (z : Part × List (ℕ × Slot)). Fits q.me f.peers f.room f.pool (q.clock + 1) q.turn (set q.puts.items d (c.index-put.result.now + 1)) q.gots.items q.opened.items q.lent.items z.0 (shapes z.1)) (λ i. (sym all.1 i, sym all.2 i)) (fits_post _ _ _ _ _ _ _ _ _ _ _ _ q.fits d (c.index-put.result.now + 1) o₂ x low (ap (λ (z : ℕ). z + 1) (put ∙ sym mine.0)) refl refl (sent_length o f.pool got.0 got.1 got.2 is ∙ mine.4));
       rounds = rounds_put _ _ _ _ _ _ q.rounds d (c.index-put.result.now + 1) c.cell_after.result low (subst (λ (z : ℕ). d < z) (sym q.fits.all_puts) low) (c.cell_after.ensures c.index-put.result.now (cell ∙ (λ i. c.index-put.result.now % sym rooms i)) ∙ (λ i. (c.index-put.result.now + 1) % rooms i));
+      sees = subst (Sees f.peers (set q.gots_seen.items d r)) (sym all.1) (sees_out _ _ p q.sees d r (posted_one o₂ x) ms low q.fits.all_outs refl (let le : r ≤ length o.posted = saw.0 in let long = length-append o.posted (x ∷ []) in omega arith));
       told = subst (Told f.peers q.commands.items q.buffers.items) (sym all.1) (told_out _ _ _ p d (posted_one o₂ x) ms q.told);
       ends = subst (λ (z : Part). Ends f.peers (set q.posted_ends.items d (Some c.args.head)) q.taken_ends.items z) (sym all.1) (ends_post _ _ _ p d (posted_one o₂ x) x ms low inside refl q.ends);
       comes = subst (λ (z : Part). ∥ Comes z ∥₁) (sym all.1) (comes_out p d (posted_one o₂ x) ms q.comes);
@@ -138,7 +155,7 @@ invariant_of-self-2 c = let q = c.args.self.now in let f = arc_value q.fabric in
 
 pub returns-clause-sent : goal.returns-clause-sent
 returns-clause-sent c = let q = c.args.self.now in let f = arc_value q.fabric in let d : ℕ = c.args.dest in let m : Sat = q.seat.seat.me in let p : Part = part_at m.0 0 in let o : Out = out_at p d in let low : d < f.peers = c.requires.below in let inside : d < length p.outs = subst (λ (z : ℕ). d < z) (sym q.fits.all_outs) low in
-    let saw = c.look_got-got.ensures.view in let r : ℕ = c.look_got-got.result in let put = put_len _ _ _ _ _ _ _ _ _ _ _ _ q.fits d c.index-put.result.now low c.index-put.ensures in let wide : c.room-room.result ≡ p.room = c.room-room.ensures ∙ ap (λ t. t.room) c.deref-2.ensures ∙ sym q.fits.room_is in
+    let saw = c.hold_next-got.ensures.view in let r : ℕ = c.hold_next-got.result in let put = put_len _ _ _ _ _ _ _ _ _ _ _ _ q.fits d c.index-put.result.now low c.index-put.ensures in let wide : c.room-room.result ≡ p.room = c.room-room.ensures ∙ ap (λ t. t.room) c.deref-2.ensures ∙ sym q.fits.room_is in
     let mine = q.fits.each_put d low in let space : length o.posted < r + p.room = (let le = saw.0 in let t = c.if-put-got.false in omega arith) in
     let few : greatest 0 p.moves < most = (let t = c.if-self-ge-MOST.false in let e = q.fits.clock_is in omega arith) in let took = saw.3 space few in let o₁ : Out = saw_room o r in let v₁ : View = new_out_view m.0 0 d o₁ in
     let here = here_out m.0 d q.at.1 inside o₁ in let pools = ap (λ t. t.pool) c.deref-4.ensures in let got = c.send_next.ensures.sent c.if-not-send_next.false in let n : ℕ = q.clock + 1 in let x : Sent = sent_as c.args.head c.args.bytes.now n got.0 in let o₂ : Out = tried_out o₁ got.1 got.2 true None in let ms : List Move = p.moves ++ Post d n ∷ [] in
@@ -146,3 +163,16 @@ returns-clause-sent c = let q = c.args.self.now in let f = arc_value q.fabric in
     let all = out_all m _ d (posted_one o₂ x) ms m.1 q.at.1 (got.4 ∙ (λ i. (with_part (took.1 i).0 0 (with_out (part_at (took.1 i).0 0) d (posted_one (tried_out (out_at (part_at (took.1 i).0 0) d) got.1 got.2 true None) x) ((part_at (took.1 i).0 0).moves ++ Post d n ∷ [])), rest (took.1 i).1))
     ∙ (λ i. (with_part v₁ 0 (with_out (part_at v₁ 0) d (posted_one (tried_out (here i) got.1 got.2 true None) x) ((part_at v₁ 0).moves ++ Post d n ∷ [])), m.1)) ∙ (λ i. (sent_over m.0 d q.at.1 inside o₁ (posted_one o₂ x) n i, m.1))) in
     (r, got.0, got.1, got.2, subst (λ (z : ℕ). length o.posted < r + z) q.fits.room_is space, few, is, all.1 ∙ (λ i. with_out p d (posted_one o₂ (sent_as c.args.head c.args.bytes.now (q.fits.clock_is i + 1) got.0)) (p.moves ++ Post d (q.fits.clock_is i + 1) ∷ [])))
+
+pub returns-clause-unlooked : goal.returns-clause-unlooked
+returns-clause-unlooked c = let q = c.args.self.now in let f = arc_value q.fabric in let d : ℕ = c.args.dest in let m : Sat = q.seat.seat.me in let p : Part = part_at m.0 0 in let o : Out = out_at p d in let low : d < f.peers = c.requires.below in let inside : d < length p.outs = subst (λ (z : ℕ). d < z) (sym q.fits.all_outs) low in
+    let saw = c.hold_next-got.ensures.view in let r : ℕ = c.hold_next-got.result in let put = put_len _ _ _ _ _ _ _ _ _ _ _ _ q.fits d c.index-put.result.now low c.index-put.ensures in let wide : c.room-room.result ≡ p.room = c.room-room.ensures ∙ ap (λ t. t.room) c.deref-2.ensures ∙ sym q.fits.room_is in
+    let mine = q.fits.each_put d low in let space : length o.posted < r + p.room = (let le = saw.0 in let t = c.if-put-got.false in omega arith) in
+    let few : greatest 0 p.moves < most = (let t = c.if-self-ge-MOST.false in let e = q.fits.clock_is in omega arith) in let took = saw.3 space few in let o₁ : Out = saw_room o r in let v₁ : View = new_out_view m.0 0 d o₁ in
+    let here = here_out m.0 d q.at.1 inside o₁ in let pools = ap (λ t. t.pool) c.deref-4.ensures in let got = c.send_next.ensures.sent c.if-not-send_next.false in let n : ℕ = q.clock + 1 in let x : Sent = sent_as c.args.head c.args.bytes.now n got.0 in let o₂ : Out = tried_out o₁ got.1 got.2 true None in let ms : List Move = p.moves ++ Post d n ∷ [] in
+    let is : IsSent o f.pool got.0 got.1 got.2 = subst (λ (z : Out × ℕ). IsSent z.0 z.1 got.0 got.1 got.2) (λ i. ((ap (λ (z : Sat). out_at (part_at z.0 0) d) took.1 ∙ here) i, pools i)) got.3 in
+    let all = out_all m _ d (posted_one o₂ x) ms m.1 q.at.1 (got.4 ∙ (λ i. (with_part (took.1 i).0 0 (with_out (part_at (took.1 i).0 0) d (posted_one (tried_out (out_at (part_at (took.1 i).0 0) d) got.1 got.2 true None) x) ((part_at (took.1 i).0 0).moves ++ Post d n ∷ [])), rest (took.1 i).1))
+    ∙ (λ i. (with_part v₁ 0 (with_out (part_at v₁ 0) d (posted_one (tried_out (here i) got.1 got.2 true None) x) ((part_at v₁ 0).moves ++ Post d n ∷ [])), m.1)) ∙ (λ i. (sent_over m.0 d q.at.1 inside o₁ (posted_one o₂ x) n i, m.1))) in
+    let seen = seen_at _ _ p q.sees d c.index.result.now low c.index.ensures in
+    λ space₀ few₀. ap (λ (z : Part). (out_at z d).got_seen) all.1 ∙ ap (λ (z : Out). z.got_seen) (get_or-set_same p.outs d (posted_one o₂ x) (new_out 0) inside)
+    ∙ c.hold_next-got.ensures.unlooked (subst (λ (z : ℕ × ℕ × ℕ). z.0 < z.1 + z.2) (λ i. (sym put i, sym seen i, ap (λ t. t.room) (sym c.deref.ensures) i)) space₀) (subst (λ (z : ℕ). z < most) (sym q.fits.clock_is) few₀) ∙ seen

@@ -13,7 +13,7 @@ use Rattle.fab_table.specs.declared.kinds.In.{In}
 use Rattle.fab_table.specs.declared.kinds.Part.{Part}
 use Rattle.fab_table.specs.Views.{part_at, in_at, with_in, freed_one, taken_one, new_in}
 use Rattle.fab_table.specs.Plays.{Sat, oldest_of}
-use Rattle.fab_ring.specs.Hands.{shapes, held, Fits, Told, Ends, Comes}
+use Rattle.fab_ring.specs.Hands.{shapes, held, Fits, Sees, Told, Ends, Comes}
 use Rattle.fab_ring.proofs.Hold.{behind, cell_first, fits_first, fits_take, got_len}
 use Rattle.fab_ring.proofs.Ends.{in_over, in_all}
 use Rattle.fab_ring.proofs.Told.{told_in, comes_in, opened_is}
@@ -21,6 +21,7 @@ use Rattle.fab_ring.proofs.Lasts.{ends_take}
 use Rattle.fab_ring.proofs.Rounds.{got_cell, rounds_got}
 use Rattle.std.proofs.Math.Nat.{mod-lt}
 use Rattle.fab_ring.proofs.Facts.{comes_now}
+use Rattle.fab_ring.proofs.Seeing.{sees_in}
 use Rattle.fab_ring.proofs.port.RingPort.take.Goals as goal
 
 pub give_back-requires-clause-opened : goal.give_back-requires-clause-opened
@@ -91,6 +92,7 @@ invariant_of-self c = let q = c.seek.new.self in let P = c.args.self.now in let 
           (subst (Fits q.me f.peers f.room f.pool c.max-self.result q.turn q.puts.items (set q.gots.items s (c.index-got.result.now + 1)) (set q.opened.items s false) q.lent.items (with_in p s u' ms)) (sym shaped)
           (fits_take _ _ _ _ _ _ _ _ _ _ _ _ q.fits s (c.index-got.result.now + 1) c.max-self.result x near c.seek.ensures.turn held_is given (ap (λ (z : ℕ). z + 1) (got ∙ sym (q.fits.each_got s near).0)) (c.max-self.ensures ∙ ap (max q.clock) says.0)));
       rounds = rounds_got _ _ _ _ _ _ q.rounds s (c.index-got.result.now + 1) c.cell_after.result near (subst (λ (z : ℕ). s < z) (sym q.fits.all_gots) near) (c.cell_after.ensures c.index-got.result.now (cell ∙ (λ i. c.index-got.result.now % sym rooms i)) ∙ (λ i. (c.index-got.result.now + 1) % rooms i));
+      sees = subst (Sees f.peers q.gots_seen.items) (sym all.1) (sees_in _ _ p q.sees s u' ms);
       told = subst (Told f.peers q.commands.items q.buffers.items) (sym all.1) (told_in _ _ _ p s u' ms inside (λ y e. absurd (none-some y e)) q.told);
       ends = subst (λ (z : Part). Ends f.peers q.posted_ends.items (set q.taken_ends.items s c.overwrite.new.end) z) (sym all.1) (subst (λ (h : Option FrameHead). Ends f.peers q.posted_ends.items (set q.taken_ends.items s h) (with_in p s u' ms)) (sym c.overwrite.ensures) (ends_take _ _ _ p s u' x c.index-2.result.now.head ms near inside refl said.2 q.ends));
       comes = subst (λ (z : Part). ∥ Comes z ∥₁) (sym all.1) ∣ comes_in p s u' ms inside (λ y e. absurd (none-some y e)) (comes_now p q.comes) ∣₁;

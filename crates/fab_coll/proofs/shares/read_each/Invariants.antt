@@ -1,0 +1,7 @@
+use Rattle.std.proofs.Common.{length, ◌+◌, ◌≡◌}
+use Rattle.fab_coll.specs.Grammar.{read_all}
+use Rattle.fab_coll.proofs.Joining.{joined}
+use Rattle.fab_coll.proofs.shares.read_each.Given as goal
+
+abbrev pub invariant-loop : goal.invariant-loop
+invariant-loop l = (length l.fn.words ≡ l.counter + length l.words) × (read_all l.written l.fn.words ≡ joined l.shares (read_all l.written l.words))

@@ -1,0 +1,162 @@
+//! The shares of a round, as a file names them.
+ghost use Rattle.std.specs.Prelude.{◌≡◌, ◌≤◌, ◌++◌, [], ◌∷◌, length, map, sum_by, true, IfOk};
+ghost use Rattle.hex.specs.Hex.{decode_of};
+ghost use Rattle.fab_model.specs.Calls.{word_bytes};
+ghost use Rattle.fab_words.specs.Bytes.{bytes_size};
+ghost use Rattle.fab_words.specs.Faults.{map_ok, ◌&◌};
+ghost use Rattle.fab_coll.specs.Grammar.{are_alike, are_short, first_size, of_hex, read_as, read_each, read_share};
+ghost use Rattle.fab_coll.specs.Reading.{one_behind};
+
+use fab_base::{Buf, BytesWord, List, NoMemory, Num};
+use fab_grammar::read_elements;
+use fab_words::{Fault, Read, Words, both, bytes_size, read_number};
+use hex::FromHexError;
+use std::alloc::Global;
+
+/// The most bytes of a share.
+const SHARE_MAX: u64 = 4096;
+
+/// How the shares of a round are written.
+#[derive(Clone, Copy, Drop)]
+pub(crate) enum Written {
+    /// `text:`, `hex:` or `zero:N`.
+    Bytes,
+    /// Numbers, joined by commas.
+    Elements { num: Num },
+}
+
+/// `text:`, `hex:` or `zero:N`, of any length.
+#[tactic(auto, unfolding(crate::specs::Grammar::read_share))]
+pub(crate) fn read_share(alloc: Global, word: &[u8]) -> Result<Read<BytesWord>, NoMemory>
+    ensures { IfOk result (λ read. read ≡ read_share word.now) }
+{
+    if let Some(bytes) = word.strip_prefix(b"text:") {
+        Ok(Ok(BytesWord::Text(Buf::copy(alloc, bytes)?)))
+    } else if let Some(digits) = word.strip_prefix(b"hex:") {
+        read_hex(alloc, digits)
+    } else if let Some(len) = word.strip_prefix(b"zero:") {
+        Ok(read_number(len).map(BytesWord::Zero))
+    } else {
+        Ok(Err(Fault::Words))
+    }
+}
+
+/// Two hexadecimal digits a byte.
+fn read_hex(alloc: Global, digits: &[u8]) -> Result<Read<BytesWord>, NoMemory>
+    ensures { IfOk result (λ read. read ≡ of_hex (decode_of digits.now)) }
+{
+    match hex::decode(alloc, digits) {
+        Ok(bytes) => Ok(Ok(BytesWord::Hex(Buf::from_vec(bytes)))),
+        Err(FromHexError::OutOfMemory) => Err(NoMemory),
+        Err(_) => Ok(Err(Fault::Words)),
+    }
+}
+
+/// One share.
+fn read_as(alloc: Global, written: Written, word: &[u8]) -> Result<Read<BytesWord>, NoMemory>
+    ensures { IfOk result (λ read. read ≡ read_as written word.now) }
+{
+    match written {
+        Written::Bytes => read_share(alloc, word),
+        Written::Elements { num } => Ok(read_elements(alloc, num, word)?.map(BytesWord::Hex)),
+    }
+}
+
+/// These shares and one more.
+fn with_one(
+    shares: Read<List<BytesWord>>,
+    share: Read<BytesWord>,
+) -> Result<Read<List<BytesWord>>, NoMemory>
+    ensures { IfOk result (λ read. read ≡ map_ok one_behind (shares & share)) }
+{
+    match both(shares, share) {
+        Ok((mut shares, share)) => {
+            shares.push(share)?;
+            Ok(Ok(shares))
+        }
+        Err(fault) => Ok(Err(fault)),
+    }
+}
+
+/// One share for each rank.
+pub(crate) fn read_each(
+    alloc: Global,
+    peers: u32,
+    written: Written,
+    words: &mut Words,
+) -> Result<Read<List<BytesWord>>, NoMemory>
+    ensures { IfOk result (λ read. read ≡ read_each peers written words.old) }
+{
+    let mut shares = Ok(List::empty(alloc));
+    for _ in 0..peers {
+        let Some(word) = words.next() else {
+            return Ok(Err(Fault::Words));
+        };
+        let share = read_as(alloc, written, word)?;
+        shares = with_one(shares, share)?;
+    }
+    if words.is_empty() {
+        Ok(shares)
+    } else {
+        Ok(Err(Fault::Words))
+    }
+}
+
+fn first_size(shares: &[BytesWord]) -> u64
+    ensures { result ≡ first_size shares.now }
+{
+    match shares.get(0) {
+        Some(share) => bytes_size(share),
+        None => 0,
+    }
+}
+
+/// Whether all are as long as the first.
+pub(crate) fn are_alike(shares: &[BytesWord]) -> bool
+    ensures { result ≡ are_alike shares.now }
+{
+    let size = first_size(shares);
+    shares.iter().all(|share| bytes_size(share) == size)
+}
+
+/// Whether none is too long.
+pub(crate) fn are_short(shares: &[BytesWord]) -> bool
+    ensures { result ≡ are_short shares.now }
+{
+    shares.iter().all(|share| bytes_size(share) <= SHARE_MAX)
+}
+
+/// How many bytes they have together.
+pub(crate) fn size_of(shares: &[BytesWord]) -> u64
+    requires few { length shares.now ≤ 32 }
+    requires short { are_short shares.now ≡ true }
+    ensures value { result ≡ sum_by bytes_size shares.now }
+    ensures most { result ≤ 131_072 }
+{
+    let mut size = 0;
+    for share in shares {
+        size += bytes_size(share);
+    }
+    size
+}
+
+fn word_bytes(alloc: Global, word: BytesWord) -> Result<Buf, NoMemory>
+    ensures { IfOk result (λ bytes. bytes ≡ word_bytes word) }
+{
+    match word {
+        BytesWord::Text(bytes) | BytesWord::Hex(bytes) => Ok(bytes),
+        BytesWord::Zero(len) => Buf::zeros(alloc, len),
+        BytesWord::File { .. } => Ok(Buf::empty(alloc)),
+    }
+}
+
+/// The bytes of each.
+pub(crate) fn all_bytes(alloc: Global, shares: List<BytesWord>) -> Result<List<Buf>, NoMemory>
+    ensures { IfOk result (λ all. all ≡ map word_bytes shares) }
+{
+    let mut all = Vec::new(alloc);
+    for share in shares.into_vec() {
+        all.push(word_bytes(alloc, share)?)?;
+    }
+    Ok(List::from_vec(all))
+}
