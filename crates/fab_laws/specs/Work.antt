@@ -62,11 +62,12 @@ halves (h ∷ heads) (t ∷ tails) = (h - t) + halves heads tails
 
 -- ---- one peer
 
--- a transmission has an entry; a member of `unexpected` or `claimed` goes to a receive, with two entries and a reply; a posted receive may be cancelled
+-- a transmission has an entry; a member of `unexpected` or `claimed` goes to a receive, with two entries and a reply; a posted receive may be cancelled;
+-- what a fence holds back goes out, is transmitted and arrives
 abbrev pub own_work : State → ℕ
 own_work s =
     2 * waiting s.tx.accepted s.tx.sent + halves s.rx.heads s.rx.tails + heft coming_work s.rx.coming + 9 * (length s.rx.unexpected + length s.rx.claimed)
-    + (length s.cq.written - s.cq.taken_out) + 2 * length s.rx.posted
+    + (length s.cq.written - s.cq.taken_out) + 2 * length s.rx.posted + 20 * heft length s.tx.held
 
 -- of what was accepted for the first n receivers, at which so many have arrived
 unfoldable pub on_way : ℕ → (ℕ → ℕ) → List (List Item) → ℕ

@@ -24,17 +24,19 @@ use Rattle.fab_base.specs.declared.entries.PeekHow.{PeekHow}
 use Rattle.fab_base.specs.declared.entries.PeekHow.TheVariants.{Peek, Claim, Discard}
 use Rattle.fab_base.specs.declared.operations.Receive.{Receive}
 use Rattle.fab_base.specs.declared.operations.Arrival.{Arrival}
+use Rattle.fab_base.specs.declared.operations.Held.{Held}
 use Rattle.fab_base.specs.declared.operations.Operation.{Operation}
 use Rattle.fab_base.specs.declared.operations.Coming.{Coming}
 use Rattle.fab_base.specs.declared.operations.Coming.TheVariants.{Into, Keep, Throw, Request, Answer}
 use Rattle.fab_model.specs.Matching.{change_first, is_message, remove_first, takes}
-use Rattle.fab_model.specs.State.{State, Receiving, Transmitting, Completions, called, coming_from, count, lookup, under_way, with_rx, with_tx, write}
+use Rattle.fab_model.specs.State.{State, Receiving, Transmitting, Completions, called, coming_from, count, held_for, lookup, under_way, with_rx, with_tx, write}
 use Rattle.fab_model.specs.Complete.{at_delivery, at_either, at_match, book, entry_of, error, fill, fill_multi, filled, is_made_by, let_go, release, release_multi, reply, reply_head}
-use Rattle.fab_model.specs.Sending.{Order, accepting, answering, class_of, do_answer, do_sent, end_with, ending, head_of, is_answered_by, is_of_item, item_of, operation_of, refusal_of, success_of, transmit, transmit_to, transmitting}
+use Rattle.fab_model.specs.Sending.{Order, accepting, answering, class_of, do_answer, do_sent, end_with, ending, going_on, held_back, is_answered_by, is_busy, items_of, let_out, letting_out, operation_of, refusal_of, success_of, transmit, transmit_to, transmitting}
 use Rattle.fab_model.specs.Receiving.{Posting, cancel, cancellable, claim_of, draw_due, draws, drop_arrival, drop_claimed, give, goes, joining_posted, look, look_at, may_leave, peeked, post, receive_of, take_claimed, taken_by, taking, want_of, without_claim, without_first, without_posted}
 use Rattle.fab_model.specs.Target.{perform}
-use Rattle.fab_model.specs.Arrivals.{completed, do_draw, do_head, do_request, do_tail, heading_message, heading_other, is_wanted, keeping, made_whole, remote_data, seated, seating, shut, stays, tail_to, taker, used_up, way_of, with_regions}
+use Rattle.fab_model.specs.Arrivals.{completed, do_draw, do_head, do_request, do_tail, heading_message, heading_other, is_wanted, keeping, made_whole, remote_class, remote_data, remote_event, seated, seating, shut, stays, tail_to, taker, used_up, way_of, with_regions}
 use Rattle.fab_model.specs.Calls.{Call, Transmit, Post, Look, TakeClaimed, DropClaimed, Cancel, CancelFirst, Insert, Remove, Reg, Close, Put, Show, Count, answer, close, do_call, insert, put, reg, remove}
+use Rattle.fab_model.proofs.Fences.{out_and_back}
 use Rattle.fab_laws.specs.Work.{coming_work, halves, heft, item_work, kind_work, on_way, own_work, waiting}
 use Rattle.fab_laws.proofs.Counts.{any_many, not_found}
 use Rattle.fab_laws.proofs.Lists.{found_in}
@@ -66,6 +68,38 @@ adds_then v w s t u a b = record {
   most = λ n at. (let m = a.most n at in let k = b.most n at in omega (arith, m, k));
 }
 
+-- ---- what a fence held back goes out
+
+kind_most : (k : Kind) → kind_work k ≤ 18
+kind_most Msg = omega arith
+kind_most TagMsg = omega arith
+kind_most WriteReq = omega arith
+kind_most ReadReq = omega arith
+kind_most AtomicReq = omega arith
+kind_most Reply = omega arith
+
+items_most : (held : List Held) → heft item_work (items_of held) ≤ 18 * length held
+items_most [] = omega arith
+items_most (o ∷ held) = let ih = items_most held in omega (arith, ih, kind_most o.item.head.kind)
+
+-- where these operations stand in place of those held for t: so many more
+letting_adds : (w t : ℕ) (held : List Held) (tx : Transmitting) (s : State) → 20 * length held ≤ 20 * length (held_for tx t) + w → Adds w (with_tx tx s) (with_tx (letting_out t held tx) s)
+unfolding letting_out
+letting_adds w t held tx s le =
+    let out : List Held = let_out (is_busy tx t) held in
+    let back : List Held = held_back (is_busy tx t) held in
+    record {
+      heads = refl;
+      tails = refl;
+      sent = refl;
+      count = length-set tx.accepted t (get_or tx.accepted t [] ++ items_of out);
+      most = λ n at. (let parts = ap length (out_and_back (is_busy tx t) held) in
+          omega (arith, le, parts, length-append out back, length-map out (λ (o : Held). o.item), items_most out, waiting_join tx.accepted tx.sent t (items_of out), on_way_join n at tx.accepted t (items_of out), heft_put {X = List Held} length tx.held t back []));
+    }
+
+going_adds : (t : ℕ) (s : State) → Adds 0 s (with_tx (going_on t s.tx) s)
+going_adds t s = letting_adds 0 t (held_for s.tx t) s.tx s (omega arith)
+
 -- ---- entries and replies
 
 pub write_adds : (call : Option ℕ) (entry : Taken) (s : State) → Adds 1 s (write call entry s)
@@ -83,7 +117,7 @@ reply_adds source op outcome bytes s =
       tails = refl;
       sent = refl;
       count = length-set s.tx.accepted source (get_or s.tx.accepted source [] ++ x ∷ []);
-      most = λ n at. omega (arith, waiting_join s.tx.accepted s.tx.sent source x, on_way_join n at s.tx.accepted source x);
+      most = λ n at. omega (arith, waiting_join s.tx.accepted s.tx.sent source (x ∷ []), on_way_join n at s.tx.accepted source (x ∷ []));
     }
 
 pub book_adds : (b : Bool) (source : ℕ) (head : ItemHead) (s : State) → Adds 5 s (book b source head s)
@@ -226,6 +260,14 @@ data_adds Done source head s = kind head.kind
     kind k = none
 data_adds outcome source head s = adds_less 0 1 s s (omega arith) (adds_none s)
 
+event_adds : (outcome : Outcome) (head : ItemHead) (s : State) → Adds 0 s (remote_event outcome head s)
+event_adds Done head s = go s.caps.rma_event
+  where
+    go : (b : Bool) → Adds 0 s (let u : State = elim b [ true ↦ count (remote_class head) true s | false ↦ s ] in u)
+    go true = counted_adds (remote_class head) true s
+    go false = adds_none s
+event_adds outcome head s = adds_none s
+
 request_adds : (s : State) (source : ℕ) (head : ItemHead) (bytes : List ℕ) → Adds 6 s (do_request s source head bytes)
 unfolding do_request
 request_adds s source head bytes =
@@ -233,18 +275,26 @@ request_adds s source head bytes =
     let m : State = with_regions p.regions s in
     let r : State = reply source head.op p.outcome p.bytes m in
     let same : Adds 0 s m = record { heads = refl; tails = refl; sent = refl; count = refl; most = λ n at. omega arith } in
-    adds_then 5 1 s r (remote_data p.outcome source head r) (adds_then 0 5 s m r same (reply_adds source head.op p.outcome p.bytes m)) (data_adds p.outcome source head r)
+    let e : State = remote_event p.outcome head r in
+    let told : Adds 0 r e = event_adds p.outcome head r in
+    adds_then 5 1 s e (remote_data p.outcome source head e) (adds_then 5 0 s r e (adds_then 0 5 s m r same (reply_adds source head.op p.outcome p.bytes m)) told) (data_adds p.outcome source head e)
 
 answer_adds : (s : State) (source : ℕ) (head : ItemHead) (bytes : List ℕ) → Adds 1 s (do_answer s source head bytes)
 unfolding do_answer answering
 answer_adds s source head bytes = go (find (is_answered_by s.tx source head) s.tx.live)
   where
-    go : (o : Option Operation) → Adds 1 s (let u : State = elim o [ None ↦ s | Some o ↦ end_with head.outcome bytes o (with_tx (answering source head s.tx) s) ] in u)
+    m : State
+    m = with_tx (answering source head s.tx) s
+
+    u : State
+    u = with_tx (going_on source m.tx) s
+
+    same : Adds 0 s m
+    same = record { heads = refl; tails = refl; sent = refl; count = refl; most = λ n at. omega arith }
+
+    go : (o : Option Operation) → Adds 1 s (let v : State = elim o [ None ↦ s | Some o ↦ end_with head.outcome bytes o u ] in v)
     go None = adds_less 0 1 s s (omega arith) (adds_none s)
-    go (Some o) =
-        let m : State = with_tx (answering source head s.tx) s in
-        let same : Adds 0 s m = record { heads = refl; tails = refl; sent = refl; count = refl; most = λ n at. omega arith } in
-        adds_then 0 1 s m (end_with head.outcome bytes o m) same (end_adds head.outcome bytes o m)
+    go (Some o) = adds_then 0 1 s u (end_with head.outcome bytes o u) (adds_then 0 0 s m u same (going_adds source m)) (end_adds head.outcome bytes o u)
 
 kept_adds : (source : ℕ) (bytes : List ℕ) (s : State) → Adds 0 s (with_rx (keeping source bytes s.rx) s)
 unfolding keeping
@@ -289,17 +339,24 @@ tail_falls s source head bytes odd lt =
 
 pub sent_falls : (s : State) (t : ℕ) → slice_index s.tx.sent t < length (get_or s.tx.accepted t []) → t < length s.tx.sent → Falls s (do_sent s t)
 unfolding do_sent transmitting
-sent_falls s t less lt =
-    let m : State = with_tx (transmitting t s.tx) s in
-    let long = length-set s.tx.sent t (slice_index s.tx.sent t + 1) in
-    let one = waiting_sent s.tx.accepted s.tx.sent t lt less in
-    go m refl long one (ending t s.tx)
+sent_falls s t less lt = go (ending t s.tx)
   where
-    go : (m : State) → m ≡ with_tx (transmitting t s.tx) s → length (set s.tx.sent t (slice_index s.tx.sent t + 1)) ≡ length s.tx.sent → waiting s.tx.accepted (set s.tx.sent t (slice_index s.tx.sent t + 1)) + 1 ≡ waiting s.tx.accepted s.tx.sent
-        → (o : Option Operation) → Falls s (let u : State = elim o [ None ↦ with_tx (transmitting t s.tx) s | Some o ↦ end_with Done [] o (with_tx (transmitting t s.tx) s) ] in u)
-    go m is long one None = record { heads = refl; tails = refl; sent = long; count = refl; less = λ n at. omega (arith, one) }
-    go m is long one (Some o) =
-        let a = end_adds Done [] o (with_tx (transmitting t s.tx) s) in
+    m : State
+    m = with_tx (transmitting t s.tx) s
+
+    u : State
+    u = with_tx (going_on t m.tx) s
+
+    long : length (set s.tx.sent t (slice_index s.tx.sent t + 1)) ≡ length s.tx.sent
+    long = length-set s.tx.sent t (slice_index s.tx.sent t + 1)
+
+    one : waiting s.tx.accepted (set s.tx.sent t (slice_index s.tx.sent t + 1)) + 1 ≡ waiting s.tx.accepted s.tx.sent
+    one = waiting_sent s.tx.accepted s.tx.sent t lt less
+
+    go : (o : Option Operation) → Falls s (let v : State = elim o [ None ↦ m | Some o ↦ end_with Done [] o u ] in v)
+    go None = record { heads = refl; tails = refl; sent = long; count = refl; less = λ n at. omega (arith, one) }
+    go (Some o) =
+        let a = adds_then 0 1 m u (end_with Done [] o u) (going_adds t m) (end_adds Done [] o u) in
         record { heads = a.heads; tails = ap length a.tails; sent = ap length a.sent ∙ long; count = a.count; less = λ n at. (let k = a.most n at in omega (arith, one, k)) }
 
 -- ---- draws
@@ -358,7 +415,7 @@ head_arrives s source head level lt = go head.kind
             + heft coming_work (set s.rx.coming source (Some (elim o [ None ↦ Keep | Some r ↦ Into r r.used ])))
             + 9 * (length (let xs : List Arrival = elim o [ None ↦ s.rx.unexpected ++ record { source = source; place = slice_index s.rx.heads source; head = head; bytes = None } ∷ [] | Some _ ↦ s.rx.unexpected ] in xs) + length s.rx.claimed)
             + (length s.cq.written - s.cq.taken_out)
-            + 2 * length (let xs : List Receive = elim o [ None ↦ s.rx.posted | Some r ↦ seated (is_wanted source head) head.total r s.rx.posted ] in xs) + 1 ≤ own_work s + kind_work k
+            + 2 * length (let xs : List Receive = elim o [ None ↦ s.rx.posted | Some r ↦ seated (is_wanted source head) head.total r s.rx.posted ] in xs) + 20 * heft length s.tx.held + 1 ≤ own_work s + kind_work k
         by None = omega (arith, w, one, heft_put coming_work s.rx.coming source (Some Keep) None, length-append s.rx.unexpected (record { source = source; place = slice_index s.rx.heads source; head = head; bytes = None } ∷ []))
         by (Some r) = omega (arith, w, one, heft_put coming_work s.rx.coming source (Some (Into r r.used)) None, seated_length head.total (is_wanted source head) r s.rx.posted)
 
@@ -379,14 +436,6 @@ faulted : (fault : Option Fault) (s after : State) → Adds 20 s after → Adds 
 faulted None s after adds = adds
 faulted (Some f) s after adds = adds_less 0 20 s s (omega arith) (adds_none s)
 
-kind_most : (k : Kind) → kind_work k ≤ 18
-kind_most Msg = omega arith
-kind_most TagMsg = omega arith
-kind_most WriteReq = omega arith
-kind_most ReadReq = omega arith
-kind_most AtomicReq = omega arith
-kind_most Reply = omega arith
-
 none_adds : (s : State) → Adds 20 s s
 none_adds s = adds_less 0 20 s s (omega arith) (adds_none s)
 
@@ -396,13 +445,10 @@ transmit_adds s o = go (lookup s.av o.dest)
   where
     go : (x : Option ℕ) → Adds 20 s (let u : State = elim x [ None ↦ s | Some t ↦ transmit_to t s o ] in u)
     go None = none_adds s
-    go (Some t) = record {
-      heads = refl;
-      tails = refl;
-      sent = refl;
-      count = length-set s.tx.accepted t (get_or s.tx.accepted t [] ++ item_of s.tx.ops o ∷ []);
-      most = λ n at. omega (arith, kind_most o.kind, waiting_join s.tx.accepted s.tx.sent t (item_of s.tx.ops o), on_way_join n at s.tx.accepted t (item_of s.tx.ops o));
-    }
+    go (Some t) =
+        let held : List Held = held_for s.tx t ++ operation_of s o ∷ [] in
+        let a = letting_adds 20 t held (record s.tx { ops = s.tx.ops + 1 }) s (omega (arith, length-append (held_for s.tx t) (operation_of s o ∷ []))) in
+        record { heads = a.heads; tails = a.tails; sent = a.sent; count = a.count; most = a.most }
 
 post_adds : (s : State) (p : Posting) → Adds 20 s (post s p)
 unfolding post

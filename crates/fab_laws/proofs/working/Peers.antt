@@ -8,6 +8,7 @@ use Rattle.std.proofs.lemmas.Bool.{and_parts, cases_eq}
 use Rattle.std.proofs.lemmas.List.{length-map, length-replicate}
 use Rattle.std.proofs.lemmas.Option.{slice_get-map, slice_get_within}
 use Rattle.fab_base.specs.declared.items.Item.{Item}
+use Rattle.fab_base.specs.declared.operations.Held.{Held}
 use Rattle.fab_base.specs.declared.peers.Step.{Step}
 use Rattle.fab_base.specs.declared.peers.Step.TheVariants.{Do, Head, Tail, Draw, Final}
 use Rattle.fab_base.specs.declared.script.Bound.{Bound}
@@ -283,8 +284,12 @@ unfolding on_way
 none_way zero n at = refl
 none_way (suc m) n at = let e = none_way m n at in let f = ap (λ xs. heft item_work (drop (at m) xs)) (empty_at n m) in let g = none_dropped (at m) in omega (arith, e, f, g)
 
+none_waits : (n : ℕ) → heft {X = List Held} length (replicate n []) ≡ 0
+none_waits zero = refl
+none_waits (suc n) = omega (arith, none_waits n)
+
 fresh_work : (conf : Conf) (lines : List Line) (n : ℕ) (at : ℕ → ℕ) → actor_work n at (newly conf lines) ≡ 21 * length lines
-fresh_work conf lines n at = omega (arith, none_way n conf.peers at, no_items conf.peers (replicate conf.peers 0), no_halves conf.peers (replicate conf.peers 0), none_coming conf.peers)
+fresh_work conf lines n at = omega (arith, none_way n conf.peers at, no_items conf.peers (replicate conf.peers 0), no_halves conf.peers (replicate conf.peers 0), none_coming conf.peers, none_waits conf.peers)
 
 pub fresh_sized : (conf : Conf) (lines : List Line) → Sized conf.peers (newly conf lines).state
 fresh_sized conf lines = record {

@@ -66,12 +66,12 @@ total_more f g t w (suc n) le here = elim (cases_eq n t) [
 
 -- ---- items accepted
 
-pub waiting_join : (accepted : List (List Item)) (sent : List ℕ) (t : ℕ) (x : Item) → waiting (set accepted t (get_or accepted t [] ++ x ∷ [])) sent ≤ waiting accepted sent + 1
-waiting_join [] sent t x = omega arith
-waiting_join (xs ∷ accepted) [] zero x = omega (arith, length-append xs (x ∷ []))
-waiting_join (xs ∷ accepted) (n ∷ sent) zero x = omega (arith, length-append xs (x ∷ []))
-waiting_join (xs ∷ accepted) [] (suc t) x = omega (arith, waiting_join accepted [] t x)
-waiting_join (xs ∷ accepted) (n ∷ sent) (suc t) x = omega (arith, waiting_join accepted sent t x)
+pub waiting_join : (accepted : List (List Item)) (sent : List ℕ) (t : ℕ) (ys : List Item) → waiting (set accepted t (get_or accepted t [] ++ ys)) sent ≤ waiting accepted sent + length ys
+waiting_join [] sent t ys = omega arith
+waiting_join (xs ∷ accepted) [] zero ys = omega (arith, length-append xs ys)
+waiting_join (xs ∷ accepted) (n ∷ sent) zero ys = omega (arith, length-append xs ys)
+waiting_join (xs ∷ accepted) [] (suc t) ys = omega (arith, waiting_join accepted [] t ys)
+waiting_join (xs ∷ accepted) (n ∷ sent) (suc t) ys = omega (arith, waiting_join accepted sent t ys)
 
 pub waiting_sent : (accepted : List (List Item)) (sent : List ℕ) (t : ℕ) → t < length sent → get_or sent t 0 < length (get_or accepted t []) → waiting accepted (set sent t (get_or sent t 0 + 1)) + 1 ≡ waiting accepted sent
 waiting_sent [] sent t lt less = absurd (omega (arith, less))
@@ -94,14 +94,15 @@ halves_tail (h ∷ heads) (t ∷ tails) (suc s) lt odd = omega (arith, halves_ta
 
 -- ---- items on their way
 
-drop_join : (n : ℕ) (xs : List Item) (x : Item) → heft item_work (drop n (xs ++ x ∷ [])) ≤ heft item_work (drop n xs) + item_work x
-drop_join zero xs x = omega (arith, heft_append item_work xs (x ∷ []))
-drop_join (suc n) [] x = go n
-  where
-    go : (n : ℕ) → heft item_work (drop (suc n) (x ∷ [])) ≤ heft item_work (drop (suc n) []) + item_work x
-    go zero = omega arith
-    go (suc n) = omega arith
-drop_join (suc n) (y ∷ xs) x = drop_join n xs x
+dropped_less : (n : ℕ) (xs : List Item) → heft item_work (drop n xs) ≤ heft item_work xs
+dropped_less zero xs = omega arith
+dropped_less (suc n) [] = omega arith
+dropped_less (suc n) (x ∷ xs) = omega (arith, dropped_less n xs)
+
+drop_join : (n : ℕ) (xs ys : List Item) → heft item_work (drop n (xs ++ ys)) ≤ heft item_work (drop n xs) + heft item_work ys
+drop_join zero xs ys = omega (arith, heft_append item_work xs ys)
+drop_join (suc n) [] ys = omega (arith, dropped_less (suc n) ys)
+drop_join (suc n) (x ∷ xs) ys = drop_join n xs ys
 
 pub drop_next : (n : ℕ) (xs : List Item) (x : Item) → slice_get xs n ≡ Some x → heft item_work (drop (n + 1) xs) + item_work x ≡ heft item_work (drop n xs)
 drop_next n [] x e = absurd (cc (e))
@@ -117,17 +118,17 @@ joined_other (xs ∷ accepted) zero (suc q) ys other = refl
 joined_other (xs ∷ accepted) (suc t) zero ys other = refl
 joined_other (xs ∷ accepted) (suc t) (suc q) ys other = joined_other accepted t q ys (λ e. other (ap suc e))
 
-joined_here : (accepted : List (List Item)) (t n : ℕ) (x : Item) → heft item_work (drop n (get_or (set accepted t (get_or accepted t [] ++ x ∷ [])) t [])) ≤ heft item_work (drop n (get_or accepted t [])) + item_work x
-joined_here [] t n x = omega arith
-joined_here (xs ∷ accepted) zero n x = drop_join n xs x
-joined_here (xs ∷ accepted) (suc t) n x = joined_here accepted t n x
+joined_here : (accepted : List (List Item)) (t n : ℕ) (ys : List Item) → heft item_work (drop n (get_or (set accepted t (get_or accepted t [] ++ ys)) t [])) ≤ heft item_work (drop n (get_or accepted t [])) + heft item_work ys
+joined_here [] t n ys = omega arith
+joined_here (xs ∷ accepted) zero n ys = drop_join n xs ys
+joined_here (xs ∷ accepted) (suc t) n ys = joined_here accepted t n ys
 
-pub on_way_join : (n : ℕ) (at : ℕ → ℕ) (accepted : List (List Item)) (t : ℕ) (x : Item) → on_way n at (set accepted t (get_or accepted t [] ++ x ∷ [])) ≤ on_way n at accepted + item_work x
+pub on_way_join : (n : ℕ) (at : ℕ → ℕ) (accepted : List (List Item)) (t : ℕ) (ys : List Item) → on_way n at (set accepted t (get_or accepted t [] ++ ys)) ≤ on_way n at accepted + heft item_work ys
 unfolding on_way
-on_way_join n at accepted t x =
-    total_more (λ q. heft item_work (drop (at q) (get_or (set accepted t (get_or accepted t [] ++ x ∷ [])) q []))) (λ q. heft item_work (drop (at q) (get_or accepted q []))) t (item_work x) n
-    (λ q other. let e = joined_other accepted t q (get_or accepted t [] ++ x ∷ []) other in omega (arith, ap (λ xs. heft item_work (drop (at q) xs)) e))
-    (joined_here accepted t (at t) x)
+on_way_join n at accepted t ys =
+    total_more (λ q. heft item_work (drop (at q) (get_or (set accepted t (get_or accepted t [] ++ ys)) q []))) (λ q. heft item_work (drop (at q) (get_or accepted q []))) t (heft item_work ys) n
+    (λ q other. let e = joined_other accepted t q (get_or accepted t [] ++ ys) other in omega (arith, ap (λ xs. heft item_work (drop (at q) xs)) e))
+    (joined_here accepted t (at t) ys)
 
 pub on_way_next : (n : ℕ) (at later : ℕ → ℕ) (accepted : List (List Item)) (p : ℕ) (x : Item) → p < n → ((q : ℕ) → q ≢ p → later q ≡ at q) → later p ≡ at p + 1 → slice_get (get_or accepted p []) (at p) ≡ Some x
     → on_way n later accepted + item_work x ≤ on_way n at accepted
