@@ -4,3 +4,4 @@ pub mod Telling
 pub mod Workloads
 pub mod Answering
 pub mod Sticking
+pub mod rows
