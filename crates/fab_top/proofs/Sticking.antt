@@ -1,19 +1,16 @@
 -- A run that ends with a line not done is of no script that is settled and whose answer does all lines.
 use Rattle.std.proofs.Common.{◌≡◌, ◌≢◌, ◌≤◌, ◌∙◌, ℕ, Bool, true, false, List, [], ◌∷◌, Option, Some, None, refl, sym, ap, subst, arith}
-use Rattle.std.specs.Prelude.{is_none}
-use Rattle.std.specs.List.{list_all}
 use Rattle.fab_base.specs.declared.script.Bound.{Bound}
 use Rattle.fab_base.specs.declared.script.Payload.{Payload}
 use Rattle.fab_base.specs.declared.script.Script.{Script}
 use Rattle.fab_base.specs.declared.status.Status.{Status}
 use Rattle.fab_base.specs.declared.status.Status.TheVariants.{Stuck}
-use Rattle.fab_answer.specs.Answer.{answer}
 use Rattle.fab_answer.specs.Laws.{DoneAtRest}
 use Rattle.fab_model.specs.Report.{traces}
 use Rattle.fab_grammar.specs.Grammar.{script_of}
 use Rattle.fab_outside.specs.Commands.{script_file}
 use Rattle.fab_outside.specs.Loading.{AreWhole, Files, IsRead}
-use Rattle.fab_top.specs.Runs.{AreTold, DoesAll, MayStick, NeverSticks, Reports}
+use Rattle.fab_top.specs.Runs.{DoesAll, MayStick, NeverSticks, Reports}
 
 -- where a run of the script ended with a line not done
 pub not_all : DoneAtRest → (bound : Bound) (text : List ℕ) (done : Bool) → 1 ≤ bound.script.conf.info.tx → 2 ≤ bound.script.conf.info.cq → Reports bound text done → done ≡ false → DoesAll bound → ⊥
