@@ -36,7 +36,7 @@ same_files f (p ∷ ps) (x ∷ xs) (y ∷ ys) (a, more) (b, others) =
     let rest = same_files f ps xs ys more others in
     ap (λ z. z ∷ xs) first ∙ ap (λ zs. y ∷ zs) rest
 
-same_bound : (f : List ℕ → Option (List ℕ)) (file : List ℕ) (a b : Bound) → IsRead (Some f) file a → IsRead (Some f) file b → a ≡ b
+pub same_bound : (f : List ℕ → Option (List ℕ)) (file : List ℕ) (a b : Bound) → IsRead (Some f) file a → IsRead (Some f) file b → a ≡ b
 same_bound f file a b r s =
     let bytes : r.spells.0 ≡ s.spells.0 = (let e : Some r.spells.0 ≡ Some s.spells.0 = sym r.spells.1.0 ∙ s.spells.1.0 in cc) in
     let script : a.script ≡ b.script = (let e : Some a.script ≡ Some b.script = sym r.spells.2 ∙ ap script_of bytes ∙ s.spells.2 in cc) in
