@@ -4,3 +4,5 @@ pub mod Starting
 pub mod Carried
 pub mod Ending
 pub mod Clearing
+pub mod Freight
+pub mod Wanting

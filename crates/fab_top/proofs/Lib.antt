@@ -3,3 +3,6 @@ pub mod Bounding
 pub mod Telling
 pub mod Workloads
 pub mod Answering
+pub mod Sticking
+pub mod Asking
+pub mod rows
