@@ -1,0 +1,222 @@
+-- What a thread adds to its record at each call, from the call's contract.
+use Rattle.std.proofs.Common.{◌≡◌, ℕ, List, [], ◌∷◌, ◌++◌, map, fold, Option, Some, None, refl, sym, ap, ◌∙◌, subst, append_assoc, append-nil}
+use Rattle.std.proofs.lemmas.List.{map-append}
+use Rattle.fab_base.specs.declared.entries.Taken.{Taken}
+use Rattle.fab_base.specs.declared.entries.Class.{Class}
+use Rattle.fab_base.specs.declared.peers.LineResult.{LineResult}
+use Rattle.fab_wire.specs.declared.moves.Move.{Move}
+use Rattle.fab_model.specs.State.{State}
+use Rattle.fab_model.specs.Calls.{Call, Insert, do_call, insert}
+use Rattle.fab_av.specs.Addresses.{insert_next, inserting}
+use Rattle.fab_av.specs.declared.addresses.InsertReport.{InsertReport}
+use Rattle.fab_face.specs.Held.{Held, Seen, with_machine}
+use Rattle.fab_face.specs.Acts as acts
+use Rattle.fab_face.specs.Acts.{headed, is_first, only, Act, Goes, GoesBy, MovedBy, Way, Went, has_read, way}
+use Rattle.fab_wire.specs.Joined.{is_last}
+use Rattle.fab_face.specs.Answers.{Inserts, Locally, Pops, adding}
+use Rattle.fab_doings.specs.Doings.{Did, Doing, DoesBy, Had, Living, Own, Calls, Posted, Took, Writes, after_own, doing_of, doings_by, posted_by, posted_to, taken_by, taken_of, ways_of}
+use Rattle.fab_doings.specs.Law.{Adds, Kept, Past, past_in}
+use Rattle.fab_doings.proofs.Lists.{lives_append, posted-append, taken-append, ways-append}
+
+abbrev living : Held → List State → Living
+living h past = record { held = h; past = past }
+
+-- ---- acts
+
+-- the states after what an act does
+abbrev states_by : Option Call → Held → Act → Held → List State
+states_by None h acts.Did t = []
+states_by (Some call) h acts.Did t = t.state ∷ []
+states_by call h (acts.Took source f) t = only (is_first f) (headed (is_first f) h.state source f.head.item) ++ only (is_last f.head) t.state
+states_by call h (acts.Posted dest f) t = only (is_last f.head) t.state
+states_by call h acts.Drew t = t.state ∷ []
+states_by call h acts.Had t = t.state ∷ []
+
+one_does : (call : Option Call) (h t : Held) (act : Act) (rest : List Doing) (past : List State) (u : Living) → Goes call h act t → DoesBy (living t (past ++ states_by call h act t)) rest u → DoesBy (living h past) (doing_of call act ++ rest) u
+one_does None h t acts.Did rest past u goes more = elim goes [ ]
+one_does (Some call) h t acts.Did rest past u (does, is) more = (living t (past ++ t.state ∷ []), ((sym (ap (λ (r : LineResult × State). r.1) does), refl), (ap (λ (x : Held). x.places) is, ap (λ (x : Held). x.begun) is)), more)
+one_does None h t (acts.Took source f) rest past u goes more = (living t (past ++ states_by None h (acts.Took source f) t), (goes, refl), more)
+one_does (Some call) h t (acts.Took source f) rest past u goes more = (living t (past ++ states_by (Some call) h (acts.Took source f) t), (goes, refl), more)
+one_does None h t (acts.Posted dest f) rest past u goes more = (living t (past ++ only (is_last f.head) t.state), (goes, refl), more)
+one_does (Some call) h t (acts.Posted dest f) rest past u goes more = (living t (past ++ only (is_last f.head) t.state), (goes, refl), more)
+one_does None h t acts.Drew rest past u goes more = (living t (past ++ t.state ∷ []), (goes, refl), more)
+one_does (Some call) h t acts.Drew rest past u goes more = (living t (past ++ t.state ∷ []), (goes, refl), more)
+one_does None h t acts.Had rest past u (w, first, is) more = (living t (past ++ t.state ∷ []), ((w, first, ap (λ (x : Held). x.state) is, refl), (ap (λ (x : Held). x.places) is, ap (λ (x : Held). x.begun) is)), more)
+one_does (Some call) h t acts.Had rest past u (w, first, is) more = (living t (past ++ t.state ∷ []), ((w, first, ap (λ (x : Held). x.state) is, refl), (ap (λ (x : Held). x.places) is, ap (λ (x : Held). x.begun) is)), more)
+
+all_do : (call : Option Call) (xs : List Act) (h t : Held) (past : List State) → GoesBy call h xs t → (states : List State) × DoesBy (living h past) (doings_by call xs) (living t (past ++ states))
+all_do call [] h t past goes = ([], (λ i. record { held = goes i; past = sym (append-nil past) i }))
+all_do call (x ∷ xs) h t past (mid, one, rest) =
+    let mine = states_by call h x mid in
+    let more = all_do call xs mid t (past ++ mine) rest in
+    let done : DoesBy (living mid (past ++ mine)) (doings_by call xs) (living t (past ++ (mine ++ more.0))) = subst (λ us. DoesBy (living mid (past ++ mine)) (doings_by call xs) (living t us)) (append_assoc past mine more.0) more.1 in
+    (mine ++ more.0, one_does call h mid x (doings_by call xs) past (living t (past ++ (mine ++ more.0))) one done)
+
+-- the doings move what the acts do
+same_ways : (call : Option Call) (xs : List Act) → ways_of (doings_by call xs) ≡ acts.ways_of xs
+same_ways call [] = refl
+same_ways None (acts.Did ∷ xs) = same_ways None xs
+same_ways (Some c) (acts.Did ∷ xs) = same_ways (Some c) xs
+same_ways None (acts.Took s f ∷ xs) = ap (λ ws. acts.From s ∷ ws) (same_ways None xs)
+same_ways (Some c) (acts.Took s f ∷ xs) = ap (λ ws. acts.From s ∷ ws) (same_ways (Some c) xs)
+same_ways None (acts.Posted d f ∷ xs) = ap (λ ws. acts.To d ∷ ws) (same_ways None xs)
+same_ways (Some c) (acts.Posted d f ∷ xs) = ap (λ ws. acts.To d ∷ ws) (same_ways (Some c) xs)
+same_ways None (acts.Drew ∷ xs) = same_ways None xs
+same_ways (Some c) (acts.Drew ∷ xs) = same_ways (Some c) xs
+same_ways None (acts.Had ∷ xs) = same_ways None xs
+same_ways (Some c) (acts.Had ∷ xs) = same_ways (Some c) xs
+
+same_posts : (call : Option Call) (d : ℕ) (xs : List Act) → posted_to d (doings_by call xs) ≡ acts.posted_to d xs
+same_posts call d [] = refl
+same_posts None d (acts.Did ∷ xs) = same_posts None d xs
+same_posts (Some c) d (acts.Did ∷ xs) = same_posts (Some c) d xs
+same_posts None d (acts.Took s f ∷ xs) = same_posts None d xs
+same_posts (Some c) d (acts.Took s f ∷ xs) = same_posts (Some c) d xs
+same_posts None d (acts.Posted e f ∷ xs) = ap (λ fs. posted_by d (Posted e f) ++ fs) (same_posts None d xs)
+same_posts (Some c) d (acts.Posted e f ∷ xs) = ap (λ fs. posted_by d (Posted e f) ++ fs) (same_posts (Some c) d xs)
+same_posts None d (acts.Drew ∷ xs) = same_posts None d xs
+same_posts (Some c) d (acts.Drew ∷ xs) = same_posts (Some c) d xs
+same_posts None d (acts.Had ∷ xs) = same_posts None d xs
+same_posts (Some c) d (acts.Had ∷ xs) = same_posts (Some c) d xs
+
+same_takes : (call : Option Call) (s : ℕ) (xs : List Act) → taken_of s (doings_by call xs) ≡ acts.taken_of s xs
+same_takes call s [] = refl
+same_takes None s (acts.Did ∷ xs) = same_takes None s xs
+same_takes (Some c) s (acts.Did ∷ xs) = same_takes (Some c) s xs
+same_takes None s (acts.Took e f ∷ xs) = ap (λ fs. taken_by s (Took e f) ++ fs) (same_takes None s xs)
+same_takes (Some c) s (acts.Took e f ∷ xs) = ap (λ fs. taken_by s (Took e f) ++ fs) (same_takes (Some c) s xs)
+same_takes None s (acts.Posted d f ∷ xs) = same_takes None s xs
+same_takes (Some c) s (acts.Posted d f ∷ xs) = same_takes (Some c) s xs
+same_takes None s (acts.Drew ∷ xs) = same_takes None s xs
+same_takes (Some c) s (acts.Drew ∷ xs) = same_takes (Some c) s xs
+same_takes None s (acts.Had ∷ xs) = same_takes None s xs
+same_takes (Some c) s (acts.Had ∷ xs) = same_takes (Some c) s xs
+
+-- ---- names, inserted one by one
+
+inserts : List (List ℕ) → List Doing
+inserts names = map (λ (name : List ℕ). Did (Calls (Insert name))) names
+
+all_insert : (names : List (List ℕ)) (done : List LineResult) (h : Held) (past : List State) → (states : List State) × DoesBy (living h past) (inserts names) (living (with_machine (fold insert_next (done, h.state) names).1 h) (past ++ states))
+unfolding inserts do_call
+all_insert [] done h past = ([], (λ i. record { held = h; past = sym (append-nil past) i }))
+all_insert (name ∷ names) done h past =
+    let one = insert h.state name in
+    let more = all_insert names (done ++ one.0 ∷ []) (with_machine one.1 h) (past ++ one.1 ∷ []) in (
+      one.1 ∷ more.0,
+      (
+        living (with_machine one.1 h) (past ++ one.1 ∷ []),
+        ((refl, refl), (refl, refl)),
+        subst (λ us. DoesBy (living (with_machine one.1 h) (past ++ one.1 ∷ [])) (inserts names) (living (with_machine (fold insert_next (done ++ one.0 ∷ [], one.1) names).1 h) us)) (append_assoc past (one.1 ∷ []) more.0) more.1,
+      ),
+    )
+
+no_ways : (names : List (List ℕ)) → ways_of (inserts names) ≡ []
+unfolding inserts
+no_ways [] = refl
+no_ways (name ∷ names) = no_ways names
+
+no_posts : (names : List (List ℕ)) (d : ℕ) → posted_to d (inserts names) ≡ []
+unfolding inserts
+no_posts [] d = refl
+no_posts (name ∷ names) d = no_posts names d
+
+no_takes : (names : List (List ℕ)) (s : ℕ) → taken_of s (inserts names) ≡ []
+unfolding inserts
+no_takes [] s = refl
+no_takes (name ∷ names) s = no_takes names s
+
+-- ---- one call
+
+moved_same : (o : Option (List Move)) → MovedBy o o []
+moved_same None = refl
+moved_same (Some l) = ([], ap Some (sym (append-nil l)), refl)
+
+module _ {Home : Type 0} (old new : Seen Home) where
+  -- a call whose contract gives acts: transmit and receive calls, Ok or refused, and progress
+  pub went_adds : (call : Option Call) (xs : List Act) → Went call old new xs → Adds old new (doings_by call xs)
+  went_adds call xs went kept past =
+      let all = all_do call xs old.held new.held past went.goes in (
+        all.0,
+        record {
+          lives = all.1;
+          doings = refl;
+          moves = subst (λ ws. MovedBy old.lanes.moves new.lanes.moves ws) (sym (same_ways call xs)) went.ported.moves;
+          outs = λ d. went.ported.posted d ∙ ap (λ fs. (old.lanes.outs d).frames ++ fs) (sym (same_posts call d xs));
+          ins = λ s. went.ported.taken s ∙ ap (λ fs. (old.lanes.ins s).taken ++ fs) (sym (same_takes call s xs));
+        },
+      )
+
+  -- what leaves the lanes
+  stays : (xs : List Doing) → new.lanes ≡ old.lanes → ((past : List State) → (states : List State) × DoesBy (living old.held past) xs (living new.held (past ++ states))) → ways_of xs ≡ [] → ((d : ℕ) → posted_to d xs ≡ []) → ((s : ℕ) → taken_of s xs ≡ []) → Adds old new xs
+  stays xs lanes lives none posts takes kept past =
+      let all = lives past in (
+        all.0,
+        record {
+          lives = all.1;
+          doings = refl;
+          moves = subst (λ ws. MovedBy old.lanes.moves new.lanes.moves ws) (sym none) (subst (λ o. MovedBy old.lanes.moves o []) (ap (λ l. l.moves) (sym lanes)) (moved_same old.lanes.moves));
+          outs = λ d. ap (λ l. (l.outs d).frames) lanes ∙ sym (append-nil (old.lanes.outs d).frames) ∙ ap (λ fs. (old.lanes.outs d).frames ++ fs) (sym (posts d));
+          ins = λ s. ap (λ l. (l.ins s).taken) lanes ∙ sym (append-nil (old.lanes.ins s).taken) ∙ ap (λ fs. (old.lanes.ins s).taken ++ fs) (sym (takes s));
+        },
+      )
+
+  -- what a peer does alone to its state
+  own_adds : (own : Own) → new ≡ record old { held = with_machine new.held.state old.held } → new.held.state ≡ after_own own old.held.state → Adds old new (Did own ∷ [])
+  own_adds own changed is = stays (Did own ∷ []) (ap (λ (e : Seen Home). e.lanes) changed)
+      (λ past. (new.held.state ∷ [], (living new.held (past ++ new.held.state ∷ []), ((is, refl), (ap (λ (e : Seen Home). e.held.places) changed, ap (λ (e : Seen Home). e.held.begun) changed)), refl))) refl (λ d. refl) (λ s. refl)
+
+  -- calls that log nothing
+  pub local_adds : (call : Call) (answer : LineResult) → Locally call answer old new → Adds old new (Did (Calls call) ∷ [])
+  local_adds call answer local = own_adds (Calls call) local.changed (sym (ap (λ (r : LineResult × State). r.1) local.answered))
+
+  -- a counter is added to
+  pub counter_adds : (class : Class) (n : ℕ) → new ≡ record old { held = with_machine (adding class n old.held.state) old.held } → Adds old new (Did (Writes (adding class n old.held.state).counters) ∷ [])
+  counter_adds class n e = own_adds (Writes (adding class n old.held.state).counters) (e ∙ ap (λ (s : State). let x : Seen Home = record old { held = with_machine s old.held } in x) (sym (ap (λ (x : Seen Home). x.held.state) e)))
+      (ap (λ (x : Seen Home). x.held.state) e)
+
+  -- an entry is read
+  pub pop_adds : (entry : Taken) → Pops entry old new → Adds old new (Had ∷ [])
+  pop_adds entry pops = stays (Had ∷ []) (ap (λ (e : Seen Home). e.lanes) pops.read)
+      (λ past. (new.held.state ∷ [], (living new.held (past ++ new.held.state ∷ []), ((pops.written, pops.first, ap (λ (e : Seen Home). e.held.state) pops.read, refl), (ap (λ (e : Seen Home). e.held.places) pops.read, ap (λ (e : Seen Home). e.held.begun) pops.read)), refl))) refl (λ d. refl) (λ s. refl)
+
+  -- names are inserted
+  pub inserts_add : (names : List (List ℕ)) (report : InsertReport) → Inserts names report old new → Adds old new (map (λ (name : List ℕ). Did (Calls (Insert name))) names)
+  unfolding inserts
+  inserts_add names report ins =
+      let is : with_machine (inserting old.held.state names).1 old.held ≡ new.held =
+      ap (λ (r : List LineResult × State). with_machine r.1 old.held) ins.answers ∙ ap (λ (e : Seen Home). e.held) (sym ins.changed) in
+      stays (inserts names) (ap (λ (e : Seen Home). e.lanes) ins.changed) (λ past. (let all = all_insert names [] old.held past in (all.0, subst (λ h. DoesBy (living old.held past) (inserts names) (living h (past ++ all.0))) is all.1))) (no_ways names) (no_posts names) (no_takes names)
+
+  -- nothing changed but the log
+  pub log_adds : new.held ≡ old.held → new.lanes ≡ old.lanes → Adds old new []
+  log_adds held lanes = stays [] lanes (λ past. ([], (λ i. record { held = sym held i; past = sym (append-nil past) i }))) refl (λ d. refl) (λ s. refl)
+
+-- ---- one call after another
+
+moved_then : (x y z : Option (List Move)) (vs ws : List Way) → MovedBy x y vs → MovedBy y z ws → MovedBy x z (vs ++ ws)
+moved_then None y z vs ws f g = subst (λ o. MovedBy o z ws) f g
+moved_then (Some l) y z vs ws (first, is, ways) g =
+    let r = subst (λ o. MovedBy o z ws) is g in
+    (first ++ r.0, r.1 ∙ ap Some (append_assoc l first r.0), map-append way first r.0 ∙ ap (λ us. us ++ map way r.0) ways ∙ ap (λ us. vs ++ us) r.2)
+
+pub kept_same : (x : Past) → Kept x x
+kept_same x = ([], record { lives = refl; doings = sym (append-nil x.doings); moves = moved_same x.moves; outs = λ d. sym (append-nil (x.outs d)); ins = λ s. sym (append-nil (x.ins s)) })
+
+pub kept_then : (x y z : Past) → Kept x y → Kept y z → Kept x z
+kept_then x y z (xs, f) (ys, g) = (
+  xs ++ ys,
+  record {
+    lives = lives_append x.living y.living z.living xs ys f.lives g.lives;
+    doings = g.doings ∙ ap (λ l. l ++ ys) f.doings ∙ append_assoc x.doings xs ys;
+    moves = subst (λ ws. MovedBy x.moves z.moves ws) (sym (ways-append xs ys)) (moved_then x.moves y.moves z.moves (ways_of xs) (ways_of ys) f.moves g.moves);
+    outs = λ d. g.outs d ∙ ap (λ l. l ++ posted_to d ys) (f.outs d) ∙ append_assoc (x.outs d) (posted_to d xs) (posted_to d ys) ∙ ap (λ l. x.outs d ++ l) (sym (posted-append d xs ys));
+    ins = λ s. g.ins s ∙ ap (λ l. l ++ taken_of s ys) (f.ins s) ∙ append_assoc (x.ins s) (taken_of s xs) (taken_of s ys) ∙ ap (λ l. x.ins s ++ l) (sym (taken-append s xs ys));
+  },
+)
+
+-- so at each call a thread's record goes on
+pub kept_on : {Home : Type 0} (x : Past) (old new : Seen Home) (kept more : List Doing) (past : List State) → Kept x (past_in old kept past) → Adds old new more → (states : List State) × Kept x (past_in new (kept ++ more) (past ++ states))
+kept_on x old new kept more past before adds =
+    let a = adds kept past in
+    (a.0, kept_then x (past_in old kept past) (past_in new (kept ++ more) (past ++ a.0)) before (more, a.1))

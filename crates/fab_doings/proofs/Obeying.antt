@@ -1,0 +1,99 @@
+-- The laws of any program hold of what threads did with their endpoints.
+use Rattle.std.proofs.Common.{◌≡◌, ℕ, zero, suc, List, [], ◌∷◌, ◌++◌, drop, map, slice_get, Some, refl, sym, ◌∙◌, ap, subst}
+use Rattle.std.specs.Prelude.{slice_index_or}
+use Rattle.std.specs.Option.{option_map}
+use Rattle.std.proofs.lemmas.Option.{slice_get-map}
+use Rattle.fab_model.specs.Orders.{AreSteps, Leads, Turn, steps_of}
+use Rattle.fab_model.specs.State.{State}
+use Rattle.fab_model.specs.Views.{rule}
+use Rattle.fab_laws.specs.Programs.{Deed, peer, program}
+use Rattle.fab_laws.specs.Moments.{AtEveryMoment}
+use Rattle.fab_laws.specs.Completed.{accepts, operations_of}
+use Rattle.fab_laws.specs.MessageLaws.{asked_by, asked_of}
+use Rattle.fab_laws.specs.Recorded.{Recorded, plain, recall, recorded}
+use Rattle.fab_laws.proofs.Recorded.{accepted_own, asked_own, of_recorded, recorded_leads}
+use Rattle.fab_laws.proofs.matching.Orders.{got_rightly, none_passed_over, past_tells_state, served_in_order, taken_in_order}
+use Rattle.fab_laws.proofs.completion.Once.{nothing_is_held_back, numbers_complete, one_final_completion}
+use Rattle.fab_laws.proofs.fences.Law.{fences_hold, gone_in_order, items_are_of_calls}
+use Rattle.fab_laws.proofs.replies.Stray.{answered_once, no_stray}
+use Rattle.fab_laws.proofs.replies.Waiting.{all_wait_at_match}
+use Rattle.fab_laws.proofs.streams.Taken.{taken_is_first}
+use Rattle.fab_laws.proofs.streams.Posted.{taken_is_posted}
+use Rattle.fab_laws.proofs.streams.Entries.{entries_tell, receives_tell}
+use Rattle.fab_doings.specs.Doings.{Living, deeds_of, peer_in}
+use Rattle.fab_doings.specs.Law.{IsOwn, Obeys, Past, ProgramObeys, peers, plains, programs}
+use Rattle.fab_doings.proofs.Reaching.{program_reaches}
+
+all_obey : AtEveryMoment Obeys
+all_obey from turns states leads p a here =
+    let told = past_tells_state from turns states leads p a here in
+    record {
+      passed = none_passed_over from turns states leads p a here;
+      served = served_in_order from turns states leads p a here;
+      taken = taken_in_order from turns states leads p a here;
+      got = got_rightly from turns states leads p a here;
+      unexpected = told.0;
+      posted = told.1;
+      once = one_final_completion from turns states leads p a here;
+      numbers = numbers_complete from turns states leads p a here;
+      fenced = fences_hold from turns states leads p a here;
+      order = gone_in_order from turns states leads p a here;
+      of_calls = items_are_of_calls from turns states leads p a here;
+      idle = nothing_is_held_back from turns states leads p a here;
+      stray = no_stray from turns states leads p a here;
+      answered = answered_once from turns states leads p;
+      waits = all_wait_at_match from turns states leads p a here;
+      first = taken_is_first from turns states leads p a here;
+      of_posted = taken_is_posted from turns states leads p a here;
+      entries = entries_tell from turns states leads p a here;
+      receives = receives_tell from turns states leads p a here;
+    }
+
+peers_plain : (opening : List Living) → map plain (map peer_in opening) ≡ map (λ (o : Living). peer o.held.state) opening
+peers_plain [] = refl
+peers_plain (o ∷ opening) = ap (λ ps. peer o.held.state ∷ ps) (peers_plain opening)
+
+doings_at : (pasts : List Past) (p : ℕ) (x : Past) → slice_get pasts p ≡ Some x → slice_index_or (programs pasts) p [] ≡ deeds_of x.doings
+doings_at [] p x e = absurd (cc)
+doings_at (y ∷ pasts) zero x e = let same : y ≡ x = cc in ap (λ (z : Past). deeds_of z.doings) same
+doings_at (y ∷ pasts) (suc p) x e = doings_at pasts p x e
+
+-- lists that follow the same one to the same one
+same_more : (front xs ys : List State) → front ++ xs ≡ front ++ ys → xs ≡ ys
+same_more [] xs ys e = e
+same_more (s ∷ front) xs ys e = same_more front xs ys (ap (λ us. drop 1 us) e)
+
+pub program_obeys : ProgramObeys
+program_obeys from opening pasts starts told = record { turns = turns; deeds = run.2; led = led; obeys = λ p x at. run.3 p (peer_in x.living) (now p x at); own = own }
+  where
+    same : map plain (map peer_in opening) ≡ from.peers
+    same = peers_plain opening ∙ starts
+
+    run : (turns : List (Turn Deed)) × Leads (rule recorded) (map peer_in opening) turns (peers pasts) × AreSteps (programs pasts) turns × ((p : ℕ) (b : Recorded) → slice_get (peers pasts) p ≡ Some b → Obeys from.peers turns (map plain (peers pasts)) p (plain b))
+    run = of_recorded Obeys all_obey from (map peer_in opening) same (programs pasts) (peers pasts) (program_reaches opening pasts told)
+
+    turns : List (Turn Deed)
+    turns = run.0
+
+    led : Leads (rule program) from.peers turns (plains pasts)
+    led = subst (λ ss. Leads (rule program) ss turns (plains pasts)) same (recorded_leads turns (map peer_in opening) (peers pasts) run.1)
+
+    now : (p : ℕ) (x : Past) → slice_get pasts p ≡ Some x → slice_get (peers pasts) p ≡ Some (peer_in x.living)
+    now p x at = slice_get-map (λ (x : Past). peer_in x.living) pasts p ∙ ap (option_map (λ (x : Past). peer_in x.living)) at
+
+    before : (p : ℕ) (o : Living) → slice_get opening p ≡ Some o → slice_get (map peer_in opening) p ≡ Some (peer_in o)
+    before p o at = slice_get-map peer_in opening p ∙ ap (option_map peer_in) at
+
+    own : (p : ℕ) (o : Living) (x : Past) → slice_get opening p ≡ Some o → slice_get pasts p ≡ Some x → IsOwn from.peers turns p o x
+    own p o x at there =
+        let accepted = accepted_own turns (map peer_in opening) (peers pasts) p (peer_in o) (peer_in x.living) run.1 (before p o at) (now p x there) in
+        let asked = asked_own turns (map peer_in opening) (peers pasts) p (peer_in o) (peer_in x.living) run.1 (before p o at) (now p x there) in
+        let mine : steps_of p turns ≡ deeds_of x.doings = sym (run.2 p) ∙ doings_at pasts p x there in
+        let one : asked.0 ≡ accepted.0 = same_more o.past asked.0 accepted.0 (sym asked.1 ∙ accepted.1) in
+        record {
+          grew = accepted.0;
+          past = accepted.1;
+          accepted = ap (λ ps. (operations_of ps turns p).accepted) (sym same) ∙ accepted.2 ∙ ap (λ ds. recall (λ a deed b m. accepts a deed b ++ m) o.held.state ds accepted.0 []) mine;
+          asked = ap (λ ps. asked_of ps turns p) (sym same) ∙ asked.2 ∙ ap (λ us. recall (λ a deed b m. asked_by a deed b ++ m) o.held.state (steps_of p turns) us []) one
+              ∙ ap (λ ds. recall (λ a deed b m. asked_by a deed b ++ m) o.held.state ds accepted.0 []) mine;
+        }

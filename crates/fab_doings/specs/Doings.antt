@@ -1,0 +1,126 @@
+-- What the threads of a program did with their endpoints, as each can keep it: acts with their calls.
+--     Own                 what a peer does alone to its state: a call with its answer, or counters written
+--     Doing               an act with its call
+--     Does h x t          the doing stands in h, and makes t of it
+--     deeds_of doings     the turns of a program that they are
+--     doings_by call acts    the doings of a call's acts
+use Rattle.std.specs.Prelude.{◌≡◌, ℕ, ◌==◌, List, [], ◌∷◌, ◌++◌, Option, Some, None}
+use Rattle.std.specs.List.{flat_map}
+use Rattle.fab_base.specs.declared.frames.Frame.{Frame}
+use Rattle.fab_base.specs.declared.operations.Tally.{Tally}
+use Rattle.fab_base.specs.declared.operations.Written.{Written}
+use Rattle.fab_wire.specs.Joined.{is_last}
+use Rattle.fab_model.specs.State.{State}
+use Rattle.fab_model.specs.Calls.{Call, do_call}
+use Rattle.fab_model.specs.Peers.{reading, unread}
+use Rattle.fab_face.specs.Held.{Held}
+use Rattle.fab_face.specs.Acts as acts
+use Rattle.fab_face.specs.Acts.{Act, Goes, Way, From, To, headed, is_first, only}
+use Rattle.fab_laws.specs.Programs.{Counts, Deed, Draw, Head, Makes, Tail, with_counters}
+use Rattle.fab_laws.specs.Recorded.{Recorded}
+
+pub data Own : Type 0 where
+  Calls : (call : Call) → Own
+  Writes : (counters : List Tally) → Own
+
+abbrev pub after_own : Own → State → State
+after_own (Calls call) s = (do_call s call).1
+after_own (Writes counters) s = with_counters counters s
+
+abbrev pub deed_of : Own → Deed
+deed_of (Calls call) = Makes (Some call)
+deed_of (Writes counters) = Counts counters
+
+pub data Doing : Type 0 where
+  Did : (own : Own) → Doing
+  Took : (source : ℕ) (frame : Frame) → Doing
+  Posted : (dest : ℕ) (frame : Frame) → Doing
+  Drew : Doing
+  Had : Doing
+
+-- ---- one doing
+
+-- what contracts see of an endpoint without its port and its log
+pub record Living : Type 0 where
+  pub held : Held
+  -- the states after its deeds
+  pub past : List State
+
+abbrev pub peer_in : Living → Recorded
+peer_in p = record { state = p.held.state; past = p.past }
+
+-- nothing that is unfinished changed
+abbrev pub SameParts : Held → Held → Type 0
+SameParts h k = (k.places ≡ h.places) × (k.begun ≡ h.begun)
+
+-- the states after its deeds are more by these
+abbrev pub Grew : Living → Living → List State → Type 0
+Grew p q more = q.past ≡ p.past ++ more
+
+abbrev pub Does : Living → Doing → Living → Type 0
+Does p (Did own) q = ((q.held.state ≡ after_own own p.held.state) × Grew p q (q.held.state ∷ [])) × SameParts p.held q.held
+Does p Had q = ((w : Written) × (unread p.held.state.cq ≡ Some w) × (q.held.state ≡ reading p.held.state) × Grew p q (q.held.state ∷ [])) × SameParts p.held q.held
+Does p (Took source f) q = Goes None p.held (acts.Took source f) q.held × Grew p q (only (is_first f) (headed (is_first f) p.held.state source f.head.item) ++ only (is_last f.head) q.held.state)
+Does p (Posted dest f) q = Goes None p.held (acts.Posted dest f) q.held × Grew p q (only (is_last f.head) q.held.state)
+Does p Drew q = Goes None p.held acts.Drew q.held × Grew p q (q.held.state ∷ [])
+
+abbrev pub DoesBy : Living → List Doing → Living → Type 0
+DoesBy p [] q = p ≡ q
+DoesBy p (x ∷ xs) q = (mid : Living) × Does p x mid × DoesBy mid xs q
+
+-- ---- what doings say
+
+abbrev pub deeds_by : Doing → List Deed
+deeds_by (Did own) = deed_of own ∷ []
+deeds_by (Took source f) = only (is_first f) (Head source) ++ only (is_last f.head) (Tail source)
+deeds_by (Posted dest f) = only (is_last f.head) (Deed.Sent dest)
+deeds_by Drew = Draw ∷ []
+deeds_by Had = Deed.Read ∷ []
+
+abbrev pub deeds_of : List Doing → List Deed
+deeds_of xs = flat_map deeds_by xs
+
+abbrev pub taken_by : ℕ → Doing → List Frame
+taken_by s (Did own) = []
+taken_by s (Took source f) = only (source == s) f
+taken_by s (Posted dest f) = []
+taken_by s Drew = []
+taken_by s Had = []
+
+abbrev pub posted_by : ℕ → Doing → List Frame
+posted_by d (Did own) = []
+posted_by d (Took source f) = []
+posted_by d (Posted dest f) = only (dest == d) f
+posted_by d Drew = []
+posted_by d Had = []
+
+abbrev pub taken_of : ℕ → List Doing → List Frame
+taken_of s xs = flat_map (taken_by s) xs
+
+abbrev pub posted_to : ℕ → List Doing → List Frame
+posted_to d xs = flat_map (posted_by d) xs
+
+abbrev pub ways_by : Doing → List Way
+ways_by (Did own) = []
+ways_by (Took source f) = From source ∷ []
+ways_by (Posted dest f) = To dest ∷ []
+ways_by Drew = []
+ways_by Had = []
+
+abbrev pub ways_of : List Doing → List Way
+ways_of xs = flat_map ways_by xs
+
+-- ---- the acts of a call
+
+-- a call that is none does nothing alone
+abbrev pub doing_of : Option Call → Act → List Doing
+doing_of None acts.Did = []
+doing_of (Some call) acts.Did = Did (Calls call) ∷ []
+doing_of call (acts.Took source f) = Took source f ∷ []
+doing_of call (acts.Posted dest f) = Posted dest f ∷ []
+doing_of call acts.Drew = Drew ∷ []
+doing_of call acts.Had = Had ∷ []
+
+-- the doings of an endpoint's call, which its contract gives as acts
+abbrev pub doings_by : Option Call → List Act → List Doing
+doings_by call xs = flat_map (doing_of call) xs

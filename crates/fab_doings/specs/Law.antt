@@ -1,0 +1,150 @@
+-- What the threads of any program did with their endpoints, each alone, was done in some order of turns.
+--     Past                   an endpoint since the opening: what it holds, the doings kept of all its calls, and what its port tells
+--     Kept x y               the doings kept are all that the endpoint and its port did
+--     Adds old new more      the doings that a thread adds to its record at a call
+--     AreTold opening pasts  what is known of each endpoint alone, and of each pair of ports once the threads are joined
+--     ProgramReaches         the law: then some order of turns of the program leads from the opening to the endpoints
+--     Obeys                  of a peer of a program: what the laws of `fab_laws` say of it
+--     ProgramObeys           where the endpoints started as a program's peers do, the laws hold of what the threads did, and each thread's own record says what its endpoint accepted
+use Rattle.std.specs.Prelude.{◌≡◌, ℕ, zero, suc, true, List, [], ◌∷◌, ◌++◌, length, map, Option, Some, slice_get, unwrap_or}
+use mathlib.Core.List.{IsPrefix}
+use Rattle.fab_base.specs.declared.frames.Frame.{Frame}
+use Rattle.fab_wire.specs.declared.moves.Move.{Move}
+use Rattle.fab_wire.specs.Merged.{merges}
+use Rattle.fab_model.specs.Orders.{AreSteps, Reached, Turn}
+use Rattle.fab_model.specs.Views.{rule}
+use Rattle.fab_face.specs.Acts.{MovedBy}
+use Rattle.fab_face.specs.Held.{AreItems, Seen}
+use Rattle.fab_threads.specs.Law.{IsFresh}
+use Rattle.fab_laws.specs.Programs.{Deed}
+use Rattle.fab_laws.specs.Recorded.{Recorded, plain, recall, recorded}
+use Rattle.fab_model.specs.State.{State}
+use Rattle.fab_laws.specs.Programs.{Opening, Peer, peer}
+use Rattle.fab_laws.specs.Moments.{LeadTo}
+use Rattle.fab_laws.specs.Matched.{past_of}
+use Rattle.fab_laws.specs.MatchingLaws.{GetsRightly, PassesNoneOver, ServesInOrder, TakesInOrder, TellsPosted, TellsUnexpected}
+use Rattle.fab_laws.specs.Completed.{accepts, operations_of}
+use Rattle.fab_laws.specs.CompletionLaws.{AllCompleteOnce, NumberCompletes}
+use Rattle.fab_laws.specs.FenceLaws.{FenceHolds, GoesInOrder, HoldsNothing, ItemIsOfACall}
+use Rattle.fab_laws.specs.ReplyLaws.{AnswersOnce, FindsItsOperation, WaitsAtMatch}
+use Rattle.fab_laws.specs.StreamLaws.{IsFirst, IsPosted, whole_from}
+use Rattle.fab_laws.specs.MessageLaws.{EntryTells, ReceiveTells, asked_by, asked_of}
+use Rattle.fab_doings.specs.Doings.{Doing, DoesBy, Living, deeds_of, peer_in, posted_to, taken_of, ways_of}
+
+pub record Past : Type 0 where
+  pub living : Living
+  -- the ghost record of a thread
+  pub doings : List Doing
+  pub moves : Option (List Move)
+  pub outs : ℕ → List Frame
+  pub ins : ℕ → List Frame
+
+abbrev pub begun : Living → Past
+begun o = record { living = o; doings = []; moves = Some []; outs = λ d. []; ins = λ s. [] }
+
+pub record KeptBy (x y : Past) (more : List Doing) : Type 0 where
+  pub lives : DoesBy x.living more y.living
+  pub doings : y.doings ≡ x.doings ++ more
+  pub moves : MovedBy x.moves y.moves (ways_of more)
+  pub outs : (d : ℕ) → y.outs d ≡ x.outs d ++ posted_to d more
+  pub ins : (s : ℕ) → y.ins s ≡ x.ins s ++ taken_of s more
+
+abbrev pub Kept : Past → Past → Type 0
+Kept x y = (more : List Doing) × KeptBy x y more
+
+-- what contracts see of an endpoint, with the doings that its thread kept
+abbrev pub past_in : {Home : Type 0} → Seen Home → List Doing → List State → Past
+past_in e doings past = record {
+  living = record { held = e.held; past = past };
+  doings = doings;
+  moves = e.lanes.moves;
+  outs = λ d. (e.lanes.outs d).frames;
+  ins = λ s. (e.lanes.ins s).taken;
+}
+
+-- the call led from old to new, and these are all its doings
+abbrev pub Adds : {Home : Type 0} → Seen Home → Seen Home → List Doing → Type 0
+Adds old new more = (kept : List Doing) (past : List State) → (states : List State) × KeptBy (past_in old kept past) (past_in new (kept ++ more) (past ++ states)) more
+
+-- ---- all threads
+
+abbrev pub peers : List Past → List Recorded
+peers pasts = map (λ (x : Past). peer_in x.living) pasts
+
+abbrev pub programs : List Past → List (List Deed)
+programs pasts = map (λ (x : Past). deeds_of x.doings) pasts
+
+abbrev pub told_moves : Past → List Move
+told_moves x = unwrap_or x.moves []
+
+abbrev pub outs_at : List Past → ℕ → ℕ → List Frame
+outs_at [] p d = []
+outs_at (x ∷ pasts) zero d = x.outs d
+outs_at (x ∷ pasts) (suc p) d = outs_at pasts p d
+
+abbrev pub ins_at : List Past → ℕ → ℕ → List Frame
+ins_at [] p s = []
+ins_at (x ∷ pasts) zero s = x.ins s
+ins_at (x ∷ pasts) (suc p) s = ins_at pasts p s
+
+pub record AreTold (opening : List Living) (pasts : List Past) : Type 0 where
+  pub count : length pasts ≡ length opening
+  pub fresh : (p : ℕ) (o : Living) → slice_get opening p ≡ Some o → IsFresh o.held
+  -- of each endpoint alone
+  pub kept : (p : ℕ) (o : Living) (x : Past) → slice_get opening p ≡ Some o → slice_get pasts p ≡ Some x → Kept (begun o) x
+  pub items : (p : ℕ) (x : Past) → slice_get pasts p ≡ Some x → AreItems x.living.held
+  -- of all: the moves merge, and the frames taken are the first of those posted
+  pub merge : merges (map told_moves pasts) ≡ true
+  pub lanes : (s d : ℕ) → IsPrefix (ins_at pasts d s) (outs_at pasts s d)
+
+abbrev pub ProgramReaches : Type 0
+ProgramReaches = (opening : List Living) (pasts : List Past) → AreTold opening pasts → Reached (rule recorded) (map peer_in opening) (programs pasts) (peers pasts)
+
+-- ---- the laws
+
+-- what the laws of any program say of its peer p, which is a, at the end of these turns
+pub record Obeys (from : List Peer) (turns : List (Turn Deed)) (states : List Peer) (p : ℕ) (a : Peer) : Type 0 where
+  -- matching
+  pub passed : PassesNoneOver a.state.rx
+  pub served : ServesInOrder (past_of from turns p)
+  pub taken : TakesInOrder (past_of from turns p)
+  pub got : GetsRightly (past_of from turns p)
+  pub unexpected : TellsUnexpected (past_of from turns p) a.state.rx
+  pub posted : TellsPosted (past_of from turns p) a.state.rx
+  -- completion
+  pub once : AllCompleteOnce (operations_of from turns p) states p a
+  pub numbers : (call : ℕ) → NumberCompletes (operations_of from turns p) a call
+  -- fences
+  pub fenced : FenceHolds (operations_of from turns) states p a
+  pub order : (q : ℕ) → GoesInOrder (operations_of from turns p) q a
+  pub of_calls : ItemIsOfACall (operations_of from turns) states p a
+  pub idle : HoldsNothing states a
+  -- replies
+  pub stray : FindsItsOperation states p a
+  pub answered : AnswersOnce states p
+  pub waits : WaitsAtMatch states p a
+  -- streams and messages
+  pub first : IsFirst (whole_from from turns p) states p
+  pub of_posted : IsPosted (whole_from from turns p) (operations_of from turns) states p
+  pub entries : EntryTells (past_of from turns p) (asked_of from turns p) states p a
+  pub receives : ReceiveTells (past_of from turns p) (asked_of from turns p) states p a
+
+-- the thread's own record, of its doings and the states after them, says what its endpoint accepted and which receives it was asked for
+pub record IsOwn (from : List Peer) (turns : List (Turn Deed)) (p : ℕ) (o : Living) (x : Past) : Type 0 where
+  pub grew : List State
+  pub past : x.living.past ≡ o.past ++ grew
+  pub accepted : (operations_of from turns p).accepted ≡ recall (λ a deed b m. accepts a deed b ++ m) o.held.state (deeds_of x.doings) grew []
+  pub asked : asked_of from turns p ≡ recall (λ a deed b m. asked_by a deed b ++ m) o.held.state (deeds_of x.doings) grew []
+
+abbrev pub plains : List Past → List Peer
+plains pasts = map plain (peers pasts)
+
+pub record IsRun (from : Opening) (opening : List Living) (pasts : List Past) : Type 0 where
+  pub turns : List (Turn Deed)
+  pub deeds : AreSteps (programs pasts) turns
+  pub led : LeadTo from turns (plains pasts)
+  pub obeys : (p : ℕ) (x : Past) → slice_get pasts p ≡ Some x → Obeys from.peers turns (plains pasts) p (peer x.living.held.state)
+  pub own : (p : ℕ) (o : Living) (x : Past) → slice_get opening p ≡ Some o → slice_get pasts p ≡ Some x → IsOwn from.peers turns p o x
+
+abbrev pub ProgramObeys : Type 0
+ProgramObeys = (from : Opening) (opening : List Living) (pasts : List Past) → map (λ (o : Living). peer o.held.state) opening ≡ from.peers → AreTold opening pasts → IsRun from opening pasts

@@ -1,0 +1,23 @@
+//! What the threads of any program did with their endpoints was done in some order of turns.
+//!
+//! Read `specs/` in this order: `Doings` (what a thread keeps of its endpoint's calls: the acts, with the calls
+//! themselves), then `Law` (an endpoint since the opening, what is known once the threads are joined, and what follows).
+//! `proofs/Keeping` says what a thread adds to its record at each call, from the call's contract; `proofs/Opening` where
+//! the premises come from; `proofs/Reaching` has the order, in which the moves of all ports merge, and `proofs/Obeying`
+//! the laws of `fab_laws` over it.
+#![tactic(auto)]
+
+ghost use Rattle.fab_doings.specs.Law.{ProgramObeys, ProgramReaches};
+
+/// What the threads of a program did is a run of the program's machine.
+///
+/// Each thread keeps the doings of all calls of its endpoint, and the states after them, and its port tells its moves.
+/// Where the moves of all ports merge, and the frames taken of each peer are the first of those that it posted, all
+/// doings together were done in some order of turns, from the opening to the endpoints as they are (`reached`). Where
+/// the endpoints started as the peers of a program do, each of the laws of matching, completion, fences, replies, streams
+/// and messages holds of them at the end of these turns, and what an endpoint accepted, and which receives it was asked
+/// for, is what its thread's own record says (`obeyed`).
+pub fn law_doings()
+    ensures reached { ProgramReaches }
+    ensures obeyed { ProgramObeys }
+{}
