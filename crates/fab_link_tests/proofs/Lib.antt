@@ -1,1 +1,2 @@
 mod Owing
+mod Paying

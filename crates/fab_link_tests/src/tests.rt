@@ -4,6 +4,7 @@ ghost use Rattle.fab_wire.specs.Frames.{IsSound, MayCome, frame as frame_of};
 ghost use Rattle.fab_link.specs.Carry.{AreAll};
 ghost use Rattle.fab_link.specs.Plain.{fresh_lane};
 
+use crate::answering::answer;
 use crate::narrow::NarrowPort;
 use fab_base::{Ack, Buf, Frame, FrameHead, ItemHead, Kind, Outcome};
 use fab_link::carry::carry;
@@ -366,5 +367,41 @@ fn a_lane_with_room_takes_a_frame(rt: HostRuntime) -> Result<(), Fail> {
 #[test]
 fn without_a_pool_no_bytes_are_taken(rt: HostRuntime) -> Result<(), Fail> {
     assert!(rt; taken_by(rt.alloc(), 1, b"a") == Some(Err(PostRefused::PoolFull)));
+    Ok(())
+}
+
+/// The head of the one frame of a request of no bytes.
+fn request_head() -> FrameHead
+    ensures total { result.item.total ≡ 0 }
+    ensures from { result.from ≡ 0 }
+    ensures len { result.len ≡ 0 }
+    ensures sound { IsSound result.item }
+{
+    let item = ItemHead {
+        kind: Kind::WriteReq,
+        ..message(0, 0)
+    };
+    FrameHead {
+        item,
+        from: 0,
+        len: 0,
+    }
+}
+
+/// Whether a port answers the request that came from peer 0.
+fn answers(alloc: Global) -> bool {
+    let Ok(bytes) = Buf::zeros(alloc, 0) else {
+        return false;
+    };
+    let head = request_head();
+    match PlainPort::new(alloc, 1, 2) {
+        Ok(mut port) => port.bring(0, Frame { head, bytes }).is_ok() && answer(&mut port, 0),
+        Err(_) => false,
+    }
+}
+
+#[test]
+fn a_request_is_answered(rt: HostRuntime) -> Result<(), Fail> {
+    assert!(rt; answers(rt.alloc()));
     Ok(())
 }
