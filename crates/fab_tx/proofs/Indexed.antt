@@ -1,5 +1,5 @@
 -- The operations that await a reply of one peer, as they are stored and searched.
-use Rattle.std.proofs.Common.{◌≡◌, ◌≢◌, ℕ, suc, ◌+◌, ◌==◌, inl, inr, Bool, true, false, nat_eq, cond, List, [], ◌∷◌, ◌++◌, find, get_or, remove, position, Option, Some, None, refl, sym, ap, subst, ◌∙◌, arith, append_assoc, append-nil}
+use Rattle.std.proofs.Common.{◌≡◌, ◌≢◌, ℕ, suc, ◌+◌, ◌<◌, ◌==◌, inl, inr, Bool, true, false, nat_eq, cond, List, [], ◌∷◌, ◌++◌, length, find, drop, get_or, remove, position, Option, Some, None, refl, sym, ap, subst, ◌∙◌, arith, append_assoc}
 use Rattle.std.specs.Option.{option_map}
 use Rattle.std.specs.List.{position_from}
 use Rattle.std.specs.Map.{lookup}
@@ -13,7 +13,7 @@ use Rattle.fab_base.specs.declared.items.ItemHead.{ItemHead}
 use Rattle.fab_model.specs.Matching.{remove_first}
 use Rattle.fab_tx.specs.declared.awaiting.Numbered.{Numbered}
 use Rattle.fab_tx.specs.declared.stored.Live.{Live}
-use Rattle.fab_tx.specs.Awaiting.{Each, Lacks, IsDistinct, In, IsIndexed, IsNumbered, answers_in, expects_by, first_in, is_answered_at, answers_one, keys_of, numbers_of}
+use Rattle.fab_tx.specs.Awaiting.{Each, Lacks, IsDistinct, In, IsIndexed, IsNumbered, StillIndexed, answers_in, expects_by, first_in, is_answered_at, answers_one, keys_of, numbers_of}
 use Rattle.fab_tx.proofs.Keys.{distinct_push, Each-append, Each-left, Each-right, Each-map}
 use Rattle.fab_tx.proofs.Ops.{clash, find_past, remove_past, find_none, remove_none, find_here, remove_here}
 
@@ -268,21 +268,46 @@ module _ {S : Type 0} (s : Slab Live) (reply : ItemHead) (es : List Numbered) (i
 
 -- ---- one more
 
-module _ {S : Type 0} (es : List Numbered) (index : HashMap ℕ ℕ S) (again : List Numbered) (is : IsIndexed es index again) (e : Numbered) (index' : HashMap ℕ ℕ S) where
-  pub joins_index : again ≡ [] → led_to nat_eq index e.number ≡ None → Updates nat_eq index index' e.number (Some e.key) → IsIndexed (es ++ e ∷ []) index' again
-  joins_index none fresh up = record {
+pub joins : {S : Type 0} (es : List Numbered) (index : HashMap ℕ ℕ S) (queue queue' : List Numbered) (e : Numbered) → IsIndexed es index queue → queue' ≡ queue ++ e ∷ [] → IsIndexed (es ++ e ∷ []) index queue'
+joins es index queue queue' e is more = record {
+  first = is.first;
+  are = ap (λ xs. xs ++ e ∷ []) is.are ∙ append_assoc is.first queue (e ∷ []) ∙ ap (λ ys. is.first ++ ys) (sym more);
+  distinct = is.distinct;
+  leads = is.leads;
+  all = is.all;
+}
+
+-- ---- the first of the queue goes into the index
+
+pub unchanged : {S : Type 0} (index index' : HashMap ℕ ℕ S) (queue : List Numbered) → IsUnchanged index index' → StillIndexed index queue index' queue
+unchanged index index' queue same es is =
+    let led : (n : ℕ) → led_to nat_eq index' n ≡ led_to nat_eq index n = λ n. ap (lookup (nat_eq n)) same in
+    record {
+      first = is.first;
+      are = is.are;
+      distinct = is.distinct;
+      leads = Each-map (λ (e : Numbered). led_to nat_eq index e.number ≡ Some e.key) (λ (e : Numbered). led_to nat_eq index' e.number ≡ Some e.key) (λ e l. led e.number ∙ l) is.first is.leads;
+      all = λ n k g. is.all n k (sym (led n) ∙ g);
+    }
+
+module _ {S : Type 0} (index index' : HashMap ℕ ℕ S) (e : Numbered) (rest : List Numbered) (es : List Numbered) (is : IsIndexed es index (e ∷ rest)) where
+  abbrev Led : Numbered → Type 0
+  Led x = led_to nat_eq index x.number ≡ Some x.key
+
+  pub moves : led_to nat_eq index e.number ≡ None → Updates nat_eq index index' e.number (Some e.key) → IsIndexed es index' rest
+  moves fresh up = record {
     first = is.first ++ e ∷ [];
-    are = ap (λ xs. xs ++ e ∷ []) (is.are ∙ ap (λ ys. is.first ++ ys) none) ∙ append_assoc is.first [] (e ∷ []) ∙ ap (λ ys. is.first ++ ys) refl ∙ sym (append-nil (is.first ++ e ∷ [])) ∙ ap (λ ys. (is.first ++ e ∷ []) ++ ys) (sym none);
+    are = is.are ∙ sym (append_assoc is.first (e ∷ []) rest);
     distinct = subst IsDistinct (sym (map-append (λ (e : Numbered). e.number) is.first (e ∷ []))) (distinct_push (numbers_of is.first) e.number is.distinct (lacks_of e.number is.first (new is.first is.leads)));
-    leads = Each-append (λ (e : Numbered). led_to nat_eq index' e.number ≡ Some e.key) is.first (e ∷ []) (kept is.first is.leads (new is.first is.leads)) (up.1, tt);
+    leads = Each-append (λ (x : Numbered). led_to nat_eq index' x.number ≡ Some x.key) is.first (e ∷ []) (kept is.first is.leads (new is.first is.leads)) (up.1, tt);
     all = λ n k g. by n k (nat_eq e.number n) refl (sym (up.0 n) ∙ g);
   }
     where
-      new : (xs : List Numbered) → Each (λ (e : Numbered). led_to nat_eq index e.number ≡ Some e.key) xs → Apart e.number xs
+      new : (xs : List Numbered) → Each Led xs → Apart e.number xs
       new [] l = tt
       new (x ∷ xs) l = ((λ same. let led = l.0 in let led' : led_to nat_eq index e.number ≡ Some x.key = ap (led_to nat_eq index) (sym same) ∙ led in absurd (cc)), new xs l.1)
 
-      kept : (xs : List Numbered) → Each (λ (e : Numbered). led_to nat_eq index e.number ≡ Some e.key) xs → Apart e.number xs → Each (λ (e : Numbered). led_to nat_eq index' e.number ≡ Some e.key) xs
+      kept : (xs : List Numbered) → Each Led xs → Apart e.number xs → Each (λ (x : Numbered). led_to nat_eq index' x.number ≡ Some x.key) xs
       kept [] l a = tt
       kept (x ∷ xs) l a = (up.2 x.number (let apart = a.0 in grind (arith, nat_tests)) ∙ l.0, kept xs l.1 a.1)
 
@@ -294,13 +319,13 @@ module _ {S : Type 0} (es : List Numbered) (index : HashMap ℕ ℕ S) (again : 
           subst (λ x. In x (is.first ++ e ∷ [])) whole (in_last e is.first)
       by n k false t g = in_more (record { number = n; key = k }) is.first (e ∷ []) (is.all n k g)
 
-  pub joins_behind : (again' : List Numbered) → again' ≡ again ++ e ∷ [] → IsUnchanged index index' → IsIndexed (es ++ e ∷ []) index' again'
-  joins_behind again' behind same =
-      let led : (n : ℕ) → led_to nat_eq index' n ≡ led_to nat_eq index n = λ n. ap (lookup (nat_eq n)) same in
-      record {
-        first = is.first;
-        are = ap (λ xs. xs ++ e ∷ []) is.are ∙ append_assoc is.first again (e ∷ []) ∙ ap (λ ys. is.first ++ ys) (sym behind);
-        distinct = is.distinct;
-        leads = Each-map (λ (e : Numbered). led_to nat_eq index e.number ≡ Some e.key) (λ (e : Numbered). led_to nat_eq index' e.number ≡ Some e.key) (λ e l. led e.number ∙ l) is.first is.leads;
-        all = λ n k g. is.all n k (sym (led n) ∙ g);
-      }
+front_is : (xs : List Numbered) (x : Numbered) → 0 < length xs → x ≡ get_or xs 0 x → xs ≡ x ∷ drop 1 xs
+front_is [] x some is = absurd (omega (arith, some))
+front_is (y ∷ xs) x some is = ap (λ z. z ∷ xs) (sym is)
+
+-- the first of the queue is put into the index
+pub front_moves : {S : Type 0} (index index' : HashMap ℕ ℕ S) (queue queue' : List Numbered) (e : Numbered) → 0 < length queue → e ≡ get_or queue 0 e → queue' ≡ drop 1 queue
+    → led_to nat_eq index e.number ≡ None → Updates nat_eq index index' e.number (Some e.key) → StillIndexed index queue index' queue'
+front_moves index index' queue queue' e some is rest fresh up es was =
+    let old = front_is queue e some is in
+    subst (IsIndexed es index') (sym rest) (moves index index' e (drop 1 queue) es (subst (IsIndexed es index) old was) fresh up)

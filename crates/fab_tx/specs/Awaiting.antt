@@ -5,7 +5,7 @@
 --     Awaited                     the value: numbers and keys of those that await, in their order, and how many there may be
 --     keys_of es                  their keys
 --     IsNumbered s e              the operation under the key has the number
---     IsIndexed                   how they are stored: first those to which the index leads, behind them the others
+--     IsIndexed                   how they are stored: first those to which the index leads, behind them those of the queue
 use Rattle.std.specs.Prelude.{◌≡◌, ◌≢◌, ℕ, ◌≤◌, ◌⊎◌, Bool, false, ◌&&◌, ◌==◌, nat_eq, cond, List, [], ◌∷◌, ◌++◌, map, Option, Some, None}
 use Rattle.std.specs.Option.{option_map}
 use Rattle.std.specs.HashMap.{HashMap, get as led_to}
@@ -85,10 +85,14 @@ abbrev pub In : Numbered → List Numbered → Type 0
 In e [] = ⊥
 In e (x ∷ xs) = (x ≡ e) ⊎ In e xs
 
--- These operations, of which the index has the first, each number once, and the others stand behind it.
-pub record IsIndexed {S : Type 0} (es : List Numbered) (index : HashMap ℕ ℕ S) (again : List Numbered) : Type 0 where
+-- These operations, of which the index has the first, each number once, and the others stand in the queue behind it.
+pub record IsIndexed {S : Type 0} (es : List Numbered) (index : HashMap ℕ ℕ S) (queue : List Numbered) : Type 0 where
   pub first : List Numbered
-  pub are : es ≡ first ++ again
+  pub are : es ≡ first ++ queue
   pub distinct : IsDistinct (numbers_of first)
   pub leads : Each (λ (e : Numbered). led_to nat_eq index e.number ≡ Some e.key) first
   pub all : (n k : ℕ) → led_to nat_eq index n ≡ Some k → In (record { number = n; key = k }) first
+
+-- whatever was stored is stored still
+abbrev pub StillIndexed : {S : Type 0} → HashMap ℕ ℕ S → List Numbered → HashMap ℕ ℕ S → List Numbered → Type 0
+StillIndexed index queue index' queue' = (es : List Numbered) → IsIndexed es index queue → IsIndexed es index' queue'

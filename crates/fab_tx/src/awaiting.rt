@@ -1,8 +1,9 @@
 //! The operations that await a reply of one peer.
 ghost use Rattle.std.specs.Prelude.{◌≡◌, ◌<◌, ◌≤◌, ◌∷◌, ◌++◌, [], None, Some, true, false, length, find, position, nat_eq, IfOk, IfNone};
 ghost use Rattle.std.specs.HashMap.{get, IsUnchanged, Updates};
+ghost use Rattle.std.specs.VecDeque.{deque_capacity};
 ghost use Rattle.fab_model.specs.Matching.{remove_first};
-ghost use Rattle.fab_tx.specs.Awaiting.{AwaitsNone, Each, IsNumbered, first_in, answers_one, keys_of};
+ghost use Rattle.fab_tx.specs.Awaiting.{AwaitsNone, Each, IsNumbered, StillIndexed, first_in, answers_one, keys_of};
 ghost use Rattle.fab_tx.specs.Stored.{is_answered_at};
 
 use crate::stored::{Live, is_answered_at};
@@ -54,17 +55,19 @@ impl<'a> Change<(&'a Slab<Live>, &'a ItemHead), Order> for Leaves {
     ghost after = { λ x es. remove_first (answers_one x.0.now x.1.now) es };
 }
 
-/// The operations that await a reply of one peer. Contracts see them in their order. Stored is to which key each number
-/// leads, so a reply finds its operation at the same cost wherever that stands among the others.
+/// The operations that await a reply of one peer. Contracts see them in their order.
 ///
-/// An operation goes without the index where its number leads to another one there, or where the index, as it is laid
-/// out anew, lacks memory. It then stands in `again`, in room that `new` took, and is searched for; so are all behind it
-/// until none is left there. Callers whose numbers rise never meet the first case.
+/// They stand in a queue, and a reply in its turn finds its operation at the front. One that comes out of turn passes
+/// those in front of its own, and these then go into the index, in which their numbers lead to their keys. So each is passed
+/// once, and a reply costs the same on the whole wherever its operation stands.
+///
+/// An operation stays in the queue, with all behind it, where its number leads to another one already (callers whose numbers
+/// rise never meet that), or where the index lacks memory. The room of the queue is taken in `new`.
 #[derive(Drop)]
 pub struct Awaiting {
     order: Record<(), Order, NoneAwaits>,
     index: HashMap<u64, usize>,
-    again: VecDeque<Numbered>,
+    queue: VecDeque<Numbered>,
 }
 
 impl Model for Awaiting {
@@ -73,22 +76,46 @@ impl Model for Awaiting {
 
     ghost Value = { Awaited };
 
-    ghost view = { λ a. record { entries = a.order; capacity = deque_capacity a.again } };
+    ghost view = { λ a. record { entries = a.order; capacity = deque_capacity a.queue } };
 
-    ghost invariant = { λ a. IsIndexed a.order a.index a.again.items };
+    ghost invariant = { λ a. IsIndexed a.order a.index a.queue.items };
 }
 
-/// Puts an operation into the index, if its number is new there and none stands behind the index.
-fn put_first(index: &mut HashMap<u64, usize>, again: &VecDeque<Numbered>, entry: Numbered) -> bool
-    ensures first { result ≡ true → again.now.items ≡ [] }
+/// Puts an operation into the index, if its number is new there and there is memory.
+fn put(index: &mut HashMap<u64, usize>, entry: Numbered) -> bool
     ensures fresh { result ≡ true → get nat_eq index.old entry.number ≡ None }
     ensures put { result ≡ true → Updates nat_eq index.old index.new entry.number (Some entry.key) }
     ensures same { result ≡ false → IsUnchanged index.old index.new }
 {
-    if !again.is_empty() || index.contains_key(&entry.number) {
+    !index.contains_key(&entry.number) && index.insert(entry.number, entry.key).is_ok()
+}
+
+/// Moves the first of the queue into the index, if its number is new there and there is memory.
+fn put_front(index: &mut HashMap<u64, usize>, queue: &mut VecDeque<Numbered>) -> bool
+    ensures still { StillIndexed index.old queue.old.items index.new queue.new.items }
+    ensures capacity { deque_capacity queue.new ≡ deque_capacity queue.old }
+{
+    let Some(entry) = queue.front() else {
+        return false;
+    };
+    let entry = *entry;
+    if !put(index, entry) {
         return false;
     }
-    index.insert(entry.number, entry.key).is_ok()
+    let _ = queue.pop_front();
+    true
+}
+
+/// Moves so many from the front of the queue into the index, as far as that goes.
+fn put_passed(index: &mut HashMap<u64, usize>, queue: &mut VecDeque<Numbered>, passed: usize)
+    ensures still { StillIndexed index.old queue.old.items index.new queue.new.items }
+    ensures capacity { deque_capacity queue.new ≡ deque_capacity queue.old }
+{
+    for _ in 0..passed {
+        if !put_front(index, queue) {
+            return;
+        }
+    }
 }
 
 /// The key to which the index leads, if the reply answers its operation.
@@ -104,10 +131,10 @@ fn indexed(index: &HashMap<u64, usize>, live: &Slab<Live>, reply: &ItemHead) -> 
 }
 
 /// Where the first of these stands that the reply answers.
-fn place_of(again: &VecDeque<Numbered>, live: &Slab<Live>, reply: &ItemHead) -> Option<usize>
-    ensures { result ≡ position (answers_one live.now reply.now) again.now.items }
+fn place_of(queue: &VecDeque<Numbered>, live: &Slab<Live>, reply: &ItemHead) -> Option<usize>
+    ensures { result ≡ position (answers_one live.now reply.now) queue.now.items }
 {
-    again
+    queue
         .iter()
         .position(|entry| is_answered_at(live, entry.key, reply))
 }
@@ -118,12 +145,12 @@ impl Awaiting {
         ensures { IfOk result (AwaitsNone most) }
     {
         let index = HashMap::with_capacity(alloc, most as usize)?;
-        let again = VecDeque::with_capacity(alloc, most as usize)?;
+        let queue = VecDeque::with_capacity(alloc, most as usize)?;
         let order = Record::new(alloc, &())?;
         Ok(Awaiting {
             order,
             index,
-            again,
+            queue,
         })
     }
 
@@ -132,16 +159,9 @@ impl Awaiting {
         requires { length self.old.entries < self.old.capacity }
         ensures { self.new ≡ record { entries = self.old.entries ++ entry ∷ []; capacity = self.old.capacity } }
     {
-        let Awaiting {
-            order,
-            index,
-            again,
-        } = self;
+        let Awaiting { order, queue, .. } = self;
         order.note::<Numbered, Joins>(&entry);
-        if put_first(index, again, entry) {
-            return;
-        }
-        again.push_back_reserved(entry);
+        queue.push_back_reserved(entry);
     }
 
     /// The key of the first operation that a reply answers.
@@ -152,8 +172,8 @@ impl Awaiting {
         if let Some(key) = indexed(&self.index, live, reply) {
             return Some(key);
         }
-        let at = place_of(&self.again, live, reply)?;
-        Some(self.again[at].key)
+        let at = place_of(&self.queue, live, reply)?;
+        Some(self.queue[at].key)
     }
 
     /// Takes the first operation out that a reply answers, and answers its key.
@@ -166,15 +186,16 @@ impl Awaiting {
         let Awaiting {
             order,
             index,
-            again,
+            queue,
         } = self;
         order.note::<(&Slab<Live>, &ItemHead), Leaves>(&(live, reply));
         if let Some(key) = indexed(index, live, reply) {
             let _ = index.remove(&reply.op);
             return Some(key);
         }
-        let at = place_of(again, live, reply)?;
-        let entry = again.remove(at)?;
+        let at = place_of(queue, live, reply)?;
+        let entry = queue.remove(at)?;
+        put_passed(index, queue, at);
         Some(entry.key)
     }
 }
