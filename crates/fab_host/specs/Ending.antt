@@ -10,7 +10,7 @@ use Rattle.fab_base.specs.declared.status.Status.{Status}
 use Rattle.fab_base.specs.declared.status.Status.TheVariants.{Done, Stuck, Usage, ScriptRefused, TooLong, ReadFault, WriteFault, NoMemory}
 use Rattle.fab_base.specs.declared.status.Why.{Why}
 use Rattle.fab_base.specs.declared.status.Why.TheVariants.{NotText, Header, Verb, Order, Twice, Words, Number, Peer, Limit, NoData, Missing, FileRange}
-use Rattle.fab_top.specs.Runs.{Writes, Tells, Benches, Checks, Sums}
+use Rattle.fab_top.specs.Runs.{Writes, Tells, Benches, Checks, Sums, Collects}
 
 abbrev pub status_number : Status → ℕ
 status_number Done = 0
@@ -39,7 +39,7 @@ why_name FileRange = codes "FileRange"
 abbrev pub line_of_end : Status → List ℕ
 line_of_end Done = []
 line_of_end Stuck = []
-line_of_end Usage = codes "usage: fabric_pingpong script FILE | pingpong FILE SIZE COUNT | bandwidth FILE SIZE COUNT WINDOW | gen NUMBER PEERS MESSAGES | info CAPS | replay FILE TRACE | window NUMBER PEERS WORDS ADDS" ++ 10 ∷ []
+line_of_end Usage = codes "usage: fabric_pingpong script FILE | pingpong FILE SIZE COUNT | bandwidth FILE SIZE COUNT WINDOW | gen NUMBER PEERS MESSAGES | info CAPS | replay FILE TRACE | window NUMBER PEERS WORDS ADDS | coll FILE" ++ 10 ∷ []
 line_of_end (ScriptRefused line why) = codes "script refused at line " ++ decimal line ++ codes ": " ++ why_name why ++ 10 ∷ []
 line_of_end (TooLong name) = codes "too long: " ++ name ++ 10 ∷ []
 line_of_end (ReadFault name) = codes "read fault: " ++ name ++ 10 ∷ []
@@ -50,11 +50,11 @@ line_of_end NoMemory = codes "out of memory" ++ 10 ∷ []
 abbrev pub IsTold : Option (List ℕ) → Option (List ℕ) → ℕ → ℕ → Status → Type 0
 IsTold before after faults faults' status = (after ≡ append_known before (line_of_end status)) ⊎ Rose faults faults'
 
--- Some words name a script, and the report of a lawful run of it that did all lines was written; or some words ask what is granted, and this was written; or some words name a workload, and its line with two moments of the clock was written; or some words name a script and a trace, and the line on them was written; or some words ask peers to add to a window, and what its words hold was written. The files and the output of the system tell no bytes.
+-- Some words name a script, and the report of a lawful run of it that did all lines was written; or some words ask what is granted, and this was written; or some words name a workload, and its line with two moments of the clock was written; or some words name a script and a trace, and the line on them was written; or some words ask peers to add to a window, and what its words hold was written; or some words name a file of rounds, and what each rank makes of them was written. The files and the output of the system tell no bytes.
 abbrev pub HasAnswered : Type 0
 HasAnswered =
     (words : List (List ℕ))
-    × (Writes None words true None None ⊎ Tells words None None ⊎ ((given first last : ℕ) × Benches words given first last None None) ⊎ Checks None words None None ⊎ Sums words None None)
+    × (Writes None words true None None ⊎ Tells words None None ⊎ ((given first last : ℕ) × Benches words given first last None None) ⊎ Checks None words None None ⊎ Sums words None None ⊎ Collects None words None None)
 
 -- Some words name a script, and the report of a lawful run of it that left a line was written.
 abbrev pub HasReported : Type 0

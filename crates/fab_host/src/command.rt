@@ -7,7 +7,7 @@ ghost use Rattle.fab_base.specs.declared.status.Status.TheVariants.{Done, Stuck,
 ghost use Rattle.fab_base.specs.declared.status.Why.{Why};
 ghost use Rattle.fab_top.specs.Commands.{IsNoCommand};
 ghost use Rattle.fab_outside.specs.Loading.{IsOver};
-ghost use Rattle.fab_top.specs.Runs.{AskFor, IsRefused, Writes, WritesPart, Tells, TellsPart, Benches, BenchesPart, Checks, ChecksPart, Sums, SumsPart, IsUnhindered, IsAnswered, IsSilent};
+ghost use Rattle.fab_top.specs.Runs.{AskFor, IsRefused, Writes, WritesPart, Tells, TellsPart, Benches, BenchesPart, Checks, ChecksPart, Sums, SumsPart, Collects, CollectsPart, IsUnhindered, IsAnswered, IsSilent};
 ghost use Rattle.fab_host.specs.Ending.{status_number, IsTold, HasAnswered, HasReported};
 
 use crate::adapters::{FileDepot, OpenGate, OutSink, WallClock};
@@ -55,14 +55,16 @@ where
         ⊎ Tells words.now (S.bytes sink.old) (S.bytes sink.new)
         ⊎ Benches words.now (C.given clock.new) (C.first clock.new) (C.last clock.new) (S.bytes sink.old) (S.bytes sink.new)
         ⊎ Checks (D.files depot.old) words.now (S.bytes sink.old) (S.bytes sink.new)
-        ⊎ Sums words.now (S.bytes sink.old) (S.bytes sink.new) }
+        ⊎ Sums words.now (S.bytes sink.old) (S.bytes sink.new)
+        ⊎ Collects (D.files depot.old) words.now (S.bytes sink.old) (S.bytes sink.new) }
     ensures stuck { result.status ≡ Stuck → Writes (D.files depot.old) words.now false (S.bytes sink.old) (S.bytes sink.new) }
     ensures write_fault { result.status ≡ WriteFault → Rose (S.faults sink.old) (S.faults sink.new)
         × (WritesPart (D.files depot.old) words.now (S.bytes sink.old) (S.bytes sink.new)
         ⊎ TellsPart words.now (S.bytes sink.old) (S.bytes sink.new)
         ⊎ BenchesPart words.now (C.given clock.new) (C.first clock.new) (C.last clock.new) (S.bytes sink.old) (S.bytes sink.new)
         ⊎ ChecksPart (D.files depot.old) words.now (S.bytes sink.old) (S.bytes sink.new)
-        ⊎ SumsPart words.now (S.bytes sink.old) (S.bytes sink.new)) }
+        ⊎ SumsPart words.now (S.bytes sink.old) (S.bytes sink.new)
+        ⊎ CollectsPart (D.files depot.old) words.now (S.bytes sink.old) (S.bytes sink.new)) }
     ensures silent { IsSilent result.status → S.bytes sink.new ≡ S.bytes sink.old }
     ensures files { D.files depot.new ≡ D.files depot.old }
     ensures complete { IsUnhindered (D.files depot.old) words.now (D.faults depot.old) (D.faults depot.new) (S.faults sink.old) (S.faults sink.new)
@@ -82,7 +84,7 @@ where
 ///
 /// No contract can say which words, files and bytes the system gives and takes. The exit status is 0 or 1 only
 /// where a script was run and its report was written, or 0 where what is granted, the line of a workload,
-/// that on a report, or what a window holds was asked for and written.
+/// that on a report, what a window holds, or what ranks make of rounds was asked for and written.
 pub fn program<R, E: Write + Drop>(rt: &R, errors: E) -> ExitCode
 where
     R: Env + Files + rt::Clock + Print + AllocGlobal + Threads + Wait + Sync,
