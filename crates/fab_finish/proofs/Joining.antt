@@ -177,6 +177,9 @@ module _ (ps : List Member) (k : ℕ) (a b : Member) (acts : List Act) (joined_p
   shows : Shows (view_of ps k) a.endpoint.held (λ s. taken_of s acts)
   shows = record { items = λ s. (shown_at s).0; sent = λ s. (shown_at s).1 }
 
+  pub turn_leads : Leads (rule fabric) (actors ps) (by k (steps_of acts)) (slice_set (actors ps) k (member_actor b))
+  turn_leads = walk_leads (steps_of acts) (actors ps) k (view_of ps k) (member_actor a) (member_actor b) (actor_at ps k a is_a) refl (more_of ps k) (turned.walk (view_of ps k) shows)
+
   pub turn_goes_on : GoesOn ps (slice_set ps k b)
   turn_goes_on first reached =
       let qs = slice_set ps k b in
@@ -255,7 +258,7 @@ module _ (ps : List Member) (k : ℕ) (a b : Member) (acts : List Act) (joined_p
       }
 
 -- both, where the turn succeeded
-pub turned_all : {E : Type 0} (r : Result Bool E) (ps : List Member) (k : ℕ) (a b : Member) → IsJoined ps → slice_get ps k ≡ Some a → OnOk r (b.endpoint.log ≡ []) → OnOk r (IsCounted (living_of (told_of b)))
-    → IfOk r (λ moved. (acts : List Act) × Turned (told_of a) (told_of b) acts × (moved ≡ is_some_act acts)) → OnOk r (IsJoined (slice_set ps k b)) × OnOk r (GoesOn ps (slice_set ps k b))
-turned_all (Ok moved) ps k a b joined_ps is_a log counted (acts, turned, is) = (turn_joined ps k a b acts joined_ps is_a turned log counted, turn_goes_on ps k a b acts joined_ps is_a turned)
-turned_all (Err e) ps k a b joined_ps is_a log counted turned = (_, _)
+pub turned_all : {X E : Type 0} (moved : X → Bool) (r : Result X E) (ps : List Member) (k : ℕ) (a b : Member) → IsJoined ps → slice_get ps k ≡ Some a → OnOk r (b.endpoint.log ≡ []) → OnOk r (IsCounted (living_of (told_of b)))
+    → IfOk r (λ x. (acts : List Act) × Turned (told_of a) (told_of b) acts × (moved x ≡ is_some_act acts)) → OnOk r (IsJoined (slice_set ps k b)) × OnOk r (GoesOn ps (slice_set ps k b))
+turned_all moved (Ok x) ps k a b joined_ps is_a log counted (acts, turned, is) = (turn_joined ps k a b acts joined_ps is_a turned log counted, turn_goes_on ps k a b acts joined_ps is_a turned)
+turned_all moved (Err e) ps k a b joined_ps is_a log counted turned = (_, _)

@@ -4,3 +4,4 @@ pub mod Starting
 pub mod Carried
 pub mod Ending
 pub mod Clearing
+pub mod Freight

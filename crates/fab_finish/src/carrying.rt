@@ -1,6 +1,7 @@
 //! What plain ports posted is carried to their receivers.
-ghost use Rattle.std.specs.Prelude.{◌≡◌, ◌≢◌, ℕ, ◌+◌, ◌<◌, ◌⊎◌, [], length, true, false, Ok, OnOk};
+ghost use Rattle.std.specs.Prelude.{◌≡◌, ◌≢◌, ℕ, ◌+◌, ◌<◌, ◌≤◌, ◌⊎◌, ◌||◌, [], length, true, false, Ok, OnOk, IfOk};
 ghost use Rattle.fab_link.specs.Plain.{left};
+ghost use Rattle.fab_finish.specs.Freight.{freight, one_if};
 ghost use Rattle.fab_finish.specs.Joined.{lane, IsJoined, actors, schedules};
 
 use fab_base::NoMemory;
@@ -12,6 +13,7 @@ use fab_quantum::peer::Peer;
 pub(crate) fn either(a: bool, b: bool) -> bool
     ensures yes { result ≡ true → (a ≡ true) ⊎ (b ≡ true) }
     ensures no { result ≡ false → (a ≡ false) × (b ≡ false) }
+    ensures is { result ≡ (a || b) }
 {
     a || b
 }
@@ -33,6 +35,7 @@ fn carry_one<C: Machinery + Drop>(
     ensures one { result ≡ Ok true → length (left (lane peers.new from to)) + 1 ≡ length (left (lane peers.old from to)) }
     ensures none { result ≡ Ok false → left (lane peers.new from to) ≡ [] }
     ensures same { result ≡ Ok false → peers.new ≡ peers.old }
+    ensures less { IfOk result (λ moved. freight peers.new + one_if moved ≤ freight peers.old) }
 {
     let Some(frame) = peers[from as usize].endpoint.take_out(to) else {
         return Ok(false);
@@ -58,6 +61,7 @@ fn carry_lane<C: Machinery + Drop>(
     ensures others { OnOk result ((s r : ℕ) → (s ≢ from) ⊎ (r ≢ to) → left (lane peers.new s r) ≡ left (lane peers.old s r)) }
     ensures none { OnOk result (left (lane peers.new from to) ≡ []) }
     ensures same { result ≡ Ok false → peers.new ≡ peers.old }
+    ensures less { IfOk result (λ moved. freight peers.new + one_if moved ≤ freight peers.old) }
 {
     let mut moved = false;
     'frames: while carry_one(peers, from, to)? {
@@ -79,6 +83,7 @@ fn carry_from<C: Machinery + Drop>(
     ensures others { OnOk result ((s r : ℕ) → s ≢ from → left (lane peers.new s r) ≡ left (lane peers.old s r)) }
     ensures none { OnOk result ((r : ℕ) → r < length peers.new → left (lane peers.new from r) ≡ []) }
     ensures same { result ≡ Ok false → peers.new ≡ peers.old }
+    ensures less { IfOk result (λ moved. freight peers.new + one_if moved ≤ freight peers.old) }
 {
     let count = peers.len() as u32;
     let mut moved = false;
@@ -99,6 +104,7 @@ pub(crate) fn carry<C: Machinery + Drop>(
     ensures schedules { OnOk result (schedules peers.new ≡ schedules peers.old) }
     ensures none { OnOk result ((s r : ℕ) → s < length peers.new → r < length peers.new → left (lane peers.new s r) ≡ []) }
     ensures same { result ≡ Ok false → peers.new ≡ peers.old }
+    ensures less { IfOk result (λ moved. freight peers.new + one_if moved ≤ freight peers.old) }
 {
     let count = peers.len() as u32;
     let mut moved = false;

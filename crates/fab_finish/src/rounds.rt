@@ -1,48 +1,115 @@
 //! Rounds: each peer takes its turn, and then all frames are carried.
-ghost use Rattle.std.specs.Prelude.{◌≡◌, ◌≢◌, ℕ, ◌<◌, length, slice_get, false, Ok, OnOk};
-ghost use Rattle.fab_finish.specs.Joined.{IsJoined, GoesOn, IsStillAt, AreStill};
+ghost use Rattle.std.specs.Prelude.{◌≡◌, ◌≢◌, ℕ, ◌<◌, List, [], length, nat_lt, slice_get, true, false, Ok, IfOk, OnOk};
+ghost use Rattle.fab_face.specs.Acts.{Act};
+ghost use Rattle.fab_face.specs.Held.{IsOpen};
+ghost use Rattle.fab_laws.specs.Work.{work};
+ghost use Rattle.fab_quantum.specs.Turns.{IsCounted, IsStill, Turned, is_some_act, living_of};
+ghost use Rattle.fab_finish.specs.Freight.{Lowers};
+ghost use Rattle.fab_finish.specs.Joined.{IsJoined, GoesOn, IsStillAt, AreStill, actors, seen_plain, told_of};
 
 use crate::carrying::{carry, either};
 use fab_base::NoMemory;
 use fab_ep::endpoint::Endpoint;
+use fab_face::calls::Sees;
 use fab_link::PlainPort;
 use fab_quantum::calls::Machinery;
 use fab_quantum::peer::Peer;
 
-/// One peer's turn. Whether anything moved: if not, it can do nothing.
+/// What became of a turn or a round: whether anything moved, and whether a step was taken.
+#[derive(Clone, Copy, Drop)]
+struct Went {
+    moved: bool,
+    stepped: bool,
+}
+
+fn is_more(a: usize, b: usize) -> bool
+    ensures { result ≡ nat_lt b a }
+{
+    a > b
+}
+
+/// One peer's turn, and whether its schedule grew.
+fn take_turn<C: Machinery + Drop>(peer: &mut Peer<Endpoint<PlainPort, C>>) -> Result<Went, NoMemory>
+    requires log { peer.old.endpoint.log ≡ [] }
+    requires counted { IsCounted (living_of (told_of peer.old)) }
+    ensures open { IsOpen (seen_plain peer.old.endpoint) }
+    ensures log { OnOk result (peer.new.endpoint.log ≡ []) }
+    ensures counted { OnOk result (IsCounted (living_of (told_of peer.new))) }
+    ensures turned { IfOk result (λ w. (acts : List Act) × Turned (told_of peer.old) (told_of peer.new) acts × (w.moved ≡ is_some_act acts)) }
+    ensures stepped { IfOk result (λ w. w.stepped ≡ nat_lt (length (told_of peer.old).schedule) (length (told_of peer.new).schedule)) }
+    ensures still { IfOk result (λ w. w.moved ≡ false → IsStill (told_of peer.old) (told_of peer.new)) }
+{
+    peer.endpoint.known();
+    let before = peer.schedule().len();
+    let moved = peer.quantum()?;
+    let after = peer.schedule().len();
+    Ok(Went {
+        moved,
+        stepped: is_more(after, before),
+    })
+}
+
+/// One peer's turn. If nothing moved, it can do nothing.
 fn turn<C: Machinery + Drop>(
     peers: &mut [Peer<Endpoint<PlainPort, C>>],
     number: usize,
-) -> Result<bool, NoMemory>
+) -> Result<Went, NoMemory>
     requires joined { IsJoined peers.old }
     requires below { number < length peers.old }
     ensures joined { OnOk result (IsJoined peers.new) }
     ensures on { OnOk result (GoesOn peers.old peers.new) }
     ensures others { (k : ℕ) → k ≢ number → slice_get peers.new k ≡ slice_get peers.old k }
-    ensures still { result ≡ Ok false → IsStillAt peers.new number }
+    ensures still { IfOk result (λ w. w.moved ≡ false → IsStillAt peers.new number) }
+    ensures lowers { IfOk result (λ w. Lowers w.stepped w.moved peers.old peers.new) }
 {
-    peers[number].quantum()
+    take_turn(&mut peers[number])
 }
 
-/// Each peer's turn, and then what they posted is carried. Whether anything moved: if not, no peer can do
-/// anything.
-fn round<C: Machinery + Drop>(peers: &mut [Peer<Endpoint<PlainPort, C>>]) -> Result<bool, NoMemory>
+/// Each peer's turn, and then what they posted is carried. If nothing moved, no peer can do anything.
+fn round<C: Machinery + Drop>(peers: &mut [Peer<Endpoint<PlainPort, C>>]) -> Result<Went, NoMemory>
+    requires joined { IsJoined peers.old }
+    ensures joined { OnOk result (IsJoined peers.new) }
+    ensures on { OnOk result (GoesOn peers.old peers.new) }
+    ensures still { IfOk result (λ w. w.moved ≡ false → AreStill peers.new) }
+    ensures lowers { IfOk result (λ w. Lowers w.stepped w.moved peers.old peers.new) }
+{
+    let mut moved = false;
+    let mut stepped = false;
+    for number in 0..peers.len() {
+        let went = turn(peers, number)?;
+        moved = either(moved, went.moved);
+        stepped = either(stepped, went.stepped);
+    }
+    let carried = carry(peers)?;
+    let any = either(moved, carried);
+    Ok(Went {
+        moved: any,
+        stepped,
+    })
+}
+
+/// Rounds until one takes a step, or moves nothing. Whether a step was taken: if not, no peer can do anything.
+///
+/// Each round that goes on moves frames of items that are begun, and so leaves fewer to move.
+fn go_on<C: Machinery + Drop>(peers: &mut [Peer<Endpoint<PlainPort, C>>]) -> Result<bool, NoMemory>
     requires joined { IsJoined peers.old }
     ensures joined { OnOk result (IsJoined peers.new) }
     ensures on { OnOk result (GoesOn peers.old peers.new) }
     ensures still { result ≡ Ok false → AreStill peers.new }
+    ensures less { result ≡ Ok true → work (actors peers.new) < work (actors peers.old) }
 {
-    let mut moved = false;
-    for number in 0..peers.len() {
-        let stepped = turn(peers, number)?;
-        moved = either(moved, stepped);
+    'rounds: loop {
+        let went = round(peers)?;
+        if went.stepped {
+            return Ok(true);
+        }
+        if !went.moved {
+            return Ok(false);
+        }
     }
-    let carried = carry(peers)?;
-    Ok(either(moved, carried))
 }
 
-/// Rounds until one moves nothing. Each round that goes on makes a schedule or a list of frames longer, so memory ends
-/// long before the 2^64 - 1 rounds that are made at most.
+/// Rounds until one moves nothing. Each step lowers what the peers have still to do, so this ends.
 pub(crate) fn settle<C: Machinery + Drop>(
     peers: &mut [Peer<Endpoint<PlainPort, C>>],
 ) -> Result<(), NoMemory>
@@ -51,10 +118,6 @@ pub(crate) fn settle<C: Machinery + Drop>(
     ensures on { OnOk result (GoesOn peers.old peers.new) }
     ensures still { OnOk result (AreStill peers.new) }
 {
-    for _round in 0..u64::MAX {
-        if !round(peers)? {
-            return Ok(());
-        }
-    }
-    Err(NoMemory)
+    'steps: while go_on(peers)? {}
+    Ok(())
 }

@@ -2,7 +2,6 @@
 --     status_number status     the exit status
 --     line_of_end status       the line on standard error, with its line feed
 --     IsTold .. status         that line was written, or the writing failed
---     HasAnswered, HasReported what stands behind the exit statuses 0 and 1
 use Rattle.std.specs.Prelude.{◌≡◌, ℕ, ◌⊎◌, true, false, List, [], ◌∷◌, ◌++◌, codes, decimal, Option, None}
 use Rattle.std.specs.Io.KnownBytes.{append_known}
 use Rattle.fab_base.specs.Counts.{Rose}
@@ -10,7 +9,8 @@ use Rattle.fab_base.specs.declared.status.Status.{Status}
 use Rattle.fab_base.specs.declared.status.Status.TheVariants.{Done, Stuck, Usage, ScriptRefused, TooLong, ReadFault, WriteFault, NoMemory}
 use Rattle.fab_base.specs.declared.status.Why.{Why}
 use Rattle.fab_base.specs.declared.status.Why.TheVariants.{NotText, Header, Verb, Order, Twice, Words, Number, Peer, Limit, NoData, Missing, FileRange}
-use Rattle.fab_top.specs.Runs.{Writes, Tells, Benches, Checks, Sums, Collects}
+use Rattle.fab_host.specs.declared.command.WordsRefused.{WordsRefused}
+use Rattle.fab_host.specs.declared.command.WordsRefused.TheVariants.{NotText as WordIsNoText, NoMemory as WordsLackMemory}
 
 abbrev pub status_number : Status → ℕ
 status_number Done = 0
@@ -21,6 +21,11 @@ status_number (TooLong name) = 4
 status_number (ReadFault name) = 5
 status_number WriteFault = 6
 status_number NoMemory = 7
+
+-- the status where there are no words: a word that is no text is no command
+abbrev pub status_without : WordsRefused → Status
+status_without WordIsNoText = Usage
+status_without WordsLackMemory = NoMemory
 
 abbrev pub why_name : Why → List ℕ
 why_name NotText = codes "NotText"
@@ -49,13 +54,3 @@ line_of_end NoMemory = codes "out of memory" ++ 10 ∷ []
 -- the line of this end was written, or the count of faults of where it is written rose
 abbrev pub IsTold : Option (List ℕ) → Option (List ℕ) → ℕ → ℕ → Status → Type 0
 IsTold before after faults faults' status = (after ≡ append_known before (line_of_end status)) ⊎ Rose faults faults'
-
--- Some words name a script, and the report of a lawful run of it that did all lines was written; or some words ask what is granted, and this was written; or some words name a workload, and its line with two moments of the clock was written; or some words name a script and a trace, and the line on them was written; or some words ask peers to add to a window, and what its words hold was written; or some words name a file of rounds, and what each rank makes of them was written. The files and the output of the system tell no bytes.
-abbrev pub HasAnswered : Type 0
-HasAnswered =
-    (words : List (List ℕ))
-    × (Writes None words true None None ⊎ Tells words None None ⊎ ((given first last : ℕ) × Benches words given first last None None) ⊎ Checks None words None None ⊎ Sums words None None ⊎ Collects None words None None)
-
--- Some words name a script, and the report of a lawful run of it that left a line was written.
-abbrev pub HasReported : Type 0
-HasReported = (words : List (List ℕ)) × Writes None words false None None

@@ -1,5 +1,5 @@
 //! One run of the program, from the words of its command line to its exit status.
-ghost use Rattle.std.specs.Prelude.{◌≡◌, ◌<◌, ◌≤◌, ◌↔◌, ◌⊎◌, ℕ, List, true, false, None, Some, IfOk, map, drop, length, string_bytes};
+ghost use Rattle.std.specs.Prelude.{◌≡◌, ◌≢◌, ◌<◌, ◌↔◌, ◌⊎◌, ℕ, List, true, false, None, Some, IfOk, map, drop, length, string_bytes};
 ghost use Rattle.std.specs.Process.{exit_status};
 ghost use Rattle.std.specs.Vec.Iter.{into_iter_items};
 ghost use Rattle.fab_base.specs.Counts.{Rose};
@@ -7,22 +7,21 @@ ghost use Rattle.fab_base.specs.declared.status.Status.TheVariants.{Done, Stuck,
 ghost use Rattle.fab_base.specs.declared.status.Why.{Why};
 ghost use Rattle.fab_top.specs.Commands.{IsNoCommand};
 ghost use Rattle.fab_outside.specs.Loading.{IsOver};
-ghost use Rattle.fab_top.specs.Runs.{AskFor, IsRefused, Writes, WritesPart, Tells, TellsPart, Benches, BenchesPart, Checks, ChecksPart, Sums, SumsPart, Collects, CollectsPart, IsUnhindered, IsAnswered, IsSilent};
-ghost use Rattle.fab_host.specs.Ending.{status_number, IsTold, HasAnswered, HasReported};
+ghost use Rattle.fab_top.specs.Runs.{AskFor, IsRefused, Writes, WritesPart, Tells, TellsPart, Benches, BenchesPart, Checks, ChecksPart, Sums, SumsPart, Collects, CollectsPart, IsUnhindered, IsAnswered, IsSilent, MayStick, NeverSticks, AsksNone};
+ghost use Rattle.fab_workloads.specs.Commands.{workload_of};
+ghost use Rattle.fab_host.specs.Ending.{status_number, status_without, IsTold};
 
-use crate::adapters::{FileDepot, OpenGate, OutSink, WallClock};
 use crate::ending::end;
 use fab_base::{Gate, NoMemory, Status, Text};
 use fab_outside::{Clock, Depot, Sink};
 use fab_top::run;
 use std::alloc::Global;
 use std::env::Args;
-use std::io::{ErrorKind, Write};
+use std::io::ErrorKind;
 use std::process::ExitCode;
-use std::rt::{Env, Files};
+use std::rt::Env;
 use std::sync::Wait;
 use std::thread::Threads;
-use std::{io, rt};
 
 /// How a command ended, and the exit status that says so.
 #[derive(Drop)]
@@ -53,7 +52,7 @@ where
         × Rose (D.faults depot.old) (D.faults depot.new) × (D.failed_name depot.new ≡ Some name) }
     ensures done { result.status ≡ Done → Writes (D.files depot.old) words.now true (S.bytes sink.old) (S.bytes sink.new)
         ⊎ Tells words.now (S.bytes sink.old) (S.bytes sink.new)
-        ⊎ Benches words.now (C.given clock.new) (C.first clock.new) (C.last clock.new) (S.bytes sink.old) (S.bytes sink.new)
+        ⊎ Benches (D.files depot.old) words.now (C.given clock.new) (C.first clock.new) (C.last clock.new) (S.bytes sink.old) (S.bytes sink.new)
         ⊎ Checks (D.files depot.old) words.now (S.bytes sink.old) (S.bytes sink.new)
         ⊎ Sums words.now (S.bytes sink.old) (S.bytes sink.new)
         ⊎ Collects (D.files depot.old) words.now (S.bytes sink.old) (S.bytes sink.new) }
@@ -61,7 +60,7 @@ where
     ensures write_fault { result.status ≡ WriteFault → Rose (S.faults sink.old) (S.faults sink.new)
         × (WritesPart (D.files depot.old) words.now (S.bytes sink.old) (S.bytes sink.new)
         ⊎ TellsPart words.now (S.bytes sink.old) (S.bytes sink.new)
-        ⊎ BenchesPart words.now (C.given clock.new) (C.first clock.new) (C.last clock.new) (S.bytes sink.old) (S.bytes sink.new)
+        ⊎ BenchesPart (D.files depot.old) words.now (C.given clock.new) (C.first clock.new) (C.last clock.new) (S.bytes sink.old) (S.bytes sink.new)
         ⊎ ChecksPart (D.files depot.old) words.now (S.bytes sink.old) (S.bytes sink.new)
         ⊎ SumsPart words.now (S.bytes sink.old) (S.bytes sink.new)
         ⊎ CollectsPart (D.files depot.old) words.now (S.bytes sink.old) (S.bytes sink.new)) }
@@ -69,6 +68,10 @@ where
     ensures files { D.files depot.new ≡ D.files depot.old }
     ensures complete { IsUnhindered (D.files depot.old) words.now (D.faults depot.old) (D.faults depot.new) (S.faults sink.old) (S.faults sink.new)
         → IsAnswered result.status }
+    ensures sticks { result.status ≡ Stuck → MayStick (D.files depot.old) words.now }
+    ensures whole { NeverSticks (D.files depot.old) words.now → result.status ≢ Stuck }
+    ensures asks { AsksNone words.now → depot.new ≡ depot.old }
+    ensures clock { workload_of words.now ≡ None → clock.new ≡ clock.old }
 
     // The end is told.
     ensures code { exit_status result.code ≡ status_number result.status }
@@ -79,43 +82,9 @@ where
     Ended { status, code }
 }
 
-/// Carries out the command that the words of the command line are. Its text goes to standard output; an end
-/// without one is told in one line on standard error, which is `errors`, and the exit status tells which it is.
-///
-/// No contract can say which words, files and bytes the system gives and takes. The exit status is 0 or 1 only
-/// where a script was run and its report was written, or 0 where what is granted, the line of a workload,
-/// that on a report, what a window holds, or what ranks make of rounds was asked for and written.
-pub fn program<R, E: Write + Drop>(rt: &R, errors: E) -> ExitCode
-where
-    R: Env + Files + rt::Clock + Print + AllocGlobal + Threads + Wait + Sync,
-    ensures done { exit_status result ≡ 0 → HasAnswered }
-    ensures stuck { exit_status result ≡ 1 → HasReported }
-    ensures few { exit_status result ≤ 7 }
-{
-    let mut errors = OutSink::new(errors);
-    let words = match words_of(rt) {
-        Ok(words) => words,
-        Err(refused) => return end(&mut errors, &refused.status()),
-    };
-    let mut depot = FileDepot::new(rt);
-    let mut sink = OutSink::new(io::writer(rt));
-    let mut clock = WallClock::new(rt);
-    let ended = carry_out(
-        rt,
-        rt.alloc(),
-        &words,
-        &mut depot,
-        &mut sink,
-        &mut clock,
-        &OpenGate,
-        &mut errors,
-    );
-    ended.code
-}
-
 /// Why there are no words.
 #[derive(Clone, Copy)]
-enum WordsRefused {
+pub enum WordsRefused {
     /// A word is no text.
     NotText,
     NoMemory,
@@ -124,7 +93,7 @@ enum WordsRefused {
 impl WordsRefused {
     /// How the program ends then. A word that is no text is no command.
     fn status(self) -> Status
-        ensures { IsSilent result }
+        ensures { result ≡ status_without self }
     {
         match self {
             WordsRefused::NotText => Status::Usage,
@@ -133,8 +102,19 @@ impl WordsRefused {
     }
 }
 
-/// The words of the command line after the program's name.
-fn words_of<R: Env + AllocGlobal>(rt: &R) -> Result<Vec<Text>, WordsRefused> {
+/// Tells the end where there are no words. Nothing is carried out then.
+pub fn refuse<E: Sink>(refused: WordsRefused, errors: &mut E) -> Ended
+    ensures status { result.status ≡ status_without refused }
+    ensures code { exit_status result.code ≡ status_number result.status }
+    ensures told { IsTold (E.bytes errors.old) (E.bytes errors.new) (E.faults errors.old) (E.faults errors.new) result.status }
+{
+    let status = refused.status();
+    let code = end(errors, &status);
+    Ended { status, code }
+}
+
+/// The words of the command line after the program's name. No contract can say which words the system gives.
+pub fn words_of<R: Env + AllocGlobal>(rt: &R) -> Result<Vec<Text>, WordsRefused> {
     match std::env::args(rt) {
         Ok(args) => texts_of(rt.alloc(), args).map_err(|_| WordsRefused::NoMemory),
         Err(error) if error.kind() == ErrorKind::OutOfMemory => Err(WordsRefused::NoMemory),

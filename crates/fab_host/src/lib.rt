@@ -1,8 +1,8 @@
 //! The outside world of the program: the real files, output and clock behind the traits of `fab_outside`, the words
 //! of the command line, the exit status, and the line on standard error.
 //!
-//! [`program`] is all that a `main` does: it makes the real files, output and clock, and calls [`carry_out`], which
-//! takes any. What happens between the words and the end is `fab_top::run`.
+//! A `main` asks for the words ([`words_of`]), makes the real files, outputs and clock, and calls [`carry_out`], which
+//! takes any, or [`refuse`] where there are no words. What happens between the words and the end is `fab_top::run`.
 #![tactic(auto)]
 
 mod adapters;
@@ -10,5 +10,5 @@ mod command;
 mod ending;
 
 pub use adapters::{FileDepot, OpenGate, OutSink, WallClock};
-pub use command::{Ended, carry_out, program};
+pub use command::{Ended, WordsRefused, carry_out, refuse, words_of};
 pub use ending::end;

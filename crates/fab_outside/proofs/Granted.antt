@@ -8,7 +8,7 @@ use Rattle.fab_base.specs.declared.caps.Api.TheVariants.{One, Two}
 use Rattle.fab_base.specs.declared.caps.Hints.{Hints}
 use Rattle.fab_base.specs.declared.caps.Info.{Info}
 use Rattle.fab_base.specs.declared.limits.Size.{Size}
-use Rattle.fab_base.specs.declared.limits.Size.TheVariants.{Peers, Lane, Pool}
+use Rattle.fab_base.specs.declared.limits.Size.TheVariants.{Peers, Lane, Pool, Tx}
 use Rattle.fab_base.specs.declared.script.Bound.{Bound}
 use Rattle.fab_base.specs.declared.script.Script.{Script}
 use Rattle.fab_grammar.specs.Grammar.{verdict, script_of}
@@ -56,6 +56,9 @@ pool_within b sound =
     let least : 1 ≤ b.script.conf.info.pool = size.0 in
     let most : b.script.conf.info.pool ≤ 1024 = size.1 in
     (omega (arith, least), most)
+
+pub tx_within : (b : Bound) → IsSound b → 1 ≤ b.script.conf.info.tx
+tx_within b sound = (all_within b.script.conf.hints b.script.conf.info sound.granted Tx).0
 
 ok_of : {A E : Type 0} (r : Result A E) (x : A) → result_ok r ≡ Some x → r ≡ Ok x
 ok_of (Ok a) x e = cc

@@ -83,6 +83,7 @@ pub fn load_script<D: Depot>(alloc: Global, depot: &mut D, name: &Text) -> Resul
     ensures peers { IfOk result (λ bound. (0 < bound.script.conf.peers) × (bound.script.conf.peers ≤ 64)) }
     ensures lane { IfOk result (λ bound. (0 < bound.script.conf.info.lane) × (bound.script.conf.info.lane ≤ 1024)) }
     ensures pool { IfOk result (λ bound. (0 < bound.script.conf.info.pool) × (bound.script.conf.info.pool ≤ 1024)) }
+    ensures tx { IfOk result (λ bound. 1 ≤ bound.script.conf.info.tx) }
     ensures err { IfErr result (λ status. IsUnread (D.files depot.old) name.now (D.faults depot.old) (D.faults depot.new) (D.failed_name depot.new) status) }
 {
     let bytes = load_file(alloc, depot, name)?;

@@ -1,7 +1,9 @@
 -- The end of a peer: what is still posted is cancelled, and the completions are read.
 use Rattle.std.proofs.Common.{◌≡◌, ◌<◌, ◌+◌, ◌⊎◌, inl, inr, ◌||◌, ◌&&◌, Bool, true, false, not, cond, List, [], ◌∷◌, ◌++◌, length, Option, Some, None, refl, sym, ap, ◌∙◌, subst, arith, append-nil, append_assoc}
 use Rattle.std.specs.Prelude.{find, is_some, is_none}
-use Rattle.std.specs.List.{list_any}
+use Rattle.std.specs.List.{list_all, list_any}
+use Rattle.std.proofs.lemmas.Bool.{and_from}
+use Rattle.std.proofs.lemmas.List.Folds.{list_all-append}
 use Rattle.fab_base.specs.declared.entries.Class.TheVariants.{Recv}
 use Rattle.fab_base.specs.declared.entries.ErrKind.TheVariants.{Canceled}
 use Rattle.fab_base.specs.declared.faults.Fault.{Fault}
@@ -23,7 +25,7 @@ use Rattle.fab_model.proofs.Parts.{some_is, some_same, if_gives}
 use Rattle.fab_face.specs.Held.{Held, Seen, IsOpen}
 use Rattle.fab_face.specs.Acts.{Act, Did, Took, Posted, Drew, Had, GoesBy, steps_of, events, is_draw}
 use Rattle.fab_face.specs.Answers.{AllAre, Receives, ReceivesNot, IsShort}
-use Rattle.fab_quantum.specs.Turns.{Told, Living, IsCounted, living_of, actor_in, actor_of, LivesBy, Ended, IsQuiet, IsRead, ReadOn, is_read}
+use Rattle.fab_quantum.specs.Turns.{Told, Living, IsCounted, living_of, actor_in, actor_of, LivesBy, Ended, IsQuiet, IsRead, ReadOn, is_ending, is_read}
 use Rattle.fab_face.proofs.Joining.{draws_move}
 use Rattle.fab_quantum.proofs.Paths.{goes_split}
 use Rattle.fab_quantum.proofs.Calling.{judged_final, judged_again}
@@ -208,6 +210,9 @@ module _ {Home : Type 0} where
     tx = ap (λ (x : Actor). x.state.tx) same;
     size = ap (λ (x : Actor). x.state.cq.size) same;
     coming = ap (λ (x : Actor). x.state.rx.coming) same;
+    only = refl;
+    lines = ap (λ (x : Actor). x.lines) same;
+    results = ap (λ (x : Actor). x.results) same;
   }
 
   pub ended_then : (a b c : Told Home) → Ended a b → Ended b c → Ended a c
@@ -219,7 +224,25 @@ module _ {Home : Type 0} where
     tx = y.tx ∙ x.tx;
     size = y.size ∙ x.size;
     coming = y.coming ∙ x.coming;
+    only = list_all-append is_ending x.steps y.steps ∙ and_from _ _ x.only y.only;
+    lines = y.lines ∙ x.lines;
+    results = y.results ∙ x.results;
   }
+
+  -- what was done over an empty schedule, behind another one
+  pub ended_behind : (a b c : Told Home) → Ended (record a { schedule = [] }) b → c ≡ record b { schedule = a.schedule ++ b.schedule } → Ended a c
+  ended_behind a b c x is = subst (λ (y : Told Home). Ended a y) (sym is) (record {
+    steps = x.steps;
+    schedule = ap (λ ys. a.schedule ++ ys) x.schedule;
+    walk = x.walk;
+    facts_are = x.facts_are;
+    tx = x.tx;
+    size = x.size;
+    coming = x.coming;
+    only = x.only;
+    lines = x.lines;
+    results = x.results;
+  })
 
   -- a receive is cancelled, and the log emptied
   pub cancelled : (a b : Told Home) (e : Seen Home) → IsQuiet a → Receives CancelFirst a.seen e → b ≡ record a { seen = record e { log = [] }; schedule = a.schedule ++ Final ∷ [] }
@@ -239,6 +262,9 @@ module _ {Home : Type 0} where
           tx = stays.tx;
           size = stays.size;
           coming = stays.coming;
+          only = refl;
+          lines = refl;
+          results = refl;
         },
         record {
           counted = counted_final a.lines a.results a.kept r.before r.after a.seen.held e.held (draws_move r.before r.draws) (draws_move r.after r.then_draws) r.went.goes quiet.counted;
@@ -304,12 +330,23 @@ reads_walk v (Took source f ∷ acts) p q are lives = absurd (cc)
 reads_walk v (Posted dest f ∷ acts) p q are lives = absurd (cc)
 reads_walk v (Drew ∷ acts) p q are lives = absurd (cc)
 
+reads_only : (acts : List Act) → AllAre is_read acts → list_all is_ending (steps_of acts) ≡ true
+reads_only [] are = refl
+reads_only (Had ∷ acts) are = reads_only acts are
+reads_only (Did ∷ acts) are = absurd (cc)
+reads_only (Took source f ∷ acts) are = absurd (cc)
+reads_only (Posted dest f ∷ acts) are = absurd (cc)
+reads_only (Drew ∷ acts) are = absurd (cc)
+
 module _ {Home : Type 0} (a b : Told Home) (any : Bool) (on : ReadOn a b any) where
   kept : Reads (actor_of a) (actor_of b)
   kept = reads_keep on.acts (living_of a) (living_of b) on.reads on.lived.lives
 
   pub read_ended : Ended a b
   read_ended = record {
+    only = reads_only on.acts on.reads;
+    lines = on.lines;
+    results = on.results;
     steps = steps_of on.acts;
     schedule = on.lived.schedule;
     walk = λ v calm. reads_walk v on.acts (living_of a) (living_of b) on.reads on.lived.lives;

@@ -7,6 +7,7 @@
 --     IsCounted p       the endpoint's multi-receives and the releases read, against the peer's lines
 --     Ended a b         the last steps of a peer: receives cancelled, and their completions read
 use Rattle.std.specs.Prelude.{◌≡◌, ◌≢◌, ℕ, ◌+◌, ◌<◌, ◌≤◌, Bool, true, false, List, [], ◌∷◌, ◌++◌, zero, suc, take, drop, length, map, fold, Option, Some, None, Result, Ok, Err, slice_index, slice_get, ◌==◌, count_by, zip}
+use Rattle.std.specs.List.{list_all}
 use Rattle.std.specs.Option.{option_map}
 use Rattle.fab_base.specs.declared.operations.Written.{Written}
 use Rattle.fab_base.specs.declared.script.LineOp.{LineOp}
@@ -21,7 +22,7 @@ use Rattle.fab_base.specs.declared.items.Item.{Item}
 use Rattle.fab_base.specs.declared.peers.LineResult.{LineResult}
 use Rattle.fab_base.specs.declared.peers.LineResult.TheVariants.{Done, Refused, Waited}
 use Rattle.fab_base.specs.declared.peers.Step.{Step}
-use Rattle.fab_base.specs.declared.peers.Step.TheVariants.{Do, Head, Tail, Draw, Read, Sent as SentStep}
+use Rattle.fab_base.specs.declared.peers.Step.TheVariants.{Do, Head, Tail, Draw, Read, Final, Sent as SentStep}
 use Rattle.fab_base.specs.declared.script.Line.{Line}
 use Rattle.fab_wire.specs.Joined.{with_frame, Gathered, AreFirst}
 use Rattle.fab_model.specs.Peers.{Actor, fabric, facts, do_next, read_next, is_again, unread, bytes_kept, is_release, is_multi_line}
@@ -285,6 +286,12 @@ pub record MovedOn {Home : Type 0} (a b : Told Home) (moved : Bool) : Type 0 whe
 
 -- ---- the end
 
+-- an entry is read, or a posted receive is cancelled
+abbrev pub is_ending : Step → Bool
+is_ending Read = true
+is_ending Final = true
+is_ending _ = false
+
 -- The steps stand where all is calm. What the calm asks of the peer stays, as does what it transmitted and what its port moved.
 pub record Ended {Home : Type 0} (a b : Told Home) : Type 0 where
   pub steps : List Step
@@ -294,6 +301,9 @@ pub record Ended {Home : Type 0} (a b : Told Home) : Type 0 where
   pub tx : b.seen.held.state.tx ≡ a.seen.held.state.tx
   pub size : b.seen.held.state.cq.size ≡ a.seen.held.state.cq.size
   pub coming : b.seen.held.state.rx.coming ≡ a.seen.held.state.rx.coming
+  pub only : list_all is_ending steps ≡ true
+  pub lines : b.lines ≡ a.lines
+  pub results : b.results ≡ a.results
 
 -- no event is left in the log, no draw is due, and the multi-receives are counted
 pub record IsQuiet {Home : Type 0} (a : Told Home) : Type 0 where

@@ -657,9 +657,8 @@ impl<E: Calls> Peer<E> {
         }
     }
 
-    /// Cancels the posted receives that may be cancelled, in order, and reads all completions before and after each
-    /// (fi_cancel of fi_endpoint(3)).
-    pub fn cancel_posted(&mut self) -> Result<(), NoMemory>
+    /// Cancels the posted receives that may be cancelled, in order, and reads all completions before and after each.
+    fn cancel_each(&mut self) -> Result<(), NoMemory>
         requires quiet { IsQuiet (told E.seen self.old) }
         ensures ended { OnOk result (Ended (told E.seen self.old) (told E.seen self.new)) }
         ensures quiet { OnOk result (IsQuiet (told E.seen self.new)) }
@@ -670,6 +669,26 @@ impl<E: Calls> Peer<E> {
         'receives: while self.cancel_first()? {
             self.read_all()?;
         }
+        Ok(())
+    }
+
+    /// Cancels the posted receives that may be cancelled, in order, and reads all completions before and after each
+    /// (fi_cancel of fi_endpoint(3)). Its steps are these reads and cancels alone.
+    ///
+    /// Want of memory leaves the schedule as it was; of the rest of the peer nothing is known then.
+    pub fn cancel_posted(&mut self) -> Result<(), NoMemory>
+        requires quiet { IsQuiet (told E.seen self.old) }
+        ensures ended { OnOk result (Ended (told E.seen self.old) (told E.seen self.new)) }
+        ensures quiet { OnOk result (IsQuiet (told E.seen self.new)) }
+        ensures read { OnOk result (IsRead (E.seen self.new.endpoint)) }
+        ensures none { OnOk result (cancellable (λ r. true) (E.seen self.new.endpoint).held.state.rx ≡ None) }
+        ensures stays { OnErr result ((told E.seen self.new).schedule ≡ (told E.seen self.old).schedule) }
+    {
+        let before = replace(&mut self.schedule, Vec::new(self.alloc));
+        let answer = self.cancel_each();
+        let mut steps = replace(&mut self.schedule, before);
+        answer?;
+        self.schedule.append(&mut steps)?;
         Ok(())
     }
 

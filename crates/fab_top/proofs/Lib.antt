@@ -2,3 +2,5 @@ pub mod Parts
 pub mod Telling
 pub mod Workloads
 pub mod Answering
+pub mod Sticking
+pub mod rows

@@ -5,15 +5,20 @@
 --     IsRefused ..            the words name a file that is refused as a script, or as one of rounds
 --     Writes, WritesPart      the report is written, or a part of it
 --     Tells, TellsPart        what is granted is written, or a part of it
+--     IsLoaded files name bytes  the file of this name, whole, or no bytes where there is no name
 --     Benches, BenchesPart    the line of a workload is written, or a part of it
 --     Checks, ChecksPart      what is to be said of a report is written, or a part of it
 --     Sums, SumsPart          what the words of a window hold is written, or a part of it
 --     Collects, CollectsPart  what each rank makes of rounds is written, or a part of it
 --     ComesToRest bound done  some lawful schedule leads the peers to rest
+--     NeverSticks ..          the script is settled, and its answer does all lines
+--     AsksNone words          they ask for no file
 --     IsUnhindered ..         nothing stands in the way of the command
-use Rattle.std.specs.Prelude.{◌≡◌, ℕ, ◌<◌, ◌⊎◌, Bool, true, List, length, take, Option, Some}
+use Rattle.std.specs.Prelude.{◌≡◌, ℕ, ◌<◌, ◌⊎◌, Bool, true, List, [], length, take, Option, Some, None, is_none}
 use Rattle.std.specs.Io.KnownBytes.{append_known}
 use Rattle.std.specs.List.{list_all}
+use Rattle.fab_answer.specs.Answer.{answer as answer_of}
+use Rattle.fab_answer.specs.Settled.{is_settled}
 use Rattle.fab_base.specs.Counts.{Rose}
 use Rattle.fab_base.specs.declared.caps.Api.TheVariants.{Two}
 use Rattle.fab_base.specs.declared.caps.Caps.{Caps}
@@ -33,7 +38,7 @@ use Rattle.fab_top.specs.Checking.{IsChecked, LeadsOn}
 use Rattle.fab_outside.specs.Commands.{script_file, info_caps, replay_files}
 use Rattle.fab_top.specs.Commands.{IsNoCommand}
 use Rattle.fab_outside.specs.Info.{info_text, offer}
-use Rattle.fab_outside.specs.Loading.{Files, IsOver, IsRead, IsWrong, LeadsTo}
+use Rattle.fab_outside.specs.Loading.{Files, IsOver, IsRead, IsWhole, IsWrong, LeadsTo}
 use Rattle.fab_coll_run.specs.Files.{BreaksRules, IsDue, coll_file}
 use Rattle.fab_window_run.specs.declared.asked.Asked.{Asked}
 use Rattle.fab_window_run.specs.Commands.{asked_text, window_of}
@@ -121,17 +126,26 @@ pub record TellsPart (words : List (List ℕ)) (before after : Option (List ℕ)
   pub fewer : some < length (info_text caps)
   pub written : after ≡ append_known before (take some (info_text caps))
 
--- the words name a workload, and its line is written, with the first and the last moment of a clock that has given exactly two
-pub record Benches (words : List (List ℕ)) (given first last : ℕ) (before after : Option (List ℕ)) : Type 0 where
+-- the file of this name, whole and within the limit, or no bytes where there is no name
+abbrev pub IsLoaded : Files → Option (List ℕ) → List ℕ → Type 0
+IsLoaded files None bytes = bytes ≡ []
+IsLoaded files (Some name) bytes = IsWhole files name bytes
+
+-- the words name a workload, its file was loaded, and its line is written, with the first and the last moment of a clock that has given exactly two
+pub record Benches (files : Files) (words : List (List ℕ)) (given first last : ℕ) (before after : Option (List ℕ)) : Type 0 where
   pub workload : Workload
   pub command : workload_of words ≡ Some workload
+  pub file : List ℕ
+  pub loaded : IsLoaded files (payload_file words) file
   pub moments : given ≡ 2
   pub written : after ≡ append_known before (bench_line workload first last)
 
 -- the same, of which only the first bytes are written
-pub record BenchesPart (words : List (List ℕ)) (given first last : ℕ) (before after : Option (List ℕ)) : Type 0 where
+pub record BenchesPart (files : Files) (words : List (List ℕ)) (given first last : ℕ) (before after : Option (List ℕ)) : Type 0 where
   pub workload : Workload
   pub command : workload_of words ≡ Some workload
+  pub file : List ℕ
+  pub loaded : IsLoaded files (payload_file words) file
   pub moments : given ≡ 2
   pub some : ℕ
   pub fewer : some < length (bench_line workload first last)
@@ -188,6 +202,27 @@ pub record CollectsPart (files : Files) (words : List (List ℕ)) (before after 
   pub some : ℕ
   pub fewer : some < length text
   pub written : after ≡ append_known before (take some text)
+
+-- the script is settled, and its one answer does all its lines
+abbrev pub DoesAll : Bound → Type 0
+DoesAll bound = (is_settled bound ≡ true) × (list_all is_none (answer_of bound).next ≡ true)
+
+-- the words name a file that spells a script, which is not one that is settled and whose answer does all lines
+abbrev pub MayStick : Files → List (List ℕ) → Type 0
+MayStick files words = (file : List ℕ) × (bound : Bound) × (script_file words ≡ Some file) × IsRead files file bound × (DoesAll bound → ⊥)
+
+-- files are told
+abbrev pub AreTold : Files → Type 0
+AreTold None = ⊥
+AreTold (Some file) = Unit {0}
+
+-- the words name a file that is told, and it spells a settled script whose answer does all lines
+abbrev pub NeverSticks : Files → List (List ℕ) → Type 0
+NeverSticks files words = AreTold files × ((file : List ℕ) × (bound : Bound) × (script_file words ≡ Some file) × IsRead files file bound × DoesAll bound)
+
+-- the words ask for no file
+abbrev pub AsksNone : List (List ℕ) → Type 0
+AsksNone words = (script_file words ≡ None) × (payload_file words ≡ None) × (replay_files words ≡ None) × (coll_file words ≡ None)
 
 -- the statuses at which a report is written, or a part of one
 abbrev pub WritesReport : Status → Type 0

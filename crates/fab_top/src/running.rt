@@ -1,5 +1,5 @@
 //! The top call: a command from its words to its report.
-ghost use Rattle.std.specs.Prelude.{◌≡◌, ◌<◌, ◌≤◌, ◌↔◌, ◌⊎◌, ℕ, List, true, false, None, Some, IfOk, IfErr, OnOk, string_bytes, length, take};
+ghost use Rattle.std.specs.Prelude.{◌≡◌, ◌≢◌, ◌<◌, ◌≤◌, ◌↔◌, ◌⊎◌, ℕ, List, true, false, None, Some, IfOk, IfErr, OnOk, string_bytes, length, take};
 ghost use Rattle.std.specs.Io.KnownBytes.{append_known};
 ghost use Rattle.std.specs.List.{All};
 ghost use Rattle.fab_finish.specs.Joined.{start};
@@ -12,7 +12,7 @@ ghost use Rattle.fab_model.specs.Negotiation.{grant};
 ghost use Rattle.fab_top.specs.Commands.{IsNoCommand};
 ghost use Rattle.fab_outside.specs.Info.{info_text, offer};
 ghost use Rattle.fab_outside.specs.Loading.{IsOver, IsUnloaded};
-ghost use Rattle.fab_top.specs.Runs.{Reports, ComesToRest, AskFor, IsRefused, Writes, WritesPart, Tells, TellsPart, EndsText, Benches, BenchesPart, EndsBench, Checks, ChecksPart, Sums, SumsPart, Collects, CollectsPart, IsUnhindered, IsAnswered, IsSilent, WritesReport};
+ghost use Rattle.fab_top.specs.Runs.{Reports, ComesToRest, AskFor, IsRefused, Writes, WritesPart, Tells, TellsPart, EndsText, IsLoaded, Benches, BenchesPart, EndsBench, Checks, ChecksPart, Sums, SumsPart, Collects, CollectsPart, IsUnhindered, IsAnswered, IsSilent, MayStick, NeverSticks, WritesReport, AsksNone};
 ghost use Rattle.fab_window_run.specs.Commands.{asked_text, IsWithin as IsWindow, window_of};
 ghost use Rattle.fab_workloads.specs.Bench.{bench_line};
 ghost use Rattle.fab_workloads.specs.Commands.{IsWithin, payload_file, workload_of};
@@ -21,6 +21,7 @@ ghost use Rattle.fab_workloads.specs.Script.{bound_of};
 use crate::checking::carry_out_check;
 use crate::collecting::carry_out_rounds;
 use crate::whole::{all_done, report};
+use fab_answer::laws::law_one_answer;
 use fab_base::{Bound, Buf, Caps, Gate, NoMemory, Status, Text};
 use fab_coll_run::coll_file;
 use fab_outside::commands::{info_caps, replay_files, script_file};
@@ -229,6 +230,8 @@ fn tell_totals<S: Sink, G: Gate, R: Threads + Wait + Sync>(
 /// The file that the words of a workload name, or no bytes where they name none.
 fn load_payload<D: Depot>(alloc: Global, depot: &mut D, words: &[Text]) -> Result<Buf, Status>
     ensures files { D.files depot.new ≡ D.files depot.old }
+    ensures asks { payload_file words.now ≡ None → depot.new ≡ depot.old }
+    ensures ok { IfOk result (λ bytes. IsLoaded (D.files depot.old) (payload_file words.now) bytes) }
     ensures err { IfErr result (λ status. (name : List ℕ) × (payload_file words.now ≡ Some name)
         × IsUnloaded (D.files depot.old) name (D.faults depot.old) (D.faults depot.new) (D.failed_name depot.new) status) }
 {
@@ -257,12 +260,13 @@ where
     ensures too_long { (name : List ℕ) → result ≡ TooLong name → (payload_file words.now ≡ Some name) × IsOver (D.files depot.old) name }
     ensures read_fault { (name : List ℕ) → result ≡ ReadFault name → (payload_file words.now ≡ Some name)
         × Rose (D.faults depot.old) (D.faults depot.new) × (D.failed_name depot.new ≡ Some name) }
-    ensures done { result ≡ Done → Benches words.now (C.given clock.new) (C.first clock.new) (C.last clock.new) (S.bytes sink.old) (S.bytes sink.new) }
+    ensures done { result ≡ Done → Benches (D.files depot.old) words.now (C.given clock.new) (C.first clock.new) (C.last clock.new) (S.bytes sink.old) (S.bytes sink.new) }
     ensures write_fault { result ≡ WriteFault → Rose (S.faults sink.old) (S.faults sink.new)
-        × BenchesPart words.now (C.given clock.new) (C.first clock.new) (C.last clock.new) (S.bytes sink.old) (S.bytes sink.new) }
+        × BenchesPart (D.files depot.old) words.now (C.given clock.new) (C.first clock.new) (C.last clock.new) (S.bytes sink.old) (S.bytes sink.new) }
     ensures silent { IsSilent result → S.bytes sink.new ≡ S.bytes sink.old }
     ensures ends { EndsBench result }
     ensures files { D.files depot.new ≡ D.files depot.old }
+    ensures asks { payload_file words.now ≡ None → depot.new ≡ depot.old }
 {
     let payload = match load_payload(alloc, depot, words) {
         Ok(payload) => payload,
@@ -309,7 +313,8 @@ where
 /// The report is that of one lawful schedule, the one that its own trace lines tell: in some order of
 /// turns the peers' steps led from the script's opening to the states that it reports. In these the
 /// peers are at rest: nothing is on its way, no completion is unread, and no line can be done. At `Done`
-/// all lines are done, and no receive is posted any more; at `Stuck` some line is not done. At
+/// all lines are done, and no receive is posted any more; at `Stuck` some line is not done, and the script is not one that is
+/// settled and whose answer does all lines: where files are told, such a script never ends at `Stuck`. At
 /// `WriteFault` the first bytes of such a report are written, and at every other status none. `info` and
 /// `window` end at `Done`, at `WriteFault` or at `NoMemory`. The files stay as they are.
 ///
@@ -338,7 +343,7 @@ where
         × Rose (D.faults depot.old) (D.faults depot.new) × (D.failed_name depot.new ≡ Some name) }
     ensures done { result ≡ Done → Writes (D.files depot.old) words.now true (S.bytes sink.old) (S.bytes sink.new)
         ⊎ Tells words.now (S.bytes sink.old) (S.bytes sink.new)
-        ⊎ Benches words.now (C.given clock.new) (C.first clock.new) (C.last clock.new) (S.bytes sink.old) (S.bytes sink.new)
+        ⊎ Benches (D.files depot.old) words.now (C.given clock.new) (C.first clock.new) (C.last clock.new) (S.bytes sink.old) (S.bytes sink.new)
         ⊎ Checks (D.files depot.old) words.now (S.bytes sink.old) (S.bytes sink.new)
         ⊎ Sums words.now (S.bytes sink.old) (S.bytes sink.new)
         ⊎ Collects (D.files depot.old) words.now (S.bytes sink.old) (S.bytes sink.new) }
@@ -346,7 +351,7 @@ where
     ensures write_fault { result ≡ WriteFault → Rose (S.faults sink.old) (S.faults sink.new)
         × (WritesPart (D.files depot.old) words.now (S.bytes sink.old) (S.bytes sink.new)
         ⊎ TellsPart words.now (S.bytes sink.old) (S.bytes sink.new)
-        ⊎ BenchesPart words.now (C.given clock.new) (C.first clock.new) (C.last clock.new) (S.bytes sink.old) (S.bytes sink.new)
+        ⊎ BenchesPart (D.files depot.old) words.now (C.given clock.new) (C.first clock.new) (C.last clock.new) (S.bytes sink.old) (S.bytes sink.new)
         ⊎ ChecksPart (D.files depot.old) words.now (S.bytes sink.old) (S.bytes sink.new)
         ⊎ SumsPart words.now (S.bytes sink.old) (S.bytes sink.new)
         ⊎ CollectsPart (D.files depot.old) words.now (S.bytes sink.old) (S.bytes sink.new)) }
@@ -354,6 +359,10 @@ where
     ensures files { D.files depot.new ≡ D.files depot.old }
     ensures complete { IsUnhindered (D.files depot.old) words.now (D.faults depot.old) (D.faults depot.new) (S.faults sink.old) (S.faults sink.new)
         → IsAnswered result }
+    ensures sticks { result ≡ Stuck → MayStick (D.files depot.old) words.now }
+    ensures whole { NeverSticks (D.files depot.old) words.now → result ≢ Stuck }
+    ensures asks { AsksNone words.now → depot.new ≡ depot.old }
+    ensures clock { workload_of words.now ≡ None → clock.new ≡ clock.old }
 {
     if let Some(caps) = info_caps(words) {
         return tell_offer(alloc, sink, caps);
@@ -377,6 +386,7 @@ where
         Ok(bound) => bound,
         Err(status) => return status,
     };
+    law_one_answer();
     match run_script(rt, alloc, &bound, gate) {
         Ok(ran) => write_text(sink, &ran),
         Err(NoMemory) => Status::NoMemory,

@@ -1,5 +1,6 @@
-use Rattle.std.proofs.Common.{◌≡◌, ◌<◌, ℕ, [], false, length}
+use Rattle.std.proofs.Common.{◌≡◌, ◌≤◌, ◌+◌, ◌<◌, ℕ, [], false, length}
 use Rattle.fab_link.specs.Plain.{left}
+use Rattle.fab_finish.specs.Freight.{freight, one_if}
 use Rattle.fab_finish.specs.Joined.{lane, IsJoined, actors, schedules}
 use Rattle.fab_finish.proofs.carrying.carry.Given as goal
 
@@ -12,4 +13,5 @@ invariant-loop-from g l = record {
   schedules : schedules l.peers ≡ schedules l.fn.peers;
   done : (s r : ℕ) → s < l.from → r < l.count → left (lane l.peers s r) ≡ [];
   same : l.moved ≡ false → l.peers ≡ l.fn.peers;
+  less : freight l.peers + one_if l.moved ≤ freight l.fn.peers;
 }

@@ -1,5 +1,6 @@
-use Rattle.std.proofs.Common.{◌≡◌, ◌≢◌, ◌<◌, ℕ, [], false, length}
+use Rattle.std.proofs.Common.{◌≡◌, ◌≤◌, ◌+◌, ◌≢◌, ◌<◌, ℕ, [], false, length}
 use Rattle.fab_link.specs.Plain.{left}
+use Rattle.fab_finish.specs.Freight.{freight, one_if}
 use Rattle.fab_finish.specs.Joined.{lane, IsJoined, actors, schedules}
 use Rattle.fab_finish.proofs.carrying.carry_from.Given as goal
 
@@ -13,4 +14,5 @@ invariant-loop-to g l = record {
   others : (s r : ℕ) → s ≢ l.from → left (lane l.peers s r) ≡ left (lane l.fn.peers s r);
   done : (r : ℕ) → r < l.to → left (lane l.peers l.from r) ≡ [];
   same : l.moved ≡ false → l.peers ≡ l.fn.peers;
+  less : freight l.peers + one_if l.moved ≤ freight l.fn.peers;
 }

@@ -1,4 +1,5 @@
-use Rattle.std.proofs.Common.{◌∙◌}
+use Rattle.std.proofs.Common.{◌∙◌, ap, arith}
+use Rattle.fab_finish.specs.Freight.{one_if}
 use Rattle.fab_finish.proofs.carrying.carry_lane.Goals as goal
 
 pub frames-preserved : goal.frames-preserved
@@ -12,6 +13,7 @@ frames-preserved g c =
       schedules = e.schedules ∙ inv.schedules;
       others = λ s r other. e.others s r other ∙ inv.others s r other;
       same = λ none. absurd (cc);
+      less = (let now = e.less in let was = inv.less in let one = ap one_if c.if-branch.true in omega (arith, now, was, one));
     }
 
 pub returns-clause-others : goal.returns-clause-others

@@ -1,10 +1,14 @@
-use Rattle.std.proofs.Common.{◌≡◌, ◌∙◌, Ok, false, ap, arith}
+use Rattle.std.proofs.Common.{◌≡◌, ◌∙◌, Ok, false, ap, arith, refl}
+use Rattle.fab_finish.proofs.Freight.{lowers_after, lowers_both, lowers_none}
 use Rattle.fab_finish.proofs.Resting.{still_next, goes_carried, still_carried}
 use Rattle.fab_finish.proofs.rounds.round.Goals as goal
 
+pub loop-number-init : goal.loop-number-init
+loop-number-init g c = record { joined = c.requires.joined; on = λ first reached. reached; count = refl; lowers = lowers_none c.args.peers.now; still = λ none k below. absurd (omega (arith, below)) }
+
 pub loop-number-preserved : goal.loop-number-preserved
 loop-number-preserved g c =
-    let here = c.in_ok-stepped.ensures in
+    let here = c.in_ok-went.ensures in
     let before = c.loop-number.invariant in
     record {
       joined = here.joined;
@@ -12,7 +16,8 @@ loop-number-preserved g c =
       count = c.turn.auto.peers ∙ before.count;
       still = λ none k below. (
           let both = c.either-moved.ensures.no none in
-          still_next c.loop-number.peers c.turn.new.peers c.loop-number.number k here.others (before.still both.0 k) (here.still (ap Ok both.1)) below);
+          still_next c.loop-number.peers c.turn.new.peers c.loop-number.number k here.others (before.still both.0 k) (here.still both.1) below);
+      lowers = lowers_both c.either-stepped.result c.either-moved.result c.loop-number.stepped c.in_ok-went.went.stepped c.loop-number.moved c.in_ok-went.went.moved c.args.peers.now c.loop-number.peers c.turn.new.peers c.either-stepped.ensures.is c.either-moved.ensures.is before.lowers here.lowers;
     }
 
 pub returns-clause-on : goal.returns-clause-on
@@ -21,7 +26,9 @@ returns-clause-on g c first reached =
 
 pub returns-clause-still : goal.returns-clause-still
 returns-clause-still g c none =
-    let is : c.either.result ≡ false = cc in
-    let both = c.either.ensures.no is in
+    let both = c.either-any.ensures.no none in
     still_carried c.loop-number.peers c.carry.new.peers c.loop-number.number
     (let n = c.loop-number.invariant.count in let past = c.loop-number-test.false in omega (arith, n, past)) (c.loop-number.invariant.still both.0) (c.in_ok-carried.ensures.same (ap Ok both.1)) c.in_ok-carried.ensures.none
+
+pub returns-clause-lowers : goal.returns-clause-lowers
+returns-clause-lowers g c = lowers_after c.either-any.result c.loop-number.stepped c.loop-number.moved c.in_ok-carried.carried c.args.peers.now c.loop-number.peers c.carry.new.peers c.either-any.ensures.is c.loop-number.invariant.lowers c.in_ok-carried.ensures.actors c.in_ok-carried.ensures.less

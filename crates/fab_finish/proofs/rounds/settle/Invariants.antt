@@ -1,8 +1,12 @@
-use Rattle.fab_finish.specs.Joined.{IsJoined, GoesOn}
+use Rattle.fab_laws.specs.Work.{work}
+use Rattle.fab_finish.specs.Joined.{IsJoined, GoesOn, actors}
 use Rattle.fab_finish.proofs.rounds.settle.Given as goal
 
-abbrev pub invariant-loop-round : goal.invariant-loop-round
-invariant-loop-round g l = record {
+abbrev pub invariant-steps : goal.invariant-steps
+invariant-steps g l = record {
   joined : IsJoined l.peers;
   on : GoesOn l.fn.peers l.peers;
 }
+
+abbrev pub decreases-steps : goal.decreases-steps
+decreases-steps g l = work (actors l.peers)

@@ -1,12 +1,18 @@
-use Rattle.std.proofs.Common.{slice_index_or, sym}
+use Rattle.std.proofs.Common.{Bool, slice_index_or, sym}
 use Rattle.fab_model.proofs.Turns.{slice_get-set_other}
-use Rattle.fab_finish.specs.Joined.{IsStill}
-use Rattle.fab_finish.proofs.Joining.{got, turned_all, same_member}
-use Rattle.fab_finish.proofs.Resting.{still_plain}
+use Rattle.fab_finish.specs.declared.rounds.Went.{Went}
+use Rattle.fab_finish.proofs.Joining.{got, turned_all}
+use Rattle.fab_finish.proofs.Freight.{still_at, turned_lowers}
 use Rattle.fab_finish.proofs.rounds.turn.Goals as goal
 
-pub quantum-requires : goal.quantum-requires
-quantum-requires g c =
+abbrev moved : Went → Bool
+moved w = w.moved
+
+abbrev stepped : Went → Bool
+stepped w = w.stepped
+
+pub take_turn-requires : goal.take_turn-requires
+take_turn-requires g c =
     let own = c.requires.joined.own c.args.number _ (got c.args.peers.now c.args.number c.index-peers-number.result c.requires.below) in
     record { log = own.log; counted = own.counted }
 
@@ -14,19 +20,25 @@ pub returns-clause-joined : goal.returns-clause-joined
 returns-clause-joined g c =
     let ps = c.args.peers.now in
     let a = slice_index_or c.args.peers.now c.args.number c.index-peers-number.result in
-    (turned_all c.quantum.result ps c.args.number a c.quantum.new.self c.requires.joined (got ps c.args.number c.index-peers-number.result c.requires.below) c.quantum.ensures.log c.quantum.ensures.counted c.quantum.ensures.turned).0
+    (turned_all moved c.take_turn.result ps c.args.number a c.take_turn.new.peer c.requires.joined (got ps c.args.number c.index-peers-number.result c.requires.below) c.take_turn.ensures.log c.take_turn.ensures.counted c.take_turn.ensures.turned).0
 
 pub returns-clause-on : goal.returns-clause-on
 returns-clause-on g c =
     let ps = c.args.peers.now in
     let a = slice_index_or c.args.peers.now c.args.number c.index-peers-number.result in
-    (turned_all c.quantum.result ps c.args.number a c.quantum.new.self c.requires.joined (got ps c.args.number c.index-peers-number.result c.requires.below) c.quantum.ensures.log c.quantum.ensures.counted c.quantum.ensures.turned).1
+    (turned_all moved c.take_turn.result ps c.args.number a c.take_turn.new.peer c.requires.joined (got ps c.args.number c.index-peers-number.result c.requires.below) c.take_turn.ensures.log c.take_turn.ensures.counted c.take_turn.ensures.turned).1
 
 pub returns-clause-others : goal.returns-clause-others
-returns-clause-others g c k other = slice_get-set_other c.args.peers.now c.args.number k c.quantum.new.self (λ e. other (sym e))
+returns-clause-others g c k other = slice_get-set_other c.args.peers.now c.args.number k c.take_turn.new.peer (λ e. other (sym e))
 
 pub returns-clause-still : goal.returns-clause-still
-returns-clause-still g c none p has =
+returns-clause-still g c =
     let ps = c.args.peers.now in
     let a = slice_index_or c.args.peers.now c.args.number c.index-peers-number.result in
-    same_member ps c.args.number c.quantum.new.self p IsStill c.requires.below has (still_plain a c.quantum.new.self (c.quantum.ensures.still none))
+    still_at moved c.take_turn.result ps c.args.number a c.take_turn.new.peer c.requires.below c.take_turn.ensures.still
+
+pub returns-clause-lowers : goal.returns-clause-lowers
+returns-clause-lowers g c =
+    let ps = c.args.peers.now in
+    let a = slice_index_or c.args.peers.now c.args.number c.index-peers-number.result in
+    turned_lowers moved stepped c.take_turn.result ps c.args.number a c.take_turn.new.peer c.requires.joined (got ps c.args.number c.index-peers-number.result c.requires.below) c.take_turn.ensures.open c.take_turn.ensures.turned c.take_turn.ensures.stepped

@@ -1,6 +1,6 @@
 use Rattle.std.proofs.Common.{length, ap, ◌∙◌}
 use Rattle.fab_script.specs.Bound.{IsSound}
-use Rattle.fab_outside.proofs.Granted.{handed_on, lane_within, peers_within, pool_within, said}
+use Rattle.fab_outside.proofs.Granted.{handed_on, lane_within, peers_within, pool_within, said, tx_within}
 use Rattle.fab_outside.proofs.Loads.{whole_length}
 use Rattle.fab_outside.proofs.loading.load_script.Goals as goal
 
@@ -15,3 +15,6 @@ returns-clause-lane g c = handed_on IsSound _ _ lane_within c.bind.result c.map_
 
 pub returns-clause-pool : goal.returns-clause-pool
 returns-clause-pool g c = handed_on IsSound _ _ pool_within c.bind.result c.map_err.result c.map_err.ensures.cases (c.bind.ensures.sound _ (said _ _ c.in_ok-script.ensures.ok))
+
+pub returns-clause-tx : goal.returns-clause-tx
+returns-clause-tx g c = handed_on IsSound _ _ tx_within c.bind.result c.map_err.result c.map_err.ensures.cases (c.bind.ensures.sound _ (said _ _ c.in_ok-script.ensures.ok))

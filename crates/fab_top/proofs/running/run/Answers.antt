@@ -1,5 +1,6 @@
-use Rattle.std.proofs.Common.{sym}
+use Rattle.std.proofs.Common.{string_bytes, sym}
 use Rattle.fab_top.proofs.Answering.{bench_answered, check_answered, coll_answered, unread_answered}
+use Rattle.fab_top.proofs.Sticking.{may_stick, never}
 use Rattle.fab_top.proofs.running.run.Goals as goal
 
 pub returns-in-Some-workload_of-clause-complete : goal.returns-in-Some-workload_of-clause-complete
@@ -28,3 +29,13 @@ returns-in-Err-clause-complete g c =
     unread_answered (g.D.Depot.files c.args.depot.now) c.args.words.now (g.D.Depot.faults c.args.depot.now) (g.D.Depot.faults c.load_script.new.depot)
     (g.S.Sink.faults c.args.sink.now) (g.S.Sink.faults c.args.sink.now) (g.D.Depot.failed_name c.load_script.new.depot) c.in-Some-script_file.name.now c.in-Err.status
     (sym c.in-Some-script_file.ensures) c.in-Err.ensures.err
+
+pub returns-in-Ok-run_script-clause-sticks : goal.returns-in-Ok-run_script-clause-sticks
+returns-in-Ok-run_script-clause-sticks g c is =
+    let e = c.in-Ok.ensures in
+    may_stick c.law_one_answer.ensures.done (g.D.Depot.files c.args.depot.now) c.args.words.now c.in-Some-script_file.name.now c.in-Ok.bound (string_bytes c.in-Ok-run_script.ran.text) c.in-Ok-run_script.ran.done
+    (sym c.in-Some-script_file.ensures) e.ok e.tx e.sized.0 c.in-Ok-run_script.ensures (c.write_text.ensures.stuck is).0
+
+pub returns-in-Ok-run_script-clause-whole : goal.returns-in-Ok-run_script-clause-whole
+returns-in-Ok-run_script-clause-whole g c =
+    never (g.D.Depot.files c.args.depot.now) c.args.words.now c.write_text.result (returns-in-Ok-run_script-clause-sticks g c)

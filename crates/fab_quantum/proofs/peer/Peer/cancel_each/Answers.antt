@@ -2,7 +2,7 @@ use Rattle.std.proofs.Common.{◌≡◌, length, Ok, ap, arith, subst, sym}
 use Rattle.fab_face.specs.Held.{Held}
 use Rattle.fab_quantum.specs.Turns.{told}
 use Rattle.fab_quantum.proofs.Ending.{ended_then, read_ended, read_quiet, read_posted}
-use Rattle.fab_quantum.proofs.peer.Peer.cancel_posted.Goals as goal
+use Rattle.fab_quantum.proofs.peer.Peer.cancel_each.Goals as goal
 
 pub read_all-requires : goal.read_all-requires
 read_all-requires g c = record { counted = c.requires.quiet.counted }

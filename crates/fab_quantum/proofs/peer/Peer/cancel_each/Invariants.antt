@@ -1,6 +1,6 @@
 use Rattle.std.proofs.Common.{length}
 use Rattle.fab_quantum.specs.Turns.{told, Ended, IsQuiet, IsRead}
-use Rattle.fab_quantum.proofs.peer.Peer.cancel_posted.Given as goal
+use Rattle.fab_quantum.proofs.peer.Peer.cancel_each.Given as goal
 
 abbrev pub invariant-receives : goal.invariant-receives
 invariant-receives g l =

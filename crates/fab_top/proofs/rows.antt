@@ -1,0 +1,2 @@
+-- Texts that no run writes.
+pub mod Others
