@@ -133,7 +133,8 @@ fn lines_with(coll: Coll, r: u32, s: u32) -> usize
 /// How many lines rank r has in a round.
 pub fn lines_in(peers: u32, r: u32, coll: Coll) -> usize
     requires { peers ≤ 32 }
-    ensures { (i : ℕ) (round : Round) → round.coll ≡ coll → length (round_ops peers i r round) ≡ result }
+    ensures value { (i : ℕ) (round : Round) → round.coll ≡ coll → length (round_ops peers i r round) ≡ result }
+    ensures few { result ≤ 96 }
 {
     let mut lines = 0;
     for s in 0..peers {

@@ -1,5 +1,5 @@
 -- The script of some rounds, and what its peers came to.
-use Rattle.std.proofs.Common.{◌≡◌, ◌<◌, ◌≤◌, ℕ, List, true, length, map, sym, ap, subst, ◌∙◌, arith}
+use Rattle.std.proofs.Common.{◌≡◌, ◌<◌, ◌≤◌, ℕ, zero, suc, List, [], ◌∷◌, true, get_or, length, map, sym, ap, subst, ◌∙◌, arith}
 use Rattle.std.proofs.lemmas.List.{length-map}
 use Rattle.fab_base.specs.declared.script.Bound.{Bound}
 use Rattle.fab_base.specs.declared.script.Conf.{Conf}
@@ -14,16 +14,19 @@ use Rattle.fab_workloads.specs.Script.{conf_of}
 use Rattle.fab_coll.specs.declared.round.Round.{Round}
 use Rattle.fab_coll.specs.Plan.{plan_of}
 use Rattle.fab_coll.specs.Rounds.{AreWithin}
-use Rattle.fab_coll_laws.specs.Laws.{EachFolds, FoldsIn}
+use Rattle.fab_coll_laws.specs.Laws.{EachFolds, FoldsIn, results_so_far}
+
+-- the results of a rank's lines
+pub results_at : (ps : List Member) (r : ℕ) (x : Member) → r < length ps → x ≡ get_or ps r x → results_so_far (actors ps) r ≡ (member_actor x).results
+results_at [] r x below is = absurd (omega (arith, below))
+results_at (p ∷ ps) zero x below is = ap (λ (q : Member). (member_actor q).results) (sym is)
+results_at (p ∷ ps) (suc r) x below is = results_at ps r x (omega (arith, below)) is
 
 module _ (peers : ℕ) (rounds : List Round) (b : Bound) (is : b ≡ plan_of peers rounds) where
   -- its settings are those of its number of peers
   pub settings : b.script.conf ≡ conf_of peers
   unfolding plan_of
   settings = ap (λ (x : Bound). x.script.conf) is
-
-  pub cq_enough : 2 ≤ b.script.conf.info.cq
-  cq_enough = subst (λ (c : Conf). 2 ≤ c.info.cq) (sym settings) (omega arith)
 
   pub log_enough : 4 ≤ b.script.conf.info.log
   log_enough = subst (λ (c : Conf). 4 ≤ c.info.log) (sym settings) (omega arith)

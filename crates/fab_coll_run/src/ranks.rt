@@ -7,7 +7,7 @@ ghost use Rattle.fab_coll.specs.Rounds.{AreWithin};
 ghost use Rattle.fab_coll.specs.Text.{coll_text, rank_lines};
 ghost use Rattle.fab_coll_laws.specs.Laws.{FoldsIn};
 
-use crate::texts::add_rank;
+use crate::texts::{add_first, add_last, add_rank};
 use fab_base::NoMemory;
 use fab_coll::CollScript;
 use fab_ep::endpoint::Endpoint;
@@ -40,7 +40,6 @@ fn add_ranks<C: Machinery>(
 }
 
 /// The text of what each rank makes of the rounds, of its own shares and of those that it received.
-#[tactic(auto, unfolding(fab_coll::specs::Text::coll_text))]
 pub(crate) fn coll_text<C: Machinery>(
     alloc: Global,
     script: &CollScript,
@@ -52,8 +51,8 @@ pub(crate) fn coll_text<C: Machinery>(
     ensures { IfOk result (λ text. string_bytes text ≡ coll_text script.now.peers script.now.rounds) }
 {
     let mut out = String::new(alloc);
-    writeln!(out, "coll 1 peers {}", script.peers)?;
+    add_first(&mut out, script.peers)?;
     add_ranks(alloc, &mut out, script, peers)?;
-    out.push_str("end done\n")?;
+    add_last(&mut out)?;
     Ok(out)
 }

@@ -58,7 +58,7 @@ pool_within b sound =
     (omega (arith, least), most)
 
 pub tx_within : (b : Bound) → IsSound b → 1 ≤ b.script.conf.info.tx
-tx_within b sound = (all_within b.script.conf.hints b.script.conf.info sound.granted Tx).0
+tx_within b sound = (all_within _ b.script.conf.hints b.script.conf.info sound.granted Tx).0
 
 ok_of : {A E : Type 0} (r : Result A E) (x : A) → result_ok r ≡ Some x → r ≡ Ok x
 ok_of (Ok a) x e = cc

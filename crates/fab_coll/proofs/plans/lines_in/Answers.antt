@@ -8,7 +8,7 @@ loop-s-preserved c = let more = c.lines_with-lines in (
   omega (arith, c.loop-s.invariant.1, more.ensures.few),
 )
 
-pub returns : goal.returns
-returns c i round is =
+pub returns-clause-value : goal.returns-clause-value
+returns-clause-value c i round is =
     let end : c.args.peers ≡ c.loop-s.s = omega (arith, c.loop-s-test.false, c.loop-s.auto.s-end) in
     lines_are c.args.peers c.args.r c.args.coll i round is ∙ ap (lines_below c.args.coll c.args.r) end ∙ sym c.loop-s.invariant.0
