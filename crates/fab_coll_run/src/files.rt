@@ -2,6 +2,7 @@
 ghost use Rattle.std.specs.Prelude.{◌≡◌, ◌≤◌, Ok, IfOk, IfErr};
 ghost use Rattle.fab_coll.specs.Grammar.{verdict};
 ghost use Rattle.fab_coll.specs.Rounds.{AreWithin};
+ghost use Rattle.fab_outside.specs.Outside.{one_more};
 ghost use Rattle.fab_coll_run.specs.Files.{AreUnread, AreUnspelt, SpellsRounds};
 
 use fab_base::{Status, Text};
@@ -26,6 +27,7 @@ pub(crate) fn load_rounds<D: Depot>(
     name: &Text,
 ) -> Result<CollScript, Status>
     ensures files { D.files depot.new ≡ D.files depot.old }
+    ensures loads { D.loaded depot.new ≡ one_more (D.loaded depot.old) name.now }
     ensures ok { IfOk result (λ script. SpellsRounds (D.files depot.old) name.now script.peers script.rounds) }
     ensures within { IfOk result (λ script. AreWithin script.peers script.rounds) }
     ensures err { IfErr result (λ status. AreUnread (D.files depot.old) name.now (D.faults depot.old) (D.faults depot.new) (D.failed_name depot.new) status) }

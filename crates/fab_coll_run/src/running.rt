@@ -5,6 +5,7 @@ ghost use Rattle.fab_finish.specs.Joined.{start};
 ghost use Rattle.fab_coll.specs.Plan.{plan_of};
 ghost use Rattle.fab_coll.specs.Rounds.{AreWithin};
 ghost use Rattle.fab_coll.specs.Text.{coll_text};
+ghost use Rattle.fab_outside.specs.Outside.{one_more};
 ghost use Rattle.fab_coll_run.specs.Files.{AreUnread, IsDue};
 
 use crate::files::load_rounds;
@@ -70,6 +71,7 @@ pub fn text_of_file<R, D: Depot, G: Gate>(
 where
     R: Threads + Wait + Sync,
     ensures files { D.files depot.new ≡ D.files depot.old }
+    ensures loads { D.loaded depot.new ≡ one_more (D.loaded depot.old) name.now }
     ensures ok { IfOk result (λ text. IsDue (D.files depot.old) name.now (string_bytes text)) }
     ensures err { IfErr result (λ status. AreUnread (D.files depot.old) name.now (D.faults depot.old) (D.faults depot.new) (D.failed_name depot.new) status) }
 {

@@ -346,6 +346,11 @@ lowers_then false false m l ps qs rs a b = (let a0 = a.0 in let b0 = b.0 in omeg
     either true false = omega arith
     either false l = omega arith
 
+-- no step was taken
+pub not_raised : (s m : Bool) (ps qs : List Member) → s ≡ false → Lowers s m ps qs → work (actors qs) ≤ work (actors ps)
+not_raised true m ps qs e l = absurd (cc (e))
+not_raised false m ps qs e l = l.0
+
 pub lowers_none : (ps : List Member) → Lowers false false ps ps
 lowers_none ps = (omega arith, omega arith)
 

@@ -5,3 +5,4 @@ pub mod Carried
 pub mod Ending
 pub mod Clearing
 pub mod Freight
+pub mod Wanting

@@ -1,3 +1,4 @@
 pub mod Joined
 pub mod Rests
 pub mod Freight
+pub mod Wanting

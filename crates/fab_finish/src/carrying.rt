@@ -30,7 +30,7 @@ fn carry_one<C: Machinery + Drop>(
     requires to { to < length peers.old }
     ensures joined { OnOk result (IsJoined peers.new) }
     ensures actors { OnOk result (actors peers.new ≡ actors peers.old) }
-    ensures schedules { OnOk result (schedules peers.new ≡ schedules peers.old) }
+    ensures schedules { schedules peers.new ≡ schedules peers.old }
     ensures others { OnOk result ((s r : ℕ) → (s ≢ from) ⊎ (r ≢ to) → left (lane peers.new s r) ≡ left (lane peers.old s r)) }
     ensures one { result ≡ Ok true → length (left (lane peers.new from to)) + 1 ≡ length (left (lane peers.old from to)) }
     ensures none { result ≡ Ok false → left (lane peers.new from to) ≡ [] }
@@ -57,7 +57,7 @@ fn carry_lane<C: Machinery + Drop>(
     requires to { to < length peers.old }
     ensures joined { OnOk result (IsJoined peers.new) }
     ensures actors { OnOk result (actors peers.new ≡ actors peers.old) }
-    ensures schedules { OnOk result (schedules peers.new ≡ schedules peers.old) }
+    ensures schedules { schedules peers.new ≡ schedules peers.old }
     ensures others { OnOk result ((s r : ℕ) → (s ≢ from) ⊎ (r ≢ to) → left (lane peers.new s r) ≡ left (lane peers.old s r)) }
     ensures none { OnOk result (left (lane peers.new from to) ≡ []) }
     ensures same { result ≡ Ok false → peers.new ≡ peers.old }
@@ -79,7 +79,7 @@ fn carry_from<C: Machinery + Drop>(
     requires from { from < length peers.old }
     ensures joined { OnOk result (IsJoined peers.new) }
     ensures actors { OnOk result (actors peers.new ≡ actors peers.old) }
-    ensures schedules { OnOk result (schedules peers.new ≡ schedules peers.old) }
+    ensures schedules { schedules peers.new ≡ schedules peers.old }
     ensures others { OnOk result ((s r : ℕ) → s ≢ from → left (lane peers.new s r) ≡ left (lane peers.old s r)) }
     ensures none { OnOk result ((r : ℕ) → r < length peers.new → left (lane peers.new from r) ≡ []) }
     ensures same { result ≡ Ok false → peers.new ≡ peers.old }
@@ -101,7 +101,7 @@ pub(crate) fn carry<C: Machinery + Drop>(
     requires joined { IsJoined peers.old }
     ensures joined { OnOk result (IsJoined peers.new) }
     ensures actors { OnOk result (actors peers.new ≡ actors peers.old) }
-    ensures schedules { OnOk result (schedules peers.new ≡ schedules peers.old) }
+    ensures schedules { schedules peers.new ≡ schedules peers.old }
     ensures none { OnOk result ((s r : ℕ) → s < length peers.new → r < length peers.new → left (lane peers.new s r) ≡ []) }
     ensures same { result ≡ Ok false → peers.new ≡ peers.old }
     ensures less { IfOk result (λ moved. freight peers.new + one_if moved ≤ freight peers.old) }

@@ -1,5 +1,5 @@
 //! The end of a run: the peers go on until none can, and cancel the receives that are still posted.
-ghost use Rattle.std.specs.Prelude.{◌≡◌, ◌≤◌, ℕ, length, map, slice_get, Some, true, false, Ok, IfOk, OnOk};
+ghost use Rattle.std.specs.Prelude.{◌≡◌, ◌≤◌, ℕ, length, map, slice_get, Some, true, false, Ok, IfOk, OnErr, OnOk};
 ghost use Rattle.std.specs.List.{All, list_all};
 ghost use Rattle.fab_model.specs.Orders.{Reached};
 ghost use Rattle.fab_model.specs.Peers.{fabric, is_finished};
@@ -8,6 +8,7 @@ ghost use Rattle.fab_model.specs.Views.{rule};
 ghost use Rattle.fab_quantum.specs.Turns.{IsQuiet};
 ghost use Rattle.fab_finish.specs.Joined.{Member, member_actor, IsJoined, Ends, AreStill, AreCleared, Clears, actors, schedules, told_of, opened, start};
 ghost use Rattle.fab_finish.specs.Rests.{Rest, AreCancelled};
+ghost use Rattle.fab_finish.specs.Wanting.{Grows, Leaves};
 
 use crate::opening::open;
 use crate::rounds::settle;
@@ -50,6 +51,8 @@ fn cancel_all<C: Machinery + Drop>(
     ensures rest { OnOk result (Rest (actors peers.new)) }
     ensures done { OnOk result (all_done (actors peers.new) ≡ true) }
     ensures cancelled { OnOk result (AreCancelled (length peers.old) peers.old peers.new) }
+    ensures grows { Grows peers.old peers.new }
+    ensures leaves { OnErr result (Leaves peers.old peers.new) }
 {
     for number in 0..peers.len() {
         peers[number].cancel_posted()?;
@@ -61,7 +64,8 @@ fn cancel_all<C: Machinery + Drop>(
 /// posted (fi_cancel of fi_endpoint(3)) and reads their completions. The peers are at rest in both cases: nothing is
 /// on its way, no completion is unread, and no line can be done.
 ///
-/// After want of memory a frame that was on its way may be lost, so the peers are then only read or dropped.
+/// After want of memory a frame that was on its way may be lost, so the peers are then only read or dropped. Their
+/// schedules are then those of turns that stood, and begin with the ones before.
 pub fn finish<C: Machinery + Drop>(
     peers: &mut [Peer<Endpoint<PlainPort, C>>],
 ) -> Result<Ending, NoMemory>
@@ -71,6 +75,8 @@ pub fn finish<C: Machinery + Drop>(
     ensures drained { result ≡ Ok Ending.Drained → all_done (actors peers.new) ≡ true }
     ensures stuck { result ≡ Ok Ending.Stuck → all_done (actors peers.new) ≡ false }
     ensures cleared { result ≡ Ok Ending.Drained → Clears peers.old peers.new }
+    ensures grows { Grows peers.old peers.new }
+    ensures leaves { OnErr result (Leaves peers.old peers.new) }
 {
     settle(peers)?;
     if !all_done(peers) {

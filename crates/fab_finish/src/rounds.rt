@@ -1,11 +1,12 @@
 //! Rounds: each peer takes its turn, and then all frames are carried.
-ghost use Rattle.std.specs.Prelude.{◌≡◌, ◌≢◌, ℕ, ◌<◌, List, [], length, nat_lt, slice_get, true, false, Ok, IfOk, OnOk};
+ghost use Rattle.std.specs.Prelude.{◌≡◌, ◌≢◌, ℕ, ◌<◌, List, [], length, nat_lt, slice_get, true, false, Ok, IfOk, OnErr, OnOk};
 ghost use Rattle.fab_face.specs.Acts.{Act};
 ghost use Rattle.fab_face.specs.Held.{IsOpen};
 ghost use Rattle.fab_laws.specs.Work.{work};
 ghost use Rattle.fab_quantum.specs.Turns.{IsCounted, IsStill, Turned, is_some_act, living_of};
 ghost use Rattle.fab_finish.specs.Freight.{Lowers};
 ghost use Rattle.fab_finish.specs.Joined.{IsJoined, GoesOn, IsStillAt, AreStill, actors, seen_plain, told_of};
+ghost use Rattle.fab_finish.specs.Wanting.{Grows, Leaves};
 
 use crate::carrying::{carry, either};
 use fab_base::NoMemory;
@@ -36,6 +37,7 @@ fn take_turn<C: Machinery + Drop>(peer: &mut Peer<Endpoint<PlainPort, C>>) -> Re
     ensures log { OnOk result (peer.new.endpoint.log ≡ []) }
     ensures counted { OnOk result (IsCounted (living_of (told_of peer.new))) }
     ensures turned { IfOk result (λ w. (acts : List Act) × Turned (told_of peer.old) (told_of peer.new) acts × (w.moved ≡ is_some_act acts)) }
+    ensures stays { OnErr result ((told_of peer.new).schedule ≡ (told_of peer.old).schedule) }
     ensures stepped { IfOk result (λ w. w.stepped ≡ nat_lt (length (told_of peer.old).schedule) (length (told_of peer.new).schedule)) }
     ensures still { IfOk result (λ w. w.moved ≡ false → IsStill (told_of peer.old) (told_of peer.new)) }
 {
@@ -61,6 +63,8 @@ fn turn<C: Machinery + Drop>(
     ensures others { (k : ℕ) → k ≢ number → slice_get peers.new k ≡ slice_get peers.old k }
     ensures still { IfOk result (λ w. w.moved ≡ false → IsStillAt peers.new number) }
     ensures lowers { IfOk result (λ w. Lowers w.stepped w.moved peers.old peers.new) }
+    ensures grows { Grows peers.old peers.new }
+    ensures leaves { OnErr result (Leaves peers.old peers.new) }
 {
     take_turn(&mut peers[number])
 }
@@ -72,6 +76,8 @@ fn round<C: Machinery + Drop>(peers: &mut [Peer<Endpoint<PlainPort, C>>]) -> Res
     ensures on { OnOk result (GoesOn peers.old peers.new) }
     ensures still { IfOk result (λ w. w.moved ≡ false → AreStill peers.new) }
     ensures lowers { IfOk result (λ w. Lowers w.stepped w.moved peers.old peers.new) }
+    ensures grows { Grows peers.old peers.new }
+    ensures leaves { OnErr result (Leaves peers.old peers.new) }
 {
     let mut moved = false;
     let mut stepped = false;
@@ -97,6 +103,8 @@ fn go_on<C: Machinery + Drop>(peers: &mut [Peer<Endpoint<PlainPort, C>>]) -> Res
     ensures on { OnOk result (GoesOn peers.old peers.new) }
     ensures still { result ≡ Ok false → AreStill peers.new }
     ensures less { result ≡ Ok true → work (actors peers.new) < work (actors peers.old) }
+    ensures grows { Grows peers.old peers.new }
+    ensures leaves { OnErr result (Leaves peers.old peers.new) }
 {
     'rounds: loop {
         let went = round(peers)?;
@@ -117,6 +125,8 @@ pub(crate) fn settle<C: Machinery + Drop>(
     ensures joined { OnOk result (IsJoined peers.new) }
     ensures on { OnOk result (GoesOn peers.old peers.new) }
     ensures still { OnOk result (AreStill peers.new) }
+    ensures grows { Grows peers.old peers.new }
+    ensures leaves { OnErr result (Leaves peers.old peers.new) }
 {
     'steps: while go_on(peers)? {}
     Ok(())

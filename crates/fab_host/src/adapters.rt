@@ -99,6 +99,8 @@ impl<R: Files> Depot for FileDepot<'_, R> {
 
     ghost failed_name = { λ depot. depot.failed };
 
+    ghost loaded = { λ _. None };
+
     fn load(&mut self, alloc: Global, name: &Text, limit: u64) -> Result<Buf, LoadRefused> {
         let kept = name.clone()?;
         let loaded = match fs::open(self.rt, name.as_str()) {

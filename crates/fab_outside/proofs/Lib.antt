@@ -2,3 +2,4 @@ pub mod Pieces
 pub mod Offered
 pub mod Loads
 pub mod Granted
+pub mod Named

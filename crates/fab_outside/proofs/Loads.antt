@@ -29,7 +29,7 @@ line_whole files told payloads i payload all next bytes same below is whole one 
     let one' = subst (λ t. IsWhole t payload.name bytes) same one in
     subst (λ xs. AreWhole files xs next) (sym lines) (subst (AreWhole files (take i payloads ++ payload ∷ [])) (sym more) (whole_then files (take i payloads) all payload bytes whole one'))
 
-reaches : (files : Files) (payloads : List Payload) (i : ℕ) (payload : Payload) (all : List (List ℕ)) → i < length payloads → payload ≡ get_or payloads i payload → AreWhole files (take i payloads) all
+pub reaches : (files : Files) (payloads : List Payload) (i : ℕ) (payload : Payload) (all : List (List ℕ)) → i < length payloads → payload ≡ get_or payloads i payload → AreWhole files (take i payloads) all
     → Reaches files payloads payload.name
 reaches files payloads i payload all below is whole = record {
   before = take i payloads;

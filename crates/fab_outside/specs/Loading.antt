@@ -6,8 +6,10 @@
 --     LeadsTo files file name      that is the script's file, or a payload file of it which comes after whole ones
 --     IsWrong files file line why  the file spells no script, or a line of its script names bytes which no payload file has
 --     IsUnread ..                  why there is no script with its payload files
+--     LoadsOnly May before after   where the names of the loads made are told, those that joined them are such
 -- Where files are not told, each of these speaks of some bytes in the place of a file.
-use Rattle.std.specs.Prelude.{◌≡◌, ℕ, ◌<◌, ◌≤◌, ◌⊎◌, List, [], ◌∷◌, ◌++◌, length, Option, Some, None}
+use Rattle.std.specs.Prelude.{◌≡◌, ℕ, ◌<◌, ◌≤◌, ◌⊎◌, List, [], ◌∷◌, ◌++◌, length, Option, Some, None, option_map}
+use Rattle.std.specs.List.{All}
 use Rattle.fab_base.specs.Counts.{Rose}
 use Rattle.fab_base.specs.declared.script.Bound.{Bound}
 use Rattle.fab_base.specs.declared.script.Payload.{Payload}
@@ -66,6 +68,9 @@ pub record IsRead (files : Files) (file : List ℕ) (bound : Bound) : Type 0 whe
   pub spells : Spells files file bound.script
   pub whole : AreWhole files bound.script.payloads bound.files
   pub inside : outside bound.script bound.files ≡ None
+
+abbrev pub LoadsOnly : (List ℕ → Type 0) → Option (List (List ℕ)) → Option (List (List ℕ)) → Type 0
+LoadsOnly May before after = (more : List (List ℕ)) × All May more × (after ≡ option_map (λ names. names ++ more) before)
 
 -- the file of this name was not loaded
 abbrev pub IsUnloaded : Files → List ℕ → ℕ → ℕ → Option (List ℕ) → Status → Type 0

@@ -1,7 +1,8 @@
 //! A script and its payload files, loaded and put together; a file of a workload.
 ghost use Rattle.std.specs.Prelude.{◌≡◌, ◌<◌, ◌≤◌, Some, IfOk, IfErr};
 ghost use Rattle.fab_grammar.specs.Grammar.{script_of};
-ghost use Rattle.fab_outside.specs.Loading.{AreUnloaded, AreWhole, IsRead, IsUnloaded, IsUnread, IsUnspelt, IsWhole};
+ghost use Rattle.fab_outside.specs.Loading.{AreUnloaded, AreWhole, IsRead, IsUnloaded, IsUnread, IsUnspelt, IsWhole, LeadsTo, LoadsOnly, Reaches};
+ghost use Rattle.fab_outside.specs.Outside.{one_more};
 ghost use Rattle.fab_outside.specs.Refused.{end_of};
 
 use crate::outside::{Depot, LoadRefused};
@@ -16,6 +17,7 @@ const FILE_MAX: u64 = 67_108_864;
 pub fn load_file<D: Depot>(alloc: Global, depot: &mut D, name: &Text) -> Result<Buf, Status>
     ensures files { D.files depot.new ≡ D.files depot.old }
     ensures never_falls { D.faults depot.old ≤ D.faults depot.new }
+    ensures loads { D.loaded depot.new ≡ one_more (D.loaded depot.old) name.now }
     ensures ok { IfOk result (λ bytes. IsWhole (D.files depot.old) name.now bytes) }
     ensures err { IfErr result (λ status. IsUnloaded (D.files depot.old) name.now (D.faults depot.old) (D.faults depot.new) (D.failed_name depot.new) status) }
 {
@@ -41,6 +43,7 @@ fn load_payloads<D: Depot>(
 ) -> Result<Vec<Buf>, Status>
     ensures files { D.files depot.new ≡ D.files depot.old }
     ensures never_falls { D.faults depot.old ≤ D.faults depot.new }
+    ensures loads { LoadsOnly (Reaches (D.files depot.old) payloads.now) (D.loaded depot.old) (D.loaded depot.new) }
     ensures ok { IfOk result (λ all. AreWhole (D.files depot.old) payloads.now all.items) }
     ensures err { IfErr result (λ status. AreUnloaded (D.files depot.old) payloads.now (D.faults depot.old) (D.faults depot.new) (D.failed_name depot.new) status) }
 {
@@ -78,6 +81,7 @@ fn read_script(alloc: Global, bytes: &[u8]) -> Result<Script, Status>
 pub fn load_script<D: Depot>(alloc: Global, depot: &mut D, name: &Text) -> Result<Bound, Status>
     ensures files { D.files depot.new ≡ D.files depot.old }
     ensures never_falls { D.faults depot.old ≤ D.faults depot.new }
+    ensures loads { LoadsOnly (LeadsTo (D.files depot.old) name.now) (D.loaded depot.old) (D.loaded depot.new) }
     ensures ok { IfOk result (λ bound. IsRead (D.files depot.old) name.now bound) }
     ensures sized { IfOk result (λ bound. (2 ≤ bound.script.conf.info.cq) × (4 ≤ bound.script.conf.info.log)) }
     ensures peers { IfOk result (λ bound. (0 < bound.script.conf.peers) × (bound.script.conf.peers ≤ 64)) }

@@ -53,7 +53,7 @@ impl MemoryDepot {
 }
 
 impl Depot for MemoryDepot {
-    ghost use Rattle.fab_outside.specs.Outside.{CountsUnder, IsFile, BeginsFile, file_of};
+    ghost use Rattle.fab_outside.specs.Outside.{CountsUnder, IsFile, BeginsFile, file_of, one_more};
     ghost use Rattle.fab_base.specs.Counts.{Rose};
     ghost use Rattle.fab_outside.specs.Refused.{IfTooLong};
     ghost use Rattle.fab_outside.specs.Memory.{IsToldToFail, is_failed};
@@ -63,6 +63,8 @@ impl Depot for MemoryDepot {
     ghost faults = { λ depot. depot.faults };
 
     ghost failed_name = { λ depot. depot.failed };
+
+    ghost loaded = { λ _. None };
 
     /// The first file of this name. Fails where this load's number is listed, and where there is no
     /// such file, and nowhere else. Takes the memory of the name first. The name and the bytes are
@@ -78,6 +80,8 @@ impl Depot for MemoryDepot {
         ensures too_long_length { IfTooLong result (λ bytes. length bytes ≡ limit + 1) }
         ensures failed { IsErrOf result LoadRefused.Failed
             → Rose self.old.faults self.new.faults × (self.new.failed ≡ Some name.now) }
+
+        ensures loads { None ≡ one_more None name.now }
 
         // It fails where it is told to, and counts exactly these failures.
         ensures told { IsErrOf result LoadRefused.Failed → IsToldToFail self.old name.now }

@@ -1,6 +1,6 @@
 //! What lies outside the program: files, the output, the time, and what each tells of itself.
 ghost use Rattle.std.specs.Prelude.{◌≡◌, ◌≢◌, ℕ, ◌+◌, ◌^◌, ◌<◌, ◌≤◌, IfOk, IfErr, OnErr, IsErrOf, List, length, take, Option, Some};
-ghost use Rattle.fab_outside.specs.Outside.{Next, CountsUnder, IsFile, BeginsFile};
+ghost use Rattle.fab_outside.specs.Outside.{Next, CountsUnder, IsFile, BeginsFile, one_more};
 ghost use Rattle.fab_base.specs.Counts.{Rose};
 ghost use Rattle.std.specs.Io.KnownBytes.{append_known};
 ghost use Rattle.fab_outside.specs.Refused.{IfTooLong};
@@ -47,8 +47,8 @@ impl From<AllocError> for LoadRefused {
 
 /// What gives files by their names.
 ///
-/// It tells the files that it holds, or tells none; a count of its faults, which never falls; and the
-/// name given to the load in which that count last rose. A count that is stored in 64 bits stays at
+/// It tells the files that it holds, or tells none; a count of its faults, which never falls; the name
+/// given to the load in which that count last rose; and the names given to all loads, or tells none. A count that is stored in 64 bits stays at
 /// its last value, where each fault counts as a rise; whoever makes a depot says that its count begins
 /// at 0.
 pub trait Depot {
@@ -58,6 +58,9 @@ pub trait Depot {
     ghost faults: { Self → ℕ };
 
     ghost failed_name: { Self → Option (List ℕ) };
+
+    /// The names given to the loads so far, in order, where the depot tells them.
+    ghost loaded: { Self → Option (List (List ℕ)) };
 
     /// The whole file of this name, of at most `limit` bytes. Whatever the answer, no file changes.
     ///
@@ -75,7 +78,8 @@ pub trait Depot {
         ensures too_long { IfTooLong result (λ bytes. BeginsFile (files self.old) name.now bytes) }
         ensures too_long_length { IfTooLong result (λ bytes. length bytes ≡ limit + 1) }
         ensures failed { IsErrOf result LoadRefused.Failed
-            → Rose (faults self.old) (faults self.new) × (failed_name self.new ≡ Some name.now) };
+            → Rose (faults self.old) (faults self.new) × (failed_name self.new ≡ Some name.now) }
+        ensures loads { loaded self.new ≡ one_more (loaded self.old) name.now };
 }
 
 /// What takes the text.

@@ -6,7 +6,7 @@ ghost use Rattle.fab_base.specs.declared.status.Status.TheVariants.{Done, Script
 ghost use Rattle.fab_base.specs.declared.status.Why.{Why};
 ghost use Rattle.fab_replay.specs.Verdict.{verdict};
 ghost use Rattle.fab_top.specs.Checking.{verdict_line, IsChecked, IsUnchecked, LeadsOn};
-ghost use Rattle.fab_outside.specs.Loading.{IsOver, IsWrong};
+ghost use Rattle.fab_outside.specs.Loading.{IsOver, IsWrong, LoadsOnly};
 ghost use Rattle.fab_top.specs.Runs.{EndsCheck, IsSilent, WritesLine};
 
 use fab_base::{Bound, NoMemory, Status, Text};
@@ -46,6 +46,7 @@ fn line_of_files<D: Depot>(
     trace: &Text,
 ) -> Result<String, Status>
     ensures files { D.files depot.new ≡ D.files depot.old }
+    ensures loads { LoadsOnly (LeadsOn (D.files depot.old) file.now trace.now) (D.loaded depot.old) (D.loaded depot.new) }
     ensures ok { IfOk result (λ line. IsChecked (D.files depot.old) file.now trace.now (string_bytes line)) }
     ensures err { IfErr result (λ status. IsUnchecked (D.files depot.old) file.now trace.now (D.faults depot.old) (D.faults depot.new) (D.failed_name depot.new) status) }
 {
@@ -90,6 +91,7 @@ pub fn carry_out_check<D: Depot, S: Sink>(
     ensures silent { IsSilent result → S.bytes sink.new ≡ S.bytes sink.old }
     ensures ends { EndsCheck result }
     ensures files { D.files depot.new ≡ D.files depot.old }
+    ensures loads { LoadsOnly (LeadsOn (D.files depot.old) file.now trace.now) (D.loaded depot.old) (D.loaded depot.new) }
 {
     match line_of_files(alloc, depot, file, trace) {
         Ok(line) => write_line(sink, line.as_str()),

@@ -6,6 +6,7 @@ ghost use Rattle.fab_base.specs.declared.status.Status.TheVariants.{Done, Script
 ghost use Rattle.fab_base.specs.declared.status.Why.{Why};
 ghost use Rattle.fab_coll_run.specs.Files.{BreaksRules, IsDue};
 ghost use Rattle.fab_outside.specs.Loading.{IsOver};
+ghost use Rattle.fab_outside.specs.Outside.{one_more};
 ghost use Rattle.fab_top.specs.Runs.{EndsCheck, IsSilent};
 
 use crate::checking::write_line;
@@ -39,6 +40,7 @@ where
     ensures silent { IsSilent result → S.bytes sink.new ≡ S.bytes sink.old }
     ensures ends { EndsCheck result }
     ensures files { D.files depot.new ≡ D.files depot.old }
+    ensures loads { D.loaded depot.new ≡ one_more (D.loaded depot.old) file.now }
 {
     match text_of_file(rt, alloc, depot, file, gate) {
         Ok(text) => write_line(sink, text.as_str()),

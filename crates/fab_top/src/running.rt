@@ -11,7 +11,7 @@ ghost use Rattle.fab_grammar.specs.Settings.{asking};
 ghost use Rattle.fab_model.specs.Negotiation.{grant};
 ghost use Rattle.fab_top.specs.Commands.{IsNoCommand};
 ghost use Rattle.fab_outside.specs.Info.{info_text, offer};
-ghost use Rattle.fab_outside.specs.Loading.{IsOver, IsUnloaded};
+ghost use Rattle.fab_outside.specs.Loading.{IsOver, IsUnloaded, LoadsOnly};
 ghost use Rattle.fab_top.specs.Runs.{Reports, ComesToRest, AskFor, IsRefused, Writes, WritesPart, Tells, TellsPart, EndsText, IsLoaded, Benches, BenchesPart, EndsBench, Checks, ChecksPart, Sums, SumsPart, Collects, CollectsPart, IsUnhindered, IsAnswered, IsSilent, MayStick, NeverSticks, WritesReport, AsksNone};
 ghost use Rattle.fab_window_run.specs.Commands.{asked_text, IsWithin as IsWindow, window_of};
 ghost use Rattle.fab_workloads.specs.Bench.{bench_line};
@@ -230,6 +230,7 @@ fn tell_totals<S: Sink, G: Gate, R: Threads + Wait + Sync>(
 /// The file that the words of a workload name, or no bytes where they name none.
 fn load_payload<D: Depot>(alloc: Global, depot: &mut D, words: &[Text]) -> Result<Buf, Status>
     ensures files { D.files depot.new ≡ D.files depot.old }
+    ensures loads { LoadsOnly (λ name. payload_file words.now ≡ Some name) (D.loaded depot.old) (D.loaded depot.new) }
     ensures asks { payload_file words.now ≡ None → depot.new ≡ depot.old }
     ensures ok { IfOk result (λ bytes. IsLoaded (D.files depot.old) (payload_file words.now) bytes) }
     ensures err { IfErr result (λ status. (name : List ℕ) × (payload_file words.now ≡ Some name)
@@ -266,6 +267,7 @@ where
     ensures silent { IsSilent result → S.bytes sink.new ≡ S.bytes sink.old }
     ensures ends { EndsBench result }
     ensures files { D.files depot.new ≡ D.files depot.old }
+    ensures loads { LoadsOnly (λ name. payload_file words.now ≡ Some name) (D.loaded depot.old) (D.loaded depot.new) }
     ensures asks { payload_file words.now ≡ None → depot.new ≡ depot.old }
 {
     let payload = match load_payload(alloc, depot, words) {
@@ -361,6 +363,7 @@ where
         → IsAnswered result }
     ensures sticks { result ≡ Stuck → MayStick (D.files depot.old) words.now }
     ensures whole { NeverSticks (D.files depot.old) words.now → result ≢ Stuck }
+    ensures loads { LoadsOnly (AskFor (D.files depot.old) words.now) (D.loaded depot.old) (D.loaded depot.new) }
     ensures asks { AsksNone words.now → depot.new ≡ depot.old }
     ensures clock { workload_of words.now ≡ None → clock.new ≡ clock.old }
 {

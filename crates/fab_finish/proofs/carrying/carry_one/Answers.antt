@@ -1,7 +1,8 @@
-use Rattle.std.proofs.Common.{◌<◌, slice_index_or, slice_set, length, length-set, arith}
+use Rattle.std.proofs.Common.{◌<◌, ◌∙◌, refl, slice_index_or, slice_set, length, length-set, arith}
 use Rattle.fab_finish.proofs.Joining.{got}
 use Rattle.fab_finish.proofs.Carried.{none_left, none_joined, wide_q, may_come, carried_joined, carried_actors, carried_schedules, carried_others, carried_one}
 use Rattle.fab_finish.proofs.Freight.{carried_less}
+use Rattle.fab_finish.proofs.Wanting.{stays_all}
 use Rattle.fab_finish.proofs.carrying.carry_one.Goals as goal
 
 pub take_out-requires : goal.take_out-requires
@@ -107,3 +108,15 @@ returns-in-Ok-clause-less g c =
     let is_q = got mid c.args.to c.index-peers-to.result within in
     let wide = wide_q ps c.args.from c.args.to a q c.take_out.new.self c.take_out.new.self c.in-Some.frame c.requires.joined is_a c.requires.to c.take_out.ensures.rest c.in-Some.ensures.some c.in-Some.ensures.port is_q c.requires.from in
     carried_less ps c.args.from c.args.to a q c.take_out.new.self c.bring.new.self c.in-Some.frame c.requires.joined is_a c.requires.to c.take_out.ensures.rest c.in-Some.ensures.some c.in-Some.ensures.port is_q c.bring.ensures.rest c.in-Ok.ensures.ok c.requires.from wide
+
+pub returns-in-Err-clause-schedules : goal.returns-in-Err-clause-schedules
+returns-in-Err-clause-schedules g c =
+    let ps = c.args.peers.now in
+    let a = slice_index_or c.args.peers.now c.args.from c.index-peers-from.result in
+    let m = record a { endpoint = c.take_out.new.self } in
+    let mid = slice_set ps c.args.from m in
+    let is_a = got ps c.args.from c.index-peers-from.result c.requires.from in
+    let within : c.args.to < length mid = omega (arith, c.requires.to, length-set ps c.args.from m) in
+    let q = slice_index_or mid c.args.to c.index-peers-to.result in
+    let is_q = got mid c.args.to c.index-peers-to.result within in
+    stays_all mid c.args.to q (record q { endpoint = c.bring.new.self }) is_q refl ∙ stays_all ps c.args.from a m is_a refl

@@ -3,6 +3,7 @@ use Rattle.fab_model.proofs.Turns.{slice_get-set_other}
 use Rattle.fab_finish.specs.declared.rounds.Went.{Went}
 use Rattle.fab_finish.proofs.Joining.{got, turned_all}
 use Rattle.fab_finish.proofs.Freight.{still_at, turned_lowers}
+use Rattle.fab_finish.proofs.Wanting.{stays_leaves, turned_grows}
 use Rattle.fab_finish.proofs.rounds.turn.Goals as goal
 
 abbrev moved : Went → Bool
@@ -42,3 +43,15 @@ returns-clause-lowers g c =
     let ps = c.args.peers.now in
     let a = slice_index_or c.args.peers.now c.args.number c.index-peers-number.result in
     turned_lowers moved stepped c.take_turn.result ps c.args.number a c.take_turn.new.peer c.requires.joined (got ps c.args.number c.index-peers-number.result c.requires.below) c.take_turn.ensures.open c.take_turn.ensures.turned c.take_turn.ensures.stepped
+
+pub returns-clause-grows : goal.returns-clause-grows
+returns-clause-grows g c =
+    let ps = c.args.peers.now in
+    let a = slice_index_or c.args.peers.now c.args.number c.index-peers-number.result in
+    turned_grows ps c.args.number a c.take_turn.new.peer (got ps c.args.number c.index-peers-number.result c.requires.below) moved c.take_turn.result c.take_turn.ensures.turned c.take_turn.ensures.stays
+
+pub returns-clause-leaves : goal.returns-clause-leaves
+returns-clause-leaves g c =
+    let ps = c.args.peers.now in
+    let a = slice_index_or c.args.peers.now c.args.number c.index-peers-number.result in
+    stays_leaves ps c.args.number a c.take_turn.new.peer (got ps c.args.number c.index-peers-number.result c.requires.below) c.take_turn.result c.take_turn.ensures.stays

@@ -1,5 +1,6 @@
 use Rattle.std.proofs.Common.{string_bytes, sym}
 use Rattle.fab_top.proofs.Answering.{bench_answered, check_answered, coll_answered, unread_answered}
+use Rattle.fab_top.proofs.Asking.{names_check, names_payload, names_rounds, names_script}
 use Rattle.fab_top.proofs.Sticking.{may_stick, never}
 use Rattle.fab_top.proofs.running.run.Goals as goal
 
@@ -39,3 +40,30 @@ returns-in-Ok-run_script-clause-sticks g c is =
 pub returns-in-Ok-run_script-clause-whole : goal.returns-in-Ok-run_script-clause-whole
 returns-in-Ok-run_script-clause-whole g c =
     never (g.D.Depot.files c.args.depot.now) c.args.words.now c.write_text.result (returns-in-Ok-run_script-clause-sticks g c)
+
+-- ---- the names of the files that were loaded
+
+pub returns-in-Some-workload_of-clause-loads : goal.returns-in-Some-workload_of-clause-loads
+returns-in-Some-workload_of-clause-loads g c =
+    names_payload (g.D.Depot.files c.args.depot.now) c.args.words.now c.in-Some-workload_of.workload (g.D.Depot.loaded c.args.depot.now) (g.D.Depot.loaded c.carry_out_workload.new.depot)
+    (sym c.in-Some-workload_of.ensures.value) c.carry_out_workload.ensures.loads
+
+pub returns-in-Some-replay_files-clause-loads : goal.returns-in-Some-replay_files-clause-loads
+returns-in-Some-replay_files-clause-loads g c =
+    names_check (g.D.Depot.files c.args.depot.now) c.args.words.now c.in-Some-replay_files.file.now c.in-Some-replay_files.trace.now (g.D.Depot.loaded c.args.depot.now) (g.D.Depot.loaded c.carry_out_check.new.depot)
+    (sym c.in-Some-replay_files.ensures) c.carry_out_check.ensures.loads
+
+pub returns-in-Some-coll_file-clause-loads : goal.returns-in-Some-coll_file-clause-loads
+returns-in-Some-coll_file-clause-loads g c =
+    names_rounds (g.D.Depot.files c.args.depot.now) c.args.words.now c.in-Some-coll_file.file.now (g.D.Depot.loaded c.args.depot.now) (g.D.Depot.loaded c.carry_out_rounds.new.depot)
+    (sym c.in-Some-coll_file.ensures) c.carry_out_rounds.ensures.loads
+
+pub returns-in-Err-clause-loads : goal.returns-in-Err-clause-loads
+returns-in-Err-clause-loads g c =
+    names_script (g.D.Depot.files c.args.depot.now) c.args.words.now c.in-Some-script_file.name.now (g.D.Depot.loaded c.args.depot.now) (g.D.Depot.loaded c.load_script.new.depot)
+    (sym c.in-Some-script_file.ensures) c.load_script.ensures.loads
+
+pub returns-in-Ok-run_script-clause-loads : goal.returns-in-Ok-run_script-clause-loads
+returns-in-Ok-run_script-clause-loads g c =
+    names_script (g.D.Depot.files c.args.depot.now) c.args.words.now c.in-Some-script_file.name.now (g.D.Depot.loaded c.args.depot.now) (g.D.Depot.loaded c.load_script.new.depot)
+    (sym c.in-Some-script_file.ensures) c.load_script.ensures.loads
