@@ -64,11 +64,11 @@ taken_more results k x was now whole below is so_far more =
 
 -- ---- lines
 
-pub line_told : (from first second last : List ℕ) (x y z : Word) → first ≡ from ++ x ++ 32 ∷ y → second ≡ first ++ 32 ∷ z → last ≡ second ++ 10 ∷ [] → last ≡ from ++ line_of (x ∷ y ∷ z ∷ [])
+pub line_told : (from first second last : List ℕ) (x y z : Word) → first ≡ from ++ x ++ (32 ∷ y) → second ≡ first ++ (32 ∷ z) → last ≡ second ++ (10 ∷ []) → last ≡ from ++ line_of (x ∷ y ∷ z ∷ [])
 line_told from first second last x y z one two end =
-    let start : first ++ 32 ∷ z ≡ from ++ (x ++ 32 ∷ y ++ 32 ∷ z) = ap (λ text. text ++ 32 ∷ z) one ∙ append_assoc from (x ++ (32 ∷ y)) (32 ∷ z) ∙ ap (λ text. from ++ text) (append_assoc x (32 ∷ y) (32 ∷ z)) in
-    let words : second ≡ from ++ (x ++ 32 ∷ y ++ 32 ∷ z) = two ∙ start in
-    end ∙ ap (λ text. text ++ 10 ∷ []) words ∙ append_assoc from (x ++ 32 ∷ y ++ 32 ∷ z) (10 ∷ [])
+    let words : second ≡ from ++ (x ++ (32 ∷ (y ++ (32 ∷ z)))) =
+    two ∙ ap (λ text. text ++ (32 ∷ z)) (one ∙ append_assoc from x (32 ∷ y)) ∙ append_assoc from (x ++ (32 ∷ y)) (32 ∷ z) ∙ ap (λ text. from ++ text) (append_assoc x (32 ∷ y) (32 ∷ z)) in
+    end ∙ ap (λ text. text ++ (10 ∷ [])) words ∙ append_assoc from (x ++ (32 ∷ (y ++ (32 ∷ z)))) (10 ∷ [])
 
 -- the line with a rank's number, and then those of its rounds
 pub rank_part : {T E : Type 0} (res : Result T E) (from now next : List ℕ) (rounds : List Round) (r : ℕ) → now ≡ from ++ line_of (codes "peer" ∷ decimal r ∷ [])
