@@ -1,6 +1,6 @@
 -- A turn in which no step is taken lowers the freight with each frame that it moves; a step lowers the work.
-use Rattle.std.proofs.Common.{◌≡◌, ◌≢◌, ◌≤◌, ◌<◌, ◌+◌, ◌*◌, ◌⊎◌, ℕ, zero, suc, Bool, true, false, ◌||◌, List, [], ◌∷◌, ◌++◌, length, length-append, length-drop, length-set, take, drop, set, get_or, Option, Some, None, inl, inr, refl, sym, ◌∙◌, ap, subst, arith}
-use Rattle.std.specs.Prelude.{◌-◌, ◌==◌, min, nat_lt, slice_get, slice_set, slice_index, Result, Ok, Err, IfOk, OnOk}
+use Rattle.std.proofs.Common.{◌≡◌, ◌≢◌, ◌≤◌, ◌<◌, ◌+◌, ◌*◌, ℕ, zero, suc, Bool, true, false, ◌||◌, List, [], ◌∷◌, ◌++◌, length, length-append, length-drop, length-set, take, set, get_or, Option, Some, None, inl, inr, refl, sym, ◌∙◌, ap, subst, arith}
+use Rattle.std.specs.Prelude.{◌-◌, ◌==◌, min, nat_lt, slice_get, slice_set, slice_index, Result, Ok, Err, IfOk}
 use Rattle.std.specs.Option.{option_map, option_map_or}
 use Rattle.std.proofs.lemmas.Bool.{cases_eq, eq-eqb}
 use Rattle.std.proofs.lemmas.Bool.Decides.{nat_tests}
@@ -14,19 +14,17 @@ use Rattle.fab_wire.specs.Joined.{is_last, grown}
 use Rattle.fab_link.specs.Plain.{Lane, Plain, PlainHome, lane_at, left, in_of, out_of, with_lane}
 use Rattle.fab_link.proofs.Looks.{same_lane, other_lane}
 use Rattle.fab_face.specs.Ports.{Whole}
-use Rattle.fab_model.specs.State.{State, accepted_for}
-use Rattle.fab_model.specs.Orders.{Leads, by}
-use Rattle.fab_model.specs.Peers.{Actor, fabric}
-use Rattle.fab_model.specs.Views.{rule}
+use Rattle.fab_model.specs.State.{State}
+use Rattle.fab_model.specs.Peers.{Actor}
 use Rattle.fab_model.proofs.Parts.{get_or-set}
 use Rattle.fab_model.proofs.Turns.{slice_get-set_other, slice_get-set_same}
 use Rattle.fab_face.specs.Held.{Held, IsOpen, IsOut, IsOutAt, begun_of, next_frame, next_item, piece}
-use Rattle.fab_face.specs.Acts.{Act, Did, Took, Posted, Drew, Had, Comes, Departs, Ends, Goes, headed, is_first, only, posted_by, posted_to, steps_by, steps_of, taken_by, taken_of}
-use Rattle.fab_quantum.specs.Turns.{IsStill as IsStillAfter, Living, Lives, LivesBy, Turned, is_some_act, living_of}
+use Rattle.fab_face.specs.Acts.{Act, Did, Took, Posted, Drew, Had, Departs, Ends, headed, is_first, only, posted_to, steps_by, steps_of, taken_of}
+use Rattle.fab_quantum.specs.Turns.{IsStill as IsStillAfter, Living, LivesBy, Turned, is_some_act, living_of}
 use Rattle.fab_laws.specs.Work.{Sized, total, work}
 use Rattle.fab_laws.proofs.working.Peers.{leads_by}
-use Rattle.fab_laws.proofs.working.Sums.{total_change, total_le, total_more}
-use Rattle.fab_finish.specs.Joined.{Member, IsJoined, IsOwn, IsStill, IsStillAt, actors, lane, member_actor, seen_plain, told_of}
+use Rattle.fab_laws.proofs.working.Sums.{total_change, total_more}
+use Rattle.fab_finish.specs.Joined.{Member, IsJoined, IsStill, IsStillAt, actors, member_actor, seen_plain, told_of}
 use Rattle.fab_finish.specs.Freight.{Lowers, freight, in_left, member_freight, one_if, out_left, to_go, to_post}
 use Rattle.fab_finish.proofs.Joining.{actor_at, same_member, turn_leads}
 use Rattle.fab_finish.proofs.Resting.{still_plain}

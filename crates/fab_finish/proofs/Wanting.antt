@@ -1,6 +1,6 @@
 -- Schedules only grow, and want of memory leaves those of turns that stood.
-use Rattle.std.proofs.Common.{◌≡◌, ◌<◌, ℕ, List, [], Some, inl, inr, refl, sym, ap, subst, ◌∙◌, set}
-use Rattle.std.specs.Prelude.{slice_get, slice_set, slice_index_or, Option, Result, Ok, Err, IfOk, OnErr, OnOk, Bool}
+use Rattle.std.proofs.Common.{◌≡◌, ℕ, List, [], Some, inl, inr, sym, ap, subst, ◌∙◌}
+use Rattle.std.specs.Prelude.{slice_get, slice_set, slice_index_or, Result, Ok, Err, IfOk, OnErr, OnOk, Bool}
 use Rattle.std.specs.Option.{option_map}
 use Rattle.std.proofs.lemmas.List.{map-set}
 use Rattle.std.proofs.lemmas.Option.{slice_get-map, get_or_from_slice_get}

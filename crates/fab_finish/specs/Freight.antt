@@ -3,7 +3,7 @@
 --     out_left, in_left   frames posted and not carried; frames carried and not taken
 --     freight ps          of all peers
 --     Lowers stepped moved ps qs      the work of the machine fell, or no step was taken and the freight fell if anything moved
-use Rattle.std.specs.Prelude.{◌≡◌, ℕ, ◌+◌, ◌-◌, ◌*◌, ◌≤◌, Bool, true, false, List, length, Option, Some, None, slice_get, slice_index}
+use Rattle.std.specs.Prelude.{ℕ, ◌+◌, ◌-◌, ◌*◌, ◌≤◌, Bool, true, false, List, length, Option, Some, None, slice_get, slice_index}
 use Rattle.std.specs.Option.{option_map_or}
 use Rattle.fab_base.specs.declared.items.Item.{Item}
 use Rattle.fab_link.specs.Plain.{Plain, lane_at, left, in_of}

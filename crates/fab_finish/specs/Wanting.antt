@@ -1,7 +1,7 @@
 -- What want of memory leaves of the peers.
 --     Grows ps qs     each schedule of the others begins with that of the ones
 --     Leaves ps qs    what began with some lines and led to the ones goes on to some states, by the steps of the others' schedules
-use Rattle.std.specs.Prelude.{◌≡◌, ℕ, List, [], slice_index_or}
+use Rattle.std.specs.Prelude.{ℕ, List, [], slice_index_or}
 use Rattle.fab_base.specs.declared.script.Conf.{Conf}
 use Rattle.fab_base.specs.declared.script.Line.{Line}
 use Rattle.fab_model.specs.Orders.{Reached}

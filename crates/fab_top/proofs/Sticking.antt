@@ -1,19 +1,16 @@
 -- A run that ends with a line not done is of no script that is settled and whose answer does all lines.
 use Rattle.std.proofs.Common.{◌≡◌, ◌≢◌, ◌≤◌, ◌∙◌, ℕ, Bool, true, false, List, [], ◌∷◌, Option, Some, None, refl, sym, ap, subst, arith}
-use Rattle.std.specs.Prelude.{is_none}
-use Rattle.std.specs.List.{list_all}
 use Rattle.fab_base.specs.declared.script.Bound.{Bound}
 use Rattle.fab_base.specs.declared.script.Payload.{Payload}
 use Rattle.fab_base.specs.declared.script.Script.{Script}
 use Rattle.fab_base.specs.declared.status.Status.{Status}
 use Rattle.fab_base.specs.declared.status.Status.TheVariants.{Stuck}
-use Rattle.fab_answer.specs.Answer.{answer}
 use Rattle.fab_answer.specs.Laws.{DoneAtRest}
 use Rattle.fab_model.specs.Report.{traces}
 use Rattle.fab_grammar.specs.Grammar.{script_of}
 use Rattle.fab_outside.specs.Commands.{script_file}
 use Rattle.fab_outside.specs.Loading.{AreWhole, Files, IsRead}
-use Rattle.fab_top.specs.Runs.{AreTold, DoesAll, MayStick, NeverSticks, Reports}
+use Rattle.fab_top.specs.Runs.{DoesAll, MayStick, NeverSticks, Reports}
 
 -- where a run of the script ended with a line not done
 pub not_all : DoneAtRest → (bound : Bound) (text : List ℕ) (done : Bool) → 1 ≤ bound.script.conf.info.tx → 2 ≤ bound.script.conf.info.cq → Reports bound text done → done ≡ false → DoesAll bound → ⊥
@@ -39,7 +36,7 @@ same_files f (p ∷ ps) (x ∷ xs) (y ∷ ys) (a, more) (b, others) =
     let rest = same_files f ps xs ys more others in
     ap (λ z. z ∷ xs) first ∙ ap (λ zs. y ∷ zs) rest
 
-same_bound : (f : List ℕ → Option (List ℕ)) (file : List ℕ) (a b : Bound) → IsRead (Some f) file a → IsRead (Some f) file b → a ≡ b
+pub same_bound : (f : List ℕ → Option (List ℕ)) (file : List ℕ) (a b : Bound) → IsRead (Some f) file a → IsRead (Some f) file b → a ≡ b
 same_bound f file a b r s =
     let bytes : r.spells.0 ≡ s.spells.0 = (let e : Some r.spells.0 ≡ Some s.spells.0 = sym r.spells.1.0 ∙ s.spells.1.0 in cc) in
     let script : a.script ≡ b.script = (let e : Some a.script ≡ Some b.script = sym r.spells.2 ∙ ap script_of bytes ∙ s.spells.2 in cc) in

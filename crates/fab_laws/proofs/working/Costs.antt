@@ -1,7 +1,7 @@
 -- What the parts of a step cost, and what a step lowers.
 --     Adds w s u      from s to u nothing arrives, becomes whole or is transmitted, and at most so much work is added
-use Rattle.std.proofs.Common.{◌≡◌, ◌≤◌, ◌<◌, ◌+◌, ◌*◌, ℕ, zero, suc, Bool, true, false, List, [], ◌∷◌, ◌++◌, length, length-append, length-set, set, get_or, slice_get, map, Option, Some, None, refl, sym, ◌∙◌, ap, ap₂, arith, rules}
-use Rattle.std.specs.Prelude.{find, ◌-◌, ◌==◌, is_some, slice_index}
+use Rattle.std.proofs.Common.{◌≡◌, ◌≤◌, ◌<◌, ◌+◌, ◌*◌, ℕ, Bool, true, false, List, [], ◌∷◌, ◌++◌, length, length-append, length-set, set, get_or, Option, Some, None, refl, ◌∙◌, ap, arith, rules}
+use Rattle.std.specs.Prelude.{find, ◌-◌, ◌==◌, slice_index}
 use Rattle.std.specs.List.{list_any}
 use Rattle.std.proofs.lemmas.Bool.{and_parts}
 use Rattle.std.proofs.lemmas.List.{length-map}
@@ -29,12 +29,12 @@ use Rattle.fab_base.specs.declared.operations.Operation.{Operation}
 use Rattle.fab_base.specs.declared.operations.Coming.{Coming}
 use Rattle.fab_base.specs.declared.operations.Coming.TheVariants.{Into, Keep, Throw, Request, Answer}
 use Rattle.fab_model.specs.Matching.{change_first, is_message, remove_first, takes}
-use Rattle.fab_model.specs.State.{State, Receiving, Transmitting, Completions, called, coming_from, count, held_for, lookup, under_way, with_rx, with_tx, write}
+use Rattle.fab_model.specs.State.{State, Receiving, Transmitting, called, coming_from, count, held_for, lookup, under_way, with_rx, with_tx, write}
 use Rattle.fab_model.specs.Complete.{at_delivery, at_either, at_match, book, entry_of, error, fill, fill_multi, filled, is_made_by, let_go, release, release_multi, reply, reply_head}
 use Rattle.fab_model.specs.Sending.{Order, accepting, answering, class_of, do_answer, do_sent, end_with, ending, going_on, held_back, is_answered_by, is_busy, items_of, let_out, letting_out, operation_of, refusal_of, success_of, transmit, transmit_to, transmitting}
 use Rattle.fab_model.specs.Receiving.{Posting, cancel, cancellable, claim_of, draw_due, draws, drop_arrival, drop_claimed, give, goes, joining_posted, look, look_at, may_leave, peeked, post, receive_of, take_claimed, taken_by, taking, want_of, without_claim, without_first, without_posted}
 use Rattle.fab_model.specs.Target.{perform}
-use Rattle.fab_model.specs.Arrivals.{completed, do_draw, do_head, do_request, do_tail, heading_message, heading_other, is_wanted, keeping, made_whole, remote_class, remote_data, remote_event, seated, seating, shut, stays, tail_to, taker, used_up, way_of, with_regions}
+use Rattle.fab_model.specs.Arrivals.{completed, do_draw, do_head, do_request, do_tail, heading_message, heading_other, is_wanted, keeping, made_whole, remote_class, remote_data, remote_event, seated, seating, stays, tail_to, taker, used_up, way_of, with_regions}
 use Rattle.fab_model.specs.Calls.{Call, Transmit, Post, Look, TakeClaimed, DropClaimed, Cancel, CancelFirst, Insert, Remove, Reg, Close, Put, Show, Count, answer, close, do_call, insert, put, reg, remove}
 use Rattle.fab_model.proofs.Fences.{out_and_back}
 use Rattle.fab_laws.specs.Work.{coming_work, halves, heft, item_work, kind_work, on_way, own_work, waiting}

@@ -14,18 +14,16 @@ use Rattle.fab_base.specs.declared.peers.Step.TheVariants.{Do, Head, Tail, Draw,
 use Rattle.fab_base.specs.declared.script.Bound.{Bound}
 use Rattle.fab_base.specs.declared.script.Conf.{Conf}
 use Rattle.fab_base.specs.declared.script.Line.{Line}
-use Rattle.fab_model.specs.State.{State, Transmitting, accepted_for}
+use Rattle.fab_model.specs.State.{Transmitting, accepted_for}
 use Rattle.fab_model.specs.Receiving.{draw_due}
 use Rattle.fab_model.specs.Calls.{upto}
 use Rattle.fab_model.specs.Orders.{Leads, Turn, by}
 use Rattle.fab_model.specs.Peers.{Actor, fabric, facts, is_calm, step, final_step}
-use Rattle.fab_model.specs.Replay.{fresh, lines_of, newly, opening}
-use Rattle.fab_model.specs.Views.{View, rule, seen}
+use Rattle.fab_model.specs.Replay.{lines_of, newly, opening}
+use Rattle.fab_model.specs.Views.{rule, seen}
 use Rattle.fab_model.proofs.Parts.{get_or-set, if_is, some_same}
-use Rattle.fab_model.proofs.Patient.{sender_is}
 use Rattle.fab_model.proofs.Turns.{slice_get-set, slice_get-set_other, slice_get-set_same}
-use Rattle.fab_laws.specs.Work.{AreSized, EndsSoon, Sized, actor_work, arrived, halves, heft, coming_work, item_work, lines_count, lines_work, on_way, own_work, total, waiting, work, work_at}
-use Rattle.fab_laws.proofs.Stepping.{at_opening}
+use Rattle.fab_laws.specs.Work.{AreSized, EndsSoon, Sized, actor_work, arrived, halves, heft, coming_work, item_work, lines_count, lines_work, on_way, total, waiting, work, work_at}
 use Rattle.fab_laws.proofs.working.Costs.{Arrives}
 use Rattle.fab_laws.proofs.working.Stepping.{Enough, Lowers, Works, step_works}
 use Rattle.fab_laws.proofs.working.Sums.{on_way_next, total_change, total_le}

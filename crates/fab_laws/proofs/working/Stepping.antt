@@ -1,8 +1,8 @@
 -- Each step of a peer lowers its work.
 --     Falls v a b     the peer's work is less, and no item arrived
 --     Head            one more item of the source has arrived
-use Rattle.std.proofs.Common.{◌≡◌, ◌≤◌, ◌<◌, ◌+◌, ◌*◌, ℕ, zero, suc, Bool, true, false, List, [], ◌∷◌, ◌++◌, length, length-append, set, get_or, slice_get, Option, Some, None, inl, inr, refl, sym, ◌∙◌, ap, subst, arith}
-use Rattle.std.specs.Prelude.{find, ◌-◌, is_some, is_none, slice_index, cond, not}
+use Rattle.std.proofs.Common.{◌≡◌, ◌≤◌, ◌<◌, ◌+◌, ℕ, zero, suc, Bool, true, false, List, [], ◌∷◌, ◌++◌, length, length-append, get_or, slice_get, Option, Some, None, refl, sym, ap, subst, arith}
+use Rattle.std.specs.Prelude.{find, ◌-◌, is_some, is_none, slice_index, cond}
 use Rattle.std.proofs.lemmas.Bool.{and_parts}
 use Rattle.std.proofs.lemmas.Option.{slice_get_within}
 use Rattle.fab_base.specs.declared.items.Item.{Item}
@@ -14,18 +14,18 @@ use Rattle.fab_base.specs.declared.peers.Step.TheVariants.{Do, Head, Tail, Draw,
 use Rattle.fab_base.specs.declared.script.Line.{Line}
 use Rattle.fab_base.specs.declared.script.LineOp.{LineOp}
 use Rattle.fab_base.specs.declared.script.LineOp.TheVariants.{Wait, Reach}
-use Rattle.fab_model.specs.State.{State, accepted_for, fits, tally_of}
+use Rattle.fab_model.specs.State.{State, fits}
 use Rattle.fab_model.specs.Receiving.{cancel, cancel_fault, cancellable, draw_due}
-use Rattle.fab_model.specs.Arrivals.{do_draw, do_head, do_tail}
+use Rattle.fab_model.specs.Arrivals.{do_draw, do_tail}
 use Rattle.fab_model.specs.Sending.{do_sent}
 use Rattle.fab_model.specs.Calls.{Call, CancelFirst, answer, call_of, do_call}
 use Rattle.fab_model.specs.Peers.{Actor, after_call, call_line, do_line, do_next, draw_step, fabric, final_step, head_step, is_again, is_of_ctx, next_line, read_next, reading, sent_step, step, tail_step, unread, wait_line, with_result, with_state}
 use Rattle.fab_model.specs.Views.{View}
 use Rattle.fab_model.proofs.Parts.{if_is, some_is, some_same}
 use Rattle.fab_laws.specs.Moments.{next_call}
-use Rattle.fab_laws.specs.Work.{Sized, actor_work, item_work, kind_work, lines_work, own_work}
-use Rattle.fab_laws.proofs.Stepping.{LineIs, StepIs, line_keeps, step_is}
-use Rattle.fab_laws.proofs.working.Costs.{Adds, Arrives, Falls, adds_less, adds_none, call_adds, cancel_falls, cost, draw_falls, head_arrives, sent_falls, tail_falls}
+use Rattle.fab_laws.specs.Work.{Sized, actor_work, item_work, lines_work}
+use Rattle.fab_laws.proofs.Stepping.{StepIs, line_keeps, step_is}
+use Rattle.fab_laws.proofs.working.Costs.{Adds, Arrives, Falls, adds_less, adds_none, call_adds, cancel_falls, draw_falls, head_arrives, sent_falls, tail_falls}
 
 -- ---- lines
 

@@ -1,7 +1,7 @@
 -- Texts that no run of the script of one tagged message writes, where files are told: a wrong byte, the report of a schedule that is not lawful, of another schedule than its trace
 -- lines tell, or of one that ends before rest.
 --     NoRunWrites text     no run of this script writes the text
-use Rattle.std.proofs.Common.{◌≡◌, ◌∙◌, ℕ, Bool, List, [], Option, Some, sym, ap, subst}
+use Rattle.std.proofs.Common.{◌≡◌, ◌∙◌, ℕ, Bool, List, [], Option, Some, sym, subst}
 use Rattle.fab_base.specs.declared.script.Bound.{Bound}
 use Rattle.fab_model.proofs.Scripts.{Shows}
 use Rattle.fab_model.proofs.refused.Reports.{item_not_sent, item_not_sent_refused, line_not_done, line_not_done_refused, line_too_few, line_too_few_refused, line_too_many, line_too_many_refused, read_too_few, read_too_few_refused, script, wrong_byte, wrong_byte_refused}

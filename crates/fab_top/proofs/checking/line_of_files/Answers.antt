@@ -15,7 +15,7 @@ returns-in-Ok-clause-loads g c =
     names_trace (g.D.Depot.files c.args.depot.now) c.args.file.now c.args.trace.now c.in_ok-bound.bound (g.D.Depot.loaded c.args.depot.now) (g.D.Depot.loaded c.load_script.new.depot) (g.D.Depot.loaded c.load_file.new.depot)
     c.load_script.ensures.loads c.in_ok-bound.ensures.ok c.load_file.ensures.loads
 
-pub returns-in-Err-clause-loads : goal.returns-in-Err-clause-loads
-returns-in-Err-clause-loads g c =
+pub returns-clause-loads : goal.returns-clause-loads
+returns-clause-loads g c =
     names_trace (g.D.Depot.files c.args.depot.now) c.args.file.now c.args.trace.now c.in_ok-bound.bound (g.D.Depot.loaded c.args.depot.now) (g.D.Depot.loaded c.load_script.new.depot) (g.D.Depot.loaded c.load_file.new.depot)
     c.load_script.ensures.loads c.in_ok-bound.ensures.ok c.load_file.ensures.loads
