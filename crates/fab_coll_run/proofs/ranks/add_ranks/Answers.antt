@@ -1,7 +1,7 @@
 use Rattle.std.proofs.Common.{List, arith, subst, sym, ◌∙◌}
 use Rattle.fab_base.specs.declared.peers.LineResult.{LineResult}
 use Rattle.fab_coll_laws.specs.Laws.{RankFolds}
-use Rattle.fab_coll_run.proofs.Running.{results_at}
+use Rattle.fab_coll_run.proofs.Rounds.{results_at}
 use Rattle.fab_coll_run.proofs.Telling.{rank_told}
 use Rattle.fab_coll_run.proofs.ranks.add_ranks.Goals as goal
 

@@ -1,7 +1,7 @@
 use Rattle.std.proofs.Common.{List, ap, length, subst, sym, ◌∙◌}
 use Rattle.fab_finish.specs.Joined.{Member, actors}
 use Rattle.fab_coll_laws.specs.Laws.{FoldsIn}
-use Rattle.fab_coll_run.proofs.Running.{as_many, folds_at_rest, lane_granted, log_enough, peers_granted, pool_granted}
+use Rattle.fab_coll_run.proofs.Rounds.{as_many, folds_at_rest, lane_granted, log_enough, peers_granted, pool_granted}
 use Rattle.fab_coll_run.proofs.running.run_over.Goals as goal
 
 pub coll_text-requires-clause-count : goal.coll_text-requires-clause-count

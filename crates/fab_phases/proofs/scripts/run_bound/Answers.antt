@@ -1,9 +1,7 @@
-use Rattle.std.proofs.Common.{List, map, ap, subst, ◌∙◌, ◌≡◌, Result, IfOk}
-use Rattle.fab_base.specs.declared.script.Bound.{Bound}
-use Rattle.fab_model.specs.Calls.{upto}
+use Rattle.std.proofs.Common.{List, map, ap, subst, ◌∙◌, ◌≡◌, IfOk}
 use Rattle.fab_model.specs.Orders.{Reached}
 use Rattle.fab_model.specs.Peers.{Actor, fabric}
-use Rattle.fab_model.specs.Replay.{opening, lines_of}
+use Rattle.fab_model.specs.Replay.{opening}
 use Rattle.fab_model.specs.Views.{rule}
 use Rattle.fab_finish.specs.Joined.{actors, opened, schedules}
 use Rattle.fab_phases.proofs.Bounding.{opening_is}
