@@ -16,5 +16,5 @@ mod shares;
 
 pub use files::read_rounds;
 pub use outcomes::outcome;
-pub use plans::plan;
+pub use plans::{lines_in, plan, share_of};
 pub use round::{Coll, CollScript, Round, is_reducing};

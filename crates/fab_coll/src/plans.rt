@@ -1,7 +1,8 @@
 //! The script that does the rounds.
 ghost use Rattle.std.specs.Prelude.{◌≡◌, ◌≤◌, ◌+◌, ◌++◌, [], ℕ, length, map, slice_index_or, IfOk, OnOk};
 ghost use Rattle.fab_model.specs.Calls.{upto};
-ghost use Rattle.fab_coll.specs.Plan.{plan_of, plan_ops, receive_of, receivers, round_ops, rounds_ops, send_to, senders, wait_of};
+ghost use Rattle.fab_coll.specs.declared.round.Round.{Round};
+ghost use Rattle.fab_coll.specs.Plan.{lines_with, plan_of, plan_ops, receive_of, receivers, round_ops, rounds_ops, send_to, senders, wait_of};
 ghost use Rattle.fab_coll.specs.Rounds.{AreWithin, needs, share_of};
 
 use crate::round::{Coll, CollScript, Round};
@@ -33,7 +34,7 @@ fn share_at(round: &Round, at: usize) -> &[u8]
 }
 
 /// The share of rank s, or no bytes.
-fn share_of(round: &Round, s: u32) -> &[u8]
+pub fn share_of(round: &Round, s: u32) -> &[u8]
     ensures { result.now ≡ share_of round.now s }
 {
     match round.coll {
@@ -117,6 +118,29 @@ fn add_round(
     add_receives(ops, peers, i, r, round)?;
     add_waits(ops, peers, i, r, round.coll)?;
     Ok(())
+}
+
+/// How many lines of rank r in a round have to do with rank s: a send to it, and a receive and a wait for its share.
+fn lines_with(coll: Coll, r: u32, s: u32) -> usize
+    ensures value { result ≡ lines_with coll r s }
+    ensures few { result ≤ 3 }
+{
+    let sends = if needs(coll, s, r) { 1 } else { 0 };
+    let receives = if needs(coll, r, s) { 2 } else { 0 };
+    sends + receives
+}
+
+/// How many lines rank r has in a round.
+pub fn lines_in(peers: u32, r: u32, coll: Coll) -> usize
+    requires { peers ≤ 32 }
+    ensures value { (i : ℕ) (round : Round) → round.coll ≡ coll → length (round_ops peers i r round) ≡ result }
+    ensures few { result ≤ 96 }
+{
+    let mut lines = 0;
+    for s in 0..peers {
+        lines += lines_with(coll, r, s);
+    }
+    lines
 }
 
 /// The lines of rank r.

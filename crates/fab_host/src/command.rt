@@ -7,7 +7,7 @@ ghost use Rattle.fab_base.specs.declared.status.Status.TheVariants.{Done, Stuck,
 ghost use Rattle.fab_base.specs.declared.status.Why.{Why};
 ghost use Rattle.fab_top.specs.Commands.{IsNoCommand};
 ghost use Rattle.fab_outside.specs.Loading.{IsOver, LoadsOnly};
-ghost use Rattle.fab_top.specs.Runs.{AskFor, IsRefused, Writes, WritesPart, Tells, TellsPart, Benches, BenchesPart, Checks, ChecksPart, Sums, SumsPart, IsUnhindered, IsAnswered, IsSilent, MayStick, NeverSticks, AsksNone, IsNoWorkload};
+ghost use Rattle.fab_top.specs.Runs.{AskFor, IsRefused, Writes, WritesPart, Tells, TellsPart, Benches, BenchesPart, Checks, ChecksPart, Sums, SumsPart, Collects, CollectsPart, IsUnhindered, IsAnswered, IsSilent, MayStick, NeverSticks, AsksNone, IsNoWorkload};
 ghost use Rattle.fab_host.specs.Ending.{status_number, status_without, IsTold};
 
 use crate::ending::end;
@@ -53,14 +53,16 @@ where
         ⊎ Tells words.now (S.bytes sink.old) (S.bytes sink.new)
         ⊎ Benches (D.files depot.old) words.now (C.given clock.new) (C.first clock.new) (C.last clock.new) (S.bytes sink.old) (S.bytes sink.new)
         ⊎ Checks (D.files depot.old) words.now (S.bytes sink.old) (S.bytes sink.new)
-        ⊎ Sums words.now (S.bytes sink.old) (S.bytes sink.new) }
+        ⊎ Sums words.now (S.bytes sink.old) (S.bytes sink.new)
+        ⊎ Collects (D.files depot.old) words.now (S.bytes sink.old) (S.bytes sink.new) }
     ensures stuck { result.status ≡ Stuck → Writes (D.files depot.old) words.now false (S.bytes sink.old) (S.bytes sink.new) }
     ensures write_fault { result.status ≡ WriteFault → Rose (S.faults sink.old) (S.faults sink.new)
         × (WritesPart (D.files depot.old) words.now (S.bytes sink.old) (S.bytes sink.new)
         ⊎ TellsPart words.now (S.bytes sink.old) (S.bytes sink.new)
         ⊎ BenchesPart (D.files depot.old) words.now (C.given clock.new) (C.first clock.new) (C.last clock.new) (S.bytes sink.old) (S.bytes sink.new)
         ⊎ ChecksPart (D.files depot.old) words.now (S.bytes sink.old) (S.bytes sink.new)
-        ⊎ SumsPart words.now (S.bytes sink.old) (S.bytes sink.new)) }
+        ⊎ SumsPart words.now (S.bytes sink.old) (S.bytes sink.new)
+        ⊎ CollectsPart (D.files depot.old) words.now (S.bytes sink.old) (S.bytes sink.new)) }
     ensures silent { IsSilent result.status → S.bytes sink.new ≡ S.bytes sink.old }
     ensures files { D.files depot.new ≡ D.files depot.old }
     ensures complete { IsUnhindered (D.files depot.old) words.now (D.faults depot.old) (D.faults depot.new) (S.faults sink.old) (S.faults sink.new)

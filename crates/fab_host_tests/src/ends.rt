@@ -33,6 +33,10 @@ const TOO_MANY: &str = "fabric 1\n\
     \n\
     peers 33\n";
 
+const ROUNDS: &str = "coll 1\n\
+    peers 1\n\
+    barrier\n";
+
 fn sink_of(alloc: Global, failing: &[u64]) -> Result<MemorySink, Fail> {
     let failing = Vec::from_slice(alloc, failing)?;
     Ok(MemorySink::new(alloc, 1000, failing))
@@ -71,13 +75,14 @@ fn each_end_has_its_status_and_its_line(rt: HostRuntime) -> Result<(), Fail> {
     let none: &[u64] = &[];
     let first: &[u64] = &[1];
     let usage =
-        "usage: fabric_pingpong script FILE | pingpong FILE SIZE COUNT | bandwidth FILE SIZE COUNT WINDOW | gen NUMBER PEERS MESSAGES | info CAPS | replay FILE TRACE | window NUMBER PEERS WORDS ADDS\n";
+        "usage: fabric_pingpong script FILE | pingpong FILE SIZE COUNT | bandwidth FILE SIZE COUNT WINDOW | gen NUMBER PEERS MESSAGES | info CAPS | replay FILE TRACE | window NUMBER PEERS WORDS ADDS | coll FILE\n";
     let rows = [
         (it, DONE, none, none, 0, ""),
         (it, STUCK, none, none, 1, ""),
         (&["script"], DONE, none, none, 2, usage),
         (&["replay", "it", "it"], DONE, none, none, 0, ""),
         (&["window", "0", "2", "1", "1"], DONE, none, none, 0, ""),
+        (&["coll", "it"], ROUNDS, none, none, 0, ""),
         (
             it,
             NO_VERB,

@@ -58,7 +58,7 @@ fn load_payloads<D: Depot>(
 }
 
 /// How the run ends where the script is refused so.
-fn status_of(refused: ParseRefused) -> Status
+pub fn status_of(refused: ParseRefused) -> Status
     ensures { result ≡ end_of refused }
 {
     match refused {

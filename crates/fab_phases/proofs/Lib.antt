@@ -6,3 +6,4 @@ pub mod Starting
 pub mod Turning
 pub mod Changing
 pub mod Running
+pub mod Bounding

@@ -6,4 +6,4 @@
 
 mod report;
 
-pub use report::{add_first, add_last, add_peer};
+pub use report::{add_bytes, add_first, add_last, add_peer};

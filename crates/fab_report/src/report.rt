@@ -83,7 +83,7 @@ fn add_byte(out: &mut String, byte: u8) -> Result<(), NoMemory>
 }
 
 /// A blank and bytes, as hexadecimal digits, or as a dash where there are none.
-fn add_bytes(out: &mut String, bytes: &[u8]) -> Result<(), NoMemory>
+pub fn add_bytes(out: &mut String, bytes: &[u8]) -> Result<(), NoMemory>
     ensures { OnOk result (string_bytes out.new ≡ string_bytes out.old ++ 32 ∷ hex_or_dash bytes.now) }
 {
     if bytes.is_empty() {

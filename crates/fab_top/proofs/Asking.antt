@@ -1,6 +1,7 @@
 -- The names of the files that a command loads.
 use Rattle.std.proofs.Common.{◌≡◌, ℕ, List, Option, Some, inl, inr, refl}
 use Rattle.fab_base.specs.declared.script.Bound.{Bound}
+use Rattle.fab_coll_run.specs.Files.{coll_file}
 use Rattle.fab_outside.specs.Commands.{replay_files, script_file}
 use Rattle.fab_outside.specs.Loading.{Files, IsRead, LeadsTo, LoadsOnly}
 use Rattle.fab_outside.specs.Outside.{one_more}
@@ -20,7 +21,10 @@ pub names_payload : (files : Files) (words : List (List ℕ)) (workload : Worklo
 names_payload files words workload a b command loads = loads_as (λ name. payload_file words ≡ Some name) (AskFor files words) a b (λ name is. inr (inl (workload, command, is))) loads
 
 pub names_check : (files : Files) (words : List (List ℕ)) (file trace : List ℕ) (a b : Option (List (List ℕ))) → replay_files words ≡ Some (file, trace) → LoadsOnly (LeadsOn files file trace) a b → LoadsOnly (AskFor files words) a b
-names_check files words file trace a b command loads = loads_as (LeadsOn files file trace) (AskFor files words) a b (λ name leads. inr (inr (file, trace, command, leads))) loads
+names_check files words file trace a b command loads = loads_as (LeadsOn files file trace) (AskFor files words) a b (λ name leads. inr (inr (inl (file, trace, command, leads)))) loads
+
+pub names_rounds : (files : Files) (words : List (List ℕ)) (file : List ℕ) (a b : Option (List (List ℕ))) → coll_file words ≡ Some file → b ≡ one_more a file → LoadsOnly (AskFor files words) a b
+names_rounds files words file a b command more = loads_one (AskFor files words) file a b (inr (inr (inr command))) more
 
 -- ---- the command that checks a report
 

@@ -1,5 +1,4 @@
 pub mod Parts
-pub mod Bounding
 pub mod Telling
 pub mod Workloads
 pub mod Answering

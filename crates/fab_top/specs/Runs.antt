@@ -2,13 +2,14 @@
 --     Reports bound text      the text is the report of the lawful schedule that its trace lines tell, and at its end the peers are at rest
 --     AskFor files words name the words lead to this file
 --     NamesScript words file  the words name this file as a script
---     IsRefused ..            the words name a file that is refused as a script
+--     IsRefused ..            the words name a file that is refused as a script, or as one of rounds
 --     Writes, WritesPart      the report is written, or a part of it
 --     Tells, TellsPart        what is granted is written, or a part of it
 --     IsLoaded files name bytes  the file of this name, whole, or no bytes where there is no name
 --     Benches, BenchesPart    the line of a workload is written, or a part of it
 --     Checks, ChecksPart      what is to be said of a report is written, or a part of it
 --     Sums, SumsPart          what the words of a window hold is written, or a part of it
+--     Collects, CollectsPart  what each rank makes of rounds is written, or a part of it
 --     ComesToRest bound done  some lawful schedule leads the peers to rest
 --     NeverSticks ..          the script is settled, and its answer does all lines
 --     AsksNone words          they ask for no file
@@ -38,6 +39,7 @@ use Rattle.fab_outside.specs.Commands.{script_file, info_caps, replay_files}
 use Rattle.fab_top.specs.Commands.{IsNoCommand}
 use Rattle.fab_outside.specs.Info.{info_text, offer}
 use Rattle.fab_outside.specs.Loading.{Files, IsOver, IsRead, IsWhole, IsWrong, LeadsTo}
+use Rattle.fab_coll_run.specs.Files.{BreaksRules, IsDue, coll_file}
 use Rattle.fab_window_run.specs.declared.asked.Asked.{Asked}
 use Rattle.fab_window_run.specs.Commands.{asked_text, window_of}
 use Rattle.fab_workloads.specs.declared.workload.Workload.{Workload}
@@ -71,17 +73,19 @@ IsPayload words name = (workload : Workload) × (workload_of words ≡ Some work
 abbrev pub IsOfReplay : Files → List (List ℕ) → List ℕ → Type 0
 IsOfReplay files words name = (file trace : List ℕ) × (replay_files words ≡ Some (file, trace)) × LeadsOn files file trace name
 
--- the words name a script, and this is its file or one of its payload files, which the order of checks comes to, or the trace that is read last; or they name a workload, and this is its file
+-- the words name a script, and this is its file or one of its payload files, which the order of checks comes to, or the trace that is read last; or they name a workload, and this is its file; or this is the file of rounds that they name
 abbrev pub AskFor : Files → List (List ℕ) → List ℕ → Type 0
-AskFor files words name = ((file : List ℕ) × (script_file words ≡ Some file) × LeadsTo files file name) ⊎ IsPayload words name ⊎ IsOfReplay files words name
+AskFor files words name = ((file : List ℕ) × (script_file words ≡ Some file) × LeadsTo files file name) ⊎ IsPayload words name ⊎ IsOfReplay files words name ⊎ (coll_file words ≡ Some name)
 
 -- to run it, or to check a report of it
 abbrev pub NamesScript : List (List ℕ) → List ℕ → Type 0
 NamesScript words file = (script_file words ≡ Some file) ⊎ ((trace : List ℕ) × (replay_files words ≡ Some (file, trace)))
 
--- the words name a file that spells no script, or a script of which a line names bytes that are not there: this is the first such line, and the first rule that it breaks
+-- the words name a file that spells no script, or a script of which a line names bytes that are not there: this is the first such line, and the first rule that it breaks; or they name a file that spells no rounds
 abbrev pub IsRefused : Files → List (List ℕ) → ℕ → Why → Type 0
-IsRefused files words line why = (file : List ℕ) × NamesScript words file × IsWrong files file line why
+IsRefused files words line why =
+    ((file : List ℕ) × NamesScript words file × IsWrong files file line why)
+    ⊎ ((file : List ℕ) × (coll_file words ≡ Some file) × BreaksRules files file line why)
 
 -- the words name a file that spells a script, and a report of this script with its payload files is written
 pub record Writes (files : Files) (words : List (List ℕ)) (done : Bool) (before after : Option (List ℕ)) : Type 0 where
@@ -181,6 +185,24 @@ pub record SumsPart (words : List (List ℕ)) (before after : Option (List ℕ))
   pub fewer : some < length (asked_text asked)
   pub written : after ≡ append_known before (take some (asked_text asked))
 
+-- the words name a file of rounds, and what each rank makes of them is written: a function of the file
+pub record Collects (files : Files) (words : List (List ℕ)) (before after : Option (List ℕ)) : Type 0 where
+  pub file : List ℕ
+  pub command : coll_file words ≡ Some file
+  pub text : List ℕ
+  pub due : IsDue files file text
+  pub written : after ≡ append_known before text
+
+-- the same, of which only the first bytes are written
+pub record CollectsPart (files : Files) (words : List (List ℕ)) (before after : Option (List ℕ)) : Type 0 where
+  pub file : List ℕ
+  pub command : coll_file words ≡ Some file
+  pub text : List ℕ
+  pub due : IsDue files file text
+  pub some : ℕ
+  pub fewer : some < length text
+  pub written : after ≡ append_known before (take some text)
+
 -- the script is settled, and its one answer does all its lines
 abbrev pub DoesAll : Bound → Type 0
 DoesAll bound = (is_settled bound ≡ true) × (list_all is_none (answer_of bound).next ≡ true)
@@ -200,7 +222,7 @@ NeverSticks files words = AreTold files × ((file : List ℕ) × (bound : Bound)
 
 -- the words ask for no file
 abbrev pub AsksNone : List (List ℕ) → Type 0
-AsksNone words = (script_file words ≡ None) × (payload_file words ≡ None) × (replay_files words ≡ None)
+AsksNone words = (script_file words ≡ None) × (payload_file words ≡ None) × (replay_files words ≡ None) × (coll_file words ≡ None)
 
 -- the words are no workload
 abbrev pub IsNoWorkload : List (List ℕ) → Type 0
@@ -235,7 +257,7 @@ EndsBench WriteFault = Unit {0}
 EndsBench NoMemory = Unit {0}
 EndsBench status = ⊥
 
--- the statuses of the command that checks a report
+-- the statuses of the commands that check a report, and that run rounds
 abbrev pub EndsCheck : Status → Type 0
 EndsCheck (ScriptRefused line why) = Unit {0}
 EndsCheck status = EndsBench status
@@ -247,7 +269,7 @@ IsAnswered Stuck = Unit {0}
 IsAnswered NoMemory = Unit {0}
 IsAnswered status = ⊥
 
--- the words are a command, no fault came of the files or of the output, no file that is asked for is too long, and no script is refused
+-- the words are a command, no fault came of the files or of the output, no file that is asked for is too long, and no file is refused
 pub record IsUnhindered (files : Files) (words : List (List ℕ)) (faults faults' failures failures' : ℕ) : Type 0 where
   pub command : IsNoCommand words → ⊥
   pub loads : Rose faults faults' → ⊥

@@ -59,7 +59,7 @@ fn line_of_files<D: Depot>(
 }
 
 /// Writes the line, and says how the command ends.
-fn write_line<S: Sink>(sink: &mut S, line: &str) -> Status
+pub(crate) fn write_line<S: Sink>(sink: &mut S, line: &str) -> Status
     ensures done { result ≡ Done → S.bytes sink.new ≡ append_known (S.bytes sink.old) line.now }
     ensures write_fault { result ≡ WriteFault → Rose (S.faults sink.old) (S.faults sink.new)
         × ((n : ℕ) × (n < length line.now) × (S.bytes sink.new ≡ append_known (S.bytes sink.old) (take n line.now))) }

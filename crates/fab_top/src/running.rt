@@ -1,37 +1,36 @@
 //! The top call: a command from its words to its report.
-ghost use Rattle.std.specs.Prelude.{◌≡◌, ◌≢◌, ◌<◌, ◌≤◌, ◌↔◌, ◌⊎◌, ℕ, List, true, false, None, Some, IfOk, IfErr, OnOk, string_bytes, length, map, take};
+ghost use Rattle.std.specs.Prelude.{◌≡◌, ◌≢◌, ◌<◌, ◌≤◌, ◌↔◌, ◌⊎◌, ℕ, List, true, false, None, Some, IfOk, IfErr, OnOk, string_bytes, length, take};
 ghost use Rattle.std.specs.Io.KnownBytes.{append_known};
 ghost use Rattle.std.specs.List.{All};
 ghost use Rattle.fab_finish.specs.Joined.{start};
 ghost use Rattle.fab_base.specs.declared.caps.Api.TheVariants.{Two};
 ghost use Rattle.fab_base.specs.declared.status.Status.TheVariants.{Done, Stuck, Usage, ScriptRefused, TooLong, ReadFault, WriteFault};
 ghost use Rattle.fab_base.specs.declared.status.Why.{Why};
-ghost use Rattle.fab_model.specs.Calls.{upto};
-ghost use Rattle.fab_model.specs.Replay.{lines_of};
 ghost use Rattle.fab_base.specs.Counts.{Rose};
 ghost use Rattle.fab_grammar.specs.Settings.{asking};
 ghost use Rattle.fab_model.specs.Negotiation.{grant};
 ghost use Rattle.fab_top.specs.Commands.{IsNoCommand};
 ghost use Rattle.fab_outside.specs.Info.{info_text, offer};
 ghost use Rattle.fab_outside.specs.Loading.{IsOver, IsUnloaded, LoadsOnly};
-ghost use Rattle.fab_top.specs.Runs.{Reports, ComesToRest, AskFor, IsRefused, Writes, WritesPart, Tells, TellsPart, EndsText, IsLoaded, Benches, BenchesPart, EndsBench, Checks, ChecksPart, Sums, SumsPart, IsUnhindered, IsAnswered, IsSilent, MayStick, NeverSticks, WritesReport, AsksNone, IsNoWorkload};
+ghost use Rattle.fab_top.specs.Runs.{Reports, ComesToRest, AskFor, IsRefused, Writes, WritesPart, Tells, TellsPart, EndsText, IsLoaded, Benches, BenchesPart, EndsBench, Checks, ChecksPart, Sums, SumsPart, Collects, CollectsPart, IsUnhindered, IsAnswered, IsSilent, MayStick, NeverSticks, WritesReport, AsksNone, IsNoWorkload};
 ghost use Rattle.fab_window_run.specs.Commands.{asked_text, IsWithin as IsWindow, window_of};
 ghost use Rattle.fab_workloads.specs.Bench.{bench_line};
 ghost use Rattle.fab_workloads.specs.Commands.{IsWithin, payload_file, workload_of};
 ghost use Rattle.fab_workloads.specs.Script.{bound_of};
 
 use crate::checking::carry_out_check;
+use crate::collecting::carry_out_rounds;
 use crate::whole::{all_done, report};
 use fab_answer::laws::law_one_answer;
-use fab_base::{Bound, Buf, Caps, Gate, Line, NoMemory, Status, Text};
+use fab_base::{Bound, Buf, Caps, Gate, NoMemory, Status, Text};
+use fab_coll_run::coll_file;
 use fab_outside::commands::{info_caps, replay_files, script_file};
 use fab_outside::info::info_text;
 use fab_outside::loading::{load_file, load_script};
 use fab_outside::{Clock, Depot, Failed, Sink, write_all};
 use fab_peer::machines;
-use fab_phases::phases::run_phases;
+use fab_phases::scripts::run_bound;
 use fab_quantum::calls::Machinery;
-use fab_script::lines;
 use fab_window_run::{Asked, window_of, window_text};
 use fab_workload_laws::laws::law_workloads_done;
 use fab_workloads::{Workload, bench_line, bound, payload_file, workload_of};
@@ -44,17 +43,6 @@ use std::thread::Threads;
 struct Ran {
     text: String,
     done: bool,
-}
-
-/// The lines of each peer of a bound script.
-fn lines_of_all(alloc: Global, bound: &Bound) -> Result<Vec<Vec<Line>>, NoMemory>
-    ensures { IfOk result (λ lists. map (λ lines. lines.items) lists.items ≡ map (lines_of bound.now) (upto bound.now.script.conf.peers)) }
-{
-    let mut lists = Vec::new(alloc);
-    for peer in 0..bound.script.conf.peers {
-        lists.push(lines(alloc, bound, peer)?)?;
-    }
-    Ok(lists)
 }
 
 /// Runs a bound script's peers over these machines until none can go on, first in threads and then in one, and reports
@@ -74,8 +62,7 @@ fn run_over<C: Machinery + Drop + Send, G: Gate, R: Threads + Wait + Sync>(
     requires pool { (0 < bound.now.script.conf.info.pool) × (bound.now.script.conf.info.pool ≤ 1024) }
     ensures { IfOk result (λ ran. Reports bound.now (string_bytes ran.text) ran.done) }
 {
-    let lists = lines_of_all(alloc, bound)?;
-    let peers = run_phases(rt, alloc, &bound.script.conf, lists, machines, gate)?;
+    let peers = run_bound(rt, alloc, bound, machines, gate)?;
     let text = report(alloc, bound.script.version, &peers)?;
     Ok(Ran {
         text,
@@ -118,8 +105,7 @@ fn complete_over<M: Machinery + Drop + Send, G: Gate, R: Threads + Wait + Sync>(
     requires pool { (0 < bound.now.script.conf.info.pool) × (bound.now.script.conf.info.pool ≤ 1024) }
     ensures { IfOk result (λ done. ComesToRest bound.now done) }
 {
-    let lists = lines_of_all(alloc, bound)?;
-    let peers = run_phases(rt, alloc, &bound.script.conf, lists, machines, gate)?;
+    let peers = run_bound(rt, alloc, bound, machines, gate)?;
     Ok(all_done(&peers))
 }
 
@@ -316,6 +302,10 @@ where
 /// last ([`window_text`]). What is added is drawn from NUMBER, so of the same words it always writes the same text. Each
 /// peer tells the gate when it begins and ends, with round 0; the rounds of the other commands are numbered from 1.
 ///
+/// `coll FILE` loads FILE, a file of rounds of collectives (fi_collective(3)) in the grammar of [`fab_coll::read_rounds`], runs
+/// the script of its rounds ([`fab_coll::plan`]) as `script FILE` runs a script, and writes of each rank what it makes of
+/// each round ([`fab_coll::outcome`]): of the same file it always writes the same text, and no run of it ends at `Stuck`.
+///
 /// The peers of a script take their turns in rounds, each turn in a thread of its own over lock-free lanes, until a round
 /// moves nothing or all lines are done, and then in one thread until none can go on. The gate is told when a turn in a
 /// thread begins and ends. Which of two peers' messages comes first may depend on the threads, so two runs of a script may
@@ -330,8 +320,8 @@ where
 /// `WriteFault` the first bytes of such a report are written, and at every other status none. `info` and
 /// `window` end at `Done`, at `WriteFault` or at `NoMemory`. The files stay as they are.
 ///
-/// `ScriptRefused` names the first line that breaks a rule of the language, and the first rule that it breaks; with
-/// `FileRange`, which is looked at last, the first line that names bytes which its payload file has not. `TooLong` and
+/// `ScriptRefused` names the first line that breaks a rule of the language, or one of the rules of files of rounds, and the
+/// first rule that it breaks; with `FileRange`, which is looked at last, the first line that names bytes which its payload file has not. `TooLong` and
 /// `ReadFault` name the file. `NoMemory` may come before anything is written. Where the words are a command, neither the
 /// files nor the output fail, no file is too long and no script is refused, the end is `Done`, `Stuck` or `NoMemory`.
 ///
@@ -357,14 +347,16 @@ where
         ⊎ Tells words.now (S.bytes sink.old) (S.bytes sink.new)
         ⊎ Benches (D.files depot.old) words.now (C.given clock.new) (C.first clock.new) (C.last clock.new) (S.bytes sink.old) (S.bytes sink.new)
         ⊎ Checks (D.files depot.old) words.now (S.bytes sink.old) (S.bytes sink.new)
-        ⊎ Sums words.now (S.bytes sink.old) (S.bytes sink.new) }
+        ⊎ Sums words.now (S.bytes sink.old) (S.bytes sink.new)
+        ⊎ Collects (D.files depot.old) words.now (S.bytes sink.old) (S.bytes sink.new) }
     ensures stuck { result ≡ Stuck → Writes (D.files depot.old) words.now false (S.bytes sink.old) (S.bytes sink.new) }
     ensures write_fault { result ≡ WriteFault → Rose (S.faults sink.old) (S.faults sink.new)
         × (WritesPart (D.files depot.old) words.now (S.bytes sink.old) (S.bytes sink.new)
         ⊎ TellsPart words.now (S.bytes sink.old) (S.bytes sink.new)
         ⊎ BenchesPart (D.files depot.old) words.now (C.given clock.new) (C.first clock.new) (C.last clock.new) (S.bytes sink.old) (S.bytes sink.new)
         ⊎ ChecksPart (D.files depot.old) words.now (S.bytes sink.old) (S.bytes sink.new)
-        ⊎ SumsPart words.now (S.bytes sink.old) (S.bytes sink.new)) }
+        ⊎ SumsPart words.now (S.bytes sink.old) (S.bytes sink.new)
+        ⊎ CollectsPart (D.files depot.old) words.now (S.bytes sink.old) (S.bytes sink.new)) }
     ensures silent { IsSilent result → S.bytes sink.new ≡ S.bytes sink.old }
     ensures files { D.files depot.new ≡ D.files depot.old }
     ensures complete { IsUnhindered (D.files depot.old) words.now (D.faults depot.old) (D.faults depot.new) (S.faults sink.old) (S.faults sink.new)
@@ -386,6 +378,9 @@ where
     }
     if let Some(asked) = window_of(words) {
         return tell_totals(rt, alloc, asked, sink, gate);
+    }
+    if let Some(file) = coll_file(words) {
+        return carry_out_rounds(rt, alloc, file, depot, sink, gate);
     }
     let Some(name) = script_file(words) else {
         return Status::Usage;

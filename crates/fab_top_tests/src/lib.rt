@@ -1,5 +1,5 @@
-//! Tests of `fab_top`: whole runs over memory, what is granted, the text of reports, what is said of them, windows, and
-//! the outside over memory.
+//! Tests of `fab_top`: whole runs over memory, what is granted, the text of reports, what is said of them, windows,
+//! rounds of collectives, and the outside over memory.
 //!
 //! They stand in a crate of their own, so that `fab_top` isn't proved twice.
 #![tactic(auto)]
@@ -30,6 +30,8 @@ mod payloads;
 mod replays;
 #[cfg(test)]
 mod reports;
+#[cfg(test)]
+mod rounds;
 #[cfg(test)]
 mod runs;
 #[cfg(test)]

@@ -268,7 +268,7 @@ fn is_no_command<R: Abort + Threads + Wait + Sync>(
 
 #[test]
 fn other_words_are_no_command(rt: HostRuntime) -> Result<(), Fail> {
-    let rows: [&[&str]; 25] = [
+    let rows: [&[&str]; 27] = [
         &[],
         &["pingpong", "f", "4096", "0"],
         &["pingpong", "f", "16777216", "5"],
@@ -294,6 +294,8 @@ fn other_words_are_no_command(rt: HostRuntime) -> Result<(), Fail> {
         &["window", "0", "2", "0", "1"],
         &["window", "0", "2", "1025", "1"],
         &["window", "0", "2", "1", "100001"],
+        &["coll"],
+        &["coll", "it", "it"],
     ];
     for words in rows {
         is_no_command(&rt, rt.alloc(), words)?;

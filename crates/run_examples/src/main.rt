@@ -1,4 +1,5 @@
 //! Runs each example, one after another, and prints its report behind its name; then checks the report that is kept of it.
+//! At last it runs the files of rounds.
 //!
 //! One program for all of them: each program of the repository is built whole, by two compilers.
 #![tactic(auto)]
@@ -29,6 +30,9 @@ const EXAMPLES: [(&str, &str); 14] = [
     ("fences.fabric", "fences.report"),
     ("events.fabric", "events.report"),
 ];
+
+/// The files of rounds.
+const ROUNDS: [&str; 2] = ["rounds.coll", "reduce.coll"];
 
 /// The words of a command.
 fn texts(alloc: Global, words: &[&str]) -> Result<Vec<Text>, NoMemory> {
@@ -79,6 +83,9 @@ fn main(rt: HostRuntime) -> io::Result<()> {
     for (script, report) in EXAMPLES {
         run_one(&rt, rt.stderr(), script, &["script", script])?;
         run_one(&rt, rt.stderr(), report, &["replay", script, report])?;
+    }
+    for file in ROUNDS {
+        run_one(&rt, rt.stderr(), file, &["coll", file])?;
     }
     Ok(())
 }

@@ -1,23 +1,10 @@
-use Rattle.std.proofs.Common.{◌≡◌, List, map, subst, ap, ◌∙◌}
-use Rattle.fab_model.specs.Calls.{upto}
-use Rattle.fab_model.specs.Orders.{Reached}
-use Rattle.fab_model.specs.Peers.{fabric}
-use Rattle.fab_model.specs.Replay.{opening, lines_of, all_done}
-use Rattle.fab_model.specs.Views.{rule}
-use Rattle.fab_finish.specs.Joined.{opened}
-use Rattle.fab_finish.specs.Joined.{member_actor, member_steps}
-use Rattle.fab_finish.specs.Joined.{Member}
-use Rattle.fab_top.proofs.Bounding.{opening_is}
+use Rattle.std.proofs.Common.{List, map, ap, ◌∙◌}
+use Rattle.fab_model.specs.Replay.{all_done}
+use Rattle.fab_finish.specs.Joined.{Member, member_actor}
 use Rattle.fab_top.proofs.Telling.{comes_to_rest}
 use Rattle.fab_top.proofs.running.complete_over.Goals as goal
 
 pub returns : goal.returns
 returns g c =
-    let b = c.args.bound.now in
-    let peers = c.in_ok-peers.peers.items in
-    let lists = map (λ (l : _). l.items) c.in_ok-lists.lists.items in
-    let are : lists ≡ map (lines_of b) (upto b.script.conf.peers) = c.in_ok-lists.ensures in
-    let start : opened b.script.conf lists ≡ opening b = ap (opened b.script.conf) are ∙ opening_is b in
-    let reached : Reached (rule fabric) (opening b) (map member_steps peers) (map member_actor peers) = subst (λ first. Reached (rule fabric) first (map member_steps peers) (map member_actor peers)) start c.in_ok-peers.ensures.reached in
-    let done = c.all_done.ensures ∙ ap (λ (xs : List Member). all_done (map member_actor xs)) c.deref.ensures.value in
-    comes_to_rest b peers _ reached c.in_ok-peers.ensures.rest done
+    let e = c.in_ok-peers.ensures in
+    comes_to_rest c.args.bound.now c.in_ok-peers.peers.items _ e.reached e.rest (c.all_done.ensures ∙ ap (λ (xs : List Member). all_done (map member_actor xs)) c.deref.ensures.value)

@@ -1,6 +1,6 @@
 use Rattle.std.proofs.Common.{string_bytes, sym}
-use Rattle.fab_top.proofs.Answering.{bench_answered, check_answered, unread_answered}
-use Rattle.fab_top.proofs.Asking.{names_check, names_payload, names_script}
+use Rattle.fab_top.proofs.Answering.{bench_answered, check_answered, coll_answered, unread_answered}
+use Rattle.fab_top.proofs.Asking.{names_check, names_payload, names_rounds, names_script}
 use Rattle.fab_top.proofs.Sticking.{may_stick, never}
 use Rattle.fab_top.proofs.running.run.Goals as goal
 
@@ -17,6 +17,13 @@ returns-in-Some-replay_files-clause-complete g c =
     check_answered (g.D.Depot.files c.args.depot.now) c.args.words.now (g.D.Depot.faults c.args.depot.now) (g.D.Depot.faults c.carry_out_check.new.depot)
     (g.S.Sink.faults c.args.sink.now) (g.S.Sink.faults c.carry_out_check.new.sink) c.in-Some-replay_files.file.now c.in-Some-replay_files.trace.now c.carry_out_check.result
     (sym c.in-Some-replay_files.ensures) e.ends e.refused e.too_long (λ name is. (e.read_fault name is).1) (λ is. (e.write_fault is).0)
+
+pub returns-in-Some-coll_file-clause-complete : goal.returns-in-Some-coll_file-clause-complete
+returns-in-Some-coll_file-clause-complete g c =
+    let e = c.carry_out_rounds.ensures in
+    coll_answered (g.D.Depot.files c.args.depot.now) c.args.words.now (g.D.Depot.faults c.args.depot.now) (g.D.Depot.faults c.carry_out_rounds.new.depot)
+    (g.S.Sink.faults c.args.sink.now) (g.S.Sink.faults c.carry_out_rounds.new.sink) c.in-Some-coll_file.file.now c.carry_out_rounds.result
+    (sym c.in-Some-coll_file.ensures) e.ends e.refused e.too_long (λ name is. (e.read_fault name is).1) (λ is. (e.write_fault is).0)
 
 pub returns-in-Err-clause-complete : goal.returns-in-Err-clause-complete
 returns-in-Err-clause-complete g c =
@@ -45,6 +52,11 @@ pub returns-in-Some-replay_files-clause-loads : goal.returns-in-Some-replay_file
 returns-in-Some-replay_files-clause-loads g c =
     names_check (g.D.Depot.files c.args.depot.now) c.args.words.now c.in-Some-replay_files.file.now c.in-Some-replay_files.trace.now (g.D.Depot.loaded c.args.depot.now) (g.D.Depot.loaded c.carry_out_check.new.depot)
     (sym c.in-Some-replay_files.ensures) c.carry_out_check.ensures.loads
+
+pub returns-in-Some-coll_file-clause-loads : goal.returns-in-Some-coll_file-clause-loads
+returns-in-Some-coll_file-clause-loads g c =
+    names_rounds (g.D.Depot.files c.args.depot.now) c.args.words.now c.in-Some-coll_file.file.now (g.D.Depot.loaded c.args.depot.now) (g.D.Depot.loaded c.carry_out_rounds.new.depot)
+    (sym c.in-Some-coll_file.ensures) c.carry_out_rounds.ensures.loads
 
 pub returns-in-Err-clause-loads : goal.returns-in-Err-clause-loads
 returns-in-Err-clause-loads g c =
