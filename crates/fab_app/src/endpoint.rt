@@ -5,6 +5,7 @@ use fab_base::NoMemory;
 use fab_face::calls::{
     Addresses, Counters, Logs, Looks, Messages, Multis, Progress, Receives, Regions, Requests,
 };
+use fab_face::probing::{Places, Probes};
 use std::alloc::Global;
 use std::marker::Model;
 
@@ -18,7 +19,9 @@ pub trait Calls: Messages
     + Counters
     + Addresses
     + Regions
-    + Logs {}
+    + Logs
+    + Probes
+    + Places {}
 
 impl<
     E: Messages
@@ -30,7 +33,9 @@ impl<
         + Counters
         + Addresses
         + Regions
-        + Logs,
+        + Logs
+        + Probes
+        + Places,
 > Calls for E {}
 
 /// An endpoint whose log nobody reads. Contracts see the endpoint that it holds.

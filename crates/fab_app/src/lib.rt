@@ -9,6 +9,7 @@ pub mod memory;
 pub mod messages;
 pub mod moving;
 pub mod peers;
+pub mod probing;
 pub mod receives;
 pub mod receiving;
 pub mod requests;

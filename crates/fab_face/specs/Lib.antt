@@ -2,6 +2,7 @@ pub mod Held
 pub mod Acts
 pub mod Answers
 pub mod Ports
+pub mod Probes
 pub mod Looking
 pub mod Machine
 pub mod Multis
