@@ -31,6 +31,7 @@ mod looks;
 mod machine;
 mod multis;
 mod parts;
+mod probing;
 mod receives;
 mod receiving;
 mod requests;

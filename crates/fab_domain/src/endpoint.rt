@@ -16,6 +16,7 @@ use fab_face::calls::{
     Addresses, Counters, Logs, Looks, Messages, Multis, Progress, Receives, Regions, Requests, Sees,
 };
 use fab_face::events::{Event, Moved};
+use fab_face::probing::{Places, Probed, Probes};
 use fab_open::{Closed, Endpoint, close};
 use fab_ring::RingPort;
 use std::marker::Model;
@@ -347,5 +348,27 @@ impl Logs for RingEndpoint {
 
     fn pushed(&self) -> bool {
         self.inner.pushed()
+    }
+}
+
+#[tactic(auto, unfolding(crate::specs::Seen::ring_seen))]
+impl Probes for RingEndpoint {
+    fn probe(&self, source: Option<u32>, tag: u64, ignore: u64) -> Result<Option<Probed>, Fault> {
+        self.inner.probe(source, tag, ignore)
+    }
+
+    fn is_directed(&self) -> bool {
+        self.inner.is_directed()
+    }
+}
+
+#[tactic(auto, unfolding(crate::specs::Seen::ring_seen))]
+impl Places for RingEndpoint {
+    fn me(&self) -> u32 {
+        self.inner.me()
+    }
+
+    fn peers(&self) -> u32 {
+        self.inner.peers()
     }
 }

@@ -14,6 +14,7 @@ mod keeping;
 mod looking;
 mod multis;
 mod plain;
+mod probing;
 mod receiving;
 mod regions;
 mod requests;

@@ -3,6 +3,7 @@ pub mod Owed
 pub mod Acts
 pub mod Answers
 pub mod Ports
+pub mod Probes
 pub mod Looking
 pub mod Machine
 pub mod Multis

@@ -14,5 +14,6 @@ pub mod keeping;
 pub mod looking;
 pub mod machine;
 pub mod multis;
+pub mod probing;
 pub mod requesting;
 pub mod targets;

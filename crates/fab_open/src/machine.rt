@@ -16,6 +16,7 @@ use fab_face::keeping::{Addressing, Counting};
 use fab_face::looking::{Look, Looking};
 use fab_face::machine::{Ask, Machine, Message, Next};
 use fab_face::multis::{MultiAsk, MultiReceiving};
+use fab_face::probing::{Probed, Probing};
 use fab_face::requesting::{Request, Requesting};
 use fab_face::targets::Targets;
 use fab_mr::Regions;
@@ -253,5 +254,15 @@ impl Addressing for BinMachine {
 
     fn index_of(&self, peer: u32) -> Option<u32> {
         self.core.index_of(peer)
+    }
+}
+
+impl Probing for BinMachine {
+    fn probe(&self, source: Option<u32>, tag: u64, ignore: u64) -> Result<Option<Probed>, Fault> {
+        self.core.probe(source, tag, ignore)
+    }
+
+    fn is_directed(&self) -> bool {
+        self.core.is_directed()
     }
 }

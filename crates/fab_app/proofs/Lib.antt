@@ -1,0 +1,7 @@
+pub mod Shorter
+pub mod Answering
+pub mod Chains
+pub mod Late
+pub mod Taking
+pub mod Polling
+pub mod Retries

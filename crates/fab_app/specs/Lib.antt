@@ -1,0 +1,6 @@
+pub mod Cleared
+pub mod Progresses
+pub mod Late
+pub mod Polls
+pub mod Takes
+pub mod Trying

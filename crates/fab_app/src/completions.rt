@@ -1,0 +1,137 @@
+//! The completion queue (fi_cq(3)).
+ghost use Rattle.std.specs.Prelude.{◌≡◌, ◌++◌, List, None, OnErr, IfOk, IfSome, IfNone};
+ghost use Rattle.fab_base.specs.declared.entries.Entry.{Entry as EntryValue};
+ghost use Rattle.fab_model.specs.Peers.{ctx_of_entry, unread};
+ghost use Rattle.fab_face.specs.Answers.{Pops};
+ghost use Rattle.fab_app.specs.Cleared.{cleared};
+ghost use Rattle.fab_app.specs.Polls.{has_come, EndsPoll, Polls, PollsFrom, Waits};
+ghost use Rattle.fab_app.specs.Takes.{TakesMost};
+
+use crate::endpoint::{Calls, Endpoint};
+use crate::moving::BUDGET;
+use fab_base::{Entry, ErrEntry, NoMemory, Taken};
+use fab_face::events::{Moved, Stop};
+use std::thread;
+
+/// What a poll told.
+#[derive(Drop)]
+pub enum Polled {
+    /// An operation is complete (fi_cq_read). Its buffer comes back with it.
+    Entry(Entry),
+    /// An operation failed (fi_cq_readerr). Its buffer comes back with it, where it had one.
+    Error(ErrEntry),
+    /// There is no completion (FI_EAGAIN), and nothing is left to move until a peer does something or a call is made.
+    Idle,
+    /// There is no completion yet, and more may be moved at once.
+    More,
+}
+
+/// The context of the call whose completion this is. None is of data that a peer wrote (FI_REMOTE_CQ_DATA).
+pub fn ctx_of(entry: &Entry) -> Option<u64>
+    ensures { result ≡ ctx_of_entry entry.now }
+{
+    match entry {
+        Entry::Sent { ctx, .. } => Some(*ctx),
+        Entry::Received { ctx, .. } => Some(*ctx),
+        Entry::Part { ctx, .. } => Some(*ctx),
+        Entry::Released { ctx, .. } => Some(*ctx),
+        Entry::Peeked { ctx, .. } => Some(*ctx),
+        Entry::Read { ctx, .. } => Some(*ctx),
+        Entry::Wrote { ctx, .. } => Some(*ctx),
+        Entry::Updated { ctx } => Some(*ctx),
+        Entry::Fetched { ctx, .. } => Some(*ctx),
+        Entry::RemoteData { .. } => None,
+    }
+}
+
+/// What is told where there is no completion.
+fn ended(moved: Result<Moved, NoMemory>) -> Result<Polled, NoMemory>
+    ensures { EndsPoll moved result }
+{
+    let moved = moved?;
+    Ok(match moved.stop {
+        Stop::Budget | Stop::LogFull => Polled::More,
+        Stop::Idle | Stop::CqFull => Polled::Idle,
+    })
+}
+
+/// What a poll tells of the completion that was taken, and of the progress where there is none.
+fn told_by(first: Option<Taken>, moved: Result<Moved, NoMemory>) -> Result<Polled, NoMemory>
+    ensures { PollsFrom first moved result }
+{
+    match first {
+        Some(Taken::Success(entry)) => Ok(Polled::Entry(entry)),
+        Some(Taken::Failure(error)) => Ok(Polled::Error(error)),
+        None => ended(moved),
+    }
+}
+
+/// Takes the first completion, a success or an error.
+fn take_first<E: Calls>(endpoint: &mut E) -> Option<Taken>
+    ensures some { IfSome result (λ entry. Pops entry (E.seen endpoint.old) (E.seen endpoint.new)) }
+    ensures none { IfNone result ((E.seen endpoint.new ≡ E.seen endpoint.old) × (unread (E.seen endpoint.old).held.state.cq ≡ None)) }
+{
+    match endpoint.cq_readerr() {
+        Ok(error) => Some(Taken::Failure(error)),
+        Err(_) => match endpoint.cq_pop() {
+            Ok(entry) => Some(Taken::Success(entry)),
+            Err(_) => None,
+        },
+    }
+}
+
+/// Whether there is no need to poll again.
+fn is_settled(polled: &Result<Polled, NoMemory>) -> bool
+    ensures { result ≡ has_come polled.now }
+{
+    match polled {
+        Ok(Polled::Idle | Polled::More) => false,
+        Ok(Polled::Entry(_) | Polled::Error(_)) | Err(_) => true,
+    }
+}
+
+impl<E: Calls + Drop> Endpoint<E> {
+    /// Makes progress with at most `budget` frames, and takes the first completion, if there is one (fi_cq_read and
+    /// fi_cq_readerr). Where there is none it tells whether to call again at once.
+    pub fn poll(&mut self, budget: u32) -> Result<Polled, NoMemory>
+        ensures { Polls budget (cleared (E.seen self.old)) (E.seen self.new) result }
+    {
+        self.inner.log_clear();
+        self.inner.known();
+        let moved = self.inner.progress(budget);
+        self.inner.known();
+        let first = take_first(&mut self.inner);
+        told_by(first, moved)
+    }
+
+    /// Takes the first completions, at most so many, and appends them (fi_cq_read with a count). It makes no progress, and
+    /// ends before the first error or where none is left: `poll` tells which. Want of memory leaves all as it was, and
+    /// none is wanted where the vector has room.
+    pub fn cq_take(&mut self, most: u32, into: &mut Vec<Entry>) -> Result<(), NoMemory>
+        ensures took { IfOk result (λ _. (entries : List EntryValue) × (into.new.items ≡ into.old.items ++ entries) × TakesMost most entries (E.seen self.old) (E.seen self.new)) }
+        ensures err { OnErr result ((into.new.items ≡ into.old.items) × (E.seen self.new ≡ E.seen self.old)) }
+    {
+        into.reserve(most as usize)?;
+        'entries: for _took in 0..most {
+            match self.inner.cq_pop() {
+                Ok(entry) => into.push_reserved(entry),
+                Err(_) => return Ok(()),
+            }
+        }
+        Ok(())
+    }
+
+    /// Polls until there is a completion, at most so many times, and lets other threads run between (fi_cq_sread(3)).
+    pub fn wait(&mut self, times: u32) -> Result<Polled, NoMemory>
+        ensures { Waits BUDGET (E.seen self.old) (E.seen self.new) result }
+    {
+        'times: for _time in 0..times {
+            let polled = self.poll(BUDGET);
+            if is_settled(&polled) {
+                return polled;
+            }
+            thread::yield_now();
+        }
+        self.poll(BUDGET)
+    }
+}

@@ -1,0 +1,82 @@
+//! Progress, and how much is under way (FI_PROGRESS_MANUAL of fi_domain(3)): nothing moves unless a call is made.
+ghost use Rattle.std.specs.Prelude.{◌≡◌, ◌&&◌, ◌==◌, IfOk, IsTrue, true};
+ghost use Rattle.fab_model.specs.State.{deferred_count};
+ghost use Rattle.fab_app.specs.Cleared.{cleared};
+ghost use Rattle.fab_app.specs.Progresses.{Moves, NextOf, Progresses, awaiting_of, is_flushed};
+
+use crate::endpoint::{Calls, Endpoint};
+use fab_base::NoMemory;
+use fab_face::events::{Moved, Stop};
+
+/// How many frames one progress moves at most, where no number is given.
+pub const BUDGET: u32 = 64;
+
+/// What progress tells.
+#[derive(Clone, Copy, Debug, Drop, Eq, PartialEq)]
+pub enum Next {
+    /// Nothing is left to move until a peer does something or a call is made.
+    Idle,
+    /// More may be moved at once.
+    More,
+    /// The completion queue is full: read it.
+    CqFull,
+}
+
+/// What is told of the progress.
+fn next_of(moved: Result<Moved, NoMemory>) -> Result<Next, NoMemory>
+    ensures { NextOf moved result }
+{
+    let moved = moved?;
+    Ok(match moved.stop {
+        Stop::Budget | Stop::LogFull => Next::More,
+        Stop::Idle => Next::Idle,
+        Stop::CqFull => Next::CqFull,
+    })
+}
+
+impl<E: Calls + Drop> Endpoint<E> {
+    /// Moves at most `budget` frames, and tells whether it is worth another call. `poll` reads besides.
+    pub fn progress(&mut self, budget: u32) -> Result<Next, NoMemory>
+        ensures { Moves budget (cleared (E.seen self.old)) (E.seen self.new) result }
+    {
+        self.inner.log_clear();
+        self.inner.known();
+        next_of(self.inner.progress(budget))
+    }
+
+    /// How many operations are transmitted and await the answer of their peer.
+    pub fn awaiting(&self) -> u32
+        ensures { result ≡ awaiting_of (E.seen self.now).held.state }
+    {
+        self.inner.awaiting()
+    }
+
+    /// How many operations are not transmitted: their items wait for their lanes, or a fence holds them back (FI_FENCE).
+    pub fn deferred(&self) -> u32
+        ensures { result ≡ deferred_count (E.seen self.now).held.state.tx }
+    {
+        self.inner.deferred()
+    }
+
+    /// Whether no operation is under way: each that was accepted is transmitted and, where it asks for one, answered.
+    pub fn is_flushed(&self) -> bool
+        ensures { result ≡ is_flushed (E.seen self.now).held.state }
+    {
+        self.deferred() == 0 && self.awaiting() == 0
+    }
+
+    /// Makes progress until no operation is under way, at most so many times, and tells whether none is. Where the
+    /// completion queue is full it has to be read before more can end.
+    pub fn flush(&mut self, times: u32) -> Result<bool, NoMemory>
+        ensures moved { Progresses (E.seen self.old) (E.seen self.new) }
+        ensures done { IfOk result (λ done. done ≡ is_flushed (E.seen self.new).held.state) }
+    {
+        'times: for _time in 0..times {
+            if self.is_flushed() {
+                return Ok(true);
+            }
+            self.progress(BUDGET)?;
+        }
+        Ok(self.is_flushed())
+    }
+}

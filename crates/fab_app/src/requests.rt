@@ -1,0 +1,131 @@
+//! Reads, writes and atomics on regions of a peer (fi_rma(3), fi_atomic(3)).
+ghost use Rattle.std.specs.Prelude.{◌≡◌, [], length, Some, None, true, false, OnOk, IfErr};
+ghost use Rattle.fab_base.specs.declared.items.Kind.TheVariants.{ReadReq, WriteReq};
+ghost use Rattle.fab_base.specs.declared.items.Form.TheVariants.{Base, Fetch, Compare};
+ghost use Rattle.fab_model.specs.Calls.{request, atomic};
+ghost use Rattle.fab_face.specs.Answers.{Sends, SendsNot, atom};
+ghost use Rattle.fab_app.specs.Cleared.{cleared, is_log_full};
+
+use crate::endpoint::{Calls, Endpoint};
+use fab_base::{AtomicOp, Buf, Fault, Flags, Num, Refused};
+
+impl<E: Calls + Drop> Endpoint<E> {
+    /// Reads a region of the peer at index `dest` into the buffer, all of it (fi_read). The buffer comes back in
+    /// `Entry::Read`, in the error, or in the refusal.
+    pub fn read(&mut self, dest: u32, key: u64, at: u64, buf: Buf, ctx: u64) -> Result<(), Refused>
+        ensures ok { OnOk result (Sends E.fixed (request ReadReq (Some ctx) dest key at (length buf) [] None true false (Some buf)) dest (cleared (E.seen self.old)) (E.seen self.new)) }
+        ensures err { IfErr result (λ r. (r.buf ≡ buf) × SendsNot E.fixed (request ReadReq (Some ctx) dest key at (length buf) [] None true false (Some buf)) (cleared (E.seen self.old)) (E.seen self.new) r.why) }
+        ensures never { IfErr result (λ r. is_log_full r.why ≡ false) }
+    {
+        self.inner.log_clear();
+        self.inner.known();
+        self.inner.read(dest, key, at, buf, ctx)
+    }
+
+    /// Writes the buffer into a region of the peer (fi_write, and fi_writedata where `imm` is given). The buffer comes back
+    /// in `Entry::Wrote`, in the error, or in the refusal.
+    pub fn write(
+        &mut self,
+        dest: u32,
+        key: u64,
+        at: u64,
+        buf: Buf,
+        imm: Option<u64>,
+        ctx: u64,
+        flags: Flags,
+    ) -> Result<(), Refused>
+        ensures ok { OnOk result (Sends E.fixed (request WriteReq (Some ctx) dest key at 0 buf imm flags.completion flags.fence (Some buf)) dest (cleared (E.seen self.old)) (E.seen self.new)) }
+        ensures err { IfErr result (λ r. (r.buf ≡ buf) × SendsNot E.fixed (request WriteReq (Some ctx) dest key at 0 buf imm flags.completion flags.fence (Some buf)) (cleared (E.seen self.old)) (E.seen self.new) r.why) }
+        ensures never { IfErr result (λ r. is_log_full r.why ≡ false) }
+    {
+        self.inner.log_clear();
+        self.inner.known();
+        self.inner.write(dest, key, at, buf, imm, ctx, flags)
+    }
+
+    /// Writes at most 4,096 bytes, which are copied, into a region of the peer (fi_inject_write): the caller may use them
+    /// again at once. A completion is written only where the peer refuses.
+    pub fn inject_write(
+        &mut self,
+        dest: u32,
+        key: u64,
+        at: u64,
+        bytes: &[u8],
+        imm: Option<u64>,
+    ) -> Result<(), Fault>
+        ensures ok { OnOk result (Sends E.fixed (request WriteReq None dest key at 0 bytes.now imm false false None) dest (cleared (E.seen self.old)) (E.seen self.new)) }
+        ensures err { IfErr result (λ why. SendsNot E.fixed (request WriteReq None dest key at 0 bytes.now imm false false None) (cleared (E.seen self.old)) (E.seen self.new) why) }
+        ensures never { IfErr result (λ why. is_log_full why ≡ false) }
+    {
+        self.inner.log_clear();
+        self.inner.known();
+        self.inner.inject_write(dest, key, at, bytes, imm)
+    }
+
+    /// Changes elements of a region of the peer (fi_atomic). The operand is copied. The completion is `Entry::Updated`.
+    pub fn atomic(
+        &mut self,
+        dest: u32,
+        key: u64,
+        at: u64,
+        op: AtomicOp,
+        num: Num,
+        operand: &[u8],
+        ctx: u64,
+        flags: Flags,
+    ) -> Result<(), Fault>
+        ensures ok { OnOk result (Sends E.fixed (atomic ctx dest key at (atom op num Base) (length operand.now) operand.now [] flags.completion flags.fence None) dest (cleared (E.seen self.old)) (E.seen self.new)) }
+        ensures err { IfErr result (λ why. SendsNot E.fixed (atomic ctx dest key at (atom op num Base) (length operand.now) operand.now [] flags.completion flags.fence None) (cleared (E.seen self.old)) (E.seen self.new) why) }
+        ensures never { IfErr result (λ why. is_log_full why ≡ false) }
+    {
+        self.inner.log_clear();
+        self.inner.known();
+        self.inner
+            .atomic(dest, key, at, op, num, operand, ctx, flags)
+    }
+
+    /// Changes elements of a region of the peer and gets the old ones (fi_fetch_atomic), which come in `Entry::Fetched`.
+    pub fn fetch_atomic(
+        &mut self,
+        dest: u32,
+        key: u64,
+        at: u64,
+        op: AtomicOp,
+        num: Num,
+        operand: &[u8],
+        result_: Buf,
+        ctx: u64,
+    ) -> Result<(), Refused>
+        ensures ok { OnOk result (Sends E.fixed (atomic ctx dest key at (atom op num Fetch) (length result_) operand.now [] true false (Some result_)) dest (cleared (E.seen self.old)) (E.seen self.new)) }
+        ensures err { IfErr result (λ r. (r.buf ≡ result_) × SendsNot E.fixed (atomic ctx dest key at (atom op num Fetch) (length result_) operand.now [] true false (Some result_)) (cleared (E.seen self.old)) (E.seen self.new) r.why) }
+        ensures never { IfErr result (λ r. is_log_full r.why ≡ false) }
+    {
+        self.inner.log_clear();
+        self.inner.known();
+        self.inner
+            .fetch_atomic(dest, key, at, op, num, operand, result_, ctx)
+    }
+
+    /// Changes elements of a region of the peer that compare as asked, and gets the old ones (fi_compare_atomic).
+    pub fn compare_atomic(
+        &mut self,
+        dest: u32,
+        key: u64,
+        at: u64,
+        op: AtomicOp,
+        num: Num,
+        operand: &[u8],
+        compare: &[u8],
+        result_: Buf,
+        ctx: u64,
+    ) -> Result<(), Refused>
+        ensures ok { OnOk result (Sends E.fixed (atomic ctx dest key at (atom op num Compare) (length result_) operand.now compare.now true false (Some result_)) dest (cleared (E.seen self.old)) (E.seen self.new)) }
+        ensures err { IfErr result (λ r. (r.buf ≡ result_) × SendsNot E.fixed (atomic ctx dest key at (atom op num Compare) (length result_) operand.now compare.now true false (Some result_)) (cleared (E.seen self.old)) (E.seen self.new) r.why) }
+        ensures never { IfErr result (λ r. is_log_full r.why ≡ false) }
+    {
+        self.inner.log_clear();
+        self.inner.known();
+        self.inner
+            .compare_atomic(dest, key, at, op, num, operand, compare, result_, ctx)
+    }
+}
