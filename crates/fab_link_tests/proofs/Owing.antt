@@ -1,7 +1,6 @@
 -- What a port tells that it owes, on a few frames.
-use Rattle.std.proofs.Common.{◌≡◌, ◌≤◌, ◌+◌, ℕ, true, false, List, [], ◌∷◌, Option, Some, None, refl, arith}
+use Rattle.std.proofs.Common.{◌≡◌, ◌≤◌, ◌+◌, ℕ, List, [], ◌∷◌, Option, Some, None, refl, arith}
 use Rattle.fab_base.specs.declared.frames.Frame.{Frame}
-use Rattle.fab_base.specs.declared.frames.FrameHead.{FrameHead}
 use Rattle.fab_base.specs.declared.items.ItemHead.{ItemHead}
 use Rattle.fab_base.specs.declared.items.Ack.{Ack}
 use Rattle.fab_base.specs.declared.items.Ack.TheVariants.{Nothing, Delivery, Match}
@@ -10,7 +9,7 @@ use Rattle.fab_base.specs.declared.items.Kind.TheVariants.{Msg, WriteReq, Reply}
 use Rattle.fab_base.specs.declared.items.Outcome.TheVariants.{Done}
 use Rattle.fab_wire.specs.Frames.{frame}
 use Rattle.fab_wire.specs.Owing.{replies, owing}
-use Rattle.fab_link.specs.Meaning.{Outgoing, Incoming, Owes, Repays}
+use Rattle.fab_link.specs.Meaning.{Outgoing, Incoming, Repays}
 
 -- the head of an item of 5,000 bytes, with operation 7
 item : Kind → Ack → ItemHead

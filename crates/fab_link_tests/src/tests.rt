@@ -379,7 +379,16 @@ fn request_head() -> FrameHead
 {
     let item = ItemHead {
         kind: Kind::WriteReq,
-        ..message(0, 0)
+        op: 7,
+        tag: 0,
+        imm: None,
+        ack: Ack::Nothing,
+        key: 0,
+        at: 0,
+        count: 0,
+        atom: None,
+        outcome: Outcome::Done,
+        total: 0,
     };
     FrameHead {
         item,

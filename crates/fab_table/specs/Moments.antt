@@ -5,7 +5,7 @@
 --     InStep             what a peer knows of the lanes between itself and another is so
 --     FirstOf            what one peer took of another are the first of the frames posted to it
 --     SlotStands         where a pool slot is
-use Rattle.std.specs.Prelude.{◌≡◌, ℕ, ◌+◌, ◌*◌, ◌<◌, ◌≤◌, ◌⊎◌, true, length, slice_index, Some, None}
+use Rattle.std.specs.Prelude.{◌≡◌, ℕ, ◌+◌, ◌*◌, ◌<◌, ◌≤◌, ◌⊎◌, true, length, slice_index, Some}
 use mathlib.Core.List.{IsPrefix}
 use mathlib.Core.Option.{some}
 use lib.ListN.{get_elem?}

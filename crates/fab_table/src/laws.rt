@@ -1,5 +1,5 @@
 //! What the table's rule comes to, as the contract of a function that does nothing.
-ghost use Rattle.std.specs.Prelude.{◌≡◌, ℕ, ◌+◌, ◌*◌, ◌<◌, ◌≤◌, ◌⊎◌, length, true, Some};
+ghost use Rattle.std.specs.Prelude.{◌≡◌, ℕ, ◌+◌, ◌*◌, ◌<◌, ◌≤◌, ◌⊎◌, true, Some};
 ghost use mathlib.Core.Option.{some};
 ghost use lib.ListN.{get_elem?};
 ghost use Rattle.atomic_table.specs.Table.{State};
@@ -7,7 +7,7 @@ ghost use Rattle.fab_table.specs.declared.kinds.Layout.{Layout};
 ghost use Rattle.fab_table.specs.declared.kinds.Sent.{Sent};
 ghost use Rattle.fab_table.specs.declared.kinds.Slot.{Slot};
 ghost use Rattle.fab_table.specs.declared.kinds.View.{View};
-ghost use Rattle.fab_table.specs.Views.{frames_of, lane_of, out_at, in_at, part_at};
+ghost use Rattle.fab_table.specs.Views.{out_at, in_at, part_at};
 ghost use Rattle.fab_table.specs.Rule.{CellAt, Owes, Ruled, SaidAt};
 ghost use Rattle.fab_table.specs.Moments.{put, got, cell, IsPartAt, SlotStands, InStep, FirstOf};
 
