@@ -1,0 +1,6 @@
+use Rattle.std.proofs.Common.{false}
+use Rattle.fab_info.proofs.Granting.{caps_of_has}
+use Rattle.fabric.proofs.hints.Hints.new.Goals as goal
+
+pub returns : goal.returns
+returns c = let none = caps_of_has c.none.result (λ cap. false) c.none.ensures in cc

@@ -1,0 +1,24 @@
+-- What a program's clauses speak of, by this crate alone.
+pub mod Asking
+pub mod Words
+pub use Rattle.fab_app.specs.Cleared
+pub use Rattle.fab_app.specs.Progresses
+pub use Rattle.fab_app.specs.Late
+pub use Rattle.fab_app.specs.Polls
+pub use Rattle.fab_app.specs.Takes
+pub use Rattle.fab_app.specs.Trying
+pub use Rattle.fab_face.specs.Held
+pub use Rattle.fab_face.specs.Acts
+pub use Rattle.fab_face.specs.Answers
+pub use Rattle.fab_face.specs.Probes
+pub use Rattle.fab_domain.specs.Domain
+pub use Rattle.fab_domain.specs.Seen
+pub use Rattle.fab_model.specs.Calls
+pub use Rattle.fab_model.specs.State
+pub use Rattle.fab_model.specs.Sending
+pub use Rattle.fab_model.specs.Receiving
+pub use Rattle.fab_model.specs.Matching
+pub use Rattle.fab_model.specs.Peers
+pub use Rattle.fab_model.specs.Negotiation
+pub use Rattle.fab_base.specs.Granted
+pub use Rattle.fab_base.specs.Offer

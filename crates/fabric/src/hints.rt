@@ -1,0 +1,144 @@
+//! What an application asks for (fi_getinfo(3)).
+ghost use Rattle.std.specs.Prelude.{◌≡◌, Some, None, true, false, OnErr, IfOk, IfErr};
+ghost use Rattle.fab_base.specs.Granted.{with_cap};
+ghost use Rattle.fab_base.specs.declared.faults.Fault.TheVariants.{NoData};
+ghost use Rattle.fab_base.specs.declared.caps.Api.TheVariants.{One};
+ghost use Rattle.fab_model.specs.Negotiation.{no_hints};
+ghost use Rattle.fabric.specs.Asking.{granted_to};
+
+use fab_base::{Api, Cap, Caps, Fault, Hints as Wishes, Info};
+use fab_info::getinfo;
+
+/// What is asked for: a version of the interface, wishes, and whether a message that succeeds writes a completion only where
+/// its flags ask for one (FI_SELECTIVE_COMPLETION of fi_cq(3)).
+///
+/// Whoever asks for no capability is granted all that is on offer, directed receives among them. Whoever asks for one is
+/// granted no directed receive unless it asks for `Cap::DirectedRecv`, and then the source of each receive is ignored.
+#[derive(Clone, Copy, Drop)]
+pub struct Hints {
+    pub api: Api,
+    pub wishes: Wishes,
+    pub selective: bool,
+}
+
+impl Hints {
+    /// No wish, in the first version, with all completions.
+    pub fn new() -> Hints
+        ensures { result ≡ record { api = One; wishes = no_hints; selective = false } }
+    {
+        Hints {
+            api: Api::One,
+            wishes: Wishes {
+                caps: Caps::none(),
+                peers: None,
+                lane: None,
+                pool: None,
+                tx: None,
+                rx: None,
+                cq: None,
+                log: None,
+                inject: None,
+                message: None,
+            },
+            selective: false,
+        }
+    }
+
+    /// In this version of the interface.
+    pub fn api(self, api: Api) -> Hints
+        ensures { result ≡ record self { api = api } }
+    {
+        Hints { api, ..self }
+    }
+
+    /// With completions only where flags ask for one.
+    pub fn selective(self) -> Hints
+        ensures { result ≡ record self { selective = true } }
+    {
+        Hints {
+            selective: true,
+            ..self
+        }
+    }
+
+    /// With these capabilities.
+    pub fn caps(self, caps: Caps) -> Hints
+        ensures { result ≡ record self { wishes = record (self.wishes) { caps = caps } } }
+    {
+        let mut hints = self;
+        hints.wishes.caps = caps;
+        hints
+    }
+
+    /// With one more capability.
+    pub fn cap(self, cap: Cap) -> Hints
+        ensures { result ≡ record self { wishes = record (self.wishes) { caps = with_cap cap self.wishes.caps } } }
+    {
+        let mut hints = self;
+        hints.wishes.caps = hints.wishes.caps.with(cap);
+        hints
+    }
+
+    /// For so many peers.
+    pub fn peers(self, peers: u32) -> Hints
+        ensures { result ≡ record self { wishes = record (self.wishes) { peers = Some peers } } }
+    {
+        let mut hints = self;
+        hints.wishes.peers = Some(peers);
+        hints
+    }
+
+    /// With so many frames in each lane.
+    pub fn lane(self, frames: u32) -> Hints
+        ensures { result ≡ record self { wishes = record (self.wishes) { lane = Some frames } } }
+    {
+        let mut hints = self;
+        hints.wishes.lane = Some(frames);
+        hints
+    }
+
+    /// With so many buffers in the pool of each peer.
+    pub fn pool(self, buffers: u32) -> Hints
+        ensures { result ≡ record self { wishes = record (self.wishes) { pool = Some buffers } } }
+    {
+        let mut hints = self;
+        hints.wishes.pool = Some(buffers);
+        hints
+    }
+
+    /// With so many transmit operations under way.
+    pub fn tx(self, operations: u32) -> Hints
+        ensures { result ≡ record self { wishes = record (self.wishes) { tx = Some operations } } }
+    {
+        let mut hints = self;
+        hints.wishes.tx = Some(operations);
+        hints
+    }
+
+    /// With so many posted receives.
+    pub fn rx(self, receives: u32) -> Hints
+        ensures { result ≡ record self { wishes = record (self.wishes) { rx = Some receives } } }
+    {
+        let mut hints = self;
+        hints.wishes.rx = Some(receives);
+        hints
+    }
+
+    /// With so many entries in the completion queue.
+    pub fn cq(self, entries: u32) -> Hints
+        ensures { result ≡ record self { wishes = record (self.wishes) { cq = Some entries } } }
+    {
+        let mut hints = self;
+        hints.wishes.cq = Some(entries);
+        hints
+    }
+
+    /// What is granted to whoever asks so (fi_getinfo). `NoData` exactly where something asked for can't be had.
+    pub fn granted(&self) -> Result<Info, Fault>
+        ensures granted { IfOk result (λ info. granted_to self.now ≡ Some info) }
+        ensures refused { OnErr result (granted_to self.now ≡ None) }
+        ensures no_data { IfErr result (λ fault. fault ≡ NoData) }
+    {
+        getinfo(self.api, Some(&self.wishes))
+    }
+}

@@ -1,0 +1,29 @@
+//! Reliable-datagram messaging between threads, as an application uses it: the one crate that it lists and imports.
+//!
+//! ```text
+//! Hints      what is asked for              fi_getinfo
+//!        |  open
+//! Domain     what is granted, and an endpoint for each peer, in order        fi_fabric .. fi_enable
+//!        |  moved to the thread that speaks for the peer
+//! Endpoint   send, receive, read, write, poll        fi_msg, fi_tagged, fi_rma, fi_atomic, fi_cq, fi_cntr, fi_mr, fi_av
+//! ```
+//!
+//! No call waits for another thread, and nothing moves unless a call is made: `poll` moves frames and gives the next
+//! completion. A buffer moves in with a call and comes back with its completion, its error or its refusal.
+#![tactic(auto)]
+
+mod hints;
+mod opening;
+
+pub use fab_app::completions::{Polled, ctx_of};
+pub use fab_app::messages::COMPLETES;
+pub use fab_app::moving::Next;
+pub use fab_app::trying::again;
+pub use fab_av::InsertReport;
+pub use fab_base::{
+    Access, Api, AtomicOp, Buf, Busy, Cap, Caps, Class, Entry, ErrEntry, ErrKind, Fault, Flags,
+    Info, Level, NoMemory, Num, PeekHow, Refused, Text,
+};
+pub use fab_face::probing::Probed;
+pub use hints::Hints;
+pub use opening::{Closed, Domain, Endpoint, close, open};
