@@ -1,11 +1,12 @@
 -- The replay, turn by turn.
-use Rattle.std.proofs.Common.{◌≡◌, ℕ, zero, suc, ◌+◌, ◌<◌, Bool, true, false, cond, List, [], ◌∷◌, length, map, drop, get_or, set, slice_get, Option, Some, None, Result, Ok, Err, IfOk, refl, sym, ap, ap₂, subst, ◌∙◌, arith, inl, inr, add-one}
+use Rattle.std.proofs.Common.{◌≡◌, ℕ, zero, suc, ◌+◌, ◌<◌, Bool, true, false, cond, List, [], ◌∷◌, ◌++◌, length, map, drop, get_or, set, slice_get, Option, Some, None, MatchOption, Result, Ok, Err, IfOk, refl, sym, ap, ap₂, subst, ◌∙◌, arith, inl, inr, add-one}
 use Rattle.std.proofs.Math.Seq.{map-set_same}
 use Rattle.std.proofs.lemmas.Bool.{cases_lt}
 use Rattle.std.proofs.lemmas.List.{length-map, map-set, length-set}
 use Rattle.std.proofs.lemmas.Option.{slice_get-map, slice_get_read}
 use Rattle.fab_base.specs.declared.peers.Step.{Step}
 use Rattle.fab_base.specs.declared.script.Bound.{Bound}
+use Rattle.fab_model.specs.Laws.{Run}
 use Rattle.fab_model.specs.Orders.{Moment, turn, lowest, replay, replay_for, steps_left}
 use Rattle.fab_model.specs.Peers.{Actor, fabric}
 use Rattle.fab_model.specs.Views.{rule, seen}
@@ -139,3 +140,18 @@ peers_left bound peers = sym (length-map peers left_of)
 -- the step of the peer, read twice
 pub same_step : (peers : List Peer) (p : ℕ) (a b : Peer) (step : Step) → slice_get peers p ≡ Some a → slice_get peers p ≡ Some b → slice_get a.steps a.taken ≡ Some step → slice_get b.steps b.taken ≡ Some step
 same_step peers p a b step first second next = let same : a ≡ b = cc in subst (λ (q : Peer). slice_get q.steps q.taken ≡ Some step) same next
+
+-- one turn more behind an order of turns
+pub one_more_turn : {M : Type 0} (turn : M → ℕ → Option M) (order : List ℕ) (p : ℕ) (m x y : M) → Run turn m order x → turn x p ≡ Some y → Run turn m (order ++ p ∷ []) y
+one_more_turn turn [] p m x y run goes = (y, ap (λ z. turn z p) run ∙ goes, refl)
+one_more_turn turn (q ∷ order) p m x y run goes = (run.0, run.1, one_more_turn turn order p run.0 x y run.2 goes)
+
+-- what holds of the peer that took the turn
+pub taker_is : (A : Type 0) (B : ℕ → Type 0) (taker : Option ℕ) (p : ℕ) → taker ≡ Some p → MatchOption taker A B → B p
+taker_is A B None p e m = absurd (cc)
+taker_is A B (Some q) p e m = let same : q ≡ p = cc in subst B same m
+
+-- what holds where no peer took one
+pub no_taker : (A : Type 0) (B : ℕ → Type 0) (taker : Option ℕ) → taker ≡ None → MatchOption taker A B → A
+no_taker A B None e m = m
+no_taker A B (Some q) e m = absurd (cc)

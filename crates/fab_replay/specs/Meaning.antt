@@ -3,11 +3,16 @@
 --     IsLeftOver bound text p step   the schedule that the text tells is not lawful: this is the first step of the lowest peer that has one left
 --     IsOther bound text at          the schedule is lawful, and its report is another text
 --     Means bound text answer        what the answer says of the text
+--     IsOrderOf bound text order     these peers take the turns of the replay of the schedule that the text tells, in this order
 use Rattle.std.specs.Prelude.{◌≡◌, ℕ, ◌-◌, ◌+◌, ◌<◌, Bool, List, [], length, None, Some, slice_index_or}
 use Rattle.fab_base.specs.declared.peers.Step.{Step}
 use Rattle.fab_base.specs.declared.script.Bound.{Bound}
-use Rattle.fab_model.specs.Replay.{Lawful, replayed, at_rest}
+use Rattle.fab_model.specs.Laws.{Run}
+use Rattle.fab_model.specs.Orders.{turn}
+use Rattle.fab_model.specs.Peers.{fabric}
+use Rattle.fab_model.specs.Replay.{Lawful, replayed, start, at_rest}
 use Rattle.fab_model.specs.Report.{report}
+use Rattle.fab_model.specs.Views.{rule}
 use Rattle.fab_replay.specs.declared.verdicts.Verdict.{Verdict}
 use Rattle.fab_replay.specs.declared.verdicts.Verdict.TheVariants as answer
 use Rattle.fab_replay.specs.Reading.{schedule_told}
@@ -43,3 +48,8 @@ Means bound text (answer.Lawful rest) = IsReport bound text rest
 Means bound text (answer.Left p step) = IsLeftOver bound text p step
 Means bound text (answer.Differs at) = IsOther bound text at
 Means bound text answer.NoSchedule = schedule_told bound.script.conf.peers text ≡ None
+
+pub record IsOrderOf (bound : Bound) (text order : List ℕ) : Type 0 where
+  pub schedule : List (List Step)
+  pub told : schedule_told bound.script.conf.peers text ≡ Some schedule
+  pub leads : Run (turn (rule fabric)) (start bound schedule) order (replayed bound schedule)

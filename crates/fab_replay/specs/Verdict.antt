@@ -1,8 +1,9 @@
 -- What a checker says of a text, as the report of a run of a script.
 --     verdict bound text      the answer
 --     first_left 0 left       the lowest peer that has a step left
+--     verdict_line verdict    what it is in a line
 --     common xs ys            how many bytes both begin with: where they first differ, or the shorter ends
-use Rattle.std.specs.Prelude.{ℕ, ◌+◌, ◌-◌, ◌==◌, List, [], ◌∷◌, length, Option, Some, None, slice_index_or, bytes_eq, if◌then◌else◌}
+use Rattle.std.specs.Prelude.{ℕ, ◌+◌, ◌-◌, ◌==◌, true, false, List, [], ◌∷◌, ◌++◌, length, Option, Some, None, slice_index_or, bytes_eq, codes, decimal, if◌then◌else◌}
 use Rattle.fab_base.specs.declared.peers.Step.{Step}
 use Rattle.fab_base.specs.declared.script.Bound.{Bound}
 use Rattle.fab_model.specs.Orders.{Moment}
@@ -42,3 +43,10 @@ verdict bound text = elim (schedule_told bound.script.conf.peers text) [
   | None ↦ NoSchedule
   | Some schedule ↦ judged bound.script.version schedule (replayed bound schedule) text
 ]
+
+abbrev pub verdict_line : Verdict → List ℕ
+verdict_line (Lawful true) = codes "lawful, at rest" ++ 10 ∷ []
+verdict_line (Lawful false) = codes "lawful, not at rest" ++ 10 ∷ []
+verdict_line (Left peer step) = codes "not lawful peer " ++ decimal peer ++ codes " step " ++ decimal step ++ 10 ∷ []
+verdict_line (Differs at) = codes "differs at " ++ decimal at ++ 10 ∷ []
+verdict_line NoSchedule = codes "no schedule" ++ 10 ∷ []

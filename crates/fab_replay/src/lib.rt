@@ -19,4 +19,4 @@ mod verdicts;
 mod writing;
 
 pub use reading::read_schedule;
-pub use verdicts::{Verdict, check};
+pub use verdicts::{Verdict, check, order_of};

@@ -1,5 +1,6 @@
 //! All peers, and their turns.
-ghost use Rattle.std.specs.Prelude.{◌≡◌, ◌+◌, ◌<◌, length, IfOk, OnOk, slice_get, if◌then◌else◌};
+ghost use Rattle.std.specs.Prelude.{◌≡◌, ◌+◌, ◌<◌, length, IfOk, MatchOption, OnOk, None, Some, slice_get, if◌then◌else◌};
+ghost use Rattle.fab_model.specs.Laws.{Run};
 ghost use Rattle.fab_model.specs.Orders.{turn, lowest, replay};
 ghost use Rattle.fab_model.specs.Peers.{fabric};
 ghost use Rattle.fab_model.specs.Views.{rule};
@@ -8,7 +9,8 @@ ghost use Rattle.fab_replay.specs.Seen.{actor_of, steps_of, moment_of, led, Took
 use crate::actor::Actor;
 use crate::ready::{Ready, prepare};
 use fab_base::{Bound, List, NoMemory, Step};
-use fab_items::lists::one_more;
+use fab_items::lists::{narrowed, one_more};
+use std::alloc::Global;
 
 /// A peer with the steps of its schedule, and how many of these it took.
 #[derive(Drop)]
@@ -57,25 +59,31 @@ fn step(bound: &Bound, peers: &mut [Peer], number: usize) -> Result<bool, NoMemo
     peers[number].take(bound, ready)
 }
 
-/// The lowest-numbered peer whose next step stands takes it.
-fn turn(bound: &Bound, peers: &mut [Peer]) -> Result<bool, NoMemory>
-    ensures took { IfOk result (λ took. Took took (moment_of bound.now peers.old) (moment_of bound.now peers.new)
-        (lowest (turn (rule fabric) (moment_of bound.now peers.old)) (length peers.old))) }
+/// The lowest-numbered peer whose next step stands takes it. This is the peer that did.
+fn turn(bound: &Bound, peers: &mut [Peer]) -> Result<Option<usize>, NoMemory>
+    ensures took { IfOk result (λ taker. MatchOption taker
+        ((lowest (turn (rule fabric) (moment_of bound.now peers.old)) (length peers.old) ≡ None) × (moment_of bound.now peers.new ≡ moment_of bound.now peers.old))
+        (λ number. (lowest (turn (rule fabric) (moment_of bound.now peers.old)) (length peers.old) ≡ Some (moment_of bound.now peers.new))
+        × (turn (rule fabric) (moment_of bound.now peers.old) number ≡ Some (moment_of bound.now peers.new)))) }
     ensures steps { steps_of peers.new ≡ steps_of peers.old }
 {
     for number in 0..peers.len() {
         if step(bound, peers, number)? {
-            return Ok(true);
+            return Ok(Some(number));
         }
     }
-    Ok(false)
+    Ok(None)
 }
 
-/// The replay: turns, until no peer can take its next step.
-pub fn run(bound: &Bound, peers: &mut [Peer]) -> Result<(), NoMemory>
+/// The replay: turns, until no peer can take its next step. These are the peers that took them, in order.
+pub fn run(alloc: Global, bound: &Bound, peers: &mut [Peer]) -> Result<Vec<u32>, NoMemory>
     ensures ended { OnOk result (moment_of bound.now peers.new ≡ replay (rule fabric) (moment_of bound.now peers.old)) }
+    ensures order { IfOk result (λ order. Run (turn (rule fabric)) (moment_of bound.now peers.old) order.items (moment_of bound.now peers.new)) }
     ensures steps { steps_of peers.new ≡ steps_of peers.old }
 {
-    'turns: while turn(bound, peers)? {}
-    Ok(())
+    let mut order = Vec::new(alloc);
+    'turns: while let Some(number) = turn(bound, peers)? {
+        order.push(narrowed(number)?)?;
+    }
+    Ok(order)
 }

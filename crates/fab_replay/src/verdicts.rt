@@ -1,12 +1,12 @@
 //! The answer of the checker.
-ghost use Rattle.std.specs.Prelude.{◌≡◌, ◌<◌, length, map, IfOk, IfSome, MatchOption, bytes_eq, true, false};
+ghost use Rattle.std.specs.Prelude.{◌≡◌, ◌<◌, length, map, IfOk, IfSome, MatchOption, bytes_eq, string_bytes, true, false};
 ghost use Rattle.fab_model.specs.Orders.{replay};
 ghost use Rattle.fab_model.specs.Peers.{fabric};
 ghost use Rattle.fab_model.specs.Report.{report_of};
 ghost use Rattle.fab_model.specs.Views.{rule};
-ghost use Rattle.fab_replay.specs.Meaning.{Means};
+ghost use Rattle.fab_replay.specs.Meaning.{IsOrderOf, Means};
 ghost use Rattle.fab_replay.specs.Seen.{actors_of, steps_of, left_of, moment_of};
-ghost use Rattle.fab_replay.specs.Verdict.{first_left, common, compared, judged, verdict};
+ghost use Rattle.fab_replay.specs.Verdict.{first_left, common, compared, judged, verdict, verdict_line};
 
 use crate::opening::open;
 use crate::reading::read_schedule;
@@ -31,6 +31,23 @@ pub enum Verdict {
     /// It tells no schedule: the lines that begin with `trace` are not as many as the script's peers, or
     /// one of them is not the word `trace` with steps behind it.
     NoSchedule,
+}
+
+impl Verdict {
+    /// The verdict in a line.
+    pub fn line(self, alloc: Global) -> Result<String, NoMemory>
+        ensures { IfOk result (λ text. string_bytes text ≡ verdict_line self) }
+    {
+        let mut out = String::new(alloc);
+        match self {
+            Verdict::Lawful { rest: true } => out.push_str("lawful, at rest\n")?,
+            Verdict::Lawful { rest: false } => out.push_str("lawful, not at rest\n")?,
+            Verdict::Left { peer, step } => writeln!(out, "not lawful peer {peer} step {step}")?,
+            Verdict::Differs { at } => writeln!(out, "differs at {at}")?,
+            Verdict::NoSchedule => out.push_str("no schedule\n")?,
+        }
+        Ok(out)
+    }
 }
 
 /// Where two texts first differ, if they do.
@@ -84,7 +101,7 @@ fn compared(
 fn judge(alloc: Global, bound: &Bound, peers: &mut [Peer], text: &[u8]) -> Result<Verdict, NoMemory>
     ensures { IfOk result (λ verdict. verdict ≡ judged bound.now.script.version (steps_of peers.old) (replay (rule fabric) (moment_of bound.now peers.old)) text.now) }
 {
-    run(bound, peers)?;
+    run(alloc, bound, peers)?;
     match first_left(peers) {
         Some(number) => {
             let peer = narrowed(number)?;
@@ -110,4 +127,16 @@ pub fn check(alloc: Global, bound: &Bound, text: &[u8]) -> Result<Verdict, NoMem
     };
     let mut peers = open(alloc, bound, schedule.as_slice())?;
     judge(alloc, bound, &mut peers, text)
+}
+
+/// The peers whose turns the replay of a report is made of, in their order; none where the text tells no schedule.
+pub fn order_of(alloc: Global, bound: &Bound, text: &[u8]) -> Result<Option<Vec<u32>>, NoMemory>
+    ensures order { IfOk result (λ order. IfSome order (λ turns. IsOrderOf bound.now text.now turns.items)) }
+{
+    let Some(schedule) = read_schedule(alloc, text, bound.script.conf.peers)? else {
+        return Ok(None);
+    };
+    let mut peers = open(alloc, bound, schedule.as_slice())?;
+    let order = run(alloc, bound, &mut peers)?;
+    Ok(Some(order))
 }

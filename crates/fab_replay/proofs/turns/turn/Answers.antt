@@ -13,4 +13,4 @@ returns-then-branch-clause-took c =
     let n = c.loop-number.number in
     let moved = took_true c.in_ok-step.field-0 _ _ _ (search rules) c.in_ok-step.ensures.took in
     let here : turn (rule fabric) m n ≡ Some (moment_of bound c.step.new.peers) = ap (λ m. turn (rule fabric) m n) (sym c.loop-number.invariant.same) ∙ moved in
-    lowest_is (turn (rule fabric) m) (length c.args.peers.now) n (moment_of bound c.step.new.peers) (search rules) c.loop-number.invariant.none here
+    (lowest_is (turn (rule fabric) m) (length c.args.peers.now) n (moment_of bound c.step.new.peers) (search rules) c.loop-number.invariant.none here, here)
