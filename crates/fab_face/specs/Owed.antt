@@ -3,11 +3,12 @@
 --     to_post tx places d op      the replies to this operation of the peer of which no frame is posted
 --     to_book rx d op             the whole messages of the peer with this number that have a reply booked when a receive takes them
 --     dues s places d op          both
---     pledged rx begun d op       the replies that the item which is coming of the peer will have booked, when it is whole or later
---     asked begun d op            1 where that item owes a reply
---     Pledged rx begun            it is never more than one, and only where the item owes it
+--     kept_for rx d op            the messages of the peer with this number, not whole yet, that have a reply booked when a receive takes them
+--     due_for coming item op      1 where a reply to this operation is booked when the item that is coming is whole
+--     asked_by item op            1 where that item owes a reply to this operation
+--     Pledged rx begun            what is coming of a peer will have no more replies booked than it owes
 --     IsPartly rx begun           a message that is not whole is the one that is coming
-use Rattle.std.specs.Prelude.{◌≡◌, ℕ, zero, suc, ◌+◌, ◌<◌, ◌≤◌, Bool, true, false, ◌&&◌, ◌==◌, List, length, drop, Option, Some, None, is_some, is_none, count_by, cond, All, slice_index}
+use Rattle.std.specs.Prelude.{◌≡◌, ℕ, zero, suc, ◌+◌, ◌<◌, ◌≤◌, Bool, true, false, ◌&&◌, ◌==◌, List, length, drop, Option, Some, None, is_some, is_none, count_by, cond, All, slice_index, slice_index_or}
 use Rattle.fab_base.specs.declared.items.Item.{Item}
 use Rattle.fab_base.specs.declared.items.ItemHead.{ItemHead}
 use Rattle.fab_base.specs.declared.operations.Arrival.{Arrival}
@@ -17,7 +18,6 @@ use Rattle.fab_wire.specs.Owing.{is_reply, owes}
 use Rattle.fab_model.specs.Complete.{at_delivery, at_either, at_match}
 use Rattle.fab_model.specs.State.{State, Receiving, Transmitting, accepted_for, held_for, coming_from}
 use Rattle.fab_model.specs.Sending.{items_of}
-use Rattle.std.specs.Prelude.{slice_index_or}
 
 -- ---- booked, and not begun
 
