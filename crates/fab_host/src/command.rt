@@ -7,8 +7,7 @@ ghost use Rattle.fab_base.specs.declared.status.Status.TheVariants.{Done, Stuck,
 ghost use Rattle.fab_base.specs.declared.status.Why.{Why};
 ghost use Rattle.fab_top.specs.Commands.{IsNoCommand};
 ghost use Rattle.fab_outside.specs.Loading.{IsOver, LoadsOnly};
-ghost use Rattle.fab_top.specs.Runs.{AskFor, IsRefused, Writes, WritesPart, Tells, TellsPart, Benches, BenchesPart, Checks, ChecksPart, Sums, SumsPart, Collects, CollectsPart, IsUnhindered, IsAnswered, IsSilent, MayStick, NeverSticks, AsksNone};
-ghost use Rattle.fab_workloads.specs.Commands.{workload_of};
+ghost use Rattle.fab_top.specs.Runs.{AskFor, IsRefused, Writes, WritesPart, Tells, TellsPart, Benches, BenchesPart, Checks, ChecksPart, Sums, SumsPart, Collects, CollectsPart, IsUnhindered, IsAnswered, IsSilent, MayStick, NeverSticks, AsksNone, IsNoWorkload};
 ghost use Rattle.fab_host.specs.Ending.{status_number, status_without, IsTold};
 
 use crate::ending::end;
@@ -72,7 +71,7 @@ where
     ensures whole { NeverSticks (D.files depot.old) words.now → result.status ≢ Stuck }
     ensures loads { LoadsOnly (AskFor (D.files depot.old) words.now) (D.loaded depot.old) (D.loaded depot.new) }
     ensures asks { AsksNone words.now → depot.new ≡ depot.old }
-    ensures clock { workload_of words.now ≡ None → clock.new ≡ clock.old }
+    ensures clock { IsNoWorkload words.now → clock.new ≡ clock.old }
 
     // The end is told.
     ensures code { exit_status result.code ≡ status_number result.status }

@@ -224,6 +224,10 @@ NeverSticks files words = AreTold files × ((file : List ℕ) × (bound : Bound)
 abbrev pub AsksNone : List (List ℕ) → Type 0
 AsksNone words = (script_file words ≡ None) × (payload_file words ≡ None) × (replay_files words ≡ None) × (coll_file words ≡ None)
 
+-- the words are no workload
+abbrev pub IsNoWorkload : List (List ℕ) → Type 0
+IsNoWorkload words = workload_of words ≡ None
+
 -- the statuses at which a report is written, or a part of one
 abbrev pub WritesReport : Status → Type 0
 WritesReport Done = Unit {0}

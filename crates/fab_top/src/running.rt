@@ -12,7 +12,7 @@ ghost use Rattle.fab_model.specs.Negotiation.{grant};
 ghost use Rattle.fab_top.specs.Commands.{IsNoCommand};
 ghost use Rattle.fab_outside.specs.Info.{info_text, offer};
 ghost use Rattle.fab_outside.specs.Loading.{IsOver, IsUnloaded, LoadsOnly};
-ghost use Rattle.fab_top.specs.Runs.{Reports, ComesToRest, AskFor, IsRefused, Writes, WritesPart, Tells, TellsPart, EndsText, IsLoaded, Benches, BenchesPart, EndsBench, Checks, ChecksPart, Sums, SumsPart, Collects, CollectsPart, IsUnhindered, IsAnswered, IsSilent, MayStick, NeverSticks, WritesReport, AsksNone};
+ghost use Rattle.fab_top.specs.Runs.{Reports, ComesToRest, AskFor, IsRefused, Writes, WritesPart, Tells, TellsPart, EndsText, IsLoaded, Benches, BenchesPart, EndsBench, Checks, ChecksPart, Sums, SumsPart, Collects, CollectsPart, IsUnhindered, IsAnswered, IsSilent, MayStick, NeverSticks, WritesReport, AsksNone, IsNoWorkload};
 ghost use Rattle.fab_window_run.specs.Commands.{asked_text, IsWithin as IsWindow, window_of};
 ghost use Rattle.fab_workloads.specs.Bench.{bench_line};
 ghost use Rattle.fab_workloads.specs.Commands.{IsWithin, payload_file, workload_of};
@@ -365,7 +365,7 @@ where
     ensures whole { NeverSticks (D.files depot.old) words.now → result ≢ Stuck }
     ensures loads { LoadsOnly (AskFor (D.files depot.old) words.now) (D.loaded depot.old) (D.loaded depot.new) }
     ensures asks { AsksNone words.now → depot.new ≡ depot.old }
-    ensures clock { workload_of words.now ≡ None → clock.new ≡ clock.old }
+    ensures clock { IsNoWorkload words.now → clock.new ≡ clock.old }
 {
     if let Some(caps) = info_caps(words) {
         return tell_offer(alloc, sink, caps);

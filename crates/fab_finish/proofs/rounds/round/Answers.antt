@@ -1,4 +1,4 @@
-use Rattle.std.proofs.Common.{◌∙◌, Ok, false, ap, arith, refl}
+use Rattle.std.proofs.Common.{◌∙◌, Ok, ap, arith, refl}
 use Rattle.fab_finish.specs.Wanting.{Leaves}
 use Rattle.fab_finish.proofs.Freight.{lowers_after, lowers_both, lowers_none}
 use Rattle.fab_finish.proofs.Resting.{still_next, goes_carried, still_carried}
