@@ -2,7 +2,9 @@
 //!
 //! Each call stands in a function of its own without a contract, over any endpoint that has it, so that a test carries no
 //! clauses of the calls before.
-use fab_base::{Access, Buf, Class, Entry, ErrEntry, ErrKind, Fault, Flags, Level, Refused};
+use fab_base::{
+    Access, AtomicOp, Buf, Class, Entry, ErrEntry, ErrKind, Fault, Flags, Level, Num, Refused,
+};
 use fab_face::calls::{Counters, Logs, Looks, Messages, Progress, Receives, Regions, Requests};
 use fab_face::events::{Moved, Stop};
 use std::alloc::Global;
@@ -18,6 +20,15 @@ const FENCED: Flags = Flags {
     level: Level::Transmit,
     fence: true,
 };
+
+const MATCHED: Flags = Flags {
+    completion: true,
+    level: Level::Match,
+    fence: false,
+};
+
+/// How often two endpoints go on by turns: more than a message of 65,537 frames takes where 32 move at a time.
+const ROUNDS: u32 = 2_100;
 
 /// The calls that are tested.
 pub trait Calls: Messages + Requests + Receives + Looks + Progress + Regions + Counters + Logs {}
@@ -40,14 +51,42 @@ pub fn send<E: Messages>(
         .map_err(|refused| (refused.why, refused.buf.as_slice().len()))
 }
 
-/// Sends one byte to peer 1, behind all that was sent to it before (FI_FENCE).
-pub fn fences<E: Messages>(alloc: Global, endpoint: &mut E, ctx: u64) -> Result<(), Fault> {
-    let Ok(message) = Buf::zeros(alloc, 1) else {
+/// Sends so many bytes with a tag.
+fn tagged<E: Messages>(
+    alloc: Global,
+    endpoint: &mut E,
+    dest: u32,
+    tag: u64,
+    len: u64,
+    ctx: u64,
+    flags: Flags,
+) -> Result<(), Fault> {
+    let Ok(message) = Buf::zeros(alloc, len) else {
         return Err(Fault::NoMemory);
     };
     endpoint
-        .tsend(1, 5, message, None, ctx, FENCED)
+        .tsend(dest, tag, message, None, ctx, flags)
         .map_err(|refused| refused.why)
+}
+
+/// Sends one byte to peer 1, behind all that was sent to it before (FI_FENCE).
+pub fn fences<E: Messages>(alloc: Global, endpoint: &mut E, ctx: u64) -> Result<(), Fault> {
+    tagged(alloc, endpoint, 1, 5, 1, ctx, FENCED)
+}
+
+/// Sends one byte to peer 1, to be told when it is matched.
+pub fn asks<E: Messages>(alloc: Global, endpoint: &mut E, ctx: u64) -> Result<(), Fault> {
+    tagged(alloc, endpoint, 1, 4, 1, ctx, MATCHED)
+}
+
+/// Sends so many bytes with the tag 3 to peer 0.
+pub fn tsend<E: Messages>(
+    alloc: Global,
+    endpoint: &mut E,
+    len: u64,
+    ctx: u64,
+) -> Result<(), Fault> {
+    tagged(alloc, endpoint, 0, 3, len, ctx, COMPLETES)
 }
 
 /// How many operations are not transmitted, and how many await an answer.
@@ -133,6 +172,18 @@ pub fn sent<E: Progress>(endpoint: &mut E) -> Option<u64> {
     sent_of(endpoint.cq_pop().ok()?)
 }
 
+fn wrote_of(entry: Entry) -> Option<u64> {
+    match entry {
+        Entry::Wrote { ctx, .. } => Some(ctx),
+        _ => None,
+    }
+}
+
+/// The context of the next completion, if it is that of a write.
+pub fn wrote<E: Progress>(endpoint: &mut E) -> Option<u64> {
+    wrote_of(endpoint.cq_pop().ok()?)
+}
+
 fn brought_of(entry: Entry) -> Option<Buf> {
     match entry {
         Entry::Read { buf, .. } => Some(buf),
@@ -161,6 +212,40 @@ pub fn receives<E: Receives>(
         return false;
     };
     endpoint.recv(source, buf, ctx).is_ok()
+}
+
+/// Whether a receive of so many bytes with this tag is posted.
+pub fn treceives<E: Receives>(
+    alloc: Global,
+    endpoint: &mut E,
+    tag: u64,
+    len: u64,
+    ctx: u64,
+) -> bool {
+    let Ok(buf) = Buf::zeros(alloc, len) else {
+        return false;
+    };
+    endpoint.trecv(None, tag, 0, buf, ctx).is_ok()
+}
+
+fn cut_of(error: ErrEntry) -> Option<(u32, u32)> {
+    match error.kind {
+        ErrKind::Truncated => Some((error.len, error.olen)),
+        _ => None,
+    }
+}
+
+/// How many bytes were placed and how many cut off, if the next completion is that of a message which was too long.
+pub fn cut<E: Progress>(endpoint: &mut E) -> Option<(u32, u32)> {
+    cut_of(endpoint.cq_readerr().ok()?)
+}
+
+/// Lets two endpoints go on by turns, as often as the longest message takes.
+pub fn carries<E: Progress>(one: &mut E, other: &mut E) {
+    for _ in 0..ROUNDS {
+        let _ = one.progress(64);
+        let _ = other.progress(64);
+    }
 }
 
 /// Whether progress takes and posts so many frames, and ends so.
@@ -240,4 +325,29 @@ pub fn reads<E: Requests>(alloc: Global, endpoint: &mut E, key: u64, at: u64, le
         return false;
     };
     endpoint.read(1, key, at, buf, 1).is_ok()
+}
+
+/// Whether a write of one byte into a region of a peer is accepted, behind all that was asked of it before or not.
+pub fn puts<E: Requests>(
+    alloc: Global,
+    endpoint: &mut E,
+    dest: u32,
+    ctx: u64,
+    fence: bool,
+) -> bool {
+    let Ok(buf) = Buf::zeros(alloc, 1) else {
+        return false;
+    };
+    let flags = if fence { FENCED } else { COMPLETES };
+    endpoint.write(dest, 9, 0, buf, None, ctx, flags).is_ok()
+}
+
+/// Whether a fetch of the first byte of a region of peer 1 is accepted.
+pub fn fetches<E: Requests>(alloc: Global, endpoint: &mut E, key: u64) -> bool {
+    let Ok(buf) = Buf::zeros(alloc, 1) else {
+        return false;
+    };
+    endpoint
+        .fetch_atomic(1, key, 0, AtomicOp::AtomicRead, Num::U8, &[], buf, 1)
+        .is_ok()
 }

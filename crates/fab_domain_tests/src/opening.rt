@@ -134,7 +134,25 @@ fn a_fence_waits_for_an_answer(rt: HostRuntime) -> Result<(), Fail> {
 }
 
 #[test]
+fn a_fence_waits_for_a_match(rt: HostRuntime) -> Result<(), Fail> {
+    assert!(rt; holds(rt.alloc(), Row::Unmatched));
+    Ok(())
+}
+
+#[test]
+fn replies_pass_what_a_fence_holds(rt: HostRuntime) -> Result<(), Fail> {
+    assert!(rt; holds(rt.alloc(), Row::Crossed));
+    Ok(())
+}
+
+#[test]
+fn the_greatest_message_is_cut(rt: HostRuntime) -> Result<(), Fail> {
+    assert!(rt; holds(rt.alloc(), Row::Greatest));
+    Ok(())
+}
+
+#[test]
 fn requests_count_at_their_target(rt: HostRuntime) -> Result<(), Fail> {
-    assert!(rt; holds(rt.alloc(), Row::Counted));
+    assert!(rt; holds(rt.alloc(), Row::Counted) && holds(rt.alloc(), Row::Uncounted));
     Ok(())
 }

@@ -1,8 +1,8 @@
 //! Calls one at a time, between endpoints whose lanes, operations and completion queues are short.
 use crate::calls::{
-    Calls, Came, brings, cancels, closes_not, fences, has, injects, looks, missed, moves,
-    next_came, pops_not, reads, receives, refuses, registers, send, sent, served, under_way,
-    writes,
+    Calls, Came, asks, brings, cancels, carries, closes_not, cut, fences, fetches, has, injects,
+    looks, missed, moves, next_came, pops_not, puts, reads, receives, refuses, registers, send,
+    sent, served, treceives, tsend, under_way, writes, wrote,
 };
 use fab_base::{Api, Busy, Fault};
 use fab_face::events::Stop;
@@ -26,7 +26,11 @@ pub enum Row {
     Served,
     Longest,
     Fenced,
+    Unmatched,
+    Crossed,
+    Greatest,
     Counted,
+    Uncounted,
 }
 
 impl Row {
@@ -39,15 +43,17 @@ impl Row {
             Row::Directed | Row::Served => (4, 4, 8),
             Row::Longest => (64, 64, 1024),
             Row::Fenced => (4, 2, 8),
-            Row::Counted => (4, 4, 8),
+            Row::Unmatched | Row::Crossed => (4, 4, 8),
+            Row::Greatest => (64, 2, 8),
+            Row::Counted | Row::Uncounted => (4, 4, 8),
         };
         Sizes { lane, tx, cq }
     }
 
-    /// The version that the endpoints are opened for: the second where remote events are asked for.
+    /// The version that the endpoints are opened for: the second for remote events and for its greatest message.
     pub fn api(self) -> Api {
         match self {
-            Row::Counted => Api::Two,
+            Row::Counted | Row::Greatest => Api::Two,
             _ => Api::One,
         }
     }
@@ -62,7 +68,11 @@ impl Row {
             Row::Served => serves(alloc, zero, one),
             Row::Longest => refuses_longer(alloc, one),
             Row::Fenced => holds_back(alloc, zero, one),
+            Row::Unmatched => waits_for_match(alloc, zero, one),
+            Row::Crossed => crosses(alloc, zero, one),
+            Row::Greatest => cuts_greatest(alloc, zero, one),
             Row::Counted => counts_served(alloc, zero, one),
+            Row::Uncounted => counts_none(alloc, zero, one),
         }
     }
 }
@@ -185,7 +195,56 @@ fn holds_back<E: Calls>(alloc: Global, zero: &mut E, one: &mut E) -> bool {
         && done
 }
 
-/// A write and a read count at the peer whose region they reach, and those that are refused do not.
+/// A message with a fence waits behind one that asks for its match for as long as no receive matches that one, though a
+/// receive for its own tag is posted. Once the match is answered both are done.
+fn waits_for_match<E: Calls>(alloc: Global, zero: &mut E, one: &mut E) -> bool {
+    let accepted = asks(alloc, zero, 1) == Ok(()) && fences(alloc, zero, 2) == Ok(());
+    let taken = moves(one, 8, 1, 0, Stop::Idle);
+    let posted = treceives(alloc, one, 5, 1, 3);
+    let still = moves(one, 8, 0, 0, Stop::Idle) && moves(zero, 8, 0, 0, Stop::Idle);
+    let held = under_way(zero) == (1, 1);
+    let none = sent(zero).is_none() && next_came(one).is_none();
+    let matched = treceives(alloc, one, 4, 1, 4);
+    let answered = moves(one, 8, 0, 1, Stop::Idle);
+    let gone_on = moves(zero, 8, 1, 1, Stop::Idle) && moves(one, 8, 1, 0, Stop::Idle);
+    let done = sent(zero) == Some(1) && sent(zero) == Some(2);
+    accepted
+        && taken
+        && posted
+        && still
+        && held
+        && none
+        && matched
+        && answered
+        && gone_on
+        && done
+        && under_way(zero) == (0, 0)
+}
+
+/// Two peers write to each other, each with a fence behind a write. Replies go in front of what is held, so both end.
+fn crosses<E: Calls>(alloc: Global, zero: &mut E, one: &mut E) -> bool {
+    let registered = registers(alloc, zero, 9, b"0") && registers(alloc, one, 9, b"0");
+    let first = puts(alloc, zero, 1, 1, false) && puts(alloc, one, 0, 1, false);
+    let second = puts(alloc, zero, 1, 2, true) && puts(alloc, one, 0, 2, true);
+    let held = under_way(zero) == (1, 1) && under_way(one) == (1, 1);
+    carries(zero, one);
+    let zero_done = wrote(zero) == Some(1) && wrote(zero) == Some(2);
+    let one_done = wrote(one) == Some(1) && wrote(one) == Some(2);
+    registered && first && second && held && zero_done && one_done
+}
+
+/// The longest message of the second version is cut where the receive is short, and the next one is sent behind it.
+fn cuts_greatest<E: Calls>(alloc: Global, zero: &mut E, one: &mut E) -> bool {
+    let posted = treceives(alloc, zero, 3, 4, 1);
+    let greatest = tsend(alloc, one, 268_435_456, 2) == Ok(());
+    let next = tsend(alloc, one, 4, 3) == Ok(());
+    carries(one, zero);
+    let was_cut = cut(zero) == Some((4, 268_435_452));
+    let done = sent(one) == Some(2) && sent(one) == Some(3);
+    posted && greatest && next && was_cut && done
+}
+
+/// A write, a read and a fetch count at the peer whose region they reach, and those that are refused do not.
 fn counts_served<E: Calls>(alloc: Global, zero: &mut E, one: &mut E) -> bool {
     let registered = registers(alloc, one, 9, b"01234567");
     let before = served(one) == (0, 0);
@@ -193,7 +252,16 @@ fn counts_served<E: Calls>(alloc: Global, zero: &mut E, one: &mut E) -> bool {
     let both = moves(one, 8, 2, 2, Stop::Idle);
     let counted = served(one) == (1, 1);
     let beyond = writes(zero, 9, 8, b"a") && writes(zero, 8, 0, b"a");
-    let refused = moves(one, 8, 2, 2, Stop::Idle);
-    let same = served(one) == (1, 1);
-    registered && before && asked && both && counted && beyond && refused && same
+    let refused = moves(one, 8, 2, 2, Stop::Idle) && served(one) == (1, 1);
+    let fetched = moves(zero, 8, 4, 0, Stop::Idle) && fetches(alloc, zero, 9);
+    let third = moves(one, 8, 1, 1, Stop::Idle) && served(one) == (1, 2);
+    registered && before && asked && both && counted && beyond && refused && fetched && third
+}
+
+/// The first version has no remote events: nothing counts.
+fn counts_none<E: Calls>(alloc: Global, zero: &mut E, one: &mut E) -> bool {
+    let registered = registers(alloc, one, 9, b"01234567");
+    let asked = writes(zero, 9, 2, b"abcd") && fetches(alloc, zero, 9);
+    let both = moves(one, 8, 2, 2, Stop::Idle);
+    registered && asked && both && served(one) == (0, 0)
 }
