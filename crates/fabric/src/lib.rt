@@ -16,6 +16,7 @@ mod hints;
 mod opening;
 
 pub use fab_app::completions::{Polled, ctx_of};
+pub use fab_app::endpoint::{Calls, Endpoint as EndpointOver};
 pub use fab_app::messages::COMPLETES;
 pub use fab_app::moving::Next;
 pub use fab_app::trying::again;
