@@ -1,6 +1,7 @@
 //! What is measured between two endpoints.
-use crate::speaker::{Calls, Speaker};
+use crate::speaker::Speaker;
 use fab_bench::runs::{Bytes, Exchange, Times, first, second};
+use fabric::{Calls, EndpointOver};
 use std::alloc::Global;
 use std::sync::Wait;
 use std::thread::Threads;
@@ -77,8 +78,8 @@ fn times_of<R: Clock + Threads + Wait + Sync, E: Calls + Drop + Send>(
 pub fn times_between<R: Clock + Threads + Wait + Sync, E: Calls + Drop + Send>(
     rt: &R,
     alloc: Global,
-    zero: E,
-    one: E,
+    zero: EndpointOver<E>,
+    one: EndpointOver<E>,
     exchange: &Exchange,
     runs: u64,
 ) -> io::Result<Vec<Times>> {

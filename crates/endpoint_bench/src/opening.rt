@@ -1,55 +1,34 @@
-//! Endpoints are named here alone: what is done with them is generic.
+//! Endpoints are opened here alone: what is done with them is generic.
 use crate::measuring::{exchanges, times_between};
-use fab_base::{Api, Caps, Hints, Info};
 use fab_bench::runs::{Exchange, Times};
-use fab_domain::{RingEndpoint, endpoints};
-use fab_info::getinfo;
+use fabric::{Cap, Calls, Domain, EndpointOver, Hints, open};
 use std::alloc::Global;
 use std::io;
 use std::sync::Wait;
 use std::thread::Threads;
 use std::time::Clock;
 
-/// The endpoints of two peers.
-#[derive(Drop)]
-struct Pair {
-    zero: RingEndpoint,
-    one: RingEndpoint,
-}
-
 /// Tagged messages between two peers, over lanes and pools of 64 places.
-fn granted() -> Option<Info> {
-    let hints = Hints {
-        caps: Caps {
-            tagged: true,
-            ..Caps::none()
-        },
-        peers: Some(2),
-        lane: Some(64),
-        pool: Some(64),
-        tx: Some(64),
-        rx: None,
-        cq: None,
-        log: None,
-        inject: None,
-        message: None,
-    };
-    getinfo(Api::One, Some(&hints)).ok()
+fn wishes() -> Hints {
+    Hints::new()
+        .cap(Cap::Tagged)
+        .peers(2)
+        .lane(64)
+        .pool(64)
+        .tx(64)
 }
 
-/// The endpoints of all peers.
-fn opened(alloc: Global, info: &Info) -> Vec<RingEndpoint> {
-    match endpoints(alloc, info, false) {
-        Ok(all) => all,
-        Err(_) => Vec::new(alloc),
-    }
-}
-
-/// The last two of these endpoints.
-fn last_two(mut all: Vec<RingEndpoint>) -> Option<Pair> {
-    match (all.pop(), all.pop()) {
-        (Some(one), Some(zero)) => Some(Pair { zero, one }),
-        _ => None,
+/// The times of so many runs of an exchange between the last two of these endpoints.
+fn times_of_last<R: Clock + Threads + Wait + Sync, E: Calls + Drop + Send>(
+    rt: &R,
+    alloc: Global,
+    mut endpoints: Vec<EndpointOver<E>>,
+    exchange: &Exchange,
+    runs: u64,
+) -> io::Result<Vec<Times>> {
+    match (endpoints.pop(), endpoints.pop()) {
+        (Some(one), Some(zero)) => times_between(rt, alloc, zero, one, exchange, runs),
+        _ => Ok(Vec::new(alloc)),
     }
 }
 
@@ -60,12 +39,9 @@ pub fn times<R: Clock + Threads + Wait + Sync>(
     exchange: &Exchange,
     runs: u64,
 ) -> io::Result<Vec<Times>> {
-    let Some(info) = granted() else {
-        return Ok(Vec::new(alloc));
-    };
-    match last_two(opened(alloc, &info)) {
-        Some(Pair { zero, one }) => times_between(rt, alloc, zero, one, exchange, runs),
-        None => Ok(Vec::new(alloc)),
+    match open(alloc, &wishes()) {
+        Ok(Domain { endpoints, .. }) => times_of_last(rt, alloc, endpoints, exchange, runs),
+        Err(_) => Ok(Vec::new(alloc)),
     }
 }
 

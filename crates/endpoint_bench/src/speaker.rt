@@ -3,16 +3,10 @@
 //! What is timed of a ping-pong is what each side does in turn: a message goes out, the receive of the one that
 //! came before it is posted again, and reads follow until the next one came. A message is answered before its buffer is
 //! posted again, while the answer is under way, and one receive more than messages can come stands posted for that.
-use fab_base::{Buf, Entry, Flags, Level, NoMemory};
 use fab_bench::runs::Party;
-use fab_face::calls::{Logs, Messages, Progress, Receives};
+use fabric::{Buf, COMPLETES, Calls, EndpointOver, Entry, NoMemory, Polled};
 use std::alloc::Global;
 use std::thread;
-
-/// The calls that a speaker makes.
-pub trait Calls: Messages + Receives + Progress + Logs {}
-
-impl<E: Messages + Receives + Progress + Logs> Calls for E {}
 
 /// The tag of all messages.
 const TAG: u64 = 7;
@@ -26,17 +20,11 @@ const BUDGET: u32 = 1;
 /// After so many reads in a row that brought nothing another thread may go on.
 const PATIENCE: u32 = 200;
 
-const FLAGS: Flags = Flags {
-    completion: true,
-    level: Level::Transmit,
-    fence: false,
-};
-
 /// An endpoint with receives that are posted again once they are complete, and the buffers of messages that were sent.
 #[derive(Drop)]
 pub struct Speaker<E: Calls + Drop> {
     alloc: Global,
-    endpoint: E,
+    endpoint: EndpointOver<E>,
     other: u32,
     spare: Vec<Buf>,
     /// How many messages came that were not asked for yet.
@@ -65,28 +53,31 @@ fn taken_of(entry: Entry) -> Taken {
     }
 }
 
-/// The next completion, after progress. The log is emptied, which nobody reads here.
-fn take_next<E: Calls>(endpoint: &mut E) -> Taken {
-    endpoint.log_clear();
-    match endpoint.cq_read(BUDGET) {
-        Ok(entry) => taken_of(entry),
-        Err(_) => Taken::Nothing,
+/// The next completion, after progress.
+fn take_next<E: Calls + Drop>(endpoint: &mut EndpointOver<E>) -> Taken {
+    match endpoint.poll(BUDGET) {
+        Ok(Polled::Entry(entry)) => taken_of(entry),
+        _ => Taken::Nothing,
     }
 }
 
 /// Posts a receive of any message.
-fn post<E: Calls>(endpoint: &mut E, room: Buf) {
+fn post<E: Calls + Drop>(endpoint: &mut EndpointOver<E>, room: Buf) {
     let _ = endpoint.trecv(None, TAG, 0, room, 0);
 }
 
 /// Sends bytes that are copied.
-fn send_copied<E: Calls>(endpoint: &mut E, other: u32, bytes: &[u8]) -> bool {
+fn send_copied<E: Calls + Drop>(endpoint: &mut EndpointOver<E>, other: u32, bytes: &[u8]) -> bool {
     endpoint.tinject(other, TAG, bytes, None).is_ok()
 }
 
 /// Sends a buffer, which comes back where it is refused.
-fn send_whole<E: Calls>(endpoint: &mut E, other: u32, buf: Buf) -> Option<Buf> {
-    match endpoint.tsend(other, TAG, buf, None, 0, FLAGS) {
+fn send_whole<E: Calls + Drop>(
+    endpoint: &mut EndpointOver<E>,
+    other: u32,
+    buf: Buf,
+) -> Option<Buf> {
+    match endpoint.tsend(other, TAG, buf, None, 0, COMPLETES) {
         Ok(()) => None,
         Err(refused) => Some(refused.buf),
     }
@@ -96,7 +87,7 @@ impl<E: Calls + Drop> Speaker<E> {
     /// Posts so many receives and one more, of so many bytes each.
     pub fn new(
         alloc: Global,
-        mut endpoint: E,
+        mut endpoint: EndpointOver<E>,
         other: u32,
         ahead: u64,
         room: usize,
@@ -135,10 +126,9 @@ impl<E: Calls + Drop> Speaker<E> {
         self.idle = 0;
     }
 
-    /// Posts the receive again whose message came last. The log is emptied before, so that it has a place for the call.
+    /// Posts the receive again whose message came last.
     fn post_late(&mut self) {
         if let Some(buf) = self.late.take() {
-            self.endpoint.log_clear();
             post(&mut self.endpoint, buf);
         }
     }
