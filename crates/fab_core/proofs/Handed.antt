@@ -155,11 +155,6 @@ if_begun P o item is fact = subst (λ (o : Option Item). IfSome o P) (sym is) fa
 pub of_begun : (P : Item → Type 0) (o : Option Item) (item : Item) → o ≡ Some item → IfSome o P → P item
 of_begun P o item is fact = subst (λ (o : Option Item). IfSome o P) is fact
 
--- an operation that is handed out was found
-pub found_ended : {X : Type 0} (f : Operation → X) (o : Option Operation) (x : X) → option_map f o ≡ Some x → (op : Operation) × (o ≡ Some op) × (f op ≡ x)
-found_ended f None x is = absurd (cc)
-found_ended f (Some op) x is = (op, refl, cc)
-
 -- ---- an item is whole
 
 module _ (p : Parts) (ok : IsTogether p) (rx : IsArriving p.rx) (tx : IsTransit p.tx) (source : ℕ) (within : source < length p.rx.begun) (item : Item) (begun : begun_of p.rx source ≡ Some item) where

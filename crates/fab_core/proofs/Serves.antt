@@ -25,9 +25,6 @@ use Rattle.fab_core.specs.Doing.{requested}
 
 -- ---- what is begun
 
-abbrev pub with_room_of : ℕ → ℕ → Serving → Serving
-with_room_of source n t = record t { rooms = slice_set t.rooms source n }
-
 begun_none : (peers s : ℕ) → get_or (replicate {A = Option Item} peers None) s None ≡ None
 begun_none peers s = elim (cases_lt s peers) [
   | inl within ↦ get_or-replicate peers s None None within

@@ -230,16 +230,6 @@ module _ (p : Parts) (ok : IsTogether p) (rx : IsArriving p.rx) (source : ℕ) (
         | inr other ↦ rw (get_or-set_other p.tx.rooms source s (slice_index p.tx.rooms source + 1) 0 other) (let o = owed_there p.rx rx source head within nothing s other in let r = ok.rooms s in omega (arith, o, r))
       ])
 
-pub room_made : (v : Transit) (source : ℕ) → source < length v.rooms → 0 < slice_index (with_room source v).rooms source
-room_made v source within = rw (get_or-set_same v.rooms source (slice_index v.rooms source + 1) 0 within) (omega arith)
-
--- room that is made and given up again changes nothing
-pub room_given_up : (v : Transit) (source s : ℕ) → source < length v.rooms → slice_index (slice_set (with_room source v).rooms source (slice_index (with_room source v).rooms source - 1)) s ≡ slice_index v.rooms s
-room_given_up v source s within = elim (cases_eq s source) [
-  | inl here ↦ rw (here, get_or-set_same (with_room source v).rooms source (slice_index (with_room source v).rooms source - 1) 0 (let l = length-set v.rooms source (slice_index v.rooms source + 1) in omega (arith, l, within)), get_or-set_same v.rooms source (slice_index v.rooms source + 1) 0 within) (omega arith)
-  | inr other ↦ rw (get_or-set_other (with_room source v).rooms source s (slice_index (with_room source v).rooms source - 1) 0 other, get_or-set_other v.rooms source s (slice_index v.rooms source + 1) 0 other) refl
-]
-
 -- ---- completions
 
 pub size_written : (call : Option ℕ) (o : Option Taken) (cq : Completions) → (written_if call o cq).size ≡ cq.size

@@ -30,9 +30,6 @@ unfolding release_multi
 waits_step s call None none busy = rw (none, release_multi) refl
 waits_step s call (Some r) some busy = rw (some, busy, release_multi) refl
 
-pub release_waits : (s : State) (call : ℕ) → under_way s.rx call ≡ true → release_multi call s ≡ s
-release_waits s call busy = waits_step s call (find (is_made_by call) s.rx.closing) refl busy
-
 -- none is closing
 pub release_none : (s : State) (call : ℕ) → find (is_made_by call) s.rx.closing ≡ None → release_multi call s ≡ s
 unfolding release_multi

@@ -28,24 +28,8 @@ ready_made n number p is fresh = record {
   fresh = fresh;
 }
 
-pub fresh_made : {P : Type 0} (M : Ghosts P) (port : P) → ((d : ℕ) → AreFresh (M.outs port d) (M.ins port d)) → ((d : ℕ) → (M.outs port d).after ≡ None) → ((s : ℕ) → (M.ins port s).after ≡ None) → IsFresh M port
-fresh_made M port fresh outs ins = record {
-  posted = λ d. (fresh d).frames;
-  taken = λ s. (fresh s).taken;
-  closed = λ s. (fresh s).lent;
-  out_after = λ d below. subst IsBetweenItems (sym (outs d)) tt;
-  in_after = λ s below. subst IsBetweenItems (sym (ins s)) tt;
-}
-
-pub after_out : (n : ℕ) (p : Plain) → IsReady n p → (d : ℕ) → (out_of p d).after ≡ None
-after_out n p ready d = ap (λ (lane : Lane). lane.out.after) (ready.lanes d)
-
 pub after_in : (n : ℕ) (p : Plain) → IsReady n p → (d : ℕ) → (in_of p d).after ≡ None
 after_in n p ready d = ap (λ (lane : Lane). lane.in_after) (ready.lanes d)
-
-pub opened_new : (n : ℕ) (e : Whole Plain) (p : Plain) → e.port ≡ p → IsReady n p → IsNewOver n e
-opened_new n e p is ready = subst (λ (q : Plain). (length q.lanes ≡ n) × ((s : ℕ) → last_head (lane_at q s).in_after (lane_at q s).in_list ≡ None)) (sym is)
-    (ready.peers, λ s. ap (λ (lane : Lane). last_head lane.in_after lane.in_list) (ready.lanes s))
 
 -- ---- a frame is brought
 

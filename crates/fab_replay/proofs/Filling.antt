@@ -169,10 +169,6 @@ regroup true true z = refl
 regroup true false z = refl
 regroup false y z = refl
 
-regroup_free : (x z : Bool) → (x && not z) ≡ (x && not (false && true) && not z)
-regroup_free true z = refl
-regroup_free false z = refl
-
 -- what is let go after a draw is what was told before
 given_by : (r : Receive) (a : Arrival) (s : State) (l : ℕ) (o : Option (List ℕ)) → r.least ≡ Some l → a.bytes ≡ o → closes r.call (give r r.used a (left_after r a s)).rx ≡ is_let_go r a s.rx
 unfolding give

@@ -50,15 +50,6 @@ other_by a b false is differ = refl
 other : (a b : List ℕ) → (a ≡ b → ⊥) → bytes_eq a b ≡ false
 other a b differ = other_by a b (bytes_eq a b) refl differ
 
--- both are equal so far
-pub alike_more : (a b : List ℕ) (at : ℕ) → at < length a → at < length b → get_or a at 0 ≡ get_or b at 0 → common a b ≡ at + common (drop at a) (drop at b) → common a b ≡ at + 1 + common (drop (at + 1) a) (drop (at + 1) b)
-alike_more a b at first second same so_far =
-    let one : eqb (get_or a at 0) (get_or b at 0) ≡ true = eq-eqb _ _ same in
-    let left : drop at a ≡ get_or a at 0 ∷ drop (at + 1) a = rw add-one (drop-cons a at 0 first) in
-    let right : drop at b ≡ get_or b at 0 ∷ drop (at + 1) b = rw add-one (drop-cons b at 0 second) in
-    let step : common (drop at a) (drop at b) ≡ 1 + common (drop (at + 1) a) (drop (at + 1) b) = rw (left, right, one) refl in
-    omega (arith, so_far, step)
-
 pub differ_at : (a b : List ℕ) (at : ℕ) → at < length a → at < length b → get_or a at 0 ≢ get_or b at 0 → common a b ≡ at + common (drop at a) (drop at b) → (bytes_eq a b ≡ false) × (at ≡ common a b)
 differ_at a b at first second differ so_far =
     let never : eqb (get_or a at 0) (get_or b at 0) ≡ false = ne_eqb _ _ differ in
@@ -115,9 +106,6 @@ has_left_read peers k n m x y within is also taken many more =
     let same = ap (λ (p : Peer). length p.steps) (same_peer peers k x y within is also) in
     has_left peers k x within is (omega (arith, taken, many, more, same))
 
-pub over_left : (peers : List Peer) (k : ℕ) → length peers ≤ k → first_left k (map left_of (drop k peers)) ≡ None
-over_left peers k past = ap (λ rest. first_left k (map left_of rest)) (drop_of_length-le peers past)
-
 -- ---- the whole verdict
 
 some_left : (k p : ℕ) (lists : List (List Step)) → first_left k lists ≡ Some p → (k ≤ p) × (0 < length (get_or lists (p - k) []))
@@ -130,9 +118,6 @@ some_left k p ((step ∷ steps) ∷ lists) e =
     let same : k ≡ p = cc in
     let none : p - k ≡ 0 = omega arith in
     (omega arith, rw none (omega arith))
-
-pub no_schedule : (bound : Bound) (text : List ℕ) → schedule_told bound.script.conf.peers text ≡ None → NoSchedule ≡ verdict bound text
-no_schedule bound text none = rw (none, verdict) refl
 
 module _ (bound : Bound) (text : List ℕ) (schedule : List (List Step)) (end : Moment Actor Step) (peers : List Peer) (there : moment_of bound peers ≡ end) (steps : steps_of peers ≡ schedule) where
   abbrev version : ℕ

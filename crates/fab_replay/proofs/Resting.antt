@@ -17,9 +17,6 @@ regroup true false true d = refl
 regroup true false false d = refl
 regroup false b c d = refl
 
-idle_is : (all : List Actor) (p : ℕ) (a : Actor) → is_idle all p a ≡ (is_still all p a && not (can_do a))
-idle_is all p a = refl
-
 in_parts : (all : List Actor) (p : ℕ) (rest : List Actor) → all_idle all p rest ≡ (all_still all p rest && list_all (λ a. not (can_do a)) rest)
 in_parts all p [] = refl
 in_parts all p (a ∷ rest) =
@@ -55,12 +52,6 @@ module _ (bound : Bound) (peers : List Peer) (k : ℕ) (x : Peer) (within : k < 
   pub still_not : (all : List Actor) (whole : Bool) → is_still all k (actor_of bound x.actor) ≡ false → all_still all k (actors_of bound (drop k peers)) ≡ whole → false ≡ whole
   still_not all whole e so_far = ap (λ b. b && all_still all (k + 1) (actors_of bound (drop (k + 1) peers))) (sym e) ∙ sym (ap (λ rest. all_still all k (actors_of bound rest)) (here peers k x within is)) ∙ so_far
 
-pub agree_over : (bound : Bound) (peers : List Peer) (k p : ℕ) (a : Actor) (whole : Bool) → length peers ≤ k → agree_all p k a (actors_of bound (drop k peers)) ≡ whole → true ≡ whole
-agree_over bound peers k p a whole past so_far = sym (ap (λ rest. agree_all p k a (actors_of bound rest)) (drop_of_length-le peers past)) ∙ so_far
-
-pub still_over : (bound : Bound) (peers : List Peer) (k : ℕ) (all : List Actor) (whole : Bool) → length peers ≤ k → all_still all k (actors_of bound (drop k peers)) ≡ whole → true ≡ whole
-still_over bound peers k all whole past so_far = sym (ap (λ rest. all_still all k (actors_of bound rest)) (drop_of_length-le peers past)) ∙ so_far
-
 -- ---- what can be done
 
 cannot : (a : Actor) → do_next a ≡ None → not (can_do a) ≡ true
@@ -80,9 +71,6 @@ none_more all k a whole there none so_far = ap (λ b. b && none_of (drop (k + 1)
 
 pub none_not : (all : List Actor) (k : ℕ) (a b : Actor) (whole : Bool) → slice_get all k ≡ Some a → do_next a ≡ Some b → none_of (drop k all) ≡ whole → false ≡ whole
 none_not all k a b whole there some so_far = ap (λ c. c && none_of (drop (k + 1) all)) (sym (can a b some)) ∙ sym (ap none_of (drop_actor all k a there)) ∙ so_far
-
-pub none_over : (all : List Actor) (k : ℕ) (whole : Bool) → length all ≤ k → none_of (drop k all) ≡ whole → true ≡ whole
-none_over all k whole past so_far = sym (ap none_of (drop_of_length-le all past)) ∙ so_far
 
 pub same_after : (bound : Bound) (peers : List Peer) (k : ℕ) (x after : Peer) → x ≡ get_or peers k x → actor_of bound after.actor ≡ actor_of bound x.actor → actors_of bound (set peers k after) ≡ actors_of bound peers
 same_after bound peers k x after is same = map-set_same (λ (q : Peer). actor_of bound q.actor) peers k after x (same ∙ ap (λ (q : Peer). actor_of bound q.actor) is)

@@ -194,11 +194,3 @@ final_is v a can room calm e f g =
     final_by v a (cancellable (λ r. true) a.state.rx) room calm refl f g ∙ ap (λ b. only_if (b && room && calm) (with_state a (do_call a.state CancelFirst).1)) (sym e)
 
 -- ---- what is led to
-
-pub led_head : (a : Actor) (source : ℕ) (o : Option ItemHead) → led a (Ready.Head source o) ≡ option_map (λ h. with_state a (do_head a.state source h)) o
-led_head a source None = refl
-led_head a source (Some head) = refl
-
-pub led_tail : (a : Actor) (source : ℕ) (o : Option Item) → led a (Ready.Tail source o) ≡ option_map (λ i. with_state a (do_tail a.state source i.head i.bytes)) o
-led_tail a source None = refl
-led_tail a source (Some item) = refl

@@ -109,6 +109,3 @@ told_lists peers text lists e = by (lists_told peers (pieces_at 10 text)) refl e
     by : (o : Option (List (List Step))) → lists_told peers (pieces_at 10 text) ≡ o → if_as_many peers o ≡ Some lists → (lists_told peers (pieces_at 10 text) ≡ Some lists) × (length lists ≡ peers)
     by None is f = absurd (cc)
     by (Some all) is f = let both = counted all (eqb (length all) peers) refl f in (is ∙ ap Some both.0, both.1)
-
-pub told_traces : (peers : ℕ) (text : List ℕ) (lists : List (List Step)) → schedule_told peers text ≡ Some lists → traces text ≡ lists
-told_traces peers text lists e = lists_are peers text lists ((told_lists peers text lists e).0)

@@ -8,16 +8,6 @@ use Rattle.fab_quantum.proofs.Paths.{lives_append}
 use Rattle.fab_threads.specs.Pasts.{Past, past_of, ActedBy, Acted}
 use Rattle.fab_threads.proofs.Lists.{taken-append, posted-append, steps-append, ways-append}
 
--- what a peer lived, in the words of its past
-pub acted_lived : {Home : Type 0} (a b : Told Home) (acts : List Act) → Lived a b acts → ActedBy (past_of a) (past_of b) acts
-acted_lived a b acts lived = record {
-  lives = lived.lives;
-  steps = lived.schedule;
-  moves = lived.ported.moves;
-  outs = lived.ported.posted;
-  ins = lived.ported.taken;
-}
-
 moved_same : (o : Option (List Move)) → MovedBy o o []
 moved_same None = refl
 moved_same (Some l) = ([], ap Some (sym (append-nil l)), refl)

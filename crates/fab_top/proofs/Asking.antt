@@ -11,9 +11,6 @@ use Rattle.fab_workloads.specs.Commands.{payload_file, workload_of}
 use Rattle.fab_top.specs.Checking.{LeadsOn}
 use Rattle.fab_top.specs.Runs.{AskFor}
 
-pub names_none : (files : Files) (words : List (List ℕ)) (names : Option (List (List ℕ))) → LoadsOnly (AskFor files words) names names
-names_none files words names = loads_none (AskFor files words) names names refl
-
 pub names_script : (files : Files) (words : List (List ℕ)) (file : List ℕ) (a b : Option (List (List ℕ))) → script_file words ≡ Some file → LoadsOnly (LeadsTo files file) a b → LoadsOnly (AskFor files words) a b
 names_script files words file a b command loads = loads_as (LeadsTo files file) (AskFor files words) a b (λ name leads. inl (file, command, leads)) loads
 
