@@ -5,7 +5,6 @@ pub mod Files
 pub mod Filling
 pub mod Gets
 pub mod Judging
-pub mod Lists
 pub mod Meaning
 pub mod Multis
 pub mod Numerals
