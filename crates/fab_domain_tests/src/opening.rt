@@ -1,5 +1,5 @@
-//! Endpoints over lanes are named here alone: what is tested is generic.
-use crate::calls::registers;
+//! Endpoints over lanes are named where they are opened and closed: what is tested is generic.
+use crate::calls::{Calls, registers};
 use crate::rows::{Row, Sizes};
 use fab_base::{Api, Caps, Hints, Info};
 use fab_domain::{RingEndpoint, endpoints};
@@ -7,13 +7,6 @@ use fab_info::getinfo;
 use fab_mr::Regions;
 use std::alloc::Global;
 use std::test::Fail;
-
-/// The endpoints of two peers.
-#[derive(Drop)]
-struct Pair {
-    zero: RingEndpoint,
-    one: RingEndpoint,
-}
 
 /// All that is on offer, for two peers, with these sizes.
 fn granted(api: Api, sizes: Sizes) -> Option<Info> {
@@ -32,30 +25,37 @@ fn granted(api: Api, sizes: Sizes) -> Option<Info> {
     getinfo(api, Some(&hints)).ok()
 }
 
-/// The endpoints of all peers.
-fn opened(alloc: Global, info: &Info) -> Vec<RingEndpoint> {
-    match endpoints(alloc, info, false) {
-        Ok(all) => all,
+/// The endpoints of both peers of a row, in order.
+fn opened(alloc: Global, row: Row) -> Vec<RingEndpoint> {
+    let Some(info) = granted(row.api(), row.sizes()) else {
+        return Vec::new(alloc);
+    };
+    match endpoints(alloc, &info, false) {
+        Ok(both) => both,
         Err(_) => Vec::new(alloc),
     }
 }
 
-/// The last two of these endpoints.
-fn last_two(mut all: Vec<RingEndpoint>) -> Option<Pair> {
-    match (all.pop(), all.pop()) {
-        (Some(one), Some(zero)) => Some(Pair { zero, one }),
-        _ => None,
+/// Whether the row holds between these two.
+fn holds_between<E: Calls + Drop>(alloc: Global, row: Row, mut both: Vec<E>) -> bool {
+    match (both.pop(), both.pop()) {
+        (Some(mut one), Some(mut zero)) => row.holds(alloc, &mut zero, &mut one),
+        _ => false,
     }
 }
 
 /// Whether the row holds between two new endpoints.
 fn holds(alloc: Global, row: Row) -> bool {
-    let Some(info) = granted(row.api(), row.sizes()) else {
-        return false;
-    };
-    match last_two(opened(alloc, &info)) {
-        Some(mut pair) => row.holds(alloc, &mut pair.zero, &mut pair.one),
-        None => false,
+    holds_between(alloc, row, opened(alloc, row))
+}
+
+/// The last of these endpoints, once a region is registered with it.
+fn registered<E: Calls + Drop>(alloc: Global, mut both: Vec<E>) -> Option<E> {
+    let mut endpoint = both.pop()?;
+    if registers(alloc, &mut endpoint, 9, b"01234567") {
+        Some(endpoint)
+    } else {
+        None
     }
 }
 
@@ -65,22 +65,16 @@ fn has(regions: &Regions, bytes: &[u8]) -> bool {
 }
 
 /// Whether an endpoint that is closed gives back the region that was registered, and the addresses of both peers.
-fn gives_back(alloc: Global, mut pair: Pair) -> bool {
-    if !registers(alloc, &mut pair.one, 9, b"01234567") {
-        return false;
-    }
-    let closed = pair.one.close();
+fn gives_back(endpoint: RingEndpoint) -> bool {
+    let closed = endpoint.close();
     let known = (closed.av.index_of(0), closed.av.index_of(1)) == (Some(0), Some(1));
     known && has(&closed.regions, b"01234567")
 }
 
-/// The same of one of two new endpoints.
+/// The same of a new endpoint.
 fn new_gives_back(alloc: Global) -> bool {
-    let Some(info) = granted(Api::One, Row::Served.sizes()) else {
-        return false;
-    };
-    match last_two(opened(alloc, &info)) {
-        Some(pair) => gives_back(alloc, pair),
+    match registered(alloc, opened(alloc, Row::Served)) {
+        Some(endpoint) => gives_back(endpoint),
         None => false,
     }
 }

@@ -9,6 +9,8 @@ use std::sync::Wait;
 use std::thread::{Threads, join};
 
 const MESSAGES: u32 = 100_000;
+/// How many receives are posted ahead.
+const AHEAD: u32 = 16;
 
 /// Posts a receive of a message from the other peer, if a buffer is free. One that is refused for now stays free.
 fn post<E: Calls + Drop>(
@@ -24,15 +26,6 @@ fn post<E: Calls + Drop>(
     Ok(())
 }
 
-/// Sends a message to the other peer, and tells whether it is accepted, or refused for now.
-fn send<E: Calls + Drop>(endpoint: &mut EndpointOver<E>, other: u32) -> Result<bool, Fault> {
-    match endpoint.inject(other, b"8 bytes!", None) {
-        Ok(()) => Ok(true),
-        Err(Fault::Again(_)) => Ok(false),
-        Err(fault) => Err(fault),
-    }
-}
-
 /// The buffer of the next receive that is complete, if one is.
 fn receive<E: Calls + Drop>(endpoint: &mut EndpointOver<E>) -> Result<Option<Buf>, Fault> {
     let polled = endpoint.wait(100)?;
@@ -43,16 +36,6 @@ fn receive<E: Calls + Drop>(endpoint: &mut EndpointOver<E>) -> Result<Option<Buf
     }
 }
 
-/// Buffers for receives.
-fn buffers(alloc: Global) -> Result<Vec<Buf>, NoMemory> {
-    let mut free = Vec::new(alloc);
-    for _ in 0..16 {
-        let buf = Buf::zeros(alloc, 8)?;
-        free.push(buf)?;
-    }
-    Ok(free)
-}
-
 /// Sends and receives all messages, and gives how many came.
 fn run<R: Wait, E: Calls + Drop>(
     rt: &R,
@@ -60,15 +43,23 @@ fn run<R: Wait, E: Calls + Drop>(
     mut endpoint: EndpointOver<E>,
     other: u32,
 ) -> Result<u32, Fault> {
-    let mut free = buffers(alloc)?;
+    let mut free = Vec::new(alloc);
+    for _ in 0..AHEAD {
+        let buf = Buf::zeros(alloc, 8)?;
+        free.push(buf).map_err(|_| NoMemory)?;
+    }
     let (mut sent, mut came) = (0, 0);
     for _ in rt.forever() {
         if came == MESSAGES && sent == MESSAGES && endpoint.is_flushed() {
             break;
         }
         post(&mut endpoint, other, &mut free)?;
-        if sent < MESSAGES && send(&mut endpoint, other)? {
-            sent += 1;
+        if sent < MESSAGES {
+            match endpoint.inject(other, b"8 bytes!", None) {
+                Ok(()) => sent += 1,
+                Err(Fault::Again(_)) => {}
+                Err(fault) => return Err(fault),
+            }
         }
         if let Some(buf) = receive(&mut endpoint)? {
             came = came.saturating_add(1);
