@@ -24,8 +24,12 @@ use Rattle.fab_table.specs.Rule.{greatest}
 use Rattle.fab_table.specs.Plays.{most}
 use Rattle.fab_ring.specs.Tries.{raised, IsTried, IsSent, tried_out, sent_as}
 use Rattle.fab_ring.specs.Hands.{Comes}
-use Rattle.fab_ring.specs.Ports.{outgoing, incoming, frame_in, one_more, slot_of, slots_of}
+use Rattle.fab_ring.specs.declared.port.RingPort.{RingPort}
+use Rattle.fab_ring.specs.Ports.{outgoing, incoming, frame_in, one_more, slot_of, slots_of, part_of, moves_of, SamePort}
+use Rattle.fab_ring.specs.Looks.{Looked}
+use Rattle.fab_table.proofs.Orders.{greatest_more}
 use Rattle.fab_ring.proofs.Ends.{least_all}
+use Rattle.fab_ring.proofs.Trying.{one_up, raised_once}
 
 -- what `post` may have done
 module _ (p p' : Part) (d room pool : ℕ) (head : FrameHead) (bytes : List ℕ) where
@@ -60,6 +64,10 @@ pub record Posting (p p' : Part) (d room pool : ℕ) (head : FrameHead) (bytes :
   pub one_look : IsErrOf result LaneFull → (out_at p' d).full_seen ≡ (out_at p d).full_seen + 1
   pub no_look : result ≢ Err LaneFull → (out_at p' d).full_seen ≡ (out_at p d).full_seen
   pub one_round : IsErrOf result PoolFull → least (out_at p' d).tried ≡ least (out_at p d).tried + 1
+  pub one_try : (k : ℕ) → slice_index (out_at p' d).tried k ≤ slice_index (out_at p d).tried k + 1
+  pub next_number : OnOk result (greatest 0 p'.moves ≡ greatest 0 p.moves + 1)
+  pub others_known : (e : ℕ) → e ≢ d → out_at p' e ≡ out_at p e
+  pub incoming_known : p'.ins ≡ p.ins
 
 raised_all : (ts : List ℕ) → raised (length ts) ts ≡ one_more ts
 raised_all [] = refl
@@ -69,8 +77,14 @@ module _ (p p' : Part) (d : ℕ) (o : Out) (ms : List Move) (near : d < length p
   out_here : out_at p' d ≡ o
   out_here = ap (λ (z : Part). out_at z d) is ∙ get_or-set_same p.outs d o (new_out 0) near
 
+  known_out : (e : ℕ) → e ≢ d → out_at p' e ≡ out_at p e
+  known_out e ne = ap (λ (z : Part). out_at z e) is ∙ get_or-set_other p.outs d e o (new_out 0) ne
+
   others_out : (e : ℕ) → e ≢ d → outgoing (out_at p' e) ≡ outgoing (out_at p e)
-  others_out e ne = ap outgoing (ap (λ (z : Part). out_at z e) is ∙ get_or-set_other p.outs d e o (new_out 0) ne)
+  others_out e ne = ap outgoing (known_out e ne)
+
+  ins_out : p'.ins ≡ p.ins
+  ins_out = ap (λ (z : Part). z.ins) is
 
   into_out : ◌≡◌ {A = ℕ → Incoming} (λ s. incoming (in_at p' s)) (λ s. incoming (in_at p s))
   into_out = λ i s. incoming (in_at (is i) s)
@@ -98,6 +112,14 @@ sent_some o pool size slot ts f pos (inr t) = (t.0, t.1, t.2.0)
 sent_short : (o : Out) (pool size : ℕ) (slot : Option ℕ) (ts : List ℕ) (f : ℕ) → IsSent o pool size slot ts f → size ≤ 64 → (slot ≡ None) × (ts ≡ o.tried)
 sent_short o pool size slot ts f (inl t) short = (t.0, t.1)
 sent_short o pool size slot ts f (inr t) short = absurd (let long : 64 < size = t.3 in omega (arith, long, short))
+
+sent_once : (o : Out) (pool size : ℕ) (slot : Option ℕ) (ts : List ℕ) (f : ℕ) → IsSent o pool size slot ts f → (k : ℕ) → slice_index ts k ≤ slice_index o.tried k + 1
+sent_once o pool size slot ts f (inl t) k = subst (λ (z : List ℕ). slice_index z k ≤ slice_index o.tried k + 1) (sym t.1) (one_up (slice_index o.tried k))
+sent_once o pool size slot ts f (inr t) k = t.2.3 k
+
+-- one number further is the greatest
+greatest_next : (ms : List Move) (d : ℕ) → greatest 0 (ms ++ Post d (greatest 0 ms + 1) ∷ []) ≡ greatest 0 ms + 1
+greatest_next ms d = let e = greatest_more 0 ms (Post d (greatest 0 ms + 1)) in omega arith
 
 not_ok : {x : Unit {0}} {e : PostRefused} → Ok x ≡ Err e → ⊥
 not_ok e = cc
@@ -128,6 +150,10 @@ module _ (p p' : Part) (d room pool : ℕ) (head : FrameHead) (bytes : List ℕ)
         one_look = λ e. absurd (not_ok e);
         no_look = λ _. ap (λ (z : Out). z.full_seen) here;
         one_round = λ e. absurd (not_ok e);
+        one_try = λ k. subst (λ (z : Out). slice_index z.tried k ≤ slice_index o.tried k + 1) (sym here) (sent_once o pool (length bytes) s.1 s.2 s.3 s.6 k);
+        next_number = ap (greatest 0) (moves_out p p' d o' ms near s.7) ∙ greatest_next p.moves d;
+        others_known = known_out p p' d o' ms near s.7;
+        incoming_known = ins_out p p' d o' ms near s.7;
       }
 
   did_fill : DidFill p p' d room pool head bytes → Posting p p' d room pool head bytes (Err LaneFull)
@@ -150,6 +176,10 @@ module _ (p p' : Part) (d room pool : ℕ) (head : FrameHead) (bytes : List ℕ)
     one_look = λ _. ap (λ (z : Out). z.full_seen) here;
     no_look = λ ne. absurd (ne refl);
     one_round = λ e. absurd (cc);
+    one_try = λ k. subst (λ (z : Out). slice_index z.tried k ≤ slice_index o.tried k + 1) (sym here) (one_up (slice_index o.tried k));
+    next_number = tt;
+    others_known = known_out p p' d o' p.moves near s.2;
+    incoming_known = ins_out p p' d o' p.moves near s.2;
   }
 
   did_try : DidTry p p' d room pool head bytes → Posting p p' d room pool head bytes (Err PoolFull)
@@ -174,6 +204,10 @@ module _ (p p' : Part) (d room pool : ℕ) (head : FrameHead) (bytes : List ℕ)
         one_look = λ e. absurd (cc);
         no_look = λ _. ap (λ (z : Out). z.full_seen) here;
         one_round = λ _. ap (λ (z : Out). least z.tried) here ∙ up;
+        one_try = λ k. subst (λ (z : Out). slice_index z.tried k ≤ slice_index o.tried k + 1) (sym here) (subst (λ (z : List ℕ). slice_index z k ≤ slice_index o.tried k + 1) (sym s.6.0) (raised_once pool k o.tried));
+        next_number = tt;
+        others_known = known_out p p' d o' p.moves near s.7;
+        incoming_known = ins_out p p' d o' p.moves near s.7;
       }
 
   pub posting : (result : Result (Unit {0}) PostRefused) → OnOk result (DidSend p p' d room pool head bytes) → (IsErrOf result LaneFull → DidFill p p' d room pool head bytes) → (IsErrOf result PoolFull → DidTry p p' d room pool head bytes) → result ≢ Err NoMemory
@@ -191,6 +225,10 @@ pub record Fronting (p p' : Part) (s : ℕ) (result : Option FrameRef) : Type 0 
   pub others : (e : ℕ) → e ≢ s → incoming (in_at p' e) ≡ incoming (in_at p e)
   pub out : ◌≡◌ {A = ℕ → Outgoing} (λ d. outgoing (out_at p' d)) (λ d. outgoing (out_at p d))
   pub moves : Some p'.moves ≡ Some p.moves
+  pub one_look : result ≡ None → (in_at p' s).empty_seen ≡ (in_at p s).empty_seen + 1
+  pub no_look : result ≢ None → (in_at p' s).empty_seen ≡ (in_at p s).empty_seen
+  pub others_known : (e : ℕ) → e ≢ s → in_at p' e ≡ in_at p e
+  pub outgoing_known : p'.outs ≡ p.outs
 
 -- what `look` may have done
 abbrev pub DidLook : Part → Part → ℕ → Type 0
@@ -209,14 +247,24 @@ again p p' s x (Some f) opened comes same is = let here : in_at p' s ≡ in_at p
   others = λ e _. ap (λ (z : Part). incoming (in_at z e)) same;
   out = λ i d. outgoing (out_at (same i) d);
   moves = ap (λ (z : Part). Some z.moves) same;
+  one_look = λ e. absurd (none-some f (sym e));
+  no_look = λ _. ap (λ (z : In). z.empty_seen) here;
+  others_known = λ e _. ap (λ (z : Part). in_at z e) same;
+  outgoing_known = ap (λ (z : Part). z.outs) same;
 }
 
 module _ (p p' : Part) (s : ℕ) (u : In) (ms : List Move) (near : s < length p.ins) (is : p' ≡ with_in p s u ms) where
   pub in_here : in_at p' s ≡ u
   in_here = ap (λ (z : Part). in_at z s) is ∙ get_or-set_same p.ins s u new_in near
 
+  pub known_in : (e : ℕ) → e ≢ s → in_at p' e ≡ in_at p e
+  known_in e ne = ap (λ (z : Part). in_at z e) is ∙ get_or-set_other p.ins s e u new_in ne
+
   pub others_in : (e : ℕ) → e ≢ s → incoming (in_at p' e) ≡ incoming (in_at p e)
-  others_in e ne = ap incoming (ap (λ (z : Part). in_at z e) is ∙ get_or-set_other p.ins s e u new_in ne)
+  others_in e ne = ap incoming (known_in e ne)
+
+  pub outs_in : p'.outs ≡ p.outs
+  outs_in = ap (λ (z : Part). z.outs) is
 
   pub out_in : ◌≡◌ {A = ℕ → Outgoing} (λ d. outgoing (out_at p' d)) (λ d. outgoing (out_at p d))
   out_in = λ i d. outgoing (out_at (is i) d)
@@ -241,6 +289,10 @@ nothing_new p p' s None near closed did is = let u : In = in_at p s in let u' : 
   others = others_in p p' s u' p.moves near did;
   out = out_in p p' s u' p.moves near did;
   moves = ap (λ (z : Part). Some z.moves) did;
+  one_look = λ _. ap (λ (z : In). z.empty_seen) here;
+  no_look = λ ne. absurd (ne refl);
+  others_known = known_in p p' s u' p.moves near did;
+  outgoing_known = outs_in p p' s u' p.moves near did;
 }
 
 one_new : (p p' : Part) (s r : ℕ) (x : Sent) (result : Option FrameRef) → s < length p.ins → (in_at p s).opened ≡ None → MayCome (last_head None (frames_of (in_at p s).taken)) x.frame → p' ≡ with_in p s (saw_frame (in_at p s) r x) p.moves → lent_frames result ≡ (incoming (in_at p' s)).lent → Fronting p p' s result
@@ -252,6 +304,10 @@ one_new p p' s r x (Some f) near closed comes did is = let u : In = in_at p s in
   others = others_in p p' s u' p.moves near did;
   out = out_in p p' s u' p.moves near did;
   moves = ap (λ (z : Part). Some z.moves) did;
+  one_look = λ e. absurd (none-some f (sym e));
+  no_look = λ _. ap (λ (z : In). z.empty_seen) here;
+  others_known = known_in p p' s u' p.moves near did;
+  outgoing_known = outs_in p p' s u' p.moves near did;
 }
 
 fronting_by : (p p' : Part) (s : ℕ) (result : Option FrameRef) (o : Option Sent) → (in_at p s).opened ≡ o → s < length p.ins → Comes p → (IsSome (in_at p s).opened → p' ≡ p) → ((in_at p s).opened ≡ None → DidLook p p' s)
@@ -270,6 +326,23 @@ advancing u x e = let i : Incoming = incoming u in
 pub frame_opened : (o : Option Sent) → IsSome (frame_in o) → (x : Sent) × (o ≡ Some x)
 frame_opened None e = absurd (cc)
 frame_opened (Some x) e = (x, refl)
+
+-- the same, of the ports whose parts these are
+pub looking : (q n : RingPort) (s : ℕ) (result : Option FrameRef) → SamePort q n → (IsSome (in_at (part_of q) s).opened → n.seat ≡ q.seat) → Fronting (part_of q) (part_of n) s result → Looked q n s result
+looking q n s result same again all = record {
+  fronted = all.fronted;
+  others = all.others;
+  outgoing = all.out;
+  number = same.1;
+  peers = ap (λ t. t.peers) same.0;
+  home = same.0;
+  moves = same_Some (moves_of n) (moves_of q) all.moves;
+  one_look = all.one_look;
+  no_look = all.no_look;
+  again = λ l. again (subst IsSome (sym (frame_opened (in_at (part_of q) s).opened l).1) refl);
+  others_known = all.others_known;
+  outgoing_known = all.outgoing_known;
+}
 
 pub always_some : {A : Type 0} (o : Option A) → IfSome o (λ _. Unit {0})
 always_some None = tt

@@ -1,5 +1,5 @@
 -- Tries on slots from one on, and round.
-use Rattle.std.proofs.Common.{◌≡◌, ℕ, zero, suc, ◌+◌, ◌<◌, ◌≤◌, inl, inr, Bool, nat_lt, List, [], ◌∷◌, length, sym, refl, ap, ◌∙◌, subst, arith, length-set}
+use Rattle.std.proofs.Common.{◌≡◌, ℕ, zero, suc, ◌+◌, ◌<◌, ◌≤◌, inl, inr, Bool, nat_lt, List, [], ◌∷◌, length, sym, refl, ap, ◌∙◌, subst, arith, le_refl, length-set}
 use Rattle.std.specs.Prelude.{Some, None, slice_index, if◌then◌else◌}
 use Rattle.atomic_table.specs.Table.{rest}
 use Rattle.fab_table.specs.declared.kinds.Command.{Command}
@@ -58,6 +58,31 @@ round (suc a) zero ts le = absurd (let no_one : suc a ≤ 0 = le in omega arith)
 round (suc a) (suc n) [] le = refl
 round (suc a) (suc n) (t ∷ ts) le = ap (λ (z : List ℕ). (t + 1) ∷ z) (round a n ts (omega arith))
 
+-- at most one try on each slot
+pub one_up : (n : ℕ) → n ≤ n + 1
+one_up n = omega arith
+
+pub raised_once : (j k : ℕ) (ts : List ℕ) → slice_index (raised j ts) k ≤ slice_index ts k + 1
+raised_once zero k ts = one_up (slice_index ts k)
+raised_once (suc j) k [] = one_up (slice_index [] k)
+raised_once (suc j) zero (t ∷ ts) = le_refl (t + 1)
+raised_once (suc j) (suc k) (t ∷ ts) = raised_once j k ts
+
+between_once : (a b k : ℕ) (ts : List ℕ) → slice_index (between a b ts) k ≤ slice_index ts k + 1
+between_once zero b k ts = raised_once b k ts
+between_once (suc a) zero k ts = one_up (slice_index ts k)
+between_once (suc a) (suc b) k [] = one_up (slice_index [] k)
+between_once (suc a) (suc b) zero (t ∷ ts) = one_up t
+between_once (suc a) (suc b) (suc k) (t ∷ ts) = between_once a b k ts
+
+round_once : (j a n k : ℕ) (ts : List ℕ) → j ≤ a → slice_index (raised j (between a n ts)) k ≤ slice_index ts k + 1
+round_once zero a n k ts le = between_once a n k ts
+round_once (suc j) zero n k ts le = absurd (let no_one : suc j ≤ 0 = le in omega arith)
+round_once (suc j) (suc a) zero k ts le = raised_once (suc j) k ts
+round_once (suc j) (suc a) (suc n) k [] le = one_up (slice_index [] k)
+round_once (suc j) (suc a) (suc n) zero (t ∷ ts) le = le_refl (t + 1)
+round_once (suc j) (suc a) (suc n) (suc k) (t ∷ ts) le = round_once j a n k ts (omega arith)
+
 -- one try more
 pub tried_from_up : (o : Out) (a j : ℕ) (ts : List ℕ) (f : ℕ) → IsTriedFrom o a j ts f → a ≤ j → j < length o.tried → IsTriedFrom o a (j + 1) (tried_more ts j) (if nat_lt (least ts) (least (tried_more ts j)) then length o.posted else f)
 tried_from_up o a j ts f t le near = (ap (λ (z : List ℕ). tried_more z j) t.0 ∙ between_more a j o.tried le near ∙ ap (λ (n : ℕ). between a n o.tried) (let e : suc j ≡ j + 1 = omega arith in e), full_by o ts f j (nat_lt (least ts) (least (tried_more ts j))) refl t.1)
@@ -74,7 +99,12 @@ from_length o a b ts f t = ap length t.0 ∙ between_length a b o.tried
 
 -- a slot behind was free
 pub missed_behind : (o : Out) (a j : ℕ) (ts : List ℕ) (f : ℕ) → IsTriedFrom o a j ts f → a ≤ j → IsMissed o j ts f
-missed_behind o a j ts f t le = (ap (λ (z : List ℕ). slice_index z j) t.0 ∙ between_past a j o.tried le, ap length t.0 ∙ between_length a j o.tried, t.1)
+missed_behind o a j ts f t le = (
+  ap (λ (z : List ℕ). slice_index z j) t.0 ∙ between_past a j o.tried le,
+  ap length t.0 ∙ between_length a j o.tried,
+  t.1,
+  λ k. subst (λ (z : List ℕ). slice_index z k ≤ slice_index o.tried k + 1) (sym t.0) (between_once a j k o.tried),
+)
 
 -- none behind was, but one before
 pub missed_before : (o : Out) (a n j : ℕ) (ts us : List ℕ) (f g : ℕ) (w : Bool) → IsTriedFrom o a n ts f → IsTriedFrom (tried_out o ts f w None) 0 j us g → j < a → IsMissed o j us g
@@ -82,6 +112,7 @@ missed_before o a n j ts us f g w t u low = (
   ap (λ (z : List ℕ). slice_index z j) u.0 ∙ raised_past j ts ∙ ap (λ (z : List ℕ). slice_index z j) t.0 ∙ between_before a n j o.tried low,
   ap length u.0 ∙ raised_length j ts ∙ ap length t.0 ∙ between_length a n o.tried,
   counts_join o ts us f g w t.1 u.1,
+  λ k. subst (λ (z : List ℕ). slice_index z k ≤ slice_index o.tried k + 1) (sym (u.0 ∙ ap (raised j) t.0)) (round_once j a n k o.tried (omega arith)),
 )
 
 -- none at all

@@ -2,5 +2,6 @@ pub mod Tries
 pub mod Alone
 pub mod Hands
 pub mod Ports
+pub mod Looks
 pub mod Made
 pub mod Gather

@@ -3,9 +3,10 @@
 --     between a b ts        those after a try on each from the a-th to the one before the b-th did
 --     AreCounts o ts f      f is where the least of the counts ts last rose
 --     IsTried o j ts f      ts are the counts after the tries on the first j slots
---     IsMissed o j ts f     the j-th slot wasn't found taken
+--     AreOnce ts us         the counts us are those after at most one try on each slot
+--     IsMissed o j ts f     the j-th slot wasn't found taken, and no other was tried twice
 --     tried_out, posted_out, full_out ..    a lane after what one call did
-use Rattle.std.specs.Prelude.{◌≡◌, ℕ, zero, suc, ◌+◌, ◌<◌, ◌⊎◌, Bool, List, [], ◌∷◌, length, slice_index, Option, None}
+use Rattle.std.specs.Prelude.{◌≡◌, ℕ, zero, suc, ◌+◌, ◌<◌, ◌≤◌, ◌⊎◌, Bool, List, [], ◌∷◌, length, slice_index, Option, None}
 use Rattle.fab_base.specs.declared.frames.FrameHead.{FrameHead}
 use Rattle.fab_wire.specs.Frames.{frame}
 use Rattle.fab_table.specs.declared.kinds.Sent.{Sent}
@@ -32,8 +33,11 @@ IsTried o j ts f = (ts ≡ raised j o.tried) × AreCounts o ts f
 abbrev pub IsTriedFrom : Out → ℕ → ℕ → List ℕ → ℕ → Type 0
 IsTriedFrom o a b ts f = (ts ≡ between a b o.tried) × AreCounts o ts f
 
+abbrev pub AreOnce : List ℕ → List ℕ → Type 0
+AreOnce ts us = (k : ℕ) → slice_index us k ≤ slice_index ts k + 1
+
 abbrev pub IsMissed : Out → ℕ → List ℕ → ℕ → Type 0
-IsMissed o j ts f = (slice_index ts j ≡ slice_index o.tried j) × (length ts ≡ length o.tried) × AreCounts o ts f
+IsMissed o j ts f = (slice_index ts j ≡ slice_index o.tried j) × (length ts ≡ length o.tried) × AreCounts o ts f × AreOnce o.tried ts
 
 -- a lane with these counts, and this cell and slot in hand
 abbrev pub tried_out : Out → List ℕ → ℕ → Bool → Option ℕ → Out

@@ -1,8 +1,11 @@
 //! What the calls of a port do to what its seat knows.
-ghost use Rattle.std.specs.Prelude.{◌≡◌, ◌≢◌, ℕ, ◌+◌, ◌-◌, ◌*◌, ◌%◌, ◌<◌, ◌≤◌, ◌^◌, ◌⊎◌, true, false, List, [], ◌∷◌, ◌++◌, length, Option, None, Some, IsSome, IsErrOf, OnOk, Err};
+ghost use Rattle.std.specs.Prelude.{◌≡◌, ◌≢◌, ℕ, ◌+◌, ◌-◌, ◌*◌, ◌%◌, ◌<◌, ◌≤◌, ◌^◌, ◌⊎◌, true, false, List, [], ◌∷◌, ◌++◌, length, Option, None, Some, IsSome, IfSome, IsErrOf, OnOk, Err};
 ghost use Rattle.fab_wire.specs.declared.moves.Move.TheVariants.{Post, Take};
 ghost use Rattle.fab_wire.specs.Frames.{last_head, Continues, MayCome};
+ghost use Rattle.fab_link.specs.Meaning.{Rests, Gives};
 ghost use Rattle.fab_link.specs.Plain.{lent_frames};
+ghost use Rattle.std.specs.Borrow.{sem};
+ghost use Rattle.fab_ring.specs.Looks.{Looked};
 ghost use Rattle.fab_table.specs.declared.kinds.Sent.{Sent};
 ghost use Rattle.fab_table.specs.Views.{frames_of, out_at, in_at, with_out, with_in, saw_full, saw_room, posted_one, saw_empty, saw_frame, freed_one, taken_one};
 ghost use Rattle.fab_table.specs.Rule.{Repays};
@@ -154,11 +157,25 @@ impl RingPort {
 }
 
 impl RingPort {
+    ghost use Rattle.fab_ring.specs.contracts.port.RingPort.{the_row};
+
+    /// Lends the next frame of a peer, as [`Port::front`](fab_link::Port::front), which is this call. An answer
+    /// of `None` is that of one look; where a frame lies lent already, no step of the table is made.
+    pub fn front(&mut self, src: u32) -> Option<FrameRef<'_>>
+        requires below { src < peers_of self.old }
+        ensures gives { IfSome result (λ f. Gives (in_of self.old src) f) }
+        ensures lent { IsSome (in_of self.old src).lent → IsSome result }
+        ensures* after { sem 𝓛 (Rests the_row self.entry (λ new. Looked self.old new src result)) }
+    {
+        self.look(src);
+        self.lent(src)
+    }
+
     /// Looks for the next frame of a peer, where none is open.
     pub(crate) fn look(&mut self, src: u32)
         requires { src < peers_of self.old }
         ensures port { SamePort self.old self.new }
-        ensures same { IsSome (in_at (part_of self.old) src).opened → part_of self.new ≡ part_of self.old }
+        ensures again { IsSome (in_at (part_of self.old) src).opened → self.new.seat ≡ self.old.seat }
         ensures looked { (in_at (part_of self.old) src).opened ≡ None
             → (part_of self.new ≡ with_in (part_of self.old) src (saw_empty (in_at (part_of self.old) src) (length (in_at (part_of self.old) src).taken)) (part_of self.old).moves)
             ⊎ ((r : ℕ) × (x : Sent) × MayCome (last_head None (frames_of (in_at (part_of self.old) src).taken)) x.frame

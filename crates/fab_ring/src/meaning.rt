@@ -1,12 +1,13 @@
 //! The port's calls, in the words of all ports.
-ghost use Rattle.std.specs.Prelude.{◌≡◌, ◌≢◌, ℕ, ◌+◌, ◌<◌, ◌≤◌, ◌⊎◌, ◌++◌, ◌∷◌, [], length, true, None, Some, IsErrOf, OnOk, OnErr, Ok, Err, slice_index};
+ghost use Rattle.std.specs.Prelude.{◌≡◌, ◌≢◌, ℕ, ◌+◌, ◌<◌, ◌≤◌, ◌⊎◌, ◌++◌, ◌∷◌, [], length, true, None, Some, IsSome, IsErrOf, OnOk, OnErr, Ok, Err, slice_index};
 ghost use Rattle.fab_table.specs.declared.fabric.Fabric.{Fabric};
 ghost use Rattle.fab_base.specs.Counts.{Rose};
-ghost use Rattle.fab_wire.specs.declared.moves.Move.TheVariants.{Post};
+ghost use Rattle.fab_wire.specs.declared.moves.Move.TheVariants.{Post, Take};
 ghost use Rattle.fab_wire.specs.Frames.{frame, Continues};
-ghost use Rattle.fab_link.specs.Meaning.{Others, end_of, Noticed, Repays, GrewBy};
+ghost use Rattle.fab_link.specs.Meaning.{Others, end_of, Noticed, Repays, GrewBy, advanced};
+ghost use Rattle.fab_table.specs.Views.{out_at, in_at};
 ghost use Rattle.fab_table.specs.Plays.{most};
-ghost use Rattle.fab_ring.specs.Ports.{number_of, peers_of, room_of, pool_of, out_of, in_of, moves_of, table_of, got_seen, tries, slots, clock_of, one_more};
+ghost use Rattle.fab_ring.specs.Ports.{part_of, number_of, peers_of, room_of, pool_of, out_of, in_of, moves_of, table_of, got_seen, tries, slots, clock_of, one_more};
 
 use crate::port::RingPort;
 use fab_base::{FrameHead, FrameRef};
@@ -88,16 +89,40 @@ impl Port for RingPort {
         ensures one_look { IsErrOf result PostRefused.LaneFull → (out_of self.new dest).lane_full_seen ≡ (out_of self.old dest).lane_full_seen + 1 }
         ensures no_look { result ≢ Err PostRefused.LaneFull → (out_of self.new dest).lane_full_seen ≡ (out_of self.old dest).lane_full_seen }
         ensures one_round { IsErrOf result PostRefused.PoolFull → (out_of self.new dest).pool_full_seen ≡ (out_of self.old dest).pool_full_seen + 1 }
+
+        // Whatever the answer, no slot is tried twice.
+        ensures one_try { (j : ℕ) → slice_index (tries self.new dest) j ≤ slice_index (tries self.old dest) j + 1 }
+
+        // A frame's number is one more than the greatest that this port posted or took.
+        ensures next_number { OnOk result (clock_of self.new ≡ clock_of self.old + 1) }
+
+        // All that is known of the other lanes stays.
+        ensures others_known { (d : ℕ) → d ≢ dest → out_at (part_of self.new) d ≡ out_at (part_of self.old) d }
+        ensures incoming_known { (part_of self.new).ins ≡ (part_of self.old).ins }
     {
         self.send(dest, head, bytes)
     }
 
+    // `RingPort::front` says more.
     fn front(&mut self, src: u32) -> Option<FrameRef<'_>> {
-        self.look(src);
-        self.lent(src)
+        RingPort::front(self, src)
     }
 
-    fn advance(&mut self, src: u32) {
+    fn advance(&mut self, src: u32)
+        requires below { src < peers_of self.old }
+        requires lent { IsSome (in_of self.old src).lent }
+        ensures taken { in_of self.new src ≡ advanced (in_of self.old src) }
+        ensures moves { GrewBy (Take src) (Some (moves_of self.old)) (Some (moves_of self.new)) }
+        ensures others { Others src (in_of self.old) (in_of self.new) }
+        ensures outgoing { out_of self.new ≡ out_of self.old }
+        ensures number { number_of self.new ≡ number_of self.old }
+        ensures peers { peers_of self.new ≡ peers_of self.old }
+        ensures home { table_of self.new ≡ table_of self.old }
+
+        // All that is known of the other lanes stays.
+        ensures others_known { (s : ℕ) → s ≢ src → in_at (part_of self.new) s ≡ in_at (part_of self.old) s }
+        ensures outgoing_known { (part_of self.new).outs ≡ (part_of self.old).outs }
+    {
         self.take(src);
     }
 }

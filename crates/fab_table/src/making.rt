@@ -15,7 +15,11 @@ use std::alloc::Global;
 pub const SLOT_BYTES: u64 = 4096;
 
 /// A command of no frame.
-pub fn blank() -> Command {
+pub fn blank() -> Command
+    ensures number { result.number ≡ 0 }
+    ensures slot { result.slot ≡ None }
+    ensures len { result.head.len ≡ 0 }
+{
     let item = ItemHead {
         kind: Kind::Msg,
         op: 0,

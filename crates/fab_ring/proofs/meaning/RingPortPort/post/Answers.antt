@@ -95,6 +95,26 @@ returns-clause-one_round c = let q = c.args.self.now in let f = arc_value q.fabr
     let all = posting p (part_at n.seat.seat.me.0 0) d f.room f.pool c.args.head c.args.bytes.now (subst (λ (z : ℕ). d < z) (sym q.fits.all_outs) c.requires.below) (q.fits.each_put d c.requires.below).4 f.sized.7 c.send.result c.send.ensures.sent c.send.ensures.lane_full c.send.ensures.pool_full c.send.ensures.memory in
     all.one_round
 
+pub returns-clause-one_try : goal.returns-clause-one_try
+returns-clause-one_try c = let q = c.args.self.now in let f = arc_value q.fabric in let n = c.send.new.self in let d : ℕ = c.args.dest in let p : Part = part_at q.seat.seat.me.0 0 in
+    let all = posting p (part_at n.seat.seat.me.0 0) d f.room f.pool c.args.head c.args.bytes.now (subst (λ (z : ℕ). d < z) (sym q.fits.all_outs) c.requires.below) (q.fits.each_put d c.requires.below).4 f.sized.7 c.send.result c.send.ensures.sent c.send.ensures.lane_full c.send.ensures.pool_full c.send.ensures.memory in
+    all.one_try
+
+pub returns-clause-next_number : goal.returns-clause-next_number
+returns-clause-next_number c = let q = c.args.self.now in let f = arc_value q.fabric in let n = c.send.new.self in let d : ℕ = c.args.dest in let p : Part = part_at q.seat.seat.me.0 0 in
+    let all = posting p (part_at n.seat.seat.me.0 0) d f.room f.pool c.args.head c.args.bytes.now (subst (λ (z : ℕ). d < z) (sym q.fits.all_outs) c.requires.below) (q.fits.each_put d c.requires.below).4 f.sized.7 c.send.result c.send.ensures.sent c.send.ensures.lane_full c.send.ensures.pool_full c.send.ensures.memory in
+    all.next_number
+
+pub returns-clause-others_known : goal.returns-clause-others_known
+returns-clause-others_known c = let q = c.args.self.now in let f = arc_value q.fabric in let n = c.send.new.self in let d : ℕ = c.args.dest in let p : Part = part_at q.seat.seat.me.0 0 in
+    let all = posting p (part_at n.seat.seat.me.0 0) d f.room f.pool c.args.head c.args.bytes.now (subst (λ (z : ℕ). d < z) (sym q.fits.all_outs) c.requires.below) (q.fits.each_put d c.requires.below).4 f.sized.7 c.send.result c.send.ensures.sent c.send.ensures.lane_full c.send.ensures.pool_full c.send.ensures.memory in
+    all.others_known
+
+pub returns-clause-incoming_known : goal.returns-clause-incoming_known
+returns-clause-incoming_known c = let q = c.args.self.now in let f = arc_value q.fabric in let n = c.send.new.self in let d : ℕ = c.args.dest in let p : Part = part_at q.seat.seat.me.0 0 in
+    let all = posting p (part_at n.seat.seat.me.0 0) d f.room f.pool c.args.head c.args.bytes.now (subst (λ (z : ℕ). d < z) (sym q.fits.all_outs) c.requires.below) (q.fits.each_put d c.requires.below).4 f.sized.7 c.send.result c.send.ensures.sent c.send.ensures.lane_full c.send.ensures.pool_full c.send.ensures.memory in
+    all.incoming_known
+
 pub returns-clause-unlooked : goal.returns-clause-unlooked
 returns-clause-unlooked c = let q = c.args.self.now in let d : ℕ = c.args.dest in let p : Part = part_at q.seat.seat.me.0 0 in
     λ space few. c.send.ensures.unlooked (subst (λ (z : ℕ). z < (out_at p d).got_seen + (arc_value q.fabric).room) (sym (frames_length (out_at p d).posted)) space) few
