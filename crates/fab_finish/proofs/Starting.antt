@@ -87,8 +87,8 @@ start_tied conf k log_size most =
       repaid = λ d op below. tt;
     }
 
-pub opens_at : (conf : Conf) (k : ℕ) (lines : List Line) (p : Member) → p.endpoint.port ≡ port_of conf.peers k → p.endpoint.held ≡ start conf → p.endpoint.log ≡ [] → member_actor p ≡ newly conf lines → member_steps p ≡ [] → OpensAt conf k lines p
-opens_at conf k lines p port held log actor steps =
+pub opens_at : (conf : Conf) (k : ℕ) (lines : List Line) (p : Member) → p.endpoint.port ≡ port_of conf.peers k → p.endpoint.held ≡ start conf → p.endpoint.log ≡ [] → p.endpoint.log_size ≡ conf.info.log → member_actor p ≡ newly conf lines → member_steps p ≡ [] → OpensAt conf k lines p
+opens_at conf k lines p port held log log_size actor steps =
     let n = conf.peers in
     let fresh_lanes : (d : ℕ) → lane_at p.endpoint.port d ≡ fresh_lane None None = (λ d. ap (λ (q : Plain). lane_at q d) port ∙ fresh_at n k d) in
     record {
@@ -96,6 +96,7 @@ opens_at conf k lines p port held log actor steps =
       actor_is = actor;
       steps_are = steps;
       lanes = fresh_lanes;
+      log_size = log_size;
       own = record {
         log = log;
         counted = subst (λ (x : Living). IsCounted x) (λ i. record { held = sym held i; lines = p.lines.items; results = ap (λ (x : Actor). x.results) (sym actor) i; kept = ap (λ (x : Actor). x.kept) (sym actor) i })
@@ -125,10 +126,11 @@ pub record Opened (conf : Conf) (lists : List (List Line)) (n : ℕ) (ps : List 
   pub actors_are : actors ps ≡ map (first_actor conf lists) (upto n)
   pub schedules_are : schedules ps ≡ replicate n []
   pub numbers : (k : ℕ) (p : Member) → slice_get ps k ≡ Some p → p.endpoint.port.number ≡ k
+  pub log_sizes : (k : ℕ) (p : Member) → slice_get ps k ≡ Some p → p.endpoint.log_size ≡ conf.info.log
   pub own : (k : ℕ) (p : Member) → slice_get ps k ≡ Some p → IsOwn conf.peers (λ s. []) (λ d. []) p × ((d : ℕ) → lane_at p.endpoint.port d ≡ fresh_lane None None)
 
 pub opened_none : (conf : Conf) (lists : List (List Line)) → Opened conf lists 0 []
-opened_none conf lists = record { count = refl; actors_are = refl; schedules_are = refl; numbers = λ k p has. absurd (cc); own = λ k p has. absurd (cc) }
+opened_none conf lists = record { count = refl; actors_are = refl; schedules_are = refl; numbers = λ k p has. absurd (cc); log_sizes = λ k p has. absurd (cc); own = λ k p has. absurd (cc) }
 
 get_push : {X : Type 0} (xs : List X) (x y : X) (k : ℕ) → slice_get (xs ++ x ∷ []) k ≡ Some y → (slice_get xs k ≡ Some y) ⊎ ((x ≡ y) × (k ≡ length xs))
 get_push [] x y zero e = inr (cc, refl)
@@ -159,6 +161,10 @@ opened_more conf lists n ps p lines opened at is =
       numbers = λ k q has. elim (get_push ps p q k has) [
         | inl before ↦ opened.numbers k q before
         | inr last ↦ ap (λ (x : Member). x.endpoint.port.number) (sym last.0) ∙ at.number ∙ sym (last.1 ∙ opened.count)
+      ];
+      log_sizes = λ k q has. elim (get_push ps p q k has) [
+        | inl before ↦ opened.log_sizes k q before
+        | inr last ↦ ap (λ (x : Member). x.endpoint.log_size) (sym last.0) ∙ at.log_size
       ];
     }
 
@@ -197,6 +203,7 @@ module _ (conf : Conf) (lists : List (List Line)) (ps : List Member) (few : conf
       came = λ s r below. rw (fresh_lanes s r, fresh_lanes r s) refl;
     };
     numbers = all.numbers;
+    log_sizes = all.log_sizes;
     actors_are = all.actors_are;
     schedules_are = all.schedules_are ∙ ap (λ n. replicate n []) (sym all.count);
   }

@@ -114,11 +114,13 @@ pub record OpensAt (conf : Conf) (k : ℕ) (lines : List Line) (p : Member) : Ty
   pub actor_is : member_actor p ≡ newly conf lines
   pub steps_are : member_steps p ≡ []
   pub lanes : (d : ℕ) → lane_at p.endpoint.port d ≡ fresh_lane None None
+  pub log_size : p.endpoint.log_size ≡ conf.info.log
   pub own : IsOwn conf.peers (λ s. []) (λ d. []) p
 
 pub record Opens (conf : Conf) (lists : List (List Line)) (ps : List Member) : Type 0 where
   pub joined : IsJoined ps
   pub numbers : (k : ℕ) (p : Member) → slice_get ps k ≡ Some p → p.endpoint.port.number ≡ k
+  pub log_sizes : (k : ℕ) (p : Member) → slice_get ps k ≡ Some p → p.endpoint.log_size ≡ conf.info.log
   pub actors_are : actors ps ≡ opened conf lists
   pub schedules_are : schedules ps ≡ replicate (length ps) []
 
