@@ -1,10 +1,9 @@
 -- Operations that have not ended are those that are not transmitted and those that await an answer.
 use Rattle.std.proofs.Common.{◌≡◌, ◌+◌, Bool, true, false, not, cond, List, [], ◌∷◌, length, refl, arith}
-use Rattle.std.specs.Prelude.{count_by, ◌==◌}
-use Rattle.std.proofs.lemmas.Bool.{and_parts, eqb-true}
+use Rattle.std.specs.Prelude.{count_by}
 use Rattle.std.proofs.lemmas.List.Sums.{sum_by-cons}
 use Rattle.fab_model.specs.State.{State, awaits, deferred_count, in_use}
-use Rattle.fab_app.specs.Progresses.{awaiting_of, is_flushed}
+use Rattle.fab_app.specs.Progresses.{awaiting_of}
 
 count_both : {X : Type 0} (test : X → Bool) (xs : List X) → count_by test xs + count_by (λ x. not (test x)) xs ≡ length xs
 count_both test [] = refl
@@ -17,10 +16,5 @@ count_both {X = X} test (x ∷ xs) = by (test x) refl (count_both test xs)
 pub in_use_is : (s : State) → deferred_count s.tx + awaiting_of s ≡ in_use s.tx
 in_use_is s = let live = count_both (awaits s.tx) s.tx.live in omega (arith, live)
 
-pub none_in_use : (s : State) → is_flushed s ≡ true → in_use s.tx ≡ 0
-none_in_use s e =
-    let both = and_parts (deferred_count s.tx == 0) (awaiting_of s == 0) e in
-    let deferred = eqb-true (deferred_count s.tx) 0 both.0 in
-    let awaiting = eqb-true (awaiting_of s) 0 both.1 in
-    let all = in_use_is s in
-    omega (arith, all, deferred, awaiting)
+pub none_in_use : (s : State) → deferred_count s.tx ≡ 0 → awaiting_of s ≡ 0 → in_use s.tx ≡ 0
+none_in_use s deferred awaiting = let all = in_use_is s in omega (arith, all, deferred, awaiting)

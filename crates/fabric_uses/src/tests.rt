@@ -48,7 +48,7 @@ fn sends<E: Calls + Drop>(
     match Buf::copy(alloc, b"ping") {
         Ok(buf) => match send_or_keep(endpoint, dest, buf, 1) {
             None => accepted,
-            Some(back) => !accepted && back.as_slice() == b"ping",
+            Some(back) => !accepted && back.as_slice() == b"ping".as_slice(),
         },
         Err(_) => false,
     }
@@ -109,7 +109,7 @@ fn fills<E: Calls + Drop>(
     let waiting = one.inject(0, b"b", None).is_ok() && one.inject(0, b"c", None).is_ok();
     let full = is_full(alloc, one);
     let published = publishes(alloc, zero);
-    let back = withdraw(zero, 9).is_some_and(|buf| buf.as_slice() == b"mine");
+    let back = withdraw(zero, 9).is_some_and(|buf| buf.as_slice() == b"mine".as_slice());
     counted && waiting && full && published && back
 }
 

@@ -21,29 +21,31 @@ use crate::listing::{LINES, Test};
 use crate::opening::getinfo_test;
 use crate::steps::Verdict;
 use fabric::open;
+use std::alloc::Global;
 use std::io;
+use std::thread::Threads;
 
 /// How many peers the domains of fi_dom_test have.
 const SIZES: [u32; 4] = [1, 2, 5, 32];
 
 /// Opens a domain, and tries a test with its endpoints.
-fn tried(rt: &HostRuntime, test: Test) -> Verdict {
-    match open(rt.alloc(), &test.hints()) {
-        Ok(domain) => test.run(rt, rt.alloc(), domain.endpoints),
+fn tried<R: Threads + Sync>(rt: &R, alloc: Global, test: Test) -> Verdict {
+    match open(alloc, &test.hints()) {
+        Ok(domain) => test.run(rt, alloc, domain.endpoints),
         Err(_) => Err("a domain is opened"),
     }
 }
 
 /// Tries domains of each size.
-fn domains(rt: &HostRuntime) -> Verdict {
+fn domains<R: Threads + Sync>(rt: &R, alloc: Global) -> Verdict {
     for peers in SIZES {
-        tried(rt, Test::Dom(peers))?;
+        tried(rt, alloc, Test::Dom(peers))?;
     }
     Ok(())
 }
 
 /// Prints the line of a test.
-fn tells(rt: &HostRuntime, name: &str, verdict: Verdict) -> io::Result<()> {
+fn tells(rt: &impl Print, name: &str, verdict: Verdict) -> io::Result<()> {
     match verdict {
         Ok(()) => println!(rt; "{name} pass"),
         Err(what) => println!(rt; "{name} fails: {what}"),
@@ -52,9 +54,9 @@ fn tells(rt: &HostRuntime, name: &str, verdict: Verdict) -> io::Result<()> {
 
 fn main(rt: HostRuntime) -> io::Result<()> {
     tells(&rt, "fi_getinfo_test", getinfo_test())?;
-    tells(&rt, "fi_dom_test", domains(&rt))?;
+    tells(&rt, "fi_dom_test", domains(&rt, rt.alloc()))?;
     for (name, test) in LINES {
-        tells(&rt, name, tried(&rt, test))?;
+        tells(&rt, name, tried(&rt, rt.alloc(), test))?;
     }
     Ok(())
 }

@@ -227,7 +227,7 @@ fn lies<E: Calls + Drop>(zero: &mut EndpointOver<E>, at: u32, bytes: &[u8], len:
 fn is_release(entry: Entry) -> bool {
     match entry {
         Entry::Released { ctx, used, buf } => {
-            ctx == 9 && used == 14 && buf.as_slice() == b"onetwothirteen\0\0"
+            ctx == 9 && used == 14 && buf.as_slice() == b"onetwothirteen\0\0".as_slice()
         }
         _ => false,
     }

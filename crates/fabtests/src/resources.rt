@@ -17,7 +17,7 @@ fn refusal<E: Calls + Drop>(alloc: Global, zero: &mut EndpointOver<E>) -> Option
     match zero.recv(None, buf, 9) {
         Ok(()) => None,
         Err(refused) => {
-            if refused.buf.as_slice() == b"!" {
+            if refused.buf.as_slice() == b"!".as_slice() {
                 Some(refused.why)
             } else {
                 None
