@@ -5,3 +5,4 @@ pub mod Late
 pub mod Taking
 pub mod Polling
 pub mod Retries
+pub mod Ended

@@ -1,6 +1,6 @@
 //! Progress, and how much is under way (FI_PROGRESS_MANUAL of fi_domain(3)): nothing moves unless a call is made.
 ghost use Rattle.std.specs.Prelude.{◌≡◌, ◌&&◌, ◌==◌, IfOk, IsTrue, true};
-ghost use Rattle.fab_model.specs.State.{deferred_count};
+ghost use Rattle.fab_model.specs.State.{deferred_count, in_use};
 ghost use Rattle.fab_app.specs.Cleared.{cleared};
 ghost use Rattle.fab_app.specs.Progresses.{Moves, NextOf, Progresses, awaiting_of, is_flushed};
 
@@ -58,9 +58,17 @@ impl<E: Calls + Drop> Endpoint<E> {
         self.inner.deferred()
     }
 
+    /// How many operations have not ended: those that are not transmitted, and those that await an answer.
+    pub fn under_way(&self) -> u64
+        ensures { result ≡ in_use (E.seen self.now).held.state.tx }
+    {
+        u64::from(self.deferred()) + u64::from(self.awaiting())
+    }
+
     /// Whether no operation is under way: each that was accepted is transmitted and, where it asks for one, answered.
     pub fn is_flushed(&self) -> bool
-        ensures { result ≡ is_flushed (E.seen self.now).held.state }
+        ensures flushed { result ≡ is_flushed (E.seen self.now).held.state }
+        ensures ended { IsTrue result → in_use (E.seen self.now).held.state.tx ≡ 0 }
     {
         self.deferred() == 0 && self.awaiting() == 0
     }
@@ -70,6 +78,7 @@ impl<E: Calls + Drop> Endpoint<E> {
     pub fn flush(&mut self, times: u32) -> Result<bool, NoMemory>
         ensures moved { Progresses (E.seen self.old) (E.seen self.new) }
         ensures done { IfOk result (λ done. done ≡ is_flushed (E.seen self.new).held.state) }
+        ensures ended { IfOk result (λ done. IsTrue done → in_use (E.seen self.new).held.state.tx ≡ 0) }
     {
         'times: for _time in 0..times {
             if self.is_flushed() {

@@ -8,10 +8,13 @@ ghost use Rattle.fab_model.specs.State.{tally_of};
 ghost use Rattle.fab_model.specs.Calls.{Remove, is_peer};
 ghost use Rattle.fab_face.specs.Held.{with_machine};
 ghost use Rattle.fab_face.specs.Answers.{Inserts, Locally, adding};
+ghost use Rattle.fab_app.specs.Progresses.{Progresses};
 
 use crate::endpoint::{Calls, Endpoint};
+use crate::moving::BUDGET;
 use fab_av::InsertReport;
 use fab_base::{Class, Fault, NoMemory, Text};
+use std::thread;
 
 impl<E: Calls + Drop> Endpoint<E> {
     /// How many operations of the class succeeded (fi_cntr_read). It stays at 2^64 - 1.
@@ -33,6 +36,22 @@ impl<E: Calls + Drop> Endpoint<E> {
         ensures { result ≡ nat_le n (tally_of (E.seen self.now).held.state.counters class).ok }
     {
         self.inner.cntr_reached(class, n)
+    }
+
+    /// Makes progress until so many operations of the class succeeded, at most so many times, lets other threads run
+    /// between, and tells whether they did (fi_cntr_wait). Where the completion queue is full it has to be read before more can end.
+    pub fn cntr_wait(&mut self, class: Class, n: u64, times: u32) -> Result<bool, NoMemory>
+        ensures moved { Progresses (E.seen self.old) (E.seen self.new) }
+        ensures done { IfOk result (λ done. done ≡ nat_le n (tally_of (E.seen self.new).held.state.counters class).ok) }
+    {
+        'times: for _time in 0..times {
+            if self.cntr_reached(class, n) {
+                return Ok(true);
+            }
+            self.progress(BUDGET)?;
+            thread::yield_now();
+        }
+        Ok(self.cntr_reached(class, n))
     }
 
     /// Adds to the successes of the class (fi_cntr_add).

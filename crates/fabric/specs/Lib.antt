@@ -16,6 +16,9 @@ pub use Rattle.fab_domain.specs.Seen
 pub use Rattle.fab_model.specs.Calls
 pub use Rattle.fab_model.specs.State
 pub use Rattle.fab_model.specs.Sending
+pub use Rattle.fab_model.specs.Complete
+pub use Rattle.fab_model.specs.Arrivals
+pub use Rattle.fab_model.specs.Target
 pub use Rattle.fab_model.specs.Receiving
 pub use Rattle.fab_model.specs.Matching
 pub use Rattle.fab_model.specs.Peers

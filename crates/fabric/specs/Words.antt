@@ -10,4 +10,17 @@ pub use Rattle.fab_base.specs.declared.entries.Taken.TheVariants.{Success, Failu
 pub use Rattle.fab_base.specs.declared.entries.PeekHow.TheVariants.{Peek, Claim, Discard}
 pub use Rattle.fab_base.specs.declared.peers.Level.TheVariants.{Inject, Transmit, Delivery}
 pub use Rattle.fab_base.specs.declared.peers.LineResult.TheVariants.{Done, Bytes}
+pub use Rattle.fab_base.specs.declared.entries.Entry.TheVariants.{Received}
+pub use Rattle.fab_base.specs.declared.faults.Fault.{Fault}
+pub use Rattle.fab_base.specs.declared.faults.Fault.TheVariants.{Again, NoMemory, NoData, Invalid, NoKey, Range, MsgSize, NotSupported, NoEntry, Avail}
+pub use Rattle.fab_base.specs.declared.faults.Busy.{Busy}
+pub use Rattle.fab_base.specs.declared.faults.Busy.TheVariants.{TxFull, PostedFull, CqFull, LogFull}
+pub use Rattle.fab_base.specs.declared.items.Access.{Access}
+pub use Rattle.fab_base.specs.declared.peers.LineResult.{LineResult}
+pub use Rattle.fab_base.specs.declared.peers.LineResult.TheVariants.{Refused}
+pub use Rattle.fab_app.specs.declared.completions.Polled.{Polled}
+pub use Rattle.fab_base.specs.declared.operations.Receive.{Receive}
+pub use Rattle.fab_base.specs.declared.operations.Arrival.{Arrival}
+pub use Rattle.fab_base.specs.declared.operations.Coming.TheVariants.{Into}
+pub use Rattle.fab_face.specs.declared.probing.Probed.{Probed}
 pub use Rattle.fab_table.specs.declared.fabric.Fabric.{Fabric}

@@ -1,0 +1,5 @@
+use Rattle.fab_app.specs.Progresses.{Progresses}
+use Rattle.fab_app.proofs.endpoint.Endpoint.cntr_wait.Given as goal
+
+abbrev pub invariant-times : goal.invariant-times
+invariant-times g l = Progresses (g.E.Sees.seen l.fn.self) (g.E.Sees.seen l.self)

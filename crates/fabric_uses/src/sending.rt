@@ -1,0 +1,48 @@
+//! Messages that go out.
+ghost use Rattle.std.specs.Prelude.{◌≡◌, ◌≤◌, None, true, false, OnOk, IfSome, EachIndex, slice_index};
+ghost use Rattle.fabric.specs.Answers.{Sends};
+ghost use Rattle.fabric.specs.Calls.{message};
+ghost use Rattle.fabric.specs.Cleared.{cleared};
+ghost use Rattle.fabric.specs.State.{in_use};
+ghost use Rattle.fabric.specs.Words.{Inject, Msg};
+
+use fabric::{Buf, Busy, COMPLETES, Calls, EndpointOver, Fault, Refused};
+
+/// Sends a copy of the bytes, and wipes them at once: they are free.
+pub fn inject_and_wipe<E: Calls + Drop>(
+    endpoint: &mut EndpointOver<E>,
+    dest: u32,
+    bytes: &mut [u8],
+) -> Result<(), Fault>
+    ensures sent { OnOk result (Sends E.fixed (message Msg None dest 0 bytes.old None Inject false false) dest (cleared (E.seen endpoint.old)) (E.seen endpoint.new)) }
+    ensures wiped { EachIndex bytes.new (λ k. slice_index bytes.new k ≡ 0) }
+{
+    let answer = endpoint.inject(dest, bytes, None);
+    bytes.fill(0);
+    answer
+}
+
+/// Sends a message, and tells how many operations there may be where it is refused for now. A message is so for one reason
+/// alone: that many are under way. No call answers that the log is full.
+pub fn most_under_way<E: Calls + Drop>(
+    endpoint: &mut EndpointOver<E>,
+    dest: u32,
+    buf: Buf,
+    ctx: u64,
+) -> Option<u32>
+    ensures most { IfSome result (λ most. most ≡ (E.seen endpoint.new).held.state.most_tx) }
+    ensures full { IfSome result (λ most. most ≤ in_use (E.seen endpoint.new).held.state.tx) }
+{
+    match endpoint.send(dest, buf, None, ctx, COMPLETES) {
+        Err(
+            Refused {
+                why: Fault::Again(busy),
+                ..
+            },
+        ) => match busy {
+            Busy::TxFull(most) => Some(most),
+            Busy::PostedFull(_) | Busy::CqFull(_) | Busy::LogFull(_) => unreachable!(),
+        },
+        _ => None,
+    }
+}
