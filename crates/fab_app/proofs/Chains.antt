@@ -38,9 +38,9 @@ module _ {Home : Type 0} where
   }
 
   -- one more progress
-  pub progressed_on : (a b mid c : Seen Home) (budget : ℕ) (moved : Result Moved NoMemory) → Progresses a b → mid ≡ cleared b → Progressed budget mid c moved → Progresses a c
-  progressed_on a b mid c budget moved p is q =
-      let r : Progressed budget (cleared b) c moved = subst (λ (x : Seen Home). Progressed budget x c moved) is q in
+  pub progressed_on : (fixed : Bool) (a b mid c : Seen Home) (budget : ℕ) (moved : Result Moved NoMemory) → Progresses a b → mid ≡ cleared b → Progressed fixed budget mid c moved → Progresses a c
+  progressed_on fixed a b mid c budget moved p is q =
+      let r : Progressed fixed budget (cleared b) c moved = subst (λ (x : Seen Home). Progressed fixed budget x c moved) is q in
       then_more a b c p (record { acts = r.acts; moves = r.moves; goes = r.went.goes; ported = r.went.ported; size = r.went.size })
 
   -- one more transmit call that was refused
@@ -49,5 +49,5 @@ module _ {Home : Type 0} where
       let moves = posts_move r.acts r.push in
       then_more a b c p (record { acts = r.acts; moves = moves; goes = goes_none (Some call) r.acts b.held c.held moves r.went.goes; ported = r.went.ported; size = r.went.size })
 
-  pub moved_on : (a b c : Seen Home) (budget : ℕ) (answer : Result Next NoMemory) → Progresses a b → Moves budget (cleared b) c answer → Progresses a c
-  moved_on a b c budget answer p m = progressed_on a b (cleared b) c budget m.moved p refl m.progressed
+  pub moved_on : (fixed : Bool) (a b c : Seen Home) (budget : ℕ) (answer : Result Next NoMemory) → Progresses a b → Moves fixed budget (cleared b) c answer → Progresses a c
+  moved_on fixed a b c budget answer p m = progressed_on fixed a b (cleared b) c budget m.moved p refl m.progressed

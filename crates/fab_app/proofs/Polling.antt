@@ -1,5 +1,5 @@
 -- What a progress tells, and a poll where there is no completion.
-use Rattle.std.proofs.Common.{◌≡◌, ◌≢◌, ◌<◌, ℕ, false, [], ◌++◌, length, append-nil, Option, Some, None, Result, Ok, Err, refl, sym, ap, ◌∙◌, subst, arith}
+use Rattle.std.proofs.Common.{◌≡◌, ◌≢◌, ◌<◌, ℕ, Bool, false, [], ◌++◌, length, append-nil, Option, Some, None, Result, Ok, Err, refl, sym, ap, ◌∙◌, subst, arith}
 use Rattle.std.specs.Prelude.{count_by, IfSome, IfNone}
 use Rattle.fab_base.specs.declared.entries.Taken.{Taken}
 use Rattle.fab_base.specs.declared.entries.Taken.TheVariants.{Success, Failure}
@@ -20,58 +20,58 @@ use Rattle.fab_app.proofs.Chains.{progressed_on}
 use Rattle.fab_app.specs.Polls.{Polls, PollsAs, HasNone, told_of, has_come, EndsPoll, PollsFrom}
 
 module _ {Home : Type 0} where
-  pub moved_some : (budget : ℕ) (old mid : Seen Home) (moved : Moved) → 0 < budget → (p : Progressed budget old mid (Ok moved)) → moved.stop ≡ Budget → p.acts ≢ []
-  moved_some budget old mid moved some p stop none =
+  pub moved_some : (fixed : Bool) (budget : ℕ) (old mid : Seen Home) (moved : Moved) → 0 < budget → (p : Progressed fixed budget old mid (Ok moved)) → moved.stop ≡ Budget → p.acts ≢ []
+  moved_some fixed budget old mid moved some p stop none =
       let (taken, posted, (spent, back), why) = p.counted in
       let sum = spent stop in
       let t = taken ∙ ap (count_by is_take) none in
       let q = posted ∙ ap (count_by is_post) none in
       omega (arith, sum, t, q, some)
 
-  pub short_some : (budget : ℕ) (old mid : Seen Home) (moved : Moved) → IsOpen old → old.log ≡ [] → (p : Progressed budget old mid (Ok moved)) → IsShort mid → p.acts ≢ []
-  short_some budget old mid moved opened none p short empty =
+  pub short_some : (fixed : Bool) (budget : ℕ) (old mid : Seen Home) (moved : Moved) → IsOpen old → old.log ≡ [] → (p : Progressed fixed budget old mid (Ok moved)) → IsShort mid → p.acts ≢ []
+  short_some fixed budget old mid moved opened none p short empty =
       let four = opened.log in
       let l = ap length (p.went.log ∙ ap (λ acts. old.log ++ events acts) empty ∙ append-nil old.log ∙ none) in
       let s = p.went.size in
       omega (arith, four, l, s, short)
 
-  by_stop : (budget : ℕ) (old mid new : Seen Home) (moved : Moved) → IsOpen old → IsOpen mid → old.log ≡ [] → (p : Progressed budget old mid (Ok moved)) → HasNone mid new
+  by_stop : (fixed : Bool) (budget : ℕ) (old mid new : Seen Home) (moved : Moved) → IsOpen old → IsOpen mid → old.log ≡ [] → (p : Progressed fixed budget old mid (Ok moved)) → HasNone mid new
       → (stop : Stop) → moved.stop ≡ stop → PollsAs budget old mid new p.acts (Ok moved) (Ok (told_of stop))
-  by_stop budget old mid new moved opened sound none p has StoppedIdle stop = (has, (rw stop at p.counted.3))
-  by_stop budget old mid new moved opened sound none p has Budget stop = (has, λ some. moved_some budget old mid moved some p stop)
-  by_stop budget old mid new moved opened sound none p has CqFull stop =
+  by_stop fixed budget old mid new moved opened sound none p has StoppedIdle stop = (has, (rw stop at p.counted.3))
+  by_stop fixed budget old mid new moved opened sound none p has Budget stop = (has, λ some. moved_some fixed budget old mid moved some p stop)
+  by_stop fixed budget old mid new moved opened sound none p has CqFull stop =
       let back : IsHeldBack old mid = (rw stop at p.counted.3) in
       absurd (never_held old mid back (none_unread mid sound has.1) sound.cq)
-  by_stop budget old mid new moved opened sound none p has LogFull stop = (has, λ some. short_some budget old mid moved opened none p (rw stop at p.counted.3))
+  by_stop fixed budget old mid new moved opened sound none p has LogFull stop = (has, λ some. short_some fixed budget old mid moved opened none p (rw stop at p.counted.3))
 
-  pub polls_none : (budget : ℕ) (old mid new : Seen Home) (moved : Result Moved NoMemory) (answer : Result Polled NoMemory) → IsOpen old → IsOpen mid → old.log ≡ []
-      → Progressed budget old mid moved → HasNone mid new → EndsPoll moved answer → Polls budget old new answer
-  polls_none budget old mid new (Ok moved) answer opened sound none p has ends =
-      record { mid = mid; moved = Ok moved; progressed = p; told = rw ends (by_stop budget old mid new moved opened sound none p has moved.stop refl) }
-  polls_none budget old mid new (Err lacks) answer opened sound none p has ends =
+  pub polls_none : (fixed : Bool) (budget : ℕ) (old mid new : Seen Home) (moved : Result Moved NoMemory) (answer : Result Polled NoMemory) → IsOpen old → IsOpen mid → old.log ≡ []
+      → Progressed fixed budget old mid moved → HasNone mid new → EndsPoll moved answer → Polls fixed budget old new answer
+  polls_none fixed budget old mid new (Ok moved) answer opened sound none p has ends =
+      record { mid = mid; moved = Ok moved; progressed = p; told = rw ends (by_stop fixed budget old mid new moved opened sound none p has moved.stop refl) }
+  polls_none fixed budget old mid new (Err lacks) answer opened sound none p has ends =
       record { mid = mid; moved = Err lacks; progressed = p; told = rw ends (has, refl) }
 
-  pub polls_from : (budget : ℕ) (old mid new : Seen Home) (moved : Result Moved NoMemory) (first : Option Taken) (answer : Result Polled NoMemory) → IsOpen old → IsOpen mid → old.log ≡ []
-      → Progressed budget old mid moved → IfSome first (λ entry. Pops entry mid new) → IfNone first (HasNone mid new) → PollsFrom first moved answer → Polls budget old new answer
-  polls_from budget old mid new moved None answer opened sound none p pops has from = polls_none budget old mid new moved answer opened sound none p has from
-  polls_from budget old mid new moved (Some (Success entry)) answer opened sound none p pops has from = record { mid = mid; moved = moved; progressed = p; told = rw from pops }
-  polls_from budget old mid new moved (Some (Failure entry)) answer opened sound none p pops has from = record { mid = mid; moved = moved; progressed = p; told = rw from pops }
+  pub polls_from : (fixed : Bool) (budget : ℕ) (old mid new : Seen Home) (moved : Result Moved NoMemory) (first : Option Taken) (answer : Result Polled NoMemory) → IsOpen old → IsOpen mid → old.log ≡ []
+      → Progressed fixed budget old mid moved → IfSome first (λ entry. Pops entry mid new) → IfNone first (HasNone mid new) → PollsFrom first moved answer → Polls fixed budget old new answer
+  polls_from fixed budget old mid new moved None answer opened sound none p pops has from = polls_none fixed budget old mid new moved answer opened sound none p has from
+  polls_from fixed budget old mid new moved (Some (Success entry)) answer opened sound none p pops has from = record { mid = mid; moved = moved; progressed = p; told = rw from pops }
+  polls_from fixed budget old mid new moved (Some (Failure entry)) answer opened sound none p pops has from = record { mid = mid; moved = moved; progressed = p; told = rw from pops }
 
-  by_next : (budget : ℕ) (old new : Seen Home) (moved : Moved) → IsOpen old → old.log ≡ [] → (p : Progressed budget old new (Ok moved)) → (stop : Stop) → moved.stop ≡ stop → MovesAs budget old new p.acts (Ok (next_of stop))
-  by_next budget old new moved opened none p StoppedIdle stop = (rw stop at p.counted.3)
-  by_next budget old new moved opened none p Budget stop = λ some. moved_some budget old new moved some p stop
-  by_next budget old new moved opened none p CqFull stop = (rw stop at p.counted.3)
-  by_next budget old new moved opened none p LogFull stop = λ some. short_some budget old new moved opened none p (rw stop at p.counted.3)
+  by_next : (fixed : Bool) (budget : ℕ) (old new : Seen Home) (moved : Moved) → IsOpen old → old.log ≡ [] → (p : Progressed fixed budget old new (Ok moved)) → (stop : Stop) → moved.stop ≡ stop → MovesAs budget old new p.acts (Ok (next_of stop))
+  by_next fixed budget old new moved opened none p StoppedIdle stop = (rw stop at p.counted.3)
+  by_next fixed budget old new moved opened none p Budget stop = λ some. moved_some fixed budget old new moved some p stop
+  by_next fixed budget old new moved opened none p CqFull stop = (rw stop at p.counted.3)
+  by_next fixed budget old new moved opened none p LogFull stop = λ some. short_some fixed budget old new moved opened none p (rw stop at p.counted.3)
 
-  pub moves_from : (budget : ℕ) (old new : Seen Home) (moved : Result Moved NoMemory) (answer : Result Next NoMemory) → IsOpen old → old.log ≡ [] → Progressed budget old new moved → NextOf moved answer → Moves budget old new answer
-  moves_from budget old new (Ok moved) answer opened none p next =
-      record { moved = Ok moved; progressed = p; told = rw next (by_next budget old new moved opened none p moved.stop refl) }
-  moves_from budget old new (Err lacks) answer opened none p next = record { moved = Err lacks; progressed = p; told = rw next tt }
+  pub moves_from : (fixed : Bool) (budget : ℕ) (old new : Seen Home) (moved : Result Moved NoMemory) (answer : Result Next NoMemory) → IsOpen old → old.log ≡ [] → Progressed fixed budget old new moved → NextOf moved answer → Moves fixed budget old new answer
+  moves_from fixed budget old new (Ok moved) answer opened none p next =
+      record { moved = Ok moved; progressed = p; told = rw next (by_next fixed budget old new moved opened none p moved.stop refl) }
+  moves_from fixed budget old new (Err lacks) answer opened none p next = record { moved = Err lacks; progressed = p; told = rw next tt }
 
   -- a poll that found none is progress
-  pub polls_on : (budget : ℕ) (a b c : Seen Home) (answer : Result Polled NoMemory) → Progresses a b → Polls budget (cleared b) c answer → has_come answer ≡ false → Progresses a c
-  polls_on budget a b c (Ok (Entry entry)) p q none = absurd (cc)
-  polls_on budget a b c (Ok (Error entry)) p q none = absurd (cc)
-  polls_on budget a b c (Err lacks) p q none = absurd (cc)
-  polls_on budget a b c (Ok Idle) p q none = subst (λ (x : Seen Home). Progresses a x) (sym q.told.0.0) (progressed_on a b (cleared b) q.mid budget q.moved p refl q.progressed)
-  polls_on budget a b c (Ok More) p q none = subst (λ (x : Seen Home). Progresses a x) (sym q.told.0.0) (progressed_on a b (cleared b) q.mid budget q.moved p refl q.progressed)
+  pub polls_on : (fixed : Bool) (budget : ℕ) (a b c : Seen Home) (answer : Result Polled NoMemory) → Progresses a b → Polls fixed budget (cleared b) c answer → has_come answer ≡ false → Progresses a c
+  polls_on fixed budget a b c (Ok (Entry entry)) p q none = absurd (cc)
+  polls_on fixed budget a b c (Ok (Error entry)) p q none = absurd (cc)
+  polls_on fixed budget a b c (Err lacks) p q none = absurd (cc)
+  polls_on fixed budget a b c (Ok Idle) p q none = subst (λ (x : Seen Home). Progresses a x) (sym q.told.0.0) (progressed_on fixed a b (cleared b) q.mid budget q.moved p refl q.progressed)
+  polls_on fixed budget a b c (Ok More) p q none = subst (λ (x : Seen Home). Progresses a x) (sym q.told.0.0) (progressed_on fixed a b (cleared b) q.mid budget q.moved p refl q.progressed)

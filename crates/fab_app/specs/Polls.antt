@@ -1,6 +1,6 @@
 -- A poll: progress, and then the first completion.
---     Polls budget old new answer
---     Waits old new answer      polls that found none, and then one more
+--     Polls fixed budget old new answer
+--     Waits fixed budget old new answer      polls that found none, and then one more
 use Rattle.std.specs.Prelude.{◌≡◌, Bool, true, false, ℕ, ◌≢◌, ◌<◌, List, [], Option, Some, None, Result, Ok, Err}
 use Rattle.fab_base.specs.declared.entries.Taken.TheVariants.{Success, Failure}
 use Rattle.fab_base.specs.declared.entries.Taken.{Taken}
@@ -28,17 +28,17 @@ PollsAs budget old mid new acts moved (Ok Idle) = HasNone mid new × IsIdle old 
 PollsAs budget old mid new acts moved (Ok More) = HasNone mid new × (0 < budget → acts ≢ [])
 PollsAs budget old mid new acts moved (Err lacks) = HasNone mid new × (moved ≡ Err lacks)
 
-pub record Polls {Home : Type 0} (budget : ℕ) (old new : Seen Home) (answer : Result Polled NoMemory) : Type 0 where
+pub record Polls {Home : Type 0} (fixed : Bool) (budget : ℕ) (old new : Seen Home) (answer : Result Polled NoMemory) : Type 0 where
   pub mid : Seen Home
   pub moved : Result Moved NoMemory
-  pub progressed : Progressed budget old mid moved
+  pub progressed : Progressed fixed budget old mid moved
   pub told : PollsAs budget old mid new progressed.acts moved answer
 
 -- progress of earlier polls, which found no completion, and then a poll
-pub record Waits {Home : Type 0} (budget : ℕ) (old new : Seen Home) (answer : Result Polled NoMemory) : Type 0 where
+pub record Waits {Home : Type 0} (fixed : Bool) (budget : ℕ) (old new : Seen Home) (answer : Result Polled NoMemory) : Type 0 where
   pub mid : Seen Home
   pub before : Progresses old mid
-  pub polls : Polls budget (cleared mid) new answer
+  pub polls : Polls fixed budget (cleared mid) new answer
 
 -- ---- by parts
 

@@ -1,7 +1,7 @@
 -- What progress does to an endpoint, however often it is made.
 --     Progresses old new     frames and draws, and nothing else: no call, no read
 --     IsFlushed e            no operation is under way
---     Moves budget old new answer     one progress, and what it tells
+--     Moves fixed budget old new answer     one progress, and what it tells
 use Rattle.std.specs.Prelude.{◌≡◌, ◌≢◌, ◌<◌, ℕ, Bool, ◌&&◌, ◌==◌, List, [], None, Result, Ok, Err, count_by}
 use Rattle.fab_base.specs.declared.faults.NoMemory.{NoMemory}
 use Rattle.fab_model.specs.State.{State, awaits, deferred_count}
@@ -36,9 +36,9 @@ MovesAs budget old new acts (Ok More) = 0 < budget → acts ≢ []
 MovesAs budget old new acts (Err lacks) = Unit {0}
 
 -- at most `budget` frames, and whether it is worth a call again: nothing is left to move, or something waits for room in the completion queue, or something moved and more may
-pub record Moves {Home : Type 0} (budget : ℕ) (old new : Seen Home) (answer : Result Next NoMemory) : Type 0 where
+pub record Moves {Home : Type 0} (fixed : Bool) (budget : ℕ) (old new : Seen Home) (answer : Result Next NoMemory) : Type 0 where
   pub moved : Result Moved NoMemory
-  pub progressed : Progressed budget old new moved
+  pub progressed : Progressed fixed budget old new moved
   pub told : MovesAs budget old new progressed.acts answer
 
 abbrev pub next_of : Stop → Next

@@ -94,7 +94,7 @@ impl<E: Calls + Drop> Endpoint<E> {
     /// Makes progress with at most `budget` frames, and takes the first completion, if there is one (fi_cq_read and
     /// fi_cq_readerr). Where there is none it tells whether to call again at once.
     pub fn poll(&mut self, budget: u32) -> Result<Polled, NoMemory>
-        ensures { Polls budget (cleared (E.seen self.old)) (E.seen self.new) result }
+        ensures { Polls E.fixed budget (cleared (E.seen self.old)) (E.seen self.new) result }
     {
         self.inner.log_clear();
         self.inner.known();
@@ -123,7 +123,7 @@ impl<E: Calls + Drop> Endpoint<E> {
 
     /// Polls until there is a completion, at most so many times, and lets other threads run between (fi_cq_sread(3)).
     pub fn wait(&mut self, times: u32) -> Result<Polled, NoMemory>
-        ensures { Waits BUDGET (E.seen self.old) (E.seen self.new) result }
+        ensures { Waits E.fixed BUDGET (E.seen self.old) (E.seen self.new) result }
     {
         'times: for _time in 0..times {
             let polled = self.poll(BUDGET);

@@ -37,7 +37,7 @@ fn next_of(moved: Result<Moved, NoMemory>) -> Result<Next, NoMemory>
 impl<E: Calls + Drop> Endpoint<E> {
     /// Moves at most `budget` frames, and tells whether it is worth another call. `poll` reads besides.
     pub fn progress(&mut self, budget: u32) -> Result<Next, NoMemory>
-        ensures { Moves budget (cleared (E.seen self.old)) (E.seen self.new) result }
+        ensures { Moves E.fixed budget (cleared (E.seen self.old)) (E.seen self.new) result }
     {
         self.inner.log_clear();
         self.inner.known();

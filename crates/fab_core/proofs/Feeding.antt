@@ -1,7 +1,7 @@
 -- A frame comes in: what it makes of the parts is what the machine does.
 use Rattle.std.proofs.Common.{◌≡◌, ◌≢◌, inr, ℕ, ◌+◌, ◌-◌, ◌<◌, ◌≤◌, ◌==◌, Bool, true, false, not, ◌&&◌, ◌||◌, List, [], ◌∷◌, ◌++◌, length, length-append, Option, Some, None, get_or, get_or-set_same, refl, sym, ap, ◌∙◌, subst, arith}
-use Rattle.std.specs.Prelude.{find, IfSome, IsSomeAnd, is_some, min, slice_index, slice_set}
-use Rattle.std.proofs.lemmas.Bool.{eqb-true, eqb-false}
+use Rattle.std.specs.Prelude.{find, IfSome, IsSomeAnd, OnErr, Result, Ok, Err, is_some, min, slice_index, slice_set}
+use Rattle.std.proofs.lemmas.Bool.{eq-eqb, eqb-true, eqb-false}
 use Rattle.std.proofs.lemmas.List.{set-set}
 use Rattle.fab_base.specs.declared.frames.Frame.{Frame}
 use Rattle.fab_base.specs.declared.frames.FrameHead.{FrameHead}
@@ -23,7 +23,7 @@ use Rattle.fab_rx.specs.Results.{closed_by, closed_if, entries_due, last_of}
 use Rattle.fab_cq.specs.Queues.{has_room}
 use Rattle.fab_face.specs.Held.{Held}
 use Rattle.fab_face.specs.Acts.{Comes, Goes, Took, headed, is_first}
-use Rattle.fab_face.specs.Answers.{FrameLacks}
+use Rattle.fab_face.specs.Answers.{FrameLacks, MayNeed}
 use Rattle.fab_face.specs.Machine.{IsNext, StayNext}
 use Rattle.fab_rma.specs.Serving.{is_request, outcome_at}
 use Rattle.fab_core.specs.Parts.{IsFitting, IsTogether, Parts, held_of, state_of}
@@ -37,6 +37,11 @@ use Rattle.fab_core.proofs.Together.{fitting_arrived}
 use Rattle.fab_ends.specs.Served.{writes_data}
 
 -- ---- a first frame, or another one
+
+-- memory may be lacking at a first frame alone, which waits for no draw
+pub may_need : {A B : Type 0} (h : Held) (f : Frame) (r : Result A B) → OnErr r (f.head.from ≡ 0) → (is_first f ≡ true → draw_due h.state.rx ≡ false) → OnErr r (MayNeed h f)
+may_need h f (Ok x) first waits = tt
+may_need h f (Err why) first waits = let is = eq-eqb f.head.from 0 first in (is, waits is)
 
 first_from : (n : ℕ) → (n == 0) ≡ true → n ≡ 0
 first_from n e = eqb-true n 0 e

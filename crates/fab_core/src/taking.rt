@@ -136,7 +136,7 @@ impl<M: Matcher> Core<M> {
         arrived
     }
 
-    /// Takes a frame in, the next one of its item, but for what its end does.
+    /// Takes a frame in, the next one of its item, but for what its end does. Only a first frame takes memory.
     pub(crate) fn feed(
         &mut self,
         source: u32,
@@ -151,6 +151,7 @@ impl<M: Matcher> Core<M> {
         ensures ok { OnOk result (held_of self.new ≡ held_of (fed source (frame head.now bytes.now) self.old)) }
         ensures rx { OnOk result (self.new.rx ≡ (fed source (frame head.now bytes.now) self.old).rx) }
         ensures err { OnErr result (held_of self.new ≡ held_of self.old) }
+        ensures first { OnErr result (head.now.from ≡ 0) }
     {
         if head.from == 0 {
             self.begin(source, &head.item)?;
@@ -201,6 +202,7 @@ impl<M: Matcher> Core<M> {
         ensures next { StayNext (state_of self.old) (state_of self.new) }
         ensures places { self.new.tx.places ≡ self.old.tx.places }
         ensures err { OnErr result (held_of self.new ≡ held_of self.old) }
+        ensures first { OnErr result (head.now.from ≡ 0) }
     {
         self.rx.known();
         self.feed(source, head, bytes)?;
@@ -226,6 +228,7 @@ impl<M: Matcher> Core<M> {
         ensures no { result ≡ Ok false → FrameLacks (held_of self.old) source (frame head.now bytes.now) }
         ensures stays { result ≡ Ok false → held_of self.new ≡ held_of self.old }
         ensures err { OnErr result (held_of self.new ≡ held_of self.old) }
+        ensures first { OnErr result (head.now.from ≡ 0) }
     {
         self.rx.known();
         self.cq.known();

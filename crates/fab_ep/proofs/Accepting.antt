@@ -7,7 +7,6 @@ use Rattle.fab_base.specs.declared.faults.Fault.{Fault}
 use Rattle.fab_base.specs.declared.items.Item.{Item}
 use Rattle.fab_base.specs.declared.operations.Held.{Held as Waiting}
 use Rattle.fab_base.specs.declared.peers.LineResult.TheVariants.{Done}
-use Rattle.fab_wire.specs.Joined.{is_last}
 use Rattle.fab_model.specs.State.{State, Transmitting, accepted_for, held_for, lookup}
 use Rattle.fab_model.specs.Sending.{AreFenced, Order, operation_of, is_busy, let_out, transmit_fault, transmit, transmit_to}
 use Rattle.fab_model.specs.Calls.{Transmit, answer, do_call}
@@ -16,15 +15,15 @@ use Rattle.fab_model.proofs.Letting.{going_out, accepts_held, accepts_at_once}
 use Rattle.fab_face.specs.Held.{due, IsPledged, Held, Lanes, Seen, next_item, next_frame}
 use Rattle.fab_face.specs.Machine.{IsSteady, StayNext}
 use Rattle.fab_face.proofs.Repaid.{did_due, did_pledged, drew_due, drew_pledged, repaid_still}
-use Rattle.fab_face.specs.Acts.{Act, Did, Took, Posted, Drew, Had, Departs, DoesCall, Goes, GoesBy, Ported, Went, is_post}
-use Rattle.fab_face.specs.Answers.{AllAre, SawFull, Sends}
+use Rattle.fab_face.specs.Acts.{Act, Did, Drew, DoesCall, Goes, Ported, Went, is_post}
+use Rattle.fab_face.specs.Answers.{SawFull, Sends}
 use Rattle.fab_face.proofs.Joining.{went_then, ported_same}
 use Rattle.fab_ep.specs.Tries.{IsTied}
 use Rattle.fab_ep.specs.Sends.{Admits, LetsOut, IsOnly, IsFree}
 use Rattle.fab_ep.proofs.Admitting.{went_as, posts_keep}
 use Rattle.fab_ep.proofs.Pushing.{any_append}
 use Rattle.fab_ep.proofs.Falling.{get_append}
-use Rattle.fab_ep.proofs.Sent.{sent_next}
+use Rattle.fab_ep.proofs.Letting.{none_next}
 use Rattle.fab_ep.proofs.Taking.{placed_next}
 use Rattle.fab_ep.proofs.Turning.{rose_on}
 
@@ -108,19 +107,6 @@ only_one h t d below j none =
 
 -- ---- between calls
 
-none_stays : (acts : List Act) (h k : Held) (d : ℕ) → AllAre is_post acts → GoesBy None h acts k → next_item h.state d ≡ None → next_item k.state d ≡ None
-none_stays [] h k d are goes none = subst (λ (x : Held). next_item x.state d ≡ None) goes none
-none_stays (Did ∷ acts) h k d are goes none = absurd (cc)
-none_stays (Took source f ∷ acts) h k d are goes none = absurd (cc)
-none_stays (Posted t f ∷ acts) h k d are (mid, one, rest) none = none_stays acts mid k d are rest (by (is_last f.head) (cases_eq d t) one.3)
-  where
-    by : (last : Bool) → (d ≡ t) ⊎ (d ≢ t) → Departs last h t (f.head.from + f.head.len) mid → next_item mid.state d ≡ None
-    by last (inl is) departs = absurd (cc (rw (← is, none) at one.2))
-    by true (inr other) (room, at) = rw at (sent_next h.state t d other ∙ none)
-    by false (inr other) at = rw at none
-none_stays (Drew ∷ acts) h k d are goes none = absurd (cc)
-none_stays (Had ∷ acts) h k d are goes none = absurd (cc)
-
 none_item : (h : Held) (d : ℕ) → next_frame h d ≡ None → next_item h.state d ≡ None
 none_item h d none = by (next_item h.state d) refl
   where
@@ -169,47 +155,62 @@ module _ {Home : Type 0} where
       let to : goes.0 ≡ e.held = goes.2 in
       subst (λ (x : Held). IsOnly x t) to (only_one m.held goes.0 t free.listed (joins m.held.state goes.0.state o free.fenced does.0) free.free)
 
-  pub sends_out : (fixed : Bool) (o : Order) (a m e b : Seen Home) (dest t : ℕ) → Admits (Transmit o) a m → IsFree m dest t → Went (Some (Transmit o)) m e (Did ∷ []) → e.pushed ≡ m.pushed → LetsOut fixed e b t → Sends fixed (Transmit o) dest a b
-  sends_out fixed o a m e b dest t admits free did same out =
+  pub sends_out : (fixed : Bool) (o : Order) (a m e b : Seen Home) (dest t : ℕ) → Admits (Transmit o) a m → IsFree m dest t → Went (Some (Transmit o)) m e (Did ∷ []) → e.pushed ≡ m.pushed → e.lanes.ins ≡ m.lanes.ins → LetsOut fixed e b t → b.lanes.ins ≡ e.lanes.ins → Sends fixed (Transmit o) dest a b
+  sends_out fixed o a m e b dest t admits free did same still out ins =
       let call = Transmit o in
       let before = went_as (Some call) a m admits.acts admits.push admits.went in
       let after = went_as (Some call) e b out.acts out.posts out.went in
-      let whole = went_then (Some call) a m b admits.acts (Did ∷ out.acts) before (went_then (Some call) m e b (Did ∷ []) out.acts did after) in
+      let made = went_then (Some call) m e b (Did ∷ []) out.acts did after in
+      let whole = went_then (Some call) a m b admits.acts (Did ∷ out.acts) before made in
       let till = went_then (Some call) a m e admits.acts (Did ∷ []) before did in
       let keep = posts_keep None admits.acts a.held m.held admits.push (let went = admits.went in went.goes) in
       let peer : (k : ℕ) → lookup a.held.state.av dest ≡ Some k → k ≡ t = λ k at. (let x : Some k ≡ Some t = sym at ∙ ap (λ av. lookup av dest) (sym keep.av) ∙ free.at in cc) in
       record {
         before = admits.acts;
+        mid = m;
         after = out.acts;
         push = admits.push;
         posts = out.posts;
         went = whole;
+        till = admits.went;
+        from = made;
         pushed = out.pushed ∙ ap (λ x. x || list_any is_post out.acts) (same ∙ admits.pushed) ∙ sym (any_append is_post admits.acts (Did ∷ out.acts));
         places = admits.places;
+        place = admits.left;
         only_if_full = admits.only_if_full;
+        tried = admits.tried;
         own = λ k d at other. out.own d (λ is. other (is ∙ sym (peer k at)));
         goes_out = λ k at none f next. (
             let is = peer k at in
             let held = out.held f (subst (λ x. next_frame b.held x ≡ Some f) is next) in
             rw is (elim held [ inl full ↦ inl (full_by a.lanes e.lanes b.lanes (admits.acts ++ Did ∷ []) t till.ported full) | inr rest ↦ inr rest ]));
+        behind = λ k at some. absurd (some (subst (λ x. next_frame m.held x ≡ None) (sym (peer k at)) (none_next m.held t free.free)));
+        ins = ins ∙ still ∙ admits.ins;
       }
 
-  pub sends_later : (fixed : Bool) (o : Order) (a m e : Seen Home) (dest : ℕ) → Admits (Transmit o) a m → ((t : ℕ) → lookup m.held.state.av dest ≡ Some t → next_item m.held.state t ≢ None) → Went (Some (Transmit o)) m e (Did ∷ []) → e.pushed ≡ m.pushed → Sends fixed (Transmit o) dest a e
-  sends_later fixed o a m e dest admits waits did same =
+  pub sends_later : (fixed : Bool) (o : Order) (a m e : Seen Home) (dest : ℕ) → Admits (Transmit o) a m → ((t : ℕ) → lookup m.held.state.av dest ≡ Some t → next_item m.held.state t ≢ None) → Went (Some (Transmit o)) m e (Did ∷ []) → e.pushed ≡ m.pushed → e.lanes.ins ≡ m.lanes.ins → Sends fixed (Transmit o) dest a e
+  sends_later fixed o a m e dest admits waits did same still =
       let call = Transmit o in
       let before = went_as (Some call) a m admits.acts admits.push admits.went in
       let keep = posts_keep None admits.acts a.held m.held admits.push (let went = admits.went in went.goes) in
       record {
         before = admits.acts;
+        mid = m;
         after = [];
         push = admits.push;
         posts = refl;
         went = went_then (Some call) a m e admits.acts (Did ∷ []) before did;
+        till = admits.went;
+        from = did;
         pushed = same ∙ admits.pushed ∙ sym (any_append is_post admits.acts (Did ∷ []) ∙ or_none (list_any is_post admits.acts));
         places = admits.places;
+        place = admits.left;
         only_if_full = admits.only_if_full;
+        tried = admits.tried;
         own = λ k d at other. refl;
-        goes_out = λ k at none f next. absurd (waits k (ap (λ av. lookup av dest) keep.av ∙ at) (none_stays admits.acts a.held m.held k admits.push (let went = admits.went in went.goes) (none_item a.held k none)));
+        goes_out = λ k at none f next. absurd (waits k (ap (λ av. lookup av dest) keep.av ∙ at) (none_item m.held k none));
+        behind = λ k at some. refl;
+        ins = still ∙ admits.ins;
       }
     where
       or_none : (b : Bool) → (b || false) ≡ b

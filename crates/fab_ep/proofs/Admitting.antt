@@ -13,11 +13,12 @@ use Rattle.fab_model.specs.Sending.{Order, first_fault, transmit_fault, transmit
 use Rattle.fab_model.specs.Calls.{Call, Transmit, answer, do_call}
 use Rattle.fab_face.specs.Held.{Held, Seen}
 use Rattle.fab_face.specs.Acts.{Act, Did, Took, Posted, Drew, Had, Departs, GoesBy, Went, is_post}
-use Rattle.fab_face.specs.Answers.{AllAre, HasPlaces, IsShort, Judged, SendsNot, is_final, is_early}
+use Rattle.fab_face.specs.Answers.{AllAre, HasPlaces, IsFull, IsShort, Judged, SendsNot, is_final, is_early}
 use Rattle.fab_face.proofs.Joining.{went_none, ported_same}
 use Rattle.fab_ep.specs.Tries.{Pushes, Pushed}
 use Rattle.fab_ep.specs.Sends.{Admits}
 use Rattle.fab_ep.proofs.Sent.{keeps_sent, sent_ops}
+use Rattle.fab_ep.proofs.Turning.{not_true}
 
 -- ---- the machine's refusals of a transmit call, by its four tests
 
@@ -105,9 +106,8 @@ early_full why n early is = absurd (cc (rw is at early))
 is_full_by : (most n : ℕ) → nat_le most n ≡ true → most ≤ n
 is_full_by most n is = grind (arith, nat_tests, is)
 
-not_true : (b : Bool) → b ≢ true → b ≡ false
-not_true true other = absurd (other refl)
-not_true false other = refl
+not_full : (most n : ℕ) → nat_le most n ≡ false → most ≤ n → ⊥
+not_full most n is full = grind (arith, nat_tests, is, full)
 
 module _ {Home : Type 0} where
   pub went_as : (call : Option Call) (a b : Seen Home) (acts : List Act) → AllAre is_post acts → Went None a b acts → Went call a b acts
@@ -149,6 +149,8 @@ module _ {Home : Type 0} where
         judged = judged_early (Transmit o) a (unpushed a) (IsShort a) why early is;
         early = λ e. refl;
         short = λ s. refl;
+        place = λ places. places;
+        ins = refl;
         still = λ e. refl;
         memory = λ lacks. absurd (early_not why early lacks);
         only_if_full = λ some. absurd (some refl);
@@ -164,6 +166,8 @@ module _ {Home : Type 0} where
     judged = (refl, short, granted);
     early = λ e. refl;
     short = λ s. refl;
+    place = λ places. places;
+    ins = refl;
     still = λ e. refl;
     memory = λ lacks. absurd (cc);
     only_if_full = λ some. absurd (some refl);
@@ -179,14 +183,16 @@ module _ {Home : Type 0} where
     places = places;
     left = places;
     only_if_full = λ some. absurd (some refl);
+    tried = λ full. absurd (not_full _ _ room full);
+    ins = refl;
     granted = granted;
     room = room;
   }
 
   -- after the push
   pub unable : (fixed : Bool) (a b : Seen Home) (o : Order) → HasPlaces a → is_final (do_call a.held.state (Transmit o)).0 ≡ false → nat_le a.held.state.most_tx (in_use a.held.state.tx) ≡ true
-      → fixed ≢ true → Pushed (unpushed a) b false → SendsNot fixed (Transmit o) a b LacksMemory
-  unable fixed a b o places granted full free push = record {
+      → fixed ≢ true → Pushed (unpushed a) b false → HasPlaces b → b.lanes.ins ≡ a.lanes.ins → SendsNot fixed (Transmit o) a b LacksMemory
+  unable fixed a b o places granted full free push left ins = record {
     acts = push.acts;
     push = push.push;
     went = from_flag (Some (Transmit o)) a b push.acts (went_as (Some (Transmit o)) (unpushed a) b push.acts push.push push.went);
@@ -194,6 +200,8 @@ module _ {Home : Type 0} where
     judged = ((λ short. absurd (omega (arith, short, places))), still_final o push.acts a.held b.held push.push (let went = push.went in went.goes) ∙ granted);
     early = λ e. absurd (cc);
     short = λ s. absurd (omega (arith, s, places));
+    place = λ had. left;
+    ins = ins;
     still = λ e. elim e [ inl early ↦ absurd (cc) | inr s ↦ absurd (omega (arith, s, places)) ];
     memory = λ lacks. (not_true fixed free, is_full_by _ _ full);
     only_if_full = λ some. is_full_by _ _ full;
@@ -202,13 +210,13 @@ module _ {Home : Type 0} where
 
   -- by the answer of the push
   pub unable_as : (fixed : Bool) (a b : Seen Home) (o : Order) (r : Result (Unit {0}) NoMemory) → HasPlaces a → is_final (do_call a.held.state (Transmit o)).0 ≡ false → nat_le a.held.state.most_tx (in_use a.held.state.tx) ≡ true
-      → ((u : Unit {0}) → r ≢ Ok u) → OnErr r (fixed ≢ true) → Pushes (unpushed a) b r → SendsNot fixed (Transmit o) a b LacksMemory
-  unable_as fixed a b o (Ok u) places granted full other free push = absurd (other u refl)
-  unable_as fixed a b o (Err why) places granted full other free push = unable fixed a b o places granted full free push
+      → ((u : Unit {0}) → r ≢ Ok u) → OnErr r (fixed ≢ true) → Pushes (unpushed a) b r → HasPlaces b → b.lanes.ins ≡ a.lanes.ins → SendsNot fixed (Transmit o) a b LacksMemory
+  unable_as fixed a b o (Ok u) places granted full other free push left ins = absurd (other u refl)
+  unable_as fixed a b o (Err why) places granted full other free push left ins = unable fixed a b o places granted full free push left ins
 
   pub still_full : (fixed : Bool) (a b : Seen Home) (o : Order) (most : ℕ) → most ≡ a.held.state.most_tx → HasPlaces a → is_final (do_call a.held.state (Transmit o)).0 ≡ false → nat_le a.held.state.most_tx (in_use a.held.state.tx) ≡ true
-      → Pushed (unpushed a) b true → nat_le b.held.state.most_tx (in_use b.held.state.tx) ≡ true → SendsNot fixed (Transmit o) a b (Again (TxFull most))
-  still_full fixed a b o most is_most places granted full push then_full =
+      → Pushed (unpushed a) b true → HasPlaces b → b.lanes.ins ≡ a.lanes.ins → nat_le b.held.state.most_tx (in_use b.held.state.tx) ≡ true → SendsNot fixed (Transmit o) a b (Again (TxFull most))
+  still_full fixed a b o most is_most places granted full push left ins then_full =
       let went = push.went in
       let granted_then = still_final o push.acts a.held b.held push.push went.goes ∙ granted in
       let same = posts_keep None push.acts a.held b.held push.push went.goes in
@@ -220,15 +228,17 @@ module _ {Home : Type 0} where
         judged = (full_is b.held.state o granted_then then_full ∙ ap (λ n. (Refused (Again (TxFull n)), b.held.state)) (same.most ∙ sym is_most), (λ short. absurd (omega (arith, short, places))));
         early = λ e. absurd (cc);
         short = λ s. absurd (omega (arith, s, places));
+        place = λ had. left;
+        ins = ins;
         still = λ e. elim e [ inl early ↦ absurd (cc) | inr s ↦ absurd (omega (arith, s, places)) ];
         memory = λ lacks. absurd (cc);
         only_if_full = λ some. is_full_by _ _ full;
-        tried = λ n is d below f next. push.tried refl d below f next;
+        tried = λ n is d below. push.tried refl d below;
       }
 
   pub admitted : (a b : Seen Home) (o : Order) → HasPlaces a → HasPlaces b → is_final (do_call a.held.state (Transmit o)).0 ≡ false → nat_le a.held.state.most_tx (in_use a.held.state.tx) ≡ true
-      → Pushed (unpushed a) b true → nat_le b.held.state.most_tx (in_use b.held.state.tx) ≡ false → Admits (Transmit o) a b
-  admitted a b o places left granted full push room = record {
+      → Pushed (unpushed a) b true → b.lanes.ins ≡ a.lanes.ins → nat_le b.held.state.most_tx (in_use b.held.state.tx) ≡ false → Admits (Transmit o) a b
+  admitted a b o places left granted full push ins room = record {
     acts = push.acts;
     push = push.push;
     went = from_flag None a b push.acts push.went;
@@ -236,6 +246,8 @@ module _ {Home : Type 0} where
     places = places;
     left = left;
     only_if_full = λ some. is_full_by _ _ full;
+    tried = λ is d below. push.tried refl d below;
+    ins = ins;
     granted = still_final o push.acts a.held b.held push.push (let went = push.went in went.goes) ∙ granted;
     room = room;
   }

@@ -23,7 +23,7 @@ use Rattle.fab_ep.specs.Sends.{IsOnly, LetsOutOne, LetsOut}
 use Rattle.fab_ep.proofs.Posting.{other_peer}
 use Rattle.fab_ep.proofs.Pushing.{or_true, or_false, any_append}
 use Rattle.fab_ep.proofs.Sent.{transmitting_parts, sent_alone, sent_sent}
-use Rattle.fab_ep.proofs.Turning.{went_calm, full_on}
+use Rattle.fab_ep.proofs.Turning.{went_calm, full_on, not_true}
 use Rattle.fab_ep.proofs.Falling.{left_falls}
 use Rattle.fab_face.specs.Machine.{IsSteady}
 
@@ -47,12 +47,8 @@ still_only false h t d place one some in_sent at = rw at one
 some_frame : (o : Option Frame) (f : Frame) → o ≡ Some f → o ≢ None
 some_frame o f is none = absurd (cc (rw is at none))
 
-none_next : (h : Held) (d : ℕ) → next_item h.state d ≡ None → next_frame h d ≡ None
+pub none_next : (h : Held) (d : ℕ) → next_item h.state d ≡ None → next_frame h d ≡ None
 none_next h d none = rw none refl
-
-not_true_out : (b : Bool) → b ≢ true → b ≡ false
-not_true_out true other = absurd (other refl)
-not_true_out false other = refl
 
 module _ {Home : Type 0} where
   -- between frames: what is posted so far, and a place in the log as long as something waits
@@ -129,7 +125,7 @@ module _ {Home : Type 0} where
 
   pub lets_none : (fixed : Bool) (a b : Seen Home) (d : ℕ) (r : Result Tried NoMemory) → ((t : Tried) → r ≢ Ok t) → PostsOut a b d r → OnErr r (fixed ≢ true) → b.pushed ≡ a.pushed → LetsOutOne fixed a b d false
   lets_none fixed a b d (Ok t) other posts free same = absurd (other t refl)
-  lets_none fixed a b d (Err why) other posts free same = (posts, (λ f next. inr (inr (not_true_out fixed free))), same)
+  lets_none fixed a b d (Err why) other posts free same = (posts, (λ f next. inr (inr (not_true fixed free))), same)
 
   pub falls_out : (a b : Seen Home) (d : ℕ) (t : Tried) → IsSteady a.held → PostsOut a b d (Ok t) → has_moved t ≡ true → left_for b.held d < left_for a.held d
   falls_out a b d Moved steady (f, went) is = left_falls a b d f steady went

@@ -46,10 +46,10 @@ module _ {Home : Type 0} where
   reads_as mid h moved (Err why) ok err stays = refused mid h moved why err stays
 
   -- where nothing is to be read after progress, it ended for another reason than want of room
-  waits_for : (budget : ℕ) (a mid new : Seen Home) (moved : Result Moved NoMemory) (answer : Result Entry Fault) → IsOpen mid → (p : Progressed budget a mid moved) → ReadsAs mid new moved answer
+  waits_for : (fixed : Bool) (budget : ℕ) (a mid new : Seen Home) (moved : Result Moved NoMemory) (answer : Result Entry Fault) → IsOpen mid → (p : Progressed fixed budget a mid moved) → ReadsAs mid new moved answer
       → answer ≡ Err NoEntry → (count_by is_take p.acts + count_by is_post p.acts ≡ budget) ⊎ (IsIdle a mid ⊎ IsShort mid)
-  waits_for budget a mid new (Err lacks) answer sound p reads is = absurd (subst (λ (x : Result Entry Fault). ReadsAs mid new (Err lacks) x) is reads)
-  waits_for budget a mid new (Ok m) answer sound p reads is = by_stop m.stop refl p.counted.3
+  waits_for fixed budget a mid new (Err lacks) answer sound p reads is = absurd (subst (λ (x : Result Entry Fault). ReadsAs mid new (Err lacks) x) is reads)
+  waits_for fixed budget a mid new (Ok m) answer sound p reads is = by_stop m.stop refl p.counted.3
     where
       none : unread mid.held.state.cq ≡ None
       none = (let as_none = subst (λ (x : Result Entry Fault). ReadsAs mid new (Ok m) x) is reads in as_none.1)
@@ -60,14 +60,14 @@ module _ {Home : Type 0} where
       by_stop StoppedCqFull is back = absurd (never_held a mid back (none_unread mid sound none) sound.cq)
       by_stop StoppedLogFull is short = inr (inr short)
 
-  pub reads_on : (budget : ℕ) (a mid : Seen Home) (h : Held) (moved : Result Moved NoMemory) (popped : Result Entry Fault) (lacked : Bool) → lacked ≡ is_err moved → IsOpen mid → Progressed budget a mid moved
+  pub reads_on : (fixed : Bool) (budget : ℕ) (a mid : Seen Home) (h : Held) (moved : Result Moved NoMemory) (popped : Result Entry Fault) (lacked : Bool) → lacked ≡ is_err moved → IsOpen mid → Progressed fixed budget a mid moved
       → IfOk popped (λ entry. (w : Written) × (unread mid.held.state.cq ≡ Some w) × (w.entry ≡ Success entry) × (h ≡ has_read w mid.held)) → IfErr popped (λ why. PopsNot mid.held.state.cq why) → OnErr popped (h ≡ mid.held)
-      → ReadsOn budget a (holding h mid) (read_as popped lacked)
-  reads_on budget a mid h moved popped lacked is sound progressed ok err stays =
+      → ReadsOn fixed budget a (holding h mid) (read_as popped lacked)
+  reads_on fixed budget a mid h moved popped lacked is sound progressed ok err stays =
       let popped_as = reads_as mid h moved popped ok err stays in
-      rw is (record { mid = mid; moved = moved; progressed = progressed; popped = popped_as; waits = waits_for budget a mid (holding h mid) moved _ sound progressed popped_as })
+      rw is (record { mid = mid; moved = moved; progressed = progressed; popped = popped_as; waits = waits_for fixed budget a mid (holding h mid) moved _ sound progressed popped_as })
 
-  pub reads_in : (budget : ℕ) (a mid : Seen Home) (h : Held) (moved : Result Moved NoMemory) (popped : Result Entry Fault) (lacked : Bool) (answer : Result Entry Fault) → lacked ≡ is_err moved → answer ≡ read_as popped lacked → IsOpen mid → Progressed budget a mid moved
+  pub reads_in : (fixed : Bool) (budget : ℕ) (a mid : Seen Home) (h : Held) (moved : Result Moved NoMemory) (popped : Result Entry Fault) (lacked : Bool) (answer : Result Entry Fault) → lacked ≡ is_err moved → answer ≡ read_as popped lacked → IsOpen mid → Progressed fixed budget a mid moved
       → IfOk popped (λ entry. (w : Written) × (unread mid.held.state.cq ≡ Some w) × (w.entry ≡ Success entry) × (h ≡ has_read w mid.held)) → IfErr popped (λ why. PopsNot mid.held.state.cq why) → OnErr popped (h ≡ mid.held)
-      → ReadsOn budget a (holding h mid) answer
-  reads_in budget a mid h moved popped lacked answer is said sound progressed ok err stays = rw said (reads_on budget a mid h moved popped lacked is sound progressed ok err stays)
+      → ReadsOn fixed budget a (holding h mid) answer
+  reads_in fixed budget a mid h moved popped lacked answer is said sound progressed ok err stays = rw said (reads_on fixed budget a mid h moved popped lacked is sound progressed ok err stays)

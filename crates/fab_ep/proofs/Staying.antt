@@ -16,12 +16,12 @@ use Rattle.fab_model.specs.Sending.{ending, is_busy, let_out, operations_from, l
 use Rattle.fab_wire.specs.Joined.{is_last}
 use Rattle.fab_face.specs.Held.{Held, Seen, next_frame}
 use Rattle.fab_face.specs.Acts.{Act, Went, Departs, is_post}
-use Rattle.fab_face.specs.Answers.{AllAre, HasPlaces}
+use Rattle.fab_face.specs.Answers.{AllAre, HasPlaces, IsTried}
 use Rattle.fab_face.proofs.Joining.{went_none, went_then}
 use Rattle.fab_face.proofs.Joining.{ported_same}
 use Rattle.fab_ep.specs.declared.endpoint.Tried.{Tried}
 use Rattle.fab_ep.specs.declared.endpoint.Tried.TheVariants.{Moved, Nothing, Held as HeldBack, Short}
-use Rattle.fab_ep.specs.Tries.{Calm, TriesOut, PushedTo, Pushed, Pushes, HeldStays, IsTried}
+use Rattle.fab_ep.specs.Tries.{Calm, TriesOut, PushedTo, Pushed, Pushes, HeldStays}
 use Rattle.fab_ep.proofs.Posting.{other_peer}
 use Rattle.fab_ep.proofs.Sent.{on_as, sent_on, sent_is_none, sent_is_some, sent_next, keeps_sent}
 use Rattle.fab_ep.proofs.Turning.{full_on}

@@ -15,7 +15,7 @@ use Rattle.fab_model.specs.State.{State}
 use Rattle.fab_face.proofs.Repaid.{repaid_still, repaid_took, took_owes}
 use Rattle.fab_face.specs.Held.{due, IsPledged, Held, Lanes, Seen, IsPlaced, IsGathered, next_item, begun_of}
 use Rattle.fab_face.specs.Acts.{Took, Ported, MovedBy, Went, Goes, Ends, only, is_first, ways_of}
-use Rattle.fab_face.specs.Answers.{SawEmpty, LentLacks, FrameLacks}
+use Rattle.fab_face.specs.Answers.{SawEmpty, LentLacks, FrameLacks, MayNeed}
 use Rattle.fab_face.specs.declared.events.Event.{Event}
 use Rattle.fab_face.specs.declared.events.Event.TheVariants.{Head as Headed, Tail as Tailed}
 use Rattle.fab_face.proofs.Tied.{gathered_first, gathered_next, gathered_last, gathered_more}
@@ -108,8 +108,10 @@ module _ {Home : Type 0} where
 
   -- want of memory
   pub took_none : (a b : Seen Home) (source : ℕ) (f : FrameRef) (r : Result Tried NoMemory) (why : NoMemory) → r ≡ Err why → b.held ≡ a.held → b.log ≡ a.log → b.log_size ≡ a.log_size
-      → Fronted (a.lanes.ins source) (b.lanes.ins source) (Some f) → LentAgain (a.lanes.ins source) (Some f) → Same a.lanes b.lanes source → MovedBy a.lanes.moves b.lanes.moves [] → TriesIn a b source r
-  took_none a b source f r why is held log size fronted again same moves = rw is (let calm = calm_by a b source (Some f) held log size fronted again same moves in calm.calm)
+      → Fronted (a.lanes.ins source) (b.lanes.ins source) (Some f) → LentAgain (a.lanes.ins source) (Some f) → Same a.lanes b.lanes source → MovedBy a.lanes.moves b.lanes.moves [] → MayNeed a.held (lent_frame f) → TriesIn a b source r
+  took_none a b source f r why is held log size fronted again same moves needs =
+      let calm = calm_by a b source (Some f) held log size fronted again same moves in
+      rw is (calm.calm, (lent_frame f, ap (λ (i : Incoming). i.lent) fronted, subst (λ (h : Held). MayNeed h (lent_frame f)) (sym held) needs))
 
   pub saw_none : (a b : Seen Home) (source : ℕ) → b.held ≡ a.held → b.log ≡ a.log → b.log_size ≡ a.log_size → Fronted (a.lanes.ins source) (b.lanes.ins source) None → Same a.lanes b.lanes source
       → MovedBy a.lanes.moves b.lanes.moves [] → IfSome (a.lanes.in_list source) (λ xs. (a.lanes.ins source).taken ≡ xs) → CalmIn a b source × SawEmpty a.lanes b.lanes source

@@ -1,5 +1,5 @@
 -- Steps of progress, one after another.
-use Rattle.std.proofs.Common.{◌≡◌, ◌≢◌, ◌<◌, ◌≤◌, ◌+◌, ◌⊎◌, inl, inr, ℕ, Bool, true, false, ◌||◌, List, [], ◌∷◌, ◌++◌, append-nil, Some, None, Result, Ok, Err, refl, sym, ap, ◌∙◌, subst, arith, cond}
+use Rattle.std.proofs.Common.{◌≡◌, ◌≢◌, ◌<◌, ◌≤◌, ◌+◌, ◌⊎◌, inl, inr, ℕ, Bool, true, false, ◌||◌, List, [], ◌∷◌, ◌++◌, append-nil, append_assoc, Some, None, Result, Ok, Err, refl, sym, ap, ◌∙◌, subst, arith, cond}
 use Rattle.std.specs.Prelude.{count_by, ◌↔◌}
 use Rattle.std.proofs.lemmas.Bool.{cases_eq, and_from}
 use Rattle.std.proofs.lemmas.List.Sums.{sum_by-append, sum_by_push}
@@ -14,14 +14,14 @@ use Rattle.fab_face.specs.declared.events.Stop.{Stop}
 use Rattle.fab_face.specs.declared.events.Stop.TheVariants.{Idle, Budget, CqFull as StoppedCqFull}
 use Rattle.fab_face.specs.Held.{Held, Seen, next_frame}
 use Rattle.fab_face.specs.Acts.{Act, Did, Took, Posted, Drew, Had, Went, is_move, is_take, is_post, is_draw}
-use Rattle.fab_face.specs.Answers.{AllAre, HasPlaces, IsShort, SawEmpty, SawFull, DrawLacks, LentLacks, NextLacks, FrameLacks, SentLacks, StopsAs, Progressed}
+use Rattle.fab_face.specs.Answers.{AllAre, Begins, Drawn, HasPlaces, IsShort, MayLack, SawEmpty, SawFull, DrawLacks, LentLacks, NextLacks, FrameLacks, SentLacks, StopsAs, Progressed}
 use Rattle.fab_face.proofs.Joining.{draws_move, went_none, went_then}
 use Rattle.fab_face.proofs.Joining.{ported_same}
 use Rattle.fab_ep.specs.declared.endpoint.Tried.{Tried}
 use Rattle.fab_ep.specs.declared.endpoint.Tried.TheVariants.{Moved, Nothing, Held as HeldBack, Short}
 use Rattle.fab_ep.specs.declared.endpoint.Turn.{Turn}
 use Rattle.fab_ep.specs.Tries.{Calm, CalmOut, CalmIn, TriesOut, TriesIn, OutAt, InAt, Turning, WentRound, CutShort, Rounds, Quiet, TurnedOn, Turns, moved_one, is_held, is_short}
-use Rattle.fab_ep.specs.Draws.{Draws}
+use Rattle.fab_ep.specs.Draws.{Drawing, Draws}
 
 -- ---- lists of acts
 
@@ -62,7 +62,7 @@ or_right : (a b : Bool) → b ≡ true → (a || b) ≡ true
 or_right true b is = refl
 or_right false b is = is
 
-not_true : (b : Bool) → b ≢ true → b ≡ false
+pub not_true : (b : Bool) → b ≢ true → b ≡ false
 not_true true other = absurd (other refl)
 not_true false other = refl
 
@@ -262,15 +262,62 @@ module _ {Home : Type 0} where
   in_short left a e e1 taken posted k ko ki held held' HeldBack was tries is most = absurd (cc)
 
   -- an exit by want of memory
-  pub turning_err : (left : ℕ) (a e e1 : Seen Home) (taken posted ko ki : ℕ) (held : Bool) → Turning a e taken posted held ko ki → Calm e e1 → taken + posted ≤ left
-      → CutShort left a e1
-  turning_err left a e e1 taken posted ko ki held was calm most = (was.acts, was.moves, went_calm a e e1 was.acts was.went calm, (let t = was.takes in let p = was.posts in omega (arith, t, p, most)))
+  pub turning_err : (fixed : Bool) (left : ℕ) (a e e1 : Seen Home) (taken posted ko ki : ℕ) (held : Bool) → Turning a e taken posted held ko ki → Calm e e1 → taken + posted < left
+      → MayLack fixed e1 → CutShort fixed left a e1
+  turning_err fixed left a e e1 taken posted ko ki held was calm most lacks = record {
+    acts = was.acts;
+    moves = was.moves;
+    went = went_calm a e e1 was.acts was.went calm;
+    few = (let t = was.takes in let p = was.posts in omega (arith, t, p, most));
+    lacks = lacks;
+  }
 
   pub peers_same : (a e : Seen Home) {taken posted : ℕ} {held : Bool} {ko ki : ℕ} → Turning a e taken posted held ko ki → e.lanes.peers ≡ a.lanes.peers
   peers_same a e was = was.went.ported.peers
 
-  pub err_of : (left : ℕ) (a e : Seen Home) (r : Result Turn NoMemory) (why : NoMemory) → r ≡ Err why → CutShort left a e → Rounds left a e r
-  err_of left a e r why is some = rw is some
+  pub err_of : (fixed : Bool) (left : ℕ) (a e : Seen Home) (r : Result Turn NoMemory) (why : NoMemory) → r ≡ Err why → CutShort fixed left a e → Rounds fixed left a e r
+  err_of fixed left a e r why is some = rw is some
+
+  -- ---- the draws that are made first
+
+  -- draws, and what follows them
+  draws_then : (a b e : Seen Home) (rest : List Act) → (d : Drawing a b) → Drawn b → Went None b e rest → Begins a e (d.acts ++ rest)
+  draws_then a b e rest d drawn went = record { draws = d.acts; mid = b; rest = rest; parts = refl; are = d.draws; drew = d.went; lanes = d.lanes; drawn = drawn; went = went }
+
+  draws_alone : (a b : Seen Home) → (d : Drawing a b) → Drawn b → Begins a b d.acts
+  draws_alone a b d drawn = record {
+    draws = d.acts;
+    mid = b;
+    rest = [];
+    parts = sym (append-nil d.acts);
+    are = d.draws;
+    drew = d.went;
+    lanes = d.lanes;
+    drawn = drawn;
+    went = went_none None b b refl refl refl (ported_same b.lanes b.lanes refl);
+  }
+
+  begins_then : (a b e : Seen Home) (xs ys : List Act) → Begins a b xs → Went None b e ys → Begins a e (xs ++ ys)
+  begins_then a b e xs ys was went = record {
+    draws = was.draws;
+    mid = was.mid;
+    rest = was.rest ++ ys;
+    parts = ap (λ zs. zs ++ ys) was.parts ∙ append_assoc was.draws was.rest ys;
+    are = was.are;
+    drew = was.drew;
+    lanes = was.lanes;
+    drawn = was.drawn;
+    went = went_then None was.mid b e was.rest ys was.went went;
+  }
+
+  -- a turn was made, or nothing was done
+  abbrev pub Begun : Bool → Seen Home → Seen Home → List Act → Type 0
+  Begun true a e acts = Begins a e acts
+  Begun false a e acts = (e ≡ a) × (acts ≡ [])
+
+  begun_then : (turned : Bool) (a b e : Seen Home) (xs ys : List Act) → Begun turned a b xs → Begins b e ys → Went None b e ys → Begins a e (xs ++ ys)
+  begun_then true a b e xs ys was begins went = begins_then a b e xs ys was went
+  begun_then false a b e xs ys (same, none) begins went = subst (λ (x : Seen Home). Begins x e (xs ++ ys)) same (subst (λ (zs : List Act). Begins b e (zs ++ ys)) (sym none) begins)
 
   -- ---- a turn: draws, and a round of frames
 
@@ -285,6 +332,7 @@ module _ {Home : Type 0} where
         went = d.went;
         takes = none.0;
         posts = none.1;
+        begins = draws_alone a b d drawn.1;
         most = omega arith;
         short = λ is. short;
         quiet = λ un zero_. absurd (cc);
@@ -316,69 +364,102 @@ module _ {Home : Type 0} where
         went = went_then None a b e d.acts round.acts d.went round.went;
         takes = (let c = count_append is_take d.acts round.acts in let z = none.0 in let r = round.takes in omega (arith, c, z, r));
         posts = (let c = count_append is_post d.acts round.acts in let z = none.1 in let r = round.posts in omega (arith, c, z, r));
+        begins = draws_then a b e round.acts d drawn.1 round.went;
         most = round.most;
         short = round.short;
         quiet = λ un zero_. quiet_of a b e t.held due drawn places is (round.quiet un zero_);
       }
 
-  pub turn_err : (left : ℕ) (a b e : Seen Home) (r : Result Turn NoMemory) (why : NoMemory) → r ≡ Err why → Draws a b → CutShort left b e → Turns left a e r
-  turn_err left a b e r why is drawn (acts, moves, went, few) =
+  pub turn_err : (fixed : Bool) (left : ℕ) (a b e : Seen Home) (r : Result Turn NoMemory) (why : NoMemory) → r ≡ Err why → Draws a b → CutShort fixed left b e → Turns fixed left a e r
+  turn_err fixed left a b e r why is drawn cut =
       let d = drawn.0 in
       let none = draws_none d.acts d.draws in
       rw is (
-        d.acts ++ acts,
-        all_append is_move d.acts acts (draws_move d.acts d.draws) moves,
-        went_then None a b e d.acts acts d.went went,
-        (let t = count_append is_take d.acts acts in let p = count_append is_post d.acts acts in let zt = none.0 in let zp = none.1 in omega (arith, t, p, zt, zp, few)),
+        record {
+          acts = d.acts ++ cut.acts;
+          moves = all_append is_move d.acts cut.acts (draws_move d.acts d.draws) cut.moves;
+          went = went_then None a b e d.acts cut.acts d.went cut.went;
+          few = (let t = count_append is_take d.acts cut.acts in let p = count_append is_post d.acts cut.acts in let zt = none.0 in let zp = none.1 in let few = cut.few in omega (arith, t, p, zt, zp, few));
+          lacks = cut.lacks;
+        },
+        draws_then a b e cut.acts d drawn.1 cut.went,
       )
 
   -- ---- turns, one after another
 
   -- so many frames moved
-  pub record Going (a e : Seen Home) (taken posted : ℕ) : Type 0 where
+  pub record Going (turned : Bool) (a e : Seen Home) (taken posted : ℕ) : Type 0 where
     pub acts : List Act
     pub moves : AllAre is_move acts
     pub went : Went None a e acts
+    pub begun : Begun turned a e acts
     pub takes : count_by is_take acts ≡ taken
     pub posts : count_by is_post acts ≡ posted
 
-  pub going_none : (a : Seen Home) → Going a a 0 0
-  going_none a = record { acts = []; moves = refl; went = went_none None a a refl refl refl (ported_same a.lanes a.lanes refl); takes = refl; posts = refl }
+  pub going_none : (a : Seen Home) → Going false a a 0 0
+  going_none a = record { acts = []; moves = refl; went = went_none None a a refl refl refl (ported_same a.lanes a.lanes refl); begun = (refl, refl); takes = refl; posts = refl }
 
-  pub going_on : (a b e : Seen Home) (taken posted left : ℕ) (t : Turn) → Going a b taken posted → TurnedOn left b e t → Going a e (taken + t.taken) (posted + t.posted)
-  going_on a b e taken posted left t was turn = record {
+  -- the budget is spent, and draws are made
+  pub going_spent : (turned : Bool) (a b e : Seen Home) (taken posted : ℕ) → Going turned a b taken posted → Draws b e → Going true a e taken posted
+  going_spent turned a b e taken posted was drawn =
+      let d = drawn.0 in
+      let none = draws_none d.acts d.draws in
+      record {
+        acts = was.acts ++ d.acts;
+        moves = all_append is_move was.acts d.acts was.moves (draws_move d.acts d.draws);
+        went = went_then None a b e was.acts d.acts was.went d.went;
+        begun = begun_then turned a b e was.acts d.acts was.begun (draws_alone b e d drawn.1) d.went;
+        takes = (let c = count_append is_take was.acts d.acts in let w = was.takes in let z = none.0 in omega (arith, c, w, z));
+        posts = (let c = count_append is_post was.acts d.acts in let w = was.posts in let z = none.1 in omega (arith, c, w, z));
+      }
+
+  pub going_on : (turned : Bool) (a b e : Seen Home) (taken posted left : ℕ) (t : Turn) → Going turned a b taken posted → TurnedOn left b e t → Going true a e (taken + t.taken) (posted + t.posted)
+  going_on turned a b e taken posted left t was turn = record {
     acts = was.acts ++ turn.acts;
     moves = all_append is_move was.acts turn.acts was.moves turn.moves;
     went = went_then None a b e was.acts turn.acts was.went turn.went;
+    begun = begun_then turned a b e was.acts turn.acts was.begun turn.begins turn.went;
     takes = (let c = count_append is_take was.acts turn.acts in let w = was.takes in let t' = turn.takes in omega (arith, c, w, t'));
     posts = (let c = count_append is_post was.acts turn.acts in let w = was.posts in let t' = turn.posts in omega (arith, c, w, t'));
   }
 
-  pub progress_err : (a b e : Seen Home) (budget taken posted left : ℕ) (why : NoMemory) → Going a b taken posted → taken + posted + left ≤ budget → Turns left b e (Err why) → e.pushed ≡ a.pushed → Progressed budget a e (Err why)
-  progress_err a b e budget taken posted left why was most (acts, moves, went, few) pushed = record {
-    acts = was.acts ++ acts;
-    moves = all_append is_move was.acts acts was.moves moves;
-    went = went_then None a b e was.acts acts was.went went;
-    most = (let c = count_append is_take was.acts acts in let d = count_append is_post was.acts acts in let w = was.takes in let p = was.posts in omega (arith, c, d, w, p, few, most));
+  pub progress_err : (fixed turned : Bool) (a b e : Seen Home) (budget taken posted left : ℕ) (why : NoMemory) → Going turned a b taken posted → taken + posted + left ≤ budget → Turns fixed left b e (Err why) → e.pushed ≡ a.pushed
+      → Progressed fixed budget a e (Err why)
+  progress_err fixed turned a b e budget taken posted left why was most (cut, begins) pushed = record {
+    acts = was.acts ++ cut.acts;
+    moves = all_append is_move was.acts cut.acts was.moves cut.moves;
+    went = went_then None a b e was.acts cut.acts was.went cut.went;
+    most = (let c = count_append is_take was.acts cut.acts in let d = count_append is_post was.acts cut.acts in let w = was.takes in let p = was.posts in let few = cut.few in omega (arith, c, d, w, p, few, most));
     pushed = pushed;
-    counted = tt;
+    begins = begun_then turned a b e was.acts cut.acts was.begun begins cut.went;
+    counted = (let c = count_append is_take was.acts cut.acts in let d = count_append is_post was.acts cut.acts in let w = was.takes in let p = was.posts in let few = cut.few in omega (arith, c, d, w, p, few, most));
+    lacks = λ why is. cut.lacks;
   }
 
-  pub progress_ok : (a e : Seen Home) (budget taken posted : ℕ) (stop : Stop) → Going a e taken posted → taken + posted ≤ budget → e.pushed ≡ a.pushed → ((stop ≡ Budget) ↔ (taken + posted ≡ budget)) → StopsAs a e stop
-      → Progressed budget a e (Ok (record { taken = taken; posted = posted; stop = stop }))
-  progress_ok a e budget taken posted stop was most pushed exact stops = record {
+  pub progress_ok : (fixed : Bool) (a e : Seen Home) (budget taken posted : ℕ) (stop : Stop) → Going true a e taken posted → taken + posted ≤ budget → e.pushed ≡ a.pushed → ((stop ≡ Budget) ↔ (taken + posted ≡ budget)) → StopsAs a e stop
+      → Progressed fixed budget a e (Ok (record { taken = taken; posted = posted; stop = stop }))
+  progress_ok fixed a e budget taken posted stop was most pushed exact stops = record {
     acts = was.acts;
     moves = was.moves;
     went = was.went;
     most = (let t = was.takes in let p = was.posts in omega (arith, t, p, most));
     pushed = pushed;
+    begins = was.begun;
     counted = (sym was.takes, sym was.posts, exact, stops);
+    lacks = λ why is. absurd (cc);
   }
 
+  -- draws behind the last frame
+  pub progress_spent : (fixed turned : Bool) (a b e : Seen Home) (budget taken posted : ℕ) (m : Answer) → m ≡ record { taken = taken; posted = posted; stop = Budget } → Going turned a b taken posted → taken + posted ≡ budget → Draws b e → b.pushed ≡ a.pushed
+      → Progressed fixed budget a e (Ok m)
+  progress_spent fixed turned a b e budget taken posted m is was all drawn pushed =
+      let d = drawn.0 in
+      rw is (progress_ok fixed a e budget taken posted Budget (going_spent turned a b e taken posted was drawn) (omega (arith, all)) (d.pushed ∙ pushed) ((λ stop. all), (λ spent. refl)) drawn.1)
+
   -- nothing moved in the last turn
-  pub stops_at : (a b e : Seen Home) (taken posted left : ℕ) (t : Turn) (stop : Stop) → Going a b taken posted → TurnedOn left b e t → t.short ≡ false → t.taken + t.posted ≡ 0
+  pub stops_at : (turned : Bool) (a b e : Seen Home) (taken posted left : ℕ) (t : Turn) (stop : Stop) → Going turned a b taken posted → TurnedOn left b e t → t.short ≡ false → t.taken + t.posted ≡ 0
       → ((t.held ≡ true) × (stop ≡ StoppedCqFull)) ⊎ ((t.held ≡ false) × (stop ≡ Idle)) → StopsAs a e stop
-  stops_at a b e taken posted left t stop was turn un none (inl (held, is)) =
+  stops_at turned a b e taken posted left t stop was turn un none (inl (held, is)) =
       let last = turn.quiet un none in
       rw is (record {
         some = last.some held;
@@ -386,7 +467,7 @@ module _ {Home : Type 0} where
         empty = λ s below. elim (last.ins s below) [ inl saw ↦ inl (empty_on a b e was.acts s was.went saw) | inr lacks ↦ inr lacks.1 ];
         full = λ d below some. elim (last.outs d below some) [ inl saw ↦ inl (full_on a b e was.acts d was.went saw) | inr lacks ↦ inr lacks.1 ];
       })
-  stops_at a b e taken posted left t stop was turn un none (inr (held, is)) =
+  stops_at turned a b e taken posted left t stop was turn un none (inr (held, is)) =
       let last = turn.quiet un none in
       rw is (record {
         draws = not_true (draw_due e.held.state.rx) (λ due. (let yes = (last.draws due).0 in cc));
@@ -404,6 +485,6 @@ pub room_left : (t p b : ℕ) {n : ℕ} → (t + p < b) ⊎ (t + p ≡ 0) → n 
 room_left t p b (inl less) below = less
 room_left t p b (inr none) below = omega (arith, none, below)
 
-pub progress_err_of : {Home : Type 0} (a b e : Seen Home) (budget taken posted left : ℕ) (r : Result Answer NoMemory) (why : NoMemory) → r ≡ Err why → Going a b taken posted → taken + posted + left ≤ budget
-    → Turns left b e (Err why) → e.pushed ≡ a.pushed → Progressed budget a e r
-progress_err_of a b e budget taken posted left r why is was most turns pushed = rw is (progress_err a b e budget taken posted left why was most turns pushed)
+pub progress_err_of : {Home : Type 0} (fixed turned : Bool) (a b e : Seen Home) (budget taken posted left : ℕ) (r : Result Answer NoMemory) (why : NoMemory) → r ≡ Err why → Going turned a b taken posted → taken + posted + left ≤ budget
+    → Turns fixed left b e (Err why) → e.pushed ≡ a.pushed → Progressed fixed budget a e r
+progress_err_of fixed turned a b e budget taken posted left r why is was most turns pushed = rw is (progress_err fixed turned a b e budget taken posted left why was most turns pushed)

@@ -11,7 +11,7 @@ use Rattle.fab_face.specs.Held.{Held, Seen, next_item, next_frame}
 use Rattle.fab_face.specs.declared.events.Event.{Event}
 use Rattle.fab_face.specs.Acts.{Act, Posted, Went, is_post, posted_to}
 use Rattle.fab_ep.specs.Tries.{Calm}
-use Rattle.fab_face.specs.Answers.{AllAre, HasPlaces, IsFull, SawFull, is_final}
+use Rattle.fab_face.specs.Answers.{AllAre, HasPlaces, IsFull, IsTried, SawFull, is_final}
 
 pub record Admits {Home : Type 0} (call : Call) (old new : Seen Home) : Type 0 where
   pub acts : List Act
@@ -21,6 +21,8 @@ pub record Admits {Home : Type 0} (call : Call) (old new : Seen Home) : Type 0 w
   pub places : HasPlaces old
   pub left : HasPlaces new
   pub only_if_full : acts ≢ [] → IsFull old
+  pub tried : IsFull old → (d : ℕ) → d < new.lanes.peers → IsTried old new d
+  pub ins : new.lanes.ins ≡ old.lanes.ins
   pub granted : is_final (do_call new.held.state call).0 ≡ false
   pub room : nat_le new.held.state.most_tx (in_use new.held.state.tx) ≡ false
 

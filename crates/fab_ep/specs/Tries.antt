@@ -11,7 +11,7 @@ use Rattle.fab_link.specs.Meaning.{end_of, taken_end}
 use Rattle.fab_model.specs.Receiving.{draw_due}
 use Rattle.fab_face.specs.Held.{Held, Seen, IsPledged, IsRepaid, IsPlaced, IsGathered, next_frame, next_item, begun_of}
 use Rattle.fab_face.specs.Acts.{Act, Posted, Took, Ported, Went, is_move, is_take, is_post}
-use Rattle.fab_face.specs.Answers.{AllAre, IsShort, SawEmpty, SawFull, LentLacks, NextLacks, DrawLacks, IsHeld}
+use Rattle.fab_face.specs.Answers.{AllAre, IsShort, SawEmpty, SawFull, LentLacks, LentNeeds, MayLack, Begins, NextLacks, DrawLacks, IsHeld, IsTried}
 use Rattle.fab_ep.specs.declared.endpoint.Tried.{Tried}
 use Rattle.fab_ep.specs.declared.endpoint.Tried.TheVariants.{Moved, Nothing, Held as HeldBack, Short}
 use Rattle.fab_ep.specs.declared.endpoint.Turn.{Turn}
@@ -69,7 +69,7 @@ TriesIn old new s (Ok Moved) = (f : Frame) × Went None old new (Took s f ∷ []
 TriesIn old new s (Ok Nothing) = CalmIn old new s × SawEmpty old.lanes new.lanes s
 TriesIn old new s (Ok HeldBack) = CalmIn old new s × LentLacks new s
 TriesIn old new s (Ok Short) = Calm old new × IsShort old
-TriesIn old new s (Err _) = Calm old new
+TriesIn old new s (Err _) = Calm old new × LentNeeds new s
 
 abbrev pub has_moved : Tried → Bool
 has_moved Moved = true
@@ -120,13 +120,17 @@ pub record WentRound {Home : Type 0} (left : ℕ) (a e : Seen Home) (t : Turn) :
   pub short : t.short ≡ true → IsShort e
   pub quiet : t.short ≡ false → t.taken + t.posted ≡ 0 → Turning a e 0 0 t.held e.lanes.peers e.lanes.peers
 
--- so many frames at most, and then memory was lacking
-abbrev pub CutShort : {Home : Type 0} → ℕ → Seen Home → Seen Home → Type 0
-CutShort left a e = (acts : List Act) × AllAre is_move acts × Went None a e acts × (count_by is_take acts + count_by is_post acts ≤ left)
+-- fewer frames, and then memory was lacking
+pub record CutShort {Home : Type 0} (fixed : Bool) (left : ℕ) (a e : Seen Home) : Type 0 where
+  pub acts : List Act
+  pub moves : AllAre is_move acts
+  pub went : Went None a e acts
+  pub few : count_by is_take acts + count_by is_post acts < left
+  pub lacks : MayLack fixed e
 
-abbrev pub Rounds : {Home : Type 0} → ℕ → Seen Home → Seen Home → Result Turn NoMemory → Type 0
-Rounds left a e (Ok t) = WentRound left a e t
-Rounds left a e (Err _) = CutShort left a e
+abbrev pub Rounds : {Home : Type 0} → Bool → ℕ → Seen Home → Seen Home → Result Turn NoMemory → Type 0
+Rounds fixed left a e (Ok t) = WentRound left a e t
+Rounds fixed left a e (Err _) = CutShort fixed left a e
 
 -- no frame moved, and all lanes were looked at: what was seen, and what waits for room
 pub record Quiet {Home : Type 0} (a e : Seen Home) (held : Bool) : Type 0 where
@@ -142,13 +146,14 @@ pub record TurnedOn {Home : Type 0} (left : ℕ) (a e : Seen Home) (t : Turn) : 
   pub went : Went None a e acts
   pub takes : count_by is_take acts ≡ t.taken
   pub posts : count_by is_post acts ≡ t.posted
+  pub begins : Begins a e acts
   pub most : t.taken + t.posted ≤ left
   pub short : t.short ≡ true → IsShort e
   pub quiet : t.short ≡ false → t.taken + t.posted ≡ 0 → Quiet a e t.held
 
-abbrev pub Turns : {Home : Type 0} → ℕ → Seen Home → Seen Home → Result Turn NoMemory → Type 0
-Turns left a e (Ok t) = TurnedOn left a e t
-Turns left a e (Err _) = CutShort left a e
+abbrev pub Turns : {Home : Type 0} → Bool → ℕ → Seen Home → Seen Home → Result Turn NoMemory → Type 0
+Turns fixed left a e (Ok t) = TurnedOn left a e t
+Turns fixed left a e (Err _) = (cut : CutShort fixed left a e) × Begins a e cut.acts
 
 -- ---- a push
 
@@ -159,10 +164,6 @@ PushesOut old new d (Ok Nothing) = CalmOut old new d × (next_frame new.held d �
 PushesOut old new d (Ok HeldBack) = CalmOut old new d × ((f : Frame) × (next_frame new.held d ≡ Some f) × IsHeld new d f)
 PushesOut old new d (Ok Short) = ⊥
 PushesOut old new d (Err _) = Calm old new
-
--- what is next for the peer was refused in this call, or is held back
-abbrev pub IsTried : {Home : Type 0} → Seen Home → Seen Home → ℕ → Type 0
-IsTried old new d = (f : Frame) → next_frame new.held d ≡ Some f → SawFull old.lanes new.lanes d ⊎ IsHeld new d f
 
 -- the same; `moved` says whether one was posted, and it is remembered
 abbrev pub PushesOn : {Home : Type 0} → Seen Home → Seen Home → ℕ → Result Bool NoMemory → Type 0
@@ -183,7 +184,7 @@ pub record PushedTo {Home : Type 0} (old new : Seen Home) (d : ℕ) (whole : Boo
   pub push : AllAre is_post acts
   pub went : Went None old new acts
   pub pushed : new.pushed ≡ (old.pushed || list_any is_post acts)
-  pub tried : whole ≡ true → (f : Frame) → next_frame new.held d ≡ Some f → SawFull old.lanes new.lanes d ⊎ IsHeld new d f
+  pub tried : whole ≡ true → IsTried old new d
 
 abbrev pub PushesTo : {Home : Type 0} → Seen Home → Seen Home → ℕ → Result (Unit {0}) NoMemory → Type 0
 PushesTo old new d (Ok _) = PushedTo old new d true

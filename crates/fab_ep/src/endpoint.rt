@@ -8,6 +8,8 @@ ghost use Rattle.fab_face.specs.Held.{IsOpen, next_frame};
 ghost use Rattle.fab_face.specs.Acts.{only};
 ghost use Rattle.fab_face.specs.Answers.{IsShort, HasPlaces, Progressed};
 ghost use Rattle.fab_face.specs.Ports.{seen, IsFresh};
+ghost use Rattle.fab_face.specs.declared.events.Stop.TheVariants.{Budget};
+ghost use Rattle.fab_ep.specs.Draws.{Draws};
 ghost use Rattle.fab_ep.specs.Tries.{HeldStays, Pushes, PushesOut, PushesOn, PushesTo, IsTied, PostsOut, TriesOut, TriesIn, Rounds, Turns, has_moved, moved_one, is_held, is_short, left_for};
 
 use crate::frames::post_next;
@@ -157,6 +159,7 @@ impl<P: Port, C: Machine> Endpoint<P, C> {
         requires place { next_frame self.old.held dest ≢ None → length self.old.log + 1 ≤ self.old.log_size }
         ensures posts { PostsOut (seen P.Port self.old) (seen P.Port self.new) dest result }
         ensures others { Others dest (P.outs self.old.port) (P.outs self.new.port) }
+        ensures ins { P.ins self.new.port ≡ P.ins self.old.port }
         ensures memory { OnErr result (P.FIXED ≢ true) }
         ensures pushed { self.new.pushed ≡ self.old.pushed }
     {
@@ -196,6 +199,7 @@ impl<P: Port, C: Machine> Endpoint<P, C> {
         requires below { dest < P.peer_count self.old.port }
         ensures tries { TriesOut (seen P.Port self.old) (seen P.Port self.new) dest result }
         ensures others { Others dest (P.outs self.old.port) (P.outs self.new.port) }
+        ensures ins { P.ins self.new.port ≡ P.ins self.old.port }
         ensures memory { OnErr result (P.FIXED ≢ true) }
         ensures pushed { self.new.pushed ≡ self.old.pushed }
     {
@@ -233,6 +237,7 @@ impl<P: Port, C: Machine> Endpoint<P, C> {
         requires places { HasPlaces (seen P.Port self.old) }
         ensures tries { PushesOut (seen P.Port self.old) (seen P.Port self.new) dest result }
         ensures others { Others dest (P.outs self.old.port) (P.outs self.new.port) }
+        ensures ins { P.ins self.new.port ≡ P.ins self.old.port }
         ensures stays { HeldStays (seen P.Port self.old) (seen P.Port self.new) dest }
         ensures places { HasPlaces (seen P.Port self.new) }
         ensures memory { OnErr result (P.FIXED ≢ true) }
@@ -252,6 +257,7 @@ impl<P: Port, C: Machine> Endpoint<P, C> {
         requires places { HasPlaces (seen P.Port self.old) }
         ensures tries { PushesOn (seen P.Port self.old) (seen P.Port self.new) dest result }
         ensures others { Others dest (P.outs self.old.port) (P.outs self.new.port) }
+        ensures ins { P.ins self.new.port ≡ P.ins self.old.port }
         ensures stays { HeldStays (seen P.Port self.old) (seen P.Port self.new) dest }
         ensures places { HasPlaces (seen P.Port self.new) }
         ensures memory { OnErr result (P.FIXED ≢ true) }
@@ -270,6 +276,7 @@ impl<P: Port, C: Machine> Endpoint<P, C> {
         requires places { HasPlaces (seen P.Port self.old) }
         ensures pushes { PushesTo (seen P.Port self.old) (seen P.Port self.new) dest result }
         ensures others { Others dest (P.outs self.old.port) (P.outs self.new.port) }
+        ensures ins { P.ins self.new.port ≡ P.ins self.old.port }
         ensures stays { HeldStays (seen P.Port self.old) (seen P.Port self.new) dest }
         ensures places { HasPlaces (seen P.Port self.new) }
         ensures memory { OnErr result (P.FIXED ≢ true) }
@@ -282,6 +289,7 @@ impl<P: Port, C: Machine> Endpoint<P, C> {
     pub(crate) fn push(&mut self) -> Result<(), NoMemory>
         requires places { HasPlaces (seen P.Port self.old) }
         ensures pushes { Pushes (seen P.Port self.old) (seen P.Port self.new) result }
+        ensures ins { P.ins self.new.port ≡ P.ins self.old.port }
         ensures places { HasPlaces (seen P.Port self.new) }
         ensures memory { OnErr result (P.FIXED ≢ true) }
     {
@@ -328,7 +336,7 @@ impl<P: Port, C: Machine> Endpoint<P, C> {
     /// while fewer than `left` have moved.
     fn round(&mut self, left: u32) -> Result<Turn, NoMemory>
         requires some { 0 < left }
-        ensures rounds { Rounds left (seen P.Port self.old) (seen P.Port self.new) result }
+        ensures rounds { Rounds P.FIXED left (seen P.Port self.old) (seen P.Port self.new) result }
         ensures pushed { self.new.pushed ≡ self.old.pushed }
     {
         let peers = self.port.peers();
@@ -386,7 +394,7 @@ impl<P: Port, C: Machine> Endpoint<P, C> {
     /// One turn: the draws that are due, as far as there is room for them, and then a round of frames.
     fn turn(&mut self, left: u32) -> Result<Turn, NoMemory>
         requires some { 0 < left }
-        ensures turns { Turns left (seen P.Port self.old) (seen P.Port self.new) result }
+        ensures turns { Turns P.FIXED left (seen P.Port self.old) (seen P.Port self.new) result }
         ensures pushed { self.new.pushed ≡ self.old.pushed }
     {
         self.draw_all();
@@ -408,10 +416,23 @@ impl<P: Port, C: Machine> Endpoint<P, C> {
         })
     }
 
+    /// The budget is spent. The draws that are due are made, as far as there is room for them.
+    fn spend(&mut self, taken: u32, posted: u32) -> Moved
+        ensures draws { Draws (seen P.Port self.old) (seen P.Port self.new) }
+        ensures moved { result ≡ record { taken = taken; posted = posted; stop = Budget } }
+    {
+        self.draw_all();
+        Moved {
+            taken,
+            posted,
+            stop: Stop::Budget,
+        }
+    }
+
     /// Draws, posts and takes frames in turns, until a turn moves no frame, `budget` frames have moved, or
-    /// the log is short.
+    /// the log is short. Where the budget ends it, draws are made once more.
     pub(crate) fn move_frames(&mut self, budget: u32) -> Result<Moved, NoMemory>
-        ensures { Progressed budget (seen P.Port self.old) (seen P.Port self.new) result }
+        ensures { Progressed P.FIXED budget (seen P.Port self.old) (seen P.Port self.new) result }
     {
         let mut taken = 0;
         let mut posted = 0;
@@ -420,11 +441,7 @@ impl<P: Port, C: Machine> Endpoint<P, C> {
             taken += turn.taken;
             posted += turn.posted;
             if taken + posted == budget {
-                return Ok(Moved {
-                    taken,
-                    posted,
-                    stop: Stop::Budget,
-                });
+                return Ok(self.spend(taken, posted));
             }
             if turn.short {
                 return Ok(Moved {
@@ -442,10 +459,6 @@ impl<P: Port, C: Machine> Endpoint<P, C> {
                 });
             }
         }
-        Ok(Moved {
-            taken,
-            posted,
-            stop: Stop::Budget,
-        })
+        Ok(self.spend(taken, posted))
     }
 }

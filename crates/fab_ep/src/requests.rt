@@ -41,6 +41,7 @@ impl<P: Port, C: Requesting> Endpoint<P, C> {
         requires place { length self.old.log + 1 ≤ self.old.log_size }
         ensures did { Went (Some (requesting request.now buf [] (Some buf))) (seen P.Port self.old) (seen P.Port self.new) (Did ∷ []) }
         ensures pushed { self.new.pushed ≡ self.old.pushed }
+        ensures ins { P.ins self.new.port ≡ P.ins self.old.port }
     {
         self.core.known();
         self.core.request_owned(request, buf);
@@ -55,6 +56,7 @@ impl<P: Port, C: Requesting> Endpoint<P, C> {
         requires place { length self.old.log + 1 ≤ self.old.log_size }
         ensures did { Went (Some (requesting request.now bytes.now compared.now buf)) (seen P.Port self.old) (seen P.Port self.new) (Did ∷ []) }
         ensures pushed { self.new.pushed ≡ self.old.pushed }
+        ensures ins { P.ins self.new.port ≡ P.ins self.old.port }
     {
         self.core.known();
         self.core.request_copied(request, bytes, compared, buf);

@@ -8,3 +8,4 @@ pub mod Owed
 pub mod Owing
 pub mod Arriving
 pub mod Repaid
+mod Refused

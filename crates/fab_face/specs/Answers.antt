@@ -2,6 +2,7 @@
 --     Sends, Receives       a transmit call, a receive call that is Ok
 --     SendsNot, ReceivesNot     the same refused
 --     Progressed            progress
+--     Begins, MayLack       what it makes first, and where it may lack memory
 --     IsIdle old new        nothing is left to move, as the call itself saw
 --     Locally call          a call that logs nothing: of addresses, regions and counters
 --     Pops, CanNotPop       the completion queue
@@ -92,6 +93,24 @@ LentLacks e s = (f : Frame) × ((e.lanes.ins s).lent ≡ Some f) × FrameLacks e
 abbrev pub NextLacks : {Home : Type 0} → Seen Home → ℕ → Type 0
 NextLacks e d = (f : Frame) × (next_frame e.held d ≡ Some f) × SentLacks e.held d f
 
+-- draws are made as far as there is room for them
+abbrev pub Drawn : {Home : Type 0} → Seen Home → Type 0
+Drawn e = draw_due e.held.state.rx ≡ true → (fits (do_draw e.held.state).cq ≡ false) ⊎ IsShort e
+
+-- ---- where memory may be lacking
+
+-- the frame is the first of its item, which may need memory for its bytes or for the reply that it asks for, and it waits for no draw
+abbrev pub MayNeed : Held → Frame → Type 0
+MayNeed h f = (is_first f ≡ true) × (draw_due h.state.rx ≡ false)
+
+-- such a frame of the peer lies lent
+abbrev pub LentNeeds : {Home : Type 0} → Seen Home → ℕ → Type 0
+LentNeeds e s = (f : Frame) × ((e.lanes.ins s).lent ≡ Some f) × MayNeed e.held f
+
+-- a frame that was to be posted over a port that takes memory, or a first frame that lies lent
+abbrev pub MayLack : {Home : Type 0} → Bool → Seen Home → Type 0
+MayLack fixed e = (fixed ≡ false) ⊎ ((s : ℕ) × LentNeeds e s)
+
 -- ---- why progress ends
 
 -- no draw is due, every lane was seen empty, and full where frames wait for it
@@ -109,24 +128,39 @@ pub record IsHeldBack {Home : Type 0} (old new : Seen Home) : Type 0 where
 
 abbrev pub StopsAs : {Home : Type 0} → Seen Home → Seen Home → Stop → Type 0
 StopsAs old new Idle = IsIdle old new
-StopsAs old new Budget = Unit {0}
+StopsAs old new Budget = Drawn new
 StopsAs old new StoppedCqFull = IsHeldBack old new
 StopsAs old new StoppedLogFull = IsShort new
 
--- the answer counts the frames, and says why no more were moved; want of memory is free
+-- the answer counts the frames, and says why no more were moved; where memory lacked, they are fewer than `budget`
 abbrev pub Counted : {Home : Type 0} → ℕ → Seen Home → Seen Home → List Act → Result Moved NoMemory → Type 0
 Counted budget old new acts (Ok moved) =
     (moved.taken ≡ count_by is_take acts) × (moved.posted ≡ count_by is_post acts) × ((moved.stop ≡ Budget) ↔ (moved.taken + moved.posted ≡ budget)) × StopsAs old new moved.stop
-Counted budget old new acts (Err _) = Unit {0}
+Counted budget old new acts (Err _) = count_by is_take acts + count_by is_post acts < budget
+
+-- the acts begin with the draws that are due, as far as there is room for them, and till then the port is not asked
+pub record Begins {Home : Type 0} (old new : Seen Home) (acts : List Act) : Type 0 where
+  pub draws : List Act
+  pub mid : Seen Home
+  pub rest : List Act
+  pub parts : acts ≡ draws ++ rest
+  pub are : AllAre is_draw draws
+  pub drew : Went None old mid draws
+  pub lanes : mid.lanes ≡ old.lanes
+  pub drawn : Drawn mid
+  pub went : Went None mid new rest
 
 -- frames and draws, at most `budget` frames
-pub record Progressed {Home : Type 0} (budget : ℕ) (old new : Seen Home) (answer : Result Moved NoMemory) : Type 0 where
+pub record Progressed {Home : Type 0} (fixed : Bool) (budget : ℕ) (old new : Seen Home) (answer : Result Moved NoMemory) : Type 0 where
   pub acts : List Act
   pub moves : AllAre is_move acts
   pub went : Went None old new acts
   pub most : count_by is_take acts + count_by is_post acts ≤ budget
   pub pushed : new.pushed ≡ old.pushed
+  -- draws are made before the first frame moves
+  pub begins : Begins old new acts
   pub counted : Counted budget old new acts answer
+  pub lacks : (why : NoMemory) → answer ≡ Err why → MayLack fixed new
 
 -- ---- transmit and receive calls
 
@@ -158,21 +192,36 @@ IsFull e = e.held.state.most_tx ≤ in_use e.held.state.tx
 abbrev pub IsHeld : {Home : Type 0} → Seen Home → ℕ → Frame → Type 0
 IsHeld e d f = (is_last f.head ≡ true) × ((fits (do_sent e.held.state d).cq ≡ false) ⊎ (e.log_size ≡ length e.log + 2))
 
--- a transmit call that is Ok: a push where all entries are in use, the call, and what of the item goes at once
+-- what is next for the peer was refused since `old`, or is held for room in the completion queue or in the log
+abbrev pub IsTried : {Home : Type 0} → Seen Home → Seen Home → ℕ → Type 0
+IsTried old new d = (f : Frame) → next_frame new.held d ≡ Some f → SawFull old.lanes new.lanes d ⊎ IsHeld new d f
+
+-- a transmit call that is Ok: a push where all entries are in use; then, in `mid`, the call, and what of the item goes at once
 pub record Sends {Home : Type 0} (fixed : Bool) (call : Call) (dest : ℕ) (old new : Seen Home) : Type 0 where
   pub before : List Act
+  pub mid : Seen Home
   pub after : List Act
   pub push : AllAre is_post before
   pub posts : AllAre is_post after
   pub went : Went (Some call) old new (before ++ Did ∷ after)
+  pub till : Went None old mid before
+  pub from : Went (Some call) mid new (Did ∷ after)
   pub pushed : new.pushed ≡ list_any is_post (before ++ Did ∷ after)
+  -- the push leaves the log two places: for the call, and for the item
   pub places : HasPlaces old
+  pub place : HasPlaces mid
   pub only_if_full : before ≢ [] → IsFull old
+  -- the push tries each peer, in whatever order, until nothing of it may go
+  pub tried : IsFull old → (d : ℕ) → d < mid.lanes.peers → IsTried old mid d
   -- what goes at once goes to its peer
   pub own : (t d : ℕ) → lookup old.held.state.av dest ≡ Some t → d ≢ t → posted_to d after ≡ []
-  -- where nothing waited for its peer, the item is posted whole, or the call saw why not
-  pub goes_out : (t : ℕ) → lookup old.held.state.av dest ≡ Some t → next_frame old.held t ≡ None
+  -- where nothing waits for its peer when the call is made, the item is posted whole, or the call saw why not
+  pub goes_out : (t : ℕ) → lookup old.held.state.av dest ≡ Some t → next_frame mid.held t ≡ None
       → (f : Frame) → next_frame new.held t ≡ Some f → SawFull old.lanes new.lanes t ⊎ (((is_last f.head ≡ true) × (fits (do_sent new.held.state t).cq ≡ false)) ⊎ (fixed ≡ false))
+  -- where something waits for its peer then, nothing is posted behind the call
+  pub behind : (t : ℕ) → lookup old.held.state.av dest ≡ Some t → next_frame mid.held t ≢ None → after ≡ []
+  -- no lane that comes in is looked at
+  pub ins : new.lanes.ins ≡ old.lanes.ins
 
 -- a transmit call that is refused: its push, and the machine's fault after it
 pub record SendsNot {Home : Type 0} (fixed : Bool) (call : Call) (old new : Seen Home) (fault : Fault) : Type 0 where
@@ -183,16 +232,16 @@ pub record SendsNot {Home : Type 0} (fixed : Bool) (call : Call) (old new : Seen
   pub judged : Judged call old new (IsShort old) fault
   pub early : is_early fault ≡ true → acts ≡ []
   pub short : IsShort old → acts ≡ []
+  -- the push leaves the log two places
+  pub place : HasPlaces old → HasPlaces new
+  -- no lane that comes in is looked at
+  pub ins : new.lanes.ins ≡ old.lanes.ins
   -- before these refusals the port is not asked
   pub still : (is_early fault ≡ true) ⊎ IsShort old → new.lanes ≡ old.lanes
   pub memory : fault ≡ LacksMemory → (fixed ≡ false) × IsFull old
   pub only_if_full : acts ≢ [] → IsFull old
   -- where entries are the trouble, each next frame was refused in this call or is held back
-  pub tried : (n : ℕ) → fault ≡ Again (TxFull n) → (d : ℕ) → d < new.lanes.peers → (f : Frame) → next_frame new.held d ≡ Some f → SawFull old.lanes new.lanes d ⊎ IsHeld new d f
-
--- draws are made as far as there is room for them
-abbrev pub Drawn : {Home : Type 0} → Seen Home → Type 0
-Drawn e = draw_due e.held.state.rx ≡ true → (fits (do_draw e.held.state).cq ≡ false) ⊎ IsShort e
+  pub tried : (n : ℕ) → fault ≡ Again (TxFull n) → (d : ℕ) → d < new.lanes.peers → IsTried old new d
 
 -- a receive call that is Ok: the draws that are due, the call, and the draws that are due then
 pub record Receives {Home : Type 0} (call : Call) (old new : Seen Home) : Type 0 where
@@ -267,10 +316,10 @@ ReadsAs mid new (Err _) (Err _) = ⊥
 ReadsAs mid new (Ok _) (Err fault) = (new ≡ mid) × PopsNot mid.held.state.cq fault
 
 -- progress, and then the first entry
-pub record ReadsOn {Home : Type 0} (budget : ℕ) (old new : Seen Home) (answer : Result Entry Fault) : Type 0 where
+pub record ReadsOn {Home : Type 0} (fixed : Bool) (budget : ℕ) (old new : Seen Home) (answer : Result Entry Fault) : Type 0 where
   pub mid : Seen Home
   pub moved : Result Moved NoMemory
-  pub progressed : Progressed budget old mid moved
+  pub progressed : Progressed fixed budget old mid moved
   pub popped : ReadsAs mid new moved answer
   -- where all is read, nothing waits for room in the completion queue: the budget is spent, or progress was idle, or the log is short
   pub waits : answer ≡ Err NoEntry → (count_by is_take progressed.acts + count_by is_post progressed.acts ≡ budget) ⊎ (IsIdle old mid ⊎ IsShort mid)

@@ -250,10 +250,11 @@ pub trait Multis: Sees {
 
 /// Progress and the completion queue (fi_cq(3)).
 pub trait Progress: Sees {
-    /// Moves at most `budget` frames, and makes the draws that are due: an endpoint moves only when it is
-    /// called (FI_PROGRESS_MANUAL of fi_domain(3)). What was moved before want of memory stays moved.
+    /// Moves at most `budget` frames, and makes the draws that are due, before the first frame and again
+    /// behind the last: an endpoint moves only when it is called (FI_PROGRESS_MANUAL of fi_domain(3)). What
+    /// was moved before want of memory stays moved.
     fn progress(&mut self, budget: u32) -> Result<Moved, NoMemory>
-        ensures { Progressed budget (Self.seen self.old) (Self.seen self.new) result };
+        ensures { Progressed Self.fixed budget (Self.seen self.old) (Self.seen self.new) result };
 
     /// Takes the first completion (fi_cq_read). `NoEntry` where there is none, which is FI_EAGAIN there, and
     /// `Avail` where it is an error.
@@ -269,7 +270,7 @@ pub trait Progress: Sees {
     /// Makes progress, and then takes the first completion. `NoEntry` where there is none: then `budget` frames
     /// were moved, or nothing is left to move, or the log has fewer than two free places.
     fn cq_read(&mut self, budget: u32) -> Result<Entry, Fault>
-        ensures { ReadsOn budget (Self.seen self.old) (Self.seen self.new) result };
+        ensures { ReadsOn Self.fixed budget (Self.seen self.old) (Self.seen self.new) result };
 }
 
 /// Counters (fi_cntr(3)).

@@ -14,7 +14,7 @@ ghost use Rattle.fab_base.specs.declared.faults.Fault.TheVariants.{NoEntry};
 ghost use Rattle.fab_base.specs.declared.operations.Written.{Written};
 ghost use Rattle.fab_face.specs.Held.{Held, next_item, begun_of};
 ghost use Rattle.fab_face.specs.Acts.{Goes, Took, Drew, DoesCall, has_read};
-ghost use Rattle.fab_face.specs.Answers.{FrameLacks, PopsNot, PopsNotErr, is_final};
+ghost use Rattle.fab_face.specs.Answers.{FrameLacks, MayNeed, PopsNot, PopsNotErr, is_final};
 ghost use Rattle.fab_face.specs.Machine.{IsSteady, IsNext, StayNext, finished, gone_on, sending, asking, cancelling};
 
 use fab_base::{Buf, Entry, ErrEntry, Fault, Flags, FrameHead, ItemHead, NoMemory, Refused};
@@ -91,7 +91,7 @@ pub trait Machine {
     // ---- what comes in
 
     /// Takes a frame of a peer: the next one of its item. False where it waits for room in the completion
-    /// queue, and then nothing changes; nor does it after want of memory.
+    /// queue, and then nothing changes; nor does it after want of memory, which only a first frame may have.
     fn take(&mut self, source: u32, head: &FrameHead, bytes: &[u8]) -> Result<bool, NoMemory>
         requires below { source < length (held self.old).places }
         requires next { IsNext (begun_of (held self.old) source) (frame head.now bytes.now) }
@@ -103,7 +103,8 @@ pub trait Machine {
         ensures places { (held self.new).places ≡ (held self.old).places }
         ensures no { result ≡ Ok false → FrameLacks (held self.old) source (frame head.now bytes.now) }
         ensures stays { result ≡ Ok false → held self.new ≡ held self.old }
-        ensures err { OnErr result (held self.new ≡ held self.old) };
+        ensures err { OnErr result (held self.new ≡ held self.old) }
+        ensures lacks { OnErr result (MayNeed (held self.old) (frame head.now bytes.now)) };
 
     // ---- draws (FI_MULTI_RECV of fi_msg(3))
 

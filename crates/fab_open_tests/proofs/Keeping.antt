@@ -37,8 +37,8 @@ keeps_received call old new received = keeps_went _ old new _ received.went
 pub keeps_refused : {Home : Type 0} (call : Call) (old new : Seen Home) (why : Fault) → ReceivesNot call old new why → Keeps old new
 keeps_refused call old new why refused = keeps_went _ old new _ refused.went
 
-pub keeps_progressed : {Home : Type 0} (budget : ℕ) (old new : Seen Home) (answer : Result Moved NoMemory) → Progressed budget old new answer → Keeps old new
-keeps_progressed budget old new answer progressed = keeps_went _ old new _ progressed.went
+pub keeps_progressed : {Home : Type 0} (fixed : _) (budget : ℕ) (old new : Seen Home) (answer : Result Moved NoMemory) → Progressed fixed budget old new answer → Keeps old new
+keeps_progressed fixed budget old new answer progressed = keeps_went _ old new _ progressed.went
 
 pub keeps_same : {Home : Type 0} (old new : Seen Home) → new ≡ old → Keeps old new
 keeps_same {Home} old new same = subst (λ (x : Seen Home). Keeps old x) (sym same) (refl, λ s. refl)
@@ -61,5 +61,5 @@ keeps_read mid new (Err e) (Err MsgSize) reads = absurd reads
 keeps_read mid new (Err e) (Err NotSupported) reads = absurd reads
 keeps_read mid new (Err e) (Err NoEntry) reads = absurd reads
 
-pub keeps_reading : {Home : Type 0} (budget : ℕ) (old new : Seen Home) (answer : Result Entry Fault) → ReadsOn budget old new answer → Keeps old new
-keeps_reading budget old new answer reads = keeps_again old reads.mid new (keeps_progressed budget old reads.mid reads.moved reads.progressed) (keeps_read reads.mid new reads.moved answer reads.popped)
+pub keeps_reading : {Home : Type 0} (fixed : _) (budget : ℕ) (old new : Seen Home) (answer : Result Entry Fault) → ReadsOn fixed budget old new answer → Keeps old new
+keeps_reading fixed budget old new answer reads = keeps_again old reads.mid new (keeps_progressed fixed budget old reads.mid reads.moved reads.progressed) (keeps_read reads.mid new reads.moved answer reads.popped)

@@ -65,7 +65,7 @@ moved_some (Posted dest f ∷ acts) are =
 moved_some (Drew ∷ acts) are = or_true (nat_lt 0 (count_by is_take (Drew ∷ acts)) || nat_lt 0 (count_by is_post (Drew ∷ acts)))
 moved_some (Had ∷ acts) are = absurd (cc)
 
-module _ {Home : Type 0} (a : Told Home) (e : Seen Home) (m : Moved) (none : a.seen.log ≡ []) (opened : IsOpen e) (p : Progressed 64 a.seen e (Ok m)) where
+module _ {Home : Type 0} (a : Told Home) (e : Seen Home) (m : Moved) (none : a.seen.log ≡ []) (opened : IsOpen e) {fixed : Bool} (p : Progressed fixed 64 a.seen e (Ok m)) where
   -- where nothing moved, nothing can
   idle_of : p.acts ≡ [] → IsRead a.seen → IsIdle a.seen (let d = drained (with_seen a e) in d.seen)
   idle_of empty read = by_stop m.stop refl p.counted.3

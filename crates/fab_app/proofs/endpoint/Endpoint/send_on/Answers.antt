@@ -22,7 +22,7 @@ times-preserved g c =
     let (busy, is) = c.in-Late.ensures in
     let told = refused_is _ c.send_once.result _ is c.send_once.ensures.err in
     record {
-      before = moved_on (seen c.args.self.now) (seen c.send_once.new.self) (seen c.progress.new.self) _ _ (refused_on g.E.Sees.fixed (sent_by c.args.message c.times.buf) (seen c.args.self.now) (seen c.times.self) (seen c.send_once.new.self) _ c.times.invariant.before told.1) c.progress.ensures;
+      before = moved_on g.E.Sees.fixed (seen c.args.self.now) (seen c.send_once.new.self) (seen c.progress.new.self) _ _ (refused_on g.E.Sees.fixed (sent_by c.args.message c.times.buf) (seen c.args.self.now) (seen c.times.self) (seen c.send_once.new.self) _ c.times.invariant.before told.1) c.progress.ensures;
       buf = told.0 ∙ c.times.invariant.buf;
     }
 

@@ -7,6 +7,7 @@ use Rattle.fab_ep.proofs.endpoint.Endpoint.let_out.Given as goal
 abbrev pub invariant-loop : goal.invariant-loop
 invariant-loop g l = record {
   letting : Letting (seen g.P.Port l.fn.self) (seen g.P.Port l.self) l.fn.dest;
+  ins : g.P.Port.ins l.self.port ≡ g.P.Port.ins l.fn.self.port;
   dest : l.dest ≡ l.fn.dest;
 }
 

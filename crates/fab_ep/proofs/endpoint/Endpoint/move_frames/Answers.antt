@@ -1,12 +1,12 @@
-use Rattle.std.proofs.Common.{rules, ◌≡◌, ◌<◌, ◌+◌, ◌∙◌, inl, inr, refl, arith}
-use Rattle.fab_face.specs.declared.events.Stop.TheVariants.{Idle, Budget, CqFull, LogFull}
+use Rattle.std.proofs.Common.{rules, true, false, ◌≡◌, ◌<◌, ◌+◌, ◌∙◌, inl, inr, refl, arith}
+use Rattle.fab_face.specs.declared.events.Stop.TheVariants.{Idle, CqFull, LogFull}
 use Rattle.fab_face.specs.Ports.{seen}
-use Rattle.fab_ep.proofs.Turning.{going_none, going_on, progress_err_of, progress_ok, stops_at, room_left}
+use Rattle.fab_ep.proofs.Turning.{going_none, going_on, progress_err_of, progress_ok, progress_spent, stops_at, room_left}
 use Rattle.fab_ep.proofs.endpoint.Endpoint.move_frames.Goals as goal
 
 pub loop-turn-init : goal.loop-turn-init
 loop-turn-init g c = record {
-  going = going_none (seen g.P.Port c.args.self.now);
+  going = (false, going_none (seen g.P.Port c.args.self.now));
   most = omega arith;
   turns = omega arith;
   left = inr refl;
@@ -21,8 +21,9 @@ turn-requires g c =
 
 pub returns-in_err-turn : goal.returns-in_err-turn
 returns-in_err-turn g c =
-    progress_err_of (seen g.P.Port c.args.self.now) (seen g.P.Port c.loop-turn.self) (seen g.P.Port c.turn.new.self) c.args.budget c.loop-turn.taken c.loop-turn.posted _ c.from_residual.result c.in_err-turn.field-0.0
-    (search rules) c.loop-turn.invariant.going (let m = c.loop-turn.invariant.most in omega (arith, m)) c.in_err-turn.ensures.turns (c.in_err-turn.ensures.pushed ∙ c.loop-turn.invariant.pushed)
+    let was = c.loop-turn.invariant.going in
+    progress_err_of g.P.Port.FIXED was.0 (seen g.P.Port c.args.self.now) (seen g.P.Port c.loop-turn.self) (seen g.P.Port c.turn.new.self) c.args.budget c.loop-turn.taken c.loop-turn.posted _ c.from_residual.result c.in_err-turn.field-0.0
+    (search rules) was.1 (let m = c.loop-turn.invariant.most in omega (arith, m)) c.in_err-turn.ensures.turns (c.in_err-turn.ensures.pushed ∙ c.loop-turn.invariant.pushed)
 
 pub overflow_add-taken-in-loop-turn : goal.overflow_add-taken-in-loop-turn
 overflow_add-taken-in-loop-turn g c =
@@ -33,48 +34,53 @@ overflow_add-taken-in-loop-turn g c =
 
 pub returns-then-taken-posted : goal.returns-then-taken-posted
 returns-then-taken-posted g c =
-    let on = going_on _ _ _ _ _ _ c.in_ok-turn.turn c.loop-turn.invariant.going c.in_ok-turn.ensures.turns in
-    progress_ok (seen g.P.Port c.args.self.now) (seen g.P.Port c.turn.new.self) c.args.budget _ _ Budget on (omega (arith, c.if-taken-posted.true)) (c.in_ok-turn.ensures.pushed ∙ c.loop-turn.invariant.pushed)
-    ((λ is. omega (arith, c.if-taken-posted.true)), (λ is. refl)) tt
+    let was = c.loop-turn.invariant.going in
+    let on = going_on was.0 _ _ _ _ _ _ c.in_ok-turn.turn was.1 c.in_ok-turn.ensures.turns in
+    progress_spent g.P.Port.FIXED true (seen g.P.Port c.args.self.now) (seen g.P.Port c.turn.new.self) (seen g.P.Port c.spend.new.self) c.args.budget _ _ c.spend.result c.spend.ensures.moved on (omega (arith, c.if-taken-posted.true)) c.spend.ensures.draws
+    (c.in_ok-turn.ensures.pushed ∙ c.loop-turn.invariant.pushed)
 
 pub returns-then-turn : goal.returns-then-turn
 returns-then-turn g c =
     let m = c.loop-turn.invariant.most in
+    let was = c.loop-turn.invariant.going in
     let t = c.in_ok-turn.ensures.turns in
     let n = t.most in
-    let on = going_on _ _ _ _ _ _ c.in_ok-turn.turn c.loop-turn.invariant.going t in
-    progress_ok (seen g.P.Port c.args.self.now) (seen g.P.Port c.turn.new.self) c.args.budget _ _ LogFull on (omega (arith, m, n)) (c.in_ok-turn.ensures.pushed ∙ c.loop-turn.invariant.pushed)
+    let on = going_on was.0 _ _ _ _ _ _ c.in_ok-turn.turn was.1 t in
+    progress_ok g.P.Port.FIXED (seen g.P.Port c.args.self.now) (seen g.P.Port c.turn.new.self) c.args.budget _ _ LogFull on (omega (arith, m, n)) (c.in_ok-turn.ensures.pushed ∙ c.loop-turn.invariant.pushed)
     ((λ is. absurd (cc)), (λ is. absurd (omega (arith, is, c.if-taken-posted.false)))) (t.short c.if-turn.true)
 
 pub returns-then-turn-2 : goal.returns-then-turn-2
 returns-then-turn-2 g c =
     let m = c.loop-turn.invariant.most in
+    let was = c.loop-turn.invariant.going in
     let t = c.in_ok-turn.ensures.turns in
     let n = t.most in
-    let on = going_on _ _ _ _ _ _ c.in_ok-turn.turn c.loop-turn.invariant.going t in
-    progress_ok (seen g.P.Port c.args.self.now) (seen g.P.Port c.turn.new.self) c.args.budget _ _ CqFull on (omega (arith, m, n)) (c.in_ok-turn.ensures.pushed ∙ c.loop-turn.invariant.pushed)
+    let on = going_on was.0 _ _ _ _ _ _ c.in_ok-turn.turn was.1 t in
+    progress_ok g.P.Port.FIXED (seen g.P.Port c.args.self.now) (seen g.P.Port c.turn.new.self) c.args.budget _ _ CqFull on (omega (arith, m, n)) (c.in_ok-turn.ensures.pushed ∙ c.loop-turn.invariant.pushed)
     ((λ is. absurd (cc)), (λ is. absurd (omega (arith, is, c.if-taken-posted.false))))
-    (stops_at (seen g.P.Port c.args.self.now) (seen g.P.Port c.loop-turn.self) (seen g.P.Port c.turn.new.self) _ _ _ c.in_ok-turn.turn CqFull c.loop-turn.invariant.going t c.if-turn.false (search rules) (inl (search rules, refl)))
+    (stops_at was.0 (seen g.P.Port c.args.self.now) (seen g.P.Port c.loop-turn.self) (seen g.P.Port c.turn.new.self) _ _ _ c.in_ok-turn.turn CqFull was.1 t c.if-turn.false (search rules) (inl (search rules, refl)))
 
 pub returns-else-turn-2 : goal.returns-else-turn-2
 returns-else-turn-2 g c =
     let m = c.loop-turn.invariant.most in
+    let was = c.loop-turn.invariant.going in
     let t = c.in_ok-turn.ensures.turns in
     let n = t.most in
-    let on = going_on _ _ _ _ _ _ c.in_ok-turn.turn c.loop-turn.invariant.going t in
-    progress_ok (seen g.P.Port c.args.self.now) (seen g.P.Port c.turn.new.self) c.args.budget _ _ Idle on (omega (arith, m, n)) (c.in_ok-turn.ensures.pushed ∙ c.loop-turn.invariant.pushed)
+    let on = going_on was.0 _ _ _ _ _ _ c.in_ok-turn.turn was.1 t in
+    progress_ok g.P.Port.FIXED (seen g.P.Port c.args.self.now) (seen g.P.Port c.turn.new.self) c.args.budget _ _ Idle on (omega (arith, m, n)) (c.in_ok-turn.ensures.pushed ∙ c.loop-turn.invariant.pushed)
     ((λ is. absurd (cc)), (λ is. absurd (omega (arith, is, c.if-taken-posted.false))))
-    (stops_at (seen g.P.Port c.args.self.now) (seen g.P.Port c.loop-turn.self) (seen g.P.Port c.turn.new.self) _ _ _ c.in_ok-turn.turn Idle c.loop-turn.invariant.going t c.if-turn.false (search rules) (inr (search rules, refl)))
+    (stops_at was.0 (seen g.P.Port c.args.self.now) (seen g.P.Port c.loop-turn.self) (seen g.P.Port c.turn.new.self) _ _ _ c.in_ok-turn.turn Idle was.1 t c.if-turn.false (search rules) (inr (search rules, refl)))
 
 pub loop-turn-preserved : goal.loop-turn-preserved
 loop-turn-preserved g c =
     let was = c.loop-turn.invariant in
+    let before = was.going in
     let m = was.most in
     let s = was.turns in
     let t = c.in_ok-turn.ensures.turns in
     let n = t.most in
     record {
-      going = going_on _ _ _ _ _ _ c.in_ok-turn.turn was.going t;
+      going = (true, going_on before.0 _ _ _ _ _ _ c.in_ok-turn.turn before.1 t);
       most = omega (arith, m, n);
       turns = omega (arith, s, c.if-turn-eq0.false);
       left = inl (omega (arith, m, n, c.if-taken-posted.false));
@@ -85,7 +91,8 @@ loop-turn-preserved g c =
 pub returns : goal.returns
 returns g c =
     let was = c.loop-turn.invariant in
+    let before = was.going in
     let m = was.most in
     let s = was.turns in
     let all : c.loop-turn.taken + c.loop-turn.posted ≡ c.args.budget = omega (arith, m, s, c.loop-turn-test.false, c.loop-turn.auto._turn-end) in
-    progress_ok (seen g.P.Port c.args.self.now) (seen g.P.Port c.loop-turn.self) c.args.budget c.loop-turn.taken c.loop-turn.posted Budget was.going m was.pushed ((λ is. all), (λ is. refl)) tt
+    progress_spent g.P.Port.FIXED before.0 (seen g.P.Port c.args.self.now) (seen g.P.Port c.loop-turn.self) (seen g.P.Port c.spend-2.new.self) c.args.budget c.loop-turn.taken c.loop-turn.posted c.spend-2.result c.spend-2.ensures.moved before.1 all c.spend-2.ensures.draws was.pushed

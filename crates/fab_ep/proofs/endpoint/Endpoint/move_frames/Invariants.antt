@@ -1,11 +1,11 @@
-use Rattle.std.proofs.Common.{◌≡◌, ◌≤◌, ◌<◌, ◌+◌, ◌⊎◌}
+use Rattle.std.proofs.Common.{Bool, ◌≡◌, ◌≤◌, ◌<◌, ◌+◌, ◌⊎◌}
 use Rattle.fab_face.specs.Ports.{seen}
 use Rattle.fab_ep.proofs.Turning.{Going}
 use Rattle.fab_ep.proofs.endpoint.Endpoint.move_frames.Given as goal
 
 abbrev pub invariant-loop-turn : goal.invariant-loop-turn
 invariant-loop-turn g l = record {
-  going : Going (seen g.P.Port l.fn.self) (seen g.P.Port l.self) l.taken l.posted;
+  going : (turned : Bool) × Going turned (seen g.P.Port l.fn.self) (seen g.P.Port l.self) l.taken l.posted;
   most : l.taken + l.posted ≤ l.budget;
   turns : l._turn ≤ l.taken + l.posted;
   left : (l.taken + l.posted < l.budget) ⊎ (l.taken + l.posted ≡ 0);

@@ -1,4 +1,4 @@
-use Rattle.std.proofs.Common.{rules, arith, ◌∙◌, sym}
+use Rattle.std.proofs.Common.{rules, refl, arith, ◌∙◌, sym}
 use Rattle.fab_face.specs.Ports.{seen}
 use Rattle.fab_ep.proofs.Staying.{pushing_none, pushing_on, pushing_err, pushing_all, pushing_peers}
 use Rattle.fab_ep.proofs.endpoint.Endpoint.push.Goals as goal
@@ -6,6 +6,7 @@ use Rattle.fab_ep.proofs.endpoint.Endpoint.push.Goals as goal
 pub loop-dest-init : goal.loop-dest-init
 loop-dest-init g c = record {
   pushing = pushing_none (seen g.P.Port c.args.self.now);
+  ins = refl;
   places = c.requires.places;
   peers = search rules;
 }
@@ -19,6 +20,7 @@ loop-dest-preserved g c =
     let on = pushing_on a e e1 c.loop-dest.dest was.pushing c.in_ok-push_to.ensures.pushes c.in_ok-push_to.ensures.others c.in_ok-push_to.ensures.stays in
     record {
       pushing = on;
+      ins = c.in_ok-push_to.ensures.ins ∙ was.ins;
       places = c.in_ok-push_to.ensures.places;
       peers = was.peers ∙ pushing_peers a e _ was.pushing ∙ sym (pushing_peers a e1 _ on);
     }

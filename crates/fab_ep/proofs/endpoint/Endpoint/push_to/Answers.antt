@@ -9,6 +9,7 @@ loop-init g c = record {
   pushed = posting_none (seen g.P.Port c.args.self.now) c.args.dest;
   places = c.requires.places;
   others = λ k other. refl;
+  ins = refl;
   stays = stays_none (seen g.P.Port c.args.self.now) c.args.dest;
   dest = refl;
 }
@@ -20,6 +21,7 @@ loop-preserved g c =
       pushed = posting_on (seen g.P.Port c.args.self.now) (seen g.P.Port c.loop.self) (seen g.P.Port c.push_on.new.self) c.args.dest c.args.dest was.pushed (search rules);
       places = c.in_ok-push_on.ensures.places;
       others = λ k other. c.in_ok-push_on.ensures.others k other ∙ was.others k other;
+      ins = c.in_ok-push_on.ensures.ins ∙ was.ins;
       stays = stays_then (seen g.P.Port c.args.self.now) (seen g.P.Port c.loop.self) (seen g.P.Port c.push_on.new.self) c.args.dest was.stays c.in_ok-push_on.ensures.stays;
       dest = refl;
     }

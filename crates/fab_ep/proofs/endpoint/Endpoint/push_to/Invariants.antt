@@ -10,6 +10,7 @@ invariant-loop g l = record {
   pushed : PushedTo (seen g.P.Port l.fn.self) (seen g.P.Port l.self) l.fn.dest false;
   places : HasPlaces (seen g.P.Port l.self);
   others : Others l.fn.dest (g.P.Port.outs l.fn.self.port) (g.P.Port.outs l.self.port);
+  ins : g.P.Port.ins l.self.port ≡ g.P.Port.ins l.fn.self.port;
   stays : HeldStays (seen g.P.Port l.fn.self) (seen g.P.Port l.self) l.fn.dest;
   dest : l.dest ≡ l.fn.dest;
 }

@@ -1,7 +1,7 @@
-use Rattle.std.proofs.Common.{rules, refl, arith, ◌≡◌, ◌≤◌, ◌+◌, ◌∙◌, sym, false}
+use Rattle.std.proofs.Common.{inl, inr, rules, refl, arith, ◌≡◌, ◌≤◌, ◌+◌, ◌∙◌, sym, false}
 use Rattle.fab_face.specs.Ports.{seen}
 use Rattle.fab_ep.specs.Tries.{Turning}
-use Rattle.fab_ep.proofs.Turning.{turning_none, on_out, on_in, turned_to, out_short, in_short, turning_err, one_at_most, peers_same, err_of}
+use Rattle.fab_ep.proofs.Turning.{turning_none, on_out, on_in, turned_to, out_short, in_short, turning_err, one_at_most, peers_same, err_of, not_true}
 use Rattle.fab_ep.proofs.endpoint.Endpoint.round.Goals as goal
 
 pub loop-peer-init : goal.loop-peer-init
@@ -28,8 +28,8 @@ returns-in_err-out-clause-rounds g c =
     let a = seen g.P.Port c.args.self.now in
     let e = seen g.P.Port c.loop-peer.self in
     let e1 = seen g.P.Port c.post_one.new.self in
-    err_of c.args.left a e1 c.from_residual.result c.in_err-out.field-0.0 (search rules)
-    (turning_err c.args.left a e e1 c.loop-peer.taken c.loop-peer.posted c.loop-peer.peer c.loop-peer.peer c.loop-peer.held was.turning c.in_err-out.ensures.tries was.most)
+    err_of g.P.Port.FIXED c.args.left a e1 c.from_residual.result c.in_err-out.field-0.0 (search rules)
+    (turning_err g.P.Port.FIXED c.args.left a e e1 c.loop-peer.taken c.loop-peer.posted c.loop-peer.peer c.loop-peer.peer c.loop-peer.held was.turning c.in_err-out.ensures.tries (omega (arith, c.if-left-taken.false)) (inl (not_true _ c.in_err-out.ensures.memory)))
 
 pub returns-then-was_short-clause-rounds : goal.returns-then-was_short-clause-rounds
 returns-then-was_short-clause-rounds g c =
@@ -64,11 +64,10 @@ returns-in_err-came-clause-rounds g c =
     let out : Turning a e1 c.loop-peer.taken (c.loop-peer.posted + c.moved_one-posted.result) c.either-held.result (c.loop-peer.peer + 1) c.loop-peer.peer =
     rw (c.moved_one-posted.ensures, c.either-held.ensures, c.is_held.ensures)
     (on_out a e e1 c.loop-peer.taken c.loop-peer.posted c.loop-peer.peer c.loop-peer.held c.in_ok-out.out was.turning c.in_ok-out.ensures.tries (sym c.was_short.ensures ∙ c.if-was_short.false)) in
-    let out_most : c.loop-peer.taken + (c.loop-peer.posted + c.moved_one-posted.result) ≤ c.args.left =
-    (let one = one_at_most c.in_ok-out.out in omega (arith, one, c.moved_one-posted.ensures, c.if-left-taken.false)) in
     let e2 = seen g.P.Port c.take_one.new.self in
-    err_of c.args.left a e2 c.from_residual-in_err-came.result c.in_err-came.field-0.0 (search rules)
-    (turning_err c.args.left a e1 e2 c.loop-peer.taken (c.loop-peer.posted + c.moved_one-posted.result) (c.loop-peer.peer + 1) c.loop-peer.peer c.either-held.result out c.in_err-came.ensures.tries out_most)
+    let tries = c.in_err-came.ensures.tries in
+    err_of g.P.Port.FIXED c.args.left a e2 c.from_residual-in_err-came.result c.in_err-came.field-0.0 (search rules)
+    (turning_err g.P.Port.FIXED c.args.left a e1 e2 c.loop-peer.taken (c.loop-peer.posted + c.moved_one-posted.result) (c.loop-peer.peer + 1) c.loop-peer.peer c.either-held.result out tries.0 (omega (arith, c.if-left-taken-2.false)) (inr (c.loop-peer.peer, tries.1)))
 
 pub returns-then-was_short-2-clause-rounds : goal.returns-then-was_short-2-clause-rounds
 returns-then-was_short-2-clause-rounds g c =

@@ -52,7 +52,7 @@ returns-in_err-take-clause-tries g c =
     let after = c.front.follows.holds-at-none in
     rw (← c.self.view_is)
     (took_none _ _ c.args.source c.in-Some.frame _ _ (search rules) (c.in_err-take.ensures.err) refl refl (rw c.in-Some.is at after.0) c.in-Some.ensures.gives.1
-    (record { others = after.1; outs = after.2; number = after.3; peers = after.4; home = after.5; in_list = ap g.P.Port.in_list after.5 }) (moved_same _ _ after.6))
+    (record { others = after.1; outs = after.2; number = after.3; peers = after.4; home = after.5; in_list = ap g.P.Port.in_list after.5 }) (moved_same _ _ after.6) c.in_err-take.ensures.lacks)
 
 pub invariant_of-self-then-not-branch : goal.invariant_of-self-then-not-branch
 invariant_of-self-then-not-branch g c =

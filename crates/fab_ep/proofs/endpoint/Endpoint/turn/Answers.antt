@@ -13,7 +13,7 @@ returns-then-is_short-clause-turns g c =
 
 pub returns-in_err-round-clause-turns : goal.returns-in_err-round-clause-turns
 returns-in_err-round-clause-turns g c =
-    turn_err c.args.left (seen g.P.Port c.args.self.now) (seen g.P.Port c.draw_all.new.self) (seen g.P.Port c.round.new.self) c.from_residual.result c.in_err-round.field-0.0 (search rules) c.draw_all.ensures c.in_err-round.ensures.rounds
+    turn_err g.P.Port.FIXED c.args.left (seen g.P.Port c.args.self.now) (seen g.P.Port c.draw_all.new.self) (seen g.P.Port c.round.new.self) c.from_residual.result c.in_err-round.field-0.0 (search rules) c.draw_all.ensures c.in_err-round.ensures.rounds
 
 pub returns-clause-turns : goal.returns-clause-turns
 returns-clause-turns g c =
