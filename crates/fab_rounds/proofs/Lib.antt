@@ -1,5 +1,6 @@
 pub mod Lists
 pub mod Sizes
 pub mod Turning
+pub mod Making
 pub mod Tied
 pub mod Acting

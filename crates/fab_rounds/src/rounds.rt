@@ -4,12 +4,12 @@ ghost use Rattle.std.specs.List.{list_all, list_any};
 ghost use Rattle.fab_face.specs.Ports.{seen};
 ghost use Rattle.fab_model.specs.Peers.{fabric, is_finished};
 ghost use Rattle.fab_model.specs.Orders.{Reached};
-ghost use Rattle.fab_model.specs.Views.{rule};
+ghost use Rattle.fab_model.specs.Views.{IsPrefixOf, rule};
 ghost use Rattle.fab_quantum.specs.Turns.{told, actor_of, actor_in, IsStill, Living};
 ghost use Rattle.fab_threads.specs.Pasts.{past_of};
 ghost use Rattle.fab_threads.specs.Law.{schedules, actors, AreTogether};
 ghost use Rattle.fab_rounds.specs.Opened.{Begins, AreGathered};
-ghost use Rattle.fab_rounds.specs.Rounds.{Each, TurnedAs, TurnedFor, size};
+ghost use Rattle.fab_rounds.specs.Rounds.{Each, TurnedAs, TurnedFor, MadeFor, AtOnePort, between, size};
 
 use crate::runner::Runner;
 use fab_base::{Gate, NoMemory};
@@ -47,6 +47,7 @@ fn round<P: Port + Send, C: Machinery + Drop + Send, G: Gate, R: Threads + Wait 
     requires few { length peers.old < 2 ^ 32 }
     ensures turned { Each (λ a b. b.failed ≡ false → (a.failed ≡ false) × TurnedAs (told (seen P.Port) a.peer) (told (seen P.Port) b.peer) b.moved) peers.old peers.new }
     ensures still { Each (λ a b. b.failed ≡ false → b.moved ≡ false → IsStill (told (seen P.Port) a.peer) (told (seen P.Port) b.peer)) peers.old peers.new }
+    ensures stays { Each (λ a b. b.failed ≡ true → (b.moved ≡ false) × ((told (seen P.Port) b.peer).schedule ≡ (told (seen P.Port) a.peer).schedule)) peers.old peers.new }
     ensures grown { Each (λ a b. b.failed ≡ false → size (told (seen P.Port) a.peer) ≤ size (told (seen P.Port) b.peer)) peers.old peers.new }
     ensures risen { Each (λ a b. b.moved ≡ true → size (told (seen P.Port) a.peer) < size (told (seen P.Port) b.peer)) peers.old peers.new }
 {
@@ -91,7 +92,9 @@ fn all_finished<P: Port, C: Machinery>(peers: &[Runner<P, C>]) -> bool
 /// Makes rounds until one moves nothing, all lines of all peers are done, or as many were made as asked for. In a round
 /// every peer takes one turn, each in a thread of its own.
 ///
-/// Where memory ran out in a turn, the round goes on for the other peers, and then the call ends.
+/// It ends after the first round of which one of these is so. Where memory ran out in a turn, the round goes on for the
+/// other peers, and then the call ends; the schedule of each peer begins with the one before, and that of the peer that
+/// lacked memory is what it was before the round.
 ///
 /// Once the ports are gathered, so that their moves merge, some order of turns led from the opening to the peers as they
 /// are, and they can go on in one thread.
@@ -104,6 +107,10 @@ pub fn run_rounds<P: Port + Send, C: Machinery + Drop + Send, G: Gate, R: Thread
     requires few { length peers.old < 2 ^ 32 }
     ensures count { length peers.new ≡ length peers.old }
     ensures turned { IfOk result (λ r. Each (λ a b. (b.failed ≡ false → a.failed ≡ false) × TurnedFor r.made (told (seen P.Port) a.peer) (told (seen P.Port) b.peer)) peers.old peers.new) }
+    ensures rounds { IfOk result (λ r. MadeFor r.made (map (λ p. between (told (seen P.Port) p.peer) p.moved p.failed) peers.old) (map (λ p. between (told (seen P.Port) p.peer) p.moved p.failed) peers.new)) }
+    ensures lacked { OnErr result ((n : ℕ) × (0 < n) × (n ≤ limit) × MadeFor n (map (λ p. between (told (seen P.Port) p.peer) p.moved p.failed) peers.old) (map (λ p. between (told (seen P.Port) p.peer) p.moved p.failed) peers.new)) }
+    ensures grows { Each (λ a b. IsPrefixOf (told (seen P.Port) a.peer).schedule (told (seen P.Port) b.peer).schedule) peers.old peers.new }
+    ensures ports { Each (λ a b. b.failed ≡ false → AtOnePort (told (seen P.Port) a.peer) (told (seen P.Port) b.peer)) peers.old peers.new }
     ensures reached { OnOk result ((opening : List Living) → Begins opening (map (λ p. past_of (told (seen P.Port) p.peer)) peers.old) → AreGathered (map (λ p. past_of (told (seen P.Port) p.peer)) peers.new)
         → Reached (rule fabric) (map actor_in opening) (schedules (map (λ p. past_of (told (seen P.Port) p.peer)) peers.new)) (actors (map (λ p. past_of (told (seen P.Port) p.peer)) peers.new))
         × AreTogether (map (λ p. past_of (told (seen P.Port) p.peer)) peers.new)) }

@@ -91,7 +91,7 @@ impl<P: Port, C: Machinery> Runner<P, C> {
         ensures risen { self.new.moved ≡ true → size (told (seen P.Port) self.old.peer) < size (told (seen P.Port) self.new.peer) }
         ensures ok { IfOk result (λ moved. (self.new.moved ≡ moved) × (self.new.failed ≡ false)) }
         ensures err { OnErr result ((self.new.moved ≡ false) × (self.new.failed ≡ true)) }
-        ensures stays { OnErr result ((told (seen P.Port) self.new.peer).schedule ≡ (told (seen P.Port) self.old.peer).schedule) }
+        ensures stays { self.new.failed ≡ true → (self.new.moved ≡ false) × ((told (seen P.Port) self.new.peer).schedule ≡ (told (seen P.Port) self.old.peer).schedule) }
         ensures failed { self.old.failed ≡ true → self.new ≡ self.old }
     {
         if self.failed {
