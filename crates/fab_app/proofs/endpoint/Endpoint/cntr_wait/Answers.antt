@@ -2,10 +2,10 @@ use Rattle.fab_app.proofs.Chains.{moved_on, none}
 use Rattle.fab_app.proofs.endpoint.Endpoint.cntr_wait.Goals as goal
 
 pub returns-in_err-progress-clause-moved : goal.returns-in_err-progress-clause-moved
-returns-in_err-progress-clause-moved g c = moved_on _ _ _ _ _ c.times.invariant c.progress.ensures
+returns-in_err-progress-clause-moved g c = moved_on _ _ _ _ _ _ c.times.invariant c.progress.ensures
 
 pub times-preserved : goal.times-preserved
-times-preserved g c = moved_on _ _ _ _ _ c.times.invariant c.progress.ensures
+times-preserved g c = moved_on _ _ _ _ _ _ c.times.invariant c.progress.ensures
 
 pub times-init : goal.times-init
 times-init g c = none _
