@@ -1,8 +1,8 @@
 //! Operations that end.
-ghost use Rattle.std.specs.Prelude.{◌≡◌, ◌<◌, true, Ok, IsTrue};
+ghost use Rattle.std.specs.Prelude.{◌≡◌, ◌<◌, IsTrue};
 ghost use Rattle.fabric.specs.State.{in_use, tally_of};
 
-use fabric::{Calls, Class, EndpointOver, Fault};
+use fabric::{Calls, Class, EndpointOver};
 
 /// Moves what can be moved, and tells whether every operation has ended.
 pub fn is_quiet<E: Calls + Drop>(endpoint: &mut EndpointOver<E>) -> bool
@@ -14,6 +14,16 @@ pub fn is_quiet<E: Calls + Drop>(endpoint: &mut EndpointOver<E>) -> bool
     }
 }
 
+fn counts_past<E: Calls + Drop>(endpoint: &mut EndpointOver<E>, before: u64, times: u32) -> bool
+    requires { before < u64.MAX }
+    ensures { IsTrue result → before < (tally_of (E.seen endpoint.new).held.state.counters Class.Send).ok }
+{
+    match endpoint.cntr_wait(Class::Send, before + 1, times) {
+        Ok(counted) => counted,
+        Err(_) => false,
+    }
+}
+
 /// Sends a copy of the bytes, and makes progress until one more message is counted as sent, at most so many times: where no
 /// other is under way, until this one is.
 pub fn send_counted<E: Calls + Drop>(
@@ -21,14 +31,15 @@ pub fn send_counted<E: Calls + Drop>(
     dest: u32,
     bytes: &[u8],
     times: u32,
-) -> Result<bool, Fault>
-    ensures { result ≡ Ok true → (tally_of (E.seen endpoint.old).held.state.counters Class.Send).ok < (tally_of (E.seen endpoint.new).held.state.counters Class.Send).ok }
+) -> bool
+    ensures { IsTrue result → (tally_of (E.seen endpoint.old).held.state.counters Class.Send).ok < (tally_of (E.seen endpoint.new).held.state.counters Class.Send).ok }
 {
     let before = endpoint.cntr_read(Class::Send);
     if before == u64::MAX {
-        return Ok(false);
+        return false;
     }
-    endpoint.inject(dest, bytes, None)?;
-    let counted = endpoint.cntr_wait(Class::Send, before + 1, times)?;
-    Ok(counted)
+    if endpoint.inject(dest, bytes, None).is_err() {
+        return false;
+    }
+    counts_past(endpoint, before, times)
 }

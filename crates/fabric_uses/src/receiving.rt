@@ -1,42 +1,68 @@
 //! Receives, and looks at what came.
-ghost use Rattle.std.specs.Prelude.{◌≡◌, Some, None, true, false, IfSome, IfNone, replicate};
-ghost use Rattle.std.specs.Option.{option_map};
+ghost use Rattle.std.specs.Prelude.{◌≡◌, ℕ, List, length, Some, None, true, false, IfSome, IfNone, IsTrue};
 ghost use Rattle.fabric.specs.Answers.{receive_call};
 ghost use Rattle.fabric.specs.Late.{ReceivesLate};
 ghost use Rattle.fabric.specs.Probes.{probed};
 ghost use Rattle.fabric.specs.Words.{Failure};
-ghost use Rattle.fabric_uses.specs.Uses.{HasRead, Cancels, Takes, has_multi, plain, posted_after, tagged};
+ghost use Rattle.fabric_uses.specs.Uses.{HasRead, Cancels, ReceivesWhole, has_multi, plain, posted_after};
 
 use crate::completing::next_error;
-use fabric::{Buf, Calls, EndpointOver, ErrEntry, ErrKind};
+use fabric::{Buf, Calls, EndpointOver, ErrEntry, ErrKind, Probed};
 use std::alloc::Global;
 
-/// How many bytes the first message under the tag has that no receive took, so that a buffer can be made for it.
-pub fn length_of_next<E: Calls + Drop>(endpoint: &EndpointOver<E>, tag: u64) -> Option<u32>
-    ensures { IfSome result (λ len. option_map (λ m. m.len) (probed (E.seen endpoint.now).held.state None tag 0) ≡ Some len) }
+/// The first message under the tag that no receive took: who sent it, and how many bytes it has.
+pub fn next_under<E: Calls + Drop>(endpoint: &EndpointOver<E>, tag: u64) -> Option<Probed>
+    ensures { IfSome result (λ message. probed (E.seen endpoint.now).held.state None tag 0 ≡ Some message) }
 {
     match endpoint.probe(None, tag, 0) {
-        Ok(Some(message)) => Some(message.len),
-        _ => None,
+        Ok(met) => met,
+        Err(_) => None,
     }
 }
 
-/// Receives the first message under the tag that no receive took, into a buffer of its length, which is told. What the look
-/// told is true when the receive is posted: it takes that very message.
-pub fn receive_whole<E: Calls + Drop>(
+fn receives_into<E: Calls + Drop>(
+    endpoint: &mut EndpointOver<E>,
+    tag: u64,
+    buf: Buf,
+    ctx: u64,
+) -> bool
+    ensures { IsTrue result → ReceivesLate (receive_call true None tag 0 buf None ctx) (E.seen endpoint.old) (E.seen endpoint.new) }
+{
+    match endpoint.trecv(None, tag, 0, buf, ctx) {
+        Ok(()) => true,
+        Err(_) => false,
+    }
+}
+
+/// Whether a receive of a message that was told is posted, with a buffer of its length.
+fn receives_told<E: Calls + Drop>(
+    alloc: Global,
+    endpoint: &mut EndpointOver<E>,
+    tag: u64,
+    message: Probed,
+    ctx: u64,
+) -> bool
+    ensures { IsTrue result → (buf : List ℕ) × (length buf ≡ message.len) × ReceivesLate (receive_call true None tag 0 buf None ctx) (E.seen endpoint.old) (E.seen endpoint.new) }
+{
+    match Buf::zeros(alloc, u64::from(message.len)) {
+        Ok(buf) => receives_into(endpoint, tag, buf, ctx),
+        Err(_) => false,
+    }
+}
+
+/// Receives the first message under the tag that no receive took, into a buffer of its length. What the look told is true when
+/// the receive is posted: it takes that very message, and no byte is cut off.
+pub fn receives_whole<E: Calls + Drop>(
     alloc: Global,
     endpoint: &mut EndpointOver<E>,
     tag: u64,
     ctx: u64,
-) -> Option<u32>
-    ensures takes { IfSome result (λ len. Takes len (tagged tag (replicate len 0) ctx) (E.seen endpoint.old).held.state) }
-    ensures posted { IfSome result (λ len. ReceivesLate (receive_call true None tag 0 (replicate len 0) None ctx) (E.seen endpoint.old) (E.seen endpoint.new)) }
+) -> bool
+    ensures { IsTrue result → ReceivesWhole tag ctx (E.seen endpoint.old) (E.seen endpoint.new) }
 {
-    let len = length_of_next(endpoint, tag)?;
-    let buf = Buf::zeros(alloc, u64::from(len)).ok()?;
-    match endpoint.trecv(None, tag, 0, buf, ctx) {
-        Ok(()) => Some(len),
-        Err(_) => None,
+    match next_under(endpoint, tag) {
+        Some(message) => receives_told(alloc, endpoint, tag, message, ctx),
+        None => false,
     }
 }
 
@@ -61,7 +87,10 @@ fn cancelled_by(error: ErrEntry, ctx: u64) -> Option<Buf>
     ensures { IfSome result (λ buf. Cancels ctx buf error) }
 {
     if error.kind == ErrKind::Canceled && error.ctx == Some(ctx) {
-        error.buf
+        match error.buf {
+            Some(buf) => Some(buf),
+            None => None,
+        }
     } else {
         None
     }
@@ -74,6 +103,8 @@ pub fn cancelled<E: Calls + Drop>(endpoint: &mut EndpointOver<E>, ctx: u64) -> O
     if endpoint.cancel(ctx).is_err() {
         return None;
     }
-    let error = next_error(endpoint)?;
-    cancelled_by(error, ctx)
+    match next_error(endpoint) {
+        Some(error) => cancelled_by(error, ctx),
+        None => None,
+    }
 }

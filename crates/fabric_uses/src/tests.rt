@@ -3,7 +3,7 @@
 //! What is tested is written over any endpoint, so that the endpoint of lanes is named once.
 use crate::completing::{Cut, cut_off, echo, is_idle, next_entry};
 use crate::ending::{is_quiet, send_counted};
-use crate::receiving::{cancelled, length_of_next, post_behind, receive_whole};
+use crate::receiving::{cancelled, next_under, post_behind, receives_whole};
 use crate::regions::{publish, withdraw};
 use crate::sending::{inject_and_wipe, most_under_way};
 use crate::send_or_keep;
@@ -89,11 +89,11 @@ fn looks<E: Calls + Drop>(
     zero: &mut EndpointOver<E>,
     one: &mut EndpointOver<E>,
 ) -> bool {
-    let none = length_of_next(zero, 5).is_none();
+    let none = next_under(zero, 5).is_none();
     let sent = one.tinject(0, 5, b"tagged", None).is_ok();
     let idle = is_idle(zero);
-    let told = length_of_next(zero, 5) == Some(6);
-    let whole = receive_whole(alloc, zero, 5, 6) == Some(6) && comes(zero, b"tagged");
+    let told = next_under(zero, 5).is_some_and(|message| message.len == 6);
+    let whole = receives_whole(alloc, zero, 5, 6) && comes(zero, b"tagged");
     let posted = posts(alloc, zero, 7);
     let back = cancelled(zero, 7).is_some_and(|buf| buf.as_slice().len() == 4);
     none && sent && idle && told && whole && posted && back
@@ -105,7 +105,7 @@ fn fills<E: Calls + Drop>(
     zero: &mut EndpointOver<E>,
     one: &mut EndpointOver<E>,
 ) -> bool {
-    let counted = send_counted(one, 0, b"a", 4) == Ok(true);
+    let counted = send_counted(one, 0, b"a", 4);
     let waiting = one.inject(0, b"b", None).is_ok() && one.inject(0, b"c", None).is_ok();
     let full = is_full(alloc, one);
     let published = publishes(alloc, zero);

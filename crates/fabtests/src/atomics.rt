@@ -28,7 +28,12 @@ const PLAIN: [Row; 15] = [
     (AtomicOp::Band, Num::U8, &[2, 3, 1, 2], &[0, 1, 0, 2]),
     (AtomicOp::Bxor, Num::U8, &[2, 3, 1, 2], &[3, 6, 1, 253]),
     (AtomicOp::AtomicWrite, Num::U8, &[2, 3, 1, 2], &[2, 3, 1, 2]),
-    (AtomicOp::Min, Num::I8, &[255, 6, 128, 1], &[255, 5, 128, 255]),
+    (
+        AtomicOp::Min,
+        Num::I8,
+        &[255, 6, 128, 1],
+        &[255, 5, 128, 255],
+    ),
     (AtomicOp::Max, Num::I8, &[255, 6, 128, 1], &[1, 6, 0, 1]),
     (AtomicOp::Sum, Num::U16, &[255, 0, 0, 1], &[0, 6, 0, 0]),
     (AtomicOp::Sum, Num::U32, &[255, 250, 255, 0], &[0, 0, 0, 0]),
@@ -36,6 +41,7 @@ const PLAIN: [Row; 15] = [
 
 /// What is compared with the elements at the target, and what is put where they compare as asked.
 const COMPARE: &[u8] = &[2, 5, 0, 254];
+
 const NINES: &[u8] = &[9, 9, 9, 9];
 
 /// What compares, and what stands at the target after it.
@@ -179,11 +185,23 @@ pub fn rdm_atomic<E: Calls + Drop>(
     zero: &mut EndpointOver<E>,
     one: &mut EndpointOver<E>,
 ) -> Verdict {
-    check(registers(alloc, zero, 1, BOTH, BEFORE) == Ok(()), "a region is registered")?;
-    check(all_leave(alloc, zero, one), "operations change their elements, and fetch the old ones")?;
-    check(all_swap(alloc, zero, one), "comparing operations swap where they compare as asked")?;
+    check(
+        registers(alloc, zero, 1, BOTH, BEFORE) == Ok(()),
+        "a region is registered",
+    )?;
+    check(
+        all_leave(alloc, zero, one),
+        "operations change their elements, and fetch the old ones",
+    )?;
+    check(
+        all_swap(alloc, zero, one),
+        "comparing operations swap where they compare as asked",
+    )?;
     check(resets(zero), "the elements are put back")?;
-    check(fetches(alloc, one, AtomicOp::AtomicRead, Num::U16, b""), "an atomic read is accepted")?;
+    check(
+        fetches(alloc, one, AtomicOp::AtomicRead, Num::U16, b""),
+        "an atomic read is accepted",
+    )?;
     carries(zero, one);
     check(is_fetched(one), "and brings the elements")?;
     check(has(zero, 1, BEFORE), "and changes none")

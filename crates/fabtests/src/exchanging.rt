@@ -13,11 +13,14 @@ const ROUNDS: u32 = 500;
 
 /// How many messages make a window, how many windows there are, and how long each message is.
 const WINDOW: u32 = 32;
+
 const WINDOWS: u32 = 16;
+
 const LENGTH: u32 = 1000;
 
 /// The tags of pings, and of the acknowledgement of a window.
 const PING: u64 = 3;
+
 const ACKNOWLEDGED: u64 = 1000;
 
 /// How often a peer that waits looks.
@@ -226,7 +229,10 @@ fn streams<E: Calls + Drop>(alloc: Global, endpoint: &mut EndpointOver<E>) -> Ve
             sent = sent && sends_one(alloc, endpoint, window, u64::from(tag));
         }
         check(sent, "each message of a window is accepted")?;
-        check(is_acknowledged(endpoint), "each is sent, and the window acknowledged")?;
+        check(
+            is_acknowledged(endpoint),
+            "each is sent, and the window acknowledged",
+        )?;
     }
     Ok(())
 }
@@ -261,14 +267,23 @@ fn sinks<E: Calls + Drop>(alloc: Global, endpoint: &mut EndpointOver<E>) -> Verd
         let mut posted = true;
         for tag in 0..WINDOW {
             posted = posted
-                && posts_tagged(alloc, endpoint, u64::from(tag), u64::from(LENGTH), u64::from(tag));
+                && posts_tagged(
+                    alloc,
+                    endpoint,
+                    u64::from(tag),
+                    u64::from(LENGTH),
+                    u64::from(tag),
+                );
         }
         check(posted, "the receives of a window are posted")?;
         let mut came = true;
         for _ in 0..WINDOW {
             came = came && gets_one(alloc, endpoint, window);
         }
-        check(came, "each message comes, with its bytes, where its tag is asked for")?;
+        check(
+            came,
+            "each message comes, with its bytes, where its tag is asked for",
+        )?;
         check(acknowledges(endpoint), "the acknowledgement goes out")?;
     }
     Ok(())

@@ -15,16 +15,25 @@ pub fn rdm<E: Calls + Drop>(
     check(posts(alloc, zero, 8, 1), "a receive is posted")?;
     check(sends(alloc, one, 0, b"Hello", 2), "a message is accepted")?;
     carries(zero, one);
-    check(is_sent(one, 2, b"Hello"), "its sender is told, and has the buffer back")?;
+    check(
+        is_sent(one, 2, b"Hello"),
+        "its sender is told, and has the buffer back",
+    )?;
     check(
         receives(zero, from_one(1, 5), b"Hello\0\0\0"),
         "the receive has the bytes, their number and the sender's",
     )?;
     check(is_idle(zero) && is_idle(one), "nothing else completes")?;
     check(posts(alloc, zero, 3, 3), "a short receive is posted")?;
-    check(sends(alloc, one, 0, b"Hello", 4), "a longer message is accepted")?;
+    check(
+        sends(alloc, one, 0, b"Hello", 4),
+        "a longer message is accepted",
+    )?;
     carries(zero, one);
-    check(cut(zero) == Some((3, 2)), "three bytes are placed and two cut off")
+    check(
+        cut(zero) == Some((3, 2)),
+        "three bytes are placed and two cut off",
+    )
 }
 
 fn with_data(ctx: u64, tag: Option<u64>, imm: u64) -> Came {
@@ -66,23 +75,44 @@ pub fn cq_data<E: Calls + Drop>(
     zero: &mut EndpointOver<E>,
     one: &mut EndpointOver<E>,
 ) -> Verdict {
-    check(posts(alloc, zero, 2, 1) && posts(alloc, zero, 2, 2), "receives are posted")?;
+    check(
+        posts(alloc, zero, 2, 1) && posts(alloc, zero, 2, 2),
+        "receives are posted",
+    )?;
     check(
         sends_so(alloc, one, 0, b"ab", Some(u64::MAX), 3, COMPLETES),
         "a message with data is accepted",
     )?;
-    check(injects(one, b"cd", Some(7)), "a copied one with data is accepted")?;
+    check(
+        injects(one, b"cd", Some(7)),
+        "a copied one with data is accepted",
+    )?;
     carries(zero, one);
-    check(receives(zero, with_data(1, None, u64::MAX), b"ab"), "the data comes with the message")?;
-    check(receives(zero, with_data(2, None, 7), b"cd"), "that of the copied one, too")?;
+    check(
+        receives(zero, with_data(1, None, u64::MAX), b"ab"),
+        "the data comes with the message",
+    )?;
+    check(
+        receives(zero, with_data(2, None, 7), b"cd"),
+        "that of the copied one, too",
+    )?;
     check(
         sends_tagged(alloc, one, 0, 9, b"ef", Some(0), 4),
         "a tagged message with data is accepted",
     )?;
     carries(zero, one);
-    check(posts_tagged(alloc, zero, 9, 2, 5), "a tagged receive takes it")?;
-    check(receives(zero, with_data(5, Some(9), 0), b"ef"), "its data comes with it")?;
-    check(writes_with_data(alloc, zero, one), "a write with data is accepted")?;
+    check(
+        posts_tagged(alloc, zero, 9, 2, 5),
+        "a tagged receive takes it",
+    )?;
+    check(
+        receives(zero, with_data(5, Some(9), 0), b"ef"),
+        "its data comes with it",
+    )?;
+    check(
+        writes_with_data(alloc, zero, one),
+        "a write with data is accepted",
+    )?;
     carries(zero, one);
     check(
         next_entry(zero).is_some_and(is_remote_data),
@@ -102,12 +132,24 @@ pub fn inj_complete<E: Calls + Drop>(
     zero: &mut EndpointOver<E>,
     one: &mut EndpointOver<E>,
 ) -> Verdict {
-    check(sends_so(alloc, one, 0, b"now", None, 1, INJECTED), "a message is accepted")?;
-    check(is_sent(one, 1, b"now"), "it completes while its peer does nothing")?;
+    check(
+        sends_so(alloc, one, 0, b"now", None, 1, INJECTED),
+        "a message is accepted",
+    )?;
+    check(
+        is_sent(one, 1, b"now"),
+        "it completes while its peer does nothing",
+    )?;
     check(is_idle(one), "and once")?;
     carries(zero, one);
-    check(posts(alloc, zero, 3, 2), "a receive is posted after it came")?;
-    check(receives(zero, from_one(2, 3), b"now"), "the receive has the bytes")
+    check(
+        posts(alloc, zero, 3, 2),
+        "a receive is posted after it came",
+    )?;
+    check(
+        receives(zero, from_one(2, 3), b"now"),
+        "the receive has the bytes",
+    )
 }
 
 /// The lengths of the messages that nobody waits for: without bytes, one frame, several.
@@ -180,12 +222,24 @@ pub fn unexpected_msg<E: Calls + Drop>(
     zero: &mut EndpointOver<E>,
     one: &mut EndpointOver<E>,
 ) -> Verdict {
-    check(sends_all(alloc, one, false), "untagged messages are accepted")?;
+    check(
+        sends_all(alloc, one, false),
+        "untagged messages are accepted",
+    )?;
     check(sends_all(alloc, one, true), "tagged messages are accepted")?;
     carries(zero, one);
-    check(is_idle(zero), "nothing completes where no receive is posted")?;
-    check(takes_all(alloc, zero, true), "tagged receives take them whole and in order")?;
-    check(takes_all(alloc, zero, false), "untagged receives take them whole and in order")?;
+    check(
+        is_idle(zero),
+        "nothing completes where no receive is posted",
+    )?;
+    check(
+        takes_all(alloc, zero, true),
+        "tagged receives take them whole and in order",
+    )?;
+    check(
+        takes_all(alloc, zero, false),
+        "untagged receives take them whole and in order",
+    )?;
     check(is_idle(zero), "each came once")
 }
 
@@ -247,14 +301,23 @@ pub fn multi_recv<E: Calls + Drop>(
     zero: &mut EndpointOver<E>,
     one: &mut EndpointOver<E>,
 ) -> Verdict {
-    check(posts_many(alloc, zero), "a buffer for many messages is posted")?;
+    check(
+        posts_many(alloc, zero),
+        "a buffer for many messages is posted",
+    )?;
     check(injects(one, b"one", None), "the first message is accepted")?;
     check(injects(one, b"two", None), "the second message is accepted")?;
     carries(zero, one);
-    check(lies(zero, 0, b"one", 3), "the first lies at the buffer's begin")?;
+    check(
+        lies(zero, 0, b"one", 3),
+        "the first lies at the buffer's begin",
+    )?;
     check(lies(zero, 3, b"two", 3), "the second lies behind it")?;
     check(is_idle(zero), "the buffer stays while enough of it is free")?;
-    check(injects(one, b"thirteen", None), "the third message is accepted")?;
+    check(
+        injects(one, b"thirteen", None),
+        "the third message is accepted",
+    )?;
     carries(zero, one);
     check(lies(zero, 6, b"thirteen", 8), "the third lies behind these")?;
     check(

@@ -61,21 +61,33 @@ pub fn getinfo_test() -> Verdict {
     let none = Hints::new();
     check(grants_default(), "no wish is granted the default sizes")?;
     check(grants_wishes(), "sizes are granted as they are asked for")?;
-    check(grants(none, Cap::DirectedRecv, Cap::RmaEvent), "no wish is granted all on offer")?;
-    check(grants(none.cap(Cap::Tagged), Cap::Send, Cap::Msg), "a capability is granted alone")?;
+    check(
+        grants(none, Cap::DirectedRecv, Cap::RmaEvent),
+        "no wish is granted all on offer",
+    )?;
+    check(
+        grants(none.cap(Cap::Tagged), Cap::Send, Cap::Msg),
+        "a capability is granted alone",
+    )?;
     check(
         grants(none.cap(Cap::Tagged), Cap::Recv, Cap::DirectedRecv),
         "with its modifiers, and without directed receives",
     )?;
     check(refuses(none.peers(33)), "too many peers are refused")?;
     check(refuses(none.cq(65_537)), "too many completions are refused")?;
-    check(refuses(none.cap(Cap::RmaEvent)), "what another version offers is refused")?;
+    check(
+        refuses(none.cap(Cap::RmaEvent)),
+        "what another version offers is refused",
+    )?;
     let second = none.api(Api::Two);
     check(
         grants(second.cap(Cap::RmaEvent), Cap::RmaEvent, Cap::Tagged),
         "the second version offers remote events",
     )?;
-    check(!refuses(second.peers(64)), "the second version has more peers")?;
+    check(
+        !refuses(second.peers(64)),
+        "the second version has more peers",
+    )?;
     check(refuses(second.peers(65)), "but no more than 64")
 }
 
@@ -88,7 +100,10 @@ pub fn dom_test<E: Calls + Drop>(endpoints: &[EndpointOver<E>], peers: u32) -> V
         number = number.saturating_add(1);
     }
     check(number == peers, "there is an endpoint for each peer")?;
-    check(known, "each knows its number, the number of peers and its address")
+    check(
+        known,
+        "each knows its number, the number of peers and its address",
+    )
 }
 
 fn knows<E: Calls + Drop>(endpoint: &EndpointOver<E>, number: u32, peers: u32) -> bool {

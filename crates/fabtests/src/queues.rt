@@ -35,18 +35,39 @@ pub fn cq_test<E: Calls + Drop>(
     zero: &mut EndpointOver<E>,
     one: &mut EndpointOver<E>,
 ) -> Verdict {
-    check(posts(alloc, zero, 1, 1) && posts(alloc, zero, 1, 2), "receives are posted")?;
-    check(posts(alloc, zero, 1, 3) && posts(alloc, zero, 1, 4), "more are posted")?;
+    check(
+        posts(alloc, zero, 1, 1) && posts(alloc, zero, 1, 2),
+        "receives are posted",
+    )?;
+    check(
+        posts(alloc, zero, 1, 3) && posts(alloc, zero, 1, 4),
+        "more are posted",
+    )?;
     check(posts(alloc, zero, 1, 5), "and one more")?;
-    check(injects(one, b"a", None) && injects(one, b"b", None), "messages are accepted")?;
-    check(injects(one, b"c", None) && injects(one, b"too long", None), "one is too long")?;
+    check(
+        injects(one, b"a", None) && injects(one, b"b", None),
+        "messages are accepted",
+    )?;
+    check(
+        injects(one, b"c", None) && injects(one, b"too long", None),
+        "one is too long",
+    )?;
     check(injects(one, b"e", None), "and one more is accepted")?;
     carries(zero, one);
-    check(takes(alloc, zero, 2, 1, 2), "two are read where two are asked for")?;
-    check(takes(alloc, zero, 8, 3, 1), "and the next one, before the error")?;
+    check(
+        takes(alloc, zero, 2, 1, 2),
+        "two are read where two are asked for",
+    )?;
+    check(
+        takes(alloc, zero, 8, 3, 1),
+        "and the next one, before the error",
+    )?;
     check(takes(alloc, zero, 8, 4, 0), "no read gives the error")?;
     check(cut(zero) == Some((1, 7)), "but the one for errors")?;
-    check(receives(zero, from_one(5, 1), b"e"), "what is behind it is read then")?;
+    check(
+        receives(zero, from_one(5, 1), b"e"),
+        "what is behind it is read then",
+    )?;
     check(takes(alloc, zero, 8, 6, 0), "nothing is left")?;
     check(is_idle(zero), "and nothing more comes")
 }
@@ -104,16 +125,31 @@ pub fn cntr_test<E: Calls + Drop>(
         ctx: Some(3),
         len: Some(4),
     };
-    check(count_none(zero) && count_none(one), "nothing is counted at first")?;
-    check(posts(alloc, zero, 1, 1) && posts(alloc, zero, 1, 2), "receives are posted")?;
-    check(injects(one, b"a", None) && injects(one, b"too long", None), "messages are accepted")?;
+    check(
+        count_none(zero) && count_none(one),
+        "nothing is counted at first",
+    )?;
+    check(
+        posts(alloc, zero, 1, 1) && posts(alloc, zero, 1, 2),
+        "receives are posted",
+    )?;
+    check(
+        injects(one, b"a", None) && injects(one, b"too long", None),
+        "messages are accepted",
+    )?;
     check(reads_nothing(alloc, one), "a read of no region is accepted")?;
     carries(zero, one);
     check(counts(one, Class::Send) == (2, 0), "two messages were sent")?;
-    check(counts(zero, Class::Recv) == (1, 1), "one was received, and one cut off")?;
+    check(
+        counts(zero, Class::Recv) == (1, 1),
+        "one was received, and one cut off",
+    )?;
     check(counts(one, Class::Read) == (0, 1), "the read failed")?;
     check(fails(one, failed), "and is told")?;
-    check(reaches(one, Class::Send, 2), "the count of messages is reached")?;
+    check(
+        reaches(one, Class::Send, 2),
+        "the count of messages is reached",
+    )?;
     check(!reaches(one, Class::Send, 3), "and no more")?;
     adds(one, Class::Send, 5);
     check(counts(one, Class::Send) == (7, 0), "what is added counts")?;

@@ -70,20 +70,41 @@ fn closes_none<E: Calls + Drop>(endpoint: &mut EndpointOver<E>, key: u64) -> boo
 
 /// A region has the bytes that it was registered with until they are written, and hands them back once it is closed.
 pub fn mr_test<E: Calls + Drop>(alloc: Global, zero: &mut EndpointOver<E>) -> Verdict {
-    check(registers(alloc, zero, 1, BOTH, b"abc") == Ok(()), "a region is registered")?;
-    check(registers(alloc, zero, 2, READ_ONLY, b"") == Ok(()), "one without bytes, too")?;
+    check(
+        registers(alloc, zero, 1, BOTH, b"abc") == Ok(()),
+        "a region is registered",
+    )?;
+    check(
+        registers(alloc, zero, 2, READ_ONLY, b"") == Ok(()),
+        "one without bytes, too",
+    )?;
     check(
         registers(alloc, zero, 1, BOTH, b"xyz") == Err(Fault::NoKey),
         "a key in use is refused, and the buffer comes back",
     )?;
     check(has(zero, 1, b"abc"), "the region has its bytes")?;
-    check(puts(zero, 1, 1, b"BC") == Ok(()), "bytes are put up to its end")?;
-    check(puts(zero, 1, 2, b"BC") == Err(Fault::Range), "and none beyond it")?;
-    check(puts(zero, 3, 0, b"B") == Err(Fault::NoKey), "nor into a region that is not there")?;
-    check(closes(zero, 1, b"aBC"), "the bytes come back when it is closed")?;
+    check(
+        puts(zero, 1, 1, b"BC") == Ok(()),
+        "bytes are put up to its end",
+    )?;
+    check(
+        puts(zero, 1, 2, b"BC") == Err(Fault::Range),
+        "and none beyond it",
+    )?;
+    check(
+        puts(zero, 3, 0, b"B") == Err(Fault::NoKey),
+        "nor into a region that is not there",
+    )?;
+    check(
+        closes(zero, 1, b"aBC"),
+        "the bytes come back when it is closed",
+    )?;
     check(closes_none(zero, 1), "and once")?;
     check(closes(zero, 2, b""), "the one without bytes is closed")?;
-    check(registers(alloc, zero, 1, BOTH, b"new") == Ok(()), "the key may be used again")
+    check(
+        registers(alloc, zero, 1, BOTH, b"new") == Ok(()),
+        "the key may be used again",
+    )
 }
 
 /// Whether a write into a region of peer 0 is accepted.
@@ -166,11 +187,7 @@ fn refused(kind: ErrKind, ctx: u64) -> Failed {
 }
 
 /// Whether a region of so many bytes is registered.
-fn registers_filled<E: Calls + Drop>(
-    alloc: Global,
-    zero: &mut EndpointOver<E>,
-    len: u32,
-) -> bool {
+fn registers_filled<E: Calls + Drop>(alloc: Global, zero: &mut EndpointOver<E>, len: u32) -> bool {
     match filled(alloc, len, b'o') {
         Some(buf) => zero.reg(7, BOTH, buf).is_ok(),
         None => false,
@@ -201,27 +218,66 @@ pub fn rma_bw<E: Calls + Drop>(
     zero: &mut EndpointOver<E>,
     one: &mut EndpointOver<E>,
 ) -> Verdict {
-    check(registers(alloc, zero, 5, BOTH, b"0123456789") == Ok(()), "a region is registered")?;
+    check(
+        registers(alloc, zero, 5, BOTH, b"0123456789") == Ok(()),
+        "a region is registered",
+    )?;
     check(writes(alloc, one, 5, 2, b"abcd", 1), "a write is accepted")?;
-    check(reads(alloc, one, 5, 1, 6, 2), "a read behind it is accepted")?;
+    check(
+        reads(alloc, one, 5, 1, 6, 2),
+        "a read behind it is accepted",
+    )?;
     check(writes_copy(one, 5, 8, b"yz"), "a copied write is accepted")?;
     carries(zero, one);
-    check(wrote(one, 1, b"abcd"), "the write completes, and has its buffer back")?;
-    check(brings(one, 2, b"1abcd6"), "the read brings what was written before it")?;
+    check(
+        wrote(one, 1, b"abcd"),
+        "the write completes, and has its buffer back",
+    )?;
+    check(
+        brings(one, 2, b"1abcd6"),
+        "the read brings what was written before it",
+    )?;
     check(has(zero, 5, b"01abcd67yz"), "all bytes stand in the region")?;
     check(is_idle(one), "the copied write completes silently")?;
-    check(registers(alloc, zero, 6, READ_ONLY, b"keep") == Ok(()), "another region allows reads")?;
-    check(writes(alloc, one, 9, 0, b"none", 3), "a write without a region is accepted")?;
-    check(writes(alloc, one, 6, 0, b"none", 4), "one that is not allowed")?;
+    check(
+        registers(alloc, zero, 6, READ_ONLY, b"keep") == Ok(()),
+        "another region allows reads",
+    )?;
+    check(
+        writes(alloc, one, 9, 0, b"none", 3),
+        "a write without a region is accepted",
+    )?;
+    check(
+        writes(alloc, one, 6, 0, b"none", 4),
+        "one that is not allowed",
+    )?;
     check(reads(alloc, one, 5, 7, 4, 5), "and a read beyond the end")?;
     carries(zero, one);
-    check(fails(one, refused(ErrKind::NoKey, 3)), "the key is told to be wrong")?;
-    check(fails(one, refused(ErrKind::Access, 4)), "the access is told to be wrong")?;
-    check(fails(one, refused(ErrKind::Range, 5)), "the place is told to be wrong")?;
+    check(
+        fails(one, refused(ErrKind::NoKey, 3)),
+        "the key is told to be wrong",
+    )?;
+    check(
+        fails(one, refused(ErrKind::Access, 4)),
+        "the access is told to be wrong",
+    )?;
+    check(
+        fails(one, refused(ErrKind::Range, 5)),
+        "the place is told to be wrong",
+    )?;
     check(has(zero, 6, b"keep"), "what was refused changed nothing")?;
-    check(goes_and_comes(alloc, zero, one, 1), "one byte goes and comes")?;
-    check(goes_and_comes(alloc, zero, one, 4096), "a frame goes and comes")?;
-    check(goes_and_comes(alloc, zero, one, 50_000), "many frames go and come")
+    check(
+        goes_and_comes(alloc, zero, one, 1),
+        "one byte goes and comes",
+    )?;
+    check(
+        goes_and_comes(alloc, zero, one, 4096),
+        "a frame goes and comes",
+    )?;
+    check(
+        goes_and_comes(alloc, zero, one, 50_000),
+        "many frames go and come",
+    )
 }
 
 /// How many requests of peers wrote here.
@@ -240,12 +296,27 @@ pub fn multi_mr<E: Calls + Drop>(
     zero: &mut EndpointOver<E>,
     one: &mut EndpointOver<E>,
 ) -> Verdict {
-    check(registers(alloc, zero, 1, BOTH, b"....") == Ok(()), "a region is registered")?;
-    check(registers(alloc, zero, 2, BOTH, b"....") == Ok(()), "a second one is registered")?;
-    check(registers(alloc, zero, 3, BOTH, b"....") == Ok(()), "a third one is registered")?;
+    check(
+        registers(alloc, zero, 1, BOTH, b"....") == Ok(()),
+        "a region is registered",
+    )?;
+    check(
+        registers(alloc, zero, 2, BOTH, b"....") == Ok(()),
+        "a second one is registered",
+    )?;
+    check(
+        registers(alloc, zero, 3, BOTH, b"....") == Ok(()),
+        "a third one is registered",
+    )?;
     check(written(zero) == 0, "nothing is counted before")?;
-    check(writes_copy(one, 3, 0, b"cccc"), "a write into the third is accepted")?;
-    check(writes_copy(one, 1, 1, b"aa"), "a write into the first is accepted")?;
+    check(
+        writes_copy(one, 3, 0, b"cccc"),
+        "a write into the third is accepted",
+    )?;
+    check(
+        writes_copy(one, 1, 1, b"aa"),
+        "a write into the first is accepted",
+    )?;
     carries(zero, one);
     check(written(zero) == 2, "both are counted")?;
     check(has(zero, 1, b".aa."), "the first region has its bytes")?;
@@ -259,14 +330,26 @@ pub fn rdm_rma_event<E: Calls + Drop>(
     zero: &mut EndpointOver<E>,
     one: &mut EndpointOver<E>,
 ) -> Verdict {
-    check(registers(alloc, zero, 1, BOTH, b"....") == Ok(()), "a region is registered")?;
+    check(
+        registers(alloc, zero, 1, BOTH, b"....") == Ok(()),
+        "a region is registered",
+    )?;
     check(writes(alloc, one, 1, 0, b"wr", 1), "a write is accepted")?;
     check(reads(alloc, one, 1, 0, 4, 2), "a read is accepted")?;
-    check(writes(alloc, one, 8, 0, b"none", 3), "a write without a region is accepted")?;
+    check(
+        writes(alloc, one, 8, 0, b"none", 3),
+        "a write without a region is accepted",
+    )?;
     carries(zero, one);
-    check(written(zero) == 1, "the write is counted, and not the one that was refused")?;
+    check(
+        written(zero) == 1,
+        "the write is counted, and not the one that was refused",
+    )?;
     check(read(zero) == 1, "the read is counted")?;
-    check(written(one) == 0 && read(one) == 0, "the initiator counts none")?;
+    check(
+        written(one) == 0 && read(one) == 0,
+        "the initiator counts none",
+    )?;
     check(wrote(one, 1, b"wr"), "the initiator is told of the write")?;
     check(brings(one, 2, b"wr.."), "and of the read")?;
     check(fails(one, refused(ErrKind::NoKey, 3)), "and of the refusal")

@@ -47,21 +47,36 @@ pub fn resmgmt<E: Calls + Drop>(
     zero: &mut EndpointOver<E>,
     one: &mut EndpointOver<E>,
 ) -> Verdict {
-    check(injects(one, b'a') == Ok(()), "a message is accepted that the lane holds")?;
-    check(injects(one, b'b') == Ok(()), "a message is accepted that waits")?;
+    check(
+        injects(one, b'a') == Ok(()),
+        "a message is accepted that the lane holds",
+    )?;
+    check(
+        injects(one, b'b') == Ok(()),
+        "a message is accepted that waits",
+    )?;
     check(injects(one, b'c') == Ok(()), "another one that waits")?;
     check(
         injects(one, b'd') == Err(Fault::Again(Busy::TxFull(2))),
         "one more is refused for now",
     )?;
-    check(posts(alloc, zero, 1, 1) && posts(alloc, zero, 1, 2), "two receives are posted")?;
+    check(
+        posts(alloc, zero, 1, 1) && posts(alloc, zero, 1, 2),
+        "two receives are posted",
+    )?;
     check(
         refusal(alloc, zero) == Some(Fault::Again(Busy::PostedFull(2))),
         "one more is refused for now, with its buffer",
     )?;
     carries(zero, one);
-    check(injects(one, b'd') == Ok(()), "once there is room the message is accepted")?;
-    check(receives(zero, from_one(1, 1), b"a"), "the first message came")?;
+    check(
+        injects(one, b'd') == Ok(()),
+        "once there is room the message is accepted",
+    )?;
+    check(
+        receives(zero, from_one(1, 1), b"a"),
+        "the first message came",
+    )?;
     check(receives(zero, from_one(2, 1), b"b"), "the second one came")?;
     check(looks(zero, PeekHow::Peek, 1, 8), "a look is accepted")?;
     check(looks(zero, PeekHow::Peek, 1, 8), "another look is accepted")?;
@@ -70,11 +85,20 @@ pub fn resmgmt<E: Calls + Drop>(
         "one more is refused for now, since no completion was read",
     )?;
     check(misses(zero), "the first look found nothing")?;
-    check(posts(alloc, zero, 1, 3), "with room for one completion a receive is accepted")?;
+    check(
+        posts(alloc, zero, 1, 3),
+        "with room for one completion a receive is accepted",
+    )?;
     carries(zero, one);
     check(misses(zero), "the second look found nothing")?;
-    check(receives(zero, from_one(3, 1), b"c"), "the third message came")?;
+    check(
+        receives(zero, from_one(3, 1), b"c"),
+        "the third message came",
+    )?;
     check(posts(alloc, zero, 1, 4), "a receive is accepted")?;
-    check(receives(zero, from_one(4, 1), b"d"), "the fourth message came")?;
+    check(
+        receives(zero, from_one(4, 1), b"d"),
+        "the fourth message came",
+    )?;
     check(is_idle(zero), "each came once")
 }

@@ -187,11 +187,7 @@ fn is_receipt(entry: Entry, came: Came, bytes: &[u8]) -> bool {
 }
 
 /// Whether the next completion is this receive's, with these bytes in all of its buffer.
-pub fn receives<E: Calls + Drop>(
-    endpoint: &mut EndpointOver<E>,
-    came: Came,
-    bytes: &[u8],
-) -> bool {
+pub fn receives<E: Calls + Drop>(endpoint: &mut EndpointOver<E>, came: Came, bytes: &[u8]) -> bool {
     match next_entry(endpoint) {
         Some(entry) => is_receipt(entry, came, bytes),
         None => false,
@@ -206,11 +202,7 @@ fn is_sending(entry: Entry, context: u64, bytes: &[u8]) -> bool {
 }
 
 /// Whether the next completion is that of a message which was sent, with its buffer.
-pub fn is_sent<E: Calls + Drop>(
-    endpoint: &mut EndpointOver<E>,
-    ctx: u64,
-    bytes: &[u8],
-) -> bool {
+pub fn is_sent<E: Calls + Drop>(endpoint: &mut EndpointOver<E>, ctx: u64, bytes: &[u8]) -> bool {
     match next_entry(endpoint) {
         Some(entry) => is_sending(entry, ctx, bytes),
         None => false,
