@@ -47,41 +47,50 @@ module _ {X : Type 0} (test : X → Bool) where
       → (places_from test (n + 1) xs ≡ place ∷ rest → Placed (n + 1) xs place rest) → Placed n (Some x ∷ xs) place rest
   here x xs n place rest true t e more =
       let same : n ≡ place = cc in
-      let same_rest : places_from test (n + 1) xs ≡ rest = cc in
-      (0, omega (arith, same), record {
-        within = omega arith;
-        item = x;
-        at = λ d. refl;
-        found = rw t refl;
-        left = rw (t, remove_first) refl;
-        own = same_rest;
-        others = λ other apart. rw (apart x t) refl;
-      })
+      let same_rest : places_from test (n + 1) xs ≡ rest = cc in (
+        0,
+        omega (arith, same),
+        record {
+          within = omega arith;
+          item = x;
+          at = λ d. refl;
+          found = rw t refl;
+          left = rw (t, remove_first) refl;
+          own = same_rest;
+          others = λ other apart. rw (apart x t) refl;
+        },
+      )
   here x xs n place rest false t e more =
-      let h = more e in
-      (suc h.0, omega (arith, h.1), record {
-        within = let within = h.2.within in omega (arith, within);
-        item = h.2.item;
-        at = h.2.at;
-        found = rw t h.2.found;
-        left = rw (t, remove_first) (ap (λ ys. x ∷ ys) h.2.left);
-        own = rw t h.2.own;
-        others = λ other apart. ap (λ ps. cond (other x) (n ∷ ps) ps) (h.2.others other apart);
-      })
+      let h = more e in (
+        suc h.0,
+        omega (arith, h.1),
+        record {
+          within = let within = h.2.within in omega (arith, within);
+          item = h.2.item;
+          at = h.2.at;
+          found = rw t h.2.found;
+          left = rw (t, remove_first) (ap (λ ys. x ∷ ys) h.2.left);
+          own = rw t h.2.own;
+          others = λ other apart. ap (λ ps. cond (other x) (n ∷ ps) ps) (h.2.others other apart);
+        },
+      )
 
   first_from : (n : ℕ) (xs : List (Option X)) (place : ℕ) (rest : List ℕ) → places_from test n xs ≡ place ∷ rest → Placed n xs place rest
   first_from n [] place rest e = absurd (cc)
   first_from n (None ∷ xs) place rest e =
-      let h = first_from (n + 1) xs place rest e in
-      (suc h.0, omega (arith, h.1), record {
-        within = let within = h.2.within in omega (arith, within);
-        item = h.2.item;
-        at = h.2.at;
-        found = h.2.found;
-        left = h.2.left;
-        own = h.2.own;
-        others = h.2.others;
-      })
+      let h = first_from (n + 1) xs place rest e in (
+        suc h.0,
+        omega (arith, h.1),
+        record {
+          within = let within = h.2.within in omega (arith, within);
+          item = h.2.item;
+          at = h.2.at;
+          found = h.2.found;
+          left = h.2.left;
+          own = h.2.own;
+          others = h.2.others;
+        },
+      )
   first_from n (Some x ∷ xs) place rest e = here x xs n place rest (test x) refl e (first_from (n + 1) xs place rest)
 
   pub first_place : (xs : List (Option X)) (place : ℕ) (rest : List ℕ) → places_from test 0 xs ≡ place ∷ rest → IsFirst 0 xs place rest

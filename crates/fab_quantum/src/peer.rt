@@ -13,9 +13,7 @@ ghost use Rattle.fab_quantum.specs.Turns.{step_of, why_of};
 pub mod seats;
 
 use crate::calls::Calls;
-use fab_base::{
-    Buf, BytesWord, Fault, Flags, Line, LineOp, LineResult, NoMemory, Refused, Step,
-};
+use fab_base::{Buf, BytesWord, Fault, Flags, Line, LineOp, LineResult, NoMemory, Refused, Step};
 use fab_face::events::Event;
 use fab_kept::KeptList;
 use std::alloc::Global;
