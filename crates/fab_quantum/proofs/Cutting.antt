@@ -20,10 +20,10 @@ use Rattle.fab_quantum.specs.Turns.{Living, actor_in, Lives, LivesBy}
 use Rattle.fab_quantum.proofs.Sending.{Keeps, keeps_passes, did_passes, had_passes, passes_at, keeps_took, next_kept, sent_ready, sent_raised, transmits_one, lives_ready}
 
 -- what was posted to the peer ends where its next item goes on
-abbrev IsPlacedAt : Option FrameHead → Held → ℕ → Type 0
+abbrev pub IsPlacedAt : Option FrameHead → Held → ℕ → Type 0
 IsPlacedAt end h d = IsPlaced end (slice_index h.places d) (next_item h.state d)
 
-placed_next : (end : Option FrameHead) (n : ℕ) (o u : Option Item) → ((item : Item) → o ≡ Some item → u ≡ Some item) → IsPlaced end n o → IsPlaced end n u
+pub placed_next : (end : Option FrameHead) (n : ℕ) (o u : Option Item) → ((item : Item) → o ≡ Some item → u ≡ Some item) → IsPlaced end n o → IsPlaced end n u
 placed_next end zero o u keeps placed = placed
 placed_next end (suc k) None u keeps placed = absurd placed
 placed_next end (suc k) (Some item) u keeps placed = subst (λ (x : Option Item). IsPlaced end (suc k) x) (sym (keeps item refl)) placed
@@ -33,11 +33,11 @@ module _ (h k : Held) (d : ℕ) (end : Option FrameHead) (ready : IsPrefixOf (ac
   placed_kept placed =
       subst (λ n. IsPlaced end n (next_item k.state d)) (sym place) (placed_next end (slice_index h.places d) (next_item h.state d) (next_item k.state d) (next_kept h k d ready sent place) placed)
 
-placed_keeps : (h k : Held) (d : ℕ) (end : Option FrameHead) → Keeps h k → IsPlacedAt end h d → IsPlacedAt end k d
+pub placed_keeps : (h k : Held) (d : ℕ) (end : Option FrameHead) → Keeps h k → IsPlacedAt end h d → IsPlacedAt end k d
 placed_keeps h k d end keeps placed = placed_kept h k d end (keeps.ready d) (ap (λ xs. slice_index xs d) keeps.sent) (ap (λ xs. slice_index xs d) keeps.places) placed
 
 -- no more than all of the next item is posted
-place_within : (h : Held) (d : ℕ) (item : Item) → IsOut h → next_item h.state d ≡ Some item → slice_index h.places d ≤ item.head.total
+pub place_within : (h : Held) (d : ℕ) (item : Item) → IsOut h → next_item h.state d ≡ Some item → slice_index h.places d ≤ item.head.total
 place_within h d item out next = elim (out d) [
   | inl none ↦ omega (arith, none)
   | inr (other, has, under) ↦ (let is : Some item ≡ Some other = sym next ∙ has in let same : item ≡ other = cc in let total = ap (λ (x : Item). x.head.total) same in omega (arith, under, total))
@@ -66,7 +66,7 @@ module _ (h t : Held) (dest : ℕ) (end : Option FrameHead) (item : Item) (in_pl
       (placed_more item (slice_index h.places dest) more (place_within h dest item out next)))
 
 -- the frame posted may come, and the next one behind it
-cut_posted : (h t : Held) (dest : ℕ) (f : Frame) (end : Option FrameHead) → dest < length h.places → next_frame h dest ≡ Some f → Departs (is_last f.head) h dest (f.head.from + f.head.len) t → AreItems h → IsOut h → IsPlacedAt end h dest
+pub cut_posted : (h t : Held) (dest : ℕ) (f : Frame) (end : Option FrameHead) → dest < length h.places → next_frame h dest ≡ Some f → Departs (is_last f.head) h dest (f.head.from + f.head.len) t → AreItems h → IsOut h → IsPlacedAt end h dest
     → MayCome end f × IsPlacedAt (Some f.head) t dest
 cut_posted h t dest f end in_places next departs items out placed = by_item (next_item h.state dest) refl next
   where

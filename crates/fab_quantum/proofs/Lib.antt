@@ -4,7 +4,6 @@ pub mod Calling
 pub mod Requesting
 pub mod Alone
 pub mod Idling
-pub mod Blanks
 pub mod Showing
 pub mod Turning
 pub mod Sending

@@ -117,7 +117,7 @@ module _ (h k : Held) (d : ℕ) (ready : IsPrefixOf (accepted_for h.state.tx d) 
   part_kept (inl none) = ap (λ n. part_at n (next_item k.state d)) (place ∙ none) ∙ sym (ap (λ n. part_at n (next_item h.state d)) none)
   part_kept (inr (item, next, less)) = ap (λ n. part_at n (next_item k.state d)) place ∙ ap (part_at (slice_index h.places d)) (next_kept item next ∙ sym next)
 
-transmits_none : (h k : Held) → Keeps h k → IsOut h → Transmits h k (λ d. []) × IsOut k
+pub transmits_none : (h k : Held) → Keeps h k → IsOut h → Transmits h k (λ d. []) × IsOut k
 transmits_none h k keeps out = (
   record {
     items = λ d i item e. absurd (cc);
@@ -302,7 +302,7 @@ pub lives_ready : (acts : List Act) (p q : Living) → LivesBy p acts q → (d :
 lives_ready [] p q is d = prefix_self _ _ (ap (λ (x : Living). accepted_for x.held.state.tx d) is)
 lives_ready (act ∷ acts) p q (mid, one, rest) d = prefix_prefix _ _ _ (one_ready act p mid one d) (lives_ready acts mid q rest d)
 
-transmits_then : (h m k : Held) (xs ys : ℕ → List Frame) → ((d : ℕ) → IsPrefixOf (accepted_for m.state.tx d) (accepted_for k.state.tx d)) → Transmits h m xs → Transmits m k ys → Transmits h k (λ d. xs d ++ ys d)
+pub transmits_then : (h m k : Held) (xs ys : ℕ → List Frame) → ((d : ℕ) → IsPrefixOf (accepted_for m.state.tx d) (accepted_for k.state.tx d)) → Transmits h m xs → Transmits m k ys → Transmits h k (λ d. xs d ++ ys d)
 transmits_then h m k xs ys ready a b = record {
   items = λ d i item e. items_at d i item e;
   sent = λ d. (

@@ -49,7 +49,7 @@ pub joined_append : (u : Option Item) (xs ys : List Frame)
     → joined_from u (xs ++ ys) ≡ record { whole = (joined_from u xs).whole ++ (joined_from (joined_from u xs).unfinished ys).whole; unfinished = (joined_from (joined_from u xs).unfinished ys).unfinished }
 joined_append u xs ys = fold-append with_frame (record { whole = []; unfinished = u }) xs ys ∙ fold_whole ys (joined_from u xs).whole (joined_from u xs).unfinished
 
-joins_then : (h m k : Held) (xs ys : ℕ → List Frame) → Joins h m xs → Joins m k ys → Joins h k (λ s. xs s ++ ys s)
+pub joins_then : (h m k : Held) (xs ys : ℕ → List Frame) → Joins h m xs → Joins m k ys → Joins h k (λ s. xs s ++ ys s)
 joins_then h m k xs ys a b = record {
   begun = λ s. b.begun s ∙ ap (λ u. (joined_from u (ys s)).unfinished) (a.begun s) ∙ sym (ap (λ (g : Gathered). g.unfinished) (joined_append (begun_of h s) (xs s) (ys s)));
   tails = λ s. (
@@ -60,7 +60,7 @@ joins_then h m k xs ys a b = record {
 }
 
 -- acts that take nothing
-joins_same : (h k : Held) → k.begun ≡ h.begun → k.state.rx.tails ≡ h.state.rx.tails → Joins h k (λ s. [])
+pub joins_same : (h k : Held) → k.begun ≡ h.begun → k.state.rx.tails ≡ h.state.rx.tails → Joins h k (λ s. [])
 joins_same h k begun tails = record {
   begun = λ s. ap (λ xs. slice_index_or xs s None) begun;
   tails = λ s. (let t = ap (λ xs. slice_index xs s) tails in omega (arith, t));
@@ -77,7 +77,7 @@ had_tails : (a b : Actor) → read_next a ≡ Some b → b.state.rx.tails ≡ a.
 unfolding fabric step
 had_tails a b e = (step_is nothing_seen a b ReadStep e).1.tails
 
-headed_tails : (first : Bool) (s : State) (source : ℕ) (head : ItemHead) → (headed first s source head).rx.tails ≡ s.rx.tails
+pub headed_tails : (first : Bool) (s : State) (source : ℕ) (head : ItemHead) → (headed first s source head).rx.tails ≡ s.rx.tails
 headed_tails true s source head = (head_passes s source head).tails
 headed_tails false s source head = refl
 
@@ -147,7 +147,7 @@ joins_by (act ∷ acts) p q (mid, one, rest) = joins_then p.held mid.held q.held
 
 -- ---- what is shown
 
-get_drop : {X : Type 0} (xs : List X) (k : ℕ) (x : X) (ys : List X) → drop k xs ≡ x ∷ ys → slice_get xs k ≡ Some x
+pub get_drop : {X : Type 0} (xs : List X) (k : ℕ) (x : X) (ys : List X) → drop k xs ≡ x ∷ ys → slice_get xs k ≡ Some x
 get_drop [] zero x ys e = absurd (cc)
 get_drop [] (suc k) x ys e = absurd (cc)
 get_drop (y ∷ xs) zero x ys e = let same : y ≡ x = cc in ap Some same
@@ -163,7 +163,7 @@ drop_plus (suc k) n [] = let e : suc k + n ≡ suc (k + n) = omega arith in rw e
 drop_plus (suc k) n (x ∷ xs) = let e : suc k + n ≡ suc (k + n) = omega arith in rw e (drop_plus k n xs)
 
 -- what is shown from the start is shown later on
-shows_after : (v : View Item) (h m : Held) (xs ys : ℕ → List Frame) → Joins h m xs → Shows v h (λ s. xs s ++ ys s) → Shows v m ys
+pub shows_after : (v : View Item) (h m : Held) (xs ys : ℕ → List Frame) → Joins h m xs → Shows v h (λ s. xs s ++ ys s) → Shows v m ys
 shows_after v h m xs ys joins shows = record {
   items = λ s. (
       let u = begun_of h s in
@@ -184,7 +184,7 @@ shows_after v h m xs ys joins shows = record {
 }
 
 -- the item that a last frame makes whole is the next one that its sender accepted, and it is transmitted
-whole_item : (v : View Item) (h : Held) (source : ℕ) (f : Frame) (ys : List Frame) → is_last f.head ≡ true → AreFirst (joined_from (begun_of h source) (f ∷ ys)) (drop (slice_index h.state.rx.tails source) (v.ready source))
+pub whole_item : (v : View Item) (h : Held) (source : ℕ) (f : Frame) (ys : List Frame) → is_last f.head ≡ true → AreFirst (joined_from (begun_of h source) (f ∷ ys)) (drop (slice_index h.state.rx.tails source) (v.ready source))
     → slice_index h.state.rx.tails source + length (joined_from (begun_of h source) (f ∷ ys)).whole ≤ v.sent source
     → (slice_get (v.ready source) (slice_index h.state.rx.tails source) ≡ Some (grown (begun_of h source) f)) × (slice_index h.state.rx.tails source < v.sent source)
 whole_item v h source f ys last items sent =
@@ -207,7 +207,7 @@ at_source v h source f acts shows =
     )
 
 -- what a frame that is not the last one of its item leaves
-begun_after : (h t : Held) (source : ℕ) (f : Frame) → source < length h.begun → is_last f.head ≡ false
+pub begun_after : (h t : Held) (source : ℕ) (f : Frame) → source < length h.begun → is_last f.head ≡ false
     → Ends (is_last f.head) h (headed (is_first f) h.state source f.head.item) source (grown (begun_of h source) f) t
     → (begun_of t source ≡ Some (grown (begun_of h source) f)) × (t.state ≡ headed (is_first f) h.state source f.head.item)
 begun_after h t source f in_begun last ends =
@@ -269,7 +269,7 @@ begun_item v (act ∷ acts) p q source g (mid, one, rest) shows begun = by_act (
 
 -- ---- steps
 
-and_true : (a b : Bool) → a ≡ true → b ≡ true → (a && b) ≡ true
+pub and_true : (a b : Bool) → a ≡ true → b ≡ true → (a && b) ≡ true
 and_true a b x y = rw (x, y) refl
 
 -- the peer after a move
@@ -314,7 +314,7 @@ unfolding fabric step
 had_walk v a b e = e
 
 -- a frame that may go next is of an item that is not transmitted
-is_waiting : (h : Held) (dest : ℕ) (f : Frame) → next_frame h dest ≡ Some f → slice_index h.state.tx.sent dest < length (accepted_for h.state.tx dest)
+pub is_waiting : (h : Held) (dest : ℕ) (f : Frame) → next_frame h dest ≡ Some f → slice_index h.state.tx.sent dest < length (accepted_for h.state.tx dest)
 is_waiting h dest f next = by_item (next_item h.state dest) refl next
   where
     by_item : (o : Option Item) → next_item h.state dest ≡ o → option_map (λ item. piece item (slice_index h.places dest)) o ≡ Some f → slice_index h.state.tx.sent dest < length (accepted_for h.state.tx dest)

@@ -5,7 +5,6 @@
 
 pub mod calls;
 mod keeping;
-mod kept;
 mod looks;
 pub mod peer;
 mod reading;

@@ -1,12 +1,11 @@
 //! A peer over any endpoint: it does its lines, in turns.
-ghost use Rattle.std.specs.Prelude.{◌≡◌, ◌≢◌, ◌<◌, ◌||◌, length, ℕ, Some, None, Ok, Err, IfOk, OnOk, OnErr, IfSome, IfNone, find, position, is_some, nat_lt, ◌+◌, [], true, false, Bool};
+ghost use Rattle.std.specs.Prelude.{◌≡◌, ◌≢◌, ◌<◌, ◌||◌, length, ℕ, Some, None, Ok, Err, IfOk, OnOk, OnErr, IfSome, IfNone, is_some, nat_lt, ◌+◌, [], true, false, Bool};
 ghost use Rattle.fab_base.specs.declared.script.LineOp.TheVariants.{Wait, Recv, TRecv, MRecv, Send, TSend, Inject, TInject, Cancel};
 ghost use Rattle.fab_base.specs.declared.script.BytesWord.{BytesWord};
 ghost use Rattle.fab_base.specs.declared.faults.Fault.TheVariants.{NoMemory as LacksMemory};
 ghost use Rattle.fab_av.specs.Addresses.{answer_of};
-ghost use Rattle.fab_model.specs.Matching.{remove_first};
 ghost use Rattle.fab_model.specs.Calls.{word_bytes};
-ghost use Rattle.fab_model.specs.Peers.{ctx_of, is_of_ctx, is_finished};
+ghost use Rattle.fab_model.specs.Peers.{is_finished};
 ghost use Rattle.fab_model.specs.Receiving.{cancellable};
 ghost use Rattle.fab_model.specs.Report.{pending_of, deferred_of};
 ghost use Rattle.fab_quantum.specs.Turns.{step_of, why_of};
@@ -14,12 +13,9 @@ ghost use Rattle.fab_quantum.specs.Turns.{step_of, why_of};
 pub mod seats;
 
 use crate::calls::Calls;
-use crate::kept::KeptList;
-use fab_base::{
-    Buf, BytesWord, Entry, Fault, Flags, Kept, Line, LineOp, LineResult, NoMemory, Refused, Step,
-    Taken,
-};
+use fab_base::{Buf, BytesWord, Fault, Flags, Line, LineOp, LineResult, NoMemory, Refused, Step};
 use fab_face::events::Event;
+use fab_kept::KeptList;
 use std::alloc::Global;
 use std::mem::replace;
 
@@ -74,54 +70,6 @@ fn is_above_zero(a: u32) -> bool
     ensures { result ≡ nat_lt 0 a }
 {
     a > 0
-}
-
-/// The context under which a completion comes.
-fn ctx_of(entry: &Taken) -> Option<u64>
-    ensures { result ≡ ctx_of entry.now }
-{
-    match entry {
-        Taken::Failure(error) => error.ctx,
-        Taken::Success(entry) => match entry {
-            Entry::Sent { ctx, .. }
-            | Entry::Received { ctx, .. }
-            | Entry::Part { ctx, .. }
-            | Entry::Released { ctx, .. }
-            | Entry::Peeked { ctx, .. }
-            | Entry::Read { ctx, .. }
-            | Entry::Wrote { ctx, .. }
-            | Entry::Updated { ctx }
-            | Entry::Fetched { ctx, .. } => Some(*ctx),
-            Entry::RemoteData { .. } => None,
-        },
-    }
-}
-
-fn is_of_ctx(kept: &Kept, ctx: Option<u64>) -> bool
-    ensures { result ≡ is_of_ctx ctx kept.now }
-{
-    match (ctx, ctx_of(&kept.entry)) {
-        (None, None) => true,
-        (Some(wanted), Some(is)) => wanted == is,
-        (None, Some(_)) | (Some(_), None) => false,
-    }
-}
-
-fn place_of(kept: &[Kept], ctx: Option<u64>) -> Option<usize>
-    ensures { result ≡ position (is_of_ctx ctx) kept.now }
-{
-    kept.iter().position(|k| is_of_ctx(k, ctx))
-}
-
-/// Takes the oldest kept completion of this context.
-fn take_kept(kept: &mut KeptList, ctx: Option<u64>) -> Option<Kept>
-    ensures found { result ≡ find (is_of_ctx ctx) kept.old }
-    ensures rest { kept.new ≡ remove_first (is_of_ctx ctx) kept.old }
-{
-    let Some(at) = place_of(kept.as_slice(), ctx) else {
-        return None;
-    };
-    Some(kept.remove(at))
 }
 
 /// The bytes of a line's word.
@@ -221,7 +169,7 @@ impl<E: Calls> Peer<E> {
         requires next { next_op (told E.seen self.old) ≡ Some (Wait ctx) }
         ensures { IfOk result (λ o. WentOn (told E.seen self.old) (told E.seen self.new) o.done o.moved) }
     {
-        let Some(kept) = take_kept(&mut self.kept, ctx) else {
+        let Some(kept) = self.kept.take(ctx) else {
             return Ok(Outcome {
                 done: false,
                 moved: false,
@@ -714,10 +662,10 @@ impl<E: Calls> Peer<E> {
     }
 
     /// The completions that were read and that no `wait` took, in the order of reading.
-    pub fn kept(&self) -> &[Kept]
+    pub fn kept(&self) -> &KeptList
         ensures { result.now ≡ (told E.seen self.now).kept }
     {
-        self.kept.as_slice()
+        &self.kept
     }
 
     /// The steps taken so far, in order.

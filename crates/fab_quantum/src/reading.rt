@@ -2,11 +2,13 @@
 ghost use Rattle.std.specs.Prelude.{◌≡◌, ◌≤◌, ℕ, ◌+◌, Ok, IfOk, OnOk, IfSome, IfNone, count_by, zip, true, false};
 ghost use Rattle.fab_model.specs.Peers.{part_of, unread, is_multi_line};
 ghost use Rattle.fab_face.specs.Answers.{Pops, IsSharing};
+ghost use Rattle.fab_kept.specs.Places.{passes};
 ghost use Rattle.fab_quantum.specs.Turns.{hands_back, waited_back, multis_done};
 
 use crate::calls::Calls;
 use crate::peer::Peer;
 use fab_base::{Buf, Entry, Kept, Line, LineOp, LineResult, NoMemory, Step, Taken};
+use fab_kept::KeptList;
 
 /// The context, place and length of a part of a multi-receive, or of a part that was cut off.
 fn part_of(entry: &Taken) -> Option<(u64, u32, u32)>
@@ -60,10 +62,29 @@ fn is_multi_line(line: &Line, outcome: &LineResult, ctx: u64) -> bool
     }
 }
 
-fn count_kept(kept: &[Kept], ctx: u64) -> usize
+/// Whether a completion stands at the place, and hands a buffer of this context back.
+fn place_hands_back(place: &Option<Kept>, ctx: u64) -> bool
+    ensures { result ≡ passes (hands_back ctx) place.now }
+{
+    match place {
+        Some(kept) => hands_back(kept, ctx),
+        None => false,
+    }
+}
+
+fn count_places(places: &[Option<Kept>], ctx: u64) -> usize
+    ensures { result ≡ count_by (passes (hands_back ctx)) places.now }
+{
+    places
+        .iter()
+        .filter(|place| place_hands_back(place, ctx))
+        .count()
+}
+
+fn count_kept(kept: &KeptList, ctx: u64) -> usize
     ensures { result ≡ count_by (hands_back ctx) kept.now }
 {
-    kept.iter().filter(|k| hands_back(k, ctx)).count()
+    count_places(kept.places(), ctx)
 }
 
 fn count_waited(results: &[LineResult], ctx: u64) -> usize
@@ -107,7 +128,7 @@ impl<E: Calls> Peer<E> {
         requires few { count_by (hands_back ctx) self.now.kept + count_by (waited_back ctx) self.now.results.items ≤ multis_done self.now.lines.items self.now.results.items ctx }
         ensures { result ≡ is_only (told E.seen self.now) ctx }
     {
-        let kept = count_kept(self.kept.as_slice(), ctx);
+        let kept = count_kept(&self.kept, ctx);
         let waited = count_waited(self.results.as_slice(), ctx);
         let done = count_lines(self.lines.as_slice(), self.results.as_slice(), ctx);
         done - kept - waited == 1

@@ -83,15 +83,15 @@ parts_end b k peers now whole past so_far = sym (ap (λ text. now ++ text) (part
 
 -- the part of a peer, from the clauses of what tells its state
 pub part_of : (b : Bound) (k : ℕ) (x : Peer) (lines : List Line) (results : List LineResult) (kept : List Kept) (pending deferred : ℕ) (steps : List Step) → map (bind_line b) lines ≡ lines_of b x.actor.number → results ≡ x.actor.results.items
-    → kept ≡ x.actor.kept.items → pending ≡ pending_of (actor_of b x.actor) → deferred ≡ deferred_of (actor_of b x.actor) → steps ≡ x.steps
+    → kept ≡ x.actor.kept → pending ≡ pending_of (actor_of b x.actor) → deferred ≡ deferred_of (actor_of b x.actor) → steps ≡ x.steps
     → text_of (peer_lines k lines results kept pending deferred steps) ≡ text_of (actor_lines k (actor_of b x.actor) x.steps)
 part_of b k x lines results kept pending deferred steps is r q n d s =
     let a = x.actor in
     let own = lines_of b a.number in
     ap text_of (sym (peer_bound b k lines results kept pending deferred steps) ∙ ap (λ ls. peer_lines k ls results kept pending deferred steps) is
     ∙ ap (λ rs. peer_lines k own rs kept pending deferred steps) r ∙ ap (λ ks. peer_lines k own a.results.items ks pending deferred steps) q
-    ∙ ap (λ m. peer_lines k own a.results.items a.kept.items m deferred steps) n ∙ ap (λ m. peer_lines k own a.results.items a.kept.items (pending_of (actor_of b a)) m steps) d
-    ∙ ap (λ ss. peer_lines k own a.results.items a.kept.items (pending_of (actor_of b a)) (deferred_of (actor_of b a)) ss) s)
+    ∙ ap (λ m. peer_lines k own a.results.items a.kept m deferred steps) n ∙ ap (λ m. peer_lines k own a.results.items a.kept (pending_of (actor_of b a)) m steps) d
+    ∙ ap (λ ss. peer_lines k own a.results.items a.kept (pending_of (actor_of b a)) (deferred_of (actor_of b a)) ss) s)
 
 -- the first line, all parts, and the last line
 pub whole_report : (b : Bound) (peers : List Peer) (x y z : List ℕ) → x ≡ line_of (first_line b.script.version (length peers)) → y ≡ x ++ text_of (all_lines 0 (actors_of b peers) (steps_of peers))

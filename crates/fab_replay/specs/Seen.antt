@@ -20,7 +20,7 @@ use Rattle.fab_replay.specs.declared.ready.Ready.{Ready}
 use Rattle.fab_replay.specs.declared.ready.Ready.TheVariants.{Do as ReadyDo, Head as ReadyHead, Tail as ReadyTail, Sent as ReadySent, Draw as ReadyDraw, Read as ReadyRead, Final as ReadyFinal}
 
 abbrev pub actor_of : Bound → Actor → model.Actor
-actor_of bound a = record { state = state_of a.state; lines = lines_of bound a.number; results = a.results.items; kept = a.kept.items }
+actor_of bound a = record { state = state_of a.state; lines = lines_of bound a.number; results = a.results.items; kept = a.kept }
 
 abbrev pub actors_of : Bound → List Peer → List model.Actor
 actors_of bound peers = map (λ (p : Peer). actor_of bound p.actor) peers

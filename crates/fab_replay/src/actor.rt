@@ -1,18 +1,18 @@
 //! One peer of the replay: its machine, the results of its lines, and the completions that it read.
-ghost use Rattle.std.specs.Prelude.{◌≡◌, ◌+◌, true, false, find, position, map, IfOk, IfNone, MatchOption};
+ghost use Rattle.std.specs.Prelude.{◌≡◌, ◌+◌, true, false, map, IfOk, MatchOption};
 ghost use Rattle.std.specs.Option.{option_copied, option_map};
 ghost use Rattle.fab_base.specs.declared.script.LineOp.TheVariants.{Reach};
 ghost use Rattle.fab_base.specs.declared.script.Bound.{Bound as BoundScript};
-ghost use Rattle.fab_model.specs.Matching.{remove_first};
-ghost use Rattle.fab_model.specs.Peers.{ctx_of, is_of_ctx, is_again, wait_line, call_line, do_line, do_next, next_line, is_finished, sent_step, draw_step};
+ghost use Rattle.fab_model.specs.Peers.{is_again, wait_line, call_line, do_line, do_next, next_line, is_finished, sent_step, draw_step};
 ghost use Rattle.fab_model.specs.Replay.{bind_line, lines_of};
 ghost use Rattle.fab_model.specs.Report.{pending_of, deferred_of};
 ghost use Rattle.fab_machine.specs.Seen.{seen_call};
 ghost use Rattle.fab_replay.specs.Seen.{actor_of, Took};
 
 use crate::lines::call_of;
-use fab_base::{Bound, Class, Entry, Fault, Kept, Line, LineOp, LineResult, NoMemory, Taken};
+use fab_base::{Bound, Class, Fault, Line, LineOp, LineResult, NoMemory};
 use fab_items::lists::number_at;
+use fab_kept::KeptList;
 use fab_machine::calls::Call;
 use fab_machine::state::State;
 
@@ -22,7 +22,7 @@ pub struct Actor {
     pub number: u32,
     pub state: State,
     pub results: Vec<LineResult>,
-    pub kept: Vec<Kept>,
+    pub kept: KeptList,
 }
 
 /// The lines of this peer, as they stand in the script.
@@ -33,55 +33,6 @@ pub fn lines_in(bound: &Bound, number: u32) -> &[Line]
         Some(lines) => lines.as_slice(),
         None => &[],
     }
-}
-
-/// The context under which a completion comes, if any.
-fn ctx_of(entry: &Taken) -> Option<u64>
-    ensures { result ≡ ctx_of entry.now }
-{
-    match entry {
-        Taken::Failure(error) => error.ctx,
-        Taken::Success(entry) => match entry {
-            Entry::Sent { ctx, .. }
-            | Entry::Received { ctx, .. }
-            | Entry::Part { ctx, .. }
-            | Entry::Released { ctx, .. }
-            | Entry::Peeked { ctx, .. }
-            | Entry::Read { ctx, .. }
-            | Entry::Wrote { ctx, .. }
-            | Entry::Updated { ctx }
-            | Entry::Fetched { ctx, .. } => Some(*ctx),
-            Entry::RemoteData { .. } => None,
-        },
-    }
-}
-
-fn is_of_ctx(kept: &Kept, ctx: Option<u64>) -> bool
-    ensures { result ≡ is_of_ctx ctx kept.now }
-{
-    match (ctx, ctx_of(&kept.entry)) {
-        (None, None) => true,
-        (Some(wanted), Some(is)) => wanted == is,
-        (None, Some(_)) | (Some(_), None) => false,
-    }
-}
-
-fn place_of(kept: &[Kept], ctx: Option<u64>) -> Option<usize>
-    ensures { result ≡ position (is_of_ctx ctx) kept.now }
-{
-    kept.iter().position(|k| is_of_ctx(k, ctx))
-}
-
-/// Takes the oldest kept completion of this context.
-fn take_kept(kept: &mut Vec<Kept>, ctx: Option<u64>) -> Option<Kept>
-    ensures found { result ≡ find (is_of_ctx ctx) kept.old.items }
-    ensures rest { kept.new.items ≡ remove_first (is_of_ctx ctx) kept.old.items }
-    ensures none { IfNone result (kept.new.items ≡ kept.old.items) }
-{
-    let Some(at) = place_of(kept, ctx) else {
-        return None;
-    };
-    Some(kept.remove(at))
 }
 
 /// The answer of a call that is not to be made again later.
@@ -124,7 +75,7 @@ impl Actor {
     fn wait(&mut self, ctx: Option<u64>) -> Result<bool, NoMemory>
         ensures { (bound : BoundScript) → IfOk result (λ took. Took took (actor_of bound self.old) (actor_of bound self.new) (wait_line (actor_of bound self.old) ctx)) }
     {
-        let Some(kept) = take_kept(&mut self.kept, ctx) else {
+        let Some(kept) = self.kept.take(ctx) else {
             return Ok(false);
         };
         self.results.push(LineResult::Waited(kept))?;

@@ -8,6 +8,7 @@ ghost use Rattle.fab_replay.specs.Seen.{actor_of, moment_of, steps_of};
 use crate::actor::Actor;
 use crate::turns::Peer;
 use fab_base::{Bound, Coming, Conf, List, NoMemory, Step, Tally};
+use fab_kept::KeptList;
 use fab_machine::state::{Completions, Receiving, State, Transmitting};
 use std::alloc::Global;
 
@@ -125,7 +126,7 @@ fn newly(alloc: Global, bound: &Bound, number: u32, steps: &List<Step>) -> Resul
             number,
             state,
             results: Vec::new(alloc),
-            kept: Vec::new(alloc),
+            kept: KeptList::new(alloc),
         },
         steps: List::from_vec(steps),
         taken: 0,

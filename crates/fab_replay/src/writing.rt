@@ -33,7 +33,7 @@ fn add_peers(out: &mut String, bound: &Bound, peers: &[Peer]) -> Result<(), NoMe
             number,
             lines_in(bound, actor.number),
             actor.results.as_slice(),
-            actor.kept.as_slice(),
+            &actor.kept,
             actor.pending() as u64,
             actor.deferred()?,
             peer.steps.as_slice(),

@@ -1,14 +1,16 @@
 -- Words with a blank before each.
-use Rattle.std.proofs.Common.{◌≡◌, ℕ, List, [], ◌∷◌, ◌++◌, ◌≤◌, ◌⊎◌, inl, inr, length, drop, min, arith, refl, sym, ap, ◌∙◌, append_assoc, map, codes, Result, Ok, Err, OnOk}
+use Rattle.std.proofs.Common.{◌≡◌, ℕ, List, [], ◌∷◌, ◌++◌, ◌≤◌, ◌⊎◌, inl, inr, length, drop, min, arith, refl, sym, ap, ◌∙◌, append_assoc, map, codes, Option, Some, None, Result, Ok, Err, OnOk}
 use Rattle.std.proofs.lemmas.List.{append-nil}
 use Rattle.std.specs.List.{join_with_byte}
+use Rattle.std.specs.Prelude.{option_to_list}
 use Rattle.fab_model.specs.Words.{Word, line_of, text_of}
 use Rattle.std.proofs.Math.ListN.{drop_of_length-le}
 use Rattle.fab_base.specs.declared.entries.Kept.{Kept}
 use Rattle.fab_base.specs.declared.script.Line.{Line}
 use Rattle.fab_base.specs.declared.peers.LineResult.{LineResult}
 use Rattle.fab_model.specs.Report.{kept_words, done_lines}
-use Rattle.fab_report.specs.Texts.{after_blanks}
+use Rattle.fab_kept.specs.Places.{somes}
+use Rattle.fab_report.specs.Texts.{after_blanks, left_text}
 
 pub after_blanks-append : (xs ys : List Word) → after_blanks (xs ++ ys) ≡ after_blanks xs ++ after_blanks ys
 after_blanks-append [] ys = refl
@@ -27,9 +29,10 @@ text_of-append [] ys = refl
 text_of-append (x ∷ xs) ys =
     ap (λ text. line_of x ++ text) (text_of-append xs ys) ∙ sym (append_assoc (line_of x) (text_of xs) (text_of ys))
 
--- the lines of the entries left
-abbrev pub left_text : List Kept → List ℕ
-left_text kept = text_of (map (λ k. codes "left" ∷ kept_words k) kept)
+-- the lines of the entries left at the places from one on
+pub left_more : (x : Option Kept) (xs : List (Option Kept)) → left_text (somes (x ∷ xs)) ≡ left_text (option_to_list x) ++ left_text (somes xs)
+left_more None xs = refl
+left_more (Some k) xs = ap (λ text. text ++ left_text (somes xs)) (sym (append-nil (line_of (codes "left" ∷ kept_words k))))
 
 -- words after words
 pub words_more : (from now next : List ℕ) (xs ys : List Word) → now ≡ from ++ after_blanks xs → next ≡ now ++ after_blanks ys → next ≡ from ++ after_blanks (xs ++ ys)

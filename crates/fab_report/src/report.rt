@@ -3,18 +3,19 @@
 //!
 //! Each function appends to a text. After want of memory the text may have gained a part of what was to
 //! be appended.
-ghost use Rattle.std.specs.Prelude.{◌≡◌, ◌+◌, ◌++◌, ◌∷◌, [], ◌<◌, length, take, map, OnOk, Some, None, unwrap_or, string_bytes, decimal, codes};
+ghost use Rattle.std.specs.Prelude.{◌≡◌, ◌+◌, ◌++◌, ◌∷◌, [], ◌<◌, length, take, map, OnOk, Some, None, unwrap_or, option_to_list, string_bytes, decimal, codes};
 ghost use Rattle.std.specs.Option.{option_copied};
 ghost use Rattle.fab_base.specs.declared.entries.ErrKind.{ErrKind};
 ghost use Rattle.fab_model.specs.Words.{line_of, text_of, hex_digit, hex, hex_or_dash};
 ghost use Rattle.fab_model.specs.Report.{fault_name, verb_of, ctx_word, named, received_words, len_words, how_word, entry_words, placed, error_words, taken_words, kept_words, result_words, done_lines, stuck_line, amount_line, step_word, peer_lines, first_line, last_line};
-ghost use Rattle.fab_model.specs.Peers.{ctx_of};
-ghost use Rattle.fab_report.specs.Texts.{after_blanks};
+ghost use Rattle.fab_kept.specs.Places.{somes};
+ghost use Rattle.fab_report.specs.Texts.{after_blanks, left_text};
 
 use fab_base::{
     Buf, Entry, ErrEntry, ErrKind, Fault, Kept, Line, LineOp, LineResult, NoMemory, PeekHow, Step,
     Taken,
 };
+use fab_kept::{KeptList, ctx_of};
 
 /// The first line of a report over this many peers, for a script of this version.
 pub fn add_first(out: &mut String, version: u32, peers: usize) -> Result<(), NoMemory>
@@ -368,25 +369,6 @@ fn add_failure(out: &mut String, error: &ErrEntry, kept: &[u8]) -> Result<(), No
     }
 }
 
-/// The context under which an entry came, if any.
-fn context_of(entry: &Taken) -> Option<u64>
-    ensures { result ≡ ctx_of entry.now }
-{
-    match entry {
-        Taken::Success(Entry::Sent { ctx, .. })
-        | Taken::Success(Entry::Received { ctx, .. })
-        | Taken::Success(Entry::Part { ctx, .. })
-        | Taken::Success(Entry::Released { ctx, .. })
-        | Taken::Success(Entry::Peeked { ctx, .. })
-        | Taken::Success(Entry::Read { ctx, .. })
-        | Taken::Success(Entry::Wrote { ctx, .. })
-        | Taken::Success(Entry::Updated { ctx })
-        | Taken::Success(Entry::Fetched { ctx, .. }) => Some(*ctx),
-        Taken::Success(Entry::RemoteData { .. }) => None,
-        Taken::Failure(error) => error.ctx,
-    }
-}
-
 fn add_context(out: &mut String, ctx: Option<u64>) -> Result<(), NoMemory>
     ensures { OnOk result (string_bytes out.new ≡ string_bytes out.old ++ 32 ∷ ctx_word ctx) }
 {
@@ -413,7 +395,7 @@ fn add_taken(out: &mut String, entry: &Taken, kept: &[u8]) -> Result<(), NoMemor
 fn add_kept(out: &mut String, kept: &Kept) -> Result<(), NoMemory>
     ensures { OnOk result (string_bytes out.new ≡ string_bytes out.old ++ after_blanks (kept_words kept.now)) }
 {
-    add_context(out, context_of(&kept.entry))?;
+    add_context(out, ctx_of(&kept.entry))?;
     match &kept.bytes {
         None => add_taken(out, &kept.entry, &[]),
         Some(bytes) => add_taken(out, &kept.entry, bytes.as_slice()),
@@ -483,14 +465,30 @@ fn add_left(out: &mut String, kept: &Kept) -> Result<(), NoMemory>
     Ok(())
 }
 
-fn add_lefts(out: &mut String, kept: &[Kept]) -> Result<(), NoMemory>
-    ensures { OnOk result (string_bytes out.new ≡ string_bytes out.old
-        ++ text_of (map (λ k. codes "left" ∷ kept_words k) kept.now)) }
+/// What stands at a place, if anything.
+#[tactic(auto, using(crate::proofs::Blanks::blanks))]
+fn add_place(out: &mut String, place: &Option<Kept>) -> Result<(), NoMemory>
+    ensures { OnOk result (string_bytes out.new ≡ string_bytes out.old ++ left_text (option_to_list place.now)) }
 {
-    for entry in kept {
-        add_left(out, entry)?;
+    match place {
+        Some(kept) => add_left(out, kept),
+        None => Ok(()),
+    }
+}
+
+fn add_places(out: &mut String, places: &[Option<Kept>]) -> Result<(), NoMemory>
+    ensures { OnOk result (string_bytes out.new ≡ string_bytes out.old ++ left_text (somes places.now)) }
+{
+    for place in places {
+        add_place(out, place)?;
     }
     Ok(())
+}
+
+fn add_lefts(out: &mut String, kept: &KeptList) -> Result<(), NoMemory>
+    ensures { OnOk result (string_bytes out.new ≡ string_bytes out.old ++ left_text kept.now) }
+{
+    add_places(out, kept.places())
 }
 
 fn add_pending(out: &mut String, pending: u64) -> Result<(), NoMemory>
@@ -553,7 +551,7 @@ pub fn add_peer(
     number: usize,
     lines: &[Line],
     results: &[LineResult],
-    kept: &[Kept],
+    kept: &KeptList,
     pending: u64,
     deferred: u64,
     steps: &[Step],

@@ -3,6 +3,7 @@ use fab_base::{
     Buf, Busy, BytesWord, Entry, ErrEntry, ErrKind, Fault, Kept, Level, Line, LineOp, LineResult,
     NoMemory, PeekHow, Step, Taken,
 };
+use fab_kept::KeptList;
 use fab_report::{add_first, add_last, add_peer};
 use std::alloc::Global;
 use std::process::Abort;
@@ -80,7 +81,8 @@ fn add_receiver(text: &mut String, alloc: Global) -> Result<(), NoMemory> {
         },
     ];
     let steps = [Step::Do, Step::Head(1), Step::Tail(1), Step::Read, Step::Do];
-    add_peer(text, 0, &lines, &results, &[], 0, 0, &steps)
+    let left = KeptList::new(alloc);
+    add_peer(text, 0, &lines, &results, &left, 0, 0, &steps)
 }
 
 /// The part of the peer that sent it.
@@ -92,7 +94,8 @@ fn add_sender(text: &mut String, alloc: Global) -> Result<(), NoMemory> {
         tagged: true,
         buf,
     };
-    let left = [success(sent)];
+    let mut left = KeptList::new(alloc);
+    left.push(success(sent))?;
     let send = LineOp::TSend {
         ctx: 2,
         dest: 0,
@@ -134,7 +137,7 @@ fn one_message_is_reported(rt: HostRuntime) -> Result<(), Fail> {
 }
 
 /// The part of a peer that stands at a line, with replies outstanding, two operations deferred, and every kind of step.
-fn add_stuck(text: &mut String) -> Result<(), NoMemory> {
+fn add_stuck(text: &mut String, alloc: Global) -> Result<(), NoMemory> {
     let lines = [
         Line {
             number: 12,
@@ -155,13 +158,14 @@ fn add_stuck(text: &mut String) -> Result<(), NoMemory> {
         Step::Read,
         Step::Final,
     ];
-    add_peer(text, 3, &lines, &results, &[], 21, 2, &steps)
+    let left = KeptList::new(alloc);
+    add_peer(text, 3, &lines, &results, &left, 21, 2, &steps)
 }
 
 #[test]
 fn a_stuck_peer_is_reported(rt: HostRuntime) -> Result<(), Fail> {
     let mut text = String::new(rt.alloc());
-    add_stuck(&mut text)?;
+    add_stuck(&mut text, rt.alloc())?;
     add_last(&mut text, false)?;
     let want = "peer 3\n\
         12 cancel refused FI_ENOENT\n\
@@ -182,10 +186,17 @@ fn is_text<E>(rt: &impl Abort, text: &String, want: &Result<String, E>) {
     }
 }
 
+/// The part of a peer that has one entry left.
+fn add_one_left(text: &mut String, alloc: Global, kept: Kept) -> Result<(), NoMemory> {
+    let mut left = KeptList::new(alloc);
+    left.push(kept)?;
+    add_peer(text, 0, &[], &[], &left, 0, 0, &[])
+}
+
 /// An entry that is left is told in these words.
 fn is_left(rt: &impl Abort, alloc: Global, kept: Kept, words: &str) {
     let mut text = String::new(alloc);
-    let added = add_peer(&mut text, 0, &[], &[], &[kept], 0, 0, &[]);
+    let added = add_one_left(&mut text, alloc, kept);
     assert!(rt; added.is_ok());
     is_text(
         rt,
@@ -327,7 +338,8 @@ fn is_done(rt: &impl Abort, alloc: Global, outcome: LineResult, words: &str) {
         number: 4,
         op: LineOp::Wait { ctx: None },
     };
-    let added = add_peer(&mut text, 0, &[wait], &[outcome], &[], 0, 0, &[]);
+    let left = KeptList::new(alloc);
+    let added = add_peer(&mut text, 0, &[wait], &[outcome], &left, 0, 0, &[]);
     assert!(rt; added.is_ok());
     is_text(
         rt,

@@ -3,9 +3,9 @@ ghost use Rattle.std.specs.Prelude.{◌≡◌};
 ghost use Rattle.fab_quantum.specs.Turns.{told};
 
 use crate::calls::Calls;
-use crate::kept::KeptList;
 use crate::peer::Peer;
 use fab_base::{Line, LineResult, Step};
+use fab_kept::KeptList;
 use std::alloc::Global;
 
 /// A peer without its endpoint: its lines, the results of those done, the completions kept, and its schedule.

@@ -13,4 +13,4 @@ returns-clause-one g c e =
     let bytes = c.in_ok-bytes.bytes in
     reads_one a _ c.in-Some.entry (seen c.next_entry.new.endpoint) bytes c.requires.counted c.in-Some.ensures.sharing c.in-Some.ensures.some
     (subst (λ (p : Option (ℕ × ℕ × ℕ)). Lent (with_seen a (seen c.next_entry.new.endpoint)) p bytes) c.part_of.ensures c.in_ok-bytes.ensures)
-    (told_is _ _ refl refl refl c.in_ok-push.ensures c.in_ok-push-2.ensures.items)
+    (told_is _ _ refl refl refl c.in_ok-push.ensures.ok c.in_ok-push-2.ensures.items)

@@ -1,0 +1,23 @@
+use Rattle.std.proofs.Common.{◌++◌, ◌∷◌, [], sym, ap, ◌∙◌}
+use Rattle.std.specs.Prelude.{is_some, unwrap_or}
+use Rattle.std.specs.Option.{option_copied_mut}
+use Rattle.fab_kept.proofs.Indexing.{lent_ok, lent_err, fresh}
+use Rattle.fab_kept.proofs.index.put.Goals as goal
+
+pub returns-in-Some-clause-ok : goal.returns-in-Some-clause-ok
+returns-in-Some-clause-ok c =
+    let w = c.push.new.self in
+    lent_ok c.args.index.now (c.get_mut.follows.lender w) c.args.ctx c.push.result c.in-Some.queue.now w c.args.place (ap (λ o. unwrap_or o []) (sym c.in-Some.ensures.value))
+    ((c.get_mut.follows.holds w).3 (ap is_some (sym c.in-Some.ensures.value))).0 c.push.ensures.ok
+
+pub returns-in-Some-clause-err : goal.returns-in-Some-clause-err
+returns-in-Some-clause-err c =
+    let w = c.push.new.self in
+    lent_err c.args.index.now (c.get_mut.follows.lender w) c.args.ctx c.push.result c.in-Some.queue.now w (ap (λ o. unwrap_or o []) (sym c.in-Some.ensures.value))
+    ((c.get_mut.follows.holds w).3 (ap is_some (sym c.in-Some.ensures.value))).0 c.push.ensures.err
+
+pub returns-clause-ok : goal.returns-clause-ok
+returns-clause-ok c =
+    fresh c.args.index.now c.insert.new.self c.args.ctx c.get_mut.follows.lender-at-none _ c.args.place c.get_mut.follows.holds-at-none
+    (sym c.get_mut.ensures.value ∙ ap option_copied_mut c.in_default.is) (c.in_ok-push.ensures.ok ∙ ap (λ q. q ++ c.args.place ∷ []) c.new-queue.ensures)
+    c.in_ok-insert.ensures.updates.0
