@@ -13,6 +13,7 @@ use Rattle.fab_ring.specs.declared.port.RingPort.{RingPort}
 use Rattle.fab_ring.specs.Made.{rings_table}
 use Rattle.fab_ring.specs.Gather.{AreAll}
 use Rattle.fab_rounds.specs.Opened.{Begins, AreGathered}
+use Rattle.fab_rounds.proofs.Lists.{none_at}
 use Rattle.fab_finish.specs.Joined.{Member, actors, schedules, opened, AreCleared}
 use Rattle.fab_phases.specs.Phases.{past_at, first_of}
 use Rattle.fab_phases.proofs.Starting.{made_new, begins}
@@ -32,7 +33,7 @@ cross-requires-clause-all g c =
     let is : (with_items c.in_ok-runners.runners new).items ≡ new = with_items_is c.in_ok-runners.runners new (c.run_rounds.auto.peers ∙ c.as_mut_slice.ensures.len) in
     let before : AreAll f (map (λ r. r.peer.endpoint.port) old) =
     subst (λ (zs : List RingPort). AreAll f zs) (sym (ap (map (λ r. r.peer.endpoint.port)) c.as_mut_slice.ensures.value ∙ c.in_ok-runners.ensures.ports)) (made_all _ _ _ f c.in_ok-ports.ports.items refl c.in_ok-ports.ensures) in
-    (f, subst (λ rs. AreAll f (map (λ r. r.peer.endpoint.port) rs)) (sym is) (all_stay (λ r. r.peer) c.in_ok-run_rounds.field-0.made old new e.count (λ k d below. (let t = e.turned k d below in t.1)) f before))
+    (f, subst (λ rs. AreAll f (map (λ r. r.peer.endpoint.port) rs)) (sym is) (all_stay (λ r. r.peer) old new e.count (λ k d below. e.ports k d below (none_at (λ r. r.failed) new k d (omega (arith, below, e.count)) (e.ok (e.made.1 (omega arith))))) f before))
 
 pub cross-requires-clause-together : goal.cross-requires-clause-together
 cross-requires-clause-together g c =
