@@ -1,0 +1,284 @@
+//! A collective that was begun.
+ghost use Rattle.std.specs.Prelude.{◌≡◌, false, true, Some, None, IfOk, IfErr, IfSome};
+ghost use Rattle.fab_coll.specs.Rounds.{outcome_of};
+ghost use Rattle.fab_collectives.specs.Offering.{brought, is_of, is_under, received_after, share_in, with_share};
+
+use crate::shares::{cut, made, needs, place, sources};
+use fab_app::completions::{Polled, ctx_of};
+use fab_app::endpoint::{Calls, Endpoint};
+use fab_app::trying::again;
+use fab_base::{Buf, Entry, Fault, NoMemory, Refused};
+use fab_coll::Coll;
+use std::alloc::Global;
+
+/// What is done, by which rank of how many, and under which tag. Its receives have the tag as their context, too.
+#[derive(Clone, Copy, Drop)]
+pub struct Work {
+    pub coll: Coll,
+    pub rank: u32,
+    pub peers: u32,
+    pub tag: u64,
+}
+
+/// The receives of shares: buffers that are not posted, and the rank from which all receives are still to be posted.
+#[derive(Drop)]
+struct Asking {
+    free: Vec<Buf>,
+    next: u32,
+}
+
+/// A collective that was begun. Whoever reads the completion queue of its endpoint offers it what was read, and drives it
+/// until it is done.
+///
+/// Where it is dropped before, its receives stay posted.
+#[derive(Drop)]
+pub struct Collective {
+    alloc: Global,
+    work: Work,
+    own: Buf,
+    /// The shares that came, in order of ranks.
+    received: Vec<Buf>,
+    asking: Asking,
+    /// The rank from which all ranks have still to be sent the own share.
+    sent: u32,
+    /// How many shares have not come.
+    missing: u32,
+    /// Whether a share was longer than the own one.
+    failed: bool,
+}
+
+/// So many buffers of so many bytes.
+fn buffers(alloc: Global, count: u32, len: usize) -> Result<Vec<Buf>, NoMemory> {
+    let mut all = Vec::new(alloc);
+    for _ in 0..count {
+        let buf = Buf::zeros(alloc, len as u64)?;
+        all.push(buf)?;
+    }
+    Ok(all)
+}
+
+/// Posts a receive of the share of rank s, and tells whether it is posted, or refused for now.
+fn ask<E: Calls + Drop>(
+    endpoint: &mut Endpoint<E>,
+    tag: u64,
+    s: u32,
+    free: &mut Vec<Buf>,
+) -> Result<bool, Fault> {
+    let Some(buf) = free.pop() else {
+        return Ok(true);
+    };
+    let Err(refused) = endpoint.trecv(Some(s), tag, 0, buf, tag) else {
+        return Ok(true);
+    };
+    let buf = again(refused)?;
+    free.push(buf).map_err(|_| NoMemory)?;
+    Ok(false)
+}
+
+/// Posts the receives of all shares that are needed, up to one that is refused for now.
+fn ask_all<E: Calls + Drop>(
+    endpoint: &mut Endpoint<E>,
+    work: Work,
+    asking: &mut Asking,
+) -> Result<(), Fault> {
+    for s in asking.next..work.peers {
+        if needs(work.coll, work.rank, s) && !ask(endpoint, work.tag, s, &mut asking.free)? {
+            return Ok(());
+        }
+        asking.next = s + 1;
+    }
+    Ok(())
+}
+
+/// Sends the share to rank t, and tells whether it is accepted, or refused for now.
+fn send<E: Calls + Drop>(
+    endpoint: &mut Endpoint<E>,
+    tag: u64,
+    t: u32,
+    own: &[u8],
+) -> Result<bool, Fault> {
+    match endpoint.tinject(t, tag, own, None) {
+        Ok(()) => Ok(true),
+        Err(Fault::Again(_)) => Ok(false),
+        Err(fault) => Err(fault),
+    }
+}
+
+/// Sends the share to all ranks that need it, up to one for which it is refused for now.
+fn send_all<E: Calls + Drop>(
+    endpoint: &mut Endpoint<E>,
+    work: Work,
+    own: &[u8],
+    sent: &mut u32,
+) -> Result<(), Fault> {
+    for t in *sent..work.peers {
+        if needs(work.coll, t, work.rank) && !send(endpoint, work.tag, t, own)? {
+            return Ok(());
+        }
+        *sent = t + 1;
+    }
+    Ok(())
+}
+
+/// Whether this is the context of the collective with this tag.
+fn is_under(tag: u64, ctx: Option<u64>) -> bool
+    ensures { result ≡ is_under tag ctx }
+{
+    match ctx {
+        Some(ctx) => ctx == tag,
+        None => false,
+    }
+}
+
+/// Whether a completion is that of a receive of the collective with this tag.
+fn is_of(tag: u64, polled: &Polled) -> bool
+    ensures { result ≡ is_of tag polled.now }
+{
+    match polled {
+        Polled::Entry(entry) => is_under(tag, ctx_of(entry)),
+        Polled::Error(error) => is_under(tag, error.ctx),
+        Polled::Idle | Polled::More => false,
+    }
+}
+
+/// A share that came, and the rank that it came from.
+#[derive(Drop)]
+pub struct Share {
+    pub source: u32,
+    pub bytes: Buf,
+}
+
+/// The share that a completed receive brought.
+fn share_in(entry: Entry) -> Option<Share>
+    ensures { result ≡ share_in entry }
+{
+    match entry {
+        Entry::Received {
+            source,
+            len,
+            buf,
+            ..
+        } => {
+            let bytes = cut(buf, len);
+            Some(Share { source, bytes })
+        }
+        Entry::Sent { .. }
+        | Entry::Part { .. }
+        | Entry::Released { .. }
+        | Entry::Peeked { .. }
+        | Entry::Read { .. }
+        | Entry::Wrote { .. }
+        | Entry::Updated { .. }
+        | Entry::Fetched { .. }
+        | Entry::RemoteData { .. } => None,
+    }
+}
+
+/// The share that a completion brought.
+fn brought(polled: Polled) -> Option<Share>
+    ensures { result ≡ brought polled }
+{
+    match polled {
+        Polled::Entry(entry) => share_in(entry),
+        Polled::Error(_) | Polled::Idle | Polled::More => None,
+    }
+}
+
+impl Collective {
+    /// Begins it. Nothing is posted or sent before it is driven.
+    pub(crate) fn begin(alloc: Global, work: Work, own: Buf) -> Result<Collective, Refused>
+        ensures begun { IfOk result (λ begun. (begun.work ≡ work) × (begun.own ≡ own)) }
+        ensures back { IfErr result (λ refused. refused.buf ≡ own) }
+    {
+        let count = sources(work.coll, work.rank, work.peers);
+        let len = own.as_slice().len();
+        match (buffers(alloc, count, len), buffers(alloc, count, 0)) {
+            (Ok(free), Ok(received)) => Ok(Collective {
+                alloc,
+                work,
+                own,
+                received,
+                asking: Asking { free, next: 0 },
+                sent: 0,
+                missing: count,
+                failed: false,
+            }),
+            _ => Err(Refused {
+                why: Fault::NoMemory,
+                buf: own,
+            }),
+        }
+    }
+
+    /// Posts the receives and sends the messages that are due, and gives what the collective comes to once it is done:
+    /// what `fab_coll` makes of the own share and of those that came, in order of ranks. It makes no progress, and what it
+    /// gives it gives each time that it is asked.
+    ///
+    /// `MsgSize` where the shares don't have one length. After an error it is not to be driven on.
+    pub fn drive<E: Calls + Drop>(
+        &mut self,
+        endpoint: &mut Endpoint<E>,
+    ) -> Result<Option<Buf>, Fault>
+        ensures made { IfOk result (λ done. IfSome done (λ bytes. bytes ≡ outcome_of self.old.work.coll self.old.work.rank self.old.own self.old.received.items)) }
+        ensures work { self.new.work ≡ self.old.work }
+        ensures own { self.new.own ≡ self.old.own }
+        ensures received { self.new.received.items ≡ self.old.received.items }
+    {
+        ask_all(endpoint, self.work, &mut self.asking)?;
+        send_all(endpoint, self.work, self.own.as_slice(), &mut self.sent)?;
+        if self.failed {
+            return Err(Fault::MsgSize);
+        }
+        if self.missing > 0 || self.asking.next < self.work.peers || self.sent < self.work.peers {
+            return Ok(None);
+        }
+        self.outcome()
+    }
+
+    /// What it comes to.
+    fn outcome(&self) -> Result<Option<Buf>, Fault>
+        ensures { IfOk result (λ done. IfSome done (λ bytes. bytes ≡ outcome_of self.now.work.coll self.now.work.rank self.now.own self.now.received.items)) }
+    {
+        let bytes = made(
+            self.alloc,
+            self.work.coll,
+            self.work.rank,
+            self.own.as_slice(),
+            &self.received,
+        )?;
+        Ok(Some(bytes))
+    }
+
+    /// Takes a completion that is its own: the share of the rank that it came from is kept, at the place of this rank. Any
+    /// other completion is handed back.
+    pub fn offer(&mut self, polled: Polled) -> Option<Polled>
+        ensures back { is_of self.old.work.tag polled ≡ false → result ≡ Some polled }
+        ensures taken { is_of self.old.work.tag polled ≡ true → result ≡ None }
+        ensures received { self.new.received.items ≡ received_after self.old.work self.old.received.items polled }
+        ensures work { self.new.work ≡ self.old.work }
+        ensures own { self.new.own ≡ self.old.own }
+    {
+        if !is_of(self.work.tag, &polled) {
+            return Some(polled);
+        }
+        match brought(polled) {
+            Some(share) => self.keep(share),
+            None => self.failed = true,
+        }
+        None
+    }
+
+    /// Keeps a share that came.
+    fn keep(&mut self, share: Share)
+        ensures received { self.new.received.items ≡ with_share self.old.work self.old.received.items (Some share) }
+        ensures work { self.new.work ≡ self.old.work }
+        ensures own { self.new.own ≡ self.old.own }
+    {
+        let Share { source, bytes } = share;
+        let at = place(self.work.coll, self.work.rank, source) as usize;
+        if at < self.received.len() {
+            self.received[at] = bytes;
+        }
+        self.missing = self.missing.saturating_sub(1);
+    }
+}

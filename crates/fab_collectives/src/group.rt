@@ -1,0 +1,140 @@
+//! The ranks that do collectives together, and what each of them begins.
+ghost use Rattle.std.specs.Prelude.{◌≡◌, ◌≤◌, ◌^◌, IfOk, IfErr, OnErr};
+ghost use Rattle.fab_coll.specs.declared.round.Coll.TheVariants.{Barrier, Broadcast, Allgather, Allreduce};
+
+use crate::collective::{Collective, Work};
+use fab_app::endpoint::{Calls, Endpoint};
+use fab_atomics::element_size;
+use fab_base::{AtomicOp, Buf, Fault, Num, Refused};
+use fab_coll::{Coll, is_reducing};
+use std::alloc::Global;
+
+/// The least tag and the least context of collectives, 2^63. An application that does collectives sends no message with a
+/// tag from here on, ignores this bit of a tag in no receive, and makes no call under a context from here on. So no
+/// receive of its own takes a message of a collective.
+pub const COLLECTIVE: u64 = 0x8000_0000_0000_0000;
+
+/// The most bytes of a share.
+pub const MOST_BYTES: usize = 4096;
+
+/// A rank of a domain, and how many collectives it began. All ranks begin the same collectives in the same order
+/// (fi_collective(3)); then those that belong together have the same tag.
+#[derive(Drop)]
+pub struct Group {
+    alloc: Global,
+    rank: u32,
+    peers: u32,
+    rounds: u64,
+}
+
+impl Group {
+    /// The group of all peers of an endpoint, in which its own number is its rank. Each peer has to stand at the index of its
+    /// number in the address vector, as `open` leaves it.
+    pub fn of<E: Calls + Drop>(alloc: Global, endpoint: &Endpoint<E>) -> Group
+        ensures rank { result.rank ≡ (E.seen endpoint.now).lanes.number }
+        ensures peers { result.peers ≡ (E.seen endpoint.now).lanes.peers }
+    {
+        Group {
+            alloc,
+            rank: endpoint.me(),
+            peers: endpoint.peers(),
+            rounds: 0,
+        }
+    }
+
+    /// This rank.
+    pub fn rank(&self) -> u32
+        ensures { result ≡ self.now.rank }
+    {
+        self.rank
+    }
+
+    /// How many ranks there are.
+    pub fn peers(&self) -> u32
+        ensures { result ≡ self.now.peers }
+    {
+        self.peers
+    }
+
+    /// Why a collective is not begun with a share of so many bytes, if it isn't.
+    fn refusal(&self, coll: Coll, len: usize) -> Option<Fault> {
+        if len > MOST_BYTES {
+            return Some(Fault::MsgSize);
+        }
+        let is_right = match coll {
+            Coll::Barrier | Coll::Allgather => true,
+            Coll::Broadcast { root } => root < self.peers,
+            Coll::Allreduce { op, num } => is_reducing(op) && len % element_size(num) == 0,
+        };
+        if is_right { None } else { Some(Fault::Invalid) }
+    }
+
+    /// Begins a collective with this share. Where it is refused, nothing changes.
+    fn begin(&mut self, coll: Coll, share: Buf) -> Result<Collective, Refused>
+        ensures begun { IfOk result (λ begun. (begun.own ≡ share) × (begun.work.coll ≡ coll) × (begun.work.rank ≡ self.old.rank)) }
+        ensures tag { IfOk result (λ begun. 2 ^ 63 ≤ begun.work.tag) }
+        ensures back { IfErr result (λ refused. refused.buf ≡ share) }
+        ensures same { OnErr result (self.new ≡ self.old) }
+    {
+        if let Some(why) = self.refusal(coll, share.as_slice().len()) {
+            return Err(Refused { why, buf: share });
+        }
+        let work = Work {
+            coll,
+            rank: self.rank,
+            peers: self.peers,
+            tag: COLLECTIVE + self.rounds % COLLECTIVE,
+        };
+        let begun = Collective::begin(self.alloc, work, share)?;
+        self.rounds = self.rounds.wrapping_add(1);
+        Ok(begun)
+    }
+
+    /// No rank is done before all have begun (fi_barrier). What it comes to has no bytes.
+    pub fn barrier(&mut self) -> Result<Collective, Refused>
+        ensures begun { IfOk result (λ begun. (begun.work.coll ≡ Barrier) × (begun.work.rank ≡ self.old.rank)) }
+        ensures tag { IfOk result (λ begun. 2 ^ 63 ≤ begun.work.tag) }
+        ensures same { OnErr result (self.new ≡ self.old) }
+    {
+        self.begin(Coll::Barrier, Buf::empty(self.alloc))
+    }
+
+    /// Each rank gets the root's bytes (fi_broadcast). On the other ranks `share` has as many bytes as are expected; what
+    /// they are does not matter.
+    ///
+    /// `MsgSize` where it has more than 4,096 bytes, `Invalid` where there is no such root.
+    pub fn broadcast(&mut self, root: u32, share: Buf) -> Result<Collective, Refused>
+        ensures begun { IfOk result (λ begun. (begun.own ≡ share) × (begun.work.coll ≡ Broadcast root) × (begun.work.rank ≡ self.old.rank)) }
+        ensures tag { IfOk result (λ begun. 2 ^ 63 ≤ begun.work.tag) }
+        ensures back { IfErr result (λ refused. refused.buf ≡ share) }
+        ensures same { OnErr result (self.new ≡ self.old) }
+    {
+        self.begin(Coll::Broadcast { root }, share)
+    }
+
+    /// Each rank gets the bytes of all ranks, in order of ranks (fi_allgather). All shares have one length.
+    ///
+    /// `MsgSize` where it has more than 4,096 bytes.
+    pub fn allgather(&mut self, share: Buf) -> Result<Collective, Refused>
+        ensures begun { IfOk result (λ begun. (begun.own ≡ share) × (begun.work.coll ≡ Allgather) × (begun.work.rank ≡ self.old.rank)) }
+        ensures tag { IfOk result (λ begun. 2 ^ 63 ≤ begun.work.tag) }
+        ensures back { IfErr result (λ refused. refused.buf ≡ share) }
+        ensures same { OnErr result (self.new ≡ self.old) }
+    {
+        self.begin(Coll::Allgather, share)
+    }
+
+    /// Each rank gets what the elements of all ranks come to, one by one, in order of ranks (fi_allreduce). All shares have
+    /// one length.
+    ///
+    /// `MsgSize` where it has more than 4,096 bytes, `Invalid` where the operation does not reduce (`is_reducing`) or the
+    /// share is no whole number of elements.
+    pub fn allreduce(&mut self, op: AtomicOp, num: Num, share: Buf) -> Result<Collective, Refused>
+        ensures begun { IfOk result (λ begun. (begun.own ≡ share) × (begun.work.coll ≡ Allreduce op num) × (begun.work.rank ≡ self.old.rank)) }
+        ensures tag { IfOk result (λ begun. 2 ^ 63 ≤ begun.work.tag) }
+        ensures back { IfErr result (λ refused. refused.buf ≡ share) }
+        ensures same { OnErr result (self.new ≡ self.old) }
+    {
+        self.begin(Coll::Allreduce { op, num }, share)
+    }
+}

@@ -1,0 +1,20 @@
+//! Collectives between threads (fi_collective(3)), over the application's endpoint and without a script: a barrier, a
+//! broadcast, an allgather and an allreduce that are begun, driven and done. None of the calls waits.
+//!
+//! ```text
+//! Group           the ranks of a domain; begins collectives, on each rank in one order
+//!        |  barrier, broadcast, allgather, allreduce
+//! Collective      drive, as long as it gives nothing; and offer what is read of the completion queue
+//! ```
+//!
+//! As in `fab_coll`, each rank sends its share to every rank that needs it, and folds what it received itself. Tags and
+//! contexts from [`COLLECTIVE`] on are those of collectives.
+#![tactic(auto)]
+
+mod collective;
+mod group;
+mod shares;
+
+pub use collective::Collective;
+pub use fab_coll::{Coll, is_reducing};
+pub use group::{COLLECTIVE, Group, MOST_BYTES};
