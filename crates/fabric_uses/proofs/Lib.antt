@@ -1,5 +1,5 @@
 pub mod Posting
 pub mod Looking
 pub mod Refusing
-pub mod Regions
+pub mod Registering
 pub mod Answering

@@ -1,5 +1,5 @@
 use Rattle.fabric_uses.proofs.Answering.{ok_map}
-use Rattle.fabric_uses.proofs.Regions.{registered}
+use Rattle.fabric_uses.proofs.Registering.{registered}
 use Rattle.fabric_uses.proofs.regions.publish.Goals as goal
 
 pub returns-clause-held : goal.returns-clause-held

@@ -1,4 +1,4 @@
-use Rattle.fabric_uses.proofs.Regions.{closed}
+use Rattle.fabric_uses.proofs.Registering.{closed}
 use Rattle.fabric_uses.proofs.regions.withdraw.Goals as goal
 
 pub returns-in-Ok : goal.returns-in-Ok
