@@ -21,66 +21,12 @@ use Rattle.fab_doings.proofs.Programs.{own_passes, read_passes}
 use Rattle.fab_quantum.proofs.Sending.{Keeps, keeps_passes, keeps_took, next_kept, passes_at, sent_raised, sent_ready}
 use Rattle.fab_doings.proofs.Sending.{transmits_one, lives_ready}
 use Rattle.fab_doings.specs.Doings.{after_own, Did, Does, DoesBy, Doing, Drew, Had, Living, Posted, Took, posted_by, posted_to}
-
--- what was posted to the peer ends where its next item goes on
-abbrev IsPlacedAt : Option FrameHead → Held → ℕ → Type 0
-IsPlacedAt end h d = IsPlaced end (slice_index h.places d) (next_item h.state d)
-
-placed_next : (end : Option FrameHead) (n : ℕ) (o u : Option Item) → ((item : Item) → o ≡ Some item → u ≡ Some item) → IsPlaced end n o → IsPlaced end n u
-placed_next end zero o u keeps placed = placed
-placed_next end (suc k) None u keeps placed = absurd placed
-placed_next end (suc k) (Some item) u keeps placed = subst (λ (x : Option Item). IsPlaced end (suc k) x) (sym (keeps item refl)) placed
+use Rattle.fab_quantum.proofs.Cutting.{IsPlacedAt, placed_next, placed_keeps, place_within, cut_posted}
 
 module _ (h k : Held) (d : ℕ) (end : Option FrameHead) (ready : IsPrefixOf (accepted_for h.state.tx d) (accepted_for k.state.tx d)) (sent : slice_index k.state.tx.sent d ≡ slice_index h.state.tx.sent d) (place : slice_index k.places d ≡ slice_index h.places d) where
   placed_kept : IsPlacedAt end h d → IsPlacedAt end k d
   placed_kept placed =
       subst (λ n. IsPlaced end n (next_item k.state d)) (sym place) (placed_next end (slice_index h.places d) (next_item h.state d) (next_item k.state d) (next_kept h k d ready sent place) placed)
-
-placed_keeps : (h k : Held) (d : ℕ) (end : Option FrameHead) → Keeps h k → IsPlacedAt end h d → IsPlacedAt end k d
-placed_keeps h k d end keeps placed = placed_kept h k d end (keeps.ready d) (ap (λ xs. slice_index xs d) keeps.sent) (ap (λ xs. slice_index xs d) keeps.places) placed
-
--- no more than all of the next item is posted
-place_within : (h : Held) (d : ℕ) (item : Item) → IsOut h → next_item h.state d ≡ Some item → slice_index h.places d ≤ item.head.total
-place_within h d item out next = elim (out d) [
-  | inl none ↦ omega (arith, none)
-  | inr (other, has, under) ↦ (let is : Some item ≡ Some other = sym next ∙ has in let same : item ≡ other = cc in let total = ap (λ (x : Item). x.head.total) same in omega (arith, under, total))
-]
-
-module _ (h t : Held) (dest : ℕ) (end : Option FrameHead) (item : Item) (in_places : dest < length h.places) (next : next_item h.state dest ≡ Some item) (items : AreItems h) (out : IsOut h) (placed : IsPlacedAt end h dest) where
-  place : ℕ
-  place = slice_index h.places dest
-
-  comes : MayCome end (piece item (slice_index h.places dest))
-  comes = (
-    placed_continues end (slice_index h.places dest) item (subst (λ (x : Option Item). IsPlaced end (slice_index h.places dest) x) next placed) (items dest _ item next).1,
-    piece_filled (slice_index h.places dest) item (items dest _ item next).0 (place_within h dest item out next),
-  )
-
-  placed_after : (last : Bool) → is_last (piece item (slice_index h.places dest)).head ≡ last → Departs last h dest (slice_index h.places dest + (piece item (slice_index h.places dest)).head.len) t
-      → IsPlacedAt (Some (piece item (slice_index h.places dest)).head) t dest
-  placed_after true last (room, is) =
-      let zero_is : slice_index t.places dest ≡ 0 = ap (λ (x : Held). slice_index x.places dest) is ∙ get_or-set_same h.places dest 0 0 in_places in
-      subst (λ n. IsPlaced (Some (piece item (slice_index h.places dest)).head) n (next_item t.state dest)) (sym zero_is) (placed_last item (slice_index h.places dest) last)
-  placed_after false more is =
-      let place_is : slice_index t.places dest ≡ slice_index h.places dest + (piece item (slice_index h.places dest)).head.len = ap (λ (x : Held). slice_index x.places dest) is ∙ get_or-set_same h.places dest _ 0 in_places in
-      let next_is : next_item t.state dest ≡ Some item = ap (λ (x : Held). next_item x.state dest) is ∙ next in
-      subst (λ n. IsPlaced (Some (piece item (slice_index h.places dest)).head) n (next_item t.state dest)) (sym place_is)
-      (subst (λ (x : Option Item). IsPlaced (Some (piece item (slice_index h.places dest)).head) (slice_index h.places dest + (piece item (slice_index h.places dest)).head.len) x) (sym next_is)
-      (placed_more item (slice_index h.places dest) more (place_within h dest item out next)))
-
--- the frame posted may come, and the next one behind it
-cut_posted : (h t : Held) (dest : ℕ) (f : Frame) (end : Option FrameHead) → dest < length h.places → next_frame h dest ≡ Some f → Departs (is_last f.head) h dest (f.head.from + f.head.len) t → AreItems h → IsOut h → IsPlacedAt end h dest
-    → MayCome end f × IsPlacedAt (Some f.head) t dest
-cut_posted h t dest f end in_places next departs items out placed = by_item (next_item h.state dest) refl next
-  where
-    by_item : (o : Option Item) → next_item h.state dest ≡ o → option_map (λ item. piece item (slice_index h.places dest)) o ≡ Some f → MayCome end f × IsPlacedAt (Some f.head) t dest
-    by_item None there e = absurd (cc)
-    by_item (Some item) there e =
-        let is : piece item (slice_index h.places dest) ≡ f = cc in
-        subst (λ (x : Frame). MayCome end x × IsPlacedAt (Some x.head) t dest) is (
-          comes h t dest end item in_places there items out placed,
-          placed_after h t dest end item in_places there items out placed (is_last (piece item (slice_index h.places dest)).head) refl (subst (λ (x : Frame). Departs (is_last x.head) h dest (x.head.from + x.head.len) t) (sym is) departs),
-        )
 
 -- what was posted to another peer stays
 cut_other : (h t : Held) (dest d upto : ℕ) (end : Option FrameHead) (last : Bool) → (dest == d) ≡ false → Departs last h dest upto t → IsPlacedAt end h d → IsPlacedAt end t d

@@ -17,6 +17,7 @@ use Rattle.fab_face.specs.Answers.{Inserts, Locally, Pops, adding}
 use Rattle.fab_doings.specs.Doings.{Did, Doing, DoesBy, Had, Living, Own, Calls, Posted, Took, Writes, after_own, doing_of, doings_by, posted_by, posted_to, taken_by, taken_of, ways_of}
 use Rattle.fab_doings.specs.Law.{Adds, Kept, Past, past_in}
 use Rattle.fab_doings.proofs.Lists.{lives_append, posted-append, taken-append, ways-append}
+use Rattle.fab_threads.proofs.Composing.{moved_same, moved_then}
 
 abbrev living : Held → List State → Living
 living h past = record { held = h; past = past }
@@ -128,10 +129,6 @@ no_takes (name ∷ names) s = no_takes names s
 
 -- ---- one call
 
-moved_same : (o : Option (List Move)) → MovedBy o o []
-moved_same None = refl
-moved_same (Some l) = ([], ap Some (sym (append-nil l)), refl)
-
 module _ {Home : Type 0} (old new : Seen Home) where
   -- a call whose contract gives acts: transmit and receive calls, Ok or refused, and progress
   pub went_adds : (call : Option Call) (xs : List Act) → Went call old new xs → Adds old new (doings_by call xs)
@@ -193,12 +190,6 @@ module _ {Home : Type 0} (old new : Seen Home) where
   log_adds held lanes = stays [] lanes (λ past. ([], (λ i. record { held = sym held i; past = sym (append-nil past) i }))) refl (λ d. refl) (λ s. refl)
 
 -- ---- one call after another
-
-moved_then : (x y z : Option (List Move)) (vs ws : List Way) → MovedBy x y vs → MovedBy y z ws → MovedBy x z (vs ++ ws)
-moved_then None y z vs ws f g = subst (λ o. MovedBy o z ws) f g
-moved_then (Some l) y z vs ws (first, is, ways) g =
-    let r = subst (λ o. MovedBy o z ws) is g in
-    (first ++ r.0, r.1 ∙ ap Some (append_assoc l first r.0), map-append way first r.0 ∙ ap (λ us. us ++ map way r.0) ways ∙ ap (λ us. vs ++ us) r.2)
 
 pub kept_same : (x : Past) → Kept x x
 kept_same x = ([], record { lives = refl; doings = sym (append-nil x.doings); moves = moved_same x.moves; outs = λ d. sym (append-nil (x.outs d)); ins = λ s. sym (append-nil (x.ins s)) })

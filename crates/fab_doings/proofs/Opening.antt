@@ -17,11 +17,7 @@ use Rattle.fab_threads.specs.Law.{IsFresh}
 use Rattle.fab_doings.specs.Law.{told_moves, outs_at, ins_at}
 use Rattle.fab_threads.proofs.Lists.{member}
 use Rattle.fab_doings.proofs.Lists.{outs_is, ins_is}
-
-all_the_same : {X : Type 0} (n k : ℕ) (x : X) → get_or (replicate n x) k x ≡ x
-all_the_same zero k x = refl
-all_the_same (suc n) zero x = refl
-all_the_same (suc n) (suc k) x = all_the_same n k x
+use Rattle.fab_laws.proofs.Levels.{all_the_same}
 
 -- what an endpoint holds when it is opened, whatever its address vector
 pub start_fresh : (conf : Conf) (av : List (Option ℕ)) → IsFresh (record { state = starting conf av; places = replicate conf.peers 0; begun = replicate conf.peers None; multis = [] })

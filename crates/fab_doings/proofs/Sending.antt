@@ -14,7 +14,7 @@ use Rattle.fab_face.specs.Held.{Held, next_item, IsOut, IsOutAt, AreItems}
 use Rattle.fab_face.specs.Acts.{Ends, Departs, headed, is_first, only}
 use Rattle.fab_quantum.specs.Turns.{Transmits, joined_from, part_at, posted_part}
 use Rattle.fab_quantum.proofs.Showing.{joined_append}
-use Rattle.fab_quantum.proofs.Sending.{Keeps, get_append, keeps_passes, next_kept, passes_at}
+use Rattle.fab_quantum.proofs.Sending.{Keeps, get_append, keeps_passes, next_kept, passes_at, transmits_none, transmits_then}
 use Rattle.fab_quantum.proofs.Sending as sending
 use Rattle.fab_face.specs.Acts as face
 use Rattle.fab_doings.proofs.Programs.{idle}
@@ -30,16 +30,6 @@ module _ (h k : Held) (d : ℕ) (ready : IsPrefixOf (accepted_for h.state.tx d) 
   part_kept : IsOutAt h d → posted_part k d ≡ posted_part h d
   part_kept (inl none) = ap (λ n. part_at n (next_item k.state d)) (place ∙ none) ∙ sym (ap (λ n. part_at n (next_item h.state d)) none)
   part_kept (inr (item, next, less)) = ap (λ n. part_at n (next_item k.state d)) place ∙ ap (part_at (slice_index h.places d)) (next_kept h k d ready sent place item next ∙ sym next)
-
-transmits_none : (h k : Held) → Keeps h k → IsOut h → Transmits h k (λ d. []) × IsOut k
-transmits_none h k keeps out = (
-  record {
-    items = λ d i item e. absurd (cc);
-    sent = λ d. (let s = ap (λ xs. slice_index xs d) keeps.sent in omega (arith, s));
-    part = λ d. part_kept h k d (keeps.ready d) (ap (λ xs. slice_index xs d) keeps.sent) (ap (λ xs. slice_index xs d) keeps.places) (out d);
-  },
-  λ d. out_kept h k d (keeps.ready d) (ap (λ xs. slice_index xs d) keeps.sent) (ap (λ xs. slice_index xs d) keeps.places) (out d),
-)
 
 one_ready : (act : Doing) (p q : Living) → Does p act q → (d : ℕ) → IsPrefixOf (accepted_for p.held.state.tx d) (accepted_for q.held.state.tx d)
 one_ready (Did own) p q (did, same) d = (passes_at p.held.state (after_own own p.held.state) q.held.state did.0 (own_passes own p.held.state)).ready d
@@ -60,32 +50,6 @@ transmits_one (Posted dest f) p q (goes, grew) items out = sending.transmits_one
 pub lives_ready : (acts : List Doing) (p q : Living) → DoesBy p acts q → (d : ℕ) → IsPrefixOf (accepted_for p.held.state.tx d) (accepted_for q.held.state.tx d)
 lives_ready [] p q is d = prefix_self _ _ (ap (λ (x : Living). accepted_for x.held.state.tx d) is)
 lives_ready (act ∷ acts) p q (mid, one, rest) d = prefix_prefix _ _ _ (one_ready act p mid one d) (lives_ready acts mid q rest d)
-
-transmits_then : (h m k : Held) (xs ys : ℕ → List Frame) → ((d : ℕ) → IsPrefixOf (accepted_for m.state.tx d) (accepted_for k.state.tx d)) → Transmits h m xs → Transmits m k ys → Transmits h k (λ d. xs d ++ ys d)
-transmits_then h m k xs ys ready a b = record {
-  items = λ d i item e. items_at d i item e;
-  sent = λ d. (
-      let whole = ap (λ (g : Gathered). length g.whole) (joined_append (posted_part h d) (xs d) (ys d)) in
-      let count = length-append (joined_from (posted_part h d) (xs d)).whole (joined_from (joined_from (posted_part h d) (xs d)).unfinished (ys d)).whole in
-      let start = ap (λ u. length (joined_from u (ys d)).whole) (a.part d) in
-      let x = a.sent d in let y = b.sent d in omega (arith, x, y, whole, count, start));
-  part = λ d. b.part d ∙ ap (λ u. (joined_from u (ys d)).unfinished) (a.part d) ∙ sym (ap (λ (g : Gathered). g.unfinished) (joined_append (posted_part h d) (xs d) (ys d)));
-}
-  where
-    items_at : (d i : ℕ) (item : Item) → slice_get (joined_from (posted_part h d) (xs d ++ ys d)).whole i ≡ Some item → slice_get (accepted_for k.state.tx d) (slice_index h.state.tx.sent d + i) ≡ Some item
-    items_at d i item e =
-        let w1 = (joined_from (posted_part h d) (xs d)).whole in
-        let w2 = (joined_from (posted_part m d) (ys d)).whole in
-        let split : slice_get (w1 ++ w2) i ≡ Some item = ap (λ u. slice_get (w1 ++ (joined_from u (ys d)).whole) i) (a.part d) ∙ sym (ap (λ (g : Gathered). slice_get g.whole i) (joined_append (posted_part h d) (xs d) (ys d))) ∙ e in
-        let r = ready d in
-        elim (get_append w1 w2 i item split) [
-          | inl l ↦ (let at = a.items d i item l in ap (λ zs. slice_get zs (slice_index h.state.tx.sent d + i)) (sym r.1) ∙ prefix_get (accepted_for m.state.tx d) r.0 (slice_index h.state.tx.sent d + i) item at)
-          | inr (j, where_is, l) ↦ (
-              let at = b.items d j item l in
-              let s = a.sent d in
-              let same : slice_index h.state.tx.sent d + i ≡ slice_index m.state.tx.sent d + j = omega (arith, s, where_is) in
-              ap (slice_get (accepted_for k.state.tx d)) same ∙ at)
-        ]
 
 -- the frames posted are those of the items accepted, in order
 pub transmits_by : (acts : List Doing) (p q : Living) → DoesBy p acts q → AreItems q.held → IsOut p.held → Transmits p.held q.held (λ d. posted_to d acts) × IsOut q.held

@@ -24,7 +24,7 @@ use Rattle.fab_model.proofs.Passes.{head_passes}
 use Rattle.fab_face.specs.Held.{Held, begun_of, next_frame, next_item, piece}
 use Rattle.fab_face.specs.Acts.{Comes, Ends, Departs, headed, is_first, only}
 use Rattle.fab_quantum.specs.Turns.{Shows, Joins, joined_from}
-use Rattle.fab_quantum.proofs.Showing.{joined_append}
+use Rattle.fab_quantum.proofs.Showing.{joined_append, joins_then, joins_same, headed_tails, get_drop, shows_after, whole_item, begun_after, and_true, is_waiting}
 use Rattle.fab_quantum.proofs.Showing as showing
 use Rattle.fab_face.specs.Acts as face
 use Rattle.fab_doings.proofs.Programs.{idle}
@@ -33,45 +33,6 @@ use Rattle.fab_laws.specs.Recorded.{Recorded, recorded}
 use Rattle.fab_laws.specs.Programs.{deed, head_deed, tail_deed, sent_deed, draw_deed, read_deed, peer, Deed, Draw, Head, Peer, Tail, program}
 
 -- ---- joining
-
--- what was whole before comes first
-fold_whole : (fs : List Frame) (w : List Item) (u : Option Item)
-    → fold with_frame (record { whole = w; unfinished = u }) fs ≡ record { whole = w ++ (joined_from u fs).whole; unfinished = (joined_from u fs).unfinished }
-fold_whole [] w u = λ i. record { whole = sym (append-nil w) i; unfinished = u }
-fold_whole (f ∷ fs) w u = by_last (λ ws x. fold_whole fs ws x) (is_last f.head) refl
-  where
-    by_last : ((ws : List Item) (x : Option Item) → fold with_frame (record { whole = ws; unfinished = x }) fs ≡ record { whole = ws ++ (joined_from x fs).whole; unfinished = (joined_from x fs).unfinished }) → (b : Bool) → is_last f.head ≡ b
-        → fold with_frame (with_frame (record { whole = w; unfinished = u }) f) fs
-        ≡ record { whole = w ++ (fold with_frame (with_frame (record { whole = []; unfinished = u }) f) fs).whole; unfinished = (fold with_frame (with_frame (record { whole = []; unfinished = u }) f) fs).unfinished }
-    by_last more true is =
-        let one = more (grown u f ∷ []) None in
-        let two = more (w ++ grown u f ∷ []) None in
-        rw is (two ∙ (λ i. record {
-          whole = (append_assoc w (grown u f ∷ []) (joined_from None fs).whole ∙ ap (λ (g : Gathered). w ++ g.whole) (sym one)) i;
-          unfinished = (ap (λ (g : Gathered). g.unfinished) (sym one)) i;
-        }))
-    by_last more false is = rw is (more w (Some (grown u f)))
-
-joins_then : (h m k : Held) (xs ys : ℕ → List Frame) → Joins h m xs → Joins m k ys → Joins h k (λ s. xs s ++ ys s)
-joins_then h m k xs ys a b = record {
-  begun = λ s. b.begun s ∙ ap (λ u. (joined_from u (ys s)).unfinished) (a.begun s) ∙ sym (ap (λ (g : Gathered). g.unfinished) (joined_append (begun_of h s) (xs s) (ys s)));
-  tails = λ s. (
-      let whole = ap (λ (g : Gathered). length g.whole) (joined_append (begun_of h s) (xs s) (ys s)) in
-      let count = length-append (joined_from (begun_of h s) (xs s)).whole (joined_from (joined_from (begun_of h s) (xs s)).unfinished (ys s)).whole in
-      let start = ap (λ u. length (joined_from u (ys s)).whole) (a.begun s) in
-      omega (arith, a.tails s, b.tails s, whole, count, start));
-}
-
--- acts that take nothing
-joins_same : (h k : Held) → k.begun ≡ h.begun → k.state.rx.tails ≡ h.state.rx.tails → Joins h k (λ s. [])
-joins_same h k begun tails = record {
-  begun = λ s. ap (λ xs. slice_index_or xs s None) begun;
-  tails = λ s. (let t = ap (λ xs. slice_index xs s) tails in omega (arith, t));
-}
-
-headed_tails : (first : Bool) (s : State) (source : ℕ) (head : ItemHead) → (headed first s source head).rx.tails ≡ s.rx.tails
-headed_tails true s source head = (head_passes s source head).tails
-headed_tails false s source head = refl
 
 pub joins_one : (act : Doing) (p q : Living) → Does p act q → Joins p.held q.held (λ s. taken_by s act)
 joins_one (Did own) p q (did, same) = joins_same p.held q.held same.1 (ap (λ (x : State). x.rx.tails) did.0 ∙ (own_passes own p.held.state).tails)
@@ -86,54 +47,6 @@ joins_by (act ∷ acts) p q (mid, one, rest) = joins_then p.held mid.held q.held
 
 -- ---- what is shown
 
-get_drop : {X : Type 0} (xs : List X) (k : ℕ) (x : X) (ys : List X) → drop k xs ≡ x ∷ ys → slice_get xs k ≡ Some x
-get_drop [] zero x ys e = absurd (cc)
-get_drop [] (suc k) x ys e = absurd (cc)
-get_drop (y ∷ xs) zero x ys e = let same : y ≡ x = cc in ap Some same
-get_drop (y ∷ xs) (suc k) x ys e = get_drop xs k x ys e
-
-drop_nil : {X : Type 0} (n : ℕ) → drop {A = X} n [] ≡ []
-drop_nil zero = refl
-drop_nil (suc n) = refl
-
-drop_plus : {X : Type 0} (k n : ℕ) (xs : List X) → drop (k + n) xs ≡ drop n (drop k xs)
-drop_plus zero n xs = let e : 0 + n ≡ n = omega arith in rw e refl
-drop_plus (suc k) n [] = let e : suc k + n ≡ suc (k + n) = omega arith in rw e (sym (drop_nil n))
-drop_plus (suc k) n (x ∷ xs) = let e : suc k + n ≡ suc (k + n) = omega arith in rw e (drop_plus k n xs)
-
--- what is shown from the start is shown later on
-shows_after : (v : View Item) (h m : Held) (xs ys : ℕ → List Frame) → Joins h m xs → Shows v h (λ s. xs s ++ ys s) → Shows v m ys
-shows_after v h m xs ys joins shows = record {
-  items = λ s. (
-      let u = begun_of h s in
-      let one = joined_from u (xs s) in
-      let two = joined_from one.unfinished (ys s) in
-      let k = slice_index h.state.rx.tails s in
-      let first : AreFirst (record { whole = one.whole ++ two.whole; unfinished = two.unfinished }) (drop k (v.ready s)) = subst (λ (g : Gathered). AreFirst g (drop k (v.ready s))) (joined_append u (xs s) (ys s)) (shows.items s) in
-      let left : drop (slice_index m.state.rx.tails s) (v.ready s) ≡ two.whole ++ first.0 =
-      ap (λ n. drop n (v.ready s)) (joins.tails s) ∙ drop_plus k (length one.whole) (v.ready s) ∙ ap (drop (length one.whole)) (first.1 ∙ append_assoc one.whole two.whole first.0)
-      ∙ drop-append_seam one.whole (two.whole ++ first.0) in
-      subst (λ (b : Option Item). AreFirst (joined_from b (ys s)) (drop (slice_index m.state.rx.tails s) (v.ready s))) (sym (joins.begun s)) (first.0, left, first.2));
-  sent = λ s. (
-      let whole = ap (λ (g : Gathered). length g.whole) (joined_append (begun_of h s) (xs s) (ys s)) in
-      let count = length-append (joined_from (begun_of h s) (xs s)).whole (joined_from (joined_from (begun_of h s) (xs s)).unfinished (ys s)).whole in
-      let start = ap (λ u. length (joined_from u (ys s)).whole) (joins.begun s) in
-      let sent = shows.sent s in
-      omega (arith, joins.tails s, whole, count, start, sent));
-}
-
--- the item that a last frame makes whole is the next one that its sender accepted, and it is transmitted
-whole_item : (v : View Item) (h : Held) (source : ℕ) (f : Frame) (ys : List Frame) → is_last f.head ≡ true → AreFirst (joined_from (begun_of h source) (f ∷ ys)) (drop (slice_index h.state.rx.tails source) (v.ready source))
-    → slice_index h.state.rx.tails source + length (joined_from (begun_of h source) (f ∷ ys)).whole ≤ v.sent source
-    → (slice_get (v.ready source) (slice_index h.state.rx.tails source) ≡ Some (grown (begun_of h source) f)) × (slice_index h.state.rx.tails source < v.sent source)
-whole_item v h source f ys last items sent =
-    let g = grown (begun_of h source) f in
-    let is : joined_from (begun_of h source) (f ∷ ys) ≡ record { whole = (g ∷ []) ++ (joined_from None ys).whole; unfinished = (joined_from None ys).unfinished } = rw last (fold_whole ys (g ∷ []) None) in
-    let first = subst (λ (x : Gathered). AreFirst x (drop (slice_index h.state.rx.tails source) (v.ready source))) is items in
-    let count = ap (λ (x : Gathered). length x.whole) is in
-    let one = length-append (g ∷ []) (joined_from None ys).whole in
-    (get_drop (v.ready source) (slice_index h.state.rx.tails source) g ((joined_from None ys).whole ++ first.0) first.1, omega (arith, sent, count, one))
-
 -- the frames that are shown of the source itself
 at_source : (v : View Item) (h : Held) (source : ℕ) (f : Frame) (acts : List Doing) → Shows v h (λ s. taken_by s (Took source f) ++ taken_of s acts)
     → AreFirst (joined_from (begun_of h source) (f ∷ taken_of source acts)) (drop (slice_index h.state.rx.tails source) (v.ready source))
@@ -144,14 +57,6 @@ at_source v h source f acts shows =
       subst (λ fs. AreFirst (joined_from (begun_of h source) fs) (drop (slice_index h.state.rx.tails source) (v.ready source))) is (shows.items source),
       subst (λ fs. slice_index h.state.rx.tails source + length (joined_from (begun_of h source) fs).whole ≤ v.sent source) is (shows.sent source),
     )
-
--- what a frame that is not the last one of its item leaves
-begun_after : (h t : Held) (source : ℕ) (f : Frame) → source < length h.begun → is_last f.head ≡ false
-    → Ends (is_last f.head) h (headed (is_first f) h.state source f.head.item) source (grown (begun_of h source) f) t
-    → (begun_of t source ≡ Some (grown (begun_of h source) f)) × (t.state ≡ headed (is_first f) h.state source f.head.item)
-begun_after h t source f in_begun last ends =
-    let is = rw last at ends in
-    (ap (λ (x : Held). begun_of x source) is ∙ get_or-set_same h.begun source (Some (grown (begun_of h source) f)) None in_begun, ap (λ (x : Held). x.state) is)
 
 -- an item that is begun is the next one that its sender accepted
 begun_item : (v : View Item) (acts : List Doing) (p q : Living) (source : ℕ) (g : Item) → DoesBy p acts q → Shows v p.held (λ s. taken_of s acts) → begun_of p.held source ≡ Some g
@@ -208,9 +113,6 @@ begun_item v (act ∷ acts) p q source g (mid, one, rest) shows begun = by_act (
 
 -- ---- steps
 
-and_true : (a b : Bool) → a ≡ true → b ≡ true → (a && b) ≡ true
-and_true a b x y = rw (x, y) refl
-
 -- the states are the same
 state_is : (s t : State) → t ≡ s → Some (peer s) ≡ Some (peer t)
 state_is s t e = ap (λ u. Some (peer u)) (sym e)
@@ -256,14 +158,6 @@ did_walk v (Writes counters) a b e = ap (λ s. Some (peer s)) (sym e)
 had_walk : (v : View Item) (a b : Peer) (w : Written) → unread a.state.cq ≡ Some w → b.state ≡ reading a.state → program.step v a Deed.Read ≡ Some b
 unfolding program deed read_deed
 had_walk v a b w has e = some_gives (unread a.state.cq) _ w b has (ap (λ s. Some (peer s)) (sym e))
-
--- a frame that may go next is of an item that is not transmitted
-is_waiting : (h : Held) (dest : ℕ) (f : Frame) → next_frame h dest ≡ Some f → slice_index h.state.tx.sent dest < length (accepted_for h.state.tx dest)
-is_waiting h dest f next = by_item (next_item h.state dest) refl next
-  where
-    by_item : (o : Option Item) → next_item h.state dest ≡ o → option_map (λ item. piece item (slice_index h.places dest)) o ≡ Some f → slice_index h.state.tx.sent dest < length (accepted_for h.state.tx dest)
-    by_item None there e = absurd (cc)
-    by_item (Some item) there e = slice_get_within (accepted_for h.state.tx dest) (slice_index h.state.tx.sent dest) item there
 
 posted_walk : (v : View Item) (p q : Living) (dest : ℕ) (f : Frame) (last : Bool) → next_frame p.held dest ≡ Some f → Departs last p.held dest (f.head.from + f.head.len) q.held → Grew p q (only last q.held.state)
     → Walk recorded v (peer_in p) (only last (Deed.Sent dest)) (peer_in q)

@@ -8,11 +8,11 @@ use Rattle.fab_quantum.proofs.Paths.{lives_append}
 use Rattle.fab_threads.specs.Pasts.{Past, past_of, ActedBy, Acted}
 use Rattle.fab_threads.proofs.Lists.{taken-append, posted-append, steps-append, ways-append}
 
-moved_same : (o : Option (List Move)) → MovedBy o o []
+pub moved_same : (o : Option (List Move)) → MovedBy o o []
 moved_same None = refl
 moved_same (Some l) = ([], ap Some (sym (append-nil l)), refl)
 
-moved_then : (x y z : Option (List Move)) (vs ws : List Way) → MovedBy x y vs → MovedBy y z ws → MovedBy x z (vs ++ ws)
+pub moved_then : (x y z : Option (List Move)) (vs ws : List Way) → MovedBy x y vs → MovedBy y z ws → MovedBy x z (vs ++ ws)
 moved_then None y z vs ws f g = subst (λ o. MovedBy o z ws) f g
 moved_then (Some l) y z vs ws (first, is, ways) g =
     let r = subst (λ o. MovedBy o z ws) is g in
