@@ -191,9 +191,6 @@ module _ {Home : Type 0} (old new : Seen Home) where
 
 -- ---- one call after another
 
-pub kept_same : (x : Past) → Kept x x
-kept_same x = ([], record { lives = refl; doings = sym (append-nil x.doings); moves = moved_same x.moves; outs = λ d. sym (append-nil (x.outs d)); ins = λ s. sym (append-nil (x.ins s)) })
-
 pub kept_then : (x y z : Past) → Kept x y → Kept y z → Kept x z
 kept_then x y z (xs, f) (ys, g) = (
   xs ++ ys,

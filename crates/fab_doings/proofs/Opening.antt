@@ -28,19 +28,6 @@ start_fresh conf av = record {
   tails = λ s. all_the_same {X = ℕ} conf.peers s 0;
 }
 
--- an endpoint as it is opened is fresh
-pub opened_fresh : {P : Type 0} (port : P) (av : Addresses) (info : Info) (selective : Bool) → IsFresh (opened port av info selective).held
-opened_fresh port av info selective = start_fresh (record { hints = None; info = info; peers = av.peers; selective = selective }) av.indices
-
--- and a peer of a program may start so, where its addresses name peers
-pub opened_starts : {P : Type 0} (port : P) (av : Addresses) (info : Info) (selective : Bool) → ((i t : ℕ) → lookup av.indices i ≡ Some t → t < av.peers) → Starts av.peers (opened port av info selective).held.state
-opened_starts port av info selective named = record {
-  conf = record { hints = None; info = info; peers = av.peers; selective = selective };
-  av = av.indices;
-  named = named;
-  is = refl;
-}
-
 -- by the numbers of the frames
 pub told_merge : (pasts : List Past) → All IsStamped (map told_moves pasts)
     → ((s d : ℕ) → IsPrefix (takes_of s (slice_index_or (map told_moves pasts) d [])) (posts_to d (slice_index_or (map told_moves pasts) s []))) → merges (map told_moves pasts) ≡ true
