@@ -1,5 +1,0 @@
-pub mod Posting
-pub mod Looking
-pub mod Refusing
-pub mod Registering
-pub mod Answering
