@@ -94,6 +94,21 @@ pub fn under_way<E: Logs>(endpoint: &E) -> (u32, u32) {
     (endpoint.deferred(), endpoint.awaiting())
 }
 
+/// Empties the log of events.
+pub fn clears<E: Logs>(endpoint: &mut E) {
+    endpoint.log_clear();
+}
+
+/// Adds to the messages sent that succeeded.
+pub fn adds<E: Counters>(endpoint: &mut E, n: u64) {
+    endpoint.cntr_add(Class::Send, n);
+}
+
+/// How many messages were sent.
+pub fn count_sent<E: Counters>(endpoint: &E) -> u64 {
+    endpoint.cntr_read(Class::Send)
+}
+
 /// How many requests of other peers wrote here, and how many read.
 pub fn served<E: Counters>(endpoint: &E) -> (u64, u64) {
     let written = endpoint.cntr_read(Class::RemoteWrite);

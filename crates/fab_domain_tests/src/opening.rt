@@ -18,7 +18,7 @@ fn granted(api: Api, sizes: Sizes) -> Option<Info> {
         tx: Some(sizes.tx),
         rx: None,
         cq: Some(sizes.cq),
-        log: None,
+        log: sizes.log,
         inject: None,
         message: None,
     };
@@ -100,6 +100,18 @@ fn everything_full(rt: HostRuntime) -> Result<(), Fail> {
 #[test]
 fn a_full_completion_queue(rt: HostRuntime) -> Result<(), Fail> {
     assert!(rt; holds(rt.alloc(), Row::QueueFull));
+    Ok(())
+}
+
+#[test]
+fn a_full_log(rt: HostRuntime) -> Result<(), Fail> {
+    assert!(rt; holds(rt.alloc(), Row::LogFull));
+    Ok(())
+}
+
+#[test]
+fn a_counter_at_its_end(rt: HostRuntime) -> Result<(), Fail> {
+    assert!(rt; holds(rt.alloc(), Row::CountedOut));
     Ok(())
 }
 

@@ -1,19 +1,20 @@
 //! Calls one at a time, between endpoints whose lanes, operations and completion queues are short.
 use crate::calls::{
-    Calls, Came, asks, brings, cancels, carries, closes_not, cut, fences, fetches, has, injects,
-    looks, missed, moves, next_came, pops_not, puts, reads, receives, refuses, registers, send,
-    sent, served, treceives, tsend, under_way, writes, wrote,
+    Calls, Came, adds, asks, brings, cancels, carries, clears, closes_not, count_sent, cut, fences,
+    fetches, has, injects, looks, missed, moves, next_came, pops_not, puts, reads, receives,
+    refuses, registers, send, sent, served, treceives, tsend, under_way, writes, wrote,
 };
 use fab_base::{Api, Busy, Fault};
 use fab_face::events::Stop;
 use std::alloc::Global;
 
-/// How many frames a lane holds, and how many operations and completions an endpoint.
+/// How many frames a lane holds, and how many operations, completions and events an endpoint.
 #[derive(Clone, Copy, Drop)]
 pub struct Sizes {
     pub lane: u32,
     pub tx: u32,
     pub cq: u32,
+    pub log: Option<u32>,
 }
 
 /// What is tested between two new endpoints.
@@ -22,6 +23,8 @@ pub enum Row {
     UnderWay,
     AllFull,
     QueueFull,
+    LogFull,
+    CountedOut,
     Directed,
     Served,
     Longest,
@@ -40,6 +43,7 @@ impl Row {
             Row::UnderWay => (1, 4, 8),
             Row::AllFull => (1, 1, 8),
             Row::QueueFull => (1, 1, 2),
+            Row::LogFull | Row::CountedOut => (4, 4, 8),
             Row::Directed | Row::Served => (4, 4, 8),
             Row::Longest => (64, 64, 1024),
             Row::Fenced => (4, 2, 8),
@@ -47,7 +51,11 @@ impl Row {
             Row::Greatest => (64, 2, 8),
             Row::Counted | Row::Uncounted => (4, 4, 8),
         };
-        Sizes { lane, tx, cq }
+        let log = match self {
+            Row::LogFull => Some(4),
+            _ => None,
+        };
+        Sizes { lane, tx, cq, log }
     }
 
     /// The version that the endpoints are opened for: the second for remote events and for its greatest message.
@@ -64,6 +72,8 @@ impl Row {
             Row::UnderWay => completes_whole(alloc, zero, one),
             Row::AllFull => goes_on(alloc, zero, one),
             Row::QueueFull => waits_for_room(zero),
+            Row::LogFull => waits_for_log(zero),
+            Row::CountedOut => counts_no_further(alloc, zero),
             Row::Directed => takes_from(alloc, zero, one),
             Row::Served => serves(alloc, zero, one),
             Row::Longest => refuses_longer(alloc, one),
@@ -123,6 +133,24 @@ fn waits_for_room<E: Calls>(zero: &mut E) -> bool {
     let again = looks(zero, 5, 3) == Ok(());
     let rest = missed(zero) == Some(2) && missed(zero) == Some(3);
     one && two && third && pops && first && again && rest
+}
+
+/// Three looks leave one place in the log; the fourth waits until the log is emptied.
+fn waits_for_log<E: Calls>(zero: &mut E) -> bool {
+    let first = looks(zero, 5, 1) == Ok(()) && looks(zero, 5, 2) == Ok(());
+    let third = looks(zero, 5, 3) == Ok(());
+    let full = looks(zero, 5, 4) == Err(Fault::Again(Busy::LogFull(4)));
+    clears(zero);
+    let fourth = looks(zero, 5, 4) == Ok(());
+    first && third && full && fourth
+}
+
+/// A counter stays at its end where a message is sent.
+fn counts_no_further<E: Calls>(alloc: Global, zero: &mut E) -> bool {
+    adds(zero, 18_446_744_073_709_551_615);
+    let went = send(alloc, zero, 1, 1) == Ok(());
+    let done = sent(zero) == Some(1);
+    went && done && count_sent(zero) == 18_446_744_073_709_551_615
 }
 
 /// A receive from one peer leaves the message of another where it is.

@@ -133,6 +133,24 @@ pub(crate) fn last(ports: &mut Vec<PlainPort>) -> Result<PlainPort, NoMemory>
 }
 
 #[test]
+fn a_lane_that_was_full_comes_to_a_plain_port(rt: HostRuntime) -> Result<(), Fail> {
+    let alloc = rt.alloc();
+    let (mut zero, mut one) = two_ports(alloc, 2, 1)?;
+    assert!(rt; post(&mut zero, 1, 1, b"a"));
+    assert!(rt; post(&mut zero, 1, 2, b"bb"));
+    assert!(rt; !post(&mut zero, 1, 3, b"ccc"));
+    assert!(rt; take(&mut one, 0) == Some((1, 1)));
+    assert!(rt; post(&mut zero, 1, 3, b"ccc"));
+    assert!(rt; next(&mut one, 1) == None);
+    let mut plain = pair_gathered(alloc, zero, one)?;
+    let mut one = last(&mut plain)?;
+    assert!(rt; take(&mut one, 0) == Some((2, 2)));
+    assert!(rt; take(&mut one, 0) == Some((3, 3)));
+    assert!(rt; take(&mut one, 0) == None);
+    Ok(())
+}
+
+#[test]
 fn what_is_on_its_way_comes_to_plain_ports(rt: HostRuntime) -> Result<(), Fail> {
     let alloc = rt.alloc();
     let (mut zero, mut one) = two_ports(alloc, 4, 2)?;
