@@ -1,7 +1,7 @@
 //! Endpoints are opened here alone: what is done with them is generic.
 use crate::measuring::{exchanges, times_between};
 use fab_bench::runs::{Exchange, Times};
-use fabric::{Cap, Calls, Domain, EndpointOver, Hints, open};
+use fabric::{Calls, Cap, Domain, EndpointOver, Hints, open};
 use std::alloc::Global;
 use std::io;
 use std::sync::Wait;
