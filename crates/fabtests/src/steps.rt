@@ -217,15 +217,19 @@ pub struct Failed {
     pub len: Option<usize>,
 }
 
-fn failed_by(error: ErrEntry) -> Failed {
-    let len = match error.buf {
+/// How many bytes a buffer has, if there is one.
+fn len_of(buf: Option<Buf>) -> Option<usize> {
+    match buf {
         Some(buf) => Some(buf.as_slice().len()),
         None => None,
-    };
+    }
+}
+
+fn failed_by(error: ErrEntry) -> Failed {
     Failed {
         kind: error.kind,
         ctx: error.ctx,
-        len,
+        len: len_of(error.buf),
     }
 }
 
