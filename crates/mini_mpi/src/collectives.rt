@@ -32,10 +32,9 @@ fn fill(into: &mut [u8], bytes: &[u8]) -> Result<(), Error> {
 
 impl<E: Calls + Drop> World<E> {
     /// Drives a collective until it is done.
-    fn complete<R: Wait>(&mut self, rt: &R, collective: Collective) -> Result<Buf, Error>
+    fn complete<R: Wait>(&mut self, rt: &R, mut collective: Collective) -> Result<Buf, Error>
         ensures { IfOk result (λ bytes. (received : List (List ℕ)) × (bytes ≡ outcome_of collective.work.coll collective.work.rank collective.own received)) }
     {
-        let mut collective = collective;
         for _ in rt.forever() {
             if let Some(bytes) = collective.drive(&mut self.endpoint)? {
                 return Ok(bytes);
