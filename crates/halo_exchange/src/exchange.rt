@@ -5,10 +5,16 @@ use mini_mpi::{Completed, Error, Request, World};
 use std::alloc::{AllocError, Global};
 use std::sync::Wait;
 
-/// The tag of a message that has the sender's northern edge, and so on.
+/// The tag of a message that has the sender's northern edge.
 const NORTH: u32 = 0;
+
+/// The tag of its southern one.
 const SOUTH: u32 = 1;
+
+/// The tag of its western one.
 const WEST: u32 = 2;
+
+/// The tag of its eastern one.
 const EAST: u32 = 3;
 
 /// How many bytes an edge has.

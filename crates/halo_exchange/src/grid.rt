@@ -59,13 +59,7 @@ fn next_row(
     let mut left = west;
     for (x, cell) in row.iter().enumerate() {
         let right = at(row, x + 1, east);
-        next.push(next_value(
-            *cell,
-            at(north, x, 0),
-            at(south, x, 0),
-            left,
-            right,
-        ))?;
+        next.push(next_value(*cell, at(north, x, 0), at(south, x, 0), left, right))?;
         left = *cell;
     }
     Ok(next)

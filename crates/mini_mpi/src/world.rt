@@ -180,13 +180,7 @@ impl<E: Calls + Drop> World<E> {
     }
 
     /// Sends, and waits until a receive took the message (MPI_Ssend). The buffer is given back.
-    pub fn ssend<R: Wait>(
-        &mut self,
-        rt: &R,
-        dest: u32,
-        tag: u32,
-        buf: Buf,
-    ) -> Result<Buf, Failed> {
+    pub fn ssend<R: Wait>(&mut self, rt: &R, dest: u32, tag: u32, buf: Buf) -> Result<Buf, Failed> {
         let request = self.begin_send(rt, dest, tag, buf, Level::Match)?;
         let completed = self.wait(rt, request)?;
         Ok(completed.buf)

@@ -70,7 +70,11 @@ fn main(rt: HostRuntime) -> std::io::Result<()> {
         return println!(rt; "no ranks");
     };
     for (number, name) in NAMES.iter().enumerate() {
-        let word = if have_passed(&all, number) { "pass" } else { "FAIL" };
+        let word = if have_passed(&all, number) {
+            "pass"
+        } else {
+            "FAIL"
+        };
         println!(rt; "{name}: {word}")?;
     }
     Ok(())

@@ -78,10 +78,12 @@ fn to_oneself<R: Wait, E: Calls + Drop>(
 /// Whether a receive failed because the message was too long, and its buffer came back full.
 fn is_truncated(received: &Result<Completed, Failed>) -> bool {
     match received {
-        Err(Failed {
-            why: Error::Truncate,
-            buf: Some(buf),
-        }) => buf.as_slice() == b"long".as_slice(),
+        Err(
+            Failed {
+                why: Error::Truncate,
+                buf: Some(buf),
+            },
+        ) => buf.as_slice() == b"long".as_slice(),
         _ => false,
     }
 }

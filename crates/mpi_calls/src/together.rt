@@ -41,10 +41,12 @@ fn reduces<R: Wait, E: Calls + Drop>(
 /// Whether a call was refused for this reason, with its buffer back.
 fn is_refused(answer: &Result<Request, Failed>, wanted: Error) -> bool {
     match answer {
-        Err(Failed {
-            why,
-            buf: Some(buf),
-        }) => *why == wanted && buf.as_slice() == b"back".as_slice(),
+        Err(
+            Failed {
+                why,
+                buf: Some(buf),
+            },
+        ) => *why == wanted && buf.as_slice() == b"back".as_slice(),
         _ => false,
     }
 }
