@@ -1,6 +1,6 @@
 //! A send and a receive from begin to end.
 use fabric::{Buf, Calls};
-use mini_mpi::{Completed, Error, Failed, World};
+use mini_mpi::{Completed, Error, Failed, Status, World};
 use std::alloc::Global;
 use std::sync::Wait;
 
@@ -40,11 +40,15 @@ pub fn receive<R: Wait, E: Calls + Drop>(
 
 /// Whether a message of this source and tag came with these bytes.
 pub fn is(completed: &Completed, source: u32, tag: u32, bytes: &[u8]) -> bool {
-    let status = completed.status;
-    status.source == Some(source)
-        && status.tag == Some(tag)
-        && status.len as usize == bytes.len()
-        && completed.buf.as_slice().starts_with(bytes)
+    let Ok(len) = u32::try_from(bytes.len()) else {
+        return false;
+    };
+    let wanted = Status {
+        source: Some(source),
+        tag: Some(tag),
+        len,
+    };
+    completed.status == wanted && completed.buf.as_slice().starts_with(bytes)
 }
 
 /// Receives a message of at most 16 bytes, and tells whether it is of this source and tag, with these bytes.
