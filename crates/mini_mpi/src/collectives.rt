@@ -1,0 +1,110 @@
+//! What all ranks do together. Each of them makes the same calls in the same order.
+ghost use Rattle.std.specs.Prelude.{◌≡◌, List, ℕ, Ok, IfOk};
+ghost use Rattle.fab_coll.specs.Rounds.{outcome_of};
+
+use crate::errors::Error;
+use crate::world::World;
+use fab_collectives::{Collective, MOST_BYTES};
+use fabric::{AtomicOp, Buf, Calls, Fault, Num, Refused};
+use std::sync::Wait;
+
+/// A collective that was begun, or what is wrong: `invalid` where an argument is out of its range.
+fn begun(begun: Result<Collective, Refused>, invalid: Error) -> Result<Collective, Error>
+    ensures { IfOk result (λ collective. begun ≡ Ok collective) }
+{
+    match begun {
+        Ok(collective) => Ok(collective),
+        Err(refused) => match refused.why {
+            Fault::Invalid => Err(invalid),
+            why => Err(Error::from(why)),
+        },
+    }
+}
+
+/// Copies bytes over others, of which there are as many.
+fn fill(into: &mut [u8], bytes: &[u8]) -> Result<(), Error> {
+    if into.len() != bytes.len() {
+        return Err(Error::Count);
+    }
+    into.copy_from_slice(bytes);
+    Ok(())
+}
+
+impl<E: Calls + Drop> World<E> {
+    /// Drives a collective until it is done.
+    fn complete<R: Wait>(&mut self, rt: &R, mut collective: Collective) -> Result<Buf, Error>
+        ensures { IfOk result (λ bytes. (received : List (List ℕ)) × (bytes ≡ outcome_of collective.work.coll collective.work.rank collective.own received)) }
+    {
+        for _ in rt.forever() {
+            if let Some(bytes) = collective.drive(&mut self.endpoint)? {
+                return Ok(bytes);
+            }
+            self.progress_for(&mut collective)?;
+        }
+        unreachable!()
+    }
+
+    /// Waits until all ranks have come (MPI_Barrier).
+    pub fn barrier<R: Wait>(&mut self, rt: &R) -> Result<(), Error> {
+        let collective = begun(self.group.barrier(), Error::Other)?;
+        self.complete(rt, collective)?;
+        Ok(())
+    }
+
+    /// One piece of a broadcast.
+    fn bcast_piece<R: Wait>(&mut self, rt: &R, root: u32, piece: &mut [u8]) -> Result<(), Error> {
+        let share = Buf::copy(self.alloc, piece)?;
+        let collective = begun(self.group.broadcast(root, share), Error::Root)?;
+        let bytes = self.complete(rt, collective)?;
+        fill(piece, bytes.as_slice())
+    }
+
+    /// Each rank gets the root's bytes (MPI_Bcast), of which all have as many. They go in pieces of 4,096.
+    pub fn bcast<R: Wait>(&mut self, rt: &R, root: u32, bytes: &mut [u8]) -> Result<(), Error> {
+        for piece in bytes.chunks_mut(MOST_BYTES) {
+            self.bcast_piece(rt, root, piece)?;
+        }
+        Ok(())
+    }
+
+    /// One piece of an allreduce.
+    fn allreduce_piece<R: Wait>(
+        &mut self,
+        rt: &R,
+        op: AtomicOp,
+        num: Num,
+        piece: &mut [u8],
+    ) -> Result<(), Error> {
+        let share = Buf::copy(self.alloc, piece)?;
+        let collective = begun(self.group.allreduce(op, num, share), Error::Op)?;
+        let bytes = self.complete(rt, collective)?;
+        fill(piece, bytes.as_slice())
+    }
+
+    /// Each element becomes what those of all ranks come to, in order of ranks (MPI_Allreduce with MPI_IN_PLACE). All ranks
+    /// have as many elements, which are little-endian. They go in pieces of 4,096 bytes.
+    pub fn allreduce<R: Wait>(
+        &mut self,
+        rt: &R,
+        op: AtomicOp,
+        num: Num,
+        bytes: &mut [u8],
+    ) -> Result<(), Error> {
+        for piece in bytes.chunks_mut(MOST_BYTES) {
+            self.allreduce_piece(rt, op, num, piece)?;
+        }
+        Ok(())
+    }
+
+    /// Waits until all ranks have come and everything that this one sent is on its way (MPI_Finalize).
+    pub fn finalize<R: Wait>(mut self, rt: &R) -> Result<(), Error> {
+        self.barrier(rt)?;
+        for _ in rt.forever() {
+            if self.endpoint.is_flushed() {
+                break;
+            }
+            self.progress(0)?;
+        }
+        Ok(())
+    }
+}

@@ -1,0 +1,24 @@
+//! A small MPI over the crate `fabric`. Each rank is a thread with an endpoint, and all ranks are one world: there are no
+//! communicators.
+//!
+//! ```text
+//! World           a rank                             MPI_Init, MPI_Comm_rank, MPI_Comm_size, MPI_Finalize
+//!        |  isend, irecv; ssend, iprobe; barrier, bcast, allreduce
+//! Request         what was begun                     MPI_Request
+//!        |  wait, waitall
+//! Completed       the buffer, and a status           MPI_Status
+//! ```
+//!
+//! A buffer moves in with a call, and comes back with its request's end. Calls that wait take a handle of the runtime.
+#![tactic(auto)]
+
+mod collectives;
+mod ended;
+mod errors;
+mod tags;
+mod world;
+
+pub use ended::{Completed, Request, Status};
+pub use errors::{Error, Failed};
+pub use tags::{ANY_SOURCE, ANY_TAG, TAG_UB};
+pub use world::World;
