@@ -2,7 +2,8 @@
 //!
 //! `endpoint_bench bench` prints a table: for tagged messages of 1, 64, 4,096 and 65,536 bytes and of 1 MiB a ping-pong, as
 //! the time of one way, and a stream one way in windows of 16 with an acknowledgement, as the time of one message. Each
-//! is the best and the median of 100 short runs. `endpoint_bench soak` sends 1,000,000 messages of 64 bytes one way, and
+//! is the best and the median of 100 short runs. `endpoint_bench bench touched` prints those of 65,536 bytes and of 1 MiB where
+//! each message is written before it is sent and read when it came. `endpoint_bench soak` sends 1,000,000 messages of 64 bytes one way, and
 //! `endpoint_bench soak NUMBER` so many, in whole windows of 16; they are for whoever looks at the memory that this takes.
 //! `endpoint_bench` alone makes one run of each exchange and prints no time.
 #![tactic(auto)]
@@ -11,7 +12,7 @@ mod measuring;
 mod opening;
 mod speaker;
 
-use crate::measuring::soak;
+use crate::measuring::{Measure, soak};
 use crate::opening::{all_times, times};
 use fab_bench::table::print_table;
 use std::{env, io};
@@ -22,7 +23,7 @@ const RUNS: u64 = 100;
 /// What is asked for on the command line.
 enum Asked {
     Nothing,
-    Bench,
+    Bench { is_touched: bool },
     Soak(u64),
 }
 
@@ -34,7 +35,9 @@ fn read_words(rt: &HostRuntime) -> io::Result<Asked> {
         return Ok(Asked::Nothing);
     };
     match word.as_str() {
-        "bench" => Ok(Asked::Bench),
+        "bench" => Ok(Asked::Bench {
+            is_touched: words.next().is_some(),
+        }),
         "soak" => Ok(Asked::Soak(number(words.next()))),
         _ => Ok(Asked::Nothing),
     }
@@ -50,16 +53,21 @@ fn number(word: Option<String>) -> u64 {
 
 fn main(rt: HostRuntime) -> io::Result<()> {
     match read_words(&rt)? {
-        Asked::Bench => {
-            let all = all_times(&rt, rt.alloc(), RUNS)?;
+        Asked::Bench { is_touched } => {
+            let all = all_times(&rt, rt.alloc(), RUNS, is_touched)?;
             print_table(&rt, all)
         }
         Asked::Soak(messages) => {
-            let _times = times(&rt, rt.alloc(), &soak(messages), 0)?;
+            let measure = Measure {
+                exchange: soak(messages),
+                runs: 0,
+                is_touched: false,
+            };
+            let _times = times(&rt, rt.alloc(), &measure)?;
             println!(rt; "{messages} messages")
         }
         Asked::Nothing => {
-            let all = all_times(&rt, rt.alloc(), 0)?;
+            let all = all_times(&rt, rt.alloc(), 0, false)?;
             println!(rt; "{} exchanges", all.len())
         }
     }

@@ -49,23 +49,32 @@ pub fn soak(messages: u64) -> Exchange {
     stream(64, messages / 16)
 }
 
+/// An exchange, how often it is run, and whether each message is written before it is sent and read when it came, as programs
+/// do.
+#[derive(Clone, Copy, Drop)]
+pub struct Measure {
+    pub exchange: Exchange,
+    pub runs: u64,
+    pub is_touched: bool,
+}
+
 /// The most bytes of a message in an exchange.
 fn most_bytes(exchange: &Exchange) -> usize {
     exchange.len.max(exchange.reply)
 }
 
-/// The times of so many runs of an exchange between two that speak, each in a thread of its own.
+/// The times of an exchange between two that speak, each in a thread of its own.
 fn times_of<R: Clock + Threads + Wait + Sync, E: Calls + Drop + Send>(
     rt: &R,
     alloc: Global,
     left: Speaker<E>,
     right: Speaker<E>,
-    exchange: &Exchange,
-    runs: u64,
+    measure: &Measure,
 ) -> io::Result<Vec<Times>> {
-    let only = [*exchange];
-    let mine = Bytes::new(alloc, most_bytes(exchange))?;
-    let other = Bytes::new(alloc, most_bytes(exchange))?;
+    let runs = measure.runs;
+    let only = [measure.exchange];
+    let mine = Bytes::new(alloc, most_bytes(&measure.exchange))?;
+    let other = Bytes::new(alloc, most_bytes(&measure.exchange))?;
     let (all, _) = thread::join(
         rt,
         || -> io::Result<Vec<Times>> { first(rt, alloc, left, mine, &only, runs) },
@@ -74,20 +83,20 @@ fn times_of<R: Clock + Threads + Wait + Sync, E: Calls + Drop + Send>(
     all
 }
 
-/// The times of so many runs of an exchange between the endpoints of peers 0 and 1.
+/// The times of an exchange between the endpoints of peers 0 and 1.
 pub fn times_between<R: Clock + Threads + Wait + Sync, E: Calls + Drop + Send>(
     rt: &R,
     alloc: Global,
     zero: EndpointOver<E>,
     one: EndpointOver<E>,
-    exchange: &Exchange,
-    runs: u64,
+    measure: &Measure,
 ) -> io::Result<Vec<Times>> {
-    let room = most_bytes(exchange);
-    let left = Speaker::new(alloc, zero, 1, exchange.window, room);
-    let right = Speaker::new(alloc, one, 0, exchange.window, room);
+    let window = measure.exchange.window;
+    let room = most_bytes(&measure.exchange);
+    let left = Speaker::new(alloc, zero, 1, window, room, measure.is_touched);
+    let right = Speaker::new(alloc, one, 0, window, room, measure.is_touched);
     match (left, right) {
-        (Ok(left), Ok(right)) => times_of(rt, alloc, left, right, exchange, runs),
+        (Ok(left), Ok(right)) => times_of(rt, alloc, left, right, measure),
         _ => Ok(Vec::new(alloc)),
     }
 }

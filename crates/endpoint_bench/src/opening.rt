@@ -1,6 +1,7 @@
 //! Endpoints are opened here alone: what is done with them is generic.
-use crate::measuring::{exchanges, times_between};
-use fab_bench::runs::{Exchange, Times};
+use crate::measuring::{Measure, exchanges, times_between};
+use crate::speaker::COPIED;
+use fab_bench::runs::Times;
 use fabric::{Calls, Cap, Domain, EndpointOver, Hints, open};
 use std::alloc::Global;
 use std::io;
@@ -18,42 +19,50 @@ fn wishes() -> Hints {
         .tx(64)
 }
 
-/// The times of so many runs of an exchange between the last two of these endpoints.
+/// The times of an exchange between the last two of these endpoints.
 fn times_of_last<R: Clock + Threads + Wait + Sync, E: Calls + Drop + Send>(
     rt: &R,
     alloc: Global,
     mut endpoints: Vec<EndpointOver<E>>,
-    exchange: &Exchange,
-    runs: u64,
+    measure: &Measure,
 ) -> io::Result<Vec<Times>> {
     match (endpoints.pop(), endpoints.pop()) {
-        (Some(one), Some(zero)) => times_between(rt, alloc, zero, one, exchange, runs),
+        (Some(one), Some(zero)) => times_between(rt, alloc, zero, one, measure),
         _ => Ok(Vec::new(alloc)),
     }
 }
 
-/// The times of so many runs of an exchange between two new endpoints.
+/// The times of an exchange between two new endpoints.
 pub fn times<R: Clock + Threads + Wait + Sync>(
     rt: &R,
     alloc: Global,
-    exchange: &Exchange,
-    runs: u64,
+    measure: &Measure,
 ) -> io::Result<Vec<Times>> {
     match open(alloc, &wishes()) {
-        Ok(Domain { endpoints, .. }) => times_of_last(rt, alloc, endpoints, exchange, runs),
+        Ok(Domain { endpoints, .. }) => times_of_last(rt, alloc, endpoints, measure),
         Err(_) => Ok(Vec::new(alloc)),
     }
 }
 
-/// The times of so many runs of each exchange.
+/// The times of so many runs of each exchange; where messages are touched, of those alone whose buffers are handed over, since
+/// an inject call copies the same bytes each time.
 pub fn all_times<R: Clock + Threads + Wait + Sync>(
     rt: &R,
     alloc: Global,
     runs: u64,
+    is_touched: bool,
 ) -> io::Result<Vec<Times>> {
     let mut all = Vec::new(alloc);
-    for exchange in exchanges().iter() {
-        for own in times(rt, alloc, exchange, runs)? {
+    for exchange in exchanges() {
+        if is_touched && exchange.len <= COPIED {
+            continue;
+        }
+        let measure = Measure {
+            exchange,
+            runs,
+            is_touched,
+        };
+        for own in times(rt, alloc, &measure)? {
             all.push(own)?;
         }
     }

@@ -12,7 +12,7 @@ use std::thread;
 const TAG: u64 = 7;
 
 /// The most bytes that go out copied, by an inject call; of more, the buffer is handed over and comes back.
-const COPIED: usize = 4096;
+pub const COPIED: usize = 4096;
 
 /// How many frames one read moves at most.
 const BUDGET: u32 = 1;
@@ -35,6 +35,10 @@ pub struct Speaker<E: Calls + Drop> {
     under_way: bool,
     /// How many reads in a row brought nothing.
     idle: u32,
+    /// Whether each message is written before it is sent and read when it came.
+    is_touched: bool,
+    /// What was read of messages that came, all in all.
+    sum: u64,
 }
 
 /// What was read.
@@ -83,6 +87,22 @@ fn send_whole<E: Calls + Drop>(
     }
 }
 
+/// The buffer with this byte in each place.
+fn written(buf: Buf, byte: u8) -> Buf {
+    let mut bytes = buf.into_vec();
+    bytes.fill(byte);
+    Buf::from_vec(bytes)
+}
+
+/// The sum of each eighth byte: so each line of the cache is read.
+fn sum_of(bytes: &[u8]) -> u64 {
+    let mut sum = 0u64;
+    for byte in bytes.iter().step_by(8) {
+        sum = sum.wrapping_add(*byte as u64);
+    }
+    sum
+}
+
 impl<E: Calls + Drop> Speaker<E> {
     /// Posts so many receives and one more, of so many bytes each.
     pub fn new(
@@ -91,6 +111,7 @@ impl<E: Calls + Drop> Speaker<E> {
         other: u32,
         ahead: u64,
         room: usize,
+        is_touched: bool,
     ) -> Result<Speaker<E>, NoMemory> {
         for _ in 0..ahead.saturating_add(1) {
             let room = Buf::zeros(alloc, room as u64)?;
@@ -105,6 +126,8 @@ impl<E: Calls + Drop> Speaker<E> {
             late: None,
             under_way: false,
             idle: 0,
+            is_touched,
+            sum: 0,
         })
     }
 
@@ -114,6 +137,7 @@ impl<E: Calls + Drop> Speaker<E> {
         match take_next(&mut self.endpoint) {
             Taken::Came(buf) => {
                 self.came = self.came.saturating_add(1);
+                self.look(&buf);
                 self.post_late();
                 self.late = Some(buf);
             }
@@ -124,6 +148,13 @@ impl<E: Calls + Drop> Speaker<E> {
             Taken::Nothing => return self.rest(),
         }
         self.idle = 0;
+    }
+
+    /// Reads a message that came, where messages are touched.
+    fn look(&mut self, buf: &Buf) {
+        if self.is_touched {
+            self.sum = self.sum.wrapping_add(sum_of(buf.as_slice()));
+        }
     }
 
     /// Posts the receive again whose message came last.
@@ -148,12 +179,20 @@ impl<E: Calls + Drop> Speaker<E> {
         let _ = self.spare.push(buf);
     }
 
-    /// A buffer with these bytes: one that was sent before, where it has as many, or a copy.
+    /// A buffer of as many bytes: one that was sent before, written anew where messages are touched, or a copy.
     fn buffer(&mut self, bytes: &[u8]) -> Option<Buf> {
         match self.spare.pop() {
-            Some(buf) if buf.as_slice().len() == bytes.len() => Some(buf),
+            Some(buf) if buf.as_slice().len() == bytes.len() => Some(self.ready(buf)),
             _ => Buf::copy(self.alloc, bytes).ok(),
         }
+    }
+
+    /// A buffer that was sent before, with the bytes of the next message, which hang on what came: so nothing is left out of the program.
+    fn ready(&self, buf: Buf) -> Buf {
+        if self.is_touched {
+            return written(buf, self.sum as u8);
+        }
+        buf
     }
 
     /// Sends a message whose buffer comes back, and tells whether all of it is on the lane: whoever stops before
