@@ -104,8 +104,8 @@ impl<E: Calls + Drop> Endpoint<E> {
         told_by(first, moved)
     }
 
-    /// Takes the first completions, at most so many, and appends them (fi_cq_read with a count). It makes no progress, and
-    /// ends before the first error or where none is left: `poll` tells which. Want of memory leaves all as it was, and
+    /// Takes the first completions, at most so many, and appends them (fi_cq_read with a count). It makes no progress, which
+    /// fi_cq_read does: call `progress` before it. It ends before the first error or where none is left: `poll` tells which. Want of memory leaves all as it was, and
     /// none is wanted where the vector has room.
     pub fn cq_take(&mut self, most: u32, into: &mut Vec<Entry>) -> Result<(), NoMemory>
         ensures took { IfOk result (λ _. (entries : List EntryValue) × (into.new.items ≡ into.old.items ++ entries) × TakesMost most entries (E.seen self.old) (E.seen self.new)) }

@@ -10,7 +10,8 @@ use crate::endpoint::{Calls, Endpoint};
 use fab_base::{Access, Buf, Fault, Refused};
 
 impl<E: Calls + Drop> Endpoint<E> {
-    /// Registers a region under its key (fi_mr_reg). The buffer stays with the endpoint until `close_region`.
+    /// Registers a region of this endpoint under its key (fi_mr_reg). The buffer stays with the endpoint until `close_region`; it may
+    /// have no bytes. `NoKey` where the key is taken, `NotSupported` where a right is not granted.
     pub fn reg(&mut self, key: u64, access: Access, buf: Buf) -> Result<(), Refused>
         ensures ok { OnOk result (Locally (Reg key access buf) Done (E.seen self.old) (E.seen self.new)) }
         ensures err { IfErr result (λ r. (r.buf ≡ buf) × (E.seen self.new ≡ E.seen self.old) × (r.why ≢ LacksMemory → Locally (Reg key access buf) (Answer r.why) (E.seen self.old) (E.seen self.new))) }

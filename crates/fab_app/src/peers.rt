@@ -17,14 +17,15 @@ use fab_base::{Class, Fault, NoMemory, Text};
 use std::thread;
 
 impl<E: Calls + Drop> Endpoint<E> {
-    /// How many operations of the class succeeded (fi_cntr_read). It stays at 2^64 - 1.
+    /// How many operations of the class succeeded (fi_cntr_read). It stays at 2^64 - 1. It makes no progress, as a read of other
+    /// providers may: `progress`, `poll` and `cntr_wait` do.
     pub fn cntr_read(&self, class: Class) -> u64
         ensures { result ≡ (tally_of (E.seen self.now).held.state.counters class).ok }
     {
         self.inner.cntr_read(class)
     }
 
-    /// How many operations of the class failed (fi_cntr_readerr). It stays at 2^64 - 1.
+    /// How many operations of the class failed (fi_cntr_readerr). It stays at 2^64 - 1. It makes no progress.
     pub fn cntr_readerr(&self, class: Class) -> u64
         ensures { result ≡ (tally_of (E.seen self.now).held.state.counters class).err }
     {
@@ -39,7 +40,8 @@ impl<E: Calls + Drop> Endpoint<E> {
     }
 
     /// Makes progress until so many operations of the class succeeded, at most so many times, lets other threads run
-    /// between, and tells whether they did (fi_cntr_wait). Where the completion queue is full it has to be read before more can end.
+    /// between, and tells whether they did (fi_cntr_wait). An operation that fails does not end it, as fi_cntr(3) has it: look at
+    /// `cntr_readerr`. Where the completion queue is full it has to be read before more can end.
     pub fn cntr_wait(&mut self, class: Class, n: u64, times: u32) -> Result<bool, NoMemory>
         ensures moved { Progresses (E.seen self.old) (E.seen self.new) }
         ensures done { IfOk result (λ done. done ≡ nat_le n (tally_of (E.seen self.new).held.state.counters class).ok) }
@@ -61,7 +63,9 @@ impl<E: Calls + Drop> Endpoint<E> {
         self.inner.cntr_add(class, n);
     }
 
-    /// Inserts names into the address vector (fi_av_insert). Want of memory leaves it as it was.
+    /// Inserts names into the address vector (fi_av_insert), each at the next index, and not at the lowest unused one. A name whose
+    /// peer stands there gives the index that it has. One that names no peer gives none, as does each new one once 4,096
+    /// indices were given. Want of memory leaves the vector as it was.
     pub fn insert(&mut self, names: &[Text]) -> Result<InsertReport, NoMemory>
         requires { length names.now < 2 ^ 32 }
         ensures ok { IfOk result (λ report. Inserts names.now report (E.seen self.old) (E.seen self.new)) }

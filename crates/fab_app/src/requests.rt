@@ -23,7 +23,7 @@ impl<E: Calls + Drop> Endpoint<E> {
     }
 
     /// Writes the buffer into a region of the peer (fi_write, and fi_writedata where `imm` is given). The buffer comes back
-    /// in `Entry::Wrote`, in the error, or in the refusal.
+    /// in `Entry::Wrote`, in the error, or in the refusal. It ends once the peer has answered, whatever level the flags name.
     pub fn write(
         &mut self,
         dest: u32,
@@ -62,7 +62,9 @@ impl<E: Calls + Drop> Endpoint<E> {
         self.inner.inject_write(dest, key, at, bytes, imm)
     }
 
-    /// Changes elements of a region of the peer (fi_atomic). The operand is copied. The completion is `Entry::Updated`.
+    /// Changes elements of a region of the peer (fi_atomic), which gives `remote_write`. `at` is a multiple of an element's bytes.
+    /// The operand has at most 4,096 bytes and is copied. The completion is `Entry::Updated`, once the peer has answered,
+    /// whatever level the flags name.
     pub fn atomic(
         &mut self,
         dest: u32,
@@ -85,6 +87,7 @@ impl<E: Calls + Drop> Endpoint<E> {
     }
 
     /// Changes elements of a region of the peer and gets the old ones (fi_fetch_atomic), which come in `Entry::Fetched`.
+    /// The region gives both rights. The operand of `AtomicOp::AtomicRead` has no bytes, and it needs `remote_read` alone.
     pub fn fetch_atomic(
         &mut self,
         dest: u32,
@@ -107,6 +110,7 @@ impl<E: Calls + Drop> Endpoint<E> {
     }
 
     /// Changes elements of a region of the peer that compare as asked, and gets the old ones (fi_compare_atomic).
+    /// The region gives both rights. Operand and compare have at most 4,096 bytes together.
     pub fn compare_atomic(
         &mut self,
         dest: u32,

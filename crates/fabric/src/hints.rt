@@ -9,8 +9,8 @@ ghost use Rattle.fabric.specs.Asking.{granted_to};
 use fab_base::{Api, Cap, Caps, Fault, Hints as Wishes, Info};
 use fab_info::getinfo;
 
-/// What is asked for: a version of the interface, wishes, and whether a message that succeeds writes a completion only where
-/// its flags ask for one (FI_SELECTIVE_COMPLETION of fi_cq(3)).
+/// What is asked for: a version of the interface, wishes, and whether a message, a write or an atomic that succeeds writes a
+/// completion only where its flags ask for one (FI_SELECTIVE_COMPLETION of fi_endpoint(3)). Receives, reads and looks always do.
 ///
 /// Whoever asks for no capability is granted all that is on offer, directed receives among them. Whoever asks for one is
 /// granted no directed receive unless it asks for `Cap::DirectedRecv`, and then the source of each receive is ignored.
@@ -130,6 +130,24 @@ impl Hints {
     {
         let mut hints = self;
         hints.wishes.cq = Some(entries);
+        hints
+    }
+
+    /// With messages, reads and writes of so many bytes, or none is granted; what is granted is the most that the version has.
+    pub fn message(self, bytes: u32) -> Hints
+        ensures { result ≡ record self { wishes = record (self.wishes) { message = Some bytes } } }
+    {
+        let mut hints = self;
+        hints.wishes.message = Some(bytes);
+        hints
+    }
+
+    /// With inject calls of so many bytes, or none is granted; what is granted is the most that there is.
+    pub fn inject(self, bytes: u32) -> Hints
+        ensures { result ≡ record self { wishes = record (self.wishes) { inject = Some bytes } } }
+    {
+        let mut hints = self;
+        hints.wishes.inject = Some(bytes);
         hints
     }
 
