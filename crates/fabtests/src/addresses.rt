@@ -1,6 +1,6 @@
 //! The address vector: fi_av_test, fi_av_xfer.
-use crate::steps::{Verdict, carries, check, from_one, posts, receives, sends};
 use fabric::{Calls, EndpointOver, Fault, Text};
+use fabtests_calls::{Verdict, carries, check, from_one, posts, receives, sends};
 use std::alloc::Global;
 
 /// The index of a name that is inserted, if it has one.

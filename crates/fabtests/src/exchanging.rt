@@ -2,9 +2,8 @@
 //! fi_rdm_cntr_pingpong, fi_rdm_tagged_bw.
 //!
 //! Each of them ends: a peer that waits gives up after so many looks.
-use crate::messages::filled;
-use crate::steps::{Verdict, check, posts, posts_tagged};
 use fabric::{Buf, COMPLETES, Calls, Class, EndpointOver, Entry, Fault, Polled};
+use fabtests_calls::{Verdict, check, filled, posts, posts_tagged};
 use std::alloc::Global;
 use std::thread::{Threads, join};
 

@@ -1,15 +1,14 @@
 //! The tests, by libfabric's names for them.
 use crate::addresses::{av_test, av_xfer};
-use crate::atomics::rdm_atomic;
 use crate::exchanging::{Exchange, exchanges};
 use crate::messages::{cq_data, inj_complete, multi_recv, rdm, unexpected_msg};
 use crate::opening::dom_test;
 use crate::queues::{cntr_test, cq_test};
-use crate::regions::{mr_test, multi_mr, rdm_rma_event, rma_bw};
 use crate::resources::resmgmt;
-use crate::steps::Verdict;
 use crate::tagged::{rdm_tagged_peek, recv_cancel};
 use fabric::{Api, Calls, EndpointOver, Hints};
+use fabtests_calls::Verdict;
+use fabtests_rma::{mr_test, multi_mr, rdm_atomic, rdm_rma_event, rma_bw};
 use std::alloc::Global;
 use std::thread::Threads;
 

@@ -6,21 +6,18 @@
 #![tactic(auto)]
 
 mod addresses;
-mod atomics;
 mod exchanging;
 mod listing;
 mod messages;
 mod opening;
 mod queues;
-mod regions;
 mod resources;
-mod steps;
 mod tagged;
 
 use crate::listing::{LINES, Test};
 use crate::opening::getinfo_test;
-use crate::steps::Verdict;
 use fabric::open;
+use fabtests_calls::Verdict;
 use std::alloc::Global;
 use std::io;
 use std::thread::Threads;

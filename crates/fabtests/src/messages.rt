@@ -1,9 +1,9 @@
 //! Messages of endpoints that both stand in one thread: fi_rdm, fi_cq_data, fi_inj_complete, fi_unexpected_msg, fi_multi_recv.
-use crate::steps::{
-    Came, Verdict, carries, check, cut, from_one, injects, is_idle, is_sent, next_entry, posts,
-    posts_tagged, receives, sends, sends_so, sends_tagged, tagged_from_one,
-};
 use fabric::{Access, Buf, COMPLETES, Calls, EndpointOver, Entry, Flags, Level};
+use fabtests_calls::{
+    Came, Verdict, carries, check, cut, filled, from_one, injects, is_idle, is_sent, next_entry,
+    posts, posts_tagged, receives, sends, sends_so, sends_tagged, tagged_from_one,
+};
 use std::alloc::Global;
 
 /// A receive that is posted takes the message that comes, and both sides are told.
@@ -154,14 +154,6 @@ pub fn inj_complete<E: Calls + Drop>(
 
 /// The lengths of the messages that nobody waits for: without bytes, one frame, several.
 const LENGTHS: [u32; 5] = [0, 1, 64, 4096, 10_000];
-
-/// So many bytes that are all this one.
-pub fn filled(alloc: Global, len: u32, byte: u8) -> Option<Buf> {
-    match vec![in alloc; byte; len as usize] {
-        Ok(bytes) => Some(Buf::from_vec(bytes)),
-        Err(_) => None,
-    }
-}
 
 /// Whether a message of so many bytes is accepted, under the tag 6 or untagged.
 fn sends_filled<E: Calls + Drop>(

@@ -1,6 +1,6 @@
 //! What is asked for and granted, and domains: fi_getinfo_test, fi_dom_test.
-use crate::steps::{Verdict, check};
 use fabric::{Api, Calls, Cap, EndpointOver, Fault, Hints, Info};
+use fabtests_calls::{Verdict, check};
 
 /// What is granted to whoever has no wish.
 fn is_default(info: Info) -> bool {

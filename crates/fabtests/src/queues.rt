@@ -1,8 +1,8 @@
 //! Completion queues and counters: fi_cq_test, fi_cntr_test.
-use crate::steps::{
+use fabric::{Buf, Calls, Class, EndpointOver, Entry, ErrKind, ctx_of};
+use fabtests_calls::{
     Failed, Verdict, carries, check, cut, fails, from_one, injects, is_idle, posts, receives,
 };
-use fabric::{Buf, Calls, Class, EndpointOver, Entry, ErrKind, ctx_of};
 use std::alloc::Global;
 
 /// Whether these are so many completions, of contexts that count up from this one.

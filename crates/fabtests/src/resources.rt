@@ -1,9 +1,9 @@
 //! Lists that are full: fi_resmgmt_test. A lane holds one frame, and two operations may be under way, two receives posted and
 //! two completions unread.
-use crate::steps::{
+use fabric::{Buf, Busy, Calls, EndpointOver, ErrKind, Fault, PeekHow};
+use fabtests_calls::{
     Failed, Verdict, carries, check, fails, from_one, is_idle, looks, posts, receives,
 };
-use fabric::{Buf, Busy, Calls, EndpointOver, ErrKind, Fault, PeekHow};
 use std::alloc::Global;
 
 /// Why a message of one byte is refused.

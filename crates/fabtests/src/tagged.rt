@@ -1,9 +1,9 @@
 //! Looks at tagged messages, and cancels: fi_rdm_tagged_peek, fi_recv_cancel.
-use crate::steps::{
+use fabric::{Buf, Calls, EndpointOver, ErrKind, Fault, PeekHow};
+use fabtests_calls::{
     Failed, Found, Verdict, cancels, carries, check, fails, finds, is_idle, looks, posts_tagged,
     receives, sends_tagged, tagged_from_one,
 };
-use fabric::{Buf, Calls, EndpointOver, ErrKind, Fault, PeekHow};
 use std::alloc::Global;
 
 /// Whether a receive of the claimed message is accepted.

@@ -1,13 +1,8 @@
 //! Atomics: fi_rdm_atomic. The elements of the tables are computed by hand.
-use crate::regions::{has, puts, registers};
-use crate::steps::{Verdict, carries, check, next_entry};
-use fabric::{Access, AtomicOp, Buf, COMPLETES, Calls, EndpointOver, Entry, Num};
+use crate::regions::{BOTH, has, puts, registers};
+use fabric::{AtomicOp, Buf, COMPLETES, Calls, EndpointOver, Entry, Num};
+use fabtests_calls::{Verdict, carries, check, next_entry};
 use std::alloc::Global;
-
-const BOTH: Access = Access {
-    remote_read: true,
-    remote_write: true,
-};
 
 /// What stands at the target before each operation.
 const BEFORE: &[u8] = &[1, 5, 0, 255];

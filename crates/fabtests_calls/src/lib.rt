@@ -1,4 +1,6 @@
 //! What tests do, each call in a function of its own that tells it in short: so a test carries no clauses of the calls before.
+#![tactic(auto)]
+
 use fabric::{
     Buf, COMPLETES, Calls, EndpointOver, Entry, ErrEntry, ErrKind, Fault, Flags, PeekHow, Polled,
 };
@@ -20,6 +22,14 @@ pub fn carries<E: Calls + Drop>(one: &mut EndpointOver<E>, other: &mut EndpointO
     for _ in 0..TURNS {
         let _ = one.progress(64);
         let _ = other.progress(64);
+    }
+}
+
+/// So many bytes that are all this one.
+pub fn filled(alloc: Global, len: u32, byte: u8) -> Option<Buf> {
+    match vec![in alloc; byte; len as usize] {
+        Ok(bytes) => Some(Buf::from_vec(bytes)),
+        Err(_) => None,
     }
 }
 

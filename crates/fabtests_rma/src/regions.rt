@@ -1,10 +1,10 @@
 //! Memory regions, reads and writes: fi_mr_test, fi_rma_bw, fi_multi_mr, fi_rdm_rma_event.
-use crate::messages::filled;
-use crate::steps::{Failed, Verdict, carries, check, fails, is_idle, next_entry};
 use fabric::{Access, Buf, COMPLETES, Calls, Class, EndpointOver, Entry, ErrKind, Fault};
+use fabtests_calls::{Failed, Verdict, carries, check, fails, filled, is_idle, next_entry};
 use std::alloc::Global;
 
-const BOTH: Access = Access {
+/// What a peer may read and write.
+pub(crate) const BOTH: Access = Access {
     remote_read: true,
     remote_write: true,
 };
