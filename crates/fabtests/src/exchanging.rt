@@ -23,8 +23,11 @@ const PING: u64 = 3;
 
 const ACKNOWLEDGED: u64 = 1000;
 
-/// How often a peer that waits looks.
+/// How often a peer that waits looks, or makes a call again, with other threads between.
 const PATIENCE: u32 = 1_000_000;
+
+/// How often a peer that waits looks besides, before other threads run.
+const SPINS: u32 = 8;
 
 /// What two threads exchange: untagged messages, tagged ones, untagged ones told by counters, or windows.
 #[derive(Clone, Copy, Drop, Eq, PartialEq)]
@@ -84,7 +87,7 @@ fn sends_ping<E: Calls + Drop>(
 
 /// The next completion that comes, if it is a success.
 fn waits<E: Calls + Drop>(endpoint: &mut EndpointOver<E>) -> Option<Entry> {
-    match endpoint.wait(PATIENCE) {
+    match endpoint.wait_turns(PATIENCE, SPINS) {
         Ok(Polled::Entry(entry)) => Some(entry),
         _ => None,
     }
