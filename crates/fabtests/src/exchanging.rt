@@ -251,6 +251,16 @@ fn is_of_window(alloc: Global, entry: Entry, window: u32) -> bool {
     }
 }
 
+/// Whether a receive of a message of a window is posted, under its tag, as soon as there is room.
+fn posts_one<E: Calls + Drop>(alloc: Global, endpoint: &mut EndpointOver<E>, tag: u64) -> bool {
+    match Buf::zeros(alloc, u64::from(LENGTH)) {
+        Ok(buf) => endpoint
+            .trecv_within(PATIENCE, None, tag, 0, buf, tag)
+            .is_ok(),
+        Err(_) => false,
+    }
+}
+
 /// Whether the next message of a window comes.
 fn gets_one<E: Calls + Drop>(alloc: Global, endpoint: &mut EndpointOver<E>, window: u32) -> bool {
     match waits(endpoint) {
@@ -269,14 +279,7 @@ fn sinks<E: Calls + Drop>(alloc: Global, endpoint: &mut EndpointOver<E>) -> Verd
     for window in 0..WINDOWS {
         let mut posted = true;
         for tag in 0..WINDOW {
-            posted = posted
-                && posts_tagged(
-                    alloc,
-                    endpoint,
-                    u64::from(tag),
-                    u64::from(LENGTH),
-                    u64::from(tag),
-                );
+            posted = posted && posts_one(alloc, endpoint, u64::from(tag));
         }
         check(posted, "the receives of a window are posted")?;
         let mut came = true;
