@@ -5,4 +5,5 @@ pub mod Late
 pub mod Taking
 pub mod Polling
 pub mod Retries
+pub mod Drawing
 pub mod Ended

@@ -16,8 +16,8 @@ use Rattle.fab_app.specs.declared.completions.Polled.TheVariants.{Entry, Error, 
 use Rattle.fab_app.specs.declared.moving.Next.{Next}
 use Rattle.fab_app.specs.Cleared.{cleared}
 use Rattle.fab_app.specs.Progresses.{Moves, MovesAs, NextOf, Progresses, next_of}
-use Rattle.fab_app.proofs.Chains.{progressed_on}
-use Rattle.fab_app.specs.Polls.{Polls, PollsAs, HasNone, told_of, has_come, EndsPoll, PollsFrom}
+use Rattle.fab_app.proofs.Chains.{progressed_on, then_more}
+use Rattle.fab_app.specs.Polls.{Polls, PollsAs, Waits, HasNone, told_of, has_come, EndsPoll, PollsFrom}
 
 module _ {Home : Type 0} where
   pub moved_some : (fixed : Bool) (budget : ℕ) (old mid : Seen Home) (moved : Moved) → 0 < budget → (p : Progressed fixed budget old mid (Ok moved)) → moved.stop ≡ Budget → p.acts ≢ []
@@ -75,3 +75,10 @@ module _ {Home : Type 0} where
   polls_on fixed budget a b c (Err lacks) p q none = absurd (cc)
   polls_on fixed budget a b c (Ok Idle) p q none = subst (λ (x : Seen Home). Progresses a x) (sym q.told.0.0) (progressed_on fixed a b (cleared b) q.mid budget q.moved p refl q.progressed)
   polls_on fixed budget a b c (Ok More) p q none = subst (λ (x : Seen Home). Progresses a x) (sym q.told.0.0) (progressed_on fixed a b (cleared b) q.mid budget q.moved p refl q.progressed)
+
+  -- a wait after progress, and one that found none
+  pub waits_after : (fixed : Bool) (budget : ℕ) (a b c : Seen Home) (answer : Result Polled NoMemory) → Progresses a b → Waits fixed budget b c answer → Waits fixed budget a c answer
+  waits_after fixed budget a b c answer p w = record { mid = w.mid; before = then_more a b w.mid p w.before; polls = w.polls }
+
+  pub waits_on : (fixed : Bool) (budget : ℕ) (a b c : Seen Home) (answer : Result Polled NoMemory) → Progresses a b → Waits fixed budget b c answer → has_come answer ≡ false → Progresses a c
+  waits_on fixed budget a b c answer p w none = polls_on fixed budget a w.mid c answer (then_more a b w.mid p w.before) w.polls none

@@ -1,6 +1,7 @@
 -- Calls that are made again while they are refused for now.
---     SendsLate, SendsLateNot      progress of earlier tries, and then the call: Ok, refused
---     again_of why buf             what is done with a refusal
+--     SendsLate, SendsLateNot              progress of earlier tries, and then the call: Ok, refused
+--     ReceivesWithin, ReceivesWithinNot    the same of a receive call, each try with its draws
+--     again_of why buf                     what is done with a refusal
 use Rattle.std.specs.Prelude.{◌≡◌, ℕ, Bool, List, Some, None, Result, Ok, Err}
 use Rattle.fab_base.specs.declared.faults.Busy.{Busy}
 use Rattle.fab_base.specs.declared.faults.Fault.{Fault}
@@ -14,6 +15,7 @@ use Rattle.fab_app.specs.declared.receiving.Tried.{Tried}
 use Rattle.fab_app.specs.declared.receiving.Tried.TheVariants.{Answered, Late}
 use Rattle.fab_app.specs.declared.trying.Message.{Message}
 use Rattle.fab_app.specs.Cleared.{cleared}
+use Rattle.fab_app.specs.Late.{ReceivesLate, ReceivesLateNot}
 use Rattle.fab_app.specs.Progresses.{Progresses}
 
 -- a list was full, which passes
@@ -30,6 +32,16 @@ pub record SendsLateNot {Home : Type 0} (fixed : Bool) (call : Call) (old new : 
   pub mid : Seen Home
   pub before : Progresses old mid
   pub refused : SendsNot fixed call (cleared mid) new fault
+
+pub record ReceivesWithin {Home : Type 0} (call : Call) (old new : Seen Home) : Type 0 where
+  pub mid : Seen Home
+  pub before : Progresses old mid
+  pub receives : ReceivesLate call mid new
+
+pub record ReceivesWithinNot {Home : Type 0} (call : Call) (old new : Seen Home) (fault : Fault) : Type 0 where
+  pub mid : Seen Home
+  pub before : Progresses old mid
+  pub refused : ReceivesLateNot call mid new fault
 
 -- ---- by parts
 

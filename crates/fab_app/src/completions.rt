@@ -11,7 +11,7 @@ use crate::endpoint::{Calls, Endpoint};
 use crate::moving::BUDGET;
 use fab_base::{Entry, ErrEntry, NoMemory, Taken};
 use fab_face::events::{Moved, Stop};
-use std::thread;
+use std::{hint, thread};
 
 /// What a poll told.
 #[derive(Drop)]
@@ -121,17 +121,46 @@ impl<E: Calls + Drop> Endpoint<E> {
         Ok(())
     }
 
-    /// Polls until there is a completion, at most so many times, and lets other threads run between (fi_cq_sread(3)).
-    pub fn wait(&mut self, times: u32) -> Result<Polled, NoMemory>
+    /// Polls until there is a completion, at most so many times and once more, with a pause of the processor between.
+    fn spin(&mut self, spins: u32) -> Result<Polled, NoMemory>
         ensures { Waits E.fixed BUDGET (E.seen self.old) (E.seen self.new) result }
     {
-        'times: for _time in 0..times {
+        'spins: for _spin in 0..spins {
             let polled = self.poll(BUDGET);
+            if is_settled(&polled) {
+                return polled;
+            }
+            hint::spin_loop();
+        }
+        self.poll(BUDGET)
+    }
+
+    /// Waits for a completion, an error among them, at most so many turns (fi_cq_sread(3)). A turn polls until there is
+    /// one, `spins` times and once more, with a pause of the processor between; behind each turn other threads run, and
+    /// behind the last one more poll is made. With no turns it is a poll.
+    ///
+    /// Few spins leave the processor to other threads, where there are more of them than processors. Many bring a
+    /// completion sooner, where each has its own: to yield takes longer than a poll.
+    ///
+    /// `Idle` and `More` say that none came in so many turns. At `NoMemory` no completion is taken, and what moved stays moved.
+    pub fn wait_turns(&mut self, turns: u32, spins: u32) -> Result<Polled, NoMemory>
+        ensures waits { Waits E.fixed BUDGET (E.seen self.old) (E.seen self.new) result }
+    {
+        'turns: for _turn in 0..turns {
+            let polled = self.spin(spins);
             if is_settled(&polled) {
                 return polled;
             }
             thread::yield_now();
         }
         self.poll(BUDGET)
+    }
+
+    /// `wait_turns` without spins: polls until there is a completion, at most so many times and once more, and lets other
+    /// threads run between.
+    pub fn wait(&mut self, times: u32) -> Result<Polled, NoMemory>
+        ensures waits { Waits E.fixed BUDGET (E.seen self.old) (E.seen self.new) result }
+    {
+        self.wait_turns(times, 0)
     }
 }

@@ -3,18 +3,20 @@ ghost use Rattle.std.specs.Prelude.{◌≡◌, ◌≢◌, OnOk, IfOk, IfErr};
 ghost use Rattle.std.specs.Option.{option_map};
 ghost use Rattle.fab_base.specs.declared.faults.Fault.TheVariants.{NoMemory as LacksMemory};
 ghost use Rattle.fab_base.specs.declared.peers.LineResult.TheVariants.{Done, Refused as Answer, Bytes};
-ghost use Rattle.fab_model.specs.Calls.{Reg, Close, Put, region_of};
+ghost use Rattle.fab_model.specs.Calls.{Reg, Close, Put, do_call, region_of};
 ghost use Rattle.fab_face.specs.Answers.{Locally};
 
 use crate::endpoint::{Calls, Endpoint};
 use fab_base::{Access, Buf, Fault, Refused};
 
 impl<E: Calls + Drop> Endpoint<E> {
-    /// Registers a region of this endpoint under its key (fi_mr_reg). The buffer stays with the endpoint until `close_region`; it may
-    /// have no bytes. `NoKey` where the key is taken, `NotSupported` where a right is not granted.
+    /// Registers a region of this endpoint under its key (fi_mr_reg). The buffer, which may have no bytes, stays with the endpoint
+    /// until `close_region`, or comes back in the refusal. `NoKey` where the key is taken, `NotSupported` where a right is not
+    /// granted; `NoMemory` only where nothing else stands against it.
     pub fn reg(&mut self, key: u64, access: Access, buf: Buf) -> Result<(), Refused>
         ensures ok { OnOk result (Locally (Reg key access buf) Done (E.seen self.old) (E.seen self.new)) }
         ensures err { IfErr result (λ r. (r.buf ≡ buf) × (E.seen self.new ≡ E.seen self.old) × (r.why ≢ LacksMemory → Locally (Reg key access buf) (Answer r.why) (E.seen self.old) (E.seen self.new))) }
+        ensures lacks { IfErr result (λ r. r.why ≡ LacksMemory → (do_call (E.seen self.old).held.state (Reg key access buf)).0 ≡ Done) }
     {
         self.inner.reg(key, access, buf)
     }

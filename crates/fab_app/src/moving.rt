@@ -7,6 +7,7 @@ ghost use Rattle.fab_app.specs.Progresses.{Moves, NextOf, Progresses, awaiting_o
 use crate::endpoint::{Calls, Endpoint};
 use fab_base::NoMemory;
 use fab_face::events::{Moved, Stop};
+use std::thread;
 
 /// How many frames one progress moves at most, where no number is given.
 pub const BUDGET: u32 = 64;
@@ -73,8 +74,8 @@ impl<E: Calls + Drop> Endpoint<E> {
         self.deferred() == 0 && self.awaiting() == 0
     }
 
-    /// Makes progress until no operation is under way, at most so many times, and tells whether none is. Where the
-    /// completion queue is full it has to be read before more can end.
+    /// Makes progress until no operation is under way, at most so many times, lets other threads run between, and tells
+    /// whether none is. Where the completion queue is full it has to be read before more can end.
     pub fn flush(&mut self, times: u32) -> Result<bool, NoMemory>
         ensures moved { Progresses (E.seen self.old) (E.seen self.new) }
         ensures done { IfOk result (λ done. done ≡ is_flushed (E.seen self.new).held.state) }
@@ -85,6 +86,7 @@ impl<E: Calls + Drop> Endpoint<E> {
                 return Ok(true);
             }
             self.progress(BUDGET)?;
+            thread::yield_now();
         }
         Ok(self.is_flushed())
     }

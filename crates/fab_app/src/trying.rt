@@ -1,15 +1,17 @@
 //! Calls that are made again while they are refused for now. Whoever has something else to do makes them by hand.
-ghost use Rattle.std.specs.Prelude.{◌≡◌, Some, false, OnOk, IfErr};
+ghost use Rattle.std.specs.Prelude.{◌≡◌, Some, None, true, false, OnOk, IfErr};
 ghost use Rattle.fab_base.specs.declared.items.Kind.TheVariants.{Msg, TagMsg};
 ghost use Rattle.fab_model.specs.Calls.{message};
-ghost use Rattle.fab_face.specs.Answers.{Sends, SendsNot};
+ghost use Rattle.fab_face.specs.Answers.{Sends, SendsNot, receive_call};
 ghost use Rattle.fab_app.specs.Cleared.{cleared, is_log_full};
-ghost use Rattle.fab_app.specs.Trying.{again_of, sent_by, SendsLate, SendsLateNot, TriesBusy};
+ghost use Rattle.fab_app.specs.Late.{asked};
+ghost use Rattle.fab_app.specs.Trying.{again_of, sent_by, ReceivesWithin, ReceivesWithinNot, SendsLate, SendsLateNot, TriesBusy};
 
 use crate::endpoint::{Calls, Endpoint};
 use crate::moving::BUDGET;
-use crate::receiving::Tried;
+use crate::receiving::{Ask, Tried};
 use fab_base::{Buf, Fault, Flags, Refused};
+use std::thread;
 
 /// The buffer of a refusal that passes (FI_EAGAIN), to be used again. The fault of another one, whose buffer is dropped.
 pub fn again(refused: Refused) -> Result<Buf, Fault>
@@ -79,11 +81,13 @@ impl<E: Calls + Drop> Endpoint<E> {
                 Tried::Late(back) => buf = back,
             }
             let _ = self.progress(BUDGET);
+            thread::yield_now();
         }
         self.send_once(message, buf)
     }
 
-    /// `send`, again after progress where it is refused for now, at most `times` times. The buffer comes back at the end.
+    /// `send`, again after progress where it is refused for now, at most `times` times, and other threads run between. The
+    /// buffer comes back at the end.
     pub fn send_within(
         &mut self,
         times: u32,
@@ -107,7 +111,8 @@ impl<E: Calls + Drop> Endpoint<E> {
         self.send_on(times, message, buf)
     }
 
-    /// `tsend`, again after progress where it is refused for now, at most `times` times. The buffer comes back at the end.
+    /// `tsend`, again after progress where it is refused for now, at most `times` times, and other threads run between. The
+    /// buffer comes back at the end.
     pub fn tsend_within(
         &mut self,
         times: u32,
@@ -130,5 +135,57 @@ impl<E: Calls + Drop> Endpoint<E> {
             flags,
         };
         self.send_on(times, message, buf)
+    }
+
+    /// Makes the receive call until it is not refused for now, at most so many times and once more.
+    fn ask_within(&mut self, times: u32, ask: Ask, ctx: u64, buf: Buf) -> Result<(), Refused>
+        ensures ok { OnOk result (ReceivesWithin (asked ask ctx buf) (E.seen self.old) (E.seen self.new)) }
+        ensures err { IfErr result (λ r. (r.buf ≡ buf) × ReceivesWithinNot (asked ask ctx buf) (E.seen self.old) (E.seen self.new) r.why) }
+        ensures never { IfErr result (λ r. is_log_full r.why ≡ false) }
+    {
+        let mut buf = buf;
+        'times: for _time in 0..times {
+            match one_try(self.ask_on(ask, ctx, buf)) {
+                Tried::Answered(answer) => return answer,
+                Tried::Late(back) => buf = back,
+            }
+            let _ = self.progress(BUDGET);
+            thread::yield_now();
+        }
+        self.ask_on(ask, ctx, buf)
+    }
+
+    /// `recv`, again after progress where it is refused for now, at most `times` times, and other threads run between: a
+    /// message that comes for a posted receive makes room for one more. Where the completion queue is full it has to be
+    /// read first. The buffer comes back at the end.
+    pub fn recv_within(
+        &mut self,
+        times: u32,
+        source: Option<u32>,
+        buf: Buf,
+        ctx: u64,
+    ) -> Result<(), Refused>
+        ensures ok { OnOk result (ReceivesWithin (receive_call false source 0 0 buf None ctx) (E.seen self.old) (E.seen self.new)) }
+        ensures err { IfErr result (λ r. (r.buf ≡ buf) × ReceivesWithinNot (receive_call false source 0 0 buf None ctx) (E.seen self.old) (E.seen self.new) r.why) }
+        ensures never { IfErr result (λ r. is_log_full r.why ≡ false) }
+    {
+        self.ask_within(times, Ask::Plain(source), ctx, buf)
+    }
+
+    /// `trecv`, again after progress where it is refused for now, as `recv_within`.
+    pub fn trecv_within(
+        &mut self,
+        times: u32,
+        source: Option<u32>,
+        tag: u64,
+        ignore: u64,
+        buf: Buf,
+        ctx: u64,
+    ) -> Result<(), Refused>
+        ensures ok { OnOk result (ReceivesWithin (receive_call true source tag ignore buf None ctx) (E.seen self.old) (E.seen self.new)) }
+        ensures err { IfErr result (λ r. (r.buf ≡ buf) × ReceivesWithinNot (receive_call true source tag ignore buf None ctx) (E.seen self.old) (E.seen self.new) r.why) }
+        ensures never { IfErr result (λ r. is_log_full r.why ≡ false) }
+    {
+        self.ask_within(times, Ask::Tagged(source, tag, ignore), ctx, buf)
     }
 }

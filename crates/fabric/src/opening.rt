@@ -25,6 +25,16 @@ pub struct Domain {
     pub endpoints: Vec<Endpoint>,
 }
 
+impl Domain {
+    /// What was granted to each of its endpoints (the fi_info of fi_getinfo(3)): the version, the capabilities, the number of
+    /// peers, the sizes and the limits. It is copied: keep it beside an endpoint, in the endpoint's thread.
+    pub fn info(&self) -> Info
+        ensures granted { result ≡ self.now.info }
+    {
+        self.info
+    }
+}
+
 /// Opens the endpoints of all peers over lanes in memory that they share (fi_getinfo, fi_fabric, fi_domain, fi_endpoint,
 /// fi_av_insert, fi_cq_open, fi_ep_bind, fi_enable). Each has all peers in its address vector, each at the index of its
 /// number.

@@ -22,8 +22,11 @@ const PING: u64 = 3;
 
 const ACKNOWLEDGED: u64 = 1000;
 
-/// How often a peer that waits looks.
+/// How often a peer that waits looks, or makes a call again, with other threads between.
 const PATIENCE: u32 = 1_000_000;
+
+/// How often a peer that waits looks besides, before other threads run.
+const SPINS: u32 = 8;
 
 /// What two threads exchange: untagged messages, tagged ones, untagged ones told by counters, or windows.
 #[derive(Clone, Copy, Drop, Eq, PartialEq)]
@@ -83,7 +86,7 @@ fn sends_ping<E: Calls + Drop>(
 
 /// The next completion that comes, if it is a success.
 fn waits<E: Calls + Drop>(endpoint: &mut EndpointOver<E>) -> Option<Entry> {
-    match endpoint.wait(PATIENCE) {
+    match endpoint.wait_turns(PATIENCE, SPINS) {
         Ok(Polled::Entry(entry)) => Some(entry),
         _ => None,
     }
@@ -247,6 +250,16 @@ fn is_of_window(alloc: Global, entry: Entry, window: u32) -> bool {
     }
 }
 
+/// Whether a receive of a message of a window is posted, under its tag, as soon as there is room.
+fn posts_one<E: Calls + Drop>(alloc: Global, endpoint: &mut EndpointOver<E>, tag: u64) -> bool {
+    match Buf::zeros(alloc, u64::from(LENGTH)) {
+        Ok(buf) => endpoint
+            .trecv_within(PATIENCE, None, tag, 0, buf, tag)
+            .is_ok(),
+        Err(_) => false,
+    }
+}
+
 /// Whether the next message of a window comes.
 fn gets_one<E: Calls + Drop>(alloc: Global, endpoint: &mut EndpointOver<E>, window: u32) -> bool {
     match waits(endpoint) {
@@ -265,14 +278,7 @@ fn sinks<E: Calls + Drop>(alloc: Global, endpoint: &mut EndpointOver<E>) -> Verd
     for window in 0..WINDOWS {
         let mut posted = true;
         for tag in 0..WINDOW {
-            posted = posted
-                && posts_tagged(
-                    alloc,
-                    endpoint,
-                    u64::from(tag),
-                    u64::from(LENGTH),
-                    u64::from(tag),
-                );
+            posted = posted && posts_one(alloc, endpoint, u64::from(tag));
         }
         check(posted, "the receives of a window are posted")?;
         let mut came = true;

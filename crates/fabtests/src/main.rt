@@ -25,11 +25,18 @@ use std::thread::Threads;
 /// How many peers the domains of fi_dom_test have.
 const SIZES: [u32; 4] = [1, 2, 5, 32];
 
-/// Opens a domain, and tries a test with its endpoints.
+/// Opens a domain, which tells what its hints are granted, and tries a test with its endpoints.
 fn tried<R: Threads + Sync>(rt: &R, alloc: Global, test: Test) -> Verdict {
-    match open(alloc, &test.hints()) {
-        Ok(domain) => test.run(rt, alloc, domain.endpoints),
-        Err(_) => Err("a domain is opened"),
+    let hints = test.hints();
+    let Ok(domain) = open(alloc, &hints) else {
+        return Err("a domain is opened");
+    };
+    let told = domain.info();
+    let verdict = test.run(rt, alloc, domain.endpoints);
+    if hints.granted() == Ok(told) {
+        verdict
+    } else {
+        Err("a domain tells what was granted")
     }
 }
 

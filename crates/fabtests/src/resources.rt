@@ -11,18 +11,47 @@ fn injects<E: Calls + Drop>(one: &mut EndpointOver<E>, byte: u8) -> Result<(), F
     one.inject(0, &[byte], None)
 }
 
+/// Why a receive was refused, where this is its buffer.
+fn if_back(why: Fault, buf: &Buf) -> Option<Fault> {
+    if buf.as_slice() == b"!".as_slice() {
+        Some(why)
+    } else {
+        None
+    }
+}
+
 /// Why a receive of one byte is refused. The buffer comes back.
 fn refusal<E: Calls + Drop>(alloc: Global, zero: &mut EndpointOver<E>) -> Option<Fault> {
     let buf = Buf::copy(alloc, b"!").ok()?;
     match zero.recv(None, buf, 9) {
         Ok(()) => None,
-        Err(refused) => {
-            if refused.buf.as_slice() == b"!".as_slice() {
-                Some(refused.why)
-            } else {
-                None
-            }
-        }
+        Err(refused) => if_back(refused.why, &refused.buf),
+    }
+}
+
+/// Why it is refused although it is tried again so often, after progress. The buffer comes back.
+fn refusal_within<E: Calls + Drop>(
+    alloc: Global,
+    zero: &mut EndpointOver<E>,
+    times: u32,
+) -> Option<Fault> {
+    let buf = Buf::copy(alloc, b"!").ok()?;
+    match zero.recv_within(times, None, buf, 9) {
+        Ok(()) => None,
+        Err(refused) => if_back(refused.why, &refused.buf),
+    }
+}
+
+/// Whether a receive of one byte is posted, once it is tried so often.
+fn posts_within<E: Calls + Drop>(
+    alloc: Global,
+    zero: &mut EndpointOver<E>,
+    times: u32,
+    ctx: u64,
+) -> bool {
+    match Buf::zeros(alloc, 1) {
+        Ok(buf) => zero.recv_within(times, None, buf, ctx).is_ok(),
+        Err(_) => false,
     }
 }
 
@@ -39,6 +68,31 @@ fn misses<E: Calls + Drop>(zero: &mut EndpointOver<E>) -> bool {
         len: None,
     };
     fails(zero, failed)
+}
+
+/// Progress makes room for a receive that is tried again, if a message comes.
+fn makes_room<E: Calls + Drop>(
+    alloc: Global,
+    zero: &mut EndpointOver<E>,
+    one: &mut EndpointOver<E>,
+) -> Verdict {
+    check(
+        posts(alloc, zero, 1, 5) && posts(alloc, zero, 1, 6),
+        "two receives are posted again",
+    )?;
+    check(
+        refusal_within(alloc, zero, 2) == Some(Fault::Again(Busy::PostedFull(2))),
+        "where nothing comes, one that is tried again is refused, with its buffer",
+    )?;
+    check(injects(one, b'e') == Ok(()), "a fifth message is accepted")?;
+    check(
+        posts_within(alloc, zero, 1, 7),
+        "it makes room for a receive that is tried again",
+    )?;
+    check(
+        receives(zero, from_one(5, 1), b"e"),
+        "the fifth message came",
+    )
 }
 
 /// A call for which a list has no room is refused for now, and nothing of what was accepted is lost.
@@ -100,5 +154,6 @@ pub fn resmgmt<E: Calls + Drop>(
         receives(zero, from_one(4, 1), b"d"),
         "the fourth message came",
     )?;
-    check(is_idle(zero), "each came once")
+    check(is_idle(zero), "each came once")?;
+    makes_room(alloc, zero, one)
 }

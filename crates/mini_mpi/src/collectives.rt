@@ -103,7 +103,7 @@ impl<E: Calls + Drop> World<E> {
             if self.endpoint.is_flushed() {
                 break;
             }
-            self.progress(0)?;
+            self.progress(1)?;
         }
         Ok(())
     }

@@ -10,8 +10,11 @@ use fabric::{Buf, Calls, EndpointOver, Flags, Level};
 use std::alloc::Global;
 use std::sync::Wait;
 
-/// How often the completion queue is read before other things are done.
+/// How often other ranks may run before other things are done, while no completion comes.
 const PATIENCE: u32 = 16;
+
+/// How often the completion queue is read besides, before other ranks run.
+const SPINS: u32 = 8;
 
 /// A rank with its endpoint, which it moves whenever a call is made.
 #[derive(Drop)]
@@ -70,10 +73,11 @@ impl<E: Calls + Drop> World<E> {
         self.next
     }
 
-    /// Reads the next completion, in at most so many tries and one more, and keeps it for the wait of its request.
-    pub(crate) fn progress(&mut self, times: u32) -> Result<(), Error> {
+    /// Reads the next completion, in at most so many turns with other ranks and one try more, and keeps it for the wait of its
+    /// request.
+    pub(crate) fn progress(&mut self, turns: u32) -> Result<(), Error> {
         self.ended.reserve(1)?;
-        let polled = self.endpoint.wait(times)?;
+        let polled = self.endpoint.wait_turns(turns, SPINS)?;
         if let Some(ended) = ended_by(polled) {
             self.ended.push_reserved(ended);
         }
@@ -86,7 +90,7 @@ impl<E: Calls + Drop> World<E> {
         ensures own { collective.new.own ≡ collective.old.own }
     {
         self.ended.reserve(1)?;
-        let polled = self.endpoint.wait(PATIENCE)?;
+        let polled = self.endpoint.wait_turns(PATIENCE, SPINS)?;
         if let Some(other) = collective.offer(polled) {
             if let Some(ended) = ended_by(other) {
                 self.ended.push_reserved(ended);

@@ -1,0 +1,35 @@
+use Rattle.std.proofs.Common.{refl, ◌∙◌}
+use Rattle.fab_app.specs.Late.{asked}
+use Rattle.fab_app.proofs.Answering.{ok_by, err_map, refused_is}
+use Rattle.fab_app.proofs.Chains.{none, moved_on}
+use Rattle.fab_app.proofs.Drawing.{receives_within, receives_within_not, refused_late}
+use Rattle.fab_app.proofs.endpoint.Endpoint.ask_within.Goals as goal
+
+pub times-init : goal.times-init
+times-init g c = record { before = none _; buf = refl }
+
+pub returns-in-Answered-clause-ok : goal.returns-in-Answered-clause-ok
+returns-in-Answered-clause-ok g c =
+    ok_by c.in-Answered.answer c.ask_on.result c.in-Answered.ensures (receives_within c.args.ask c.args.ctx c.args.buf c.times.buf (g.E.Sees.seen c.args.self.now) (g.E.Sees.seen c.times.self) (g.E.Sees.seen c.ask_on.new.self) c.times.invariant.buf c.times.invariant.before) c.ask_on.ensures.ok
+
+pub returns-in-Answered-clause-err : goal.returns-in-Answered-clause-err
+returns-in-Answered-clause-err g c =
+    err_map c.in-Answered.answer c.ask_on.result c.in-Answered.ensures (λ r p. (p.0 ∙ c.times.invariant.buf, receives_within_not c.args.ask c.args.ctx c.args.buf c.times.buf (g.E.Sees.seen c.args.self.now) (g.E.Sees.seen c.times.self) (g.E.Sees.seen c.ask_on.new.self) r.why c.times.invariant.buf c.times.invariant.before p.1)) c.ask_on.ensures.err
+
+pub times-preserved : goal.times-preserved
+times-preserved g c =
+    let seen = g.E.Sees.seen in
+    let (busy, is) = c.in-Late.ensures in
+    let told = refused_is _ c.ask_on.result _ is c.ask_on.ensures.err in
+    record {
+      before = moved_on g.E.Sees.fixed (seen c.args.self.now) (seen c.ask_on.new.self) (seen c.progress.new.self) _ _ (refused_late (asked c.args.ask c.args.ctx c.times.buf) (seen c.args.self.now) (seen c.times.self) (seen c.ask_on.new.self) _ c.times.invariant.before told.1) c.progress.ensures;
+      buf = told.0 ∙ c.times.invariant.buf;
+    }
+
+pub returns-clause-ok : goal.returns-clause-ok
+returns-clause-ok g c =
+    ok_by c.ask_on-2.result c.ask_on-2.result refl (receives_within c.args.ask c.args.ctx c.args.buf c.times.buf (g.E.Sees.seen c.args.self.now) (g.E.Sees.seen c.times.self) (g.E.Sees.seen c.ask_on-2.new.self) c.times.invariant.buf c.times.invariant.before) c.ask_on-2.ensures.ok
+
+pub returns-clause-err : goal.returns-clause-err
+returns-clause-err g c =
+    err_map c.ask_on-2.result c.ask_on-2.result refl (λ r p. (p.0 ∙ c.times.invariant.buf, receives_within_not c.args.ask c.args.ctx c.args.buf c.times.buf (g.E.Sees.seen c.args.self.now) (g.E.Sees.seen c.times.self) (g.E.Sees.seen c.ask_on-2.new.self) r.why c.times.invariant.buf c.times.invariant.before p.1)) c.ask_on-2.ensures.err

@@ -1,5 +1,0 @@
-use Rattle.fab_app.specs.Progresses.{Progresses}
-use Rattle.fab_app.proofs.endpoint.Endpoint.wait.Given as goal
-
-abbrev pub invariant-times : goal.invariant-times
-invariant-times g l = Progresses (g.E.Sees.seen l.fn.self) (g.E.Sees.seen l.self)
