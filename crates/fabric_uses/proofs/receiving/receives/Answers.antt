@@ -1,0 +1,5 @@
+use Rattle.fabric_uses.proofs.receiving.receives.Goals.{in-Err, in-Ok}
+use Rattle.fabric_uses.proofs.receiving.receives.Goals as goal
+
+pub returns : goal.returns
+returns g c = elim c.match-trecv.branch [ in-Ok w ↦ λ t. w.in-Ok.ensures.ok | in-Err w ↦ λ t. absurd (cc (w.result-is, t)) ]
