@@ -2,15 +2,15 @@
 use Rattle.std.proofs.Common.{◌≡◌, ◌+◌, ◌-◌, ◌≤◌, ◌++◌, ℕ, zero, suc, Bool, true, false, List, [], ◌∷◌, length, min, take, drop, Option, Some, None, refl, sym, ap, subst, ◌∙◌, arith, append-nil, take_all}
 use Rattle.std.proofs.lemmas.Bool.{leb-false}
 use Rattle.std.proofs.lemmas.List.{drop_all}
-use Rattle.std.specs.Prelude.{IfSome, find, slice_get}
+use Rattle.std.specs.Prelude.{IfSome, slice_get}
 use Rattle.std.specs.Option.{option_map}
 use Rattle.fabric.specs.Answers.{receive_call}
 use Rattle.fabric.specs.Complete.{at_match, entry_of, fill, has_space, paste, received, truncated}
 use Rattle.fabric.specs.Held.{Seen}
 use Rattle.fabric.specs.Late.{ReceivesLate}
 use Rattle.fabric.specs.Matching.{takes}
-use Rattle.fabric.specs.Probes.{probed, probed_of}
-use Rattle.fabric.specs.Receiving.{give, joining_posted, post, receive_of, taken_by, want_of, without_first}
+use Rattle.fabric.specs.Probes.{probed_of}
+use Rattle.fabric.specs.Receiving.{give, joining_posted, post, receive_of, taken_by, without_first}
 use Rattle.fabric.specs.State.{Completions, State, called, with_rx, writing}
 use Rattle.fabric.specs.Words.{Arrival, Entry, ErrEntry, Failure, Probed, Receive, Received, Success, Taken}
 use Rattle.fabric_uses.specs.declared.receiving.Cut.{Cut}

@@ -1,4 +1,7 @@
 //! Receives, and looks at what came.
+//!
+//! `receive_into`, `receive_next`, `receive_cut` and `cancelled` are for an endpoint on which every completion was read and no
+//! buffer for many messages is posted (`IsCalm`): they read the next completion, which is then that of their own call.
 ghost use Rattle.std.specs.Prelude.{◌≡◌, ℕ, List, length, Some, None, true, IfSome, IfNone, IsTrue};
 ghost use Rattle.std.specs.Option.{option_map};
 ghost use Rattle.fabric.specs.Answers.{receive_call};
@@ -11,7 +14,7 @@ use fabric::{Buf, Calls, EndpointOver, Entry, ErrEntry, ErrKind, Probed};
 use std::alloc::Global;
 
 /// Posts a receive that overtakes none: it takes an unexpected message, or stands behind all that were posted before it,
-/// where none of these is for many messages. What arrives goes to the first that matches. A refused buffer comes back.
+/// where none of these is for many messages. A refused buffer comes back.
 pub fn post_behind<E: Calls + Drop>(
     endpoint: &mut EndpointOver<E>,
     buf: Buf,
