@@ -1,0 +1,7 @@
+//! The uses of `fabric`, run.
+//!
+//! They stand in a crate of their own, so that `fabric_uses` isn't proved twice.
+#![tactic(auto)]
+
+#[cfg(test)]
+mod uses;
