@@ -1,7 +1,7 @@
 -- Two ports of one table, together.
-use Rattle.std.proofs.Common.{◌≡◌, ℕ, zero, suc, ◌<◌, List, [], ◌∷◌, ◌++◌, length, sym, refl, ap, ◌∙◌, subst, arith, length-append, Some, None}
+use Rattle.std.proofs.Common.{◌≡◌, ℕ, zero, suc, List, [], ◌∷◌, ◌++◌, length, sym, refl, ap, ◌∙◌, subst, arith, length-append, Some, None}
 use Rattle.std.specs.Prelude.{slice_get}
-use Rattle.std.proofs.lemmas.Option.{none-some, same_Some, slice_get_within}
+use Rattle.std.proofs.lemmas.Option.{none-some, same_Some}
 use Rattle.fab_wire.specs.Cut.{IsBetweenItems}
 use Rattle.fab_link.specs.Meaning.{Outgoing, end_of}
 use Rattle.fab_link.specs.Plain.{Plain}
@@ -9,7 +9,7 @@ use Rattle.fab_table.specs.declared.fabric.Fabric.{Fabric}
 use Rattle.fab_ring.specs.declared.port.RingPort.{RingPort}
 use Rattle.fab_ring.specs.Ports.{number_of, peers_of, table_of, out_of}
 use Rattle.fab_ring.specs.Made.{AreMade}
-use Rattle.fab_ring.specs.Gather.{AreAll, Gathered}
+use Rattle.fab_ring.specs.Gather.{AreAll, Gathered, GoesOn}
 use Rattle.fab_gather_tests.specs.Pair.{IsEnd}
 
 abbrev pub pair : RingPort → RingPort → List RingPort
@@ -28,16 +28,7 @@ pair_all a b ports is na pa nb same = subst (AreAll (table_of a)) (sym is) recor
   tables = of_pair (λ _ p. table_of p ≡ table_of a) a b refl same;
 }
 
-get_some : {X : Type 0} (xs : List X) (k : ℕ) → k < length xs → (x : X) × (slice_get xs k ≡ Some x)
-get_some [] k h = absurd (let no : k < 0 = h in omega arith)
-get_some (x ∷ xs) zero h = (x, refl)
-get_some (x ∷ xs) (suc k) h = get_some xs k (omega arith)
-
-pub pair_lanes : (a b : RingPort) (ports : List RingPort) (plain : List Plain) → ports ≡ pair a b → peers_of a ≡ 2 → table_of b ≡ table_of a → Gathered ports plain → (k : ℕ) (q : Plain) → slice_get plain k ≡ Some q → length q.lanes ≡ 2
-pair_lanes a b ports plain is pa same g k q at = let low = slice_get_within plain k q at in let n = g.count in let p = get_some ports k (omega arith) in
-    (g.goes_on k p.0 q p.1 at).peers ∙ of_pair (λ _ z. peers_of z ≡ 2) a b pa (ap (λ z. z.peers) same ∙ pa) k p.0 (ap (λ (l : List RingPort). slice_get l k) (sym is) ∙ p.1)
-
-at_second : (xs : List RingPort) (a b : RingPort) → length ((xs ++ a ∷ []) ++ b ∷ []) ≡ 2 → (xs ++ a ∷ []) ++ b ∷ [] ≡ pair a b
+at_second : {X : Type 0} (xs : List X) (a b : X) → length ((xs ++ a ∷ []) ++ b ∷ []) ≡ 2 → (xs ++ a ∷ []) ++ b ∷ [] ≡ a ∷ b ∷ []
 at_second [] a b e = refl
 at_second (x ∷ xs) a b e = absurd (let l = length-append (xs ++ a ∷ []) (b ∷ []) in let m = length-append xs (a ∷ []) in let n : suc (length ((xs ++ a ∷ []) ++ b ∷ [])) ≡ 2 = e in omega arith)
 
@@ -48,7 +39,16 @@ pub pair_made : (room pool : ℕ) (f : Fabric) (ports rest left : List RingPort)
 pair_made room pool f ports rest left a b m is is' = let whole : ports ≡ (left ++ a ∷ []) ++ b ∷ [] = is ∙ ap (λ (l : List RingPort). l ++ b ∷ []) is' in let two = at_second left a b (ap length (sym whole) ∙ m.count) in let all = whole ∙ two in
     let first : slice_get ports 0 ≡ Some a = ap (λ (l : List RingPort). slice_get l 0) all in let second : slice_get ports 1 ≡ Some b = ap (λ (l : List RingPort). slice_get l 1) all in
     let ends : (k : ℕ) (p : RingPort) → slice_get ports k ≡ Some p → (d : ℕ) → IsBetweenItems (end_of (out_of p d)) = λ k p at d. fresh_end (out_of p) d ((m.fresh k p at).1 d).frames refl in (
-      (m.numbers 0 a first, (m.sizes 0 a first).0, ends 0 a first),
-      (m.numbers 1 b second, (m.sizes 1 b second).0, ends 1 b second),
+      (m.numbers 0 a first, (m.sizes 0 a first).0, ends 0 a first, (m.fresh 0 a first).1),
+      (m.numbers 1 b second, (m.sizes 1 b second).0, ends 1 b second, (m.fresh 1 b second).1),
       m.tables 1 b second ∙ sym (m.tables 0 a first),
     )
+
+-- the two plain ports that these were gathered into
+pub pair_goes : (a b : RingPort) (ports : List RingPort) (plain rest left : List Plain) (p q : Plain) → ports ≡ pair a b → plain ≡ rest ++ q ∷ [] → rest ≡ left ++ p ∷ [] → Gathered ports plain → GoesOn a p × GoesOn b q
+pair_goes a b ports plain rest left p q is last first g =
+    let whole : plain ≡ (left ++ p ∷ []) ++ q ∷ [] = last ∙ ap (λ (l : List Plain). l ++ q ∷ []) first in
+    let all : plain ≡ p ∷ q ∷ [] = whole ∙ at_second left p q (ap length (sym whole) ∙ g.count ∙ ap length is) in
+    let port : (k : ℕ) → slice_get ports k ≡ slice_get (pair a b) k = λ k. ap (λ (l : List RingPort). slice_get l k) is in
+    let made : (k : ℕ) → slice_get plain k ≡ slice_get (p ∷ q ∷ []) k = λ k. ap (λ (l : List Plain). slice_get l k) all in
+    (g.goes_on 0 a p (port 0) (made 0), g.goes_on 1 b q (port 1) (made 1))

@@ -1,12 +1,12 @@
 //! Frames before and after ports are gathered.
-ghost use Rattle.std.specs.Prelude.{◌≡◌, ◌<◌, ◌≤◌, ℕ, length, IfOk, Some, slice_get, false};
+ghost use Rattle.std.specs.Prelude.{◌≡◌, ◌<◌, ◌≤◌, ℕ, length, IfOk, false};
 ghost use Rattle.fab_wire.specs.Cut.{IsBetweenItems};
 ghost use Rattle.fab_wire.specs.Frames.{IsSound};
 ghost use Rattle.fab_wire.specs.Owing.{begins_reply};
-ghost use Rattle.fab_link.specs.Plain.{Plain};
 ghost use Rattle.fab_link.specs.Meaning.{end_of};
 ghost use Rattle.fab_ring.specs.Ports.{number_of, peers_of, table_of, out_of};
-ghost use Rattle.fab_gather_tests.specs.Pair.{IsEnd};
+ghost use Rattle.fab_ring.specs.Gather.{GoesOn};
+ghost use Rattle.fab_gather_tests.specs.Pair.{HasTakenAs, IsEnd};
 
 use fab_base::{Ack, FrameHead, ItemHead, Kind, NoMemory, Outcome};
 use fab_link::{PlainPort, Port};
@@ -58,15 +58,18 @@ pub(crate) fn post(port: &mut RingPort, dest: u32, tag: u64, bytes: &[u8]) -> bo
 }
 
 /// The tag of the next frame of a peer, with how many bytes it has.
-fn next<P: Port>(port: &mut P, src: u32) -> Option<(u64, usize)>
+pub(crate) fn next<P: Port>(port: &mut P, src: u32) -> Option<(u64, usize)>
     requires { src < P.peer_count port.old }
     ensures number { P.number port.new ≡ P.number port.old }
     ensures peers { P.peer_count port.new ≡ P.peer_count port.old }
     ensures home { P.home port.new ≡ P.home port.old }
     ensures outs { P.outs port.new ≡ P.outs port.old }
+    ensures ins { (s : ℕ) → HasTakenAs (P.ins port.old s) (P.ins port.new s) }
 {
-    let frame = port.front(src)?;
-    Some((frame.head.item.tag, frame.bytes.len()))
+    match port.front(src) {
+        Some(frame) => Some((frame.head.item.tag, frame.bytes.len())),
+        None => None,
+    }
 }
 
 /// Steps over the next frame of a peer, and gives its tag and length.
@@ -109,27 +112,25 @@ pub(crate) fn pair_gathered(
     alloc: Global,
     zero: RingPort,
     one: RingPort,
-) -> Result<Vec<PlainPort>, NoMemory>
+) -> Result<(PlainPort, PlainPort), NoMemory>
     requires zero { (number_of zero ≡ 0) × (peers_of zero ≡ 2) }
     requires one { (number_of one ≡ 1) × (table_of one ≡ table_of zero) }
-    ensures { IfOk result (λ v. (k : ℕ) (q : Plain) → slice_get v.items k ≡ Some q → length q.lanes ≡ 2) }
+    ensures goes_on { IfOk result (λ both. GoesOn zero both.0 × GoesOn one both.1) }
+    ensures lanes { IfOk result (λ both. (length both.0.lanes ≡ 2) × (length both.1.lanes ≡ 2)) }
 {
     let mut ports = Vec::with_capacity(alloc, 2)?;
     ports.push(zero)?;
     ports.push(one)?;
-    match gather(alloc, ports) {
-        Ok(plain) => Ok(plain),
-        Err(_refused) => Err(NoMemory),
-    }
-}
-
-/// The last of the plain ports of two peers.
-pub(crate) fn last(ports: &mut Vec<PlainPort>) -> Result<PlainPort, NoMemory>
-    requires { (k : ℕ) (q : Plain) → slice_get ports.old.items k ≡ Some q → length q.lanes ≡ 2 }
-    ensures rest { (k : ℕ) (q : Plain) → slice_get ports.new.items k ≡ Some q → length q.lanes ≡ 2 }
-    ensures last { IfOk result (λ q. length q.lanes ≡ 2) }
-{
-    ports.pop().ok_or(NoMemory)
+    let Ok(mut plain) = gather(alloc, ports) else {
+        return Err(NoMemory);
+    };
+    let Some(last) = plain.pop() else {
+        return Err(NoMemory);
+    };
+    let Some(first) = plain.pop() else {
+        return Err(NoMemory);
+    };
+    Ok((first, last))
 }
 
 #[test]
@@ -142,8 +143,7 @@ fn a_lane_that_was_full_comes_to_a_plain_port(rt: HostRuntime) -> Result<(), Fai
     assert!(rt; take(&mut one, 0) == Some((1, 1)));
     assert!(rt; post(&mut zero, 1, 3, b"ccc"));
     assert!(rt; next(&mut one, 1) == None);
-    let mut plain = pair_gathered(alloc, zero, one)?;
-    let mut one = last(&mut plain)?;
+    let (_zero, mut one) = pair_gathered(alloc, zero, one)?;
     assert!(rt; take(&mut one, 0) == Some((2, 2)));
     assert!(rt; take(&mut one, 0) == Some((3, 3)));
     assert!(rt; take(&mut one, 0) == None);
@@ -164,9 +164,7 @@ fn what_is_on_its_way_comes_to_plain_ports(rt: HostRuntime) -> Result<(), Fail> 
     assert!(rt; take(&mut one, 0) == Some((1, 1)));
     // This frame lies open.
     assert!(rt; next(&mut one, 0) == Some((2, 100)));
-    let mut plain = pair_gathered(alloc, zero, one)?;
-    let mut one = last(&mut plain)?;
-    let mut zero = last(&mut plain)?;
+    let (mut zero, mut one) = pair_gathered(alloc, zero, one)?;
     assert!(rt; take(&mut one, 0) == Some((2, 100)));
     assert!(rt; take(&mut one, 0) == Some((3, 64)));
     assert!(rt; take(&mut one, 0) == Some((4, 65)));

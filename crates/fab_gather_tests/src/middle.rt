@@ -4,7 +4,7 @@ ghost use Rattle.fab_wire.specs.Cut.{IsBetweenItems};
 ghost use Rattle.fab_link.specs.Meaning.{end_of};
 ghost use Rattle.fab_ring.specs.Ports.{number_of, peers_of, table_of, out_of};
 
-use crate::gathered::{last, pair_gathered, post, two_ports};
+use crate::gathered::{pair_gathered, post, two_ports};
 use fab_base::NoMemory;
 use fab_link::Port;
 use fab_ring::RingPort;
@@ -150,9 +150,7 @@ fn gathered_in_the_middle_no_frame_is_lost(rt: HostRuntime) -> Result<(), Fail> 
         { talk(&rt, one, 0, bytes) },
     );
     assert!(rt; from_one == TAKEN && from_zero == TAKEN);
-    let mut plain = pair_gathered(alloc, zero, one)?;
-    let mut one = last(&mut plain)?;
-    let mut zero = last(&mut plain)?;
+    let (mut zero, mut one) = pair_gathered(alloc, zero, one)?;
     assert!(rt; rest(&mut one, 0, bytes) == POSTED - TAKEN);
     assert!(rt; rest(&mut zero, 1, bytes) == POSTED - TAKEN);
     assert!(rt; take(&mut one, 0, POSTED, bytes) == None);
