@@ -2,11 +2,11 @@
 ghost use Rattle.std.specs.Prelude.{◌≡◌, ◌<◌, length, true, None, Some, IfSome};
 ghost use Rattle.fab_base.specs.declared.items.Kind.TheVariants.{TagMsg};
 ghost use Rattle.fab_wire.specs.Frames.{MayCome};
-ghost use Rattle.fab_open_tests.specs.Came.{IsNew, IsNewOver, Keeps, message_head, piece_head};
+ghost use Rattle.fab_open_tests.specs.Came.{IsNew, Keeps, message_head, piece_head};
 
 use crate::carried::Carried;
 use crate::frames::{COMPLETES, LEN, message, reads_nothing, takes_frame};
-use crate::opening::opened;
+use crate::opening::Fresh;
 use fab_base::{Buf, Entry, Frame, FrameHead, Kind, PeekHow};
 use fab_face::calls::{Looks, Messages, Progress};
 use fab_link::PlainPort;
@@ -157,25 +157,30 @@ fn completes<E: Messages + Looks + Progress + Carried>(
 }
 
 /// The same between peer 0 and a new peer 1.
-fn completes_from_new(alloc: Global, zero: &mut Endpoint<PlainPort>) -> bool
-    requires { IsNewOver 2 zero.old }
+fn completes_with_new<E: Fresh + Messages + Looks + Progress + Carried + Drop>(
+    alloc: Global,
+    mut zero: E,
+) -> bool
+    requires { IsNew 2 (E.seen zero) }
 {
-    match opened(alloc, 1) {
-        Some(mut one) => completes(alloc, zero, &mut one),
+    match E::fresh(alloc, 1, 2) {
+        Some(mut one) => completes(alloc, &mut zero, &mut one),
         None => false,
     }
 }
 
 /// The same between two new peers.
-fn completes_between_new(alloc: Global) -> bool {
-    match opened(alloc, 0) {
-        Some(mut zero) => completes_from_new(alloc, &mut zero),
+fn completes_between_new<E: Fresh + Messages + Looks + Progress + Carried + Drop>(
+    alloc: Global,
+) -> bool {
+    match E::fresh(alloc, 0, 2) {
+        Some(zero) => completes_with_new::<E>(alloc, zero),
         None => false,
     }
 }
 
 #[test]
 fn a_claimed_message_is_taken_before_it_is_whole(rt: HostRuntime) -> Result<(), Fail> {
-    assert!(rt; completes_between_new(rt.alloc()));
+    assert!(rt; completes_between_new::<Endpoint<PlainPort>>(rt.alloc()));
     Ok(())
 }

@@ -1,11 +1,11 @@
 //! An endpoint that is closed gives back what the application lent it.
-use crate::opening::opened;
+use crate::opening::Fresh;
 use fab_av::Av;
 use fab_base::{Access, Buf};
 use fab_face::calls::{Addresses, Regions};
-use fab_link::Port;
+use fab_link::{PlainPort, Port};
 use fab_mr::Regions as Registered;
-use fab_open::close;
+use fab_open::{Closed, Endpoint, close};
 use std::alloc::Global;
 use std::test::Fail;
 
@@ -36,20 +36,31 @@ fn knows(av: &Av) -> bool {
     av.peers() == 2 && av.index_of(0).is_none() && av.index_of(1) == Some(1)
 }
 
-/// Whether a new endpoint, once closed, gives back its port, its addresses and its region.
-fn gives_back(alloc: Global) -> bool {
-    let Some(mut endpoint) = opened(alloc, 1) else {
-        return false;
-    };
-    if !registers(alloc, &mut endpoint) || !removes(&mut endpoint) {
-        return false;
+/// The endpoint of peer 1, once the region is registered with it and the address of peer 0 is removed.
+fn changed<E: Fresh + Regions + Addresses + Drop>(alloc: Global) -> Option<E> {
+    let mut endpoint = E::fresh(alloc, 1, 2)?;
+    if registers(alloc, &mut endpoint) && removes(&mut endpoint) {
+        Some(endpoint)
+    } else {
+        None
     }
-    let closed = close(endpoint);
+}
+
+/// Whether the port of peer 1, its addresses and its region were given back.
+fn is_given_back(closed: Closed<PlainPort>) -> bool {
     closed.port.me() == 1 && knows(&closed.av) && has(&closed.regions, b"01ab4567")
+}
+
+/// Whether they are by an endpoint that is closed.
+fn gives_back(endpoint: Option<Endpoint<PlainPort>>) -> bool {
+    match endpoint {
+        Some(endpoint) => is_given_back(close(endpoint)),
+        None => false,
+    }
 }
 
 #[test]
 fn a_closed_endpoint_gives_its_regions_and_addresses_back(rt: HostRuntime) -> Result<(), Fail> {
-    assert!(rt; gives_back(rt.alloc()));
+    assert!(rt; gives_back(changed(rt.alloc())));
     Ok(())
 }

@@ -2,11 +2,11 @@
 ghost use Rattle.std.specs.Prelude.{◌≡◌, ◌≢◌, ◌<◌, ℕ, length, true, None, IfSome};
 ghost use Rattle.fab_base.specs.declared.items.Kind.TheVariants.{TagMsg};
 ghost use Rattle.fab_wire.specs.Frames.{MayCome};
-ghost use Rattle.fab_open_tests.specs.Came.{IsNew, IsNewOver, Keeps, came, message_head, piece_head};
+ghost use Rattle.fab_open_tests.specs.Came.{IsNew, Keeps, came, message_head, piece_head};
 
 use crate::carried::Carried;
 use crate::frames::{COMPLETES, message};
-use crate::opening::opened_among;
+use crate::opening::Fresh;
 use fab_base::{Buf, Entry, Frame, FrameHead, Kind, PeekHow};
 use fab_face::calls::{Looks, Messages, Progress, Receives};
 use fab_link::PlainPort;
@@ -175,40 +175,45 @@ fn directs<E: Messages + Receives + Looks + Progress + Carried>(
 }
 
 /// The same between peers 0 and 1 and a new peer 2.
-fn directs_to_two(
+fn directs_with_new<E: Fresh + Messages + Receives + Looks + Progress + Carried + Drop>(
     alloc: Global,
-    zero: &mut Endpoint<PlainPort>,
-    one: &mut Endpoint<PlainPort>,
+    mut zero: E,
+    mut one: E,
 ) -> bool
-    requires zero { IsNewOver 3 zero.old }
-    requires one { IsNewOver 3 one.old }
+    requires zero { IsNew 3 (E.seen zero) }
+    requires one { IsNew 3 (E.seen one) }
 {
-    match opened_among(alloc, 2, 3) {
-        Some(mut two) => directs(alloc, zero, one, &mut two),
+    match E::fresh(alloc, 2, 3) {
+        Some(mut two) => directs(alloc, &mut zero, &mut one, &mut two),
         None => false,
     }
 }
 
 /// The same between peer 0 and two new peers.
-fn directs_to_new(alloc: Global, zero: &mut Endpoint<PlainPort>) -> bool
-    requires { IsNewOver 3 zero.old }
+fn directs_with_two_new<E: Fresh + Messages + Receives + Looks + Progress + Carried + Drop>(
+    alloc: Global,
+    zero: E,
+) -> bool
+    requires { IsNew 3 (E.seen zero) }
 {
-    match opened_among(alloc, 1, 3) {
-        Some(mut one) => directs_to_two(alloc, zero, &mut one),
+    match E::fresh(alloc, 1, 3) {
+        Some(one) => directs_with_new::<E>(alloc, zero, one),
         None => false,
     }
 }
 
 /// The same between three new peers.
-fn directs_between_new(alloc: Global) -> bool {
-    match opened_among(alloc, 0, 3) {
-        Some(mut zero) => directs_to_new(alloc, &mut zero),
+fn directs_between_new<E: Fresh + Messages + Receives + Looks + Progress + Carried + Drop>(
+    alloc: Global,
+) -> bool {
+    match E::fresh(alloc, 0, 3) {
+        Some(zero) => directs_with_two_new::<E>(alloc, zero),
         None => false,
     }
 }
 
 #[test]
 fn a_directed_receive_leaves_the_message_of_another(rt: HostRuntime) -> Result<(), Fail> {
-    assert!(rt; directs_between_new(rt.alloc()));
+    assert!(rt; directs_between_new::<Endpoint<PlainPort>>(rt.alloc()));
     Ok(())
 }

@@ -2,11 +2,11 @@
 ghost use Rattle.std.specs.Prelude.{◌≡◌, ◌<◌, length, true, None, Some, IfSome};
 ghost use Rattle.fab_base.specs.declared.items.Kind.TheVariants.{Msg};
 ghost use Rattle.fab_wire.specs.Frames.{MayCome};
-ghost use Rattle.fab_open_tests.specs.Came.{IsNew, IsNewOver, Keeps, message_head, piece_head};
+ghost use Rattle.fab_open_tests.specs.Came.{IsNew, Keeps, message_head, piece_head};
 
 use crate::carried::Carried;
 use crate::frames::{COMPLETES, LEN, message, reads_nothing, takes_frame};
-use crate::opening::opened;
+use crate::opening::Fresh;
 use fab_base::{Buf, Entry, Fault, Frame, FrameHead, Kind};
 use fab_face::calls::{Messages, Progress, Receives};
 use fab_link::PlainPort;
@@ -140,25 +140,30 @@ fn fills<E: Messages + Receives + Progress + Carried>(
 }
 
 /// The same between peer 0 and a new peer 1.
-fn fills_from_new(alloc: Global, zero: &mut Endpoint<PlainPort>) -> bool
-    requires { IsNewOver 2 zero.old }
+fn fills_with_new<E: Fresh + Messages + Receives + Progress + Carried + Drop>(
+    alloc: Global,
+    mut zero: E,
+) -> bool
+    requires { IsNew 2 (E.seen zero) }
 {
-    match opened(alloc, 1) {
-        Some(mut one) => fills(alloc, zero, &mut one),
+    match E::fresh(alloc, 1, 2) {
+        Some(mut one) => fills(alloc, &mut zero, &mut one),
         None => false,
     }
 }
 
 /// The same between two new peers.
-fn fills_between_new(alloc: Global) -> bool {
-    match opened(alloc, 0) {
-        Some(mut zero) => fills_from_new(alloc, &mut zero),
+fn fills_between_new<E: Fresh + Messages + Receives + Progress + Carried + Drop>(
+    alloc: Global,
+) -> bool {
+    match E::fresh(alloc, 0, 2) {
+        Some(zero) => fills_with_new::<E>(alloc, zero),
         None => false,
     }
 }
 
 #[test]
 fn a_receive_that_is_filled_is_not_cancelled(rt: HostRuntime) -> Result<(), Fail> {
-    assert!(rt; fills_between_new(rt.alloc()));
+    assert!(rt; fills_between_new::<Endpoint<PlainPort>>(rt.alloc()));
     Ok(())
 }

@@ -1,7 +1,9 @@
 //! Bytes of a buffer for many messages are lent.
-use crate::opening::opened;
+use crate::opening::Fresh;
 use fab_base::Buf;
 use fab_face::calls::Multis;
+use fab_link::PlainPort;
+use fab_open::Endpoint;
 use std::alloc::Global;
 use std::test::Fail;
 
@@ -33,8 +35,8 @@ fn lends_own<E: Multis>(alloc: Global, endpoint: &mut E) -> bool {
 }
 
 /// The same of a new endpoint.
-fn new_lends_own(alloc: Global) -> bool {
-    match opened(alloc, 0) {
+fn new_lends_own<E: Fresh + Multis + Drop>(alloc: Global) -> bool {
+    match E::fresh(alloc, 0, 2) {
         Some(mut endpoint) => lends_own(alloc, &mut endpoint),
         None => false,
     }
@@ -42,6 +44,6 @@ fn new_lends_own(alloc: Global) -> bool {
 
 #[test]
 fn bytes_of_a_multi_receive_are_lent(rt: HostRuntime) -> Result<(), Fail> {
-    assert!(rt; new_lends_own(rt.alloc()));
+    assert!(rt; new_lends_own::<Endpoint<PlainPort>>(rt.alloc()));
     Ok(())
 }

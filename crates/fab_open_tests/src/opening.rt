@@ -1,9 +1,10 @@
-//! An endpoint over a plain port.
+//! New endpoints. One over a plain port is named here, where it is closed, and where a test says of which endpoint it is.
 ghost use Rattle.std.specs.Prelude.{IfSome};
-ghost use Rattle.fab_open_tests.specs.Came.{IsNewOver, IsReady};
+ghost use Rattle.fab_open_tests.specs.Came.{IsNew, IsNewOver, IsReady};
 
 use fab_av::Av;
 use fab_base::{Api, Caps, Hints, Info};
+use fab_face::calls::Sees;
 use fab_info::getinfo;
 use fab_link::PlainPort;
 use fab_open::{Endpoint, open};
@@ -49,7 +50,7 @@ fn open_over(alloc: Global, port: PlainPort, info: &Info, av: Av) -> Option<Endp
 }
 
 /// The endpoint of this peer, one of so many, with all that is on offer.
-pub fn opened_among(alloc: Global, number: u32, peers: u32) -> Option<Endpoint<PlainPort>>
+fn opened(alloc: Global, number: u32, peers: u32) -> Option<Endpoint<PlainPort>>
     ensures { IfSome result (λ e. IsNewOver peers e) }
 {
     let info = offered(peers)?;
@@ -58,9 +59,15 @@ pub fn opened_among(alloc: Global, number: u32, peers: u32) -> Option<Endpoint<P
     open_over(alloc, port, &info, av)
 }
 
-/// The endpoint of this peer, one of two, with all that is on offer.
-pub fn opened(alloc: Global, number: u32) -> Option<Endpoint<PlainPort>>
-    ensures { IfSome result (λ e. IsNewOver 2 e) }
-{
-    opened_among(alloc, number, 2)
+/// An endpoint that can be opened.
+pub trait Fresh: Sees {
+    /// The endpoint of this peer, one of so many, to which nothing came.
+    fn fresh(alloc: Global, number: u32, peers: u32) -> Option<Self>
+        ensures { IfSome result (λ e. IsNew peers (Self.seen e)) };
+}
+
+impl Fresh for Endpoint<PlainPort> {
+    fn fresh(alloc: Global, number: u32, peers: u32) -> Option<Endpoint<PlainPort>> {
+        opened(alloc, number, peers)
+    }
 }

@@ -6,7 +6,7 @@ use crate::opening::{new_port, offered};
 use fab_av::Av;
 use fab_base::{Fault, Info, Size};
 use fab_link::{PlainPort, Port};
-use fab_open::open;
+use fab_open::{OpenRefused, open};
 use std::alloc::Global;
 use std::test::Fail;
 
@@ -36,12 +36,9 @@ fn with(mut info: Info, size: Size, number: u32) -> Info {
     info
 }
 
-/// What comes of opening an endpoint over this port.
-fn opened_over(alloc: Global, port: PlainPort, av: Av, info: &Info) -> Result<(), Back>
-    requires ready { IsReady 2 port }
-    requires peers { av.peers ≡ 2 }
-{
-    match open(alloc, port, av, info, false) {
+/// What comes of opening an endpoint.
+fn told<E: Drop>(opened: Result<E, OpenRefused<PlainPort>>) -> Result<(), Back> {
+    match opened {
         Ok(_endpoint) => Ok(()),
         Err(refused) => Err(Back {
             why: refused.why,
@@ -50,6 +47,14 @@ fn opened_over(alloc: Global, port: PlainPort, av: Av, info: &Info) -> Result<()
             index: refused.av.index_of(1),
         }),
     }
+}
+
+/// The same over this port.
+fn opened_over(alloc: Global, port: PlainPort, av: Av, info: &Info) -> Result<(), Back>
+    requires ready { IsReady 2 port }
+    requires peers { av.peers ≡ 2 }
+{
+    told(open(alloc, port, av, info, false))
 }
 
 /// The same for peer 1 of two, with this number for one size; nothing where memory lacks before.

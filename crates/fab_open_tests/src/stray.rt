@@ -4,9 +4,11 @@ ghost use Rattle.fab_wire.specs.Frames.{MayCome};
 ghost use Rattle.fab_open_tests.specs.Came.{IsNew};
 
 use crate::carried::Carried;
-use crate::opening::opened;
+use crate::opening::Fresh;
 use fab_base::{Ack, Buf, Class, Fault, Frame, FrameHead, ItemHead, Kind, Outcome};
 use fab_face::calls::{Counters, Progress};
+use fab_link::PlainPort;
+use fab_open::Endpoint;
 use std::alloc::Global;
 use std::test::Fail;
 
@@ -73,8 +75,8 @@ fn passes_over<E: Progress + Counters + Carried>(alloc: Global, endpoint: &mut E
     endpoint.hand_in(1, frame) && takes_it(endpoint) && counts_nothing(endpoint)
 }
 
-fn passes_over_new(alloc: Global) -> bool {
-    match opened(alloc, 0) {
+fn passes_over_new<E: Fresh + Progress + Counters + Carried + Drop>(alloc: Global) -> bool {
+    match E::fresh(alloc, 0, 2) {
         Some(mut zero) => passes_over(alloc, &mut zero),
         None => false,
     }
@@ -82,6 +84,6 @@ fn passes_over_new(alloc: Global) -> bool {
 
 #[test]
 fn a_reply_that_nothing_awaits_changes_nothing(rt: HostRuntime) -> Result<(), Fail> {
-    assert!(rt; passes_over_new(rt.alloc()));
+    assert!(rt; passes_over_new::<Endpoint<PlainPort>>(rt.alloc()));
     Ok(())
 }

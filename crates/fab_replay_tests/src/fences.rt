@@ -1,8 +1,6 @@
 //! Verdicts on reports of scripts with fences (FI_FENCE of fi_msg(3)), and of scripts of the second version.
-use crate::verdicts::said;
+use crate::changes::{Change, expect_each};
 use fab_replay::Verdict;
-use std::alloc::Global;
-use std::process::Abort;
 use std::test::Fail;
 
 /// The first message is never matched, so the fence holds the second back for ever.
@@ -108,9 +106,6 @@ const NO_EVENTS_REPORT: &str = "fabric 1 peers 1\n\
     trace D D S0 H0 T0 S0 H0 T0 R D D\n\
     end done\n";
 
-/// One place of a report, what stands there instead, and what is said of the text so changed.
-type Change = (&'static str, &'static str, Verdict);
-
 const OF_HELD: [Change; 14] = [
     ("", "", Verdict::Lawful { rest: true }),
     ("deferred 1", "deferred 2", Verdict::Differs { at: 76 }),
@@ -189,34 +184,6 @@ const OF_NO_EVENTS: [Change; 3] = [
     ("ok 0 err 0", "ok 1 err 0", Verdict::Differs { at: 73 }),
     ("fabric 1", "fabric 2", Verdict::Differs { at: 7 }),
 ];
-
-/// The text with the new in the place of the old.
-fn changed(alloc: Global, text: &str, old: &str, new: &str) -> Result<String, Fail> {
-    let (front, back) = text.split_once(old).unwrap_or((text, ""));
-    let mut out = String::new(alloc);
-    out.push_str(front)?;
-    out.push_str(new)?;
-    out.push_str(back)?;
-    Ok(out)
-}
-
-/// Asserts what is said of the report with each of these changes.
-fn expect_each(
-    rt: &impl Abort,
-    alloc: Global,
-    script: &str,
-    report: &str,
-    changes: &[Change],
-) -> Result<(), Fail> {
-    for (old, new, verdict) in changes {
-        let text = changed(alloc, report, old, new)?;
-        assert!(rt;
-            said(alloc, script, text.as_str()) == Some(*verdict),
-            "{text}"
-        );
-    }
-    Ok(())
-}
 
 #[test]
 fn says_of_reports_with_fences(rt: HostRuntime) -> Result<(), Fail> {

@@ -6,7 +6,7 @@ use std::alloc::Global;
 use std::process::Abort;
 use std::test::Fail;
 
-const HELLO: &str = "fabric 1\n\
+pub(crate) const HELLO: &str = "fabric 1\n\
     peers 2\n\
     peer 0\n\
     trecv 1 * 7 0 16\n\
@@ -14,34 +14,10 @@ const HELLO: &str = "fabric 1\n\
     peer 1\n\
     tsend 2 0 7 text:hello\n";
 
-const REPORT: &str = "fabric 1 peers 2\n\
+pub(crate) const REPORT: &str = "fabric 1 peers 2\n\
     peer 0\n\
     4 trecv ok\n\
     5 wait 1 FI_TAGGED FI_RECV from 1 tag 7 len 5 bytes 68656c6c6f\n\
-    trace D H1 T1 R D\n\
-    peer 1\n\
-    7 tsend ok\n\
-    left 2 FI_TAGGED FI_SEND\n\
-    trace D S0 R\n\
-    end done\n";
-
-/// Peer 1 reads its completion before its message is transmitted.
-const TOO_EARLY: &str = "fabric 1 peers 2\n\
-    peer 0\n\
-    4 trecv ok\n\
-    5 wait 1 FI_TAGGED FI_RECV from 1 tag 7 len 5 bytes 68656c6c6f\n\
-    trace D H1 T1 R D\n\
-    peer 1\n\
-    7 tsend ok\n\
-    left 2 FI_TAGGED FI_SEND\n\
-    trace D R S0\n\
-    end done\n";
-
-/// One byte of the message is another.
-const CHANGED: &str = "fabric 1 peers 2\n\
-    peer 0\n\
-    4 trecv ok\n\
-    5 wait 1 FI_TAGGED FI_RECV from 1 tag 7 len 5 bytes 68656c6c70\n\
     trace D H1 T1 R D\n\
     peer 1\n\
     7 tsend ok\n\
@@ -59,46 +35,6 @@ const NOTHING_DONE: &str = "fabric 1 peers 2\n\
     end stuck\n";
 
 const EMPTY: &str = "fabric 1\npeers 2\n";
-
-/// Two messages came before the buffer is posted that they go into.
-const MANY: &str = "fabric 1\n\
-    peers 1\n\
-    peer 0\n\
-    send 1 0 text:abc level=delivery\n\
-    wait 1\n\
-    send 2 0 text:de level=delivery\n\
-    wait 2\n\
-    mrecv 3 * 10 min=6\n\
-    wait 3\n\
-    wait 3\n\
-    wait 3\n";
-
-const MANY_REPORT: &str = "fabric 1 peers 1\n\
-    peer 0\n\
-    4 send ok\n\
-    5 wait 1 FI_SEND\n\
-    6 send ok\n\
-    7 wait 2 FI_SEND\n\
-    8 mrecv ok\n\
-    9 wait 3 FI_RECV from 0 at 0 len 3 bytes 616263\n\
-    10 wait 3 FI_RECV from 0 at 3 len 2 bytes 6465\n\
-    11 wait 3 FI_MULTI_RECV used 5\n\
-    trace D S0 H0 T0 S0 H0 T0 R D D S0 H0 T0 S0 H0 T0 R D D M M R R R D D D\n\
-    end done\n";
-
-/// A completion is read before the draw that writes it.
-const DRAWN_LATE: &str = "fabric 1 peers 1\n\
-    peer 0\n\
-    4 send ok\n\
-    5 wait 1 FI_SEND\n\
-    6 send ok\n\
-    7 wait 2 FI_SEND\n\
-    8 mrecv ok\n\
-    9 wait 3 FI_RECV from 0 at 0 len 3 bytes 616263\n\
-    10 wait 3 FI_RECV from 0 at 3 len 2 bytes 6465\n\
-    11 wait 3 FI_MULTI_RECV used 5\n\
-    trace D S0 H0 T0 S0 H0 T0 R D D S0 H0 T0 S0 H0 T0 R D D M R R M R D D D\n\
-    end done\n";
 
 /// What is said of the text as a report of the script, which has no payload files.
 pub(crate) fn said(alloc: Global, script: &str, text: &str) -> Option<Verdict> {
@@ -126,21 +62,9 @@ fn expect_all(rt: &impl Abort, alloc: Global, script: &str, rows: &[(&str, Verdi
 fn says_of_reports(rt: HostRuntime) -> Result<(), Fail> {
     let rows = [
         (REPORT, Verdict::Lawful { rest: true }),
-        (TOO_EARLY, Verdict::Left { peer: 0, step: 3 }),
-        (CHANGED, Verdict::Differs { at: 95 }),
         (NOTHING_DONE, Verdict::Lawful { rest: false }),
     ];
     expect_all(&rt, rt.alloc(), HELLO, &rows);
-    Ok(())
-}
-
-#[test]
-fn says_of_reports_of_multi_receives(rt: HostRuntime) -> Result<(), Fail> {
-    let rows = [
-        (MANY_REPORT, Verdict::Lawful { rest: true }),
-        (DRAWN_LATE, Verdict::Left { peer: 0, step: 22 }),
-    ];
-    expect_all(&rt, rt.alloc(), MANY, &rows);
     Ok(())
 }
 
