@@ -27,7 +27,7 @@ const ROUNDS: u32 = 65_536;
 /// Runs peers that do these lists of lines, each over a machine that holds what an endpoint holds when it is opened,
 /// until none can go on, and hands them back.
 ///
-/// In the first phase the peers take their turns in rounds, each turn in a thread of its own, over the lanes of one
+/// In the first phase the peers take their turns in rounds, each peer in a thread of its own, over the lanes of one
 /// table, of `lane` frames each and with `pool` slots for each peer: until a round moves nothing, all lines are done, or
 /// 65,536 rounds are made. The gate is told when a turn begins and ends. Then the lanes are emptied into plain ports,
 /// and the peers go on in one thread until none can. Where all lines are done, each peer then cancels the receives
@@ -56,7 +56,7 @@ pub fn run_phases<C: Machinery + Drop + Send, G: Gate, R: Threads + Wait + Sync>
     let rings = Rings::new(alloc, conf.peers, conf.info.lane, conf.info.pool)?;
     let ports = rings.ports(alloc)?;
     let mut runners = open(alloc, conf, lists, machines, ports)?;
-    run_rounds(rt, runners.as_mut_slice(), gate, ROUNDS)?;
+    run_rounds(rt, alloc, runners.as_mut_slice(), gate, ROUNDS)?;
     let mut peers = cross(alloc, runners, conf.info.log)?;
     finish(peers.as_mut_slice())?;
     Ok(peers)

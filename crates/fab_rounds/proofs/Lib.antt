@@ -4,3 +4,9 @@ pub mod Turning
 pub mod Making
 pub mod Tied
 pub mod Acting
+pub mod Words
+pub mod Life
+pub mod Rows
+pub mod Joined
+pub mod Carried
+pub mod Seated

@@ -1,13 +1,17 @@
 -- Rounds, one after another: what each keeps of a peer, all keep.
-use Rattle.std.proofs.Common.{◌≡◌, ◌<◌, ◌+◌, ℕ, zero, suc, Bool, true, false, List, [], ◌∷◌, length, map, refl, sym, ap, ◌∙◌, subst, arith}
+use Rattle.std.proofs.Common.{◌≡◌, ◌<◌, ◌≤◌, ◌+◌, ℕ, zero, suc, Bool, true, false, List, [], ◌∷◌, length, map, sum_by, refl, sym, ap, ◌∙◌, subst, arith}
 use Rattle.std.specs.Prelude.{not, ◌&&◌, ◌||◌, slice_index_or}
 use Rattle.std.specs.List.{list_all, list_any}
+use Rattle.std.proofs.lemmas.List.Sums.{sum_by-cons}
 use Rattle.fab_model.specs.Peers.{is_finished}
 use Rattle.fab_model.specs.Views.{IsPrefixOf}
 use Rattle.fab_model.proofs.Views.{prefix_self, prefix_prefix}
 use Rattle.fab_face.specs.Acts.{steps_of}
 use Rattle.fab_quantum.specs.Turns.{IsStill, actor_of}
-use Rattle.fab_rounds.specs.Rounds.{Each, TurnedAs, Between, Rounded, GoesOn, MadeFor, AtOnePort}
+use Rattle.fab_rounds.specs.Rounds.{Each, TurnedAs, TurnedFor, Between, Rounded, GoesOn, MadeFor, AtOnePort, size}
+use Rattle.fab_rounds.specs.Staying.{RanFor}
+use Rattle.fab_rounds.proofs.Lists.{sums_rise, none_at, all_at, not_false, not_true}
+use Rattle.fab_rounds.proofs.Turning.{turned_more, still_later}
 
 -- ---- peers told from a list
 
@@ -35,6 +39,10 @@ length_told : {X Y : Type 0} (f : X → Y) (xs : List X) → length (map f xs) �
 length_told f [] = refl
 length_told f (x ∷ xs) = ap suc (length_told f xs)
 
+sum_told : {X Y : Type 0} (f : X → Y) (weight : Y → ℕ) (xs : List X) → sum_by weight (map f xs) ≡ sum_by (λ x. weight (f x)) xs
+sum_told f weight [] = refl
+sum_told f weight (x ∷ xs) = omega (arith, sum_by-cons weight (f x) (map f xs), sum_by-cons (λ y. weight (f y)) x xs, sum_told f weight xs)
+
 -- ---- one more round
 
 module _ {X Home : Type 0} (f : X → Between Home) where
@@ -45,7 +53,7 @@ module _ {X Home : Type 0} (f : X → Between Home) where
     going = all_told f (λ p. is_finished (actor_of p.peer)) peers ∙ going;
   }
 
-  pub made_more : (n : ℕ) (old mid new : List X) → MadeFor n (map f old) (map f mid)
+  made_more : (n : ℕ) (old mid new : List X) → MadeFor n (map f old) (map f mid)
       → (0 < n → list_any (λ p. (f p).failed) mid ≡ false) → (0 < n → list_all (λ p. not (f p).moved) mid ≡ false) → (0 < n → list_all (λ p. is_finished (actor_of (f p).peer)) mid ≡ false)
       → length new ≡ length mid → Each (λ a b. (f b).failed ≡ false → ((f a).failed ≡ false) × TurnedAs (f a).peer (f b).peer (f b).moved) mid new
       → Each (λ a b. (f b).failed ≡ false → (f b).moved ≡ false → IsStill (f a).peer (f b).peer) mid new
@@ -55,6 +63,54 @@ module _ {X Home : Type 0} (f : X → Between Home) where
       let one : n + 1 ≡ suc n = omega arith in
       let each : Each (λ a b. Rounded (f a) (f b)) mid new = λ k d below. record { turned = turned k d below; still = still k d below; stays = stays k d below } in
       rw one (map f mid, before, λ some. goes_on mid (well some) (moving some) (going some), length_told f new ∙ long ∙ sym (length_told f mid), each_told f Rounded mid new long each)
+
+-- ---- rounds after rounds
+
+module _ {Home : Type 0} where
+  goes_then : (m n : ℕ) (mid last : List (Between Home)) → (0 < m → GoesOn mid) → MadeFor n mid last → (0 < n → GoesOn last) → 0 < m + n → GoesOn last
+  goes_then m zero mid last goes same again some = subst GoesOn same (goes (omega (arith, some)))
+  goes_then m (suc n) mid last goes made again some = again (omega arith)
+
+  made_then : (m n : ℕ) (old mid new : List (Between Home)) → MadeFor m old mid → (0 < m → GoesOn mid) → MadeFor n mid new → MadeFor (m + n) old new
+  made_then m zero old mid new before goes same =
+      let none : m ≡ m + zero = omega arith in
+      subst (λ k. MadeFor k old new) none (subst (MadeFor m old) same before)
+  made_then m (suc n) old mid new before goes (last, made, again, long, each) =
+      let one : suc (m + n) ≡ m + suc n = omega arith in
+      subst (λ k. MadeFor k old new) one (last, made_then m n old mid last before goes made, goes_then m n mid last goes made again, long, each)
+
+module _ {X Home : Type 0} (f : X → Between Home) where
+  pub made_on : (m n : ℕ) (old mid new : List X) → MadeFor m (map f old) (map f mid)
+      → (0 < m → list_any (λ p. (f p).failed) mid ≡ false) → (0 < m → list_all (λ p. not (f p).moved) mid ≡ false) → (0 < m → list_all (λ p. is_finished (actor_of (f p).peer)) mid ≡ false)
+      → MadeFor n (map f mid) (map f new) → MadeFor (m + n) (map f old) (map f new)
+  made_on m n old mid new before well moving going after = made_then m n (map f old) (map f mid) (map f new) before (λ some. goes_on f mid (well some) (moving some) (going some)) after
+
+  -- no round, and one after none
+  pub none_ran : (peers : List X) → RanFor 0 (map f peers) (map f peers)
+  none_ran peers = record { made = refl; grew = λ well some. omega arith }
+
+  pub one_ran : (n : ℕ) (old mid new : List X) → n ≡ 0 → RanFor n (map f old) (map f mid) → length new ≡ length mid
+      → Each (λ a b. (f b).failed ≡ false → ((f a).failed ≡ false) × TurnedAs (f a).peer (f b).peer (f b).moved) mid new
+      → Each (λ a b. (f b).failed ≡ false → (f b).moved ≡ false → IsStill (f a).peer (f b).peer) mid new
+      → Each (λ a b. (f b).failed ≡ true → ((f b).moved ≡ false) × ((f b).peer.schedule ≡ (f a).peer.schedule)) mid new
+      → Each (λ a b. (f b).failed ≡ false → size (f a).peer ≤ size (f b).peer) mid new → Each (λ a b. (f b).moved ≡ true → size (f a).peer < size (f b).peer) mid new
+      → RanFor 1 (map f old) (map f new)
+  one_ran n old mid new none before long turned still stays grown risen =
+      let same : map f old ≡ map f mid = subst (λ k. MadeFor k (map f old) (map f mid)) none before.made in
+      record {
+        made = made_more f 0 old mid new same (λ some. absurd (omega (arith, some))) (λ some. absurd (omega (arith, some))) (λ some. absurd (omega (arith, some))) long turned still stays;
+        grew = λ well some.
+            let whole = sym (any_told f (λ p. p.failed) new) ∙ well in
+            let rise = sums_rise (λ p. size (f p).peer) (λ p. not (f p).moved) mid new long
+            (λ k d below. grown k d below (none_at (λ p. (f p).failed) new k d (omega (arith, below, long)) whole)) (λ k d below e. risen k d below (not_false _ e)) (sym (all_told f (λ p. not p.moved) new) ∙ some) in
+            omega (arith, rise, ap (sum_by (λ p. size p.peer)) same, sum_told f (λ p. size p.peer) mid, sum_told f (λ p. size p.peer) new);
+      }
+
+  pub grew_told : (n : ℕ) (old new : List X) → RanFor n (map f old) (map f new) → list_any (λ p. (f p).failed) new ≡ false → list_all (λ p. not (f p).moved) new ≡ false
+      → sum_by (λ p. size (f p).peer) old + n ≤ sum_by (λ p. size (f p).peer) new
+  grew_told n old new ran well some =
+      let more = ran.grew (any_told f (λ p. p.failed) new ∙ well) (all_told f (λ p. not p.moved) new ∙ some) in
+      omega (arith, more, sum_told f (λ p. size p.peer) old, sum_told f (λ p. size p.peer) new)
 
 -- ---- what rounds keep
 
@@ -94,6 +150,34 @@ module _ {Home : Type 0} where
   pub made_stays : (n : ℕ) (old new : List (Between Home)) → MadeFor n old new → Each Stays old new
   made_stays = made_keeps Stays (λ a well. (well, (refl, refl))) stays_more
 
+  -- ---- turns
+
+  abbrev TurnedSo : ℕ → Between Home → Between Home → Type 0
+  TurnedSo n a b = b.failed ≡ false → (a.failed ≡ false) × TurnedFor n a.peer b.peer
+
+  made_turns : (n : ℕ) (old new : List (Between Home)) → MadeFor n old new → Each (TurnedSo n) old new
+  made_turns zero old new same k d below = subst (λ xs. TurnedSo zero (slice_index_or old k d) (slice_index_or xs k d)) same (λ well. (well, refl))
+  made_turns (suc n) old new (mid, before, goes, long, each) k d below = λ well.
+      let within : k < length mid = omega (arith, below, made_long n old mid before) in
+      let turn = (each k d within).turned well in
+      let first = made_turns n old mid before k d below turn.0 in
+      (first.0, turned_more n (slice_index_or old k d).peer (slice_index_or mid k d).peer (slice_index_or new k d).peer (slice_index_or new k d).moved first.1 turn.1)
+
+  all_turns : (n : ℕ) (old new : List (Between Home)) → (0 < n → list_any (λ p. p.failed) new ≡ false) → MadeFor n old new → Each (λ a b. (b.failed ≡ false → a.failed ≡ false) × TurnedFor n a.peer b.peer) old new
+  all_turns zero old new well same k d below =
+      subst (λ xs. ((slice_index_or xs k d).failed ≡ false → (slice_index_or old k d).failed ≡ false) × TurnedFor zero (slice_index_or old k d).peer (slice_index_or xs k d).peer) same (λ e. e, refl)
+  all_turns (suc n) old new well made k d below =
+      let turn = made_turns (suc n) old new made k d below (none_at (λ p. p.failed) new k d (omega (arith, below, made_long (suc n) old new made)) (well (omega arith))) in
+      (λ _. turn.0, turn.1)
+
+  made_still : (n : ℕ) (old new : List (Between Home)) → 0 < n → MadeFor n old new → Each (λ a b. b.failed ≡ false → b.moved ≡ false → IsStill a.peer b.peer) old new
+  made_still zero old new some same k d below = absurd (omega (arith, some))
+  made_still (suc n) old new some (mid, before, goes, long, each) k d below = λ well none.
+      let within : k < length mid = omega (arith, below, made_long n old mid before) in
+      let round = each k d within in
+      let first = made_turns n old mid before k d below (round.turned well).0 in
+      still_later n (slice_index_or old k d).peer (slice_index_or mid k d).peer (slice_index_or new k d).peer first.1 (round.still well none)
+
 -- ---- the same of the peers that are told
 
 module _ {X Home : Type 0} (f : X → Between Home) (n : ℕ) (old new : List X) (long : length new ≡ length old) (made : MadeFor n (map f old) (map f new)) where
@@ -102,3 +186,12 @@ module _ {X Home : Type 0} (f : X → Between Home) (n : ℕ) (old new : List X)
 
   pub ports_stay : Each (λ a b. (f b).failed ≡ false → AtOnePort (f a).peer (f b).peer) old new
   ports_stay = λ k d below well. (told_each f Stays old new long (made_stays n (map f old) (map f new) made) k d below well).1
+
+  pub turns_made : (0 < n → list_any (λ p. (f p).failed) new ≡ false) → Each (λ a b. ((f b).failed ≡ false → (f a).failed ≡ false) × TurnedFor n (f a).peer (f b).peer) old new
+  turns_made well = told_each f (λ a b. (b.failed ≡ false → a.failed ≡ false) × TurnedFor n a.peer b.peer) old new long (all_turns n (map f old) (map f new) (λ some. any_told f (λ p. p.failed) new ∙ well some) made)
+
+  pub still_made : 0 < n → list_any (λ p. (f p).failed) new ≡ false → list_all (λ p. not (f p).moved) new ≡ true → Each (λ a b. IsStill (f a).peer (f b).peer) old new
+  still_made some well none k d below =
+      let here : k < length new = omega (arith, below, long) in
+      told_each f (λ a b. b.failed ≡ false → b.moved ≡ false → IsStill a.peer b.peer) old new long (made_still n (map f old) (map f new) some made) k d below
+      (none_at (λ p. (f p).failed) new k d here well) (not_true _ (all_at (λ p. not (f p).moved) new k d here none))

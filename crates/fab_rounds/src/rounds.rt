@@ -10,11 +10,14 @@ ghost use Rattle.fab_threads.specs.Pasts.{past_of};
 ghost use Rattle.fab_threads.specs.Law.{schedules, actors, AreTogether};
 ghost use Rattle.fab_rounds.specs.Opened.{Begins, AreGathered};
 ghost use Rattle.fab_rounds.specs.Rounds.{Each, TurnedAs, TurnedFor, MadeFor, AtOnePort, between, size};
+ghost use Rattle.fab_rounds.specs.Staying.{RanFor};
 
 use crate::runner::Runner;
+use crate::staying::stay;
 use fab_base::{Gate, NoMemory};
 use fab_link::Port;
 use fab_quantum::calls::Machinery;
+use std::alloc::Global;
 use std::sync::Wait;
 use std::thread;
 use std::thread::Threads;
@@ -68,6 +71,30 @@ fn round<P: Port + Send, C: Machinery + Drop + Send, G: Gate, R: Threads + Wait 
     );
 }
 
+/// One round more or many, after so many, and how many. At first all peers try threads that stay for all rounds; where
+/// these made none, and ever after, a round starts and joins a thread for each peer.
+fn more_rounds<P: Port + Send, C: Machinery + Drop + Send, G: Gate, R: Threads + Wait + Sync>(
+    rt: &R,
+    alloc: Global,
+    peers: &mut [Runner<P, C>],
+    gate: &G,
+    made: u32,
+    limit: u32,
+) -> u32
+    requires few { length peers.old < 2 ^ 32 }
+    requires before { made < limit }
+    ensures count { length peers.new ≡ length peers.old }
+    ensures within { (0 < result) × (made + result ≤ limit) }
+    ensures ran { RanFor result (map (λ p. between (told (seen P.Port) p.peer) p.moved p.failed) peers.old) (map (λ p. between (told (seen P.Port) p.peer) p.moved p.failed) peers.new) }
+{
+    let stayed = stay(rt, alloc, peers, gate, made, limit);
+    if stayed > 0 {
+        return stayed;
+    }
+    round(rt, peers, gate, made + 1);
+    1
+}
+
 /// Whether memory ran out in a turn of any peer.
 fn any_failed<P: Port, C: Machinery>(peers: &[Runner<P, C>]) -> bool
     ensures { result ≡ list_any (λ p. p.failed) peers.now }
@@ -92,6 +119,9 @@ fn all_finished<P: Port, C: Machinery>(peers: &[Runner<P, C>]) -> bool
 /// Makes rounds until one moves nothing, all lines of all peers are done, or as many were made as asked for. In a round
 /// every peer takes one turn, each in a thread of its own.
 ///
+/// A thread stays for all rounds, and after each turn all peers meet. Where memory for the meeting place is lacking, or some
+/// peer got no thread in time, each round starts and joins a thread for each peer, as far as threads can be had.
+///
 /// It ends after the first round of which one of these is so. Where memory ran out in a turn, the round goes on for the
 /// other peers, and then the call ends; the schedule of each peer begins with the one before, and that of the peer that
 /// lacked memory is what it was before the round.
@@ -100,6 +130,7 @@ fn all_finished<P: Port, C: Machinery>(peers: &[Runner<P, C>]) -> bool
 /// are, and they can go on in one thread.
 pub fn run_rounds<P: Port + Send, C: Machinery + Drop + Send, G: Gate, R: Threads + Wait + Sync>(
     rt: &R,
+    alloc: Global,
     peers: &mut [Runner<P, C>],
     gate: &G,
     limit: u32,
@@ -125,8 +156,7 @@ pub fn run_rounds<P: Port + Send, C: Machinery + Drop + Send, G: Gate, R: Thread
 {
     let mut made = 0;
     'rounds: while made < limit {
-        made += 1;
-        round(rt, peers, gate, made);
+        made += more_rounds(rt, alloc, peers, gate, made, limit);
         if any_failed(peers) {
             return Err(NoMemory);
         }

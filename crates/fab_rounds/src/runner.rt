@@ -1,16 +1,21 @@
 //! A peer with what its last turn told.
-ghost use Rattle.std.specs.Prelude.{◌≡◌, ◌<◌, ◌≤◌, ℕ, [], true, false, IfOk, OnErr};
+ghost use Rattle.std.specs.Prelude.{◌≡◌, ◌<◌, ◌≤◌, ◌+◌, ◌^◌, ℕ, [], ◌∷◌, ◌++◌, true, false, length, Some, IfOk, OnErr};
 ghost use Rattle.fab_face.specs.Ports.{seen};
 ghost use Rattle.fab_model.specs.Peers.{is_finished};
 ghost use Rattle.fab_quantum.specs.Turns.{told, living_of, actor_of, IsCounted, IsStill};
-ghost use Rattle.fab_rounds.specs.Rounds.{TurnedAs, size};
+ghost use Rattle.fab_meeting.specs.Accounts.{answer_at};
+ghost use Rattle.fab_rounds.specs.Rounds.{TurnedAs, between, size};
+ghost use Rattle.fab_rounds.specs.Words.{told_by};
+ghost use Rattle.fab_rounds.specs.Staying.{account_in, IsSeated};
 
 use fab_base::NoMemory;
 use fab_ep::endpoint::Endpoint;
 use fab_face::calls::Sees;
 use fab_link::Port;
+use fab_meeting::{Meeting, MeetingSeat};
 use fab_quantum::calls::Machinery;
 use fab_quantum::peer::Peer;
+use std::sync::Wait;
 
 /// A peer with what its last turn told: whether it moved anything, or that memory ran out.
 #[derive(Drop)]
@@ -18,6 +23,8 @@ pub struct Runner<P: Port, C: Machinery> {
     pub(crate) peer: Peer<Endpoint<P, C>>,
     pub(crate) moved: bool,
     pub(crate) failed: bool,
+    /// While threads stay: its seat where all peers meet.
+    pub(crate) seat: Option<MeetingSeat>,
     ghost quiet: { failed ≡ false → peer.endpoint.log ≡ [] },
     ghost counted: { failed ≡ false → IsCounted (living_of (told (seen P.Port) peer)) },
     ghost kept: { failed ≡ true → moved ≡ false },
@@ -36,6 +43,7 @@ impl<P: Port, C: Machinery> Runner<P, C> {
             peer,
             moved: false,
             failed: false,
+            seat: None,
         }
     }
 
@@ -57,6 +65,7 @@ impl<P: Port, C: Machinery> Runner<P, C> {
             peer,
             moved: _moved,
             failed: _failed,
+            seat: _seat,
         } = self;
         peer
     }
@@ -93,6 +102,7 @@ impl<P: Port, C: Machinery> Runner<P, C> {
         ensures err { OnErr result ((self.new.moved ≡ false) × (self.new.failed ≡ true)) }
         ensures stays { self.new.failed ≡ true → (self.new.moved ≡ false) × ((told (seen P.Port) self.new.peer).schedule ≡ (told (seen P.Port) self.old.peer).schedule) }
         ensures failed { self.old.failed ≡ true → self.new ≡ self.old }
+        ensures seat { self.new.seat ≡ self.old.seat }
     {
         if self.failed {
             return Err(NoMemory);
@@ -109,6 +119,50 @@ impl<P: Port, C: Machinery> Runner<P, C> {
                 self.failed = true;
                 Err(error)
             }
+        }
+    }
+
+    /// Takes a seat where all peers meet.
+    pub(crate) fn sit(&mut self, seat: MeetingSeat)
+        ensures seat { self.new.seat ≡ Some seat }
+        ensures same { (self.new.peer ≡ self.old.peer) × (self.new.moved ≡ self.old.moved) × (self.new.failed ≡ self.old.failed) }
+    {
+        self.seat = Some(seat);
+    }
+
+    /// Gives its seat back.
+    pub(crate) fn stand(&mut self) -> Option<MeetingSeat>
+        ensures seat { result ≡ self.old.seat }
+        ensures same { (self.new.peer ≡ self.old.peer) × (self.new.moved ≡ self.old.moved) × (self.new.failed ≡ self.old.failed) }
+    {
+        self.seat.take()
+    }
+
+    /// What it tells the others of its last turn.
+    fn word(&self) -> u32
+        ensures { result ≡ told_by (between (told (seen P.Port) self.now.peer) self.now.moved self.now.failed) }
+    {
+        let moved = if self.moved { 1 } else { 0 };
+        let left = if self.peer.finished() { 0 } else { 2 };
+        let failed = if self.failed { 4 } else { 0 };
+        moved + left + failed
+    }
+
+    /// Tells the others of its last turn, waits until all have told of theirs, and answers what all told.
+    pub(crate) fn meet<R: Wait>(&mut self, rt: &R, meeting: &Meeting) -> u32
+        requires seated { IsSeated meeting.now self.old.seat }
+        requires few { length (account_in self.old.seat).said + 1 < 2 ^ 32 }
+        ensures seated { IsSeated meeting.now self.new.seat }
+        ensures place { (account_in self.new.seat).place ≡ (account_in self.old.seat).place }
+        ensures said { (account_in self.new.seat).said ≡ (account_in self.old.seat).said ++ told_by (between (told (seen P.Port) self.old.peer) self.old.moved self.old.failed) ∷ [] }
+        ensures answered { answer_at (account_in self.new.seat) (length (account_in self.old.seat).said) ≡ result }
+        ensures kept { (n : ℕ) → n < length (account_in self.old.seat).said → answer_at (account_in self.new.seat) n ≡ answer_at (account_in self.old.seat) n }
+        ensures same { (self.new.peer ≡ self.old.peer) × (self.new.moved ≡ self.old.moved) × (self.new.failed ≡ self.old.failed) }
+    {
+        let word = self.word();
+        match &mut self.seat {
+            Some(seat) => meeting.meet(rt, seat, word),
+            None => unreachable!(),
         }
     }
 }

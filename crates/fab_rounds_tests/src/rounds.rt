@@ -113,12 +113,13 @@ fn report<P: Port, C: Machinery>(
 /// Why no more rounds of these peers were made.
 fn stop_of<P: Port + Send, C: Machinery + Drop + Send, G: Gate, R: Threads + Wait + Sync>(
     rt: &R,
+    alloc: Global,
     runners: &mut [Runner<P, C>],
     gate: &G,
 ) -> Result<RoundStop, NoMemory>
     requires { length runners.old < 2 ^ 32 }
 {
-    Ok(run_rounds(rt, runners, gate, LIMIT)?.stop)
+    Ok(run_rounds(rt, alloc, runners, gate, LIMIT)?.stop)
 }
 
 /// Whether rounds of a script's peers over these machines and ports end as they should, and are reported so.
@@ -138,7 +139,7 @@ fn run<P: Port + Drop + Send, C: Machinery + Drop + Send, G: Gate, R: Threads + 
     requires begin { All (λ p. Begins bound.now.script.conf.peers (P.peer_count p) (P.outs p) (P.ins p)) ports.items }
 {
     let mut runners = open(alloc, bound, machines, ports)?;
-    let stop = stop_of(rt, runners.as_mut_slice(), gate)?;
+    let stop = stop_of(rt, alloc, runners.as_mut_slice(), gate)?;
     let report = report(alloc, runners.as_slice())?;
     Ok(stop == row.stop && report.as_str() == row.report)
 }

@@ -306,7 +306,7 @@ where
 /// the script of its rounds ([`fab_coll::plan`]) as `script FILE` runs a script, and writes of each rank what it makes of
 /// each round ([`fab_coll::outcome`]): of the same file it always writes the same text, and no run of it ends at `Stuck`.
 ///
-/// The peers of a script take their turns in rounds, each turn in a thread of its own over lock-free lanes, until a round
+/// The peers of a script take their turns in rounds, each peer in a thread of its own over lock-free lanes, until a round
 /// moves nothing or all lines are done, and then in one thread until none can go on. The gate is told when a turn in a
 /// thread begins and ends. Which of two peers' messages comes first may depend on the threads, so two runs of a script may
 /// write two reports. The line of a workload is the same but for the time: its script has one answer, and no run of it ends

@@ -4,14 +4,13 @@ use Rattle.std.specs.List.{list_all, list_any}
 use Rattle.fab_face.specs.Ports.{seen}
 use Rattle.fab_model.specs.Peers.{is_finished}
 use Rattle.fab_quantum.specs.Turns.{told, actor_of}
-use Rattle.fab_rounds.specs.Rounds.{Each, TurnedFor, MadeFor, between, size}
+use Rattle.fab_rounds.specs.Rounds.{MadeFor, between, size}
 use Rattle.fab_rounds.proofs.rounds.run_rounds.Given as goal
 
 abbrev pub invariant-rounds : goal.invariant-rounds
 invariant-rounds g l = record {
   count : length l.peers ≡ length l.fn.peers;
   within : l.made ≤ l.limit;
-  turned : Each (λ a b. (b.failed ≡ false → a.failed ≡ false) × TurnedFor l.made (told (seen g.P.Port) a.peer) (told (seen g.P.Port) b.peer)) l.fn.peers l.peers;
   rounds : MadeFor l.made (map (λ p. between (told (seen g.P.Port) p.peer) p.moved p.failed) l.fn.peers) (map (λ p. between (told (seen g.P.Port) p.peer) p.moved p.failed) l.peers);
   grew : sum_by (λ p. size (told (seen g.P.Port) p.peer)) l.fn.peers + l.made ≤ sum_by (λ p. size (told (seen g.P.Port) p.peer)) l.peers;
   moving : 0 < l.made → list_all (λ p. not p.moved) l.peers ≡ false;
