@@ -2,31 +2,45 @@
 use fab_base::Text;
 use fab_host::{FileDepot, OutSink, WallClock};
 use fab_outside::{Clock, Depot, Failed, LoadRefused, Sink, write_all};
+use std::alloc::Global;
 use std::cell::Cell;
 use std::io::{ErrorKind, Write};
+use std::rt::Files;
 use std::test::Fail;
 use std::time::Duration;
 use std::{fs, io, rt};
 
+/// Whether these bytes are loaded as the whole file, or as the first ones of a longer one.
+fn loads<R: Files>(depot: &mut FileDepot<R>, alloc: Global, name: &Text, whole: bool) -> bool {
+    let limit = if whole { 6 } else { 4 };
+    match depot.load(alloc, name, limit) {
+        Ok(bytes) => whole && bytes.as_slice() == b"123456".as_slice(),
+        Err(LoadRefused::TooLong(bytes)) => !whole && bytes.as_slice() == b"12345".as_slice(),
+        Err(_) => false,
+    }
+}
+
+/// Whether the load fails, and is told by its name.
+fn fails<R: Files>(depot: &mut FileDepot<R>, alloc: Global, name: &Text) -> bool {
+    let failed = matches!(depot.load(alloc, name, 6), Err(LoadRefused::Failed));
+    let told = match &depot.failed {
+        Some(file) => *file == *name,
+        None => false,
+    };
+    failed && told && depot.faults == 1
+}
+
 #[test]
 fn a_file_is_loaded_up_to_the_limit(rt: HostRuntime) -> Result<(), Fail> {
-    let alloc = rt.alloc();
     let path = "fabric_depot_test.bin";
-    fs::write(&rt, path, b"123456")?;
-    let name = Text::copy(alloc, path)?;
+    let name = Text::copy(rt.alloc(), path)?;
     let mut depot = FileDepot::new(&rt);
-    let whole = depot.load(alloc, &name, 6);
-    let cut = depot.load(alloc, &name, 4);
-    fs::remove_file(&rt, path)?;
-    assert!(rt; whole.is_ok_and(|bytes| bytes.as_slice() == b"123456".as_slice()));
-    let Err(LoadRefused::TooLong(bytes)) = cut else {
-        return Err("not cut")?;
-    };
-    assert_eq!(rt; bytes.as_slice(), b"12345".as_slice());
+    fs::write(&rt, path, b"123456")?;
+    assert!(rt; loads(&mut depot, rt.alloc(), &name, true));
+    assert!(rt; loads(&mut depot, rt.alloc(), &name, false));
     assert_eq!(rt; depot.faults, 0);
-    assert!(rt; depot.load(alloc, &name, 6) == Err(LoadRefused::Failed));
-    assert_eq!(rt; depot.faults, 1);
-    assert!(rt; depot.failed == Some(name));
+    fs::remove_file(&rt, path)?;
+    assert!(rt; fails(&mut depot, rt.alloc(), &name));
     Ok(())
 }
 

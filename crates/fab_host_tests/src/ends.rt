@@ -37,99 +37,166 @@ const ROUNDS: &str = "coll 1\n\
     peers 1\n\
     barrier\n";
 
-fn sink_of(alloc: Global, failing: &[u64]) -> Result<MemorySink, Fail> {
-    let failing = Vec::from_slice(alloc, failing)?;
-    Ok(MemorySink::new(alloc, 1000, failing))
+const USAGE: &str =
+    "usage: fabric_pingpong script FILE | pingpong FILE SIZE COUNT | bandwidth FILE SIZE COUNT WINDOW | gen NUMBER PEERS MESSAGES | info CAPS | replay FILE TRACE | window NUMBER PEERS WORDS ADDS | coll FILE\n";
+
+/// A command over a file named `it`, its text, the load and the write that fail, where 0 is none, the exit status and the line.
+type Row = (
+    &'static [&'static str],
+    &'static str,
+    u64,
+    u64,
+    u8,
+    &'static str,
+);
+
+const SCRIPT: &[&str] = &["script", "it"];
+
+const ROWS: [Row; 10] = [
+    (SCRIPT, DONE, 0, 0, 0, ""),
+    (SCRIPT, STUCK, 0, 0, 1, ""),
+    (&["script"], DONE, 0, 0, 2, USAGE),
+    (&["replay", "it", "it"], DONE, 0, 0, 0, ""),
+    (&["window", "0", "2", "1", "1"], DONE, 0, 0, 0, ""),
+    (&["coll", "it"], ROUNDS, 0, 0, 0, ""),
+    (SCRIPT, NO_VERB, 0, 0, 3, "script refused at line 4: Verb\n"),
+    (
+        SCRIPT,
+        TOO_MANY,
+        0,
+        0,
+        3,
+        "script refused at line 11: Limit\n",
+    ),
+    (SCRIPT, DONE, 1, 0, 5, "read fault: it\n"),
+    (SCRIPT, DONE, 0, 1, 6, "write fault\n"),
+];
+
+/// An output whose call of this number fails.
+fn sink_of(alloc: Global, failing: u64) -> Option<MemorySink> {
+    let failing = Vec::from_slice(alloc, &[failing]).ok()?;
+    Some(MemorySink::new(alloc, 1000, failing))
 }
 
-/// A depot with one file, named `it`, in which the loads of these numbers fail.
-fn depot_of(alloc: Global, script: &str, failing: &[u64]) -> Result<MemoryDepot, Fail> {
+/// A depot with one file, named `it`, in which the load of this number fails.
+fn depot_of(alloc: Global, script: &str, failing: u64) -> Option<MemoryDepot> {
+    let failing = Vec::from_slice(alloc, &[failing]).ok()?;
     let mut files = Vec::new(alloc);
-    let name = Text::copy(alloc, "it")?;
-    files.push((name, Buf::copy(alloc, script.as_bytes())?))?;
-    Ok(MemoryDepot::new(files, Vec::from_slice(alloc, failing)?))
+    let name = Text::copy(alloc, "it").ok()?;
+    let bytes = Buf::copy(alloc, script.as_bytes()).ok()?;
+    files.push((name, bytes)).ok()?;
+    Some(MemoryDepot::new(files, failing))
 }
 
-/// How the command of these words ends, and what it tells.
-fn ends<R: Threads + Wait + Sync>(
+/// The words of a command.
+fn texts_of(alloc: Global, words: &[&str]) -> Option<Vec<Text>> {
+    let mut texts = Vec::new(alloc);
+    for word in words {
+        let text = Text::copy(alloc, word).ok()?;
+        texts.push(text).ok()?;
+    }
+    Some(texts)
+}
+
+/// The exit status of the command of these words. (The call whose clauses are many stands alone.)
+fn code_of<R: Threads + Wait + Sync>(
     rt: &R,
     alloc: Global,
-    words: &[&str],
+    words: &[Text],
     depot: &mut MemoryDepot,
     sink: &mut MemorySink,
     errors: &mut MemorySink,
-) -> Result<Ended, Fail> {
-    let mut texts = Vec::new(alloc);
-    for word in words {
-        texts.push(Text::copy(alloc, word)?)?;
-    }
+) -> ExitCode {
     let mut clock = MemoryClock::new(Vec::new(alloc));
-    Ok(carry_out(
-        rt, alloc, &texts, depot, sink, &mut clock, &OpenGate, errors,
-    ))
+    let Ended { code, .. } = carry_out(
+        rt, alloc, words, depot, sink, &mut clock, &OpenGate, errors,
+    );
+    code
+}
+
+/// Whether the row's command ends so over this depot and this output.
+fn ends_over<R: Threads + Wait + Sync>(
+    rt: &R,
+    alloc: Global,
+    row: Row,
+    depot: &mut MemoryDepot,
+    sink: &mut MemorySink,
+) -> bool {
+    let (words, _, _, _, code, line) = row;
+    let mut errors = MemorySink::new(alloc, 1000, Vec::new(alloc));
+    match texts_of(alloc, words) {
+        Some(words) => {
+            code_of(rt, alloc, &words, depot, sink, &mut errors) == ExitCode::from(code)
+                && errors.bytes.as_slice() == line.as_bytes()
+        }
+        None => false,
+    }
+}
+
+/// The same over this depot.
+fn ends_with<R: Threads + Wait + Sync>(
+    rt: &R,
+    alloc: Global,
+    row: Row,
+    mut depot: MemoryDepot,
+) -> bool {
+    match sink_of(alloc, row.3) {
+        Some(mut sink) => ends_over(rt, alloc, row, &mut depot, &mut sink),
+        None => false,
+    }
+}
+
+/// Whether the row's command ends so.
+fn ends<R: Threads + Wait + Sync>(rt: &R, alloc: Global, row: Row) -> bool {
+    match depot_of(alloc, row.1, row.2) {
+        Some(depot) => ends_with(rt, alloc, row, depot),
+        None => false,
+    }
 }
 
 #[test]
 fn each_end_has_its_status_and_its_line(rt: HostRuntime) -> Result<(), Fail> {
-    let it: &[&str] = &["script", "it"];
-    let none: &[u64] = &[];
-    let first: &[u64] = &[1];
-    let usage =
-        "usage: fabric_pingpong script FILE | pingpong FILE SIZE COUNT | bandwidth FILE SIZE COUNT WINDOW | gen NUMBER PEERS MESSAGES | info CAPS | replay FILE TRACE | window NUMBER PEERS WORDS ADDS | coll FILE\n";
-    let rows = [
-        (it, DONE, none, none, 0, ""),
-        (it, STUCK, none, none, 1, ""),
-        (&["script"], DONE, none, none, 2, usage),
-        (&["replay", "it", "it"], DONE, none, none, 0, ""),
-        (&["window", "0", "2", "1", "1"], DONE, none, none, 0, ""),
-        (&["coll", "it"], ROUNDS, none, none, 0, ""),
-        (
-            it,
-            NO_VERB,
-            none,
-            none,
-            3,
-            "script refused at line 4: Verb\n",
-        ),
-        (
-            it,
-            TOO_MANY,
-            none,
-            none,
-            3,
-            "script refused at line 11: Limit\n",
-        ),
-        (it, DONE, first, none, 5, "read fault: it\n"),
-        (it, DONE, none, first, 6, "write fault\n"),
-    ];
-    for (words, script, loads, writes, code, line) in rows {
-        let alloc = rt.alloc();
-        let mut depot = depot_of(alloc, script, loads)?;
-        let mut sink = sink_of(alloc, writes)?;
-        let mut errors = sink_of(alloc, &[])?;
-        let ended = ends(&rt, alloc, words, &mut depot, &mut sink, &mut errors)?;
-        assert!(rt; ended.code == ExitCode::from(code));
-        assert_eq!(rt; errors.bytes.as_slice(), line.as_bytes());
+    for row in ROWS {
+        assert!(rt; ends(&rt, rt.alloc(), row), "{}", row.1);
     }
     Ok(())
 }
 
+/// Whether this end has this exit status and this line.
+fn tells(alloc: Global, status: Status, code: u8, line: &str) -> bool {
+    let mut errors = MemorySink::new(alloc, 1000, Vec::new(alloc));
+    end(&mut errors, &status) == ExitCode::from(code) && errors.bytes.as_slice() == line.as_bytes()
+}
+
+/// The same of a file that is too long.
+fn tells_too_long(alloc: Global, name: &str, line: &str) -> bool {
+    match Text::copy(alloc, name) {
+        Ok(name) => tells(alloc, Status::TooLong { name }, 4, line),
+        Err(_) => false,
+    }
+}
+
 #[test]
 fn a_file_that_is_too_long_and_want_of_memory_are_told(rt: HostRuntime) -> Result<(), Fail> {
-    let name = Text::copy(rt.alloc(), "a b")?;
-    let mut errors = sink_of(rt.alloc(), &[])?;
-    assert!(rt; end(&mut errors, &Status::TooLong { name }) == ExitCode::from(4));
-    assert!(rt; end(&mut errors, &Status::NoMemory) == ExitCode::from(7));
-    let lines = b"too long: a b\nout of memory\n";
-    assert_eq!(rt; errors.bytes.as_slice(), lines.as_slice());
+    assert!(rt; tells_too_long(rt.alloc(), "a b", "too long: a b\n"));
+    assert!(rt; tells(rt.alloc(), Status::NoMemory, 7, "out of memory\n"));
     Ok(())
+}
+
+/// Whether a line that can't be written leaves the exit status.
+fn leaves_status(alloc: Global) -> bool {
+    match sink_of(alloc, 1) {
+        Some(mut errors) => {
+            end(&mut errors, &Status::Usage) == ExitCode::from(2)
+                && errors.bytes.is_empty()
+                && errors.faults == 1
+        }
+        None => false,
+    }
 }
 
 #[test]
 fn a_line_that_can_not_be_written_leaves_the_status(rt: HostRuntime) -> Result<(), Fail> {
-    let mut errors = sink_of(rt.alloc(), &[1])?;
-    assert!(rt; end(&mut errors, &Status::Usage) == ExitCode::from(2));
-    assert!(rt; errors.bytes.is_empty());
-    assert_eq!(rt; errors.faults, 1);
+    assert!(rt; leaves_status(rt.alloc()));
     Ok(())
 }

@@ -1,42 +1,18 @@
-//! Tests of `fab_top`: whole runs over memory, what is granted, the text of reports, what is said of them, windows,
-//! rounds of collectives, and the outside over memory.
+//! Tests of `fab_top`: what commands over memory write and how they end, where loads and writes fail, and where a gate orders
+//! the turns of their peers. Scripts that need none of this are rows of `run_examples`.
 //!
 //! They stand in a crate of their own, so that `fab_top` isn't proved twice.
 #![tactic(auto)]
 
 #[cfg(test)]
-mod faults;
-#[cfg(test)]
-mod fences;
-#[cfg(test)]
-mod full;
+mod ends;
 #[cfg(test)]
 mod gates;
 #[cfg(test)]
-mod info;
+mod lines;
 #[cfg(test)]
-mod looks;
+mod over;
 #[cfg(test)]
-mod memory;
-#[cfg(test)]
-mod messages;
-#[cfg(test)]
-mod multis;
-#[cfg(test)]
-mod onesided;
-#[cfg(test)]
-mod payloads;
-#[cfg(test)]
-mod replays;
-#[cfg(test)]
-mod reports;
-#[cfg(test)]
-mod rounds;
-#[cfg(test)]
-mod runs;
+mod texts;
 #[cfg(test)]
 mod threads;
-#[cfg(test)]
-mod windows;
-#[cfg(test)]
-mod workloads;

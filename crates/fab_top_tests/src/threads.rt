@@ -1,11 +1,11 @@
-//! Runs whose turns a gate orders: that they are made in threads, and that the report is of them.
+//! Runs whose turns a gate orders: that they are made in threads, and that the report is of them; and other commands whose turns
+//! wait for each other.
 //!
 //! A body that makes the turns one after another waits in vain at these gates, and one that reports another run than
 //! that of the threads writes the same report in both orders.
 use crate::gates::{InOrder, Meeting};
-use crate::runs::{Row, runs_to};
+use crate::over::{COLL, Row, SCRIPT, Words, holds};
 use std::alloc::Global;
-use std::process::Abort;
 use std::sync::Wait;
 use std::sync::atomic::Ordering;
 use std::test::Fail;
@@ -147,40 +147,167 @@ const HALF_IN_LANE_REPORT: &str = "fabric 1 peers 2\n\
     trace D S0 R\n\
     end done\n";
 
+/// Ranks 1 and 2 wait for rank 0, and it for one of them.
+const EACH_KIND: &str = "coll 1\n\
+    peers 3\n\
+    allreduce FI_SUM u8 200 100 7\n\
+    broadcast 2 text:ab\n\
+    allgather hex:01 hex:02 hex:03\n\
+    barrier\n";
+
+const EACH_KIND_TEXT: &str = "coll 1 peers 3\n\
+    peer 0\n\
+    3 allreduce 33\n\
+    4 broadcast 6162\n\
+    5 allgather 010203\n\
+    6 barrier -\n\
+    peer 1\n\
+    3 allreduce 33\n\
+    4 broadcast 6162\n\
+    5 allgather 010203\n\
+    6 barrier -\n\
+    peer 2\n\
+    3 allreduce 33\n\
+    4 broadcast 6162\n\
+    5 allgather 010203\n\
+    6 barrier -\n\
+    end done\n";
+
+/// The peers add 5125 and 27735.
+const TWO_PEERS: &str = "window words 1 peers 2 adds 1\n\
+    word 0 32860\n";
+
+/// The second peer draws from 0. The sums are those of a script in Python.
+const MANY_ADDS: &str = "window words 4 peers 2 adds 20000\n\
+    word 0 327862525\n\
+    word 1 321076722\n\
+    word 2 327110300\n\
+    word 3 330963326\n";
+
+/// A command and its script, how many files are loaded, what the clock tells, what is written, and in which round so many turns
+/// see others begin.
+#[derive(Drop)]
+struct Met {
+    words: Words,
+    script: &'static str,
+    loads: u64,
+    moments: &'static [u64],
+    text: &'static str,
+    round: u32,
+    seen: u32,
+}
+
+const MET: [Met; 7] = [
+    Met {
+        words: SCRIPT,
+        script: NO_LINES,
+        loads: 1,
+        moments: &[],
+        text: NO_LINES_REPORT,
+        round: 1,
+        seen: 2,
+    },
+    Met {
+        words: COLL,
+        script: EACH_KIND,
+        loads: 1,
+        moments: &[],
+        text: EACH_KIND_TEXT,
+        round: 1,
+        seen: 3,
+    },
+    Met {
+        words: &["window", "0", "2", "1", "1"],
+        script: "",
+        loads: 0,
+        moments: &[],
+        text: TWO_PEERS,
+        round: 0,
+        seen: 2,
+    },
+    Met {
+        words: &["window", "18446744073709551615", "2", "4", "20000"],
+        script: "",
+        loads: 0,
+        moments: &[],
+        text: MANY_ADDS,
+        round: 0,
+        seen: 2,
+    },
+    Met {
+        words: &["pingpong", "f", "4096", "3"],
+        script: "",
+        loads: 1,
+        moments: &[100, 140],
+        text: "pingpong size 4096 count 3 sent 6 bytes 24576 micros 40\n",
+        round: 1,
+        seen: 2,
+    },
+    Met {
+        words: &["bandwidth", "f", "10", "5", "2"],
+        script: "",
+        loads: 1,
+        moments: &[7, 7],
+        text: "bandwidth size 10 count 5 window 2 acks 3 bytes 50 micros 0\n",
+        round: 1,
+        seen: 2,
+    },
+    Met {
+        words: &["gen", "0", "2", "1"],
+        script: "",
+        loads: 0,
+        moments: &[9, 5],
+        text: "gen number 0 peers 2 messages 1 bytes 5125 sum 654045\n",
+        round: 1,
+        seen: 2,
+    },
+];
+
+/// Whether a command writes its text where its turns wait for each other, and so many of them saw others begin.
+fn meets<R: Threads + Wait + Sync>(rt: &R, alloc: Global, met: &Met) -> bool {
+    let gate = Meeting::new(met.round);
+    let mut row = Row::writes(met.words, met.script, met.loads, met.text);
+    row.moments = met.moments;
+    holds(rt, alloc, &row, &gate) && gate.seen.load(Ordering::SeqCst) == met.seen
+}
+
 #[test]
-fn turns_of_a_round_run_side_by_side(rt: HostRuntime) -> Result<(), Fail> {
-    let gate = Meeting::new(1);
-    runs_to(&rt, rt.alloc(), (NO_LINES, NO_LINES_REPORT, true), &gate)?;
-    assert_eq!(rt; gate.seen.load(Ordering::SeqCst), 2);
+fn turns_run_side_by_side(rt: HostRuntime) -> Result<(), Fail> {
+    for met in &MET {
+        assert!(rt; meets(&rt, rt.alloc(), met), "{}", met.text);
+    }
     Ok(())
 }
 
-/// A script runs to its report where the turns of the first rounds go in this order.
-fn runs_in_order<R: Abort + Threads + Wait + Sync>(
+/// The order of the peers in the first rounds, how many these are, a script and its report.
+const ORDERED: [(&[u32], u32, &str, &str); 5] = [
+    (&[2, 0, 1], 1, RACE, SECOND_FIRST),
+    (&[1, 0, 2], 1, RACE, FIRST_FIRST),
+    (&[0, 1], 1, BOTH, BOTH_REPORT),
+    (&[0, 1], 9, LEAST, LEAST_REPORT),
+    (&[0, 1], 1, HALF_IN_LANE, HALF_IN_LANE_REPORT),
+];
+
+/// Whether a script runs to its report where the turns of the first rounds go in this order.
+fn runs_in_order<R: Threads + Wait + Sync>(
     rt: &R,
     alloc: Global,
     order: &'static [u32],
     rounds: u32,
-    row: Row,
-) -> Result<(), Fail> {
+    row: &Row,
+) -> bool {
     let gate = InOrder::new(order, rounds);
-    runs_to(rt, alloc, row, &gate)?;
-    assert!(rt; !gate.late.load(Ordering::SeqCst));
+    holds(rt, alloc, row, &gate) && !gate.late.load(Ordering::SeqCst)
+}
+
+#[test]
+fn reports_follow_the_turns(rt: HostRuntime) -> Result<(), Fail> {
+    for (order, rounds, script, report) in ORDERED {
+        let row = Row::writes(SCRIPT, script, 1, report);
+        assert!(rt;
+            runs_in_order(&rt, rt.alloc(), order, rounds, &row),
+            "{report}"
+        );
+    }
     Ok(())
-}
-
-#[test]
-fn the_report_follows_the_turns(rt: HostRuntime) -> Result<(), Fail> {
-    let alloc = rt.alloc();
-    runs_in_order(&rt, alloc, &[2, 0, 1], 1, (RACE, SECOND_FIRST, true))?;
-    runs_in_order(&rt, alloc, &[1, 0, 2], 1, (RACE, FIRST_FIRST, true))
-}
-
-#[test]
-fn ordered_turns_run_to_their_reports(rt: HostRuntime) -> Result<(), Fail> {
-    let alloc = rt.alloc();
-    runs_in_order(&rt, alloc, &[0, 1], 1, (BOTH, BOTH_REPORT, true))?;
-    runs_in_order(&rt, alloc, &[0, 1], 9, (LEAST, LEAST_REPORT, true))?;
-    let row = (HALF_IN_LANE, HALF_IN_LANE_REPORT, true);
-    runs_in_order(&rt, alloc, &[0, 1], 1, row)
 }
