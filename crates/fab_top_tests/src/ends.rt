@@ -1,9 +1,9 @@
 //! How commands end that are none, that are refused, or whose files and output fail.
-use crate::gates::OpenGate;
 use crate::over::{
     COLL, End, HELLO, HELLO_REPORT, REPLAY, Row, SCRIPT, Words, depot_of, holds, holds_over,
 };
 use fab_base::{Buf, Text, Why};
+use fab_gates::OpenGate;
 use fab_outside::MemoryDepot;
 use std::alloc::Global;
 use std::sync::Wait;

@@ -7,8 +7,6 @@
 #[cfg(test)]
 mod ends;
 #[cfg(test)]
-mod gates;
-#[cfg(test)]
 mod lines;
 #[cfg(test)]
 mod over;

@@ -1,7 +1,7 @@
 //! Runs whose reports have these lines in every order of turns.
-use crate::gates::OpenGate;
 use crate::over::{SCRIPT, came, depot_of, sink_of};
 use fab_base::Status;
+use fab_gates::OpenGate;
 use fab_outside::{MemoryDepot, MemorySink};
 use std::alloc::Global;
 use std::sync::Wait;

@@ -1,6 +1,6 @@
 //! What `replay` says of texts, and the lines of `gen`.
-use crate::gates::OpenGate;
 use crate::over::{HELLO, HELLO_REPORT, REPLAY, Row, Words, holds};
+use fab_gates::OpenGate;
 use std::test::Fail;
 
 const NOTHING_DONE: &str = "fabric 1 peers 2\n\

@@ -3,8 +3,8 @@
 //!
 //! A body that makes the turns one after another waits in vain at these gates, and one that reports another run than
 //! that of the threads writes the same report in both orders.
-use crate::gates::{InOrder, Meeting};
 use crate::over::{COLL, Row, SCRIPT, Words, holds};
+use fab_gates::{InOrder, Meeting};
 use std::alloc::Global;
 use std::sync::Wait;
 use std::sync::atomic::Ordering;
