@@ -77,8 +77,9 @@ fn reports_are_told_from_other_texts(rt: HostRuntime) -> Result<(), Fail> {
     Ok(())
 }
 
-/// The words of `gen`, and its line. (Other lines are tried where turns run side by side.)
-const LINES: [(Words, &str); 2] = [
+/// The words of `gen`, and its line, which `examples/generated.py` works out too; a large one twice. (Other lines are tried
+/// where turns run side by side.)
+const LINES: [(Words, &str); 4] = [
     (
         &["gen", "5", "4", "0"],
         "gen number 5 peers 4 messages 0 bytes 0 sum 0\n",
@@ -86,6 +87,14 @@ const LINES: [(Words, &str); 2] = [
     (
         &["gen", "1", "1", "1"],
         "gen number 1 peers 1 messages 1 bytes 11351 sum 1445730\n",
+    ),
+    (
+        &["gen", "7", "8", "4096"],
+        "gen number 7 peers 8 messages 4096 bytes 33222814 sum 4236019184\n",
+    ),
+    (
+        &["gen", "7", "8", "4096"],
+        "gen number 7 peers 8 messages 4096 bytes 33222814 sum 4236019184\n",
     ),
 ];
 
