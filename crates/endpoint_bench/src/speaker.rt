@@ -190,7 +190,7 @@ impl<E: Calls + Drop> Speaker<E> {
     /// A buffer that was sent before, with the bytes of the next message, which hang on what came: so nothing is left out of the program.
     fn ready(&self, buf: Buf) -> Buf {
         if self.is_touched {
-            return written(buf, self.sum as u8);
+            return written(buf, (self.sum % 256) as u8);
         }
         buf
     }
