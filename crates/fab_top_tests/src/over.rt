@@ -142,22 +142,26 @@ impl Row {
     }
 }
 
+/// The files that scripts name.
+const NAMED: [(&str, &str); 3] = [("a", "abcde"), ("b", "wxyz!"), ("f", "0123456789abcdef")];
+
+/// Adds a file, if there is memory for it.
+fn add_file(alloc: Global, files: &mut Vec<(Text, Buf)>, name: &str, bytes: &str) -> bool {
+    match (Text::copy(alloc, name), Buf::copy(alloc, bytes.as_bytes())) {
+        (Ok(name), Ok(bytes)) => files.push((name, bytes)).is_ok(),
+        _ => false,
+    }
+}
+
 /// The files `it` and `trace`, and those that they name.
 fn files_of(alloc: Global, script: &str, trace: &str) -> Option<Vec<(Text, Buf)>> {
     let mut files = Vec::new(alloc);
-    let each = [
-        ("it", script),
-        ("trace", trace),
-        ("a", "abcde"),
-        ("b", "wxyz!"),
-        ("f", "0123456789abcdef"),
-    ];
-    for (name, bytes) in each {
-        let name = Text::copy(alloc, name).ok()?;
-        let bytes = Buf::copy(alloc, bytes.as_bytes()).ok()?;
-        files.push((name, bytes)).ok()?;
+    let mut all = add_file(alloc, &mut files, "it", script);
+    all = add_file(alloc, &mut files, "trace", trace) && all;
+    for (name, bytes) in NAMED {
+        all = add_file(alloc, &mut files, name, bytes) && all;
     }
-    Some(files)
+    if all { Some(files) } else { None }
 }
 
 /// A depot of these files, in which the load of this number fails.
