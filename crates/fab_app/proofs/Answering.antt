@@ -6,11 +6,6 @@ ok_by (Ok v) (Ok w) is f p = f p
 ok_by (Ok v) (Err e) is f p = absurd (cc)
 ok_by (Err e) r is f p = search rules
 
-pub err_by : {T E : Type 0} {P N Q : E → Type 0} (answer r : Result T E) → answer ≡ r → ((e : E) → P e → N e → Q e) → IfErr r P → IfErr answer N → IfErr answer Q
-err_by (Ok v) r is f p n = search rules
-err_by (Err e) (Ok w) is f p n = absurd (cc)
-err_by {P = P} (Err e) (Err d) is f p n = f e (subst P (cc) p) n
-
 pub err_map : {T E : Type 0} {P Q : E → Type 0} (answer r : Result T E) → answer ≡ r → ((e : E) → P e → Q e) → IfErr r P → IfErr answer Q
 err_map (Ok v) r is f p = search rules
 err_map (Err e) (Ok w) is f p = absurd (cc)

@@ -26,9 +26,6 @@ peer_below peers b p i k table e =
     let within = in_list p k i (table.found i k e) in
     omega (arith, table.all)
 
-pub index_below : (peers : ℕ) (b p : List (Option ℕ)) (k i : ℕ) → IsTable peers b p → lookup p k ≡ Some i → i < length b
-index_below peers b p k i table e = in_list b i k (table.stands k i e)
-
 -- ---- where a peer stands
 
 is_peer_true : (k : ℕ) (o : Option ℕ) → is_peer k o ≡ true → o ≡ Some k

@@ -127,9 +127,6 @@ module _ {X : Type 0} (old : Shelf X) (k : IsKept old) (place : ℕ) (vacant : g
   can_join c key filed h below =
       (filter (held old.cards (λ card. key card == h)) (places old), filed h below, Each-filter (λ y. y ≢ place) (held old.cards (λ card. key card == h)) (places old) lacks)
 
-  pub can_join_all : (ys : List ℕ) × IsChain old.all 0 ys × Lacks place ys
-  can_join_all = (places old, k.all, lacks)
-
   module _ (new : Shelf X) (card : Card X) (a : Adds old new place card) where
     abbrev ys : List ℕ
     ys = places old ++ place ∷ []

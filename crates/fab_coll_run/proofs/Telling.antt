@@ -50,9 +50,6 @@ pub told_so : (round : Round) (r : ℕ) (part : List LineResult) (was now : List
 told_so round r part was now received cut folds writes =
     writes ∙ ap (λ bytes. was ++ line_of (decimal round.line ∷ verb_word round.coll ∷ hex_or_dash bytes ∷ [])) (ap (outcome_of round.coll r (share_of round r)) cut ∙ folds)
 
-pub rounds_end : (rounds : List Round) (k : ℕ) (now whole : List ℕ) → drop k rounds ≡ [] → now ++ text_of (map round_words (drop k rounds)) ≡ whole → now ≡ whole
-rounds_end rounds k now whole none wrote = sym (append-nil now) ∙ ap (λ rs. now ++ text_of (map round_words rs)) (sym none) ∙ wrote
-
 -- one result more is looked at
 pub taken_more : (results : List LineResult) (k : ℕ) (x : LineResult) (was now whole : List (List ℕ)) → k < length results → x ≡ get_or results k x → was ++ filter_map bytes_taken (drop k results) ≡ whole
     → now ≡ was ++ filter_map bytes_taken (x ∷ []) → now ++ filter_map bytes_taken (drop (k + 1) results) ≡ whole

@@ -12,8 +12,8 @@ use fab_base::NoMemory;
 use fab_coll::CollScript;
 use fab_ep::endpoint::Endpoint;
 use fab_link::PlainPort;
-use fab_quantum::calls::Machinery;
-use fab_quantum::peer::Peer;
+use fab_peer::calls::Machinery;
+use fab_peer::peer::Peer;
 use std::alloc::Global;
 
 /// A peer over a plain port, whatever its machine.

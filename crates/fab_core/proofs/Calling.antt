@@ -86,10 +86,6 @@ module _ (s : State) (m : Message) (bytes : List ℕ) where
   if_transmit_some None is = tt
   if_transmit_some (Some why) is = transmit_refused s (order_of m bytes) why (sym is)
 
-  pub if_transmit_lasting : (r : Option Fault) → r ≡ lasting_transmit s (order_of m bytes) → IfSome r (λ why. is_final (Refused why) ≡ true)
-  if_transmit_lasting None is = tt
-  if_transmit_lasting (Some why) is = transmit_final s (order_of m bytes) why (sym is)
-
   pub if_transmit_none : (r : Option Fault) → r ≡ lasting_transmit s (order_of m bytes) → IfNone r (is_final (do_call s (sending m bytes)).0 ≡ false)
   if_transmit_none None is = transmit_passing s (order_of m bytes) (sym is)
   if_transmit_none (Some why) is = tt
@@ -212,10 +208,6 @@ module _ (s : State) (a : Ask) (buf : List ℕ) where
   pub if_post_some : (r : Option Fault) → r ≡ lasting_post s (posting_of a buf) → IfSome r (λ why. do_call s (asking a buf) ≡ (Refused why, s))
   if_post_some None is = tt
   if_post_some (Some why) is = post_refused s (posting_of a buf) why (sym is)
-
-  pub if_post_lasting : (r : Option Fault) → r ≡ lasting_post s (posting_of a buf) → IfSome r (λ why. is_final (Refused why) ≡ true)
-  if_post_lasting None is = tt
-  if_post_lasting (Some why) is = post_final s (posting_of a buf) why (sym is)
 
   pub if_post_none : (r : Option Fault) → r ≡ lasting_post s (posting_of a buf) → IfNone r (is_final (do_call s (asking a buf)).0 ≡ false)
   if_post_none None is = post_passing s (posting_of a buf) (sym is)

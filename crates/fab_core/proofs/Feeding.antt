@@ -38,11 +38,6 @@ use Rattle.fab_ends.specs.Served.{writes_data}
 
 -- ---- a first frame, or another one
 
--- memory may be lacking at a first frame alone, which waits for no draw
-pub may_need : {A B : Type 0} (h : Held) (f : Frame) (r : Result A B) → OnErr r (f.head.from ≡ 0) → (is_first f ≡ true → draw_due h.state.rx ≡ false) → OnErr r (MayNeed h f)
-may_need h f (Ok x) first waits = tt
-may_need h f (Err why) first waits = let is = eq-eqb f.head.from 0 first in (is, waits is)
-
 first_from : (n : ℕ) → (n == 0) ≡ true → n ≡ 0
 first_from n e = eqb-true n 0 e
 
@@ -127,15 +122,6 @@ no_request ReadReq r m = absurd (cc)
 no_request AtomicReq r m = absurd (cc)
 no_request Reply r m = absurd (cc)
 
--- and where another one comes
-pub later_writes_message : (c : Option Coming) (item : Item) (source : ℕ) (tx : Transmitting) (regions : List Region) → IsFitting c (Some item) → is_message item.head.kind ≡ true → writes_at_tail c source item.head tx regions ≡ not (entries_due c == 0)
-later_writes_message None item source tx regions fits message = absurd fits
-later_writes_message (Some (Into r place)) item source tx regions fits message = refl
-later_writes_message (Some Keep) item source tx regions fits message = refl
-later_writes_message (Some Throw) item source tx regions fits message = refl
-later_writes_message (Some Request) item source tx regions fits message = absurd (no_request item.head.kind fits message)
-later_writes_message (Some Answer) item source tx regions fits message = absurd (let k : is_message item.head.kind ≡ false = ap is_message fits in cc)
-
 pub later_writes_reply : (c : Option Coming) (item : Item) (source : ℕ) (tx : Transmitting) (regions : List Region) → IsFitting c (Some item) → item.head.kind ≡ Reply → writes_at_tail c source item.head tx regions ≡ answer_writes source item.head tx
 later_writes_reply None item source tx regions fits reply = absurd fits
 later_writes_reply (Some (Into r place)) item source tx regions fits reply = absurd (let k : is_message item.head.kind ≡ false = ap is_message reply in let f : is_message item.head.kind ≡ true = fits in cc)
@@ -215,11 +201,6 @@ module _ (p : Parts) (ok : IsTogether p) (rx : IsArriving p.rx) (source : ℕ) (
 
   pub writes_first : is_request h.item.kind ≡ false → is_reply h.item.kind ≡ false → (h.from == 0) ≡ true → is_some (taker source h.item p.rx.rx) ≡ writes
   writes_first request reply first = rw first (sym (first_writes_message p.rx rx source h.item within p.tx.tx p.target.regions (a_message h.item.kind request reply)))
-
-  pub writes_later : is_request h.item.kind ≡ false → is_reply h.item.kind ≡ false → (h.from == 0) ≡ false → not (entries_due (coming_from p.rx.rx source) == 0) ≡ writes
-  writes_later request reply other =
-      let l = later other in
-      rw other (sym (subst (λ (x : ItemHead). writes_at_tail (coming_from p.rx.rx source) source x p.tx.tx p.target.regions ≡ not (entries_due (coming_from p.rx.rx source) == 0)) l.2 (later_writes_message (coming_from p.rx.rx source) l.0 source p.tx.tx p.target.regions l.3 (ap (λ (x : ItemHead). is_message x.kind) l.2 ∙ a_message h.item.kind request reply))))
 
 -- a first frame is the arrival of its item
 pub closes_first : (v : Arriving) (source n : ℕ) (head : ItemHead) → (n == 0) ≡ true → is_some (last_of source (arriving source head v)) ≡ is_some (last_of source (arrived (n == 0) source head v))

@@ -77,24 +77,8 @@ module _ (p : Parts) (ok : IsLentBy p) (ctx : ℕ) where
 -- ---- a part of it
 
 module _ (h : Held) (ctx at len : ℕ) (bytes : List ℕ) (has : HasBuffer h ctx bytes) where
-  pub lends_part : (part : List ℕ) → at + len ≤ length bytes → part ≡ take len (drop at bytes) → Lends h ctx at len part
-  lends_part part within same = record {
-    call = has.0;
-    is = has.1;
-    within = subst (λ (xs : List ℕ). at + len ≤ length xs) (sym has.2) within;
-    same = subst (λ (xs : List ℕ). part ≡ take len (drop at xs)) (sym has.2) same;
-  }
-
   pub lends_past : length bytes < at + len → LendsNone h ctx at len
   lends_past past = inr (has.0, has.1, subst (λ (xs : List ℕ). length xs < at + len) (sym has.2) past)
-
-  pub if_lends : {X : Type 0} (now : X → List ℕ) (r : Option X) → IfSome r (λ x. (at + len ≤ length bytes) × (now x ≡ take len (drop at bytes))) → IfSome r (λ x. Lends h ctx at len (now x))
-  if_lends now None is = tt
-  if_lends now (Some x) is = lends_part (now x) is.0 is.1
-
-  pub if_lends_not : {X : Type 0} (r : Option X) → IfNone r (length bytes < at + len) → IfNone r (LendsNone h ctx at len)
-  if_lends_not None past = lends_past past
-  if_lends_not (Some x) past = tt
 
 -- ---- what the receive half and the queue answer
 

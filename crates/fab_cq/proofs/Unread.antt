@@ -15,18 +15,6 @@ entry_there [] n entry lt first = absurd (omega (arith, lt))
 entry_there (w ∷ ws) zero entry lt first = (w, refl, sym first)
 entry_there (w ∷ ws) (suc n) entry lt first = entry_there ws n entry (omega (arith, lt)) first
 
-entry_later : (ws : List Written) (k n : ℕ) (entry : Taken) → k + n < length ws → entry ≡ get_or (drop k (entries_of ws)) n entry → (w : Written) × (slice_get ws (k + n) ≡ Some w) × (w.entry ≡ entry)
-entry_later [] k n entry lt is = absurd (omega (arith, lt))
-entry_later (w ∷ ws) zero zero entry lt is = (w, refl, sym is)
-entry_later (w ∷ ws) zero (suc n) entry lt is =
-    let more = entry_later ws zero n entry (omega (arith, lt)) is in
-    let place : suc (zero + n) ≡ zero + suc n = omega arith in
-    (more.0, subst (λ (i : ℕ). slice_get (w ∷ ws) i ≡ Some more.0) place more.1, more.2)
-entry_later (w ∷ ws) (suc k) n entry lt is =
-    let more = entry_later ws k n entry (omega (arith, lt)) is in
-    let place : suc (k + n) ≡ suc k + n = omega arith in
-    (more.0, subst (λ (i : ℕ). slice_get (w ∷ ws) i ≡ Some more.0) place more.1, more.2)
-
 module _ {entries : List Taken} {capacity limit : ℕ} {cq : Completions} (kept : IsKept entries capacity limit cq) where
   how_many : length entries ≡ length cq.written - cq.taken_out
   how_many = ap length kept.unread ∙ length-drop cq.taken_out (entries_of cq.written) ∙ ap (λ n. n - cq.taken_out) (length-map cq.written (λ w. w.entry))
@@ -44,16 +32,3 @@ module _ {entries : List Taken} {capacity limit : ℕ} {cq : Completions} (kept 
   nothing_is_next (Some entry) item = tt
 
   -- ---- an unread entry by its place
-
-  pub there_is_later : (n : ℕ) (entry : Taken) → n < length entries → entry ≡ get_or entries n entry → given_back n cq ≡ buffer_in entry
-  there_is_later n entry lt is =
-      let there = entry_later cq.written cq.taken_out n entry (omega (arith, lt, how_many)) (is ∙ ap (λ es. get_or es n entry) kept.unread) in
-      ap buffer_by there.1 ∙ ap buffer_in there.2
-
-  pub lent_later : (n : ℕ) (r : Option (Bor Taken)) → IsItemAt entries n r → IfSome r (λ entry. given_back n cq ≡ buffer_in entry.now)
-  lent_later n None item = tt
-  lent_later n (Some entry) item = there_is_later n entry.now item.3.0 item.1
-
-  pub nothing_later : (n : ℕ) (r : Option (Bor Taken)) → IsItemAt entries n r → IfNone r (given_back n cq ≡ None)
-  nothing_later n None item = ap buffer_by (slice_get_past cq.written (cq.taken_out + n) (omega (arith, item.3, how_many)))
-  nothing_later n (Some entry) item = tt

@@ -18,10 +18,10 @@ use Rattle.fab_face.specs.Acts.{Departs, only}
 use Rattle.fab_face.proofs.Tied.{placed_continues, piece_filled, placed_last, placed_more}
 use Rattle.fab_model.specs.Peers.{reading}
 use Rattle.fab_doings.proofs.Programs.{own_passes, read_passes}
-use Rattle.fab_quantum.proofs.Sending.{Keeps, keeps_passes, keeps_took, next_kept, passes_at, sent_raised, sent_ready}
+use Rattle.fab_peer.proofs.Sending.{Keeps, keeps_passes, keeps_took, next_kept, passes_at, sent_raised, sent_ready}
 use Rattle.fab_doings.proofs.Sending.{transmits_one, lives_ready}
 use Rattle.fab_doings.specs.Doings.{after_own, Did, Does, DoesBy, Doing, Drew, Had, Living, Posted, Took, posted_by, posted_to}
-use Rattle.fab_quantum.proofs.Cutting.{IsPlacedAt, placed_next, placed_keeps, place_within, cut_posted}
+use Rattle.fab_peer.proofs.Cutting.{IsPlacedAt, placed_next, placed_keeps, place_within, cut_posted}
 
 module _ (h k : Held) (d : ℕ) (end : Option FrameHead) (ready : IsPrefixOf (accepted_for h.state.tx d) (accepted_for k.state.tx d)) (sent : slice_index k.state.tx.sent d ≡ slice_index h.state.tx.sent d) (place : slice_index k.places d ≡ slice_index h.places d) where
   placed_kept : IsPlacedAt end h d → IsPlacedAt end k d

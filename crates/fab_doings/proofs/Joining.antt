@@ -4,12 +4,12 @@ use Rattle.std.specs.Prelude.{slice_get, slice_index}
 use Rattle.fab_model.specs.State.{accepted_for}
 use Rattle.fab_model.proofs.Parts.{prefix_get}
 use Rattle.fab_face.specs.Held.{next_item, AreItems, IsOut, IsPlaced}
-use Rattle.fab_quantum.specs.Turns.{joined_from, posted_part, part_at, Joins, Transmits}
-use Rattle.fab_quantum.specs.Agreed.{Agrees}
+use Rattle.fab_peer.specs.Turns.{joined_from, posted_part, part_at, Joins, Transmits}
+use Rattle.fab_peer.specs.Agreed.{Agrees}
 use Rattle.fab_doings.proofs.Cutting.{cut_by}
 use Rattle.fab_doings.proofs.Sending.{lives_ready, transmits_by}
 use Rattle.fab_doings.proofs.Showing.{joins_by}
-use Rattle.fab_threads.specs.Law.{IsFresh}
+use Rattle.fab_merging.specs.Law.{IsFresh}
 use Rattle.fab_doings.specs.Doings.{DoesBy, Doing, Living, posted_to, taken_of}
 
 -- ---- from the opening on

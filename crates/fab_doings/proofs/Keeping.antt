@@ -17,7 +17,7 @@ use Rattle.fab_face.specs.Answers.{Inserts, Locally, Pops, adding}
 use Rattle.fab_doings.specs.Doings.{Did, Doing, DoesBy, Had, Living, Own, Calls, Posted, Took, Writes, after_own, doing_of, doings_by, posted_by, posted_to, taken_by, taken_of, ways_of}
 use Rattle.fab_doings.specs.Law.{Adds, Kept, Past, past_in}
 use Rattle.fab_doings.proofs.Lists.{lives_append, posted-append, taken-append, ways-append}
-use Rattle.fab_threads.proofs.Composing.{moved_same, moved_then}
+use Rattle.fab_merging.proofs.Composing.{moved_same, moved_then}
 
 abbrev living : Held → List State → Living
 living h past = record { held = h; past = past }

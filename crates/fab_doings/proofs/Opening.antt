@@ -13,9 +13,9 @@ use Rattle.fab_av.specs.Addresses.{Addresses}
 use Rattle.fab_face.specs.Ports.{opened}
 use Rattle.fab_laws.specs.Programs.{Starts, starting}
 use Rattle.fab_doings.specs.Law.{Past}
-use Rattle.fab_threads.specs.Law.{IsFresh}
+use Rattle.fab_merging.specs.Law.{IsFresh}
 use Rattle.fab_doings.specs.Law.{told_moves, outs_at, ins_at}
-use Rattle.fab_threads.proofs.Lists.{member}
+use Rattle.fab_merging.proofs.Lists.{member}
 use Rattle.fab_doings.proofs.Lists.{outs_is, ins_is}
 use Rattle.fab_laws.proofs.Levels.{all_the_same}
 

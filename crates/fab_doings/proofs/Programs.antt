@@ -14,7 +14,7 @@ use Rattle.fab_laws.specs.Programs.{Deed}
 use Rattle.fab_laws.specs.Recorded.{Recorded, recorded}
 use Rattle.fab_laws.proofs.Recorded.{recorded_grows, recorded_waits}
 use Rattle.fab_face.specs.Held.{Held}
-use Rattle.fab_quantum.specs.Turns as turns
+use Rattle.fab_peer.specs.Turns as turns
 use Rattle.fab_doings.specs.Doings.{Own, Calls, Writes, after_own}
 
 pub own_passes : (own : Own) (s : State) → Passes s (after_own own s)

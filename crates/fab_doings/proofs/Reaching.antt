@@ -19,16 +19,16 @@ use Rattle.fab_model.proofs.Turns.{slice_get-set_other, slice_get-set_same}
 use Rattle.fab_model.proofs.Views.{prefix_self}
 use Rattle.fab_doings.proofs.Programs.{walk_leads, reached_more, reached_opening}
 use Rattle.fab_face.specs.Acts.{Way, To, From, way}
-use Rattle.fab_quantum.specs.Turns.{Shows}
-use Rattle.fab_quantum.specs.Agreed.{Agrees}
+use Rattle.fab_peer.specs.Turns.{Shows}
+use Rattle.fab_peer.specs.Agreed.{Agrees}
 use Rattle.fab_doings.proofs.Showing.{walk_shown}
 use Rattle.fab_doings.specs.Law.{Past, begun, KeptBy, Kept}
 use Rattle.fab_doings.specs.Law.{peers, programs, told_moves, outs_at, ins_at, AreTold, ProgramReaches}
 use Rattle.fab_doings.proofs.Lists.{lives_append, taken-append, posted-append, steps-append, plain_takes, plain_posts, outs_is, ins_is}
-use Rattle.fab_threads.proofs.Lists.{member, same_list, map_at, front_of}
-use Rattle.fab_threads.proofs.Joining.{ShowsOf, shows_sender, shows_nobody}
+use Rattle.fab_merging.proofs.Lists.{member, same_list, map_at, front_of}
+use Rattle.fab_merging.proofs.Joining.{ShowsOf, shows_sender, shows_nobody}
 use Rattle.fab_doings.proofs.Joining.{agrees_by, items_before}
-use Rattle.fab_threads.proofs.Merged.{Merges, merges_order, LanesAfter, turn_is, inside_same, inside_from, inside_to}
+use Rattle.fab_merging.proofs.Merged.{Merges, merges_order, LanesAfter, turn_is, inside_same, inside_from, inside_to}
 use Rattle.fab_doings.specs.Doings.{Did, DoesBy, Doing, Drew, Had, Living, Posted, Took, deeds_of, peer_in, posted_to, taken_of, ways_by, ways_of}
 use Rattle.fab_laws.specs.Recorded.{Recorded, recorded}
 

@@ -12,10 +12,10 @@ use Rattle.fab_model.specs.Peers.{reading}
 use Rattle.fab_doings.proofs.Programs.{own_passes, read_passes}
 use Rattle.fab_face.specs.Held.{Held, next_item, IsOut, IsOutAt, AreItems}
 use Rattle.fab_face.specs.Acts.{Ends, Departs, headed, is_first, only}
-use Rattle.fab_quantum.specs.Turns.{Transmits, joined_from, part_at, posted_part}
-use Rattle.fab_quantum.proofs.Showing.{joined_append}
-use Rattle.fab_quantum.proofs.Sending.{Keeps, get_append, keeps_passes, next_kept, passes_at, transmits_none, transmits_then}
-use Rattle.fab_quantum.proofs.Sending as sending
+use Rattle.fab_peer.specs.Turns.{Transmits, joined_from, part_at, posted_part}
+use Rattle.fab_peer.proofs.Showing.{joined_append}
+use Rattle.fab_peer.proofs.Sending.{Keeps, get_append, keeps_passes, next_kept, passes_at, transmits_none, transmits_then}
+use Rattle.fab_peer.proofs.Sending as sending
 use Rattle.fab_face.specs.Acts as face
 use Rattle.fab_doings.proofs.Programs.{idle}
 use Rattle.fab_doings.specs.Doings.{after_own, Did, Does, DoesBy, Doing, Drew, Had, Living, Posted, Took, posted_by, posted_to}

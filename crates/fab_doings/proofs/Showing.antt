@@ -23,9 +23,9 @@ use Rattle.fab_doings.proofs.Programs.{own_passes}
 use Rattle.fab_model.proofs.Passes.{head_passes}
 use Rattle.fab_face.specs.Held.{Held, begun_of, next_frame, next_item, piece}
 use Rattle.fab_face.specs.Acts.{Comes, Ends, Departs, headed, is_first, only}
-use Rattle.fab_quantum.specs.Turns.{Shows, Joins, joined_from}
-use Rattle.fab_quantum.proofs.Showing.{joined_append, joins_then, joins_same, headed_tails, get_drop, shows_after, whole_item, begun_after, and_true, is_waiting}
-use Rattle.fab_quantum.proofs.Showing as showing
+use Rattle.fab_peer.specs.Turns.{Shows, Joins, joined_from}
+use Rattle.fab_peer.proofs.Showing.{joined_append, joins_then, joins_same, headed_tails, get_drop, shows_after, whole_item, begun_after, and_true, is_waiting}
+use Rattle.fab_peer.proofs.Showing as showing
 use Rattle.fab_face.specs.Acts as face
 use Rattle.fab_doings.proofs.Programs.{idle}
 use Rattle.fab_doings.specs.Doings.{Grew, Own, Calls, Writes, after_own, deed_of, Did, Does, DoesBy, Doing, Drew, Had, Living, Posted, Took, deeds_by, deeds_of, peer_in, taken_by, taken_of}

@@ -15,7 +15,7 @@ use Rattle.fab_model.specs.Orders.{AreSteps, Reached, Turn}
 use Rattle.fab_model.specs.Views.{rule}
 use Rattle.fab_face.specs.Acts.{MovedBy}
 use Rattle.fab_face.specs.Held.{AreItems, Seen}
-use Rattle.fab_threads.specs.Law.{IsFresh}
+use Rattle.fab_merging.specs.Law.{IsFresh}
 use Rattle.fab_laws.specs.Programs.{Deed}
 use Rattle.fab_laws.specs.Recorded.{Recorded, plain, recall, recorded}
 use Rattle.fab_model.specs.State.{State}

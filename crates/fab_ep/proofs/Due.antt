@@ -139,6 +139,3 @@ module _ {Home : Type 0} where
           let whole = was.went in
           let log : e.log ≡ a.log = whole.log ∙ ap (λ acts. a.log ++ events acts) none ∙ append-nil a.log in
           rw (← log, ← whole.size) places)
-
-  pub draws_end : (a e e1 : Seen Home) → Drawing a e → DrawsOne e e1 false → Draws a e1
-  draws_end a e e1 was (same, drawn) = (rw same was, drawn)

@@ -123,10 +123,6 @@ module _ {Home : Type 0} where
   )
   lets_out fixed a b d Short flag posts same is = absurd posts
 
-  pub lets_none : (fixed : Bool) (a b : Seen Home) (d : ℕ) (r : Result Tried NoMemory) → ((t : Tried) → r ≢ Ok t) → PostsOut a b d r → OnErr r (fixed ≢ true) → b.pushed ≡ a.pushed → LetsOutOne fixed a b d false
-  lets_none fixed a b d (Ok t) other posts free same = absurd (other t refl)
-  lets_none fixed a b d (Err why) other posts free same = (posts, (λ f next. inr (inr (not_true fixed free))), same)
-
   pub falls_out : (a b : Seen Home) (d : ℕ) (t : Tried) → IsSteady a.held → PostsOut a b d (Ok t) → has_moved t ≡ true → left_for b.held d < left_for a.held d
   falls_out a b d Moved steady (f, went) is = left_falls a b d f steady went
   falls_out a b d Nothing steady posts is = absurd (cc)

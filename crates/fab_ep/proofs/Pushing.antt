@@ -82,39 +82,10 @@ module _ {Home : Type 0} where
   places_of a b d (Ok Short) tries places why = calm_places a b tries.0 places
   places_of a b d (Err why') tries places why = calm_places a b tries places
 
-  -- the last frame waits for the log
-  pub held_tight : (a : Seen Home) (d : ℕ) → HasPlaces a → a.log_size ≤ length a.log + 2 → ((f : Frame) × (next_frame a.held d ≡ Some f) × (is_last f.head ≡ true)) → PushesOut a a d (Ok HeldBack)
-  held_tight a d places tight (f, next, last) = (
-    record { calm = record { held = refl; log = refl; size = refl; ported = ported_same a.lanes a.lanes refl }; outs = λ k other. refl; ins = refl },
-    (f, next, (last, inr (omega (arith, places, tight)))),
-  )
-
   pub why_not : (a : Seen Home) (d : ℕ) (last tight : Bool) → (last && tight) ≡ false → (last ≡ false → (f : Frame) → next_frame a.held d ≡ Some f → is_last f.head ≡ false) → (tight ≡ false → length a.log + 3 ≤ a.log_size)
       → (((f : Frame) → next_frame a.held d ≡ Some f → is_last f.head ≡ false) ⊎ (length a.log + 3 ≤ a.log_size))
   why_not a d false tight is more room = inl (more refl)
   why_not a d true tight is more room = inr (room is)
-
-  -- one more frame, or none
-  pub pushes_on_err : (a b b' : Seen Home) (d : ℕ) (r : Result Bool NoMemory) (why : NoMemory) → r ≡ Err why → Calm a b → b'.held ≡ b.held → b'.log ≡ b.log → b'.log_size ≡ b.log_size → b'.lanes ≡ b.lanes → b'.pushed ≡ a.pushed → PushesOn a b' d r
-  pushes_on_err a b b' d r why is calm held log size lanes pushed = rw is (
-    record { held = held ∙ calm.held; log = log ∙ calm.log; size = size ∙ calm.size; ported = subst (λ (x : Lanes Home). Ported a.lanes x []) (sym lanes) calm.ported },
-    pushed,
-  )
-
-  pub pushes_on : (a b : Seen Home) (d : ℕ) (t : Tried) (flag : Bool) → PushesOut a b d (Ok t) → b.pushed ≡ a.pushed → flag ≡ (a.pushed || has_moved t)
-      → PushesOn a (record b { pushed = flag }) d (Ok (has_moved t))
-  pushes_on a b d Moved flag (f, went) same is = ((f, record { goes = went.goes; log = went.log; size = went.size; ported = went.ported }), is ∙ or_true a.pushed)
-  pushes_on a b d Nothing flag (calm, full) same is = (
-    record { calm = (let c = calm.calm in record { held = c.held; log = c.log; size = c.size; ported = c.ported }); outs = calm.outs; ins = calm.ins },
-    (λ f next. inl (full (λ no_. absurd (cc)))),
-    is ∙ or_false a.pushed,
-  )
-  pushes_on a b d HeldBack flag (calm, (f', next', held)) same is = (
-    record { calm = (let c = calm.calm in record { held = c.held; log = c.log; size = c.size; ported = c.ported }); outs = calm.outs; ins = calm.ins },
-    (λ f next. (let some : Some f' ≡ Some f = sym next' ∙ next in let is_f : f' ≡ f = cc in inr (subst (λ (x : Frame). IsHeld b d x) is_f held))),
-    is ∙ or_false a.pushed,
-  )
-  pushes_on a b d Short flag tries same is = absurd tries
 
   -- ---- frame after frame
 
@@ -147,6 +118,3 @@ module _ {Home : Type 0} where
     pushed = calm.1 ∙ was.pushed;
     tried = λ is. absurd (cc);
   })
-
-  pub posting_peers : (a e : Seen Home) (k : ℕ) → PushedTo a e k false → e.lanes.peers ≡ a.lanes.peers
-  posting_peers a e k was = was.went.ported.peers

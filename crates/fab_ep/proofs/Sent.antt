@@ -33,10 +33,6 @@ keeps_bool : (s : State) (b : Bool) (t f : State) → Keeps s t → Keeps s f �
 keeps_bool s true t f x y = x
 keeps_bool s false t f x y = y
 
-keeps_option : {X : Type 0} (s : State) (o : Option X) (none : State) (some : X → State) → Keeps s none → ((x : X) → Keeps s (some x)) → Keeps s (elim o [ None ↦ none | Some x ↦ some x ])
-keeps_option s None none some x f = x
-keeps_option s (Some o) none some x f = f o
-
 keeps_write : (call : Option ℕ) (entry : Taken) (s u : State) → Keeps s u → Keeps s (write call entry u)
 keeps_write call entry s u k = record { caps = k.caps; av = k.av; most = k.most; message = k.message; tx = k.tx; rx = k.rx; read = k.read; size = k.size; more = (let l = length-append u.cq.written (record { call = call; entry = entry } ∷ []) in let m = k.more in omega (arith, l, m)) }
 

@@ -113,17 +113,6 @@ module _ {Home : Type 0} where
       let calm = calm_by a b source (Some f) held log size fronted again same moves in
       rw is (calm.calm, (lent_frame f, ap (λ (i : Incoming). i.lent) fronted, subst (λ (h : Held). MayNeed h (lent_frame f)) (sym held) needs))
 
-  pub saw_none : (a b : Seen Home) (source : ℕ) → b.held ≡ a.held → b.log ≡ a.log → b.log_size ≡ a.log_size → Fronted (a.lanes.ins source) (b.lanes.ins source) None → Same a.lanes b.lanes source
-      → MovedBy a.lanes.moves b.lanes.moves [] → IfSome (a.lanes.in_list source) (λ xs. (a.lanes.ins source).taken ≡ xs) → CalmIn a b source × SawEmpty a.lanes b.lanes source
-  saw_none a b source held log size fronted same moves all = (
-    calm_by a b source None held log size fronted tt same moves,
-    record {
-      rose = fronted.1;
-      at_end = ap (λ (i : Incoming). i.empty_at) fronted.0 ∙ ap length (sym (ap (λ (i : Incoming). i.taken) fronted.0));
-      all = rw (same.in_list, ap (λ (i : Incoming). i.taken) fronted.0) all;
-    },
-  )
-
   pub saw_lent : (a b : Seen Home) (source : ℕ) (f : FrameRef) → b.held ≡ a.held → b.log ≡ a.log → b.log_size ≡ a.log_size → Fronted (a.lanes.ins source) (b.lanes.ins source) (Some f) → LentAgain (a.lanes.ins source) (Some f) → Same a.lanes b.lanes source
       → MovedBy a.lanes.moves b.lanes.moves [] → FrameLacks a.held source (lent_frame f) → CalmIn a b source × LentLacks b source
   saw_lent a b source f held log size fronted again same moves lacks = (

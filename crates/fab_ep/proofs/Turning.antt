@@ -222,18 +222,6 @@ module _ {Home : Type 0} where
         (subst (λ n. Turning a e taken posted held ko n) ends.1 was))));
   }
 
-  -- the log was short: the step did nothing
-  pub short_out : (a e e1 : Seen Home) (taken posted k ko ki : ℕ) (held : Bool) (t : Tried) → Turning a e taken posted held ko ki → TriesOut e e1 k (Ok t) → is_short t ≡ true
-      → (acts : List Act) × AllAre is_move acts × Went None a e1 acts × (count_by is_take acts ≡ taken) × (count_by is_post acts ≡ posted) × IsShort e1 × (moved_one t ≡ 0)
-  short_out a e e1 taken posted k ko ki held Short was (calm, short) is =
-      (was.acts, was.moves, went_calm a e e1 was.acts was.went calm, was.takes, was.posts, short_on e e1 calm short, refl)
-    where
-      short_on : (e e1 : Seen Home) → Calm e e1 → IsShort e → IsShort e1
-      short_on e e1 calm short = rw (calm.log, calm.size) short
-  short_out a e e1 taken posted k ko ki held Moved was tries is = absurd (cc)
-  short_out a e e1 taken posted k ko ki held Nothing was tries is = absurd (cc)
-  short_out a e e1 taken posted k ko ki held HeldBack was tries is = absurd (cc)
-
   pub turned_short : (left : ℕ) (a e e1 : Seen Home) (taken posted t p ko ki : ℕ) (held held' : Bool) (m : ℕ) → Turning a e taken posted held ko ki → Calm e e1 → IsShort e → t ≡ taken → p ≡ posted
       → taken + posted ≤ left → WentRound left a e1 (record { taken = t; posted = p; held = held'; short = true })
   turned_short left a e e1 taken posted t p ko ki held held' m was calm short t_is p_is most = record {

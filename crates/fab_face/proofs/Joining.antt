@@ -57,9 +57,6 @@ moved_one (Some moves) b move w is (n, grew) = (move n ∷ [], grew, ap (λ x. x
 pub moved_took : (a m b : Option (List Move)) (source : ℕ) → m ≡ a → GrewBy (In source) m b → MovedBy a b (From source ∷ [])
 moved_took a m b source is grew = moved_one a b (In source) (From source) (λ n. refl) (subst (λ (x : Option (List Move)). GrewBy (In source) x b) is grew)
 
-pub moved_posted : (a b : Option (List Move)) (dest : ℕ) → GrewBy (Out dest) a b → MovedBy a b (To dest ∷ [])
-moved_posted a b dest grew = moved_one a b (Out dest) (To dest) (λ n. refl) grew
-
 -- a count that rose between two others that never fall
 rose_before : (a b c : ℕ) → a ≤ b → Rose b c → Rose a c
 rose_before a b c le (inl less) = inl (omega (arith, le, less))
@@ -167,17 +164,6 @@ module _ {Home : Type 0} (call : Option Call) where
     log = q.log ∙ ap (λ l. l ++ events ys) p.log ∙ append_assoc a.log (events xs) (events ys) ∙ ap (λ es. a.log ++ es) (sym (flat_map-append logged xs ys));
     size = q.size ∙ p.size;
     ported = ported_then a.lanes b.lanes c.lanes xs ys p.ported q.ported;
-  }
-
-  -- one frame posted: what `post_next` gives of the port, the machine's transmission, and the event
-  pub went_posted : (a b : Seen Home) (dest : ℕ) (f : Frame) → dest < length a.held.places → dest < length a.held.state.tx.sent → next_frame a.held dest ≡ Some f
-      → Departs (is_last f.head) a.held dest (f.head.from + f.head.len) b.held → b.log ≡ a.log ++ only (is_last f.head) (Transmitted dest) → b.log_size ≡ a.log_size
-      → Ported a.lanes b.lanes (Posted dest f ∷ []) → Went call a b (Posted dest f ∷ [])
-  went_posted a b dest f in_places in_sent next departs log size ported = record {
-    goes = (b.held, (in_places, in_sent, next, departs), refl);
-    log = log ∙ ap (λ es. a.log ++ es) (sym (append-nil (only (is_last f.head) (Transmitted dest))));
-    size = size;
-    ported = ported;
   }
 
 -- the call itself

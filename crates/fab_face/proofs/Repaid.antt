@@ -260,15 +260,6 @@ module _ (h t : Held) (source : ℕ) (f : Frame) (goes : Goes None h (Took sourc
 
 -- ---- between calls
 
-pub repaid_did : {Home : Type 0} (lanes : Lanes Home) (call : Call) (h t : Held) → DoesCall (Some call) h t → IsRepaid lanes h → IsRepaid lanes t
-repaid_did lanes call h t does repaid d op below = less (lanes.outs d).owed refl
-  where
-    less : (o : Option (ℕ → ℕ)) → (lanes.outs d).owed ≡ o → Owes (lanes.outs d) (lanes.ins d) op (due t d op)
-    less None e = rw e tt
-    less (Some before) e =
-        let o : replies op (lanes.outs d).frames + due h d op ≤ before op + owing op (lanes.ins d).taken = rw e at (repaid d op below) in
-        rw e (omega (arith, o, did_due call h t does d op))
-
 pub repaid_posted : {Home : Type 0} (a b : Lanes Home) (call : Option Call) (h t : Held) (dest : ℕ) (f : Frame) → Ported a b (Posted dest f ∷ []) → Goes call h (Posted dest f) t → IsRepaid a h → IsRepaid b t
 repaid_posted a b call h t dest f ported goes repaid d op below =
     owes_more a b (Posted dest f ∷ []) d op (due h d op) (due t d op) ported (let e = posted_due h t dest f call goes d op in omega (arith, e)) (repaid d op (let e = ported.peers in omega (arith, e, below)))
@@ -297,14 +288,6 @@ next_repays lanes h dest item below next repaid begun = go (lanes.outs dest).owe
     go (Some before) e =
         let o : replies item.head.op (lanes.outs dest).frames + due h dest item.head.op ≤ before item.head.op + owing item.head.op (lanes.ins dest).taken = rw e at (repaid dest item.head.op below) in
         rw e (omega (arith, o, some))
-
--- None is begun that is not owed: no second one to the same item, and none before the last frame of its item is taken.
-pub none_unowed : {Home : Type 0} (lanes : Lanes Home) (h : Held) (dest : ℕ) (item : Item) (before : ℕ → ℕ) → dest < lanes.peers → IsRepaid lanes h → next_item h.state dest ≡ Some item → slice_index h.places dest ≡ 0 → is_reply item.head.kind ≡ true
-    → (lanes.outs dest).owed ≡ Some before → replies item.head.op (lanes.outs dest).frames ≡ before item.head.op + owing item.head.op (lanes.ins dest).taken → ⊥
-none_unowed lanes h dest item before below repaid next start reply told all =
-    let begins : begins_reply (piece item (slice_index h.places dest)).head ≡ true = rw (start, reply) refl in
-    let owed : replies item.head.op (lanes.outs dest).frames + 1 ≤ before item.head.op + owing item.head.op (lanes.ins dest).taken = rw told at (next_repays lanes h dest item below next repaid begins) in
-    absurd (omega (arith, owed, all))
 
 -- ---- at the opening
 

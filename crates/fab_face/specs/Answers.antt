@@ -5,7 +5,7 @@
 --     Begins, MayLack       what it makes first, and where it may lack memory
 --     IsIdle old new        nothing is left to move, as the call itself saw
 --     Locally call          a call that logs nothing: of addresses, regions and counters
---     Pops, CanNotPop       the completion queue
+--     Pops                  the completion queue
 use Rattle.std.specs.Prelude.{◌≡◌, ◌≢◌, ℕ, ◌+◌, ◌<◌, ◌≤◌, ◌⊎◌, ◌↔◌, Bool, true, false, List, [], ◌∷◌, ◌++◌, length, Option, Some, None, Result, Ok, Err, IfSome, count_by}
 use Rattle.std.specs.List.{list_any, list_all}
 use Rattle.fab_base.specs.Counts.{Rose}

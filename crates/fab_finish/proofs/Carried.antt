@@ -15,8 +15,8 @@ use Rattle.fab_model.specs.Peers.{Actor}
 use Rattle.fab_model.proofs.Turns.{slice_get-set_other, slice_get-set_same}
 use Rattle.fab_face.specs.Held.{Held}
 use Rattle.fab_face.specs.Ports.{Whole}
-use Rattle.fab_quantum.specs.Agreed.{Agrees}
-use Rattle.fab_quantum.specs.Turns.{Living, IsCounted}
+use Rattle.fab_peer.specs.Agreed.{Agrees}
+use Rattle.fab_peer.specs.Turns.{Living, IsCounted}
 use Rattle.fab_finish.specs.Joined.{Member, member_actor, member_steps, actors, schedules, lane, IsOwn, IsJoined}
 use Rattle.fab_finish.proofs.Joining.{set_itself, last_behind, lane_is, lane_own, lane_other}
 

@@ -20,7 +20,7 @@ use Rattle.fab_laws.specs.Programs.{Opening, Peer, Starts}
 use Rattle.fab_laws.specs.Scripts.{deeds_of, peer_of, peers}
 use Rattle.fab_laws.proofs.Scripts.{mapped_twice, of_turns, peer_at, sight_is_sight, starts}
 use Rattle.fab_laws.proofs.replies.Stray.{AllOwed, all_owed}
-use Rattle.fab_quantum.specs.Turns.{IsQuiet}
+use Rattle.fab_peer.specs.Turns.{IsQuiet}
 use Rattle.fab_finish.specs.Joined.{Member, told_of, member_actor, actors, IsJoined, AreStill, opened, AreCleared}
 use Rattle.fab_finish.specs.Rests.{Rest, CancelNone, AreCancelled}
 use Rattle.fab_finish.proofs.Resting.{mapped}

@@ -24,7 +24,7 @@ use Rattle.fab_model.proofs.Turns.{slice_get-set_other, slice_get-set_same}
 use Rattle.fab_model.proofs.Views.{Sound, more_self}
 use Rattle.fab_model.proofs.Views as views
 use Rattle.fab_model.proofs.Walks.{reached_more}
-use Rattle.fab_quantum.specs.Turns.{Ended}
+use Rattle.fab_peer.specs.Turns.{Ended}
 use Rattle.fab_finish.specs.Joined.{Member, told_of, member_actor, member_steps, actors, schedules, opened, Ends}
 use Rattle.fab_finish.specs.Rests.{Rest, Cancelled, AreCancelled}
 use Rattle.fab_finish.proofs.Joining.{member}

@@ -20,7 +20,7 @@ use Rattle.fab_model.proofs.Parts.{get_or-set}
 use Rattle.fab_model.proofs.Turns.{slice_get-set_other, slice_get-set_same}
 use Rattle.fab_face.specs.Held.{Held, IsOpen, IsOut, IsOutAt, begun_of, next_frame, next_item, piece}
 use Rattle.fab_face.specs.Acts.{Act, Did, Took, Posted, Drew, Had, Departs, Ends, headed, is_first, only, posted_to, steps_by, steps_of, taken_of}
-use Rattle.fab_quantum.specs.Turns.{IsStill as IsStillAfter, Living, LivesBy, Turned, is_some_act, living_of}
+use Rattle.fab_peer.specs.Turns.{IsStill as IsStillAfter, Living, LivesBy, Turned, is_some_act, living_of}
 use Rattle.fab_laws.specs.Work.{Sized, total, work}
 use Rattle.fab_laws.proofs.working.Peers.{leads_by}
 use Rattle.fab_laws.proofs.working.Sums.{total_change, total_more}

@@ -21,9 +21,9 @@ use Rattle.fab_model.proofs.Views.{prefix_self}
 use Rattle.fab_model.proofs.Walks.{walk_leads, reached_more}
 use Rattle.fab_face.specs.Held.{begun_of}
 use Rattle.fab_face.specs.Acts.{Act, steps_of, taken_of, posted_to}
-use Rattle.fab_quantum.specs.Turns.{IsCounted, living_of, Turned, Shows, joined_from, is_some_act}
-use Rattle.fab_quantum.specs.Agreed.{Agrees}
-use Rattle.fab_quantum.proofs.Agreeing.{agrees_turned, posted_first, shown_of}
+use Rattle.fab_peer.specs.Turns.{IsCounted, living_of, Turned, Shows, joined_from, is_some_act}
+use Rattle.fab_peer.specs.Agreed.{Agrees}
+use Rattle.fab_peer.proofs.Agreeing.{agrees_turned, posted_first, shown_of}
 use Rattle.fab_finish.specs.Joined.{Member, told_of, member_actor, member_steps, actors, schedules, lane, IsOwn, IsJoined, GoesOn}
 
 -- ---- lists

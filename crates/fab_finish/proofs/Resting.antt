@@ -15,8 +15,8 @@ use Rattle.fab_model.specs.Peers.{Actor, fabric, do_next}
 use Rattle.fab_model.specs.Receiving.{draw_due}
 use Rattle.fab_model.specs.Replay.{can_do, agree_all, all_idle, at_rest}
 use Rattle.fab_face.specs.Held.{Held, next_frame, next_item, piece}
-use Rattle.fab_quantum.specs.Turns.{IsStill as IsStillAfter}
-use Rattle.fab_quantum.proofs.Agreeing.{sent_within}
+use Rattle.fab_peer.specs.Turns.{IsStill as IsStillAfter}
+use Rattle.fab_peer.proofs.Agreeing.{sent_within}
 use Rattle.fab_base.specs.declared.peers.Step.{Step}
 use Rattle.fab_model.specs.Orders.{Reached}
 use Rattle.fab_model.specs.Views.{rule}

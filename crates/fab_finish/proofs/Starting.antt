@@ -19,9 +19,9 @@ use Rattle.fab_face.specs.Held.{Held, next_item}
 use Rattle.fab_face.specs.Ports.{Whole}
 use Rattle.fab_face.proofs.Repaid.{nothing_pledged}
 use Rattle.fab_ep.specs.Tries.{IsTied}
-use Rattle.fab_quantum.specs.Agreed.{Agrees}
-use Rattle.fab_quantum.specs.Turns.{Told, Living, IsCounted, part_at, posted_part}
-use Rattle.fab_quantum.proofs.Counting.{counted_new}
+use Rattle.fab_peer.specs.Agreed.{Agrees}
+use Rattle.fab_peer.specs.Turns.{Told, Living, IsCounted, part_at, posted_part}
+use Rattle.fab_peer.proofs.Counting.{counted_new}
 use Rattle.fab_finish.specs.Joined.{Member, seen_plain, told_of, member_actor, member_steps, actors, schedules, lane, IsOwn, opened, start, Opens, OpensAt}
 use Rattle.fab_finish.proofs.Joining.{lane_is, lane_none}
 

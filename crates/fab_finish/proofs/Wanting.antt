@@ -11,7 +11,7 @@ use Rattle.fab_model.specs.Views.{IsPrefixOf, rule}
 use Rattle.fab_model.proofs.Parts.{get_or-set}
 use Rattle.fab_model.proofs.Views.{prefix_prefix, prefix_self}
 use Rattle.fab_face.specs.Acts.{Act, steps_of}
-use Rattle.fab_quantum.specs.Turns.{Ended, Turned, is_some_act}
+use Rattle.fab_peer.specs.Turns.{Ended, Turned, is_some_act}
 use Rattle.fab_finish.specs.Joined.{Ends, GoesOn, Member, actors, member_steps, opened, schedules, told_of}
 use Rattle.fab_finish.specs.Wanting.{Grows, Leaves}
 use Rattle.fab_finish.proofs.Joining.{set_itself}

@@ -7,7 +7,7 @@ use Rattle.fab_model.specs.State.{accepted_for}
 use Rattle.fab_model.specs.Receiving.{cancellable, draw_due}
 use Rattle.fab_model.specs.Peers.{Actor, facts}
 use Rattle.fab_model.specs.Replay.{can_do}
-use Rattle.fab_quantum.specs.Turns.{IsRead}
+use Rattle.fab_peer.specs.Turns.{IsRead}
 use Rattle.fab_finish.specs.Joined.{Member, member_actor, seen_plain}
 
 -- All completions are read, no draw is due, no line can be done, and of each pair everything accepted is sent and whole.

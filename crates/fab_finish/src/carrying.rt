@@ -7,8 +7,8 @@ ghost use Rattle.fab_finish.specs.Joined.{lane, IsJoined, actors, schedules};
 use fab_base::NoMemory;
 use fab_ep::endpoint::Endpoint;
 use fab_link::PlainPort;
-use fab_quantum::calls::Machinery;
-use fab_quantum::peer::Peer;
+use fab_peer::calls::Machinery;
+use fab_peer::peer::Peer;
 
 pub(crate) fn either(a: bool, b: bool) -> bool
     ensures yes { result ≡ true → (a ≡ true) ⊎ (b ≡ true) }

@@ -5,7 +5,7 @@ ghost use Rattle.fab_model.specs.Orders.{Reached};
 ghost use Rattle.fab_model.specs.Peers.{fabric, is_finished};
 ghost use Rattle.fab_model.specs.Replay.{at_rest, all_done};
 ghost use Rattle.fab_model.specs.Views.{rule};
-ghost use Rattle.fab_quantum.specs.Turns.{IsQuiet};
+ghost use Rattle.fab_peer.specs.Turns.{IsQuiet};
 ghost use Rattle.fab_finish.specs.Joined.{Member, member_actor, IsJoined, Ends, AreStill, AreCleared, Clears, actors, schedules, told_of, opened, start};
 ghost use Rattle.fab_finish.specs.Rests.{Rest, AreCancelled};
 ghost use Rattle.fab_finish.specs.Wanting.{Grows, Leaves};
@@ -15,8 +15,8 @@ use crate::rounds::settle;
 use fab_base::{Conf, Line, NoMemory};
 use fab_ep::endpoint::Endpoint;
 use fab_link::PlainPort;
-use fab_quantum::calls::Machinery;
-use fab_quantum::peer::Peer;
+use fab_peer::calls::Machinery;
+use fab_peer::peer::Peer;
 use std::alloc::Global;
 
 /// How a run ended: all lines are done and no receive is posted, or some line could not be done.

@@ -6,8 +6,8 @@ ghost use Rattle.fab_finish.specs.Joined.{Opens, OpensAt, start};
 use fab_base::{Conf, Line, NoMemory};
 use fab_ep::endpoint::Endpoint;
 use fab_link::PlainPort;
-use fab_quantum::calls::Machinery;
-use fab_quantum::peer::Peer;
+use fab_peer::calls::Machinery;
+use fab_peer::peer::Peer;
 use std::alloc::Global;
 
 /// Takes the first list, or an empty one where there is none. It takes no memory.

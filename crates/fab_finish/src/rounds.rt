@@ -3,7 +3,7 @@ ghost use Rattle.std.specs.Prelude.{◌≡◌, ◌≢◌, ℕ, ◌<◌, List, []
 ghost use Rattle.fab_face.specs.Acts.{Act};
 ghost use Rattle.fab_face.specs.Held.{IsOpen};
 ghost use Rattle.fab_laws.specs.Work.{work};
-ghost use Rattle.fab_quantum.specs.Turns.{IsCounted, IsStill, Turned, is_some_act, living_of};
+ghost use Rattle.fab_peer.specs.Turns.{IsCounted, IsStill, Turned, is_some_act, living_of};
 ghost use Rattle.fab_finish.specs.Freight.{Lowers};
 ghost use Rattle.fab_finish.specs.Joined.{IsJoined, GoesOn, IsStillAt, AreStill, actors, seen_plain, told_of};
 ghost use Rattle.fab_finish.specs.Wanting.{Grows, Leaves};
@@ -13,8 +13,8 @@ use fab_base::NoMemory;
 use fab_ep::endpoint::Endpoint;
 use fab_face::calls::Sees;
 use fab_link::PlainPort;
-use fab_quantum::calls::Machinery;
-use fab_quantum::peer::Peer;
+use fab_peer::calls::Machinery;
+use fab_peer::peer::Peer;
 
 /// What became of a turn or a round: whether anything moved, and whether a step was taken.
 #[derive(Clone, Copy, Drop)]

@@ -1,4 +1,4 @@
-//! What one message, one receive, one call and one request are to the machine over plain lists (`fab_machine`).
+//! What one message, one receive, one call and one request are to the machine over plain lists (`fab_reference`).
 //!
 //! Nothing here knows a peer: each function is an equation with a definition of `fab_model` on plain values.
 //!

@@ -283,8 +283,3 @@ pub rest_is_rest : RestIsRest
 rest_is_rest states = (rest_same states, drained_same states)
 
 -- ---- what threads did
-
--- what holds of all programs holds of some order of the turns that were taken
-pub of_reached : (Law : List Peer → List (Turn Deed) → List Peer → ℕ → Peer → Type 0) → AtEveryMoment Law → (from : Opening) (lists : List (List Deed)) (states : List Peer) → Reached (rule program) from.peers lists states
-    → (turns : List (Turn Deed)) × AreSteps lists turns × ((p : ℕ) (a : Peer) → slice_get states p ≡ Some a → Law from.peers turns states p a)
-of_reached Law law from lists states (turns, leads, are) = (turns, are, law from turns states leads)

@@ -34,11 +34,6 @@ pub record Exchange {M : Type 0} (turn : M → ℕ → Option M) (peers : ℕ) (
   pub outside : (m : M) (p : ℕ) → Sound m → peers ≤ p → turn m p ≡ None
 
 module _ {M : Type 0} (turn : M → ℕ → Option M) (peers : ℕ) (Sound : M → Type 0) (law : Exchange turn peers Sound) where
-  -- a kind of moments that each turn keeps is kept by a run
-  pub run_keeps : (order : List ℕ) (m x : M) → Sound m → Run turn m order x → Sound x
-  run_keeps [] m x sound run = subst Sound run sound
-  run_keeps (p ∷ order) m x sound run = run_keeps order run.0 x (law.keeps m run.0 p sound run.1) run.2
-
   -- a turn that stands now can be taken now, before the others of a run to the end, which goes on to the same end
   pub sooner : (order : List ℕ) (m x y : M) (p : ℕ) → Sound m → Run turn m order x → AtEnd turn x → turn m p ≡ Some y → (rest : List ℕ) × Run turn y rest x × (suc (length rest) ≡ length order)
   sooner [] m x y p sound run end t = let e : turn x p ≡ None = end p in absurd (cc)

@@ -353,24 +353,6 @@ reached_fenced bound schedule states reached = leads_fenced reached.0 (opening b
 
 -- ---- what is held back waits
 
-live_before : (t n : ℕ) (live : List Operation) (rest : List ℕ) → Rising (calls_to t live ++ n ∷ rest) → list_any (λ (o : Operation). o.dest == t) live ≡ true → Any (λ (o : Operation). (o.dest ≡ t) × (o.call < n)) live
-live_before t n [] rest r busy = absurd (cc)
-live_before t n (o ∷ live) rest r busy = go (o.dest == t) refl r busy (live_before t n live rest)
-  where
-    go : (mine : Bool) → (o.dest == t) ≡ mine → Rising (elim mine [ true ↦ o.call ∷ calls_to t live | false ↦ calls_to t live ] ++ n ∷ rest) → (mine || list_any (λ (o : Operation). o.dest == t) live) ≡ true
-        → (Rising (calls_to t live ++ n ∷ rest) → list_any (λ (o : Operation). o.dest == t) live ≡ true → Any (λ (o : Operation). (o.dest ≡ t) × (o.call < n)) live)
-        → Any (λ (o : Operation). (o.dest ≡ t) × (o.call < n)) (o ∷ live)
-    go true is r busy more = (0, o, omega arith, refl, (eqb-true _ _ is, above_in o.call n (calls_to t live) rest r.0))
-    go false is r busy more = let m = more r busy in (suc m.0, m.1, omega (arith, m.2), m.3, m.4)
-
--- the first operation held back for a peer has a fence, and one that was accepted before it for the same peer is live
-pub first_held_waits : (s : State) → Fenced s → (t : ℕ) (h : Held) (rest : List Held) → held_for s.tx t ≡ h ∷ rest → (h.fence ≡ true) × Any (λ (o : Operation). (o.dest ≡ t) × (o.call < h.call)) s.tx.live
-first_held_waits s f t h rest is =
-    let w = waits_has (is_busy s.tx t) h rest (ap (let_out (is_busy s.tx t)) (sym is) ∙ f.by.waits t) in
-    let mine = calls_to t s.tx.live in
-    let r : Rising ((mine ++ h.call ∷ held_calls rest) ++ s.calls ∷ []) = subst (λ held. Rising ((mine ++ held_calls held) ++ s.calls ∷ [])) is (f.by.rising t) in
-    (w.1, live_before t h.call s.tx.live (held_calls rest ++ s.calls ∷ []) (subst Rising (append_assoc mine (h.call ∷ held_calls rest) (s.calls ∷ [])) r) w.0)
-
 -- so where none is live for a peer, none is held back for it
 pub none_live_none_held : (s : State) → Fenced s → (t : ℕ) → is_busy s.tx t ≡ false → held_for s.tx t ≡ []
 none_live_none_held s f t none = go (held_for s.tx t) (f.by.waits t)

@@ -120,23 +120,3 @@ accepting-going_on t o tx here =
     let all = held_for tx t ++ o ∷ [] in
     let held : held_for (holding t all next) t ≡ all = get_or-set_same tx.held t all [] here in
     ap (λ hs. letting_out t hs (holding t all next)) held ∙ letting_out-holding t all all next
-
--- ---- what a fence waits for
-
--- an operation with a fence goes out only where none was live for its peer, and before all that go out with it
-pub fence_goes_first : (busy : Bool) (held : List Held) (k : ℕ) (o : Held) → slice_get (let_out busy held) k ≡ Some o → o.fence ≡ true → (k ≡ 0) × (busy ≡ false)
-fence_goes_first busy [] k o at fence = absurd (cc)
-fence_goes_first busy (h ∷ held) k o at fence = go (busy && h.fence) refl k at (λ j e. fence_goes_first true held j o e fence)
-  where
-    alone : (busy && h.fence) ≡ false → h ≡ o → busy ≡ false
-    alone free is = by busy (ap (λ (x : Held). busy && x.fence) (sym is) ∙ free)
-      where
-        by : (b : Bool) → (b && o.fence) ≡ false → b ≡ false
-        by true e = absurd (cc (fence, e))
-        by false e = refl
-
-    go : (b : Bool) → (busy && h.fence) ≡ b → (k : ℕ) → slice_get (let out : List Held = elim b [ true ↦ [] | false ↦ h ∷ let_out true held ] in out) k ≡ Some o
-        → ((j : ℕ) → slice_get (let_out true held) j ≡ Some o → (j ≡ 0) × (true ≡ false)) → (k ≡ 0) × (busy ≡ false)
-    go true is k at more = absurd (cc)
-    go false is zero at more = let same : h ≡ o = cc in (refl, alone is same)
-    go false is (suc k) at more = let no = (more k at).1 in absurd (cc)

@@ -101,17 +101,6 @@ module _ {S Step : Type 0} (rule : List S → ℕ → Step → Option S) where
   leads_sound Sound law [] states last sound leads = subst Sound leads sound
   leads_sound Sound law (t ∷ turns) states last sound leads = leads_sound Sound law turns (set states t.peer leads.0) last (law.keeps states t.peer t.step leads.0 sound leads.1) leads.2
 
-  -- where at every moment with steps left some peer can take one, no step is left over: Kept is what is known of the moments
-  pub never_stuck : (Sound : List S → Type 0) → Commutes rule Sound → (Kept : Moment S Step → Type 0) → ((m x : Moment S Step) (p : ℕ) → Kept m → turn rule m p ≡ Some x → Kept x)
-      → ((m : Moment S Step) → Kept m → 0 < steps_left m → (p : ℕ) × (x : Moment S Step) × (turn rule m p ≡ Some x)) → (m : Moment S Step) → Sound m.states → Kept m → steps_left (replay rule m) ≡ 0
-  never_stuck Sound law Kept keeps goes m sound kept = elim (cases_lt 0 (steps_left (replay rule m))) [
-    | inl more ↦
-        let next = goes (replay rule m) (replay_keeps (turn rule) Kept keeps (length m.left) (steps_left m) m kept) more in
-        let none = replay_ends rule Sound law m sound next.0 in
-        absurd (cc (none, next.2))
-    | inr none ↦ omega arith
-  ]
-
   -- ---- a run to its end is an order of turns
 
   none_left : (left : List (List Step)) → sum_by length left ≡ 0 → AreSteps left []

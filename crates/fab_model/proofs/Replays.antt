@@ -50,11 +50,3 @@ lawful_is_reached bound schedule last = (reached_lawful bound schedule last, λ 
 -- what is reached is sound
 pub reached_sound : (bound : Bound) (schedule : List (List Step)) (states : List Actor) → Reached (rule fabric) (opening bound) schedule states → Sound bound states
 reached_sound bound schedule states reached = orders.leads_sound (rule fabric) (Sound bound) (fabric_commutes bound) reached.0 (opening bound) states (opening_sound bound) reached.1
-
--- what a peer did in a view that shows no more than the states that are reached, final cancels too, it can do in these states
-pub reached_walk_leads :
-    (bound : Bound) (schedule : List (List Step)) (steps : List Step) (states : List Actor) (p : ℕ) (v : View Item) (a last : Actor) → Reached (rule fabric) (opening bound) schedule states
-    → slice_get states p ≡ Some a → More v (seen fabric states p) → Walk fabric v a steps last → Leads (rule fabric) states (by p steps) (slice_set states p last)
-reached_walk_leads bound schedule steps states p v a last reached has more walk =
-    let n = bound.script.conf.peers in
-    views.sound_walk_leads fabric n (Own n) (fabric_patient n) steps states p v a last (reached_sound bound schedule states reached) has more walk

@@ -1,0 +1,13 @@
+pub mod Paths
+pub mod Counting
+pub mod Calling
+pub mod Requesting
+pub mod Alone
+pub mod Idling
+pub mod Showing
+pub mod Turning
+pub mod Sending
+pub mod Cutting
+pub mod Agreeing
+pub mod Ending
+pub mod Resting

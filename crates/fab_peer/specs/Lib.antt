@@ -1,0 +1,4 @@
+pub mod Kinds
+pub mod Looks
+pub mod Turns
+pub mod Agreed

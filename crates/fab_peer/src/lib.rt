@@ -1,9 +1,12 @@
-//! The machines of a script's peers.
+//! A peer of a script over any endpoint: it does its lines in turns, keeps what it reads, and keeps its schedule.
 //!
-//! What one peer does is proved in `fab_quantum` over any endpoint, and what all of them do together in `fab_phases`
-//! over any machine behind their endpoints. Here the machine is chosen: that of `fab_open`, with matching in hashed bins.
+//! It is proved over the endpoint's public face alone (`fab_face`), whatever the endpoint and the port.
 #![tactic(auto)]
 
-mod peers;
-
-pub use peers::machines;
+pub mod calls;
+mod keeping;
+mod looks;
+pub mod peer;
+mod reading;
+mod regions;
+mod requests;

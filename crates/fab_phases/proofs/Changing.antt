@@ -10,16 +10,16 @@ use Rattle.fab_link.specs.Plain.{Plain}
 use Rattle.fab_face.specs.Held.{Held, IsOpen, AreItems}
 use Rattle.fab_face.specs.Ports.{Whole}
 use Rattle.fab_ep.specs.Tries.{IsTied}
-use Rattle.fab_quantum.specs.declared.peer.Peer.{Peer}
-use Rattle.fab_quantum.specs.declared.peer.seats.Unseated.{Unseated}
+use Rattle.fab_peer.specs.declared.peer.Peer.{Peer}
+use Rattle.fab_peer.specs.declared.peer.seats.Unseated.{Unseated}
 use Rattle.fab_table.specs.declared.fabric.Fabric.{Fabric}
 use Rattle.fab_ring.specs.declared.port.RingPort.{RingPort}
 use Rattle.fab_ring.specs.Ports.{moves_of}
 use Rattle.fab_ring.specs.Gather.{AreAll, Gathered}
-use Rattle.fab_quantum.specs.Turns.{IsCounted}
-use Rattle.fab_threads.specs.Pasts.{Past}
-use Rattle.fab_threads.specs.Law as law
-use Rattle.fab_threads.specs.Law.{AreTogether, told_moves}
+use Rattle.fab_peer.specs.Turns.{IsCounted}
+use Rattle.fab_merging.specs.Pasts.{Past}
+use Rattle.fab_merging.specs.Law as law
+use Rattle.fab_merging.specs.Law.{AreTogether, told_moves}
 use Rattle.fab_rounds.specs.Opened.{AreGathered}
 use Rattle.fab_finish.specs.Joined.{Member, seen_plain, actors, schedules, IsJoined}
 use Rattle.fab_finish.proofs.Joining.{member}

@@ -11,8 +11,8 @@ use Rattle.fab_wire.specs.Cut.{IsItem}
 use Rattle.fab_wire.specs.Joined.{is_last, grown, with_frame, joined, nothing, Gathered}
 use Rattle.fab_face.specs.Held.{Held, IsGathered, IsPlaced, IsOut, AreItems, next_item, begun_of}
 use Rattle.fab_face.proofs.Tied.{gathered_first, gathered_next, gathered_last, gathered_more}
-use Rattle.fab_quantum.specs.Turns.{part_at}
-use Rattle.fab_quantum.specs.Agreed.{Agrees}
+use Rattle.fab_peer.specs.Turns.{part_at}
+use Rattle.fab_peer.specs.Agreed.{Agrees}
 
 -- ---- the end of a lane, and what its frames join to
 

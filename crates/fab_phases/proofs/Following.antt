@@ -14,15 +14,15 @@ use Rattle.fab_link.specs.Plain.{Lane, Plain, lane_at, fresh_lane}
 use Rattle.fab_model.specs.Peers.{Actor}
 use Rattle.fab_face.specs.Held.{IsPledged, Held, IsGathered, IsPlaced, IsOut, AreItems, next_item, begun_of}
 use Rattle.fab_ep.specs.Tries.{IsTied}
-use Rattle.fab_quantum.specs.Turns.{IsCounted, Living, actor_in}
-use Rattle.fab_quantum.specs.Agreed.{Agrees}
+use Rattle.fab_peer.specs.Turns.{IsCounted, Living, actor_in}
+use Rattle.fab_peer.specs.Agreed.{Agrees}
 use Rattle.fab_table.specs.declared.fabric.Fabric.{Fabric}
 use Rattle.fab_ring.specs.declared.port.RingPort.{RingPort}
 use Rattle.fab_ring.specs.Gather.{AreAll, GoesOn, Gathered}
-use Rattle.fab_threads.specs.Pasts.{Past}
-use Rattle.fab_threads.specs.Law as law
-use Rattle.fab_threads.specs.Law.{outs_at, ins_at, AreTogether}
-use Rattle.fab_threads.proofs.Lists.{outs_is, ins_is, outs_past}
+use Rattle.fab_merging.specs.Pasts.{Past}
+use Rattle.fab_merging.specs.Law as law
+use Rattle.fab_merging.specs.Law.{outs_at, ins_at, AreTogether}
+use Rattle.fab_merging.proofs.Lists.{outs_is, ins_is, outs_past}
 use Rattle.fab_finish.specs.Joined.{Member, seen_plain, actors, schedules, lane, IsOwn, IsJoined}
 use Rattle.fab_finish.proofs.Joining.{member, none_past, lane_is, lane_none}
 use Rattle.fab_phases.specs.Phases.{Paired, Seated, Follows, Tells}

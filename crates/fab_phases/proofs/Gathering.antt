@@ -14,9 +14,9 @@ use Rattle.fab_ring.specs.declared.port.RingPort.{RingPort}
 use Rattle.fab_ring.specs.Ports.{part_of, peers_of, moves_of, in_of}
 use Rattle.fab_ring.specs.Gather.{AreAll, Gathered}
 use Rattle.fab_face.specs.Held.{AreItems}
-use Rattle.fab_threads.specs.Pasts.{Past}
-use Rattle.fab_threads.specs.Law.{told_moves, outs_at, ins_at}
-use Rattle.fab_threads.proofs.Lists.{outs_is, ins_is}
+use Rattle.fab_merging.specs.Pasts.{Past}
+use Rattle.fab_merging.specs.Law.{told_moves, outs_at, ins_at}
+use Rattle.fab_merging.proofs.Lists.{outs_is, ins_is}
 use Rattle.fab_rounds.specs.Opened.{AreGathered}
 use Rattle.fab_finish.proofs.Joining.{member, none_past}
 use Rattle.fab_phases.specs.Phases.{Paired, Tells}

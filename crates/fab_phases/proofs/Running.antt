@@ -10,9 +10,9 @@ use Rattle.fab_model.specs.Orders.{Reached}
 use Rattle.fab_model.specs.Peers.{Actor, fabric}
 use Rattle.fab_model.specs.Replay.{all_done}
 use Rattle.fab_model.specs.Views.{rule}
-use Rattle.fab_quantum.specs.Turns.{actor_in}
-use Rattle.fab_threads.specs.Pasts.{Past}
-use Rattle.fab_threads.specs.Law as law
+use Rattle.fab_peer.specs.Turns.{actor_in}
+use Rattle.fab_merging.specs.Pasts.{Past}
+use Rattle.fab_merging.specs.Law as law
 use Rattle.fab_finish.specs.declared.finish.Ending.{Ending}
 use Rattle.fab_finish.specs.declared.finish.Ending.TheVariants.{Drained, Stuck}
 use Rattle.fab_finish.specs.Joined.{Member, actors, schedules, opened, Clears}

@@ -9,14 +9,14 @@ use Rattle.fab_base.specs.declared.script.Conf.{Conf}
 use Rattle.fab_base.specs.declared.script.Line.{Line}
 use Rattle.fab_model.specs.Calls.{upto}
 use Rattle.fab_face.specs.Ports.{Whole}
-use Rattle.fab_quantum.specs.Turns.{Living, Told, actor_in}
+use Rattle.fab_peer.specs.Turns.{Living, Told, actor_in}
 use Rattle.fab_table.specs.declared.fabric.Fabric.{Fabric}
 use Rattle.fab_ring.specs.declared.port.RingPort.{RingPort}
 use Rattle.fab_ring.specs.Ports.{out_of, in_of}
 use Rattle.fab_ring.specs.Made.{AreMade}
-use Rattle.fab_threads.specs.Pasts.{Past, past_of, begun}
-use Rattle.fab_threads.specs.Law.{IsFresh}
-use Rattle.fab_threads.proofs.Opening.{start_fresh}
+use Rattle.fab_merging.specs.Pasts.{Past, past_of, begun}
+use Rattle.fab_merging.specs.Law.{IsFresh}
+use Rattle.fab_merging.proofs.Opening.{start_fresh}
 use Rattle.fab_rounds.specs.Opened.{Begins}
 use Rattle.fab_finish.specs.Joined.{opened, start}
 use Rattle.fab_finish.proofs.Joining.{got}

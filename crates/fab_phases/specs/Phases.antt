@@ -16,10 +16,10 @@ use Rattle.fab_link.specs.Meaning.{AreFresh}
 use Rattle.fab_link.specs.Plain.{Plain}
 use Rattle.fab_face.specs.Held.{Held, Seen}
 use Rattle.fab_face.specs.Ports.{Whole}
-use Rattle.fab_quantum.specs.declared.peer.Peer.{Peer}
-use Rattle.fab_quantum.specs.declared.peer.seats.Unseated.{Unseated}
-use Rattle.fab_quantum.specs.Turns.{Living, living_of, told}
-use Rattle.fab_threads.specs.Pasts.{Past, past_of}
+use Rattle.fab_peer.specs.declared.peer.Peer.{Peer}
+use Rattle.fab_peer.specs.declared.peer.seats.Unseated.{Unseated}
+use Rattle.fab_peer.specs.Turns.{Living, living_of, told}
+use Rattle.fab_merging.specs.Pasts.{Past, past_of}
 use Rattle.fab_finish.specs.Joined.{Member, told_of, member_steps, start}
 use Rattle.fab_table.specs.declared.fabric.Fabric.{Fabric}
 use Rattle.fab_ring.specs.declared.port.RingPort.{RingPort}

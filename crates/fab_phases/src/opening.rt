@@ -3,12 +3,12 @@ ghost use Rattle.std.specs.Prelude.{◌≡◌, ◌≤◌, ℕ, length, map, IfOk
 ghost use Rattle.std.specs.List.{All};
 ghost use Rattle.fab_model.specs.Calls.{upto};
 ghost use Rattle.fab_finish.specs.Joined.{start as start_of};
-ghost use Rattle.fab_threads.specs.Pasts.{begun};
+ghost use Rattle.fab_merging.specs.Pasts.{begun};
 ghost use Rattle.fab_phases.specs.Phases.{IsNew, past_at, at_start, first_of};
 
 use fab_base::{Conf, Line, NoMemory};
 use fab_finish::opening::take_first;
-use fab_quantum::calls::Machinery;
+use fab_peer::calls::Machinery;
 use fab_ring::RingPort;
 use fab_rounds::runner::Runner;
 use fab_rounds::starting::start;

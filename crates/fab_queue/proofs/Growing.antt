@@ -13,9 +13,6 @@ use Rattle.fab_queue.proofs.Members.{members_set_same, members_set_other, member
 length_more : {X : Type 0} (xs : List X) (x : X) → length (xs ++ x ∷ []) ≡ length xs + 1
 length_more xs x = length-append xs (x ∷ [])
 
-pub laid_none : (room : ℕ) (old : List (Vec In Global)) (outs : List Out) → outs ≡ [] → AreLaidFrom room old old outs 0
-laid_none room old outs e = record { count = refl; outs_count = ap length e; each = λ d near. absurd (omega arith); rest = λ d far. refl }
-
 -- one lane more
 pub laid_more : (room n : ℕ) (old new : List (Vec In Global)) (outs : List Out) (o : Out) (i : In) (v : Vec In Global) → AreLaidFrom room old new outs n → n < length new → IsLaid room o i → v.items ≡ column new n ++ i ∷ []
     → AreLaidFrom room old (set new n v) (outs ++ o ∷ []) (n + 1)
@@ -34,15 +31,6 @@ laid_more room n old new outs o i v k near laid grew = record {
         members_set_other new n d v ne ∙ there.2,
       ));
   rest = λ d far. members_set_other new n d v (λ e. omega (arith, far, e)) ∙ k.rest d (omega arith);
-}
-
-pub laid_nobody : (room peers : ℕ) (ins : List (Vec In Global)) (outs : List (Vec Out Global)) → outs ≡ [] → length ins ≡ peers → ((d : ℕ) → column ins d ≡ []) → AreLaid room peers 0 outs ins
-laid_nobody room peers ins outs e count none = record {
-  rows = ap length e;
-  columns = count;
-  each_row = λ s near. absurd (omega arith);
-  each_column = λ d near. ap length (none d);
-  each = λ s d near near'. absurd (omega arith);
 }
 
 -- the lanes from one peer more

@@ -12,7 +12,7 @@ ghost use Rattle.fab_model.specs.Calls.{CancelFirst, do_call};
 ghost use Rattle.fab_base.specs.declared.items.Item.{Item as WholeItem};
 ghost use Rattle.fab_model.specs.State.{fits};
 ghost use Rattle.fab_model.specs.Views.{View, seen};
-ghost use Rattle.fab_machine.specs.Seen.{state_of};
+ghost use Rattle.fab_reference.specs.Seen.{state_of};
 ghost use Rattle.fab_replay.specs.Seen.{actor_of, actors_of, led, Took};
 
 use crate::actor::Actor;

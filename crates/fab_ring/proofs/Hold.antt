@@ -17,7 +17,7 @@ use Rattle.fab_table.specs.declared.kinds.Slot.TheVariants.{Cell, Pool}
 use Rattle.fab_table.specs.declared.kinds.Out.{Out}
 use Rattle.fab_table.specs.declared.kinds.In.{In}
 use Rattle.fab_table.specs.declared.kinds.Part.{Part}
-use Rattle.fab_table.specs.Views.{new_part, new_out, new_in, out_at, in_at, with_out, with_in, posted_one, saw_empty, saw_frame, taken_one, freed_one, shut_one, has_slot, lane_of}
+use Rattle.fab_table.specs.Views.{new_part, new_out, new_in, out_at, in_at, with_out, with_in, posted_one, saw_empty, saw_frame, taken_one, freed_one, has_slot, lane_of}
 use Rattle.fab_table.specs.Rule.{IsBuf, cell_of, greatest}
 use Rattle.fab_table.specs.Plays.{oldest_of}
 use Rattle.fab_table.proofs.Rows.{each_set}
@@ -46,9 +46,6 @@ module _ {X : Type 0} where
   unfolding behind
   ring_turn h n f near = append_assoc (span h (suc f) (n - suc f)) (span h 0 f) (h f) ∙ (λ i. span h (suc f) (n - suc f) ++ ((λ j. span h 0 f ++ h (let e : f ≡ 0 + f = omega arith in e j)) ∙ sym (span_more h 0 f) ∙ ap (span h 0) (let e : suc f ≡ f + 1 = omega arith in e)) i)
       ∙ (λ i. span h (let e : suc f ≡ f + 1 = omega arith in e i) (n - (let e : suc f ≡ f + 1 = omega arith in e i)) ++ span h 0 (f + 1))
-
-  pub ring_wrap : (h : ℕ → List X) (n : ℕ) → ring h n n ≡ ring h n 0
-  ring_wrap h n = (λ i. span h n (let e : n - n ≡ 0 = omega arith in e i) ++ span h 0 n) ∙ sym (append-nil (span h 0 n)) ∙ (λ i. span h 0 (let e : n ≡ n - 0 = omega arith in e i) ++ [])
 
   pub behind_same : (h k : ℕ → List X) (n f : ℕ) → ((x : ℕ) → x ≢ f → x < n → h x ≡ k x) → f < n → behind h n f ≡ behind k n f
   unfolding behind
@@ -268,15 +265,6 @@ module _ (me peers room pool clock turn : ℕ) (puts gots : List ℕ) (opened le
       (ap rest (fits_first s x near at held_is given) ∙ behind_same (held p) (held p') peers s (λ q ne _. others_held s u ms q ne) near ∙ (λ i. sym (own_held s u ms near) i ++ behind (held p') peers s)
       ∙ sym (ring_front (held p') peers s near) ∙ ap (ring (held p') peers) (sym at))
 
-  -- it was shut
-  pub fits_shut : (s : ℕ) → s < peers → turn ≡ s → Fits me peers room pool clock turn puts gots (set opened s false) (set lent s false) (with_in p s (shut_one (in_at p s)) p.moves) (behind (held p) peers s)
-  fits_shut s near at = let u : In = shut_one (in_at p s) in let p' : Part = with_in p s u p.moves in let f = fit.each_got s near in
-      changed_in s u p.moves gots (set opened s false) (set lent s false) clock turn (behind (held p) peers s) near fit.round (le_refl clock) fit.clock_is fit.all_gots (length-set opened s false ∙ fit.all_open) (length-set lent s false ∙ fit.all_lent)
-      (f.0, get_or-set_same opened s false false (subst (λ (z : ℕ). s < z) (sym fit.all_open) near), get_or-set_same lent s false false (subst (λ (z : ℕ). s < z) (sym fit.all_lent) near), (λ y e. absurd (none-some y e)), (λ t. absurd (true≢false (sym t))))
-      (λ q ne. (refl, get_or-set_other opened s q false false ne, get_or-set_other lent s q false false ne))
-      (behind_same (held p) (held p') peers s (λ q ne _. others_held s u p.moves q ne) near ∙ (λ i. sym (own_held s u p.moves near) i ++ behind (held p') peers s)
-      ∙ sym (ring_front (held p') peers s near) ∙ ap (ring (held p') peers) (sym at))
-
   rerolled : (turn' : ℕ) (hand' : List (ℕ × ℕ)) → turn' ≤ peers → hand' ≡ ring (held p) peers turn' → Fits me peers room pool clock turn' puts gots opened lent p hand'
   rerolled turn' hand' round is = record {
     me_is = fit.me_is;
@@ -310,18 +298,11 @@ module _ (me peers room pool clock turn : ℕ) (puts gots : List ℕ) (opened le
       rerolled (turn + 1) (turned (turned hand)) (omega arith)
       ((λ i. turned (turned (fits_two turn q x near refl l.2 t l.3 i))) ∙ append_assoc o (c ∷ []) (h ∷ []) ∙ (λ i. o ++ c ∷ slot_of (sym l.3 i) base) ∙ (λ i. o ++ held_of (sym l.2 i) (sym t i) (oldest_of p turn) base) ∙ ring_turn (held p) peers turn near)
 
-  pub fits_wrap : turn ≡ peers → Fits me peers room pool clock 0 puts gots opened lent p hand
-  fits_wrap at = rerolled 0 hand (omega arith) (fit.hand_is ∙ ap (ring (held p) peers) at ∙ ring_wrap (held p) peers)
-
   pub got_len : (s g : ℕ) → s < peers → g ≡ get_or gots s g → g ≡ length (in_at p s).taken
   got_len s g near is = is ∙ get_any gots s g 0 (subst (λ (z : ℕ). s < z) (sym fit.all_gots) near) ∙ (fit.each_got s near).0
 
   pub put_len : (d g : ℕ) → d < peers → g ≡ get_or puts d g → g ≡ length (out_at p d).posted
   put_len d g near is = is ∙ get_any puts d g 0 (subst (λ (z : ℕ). d < z) (sym fit.all_puts) near) ∙ (fit.each_put d near).0
-
-  -- the place of the oldest frame, as a port finds it
-  pub oldest_place : (s g n r : ℕ) → s < peers → g ≡ get_or gots s g → n ≡ peers → r ≡ room → (s * n + me) * r + g % r ≡ oldest_of p s
-  oldest_place s g n r near is all wide = λ i. (s * (all ∙ sym fit.peers_is) i + sym fit.me_is i) * (wide ∙ sym fit.room_is) i + got_len s g near is i % (wide ∙ sym fit.room_is) i
 
 pub flag_at : (l : List Bool) (i : ℕ) (o : Bool) → i < length l → o ≡ get_or l i o → get_or l i false ≡ o
 flag_at l i o near is = get_any l i false o near ∙ sym is

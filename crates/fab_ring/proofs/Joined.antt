@@ -95,9 +95,6 @@ sided_grew s t r e xs d more = record {
   rest = d.rest;
 }
 
-pub grew_none : (s : PeerSeat) (r e : ℕ) → Grew s s r e []
-grew_none s r e = record { mine = record { outs = refl; taken = sym (append-nil (in_of s r e).taken); others = λ a ne. refl }; rest = λ k ne. refl }
-
 pub grew_then : (s t u : PeerSeat) (r e : ℕ) (xs ys : List Sent) → Grew s t r e xs → Grew t u r e ys → Grew s u r e (xs ++ ys)
 grew_then s t u r e xs ys a b = record {
   mine = record {
@@ -111,11 +108,6 @@ grew_then s t u r e xs ys a b = record {
 -- what was posted stays
 pub grew_outs : (s t : PeerSeat) (r e : ℕ) (xs : List Sent) → Grew s t r e xs → (k : ℕ) → (part_of t k).outs ≡ (part_of s k).outs
 grew_outs s t r e xs g k = dite (ℕ_discrete k r) (λ is. subst (λ (z : ℕ). (part_of t z).outs ≡ (part_of s z).outs) (sym is) g.mine.outs) (λ ne. ap (λ (z : Part). z.outs) (g.rest k ne))
-
--- what was taken in another lane too
-pub grew_others : (s t : PeerSeat) (r e : ℕ) (xs : List Sent) → Grew s t r e xs → (k a : ℕ) → (k ≢ r) ⊎ (a ≢ e) → (in_of t k a).taken ≡ (in_of s k a).taken
-grew_others s t r e xs g k a (inl ne) = ap (λ (z : Part). (in_at z a).taken) (g.rest k ne)
-grew_others s t r e xs g k a (inr ne) = dite (ℕ_discrete k r) (λ is. subst (λ (z : ℕ). (in_of t z a).taken ≡ (in_of s z a).taken) (sym is) (g.mine.others a ne)) (λ no. ap (λ (z : Part). (in_at z a).taken) (g.rest k no))
 
 -- lanes that go on
 pub last_head-append : (before : Option FrameHead) (xs ys : List Frame) → last_head before (xs ++ ys) ≡ last_head (last_head before xs) ys

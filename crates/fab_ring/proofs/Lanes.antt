@@ -37,9 +37,6 @@ module _ (f : Fabric) (t : PeerSeat) (r e s : ℕ) (x : Sent) (y : Slot) (o : Is
   swap_hand = let h = open_pooled f t r e x y s o named in let now : m₁.1 ≡ (slot_home (view_of_seat t) r s, Pool h.0) ∷ (oldest_cell (view_of_seat t) r e, y) ∷ [] = ap (λ (m : Sat). m.1) turned_is ∙ ap turned h.5 in
       (h.0, now ∙ (λ i. (sym home_is i, Pool h.0) ∷ sym (ap rest now) i))
 
-  pub swap_rest : rest m₁.1 ≡ (oldest_cell (view_of_seat t) r e, y) ∷ []
-  swap_rest = let h = open_pooled f t r e x y s o named in ap rest (ap (λ (m : Sat). m.1) turned_is ∙ ap turned h.5)
-
   pub free_hand : (m₂ : Sat) (spare : List ℕ) → m₂ ≡ (m₁.0, (home, Pool spare) ∷ rest m₁.1) → m₂.1 ≡ (slot_home m₂.0 r s, Pool spare) ∷ rest m₂.1
   free_hand m₂ spare e₂ = let view : m₂.0 ≡ view_of_seat t = ap (λ (m : Sat). m.0) e₂ ∙ ap (λ (m : Sat). m.0) turned_is in let hand = ap (λ (m : Sat). m.1) e₂ in
       hand ∙ (λ i. ((home_is ∙ ap (λ (v : View). slot_home v r s) (sym view)) i, Pool spare) ∷ sym (ap rest hand) i)

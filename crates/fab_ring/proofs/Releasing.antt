@@ -41,20 +41,6 @@ pub record Releasing (n : ℕ) (p q : Part) : Type 0 where
   pub moves : IsPrefix p.moves q.moves
   pub posts : (d : ℕ) → posts_to d q.moves ≡ posts_to d p.moves
 
-pub releasing_start : (p : Part) → Releasing 0 p p
-releasing_start p = record {
-  me = refl;
-  peers = refl;
-  room = refl;
-  pool = refl;
-  outs = refl;
-  all_ins = refl;
-  done = λ s no. absurd (let low : s < 0 = no in omega arith);
-  left = λ s _. refl;
-  moves = ([], append-nil p.moves);
-  posts = λ d. refl;
-}
-
 pub releasing_none : (n : ℕ) (p q q' : Part) → Releasing n p q → (in_at q n).opened ≡ None → q' ≡ q → Releasing (n + 1) p q'
 releasing_none n p q q' r closed same = subst (Releasing (n + 1) p) (sym same) (let here : in_at q n ≡ in_at p n = r.left n (omega arith) in record {
   me = r.me;

@@ -8,11 +8,6 @@ use Rattle.fab_table.proofs.Seating.{same_all}
 use Rattle.fab_ring.specs.Hands.{Rounds}
 use Rattle.fab_ring.proofs.Hold.{get_any}
 
--- the cell behind the k-th one, before the lane's end and at it
-pub after_within : (room cell k : ℕ) → cell ≡ k % room → cell + 1 < room → cell + 1 ≡ (k + 1) % room
-after_within room cell k is low = let e : suc k ≡ k + 1 = omega arith in let f : suc cell ≡ cell + 1 = omega arith in
-    sym (mod-eq_of_lt low) ∙ ap (λ (z : ℕ). z % room) (sym f ∙ ap suc is) ∙ sym (suc-mod k room) ∙ ap (λ (z : ℕ). z % room) e
-
 pub after_last : (room cell k : ℕ) → cell ≡ k % room → cell + 1 ≡ room → 0 ≡ (k + 1) % room
 after_last room cell k is end = let e : suc k ≡ k + 1 = omega arith in let f : suc cell ≡ cell + 1 = omega arith in
     sym (mod_self room) ∙ ap (λ (z : ℕ). z % room) (sym end ∙ sym f ∙ ap suc is) ∙ sym (suc-mod k room) ∙ ap (λ (z : ℕ). z % room) e

@@ -5,7 +5,7 @@
 --     IsTried o j ts f      ts are the counts after the tries on the first j slots
 --     AreOnce ts us         the counts us are those after at most one try on each slot
 --     IsMissed o j ts f     the j-th slot wasn't found taken, and no other was tried twice
---     tried_out, posted_out, full_out ..    a lane after what one call did
+--     tried_out, sent_as    a lane after tries, and after a frame was posted
 use Rattle.std.specs.Prelude.{◌≡◌, ℕ, zero, suc, ◌+◌, ◌<◌, ◌≤◌, ◌⊎◌, Bool, List, [], ◌∷◌, length, slice_index, Option, None}
 use Rattle.fab_base.specs.declared.frames.FrameHead.{FrameHead}
 use Rattle.fab_wire.specs.Frames.{frame}

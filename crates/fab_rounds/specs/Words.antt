@@ -4,7 +4,7 @@
 --     goes x                            by this answer all go on
 use Rattle.std.specs.Prelude.{ℕ, ◌+◌, ◌/◌, ◌%◌, ◌==◌, ◌&&◌, Bool, if◌then◌else◌}
 use Rattle.fab_model.specs.Peers.{is_finished}
-use Rattle.fab_quantum.specs.Turns.{actor_of}
+use Rattle.fab_peer.specs.Turns.{actor_of}
 use Rattle.fab_rounds.specs.Rounds.{Between}
 
 -- bit 0: the turn moved something; bit 1: lines are left; bit 2: memory ran out

@@ -2,7 +2,7 @@
 ghost use Rattle.std.specs.Prelude.{◌≡◌, ◌<◌, ◌≤◌, ◌+◌, ◌^◌, ℕ, [], ◌∷◌, ◌++◌, true, false, length, Some, IfOk, OnErr};
 ghost use Rattle.fab_face.specs.Ports.{seen};
 ghost use Rattle.fab_model.specs.Peers.{is_finished};
-ghost use Rattle.fab_quantum.specs.Turns.{told, living_of, actor_of, IsCounted, IsStill};
+ghost use Rattle.fab_peer.specs.Turns.{told, living_of, actor_of, IsCounted, IsStill};
 ghost use Rattle.fab_meeting.specs.Accounts.{answer_at};
 ghost use Rattle.fab_rounds.specs.Rounds.{TurnedAs, between, size};
 ghost use Rattle.fab_rounds.specs.Words.{told_by};
@@ -13,8 +13,8 @@ use fab_ep::endpoint::Endpoint;
 use fab_face::calls::Sees;
 use fab_link::Port;
 use fab_meeting::{Meeting, MeetingSeat};
-use fab_quantum::calls::Machinery;
-use fab_quantum::peer::Peer;
+use fab_peer::calls::Machinery;
+use fab_peer::peer::Peer;
 use std::sync::Wait;
 
 /// A peer with what its last turn told: whether it moved anything, or that memory ran out.

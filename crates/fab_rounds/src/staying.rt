@@ -2,7 +2,7 @@
 ghost use Rattle.std.specs.Prelude.{◌≡◌, ◌+◌, ◌<◌, ◌≤◌, ◌^◌, ℕ, [], length, map};
 ghost use Rattle.std.specs.List.{All};
 ghost use Rattle.fab_face.specs.Ports.{seen};
-ghost use Rattle.fab_quantum.specs.Turns.{told};
+ghost use Rattle.fab_peer.specs.Turns.{told};
 ghost use Rattle.fab_meeting.specs.Seats.{members_of, AreNew};
 ghost use Rattle.fab_rounds.specs.Rounds.{Each, between};
 ghost use Rattle.fab_rounds.specs.Words.{goes};
@@ -13,7 +13,7 @@ use crate::seating::{seat_all, unseat_all};
 use fab_base::Gate;
 use fab_link::Port;
 use fab_meeting::{Meeting, MeetingSeat, RollCall};
-use fab_quantum::calls::Machinery;
+use fab_peer::calls::Machinery;
 use std::alloc::Global;
 use std::sync::Wait;
 use std::thread;

@@ -6,7 +6,7 @@ ghost use Rattle.fab_rounds_tests.specs.Opening.{IsSized, Begins};
 
 use fab_base::{Bound, Conf, Line, NoMemory};
 use fab_link::Port;
-use fab_quantum::calls::Machinery;
+use fab_peer::calls::Machinery;
 use fab_rounds::runner::Runner;
 use fab_rounds::starting::start;
 use fab_script::{bind, lines, parse};

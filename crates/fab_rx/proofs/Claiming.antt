@@ -35,9 +35,6 @@ module _ (us : List (ℕ × Sign)) (parcels : Cells Parcel) (coming : List (Opti
   pub claims_fit : 0 < length us → length cs < capacity
   claims_fit some = let filed = aside.filed in let reserved = aside.reserved in omega arith
 
-  pub claims_room : (more : ℕ) → capacity ≤ more → AreClaimed us parcels coming cs more claimed
-  claims_room more le = record { messages = aside.messages; apart = aside.apart; filed = aside.filed; reserved = let reserved = aside.reserved in omega arith }
-
   -- more empty ids change nothing
   pub claims_widened : (wider : Cells Parcel) (most : ℕ) → ((k : ℕ) → at wider k ≡ at parcels k) → length wider.cells + length parcels.free ≡ length parcels.cells + length wider.free → length wider.cells ≤ most → AreClaimed us wider coming cs most claimed
   claims_widened wider most wide more fits = record {

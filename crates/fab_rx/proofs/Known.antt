@@ -197,10 +197,6 @@ pub none_due : (ps : Cells Parcel) (s : ℕ) (b : Option Begun) (c : Option Comi
 none_due ps s None c i e w = rw w.0 refl
 none_due ps s (Some b) c i e w = absurd (cc)
 
-pub some_due : (ps : Cells Parcel) (s : ℕ) (b : Begun) (o : Option Begun) (c : Option Coming) (i : Option Item) → o ≡ Some b → IsWay ps s o c i → entries_by b.way ≡ entries_due c
-some_due ps s b None c i e w = absurd (cc)
-some_due ps s b (Some d) c i e w = let same : b ≡ d = cc in rw (same, w.2) (due_by ps s d.way w.0 w.1 w.4.way)
-
 -- in a row without items none is begun
 pub none_in_row : {X : Type 0} (n s : ℕ) → get_or {A = Option X} (replicate n None) s None ≡ None
 none_in_row zero s = refl

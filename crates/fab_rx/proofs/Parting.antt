@@ -283,9 +283,6 @@ module _ (ps : List (ℕ × Want)) (us : List (ℕ × Sign)) (room : ℕ) (seats
   fewer : length rest + 1 ≡ length us
   fewer = ap (λ (xs : List (ℕ × Sign)). length xs + 1) are ∙ s.shorter
 
-  pub room_to_claim : length cs < capacity
-  room_to_claim = let less = fewer in claims_fit us parcels coming cs capacity v.rx.claimed aside (omega arith)
-
   pub aside_kept : IsKept ps rest room seats parcels coming (set_aside (remove_first (takes want) v.rx.unexpected) (v.rx.claimed ++ (ctx, s.member) ∷ []) v)
   aside_kept = record {
     receives = kept.receives;

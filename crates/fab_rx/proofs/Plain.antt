@@ -22,15 +22,3 @@ shared_besides (Some least) r place bytes rx = by (under_way (filling r place by
     by : (b : Bool) → under_way (filling r place bytes rx) r.call ≡ b → IsSameBesides rx (without_closed r.call (filling r place bytes rx))
     by true is = rw (is, without_closed) (record { unexpected = refl; claimed = refl; coming = refl })
     by false is = rw (is, without_closed) (record { unexpected = refl; claimed = refl; coming = refl })
-
-last_plain : (c : Option Coming) (bytes : List ℕ) (rx : Receiving) → GoesToSingle c → last_by c bytes rx ≡ None
-last_plain None bytes rx single = refl
-last_plain (Some (Into r place)) bytes rx single = subst (λ (o : Option ℕ). closed_if o r.call (filling r place bytes rx) ≡ None) (sym single.0.least) refl
-last_plain (Some Keep) bytes rx single = refl
-last_plain (Some Throw) bytes rx single = refl
-last_plain (Some Request) bytes rx single = refl
-last_plain (Some Answer) bytes rx single = refl
-
--- no buffer comes back
-pub nothing_last : (v : Arriving) → IsPlain v.rx → (source : ℕ) → last_of source v ≡ None
-nothing_last v plain source = last_plain (coming_from v.rx source) (bytes_come (begun_of v source)) (made_whole source v.rx) (plain.into source)

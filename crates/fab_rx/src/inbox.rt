@@ -144,14 +144,6 @@ impl<M: Matcher> Inbox<M> {
         }
     }
 
-    /// Whether an item of this source has arrived and is not whole.
-    pub fn is_begun(&self, source: u32) -> bool
-        requires { source < length self.now.begun }
-        ensures { result ≡ is_some (begun_of self.now source) }
-    {
-        self.coming[source as usize].is_some()
-    }
-
     /// The first frame of an item: a message goes to the first posted receive that matches it, else to
     /// the unexpected messages. Memory for its bytes is taken, as for a request or an answer, but for a
     /// message that a receive for one message gets.

@@ -1,4 +1,4 @@
-//! The tests of what reads and what writes scripts: of `fab_spell`, `fab_print` and `fab_script`.
+//! The tests of what reads and what writes scripts: of `fab_spell` and `fab_script`.
 //!
 //! They stand in a crate of their own, since a crate with tests is proved once more with them, and those three are
 //! large. A table has at most thirty rows, and what holds an operation is dropped before the next `?`: the proof of a

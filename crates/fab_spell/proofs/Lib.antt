@@ -1,3 +1,4 @@
+pub mod Again
 pub mod Blanks
 pub mod ByteWords
 pub mod CapsNames
@@ -12,8 +13,16 @@ pub mod Numbers
 pub mod Operations
 pub mod Optional
 pub mod Own
+pub mod Parts
+pub mod Peers
 pub mod Receives
 pub mod Remote
+pub mod Rules
 pub mod Said
+pub mod Saying
 pub mod Sends
+pub mod Settings
+pub mod Stepping
+pub mod Texts
+pub mod Written
 mod Worked

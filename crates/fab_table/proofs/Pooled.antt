@@ -227,27 +227,3 @@ module _ (n room pool : ℕ) (lane : ℕ → Lane) (place : ℕ → Place) (ws :
       (old.0, at_put place q₀ free (λ j w. j ≡ q → w ≡ sent S D k) q (λ is. let no : Path ℕ own.got k = ap turn_of (sym mine.1 ∙ ap place is ∙ old.1) in absurd (later (omega arith))) (λ _ _. old.1) refl))
       (λ t. absurd (true≢false (sym t)))
       (λ Q other some_kind e. other (sym (ap (lane_at n) (sym mine.1 ∙ e))))
-
-  -- the places of an open frame with no slot go back as they came
-  pub pools_shut : (y : Sent) (ws' : List ℕ) (hs' : Homes) → SameWords ws' → SameHomes hs' → get_elem? own.posted own.got ≡ some y → y.slot ≡ None → Pools n room pool (put lane l (with_opened own None false)) place ws' hs'
-  pools_shut y ws' hs' sw sh here small = unplaced (with_opened own None false) ws' hs' sw sh (λ q c. c) (λ q c. c)
-      (λ q h k t. (t.0, (t.1.0, t.1.1, t.1.2, ⊎_elim (λ o. absurd (none-some q (sym small ∙ ap (λ (f : Sent). f.slot) (one_frame k y t.1.0 here t.1.1 o.0) ∙ t.1.2))) (λ o. inr (o.0, λ _. refl)) t.1.3)))
-      (λ k z q o e. (o.0, o.1, λ is _. absurd (none-some q (sym small ∙ ap (λ (f : Sent). f.slot) (one_frame k y z here o.1 is) ∙ e))))
-      (λ t. absurd (true≢false (sym t)))
-
-  -- those of one with a slot, whose buffer still has its bytes
-  pub pools_shut_pooled : (y : Sent) (q₀ : ℕ) (b : Slot) (ws' : List ℕ) (hs' : Homes) → SameWords ws' → ((q : ℕ) → q ≢ q₀ → get_elem? hs' (pool_home n room q) ≡ get_elem? hs (pool_home n room q))
-      → get_elem? hs' (pool_home n room q₀) ≡ some (some b) → Fills y b → own.lent ≡ true → get_elem? own.posted own.got ≡ some y → y.slot ≡ Some q₀
-      → Pools n room pool (put lane l (with_opened own None false)) (put place q₀ (sent S D own.got)) ws' hs'
-  pools_shut_pooled y q₀ b ws' hs' sw sh home fits has here large = let x : Lane = with_opened own None false in let P : Place = sent S D own.got in
-      let mine = ps.each_sent S D own.got y q₀ low low' (le_refl own.got, here, λ _ _. has) large in
-      let was : PlaceOk n lane q₀ (get_or ws (pool_word n q₀) 0) (get_elem? hs (pool_home n room q₀)) P = subst (PlaceOk n lane q₀ (get_or ws (pool_word n q₀) 0) (get_elem? hs (pool_home n room q₀))) mine.1 (ps.each_place q₀ mine.0) in
-      placed x q₀ P ws' hs' (λ q _. sw q) sh
-      (sw q₀ ∙ was.0, low, low', at_put lane l x (λ j z. j ≡ l → SentOk z (get_elem? hs' (pool_home n room q₀)) q₀ own.got) l (λ _. (le_refl own.got, (y, here, large, inr ((b, fits, home), λ _. refl)))) (λ ne. absurd (ne refl)) refl)
-      (λ q _ c. c)
-      (λ q h k ne t. (t.0, (t.1.0, t.1.1, t.1.2, ⊎_elim (λ o. absurd (ne (same_Some q q₀ (sym t.1.2 ∙ ap (λ (f : Sent). f.slot) (sym (one_frame k y t.1.0 here t.1.1 o.0)) ∙ large)))) (λ o. inr (o.0, λ _. refl)) t.1.3)))
-      (λ q c. let o = ps.each_claim S D q low low' c in (o.0, at_put place q₀ P (λ j w. j ≡ q → w ≡ claimed S D) q (λ is. let no : Path ℕ 2 1 = ap kind (sym mine.1 ∙ ap place is ∙ o.1) in absurd (omega arith)) (λ _ _. o.1) refl))
-      (λ k z q o e. let old = ps.each_sent S D k z q low low' (o.0, o.1, λ _ _. has) e in
-      (old.0, at_put place q₀ P (λ j w. j ≡ q → w ≡ sent S D k) q (λ is. sym mine.1 ∙ ap place is ∙ old.1) (λ _ _. old.1) refl))
-      (λ t. absurd (true≢false (sym t)))
-      (λ Q other some_kind e. other (sym (ap (lane_at n) (sym mine.1 ∙ e))))

@@ -22,13 +22,13 @@ use Rattle.fab_table.specs.declared.kinds.Slot.TheVariants.{Cell}
 use Rattle.fab_table.specs.declared.kinds.In.{In}
 use Rattle.fab_table.specs.declared.kinds.Part.{Part}
 use Rattle.fab_table.specs.declared.kinds.View.{View}
-use Rattle.fab_table.specs.Views.{frames_of, freed_one, shut_one, pool_word, pool_home, has_slot, part_at, out_at, in_at, saw_empty, saw_frame, taken_one, lane_of, put_word, got_word}
+use Rattle.fab_table.specs.Views.{frames_of, freed_one, pool_word, pool_home, has_slot, part_at, out_at, in_at, saw_empty, saw_frame, taken_one, lane_of, put_word, got_word}
 use Rattle.fab_table.specs.Rule.{Says, SaidAt, Fills, FilledAt, IsBuf, sent, free, PlaceOk, Homes, Lane, cell_of, LaneOk, InOk, Ruled}
-use Rattle.fab_table.specs.Plays.{frees_pool, FreesAt, shuts, shuts_pooled, free_view, shut_view, slot_home, Sat, in_lane, oldest_cell, new_in_view, take_view, Opens, SawPut, saw_put, takes_frame}
+use Rattle.fab_table.specs.Plays.{frees_pool, FreesAt, free_view, slot_home, Sat, in_lane, oldest_cell, new_in_view, take_view, Opens, SawPut, saw_put, takes_frame}
 use Rattle.fab_table.proofs.Rows.{put, at_some, take_next, pair_below}
 use Rattle.fab_table.proofs.Cells.{stays, with_writing, with_opened, with_take, opens, frees, closes}
 use Rattle.fab_table.proofs.Orders.{kept_in, kept_take}
-use Rattle.fab_table.proofs.Pooled.{lane_at, with_lent, pools_look, pools_open, pools_open_slot, pools_take, pools_free, pools_shut, pools_shut_pooled}
+use Rattle.fab_table.proofs.Pooled.{lane_at, with_lent, pools_look, pools_open, pools_open_slot, pools_take, pools_free}
 use Rattle.fab_table.proofs.Stays.{mine, in_moves}
 use Rattle.fab_table.proofs.Places.{one_slot, no_slot, got_too, pool_same, word_same, same_in, rewritten, cell_apart, reclaimed}
 
@@ -191,69 +191,4 @@ frees_play k slots id me w i d q x b near low is hand large has buf carried s r 
           let lanes : lane_of n d' (part_at v i').me ≡ lane_of n d (part_at v i).me = ap (lane_at n) (sym (where_is i' d' q' x' near' low₂ hand' large' has') ∙ ap r.place qs ∙ where_is i d q x near low hand large has) in
           let both = same_in k s r id v at i d i' d' near near' (ap (λ (z : ℕ). lane_of z d' (part_at v i').me) c.peers ∙ lanes ∙ ap (λ (z : ℕ). lane_of z d (part_at v i).me) (sym a.peers)) in
           subst (λ (z : ℕ × ℕ). FreesAt me (one.0, carried_after me.1 one.1) z.0 z.1) (λ a. (sym both.0 a, sym both.1 a)) one.4,
-    )
-
--- the places of an open frame with no slot go back as they came
-pub shuts_one : (k : Layout) (slots id : ℕ) (me : Sat) (w i d : ℕ) (x : Sent) (y₀ : Slot) → i < length me.0.parts → d < (part_at me.0 i).peers → w ≡ put_word (in_lane me.0 i d) → (in_at (part_at me.0 i) d).opened ≡ Some x
-    → x.slot ≡ None → Says x y₀ → me.1 ≡ (oldest_cell me.0 i d, y₀) ∷ rest me.1 → Allows (Ruled k) slots id me w (λ n. n) (λ _. shuts (step slots w 0 0 none) me)
-shuts_one k slots id me w i d x y₀ near low is hand small_frame says carried s r wide at small =
-    let v : View = me.0 in let p : Part = part_at v i in let o : In = in_at p d in let known = mine k s r id v at i near in let n : ℕ = k.peers in let room : ℕ = k.room in
-    let low' : d < n = subst (λ (z : ℕ). d < z) known.peers low in let l : ℕ = lane_of n d p.me in let lane : Lane = r.lane l in let f = known.ins d low' in let below = pair_below n n d p.me low' known.below in
-    let word : ℕ = get_or s.words w 0 in
-    let ok : LaneOk room (l * room) (get_or s.words (put_word l) 0) (get_or s.words (got_word l) 0) s.homes lane = r.each_lane l below in
-    let behind = ok.behind in let long : length o.taken ≡ lane.got = ap length f.0 ∙ length-take-le lane.got lane.posted behind in let room_is : p.room ≡ room = known.wide in let c : ℕ = lane.got in
-    let same : set s.words w word ≡ s.words = set-get_or s.words w 0 in let y : maybe.Option Slot = some y₀ in let open_is : lane.opened ≡ Some x = sym f.2 ∙ hand in
-    let slot : ℕ = cell_of (l * room) room c in let hs : Homes = set s.homes slot y in let o' : In = shut_one o in
-    let here : oldest_cell v i d ≡ slot = λ a. cell_of (lane_of (known.peers a) d p.me * room_is a) (room_is a) (long a) in
-    let c_near : c % room < room = mod-lt c r.some_room in let all_slots = r.all_slots in
-    let inside : slot < length s.homes = let q : l * room + c % room < n * n * room = pair_below room (n * n) l (c % room) below c_near in let big : ℕ = n * n * room in let t : ℕ = n * k.pool in let e : length s.homes ≡ big + t = all_slots in let q' : slot < big = q in omega arith in
-    let within_ins : d < length p.ins = subst (λ (z : ℕ). d < z) (sym known.all_ins) low' in
-    let after : Ruled k record { words = s.words; homes = hs; views = set s.views id (new_in_view v i d o') } =
-    in_moves k s r id v at i near d (with_opened lane None false) o' p.moves s.words hs r.place
-    (pools_shut n room k.pool r.lane r.place s.words s.homes r.pools d p.me low' known.below x s.words hs (λ q. refl) (pool_same k s r l (c % room) y below c_near) (ok.open_is x open_is) small_frame)
-    low' refl (length-set s.homes slot y) (one_slot k s r l (c % room) y hs c_near refl)
-    (closes room (l * room) (get_or s.words (put_word l) 0) (get_or s.words (got_word l) 0) s.homes lane ok x y₀ says open_is inside)
-    (f.0, f.1, refl, refl) (λ u h. h) (kept_in p known.kept d o' within_ins refl) in (
-      new_in_view v i d o',
-      gives,
-      tt,
-      subst (λ (ws : List ℕ). Ruled k record { words = ws; homes = put_back s.homes me.1; views = set s.views id (new_in_view v i d o') }) (sym same)
-          (subst (λ (cs : List (ℕ × Slot)). Ruled k record { words = s.words; homes = put_back s.homes cs; views = set s.views id (new_in_view v i d o') }) (sym carried)
-          (subst (λ (z : ℕ). Ruled k record { words = s.words; homes = set s.homes z y; views = set s.views id (new_in_view v i d o') }) (sym here) after)),
-      λ i' d' near' lower e. let h : in_lane v i' d' ≡ in_lane v i d = (let q : put_word (in_lane v i' d') ≡ put_word (in_lane v i d) = sym e ∙ is in omega arith) in
-          let both = same_in k s r id v at i d i' d' near near' h in λ a. (shut_view v (sym both.0 a) (sym both.1 a), rest me.1),
-    )
-
--- those of one with a slot
-pub shuts_pooled_one : (k : Layout) (slots id : ℕ) (me : Sat) (w i d q : ℕ) (x : Sent) (y₀ b : Slot) (more : List (ℕ × Slot)) → i < length me.0.parts → d < (part_at me.0 i).peers → w ≡ put_word (in_lane me.0 i d) → (in_at (part_at me.0 i) d).opened ≡ Some x
-    → (in_at (part_at me.0 i) d).lent ≡ true → x.slot ≡ Some q → Says x y₀ → Fills x b → me.1 ≡ (oldest_cell me.0 i d, y₀) ∷ (slot_home me.0 i q, b) ∷ more → Allows (Ruled k) slots id me w (λ n. n) (λ _. shuts_pooled (step slots w 0 0 none) me)
-shuts_pooled_one k slots id me w i d q x y₀ b more near low is hand has large says fits carried s r wide at small =
-    let v : View = me.0 in let p : Part = part_at v i in let o : In = in_at p d in let known = mine k s r id v at i near in let n : ℕ = k.peers in let room : ℕ = k.room in
-    let low' : d < n = subst (λ (z : ℕ). d < z) known.peers low in let l : ℕ = lane_of n d p.me in let lane : Lane = r.lane l in let f = known.ins d low' in let below = pair_below n n d p.me low' known.below in
-    let word : ℕ = get_or s.words w 0 in
-    let ok : LaneOk room (l * room) (get_or s.words (put_word l) 0) (get_or s.words (got_word l) 0) s.homes lane = r.each_lane l below in
-    let behind = ok.behind in let long : length o.taken ≡ lane.got = ap length f.0 ∙ length-take-le lane.got lane.posted behind in let room_is : p.room ≡ room = known.wide in let c : ℕ = lane.got in
-    let same : set s.words w word ≡ s.words = set-get_or s.words w 0 in let y : maybe.Option Slot = some y₀ in let open_is : lane.opened ≡ Some x = sym f.2 ∙ hand in
-    let slot : ℕ = cell_of (l * room) room c in let hs₁ : Homes = set s.homes slot y in let ph : ℕ = pool_home n room q in let hs : Homes = set hs₁ ph (some b) in let o' : In = shut_one o in
-    let here : oldest_cell v i d ≡ slot = λ a. cell_of (lane_of (known.peers a) d p.me * room_is a) (room_is a) (long a) in let there : slot_home v i q ≡ ph = λ a. pool_home (known.peers a) (room_is a) q in
-    let c_near : c % room < room = mod-lt c r.some_room in let all_slots = r.all_slots in let lends : lane.lent ≡ true = sym f.3 ∙ has in let oldest = ok.open_is x open_is in
-    let inside : slot < length s.homes = let q : l * room + c % room < n * n * room = pair_below room (n * n) l (c % room) below c_near in let big : ℕ = n * n * room in let t : ℕ = n * k.pool in let e : length s.homes ≡ big + t = all_slots in let q' : slot < big = q in omega arith in
-    let mine₁ = r.pools.each_sent d p.me lane.got x q low' known.below (le_refl lane.got, oldest, λ _ _. lends) large in
-    let pool_inside : ph < length hs₁ = let e : length hs₁ ≡ length s.homes = length-set s.homes slot y in let big : ℕ = n * n * room in let t : ℕ = n * k.pool in let e' : length s.homes ≡ big + t = all_slots in let lt : q < t = mine₁.0 in omega arith in
-    let within_ins : d < length p.ins = subst (λ (z : ℕ). d < z) (sym known.all_ins) low' in let e₁ = one_slot k s r l (c % room) y hs₁ c_near refl in let shut_lane : Lane = with_opened lane None false in
-    let after : Ruled k record { words = s.words; homes = hs; views = set s.views id (new_in_view v i d o') } =
-    in_moves k s r id v at i near d shut_lane o' p.moves s.words hs (put r.place q (sent d p.me lane.got))
-    (pools_shut_pooled n room k.pool r.lane r.place s.words s.homes r.pools d p.me low' known.below x q b s.words hs (λ q'. refl)
-    (λ q' ne. set_else hs₁ ph (pool_home n room q') (some b) (λ e. ne (omega arith)) ∙ pool_same k s r l (c % room) y below c_near q') (set_here hs₁ ph (some b) pool_inside) fits lends oldest large)
-    low' refl (length-set hs₁ ph (some b) ∙ length-set s.homes slot y) (e₁.0, λ m e low₂ ne near₂. set_else hs₁ ph (m * room + e) (some b) (cell_apart n room m e q low₂ near₂) ∙ e₁.1 m e low₂ ne near₂)
-    (stays room (l * room) (get_or s.words (put_word l) 0) (get_or s.words (got_word l) 0) hs₁ hs shut_lane (λ e. set_else hs₁ ph (cell_of (l * room) room e) (some b) (cell_apart n room l (e % room) q below (mod-lt e r.some_room)))
-    (closes room (l * room) (get_or s.words (put_word l) 0) (get_or s.words (got_word l) 0) s.homes lane ok x y₀ says open_is inside))
-    (f.0, f.1, refl, refl) (λ u h. h) (kept_in p known.kept d o' within_ins refl) in (
-      new_in_view v i d o',
-      chain gives gives,
-      (tt, tt),
-      subst (λ (z : List ℕ × List (ℕ × Slot)). Ruled k record { words = z.0; homes = put_back (put_back s.homes z.1) (rest z.1); views = set s.views id (new_in_view v i d o') }) (λ a. (sym same a, sym carried a))
-          (subst (λ (z : ℕ × ℕ). Ruled k record { words = s.words; homes = set (set s.homes z.0 y) z.1 (some b); views = set s.views id (new_in_view v i d o') }) (λ a. (sym here a, sym there a)) after),
-      λ i' d' near' lower e. let h : in_lane v i' d' ≡ in_lane v i d = (let q : put_word (in_lane v i' d') ≡ put_word (in_lane v i d) = sym e ∙ is in omega arith) in
-          let both = same_in k s r id v at i d i' d' near near' h in λ a. (shut_view v (sym both.0 a) (sym both.1 a), rest (rest me.1)),
     )

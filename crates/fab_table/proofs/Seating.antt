@@ -233,12 +233,6 @@ starts k ws xs pos wide zeros long d₀ cells bufs = let n : ℕ = k.peers in le
   };
 }
 
--- what holds of each member of a list from the place a on, and of one more
-pub each_more : (F : ℕ → Slot → Type 0) (l : List Slot) (y d : Slot) → ((q : ℕ) → q < length l → F q (get_or l q d)) → F (length l) y → (q : ℕ) → q < length (l ++ y ∷ []) → F q (get_or (l ++ y ∷ []) q d)
-each_more F l y d all fine q lt = let long = length-append l (y ∷ []) in dite (dec_lt q (length l))
-    (λ near. subst (F q) (in_front l (y ∷ []) q d near) (all q near))
-    (λ far. let e : length l ≡ q = omega arith in subst (λ (z : ℕ). F z (get_or (l ++ y ∷ []) z d)) e (subst (F (length l)) (sym (get_or-snoc l y d)) fine))
-
 -- a look, which tells what the rule says of the seat's own parts
 pub learns : (k : Layout) (slots id : ℕ) (me : Sat) (w : ℕ) → Allows (Ruled k) slots id me w (λ n. n) (λ _. learned me)
 learns k slots id me w s r wide at small = let v : View = me.0 in let x : ℕ = get_or s.words w 0 in let same : set s.words w x ≡ s.words = set-get_or s.words w 0 in let n : ℕ = k.peers in (

@@ -7,7 +7,6 @@
 --     saw_put          a look at what the sender published
 --     frees_pool       the open frame's slot goes back, free
 --     takes_frame      the open frame is finished, and its cell goes back
---     shuts            a look by which the open frame's places go back as they came; shuts_pooled: with its slot
 --     learned          a look that tells what holds between the parts of one seat
 use Rattle.std.specs.Prelude.{◌≡◌, ◌≢◌, ℕ, ◌+◌, ◌*◌, ◌^◌, ◌<◌, ◌≤◌, ◌⊎◌, List, [], ◌∷◌, ◌++◌, length, true, Some, None}
 use mathlib.Core.List.{IsPrefix}
@@ -22,7 +21,7 @@ use Rattle.fab_table.specs.declared.kinds.Out.{Out}
 use Rattle.fab_table.specs.declared.kinds.In.{In}
 use Rattle.fab_table.specs.declared.kinds.Part.{Part}
 use Rattle.fab_table.specs.declared.kinds.View.{View}
-use Rattle.fab_table.specs.Views.{frames_of, part_at, out_at, in_at, with_part, with_out, with_in, saw_full, saw_room, posted_one, saw_empty, saw_frame, taken_one, lane_of, put_word, got_word, still_word, pool_word, pool_home, claimed_one, refused_one, freed_one, left_one, shut_one}
+use Rattle.fab_table.specs.Views.{frames_of, part_at, out_at, in_at, with_part, with_out, with_in, saw_full, saw_room, posted_one, saw_empty, saw_frame, taken_one, lane_of, put_word, got_word, still_word, pool_word, pool_home, claimed_one, refused_one, freed_one, left_one}
 use Rattle.fab_table.specs.Rule.{cell_of, said_inline, said_pooled, Says, Fills, IsBuf, IsShort, greatest, Kept}
 
 -- the greatest number of a frame
@@ -122,9 +121,6 @@ refuse_view v i d j = new_out_view v i d (refused_one (out_at (part_at v i) d) j
 abbrev pub free_view : View → ℕ → ℕ → View
 free_view v i s = new_in_view v i s (freed_one (in_at (part_at v i) s))
 
-abbrev pub shut_view : View → ℕ → ℕ → View
-shut_view v i s = new_in_view v i s (shut_one (in_at (part_at v i) s))
-
 -- a try at the i-th part on the j-th slot of d, the q-th of all
 abbrev pub ClaimsAt : Sat → ℕ → Sat → ℕ → ℕ → ℕ → ℕ → Type 0
 ClaimsAt m r n i d j q = (r ≡ 0 → (b : Slot) × IsBuf b × (n ≡ (claim_view m.0 i d q, (slot_home m.0 i q, b) ∷ m.1)))
@@ -143,12 +139,6 @@ frees_pool st m n = (i s q : ℕ) (x : Sent) → i < length m.0.parts → s < (p
 
 abbrev pub leaves : Step Slot → Sat → Sat → Type 0
 leaves st m n = (i d : ℕ) → i < length m.0.parts → d < (part_at m.0 i).peers → st.word ≡ got_word (out_lane m.0 i d) → n ≡ (new_out_view m.0 i d (left_one (out_at (part_at m.0 i) d)), rest m.1)
-
-abbrev pub shuts : Step Slot → Sat → Sat → Type 0
-shuts st m n = (i s : ℕ) → i < length m.0.parts → s < (part_at m.0 i).peers → st.word ≡ put_word (in_lane m.0 i s) → n ≡ (shut_view m.0 i s, rest m.1)
-
-abbrev pub shuts_pooled : Step Slot → Sat → Sat → Type 0
-shuts_pooled st m n = (i s : ℕ) → i < length m.0.parts → s < (part_at m.0 i).peers → st.word ≡ put_word (in_lane m.0 i s) → n ≡ (shut_view m.0 i s, rest (rest m.1))
 
 -- each part keeps the merge rule, and between each two parts of one seat what was taken comes first in what was posted
 abbrev pub learned : Sat → Sat → Type 0

@@ -117,24 +117,6 @@ impl Play<Slot, View> for Frees {
     ghost then = { λ st m r n. frees_pool st m n };
 }
 
-/// The places of an open frame go back as they came.
-pub struct Shuts;
-
-impl Play<Slot, View> for Shuts {
-    ghost use Rattle.fab_table.specs.Plays.{shuts};
-
-    ghost then = { λ st m r n. shuts st m n };
-}
-
-/// Those of a frame with a slot.
-pub struct ShutsPooled;
-
-impl Play<Slot, View> for ShutsPooled {
-    ghost use Rattle.fab_table.specs.Plays.{shuts_pooled};
-
-    ghost then = { λ st m r n. shuts_pooled st m n };
-}
-
 /// A look that tells what holds between the parts of one seat.
 pub struct Learns;
 

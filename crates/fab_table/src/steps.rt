@@ -10,13 +10,12 @@ ghost use Rattle.fab_table.specs.declared.kinds.Slot.{Slot};
 ghost use Rattle.fab_table.specs.declared.kinds.Slot.TheVariants.{Cell, Pool};
 ghost use Rattle.fab_table.specs.Views.{frames_of, but_first, only_first, both, left_one};
 ghost use Rattle.fab_table.specs.Rule.{said_inline, said_pooled, Says, Fills, IsBuf, Owes, Repays, greatest};
-ghost use Rattle.fab_table.specs.Plays.{ClaimsAt, FreesAt, ReservesAt, SawGot, SawPut, learned, next_cell, oldest_cell, slot_home, post_view, take_view, shut_view, new_out_view};
+ghost use Rattle.fab_table.specs.Plays.{ClaimsAt, FreesAt, ReservesAt, SawGot, SawPut, learned, next_cell, oldest_cell, slot_home, post_view, take_view, new_out_view};
 ghost use Rattle.fab_table.specs.Seats.{IsOf, IsSame, IsAt, carried, view_of_seat, sat, part_of, out_of, in_of};
 
 use crate::fabric::{Fabric, PeerSeat};
 use crate::rule::{
-    Claims, Cut, Frees, Learns, Leaves, Posts, PostsPooled, Reserves, SeeGot, SeePut, Shuts,
-    ShutsPooled, Takes, Whole,
+    Claims, Cut, Frees, Learns, Leaves, Posts, PostsPooled, Reserves, SeeGot, SeePut, Takes, Whole,
 };
 
 impl Fabric {
@@ -160,32 +159,6 @@ impl Fabric {
         self.table
             .shared
             .store::<Takes>(&mut seat.seat, lane * 32 + 16, got + 1);
-    }
-
-    /// A look by which the cell of the open frame of `src` goes back with its command, unfinished.
-    pub fn shut(&self, seat: &mut PeerSeat, at: u64, me: u64, src: u64)
-        requires seat { IsOf self.now seat.old × IsAt self.now seat.old at me × (src < self.now.peers) }
-        requires cell { (x : Sent) × (y : Slot) × ((in_of seat.old at src).opened ≡ Some x) × (x.slot ≡ None) × Says x y
-            × (carried seat.old ≡ (oldest_cell (view_of_seat seat.old) at src, y) ∷ rest (carried seat.old)) }
-        ensures seat { IsSame seat.old seat.new }
-        ensures view { sat seat.new ≡ (shut_view (view_of_seat seat.old) at src, rest (carried seat.old)) }
-    {
-        let lane = (src * self.peers + me) as usize;
-        self.table.shared.load::<Shuts>(&mut seat.seat, lane * 32);
-    }
-
-    /// The same where the frame has a slot, which goes back with its bytes.
-    pub fn shut_pooled(&self, seat: &mut PeerSeat, at: u64, me: u64, src: u64)
-        requires seat { IsOf self.now seat.old × IsAt self.now seat.old at me × (src < self.now.peers) }
-        requires places { (q : ℕ) × (x : Sent) × (y : Slot) × (b : Slot) × ((in_of seat.old at src).opened ≡ Some x) × ((in_of seat.old at src).lent ≡ true) × (x.slot ≡ Some q) × Says x y × Fills x b
-            × (carried seat.old ≡ (oldest_cell (view_of_seat seat.old) at src, y) ∷ (slot_home (view_of_seat seat.old) at q, b) ∷ rest (rest (carried seat.old))) }
-        ensures seat { IsSame seat.old seat.new }
-        ensures view { sat seat.new ≡ (shut_view (view_of_seat seat.old) at src, rest (rest (carried seat.old))) }
-    {
-        let lane = (src * self.peers + me) as usize;
-        self.table
-            .shared
-            .load::<ShutsPooled>(&mut seat.seat, lane * 32);
     }
 
     /// Splits the first part of a seat's view off, to a new seat.

@@ -10,8 +10,8 @@ ghost use Rattle.fab_finish.specs.Joined.{member_actor, member_steps};
 use fab_base::NoMemory;
 use fab_ep::endpoint::Endpoint;
 use fab_link::PlainPort;
-use fab_quantum::calls::Machinery;
-use fab_quantum::peer::Peer;
+use fab_peer::calls::Machinery;
+use fab_peer::peer::Peer;
 use fab_report::{add_first, add_last, add_peer};
 use std::alloc::Global;
 

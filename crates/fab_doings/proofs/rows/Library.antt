@@ -26,8 +26,8 @@ use Rattle.fab_model.specs.State.{State}
 use Rattle.fab_model.proofs.Scripts.{script_of}
 use Rattle.fab_face.specs.Held.{AreItems}
 use Rattle.fab_laws.proofs.Scripts.{script_opening}
-use Rattle.fab_threads.specs.Law.{IsFresh}
-use Rattle.fab_threads.proofs.Opening.{start_fresh}
+use Rattle.fab_merging.specs.Law.{IsFresh}
+use Rattle.fab_merging.proofs.Opening.{start_fresh}
 use Rattle.fab_doings.specs.Doings.{Calls, Did, Doing, DoesBy, Had, Living, Posted, Took, posted_to, taken_of}
 use Rattle.fab_doings.specs.Law.{AreTold, IsRun, Kept, KeptBy, Past, begun, ins_at, outs_at}
 use Rattle.fab_doings.proofs.Obeying.{program_obeys}

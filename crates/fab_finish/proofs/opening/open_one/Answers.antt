@@ -2,7 +2,7 @@ use Rattle.std.proofs.Common.{◌∙◌, ap}
 use Rattle.fab_link.specs.Plain.{PlainHome}
 use Rattle.fab_face.specs.Ports.{Whole}
 use Rattle.fab_link.specs.Plain.{Plain}
-use Rattle.fab_quantum.specs.Turns.{Told}
+use Rattle.fab_peer.specs.Turns.{Told}
 use Rattle.fab_finish.proofs.Starting.{opens_at, actor_made}
 use Rattle.fab_finish.proofs.opening.open_one.Goals as goal
 

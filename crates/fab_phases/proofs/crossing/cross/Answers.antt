@@ -1,6 +1,6 @@
 use Rattle.std.proofs.Common.{◌≡◌, List, map, true, sym, subst}
 use Rattle.fab_wire.specs.Merged.{merges}
-use Rattle.fab_threads.specs.Law.{actors as actors_in, schedules as schedules_in}
+use Rattle.fab_merging.specs.Law.{actors as actors_in, schedules as schedules_in}
 use Rattle.fab_ring.specs.declared.port.RingPort.{RingPort}
 use Rattle.fab_ring.specs.Ports.{moves_of}
 use Rattle.fab_ring.specs.Gather.{AreAll, Gathered}

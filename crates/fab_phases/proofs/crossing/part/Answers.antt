@@ -1,7 +1,7 @@
 use Rattle.std.proofs.Common.{◌≡◌, ◌∙◌, ap, sym, subst}
 use Rattle.fab_face.specs.Held.{Held}
 use Rattle.fab_ring.specs.declared.port.RingPort.{RingPort}
-use Rattle.fab_threads.specs.Pasts.{past_of}
+use Rattle.fab_merging.specs.Pasts.{past_of}
 use Rattle.fab_phases.specs.Phases.{past_at, past_with}
 use Rattle.fab_phases.proofs.crossing.part.Goals as goal
 

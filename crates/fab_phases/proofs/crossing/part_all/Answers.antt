@@ -7,7 +7,7 @@ use Rattle.fab_face.specs.Held.{IsOpen}
 use Rattle.fab_ring.specs.declared.port.RingPort.{RingPort}
 use Rattle.fab_ring.proofs.Making.{paired_more}
 use Rattle.fab_finish.proofs.Starting.{drop_more}
-use Rattle.fab_quantum.specs.Turns.{IsCounted}
+use Rattle.fab_peer.specs.Turns.{IsCounted}
 use Rattle.fab_phases.specs.Phases.{seen_ring, past_at, past_with, living_with}
 use Rattle.fab_phases.proofs.Lists.{first_left, taken_more, taken_all, none_at}
 use Rattle.fab_phases.proofs.crossing.part_all.Goals as goal

@@ -1,7 +1,7 @@
 use Rattle.std.proofs.Common.{◌≡◌, drop, take, length}
 use Rattle.std.specs.Prelude.{map}
 use Rattle.fab_face.specs.Held.{IsOpen}
-use Rattle.fab_quantum.specs.Turns.{IsCounted}
+use Rattle.fab_peer.specs.Turns.{IsCounted}
 use Rattle.fab_phases.specs.Phases.{Paired, seen_ring, past_at, past_with, living_with}
 use Rattle.fab_phases.proofs.crossing.part_all.Given as goal
 

@@ -1,7 +1,7 @@
 use Rattle.std.proofs.Common.{◌≡◌, ◌<◌, ◌∙◌, length, map, arith, ap, refl, subst, Some}
 use Rattle.std.specs.Prelude.{slice_get}
 use Rattle.fab_model.specs.Calls.{upto}
-use Rattle.fab_threads.specs.Pasts.{begun}
+use Rattle.fab_merging.specs.Pasts.{begun}
 use Rattle.fab_finish.specs.Joined.{start}
 use Rattle.fab_finish.proofs.Starting.{list_at, drop_more}
 use Rattle.fab_phases.specs.Phases.{IsNew, past_at, at_start, first_of}

@@ -1,7 +1,7 @@
 use Rattle.std.proofs.Common.{◌≡◌, drop, take}
 use Rattle.std.specs.Prelude.{map}
 use Rattle.fab_model.specs.Calls.{upto}
-use Rattle.fab_threads.specs.Pasts.{begun}
+use Rattle.fab_merging.specs.Pasts.{begun}
 use Rattle.fab_phases.specs.Phases.{past_at, first_of}
 use Rattle.fab_phases.proofs.opening.open.Given as goal
 

@@ -5,7 +5,7 @@ use Rattle.fab_finish.specs.Joined.{start}
 use Rattle.fab_finish.proofs.Starting.{same_at}
 use Rattle.fab_face.specs.Ports.{Whole}
 use Rattle.fab_ring.specs.declared.port.RingPort.{RingPort}
-use Rattle.fab_threads.specs.Pasts.{past_of, begun}
+use Rattle.fab_merging.specs.Pasts.{past_of, begun}
 use Rattle.fab_phases.specs.Phases.{past_at, at_start}
 use Rattle.fab_phases.proofs.Lists.{ok_then}
 use Rattle.fab_phases.proofs.Starting.{past_new}

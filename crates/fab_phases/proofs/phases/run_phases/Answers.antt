@@ -7,8 +7,8 @@ use Rattle.fab_model.specs.Orders.{Reached}
 use Rattle.fab_model.specs.Peers.{fabric}
 use Rattle.fab_model.specs.Replay.{all_done}
 use Rattle.fab_model.specs.Views.{rule}
-use Rattle.fab_threads.specs.Pasts.{Past}
-use Rattle.fab_threads.specs.Law.{AreTogether, actors as actors_in, schedules as schedules_in}
+use Rattle.fab_merging.specs.Pasts.{Past}
+use Rattle.fab_merging.specs.Law.{AreTogether, actors as actors_in, schedules as schedules_in}
 use Rattle.fab_ring.specs.declared.port.RingPort.{RingPort}
 use Rattle.fab_ring.specs.Made.{rings_table}
 use Rattle.fab_ring.specs.Gather.{AreAll}

@@ -1,9 +1,9 @@
 use Rattle.std.proofs.Common.{arith, ◌+◌, sym, ◌∙◌}
 use Rattle.fab_face.specs.Ports.{seen}
-use Rattle.fab_quantum.specs.Turns.{told}
+use Rattle.fab_peer.specs.Turns.{told}
 use Rattle.fab_rounds.specs.Rounds.{between}
 use Rattle.fab_rounds.proofs.Making.{made_on, grew_told, schedules_grow, ports_stay, turns_made, still_made}
-use Rattle.fab_threads.specs.Pasts.{past_of}
+use Rattle.fab_merging.specs.Pasts.{past_of}
 use Rattle.fab_rounds.proofs.Acting.{acted_turned, reached_by}
 use Rattle.fab_rounds.proofs.rounds.run_rounds.Goals as goal
 

@@ -3,7 +3,7 @@ use Rattle.std.specs.Prelude.{not}
 use Rattle.std.specs.List.{list_all, list_any}
 use Rattle.fab_face.specs.Ports.{seen}
 use Rattle.fab_model.specs.Peers.{is_finished}
-use Rattle.fab_quantum.specs.Turns.{told, actor_of}
+use Rattle.fab_peer.specs.Turns.{told, actor_of}
 use Rattle.fab_rounds.specs.Rounds.{MadeFor, between, size}
 use Rattle.fab_rounds.proofs.rounds.run_rounds.Given as goal
 

@@ -1,5 +1,5 @@
 use Rattle.fab_face.specs.Ports.{seen}
-use Rattle.fab_quantum.specs.Turns.{told}
+use Rattle.fab_peer.specs.Turns.{told}
 use Rattle.fab_rounds.specs.Rounds.{between}
 use Rattle.fab_rounds.proofs.Making.{none_ran}
 use Rattle.fab_rounds.proofs.staying.stay.Goals as goal

@@ -1,0 +1,17 @@
+use Rattle.std.proofs.Common.{Some, None, [], true, false, length}
+use Rattle.fab_base.specs.declared.items.Kind.TheVariants.{ReadReq}
+use Rattle.fab_model.specs.Calls.{request}
+use Rattle.fab_peer.specs.Turns.{told}
+use Rattle.fab_peer.proofs.Calling.{sends_line}
+use Rattle.fab_peer.proofs.Requesting.{calls_read}
+use Rattle.fab_peer.proofs.peer.Peer.read.Goals as goal
+
+pub returns : goal.returns
+returns g c =
+    let seen = g.E.Sees.seen in
+    let a = told seen c.args.self.now in
+    let buf = c.in_ok-buf.buf in
+    sends_line a (seen c.read-answer.new.self) (request ReadReq (Some c.args.ctx) c.args.dest c.args.key c.args.at (length buf) [] None true false (Some buf))
+    (calls_read a c.args.ctx c.args.dest c.args.key c.args.at c.args.len buf c.requires.next c.in_ok-buf.ensures) c.requires.log
+    g.E.Sees.fixed c.args.dest buf c.read-answer.result c.why_of-why.result _ _ _ _ _ c.known.ensures
+    c.read-answer.ensures.ok c.read-answer.ensures.err c.why_of-why.ensures c.in_ok-drain.ensures.drained c.in_ok-done.ensures c.pushed-pushed.ensures c.either.ensures

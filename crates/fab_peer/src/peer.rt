@@ -1,0 +1,691 @@
+//! A peer over any endpoint: it does its lines, in turns.
+ghost use Rattle.std.specs.Prelude.{◌≡◌, ◌≢◌, ◌<◌, ◌||◌, length, ℕ, Some, None, Ok, Err, IfOk, OnOk, OnErr, IfSome, IfNone, is_some, nat_lt, ◌+◌, [], true, false, Bool};
+ghost use Rattle.fab_base.specs.declared.script.LineOp.TheVariants.{Wait, Recv, TRecv, MRecv, Send, TSend, Inject, TInject, Cancel};
+ghost use Rattle.fab_base.specs.declared.script.BytesWord.{BytesWord};
+ghost use Rattle.fab_base.specs.declared.faults.Fault.TheVariants.{NoMemory as LacksMemory};
+ghost use Rattle.fab_av.specs.Addresses.{answer_of};
+ghost use Rattle.fab_model.specs.Calls.{word_bytes};
+ghost use Rattle.fab_model.specs.Peers.{is_finished};
+ghost use Rattle.fab_model.specs.Receiving.{cancellable};
+ghost use Rattle.fab_model.specs.Report.{pending_of, deferred_of};
+ghost use Rattle.fab_peer.specs.Turns.{step_of, why_of};
+
+pub mod seats;
+
+use crate::calls::Calls;
+use fab_base::{Buf, BytesWord, Fault, Flags, Line, LineOp, LineResult, NoMemory, Refused, Step};
+use fab_face::events::Event;
+use fab_kept::KeptList;
+use std::alloc::Global;
+use std::mem::replace;
+
+/// A peer with its endpoint, its lines, the results of those done, the completions kept, and its schedule.
+///
+/// The endpoint is open to whoever owns the peer: over a plain port its frames are carried by hand.
+#[derive(Drop)]
+pub struct Peer<E: Calls> {
+    pub endpoint: E,
+    pub(crate) lines: Vec<Line>,
+    pub(crate) results: Vec<LineResult>,
+    pub(crate) kept: KeptList,
+    pub(crate) schedule: Vec<Step>,
+    pub(crate) alloc: Global,
+}
+
+/// What became of a line: whether it is done, and whether anything moved.
+#[derive(Clone, Copy, Drop)]
+pub(crate) struct Outcome {
+    pub(crate) done: bool,
+    pub(crate) moved: bool,
+}
+
+fn step_of(event: Event) -> Step
+    ensures { result ≡ step_of event }
+{
+    match event {
+        Event::Call => Step::Do,
+        Event::Head(source) => Step::Head(source),
+        Event::Tail(source) => Step::Tail(source),
+        Event::Sent(dest) => Step::Sent(dest),
+        Event::Draw => Step::Draw,
+    }
+}
+
+pub(crate) fn why_of(answer: Result<(), Refused>) -> Result<(), Fault>
+    ensures { result ≡ why_of answer }
+{
+    match answer {
+        Ok(()) => Ok(()),
+        Err(refused) => Err(refused.why),
+    }
+}
+
+pub(crate) fn either(a: bool, b: bool) -> bool
+    ensures { result ≡ (a || b) }
+{
+    a || b
+}
+
+fn is_above_zero(a: u32) -> bool
+    ensures { result ≡ nat_lt 0 a }
+{
+    a > 0
+}
+
+/// The bytes of a line's word.
+pub(crate) fn word_bytes(alloc: Global, word: &BytesWord) -> Result<Buf, NoMemory>
+    ensures { IfOk result (λ b. b ≡ word_bytes word.now) }
+{
+    match word {
+        BytesWord::Text(bytes) | BytesWord::Hex(bytes) => Buf::copy(alloc, bytes.as_slice()),
+        BytesWord::Zero(n) => Buf::zeros(alloc, *n),
+        BytesWord::File { .. } => Ok(Buf::empty(alloc)),
+    }
+}
+
+impl<E: Calls> Peer<E> {
+    ghost use Rattle.std.specs.Prelude.{List};
+    ghost use Rattle.fab_peer.specs.Kinds.{is_send, is_inject, is_on_receives};
+    ghost use Rattle.fab_face.specs.Acts.{Act};
+    ghost use Rattle.fab_peer.specs.Turns.{MovedOn, told, actor_of, living_of, drained, is_some_event, IsRead, IsCounted, WentOn, Answered, Lived, IsStill, is_some_act, next_op, noted, Turned, Ended, IsQuiet};
+    ghost use Rattle.fab_face.specs.Answers.{IsIdle};
+
+    /// A peer that is to do these lines over this endpoint. It takes no memory.
+    pub fn new(alloc: Global, endpoint: E, lines: Vec<Line>) -> Peer<E>
+        ensures told { told E.seen result ≡ record { seen = E.seen endpoint; lines = lines.items; results = []; kept = []; schedule = [] } }
+        ensures endpoint { result.endpoint ≡ endpoint }
+    {
+        Peer {
+            endpoint,
+            lines,
+            results: Vec::new(alloc),
+            kept: KeptList::new(alloc),
+            schedule: Vec::new(alloc),
+            alloc,
+        }
+    }
+
+    /// Empties the endpoint's log into the schedule. Whether there was an event.
+    pub(crate) fn drain(&mut self) -> Result<bool, NoMemory>
+        ensures drained { OnOk result (told E.seen self.new ≡ drained (told E.seen self.old)) }
+        ensures any { IfOk result (λ any. any ≡ is_some_event (E.seen self.old.endpoint).log) }
+    {
+        let mut any = false;
+        'events: while let Some(event) = self.endpoint.log_pop() {
+            self.schedule.push(step_of(event))?;
+            any = true;
+        }
+        Ok(any)
+    }
+
+    /// A call was answered: its line is done, unless the answer is to come again.
+    pub(crate) fn answered(&mut self, answer: Result<(), Fault>) -> Result<bool, NoMemory>
+        ensures { IfOk result (λ done. Answered answer (told E.seen self.old) (told E.seen self.new) done) }
+    {
+        match answer {
+            Ok(()) => {
+                self.results.push(LineResult::Done)?;
+                Ok(true)
+            }
+            Err(Fault::NoMemory) => Err(NoMemory),
+            Err(Fault::Again(_)) => Ok(false),
+            Err(fault) => {
+                self.schedule.push(Step::Do)?;
+                self.results.push(LineResult::Refused(fault))?;
+                Ok(true)
+            }
+        }
+    }
+
+    /// The next line is done by the peer alone, with this result.
+    pub(crate) fn noted(&mut self, what: LineResult) -> Result<Outcome, NoMemory>
+        ensures told { OnOk result (told E.seen self.new ≡ noted what (told E.seen self.old)) }
+        ensures done { IfOk result (λ o. (o.done ≡ true) × (o.moved ≡ true)) }
+    {
+        self.schedule.push(Step::Do)?;
+        self.results.push(what)?;
+        Ok(Outcome {
+            done: true,
+            moved: true,
+        })
+    }
+
+    /// A call that the peer does alone was answered, and the answer is not to come again: its line is done.
+    pub(crate) fn settled(&mut self, answer: Result<(), Fault>) -> Result<Outcome, NoMemory>
+        ensures told { OnOk result (told E.seen self.new ≡ noted (answer_of answer) (told E.seen self.old)) }
+        ensures memory { OnOk result (answer ≢ Err LacksMemory) }
+        ensures done { IfOk result (λ o. (o.done ≡ true) × (o.moved ≡ true)) }
+    {
+        match answer {
+            Ok(()) => self.noted(LineResult::Done),
+            Err(Fault::NoMemory) => Err(NoMemory),
+            Err(fault) => self.noted(LineResult::Refused(fault)),
+        }
+    }
+
+    /// The line `wait`.
+    fn wait(&mut self, ctx: Option<u64>) -> Result<Outcome, NoMemory>
+        requires log { (E.seen self.old.endpoint).log ≡ [] }
+        requires next { next_op (told E.seen self.old) ≡ Some (Wait ctx) }
+        ensures { IfOk result (λ o. WentOn (told E.seen self.old) (told E.seen self.new) o.done o.moved) }
+    {
+        let Some(kept) = self.kept.take(ctx) else {
+            return Ok(Outcome {
+                done: false,
+                moved: false,
+            });
+        };
+        self.schedule.push(Step::Do)?;
+        self.results.push(LineResult::Waited(kept))?;
+        Ok(Outcome {
+            done: true,
+            moved: true,
+        })
+    }
+
+    /// The line `send`.
+    fn send(
+        &mut self,
+        ctx: u64,
+        dest: u32,
+        buf: Buf,
+        imm: Option<u64>,
+        flags: Flags,
+    ) -> Result<Outcome, NoMemory>
+        requires log { (E.seen self.old.endpoint).log ≡ [] }
+        requires next { (word : BytesWord) × (next_op (told E.seen self.old) ≡ Some (Send ctx dest word imm flags.level flags.completion flags.fence)) × (buf ≡ word_bytes word) }
+        ensures { IfOk result (λ o. WentOn (told E.seen self.old) (told E.seen self.new) o.done o.moved) }
+    {
+        self.endpoint.known();
+        let answer = self.endpoint.send(dest, buf, imm, ctx, flags);
+        let why = why_of(answer);
+        self.drain()?;
+        let done = self.answered(why)?;
+        let pushed = self.endpoint.pushed();
+        Ok(Outcome {
+            done,
+            moved: either(done, pushed),
+        })
+    }
+
+    /// The line `tsend`.
+    fn tsend(
+        &mut self,
+        ctx: u64,
+        dest: u32,
+        tag: u64,
+        buf: Buf,
+        imm: Option<u64>,
+        flags: Flags,
+    ) -> Result<Outcome, NoMemory>
+        requires log { (E.seen self.old.endpoint).log ≡ [] }
+        requires next { (word : BytesWord) × (next_op (told E.seen self.old) ≡ Some (TSend ctx dest tag word imm flags.level flags.completion flags.fence)) × (buf ≡ word_bytes word) }
+        ensures { IfOk result (λ o. WentOn (told E.seen self.old) (told E.seen self.new) o.done o.moved) }
+    {
+        self.endpoint.known();
+        let answer = self.endpoint.tsend(dest, tag, buf, imm, ctx, flags);
+        let why = why_of(answer);
+        self.drain()?;
+        let done = self.answered(why)?;
+        let pushed = self.endpoint.pushed();
+        Ok(Outcome {
+            done,
+            moved: either(done, pushed),
+        })
+    }
+
+    /// The line `inject`.
+    fn inject(&mut self, dest: u32, buf: &Buf, imm: Option<u64>) -> Result<Outcome, NoMemory>
+        requires log { (E.seen self.old.endpoint).log ≡ [] }
+        requires next { (word : BytesWord) × (next_op (told E.seen self.old) ≡ Some (Inject dest word imm)) × (buf.now ≡ word_bytes word) }
+        ensures { IfOk result (λ o. WentOn (told E.seen self.old) (told E.seen self.new) o.done o.moved) }
+    {
+        self.endpoint.known();
+        let why = self.endpoint.inject(dest, buf.as_slice(), imm);
+        self.drain()?;
+        let done = self.answered(why)?;
+        let pushed = self.endpoint.pushed();
+        Ok(Outcome {
+            done,
+            moved: either(done, pushed),
+        })
+    }
+
+    /// The line `tinject`.
+    fn tinject(
+        &mut self,
+        dest: u32,
+        tag: u64,
+        buf: &Buf,
+        imm: Option<u64>,
+    ) -> Result<Outcome, NoMemory>
+        requires log { (E.seen self.old.endpoint).log ≡ [] }
+        requires next { (word : BytesWord) × (next_op (told E.seen self.old) ≡ Some (TInject dest tag word imm)) × (buf.now ≡ word_bytes word) }
+        ensures { IfOk result (λ o. WentOn (told E.seen self.old) (told E.seen self.new) o.done o.moved) }
+    {
+        self.endpoint.known();
+        let why = self.endpoint.tinject(dest, tag, buf.as_slice(), imm);
+        self.drain()?;
+        let done = self.answered(why)?;
+        let pushed = self.endpoint.pushed();
+        Ok(Outcome {
+            done,
+            moved: either(done, pushed),
+        })
+    }
+
+    /// The line `trecv`.
+    fn trecv(
+        &mut self,
+        ctx: u64,
+        source: Option<u32>,
+        tag: u64,
+        ignore: u64,
+        len: u32,
+    ) -> Result<Outcome, NoMemory>
+        requires log { (E.seen self.old.endpoint).log ≡ [] }
+        requires next { next_op (told E.seen self.old) ≡ Some (TRecv ctx source tag ignore len) }
+        ensures { IfOk result (λ o. WentOn (told E.seen self.old) (told E.seen self.new) o.done o.moved) }
+    {
+        let buf = Buf::zeros(self.alloc, len as u64)?;
+        self.endpoint.known();
+        let answer = self.endpoint.trecv(source, tag, ignore, buf, ctx);
+        self.endpoint.known();
+        let why = why_of(answer);
+        let drew = self.drain()?;
+        let done = self.answered(why)?;
+        Ok(Outcome {
+            done,
+            moved: either(done, drew),
+        })
+    }
+
+    /// The line `recv`.
+    fn recv(&mut self, ctx: u64, source: Option<u32>, len: u32) -> Result<Outcome, NoMemory>
+        requires log { (E.seen self.old.endpoint).log ≡ [] }
+        requires next { next_op (told E.seen self.old) ≡ Some (Recv ctx source len) }
+        ensures { IfOk result (λ o. WentOn (told E.seen self.old) (told E.seen self.new) o.done o.moved) }
+    {
+        let buf = Buf::zeros(self.alloc, len as u64)?;
+        self.endpoint.known();
+        let answer = self.endpoint.recv(source, buf, ctx);
+        self.endpoint.known();
+        let why = why_of(answer);
+        let drew = self.drain()?;
+        let done = self.answered(why)?;
+        Ok(Outcome {
+            done,
+            moved: either(done, drew),
+        })
+    }
+
+    /// The line `mrecv`, with a buffer of zeros. Where it names no least free space, this is 64 bytes, or the length of the
+    /// buffer if that is less.
+    fn mrecv(
+        &mut self,
+        ctx: u64,
+        source: Option<u32>,
+        len: u32,
+        min: Option<u32>,
+    ) -> Result<Outcome, NoMemory>
+        requires log { (E.seen self.old.endpoint).log ≡ [] }
+        requires next { next_op (told E.seen self.old) ≡ Some (MRecv ctx source len min) }
+        ensures { IfOk result (λ o. WentOn (told E.seen self.old) (told E.seen self.new) o.done o.moved) }
+    {
+        let buf = Buf::zeros(self.alloc, len as u64)?;
+        let least = min.unwrap_or(64_u32.min(len));
+        self.endpoint.known();
+        let answer = self.endpoint.recv_multi(source, buf, least, ctx);
+        self.endpoint.known();
+        let why = why_of(answer);
+        let drew = self.drain()?;
+        let done = self.answered(why)?;
+        Ok(Outcome {
+            done,
+            moved: either(done, drew),
+        })
+    }
+
+    /// The line `cancel`.
+    fn cancel(&mut self, ctx: u64) -> Result<Outcome, NoMemory>
+        requires log { (E.seen self.old.endpoint).log ≡ [] }
+        requires next { next_op (told E.seen self.old) ≡ Some (Cancel ctx) }
+        ensures { IfOk result (λ o. WentOn (told E.seen self.old) (told E.seen self.new) o.done o.moved) }
+    {
+        self.endpoint.known();
+        let answer = self.endpoint.cancel(ctx);
+        self.endpoint.known();
+        let drew = self.drain()?;
+        let done = self.answered(answer)?;
+        Ok(Outcome {
+            done,
+            moved: either(done, drew),
+        })
+    }
+
+    /// Does the next line, which is a send, if there is one.
+    fn do_send(&mut self) -> Result<Outcome, NoMemory>
+        requires log { (E.seen self.old.endpoint).log ≡ [] }
+        requires kind { IfSome (next_op (told E.seen self.old)) (λ op. is_send op ≡ true) }
+        ensures { IfOk result (λ o. WentOn (told E.seen self.old) (told E.seen self.new) o.done o.moved) }
+    {
+        let Some(line) = self.lines.get(self.results.len()) else {
+            return Ok(Outcome {
+                done: false,
+                moved: false,
+            });
+        };
+        match line.op {
+            LineOp::Send {
+                ctx,
+                dest,
+                ref bytes,
+                imm,
+                level,
+                completion,
+                fence,
+            } => {
+                let buf = word_bytes(self.alloc, bytes)?;
+                let flags = Flags {
+                    completion,
+                    level,
+                    fence,
+                };
+                self.send(ctx, dest, buf, imm, flags)
+            }
+            LineOp::TSend {
+                ctx,
+                dest,
+                tag,
+                ref bytes,
+                imm,
+                level,
+                completion,
+                fence,
+            } => {
+                let buf = word_bytes(self.alloc, bytes)?;
+                let flags = Flags {
+                    completion,
+                    level,
+                    fence,
+                };
+                self.tsend(ctx, dest, tag, buf, imm, flags)
+            }
+            _ => unreachable!(),
+        }
+    }
+
+    /// Does the next line, which is a send whose bytes are copied, if there is one.
+    fn do_inject(&mut self) -> Result<Outcome, NoMemory>
+        requires log { (E.seen self.old.endpoint).log ≡ [] }
+        requires kind { IfSome (next_op (told E.seen self.old)) (λ op. is_inject op ≡ true) }
+        ensures { IfOk result (λ o. WentOn (told E.seen self.old) (told E.seen self.new) o.done o.moved) }
+    {
+        let Some(line) = self.lines.get(self.results.len()) else {
+            return Ok(Outcome {
+                done: false,
+                moved: false,
+            });
+        };
+        match line.op {
+            LineOp::Inject {
+                dest,
+                ref bytes,
+                imm,
+            } => {
+                let buf = word_bytes(self.alloc, bytes)?;
+                self.inject(dest, &buf, imm)
+            }
+            LineOp::TInject {
+                dest,
+                tag,
+                ref bytes,
+                imm,
+            } => {
+                let buf = word_bytes(self.alloc, bytes)?;
+                self.tinject(dest, tag, &buf, imm)
+            }
+            _ => unreachable!(),
+        }
+    }
+
+    /// Does the next line, which is one on posted receives, if there is one.
+    fn do_receive(&mut self) -> Result<Outcome, NoMemory>
+        requires log { (E.seen self.old.endpoint).log ≡ [] }
+        requires kind { IfSome (next_op (told E.seen self.old)) (λ op. is_on_receives op ≡ true) }
+        ensures { IfOk result (λ o. WentOn (told E.seen self.old) (told E.seen self.new) o.done o.moved) }
+    {
+        let Some(line) = self.lines.get(self.results.len()) else {
+            return Ok(Outcome {
+                done: false,
+                moved: false,
+            });
+        };
+        match line.op {
+            LineOp::Recv { ctx, source, len } => self.recv(ctx, source, len),
+            LineOp::TRecv {
+                ctx,
+                source,
+                tag,
+                ignore,
+                len,
+            } => self.trecv(ctx, source, tag, ignore, len),
+            LineOp::MRecv {
+                ctx,
+                source,
+                len,
+                min,
+            } => self.mrecv(ctx, source, len, min),
+            LineOp::Cancel { ctx } => self.cancel(ctx),
+            _ => unreachable!(),
+        }
+    }
+
+    /// Does the next line, if there is one and it can be done.
+    fn do_line(&mut self) -> Result<Outcome, NoMemory>
+        requires log { (E.seen self.old.endpoint).log ≡ [] }
+        ensures { IfOk result (λ o. WentOn (told E.seen self.old) (told E.seen self.new) o.done o.moved) }
+    {
+        let Some(line) = self.lines.get(self.results.len()) else {
+            return Ok(Outcome {
+                done: false,
+                moved: false,
+            });
+        };
+        match line.op {
+            LineOp::Wait { ctx } => self.wait(ctx),
+            LineOp::Send { .. } | LineOp::TSend { .. } => self.do_send(),
+            LineOp::Inject { .. } | LineOp::TInject { .. } => self.do_inject(),
+            LineOp::Recv { .. } | LineOp::TRecv { .. } => self.do_receive(),
+            LineOp::MRecv { .. } | LineOp::Cancel { .. } => self.do_receive(),
+            LineOp::Peek { .. } | LineOp::Claim { .. } | LineOp::Discard { .. } => self.do_look(),
+            LineOp::Take { .. } | LineOp::DropClaimed { .. } => self.do_look(),
+            LineOp::Read { .. } | LineOp::Write { .. } | LineOp::WInject { .. } => self.do_remote(),
+            LineOp::Atomic { .. } | LineOp::Fetch { .. } | LineOp::Compare { .. } => {
+                self.do_atomic()
+            }
+            LineOp::Reg { .. } | LineOp::Close { .. } => self.do_region(),
+            LineOp::Put { .. } | LineOp::Show { .. } => self.do_region(),
+            LineOp::Count { .. } | LineOp::Reach { .. } => self.do_keeping(),
+            LineOp::Insert { .. } | LineOp::Remove { .. } => self.do_keeping(),
+        }
+    }
+
+    /// Does lines while the next one can be done, at most 16, and reads all completions after each. Whether
+    /// anything moved.
+    fn do_lines(&mut self) -> Result<bool, NoMemory>
+        requires log { (E.seen self.old.endpoint).log ≡ [] }
+        requires counted { IsCounted (living_of (told E.seen self.old)) }
+        ensures { IfOk result (λ moved. WentOn (told E.seen self.old) (told E.seen self.new) false moved) }
+    {
+        let mut moved = false;
+        for round in 0..16_u32 {
+            let outcome = self.do_line()?;
+            moved = either(moved, outcome.moved);
+            if !outcome.done {
+                return Ok(moved);
+            }
+            self.read_all()?;
+        }
+        Ok(moved)
+    }
+
+    /// Takes and posts up to 64 frames. Whether anything moved.
+    fn go_on(&mut self) -> Result<bool, NoMemory>
+        requires log { (E.seen self.old.endpoint).log ≡ [] }
+        ensures { IfOk result (λ moved. MovedOn (told E.seen self.old) (told E.seen self.new) moved) }
+    {
+        let moved = self.endpoint.progress(64)?;
+        self.endpoint.known();
+        let logged = self.drain()?;
+        let took = is_above_zero(moved.taken);
+        let posted = is_above_zero(moved.posted);
+        Ok(either(either(took, posted), logged))
+    }
+
+    /// Reads all completions, does up to 16 lines and reads after each, makes progress with up to 64 frames, and reads
+    /// again. Whether anything moved.
+    fn turn(&mut self) -> Result<bool, NoMemory>
+        requires log { (E.seen self.old.endpoint).log ≡ [] }
+        requires counted { IsCounted (living_of (told E.seen self.old)) }
+        ensures log { OnOk result ((E.seen self.new.endpoint).log ≡ []) }
+        ensures counted { OnOk result (IsCounted (living_of (told E.seen self.new))) }
+        ensures turned { IfOk result (λ moved. (acts : List Act) × Turned (told E.seen self.old) (told E.seen self.new) acts × (moved ≡ is_some_act acts)) }
+        ensures still { result ≡ Ok false → IsStill (told E.seen self.old) (told E.seen self.new) }
+    {
+        self.endpoint.known();
+        let read = self.read_all()?;
+        let done = self.do_lines()?;
+        let went = self.go_on()?;
+        let again = self.read_all()?;
+        self.endpoint.known();
+        Ok(either(either(read, done), either(went, again)))
+    }
+
+    /// A turn of the peer: it reads all completions, does up to 16 lines and reads after each, makes progress with up to
+    /// 64 frames, and reads again. Whether anything moved.
+    ///
+    /// Want of memory leaves the schedule as it was; of the rest of the peer nothing is known then.
+    pub fn quantum(&mut self) -> Result<bool, NoMemory>
+        requires log { (E.seen self.old.endpoint).log ≡ [] }
+        requires counted { IsCounted (living_of (told E.seen self.old)) }
+        ensures log { OnOk result ((E.seen self.new.endpoint).log ≡ []) }
+        ensures counted { OnOk result (IsCounted (living_of (told E.seen self.new))) }
+        ensures turned { IfOk result (λ moved. (acts : List Act) × Turned (told E.seen self.old) (told E.seen self.new) acts × (moved ≡ is_some_act acts)) }
+        ensures still { result ≡ Ok false → IsStill (told E.seen self.old) (told E.seen self.new) }
+        ensures stays { OnErr result ((told E.seen self.new).schedule ≡ (told E.seen self.old).schedule) }
+    {
+        let before = replace(&mut self.schedule, Vec::new(self.alloc));
+        let answer = self.turn();
+        let mut steps = replace(&mut self.schedule, before);
+        let moved = answer?;
+        self.schedule.append(&mut steps)?;
+        Ok(moved)
+    }
+
+    /// Cancels the first posted receive that may be cancelled, if there is one.
+    fn cancel_first(&mut self) -> Result<bool, NoMemory>
+        requires quiet { IsQuiet (told E.seen self.old) }
+        requires read { IsRead (E.seen self.old.endpoint) }
+        ensures ended { OnOk result (Ended (told E.seen self.old) (told E.seen self.new)) }
+        ensures quiet { OnOk result (IsQuiet (told E.seen self.new)) }
+        ensures fewer { result ≡ Ok true → length (E.seen self.new.endpoint).held.state.rx.posted < length (E.seen self.old.endpoint).held.state.rx.posted }
+        ensures none { result ≡ Ok false → cancellable (λ r. true) (E.seen self.new.endpoint).held.state.rx ≡ None }
+        ensures same { result ≡ Ok false → (E.seen self.new.endpoint).held ≡ (E.seen self.old.endpoint).held }
+    {
+        self.endpoint.known();
+        match self.endpoint.cancel_first() {
+            Ok(()) => {
+                self.endpoint.log_clear();
+                self.schedule.push(Step::Final)?;
+                Ok(true)
+            }
+            // All is read, so a cancel has room, and only the want of a receive refuses it.
+            Err(_) => Ok(false),
+        }
+    }
+
+    /// Cancels the posted receives that may be cancelled, in order, and reads all completions before and after each.
+    fn cancel_each(&mut self) -> Result<(), NoMemory>
+        requires quiet { IsQuiet (told E.seen self.old) }
+        ensures ended { OnOk result (Ended (told E.seen self.old) (told E.seen self.new)) }
+        ensures quiet { OnOk result (IsQuiet (told E.seen self.new)) }
+        ensures read { OnOk result (IsRead (E.seen self.new.endpoint)) }
+        ensures none { OnOk result (cancellable (λ r. true) (E.seen self.new.endpoint).held.state.rx ≡ None) }
+    {
+        self.read_all()?;
+        'receives: while self.cancel_first()? {
+            self.read_all()?;
+        }
+        Ok(())
+    }
+
+    /// Cancels the posted receives that may be cancelled, in order, and reads all completions before and after each
+    /// (fi_cancel of fi_endpoint(3)). Its steps are these reads and cancels alone.
+    ///
+    /// Want of memory leaves the schedule as it was; of the rest of the peer nothing is known then.
+    pub fn cancel_posted(&mut self) -> Result<(), NoMemory>
+        requires quiet { IsQuiet (told E.seen self.old) }
+        ensures ended { OnOk result (Ended (told E.seen self.old) (told E.seen self.new)) }
+        ensures quiet { OnOk result (IsQuiet (told E.seen self.new)) }
+        ensures read { OnOk result (IsRead (E.seen self.new.endpoint)) }
+        ensures none { OnOk result (cancellable (λ r. true) (E.seen self.new.endpoint).held.state.rx ≡ None) }
+        ensures stays { OnErr result ((told E.seen self.new).schedule ≡ (told E.seen self.old).schedule) }
+    {
+        let before = replace(&mut self.schedule, Vec::new(self.alloc));
+        let answer = self.cancel_each();
+        let mut steps = replace(&mut self.schedule, before);
+        answer?;
+        self.schedule.append(&mut steps)?;
+        Ok(())
+    }
+
+    /// Whether all lines are done.
+    pub fn finished(&self) -> bool
+        ensures { result ≡ is_finished (actor_of (told E.seen self.now)) }
+    {
+        self.lines.get(self.results.len()).is_none()
+    }
+
+    /// The peer's lines.
+    pub fn lines(&self) -> &[Line]
+        ensures { result.now ≡ (told E.seen self.now).lines }
+    {
+        self.lines.as_slice()
+    }
+
+    /// The results of the lines done, in order.
+    pub fn results(&self) -> &[LineResult]
+        ensures { result.now ≡ (told E.seen self.now).results }
+    {
+        self.results.as_slice()
+    }
+
+    /// The completions that were read and that no `wait` took, in the order of reading.
+    pub fn kept(&self) -> &KeptList
+        ensures { result.now ≡ (told E.seen self.now).kept }
+    {
+        &self.kept
+    }
+
+    /// The steps taken so far, in order.
+    pub fn schedule(&self) -> &[Step]
+        ensures { result.now ≡ (told E.seen self.now).schedule }
+    {
+        self.schedule.as_slice()
+    }
+
+    /// How many operations are transmitted and await the answer of their peer.
+    pub fn awaiting(&self) -> u32
+        ensures { result ≡ pending_of (actor_of (told E.seen self.now)) }
+    {
+        self.endpoint.awaiting()
+    }
+
+    /// How many operations are not transmitted: their items wait for their lanes, or a fence holds them back (FI_FENCE).
+    pub fn deferred(&self) -> u32
+        ensures { result ≡ deferred_of (actor_of (told E.seen self.now)) }
+    {
+        self.endpoint.deferred()
+    }
+}

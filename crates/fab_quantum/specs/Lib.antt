@@ -1,4 +1,0 @@
-pub mod Kinds
-pub mod Looks
-pub mod Turns
-pub mod Agreed
