@@ -179,7 +179,7 @@ impl<M: Matcher> Core<M> {
         }
     }
 
-    /// Whether no completion is written when the request succeeds (FI_SELECTIVE_COMPLETION of fi_cq(3)).
+    /// Whether no completion is written when the request succeeds (FI_SELECTIVE_COMPLETION of fi_endpoint(3)).
     fn asks_silently(&self, request: &Request) -> bool
         ensures { result ≡ is_silent (state_of self.now) (order_asked request.now [] [] None) }
     {

@@ -106,7 +106,7 @@ impl<M: Matcher> Core<M> {
         }
     }
 
-    /// Whether no completion is written when the message succeeds (FI_SELECTIVE_COMPLETION of fi_cq(3)).
+    /// Whether no completion is written when the message succeeds (FI_SELECTIVE_COMPLETION of fi_endpoint(3)).
     fn is_silent(&self, message: &Message) -> bool
         ensures { (bytes : List ℕ) → result ≡ is_silent (state_of self.now) (order_of message.now bytes) }
     {

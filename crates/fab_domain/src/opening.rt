@@ -62,8 +62,8 @@ fn ports(alloc: Global, info: &Info) -> Result<Vec<RingPort>, NoMemory>
 
 /// Opens the endpoints of all peers of a domain (fi_domain(3), fi_endpoint(3)): one for each number from 0 on, in
 /// order, over lanes that they share, with what was negotiated (fi_getinfo(3)). Each has all peers in its address
-/// vector, each at the index of its number (fi_av(3)). With `selective`, a message that succeeds writes a
-/// completion only where its flags ask for one (FI_SELECTIVE_COMPLETION of fi_cq(3)).
+/// vector, each at the index of its number (fi_av(3)). With `selective`, a message, write or atomic
+/// that succeeds writes a completion only where its flags ask for one (FI_SELECTIVE_COMPLETION of fi_endpoint(3)).
 ///
 /// All memory of the lanes is taken here. An endpoint may be moved to another thread.
 ///

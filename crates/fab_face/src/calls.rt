@@ -273,7 +273,7 @@ pub trait Progress: Sees {
         ensures { ReadsOn Self.fixed budget (Self.seen self.old) (Self.seen self.new) result };
 }
 
-/// Counters (fi_cntr(3)).
+/// Counters (fi_cntr(3)). No call of theirs makes progress, which fi_cntr_read(3) may.
 pub trait Counters: Sees {
     /// How many operations of the class succeeded (fi_cntr_read). It stays at 2^64 - 1.
     fn cntr_read(&self, class: Class) -> u64
@@ -294,7 +294,8 @@ pub trait Counters: Sees {
 
 /// The address vector (fi_av(3)).
 pub trait Addresses: Sees {
-    /// Inserts names into the address vector (fi_av_insert). Want of memory leaves it as it was.
+    /// Inserts names into the address vector (fi_av_insert). A name that is there already keeps
+    /// its index. Want of memory leaves it as it was.
     fn insert(&mut self, names: &[Text]) -> Result<InsertReport, NoMemory>
         requires { length names.now < 2 ^ 32 }
         ensures ok { IfOk result (λ report. Inserts names.now report (Self.seen self.old) (Self.seen self.new)) }

@@ -47,8 +47,8 @@ pub fn is_granted(info: &Info, peers: u32) -> bool
 }
 
 /// Opens an endpoint (fi_endpoint(3), with fi_ep_bind and fi_enable done) over a port that no frame has gone
-/// through, with what was negotiated and the addresses of its peers. With `selective`, a message that succeeds
-/// writes a completion only where its flags ask for one (FI_SELECTIVE_COMPLETION of fi_cq(3)).
+/// through, with what was negotiated and the addresses of its peers. With `selective`, a message, write or
+/// atomic that succeeds writes a completion only where its flags ask for one (FI_SELECTIVE_COMPLETION of fi_endpoint(3)).
 ///
 /// It takes all memory that the endpoint's calls need, but for messages that come unexpected, for requests of
 /// peers and for the replies that they are owed.
