@@ -5,7 +5,6 @@
 --     GoesOn ps qs      what led to the one leads to the other
 --     Ends ps qs        the same of what began with some lines
 --     opened conf lists each peer at the start of its lines
---     Opens conf lists ps     the peers stand there
 --     AreStill ps       no peer can do anything, and nothing is left to be carried
 use Rattle.std.specs.Prelude.{◌≡◌, ℕ, ◌<◌, ◌≤◌, ◌^◌, false, List, [], ◌++◌, map, length, take, Some, None, replicate, slice_get, slice_index_or}
 use Rattle.std.specs.Option.{option_map_or}
@@ -107,22 +106,6 @@ Ends ps qs =
 -- what an endpoint of a script holds when it is opened: every peer is in its address vector
 abbrev pub start : Conf → Held
 start conf = record { state = fresh conf; places = replicate conf.peers 0; begun = replicate conf.peers None; multis = [] }
-
--- a peer of these lines at their start, over a fresh port of this number, which posted and took nothing
-pub record OpensAt (conf : Conf) (k : ℕ) (lines : List Line) (p : Member) : Type 0 where
-  pub number : p.endpoint.port.number ≡ k
-  pub actor_is : member_actor p ≡ newly conf lines
-  pub steps_are : member_steps p ≡ []
-  pub lanes : (d : ℕ) → lane_at p.endpoint.port d ≡ fresh_lane None None
-  pub log_size : p.endpoint.log_size ≡ conf.info.log
-  pub own : IsOwn conf.peers (λ s. []) (λ d. []) p
-
-pub record Opens (conf : Conf) (lists : List (List Line)) (ps : List Member) : Type 0 where
-  pub joined : IsJoined ps
-  pub numbers : (k : ℕ) (p : Member) → slice_get ps k ≡ Some p → p.endpoint.port.number ≡ k
-  pub log_sizes : (k : ℕ) (p : Member) → slice_get ps k ≡ Some p → p.endpoint.log_size ≡ conf.info.log
-  pub actors_are : actors ps ≡ opened conf lists
-  pub schedules_are : schedules ps ≡ replicate (length ps) []
 
 -- ---- standing still
 

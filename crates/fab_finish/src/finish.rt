@@ -1,23 +1,19 @@
 //! The end of a run: the peers go on until none can, and cancel the receives that are still posted.
-ghost use Rattle.std.specs.Prelude.{◌≡◌, ◌≤◌, ℕ, length, map, slice_get, Some, true, false, Ok, IfOk, OnErr, OnOk};
-ghost use Rattle.std.specs.List.{All, list_all};
-ghost use Rattle.fab_model.specs.Orders.{Reached};
-ghost use Rattle.fab_model.specs.Peers.{fabric, is_finished};
+ghost use Rattle.std.specs.Prelude.{◌≡◌, ℕ, length, slice_get, Some, true, false, Ok, OnErr, OnOk};
+ghost use Rattle.std.specs.List.{list_all};
+ghost use Rattle.fab_model.specs.Peers.{is_finished};
 ghost use Rattle.fab_model.specs.Replay.{at_rest, all_done};
-ghost use Rattle.fab_model.specs.Views.{rule};
 ghost use Rattle.fab_peer.specs.Turns.{IsQuiet};
-ghost use Rattle.fab_finish.specs.Joined.{Member, member_actor, IsJoined, Ends, AreStill, AreCleared, Clears, actors, schedules, told_of, opened, start};
+ghost use Rattle.fab_finish.specs.Joined.{Member, member_actor, IsJoined, Ends, Clears, actors, told_of};
 ghost use Rattle.fab_finish.specs.Rests.{Rest, AreCancelled};
 ghost use Rattle.fab_finish.specs.Wanting.{Grows, Leaves};
 
-use crate::opening::open;
 use crate::rounds::settle;
-use fab_base::{Conf, Line, NoMemory};
+use fab_base::NoMemory;
 use fab_ep::endpoint::Endpoint;
 use fab_link::PlainPort;
 use fab_peer::calls::Machinery;
 use fab_peer::peer::Peer;
-use std::alloc::Global;
 
 /// How a run ended: all lines are done and no receive is posted, or some line could not be done.
 #[derive(Clone, Copy, Debug, Drop, Eq, PartialEq)]
@@ -84,26 +80,4 @@ pub fn finish<C: Machinery + Drop>(
     }
     cancel_all(peers)?;
     Ok(Ending::Drained)
-}
-
-/// Runs peers that do these lists of lines, each over a machine that holds what an endpoint holds when it is opened,
-/// until none can go on, and hands them back: some order of turns took the steps of their schedules from the start of
-/// their lines to their states. The peers have the lists in their order; a peer without a list has no lines. Where all
-/// lines are done, each peer then cancelled the receives that were still posted.
-pub fn run_peers<C: Machinery + Drop>(
-    alloc: Global,
-    conf: &Conf,
-    lists: Vec<Vec<Line>>,
-    machines: Vec<C>,
-) -> Result<Vec<Peer<Endpoint<PlainPort, C>>>, NoMemory>
-    requires count { length machines.items ≡ conf.now.peers }
-    requires log { 4 ≤ conf.now.info.log }
-    requires start { All (λ m. C.held m ≡ start conf.now) machines.items }
-    ensures reached { IfOk result (λ peers. Reached (rule fabric) (opened conf.now (map (λ l. l.items) lists.items)) (schedules peers.items) (actors peers.items)) }
-    ensures rest { IfOk result (λ peers. at_rest (actors peers.items) ≡ true) }
-    ensures cleared { IfOk result (λ peers. all_done (actors peers.items) ≡ true → AreCleared (actors peers.items)) }
-{
-    let mut peers = open(alloc, conf, lists, machines)?;
-    let _end = finish(peers.as_mut_slice())?;
-    Ok(peers)
 }

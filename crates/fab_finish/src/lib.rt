@@ -6,5 +6,4 @@
 
 pub mod carrying;
 pub mod finish;
-pub mod opening;
 pub mod rounds;

@@ -1,5 +1,5 @@
 //! All peers at the start of their lines, over the lanes of one table.
-ghost use Rattle.std.specs.Prelude.{◌≡◌, ◌≤◌, ℕ, length, map, IfOk};
+ghost use Rattle.std.specs.Prelude.{◌≡◌, ◌≤◌, ℕ, drop, length, map, slice_index_or, [], IfOk};
 ghost use Rattle.std.specs.List.{All};
 ghost use Rattle.fab_model.specs.Calls.{upto};
 ghost use Rattle.fab_finish.specs.Joined.{start as start_of};
@@ -7,12 +7,22 @@ ghost use Rattle.fab_merging.specs.Pasts.{begun};
 ghost use Rattle.fab_phases.specs.Phases.{IsNew, past_at, at_start, first_of};
 
 use fab_base::{Conf, Line, NoMemory};
-use fab_finish::opening::take_first;
 use fab_peer::calls::Machinery;
 use fab_ring::RingPort;
 use fab_rounds::runner::Runner;
 use fab_rounds::starting::start;
 use std::alloc::Global;
+
+/// Takes the first list, or an empty one where there is none. It takes no memory.
+fn take_first(alloc: Global, lists: &mut Vec<Vec<Line>>) -> Vec<Line>
+    ensures first { result.items ≡ slice_index_or (map (λ l. l.items) lists.old.items) 0 [] }
+    ensures rest { lists.new.items ≡ drop 1 lists.old.items }
+{
+    if lists.is_empty() {
+        return Vec::new(alloc);
+    }
+    lists.remove(0)
+}
 
 /// A peer that is to do these lines over a new port.
 fn open_one<C: Machinery + Drop>(
