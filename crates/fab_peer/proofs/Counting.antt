@@ -124,19 +124,6 @@ only_in test (z ∷ zs) k x within is ok few = by_test (test z) refl k within is
 
 -- ---- what the machine does
 
--- a peer that did nothing over an endpoint that did nothing
-pub counted_new : (h : Held) (lines : List Line) → h.multis ≡ [] → h.state.cq.taken_out ≡ 0 → IsCounted (living h lines [] [])
-counted_new h lines none unread =
-    let read : (ctx : ℕ) → releases_read h.state ctx ≡ 0 = λ ctx. ap (λ t. count_by (is_release ctx) (take t h.state.cq.written)) unread in
-    record {
-      within = omega (arith, unread);
-      lines_are = λ ctx. (
-          let m : multis_open h ctx ≡ 0 = ap (count_by (λ (m : ℕ × ℕ). m.0 == ctx)) none in
-          let r = read ctx in
-          omega (arith, m, r));
-      known = λ ctx. sym (read ctx);
-    }
-
 releases_grown : (n : ℕ) (s u : State) (ctx : ℕ) → Adds n s u → s.cq.taken_out ≤ length s.cq.written → releases_read u ctx ≡ releases_read s ctx
 releases_grown n s u ctx a within =
     ap (λ t. count_by (is_release ctx) (take t u.cq.written)) a.read ∙ ap (λ ws. count_by (is_release ctx) (take s.cq.taken_out ws)) a.grown

@@ -26,16 +26,6 @@ snoc_get [] x (suc k) p e = inl e
 snoc_get (y ∷ ys) x zero p e = inl e
 snoc_get (y ∷ ys) x (suc k) p e = elim (snoc_get ys x k p e) [ inl h ↦ inl h | inr h ↦ inr (ap suc h.0, h.1) ]
 
-pub opened_none : (outs : List (Vec Out Global)) (ins : List (Vec In Global)) (ports : List Queued) → ports ≡ [] → AreOpened outs outs ins ins ports 0
-opened_none outs ins ports e = record {
-  count = ap length e;
-  each = λ k p there. absurd (none-some p (subst (λ (ps : List Queued). slice_get ps k ≡ Some p) e there));
-  outs_count = refl;
-  ins_count = refl;
-  outs_left = λ k far. refl;
-  ins_left = λ k far. refl;
-}
-
 pub opened_more : (outs now_outs : List (Vec Out Global)) (ins now_ins : List (Vec In Global)) (ports : List Queued) (n : ℕ) (o o' : Vec Out Global) (i i' : Vec In Global) (p : Queued)
     → AreOpened outs now_outs ins now_ins ports n → o.items ≡ members now_outs n → i.items ≡ members now_ins n → IsOpened n o.items i.items p
     → AreOpened outs (set now_outs n o') ins (set now_ins n i') (ports ++ p ∷ []) (n + 1)
