@@ -10,7 +10,7 @@ use Rattle.fab_words.specs.declared.fault.Fault.{Fault}
 use Rattle.fab_grammar.specs.Rules.{why_from}
 use Rattle.fab_coll.specs.Grammar.{Before, Said, a_round, are_alike, are_much, round_rules, said_of, said_rules, with_round}
 use Rattle.fab_coll.specs.declared.lines.Verb.{Verb}
-use Rattle.fab_coll.specs.declared.round.Coll.{Coll}
+use Rattle.fab_fold.specs.declared.coll.Coll.{Coll}
 
 module _ (before : Before) (verb : Verb) (args : List (List ℕ)) where
   pub no_ranks : before.peers ≡ None → first_of (round_rules before verb args) ≡ Some why.Order

@@ -18,9 +18,9 @@ use Rattle.fab_words.specs.declared.fault.Fault.TheVariants.{Number, Words}
 use Rattle.fab_words.specs.declared.fault.Fault.{Fault}
 use Rattle.fab_grammar.specs.Atomics.{add_elements, atom_named, element, le_bytes, num_named, read_elements, value_of}
 use Rattle.fab_grammar.specs.Capabilities.{is_comma}
-use Rattle.fab_coll.specs.Rounds.{is_reducing}
-use Rattle.fab_coll.specs.declared.round.Coll.TheVariants.{Allgather, Allreduce, Barrier, Broadcast}
-use Rattle.fab_coll.specs.declared.round.Coll.{Coll}
+use Rattle.fab_fold.specs.Shares.{is_reducing}
+use Rattle.fab_fold.specs.declared.coll.Coll.TheVariants.{Allgather, Allreduce, Barrier, Broadcast}
+use Rattle.fab_fold.specs.declared.coll.Coll.{Coll}
 use Rattle.std.proofs.lemmas.Bool.{ltb-true}
 use Rattle.std.specs.Prelude.{codes, nat_lt}
 use Rattle.fab_words.specs.Words.{begins_with}

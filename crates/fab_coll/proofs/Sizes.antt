@@ -11,7 +11,7 @@ use Rattle.fab_model.specs.Calls.{word_bytes}
 use Rattle.fab_words.specs.Bytes.{bytes_size}
 use Rattle.fab_coll.specs.Grammar.{a_round, are_short, bytes_before}
 use Rattle.fab_coll.specs.Reading.{IsSized}
-use Rattle.fab_coll.specs.declared.round.Coll.{Coll}
+use Rattle.fab_fold.specs.declared.coll.Coll.{Coll}
 use Rattle.fab_coll.specs.declared.round.Round.{Round}
 
 pub one_size : (shares : List BytesWord) (k : ℕ) (d : BytesWord) → k < length shares → sum_by bytes_size (take (k + 1) shares) ≡ sum_by bytes_size (take k shares) + bytes_size (get_or shares k d)

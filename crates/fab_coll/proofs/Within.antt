@@ -17,9 +17,10 @@ use Rattle.fab_words.specs.Rows.{is_text, lines_of, words_of}
 use Rattle.fab_words.specs.Words.{first_of}
 use Rattle.fab_words.specs.declared.fault.Fault.{Fault}
 use Rattle.fab_grammar.specs.Rules.{is_limit, is_number, is_words}
-use Rattle.fab_coll.specs.Rounds.{AreAlike, AreShares, AreWithin, IsRound}
-use Rattle.fab_coll.specs.declared.round.Coll.TheVariants.{Allgather, Allreduce, Barrier, Broadcast}
-use Rattle.fab_coll.specs.declared.round.Coll.{Coll}
+use Rattle.fab_fold.specs.Shares.{AreAlike, AreShares}
+use Rattle.fab_coll.specs.Rounds.{AreWithin, IsRound}
+use Rattle.fab_fold.specs.declared.coll.Coll.TheVariants.{Allgather, Allreduce, Barrier, Broadcast}
+use Rattle.fab_fold.specs.declared.coll.Coll.{Coll}
 use Rattle.fab_coll.specs.declared.round.Round.{Round}
 use Rattle.fab_words.specs.Bytes.{bytes_size}
 use Rattle.fab_coll.specs.declared.lines.Verb.{Verb}

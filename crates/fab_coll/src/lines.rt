@@ -2,12 +2,12 @@
 ghost use Rattle.std.specs.Prelude.{◌≡◌, ◌∷◌, nat_lt, IfOk};
 ghost use Rattle.fab_words.specs.Words.{only_if};
 ghost use Rattle.fab_grammar.specs.Rules.{why_from};
-ghost use Rattle.fab_coll.specs.declared.round.Coll.TheVariants.{Broadcast};
+ghost use Rattle.fab_fold.specs.declared.coll.Coll.TheVariants.{Broadcast};
 ghost use Rattle.fab_coll.specs.Grammar.{allreduce_of, barrier_of, broadcast_of, is_header, peers_of, read_op, said_of, verb_of};
 
-use crate::round::{Coll, is_reducing};
 use crate::shares::{Written, read_each, read_share};
 use fab_base::{AtomicOp, BytesWord, List, NoMemory, Why};
+use fab_fold::{Coll, is_reducing};
 use fab_grammar::{atom_named, num_named};
 use fab_words::{Fault, Read, Words, both, is, read_number};
 use std::alloc::Global;

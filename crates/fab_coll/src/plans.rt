@@ -3,10 +3,12 @@ ghost use Rattle.std.specs.Prelude.{◌≡◌, ◌≤◌, ◌+◌, ◌++◌, [],
 ghost use Rattle.fab_model.specs.Calls.{upto};
 ghost use Rattle.fab_coll.specs.declared.round.Round.{Round};
 ghost use Rattle.fab_coll.specs.Plan.{lines_with, plan_of, plan_ops, receive_of, receivers, round_ops, rounds_ops, send_to, senders, wait_of};
-ghost use Rattle.fab_coll.specs.Rounds.{AreWithin, needs, share_of};
+ghost use Rattle.fab_fold.specs.Shares.{needs};
+ghost use Rattle.fab_coll.specs.Rounds.{AreWithin, share_of};
 
-use crate::round::{Coll, CollScript, Round};
+use crate::round::{CollScript, Round};
 use fab_base::{Bound, LineOp, List, NoMemory, Script};
+use fab_fold::Coll;
 use fab_workloads::{all_numbered, conf_of, receive, send, wait};
 use std::alloc::Global;
 

@@ -6,9 +6,10 @@ ghost use Rattle.fab_words.specs.Words.{first_of};
 ghost use Rattle.fab_coll.specs.Grammar.{a_round, are_much, are_short, bytes_before, is_header, nothing, peers_of, peers_rules, round_rules, said_of, verb_of, verb_rules, why_of, with_line, with_peers, with_round, with_verb};
 
 use crate::lines::{Verb, is_header, read_peers, read_round, why_from};
-use crate::round::{Coll, Round};
+use crate::round::Round;
 use crate::shares::{all_bytes, are_alike, are_short, size_of};
 use fab_base::{BytesWord, List, NoMemory, Why};
+use fab_fold::Coll;
 use fab_words::{Words, all_text};
 use std::alloc::Global;
 

@@ -25,7 +25,8 @@ use Rattle.fab_workload_laws.proofs.Rooms.{Quiet, distinct_apart, quiet_append}
 use Rattle.fab_workload_laws.proofs.Settings.{conf, fits_it, posted, sent}
 use Rattle.fab_coll.specs.declared.round.Round.{Round}
 use Rattle.fab_coll.specs.Plan.{receive_ctx, receivers, round_ops, rounds_ops, send_ctx, senders}
-use Rattle.fab_coll.specs.Rounds.{needs, share_of}
+use Rattle.fab_fold.specs.Shares.{needs}
+use Rattle.fab_coll.specs.Rounds.{share_of}
 use Rattle.fab_coll_laws.proofs.Ranks.{both_given, given, place}
 use Rattle.fab_coll_laws.proofs.Traffic.{Short, ctxs_apart, ctxs_high, ctxs_low, round_ctx, round_few, round_messages, round_quiet, round_receives, round_simple, round_wait}
 

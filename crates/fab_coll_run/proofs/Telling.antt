@@ -8,7 +8,8 @@ use Rattle.fab_model.specs.Words.{Word, hex_or_dash, line_of, text_of}
 use Rattle.fab_report.proofs.Blanks.{part_more, text_of-append}
 use Rattle.fab_coll.specs.declared.round.Round.{Round}
 use Rattle.fab_coll.specs.Plan.{round_ops, rounds_ops}
-use Rattle.fab_coll.specs.Rounds.{fold, outcome_of, share_of}
+use Rattle.fab_fold.specs.Shares.{fold, outcome_of}
+use Rattle.fab_coll.specs.Rounds.{share_of}
 use Rattle.fab_coll.specs.Text.{coll_text, rank_lines, round_words, verb_word}
 use Rattle.fab_coll.proofs.Appended.{one_round}
 use Rattle.fab_coll_laws.specs.Laws.{bytes_taken, received_of}

@@ -3,12 +3,14 @@
 //! Each function appends to a text. After want of memory the text may have gained a part of what was to be appended.
 ghost use Rattle.std.specs.Prelude.{◌≡◌, ◌++◌, ◌∷◌, [], drop, take, map, option_map, filter_map, IfOk, OnOk, string_bytes, decimal, codes};
 ghost use Rattle.fab_model.specs.Words.{hex_or_dash, line_of, text_of};
-ghost use Rattle.fab_coll.specs.Rounds.{AreReceived, AreWithin, outcome_of, share_of};
+ghost use Rattle.fab_fold.specs.Shares.{AreReceived, outcome_of};
+ghost use Rattle.fab_coll.specs.Rounds.{AreWithin, share_of};
 ghost use Rattle.fab_coll.specs.Text.{rank_lines, round_words, verb_word};
 ghost use Rattle.fab_coll_laws.specs.Laws.{RankFolds, bytes_taken};
 
 use fab_base::{Buf, Entry, LineResult, NoMemory, Taken};
-use fab_coll::{Coll, CollScript, Round, lines_in, outcome, share_of};
+use fab_coll::{CollScript, Round, lines_in, share_of};
+use fab_fold::{Coll, outcome};
 use fab_report::add_bytes;
 use std::alloc::Global;
 

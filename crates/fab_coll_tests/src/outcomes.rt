@@ -3,7 +3,7 @@ ghost use Rattle.std.specs.Prelude.{◌≡◌, [], ◌∷◌, IfOk};
 
 use fab_atomics::element_size;
 use fab_base::{AtomicOp, Buf, NoMemory, Num};
-use fab_coll::{Coll, is_reducing, outcome};
+use fab_fold::{Coll, is_reducing, outcome};
 use std::alloc::Global;
 use std::test::Fail;
 

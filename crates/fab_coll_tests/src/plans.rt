@@ -1,6 +1,7 @@
 //! A file of each kind of round: what is read of it, and the script that does it.
 use fab_base::{AtomicOp, Line, LineOp, Num};
-use fab_coll::{Coll, CollScript, Round, plan, read_rounds};
+use fab_coll::{CollScript, Round, plan, read_rounds};
+use fab_fold::Coll;
 use std::test::Fail;
 
 const FOUR: &[u8] = b"coll 1

@@ -1,6 +1,6 @@
 //! A collective that was begun.
 ghost use Rattle.std.specs.Prelude.{◌≡◌, false, true, Some, None, IfOk, IfErr, IfSome};
-ghost use Rattle.fab_coll.specs.Rounds.{outcome_of};
+ghost use Rattle.fab_fold.specs.Shares.{outcome_of};
 ghost use Rattle.fab_collectives.specs.Offering.{brought, is_of, is_under, received_after, share_in, with_share};
 
 use crate::shares::{cut, made, needs, place, sources};
@@ -8,7 +8,7 @@ use fab_app::completions::{Polled, ctx_of};
 use fab_app::endpoint::{Calls, Endpoint};
 use fab_app::trying::again;
 use fab_base::{Buf, Entry, Fault, NoMemory, Refused};
-use fab_coll::Coll;
+use fab_fold::Coll;
 use std::alloc::Global;
 
 /// What is done, by which rank of how many, and under which tag. Its receives have the tag as their context, too.
@@ -211,7 +211,7 @@ impl Collective {
     }
 
     /// Posts the receives and sends the messages that are due, and gives what the collective comes to once it is done:
-    /// what `fab_coll` makes of the own share and of those that came, in order of ranks. It makes no progress, and what it
+    /// what `outcome` of `fab_fold` makes of the own share and of those that came, in order of ranks. It makes no progress, and what it
     /// gives it gives each time that it is asked.
     ///
     /// `MsgSize` where the shares don't have one length. After an error it is not to be driven on.

@@ -1,12 +1,12 @@
 //! The ranks that do collectives together, and what each of them begins.
 ghost use Rattle.std.specs.Prelude.{◌≡◌, ◌≤◌, ◌^◌, IfOk, IfErr, OnErr};
-ghost use Rattle.fab_coll.specs.declared.round.Coll.TheVariants.{Barrier, Broadcast, Allgather, Allreduce};
+ghost use Rattle.fab_fold.specs.declared.coll.Coll.TheVariants.{Barrier, Broadcast, Allgather, Allreduce};
 
 use crate::collective::{Collective, Work};
 use fab_app::endpoint::{Calls, Endpoint};
 use fab_atomics::element_size;
 use fab_base::{AtomicOp, Buf, Fault, Num, Refused};
-use fab_coll::{Coll, is_reducing};
+use fab_fold::{Coll, is_reducing};
 use std::alloc::Global;
 
 /// The least tag and the least context of collectives, 2^63. An application that does collectives sends no message with a
@@ -15,7 +15,7 @@ use std::alloc::Global;
 pub const COLLECTIVE: u64 = 0x8000_0000_0000_0000;
 
 /// The most bytes of a share.
-pub const MOST_BYTES: usize = 4096;
+pub const MOST_SHARE: usize = 4096;
 
 /// A rank of a domain, and how many collectives it began. All ranks begin the same collectives in the same order
 /// (fi_collective(3)); then those that belong together have the same tag.
@@ -58,7 +58,7 @@ impl Group {
 
     /// Why a collective is not begun with a share of so many bytes, if it isn't.
     fn refusal(&self, coll: Coll, len: usize) -> Option<Fault> {
-        if len > MOST_BYTES {
+        if len > MOST_SHARE {
             return Some(Fault::MsgSize);
         }
         let is_right = match coll {

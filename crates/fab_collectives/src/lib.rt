@@ -7,7 +7,7 @@
 //! Collective      drive, as long as it gives nothing; and offer what is read of the completion queue
 //! ```
 //!
-//! As in `fab_coll`, each rank sends its share to every rank that needs it, and folds what it received itself. Tags and
+//! Each rank sends its share to every rank that needs it, and folds what it received itself. Tags and
 //! contexts from [`COLLECTIVE`] on are those of collectives.
 #![tactic(auto)]
 
@@ -16,5 +16,5 @@ mod group;
 mod shares;
 
 pub use collective::Collective;
-pub use fab_coll::{Coll, is_reducing};
-pub use group::{COLLECTIVE, Group, MOST_BYTES};
+pub use fab_fold::{Coll, is_reducing};
+pub use group::{COLLECTIVE, Group, MOST_SHARE};

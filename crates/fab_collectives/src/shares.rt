@@ -1,11 +1,11 @@
 //! Who needs whose share, and what is made of the shares.
 ghost use Rattle.std.specs.Prelude.{◌≡◌, IsTrue, IfOk, take};
-ghost use Rattle.fab_coll.specs.Rounds.{AreAlike, AreReceived, needs, outcome_of};
+ghost use Rattle.fab_fold.specs.Shares.{AreAlike, AreReceived, needs, outcome_of};
 ghost use Rattle.fab_collectives.specs.Places.{place_of, sources_of};
 
 use fab_atomics::element_size;
 use fab_base::{Buf, Fault};
-use fab_coll::{Coll, is_reducing, outcome};
+use fab_fold::{Coll, is_reducing, outcome};
 use std::alloc::Global;
 
 /// Whether rank t needs the share of rank s.

@@ -30,5 +30,4 @@ module _ {entries : List Taken} {capacity limit : ℕ} {cq : Completions} (kept 
   pub nothing_is_next : (r : Option (Bor Taken)) → IsItemAt entries 0 r → IfNone r (unread cq ≡ None)
   nothing_is_next None item = slice_get_past cq.written cq.taken_out (omega (arith, item.3, how_many))
   nothing_is_next (Some entry) item = tt
-
   -- ---- an unread entry by its place

@@ -28,9 +28,9 @@ use fab_outside::commands::{info_caps, replay_files, script_file};
 use fab_outside::info::info_text;
 use fab_outside::loading::{load_file, load_script};
 use fab_outside::{Clock, Depot, Failed, Sink, write_all};
+use fab_peer::calls::Machinery;
 use fab_peer_machines::machines;
 use fab_phases::scripts::run_bound;
-use fab_peer::calls::Machinery;
 use fab_window_run::{Asked, window_of, window_text};
 use fab_workload_laws::laws::law_workloads_done;
 use fab_workloads::{Workload, bench_line, bound, payload_file, workload_of};
@@ -304,7 +304,7 @@ where
 ///
 /// `coll FILE` loads FILE, a file of rounds of collectives (fi_collective(3)) in the grammar of [`fab_coll::read_rounds`], runs
 /// the script of its rounds ([`fab_coll::plan`]) as `script FILE` runs a script, and writes of each rank what it makes of
-/// each round ([`fab_coll::outcome`]): of the same file it always writes the same text, and no run of it ends at `Stuck`.
+/// each round ([`fab_fold::outcome`]): of the same file it always writes the same text, and no run of it ends at `Stuck`.
 ///
 /// The peers of a script take their turns in rounds, each peer in a thread of its own over lock-free lanes, until a round
 /// moves nothing or all lines are done, and then in one thread until none can go on. The gate is told when a turn in a

@@ -7,6 +7,7 @@ pub use Rattle.fab_app.specs.Late
 pub use Rattle.fab_app.specs.Polls
 pub use Rattle.fab_app.specs.Takes
 pub use Rattle.fab_app.specs.Trying
+pub use Rattle.fab_fold.specs.Shares
 pub use Rattle.fab_face.specs.Held
 pub use Rattle.fab_face.specs.Acts
 pub use Rattle.fab_face.specs.Answers

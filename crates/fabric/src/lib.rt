@@ -6,6 +6,8 @@
 //! Domain     what is granted, and an endpoint for each peer, in order        fi_fabric .. fi_enable
 //!        |  moved to the thread that speaks for the peer
 //! Endpoint   send, receive, read, write, poll        fi_msg, fi_tagged, fi_rma, fi_atomic, fi_cq, fi_cntr, fi_mr, fi_av
+//!        |  Group::of
+//! Group      barrier, broadcast, allgather, allreduce        fi_collective
 //! ```
 //!
 //! No call waits for another thread, and nothing moves unless a call is made: `poll` moves frames and gives the next
@@ -25,6 +27,7 @@ pub use fab_base::{
     Access, Api, AtomicOp, Buf, Busy, Cap, Caps, Class, Entry, ErrEntry, ErrKind, Fault, Flags,
     Info, Level, NoMemory, Num, PeekHow, Refused, Text,
 };
+pub use fab_collectives::{COLLECTIVE, Collective, Group, MOST_SHARE, is_reducing};
 pub use fab_face::probing::Probed;
 pub use hints::Hints;
 pub use opening::{Closed, Domain, Endpoint, close, open};

@@ -1,11 +1,10 @@
 //! What all ranks do together. Each of them makes the same calls in the same order.
 ghost use Rattle.std.specs.Prelude.{◌≡◌, List, ℕ, Ok, IfOk};
-ghost use Rattle.fab_coll.specs.Rounds.{outcome_of};
+ghost use Rattle.fabric.specs.Shares.{outcome_of};
 
 use crate::errors::Error;
 use crate::world::World;
-use fab_collectives::{Collective, MOST_BYTES};
-use fabric::{AtomicOp, Buf, Calls, Fault, Num, Refused};
+use fabric::{AtomicOp, Buf, Calls, Collective, Fault, MOST_SHARE, Num, Refused};
 use std::sync::Wait;
 
 /// A collective that was begun, or what is wrong: `invalid` where an argument is out of its range.
@@ -61,7 +60,7 @@ impl<E: Calls + Drop> World<E> {
 
     /// Each rank gets the root's bytes (MPI_Bcast), of which all have as many. They go in pieces of 4,096.
     pub fn bcast<R: Wait>(&mut self, rt: &R, root: u32, bytes: &mut [u8]) -> Result<(), Error> {
-        for piece in bytes.chunks_mut(MOST_BYTES) {
+        for piece in bytes.chunks_mut(MOST_SHARE) {
             self.bcast_piece(rt, root, piece)?;
         }
         Ok(())
@@ -90,7 +89,7 @@ impl<E: Calls + Drop> World<E> {
         num: Num,
         bytes: &mut [u8],
     ) -> Result<(), Error> {
-        for piece in bytes.chunks_mut(MOST_BYTES) {
+        for piece in bytes.chunks_mut(MOST_SHARE) {
             self.allreduce_piece(rt, op, num, piece)?;
         }
         Ok(())

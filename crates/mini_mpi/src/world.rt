@@ -5,8 +5,7 @@ ghost use Rattle.mini_mpi.specs.Wrong.{wrong_with};
 use crate::ended::{Completed, Ended, Request, Status, ended_by};
 use crate::errors::{Error, Failed, later};
 use crate::tags::{tag_of, wanted, wrong_with};
-use fab_collectives::{COLLECTIVE, Collective, Group};
-use fabric::{Buf, Calls, EndpointOver, Flags, Level};
+use fabric::{Buf, COLLECTIVE, Calls, Collective, EndpointOver, Flags, Group, Level};
 use std::alloc::Global;
 use std::sync::Wait;
 

@@ -1,6 +1,7 @@
 use Rattle.std.proofs.Common.{List, arith, drop, get_or, length, subst, sym, take, ℕ, ◌+◌, ◌<◌, ◌≡◌}
 use Rattle.fab_coll.specs.declared.round.Round.{Round}
-use Rattle.fab_coll.specs.Rounds.{AreReceived, share_of}
+use Rattle.fab_fold.specs.Shares.{AreReceived}
+use Rattle.fab_coll.specs.Rounds.{share_of}
 use Rattle.fab_coll_run.proofs.Telling.{done_more, received_is, round_told, split, told_so}
 use Rattle.fab_coll_run.proofs.texts.add_rounds.Goals as goal
 
