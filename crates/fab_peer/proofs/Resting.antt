@@ -12,12 +12,6 @@ use Rattle.fab_peer.specs.Turns.{Joins, Transmits, joined_from, part_at, posted_
 use Rattle.fab_wire.specs.Joined.{AreFirst, IsBegun}
 use Rattle.std.proofs.lemmas.List.{take-append-drop}
 
-    by_next : (o : Option Frame) → next_frame new.held d ≡ o → o ≡ None
-    by_next None is = refl
-    by_next (Some f) is =
-        let full = idle.full d below (λ none. (let no_way : Some f ≡ None = sym is ∙ none in cc)) in
-        absurd (elim full.rose [ inl r ↦ never _ _ lane r | inr r ↦ never _ _ pool r ])
-
 -- nothing waits: all that was accepted is transmitted
 none_next : (h : Held) (d : ℕ) → next_frame h d ≡ None → length (accepted_for h.state.tx d) ≤ slice_index h.state.tx.sent d
 none_next h d none = by_item (next_item h.state d) refl none
