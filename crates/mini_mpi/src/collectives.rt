@@ -66,6 +66,15 @@ impl<E: Calls + Drop> World<E> {
         Ok(())
     }
 
+    /// Each rank gets the bytes of all ranks, in order of ranks (MPI_Allgather). All ranks have as many, at most 4,096, and
+    /// `all` has room for just those of all ranks: else `Count`, and what `all` has is what it had.
+    pub fn allgather<R: Wait>(&mut self, rt: &R, own: &[u8], all: &mut [u8]) -> Result<(), Error> {
+        let share = Buf::copy(self.alloc, own)?;
+        let collective = begun(self.group.allgather(share), Error::Count)?;
+        let bytes = self.complete(rt, collective)?;
+        fill(all, bytes.as_slice())
+    }
+
     /// One piece of an allreduce.
     fn allreduce_piece<R: Wait>(
         &mut self,

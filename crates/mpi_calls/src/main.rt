@@ -12,7 +12,7 @@ use std::sync::Wait;
 use std::thread::{self, Threads};
 
 /// What is tried, in order.
-const NAMES: [&str; 9] = [
+const NAMES: [&str; 10] = [
     "any source and any tag",
     "unexpected messages, in order",
     "a message to oneself",
@@ -21,6 +21,7 @@ const NAMES: [&str; 9] = [
     "a send that waits for its receive",
     "a broadcast in pieces",
     "an allreduce in pieces",
+    "an allgather",
     "arguments out of range",
 ];
 

@@ -38,6 +38,20 @@ fn reduces<R: Wait, E: Calls + Drop>(
     Ok(bytes.as_slice() == wanted.as_slice())
 }
 
+/// All ranks get the 4 bytes of each, in order of ranks: those of a rank are its number times 5. There is no room for two.
+fn gathers<R: Wait, E: Calls + Drop>(
+    rt: &R,
+    alloc: Global,
+    world: &mut World<E>,
+) -> Result<bool, Error> {
+    let wanted = multiples(alloc, 3, 5)?;
+    let own = world.rank().wrapping_mul(5).to_le_bytes();
+    let mut all = [0u8; 12];
+    world.allgather(rt, &own, &mut all)?;
+    let short = world.allgather(rt, &own, &mut [0u8; 8]) == Err(Error::Count);
+    Ok(all.as_slice() == wanted.as_slice() && short)
+}
+
 /// Whether a call was refused for this reason, with its buffer back.
 fn is_refused(answer: &Result<Request, Failed>, wanted: Error) -> bool {
     match answer {
@@ -87,6 +101,8 @@ pub fn try_all<R: Wait, E: Calls + Drop>(
     let outcome = broadcasts(rt, alloc, world)?;
     note(rt, world, passed, outcome)?;
     let outcome = reduces(rt, alloc, world)?;
+    note(rt, world, passed, outcome)?;
+    let outcome = gathers(rt, alloc, world)?;
     note(rt, world, passed, outcome)?;
     let outcome = wrong_arguments(rt, alloc, world)?;
     note(rt, world, passed, outcome)?;
