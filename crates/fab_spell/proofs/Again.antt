@@ -45,7 +45,7 @@ use Rattle.fab_spell.specs.Print.{asked, wished, selected, settings_for, item_ro
 use Rattle.fab_spell.proofs.Parts.{LinesAgain, PartsAgain, parts_size, written_count, written_size, items_fit, parts_written, parts_plain}
 use Rattle.fab_spell.proofs.Peers.{Ends, take_items}
 use Rattle.fab_spell.proofs.Saying.{id_of, AllFiles, AllOps, some_count, true_count, made_count, Said, MayBe, AllSaid, all_said}
-use Rattle.fab_spell.proofs.Settings.{all_settings, said_so_far, kept_caps, Wishes, FilesAgain, take_caps, take_peers, take_lane, take_pool, take_tx, take_rx, take_cq, take_selective, take_files}
+use Rattle.fab_spell.proofs.AllSettings.{all_settings, said_so_far, kept_caps, Wishes, FilesAgain, take_caps, take_peers, take_lane, take_pool, take_tx, take_rx, take_cq, take_selective, take_files}
 use Rattle.fab_spell.proofs.Stepping.{Rest, Outcome, take_header}
 use Rattle.fab_spell.proofs.Written.{text_read}
 

@@ -1,4 +1,5 @@
 pub mod Again
+pub mod AllSettings
 pub mod Blanks
 pub mod ByteWords
 pub mod CapsNames
@@ -21,7 +22,6 @@ pub mod Rules
 pub mod Said
 pub mod Saying
 pub mod Sends
-pub mod Settings
 pub mod Stepping
 pub mod Texts
 pub mod Written
