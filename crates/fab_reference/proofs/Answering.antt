@@ -1,22 +1,19 @@
 -- What a call answers, from the tests that it makes.
-use Rattle.std.proofs.Common.{◌≡◌, ℕ, Bool, true, false, cond, List, ◌++◌, length, Option, Some, None, refl, sym, ap, ◌∙◌}
-use Rattle.std.specs.Prelude.{nat_lt, find, get_or, position, slice_set, is_some}
+use Rattle.std.proofs.Common.{◌≡◌, ℕ, Bool, true, false, cond, List, ◌++◌, length, Option, Some, None, refl, ap}
+use Rattle.std.specs.Prelude.{nat_lt, find, get_or, position, is_some}
 use Rattle.fab_base.specs.declared.faults.Fault.TheVariants.{Again}
 use Rattle.fab_base.specs.declared.faults.Busy.TheVariants.{CqFull}
 use Rattle.fab_base.specs.declared.faults.Fault.{Fault}
-use Rattle.fab_base.specs.declared.items.ItemHead.{ItemHead}
 use Rattle.fab_base.specs.declared.operations.Receive.{Receive}
 use Rattle.fab_base.specs.declared.operations.Arrival.{Arrival}
-use Rattle.fab_base.specs.declared.operations.Coming.TheVariants.{Into}
-use Rattle.fab_model.specs.State.{State, Receiving, with_rx}
+use Rattle.fab_model.specs.State.{State, with_rx}
 use Rattle.fab_model.specs.Complete.{release}
 use Rattle.fab_model.specs.Matching.{takes}
-use Rattle.fab_model.specs.Arrivals.{is_wanted, stays, used_up, shut, seated, heading_message, do_draw}
-use Rattle.fab_model.specs.Receiving.{Posting, goes, give, without_first, may_receive, source_is_known, least_is_wrong, taken_by, receive_of, post_fault, cancellable, cancel_fault, draws}
-use Rattle.fab_model.proofs.Firsts.{first_at, first_none, remove_first_at}
+use Rattle.fab_model.specs.Arrivals.{shut, do_draw}
+use Rattle.fab_model.specs.Receiving.{Posting, give, without_first, may_receive, source_is_known, least_is_wrong, taken_by, receive_of, post_fault, cancellable, cancel_fault, draws}
 use Rattle.fab_reference.specs.Room.{waits, place_fault, entries_drawn, entries_taken}
-use Rattle.fab_reference.specs.Places.{placed, kept_newcomer, seated_at, seated_in}
-use Rattle.fab_items.proofs.Changing.{change_first_at}
+use Rattle.fab_halves.specs.Places.{seated_at}
+use Rattle.fab_halves.proofs.Placing.{found_at, seated_is}
 use Rattle.fab_reference.proofs.Growing.{fits_post_none, fits_post_some, fits_cancel}
 
 -- ---- posting
@@ -30,33 +27,6 @@ post_fault_by s p (Some a) may short known right e = rw (may, short, known, righ
 pub post_fault_is : (s : State) (p : Posting) → may_receive s p.tagged ≡ true → nat_lt s.most_message (length p.buf) ≡ false → source_is_known s p.source ≡ true → least_is_wrong p ≡ false
     → place_fault (taken_by (receive_of s p) s) s ≡ post_fault s p
 post_fault_is s p may short known right = post_fault_by s p (taken_by (receive_of s p) s) may short known right refl
-
--- ---- the arrival of a message
-
-seated_step : (test : Receive → Bool) (total : ℕ) (r : Receive) (posted : List Receive) (k : ℕ) (b : Bool) → stays total r ≡ b → position test posted ≡ Some k → r ≡ get_or posted k r
-    → seated test total r posted ≡ seated_at k total r posted
-seated_step test total r posted k true st at is = rw (st, seated, seated_at) (change_first_at test (used_up total) r posted k at ∙ ap (λ x. slice_set posted k (used_up total x)) (sym is))
-seated_step test total r posted k false st at is = rw (st, seated, seated_at) (remove_first_at test posted k at)
-
-pub seated_is : (test : Receive → Bool) (total : ℕ) (r : Receive) (posted : List Receive) (k : ℕ) → position test posted ≡ Some k → r ≡ get_or posted k r → seated test total r posted ≡ seated_at k total r posted
-seated_is test total r posted k at is = seated_step test total r posted k (stays total r) refl at is
-
-pub found_at : {X : Type 0} (test : X → Bool) (r : X) (xs : List X) (k : ℕ) → position test xs ≡ Some k → r ≡ get_or xs k r → find test xs ≡ Some r
-found_at test r xs k at is = let first = first_at test r xs k at in first.found ∙ ap Some (sym is)
-
-pub placed_none : (source : ℕ) (head : ItemHead) (rx : Receiving) → position (is_wanted source head) rx.posted ≡ None → kept_newcomer source head rx ≡ placed source head rx
-unfolding heading_message
-placed_none source head rx e = let none = (first_none (is_wanted source head) rx.posted e).0 in rw (none, placed, heading_message) refl
-
-abbrev with_seated : List Receive → ℕ → Receive → ℕ → ℕ → Receiving → Receiving
-with_seated posted source r total k rx = goes source (Into r r.used) (record (seated_in k total r rx) { posted = posted })
-
-pub placed_some : (source : ℕ) (head : ItemHead) (rx : Receiving) (k : ℕ) (r : Receive) → position (is_wanted source head) rx.posted ≡ Some k → r ≡ get_or rx.posted k r
-    → goes source (Into r r.used) (seated_in k head.total r rx) ≡ placed source head rx
-unfolding heading_message
-placed_some source head rx k r at is =
-    let some = found_at (is_wanted source head) r rx.posted k at is in
-    rw (some, placed, heading_message) (ap (λ posted. with_seated posted source r head.total k rx) (sym (seated_is (is_wanted source head) head.total r rx.posted k at is)))
 
 -- ---- cancelling
 

@@ -1,5 +1,4 @@
-pub mod Parts
+pub mod Releasing
 pub mod Numbers
 pub mod Growing
 pub mod Answering
-pub mod LetOut

@@ -1,4 +1,2 @@
 pub mod Seen
 pub mod Room
-pub mod Places
-pub mod Letting

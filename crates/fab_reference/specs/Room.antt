@@ -3,7 +3,7 @@
 --     entries_given a       how many a receive writes that takes this arrival at once
 --     entries_sent, entries_tail, entries_drawn      how many a transmission, the bytes of an item and a draw write
 --     place_fault taken s   why a receive that takes this arrival at once, or none, has no place
-use Rattle.std.specs.Prelude.{ℕ, ◌+◌, ◌-◌, Bool, true, false, not, ◌&&◌, ◌||◌, nat_lt, nat_le, is_none, is_some, length, take, drop, [], ◌∷◌, Option, Some, None, find, if◌then◌else◌}
+use Rattle.std.specs.Prelude.{ℕ, ◌+◌, ◌-◌, Bool, true, false, not, ◌&&◌, ◌||◌, nat_lt, nat_le, is_none, is_some, length, [], ◌∷◌, Option, Some, None, find, if◌then◌else◌}
 use Rattle.fab_base.specs.declared.faults.Fault.{Fault}
 use Rattle.fab_base.specs.declared.faults.Fault.TheVariants.{Again}
 use Rattle.fab_base.specs.declared.faults.Busy.TheVariants.{CqFull, PostedFull}
@@ -17,13 +17,14 @@ use Rattle.fab_base.specs.declared.operations.Coming.{Coming}
 use Rattle.fab_base.specs.declared.operations.Coming.TheVariants.{Into, Keep, Throw, Request, Answer}
 use Rattle.std.specs.List.{list_any}
 use Rattle.fab_base.specs.declared.operations.Receive.{Receive}
-use Rattle.fab_model.specs.State.{State, Receiving, Completions, under_way, is_into, coming_from}
+use Rattle.fab_model.specs.State.{State, Receiving, Completions, under_way, coming_from}
 use Rattle.fab_model.specs.Complete.{is_made_by}
 use Rattle.fab_model.specs.Arrivals.{stays}
 use Rattle.fab_model.specs.Receiving.{draws, draw_due}
 use Rattle.fab_model.specs.Sending.{first_fault, refusal_of, ending, is_answered_by}
 use Rattle.fab_model.specs.Target.{is_keyed, outcome_of}
 use Rattle.fab_model.specs.Matching.{takes}
+use Rattle.fab_halves.specs.Places.{is_under_way_besides}
 
 abbrev pub has_room : ℕ → Completions → Bool
 has_room n cq = nat_le (length cq.written + n - cq.taken_out) cq.size
@@ -62,10 +63,6 @@ entries_sent t s = entries_of_end Done (ending t s.tx)
 abbrev pub entries_told : Outcome → ItemHead → ℕ
 entries_told Done head = elim head.kind [ WriteReq ↦ elim head.imm [ None ↦ 0 | Some _ ↦ 1 ] | _ ↦ 0 ]
 entries_told _ head = 0
-
--- an item of the receive made by this call is under way from another source
-abbrev pub is_under_way_besides : ℕ → ℕ → Receiving → Bool
-is_under_way_besides source call rx = list_any (is_into call) (take source rx.coming) || list_any (is_into call) (drop 1 (drop source rx.coming))
 
 -- the last bytes of an item write its entry, and that of the multi-receive which is let go then
 abbrev pub entries_into : Receive → ℕ → Receiving → ℕ

@@ -1,5 +1,5 @@
 -- What the plain lists of a peer are in the machine.
---     rx_of, tx_of, cq_of      its parts
+--     cq_of           its completions
 --     state_of s      the peer's machine
 --     posting_of, seen_call      a call
 use Rattle.std.specs.Prelude.{replicate}
@@ -8,26 +8,11 @@ use Rattle.fab_model.specs.Receiving.{Posting}
 use Rattle.fab_model.specs.Calls as calls
 use Rattle.fab_reference.specs.declared.calls.Call.{Call}
 use Rattle.fab_reference.specs.declared.calls.Call.TheVariants.{Transmit, Post, Look, TakeClaimed, DropClaimed, Cancel, Insert, Remove, Reg, Close, Put, Show, Count}
-use Rattle.fab_reference.specs.declared.state.Receiving.{Receiving}
-use Rattle.fab_reference.specs.declared.state.Transmitting.{Transmitting}
+use Rattle.fab_halves.specs.Seen.{rx_of, tx_of}
 use Rattle.fab_reference.specs.declared.state.Completions.{Completions}
 use Rattle.fab_reference.specs.declared.state.State.{State}
 use Rattle.fab_items.specs.Seen.{order_of}
 use Rattle.fab_reference.specs.declared.receiving.Posting as receiving
-
-abbrev pub rx_of : Receiving → machine.Receiving
-rx_of rx = record {
-  posted = rx.posted.items;
-  closing = rx.closing.items;
-  coming = rx.coming.items;
-  unexpected = rx.unexpected.items;
-  claimed = rx.claimed.items;
-  heads = rx.heads.items;
-  tails = rx.tails.items;
-}
-
-abbrev pub tx_of : Transmitting → machine.Transmitting
-tx_of tx = record { accepted = tx.accepted.items; sent = tx.sent.items; live = tx.live.items; held = tx.held.items; ops = tx.ops }
 
 abbrev pub cq_of : Completions → machine.Completions
 cq_of cq = record { written = cq.written.items; taken_out = cq.taken_out; size = cq.size }

@@ -1,6 +1,6 @@
 //! The calls on the address vector (fi_av(3)).
-ghost use Rattle.std.specs.Prelude.{◌≡◌, ◌+◌, ◌++◌, ◌∷◌, [], ℕ, length, position, find, codes, decimal, bytes_eq, IfOk, OnOk, IfSome, Some, None};
-ghost use Rattle.fab_model.specs.Calls.{upto, peer_named, is_peer, insert_new, insert, remove};
+ghost use Rattle.std.specs.Prelude.{◌≡◌, ◌+◌, ◌++◌, position, codes, decimal, bytes_eq, IfOk};
+ghost use Rattle.fab_model.specs.Calls.{peer_named, is_peer, insert_new, insert, remove};
 ghost use Rattle.fab_reference.specs.Seen.{state_of};
 
 use crate::state::State;

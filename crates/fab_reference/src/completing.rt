@@ -1,70 +1,16 @@
 //! What a whole message does to the receive that it goes to: the buffer is filled, the completion written,
 //! the multi-receive let go, and the reply booked (fi_cq(3)).
-ghost use Rattle.std.specs.Prelude.{◌≡◌, OnOk, IfNone, find, position, is_some};
+ghost use Rattle.std.specs.Prelude.{◌≡◌, OnOk, is_some};
 ghost use Rattle.fab_base.specs.declared.operations.Receive.{Receive};
-ghost use Rattle.fab_model.specs.State.{State, with_rx, write, count};
-ghost use Rattle.fab_model.specs.Matching.{change_first, remove_first};
-ghost use Rattle.fab_model.specs.Complete.{release, is_made_by, filled, fill_multi, filling, fill, let_go, release_multi, joining, reply_head, reply, book};
-ghost use Rattle.fab_reference.specs.Seen.{rx_of, tx_of, state_of};
+ghost use Rattle.fab_model.specs.Complete.{release, fill, release_multi, reply, book};
+ghost use Rattle.fab_reference.specs.Seen.{state_of};
 
-use crate::state::{Receiving, State, Transmitting};
+use crate::state::State;
 use fab_base::{Buf, Class, Entry, Item, ItemHead, NoMemory, Outcome, Receive, Taken};
-use fab_items::entries::{entry_of, has_space, paste};
+use fab_halves::take_made;
+use fab_items::entries::{entry_of, has_space};
 use fab_items::lists::narrowed;
 use fab_items::orders::reply_head;
-
-/// Where the first of these receives stands that this call made.
-fn place_of_made(receives: &[Receive], call: u64) -> Option<usize>
-    ensures { result ≡ position (is_made_by call) receives.now }
-{
-    receives.iter().position(|r| r.call == call)
-}
-
-/// Puts the bytes into the first of these receives that this call made.
-fn fill_first(receives: &mut Vec<Receive>, call: u64, place: u32, bytes: &[u8])
-    ensures { receives.new.items ≡ change_first (is_made_by call) (filled place bytes.now) receives.old.items }
-{
-    let Some(at) = place_of_made(receives.as_slice(), call) else {
-        return;
-    };
-    paste(&mut receives[at].buf, place, bytes);
-}
-
-/// Takes the first of these receives that this call made.
-fn take_made(receives: &mut Vec<Receive>, call: u64) -> Option<Receive>
-    ensures found { result ≡ find (is_made_by call) receives.old.items }
-    ensures rest { receives.new.items ≡ remove_first (is_made_by call) receives.old.items }
-    ensures none { IfNone result (receives.new.items ≡ receives.old.items) }
-{
-    let Some(at) = place_of_made(receives.as_slice(), call) else {
-        return None;
-    };
-    Some(receives.remove(at))
-}
-
-impl Receiving {
-    /// Of a multi-receive the buffer itself is kept until it is released.
-    fn fill(&mut self, receive: &Receive, place: u32, bytes: &[u8])
-        ensures { rx_of self.new ≡ filling receive.now place bytes.now (rx_of self.old) }
-    {
-        if receive.least.is_some() {
-            fill_first(&mut self.posted, receive.call, place, bytes);
-            fill_first(&mut self.closing, receive.call, place, bytes);
-        }
-    }
-}
-
-impl Transmitting {
-    /// An item joins those accepted for this peer.
-    pub fn join(&mut self, to: u32, item: Item) -> Result<(), NoMemory>
-        ensures { OnOk result (tx_of self.new ≡ joining to item (tx_of self.old)) }
-    {
-        if (to as usize) < self.accepted.len() {
-            self.accepted[to as usize].push(item)?;
-        }
-        Ok(())
-    }
-}
 
 impl State {
     /// The message is placed in the receive: its completion is written, and the receive counts.

@@ -1,4 +1,4 @@
-//! The matching machine of one peer over plain lists.
+//! The matching machine of one peer over plain lists: its two halves (`fab_halves`), put together.
 //!
 //! It does what the definitions of `fab_model` say, step by step and in their order, with no index, no
 //! port and nothing left out: the contract of each step is one equation with its definition. It is what a
@@ -9,7 +9,6 @@
 #![tactic(auto)]
 
 mod addresses;
-mod arrivals;
 pub mod calls;
 mod cancelling;
 mod completing;

@@ -3,28 +3,18 @@ ghost use Rattle.std.specs.Prelude.{◌≡◌, OnOk, IfOk, IfSome, find, true, i
 ghost use Rattle.std.specs.Option.{option_map_or};
 ghost use Rattle.fab_model.specs.State as machine;
 ghost use Rattle.fab_model.specs.State.{fits};
-ghost use Rattle.fab_model.specs.Matching.{takes, remove_first};
+ghost use Rattle.fab_model.specs.Matching.{takes};
 ghost use Rattle.fab_model.specs.Calls.{Look, TakeClaimed, DropClaimed, answer, do_call};
-ghost use Rattle.fab_model.specs.Receiving.{want_of, peeked, claim_of, claiming, without_first, look_at, look, look_fault, taking, take_claimed, drop_claimed, claimed_fault};
-ghost use Rattle.fab_reference.specs.Seen.{cq_of, rx_of, state_of};
+ghost use Rattle.fab_model.specs.Receiving.{claim_of, look_at, look, look_fault, take_claimed, drop_claimed, claimed_fault};
+ghost use Rattle.fab_reference.specs.Seen.{cq_of, state_of};
 ghost use Rattle.fab_reference.specs.Room.{has_room, entries_given};
 
 use crate::receiving::entries_given;
-use crate::state::{Receiving, State};
-use fab_base::{Arrival, Buf, ErrKind, Fault, LineResult, NoMemory, PeekHow, Receive, Taken, Want};
+use crate::state::State;
+use fab_base::{Buf, ErrKind, Fault, LineResult, NoMemory, PeekHow, Receive, Taken, Want};
 use fab_items::entries::plain_error;
 use fab_items::matching::first_taken;
 use fab_items::receives::peeked;
-
-impl Receiving {
-    /// The arrival is set aside under the context.
-    fn claim(&mut self, ctx: u64, arrival: Arrival) -> Result<(), NoMemory>
-        ensures { OnOk result (rx_of self.new ≡ claiming ctx arrival (rx_of self.old)) }
-    {
-        self.claimed.push((ctx, arrival))?;
-        Ok(())
-    }
-}
 
 impl State {
     /// What becomes of the first unexpected message that the want takes.

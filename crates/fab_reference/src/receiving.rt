@@ -1,23 +1,21 @@
-//! What a receive call does (fi_msg(3), fi_tagged(3)): posting, looking, taking, dropping, cancelling.
-ghost use Rattle.std.specs.Prelude.{◌≡◌, ◌==◌, OnOk, IfOk, IfSome, IfNone, find, position};
+//! The calls that post a receive (fi_msg(3), fi_tagged(3)): what is asked of a message, why the call is
+//! refused, and what becomes of an arrival that a receive takes or that is dropped.
+ghost use Rattle.std.specs.Prelude.{◌≡◌, OnOk, IfOk};
 ghost use Rattle.std.specs.Option.{option_map};
 ghost use Rattle.fab_base.specs.declared.faults.Fault.TheVariants.{Again};
 ghost use Rattle.fab_base.specs.declared.faults.Busy.TheVariants.{CqFull};
-ghost use Rattle.fab_base.specs.declared.operations.Receive.{Receive};
-ghost use Rattle.fab_model.specs.State.{under_way};
-ghost use Rattle.fab_model.specs.Matching.{takes, remove_first};
-ghost use Rattle.fab_model.specs.Calls.{Post, Look, TakeClaimed, DropClaimed, do_call};
-ghost use Rattle.fab_model.specs.Complete.{at_match};
-ghost use Rattle.fab_model.specs.Receiving.{used_source, source_is_known, want_of, draws, draw_due, goes, give, drop_arrival, without_first, receive_of, joining_posted, taken_by, post, may_receive, least_is_wrong, post_fault, peeked, claim_of, claiming, look_at, look, look_fault, without_claim, taking, take_claimed, drop_claimed, claimed_fault};
-ghost use Rattle.fab_reference.specs.Seen.{posting_of, rx_of, state_of};
+ghost use Rattle.fab_model.specs.Calls.{Post, do_call};
+ghost use Rattle.fab_model.specs.Receiving.{used_source, source_is_known, want_of, give, drop_arrival, receive_of, post, may_receive, least_is_wrong, post_fault};
+ghost use Rattle.fab_halves.specs.Seen.{rx_of};
+ghost use Rattle.fab_reference.specs.Seen.{posting_of, state_of};
 ghost use Rattle.fab_reference.specs.Room.{entries_given, waits, place_fault};
-ghost use Rattle.fab_reference.specs.Places.{taken_first, claimed_under};
+ghost use Rattle.fab_halves.specs.Places.{taken_first};
 
-use crate::state::{Receiving, State};
+use crate::state::State;
 use fab_base::{Arrival, Buf, Busy, Coming, Fault, LineResult, NoMemory, Receive, Want};
 use fab_items::entries::plain_error;
-use fab_items::matching::{first_taken, take_arrival};
-use fab_items::receives::{at_match, draws};
+use fab_items::matching::first_taken;
+use fab_items::receives::at_match;
 
 /// A call of recv, trecv or recv_multi. `source` is an index of the address vector, `len` the length of
 /// the buffer, which is filled with zeros.
@@ -42,97 +40,11 @@ fn least_is_wrong(posting: &Posting) -> bool
     }
 }
 
-/// Where the first message stands that is claimed under the context.
-fn place_of_claim(claimed: &[(u64, Arrival)], ctx: u64) -> Option<usize>
-    ensures { result ≡ position (λ c. c.0 == ctx) claimed.now }
-{
-    claimed.iter().position(|claim| claim.0 == ctx)
-}
-
 /// How many entries a receive writes that takes this arrival at once: none where it is not whole.
 pub fn entries_given(arrival: &Arrival) -> usize
     ensures { result ≡ entries_given arrival.now }
 {
     if arrival.bytes.is_some() { 1 } else { 0 }
-}
-
-impl Receiving {
-    /// Where the first receive stands that takes one of the unexpected messages.
-    pub fn place_of_drawing(&self) -> Option<usize>
-        ensures { result ≡ position (draws self.now.unexpected.items) self.now.posted.items }
-    {
-        let unexpected = self.unexpected.as_slice();
-        self.posted.iter().position(|r| draws(unexpected, r))
-    }
-
-    /// Whether a posted multi-receive takes an unexpected message.
-    pub fn draw_due(&self) -> bool
-        ensures { result ≡ draw_due (rx_of self.now) }
-    {
-        let unexpected = self.unexpected.as_slice();
-        self.posted.iter().any(|r| draws(unexpected, r))
-    }
-
-    /// What still comes from the source goes there.
-    pub fn send_to(&mut self, source: u32, to: Coming)
-        ensures { rx_of self.new ≡ goes source to (rx_of self.old) }
-    {
-        if (source as usize) < self.coming.len() {
-            self.coming[source as usize] = Some(to);
-        }
-    }
-
-    /// A receive joins those posted.
-    fn post(&mut self, receive: Receive) -> Result<(), NoMemory>
-        ensures { OnOk result (rx_of self.new ≡ joining_posted receive (rx_of self.old)) }
-    {
-        self.posted.push(receive)?;
-        Ok(())
-    }
-
-    /// Takes the message that the receive takes at once. A multi-receive leaves it to the draws.
-    fn take_for(&mut self, receive: &Receive) -> Option<Arrival>
-        ensures found { result ≡ taken_first receive.now.least receive.now.want (rx_of self.old) }
-        ensures some { IfSome result (λ _. rx_of self.new ≡ without_first receive.now.want (rx_of self.old)) }
-        ensures none { IfNone result (rx_of self.new ≡ rx_of self.old) }
-    {
-        if receive.least.is_some() {
-            return None;
-        }
-        self.take_unexpected(&receive.want)
-    }
-
-    /// Takes the first unexpected message that the want takes.
-    pub fn take_unexpected(&mut self, want: &Want) -> Option<Arrival>
-        ensures found { result ≡ find (takes want.now) self.old.unexpected.items }
-        ensures rest { rx_of self.new ≡ without_first want.now (rx_of self.old) }
-        ensures none { IfNone result (rx_of self.new ≡ rx_of self.old) }
-    {
-        take_arrival(&mut self.unexpected, want)
-    }
-
-    /// The message that is claimed under the context.
-    pub fn claim_of(&self, ctx: u64) -> Option<&Arrival>
-        ensures { option_map (λ a. a.now) result ≡ claimed_under ctx (rx_of self.now) }
-    {
-        match self.claimed.iter().find(|claim| claim.0 == ctx) {
-            Some(claim) => Some(&claim.1),
-            None => None,
-        }
-    }
-
-    /// Takes the message that is claimed under the context.
-    pub fn take_claim(&mut self, ctx: u64) -> Option<Arrival>
-        ensures found { result ≡ claimed_under ctx (rx_of self.old) }
-        ensures rest { rx_of self.new ≡ without_claim ctx (rx_of self.old) }
-        ensures none { IfNone result (rx_of self.new ≡ rx_of self.old) }
-    {
-        let Some(at) = place_of_claim(self.claimed.as_slice(), ctx) else {
-            return None;
-        };
-        let (_, arrival) = self.claimed.remove(at);
-        Some(arrival)
-    }
 }
 
 impl State {

@@ -1,5 +1,5 @@
 //! The calls on memory regions (fi_mr(3)).
-ghost use Rattle.std.specs.Prelude.{◌≡◌, ◌+◌, ◌++◌, ◌∷◌, [], length, map, IfOk, OnOk};
+ghost use Rattle.std.specs.Prelude.{◌≡◌, IfOk};
 ghost use Rattle.fab_model.specs.Calls.{reg, close, put, show};
 ghost use Rattle.fab_reference.specs.Seen.{state_of};
 

@@ -1,15 +1,12 @@
 //! How many entries a step writes, so that it is known before whether they have room.
 ghost use Rattle.std.specs.Prelude.{◌≡◌, IfOk};
-ghost use Rattle.std.specs.List.{list_any};
-ghost use Rattle.fab_model.specs.State.{is_into};
-ghost use Rattle.fab_model.specs.Complete.{is_made_by};
-ghost use Rattle.fab_reference.specs.Seen.{rx_of, state_of};
-ghost use Rattle.fab_reference.specs.Room.{entries_ended, entries_sent, entries_told, is_under_way_besides, entries_into, entries_tail, is_let_go, entries_drawn};
+ghost use Rattle.fab_halves.specs.Seen.{rx_of};
+ghost use Rattle.fab_reference.specs.Seen.{state_of};
+ghost use Rattle.fab_reference.specs.Room.{entries_ended, entries_sent, entries_told, entries_into, entries_tail, is_let_go, entries_drawn};
 
 use crate::receiving::entries_given;
-use crate::state::{Receiving, State, is_into};
+use crate::state::State;
 use fab_base::{Arrival, Coming, ItemHead, Kind, NoMemory, Operation, Outcome, Receive};
-use fab_items::lists::split;
 use fab_items::matching::first_taken;
 use fab_items::receives::{stays, used_up};
 use fab_items::target::outcome_of;
@@ -32,31 +29,6 @@ fn entries_of_request(outcome: Outcome, head: &ItemHead) -> usize
     match (outcome, head.kind, head.imm) {
         (Outcome::Done, Kind::WriteReq, Some(_)) => 1,
         _ => 0,
-    }
-}
-
-/// Whether one of these items goes into the receive made by this call.
-fn any_into(coming: &[Option<Coming>], call: u64) -> bool
-    ensures { result ≡ list_any (is_into call) coming.now }
-{
-    coming.iter().any(|coming| is_into(call, coming))
-}
-
-impl Receiving {
-    /// Whether an item of the receive made by this call is under way from another source than this.
-    fn is_under_way_besides(&self, source: u32, call: u64) -> bool
-        ensures { result ≡ is_under_way_besides source call (rx_of self.now) }
-    {
-        let (before, rest) = split(self.coming.as_slice(), source as usize);
-        let (_, after) = split(rest, 1);
-        any_into(before, call) || any_into(after, call)
-    }
-
-    /// Whether the multi-receive made by this call is closing.
-    fn is_closing(&self, call: u64) -> bool
-        ensures { result ≡ list_any (is_made_by call) self.now.closing.items }
-    {
-        self.closing.iter().any(|r| r.call == call)
     }
 }
 

@@ -1,43 +1,17 @@
-//! What the machine knows of one peer, as plain lists.
+//! What the machine knows of one peer: its two halves (`fab_halves`), and what else it has.
 //!
-//! Nothing is left out: all items ever accepted and all completions ever written are kept, and a list by
-//! peer has a member for each peer. A number that would pass its last value is answered as want of
-//! memory: no script is long enough for that.
+//! Nothing is left out: all completions ever written are kept. A number that would pass its last value is
+//! answered as want of memory: no script is long enough for that.
 ghost use Rattle.std.specs.Prelude.{◌≡◌, ◌<◌, OnOk};
-ghost use Rattle.fab_model.specs.State.{coming_from, under_way, is_into, writing, class_place, tally_of, lookup, called, write, count};
-ghost use Rattle.std.specs.Option.{option_map};
+ghost use Rattle.fab_model.specs.State.{writing, class_place, tally_of, lookup, called, write, count};
 ghost use Rattle.fab_reference.specs.Room.{has_room};
-ghost use Rattle.fab_reference.specs.Seen.{rx_of, cq_of, state_of};
+ghost use Rattle.fab_reference.specs.Seen.{cq_of, state_of};
 
-use fab_base::{
-    Arrival, Caps, Class, Coming, Held, Item, List, NoMemory, Operation, Receive, Taken, Tally,
-    Written,
-};
+use fab_base::{Caps, Class, NoMemory, Taken, Tally, Written};
+use fab_halves::{Receiving, Transmitting};
 use fab_items::lists::one_more;
 use fab_items::target::Region;
 use std::alloc::Global;
-
-/// What arrived, and which receives wait for it.
-#[derive(Drop)]
-pub struct Receiving {
-    pub posted: Vec<Receive>,
-    pub closing: Vec<Receive>,
-    pub coming: Vec<Option<Coming>>,
-    pub unexpected: Vec<Arrival>,
-    pub claimed: Vec<(u64, Arrival)>,
-    pub heads: Vec<u64>,
-    pub tails: Vec<u64>,
-}
-
-/// What was accepted for each peer, and how much of it is transmitted.
-#[derive(Drop)]
-pub struct Transmitting {
-    pub accepted: Vec<List<Item>>,
-    pub sent: Vec<u64>,
-    pub live: Vec<Operation>,
-    pub held: Vec<List<Held>>,
-    pub ops: u64,
-}
 
 /// All completions ever written, and how many of these are read.
 #[derive(Drop)]
@@ -63,37 +37,6 @@ pub struct State {
     pub counters: [Tally; 6],
     pub calls: u64,
     pub alloc: Global,
-}
-
-/// Whether the item goes into the receive made by this call.
-pub fn is_into(call: u64, coming: &Option<Coming>) -> bool
-    ensures { result ≡ is_into call coming.now }
-{
-    match coming {
-        Some(Coming::Into(receive, _)) => receive.call == call,
-        Some(Coming::Keep | Coming::Throw | Coming::Request | Coming::Answer) | None => false,
-    }
-}
-
-impl Receiving {
-    /// Whether an item of the receive made by this call has arrived and is not whole.
-    pub fn is_under_way(&self, call: u64) -> bool
-        ensures { result ≡ under_way (rx_of self.now) call }
-    {
-        self.coming.iter().any(|coming| is_into(call, coming))
-    }
-}
-
-impl Receiving {
-    /// Where the item goes that has arrived from the source and is not whole.
-    pub fn coming_from(&self, source: u32) -> Option<&Coming>
-        ensures { option_map (λ coming. coming.now) result ≡ coming_from (rx_of self.now) source }
-    {
-        match self.coming.get(source as usize) {
-            Some(coming) => coming.as_ref(),
-            None => None,
-        }
-    }
 }
 
 impl Completions {

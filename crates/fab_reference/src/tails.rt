@@ -1,65 +1,15 @@
 //! What the bytes of an item do once all of them are there, and the draws.
-ghost use Rattle.std.specs.Prelude.{◌≡◌, map, OnOk, Some};
+ghost use Rattle.std.specs.Prelude.{◌≡◌, OnOk, Some};
 ghost use Rattle.fab_base.specs.declared.operations.Coming.TheVariants.{Into};
-ghost use Rattle.fab_model.specs.Arrivals.{do_head, do_draw, completed, keeping, remote_data, remote_event, do_request, tail_to, do_tail};
-ghost use Rattle.fab_reference.specs.Seen.{rx_of, state_of};
+ghost use Rattle.fab_model.specs.Arrivals.{do_head, do_draw, remote_data, remote_event, do_request, tail_to, do_tail};
+ghost use Rattle.fab_reference.specs.Seen.{state_of};
 
-use crate::state::{Receiving, State};
-use fab_base::{
-    Arrival, Buf, Class, Coming, Entry, ItemHead, Kind, NoMemory, Outcome, Receive, Taken,
-};
+use crate::state::State;
+use fab_base::{Buf, Class, Coming, Entry, ItemHead, Kind, NoMemory, Outcome, Receive, Taken};
 use fab_items::matching::is_message;
 use fab_items::orders::is_answered;
 use fab_items::receives::{at_delivery, at_either};
 use fab_items::target::perform;
-
-/// The arrival has its bytes, if they are these.
-fn complete(arrival: &mut Arrival, source: u32, bytes: &Buf) -> Result<(), NoMemory>
-    ensures { OnOk result (arrival.new ≡ completed source bytes.now arrival.old) }
-{
-    if arrival.source == source && arrival.bytes.is_none() {
-        let copy = bytes.clone()?;
-        arrival.bytes = Some(copy);
-    }
-    Ok(())
-}
-
-fn complete_unexpected(
-    unexpected: &mut Vec<Arrival>,
-    source: u32,
-    bytes: &Buf,
-) -> Result<(), NoMemory>
-    ensures { OnOk result (unexpected.new.items ≡ map (completed source bytes.now) unexpected.old.items) }
-{
-    for place in 0..unexpected.len() {
-        complete(&mut unexpected[place], source, bytes)?;
-    }
-    Ok(())
-}
-
-fn complete_claimed(
-    claimed: &mut Vec<(u64, Arrival)>,
-    source: u32,
-    bytes: &Buf,
-) -> Result<(), NoMemory>
-    ensures { OnOk result (claimed.new.items ≡ map (λ c. (c.0, completed source bytes.now c.1)) claimed.old.items) }
-{
-    for place in 0..claimed.len() {
-        complete(&mut claimed[place].1, source, bytes)?;
-    }
-    Ok(())
-}
-
-impl Receiving {
-    /// The bytes join the arrival, which is unexpected or claimed.
-    #[tactic(auto, unfolding(fab_model::specs::Arrivals::keeping))]
-    fn keep(&mut self, source: u32, bytes: &Buf) -> Result<(), NoMemory>
-        ensures { OnOk result (rx_of self.new ≡ keeping source bytes.now (rx_of self.old)) }
-    {
-        complete_unexpected(&mut self.unexpected, source, bytes)?;
-        complete_claimed(&mut self.claimed, source, bytes)
-    }
-}
 
 impl State {
     /// A performed write with remote data tells its target (FI_REMOTE_CQ_DATA of fi_cq(3)).

@@ -1,8 +1,9 @@
 use Rattle.std.proofs.Common.{◌≡◌, Some, true, false, ap, sym, ◌∙◌, rules}
 use Rattle.std.specs.Prelude.{is_some}
 use Rattle.fab_model.specs.Receiving.{cancellable}
-use Rattle.fab_reference.specs.Seen.{rx_of, state_of}
-use Rattle.fab_reference.specs.Places.{chosen}
+use Rattle.fab_halves.specs.Seen.{rx_of}
+use Rattle.fab_reference.specs.Seen.{state_of}
+use Rattle.fab_halves.specs.Places.{chosen}
 use Rattle.fab_reference.proofs.Answering.{cancel_fault_is}
 use Rattle.fab_reference.proofs.state.State.cancel_fault.Goals as goal
 

@@ -6,9 +6,11 @@ use Rattle.fab_model.specs.Matching.{takes}
 use Rattle.fab_model.specs.Complete.{release}
 use Rattle.fab_model.specs.Receiving.{draws, give, without_first}
 use Rattle.fab_model.proofs.Firsts.{first_none}
-use Rattle.fab_reference.specs.Places.{seated_in}
-use Rattle.fab_reference.specs.Seen.{rx_of, state_of}
-use Rattle.fab_reference.proofs.Answering.{draw_none, draw_untaken, draw_some, found_at}
+use Rattle.fab_halves.specs.Places.{seated_in}
+use Rattle.fab_halves.specs.Seen.{rx_of}
+use Rattle.fab_reference.specs.Seen.{state_of}
+use Rattle.fab_halves.proofs.Placing.{found_at}
+use Rattle.fab_reference.proofs.Answering.{draw_none, draw_untaken, draw_some}
 use Rattle.fab_reference.proofs.state.State.do_draw.Goals as goal
 
 pub returns-in_default : goal.returns-in_default

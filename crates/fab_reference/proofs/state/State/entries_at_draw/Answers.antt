@@ -4,7 +4,8 @@ use Rattle.fab_model.specs.Matching.{takes}
 use Rattle.fab_model.specs.Receiving.{draws}
 use Rattle.fab_model.proofs.Firsts.{first_none}
 use Rattle.fab_reference.specs.Seen.{state_of}
-use Rattle.fab_reference.proofs.Answering.{found_at, drawn_none, drawn_untaken, drawn_some}
+use Rattle.fab_halves.proofs.Placing.{found_at}
+use Rattle.fab_reference.proofs.Answering.{drawn_none, drawn_untaken, drawn_some}
 use Rattle.fab_reference.proofs.state.State.entries_at_draw.Goals as goal
 use Rattle.fab_reference.proofs.state.State.entries_at_draw.Goals.{else-is_some-via-then-is_some+in_ok-is_let_go+else-branch, else-is_some-via-else-is_some}
 

@@ -5,8 +5,9 @@ use Rattle.std.proofs.lemmas.List.{length-replicate}
 use Rattle.fab_base.specs.declared.items.Want.{Want}
 use Rattle.fab_model.specs.Receiving.{may_receive, source_is_known, least_is_wrong}
 use Rattle.fab_reference.specs.Room.{place_fault}
-use Rattle.fab_reference.specs.Places.{taken_first}
-use Rattle.fab_reference.specs.Seen.{rx_of, state_of, posting_of}
+use Rattle.fab_halves.specs.Places.{taken_first}
+use Rattle.fab_halves.specs.Seen.{rx_of}
+use Rattle.fab_reference.specs.Seen.{state_of, posting_of}
 use Rattle.fab_reference.proofs.Answering.{post_fault_is}
 use Rattle.fab_reference.proofs.state.State.post_fault.Goals as goal
 

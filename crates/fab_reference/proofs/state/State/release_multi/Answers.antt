@@ -4,7 +4,7 @@ use Rattle.fab_base.specs.declared.operations.Receive.{Receive}
 use Rattle.fab_model.specs.State.{under_way}
 use Rattle.fab_model.specs.Complete.{is_made_by}
 use Rattle.fab_reference.specs.Seen.{state_of}
-use Rattle.fab_reference.proofs.Parts.{release_some, let_go_in}
+use Rattle.fab_reference.proofs.Releasing.{release_some, let_go_in}
 use Rattle.fab_reference.proofs.state.State.release_multi.Goals as goal
 
 pub returns : goal.returns
