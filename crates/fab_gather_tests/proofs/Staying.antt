@@ -9,7 +9,7 @@ use Rattle.fab_face.specs.Held.{Seen}
 use Rattle.fab_ring.specs.declared.port.RingPort.{RingPort}
 use Rattle.fab_ring.specs.Ports.{number_of, peers_of, out_of, in_of}
 use Rattle.fab_ring.specs.Gather.{GoesOn}
-use Rattle.fab_gather_tests.specs.Pair.{HasTakenAs, Stays}
+use Rattle.fab_gather_tests.specs.Staying.{HasTakenAs, Stays}
 
 -- ---- calls of an endpoint
 

@@ -1,10 +1,10 @@
 //! Two endpoints whose ports are gathered while a message is on its way, and that go on over plain ports.
-ghost use Rattle.std.specs.Prelude.{◌≡◌, ℕ, IfSome};
-ghost use Rattle.fab_link.specs.Meaning.{AreFresh};
-ghost use Rattle.fab_ring.specs.Ports.{number_of, peers_of, table_of, out_of, in_of};
-ghost use Rattle.fab_gather_tests.specs.Pair.{Stays};
+ghost use Rattle.std.specs.Prelude.{◌≡◌, ℕ, ◌<◌, IfSome};
+ghost use Rattle.fab_ring.specs.Ports.{number_of, peers_of, table_of};
+ghost use Rattle.fab_port_suite.specs.Lanes.{IsSame};
+ghost use Rattle.fab_port_tests.specs.Pairs.{IsFresh};
+ghost use Rattle.fab_gather_tests.specs.Staying.{HasTakenAs, Stays};
 
-use crate::gathered::{next, pair_gathered, two_ports};
 use fab_av::Av;
 use fab_base::{Api, Buf, Busy, Caps, Entry, Fault, Flags, Hints, Info, Level};
 use fab_ep::endpoint::Endpoint;
@@ -12,8 +12,9 @@ use fab_face::calls::{Messages, Progress};
 use fab_face::events::{Moved, Stop};
 use fab_face::machine::Machine;
 use fab_info::getinfo;
-use fab_link::PlainPort;
+use fab_link::{PlainPort, Port};
 use fab_open::{BinMachine, open};
+use fab_port_tests::{pair_gathered, two_ports};
 use fab_ring::RingPort;
 use std::alloc::Global;
 use std::process::Abort;
@@ -89,6 +90,19 @@ fn goes_out<E: Progress>(zero: &mut E, one: &mut E) -> bool {
     first && rest && byte && sent(one) == Some(2)
 }
 
+/// The tag of the next frame of a peer, with how many bytes it has.
+fn next<P: Port>(port: &mut P, src: u32) -> Option<(u64, usize)>
+    requires { src < P.peer_count port.old }
+    ensures same { IsSame P.Port port.old port.new }
+    ensures outs { P.outs port.new ≡ P.outs port.old }
+    ensures ins { (s : ℕ) → HasTakenAs (P.ins port.old s) (P.ins port.new s) }
+{
+    match port.front(src) {
+        Some(frame) => Some((frame.head.item.tag, frame.bytes.len())),
+        None => None,
+    }
+}
+
 /// Both endpoints over plain ports that theirs are gathered into, and what is the next frame of peer 1 for peer 0 then.
 /// Where memory lacks it is no use to go on: an endpoint that gave its port up is not let go without another.
 fn crossed<C: Machine, R: Abort>(
@@ -148,7 +162,7 @@ fn granted() -> Option<Info> {
 /// The endpoint over this port.
 fn open_over(alloc: Global, port: RingPort, info: &Info) -> Option<Endpoint<RingPort, BinMachine>>
     requires peers { peers_of port ≡ 2 }
-    requires fresh { (d : ℕ) → AreFresh (out_of port d) (in_of port d) }
+    requires fresh { IsFresh port }
     ensures { IfSome result (λ e. e.port ≡ port) }
 {
     let av = Av::all(alloc, 2).ok()?;

@@ -1,11 +1,7 @@
-//! Tests of ports that are gathered into plain ports, and of endpoints that go on over these.
+//! Tests of endpoints whose ports are gathered into plain ports, and that go on over these.
 //!
-//! They stand in a crate of their own, so that `fab_ring` isn't proved twice.
+//! They stand in a crate of their own, above the ports and the endpoints.
 #![tactic(auto)]
 
 #[cfg(test)]
 mod crossing;
-#[cfg(test)]
-mod gathered;
-#[cfg(test)]
-mod middle;

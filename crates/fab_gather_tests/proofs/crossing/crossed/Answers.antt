@@ -11,5 +11,5 @@ reseat-requires-clause-goes_on g c =
     let looked = c.next-came.ensures in
     let same : c.unseat-zero.result.1 ≡ c.unseat-zero.result.0.port = given.port ∙ sym (ap (λ (e : Whole RingPort). e.port) given.endpoint) in
     let goes : GoesOn c.unseat-zero.result.1 c.in-Ok.zero_plain = c.in-Ok.ensures.goes_on.0 in
-    let s = subst (λ (p : RingPort). Succeeds p c.next-came.new.port) same (succeeds c.unseat-zero.result.1 c.in-Ok.zero_plain c.next-came.new.port goes looked.number looked.peers looked.outs looked.ins) in
+    let s = subst (λ (p : RingPort). Succeeds p c.next-came.new.port) same (succeeds c.unseat-zero.result.1 c.in-Ok.zero_plain c.next-came.new.port goes looked.same.0 looked.same.1 looked.outs looked.ins) in
     record { fresh = s.fresh; number = s.number; peers = s.peers; out_after = s.out_after; in_after = s.in_after }

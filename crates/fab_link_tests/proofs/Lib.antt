@@ -1,2 +1,0 @@
-mod Owing
-mod Paying

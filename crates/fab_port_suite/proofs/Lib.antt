@@ -1,0 +1,4 @@
+pub mod Owing
+pub mod Paying
+pub mod Between
+pub mod Lists

@@ -1,0 +1,3 @@
+pub mod PlainPorts
+pub mod RingPorts
+pub mod QueuePorts
