@@ -1,0 +1,9 @@
+//! Calls of the receive half, `fab_rx`, handed on as they are, with the clauses that they have there.
+//!
+//! A body of a call that does something else is tried here (`must-fail/`), where a check takes seconds, and not in
+//! `fab_rx`; what no edit of these can do is refused by theorem (`proofs/Refused.antt`).
+#![tactic(auto)]
+
+mod calls;
+
+pub use calls::{cancel, draw, finish, first_closes, post};
