@@ -1,107 +1,39 @@
 //! The address vector: fi_av_test, fi_av_xfer.
-use fabric::{Calls, EndpointOver, Fault, Text};
-use fabtests_calls::{Verdict, carries, check, from_one, posts, receives, sends};
-use std::alloc::Global;
-
-/// The index of a name that is inserted, if it has one.
-fn inserts<E: Calls + Drop>(
-    alloc: Global,
-    endpoint: &mut EndpointOver<E>,
-    name: &str,
-) -> Option<u32> {
-    let name = Text::copy(alloc, name).ok()?;
-    let report = endpoint.insert(&[name]).ok()?;
-    report.indices.as_slice().first().copied().flatten()
-}
-
-/// Why an address is not removed.
-fn removes<E: Calls + Drop>(endpoint: &mut EndpointOver<E>, index: u32) -> Result<(), Fault> {
-    endpoint.remove(index)
-}
-
-/// The index of a peer.
-fn index_of<E: Calls + Drop>(endpoint: &EndpointOver<E>, peer: u32) -> Option<u32> {
-    endpoint.index_of(peer)
-}
+use fabric::Fault;
+use fabtests_calls::Completion::Received;
+use fabtests_calls::Deed::{Name, Posts, Refuses, Sends};
+use fabtests_calls::Name::{Finds, Inserts, Removes, RemovesNone};
+use fabtests_calls::Refusal::Inject;
+use fabtests_calls::Row;
+use fabtests_calls::Step::{AtZero, Carry, One, Zero};
 
 /// Names of peers have an index each, others none. An index is never given twice.
-pub fn av_test<E: Calls + Drop>(alloc: Global, zero: &mut EndpointOver<E>) -> Verdict {
-    check(
-        index_of(zero, 1) == Some(1),
-        "each peer stands at the index of its number",
-    )?;
-    check(
-        inserts(alloc, zero, "shm://1") == Some(1),
-        "a name that stands keeps its index",
-    )?;
-    check(
-        inserts(alloc, zero, "shm://2") == None,
-        "a name of no peer has none",
-    )?;
-    check(
-        inserts(alloc, zero, "localhost") == None,
-        "nor has what is no name",
-    )?;
-    check(removes(zero, 1) == Ok(()), "an address is removed")?;
-    check(removes(zero, 1) == Err(Fault::NoEntry), "and once")?;
-    check(
-        removes(zero, 9) == Err(Fault::NoEntry),
-        "none is removed where none stands",
-    )?;
-    check(index_of(zero, 1) == None, "the peer has no index then")?;
-    check(
-        inserts(alloc, zero, "shm://1") == Some(2),
-        "a new one has the next index",
-    )?;
-    check(
-        index_of(zero, 1) == Some(2),
-        "under which the peer is found",
-    )
-}
-
-/// Why a message to this index is refused.
-fn injects<E: Calls + Drop>(endpoint: &mut EndpointOver<E>, dest: u32) -> Result<(), Fault> {
-    endpoint.inject(dest, b"?", None)
-}
+#[rattlefmt::skip]
+pub const AV_TEST: &[Row] = &[
+    (Zero(Name(Finds(1, Some(1)))), "each peer stands at the index of its number"),
+    (Zero(Name(Inserts("shm://1", Some(1)))), "a name that stands keeps its index"),
+    (Zero(Name(Inserts("shm://2", None))), "a name of no peer has none"),
+    (Zero(Name(Inserts("localhost", None))), "nor has what is no name"),
+    (Zero(Name(Removes(1))), "an address is removed"),
+    (Zero(Name(RemovesNone(1))), "and once"),
+    (Zero(Name(RemovesNone(9))), "none is removed where none stands"),
+    (Zero(Name(Finds(1, None))), "the peer has no index then"),
+    (Zero(Name(Inserts("shm://1", Some(2)))), "a new one has the next index"),
+    (Zero(Name(Finds(1, Some(2)))), "under which the peer is found"),
+];
 
 /// Messages go to a peer while an address of it stands: not to an index that was removed, and to the new one.
-pub fn av_xfer<E: Calls + Drop>(
-    alloc: Global,
-    zero: &mut EndpointOver<E>,
-    one: &mut EndpointOver<E>,
-) -> Verdict {
-    check(
-        posts(alloc, zero, 3, 1) && posts(alloc, zero, 3, 2),
-        "receives are posted",
-    )?;
-    check(
-        sends(alloc, one, 0, b"1st", 1),
-        "a message to the peer's index is accepted",
-    )?;
-    check(removes(one, 0) == Ok(()), "the address is removed")?;
-    check(
-        injects(one, 0) == Err(Fault::Invalid),
-        "a message to it is refused",
-    )?;
-    check(
-        inserts(alloc, one, "shm://0") == Some(2),
-        "the address is inserted again",
-    )?;
-    check(
-        sends(alloc, one, 2, b"2nd", 2),
-        "a message to the new index is accepted",
-    )?;
-    check(
-        injects(one, 0) == Err(Fault::Invalid),
-        "the old one is still refused",
-    )?;
-    carries(zero, one);
-    check(
-        receives(zero, from_one(1, 3), b"1st"),
-        "what was accepted before came",
-    )?;
-    check(
-        receives(zero, from_one(2, 3), b"2nd"),
-        "what was sent to the new index came",
-    )
-}
+#[rattlefmt::skip]
+pub const AV_XFER: &[Row] = &[
+    (Zero(Posts(3, 1)), "a receive is posted"),
+    (Zero(Posts(3, 2)), "another one is posted"),
+    (One(Sends(0, b"1st", 1)), "a message to the peer's index is accepted"),
+    (One(Name(Removes(0))), "the address is removed"),
+    (One(Refuses(Inject(0, Fault::Invalid))), "a message to it is refused"),
+    (One(Name(Inserts("shm://0", Some(2)))), "the address is inserted again"),
+    (One(Sends(2, b"2nd", 2)), "a message to the new index is accepted"),
+    (One(Refuses(Inject(0, Fault::Invalid))), "the old one is still refused"),
+    (Carry, "both go on"),
+    (AtZero(Received(1, None, None, 3, b"1st")), "what was accepted before came"),
+    (AtZero(Received(2, None, None, 3, b"2nd")), "what was sent to the new index came"),
+];

@@ -1,14 +1,15 @@
 //! The tests, by libfabric's names for them.
-use crate::addresses::{av_test, av_xfer};
-use crate::exchanging::{Exchange, exchanges};
-use crate::messages::{cq_data, inj_complete, multi_recv, rdm, unexpected_msg};
+use crate::addresses::{AV_TEST, AV_XFER};
+use crate::atomics::RDM_ATOMIC;
+use crate::messages::{CQ_DATA, INJ_COMPLETE, MULTI_RECV, RDM, UNEXPECTED_MSG};
 use crate::opening::dom_test;
-use crate::queues::{cntr_test, cq_test};
-use crate::resources::resmgmt;
-use crate::tagged::{rdm_tagged_peek, recv_cancel};
+use crate::queues::{CNTR_TEST, CQ_TEST};
+use crate::regions::{MR_TEST, MULTI_MR, RDM_RMA_EVENT, RMA_BW};
+use crate::resources::RESMGMT;
+use crate::tagged::{RDM_TAGGED_PEEK, RECV_CANCEL};
 use fabric::{Api, Calls, EndpointOver, Hints};
-use fabtests_calls::Verdict;
-use fabtests_rma::{mr_test, multi_mr, rdm_atomic, rdm_rma_event, rma_bw};
+use fabtests_calls::{Row, Verdict, walks};
+use fabtests_threads::{Exchange, exchanges};
 use std::alloc::Global;
 use std::thread::Threads;
 
@@ -16,51 +17,41 @@ use std::thread::Threads;
 #[derive(Clone, Copy, Drop)]
 pub enum Test {
     Dom(u32),
-    Alone(Alone),
+    /// Two endpoints in one thread take these steps.
+    Steps(Wish, &'static [Row]),
     Threads(Exchange),
 }
 
-/// A test whose two endpoints both stand in one thread.
+/// What is asked for besides two peers: nothing, the second version of the interface, or lists that are soon full.
 #[derive(Clone, Copy, Drop)]
-pub enum Alone {
-    AvTest,
-    AvXfer,
-    CntrTest,
-    CqData,
-    CqTest,
-    InjComplete,
-    MrTest,
-    MultiMr,
-    MultiRecv,
-    Rdm,
-    RdmAtomic,
-    RdmRmaEvent,
-    RdmTaggedPeek,
-    RecvCancel,
-    Resmgmt,
-    RmaBw,
-    UnexpectedMsg,
+pub enum Wish {
+    Two,
+    Second,
+    Few,
 }
 
 /// The lines that are printed, but for that of fi_getinfo_test and fi_dom_test.
 pub const LINES: [(&str, Test); 21] = [
-    ("fi_av_test", Test::Alone(Alone::AvTest)),
-    ("fi_cq_test", Test::Alone(Alone::CqTest)),
-    ("fi_cntr_test", Test::Alone(Alone::CntrTest)),
-    ("fi_mr_test", Test::Alone(Alone::MrTest)),
-    ("fi_rdm", Test::Alone(Alone::Rdm)),
-    ("fi_rdm_tagged_peek", Test::Alone(Alone::RdmTaggedPeek)),
-    ("fi_recv_cancel", Test::Alone(Alone::RecvCancel)),
-    ("fi_unexpected_msg", Test::Alone(Alone::UnexpectedMsg)),
-    ("fi_multi_recv", Test::Alone(Alone::MultiRecv)),
-    ("fi_cq_data", Test::Alone(Alone::CqData)),
-    ("fi_inj_complete", Test::Alone(Alone::InjComplete)),
-    ("fi_av_xfer", Test::Alone(Alone::AvXfer)),
-    ("fi_resmgmt_test", Test::Alone(Alone::Resmgmt)),
-    ("fi_rma_bw", Test::Alone(Alone::RmaBw)),
-    ("fi_multi_mr", Test::Alone(Alone::MultiMr)),
-    ("fi_rdm_rma_event", Test::Alone(Alone::RdmRmaEvent)),
-    ("fi_rdm_atomic", Test::Alone(Alone::RdmAtomic)),
+    ("fi_av_test", Test::Steps(Wish::Two, AV_TEST)),
+    ("fi_cq_test", Test::Steps(Wish::Two, CQ_TEST)),
+    ("fi_cntr_test", Test::Steps(Wish::Two, CNTR_TEST)),
+    ("fi_mr_test", Test::Steps(Wish::Two, MR_TEST)),
+    ("fi_rdm", Test::Steps(Wish::Two, RDM)),
+    (
+        "fi_rdm_tagged_peek",
+        Test::Steps(Wish::Two, RDM_TAGGED_PEEK),
+    ),
+    ("fi_recv_cancel", Test::Steps(Wish::Two, RECV_CANCEL)),
+    ("fi_unexpected_msg", Test::Steps(Wish::Two, UNEXPECTED_MSG)),
+    ("fi_multi_recv", Test::Steps(Wish::Two, MULTI_RECV)),
+    ("fi_cq_data", Test::Steps(Wish::Two, CQ_DATA)),
+    ("fi_inj_complete", Test::Steps(Wish::Two, INJ_COMPLETE)),
+    ("fi_av_xfer", Test::Steps(Wish::Two, AV_XFER)),
+    ("fi_resmgmt_test", Test::Steps(Wish::Few, RESMGMT)),
+    ("fi_rma_bw", Test::Steps(Wish::Two, RMA_BW)),
+    ("fi_multi_mr", Test::Steps(Wish::Second, MULTI_MR)),
+    ("fi_rdm_rma_event", Test::Steps(Wish::Second, RDM_RMA_EVENT)),
+    ("fi_rdm_atomic", Test::Steps(Wish::Two, RDM_ATOMIC)),
     ("fi_rdm_pingpong", Test::Threads(Exchange::Plain)),
     ("fi_rdm_tagged_pingpong", Test::Threads(Exchange::Tagged)),
     ("fi_rdm_cntr_pingpong", Test::Threads(Exchange::Counted)),
@@ -72,8 +63,8 @@ impl Test {
     pub fn hints(self) -> Hints {
         match self {
             Test::Dom(peers) => Hints::new().peers(peers),
-            Test::Threads(_) => Hints::new().peers(2),
-            Test::Alone(alone) => alone.hints(),
+            Test::Threads(_) => Wish::Two.hints(),
+            Test::Steps(wish, _) => wish.hints(),
         }
     }
 
@@ -87,47 +78,18 @@ impl Test {
         match self {
             Test::Dom(peers) => dom_test(endpoints.as_slice(), peers),
             Test::Threads(exchange) => in_threads(rt, alloc, exchange, endpoints),
-            Test::Alone(alone) => in_one(alloc, alone, endpoints),
+            Test::Steps(_, rows) => in_one(alloc, rows, endpoints),
         }
     }
 }
 
-impl Alone {
-    /// What a test asks for.
+impl Wish {
     fn hints(self) -> Hints {
         let two = Hints::new().peers(2);
         match self {
-            Alone::Resmgmt => two.lane(1).tx(2).rx(2).cq(2),
-            Alone::MultiMr | Alone::RdmRmaEvent => two.api(Api::Two),
-            _ => two,
-        }
-    }
-
-    /// Tries it with two endpoints.
-    fn run<E: Calls + Drop>(
-        self,
-        alloc: Global,
-        zero: &mut EndpointOver<E>,
-        one: &mut EndpointOver<E>,
-    ) -> Verdict {
-        match self {
-            Alone::AvTest => av_test(alloc, zero),
-            Alone::AvXfer => av_xfer(alloc, zero, one),
-            Alone::CntrTest => cntr_test(alloc, zero, one),
-            Alone::CqData => cq_data(alloc, zero, one),
-            Alone::CqTest => cq_test(alloc, zero, one),
-            Alone::InjComplete => inj_complete(alloc, zero, one),
-            Alone::MrTest => mr_test(alloc, zero),
-            Alone::MultiMr => multi_mr(alloc, zero, one),
-            Alone::MultiRecv => multi_recv(alloc, zero, one),
-            Alone::Rdm => rdm(alloc, zero, one),
-            Alone::RdmAtomic => rdm_atomic(alloc, zero, one),
-            Alone::RdmRmaEvent => rdm_rma_event(alloc, zero, one),
-            Alone::RdmTaggedPeek => rdm_tagged_peek(alloc, zero, one),
-            Alone::RecvCancel => recv_cancel(alloc, zero, one),
-            Alone::Resmgmt => resmgmt(alloc, zero, one),
-            Alone::RmaBw => rma_bw(alloc, zero, one),
-            Alone::UnexpectedMsg => unexpected_msg(alloc, zero, one),
+            Wish::Two => two,
+            Wish::Second => two.api(Api::Two),
+            Wish::Few => two.lane(1).tx(2).rx(2).cq(2),
         }
     }
 }
@@ -145,11 +107,11 @@ fn two<E: Calls + Drop>(
 /// Tries a test whose two endpoints both stand in one thread.
 fn in_one<E: Calls + Drop>(
     alloc: Global,
-    alone: Alone,
+    rows: &[Row],
     endpoints: Vec<EndpointOver<E>>,
 ) -> Verdict {
     match two(endpoints) {
-        Some((mut zero, mut one)) => alone.run(alloc, &mut zero, &mut one),
+        Some((mut zero, mut one)) => walks(alloc, &mut zero, &mut one, rows),
         None => Err("there are two endpoints"),
     }
 }

@@ -6,17 +6,18 @@
 #![tactic(auto)]
 
 mod addresses;
-mod exchanging;
+mod atomics;
 mod listing;
 mod messages;
 mod opening;
 mod queues;
+mod regions;
 mod resources;
 mod tagged;
 
 use crate::listing::{LINES, Test};
 use crate::opening::getinfo_test;
-use fabric::open;
+use fabric::{Domain, Hints, Info, open};
 use fabtests_calls::Verdict;
 use std::alloc::Global;
 use std::io;
@@ -25,18 +26,28 @@ use std::thread::Threads;
 /// How many peers the domains of fi_dom_test have.
 const SIZES: [u32; 4] = [1, 2, 5, 32];
 
-/// Opens a domain, which tells what its hints are granted, and tries a test with its endpoints.
-fn tried<R: Threads + Sync>(rt: &R, alloc: Global, test: Test) -> Verdict {
-    let hints = test.hints();
-    let Ok(domain) = open(alloc, &hints) else {
-        return Err("a domain is opened");
-    };
-    let told = domain.info();
+/// Whether this is what hints are granted.
+fn is_granted(hints: Hints, told: Info) -> bool {
+    hints.granted() == Ok(told)
+}
+
+/// Tries a test with the endpoints of a domain, which tells what its hints are granted. Endpoints over lanes are named here
+/// alone.
+fn with_domain<R: Threads + Sync>(rt: &R, alloc: Global, test: Test, domain: Domain) -> Verdict {
+    let told = is_granted(test.hints(), domain.info());
     let verdict = test.run(rt, alloc, domain.endpoints);
-    if hints.granted() == Ok(told) {
+    if told {
         verdict
     } else {
         Err("a domain tells what was granted")
+    }
+}
+
+/// Tries a test with the endpoints of a new domain.
+fn tried<R: Threads + Sync>(rt: &R, alloc: Global, test: Test) -> Verdict {
+    match open(alloc, &test.hints()) {
+        Ok(domain) => with_domain(rt, alloc, test, domain),
+        Err(_) => Err("a domain is opened"),
     }
 }
 
