@@ -1,0 +1,70 @@
+-- What ports do that the clauses of `fab_ring` and `fab_queue` refuse.
+--     short_with_a_slot      a frame of at most 64 bytes gets a slot of the receiver's pool
+--     left_behind            gathered: a frame that was posted and not taken did not come
+--     lent_lost              gathered: the frame that lay lent did not come
+--     from_another_lane      gathered: other frames came of a peer than those inside its lane
+--     ends_of_another        new ports: two peers take at the same ends
+--     old_number             a frame has the greatest number before it once more
+use Rattle.std.proofs.Common.{◌≡◌, ◌≢◌, ℕ, ◌+◌, max, List, [], ◌∷◌, ◌++◌, length, length-append, slice_get, Option, Some, None, sym, ap, ◌∙◌, subst, arith}
+use Rattle.std.proofs.lemmas.List.{append_cancel_left}
+use Rattle.fab_base.specs.declared.frames.Frame.{Frame}
+use Rattle.fab_wire.specs.declared.moves.Move.{Move}
+use Rattle.fab_wire.specs.declared.moves.Move.TheVariants.{Post, Take}
+use Rattle.fab_wire.specs.Merged.{IsStamped, IsStampedAbove}
+use Rattle.fab_link.specs.Plain.{Plain, lane_at}
+use Rattle.fab_ring.specs.declared.port.RingPort.{RingPort}
+use Rattle.fab_ring.specs.Ports as ring
+use Rattle.fab_ring.specs.Ports.{slots}
+use Rattle.fab_ring.specs.Gather as rings
+use Rattle.fab_queue.specs.Ports as queue
+use Rattle.fab_queue.specs.Ports.{Queued, lanes_of}
+use Rattle.fab_queue.specs.Gather as queues
+use Rattle.fab_queue.specs.Made.{AreMade}
+
+-- ---- a short frame, the clause of `post_short`
+
+not_both : (xs : List (Option ℕ)) (slot : ℕ) → xs ++ None ∷ [] ≡ xs ++ Some slot ∷ [] → ⊥
+not_both xs slot both = absurd (cc (append_cancel_left xs (None ∷ []) (Some slot ∷ []) both))
+
+pub short_with_a_slot : (p q : RingPort) (dest slot : ℕ) → slots q dest ≡ slots p dest ++ None ∷ [] → slots q dest ≡ slots p dest ++ Some slot ∷ [] → ⊥
+short_with_a_slot p q dest slot none some = not_both (slots p dest) slot (sym none ∙ some)
+
+-- ---- gathering, the clauses `gathered`
+
+pub left_behind : (ports : List RingPort) (plain : List Plain) (s r : ℕ) (a b : RingPort) (q : Plain) (f : Frame) → rings.Gathered ports plain
+    → slice_get ports s ≡ Some a → slice_get ports r ≡ Some b → slice_get plain r ≡ Some q
+    → (ring.out_of a r).frames ≡ ((ring.in_of b s).taken ++ (lane_at q s).in_list) ++ f ∷ [] → ⊥
+left_behind ports plain s r a b q f gathered at_s at_r to left =
+    let came = (ring.in_of b s).taken ++ (lane_at q s).in_list in
+    let longer = ap length (sym (gathered.inside s r a b q at_s at_r to) ∙ left) in
+    omega (arith, longer, length-append came (f ∷ []))
+
+module _ (ports : List Queued) (plain : List Plain) (s r : ℕ) (a b : Queued) (q : Plain) (gathered : queues.Gathered ports plain) (at_s : slice_get ports s ≡ Some a) (at_r : slice_get ports r ≡ Some b) (to : slice_get plain r ≡ Some q) where
+  -- the frames inside the lane from s to r are these, the one that lies lent first
+  came : (inside : List Frame) → (queue.out_of a r).frames ≡ (queue.in_of b s).taken ++ inside → (lane_at q s).in_list ≡ inside
+  came inside posted = append_cancel_left (queue.in_of b s).taken (lane_at q s).in_list inside (sym (gathered.inside s r a b q at_s at_r to) ∙ posted)
+
+  pub lent_lost : (f : Frame) (others : List Frame) → (queue.in_of b s).lent ≡ Some f → (queue.out_of a r).frames ≡ (queue.in_of b s).taken ++ f ∷ others → (lane_at q s).in_list ≡ others → ⊥
+  lent_lost f others lent posted lost = let longer = ap length (sym lost ∙ came (f ∷ others) posted) in omega (arith, longer)
+
+  pub from_another_lane : (inside other : List Frame) → (queue.out_of a r).frames ≡ (queue.in_of b s).taken ++ inside → (lane_at q s).in_list ≡ other → other ≢ inside → ⊥
+  from_another_lane inside other posted swapped differ = differ (sym swapped ∙ came inside posted)
+
+-- ---- new ports, the clause of `ports`: c is the first peer's port, and the port of d takes at its ends
+
+pub ends_of_another : (peers room : ℕ) (ports : List Queued) (s d : ℕ) (a b c : Queued) → AreMade peers room ports → slice_get ports s ≡ Some a → slice_get ports d ≡ Some b → slice_get ports 0 ≡ Some c
+    → (lanes_of b).from s ≡ (lanes_of c).from s → (lanes_of a).to d ≢ (lanes_of a).to 0 → ⊥
+ends_of_another peers room ports s d a b c made at_s at_d at_0 same differ =
+    differ (made.joined s d a b at_s at_d ∙ same ∙ sym (made.joined s 0 a c at_s at_0))
+
+-- ---- numbers, what a port's moves are (`IsSound`)
+
+stale : (g : ℕ) (moves : List Move) (dest : ℕ) → IsStampedAbove g (moves ++ Post dest (queue.greatest g moves) ∷ []) → ⊥
+stale g [] dest stamped = let next = stamped.0 in omega (arith, next)
+stale g (Post d k ∷ moves) dest stamped =
+    let greater : max g k ≡ k = (let next = stamped.0 in omega (arith, next)) in
+    stale k moves dest (subst (λ n. IsStampedAbove k (moves ++ Post dest (queue.greatest n moves) ∷ [])) greater stamped.1)
+stale g (Take s k ∷ moves) dest stamped = stale (max g k) moves dest stamped
+
+pub old_number : (p : Queued) (dest : ℕ) → IsStamped (p.moves ++ Post dest (queue.clock_of p) ∷ []) → ⊥
+old_number p dest stamped = stale 0 p.moves dest stamped

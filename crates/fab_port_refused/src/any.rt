@@ -1,0 +1,35 @@
+//! Calls of any port.
+ghost use Rattle.std.specs.Prelude.{◌≡◌, ◌<◌, Option, is_some, length, IsErrOf};
+ghost use Rattle.fab_base.specs.Counts.{Rose};
+ghost use Rattle.fab_base.specs.declared.frames.FrameRef.{FrameRef};
+ghost use Rattle.fab_wire.specs.Frames.{Continues};
+ghost use Rattle.fab_link.specs.Meaning.{Fronted, Repays, end_of};
+
+use fab_base::FrameHead;
+use fab_link::{Port, PostRefused};
+
+/// [`Port::post`], and when it calls a lane full.
+pub fn post<P: Port>(
+    port: &mut P,
+    dest: u32,
+    head: FrameHead,
+    bytes: &[u8],
+) -> Result<(), PostRefused>
+    requires below { dest < P.peer_count port.old }
+    requires continues { Continues (end_of (P.outs port.old dest)) head }
+    requires filled { length bytes.now ≡ head.len }
+    requires repays { Repays (P.outs port.old dest) (P.ins port.old dest) head }
+    ensures { IsErrOf result PostRefused.LaneFull
+        → Rose (P.outs port.old dest).lane_full_seen (P.outs port.new dest).lane_full_seen
+        × ((P.outs port.new dest).full_at ≡ length (P.outs port.old dest).frames) }
+{
+    port.post(dest, head, bytes)
+}
+
+/// Whether [`Port::front`] lends a frame, and what it leaves of the lane.
+pub fn comes<P: Port>(port: &mut P, src: u32) -> bool
+    requires { src < P.peer_count port.old }
+    ensures { (answer : Option FrameRef) × (result ≡ is_some answer) × Fronted (P.ins port.old src) (P.ins port.new src) answer }
+{
+    port.front(src).is_some()
+}
