@@ -1,7 +1,6 @@
 //! The exchange of edges between the ranks of a grid of two by two, and the sum of what each has.
 use crate::grid::{Block, Halo};
-use fabric::{AtomicOp, Buf, Calls, NoMemory, Num};
-use mini_mpi::{Completed, Error, Request, World};
+use mini_mpi::{AtomicOp, Buf, Calls, Completed, Error, NoMemory, Num, Request, World};
 use std::alloc::{AllocError, Global};
 use std::sync::Wait;
 

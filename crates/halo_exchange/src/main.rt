@@ -10,8 +10,7 @@ mod grid;
 mod ranks;
 
 use alone::alone;
-use fabric::{Calls, EndpointOver, Hints, open};
-use mini_mpi::Error;
+use mini_mpi::{Calls, EndpointOver, Error, Hints, open};
 use ranks::{Quarter, run};
 use std::alloc::Global;
 use std::sync::Wait;

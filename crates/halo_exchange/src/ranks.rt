@@ -1,8 +1,7 @@
 //! What one rank does.
 use crate::exchange::{exchange, sum_of_all};
 use crate::grid::Block;
-use fabric::{Calls, EndpointOver};
-use mini_mpi::{Error, World};
+use mini_mpi::{Calls, EndpointOver, Error, World};
 use std::alloc::Global;
 use std::sync::Wait;
 

@@ -9,7 +9,8 @@
 //! Completed       the buffer, and a status           MPI_Status
 //! ```
 //!
-//! A buffer moves in with a call, and comes back with its request's end. Calls that wait take a handle of the runtime.
+//! A buffer moves in with a call, and comes back with its request's end. Calls that wait take a handle of the runtime. What a
+//! program needs of `fabric` besides, to open the endpoints of its ranks and to make buffers, is handed on.
 #![tactic(auto)]
 
 mod collectives;
@@ -20,5 +21,6 @@ mod world;
 
 pub use ended::{Completed, Request, Status};
 pub use errors::{Error, Failed};
+pub use fabric::{AtomicOp, Buf, Calls, EndpointOver, Hints, NoMemory, Num, open};
 pub use tags::{ANY_SOURCE, ANY_TAG, TAG_UB};
 pub use world::World;

@@ -5,8 +5,7 @@ mod messages;
 mod parts;
 mod together;
 
-use fabric::{Calls, EndpointOver, Hints, open};
-use mini_mpi::{Error, World};
+use mini_mpi::{Calls, EndpointOver, Error, Hints, World, open};
 use std::alloc::Global;
 use std::sync::Wait;
 use std::thread::{self, Threads};

@@ -1,7 +1,6 @@
 //! Messages between single ranks.
 use crate::parts::{comes, note, receive, send};
-use fabric::{Buf, Calls};
-use mini_mpi::{ANY_SOURCE, ANY_TAG, Completed, Error, Failed, Status, World};
+use mini_mpi::{ANY_SOURCE, ANY_TAG, Buf, Calls, Completed, Error, Failed, Status, World};
 use std::alloc::Global;
 use std::sync::Wait;
 

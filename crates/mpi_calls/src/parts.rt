@@ -1,6 +1,5 @@
 //! A send and a receive from begin to end.
-use fabric::{Buf, Calls};
-use mini_mpi::{Completed, Error, Failed, Status, World};
+use mini_mpi::{Buf, Calls, Completed, Error, Failed, Status, World};
 use std::alloc::Global;
 use std::sync::Wait;
 

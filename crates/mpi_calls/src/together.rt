@@ -1,7 +1,6 @@
 //! What all ranks do together, and what no rank may ask for.
 use crate::parts::note;
-use fabric::{AtomicOp, Buf, Calls, Num};
-use mini_mpi::{Error, Failed, Request, TAG_UB, World};
+use mini_mpi::{AtomicOp, Buf, Calls, Error, Failed, Num, Request, TAG_UB, World};
 use std::alloc::Global;
 use std::sync::Wait;
 
