@@ -1,8 +1,10 @@
-//! Tests of the parts that know one subject each: atomics, the completion queue and the counters, negotiation, regions, and a target with its requests.
+//! Tests of the parts that know one subject each: addresses, atomics, the completion queue and the counters, negotiation, regions, and a target with its requests.
 //!
 //! They stand in a crate of their own, so that none of the parts is proved twice.
 #![tactic(auto)]
 
+#[cfg(test)]
+mod addresses;
 #[cfg(test)]
 mod atomics;
 #[cfg(test)]
