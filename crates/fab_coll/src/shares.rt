@@ -8,13 +8,11 @@ ghost use Rattle.fab_coll.specs.Grammar.{are_alike, are_short, first_size, of_he
 ghost use Rattle.fab_coll.specs.Reading.{one_behind};
 
 use fab_base::{Buf, BytesWord, List, NoMemory, Num};
+use fab_fold::MOST_SHARE;
 use fab_grammar::read_elements;
 use fab_words::{Fault, Read, Words, both, bytes_size, read_number};
 use hex::FromHexError;
 use std::alloc::Global;
-
-/// The most bytes of a share.
-const SHARE_MAX: u64 = 4096;
 
 /// How the shares of a round are written.
 #[derive(Clone, Copy, Drop)]
@@ -123,7 +121,9 @@ pub(crate) fn are_alike(shares: &[BytesWord]) -> bool
 pub(crate) fn are_short(shares: &[BytesWord]) -> bool
     ensures { result ≡ are_short shares.now }
 {
-    shares.iter().all(|share| bytes_size(share) <= SHARE_MAX)
+    shares
+        .iter()
+        .all(|share| bytes_size(share) <= MOST_SHARE as u64)
 }
 
 /// How many bytes they have together.
