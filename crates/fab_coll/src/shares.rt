@@ -3,14 +3,14 @@ ghost use Rattle.std.specs.Prelude.{◌≡◌, ◌≤◌, ◌++◌, [], ◌∷�
 ghost use Rattle.hex.specs.Hex.{decode_of};
 ghost use Rattle.fab_model.specs.Calls.{word_bytes};
 ghost use Rattle.fab_words.specs.Bytes.{bytes_size};
-ghost use Rattle.fab_words.specs.Faults.{map_ok, ◌&◌};
+ghost use Rattle.fab_words.specs.Misreads.{map_ok, ◌&◌};
 ghost use Rattle.fab_coll.specs.Grammar.{are_alike, are_short, first_size, of_hex, read_as, read_each, read_share};
 ghost use Rattle.fab_coll.specs.Reading.{one_behind};
 
 use fab_base::{Buf, BytesWord, List, NoMemory, Num};
 use fab_fold::MOST_SHARE;
 use fab_grammar::read_elements;
-use fab_words::{Fault, Read, Words, both, bytes_size, read_number};
+use fab_words::{Misread, Read, Words, both, bytes_size, read_number};
 use hex::FromHexError;
 use std::alloc::Global;
 
@@ -35,7 +35,7 @@ pub(crate) fn read_share(alloc: Global, word: &[u8]) -> Result<Read<BytesWord>, 
     } else if let Some(len) = word.strip_prefix(b"zero:") {
         Ok(read_number(len).map(BytesWord::Zero))
     } else {
-        Ok(Err(Fault::Words))
+        Ok(Err(Misread::Words))
     }
 }
 
@@ -46,7 +46,7 @@ fn read_hex(alloc: Global, digits: &[u8]) -> Result<Read<BytesWord>, NoMemory>
     match hex::decode(alloc, digits) {
         Ok(bytes) => Ok(Ok(BytesWord::Hex(Buf::from_vec(bytes)))),
         Err(FromHexError::OutOfMemory) => Err(NoMemory),
-        Err(_) => Ok(Err(Fault::Words)),
+        Err(_) => Ok(Err(Misread::Words)),
     }
 }
 
@@ -88,7 +88,7 @@ pub(crate) fn read_each(
     let mut shares = Ok(List::empty(alloc));
     for _ in 0..peers {
         let Some(word) = words.next() else {
-            return Ok(Err(Fault::Words));
+            return Ok(Err(Misread::Words));
         };
         let share = read_as(alloc, written, word)?;
         shares = with_one(shares, share)?;
@@ -96,7 +96,7 @@ pub(crate) fn read_each(
     if words.is_empty() {
         Ok(shares)
     } else {
-        Ok(Err(Fault::Words))
+        Ok(Err(Misread::Words))
     }
 }
 

@@ -15,7 +15,7 @@ use fab_atomics::element_size;
 use fab_base::{
     Ack, Atom, AtomicOp, Buf, Caps, Fault, Form, INJECT_BYTES, ItemHead, Kind, Level, Num, Outcome,
 };
-use fab_ends::calls::{Calls, ThisCall, call};
+use fab_ends::calls::{CallRecord, ThisCall, call};
 use fab_face::requesting::{Asked, Request, Requesting};
 use fab_match::Matcher;
 use std::snapshot::Snapshot;
@@ -202,7 +202,7 @@ impl<M: Matcher> Core<M> {
         let level = Level::Delivery;
         let ctx = request.ctx;
         self.tx
-            .accept_owned::<Snapshot<Calls>, ThisCall>(
+            .accept_owned::<Snapshot<CallRecord>, ThisCall>(
                 &about,
                 dest,
                 head,
@@ -237,7 +237,7 @@ impl<M: Matcher> Core<M> {
         let silent = self.asks_silently(request);
         let level = Level::Delivery;
         let ctx = request.ctx;
-        self.tx.accept_copied::<Snapshot<Calls>, ThisCall>(
+        self.tx.accept_copied::<Snapshot<CallRecord>, ThisCall>(
             &about,
             dest,
             head,

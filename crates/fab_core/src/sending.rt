@@ -13,7 +13,7 @@ ghost use Rattle.fab_core.specs.Orders.{most_of, order_of};
 
 use crate::parts::Core;
 use fab_base::{Ack, Buf, Caps, Fault, INJECT_BYTES, ItemHead, Kind, Level, Outcome};
-use fab_ends::calls::{Calls, EndsWhenSent, ThisCall, call};
+use fab_ends::calls::{CallRecord, EndsWhenSent, ThisCall, call};
 use fab_ends::ending::end;
 use fab_face::machine::Message;
 use fab_match::Matcher;
@@ -123,7 +123,7 @@ impl<M: Matcher> Core<M> {
         let about = Snapshot::of(&self.calls);
         let head = self.head_of(message, len_of(buf.as_slice()));
         let silent = self.is_silent(message);
-        self.tx.accept_owned::<Snapshot<Calls>, ThisCall>(
+        self.tx.accept_owned::<Snapshot<CallRecord>, ThisCall>(
             &about,
             dest,
             head,
@@ -148,7 +148,7 @@ impl<M: Matcher> Core<M> {
     {
         let about = Snapshot::of(&self.calls);
         let head = self.head_of(message, len_of(bytes));
-        self.tx.accept_copied::<Snapshot<Calls>, ThisCall>(
+        self.tx.accept_copied::<Snapshot<CallRecord>, ThisCall>(
             &about,
             dest,
             head,
