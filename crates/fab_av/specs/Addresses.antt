@@ -8,6 +8,7 @@
 --     index_named av name      the index at which the peer of this name stands
 --     IsNamed peers name       the name is that of a peer
 use Rattle.std.specs.Prelude.{◌≡◌, ℕ, ◌≤◌, List, [], ◌∷◌, ◌++◌, length, fold, Option, Some, None, IsSome, option_and_then, position, Result, Ok, Err, slice_index_or}
+use Rattle.fab_base.specs.declared.limits.TheConstants.{MOST_INDICES}
 use Rattle.fab_base.specs.declared.faults.Fault.{Fault}
 use Rattle.fab_base.specs.declared.peers.LineResult.{LineResult}
 use Rattle.fab_base.specs.declared.peers.LineResult.TheVariants.{Done, Refused}
@@ -52,7 +53,7 @@ index_named av name = option_and_then (λ peer. position (is_peer peer) av.indic
 
 pub record IsTable (peers : ℕ) (by_index by_peer : List (Option ℕ)) : Type 0 where
   pub all : length by_peer ≡ peers
-  pub limit : length by_index ≤ 4_096
+  pub limit : length by_index ≤ MOST_INDICES
   -- whoever stands at an index has it as its index
   pub found : (i k : ℕ) → lookup by_index i ≡ Some k → slice_index_or by_peer k None ≡ Some i
   -- a peer stands at its index

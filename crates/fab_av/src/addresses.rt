@@ -1,6 +1,7 @@
 //! The address vector.
 ghost use Rattle.std.specs.Prelude.{◌≡◌, ℕ, ◌+◌, ◌<◌, ◌≤◌, ◌^◌, ◌++◌, List, Option, [], length, map, position, is_some, slice_set, IfOk, OnOk, IfErr, OnErr, IsSome, All, None, Some, vec_len, vec_capacity};
 ghost use Rattle.std.specs.List.{count_by};
+ghost use Rattle.fab_base.specs.declared.limits.TheConstants.{MOST_INDICES};
 ghost use Rattle.fab_base.specs.declared.faults.Fault.TheVariants.{NoEntry};
 ghost use Rattle.fab_base.specs.declared.peers.LineResult.TheVariants.{Index};
 ghost use Rattle.fab_model.specs.State.{State, lookup};
@@ -8,13 +9,11 @@ ghost use Rattle.fab_model.specs.Calls.{insert, remove, is_peer, peer_named, upt
 ghost use Rattle.fab_av.specs.Addresses.{HasAddresses, IsTable, Extends, IsNamed, index_named, with_addresses, inserting, answer_of};
 
 use crate::names::peer_named;
-use fab_base::{Fault, List, NoMemory, Text};
+use fab_base::{Fault, List, MOST_INDICES, NoMemory, Text};
 use std::alloc::Global;
 use std::marker::Model;
 
 /// How many indices a vector gives in all.
-const MOST_INDICES: usize = 4_096;
-
 /// An address vector. Contracts see how many peers there are, and of each index that was given the peer that
 /// stands there.
 ///
@@ -84,7 +83,7 @@ fn insert_one(
     if index.is_some() {
         return index;
     }
-    let is_full = by_index.len() >= MOST_INDICES;
+    let is_full = by_index.len() >= MOST_INDICES as usize;
     if is_full {
         return None;
     }
@@ -107,11 +106,11 @@ impl Av {
     }
 
     /// A vector in which each peer stands at the index of its number. It takes memory for each of them, and is
-    /// refused as if there were none above 4,096 peers, for whom there are no indices.
+    /// refused as if there were none above [`MOST_INDICES`] peers, for whom there are no indices.
     pub fn all(alloc: Global, peers: u32) -> Result<Av, NoMemory>
         ensures { IfOk result (λ av. av ≡ record { peers = peers; indices = map Some (upto peers) }) }
     {
-        if peers as usize > MOST_INDICES {
+        if peers > MOST_INDICES {
             return Err(NoMemory);
         }
         let by_index = numbered(alloc, peers)?;
@@ -140,7 +139,7 @@ impl Av {
     /// Inserts the peers of these names (fi_av(3), fi_av_insert).
     ///
     /// The peer of a name gets the next index, from 0 on. One that stands already keeps its index, and counts as
-    /// inserted. A name of no peer has no index, nor has a new one once 4,096 indices are given. Want of memory
+    /// inserted. A name of no peer has no index, nor has a new one once [`MOST_INDICES`] indices are given. Want of memory
     /// leaves the vector as it was.
     pub fn insert(&mut self, names: &[Text]) -> Result<InsertReport, NoMemory>
         requires { length names.now < 2 ^ 32 }
@@ -158,7 +157,7 @@ impl Av {
         ensures err { OnErr result (self.new ≡ self.old) }
     {
         let mut indices = Vec::with_capacity(*self.by_index.allocator(), names.len())?;
-        let room = names.len().min(MOST_INDICES - self.by_index.len());
+        let room = names.len().min(MOST_INDICES as usize - self.by_index.len());
         self.by_index.reserve(room)?;
         let mut inserted = 0;
         for name in names {

@@ -6,6 +6,7 @@ use Rattle.fab_base.specs.declared.caps.Api.{Api}
 use Rattle.fab_base.specs.declared.caps.Api.TheVariants.{One, Two}
 use Rattle.fab_base.specs.declared.caps.Cap.{Cap}
 use Rattle.fab_base.specs.declared.caps.Cap.TheVariants.{RmaEvent}
+use Rattle.fab_base.specs.declared.limits.TheConstants.{INJECT_BYTES, MESSAGE_BYTES_ONE, MESSAGE_BYTES_TWO}
 use Rattle.fab_base.specs.declared.limits.Limits.{Limits}
 use Rattle.fab_base.specs.declared.limits.Size.{Size}
 use Rattle.fab_base.specs.declared.limits.Size.TheVariants.{Peers, Lane, Pool, Tx, Rx, Cq, Log, Inject, Message}
@@ -18,8 +19,8 @@ most_peers One = 32
 most_peers Two = 64
 
 abbrev pub most_message : Api → ℕ
-most_message One = 16_777_216
-most_message Two = 268_435_456
+most_message One = MESSAGE_BYTES_ONE
+most_message Two = MESSAGE_BYTES_TWO
 
 abbrev pub limits_of : Api → Size → Limits
 limits_of api Peers = limits 1 32 (most_peers api)
@@ -29,7 +30,7 @@ limits_of api Tx = limits 1 64 1024
 limits_of api Rx = limits 1 256 4096
 limits_of api Cq = limits 2 1024 65536
 limits_of api Log = limits 4 4096 65536
-limits_of api Inject = limits 1 4096 4096
+limits_of api Inject = limits 1 INJECT_BYTES INJECT_BYTES
 limits_of api Message = limits 1 (most_message api) (most_message api)
 
 abbrev pub has_remote_events : Api → Bool

@@ -3,7 +3,7 @@ use crate::buffers::Buf;
 use crate::items::ItemHead;
 
 /// The head of a frame: its item's head, the place of its first byte among the item's bytes, and
-/// how many bytes it has, at most 4,096.
+/// how many bytes it has, at most [`FRAME_BYTES`](crate::FRAME_BYTES).
 #[derive(Clone, Copy, Drop, Eq, PartialEq)]
 pub struct FrameHead {
     pub item: ItemHead,

@@ -4,6 +4,34 @@ ghost use Rattle.fab_base.specs.Offer.{limits_of, is_offered, most_message, most
 
 use crate::caps::{Api, Cap};
 
+/// How many bytes a frame has at most, and each slot of a pool.
+pub const FRAME_BYTES: u32 = 4_096;
+
+/// How many bytes a call that copies them may have at most (fi_inject of fi_msg(3)), and the operand and compare of
+/// an atomic together (fi_atomicvalid of fi_atomic(3)).
+pub const INJECT_BYTES: u32 = 4_096;
+
+/// How many indices an address vector gives at most.
+pub const MOST_INDICES: u32 = 4_096;
+
+/// How many operations an endpoint accepts at most, 2^62.
+pub const MOST_OPERATIONS: u64 = 4_611_686_018_427_387_904;
+
+/// How many bytes a message or a read of the first version has at most.
+pub const MESSAGE_BYTES_ONE: u32 = 16_777_216;
+
+/// How many bytes a message or a read of the second version has at most.
+pub const MESSAGE_BYTES_TWO: u32 = 268_435_456;
+
+/// How many bytes a file has at most that is read.
+pub const FILE_BYTES: u64 = 67_108_864;
+
+/// How many bytes all lines of a script of the first version name together at most.
+pub const SCRIPT_BYTES_ONE: u64 = 67_108_864;
+
+/// How many bytes all lines of a script of the second version name together at most.
+pub const SCRIPT_BYTES_TWO: u64 = 600_000_000;
+
 /// A number that an application may ask for when it negotiates (fi_getinfo(3)).
 #[derive(Clone, Copy, Drop, Eq, PartialEq)]
 pub enum Size {
@@ -11,7 +39,7 @@ pub enum Size {
     Peers,
     /// How many frames a lane between two peers holds.
     Lane,
-    /// How many slots of 4,096 bytes the pool of a receiver has.
+    /// How many slots of [`FRAME_BYTES`] bytes the pool of a receiver has.
     Pool,
     /// How many transmit operations may be under way.
     Tx,
@@ -48,7 +76,7 @@ impl Size {
             Size::Rx => (1, 256, 4_096),
             Size::Cq => (2, 1_024, 65_536),
             Size::Log => (4, 4_096, 65_536),
-            Size::Inject => (1, 4_096, 4_096),
+            Size::Inject => (1, INJECT_BYTES, INJECT_BYTES),
             Size::Message => (1, api.most_message(), api.most_message()),
         };
         Limits {
@@ -75,8 +103,8 @@ impl Api {
         ensures { result ≡ most_message self }
     {
         match self {
-            Api::One => 16_777_216,
-            Api::Two => 268_435_456,
+            Api::One => MESSAGE_BYTES_ONE,
+            Api::Two => MESSAGE_BYTES_TWO,
         }
     }
 }

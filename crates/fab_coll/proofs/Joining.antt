@@ -3,28 +3,28 @@ use Rattle.std.proofs.Common.{List, [], ap, append-nil, append_assoc, arith, fal
 use Rattle.std.proofs.lemmas.Bool.Decides.{nat_tests}
 use Rattle.std.specs.Prelude.{Err, Ok, Result, if◌then◌else◌, ◌==◌}
 use Rattle.fab_base.specs.declared.script.BytesWord.{BytesWord}
-use Rattle.fab_words.specs.Faults.{first_fault, map_ok, ◌&◌}
-use Rattle.fab_words.specs.declared.fault.Fault.TheVariants.{Limit, Number, Words}
-use Rattle.fab_words.specs.declared.fault.Fault.{Fault}
+use Rattle.fab_words.specs.Misreads.{first_misread, map_ok, ◌&◌}
+use Rattle.fab_words.specs.declared.misread.Misread.TheVariants.{Limit, Number, Words}
+use Rattle.fab_words.specs.declared.misread.Misread.{Misread}
 use Rattle.fab_coll.specs.Grammar.{one_more, read_all, read_each}
 use Rattle.fab_coll.specs.Reading.{one_behind}
 use Rattle.fab_coll.specs.declared.shares.Written.{Written}
 
 abbrev Shares : Type 0
-Shares = Result (List BytesWord) Fault
+Shares = Result (List BytesWord) Misread
 
 -- those that were read, and those that are left
 abbrev pub joined : Shares → Shares → Shares
 joined (Ok xs) (Ok ys) = Ok (xs ++ ys)
 joined (Ok xs) (Err g) = Err g
 joined (Err f) (Ok ys) = Err f
-joined (Err f) (Err g) = Err (first_fault f g)
+joined (Err f) (Err g) = Err (first_misread f g)
 
 pub joined_none : (b : Shares) → joined (Ok []) b ≡ b
 joined_none (Ok ys) = refl
 joined_none (Err g) = refl
 
-first_of_three : (f g h : Fault) → first_fault f (first_fault g h) ≡ first_fault (first_fault f g) h
+first_of_three : (f g h : Misread) → first_misread f (first_misread g h) ≡ first_misread (first_misread f g) h
 first_of_three Words g h = refl
 first_of_three Number Words h = refl
 first_of_three Number Number Words = refl

@@ -1,7 +1,7 @@
 -- A line with another number of words.
 use Rattle.std.proofs.Common.{List, [], arith, length, refl, ℕ, ◌<◌, ◌∷◌, ◌≡◌, ◌≢◌}
 use Rattle.std.specs.Prelude.{Err}
-use Rattle.fab_words.specs.declared.fault.Fault.TheVariants.{Words}
+use Rattle.fab_words.specs.declared.misread.Misread.TheVariants.{Words}
 use Rattle.fab_coll.specs.Grammar.{allreduce_of, broadcast_of, peers_of}
 
 pub peers_other : (args : List (List ℕ)) → length args ≢ 1 → peers_of args ≡ Err Words

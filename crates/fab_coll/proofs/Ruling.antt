@@ -5,8 +5,8 @@ use Rattle.fab_base.specs.declared.script.BytesWord.{BytesWord}
 use Rattle.fab_base.specs.declared.status.Why.TheVariants as why
 use Rattle.fab_base.specs.declared.status.Why.{Why}
 use Rattle.fab_words.specs.Words.{first_of}
-use Rattle.fab_words.specs.declared.fault.Fault.TheVariants.{Limit, Number, Words}
-use Rattle.fab_words.specs.declared.fault.Fault.{Fault}
+use Rattle.fab_words.specs.declared.misread.Misread.TheVariants.{Limit, Number, Words}
+use Rattle.fab_words.specs.declared.misread.Misread.{Misread}
 use Rattle.fab_grammar.specs.Rules.{why_from}
 use Rattle.fab_coll.specs.Grammar.{Before, Said, a_round, are_alike, are_much, round_rules, said_of, said_rules, with_round}
 use Rattle.fab_coll.specs.declared.lines.Verb.{Verb}
@@ -18,18 +18,18 @@ module _ (before : Before) (verb : Verb) (args : List (List ℕ)) where
   no_ranks none = ap (λ o. first_of (said_rules o before.rounds (said_of (unwrap_or o 0) verb args))) none
 
   module _ (n : ℕ) (ranks : before.peers ≡ Some n) where
-    ruled : (said : Result Said Fault) → said_of n verb args ≡ said → first_of (round_rules before verb args) ≡ first_of (said_rules (Some n) before.rounds said)
+    ruled : (said : Result Said Misread) → said_of n verb args ≡ said → first_of (round_rules before verb args) ≡ first_of (said_rules (Some n) before.rounds said)
     unfolding round_rules
     ruled said is =
         ap (λ o. first_of (said_rules o before.rounds (said_of (unwrap_or o 0) verb args))) ranks
-        ∙ ap (λ (r : Result Said Fault). first_of (said_rules (Some n) before.rounds r)) is
+        ∙ ap (λ (r : Result Said Misread). first_of (said_rules (Some n) before.rounds r)) is
 
-    of_fault : (fault : Fault) → first_of (said_rules (Some n) before.rounds (Err fault)) ≡ Some (why_from fault)
+    of_fault : (fault : Misread) → first_of (said_rules (Some n) before.rounds (Err fault)) ≡ Some (why_from fault)
     of_fault Words = refl
     of_fault Number = refl
     of_fault Limit = refl
 
-    pub fault_said : (fault : Fault) → said_of n verb args ≡ Err fault → first_of (round_rules before verb args) ≡ Some (why_from fault)
+    pub fault_said : (fault : Misread) → said_of n verb args ≡ Err fault → first_of (round_rules before verb args) ≡ Some (why_from fault)
     fault_said fault is = ruled (Err fault) is ∙ of_fault fault
 
     abbrev tests : Bool → Bool → Bool → Option Why
@@ -62,4 +62,4 @@ module _ (before : Before) (verb : Verb) (args : List (List ℕ)) where
           → with_round before number (said_of (unwrap_or before.peers 0) verb args) ≡ record before { rounds = before.rounds ++ a_round number c shares ∷ [] }
       round_taken number c some =
           ap (λ o. with_round before number (said_of (unwrap_or o 0) verb args)) ranks
-          ∙ ap (with_round before number) (is ∙ ap (λ (o : Option Coll). let said : Result Said Fault = Ok (o, shares) in said) some)
+          ∙ ap (with_round before number) (is ∙ ap (λ (o : Option Coll). let said : Result Said Misread = Ok (o, shares) in said) some)

@@ -12,10 +12,10 @@ use Rattle.fab_base.specs.declared.items.Num.{Num}
 use Rattle.fab_base.specs.declared.script.BytesWord.TheVariants.{Hex, Text, Zero}
 use Rattle.fab_base.specs.declared.script.BytesWord.{BytesWord}
 use Rattle.fab_model.specs.Calls.{word_bytes}
-use Rattle.fab_words.specs.Faults.{map_ok, ◌&◌}
+use Rattle.fab_words.specs.Misreads.{map_ok, ◌&◌}
 use Rattle.fab_words.specs.Words.{only_if, read_number, ◌>>=◌}
-use Rattle.fab_words.specs.declared.fault.Fault.TheVariants.{Number, Words}
-use Rattle.fab_words.specs.declared.fault.Fault.{Fault}
+use Rattle.fab_words.specs.declared.misread.Misread.TheVariants.{Number, Words}
+use Rattle.fab_words.specs.declared.misread.Misread.{Misread}
 use Rattle.fab_grammar.specs.Atomics.{add_elements, atom_named, element, le_bytes, num_named, read_elements, value_of}
 use Rattle.fab_grammar.specs.Capabilities.{is_comma}
 use Rattle.fab_fold.specs.Shares.{is_reducing}
@@ -35,11 +35,11 @@ use Rattle.fab_coll.specs.Reading.{IsSized}
 
 -- ---- answers taken apart
 
-ok_map : {A B : Type 0} (f : A → B) (r : Result A Fault) (x : B) → map_ok f r ≡ Ok x → (y : A) × (r ≡ Ok y) × (f y ≡ x)
+ok_map : {A B : Type 0} (f : A → B) (r : Result A Misread) (x : B) → map_ok f r ≡ Ok x → (y : A) × (r ≡ Ok y) × (f y ≡ x)
 ok_map f (Ok y) x e = (y, refl, cc)
 ok_map f (Err fault) x e = absurd (cc)
 
-ok_both : {A B : Type 0} (a : Result A Fault) (b : Result B Fault) (p : A × B) → (a & b) ≡ Ok p → (a ≡ Ok p.0) × (b ≡ Ok p.1)
+ok_both : {A B : Type 0} (a : Result A Misread) (b : Result B Misread) (p : A × B) → (a & b) ≡ Ok p → (a ≡ Ok p.0) × (b ≡ Ok p.1)
 ok_both (Ok x) (Ok y) p e = let same : (x, y) ≡ p = cc in (ap (λ q. Ok q.0) same, ap (λ q. Ok q.1) same)
 ok_both (Ok x) (Err g) p e = absurd (cc)
 ok_both (Err f) (Ok y) p e = absurd (cc)
@@ -72,7 +72,7 @@ hex_sized : (r : Result (List ℕ) FromHexError) (b : BytesWord) → of_hex r �
 hex_sized (Ok bytes) b e = let same : Hex bytes ≡ b = cc in subst IsSized same refl
 hex_sized (Err fault) b e = absurd (cc)
 
-zeros_sized : (r : Result ℕ Fault) (b : BytesWord) → map_ok Zero r ≡ Ok b → IsSized b
+zeros_sized : (r : Result ℕ Misread) (b : BytesWord) → map_ok Zero r ≡ Ok b → IsSized b
 zeros_sized r b e = let m = ok_map Zero r b e in subst IsSized m.2 (length-replicate {A = ℕ} m.0 0)
 
 share_sized : (word : List ℕ) (b : BytesWord) → read_share word ≡ Ok b → IsSized b
@@ -106,7 +106,7 @@ elements_whole num [] bytes out whole e = let same : bytes ≡ out = cc in ap (�
 elements_whole num (word ∷ words) bytes out whole e = go (value_of num word) e (λ n. elements_whole num words (bytes ++ element num n) out
     (ap (λ k. k % element_size num) (length-append bytes (element num n) ∙ ap (λ k. length bytes + k) (element_long num n)) ∙ add-mod_right (length bytes) (element_size num) ∙ whole))
   where
-    go : (o : Option ℕ) → (let r : Result (List ℕ) Fault = elim o [ None ↦ Err Number | Some n ↦ add_elements num (bytes ++ element num n) words ] in r ≡ Ok out)
+    go : (o : Option ℕ) → (let r : Result (List ℕ) Misread = elim o [ None ↦ Err Number | Some n ↦ add_elements num (bytes ++ element num n) words ] in r ≡ Ok out)
         → ((n : ℕ) → add_elements num (bytes ++ element num n) words ≡ Ok out → length out % element_size num ≡ 0) → length out % element_size num ≡ 0
     go None f ih = absurd (cc)
     go (Some n) f ih = ih n f
@@ -151,7 +151,7 @@ op_reduces word op e = go (atom_named word) e
 shaped : (n : ℕ) (coll : Coll) (ws : List BytesWord) → Shape n coll ws → (c : Coll) → Some coll ≡ Some c → Shape n c ws
 shaped n coll ws shape c e = let same : coll ≡ c = cc in subst (λ (c : Coll). Shape n c ws) same shape
 
-reduce_right : (n : ℕ) (words : List (List ℕ)) (r : Result (AtomicOp × Num) Fault) (s : Said) → ((k : AtomicOp × Num) → r ≡ Ok k → is_reducing k.0 ≡ true) → reduce_of n words r ≡ Ok s → Right n s
+reduce_right : (n : ℕ) (words : List (List ℕ)) (r : Result (AtomicOp × Num) Misread) (s : Said) → ((k : AtomicOp × Num) → r ≡ Ok k → is_reducing k.0 ≡ true) → reduce_of n words r ≡ Ok s → Right n s
 reduce_right n words (Err fault) s reduces e = absurd (cc)
 reduce_right n words (Ok kind) s reduces e =
     let m = ok_map (doing (Allreduce kind.0 kind.1)) (read_each n (Elements kind.1) words) s e in

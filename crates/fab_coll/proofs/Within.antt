@@ -15,7 +15,7 @@ use Rattle.fab_base.specs.declared.status.Why.{Why}
 use Rattle.fab_model.specs.Calls.{word_bytes}
 use Rattle.fab_words.specs.Rows.{is_text, lines_of, words_of}
 use Rattle.fab_words.specs.Words.{first_of}
-use Rattle.fab_words.specs.declared.fault.Fault.{Fault}
+use Rattle.fab_words.specs.declared.misread.Misread.{Misread}
 use Rattle.fab_grammar.specs.Rules.{is_limit, is_number, is_words}
 use Rattle.fab_fold.specs.Shares.{AreAlike, AreShares}
 use Rattle.fab_coll.specs.Rounds.{AreWithin, IsRound}
@@ -122,7 +122,7 @@ peers_step before args good e = go (peers_of args) parts.3
     parts : (is_some before.peers ≡ false) × (is_words (peers_of args) ≡ false) × (is_number (peers_of args) ≡ false) × ((is_limit (peers_of args) || out_of_range (peers_of args)) ≡ false)
     parts = four_none (is_some before.peers) (is_words (peers_of args)) (is_number (peers_of args)) (is_limit (peers_of args) || out_of_range (peers_of args)) why.Twice why.Words why.Number why.Limit e
 
-    go : (r : Result ℕ Fault) → (is_limit r || out_of_range r) ≡ false → Good (with_peers before r)
+    go : (r : Result ℕ Misread) → (is_limit r || out_of_range r) ≡ false → Good (with_peers before r)
     go (Ok n) f =
         let range = and_parts (nat_le 1 n) (nat_le n 32) (not_false _ (or_none (is_limit (Ok n)) (out_of_range (Ok n)) f).1) in
         subst (AreWithin n) (sym (none_said before.peers before.rounds good parts.0)) (le_is 1 n range.0, le_is n 32 range.1, omega arith, All-nil (IsRound n))
@@ -147,7 +147,7 @@ round_step : (before : Before) (number : ℕ) (verb : Verb) (args : List (List �
 unfolding round_rules
 round_step before number verb args good e = go (said_of (unwrap_or before.peers 0) verb args) refl e
   where
-    go : (r : Result Said Fault) → said_of (unwrap_or before.peers 0) verb args ≡ r → first_of (said_rules before.peers before.rounds r) ≡ None → Good (with_round before number r)
+    go : (r : Result Said Misread) → said_of (unwrap_or before.peers 0) verb args ≡ r → first_of (said_rules before.peers before.rounds r) ≡ None → Good (with_round before number r)
     go (Err fault) is f = good
     go (Ok (None, ws)) is f = good
     go (Ok (Some coll, ws)) is f =

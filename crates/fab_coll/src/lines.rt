@@ -9,7 +9,7 @@ use crate::shares::{Written, read_each, read_share};
 use fab_base::{AtomicOp, BytesWord, List, NoMemory, Why};
 use fab_fold::{Coll, is_reducing};
 use fab_grammar::{atom_named, num_named};
-use fab_words::{Fault, Read, Words, both, is, read_number};
+use fab_words::{Misread, Read, Words, both, is, read_number};
 use std::alloc::Global;
 
 /// The first word of a line after the header.
@@ -56,18 +56,18 @@ pub(crate) fn read_peers(args: &mut Words) -> Read<u64>
 {
     match args.one() {
         Some(word) => read_number(word),
-        None => Err(Fault::Words),
+        None => Err(Misread::Words),
     }
 }
 
 /// The rule that a line with such words breaks.
-pub(crate) fn why_from(fault: Fault) -> Why
+pub(crate) fn why_from(fault: Misread) -> Why
     ensures { result ≡ why_from fault }
 {
     match fault {
-        Fault::Words => Why::Words,
-        Fault::Number => Why::Number,
-        Fault::Limit => Why::Limit,
+        Misread::Words => Why::Words,
+        Misread::Number => Why::Number,
+        Misread::Limit => Why::Limit,
     }
 }
 
@@ -81,7 +81,7 @@ fn read_barrier(alloc: Global, args: &Words) -> Read<Said>
     if args.is_empty() {
         Ok((Some(Coll::Barrier), List::empty(alloc)))
     } else {
-        Err(Fault::Words)
+        Err(Misread::Words)
     }
 }
 
@@ -102,7 +102,7 @@ fn read_broadcast(alloc: Global, peers: u32, args: &mut Words) -> Result<Read<Sa
     ensures { IfOk result (λ read. read ≡ broadcast_of peers args.old) }
 {
     let Some((root, share)) = args.two() else {
-        return Ok(Err(Fault::Words));
+        return Ok(Err(Misread::Words));
     };
     match both(read_number(root), read_share(alloc, share)?) {
         Ok((root, share)) => {
@@ -120,7 +120,7 @@ fn read_op(word: &[u8]) -> Read<AtomicOp>
 {
     match atom_named(word) {
         Some(op) if is_reducing(op) => Ok(op),
-        _ => Err(Fault::Words),
+        _ => Err(Misread::Words),
     }
 }
 
@@ -130,9 +130,9 @@ fn read_allreduce(alloc: Global, peers: u32, args: &mut Words) -> Result<Read<Sa
     ensures { IfOk result (λ read. read ≡ allreduce_of peers args.old) }
 {
     let Some((op, num)) = args.first_two() else {
-        return Ok(Err(Fault::Words));
+        return Ok(Err(Misread::Words));
     };
-    match both(read_op(op), num_named(num).ok_or(Fault::Words)) {
+    match both(read_op(op), num_named(num).ok_or(Misread::Words)) {
         Ok((op, num)) => {
             let shares = read_each(alloc, peers, Written::Elements { num }, args)?;
             Ok(shares.map(|shares| (Some(Coll::Allreduce { op, num }), shares)))
@@ -152,7 +152,7 @@ pub(crate) fn read_round(
     ensures { IfOk result (λ read. read ≡ said_of peers verb args.old) }
 {
     match verb {
-        Verb::Peers => Ok(Err(Fault::Words)),
+        Verb::Peers => Ok(Err(Misread::Words)),
         Verb::Barrier => Ok(read_barrier(alloc, args)),
         Verb::Broadcast => read_broadcast(alloc, peers, args),
         Verb::Allgather => {

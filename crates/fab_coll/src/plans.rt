@@ -3,6 +3,7 @@ ghost use Rattle.std.specs.Prelude.{◌≡◌, ◌≤◌, ◌+◌, ◌++◌, [],
 ghost use Rattle.fab_model.specs.Calls.{upto};
 ghost use Rattle.fab_coll.specs.declared.round.Round.{Round};
 ghost use Rattle.fab_coll.specs.Plan.{lines_with, plan_of, plan_ops, receive_of, receivers, round_ops, rounds_ops, send_to, senders, wait_of};
+ghost use Rattle.fab_fold.specs.declared.coll.TheConstants.{MOST_SHARE};
 ghost use Rattle.fab_fold.specs.Shares.{needs};
 ghost use Rattle.fab_coll.specs.Rounds.{AreWithin, share_of};
 
@@ -76,7 +77,7 @@ fn add_receives(
 ) -> Result<(), NoMemory>
     requires few { i ≤ 100 }
     requires most { peers ≤ 32 }
-    requires short { (s : ℕ) → length (share_of round.now s) ≤ 4096 }
+    requires short { (s : ℕ) → length (share_of round.now s) ≤ MOST_SHARE }
     ensures { OnOk result (ops.new.items ≡ ops.old.items ++ map (receive_of i round.now) (senders peers round.now.coll r)) }
 {
     for s in 0..peers {
@@ -113,7 +114,7 @@ fn add_round(
 ) -> Result<(), NoMemory>
     requires few { i ≤ 100 }
     requires most { peers ≤ 32 }
-    requires short { (s : ℕ) → length (share_of round.now s) ≤ 4096 }
+    requires short { (s : ℕ) → length (share_of round.now s) ≤ MOST_SHARE }
     ensures { OnOk result (ops.new.items ≡ ops.old.items ++ round_ops peers i r round.now) }
 {
     add_sends(alloc, ops, peers, i, r, round)?;

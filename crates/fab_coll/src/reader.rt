@@ -1,5 +1,6 @@
 //! The lines of a file, taken one after another.
 ghost use Rattle.std.specs.Prelude.{◌≡◌, ◌≤◌, ◌+◌, ◌++◌, ◌∷◌, [], ℕ, true, All, length, nat_le, not, ◌||◌, sum_by, unwrap_or, None, Some, IfOk};
+ghost use Rattle.fab_base.specs.declared.limits.TheConstants.{SCRIPT_BYTES_ONE};
 ghost use Rattle.fab_base.specs.declared.status.Why.TheVariants.{Header};
 ghost use Rattle.fab_words.specs.Bytes.{bytes_size};
 ghost use Rattle.fab_words.specs.Words.{first_of};
@@ -8,7 +9,7 @@ ghost use Rattle.fab_coll.specs.Grammar.{a_round, are_much, are_short, bytes_bef
 use crate::lines::{Verb, is_header, read_peers, read_round, why_from};
 use crate::round::Round;
 use crate::shares::{all_bytes, are_alike, are_short, size_of};
-use fab_base::{BytesWord, List, NoMemory, Why};
+use fab_base::{BytesWord, List, NoMemory, SCRIPT_BYTES_ONE, Why};
 use fab_fold::Coll;
 use fab_words::{Words, all_text};
 use std::alloc::Global;
@@ -19,9 +20,6 @@ const PEERS_MAX: u64 = 32;
 /// The most rounds.
 const ROUNDS_MAX: usize = 100;
 
-/// The most that all shares have together, times the number of ranks.
-const BYTES_MAX: u64 = 67_108_864;
-
 /// What the lines before a line say, and how many bytes the shares have that they name.
 #[derive(Drop)]
 pub(crate) struct Reader {
@@ -31,7 +29,7 @@ pub(crate) struct Reader {
     bytes: u64,
     ghost few_ranks: { (n : ℕ) → peers ≡ Some n → (1 ≤ n) × (n ≤ 32) },
     ghost total: { bytes ≡ bytes_before rounds.items },
-    ghost few_bytes: { bytes ≤ 67_108_864 },
+    ghost few_bytes: { bytes ≤ SCRIPT_BYTES_ONE },
 }
 
 impl Reader {
@@ -164,7 +162,7 @@ impl Reader {
     {
         self.rounds.len() >= ROUNDS_MAX
             || !are_short(shares)
-            || (self.bytes + size_of(shares)) * u64::from(peers) > BYTES_MAX
+            || (self.bytes + size_of(shares)) * u64::from(peers) > SCRIPT_BYTES_ONE
     }
 
     /// Adds a round.
@@ -177,7 +175,7 @@ impl Reader {
     ) -> Result<(), NoMemory>
         requires few { length shares ≤ 32 }
         requires short { are_short shares ≡ true }
-        requires room { self.old.bytes + sum_by bytes_size shares ≤ 67_108_864 }
+        requires room { self.old.bytes + sum_by bytes_size shares ≤ SCRIPT_BYTES_ONE }
         requires named { All IsSized shares }
         ensures { IfOk result (λ _. before_of self.new ≡ record (before_of self.old) { rounds = self.old.rounds.items ++ a_round number coll shares ∷ [] }) }
     {

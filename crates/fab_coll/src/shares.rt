@@ -3,18 +3,16 @@ ghost use Rattle.std.specs.Prelude.{◌≡◌, ◌≤◌, ◌++◌, [], ◌∷�
 ghost use Rattle.hex.specs.Hex.{decode_of};
 ghost use Rattle.fab_model.specs.Calls.{word_bytes};
 ghost use Rattle.fab_words.specs.Bytes.{bytes_size};
-ghost use Rattle.fab_words.specs.Faults.{map_ok, ◌&◌};
+ghost use Rattle.fab_words.specs.Misreads.{map_ok, ◌&◌};
 ghost use Rattle.fab_coll.specs.Grammar.{are_alike, are_short, first_size, of_hex, read_as, read_each, read_share};
 ghost use Rattle.fab_coll.specs.Reading.{one_behind};
 
 use fab_base::{Buf, BytesWord, List, NoMemory, Num};
+use fab_fold::MOST_SHARE;
 use fab_grammar::read_elements;
-use fab_words::{Fault, Read, Words, both, bytes_size, read_number};
+use fab_words::{Misread, Read, Words, both, bytes_size, read_number};
 use hex::FromHexError;
 use std::alloc::Global;
-
-/// The most bytes of a share.
-const SHARE_MAX: u64 = 4096;
 
 /// How the shares of a round are written.
 #[derive(Clone, Copy, Drop)]
@@ -37,7 +35,7 @@ pub(crate) fn read_share(alloc: Global, word: &[u8]) -> Result<Read<BytesWord>, 
     } else if let Some(len) = word.strip_prefix(b"zero:") {
         Ok(read_number(len).map(BytesWord::Zero))
     } else {
-        Ok(Err(Fault::Words))
+        Ok(Err(Misread::Words))
     }
 }
 
@@ -48,7 +46,7 @@ fn read_hex(alloc: Global, digits: &[u8]) -> Result<Read<BytesWord>, NoMemory>
     match hex::decode(alloc, digits) {
         Ok(bytes) => Ok(Ok(BytesWord::Hex(Buf::from_vec(bytes)))),
         Err(FromHexError::OutOfMemory) => Err(NoMemory),
-        Err(_) => Ok(Err(Fault::Words)),
+        Err(_) => Ok(Err(Misread::Words)),
     }
 }
 
@@ -90,7 +88,7 @@ pub(crate) fn read_each(
     let mut shares = Ok(List::empty(alloc));
     for _ in 0..peers {
         let Some(word) = words.next() else {
-            return Ok(Err(Fault::Words));
+            return Ok(Err(Misread::Words));
         };
         let share = read_as(alloc, written, word)?;
         shares = with_one(shares, share)?;
@@ -98,7 +96,7 @@ pub(crate) fn read_each(
     if words.is_empty() {
         Ok(shares)
     } else {
-        Ok(Err(Fault::Words))
+        Ok(Err(Misread::Words))
     }
 }
 
@@ -123,7 +121,9 @@ pub(crate) fn are_alike(shares: &[BytesWord]) -> bool
 pub(crate) fn are_short(shares: &[BytesWord]) -> bool
     ensures { result ≡ are_short shares.now }
 {
-    shares.iter().all(|share| bytes_size(share) <= SHARE_MAX)
+    shares
+        .iter()
+        .all(|share| bytes_size(share) <= MOST_SHARE as u64)
 }
 
 /// How many bytes they have together.

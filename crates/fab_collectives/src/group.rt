@@ -6,16 +6,13 @@ use crate::collective::{Collective, Work};
 use fab_app::endpoint::{Calls, Endpoint};
 use fab_atomics::element_size;
 use fab_base::{AtomicOp, Buf, Fault, Num, Refused};
-use fab_fold::{Coll, is_reducing};
+use fab_fold::{Coll, MOST_SHARE, is_reducing};
 use std::alloc::Global;
 
 /// The least tag and the least context of collectives, 2^63. An application that does collectives sends no message with a
 /// tag from here on, ignores this bit of a tag in no receive, and makes no call under a context from here on. So no
 /// receive of its own takes a message of a collective.
 pub const COLLECTIVE: u64 = 0x8000_0000_0000_0000;
-
-/// The most bytes of a share.
-pub const MOST_SHARE: usize = 4096;
 
 /// A rank of a domain, and how many collectives it began. All ranks begin the same collectives in the same order
 /// (fi_collective(3)); then those that belong together have the same tag.
@@ -102,7 +99,7 @@ impl Group {
     /// Each rank gets the root's bytes (fi_broadcast). On the other ranks `share` has as many bytes as are expected; what
     /// they are does not matter.
     ///
-    /// `MsgSize` where it has more than 4,096 bytes, `Invalid` where there is no such root.
+    /// `MsgSize` where it has more than [`MOST_SHARE`] bytes, `Invalid` where there is no such root.
     pub fn broadcast(&mut self, root: u32, share: Buf) -> Result<Collective, Refused>
         ensures begun { IfOk result (λ begun. (begun.own ≡ share) × (begun.work.coll ≡ Broadcast root) × (begun.work.rank ≡ self.old.rank)) }
         ensures tag { IfOk result (λ begun. 2 ^ 63 ≤ begun.work.tag) }
@@ -114,7 +111,7 @@ impl Group {
 
     /// Each rank gets the bytes of all ranks, in order of ranks (fi_allgather). All shares have one length.
     ///
-    /// `MsgSize` where it has more than 4,096 bytes.
+    /// `MsgSize` where it has more than [`MOST_SHARE`] bytes.
     pub fn allgather(&mut self, share: Buf) -> Result<Collective, Refused>
         ensures begun { IfOk result (λ begun. (begun.own ≡ share) × (begun.work.coll ≡ Allgather) × (begun.work.rank ≡ self.old.rank)) }
         ensures tag { IfOk result (λ begun. 2 ^ 63 ≤ begun.work.tag) }
@@ -127,7 +124,7 @@ impl Group {
     /// Each rank gets what the elements of all ranks come to, one by one, in order of ranks (fi_allreduce). All shares have
     /// one length.
     ///
-    /// `MsgSize` where it has more than 4,096 bytes, `Invalid` where the operation does not reduce (`is_reducing`) or the
+    /// `MsgSize` where it has more than [`MOST_SHARE`] bytes, `Invalid` where the operation does not reduce (`is_reducing`) or the
     /// share is no whole number of elements.
     pub fn allreduce(&mut self, op: AtomicOp, num: Num, share: Buf) -> Result<Collective, Refused>
         ensures begun { IfOk result (λ begun. (begun.own ≡ share) × (begun.work.coll ≡ Allreduce op num) × (begun.work.rank ≡ self.old.rank)) }

@@ -16,5 +16,5 @@ mod group;
 mod shares;
 
 pub use collective::Collective;
-pub use fab_fold::{Coll, is_reducing};
-pub use group::{COLLECTIVE, Group, MOST_SHARE};
+pub use fab_fold::{Coll, MOST_SHARE, is_reducing};
+pub use group::{COLLECTIVE, Group};

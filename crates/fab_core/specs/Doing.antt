@@ -7,13 +7,12 @@
 --     sent                            an item is transmitted
 --     posted_by, left_by              a receive call, a cancel
 --     accepted_by                     a message is accepted
-use Rattle.std.specs.Prelude.{ℕ, ◌+◌, ◌∷◌, Bool, true, false, ◌&&◌, ◌||◌, ◌==◌, not, List, [], length, Option, Some, None, is_none, is_some, find, nat_lt, nat_le, unwrap_or}
+use Rattle.std.specs.Prelude.{ℕ, ◌+◌, Bool, true, false, ◌&&◌, ◌||◌, ◌==◌, not, List, [], Option, Some, None, is_some, find, unwrap_or}
 use Rattle.fab_base.specs.declared.entries.Class.TheVariants.{Recv}
 use Rattle.fab_base.specs.declared.entries.Entry.TheVariants.{Released}
 use Rattle.fab_base.specs.declared.entries.ErrKind.TheVariants.{Canceled}
 use Rattle.fab_base.specs.declared.entries.Taken.TheVariants.{Success}
 use Rattle.fab_base.specs.declared.faults.Fault.{Fault}
-use Rattle.fab_base.specs.declared.faults.Fault.TheVariants.{NotSupported, MsgSize, Invalid}
 use Rattle.fab_base.specs.declared.frames.Frame.{Frame}
 use Rattle.fab_base.specs.declared.items.Item.{Item}
 use Rattle.fab_base.specs.declared.items.ItemHead.{ItemHead}
@@ -26,10 +25,10 @@ use Rattle.fab_base.specs.declared.operations.Coming.TheVariants.{Into, Keep, Th
 use Rattle.fab_base.specs.declared.operations.Operation.{Operation}
 use Rattle.fab_base.specs.declared.operations.Receive.{Receive}
 use Rattle.fab_model.specs.Matching.{is_message, takes}
-use Rattle.fab_model.specs.State.{State, Transmitting, coming_from, counting, lookup, writing, Region}
+use Rattle.fab_model.specs.State.{State, Transmitting, coming_from, counting, writing, Region}
 use Rattle.fab_model.specs.Complete.{at_delivery, at_either, at_match, error}
-use Rattle.fab_model.specs.Receiving.{Posting, cancellable, least_is_wrong, may_receive, source_is_known, without_posted}
-use Rattle.fab_model.specs.Sending.{Order, ending, first_fault, head_of, is_granted, is_silent, is_too_long, is_well_formed}
+use Rattle.fab_model.specs.Receiving.{Posting, cancellable, without_posted, post_refusals}
+use Rattle.fab_model.specs.Sending.{Order, ending, first_fault, head_of, is_silent, transmit_refusals}
 use Rattle.fab_rx.specs.Arriving.{Arriving, arriving, finishing, growing, id_in, posting, receive_by, with_receiving}
 use Rattle.fab_rx.specs.Leaving.{is_meant}
 use Rattle.fab_rx.specs.Results.{completed, last_of}
@@ -163,17 +162,7 @@ accepted_by t o p =
 
 -- why the call is refused for a reason that does not pass
 abbrev pub lasting_transmit : State → Order → Option Fault
-lasting_transmit s o = first_fault (
-    (not (is_granted s.caps o.kind o.atom), NotSupported)
-    ∷ (is_too_long s.most_message o, MsgSize)
-    ∷ (is_none (lookup s.av o.dest) || nat_le 4_611_686_018_427_387_904 s.tx.ops || not (is_well_formed o o.atom), Invalid)
-    ∷ []
-    )
+lasting_transmit s o = first_fault (transmit_refusals s o)
 
 abbrev pub lasting_post : State → Posting → Option Fault
-lasting_post s p = first_fault (
-    (not (may_receive s p.tagged), NotSupported)
-    ∷ (nat_lt s.most_message (length p.buf), MsgSize)
-    ∷ (not (source_is_known s p.source) || least_is_wrong p, Invalid)
-    ∷ []
-    )
+lasting_post s p = first_fault (post_refusals s p)

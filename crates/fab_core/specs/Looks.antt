@@ -6,7 +6,7 @@
 --     lasting_look, lasting_claimed        why they are refused for a reason that does not pass
 --     lacks_take ctx p              the receive has no room for its completion
 --     is_held_take ctx p            it waits, for that or for a draw
-use Rattle.std.specs.Prelude.{ℕ, ◌∷◌, Bool, true, false, ◌&&◌, ◌||◌, not, List, [], Option, Some, None, is_none, is_some, find, nat_lt}
+use Rattle.std.specs.Prelude.{ℕ, Bool, true, false, ◌&&◌, ◌||◌, not, List, Option, Some, None, find}
 use Rattle.std.specs.Option.{option_map}
 use Rattle.fab_base.specs.declared.entries.Entry.TheVariants.{Peeked}
 use Rattle.fab_base.specs.declared.entries.ErrKind.TheVariants.{NoMsg}
@@ -15,12 +15,11 @@ use Rattle.fab_base.specs.declared.entries.PeekHow.TheVariants.{Peek, Claim, Dis
 use Rattle.fab_base.specs.declared.entries.Taken.{Taken}
 use Rattle.fab_base.specs.declared.entries.Taken.TheVariants.{Success}
 use Rattle.fab_base.specs.declared.faults.Fault.{Fault}
-use Rattle.fab_base.specs.declared.faults.Fault.TheVariants.{NotSupported, MsgSize, Invalid, NoEntry}
 use Rattle.fab_base.specs.declared.items.Want.{Want}
 use Rattle.fab_base.specs.declared.operations.Receive.{Receive}
 use Rattle.fab_model.specs.Complete.{at_match, error}
 use Rattle.fab_model.specs.Matching.{takes}
-use Rattle.fab_model.specs.Receiving.{claim_of, draw_due, is_claim, may_receive, source_is_known, want_of}
+use Rattle.fab_model.specs.Receiving.{draw_due, want_of, look_refusals, claimed_refusals}
 use Rattle.fab_model.specs.Sending.{first_fault}
 use Rattle.fab_model.specs.State.{State, writing}
 use Rattle.fab_cq.specs.Queues.{has_room}
@@ -86,20 +85,11 @@ dropped_by ctx p = called (record p { rx = dropping ctx p.rx; tx = parted (claim
 -- ---- refusals
 
 abbrev pub lasting_look : State → Look → Option Fault
-lasting_look s l = first_fault (
-    (not (may_receive s true), NotSupported)
-    ∷ (not (source_is_known s l.source) || is_claim l.how && is_some (claim_of l.ctx s), Invalid)
-    ∷ []
-    )
+lasting_look s l = first_fault (look_refusals s l.how l.source l.ctx)
 
 -- a buffer of so many bytes
 abbrev pub lasting_claimed : State → ℕ → ℕ → Option Fault
-lasting_claimed s n ctx = first_fault (
-    (not (may_receive s true), NotSupported)
-    ∷ (nat_lt s.most_message n, MsgSize)
-    ∷ (is_none (claim_of ctx s), NoEntry)
-    ∷ []
-    )
+lasting_claimed s n ctx = first_fault (claimed_refusals s n ctx)
 
 -- a message that is whole completes its receive at once
 abbrev pub is_whole : Option Seen → Bool

@@ -15,7 +15,7 @@ ghost use Rattle.fab_core.specs.Looks.{dropped_by, is_due_now, is_held_take, lac
 
 use crate::parts::Core;
 use fab_base::{Buf, Busy, Entry, ErrEntry, ErrKind, Fault, PeekHow, Refused, Taken, Want};
-use fab_ends::calls::{Calls, ThisCall, call};
+use fab_ends::calls::{CallRecord, ThisCall, call};
 use fab_ends::handing::{at_match, book, hand_over};
 use fab_face::looking::Look;
 use fab_match::Matcher;
@@ -182,7 +182,7 @@ impl<M: Matcher> Core<M> {
         let met = meet(&mut self.rx, how, want, ctx);
         call(&mut self.calls);
         self.cq
-            .write::<Snapshot<Calls>, ThisCall>(&about, told(how, ctx, &met));
+            .write::<Snapshot<CallRecord>, ThisCall>(&about, told(how, ctx, &met));
         part_by(self.alloc, &mut self.tx, how, &met);
     }
 
@@ -229,7 +229,9 @@ impl<M: Matcher> Core<M> {
         self.rx.known();
         self.tx.known();
         let about = Snapshot::of(&self.calls);
-        let posted = self.rx.take::<Snapshot<Calls>, ThisCall>(&about, buf, ctx);
+        let posted = self
+            .rx
+            .take::<Snapshot<CallRecord>, ThisCall>(&about, buf, ctx);
         call(&mut self.calls);
         if let Posted::Whole(completed) = posted {
             let Core {
@@ -240,7 +242,7 @@ impl<M: Matcher> Core<M> {
                 ..
             } = self;
             let due = at_match(completed.head.ack);
-            hand_over::<Snapshot<Calls>, ThisCall>(
+            hand_over::<Snapshot<CallRecord>, ThisCall>(
                 *alloc, cq, counters, tx, &about, due, completed,
             );
         }
@@ -270,7 +272,7 @@ impl<M: Matcher> Core<M> {
         let met = self.rx.drop_claimed(ctx);
         call(&mut self.calls);
         self.cq
-            .write::<Snapshot<Calls>, ThisCall>(&about, told(PeekHow::Discard, ctx, &met));
+            .write::<Snapshot<CallRecord>, ThisCall>(&about, told(PeekHow::Discard, ctx, &met));
         part(self.alloc, &mut self.tx, &met);
     }
 }

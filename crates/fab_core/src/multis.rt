@@ -7,7 +7,7 @@ ghost use Rattle.fab_core.specs.Multis.{HasBuffer, IsShared, passing_multi, shar
 
 use crate::parts::Core;
 use fab_base::{Buf, Busy, Fault, Refused, Want};
-use fab_ends::calls::{Calls, ThisCall, call};
+use fab_ends::calls::{CallRecord, ThisCall, call};
 use fab_ends::places::Place;
 use fab_face::multis::MultiAsk;
 use fab_match::Matcher;
@@ -82,7 +82,7 @@ impl<M: Matcher> Core<M> {
         let about = Snapshot::of(&self.calls);
         let id = self
             .rx
-            .post_multi::<Snapshot<Calls>, ThisCall>(&about, want, buf, ask.least, ask.ctx);
+            .post_multi::<Snapshot<CallRecord>, ThisCall>(&about, want, buf, ask.least, ask.ctx);
         self.rx.known();
         self.rx.opened();
         self.multis.enlist(&self.calls, id, ask.ctx);

@@ -11,7 +11,7 @@ ghost use Rattle.fab_core.specs.Parts.{held_of};
 use fab_av::Av;
 use fab_base::{Caps, Info, NoMemory};
 use fab_cq::{Counters, Queue};
-use fab_ends::calls::Calls;
+use fab_ends::calls::CallRecord;
 use fab_ends::members::Multis;
 use fab_match::Matcher;
 use fab_mr::Regions;
@@ -38,7 +38,7 @@ pub struct Core<M: Matcher> {
     pub(crate) target: Target,
     pub(crate) cq: Queue,
     pub(crate) counters: Counters,
-    pub(crate) calls: Calls,
+    pub(crate) calls: CallRecord,
     pub(crate) multis: Multis,
     pub(crate) alloc: Global,
 }
@@ -66,7 +66,7 @@ struct Halves<M: Matcher> {
     tx: Outbox,
     target: Target,
     cq: Queue,
-    calls: Calls,
+    calls: CallRecord,
     multis: Multis,
 }
 

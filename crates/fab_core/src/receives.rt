@@ -17,7 +17,7 @@ ghost use Rattle.fab_core.specs.Orders.{is_held, posting_of, wanted, passing_pos
 use crate::callers::OfReceive;
 use crate::parts::Core;
 use fab_base::{Buf, Busy, Class, ErrEntry, ErrKind, Fault, Refused, Taken, Want};
-use fab_ends::calls::{Calls, ThisCall, call};
+use fab_ends::calls::{CallRecord, ThisCall, call};
 use fab_ends::handing::{at_match, hand_over};
 use fab_face::machine::Ask;
 use fab_match::Matcher;
@@ -166,7 +166,7 @@ impl<M: Matcher> Core<M> {
         let about = Snapshot::of(&self.calls);
         let posted = self
             .rx
-            .post::<Snapshot<Calls>, ThisCall>(&about, want, buf, ctx);
+            .post::<Snapshot<CallRecord>, ThisCall>(&about, want, buf, ctx);
         call(&mut self.calls);
         if let Posted::Whole(completed) = posted {
             let Core {
@@ -177,7 +177,7 @@ impl<M: Matcher> Core<M> {
                 ..
             } = self;
             let due = at_match(completed.head.ack);
-            hand_over::<Snapshot<Calls>, ThisCall>(
+            hand_over::<Snapshot<CallRecord>, ThisCall>(
                 *alloc, cq, counters, tx, &about, due, completed,
             );
         }

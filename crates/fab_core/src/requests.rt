@@ -1,5 +1,6 @@
 //! Reads, writes and atomics of a peer are judged and accepted (fi_rma(3), fi_atomic(3)).
 ghost use Rattle.std.specs.Prelude.{◌≡◌, ◌<◌, ◌≤◌, ◌^◌, ◌+◌, ◌%◌, ◌==◌, ℕ, List, [], Option, Some, None, is_none, length};
+ghost use Rattle.fab_base.specs.declared.limits.TheConstants.{INJECT_BYTES};
 ghost use Rattle.fab_base.specs.Elements.{is_of_form};
 ghost use Rattle.fab_wire.specs.Frames.{IsSound};
 ghost use Rattle.fab_model.specs.State.{in_use};
@@ -11,14 +12,13 @@ ghost use Rattle.fab_core.specs.Doing.{lasting_transmit};
 
 use crate::parts::Core;
 use fab_atomics::element_size;
-use fab_base::{Ack, Atom, AtomicOp, Buf, Caps, Fault, Form, ItemHead, Kind, Level, Num, Outcome};
-use fab_ends::calls::{Calls, ThisCall, call};
+use fab_base::{
+    Ack, Atom, AtomicOp, Buf, Caps, Fault, Form, INJECT_BYTES, ItemHead, Kind, Level, Num, Outcome,
+};
+use fab_ends::calls::{CallRecord, ThisCall, call};
 use fab_face::requesting::{Asked, Request, Requesting};
 use fab_match::Matcher;
 use std::snapshot::Snapshot;
-
-/// The most bytes of an atomic, or of a write whose bytes are copied.
-const MOST_COPIED: usize = 4_096;
 
 fn kind_asked(asked: Asked) -> Kind
     ensures { result ≡ kind_asked asked }
@@ -69,10 +69,10 @@ fn most_bytes(request: &Request, most: u32) -> usize
     ensures { result ≡ most_bytes most (kind_asked request.now.asked) (is_none request.now.ctx) }
 {
     match request.asked {
-        Asked::Atomic(_) => MOST_COPIED,
+        Asked::Atomic(_) => INJECT_BYTES as usize,
         Asked::Read | Asked::Write => {
             if request.ctx.is_none() {
-                MOST_COPIED
+                INJECT_BYTES as usize
             } else {
                 most as usize
             }
@@ -202,7 +202,7 @@ impl<M: Matcher> Core<M> {
         let level = Level::Delivery;
         let ctx = request.ctx;
         self.tx
-            .accept_owned::<Snapshot<Calls>, ThisCall>(
+            .accept_owned::<Snapshot<CallRecord>, ThisCall>(
                 &about,
                 dest,
                 head,
@@ -228,7 +228,7 @@ impl<M: Matcher> Core<M> {
         requires room { in_use self.old.tx.tx < self.old.tx.most }
         requires counts { self.old.tx.tx.ops < 2 ^ 62 }
         requires count { request.now.count < 2 ^ 32 }
-        requires few { length bytes.now + length compared.now ≤ 4096 }
+        requires few { length bytes.now + length compared.now ≤ INJECT_BYTES }
         requires sound { IsSound (head_of self.old.tx.tx.ops (order_asked request.now bytes.now compared.now buf)) }
         ensures { self.new ≡ accepted_as dest (order_asked request.now bytes.now compared.now buf) self.old }
     {
@@ -237,7 +237,7 @@ impl<M: Matcher> Core<M> {
         let silent = self.asks_silently(request);
         let level = Level::Delivery;
         let ctx = request.ctx;
-        self.tx.accept_copied::<Snapshot<Calls>, ThisCall>(
+        self.tx.accept_copied::<Snapshot<CallRecord>, ThisCall>(
             &about,
             dest,
             head,

@@ -1,5 +1,6 @@
 //! Messages that go out are judged and accepted (fi_msg(3), fi_tagged(3)).
 ghost use Rattle.std.specs.Prelude.{◌≡◌, ◌<◌, ◌≤◌, ◌^◌, ◌+◌, Bool, true, false, IsTrue, IsSome, ◌&&◌, ◌||◌, not, Some, None, is_none, length, List, ℕ, nat_lt};
+ghost use Rattle.fab_base.specs.declared.limits.TheConstants.{INJECT_BYTES};
 ghost use Rattle.fab_wire.specs.Frames.{IsSound};
 ghost use Rattle.fab_model.specs.State.{in_use};
 ghost use Rattle.fab_model.specs.Sending.{ack_of, ending, head_of, is_granted, is_silent};
@@ -11,16 +12,13 @@ ghost use Rattle.fab_core.specs.Doing.{accepted_by, lasting_transmit, sent};
 ghost use Rattle.fab_core.specs.Orders.{most_of, order_of};
 
 use crate::parts::Core;
-use fab_base::{Ack, Buf, Caps, Fault, ItemHead, Kind, Level, Outcome};
-use fab_ends::calls::{Calls, EndsWhenSent, ThisCall, call};
+use fab_base::{Ack, Buf, Caps, Fault, INJECT_BYTES, ItemHead, Kind, Level, Outcome};
+use fab_ends::calls::{CallRecord, EndsWhenSent, ThisCall, call};
 use fab_ends::ending::end;
 use fab_face::machine::Message;
 use fab_match::Matcher;
 use fab_tx::Outbox;
 use std::snapshot::Snapshot;
-
-/// The most bytes of a message whose bytes are copied.
-const MOST_COPIED: usize = 4_096;
 
 fn kind_of(tagged: bool) -> Kind
     ensures { result ≡ kind_of tagged }
@@ -56,7 +54,7 @@ fn most_bytes(message: &Message, most: u32) -> usize
     ensures { result ≡ most_of most message.now }
 {
     if message.ctx.is_none() {
-        MOST_COPIED
+        INJECT_BYTES as usize
     } else {
         most as usize
     }
@@ -125,7 +123,7 @@ impl<M: Matcher> Core<M> {
         let about = Snapshot::of(&self.calls);
         let head = self.head_of(message, len_of(buf.as_slice()));
         let silent = self.is_silent(message);
-        self.tx.accept_owned::<Snapshot<Calls>, ThisCall>(
+        self.tx.accept_owned::<Snapshot<CallRecord>, ThisCall>(
             &about,
             dest,
             head,
@@ -143,14 +141,14 @@ impl<M: Matcher> Core<M> {
         requires peer { dest < length self.old.tx.tx.sent }
         requires room { in_use self.old.tx.tx < self.old.tx.most }
         requires counts { self.old.tx.tx.ops < 2 ^ 62 }
-        requires few { length bytes.now ≤ 4096 }
+        requires few { length bytes.now ≤ INJECT_BYTES }
         requires copied { message.now.ctx ≡ None }
         requires sound { IsSound (head_of self.old.tx.tx.ops (order_of message.now bytes.now)) }
         ensures { self.new ≡ accepted_by dest (order_of message.now bytes.now) self.old }
     {
         let about = Snapshot::of(&self.calls);
         let head = self.head_of(message, len_of(bytes));
-        self.tx.accept_copied::<Snapshot<Calls>, ThisCall>(
+        self.tx.accept_copied::<Snapshot<CallRecord>, ThisCall>(
             &about,
             dest,
             head,

@@ -39,10 +39,10 @@ impl Change<(), CallCount> for OneMore {
 }
 
 /// The number of calls, which nothing stores.
-pub type Calls = Record<(), CallCount, NoCall>;
+pub type CallRecord = Record<(), CallCount, NoCall>;
 
 /// One more call is accepted. It costs nothing that can fail.
-pub fn call(calls: &mut Calls)
+pub fn call(calls: &mut CallRecord)
     ensures { calls.new ≡ calls.old + 1 }
 {
     calls.note::<(), OneMore>(&());
@@ -58,7 +58,7 @@ impl Caller<()> for OfNoCall {
 /// The call that is being made, after so many.
 pub struct ThisCall;
 
-impl Caller<Snapshot<Calls>> for ThisCall {
+impl Caller<Snapshot<CallRecord>> for ThisCall {
     ghost call = { λ x. Some x.value };
 }
 

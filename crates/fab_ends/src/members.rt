@@ -6,7 +6,7 @@ ghost use Rattle.fab_model.specs.Peers.{unread};
 ghost use Rattle.fab_ends.specs.declared.places.Member.{Member as OneMember};
 ghost use Rattle.fab_ends.specs.Members.{enlisted, let_any_go, let_go, list_read, nobody, read_by};
 
-use crate::calls::Calls;
+use crate::calls::CallRecord;
 use crate::places::{Member, Place, let_go, read};
 use fab_base::NoMemory;
 use fab_cq::Queue;
@@ -39,7 +39,7 @@ impl Begins<(), MultiList> for NoMulti {
 /// One more is posted, by the call that is being made, under this context.
 struct Posts;
 
-impl Change<(Snapshot<Calls>, u64), MultiList> for Posts {
+impl Change<(Snapshot<CallRecord>, u64), MultiList> for Posts {
     ghost after = { λ x multis. multis ++ (x.1, x.0.value) ∷ [] };
 }
 
@@ -77,13 +77,13 @@ impl Multis {
     }
 
     /// A multi-receive is posted under the id by the call that is being made, after so many.
-    pub fn enlist(&mut self, calls: &Calls, id: u32, ctx: u64)
+    pub fn enlist(&mut self, calls: &CallRecord, id: u32, ctx: u64)
         requires room { length self.old.places < self.old.room }
         ensures { self.new ≡ enlisted id ctx calls.now self.old }
     {
         let Multis { past, places } = self;
         let about = (Snapshot::of(calls), ctx);
-        past.note::<(Snapshot<Calls>, u64), Posts>(&about);
+        past.note::<(Snapshot<CallRecord>, u64), Posts>(&about);
         places.push_reserved(Member {
             ctx,
             place: Place::Open(id),

@@ -90,7 +90,7 @@ fn place_of_first(places: &[Member]) -> Option<usize>
 }
 
 /// The one leaves whose end is the first unread entry.
-fn strike(places: &mut Vec<Member>)
+fn remove_read(places: &mut Vec<Member>)
     ensures items { places.new.items ≡ remove_first is_first places.old.items }
     ensures capacity { vec_capacity places.new ≡ vec_capacity places.old }
 {
@@ -105,6 +105,6 @@ pub fn read(places: &mut Vec<Member>)
     ensures items { places.new.items ≡ map one_read (remove_first is_first places.old.items) }
     ensures capacity { vec_capacity places.new ≡ vec_capacity places.old }
 {
-    strike(places);
+    remove_read(places);
     move_up(places);
 }

@@ -13,7 +13,7 @@ ghost use Rattle.fab_ep.specs.Draws.{Draws};
 ghost use Rattle.fab_ep.specs.Tries.{HeldStays, Pushes, PushesOut, PushesOn, PushesTo, IsTied, PostsOut, TriesOut, TriesIn, Rounds, Turns, has_moved, moved_one, is_held, is_short, left_for};
 
 use crate::frames::post_next;
-use fab_base::NoMemory;
+use fab_base::{FRAME_BYTES, NoMemory};
 use fab_face::events::{Event, Moved, Stop};
 use fab_face::machine::Machine;
 use fab_link::Port;
@@ -175,8 +175,8 @@ impl<P: Port, C: Machine> Endpoint<P, C> {
             return Ok(Tried::Nothing);
         };
         let left = item.head.total - place;
-        if left > 4096 {
-            let after = item.head.total - (left - 4096);
+        if left > FRAME_BYTES {
+            let after = item.head.total - (left - FRAME_BYTES);
             if !post_next(port, dest, &item, place)? {
                 return Ok(Tried::Nothing);
             }
@@ -220,7 +220,7 @@ impl<P: Port, C: Machine> Endpoint<P, C> {
         let Some(item) = self.core.next(dest) else {
             return false;
         };
-        item.head.total - place <= 4096
+        item.head.total - place <= FRAME_BYTES
     }
 
     /// Whether the log has no more than two free places.

@@ -9,7 +9,7 @@ ghost use Rattle.fab_face.specs.Ports.{lanes_in};
 ghost use Rattle.fab_face.specs.Acts.{Ported, Posted};
 ghost use Rattle.fab_face.specs.Answers.{SawFull};
 
-use fab_base::{FrameHead, NoMemory};
+use fab_base::{FRAME_BYTES, FrameHead, NoMemory};
 use fab_face::machine::Next;
 use fab_link::{Port, PostRefused};
 
@@ -41,7 +41,7 @@ pub fn post_next<P: Port>(
     ensures others { Others dest (P.outs port.old) (P.outs port.new) }
     ensures memory { OnErr result (P.FIXED ≢ true) }
 {
-    let len = least(4096, item.head.total - place);
+    let len = least(FRAME_BYTES, item.head.total - place);
     let bytes = item.bytes;
     let start = place as usize;
     let end = start + len as usize;

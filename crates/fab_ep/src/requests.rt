@@ -1,5 +1,6 @@
 //! Reads, writes and atomics on regions of a peer (fi_rma(3), fi_atomic(3)).
 ghost use Rattle.std.specs.Prelude.{◌≡◌, ◌+◌, ◌≤◌, ◌∷◌, ℕ, List, [], Option, Some, None, true, false, is_none, length, min, nat_le, IfErr, OnOk};
+ghost use Rattle.fab_base.specs.declared.limits.TheConstants.{INJECT_BYTES};
 ghost use Rattle.fab_model.specs.State.{in_use};
 ghost use Rattle.fab_model.specs.Sending.{most_bytes};
 ghost use Rattle.fab_model.specs.Calls.{do_call};
@@ -51,7 +52,7 @@ impl<P: Port, C: Requesting> Endpoint<P, C> {
     /// Accepts a request whose bytes are copied, and logs the call.
     fn accept_copied(&mut self, request: &Request, bytes: &[u8], compared: &[u8], buf: Option<Buf>)
         requires granted { is_final (do_call self.old.held.state (requesting request.now bytes.now compared.now buf)).0 ≡ false }
-        requires few { (most : ℕ) → min (most_bytes most (kind_asked request.now.asked) (is_none request.now.ctx)) (length bytes.now + length compared.now) ≤ 4096 }
+        requires few { (most : ℕ) → min (most_bytes most (kind_asked request.now.asked) (is_none request.now.ctx)) (length bytes.now + length compared.now) ≤ INJECT_BYTES }
         requires room { nat_le self.old.held.state.most_tx (in_use self.old.held.state.tx) ≡ false }
         requires place { length self.old.log + 1 ≤ self.old.log_size }
         ensures did { Went (Some (requesting request.now bytes.now compared.now buf)) (seen P.Port self.old) (seen P.Port self.new) (Did ∷ []) }
@@ -83,7 +84,7 @@ impl<P: Port, C: Requesting> Endpoint<P, C> {
     /// Accepts a request that was admitted, whose bytes are copied, and posts what may go at once.
     fn go_out(&mut self, request: &Request, bytes: &[u8], compared: &[u8], buf: Option<Buf>)
         requires granted { is_final (do_call self.old.held.state (requesting request.now bytes.now compared.now buf)).0 ≡ false }
-        requires few { (most : ℕ) → min (most_bytes most (kind_asked request.now.asked) (is_none request.now.ctx)) (length bytes.now + length compared.now) ≤ 4096 }
+        requires few { (most : ℕ) → min (most_bytes most (kind_asked request.now.asked) (is_none request.now.ctx)) (length bytes.now + length compared.now) ≤ INJECT_BYTES }
         requires room { nat_le self.old.held.state.most_tx (in_use self.old.held.state.tx) ≡ false }
         requires places { length self.old.log + 2 ≤ self.old.log_size }
         ensures { (first : Seen P.Home) → Admits (requesting request.now bytes.now compared.now buf) first (seen P.Port self.old)
@@ -105,7 +106,7 @@ impl<P: Port, C: Requesting> Endpoint<P, C> {
         compared: &[u8],
         buf: Buf,
     ) -> Result<(), Refused>
-        requires few { (most : ℕ) → min (most_bytes most (kind_asked request.now.asked) (is_none request.now.ctx)) (length bytes.now + length compared.now) ≤ 4096 }
+        requires few { (most : ℕ) → min (most_bytes most (kind_asked request.now.asked) (is_none request.now.ctx)) (length bytes.now + length compared.now) ≤ INJECT_BYTES }
         ensures ok { OnOk result (Sends P.FIXED (requesting request.now bytes.now compared.now (Some buf)) request.now.dest (seen P.Port self.old) (seen P.Port self.new)) }
         ensures err { IfErr result (λ r. (r.buf ≡ buf) × SendsNot P.FIXED (requesting request.now bytes.now compared.now (Some buf)) (seen P.Port self.old) (seen P.Port self.new) r.why) }
     {
@@ -118,7 +119,7 @@ impl<P: Port, C: Requesting> Endpoint<P, C> {
 
     /// Asks for what gives no buffer back.
     fn ask(&mut self, request: &Request, bytes: &[u8]) -> Result<(), Fault>
-        requires few { (most : ℕ) → min (most_bytes most (kind_asked request.now.asked) (is_none request.now.ctx)) (length bytes.now + 0) ≤ 4096 }
+        requires few { (most : ℕ) → min (most_bytes most (kind_asked request.now.asked) (is_none request.now.ctx)) (length bytes.now + 0) ≤ INJECT_BYTES }
         ensures ok { OnOk result (Sends P.FIXED (requesting request.now bytes.now [] None) request.now.dest (seen P.Port self.old) (seen P.Port self.new)) }
         ensures err { IfErr result (λ why. SendsNot P.FIXED (requesting request.now bytes.now [] None) (seen P.Port self.old) (seen P.Port self.new) why) }
     {

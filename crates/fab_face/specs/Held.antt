@@ -7,6 +7,7 @@
 --     IsOpen e  what holds of an endpoint between its calls
 use Rattle.std.specs.Prelude.{◌≡◌, ℕ, ◌+◌, ◌-◌, ◌<◌, ◌≤◌, ◌⊎◌, min, Bool, List, length, zero, suc, Option, Some, None, slice_get, slice_index, slice_index_or}
 use Rattle.std.specs.Option.{option_map}
+use Rattle.fab_base.specs.declared.limits.TheConstants.{FRAME_BYTES}
 use Rattle.fab_base.specs.declared.items.Item.{Item}
 use Rattle.fab_base.specs.declared.frames.FrameHead.{FrameHead}
 use Rattle.fab_base.specs.declared.frames.Frame.{Frame}
@@ -42,7 +43,7 @@ next_item s dest = slice_get (accepted_for s.tx dest) (slice_index s.tx.sent des
 
 -- the frame of the item that begins at this byte
 abbrev pub piece : Item → ℕ → Frame
-piece item place = frame_of item.bytes (record { item = item.head; from = place; len = min 4096 (item.head.total - place) })
+piece item place = frame_of item.bytes (record { item = item.head; from = place; len = min FRAME_BYTES (item.head.total - place) })
 
 abbrev pub next_frame : Held → ℕ → Option Frame
 next_frame h dest = option_map (λ item. piece item (slice_index h.places dest)) (next_item h.state dest)

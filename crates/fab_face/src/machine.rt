@@ -1,5 +1,6 @@
 //! What an endpoint keeps besides its port and its log: the machine's state, and what is unfinished.
 ghost use Rattle.std.specs.Prelude.{◌≡◌, ◌<◌, ◌≤◌, ◌-◌, ℕ, Bool, true, false, List, length, min, Option, Some, None, Ok, nat_le, slice_index, OnOk, OnErr, IfOk, IfErr, IfSome, IfNone, IsSome, count_by};
+ghost use Rattle.fab_base.specs.declared.limits.TheConstants.{FRAME_BYTES};
 ghost use Rattle.fab_base.specs.declared.items.Item.{Item};
 ghost use Rattle.fab_base.specs.declared.peers.LineResult.TheVariants.{Done, Refused as Answer};
 ghost use Rattle.fab_base.specs.declared.entries.Taken.TheVariants.{Success, Failure};
@@ -96,7 +97,7 @@ pub trait Machine {
         requires below { source < length (held self.old).places }
         requires next { IsNext (begun_of (held self.old) source) (frame head.now bytes.now) }
         requires filled { length bytes.now ≡ head.now.len }
-        requires cut { head.now.len ≡ min 4096 (head.now.item.total - head.now.from) }
+        requires cut { head.now.len ≡ min FRAME_BYTES (head.now.item.total - head.now.from) }
         requires sound { IsSound head.now.item }
         ensures yes { result ≡ Ok true → Goes None (held self.old) (Took source (frame head.now bytes.now)) (held self.new) }
         ensures next { result ≡ Ok true → StayNext (held self.old).state (held self.new).state }
@@ -147,7 +148,7 @@ pub trait Machine {
         requires room { nat_le (held self.old).state.most_tx (in_use (held self.old).state.tx) ≡ false }
         ensures { DoesCall (Some (sending message.now buf)) (held self.old) (held self.new) };
 
-    /// Accepts a message whose bytes are copied: at most 4,096, as no more are granted.
+    /// Accepts a message whose bytes are copied: at most [`INJECT_BYTES`](fab_base::INJECT_BYTES), as no more are granted.
     fn inject(&mut self, message: &Message, bytes: &[u8])
         requires granted { is_final (do_call (held self.old).state (sending message.now bytes.now)).0 ≡ false }
         requires injected { message.now.ctx ≡ None }

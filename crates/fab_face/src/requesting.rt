@@ -1,5 +1,6 @@
 //! What an endpoint's machine asks of the regions of a peer.
 ghost use Rattle.std.specs.Prelude.{◌≡◌, ◌+◌, ◌≤◌, ℕ, List, [], Option, Some, true, false, is_none, length, min, nat_le, IfSome, IfNone};
+ghost use Rattle.fab_base.specs.declared.limits.TheConstants.{INJECT_BYTES};
 ghost use Rattle.fab_base.specs.declared.peers.LineResult.TheVariants.{Refused as Answer};
 ghost use Rattle.fab_model.specs.State.{in_use};
 ghost use Rattle.fab_model.specs.Sending.{most_bytes};
@@ -50,10 +51,10 @@ pub trait Requesting: Machine {
         requires room { nat_le (Self.held self.old).state.most_tx (in_use (Self.held self.old).state.tx) ≡ false }
         ensures { DoesCall (Some (requesting request.now buf [] (Some buf))) (Self.held self.old) (Self.held self.new) };
 
-    /// Accepts a request whose bytes are copied, at most 4,096, with the buffer that comes back.
+    /// Accepts a request whose bytes are copied, at most [`INJECT_BYTES`](fab_base::INJECT_BYTES), with the buffer that comes back.
     fn request_copied(&mut self, request: &Request, bytes: &[u8], compared: &[u8], buf: Option<Buf>)
         requires granted { is_final (do_call (Self.held self.old).state (requesting request.now bytes.now compared.now buf)).0 ≡ false }
-        requires few { min (most_bytes (Self.held self.old).state.most_message (kind_asked request.now.asked) (is_none request.now.ctx)) (length bytes.now + length compared.now) ≤ 4096 }
+        requires few { min (most_bytes (Self.held self.old).state.most_message (kind_asked request.now.asked) (is_none request.now.ctx)) (length bytes.now + length compared.now) ≤ INJECT_BYTES }
         requires room { nat_le (Self.held self.old).state.most_tx (in_use (Self.held self.old).state.tx) ≡ false }
         ensures { DoesCall (Some (requesting request.now bytes.now compared.now buf)) (Self.held self.old) (Self.held self.new) };
 }

@@ -12,6 +12,7 @@ use Rattle.fab_base.specs.declared.items.AtomicOp.TheVariants.{Min, Max, Sum, Pr
 use Rattle.fab_base.specs.declared.items.Form.TheVariants.{Base}
 use Rattle.fab_base.specs.declared.items.Num.{Num}
 use Rattle.fab_model.specs.Target.{elements}
+use Rattle.fab_fold.specs.declared.coll.TheConstants.{MOST_SHARE}
 use Rattle.fab_fold.specs.declared.coll.Coll.{Coll}
 use Rattle.fab_fold.specs.declared.coll.Coll.TheVariants.{Barrier, Broadcast, Allgather, Allreduce}
 
@@ -75,10 +76,10 @@ AreAlike len shares = All (λ share. length share ≡ len) shares
 
 abbrev pub AreShares : ℕ → Coll → List (List ℕ) → Type 0
 AreShares peers Barrier shares = shares ≡ []
-AreShares peers (Broadcast root) shares = (root < peers) × (length shares ≡ 1) × (length (slice_index_or shares 0 []) ≤ 4096)
-AreShares peers Allgather shares = (length shares ≡ peers) × ((len : ℕ) × (len ≤ 4096) × AreAlike len shares)
+AreShares peers (Broadcast root) shares = (root < peers) × (length shares ≡ 1) × (length (slice_index_or shares 0 []) ≤ MOST_SHARE)
+AreShares peers Allgather shares = (length shares ≡ peers) × ((len : ℕ) × (len ≤ MOST_SHARE) × AreAlike len shares)
 AreShares peers (Allreduce op num) shares =
-    (length shares ≡ peers) × (is_reducing op ≡ true) × ((len : ℕ) × (len ≤ 4096) × (len % element_size num ≡ 0) × AreAlike len shares)
+    (length shares ≡ peers) × (is_reducing op ≡ true) × ((len : ℕ) × (len ≤ MOST_SHARE) × (len % element_size num ≡ 0) × AreAlike len shares)
 
 -- what a rank has and received in such a round
 abbrev pub AreReceived : Coll → ℕ → List ℕ → List (List ℕ) → Type 0

@@ -4,6 +4,9 @@ ghost use Rattle.fab_fold.specs.Shares.{is_reducing};
 
 use fab_base::{AtomicOp, Num};
 
+/// How many bytes a rank's share has at most.
+pub const MOST_SHARE: usize = 4_096;
+
 /// What the ranks do together in a round (fi_collective(3)).
 #[derive(Clone, Copy, Drop)]
 pub enum Coll {

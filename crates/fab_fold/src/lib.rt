@@ -8,5 +8,5 @@
 mod coll;
 mod outcomes;
 
-pub use coll::{Coll, is_reducing};
+pub use coll::{Coll, MOST_SHARE, is_reducing};
 pub use outcomes::outcome;

@@ -3,9 +3,9 @@ use Rattle.std.proofs.Common.{◌≡◌, ◌≢◌, ◌<◌, ℕ, List, [], ◌�
 use Rattle.std.specs.Prelude.{Err}
 use Rattle.fab_base.specs.declared.caps.Api.{Api}
 use Rattle.fab_base.specs.declared.limits.Size.{Size}
-use Rattle.fab_words.specs.declared.fault.Fault.{Fault}
-use Rattle.fab_words.specs.declared.fault.Fault.TheVariants.{Words}
-use Rattle.fab_words.specs.Faults.{◌&◌, map_ok}
+use Rattle.fab_words.specs.declared.misread.Misread.{Misread}
+use Rattle.fab_words.specs.declared.misread.Misread.TheVariants.{Words}
+use Rattle.fab_words.specs.Misreads.{◌&◌, map_ok}
 use Rattle.fab_grammar.specs.Atomics.{atomic_of, fetch_of, compare_of}
 use Rattle.fab_grammar.specs.Sends.{send_of, tsend_of, inject_of, tinject_of, mrecv_of, write_of, winject_of}
 use Rattle.fab_words.specs.Words.{read_number, read_source, read_up_to}
@@ -175,6 +175,6 @@ peer_of_other (a ∷ []) h = absurd (h (omega arith))
 peer_of_other _ h = refl
 
 -- what is wrong with the words is wrong with the line
-pub trecv_fault : (most : ℕ) (ctx source tag ignore len : List ℕ) (fault : Fault) → (read_number ctx & read_source source & read_number tag & read_number ignore & read_up_to most len) ≡ Err fault → trecv_of most (ctx ∷ source ∷ tag ∷ ignore ∷ len ∷ []) ≡ Err fault
+pub trecv_fault : (most : ℕ) (ctx source tag ignore len : List ℕ) (fault : Misread) → (read_number ctx & read_source source & read_number tag & read_number ignore & read_up_to most len) ≡ Err fault → trecv_of most (ctx ∷ source ∷ tag ∷ ignore ∷ len ∷ []) ≡ Err fault
 unfolding trecv_of
 trecv_fault most ctx source tag ignore len fault e = ap (map_ok a_trecv) e

@@ -4,8 +4,8 @@ use Rattle.std.specs.Prelude.{is_none}
 use Rattle.fab_base.specs.declared.caps.Api.{Api}
 use Rattle.fab_base.specs.declared.status.Why.{Why}
 use Rattle.fab_base.specs.declared.status.Why.TheVariants as why
-use Rattle.fab_grammar.specs.declared.verbs.Kind.{Kind}
-use Rattle.fab_grammar.specs.declared.verbs.Kind.TheVariants as kind
+use Rattle.fab_grammar.specs.declared.verbs.VerbKind.{VerbKind}
+use Rattle.fab_grammar.specs.declared.verbs.VerbKind.TheVariants as kind
 use Rattle.fab_grammar.specs.declared.verbs.Verb.{Verb}
 use Rattle.fab_grammar.specs.Before.{Before}
 use Rattle.fab_grammar.specs.Lines.{op_of}
@@ -76,7 +76,7 @@ call_in_time api before number verb args e =
     let limit = last_fails (call_rules api before number verb args) e in
     (or_false (is_limit (op_of (most_bytes api) verb args)) (is_late number) (or_false (is_limit (op_of (most_bytes api) verb args) || is_late number) (is_too_much api before (op_of (most_bytes api) verb args)) limit).0).1
 
-kind_in_time : (k : Kind) (api : Api) (before : Before) (number : ℕ) (verb : Verb) (args : List (List ℕ)) → first_of (kind_rules k api before number verb args) ≡ None → is_late number ≡ false
+kind_in_time : (k : VerbKind) (api : Api) (before : Before) (number : ℕ) (verb : Verb) (args : List (List ℕ)) → first_of (kind_rules k api before number verb args) ≡ None → is_late number ≡ false
 kind_in_time kind.Setting api before number verb args e = setting_in_time api before number verb args e
 kind_in_time kind.Peer api before number verb args e = peer_in_time before number args e
 kind_in_time kind.Call api before number verb args e = call_in_time api before number verb args e

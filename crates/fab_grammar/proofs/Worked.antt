@@ -7,7 +7,7 @@ use Rattle.fab_base.specs.declared.script.BytesWord.TheVariants.{Text}
 use Rattle.fab_base.specs.declared.items.AtomicOp.TheVariants.{Sum}
 use Rattle.fab_base.specs.declared.items.Num.TheVariants.{I16}
 use Rattle.fab_base.specs.declared.script.LineOp.TheVariants.{TSend, TRecv, Wait, Write, Atomic}
-use Rattle.fab_words.specs.declared.fault.Fault.TheVariants.{Words}
+use Rattle.fab_words.specs.declared.misread.Misread.TheVariants.{Words}
 use Rattle.fab_grammar.specs.declared.verbs.Verb.TheVariants as verb
 use Rattle.fab_grammar.specs.Lines.{op_of}
 use Rattle.fab_grammar.specs.Grammar.{script_of, script_with, refusal_of, verdict}

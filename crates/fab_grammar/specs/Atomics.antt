@@ -11,12 +11,12 @@ use Rattle.fab_base.specs.declared.items.Num.{Num}
 use Rattle.fab_base.specs.declared.items.Num.TheVariants as num
 use Rattle.fab_base.specs.declared.script.LineOp.{LineOp}
 use Rattle.fab_base.specs.declared.script.LineOp.TheVariants as op
-use Rattle.fab_words.specs.declared.fault.Fault.{Fault}
-use Rattle.fab_words.specs.declared.fault.Fault.TheVariants.{Words, Number}
+use Rattle.fab_words.specs.declared.misread.Misread.{Misread}
+use Rattle.fab_words.specs.declared.misread.Misread.TheVariants.{Words, Number}
 use Rattle.fab_grammar.specs.declared.options.Allowed.{Allowed}
 use Rattle.fab_grammar.specs.declared.options.Options.{Options}
 use Rattle.fab_grammar.specs.Capabilities.{is_comma}
-use Rattle.fab_words.specs.Faults.{◌&◌, map_ok}
+use Rattle.fab_words.specs.Misreads.{◌&◌, map_ok}
 use Rattle.fab_grammar.specs.Options.{allowing, read_options}
 use Rattle.fab_grammar.specs.Sends.{read_remote}
 use Rattle.fab_words.specs.Words.{begins_with, numeral_of, read_up_to}
@@ -120,15 +120,15 @@ unfoldable pub element : Num → ℕ → List ℕ
 element num n = le_bytes (element_size num) n
 
 -- the elements of these words after those
-abbrev pub add_elements : Num → List ℕ → List (List ℕ) → Result (List ℕ) Fault
+abbrev pub add_elements : Num → List ℕ → List (List ℕ) → Result (List ℕ) Misread
 add_elements num bytes [] = Ok bytes
 add_elements num bytes (word ∷ words) = elim (value_of num word) [ None ↦ Err Number | Some n ↦ add_elements num (bytes ++ element num n) words ]
 
-unfoldable pub read_elements : Num → List ℕ → Result (List ℕ) Fault
+unfoldable pub read_elements : Num → List ℕ → Result (List ℕ) Misread
 read_elements num word = add_elements num [] (slice_split is_comma word)
 
 -- `*N`
-unfoldable pub read_elements_count : List ℕ → Result ℕ Fault
+unfoldable pub read_elements_count : List ℕ → Result ℕ Misread
 read_elements_count word = if begins_with (codes "*") word then read_up_to 4194304 (drop 1 word) else Err Words
 
 abbrev pub values_alone : List ℕ → List ℕ × ℕ
@@ -137,7 +137,7 @@ values_alone bytes = (bytes, 0)
 abbrev pub count_alone : ℕ → List ℕ × ℕ
 count_alone n = ([], n)
 
-abbrev pub read_values : AtomicOp → Num → List ℕ → Result (List ℕ × ℕ) Fault
+abbrev pub read_values : AtomicOp → Num → List ℕ → Result (List ℕ × ℕ) Misread
 read_values atom.AtomicRead num word = map_ok count_alone (read_elements_count word)
 read_values atom num word = map_ok values_alone (read_elements num word)
 
@@ -147,18 +147,18 @@ Operand = (AtomicOp × Num) × (List ℕ × ℕ)
 abbrev pub with_kind : AtomicOp × Num → List ℕ × ℕ → Operand
 with_kind kind values = (kind, values)
 
-abbrev pub operand_of : Result (AtomicOp × Num) Fault → List ℕ → Result Operand Fault
+abbrev pub operand_of : Result (AtomicOp × Num) Misread → List ℕ → Result Operand Misread
 operand_of (Ok kind) word = map_ok (with_kind kind) (read_values kind.0 kind.1 word)
 operand_of (Err fault) word = Err fault
 
-unfoldable pub read_operand : List ℕ → List ℕ → List ℕ → Result Operand Fault
+unfoldable pub read_operand : List ℕ → List ℕ → List ℕ → Result Operand Misread
 read_operand atom num word = operand_of (ok_or (atom_named atom) Words & ok_or (num_named num) Words) word
 
 -- `C D KEY AT OP NUM VALUES`
 abbrev pub Request : Type 0
 Request = (ℕ × ((ℕ × ℕ) × ℕ)) × Operand
 
-unfoldable pub read_request : List ℕ → List ℕ → List ℕ → List ℕ → List ℕ → List ℕ → List ℕ → Result Request Fault
+unfoldable pub read_request : List ℕ → List ℕ → List ℕ → List ℕ → List ℕ → List ℕ → List ℕ → Result Request Misread
 read_request ctx dest key at atom num values = read_remote ctx dest key at & read_operand atom num values
 
 abbrev pub for_atomic : Allowed
@@ -168,7 +168,7 @@ for_atomic = allowing false false true true false
 abbrev pub an_atomic : Request × Options → LineOp
 an_atomic (((ctx, ((dest, key), at)), ((atom, num), values)), o) = op.Atomic ctx dest key at atom num values.0 o.completion o.fence
 
-unfoldable pub atomic_of : List (List ℕ) → Result LineOp Fault
+unfoldable pub atomic_of : List (List ℕ) → Result LineOp Misread
 atomic_of (ctx ∷ dest ∷ key ∷ at ∷ atom ∷ num ∷ values ∷ options) = map_ok an_atomic (read_request ctx dest key at atom num values & read_options for_atomic options)
 atomic_of _ = Err Words
 
@@ -176,7 +176,7 @@ atomic_of _ = Err Words
 abbrev pub a_fetch : Request → LineOp
 a_fetch ((ctx, ((dest, key), at)), ((atom, num), values)) = op.Fetch ctx dest key at atom num values.0 values.1
 
-unfoldable pub fetch_of : List (List ℕ) → Result LineOp Fault
+unfoldable pub fetch_of : List (List ℕ) → Result LineOp Misread
 fetch_of (ctx ∷ dest ∷ key ∷ at ∷ atom ∷ num ∷ values ∷ []) = map_ok a_fetch (read_request ctx dest key at atom num values)
 fetch_of _ = Err Words
 
@@ -184,7 +184,7 @@ fetch_of _ = Err Words
 abbrev pub a_compare : Request × Operand → LineOp
 a_compare (((ctx, ((dest, key), at)), ((atom, num), values)), (kind, compares)) = op.Compare ctx dest key at atom num values.0 compares.0
 
-unfoldable pub compare_of : List (List ℕ) → Result LineOp Fault
+unfoldable pub compare_of : List (List ℕ) → Result LineOp Misread
 compare_of (ctx ∷ dest ∷ key ∷ at ∷ atom ∷ num ∷ values ∷ compares ∷ []) =
     map_ok a_compare (read_request ctx dest key at atom num values & read_operand atom num compares)
 compare_of _ = Err Words

@@ -8,8 +8,8 @@ use Rattle.fab_base.specs.declared.caps.Cap.{Cap}
 use Rattle.fab_base.specs.declared.caps.Cap.TheVariants as cap
 use Rattle.fab_base.specs.declared.caps.Caps.{Caps}
 use Rattle.fab_model.specs.Negotiation.{all_caps, no_hints}
-use Rattle.fab_words.specs.declared.fault.Fault.{Fault}
-use Rattle.fab_words.specs.declared.fault.Fault.TheVariants.{Words}
+use Rattle.fab_words.specs.declared.misread.Misread.{Misread}
+use Rattle.fab_words.specs.declared.misread.Misread.TheVariants.{Words}
 
 abbrev pub cap_name : Cap → List ℕ
 cap_name cap.Msg = codes "FI_MSG"
@@ -33,12 +33,12 @@ unfoldable pub cap_named : List ℕ → Option Cap
 cap_named name = find (λ cap. bytes_eq name (cap_name cap)) all_caps
 
 -- these besides those; a name may stand twice, and an empty or unknown one is no name
-abbrev pub add_names : Caps → List (List ℕ) → Result Caps Fault
+abbrev pub add_names : Caps → List (List ℕ) → Result Caps Misread
 add_names caps [] = Ok caps
 add_names caps (name ∷ names) = elim (cap_named name) [ None ↦ Err Words | Some cap ↦ add_names (with_cap cap caps) names ]
 
 abbrev pub is_comma : ℕ → Bool
 is_comma byte = byte == 44
 
-unfoldable pub caps_of : List ℕ → Result Caps Fault
+unfoldable pub caps_of : List ℕ → Result Caps Misread
 caps_of word = add_names no_hints.caps (slice_split is_comma word)

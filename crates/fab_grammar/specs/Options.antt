@@ -5,13 +5,13 @@ use Rattle.std.specs.Prelude.{ℕ, Bool, true, false, ◌&&◌, if◌then◌else
 use Rattle.std.specs.List.{list_any}
 use Rattle.fab_base.specs.declared.peers.Level.{Level}
 use Rattle.fab_base.specs.declared.peers.Level.TheVariants as level
-use Rattle.fab_words.specs.declared.fault.Fault.{Fault}
-use Rattle.fab_words.specs.declared.fault.Fault.TheVariants.{Words}
+use Rattle.fab_words.specs.declared.misread.Misread.{Misread}
+use Rattle.fab_words.specs.declared.misread.Misread.TheVariants.{Words}
 use Rattle.fab_grammar.specs.declared.options.Allowed.{Allowed}
 use Rattle.fab_grammar.specs.declared.options.Optional.{Optional}
 use Rattle.fab_grammar.specs.declared.options.Optional.TheVariants.{Data, AtLevel, Completion, Fence, Min}
 use Rattle.fab_grammar.specs.declared.options.Options.{Options}
-use Rattle.fab_words.specs.Faults.{map_ok, ◌&◌}
+use Rattle.fab_words.specs.Misreads.{map_ok, ◌&◌}
 use Rattle.fab_words.specs.Words.{begins_with, first_of, read_number, read_index}
 
 abbrev pub level_name : Level → List ℕ
@@ -58,7 +58,7 @@ abbrev pub value_after : List ℕ → List (List ℕ) → Option (List ℕ)
 value_after front [] = None
 value_after front (word ∷ words) = if begins_with front word then Some (drop (length front) word) else value_after front words
 
-abbrev pub read_if : (List ℕ → Result ℕ Fault) → Option (List ℕ) → Result (Option ℕ) Fault
+abbrev pub read_if : (List ℕ → Result ℕ Misread) → Option (List ℕ) → Result (Option ℕ) Misread
 read_if read None = Ok None
 read_if read (Some word) = map_ok Some (read word)
 
@@ -77,7 +77,7 @@ has_word name words = list_any (λ word. bytes_eq word name) words
 abbrev pub the_options : List (List ℕ) → Option ℕ × Option ℕ → Options
 the_options words (imm, min) = record { imm = imm; level = level_in words; completion = has_word (codes "completion") words; fence = has_word (codes "fence") words; min = min }
 
-unfoldable pub read_options : Allowed → List (List ℕ) → Result Options Fault
+unfoldable pub read_options : Allowed → List (List ℕ) → Result Options Misread
 read_options allowed words =
     if are_options allowed words then map_ok (the_options words) (read_if read_number (value_after (codes "data=") words) & read_if read_index (value_after (codes "min=") words))
     else Err Words

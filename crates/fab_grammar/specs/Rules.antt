@@ -10,14 +10,14 @@ use Rattle.fab_base.specs.declared.caps.Api.{Api}
 use Rattle.fab_base.specs.declared.script.LineOp.{LineOp}
 use Rattle.fab_base.specs.declared.script.Payload.{Payload}
 use Rattle.fab_model.specs.Negotiation.{grant}
-use Rattle.fab_words.specs.declared.fault.Fault.{Fault}
-use Rattle.fab_words.specs.declared.fault.Fault.TheVariants.{Words, Number, Limit}
+use Rattle.fab_words.specs.declared.misread.Misread.{Misread}
+use Rattle.fab_words.specs.declared.misread.Misread.TheVariants.{Words, Number, Limit}
 use Rattle.fab_grammar.specs.declared.items.Item.TheVariants.{Peer, Does}
 use Rattle.fab_grammar.specs.declared.settings.Setting.{Setting}
 use Rattle.fab_grammar.specs.declared.settings.Setting.TheVariants.{Peers, Capabilities, File}
 use Rattle.fab_grammar.specs.declared.settings.Settings.{Settings}
-use Rattle.fab_grammar.specs.declared.verbs.Kind.{Kind}
-use Rattle.fab_grammar.specs.declared.verbs.Kind.TheVariants as kind
+use Rattle.fab_grammar.specs.declared.verbs.VerbKind.{VerbKind}
+use Rattle.fab_grammar.specs.declared.verbs.VerbKind.TheVariants as kind
 use Rattle.fab_grammar.specs.declared.verbs.Verb.{Verb}
 use Rattle.fab_grammar.specs.declared.verbs.Verb.TheVariants as verb
 use Rattle.fab_grammar.specs.Before.{Before, count_in, has_opened, opened_by, size_of}
@@ -32,20 +32,20 @@ abbrev pub Rules : Type 0
 Rules = List (Bool × Why)
 
 -- what a line is refused for whose words have this fault
-abbrev pub why_from : Fault → Why
+abbrev pub why_from : Misread → Why
 why_from Words = why.Words
 why_from Number = why.Number
 why_from Limit = why.Limit
 
-abbrev pub is_words : {A : Type 0} → Result A Fault → Bool
+abbrev pub is_words : {A : Type 0} → Result A Misread → Bool
 is_words (Err Words) = true
 is_words _ = false
 
-abbrev pub is_number : {A : Type 0} → Result A Fault → Bool
+abbrev pub is_number : {A : Type 0} → Result A Misread → Bool
 is_number (Err Number) = true
 is_number _ = false
 
-abbrev pub is_limit : {A : Type 0} → Result A Fault → Bool
+abbrev pub is_limit : {A : Type 0} → Result A Misread → Bool
 is_limit (Err Limit) = true
 is_limit _ = false
 
@@ -81,12 +81,12 @@ is_fresh settings (Peers n) = is_none settings.peers
 is_fresh settings _ = true
 
 -- a script has at most 64 payload files
-abbrev pub is_one_too_many : Before → Result Setting Fault → Bool
+abbrev pub is_one_too_many : Before → Result Setting Misread → Bool
 is_one_too_many before (Ok (File payload)) = nat_le 64 (length before.payloads)
 is_one_too_many before _ = false
 
 -- the provider does not grant these capabilities
-abbrev pub is_refused : Api → Result Setting Fault → Bool
+abbrev pub is_refused : Api → Result Setting Misread → Bool
 is_refused api (Ok (Capabilities caps)) = is_none (grant api (Some (asking caps)))
 is_refused api _ = false
 
@@ -101,7 +101,7 @@ setting_rules api before number verb args = let said = setting_of api verb args 
     ∷ []
 
 -- the peer is not there
-abbrev pub is_no_peer : Before → Result ℕ Fault → Bool
+abbrev pub is_no_peer : Before → Result ℕ Misread → Bool
 is_no_peer before (Ok k) = nat_le (count_in before) k
 is_no_peer before (Err fault) = false
 
@@ -115,7 +115,7 @@ peer_rules before number args = let said = peer_of args in
     ∷ []
 
 -- the bytes of all lines, this one among them, are too many
-abbrev pub is_too_much : Api → Before → Result LineOp Fault → Bool
+abbrev pub is_too_much : Api → Before → Result LineOp Misread → Bool
 is_too_much api before (Ok op) = nat_lt (most_in_all api) (sum_by size_of before.items + op_size op)
 is_too_much api before (Err fault) = false
 
@@ -127,7 +127,7 @@ call_rules api before number verb args = let said = op_of (most_bytes api) verb 
     ∷ (is_limit said || is_late number || is_too_much api before said, why.Limit)
     ∷ []
 
-abbrev pub kind_rules : Kind → Api → Before → ℕ → Verb → List (List ℕ) → Rules
+abbrev pub kind_rules : VerbKind → Api → Before → ℕ → Verb → List (List ℕ) → Rules
 kind_rules kind.Setting api before number verb args = setting_rules api before number verb args
 kind_rules kind.Peer api before number verb args = peer_rules before number args
 kind_rules kind.Call api before number verb args = call_rules api before number verb args
@@ -147,20 +147,20 @@ unfoldable pub why_of : Before → ℕ → List ℕ → Option Why
 why_of before number line = first_of ((not (is_text line), why.NotText) ∷ word_rules before number (words_of line))
 
 -- what is said with one setting more, one peer more, or one line more of a peer
-abbrev pub with_setting : Before → Result Setting Fault → Before
+abbrev pub with_setting : Before → Result Setting Misread → Before
 with_setting before (Ok (File payload)) = record before { payloads = before.payloads ++ payload ∷ [] }
 with_setting before (Ok setting) = record before { settings = making before.settings setting }
 with_setting before (Err fault) = before
 
-abbrev pub with_peer : Before → Result ℕ Fault → Before
+abbrev pub with_peer : Before → Result ℕ Misread → Before
 with_peer before (Ok k) = record before { items = before.items ++ Peer k ∷ [] }
 with_peer before (Err fault) = before
 
-abbrev pub with_call : Before → ℕ → Result LineOp Fault → Before
+abbrev pub with_call : Before → ℕ → Result LineOp Misread → Before
 with_call before number (Ok op) = record before { items = before.items ++ Does (record { number = number; op = op }) ∷ [] }
 with_call before number (Err fault) = before
 
-abbrev pub with_kind : Kind → Api → Before → ℕ → Verb → List (List ℕ) → Before
+abbrev pub with_kind : VerbKind → Api → Before → ℕ → Verb → List (List ℕ) → Before
 with_kind kind.Setting api before number verb args = with_setting before (setting_of api verb args)
 with_kind kind.Peer api before number verb args = with_peer before (peer_of args)
 with_kind kind.Call api before number verb args = with_call before number (op_of (most_bytes api) verb args)

@@ -13,34 +13,34 @@ use Rattle.fab_base.specs.declared.limits.Limits.{Limits}
 use Rattle.fab_base.specs.declared.limits.Size.{Size}
 use Rattle.fab_base.specs.declared.limits.Size.TheVariants as size
 use Rattle.fab_model.specs.Negotiation.{no_hints}
-use Rattle.fab_words.specs.declared.fault.Fault.{Fault}
-use Rattle.fab_words.specs.declared.fault.Fault.TheVariants.{Words, Limit}
+use Rattle.fab_words.specs.declared.misread.Misread.{Misread}
+use Rattle.fab_words.specs.declared.misread.Misread.TheVariants.{Words, Limit}
 use Rattle.fab_grammar.specs.declared.settings.Setting.{Setting}
 use Rattle.fab_grammar.specs.declared.settings.Setting.TheVariants.{Peers, Wish, Capabilities, Selective, File}
 use Rattle.fab_grammar.specs.declared.settings.Settings.{Settings}
 use Rattle.fab_grammar.specs.declared.verbs.Verb.{Verb}
 use Rattle.fab_grammar.specs.declared.verbs.Verb.TheVariants as verb
 use Rattle.fab_grammar.specs.Capabilities.{caps_of}
-use Rattle.fab_words.specs.Faults.{map_ok, ◌&◌}
+use Rattle.fab_words.specs.Misreads.{map_ok, ◌&◌}
 use Rattle.fab_words.specs.Words.{read_number, read_text}
 
 -- a number from the least to the greatest
-abbrev pub between : Limits → Result ℕ Fault → Result ℕ Fault
+abbrev pub between : Limits → Result ℕ Misread → Result ℕ Misread
 between limits (Ok n) = if nat_le limits.least n && nat_le n limits.greatest then Ok n else Err Limit
 between limits (Err fault) = Err fault
 
 -- a size within its limits
-unfoldable pub size_of : Api → Size → List (List ℕ) → Result ℕ Fault
+unfoldable pub size_of : Api → Size → List (List ℕ) → Result ℕ Misread
 size_of api size (word ∷ []) = between (limits_of api size) (read_number word)
 size_of api size _ = Err Words
 
 -- `caps LIST`
-unfoldable pub caps_setting : List (List ℕ) → Result Setting Fault
+unfoldable pub caps_setting : List (List ℕ) → Result Setting Misread
 caps_setting (list ∷ []) = map_ok Capabilities (caps_of list)
 caps_setting _ = Err Words
 
 -- `selective`
-unfoldable pub selective_setting : List (List ℕ) → Result Setting Fault
+unfoldable pub selective_setting : List (List ℕ) → Result Setting Misread
 selective_setting [] = Ok Selective
 selective_setting _ = Err Words
 
@@ -48,12 +48,12 @@ selective_setting _ = Err Words
 abbrev pub a_file : ℕ × List ℕ → Setting
 a_file (id, name) = File (record { id = id; name = name })
 
-unfoldable pub payload_setting : List (List ℕ) → Result Setting Fault
+unfoldable pub payload_setting : List (List ℕ) → Result Setting Misread
 payload_setting (id ∷ name ∷ []) = map_ok a_file (read_number id & read_text name)
 payload_setting _ = Err Words
 
 -- a setting of one number
-unfoldable pub wish_of : Api → Verb → List (List ℕ) → Result Setting Fault
+unfoldable pub wish_of : Api → Verb → List (List ℕ) → Result Setting Misread
 wish_of api verb.Peers args = map_ok Peers (size_of api size.Peers args)
 wish_of api verb.Lane args = map_ok (Wish size.Lane) (size_of api size.Lane args)
 wish_of api verb.Pool args = map_ok (Wish size.Pool) (size_of api size.Pool args)
@@ -62,14 +62,14 @@ wish_of api verb.Rx args = map_ok (Wish size.Rx) (size_of api size.Rx args)
 wish_of api verb.Cq args = map_ok (Wish size.Cq) (size_of api size.Cq args)
 wish_of api _ args = Err Words
 
-unfoldable pub setting_of : Api → Verb → List (List ℕ) → Result Setting Fault
+unfoldable pub setting_of : Api → Verb → List (List ℕ) → Result Setting Misread
 setting_of api verb.Caps args = caps_setting args
 setting_of api verb.Selective args = selective_setting args
 setting_of api verb.Payload args = payload_setting args
 setting_of api verb args = wish_of api verb args
 
 -- `peer K`
-unfoldable pub peer_of : List (List ℕ) → Result ℕ Fault
+unfoldable pub peer_of : List (List ℕ) → Result ℕ Misread
 peer_of (number ∷ []) = read_number number
 peer_of _ = Err Words
 

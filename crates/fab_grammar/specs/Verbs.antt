@@ -3,8 +3,8 @@
 --     verb_of word      the verb that is this word; `fabric` is none
 --     kind_of verb      a setting, `peer`, or a line that a peer does
 use Rattle.std.specs.Prelude.{ℕ, List, [], ◌∷◌, ◌++◌, codes, bytes_eq, find, Option}
-use Rattle.fab_grammar.specs.declared.verbs.Kind.{Kind}
-use Rattle.fab_grammar.specs.declared.verbs.Kind.TheVariants as kind
+use Rattle.fab_grammar.specs.declared.verbs.VerbKind.{VerbKind}
+use Rattle.fab_grammar.specs.declared.verbs.VerbKind.TheVariants as kind
 use Rattle.fab_grammar.specs.declared.verbs.Verb.{Verb}
 use Rattle.fab_grammar.specs.declared.verbs.Verb.TheVariants as verb
 
@@ -60,7 +60,7 @@ all_verbs = settings ++ verb.Peer ∷ calls
 unfoldable pub verb_of : List ℕ → Option Verb
 verb_of word = find (λ verb. bytes_eq word (name_of verb)) all_verbs
 
-abbrev pub kind_of : Verb → Kind
+abbrev pub kind_of : Verb → VerbKind
 kind_of verb.Peers = kind.Setting
 kind_of verb.Caps = kind.Setting
 kind_of verb.Lane = kind.Setting

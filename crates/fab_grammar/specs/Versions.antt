@@ -4,6 +4,7 @@
 --     most_bytes api       the most bytes that one line names, or makes room for
 --     most_in_all api      and all lines together
 use Rattle.std.specs.Prelude.{ℕ, if◌then◌else◌, List, [], ◌∷◌, codes, bytes_eq, Option, Some, None}
+use Rattle.fab_base.specs.declared.limits.TheConstants.{SCRIPT_BYTES_ONE, SCRIPT_BYTES_TWO}
 use Rattle.fab_base.specs.declared.caps.Api.{Api}
 use Rattle.fab_base.specs.declared.caps.Api.TheVariants.{One, Two}
 
@@ -24,5 +25,5 @@ most_bytes One = 33_554_432
 most_bytes Two = 300_000_000
 
 abbrev pub most_in_all : Api → ℕ
-most_in_all One = 67_108_864
-most_in_all Two = 600_000_000
+most_in_all One = SCRIPT_BYTES_ONE
+most_in_all Two = SCRIPT_BYTES_TWO

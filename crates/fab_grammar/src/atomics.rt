@@ -1,13 +1,13 @@
 //! Atomics (fi_atomic(3)).
 ghost use Rattle.std.specs.Prelude.{◌≡◌, ◌≤◌, ◌++◌, IfOk};
 ghost use Rattle.fab_base.specs.Elements.{element_size};
-ghost use Rattle.fab_words.specs.Faults.{map_ok};
+ghost use Rattle.fab_words.specs.Misreads.{map_ok};
 ghost use Rattle.fab_grammar.specs.Atomics.{atom_name, atom_named, num_name, num_named, greatest, least, is_signed, negated, minus_value, plain_value, value_of, le_bytes, element, read_elements, read_elements_count, read_values, read_operand, read_request, for_atomic, atomic_of, fetch_of, compare_of};
 
 use crate::options::{Allowed, read_options};
 use crate::sends::read_remote;
 use fab_base::{AtomicOp, Buf, LineOp, NoMemory, Num};
-use fab_words::{Fault, Read, Words, both, first_part, is, numeral, read_up_to};
+use fab_words::{Misread, Read, Words, both, first_part, is, numeral, read_up_to};
 use std::alloc::Global;
 
 /// The most elements that `*N` names.
@@ -226,7 +226,7 @@ pub fn read_elements(alloc: Global, num: Num, word: &[u8]) -> Result<Read<Buf>, 
     loop {
         let (number, rest) = first_part(list, b',');
         let Some(value) = value_of(num, number) else {
-            return Ok(Err(Fault::Number));
+            return Ok(Err(Misread::Number));
         };
         push_element(&mut bytes, num, value)?;
         match rest {
@@ -243,7 +243,7 @@ fn read_elements_count(word: &[u8]) -> Read<u32>
 {
     match word.strip_prefix(b"*") {
         Some(count) => read_up_to(ELEMENTS_MAX, count),
-        None => Err(Fault::Words),
+        None => Err(Misread::Words),
     }
 }
 
@@ -277,8 +277,8 @@ fn read_operand(
 ) -> Result<Read<Operand>, NoMemory>
     ensures { IfOk result (λ read. read ≡ read_operand atom.now num.now word.now) }
 {
-    let atom = atom_named(atom).ok_or(Fault::Words);
-    let num = num_named(num).ok_or(Fault::Words);
+    let atom = atom_named(atom).ok_or(Misread::Words);
+    let num = num_named(num).ok_or(Misread::Words);
     match both(atom, num) {
         Ok((atom, num)) => {
             Ok(read_values(alloc, atom, num, word)?.map(|values| ((atom, num), values)))
@@ -317,10 +317,10 @@ pub(crate) fn atomic(alloc: Global, args: &mut Words) -> Result<Read<LineOp>, No
     ensures { IfOk result (λ read. read ≡ atomic_of args.old) }
 {
     let Some(place) = args.first_four() else {
-        return Ok(Err(Fault::Words));
+        return Ok(Err(Misread::Words));
     };
     let Some(operand) = args.first_three() else {
-        return Ok(Err(Fault::Words));
+        return Ok(Err(Misread::Words));
     };
     let request = read_request(alloc, place, operand)?;
     let options = read_options(for_atomic(), args);
@@ -346,10 +346,10 @@ pub(crate) fn fetch(alloc: Global, args: &mut Words) -> Result<Read<LineOp>, NoM
     ensures { IfOk result (λ read. read ≡ fetch_of args.old) }
 {
     let Some(place) = args.first_four() else {
-        return Ok(Err(Fault::Words));
+        return Ok(Err(Misread::Words));
     };
     let Some(operand) = args.three() else {
-        return Ok(Err(Fault::Words));
+        return Ok(Err(Misread::Words));
     };
     let request = read_request(alloc, place, operand)?;
     Ok(request.map(|((ctx, ((dest, key), at)), ((op, num), (values, count)))| LineOp::Fetch {
@@ -370,10 +370,10 @@ pub(crate) fn compare(alloc: Global, args: &mut Words) -> Result<Read<LineOp>, N
     ensures { IfOk result (λ read. read ≡ compare_of args.old) }
 {
     let Some(place) = args.first_four() else {
-        return Ok(Err(Fault::Words));
+        return Ok(Err(Misread::Words));
     };
     let Some((atom, num, values, compares)) = args.four() else {
-        return Ok(Err(Fault::Words));
+        return Ok(Err(Misread::Words));
     };
     let request = read_request(alloc, place, (atom, num, values))?;
     let compare = read_operand(alloc, atom, num, compares)?;

@@ -4,7 +4,7 @@ ghost use Rattle.fab_model.specs.Negotiation.{no_hints};
 ghost use Rattle.fab_grammar.specs.Capabilities.{cap_name, cap_named, caps_of};
 
 use fab_base::{Cap, Caps};
-use fab_words::{Fault, Read, first_part, is};
+use fab_words::{Misread, Read, first_part, is};
 
 /// All capabilities.
 pub const CAPS: [Cap; 16] = [
@@ -67,7 +67,7 @@ pub fn read_caps(word: &[u8]) -> Read<Caps>
     let mut list = word;
     loop {
         let (name, rest) = first_part(list, b',');
-        caps = caps.with(named(name).ok_or(Fault::Words)?);
+        caps = caps.with(named(name).ok_or(Misread::Words)?);
         match rest {
             Some(rest) => list = rest,
             None => return Ok(caps),

@@ -26,5 +26,5 @@ pub use items::Item;
 pub use lines::{class_name, read_op};
 pub use options::{Allowed, Optional, Options};
 pub use settings::{Setting, Settings, asking, read_peer, read_setting};
-pub use verbs::{Kind, Verb};
+pub use verbs::{Verb, VerbKind};
 pub use versions::{most_bytes, most_in_all, read_header, version_of};

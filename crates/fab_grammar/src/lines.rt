@@ -1,6 +1,6 @@
 //! What a line asks for that a peer does.
 ghost use Rattle.std.specs.Prelude.{◌≡◌, IfOk, Ok};
-ghost use Rattle.fab_words.specs.Faults.{map_ok};
+ghost use Rattle.fab_words.specs.Misreads.{map_ok};
 ghost use Rattle.fab_grammar.specs.Lines.{recv_of, trecv_of, look_of, a_peek, a_claim, a_discard, take_of, number_line, remove_of, insert_of, read_of, read_rights, reg_of, put_of, wait_of, class_name, class_named, read_class, count_of, reach_of, op_of};
 
 use crate::atomics::{atomic, compare, fetch};
@@ -8,7 +8,7 @@ use crate::sends::{inject, mrecv, read_target, send, tinject, tsend, winject, wr
 use crate::verbs::Verb;
 use fab_base::{Access, Class, LineOp, NoMemory};
 use fab_words::{
-    Fault, Read, Words, both, is, read_bytes, read_index, read_number, read_source, read_text,
+    Misread, Read, Words, both, is, read_bytes, read_index, read_number, read_source, read_text,
     read_up_to,
 };
 use std::alloc::Global;
@@ -19,7 +19,7 @@ fn trecv(most: u32, args: &mut Words) -> Read<LineOp>
     ensures { result ≡ trecv_of most args.old }
 {
     let Some((ctx, source, tag, ignore, len)) = args.five() else {
-        return Err(Fault::Words);
+        return Err(Misread::Words);
     };
     let start = both(
         both(read_number(ctx), read_source(source)),
@@ -44,7 +44,7 @@ fn recv(most: u32, args: &mut Words) -> Read<LineOp>
     ensures { result ≡ recv_of most args.old }
 {
     let Some((ctx, source, len)) = args.three() else {
-        return Err(Fault::Words);
+        return Err(Misread::Words);
     };
     both(
         both(read_number(ctx), read_source(source)),
@@ -62,7 +62,7 @@ fn look(args: &mut Words) -> Read<Look>
     ensures { result ≡ look_of args.old }
 {
     let Some((ctx, source, tag, ignore)) = args.four() else {
-        return Err(Fault::Words);
+        return Err(Misread::Words);
     };
     let start = both(
         both(read_number(ctx), read_source(source)),
@@ -110,7 +110,7 @@ fn take(most: u32, args: &mut Words) -> Read<LineOp>
     ensures { result ≡ take_of most args.old }
 {
     let Some((ctx, len)) = args.two() else {
-        return Err(Fault::Words);
+        return Err(Misread::Words);
     };
     both(read_number(ctx), read_up_to(most, len)).map(|(ctx, len)| LineOp::Take { ctx, len })
 }
@@ -120,7 +120,7 @@ fn take(most: u32, args: &mut Words) -> Read<LineOp>
 fn number_line(args: &mut Words) -> Read<u64>
     ensures { result ≡ number_line args.old }
 {
-    read_number(args.one().ok_or(Fault::Words)?)
+    read_number(args.one().ok_or(Misread::Words)?)
 }
 
 /// `remove I` (fi_av_remove of fi_av(3)).
@@ -128,7 +128,7 @@ fn number_line(args: &mut Words) -> Read<u64>
 fn remove(args: &mut Words) -> Read<LineOp>
     ensures { result ≡ remove_of args.old }
 {
-    let index = read_index(args.one().ok_or(Fault::Words)?)?;
+    let index = read_index(args.one().ok_or(Misread::Words)?)?;
     Ok(LineOp::Remove { index })
 }
 
@@ -138,7 +138,7 @@ fn insert(alloc: Global, args: &mut Words) -> Result<Read<LineOp>, NoMemory>
     ensures { IfOk result (λ read. read ≡ insert_of args.old) }
 {
     let Some(name) = args.one() else {
-        return Ok(Err(Fault::Words));
+        return Ok(Err(Misread::Words));
     };
     Ok(read_text(alloc, name)?.map(|name| LineOp::Insert { name }))
 }
@@ -149,7 +149,7 @@ fn read(most: u32, args: &mut Words) -> Read<LineOp>
     ensures { result ≡ read_of most args.old }
 {
     let Some((ctx, dest, key, at, len)) = args.five() else {
-        return Err(Fault::Words);
+        return Err(Misread::Words);
     };
     both(
         both(read_number(ctx), read_target(dest, key, at)),
@@ -178,7 +178,7 @@ fn read_rights(word: &[u8]) -> Read<Access>
     } else if is(word, "-") {
         (false, false)
     } else {
-        return Err(Fault::Words);
+        return Err(Misread::Words);
     };
     Ok(Access {
         remote_read,
@@ -192,7 +192,7 @@ fn reg(alloc: Global, most: u32, args: &mut Words) -> Result<Read<LineOp>, NoMem
     ensures { IfOk result (λ read. read ≡ reg_of most args.old) }
 {
     let Some((key, access, bytes)) = args.three() else {
-        return Ok(Err(Fault::Words));
+        return Ok(Err(Misread::Words));
     };
     let bytes = read_bytes(alloc, most, bytes)?;
     let start = both(read_number(key), read_rights(access));
@@ -205,7 +205,7 @@ fn put(alloc: Global, most: u32, args: &mut Words) -> Result<Read<LineOp>, NoMem
     ensures { IfOk result (λ read. read ≡ put_of most args.old) }
 {
     let Some((key, at, bytes)) = args.three() else {
-        return Ok(Err(Fault::Words));
+        return Ok(Err(Misread::Words));
     };
     let bytes = read_bytes(alloc, most, bytes)?;
     let start = both(read_number(key), read_number(at));
@@ -218,7 +218,7 @@ fn wait(args: &mut Words) -> Read<LineOp>
     ensures { result ≡ wait_of args.old }
 {
     let Some(ctx) = args.one() else {
-        return Err(Fault::Words);
+        return Err(Misread::Words);
     };
     if is(ctx, "*") {
         return Ok(LineOp::Wait { ctx: None });
@@ -267,7 +267,7 @@ fn class_named(word: &[u8]) -> Option<Class>
 fn read_class(word: &[u8]) -> Read<Class>
     ensures { result ≡ read_class word.now }
 {
-    class_named(word).ok_or(Fault::Words)
+    class_named(word).ok_or(Misread::Words)
 }
 
 /// `count CLASS`.
@@ -275,7 +275,7 @@ fn read_class(word: &[u8]) -> Read<Class>
 fn count(args: &mut Words) -> Read<LineOp>
     ensures { result ≡ count_of args.old }
 {
-    let class = read_class(args.one().ok_or(Fault::Words)?)?;
+    let class = read_class(args.one().ok_or(Misread::Words)?)?;
     Ok(LineOp::Count { class })
 }
 
@@ -285,7 +285,7 @@ fn reach(args: &mut Words) -> Read<LineOp>
     ensures { result ≡ reach_of args.old }
 {
     let Some((class, n)) = args.two() else {
-        return Err(Fault::Words);
+        return Err(Misread::Words);
     };
     both(read_class(class), read_number(n)).map(|(class, n)| LineOp::Reach { class, n })
 }
@@ -329,6 +329,6 @@ pub fn read_op(
         Verb::Wait => Ok(wait(args)),
         Verb::Count => Ok(count(args)),
         Verb::Reach => Ok(reach(args)),
-        _ => Ok(Err(Fault::Words)),
+        _ => Ok(Err(Misread::Words)),
     }
 }

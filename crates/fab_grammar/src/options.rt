@@ -4,7 +4,7 @@ ghost use Rattle.fab_grammar.specs.Options.{level_name, level_named, optional_of
 ghost use Rattle.fab_words.specs.Words.{begins_with, read_number as a_number, read_index as an_index};
 
 use fab_base::Level;
-use fab_words::{Fault, Read, Words, both, is, read_index, read_number};
+use fab_words::{Misread, Read, Words, both, is, read_index, read_number};
 
 /// An optional word.
 #[derive(Clone, Copy, Drop)]
@@ -206,7 +206,7 @@ pub(crate) fn read_options(allowed: Allowed, args: &Words) -> Read<Options>
     ensures { result ≡ read_options allowed args.now }
 {
     if !allowed.are_options(args) {
-        return Err(Fault::Words);
+        return Err(Misread::Words);
     }
     let level = level_in(args);
     let completion = has_word("completion", args);

@@ -5,7 +5,7 @@ ghost use Rattle.fab_grammar.specs.Sends.{read_target, read_to, read_tagged, rea
 use crate::options::{Allowed, read_options};
 use fab_base::{LineOp, NoMemory};
 use fab_words::{
-    Fault, Read, Words, both, read_bytes, read_index, read_number, read_source, read_up_to,
+    Misread, Read, Words, both, read_bytes, read_index, read_number, read_source, read_up_to,
 };
 use std::alloc::Global;
 
@@ -76,7 +76,7 @@ pub(crate) fn send(alloc: Global, most: u32, args: &mut Words) -> Result<Read<Li
     ensures { IfOk result (λ read. read ≡ send_of most args.old) }
 {
     let Some((ctx, dest, bytes)) = args.first_three() else {
-        return Ok(Err(Fault::Words));
+        return Ok(Err(Misread::Words));
     };
     let bytes = read_bytes(alloc, most, bytes)?;
     let options = read_options(for_send(), args);
@@ -97,7 +97,7 @@ pub(crate) fn tsend(alloc: Global, most: u32, args: &mut Words) -> Result<Read<L
     ensures { IfOk result (λ read. read ≡ tsend_of most args.old) }
 {
     let Some((ctx, dest, tag, bytes)) = args.first_four() else {
-        return Ok(Err(Fault::Words));
+        return Ok(Err(Misread::Words));
     };
     let bytes = read_bytes(alloc, most, bytes)?;
     let start = read_tagged(ctx, dest, tag);
@@ -120,7 +120,7 @@ pub(crate) fn inject(alloc: Global, most: u32, args: &mut Words) -> Result<Read<
     ensures { IfOk result (λ read. read ≡ inject_of most args.old) }
 {
     let Some((dest, bytes)) = args.first_two() else {
-        return Ok(Err(Fault::Words));
+        return Ok(Err(Misread::Words));
     };
     let bytes = read_bytes(alloc, most, bytes)?;
     let options = read_options(for_inject(), args);
@@ -137,7 +137,7 @@ pub(crate) fn tinject(alloc: Global, most: u32, args: &mut Words) -> Result<Read
     ensures { IfOk result (λ read. read ≡ tinject_of most args.old) }
 {
     let Some((dest, tag, bytes)) = args.first_three() else {
-        return Ok(Err(Fault::Words));
+        return Ok(Err(Misread::Words));
     };
     let bytes = read_bytes(alloc, most, bytes)?;
     let start = both(read_index(dest), read_number(tag));
@@ -156,7 +156,7 @@ pub(crate) fn write(alloc: Global, most: u32, args: &mut Words) -> Result<Read<L
     ensures { IfOk result (λ read. read ≡ write_of most args.old) }
 {
     let Some((ctx, dest, key, at, bytes)) = args.first_five() else {
-        return Ok(Err(Fault::Words));
+        return Ok(Err(Misread::Words));
     };
     let bytes = read_bytes(alloc, most, bytes)?;
     let start = read_remote(ctx, dest, key, at);
@@ -182,7 +182,7 @@ pub(crate) fn winject(alloc: Global, most: u32, args: &mut Words) -> Result<Read
     ensures { IfOk result (λ read. read ≡ winject_of most args.old) }
 {
     let Some((dest, key, at, bytes)) = args.first_four() else {
-        return Ok(Err(Fault::Words));
+        return Ok(Err(Misread::Words));
     };
     let bytes = read_bytes(alloc, most, bytes)?;
     let options = read_options(for_inject(), args);
@@ -204,7 +204,7 @@ pub(crate) fn mrecv(most: u32, args: &mut Words) -> Read<LineOp>
     ensures { result ≡ mrecv_of most args.old }
 {
     let Some((ctx, source, len)) = args.first_three() else {
-        return Err(Fault::Words);
+        return Err(Misread::Words);
     };
     let start = both(
         both(read_number(ctx), read_source(source)),

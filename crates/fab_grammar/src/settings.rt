@@ -5,7 +5,7 @@ ghost use Rattle.fab_grammar.specs.Settings.{between, size_of, caps_setting, sel
 use crate::capabilities::{none, read_caps};
 use crate::verbs::Verb;
 use fab_base::{Api, Caps, Hints, Limits, NoMemory, Payload, Size};
-use fab_words::{Fault, Read, Words, both, read_number, read_text};
+use fab_words::{Misread, Read, Words, both, read_number, read_text};
 use std::alloc::Global;
 
 /// What one setting asks for.
@@ -132,7 +132,7 @@ fn between(limits: Limits, number: u64) -> Read<u32>
     if number >= u64::from(limits.least) && number <= u64::from(limits.greatest) {
         Ok(number as u32)
     } else {
-        Err(Fault::Limit)
+        Err(Misread::Limit)
     }
 }
 
@@ -141,7 +141,7 @@ fn between(limits: Limits, number: u64) -> Read<u32>
 fn read_size(api: Api, size: Size, args: &mut Words) -> Read<u32>
     ensures { result ≡ size_of api size args.old }
 {
-    let number = read_number(args.one().ok_or(Fault::Words)?)?;
+    let number = read_number(args.one().ok_or(Misread::Words)?)?;
     between(size.limits(api), number)
 }
 
@@ -150,7 +150,7 @@ fn read_size(api: Api, size: Size, args: &mut Words) -> Read<u32>
 fn read_capabilities(args: &mut Words) -> Read<Setting>
     ensures { result ≡ caps_setting args.old }
 {
-    let list = args.one().ok_or(Fault::Words)?;
+    let list = args.one().ok_or(Misread::Words)?;
     Ok(Setting::Capabilities(read_caps(list)?))
 }
 
@@ -161,7 +161,7 @@ fn read_selective(args: &Words) -> Read<Setting>
 {
     args.is_empty()
         .then_some(Setting::Selective)
-        .ok_or(Fault::Words)
+        .ok_or(Misread::Words)
 }
 
 /// `payload ID FILE`.
@@ -170,7 +170,7 @@ fn read_payload(alloc: Global, args: &mut Words) -> Result<Read<Setting>, NoMemo
     ensures { IfOk result (λ read. read ≡ payload_setting args.old) }
 {
     let Some((id, name)) = args.two() else {
-        return Ok(Err(Fault::Words));
+        return Ok(Err(Misread::Words));
     };
     let name = read_text(alloc, name)?;
     Ok(both(read_number(id), name).map(|(id, name)| Setting::File(Payload { id, name })))
@@ -206,7 +206,7 @@ fn read_wish(api: Api, verb: Verb, args: &mut Words) -> Read<Setting>
         Verb::Tx => Ok(Setting::Wish(Size::Tx, read_size(api, Size::Tx, args)?)),
         Verb::Rx => Ok(Setting::Wish(Size::Rx, read_size(api, Size::Rx, args)?)),
         Verb::Cq => Ok(Setting::Wish(Size::Cq, read_size(api, Size::Cq, args)?)),
-        _ => Err(Fault::Words),
+        _ => Err(Misread::Words),
     }
 }
 
@@ -215,5 +215,5 @@ fn read_wish(api: Api, verb: Verb, args: &mut Words) -> Read<Setting>
 pub fn read_peer(args: &mut Words) -> Read<u64>
     ensures { result ≡ peer_of args.old }
 {
-    read_number(args.one().ok_or(Fault::Words)?)
+    read_number(args.one().ok_or(Misread::Words)?)
 }

@@ -49,7 +49,7 @@ pub enum Verb {
 
 /// What a line with this verb is.
 #[derive(Clone, Copy, Drop)]
-pub enum Kind {
+pub enum VerbKind {
     Setting,
     /// `peer K`, which opens the lines of a peer.
     Peer,
@@ -108,7 +108,7 @@ impl Verb {
         VERBS.iter().copied().find(|verb| is(word, verb.name()))
     }
 
-    pub fn kind(self) -> Kind
+    pub fn kind(self) -> VerbKind
         ensures { result ≡ kind_of self }
     {
         match self {
@@ -120,9 +120,9 @@ impl Verb {
             | Verb::Rx
             | Verb::Cq
             | Verb::Selective
-            | Verb::Payload => Kind::Setting,
-            Verb::Peer => Kind::Peer,
-            _ => Kind::Call,
+            | Verb::Payload => VerbKind::Setting,
+            Verb::Peer => VerbKind::Peer,
+            _ => VerbKind::Call,
         }
     }
 

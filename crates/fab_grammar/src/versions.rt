@@ -2,7 +2,7 @@
 ghost use Rattle.std.specs.Prelude.{◌≡◌, ◌∷◌};
 ghost use Rattle.fab_grammar.specs.Versions.{version_of, version_named, header_of, most_bytes, most_in_all};
 
-use fab_base::Api;
+use fab_base::{Api, SCRIPT_BYTES_ONE, SCRIPT_BYTES_TWO};
 use fab_words::{Words, is};
 
 /// The number of a version.
@@ -56,7 +56,7 @@ pub fn most_in_all(api: Api) -> u64
     ensures { result ≡ most_in_all api }
 {
     match api {
-        Api::One => 67_108_864,
-        Api::Two => 600_000_000,
+        Api::One => SCRIPT_BYTES_ONE,
+        Api::Two => SCRIPT_BYTES_TWO,
     }
 }

@@ -7,7 +7,8 @@ ghost use Rattle.fab_items.specs.Seen.{order_of};
 
 use crate::matching::is_message;
 use fab_base::{
-    Ack, Atom, AtomicOp, Buf, Caps, Class, Form, ItemHead, Kind, Level, NoMemory, Num, Outcome,
+    Ack, Atom, AtomicOp, Buf, Caps, Class, Form, INJECT_BYTES, ItemHead, Kind, Level, NoMemory,
+    Num, Outcome,
 };
 
 /// A transmit call. `injected` says that it is one of the inject calls. `bytes` are those of the message,
@@ -108,8 +109,8 @@ pub fn most_bytes(most: u32, kind: Kind, injected: bool) -> u32
     ensures { result ≡ most_bytes most kind injected }
 {
     match kind {
-        Kind::AtomicReq => 4_096,
-        _ => if injected { 4_096 } else { most },
+        Kind::AtomicReq => INJECT_BYTES,
+        _ => if injected { INJECT_BYTES } else { most },
     }
 }
 

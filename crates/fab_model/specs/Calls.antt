@@ -2,6 +2,7 @@
 --     do_call s c      the answer, and the state after the call
 --     call_of op      the call of a line, where it is one
 use Rattle.std.specs.Prelude.{ℕ, ◌+◌, ◌*◌, min, Bool, true, false, not, ◌&&◌, ◌||◌, ◌==◌, nat_lt, List, [], ◌∷◌, ◌++◌, length, zero, suc, Option, Some, None, slice_set, is_some, is_none, find, position, replicate, decimal, codes, bytes_eq, unwrap_or}
+use Rattle.fab_base.specs.declared.limits.TheConstants.{MOST_INDICES}
 use Rattle.fab_base.specs.declared.items.Kind.{Kind}
 use Rattle.fab_base.specs.declared.items.Kind.TheVariants.{Msg, TagMsg, WriteReq, ReadReq, AtomicReq}
 use Rattle.fab_base.specs.declared.items.Access.{Access}
@@ -63,7 +64,7 @@ is_peer k None = false
 is_peer k (Some peer) = peer == k
 
 abbrev pub insert_new : State → ℕ → LineResult × State
-insert_new s k = elim (nat_lt (length s.av) 4_096) [
+insert_new s k = elim (nat_lt (length s.av) MOST_INDICES) [
   | true ↦ (Index (Some (length s.av)), record s { av = s.av ++ Some k ∷ [] })
   | false ↦ (Index None, s)
 ]

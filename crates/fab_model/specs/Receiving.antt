@@ -110,12 +110,18 @@ least_is_wrong p = elim p.least [ None ↦ false | Some least ↦ (least == 0) |
 abbrev pub lacks_room : State → State → Bool
 lacks_room before after = draw_due before.rx || not (fits after.cq)
 
-unfoldable pub post_fault : State → Posting → Option Fault
-post_fault s p = first_fault (
+-- the refusals that do not pass, in their order
+abbrev pub post_refusals : State → Posting → List (Bool × Fault)
+post_refusals s p =
     (not (may_receive s p.tagged), NotSupported)
     ∷ (nat_lt s.most_message (length p.buf), MsgSize)
     ∷ (not (source_is_known s p.source) || least_is_wrong p, Invalid)
-    ∷ (lacks_room s (post s p), Again (CqFull s.cq.size))
+    ∷ []
+
+unfoldable pub post_fault : State → Posting → Option Fault
+post_fault s p = first_fault (
+    post_refusals s p
+    ++ (lacks_room s (post s p), Again (CqFull s.cq.size))
     ∷ (is_none (taken_by (receive_of s p) s) && nat_le s.most_rx (length s.rx.posted), Again (PostedFull s.most_rx))
     ∷ []
     )
@@ -148,13 +154,15 @@ is_claim Claim = true
 is_claim Peek = false
 is_claim Discard = false
 
-unfoldable pub look_fault : State → PeekHow → Option ℕ → ℕ → State → Option Fault
-look_fault s how source ctx after = first_fault (
+-- the refusals that do not pass, in their order
+abbrev pub look_refusals : State → PeekHow → Option ℕ → ℕ → List (Bool × Fault)
+look_refusals s how source ctx =
     (not (may_receive s true), NotSupported)
     ∷ (not (source_is_known s source) || is_claim how && is_some (claim_of ctx s), Invalid)
-    ∷ (lacks_room s after, Again (CqFull s.cq.size))
     ∷ []
-    )
+
+unfoldable pub look_fault : State → PeekHow → Option ℕ → ℕ → State → Option Fault
+look_fault s how source ctx after = first_fault (look_refusals s how source ctx ++ (lacks_room s after, Again (CqFull s.cq.size)) ∷ [])
 
 -- ---- taking and dropping what was claimed
 
@@ -174,14 +182,16 @@ drop_claimed s ctx = elim (claim_of ctx s) [
   | Some a ↦ drop_arrival a (write (Some s.calls) (Success (peeked Discard ctx a)) (called (with_rx (without_claim ctx s.rx) s)))
 ]
 
-unfoldable pub claimed_fault : State → List ℕ → ℕ → State → Option Fault
-claimed_fault s buf ctx after = first_fault (
+-- the refusals that do not pass, in their order, of a buffer of so many bytes
+abbrev pub claimed_refusals : State → ℕ → ℕ → List (Bool × Fault)
+claimed_refusals s bytes ctx =
     (not (may_receive s true), NotSupported)
-    ∷ (nat_lt s.most_message (length buf), MsgSize)
+    ∷ (nat_lt s.most_message bytes, MsgSize)
     ∷ (is_none (claim_of ctx s), NoEntry)
-    ∷ (lacks_room s after, Again (CqFull s.cq.size))
     ∷ []
-    )
+
+unfoldable pub claimed_fault : State → List ℕ → ℕ → State → Option Fault
+claimed_fault s buf ctx after = first_fault (claimed_refusals s (length buf) ctx ++ (lacks_room s after, Again (CqFull s.cq.size)) ∷ [])
 
 -- ---- cancelling (fi_cancel of fi_endpoint(3))
 

@@ -5,6 +5,7 @@
 --     do_answer s source head bytes      a reply is whole
 use Rattle.std.specs.Prelude.{◌≡◌, ℕ, ◌+◌, ◌%◌, Bool, true, false, not, ◌&&◌, ◌||◌, ◌==◌, nat_lt, nat_le, List, [], ◌∷◌, ◌++◌, length, Option, Some, None, slice_set, slice_index, is_none, find, map, unwrap_or, cond}
 use Rattle.std.specs.List.{list_any}
+use Rattle.fab_base.specs.declared.limits.TheConstants.{INJECT_BYTES, MOST_OPERATIONS}
 use Rattle.fab_base.specs.declared.items.Kind.{Kind}
 use Rattle.fab_base.specs.declared.items.Kind.TheVariants.{Msg, TagMsg, WriteReq, ReadReq, AtomicReq, Reply}
 use Rattle.fab_base.specs.declared.items.Ack.{Ack}
@@ -78,8 +79,8 @@ is_granted caps Reply atom = false
 
 -- the most bytes of a call, its operand, compare and buffer included, where a message may have so many
 abbrev pub most_bytes : ℕ → Kind → Bool → ℕ
-most_bytes most AtomicReq injected = 4_096
-most_bytes most kind true = 4_096
+most_bytes most AtomicReq injected = INJECT_BYTES
+most_bytes most kind true = INJECT_BYTES
 most_bytes most kind false = most
 
 abbrev pub is_too_long : ℕ → Order → Bool
@@ -94,15 +95,17 @@ is_well_formed o (Some atom) =
     && (length o.bytes == elim atom.op [ AtomicRead ↦ 0 | _ ↦ o.count ])
     && (length o.compared == elim atom.form [ Base ↦ 0 | Fetch ↦ 0 | Compare ↦ o.count ])
 
--- the refusals in their order
-unfoldable pub transmit_fault : State → Order → Option Fault
-transmit_fault s o = first_fault (
+-- the refusals that do not pass, in their order
+abbrev pub transmit_refusals : State → Order → List (Bool × Fault)
+transmit_refusals s o =
     (not (is_granted s.caps o.kind o.atom), NotSupported)
     ∷ (is_too_long s.most_message o, MsgSize)
-    ∷ (is_none (lookup s.av o.dest) || nat_le 4_611_686_018_427_387_904 s.tx.ops || not (is_well_formed o o.atom), Invalid)
-    ∷ (nat_le s.most_tx (in_use s.tx), Again (TxFull s.most_tx))
+    ∷ (is_none (lookup s.av o.dest) || nat_le MOST_OPERATIONS s.tx.ops || not (is_well_formed o o.atom), Invalid)
     ∷ []
-    )
+
+-- a full transmit queue comes behind them
+unfoldable pub transmit_fault : State → Order → Option Fault
+transmit_fault s o = first_fault (transmit_refusals s o ++ (nat_le s.most_tx (in_use s.tx), Again (TxFull s.most_tx)) ∷ [])
 
 -- when the target owes a reply: messages ask for it by their level
 abbrev pub ack_of : Kind → Level → Ack

@@ -10,6 +10,7 @@
 -- Where files are not told, each of these speaks of some bytes in the place of a file.
 use Rattle.std.specs.Prelude.{◌≡◌, ℕ, ◌<◌, ◌≤◌, ◌⊎◌, List, [], ◌∷◌, ◌++◌, length, Option, Some, None, option_map}
 use Rattle.std.specs.List.{All}
+use Rattle.fab_base.specs.declared.limits.TheConstants.{FILE_BYTES}
 use Rattle.fab_base.specs.Counts.{Rose}
 use Rattle.fab_base.specs.declared.script.Bound.{Bound}
 use Rattle.fab_base.specs.declared.script.Payload.{Payload}
@@ -27,7 +28,7 @@ Files = Option (List ℕ → Option (List ℕ))
 
 -- the greatest length of a file, in bytes
 abbrev pub file_max : ℕ
-file_max = 67108864
+file_max = FILE_BYTES
 
 abbrev pub IsWhole : Files → List ℕ → List ℕ → Type 0
 IsWhole files name bytes = IsFile files name bytes × (length bytes ≤ file_max)

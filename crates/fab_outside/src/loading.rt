@@ -6,12 +6,9 @@ ghost use Rattle.fab_outside.specs.Outside.{one_more};
 ghost use Rattle.fab_outside.specs.Refused.{end_of};
 
 use crate::outside::{Depot, LoadRefused};
-use fab_base::{Bound, Buf, Payload, Script, Status, Text};
+use fab_base::{Bound, Buf, FILE_BYTES, Payload, Script, Status, Text};
 use fab_script::{ParseRefused, bind, parse};
 use std::alloc::Global;
-
-/// The greatest length of a file, in bytes.
-const FILE_MAX: u64 = 67_108_864;
 
 /// The file of this name, or how the run ends.
 pub fn load_file<D: Depot>(alloc: Global, depot: &mut D, name: &Text) -> Result<Buf, Status>
@@ -21,7 +18,7 @@ pub fn load_file<D: Depot>(alloc: Global, depot: &mut D, name: &Text) -> Result<
     ensures ok { IfOk result (λ bytes. IsWhole (D.files depot.old) name.now bytes) }
     ensures err { IfErr result (λ status. IsUnloaded (D.files depot.old) name.now (D.faults depot.old) (D.faults depot.new) (D.failed_name depot.new) status) }
 {
-    let refused = match depot.load(alloc, name, FILE_MAX) {
+    let refused = match depot.load(alloc, name, FILE_BYTES) {
         Ok(bytes) => return Ok(bytes),
         Err(refused) => refused,
     };

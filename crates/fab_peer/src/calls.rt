@@ -9,7 +9,7 @@ use fab_face::requesting::Requesting;
 use fab_face::targets::Targets;
 
 /// An endpoint with the calls of all lines.
-pub trait Calls: Messages
+pub trait LineCalls: Messages
     + Requests
     + Receives
     + Looks
@@ -31,7 +31,7 @@ impl<
         + Addresses
         + Progress
         + Logs,
-> Calls for E {}
+> LineCalls for E {}
 
 /// A machine whose endpoint has these calls.
 pub trait Machinery: Looking + MultiReceiving + Requesting + Targets + Counting + Addressing {}

@@ -2,11 +2,11 @@
 ghost use Rattle.std.specs.Prelude.{◌≡◌, [], true, IfOk, IfSome, Some};
 ghost use Rattle.fab_base.specs.declared.script.LineOp.TheVariants.{Insert, Remove, Count, Reach};
 
-use crate::calls::Calls;
+use crate::calls::LineCalls;
 use crate::peer::{Outcome, Peer};
 use fab_base::{Class, LineOp, LineResult, NoMemory, Text};
 
-impl<E: Calls> Peer<E> {
+impl<E: LineCalls> Peer<E> {
     ghost use Rattle.fab_peer.specs.Kinds.{is_own};
     ghost use Rattle.fab_peer.specs.Turns.{told, next_op, WentOn};
 

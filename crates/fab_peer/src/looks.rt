@@ -5,7 +5,7 @@ ghost use Rattle.fab_model.specs.Calls.{Look};
 ghost use Rattle.fab_face.specs.Answers.{Receives, ReceivesNot};
 ghost use Rattle.fab_peer.specs.Looks.{look_line};
 
-use crate::calls::Calls;
+use crate::calls::LineCalls;
 use crate::peer::{Outcome, Peer, either, why_of};
 use fab_base::{Buf, Fault, LineOp, NoMemory, PeekHow};
 use fab_face::calls::Looks;
@@ -29,7 +29,7 @@ fn look_by<E: Looks>(
     }
 }
 
-impl<E: Calls> Peer<E> {
+impl<E: LineCalls> Peer<E> {
     ghost use Rattle.fab_peer.specs.Kinds.{is_look};
     ghost use Rattle.fab_peer.specs.Turns.{told, next_op, WentOn};
 

@@ -12,7 +12,7 @@ ghost use Rattle.fab_peer.specs.Turns.{step_of, why_of};
 
 pub mod seats;
 
-use crate::calls::Calls;
+use crate::calls::LineCalls;
 use fab_base::{Buf, BytesWord, Fault, Flags, Line, LineOp, LineResult, NoMemory, Refused, Step};
 use fab_face::events::Event;
 use fab_kept::KeptList;
@@ -23,7 +23,7 @@ use std::mem::replace;
 ///
 /// The endpoint is open to whoever owns the peer: over a plain port its frames are carried by hand.
 #[derive(Drop)]
-pub struct Peer<E: Calls> {
+pub struct Peer<E: LineCalls> {
     pub endpoint: E,
     pub(crate) lines: Vec<Line>,
     pub(crate) results: Vec<LineResult>,
@@ -83,7 +83,7 @@ pub(crate) fn word_bytes(alloc: Global, word: &BytesWord) -> Result<Buf, NoMemor
     }
 }
 
-impl<E: Calls> Peer<E> {
+impl<E: LineCalls> Peer<E> {
     ghost use Rattle.std.specs.Prelude.{List};
     ghost use Rattle.fab_peer.specs.Kinds.{is_send, is_inject, is_on_receives};
     ghost use Rattle.fab_face.specs.Acts.{Act};

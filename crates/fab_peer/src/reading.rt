@@ -5,7 +5,7 @@ ghost use Rattle.fab_face.specs.Answers.{Pops, IsSharing};
 ghost use Rattle.fab_kept.specs.Places.{passes};
 ghost use Rattle.fab_peer.specs.Turns.{hands_back, waited_back, multis_done};
 
-use crate::calls::Calls;
+use crate::calls::LineCalls;
 use crate::peer::Peer;
 use fab_base::{Buf, Entry, Kept, Line, LineOp, LineResult, NoMemory, Step, Taken};
 use fab_kept::KeptList;
@@ -104,7 +104,7 @@ fn count_lines(lines: &[Line], results: &[LineResult], ctx: u64) -> usize
 }
 
 /// Reads the first completion, a success or an error.
-fn next_entry<E: Calls>(endpoint: &mut E) -> Option<Taken>
+fn next_entry<E: LineCalls>(endpoint: &mut E) -> Option<Taken>
     ensures some { IfSome result (λ entry. Pops entry (E.seen endpoint.old) (E.seen endpoint.new)) }
     ensures none { IfNone result ((E.seen endpoint.new ≡ E.seen endpoint.old) × (unread (E.seen endpoint.old).held.state.cq ≡ None)) }
     ensures sharing { IsSharing (E.seen endpoint.old).held }
@@ -119,7 +119,7 @@ fn next_entry<E: Calls>(endpoint: &mut E) -> Option<Taken>
     }
 }
 
-impl<E: Calls> Peer<E> {
+impl<E: LineCalls> Peer<E> {
     ghost use Rattle.fab_peer.specs.Turns.{told, living_of, is_only, Lent, HasRead, IsCounted, ReadOn, IsRead};
 
     /// Whether one multi-receive of the context, and no other, was not read to be released. The lines before that were

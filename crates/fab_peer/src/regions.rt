@@ -4,11 +4,11 @@ ghost use Rattle.fab_base.specs.declared.script.BytesWord.{BytesWord};
 ghost use Rattle.fab_base.specs.declared.script.LineOp.TheVariants.{Reg, Close, Put, Show};
 ghost use Rattle.fab_model.specs.Calls.{word_bytes};
 
-use crate::calls::Calls;
+use crate::calls::LineCalls;
 use crate::peer::{Outcome, Peer, why_of, word_bytes};
 use fab_base::{Access, Buf, Fault, LineOp, LineResult, NoMemory};
 
-impl<E: Calls> Peer<E> {
+impl<E: LineCalls> Peer<E> {
     ghost use Rattle.fab_peer.specs.Kinds.{is_on_regions};
     ghost use Rattle.fab_peer.specs.Turns.{told, next_op, WentOn};
 

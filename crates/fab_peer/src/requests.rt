@@ -4,7 +4,7 @@ ghost use Rattle.fab_base.specs.declared.script.BytesWord.{BytesWord};
 ghost use Rattle.fab_base.specs.declared.script.LineOp.TheVariants.{Read, Write, WInject, Atomic, Fetch, Compare};
 ghost use Rattle.fab_model.specs.Calls.{fetched, word_bytes};
 
-use crate::calls::Calls;
+use crate::calls::LineCalls;
 use crate::peer::{Outcome, Peer, either, why_of, word_bytes};
 use fab_atomics::element_size;
 use fab_base::{AtomicOp, Buf, Flags, Level, LineOp, NoMemory, Num};
@@ -20,7 +20,7 @@ fn fetched(num: Num, values: &Buf, count: u32) -> u64
     len as u64
 }
 
-impl<E: Calls> Peer<E> {
+impl<E: LineCalls> Peer<E> {
     ghost use Rattle.fab_peer.specs.Kinds.{is_transfer, is_atomic};
     ghost use Rattle.fab_peer.specs.Turns.{told, next_op, WentOn};
 

@@ -1,5 +1,6 @@
 //! Calls of a port over the table, and of the table.
 ghost use Rattle.std.specs.Prelude.{◌≡◌, ℕ, ◌*◌, ◌<◌, ◌≤◌, ◌++◌, ◌∷◌, [], List, Option, None, Some, true, is_some, length, OnOk};
+ghost use Rattle.fab_base.specs.declared.limits.TheConstants.{FRAME_BYTES};
 ghost use Rattle.atomic_table.specs.Table.{rest};
 ghost use Rattle.fab_base.specs.declared.frames.FrameRef.{FrameRef};
 ghost use Rattle.fab_wire.specs.Frames.{Continues};
@@ -55,7 +56,7 @@ pub fn free_swapped(
     requires opened { (x : Sent) × ((in_seat seat.old 0 src).opened ≡ Some x) × (x.slot ≡ Some slot) × ((in_seat seat.old 0 src).lent ≡ true) }
     requires home { place ≡ slot_home (view_of_seat seat.old) 0 slot }
     requires hand { (b : List ℕ) × (carried seat.old ≡ (place, Pool b) ∷ rest (carried seat.old)) }
-    requires sized { length buffer.old ≡ 4096 }
+    requires sized { length buffer.old ≡ FRAME_BYTES }
     ensures buffer { carried seat.old ≡ (place, Pool buffer.new) ∷ rest (carried seat.old) }
     ensures freed { FreesAt (sat seat.old) (sat seat.new) 0 src }
 {

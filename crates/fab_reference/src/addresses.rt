@@ -4,7 +4,7 @@ ghost use Rattle.fab_model.specs.Calls.{peer_named, is_peer, insert_new, insert,
 ghost use Rattle.fab_reference.specs.Seen.{state_of};
 
 use crate::state::State;
-use fab_base::{Fault, LineResult, NoMemory};
+use fab_base::{Fault, LineResult, MOST_INDICES, NoMemory};
 use fab_items::lists::narrowed;
 use std::alloc::Global;
 
@@ -45,12 +45,12 @@ fn place_of_peer(av: &[Option<u32>], peer: u32) -> Option<usize>
 }
 
 impl State {
-    /// The peer gets an index behind the others, of which there are at most 4,096.
+    /// The peer gets an index behind the others, of which there are at most [`MOST_INDICES`].
     fn insert_new(&mut self, peer: u32) -> Result<LineResult, NoMemory>
         ensures { IfOk result (λ answer. (answer, state_of self.new) ≡ insert_new (state_of self.old) peer) }
     {
         let index = self.av.len();
-        if index >= 4_096 {
+        if index >= MOST_INDICES as usize {
             return Ok(LineResult::Index(None));
         }
         self.av.push(Some(peer))?;

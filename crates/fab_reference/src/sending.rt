@@ -7,7 +7,8 @@ ghost use Rattle.fab_reference.specs.Seen.{state_of};
 
 use crate::state::State;
 use fab_base::{
-    Buf, Busy, Fault, Held, Item, ItemHead, LineResult, NoMemory, Operation, Outcome, Taken,
+    Buf, Busy, Fault, Held, Item, ItemHead, LineResult, MOST_OPERATIONS, NoMemory, Operation,
+    Outcome, Taken,
 };
 use fab_items::entries::{plain_error, refusal_of, success_of};
 use fab_items::orders::{Order, class_of, is_granted, joined};
@@ -25,7 +26,7 @@ impl State {
             return Some(Fault::MsgSize);
         }
         if self.lookup(order.dest).is_none()
-            || self.tx.ops >= 4_611_686_018_427_387_904
+            || self.tx.ops >= MOST_OPERATIONS
             || !order.is_well_formed()
         {
             return Some(Fault::Invalid);

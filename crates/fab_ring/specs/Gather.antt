@@ -11,6 +11,7 @@
 --     Emptied, Brought ..    all that was inside a lane came
 use Rattle.std.specs.Prelude.{◌≡◌, ◌≢◌, ℕ, ◌+◌, ◌-◌, ◌*◌, ◌<◌, ◌≤◌, ◌⊎◌, true, false, List, [], ◌∷◌, ◌++◌, length, Option, Some, None, slice_get, slice_index_or, Vec, vec_capacity, option_to_list}
 use Rattle.std.specs.declared.alloc.Global.{Global}
+use Rattle.fab_base.specs.declared.limits.TheConstants.{FRAME_BYTES}
 use mathlib.Core.List.{IsPrefix}
 use Rattle.fab_base.specs.declared.frames.FrameHead.{FrameHead}
 use Rattle.fab_base.specs.declared.frames.Frame.{Frame}
@@ -109,13 +110,13 @@ pub record IsOpen (f : Fabric) (t : PeerSeat) (r e : ℕ) (x : Sent) (y : Slot) 
   pub all_ins : length (seats.part_of t r).ins ≡ f.peers
   pub opened : (seats.in_of t r e).opened ≡ Some x
   pub short : IsShort x
-  pub few : x.frame.head.len ≤ 4096
+  pub few : x.frame.head.len ≤ FRAME_BYTES
   pub hand : ((x.slot ≡ None) × ((seats.in_of t r e).lent ≡ false) × (carried t ≡ (oldest_cell (view_of_seat t) r e, y) ∷ []))
       ⊎ ((q : ℕ) × (b : Slot) × (x.slot ≡ Some q) × ((seats.in_of t r e).lent ≡ true) × Fills x b × (q < f.peers * f.pool) × (carried t ≡ (oldest_cell (view_of_seat t) r e, y) ∷ (slot_home (view_of_seat t) r q, b) ∷ []))
 
 -- spare buffers, each of the size of a slot
 abbrev pub AreSpare : List (List ℕ) → Type 0
-AreSpare spares = (k : ℕ) → k < length spares → length (slice_index_or spares k []) ≡ 4096
+AreSpare spares = (k : ℕ) → k < length spares → length (slice_index_or spares k []) ≡ FRAME_BYTES
 
 -- the frame that lies open at the reader, and room for the others that were posted and that the reader has not taken
 pub record IsRoom (reader source : RingPort) (i : Inside) : Type 0 where

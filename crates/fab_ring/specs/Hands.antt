@@ -10,6 +10,7 @@
 --     Comes                 an open frame may come behind those taken
 use Rattle.std.specs.Prelude.{◌≡◌, ℕ, zero, suc, ◌+◌, ◌-◌, ◌*◌, ◌%◌, ◌^◌, ◌<◌, ◌≤◌, Bool, true, false, List, [], ◌∷◌, ◌++◌, length, map, slice_index, slice_index_or, slice_get, Option, Some, None}
 use Rattle.std.specs.Option.{is_some}
+use Rattle.fab_base.specs.declared.limits.TheConstants.{FRAME_BYTES}
 use Rattle.fab_base.specs.declared.frames.FrameHead.{FrameHead}
 use Rattle.fab_wire.specs.Frames.{last_head, MayCome}
 use Rattle.fab_table.specs.declared.kinds.Command.{Command}
@@ -106,7 +107,7 @@ Tells x c b = IsShort x × Says x (Cell c) × ((q : ℕ) → x.slot ≡ Some q �
 pub record Told (peers : ℕ) (commands : List Command) (buffers : List (List ℕ)) (p : Part) : Type 0 where
   pub all_commands : length commands ≡ peers
   pub all_buffers : length buffers ≡ peers
-  pub sizes : (s : ℕ) → s < peers → length (slice_index_or buffers s []) ≡ 4096
+  pub sizes : (s : ℕ) → s < peers → length (slice_index_or buffers s []) ≡ FRAME_BYTES
   pub says : (s : ℕ) (c : Command) (x : Sent) → slice_get commands s ≡ Some c → (in_at p s).opened ≡ Some x → Tells x c (slice_index_or buffers s [])
 
 -- the heads of the last frames posted and taken

@@ -1,5 +1,6 @@
 //! Lanes emptied through the seat that speaks for all peers.
 ghost use Rattle.std.specs.Prelude.{◌≡◌, ℕ, ◌+◌, ◌<◌, ◌≤◌, ◌^◌, ◌++◌, ◌∷◌, List, [], length, take, Option, None};
+ghost use Rattle.fab_base.specs.declared.limits.TheConstants.{FRAME_BYTES};
 ghost use Rattle.fab_base.specs.declared.frames.FrameHead.{FrameHead};
 ghost use Rattle.fab_wire.specs.Frames.{last_head, IsLane, MayCome};
 ghost use Rattle.fab_link.specs.Plain.{lane_at};
@@ -36,7 +37,7 @@ fn bytes_of(
     mut spare: Buf,
 ) -> Buf
     requires open { (x : Sent) × (y : Slot) × IsOpen fabric.now seat.old next.now.me next.now.src x y × Says x (Cell command.now) }
-    requires spare { length spare ≡ 4096 }
+    requires spare { length spare ≡ FRAME_BYTES }
     ensures seat { IsSame seat.old seat.new }
     ensures bytes { (x : Sent) (y : Slot) → IsOpen fabric.now seat.old next.now.me next.now.src x y → Says x (Cell command.now) → result ≡ x.frame.bytes }
     ensures view { (x : Sent) (y : Slot) → IsOpen fabric.now seat.old next.now.me next.now.src x y → Says x (Cell command.now)
@@ -62,7 +63,7 @@ fn take_next(fabric: &Fabric, seat: &mut PeerSeat, next: &Oldest, spare: Buf) ->
     requires count { next.now.got ≡ length (in_of seat.old next.now.me next.now.src).taken }
     requires more { next.now.got < length (out_of seat.old next.now.src next.now.me).posted }
     requires place { next.now.place ≡ oldest_cell (view_of_seat seat.old) next.now.me next.now.src }
-    requires spare { length spare ≡ 4096 }
+    requires spare { length spare ≡ FRAME_BYTES }
     ensures seat { IsSame seat.old seat.new }
     ensures joined { IsJoined fabric.now seat.new }
     ensures few { next.now.got + 1 < 2 ^ 64 }

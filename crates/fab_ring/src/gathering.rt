@@ -20,7 +20,7 @@ pub struct GatherRefused {
 
 /// Makes plain ports of the ports of all peers of one table, in order of their numbers. Each goes on behind
 /// the last frames that its port posted and took, and the frames on their way to it are those that came.
-/// All memory is taken first: a buffer of 4,096 bytes for each frame on its way.
+/// All memory is taken first: a buffer of [`FRAME_BYTES`](fab_base::FRAME_BYTES) bytes for each frame on its way.
 pub fn gather(alloc: Global, ports: Vec<RingPort>) -> Result<Vec<PlainPort>, GatherRefused>
     requires { (f : Fabric) × AreAll f ports.items }
     ensures refused { IfErr result (λ e. e.ports.items ≡ ports.items) }

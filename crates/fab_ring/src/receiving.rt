@@ -1,5 +1,6 @@
 //! What calls of `front` and `advance` do at the seat.
 ghost use Rattle.std.specs.Prelude.{◌≡◌, ◌≢◌, ℕ, ◌+◌, ◌*◌, ◌<◌, ◌≤◌, ◌^◌, true, false, List, [], ◌∷◌, ◌++◌, length, None, Some};
+ghost use Rattle.fab_base.specs.declared.limits.TheConstants.{FRAME_BYTES};
 ghost use Rattle.atomic_table.specs.Table.{rest};
 ghost use Rattle.fab_wire.specs.Frames.{last_head, MayCome};
 ghost use Rattle.fab_table.specs.declared.kinds.Command.{Command};
@@ -47,7 +48,7 @@ pub(crate) fn open_next(
     requires closed { (in_of seat.old 0 next.now.src).opened ≡ None }
     requires count { next.now.got ≡ length (in_of seat.old 0 next.now.src).taken }
     requires place { next.now.place ≡ oldest_cell (view_of_seat seat.old) 0 next.now.src }
-    requires spare { length buffer.old ≡ 4096 }
+    requires spare { length buffer.old ≡ FRAME_BYTES }
     ensures seat { IsSame seat.old seat.new }
     ensures empty { result ≡ Empty → (command.new ≡ command.old) × (buffer.new ≡ buffer.old)
         × (sat seat.new ≡ (new_in_view (view_of_seat seat.old) 0 next.now.src (saw_empty (in_of seat.old 0 next.now.src) (length (in_of seat.old 0 next.now.src).taken)), carried seat.old)) }
@@ -55,7 +56,7 @@ pub(crate) fn open_next(
         × MayCome (last_head None (frames_of (in_of seat.old 0 next.now.src).taken)) x.frame × Tells x command.new buffer.new × (buffer.new ≡ buffer.old)
         × (sat seat.new ≡ (new_in_view (view_of_seat seat.old) 0 next.now.src (saw_frame (in_of seat.old 0 next.now.src) r x), (oldest_cell (view_of_seat seat.old) 0 next.now.src, Cell c) ∷ carried seat.old)) }
     ensures pooled { result ≡ Pooled → (r : ℕ) × (x : Sent) × (c : Command) × (q : ℕ) × (length (in_of seat.old 0 next.now.src).taken < r) × (r < 2 ^ 64) × (x.slot ≡ Some q) × (q < fabric.now.peers * fabric.now.pool)
-        × MayCome (last_head None (frames_of (in_of seat.old 0 next.now.src).taken)) x.frame × Tells x command.new buffer.new × (length buffer.new ≡ 4096)
+        × MayCome (last_head None (frames_of (in_of seat.old 0 next.now.src).taken)) x.frame × Tells x command.new buffer.new × (length buffer.new ≡ FRAME_BYTES)
         × (sat seat.new ≡ (new_in_view (view_of_seat seat.old) 0 next.now.src (saw_frame (in_of seat.old 0 next.now.src) r x), (carried seat.old ++ (oldest_cell (view_of_seat seat.old) 0 next.now.src, Cell c) ∷ []) ++ (slot_home (view_of_seat seat.old) 0 q, Pool buffer.old) ∷ [])) }
 {
     let put = fabric.look_put(seat, 0, next.me, next.src);
@@ -79,7 +80,7 @@ pub(crate) fn free_pooled(fabric: &Fabric, seat: &mut PeerSeat, me: u64, src: u6
     requires alone { IsAlone fabric.now seat.old me }
     requires below { (src < fabric.now.peers) × (slot < fabric.now.peers * fabric.now.pool) }
     requires opened { (x : Sent) × ((in_of seat.old 0 src).opened ≡ Some x) × (x.slot ≡ Some slot) × ((in_of seat.old 0 src).lent ≡ true) }
-    requires hand { (a : ℕ) × (c : Command) × (b : List ℕ) × (length b ≡ 4096) × (carried seat.old ≡ (a, Cell c) ∷ (slot_home (view_of_seat seat.old) 0 slot, Pool b) ∷ rest (rest (carried seat.old))) }
+    requires hand { (a : ℕ) × (c : Command) × (b : List ℕ) × (length b ≡ FRAME_BYTES) × (carried seat.old ≡ (a, Cell c) ∷ (slot_home (view_of_seat seat.old) 0 slot, Pool b) ∷ rest (rest (carried seat.old))) }
     ensures seat { IsSame seat.old seat.new }
     ensures view { (a : ℕ) (c : Command) (z : ℕ × Slot) → carried seat.old ≡ (a, Cell c) ∷ z ∷ rest (rest (carried seat.old))
         → sat seat.new ≡ (new_in_view (view_of_seat seat.old) 0 src (freed_one (in_of seat.old 0 src)), rest (rest (carried seat.old)) ++ (a, Cell c) ∷ []) }

@@ -1,13 +1,14 @@
 //! How the ports of all peers are made.
 ghost use Rattle.std.specs.Prelude.{◌≡◌, ℕ, ◌+◌, ◌<◌, ◌≤◌, [], ◌∷◌, length, replicate, None, IfOk, slice_index_or};
 ghost use Rattle.std.specs.Arc.{arc_value};
+ghost use Rattle.fab_base.specs.declared.limits.TheConstants.{FRAME_BYTES};
 ghost use Rattle.fab_table.specs.Views.{new_part, view_of};
 ghost use Rattle.fab_table.specs.Seats.{IsOf, carried, view_of_seat};
 ghost use Rattle.fab_ring.specs.Made.{AreMade, IsMade, rings_peers, rings_room, rings_pool, rings_table};
 
 use crate::port::{RingPort, Rings};
-use fab_base::{Buf, FrameHead, NoMemory};
-use fab_table::{Command, Fabric, PeerSeat, SLOT_BYTES, blank};
+use fab_base::{Buf, FRAME_BYTES, FrameHead, NoMemory};
+use fab_table::{Command, Fabric, PeerSeat, blank};
 use std::alloc::Global;
 use std::sync::Arc;
 
@@ -25,11 +26,11 @@ fn commands(alloc: Global, count: usize) -> Result<Vec<Command>, NoMemory>
 /// So many buffers, each of the size of a pool's slot.
 pub(crate) fn buffers(alloc: Global, count: usize) -> Result<Vec<Buf>, NoMemory>
     ensures count { IfOk result (λ v. length v.items ≡ count) }
-    ensures sizes { IfOk result (λ v. (s : ℕ) → s < count → length (slice_index_or v.items s []) ≡ 4096) }
+    ensures sizes { IfOk result (λ v. (s : ℕ) → s < count → length (slice_index_or v.items s []) ≡ FRAME_BYTES) }
 {
     let mut all = Vec::with_capacity(alloc, count)?;
     for _ in 0..count {
-        all.push(Buf::zeros(alloc, SLOT_BYTES)?)?;
+        all.push(Buf::zeros(alloc, u64::from(FRAME_BYTES))?)?;
     }
     Ok(all)
 }
@@ -91,7 +92,7 @@ impl RingPort {
 }
 
 impl Rings {
-    /// The lanes between so many peers, of `lane` frames each, and a pool of so many slots of 4,096 bytes for
+    /// The lanes between so many peers, of `lane` frames each, and a pool of so many slots of [`FRAME_BYTES`] bytes for
     /// each peer. All memory of the lanes is taken here.
     pub fn new(alloc: Global, peers: u32, lane: u32, pool: u32) -> Result<Rings, NoMemory>
         requires peers { (0 < peers) × (peers ≤ 64) }

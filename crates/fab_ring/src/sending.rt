@@ -1,5 +1,6 @@
 //! What a call of `post` does at the seat.
 ghost use Rattle.std.specs.Prelude.{◌≡◌, ◌≢◌, ℕ, ◌+◌, ◌*◌, ◌<◌, ◌≤◌, ◌^◌, true, false, List, [], ◌∷◌, ◌++◌, length, Option, None, Some};
+ghost use Rattle.fab_base.specs.declared.limits.TheConstants.{FRAME_BYTES};
 ghost use Rattle.atomic_table.specs.Table.{rest};
 ghost use Rattle.fab_wire.specs.declared.moves.Move.TheVariants.{Post};
 ghost use Rattle.fab_wire.specs.Frames.{last_head, Continues};
@@ -81,7 +82,7 @@ fn claim_between(
         × (sat seat.new ≡ (new_out_view (view_of_seat seat.old) 0 next.now.dest (tried_out (out_of seat.old 0 next.now.dest) ts f (out_of seat.old 0 next.now.dest).writing None), (next.now.place, Cell c) ∷ rest (carried seat.old)))
         × ((k : Command) (q : ℕ) → carried seat.old ≡ (next.now.place, Cell k) ∷ rest (carried seat.old) → named c q ≡ named k q) }
     ensures some { (c : Command) (q : ℕ) → carried seat.old ≡ (next.now.place, Cell c) ∷ rest (carried seat.old) → result ≡ Some q
-        → (b : List ℕ) × (j : ℕ) × (ts : List ℕ) × (f : ℕ) × (length b ≡ 4096) × (from ≤ j) × (j < to) × (q < fabric.now.peers * fabric.now.pool) × IsTriedFrom (out_of seat.old 0 next.now.dest) from j ts f
+        → (b : List ℕ) × (j : ℕ) × (ts : List ℕ) × (f : ℕ) × (length b ≡ FRAME_BYTES) × (from ≤ j) × (j < to) × (q < fabric.now.peers * fabric.now.pool) × IsTriedFrom (out_of seat.old 0 next.now.dest) from j ts f
         × (sat seat.new ≡ (new_out_view (view_of_seat seat.old) 0 next.now.dest (tried_out (out_of seat.old 0 next.now.dest) ts f (out_of seat.old 0 next.now.dest).writing (Some q)), (slot_home (view_of_seat seat.old) 0 q, Pool b) ∷ (next.now.place, Cell (named c q)) ∷ rest (carried seat.old))) }
 {
     let pool = fabric.pool();
@@ -109,7 +110,7 @@ fn claim_any(fabric: &Fabric, seat: &mut PeerSeat, next: &Next) -> Option<u64>
     ensures none { result ≡ None → (c : Command) × (ts : List ℕ) × (f : ℕ) × IsTried (out_of seat.old 0 next.now.dest) fabric.now.pool ts f
         × (sat seat.new ≡ (new_out_view (view_of_seat seat.old) 0 next.now.dest (tried_out (out_of seat.old 0 next.now.dest) ts f (out_of seat.old 0 next.now.dest).writing None), (next.now.place, Cell c) ∷ rest (carried seat.old))) }
     ensures some { (c : Command) (q : ℕ) → carried seat.old ≡ (next.now.place, Cell c) ∷ rest (carried seat.old) → result ≡ Some q
-        → (b : List ℕ) × (j : ℕ) × (ts : List ℕ) × (f : ℕ) × (length b ≡ 4096) × (j < fabric.now.pool) × (q < fabric.now.peers * fabric.now.pool) × IsMissed (out_of seat.old 0 next.now.dest) j ts f
+        → (b : List ℕ) × (j : ℕ) × (ts : List ℕ) × (f : ℕ) × (length b ≡ FRAME_BYTES) × (j < fabric.now.pool) × (q < fabric.now.peers * fabric.now.pool) × IsMissed (out_of seat.old 0 next.now.dest) j ts f
         × (sat seat.new ≡ (new_out_view (view_of_seat seat.old) 0 next.now.dest (tried_out (out_of seat.old 0 next.now.dest) ts f (out_of seat.old 0 next.now.dest).writing (Some q)), (slot_home (view_of_seat seat.old) 0 q, Pool b) ∷ (next.now.place, Cell (named c q)) ∷ rest (carried seat.old))) }
 {
     let pool = fabric.pool();

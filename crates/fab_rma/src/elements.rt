@@ -1,16 +1,14 @@
 //! An atomic over a copy of its range.
 ghost use Rattle.std.specs.Prelude.{◌≡◌, ◌%◌, ◌≤◌, length, vec_capacity};
+ghost use Rattle.fab_base.specs.declared.limits.TheConstants.{INJECT_BYTES};
 ghost use Rattle.fab_base.specs.Elements.{element_size};
 ghost use Rattle.fab_model.specs.Target.{elements};
 ghost use Rattle.fab_atomics.specs.Operands.{operand_len, compare_len};
 
 use fab_atomics::apply;
-use fab_base::{Atom, NoMemory};
+use fab_base::{Atom, INJECT_BYTES, NoMemory};
 use std::alloc::Global;
 use std::marker::Model;
-
-/// The most bytes that an atomic reaches.
-const MOST_BYTES: usize = 4096;
 
 /// Memory for the elements of an atomic, as they were and as they become. Contracts see what they became in the last one.
 #[derive(Drop)]
@@ -26,15 +24,15 @@ impl Model for Elements {
 
     ghost view = { λ e. e.becomes.items };
 
-    ghost invariant = { λ e. (4096 ≤ vec_capacity e.becomes) × (4096 ≤ vec_capacity e.was) };
+    ghost invariant = { λ e. (INJECT_BYTES ≤ vec_capacity e.becomes) × (INJECT_BYTES ≤ vec_capacity e.was) };
 }
 
 /// Copies the bytes into memory that is there, in place of what it had.
 fn refill(copy: &mut Vec<u8>, bytes: &[u8])
-    requires few { length bytes.now ≤ 4096 }
-    requires room { 4096 ≤ vec_capacity copy.old }
+    requires few { length bytes.now ≤ INJECT_BYTES }
+    requires room { INJECT_BYTES ≤ vec_capacity copy.old }
     ensures items { copy.new.items ≡ bytes.now }
-    ensures room { 4096 ≤ vec_capacity copy.new }
+    ensures room { INJECT_BYTES ≤ vec_capacity copy.new }
 {
     copy.clear();
     let _ = copy.extend_from_slice(bytes);
@@ -43,15 +41,15 @@ fn refill(copy: &mut Vec<u8>, bytes: &[u8])
 impl Elements {
     /// Takes the memory for the longest range.
     pub(crate) fn new(alloc: Global) -> Result<Elements, NoMemory> {
-        let becomes = Vec::with_capacity(alloc, MOST_BYTES)?;
-        let was = Vec::with_capacity(alloc, MOST_BYTES)?;
+        let becomes = Vec::with_capacity(alloc, INJECT_BYTES as usize)?;
+        let was = Vec::with_capacity(alloc, INJECT_BYTES as usize)?;
         Ok(Elements { becomes, was })
     }
 
     /// Does the atomic to a copy of the range.
     pub(crate) fn change(&mut self, atom: Atom, range: &[u8], operand: &[u8], compare: &[u8])
         requires whole { length range.now % element_size atom.num ≡ 0 }
-        requires few { length range.now ≤ 4096 }
+        requires few { length range.now ≤ INJECT_BYTES }
         requires operand { length operand.now ≡ operand_len atom.op (length range.now) }
         requires compare { length compare.now ≡ compare_len atom.op (length range.now) }
         ensures len { length self.new ≡ length range.now }

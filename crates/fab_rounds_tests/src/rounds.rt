@@ -11,7 +11,7 @@ use crate::ports::{lanes, queues};
 use fab_base::{Bound, Gate, NoMemory};
 use fab_gates::{Meeting, OpenGate};
 use fab_link::Port;
-use fab_peer::calls::{Calls, Machinery};
+use fab_peer::calls::{LineCalls, Machinery};
 use fab_peer::peer::Peer;
 use fab_peer_machines::machines;
 use fab_report::{add_first, add_last, add_peer};
@@ -80,7 +80,7 @@ const NO_LINES: Row = Row {
 const LIMIT: u32 = 1_000;
 
 /// Adds what a peer's lines did. Its steps are left out: they tell when a frame was seen.
-fn add<E: Calls>(text: &mut String, number: usize, peer: &Peer<E>) -> Result<(), NoMemory> {
+fn add<E: LineCalls>(text: &mut String, number: usize, peer: &Peer<E>) -> Result<(), NoMemory> {
     let awaiting = u64::from(peer.awaiting());
     let deferred = u64::from(peer.deferred());
     let (lines, results) = (peer.lines(), peer.results());

@@ -21,8 +21,8 @@ use Rattle.fab_model.specs.Negotiation.{is_refused, granted_info, grant_of, gran
 use Rattle.fab_grammar.specs.declared.settings.Setting.{Setting}
 use Rattle.fab_grammar.specs.declared.settings.Setting.TheVariants.{Peers, Wish, Capabilities, Selective, File}
 use Rattle.fab_grammar.specs.declared.settings.Settings.{Settings}
-use Rattle.fab_grammar.specs.declared.verbs.Kind.{Kind}
-use Rattle.fab_grammar.specs.declared.verbs.Kind.TheVariants as kind
+use Rattle.fab_grammar.specs.declared.verbs.VerbKind.{VerbKind}
+use Rattle.fab_grammar.specs.declared.verbs.VerbKind.TheVariants as kind
 use Rattle.fab_grammar.specs.declared.verbs.Verb.{Verb}
 use Rattle.fab_grammar.specs.declared.verbs.Verb.TheVariants as verb
 use Rattle.fab_grammar.specs.Capabilities.{caps_of}
@@ -35,9 +35,9 @@ use Rattle.fab_grammar.specs.Verbs.{kind_of}
 use Rattle.fab_grammar.specs.Versions.{version_of, most_bytes}
 use Rattle.fab_grammar.proofs.PartLemmas.{and_true, distinct_push}
 use Rattle.fab_grammar.proofs.RuleLemmas.{rest_of, first_fails}
-use Rattle.fab_words.specs.Faults.{◌&◌, map_ok}
-use Rattle.fab_words.specs.declared.fault.Fault.{Fault}
-use Rattle.fab_words.specs.declared.fault.Fault.TheVariants.{Number, Limit}
+use Rattle.fab_words.specs.Misreads.{◌&◌, map_ok}
+use Rattle.fab_words.specs.declared.misread.Misread.{Misread}
+use Rattle.fab_words.specs.declared.misread.Misread.TheVariants.{Number, Limit}
 use Rattle.fab_words.specs.Rows.{lines_of}
 use Rattle.fab_words.specs.Words.{first_of, number_of, read_number, read_text}
 use Rattle.fab_spell.proofs.Said.{both_said, some_said}
@@ -135,7 +135,7 @@ Fits payloads (Peers n) = 0 < n
 Fits payloads (File p) = list_any (λ j. eqb j p.id) (ids payloads) ≡ false
 Fits payloads setting = Unit {0}
 
-made : {A : Type 0} (payloads : List Payload) (f : A → Setting) (r : Result A Fault) (s : Setting) → ((x : A) → r ≡ Ok x → Fits payloads (f x)) → map_ok f r ≡ Ok s → Fits payloads s
+made : {A : Type 0} (payloads : List Payload) (f : A → Setting) (r : Result A Misread) (s : Setting) → ((x : A) → r ≡ Ok x → Fits payloads (f x)) → map_ok f r ≡ Ok s → Fits payloads s
 made payloads f (Ok x) s each e =
     let same : f x ≡ s = cc in
     subst (Fits payloads) same (each x refl)
@@ -150,7 +150,7 @@ payload_fits (id ∷ name ∷ []) payloads s fresh e =
     sym (any_id payloads x.0) ∙ ap (has_id payloads) (sym number) ∙ fresh) e
 payload_fits _ payloads s fresh e = cc
 
-at_least_one : (test : Bool) (n m : ℕ) → (leb 1 n && leb n m) ≡ test → (k : ℕ) → ◌≡◌ {A = Result ℕ Fault} (cond test (Ok n) (Err Limit)) (Ok k) → 0 < k
+at_least_one : (test : Bool) (n m : ℕ) → (leb 1 n && leb n m) ≡ test → (k : ℕ) → ◌≡◌ {A = Result ℕ Misread} (cond test (Ok n) (Err Limit)) (Ok k) → 0 < k
 at_least_one true n m within k e =
     let same : n ≡ k = cc in
     let least = (and_true (leb 1 n) (leb n m) within).0 in
@@ -158,7 +158,7 @@ at_least_one true n m within k e =
     subst (λ i. 0 < i) same one
 at_least_one false n m within k e = cc
 
-between_one : (api : Api) (said : Result ℕ Fault) (k : ℕ) → between (limits_of api size.Peers) said ≡ Ok k → 0 < k
+between_one : (api : Api) (said : Result ℕ Misread) (k : ℕ) → between (limits_of api size.Peers) said ≡ Ok k → 0 < k
 between_one api (Ok n) k e = at_least_one (leb 1 n && leb n (most_peers api)) n (most_peers api) refl k e
 between_one api (Err fault) k e = cc
 
@@ -204,7 +204,7 @@ wishing_peers s size.Rx n = refl
 wishing_peers s size.Cq n = refl
 wishing_peers s _ n = refl
 
-with_setting_kept : (before : Before) (said : Result Setting Fault) → Kept before → ((s : Setting) → said ≡ Ok s → Fits before.payloads s) → Kept (with_setting before said)
+with_setting_kept : (before : Before) (said : Result Setting Misread) → Kept before → ((s : Setting) → said ≡ Ok s → Fits before.payloads s) → Kept (with_setting before said)
 with_setting_kept before (Ok (File p)) kept fits = record {
   distinct = ap is_distinct (map-append (λ (q : Payload). q.id) before.payloads (p ∷ [])) ∙ distinct_push (ids before.payloads) p.id kept.distinct (fits (File p) refl);
   some = kept.some;
@@ -218,11 +218,11 @@ with_setting_kept before (Ok (Capabilities caps)) kept fits = record { distinct 
 with_setting_kept before (Ok Selective) kept fits = record { distinct = kept.distinct; some = kept.some }
 with_setting_kept before (Err fault) kept fits = kept
 
-with_peer_kept : (before : Before) (said : Result ℕ Fault) → Kept before → Kept (with_peer before said)
+with_peer_kept : (before : Before) (said : Result ℕ Misread) → Kept before → Kept (with_peer before said)
 with_peer_kept before (Ok k) kept = record { distinct = kept.distinct; some = kept.some }
 with_peer_kept before (Err fault) kept = kept
 
-with_call_kept : (before : Before) (number : ℕ) (said : Result LineOp Fault) → Kept before → Kept (with_call before number said)
+with_call_kept : (before : Before) (number : ℕ) (said : Result LineOp Misread) → Kept before → Kept (with_call before number said)
 with_call_kept before number (Ok op) kept = record { distinct = kept.distinct; some = kept.some }
 with_call_kept before number (Err fault) kept = kept
 
@@ -234,7 +234,7 @@ fresh_setting api before number verb args e =
     let rest : List (Bool × Why) = (is_words said, why.Words) ∷ (is_number said, why.Number) ∷ (is_limit said || is_late number || is_one_too_many before said, why.Limit) ∷ (is_not_granted api said, why.NoData) ∷ [] in
     first_fails (is_set before verb args) why.Twice rest (rest_of (has_opened before) why.Order ((is_set before verb args, why.Twice) ∷ rest) e)
 
-with_kind_kept : (k : Kind) (api : Api) (before : Before) (number : ℕ) (verb : Verb) (args : List (List ℕ)) → Kept before → first_of (kind_rules k api before number verb args) ≡ None → Kept (with_kind k api before number verb args)
+with_kind_kept : (k : VerbKind) (api : Api) (before : Before) (number : ℕ) (verb : Verb) (args : List (List ℕ)) → Kept before → first_of (kind_rules k api before number verb args) ≡ None → Kept (with_kind k api before number verb args)
 with_kind_kept kind.Setting api before number verb args kept e =
     with_setting_kept before (setting_of api verb args) kept (λ s. setting_fits api verb args before s (fresh_setting api before number verb args e))
 with_kind_kept kind.Peer api before number verb args kept e = with_peer_kept before (peer_of args) kept

@@ -6,8 +6,8 @@ use Rattle.fab_base.specs.declared.caps.Api.{Api}
 use Rattle.fab_base.specs.declared.script.LineOp.{LineOp}
 use Rattle.fab_base.specs.declared.status.Why.{Why}
 use Rattle.fab_base.specs.declared.status.Why.TheVariants as why
-use Rattle.fab_words.specs.declared.fault.Fault.{Fault}
-use Rattle.fab_words.specs.declared.fault.Fault.TheVariants.{Words, Number, Limit}
+use Rattle.fab_words.specs.declared.misread.Misread.{Misread}
+use Rattle.fab_words.specs.declared.misread.Misread.TheVariants.{Words, Number, Limit}
 use Rattle.fab_words.specs.Rows.{is_text, words_of}
 use Rattle.fab_script.specs.declared.reader.Reader.{Reader}
 use Rattle.fab_script.specs.declared.refused.Refused.{Refused}
@@ -21,7 +21,7 @@ use Rattle.fab_base.specs.declared.limits.Size.TheVariants as size
 use Rattle.fab_grammar.specs.Capabilities.{caps_of}
 use Rattle.fab_grammar.specs.declared.verbs.Verb.{Verb}
 use Rattle.fab_grammar.specs.declared.verbs.Verb.TheVariants as verb
-use Rattle.fab_words.specs.Faults.{map_ok, ◌&◌}
+use Rattle.fab_words.specs.Misreads.{map_ok, ◌&◌}
 use Rattle.fab_grammar.specs.Before.{Before, has_opened, opened_by}
 use Rattle.fab_grammar.specs.Lines.{op_of}
 use Rattle.fab_grammar.specs.Versions.{most_bytes}
@@ -38,7 +38,7 @@ pub peer_again : (before : Before) (number : ℕ) (args : List (List ℕ)) → i
 unfolding peer_rules
 peer_again before number args e = rw e refl
 
-pub peer_fault : (before : Before) (number : ℕ) (args : List (List ℕ)) (fault : Fault) → is_again (opened_by before.items) args ≡ false → peer_of args ≡ Err fault → first_of (peer_rules before number args) ≡ Some (why_from fault)
+pub peer_fault : (before : Before) (number : ℕ) (args : List (List ℕ)) (fault : Misread) → is_again (opened_by before.items) args ≡ false → peer_of args ≡ Err fault → first_of (peer_rules before number args) ≡ Some (why_from fault)
 unfolding peer_rules
 peer_fault before number args Words a e = rw (a, e) refl
 peer_fault before number args Number a e = rw (a, e) refl
@@ -49,7 +49,7 @@ unfolding peer_rules
 peer_taken before number args k a e there late = rw (a, e, there, late) refl
 
 -- the peer that the line names is not among these
-read_is : (o : Option ℕ) (k : ℕ) → ok_or {E = Fault} o Number ≡ Ok k → o ≡ Some k
+read_is : (o : Option ℕ) (k : ℕ) → ok_or {E = Misread} o Number ≡ Ok k → o ≡ Some k
 read_is None k e = cc
 read_is (Some n) k e = cc
 
@@ -70,7 +70,7 @@ fresh_unless_made settings None e f = rw e refl
 fresh_unless_made settings (Some n) e f = cc
 
 -- what says the number of peers is a `peers` line
-says_peers : (r : Result ℕ Fault) (fresh : Bool) (settings : Settings) (setting : Setting) → map_ok Peers r ≡ Ok setting → is_none settings.peers ≡ true → is_fresh settings setting ≡ true
+says_peers : (r : Result ℕ Misread) (fresh : Bool) (settings : Settings) (setting : Setting) → map_ok Peers r ≡ Ok setting → is_none settings.peers ≡ true → is_fresh settings setting ≡ true
 says_peers (Ok n) fresh settings (Peers m) e f = f
 says_peers (Ok n) fresh settings (Wish size m) e f = cc
 says_peers (Ok n) fresh settings (Capabilities caps) e f = cc
@@ -78,7 +78,7 @@ says_peers (Ok n) fresh settings Selective e f = cc
 says_peers (Ok n) fresh settings (File payload) e f = cc
 says_peers (Err fault) fresh settings setting e f = cc
 
-says_wish : (size : Size) (r : Result ℕ Fault) (settings : Settings) (setting : Setting) → map_ok (Wish size) r ≡ Ok setting → is_fresh settings setting ≡ true
+says_wish : (size : Size) (r : Result ℕ Misread) (settings : Settings) (setting : Setting) → map_ok (Wish size) r ≡ Ok setting → is_fresh settings setting ≡ true
 says_wish size (Ok n) settings (Peers m) e = cc
 says_wish size (Ok n) settings (Wish other m) e = refl
 says_wish size (Ok n) settings (Capabilities caps) e = cc
@@ -86,7 +86,7 @@ says_wish size (Ok n) settings Selective e = cc
 says_wish size (Ok n) settings (File payload) e = cc
 says_wish size (Err fault) settings setting e = cc
 
-says_caps : (r : Result Caps Fault) (settings : Settings) (setting : Setting) → map_ok Capabilities r ≡ Ok setting → is_fresh settings setting ≡ true
+says_caps : (r : Result Caps Misread) (settings : Settings) (setting : Setting) → map_ok Capabilities r ≡ Ok setting → is_fresh settings setting ≡ true
 says_caps (Ok n) settings (Peers m) e = cc
 says_caps (Ok n) settings (Wish other m) e = cc
 says_caps (Ok n) settings (Capabilities caps) e = refl
@@ -94,7 +94,7 @@ says_caps (Ok n) settings Selective e = cc
 says_caps (Ok n) settings (File payload) e = cc
 says_caps (Err fault) settings setting e = cc
 
-says_file : (r : Result (ℕ × List ℕ) Fault) (settings : Settings) (setting : Setting) → map_ok a_file r ≡ Ok setting → is_fresh settings setting ≡ true
+says_file : (r : Result (ℕ × List ℕ) Misread) (settings : Settings) (setting : Setting) → map_ok a_file r ≡ Ok setting → is_fresh settings setting ≡ true
 says_file (Ok (id, name)) settings (Peers m) e = cc
 says_file (Ok (id, name)) settings (Wish other m) e = cc
 says_file (Ok (id, name)) settings (Capabilities caps) e = cc

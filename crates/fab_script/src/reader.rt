@@ -16,11 +16,11 @@ use crate::parts::Parts;
 use crate::refused::Refused;
 use fab_base::{Api, Line, Payload, Why};
 use fab_grammar::{
-    Kind, Setting, Settings, Verb, asking, most_bytes, read_header, read_op, read_peer,
+    Setting, Settings, Verb, VerbKind, asking, most_bytes, read_header, read_op, read_peer,
     read_setting,
 };
 use fab_info::getinfo;
-use fab_words::{Fault, Words, all_text, number};
+use fab_words::{Misread, Words, all_text, number};
 use std::alloc::Global;
 
 /// The greatest number of lines.
@@ -100,9 +100,9 @@ impl Reader {
             return Err(Refused::Why(Why::Verb));
         };
         match verb.kind() {
-            Kind::Setting => self.take_setting(alloc, api, number, verb, args),
-            Kind::Peer => self.take_peer(number, args),
-            Kind::Call => self.take_call(alloc, api, number, verb, args),
+            VerbKind::Setting => self.take_setting(alloc, api, number, verb, args),
+            VerbKind::Peer => self.take_peer(number, args),
+            VerbKind::Call => self.take_call(alloc, api, number, verb, args),
         }
     }
 

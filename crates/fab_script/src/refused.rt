@@ -5,7 +5,7 @@ ghost use Rattle.fab_script.specs.declared.refused.Refused.TheVariants.{NoMemory
 ghost use Rattle.fab_grammar.specs.Rules.{why_from};
 
 use fab_base::Why;
-use fab_words::Fault;
+use fab_words::Misread;
 use std::alloc::{AllocError, AllocFailed};
 
 /// Why `parse` gives no script.
@@ -66,14 +66,14 @@ impl<T: Drop> From<AllocFailed<T>> for Refused {
     }
 }
 
-impl From<Fault> for Refused {
+impl From<Misread> for Refused {
     ghost from_gives = { λ fault e. e ≡ Because (why_from fault) };
 
-    fn from(fault: Fault) -> Refused {
+    fn from(fault: Misread) -> Refused {
         Refused::Why(match fault {
-            Fault::Words => Why::Words,
-            Fault::Number => Why::Number,
-            Fault::Limit => Why::Limit,
+            Misread::Words => Why::Words,
+            Misread::Number => Why::Number,
+            Misread::Limit => Why::Limit,
         })
     }
 }

@@ -20,9 +20,9 @@ use Rattle.fab_base.specs.declared.script.Payload.{Payload}
 use Rattle.fab_base.specs.declared.script.Script.{Script}
 use Rattle.fab_base.specs.declared.status.Why.TheVariants as why
 use Rattle.fab_model.specs.Negotiation.{all_caps, has_any, no_hints, grant}
-use Rattle.fab_words.specs.declared.fault.Fault.{Fault}
-use Rattle.fab_words.specs.declared.fault.Fault.TheVariants.{Limit}
-use Rattle.fab_words.specs.Faults.{map_ok}
+use Rattle.fab_words.specs.declared.misread.Misread.{Misread}
+use Rattle.fab_words.specs.declared.misread.Misread.TheVariants.{Limit}
+use Rattle.fab_words.specs.Misreads.{map_ok}
 use Rattle.fab_words.specs.Rows.{lines_of}
 use Rattle.fab_words.specs.Words.{read_number}
 use Rattle.fab_grammar.specs.declared.items.Item.{Item}
@@ -119,7 +119,7 @@ caps_again api None r g e = cc
 caps_again api (Some c) r g e = (setting_again api (Capabilities c) r, g)
 
 -- ---- there are not too many peers, and not too many lines
-peers_within : (most : ℕ) (said : Result ℕ Fault) (n : ℕ) → map_ok Peers (between (limits 1 32 most) said) ≡ Ok (Peers n) → n ≤ most
+peers_within : (most : ℕ) (said : Result ℕ Misread) (n : ℕ) → map_ok Peers (between (limits 1 32 most) said) ≡ Ok (Peers n) → n ≤ most
 peers_within most (Err fault) n e = cc
 peers_within most (Ok m) n e = by_test (leb m most) refl (leb 1 m && leb m most) refl e
   where

@@ -15,8 +15,8 @@ use Rattle.fab_words.specs.Words.{first_of}
 use Rattle.fab_grammar.specs.declared.settings.Setting.{Setting}
 use Rattle.fab_grammar.specs.declared.settings.Setting.TheVariants.{Peers, Wish, Capabilities, Selective, File}
 use Rattle.fab_grammar.specs.declared.settings.Settings.{Settings}
-use Rattle.fab_grammar.specs.declared.verbs.Kind.{Kind}
-use Rattle.fab_grammar.specs.declared.verbs.Kind.TheVariants as kind
+use Rattle.fab_grammar.specs.declared.verbs.VerbKind.{VerbKind}
+use Rattle.fab_grammar.specs.declared.verbs.VerbKind.TheVariants as kind
 use Rattle.fab_grammar.specs.declared.verbs.Verb.{Verb}
 use Rattle.fab_grammar.specs.declared.verbs.Verb.TheVariants as verb
 use Rattle.fab_grammar.specs.Before.{Before, is_distinct, has_opened}
@@ -72,7 +72,7 @@ module _ (api : Api) where
       ap (λ said. is_limit said || is_late number || is_one_too_many before said) e ∙ (ap (λ b. b || is_one_too_many before (Ok s)) late ∙ few) in
       none_first (setting_rules api before number verb args) (early, (unset, (ap is_words e, (ap is_number e, (limit, (ap (is_refused api) e ∙ granted, tt))))))
 
-  kind_rule : (k : Kind) (before : Before) (number : ℕ) (verb : Verb) (args : List (List ℕ)) → k ≡ kind.Setting → first_of (setting_rules api before number verb args) ≡ None → first_of (kind_rules k api before number verb args) ≡ None
+  kind_rule : (k : VerbKind) (before : Before) (number : ℕ) (verb : Verb) (args : List (List ℕ)) → k ≡ kind.Setting → first_of (setting_rules api before number verb args) ≡ None → first_of (kind_rules k api before number verb args) ≡ None
   kind_rule k before number verb args e none = ap (λ l. first_of (kind_rules l api before number verb args)) e ∙ none
 
   kind_said : (before : Before) (number : ℕ) (verb : Verb) (args : List (List ℕ)) (s : Setting) → kind_of verb ≡ kind.Setting → setting_of api verb args ≡ Ok s → with_kind (kind_of verb) api before number verb args ≡ with_setting before (Ok s)

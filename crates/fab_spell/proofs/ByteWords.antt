@@ -11,10 +11,10 @@ use Rattle.std.proofs.lemmas.Str.{is_utf8-from_IsUtf8, IsUtf8-from_ascii}
 use Rattle.std.proofs.lemmas.Str.Ascii.{IsAscii-nil, IsAscii-cons}
 use Rattle.fab_base.specs.declared.script.BytesWord.{BytesWord}
 use Rattle.fab_base.specs.declared.script.BytesWord.TheVariants.{Text, Hex, Zero, File}
-use Rattle.fab_words.specs.declared.fault.Fault.{Fault}
-use Rattle.fab_words.specs.declared.fault.Fault.TheVariants.{Words, Limit}
+use Rattle.fab_words.specs.declared.misread.Misread.{Misread}
+use Rattle.fab_words.specs.declared.misread.Misread.TheVariants.{Words, Limit}
 use Rattle.fab_words.specs.Bytes.{few_bytes, of_hex, a_file_range, file_range, is_colon, read_bytes}
-use Rattle.fab_words.specs.Faults.{◌&◌, map_ok}
+use Rattle.fab_words.specs.Misreads.{◌&◌, map_ok}
 use Rattle.fab_words.specs.Rows.{is_filled}
 use Rattle.fab_words.specs.Words.{begins_with, read_number, read_up_to}
 use Rattle.fab_words.specs.Written.{is_word}
@@ -126,7 +126,7 @@ file_again most (id ∷ at ∷ len ∷ []) said e =
 file_again most _ said e = cc
 
 -- ---- all forms
-of_form : (most : ℕ) (text digits zeros file : Bool) (a b c d : Result BytesWord Fault) (said : BytesWord) → (a ≡ Ok said → BytesAgain most said) → (b ≡ Ok said → BytesAgain most said) → (c ≡ Ok said → BytesAgain most said) → (d ≡ Ok said → BytesAgain most said) → cond text a (cond digits b (cond zeros c (cond file d (Err Words)))) ≡ Ok said → BytesAgain most said
+of_form : (most : ℕ) (text digits zeros file : Bool) (a b c d : Result BytesWord Misread) (said : BytesWord) → (a ≡ Ok said → BytesAgain most said) → (b ≡ Ok said → BytesAgain most said) → (c ≡ Ok said → BytesAgain most said) → (d ≡ Ok said → BytesAgain most said) → cond text a (cond digits b (cond zeros c (cond file d (Err Words)))) ≡ Ok said → BytesAgain most said
 of_form most true digits zeros file a b c d said f g h k e = f e
 of_form most false true zeros file a b c d said f g h k e = g e
 of_form most false false true file a b c d said f g h k e = h e

@@ -6,8 +6,8 @@ use Rattle.fab_base.specs.declared.caps.Cap.{Cap}
 use Rattle.fab_base.specs.declared.caps.Cap.TheVariants as cap
 use Rattle.fab_base.specs.declared.caps.Caps.{Caps}
 use Rattle.fab_model.specs.Negotiation.{all_caps, no_hints}
-use Rattle.fab_words.specs.declared.fault.Fault.{Fault}
-use Rattle.fab_words.specs.declared.fault.Fault.TheVariants.{Words}
+use Rattle.fab_words.specs.declared.misread.Misread.{Misread}
+use Rattle.fab_words.specs.declared.misread.Misread.TheVariants.{Words}
 use Rattle.fab_words.specs.Written.{is_word}
 use Rattle.fab_words.proofs.CutLemmas.{parts_filled}
 use Rattle.fab_grammar.specs.Capabilities.{cap_name, cap_named, add_names, is_comma, caps_of}
@@ -201,7 +201,7 @@ kept_on : (names : List (List ℕ)) (c : Cap) (before caps : Caps) → has befor
 kept_on [] c before caps e read = let same : before ≡ caps = cc in ap (λ x. has x c) (sym same) ∙ e
 kept_on (name ∷ names) c before caps e read = by (cap_named name) read (λ d. kept_on names c (with_cap d before) caps (keeps d c before e))
   where
-    by : (o : Option Cap) → elim o as (λ _. Result Caps Fault) [ None ↦ Err Words | Some d ↦ add_names (with_cap d before) names ] ≡ Ok caps
+    by : (o : Option Cap) → elim o as (λ _. Result Caps Misread) [ None ↦ Err Words | Some d ↦ add_names (with_cap d before) names ] ≡ Ok caps
         → ((d : Cap) → add_names (with_cap d before) names ≡ Ok caps → has caps c ≡ true) → has caps c ≡ true
     by None f rest = cc
     by (Some d) f rest = rest d f
@@ -210,7 +210,7 @@ one_read : (names : List (List ℕ)) (before caps : Caps) → 0 < length names �
 one_read [] before caps some read = absurd (omega arith)
 one_read (name ∷ names) before caps some read = by (cap_named name) read
   where
-    by : (o : Option Cap) → elim o as (λ _. Result Caps Fault) [ None ↦ Err Words | Some d ↦ add_names (with_cap d before) names ] ≡ Ok caps → (c : Cap) × (has caps c ≡ true)
+    by : (o : Option Cap) → elim o as (λ _. Result Caps Misread) [ None ↦ Err Words | Some d ↦ add_names (with_cap d before) names ] ≡ Ok caps → (c : Cap) × (has caps c ≡ true)
     by None f = cc
     by (Some d) f = (d, kept_on names d (with_cap d before) caps (adds d before) f)
 
@@ -219,7 +219,7 @@ one_read (name ∷ names) before caps some read = by (cap_named name) read
 names_again : (before : Caps) (cs : List Cap) → add_names before (map cap_name cs) ≡ Ok (with_all before cs)
 names_again before [] = refl
 names_again before (c ∷ cs) =
-    ap (λ o. elim o as (λ _. Result Caps Fault) [ None ↦ Err Words | Some d ↦ add_names (with_cap d before) (map cap_name cs) ]) (good_name c).named
+    ap (λ o. elim o as (λ _. Result Caps Misread) [ None ↦ Err Words | Some d ↦ add_names (with_cap d before) (map cap_name cs) ]) (good_name c).named
     ∙ names_again (with_cap c before) cs
 
 all_kept : (caps : Caps) → with_all no_hints.caps (filter (has caps) all_caps) ≡ caps

@@ -7,8 +7,8 @@ use Rattle.std.specs.Str.Parse.{digits_value, AllDigits}
 use Rattle.std.proofs.lemmas.Bool.Decides.{nat_tests}
 use Rattle.std.proofs.lemmas.Fmt.{decimal_is_IsNumeral, length-decimal-le}
 use Rattle.std.proofs.lemmas.Str.Parse.{digit_from_value}
-use Rattle.fab_words.specs.declared.fault.Fault.{Fault}
-use Rattle.fab_words.specs.declared.fault.Fault.TheVariants.{Number, Limit}
+use Rattle.fab_words.specs.declared.misread.Misread.{Misread}
+use Rattle.fab_words.specs.declared.misread.Misread.TheVariants.{Number, Limit}
 use Rattle.fab_words.specs.Words.{only_if, is_numeral, numeral_of, begins_with, number_of, read_number, within, read_up_to, read_index}
 use Rattle.fab_words.proofs.NumberLemmas.{numeral_of_digits}
 
@@ -96,7 +96,7 @@ number_small word n e = by (begins_with (codes "0x") word) e
     by true f = numeral_small 16 16 (drop 2 word) n f
     by false f = numeral_small 10 20 word n f
 
-said : (o : Option ℕ) (fault : Fault) (n : ℕ) → ok_or o fault ≡ Ok n → o ≡ Some n
+said : (o : Option ℕ) (fault : Misread) (n : ℕ) → ok_or o fault ≡ Ok n → o ≡ Some n
 said (Some m) fault n e = cc
 said None fault n e = cc
 
@@ -104,7 +104,7 @@ pub read_number_small : (word : List ℕ) (n : ℕ) → read_number word ≡ Ok 
 unfolding read_number
 read_number_small word n e = number_small word n (said (number_of word) Number n e)
 
-under : (most : ℕ) (r : Result ℕ Fault) (n : ℕ) → within most r ≡ Ok n → (r ≡ Ok n) × (n ≤ most)
+under : (most : ℕ) (r : Result ℕ Misread) (n : ℕ) → within most r ≡ Ok n → (r ≡ Ok n) × (n ≤ most)
 under most (Ok m) n e = let both = by (leb m most) refl e in (ap Ok both.0, both.1)
   where
     by : (b : Bool) → leb m most ≡ b → cond b (Ok m) (Err Limit) ≡ Ok n → (m ≡ n) × (n ≤ most)

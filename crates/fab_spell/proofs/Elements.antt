@@ -9,8 +9,8 @@ use Rattle.fab_base.specs.Elements.{element_size}
 use Rattle.fab_base.specs.declared.items.Num.{Num}
 use Rattle.fab_base.specs.declared.items.Num.TheVariants.{I8, I16, I32, I64, U8, U16, U32, U64}
 use Rattle.fab_model.specs.Target.{number_of, span}
-use Rattle.fab_words.specs.declared.fault.Fault.{Fault}
-use Rattle.fab_words.specs.declared.fault.Fault.TheVariants.{Number, Words}
+use Rattle.fab_words.specs.declared.misread.Misread.{Misread}
+use Rattle.fab_words.specs.declared.misread.Misread.TheVariants.{Number, Words}
 use Rattle.fab_words.specs.Rows.{is_filled}
 use Rattle.fab_words.proofs.CutLemmas.{parts_filled}
 use Rattle.fab_grammar.proofs.PartLemmas.{and_true}
@@ -218,7 +218,7 @@ record Numbers (num : Num) (before bytes : List ℕ) (words : List (List ℕ)) :
   many : length numbers ≡ length words
 
 one_more : (num : Num) (before bytes : List ℕ) (word : List ℕ) (words : List (List ℕ)) (o : Option ℕ) → value_of num word ≡ o
-    → elim o as (λ _. Result (List ℕ) Fault) [ None ↦ Err Number | Some n ↦ add_elements num (before ++ element num n) words ] ≡ Ok bytes
+    → elim o as (λ _. Result (List ℕ) Misread) [ None ↦ Err Number | Some n ↦ add_elements num (before ++ element num n) words ] ≡ Ok bytes
     → ((n : ℕ) → add_elements num (before ++ element num n) words ≡ Ok bytes → Numbers num (before ++ element num n) bytes words)
     → Numbers num before bytes (word ∷ words)
 one_more num before bytes word words None is e read = cc
@@ -247,7 +247,7 @@ words_of_numbers num (n ∷ ns) fit =
 numbers_again : (num : Num) (before ns : List ℕ) → AllFit num ns → add_elements num before (map (value_word num) ns) ≡ Ok (before ++ all_elements num ns)
 numbers_again num before [] fit = ap Ok (sym (append-nil before))
 numbers_again num before (n ∷ ns) fit =
-    ap (λ o. elim o as (λ _. Result (List ℕ) Fault) [ None ↦ Err Number | Some m ↦ add_elements num (before ++ element num m) (map (value_word num) ns) ]) (value_again num n fit.0)
+    ap (λ o. elim o as (λ _. Result (List ℕ) Misread) [ None ↦ Err Number | Some m ↦ add_elements num (before ++ element num m) (map (value_word num) ns) ]) (value_again num n fit.0)
     ∙ numbers_again num (before ++ element num n) ns fit.1
     ∙ ap Ok (append_assoc before (element num n) (all_elements num ns))
 

@@ -7,9 +7,9 @@ use Rattle.fab_base.specs.declared.caps.Api.{Api}
 use Rattle.fab_base.specs.declared.limits.Limits.{Limits}
 use Rattle.fab_base.specs.declared.limits.Size.{Size}
 use Rattle.fab_base.specs.declared.limits.Size.TheVariants as size
-use Rattle.fab_words.specs.declared.fault.Fault.{Fault}
-use Rattle.fab_words.specs.declared.fault.Fault.TheVariants.{Limit}
-use Rattle.fab_words.specs.Faults.{◌&◌, map_ok}
+use Rattle.fab_words.specs.declared.misread.Misread.{Misread}
+use Rattle.fab_words.specs.declared.misread.Misread.TheVariants.{Limit}
+use Rattle.fab_words.specs.Misreads.{◌&◌, map_ok}
 use Rattle.fab_words.specs.Words.{read_number, read_text}
 use Rattle.fab_words.specs.Written.{is_word}
 use Rattle.fab_grammar.specs.declared.settings.Setting.{Setting}
@@ -29,13 +29,13 @@ alone : (word : List ℕ) → is_word word ≡ true → list_all is_word (word �
 alone word e = and_from (is_word word) true e refl
 
 -- what a part said
-made_of : {A B : Type 0} (f : A → B) (r : Result A Fault) (b : B) → map_ok f r ≡ Ok b → (a : A) × (r ≡ Ok a) × (f a ≡ b)
+made_of : {A B : Type 0} (f : A → B) (r : Result A Misread) (b : B) → map_ok f r ≡ Ok b → (a : A) × (r ≡ Ok a) × (f a ≡ b)
 made_of f (Ok a) b e = (a, refl, cc)
 made_of f (Err fault) b e = cc
 
 -- sizes
 
-between_said : (limits : Limits) (r : Result ℕ Fault) (n : ℕ) → between limits r ≡ Ok n → r ≡ Ok n
+between_said : (limits : Limits) (r : Result ℕ Misread) (n : ℕ) → between limits r ≡ Ok n → r ≡ Ok n
 between_said limits (Ok m) n e = ap Ok (by (leb limits.least m && leb m limits.greatest) e)
   where
     by : (b : Bool) → cond b (Ok m) (Err Limit) ≡ Ok n → m ≡ n
@@ -60,7 +60,7 @@ size_again api size (word ∷ next ∷ more) n e = cc
 
 -- payloads
 
-both_said : {A B : Type 0} (a : Result A Fault) (b : Result B Fault) (p : A × B) → (a & b) ≡ Ok p → (a ≡ Ok p.0) × (b ≡ Ok p.1)
+both_said : {A B : Type 0} (a : Result A Misread) (b : Result B Misread) (p : A × B) → (a & b) ≡ Ok p → (a ≡ Ok p.0) × (b ≡ Ok p.1)
 both_said {A} {B} (Ok a) (Ok b) p e = let same : ◌≡◌ {A = A × B} (a, b) p = cc in (ap (λ q. Ok q.0) same, ap (λ q. Ok q.1) same)
 both_said (Ok a) (Err g) p e = cc
 both_said (Err f) (Ok b) p e = cc

@@ -4,7 +4,7 @@ use Rattle.std.specs.Prelude.{bytes_eq, Ok}
 use Rattle.std.specs.List.{list_all}
 use Rattle.std.proofs.lemmas.Bool.{and_parts, and_from, ne_eqb, lt-ltb, ltb-true, le-leb}
 use Rattle.fab_model.proofs.Plain.{decimal_digits, decimal_some}
-use Rattle.fab_words.specs.Faults.{map_ok}
+use Rattle.fab_words.specs.Misreads.{map_ok}
 use Rattle.fab_words.specs.Words.{read_index, read_source}
 use Rattle.fab_words.specs.Written.{is_word}
 use Rattle.fab_spell.specs.Spelling.{source_word}

@@ -11,9 +11,9 @@ use Rattle.fab_grammar.specs.declared.options.Options.{Options}
 use Rattle.fab_grammar.specs.Options.{level_named, optional_of, are_options, value_after, read_if, level_in, has_word, the_options, read_options}
 use Rattle.fab_grammar.specs.Sends.{for_send, for_inject, for_write, for_multi}
 use Rattle.fab_grammar.specs.Atomics.{for_atomic}
-use Rattle.fab_words.specs.declared.fault.Fault.{Fault}
-use Rattle.fab_words.specs.declared.fault.Fault.TheVariants.{Words}
-use Rattle.fab_words.specs.Faults.{◌&◌, map_ok}
+use Rattle.fab_words.specs.declared.misread.Misread.{Misread}
+use Rattle.fab_words.specs.declared.misread.Misread.TheVariants.{Words}
+use Rattle.fab_words.specs.Misreads.{◌&◌, map_ok}
 use Rattle.fab_words.specs.Words.{read_number, read_index}
 use Rattle.fab_words.specs.Written.{is_word}
 use Rattle.fab_spell.specs.Spelling.{imm_words, level_words, completion_words, fence_words, min_words}
@@ -22,11 +22,11 @@ use Rattle.fab_spell.proofs.Numbers.{digits-decimal, printable-digits}
 use Rattle.fab_spell.proofs.Said.{both_said, said_by, said_if}
 
 -- a number that is read of its decimal, where there is one
-abbrev pub ReadsIf : (List ℕ → Result ℕ Fault) → Option ℕ → Type 0
+abbrev pub ReadsIf : (List ℕ → Result ℕ Misread) → Option ℕ → Type 0
 ReadsIf read None = Unit {0}
 ReadsIf read (Some n) = read (decimal n) ≡ Ok n
 
-if_again : (read : List ℕ → Result ℕ Fault) (again : (word : List ℕ) (n : ℕ) → read word ≡ Ok n → read (decimal n) ≡ Ok n) (word : Option (List ℕ)) (said : Option ℕ) → read_if read word ≡ Ok said → ReadsIf read said
+if_again : (read : List ℕ → Result ℕ Misread) (again : (word : List ℕ) (n : ℕ) → read word ≡ Ok n → read (decimal n) ≡ Ok n) (word : Option (List ℕ)) (said : Option ℕ) → read_if read word ≡ Ok said → ReadsIf read said
 if_again read again word None e = tt
 if_again read again None (Some n) e = cc
 if_again read again (Some word) (Some n) e =

@@ -8,9 +8,9 @@ use Rattle.fab_base.specs.declared.entries.Class.TheVariants as class
 use Rattle.fab_base.specs.declared.script.LineOp.{LineOp}
 use Rattle.fab_base.specs.declared.script.LineOp.TheVariants.{Close, Show, Insert, Remove, Wait, Count}
 use Rattle.fab_grammar.specs.Lines.{rights, read_rights, a_reg, reg_of, a_put, put_of, number_line, insert_of, remove_of, wait_of, class_name, class_named, read_class, count_of, a_reach, reach_of, op_of}
-use Rattle.fab_words.specs.declared.fault.Fault.TheVariants.{Words}
+use Rattle.fab_words.specs.declared.misread.Misread.TheVariants.{Words}
 use Rattle.fab_words.specs.Bytes.{read_bytes}
-use Rattle.fab_words.specs.Faults.{◌&◌, map_ok}
+use Rattle.fab_words.specs.Misreads.{◌&◌, map_ok}
 use Rattle.fab_words.specs.Words.{read_number, read_index, read_text}
 use Rattle.fab_words.specs.Written.{is_word}
 use Rattle.fab_spell.specs.Spelling.{verb_for, args_for, right_word}

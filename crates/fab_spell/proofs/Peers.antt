@@ -15,8 +15,8 @@ use Rattle.fab_words.specs.Written.{is_word}
 use Rattle.fab_grammar.specs.declared.items.Item.{Item}
 use Rattle.fab_grammar.specs.declared.items.Item.TheVariants.{Peer, Does}
 use Rattle.fab_grammar.specs.declared.settings.Settings.{Settings}
-use Rattle.fab_grammar.specs.declared.verbs.Kind.{Kind}
-use Rattle.fab_grammar.specs.declared.verbs.Kind.TheVariants as kind
+use Rattle.fab_grammar.specs.declared.verbs.VerbKind.{VerbKind}
+use Rattle.fab_grammar.specs.declared.verbs.VerbKind.TheVariants as kind
 use Rattle.fab_grammar.specs.declared.verbs.Verb.{Verb}
 use Rattle.fab_grammar.specs.declared.verbs.Verb.TheVariants as verb
 use Rattle.fab_grammar.specs.Before.{Before, count_in, has_opened, is_filled, opened_by, size_of}
@@ -67,7 +67,7 @@ call_rule api before number verb args op said opened few late =
     ap (λ s. is_limit s || is_late number || is_too_much api before s) said ∙ (ap (λ b. b || is_too_much api before (Ok op)) late ∙ little) in
     none_first (call_rules api before number verb args) (ap not opened, (ap is_words said, (ap is_number said, (limit, tt))))
 
-kind_rule : (api : Api) (k : Kind) (before : Before) (number : ℕ) (verb : Verb) (args : List (List ℕ)) → k ≡ kind.Call → first_of (call_rules api before number verb args) ≡ None → first_of (kind_rules k api before number verb args) ≡ None
+kind_rule : (api : Api) (k : VerbKind) (before : Before) (number : ℕ) (verb : Verb) (args : List (List ℕ)) → k ≡ kind.Call → first_of (call_rules api before number verb args) ≡ None → first_of (kind_rules k api before number verb args) ≡ None
 kind_rule api k before number verb args e none = ap (λ l. first_of (kind_rules l api before number verb args)) e ∙ none
 
 kind_said : (api : Api) (before : Before) (number : ℕ) (verb : Verb) (args : List (List ℕ)) (op : LineOp) → kind_of verb ≡ kind.Call → op_of (most_bytes api) verb args ≡ Ok op → with_kind (kind_of verb) api before number verb args ≡ with_call before number (Ok op)

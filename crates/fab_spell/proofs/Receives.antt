@@ -6,7 +6,7 @@ use Rattle.fab_base.specs.declared.script.LineOp.TheVariants.{DropClaimed, Cance
 use Rattle.fab_grammar.specs.Lines.{a_trecv, trecv_of, a_recv, recv_of, look_of, a_peek, a_claim, a_discard, a_take, take_of, number_line, op_of}
 use Rattle.fab_grammar.specs.Sends.{for_multi, an_mrecv, mrecv_of}
 use Rattle.fab_grammar.specs.Options.{read_options}
-use Rattle.fab_words.specs.Faults.{◌&◌, map_ok}
+use Rattle.fab_words.specs.Misreads.{◌&◌, map_ok}
 use Rattle.fab_words.specs.Words.{read_number, read_source, read_up_to}
 use Rattle.fab_spell.specs.Spelling.{verb_for, args_for, source_word}
 use Rattle.fab_spell.proofs.Decimals.{read_number_again, read_up_to_again}

@@ -11,10 +11,10 @@ use Rattle.fab_grammar.specs.Atomics.{Operand, atom_name, atom_named, num_name, 
 use Rattle.fab_grammar.specs.Lines.{a_read, read_of, op_of}
 use Rattle.fab_grammar.specs.Options.{read_options}
 use Rattle.fab_grammar.specs.Sends.{for_inject, for_write, read_target, read_remote, a_write, write_of, a_winject, winject_of}
-use Rattle.fab_words.specs.declared.fault.Fault.{Fault}
-use Rattle.fab_words.specs.declared.fault.Fault.TheVariants.{Words}
+use Rattle.fab_words.specs.declared.misread.Misread.{Misread}
+use Rattle.fab_words.specs.declared.misread.Misread.TheVariants.{Words}
 use Rattle.fab_words.specs.Bytes.{read_bytes}
-use Rattle.fab_words.specs.Faults.{◌&◌, map_ok}
+use Rattle.fab_words.specs.Misreads.{◌&◌, map_ok}
 use Rattle.fab_words.specs.Words.{read_number, read_up_to, read_index}
 use Rattle.fab_words.specs.Written.{is_word}
 use Rattle.fab_spell.specs.Elements.{values_word, count_word}
@@ -119,13 +119,13 @@ values_said atom num word values e =
     record { fetched = again.reads; fetched_word = again.word; n = values.1; alone = again.reads; alone_word = again.word }
 
 -- what the operand's three words say
-operand_said : (kind : Result (AtomicOp × Num) Fault) (word : List ℕ) (q : Operand) → operand_of kind word ≡ Ok q → (kind ≡ Ok q.0) × (read_values q.0.0 q.0.1 word ≡ Ok q.1)
+operand_said : (kind : Result (AtomicOp × Num) Misread) (word : List ℕ) (q : Operand) → operand_of kind word ≡ Ok q → (kind ≡ Ok q.0) × (read_values q.0.0 q.0.1 word ≡ Ok q.1)
 operand_said (Ok kind) word q e =
     let said = said_by (with_kind kind) (read_values kind.0 kind.1 word) q e in
-    subst (λ (p : Operand). (◌≡◌ {A = Result (AtomicOp × Num) Fault} (Ok kind) (Ok p.0)) × (read_values p.0.0 p.0.1 word ≡ Ok p.1)) said.2 (refl, said.1)
+    subst (λ (p : Operand). (◌≡◌ {A = Result (AtomicOp × Num) Misread} (Ok kind) (Ok p.0)) × (read_values p.0.0 p.0.1 word ≡ Ok p.1)) said.2 (refl, said.1)
 operand_said (Err fault) word q e = cc
 
-abbrev kind_words : List ℕ → List ℕ → Result (AtomicOp × Num) Fault
+abbrev kind_words : List ℕ → List ℕ → Result (AtomicOp × Num) Misread
 kind_words atom num = ok_or (atom_named atom) Words & ok_or (num_named num) Words
 
 request_said : (atom num word : List ℕ) (q : Operand) → read_operand atom num word ≡ Ok q → (kind_words atom num ≡ Ok q.0) × (read_values q.0.0 q.0.1 word ≡ Ok q.1)
@@ -137,7 +137,7 @@ operand_again : (kind : AtomicOp × Num) (word : List ℕ) (values : List ℕ ×
 unfolding read_operand
 operand_again kind word values e = rw ((atom_again kind.0).0, (num_again kind.1).0) (ap (map_ok (with_kind kind)) e)
 
-kind_same : (r : Result (AtomicOp × Num) Fault) (a b : AtomicOp × Num) → r ≡ Ok a → r ≡ Ok b → b ≡ a
+kind_same : (r : Result (AtomicOp × Num) Misread) (a b : AtomicOp × Num) → r ≡ Ok a → r ≡ Ok b → b ≡ a
 kind_same r a b e f = cc
 
 -- ---- lines, where one may name so many bytes or make room for them

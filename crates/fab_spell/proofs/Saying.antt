@@ -14,19 +14,19 @@ use Rattle.fab_base.specs.declared.script.LineOp.{LineOp}
 use Rattle.fab_base.specs.declared.script.Payload.{Payload}
 use Rattle.fab_base.specs.declared.status.Why.{Why}
 use Rattle.fab_base.specs.declared.status.Why.TheVariants as why
-use Rattle.fab_words.specs.declared.fault.Fault.{Fault}
-use Rattle.fab_words.specs.declared.fault.Fault.TheVariants.{Number}
+use Rattle.fab_words.specs.declared.misread.Misread.{Misread}
+use Rattle.fab_words.specs.declared.misread.Misread.TheVariants.{Number}
 use Rattle.fab_words.specs.Rows.{is_text, words_of}
 use Rattle.fab_words.specs.Words.{first_of, number_of, read_number, read_text}
 use Rattle.fab_words.specs.Written.{is_word}
-use Rattle.fab_words.specs.Faults.{map_ok, ◌&◌}
+use Rattle.fab_words.specs.Misreads.{map_ok, ◌&◌}
 use Rattle.fab_grammar.specs.declared.items.Item.{Item}
 use Rattle.fab_grammar.specs.declared.items.Item.TheVariants.{Peer, Does}
 use Rattle.fab_grammar.specs.declared.settings.Setting.{Setting}
 use Rattle.fab_grammar.specs.declared.settings.Setting.TheVariants.{Peers, Wish, Capabilities, Selective, File}
 use Rattle.fab_grammar.specs.declared.settings.Settings.{Settings}
-use Rattle.fab_grammar.specs.declared.verbs.Kind.{Kind}
-use Rattle.fab_grammar.specs.declared.verbs.Kind.TheVariants as kind
+use Rattle.fab_grammar.specs.declared.verbs.VerbKind.{VerbKind}
+use Rattle.fab_grammar.specs.declared.verbs.VerbKind.TheVariants as kind
 use Rattle.fab_grammar.specs.declared.verbs.Verb.{Verb}
 use Rattle.fab_grammar.specs.declared.verbs.Verb.TheVariants as verb
 use Rattle.fab_grammar.specs.Before.{Before, nothing, is_distinct, size_of}
@@ -98,7 +98,7 @@ any_id [] id = refl
 any_id (p ∷ ps) id = ap (λ b. eqb p.id id || b) (any_id ps id)
 
 -- a setting that is no payload file is none
-not_file : {A : Type 0} (f : A → Setting) (r : Result A Fault) (payload : Payload) → ((x : A) → f x ≡ File payload → ⊥) → map_ok f r ≡ Ok (File payload) → ⊥
+not_file : {A : Type 0} (f : A → Setting) (r : Result A Misread) (payload : Payload) → ((x : A) → f x ≡ File payload → ⊥) → map_ok f r ≡ Ok (File payload) → ⊥
 not_file f (Ok x) payload other e =
     let same : f x ≡ File payload = cc in
     other x same
@@ -111,7 +111,7 @@ number_read : (word : List ℕ) (n : ℕ) → read_number word ≡ Ok n → numb
 unfolding read_number
 number_read word n e = some_said (number_of word) Number n e
 
-file_said : (r : Result (ℕ × List ℕ) Fault) (payload : Payload) → map_ok a_file r ≡ Ok (File payload) → r ≡ Ok (payload.id, payload.name)
+file_said : (r : Result (ℕ × List ℕ) Misread) (payload : Payload) → map_ok a_file r ≡ Ok (File payload) → r ≡ Ok (payload.id, payload.name)
 file_said (Ok (id, name)) payload e =
     let same : record { id = id; name = name } ≡ payload = cc in
     ap (λ (p : Payload). Ok (p.id, p.name)) same
@@ -241,7 +241,7 @@ module _ (api : Api) where
         few = not_late (count + 1) late;
       }
 
-  setting_said : (before : Before) (count : ℕ) (verb : Verb) (args : List (List ℕ)) (said : Result Setting Fault) → Said before count → kind_of verb ≡ kind.Setting → list_all is_word args ≡ true → setting_of api verb args ≡ said → is_late (count + 1) ≡ false → is_set before verb args ≡ false → is_one_too_many before said ≡ false → is_refused api said ≡ false → Said (with_setting before said) (count + 1)
+  setting_said : (before : Before) (count : ℕ) (verb : Verb) (args : List (List ℕ)) (said : Result Setting Misread) → Said before count → kind_of verb ≡ kind.Setting → list_all is_word args ≡ true → setting_of api verb args ≡ said → is_late (count + 1) ≡ false → is_set before verb args ≡ false → is_one_too_many before said ≡ false → is_refused api said ≡ false → Said (with_setting before said) (count + 1)
   setting_said before count verb args (Err fault) s k w e late set many refused = idle before count s late
   setting_said before count verb args (Ok (File payload)) s k w e late set many refused =
       file_taken before count payload s (record { verb = verb; args = args; kind = k; words = w; reads = e }) (sym (file_declared verb args payload before e) ∙ set) many late
@@ -263,7 +263,7 @@ module _ (api : Api) where
       setting_said before count verb args said s k w refl (or_false (is_limit said) (is_late (count + 1)) limit.0).1 none.1.0 limit.1 none.1.1.1.1.1.0
 
   -- ---- a peer, and a line of one
-  peer_said : (before : Before) (count : ℕ) (said : Result ℕ Fault) → Said before count → is_late (count + 1) ≡ false → Said (with_peer before said) (count + 1)
+  peer_said : (before : Before) (count : ℕ) (said : Result ℕ Misread) → Said before count → is_late (count + 1) ≡ false → Said (with_peer before said) (count + 1)
   peer_said before count (Err fault) s late = idle before count s late
   peer_said before count (Ok k) s late =
       let more : length (before.items ++ Peer k ∷ []) ≡ length before.items + 1 = length-append before.items (Peer k ∷ []) in
@@ -284,7 +284,7 @@ module _ (api : Api) where
       let none = all_fail (peer_rules before (count + 1) args) e in
       peer_said before count (peer_of args) s (or_false (is_limit (peer_of args)) (is_late (count + 1)) none.1.1.1.1.0).1
 
-  call_said : (before : Before) (count : ℕ) (verb : Verb) (args : List (List ℕ)) (said : Result LineOp Fault) → Said before count → kind_of verb ≡ kind.Call → list_all is_word args ≡ true → op_of (most_bytes api) verb args ≡ said → is_late (count + 1) ≡ false → is_too_much api before said ≡ false → Said (with_call before (count + 1) said) (count + 1)
+  call_said : (before : Before) (count : ℕ) (verb : Verb) (args : List (List ℕ)) (said : Result LineOp Misread) → Said before count → kind_of verb ≡ kind.Call → list_all is_word args ≡ true → op_of (most_bytes api) verb args ≡ said → is_late (count + 1) ≡ false → is_too_much api before said ≡ false → Said (with_call before (count + 1) said) (count + 1)
   call_said before count verb args (Err fault) s k w e late much = idle before count s late
   call_said before count verb args (Ok op) s k w e late much =
       let line : Line = record { number = count + 1; op = op } in
@@ -310,7 +310,7 @@ module _ (api : Api) where
       call_said before count verb args said s k w refl (or_false (is_limit said) (is_late (count + 1)) limit.0).1 limit.1
 
   -- ---- a line
-  kind_kept : (before : Before) (count : ℕ) (k : Kind) (verb : Verb) (args : List (List ℕ)) → Said before count → kind_of verb ≡ k → list_all is_word args ≡ true → first_of (kind_rules k api before (count + 1) verb args) ≡ None → Said (with_kind k api before (count + 1) verb args) (count + 1)
+  kind_kept : (before : Before) (count : ℕ) (k : VerbKind) (verb : Verb) (args : List (List ℕ)) → Said before count → kind_of verb ≡ k → list_all is_word args ≡ true → first_of (kind_rules k api before (count + 1) verb args) ≡ None → Said (with_kind k api before (count + 1) verb args) (count + 1)
   kind_kept before count kind.Setting verb args s k w e = setting_kept before count verb args s k w e
   kind_kept before count kind.Peer verb args s k w e = peer_kept before count args s e
   kind_kept before count kind.Call verb args s k w e = call_kept before count verb args s k w e
@@ -321,7 +321,7 @@ module _ (api : Api) where
       kind_kept before count (kind_of verb) verb args s refl w e
 
 -- ---- which version the header names
-setting_version : (before : Before) (said : Result Setting Fault) → (with_setting before said).api ≡ before.api
+setting_version : (before : Before) (said : Result Setting Misread) → (with_setting before said).api ≡ before.api
 setting_version before (Ok (File payload)) = refl
 setting_version before (Ok (Peers n)) = refl
 setting_version before (Ok (Wish size n)) = refl
@@ -329,15 +329,15 @@ setting_version before (Ok (Capabilities caps)) = refl
 setting_version before (Ok Selective) = refl
 setting_version before (Err fault) = refl
 
-peer_version : (before : Before) (said : Result ℕ Fault) → (with_peer before said).api ≡ before.api
+peer_version : (before : Before) (said : Result ℕ Misread) → (with_peer before said).api ≡ before.api
 peer_version before (Ok k) = refl
 peer_version before (Err fault) = refl
 
-call_version : (before : Before) (number : ℕ) (said : Result LineOp Fault) → (with_call before number said).api ≡ before.api
+call_version : (before : Before) (number : ℕ) (said : Result LineOp Misread) → (with_call before number said).api ≡ before.api
 call_version before number (Ok op) = refl
 call_version before number (Err fault) = refl
 
-kind_version : (api : Api) (before : Before) (number : ℕ) (k : Kind) (verb : Verb) (args : List (List ℕ)) → (with_kind k api before number verb args).api ≡ before.api
+kind_version : (api : Api) (before : Before) (number : ℕ) (k : VerbKind) (verb : Verb) (args : List (List ℕ)) → (with_kind k api before number verb args).api ≡ before.api
 kind_version api before number kind.Setting verb args = setting_version before (setting_of api verb args)
 kind_version api before number kind.Peer verb args = peer_version before (peer_of args)
 kind_version api before number kind.Call verb args = call_version before number (op_of (most_bytes api) verb args)

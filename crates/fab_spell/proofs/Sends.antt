@@ -9,7 +9,7 @@ use Rattle.fab_grammar.specs.Lines.{op_of}
 use Rattle.fab_grammar.specs.Options.{read_options}
 use Rattle.fab_grammar.specs.Sends.{for_send, for_inject, read_to, read_tagged, a_send, send_of, a_tsend, tsend_of, an_inject, inject_of, a_tinject, tinject_of}
 use Rattle.fab_words.specs.Bytes.{read_bytes}
-use Rattle.fab_words.specs.Faults.{◌&◌}
+use Rattle.fab_words.specs.Misreads.{◌&◌}
 use Rattle.fab_words.specs.Words.{read_number, read_index}
 use Rattle.fab_words.specs.Written.{is_word}
 use Rattle.fab_spell.specs.Spelling.{verb_for, args_for, imm_words, level_words, completion_words, fence_words}

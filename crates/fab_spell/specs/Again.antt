@@ -5,7 +5,7 @@ use Rattle.std.specs.Prelude.{◌≡◌, ℕ, true, List, Ok}
 use Rattle.std.specs.List.{list_all}
 use Rattle.fab_base.specs.declared.script.LineOp.{LineOp}
 use Rattle.fab_words.specs.Written.{is_word}
-use Rattle.fab_grammar.specs.declared.verbs.Kind.TheVariants as kind
+use Rattle.fab_grammar.specs.declared.verbs.VerbKind.TheVariants as kind
 use Rattle.fab_grammar.specs.declared.verbs.Verb.{Verb}
 use Rattle.fab_grammar.specs.Lines.{op_of}
 use Rattle.fab_grammar.specs.Verbs.{kind_of}

@@ -15,7 +15,7 @@ use Rattle.fab_model.specs.Negotiation.{all_caps}
 use Rattle.fab_words.specs.Written.{is_word}
 use Rattle.fab_grammar.specs.declared.settings.Setting.{Setting}
 use Rattle.fab_grammar.specs.declared.settings.Setting.TheVariants.{Peers, Wish, Capabilities, Selective, File}
-use Rattle.fab_grammar.specs.declared.verbs.Kind.TheVariants as kind
+use Rattle.fab_grammar.specs.declared.verbs.VerbKind.TheVariants as kind
 use Rattle.fab_grammar.specs.declared.verbs.Verb.{Verb}
 use Rattle.fab_grammar.specs.declared.verbs.Verb.TheVariants as verb
 use Rattle.fab_grammar.specs.Capabilities.{cap_name}

@@ -5,6 +5,7 @@
 --     Kept                    the merge rule and the rule of replies, for one peer
 --     Ruled                   all of them, with what each seat's view knows
 use Rattle.std.specs.Prelude.{◌≡◌, ℕ, ◌+◌, ◌*◌, ◌%◌, ◌<◌, ◌≤◌, ◌⊎◌, max, Bool, true, List, [], ◌∷◌, map, length, take, slice_index, Option, Some, None}
+use Rattle.fab_base.specs.declared.limits.TheConstants.{FRAME_BYTES}
 use mathlib.Core.Option as maybe
 use mathlib.Core.Option.{some}
 use lib.ListN.{get_elem?}
@@ -50,15 +51,15 @@ abbrev pub IsCell : Slot → Type 0
 IsCell (Cell c) = Unit {0}
 IsCell (Pool b) = ⊥
 
--- a buffer of 4,096 bytes
+-- a buffer for a whole frame
 abbrev pub IsBuf : Slot → Type 0
 IsBuf (Cell c) = ⊥
-IsBuf (Pool b) = length b ≡ 4096
+IsBuf (Pool b) = length b ≡ FRAME_BYTES
 
 -- the buffer begins with the frame's bytes
 abbrev pub Fills : Sent → Slot → Type 0
 Fills x (Cell c) = ⊥
-Fills x (Pool b) = (length b ≡ 4096) × (take x.frame.head.len b ≡ x.frame.bytes)
+Fills x (Pool b) = (length b ≡ FRAME_BYTES) × (take x.frame.head.len b ≡ x.frame.bytes)
 
 abbrev pub CellAt : Home → Type 0
 CellAt home = (y : Slot) × IsCell y × (home ≡ some (some y))

@@ -13,7 +13,7 @@ pub struct Command {
     pub inline: [u8; 64],
 }
 
-/// What a place of the table holds: a lane's cell has a command, a pool slot a buffer of 4,096 bytes.
+/// What a place of the table holds: a lane's cell has a command, a pool slot a buffer of [`FRAME_BYTES`](fab_base::FRAME_BYTES) bytes.
 #[derive(Drop)]
 pub enum Slot {
     Cell(Command),

@@ -31,5 +31,5 @@ mod steps;
 pub use fabric::{Fabric, PeerSeat};
 pub use kinds::{Command, In, Layout, Out, Part, Sent, Slot, View};
 pub use laws::law_lane_rule;
-pub use making::{SLOT_BYTES, blank};
+pub use making::blank;
 pub use rule::LaneRule;

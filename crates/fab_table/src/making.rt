@@ -8,11 +8,8 @@ ghost use Rattle.fab_table.specs.declared.kinds.Slot.TheVariants.{Pool};
 use crate::fabric::{Fabric, PeerSeat};
 use crate::kinds::{Command, Layout, Slot};
 use atomic_table::Table;
-use fab_base::{Ack, Buf, FrameHead, ItemHead, Kind, NoMemory, Outcome};
+use fab_base::{Ack, Buf, FRAME_BYTES, FrameHead, ItemHead, Kind, NoMemory, Outcome};
 use std::alloc::Global;
-
-/// How many bytes a slot of a pool has.
-pub const SLOT_BYTES: u64 = 4096;
 
 /// A command of no frame.
 pub fn blank() -> Command
@@ -57,7 +54,7 @@ fn places(alloc: Global, cells: usize, slots: usize) -> Result<Vec<Slot>, NoMemo
         all.push(Slot::Cell(blank()))?;
     }
     for _ in 0..slots {
-        all.push(Slot::Pool(Buf::zeros(alloc, SLOT_BYTES)?))?;
+        all.push(Slot::Pool(Buf::zeros(alloc, u64::from(FRAME_BYTES))?))?;
     }
     Ok(all)
 }

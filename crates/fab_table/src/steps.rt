@@ -2,6 +2,7 @@
 //!
 //! `at` is the place of the peer's part in the seat's view, `me` the peer's number.
 ghost use Rattle.std.specs.Prelude.{◌≡◌, ◌≢◌, ℕ, ◌+◌, ◌*◌, ◌<◌, ◌≤◌, ◌^◌, true, false, List, [], ◌∷◌, length, None, Some};
+ghost use Rattle.fab_base.specs.declared.limits.TheConstants.{FRAME_BYTES};
 ghost use Rattle.atomic_table.specs.Table.{rest};
 ghost use Rattle.fab_wire.specs.Frames.{last_head, MayCome};
 ghost use Rattle.fab_table.specs.declared.kinds.Command.{Command};
@@ -106,7 +107,7 @@ impl Fabric {
         requires writing { (out_of seat.old at dest).writing ≡ true }
         requires count { (put ≡ length (out_of seat.old at dest).posted) × (put < 2 ^ 62) }
         requires slot { (q : ℕ) × (c : Command) × (b : List ℕ) × (carried seat.old ≡ (slot_home (view_of_seat seat.old) at q, Pool b) ∷ (next_cell (view_of_seat seat.old) at dest, Cell c) ∷ rest (rest (carried seat.old)))
-            × ((out_of seat.old at dest).claim ≡ Some q) × (c.slot ≡ Some q) × (length b ≡ 4096)
+            × ((out_of seat.old at dest).claim ≡ Some q) × (c.slot ≡ Some q) × (length b ≡ FRAME_BYTES)
             × (c.number ≡ greatest 0 (part_of seat.old at).moves + 1)
             × MayCome (last_head None (frames_of (out_of seat.old at dest).posted)) (said_pooled c b).frame
             × Repays (out_of seat.old at dest) (in_of seat.old at dest) c.head }

@@ -9,19 +9,20 @@
 --     IsItem item               the item has as many bytes as its head names
 use Rattle.std.specs.Prelude.{◌≡◌, ℕ, zero, suc, ◌+◌, ◌-◌, ◌/◌, List, [], ◌∷◌, min, max, length, map, take, drop, Option, Some, None}
 use Rattle.std.specs.List.{flat_map}
+use Rattle.fab_base.specs.declared.limits.TheConstants.{FRAME_BYTES}
 use Rattle.fab_base.specs.declared.frames.FrameHead.{FrameHead}
 use Rattle.fab_base.specs.declared.frames.Frame.{Frame}
 use Rattle.fab_base.specs.declared.items.Item.{Item}
 use Rattle.fab_base.specs.declared.items.ItemHead.{ItemHead}
 use Rattle.fab_wire.specs.Frames.{frame, IsLast}
 
--- 4,096 bytes make a frame, the rest another; no bytes make one frame
+-- FRAME_BYTES make a frame, the rest another; no bytes make one frame
 abbrev pub frame_count : ℕ → ℕ
-frame_count bytes = max 1 ((bytes + 4095) / 4096)
+frame_count bytes = max 1 ((bytes + (FRAME_BYTES - 1)) / FRAME_BYTES)
 
 abbrev pub heads_from : ItemHead → ℕ → ℕ → List FrameHead
 heads_from item from zero = []
-heads_from item from (suc n) = record { item = item; from = from; len = min 4096 (item.total - from) } ∷ heads_from item (from + 4096) n
+heads_from item from (suc n) = record { item = item; from = from; len = min FRAME_BYTES (item.total - from) } ∷ heads_from item (from + FRAME_BYTES) n
 
 -- the heads of the frames still to come, where the next one begins at this byte
 abbrev pub heads_at : ItemHead → Option ℕ → List FrameHead

@@ -9,6 +9,7 @@
 --     MayCome before f         so does the frame, and its bytes have the length that its head names
 --     IsLane before xs         each frame of the list may come behind those before it
 use Rattle.std.specs.Prelude.{◌≡◌, ◌≢◌, ℕ, ◌+◌, ◌-◌, ◌%◌, ◌≤◌, ◌⊎◌, List, [], ◌∷◌, min, length, Option, Some, None, IsTrue, IsNone, IsSomeAnd}
+use Rattle.fab_base.specs.declared.limits.TheConstants.{FRAME_BYTES, INJECT_BYTES}
 use Rattle.fab_base.specs.declared.frames.FrameHead.{FrameHead}
 use Rattle.fab_base.specs.declared.frames.Frame.{Frame}
 use Rattle.fab_base.specs.declared.frames.FrameRef.{FrameRef}
@@ -56,7 +57,7 @@ pub record IsSoundAtomic (item : ItemHead) (asked : Atom) : Type 0 where
   pub of_form : IsTrue (is_of_form asked.op asked.form)
   pub aligned : item.at % element_size asked.num ≡ 0
   pub whole : item.count % element_size asked.num ≡ 0
-  pub few : item.count ≤ 4096
+  pub few : item.count ≤ INJECT_BYTES
   pub bytes : item.total ≡ operand_bytes asked.op item.count + compare_bytes asked.form item.count
 
 -- an atomic request, and no other item, has an atom; a reply that refuses has no bytes
@@ -76,7 +77,7 @@ Follows (Some p) h = (IsLast p × (h.from ≡ 0)) ⊎ ((p.item ≡ h.item) × (p
 
 -- the frame continues by cutting a lane that ends with this head
 abbrev pub Continues : Option FrameHead → FrameHead → Type 0
-Continues before h = Follows before h × (h.len ≡ min 4096 (h.item.total - h.from)) × IsSound h.item
+Continues before h = Follows before h × (h.len ≡ min FRAME_BYTES (h.item.total - h.from)) × IsSound h.item
 
 -- the frame may come next: its bytes have the length that its head names, too
 abbrev pub MayCome : Option FrameHead → Frame → Type 0

@@ -2,11 +2,8 @@
 ghost use Rattle.std.specs.Prelude.{◌≡◌, ◌∷◌, [], MatchOption};
 ghost use Rattle.fab_wire.specs.Cut.{cut_heads};
 
-use fab_base::{FrameHead, ItemHead};
+use fab_base::{FRAME_BYTES, FrameHead, ItemHead};
 use std::marker::Model;
-
-/// How many bytes a frame has, but for the last one of its item.
-const FRAME_BYTES: u32 = 4096;
 
 /// The frames of an item that are still to come, in order. Contracts see it as the list of their
 /// heads. It keeps nothing of the item's size.

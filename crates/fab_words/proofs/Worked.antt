@@ -1,8 +1,8 @@
 -- Words whose meaning is worked out by the definitions alone.
 use Rattle.std.proofs.Common.{◌≡◌, Some, None, refl}
 use Rattle.std.specs.Prelude.{codes}
-use Rattle.fab_words.specs.declared.fault.Fault.TheVariants.{Words, Number}
-use Rattle.fab_words.specs.Faults.{first_fault}
+use Rattle.fab_words.specs.declared.misread.Misread.TheVariants.{Words, Number}
+use Rattle.fab_words.specs.Misreads.{first_misread}
 use Rattle.fab_words.specs.Words.{numeral_of, number_of}
 
 -- the most hexadecimal digits, and one more
@@ -15,5 +15,5 @@ unfolding number_of numeral_of
 one_more = refl
 
 -- a word of wrong form is told before one that is no number
-words_first : first_fault Number Words ≡ Words
+words_first : first_misread Number Words ≡ Words
 words_first = refl

@@ -1,5 +1,5 @@
 pub mod Bytes
-pub mod Faults
+pub mod Misreads
 pub mod Rows
 pub mod Words
 pub mod Written

@@ -4,9 +4,9 @@
 --     read_index word, read_source word      what stands in these places
 use Rattle.std.specs.Prelude.{ℕ, ◌^◌, Bool, ◌&&◌, nat_lt, nat_le, if◌then◌else◌, List, [], ◌∷◌, length, drop, take, codes, bytes_eq, Option, Some, None, option_and_then, Result, Ok, Err, ok_or}
 use Rattle.std.specs.List.{list_all}
-use Rattle.fab_words.specs.declared.fault.Fault.{Fault}
-use Rattle.fab_words.specs.Faults.{map_ok}
-use Rattle.fab_words.specs.declared.fault.Fault.TheVariants.{Words, Number, Limit}
+use Rattle.fab_words.specs.declared.misread.Misread.{Misread}
+use Rattle.fab_words.specs.Misreads.{map_ok}
+use Rattle.fab_words.specs.declared.misread.Misread.TheVariants.{Words, Number, Limit}
 use Rattle.std.specs.Char.{is_digit}
 use Rattle.std.specs.Str.{is_utf8}
 use Rattle.std.specs.Str.Parse.{digits_value}
@@ -40,24 +40,24 @@ unfoldable pub number_of : List ℕ → Option ℕ
 number_of word = if begins_with (codes "0x") word then numeral_of 16 16 (drop 2 word) else numeral_of 10 20 word
 
 -- a number in a number's place, at most so much
-unfoldable pub read_number : List ℕ → Result ℕ Fault
+unfoldable pub read_number : List ℕ → Result ℕ Misread
 read_number word = ok_or (number_of word) Number
 
-abbrev pub within : ℕ → Result ℕ Fault → Result ℕ Fault
+abbrev pub within : ℕ → Result ℕ Misread → Result ℕ Misread
 within most (Ok n) = if nat_le n most then Ok n else Err Limit
-within most (Err fault) = Err fault
+within most (Err misread) = Err misread
 
-unfoldable pub read_up_to : ℕ → List ℕ → Result ℕ Fault
+unfoldable pub read_up_to : ℕ → List ℕ → Result ℕ Misread
 read_up_to most word = within most (read_number word)
 
 -- an index is below 2 ^ 32
-unfoldable pub read_index : List ℕ → Result ℕ Fault
+unfoldable pub read_index : List ℕ → Result ℕ Misread
 read_index word = read_up_to 4294967295 word
 
 -- `*`, or an index
-unfoldable pub read_source : List ℕ → Result (Option ℕ) Fault
+unfoldable pub read_source : List ℕ → Result (Option ℕ) Misread
 read_source word = if bytes_eq word (codes "*") then Ok None else map_ok Some (read_index word)
 
 -- a text, as it is written
-unfoldable pub read_text : List ℕ → Result (List ℕ) Fault
+unfoldable pub read_text : List ℕ → Result (List ℕ) Misread
 read_text word = if is_utf8 word then Ok word else Err Words

@@ -3,12 +3,12 @@ ghost use Rattle.std.specs.Prelude.{◌≡◌, ◌≢◌, [], ◌∷◌, length,
 ghost use Rattle.std.specs.List.{slice_split};
 ghost use Rattle.fab_base.specs.declared.script.BytesWord.TheVariants.{Text, Zero};
 ghost use Rattle.fab_words.specs.Bytes.{few_bytes, of_hex, is_colon, file_range, read_bytes, bytes_size};
-ghost use Rattle.fab_words.specs.Faults.{map_ok};
+ghost use Rattle.fab_words.specs.Misreads.{map_ok};
 ghost use Rattle.fab_words.specs.Words.{read_up_to};
 ghost use Rattle.hex.specs.Hex.{decode_of};
 
 use crate::cut::first_part;
-use crate::fault::{Fault, Read, both};
+use crate::misread::{Misread, Read, both};
 use crate::words::{read_number, read_up_to};
 use fab_base::{Buf, BytesWord, NoMemory};
 use hex::FromHexError;
@@ -28,7 +28,7 @@ pub fn read_bytes(alloc: Global, most: u32, word: &[u8]) -> Result<Read<BytesWor
     } else if let Some(range) = word.strip_prefix(b"file:") {
         Ok(read_range(most, range))
     } else {
-        Ok(Err(Fault::Words))
+        Ok(Err(Misread::Words))
     }
 }
 
@@ -37,7 +37,7 @@ fn read_literal(alloc: Global, most: u32, bytes: &[u8]) -> Result<Read<BytesWord
     ensures { IfOk result (λ read. read ≡ few_bytes most bytes.now (Text bytes.now)) }
 {
     if bytes.len() > most as usize {
-        return Ok(Err(Fault::Limit));
+        return Ok(Err(Misread::Limit));
     }
     Ok(Ok(BytesWord::Text(Buf::copy(alloc, bytes)?)))
 }
@@ -47,10 +47,10 @@ fn read_hex(alloc: Global, most: u32, digits: &[u8]) -> Result<Read<BytesWord>, 
     ensures { IfOk result (λ read. read ≡ of_hex most (decode_of digits.now)) }
 {
     match hex::decode(alloc, digits) {
-        Ok(bytes) if bytes.len() > most as usize => Ok(Err(Fault::Limit)),
+        Ok(bytes) if bytes.len() > most as usize => Ok(Err(Misread::Limit)),
         Ok(bytes) => Ok(Ok(BytesWord::Hex(Buf::from_vec(bytes)))),
         Err(FromHexError::OutOfMemory) => Err(NoMemory),
-        Err(_) => Ok(Err(Fault::Words)),
+        Err(_) => Ok(Err(Misread::Words)),
     }
 }
 
@@ -80,7 +80,7 @@ fn three_parts(text: &[u8]) -> Option<(&[u8], &[u8], &[u8])>
 fn read_range(most: u32, range: &[u8]) -> Read<BytesWord>
     ensures { result ≡ file_range most (slice_split is_colon range.now) }
 {
-    let (id, at, len) = three_parts(range).ok_or(Fault::Words)?;
+    let (id, at, len) = three_parts(range).ok_or(Misread::Words)?;
     let ((id, at), len) = both(
         both(read_number(id), read_number(at)),
         read_up_to(most, len),

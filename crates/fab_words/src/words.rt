@@ -3,7 +3,7 @@ ghost use Rattle.std.specs.Prelude.{◌≡◌, ◌<◌, ◌≤◌, [], ◌∷◌
 ghost use Rattle.fab_words.specs.Words.{numeral_of, number_of, read_number, read_up_to, read_index, read_source, read_text};
 
 use crate::cut::cut_word;
-use crate::fault::{Fault, Read};
+use crate::misread::{Misread, Read};
 use fab_base::{NoMemory, Text};
 use std::alloc::Global;
 use std::marker::Model;
@@ -202,28 +202,28 @@ pub fn number(word: &[u8]) -> Option<u64>
 
 /// A number in a number's place.
 #[tactic(auto, unfolding(crate::specs::Words::read_number))]
-pub fn read_number(word: &[u8]) -> Result<u64, Fault>
+pub fn read_number(word: &[u8]) -> Result<u64, Misread>
     ensures { result ≡ read_number word.now }
 {
-    number(word).ok_or(Fault::Number)
+    number(word).ok_or(Misread::Number)
 }
 
 /// A number of at most `most`.
 #[tactic(auto, unfolding(crate::specs::Words::read_up_to))]
-pub fn read_up_to(most: u32, word: &[u8]) -> Result<u32, Fault>
+pub fn read_up_to(most: u32, word: &[u8]) -> Result<u32, Misread>
     ensures { result ≡ read_up_to most word.now }
 {
     let number = read_number(word)?;
     if number <= u64::from(most) {
         Ok(number as u32)
     } else {
-        Err(Fault::Limit)
+        Err(Misread::Limit)
     }
 }
 
 /// An index of the address vector.
 #[tactic(auto, unfolding(crate::specs::Words::read_index))]
-pub fn read_index(word: &[u8]) -> Result<u32, Fault>
+pub fn read_index(word: &[u8]) -> Result<u32, Misread>
     ensures { result ≡ read_index word.now }
 {
     read_up_to(u32::MAX, word)
@@ -231,7 +231,7 @@ pub fn read_index(word: &[u8]) -> Result<u32, Fault>
 
 /// `*`, or an index of the address vector.
 #[tactic(auto, unfolding(crate::specs::Words::read_source))]
-pub fn read_source(word: &[u8]) -> Result<Option<u32>, Fault>
+pub fn read_source(word: &[u8]) -> Result<Option<u32>, Misread>
     ensures { result ≡ read_source word.now }
 {
     if is(word, "*") {
@@ -249,6 +249,6 @@ pub fn read_text(alloc: Global, word: &[u8]) -> Result<Read<Text>, NoMemory>
     match str::from_utf8(word) {
         Ok(text) => Ok(Ok(Text::copy(alloc, text)?)),
         // Not reached: each byte of a line of text is a character.
-        Err(_) => Ok(Err(Fault::Words)),
+        Err(_) => Ok(Err(Misread::Words)),
     }
 }

@@ -3,6 +3,7 @@
 --     payload_file words     the file whose first bytes are sent; `gen` names none
 --     IsWithin workload      its numbers are those that the commands take
 use Rattle.std.specs.Prelude.{ℕ, Bool, ◌*◌, ◌<◌, ◌≤◌, ◌^◌, ◌&&◌, ◌||◌, nat_le, if◌then◌else◌, List, [], ◌∷◌, bytes_eq, codes, Option, Some, None}
+use Rattle.fab_base.specs.declared.limits.TheConstants.{MESSAGE_BYTES_ONE, SCRIPT_BYTES_ONE}
 use Rattle.fab_words.specs.Words.{numeral_of, only_if, ◌>>=◌}
 use Rattle.fab_workloads.specs.declared.workload.Workload.{Workload}
 use Rattle.fab_workloads.specs.declared.workload.Workload.TheVariants.{Pingpong, Bandwidth, Generated}
@@ -13,15 +14,15 @@ number_within least most word = numeral_of 10 20 word >>= λ n. only_if (nat_le 
 
 -- at most 67,108,864 bytes in all
 abbrev pub are_few : ℕ → ℕ → Bool
-are_few size count = nat_le (size * count) 67_108_864
+are_few size count = nat_le (size * count) SCRIPT_BYTES_ONE
 
 abbrev pub pingpong_of : List ℕ → List ℕ → Option Workload
 pingpong_of size count =
-    number_within 0 16_777_216 size >>= λ s. number_within 1 10_000 count >>= λ c. only_if (are_few s c) (Pingpong s c)
+    number_within 0 MESSAGE_BYTES_ONE size >>= λ s. number_within 1 10_000 count >>= λ c. only_if (are_few s c) (Pingpong s c)
 
 abbrev pub bandwidth_of : List ℕ → List ℕ → List ℕ → Option Workload
 bandwidth_of size count window =
-    number_within 0 16_777_216 size >>= λ s. number_within 1 10_000 count >>= λ c. number_within 1 256 window >>= λ w.
+    number_within 0 MESSAGE_BYTES_ONE size >>= λ s. number_within 1 10_000 count >>= λ c. number_within 1 256 window >>= λ w.
     only_if (are_few s c) (Bandwidth s c w)
 
 abbrev pub generated_of : List ℕ → List ℕ → List ℕ → Option Workload
@@ -40,6 +41,6 @@ payload_file (verb ∷ file ∷ words) = if bytes_eq verb (codes "pingpong") || 
 payload_file _ = None
 
 abbrev pub IsWithin : Workload → Type 0
-IsWithin (Pingpong size count) = (size ≤ 16_777_216) × (1 ≤ count) × (count ≤ 10_000) × (size * count ≤ 67_108_864)
-IsWithin (Bandwidth size count window) = (size ≤ 16_777_216) × (1 ≤ count) × (count ≤ 10_000) × (1 ≤ window) × (window ≤ 256) × (size * count ≤ 67_108_864)
+IsWithin (Pingpong size count) = (size ≤ MESSAGE_BYTES_ONE) × (1 ≤ count) × (count ≤ 10_000) × (size * count ≤ SCRIPT_BYTES_ONE)
+IsWithin (Bandwidth size count window) = (size ≤ MESSAGE_BYTES_ONE) × (1 ≤ count) × (count ≤ 10_000) × (1 ≤ window) × (window ≤ 256) × (size * count ≤ SCRIPT_BYTES_ONE)
 IsWithin (Generated number peers messages) = (number < 2 ^ 64) × (1 ≤ peers) × (peers ≤ 32) × (messages ≤ 8_192)

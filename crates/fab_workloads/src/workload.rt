@@ -2,7 +2,7 @@
 ghost use Rattle.std.specs.Prelude.{◌≡◌, ◌≤◌, IfSome, option_map};
 ghost use Rattle.fab_workloads.specs.Commands.{are_few, number_within, pingpong_of, bandwidth_of, generated_of, workload_of, payload_file, IsWithin};
 
-use fab_base::Text;
+use fab_base::{MESSAGE_BYTES_ONE, SCRIPT_BYTES_ONE, Text};
 use fab_words::numeral;
 
 /// What a command runs. Messages have `size` bytes, at most 16,777,216; `count` is 1 to 10,000, and all messages of one
@@ -28,14 +28,8 @@ pub enum Workload {
     },
 }
 
-/// The greatest size of a message, in bytes.
-const SIZE_MAX: u32 = 16_777_216;
-
 /// The most messages of one direction.
 const COUNT_MAX: u32 = 10_000;
-
-/// The most bytes of all messages of one direction.
-const BYTES_MAX: u64 = 67_108_864;
 
 /// The number from `least` to `most` that the word says in one to twenty decimal digits; `None` where it says none such.
 pub fn number_within(least: u32, most: u32, word: &[u8]) -> Option<u32>
@@ -54,7 +48,7 @@ pub fn number_within(least: u32, most: u32, word: &[u8]) -> Option<u32>
 fn are_few(size: u32, count: u32) -> bool
     ensures { result ≡ are_few size count }
 {
-    u64::from(size) * u64::from(count) <= BYTES_MAX
+    u64::from(size) * u64::from(count) <= SCRIPT_BYTES_ONE
 }
 
 /// `SIZE COUNT`
@@ -62,7 +56,7 @@ fn pingpong_of(size: &[u8], count: &[u8]) -> Option<Workload>
     ensures value { result ≡ pingpong_of size.now count.now }
     ensures within { IfSome result IsWithin }
 {
-    let size = number_within(0, SIZE_MAX, size)?;
+    let size = number_within(0, MESSAGE_BYTES_ONE, size)?;
     let count = number_within(1, COUNT_MAX, count)?;
     if !are_few(size, count) {
         return None;
@@ -75,7 +69,7 @@ fn bandwidth_of(size: &[u8], count: &[u8], window: &[u8]) -> Option<Workload>
     ensures value { result ≡ bandwidth_of size.now count.now window.now }
     ensures within { IfSome result IsWithin }
 {
-    let size = number_within(0, SIZE_MAX, size)?;
+    let size = number_within(0, MESSAGE_BYTES_ONE, size)?;
     let count = number_within(1, COUNT_MAX, count)?;
     let window = number_within(1, 256, window)?;
     if !are_few(size, count) {

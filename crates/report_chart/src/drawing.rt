@@ -2,7 +2,7 @@
 ghost use Rattle.std.specs.Prelude.{◌≡◌, IfOk, IfErr};
 ghost use Rattle.report_chart.specs.Charts.{is_lawful, IsLawful, IsRefused};
 
-use crate::refused::Refused;
+use crate::not_drawn::NotDrawn;
 use fab_base::{Bound, NoMemory};
 use fab_chart::chart;
 use fab_replay::{Verdict, check, order_of, read_schedule};
@@ -26,13 +26,13 @@ fn is_lawful(verdict: Verdict) -> bool
 }
 
 /// The chart of this text as a report of the script, where the checker calls it lawful.
-pub fn draw(alloc: Global, bound: &Bound, text: &[u8]) -> Result<String, Refused>
+pub fn draw(alloc: Global, bound: &Bound, text: &[u8]) -> Result<String, NotDrawn>
     ensures lawful { IfOk result (λ _. IsLawful bound.now text.now) }
     ensures refused { IfErr result (λ refused. IsRefused bound.now text.now refused) }
 {
     let verdict = check(alloc, bound, text)?;
     if !is_lawful(verdict) {
-        return Err(Refused::Unlawful(verdict.line(alloc)?));
+        return Err(NotDrawn::Unlawful(verdict.line(alloc)?));
     }
     Ok(chart_of(alloc, bound, text)?)
 }

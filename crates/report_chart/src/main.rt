@@ -7,35 +7,35 @@
 
 mod drawing;
 mod loading;
-mod refused;
+mod not_drawn;
 
 use drawing::draw;
 use fab_base::{NoMemory, Text};
 use loading::{load, load_script};
-use refused::Refused;
+use not_drawn::NotDrawn;
 use std::process::ExitCode;
 use std::rt::{Env, Files};
 
 /// The two files, where the words are as many.
-fn files_of<R: Env + AllocGlobal>(rt: &R) -> Result<(Text, Text), Refused> {
+fn files_of<R: Env + AllocGlobal>(rt: &R) -> Result<(Text, Text), NotDrawn> {
     let Ok(args) = std::env::args(rt) else {
-        return Err(Refused::Usage);
+        return Err(NotDrawn::Usage);
     };
     let mut words = Vec::new(rt.alloc());
     for arg in args.skip(1) {
         let word = Text::copy(rt.alloc(), arg.as_str())?;
         let Ok(()) = words.push(word) else {
-            return Err(Refused::NoMemory);
+            return Err(NotDrawn::NoMemory);
         };
     }
     let (Some(trace), Some(file), None) = (words.pop(), words.pop(), words.pop()) else {
-        return Err(Refused::Usage);
+        return Err(NotDrawn::Usage);
     };
     Ok((file, trace))
 }
 
 /// The chart of the report, where it is that of a lawful run of the script.
-fn chart<R: Env + Files + AllocGlobal>(rt: &R) -> Result<String, Refused> {
+fn chart<R: Env + Files + AllocGlobal>(rt: &R) -> Result<String, NotDrawn> {
     let (file, trace) = files_of(rt)?;
     let bound = load_script(rt, &file)?;
     let text = load(rt, &trace)?;
@@ -47,7 +47,7 @@ fn main(rt: HostRuntime) -> ExitCode {
     let refused = match chart(&rt) {
         Ok(chart) => match print!(rt; "{}", chart) {
             Ok(()) => return ExitCode::SUCCESS,
-            Err(_) => Refused::Unwritten,
+            Err(_) => NotDrawn::Unwritten,
         },
         Err(refused) => refused,
     };

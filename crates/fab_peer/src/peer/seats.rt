@@ -2,7 +2,7 @@
 ghost use Rattle.std.specs.Prelude.{◌≡◌};
 ghost use Rattle.fab_peer.specs.Turns.{told};
 
-use crate::calls::Calls;
+use crate::calls::LineCalls;
 use crate::peer::Peer;
 use fab_base::{Line, LineResult, Step};
 use fab_kept::KeptList;
@@ -18,7 +18,7 @@ pub struct Unseated {
     alloc: Global,
 }
 
-impl<E: Calls> Peer<E> {
+impl<E: LineCalls> Peer<E> {
     /// Gives the endpoint up, to go on over another. It takes no memory.
     pub fn unseat(self) -> (Unseated, E)
         ensures endpoint { result.1 ≡ self.endpoint }
@@ -51,7 +51,7 @@ impl<E: Calls> Peer<E> {
 
 impl Unseated {
     /// Goes on over this endpoint. It takes no memory.
-    pub fn reseat<E: Calls>(self, endpoint: E) -> Peer<E>
+    pub fn reseat<E: LineCalls>(self, endpoint: E) -> Peer<E>
         ensures endpoint { result.endpoint ≡ endpoint }
         ensures told { told E.seen result ≡ record {
           seen = E.seen endpoint;

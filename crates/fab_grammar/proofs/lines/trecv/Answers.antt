@@ -1,7 +1,7 @@
 use Rattle.std.proofs.Common.{◌≡◌, sym, ap, ◌∙◌}
 use Rattle.std.specs.Prelude.{Err}
 use Rattle.std.proofs.lemmas.Result.{err_from_is_err_and}
-use Rattle.fab_words.specs.Faults.{◌&◌}
+use Rattle.fab_words.specs.Misreads.{◌&◌}
 use Rattle.fab_grammar.specs.Lines.{trecv_of}
 use Rattle.fab_words.specs.Words.{read_number, read_source, read_up_to}
 use Rattle.fab_grammar.proofs.LineLemmas.{trecv_fault}

@@ -1,10 +1,10 @@
 //! What is wrong with the words of a line.
 ghost use Rattle.std.specs.Prelude.{◌≡◌};
-ghost use Rattle.fab_words.specs.Faults.{first_fault, ◌&◌};
+ghost use Rattle.fab_words.specs.Misreads.{first_misread, ◌&◌};
 
 /// What is wrong with a word, or with the words of a line. The earlier one goes before the later one.
 #[derive(Clone, Copy, Drop)]
-pub enum Fault {
+pub enum Misread {
     /// A word is missing, is one too many, or has the wrong form.
     Words,
     /// A word in a number's place is no number.
@@ -14,27 +14,27 @@ pub enum Fault {
 }
 
 /// What words say, or what is wrong with them.
-pub type Read<T> = Result<T, Fault>;
+pub type Read<T> = Result<T, Misread>;
 
-impl Fault {
-    fn first(self, other: Fault) -> Fault
-        ensures { result ≡ first_fault self other }
+impl Misread {
+    fn first(self, other: Misread) -> Misread
+        ensures { result ≡ first_misread self other }
     {
         match (self, other) {
-            (Fault::Words, _) | (_, Fault::Words) => Fault::Words,
-            (Fault::Number, _) | (_, Fault::Number) => Fault::Number,
-            (Fault::Limit, Fault::Limit) => Fault::Limit,
+            (Misread::Words, _) | (_, Misread::Words) => Misread::Words,
+            (Misread::Number, _) | (_, Misread::Number) => Misread::Number,
+            (Misread::Limit, Misread::Limit) => Misread::Limit,
         }
     }
 }
 
-/// What both say, or the fault that goes first.
+/// What both say, or the misread that goes first.
 pub fn both<A: Drop, B: Drop>(a: Read<A>, b: Read<B>) -> Read<(A, B)>
     ensures { result ≡ (a & b) }
 {
     match (a, b) {
         (Ok(a), Ok(b)) => Ok((a, b)),
-        (Err(fault), Err(other)) => Err(fault.first(other)),
-        (Err(fault), Ok(_)) | (Ok(_), Err(fault)) => Err(fault),
+        (Err(misread), Err(other)) => Err(misread.first(other)),
+        (Err(misread), Ok(_)) | (Ok(_), Err(misread)) => Err(misread),
     }
 }

@@ -2,7 +2,7 @@ use Rattle.std.proofs.Common.{◌≡◌, ◌∙◌, None, Some, sym, rules}
 use Rattle.std.specs.Prelude.{position}
 use Rattle.fab_model.proofs.Firsts.{remove_first_at, remove_first-none, list_any-none}
 use Rattle.fab_ends.specs.Members.{is_first}
-use Rattle.fab_ends.proofs.places.strike.Goals as goal
+use Rattle.fab_ends.proofs.places.remove_read.Goals as goal
 
 pub returns-in_default-clause-items : goal.returns-in_default-clause-items
 returns-in_default-clause-items c =
