@@ -12,7 +12,7 @@ use Rattle.fab_base.specs.declared.items.Want.{Want}
 use Rattle.fab_base.specs.declared.items.Sign.{Sign}
 use Rattle.fab_model.specs.Matching.{is_tagged, is_message, remove_first, source_fits, tag_fits}
 use Rattle.fab_match.specs.Signs.{fits, message_kind}
-use Rattle.fab_match.specs.Matcher.{first_id, has_id, without, HasDistinctIds}
+use Rattle.fab_match.specs.Matcher.{first_id, has_id, ids, without, HasDistinctIds}
 use Rattle.fab_model.proofs.Firsts.{remove_first_at, remove_first-none, list_any-none}
 use Rattle.fab_bins.specs.declared.shelf.Card.{Card}
 use Rattle.fab_bins.specs.declared.bins.Filing.{Filing}
@@ -155,6 +155,16 @@ module _ {X : Type 0} where
     pub first_id-pairs : (cards : List (Card X)) → option_map (λ (c : Card X). c.id) (find (λ c. test c.item) cards) ≡ first_id test (pairs cards)
     first_id-pairs [] = refl
     first_id-pairs (x ∷ cards) = id_step x cards (test x.item) refl (first_id-pairs cards)
+
+  module _ (test : ℕ → Bool) where
+    passing_step : (x : Card X) (cards : List (Card X)) (t : Bool) → test x.id ≡ t → option_map (λ (c : Card X). c.id) (find (λ c. test c.id) cards) ≡ find test (ids (pairs cards))
+        → option_map (λ (c : Card X). c.id) (find (λ c. test c.id) (x ∷ cards)) ≡ find test (ids (pairs (x ∷ cards)))
+    passing_step x cards true t more = rw t refl
+    passing_step x cards false t more = rw t more
+
+    pub find-ids-pairs : (cards : List (Card X)) → option_map (λ (c : Card X). c.id) (find (λ c. test c.id) cards) ≡ find test (ids (pairs cards))
+    find-ids-pairs [] = refl
+    find-ids-pairs (x ∷ cards) = passing_step x cards (test x.id) refl (find-ids-pairs cards)
 
   module _ (id : ℕ) where
     pub has_id-pairs : (cards : List (Card X)) → list_any (λ c. c.id == id) cards ≡ has_id id (pairs cards)

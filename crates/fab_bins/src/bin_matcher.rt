@@ -12,7 +12,7 @@ ghost use Rattle.fab_bins.specs.Filed.{IsFiledByWant, IsFiledBySign, loose_in, l
 use crate::bins::{Filing, bin_of, exact_bin, filing_of, is_loose, masked_bin, open_bin};
 use crate::shelf::{Card, Shelf, Test};
 use fab_base::{NoMemory, Sign, Want};
-use fab_match::{Matcher, fits};
+use fab_match::{IdTest, Matcher, fits};
 use std::alloc::Global;
 use std::marker::Model;
 
@@ -59,6 +59,20 @@ impl Test<Sign> for Want {
 
     fn passes(&self, card: &Card<Sign>) -> bool {
         fits(self, &card.item)
+    }
+}
+
+/// A receive passes by its id.
+#[derive(Drop)]
+struct ById<'a, T> {
+    test: &'a T,
+}
+
+impl<'a, T: IdTest> Test<Want> for ById<'a, T> {
+    ghost passes = { λ by card. T.passes by.test.now card.id };
+
+    fn passes(&self, card: &Card<Want>) -> bool {
+        self.test.passes(card.id)
     }
 }
 
@@ -152,6 +166,10 @@ impl Matcher for BinMatcher {
             return id_of(self.posted.first(sign));
         }
         id_of(first_numbered(&self.posted, self.loose, sign))
+    }
+
+    fn first_where<T: IdTest>(&self, test: &T) -> Option<u32> {
+        id_of(self.posted.first(&ById { test }))
     }
 
     fn first_unexpected(&self, want: &Want) -> Option<u32> {

@@ -41,7 +41,7 @@ impl Chains {
     }
 
     /// Makes links for the places up to this one. Want of memory leaves the chains as they are.
-    pub fn cover(&mut self, last: usize) -> Result<(), NoMemory>
+    pub fn reserve(&mut self, last: usize) -> Result<(), NoMemory>
         ensures heads { self.new.heads ≡ self.old.heads }
         ensures covered { OnOk result ((place : ℕ) → place ≤ last → Covers self.new place) }
         ensures kept { (h : ℕ) (xs : List ℕ) → IsChain self.old h xs → IsChain self.new h xs }

@@ -99,7 +99,7 @@ fn card_at<X: Copy + Drop>(cards: &Slab<Card<X>>, place: Option<usize>) -> Optio
 }
 
 /// Makes links in four kinds of chains for the places up to this one.
-fn cover_all(
+fn reserve_all(
     all: &mut Chains,
     ids: &mut Chains,
     near: &mut Chains,
@@ -112,10 +112,10 @@ fn cover_all(
     ensures wide { StaysIn wide.old wide.new }
     ensures covered { OnOk result ((place : ℕ) → place ≤ last → Covers all.new place × Covers ids.new place × Covers near.new place × Covers wide.new place) }
 {
-    all.cover(last)?;
-    ids.cover(last)?;
-    near.cover(last)?;
-    wide.cover(last)
+    all.reserve(last)?;
+    ids.reserve(last)?;
+    near.reserve(last)?;
+    wide.reserve(last)
 }
 
 impl<X: Copy + Drop> Shelf<X> {
@@ -136,7 +136,7 @@ impl<X: Copy + Drop> Shelf<X> {
         let mut ids = Chains::new(alloc, heads)?;
         let mut near = Chains::new(alloc, heads)?;
         let mut wide = Chains::new(alloc, wide)?;
-        cover_all(&mut all, &mut ids, &mut near, &mut wide, last)?;
+        reserve_all(&mut all, &mut ids, &mut near, &mut wide, last)?;
         Ok(Shelf {
             cards,
             all,
@@ -208,7 +208,7 @@ impl<X: Copy + Drop> Shelf<X> {
         ensures wide { self.new.wide.heads ≡ self.old.wide.heads }
     {
         let place = self.cards.vacant_key();
-        cover_all(
+        reserve_all(
             &mut self.all,
             &mut self.ids,
             &mut self.near,

@@ -1,9 +1,10 @@
 -- A matching store: two lists of pairs of an id and what it stands for, a `Want` or a `Sign`.
 --     first_id test xs      the id of the first pair whose second part passes the test, None exactly where there is none
 --     has_id id xs          a pair has this id
+--     ids xs                the ids, in order
 --     without id xs         the list without the pair of this id; the others keep their order
 --     HasDistinctIds xs     no two pairs have the same id
-use Rattle.std.specs.Prelude.{◌≢◌, ◌==◌, ℕ, Bool, List, Option, AllPairs, find}
+use Rattle.std.specs.Prelude.{◌≢◌, ◌==◌, ℕ, Bool, List, Option, AllPairs, find, map}
 use Rattle.std.specs.Option.{option_map}
 use Rattle.std.specs.List.{list_any}
 use Rattle.fab_base.specs.declared.items.Want.{Want}
@@ -24,6 +25,9 @@ first_id test xs = option_map (λ p. p.0) (find (λ p. test p.1) xs)
 
 abbrev pub has_id : {X : Type 0} → ℕ → List (ℕ × X) → Bool
 has_id id xs = list_any (λ p. p.0 == id) xs
+
+abbrev pub ids : {X : Type 0} → List (ℕ × X) → List ℕ
+ids xs = map (λ p. p.0) xs
 
 abbrev pub without : {X : Type 0} → ℕ → List (ℕ × X) → List (ℕ × X)
 without id xs = remove_first (λ p. p.0 == id) xs

@@ -2,7 +2,7 @@
 ghost use Rattle.std.specs.Prelude.{◌≡◌, ◌≤◌, ◌==◌, false, position, vec_len, vec_capacity};
 ghost use Rattle.fab_match.specs.Matcher.{has_id, without, HasDistinctIds};
 
-use crate::matcher::Matcher;
+use crate::matcher::{IdTest, Matcher};
 use crate::signs::fits;
 use fab_base::{NoMemory, Sign, Want};
 use std::alloc::Global;
@@ -72,6 +72,13 @@ impl Matcher for ListMatcher {
             .iter()
             .find(|pair| fits(&pair.1, sign))
             .map(|pair| pair.0)
+    }
+
+    fn first_where<T: IdTest>(&self, test: &T) -> Option<u32> {
+        self.posted
+            .iter()
+            .map(|pair| pair.0)
+            .find(|id| test.passes(*id))
     }
 
     fn first_unexpected(&self, want: &Want) -> Option<u32> {

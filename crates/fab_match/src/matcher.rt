@@ -1,12 +1,22 @@
 //! The contract of a matching store.
-ghost use Rattle.std.specs.Prelude.{◌≡◌, ◌<◌, ◌≤◌, ◌↔◌, ◌++◌, ◌∷◌, ℕ, [], List, false, length, IsTrue, IfOk, OnOk, OnErr};
+ghost use Rattle.std.specs.Prelude.{◌≡◌, ◌<◌, ◌≤◌, ◌↔◌, ◌++◌, ◌∷◌, ℕ, Bool, [], List, false, length, find, IsTrue, IfOk, OnOk, OnErr};
 ghost use Rattle.fab_base.specs.declared.items.Want.{Want};
 ghost use Rattle.fab_base.specs.declared.items.Sign.{Sign};
 ghost use Rattle.fab_match.specs.Signs.{fits};
-ghost use Rattle.fab_match.specs.Matcher.{first_id, has_id, without, HasDistinctIds};
+ghost use Rattle.fab_match.specs.Matcher.{first_id, has_id, ids, without, HasDistinctIds};
 
 use fab_base::{NoMemory, Sign, Want};
 use std::alloc::Global;
+
+/// A test of posted receives by their ids.
+pub trait IdTest {
+    // Which ids pass.
+    ghost passes: { Self → ℕ → Bool };
+
+    /// Whether the id passes.
+    fn passes(&self, id: u32) -> bool
+        ensures { result ≡ passes self.now id };
+}
 
 /// The receives that are posted, and the messages that arrived and that no receive took.
 ///
@@ -36,6 +46,10 @@ pub trait Matcher {
     fn first_posted(&self, sign: &Sign) -> Option<u32>
         ensures first { result ≡ first_id (λ want. fits want sign.now) (posted self.now) }
         ensures distinct { HasDistinctIds (posted self.now) };
+
+    /// The first id, in the order posted, that passes a test of its owner's.
+    fn first_where<T: IdTest>(&self, test: &T) -> Option<u32>
+        ensures { result ≡ find (T.passes test.now) (ids (posted self.now)) };
 
     /// The id of the first unexpected message that a receive that wants this may take.
     fn first_unexpected(&self, want: &Want) -> Option<u32>

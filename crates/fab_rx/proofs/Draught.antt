@@ -46,7 +46,6 @@ use Rattle.fab_rx.proofs.Numbering.{below_found, numbers_gone, numbers_leave_by,
 use Rattle.fab_rx.proofs.Parting.{gone_by, length_turned, not_some, stored_where_kept, unexpected_claims, unexpected_kept}
 use Rattle.fab_rx.proofs.Sharing.{any_at, kept_unfed, multi_moved}
 use Rattle.fab_rx.proofs.Drawing.{draws_agree}
-use Rattle.fab_rx.proofs.Leaving.{struck}
 use Rattle.fab_rx.proofs.Ending.{fit_filled, released_as}
 use Rattle.fab_rx.proofs.Taking.{fit_used, left_none, left_some, seated_off, seated_on, shut_off, shut_on, stays_by, usable_of, waiting_used}
 use Rattle.fab_rx.proofs.Pasting.{length_paste_at}
@@ -77,8 +76,8 @@ part_fed id place mid (Keep n bytes) k = eq-eqb id id refl
 part_fed id place mid Throw k = absurd k
 part_fed id place mid (Gather bytes) k = absurd k
 
-module _ (ps : List (ℕ × Want)) (us : List (ℕ × Sign)) (room : ℕ) (seats : Cells Waiting) (parcels : Cells Parcel) (coming : List (Option Begun)) (ids : List ℕ) (capacity : ℕ) (claims : List (ℕ × ℕ)) (claimable : ℕ) (cs : List (ℕ × ℕ)) (room_to_close : ℕ) (shares : Bool) (v : Arriving)
-    (inv : IsInbox ps us room seats parcels coming ids capacity claims claimable cs room_to_close shares v) (id : ℕ) (e : find (draws_at seats us) ids ≡ Some id) (q : Multi) (shared_at : multi_at seats id ≡ Some q) where
+module _ (ps : List (ℕ × Want)) (us : List (ℕ × Sign)) (room : ℕ) (seats : Cells Waiting) (parcels : Cells Parcel) (coming : List (Option Begun)) (claims : List (ℕ × ℕ)) (claimable : ℕ) (cs : List (ℕ × ℕ)) (room_to_close : ℕ) (shares : Bool) (v : Arriving)
+    (inv : IsInbox ps us room seats parcels coming claims claimable cs room_to_close shares v) (id : ℕ) (e : find (draws_at seats us) (map (λ p. p.0) ps) ≡ Some id) (q : Multi) (shared_at : multi_at seats id ≡ Some q) where
   abbrev test : Receive → Bool
   test = draws v.rx.unexpected
 
@@ -87,9 +86,6 @@ module _ (ps : List (ℕ × Want)) (us : List (ℕ × Sign)) (room : ℕ) (seats
 
   agree : (x : ℕ × Want) (y : Receive) → Sits seats x y → draws_at seats us x.0 ≡ test y
   agree = draws_agree ps us room seats parcels coming v inv.kept
-
-  e_ps : find (draws_at seats us) (map (λ p. p.0) ps) ≡ Some id
-  e_ps = ap (find (draws_at seats us)) (sym inv.order) ∙ e
 
   -- what is known of the multi-receive that draws
   pub record IsDrawer (r : Receive) : Type 0 where
@@ -105,17 +101,17 @@ module _ (ps : List (ℕ × Want)) (us : List (ℕ × Sign)) (room : ℕ) (seats
 
   pub drawer_told : (r : Receive) × IsDrawer r
   drawer_told = (
-    giver ps us room seats parcels coming v inv.kept cs m (draws_at seats us) test agree id e_ps q shared_at,
+    giver ps us room seats parcels coming v inv.kept cs m (draws_at seats us) test agree id e q shared_at,
     record {
-      found = giver_found ps us room seats parcels coming v inv.kept cs m (draws_at seats us) test agree id e_ps q shared_at;
-      there = there ps us room seats parcels coming v inv.kept cs m (draws_at seats us) test agree id e_ps q shared_at;
-      some = some ps us room seats parcels coming v inv.kept cs m (draws_at seats us) test agree id e_ps q shared_at;
-      multi = multi ps us room seats parcels coming v inv.kept cs m (draws_at seats us) test agree id e_ps q shared_at;
-      want = want_same ps us room seats parcels coming v inv.kept cs m (draws_at seats us) test agree id e_ps q shared_at;
-      home = home ps us room seats parcels coming v inv.kept cs m (draws_at seats us) test agree id e_ps q shared_at;
-      part = part ps us room seats parcels coming v inv.kept cs m (draws_at seats us) test agree id e_ps q shared_at;
-      lacks = unclosed ps us room seats parcels coming v inv.kept cs m (draws_at seats us) test agree id e_ps q shared_at;
-      fit = fit ps us room seats parcels coming v inv.kept cs m (draws_at seats us) test agree id e_ps q shared_at;
+      found = giver_found ps us room seats parcels coming v inv.kept cs m (draws_at seats us) test agree id e q shared_at;
+      there = there ps us room seats parcels coming v inv.kept cs m (draws_at seats us) test agree id e q shared_at;
+      some = some ps us room seats parcels coming v inv.kept cs m (draws_at seats us) test agree id e q shared_at;
+      multi = multi ps us room seats parcels coming v inv.kept cs m (draws_at seats us) test agree id e q shared_at;
+      want = want_same ps us room seats parcels coming v inv.kept cs m (draws_at seats us) test agree id e q shared_at;
+      home = home ps us room seats parcels coming v inv.kept cs m (draws_at seats us) test agree id e q shared_at;
+      part = part ps us room seats parcels coming v inv.kept cs m (draws_at seats us) test agree id e q shared_at;
+      lacks = unclosed ps us room seats parcels coming v inv.kept cs m (draws_at seats us) test agree id e q shared_at;
+      fit = fit ps us room seats parcels coming v inv.kept cs m (draws_at seats us) test agree id e q shared_at;
     },
   )
 
@@ -332,17 +328,17 @@ module _ (ps : List (ℕ × Want)) (us : List (ℕ × Sign)) (room : ℕ) (seats
           long : length now ≡ length coming
           long = ap length is_now ∙ length_turned (option_map (gone_on id q.used)) p.bytes p.source coming
 
-          same_giver : giver ps rest room seats others now left kept_left cs multi_left (draws_at seats us) test agree id e_ps q shared_at ≡ r
+          same_giver : giver ps rest room seats others now left kept_left cs multi_left (draws_at seats us) test agree id e q shared_at ≡ r
           same_giver =
-              let both : Some (giver ps rest room seats others now left kept_left cs multi_left (draws_at seats us) test agree id e_ps q shared_at) ≡ Some r =
-              sym (giver_found ps rest room seats others now left kept_left cs multi_left (draws_at seats us) test agree id e_ps q shared_at) ∙ r_found in
+              let both : Some (giver ps rest room seats others now left kept_left cs multi_left (draws_at seats us) test agree id e q shared_at) ≡ Some r =
+              sym (giver_found ps rest room seats others now left kept_left cs multi_left (draws_at seats us) test agree id e q shared_at) ∙ r_found in
               cc
 
           -- what is stored stands for the draw, with these seats
           abbrev pub Given : Cells Waiting → Type 0
-          Given seats_then = (posted : List (ℕ × Want)) (order : List ℕ) (fits_in : ℕ) (closing : List (ℕ × ℕ)) (to_close : ℕ) → posted ≡ kept_or (left_by total (at seats id)) ps (without id ps) → (is_some (left_by total (at seats id)) ≡ true → has_id id posted ≡ false)
-              → order ≡ kept_or (left_by total (at seats id)) ids (remove_first (λ other. other == id) ids) → fits_in ≡ capacity → ((ctx : ℕ) → left_by total (at seats id) ≡ Some ctx → closing ≡ cs ++ (id, ctx) ∷ [])
-              → (left_by total (at seats id) ≡ None → closing ≡ cs) → to_close ≡ room_to_close → IsInbox posted rest room seats_then others now order fits_in claims claimable closing to_close shares (drawing v)
+          Given seats_then = (posted : List (ℕ × Want)) (closing : List (ℕ × ℕ)) (to_close : ℕ) → posted ≡ kept_or (left_by total (at seats id)) ps (without id ps) → (is_some (left_by total (at seats id)) ≡ true → has_id id posted ≡ false)
+              → ((ctx : ℕ) → left_by total (at seats id) ≡ Some ctx → closing ≡ cs ++ (id, ctx) ∷ [])
+              → (left_by total (at seats id) ≡ None → closing ≡ cs) → to_close ≡ room_to_close → IsInbox posted rest room seats_then others now claims claimable closing to_close shares (drawing v)
 
           -- ---- the receive has given room to it
 
@@ -351,17 +347,15 @@ module _ (ps : List (ℕ × Want)) (us : List (ℕ × Sign)) (room : ℕ) (seats
               (eq_on : left_by total (at seats id) ≡ None → drawing v ≡ room_given (change_first test g v.rx.posted) v.rx.closing left)
               (eq_off : (ctx : ℕ) → left_by total (at seats id) ≡ Some ctx → drawing v ≡ room_given (remove_first test v.rx.posted) (v.rx.closing ++ g r ∷ []) left) where
             given : Given seats_then
-            given posted order fits_in closing to_close is_posted gone is_order is_capacity closes opens is_room = by (left_by total (at seats id)) refl
+            given posted closing to_close is_posted gone closes opens is_room = by (left_by total (at seats id)) refl
               where
-                by : (o : Option ℕ) → left_by total (at seats id) ≡ o → IsInbox posted rest room seats_then others now order fits_in claims claimable closing to_close shares (drawing v)
+                by : (o : Option ℕ) → left_by total (at seats id) ≡ o → IsInbox posted rest room seats_then others now claims claimable closing to_close shares (drawing v)
                 by None stay =
-                    rw (is_posted, is_order, stay, is_capacity, opens stay, is_room, eq_on stay) (record {
-                      kept = kept_on ps rest room seats others now left kept_left cs multi_left (draws_at seats us) test agree id e_ps q shared_at g same fitting f alike seats_then cells free;
-                      order = inv.order;
-                      reserved = inv.reserved;
-                      numbers = numbers_on ps rest room seats others now left kept_left cs multi_left (draws_at seats us) test agree id e_ps q shared_at g same fitting f alike seats_then cells free numbers_left;
+                    rw (is_posted, stay, opens stay, is_room, eq_on stay) (record {
+                      kept = kept_on ps rest room seats others now left kept_left cs multi_left (draws_at seats us) test agree id e q shared_at g same fitting f alike seats_then cells free;
+                      numbers = numbers_on ps rest room seats others now left kept_left cs multi_left (draws_at seats us) test agree id e q shared_at g same fitting f alike seats_then cells free numbers_left;
                       aside = claims_left;
-                      shared = multi_on ps rest room seats others now left kept_left cs multi_left (draws_at seats us) test agree id e_ps q shared_at g same fitting f alike seats_then cells free;
+                      shared = multi_on ps rest room seats others now left kept_left cs multi_left (draws_at seats us) test agree id e q shared_at g same fitting f alike seats_then cells free;
                       closable = let closable = inv.closable in let same_long = long in omega arith;
                       sharing = inv.sharing;
                     })
@@ -371,15 +365,13 @@ module _ (ps : List (ℕ × Want)) (us : List (ℕ × Sign)) (room : ℕ) (seats
                     let out : posted ≡ without id ps = rw leave at is_posted in
                     let lacking = gone (ap is_some leave) in
                     let fed = fed_off ctx leave in
-                    rw (is_order, leave, is_capacity, closes ctx leave, is_room, eq_off ctx leave) (record {
+                    rw (closes ctx leave, is_room, eq_off ctx leave) (record {
                       kept = subst (λ (y : Receive). IsKept posted rest room seats_then others now (room_given (remove_first test v.rx.posted) (v.rx.closing ++ g y ∷ []) left)) same_giver
-                          (kept_off ps rest room seats others now left kept_left cs multi_left (draws_at seats us) test agree id e_ps q shared_at g same fitting f alike seats_then cells free ctx is_ctx fed posted out lacking);
-                      order = struck ids (remove_first (λ other. other == id) ids) ps posted id inv.order out refl;
-                      reserved = inv.reserved;
-                      numbers = numbers_off ps rest room seats others now left kept_left cs multi_left (draws_at seats us) test agree id e_ps q shared_at g same fitting f alike seats_then cells free ctx is_ctx fed posted out lacking numbers_left;
+                          (kept_off ps rest room seats others now left kept_left cs multi_left (draws_at seats us) test agree id e q shared_at g same fitting f alike seats_then cells free ctx is_ctx fed posted out lacking);
+                      numbers = numbers_off ps rest room seats others now left kept_left cs multi_left (draws_at seats us) test agree id e q shared_at g same fitting f alike seats_then cells free ctx is_ctx fed posted out lacking numbers_left;
                       aside = claims_left;
                       shared = subst (λ (y : Receive). AreMulti posted (cs ++ (id, ctx) ∷ []) seats_then now (remove_first test v.rx.posted) (v.rx.closing ++ g y ∷ []) comes v.next v.multis v.most) same_giver
-                          (multi_off ps rest room seats others now left kept_left cs multi_left (draws_at seats us) test agree id e_ps q shared_at g same fitting f alike seats_then cells free ctx is_ctx fed posted out lacking);
+                          (multi_off ps rest room seats others now left kept_left cs multi_left (draws_at seats us) test agree id e q shared_at g same fitting f alike seats_then cells free ctx is_ctx fed posted out lacking);
                       closable = let closable = inv.closable in let same_long = long in omega arith;
                       sharing = inv.sharing;
                     })
@@ -482,17 +474,15 @@ module _ (ps : List (ℕ × Want)) (us : List (ℕ × Sign)) (room : ℕ) (seats
                     ∙ ap (set seats.cells id) (rw (r_there, r_some.2) refl)
 
             pub drawn_over : is_closed coming id total (at seats id) ≡ true → (seats_then : Cells Waiting) → seats_then.cells ≡ set seats.cells id None → length seats_then.free ≡ length seats.free + 1 → (posted : List (ℕ × Want)) → posted ≡ without id ps → has_id id posted ≡ false
-                → (order : List ℕ) → order ≡ remove_first (λ other. other == id) ids → (fits_in : ℕ) → fits_in ≡ capacity → IsInbox posted rest room seats_then others now order fits_in claims claimable cs room_to_close shares (drawing v)
-            drawn_over over seats_then cells one_more posted out lacking order is_order fits_in is_capacity =
+                → IsInbox posted rest room seats_then others now claims claimable cs room_to_close shares (drawing v)
+            drawn_over over seats_then cells one_more posted out lacking =
                 let is = over_yes over in
                 let unfed = ap (list_any (is_fed_by id)) now_is ∙ is.2 in
-                rw (is_capacity, whole_over is.0 is.1 is.2) (record {
-                  kept = kept_out ps rest room seats others now left kept_left cs multi_left (draws_at seats us) test agree id e_ps q shared_at unfed seats_then cells one_more posted out lacking;
-                  order = struck ids order ps posted id inv.order out is_order;
-                  reserved = inv.reserved;
+                rw (whole_over is.0 is.1 is.2) (record {
+                  kept = kept_out ps rest room seats others now left kept_left cs multi_left (draws_at seats us) test agree id e q shared_at unfed seats_then cells one_more posted out lacking;
                   numbers = numbers_leave_by test v.next v.rx.posted comes numbers_left;
                   aside = claims_left;
-                  shared = multi_out ps rest room seats others now left kept_left cs multi_left (draws_at seats us) test agree id e_ps q shared_at unfed seats_then cells one_more posted out lacking;
+                  shared = multi_out ps rest room seats others now left kept_left cs multi_left (draws_at seats us) test agree id e q shared_at unfed seats_then cells one_more posted out lacking;
                   closable = let closable = inv.closable in let same_long = long in omega arith;
                   sharing = inv.sharing;
                 })

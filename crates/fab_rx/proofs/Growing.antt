@@ -177,9 +177,9 @@ module _ (ps : List (ℕ × Want)) (us : List (ℕ × Sign)) (room : ℕ) (seats
 
     pub ends_kept : (rest : List (Option Begun)) → rest ≡ set coming source None → stored.way ≡ KeepIt → IsKept ps us room seats others rest (finishing source v)
     unfolding made_whole keeping
-    ends_kept rest set_down keeps =
+    ends_kept rest put_begun keeps =
         let comes : coming_from v.rx source ≡ Some KeepIt = stored.comes ∙ ap (λ (w : Coming). Some w) keeps in
-        rw (set_down, comes, begun, keeping, made_whole) (record {
+        rw (put_begun, comes, begun, keeping, made_whole) (record {
           receives = kept.receives;
           messages = retied_map (Lies parcels coming) (Lies others (set coming source None)) (whole_now source item.bytes) us v.rx.unexpected lies_whole kept.messages;
           ways = ways_set ps us room seats parcels coming v kept source within others None None None
@@ -198,12 +198,12 @@ module _ (ps : List (ℕ × Want)) (us : List (ℕ × Sign)) (room : ℕ) (seats
     pub claims_ended : (cs : List (ℕ × ℕ)) (capacity : ℕ) → AreClaimed us parcels coming cs capacity v.rx.claimed → length others.free ≡ length parcels.free → (rest : List (Option Begun)) → rest ≡ set coming source None → stored.way ≡ KeepIt
         → AreClaimed us others rest cs capacity (finishing source v).rx.claimed
     unfolding made_whole keeping
-    claims_ended cs capacity aside free rest set_down keeps =
+    claims_ended cs capacity aside free rest put_begun keeps =
         let comes : coming_from v.rx source ≡ Some KeepIt = stored.comes ∙ ap (λ (w : Coming). Some w) keeps in
         let long : length others.cells ≡ length parcels.cells = ap length is ∙ length-set parcels.cells id (Some (record { source = source; head = item.head; bytes = Some item.bytes })) in
         let filed = aside.filed in
         let reserved = aside.reserved in
-        rw (set_down, comes, begun, keeping, made_whole) (record {
+        rw (put_begun, comes, begun, keeping, made_whole) (record {
           messages = retied_map (IsClaim parcels coming) (IsClaim others (set coming source None)) (λ k. (k.0, whole_now source item.bytes k.1)) cs v.rx.claimed
               (λ p k l. record { ctx = l.ctx; sign = l.sign; lies = lies_whole _ k.1 l.lies }) aside.messages;
           apart = aside.apart;

@@ -1,4 +1,4 @@
--- A receive leaves those posted: it is found by the order of ids, and has no item under way.
+-- A receive leaves those posted: it is the first in their order that is meant and has no item under way.
 use Rattle.std.proofs.Common.{◌≡◌, ℕ, ◌+◌, ◌==◌, Bool, true, false, List, [], ◌∷◌, ◌++◌, length, map, Option, Some, None, get_or, set, refl, sym, ap, subst, ◌∙◌, arith}
 use Rattle.std.specs.Prelude.{find, is_some}
 use Rattle.std.specs.Option.{option_map}
@@ -26,22 +26,6 @@ use Rattle.fab_rx.proofs.Tying.{retied, retied_but}
 use Rattle.fab_rx.proofs.Keeping.{at_other, sits_at}
 use Rattle.fab_rx.proofs.Numbering.{elsewhere_by}
 use Rattle.fab_rx.proofs.Sharing.{any_alike, any_at, fed_same, multi_gone, not_fed}
-
--- the ids without one are those of the pairs without it
-pub ids_without : {X : Type 0} (id : ℕ) (xs : List (ℕ × X)) → map (λ p. p.0) (without id xs) ≡ remove_first (λ k. k == id) (map (λ p. p.0) xs)
-ids_without id [] = refl
-ids_without {X} id (x ∷ xs) = step (x.0 == id) refl (ids_without id xs)
-  where
-    step : (b : Bool) → (x.0 == id) ≡ b → map (λ p. p.0) (without id xs) ≡ remove_first (λ k. k == id) (map (λ p. p.0) xs) → map (λ p. p.0) (without id (x ∷ xs)) ≡ remove_first (λ k. k == id) (map (λ p. p.0) (x ∷ xs))
-    step true e more = rw (e, remove_first) refl
-    step false e more = rw (e, remove_first) (ap (λ ks. x.0 ∷ ks) more)
-
--- the order of ids after one is struck, and after one joined
-pub struck : {X : Type 0} (ids after : List ℕ) (ps rest : List (ℕ × X)) (id : ℕ) → ids ≡ map (λ p. p.0) ps → rest ≡ without id ps → after ≡ remove_first (λ k. k == id) ids → after ≡ map (λ p. p.0) rest
-struck ids after ps rest id tied are is = is ∙ ap (remove_first (λ k. k == id)) tied ∙ sym (ids_without id ps) ∙ ap (map (λ p. p.0)) (sym are)
-
-pub joined : {X : Type 0} (ids after : List ℕ) (ps : List (ℕ × X)) (p : ℕ × X) → ids ≡ map (λ p. p.0) ps → after ≡ ids ++ p.0 ∷ [] → after ≡ map (λ p. p.0) (ps ++ p ∷ [])
-joined ids after ps p tied is = is ∙ ap (λ ks. ks ++ p.0 ∷ []) tied ∙ sym (map-append (λ p. p.0) ps (p ∷ []))
 
 pub passes : (want : ℕ → Bool) (ks : List ℕ) (id : ℕ) → find want ks ≡ Some id → want id ≡ true
 passes want [] id e = absurd (cc)

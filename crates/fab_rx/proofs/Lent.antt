@@ -31,6 +31,9 @@ any_ids : {X : Type 0} (id : ℕ) (xs : List (ℕ × X)) → list_any (λ k. k =
 any_ids id [] = refl
 any_ids id (x ∷ xs) = ap (λ b. (x.0 == id) || b) (any_ids id xs)
 
+any_both : {X Y : Type 0} (id : ℕ) (xs : List (ℕ × X)) (ys : List (ℕ × Y)) → (list_any (λ k. k == id) (map (λ p. p.0) xs) || list_any (λ k. k == id) (map (λ p. p.0) ys)) ≡ (has_id id xs || has_id id ys)
+any_both id xs ys = rw (any_ids id xs, any_ids id ys) refl
+
 module _ (ps : List (ℕ × Want)) (us : List (ℕ × Sign)) (room : ℕ) (seats : Cells Waiting) (parcels : Cells Parcel) (coming : List (Option Begun)) (v : Arriving) (kept : IsKept ps us room seats parcels coming v)
     (cs : List (ℕ × ℕ)) (m : AreMulti ps cs seats coming v.rx.posted v.rx.closing v.rx.coming v.next v.multis v.most) (id : ℕ) where
   abbrev Stand : ℕ → Receive → Type 0
@@ -138,16 +141,16 @@ module _ (ps : List (ℕ × Want)) (us : List (ℕ × Sign)) (room : ℕ) (seats
         by true e rest = let is = known x r t.0 (eqb-true x id e) in (r.call, is.0, is.1)
         by false e rest = rest (rw e at has)
 
-    pub lent : (list_any (λ k. k == id) (map (λ p. p.0) ps) || has_id id cs) ≡ true → IsSomeAnd (open_under id v) (λ r. r.buf ≡ w.seat.buf)
+    pub lent : (has_id id ps || has_id id cs) ≡ true → IsSomeAnd (open_under id v) (λ r. r.buf ≡ w.seat.buf)
     lent has =
         let xs = map (λ p. p.0) ps ++ map (λ p. p.0) cs in
-        let any : list_any (λ k. k == id) xs ≡ true = list_any-append (λ k. k == id) (map (λ p. p.0) ps) (map (λ p. p.0) cs) ∙ ap (λ b. list_any (λ k. k == id) (map (λ p. p.0) ps) || b) (any_ids id cs) ∙ has in
+        let any : list_any (λ k. k == id) xs ≡ true = list_any-append (λ k. k == id) (map (λ p. p.0) ps) (map (λ p. p.0) cs) ∙ any_both id ps cs ∙ has in
         let c = first xs (v.rx.posted ++ v.rx.closing) all_stand any in
         let last : call_in v.multis id ≡ Some c.0 = call_of_home ps cs seats coming v.rx.posted v.rx.closing v.rx.coming v.next v.multis v.most m id c.0 c.1 c.2 in
         rw last (scan c.0 c.1 c.2 xs (v.rx.posted ++ v.rx.closing) all_stand any)
 
   -- where no id is there, none is open
-  module _ (lacks : (list_any (λ k. k == id) (map (λ p. p.0) ps) || has_id id cs) ≡ false) where
+  module _ (lacks : (has_id id ps || has_id id cs) ≡ false) where
     lacking : (call : ℕ) → m.homes call ≡ Some id → (xs : List ℕ) (rs : List Receive) → AllZip Stand xs rs → list_any (λ k. k == id) xs ≡ false → find (is_made_by call) rs ≡ None
     lacking call home [] [] t none = refl
     lacking call home [] (r ∷ rs) t none = absurd t
@@ -165,7 +168,7 @@ module _ (ps : List (ℕ × Want)) (us : List (ℕ × Sign)) (room : ℕ) (seats
     none_stands = by (call_in v.multis id) refl
       where
         any : list_any (λ k. k == id) (map (λ p. p.0) ps ++ map (λ p. p.0) cs) ≡ false
-        any = list_any-append (λ k. k == id) (map (λ p. p.0) ps) (map (λ p. p.0) cs) ∙ ap (λ b. list_any (λ k. k == id) (map (λ p. p.0) ps) || b) (any_ids id cs) ∙ lacks
+        any = list_any-append (λ k. k == id) (map (λ p. p.0) ps) (map (λ p. p.0) cs) ∙ any_both id ps cs ∙ lacks
 
         by : (o : Option ℕ) → call_in v.multis id ≡ o → open_under id v ≡ None
         by None e = rw e refl

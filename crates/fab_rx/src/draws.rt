@@ -2,19 +2,18 @@
 //! No draw takes memory.
 ghost use Rattle.std.specs.Prelude.{◌≡◌, true, false, find};
 ghost use Rattle.fab_model.specs.Receiving.{draw_due};
+ghost use Rattle.fab_match.specs.Matcher.{ids};
 ghost use Rattle.fab_rx.specs.Draws.{draws_at};
 ghost use Rattle.fab_rx.specs.Drawing.{drawing, drawn, entries_drawn};
 
-use crate::filling::{gone_on, lift, set_down};
+use crate::filling::{gone_on, put_begun, take_begun};
 use crate::inbox::Inbox;
 use crate::multis::{close, closes, give_room, multi_at, part};
-use crate::order::strike;
 use crate::past::Draws;
 use crate::results::Drawn;
 use crate::stored::{Parcel, Waiting};
 use crate::table::Table;
-use fab_match::Matcher;
-use std::collections::VecDeque;
+use fab_match::{IdTest, Matcher};
 
 /// Whether the receive under an id is a multi-receive that matches an unexpected message.
 fn draws<M: Matcher>(seats: &Table<Waiting>, matcher: &M, id: u32) -> bool
@@ -26,15 +25,26 @@ fn draws<M: Matcher>(seats: &Table<Waiting>, matcher: &M, id: u32) -> bool
     matcher.first_unexpected(&multi.want).is_some()
 }
 
-/// The first id of such a multi-receive.
-fn first_drawing<M: Matcher>(
-    order: &VecDeque<u32>,
-    seats: &Table<Waiting>,
-    matcher: &M,
-) -> Option<u32>
-    ensures { result ≡ find (draws_at seats.now (M.unexpected matcher.now)) order.now.items }
+/// A multi-receive passes that matches an unexpected message.
+#[derive(Drop)]
+struct CanDraw<'a, M> {
+    seats: &'a Table<Waiting>,
+    matcher: &'a M,
+}
+
+impl<'a, M: Matcher> IdTest for CanDraw<'a, M> {
+    ghost passes = { λ test id. draws_at test.seats.now (M.unexpected test.matcher.now) id };
+
+    fn passes(&self, id: u32) -> bool {
+        draws(self.seats, self.matcher, id)
+    }
+}
+
+/// The id of the first such multi-receive, in the order posted.
+fn first_drawing<M: Matcher>(seats: &Table<Waiting>, matcher: &M) -> Option<u32>
+    ensures { result ≡ find (draws_at seats.now (M.unexpected matcher.now)) (ids (M.posted matcher.now)) }
 {
-    order.iter().copied().find(|id| draws(seats, matcher, *id))
+    matcher.first_where(&CanDraw { seats, matcher })
 }
 
 impl<M: Matcher> Inbox<M> {
@@ -46,7 +56,7 @@ impl<M: Matcher> Inbox<M> {
         if self.is_still() {
             return false;
         }
-        first_drawing(&self.order, &self.seats, &self.matcher).is_some()
+        first_drawing(&self.seats, &self.matcher).is_some()
     }
 
     /// Whether no draw is due because no multi-receive was posted, or because no message is unexpected or
@@ -65,7 +75,7 @@ impl<M: Matcher> Inbox<M> {
         if self.is_still() {
             return 0;
         }
-        let Some(id) = first_drawing(&self.order, &self.seats, &self.matcher) else {
+        let Some(id) = first_drawing(&self.seats, &self.matcher) else {
             return 0;
         };
         let Some(multi) = multi_at(&self.seats, id) else {
@@ -100,11 +110,10 @@ impl<M: Matcher> Inbox<M> {
             seats,
             parcels,
             coming,
-            order,
             closing,
             ..
         } = self;
-        let Some(id) = first_drawing(order, seats, matcher) else {
+        let Some(id) = first_drawing(seats, matcher) else {
             unreachable!()
         };
         let Some(multi) = multi_at(seats, id) else {
@@ -124,21 +133,20 @@ impl<M: Matcher> Inbox<M> {
             bytes,
         } = parcel;
         let Some(bytes) = bytes else {
-            let Some(begun) = lift(coming, source) else {
+            let Some(begun) = take_begun(coming, source) else {
                 unreachable!()
             };
-            set_down(coming, source, gone_on(begun, id, multi.used));
-            give_room(matcher, seats, order, closing, id, head.total);
+            put_begun(coming, source, gone_on(begun, id, multi.used));
+            give_room(matcher, seats, closing, id, head.total);
             return Drawn::GoesOn;
         };
         let completed = part(seats, id, multi.used, source, &head);
         if closes(seats, coming.as_slice(), id, head.total) {
             matcher.remove_posted(id);
-            strike(order, id);
             let over = close(seats, id, head.total, multi.used, bytes.as_slice());
             return Drawn::Last(completed, over);
         }
-        give_room(matcher, seats, order, closing, id, head.total);
+        give_room(matcher, seats, closing, id, head.total);
         seats.place(id, multi.used, bytes.as_slice());
         Drawn::Part(completed)
     }

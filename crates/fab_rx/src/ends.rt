@@ -6,9 +6,9 @@ ghost use Rattle.fab_rx.specs.Arriving.{arriving, begun_of};
 ghost use Rattle.fab_rx.specs.Homes.{is_fed_by, part_in};
 ghost use Rattle.fab_rx.specs.Results.{last_of};
 
+use crate::cancelling::is_fed;
 use crate::inbox::{Inbox, is_message};
 use crate::multis::{closes, is_closing, multi_at};
-use crate::order::is_fed;
 use crate::stored::Begun;
 use fab_base::ItemHead;
 use fab_match::{Matcher, sign_of};

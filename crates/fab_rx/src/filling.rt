@@ -192,7 +192,7 @@ pub fn gone_on(begun: Begun, id: u32, at: u32) -> Begun
 }
 
 /// Takes out what is under way of a source.
-pub fn lift(coming: &mut Vec<Option<Begun>>, source: u32) -> Option<Begun>
+pub fn take_begun(coming: &mut Vec<Option<Begun>>, source: u32) -> Option<Begun>
     requires { source < vec_len coming.old }
     ensures value { result ≡ slice_index_or coming.old.items source None }
     ensures rest { coming.new.items ≡ slice_set coming.old.items source None }
@@ -201,7 +201,7 @@ pub fn lift(coming: &mut Vec<Option<Begun>>, source: u32) -> Option<Begun>
 }
 
 /// Puts down what is under way of a source.
-pub fn set_down(coming: &mut Vec<Option<Begun>>, source: u32, begun: Begun)
+pub fn put_begun(coming: &mut Vec<Option<Begun>>, source: u32, begun: Begun)
     requires { source < vec_len coming.old }
     ensures { coming.new.items ≡ slice_set coming.old.items source (Some begun) }
 {

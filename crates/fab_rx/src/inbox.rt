@@ -11,9 +11,9 @@ ghost use Rattle.fab_base.specs.declared.operations.Receive.{Receive};
 ghost use Rattle.fab_rx.specs.declared.results.Finished.TheVariants.{Received};
 ghost use Rattle.fab_rx.specs.Results.{cancelled, ended, entries_due, handed, last_of, posted_as, released as released_as};
 
-use crate::filling::{complete, fill, lift, set_down};
+use crate::cancelling::first_meant;
+use crate::filling::{complete, fill, put_begun, take_begun};
 use crate::multis::{give_room, multi_at, part, release};
-use crate::order::{first_meant, strike};
 use crate::outgoing::give;
 use crate::past::{Arrives, Cancels, Finishes, Grows, Opens, Past, Posts, Shares};
 use crate::results::{Cancelled, Completed, Finished, Posted, Released};
@@ -24,7 +24,6 @@ use fab_match::{Matcher, sign_of};
 use fab_record::caller::Caller;
 use fab_record::record::Record;
 use std::alloc::Global;
-use std::collections::VecDeque;
 use std::marker::Model;
 
 /// The receives that are posted, the multi-receives that are closing, the messages that none of them took,
@@ -41,7 +40,6 @@ pub struct Inbox<M: Matcher> {
     pub(crate) seats: Table<Waiting>,
     pub(crate) parcels: Table<Parcel>,
     pub(crate) coming: Vec<Option<Begun>>,
-    pub(crate) order: VecDeque<u32>,
     pub(crate) claims: Vec<(u32, u64)>,
     pub(crate) closing: Vec<(u32, u64)>,
     pub(crate) shares: bool,
@@ -51,14 +49,13 @@ pub struct Inbox<M: Matcher> {
 impl<M: Matcher> Model for Inbox<M> {
     ghost use Rattle.fab_rx.specs.Arriving.{Arriving};
     ghost use Rattle.std.specs.Prelude.{vec_capacity};
-    ghost use Rattle.std.specs.VecDeque.{deque_capacity};
     ghost use Rattle.fab_rx.specs.Whole.{IsInbox};
 
     ghost Value = { Arriving };
 
     ghost view = { λ i. i.past };
 
-    ghost invariant = { λ i. IsInbox (M.posted i.matcher) (M.unexpected i.matcher) (M.room i.matcher) i.seats i.parcels i.coming.items i.order.items (deque_capacity i.order) i.claims.items (vec_capacity i.claims) i.closing.items (vec_capacity i.closing) i.shares i.past };
+    ghost invariant = { λ i. IsInbox (M.posted i.matcher) (M.unexpected i.matcher) (M.room i.matcher) i.seats i.parcels i.coming.items i.claims.items (vec_capacity i.claims) i.closing.items (vec_capacity i.closing) i.shares i.past };
 }
 
 pub(crate) fn is_message(kind: Kind) -> bool
@@ -77,7 +74,6 @@ impl<M: Matcher> Inbox<M> {
     {
         let seats = free_seats(alloc, most, peers)?;
         let coming = nothing_coming(alloc, peers)?;
-        let order = VecDeque::with_capacity(alloc, most as usize)?;
         let closing = Vec::with_capacity(alloc, peers as usize)?;
         let past = Record::new(alloc, &(peers, most))?;
         let matcher = M::new(alloc, most)?;
@@ -87,7 +83,6 @@ impl<M: Matcher> Inbox<M> {
             seats,
             parcels: Table::new(alloc),
             coming,
-            order,
             claims: Vec::new(alloc),
             closing,
             shares: false,
@@ -184,7 +179,7 @@ impl<M: Matcher> Inbox<M> {
             got: 0,
             way: Way::Gather(bytes),
         };
-        set_down(coming, source, begun);
+        put_begun(coming, source, begun);
         Ok(())
     }
 
@@ -204,7 +199,6 @@ impl<M: Matcher> Inbox<M> {
             matcher,
             seats,
             coming,
-            order,
             closing,
             alloc,
             ..
@@ -214,10 +208,10 @@ impl<M: Matcher> Inbox<M> {
         };
         if let Some(multi) = multi_at(seats, id) {
             let bytes = Vec::with_capacity(*alloc, head.total as usize)?;
-            give_room(matcher, seats, order, closing, id, head.total);
+            give_room(matcher, seats, closing, id, head.total);
             past.note::<(u32, &ItemHead), Arrives>(&(source, head));
             let at = multi.used;
-            set_down(
+            put_begun(
                 coming,
                 source,
                 Begun::new(head, Way::Part { id, at, bytes }),
@@ -225,12 +219,11 @@ impl<M: Matcher> Inbox<M> {
             return Ok(true);
         }
         matcher.remove_posted(id);
-        strike(order, id);
         let Some(Waiting { seat, .. }) = seats.take(id) else {
             unreachable!()
         };
         past.note::<(u32, &ItemHead), Arrives>(&(source, head));
-        set_down(coming, source, Begun::new(head, Way::Into(seat)));
+        put_begun(coming, source, Begun::new(head, Way::Into(seat)));
         Ok(true)
     }
 
@@ -268,7 +261,7 @@ impl<M: Matcher> Inbox<M> {
             got: 0,
             way: Way::Keep { id, bytes },
         };
-        set_down(coming, source, begun);
+        put_begun(coming, source, begun);
         Ok(())
     }
 
@@ -300,7 +293,7 @@ impl<M: Matcher> Inbox<M> {
             closing,
             ..
         } = self;
-        let Some(begun) = lift(coming, source) else {
+        let Some(begun) = take_begun(coming, source) else {
             unreachable!()
         };
         past.note::<u32, Finishes>(&source);
@@ -348,14 +341,12 @@ impl<M: Matcher> Inbox<M> {
             seats,
             parcels,
             coming,
-            order,
             ..
         } = self;
         past.note::<(&X, &Want, &Buf, u64), Posts<C>>(&(about, &want, &buf, ctx));
         let Some(id) = matcher.first_unexpected(&want) else {
             let seat = Seat { buf, ctx };
             let id = seats.put(Waiting { seat, multi: None });
-            order.push_back_reserved(id);
             matcher.add_posted(id, want);
             return Posted::Joined;
         };
@@ -385,7 +376,6 @@ impl<M: Matcher> Inbox<M> {
             past,
             matcher,
             seats,
-            order,
             shares,
             ..
         } = self;
@@ -400,7 +390,6 @@ impl<M: Matcher> Inbox<M> {
             used: 0,
         });
         let id = seats.put(Waiting { seat, multi });
-        order.push_back_reserved(id);
         matcher.add_posted(id, want);
         *shares = true;
         id
@@ -410,7 +399,7 @@ impl<M: Matcher> Inbox<M> {
     pub fn may_cancel(&self, ctx: Option<u64>) -> bool
         ensures { result ≡ is_some (cancellable (is_meant ctx) self.now.rx) }
     {
-        first_meant(&self.order, &self.seats, self.coming.as_slice(), ctx).is_some()
+        first_meant(&self.matcher, &self.seats, self.coming.as_slice(), ctx).is_some()
     }
 
     /// The first posted receive of this context to which nothing is under way leaves, with its buffer
@@ -441,14 +430,12 @@ impl<M: Matcher> Inbox<M> {
             matcher,
             seats,
             coming,
-            order,
             ..
         } = self;
-        let Some(meant) = first_meant(order, seats, coming.as_slice(), ctx) else {
+        let Some(meant) = first_meant(matcher, seats, coming.as_slice(), ctx) else {
             return None;
         };
         matcher.remove_posted(meant);
-        strike(order, meant);
         let Some(Waiting { seat, multi }) = seats.take(meant) else {
             unreachable!()
         };

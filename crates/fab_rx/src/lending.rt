@@ -1,21 +1,18 @@
 //! The buffers of multi-receives, lent while messages come (FI_MULTI_RECV of fi_msg(3)).
-ghost use Rattle.std.specs.Prelude.{◌≡◌, ◌==◌, ◌||◌, None, IfNone, IfSome, IsSomeAnd};
-ghost use Rattle.std.specs.List.{list_any};
+ghost use Rattle.std.specs.Prelude.{◌≡◌, ◌||◌, None, IfNone, IfSome, IsSomeAnd};
 ghost use Rattle.fab_match.specs.Matcher.{has_id};
 ghost use Rattle.fab_rx.specs.Arriving.{open_under};
 ghost use Rattle.fab_rx.specs.Opened.{AreOpened};
 
 use crate::inbox::Inbox;
 use crate::multis::is_closing;
-use crate::order::has;
 use fab_match::Matcher;
-use std::collections::VecDeque;
 
 /// Whether a receive stands under an id, posted or closing.
-fn stands(order: &VecDeque<u32>, closing: &[(u32, u64)], id: u32) -> bool
-    ensures { result ≡ (list_any (λ other. other == id) order.now.items || has_id id closing.now) }
+fn stands<M: Matcher>(matcher: &M, closing: &[(u32, u64)], id: u32) -> bool
+    ensures { result ≡ (has_id id (M.posted matcher.now) || has_id id closing.now) }
 {
-    has(order, id) || is_closing(closing, id)
+    matcher.has_posted(id) || is_closing(closing, id)
 }
 
 impl<M: Matcher> Inbox<M> {
@@ -32,7 +29,7 @@ impl<M: Matcher> Inbox<M> {
         ensures some { IfSome result (λ bytes. IsSomeAnd (open_under id self.now) (λ r. r.buf ≡ bytes.now)) }
         ensures none { IfNone result (open_under id self.now ≡ None) }
     {
-        if !stands(&self.order, self.closing.as_slice(), id) {
+        if !stands(&self.matcher, self.closing.as_slice(), id) {
             return None;
         }
         let Some(waiting) = self.seats.get(id) else {

@@ -17,6 +17,7 @@
 //! [`Record`](fab_record::record::Record) holds the rest, and the invariant says how the two belong together.
 #![tactic(auto)]
 
+mod cancelling;
 mod claims;
 pub mod draws;
 pub mod ends;
@@ -25,7 +26,6 @@ pub mod inbox;
 pub mod lending;
 pub mod looking;
 mod multis;
-mod order;
 mod outgoing;
 mod past;
 mod results;

@@ -4,23 +4,20 @@
 //! whole: so what is lent of that buffer does not change under a message that is not.
 ghost use Rattle.std.specs.Prelude.{◌≡◌, ◌+◌, ◌-◌, ◌<◌, ◌≤◌, ◌==◌, ◌++◌, ◌∷◌, ℕ, List, [], true, false, None, Some, IsSome, IsSomeAnd, IfSome, OnSome, cond, length, is_some, position, slice_set, vec_capacity, vec_len};
 ghost use Rattle.std.specs.Option.{option_map};
-ghost use Rattle.std.specs.VecDeque.{deque_capacity};
 ghost use Rattle.fab_base.specs.declared.operations.Receive.{Receive};
-ghost use Rattle.fab_model.specs.Matching.{remove_first};
 ghost use Rattle.fab_match.specs.Matcher.{has_id, without};
 ghost use Rattle.fab_rx.specs.declared.stored.Waiting.{Waiting};
 ghost use Rattle.fab_rx.specs.Table.{at};
 ghost use Rattle.fab_rx.specs.Sharing.{IsUsable, is_closed, is_over, is_spent, kept_or, left_by, multi_at, multi_in, placed_in, released_of, taken_in, used_in, used_up_by};
 ghost use Rattle.fab_rx.specs.Results.{completed};
 
+use crate::cancelling::is_fed;
 use crate::filling::{placed, tag_of};
-use crate::order::{is_fed, strike};
 use crate::results::{Completed, Released};
 use crate::stored::{Begun, Multi, Seat, Waiting};
 use crate::table::Table;
 use fab_base::{Entry, ErrEntry, ErrKind, ItemHead, Taken};
 use fab_match::Matcher;
-use std::collections::VecDeque;
 
 impl Waiting {
     /// So many more bytes are given away, as far as there are.
@@ -138,7 +135,6 @@ impl Table<Waiting> {
 pub fn give_room<M: Matcher>(
     matcher: &mut M,
     seats: &mut Table<Waiting>,
-    order: &mut VecDeque<u32>,
     closing: &mut Vec<(u32, u64)>,
     id: u32,
     total: u32,
@@ -151,8 +147,6 @@ pub fn give_room<M: Matcher>(
     ensures gone { is_some (left_by total (at seats.old id)) ≡ true → has_id id (M.posted matcher.new) ≡ false }
     ensures unexpected { M.unexpected matcher.new ≡ M.unexpected matcher.old }
     ensures most { M.room matcher.new ≡ M.room matcher.old }
-    ensures order { order.new.items ≡ kept_or (left_by total (at seats.old id)) order.old.items (remove_first (λ other. other == id) order.old.items) }
-    ensures capacity { deque_capacity order.new ≡ deque_capacity order.old }
     ensures closing { (ctx : ℕ) → left_by total (at seats.old id) ≡ Some ctx → closing.new.items ≡ closing.old.items ++ (id, ctx) ∷ [] }
     ensures open { left_by total (at seats.old id) ≡ None → closing.new.items ≡ closing.old.items }
     ensures closable { vec_capacity closing.new ≡ vec_capacity closing.old }
@@ -161,7 +155,6 @@ pub fn give_room<M: Matcher>(
         return;
     };
     matcher.remove_posted(id);
-    strike(order, id);
     closing.push_reserved((id, ctx));
 }
 

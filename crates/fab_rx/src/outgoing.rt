@@ -9,7 +9,7 @@ ghost use Rattle.fab_rx.specs.Results.{given_as};
 ghost use Rattle.fab_rx.specs.Stored.{IsKeptAs, parcel_of, redirected, seat_of, thrown_on, turned};
 ghost use Rattle.fab_rx.specs.Table.{at};
 
-use crate::filling::{complete, lift, placed, redirected, set_down, thrown};
+use crate::filling::{complete, placed, put_begun, redirected, take_begun, thrown};
 use crate::results::{Posted, Seen};
 use crate::stored::{Begun, Parcel, Seat};
 use crate::table::Table;
@@ -47,10 +47,10 @@ pub fn give(
             Posted::Whole(complete(seat, source, &head))
         }
         None => {
-            let Some(begun) = lift(coming, source) else {
+            let Some(begun) = take_begun(coming, source) else {
                 unreachable!()
             };
-            set_down(coming, source, redirected(begun, buf, ctx));
+            put_begun(coming, source, redirected(begun, buf, ctx));
             Posted::GoesOn
         }
     }
@@ -72,9 +72,9 @@ pub fn throw(parcels: &mut Table<Parcel>, coming: &mut Vec<Option<Begun>>, id: u
     if seen.whole {
         return seen;
     }
-    let Some(begun) = lift(coming, seen.source) else {
+    let Some(begun) = take_begun(coming, seen.source) else {
         unreachable!()
     };
-    set_down(coming, seen.source, thrown(begun));
+    put_begun(coming, seen.source, thrown(begun));
     seen
 }

@@ -1,8 +1,9 @@
 -- What calls of the receive half do that their clauses refuse.
 --     later_draws           a draw gives the message to another multi-receive than the first that matches one
 --     released_early        it brings the buffer back while an item is under way to the multi-receive
+--     later_cancelled       a cancel hands out another receive than the first that it may take
 --     released_besides      a cancel leaves its receive among those that are closing, so that its buffer comes back once more
-use Rattle.std.proofs.Common.{◌≡◌, ◌≢◌, ℕ, ◌+◌, Bool, true, false, List, [], ◌∷◌, ◌++◌, length, length-append, Option, Some, None, refl, sym, ap, ◌∙◌, arith}
+use Rattle.std.proofs.Common.{◌≡◌, ◌≢◌, ℕ, ◌+◌, ◌==◌, Bool, true, false, List, [], ◌∷◌, ◌++◌, length, length-append, Option, Some, None, refl, sym, ap, ◌∙◌, arith}
 use Rattle.std.specs.Prelude.{find}
 use Rattle.std.specs.Option.{option_map}
 use Rattle.fab_base.specs.declared.entries.Taken.{Taken}
@@ -14,11 +15,12 @@ use Rattle.fab_base.specs.declared.operations.Arrival.{Arrival}
 use Rattle.fab_model.specs.Matching.{takes}
 use Rattle.fab_model.specs.State.{Receiving, under_way}
 use Rattle.fab_model.specs.Complete.{entry_of, filling, has_space, received, truncated}
-use Rattle.fab_model.specs.Receiving.{draws}
+use Rattle.fab_model.specs.Receiving.{cancellable, draws, may_leave}
 use Rattle.fab_rx.specs.Arriving.{Arriving}
 use Rattle.fab_rx.specs.Drawing.{drawer, drawn, drawn_as, drawn_last, drawn_message, drawn_with, set_apart}
 use Rattle.fab_rx.specs.Leaving.{cancelling}
-use Rattle.fab_rx.specs.Results.{closed_by, closed_if, completed, released}
+use Rattle.fab_rx.specs.Results.{cancelled, closed_by, closed_if, completed, released}
+use Rattle.fab_rx.specs.declared.results.Cancelled.{Cancelled}
 use Rattle.fab_rx.specs.declared.results.Completed.{Completed}
 use Rattle.fab_rx.specs.declared.results.Released.{Released}
 use Rattle.fab_rx.specs.declared.results.Drawn.{Drawn}
@@ -103,6 +105,15 @@ module _ (v : Arriving) (first : Receive) where
       -- the same clause
       pub released_early : drawer v.rx ≡ Some first → drawn v ≡ Last x over → ⊥
       released_early draws_first last = not_last _ (sym (ap (λ (o : Option Receive). drawn_with o v) draws_first) ∙ last)
+
+-- the clause `found` of `cancel`
+pub later_cancelled : (old : Arriving) (ctx : ℕ) (first : Receive) (others : List Receive) (x : Cancelled) → old.rx.posted ≡ first ∷ others → may_leave old.rx (λ r. r.ctx == ctx) first ≡ true
+    → Some x ≡ option_map (cancelled old) (cancellable (λ r. r.ctx == ctx) old.rx) → x.buf ≢ first.buf → ⊥
+later_cancelled old ctx first others x posted may found other =
+    let is : cancellable (λ r. r.ctx == ctx) old.rx ≡ Some first = rw (posted, may) refl in
+    let both : Some x ≡ Some (cancelled old first) = found ∙ ap (option_map (cancelled old)) is in
+    let same : x ≡ cancelled old first = cc in
+    other (ap (λ (y : Cancelled). y.buf) same)
 
 -- the clause `rest` of `cancel`
 pub released_besides : (old new : Arriving) (ctx : ℕ) (r : Receive) → new ≡ cancelling (Some ctx) old → new.rx.closing ≡ old.rx.closing ++ r ∷ [] → ⊥

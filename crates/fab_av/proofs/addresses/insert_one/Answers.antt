@@ -28,13 +28,13 @@ returns-then-is_full-clause-machine c s has =
     let named = ap (λ n. peer_named n name) has.peers ∙ sym c.in_ok-peer.ensures.named in
     let stands = position-in s c.args.peers c.args.by_index.now.items c.args.by_peer.now peer has c.requires.table in
     let new : is_some (position (is_peer peer) s.av) ≡ false = rw stands (sym c.if-is_some.ensures) in
-    insert-full s name peer named new (omega (arith, ap length has.indices, c.len-is_full.ensures)) ∙ ap (λ (after : State). (Index None, after)) (sym (same_addresses s _ has))
+    insert-full s name peer named new (omega (arith, ap length has.indices, c.len.ensures)) ∙ ap (λ (after : State). (Index None, after)) (sym (same_addresses s _ has))
 
 pub returns-clause-table : goal.returns-clause-table
 returns-clause-table c =
     let pushed : c.push.new.self.items ≡ c.args.by_index.now.items ++ Some c.in_ok-peer.peer ∷ [] = rw c.unwrap.ensures at c.push.ensures.items in
     let count : c.len-index.result ≡ length c.args.by_index.now.items = omega (arith, c.len-index.ensures) in
-    rw (pushed, count) (IsTable-push c.args.peers c.args.by_index.now.items c.args.by_peer.now c.in_ok-peer.peer c.requires.table c.in_ok-peer.ensures.below (sym c.if-is_some.ensures) (omega (arith, c.len-is_full.ensures)))
+    rw (pushed, count) (IsTable-push c.args.peers c.args.by_index.now.items c.args.by_peer.now c.in_ok-peer.peer c.requires.table c.in_ok-peer.ensures.below (sym c.if-is_some.ensures) (omega (arith, c.len.ensures)))
 
 pub returns-clause-machine : goal.returns-clause-machine
 returns-clause-machine c s has =
@@ -45,7 +45,7 @@ returns-clause-machine c s has =
     let new : is_some (position (is_peer peer) s.av) ≡ false = rw stands (sym c.if-is_some.ensures) in
     let pushed : c.push.new.self.items ≡ c.args.by_index.now.items ++ Some peer ∷ [] = rw c.unwrap.ensures at c.push.ensures.items in
     let count : c.len-index.result ≡ length c.args.by_index.now.items = omega (arith, c.len-index.ensures) in
-    let added = insert-push s name peer named new (omega (arith, ap length has.indices, c.len-is_full.ensures)) in
+    let added = insert-push s name peer named new (omega (arith, ap length has.indices, c.len.ensures)) in
     rw (pushed, count) (added ∙ ap (λ list. (Index (Some (length list)), record s { av = list ++ Some peer ∷ [] })) has.indices)
 
 pub returns-then-is_some-clause-index : goal.returns-then-is_some-clause-index
@@ -64,6 +64,6 @@ returns-clause-index c =
     let places = c.args.by_peer.now in
     let pushed : c.push.new.self.items ≡ list ++ Some peer ∷ [] = rw c.unwrap.ensures at c.push.ensures.items in
     let count : c.len-index.result ≡ length list = omega (arith, c.len-index.ensures) in
-    let table = IsTable-push c.args.peers list places peer c.requires.table c.in_ok-peer.ensures.below (sym c.if-is_some.ensures) (omega (arith, c.len-is_full.ensures)) in
+    let table = IsTable-push c.args.peers list places peer c.requires.table c.in_ok-peer.ensures.below (sym c.if-is_some.ensures) (omega (arith, c.len.ensures)) in
     let stands = index_named-table c.args.peers (list ++ Some peer ∷ []) (slice_set places peer (Some (length list))) c.args.name.now peer table (sym c.in_ok-peer.ensures.named) in
     rw (pushed, count) (sym (stands ∙ get_or-set_same places peer (Some (length list)) None (omega (arith, c.requires.table.all, c.in_ok-peer.ensures.below))))

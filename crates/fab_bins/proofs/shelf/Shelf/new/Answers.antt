@@ -4,7 +4,7 @@ use Rattle.fab_bins.proofs.shelf.Shelf.new.Goals as goal
 
 pub returns-clause-kept : goal.returns-clause-kept
 returns-clause-kept g c =
-    let stays = c.in_ok-cover_all.ensures in
+    let stays = c.in_ok-reserve_all.ensures in
     IsKept-empty _ c.in_ok-cards.ensures.empty
     (omega (arith, c.requires, stays.ids.heads, c.in_ok-ids.ensures.heads))
     (stays.all.chains 0 [] (c.in_ok-all.ensures.empty 0 (omega arith)))
@@ -13,4 +13,4 @@ returns-clause-kept g c =
     (λ h below. stays.wide.chains h [] (c.in_ok-wide.ensures.empty h (omega (arith, below, stays.wide.heads, c.in_ok-wide.ensures.heads))))
 
 pub returns-clause-ready : goal.returns-clause-ready
-returns-clause-ready g c = λ place below. c.in_ok-cover_all.ensures.covered place (omega (arith, below, c.capacity-last.ensures.value))
+returns-clause-ready g c = λ place below. c.in_ok-reserve_all.ensures.covered place (omega (arith, below, c.capacity-last.ensures.value))

@@ -26,8 +26,6 @@ invariant_of-self-2 g c =
     let t = first_found _ _ _ _ _ _ _ c.self.invariant.kept c.args.want.now c.in-Some.id (sym c.in-Some.ensures.first) in
     rw (c.note.ensures, claiming_is c.self.inside.past c.args.want.now c.args.ctx t.member t.found, c.remove_unexpected.ensures.posted, c.remove_unexpected.ensures.room, c.push_reserved.ensures.items, c.push_reserved.ensures.capacity) (record {
       kept = aside_kept _ _ _ _ _ _ _ c.self.invariant.kept _ _ c.self.invariant.aside c.args.want.now c.args.ctx c.in-Some.id (sym c.in-Some.ensures.first) _ rest c.remove_unexpected.ensures.gone;
-      order = c.self.invariant.order;
-      reserved = c.self.invariant.reserved;
       numbers = c.self.invariant.numbers;
       shared = c.self.invariant.shared;
       closable = c.self.invariant.closable;

@@ -14,8 +14,6 @@ invariant_of-self g c =
     let grew = more_there c.args.bytes.now source _ _ c.fill.ensures in
     rw c.note.ensures (record {
       kept = grows_by _ _ _ _ _ _ _ c.self.invariant.kept source within there.0 there.1 grew.0 (sym grew.1) grew.2 c.args.bytes.now _ grew.3 grew.4.coming grew.4.id;
-      order = c.self.invariant.order;
-      reserved = c.self.invariant.reserved;
       numbers = c.self.invariant.numbers;
       shared = multi_grown _ _ _ _ _ _ _ c.self.invariant.kept _ c.self.invariant.shared source within grew.0 (sym grew.1) grew.2 c.args.bytes.now _ grew.3 (λ way. grew.4.home _ _ _ way) grew.4.part;
       closable = rw (grew.3, length-set) c.self.invariant.closable;

@@ -23,60 +23,50 @@ invariant_of-self g c =
     let numbers = numbers_finish c.self.inside.past c.self.invariant.numbers source in
     elim c.match-way.branch [
       | in-Into w ↦ rw (w.self-inside-is, c.note.ensures) (record {
-        kept = ends_into _ _ _ _ _ _ _ c.self.invariant.kept source within there.0 there.1 c.in-Some.begun c.in-Some.ensures.value _ c.lift.ensures.rest w.in-Into.seat w.in-Into.is;
-        order = c.self.invariant.order;
-        reserved = c.self.invariant.reserved;
+        kept = ends_into _ _ _ _ _ _ _ c.self.invariant.kept source within there.0 there.1 c.in-Some.begun c.in-Some.ensures.value _ c.take_begun.ensures.rest w.in-Into.seat w.in-Into.is;
         numbers = numbers;
-        shared = multi_ended _ _ _ _ _ _ _ c.self.invariant.kept _ c.self.invariant.shared source within c.in-Some.begun c.in-Some.ensures.value _ w.in-Into.is (λ id. refl) _ c.lift.ensures.rest;
-        closable = rw (c.lift.ensures.rest, length-set) c.self.invariant.closable;
+        shared = multi_ended _ _ _ _ _ _ _ c.self.invariant.kept _ c.self.invariant.shared source within c.in-Some.begun c.in-Some.ensures.value _ w.in-Into.is (λ id. refl) _ c.take_begun.ensures.rest;
+        closable = rw (c.take_begun.ensures.rest, length-set) c.self.invariant.closable;
         sharing = c.self.invariant.sharing;
-        aside = claims_still _ _ _ _ _ _ _ c.self.invariant.kept source within there.0 there.1 c.in-Some.begun c.in-Some.ensures.value _ _ c.self.invariant.aside _ c.lift.ensures.rest _ w.in-Into.is (λ id k. k);
+        aside = claims_still _ _ _ _ _ _ _ c.self.invariant.kept source within there.0 there.1 c.in-Some.begun c.in-Some.ensures.value _ _ c.self.invariant.aside _ c.take_begun.ensures.rest _ w.in-Into.is (λ id k. k);
       })
       | in-Part w ↦
           let put = w.place.ensures.cells ∙ ap (λ xs. set c.self.inside.seats.cells w.in-Part.id (option_map (placed_in w.in-Part.at xs) (at c.self.inside.seats w.in-Part.id))) w.as_slice.ensures.value in
-          let slice = w.as_slice-in-Part.ensures.value ∙ c.lift.ensures.rest in
+          let slice = w.as_slice-in-Part.ensures.value ∙ c.take_begun.ensures.rest in
           let cells = w.release-released.ensures.cells ∙ ap (λ xs. cond (is_over xs c.self.inside.closing.items w.in-Part.id) (set w.place.new.self.cells w.in-Part.id None) w.place.new.self.cells) slice in
           let count = w.release-released.ensures.free ∙ ap (λ xs. cond (is_over xs c.self.inside.closing.items w.in-Part.id) (length w.place.new.self.free + 1) (length w.place.new.self.free)) slice in
           let rest = w.release-released.ensures.rest ∙ ap (λ xs. cond (is_over xs c.self.inside.closing.items w.in-Part.id) (without w.in-Part.id c.self.inside.closing.items) c.self.inside.closing.items) slice in
           rw (w.self-inside-is, c.note.ensures) (record {
-            kept = rw c.lift.ensures.rest (kept_part _ _ _ _ _ _ _ c.self.invariant.kept _ c.self.invariant.shared source within there.0 there.1 c.in-Some.begun c.in-Some.ensures.value w.in-Part.id w.in-Part.at w.in-Part.bytes w.in-Part.is w.place.new.self put w.release-released.new.seats cells);
-            order = c.self.invariant.order;
-            reserved = c.self.invariant.reserved;
+            kept = rw c.take_begun.ensures.rest (kept_part _ _ _ _ _ _ _ c.self.invariant.kept _ c.self.invariant.shared source within there.0 there.1 c.in-Some.begun c.in-Some.ensures.value w.in-Part.id w.in-Part.at w.in-Part.bytes w.in-Part.is w.place.new.self put w.release-released.new.seats cells);
             numbers = numbers;
-            shared = rw c.lift.ensures.rest (multi_part _ _ _ _ _ _ _ c.self.invariant.kept _ c.self.invariant.shared source within there.0 there.1 c.in-Some.begun c.in-Some.ensures.value w.in-Part.id w.in-Part.at w.in-Part.bytes w.in-Part.is w.place.new.self put w.release-released.new.seats cells count w.place.ensures.free _ rest);
-            closable = rw (c.lift.ensures.rest, length-set, w.release-released.ensures.closable) c.self.invariant.closable;
+            shared = rw c.take_begun.ensures.rest (multi_part _ _ _ _ _ _ _ c.self.invariant.kept _ c.self.invariant.shared source within there.0 there.1 c.in-Some.begun c.in-Some.ensures.value w.in-Part.id w.in-Part.at w.in-Part.bytes w.in-Part.is w.place.new.self put w.release-released.new.seats cells count w.place.ensures.free _ rest);
+            closable = rw (c.take_begun.ensures.rest, length-set, w.release-released.ensures.closable) c.self.invariant.closable;
             sharing = c.self.invariant.sharing;
-            aside = claims_still _ _ _ _ _ _ _ c.self.invariant.kept source within there.0 there.1 c.in-Some.begun c.in-Some.ensures.value _ _ c.self.invariant.aside _ c.lift.ensures.rest _ w.in-Part.is (λ id k. k);
+            aside = claims_still _ _ _ _ _ _ _ c.self.invariant.kept source within there.0 there.1 c.in-Some.begun c.in-Some.ensures.value _ _ c.self.invariant.aside _ c.take_begun.ensures.rest _ w.in-Part.is (λ id k. k);
           })
       | in-Keep w ↦ rw (w.self-inside-is, c.note.ensures) (record {
-        kept = ends_as_kept _ _ _ _ _ _ _ c.self.invariant.kept source within there.0 there.1 c.in-Some.begun c.in-Some.ensures.value _ c.lift.ensures.rest w.in-Keep.id w.in-Keep.bytes w.from_vec.result _ w.in-Keep.is w.from_vec.ensures w.set.ensures.cells;
-        order = c.self.invariant.order;
-        reserved = c.self.invariant.reserved;
+        kept = ends_as_kept _ _ _ _ _ _ _ c.self.invariant.kept source within there.0 there.1 c.in-Some.begun c.in-Some.ensures.value _ c.take_begun.ensures.rest w.in-Keep.id w.in-Keep.bytes w.from_vec.result _ w.in-Keep.is w.from_vec.ensures w.set.ensures.cells;
         numbers = numbers;
-        shared = multi_ended _ _ _ _ _ _ _ c.self.invariant.kept _ c.self.invariant.shared source within c.in-Some.begun c.in-Some.ensures.value _ w.in-Keep.is (λ id. refl) _ c.lift.ensures.rest;
-        closable = rw (c.lift.ensures.rest, length-set) c.self.invariant.closable;
+        shared = multi_ended _ _ _ _ _ _ _ c.self.invariant.kept _ c.self.invariant.shared source within c.in-Some.begun c.in-Some.ensures.value _ w.in-Keep.is (λ id. refl) _ c.take_begun.ensures.rest;
+        closable = rw (c.take_begun.ensures.rest, length-set) c.self.invariant.closable;
         sharing = c.self.invariant.sharing;
-        aside = claims_as_kept _ _ _ _ _ _ _ c.self.invariant.kept source within there.0 there.1 c.in-Some.begun c.in-Some.ensures.value _ c.lift.ensures.rest _ _ c.self.invariant.aside w.in-Keep.id w.in-Keep.bytes w.from_vec.result _ w.in-Keep.is w.from_vec.ensures w.set.ensures.cells w.set.ensures.free;
+        aside = claims_as_kept _ _ _ _ _ _ _ c.self.invariant.kept source within there.0 there.1 c.in-Some.begun c.in-Some.ensures.value _ c.take_begun.ensures.rest _ _ c.self.invariant.aside w.in-Keep.id w.in-Keep.bytes w.from_vec.result _ w.in-Keep.is w.from_vec.ensures w.set.ensures.cells w.set.ensures.free;
       })
       | in-Throw w ↦ rw (w.self-inside-is, c.note.ensures) (record {
-        kept = ends_thrown _ _ _ _ _ _ _ c.self.invariant.kept source within there.0 there.1 c.in-Some.begun c.in-Some.ensures.value _ c.lift.ensures.rest w.in-Throw.is;
-        order = c.self.invariant.order;
-        reserved = c.self.invariant.reserved;
+        kept = ends_thrown _ _ _ _ _ _ _ c.self.invariant.kept source within there.0 there.1 c.in-Some.begun c.in-Some.ensures.value _ c.take_begun.ensures.rest w.in-Throw.is;
         numbers = numbers;
-        shared = multi_ended _ _ _ _ _ _ _ c.self.invariant.kept _ c.self.invariant.shared source within c.in-Some.begun c.in-Some.ensures.value _ w.in-Throw.is (λ id. refl) _ c.lift.ensures.rest;
-        closable = rw (c.lift.ensures.rest, length-set) c.self.invariant.closable;
+        shared = multi_ended _ _ _ _ _ _ _ c.self.invariant.kept _ c.self.invariant.shared source within c.in-Some.begun c.in-Some.ensures.value _ w.in-Throw.is (λ id. refl) _ c.take_begun.ensures.rest;
+        closable = rw (c.take_begun.ensures.rest, length-set) c.self.invariant.closable;
         sharing = c.self.invariant.sharing;
-        aside = claims_still _ _ _ _ _ _ _ c.self.invariant.kept source within there.0 there.1 c.in-Some.begun c.in-Some.ensures.value _ _ c.self.invariant.aside _ c.lift.ensures.rest _ w.in-Throw.is (λ id k. k);
+        aside = claims_still _ _ _ _ _ _ _ c.self.invariant.kept source within there.0 there.1 c.in-Some.begun c.in-Some.ensures.value _ _ c.self.invariant.aside _ c.take_begun.ensures.rest _ w.in-Throw.is (λ id k. k);
       })
       | in-Gather w ↦ rw (w.self-inside-is, c.note.ensures) (record {
-        kept = ends_gathered _ _ _ _ _ _ _ c.self.invariant.kept source within there.0 there.1 c.in-Some.begun c.in-Some.ensures.value _ c.lift.ensures.rest w.in-Gather.bytes w.in-Gather.is;
-        order = c.self.invariant.order;
-        reserved = c.self.invariant.reserved;
+        kept = ends_gathered _ _ _ _ _ _ _ c.self.invariant.kept source within there.0 there.1 c.in-Some.begun c.in-Some.ensures.value _ c.take_begun.ensures.rest w.in-Gather.bytes w.in-Gather.is;
         numbers = numbers;
-        shared = multi_ended _ _ _ _ _ _ _ c.self.invariant.kept _ c.self.invariant.shared source within c.in-Some.begun c.in-Some.ensures.value _ w.in-Gather.is (λ id. refl) _ c.lift.ensures.rest;
-        closable = rw (c.lift.ensures.rest, length-set) c.self.invariant.closable;
+        shared = multi_ended _ _ _ _ _ _ _ c.self.invariant.kept _ c.self.invariant.shared source within c.in-Some.begun c.in-Some.ensures.value _ w.in-Gather.is (λ id. refl) _ c.take_begun.ensures.rest;
+        closable = rw (c.take_begun.ensures.rest, length-set) c.self.invariant.closable;
         sharing = c.self.invariant.sharing;
-        aside = claims_still _ _ _ _ _ _ _ c.self.invariant.kept source within there.0 there.1 c.in-Some.begun c.in-Some.ensures.value _ _ c.self.invariant.aside _ c.lift.ensures.rest _ w.in-Gather.is (λ id k. k);
+        aside = claims_still _ _ _ _ _ _ _ c.self.invariant.kept source within there.0 there.1 c.in-Some.begun c.in-Some.ensures.value _ _ c.self.invariant.aside _ c.take_begun.ensures.rest _ w.in-Gather.is (λ id k. k);
       })
     ]
 
@@ -100,7 +90,7 @@ returns-clause-outcome g c =
       | in-Into w ↦ w.result-is ∙ outcome_into _ _ _ _ _ _ _ c.self.invariant.kept source within there.0 there.1 c.in-Some.begun c.in-Some.ensures.value w.in-Into.seat w.in-Into.is w.complete.result w.complete.ensures
       | in-Part w ↦
           let put = w.place.ensures.cells ∙ ap (λ xs. set c.self.inside.seats.cells w.in-Part.id (option_map (placed_in w.in-Part.at xs) (at c.self.inside.seats w.in-Part.id))) w.as_slice.ensures.value in
-          let slice = w.as_slice-in-Part.ensures.value ∙ c.lift.ensures.rest in
+          let slice = w.as_slice-in-Part.ensures.value ∙ c.take_begun.ensures.rest in
           let buffer = w.release-released.ensures.buffer ∙ ap (λ xs. cond (is_over xs c.self.inside.closing.items w.in-Part.id) (option_map (released_of w.in-Part.id) (at w.place.new.self w.in-Part.id)) None) slice in
           w.result-is ∙ w.received.ensures v (last_of source v) (buffer ∙ buffer_part _ _ _ _ _ _ _ c.self.invariant.kept _ c.self.invariant.shared source within there.0 there.1 c.in-Some.begun c.in-Some.ensures.value w.in-Part.id w.in-Part.at w.in-Part.bytes w.in-Part.is w.place.new.self put) ∙ ap (handed v (last_of source v)) (part_ends _ _ _ _ _ _ _ c.self.invariant.kept _ c.self.invariant.shared source within there.0 there.1 c.in-Some.begun c.in-Some.ensures.value w.in-Part.id w.in-Part.at w.in-Part.bytes w.in-Part.is w.part-completed.result w.part-completed.ensures)
       | in-Keep w ↦ w.result-is ∙ outcome_kept _ _ _ _ _ _ _ c.self.invariant.kept source within there.0 there.1 c.in-Some.begun c.in-Some.ensures.value w.in-Keep.id w.in-Keep.bytes w.in-Keep.is

@@ -21,8 +21,6 @@ invariant_of-self-in_err-add_unexpected g c =
     let most = c.make_room.ensures.most in let ok = c.in_ok-reserve.ensures.ok in let count = c.ids.ensures.count in omega arith in
     rw (c.in_err-add_unexpected.ensures.err, c.add_unexpected.ensures.posted, c.add_unexpected.ensures.room) (record {
       kept = widened _ _ _ _ _ _ _ c.self.invariant.kept c.make_room.new.self c.make_room.ensures.same;
-      order = c.self.invariant.order;
-      reserved = c.self.invariant.reserved;
       numbers = c.self.invariant.numbers;
       shared = c.self.invariant.shared;
       closable = c.self.invariant.closable;
@@ -40,13 +38,11 @@ invariant_of-self-2 g c =
     let nothing : begun_of c.self.inside.past source ≡ None = subst (λ (v : Arriving). begun_of v source ≡ None) (sym c.self.view_is) c.requires.nothing in
     let untaken : taker source c.args.head.now c.self.inside.past.rx ≡ None = subst (λ (v : Arriving). taker source c.args.head.now v.rx ≡ None) (sym c.self.view_is) c.requires.untaken in
     let same : c.put-id.result ≡ c.next_id.result = c.put-id.ensures.id ∙ sym c.next_id.ensures.id in
-    rw (c.set_down.ensures, c.note.ensures, c.in_ok-add_unexpected.ensures.ok, c.add_unexpected.ensures.posted, c.add_unexpected.ensures.room, ← same)
+    rw (c.put_begun.ensures, c.note.ensures, c.in_ok-add_unexpected.ensures.ok, c.add_unexpected.ensures.posted, c.add_unexpected.ensures.room, ← same)
     (record {
       kept =
           keeps _ _ _ _ _ _ _ c.self.invariant.kept source c.args.head.now within nothing c.requires.message c.put-id.result c.make_room.new.self c.make_room.ensures.same c.put-id.ensures.empty c.sign_of.result c.in_ok-bytes.bytes _
           c.sign_of.ensures.exact untaken c.in_ok-bytes.ensures.items c.in_ok-bytes.ensures.capacity c.put-id.ensures.within c.put-id.ensures.cells;
-      order = c.self.invariant.order;
-      reserved = c.self.invariant.reserved;
       shared = multi_keep _ _ _ _ _ _ _ c.self.invariant.kept _ c.self.invariant.shared source c.args.head.now within nothing _ c.put-id.result c.in_ok-bytes.bytes refl c.requires.message untaken;
       closable = rw length-set c.self.invariant.closable;
       sharing = c.self.invariant.sharing;

@@ -1,5 +1,4 @@
-use Rattle.std.proofs.Common.{ℕ, Option, None, ◌∙◌, ap, arith, map, sym, refl}
-use Rattle.fab_base.specs.declared.items.Want.{Want}
+use Rattle.std.proofs.Common.{Option, None, arith, refl}
 use Rattle.std.proofs.lemmas.List.{length-replicate}
 use Rattle.fab_rx.specs.declared.stored.Begun.{Begun}
 use Rattle.fab_rx.proofs.Moving.{multi_begins}
@@ -12,8 +11,6 @@ pub invariant_of-result : goal.invariant_of-result
 invariant_of-result g c =
     rw c.in_ok-past.ensures (record {
       kept = opens c.args.peers c.args.most _ _ _ _ _ _ c.in_ok-matcher.ensures.posted c.in_ok-matcher.ensures.unexpected c.in_ok-matcher.ensures.room c.in_ok-coming.ensures;
-      order = c.in_ok-order.ensures.items ∙ ap (map (λ (p : ℕ × Want). p.0)) (sym c.in_ok-matcher.ensures.posted);
-      reserved = c.in_ok-order.ensures.capacity;
       shared = multi_begins _ _ _ _ _ _ c.in_ok-matcher.ensures.posted c.in_ok-closing.ensures.items c.in_ok-seats.ensures c.in_ok-coming.ensures;
       closable = rw c.in_ok-coming.ensures (let long = length-replicate {A = Option Begun} c.args.peers None in let room = c.in_ok-closing.ensures.capacity in omega arith);
       sharing = λ none. refl;

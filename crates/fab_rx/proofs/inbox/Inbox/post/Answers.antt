@@ -1,8 +1,5 @@
 use Rattle.std.proofs.Common.{◌≡◌, ℕ, ◌+◌, ◌<◌, ◌≤◌, ◌∙◌, None, length, subst, sym, ap, refl, arith, rules}
 use Rattle.std.specs.Prelude.{find, unwrap_or}
-use Rattle.std.proofs.lemmas.List.{length-map}
-use Rattle.fab_base.specs.declared.items.Want.{Want}
-use Rattle.fab_rx.proofs.Leaving.{joined}
 use Rattle.fab_rx.proofs.Numbering.{numbers_given, numbers_join}
 use Rattle.fab_base.specs.declared.operations.Coming.TheVariants.{Into}
 use Rattle.fab_model.specs.Matching.{takes}
@@ -41,8 +38,6 @@ invariant_of-self g c =
     let new = fresh_seat _ _ _ _ _ _ _ c.self.invariant.kept c.put-id.result c.put-id.ensures.empty in
     rw (c.note.ensures, c.add_posted.ensures.posted, c.add_posted.ensures.unexpected, c.add_posted.ensures.room, none) (record {
       kept = joins _ _ _ _ _ _ _ c.self.invariant.kept c.put-id.result c.put-id.ensures.empty r fit (less none) c.put-id.new.self c.put-id.ensures.within c.put-id.ensures.cells (r.call + 1) c.self.inside.past.multis;
-      order = joined _ _ _ (c.put-id.result, c.args.want) c.self.invariant.order c.push_back_reserved.ensures.items;
-      reserved = rw c.push_back_reserved.ensures.capacity c.self.invariant.reserved;
       numbers = rw none at (numbers_join c.self.inside.past c.self.invariant.numbers r later none);
       shared = multi_join _ _ _ _ _ _ _ _ _ _ c.self.invariant.shared c.put-id.result c.args.want c.put-id.ensures.empty r c.put-id.new.self c.put-id.ensures.cells c.put-id.ensures.free new refl later;
       closable = c.self.invariant.closable;
@@ -59,18 +54,6 @@ add_posted-requires-clause-not_full g c =
     let below = less none in
     let same = posted_count _ _ _ _ _ _ _ c.self.invariant.kept in
     let most = c.self.invariant.kept.most in
-    omega arith
-
-pub push_back_reserved-requires : goal.push_back_reserved-requires
-push_back_reserved-requires g c =
-    let want = c.args.want in
-    let none : find (takes want) c.self.inside.past.rx.unexpected ≡ None = none_found _ _ _ _ _ _ _ c.self.invariant.kept want (search rules) in
-    let less : find (takes want) c.self.inside.past.rx.unexpected ≡ None → length c.self.inside.past.rx.posted < c.self.inside.past.most =
-    subst (λ (v : Arriving). find (takes want) v.rx.unexpected ≡ None → length v.rx.posted < v.most) (sym c.self.view_is) c.requires.room in
-    let below = less none in
-    let same = posted_count _ _ _ _ _ _ _ c.self.invariant.kept in
-    let long = ap length c.self.invariant.order ∙ length-map (g.M.Matcher.posted c.self.inside.matcher) (λ (p : ℕ × Want). p.0) in
-    let reserved = c.self.invariant.reserved in
     omega arith
 
 pub returns-in_default-clause-outcome : goal.returns-in_default-clause-outcome
@@ -96,8 +79,6 @@ invariant_of-self-2 g c =
     rw (c.note.ensures, posting_is c.self.inside.past r t.member t.found, c.remove_unexpected.ensures.posted, c.remove_unexpected.ensures.room) (record {
       kept =
           unexpected_kept _ _ _ _ _ _ _ c.self.invariant.kept _ _ c.self.invariant.aside c.in-Some.id c.give.new.parcels c.give.ensures.cells c.give.ensures.free (redirected c.args.buf c.args.ctx) (Into r 0) turns _ c.give.ensures.coming (r.call + 1) c.args.want (sym c.in-Some.ensures.first) _ rest c.remove_unexpected.ensures.gone;
-      order = c.self.invariant.order;
-      reserved = c.self.invariant.reserved;
       numbers = numbers_given c.self.inside.past c.self.invariant.numbers t.member r later;
       shared = multi_moved _ _ _ _ _ _ _ _ _ _ c.self.invariant.shared c.in-Some.id t.member (found_partly _ _ _ _ _ _ _ c.self.invariant.kept c.args.want c.in-Some.id (sym c.in-Some.ensures.first) t.member here) long (redirected c.args.buf c.args.ctx) (Into r 0) (λ b k. (r, refl, refl, c.self.invariant.shared.fresh r.call later)) (r.call + 1) (omega arith) _ (c.give.ensures.coming t.member here);
       closable = rw (c.give.ensures.coming t.member here, length_turned _ _ _ _) c.self.invariant.closable;

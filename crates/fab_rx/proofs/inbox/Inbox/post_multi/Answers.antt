@@ -1,12 +1,9 @@
 use Rattle.std.proofs.Common.{ℕ, ◌∷◌, ◌+◌, ◌<◌, ◌≤◌, ◌∙◌, length, subst, sym, ap, refl, arith}
 use Rattle.std.specs.Prelude.{unwrap_or}
-use Rattle.std.proofs.lemmas.List.{length-map}
-use Rattle.fab_base.specs.declared.items.Want.{Want}
 use Rattle.fab_rx.specs.Arriving.{Arriving, multi_by}
 use Rattle.fab_rx.specs.Stored.{IsFit}
 use Rattle.fab_rx.proofs.Closing.{seat_free}
 use Rattle.fab_rx.proofs.Known.{posted_count}
-use Rattle.fab_rx.proofs.Leaving.{joined}
 use Rattle.fab_rx.proofs.Numbering.{numbers_joined}
 use Rattle.fab_rx.proofs.Posting.{fresh_seat, joins}
 use Rattle.fab_rx.proofs.Sharing.{multi_opened}
@@ -32,14 +29,6 @@ add_posted-requires-clause-not_full g c =
     let most = c.self.invariant.kept.most in
     omega arith
 
-pub push_back_reserved-requires : goal.push_back_reserved-requires
-push_back_reserved-requires g c =
-    let less : length c.self.inside.past.rx.posted < c.self.inside.past.most = subst (λ (v : Arriving). length v.rx.posted < v.most) (sym c.self.view_is) c.requires.room in
-    let same = posted_count _ _ _ _ _ _ _ c.self.invariant.kept in
-    let long = ap length c.self.invariant.order ∙ length-map (g.M.Matcher.posted c.self.inside.matcher) (λ (p : ℕ × Want). p.0) in
-    let reserved = c.self.invariant.reserved in
-    omega arith
-
 pub invariant_of-self : goal.invariant_of-self
 invariant_of-self g c =
     let less : length c.self.inside.past.rx.posted < c.self.inside.past.most = subst (λ (v : Arriving). length v.rx.posted < v.most) (sym c.self.view_is) c.requires.room in
@@ -50,8 +39,6 @@ invariant_of-self g c =
     let same = c.next_id-next.ensures.id ∙ sym c.put-id.ensures.id in
     rw (c.note.ensures, same, c.add_posted.ensures.posted, c.add_posted.ensures.unexpected, c.add_posted.ensures.room) (record {
       kept = joins _ _ _ _ _ _ _ c.self.invariant.kept c.put-id.result c.put-id.ensures.empty r fit less c.put-id.new.self c.put-id.ensures.within c.put-id.ensures.cells (r.call + 1) ((c.put-id.result, r.call) ∷ c.self.inside.past.multis);
-      order = joined _ _ _ (c.put-id.result, c.args.want) c.self.invariant.order c.push_back_reserved.ensures.items;
-      reserved = rw c.push_back_reserved.ensures.capacity c.self.invariant.reserved;
       numbers = numbers_joined c.self.inside.past c.self.invariant.numbers r later;
       shared = multi_opened _ _ _ _ _ _ _ _ _ _ c.self.invariant.shared c.put-id.result c.args.want c.put-id.ensures.empty r c.put-id.new.self c.put-id.ensures.cells c.put-id.ensures.free new c.args.least refl later c.self.invariant.numbers;
       closable = c.self.invariant.closable;

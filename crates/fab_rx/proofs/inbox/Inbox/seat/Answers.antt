@@ -1,10 +1,9 @@
-use Rattle.std.proofs.Common.{◌≡◌, ◌==◌, ℕ, ◌<◌, ◌∙◌, false, Option, Some, None, deque_capacity, vec_capacity, arith, length, length-set, refl, subst, sym, ap, rules}
+use Rattle.std.proofs.Common.{◌≡◌, ℕ, ◌<◌, ◌∙◌, false, Option, Some, None, vec_capacity, arith, length, length-set, refl, subst, sym, ap, rules}
 use Rattle.std.specs.Prelude.{is_some}
 use Rattle.fab_model.specs.Arrivals.{taker}
 use Rattle.fab_match.proofs.Pairs.{without-first}
 use Rattle.fab_match.specs.Signs.{fits}
 use Rattle.fab_rx.specs.Arriving.{Arriving, begun_of}
-use Rattle.fab_rx.proofs.Leaving.{struck}
 use Rattle.fab_rx.proofs.Claiming.{claims_arrived}
 use Rattle.fab_rx.proofs.Numbering.{numbers_seat}
 use Rattle.fab_rx.proofs.Keeping.{seated, seat_taken, seat_missed, seat_there, taken_single}
@@ -53,7 +52,7 @@ pub invariant_of-self-in-Some-multi_at : goal.invariant_of-self-in-Some-multi_at
 invariant_of-self-in-Some-multi_at g c = by_left (left_by c.args.head.now.total (at c.self.inside.seats c.in-Some.id)) refl
   where
     by_left : (o : Option ℕ) → left_by c.args.head.now.total (at c.self.inside.seats c.in-Some.id) ≡ o
-        → IsInbox (g.M.Matcher.posted c.give_room.new.matcher) (g.M.Matcher.unexpected c.give_room.new.matcher) (g.M.Matcher.room c.give_room.new.matcher) c.give_room.new.seats c.self.inside.parcels c.set_down.new.coming.items c.give_room.new.order.items (deque_capacity c.give_room.new.order) c.self.inside.claims.items (vec_capacity c.self.inside.claims) c.give_room.new.closing.items (vec_capacity c.give_room.new.closing) c.self.inside.shares c.note.new.self
+        → IsInbox (g.M.Matcher.posted c.give_room.new.matcher) (g.M.Matcher.unexpected c.give_room.new.matcher) (g.M.Matcher.room c.give_room.new.matcher) c.give_room.new.seats c.self.inside.parcels c.put_begun.new.coming.items c.self.inside.claims.items (vec_capacity c.self.inside.claims) c.give_room.new.closing.items (vec_capacity c.give_room.new.closing) c.self.inside.shares c.note.new.self
     -- it stays posted
     by_left None stay =
         let source = c.args.source in
@@ -62,11 +61,8 @@ invariant_of-self-in-Some-multi_at g c = by_left (left_by c.args.head.now.total 
         let e = sym c.in-Some.ensures.first in
         let ps = g.M.Matcher.posted c.self.inside.matcher in
         let posted = c.give_room.ensures.posted ∙ ap (λ x. kept_or x ps (without c.in-Some.id ps)) stay in
-        let order = c.give_room.ensures.order ∙ ap (λ x. kept_or x c.self.inside.order.items (remove_first (λ other. other == c.in-Some.id) c.self.inside.order.items)) stay in
-        rw (c.set_down.ensures, c.new.ensures, c.note.ensures, c.give_room.ensures.unexpected, c.give_room.ensures.most, posted) (record {
+        rw (c.put_begun.ensures, c.new.ensures, c.note.ensures, c.give_room.ensures.unexpected, c.give_room.ensures.most, posted) (record {
           kept = kept_on _ _ _ _ _ _ _ c.self.invariant.kept _ c.self.invariant.shared source c.args.head.now within nothing c.requires.message c.sign_of.result c.sign_of.ensures.fits c.in-Some.id e c.in-Some-multi_at.multi (search rules) c.give_room.new.seats c.give_room.ensures.cells c.give_room.ensures.free c.in_ok-bytes.bytes c.in_ok-bytes.ensures.items c.in_ok-bytes.ensures.capacity stay;
-          order = order ∙ c.self.invariant.order;
-          reserved = rw c.give_room.ensures.capacity c.self.invariant.reserved;
           numbers = numbers_on _ _ _ _ _ _ _ c.self.invariant.kept _ c.self.invariant.shared source c.args.head.now within nothing c.requires.message c.sign_of.result c.sign_of.ensures.fits c.in-Some.id e c.in-Some-multi_at.multi (search rules) c.give_room.new.seats c.give_room.ensures.cells c.give_room.ensures.free c.in_ok-bytes.bytes c.in_ok-bytes.ensures.items c.in_ok-bytes.ensures.capacity stay c.self.invariant.numbers;
           shared = rw (c.give_room.ensures.open stay) (multi_on _ _ _ _ _ _ _ c.self.invariant.kept _ c.self.invariant.shared source c.args.head.now within nothing c.requires.message c.sign_of.result c.sign_of.ensures.fits c.in-Some.id e c.in-Some-multi_at.multi (search rules) c.give_room.new.seats c.give_room.ensures.cells c.give_room.ensures.free c.in_ok-bytes.bytes c.in_ok-bytes.ensures.items c.in_ok-bytes.ensures.capacity stay);
           closable = rw (length-set, c.give_room.ensures.closable) c.self.invariant.closable;
@@ -81,13 +77,10 @@ invariant_of-self-in-Some-multi_at g c = by_left (left_by c.args.head.now.total 
         let e = sym c.in-Some.ensures.first in
         let ps = g.M.Matcher.posted c.self.inside.matcher in
         let posted = c.give_room.ensures.posted ∙ ap (λ x. kept_or x ps (without c.in-Some.id ps)) stay in
-        let order = c.give_room.ensures.order ∙ ap (λ x. kept_or x c.self.inside.order.items (remove_first (λ other. other == c.in-Some.id) c.self.inside.order.items)) stay in
         let rest : without c.in-Some.id ps ≡ remove_first (λ p. fits p.1 c.sign_of.result) ps = without-first (λ want. fits want c.sign_of.result) c.in-Some.id ps c.in-Some.ensures.distinct e in
         let gone : has_id c.in-Some.id (without c.in-Some.id ps) ≡ false = rw posted at (c.give_room.ensures.gone (ap is_some stay)) in
-        rw (c.set_down.ensures, c.new.ensures, c.note.ensures, c.give_room.ensures.unexpected, c.give_room.ensures.most, posted) (record {
+        rw (c.put_begun.ensures, c.new.ensures, c.note.ensures, c.give_room.ensures.unexpected, c.give_room.ensures.most, posted) (record {
           kept = kept_off _ _ _ _ _ _ _ c.self.invariant.kept _ c.self.invariant.shared source c.args.head.now within nothing c.requires.message c.sign_of.result c.sign_of.ensures.fits c.in-Some.id e c.in-Some-multi_at.multi (search rules) c.give_room.new.seats c.give_room.ensures.cells c.give_room.ensures.free c.in_ok-bytes.bytes c.in_ok-bytes.ensures.items c.in_ok-bytes.ensures.capacity ctx stay _ refl rest gone;
-          order = struck _ _ _ _ c.in-Some.id c.self.invariant.order refl order;
-          reserved = rw c.give_room.ensures.capacity c.self.invariant.reserved;
           numbers = numbers_off _ _ _ _ _ _ _ c.self.invariant.kept _ c.self.invariant.shared source c.args.head.now within nothing c.requires.message c.sign_of.result c.sign_of.ensures.fits c.in-Some.id e c.in-Some-multi_at.multi (search rules) c.give_room.new.seats c.give_room.ensures.cells c.give_room.ensures.free c.in_ok-bytes.bytes c.in_ok-bytes.ensures.items c.in_ok-bytes.ensures.capacity ctx stay _ refl rest gone c.self.invariant.numbers;
           shared = rw (c.give_room.ensures.closing ctx stay) (multi_off _ _ _ _ _ _ _ c.self.invariant.kept _ c.self.invariant.shared source c.args.head.now within nothing c.requires.message c.sign_of.result c.sign_of.ensures.fits c.in-Some.id e c.in-Some-multi_at.multi (search rules) c.give_room.new.seats c.give_room.ensures.cells c.give_room.ensures.free c.in_ok-bytes.bytes c.in_ok-bytes.ensures.items c.in_ok-bytes.ensures.capacity ctx stay _ refl rest gone);
           closable = rw (length-set, c.give_room.ensures.closable) c.self.invariant.closable;
@@ -117,12 +110,10 @@ invariant_of-self-2 g c =
     let single = taken_single _ _ _ _ _ _ _ c.self.invariant.kept source c.args.head.now within nothing c.requires.message c.sign_of.result c.sign_of.ensures.fits c.in-Some.id e c.in-Some-take.field-0 there alone in
     let t2 = taken_home _ _ _ _ _ _ _ c.self.invariant.kept _ c.self.invariant.shared source c.args.head.now within nothing c.requires.message c.sign_of.result c.sign_of.ensures.fits c.in-Some.id e in
     let single2 = home_single _ _ _ _ _ _ _ c.self.invariant.kept _ c.self.invariant.shared source c.args.head.now within nothing c.requires.message c.sign_of.result c.sign_of.ensures.fits c.in-Some.id e c.in-Some-take.field-0 there alone in
-    rw (c.set_down-2.ensures, c.new-2.ensures, c.note-2.ensures, c.remove_posted.ensures.unexpected, c.remove_posted.ensures.room) (record {
+    rw (c.put_begun-2.ensures, c.new-2.ensures, c.note-2.ensures, c.remove_posted.ensures.unexpected, c.remove_posted.ensures.room) (record {
       kept =
           seated _ _ _ _ _ _ _ c.self.invariant.kept source c.args.head.now within nothing c.requires.message c.sign_of.result c.sign_of.ensures.fits c.in-Some.id c.in-Some-take.field-0 _ _ alone e rest c.remove_posted.ensures.gone
           there c.take.ensures.cells c.in-Some-take.ensures.free;
-      order = struck _ _ _ _ c.in-Some.id c.self.invariant.order c.remove_posted.ensures.rest c.strike.ensures.rest;
-      reserved = rw c.strike.ensures.capacity c.self.invariant.reserved;
       numbers = numbers_seat c.self.inside.past c.self.invariant.numbers source c.args.head.now c.requires.message t.member t.found single;
       shared = multi_seat _ _ _ _ _ _ _ c.self.invariant.kept _ c.self.invariant.shared source c.args.head.now within nothing c.requires.message c.sign_of.result c.sign_of.ensures.fits c.in-Some.id e c.in-Some-take.field-0 there alone single2 _ c.remove_posted.ensures.rest rest _ c.take.ensures.cells c.in-Some-take.ensures.free _ refl;
       closable = rw length-set c.self.invariant.closable;

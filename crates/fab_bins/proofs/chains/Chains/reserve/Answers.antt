@@ -1,6 +1,6 @@
 use Rattle.std.proofs.Common.{sym, subst}
 use Rattle.fab_bins.proofs.Writes.{Chain, Chain-longer}
-use Rattle.fab_bins.proofs.chains.Chains.cover.Goals as goal
+use Rattle.fab_bins.proofs.chains.Chains.reserve.Goals as goal
 
 pub returns-in_err-push-clause-kept : goal.returns-in_err-push-clause-kept
 returns-in_err-push-clause-kept c = λ h xs chain.
