@@ -50,10 +50,13 @@ fn told(alloc: Global, verb: Verb, front: &str, text: &str) -> Result<String, No
     Ok(out)
 }
 
-/// Tries a text, and prints what came of it.
+/// Tries a text, and prints what came of it: in front of it, or on the lines behind it.
 fn try_text<R: Print + AllocGlobal>(rt: &R, verb: Verb, front: &str, text: &str) -> io::Result<()> {
     match told(rt.alloc(), verb, front, text) {
-        Ok(told) => println!(rt; "{}: {}", told, text),
+        Ok(told) => match verb {
+            Verb::Read => println!(rt; "{}: {}", told, text),
+            _ => println!(rt; "{}\n{}", text, told),
+        },
         Err(NoMemory) => println!(rt; "no memory: {}", text),
     }
 }
