@@ -6,7 +6,5 @@
 
 mod addresses;
 mod names;
-#[cfg(test)]
-mod tests;
 
 pub use addresses::{Av, InsertReport};

@@ -7,8 +7,6 @@
 
 mod events;
 mod picture;
-#[cfg(test)]
-mod tests;
 
 pub use events::{Event, events_of, lines_of, sent_at};
 pub use picture::chart;

@@ -6,7 +6,5 @@
 
 mod index;
 mod list;
-#[cfg(test)]
-mod tests;
 
 pub use list::{KeptList, ctx_of};

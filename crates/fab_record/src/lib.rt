@@ -10,5 +10,3 @@
 
 pub mod caller;
 pub mod record;
-#[cfg(test)]
-mod tests;

@@ -19,6 +19,3 @@ pub use cutter::Cutter;
 pub use joiner::{Joined, Joiner};
 pub use laws::{law_cut_is_lane, law_cut_joins, law_heads_tell, law_prefix_joins, law_stamped};
 pub use moves::Move;
-
-#[cfg(test)]
-mod tests;

@@ -1,8 +1,7 @@
 //! Completions that are taken out by their contexts.
-use crate::list::KeptList;
 use fab_base::{Entry, Kept, Taken};
+use fab_kept::KeptList;
 use std::alloc::Global;
-use std::test::Fail;
 
 /// What is done, in order: a completion of the context is pushed, under a number above 0, or one is taken out, which has
 /// the second number, or 0 where there is none.
@@ -88,7 +87,6 @@ fn is_kept(alloc: Global) -> bool {
 }
 
 #[test]
-fn each_context_has_its_first(rt: HostRuntime) -> Result<(), Fail> {
+fn each_context_has_its_first(rt: HostRuntime) {
     assert!(rt; is_kept(rt.alloc()));
-    Ok(())
 }

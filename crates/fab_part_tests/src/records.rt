@@ -1,8 +1,8 @@
 //! A sum that keeps nothing, and a stamp that remembers what the sum was.
 ghost use Rattle.std.specs.Prelude.{◌≡◌, ℕ, ◌+◌, IfOk};
 
-use crate::record::{Begins, Change, Record};
 use fab_base::NoMemory;
+use fab_record::record::{Begins, Change, Record};
 use std::alloc::Global;
 use std::marker::Model;
 use std::snapshot::Snapshot;
