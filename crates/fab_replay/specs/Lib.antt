@@ -1,4 +1,3 @@
-pub mod Reading
 pub mod Rest
 pub mod Seen
 pub mod Verdict

@@ -8,15 +8,12 @@
 
 mod actor;
 mod completions;
-mod cut;
 mod lines;
 mod opening;
-mod reading;
 mod ready;
 mod rest;
 mod turns;
 mod verdicts;
 mod writing;
 
-pub use reading::read_schedule;
 pub use verdicts::{Verdict, check, order_of};

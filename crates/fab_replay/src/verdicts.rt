@@ -9,12 +9,12 @@ ghost use Rattle.fab_replay.specs.Seen.{actors_of, steps_of, left_of, moment_of}
 ghost use Rattle.fab_replay.specs.Verdict.{first_left, common, compared, judged, verdict, verdict_line};
 
 use crate::opening::open;
-use crate::reading::read_schedule;
 use crate::rest::are_at_rest;
 use crate::turns::{Peer, run};
 use crate::writing::report;
 use fab_base::{Bound, NoMemory};
 use fab_items::lists::{narrowed, one_more};
+use fab_schedule::read_schedule;
 use std::alloc::Global;
 
 /// What a checker says of a text, as the report of a run of a script.

@@ -19,6 +19,7 @@ pub(crate) struct Elements {
 
 impl Model for Elements {
     ghost use Rattle.std.specs.Prelude.{List, ℕ, ◌≤◌, vec_capacity};
+    ghost use Rattle.fab_base.specs.declared.limits.TheConstants.{INJECT_BYTES};
 
     ghost Value = { List ℕ };
 

@@ -1,8 +1,8 @@
 use Rattle.std.proofs.Common.{◌≡◌, suc, length}
 use Rattle.std.specs.Option.{option_copied, option_map_or}
 use Rattle.fab_model.specs.Words.{pieces_at}
-use Rattle.fab_replay.specs.Reading.{steps_told, pieces_left, behind_all}
-use Rattle.fab_replay.proofs.reading.steps_in.Given as goal
+use Rattle.fab_schedule.specs.Reading.{steps_told, pieces_left, behind_all}
+use Rattle.fab_schedule.proofs.reading.steps_in.Given as goal
 
 -- the steps so far, and those of the rest, are those of all words
 abbrev pub invariant-words : goal.invariant-words

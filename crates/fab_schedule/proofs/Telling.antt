@@ -7,7 +7,7 @@ use Rattle.std.proofs.lemmas.Slice.Eq.{bytes_eq-Decides}
 use Rattle.fab_base.specs.declared.peers.Step.{Step}
 use Rattle.fab_model.specs.Words.{Word, pieces_at, onto_first}
 use Rattle.fab_model.specs.Report.{numbered, step_in, trace_in, traces}
-use Rattle.fab_replay.specs.Reading.{names_peer, step_told, steps_told, steps_behind, with_rest, begins_trace, lists_told, if_as_many, schedule_told}
+use Rattle.fab_schedule.specs.Reading.{names_peer, step_told, steps_told, steps_behind, with_rest, begins_trace, lists_told, if_as_many, schedule_told}
 
 -- ---- steps
 

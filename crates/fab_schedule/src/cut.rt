@@ -1,7 +1,7 @@
 //! A text, cut at a byte.
 ghost use Rattle.std.specs.Prelude.{◌≡◌, ◌==◌, ◌<◌, ◌∷◌, length, position, option_copied, IfSome};
 ghost use Rattle.fab_model.specs.Words.{pieces_at};
-ghost use Rattle.fab_replay.specs.Reading.{pieces_left};
+ghost use Rattle.fab_schedule.specs.Reading.{pieces_left};
 
 fn byte_in(text: &[u8], byte: u8) -> Option<usize>
     ensures { result ≡ position (λ b. b == byte) text.now }

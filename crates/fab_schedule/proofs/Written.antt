@@ -23,7 +23,7 @@ use Rattle.fab_model.specs.Words.{Word, read_decimal, pieces_at, onto_first, tex
 use Rattle.fab_model.proofs.Names.{lawful_names, replayed_sound}
 use Rattle.fab_model.proofs.Pieces.{plain, readable}
 use Rattle.fab_model.proofs.Plain.{other, decimal_digits, plain_decimal, plain_steps, other_line, other_numbered, others_done, others_stuck, others_left, others_amount}
-use Rattle.fab_replay.specs.Reading.{is_digit, is_numeral, names_peer, step_told, steps_told, steps_behind, begins_trace, lists_told, schedule_told}
+use Rattle.fab_schedule.specs.Reading.{is_digit, is_numeral, names_peer, step_told, steps_told, steps_behind, begins_trace, lists_told, schedule_told}
 
 -- ---- numbers
 

@@ -1,7 +1,7 @@
 use Rattle.std.proofs.Common.{arith}
-use Rattle.fab_replay.proofs.Numerals.{not_digit, too_great}
-use Rattle.fab_replay.proofs.reading.peer_in.Goals as goal
-use Rattle.fab_replay.proofs.reading.peer_in.Goals.{then-not-is_digit-via-then-not-is_digit, then-not-is_digit-via-else-not-is_digit+then-number-from}
+use Rattle.fab_schedule.proofs.Numerals.{not_digit, too_great}
+use Rattle.fab_schedule.proofs.reading.peer_in.Goals as goal
+use Rattle.fab_schedule.proofs.reading.peer_in.Goals.{then-not-is_digit-via-then-not-is_digit, then-not-is_digit-via-else-not-is_digit+then-number-from}
 
 pub returns-then-not-is_digit : goal.returns-then-not-is_digit
 returns-then-not-is_digit c =

@@ -2,7 +2,7 @@
 ghost use Rattle.std.specs.Prelude.{◌≡◌, ℕ, List, IfOk, IfSome, true, false, MatchOption};
 ghost use Rattle.fab_model.specs.Report.{bare, numbered, traces};
 ghost use Rattle.fab_model.specs.Words.{pieces_at, read_decimal};
-ghost use Rattle.fab_replay.specs.Reading.{is_digit, names_peer, step_told, steps_told, steps_behind, lists_told, schedule_told};
+ghost use Rattle.fab_schedule.specs.Reading.{is_digit, names_peer, step_told, steps_told, steps_behind, lists_told, schedule_told};
 
 use crate::cut::first_piece;
 use fab_base::{List, NoMemory, Step};

@@ -1,8 +1,8 @@
 use Rattle.std.proofs.Common.{◌≡◌, true, take}
 use Rattle.std.specs.List.{list_all}
 use Rattle.fab_model.specs.Words.{read_decimal}
-use Rattle.fab_replay.specs.Reading.{is_digit}
-use Rattle.fab_replay.proofs.reading.peer_in.Given as goal
+use Rattle.fab_schedule.specs.Reading.{is_digit}
+use Rattle.fab_schedule.proofs.reading.peer_in.Given as goal
 
 -- what is read so far are digits, and this is their number
 abbrev pub invariant-loop-byte : goal.invariant-loop-byte

@@ -6,7 +6,7 @@ use Rattle.std.proofs.lemmas.List.{take-append-drop}
 use Rattle.std.proofs.lemmas.List.Folds.{list_all_at}
 use Rattle.std.proofs.lemmas.List.Sums.{fold-append}
 use Rattle.fab_model.specs.Words.{read_decimal}
-use Rattle.fab_replay.specs.Reading.{is_digit, is_numeral, names_peer}
+use Rattle.fab_schedule.specs.Reading.{is_digit, is_numeral, names_peer}
 
 -- a numeral is digits alone
 all_digits : (ds : List ℕ) → list_all is_digit ds ≡ false → is_numeral ds ≡ false

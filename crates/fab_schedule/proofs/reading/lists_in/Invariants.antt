@@ -1,8 +1,8 @@
 use Rattle.std.proofs.Common.{◌≡◌, suc, length}
 use Rattle.std.specs.Option.{option_copied, option_map_or}
 use Rattle.fab_model.specs.Words.{pieces_at}
-use Rattle.fab_replay.specs.Reading.{lists_told, pieces_left, behind_all}
-use Rattle.fab_replay.proofs.reading.lists_in.Given as goal
+use Rattle.fab_schedule.specs.Reading.{lists_told, pieces_left, behind_all}
+use Rattle.fab_schedule.proofs.reading.lists_in.Given as goal
 
 -- the lists so far, and those of the rest, are those of all lines
 abbrev pub invariant-lines : goal.invariant-lines
