@@ -2,8 +2,8 @@
 use fab_base::NoMemory;
 use std::alloc::Global;
 
-/// What stands behind a backslash: `n`, `r` and `t` are the control characters of these names, `d` is one more of them, `s` is a
-/// blank, and `e` is no character of ASCII.
+/// What stands behind a backslash: `n`, `r`, `t` and `0` are the control characters of these names, `d` is one more of them, `s`
+/// is a blank, and `e` is no character of ASCII.
 fn add_escaped(out: &mut Vec<u8>, part: &[u8]) -> Result<(), NoMemory> {
     let (byte, rest) = match part {
         [b'n', rest @ ..] => (b'\n', rest),
@@ -11,6 +11,7 @@ fn add_escaped(out: &mut Vec<u8>, part: &[u8]) -> Result<(), NoMemory> {
         [b't', rest @ ..] => (b'\t', rest),
         [b's', rest @ ..] => (b' ', rest),
         [b'd', rest @ ..] => (b'\x7f', rest),
+        [b'0', rest @ ..] => (b'\0', rest),
         [b'e', rest @ ..] => (b'\xc8', rest),
         _ => (b'\\', part),
     };

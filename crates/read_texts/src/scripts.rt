@@ -1,4 +1,4 @@
-//! What came of a text.
+//! What came of a text as a script.
 use fab_base::{Api, Bound, Buf, Info, Line, List, NoMemory, Script, Text};
 use fab_script::{ParseRefused, bind, lines, parse, print};
 use fab_spell::{add_caps_line, add_line};
@@ -7,7 +7,8 @@ use std::alloc::Global;
 /// The bytes of each payload file.
 const FILE: &[u8] = b"abcde";
 
-fn add_refused(out: &mut String, refused: ParseRefused) -> Result<(), NoMemory> {
+/// The line and the reason of a refusal.
+pub(crate) fn add_refused(out: &mut String, refused: ParseRefused) -> Result<(), NoMemory> {
     match refused {
         ParseRefused::Script { line, why } => {
             write!(out, "{line} {why:?}")?;
@@ -70,7 +71,7 @@ fn add_granted(out: &mut String, version: u32, info: Info) -> Result<(), NoMemor
 }
 
 /// The numbers of all lines.
-fn add_numbers(out: &mut String, peers: &[List<Line>]) -> Result<(), NoMemory> {
+pub(crate) fn add_numbers(out: &mut String, peers: &[List<Line>]) -> Result<(), NoMemory> {
     out.push_str("numbers")?;
     for lines in peers {
         for line in lines.as_slice() {
