@@ -62,11 +62,25 @@ type Row = (
     &'static [u8],
 );
 
-const fn reduce(op: AtomicOp, num: Num) -> Coll {
-    Coll::Allreduce { op, num }
-}
+const SUM: Coll = Coll::Allreduce {
+    op: AtomicOp::Sum,
+    num: Num::U8,
+};
 
-const SUM: Coll = reduce(AtomicOp::Sum, Num::U8);
+const LEAST: Coll = Coll::Allreduce {
+    op: AtomicOp::Min,
+    num: Num::I16,
+};
+
+const PRODUCT: Coll = Coll::Allreduce {
+    op: AtomicOp::Prod,
+    num: Num::U16,
+};
+
+const ANY: Coll = Coll::Allreduce {
+    op: AtomicOp::Lor,
+    num: Num::U32,
+};
 
 const ROWS: [Row; 10] = [
     (SUM, 0, &[200], &[100], &[7], &[0x33]),
@@ -77,23 +91,16 @@ const ROWS: [Row; 10] = [
     (Coll::Allgather, 2, &[3], &[1], &[2], &[1, 2, 3]),
     (Coll::Barrier, 1, &[], &[], &[], &[]),
     (
-        reduce(AtomicOp::Min, Num::I16),
+        LEAST,
         1,
         &[0, 1, 5, 0],
         &[255, 255, 6, 0],
         &[0, 0, 4, 0],
         &[255, 255, 4, 0],
     ),
+    (PRODUCT, 2, &[0, 1], &[0, 1], &[1, 0], &[0, 0]),
     (
-        reduce(AtomicOp::Prod, Num::U16),
-        2,
-        &[0, 1],
-        &[0, 1],
-        &[1, 0],
-        &[0, 0],
-    ),
-    (
-        reduce(AtomicOp::Lor, Num::U32),
+        ANY,
         1,
         &[0, 0, 0, 0],
         &[0, 9, 0, 0],
