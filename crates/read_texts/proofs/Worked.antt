@@ -1,9 +1,10 @@
 -- A line of each kind as it is written, each setting and some elements, worked out by the definitions alone: a word left out,
 -- changed or exchanged gives another line.
+use lib.Utf8.{encode}
 use Rattle.std.proofs.Common.{◌≡◌, ℕ, List, [], ◌∷◌, ◌++◌, Some, None, true, false, refl}
 use Rattle.std.specs.Fmt.{digits}
 use Rattle.std.specs.Prelude.{codes}
-use Rattle.fab_base.specs.declared.caps.Api.TheVariants.{One}
+use Rattle.std.specs.Str.{is_utf8, chars}
 use Rattle.fab_base.specs.declared.caps.Cap.TheVariants as cap
 use Rattle.fab_base.specs.declared.caps.Info.{Info}
 use Rattle.fab_base.specs.declared.entries.Class.TheVariants as class
@@ -12,10 +13,8 @@ use Rattle.fab_base.specs.declared.items.Num.TheVariants as num
 use Rattle.fab_base.specs.declared.limits.Size.TheVariants as size
 use Rattle.fab_base.specs.declared.peers.Level.TheVariants.{Delivery, Transmit}
 use Rattle.fab_base.specs.declared.script.BytesWord.TheVariants.{Text, Hex, Zero, File}
-use Rattle.fab_base.specs.declared.script.LineOp.{LineOp}
 use Rattle.fab_base.specs.declared.script.LineOp.TheVariants as op
 use Rattle.fab_base.specs.Granted.{with_cap}
-use Rattle.fab_grammar.specs.declared.settings.Setting.{Setting}
 use Rattle.fab_grammar.specs.declared.settings.Setting.TheVariants as setting
 use Rattle.fab_model.specs.Negotiation.{no_hints}
 use Rattle.fab_model.specs.Words.{line_of}
@@ -35,7 +34,7 @@ unfolding digits verb_for args_for bytes_word
 send = refl
 
 tagged : line_of (row_of (op.TSend 1 0 7 (Text (codes "hello")) None Transmit false false)) ≡ line (codes "tsend 1 0 7 text:hello")
-unfolding digits verb_for args_for bytes_word
+unfolding digits verb_for args_for bytes_word is_utf8 chars encode
 tagged = refl
 
 -- how many zeros
@@ -95,11 +94,11 @@ unfolding digits verb_for args_for
 read = refl
 
 write : line_of (row_of (op.Write 1 2 3 4 (Text []) None true false)) ≡ line (codes "write 1 2 3 4 text: completion")
-unfolding digits verb_for args_for bytes_word
+unfolding digits verb_for args_for bytes_word is_utf8 chars encode
 write = refl
 
 inject_write : line_of (row_of (op.WInject 2 3 4 (Text (codes "a")) (Some 5))) ≡ line (codes "winject 2 3 4 text:a data=5")
-unfolding digits verb_for args_for bytes_word
+unfolding digits verb_for args_for bytes_word is_utf8 chars encode
 inject_write = refl
 
 atomic : line_of (row_of (op.Atomic 1 2 3 4 atom.Sum num.I16 (1 ∷ 0 ∷ 255 ∷ 255 ∷ []) false true)) ≡ line (codes "atomic 1 2 3 4 FI_SUM i16 1,-1 fence")
@@ -121,7 +120,7 @@ unfolding digits verb_for args_for bytes_word
 register = refl
 
 put : line_of (row_of (op.Put 1 8 (Text (codes "a")))) ≡ line (codes "put 1 8 text:a")
-unfolding digits verb_for args_for bytes_word
+unfolding digits verb_for args_for bytes_word is_utf8 chars encode
 put = refl
 
 show : line_of (row_of (op.Show 1)) ≡ line (codes "show 1")
