@@ -8,7 +8,7 @@
 --     asked_by item op            1 where that item owes a reply to this operation
 --     Pledged rx begun            what is coming of a peer will have no more replies booked than it owes
 --     IsPartly rx begun           a message that is not whole is the one that is coming
-use Rattle.std.specs.Prelude.{◌≡◌, ℕ, zero, suc, ◌+◌, ◌<◌, ◌≤◌, Bool, true, false, ◌&&◌, ◌==◌, List, length, drop, Option, Some, None, is_some, is_none, count_by, cond, All, slice_index, slice_index_or}
+use Rattle.std.specs.Prelude.{◌≡◌, ℕ, zero, suc, ◌+◌, ◌≤◌, Bool, true, false, ◌&&◌, ◌==◌, List, drop, Option, Some, None, is_some, is_none, count_by, cond, All, slice_index, slice_index_or}
 use Rattle.fab_base.specs.declared.items.Item.{Item}
 use Rattle.fab_base.specs.declared.items.ItemHead.{ItemHead}
 use Rattle.fab_base.specs.declared.operations.Arrival.{Arrival}

@@ -2,7 +2,7 @@
 -- for it, and at rest, where none awaits a reply, none is held at all.
 --     Fenced s      the invariant of a peer's state
 use Rattle.std.proofs.Common.{◌≡◌, ◌≤◌, ◌<◌, ◌+◌, ◌==◌, ℕ, zero, suc, Bool, true, false, ◌||◌, List, [], ◌∷◌, ◌++◌, length, map, get_or, replicate, cond, slice_get, Option, Some, None, ◌⊎◌, inl, inr, refl, sym, ◌∙◌, ap, subst, arith, rules, append_assoc, length-append, length-set}
-use Rattle.std.specs.Prelude.{⊤, Any, find, position, slice_index_or, slice_index, slice_set, sum_by}
+use Rattle.std.specs.Prelude.{⊤, find, position, slice_index_or, slice_index, slice_set, sum_by}
 use Rattle.std.specs.List.{list_any}
 use Rattle.std.proofs.lemmas.Bool.{and_parts, eqb-true, lt-ltb}
 use Rattle.std.proofs.lemmas.Bool.Decides.{nat_tests}
@@ -42,7 +42,7 @@ use Rattle.fab_model.proofs.Replays.{reached_sound}
 use Rattle.fab_model.proofs.Turns.{slice_get-set}
 use Rattle.fab_model.proofs.Views.{rule_is}
 use Rattle.fab_model.proofs.Steps.{Kept, step_keeps}
-use Rattle.fab_model.proofs.Fences.{Rising, above_in, rising_more, rising_next, calls_to, calls_for, held_calls, Placed, placed_more, placed_within, waits_has, FencedBy, letting_rises, letting_waits, letting_placed, going_fenced}
+use Rattle.fab_model.proofs.Fences.{Rising, rising_more, rising_next, calls_to, calls_for, held_calls, Placed, placed_more, placed_within, waits_has, FencedBy, letting_rises, letting_waits, letting_placed, going_fenced}
 
 -- ---- a peer's state
 
