@@ -22,7 +22,7 @@ use Rattle.fab_model.specs.Sending.{Order, accepting, first_fault, is_granted, i
 use Rattle.fab_model.specs.Receiving.{Posting, cancel, cancellable, claim_of, draws, drop_arrival, drop_claimed, give, joining_posted, look, look_at, peeked, post, receive_of, take_claimed, taken_by, taking, want_of, without_claim, without_first, without_posted}
 use Rattle.fab_model.specs.Arrivals.{do_draw, seating}
 use Rattle.fab_model.specs.Calls.{Call, Transmit, Post, Look, TakeClaimed, DropClaimed, Cancel, CancelFirst, Insert, Remove, Reg, Close, Put, Show, Count, answer, close, do_call, insert, put, reg, remove}
-use Rattle.fab_wire.specs.Owing.{is_reply}
+use Rattle.fab_base.specs.Replies.{is_reply}
 use Rattle.fab_face.specs.Owed.{is_answer, is_debt, is_pledge}
 use Rattle.fab_face.proofs.Counts.{one, count_snoc, count_removed, count_map}
 use Rattle.fab_face.proofs.Letting.{lets_post}

@@ -10,7 +10,8 @@ use Rattle.fab_base.specs.declared.frames.Frame.{Frame}
 use Rattle.fab_base.specs.declared.operations.Operation.{Operation}
 use Rattle.fab_base.specs.declared.peers.LineResult.{LineResult}
 use Rattle.fab_wire.specs.Joined.{is_last, grown}
-use Rattle.fab_wire.specs.Owing.{begins_reply, ends_owing, owes, replies, owing}
+use Rattle.fab_wire.specs.Owing.{begins_reply, ends_owing, replies, owing}
+use Rattle.fab_base.specs.Replies.{owes}
 use Rattle.fab_wire.proofs.Owed.{replies-append, owing-append}
 use Rattle.fab_link.specs.Meaning.{Owes, Repays}
 use Rattle.fab_model.specs.State.{State, Transmitting, accepted_for, held_for, coming_from, raise, with_tx}
