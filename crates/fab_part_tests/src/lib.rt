@@ -1,5 +1,5 @@
 //! Tests of the parts that know one subject each: addresses, atomics, the arrows of a chart, the completion queue and the
-//! counters, frames, completions that are kept, negotiation, records, regions, and a target with its requests.
+//! counters, folds of shares, frames, completions that are kept, negotiation, records, regions, and a target with its requests.
 //!
 //! They stand in a crate of their own, so that none of the parts is proved twice.
 #![tactic(auto)]
@@ -12,6 +12,8 @@ mod atomics;
 mod charts;
 #[cfg(test)]
 mod completions;
+#[cfg(test)]
+mod folds;
 #[cfg(test)]
 mod frames;
 #[cfg(test)]
