@@ -8,7 +8,7 @@ use Rattle.fab_table.specs.declared.kinds.Sent.{Sent}
 use Rattle.fab_table.specs.declared.kinds.In.{In}
 use Rattle.fab_table.specs.declared.kinds.Part.{Part}
 use Rattle.fab_table.specs.Views.{part_at, in_at}
-use Rattle.fab_ring.proofs.Hold.{get_any, flag_at, nothing, something}
+use Rattle.fab_ring.proofs.Hold.{get_any, nothing, something}
 use Rattle.fab_ring.proofs.Facts.{comes_now}
 use Rattle.std.proofs.Common.{length-take-le}
 use Rattle.fab_wire.specs.Frames.{frame}
