@@ -1,15 +1,13 @@
 -- What a progress tells, and a poll where there is no completion.
-use Rattle.std.proofs.Common.{◌≡◌, ◌≢◌, ◌<◌, ℕ, Bool, false, [], ◌++◌, length, append-nil, Option, Some, None, Result, Ok, Err, refl, sym, ap, ◌∙◌, subst, arith}
-use Rattle.std.specs.Prelude.{count_by, IfSome, IfNone}
-use Rattle.fab_base.specs.declared.entries.Taken.{Taken}
-use Rattle.fab_base.specs.declared.entries.Taken.TheVariants.{Success, Failure}
+use Rattle.std.proofs.Common.{◌≡◌, ◌≢◌, ◌<◌, ℕ, Bool, false, [], ◌++◌, length, append-nil, Option, Some, None, Result, Ok, Err, refl, sym, ap, ◌∙◌, subst, arith, inl, inr}
+use Rattle.std.specs.Prelude.{count_by}
 use Rattle.fab_base.specs.declared.faults.NoMemory.{NoMemory}
 use Rattle.fab_face.specs.declared.events.Moved.{Moved}
 use Rattle.fab_face.specs.declared.events.Stop.{Stop}
 use Rattle.fab_face.specs.declared.events.Stop.TheVariants.{Idle as StoppedIdle, Budget, CqFull, LogFull}
 use Rattle.fab_face.specs.Held.{Seen, IsOpen}
 use Rattle.fab_face.specs.Acts.{is_take, is_post, events}
-use Rattle.fab_face.specs.Answers.{IsHeldBack, IsShort, Pops, Progressed}
+use Rattle.fab_face.specs.Answers.{IsHeldBack, IsShort, Progressed}
 use Rattle.fab_face.proofs.Holding.{never_held, none_unread}
 use Rattle.fab_app.specs.declared.completions.Polled.{Polled}
 use Rattle.fab_app.specs.declared.completions.Polled.TheVariants.{Entry, Error, Idle, More}
@@ -17,7 +15,7 @@ use Rattle.fab_app.specs.declared.moving.Next.{Next}
 use Rattle.fab_app.specs.Cleared.{cleared}
 use Rattle.fab_app.specs.Progresses.{Moves, MovesAs, NextOf, Progresses, next_of}
 use Rattle.fab_app.proofs.Chains.{progressed_on, then_more}
-use Rattle.fab_app.specs.Polls.{Polls, PollsAs, Waits, HasNone, told_of, has_come, EndsPoll, PollsFrom}
+use Rattle.fab_app.specs.Polls.{Polls, PollsAs, Waits, HasNone, told_of, has_come, EndsPoll, TakesFirst}
 
 module _ {Home : Type 0} where
   pub moved_some : (fixed : Bool) (budget : ℕ) (old mid : Seen Home) (moved : Moved) → 0 < budget → (p : Progressed fixed budget old mid (Ok moved)) → moved.stop ≡ Budget → p.acts ≢ []
@@ -51,11 +49,11 @@ module _ {Home : Type 0} where
   polls_none fixed budget old mid new (Err lacks) answer opened sound none p has ends =
       record { mid = mid; moved = Err lacks; progressed = p; told = rw ends (has, refl) }
 
-  pub polls_from : (fixed : Bool) (budget : ℕ) (old mid new : Seen Home) (moved : Result Moved NoMemory) (first : Option Taken) (answer : Result Polled NoMemory) → IsOpen old → IsOpen mid → old.log ≡ []
-      → Progressed fixed budget old mid moved → IfSome first (λ entry. Pops entry mid new) → IfNone first (HasNone mid new) → PollsFrom first moved answer → Polls fixed budget old new answer
-  polls_from fixed budget old mid new moved None answer opened sound none p pops has from = polls_none fixed budget old mid new moved answer opened sound none p has from
-  polls_from fixed budget old mid new moved (Some (Success entry)) answer opened sound none p pops has from = record { mid = mid; moved = moved; progressed = p; told = rw from pops }
-  polls_from fixed budget old mid new moved (Some (Failure entry)) answer opened sound none p pops has from = record { mid = mid; moved = moved; progressed = p; told = rw from pops }
+  pub polls_from : (fixed : Bool) (budget : ℕ) (old mid new : Seen Home) (moved : Result Moved NoMemory) (answer : Result Polled NoMemory) → IsOpen old → IsOpen mid → old.log ≡ []
+      → Progressed fixed budget old mid moved → TakesFirst moved mid new answer → Polls fixed budget old new answer
+  polls_from fixed budget old mid new moved answer opened sound none p (inl took) = record { mid = mid; moved = moved; progressed = p; told = rw took.1 took.2 }
+  polls_from fixed budget old mid new moved answer opened sound none p (inr (inl took)) = record { mid = mid; moved = moved; progressed = p; told = rw took.1 took.2 }
+  polls_from fixed budget old mid new moved answer opened sound none p (inr (inr has)) = polls_none fixed budget old mid new moved answer opened sound none p has.0 has.1
 
   by_next : (fixed : Bool) (budget : ℕ) (old new : Seen Home) (moved : Moved) → IsOpen old → old.log ≡ [] → (p : Progressed fixed budget old new (Ok moved)) → (stop : Stop) → moved.stop ≡ stop → MovesAs budget old new p.acts (Ok (next_of stop))
   by_next fixed budget old new moved opened none p StoppedIdle stop = (rw stop at p.counted.3)

@@ -1,9 +1,10 @@
 -- A poll: progress, and then the first completion.
 --     Polls fixed budget old new answer
 --     Waits fixed budget old new answer      polls that found none, and then one more
-use Rattle.std.specs.Prelude.{◌≡◌, Bool, true, false, ℕ, ◌≢◌, ◌<◌, List, [], Option, Some, None, Result, Ok, Err}
+use Rattle.std.specs.Prelude.{◌≡◌, ◌⊎◌, Bool, true, false, ℕ, ◌≢◌, ◌<◌, List, [], None, Result, Ok, Err}
+use Rattle.fab_base.specs.declared.entries.Entry.{Entry as EntryValue}
+use Rattle.fab_base.specs.declared.entries.ErrEntry.{ErrEntry as ErrEntryValue}
 use Rattle.fab_base.specs.declared.entries.Taken.TheVariants.{Success, Failure}
-use Rattle.fab_base.specs.declared.entries.Taken.{Taken}
 use Rattle.fab_base.specs.declared.faults.NoMemory.{NoMemory}
 use Rattle.fab_model.specs.Peers.{unread}
 use Rattle.fab_face.specs.declared.events.Moved.{Moved}
@@ -60,7 +61,7 @@ abbrev pub EndsPoll : Result Moved NoMemory → Result Polled NoMemory → Type 
 EndsPoll (Ok moved) answer = answer ≡ Ok (told_of moved.stop)
 EndsPoll (Err lacks) answer = answer ≡ Err lacks
 
-abbrev pub PollsFrom : Option Taken → Result Moved NoMemory → Result Polled NoMemory → Type 0
-PollsFrom (Some (Success entry)) moved answer = answer ≡ Ok (Entry entry)
-PollsFrom (Some (Failure entry)) moved answer = answer ≡ Ok (Error entry)
-PollsFrom None moved answer = EndsPoll moved answer
+-- the first completion, which is told, or else the progress
+abbrev pub TakesFirst : {Home : Type 0} → Result Moved NoMemory → Seen Home → Seen Home → Result Polled NoMemory → Type 0
+TakesFirst moved old new answer = ((entry : EntryValue) × (answer ≡ Ok (Entry entry)) × Pops (Success entry) old new)
+    ⊎ (((error : ErrEntryValue) × (answer ≡ Ok (Error error)) × Pops (Failure error) old new) ⊎ (HasNone old new × EndsPoll moved answer))

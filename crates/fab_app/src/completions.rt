@@ -1,15 +1,19 @@
 //! The completion queue (fi_cq(3)).
-ghost use Rattle.std.specs.Prelude.{◌≡◌, ◌++◌, List, None, OnErr, IfOk, IfSome, IfNone};
+ghost use Rattle.std.specs.Prelude.{◌≡◌, ◌++◌, List, Some, OnErr, Ok, IfOk};
 ghost use Rattle.fab_base.specs.declared.entries.Entry.{Entry as EntryValue};
+ghost use Rattle.fab_base.specs.declared.entries.ErrEntry.{ErrEntry as ErrEntryValue};
+ghost use Rattle.fab_base.specs.declared.entries.Taken.TheVariants.{Failure};
+ghost use Rattle.fab_base.specs.declared.operations.Written.{Written};
 ghost use Rattle.fab_model.specs.Peers.{ctx_of_entry, unread};
-ghost use Rattle.fab_face.specs.Answers.{Pops};
+ghost use Rattle.fab_face.specs.Answers.{IsFailure, Pops};
 ghost use Rattle.fab_app.specs.Cleared.{cleared};
-ghost use Rattle.fab_app.specs.Polls.{has_come, EndsPoll, Polls, PollsFrom, Waits};
+ghost use Rattle.fab_app.specs.Polls.{has_come, EndsPoll, Polls, TakesFirst, Waits};
+ghost use Rattle.fab_app.specs.declared.completions.Polled.TheVariants.{Error};
 ghost use Rattle.fab_app.specs.Takes.{TakesMost};
 
 use crate::endpoint::{Calls, Endpoint};
 use crate::moving::BUDGET;
-use fab_base::{Entry, ErrEntry, NoMemory, Taken};
+use fab_base::{Entry, ErrEntry, Fault, NoMemory};
 use fab_face::events::{Moved, Stop};
 use std::{hint, thread};
 
@@ -55,28 +59,29 @@ fn ended(moved: Result<Moved, NoMemory>) -> Result<Polled, NoMemory>
     })
 }
 
-/// What a poll tells of the completion that was taken, and of the progress where there is none.
-fn told_by(first: Option<Taken>, moved: Result<Moved, NoMemory>) -> Result<Polled, NoMemory>
-    ensures { PollsFrom first moved result }
+/// Takes the first completion, which is an error.
+fn take_error<E: Calls>(endpoint: &mut E) -> Result<Polled, NoMemory>
+    requires { (w : Written) × (unread (E.seen endpoint.old).held.state.cq ≡ Some w) × IsFailure w }
+    ensures { (error : ErrEntryValue) × (result ≡ Ok (Error error)) × Pops (Failure error) (E.seen endpoint.old) (E.seen endpoint.new) }
 {
-    match first {
-        Some(Taken::Success(entry)) => Ok(Polled::Entry(entry)),
-        Some(Taken::Failure(error)) => Ok(Polled::Error(error)),
-        None => ended(moved),
+    match endpoint.cq_readerr() {
+        Ok(error) => Ok(Polled::Error(error)),
+        Err(_) => unreachable!(),
     }
 }
 
-/// Takes the first completion, a success or an error.
-fn take_first<E: Calls>(endpoint: &mut E) -> Option<Taken>
-    ensures some { IfSome result (λ entry. Pops entry (E.seen endpoint.old) (E.seen endpoint.new)) }
-    ensures none { IfNone result ((E.seen endpoint.new ≡ E.seen endpoint.old) × (unread (E.seen endpoint.old).held.state.cq ≡ None)) }
+/// Takes the first completion, a success or an error, and tells it, or else the progress. Most often it is a success or none is
+/// there, so that is asked first: each answer is large.
+fn take_first<E: Calls>(
+    endpoint: &mut E,
+    moved: Result<Moved, NoMemory>,
+) -> Result<Polled, NoMemory>
+    ensures { TakesFirst moved (E.seen endpoint.old) (E.seen endpoint.new) result }
 {
-    match endpoint.cq_readerr() {
-        Ok(error) => Some(Taken::Failure(error)),
-        Err(_) => match endpoint.cq_pop() {
-            Ok(entry) => Some(Taken::Success(entry)),
-            Err(_) => None,
-        },
+    match endpoint.cq_pop() {
+        Ok(entry) => Ok(Polled::Entry(entry)),
+        Err(Fault::NoEntry) => ended(moved),
+        Err(_) => take_error(endpoint),
     }
 }
 
@@ -100,8 +105,7 @@ impl<E: Calls + Drop> Endpoint<E> {
         self.inner.known();
         let moved = self.inner.progress(budget);
         self.inner.known();
-        let first = take_first(&mut self.inner);
-        told_by(first, moved)
+        take_first(&mut self.inner, moved)
     }
 
     /// Takes the first completions, at most so many, and appends them (fi_cq_read with a count). It makes no progress, which

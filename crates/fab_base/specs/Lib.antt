@@ -2,3 +2,4 @@ pub mod Elements
 pub mod Granted
 pub mod Offer
 pub mod Counts
+pub mod Replies

@@ -1,14 +1,10 @@
 -- Shares that are read one after another.
-use Rattle.std.proofs.Common.{List, [], ap, append-nil, append_assoc, arith, false, length, refl, sym, true, ℕ, ◌++◌, ◌<◌, ◌∙◌, ◌∷◌, ◌≡◌}
-use Rattle.std.proofs.lemmas.Bool.Decides.{nat_tests}
-use Rattle.std.specs.Prelude.{Err, Ok, Result, if◌then◌else◌, ◌==◌}
+use Rattle.std.proofs.Common.{List, [], refl, ◌++◌, ◌≡◌}
+use Rattle.std.specs.Prelude.{Err, Ok, Result}
 use Rattle.fab_base.specs.declared.script.BytesWord.{BytesWord}
-use Rattle.fab_words.specs.Misreads.{first_misread, map_ok, ◌&◌}
+use Rattle.fab_words.specs.Misreads.{first_misread}
 use Rattle.fab_words.specs.declared.misread.Misread.TheVariants.{Limit, Number, Words}
 use Rattle.fab_words.specs.declared.misread.Misread.{Misread}
-use Rattle.fab_coll.specs.Grammar.{one_more, read_all, read_each}
-use Rattle.fab_coll.specs.Reading.{one_behind}
-use Rattle.fab_coll.specs.declared.shares.Written.{Written}
 
 abbrev Shares : Type 0
 Shares = Result (List BytesWord) Misread

@@ -15,7 +15,7 @@ use Rattle.fab_base.specs.declared.peers.LineResult.TheVariants.{Done, Refused}
 use Rattle.fab_wire.specs.Frames.{IsSound, operand_bytes, compare_bytes}
 use Rattle.fab_base.specs.declared.items.Ack.TheVariants.{Nothing}
 use Rattle.fab_base.specs.declared.peers.Level.{Level}
-use Rattle.fab_tx.specs.Transit.{is_reply}
+use Rattle.fab_base.specs.Replies.{is_reply}
 use Rattle.fab_model.specs.Matching.{is_message}
 use Rattle.fab_model.specs.State.{State, in_use, lookup}
 use Rattle.fab_model.specs.Sending.{Order, ack_of, first_fault, head_of, is_granted, is_too_long, is_well_formed, most_bytes, transmit, transmit_to}

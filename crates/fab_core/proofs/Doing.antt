@@ -15,7 +15,8 @@ use Rattle.fab_base.specs.declared.operations.Receive.{Receive}
 use Rattle.fab_base.specs.declared.peers.Level.{Level}
 use Rattle.fab_model.specs.Matching.{is_message, remove_first, takes}
 use Rattle.fab_model.specs.State.{State, Transmitting, awaits, coming_from, under_way}
-use Rattle.fab_model.specs.Complete.{at_delivery, at_either, at_match, book, fill, filling, fill_multi, is_made_by, let_go, release, release_multi, reply}
+use Rattle.fab_model.specs.Complete.{at_delivery, at_match, book, fill, filling, fill_multi, is_made_by, let_go, release, release_multi, reply}
+use Rattle.fab_base.specs.Replies.{at_either}
 use Rattle.fab_model.specs.Receiving.{cancel, cancellable, give, post, without_first}
 use Rattle.fab_model.specs.Sending.{answering, do_answer, do_sent, end_with, ending, expects, going_on, is_answered_by, refusal_of, success_of, transmit_to, transmitting}
 use Rattle.fab_model.specs.Arrivals.{do_head, do_tail, keeping, made_whole, tail_to}

@@ -1,7 +1,7 @@
 -- A frame comes in: what it makes of the parts is what the machine does.
 use Rattle.std.proofs.Common.{◌≡◌, ◌≢◌, inr, ℕ, ◌+◌, ◌-◌, ◌<◌, ◌≤◌, ◌==◌, Bool, true, false, not, ◌&&◌, ◌||◌, List, [], ◌∷◌, ◌++◌, length, length-append, Option, Some, None, get_or, get_or-set_same, refl, sym, ap, ◌∙◌, subst, arith}
-use Rattle.std.specs.Prelude.{find, IfSome, IsSomeAnd, OnErr, Result, Ok, Err, is_some, min, slice_index, slice_set}
-use Rattle.std.proofs.lemmas.Bool.{eq-eqb, eqb-true, eqb-false}
+use Rattle.std.specs.Prelude.{find, IfSome, IsSomeAnd, is_some, min, slice_index, slice_set}
+use Rattle.std.proofs.lemmas.Bool.{eqb-true, eqb-false}
 use Rattle.std.proofs.lemmas.List.{set-set}
 use Rattle.fab_base.specs.declared.frames.Frame.{Frame}
 use Rattle.fab_base.specs.declared.frames.FrameHead.{FrameHead}
@@ -19,18 +19,18 @@ use Rattle.fab_model.specs.State.{State, Receiving, Transmitting, coming_from, f
 use Rattle.fab_model.specs.Receiving.{draw_due}
 use Rattle.fab_model.specs.Arrivals.{do_tail, heading_message, heading_other, made_whole, taker, way_of}
 use Rattle.fab_rx.specs.Arriving.{Arriving, IsArriving, arriving, bare, begun_of, bytes_come, count_begun, growing, headed as headed_in}
-use Rattle.fab_rx.specs.Results.{closed_by, closed_if, entries_due, last_of}
+use Rattle.fab_rx.specs.Results.{closed_by, closed_if, last_of}
 use Rattle.fab_cq.specs.Queues.{has_room}
 use Rattle.fab_face.specs.Held.{Held}
 use Rattle.fab_face.specs.Acts.{Comes, Goes, Took, headed, is_first}
-use Rattle.fab_face.specs.Answers.{FrameLacks, MayNeed}
+use Rattle.fab_face.specs.Answers.{FrameLacks}
 use Rattle.fab_face.specs.Machine.{IsNext, StayNext}
 use Rattle.fab_rma.specs.Serving.{is_request, outcome_at}
 use Rattle.fab_core.specs.Parts.{IsFitting, IsTogether, Parts, held_of, state_of}
 use Rattle.fab_ends.specs.Ends.{answer_writes}
 use Rattle.fab_core.specs.Doing.{arrived, fed, lacks_at_tail, tail, writes_at_tail}
 use Rattle.fab_core.proofs.Doing.{heading_is, tail_is}
-use Rattle.fab_tx.specs.Transit.{is_reply}
+use Rattle.fab_base.specs.Replies.{is_reply}
 use Rattle.fab_core.proofs.Fits.{fits_tail}
 use Rattle.fab_core.proofs.Steady.{item_there}
 use Rattle.fab_core.proofs.Together.{fitting_arrived}

@@ -7,16 +7,15 @@ use Rattle.fab_base.specs.declared.entries.Entry.TheVariants.{Released as GivenB
 use Rattle.fab_base.specs.declared.entries.Taken.TheVariants.{Success}
 use Rattle.fab_base.specs.declared.items.Want.{Want}
 use Rattle.fab_base.specs.declared.operations.Tally.{Tally}
-use Rattle.fab_model.specs.Complete.{at_delivery, at_either, at_match, entry_of, filling, has_space, is_made_by}
+use Rattle.fab_model.specs.Complete.{at_delivery, at_match, entry_of, filling, has_space, is_made_by}
+use Rattle.fab_base.specs.Replies.{at_either}
 use Rattle.fab_model.specs.Matching.{takes}
 use Rattle.fab_base.specs.declared.items.Item.{Item}
 use Rattle.fab_base.specs.declared.items.ItemHead.{ItemHead}
 use Rattle.fab_base.specs.declared.operations.Arrival.{Arrival}
 use Rattle.fab_base.specs.declared.operations.Coming.{Coming}
 use Rattle.fab_base.specs.declared.operations.Coming.TheVariants.{Into, Keep, Throw, Request, Answer}
-use Rattle.fab_base.specs.declared.operations.Operation.{Operation}
 use Rattle.fab_base.specs.declared.operations.Receive.{Receive}
-use Rattle.std.specs.Option.{option_map}
 use Rattle.fab_model.specs.State.{Completions, Receiving, coming_from, counting, under_way, writing}
 use Rattle.fab_model.specs.Arrivals.{do_tail, made_whole}
 use Rattle.fab_face.specs.Machine.{StayNext}

@@ -1,5 +1,5 @@
 -- The bytes of a multi-receive are where its place says.
-use Rattle.std.proofs.Common.{◌≡◌, inr, ℕ, ◌+◌, ◌<◌, ◌≤◌, ◌==◌, Bool, true, false, List, [], ◌∷◌, ◌++◌, length, take, drop, Option, Some, None, refl, sym, ap, subst, ◌∙◌}
+use Rattle.std.proofs.Common.{◌≡◌, inr, ℕ, ◌+◌, ◌<◌, ◌==◌, Bool, true, false, List, [], ◌∷◌, ◌++◌, length, Option, Some, None, refl, sym, ap, subst, ◌∙◌}
 use Rattle.std.specs.Prelude.{find, is_some, unwrap_or, IfNone, IfSome, IsSomeAnd}
 use Rattle.std.specs.Option.{option_map}
 use Rattle.std.proofs.lemmas.Bool.{eqb-true, eq-eqb, ne_eqb}
@@ -8,7 +8,7 @@ use Rattle.fab_model.specs.Complete.{is_made_by}
 use Rattle.fab_model.specs.Peers.{multi_buf}
 use Rattle.fab_cq.specs.Queues.{buffer_by, given_back}
 use Rattle.fab_face.specs.Held.{Held}
-use Rattle.fab_face.specs.Answers.{Lends, LendsNone, multi_of}
+use Rattle.fab_face.specs.Answers.{LendsNone, multi_of}
 use Rattle.fab_rx.specs.Arriving.{made_by, open_under}
 use Rattle.fab_rx.specs.Opened.{is_multi, sized}
 use Rattle.fab_ends.specs.declared.places.Place.{Place}

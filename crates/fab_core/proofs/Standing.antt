@@ -18,7 +18,8 @@ use Rattle.fab_base.specs.declared.operations.Operation.{Operation}
 use Rattle.fab_base.specs.declared.operations.Receive.{Receive}
 use Rattle.fab_model.specs.Matching.{is_message, remove_first}
 use Rattle.fab_model.specs.State.{Completions, Receiving, Transmitting, coming_from, raise, writing}
-use Rattle.fab_model.specs.Complete.{at_delivery, at_either, entry_of, error, filled, filling, fill_multi, is_made_by, joining}
+use Rattle.fab_model.specs.Complete.{at_delivery, entry_of, error, filled, filling, fill_multi, is_made_by, joining}
+use Rattle.fab_base.specs.Replies.{at_either}
 use Rattle.fab_model.specs.Sending.{accepting, is_answered, is_answered_by, is_of_item, success_of}
 use Rattle.fab_model.specs.Target.{perform}
 use Rattle.fab_model.specs.Arrivals.{heading_message, heading_other, is_wanted, keeping, made_whole, newcomer, seated, shut, taker, way_of}

@@ -1,5 +1,5 @@
 -- The first of what is stored is the oldest unread entry.
-use Rattle.std.proofs.Common.{◌≡◌, ◌<◌, ◌+◌, ◌-◌, ℕ, suc, zero, List, [], ◌∷◌, length, drop, get_or, slice_get, Option, Some, None, refl, sym, subst, ◌∙◌, ap, arith, length-drop, Bor}
+use Rattle.std.proofs.Common.{◌≡◌, ◌<◌, ◌-◌, ℕ, suc, zero, List, [], ◌∷◌, length, drop, get_or, slice_get, Option, Some, None, refl, sym, ◌∙◌, ap, arith, length-drop, Bor}
 use Rattle.std.specs.Prelude.{IfSome, IfNone}
 use Rattle.std.specs.Slice.{IsItemAt}
 use Rattle.std.proofs.lemmas.List.{length-map}
@@ -8,7 +8,7 @@ use Rattle.fab_base.specs.declared.entries.Taken.{Taken}
 use Rattle.fab_base.specs.declared.operations.Written.{Written}
 use Rattle.fab_model.specs.State.{Completions}
 use Rattle.fab_model.specs.Peers.{unread}
-use Rattle.fab_cq.specs.Queues.{buffer_by, buffer_in, entries_of, given_back, IsKept, IsNext}
+use Rattle.fab_cq.specs.Queues.{entries_of, IsKept, IsNext}
 
 entry_there : (ws : List Written) (n : ℕ) (entry : Taken) → n < length ws → entry ≡ get_or (drop n (entries_of ws)) 0 entry → (w : Written) × (slice_get ws n ≡ Some w) × (w.entry ≡ entry)
 entry_there [] n entry lt first = absurd (omega (arith, lt))

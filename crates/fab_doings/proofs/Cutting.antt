@@ -1,27 +1,24 @@
 -- The frames that a peer posts continue their lanes by cutting.
-use Rattle.std.proofs.Common.{◌≡◌, ◌<◌, ◌≤◌, ◌+◌, inl, inr, ℕ, zero, suc, Bool, true, false, ◌==◌, List, [], ◌∷◌, ◌++◌, length, Option, Some, None, refl, sym, ap, ◌∙◌, subst, arith, get_or-set_same, get_or-set_other}
+use Rattle.std.proofs.Common.{◌≡◌, ◌+◌, ℕ, Bool, true, false, ◌==◌, List, [], ◌∷◌, ◌++◌, Option, Some, refl, sym, ap, ◌∙◌, subst, get_or-set_other}
 use Rattle.std.specs.Prelude.{slice_get, slice_index}
-use Rattle.std.specs.Option.{option_map}
 use Rattle.std.proofs.lemmas.Bool.{eqb-true, eqb-false}
 use Rattle.fab_base.specs.declared.frames.Frame.{Frame}
 use Rattle.fab_base.specs.declared.frames.FrameHead.{FrameHead}
-use Rattle.fab_base.specs.declared.items.Item.{Item}
-use Rattle.fab_wire.specs.Frames.{IsLane, MayCome}
+use Rattle.fab_wire.specs.Frames.{IsLane}
 use Rattle.fab_wire.specs.Joined.{is_last}
 use Rattle.fab_model.specs.State.{accepted_for}
 use Rattle.fab_model.specs.Views.{IsPrefixOf}
 use Rattle.fab_model.proofs.Parts.{prefix_get}
 use Rattle.fab_model.proofs.Passes.{draw_passes}
 use Rattle.fab_model.specs.Arrivals.{do_draw}
-use Rattle.fab_face.specs.Held.{Held, next_frame, next_item, piece, IsOut, AreItems, IsPlaced}
+use Rattle.fab_face.specs.Held.{Held, next_item, IsOut, AreItems, IsPlaced}
 use Rattle.fab_face.specs.Acts.{Departs, only}
-use Rattle.fab_face.proofs.Tied.{placed_continues, piece_filled, placed_last, placed_more}
 use Rattle.fab_model.specs.Peers.{reading}
 use Rattle.fab_doings.proofs.Programs.{own_passes, read_passes}
-use Rattle.fab_peer.proofs.Sending.{Keeps, keeps_passes, keeps_took, next_kept, passes_at, sent_raised, sent_ready}
+use Rattle.fab_peer.proofs.Sending.{keeps_passes, keeps_took, next_kept, passes_at, sent_raised, sent_ready}
 use Rattle.fab_doings.proofs.Sending.{transmits_one, lives_ready}
 use Rattle.fab_doings.specs.Doings.{after_own, Did, Does, DoesBy, Doing, Drew, Had, Living, Posted, Took, posted_by, posted_to}
-use Rattle.fab_peer.proofs.Cutting.{IsPlacedAt, placed_next, placed_keeps, place_within, cut_posted}
+use Rattle.fab_peer.proofs.Cutting.{IsPlacedAt, placed_next, placed_keeps, cut_posted}
 
 module _ (h k : Held) (d : ℕ) (end : Option FrameHead) (ready : IsPrefixOf (accepted_for h.state.tx d) (accepted_for k.state.tx d)) (sent : slice_index k.state.tx.sent d ≡ slice_index h.state.tx.sent d) (place : slice_index k.places d ≡ slice_index h.places d) where
   placed_kept : IsPlacedAt end h d → IsPlacedAt end k d

@@ -1,17 +1,15 @@
 -- What a thread adds to its record at each call, from the call's contract.
 use Rattle.std.proofs.Common.{◌≡◌, ℕ, List, [], ◌∷◌, ◌++◌, map, fold, Option, Some, None, refl, sym, ap, ◌∙◌, subst, append_assoc, append-nil}
-use Rattle.std.proofs.lemmas.List.{map-append}
 use Rattle.fab_base.specs.declared.entries.Taken.{Taken}
 use Rattle.fab_base.specs.declared.entries.Class.{Class}
 use Rattle.fab_base.specs.declared.peers.LineResult.{LineResult}
-use Rattle.fab_wire.specs.declared.moves.Move.{Move}
 use Rattle.fab_model.specs.State.{State}
 use Rattle.fab_model.specs.Calls.{Call, Insert, do_call, insert}
 use Rattle.fab_av.specs.Addresses.{insert_next, inserting}
 use Rattle.fab_av.specs.declared.addresses.InsertReport.{InsertReport}
 use Rattle.fab_face.specs.Held.{Held, Seen, with_machine}
 use Rattle.fab_face.specs.Acts as acts
-use Rattle.fab_face.specs.Acts.{headed, is_first, only, Act, Goes, GoesBy, MovedBy, Way, Went, has_read, way}
+use Rattle.fab_face.specs.Acts.{headed, is_first, only, Act, Goes, GoesBy, MovedBy, Went}
 use Rattle.fab_wire.specs.Joined.{is_last}
 use Rattle.fab_face.specs.Answers.{Inserts, Locally, Pops, adding}
 use Rattle.fab_doings.specs.Doings.{Did, Doing, DoesBy, Had, Living, Own, Calls, Posted, Took, Writes, after_own, doing_of, doings_by, posted_by, posted_to, taken_by, taken_of, ways_of}

@@ -1,5 +1,5 @@
 -- The premises of the law, where they come from.
-use Rattle.std.proofs.Common.{◌≡◌, ◌≤◌, ◌<◌, inl, inr, ℕ, zero, suc, true, Bool, List, [], ◌∷◌, length, map, replicate, slice_get, get_or, Option, Some, None, refl, arith}
+use Rattle.std.proofs.Common.{◌≡◌, ◌≤◌, inl, inr, ℕ, zero, suc, true, List, [], ◌∷◌, length, map, replicate, slice_get, Option, Some, None, refl, arith}
 use Rattle.std.specs.Prelude.{All, slice_index_or}
 use Rattle.std.proofs.lemmas.Bool.{cases_lt}
 use mathlib.Core.List.{IsPrefix}
@@ -7,11 +7,7 @@ use Rattle.fab_base.specs.declared.items.Item.{Item}
 use Rattle.fab_base.specs.declared.script.Conf.{Conf}
 use Rattle.fab_wire.specs.Merged.{IsStamped, posts_to, takes_of, merges}
 use Rattle.fab_wire.proofs.Merging.{stamped_merge}
-use Rattle.fab_base.specs.declared.caps.Info.{Info}
-use Rattle.fab_model.specs.State.{lookup}
-use Rattle.fab_av.specs.Addresses.{Addresses}
-use Rattle.fab_face.specs.Ports.{opened}
-use Rattle.fab_laws.specs.Programs.{Starts, starting}
+use Rattle.fab_laws.specs.Programs.{starting}
 use Rattle.fab_doings.specs.Law.{Past}
 use Rattle.fab_merging.specs.Law.{IsFresh}
 use Rattle.fab_doings.specs.Law.{told_moves, outs_at, ins_at}

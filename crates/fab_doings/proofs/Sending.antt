@@ -1,9 +1,6 @@
 -- What the frames posted join to: the items that were accepted, in order.
-use Rattle.std.proofs.Common.{◌≡◌, ◌+◌, inl, inr, ℕ, List, [], ◌∷◌, ◌++◌, length, length-append, Some, refl, sym, ap, ◌∙◌, subst, arith}
+use Rattle.std.proofs.Common.{◌≡◌, inl, inr, ℕ, List, [], ◌∷◌, refl, sym, ap, ◌∙◌, subst, arith}
 use Rattle.std.specs.Prelude.{slice_get, slice_index}
-use Rattle.fab_base.specs.declared.frames.Frame.{Frame}
-use Rattle.fab_base.specs.declared.items.Item.{Item}
-use Rattle.fab_wire.specs.Joined.{Gathered}
 use Rattle.fab_model.specs.State.{accepted_for}
 use Rattle.fab_model.specs.Views.{IsPrefixOf}
 use Rattle.fab_model.proofs.Views.{prefix_self, prefix_prefix}
@@ -11,10 +8,8 @@ use Rattle.fab_model.proofs.Parts.{prefix_get}
 use Rattle.fab_model.specs.Peers.{reading}
 use Rattle.fab_doings.proofs.Programs.{own_passes, read_passes}
 use Rattle.fab_face.specs.Held.{Held, next_item, IsOut, IsOutAt, AreItems}
-use Rattle.fab_face.specs.Acts.{Ends, Departs, headed, is_first, only}
-use Rattle.fab_peer.specs.Turns.{Transmits, joined_from, part_at, posted_part}
-use Rattle.fab_peer.proofs.Showing.{joined_append}
-use Rattle.fab_peer.proofs.Sending.{Keeps, get_append, keeps_passes, next_kept, passes_at, transmits_none, transmits_then}
+use Rattle.fab_peer.specs.Turns.{Transmits, part_at, posted_part}
+use Rattle.fab_peer.proofs.Sending.{keeps_passes, next_kept, passes_at, transmits_none, transmits_then}
 use Rattle.fab_peer.proofs.Sending as sending
 use Rattle.fab_face.specs.Acts as face
 use Rattle.fab_doings.proofs.Programs.{idle}

@@ -1,14 +1,11 @@
 -- What frames join to, and that a peer's acts are steps of the machine wherever their frames are shown.
-use Rattle.std.proofs.Common.{◌≡◌, ◌<◌, ◌≤◌, ◌+◌, ℕ, zero, suc, Bool, true, false, not, ◌&&◌, ◌==◌, List, [], ◌∷◌, ◌++◌, length, length-append, drop, Option, Some, None, refl, sym, ap, ◌∙◌, subst, arith, append-nil, append_assoc, get_or-set_same}
-use Rattle.std.specs.Prelude.{slice_get, slice_index, slice_index_or, fold}
-use Rattle.std.specs.Option.{option_map}
+use Rattle.std.proofs.Common.{◌≡◌, ◌<◌, ◌≤◌, ◌+◌, ℕ, Bool, true, false, not, ◌==◌, List, [], ◌∷◌, ◌++◌, length, drop, Option, Some, None, refl, sym, ap, ◌∙◌, subst, arith, append-nil, append_assoc}
+use Rattle.std.specs.Prelude.{slice_get, slice_index}
 use Rattle.std.proofs.lemmas.Bool.{eq-eqb, eqb-true, lt-ltb}
-use Rattle.std.proofs.lemmas.Option.{slice_get_within}
-use Rattle.std.proofs.Math.Seq.{drop-append_seam}
 use Rattle.fab_base.specs.declared.frames.Frame.{Frame}
 use Rattle.fab_base.specs.declared.items.Item.{Item}
 use Rattle.fab_base.specs.declared.items.ItemHead.{ItemHead}
-use Rattle.fab_wire.specs.Joined.{is_last, grown, with_frame, Gathered, AreFirst, IsBegun}
+use Rattle.fab_wire.specs.Joined.{is_last, grown, AreFirst, IsBegun}
 use Rattle.fab_model.specs.State.{State, fits, accepted_for}
 use Rattle.fab_model.specs.Receiving.{draw_due}
 use Rattle.fab_model.specs.Sending.{do_sent}
@@ -20,11 +17,10 @@ use Rattle.fab_base.specs.declared.operations.Written.{Written}
 use Rattle.fab_laws.proofs.Programs.{where_gives}
 use Rattle.fab_laws.proofs.Recorded.{lift}
 use Rattle.fab_doings.proofs.Programs.{own_passes}
-use Rattle.fab_model.proofs.Passes.{head_passes}
-use Rattle.fab_face.specs.Held.{Held, begun_of, next_frame, next_item, piece}
+use Rattle.fab_face.specs.Held.{Held, begun_of, next_frame}
 use Rattle.fab_face.specs.Acts.{Comes, Ends, Departs, headed, is_first, only}
 use Rattle.fab_peer.specs.Turns.{Shows, Joins, joined_from}
-use Rattle.fab_peer.proofs.Showing.{joined_append, joins_then, joins_same, headed_tails, get_drop, shows_after, whole_item, begun_after, and_true, is_waiting}
+use Rattle.fab_peer.proofs.Showing.{joins_then, joins_same, headed_tails, get_drop, shows_after, whole_item, begun_after, and_true, is_waiting}
 use Rattle.fab_peer.proofs.Showing as showing
 use Rattle.fab_face.specs.Acts as face
 use Rattle.fab_doings.proofs.Programs.{idle}

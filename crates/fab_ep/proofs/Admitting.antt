@@ -13,7 +13,7 @@ use Rattle.fab_model.specs.Sending.{Order, first_fault, transmit_fault, transmit
 use Rattle.fab_model.specs.Calls.{Call, Transmit, answer, do_call}
 use Rattle.fab_face.specs.Held.{Held, Seen}
 use Rattle.fab_face.specs.Acts.{Act, Did, Took, Posted, Drew, Had, Departs, GoesBy, Went, is_post}
-use Rattle.fab_face.specs.Answers.{AllAre, HasPlaces, IsFull, IsShort, Judged, SendsNot, is_final, is_early}
+use Rattle.fab_face.specs.Answers.{AllAre, HasPlaces, IsShort, Judged, SendsNot, is_final, is_early}
 use Rattle.fab_face.proofs.Joining.{went_none, ported_same}
 use Rattle.fab_ep.specs.Tries.{Pushes, Pushed}
 use Rattle.fab_ep.specs.Sends.{Admits}

@@ -17,7 +17,7 @@ use Rattle.fab_face.specs.Held.{Held, Seen}
 use Rattle.fab_face.specs.Acts.{Act, Did, Took, Posted, Drew, Had, Goes, GoesBy, Went, is_draw, events}
 use Rattle.fab_face.specs.Answers.{AllAre, HasPlaces}
 use Rattle.fab_face.proofs.Joining.{went_none, went_then, ported_same}
-use Rattle.fab_ep.specs.Draws.{Drawing, Draws, DrawsOne}
+use Rattle.fab_ep.specs.Draws.{Drawing, DrawsOne}
 
 -- ---- one draw takes a message out of the unexpected ones
 

@@ -11,14 +11,14 @@ use Rattle.fab_base.specs.declared.items.Item.{Item}
 use Rattle.fab_wire.specs.Joined.{is_last}
 use Rattle.fab_face.specs.declared.events.Event.{Event}
 use Rattle.fab_face.specs.declared.events.Event.TheVariants.{Sent as Transmitted}
-use Rattle.fab_face.specs.Held.{Lanes, Seen, piece, next_frame}
-use Rattle.fab_face.specs.Acts.{Act, Posted, Ported, only, is_post}
-use Rattle.fab_face.specs.Answers.{HasPlaces, IsHeld}
+use Rattle.fab_face.specs.Held.{Seen, piece, next_frame}
+use Rattle.fab_face.specs.Acts.{Act, Posted, only, is_post}
+use Rattle.fab_face.specs.Answers.{HasPlaces}
 use Rattle.fab_face.proofs.Joining.{went_none, went_then}
 use Rattle.fab_face.proofs.Joining.{ported_same}
 use Rattle.fab_ep.specs.declared.endpoint.Tried.{Tried}
 use Rattle.fab_ep.specs.declared.endpoint.Tried.TheVariants.{Moved, Nothing, Held as HeldBack, Short}
-use Rattle.fab_ep.specs.Tries.{Calm, PostsOut, TriesOut, PushesOut, PushesOn, PushedTo, PushesTo, has_moved}
+use Rattle.fab_ep.specs.Tries.{Calm, PostsOut, TriesOut, PushesOut, PushesOn, PushedTo, PushesTo}
 use Rattle.fab_ep.proofs.Posting.{last_is}
 use Rattle.fab_ep.proofs.Turning.{went_calm, full_on}
 

@@ -1,6 +1,6 @@
 -- A frame is looked at, and taken.
 use Rattle.std.proofs.Common.{◌⊎◌, inl, inr, ◌≡◌, ◌<◌, ◌≤◌, ◌+◌, ℕ, zero, suc, Bool, true, false, List, [], ◌∷◌, ◌++◌, length, length-append, get_or-set_same, get_or-set_other, append-nil, append_assoc, Option, Some, None, Result, Err, refl, sym, ap, ◌∙◌, subst, arith}
-use Rattle.std.specs.Prelude.{slice_index, slice_set, IfSome}
+use Rattle.std.specs.Prelude.{slice_index, slice_set}
 use Rattle.std.proofs.lemmas.Bool.{cases_eq, eqb-true}
 use Rattle.fab_base.specs.Counts.{Rose}
 use Rattle.fab_base.specs.declared.frames.Frame.{Frame}
@@ -15,7 +15,7 @@ use Rattle.fab_model.specs.State.{State}
 use Rattle.fab_face.proofs.Repaid.{repaid_still, repaid_took, took_owes}
 use Rattle.fab_face.specs.Held.{due, IsPledged, Held, Lanes, Seen, IsPlaced, IsGathered, next_item, begun_of}
 use Rattle.fab_face.specs.Acts.{Took, Ported, MovedBy, Went, Goes, Ends, only, is_first, ways_of}
-use Rattle.fab_face.specs.Answers.{SawEmpty, LentLacks, FrameLacks, MayNeed}
+use Rattle.fab_face.specs.Answers.{LentLacks, FrameLacks, MayNeed}
 use Rattle.fab_face.specs.declared.events.Event.{Event}
 use Rattle.fab_face.specs.declared.events.Event.TheVariants.{Head as Headed, Tail as Tailed}
 use Rattle.fab_face.proofs.Tied.{gathered_first, gathered_next, gathered_last, gathered_more}

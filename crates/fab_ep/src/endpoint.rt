@@ -320,10 +320,10 @@ impl<P: Port, C: Machine> Endpoint<P, C> {
         let Some(frame) = port.front(source) else {
             return Ok(Tried::Nothing);
         };
-        let head = frame.head;
+        let head = &frame.head;
         let is_first = head.from == 0;
         let is_last = head.from as u64 + head.len as u64 == head.item.total as u64;
-        if !core.take(source, &head, frame.bytes)? {
+        if !core.take(source, head, frame.bytes)? {
             return Ok(Tried::Held);
         }
         port.advance(source);

@@ -1,8 +1,8 @@
 -- What arrives, and what it adds to what an endpoint owes: at most one reply, where an item that owes it is whole.
 --     Alone rx source        no message of the source that is not whole was kept, where none is coming that way
 --     Tailed c source head s t      the completion of an item of the source
-use Rattle.std.proofs.Common.{◌≡◌, ◌≢◌, ◌≤◌, ◌<◌, ◌+◌, ℕ, zero, suc, Bool, true, false, ◌&&◌, List, [], ◌∷◌, ◌++◌, cond, map, length, drop, set, get_or, get_or-set_same, get_or-set_other, Option, Some, None, ◌⊎◌, inl, inr, refl, sym, ◌∙◌, ap, subst, arith, rules}
-use Rattle.std.specs.Prelude.{find, ◌==◌, is_none, is_some, slice_index, slice_set, count_by, All}
+use Rattle.std.proofs.Common.{◌≡◌, ◌≢◌, ◌≤◌, ◌<◌, ◌+◌, ℕ, Bool, true, false, ◌&&◌, List, [], ◌∷◌, ◌++◌, map, length, set, get_or, get_or-set_same, get_or-set_other, Option, Some, None, ◌⊎◌, inl, inr, refl, sym, ◌∙◌, ap, subst, arith, rules}
+use Rattle.std.specs.Prelude.{find, ◌==◌, is_none, is_some, slice_index, count_by}
 use Rattle.std.proofs.lemmas.Bool.{cases_eq, eqb-true}
 use Rattle.std.proofs.lemmas.Bool.Decides.{nat_tests}
 use Rattle.fab_base.specs.declared.items.Item.{Item}
@@ -13,23 +13,22 @@ use Rattle.fab_base.specs.declared.items.Kind.{Kind}
 use Rattle.fab_base.specs.declared.items.Kind.TheVariants.{Msg, TagMsg, WriteReq, ReadReq, AtomicReq, Reply}
 use Rattle.fab_base.specs.declared.items.Outcome.{Outcome}
 use Rattle.fab_base.specs.declared.items.Outcome.TheVariants.{Done}
-use Rattle.fab_base.specs.declared.frames.Frame.{Frame}
 use Rattle.fab_base.specs.declared.operations.Receive.{Receive}
 use Rattle.fab_base.specs.declared.operations.Arrival.{Arrival}
 use Rattle.fab_base.specs.declared.operations.Coming.{Coming}
 use Rattle.fab_base.specs.declared.operations.Coming.TheVariants.{Into, Keep, Throw, Request, Answer}
 use Rattle.fab_base.specs.declared.operations.Operation.{Operation}
 use Rattle.fab_model.specs.Matching.{is_message}
-use Rattle.fab_model.specs.State.{State, Receiving, Transmitting, accepted_for, held_for, coming_from, raise, with_rx, with_tx}
-use Rattle.fab_model.specs.Complete.{at_delivery, at_either, at_match, book, fill, release, release_multi, reply}
+use Rattle.fab_model.specs.State.{State, Receiving, Transmitting, held_for, coming_from, with_rx, with_tx}
+use Rattle.fab_model.specs.Complete.{at_delivery, at_match, book, fill, release, release_multi, reply}
+use Rattle.fab_base.specs.Replies.{at_either, owes, owes_by}
 use Rattle.fab_model.specs.Sending.{answering, do_answer, end_with, going_on, is_answered_by}
 use Rattle.fab_model.specs.Target.{perform}
 use Rattle.fab_model.specs.Arrivals.{completed, do_head, do_request, do_tail, heading_message, heading_other, keeping, made_whole, newcomer, remote_data, remote_event, tail_to, taker, way_of, with_regions}
-use Rattle.fab_wire.specs.Owing.{is_reply, owes, owes_by, asks}
-use Rattle.fab_face.specs.Owed.{dues, is_answer, unbegun, to_post, is_debt, to_book, is_pledge, is_due, due_for, asked_by, kept_for, begun_in, Pledged, IsComing, PartlyIn, IsPartly}
+use Rattle.fab_face.specs.Owed.{dues, to_post, is_debt, to_book, is_pledge, is_due, due_for, asked_by, kept_for, begun_in, Pledged, PartlyIn, IsPartly}
 use Rattle.fab_face.proofs.Counts.{one, count_cons, count_snoc, count_same, count_map, count_none, count_sum}
 use Rattle.fab_face.proofs.Letting.{lets_post}
-use Rattle.fab_face.proofs.Owed.{get_or-set, booked_one, either_split}
+use Rattle.fab_face.proofs.Owed.{booked_one, either_split}
 
 abbrev pub is_keep : Option Coming → Bool
 is_keep None = false
@@ -68,7 +67,7 @@ alone_partly rx begun source partly other op =
 message_owes : (h : ItemHead) → is_message h.kind ≡ true → owes h ≡ at_either h.ack
 message_owes h m = go h.kind m ∙ asks_either h.ack
   where
-    go : (w : Kind) → is_message w ≡ true → owes_by (asks h.ack) w ≡ asks h.ack
+    go : (w : Kind) → is_message w ≡ true → owes_by (at_either h.ack) w ≡ at_either h.ack
     go Msg e = refl
     go TagMsg e = refl
     go WriteReq e = absurd (cc (e))
@@ -76,7 +75,7 @@ message_owes h m = go h.kind m ∙ asks_either h.ack
     go AtomicReq e = absurd (cc (e))
     go Reply e = absurd (cc (e))
 
-    asks_either : (a : Ack) → asks a ≡ at_either a
+    asks_either : (a : Ack) → at_either a ≡ at_either a
     asks_either Nothing = refl
     asks_either Delivery = refl
     asks_either Match = refl
@@ -151,9 +150,9 @@ module _ (s : State) (source : ℕ) (head : ItemHead) where
           (λ op. let k = same_kept source op in let e : one (owes head && (head.op == op)) ≡ one (at_either head.ack && (head.op == op)) = ap (λ b. one (b && (head.op == op))) owes_is in omega (arith, k, e))
           (λ _ op. same_kept source op)
 
-      request : (k : Kind) → head.kind ≡ k → way_of k ≡ Request → owes_by (asks head.ack) k ≡ true → (let rx : Receiving = heading_other source k s.rx in Pledged rx begun' × Alone rx source)
+      request : (k : Kind) → head.kind ≡ k → way_of k ≡ Request → owes_by (at_either head.ack) k ≡ true → (let rx : Receiving = heading_other source k s.rx in Pledged rx begun' × Alone rx source)
       request k e way owed = arrives begun begun' item same is none within p (heading_other source k s.rx) Request (ap (λ c. set s.rx.coming source (Some c)) way) (λ d op ne. refl)
-          (λ op. let o : owes head ≡ true = ap (owes_by (asks head.ack)) e ∙ owed in let x : one (owes head && (head.op == op)) ≡ one (true && (head.op == op)) = ap (λ b. one (b && (head.op == op))) o in omega (arith, x)) (λ _ op. refl)
+          (λ op. let o : owes head ≡ true = ap (owes_by (at_either head.ack)) e ∙ owed in let x : one (owes head && (head.op == op)) ≡ one (true && (head.op == op)) = ap (λ b. one (b && (head.op == op))) o in omega (arith, x)) (λ _ op. refl)
 
       other : (k : Kind) → head.kind ≡ k → is_message k ≡ false → (let rx : Receiving = heading_other source k s.rx in Pledged rx begun' × Alone rx source)
       other Msg e m = absurd (cc (m))

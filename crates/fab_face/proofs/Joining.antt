@@ -1,19 +1,17 @@
 -- How acts join: their kinds, what they do to a port, and where they lead.
-use Rattle.std.proofs.Common.{◌≡◌, ◌⊎◌, inl, inr, ◌<◌, ◌≤◌, ◌+◌, ◌^◌, ℕ, List, [], ◌∷◌, ◌++◌, length, map, Option, Some, None, refl, sym, ap, ◌∙◌, subst, append_assoc, append-nil, arith}
+use Rattle.std.proofs.Common.{◌≡◌, ◌⊎◌, inl, inr, ◌≤◌, ◌+◌, ◌^◌, ℕ, List, [], ◌∷◌, ◌++◌, map, Option, Some, None, refl, sym, ap, ◌∙◌, subst, append_assoc, append-nil, arith}
 use Rattle.std.proofs.lemmas.Bool.{cases_eq}
 use Rattle.std.proofs.lemmas.List.{map-append}
 use Rattle.std.proofs.lemmas.Grind.{flat_map-append}
 use Rattle.fab_base.specs.Counts.{Rose}
-use Rattle.fab_base.specs.declared.frames.Frame.{Frame}
 use Rattle.fab_base.specs.declared.peers.LineResult.TheVariants.{Done}
 use Rattle.fab_wire.specs.declared.moves.Move.{Move}
-use Rattle.fab_wire.specs.declared.moves.Move.TheVariants.{Post as Out, Take as In}
+use Rattle.fab_wire.specs.declared.moves.Move.TheVariants.{Take as In}
 use Rattle.fab_link.specs.Meaning.{GrewBy, Incoming, Outgoing}
-use Rattle.fab_wire.specs.Joined.{is_last}
 use Rattle.fab_model.specs.Calls.{Call, do_call}
-use Rattle.fab_face.specs.declared.events.Event.TheVariants.{Call as Called, Sent as Transmitted}
-use Rattle.fab_face.specs.Held.{Held, Lanes, Seen, next_frame}
-use Rattle.fab_face.specs.Acts.{Act, Did, Took, Posted, Drew, Had, GoesBy, Departs, Went, Ported, MovedBy, Way, To, From, way, events, logged, taken_of, taken_by, posted_to, posted_by, ways_by, ways_of, only, is_move, is_post, is_draw, does}
+use Rattle.fab_face.specs.declared.events.Event.TheVariants.{Call as Called}
+use Rattle.fab_face.specs.Held.{Held, Lanes, Seen}
+use Rattle.fab_face.specs.Acts.{Act, Did, Took, Posted, Drew, Had, GoesBy, Went, Ported, MovedBy, Way, From, way, events, logged, taken_of, taken_by, posted_to, posted_by, ways_by, ways_of, is_move, is_post, is_draw, does}
 use Rattle.fab_face.specs.Answers.{AllAre}
 
 -- ---- kinds

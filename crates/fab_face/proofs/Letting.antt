@@ -1,6 +1,6 @@
 -- What a fence lets out moves from the items that it holds back to those that go out, and no reply is more to be posted by it.
 --     standing op tx d n      the replies to this operation among the items for d, when so many are taken off in front
-use Rattle.std.proofs.Common.{◌≡◌, ◌≢◌, ◌≤◌, ◌+◌, ℕ, zero, suc, Bool, List, [], ◌∷◌, ◌++◌, map, drop, set, get_or, get_or-set_other, ◌⊎◌, inl, inr, refl, sym, ◌∙◌, ap, subst, arith}
+use Rattle.std.proofs.Common.{◌≡◌, ◌≢◌, ◌≤◌, ◌+◌, ℕ, zero, suc, Bool, List, [], ◌∷◌, ◌++◌, drop, set, get_or, get_or-set_other, ◌⊎◌, inl, inr, refl, sym, ap, subst, arith}
 use Rattle.std.specs.Prelude.{count_by, slice_index}
 use Rattle.std.proofs.lemmas.Bool.{cases_eq}
 use Rattle.fab_base.specs.declared.items.Item.{Item}

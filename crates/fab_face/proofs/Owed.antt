@@ -1,29 +1,26 @@
 -- Calls, draws and arrivals leave what an endpoint owes as it was, or less; what is whole and owes a reply adds at most one.
 --     dues s places d op      what is owed in this state
 --     Keeps s t               no more is owed in t than in s
-use Rattle.std.proofs.Common.{◌≡◌, ◌≢◌, ◌≤◌, ◌<◌, ◌+◌, ℕ, zero, suc, Bool, true, false, ◌&&◌, List, [], ◌∷◌, ◌++◌, cond, map, length, drop, set, get_or, get_or-set_same, Option, Some, None, ◌⊎◌, inl, inr, refl, sym, ◌∙◌, ap, subst, arith, rules}
-use Rattle.std.specs.Prelude.{find, ◌==◌, is_none, is_some, slice_index, not, nat_lt, nat_le, position, count_by, All, ◌||◌}
-use Rattle.std.proofs.lemmas.Bool.{cases_eq, and_parts, eqb-true}
+use Rattle.std.proofs.Common.{◌≡◌, ◌≤◌, ◌+◌, ℕ, zero, suc, Bool, true, false, ◌&&◌, List, [], ◌∷◌, ◌++◌, length, drop, set, get_or, Option, Some, None, ◌⊎◌, inl, inr, refl, sym, ◌∙◌, ap, arith, rules}
+use Rattle.std.specs.Prelude.{find, ◌==◌, slice_index, count_by}
 use Rattle.std.proofs.lemmas.Bool.Decides.{nat_tests}
 use Rattle.fab_base.specs.declared.items.Item.{Item}
 use Rattle.fab_base.specs.declared.items.ItemHead.{ItemHead}
 use Rattle.fab_base.specs.declared.items.Ack.{Ack}
 use Rattle.fab_base.specs.declared.items.Ack.TheVariants.{Nothing, Delivery, Match}
-use Rattle.fab_base.specs.declared.items.Kind.{Kind}
-use Rattle.fab_base.specs.declared.items.Kind.TheVariants.{Msg, TagMsg, WriteReq, ReadReq, AtomicReq, Reply}
 use Rattle.fab_base.specs.declared.items.Outcome.{Outcome}
 use Rattle.fab_base.specs.declared.items.Outcome.TheVariants.{Done}
 use Rattle.fab_base.specs.declared.operations.Receive.{Receive}
 use Rattle.fab_base.specs.declared.operations.Arrival.{Arrival}
 use Rattle.fab_base.specs.declared.operations.Coming.{Coming}
-use Rattle.fab_base.specs.declared.operations.Coming.TheVariants.{Into, Keep, Throw, Request, Answer}
-use Rattle.fab_model.specs.Matching.{is_message, remove_first, takes}
-use Rattle.fab_model.specs.State.{State, Receiving, Transmitting, accepted_for, coming_from, called, count, with_rx, with_tx, write}
-use Rattle.fab_model.specs.Complete.{at_delivery, at_either, at_match, book, fill, joining, release, release_multi, reply}
+use Rattle.fab_base.specs.declared.operations.Coming.TheVariants.{Into, Keep, Throw}
+use Rattle.fab_model.specs.Matching.{remove_first, takes}
+use Rattle.fab_model.specs.State.{State, Transmitting, accepted_for, coming_from, with_rx}
+use Rattle.fab_model.specs.Complete.{at_delivery, at_match, book, fill, release, release_multi, reply}
+use Rattle.fab_base.specs.Replies.{at_either, owes}
 use Rattle.fab_model.specs.Receiving.{drop_arrival, give, goes}
-use Rattle.fab_wire.specs.Owing.{is_reply, owes, owes_by, asks}
 use Rattle.fab_face.specs.Owed.{dues, is_answer, unbegun, to_post, is_debt, to_book, is_pledge, is_due, due_for, asked_by, kept_for, begun_in, Pledged, IsComing, PartlyIn, IsPartly}
-use Rattle.fab_face.proofs.Counts.{one, count_cons, count_snoc, count_removed, count_same, count_map, count_none, count_sum, count_dropped, drop_next, found_all}
+use Rattle.fab_face.proofs.Counts.{one, count_removed, count_dropped, found_all}
 
 pub get_or-set : {X : Type 0} (xs : List X) (i j : ℕ) (x d : X) → (get_or (set xs i x) j d ≡ get_or xs j d) ⊎ ((i ≡ j) × (get_or (set xs i x) j d ≡ x))
 get_or-set [] i j x d = inl refl

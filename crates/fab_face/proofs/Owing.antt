@@ -1,9 +1,6 @@
 -- Calls and draws keep what an endpoint owes.
-use Rattle.std.proofs.Common.{◌≡◌, ◌≢◌, ◌≤◌, ◌<◌, ◌+◌, ℕ, zero, suc, Bool, true, false, ◌&&◌, List, [], ◌∷◌, ◌++◌, cond, map, length, drop, set, get_or, get_or-set_same, Option, Some, None, ◌⊎◌, inl, inr, refl, sym, ◌∙◌, ap, subst, arith, rules}
-use Rattle.std.specs.Prelude.{find, ◌==◌, is_none, is_some, slice_index, not, nat_lt, nat_le, position, count_by, ◌||◌}
-use Rattle.std.proofs.lemmas.Bool.{cases_eq}
-use Rattle.std.proofs.lemmas.Bool.Decides.{nat_tests}
-use Rattle.fab_base.specs.declared.items.Item.{Item}
+use Rattle.std.proofs.Common.{◌≡◌, ◌≤◌, ◌+◌, ℕ, Bool, true, false, List, [], ◌∷◌, ◌++◌, Option, Some, None, refl, ap, subst, arith, rules}
+use Rattle.std.specs.Prelude.{find, ◌==◌, is_none, not, nat_le, count_by, ◌||◌}
 use Rattle.fab_base.specs.declared.items.Want.{Want}
 use Rattle.fab_base.specs.declared.items.Kind.{Kind}
 use Rattle.fab_base.specs.declared.items.Kind.TheVariants.{Msg, TagMsg, WriteReq, ReadReq, AtomicReq, Reply}
@@ -15,22 +12,21 @@ use Rattle.fab_base.specs.declared.entries.PeekHow.TheVariants.{Peek, Claim, Dis
 use Rattle.fab_base.specs.declared.entries.Taken.TheVariants.{Success}
 use Rattle.fab_base.specs.declared.entries.ErrKind.TheVariants.{NoMsg, Canceled}
 use Rattle.fab_base.specs.declared.entries.Class.TheVariants.{Recv}
-use Rattle.fab_base.specs.declared.peers.LineResult.{LineResult}
 use Rattle.fab_base.specs.declared.operations.Receive.{Receive}
 use Rattle.fab_base.specs.declared.operations.Arrival.{Arrival}
 use Rattle.fab_base.specs.declared.operations.Held.{Held}
 use Rattle.fab_model.specs.Matching.{remove_first, takes}
-use Rattle.fab_model.specs.State.{State, Receiving, Transmitting, accepted_for, held_for, called, count, in_use, lookup, with_rx, with_tx, write}
+use Rattle.fab_model.specs.State.{State, Receiving, held_for, called, count, in_use, lookup, with_rx, write}
 use Rattle.fab_model.specs.Complete.{error, release}
 use Rattle.fab_model.specs.Sending.{Order, accepting, first_fault, is_granted, is_too_long, is_well_formed, items_of, operation_of, transmit, transmit_fault, transmit_to}
-use Rattle.fab_model.specs.Receiving.{Posting, cancel, cancellable, claim_of, claiming, draws, drop_arrival, drop_claimed, give, joining_posted, look, look_at, peeked, post, receive_of, take_claimed, taken_by, taking, want_of, without_claim, without_first, without_posted}
+use Rattle.fab_model.specs.Receiving.{Posting, cancel, cancellable, claim_of, draws, drop_arrival, drop_claimed, give, joining_posted, look, look_at, peeked, post, receive_of, take_claimed, taken_by, taking, want_of, without_claim, without_first, without_posted}
 use Rattle.fab_model.specs.Arrivals.{do_draw, seating}
-use Rattle.fab_model.specs.Calls.{Call, Transmit, Post, Look, TakeClaimed, DropClaimed, Cancel, CancelFirst, Insert, Remove, Reg, Close, Put, Show, Count, answer, close, do_call, insert, insert_new, is_peer, peer_named, put, reg, remove}
-use Rattle.fab_wire.specs.Owing.{is_reply}
-use Rattle.fab_face.specs.Owed.{is_answer, unbegun, to_post, is_debt, to_book, is_pledge, kept_for, IsPartly, Pledged}
+use Rattle.fab_model.specs.Calls.{Call, Transmit, Post, Look, TakeClaimed, DropClaimed, Cancel, CancelFirst, Insert, Remove, Reg, Close, Put, Show, Count, answer, close, do_call, insert, put, reg, remove}
+use Rattle.fab_base.specs.Replies.{is_reply}
+use Rattle.fab_face.specs.Owed.{is_answer, is_debt, is_pledge}
 use Rattle.fab_face.proofs.Counts.{one, count_snoc, count_removed, count_map}
 use Rattle.fab_face.proofs.Letting.{lets_post}
-use Rattle.fab_face.proofs.Owed.{Keeps, keeps_same, get_or-set, Gone, gone_unexpected, gone_claimed, gives, drops, release_keeps}
+use Rattle.fab_face.proofs.Owed.{Keeps, keeps_same, Gone, gone_unexpected, gone_claimed, gives, drops, release_keeps}
 
 first_is : (b : Bool) (f : Fault) (rest : List (Bool × Fault)) → first_fault ((b, f) ∷ rest) ≡ None → b ≡ false
 first_is true f rest e = absurd (cc (e))

@@ -1,8 +1,7 @@
 -- Each act leaves each peer owed what is due to it.
-use Rattle.std.proofs.Common.{◌≡◌, ◌≢◌, ◌≤◌, ◌<◌, ◌+◌, ◌-◌, min, ℕ, zero, suc, Bool, true, false, ◌&&◌, List, [], ◌∷◌, ◌++◌, cond, length, drop, set, get_or, get_or-set_same, get_or-set_other, append-nil, slice_get, Option, Some, None, ◌⊎◌, inl, inr, refl, sym, ◌∙◌, ap, subst, arith, rules}
+use Rattle.std.proofs.Common.{◌≡◌, ◌≢◌, ◌≤◌, ◌<◌, ◌+◌, ◌-◌, min, ℕ, zero, suc, Bool, true, false, ◌&&◌, List, [], ◌∷◌, ◌++◌, length, drop, get_or, get_or-set_same, get_or-set_other, slice_get, Option, Some, None, ◌⊎◌, inl, inr, refl, sym, ◌∙◌, ap, subst, arith, rules}
 use Rattle.std.specs.Prelude.{◌==◌, slice_index, slice_set, count_by}
-use Rattle.std.specs.Option.{option_map}
-use Rattle.std.proofs.lemmas.Bool.{cases_eq, eqb-true, eqb-false}
+use Rattle.std.proofs.lemmas.Bool.{cases_eq, eqb-false}
 use Rattle.std.proofs.lemmas.Bool.Decides.{nat_tests}
 use Rattle.fab_base.specs.declared.items.Item.{Item}
 use Rattle.fab_base.specs.declared.items.ItemHead.{ItemHead}
@@ -11,19 +10,19 @@ use Rattle.fab_base.specs.declared.frames.Frame.{Frame}
 use Rattle.fab_base.specs.declared.operations.Operation.{Operation}
 use Rattle.fab_base.specs.declared.peers.LineResult.{LineResult}
 use Rattle.fab_wire.specs.Joined.{is_last, grown}
-use Rattle.fab_wire.specs.Owing.{begins_reply, ends_owing, is_reply, owes, replies, owing}
+use Rattle.fab_wire.specs.Owing.{begins_reply, ends_owing, replies, owing}
+use Rattle.fab_base.specs.Replies.{owes}
 use Rattle.fab_wire.proofs.Owed.{replies-append, owing-append}
 use Rattle.fab_link.specs.Meaning.{Owes, Repays}
 use Rattle.fab_model.specs.State.{State, Transmitting, accepted_for, held_for, coming_from, raise, with_tx}
 use Rattle.fab_model.specs.Sending.{do_sent, end_with, ending, going_on, items_of, letting_out, transmitting}
-use Rattle.fab_model.specs.Arrivals.{do_head, do_tail, do_draw}
+use Rattle.fab_model.specs.Arrivals.{do_tail, do_draw}
 use Rattle.fab_model.specs.Calls.{Call, do_call}
-use Rattle.fab_face.specs.Held.{due, IsPledged, IsRepaid, Held, Lanes, begun_of, next_item, next_frame, piece, with_machine}
-use Rattle.fab_face.specs.Acts.{Act, Comes, Departs, DoesCall, Ends, Goes, Ported, Posted, Took, does, headed, is_first, only, posted_by, posted_to, taken_by, taken_of}
+use Rattle.fab_face.specs.Held.{due, IsPledged, IsRepaid, Held, Lanes, begun_of, next_item, piece, with_machine}
+use Rattle.fab_face.specs.Acts.{Act, Comes, Departs, DoesCall, Ends, Goes, Ported, Posted, Took, headed, is_first, only, posted_to, taken_of}
 use Rattle.fab_face.specs.Owed.{dues, is_answer, unbegun, to_post, to_book, due_for, asked_by, kept_for, begun_in, Pledged, IsPartly}
 use Rattle.fab_face.proofs.Counts.{one, count_cons, drop_next, none_dropped}
 use Rattle.fab_face.proofs.Letting.{standing, lets_out}
-use Rattle.fab_face.proofs.Owed.{Keeps}
 use Rattle.fab_face.proofs.Owing.{call_keeps, draws_keep}
 use Rattle.fab_face.proofs.Arriving.{Alone, BegunOf, alone_partly, head_dues, head_pledged, tail_tailed, tailed_dues, tailed_pledged}
 

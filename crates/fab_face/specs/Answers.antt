@@ -32,9 +32,8 @@ use Rattle.fab_base.specs.declared.items.Atom.{Atom}
 use Rattle.fab_base.specs.declared.items.AtomicOp.{AtomicOp}
 use Rattle.fab_base.specs.declared.items.Num.{Num}
 use Rattle.fab_base.specs.declared.items.Form.{Form}
-use Rattle.std.specs.Prelude.{◌==◌, map, find, is_some, slice_get, slice_index, slice_set, take, drop, Contains}
+use Rattle.std.specs.Prelude.{◌==◌, map, find, is_some, slice_get, slice_set, take, drop, Contains}
 use Rattle.std.specs.Option.{option_map}
-use Rattle.fab_base.specs.declared.items.Item.{Item}
 use Rattle.fab_base.specs.declared.entries.Class.{Class}
 use Rattle.fab_base.specs.declared.entries.Entry.TheVariants.{Released}
 use Rattle.fab_av.specs.Addresses.{inserting}

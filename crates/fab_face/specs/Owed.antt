@@ -8,14 +8,14 @@
 --     asked_by item op            1 where that item owes a reply to this operation
 --     Pledged rx begun            what is coming of a peer will have no more replies booked than it owes
 --     IsPartly rx begun           a message that is not whole is the one that is coming
-use Rattle.std.specs.Prelude.{◌≡◌, ℕ, zero, suc, ◌+◌, ◌<◌, ◌≤◌, Bool, true, false, ◌&&◌, ◌==◌, List, length, drop, Option, Some, None, is_some, is_none, count_by, cond, All, slice_index, slice_index_or}
+use Rattle.std.specs.Prelude.{◌≡◌, ℕ, zero, suc, ◌+◌, ◌≤◌, Bool, true, false, ◌&&◌, ◌==◌, List, drop, Option, Some, None, is_some, is_none, count_by, cond, All, slice_index, slice_index_or}
 use Rattle.fab_base.specs.declared.items.Item.{Item}
 use Rattle.fab_base.specs.declared.items.ItemHead.{ItemHead}
 use Rattle.fab_base.specs.declared.operations.Arrival.{Arrival}
 use Rattle.fab_base.specs.declared.operations.Coming.{Coming}
 use Rattle.fab_base.specs.declared.operations.Coming.TheVariants.{Into, Keep, Throw, Request, Answer}
-use Rattle.fab_wire.specs.Owing.{is_reply, owes}
-use Rattle.fab_model.specs.Complete.{at_delivery, at_either, at_match}
+use Rattle.fab_base.specs.Replies.{is_reply, owes, at_either}
+use Rattle.fab_model.specs.Complete.{at_delivery, at_match}
 use Rattle.fab_model.specs.State.{State, Receiving, Transmitting, accepted_for, held_for, coming_from}
 use Rattle.fab_model.specs.Sending.{items_of}
 

@@ -43,7 +43,7 @@ fn take_turn<C: Machinery + Drop>(peer: &mut Peer<Endpoint<PlainPort, C>>) -> Re
 {
     peer.endpoint.known();
     let before = peer.schedule().len();
-    let moved = peer.quantum()?;
+    let moved = peer.quantum(0)?;
     let after = peer.schedule().len();
     Ok(Went {
         moved,

@@ -1,7 +1,8 @@
 //! One receive, and one message that it takes (fi_msg(3), fi_tagged(3)).
 ghost use Rattle.std.specs.Prelude.{◌≡◌, ℕ, IfOk};
 ghost use Rattle.fab_base.specs.declared.operations.Receive.{Receive};
-ghost use Rattle.fab_model.specs.Complete.{at_delivery, at_either, at_match};
+ghost use Rattle.fab_model.specs.Complete.{at_delivery, at_match};
+ghost use Rattle.fab_base.specs.Replies.{at_either};
 ghost use Rattle.fab_model.specs.Arrivals.{stays, used_up};
 ghost use Rattle.fab_model.specs.Receiving.{draws, peeked};
 

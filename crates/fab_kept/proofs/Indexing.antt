@@ -1,14 +1,13 @@
 -- The index has the places of each context, as completions come and are taken out.
-use Rattle.std.proofs.Common.{◌≡◌, ℕ, ◌+◌, ◌<◌, Bool, true, false, nat_eq, cond, List, [], ◌∷◌, ◌++◌, length, get_or, set, Option, Some, None, refl, sym, ap, subst, ◌∙◌, append-nil, arith}
-use Rattle.std.specs.Prelude.{find, option_to_list, Result, Ok, Err, OnOk, OnErr, IfNone}
+use Rattle.std.proofs.Common.{◌≡◌, ℕ, ◌+◌, Bool, true, false, nat_eq, cond, List, [], ◌∷◌, ◌++◌, length, set, Option, Some, None, refl, sym, ap, subst, ◌∙◌, append-nil, arith}
+use Rattle.std.specs.Prelude.{option_to_list, Result, Ok, Err, OnOk, OnErr, IfNone}
 use Rattle.std.specs.Option.{option_eq, unwrap_or}
 use Rattle.std.specs.HashMap.{get}
 use Rattle.std.specs.Map.{lookup}
 use Rattle.std.proofs.lemmas.Bool.Decides.{nat_tests}
 use Rattle.fab_base.specs.declared.entries.Kept.{Kept}
-use Rattle.fab_model.specs.Matching.{remove_first}
 use Rattle.fab_model.specs.Peers.{ctx_of, is_of_ctx, same_ctx}
-use Rattle.fab_kept.specs.Places.{somes, places_from, places_of, Queues, queue_of, IsIndexed, Agrees, Puts, Pops}
+use Rattle.fab_kept.specs.Places.{places_of, Queues, queue_of, IsIndexed, Agrees, Puts, Pops}
 use Rattle.fab_kept.proofs.Places.{IsFirst, first_place, last_place, places_push}
 
 -- ---- contexts

@@ -15,7 +15,7 @@ use Rattle.fab_base.specs.declared.script.LineOp.{LineOp}
 use Rattle.fab_base.specs.declared.script.LineOp.TheVariants.{Wait, Reach}
 use Rattle.fab_model.specs.State.{State, accepted_for, awaits, tally_of}
 use Rattle.fab_model.specs.Calls.{Call, CancelFirst, call_of, do_call, upto}
-use Rattle.fab_model.specs.Orders.{AreSteps, Leads, Reached, Turn}
+use Rattle.fab_model.specs.Orders.{Leads, Turn}
 use Rattle.fab_model.specs.Peers.{Actor, call_line, do_line, do_next, draw_step, fabric, final_step, head_step, is_again, is_of_ctx, next_line, read_next, sent_step, step, tail_step, unread, wait_line, with_result, with_state}
 use Rattle.fab_model.specs.Replay.{fresh, is_empty, lines_of, newly, opening}
 use Rattle.fab_model.specs.Replay as scripts

@@ -11,7 +11,7 @@ use Rattle.fab_model.specs.Views.{IsPrefixOf}
 use Rattle.fab_laws.specs.Programs.{Deed, Draw, Head, Makes, Counts, Peer, Tail}
 use Rattle.fab_laws.specs.Moments.{AtEveryMoment, Note, remembered}
 use Rattle.fab_laws.specs.Completed.{Accepted, Operations, Receives, Sends, operations_of}
-use Rattle.fab_laws.specs.ReplyLaws.{is_reply}
+use Rattle.fab_base.specs.Replies.{is_reply}
 
 -- the item that becomes whole at a Tail of this source
 abbrev pub taking : ℕ → Note (List Item)

@@ -6,7 +6,7 @@ use native.Mathlib.Decide.{ℕ_discrete}
 use lib.ListN.{get_elem?}
 use Rattle.std.specs.Prelude.{sum_by, slice_get}
 use Rattle.std.specs.List.{All}
-use Rattle.std.proofs.lemmas.List.{set-get_or, length-replicate, get_or-replicate, get_or_past, get_or-map, length-map, same_lists, get_or_default}
+use Rattle.std.proofs.lemmas.List.{set-get_or, length-replicate, get_or-map, length-map, same_lists, get_or_default}
 use Rattle.std.proofs.lemmas.List.Sums.{sum_by-cons, sum_by-append, sum_by_push}
 use Rattle.std.proofs.lemmas.List.Elements.{All-append, All-take, All-drop, All-nil}
 use Rattle.atomic_table.specs.Table.{State, step, keeps, Allows, Splits, Joins, opening}

@@ -2,10 +2,9 @@
 use Rattle.std.proofs.Common.{List, [], ◌++◌, map, Option, Some, None, refl, sym, ap, ◌∙◌, subst, append_assoc, append-nil}
 use Rattle.std.proofs.lemmas.List.{map-append}
 use Rattle.fab_wire.specs.declared.moves.Move.{Move}
-use Rattle.fab_face.specs.Acts.{Act, Way, way, MovedBy, ways_of, steps_of, taken_of, posted_to}
-use Rattle.fab_peer.specs.Turns.{Told, Lived}
+use Rattle.fab_face.specs.Acts.{Way, way, MovedBy, ways_of, steps_of, taken_of, posted_to}
 use Rattle.fab_peer.proofs.Paths.{lives_append}
-use Rattle.fab_merging.specs.Pasts.{Past, past_of, ActedBy, Acted}
+use Rattle.fab_merging.specs.Pasts.{Past, Acted}
 use Rattle.fab_merging.proofs.Lists.{taken-append, posted-append, steps-append, ways-append}
 
 pub moved_same : (o : Option (List Move)) → MovedBy o o []

@@ -2,7 +2,7 @@
 -- for it, and at rest, where none awaits a reply, none is held at all.
 --     Fenced s      the invariant of a peer's state
 use Rattle.std.proofs.Common.{◌≡◌, ◌≤◌, ◌<◌, ◌+◌, ◌==◌, ℕ, zero, suc, Bool, true, false, ◌||◌, List, [], ◌∷◌, ◌++◌, length, map, get_or, replicate, cond, slice_get, Option, Some, None, ◌⊎◌, inl, inr, refl, sym, ◌∙◌, ap, subst, arith, rules, append_assoc, length-append, length-set}
-use Rattle.std.specs.Prelude.{⊤, Any, find, position, slice_index_or, slice_index, slice_set, sum_by}
+use Rattle.std.specs.Prelude.{⊤, find, position, slice_index_or, slice_index, slice_set, sum_by}
 use Rattle.std.specs.List.{list_any}
 use Rattle.std.proofs.lemmas.Bool.{and_parts, eqb-true, lt-ltb}
 use Rattle.std.proofs.lemmas.Bool.Decides.{nat_tests}
@@ -25,7 +25,8 @@ use Rattle.fab_base.specs.declared.peers.Step.{Step}
 use Rattle.fab_base.specs.declared.script.Bound.{Bound}
 use Rattle.fab_base.specs.declared.script.Conf.{Conf}
 use Rattle.fab_model.specs.State.{State, Receiving, Transmitting, accepted_for, held_for, awaits, in_use, lookup, coming_from, with_rx, with_tx}
-use Rattle.fab_model.specs.Complete.{at_delivery, at_either}
+use Rattle.fab_model.specs.Complete.{at_delivery}
+use Rattle.fab_base.specs.Replies.{at_either}
 use Rattle.fab_model.specs.Sending.{Order, is_busy, let_out, operation_of, letting_out, going_on, accepting, transmit_fault, transmit, transmit_to, is_of_item, ending, transmitting, end_with, do_sent, is_answered_by, answering, do_answer}
 use Rattle.fab_model.specs.Receiving.{want_of}
 use Rattle.fab_model.specs.Arrivals.{keeping, made_whole, tail_to, do_tail}
@@ -42,7 +43,7 @@ use Rattle.fab_model.proofs.Replays.{reached_sound}
 use Rattle.fab_model.proofs.Turns.{slice_get-set}
 use Rattle.fab_model.proofs.Views.{rule_is}
 use Rattle.fab_model.proofs.Steps.{Kept, step_keeps}
-use Rattle.fab_model.proofs.Fences.{Rising, above_in, rising_more, rising_next, calls_to, calls_for, held_calls, Placed, placed_more, placed_within, waits_has, FencedBy, letting_rises, letting_waits, letting_placed, going_fenced}
+use Rattle.fab_model.proofs.Fences.{Rising, rising_more, rising_next, calls_to, calls_for, held_calls, Placed, placed_more, placed_within, waits_has, FencedBy, letting_rises, letting_waits, letting_placed, going_fenced}
 
 -- ---- a peer's state
 

@@ -1,7 +1,7 @@
 -- How operations are let out, one after another: what a loop does.
 --     going_out t o tx      the operation goes out: its item joins those accepted for t, and it is live
 --     holding t held tx     these operations are held for t
-use Rattle.std.proofs.Common.{◌≡◌, ◌<◌, ◌+◌, ◌==◌, ℕ, zero, suc, Bool, true, false, ◌&&◌, ◌||◌, List, [], ◌∷◌, ◌++◌, length, get_or, set, set-set, slice_get, Some, refl, sym, ◌∙◌, ap, ap₂, append_assoc, append-nil, length-append, get_or-set_same}
+use Rattle.std.proofs.Common.{◌≡◌, ◌<◌, ◌+◌, ◌==◌, ℕ, zero, suc, Bool, true, false, ◌&&◌, ◌||◌, List, [], ◌∷◌, ◌++◌, length, get_or, set, set-set, refl, sym, ◌∙◌, ap, ap₂, append_assoc, append-nil, length-append, get_or-set_same}
 use Rattle.std.specs.Prelude.{slice_set}
 use Rattle.std.proofs.lemmas.List.Folds.{list_any-append}
 use Rattle.fab_base.specs.declared.items.Item.{Item}

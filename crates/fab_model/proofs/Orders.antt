@@ -1,13 +1,13 @@
 -- Where some order of turns takes all steps, the replay does so too, and ends in the same states.
 use Rattle.std.proofs.Common.{◌≡◌, ◌≢◌, ◌<◌, ℕ, zero, suc, true, false, List, [], ◌∷◌, ◌++◌, length, map, sum_by, slice_get, set, get_or, Option, Some, None, inl, inr, refl, sym, ◌∙◌, ap, ap₂, subst, arith, eqb, get_or-set_same, get_or-set_other, append-nil}
-use Rattle.std.proofs.lemmas.Bool.{cases_eq, cases_lt}
+use Rattle.std.proofs.lemmas.Bool.{cases_eq}
 use Rattle.std.proofs.lemmas.List.Sums.{sum_by-cons}
 use Rattle.std.proofs.lemmas.Bool.Decides.{nat_tests}
 use Rattle.std.proofs.lemmas.Option.{get_or_from_slice_get, slice_get_within}
 use Rattle.fab_model.specs.Orders.{Moment, steps_left, turn_with, turn, replay, Turn, Leads, steps_of, AreSteps, by, Reached}
 use Rattle.fab_model.specs.Laws.{Run, AtEnd}
-use Rattle.fab_model.proofs.Turns.{Commutes, turn_taken, turn_is, confluence, replay_ends}
-use Rattle.fab_model.proofs.Confluence.{replay_keeps, replay_runs}
+use Rattle.fab_model.proofs.Turns.{Commutes, turn_taken, turn_is, confluence}
+use Rattle.fab_model.proofs.Confluence.{replay_runs}
 
 pub steps_of_own : {Step : Type 0} (p : ℕ) (t : Turn Step) (turns : List (Turn Step)) → t.peer ≡ p → steps_of p (t ∷ turns) ≡ t.step ∷ steps_of p turns
 steps_of_own p t turns same = let e : eqb t.peer p ≡ true = grind (arith, nat_tests) in rw e refl

@@ -1,14 +1,12 @@
 -- The laws of the replay, over any bound script: what is reached in some order is lawful, and the other way round.
-use Rattle.std.proofs.Common.{◌≡◌, ℕ, List, Some, length, slice_get, subst, sym}
-use Rattle.std.specs.Prelude.{slice_set}
-use Rattle.fab_base.specs.declared.items.Item.{Item}
+use Rattle.std.proofs.Common.{◌≡◌, List, length, subst, sym}
 use Rattle.fab_base.specs.declared.peers.Step.{Step}
 use Rattle.fab_base.specs.declared.script.Bound.{Bound}
 use Rattle.fab_model.specs.Laws.{EveryOrderEndsAlike, LawfulIsReached, TheReplayIsAnOrder}
-use Rattle.fab_model.specs.Orders.{Leads, Reached, by, steps_left, turn}
+use Rattle.fab_model.specs.Orders.{Reached, steps_left, turn}
 use Rattle.fab_model.specs.Peers.{Actor, fabric}
 use Rattle.fab_model.specs.Replay.{Lawful, opening, replayed, start}
-use Rattle.fab_model.specs.Views.{More, View, Walk, rule, seen}
+use Rattle.fab_model.specs.Views.{rule}
 use Rattle.fab_model.proofs.Confluence.{replay_runs}
 use Rattle.fab_model.proofs.Orders as orders
 use Rattle.fab_model.proofs.Patient.{Own, fabric_patient, opening_sound}

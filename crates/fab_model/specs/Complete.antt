@@ -138,8 +138,3 @@ abbrev pub at_match : Ack → Bool
 at_match Match = true
 at_match Delivery = false
 at_match Nothing = false
-
-abbrev pub at_either : Ack → Bool
-at_either Nothing = false
-at_either Delivery = true
-at_either Match = true

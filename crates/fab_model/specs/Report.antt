@@ -3,7 +3,7 @@
 --     report_of version all schedule      the report of peers in these states that took these steps, for a script of this version
 --     report bound schedule       that of the states in which the replay ends
 --     traces text                 the steps that its trace lines tell
-use Rattle.std.specs.Prelude.{Bool, slice_get, ℕ, ◌+◌, true, false, not, ◌==◌, List, [], ◌∷◌, ◌++◌, length, take, Option, Some, None, map, filter_map, codes, decimal, count_by, bytes_eq, unwrap_or}
+use Rattle.std.specs.Prelude.{Bool, slice_get, ℕ, ◌+◌, true, false, ◌==◌, List, [], ◌∷◌, ◌++◌, length, take, Option, Some, None, map, filter_map, codes, decimal, count_by, bytes_eq, unwrap_or}
 use Rattle.fab_base.specs.declared.faults.Fault.{Fault}
 use Rattle.fab_base.specs.declared.faults.Fault.TheVariants.{Again, NoMemory, NoData, Invalid, NoKey, Range, MsgSize, NotSupported, NoEntry, Avail}
 use Rattle.fab_base.specs.declared.entries.Entry.{Entry}

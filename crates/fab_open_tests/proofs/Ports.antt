@@ -1,17 +1,14 @@
 -- Plain ports as they are made.
-use Rattle.std.proofs.Common.{◌≡◌, ◌<◌, Bool, true, true≢false, Result, Ok, Err, ℕ, zero, suc, List, [], ◌∷◌, ◌++◌, length, None, Some, refl, sym, ap, subst, ◌∙◌}
+use Rattle.std.proofs.Common.{◌≡◌, ◌<◌, Bool, true, true≢false, Result, Ok, Err, ℕ, zero, suc, List, [], ◌∷◌, ◌++◌, length, None, Some, refl, sym, ap, ◌∙◌}
 use Rattle.std.specs.Prelude.{◌≢◌, OnOk, replicate, slice_index_or}
 use Rattle.std.specs.Result.{is_ok}
 use Rattle.std.proofs.lemmas.List.{get_or-set_other, get_or-set_same, length-replicate}
 use Rattle.fab_base.specs.declared.frames.Frame.{Frame}
-use Rattle.fab_wire.specs.Cut.{IsBetweenItems}
 use Rattle.fab_wire.specs.Frames.{last_head}
 use Rattle.fab_wire.proofs.Lanes.{last_head-push}
 use Rattle.fab_link.specs.Meaning.{AreFresh}
 use Rattle.fab_link.specs.Plain.{Lane, Plain, fresh_lane, in_of, lane_at, out_of, with_lane}
-use Rattle.fab_link.specs.declared.port.Port.{Ghosts}
-use Rattle.fab_face.specs.Ports.{IsFresh, Whole}
-use Rattle.fab_open_tests.specs.Came.{IsNewOver, IsReady}
+use Rattle.fab_open_tests.specs.Came.{IsReady}
 
 abbrev lanes_made : ℕ → List Lane
 lanes_made n = replicate n (fresh_lane None None)

@@ -30,7 +30,7 @@ use Rattle.fab_model.specs.State.{State}
 use Rattle.fab_model.specs.Calls.{Call, Cancel, Look as LookCall, TakeClaimed, DropClaimed, do_call, call_of, message, word_bytes}
 use Rattle.fab_model.specs.Peers.{Actor, do_next, do_line, call_line, after_call, is_again, is_of_ctx, is_only_multi, multi_buf, next_line, with_result, with_state, wait_line, read_next, bytes_kept, part_of, unread}
 use Rattle.fab_face.specs.Held.{Held, Seen, IsOpen}
-use Rattle.fab_face.specs.Acts.{Act, Did, Took, Posted, Drew, Had, Went, Ported, steps_of, steps_by, events, has_read, is_move}
+use Rattle.fab_face.specs.Acts.{Act, Did, Took, Posted, Drew, Had, Went, steps_of, steps_by, events, has_read, is_move}
 use Rattle.fab_face.specs.Answers.{AllAre, Judged, IsShort, IsSharing, Sends, SendsNot, Receives, ReceivesNot, Pops, after_read, receive_call}
 use Rattle.fab_peer.specs.Looks.{look_line}
 use Rattle.fab_peer.specs.Turns.{Told, living_of, actor_in, actor_of, hands_back, waited_back, multis_done, IsCounted, SameParts, Lives, Lived, WentOn, Answered, why_of, drained, with_seen, is_only, LentIf, Lent, HasRead, is_some_act, is_some_event, next_op, step_of, ReadOn, is_read}

@@ -1,15 +1,13 @@
 -- Peers over ports that are never full, with nothing in their lanes: where nothing can be moved, everything accepted is transmitted and whole.
-use Rattle.std.proofs.Common.{◌≡◌, ◌<◌, ◌≤◌, ◌+◌, inl, inr, ℕ, zero, suc, List, [], ◌∷◌, ◌++◌, length, drop, Option, Some, None, refl, sym, ap, ◌∙◌, subst, arith}
+use Rattle.std.proofs.Common.{◌≡◌, ◌≤◌, ◌+◌, ℕ, zero, suc, List, [], ◌∷◌, length, drop, Option, Some, None, refl, sym, ap, ◌∙◌, arith}
 use Rattle.std.specs.Prelude.{slice_get, slice_index}
 use Rattle.std.specs.Option.{option_map}
-use Rattle.fab_base.specs.Counts.{Rose}
 use Rattle.fab_base.specs.declared.frames.Frame.{Frame}
 use Rattle.fab_base.specs.declared.items.Item.{Item}
 use Rattle.fab_model.specs.State.{accepted_for}
-use Rattle.fab_face.specs.Held.{Held, Seen, begun_of, next_frame, next_item, piece}
-use Rattle.fab_face.specs.Answers.{IsIdle}
+use Rattle.fab_face.specs.Held.{Held, begun_of, next_frame, next_item, piece}
 use Rattle.fab_peer.specs.Turns.{Joins, Transmits, joined_from, part_at, posted_part}
-use Rattle.fab_wire.specs.Joined.{AreFirst, IsBegun}
+use Rattle.fab_wire.specs.Joined.{IsBegun}
 use Rattle.std.proofs.lemmas.List.{take-append-drop}
 
 -- nothing waits: all that was accepted is transmitted

@@ -5,9 +5,9 @@ use Rattle.fab_face.specs.Held.{Held, IsOpen}
 use Rattle.fab_peer.proofs.Sending.{transmits_by, lives_ready}
 use Rattle.fab_peer.proofs.Cutting.{cut_by}
 use Rattle.fab_face.specs.Acts.{Act}
-use Rattle.fab_peer.specs.Turns.{Told, Living, living_of, actor_in, Lived, IsCounted, WentOn, ReadOn, MovedOn, IsRead, IsStill, Turned, is_some_act}
-use Rattle.fab_face.proofs.Joining.{ported_then}
+use Rattle.fab_peer.specs.Turns.{Told, Living, living_of, actor_in, Lived, IsCounted, WentOn, ReadOn, MovedOn, Gone, IsRead, IsStill, Turned, is_some_act}
 use Rattle.fab_peer.proofs.Paths.{lived_then, lived_none, some_append, none_acts}
+use Rattle.fab_peer.proofs.Calling.{lived_same}
 use Rattle.fab_peer.proofs.Idling.{idle_then}
 use Rattle.fab_peer.proofs.Showing.{joins_by, walk_shown}
 
@@ -49,58 +49,94 @@ module _ {Home : Type 0} where
       some_append (acts ++ w.acts) r.acts ∙ ap (λ x. x || is_some_act r.acts) (some_append acts w.acts ∙ ap (λ x. is_some_act acts || x) some ∙ or_true (is_some_act acts)) in
       ((acts ++ w.acts) ++ r.acts, lived_then a c d (acts ++ w.acts) r.acts (lived_then a b c acts w.acts lived w.lived) r.lived, here ∙ sym there)
 
-  module _ (a b c d f : Told Home) (read done went again : Bool) (r : ReadOn a b read) (l : WentOn b c false done) (m : MovedOn c d went) (s : ReadOn d f again) where
-    all_acts : List Act
-    all_acts = (r.acts ++ l.acts) ++ (m.acts ++ s.acts)
+  same_living : (x y : Told Home) (acts : List Act) → Lived x y acts → acts ≡ [] → living_of y ≡ living_of x
+  same_living x y acts lived is = lived_none x y (subst (λ (zs : List Act). Lived x y zs) is lived)
 
-    all_lived : Lived a f all_acts
-    unfolding all_acts
-    all_lived = lived_then a c f (r.acts ++ l.acts) (m.acts ++ s.acts) (lived_then a b c r.acts l.acts r.lived l.lived) (lived_then c d f m.acts s.acts m.lived s.lived)
+  -- no line was done, since none can
+  pub no_lines : (a : Told Home) → a.seen.log ≡ [] → do_next (actor_in (living_of a)) ≡ None → WentOn a a false false
+  no_lines a log held = record {
+    acts = [];
+    lived = lived_same a;
+    moved_is = refl;
+    held = λ d m. held;
+    log = log;
+    is_done = λ d. absurd (cc d);
+    lines = refl;
+    counted = λ c. c;
+  }
 
-    -- what the turn did
-    pub turned : IsOpen a.seen → IsOpen f.seen → (moved : Bool) → moved ≡ ((read || done) || (went || again)) → (acts : List Act) × Turned a f acts × (moved ≡ is_some_act acts)
-    unfolding all_acts
-    turned opened closed moved is = (
-      all_acts,
-      record {
-        lives = all_lived.lives;
-        schedule = all_lived.schedule;
-        walk = λ v shows. walk_shown v all_acts (living_of a) (living_of f) all_lived.lives shows;
-        joins = joins_by all_acts (living_of a) (living_of f) all_lived.lives;
-        transmits = (transmits_by all_acts (living_of a) (living_of f) all_lived.lives closed.items opened.out).0;
-        ported = all_lived.ported;
-        lines = s.lines ∙ m.lines ∙ l.lines ∙ r.lines;
-        ready = lives_ready all_acts (living_of a) (living_of f) all_lived.lives;
-        cut = λ d below. cut_by all_acts (living_of a) (living_of f) all_lived.lives closed.items opened.out d _ (opened.posted d below);
-      },
-      is ∙ ap (λ x. (x || done) || (went || again)) r.any_is ∙ ap (λ x. (is_some_act r.acts || x) || (went || again)) l.moved_is
-          ∙ ap (λ x. (is_some_act r.acts || is_some_act l.acts) || (x || again)) m.moved_is ∙ ap (λ x. (is_some_act r.acts || is_some_act l.acts) || (is_some_act m.acts || x)) s.any_is
-          ∙ ap (λ x. x || (is_some_act m.acts || is_some_act s.acts)) (sym (some_append r.acts l.acts)) ∙ ap (λ x. is_some_act (r.acts ++ l.acts) || x) (sym (some_append m.acts s.acts))
-          ∙ sym (some_append (r.acts ++ l.acts) (m.acts ++ s.acts)),
-    )
+  module _ (a b c d : Told Home) (done went again moved : Bool) (l : WentOn a b false done) (m : MovedOn b c went) (s : ReadOn c d again) where
+    lap_acts : List Act
+    lap_acts = l.acts ++ (m.acts ++ s.acts)
 
-    -- where it did nothing, nothing can be done
-    pub still : IsRead b.seen → IsRead f.seen → ((read || done) || (went || again)) ≡ false → IsStill a f
-    still read_b read_f none =
-        let first = or_first (read || done) (went || again) none in
-        let second = or_second (read || done) (went || again) none in
-        let no_done = or_second read done first in
+    -- where a lap did nothing, nothing can be done
+    lap_still : IsRead a.seen → IsRead d.seen → (done || (went || again)) ≡ false → IsStill a d
+    lap_still read_a read_d none =
+        let second = or_second done (went || again) none in
+        let no_done = or_first done (went || again) none in
         let no_went = or_first went again second in
         let no_again = or_second went again second in
-        let c_is : living_of c ≡ living_of b = same_living b c l.acts l.lived (none_acts l.acts (sym l.moved_is ∙ no_done)) in
-        let d_is : living_of d ≡ living_of c = same_living c d m.acts m.lived (none_acts m.acts (sym m.moved_is ∙ no_went)) in
-        let f_is : living_of f ≡ living_of d = same_living d f s.acts s.lived (none_acts s.acts (sym s.any_is ∙ no_again)) in
-        let held_c : c.seen.held ≡ b.seen.held = ap (λ (x : Living). x.held) c_is in
-        let read_c : IsRead c.seen = subst (λ (h : Held). h.state.cq.taken_out ≡ length h.state.cq.written) (sym held_c) read_b in
+        let b_is : living_of b ≡ living_of a = same_living a b l.acts l.lived (none_acts l.acts (sym l.moved_is ∙ no_done)) in
+        let c_is : living_of c ≡ living_of b = same_living b c m.acts m.lived (none_acts m.acts (sym m.moved_is ∙ no_went)) in
+        let d_is : living_of d ≡ living_of c = same_living c d s.acts s.lived (none_acts s.acts (sym s.any_is ∙ no_again)) in
+        let held_b : b.seen.held ≡ a.seen.held = ap (λ (x : Living). x.held) b_is in
+        let read_b : IsRead b.seen = subst (λ (h : Held). h.state.cq.taken_out ≡ length h.state.cq.written) (sym held_b) read_a in
         record {
-          held = subst (λ (x : Living). do_next (actor_in x) ≡ None) (sym (f_is ∙ d_is)) (l.held refl no_done);
-          read = read_f;
-          idle = idle_then a.seen c.seen d.seen f.seen (r.acts ++ l.acts) (ported_then a.seen.lanes b.seen.lanes c.seen.lanes r.acts l.acts r.lived.ported l.lived.ported) (m.idle no_went read_c) s.lanes
-              (ap (λ (x : Living). x.held) f_is);
+          held = subst (λ (x : Living). do_next (actor_in x) ≡ None) (sym (d_is ∙ c_is)) (l.held refl no_done);
+          read = read_d;
+          idle = idle_then a.seen b.seen c.seen d.seen l.acts l.lived.ported (m.idle no_went read_b) s.lanes (ap (λ (x : Living). x.held) d_is);
         }
-      where
-        same_living : (x y : Told Home) (acts : List Act) → Lived x y acts → acts ≡ [] → living_of y ≡ living_of x
-        same_living x y acts lived is = lived_none x y (subst (λ (zs : List Act). Lived x y zs) is lived)
+
+    -- lines, progress and reads are a lap
+    pub lap_gone : IsRead a.seen → IsRead d.seen → moved ≡ (done || (went || again)) → Gone a d moved
+    unfolding lap_acts
+    lap_gone read_a read_d is = record {
+      acts = lap_acts;
+      lived = lived_then a b d l.acts (m.acts ++ s.acts) l.lived (lived_then b c d m.acts s.acts m.lived s.lived);
+      moved_is = is ∙ ap (λ x. x || (went || again)) l.moved_is ∙ ap (λ x. is_some_act l.acts || (x || again)) m.moved_is ∙ ap (λ x. is_some_act l.acts || (is_some_act m.acts || x)) s.any_is
+          ∙ ap (λ x. is_some_act l.acts || x) (sym (some_append m.acts s.acts)) ∙ sym (some_append l.acts (m.acts ++ s.acts));
+      log = s.log ∙ m.log;
+      lines = s.lines ∙ m.lines ∙ l.lines;
+      read = read_d;
+      counted = λ c. s.counted (m.counted (l.counted c));
+      still = λ none. lap_still read_a read_d (sym is ∙ none);
+    }
+
+  -- what a part of a turn did and saw, behind what was done before
+  pub gone_behind : (a b c : Told Home) (acts : List Act) (before more moved : Bool) → Lived a b acts → before ≡ is_some_act acts → b.lines ≡ a.lines → (IsCounted (living_of a) → IsCounted (living_of b))
+      → Gone b c more → moved ≡ (before || more) → Gone a c moved
+  gone_behind a b c acts before more moved lived is lines counted g is_moved = record {
+    acts = acts ++ g.acts;
+    lived = lived_then a b c acts g.acts lived g.lived;
+    moved_is = is_moved ∙ ap (λ x. x || more) is ∙ ap (λ x. is_some_act acts || x) g.moved_is ∙ sym (some_append acts g.acts);
+    log = g.log;
+    lines = g.lines ∙ lines;
+    read = g.read;
+    counted = λ c. g.counted (counted c);
+    still = λ none.
+        (let s = g.still (or_second before more (sym is_moved ∙ none)) in record { held = s.held; read = s.read; idle = idle_then a.seen b.seen c.seen c.seen acts lived.ported s.idle refl refl });
+  }
+
+  pub gone_then : (a b c : Told Home) (before more moved : Bool) → Gone a b before → Gone b c more → moved ≡ (before || more) → Gone a c moved
+  gone_then a b c before more moved f g is = gone_behind a b c f.acts before more moved f.lived f.moved_is f.lines f.counted g is
+
+  -- what the turn did
+  pub turned : (a f : Told Home) (moved : Bool) → IsOpen a.seen → IsOpen f.seen → Gone a f moved → (acts : List Act) × Turned a f acts × (moved ≡ is_some_act acts)
+  turned a f moved opened closed g = (
+    g.acts,
+    record {
+      lives = g.lived.lives;
+      schedule = g.lived.schedule;
+      walk = λ v shows. walk_shown v g.acts (living_of a) (living_of f) g.lived.lives shows;
+      joins = joins_by g.acts (living_of a) (living_of f) g.lived.lives;
+      transmits = (transmits_by g.acts (living_of a) (living_of f) g.lived.lives closed.items opened.out).0;
+      ported = g.lived.ported;
+      lines = g.lines;
+      ready = lives_ready g.acts (living_of a) (living_of f) g.lived.lives;
+      cut = λ d below. cut_by g.acts (living_of a) (living_of f) g.lived.lives closed.items opened.out d _ (opened.posted d below);
+    },
+    g.moved_is,
+  )
 
 pub not_true : (b : Bool) → not b ≡ true → b ≡ false
 not_true true e = absurd (cc)

@@ -284,6 +284,17 @@ pub record MovedOn {Home : Type 0} (a b : Told Home) (moved : Bool) : Type 0 whe
   pub idle : moved ≡ false → IsRead a.seen → IsIdle a.seen b.seen
   pub counted : IsCounted (living_of a) → IsCounted (living_of b)
 
+-- a part of a turn that ends with all completions read: what it did, and where it did nothing, that nothing can be done
+pub record Gone {Home : Type 0} (a b : Told Home) (moved : Bool) : Type 0 where
+  pub acts : List Act
+  pub lived : Lived a b acts
+  pub moved_is : moved ≡ is_some_act acts
+  pub log : b.seen.log ≡ []
+  pub lines : b.lines ≡ a.lines
+  pub read : IsRead b.seen
+  pub counted : IsCounted (living_of a) → IsCounted (living_of b)
+  pub still : moved ≡ false → IsStill a b
+
 -- ---- the end
 
 -- an entry is read, or a posted receive is cancelled

@@ -1,11 +1,11 @@
 //! A peer over any endpoint: it does its lines, in turns.
-ghost use Rattle.std.specs.Prelude.{◌≡◌, ◌≢◌, ◌<◌, ◌||◌, length, ℕ, Some, None, Ok, Err, IfOk, OnOk, OnErr, IfSome, IfNone, is_some, nat_lt, ◌+◌, [], true, false, Bool};
+ghost use Rattle.std.specs.Prelude.{◌≡◌, ◌≢◌, ◌<◌, ◌||◌, ◌^◌, length, ℕ, Some, None, Ok, Err, IfOk, OnOk, OnErr, IfSome, IfNone, is_some, nat_lt, ◌+◌, [], true, false, Bool};
 ghost use Rattle.fab_base.specs.declared.script.LineOp.TheVariants.{Wait, Recv, TRecv, MRecv, Send, TSend, Inject, TInject, Cancel};
 ghost use Rattle.fab_base.specs.declared.script.BytesWord.{BytesWord};
 ghost use Rattle.fab_base.specs.declared.faults.Fault.TheVariants.{NoMemory as LacksMemory};
 ghost use Rattle.fab_av.specs.Addresses.{answer_of};
 ghost use Rattle.fab_model.specs.Calls.{word_bytes};
-ghost use Rattle.fab_model.specs.Peers.{is_finished};
+ghost use Rattle.fab_model.specs.Peers.{do_next, is_finished};
 ghost use Rattle.fab_model.specs.Receiving.{cancellable};
 ghost use Rattle.fab_model.specs.Report.{pending_of, deferred_of};
 ghost use Rattle.fab_peer.specs.Turns.{step_of, why_of};
@@ -18,6 +18,13 @@ use fab_face::events::Event;
 use fab_kept::KeptList;
 use std::alloc::Global;
 use std::mem::replace;
+use std::thread;
+
+/// How many laps a turn makes at most besides its first.
+const LAPS: u32 = 1_024;
+
+/// After so many laps in a row that moved nothing, a peer lets other threads run before it looks again.
+const SPINS: u32 = 8;
 
 /// A peer with its endpoint, its lines, the results of those done, the completions kept, and its schedule.
 ///
@@ -72,6 +79,19 @@ fn is_above_zero(a: u32) -> bool
     a > 0
 }
 
+/// How many laps in a row moved nothing. From some on, other threads run before the next.
+fn in_vain(before: u32, moved: bool) -> u32
+    requires { before + 1 < 2 ^ 32 }
+{
+    if moved {
+        return 0;
+    }
+    if before >= SPINS {
+        thread::yield_now();
+    }
+    before + 1
+}
+
 /// The bytes of a line's word.
 pub(crate) fn word_bytes(alloc: Global, word: &BytesWord) -> Result<Buf, NoMemory>
     ensures { IfOk result (λ b. b ≡ word_bytes word.now) }
@@ -87,7 +107,7 @@ impl<E: LineCalls> Peer<E> {
     ghost use Rattle.std.specs.Prelude.{List};
     ghost use Rattle.fab_peer.specs.Kinds.{is_send, is_inject, is_on_receives};
     ghost use Rattle.fab_face.specs.Acts.{Act};
-    ghost use Rattle.fab_peer.specs.Turns.{MovedOn, told, actor_of, living_of, drained, is_some_event, IsRead, IsCounted, WentOn, Answered, Lived, IsStill, is_some_act, next_op, noted, Turned, Ended, IsQuiet};
+    ghost use Rattle.fab_peer.specs.Turns.{MovedOn, Gone, told, actor_of, living_of, drained, is_some_event, IsRead, IsCounted, WentOn, Answered, Lived, IsStill, is_some_act, next_op, noted, Turned, Ended, IsQuiet};
     ghost use Rattle.fab_face.specs.Answers.{IsIdle};
 
     /// A peer that is to do these lines over this endpoint. It takes no memory.
@@ -543,9 +563,56 @@ impl<E: LineCalls> Peer<E> {
         Ok(either(either(took, posted), logged))
     }
 
-    /// Reads all completions, does up to 16 lines and reads after each, makes progress with up to 64 frames, and reads
-    /// again. Whether anything moved.
-    fn turn(&mut self) -> Result<bool, NoMemory>
+    /// Does lines, where something moved before that they may have waited for. Whether anything moved.
+    fn more_lines(&mut self, wanted: bool) -> Result<bool, NoMemory>
+        requires log { (E.seen self.old.endpoint).log ≡ [] }
+        requires counted { IsCounted (living_of (told E.seen self.old)) }
+        requires held { wanted ≡ false → do_next (actor_of (told E.seen self.old)) ≡ None }
+        ensures { IfOk result (λ moved. WentOn (told E.seen self.old) (told E.seen self.new) false moved) }
+    {
+        if wanted { self.do_lines() } else { Ok(false) }
+    }
+
+    /// Does lines where these are wanted, makes progress with up to 64 frames, and reads all completions. Whether
+    /// anything moved.
+    fn lap(&mut self, wanted: bool) -> Result<bool, NoMemory>
+        requires log { (E.seen self.old.endpoint).log ≡ [] }
+        requires counted { IsCounted (living_of (told E.seen self.old)) }
+        requires read { IsRead (E.seen self.old.endpoint) }
+        requires held { wanted ≡ false → do_next (actor_of (told E.seen self.old)) ≡ None }
+        ensures { IfOk result (λ moved. Gone (told E.seen self.old) (told E.seen self.new) moved) }
+    {
+        let done = self.more_lines(wanted)?;
+        let went = self.go_on()?;
+        let again = self.read_all()?;
+        Ok(either(done, either(went, again)))
+    }
+
+    /// Makes a lap, and then more of them until so many in a row moved nothing, or 1,024 more are made. Whether anything
+    /// moved.
+    fn laps(&mut self, looks: u32) -> Result<bool, NoMemory>
+        requires log { (E.seen self.old.endpoint).log ≡ [] }
+        requires counted { IsCounted (living_of (told E.seen self.old)) }
+        requires read { IsRead (E.seen self.old.endpoint) }
+        ensures { IfOk result (λ moved. Gone (told E.seen self.old) (told E.seen self.new) moved) }
+    {
+        let first = self.lap(true)?;
+        let mut moved = first;
+        let mut last = first;
+        let mut vain = 0;
+        for round in 0..LAPS {
+            if vain >= looks {
+                return Ok(moved);
+            }
+            last = self.lap(last)?;
+            moved = either(moved, last);
+            vain = in_vain(vain, last);
+        }
+        Ok(moved)
+    }
+
+    /// Reads all completions and makes laps, more than one where there are to be looks. Whether anything moved.
+    fn turn(&mut self, looks: u32) -> Result<bool, NoMemory>
         requires log { (E.seen self.old.endpoint).log ≡ [] }
         requires counted { IsCounted (living_of (told E.seen self.old)) }
         ensures log { OnOk result ((E.seen self.new.endpoint).log ≡ []) }
@@ -555,18 +622,19 @@ impl<E: LineCalls> Peer<E> {
     {
         self.endpoint.known();
         let read = self.read_all()?;
-        let done = self.do_lines()?;
-        let went = self.go_on()?;
-        let again = self.read_all()?;
+        let went = self.laps(looks)?;
         self.endpoint.known();
-        Ok(either(either(read, done), either(went, again)))
+        Ok(either(read, went))
     }
 
     /// A turn of the peer: it reads all completions, does up to 16 lines and reads after each, makes progress with up to
     /// 64 frames, and reads again. Whether anything moved.
     ///
+    /// With `looks` it goes on so, up to 1,024 times, until it found nothing to do so many times in a row; after some of
+    /// these it lets other threads run in between. Without, it goes on no more.
+    ///
     /// Want of memory leaves the schedule as it was; of the rest of the peer nothing is known then.
-    pub fn quantum(&mut self) -> Result<bool, NoMemory>
+    pub fn quantum(&mut self, looks: u32) -> Result<bool, NoMemory>
         requires log { (E.seen self.old.endpoint).log ≡ [] }
         requires counted { IsCounted (living_of (told E.seen self.old)) }
         ensures log { OnOk result ((E.seen self.new.endpoint).log ≡ []) }
@@ -576,7 +644,7 @@ impl<E: LineCalls> Peer<E> {
         ensures stays { OnErr result ((told E.seen self.new).schedule ≡ (told E.seen self.old).schedule) }
     {
         let before = replace(&mut self.schedule, Vec::new(self.alloc));
-        let answer = self.turn();
+        let answer = self.turn(looks);
         let mut steps = replace(&mut self.schedule, before);
         let moved = answer?;
         self.schedule.append(&mut steps)?;

@@ -4,7 +4,7 @@ use native.Mathlib.Decide.{dec_le}
 use Rattle.std.specs.Prelude.{Some, slice_get, Vec, ◌⊎◌}
 use Rattle.std.specs.declared.alloc.Global.{Global}
 use Rattle.std.proofs.Math.ListN.{get_or-eq_default}
-use Rattle.std.proofs.lemmas.Option.{none-some, same_Some, slice_get_within}
+use Rattle.std.proofs.lemmas.Option.{same_Some, slice_get_within}
 use Rattle.atomic_table.specs.Seated.{TableId}
 use Rattle.fab_link.specs.Meaning.{AreFresh}
 use Rattle.fab_queue.specs.Ends.{Out, In, new_out, new_in}

@@ -18,7 +18,8 @@ use Rattle.fab_base.specs.declared.operations.Coming.TheVariants.{Into, Keep, Th
 use Rattle.fab_base.specs.declared.operations.Operation.{Operation}
 use Rattle.fab_model.specs.State.{State, Receiving, Completions, Region, coming_from, under_way, is_into, fits, writing, with_rx, with_tx, count}
 use Rattle.fab_model.specs.Matching.{change_first, takes}
-use Rattle.fab_model.specs.Complete.{fill, fill_multi, filled, filling, is_made_by, release, release_multi, book, reply, at_either}
+use Rattle.fab_model.specs.Complete.{fill, fill_multi, filled, filling, is_made_by, release, release_multi, book, reply}
+use Rattle.fab_base.specs.Replies.{at_either}
 use Rattle.fab_model.specs.Receiving.{draws, give, without_first}
 use Rattle.fab_model.specs.Arrivals.{stays, shut, seating, do_draw, made_whole, tail_to, do_tail, do_request, remote_class, remote_data, remote_event, with_regions}
 use Rattle.fab_model.specs.Sending.{is_answered_by, answering, going_on, do_answer}

@@ -5,7 +5,7 @@ use Rattle.std.specs.Option.{option_map}
 use Rattle.std.proofs.lemmas.Option.{slice_get-map, slice_get_read, get_or_from_slice_get}
 use Rattle.std.proofs.Math.ListN.{drop_of_length-le}
 use Rattle.std.proofs.Math.Seq.{drop-cons}
-use Rattle.std.proofs.lemmas.Bool.{eq-eqb, eqb-true, ne_eqb}
+use Rattle.std.proofs.lemmas.Bool.{eqb-true, ne_eqb}
 use Rattle.std.proofs.lemmas.Slice.Eq.{bytes_eq-Decides}
 use Rattle.fab_base.specs.declared.peers.Step.{Step}
 use Rattle.fab_base.specs.declared.script.Bound.{Bound}
@@ -15,7 +15,7 @@ use Rattle.fab_model.specs.Views.{rule}
 use Rattle.fab_model.specs.Replay.{replayed, start}
 use Rattle.fab_model.specs.Report.{report_of}
 use Rattle.fab_replay.specs.declared.verdicts.Verdict.{Verdict}
-use Rattle.fab_replay.specs.declared.verdicts.Verdict.TheVariants.{Left, NoSchedule}
+use Rattle.fab_replay.specs.declared.verdicts.Verdict.TheVariants.{Left}
 use Rattle.fab_schedule.specs.Reading.{schedule_told}
 use Rattle.fab_replay.specs.declared.turns.Peer.{Peer}
 use Rattle.fab_replay.specs.Seen.{actors_of, steps_of, left_of, moment_of}

@@ -1,7 +1,6 @@
 -- What a step's test says of the step.
 use Rattle.std.proofs.Common.{◌≡◌, ℕ, ◌+◌, ◌<◌, ◌≤◌, ◌≢◌, ◌==◌, Bool, true, false, not, ◌&&◌, List, [], ◌∷◌, ◌++◌, length, Option, Some, None, Result, IfOk, refl, sym, ap, ap₂, subst, ◌∙◌, arith}
 use Rattle.std.specs.Prelude.{nat_lt, nat_le, slice_get, slice_index, is_some}
-use Rattle.std.specs.Option.{option_map}
 use Rattle.fab_base.specs.declared.items.Item.{Item}
 use Rattle.fab_base.specs.declared.items.ItemHead.{ItemHead}
 use Rattle.fab_base.specs.declared.operations.Receive.{Receive}
@@ -22,8 +21,7 @@ use Rattle.fab_model.specs.Sending.{do_sent}
 use Rattle.fab_model.specs.Peers.{Actor, only_if, with_state, next_line, do_next, do_line, wait_line, call_line, head_step, tail_step, sent_step, draw_step, final_step}
 use Rattle.fab_reference.specs.Room.{has_room, entries_sent, entries_tail, entries_drawn}
 use Rattle.fab_reference.proofs.Growing.{fits_sent, fits_cancel}
-use Rattle.fab_replay.specs.Seen.{Took, led}
-use Rattle.fab_replay.specs.declared.ready.Ready.{Ready}
+use Rattle.fab_replay.specs.Seen.{Took}
 use Rattle.fab_replay.proofs.Again.{line_calls}
 use Rattle.fab_replay.proofs.Filling.{fits_drawn, fits_tail}
 

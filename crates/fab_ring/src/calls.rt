@@ -1,7 +1,7 @@
 //! What the calls of a port do to what its seat knows.
 ghost use Rattle.std.specs.Prelude.{◌≡◌, ◌≢◌, ℕ, ◌+◌, ◌-◌, ◌*◌, ◌%◌, ◌<◌, ◌≤◌, ◌^◌, ◌⊎◌, true, false, List, [], ◌∷◌, ◌++◌, length, Option, None, Some, IsSome, IfSome, IsErrOf, OnOk, Err};
 ghost use Rattle.fab_wire.specs.declared.moves.Move.TheVariants.{Post, Take};
-ghost use Rattle.fab_wire.specs.Frames.{last_head, Continues, MayCome};
+ghost use Rattle.fab_wire.specs.Frames.{last_head, lent_frame, Continues, MayCome};
 ghost use Rattle.fab_link.specs.Meaning.{Rests, Gives};
 ghost use Rattle.fab_link.specs.Plain.{lent_frames};
 ghost use Rattle.std.specs.Borrow.{sem};
@@ -224,19 +224,28 @@ impl RingPort {
         if !self.opened[src as usize] {
             return None;
         }
+        Some(self.open_frame(src))
+    }
+
+    /// The open frame of a peer that has one. It stands apart from `lent`, since a function clears room for all that it may
+    /// make, and most looks find nothing.
+    fn open_frame(&self, src: u32) -> FrameRef<'_>
+        requires { (src < peers_of self.now) × IsSome (in_at (part_of self.now) src).opened }
+        ensures lent { Some (lent_frame result) ≡ (in_of self.now src).lent }
+    {
         let command = &self.commands[src as usize];
         let len = command.head.len as usize;
         if command.slot.is_none() {
-            return Some(FrameRef {
+            return FrameRef {
                 head: command.head,
                 bytes: &command.inline[..len],
-            });
+            };
         }
         let buffer = self.buffers[src as usize].as_slice();
-        Some(FrameRef {
+        FrameRef {
             head: command.head,
             bytes: &buffer[..len],
-        })
+        }
     }
 
     /// Frees the slot of the open frame of a peer, where it has one.

@@ -1,5 +1,5 @@
 //! How the ports of all peers are made.
-ghost use Rattle.std.specs.Prelude.{◌≡◌, ℕ, ◌+◌, ◌<◌, ◌≤◌, [], ◌∷◌, length, replicate, None, IfOk, slice_index_or};
+ghost use Rattle.std.specs.Prelude.{◌≡◌, ℕ, ◌+◌, ◌<◌, ◌≤◌, [], ◌∷◌, length, replicate, None, IfOk, slice_index_or, false};
 ghost use Rattle.std.specs.Arc.{arc_value};
 ghost use Rattle.fab_base.specs.declared.limits.TheConstants.{FRAME_BYTES};
 ghost use Rattle.fab_table.specs.Views.{new_part, view_of};
@@ -12,11 +12,37 @@ use fab_table::{Command, Fabric, PeerSeat, blank};
 use std::alloc::Global;
 use std::sync::Arc;
 
+/// The bytes behind each list of a port that nobody uses. Ports are made by one thread, so their lists lie side by side, and each is
+/// written by a thread of its own: on a cache line that two of them share, each write of the one makes the other wait.
+const APART: usize = 128;
+
+/// So many zeros.
+fn zeros(alloc: Global, count: usize) -> Result<Vec<u64>, NoMemory>
+    ensures { IfOk result (λ v. v.items ≡ replicate count 0) }
+{
+    let mut all = Vec::with_capacity(alloc, count.saturating_add(APART / 8))?;
+    for _ in 0..count {
+        all.push(0)?;
+    }
+    Ok(all)
+}
+
+/// So many flags that are down.
+fn flags(alloc: Global, count: usize) -> Result<Vec<bool>, NoMemory>
+    ensures { IfOk result (λ v. v.items ≡ replicate count false) }
+{
+    let mut all = Vec::with_capacity(alloc, count.saturating_add(APART))?;
+    for _ in 0..count {
+        all.push(false)?;
+    }
+    Ok(all)
+}
+
 /// So many commands of no frame.
 fn commands(alloc: Global, count: usize) -> Result<Vec<Command>, NoMemory>
     ensures { IfOk result (λ v. length v.items ≡ count) }
 {
-    let mut all = Vec::with_capacity(alloc, count)?;
+    let mut all = Vec::with_capacity(alloc, count.saturating_add(1))?;
     for _ in 0..count {
         all.push(blank())?;
     }
@@ -28,7 +54,7 @@ pub(crate) fn buffers(alloc: Global, count: usize) -> Result<Vec<Buf>, NoMemory>
     ensures count { IfOk result (λ v. length v.items ≡ count) }
     ensures sizes { IfOk result (λ v. (s : ℕ) → s < count → length (slice_index_or v.items s []) ≡ FRAME_BYTES) }
 {
-    let mut all = Vec::with_capacity(alloc, count)?;
+    let mut all = Vec::with_capacity(alloc, count.saturating_add(APART / 16))?;
     for _ in 0..count {
         all.push(Buf::zeros(alloc, u64::from(FRAME_BYTES))?)?;
     }
@@ -39,7 +65,7 @@ pub(crate) fn buffers(alloc: Global, count: usize) -> Result<Vec<Buf>, NoMemory>
 fn no_heads(alloc: Global, count: usize) -> Result<Vec<Option<FrameHead>>, NoMemory>
     ensures { IfOk result (λ v. v.items ≡ replicate count None) }
 {
-    let mut all = Vec::with_capacity(alloc, count)?;
+    let mut all = Vec::with_capacity(alloc, count.saturating_add(2))?;
     for _ in 0..count {
         all.push(None)?;
     }
@@ -59,13 +85,13 @@ impl RingPort {
         ensures { IfOk result (IsMade (arc_value fabric) me) }
     {
         let peers = fabric.peers() as usize;
-        let puts = Vec::from_elem(alloc, 0u64, peers)?;
-        let gots = Vec::from_elem(alloc, 0u64, peers)?;
-        let gots_seen = Vec::from_elem(alloc, 0u64, peers)?;
-        let put_cells = Vec::from_elem(alloc, 0u64, peers)?;
-        let got_cells = Vec::from_elem(alloc, 0u64, peers)?;
-        let opened = Vec::from_elem(alloc, false, peers)?;
-        let lent = Vec::from_elem(alloc, false, peers)?;
+        let puts = zeros(alloc, peers)?;
+        let gots = zeros(alloc, peers)?;
+        let gots_seen = zeros(alloc, peers)?;
+        let put_cells = zeros(alloc, peers)?;
+        let got_cells = zeros(alloc, peers)?;
+        let opened = flags(alloc, peers)?;
+        let lent = flags(alloc, peers)?;
         let commands = commands(alloc, peers)?;
         let buffers = buffers(alloc, peers)?;
         let posted_ends = no_heads(alloc, peers)?;

@@ -5,7 +5,7 @@ use native.Mathlib.Decide.{ℕ_discrete}
 use Rattle.std.specs.Prelude.{bit_or, not, ◌&&◌, ◌||◌, fold}
 use Rattle.std.specs.Int.{bit_at}
 use Rattle.std.specs.List.{list_all, list_any}
-use Rattle.std.proofs.lemmas.Nat.Bits.{bit_at_or, bit_at-lt, bit_at_lowest}
+use Rattle.std.proofs.lemmas.Nat.Bits.{bit_at_or, bit_at_lowest}
 use Rattle.fab_model.specs.Peers.{is_finished}
 use Rattle.fab_peer.specs.Turns.{actor_of}
 use Rattle.fab_meeting.specs.Accounts.{together}

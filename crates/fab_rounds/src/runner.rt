@@ -108,7 +108,7 @@ impl<P: Port, C: Machinery> Runner<P, C> {
             return Err(NoMemory);
         }
         self.peer.endpoint.known();
-        match self.peer.quantum() {
+        match self.peer.quantum(0) {
             Ok(moved) => {
                 self.peer.endpoint.known();
                 self.moved = moved;

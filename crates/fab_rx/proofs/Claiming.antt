@@ -18,7 +18,7 @@ use Rattle.fab_rx.proofs.Tying.{retied, tied_fresh}
 use Rattle.fab_rx.proofs.Keeping.{at_other, lies_at, lies_still, other_ids}
 
 -- nothing is claimed where nothing has arrived
-pub claims_begin : (us : List (ℕ × Sign)) (parcels : Cells Parcel) (coming : List (Option Begun)) (capacity : ℕ) → us ≡ [] → parcels ≡ record { cells = []; free = [] } → AreClaimed us parcels coming [] capacity []
+pub claims_begin : (us : List (ℕ × Sign)) (parcels : Cells Parcel) (coming : List (Option Begun)) (capacity : ℕ) → us ≡ [] → parcels ≡ record { cells = []; spare = 0 } → AreClaimed us parcels coming [] capacity []
 claims_begin us parcels coming capacity none empty = rw (none, empty) (record { messages = tt; apart = tt; filed = refl; reserved = omega arith })
 
 claimed_headed : (b : Bool) (source : ℕ) (head : ItemHead) (rx : Receiving) → (headed b source head rx).claimed ≡ rx.claimed
@@ -27,16 +27,8 @@ claimed_headed true source head rx = refl
 claimed_headed false source head rx = refl
 
 module _ (us : List (ℕ × Sign)) (parcels : Cells Parcel) (coming : List (Option Begun)) (cs : List (ℕ × ℕ)) (capacity : ℕ) (claimed : List (ℕ × Arrival)) (aside : AreClaimed us parcels coming cs capacity claimed) where
-  -- there are no more claims than ids
-  pub claims_most : length cs ≤ length parcels.cells
-  claims_most = let filed = aside.filed in omega arith
-
-  -- there is room to claim an unexpected message
-  pub claims_fit : 0 < length us → length cs < capacity
-  claims_fit some = let filed = aside.filed in let reserved = aside.reserved in omega arith
-
   -- more empty ids change nothing
-  pub claims_widened : (wider : Cells Parcel) (most : ℕ) → ((k : ℕ) → at wider k ≡ at parcels k) → length wider.cells + length parcels.free ≡ length parcels.cells + length wider.free → length wider.cells ≤ most → AreClaimed us wider coming cs most claimed
+  pub claims_widened : (wider : Cells Parcel) (most : ℕ) → ((k : ℕ) → at wider k ≡ at parcels k) → length wider.cells + parcels.spare ≡ length parcels.cells + wider.spare → length us + length cs ≤ most → AreClaimed us wider coming cs most claimed
   claims_widened wider most wide more fits = record {
     messages = retied (IsClaim parcels coming) (IsClaim wider coming) cs claimed (λ p k l. record { ctx = l.ctx; sign = l.sign; lies = lies_at parcels wider coming _ k.1 (wide p.0) l.lies }) aside.messages;
     apart = aside.apart;
@@ -60,8 +52,8 @@ module _ (ps : List (ℕ × Want)) (us : List (ℕ × Sign)) (room : ℕ) (seats
   })
 
   -- a message that is kept
-  pub claims_kept : is_message head.kind ≡ true → (id : ℕ) (wider : Cells Parcel) → ((k : ℕ) → at wider k ≡ at parcels k) → at wider id ≡ None → length wider.cells + length parcels.free ≡ length parcels.cells + length wider.free
-      → (sign : Sign) (b : Option Begun) (others : Cells Parcel) (x : Option Parcel) (most : ℕ) → others.cells ≡ set wider.cells id x → length others.free + 1 ≡ length wider.free → length wider.cells ≤ most
+  pub claims_kept : is_message head.kind ≡ true → (id : ℕ) (wider : Cells Parcel) → ((k : ℕ) → at wider k ≡ at parcels k) → at wider id ≡ None → length wider.cells + parcels.spare ≡ length parcels.cells + wider.spare
+      → (sign : Sign) (b : Option Begun) (others : Cells Parcel) (x : Option Parcel) (most : ℕ) → others.cells ≡ set wider.cells id x → others.spare + 1 ≡ wider.spare → length us + length cs + 1 ≤ most
       → AreClaimed (us ++ (id, sign) ∷ []) others (set coming source b) cs most (arriving source head v).rx.claimed
   claims_kept message id wider wide empty more sign b others x most is fewer fits =
       let differs : (p : ℕ × Sign) (a : Arrival) → _ → p.0 ≢ id = other_ids ps us room seats parcels coming v kept source head within nothing message id wider wide empty in

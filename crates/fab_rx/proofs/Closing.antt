@@ -129,5 +129,5 @@ module _ (ps : List (ℕ × Want)) (us : List (ℕ × Sign)) (room : ℕ) (seats
   few_closing = closing_most coming cs (apart_alone ps cs m.apart) m.live
 
   -- a receive that may be posted has a place
-  pub seat_free : length v.rx.posted < v.most → 0 < length seats.free
+  pub seat_free : length v.rx.posted < v.most → 0 < seats.spare
   seat_free less = let few = few_closing in let spare = m.spare in let same = posted_count ps us room seats parcels coming v kept in omega arith

@@ -1,5 +1,5 @@
 -- A draw: what is stored stays true, and what it hands out is what the machine's draw writes.
-use Rattle.std.proofs.Common.{◌≡◌, ℕ, ◌+◌, ◌<◌, ◌==◌, Bool, true, false, not, List, [], ◌∷◌, ◌++◌, length, map, Option, Some, None, get_or, set, refl, sym, ap, subst, ◌∙◌, arith}
+use Rattle.std.proofs.Common.{◌≡◌, ℕ, ◌+◌, ◌<◌, Bool, true, false, not, List, [], ◌∷◌, ◌++◌, length, map, Option, Some, None, get_or, set, refl, sym, ap, subst, ◌∙◌, arith}
 use Rattle.std.specs.Prelude.{find, is_some, IsSomeAnd}
 use Rattle.std.specs.Option.{option_map}
 use Rattle.std.specs.List.{AllByRecursion, list_any}
@@ -38,7 +38,7 @@ use Rattle.fab_rx.specs.Homes.{AreMulti, GoesHomeBy, IsPart, is_fed_by, is_part_
 use Rattle.fab_rx.specs.Numbers.{IsNumbered}
 use Rattle.fab_rx.specs.Sharing.{IsUsable, is_closed, kept_or, left_by, multi_at, placed_in, released_of, taken_in, used_up_by}
 use Rattle.fab_rx.specs.Whole.{IsInbox}
-use Rattle.fab_rx.proofs.Tables.{id_within}
+use Rattle.fab_rx.proofs.Tables.{same_ids, id_within}
 use Rattle.fab_rx.proofs.Tying.{IsTaken}
 use Rattle.fab_rx.proofs.Keeping.{at_same, lies_agrees}
 use Rattle.fab_rx.proofs.Finding.{first_found, found_here, found_partly}
@@ -290,7 +290,7 @@ module _ (ps : List (ℕ × Want)) (us : List (ℕ × Sign)) (room : ℕ) (seats
 
         -- ---- the message is unexpected no more
 
-        module _ (others : Cells Parcel) (is : others.cells ≡ set parcels.cells mid None) (more : length others.free ≡ length parcels.free + 1) (rest : List (ℕ × Sign)) (are : rest ≡ remove_first (λ s. fits q.want s.1) us) (lacks : has_id mid rest ≡ false)
+        module _ (others : Cells Parcel) (is : others.cells ≡ set parcels.cells mid None) (more : others.spare ≡ parcels.spare + 1) (rest : List (ℕ × Sign)) (are : rest ≡ remove_first (λ s. fits q.want s.1) us) (lacks : has_id mid rest ≡ false)
             (now : List (Option Begun)) (is_now : now ≡ turned (option_map (gone_on id q.used)) p.bytes p.source coming) where
           now_for : (x : Arrival) → at parcels mid ≡ Some (parcel_of x) → now ≡ turned (option_map (gone_on id q.used)) x.bytes x.source coming
           now_for x stored =
@@ -343,7 +343,7 @@ module _ (ps : List (ℕ × Want)) (us : List (ℕ × Sign)) (room : ℕ) (seats
           -- ---- the receive has given room to it
 
           module _ (g : Receive → Receive) (same : (y : Receive) → IsSameBut y (g y)) (fitting : (y : Receive) → is_some y.least ≡ true → IsFit y → IsFit (g y)) (f : Waiting → Waiting) (alike : (y : Receive) → f (waiting_of y) ≡ waiting_of (g y))
-              (seats_then : Cells Waiting) (cells : seats_then.cells ≡ set seats.cells id (option_map f (at seats id))) (free : seats_then.free ≡ seats.free) (fed_off : (ctx : ℕ) → left_by total (at seats id) ≡ Some ctx → list_any (is_fed_by id) now ≡ true)
+              (seats_then : Cells Waiting) (cells : seats_then.cells ≡ set seats.cells id (option_map f (at seats id))) (free : seats_then.spare ≡ seats.spare) (fed_off : (ctx : ℕ) → left_by total (at seats id) ≡ Some ctx → list_any (is_fed_by id) now ≡ true)
               (eq_on : left_by total (at seats id) ≡ None → drawing v ≡ room_given (change_first test g v.rx.posted) v.rx.closing left)
               (eq_off : (ctx : ℕ) → left_by total (at seats id) ≡ Some ctx → drawing v ≡ room_given (remove_first test v.rx.posted) (v.rx.closing ++ g r ∷ []) left) where
             given : Given seats_then
@@ -357,6 +357,7 @@ module _ (ps : List (ℕ × Want)) (us : List (ℕ × Sign)) (room : ℕ) (seats
                       aside = claims_left;
                       shared = multi_on ps rest room seats others now left kept_left cs multi_left (draws_at seats us) test agree id e q shared_at g same fitting f alike seats_then cells free;
                       closable = let closable = inv.closable in let same_long = long in omega arith;
+                      ids = same_ids seats seats_then id _ cells inv.ids;
                       sharing = inv.sharing;
                     })
                 by (Some ctx) leave =
@@ -373,6 +374,7 @@ module _ (ps : List (ℕ × Want)) (us : List (ℕ × Sign)) (room : ℕ) (seats
                       shared = subst (λ (y : Receive). AreMulti posted (cs ++ (id, ctx) ∷ []) seats_then now (remove_first test v.rx.posted) (v.rx.closing ++ g y ∷ []) comes v.next v.multis v.most) same_giver
                           (multi_off ps rest room seats others now left kept_left cs multi_left (draws_at seats us) test agree id e q shared_at g same fitting f alike seats_then cells free ctx is_ctx fed posted out lacking);
                       closable = let closable = inv.closable in let same_long = long in omega arith;
+                      ids = same_ids seats seats_then id _ cells inv.ids;
                       sharing = inv.sharing;
                     })
 
@@ -407,7 +409,7 @@ module _ (ps : List (ℕ × Want)) (us : List (ℕ × Sign)) (room : ℕ) (seats
             same_used : (y : Receive) → IsSameBut y (used_up total y)
             same_used y = record { call = refl; want = refl; ctx = refl; least = refl; long = refl }
 
-            pub drawn_rest : (seats_then : Cells Waiting) → seats_then.cells ≡ set seats.cells id (option_map (used_up_by total) (at seats id)) → seats_then.free ≡ seats.free → Given seats_then
+            pub drawn_rest : (seats_then : Cells Waiting) → seats_then.cells ≡ set seats.cells id (option_map (used_up_by total) (at seats id)) → seats_then.spare ≡ seats.spare → Given seats_then
             drawn_rest seats_then cells free = given (used_up total) same_used (fit_used total) (used_up_by total) (waiting_used total) seats_then cells free (λ ctx leave. fed_rest) rest_on rest_off
 
           -- ---- one that is whole
@@ -460,8 +462,8 @@ module _ (ps : List (ℕ × Want)) (us : List (ℕ × Sign)) (room : ℕ) (seats
                 eq_whole ∙ ap (λ rx. with_receiving rx v) (shared_last r r_some.0 r_some.1 total r.used bytes v.rx.closing none_closing apart_rx refl (off_by ctx leave) (fed_same ∙ unfed)) ∙ ap (λ xs. with_lists xs v.rx.closing) (posted_off (off_by ctx leave))
                 ∙ same_lists (remove_first test v.rx.posted) v.rx.closing
 
-            pub drawn_part : is_closed coming id total (at seats id) ≡ false → (between seats_then : Cells Waiting) → between.cells ≡ set seats.cells id (option_map (used_up_by total) (at seats id)) → between.free ≡ seats.free
-                → seats_then.cells ≡ set between.cells id (option_map (placed_in q.used bytes) (at between id)) → seats_then.free ≡ between.free → Given seats_then
+            pub drawn_part : is_closed coming id total (at seats id) ≡ false → (between seats_then : Cells Waiting) → between.cells ≡ set seats.cells id (option_map (used_up_by total) (at seats id)) → between.spare ≡ seats.spare
+                → seats_then.cells ≡ set between.cells id (option_map (placed_in q.used bytes) (at between id)) → seats_then.spare ≡ between.spare → Given seats_then
             drawn_part goes_on between seats_then before free after same_free =
                 given g same_whole fit_whole (taken_in total r.used bytes) alike_whole seats_then cells (same_free ∙ free) (λ ctx leave. ap (list_any (is_fed_by id)) now_is ∙ fed_open goes_on ctx leave) whole_on (λ ctx leave. whole_fed ctx leave (fed_open goes_on ctx leave))
               where
@@ -473,7 +475,7 @@ module _ (ps : List (ℕ × Want)) (us : List (ℕ × Sign)) (room : ℕ) (seats
                     ∙ set-set seats.cells id (option_map (used_up_by total) (at seats id)) (option_map (placed_in q.used bytes) (option_map (used_up_by total) (at seats id)))
                     ∙ ap (set seats.cells id) (rw (r_there, r_some.2) refl)
 
-            pub drawn_over : is_closed coming id total (at seats id) ≡ true → (seats_then : Cells Waiting) → seats_then.cells ≡ set seats.cells id None → length seats_then.free ≡ length seats.free + 1 → (posted : List (ℕ × Want)) → posted ≡ without id ps → has_id id posted ≡ false
+            pub drawn_over : is_closed coming id total (at seats id) ≡ true → (seats_then : Cells Waiting) → seats_then.cells ≡ set seats.cells id None → seats_then.spare ≡ seats.spare + 1 → (posted : List (ℕ × Want)) → posted ≡ without id ps → has_id id posted ≡ false
                 → IsInbox posted rest room seats_then others now claims claimable cs room_to_close shares (drawing v)
             drawn_over over seats_then cells one_more posted out lacking =
                 let is = over_yes over in
@@ -484,5 +486,6 @@ module _ (ps : List (ℕ × Want)) (us : List (ℕ × Sign)) (room : ℕ) (seats
                   aside = claims_left;
                   shared = multi_out ps rest room seats others now left kept_left cs multi_left (draws_at seats us) test agree id e q shared_at unfed seats_then cells one_more posted out lacking;
                   closable = let closable = inv.closable in let same_long = long in omega arith;
+                  ids = same_ids seats seats_then id _ cells inv.ids;
                   sharing = inv.sharing;
                 })

@@ -57,7 +57,7 @@ module _ (ps : List (ℕ × Want)) (us : List (ℕ × Sign)) (room : ℕ) (seats
   due_where (Some id) e = ap is_some (sym (leaving (Sits seats) (draws_at seats us) (draws v.rx.unexpected) draws_agree id ps v.rx.posted kept.receives e).found) ∙ some_found (draws v.rx.unexpected) v.rx.posted
 
   -- none is due where no message is unexpected
-  pub still_empty : (cs : List (ℕ × ℕ)) (capacity : ℕ) → AreClaimed us parcels coming cs capacity v.rx.claimed → length parcels.free ≡ length parcels.cells → draw_due v.rx ≡ false
+  pub still_empty : (cs : List (ℕ × ℕ)) (capacity : ℕ) → AreClaimed us parcels coming cs capacity v.rx.claimed → parcels.spare ≡ length parcels.cells → draw_due v.rx ≡ false
   still_empty cs capacity aside empty = by us refl kept.messages
     where
       nobody : (xs : List Receive) → list_any (draws []) xs ≡ false

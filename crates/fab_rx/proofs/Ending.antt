@@ -346,7 +346,7 @@ module _ (ps : List (ℕ × Want)) (us : List (ℕ × Sign)) (room : ℕ) (seats
         pub kept_open : IsKept ps us room last parcels after (finishing source v)
         kept_open = rw same_ended (kept_ended last closing_then (retied (Sits others) (Sits last) ps posted_then (λ p y t. sits_at others last p y (at_last p.0) t) posted_sits))
 
-        pub multi_open : length last.free ≡ length others.free → others.free ≡ seats.free → AreMulti ps cs last after (finishing source v).rx.posted (finishing source v).rx.closing (finishing source v).rx.coming v.next v.multis v.most
+        pub multi_open : last.spare ≡ others.spare → others.spare ≡ seats.spare → AreMulti ps cs last after (finishing source v).rx.posted (finishing source v).rx.closing (finishing source v).rx.coming v.next v.multis v.most
         multi_open count free = subst (λ (x : Arriving). AreMulti ps cs last after x.rx.posted x.rx.closing x.rx.coming v.next v.multis v.most) (sym same_ended) (record {
           homes = m.homes;
           calls = m.calls;
@@ -361,7 +361,7 @@ module _ (ps : List (ℕ × Want)) (us : List (ℕ × Sign)) (room : ℕ) (seats
           ids = m.ids;
           numbers = m.numbers;
           back = m.back;
-          spare = let spare = m.spare in let same = ap length free in let long = length-set coming source None in omega arith;
+          spare = let spare = m.spare in let same = free in let long = length-set coming source None in omega arith;
         })
 
       pub last_open : last_of source v ≡ None
@@ -397,7 +397,7 @@ module _ (ps : List (ℕ × Want)) (us : List (ℕ × Sign)) (room : ℕ) (seats
             rw (finishing_over unfed) (kept_ended last (remove_first (is_made_by r.call) closing_then)
             (retied_but (Sits others) (Sits last) id ps posted_then (λ p y other t. sits_at others last p y (at_other others last id None gone p.0 other) t) (apart_of ps cs id closes m.apart) posted_sits))
 
-        pub multi_over : length last.free ≡ length others.free + 1 → others.free ≡ seats.free → AreMulti ps (without id cs) last after (finishing source v).rx.posted (finishing source v).rx.closing (finishing source v).rx.coming v.next v.multis v.most
+        pub multi_over : last.spare ≡ others.spare + 1 → others.spare ≡ seats.spare → AreMulti ps (without id cs) last after (finishing source v).rx.posted (finishing source v).rx.closing (finishing source v).rx.coming v.next v.multis v.most
         multi_over more free =
             subst (λ (x : Arriving). AreMulti ps (without id cs) last after x.rx.posted x.rx.closing x.rx.coming v.next v.multis v.most) (sym (finishing_over unfed)) (record {
               homes = m.homes;
@@ -418,7 +418,7 @@ module _ (ps : List (ℕ × Want)) (us : List (ℕ × Sign)) (room : ℕ) (seats
               ids = m.ids;
               numbers = m.numbers;
               back = m.back;
-              spare = let spare = m.spare in let same = ap length free in let count = length-set coming source None in let out = one_out id cs closes in omega arith;
+              spare = let spare = m.spare in let same = free in let count = length-set coming source None in let out = one_out id cs closes in omega arith;
             })
 
     -- ---- either
@@ -441,7 +441,7 @@ module _ (ps : List (ℕ × Want)) (us : List (ℕ × Sign)) (room : ℕ) (seats
           by true e = let yes = is_over_yes after cs id e in kept_over yes.0 yes.1 last (rw e at cells)
           by false e = kept_open (is_over_no after cs id e) last (rw e at cells)
 
-      pub multi_part : length last.free ≡ cond (is_over after cs id) (length others.free + 1) (length others.free) → others.free ≡ seats.free → (rest : List (ℕ × ℕ)) → rest ≡ cond (is_over after cs id) (without id cs) cs
+      pub multi_part : last.spare ≡ cond (is_over after cs id) (others.spare + 1) (others.spare) → others.spare ≡ seats.spare → (rest : List (ℕ × ℕ)) → rest ≡ cond (is_over after cs id) (without id cs) cs
           → AreMulti ps rest last after (finishing source v).rx.posted (finishing source v).rx.closing (finishing source v).rx.coming v.next v.multis v.most
       multi_part count free rest are = by (is_over after cs id) refl
         where
@@ -457,7 +457,7 @@ module _ (ps : List (ℕ × Want)) (us : List (ℕ × Sign)) (room : ℕ) (seats
   closes_part = by (is_over after cs id) refl
     where
       others : Cells Waiting
-      others = record { cells = set seats.cells id (option_map (placed_in place bytes.items) (at seats id)); free = seats.free }
+      others = record { cells = set seats.cells id (option_map (placed_in place bytes.items) (at seats id)); spare = seats.spare }
 
       told : (o : Option Receive) → is_some (option_map (released v) o) ≡ is_some o
       told None = refl

@@ -143,7 +143,7 @@ module _ (ps : List (ℕ × Want)) (us : List (ℕ × Sign)) (room : ℕ) (seats
   -- ---- it changes
 
   module _ (g : Receive → Receive) (same : (y : Receive) → IsSameBut y (g y)) (fits : (y : Receive) → is_some y.least ≡ true → IsFit y → IsFit (g y)) (f : Waiting → Waiting) (alike : (y : Receive) → f (waiting_of y) ≡ waiting_of (g y))
-      (others : Cells Waiting) (is : others.cells ≡ set seats.cells id (option_map f (at seats id))) (free : others.free ≡ seats.free) where
+      (others : Cells Waiting) (is : others.cells ≡ set seats.cells id (option_map f (at seats id))) (free : others.spare ≡ seats.spare) where
     now : at others id ≡ Some (waiting_of (g r))
     now = at_same seats others id (option_map f (at seats id)) is (id_within seats.cells id (waiting_of r) there) ∙ ap (option_map f) there ∙ ap (λ (w : Waiting). Some w) (alike r)
 
@@ -224,7 +224,7 @@ module _ (ps : List (ℕ × Want)) (us : List (ℕ × Sign)) (room : ℕ) (seats
       ids = m.ids;
       numbers = m.numbers;
       back = m.back;
-      spare = let spare = m.spare in let count = ap length free in omega arith;
+      spare = let spare = m.spare in let count = free in omega arith;
     }
 
     pub numbers_on : IsNumbered v.rx.posted v.rx.coming v.next → IsNumbered (change_first test g v.rx.posted) v.rx.coming v.next
@@ -264,7 +264,7 @@ module _ (ps : List (ℕ × Want)) (us : List (ℕ × Sign)) (room : ℕ) (seats
         ids = m.ids;
         numbers = m.numbers;
         back = m.back;
-        spare = let spare = m.spare in let count = ap length free in let longer = length-append cs ((id, ctx) ∷ []) in let less = shorter in omega arith;
+        spare = let spare = m.spare in let count = free in let longer = length-append cs ((id, ctx) ∷ []) in let less = shorter in omega arith;
       }
 
       pub numbers_off : IsNumbered v.rx.posted v.rx.coming v.next → IsNumbered (remove_first test v.rx.posted) v.rx.coming v.next
@@ -272,7 +272,7 @@ module _ (ps : List (ℕ × Want)) (us : List (ℕ × Sign)) (room : ℕ) (seats
 
   -- ---- its buffer comes back at once
 
-  module _ (unfed : list_any (is_fed_by id) coming ≡ false) (others : Cells Waiting) (is : others.cells ≡ set seats.cells id None) (more : length others.free ≡ length seats.free + 1) (rest : List (ℕ × Want)) (are : rest ≡ without id ps) (gone : has_id id rest ≡ false) where
+  module _ (unfed : list_any (is_fed_by id) coming ≡ false) (others : Cells Waiting) (is : others.cells ≡ set seats.cells id None) (more : others.spare ≡ seats.spare + 1) (rest : List (ℕ × Want)) (are : rest ≡ without id ps) (gone : has_id id rest ≡ false) where
     tied_out : AllZip Both rest (remove_first test v.rx.posted)
     tied_out = subst (λ (xs : List (ℕ × Want)). AllZip Both xs (remove_first test v.rx.posted)) (sym are) found.rest
 

@@ -195,7 +195,7 @@ module _ (ps : List (ℕ × Want)) (us : List (ℕ × Sign)) (room : ℕ) (seats
         })
 
     -- so it is where it was claimed
-    pub claims_ended : (cs : List (ℕ × ℕ)) (capacity : ℕ) → AreClaimed us parcels coming cs capacity v.rx.claimed → length others.free ≡ length parcels.free → (rest : List (Option Begun)) → rest ≡ set coming source None → stored.way ≡ KeepIt
+    pub claims_ended : (cs : List (ℕ × ℕ)) (capacity : ℕ) → AreClaimed us parcels coming cs capacity v.rx.claimed → others.spare ≡ parcels.spare → (rest : List (Option Begun)) → rest ≡ set coming source None → stored.way ≡ KeepIt
         → AreClaimed us others rest cs capacity (finishing source v).rx.claimed
     unfolding made_whole keeping
     claims_ended cs capacity aside free rest put_begun keeps =
@@ -291,11 +291,11 @@ module _ (ps : List (ℕ × Want)) (us : List (ℕ × Sign)) (room : ℕ) (seats
           (set_to ∙ ap (λ (p : Parcel). set parcels.cells id (Some p)) (λ i. record { source = source; head = sym comes.head i; bytes = Some ((all ∙ goes.1) i) })) rest is goes.0
 
       pub claims_as_kept : (cs : List (ℕ × ℕ)) (capacity : ℕ) → AreClaimed us parcels coming cs capacity v.rx.claimed → (id : ℕ) (gathered : Vec ℕ _) (bytes : List ℕ) (others : Cells Parcel) → b.way ≡ Keep id gathered → bytes ≡ gathered.items
-          → others.cells ≡ set parcels.cells id (Some (record { source = source; head = b.head; bytes = Some bytes })) → others.free ≡ parcels.free → AreClaimed us others rest cs capacity (finishing source v).rx.claimed
+          → others.cells ≡ set parcels.cells id (Some (record { source = source; head = b.head; bytes = Some bytes })) → others.spare ≡ parcels.spare → AreClaimed us others rest cs capacity (finishing source v).rx.claimed
       claims_as_kept cs capacity aside id gathered bytes others e all set_to free =
           let goes : GoesBy parcels source (Keep id gathered) stored.way item = subst (λ (w : Way). GoesBy parcels source w stored.way item) e comes.way in
           claims_ended id (λ k held. let is_id : IsKeptWay k (Keep id gathered) = subst (λ (w : Way). IsKeptWay k w) (ap (λ (x : Begun). x.way) (sym equal) ∙ e) held in sym is_id) goes.3 others
-          (set_to ∙ ap (λ (p : Parcel). set parcels.cells id (Some p)) (λ i. record { source = source; head = sym comes.head i; bytes = Some ((all ∙ goes.1) i) })) cs capacity aside (ap length free) rest is goes.0
+          (set_to ∙ ap (λ (p : Parcel). set parcels.cells id (Some p)) (λ i. record { source = source; head = sym comes.head i; bytes = Some ((all ∙ goes.1) i) })) cs capacity aside free rest is goes.0
 
       -- the id under which it is kept has a message
       pub kept_there : (id : ℕ) (gathered : Vec ℕ _) → b.way ≡ Keep id gathered → at parcels id ≡ Some (parcel_without source item.head)

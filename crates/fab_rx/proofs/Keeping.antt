@@ -214,7 +214,7 @@ module _ (ps : List (ℕ × Want)) (us : List (ℕ × Sign)) (room : ℕ) (seats
             record { least = least; used = t.tie.fit.single least }
 
       pub seated : (id : ℕ) (w : Waiting) (rest : List (ℕ × Want)) (others : Cells Waiting) → w.multi ≡ None → first_id (λ want. fits want sign) ps ≡ Some id → rest ≡ remove_first (λ p. fits p.1 sign) ps → has_id id rest ≡ false → at seats id ≡ Some w → others.cells ≡ set seats.cells id None
-          → length others.free ≡ length seats.free + 1 → IsKept rest us room others parcels (set coming source (Some (begun_with (Into w.seat)))) (arriving source head v)
+          → others.spare ≡ seats.spare + 1 → IsKept rest us room others parcels (set coming source (Some (begun_with (Into w.seat)))) (arriving source head v)
       unfolding heading_message
       seated id w rest others alone e are gone there is more =
           let t = seat_taken id e in

@@ -1,10 +1,9 @@
 -- A receive leaves those posted: it is the first in their order that is meant and has no item under way.
-use Rattle.std.proofs.Common.{◌≡◌, ℕ, ◌+◌, ◌==◌, Bool, true, false, List, [], ◌∷◌, ◌++◌, length, map, Option, Some, None, get_or, set, refl, sym, ap, subst, ◌∙◌, arith}
+use Rattle.std.proofs.Common.{◌≡◌, ℕ, ◌+◌, ◌==◌, Bool, true, false, List, [], ◌∷◌, length, map, Option, Some, None, get_or, set, refl, sym, ap, subst, ◌∙◌, arith}
 use Rattle.std.specs.Prelude.{find, is_some}
 use Rattle.std.specs.Option.{option_map}
 use Rattle.std.specs.List.{AllZip, list_any}
 use Rattle.std.proofs.lemmas.Bool.{eq-eqb, eqb-true}
-use Rattle.std.proofs.lemmas.List.{map-append}
 use Rattle.fab_base.specs.declared.items.Want.{Want}
 use Rattle.fab_base.specs.declared.items.Sign.{Sign}
 use Rattle.fab_base.specs.declared.operations.Receive.{Receive}
@@ -153,7 +152,7 @@ module _ (ps : List (ℕ × Want)) (us : List (ℕ × Sign)) (room : ℕ) (seats
           id_told : id_in v.multis r.call ≡ option_map (λ x. id) (multi_of r)
           id_told = by r.least refl
 
-    module _ (rest : List (ℕ × Want)) (others : Cells Waiting) (are : rest ≡ without id ps) (gone : has_id id rest ≡ false) (is : others.cells ≡ set seats.cells id None) (more : length others.free ≡ length seats.free + 1) where
+    module _ (rest : List (ℕ × Want)) (others : Cells Waiting) (are : rest ≡ without id ps) (gone : has_id id rest ≡ false) (is : others.cells ≡ set seats.cells id None) (more : others.spare ≡ seats.spare + 1) where
       tied : AllZip Idle rest (remove_first (may_leave v.rx (is_meant ctx)) v.rx.posted)
       tied = subst (λ (xs : List (ℕ × Want)). AllZip Idle xs (remove_first (may_leave v.rx (is_meant ctx)) v.rx.posted)) (sym are) leaves.rest
 

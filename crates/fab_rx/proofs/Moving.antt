@@ -1,5 +1,5 @@
 -- What is known of multi-receives stays true as items arrive, as their bytes come, and as they end.
-use Rattle.std.proofs.Common.{◌≡◌, ℕ, ◌+◌, ◌<◌, true, false, List, [], length, Option, Some, None, get_or, set, refl, sym, ap, subst, ◌∙◌, arith}
+use Rattle.std.proofs.Common.{◌≡◌, ℕ, ◌+◌, ◌<◌, ◌≤◌, true, false, List, [], length, Option, Some, None, get_or, set, refl, sym, ap, subst, ◌∙◌, arith}
 use Rattle.std.specs.Prelude.{Vec, is_some, replicate}
 use Rattle.std.specs.List.{AllZip}
 use Rattle.std.proofs.lemmas.Bool.{eqb-true, eq-eqb}
@@ -31,7 +31,7 @@ use Rattle.fab_rx.proofs.Known.{none_in_row}
 use Rattle.fab_rx.proofs.Sharing.{multi_change, multi_gone}
 
 -- no multi-receive is known where nothing has arrived
-pub multi_begins : (peers most : ℕ) (ps : List (ℕ × Want)) (cs : List (ℕ × ℕ)) (seats : Cells Waiting) (coming : List (Option Begun)) → ps ≡ [] → cs ≡ [] → length seats.free ≡ most + peers → coming ≡ replicate peers None → AreMulti ps cs seats coming [] [] (replicate peers None) 0 [] most
+pub multi_begins : (peers most : ℕ) (ps : List (ℕ × Want)) (cs : List (ℕ × ℕ)) (seats : Cells Waiting) (coming : List (Option Begun)) → ps ≡ [] → cs ≡ [] → most + peers ≤ seats.spare → coming ≡ replicate peers None → AreMulti ps cs seats coming [] [] (replicate peers None) 0 [] most
 multi_begins peers most ps cs seats coming none_posted none_closing free none = rw (none_posted, none_closing, none) (record {
   homes = λ call. None;
   calls = λ id. 0;
@@ -115,7 +115,7 @@ module _ (ps : List (ℕ × Want)) (us : List (ℕ × Sign)) (room : ℕ) (seats
             let least = least_none t.member (ap (λ (x : Waiting). x.multi) (sym equal) ∙ alone) in
             record { least = least; used = t.tie.0.fit.single least }
 
-        module _ (single : IsSingle (taken_home id e).member) (rest : List (ℕ × Want)) (are : rest ≡ without id ps) (first : rest ≡ remove_first (λ p. fits p.1 sign) ps) (others : Cells Waiting) (is : others.cells ≡ set seats.cells id None) (more : length others.free ≡ length seats.free + 1) where
+        module _ (single : IsSingle (taken_home id e).member) (rest : List (ℕ × Want)) (are : rest ≡ without id ps) (first : rest ≡ remove_first (λ p. fits p.1 sign) ps) (others : Cells Waiting) (is : others.cells ≡ set seats.cells id None) (more : others.spare ≡ seats.spare + 1) where
           pub multi_seat : (b : Begun) → b.way ≡ Into w.seat → AreMulti rest cs others (set coming source (Some b)) (arriving source head v).rx.posted (arriving source head v).rx.closing (arriving source head v).rx.coming v.next v.multis v.most
           unfolding heading_message
           multi_seat b way =

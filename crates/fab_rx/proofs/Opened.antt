@@ -19,6 +19,7 @@ use Rattle.fab_rx.specs.Stored.{AreApart, IsKept, Sits}
 use Rattle.fab_rx.specs.Homes.{AreMulti, IsHome, Rests}
 use Rattle.fab_rx.specs.Numbers.{AreDistinct, HaveOtherCalls, IsNumbered}
 use Rattle.fab_rx.specs.Opened.{AreOpened, IsPosted, is_multi}
+use Rattle.fab_rx.proofs.Closing.{few_closing}
 use Rattle.fab_rx.proofs.Apart.{not_claimed}
 
 -- ---- pairs with an id
@@ -108,5 +109,5 @@ are_opened ps us room seats parcels coming v kept numbers cs m = record {
   room = (let many = AllZip-long (Sits seats) ps v.rx.posted kept.receives in
       let few = AllZip-long (Rests m.homes m.calls seats) cs v.rx.closing m.closing_rest in
       let both = length-append v.rx.posted v.rx.closing in
-      let spare = m.spare in let peers = kept.peers in omega (arith, many, few, both, spare, peers));
+      let closing = few_closing ps us room seats parcels coming v kept cs m in let most = kept.few in let peers = kept.peers in omega (arith, many, few, both, closing, most, peers));
 }

@@ -31,7 +31,6 @@ use Rattle.fab_rx.proofs.Tables.{id_within}
 use Rattle.fab_rx.proofs.Tying.{IsTaken, retied_but, tied_push}
 use Rattle.fab_rx.proofs.Apart.{apart_claim, apart_fewer, apart_less, given_up, not_claimed}
 use Rattle.fab_rx.proofs.Keeping.{at_other, lies_agrees, lies_at, lies_set, way_stays, ways_set}
-use Rattle.fab_rx.proofs.Claiming.{claims_fit}
 use Rattle.fab_rx.proofs.Finding.{claim_agrees, claim_found, claim_here, claim_partly, first_found, found_here, found_partly}
 
 -- an item is kept under one id
@@ -187,7 +186,7 @@ module _ (ps : List (ℕ × Want)) (us : List (ℕ × Sign)) (room : ℕ) (seats
   })
 
   pub claims_besides : (rest : List (ℕ × Sign)) (cs : List (ℕ × ℕ)) (cl : List (ℕ × Arrival)) (capacity : ℕ) (now : List (Option Begun)) → now ≡ after a.bytes → AllZip (IsClaim parcels coming) cs cl → has_id id cs ≡ false → AreApart rest cs
-      → length others.free + length rest + length cs ≡ length others.cells → length others.cells ≤ capacity → AreClaimed rest others now cs capacity cl
+      → others.spare + length rest + length cs ≡ length others.cells → length rest + length cs ≤ capacity → AreClaimed rest others now cs capacity cl
   claims_besides rest cs cl capacity now is_now tied gone apart filed reserved = rw is_now (record {
     messages = retied_but (IsClaim parcels coming) (IsClaim others (after a.bytes)) id cs cl (λ p x other l. record { ctx = l.ctx; sign = l.sign; lies = left.lies _ x.1 other l.lies }) gone tied;
     apart = apart;
@@ -198,7 +197,7 @@ module _ (ps : List (ℕ × Want)) (us : List (ℕ × Sign)) (room : ℕ) (seats
 -- ---- which one it was
 
 module _ (ps : List (ℕ × Want)) (us : List (ℕ × Sign)) (room : ℕ) (seats : Cells Waiting) (parcels : Cells Parcel) (coming : List (Option Begun)) (v : Arriving) (kept : IsKept ps us room seats parcels coming v) (cs : List (ℕ × ℕ)) (capacity : ℕ) (aside : AreClaimed us parcels coming cs capacity v.rx.claimed)
-    (id : ℕ) (others : Cells Parcel) (is : others.cells ≡ set parcels.cells id None) (more : length others.free ≡ length parcels.free + 1) (turn : Begun → Begun) (c : Coming)
+    (id : ℕ) (others : Cells Parcel) (is : others.cells ≡ set parcels.cells id None) (more : others.spare ≡ parcels.spare + 1) (turn : Begun → Begun) (c : Coming)
     (turns : (s : ℕ) (b : Begun) (w : Coming) (i : Item) → IsKeptWay id b.way → IsComing parcels s b w i → IsComing others s (turn b) c i)
     (now : List (Option Begun)) (is_now : (a : Arrival) → at parcels id ≡ Some (parcel_of a) → now ≡ turned (option_map turn) a.bytes a.source coming) (next : ℕ) where
   same_long : length others.cells ≡ length parcels.cells
@@ -308,5 +307,5 @@ module _ (ps : List (ℕ × Want)) (us : List (ℕ × Sign)) (room : ℕ) (seats
             (record { ctx = refl; sign = s.pair.1; lies = subst (λ (k : ℕ). Lies parcels coming (k, s.pair.1) s.member) s.is s.tie });
         apart = apart_claim us rest cs (id, ctx) there gone aside.apart (subst (λ (xs : List (ℕ × Sign)). AreApart xs cs) (sym are) (apart_fewer (λ p. fits want p.1) us cs aside.apart));
         filed = omega arith;
-        reserved = aside.reserved;
+        reserved = let reserved = aside.reserved in omega arith;
       }

@@ -1,13 +1,9 @@
 -- For the crates above: what bytes in a multi-receive leave as it was, and what holds where no multi-receive was posted.
-use Rattle.std.proofs.Common.{◌≡◌, ℕ, Bool, true, false, List, Option, Some, None, refl, sym, subst}
+use Rattle.std.proofs.Common.{◌≡◌, ℕ, Bool, true, false, List, Option, Some, None, refl}
 use Rattle.fab_base.specs.declared.operations.Receive.{Receive}
-use Rattle.fab_base.specs.declared.operations.Coming.{Coming}
-use Rattle.fab_base.specs.declared.operations.Coming.TheVariants.{Into, Keep, Throw, Request, Answer}
-use Rattle.fab_model.specs.State.{Receiving, coming_from, under_way}
+use Rattle.fab_model.specs.State.{Receiving, under_way}
 use Rattle.fab_model.specs.Complete.{filling}
-use Rattle.fab_rx.specs.Arriving.{Arriving, GoesToSingle, IsPlain, begun_of, bytes_come, shared, without_closed}
-use Rattle.fab_model.specs.Arrivals.{made_whole}
-use Rattle.fab_rx.specs.Results.{closed_if, last_by, last_of}
+use Rattle.fab_rx.specs.Arriving.{shared, without_closed}
 
 -- the messages and what is coming stay as they were
 pub record IsSameBesides (rx after : Receiving) : Type 0 where

@@ -1,5 +1,5 @@
 -- What is stored stays true as receives are posted.
-use Rattle.std.proofs.Common.{◌≡◌, ◌≢◌, ℕ, ◌<◌, false, List, [], ◌∷◌, ◌++◌, length, Option, Some, None, set, refl, sym, ◌∙◌, arith, length-append}
+use Rattle.std.proofs.Common.{◌≡◌, ◌≢◌, ℕ, ◌<◌, false, List, [], ◌∷◌, ◌++◌, length, Option, Some, None, set, refl, sym, ap, ◌∙◌, arith, length-append}
 use Rattle.fab_base.specs.declared.items.Want.{Want}
 use Rattle.fab_base.specs.declared.items.Sign.{Sign}
 use Rattle.fab_base.specs.declared.operations.Receive.{Receive}
@@ -42,3 +42,7 @@ module _ (ps : List (ℕ × Want)) (us : List (ℕ × Sign)) (room : ℕ) (seats
       tails = kept.tails;
       under_way = kept.under_way;
     }
+
+-- the buffer of a receive that is found is its own
+pub same_buf : (w u : Waiting) → Some w ≡ Some u → w.seat.buf ≡ u.seat.buf
+same_buf w u found = let same : w ≡ u = cc in ap (λ (x : Waiting). x.seat.buf) same

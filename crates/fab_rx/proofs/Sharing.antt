@@ -240,7 +240,7 @@ module _ (ps : List (ℕ × Want)) (cs : List (ℕ × ℕ)) (seats : Cells Waiti
   }
 
   -- a receive leaves, to which no item is under way, and its place is free
-  module _ (id : ℕ) (others : Cells Waiting) (is : others.cells ≡ set seats.cells id None) (more : length others.free ≡ length seats.free + 1) (rest : List (ℕ × Want)) (are : rest ≡ remove_first (λ p. p.0 == id) ps) (shorter : length rest + 1 ≡ length ps)
+  module _ (id : ℕ) (others : Cells Waiting) (is : others.cells ≡ set seats.cells id None) (more : others.spare ≡ seats.spare + 1) (rest : List (ℕ × Want)) (are : rest ≡ remove_first (λ p. p.0 == id) ps) (shorter : length rest + 1 ≡ length ps)
       (after : List Receive) (tied : AllZip (IsHome m.homes m.calls) rest after) (unfed : (s : ℕ) → is_fed_by id (get_or coming s None) ≡ true → ⊥) where
     pub not_closing : has_id id cs ≡ false
     not_closing = not_claimed ps cs id (has_without id ps rest are shorter) m.apart
@@ -267,7 +267,7 @@ module _ (ps : List (ℕ × Want)) (cs : List (ℕ × ℕ)) (seats : Cells Waiti
     }
 
   -- a receive joins those posted
-  module _ (id : ℕ) (want : Want) (empty : at seats id ≡ None) (r : Receive) (others : Cells Waiting) (is : others.cells ≡ set seats.cells id (Some (waiting_of r))) (fewer : length others.free + 1 ≡ length seats.free) (new : has_id id ps ≡ false) where
+  module _ (id : ℕ) (want : Want) (empty : at seats id ≡ None) (r : Receive) (others : Cells Waiting) (is : others.cells ≡ set seats.cells id (Some (waiting_of r))) (fewer : others.spare + 1 ≡ seats.spare) (new : has_id id ps ≡ false) where
     pub occupied : (k : ℕ) (w : Waiting) → at seats k ≡ Some w → k ≢ id
     occupied k w there = apart seats id k None empty (λ none. let no : Some w ≡ None = sym there ∙ none in cc)
 

@@ -1,124 +1,126 @@
--- What holds of a table stays as ids are taken, given back and added.
-use Rattle.std.proofs.Common.{◌≡◌, ◌≢◌, ℕ, zero, suc, ◌+◌, ◌-◌, ◌^◌, ◌<◌, ◌≤◌, ◌⊎◌, inl, inr, List, [], ◌∷◌, ◌++◌, length, Option, Some, None, get_or, set, take, sum_by, refl, sym, ap, ◌∙◌, arith, length-append, length-set, length-take}
+-- A table is what its slab is, and what holds of it stays as values come and go.
+use Rattle.std.proofs.Common.{◌≡◌, ◌≢◌, ℕ, zero, suc, ◌+◌, ◌<◌, ◌≤◌, ◌==◌, Bool, true, false, ◌⊎◌, inl, inr, List, [], ◌∷◌, cond, ◌^◌, length, Option, Some, None, get_or, set, refl, sym, ap, subst, ◌∙◌, arith, length-set}
 use Rattle.std.specs.Prelude.{IsSome, IsSomeAnd}
-use Rattle.std.proofs.lemmas.List.{get_or_default, get_or-set_other, get_or-set_same, get_or-take, get_or_append_left, get_or-append_right}
-use Rattle.std.proofs.lemmas.List.Sums.{sum_by-cons, sum_by-set, sum_by-append}
-use Rattle.fab_rx.specs.Table.{IsTable, cell, count_empty}
-
-empty_most : {T : Type 0} (cells : List (Option T)) → sum_by count_empty cells ≤ length cells
-empty_most [] = omega arith
-empty_most {T} (None ∷ cells) = let step = sum_by-cons (count_empty {T = T}) None cells in let more = empty_most cells in omega arith
-empty_most {T} (Some x ∷ cells) = let step = sum_by-cons (count_empty {T = T}) (Some x) cells in let more = empty_most cells in omega arith
+use Rattle.std.proofs.lemmas.Bool.{eq-eqb, eqb-true, eqb-false, ne_eqb}
+use Rattle.std.proofs.lemmas.List.{ext_get_or, get_or-set_other, get_or-set_same, get_or_past, set-get_or, set-set}
+use Rattle.std.proofs.lemmas.List.FromFn.{get_or-map-range_with_len, length-map-range_with_len}
+use Rattle.slab.specs.Slab.{Slab, Updates, get, slab_len}
+use Rattle.fab_rx.specs.Table.{Cells, IsTable, at, table_of}
 
 -- an id that has a value is one of the table
-pub id_within : {T : Type 0} (cells : List (Option T)) (id : ℕ) (x : T) → cell cells id ≡ Some x → id < length cells
+pub id_within : {T : Type 0} (cells : List (Option T)) (id : ℕ) (x : T) → get_or cells id None ≡ Some x → id < length cells
 id_within [] id x e = absurd (cc)
 id_within (c ∷ cells) zero x e = omega arith
 id_within (c ∷ cells) (suc id) x e = let more = id_within cells id x e in omega arith
-
-pub some_within : {T : Type 0} (cells : List (Option T)) (id : ℕ) → IsSome (cell cells id) → id < length cells
-some_within {T} cells id some = by (cell cells id) refl some
-  where
-    by : (o : Option T) → cell cells id ≡ o → IsSome o → id < length cells
-    by None e none = absurd (cc)
-    by (Some x) e there = id_within cells id x e
 
 pub some_and : {T : Type 0} (P : T → Type 0) (o : Option T) → IsSomeAnd o P → IsSome o
 some_and P None none = absurd none
 some_and P (Some x) there = refl
 
--- what is read of a cell, whatever stands for none
-pub cell_is : {T : Type 0} (cells : List (Option T)) (id : ℕ) (d : Option T) → id < length cells → get_or cells id d ≡ cell cells id
-cell_is cells id d below = get_or_default cells id d None below
+-- the ids stay as they are where a value comes or goes
+pub same_ids : {T : Type 0} (old new : Cells T) (id : ℕ) (x : Option T) → new.cells ≡ set old.cells id x → length old.cells ≤ 2 ^ 32 → length new.cells ≤ 2 ^ 32
+same_ids old new id x is few = rw (is, length-set) few
 
-module _ {T : Type 0} (cells : List (Option T)) (free : List ℕ) (most : ℕ) (table : IsTable cells free most) where
-  pub free_most : length free ≤ length cells
-  free_most = let bound = empty_most cells in let all = table.all in omega arith
+pub same_ids_if : {T : Type 0} (b : Bool) (old new : Cells T) (id : ℕ) (x : Option T) → new.cells ≡ cond b (set old.cells id x) old.cells → length old.cells ≤ 2 ^ 32 → length new.cells ≤ 2 ^ 32
+same_ids_if true old new id x is few = same_ids old new id x is few
+same_ids_if false old new id x is few = rw is few
 
-  -- the id that is put next is one of the table, and empty
-  pub last_empty : (id : ℕ) → 0 < length free → get_or free (length free - 1) 0 ≡ id → (id < length cells) × (cell cells id ≡ None)
-  last_empty id some e =
-      let below : length free - 1 < length free = omega arith in
-      (rw e at (table.within (length free - 1) below), rw e at (table.empty (length free - 1) below))
+side : (id n : ℕ) → (id < n) ⊎ (n ≤ id)
+side id n = grind arith
 
-  pub filled : (id : ℕ) (x : T) (rest : List ℕ) (room : ℕ) → 0 < length free → get_or free (length free - 1) 0 ≡ id → rest ≡ take (length free - 1) free → length cells ≤ room → IsTable (set cells id (Some x)) rest room
-  filled id x rest room some e is fits =
-      let last = last_empty id some e in
-      let fewer : length rest ≡ length free - 1 = rw is (length-take (length free - 1) free ∙ omega arith) in
-      let same : (k : ℕ) → k < length rest → get_or rest k 0 ≡ get_or free k 0 = λ k lt. rw is (get_or-take (length free - 1) free k 0 (omega arith)) in
-      let other : (k : ℕ) → k < length rest → get_or rest k 0 ≢ id = λ k lt eq. table.distinct k (length free - 1) (omega arith) (omega arith) (sym (same k lt) ∙ eq ∙ sym e) in
-      record {
-        within = λ k lt. rw (same k lt, length-set) (table.within k (omega arith));
-        empty = λ k lt. get_or-set_other cells id (get_or rest k 0) (Some x) None (other k lt) ∙ ap (cell cells) (same k lt) ∙ table.empty k (omega arith);
-        distinct = λ j k less lt. rw (same j (omega arith), same k lt) (table.distinct j k less (omega arith));
-        all =
-            let sums = sum_by-set count_empty cells id (Some x) None last.0 in
-            let was : count_empty (cell cells id) ≡ 1 = rw last.1 refl in
-            let all = table.all in
-            omega arith;
-        room = rw length-set fits;
-        few = rw length-set table.few;
-      }
+-- a value that is put and taken out again leaves the cells as they were
+pub undone : {T : Type 0} (old between new : Cells T) (id : ℕ) (x : T) → at old id ≡ None → between.cells ≡ set old.cells id (Some x) → new.cells ≡ set between.cells id None → new.cells ≡ old.cells
+undone {T} old between new id x empty put took =
+    took ∙ ap (λ (cs : List (Option T)). set cs id None) put ∙ set-set old.cells id (Some x) None ∙ ap (λ (o : Option T). set old.cells id o) (sym empty) ∙ set-get_or old.cells id None
 
-  pub below_room : (id : ℕ) (x : T) → cell cells id ≡ Some x → length free < most
-  below_room id x e =
-      let lt = id_within cells id x e in
-      let sums = sum_by-set count_empty cells id None None lt in
-      let was : count_empty (cell cells id) ≡ 0 = rw e refl in
-      let bound = empty_most (set cells id None) in
-      let all = table.all in
-      let room = table.room in
-      omega (arith, length-set cells id None)
+module _ {T : Type 0} where
+  pub cells_long : (s : Slab T) → length (table_of s).cells ≡ s.capacity
+  cells_long s = length-map-range_with_len (get s) 0 s.capacity
 
-  pub emptied : (id : ℕ) (x : T) (more : List ℕ) (room : ℕ) → cell cells id ≡ Some x → more ≡ free ++ id ∷ [] → length cells ≤ room → IsTable (set cells id None) more room
-  emptied id x more room e is fits =
-      let lt = id_within cells id x e in
-      let longer : length more ≡ length free + 1 = rw (is, length-append) refl in
-      let old : (k : ℕ) → k < length free → get_or more k 0 ≡ get_or free k 0 = λ k below. rw is (get_or_append_left free (id ∷ []) 0 k below) in
-      let new : (k : ℕ) → k ≡ length free → get_or more k 0 ≡ id = λ k same. rw is (get_or-append_right free (id ∷ []) (length free) k 0 refl (omega arith) ∙ (let zero : k - length free ≡ 0 = omega arith in rw zero refl)) in
-      let other : (k : ℕ) → k < length free → get_or free k 0 ≢ id = λ k below eq. let none : None ≡ Some x = sym (table.empty k below) ∙ ap (cell cells) eq ∙ e in absurd (cc) in
-      record {
-        within = λ k below. rw length-set (elim (place k (omega arith)) [ inl lower ↦ rw (old k lower) (table.within k lower) | inr last ↦ rw (new k last) lt ]);
-        empty = λ k below. elim (place k (omega arith)) [
-          | inl lower ↦ rw (old k lower) (get_or-set_other cells id (get_or free k 0) None None (other k lower) ∙ table.empty k lower)
-          | inr last ↦ rw (new k last) (get_or-set_same cells id None None lt)
-        ];
-        distinct = λ j k less below. elim (place k (omega arith)) [
-          | inl lower ↦ rw (old j (omega arith), old k lower) (table.distinct j k less lower)
-          | inr last ↦ rw (old j (omega arith), new k last) (other j (omega arith))
-        ];
-        all =
-            let sums = sum_by-set count_empty cells id None None lt in
-            let was : count_empty (cell cells id) ≡ 0 = rw e refl in
-            let all = table.all in
-            omega arith;
-        room = rw length-set fits;
-        few = rw length-set table.few;
-      }
+  cell_below : (s : Slab T) (id : ℕ) → id < s.capacity → at (table_of s) id ≡ get s id
+  cell_below s id below = get_or-map-range_with_len (get s) 0 s.capacity id id None below (omega arith)
+
+  pub table_at : (s : Slab T) → IsTable s → (id : ℕ) → at (table_of s) id ≡ get s id
+  table_at s table id = elim (side id s.capacity) [
+    | inl below ↦ cell_below s id below
+    | inr past ↦ get_or_past (table_of s).cells id None (rw (cells_long s) past) ∙ sym (table.beyond id past)
+  ]
+
+  -- an id that has a value is one for which there is memory
+  pub used_within : (s : Slab T) → IsTable s → (id : ℕ) (x : T) → get s id ≡ Some x → id < s.capacity
+  used_within s table id x e = elim (side id s.capacity) [
+    | inl below ↦ below
+    | inr past ↦ absurd (let no : None ≡ Some x = sym (table.beyond id past) ∙ e in cc)
+  ]
+
+  -- as many are stored as there is no room for
+  pub counted : (s : Slab T) → IsTable s → slab_len s + (table_of s).spare ≡ length (table_of s).cells
+  counted s table = let long = cells_long s in let within = table.within in omega arith
+
+  pub empty_is : (s : Slab T) → IsTable s → (slab_len s == 0) ≡ ((table_of s).spare == length (table_of s).cells)
+  empty_is s table = by (slab_len s == 0) refl
     where
-      place : (k : ℕ) → k < length free + 1 → (k < length free) ⊎ (k ≡ length free)
-      place k below = grind arith
+      by : (b : Bool) → (slab_len s == 0) ≡ b → b ≡ ((table_of s).spare == length (table_of s).cells)
+      by true e =
+          let none : slab_len s ≡ 0 = eqb-true (slab_len s) 0 e in
+          let all = counted s table in
+          sym (eq-eqb (table_of s).spare (length (table_of s).cells) (omega arith))
+      by false e =
+          let all = counted s table in
+          sym (ne_eqb (table_of s).spare (length (table_of s).cells) (λ same. eqb-false (slab_len s) 0 e (omega arith)))
 
-  pub grown : (more : List (Option T)) (ids : List ℕ) (room : ℕ) → length cells < 2 ^ 32 → more ≡ cells ++ None ∷ [] → ids ≡ free ++ length cells ∷ [] → length cells + 1 ≤ room → IsTable more ids room
-  grown more ids room few is are fits =
-      let longer : length ids ≡ length free + 1 = rw (are, length-append) refl in
-      let wider : length more ≡ length cells + 1 = rw (is, length-append) refl in
-      let old : (k : ℕ) → k < length free → get_or ids k 0 ≡ get_or free k 0 = λ k below. rw are (get_or_append_left free (length cells ∷ []) 0 k below) in
-      let new : (k : ℕ) → k ≡ length free → get_or ids k 0 ≡ length cells = λ k same. rw are (get_or-append_right free (length cells ∷ []) (length free) k 0 refl (omega arith) ∙ (let zero : k - length free ≡ 0 = omega arith in rw zero refl)) in
-      record {
-        within = λ k below. elim (place k (omega arith)) [ inl lower ↦ rw (old k lower) (let lt = table.within k lower in omega arith) | inr last ↦ rw (new k last) (omega arith) ];
-        empty = λ k below. elim (place k (omega arith)) [
-          | inl lower ↦ rw (old k lower, is) (get_or_append_left cells (None ∷ []) None (get_or free k 0) (table.within k lower) ∙ table.empty k lower)
-          | inr last ↦ rw (new k last, is) (get_or-append_right cells (None ∷ []) (length cells) (length cells) None refl (omega arith) ∙ (let zero : length cells - length cells ≡ 0 = omega arith in rw zero refl))
-        ];
-        distinct = λ j k less below. elim (place k (omega arith)) [
-          | inl lower ↦ rw (old j (omega arith), old k lower) (table.distinct j k less lower)
-          | inr last ↦ rw (old j (omega arith), new k last) (λ eq. let lt = table.within j (omega arith) in absurd (omega arith))
-        ];
-        all = let all = table.all in rw (is, sum_by-append count_empty cells (None ∷ [])) (omega arith);
-        room = omega arith;
-        few = omega arith;
-      }
+  -- one id changes
+  module _ (old new : Slab T) (id : ℕ) (slot : Option T) (updates : Updates old new id slot) (same : new.capacity ≡ old.capacity) where
+    pub cells_updated : id < old.capacity → (table_of new).cells ≡ set (table_of old).cells id slot
+    cells_updated below = ext_get_or None (table_of new).cells (set (table_of old).cells id slot) (cells_long new ∙ same ∙ sym (cells_long old) ∙ sym (length-set (table_of old).cells id slot))
+        (λ i lt. by i (let is = cells_long new in omega arith) (i == id) refl)
+      where
+        by : (i : ℕ) → i < new.capacity → (b : Bool) → (i == id) ≡ b → get_or (table_of new).cells i None ≡ get_or (set (table_of old).cells id slot) i None
+        by i lt true e =
+            let is : i ≡ id = eqb-true i id e in
+            cell_below new i lt ∙ ap (get new) is ∙ updates.changed ∙ sym (ap (λ k. get_or (set (table_of old).cells id slot) k None) is ∙ get_or-set_same (table_of old).cells id slot None (rw (cells_long old) below))
+        by i lt false e =
+            let other : i ≢ id = eqb-false i id e in
+            cell_below new i lt ∙ updates.others i other ∙ sym (get_or-set_other (table_of old).cells id i slot None other ∙ cell_below old i (omega arith))
+
+    pub beyond_updated : IsTable old → id < old.capacity → (k : ℕ) → new.capacity ≤ k → get new k ≡ None
+    beyond_updated table below k past = updates.others k (λ e. absurd (omega arith)) ∙ table.beyond k (omega arith)
+
+  -- a value is taken out, where there is one
+  pub cells_emptied : (old new : Slab T) (id : ℕ) → IsTable old → Updates old new id None → new.capacity ≡ old.capacity → (get old id ≡ None → new ≡ old) → (table_of new).cells ≡ set (table_of old).cells id None
+  cells_emptied old new id table updates same absent = by (get old id) refl
     where
-      place : (k : ℕ) → k < length free + 1 → (k < length free) ⊎ (k ≡ length free)
-      place k below = grind arith
+      by : (o : Option T) → get old id ≡ o → (table_of new).cells ≡ set (table_of old).cells id None
+      by None e =
+          let none : at (table_of old) id ≡ None = table_at old table id ∙ e in
+          ap (λ (s : Slab T). (table_of s).cells) (absent e) ∙ sym (ap (λ (o : Option T). set (table_of old).cells id o) (sym none) ∙ set-get_or (table_of old).cells id None)
+      by (Some x) e = cells_updated old new id None updates same (used_within old table id x e)
+
+  -- a value is taken out, and another one is put where it stood
+  pub cells_replaced : (old between new : Slab T) (id key : ℕ) (x value : T) → IsTable old → get old id ≡ Some x → Updates old between id None → between.capacity ≡ old.capacity → key ≡ id → Updates between new key (Some value) → new.capacity ≡ between.capacity
+      → (table_of new).cells ≡ set (table_of old).cells id (Some value)
+  cells_replaced old between new id key x value table there out same_out is put same_put =
+      let again : Updates between new id (Some value) = subst (λ (k : ℕ). Updates between new k (Some value)) is put in
+      cells_updated old new id (Some value) (record { changed = again.changed; others = λ k other. again.others k other ∙ out.others k other }) (same_put ∙ same_out) (used_within old table id x there)
+
+  pub few_ids : (s : Slab T) → s.capacity ≤ 2 ^ 32 → length (table_of s).cells ≤ 2 ^ 32
+  few_ids s few = rw (cells_long s) few
+
+  -- there is memory for more values
+  module _ (old new : Slab T) (table : IsTable old) (longer : old.capacity ≤ new.capacity) (rest : new ≡ record old { capacity = new.capacity }) where
+    pub more_room : length (table_of new).cells + (table_of old).spare ≡ length (table_of old).cells + (table_of new).spare
+    more_room =
+        let was = cells_long old in
+        let is = cells_long new in
+        let same : slab_len new ≡ slab_len old = ap slab_len rest in
+        let within = table.within in
+        omega arith
+
+    wider : IsTable new
+    wider = record {
+      beyond = λ id past. ap (λ (s : Slab T). get s id) rest ∙ table.beyond id (omega arith);
+      within = let same : slab_len new ≡ slab_len old = ap slab_len rest in let within = table.within in omega arith;
+    }
+
+    pub same_values : (id : ℕ) → at (table_of new) id ≡ at (table_of old) id
+    same_values id = table_at new wider id ∙ ap (λ (s : Slab T). get s id) rest ∙ sym (table_at old table id)

@@ -130,7 +130,7 @@ module _ (ps : List (ℕ × Want)) (us : List (ℕ × Sign)) (room : ℕ) (seats
 
   module _ (cs : List (ℕ × ℕ)) (m : AreMulti ps cs seats coming v.rx.posted v.rx.closing v.rx.coming v.next v.multis v.most) (source : ℕ) (head : ItemHead) (within : source < length v.begun) (nothing : begun_of v source ≡ None) (message : is_message head.kind ≡ true)
       (sign : Sign) (agree : (want : Want) → fits want sign ≡ matches want source head) (id : ℕ) (e : first_id (λ want. fits want sign) ps ≡ Some id) (q : Multi) (shared : multi_at seats id ≡ Some q) (others : Cells Waiting)
-      (is : others.cells ≡ set seats.cells id (option_map (used_up_by head.total) (at seats id))) (free : others.free ≡ seats.free) (bytes : Vec ℕ Global) (none : bytes.items ≡ []) (fits_in : head.total ≤ vec_capacity bytes) where
+      (is : others.cells ≡ set seats.cells id (option_map (used_up_by head.total) (at seats id))) (free : others.spare ≡ seats.spare) (bytes : Vec ℕ Global) (none : bytes.items ≡ []) (fits_in : head.total ≤ vec_capacity bytes) where
     abbrev t : IsTaken (Both ps us room seats parcels coming v kept cs m source head within nothing message sign agree) (λ want. fits want sign) (is_wanted source head) (both_agree ps us room seats parcels coming v kept cs m source head within nothing message sign agree) id ps v.rx.posted
     t = taken_home ps us room seats parcels coming v kept cs m source head within nothing message sign agree id e
 
@@ -275,7 +275,7 @@ module _ (ps : List (ℕ × Want)) (us : List (ℕ × Sign)) (room : ℕ) (seats
         ids = m.ids;
         numbers = m.numbers;
         back = m.back;
-        spare = let spare = m.spare in let same = ap length free in let count = length-set coming source (Some part) in omega arith;
+        spare = let spare = m.spare in let same = free in let count = length-set coming source (Some part) in omega arith;
       })
 
       pub numbers_on : IsNumbered v.rx.posted v.rx.coming v.next → IsNumbered (arriving source head v).rx.posted (arriving source head v).rx.coming v.next
@@ -325,7 +325,7 @@ module _ (ps : List (ℕ × Want)) (us : List (ℕ × Sign)) (room : ℕ) (seats
         ids = m.ids;
         numbers = m.numbers;
         back = m.back;
-        spare = let spare = m.spare in let same = ap length free in let count = length-set coming source (Some part) in let longer = length-append cs ((id, ctx) ∷ []) in let shorter = shorter in omega arith;
+        spare = let spare = m.spare in let same = free in let count = length-set coming source (Some part) in let longer = length-append cs ((id, ctx) ∷ []) in let shorter = shorter in omega arith;
       })
 
       pub numbers_off : IsNumbered v.rx.posted v.rx.coming v.next → IsNumbered (arriving source head v).rx.posted (arriving source head v).rx.coming v.next

@@ -122,4 +122,4 @@ pub record AreMulti (ps : List (ℕ × Want)) (cs : List (ℕ × ℕ)) (seats : 
   -- the last one under an id has it
   pub back : (id call : ℕ) → call_in multis id ≡ Some call → id_in multis call ≡ Some id
   -- each receive that may be posted has a place, and each source one for the multi-receive that its item closes
-  pub spare : length seats.free + length ps + length cs ≡ most + length coming
+  pub spare : most + length coming ≤ seats.spare + length ps + length cs

@@ -190,6 +190,6 @@ AreApart xs (p ∷ ys) = (has_id p.0 xs ≡ false) × (has_id p.0 ys ≡ false) 
 pub record AreClaimed (unexpected : List (ℕ × Sign)) (parcels : Cells Parcel) (coming : List (Option Begun)) (claims : List (ℕ × ℕ)) (capacity : ℕ) (claimed : List (ℕ × Arrival)) : Type 0 where
   pub messages : AllZip (IsClaim parcels coming) claims claimed
   pub apart : AreApart unexpected claims
-  -- each id that is not free is that of a message, and each may be claimed
-  pub filed : length parcels.free + length unexpected + length claims ≡ length parcels.cells
-  pub reserved : length parcels.cells ≤ capacity
+  -- each that is stored is a message, and each may be claimed
+  pub filed : parcels.spare + length unexpected + length claims ≡ length parcels.cells
+  pub reserved : length unexpected + length claims ≤ capacity

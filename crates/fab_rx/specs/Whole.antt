@@ -1,6 +1,6 @@
 -- All that is stored of the receive half, with the numbers of calls.
 --     IsInbox      it stands for what contracts see
-use Rattle.std.specs.Prelude.{◌≡◌, ℕ, ◌≤◌, Bool, false, List, [], length, Option}
+use Rattle.std.specs.Prelude.{◌≡◌, ℕ, ◌≤◌, ◌^◌, Bool, false, List, [], length, Option}
 use Rattle.fab_base.specs.declared.items.Want.{Want}
 use Rattle.fab_base.specs.declared.items.Sign.{Sign}
 use Rattle.fab_rx.specs.declared.stored.Waiting.{Waiting}
@@ -18,5 +18,7 @@ pub record IsInbox (posted : List (ℕ × Want)) (unexpected : List (ℕ × Sign
   pub aside : AreClaimed unexpected parcels coming claims claimable v.rx.claimed
   pub shared : AreMulti posted closing seats coming v.rx.posted v.rx.closing v.rx.coming v.next v.multis v.most
   pub closable : length coming ≤ room_to_close
+  -- each place for a receive has an id of 32 bits
+  pub ids : length seats.cells ≤ 2 ^ 32
   -- whether a multi-receive was posted
   pub sharing : shares ≡ false → v.multis ≡ []

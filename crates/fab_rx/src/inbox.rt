@@ -72,7 +72,8 @@ impl<M: Matcher> Inbox<M> {
     pub fn new(alloc: Global, peers: u32, most: u32) -> Result<Inbox<M>, NoMemory>
         ensures { IfOk result (λ inbox. inbox ≡ nothing_arrived peers most) }
     {
-        let seats = free_seats(alloc, most, peers)?;
+        // One for each receive, and one for each peer, whose item may close a multi-receive.
+        let seats = Table::with_room(alloc, most as usize + peers as usize)?;
         let coming = nothing_coming(alloc, peers)?;
         let closing = Vec::with_capacity(alloc, peers as usize)?;
         let past = Record::new(alloc, &(peers, most))?;
@@ -152,7 +153,7 @@ impl<M: Matcher> Inbox<M> {
         if !is_message(head.kind) {
             return self.gather(source, head);
         }
-        if self.seat(source, head)? {
+        if self.match_posted(source, head)? {
             return Ok(());
         }
         self.keep(source, head)
@@ -185,7 +186,7 @@ impl<M: Matcher> Inbox<M> {
 
     /// A message arrives, where a posted receive takes it, else nothing happens. `NoMemory`, only where a
     /// multi-receive takes it, changes nothing.
-    fn seat(&mut self, source: u32, head: &ItemHead) -> Result<bool, NoMemory>
+    fn match_posted(&mut self, source: u32, head: &ItemHead) -> Result<bool, NoMemory>
         requires source { source < length self.old.begun }
         requires nothing { begun_of self.old source ≡ None }
         requires message { is_message head.now.kind ≡ true }
@@ -246,15 +247,18 @@ impl<M: Matcher> Inbox<M> {
             ..
         } = self;
         let bytes = Vec::with_capacity(*alloc, head.total as usize)?;
-        let more = parcels.ids() + 1 - claims.len();
-        claims.reserve(more)?;
         parcels.make_room()?;
-        matcher.add_unexpected(parcels.next_id(), sign_of(source, head))?;
+        let more = parcels.len() + 1 - claims.len();
+        claims.reserve(more)?;
         let id = parcels.put(Parcel {
             source,
             head: *head,
             bytes: None,
         });
+        if let Err(no_memory) = matcher.add_unexpected(id, sign_of(source, head)) {
+            parcels.take(id);
+            return Err(no_memory);
+        }
         past.note::<(u32, &ItemHead), Arrives>(&(source, head));
         let begun = Begun {
             head: *head,
@@ -379,10 +383,6 @@ impl<M: Matcher> Inbox<M> {
             shares,
             ..
         } = self;
-        let next = seats.next_id();
-        past.note::<(&X, &Want, &Buf, u32, u64, u32), Shares<C>>(&(
-            about, &want, &buf, least, ctx, next,
-        ));
         let seat = Seat { buf, ctx };
         let multi = Some(Multi {
             want,
@@ -390,6 +390,17 @@ impl<M: Matcher> Inbox<M> {
             used: 0,
         });
         let id = seats.put(Waiting { seat, multi });
+        let Some(waiting) = seats.get(id) else {
+            unreachable!()
+        };
+        past.note::<(&X, &Want, &Buf, u32, u64, u32), Shares<C>>(&(
+            about,
+            &want,
+            &waiting.seat.buf,
+            least,
+            ctx,
+            id,
+        ));
         matcher.add_posted(id, want);
         *shares = true;
         id
@@ -446,18 +457,6 @@ impl<M: Matcher> Inbox<M> {
             buf: seat.buf,
         })
     }
-}
-
-/// So many free places for receives that are posted, and one for each peer, whose item may close a
-/// multi-receive.
-fn free_seats(alloc: Global, most: u32, peers: u32) -> Result<Table<Waiting>, NoMemory>
-    ensures { IfOk result (λ seats. length seats.free ≡ most + peers) }
-{
-    let mut seats = Table::new(alloc);
-    for _seat in 0..most as u64 + peers as u64 {
-        seats.grow()?;
-    }
-    Ok(seats)
 }
 
 /// Nothing is under way of any peer.

@@ -101,19 +101,16 @@ impl Table<Waiting> {
     fn use_up(&mut self, id: u32, total: u32) -> Option<u64>
         requires usable { IsSomeAnd (at self.old id) IsUsable }
         ensures cells { self.new.cells ≡ slice_set self.old.cells id (option_map (used_up_by total) (at self.old id)) }
-        ensures free { self.new.free ≡ self.old.free }
+        ensures spare { self.new.spare ≡ self.old.spare }
         ensures left { result ≡ left_by total (at self.old id) }
     {
-        let Some(waiting) = self.cells[id as usize].take() else {
-            unreachable!()
-        };
-        let waiting = waiting.used_up(total);
+        let waiting = self.slab.remove(id as usize).used_up(total);
         let left = if waiting.is_spent() {
             Some(waiting.seat.ctx)
         } else {
             None
         };
-        self.cells[id as usize] = Some(waiting);
+        self.slab.insert_reserved(waiting);
         left
     }
 
@@ -121,12 +118,10 @@ impl Table<Waiting> {
     pub fn place(&mut self, id: u32, start: u32, bytes: &[u8])
         requires { IsSome (at self.old id) }
         ensures cells { self.new.cells ≡ slice_set self.old.cells id (option_map (placed_in start bytes.now) (at self.old id)) }
-        ensures free { self.new.free ≡ self.old.free }
+        ensures spare { self.new.spare ≡ self.old.spare }
     {
-        let Some(waiting) = self.cells[id as usize].take() else {
-            unreachable!()
-        };
-        self.cells[id as usize] = Some(waiting.placed(start, bytes));
+        let waiting = self.slab.remove(id as usize);
+        self.slab.insert_reserved(waiting.placed(start, bytes));
     }
 }
 
@@ -142,7 +137,7 @@ pub fn give_room<M: Matcher>(
     requires usable { IsSomeAnd (at seats.old id) IsUsable }
     requires room { is_some (left_by total (at seats.old id)) ≡ true → vec_len closing.old < vec_capacity closing.old }
     ensures cells { seats.new.cells ≡ slice_set seats.old.cells id (option_map (used_up_by total) (at seats.old id)) }
-    ensures free { seats.new.free ≡ seats.old.free }
+    ensures spare { seats.new.spare ≡ seats.old.spare }
     ensures posted { M.posted matcher.new ≡ kept_or (left_by total (at seats.old id)) (M.posted matcher.old) (without id (M.posted matcher.old)) }
     ensures gone { is_some (left_by total (at seats.old id)) ≡ true → has_id id (M.posted matcher.new) ≡ false }
     ensures unexpected { M.unexpected matcher.new ≡ M.unexpected matcher.old }
@@ -224,7 +219,7 @@ pub fn close(seats: &mut Table<Waiting>, id: u32, total: u32, start: u32, bytes:
     requires usable { IsSomeAnd (at seats.old id) IsUsable }
     ensures buffer { Some result ≡ option_map (λ w. released_of id (taken_in total start bytes.now w)) (at seats.old id) }
     ensures cells { seats.new.cells ≡ slice_set seats.old.cells id None }
-    ensures free { length seats.new.free ≡ length seats.old.free + 1 }
+    ensures spare { seats.new.spare ≡ seats.old.spare + 1 }
 {
     let Some(waiting) = seats.take(id) else {
         unreachable!()
@@ -271,7 +266,7 @@ pub fn release(
     requires there { has_id id closing.old.items ≡ true → IsSome (multi_at seats.old id) }
     ensures buffer { result ≡ cond (is_over coming.now closing.old.items id) (option_map (released_of id) (at seats.old id)) None }
     ensures cells { seats.new.cells ≡ cond (is_over coming.now closing.old.items id) (slice_set seats.old.cells id None) seats.old.cells }
-    ensures free { length seats.new.free ≡ cond (is_over coming.now closing.old.items id) (length seats.old.free + 1) (length seats.old.free) }
+    ensures spare { seats.new.spare ≡ cond (is_over coming.now closing.old.items id) (seats.old.spare + 1) (seats.old.spare) }
     ensures rest { closing.new.items ≡ cond (is_over coming.now closing.old.items id) (without id closing.old.items) closing.old.items }
     ensures closable { vec_capacity closing.new ≡ vec_capacity closing.old }
 {

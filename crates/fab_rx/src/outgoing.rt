@@ -26,7 +26,7 @@ pub fn give(
     requires there { IsSome (at parcels.old id) }
     requires partly { (a : Arrival) → at parcels.old id ≡ Some (parcel_of a) → a.bytes ≡ None → IsKeptAs id (slice_index_or coming.old.items a.source None) }
     ensures cells { parcels.new.cells ≡ slice_set parcels.old.cells id None }
-    ensures free { length parcels.new.free ≡ length parcels.old.free + 1 }
+    ensures spare { parcels.new.spare ≡ parcels.old.spare + 1 }
     ensures coming { (a : Arrival) → at parcels.old id ≡ Some (parcel_of a) → coming.new.items ≡ turned (option_map (redirected buf ctx)) a.bytes a.source coming.old.items }
     ensures outcome { (a : Arrival) (r : Receive) → at parcels.old id ≡ Some (parcel_of a) → IsSingle r → seat_of r ≡ record { buf = buf; ctx = ctx } → result ≡ given_as a.bytes a r }
 {
@@ -61,7 +61,7 @@ pub fn throw(parcels: &mut Table<Parcel>, coming: &mut Vec<Option<Begun>>, id: u
     requires there { IsSome (at parcels.old id) }
     requires partly { (a : Arrival) → at parcels.old id ≡ Some (parcel_of a) → a.bytes ≡ None → IsKeptAs id (slice_index_or coming.old.items a.source None) }
     ensures cells { parcels.new.cells ≡ slice_set parcels.old.cells id None }
-    ensures free { length parcels.new.free ≡ length parcels.old.free + 1 }
+    ensures spare { parcels.new.spare ≡ parcels.old.spare + 1 }
     ensures coming { (a : Arrival) → at parcels.old id ≡ Some (parcel_of a) → coming.new.items ≡ turned (option_map thrown_on) a.bytes a.source coming.old.items }
     ensures outcome { (a : Arrival) → at parcels.old id ≡ Some (parcel_of a) → result ≡ seen a }
 {

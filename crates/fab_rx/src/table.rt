@@ -1,141 +1,121 @@
-//! A table that keeps values under ids of its own choice.
-ghost use Rattle.std.specs.Prelude.{◌≡◌, ◌==◌, ◌+◌, ◌<◌, ◌≤◌, ◌^◌, ℕ, [], ◌∷◌, ◌++◌, length, Some, None, IsSome, IfOk, OnOk, OnErr, OnSome, IfNone, replicate, slice_set};
+//! A table that keeps values under ids of its own choice: a slab with keys of 32 bits.
+ghost use Rattle.std.specs.Prelude.{◌≡◌, ◌==◌, ◌+◌, ◌<◌, ◌≤◌, ◌^◌, ℕ, [], length, Some, None, IsSome, IfOk, OnOk, OnSome, IfNone, slice_set};
 ghost use Rattle.std.specs.Option.{option_copied};
-ghost use Rattle.fab_rx.specs.Table.{at, next_id};
+ghost use Rattle.fab_rx.specs.Table.{at};
 
 use fab_base::NoMemory;
+use slab::Slab;
 use std::alloc::Global;
 use std::marker::Model;
 
+/// How many ids of 32 bits there are.
+const MOST_IDS: usize = 1 << 32;
+
 /// Values under ids below 2^32. An id that is given back is given out again.
 ///
-/// Only `new` and `grow` take memory.
+/// Only `with_room` and `make_room` take memory.
 #[derive(Drop)]
 pub struct Table<T> {
-    pub(crate) cells: Vec<Option<T>>,
-    pub(crate) free: Vec<u32>,
+    pub(crate) slab: Slab<T>,
 }
 
 impl<T> Model for Table<T> {
-    ghost use Rattle.std.specs.Prelude.{vec_capacity};
-    ghost use Rattle.fab_rx.specs.Table.{Cells, IsTable};
+    ghost use Rattle.fab_rx.specs.Table.{Cells, IsTable, table_of};
 
     ghost Value = { Cells T };
 
-    ghost view = { λ t. record { cells = t.cells.items; free = t.free.items } };
+    ghost view = { λ t. table_of t.slab };
 
-    ghost invariant = { λ t. IsTable t.cells.items t.free.items (vec_capacity t.free) };
+    ghost invariant = { λ t. IsTable t.slab };
 }
 
 impl<T: Drop> Table<T> {
-    /// A table without ids. Takes no memory.
+    /// A table with no room. Takes no memory.
     pub fn new(alloc: Global) -> Table<T>
-        ensures { result ≡ record { cells = []; free = [] } }
+        ensures { result ≡ record { cells = []; spare = 0 } }
     {
         Table {
-            cells: Vec::new(alloc),
-            free: Vec::new(alloc),
+            slab: Slab::new(alloc),
         }
     }
 
-    /// Adds an id, which is free. `NoMemory`, also where there are 2^32 ids, changes nothing.
-    pub fn grow(&mut self) -> Result<(), NoMemory>
-        ensures cells { OnOk result (self.new.cells ≡ self.old.cells ++ None ∷ []) }
-        ensures free { OnOk result (length self.new.free ≡ length self.old.free + 1) }
-        ensures err { OnErr result (self.new ≡ self.old) }
+    /// An empty table with room for so many values.
+    pub fn with_room(alloc: Global, room: usize) -> Result<Table<T>, NoMemory>
+        ensures room { IfOk result (λ table. room ≤ table.spare) }
+        ensures few { IfOk result (λ table. length table.cells ≤ 2 ^ 32) }
     {
-        let ids = self.cells.len();
-        if ids > u32::MAX as usize {
+        let slab = Slab::with_capacity(alloc, room)?;
+        if slab.capacity() > MOST_IDS {
             return Err(NoMemory);
         }
-        self.cells.reserve(1)?;
-        let more = ids - self.free.len() + 1;
-        self.free.reserve(more)?;
-        self.cells.push_reserved(None);
-        self.free.push_reserved(ids as u32);
-        Ok(())
+        Ok(Table { slab })
     }
 
-    /// Makes sure that an id is free. `NoMemory` changes nothing.
+    /// Makes sure that one more value fits, under an id of 32 bits. `NoMemory` changes no value.
     pub fn make_room(&mut self) -> Result<(), NoMemory>
-        ensures ok { OnOk result (0 < length self.new.free) }
-        ensures more { length self.new.cells + length self.old.free ≡ length self.old.cells + length self.new.free }
-        ensures most { length self.new.cells ≤ length self.old.cells + 1 }
+        ensures room { OnOk result (0 < self.new.spare) }
+        ensures few { OnOk result (length self.new.cells ≤ 2 ^ 32) }
+        ensures more { length self.new.cells + self.old.spare ≡ length self.old.cells + self.new.spare }
         ensures same { (id : ℕ) → at self.new id ≡ at self.old id }
-        ensures err { OnErr result (self.new ≡ self.old) }
     {
-        if self.free.is_empty() {
-            return self.grow();
+        self.slab.reserve(1)?;
+        if self.slab.capacity() > MOST_IDS {
+            return Err(NoMemory);
         }
         Ok(())
     }
 
     /// Whether no id has a value.
     pub fn is_empty(&self) -> bool
-        ensures { result ≡ (length self.now.free == length self.now.cells) }
+        ensures { result ≡ (self.now.spare == length self.now.cells) }
     {
-        self.free.len() == self.cells.len()
+        self.slab.is_empty()
     }
 
-    /// How many ids there are.
-    pub fn ids(&self) -> usize
-        ensures count { result ≡ length self.now.cells }
-        ensures few { result ≤ 2 ^ 32 }
+    /// How many ids have a value.
+    pub fn len(&self) -> usize
+        ensures { result + self.now.spare ≡ length self.now.cells }
     {
-        self.cells.len()
+        self.slab.len()
     }
 
-    /// The id under which `put` puts the next value. An id must be free.
-    pub fn next_id(&self) -> u32
-        requires { 0 < length self.now.free }
-        ensures id { result ≡ next_id self.now }
-        ensures empty { at self.now result ≡ None }
-    {
-        self.free[self.free.len() - 1]
-    }
-
-    /// Puts a value under a free id, and answers it. An id must be free.
+    /// Puts a value under an id that has none, and answers it. There must be room.
     pub fn put(&mut self, value: T) -> u32
-        requires { 0 < length self.old.free }
-        ensures id { result ≡ next_id self.old }
+        requires room { 0 < self.old.spare }
+        requires few { length self.old.cells ≤ 2 ^ 32 }
         ensures empty { at self.old result ≡ None }
         ensures within { result < length self.old.cells }
         ensures cells { self.new.cells ≡ slice_set self.old.cells result (Some value) }
-        ensures free { length self.new.free + 1 ≡ length self.old.free }
+        ensures spare { self.new.spare + 1 ≡ self.old.spare }
     {
-        let Some(id) = self.free.pop() else {
-            unreachable!()
-        };
-        self.cells[id as usize] = Some(value);
-        id
+        self.slab.insert_reserved(value) as u32
     }
 
-    /// Takes the value out from under an id, which is free then. Answers `None`, and changes
-    /// nothing, exactly where there is none.
+    /// Takes the value out from under an id. Answers `None`, and changes nothing, exactly where there is
+    /// none.
     pub fn take(&mut self, id: u32) -> Option<T>
         ensures value { result ≡ at self.old id }
         ensures cells { self.new.cells ≡ slice_set self.old.cells id None }
-        ensures free { OnSome result (length self.new.free ≡ length self.old.free + 1) }
+        ensures spare { OnSome result (self.new.spare ≡ self.old.spare + 1) }
         ensures none { IfNone result (self.new ≡ self.old) }
     {
-        let value = self.cells.get_mut(id as usize)?.take()?;
-        self.free.push_reserved(id);
-        Some(value)
+        self.slab.try_remove(id as usize)
     }
 
     /// Puts another value under an id that has one.
     pub fn set(&mut self, id: u32, value: T)
         requires { IsSome (at self.old id) }
         ensures cells { self.new.cells ≡ slice_set self.old.cells id (Some value) }
-        ensures free { self.new.free ≡ self.old.free }
+        ensures spare { self.new.spare ≡ self.old.spare }
     {
-        self.cells[id as usize] = Some(value);
+        self.slab.remove(id as usize);
+        self.slab.insert_reserved(value);
     }
 
     /// The value under an id.
     pub fn get(&self, id: u32) -> Option<&T>
         ensures { option_copied result ≡ at self.now id }
     {
-        self.cells.get(id as usize)?.as_ref()
+        self.slab.get(id as usize)
     }
 }

@@ -4,7 +4,6 @@
 --     later_cancelled       a cancel hands out another receive than the first that it may take
 --     released_besides      a cancel leaves its receive among those that are closing, so that its buffer comes back once more
 use Rattle.std.proofs.Common.{◌≡◌, ◌≢◌, ℕ, ◌+◌, ◌==◌, Bool, true, false, List, [], ◌∷◌, ◌++◌, length, length-append, Option, Some, None, refl, sym, ap, ◌∙◌, arith}
-use Rattle.std.specs.Prelude.{find}
 use Rattle.std.specs.Option.{option_map}
 use Rattle.fab_base.specs.declared.entries.Taken.{Taken}
 use Rattle.fab_base.specs.declared.entries.Taken.TheVariants.{Success, Failure}
@@ -12,7 +11,6 @@ use Rattle.fab_base.specs.declared.entries.Entry.TheVariants as entry
 use Rattle.fab_base.specs.declared.items.ItemHead.{ItemHead}
 use Rattle.fab_base.specs.declared.operations.Receive.{Receive}
 use Rattle.fab_base.specs.declared.operations.Arrival.{Arrival}
-use Rattle.fab_model.specs.Matching.{takes}
 use Rattle.fab_model.specs.State.{Receiving, under_way}
 use Rattle.fab_model.specs.Complete.{entry_of, filling, has_space, received, truncated}
 use Rattle.fab_model.specs.Receiving.{cancellable, draws, may_leave}

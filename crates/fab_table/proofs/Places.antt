@@ -1,6 +1,6 @@
 -- What a step on one lane, or one pool slot, leaves of the words and places of all others.
 use Rattle.std.proofs.Common.{◌≡◌, ℕ, ◌+◌, ◌*◌, ◌<◌, ◌≤◌, ◌≢◌, Bool, length, get_or, set, sym, refl, ap, ◌∙◌, subst, arith, get_or-set_other}
-use mathlib.Core.Option.{some, none, some-injective, some-ne-none}
+use mathlib.Core.Option.{some}
 use mathlib.Core.Option as maybe
 use lib.ListN.{get_elem?}
 use Rattle.std.specs.Prelude.{Option}

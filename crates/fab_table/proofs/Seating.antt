@@ -1,5 +1,5 @@
 -- How the rule begins, and how seats are split and joined.
-use Rattle.std.proofs.Common.{◌≡◌, ℕ, zero, suc, ◌+◌, ◌*◌, ◌%◌, ◌<◌, ◌≤◌, ◌≢◌, inr, ⊎_elim, false, true≢false, List, [], ◌∷◌, ◌++◌, map, length, take, drop, replicate, get_or, set, sym, refl, ap, ◌∙◌, subst, le_refl, arith, length-append, mod-lt}
+use Rattle.std.proofs.Common.{◌≡◌, ℕ, zero, suc, ◌+◌, ◌*◌, ◌%◌, ◌<◌, ◌≤◌, ◌≢◌, inr, ⊎_elim, false, true≢false, List, [], ◌∷◌, ◌++◌, map, length, take, drop, replicate, get_or, set, sym, refl, ap, ◌∙◌, subst, le_refl, arith, mod-lt}
 use mathlib.Core.Logic.{dite}
 use mathlib.Core.Option.{some, some-ne-none}
 use native.Mathlib.Decide.{ℕ_discrete, dec_lt}

@@ -1,7 +1,7 @@
 -- Each kind of step of a sender keeps the rule.
 use Rattle.std.proofs.Common.{◌≡◌, ℕ, ◌+◌, ◌*◌, ◌%◌, ◌<◌, ◌≤◌, ◌≢◌, ◌⊎◌, inl, inr, ⊎_elim, true, false, true≢false, List, [], ◌∷◌, ◌++◌, length, get_or, set, sym, refl, ap, eqb, ◌∙◌, subst, le_refl, arith, length-append, length-set, get_or-set_other, get_or-set_same, mod-lt}
 use mathlib.Core.Logic.{dite}
-use mathlib.Core.Option.{some, none, some-injective, some-ne-none}
+use mathlib.Core.Option.{some, none}
 use mathlib.Core.Option as maybe
 use native.Mathlib.Decide.{dec_lt}
 use lib.ListN.{get_elem?}

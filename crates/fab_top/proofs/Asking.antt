@@ -5,7 +5,7 @@ use Rattle.fab_coll_run.specs.Files.{coll_file}
 use Rattle.fab_outside.specs.Commands.{replay_files, script_file}
 use Rattle.fab_outside.specs.Loading.{Files, IsRead, LeadsTo, LoadsOnly}
 use Rattle.fab_outside.specs.Outside.{one_more}
-use Rattle.fab_outside.proofs.Named.{loads_as, loads_none, loads_one, loads_then}
+use Rattle.fab_outside.proofs.Named.{loads_as, loads_one, loads_then}
 use Rattle.fab_workloads.specs.declared.workload.Workload.{Workload}
 use Rattle.fab_workloads.specs.Commands.{payload_file, workload_of}
 use Rattle.fab_top.specs.Checking.{LeadsOn}

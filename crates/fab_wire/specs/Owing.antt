@@ -1,44 +1,14 @@
 -- Replies, and the items that owe one, as the frames of a lane tell them.
---     is_reply kind, owes head      the item is a reply; it owes one
 --     begins_reply head             the frame is the first one of a reply
 --     ends_owing head               the frame is the last one of an item that owes a reply
 --     replies op frames             how many replies to this operation begin with these frames
 --     owing op frames               how many items of this operation that owe a reply end with these frames
 --     IsOwed before posted taken    so many more replies to an operation are owed to a peer, by the frames posted to it and taken of it
-use Rattle.std.specs.Prelude.{ℕ, ◌+◌, ◌≤◌, Bool, true, false, ◌&&◌, ◌==◌, List, count_by}
+use Rattle.std.specs.Prelude.{ℕ, ◌+◌, ◌≤◌, Bool, ◌&&◌, ◌==◌, List, count_by}
 use Rattle.fab_base.specs.declared.frames.FrameHead.{FrameHead}
 use Rattle.fab_base.specs.declared.frames.Frame.{Frame}
-use Rattle.fab_base.specs.declared.items.ItemHead.{ItemHead}
-use Rattle.fab_base.specs.declared.items.Ack.{Ack}
-use Rattle.fab_base.specs.declared.items.Ack.TheVariants.{Nothing, Delivery, Match}
-use Rattle.fab_base.specs.declared.items.Kind.{Kind}
-use Rattle.fab_base.specs.declared.items.Kind.TheVariants.{Msg, TagMsg, WriteReq, ReadReq, AtomicReq, Reply}
+use Rattle.fab_base.specs.Replies.{is_reply, owes}
 use Rattle.fab_wire.specs.Joined.{is_last}
-
-abbrev pub is_reply : Kind → Bool
-is_reply Msg = false
-is_reply TagMsg = false
-is_reply WriteReq = false
-is_reply ReadReq = false
-is_reply AtomicReq = false
-is_reply Reply = true
-
-abbrev pub asks : Ack → Bool
-asks Nothing = false
-asks Delivery = true
-asks Match = true
-
--- a request owes a reply, and so does a message that asks for one
-abbrev pub owes_by : Bool → Kind → Bool
-owes_by asked Msg = asked
-owes_by asked TagMsg = asked
-owes_by asked WriteReq = true
-owes_by asked ReadReq = true
-owes_by asked AtomicReq = true
-owes_by asked Reply = false
-
-abbrev pub owes : ItemHead → Bool
-owes head = owes_by (asks head.ack) head.kind
 
 abbrev pub begins_reply : FrameHead → Bool
 begins_reply head = (head.from == 0) && is_reply head.item.kind

@@ -1,5 +1,5 @@
 -- What `joined` gives of one more number, and sums of one more.
-use Rattle.std.proofs.Common.{List, ap, append_assoc, arith, map, suc, sym, ℕ, ◌++◌, ◌+◌, ◌∙◌, ◌≡◌}
+use Rattle.std.proofs.Common.{List, ap, append_assoc, arith, suc, sym, ℕ, ◌++◌, ◌+◌, ◌∙◌, ◌≡◌}
 use Rattle.fab_workloads.specs.Generator.{drawn, next_drawn, total}
 use Rattle.fab_workloads.specs.Lines.{joined}
 

@@ -1,5 +1,5 @@
 -- The sum of a message's bytes: each 256 bytes that follow one another come to 32,640.
-use Rattle.std.proofs.Common.{List, [], ap, arith, map, refl, suc, sum, sym, zero, ℕ, ◌%◌, ◌*◌, ◌+◌, ◌/◌, ◌^◌, ◌∙◌, ◌∷◌, ◌≡◌}
+use Rattle.std.proofs.Common.{[], ap, arith, map, refl, suc, sum, sym, zero, ℕ, ◌%◌, ◌*◌, ◌+◌, ◌/◌, ◌^◌, ◌∙◌, ◌∷◌, ◌≡◌}
 use Rattle.std.proofs.Math.Nat.{add-mod_right, div-add-mod}
 use Rattle.std.proofs.lemmas.List.Sums.{sum-map, sum_by-append}
 use Rattle.fab_model.specs.Calls.{upto}

@@ -1,5 +1,5 @@
 -- The windows of `bandwidth`.
-use Rattle.std.proofs.Common.{List, [], ap, append_assoc, arith, min, suc, zero, ℕ, ◌*◌, ◌++◌, ◌+◌, ◌-◌, ◌∙◌, ◌∷◌, ◌≡◌, ◌≤◌}
+use Rattle.std.proofs.Common.{List, [], ap, append_assoc, ℕ, ◌++◌, ◌+◌, ◌-◌, ◌∙◌, ◌∷◌, ◌≡◌}
 use Rattle.fab_base.specs.declared.script.BytesWord.TheVariants.{Zero}
 use Rattle.fab_base.specs.declared.script.LineOp.{LineOp}
 use Rattle.fab_workloads.specs.Lines.{joined, receive, receiving, send, sent_by, wait}

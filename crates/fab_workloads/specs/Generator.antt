@@ -3,7 +3,7 @@
 --     source_of peers x, dest_of peers x, tag_of x, length_of x, bytes_of x      the message for which x stands
 --     sends, receives     the lines of a peer: it sends all that it has to send, and then receives
 --     total n f           the sum of what f gives of 1 to n
-use Rattle.std.specs.Prelude.{ℕ, zero, suc, ◌+◌, ◌*◌, ◌/◌, ◌%◌, ◌^◌, ◌==◌, if◌then◌else◌, List, [], ◌∷◌, ◌++◌, map, sum}
+use Rattle.std.specs.Prelude.{ℕ, zero, suc, ◌+◌, ◌*◌, ◌/◌, ◌%◌, ◌^◌, ◌==◌, if◌then◌else◌, List, [], ◌∷◌, map, sum}
 use Rattle.fab_base.specs.declared.script.BytesWord.TheVariants.{Hex}
 use Rattle.fab_base.specs.declared.script.LineOp.{LineOp}
 use Rattle.fab_model.specs.Calls.{upto}

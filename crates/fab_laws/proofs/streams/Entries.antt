@@ -19,7 +19,8 @@ use Rattle.fab_base.specs.declared.operations.Written.{Written}
 use Rattle.fab_base.specs.declared.script.Conf.{Conf}
 use Rattle.fab_model.specs.Matching.{change_first, is_message, remove_first, takes}
 use Rattle.fab_model.specs.State.{State, coming_from, raise, with_rx}
-use Rattle.fab_model.specs.Complete.{paste, tag_of, at_delivery, at_either, book, entry_of, fill, received, release, truncated}
+use Rattle.fab_model.specs.Complete.{paste, tag_of, at_delivery, book, entry_of, fill, received, release, truncated}
+use Rattle.fab_base.specs.Replies.{at_either}
 use Rattle.fab_model.specs.Receiving.{draws, give, without_first}
 use Rattle.fab_model.specs.Peers.{reading}
 use Rattle.fab_model.specs.Sending.{do_answer, do_sent}

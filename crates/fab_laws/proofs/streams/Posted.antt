@@ -23,7 +23,7 @@ use Rattle.fab_laws.specs.Members.{Never}
 use Rattle.fab_laws.specs.Programs.{Deed, Makes, Counts, Head, Tail, Draw, Opening, Peer, program}
 use Rattle.fab_laws.specs.Moments.{LeadTo}
 use Rattle.fab_laws.specs.Completed.{Accepted, Receives, Sends, accepted_by, accepts, begun, keeping_books, operations_of}
-use Rattle.fab_laws.specs.ReplyLaws.{is_reply}
+use Rattle.fab_base.specs.Replies.{is_reply}
 use Rattle.fab_laws.specs.StreamLaws.{TakenIsPosted, asks, posted_for, whole_from}
 use Rattle.fab_laws.proofs.Memory.{remembered_keeps}
 use Rattle.fab_laws.proofs.Stepping.{LineIs, StepIs, at_opening, step_is}

@@ -30,8 +30,8 @@ returns-in_default-clause-buffer c = rw (not_there c) refl
 pub returns-in_default-clause-cells : goal.returns-in_default-clause-cells
 returns-in_default-clause-cells c = rw (not_there c) refl
 
-pub returns-in_default-clause-free : goal.returns-in_default-clause-free
-returns-in_default-clause-free c = rw (not_there c) refl
+pub returns-in_default-clause-spare : goal.returns-in_default-clause-spare
+returns-in_default-clause-spare c = rw (not_there c) refl
 
 pub returns-in_default-clause-rest : goal.returns-in_default-clause-rest
 returns-in_default-clause-rest c = rw (not_there c) refl
@@ -74,10 +74,10 @@ returns-clause-cells c =
     let yes = over c.args.coming.now c.args.closing.now.items c.args.id c.in-Some.place (sym c.if-is_fed.ensures) (search rules) in
     rw yes c.take.ensures.cells
 
-pub returns-clause-free : goal.returns-clause-free
-returns-clause-free c =
+pub returns-clause-spare : goal.returns-clause-spare
+returns-clause-spare c =
     let yes = over c.args.coming.now c.args.closing.now.items c.args.id c.in-Some.place (sym c.if-is_fed.ensures) (search rules) in
-    rw yes c.in-Some-take.ensures.free
+    rw yes c.in-Some-take.ensures.spare
 
 pub returns-clause-rest : goal.returns-clause-rest
 returns-clause-rest c =

@@ -1,6 +1,5 @@
-use Rattle.std.proofs.Common.{ap, arith, length, sym, ◌≡◌, ◌≤◌, ◌∙◌}
+use Rattle.std.proofs.Common.{ap, arith, length, sym, ◌∙◌}
 use Rattle.std.specs.Prelude.{sum_by}
-use Rattle.fab_workloads.specs.Script.{ops_of}
 use Rattle.fab_workloads.proofs.Few.{few_lines, sum_mapped}
 use Rattle.fab_workloads.proofs.script.bound.Goals as goal
 

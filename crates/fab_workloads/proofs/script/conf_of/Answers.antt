@@ -1,6 +1,5 @@
 use Rattle.std.proofs.Common.{Some, ap, sym, ◌∙◌, ◌≡◌}
 use Rattle.fab_base.specs.declared.caps.Api.TheVariants.{One}
-use Rattle.fab_base.specs.declared.caps.Info.{Info}
 use Rattle.fab_model.specs.Negotiation.{grant, granted_info}
 use Rattle.fab_workloads.specs.Script.{hints_for}
 use Rattle.fab_workloads.proofs.Granted.{peers_granted}

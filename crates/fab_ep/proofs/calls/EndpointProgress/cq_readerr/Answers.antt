@@ -1,4 +1,4 @@
-use Rattle.std.proofs.Common.{◌≡◌, refl}
+use Rattle.std.proofs.Common.{◌≡◌}
 use Rattle.fab_base.specs.declared.entries.Taken.TheVariants.{Failure}
 use Rattle.fab_face.specs.Ports.{seen}
 use Rattle.fab_ep.proofs.Kept.{tied_popped}

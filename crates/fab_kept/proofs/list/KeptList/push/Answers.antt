@@ -1,4 +1,4 @@
-use Rattle.std.proofs.Common.{◌≡◌, ◌++◌, ◌∷◌, [], Some, sym, ap, subst, ◌∙◌}
+use Rattle.std.proofs.Common.{◌++◌, ◌∷◌, [], Some, sym, ap, subst, ◌∙◌}
 use Rattle.fab_kept.specs.Places.{IsIndexed, somes}
 use Rattle.fab_kept.proofs.Places.{somes_push}
 use Rattle.fab_kept.proofs.Indexing.{pushed}

@@ -1,10 +1,10 @@
-use Rattle.std.proofs.Common.{◌≡◌, ◌<◌, ℕ, Option, Some, None, [], length, set, refl, sym, ap, subst, ◌∙◌, arith}
+use Rattle.std.proofs.Common.{◌≡◌, Option, Some, None, set, sym, ap, subst, ◌∙◌, arith}
 use Rattle.std.specs.Prelude.{find, IfNone}
 use Rattle.fab_model.specs.Matching.{remove_first}
 use Rattle.fab_model.specs.Peers.{is_of_ctx}
 use Rattle.fab_model.proofs.Firsts.{not_found}
-use Rattle.fab_kept.specs.Places.{Pops, Queues, places_of, somes}
-use Rattle.fab_kept.proofs.Places.{IsFirst, none_passes}
+use Rattle.fab_kept.specs.Places.{Pops, places_of, somes}
+use Rattle.fab_kept.proofs.Places.{none_passes}
 use Rattle.fab_kept.proofs.Indexing.{first_of, popped_left, stays}
 use Rattle.fab_kept.proofs.list.KeptList.take.Goals as goal
 

@@ -1,7 +1,8 @@
 use Rattle.std.proofs.Common.{◌≡◌, refl, ap, sym, ◌∙◌, Bool}
 use Rattle.std.specs.Prelude.{is_some}
 use Rattle.fab_model.specs.State.{State}
-use Rattle.fab_model.specs.Complete.{book, release, at_either}
+use Rattle.fab_model.specs.Complete.{book, release}
+use Rattle.fab_base.specs.Replies.{at_either}
 use Rattle.fab_model.specs.Arrivals.{tail_to}
 use Rattle.fab_reference.specs.Seen.{state_of}
 use Rattle.fab_reference.proofs.state.State.tail_into.Goals as goal

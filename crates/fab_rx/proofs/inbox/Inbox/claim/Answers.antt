@@ -29,6 +29,7 @@ invariant_of-self-2 g c =
       numbers = c.self.invariant.numbers;
       shared = c.self.invariant.shared;
       closable = c.self.invariant.closable;
+      ids = c.self.invariant.ids;
       sharing = c.self.invariant.sharing;
       aside = aside_claims _ _ _ _ _ _ _ c.self.invariant.kept _ _ c.self.invariant.aside c.args.want.now c.args.ctx c.in-Some.id (sym c.in-Some.ensures.first) _ rest c.remove_unexpected.ensures.gone;
     })

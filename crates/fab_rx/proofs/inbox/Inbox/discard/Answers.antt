@@ -38,13 +38,14 @@ invariant_of-self-2 g c =
     let turns = thrown_turns c.self.inside.parcels c.throw.new.parcels c.in-Some.id in
     rw (c.note.ensures, discarding_is v c.args.want.now t.member t.found, c.remove_unexpected.ensures.posted, c.remove_unexpected.ensures.room) (record {
       kept =
-          unexpected_kept _ _ _ _ _ _ _ c.self.invariant.kept _ _ c.self.invariant.aside c.in-Some.id c.throw.new.parcels c.throw.ensures.cells c.throw.ensures.free thrown_on Throw turns _ c.throw.ensures.coming v.next c.args.want.now (sym c.in-Some.ensures.first) _ rest c.remove_unexpected.ensures.gone;
+          unexpected_kept _ _ _ _ _ _ _ c.self.invariant.kept _ _ c.self.invariant.aside c.in-Some.id c.throw.new.parcels c.throw.ensures.cells c.throw.ensures.spare thrown_on Throw turns _ c.throw.ensures.coming v.next c.args.want.now (sym c.in-Some.ensures.first) _ rest c.remove_unexpected.ensures.gone;
       numbers = numbers_thrown v c.self.invariant.numbers t.member;
       shared = multi_moved _ _ _ _ _ _ _ _ _ _ c.self.invariant.shared c.in-Some.id t.member (found_partly _ _ _ _ _ _ _ c.self.invariant.kept c.args.want.now c.in-Some.id (sym c.in-Some.ensures.first) t.member here) long thrown_on Throw (λ b k. refl) v.next (omega arith) _ (c.throw.ensures.coming t.member here);
       closable = rw (c.throw.ensures.coming t.member here, length_turned _ _ _ _) c.self.invariant.closable;
+      ids = c.self.invariant.ids;
       sharing = c.self.invariant.sharing;
       aside =
-          unexpected_claims _ _ _ _ _ _ _ c.self.invariant.kept _ _ c.self.invariant.aside c.in-Some.id c.throw.new.parcels c.throw.ensures.cells c.throw.ensures.free thrown_on Throw turns _ c.throw.ensures.coming v.next c.args.want.now (sym c.in-Some.ensures.first) _ rest c.remove_unexpected.ensures.gone;
+          unexpected_claims _ _ _ _ _ _ _ c.self.invariant.kept _ _ c.self.invariant.aside c.in-Some.id c.throw.new.parcels c.throw.ensures.cells c.throw.ensures.spare thrown_on Throw turns _ c.throw.ensures.coming v.next c.args.want.now (sym c.in-Some.ensures.first) _ rest c.remove_unexpected.ensures.gone;
     })
 
 pub returns-clause-seen : goal.returns-clause-seen

@@ -123,7 +123,7 @@ invariant_of-self g c =
     let now = turned_rest _ _ _ _ _ _ _ _ _ _ _ _ c.self.invariant id e q shared d.0 d.1 mid first p taken none c.in-Some-take_begun.begun c.in-Some-take_begun.ensures.value _ (c.put_begun.ensures ∙ ap (λ (xs : List (Option Begun)). set xs p.source (Some c.gone_on.result)) c.take_begun.ensures.rest ∙ ap (λ (b : Begun). set (set c.self.inside.coming.items p.source None) p.source (Some b)) c.gone_on.ensures) in
     let posted = c.give_room.ensures.posted ∙ ap (λ (xs : List (ℕ × Want)). kept_or (left_by p.head.total (at c.self.inside.seats id)) xs (without id xs)) c.remove_unexpected.ensures.posted in
     rw (c.note.ensures, c.give_room.ensures.unexpected, c.give_room.ensures.most, c.remove_unexpected.ensures.room)
-    (drawn_rest _ _ _ _ _ _ _ _ _ _ _ _ c.self.invariant id e q shared d.0 d.1 mid first p taken _ c.take.ensures.cells c.in-Some-take.ensures.free _ rest c.remove_unexpected.ensures.gone _ now none _ c.give_room.ensures.cells c.give_room.ensures.free _ _ _ posted c.give_room.ensures.gone c.give_room.ensures.closing c.give_room.ensures.open c.give_room.ensures.closable)
+    (drawn_rest _ _ _ _ _ _ _ _ _ _ _ _ c.self.invariant id e q shared d.0 d.1 mid first p taken _ c.take.ensures.cells c.in-Some-take.ensures.spare _ rest c.remove_unexpected.ensures.gone _ now none _ c.give_room.ensures.cells c.give_room.ensures.spare _ _ _ posted c.give_room.ensures.gone c.give_room.ensures.closing c.give_room.ensures.open c.give_room.ensures.closable)
 
 pub returns-in_default-bytes-clause-outcome : goal.returns-in_default-bytes-clause-outcome
 returns-in_default-bytes-clause-outcome g c =
@@ -178,7 +178,7 @@ invariant_of-self-then-closes g c =
     let over : is_closed c.self.inside.coming.items id p.head.total (at c.self.inside.seats id) ≡ true = slice ∙ sym c.closes.ensures ∙ search rules in
     let posted = c.remove_posted.ensures.rest ∙ ap (λ (xs : List (ℕ × Want)). without id xs) c.remove_unexpected.ensures.posted in
     rw (c.note.ensures, c.remove_posted.ensures.unexpected, c.remove_posted.ensures.room, c.remove_unexpected.ensures.room)
-    (drawn_over _ _ _ _ _ _ _ _ _ _ _ _ c.self.invariant id e q shared d.0 d.1 mid first p taken _ c.take.ensures.cells c.in-Some-take.ensures.free _ rest c.remove_unexpected.ensures.gone _ (turned_whole _ _ _ _ _ _ _ _ _ _ _ _ c.self.invariant id e q shared d.0 d.1 mid first p taken _ whole) _ whole over _ c.close-over.ensures.cells c.close-over.ensures.free _ posted c.remove_posted.ensures.gone)
+    (drawn_over _ _ _ _ _ _ _ _ _ _ _ _ c.self.invariant id e q shared d.0 d.1 mid first p taken _ c.take.ensures.cells c.in-Some-take.ensures.spare _ rest c.remove_unexpected.ensures.gone _ (turned_whole _ _ _ _ _ _ _ _ _ _ _ _ c.self.invariant id e q shared d.0 d.1 mid first p taken _ whole) _ whole over _ c.close-over.ensures.cells c.close-over.ensures.spare _ posted c.remove_posted.ensures.gone)
 
 pub returns-then-closes-clause-outcome : goal.returns-then-closes-clause-outcome
 returns-then-closes-clause-outcome g c =
@@ -246,7 +246,7 @@ invariant_of-self-2 g c =
     let put = c.place.ensures.cells ∙ ap (λ (xs : List ℕ). set c.give_room-2.new.seats.cells id (option_map (placed_in q.used xs) (at c.give_room-2.new.seats id))) is_bytes in
     let posted = c.give_room-2.ensures.posted ∙ ap (λ (xs : List (ℕ × Want)). kept_or (left_by p.head.total (at c.self.inside.seats id)) xs (without id xs)) c.remove_unexpected.ensures.posted in
     rw (c.note.ensures, c.give_room-2.ensures.unexpected, c.give_room-2.ensures.most, c.remove_unexpected.ensures.room)
-    (drawn_part _ _ _ _ _ _ _ _ _ _ _ _ c.self.invariant id e q shared d.0 d.1 mid first p taken _ c.take.ensures.cells c.in-Some-take.ensures.free _ rest c.remove_unexpected.ensures.gone _ (turned_whole _ _ _ _ _ _ _ _ _ _ _ _ c.self.invariant id e q shared d.0 d.1 mid first p taken _ whole) _ whole goes_on _ _ c.give_room-2.ensures.cells c.give_room-2.ensures.free put c.place.ensures.free _ _ _ posted c.give_room-2.ensures.gone c.give_room-2.ensures.closing c.give_room-2.ensures.open c.give_room-2.ensures.closable)
+    (drawn_part _ _ _ _ _ _ _ _ _ _ _ _ c.self.invariant id e q shared d.0 d.1 mid first p taken _ c.take.ensures.cells c.in-Some-take.ensures.spare _ rest c.remove_unexpected.ensures.gone _ (turned_whole _ _ _ _ _ _ _ _ _ _ _ _ c.self.invariant id e q shared d.0 d.1 mid first p taken _ whole) _ whole goes_on _ _ c.give_room-2.ensures.cells c.give_room-2.ensures.spare put c.place.ensures.spare _ _ _ posted c.give_room-2.ensures.gone c.give_room-2.ensures.closing c.give_room-2.ensures.open c.give_room-2.ensures.closable)
 
 pub returns-clause-outcome : goal.returns-clause-outcome
 returns-clause-outcome g c =

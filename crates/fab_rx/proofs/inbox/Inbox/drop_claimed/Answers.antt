@@ -39,12 +39,13 @@ invariant_of-self-2 g c =
     let long = c.self.invariant.kept.comings ∙ sym c.self.invariant.kept.peers in
     let turns = thrown_turns c.self.inside.parcels c.throw.new.parcels c.in-Some.id in
     rw (c.note.ensures, dropping_is v c.args.ctx t.member t.found, c.give_up.ensures.capacity) (record {
-      kept = claimed_kept _ _ _ _ _ _ _ c.self.invariant.kept _ _ c.self.invariant.aside c.in-Some.id c.throw.new.parcels c.throw.ensures.cells c.throw.ensures.free thrown_on Throw turns _ c.throw.ensures.coming v.next c.args.ctx e _ c.give_up.ensures.rest;
+      kept = claimed_kept _ _ _ _ _ _ _ c.self.invariant.kept _ _ c.self.invariant.aside c.in-Some.id c.throw.new.parcels c.throw.ensures.cells c.throw.ensures.spare thrown_on Throw turns _ c.throw.ensures.coming v.next c.args.ctx e _ c.give_up.ensures.rest;
       numbers = numbers_thrown v c.self.invariant.numbers t.member.1;
       shared = multi_moved _ _ _ _ _ _ _ _ _ _ c.self.invariant.shared c.in-Some.id t.member.1 (claim_partly _ _ _ _ _ _ c.self.invariant.aside c.args.ctx c.in-Some.id e t.member.1 here) long thrown_on Throw (λ b k. refl) v.next (omega arith) _ (c.throw.ensures.coming t.member.1 here);
       closable = rw (c.throw.ensures.coming t.member.1 here, length_turned _ _ _ _) c.self.invariant.closable;
+      ids = c.self.invariant.ids;
       sharing = c.self.invariant.sharing;
-      aside = claimed_claims _ _ _ _ _ _ _ c.self.invariant.kept _ _ c.self.invariant.aside c.in-Some.id c.throw.new.parcels c.throw.ensures.cells c.throw.ensures.free thrown_on Throw turns _ c.throw.ensures.coming v.next c.args.ctx e _ c.give_up.ensures.rest;
+      aside = claimed_claims _ _ _ _ _ _ _ c.self.invariant.kept _ _ c.self.invariant.aside c.in-Some.id c.throw.new.parcels c.throw.ensures.cells c.throw.ensures.spare thrown_on Throw turns _ c.throw.ensures.coming v.next c.args.ctx e _ c.give_up.ensures.rest;
     })
 
 pub returns-clause-seen : goal.returns-clause-seen

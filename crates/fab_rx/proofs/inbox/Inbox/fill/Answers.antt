@@ -17,6 +17,7 @@ invariant_of-self g c =
       numbers = c.self.invariant.numbers;
       shared = multi_grown _ _ _ _ _ _ _ c.self.invariant.kept _ c.self.invariant.shared source within grew.0 (sym grew.1) grew.2 c.args.bytes.now _ grew.3 (λ way. grew.4.home _ _ _ way) grew.4.part;
       closable = rw (grew.3, length-set) c.self.invariant.closable;
+      ids = c.self.invariant.ids;
       sharing = c.self.invariant.sharing;
       aside = claims_grown _ _ _ _ _ _ _ c.self.invariant.kept source within there.0 there.1 grew.0 (sym grew.1) _ _ c.self.invariant.aside grew.2 c.args.bytes.now _ grew.3 grew.4.id;
     })

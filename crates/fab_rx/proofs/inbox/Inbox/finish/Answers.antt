@@ -11,6 +11,7 @@ use Rattle.fab_rx.specs.Arriving.{Arriving, begun_of}
 use Rattle.fab_rx.proofs.Numbering.{numbers_finish}
 use Rattle.fab_rx.proofs.Growing.{claims_as_kept, claims_still, item_there, ends_into, ends_thrown, ends_gathered, ends_as_kept}
 use Rattle.fab_rx.proofs.Moving.{multi_ended}
+use Rattle.fab_rx.proofs.Tables.{same_ids, same_ids_if}
 use Rattle.fab_rx.proofs.inbox.Inbox.finish.Goals as goal
 use Rattle.fab_rx.proofs.inbox.Inbox.finish.Goals.{in-Into, in-Part, in-Keep, in-Throw, in-Gather}
 
@@ -27,6 +28,7 @@ invariant_of-self g c =
         numbers = numbers;
         shared = multi_ended _ _ _ _ _ _ _ c.self.invariant.kept _ c.self.invariant.shared source within c.in-Some.begun c.in-Some.ensures.value _ w.in-Into.is (λ id. refl) _ c.take_begun.ensures.rest;
         closable = rw (c.take_begun.ensures.rest, length-set) c.self.invariant.closable;
+        ids = c.self.invariant.ids;
         sharing = c.self.invariant.sharing;
         aside = claims_still _ _ _ _ _ _ _ c.self.invariant.kept source within there.0 there.1 c.in-Some.begun c.in-Some.ensures.value _ _ c.self.invariant.aside _ c.take_begun.ensures.rest _ w.in-Into.is (λ id k. k);
       })
@@ -34,13 +36,14 @@ invariant_of-self g c =
           let put = w.place.ensures.cells ∙ ap (λ xs. set c.self.inside.seats.cells w.in-Part.id (option_map (placed_in w.in-Part.at xs) (at c.self.inside.seats w.in-Part.id))) w.as_slice.ensures.value in
           let slice = w.as_slice-in-Part.ensures.value ∙ c.take_begun.ensures.rest in
           let cells = w.release-released.ensures.cells ∙ ap (λ xs. cond (is_over xs c.self.inside.closing.items w.in-Part.id) (set w.place.new.self.cells w.in-Part.id None) w.place.new.self.cells) slice in
-          let count = w.release-released.ensures.free ∙ ap (λ xs. cond (is_over xs c.self.inside.closing.items w.in-Part.id) (length w.place.new.self.free + 1) (length w.place.new.self.free)) slice in
+          let count = w.release-released.ensures.spare ∙ ap (λ xs. cond (is_over xs c.self.inside.closing.items w.in-Part.id) (w.place.new.self.spare + 1) (w.place.new.self.spare)) slice in
           let rest = w.release-released.ensures.rest ∙ ap (λ xs. cond (is_over xs c.self.inside.closing.items w.in-Part.id) (without w.in-Part.id c.self.inside.closing.items) c.self.inside.closing.items) slice in
           rw (w.self-inside-is, c.note.ensures) (record {
             kept = rw c.take_begun.ensures.rest (kept_part _ _ _ _ _ _ _ c.self.invariant.kept _ c.self.invariant.shared source within there.0 there.1 c.in-Some.begun c.in-Some.ensures.value w.in-Part.id w.in-Part.at w.in-Part.bytes w.in-Part.is w.place.new.self put w.release-released.new.seats cells);
             numbers = numbers;
-            shared = rw c.take_begun.ensures.rest (multi_part _ _ _ _ _ _ _ c.self.invariant.kept _ c.self.invariant.shared source within there.0 there.1 c.in-Some.begun c.in-Some.ensures.value w.in-Part.id w.in-Part.at w.in-Part.bytes w.in-Part.is w.place.new.self put w.release-released.new.seats cells count w.place.ensures.free _ rest);
+            shared = rw c.take_begun.ensures.rest (multi_part _ _ _ _ _ _ _ c.self.invariant.kept _ c.self.invariant.shared source within there.0 there.1 c.in-Some.begun c.in-Some.ensures.value w.in-Part.id w.in-Part.at w.in-Part.bytes w.in-Part.is w.place.new.self put w.release-released.new.seats cells count w.place.ensures.spare _ rest);
             closable = rw (c.take_begun.ensures.rest, length-set, w.release-released.ensures.closable) c.self.invariant.closable;
+            ids = same_ids_if (is_over (set c.self.inside.coming.items source None) c.self.inside.closing.items w.in-Part.id) w.place.new.self w.release-released.new.seats w.in-Part.id None cells (same_ids c.self.inside.seats w.place.new.self w.in-Part.id _ put c.self.invariant.ids);
             sharing = c.self.invariant.sharing;
             aside = claims_still _ _ _ _ _ _ _ c.self.invariant.kept source within there.0 there.1 c.in-Some.begun c.in-Some.ensures.value _ _ c.self.invariant.aside _ c.take_begun.ensures.rest _ w.in-Part.is (λ id k. k);
           })
@@ -49,14 +52,16 @@ invariant_of-self g c =
         numbers = numbers;
         shared = multi_ended _ _ _ _ _ _ _ c.self.invariant.kept _ c.self.invariant.shared source within c.in-Some.begun c.in-Some.ensures.value _ w.in-Keep.is (λ id. refl) _ c.take_begun.ensures.rest;
         closable = rw (c.take_begun.ensures.rest, length-set) c.self.invariant.closable;
+        ids = c.self.invariant.ids;
         sharing = c.self.invariant.sharing;
-        aside = claims_as_kept _ _ _ _ _ _ _ c.self.invariant.kept source within there.0 there.1 c.in-Some.begun c.in-Some.ensures.value _ c.take_begun.ensures.rest _ _ c.self.invariant.aside w.in-Keep.id w.in-Keep.bytes w.from_vec.result _ w.in-Keep.is w.from_vec.ensures w.set.ensures.cells w.set.ensures.free;
+        aside = claims_as_kept _ _ _ _ _ _ _ c.self.invariant.kept source within there.0 there.1 c.in-Some.begun c.in-Some.ensures.value _ c.take_begun.ensures.rest _ _ c.self.invariant.aside w.in-Keep.id w.in-Keep.bytes w.from_vec.result _ w.in-Keep.is w.from_vec.ensures w.set.ensures.cells w.set.ensures.spare;
       })
       | in-Throw w ↦ rw (w.self-inside-is, c.note.ensures) (record {
         kept = ends_thrown _ _ _ _ _ _ _ c.self.invariant.kept source within there.0 there.1 c.in-Some.begun c.in-Some.ensures.value _ c.take_begun.ensures.rest w.in-Throw.is;
         numbers = numbers;
         shared = multi_ended _ _ _ _ _ _ _ c.self.invariant.kept _ c.self.invariant.shared source within c.in-Some.begun c.in-Some.ensures.value _ w.in-Throw.is (λ id. refl) _ c.take_begun.ensures.rest;
         closable = rw (c.take_begun.ensures.rest, length-set) c.self.invariant.closable;
+        ids = c.self.invariant.ids;
         sharing = c.self.invariant.sharing;
         aside = claims_still _ _ _ _ _ _ _ c.self.invariant.kept source within there.0 there.1 c.in-Some.begun c.in-Some.ensures.value _ _ c.self.invariant.aside _ c.take_begun.ensures.rest _ w.in-Throw.is (λ id k. k);
       })
@@ -65,6 +70,7 @@ invariant_of-self g c =
         numbers = numbers;
         shared = multi_ended _ _ _ _ _ _ _ c.self.invariant.kept _ c.self.invariant.shared source within c.in-Some.begun c.in-Some.ensures.value _ w.in-Gather.is (λ id. refl) _ c.take_begun.ensures.rest;
         closable = rw (c.take_begun.ensures.rest, length-set) c.self.invariant.closable;
+        ids = c.self.invariant.ids;
         sharing = c.self.invariant.sharing;
         aside = claims_still _ _ _ _ _ _ _ c.self.invariant.kept source within there.0 there.1 c.in-Some.begun c.in-Some.ensures.value _ _ c.self.invariant.aside _ c.take_begun.ensures.rest _ w.in-Gather.is (λ id k. k);
       })

@@ -16,6 +16,7 @@ invariant_of-self-2 g c =
       numbers = numbers_gather c.self.inside.past c.self.invariant.numbers source c.args.head.now c.requires.other;
       shared = multi_gather _ _ _ _ _ _ _ c.self.invariant.kept _ c.self.invariant.shared source c.args.head.now within nothing _ c.in_ok-bytes.bytes refl c.requires.other;
       closable = rw length-set c.self.invariant.closable;
+      ids = c.self.invariant.ids;
       sharing = c.self.invariant.sharing;
       aside = claims_arrived _ _ _ _ _ _ _ c.self.invariant.kept _ _ c.self.invariant.aside source c.args.head.now within nothing _;
     })

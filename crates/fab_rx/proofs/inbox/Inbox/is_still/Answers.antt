@@ -11,5 +11,5 @@ returns-then-not-self g c = λ holds.
 
 pub returns-else-not-self : goal.returns-else-not-self
 returns-else-not-self g c = λ holds.
-    let empty = eqb-true (length c.self.inside.parcels.free) (length c.self.inside.parcels.cells) (sym c.is_empty.ensures ∙ holds) in
+    let empty = eqb-true (c.self.inside.parcels.spare) (length c.self.inside.parcels.cells) (sym c.is_empty.ensures ∙ holds) in
     rw (← c.self.view_is) (still_empty _ _ _ _ _ _ _ c.self.invariant.kept _ _ c.self.invariant.aside empty)

@@ -4,6 +4,7 @@ use Rattle.fab_match.specs.Matcher.{ids}
 use Rattle.fab_rx.specs.declared.stored.Begun.{Begun}
 use Rattle.fab_rx.specs.Leaving.{may_leave_at}
 use Rattle.fab_rx.proofs.Leaving.{none_leaves, nothing_changes, seat_found, cancelled_is, left, multi_left}
+use Rattle.fab_rx.proofs.Tables.{same_ids}
 use Rattle.fab_rx.proofs.Numbering.{numbers_leave}
 use Rattle.fab_rx.proofs.inbox.Inbox.leave.Goals as goal
 
@@ -26,9 +27,10 @@ pub invariant_of-self-2 : goal.invariant_of-self-2
 invariant_of-self-2 g c =
     let e = ap (λ (xs : List (Option Begun)). find (may_leave_at c.args.ctx c.self.inside.seats xs) (ids (g.M.Matcher.posted c.self.inside.matcher))) (sym c.as_slice.ensures.value) ∙ sym c.in-Some.ensures in
     rw (c.note.ensures, c.remove_posted.ensures.unexpected, c.remove_posted.ensures.room) (record {
-      kept = left _ _ _ _ _ _ _ c.self.invariant.kept c.self.invariant.numbers _ c.self.invariant.shared c.args.ctx c.in-Some.meant e _ _ c.remove_posted.ensures.rest c.remove_posted.ensures.gone c.take.ensures.cells c.in-Some-take.ensures.free;
-      shared = multi_left _ _ _ _ _ _ _ c.self.invariant.kept c.self.invariant.numbers _ c.self.invariant.shared c.args.ctx c.in-Some.meant e _ _ c.remove_posted.ensures.rest c.remove_posted.ensures.gone c.take.ensures.cells c.in-Some-take.ensures.free;
+      kept = left _ _ _ _ _ _ _ c.self.invariant.kept c.self.invariant.numbers _ c.self.invariant.shared c.args.ctx c.in-Some.meant e _ _ c.remove_posted.ensures.rest c.remove_posted.ensures.gone c.take.ensures.cells c.in-Some-take.ensures.spare;
+      shared = multi_left _ _ _ _ _ _ _ c.self.invariant.kept c.self.invariant.numbers _ c.self.invariant.shared c.args.ctx c.in-Some.meant e _ _ c.remove_posted.ensures.rest c.remove_posted.ensures.gone c.take.ensures.cells c.in-Some-take.ensures.spare;
       closable = c.self.invariant.closable;
+      ids = same_ids c.self.inside.seats c.take.new.self _ _ c.take.ensures.cells c.self.invariant.ids;
       sharing = c.self.invariant.sharing;
       numbers = numbers_leave c.self.inside.past c.self.invariant.numbers _;
       aside = c.self.invariant.aside;

@@ -1,4 +1,4 @@
-use Rattle.std.proofs.Common.{◌≡◌, ℕ, ◌+◌, ◌<◌, ◌≤◌, ◌∙◌, None, length, subst, sym, ap, refl, arith, rules}
+use Rattle.std.proofs.Common.{◌≡◌, ◌+◌, ◌<◌, ◌≤◌, ◌∙◌, None, length, subst, sym, refl, arith, rules}
 use Rattle.std.specs.Prelude.{find, unwrap_or}
 use Rattle.fab_rx.proofs.Numbering.{numbers_given, numbers_join}
 use Rattle.fab_base.specs.declared.operations.Coming.TheVariants.{Into}
@@ -9,6 +9,7 @@ use Rattle.fab_rx.specs.Arriving.{Arriving, receive_by}
 use Rattle.fab_rx.specs.Stored.{IsFit, redirected}
 use Rattle.fab_rx.proofs.Finding.{first_found, found_here, found_partly, is_there, none_found}
 use Rattle.fab_rx.proofs.Parting.{posting_is, redirected_turns, unexpected_claims, unexpected_kept}
+use Rattle.fab_rx.proofs.Tables.{same_ids}
 use Rattle.fab_rx.proofs.Posting.{fresh_seat, joins}
 use Rattle.fab_rx.proofs.Known.{posted_count}
 use Rattle.fab_rx.proofs.Closing.{seat_free}
@@ -16,8 +17,8 @@ use Rattle.fab_rx.proofs.Sharing.{multi_join, multi_moved}
 use Rattle.fab_rx.proofs.Parting.{length_turned}
 use Rattle.fab_rx.proofs.inbox.Inbox.post.Goals as goal
 
-pub put-id-requires : goal.put-id-requires
-put-id-requires g c =
+pub put-id-requires-clause-room : goal.put-id-requires-clause-room
+put-id-requires-clause-room g c =
     let want = c.args.want in
     let none : find (takes want) c.self.inside.past.rx.unexpected ≡ None = none_found _ _ _ _ _ _ _ c.self.invariant.kept want (search rules) in
     let less : find (takes want) c.self.inside.past.rx.unexpected ≡ None → length c.self.inside.past.rx.posted < c.self.inside.past.most =
@@ -39,8 +40,9 @@ invariant_of-self g c =
     rw (c.note.ensures, c.add_posted.ensures.posted, c.add_posted.ensures.unexpected, c.add_posted.ensures.room, none) (record {
       kept = joins _ _ _ _ _ _ _ c.self.invariant.kept c.put-id.result c.put-id.ensures.empty r fit (less none) c.put-id.new.self c.put-id.ensures.within c.put-id.ensures.cells (r.call + 1) c.self.inside.past.multis;
       numbers = rw none at (numbers_join c.self.inside.past c.self.invariant.numbers r later none);
-      shared = multi_join _ _ _ _ _ _ _ _ _ _ c.self.invariant.shared c.put-id.result c.args.want c.put-id.ensures.empty r c.put-id.new.self c.put-id.ensures.cells c.put-id.ensures.free new refl later;
+      shared = multi_join _ _ _ _ _ _ _ _ _ _ c.self.invariant.shared c.put-id.result c.args.want c.put-id.ensures.empty r c.put-id.new.self c.put-id.ensures.cells c.put-id.ensures.spare new refl later;
       closable = c.self.invariant.closable;
+      ids = same_ids c.self.inside.seats c.put-id.new.self _ _ c.put-id.ensures.cells c.self.invariant.ids;
       sharing = c.self.invariant.sharing;
       aside = c.self.invariant.aside;
     })
@@ -78,13 +80,14 @@ invariant_of-self-2 g c =
     let turns = redirected_turns c.self.inside.parcels c.give.new.parcels c.in-Some.id r c.args.buf c.args.ctx (record { least = refl; used = refl }) refl in
     rw (c.note.ensures, posting_is c.self.inside.past r t.member t.found, c.remove_unexpected.ensures.posted, c.remove_unexpected.ensures.room) (record {
       kept =
-          unexpected_kept _ _ _ _ _ _ _ c.self.invariant.kept _ _ c.self.invariant.aside c.in-Some.id c.give.new.parcels c.give.ensures.cells c.give.ensures.free (redirected c.args.buf c.args.ctx) (Into r 0) turns _ c.give.ensures.coming (r.call + 1) c.args.want (sym c.in-Some.ensures.first) _ rest c.remove_unexpected.ensures.gone;
+          unexpected_kept _ _ _ _ _ _ _ c.self.invariant.kept _ _ c.self.invariant.aside c.in-Some.id c.give.new.parcels c.give.ensures.cells c.give.ensures.spare (redirected c.args.buf c.args.ctx) (Into r 0) turns _ c.give.ensures.coming (r.call + 1) c.args.want (sym c.in-Some.ensures.first) _ rest c.remove_unexpected.ensures.gone;
       numbers = numbers_given c.self.inside.past c.self.invariant.numbers t.member r later;
       shared = multi_moved _ _ _ _ _ _ _ _ _ _ c.self.invariant.shared c.in-Some.id t.member (found_partly _ _ _ _ _ _ _ c.self.invariant.kept c.args.want c.in-Some.id (sym c.in-Some.ensures.first) t.member here) long (redirected c.args.buf c.args.ctx) (Into r 0) (λ b k. (r, refl, refl, c.self.invariant.shared.fresh r.call later)) (r.call + 1) (omega arith) _ (c.give.ensures.coming t.member here);
       closable = rw (c.give.ensures.coming t.member here, length_turned _ _ _ _) c.self.invariant.closable;
+      ids = c.self.invariant.ids;
       sharing = c.self.invariant.sharing;
       aside =
-          unexpected_claims _ _ _ _ _ _ _ c.self.invariant.kept _ _ c.self.invariant.aside c.in-Some.id c.give.new.parcels c.give.ensures.cells c.give.ensures.free (redirected c.args.buf c.args.ctx) (Into r 0) turns _ c.give.ensures.coming (r.call + 1) c.args.want (sym c.in-Some.ensures.first) _ rest c.remove_unexpected.ensures.gone;
+          unexpected_claims _ _ _ _ _ _ _ c.self.invariant.kept _ _ c.self.invariant.aside c.in-Some.id c.give.new.parcels c.give.ensures.cells c.give.ensures.spare (redirected c.args.buf c.args.ctx) (Into r 0) turns _ c.give.ensures.coming (r.call + 1) c.args.want (sym c.in-Some.ensures.first) _ rest c.remove_unexpected.ensures.gone;
     })
 
 pub returns-clause-outcome : goal.returns-clause-outcome

@@ -40,12 +40,13 @@ invariant_of-self g c =
     let long = c.self.invariant.kept.comings ∙ sym c.self.invariant.kept.peers in
     let turns = redirected_turns c.self.inside.parcels c.give.new.parcels c.in-Some.id r c.args.buf c.args.ctx (record { least = refl; used = refl }) refl in
     rw (c.note.ensures, taking_is v r t.member t.found, c.give_up.ensures.capacity) (record {
-      kept = claimed_kept _ _ _ _ _ _ _ c.self.invariant.kept _ _ c.self.invariant.aside c.in-Some.id c.give.new.parcels c.give.ensures.cells c.give.ensures.free (redirected c.args.buf c.args.ctx) (Into r 0) turns _ c.give.ensures.coming (r.call + 1) c.args.ctx e _ c.give_up.ensures.rest;
+      kept = claimed_kept _ _ _ _ _ _ _ c.self.invariant.kept _ _ c.self.invariant.aside c.in-Some.id c.give.new.parcels c.give.ensures.cells c.give.ensures.spare (redirected c.args.buf c.args.ctx) (Into r 0) turns _ c.give.ensures.coming (r.call + 1) c.args.ctx e _ c.give_up.ensures.rest;
       numbers = numbers_given v c.self.invariant.numbers t.member.1 r later;
       shared = multi_moved _ _ _ _ _ _ _ _ _ _ c.self.invariant.shared c.in-Some.id t.member.1 (claim_partly _ _ _ _ _ _ c.self.invariant.aside c.args.ctx c.in-Some.id e t.member.1 here) long (redirected c.args.buf c.args.ctx) (Into r 0) (λ b k. (r, refl, refl, c.self.invariant.shared.fresh r.call later)) (r.call + 1) (omega arith) _ (c.give.ensures.coming t.member.1 here);
       closable = rw (c.give.ensures.coming t.member.1 here, length_turned _ _ _ _) c.self.invariant.closable;
+      ids = c.self.invariant.ids;
       sharing = c.self.invariant.sharing;
-      aside = claimed_claims _ _ _ _ _ _ _ c.self.invariant.kept _ _ c.self.invariant.aside c.in-Some.id c.give.new.parcels c.give.ensures.cells c.give.ensures.free (redirected c.args.buf c.args.ctx) (Into r 0) turns _ c.give.ensures.coming (r.call + 1) c.args.ctx e _ c.give_up.ensures.rest;
+      aside = claimed_claims _ _ _ _ _ _ _ c.self.invariant.kept _ _ c.self.invariant.aside c.in-Some.id c.give.new.parcels c.give.ensures.cells c.give.ensures.spare (redirected c.args.buf c.args.ctx) (Into r 0) turns _ c.give.ensures.coming (r.call + 1) c.args.ctx e _ c.give_up.ensures.rest;
     })
 
 pub returns-clause-outcome : goal.returns-clause-outcome

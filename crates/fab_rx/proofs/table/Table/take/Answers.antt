@@ -1,11 +1,13 @@
-use Rattle.std.proofs.Common.{arith, rules}
-use Rattle.fab_rx.proofs.Tables.{below_room, emptied}
+use Rattle.std.proofs.Common.{◌≡◌, ◌∙◌, sym, subst}
+use Rattle.std.specs.Prelude.{IfNone}
+use Rattle.fab_rx.proofs.Tables.{cells_emptied, table_at}
 use Rattle.fab_rx.proofs.table.Table.take.Goals as goal
 
-pub push_reserved-requires : goal.push_reserved-requires
-push_reserved-requires g c =
-    let below = below_room c.self.inside.cells.items c.self.inside.free.items _ c.self.invariant c.args.id c.in_ok-value.value (search rules) in omega arith
+pub returns-clause-value : goal.returns-clause-value
+returns-clause-value g c = rw (← c.self.view_is) (c.try_remove.ensures.value ∙ sym (table_at c.self.inside.slab c.self.invariant c.args.id))
 
-pub invariant_of-self-2 : goal.invariant_of-self-2
-invariant_of-self-2 g c =
-    rw c.take.ensures.after (emptied c.self.inside.cells.items c.self.inside.free.items _ c.self.invariant c.args.id c.in_ok-value.value _ _ (search rules) (search rules) (omega arith))
+pub returns-clause-cells : goal.returns-clause-cells
+returns-clause-cells g c =
+    rw (← c.self.view_is)
+    (cells_emptied c.self.inside.slab c.try_remove.new.self c.args.id c.self.invariant c.try_remove.ensures.updates c.try_remove.ensures.capacity
+    (λ none. subst (λ o. IfNone o (c.try_remove.new.self ≡ c.self.inside.slab)) (c.try_remove.ensures.value ∙ none) c.try_remove.ensures.absent))

@@ -4,6 +4,7 @@ use Rattle.fab_model.specs.Arrivals.{taker}
 use Rattle.fab_match.proofs.Pairs.{without-first}
 use Rattle.fab_match.specs.Signs.{fits}
 use Rattle.fab_rx.specs.Arriving.{Arriving, begun_of}
+use Rattle.fab_rx.proofs.Tables.{same_ids}
 use Rattle.fab_rx.proofs.Claiming.{claims_arrived}
 use Rattle.fab_rx.proofs.Numbering.{numbers_seat}
 use Rattle.fab_rx.proofs.Keeping.{seated, seat_taken, seat_missed, seat_there, taken_single}
@@ -14,7 +15,7 @@ use Rattle.fab_match.specs.Matcher.{has_id, without}
 use Rattle.fab_rx.specs.Table.{at}
 use Rattle.fab_rx.specs.Sharing.{kept_or, left_by}
 use Rattle.fab_rx.specs.Whole.{IsInbox}
-use Rattle.fab_rx.proofs.inbox.Inbox.seat.Goals as goal
+use Rattle.fab_rx.proofs.inbox.Inbox.match_posted.Goals as goal
 
 pub returns-in_default-clause-taken : goal.returns-in_default-clause-taken
 returns-in_default-clause-taken g c =
@@ -62,10 +63,11 @@ invariant_of-self-in-Some-multi_at g c = by_left (left_by c.args.head.now.total 
         let ps = g.M.Matcher.posted c.self.inside.matcher in
         let posted = c.give_room.ensures.posted ∙ ap (λ x. kept_or x ps (without c.in-Some.id ps)) stay in
         rw (c.put_begun.ensures, c.new.ensures, c.note.ensures, c.give_room.ensures.unexpected, c.give_room.ensures.most, posted) (record {
-          kept = kept_on _ _ _ _ _ _ _ c.self.invariant.kept _ c.self.invariant.shared source c.args.head.now within nothing c.requires.message c.sign_of.result c.sign_of.ensures.fits c.in-Some.id e c.in-Some-multi_at.multi (search rules) c.give_room.new.seats c.give_room.ensures.cells c.give_room.ensures.free c.in_ok-bytes.bytes c.in_ok-bytes.ensures.items c.in_ok-bytes.ensures.capacity stay;
-          numbers = numbers_on _ _ _ _ _ _ _ c.self.invariant.kept _ c.self.invariant.shared source c.args.head.now within nothing c.requires.message c.sign_of.result c.sign_of.ensures.fits c.in-Some.id e c.in-Some-multi_at.multi (search rules) c.give_room.new.seats c.give_room.ensures.cells c.give_room.ensures.free c.in_ok-bytes.bytes c.in_ok-bytes.ensures.items c.in_ok-bytes.ensures.capacity stay c.self.invariant.numbers;
-          shared = rw (c.give_room.ensures.open stay) (multi_on _ _ _ _ _ _ _ c.self.invariant.kept _ c.self.invariant.shared source c.args.head.now within nothing c.requires.message c.sign_of.result c.sign_of.ensures.fits c.in-Some.id e c.in-Some-multi_at.multi (search rules) c.give_room.new.seats c.give_room.ensures.cells c.give_room.ensures.free c.in_ok-bytes.bytes c.in_ok-bytes.ensures.items c.in_ok-bytes.ensures.capacity stay);
+          kept = kept_on _ _ _ _ _ _ _ c.self.invariant.kept _ c.self.invariant.shared source c.args.head.now within nothing c.requires.message c.sign_of.result c.sign_of.ensures.fits c.in-Some.id e c.in-Some-multi_at.multi (search rules) c.give_room.new.seats c.give_room.ensures.cells c.give_room.ensures.spare c.in_ok-bytes.bytes c.in_ok-bytes.ensures.items c.in_ok-bytes.ensures.capacity stay;
+          numbers = numbers_on _ _ _ _ _ _ _ c.self.invariant.kept _ c.self.invariant.shared source c.args.head.now within nothing c.requires.message c.sign_of.result c.sign_of.ensures.fits c.in-Some.id e c.in-Some-multi_at.multi (search rules) c.give_room.new.seats c.give_room.ensures.cells c.give_room.ensures.spare c.in_ok-bytes.bytes c.in_ok-bytes.ensures.items c.in_ok-bytes.ensures.capacity stay c.self.invariant.numbers;
+          shared = rw (c.give_room.ensures.open stay) (multi_on _ _ _ _ _ _ _ c.self.invariant.kept _ c.self.invariant.shared source c.args.head.now within nothing c.requires.message c.sign_of.result c.sign_of.ensures.fits c.in-Some.id e c.in-Some-multi_at.multi (search rules) c.give_room.new.seats c.give_room.ensures.cells c.give_room.ensures.spare c.in_ok-bytes.bytes c.in_ok-bytes.ensures.items c.in_ok-bytes.ensures.capacity stay);
           closable = rw (length-set, c.give_room.ensures.closable) c.self.invariant.closable;
+          ids = same_ids c.self.inside.seats c.give_room.new.seats _ _ c.give_room.ensures.cells c.self.invariant.ids;
           sharing = c.self.invariant.sharing;
           aside = claims_arrived _ _ _ _ _ _ _ c.self.invariant.kept _ _ c.self.invariant.aside source c.args.head.now within nothing _;
         })
@@ -80,10 +82,11 @@ invariant_of-self-in-Some-multi_at g c = by_left (left_by c.args.head.now.total 
         let rest : without c.in-Some.id ps ≡ remove_first (λ p. fits p.1 c.sign_of.result) ps = without-first (λ want. fits want c.sign_of.result) c.in-Some.id ps c.in-Some.ensures.distinct e in
         let gone : has_id c.in-Some.id (without c.in-Some.id ps) ≡ false = rw posted at (c.give_room.ensures.gone (ap is_some stay)) in
         rw (c.put_begun.ensures, c.new.ensures, c.note.ensures, c.give_room.ensures.unexpected, c.give_room.ensures.most, posted) (record {
-          kept = kept_off _ _ _ _ _ _ _ c.self.invariant.kept _ c.self.invariant.shared source c.args.head.now within nothing c.requires.message c.sign_of.result c.sign_of.ensures.fits c.in-Some.id e c.in-Some-multi_at.multi (search rules) c.give_room.new.seats c.give_room.ensures.cells c.give_room.ensures.free c.in_ok-bytes.bytes c.in_ok-bytes.ensures.items c.in_ok-bytes.ensures.capacity ctx stay _ refl rest gone;
-          numbers = numbers_off _ _ _ _ _ _ _ c.self.invariant.kept _ c.self.invariant.shared source c.args.head.now within nothing c.requires.message c.sign_of.result c.sign_of.ensures.fits c.in-Some.id e c.in-Some-multi_at.multi (search rules) c.give_room.new.seats c.give_room.ensures.cells c.give_room.ensures.free c.in_ok-bytes.bytes c.in_ok-bytes.ensures.items c.in_ok-bytes.ensures.capacity ctx stay _ refl rest gone c.self.invariant.numbers;
-          shared = rw (c.give_room.ensures.closing ctx stay) (multi_off _ _ _ _ _ _ _ c.self.invariant.kept _ c.self.invariant.shared source c.args.head.now within nothing c.requires.message c.sign_of.result c.sign_of.ensures.fits c.in-Some.id e c.in-Some-multi_at.multi (search rules) c.give_room.new.seats c.give_room.ensures.cells c.give_room.ensures.free c.in_ok-bytes.bytes c.in_ok-bytes.ensures.items c.in_ok-bytes.ensures.capacity ctx stay _ refl rest gone);
+          kept = kept_off _ _ _ _ _ _ _ c.self.invariant.kept _ c.self.invariant.shared source c.args.head.now within nothing c.requires.message c.sign_of.result c.sign_of.ensures.fits c.in-Some.id e c.in-Some-multi_at.multi (search rules) c.give_room.new.seats c.give_room.ensures.cells c.give_room.ensures.spare c.in_ok-bytes.bytes c.in_ok-bytes.ensures.items c.in_ok-bytes.ensures.capacity ctx stay _ refl rest gone;
+          numbers = numbers_off _ _ _ _ _ _ _ c.self.invariant.kept _ c.self.invariant.shared source c.args.head.now within nothing c.requires.message c.sign_of.result c.sign_of.ensures.fits c.in-Some.id e c.in-Some-multi_at.multi (search rules) c.give_room.new.seats c.give_room.ensures.cells c.give_room.ensures.spare c.in_ok-bytes.bytes c.in_ok-bytes.ensures.items c.in_ok-bytes.ensures.capacity ctx stay _ refl rest gone c.self.invariant.numbers;
+          shared = rw (c.give_room.ensures.closing ctx stay) (multi_off _ _ _ _ _ _ _ c.self.invariant.kept _ c.self.invariant.shared source c.args.head.now within nothing c.requires.message c.sign_of.result c.sign_of.ensures.fits c.in-Some.id e c.in-Some-multi_at.multi (search rules) c.give_room.new.seats c.give_room.ensures.cells c.give_room.ensures.spare c.in_ok-bytes.bytes c.in_ok-bytes.ensures.items c.in_ok-bytes.ensures.capacity ctx stay _ refl rest gone);
           closable = rw (length-set, c.give_room.ensures.closable) c.self.invariant.closable;
+          ids = same_ids c.self.inside.seats c.give_room.new.seats _ _ c.give_room.ensures.cells c.self.invariant.ids;
           sharing = c.self.invariant.sharing;
           aside = claims_arrived _ _ _ _ _ _ _ c.self.invariant.kept _ _ c.self.invariant.aside source c.args.head.now within nothing _;
         })
@@ -113,10 +116,11 @@ invariant_of-self-2 g c =
     rw (c.put_begun-2.ensures, c.new-2.ensures, c.note-2.ensures, c.remove_posted.ensures.unexpected, c.remove_posted.ensures.room) (record {
       kept =
           seated _ _ _ _ _ _ _ c.self.invariant.kept source c.args.head.now within nothing c.requires.message c.sign_of.result c.sign_of.ensures.fits c.in-Some.id c.in-Some-take.field-0 _ _ alone e rest c.remove_posted.ensures.gone
-          there c.take.ensures.cells c.in-Some-take.ensures.free;
+          there c.take.ensures.cells c.in-Some-take.ensures.spare;
       numbers = numbers_seat c.self.inside.past c.self.invariant.numbers source c.args.head.now c.requires.message t.member t.found single;
-      shared = multi_seat _ _ _ _ _ _ _ c.self.invariant.kept _ c.self.invariant.shared source c.args.head.now within nothing c.requires.message c.sign_of.result c.sign_of.ensures.fits c.in-Some.id e c.in-Some-take.field-0 there alone single2 _ c.remove_posted.ensures.rest rest _ c.take.ensures.cells c.in-Some-take.ensures.free _ refl;
+      shared = multi_seat _ _ _ _ _ _ _ c.self.invariant.kept _ c.self.invariant.shared source c.args.head.now within nothing c.requires.message c.sign_of.result c.sign_of.ensures.fits c.in-Some.id e c.in-Some-take.field-0 there alone single2 _ c.remove_posted.ensures.rest rest _ c.take.ensures.cells c.in-Some-take.ensures.spare _ refl;
       closable = rw length-set c.self.invariant.closable;
+      ids = same_ids c.self.inside.seats c.take.new.self _ _ c.take.ensures.cells c.self.invariant.ids;
       sharing = c.self.invariant.sharing;
       aside = claims_arrived _ _ _ _ _ _ _ c.self.invariant.kept _ _ c.self.invariant.aside source c.args.head.now within nothing _;
     })
