@@ -64,17 +64,16 @@ fn turns_of(text: &str) -> Turns {
     }
 }
 
-/// A copy of a file joins the others, at this place among them.
+/// A copy of a file joins the others.
 fn add_copy(
     alloc: Global,
     files: &mut Vec<(Text, Buf)>,
-    place: usize,
     name: &str,
     bytes: &[u8],
 ) -> Result<(), NoMemory> {
     let name = Text::copy(alloc, name)?;
     let bytes = Buf::copy(alloc, bytes)?;
-    let Ok(()) = files.insert(place, (name, bytes)) else {
+    let Ok(()) = files.push((name, bytes)) else {
         return Err(NoMemory);
     };
     Ok(())
@@ -98,7 +97,7 @@ impl Setting {
     pub(crate) fn add_file(&mut self, alloc: Global, text: &str) -> Result<(), NoMemory> {
         let (name, text) = text.split_once(' ').unwrap_or((text, ""));
         let bytes = spelled(alloc, text)?;
-        add_copy(alloc, &mut self.files, 0, name, bytes.as_slice())
+        add_copy(alloc, &mut self.files, name, bytes.as_slice())
     }
 
     /// `LOAD WRITE PIECE`: the numbers of the load and of the write that fail, where 0 is none, and how many bytes a call of
@@ -121,12 +120,11 @@ impl Setting {
         self.turns = turns_of(text);
     }
 
-    /// These files.
+    /// These files, the last one first.
     pub(crate) fn depot(&self, alloc: Global) -> Result<MemoryDepot, NoMemory> {
         let mut files = Vec::new(alloc);
-        for (name, bytes) in &self.files {
-            let place = files.len();
-            add_copy(alloc, &mut files, place, name.as_str(), bytes.as_slice())?;
+        for (name, bytes) in self.files.iter().rev() {
+            add_copy(alloc, &mut files, name.as_str(), bytes.as_slice())?;
         }
         let failing = Vec::from_slice(alloc, &[self.load])?;
         Ok(MemoryDepot::new(files, failing))
