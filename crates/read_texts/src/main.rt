@@ -5,13 +5,12 @@
 
 mod reports;
 mod rounds;
-mod rows;
 mod scripts;
 
 use fab_base::NoMemory;
+use fab_rows::add_spelled;
 use reports::{add_judged, changed};
 use rounds::{add_plan, add_rounds};
-use rows::add_spelled;
 use scripts::{add_files, add_read, add_said};
 use std::alloc::Global;
 use std::io;

@@ -6,14 +6,19 @@ use fab_script::{bind, parse};
 use std::alloc::Global;
 
 /// A text with the new in the place of the old.
-pub(crate) fn changed(alloc: Global, text: &str, change: &str) -> Result<String, NoMemory> {
-    let (old, new) = change.split_once("=>").unwrap_or((change, ""));
+fn replaced(alloc: Global, text: &str, old: &str, new: &str) -> Result<String, NoMemory> {
     let (front, back) = text.split_once(old).unwrap_or((text, ""));
     let mut out = String::new(alloc);
     out.push_str(front)?;
     out.push_str(new)?;
     out.push_str(back)?;
     Ok(out)
+}
+
+/// `OLD=>NEW`: a text with the new in the place of the old.
+pub(crate) fn changed(alloc: Global, text: &str, change: &str) -> Result<String, NoMemory> {
+    let (old, new) = change.split_once("=>").unwrap_or((change, ""));
+    replaced(alloc, text, old, new)
 }
 
 fn add_verdict(

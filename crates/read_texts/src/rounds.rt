@@ -1,4 +1,6 @@
 //! What came of a text as a file of rounds.
+ghost use Rattle.fab_coll.specs.Rounds.{AreWithin};
+
 use crate::scripts::{add_numbers, add_refused};
 use fab_base::{Bound, NoMemory};
 use fab_coll::{CollScript, plan, read_rounds};
@@ -38,7 +40,9 @@ fn add_places(out: &mut String, script: &CollScript) -> Result<(), NoMemory> {
 }
 
 /// The script that does the rounds.
-fn add_plan_of(alloc: Global, out: &mut String, script: CollScript) -> Result<(), NoMemory> {
+fn add_plan_of(alloc: Global, out: &mut String, script: CollScript) -> Result<(), NoMemory>
+    requires { AreWithin script.peers script.rounds }
+{
     match plan(alloc, &script) {
         Ok(bound) => {
             add_places(out, &script)?;

@@ -1,13 +1,20 @@
 //! Runs each example, one after another, and prints its report behind its name; then checks the report that is kept of it.
-//! Then it runs the files of rounds and the commands that need no file, and at last the rows: scripts whose reports are
-//! compared with those that are kept.
+//! Then it runs the files of rounds and the commands that need no file, and the rows: scripts whose reports are
+//! compared with those that are kept. At last come commands over memory, which are rows of standard input.
 //!
 //! One program for all of them: each program of the repository is built whole, by two compilers.
 #![tactic(auto)]
 
+mod carrying;
+mod commands;
+mod full;
+mod setting;
+
+use commands::add_row;
 use fab_base::{NoMemory, Status, Text};
 use fab_host::{FileDepot, OpenGate, OutSink, WallClock, carry_out};
 use fab_outside::{Depot, MemorySink, Sink};
+use setting::Setting;
 use std::alloc::Global;
 use std::io::Write;
 use std::rt::Files;
@@ -208,6 +215,22 @@ where
     }
 }
 
+/// Tries the rows of standard input.
+fn try_rows<R>(rt: &R, setting: &mut Setting) -> io::Result<()>
+where
+    R: Input + Print + AllocGlobal + Threads + Wait + Sync,
+{
+    for row in rt.lines(rt.alloc()) {
+        let row = row?;
+        let mut out = String::new(rt.alloc());
+        match add_row(rt, rt.alloc(), &mut out, setting, row.as_str()) {
+            Ok(()) => print!(rt; "{}", out)?,
+            Err(NoMemory) => println!(rt; "no memory: {}", row)?,
+        }
+    }
+    Ok(())
+}
+
 fn main(rt: HostRuntime) -> io::Result<()> {
     for (script, report) in EXAMPLES {
         run_one(&rt, rt.stderr(), script, &["script", script])?;
@@ -228,5 +251,5 @@ fn main(rt: HostRuntime) -> io::Result<()> {
     for row in REQUESTS {
         try_row(&rt, rt.stderr(), row)?;
     }
-    Ok(())
+    try_rows(&rt, &mut Setting::new(rt.alloc()))
 }

@@ -1,0 +1,90 @@
+//! Commands over memory: the one call that carries them out.
+use fab_base::{Gate, Text};
+use fab_gates::{InOrder, Meeting};
+use fab_host::{Ended, OpenGate, carry_out};
+use fab_outside::{MemoryClock, MemoryDepot, MemorySink};
+use std::alloc::Global;
+use std::process::ExitCode;
+use std::sync::Wait;
+use std::sync::atomic::Ordering;
+use std::thread::Threads;
+
+/// What lets the turns of a run in.
+#[derive(Clone, Copy, Drop)]
+pub(crate) enum Turns {
+    Open,
+    /// In this round each of two turns waits until the other has begun.
+    Meet(u32),
+    /// In so many rounds the turns go in this order of their peers.
+    Order(&'static [u32], u32),
+}
+
+/// How a command ended: its exit status, how often the clock was asked, and how many turns saw another begin, or whether one
+/// came late.
+#[derive(Clone, Copy, Drop)]
+pub(crate) struct End {
+    pub(crate) code: u8,
+    pub(crate) asked: u64,
+    pub(crate) seen: u32,
+}
+
+/// The number of an exit status.
+fn number_of(code: ExitCode) -> u8 {
+    for number in 0..8 {
+        if code == ExitCode::from(number) {
+            return number;
+        }
+    }
+    u8::MAX
+}
+
+/// Carries out the command of these words, and tells its exit status and how often the clock was asked.
+fn carry<R: Threads + Wait + Sync, G: Gate>(
+    rt: &R,
+    alloc: Global,
+    words: &[Text],
+    depot: &mut MemoryDepot,
+    sink: &mut MemorySink,
+    errors: &mut MemorySink,
+    moments: Vec<u64>,
+    gate: &G,
+) -> (u8, u64) {
+    let mut clock = MemoryClock::new(moments);
+    let Ended { code, .. } = carry_out(rt, alloc, words, depot, sink, &mut clock, gate, errors);
+    (number_of(code), clock.given)
+}
+
+/// The same, with its turns let in so.
+pub(crate) fn carry_turns<R: Threads + Wait + Sync>(
+    rt: &R,
+    alloc: Global,
+    words: &[Text],
+    depot: &mut MemoryDepot,
+    sink: &mut MemorySink,
+    errors: &mut MemorySink,
+    moments: Vec<u64>,
+    turns: Turns,
+) -> End {
+    match turns {
+        Turns::Open => {
+            let (code, asked) = carry(rt, alloc, words, depot, sink, errors, moments, &OpenGate);
+            End {
+                code,
+                asked,
+                seen: 0,
+            }
+        }
+        Turns::Meet(round) => {
+            let gate = Meeting::new(round);
+            let (code, asked) = carry(rt, alloc, words, depot, sink, errors, moments, &gate);
+            let seen = gate.seen.load(Ordering::SeqCst);
+            End { code, asked, seen }
+        }
+        Turns::Order(order, rounds) => {
+            let gate = InOrder::new(order, rounds);
+            let (code, asked) = carry(rt, alloc, words, depot, sink, errors, moments, &gate);
+            let seen = u32::from(gate.late.load(Ordering::SeqCst));
+            End { code, asked, seen }
+        }
+    }
+}
