@@ -22,10 +22,17 @@ use std::thread::Threads;
 /// How often in a row a peer looks in vain before it ends a turn, times the square of their number.
 const LOOKS: u32 = 256;
 
+/// Among more peers than these none looks again, since there may be fewer processors than peers.
+const MOST_LOOKING: usize = 4;
+
 /// How often each of so many peers looks so. A look goes over the lanes of all, and all peers look, so that all looks take as long
 /// however many they are.
 fn looks_among(peers: usize) -> u32 {
-    LOOKS / peers.saturating_mul(peers).min(1_024).max(4) as u32
+    if peers > MOST_LOOKING {
+        return 0;
+    }
+    let looked = peers.saturating_mul(peers).max(4) as u32;
+    LOOKS / looked
 }
 
 /// Whether all go on after they told this: some turn moved something, some lines are left, and memory ran out in none.
