@@ -65,7 +65,7 @@ fn round<P: Port + Send, C: Machinery + Drop + Send, G: Gate, R: Threads + Wait 
         &|place, peer| {
             let own = place as u32;
             gate.enter(own, number);
-            let _kept = peer.quantum();
+            let _kept = peer.quantum(0);
             gate.leave(own, number);
         },
     );

@@ -91,9 +91,10 @@ impl<P: Port, C: Machinery> Runner<P, C> {
         self.peer.finished()
     }
 
-    /// One turn. Its answer is kept: whether it moved anything, or that memory ran out. Want of memory leaves the schedule
-    /// as it was; from then on nothing is known of the rest of the peer but that it stays as it is.
-    pub fn quantum(&mut self) -> Result<bool, NoMemory>
+    /// One turn, with so many looks as `Peer::quantum` has. Its answer is kept: whether it moved anything, or that memory ran
+    /// out. Want of memory leaves the schedule as it was; from then on nothing is known of the rest of the peer but that it
+    /// stays as it is.
+    pub fn quantum(&mut self, looks: u32) -> Result<bool, NoMemory>
         ensures turned { self.new.failed ≡ false → (self.old.failed ≡ false) × TurnedAs (told (seen P.Port) self.old.peer) (told (seen P.Port) self.new.peer) self.new.moved }
         ensures still { self.new.failed ≡ false → self.new.moved ≡ false → IsStill (told (seen P.Port) self.old.peer) (told (seen P.Port) self.new.peer) }
         ensures grown { self.new.failed ≡ false → size (told (seen P.Port) self.old.peer) ≤ size (told (seen P.Port) self.new.peer) }
@@ -108,7 +109,7 @@ impl<P: Port, C: Machinery> Runner<P, C> {
             return Err(NoMemory);
         }
         self.peer.endpoint.known();
-        match self.peer.quantum(0) {
+        match self.peer.quantum(looks) {
             Ok(moved) => {
                 self.peer.endpoint.known();
                 self.moved = moved;

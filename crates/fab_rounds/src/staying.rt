@@ -19,6 +19,22 @@ use std::sync::Wait;
 use std::thread;
 use std::thread::Threads;
 
+/// How often in a row a peer looks in vain before it ends a turn, times the square of their number.
+const LOOKS: u32 = 256;
+
+/// Among more peers than these none looks again, since there may be fewer processors than peers.
+const MOST_LOOKING: usize = 4;
+
+/// How often each of so many peers looks so. A look goes over the lanes of all, and all peers look, so that all looks take as long
+/// however many they are.
+fn looks_among(peers: usize) -> u32 {
+    if peers > MOST_LOOKING {
+        return 0;
+    }
+    let looked = peers.saturating_mul(peers).max(4) as u32;
+    LOOKS / looked
+}
+
 /// Whether all go on after they told this: some turn moved something, some lines are left, and memory ran out in none.
 fn all_go_on(told: u32) -> bool
     ensures { result ≡ goes told }
@@ -34,6 +50,7 @@ fn live<P: Port, C: Machinery, G: Gate, R: Wait>(
     roll: &RollCall,
     meeting: &Meeting,
     place: usize,
+    looks: u32,
     limit: u32,
 )
     requires place { place < 2 ^ 32 }
@@ -50,7 +67,7 @@ fn live<P: Port, C: Machinery, G: Gate, R: Wait>(
     while going && made < limit {
         made += 1;
         gate.enter(own, made);
-        let _kept = peer.quantum();
+        let _kept = peer.quantum(looks);
         gate.leave(own, made);
         going = all_go_on(peer.meet(rt, meeting));
     }
@@ -76,6 +93,7 @@ fn live_all<P: Port + Send, C: Machinery + Drop + Send, G: Gate, R: Threads + Wa
     if threads == 0 {
         return;
     }
+    let looks = looks_among(threads);
     thread::for_each_mut(
         rt,
         peers,
@@ -88,7 +106,7 @@ fn live_all<P: Port + Send, C: Machinery + Drop + Send, G: Gate, R: Threads + Wa
             ensures place { (account_in peer.new.seat).place ≡ (account_in peer.old.seat).place }
             ensures life { IsLife (between (told (seen P.Port) peer.old.peer) peer.old.moved peer.old.failed) (between (told (seen P.Port) peer.new.peer) peer.new.moved peer.new.failed) (account_in peer.new.seat) }
             ensures within { length (account_in peer.new.seat).said ≤ limit }
-        { live(rt, peer, gate, roll, meeting, place, limit) },
+        { live(rt, peer, gate, roll, meeting, place, looks, limit) },
     );
 }
 

@@ -17,14 +17,14 @@ post_next-requires-clause-sound g c = (c.known.ensures.items c.args.dest _ (next
 pub post_next-requires-2-clause-sound : goal.post_next-requires-2-clause-sound
 post_next-requires-2-clause-sound g c = (c.known.ensures.items c.args.dest _ (next_of c.in-Some.item) c.in-Some.ensures.some).1
 
-pub invariant_of-self-then-left-gt4096 : goal.invariant_of-self-then-left-gt4096
-invariant_of-self-then-left-gt4096 g c =
+pub invariant_of-self-then-left-gt-FRAME_BYTES : goal.invariant_of-self-then-left-gt-FRAME_BYTES
+invariant_of-self-then-left-gt-FRAME_BYTES g c =
     let i = c.self.inside in (
       c.self.invariant.0,
       tied_more (seen g.P.Port (record { port = i.port; held = g.C.Machine.held i.core; log = i.log.items; log_size = i.log_size; pushed = i.pushed })) _ c.args.dest (next_of c.in-Some.item) c.place-place.result
-          c.self.invariant.1 (search rules) (search rules) (search rules) c.if-left-gt4096.true
+          c.self.invariant.1 (search rules) (search rules) (search rules) c.if-left-gt-FRAME_BYTES.true
           (c.go_on.ensures
-          ∙ ap (λ n. gone_on c.args.dest n (g.C.Machine.held i.core)) (let within = place_within (g.C.Machine.held c.self.inside.core) c.args.dest (next_of c.in-Some.item) c.place-place.result c.place-place.ensures c.known.ensures.out c.in-Some.ensures.some in omega (arith, within, c.if-left-gt4096.true))) refl refl
+          ∙ ap (λ n. gone_on c.args.dest n (g.C.Machine.held i.core)) (let within = place_within (g.C.Machine.held c.self.inside.core) c.args.dest (next_of c.in-Some.item) c.place-place.result c.place-place.ensures c.known.ensures.out c.in-Some.ensures.some in omega (arith, within, c.if-left-gt-FRAME_BYTES.true))) refl refl
           (c.in_ok-post_next.ensures.yes (ap Ok c.if-not-branch.false)) c.known.ensures,
     )
 
@@ -33,14 +33,14 @@ invariant_of-self-2 g c =
     let i = c.self.inside in (
       search rules,
       tied_last (seen g.P.Port (record { port = i.port; held = g.C.Machine.held i.core; log = i.log.items; log_size = i.log_size; pushed = i.pushed })) _ c.args.dest (next_of c.in-Some.item) c.place-place.result
-          c.self.invariant.1 (search rules) (let within = place_within (g.C.Machine.held c.self.inside.core) c.args.dest (next_of c.in-Some.item) c.place-place.result c.place-place.ensures c.known.ensures.out c.in-Some.ensures.some in omega (arith, within, c.if-left-gt4096.false)) c.finish.ensures.held (search rules) (let l = length-append i.log.items (Sent c.args.dest ∷ []) in rw c.push_back_reserved.ensures.items (omega (arith, l, (let place = rw (← c.self.view_is) at c.requires.place in place (some_next (g.C.Machine.held i.core) c.args.dest (next_of c.in-Some.item) c.in-Some.ensures.some))))) refl
+          c.self.invariant.1 (search rules) (let within = place_within (g.C.Machine.held c.self.inside.core) c.args.dest (next_of c.in-Some.item) c.place-place.result c.place-place.ensures c.known.ensures.out c.in-Some.ensures.some in omega (arith, within, c.if-left-gt-FRAME_BYTES.false)) c.finish.ensures.held (search rules) (let l = length-append i.log.items (Sent c.args.dest ∷ []) in rw c.push_back_reserved.ensures.items (omega (arith, l, (let place = rw (← c.self.view_is) at c.requires.place in place (some_next (g.C.Machine.held i.core) c.args.dest (next_of c.in-Some.item) c.in-Some.ensures.some))))) refl
           (c.in_ok-post_next-2.ensures.yes (ap Ok c.if-not-branch-2.false)) c.known.ensures c.in-Some.ensures.some c.place-place.ensures (search rules),
     )
 
 pub returns-then-not-sent_fits-clause-posts : goal.returns-then-not-sent_fits-clause-posts
 returns-then-not-sent_fits-clause-posts g c =
     let within = place_within (g.C.Machine.held c.self.inside.core) c.args.dest (next_of c.in-Some.item) c.place-place.result c.place-place.ensures c.known.ensures.out c.in-Some.ensures.some in
-    let last : is_last (piece (next_of c.in-Some.item) c.place-place.result).head ≡ true = last_is (next_of c.in-Some.item) c.place-place.result (omega (arith, within, c.if-left-gt4096.false)) in
+    let last : is_last (piece (next_of c.in-Some.item) c.place-place.result).head ≡ true = last_is (next_of c.in-Some.item) c.place-place.result (omega (arith, within, c.if-left-gt-FRAME_BYTES.false)) in
     (search rules, (piece (next_of c.in-Some.item) c.place-place.result, search rules, (last, search rules)))
 
 pub post_next-requires-clause-whole : goal.post_next-requires-clause-whole
