@@ -1,13 +1,9 @@
--- New ports of both kinds have posted and taken nothing.
+-- New ports have posted and taken nothing.
 use Rattle.std.proofs.Common.{◌≡◌, ◌∙◌, ℕ, List, None, refl, ap}
 use Rattle.std.specs.List.{All}
 use Rattle.std.proofs.lemmas.Option.{slice_get-get_or}
 use Rattle.fab_wire.specs.Frames.{last_head}
 use Rattle.fab_link.specs.Meaning.{Outgoing, Incoming, AreFresh}
-use Rattle.fab_table.specs.declared.fabric.Fabric.{Fabric}
-use Rattle.fab_ring.specs.declared.port.RingPort.{RingPort}
-use Rattle.fab_ring.specs.Ports as ring
-use Rattle.fab_ring.specs.Made as rings
 use Rattle.fab_queue.specs.Ports as queue
 use Rattle.fab_queue.specs.Made as queues
 use Rattle.fab_rounds_tests.specs.Opening.{Begins}
@@ -18,11 +14,6 @@ begins n peers outs ins count out_after in_after fresh = (
   λ d. ap (last_head (outs d).after) (fresh d).frames ∙ out_after d,
   λ s. ap (last_head (ins s).after) (fresh s).taken ∙ in_after s,
 )
-
-pub lanes_begin : (n peers room pool : ℕ) (table : Fabric) (ports : List RingPort) → peers ≡ n → rings.AreMade peers room pool table ports → All (λ p. Begins n (ring.peers_of p) (ring.out_of p) (ring.in_of p)) ports
-lanes_begin n peers room pool table ports is made k d below =
-    let has = slice_get-get_or ports k d below in
-    begins n _ _ _ ((made.sizes k _ has).0 ∙ is) (λ d. refl) (λ s. refl) (made.fresh k _ has).1
 
 pub queues_begin : (n peers room : ℕ) (ports : List queue.Queued) → peers ≡ n → queues.AreMade peers room ports → All (λ p. Begins n (queue.peers_of p) (queue.out_of p) (queue.in_of p)) ports
 queues_begin n peers room ports is made k d below =

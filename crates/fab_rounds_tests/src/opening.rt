@@ -12,14 +12,13 @@ use fab_rounds::starting::start;
 use fab_script::{bind, lines, parse};
 use std::alloc::Global;
 
-/// Whether the sizes are such that ports of both kinds can be made.
+/// Whether the sizes are such that ports and machines can be made.
 fn is_sized(conf: &Conf) -> bool
     ensures { result ≡ true → IsSized conf.now }
 {
     let peers = conf.peers > 0 && conf.peers <= 32;
     let lane = conf.info.lane > 0 && conf.info.lane <= 1024;
-    let pool = conf.info.pool > 0 && conf.info.pool <= 1024;
-    peers && lane && pool && conf.info.cq >= 2 && conf.info.log >= 4
+    peers && lane && conf.info.cq >= 2 && conf.info.log >= 4
 }
 
 /// A script without payload files.

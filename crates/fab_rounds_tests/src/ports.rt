@@ -1,25 +1,13 @@
-//! New ports of both kinds, of all peers of a script.
+//! New ports over queues, of all peers of a script.
 ghost use Rattle.std.specs.Prelude.{◌≡◌, length, IfOk};
 ghost use Rattle.std.specs.List.{All};
-ghost use Rattle.fab_ring.specs.Ports as ring;
 ghost use Rattle.fab_queue.specs.Ports as queue;
 ghost use Rattle.fab_rounds_tests.specs.Opening.{IsSized, Begins};
 
 use fab_base::{Conf, NoMemory};
 use fab_queue::{QueuePort, Queues};
-use fab_ring::{RingPort, Rings};
 use std::alloc::Global;
 use std::sync::Wait;
-
-/// Ports over the lanes of one table.
-pub fn lanes(alloc: Global, conf: &Conf) -> Result<Vec<RingPort>, NoMemory>
-    requires { IsSized conf.now }
-    ensures count { IfOk result (λ ports. length ports.items ≡ conf.now.peers) }
-    ensures begin { IfOk result (λ ports. All (λ p. Begins conf.now.peers (ring.peers_of p) (ring.out_of p) (ring.in_of p)) ports.items) }
-{
-    let rings = Rings::new(alloc, conf.peers, conf.info.lane, conf.info.pool)?;
-    rings.ports(alloc)
-}
 
 /// Ports over queues.
 pub fn queues<R: Wait + Copy>(

@@ -1,4 +1,5 @@
-//! Rounds over lanes and over queues: what they report, and that turns are made side by side.
+//! Rounds over queues: what they report, and that turns are made side by side. (Of rounds over lanes rows of `run_examples`
+//! show the same.)
 //!
 //! What is tested is written over any port and machine.
 ghost use Rattle.std.specs.Prelude.{◌≡◌, ◌<◌, ◌^◌, length};
@@ -7,7 +8,7 @@ ghost use Rattle.fab_finish.specs.Joined.{start as start_of};
 ghost use Rattle.fab_rounds_tests.specs.Opening.{IsSized, Begins};
 
 use crate::opening::{bound_of, open};
-use crate::ports::{lanes, queues};
+use crate::ports::queues;
 use fab_base::{Bound, Gate, NoMemory};
 use fab_gates::{Meeting, OpenGate};
 use fab_link::Port;
@@ -144,21 +145,6 @@ fn run<P: Port + Drop + Send, C: Machinery + Drop + Send, G: Gate, R: Threads + 
     Ok(stop == row.stop && report.as_str() == row.report)
 }
 
-/// The same over lanes.
-fn run_over_lanes<G: Gate, R: Threads + Wait + Sync>(
-    rt: &R,
-    alloc: Global,
-    bound: &Bound,
-    gate: &G,
-    row: &Row,
-) -> Result<bool, NoMemory>
-    requires { IsSized bound.now.script.conf }
-{
-    let machines = machines(alloc, &bound.script.conf)?;
-    let ports = lanes(alloc, &bound.script.conf)?;
-    run(rt, alloc, bound, machines, ports, gate, row)
-}
-
 /// The same over queues.
 fn run_over_queues<G: Gate, R: Threads + Wait + Sync + Copy + Send>(
     rt: R,
@@ -174,23 +160,7 @@ fn run_over_queues<G: Gate, R: Threads + Wait + Sync + Copy + Send>(
     run(&rt, alloc, bound, machines, ports, gate, row)
 }
 
-/// Whether a row is so over lanes, where this gate lets turns in.
-fn holds_over_lanes<G: Gate, R: Threads + Wait + Sync>(
-    rt: &R,
-    alloc: Global,
-    row: &Row,
-    gate: &G,
-) -> bool {
-    let Some(bound) = bound_of(alloc, row.script) else {
-        return false;
-    };
-    match run_over_lanes(rt, alloc, &bound, gate, row) {
-        Ok(same) => same,
-        Err(_) => false,
-    }
-}
-
-/// The same over queues.
+/// Whether a row is so over queues, where this gate lets turns in.
 fn holds_over_queues<G: Gate, R: Threads + Wait + Sync + Copy + Send>(
     rt: R,
     alloc: Global,
@@ -209,21 +179,13 @@ fn holds_over_queues<G: Gate, R: Threads + Wait + Sync + Copy + Send>(
 #[test]
 fn rounds_over_queues_do_what_rounds_over_lanes_do(rt: HostRuntime) -> Result<(), Fail> {
     let alloc = rt.alloc();
-    let lanes = holds_over_lanes(&rt, alloc, &TALK, &OpenGate);
-    assert!(rt; lanes && holds_over_queues(rt, alloc, &TALK, &OpenGate));
+    assert!(rt; holds_over_queues(rt, alloc, &TALK, &OpenGate));
     Ok(())
 }
 
 /// Whether both turns saw the other begin.
 fn have_met(gate: &Meeting) -> bool {
     gate.seen.load(Ordering::SeqCst) == 2
-}
-
-#[test]
-fn turns_over_lanes_run_side_by_side(rt: HostRuntime) -> Result<(), Fail> {
-    let gate = Meeting::new(1);
-    assert!(rt; holds_over_lanes(&rt, rt.alloc(), &NO_LINES, &gate) && have_met(&gate));
-    Ok(())
 }
 
 #[test]
