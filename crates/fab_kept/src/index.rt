@@ -6,27 +6,34 @@ use fab_base::NoMemory;
 use std::alloc::Global;
 use std::collections::{HashMap, VecDeque};
 use std::marker::Model;
+use std::mem::replace;
 
-/// The places of a context, in order.
+/// The places of a context, in order. Most contexts have one at a time, so the first stands beside the others, which take no
+/// memory while there are none.
 #[derive(Drop)]
 pub(crate) struct Queue {
-    places: VecDeque<usize>,
+    first: Option<usize>,
+    others: VecDeque<usize>,
 }
 
 impl Model for Queue {
-    ghost use Rattle.std.specs.Prelude.{List, ℕ};
+    ghost use Rattle.std.specs.Prelude.{◌≡◌, ◌++◌, List, [], ℕ, IfNone, option_to_list};
 
     ghost Value = { List ℕ };
 
-    ghost view = { λ q. q.places.items };
+    ghost view = { λ q. option_to_list q.first ++ q.others.items };
+
+    ghost invariant = { λ q. IfNone q.first (q.others.items ≡ []) };
 }
 
 impl Queue {
-    fn new(alloc: Global) -> Queue
-        ensures { result ≡ [] }
+    /// One place alone. It takes no memory.
+    fn new(alloc: Global, place: usize) -> Queue
+        ensures { result ≡ place ∷ [] }
     {
         Queue {
-            places: VecDeque::new(alloc),
+            first: Some(place),
+            others: VecDeque::new(alloc),
         }
     }
 
@@ -34,7 +41,11 @@ impl Queue {
         ensures ok { OnOk result (self.new ≡ self.old ++ place ∷ []) }
         ensures err { OnErr result (self.new ≡ self.old) }
     {
-        self.places.push_back(place)?;
+        if self.first.is_none() {
+            self.first = Some(place);
+            return Ok(());
+        }
+        self.others.push_back(place)?;
         Ok(())
     }
 
@@ -42,7 +53,8 @@ impl Queue {
         ensures first { self.old ≡ option_to_list result ++ self.new }
         ensures none { IfNone result (self.old ≡ []) }
     {
-        self.places.pop_front()
+        let next = self.others.pop_front();
+        replace(&mut self.first, next)
     }
 }
 
@@ -62,9 +74,7 @@ pub(crate) fn put(
     if let Some(queue) = index.get_mut(&ctx) {
         return queue.push(place);
     }
-    let mut queue = Queue::new(alloc);
-    queue.push(place)?;
-    index.insert(ctx, queue)?;
+    index.insert(ctx, Queue::new(alloc, place))?;
     Ok(())
 }
 

@@ -1,4 +1,4 @@
-use Rattle.std.proofs.Common.{◌++◌, ◌∷◌, [], sym, ap, ◌∙◌}
+use Rattle.std.proofs.Common.{[], sym, ap, ◌∙◌}
 use Rattle.std.specs.Prelude.{is_some, unwrap_or}
 use Rattle.std.specs.Option.{option_copied_mut}
 use Rattle.fab_kept.proofs.Indexing.{lent_ok, lent_err, fresh}
@@ -19,5 +19,5 @@ returns-in-Some-clause-err c =
 pub returns-clause-ok : goal.returns-clause-ok
 returns-clause-ok c =
     fresh c.args.index.now c.insert.new.self c.args.ctx c.get_mut.follows.lender-at-none _ c.args.place c.get_mut.follows.holds-at-none
-    (sym c.get_mut.ensures.value ∙ ap option_copied_mut c.in_default.is) (c.in_ok-push.ensures.ok ∙ ap (λ q. q ++ c.args.place ∷ []) c.new-queue.ensures)
+    (sym c.get_mut.ensures.value ∙ ap option_copied_mut c.in_default.is) c.new.ensures
     c.in_ok-insert.ensures.updates.0
