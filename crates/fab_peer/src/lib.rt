@@ -10,3 +10,4 @@ pub mod peer;
 mod reading;
 mod regions;
 mod requests;
+mod spare;

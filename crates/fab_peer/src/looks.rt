@@ -63,7 +63,7 @@ impl<E: LineCalls> Peer<E> {
         requires next { next_op (told E.seen self.old) ≡ Some (Take ctx len) }
         ensures { IfOk result (λ o. WentOn (told E.seen self.old) (told E.seen self.new) o.done o.moved) }
     {
-        let buf = Buf::zeros(self.alloc, len as u64)?;
+        let buf = self.spare.zeros(len as u64)?;
         self.endpoint.known();
         let answer = self.endpoint.take(buf, ctx);
         self.endpoint.known();

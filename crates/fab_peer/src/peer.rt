@@ -13,7 +13,8 @@ ghost use Rattle.fab_peer.specs.Turns.{step_of, why_of};
 pub mod seats;
 
 use crate::calls::LineCalls;
-use fab_base::{Buf, BytesWord, Fault, Flags, Line, LineOp, LineResult, NoMemory, Refused, Step};
+use crate::spare::Spare;
+use fab_base::{Buf, Fault, Flags, Line, LineOp, LineResult, NoMemory, Refused, Step};
 use fab_face::events::Event;
 use fab_kept::KeptList;
 use std::alloc::Global;
@@ -36,6 +37,7 @@ pub struct Peer<E: LineCalls> {
     pub(crate) results: Vec<LineResult>,
     pub(crate) kept: KeptList,
     pub(crate) schedule: Vec<Step>,
+    pub(crate) spare: Spare,
     pub(crate) alloc: Global,
 }
 
@@ -92,17 +94,6 @@ fn in_vain(before: u32, moved: bool) -> u32
     before + 1
 }
 
-/// The bytes of a line's word.
-pub(crate) fn word_bytes(alloc: Global, word: &BytesWord) -> Result<Buf, NoMemory>
-    ensures { IfOk result (λ b. b ≡ word_bytes word.now) }
-{
-    match word {
-        BytesWord::Text(bytes) | BytesWord::Hex(bytes) => Buf::copy(alloc, bytes.as_slice()),
-        BytesWord::Zero(n) => Buf::zeros(alloc, *n),
-        BytesWord::File { .. } => Ok(Buf::empty(alloc)),
-    }
-}
-
 impl<E: LineCalls> Peer<E> {
     ghost use Rattle.std.specs.Prelude.{List};
     ghost use Rattle.fab_peer.specs.Kinds.{is_send, is_inject, is_on_receives};
@@ -121,8 +112,19 @@ impl<E: LineCalls> Peer<E> {
             results: Vec::new(alloc),
             kept: KeptList::new(alloc),
             schedule: Vec::new(alloc),
+            spare: Spare::new(alloc),
             alloc,
         }
+    }
+
+    /// Makes room for the results of all lines, and the buffers of their calls, as long as these have no more bytes together than a
+    /// file may have. So doing the lines takes little memory besides.
+    pub fn reserve(&mut self) -> Result<(), NoMemory>
+        ensures told { told E.seen self.new ≡ told E.seen self.old }
+        ensures endpoint { self.new.endpoint ≡ self.old.endpoint }
+    {
+        self.results.reserve_exact(self.lines.len())?;
+        self.spare.make_for(self.lines.as_slice())
     }
 
     /// Empties the endpoint's log into the schedule. Whether there was an event.
@@ -307,7 +309,7 @@ impl<E: LineCalls> Peer<E> {
         requires next { next_op (told E.seen self.old) ≡ Some (TRecv ctx source tag ignore len) }
         ensures { IfOk result (λ o. WentOn (told E.seen self.old) (told E.seen self.new) o.done o.moved) }
     {
-        let buf = Buf::zeros(self.alloc, len as u64)?;
+        let buf = self.spare.zeros(len as u64)?;
         self.endpoint.known();
         let answer = self.endpoint.trecv(source, tag, ignore, buf, ctx);
         self.endpoint.known();
@@ -326,7 +328,7 @@ impl<E: LineCalls> Peer<E> {
         requires next { next_op (told E.seen self.old) ≡ Some (Recv ctx source len) }
         ensures { IfOk result (λ o. WentOn (told E.seen self.old) (told E.seen self.new) o.done o.moved) }
     {
-        let buf = Buf::zeros(self.alloc, len as u64)?;
+        let buf = self.spare.zeros(len as u64)?;
         self.endpoint.known();
         let answer = self.endpoint.recv(source, buf, ctx);
         self.endpoint.known();
@@ -352,7 +354,7 @@ impl<E: LineCalls> Peer<E> {
         requires next { next_op (told E.seen self.old) ≡ Some (MRecv ctx source len min) }
         ensures { IfOk result (λ o. WentOn (told E.seen self.old) (told E.seen self.new) o.done o.moved) }
     {
-        let buf = Buf::zeros(self.alloc, len as u64)?;
+        let buf = self.spare.zeros(len as u64)?;
         let least = min.unwrap_or(64_u32.min(len));
         self.endpoint.known();
         let answer = self.endpoint.recv_multi(source, buf, least, ctx);
@@ -405,7 +407,7 @@ impl<E: LineCalls> Peer<E> {
                 completion,
                 fence,
             } => {
-                let buf = word_bytes(self.alloc, bytes)?;
+                let buf = self.spare.word(bytes)?;
                 let flags = Flags {
                     completion,
                     level,
@@ -423,7 +425,7 @@ impl<E: LineCalls> Peer<E> {
                 completion,
                 fence,
             } => {
-                let buf = word_bytes(self.alloc, bytes)?;
+                let buf = self.spare.word(bytes)?;
                 let flags = Flags {
                     completion,
                     level,
@@ -453,7 +455,7 @@ impl<E: LineCalls> Peer<E> {
                 ref bytes,
                 imm,
             } => {
-                let buf = word_bytes(self.alloc, bytes)?;
+                let buf = self.spare.word(bytes)?;
                 self.inject(dest, &buf, imm)
             }
             LineOp::TInject {
@@ -462,7 +464,7 @@ impl<E: LineCalls> Peer<E> {
                 ref bytes,
                 imm,
             } => {
-                let buf = word_bytes(self.alloc, bytes)?;
+                let buf = self.spare.word(bytes)?;
                 self.tinject(dest, tag, &buf, imm)
             }
             _ => unreachable!(),

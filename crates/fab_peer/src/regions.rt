@@ -5,7 +5,7 @@ ghost use Rattle.fab_base.specs.declared.script.LineOp.TheVariants.{Reg, Close, 
 ghost use Rattle.fab_model.specs.Calls.{word_bytes};
 
 use crate::calls::LineCalls;
-use crate::peer::{Outcome, Peer, why_of, word_bytes};
+use crate::peer::{Outcome, Peer, why_of};
 use fab_base::{Access, Buf, Fault, LineOp, LineResult, NoMemory};
 
 impl<E: LineCalls> Peer<E> {
@@ -75,12 +75,12 @@ impl<E: LineCalls> Peer<E> {
                 access,
                 ref bytes,
             } => {
-                let buf = word_bytes(self.alloc, bytes)?;
+                let buf = self.spare.word(bytes)?;
                 self.reg(key, access, buf)
             }
             LineOp::Close { key } => self.close(key),
             LineOp::Put { key, at, ref bytes } => {
-                let buf = word_bytes(self.alloc, bytes)?;
+                let buf = self.spare.word(bytes)?;
                 self.put(key, at, &buf)
             }
             LineOp::Show { key } => self.show(key),

@@ -5,7 +5,7 @@ ghost use Rattle.fab_base.specs.declared.script.LineOp.TheVariants.{Read, Write,
 ghost use Rattle.fab_model.specs.Calls.{fetched, word_bytes};
 
 use crate::calls::LineCalls;
-use crate::peer::{Outcome, Peer, either, why_of, word_bytes};
+use crate::peer::{Outcome, Peer, either, why_of};
 use fab_atomics::element_size;
 use fab_base::{AtomicOp, Buf, Flags, Level, LineOp, NoMemory, Num};
 
@@ -37,7 +37,7 @@ impl<E: LineCalls> Peer<E> {
         requires next { next_op (told E.seen self.old) ≡ Some (Read ctx dest key at len) }
         ensures { IfOk result (λ o. WentOn (told E.seen self.old) (told E.seen self.new) o.done o.moved) }
     {
-        let buf = Buf::zeros(self.alloc, len as u64)?;
+        let buf = self.spare.zeros(len as u64)?;
         self.endpoint.known();
         let answer = self.endpoint.read(dest, key, at, buf, ctx);
         let why = why_of(answer);
@@ -232,7 +232,7 @@ impl<E: LineCalls> Peer<E> {
                 completion,
                 fence,
             } => {
-                let buf = word_bytes(self.alloc, bytes)?;
+                let buf = self.spare.word(bytes)?;
                 let flags = Flags {
                     completion,
                     level: Level::Delivery,
@@ -247,7 +247,7 @@ impl<E: LineCalls> Peer<E> {
                 ref bytes,
                 imm,
             } => {
-                let buf = word_bytes(self.alloc, bytes)?;
+                let buf = self.spare.word(bytes)?;
                 self.inject_write(dest, key, at, &buf, imm)
             }
             _ => unreachable!(),

@@ -4,14 +4,16 @@
 --     past_at p                what a peer over such a port did
 --     IsNew n port             a port of so many peers, at which nothing was posted or taken
 --     at_start conf lines      a peer that is to do these lines
+--     AreReady conf lists xs ps  these pasts at these ports: peers of one table, each at the start of its list of lines
 --     living_with, past_with   a peer that was parted from its port, with what its machine holds
 --     Seated living steps p    the peer p, over a plain port, goes on from there
 --     Follows x q p            it goes on from this past, over this plain port
 --     Tells x port             the past is of a peer at this port of the table
-use Rattle.std.specs.Prelude.{◌≡◌, ℕ, List, [], Some, None, slice_get, slice_index_or}
+use Rattle.std.specs.Prelude.{◌≡◌, ℕ, List, [], length, map, Some, None, slice_get, slice_index_or}
 use Rattle.fab_base.specs.declared.peers.Step.{Step}
 use Rattle.fab_base.specs.declared.script.Conf.{Conf}
 use Rattle.fab_base.specs.declared.script.Line.{Line}
+use Rattle.fab_model.specs.Calls.{upto}
 use Rattle.fab_link.specs.Meaning.{AreFresh}
 use Rattle.fab_link.specs.Plain.{Plain}
 use Rattle.fab_face.specs.Held.{Held, Seen}
@@ -19,10 +21,11 @@ use Rattle.fab_face.specs.Ports.{Whole}
 use Rattle.fab_peer.specs.declared.peer.Peer.{Peer}
 use Rattle.fab_peer.specs.declared.peer.seats.Unseated.{Unseated}
 use Rattle.fab_peer.specs.Turns.{Living, living_of, told}
-use Rattle.fab_merging.specs.Pasts.{Past, past_of}
+use Rattle.fab_merging.specs.Pasts.{Past, begun, past_of}
 use Rattle.fab_finish.specs.Joined.{Member, told_of, member_steps, start}
 use Rattle.fab_table.specs.declared.fabric.Fabric.{Fabric}
 use Rattle.fab_ring.specs.declared.port.RingPort.{RingPort}
+use Rattle.fab_ring.specs.Gather.{AreAll}
 use Rattle.fab_ring.specs.Ports.{number_of, peers_of, table_of, moves_of, out_of, in_of}
 
 abbrev pub Paired : {X Y : Type 0} → (X → Y → Type 0) → List X → List Y → Type 0
@@ -59,6 +62,11 @@ at_start conf lines = record { held = start conf; lines = lines; results = []; k
 -- the peer with this number; one without a list has no lines
 abbrev pub first_of : Conf → List (List Line) → ℕ → Living
 first_of conf lists p = at_start conf (slice_index_or lists p [])
+
+pub record AreReady (conf : Conf) (lists : List (List Line)) (pasts : List Past) (ports : List RingPort) : Type 0 where
+  pub count : length ports ≡ conf.peers
+  pub begun_are : pasts ≡ map (λ p. begun (first_of conf lists p)) (upto conf.peers)
+  pub table : (f : Fabric) × AreAll f ports
 
 -- ---- between the ports
 

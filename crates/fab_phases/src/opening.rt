@@ -10,7 +10,7 @@ use fab_base::{Conf, Line, NoMemory};
 use fab_peer::calls::Machinery;
 use fab_ring::RingPort;
 use fab_rounds::runner::Runner;
-use fab_rounds::starting::start;
+use fab_rounds::starting::{Buffers, start};
 use std::alloc::Global;
 
 /// Takes the first list, or an empty one where there is none. It takes no memory.
@@ -31,6 +31,7 @@ fn open_one<C: Machinery + Drop>(
     lines: Vec<Line>,
     machine: C,
     port: RingPort,
+    buffers: Buffers,
 ) -> Result<Runner<RingPort, C>, NoMemory>
     requires log { 4 ≤ conf.now.info.log }
     requires start { C.held machine ≡ start_of conf.now }
@@ -38,7 +39,7 @@ fn open_one<C: Machinery + Drop>(
     ensures past { IfOk result (λ r. past_at r.peer ≡ begun (at_start conf.now lines.items)) }
     ensures port { IfOk result (λ r. r.peer.endpoint.port ≡ port) }
 {
-    start(alloc, port, machine, conf.info.log, lines)
+    start(alloc, port, machine, conf.info.log, lines, buffers)
 }
 
 /// All peers at the start of their lines, each over its port and a machine that holds what an endpoint holds when it is
@@ -49,6 +50,7 @@ pub(crate) fn open<C: Machinery + Drop>(
     mut lists: Vec<Vec<Line>>,
     mut machines: Vec<C>,
     mut ports: Vec<RingPort>,
+    buffers: Buffers,
 ) -> Result<Vec<Runner<RingPort, C>>, NoMemory>
     requires count { length machines.items ≡ conf.now.peers }
     requires log { 4 ≤ conf.now.info.log }
@@ -63,7 +65,7 @@ pub(crate) fn open<C: Machinery + Drop>(
         let lines = take_first(alloc, &mut lists);
         let machine = machines.remove(0);
         let port = ports.remove(0);
-        let runner = open_one(alloc, conf, lines, machine, port)?;
+        let runner = open_one(alloc, conf, lines, machine, port, buffers)?;
         runners.push(runner)?;
     }
     Ok(runners)

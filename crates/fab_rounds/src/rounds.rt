@@ -40,6 +40,26 @@ pub struct Rounds {
     pub stop: RoundStop,
 }
 
+/// One turn of a peer, of which the gate is told when it begins and ends.
+fn turn<P: Port, C: Machinery, G: Gate>(
+    peer: &mut Runner<P, C>,
+    gate: &G,
+    place: usize,
+    number: u32,
+)
+    requires place { place < 2 ^ 32 }
+    ensures turned { peer.new.failed ≡ false → (peer.old.failed ≡ false) × TurnedAs (told (seen P.Port) peer.old.peer) (told (seen P.Port) peer.new.peer) peer.new.moved }
+    ensures still { peer.new.failed ≡ false → peer.new.moved ≡ false → IsStill (told (seen P.Port) peer.old.peer) (told (seen P.Port) peer.new.peer) }
+    ensures stays { peer.new.failed ≡ true → (peer.new.moved ≡ false) × ((told (seen P.Port) peer.new.peer).schedule ≡ (told (seen P.Port) peer.old.peer).schedule) }
+    ensures grown { peer.new.failed ≡ false → size (told (seen P.Port) peer.old.peer) ≤ size (told (seen P.Port) peer.new.peer) }
+    ensures risen { peer.new.moved ≡ true → size (told (seen P.Port) peer.old.peer) < size (told (seen P.Port) peer.new.peer) }
+{
+    let own = place as u32;
+    gate.enter(own, number);
+    let _kept = peer.quantum(0);
+    gate.leave(own, number);
+}
+
 /// One turn of each peer, each in a thread of its own, which tells the gate when it begins and ends.
 fn round<P: Port + Send, C: Machinery + Drop + Send, G: Gate, R: Threads + Wait + Sync>(
     rt: &R,
@@ -62,12 +82,14 @@ fn round<P: Port + Send, C: Machinery + Drop + Send, G: Gate, R: Threads + Wait 
         rt,
         peers,
         threads,
-        &|place, peer| {
-            let own = place as u32;
-            gate.enter(own, number);
-            let _kept = peer.quantum(0);
-            gate.leave(own, number);
-        },
+        &|place: usize, peer: &mut Runner<P, C>|
+            requires place { place < 2 ^ 32 }
+            ensures turned { peer.new.failed ≡ false → (peer.old.failed ≡ false) × TurnedAs (told (seen P.Port) peer.old.peer) (told (seen P.Port) peer.new.peer) peer.new.moved }
+            ensures still { peer.new.failed ≡ false → peer.new.moved ≡ false → IsStill (told (seen P.Port) peer.old.peer) (told (seen P.Port) peer.new.peer) }
+            ensures stays { peer.new.failed ≡ true → (peer.new.moved ≡ false) × ((told (seen P.Port) peer.new.peer).schedule ≡ (told (seen P.Port) peer.old.peer).schedule) }
+            ensures grown { peer.new.failed ≡ false → size (told (seen P.Port) peer.old.peer) ≤ size (told (seen P.Port) peer.new.peer) }
+            ensures risen { peer.new.moved ≡ true → size (told (seen P.Port) peer.old.peer) < size (told (seen P.Port) peer.new.peer) }
+        { turn(peer, gate, place, number) },
     );
 }
 

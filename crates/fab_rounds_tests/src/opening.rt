@@ -8,7 +8,7 @@ use fab_base::{Bound, Conf, Line, NoMemory};
 use fab_link::Port;
 use fab_peer::calls::Machinery;
 use fab_rounds::runner::Runner;
-use fab_rounds::starting::start;
+use fab_rounds::starting::{Buffers, start};
 use fab_script::{bind, lines, parse};
 use std::alloc::Global;
 
@@ -44,7 +44,7 @@ fn open_one<P: Port + Drop, C: Machinery + Drop>(
     requires start { C.held machine ≡ start_of conf.now }
     requires port { Begins conf.now.peers (P.peer_count port) (P.outs port) (P.ins port) }
 {
-    start(alloc, port, machine, conf.info.log, lines)
+    start(alloc, port, machine, conf.info.log, lines, Buffers::Ahead)
 }
 
 /// All peers of a script at the start of their lines.

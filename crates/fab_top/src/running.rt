@@ -30,7 +30,8 @@ use fab_outside::loading::{load_file, load_script};
 use fab_outside::{Clock, Depot, Failed, Sink, write_all};
 use fab_peer::calls::Machinery;
 use fab_peer_machines::machines;
-use fab_phases::scripts::run_bound;
+use fab_phases::scripts::{ready_bound, run_bound, run_ready};
+use fab_rounds::starting::Buffers;
 use fab_window_run::{Asked, window_of, window_text};
 use fab_workload_laws::laws::law_workloads_done;
 use fab_workloads::{Workload, bench_line, bound, payload_file, workload_of};
@@ -88,43 +89,74 @@ fn run_script<G: Gate, R: Threads + Wait + Sync>(
     run_over(rt, alloc, bound, machines, gate)
 }
 
-/// Runs a bound script's peers over these machines until none can go on, first in threads and then in one, and says
-/// whether all lines are done.
-fn complete_over<M: Machinery + Drop + Send, G: Gate, R: Threads + Wait + Sync>(
+/// How a timed run of peers ended: whether all lines are done, and the moments at which it began and ended.
+#[derive(Drop)]
+struct Timed {
+    done: bool,
+    before: u64,
+    after: u64,
+}
+
+/// Runs a bound script's peers over these machines until none can go on, first in threads and then in one, between two looks
+/// at the clock: once the peers are ready, and when none can go on.
+fn time_over<M: Machinery + Drop + Send, C: Clock, G: Gate, R: Threads + Wait + Sync>(
     rt: &R,
     alloc: Global,
     bound: &Bound,
     machines: Vec<M>,
+    buffers: Buffers,
+    clock: &mut C,
     gate: &G,
-) -> Result<bool, NoMemory>
+) -> Result<Timed, NoMemory>
     requires count { length machines.items ≡ bound.now.script.conf.peers }
     requires log { 4 ≤ bound.now.script.conf.info.log }
     requires start { All (λ m. M.held m ≡ start bound.now.script.conf) machines.items }
     requires peers { (0 < bound.now.script.conf.peers) × (bound.now.script.conf.peers ≤ 64) }
     requires lane { (0 < bound.now.script.conf.info.lane) × (bound.now.script.conf.info.lane ≤ 1024) }
     requires pool { (0 < bound.now.script.conf.info.pool) × (bound.now.script.conf.info.pool ≤ 1024) }
-    ensures { IfOk result (λ done. ComesToRest bound.now done) }
+    requires new { C.given clock.old ≡ 0 }
+    ensures rests { IfOk result (λ timed. ComesToRest bound.now timed.done) }
+    ensures moments { IfOk result (λ timed. (C.given clock.new ≡ 2) × (C.first clock.new ≡ timed.before) × (C.last clock.new ≡ timed.after)) }
 {
-    let peers = run_bound(rt, alloc, bound, machines, gate)?;
-    Ok(all_done(&peers))
+    let runners = ready_bound(alloc, bound, machines, buffers)?;
+    let before = clock.now();
+    let peers = run_ready(rt, alloc, bound, runners, gate)?;
+    let after = clock.now();
+    Ok(Timed {
+        done: all_done(&peers),
+        before,
+        after,
+    })
 }
 
-/// Runs a bound script's peers, each with a machine of its own, until none can go on, and says whether all lines are done.
-fn complete<G: Gate, R: Threads + Wait + Sync>(
+/// Runs a bound script's peers, each with a machine of its own, as [`time_over`] does.
+fn time_script<C: Clock, G: Gate, R: Threads + Wait + Sync>(
     rt: &R,
     alloc: Global,
     bound: &Bound,
+    buffers: Buffers,
+    clock: &mut C,
     gate: &G,
-) -> Result<bool, NoMemory>
+) -> Result<Timed, NoMemory>
     requires cq { 2 ≤ bound.now.script.conf.info.cq }
     requires log { 4 ≤ bound.now.script.conf.info.log }
     requires peers { (0 < bound.now.script.conf.peers) × (bound.now.script.conf.peers ≤ 64) }
     requires lane { (0 < bound.now.script.conf.info.lane) × (bound.now.script.conf.info.lane ≤ 1024) }
     requires pool { (0 < bound.now.script.conf.info.pool) × (bound.now.script.conf.info.pool ≤ 1024) }
-    ensures { IfOk result (λ done. ComesToRest bound.now done) }
+    requires new { C.given clock.old ≡ 0 }
+    ensures rests { IfOk result (λ timed. ComesToRest bound.now timed.done) }
+    ensures moments { IfOk result (λ timed. (C.given clock.new ≡ 2) × (C.first clock.new ≡ timed.before) × (C.last clock.new ≡ timed.after)) }
 {
     let machines = machines(alloc, &bound.script.conf)?;
-    complete_over(rt, alloc, bound, machines, gate)
+    time_over(rt, alloc, bound, machines, buffers, clock, gate)
+}
+
+/// When the buffers of a workload's lines are made: where a time is told, before it begins.
+fn buffers_of(workload: Workload) -> Buffers {
+    match workload {
+        Workload::Pingpong { .. } | Workload::Bandwidth { .. } => Buffers::Ahead,
+        Workload::Generated { .. } => Buffers::AsWanted,
+    }
 }
 
 /// Runs a workload's peers between two looks at the clock, and makes the line that is written. All lines are done: no
@@ -145,11 +177,12 @@ fn time_run<C: Clock, G: Gate, R: Threads + Wait + Sync>(
     ensures done { IfOk result (λ ran. ran.done ≡ true) }
 {
     law_workloads_done();
-    let before = clock.now();
-    let done = complete(rt, alloc, script, gate)?;
-    let after = clock.now();
-    let text = bench_line(alloc, workload, before, after)?;
-    Ok(Ran { text, done })
+    let timed = time_script(rt, alloc, script, buffers_of(workload), clock, gate)?;
+    let text = bench_line(alloc, workload, timed.before, timed.after)?;
+    Ok(Ran {
+        text,
+        done: timed.done,
+    })
 }
 
 /// Makes the script of a workload, runs it, and makes the line that is written.

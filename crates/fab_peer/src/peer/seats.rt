@@ -4,6 +4,7 @@ ghost use Rattle.fab_peer.specs.Turns.{told};
 
 use crate::calls::LineCalls;
 use crate::peer::Peer;
+use crate::spare::Spare;
 use fab_base::{Line, LineResult, Step};
 use fab_kept::KeptList;
 use std::alloc::Global;
@@ -37,6 +38,7 @@ impl<E: LineCalls> Peer<E> {
             kept,
             schedule,
             alloc,
+            ..
         } = self;
         let unseated = Unseated {
             lines,
@@ -74,6 +76,7 @@ impl Unseated {
             results,
             kept,
             schedule,
+            spare: Spare::new(alloc),
             alloc,
         }
     }

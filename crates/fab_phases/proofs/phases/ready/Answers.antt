@@ -1,0 +1,24 @@
+use Rattle.std.proofs.Common.{List, length, ap, refl, subst, sym, ◌∙◌}
+use Rattle.fab_ring.specs.declared.port.RingPort.{RingPort}
+use Rattle.fab_ring.specs.Made.{rings_table}
+use Rattle.fab_ring.specs.Gather.{AreAll}
+use Rattle.fab_phases.proofs.Lists.{ok_both}
+use Rattle.fab_phases.proofs.Starting.{made_new}
+use Rattle.fab_phases.proofs.Turning.{made_all}
+use Rattle.fab_phases.proofs.phases.ready.Goals as goal
+
+pub open-requires-clause-ports : goal.open-requires-clause-ports
+open-requires-clause-ports g c = made_new c.args.conf.now.peers _ _ _ _ c.in_ok-ports.ports.items c.in_ok-rings.ensures.0 c.in_ok-ports.ensures
+
+pub returns : goal.returns
+returns g c =
+    let f = rings_table c.in_ok-rings.rings in
+    let ports = c.in_ok-ports.ports.items in
+    let made = c.in_ok-ports.ensures in
+    record {
+      ready = ok_both _ _ _ (λ rs begun_are same. record {
+        count = ap length same ∙ made.count ∙ c.in_ok-rings.ensures.0;
+        begun_are = begun_are;
+        table = (f, subst (λ (zs : List RingPort). AreAll f zs) (sym same) (made_all _ _ _ f ports refl made));
+      }) c.open.result c.open.ensures.pasts c.open.ensures.ports;
+    }
