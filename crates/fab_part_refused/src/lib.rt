@@ -1,0 +1,16 @@
+//! Calls of matching stores, of an address vector, of a port and of the transmit half, handed on as they are, with the
+//! clauses that `fab_match`, `fab_av`, `fab_link` and `fab_tx` give them.
+//!
+//! A body of a call that does something else is tried here (`must-fail/`), where a check takes seconds, and not in the
+//! crates of these calls; what no edit of these can do is refused by theorem (`proofs/Refused.antt`).
+#![tactic(auto)]
+
+mod addresses;
+mod frames;
+mod matching;
+mod sends;
+
+pub use addresses::insert;
+pub use frames::comes_next;
+pub use matching::{fits, sign_of, take_posted};
+pub use sends::answered;
