@@ -1,16 +1,26 @@
--- What ports do that the clauses of `fab_ring` and `fab_queue` refuse.
+-- What ports do that the clauses of `fab_link`, `fab_ring` and `fab_queue` refuse.
+--     posted_twice           a frame is posted twice by one call
+--     full_uncounted         a lane is called full, and its count stays
+--     full_at_moved          the place of the last full lane moves, and no count does
+--     last_from_the_start    a new port's count of full lanes is at its last value, so that it can't be seen to rise
+--     stray_reply            a reply begins to an operation of which none is owed
 --     short_with_a_slot      a frame of at most 64 bytes gets a slot of the receiver's pool
 --     left_behind            gathered: a frame that was posted and not taken did not come
 --     lent_lost              gathered: the frame that lay lent did not come
 --     from_another_lane      gathered: other frames came of a peer than those inside its lane
 --     ends_of_another        new ports: two peers take at the same ends
 --     old_number             a frame has the greatest number before it once more
-use Rattle.std.proofs.Common.{◌≡◌, ◌≢◌, ℕ, ◌+◌, max, List, [], ◌∷◌, ◌++◌, length, length-append, slice_get, Option, Some, None, sym, ap, ◌∙◌, subst, arith}
+use Rattle.std.proofs.Common.{◌≡◌, ◌≢◌, ℕ, ◌+◌, ◌^◌, ◌<◌, true, inl, inr, max, List, [], ◌∷◌, ◌++◌, length, length-append, slice_get, Option, Some, None, sym, ap, ◌∙◌, subst, arith}
+use Rattle.std.specs.Prelude.{IfSome}
 use Rattle.std.proofs.lemmas.List.{append_cancel_left}
+use Rattle.fab_base.specs.Counts.{Rose}
+use Rattle.fab_base.specs.declared.frames.FrameHead.{FrameHead}
 use Rattle.fab_base.specs.declared.frames.Frame.{Frame}
 use Rattle.fab_wire.specs.declared.moves.Move.{Move}
 use Rattle.fab_wire.specs.declared.moves.Move.TheVariants.{Post, Take}
 use Rattle.fab_wire.specs.Merged.{IsStamped, IsStampedAbove}
+use Rattle.fab_wire.specs.Owing.{IsOwed, begins_reply, owing, replies}
+use Rattle.fab_link.specs.Meaning.{AreFresh, Incoming, Noticed, Outgoing, Repays}
 use Rattle.fab_link.specs.Plain.{Plain, lane_at}
 use Rattle.fab_ring.specs.declared.port.RingPort.{RingPort}
 use Rattle.fab_ring.specs.Ports as ring
@@ -20,6 +30,40 @@ use Rattle.fab_queue.specs.Ports as queue
 use Rattle.fab_queue.specs.Ports.{Queued, lanes_of}
 use Rattle.fab_queue.specs.Gather as queues
 use Rattle.fab_queue.specs.Made.{AreMade}
+
+-- ---- any port, the clauses `ok`, `lane_full` and `noticed` of `post`, what it requires, and the clause `fresh` of makers
+
+module _ (old new : Outgoing) where
+  pub posted_twice : (f : Frame) → new.frames ≡ old.frames ++ f ∷ [] → new.frames ≡ old.frames ++ f ∷ f ∷ [] → ⊥
+  posted_twice f once twice =
+      let same = ap length (sym once ∙ twice) in
+      omega (arith, same, length-append old.frames (f ∷ []), length-append old.frames (f ∷ f ∷ []))
+
+  no_rise : (a b : ℕ) → a + 1 < 2 ^ 64 → b ≡ a → Rose a b → ⊥
+  no_rise a b below same (inl less) = omega (arith, same, less)
+  no_rise a b below same (inr stays) = let last = stays.1 in omega (arith, same, last, below)
+
+  pub full_uncounted : old.lane_full_seen + 1 < 2 ^ 64 → Rose old.lane_full_seen new.lane_full_seen → new.lane_full_seen ≡ old.lane_full_seen → ⊥
+  full_uncounted below rose stays = no_rise old.lane_full_seen new.lane_full_seen below stays rose
+
+  pub full_at_moved : old.lane_full_seen + 1 < 2 ^ 64 → old.pool_full_seen + 1 < 2 ^ 64 → new.lane_full_seen ≡ old.lane_full_seen → new.pool_full_seen ≡ old.pool_full_seen
+      → Noticed old new → new.full_at ≢ old.full_at → ⊥
+  full_at_moved lane pool lanes pools noticed moved = elim noticed.full_at [
+    | inl still ↦ moved still.2
+    | inr rose ↦ elim rose.0 [
+      | inl at_lane ↦ no_rise old.lane_full_seen new.lane_full_seen lane lanes at_lane
+      | inr at_pool ↦ no_rise old.pool_full_seen new.pool_full_seen pool pools at_pool
+    ]
+  ]
+
+pub last_from_the_start : (o : Outgoing) (i : Incoming) → AreFresh o i → o.lane_full_seen + 1 ≡ 2 ^ 64 → ⊥
+last_from_the_start o i fresh last = let none = fresh.lane_full_seen in omega (arith, none, last)
+
+pub stray_reply : (o : Outgoing) (i : Incoming) (head : FrameHead) (before : ℕ → ℕ) → begins_reply head ≡ true → o.owed ≡ Some before
+    → replies head.item.op o.frames ≡ before head.item.op + owing head.item.op i.taken → Repays o i head → ⊥
+stray_reply o i head before begins owed even repays =
+    let more : IsOwed before o.frames i.taken head.item.op 1 = subst (λ (b : Option (ℕ → ℕ)). IfSome b (λ before. IsOwed before o.frames i.taken head.item.op 1)) owed (repays begins) in
+    omega (arith, even, more)
 
 -- ---- a short frame, the clause of `post_short`
 
