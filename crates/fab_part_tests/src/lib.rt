@@ -1,5 +1,5 @@
-//! Tests of the parts that know one subject each: addresses, atomics, the arrows of a chart, the completion queue and the
-//! counters, folds of shares, frames, completions that are kept, negotiation, records, regions, and a target with its requests.
+//! Tests of the parts that know one subject each: addresses, the arrows of a chart, the completion queue and the counters, frames,
+//! completions that are kept, negotiation, and records.
 //!
 //! They stand in a crate of their own, so that none of the parts is proved twice.
 #![tactic(auto)]
@@ -7,13 +7,9 @@
 #[cfg(test)]
 mod addresses;
 #[cfg(test)]
-mod atomics;
-#[cfg(test)]
 mod charts;
 #[cfg(test)]
 mod completions;
-#[cfg(test)]
-mod folds;
 #[cfg(test)]
 mod frames;
 #[cfg(test)]
@@ -22,7 +18,3 @@ mod kept;
 mod negotiation;
 #[cfg(test)]
 mod records;
-#[cfg(test)]
-mod regions;
-#[cfg(test)]
-mod requests;
