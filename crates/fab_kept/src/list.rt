@@ -1,5 +1,5 @@
 //! Completions in order, found by their context.
-ghost use Rattle.std.specs.Prelude.{◌≡◌, ◌<◌, ◌++◌, ◌∷◌, [], ℕ, Option, length, find, vec_len, vec_capacity, OnOk, OnErr, IfNone};
+ghost use Rattle.std.specs.Prelude.{◌≡◌, ◌<◌, ◌++◌, ◌∷◌, [], ℕ, Option, length, find, vec_len, vec_capacity, IfOk, OnOk, OnErr, IfNone};
 ghost use Rattle.fab_model.specs.Matching.{remove_first};
 ghost use Rattle.fab_model.specs.Peers.{ctx_of, is_of_ctx};
 ghost use Rattle.fab_kept.specs.Places.{Agrees, Puts, ends_empty, places_of, queue_of, somes};
@@ -100,6 +100,21 @@ impl KeptList {
             index: HashMap::new(alloc),
             alloc,
         }
+    }
+
+    /// None, with room for so many completions and contexts. The room is written once, since a page of memory comes with the
+    /// first write to it.
+    pub fn with_room(alloc: Global, most: usize) -> Result<KeptList, NoMemory>
+        ensures { IfOk result (λ k. k ≡ []) }
+    {
+        let mut places = Vec::new(alloc);
+        places.resize_with(most, || -> Option<Kept> { None })?;
+        places.clear();
+        Ok(KeptList {
+            places,
+            index: HashMap::with_capacity(alloc, most)?,
+            alloc,
+        })
     }
 
     /// The places in order. What stands there are the completions, and some places may be empty.

@@ -11,3 +11,4 @@ pub mod Cutting
 pub mod Agreeing
 pub mod Ending
 pub mod Resting
+pub mod Filling

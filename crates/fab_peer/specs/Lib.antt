@@ -1,4 +1,5 @@
 pub mod Kinds
+pub mod Filled
 pub mod Looks
 pub mod Turns
 pub mod Agreed

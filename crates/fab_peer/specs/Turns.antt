@@ -47,7 +47,7 @@ pub record Told (Home : Type 0) : Type 0 where
 
 -- the peer as contracts see it
 abbrev pub told : {E Home : Type 0} → (E → Seen Home) → Peer E → Told Home
-told seen p = record { seen = seen p.endpoint; lines = p.lines.items; results = p.results.items; kept = p.kept; schedule = p.schedule.items }
+told seen p = record { seen = seen p.endpoint; lines = p.lines; results = p.results.items; kept = p.kept; schedule = p.schedule.items }
 
 -- the step of an event
 abbrev pub step_of : Event → Step

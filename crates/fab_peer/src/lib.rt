@@ -5,6 +5,7 @@
 
 pub mod calls;
 mod keeping;
+mod lines;
 mod looks;
 pub mod peer;
 mod reading;

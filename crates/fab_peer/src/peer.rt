@@ -13,6 +13,7 @@ ghost use Rattle.fab_peer.specs.Turns.{step_of, why_of};
 pub mod seats;
 
 use crate::calls::LineCalls;
+use crate::lines::Lines;
 use crate::spare::Spare;
 use fab_base::{Buf, Fault, Flags, Line, LineOp, LineResult, NoMemory, Refused, Step};
 use fab_face::events::Event;
@@ -33,7 +34,7 @@ const SPINS: u32 = 8;
 #[derive(Drop)]
 pub struct Peer<E: LineCalls> {
     pub endpoint: E,
-    pub(crate) lines: Vec<Line>,
+    pub(crate) lines: Lines,
     pub(crate) results: Vec<LineResult>,
     pub(crate) kept: KeptList,
     pub(crate) schedule: Vec<Step>,
@@ -108,7 +109,7 @@ impl<E: LineCalls> Peer<E> {
     {
         Peer {
             endpoint,
-            lines,
+            lines: Lines::new(alloc, lines),
             results: Vec::new(alloc),
             kept: KeptList::new(alloc),
             schedule: Vec::new(alloc),
@@ -117,14 +118,33 @@ impl<E: LineCalls> Peer<E> {
         }
     }
 
-    /// Makes room for the results of all lines, and the buffers of their calls, as long as these have no more bytes together than a
-    /// file may have. So doing the lines takes little memory besides.
-    pub fn reserve(&mut self) -> Result<(), NoMemory>
-        ensures told { told E.seen self.new ≡ told E.seen self.old }
-        ensures endpoint { self.new.endpoint ≡ self.old.endpoint }
+    /// The same, with the buffers of the lines' calls, those of sends filled, as long as they have no more bytes together than a
+    /// file may have, and with room for the results and the completions. That room is written once, since a page of memory comes
+    /// with the first write to it: so doing the lines takes little memory besides. Want of memory lets the endpoint and the lines
+    /// go.
+    pub fn with_buffers(alloc: Global, endpoint: E, lines: Vec<Line>) -> Result<Peer<E>, NoMemory>
+    where
+        E: Drop,
+        ensures told { IfOk result (λ p. told E.seen p ≡ record { seen = E.seen endpoint; lines = lines.items; results = []; kept = []; schedule = [] }) }
+        ensures endpoint { IfOk result (λ p. p.endpoint ≡ endpoint) }
     {
-        self.results.reserve_exact(self.lines.len())?;
-        self.spare.make_for(self.lines.as_slice())
+        let most = lines.len();
+        let mut lines = Lines::new(alloc, lines);
+        lines.fill()?;
+        let mut spare = Spare::new(alloc);
+        spare.make_for(lines.as_slice())?;
+        let mut results = Vec::new(alloc);
+        results.resize_with(most, || -> LineResult { LineResult::Done })?;
+        results.clear();
+        Ok(Peer {
+            endpoint,
+            lines,
+            results,
+            kept: KeptList::with_room(alloc, most)?,
+            schedule: Vec::new(alloc),
+            spare,
+            alloc,
+        })
     }
 
     /// Empties the endpoint's log into the schedule. Whether there was an event.
@@ -391,7 +411,7 @@ impl<E: LineCalls> Peer<E> {
         requires kind { IfSome (next_op (told E.seen self.old)) (λ op. is_send op ≡ true) }
         ensures { IfOk result (λ o. WentOn (told E.seen self.old) (told E.seen self.new) o.done o.moved) }
     {
-        let Some(line) = self.lines.get(self.results.len()) else {
+        let Some(line) = self.lines.as_slice().get(self.results.len()) else {
             return Ok(Outcome {
                 done: false,
                 moved: false,
@@ -401,13 +421,13 @@ impl<E: LineCalls> Peer<E> {
             LineOp::Send {
                 ctx,
                 dest,
-                ref bytes,
                 imm,
                 level,
                 completion,
                 fence,
+                ..
             } => {
-                let buf = self.spare.word(bytes)?;
+                let buf = self.lines.buffer(self.results.len())?;
                 let flags = Flags {
                     completion,
                     level,
@@ -419,13 +439,13 @@ impl<E: LineCalls> Peer<E> {
                 ctx,
                 dest,
                 tag,
-                ref bytes,
                 imm,
                 level,
                 completion,
                 fence,
+                ..
             } => {
-                let buf = self.spare.word(bytes)?;
+                let buf = self.lines.buffer(self.results.len())?;
                 let flags = Flags {
                     completion,
                     level,
@@ -443,7 +463,7 @@ impl<E: LineCalls> Peer<E> {
         requires kind { IfSome (next_op (told E.seen self.old)) (λ op. is_inject op ≡ true) }
         ensures { IfOk result (λ o. WentOn (told E.seen self.old) (told E.seen self.new) o.done o.moved) }
     {
-        let Some(line) = self.lines.get(self.results.len()) else {
+        let Some(line) = self.lines.as_slice().get(self.results.len()) else {
             return Ok(Outcome {
                 done: false,
                 moved: false,
@@ -477,7 +497,7 @@ impl<E: LineCalls> Peer<E> {
         requires kind { IfSome (next_op (told E.seen self.old)) (λ op. is_on_receives op ≡ true) }
         ensures { IfOk result (λ o. WentOn (told E.seen self.old) (told E.seen self.new) o.done o.moved) }
     {
-        let Some(line) = self.lines.get(self.results.len()) else {
+        let Some(line) = self.lines.as_slice().get(self.results.len()) else {
             return Ok(Outcome {
                 done: false,
                 moved: false,
@@ -508,7 +528,7 @@ impl<E: LineCalls> Peer<E> {
         requires log { (E.seen self.old.endpoint).log ≡ [] }
         ensures { IfOk result (λ o. WentOn (told E.seen self.old) (told E.seen self.new) o.done o.moved) }
     {
-        let Some(line) = self.lines.get(self.results.len()) else {
+        let Some(line) = self.lines.as_slice().get(self.results.len()) else {
             return Ok(Outcome {
                 done: false,
                 moved: false,
@@ -714,7 +734,7 @@ impl<E: LineCalls> Peer<E> {
     pub fn finished(&self) -> bool
         ensures { result ≡ is_finished (actor_of (told E.seen self.now)) }
     {
-        self.lines.get(self.results.len()).is_none()
+        self.lines.as_slice().get(self.results.len()).is_none()
     }
 
     /// The peer's lines.

@@ -7,7 +7,7 @@ ghost use Rattle.fab_peer.specs.Turns.{hands_back, waited_back, multis_done};
 
 use crate::calls::LineCalls;
 use crate::peer::Peer;
-use fab_base::{Buf, Entry, Kept, Line, LineOp, LineResult, NoMemory, Step, Taken};
+use fab_base::{Buf, Entry, Fault, Kept, Line, LineOp, LineResult, NoMemory, Step, Taken};
 use fab_kept::KeptList;
 
 /// The context, place and length of a part of a multi-receive, or of a part that was cut off.
@@ -103,18 +103,19 @@ fn count_lines(lines: &[Line], results: &[LineResult], ctx: u64) -> usize
         .count()
 }
 
-/// Reads the first completion, a success or an error.
+/// Reads the first completion, a success or an error. Most often it is a success or none is there, so that is asked first.
 fn next_entry<E: LineCalls>(endpoint: &mut E) -> Option<Taken>
     ensures some { IfSome result (λ entry. Pops entry (E.seen endpoint.old) (E.seen endpoint.new)) }
     ensures none { IfNone result ((E.seen endpoint.new ≡ E.seen endpoint.old) × (unread (E.seen endpoint.old).held.state.cq ≡ None)) }
     ensures sharing { IsSharing (E.seen endpoint.old).held }
 {
     endpoint.sharing();
-    match endpoint.cq_readerr() {
-        Ok(error) => Some(Taken::Failure(error)),
-        Err(_) => match endpoint.cq_pop() {
-            Ok(entry) => Some(Taken::Success(entry)),
-            Err(_) => None,
+    match endpoint.cq_pop() {
+        Ok(entry) => Some(Taken::Success(entry)),
+        Err(Fault::NoEntry) => None,
+        Err(_) => match endpoint.cq_readerr() {
+            Ok(error) => Some(Taken::Failure(error)),
+            Err(_) => unreachable!(),
         },
     }
 }
@@ -125,7 +126,7 @@ impl<E: LineCalls> Peer<E> {
     /// Whether one multi-receive of the context, and no other, was not read to be released. The lines before that were
     /// Ok are counted, not the endpoint's buffers.
     fn is_only(&self, ctx: u64) -> bool
-        requires few { count_by (hands_back ctx) self.now.kept + count_by (waited_back ctx) self.now.results.items ≤ multis_done self.now.lines.items self.now.results.items ctx }
+        requires few { count_by (hands_back ctx) self.now.kept + count_by (waited_back ctx) self.now.results.items ≤ multis_done self.now.lines self.now.results.items ctx }
         ensures { result ≡ is_only (told E.seen self.now) ctx }
     {
         let kept = count_kept(&self.kept, ctx);
@@ -136,7 +137,7 @@ impl<E: LineCalls> Peer<E> {
 
     /// The bytes to be kept with a part that was just read.
     fn bytes_of(&self, part: Option<(u64, u32, u32)>) -> Result<Option<Buf>, NoMemory>
-        requires few { (ctx : ℕ) → count_by (hands_back ctx) self.now.kept + count_by (waited_back ctx) self.now.results.items ≤ multis_done self.now.lines.items self.now.results.items ctx }
+        requires few { (ctx : ℕ) → count_by (hands_back ctx) self.now.kept + count_by (waited_back ctx) self.now.results.items ≤ multis_done self.now.lines self.now.results.items ctx }
         ensures { IfOk result (λ bytes. Lent (told E.seen self.now) part bytes) }
     {
         let Some((ctx, at, len)) = part else {

@@ -208,7 +208,7 @@ impl<E: LineCalls> Peer<E> {
         requires kind { IfSome (next_op (told E.seen self.old)) (λ op. is_transfer op ≡ true) }
         ensures { IfOk result (λ o. WentOn (told E.seen self.old) (told E.seen self.new) o.done o.moved) }
     {
-        let Some(line) = self.lines.get(self.results.len()) else {
+        let Some(line) = self.lines.as_slice().get(self.results.len()) else {
             return Ok(Outcome {
                 done: false,
                 moved: false,
@@ -260,7 +260,7 @@ impl<E: LineCalls> Peer<E> {
         requires kind { IfSome (next_op (told E.seen self.old)) (λ op. is_atomic op ≡ true) }
         ensures { IfOk result (λ o. WentOn (told E.seen self.old) (told E.seen self.new) o.done o.moved) }
     {
-        let Some(line) = self.lines.get(self.results.len()) else {
+        let Some(line) = self.lines.as_slice().get(self.results.len()) else {
             return Ok(Outcome {
                 done: false,
                 moved: false,

@@ -53,12 +53,10 @@ fn word_len(word: &BytesWord) -> u64 {
     }
 }
 
-/// How many bytes the buffer of a line's call has, of a message, a read or a write.
+/// How many bytes the buffer of a line's call has, of a receive, an inject, a read or a write.
 fn buffer_len(op: &LineOp) -> u64 {
     match op {
-        LineOp::Send { bytes, .. }
-        | LineOp::TSend { bytes, .. }
-        | LineOp::Inject { bytes, .. }
+        LineOp::Inject { bytes, .. }
         | LineOp::TInject { bytes, .. }
         | LineOp::Write { bytes, .. }
         | LineOp::WInject { bytes, .. } => word_len(bytes),

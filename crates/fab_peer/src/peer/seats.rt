@@ -3,16 +3,17 @@ ghost use Rattle.std.specs.Prelude.{◌≡◌};
 ghost use Rattle.fab_peer.specs.Turns.{told};
 
 use crate::calls::LineCalls;
+use crate::lines::Lines;
 use crate::peer::Peer;
 use crate::spare::Spare;
-use fab_base::{Line, LineResult, Step};
+use fab_base::{LineResult, Step};
 use fab_kept::KeptList;
 use std::alloc::Global;
 
 /// A peer without its endpoint: its lines, the results of those done, the completions kept, and its schedule.
 #[derive(Drop)]
 pub struct Unseated {
-    lines: Vec<Line>,
+    lines: Lines,
     results: Vec<LineResult>,
     kept: KeptList,
     schedule: Vec<Step>,
@@ -25,7 +26,7 @@ impl<E: LineCalls> Peer<E> {
         ensures endpoint { result.1 ≡ self.endpoint }
         ensures told { told E.seen self ≡ record {
           seen = E.seen result.1;
-          lines = result.0.lines.items;
+          lines = result.0.lines;
           results = result.0.results.items;
           kept = result.0.kept;
           schedule = result.0.schedule.items;
@@ -57,7 +58,7 @@ impl Unseated {
         ensures endpoint { result.endpoint ≡ endpoint }
         ensures told { told E.seen result ≡ record {
           seen = E.seen endpoint;
-          lines = self.lines.items;
+          lines = self.lines;
           results = self.results.items;
           kept = self.kept;
           schedule = self.schedule.items;

@@ -10,9 +10,9 @@ use Rattle.fab_peer.proofs.peer.Peer.do_atomic.Goals as goal
 pub returns-in_default : goal.returns-in_default
 returns-in_default g c =
     let count : c.len.result ≡ length c.args.self.now.results.items = search rules in
-    let past : length c.deref.result.now ≤ c.len.result = ltb-false _ _ (sym c.in_default.ensures.lookup.0) in
-    let none = slice_get_past c.deref.result.now c.len.result past in
-    let next : slice_get c.args.self.now.lines.items (length c.args.self.now.results.items) ≡ None = rw (c.deref.ensures.value, count) at none in
+    let past : length c.as_slice.result.now ≤ c.len.result = ltb-false _ _ (sym c.in_default.ensures.lookup.0) in
+    let none = slice_get_past c.as_slice.result.now c.len.result past in
+    let next : slice_get c.args.self.now.lines (length c.args.self.now.results.items) ≡ None = rw (c.as_slice.ensures, count) at none in
     finished_on (told g.E.Sees.seen c.args.self.now) next c.requires.log
 
 pub atomic-requires-clause-next : goal.atomic-requires-clause-next
@@ -20,8 +20,8 @@ atomic-requires-clause-next g c =
     let found = c.in-Some.ensures.lookup in
     let l = c.in-Atomic in
     let count : c.len.result ≡ length c.args.self.now.results.items = search rules in
-    let operand : l.values ≡ c.in_ok-operand-in-Atomic.operand = sym (c.in_ok-operand-in-Atomic.ensures ∙ c.as_slice.ensures) in
-    next_by (told g.E.Sees.seen c.args.self.now) c.deref.result.now c.len.result c.in-Some.line.now _ c.deref.ensures.value count (ltb-true _ _ (sym found.0)) found.1 l.is
+    let operand : l.values ≡ c.in_ok-operand-in-Atomic.operand = sym (c.in_ok-operand-in-Atomic.ensures ∙ c.as_slice-in-Atomic.ensures) in
+    next_by (told g.E.Sees.seen c.args.self.now) c.as_slice.result.now c.len.result c.in-Some.line.now _ c.as_slice.ensures count (ltb-true _ _ (sym found.0)) found.1 l.is
     ∙ ap (λ vs. Some (Atomic l.ctx l.dest l.key l.at l.op l.num vs l.completion l.fence)) operand
 
 pub fetch-requires-clause-next : goal.fetch-requires-clause-next
@@ -31,7 +31,7 @@ fetch-requires-clause-next g c =
     let count : c.len.result ≡ length c.args.self.now.results.items = search rules in
     let operand : l.values ≡ c.in_ok-operand-in-Fetch.operand = sym (c.in_ok-operand-in-Fetch.ensures ∙ c.as_slice-in-Fetch.ensures) in (
       l.count,
-      next_by (told g.E.Sees.seen c.args.self.now) c.deref.result.now c.len.result c.in-Some.line.now _ c.deref.ensures.value count (ltb-true _ _ (sym found.0)) found.1 l.is
+      next_by (told g.E.Sees.seen c.args.self.now) c.as_slice.result.now c.len.result c.in-Some.line.now _ c.as_slice.ensures count (ltb-true _ _ (sym found.0)) found.1 l.is
           ∙ ap (λ vs. Some (Fetch l.ctx l.dest l.key l.at l.op l.num vs l.count)) operand,
       c.in_ok-buf-in-Fetch.ensures ∙ ap (λ n. replicate n 0) c.fetched.ensures,
     )
@@ -43,6 +43,6 @@ compare-requires-clause-next g c =
     let count : c.len.result ≡ length c.args.self.now.results.items = search rules in
     let operand : l.values ≡ c.in_ok-operand-in-Compare.operand = sym (c.in_ok-operand-in-Compare.ensures ∙ c.as_slice-in-Compare.ensures) in
     let other : l.compares ≡ c.in_ok-other-in-Compare.other = sym (c.in_ok-other-in-Compare.ensures ∙ c.as_slice-in-Compare-2.ensures) in
-    next_by (told g.E.Sees.seen c.args.self.now) c.deref.result.now c.len.result c.in-Some.line.now _ c.deref.ensures.value count (ltb-true _ _ (sym found.0)) found.1 l.is
+    next_by (told g.E.Sees.seen c.args.self.now) c.as_slice.result.now c.len.result c.in-Some.line.now _ c.as_slice.ensures count (ltb-true _ _ (sym found.0)) found.1 l.is
     ∙ ap (λ vs. Some (Compare l.ctx l.dest l.key l.at l.op l.num vs l.compares)) operand
     ∙ ap (λ cs. Some (Compare l.ctx l.dest l.key l.at l.op l.num c.in_ok-operand-in-Compare.operand cs)) other

@@ -9,9 +9,9 @@ use Rattle.fab_peer.proofs.peer.Peer.do_inject.Goals as goal
 pub returns-in_default : goal.returns-in_default
 returns-in_default g c =
     let count : c.len.result ≡ length c.args.self.now.results.items = search rules in
-    let past : length c.deref.result.now ≤ c.len.result = ltb-false _ _ (sym c.in_default.ensures.lookup.0) in
-    let none = slice_get_past c.deref.result.now c.len.result past in
-    let next : slice_get c.args.self.now.lines.items (length c.args.self.now.results.items) ≡ None = rw (c.deref.ensures.value, count) at none in
+    let past : length c.as_slice.result.now ≤ c.len.result = ltb-false _ _ (sym c.in_default.ensures.lookup.0) in
+    let none = slice_get_past c.as_slice.result.now c.len.result past in
+    let next : slice_get c.args.self.now.lines (length c.args.self.now.results.items) ≡ None = rw (c.as_slice.ensures, count) at none in
     finished_on (told g.E.Sees.seen c.args.self.now) next c.requires.log
 
 pub inject-requires-clause-next : goal.inject-requires-clause-next
@@ -19,7 +19,7 @@ inject-requires-clause-next g c =
     let found = c.in-Some.ensures.lookup in
     let count : c.len.result ≡ length c.args.self.now.results.items = search rules in (
       c.in-Inject.bytes,
-      next_by (told g.E.Sees.seen c.args.self.now) c.deref.result.now c.len.result c.in-Some.line.now _ c.deref.ensures.value count (ltb-true _ _ (sym found.0)) found.1 c.in-Inject.is,
+      next_by (told g.E.Sees.seen c.args.self.now) c.as_slice.result.now c.len.result c.in-Some.line.now _ c.as_slice.ensures count (ltb-true _ _ (sym found.0)) found.1 c.in-Inject.is,
       c.in_ok-buf-in-Inject.ensures,
     )
 
@@ -28,6 +28,6 @@ tinject-requires-clause-next g c =
     let found = c.in-Some.ensures.lookup in
     let count : c.len.result ≡ length c.args.self.now.results.items = search rules in (
       c.in-TInject.bytes,
-      next_by (told g.E.Sees.seen c.args.self.now) c.deref.result.now c.len.result c.in-Some.line.now _ c.deref.ensures.value count (ltb-true _ _ (sym found.0)) found.1 c.in-TInject.is,
+      next_by (told g.E.Sees.seen c.args.self.now) c.as_slice.result.now c.len.result c.in-Some.line.now _ c.as_slice.ensures count (ltb-true _ _ (sym found.0)) found.1 c.in-TInject.is,
       c.in_ok-buf-in-TInject.ensures,
     )

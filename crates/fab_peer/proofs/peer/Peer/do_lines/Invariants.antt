@@ -10,6 +10,6 @@ invariant-loop-round g l =
       lived : (acts : List Act) × Lived (told seen l.fn.self) (told seen l.self) acts × (l.moved ≡ is_some_act acts);
       log : (seen l.self.endpoint).log ≡ [];
       counted : IsCounted (living_of (told seen l.self));
-      lines : l.self.lines.items ≡ l.fn.self.lines.items;
+      lines : l.self.lines ≡ l.fn.self.lines;
       moved : 0 < l.round → l.moved ≡ true;
     }

@@ -4,30 +4,35 @@ use Rattle.std.proofs.lemmas.Bool.{ltb-true, ltb-false}
 use Rattle.std.proofs.lemmas.Option.{slice_get_past}
 use Rattle.fab_peer.specs.Turns.{told}
 use Rattle.fab_peer.proofs.Calling.{next_by, finished_on}
+use Rattle.fab_peer.proofs.Filling.{next_sent, next_still}
 use Rattle.fab_peer.proofs.peer.Peer.do_send.Goals as goal
 
 pub returns-in_default : goal.returns-in_default
 returns-in_default g c =
     let count : c.len.result ≡ length c.args.self.now.results.items = search rules in
-    let past : length c.deref.result.now ≤ c.len.result = ltb-false _ _ (sym c.in_default.ensures.lookup.0) in
-    let none = slice_get_past c.deref.result.now c.len.result past in
-    let next : slice_get c.args.self.now.lines.items (length c.args.self.now.results.items) ≡ None = rw (c.deref.ensures.value, count) at none in
+    let past : length c.as_slice.result.now ≤ c.len.result = ltb-false _ _ (sym c.in_default.ensures.lookup.0) in
+    let none = slice_get_past c.as_slice.result.now c.len.result past in
+    let next : slice_get c.args.self.now.lines (length c.args.self.now.results.items) ≡ None = rw (c.as_slice.ensures, count) at none in
     finished_on (told g.E.Sees.seen c.args.self.now) next c.requires.log
 
 pub send-requires-clause-next : goal.send-requires-clause-next
 send-requires-clause-next g c =
+    let a = told g.E.Sees.seen c.args.self.now in
     let found = c.in-Some.ensures.lookup in
-    let count : c.len.result ≡ length c.args.self.now.results.items = search rules in (
+    let count : c.len.result ≡ length c.args.self.now.results.items = search rules in
+    let next = next_by a c.as_slice.result.now c.len.result c.in-Some.line.now _ c.as_slice.ensures count (ltb-true _ _ (sym found.0)) found.1 c.in-Send.is in (
       c.in-Send.bytes,
-      next_by (told g.E.Sees.seen c.args.self.now) c.deref.result.now c.len.result c.in-Some.line.now _ c.deref.ensures.value count (ltb-true _ _ (sym found.0)) found.1 c.in-Send.is,
-      c.in_ok-buf-in-Send.ensures,
+      next_still a c.buffer.new.self _ c.buffer.ensures.same next,
+      next_sent a c.len-in-Send.result _ c.in_ok-buf-in-Send.buf c.in_ok-buf-in-Send.ensures.sent (search rules) next,
     )
 
 pub tsend-requires-clause-next : goal.tsend-requires-clause-next
 tsend-requires-clause-next g c =
+    let a = told g.E.Sees.seen c.args.self.now in
     let found = c.in-Some.ensures.lookup in
-    let count : c.len.result ≡ length c.args.self.now.results.items = search rules in (
+    let count : c.len.result ≡ length c.args.self.now.results.items = search rules in
+    let next = next_by a c.as_slice.result.now c.len.result c.in-Some.line.now _ c.as_slice.ensures count (ltb-true _ _ (sym found.0)) found.1 c.in-TSend.is in (
       c.in-TSend.bytes,
-      next_by (told g.E.Sees.seen c.args.self.now) c.deref.result.now c.len.result c.in-Some.line.now _ c.deref.ensures.value count (ltb-true _ _ (sym found.0)) found.1 c.in-TSend.is,
-      c.in_ok-buf-in-TSend.ensures,
+      next_still a c.buffer-in-TSend.new.self _ c.buffer-in-TSend.ensures.same next,
+      next_sent a c.len-in-TSend.result _ c.in_ok-buf-in-TSend.buf c.in_ok-buf-in-TSend.ensures.sent (search rules) next,
     )
