@@ -16,7 +16,8 @@ use fab_coll_laws::laws::law_rounds_done;
 use fab_outside::Depot;
 use fab_peer::calls::Machinery;
 use fab_peer_machines::machines;
-use fab_phases::scripts::run_bound;
+use fab_phases::scripts::{ready_bound, run_ready};
+use fab_rounds::starting::Buffers;
 use std::alloc::Global;
 use std::sync::Wait;
 use std::thread::Threads;
@@ -38,7 +39,8 @@ fn run_over<C: Machinery + Drop + Send, G: Gate, R: Threads + Wait + Sync>(
     ensures { IfOk result (λ text. string_bytes text ≡ coll_text script.now.peers script.now.rounds) }
 {
     law_rounds_done();
-    let peers = run_bound(rt, alloc, bound, machines, gate)?;
+    let runners = ready_bound(alloc, bound, machines, Buffers::AsWanted)?;
+    let peers = run_ready(rt, alloc, bound, runners, gate)?;
     coll_text(alloc, script, &peers)
 }
 

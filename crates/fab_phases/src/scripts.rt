@@ -73,26 +73,3 @@ pub fn run_ready<C: Machinery + Drop + Send, G: Gate, R: Threads + Wait + Sync>(
 {
     run_phases(rt, alloc, &bound.script.conf, runners, gate)
 }
-
-/// Runs the peers of a bound script, each over a machine that holds what an endpoint holds when it is opened, until none
-/// can go on: [`ready_bound`] and then [`run_ready`].
-pub fn run_bound<C: Machinery + Drop + Send, G: Gate, R: Threads + Wait + Sync>(
-    rt: &R,
-    alloc: Global,
-    bound: &Bound,
-    machines: Vec<C>,
-    gate: &G,
-) -> Result<Vec<Peer<Endpoint<PlainPort, C>>>, NoMemory>
-    requires count { length machines.items ≡ bound.now.script.conf.peers }
-    requires log { 4 ≤ bound.now.script.conf.info.log }
-    requires start { All (λ m. C.held m ≡ start bound.now.script.conf) machines.items }
-    requires peers { (0 < bound.now.script.conf.peers) × (bound.now.script.conf.peers ≤ 64) }
-    requires lane { (0 < bound.now.script.conf.info.lane) × (bound.now.script.conf.info.lane ≤ 1024) }
-    requires pool { (0 < bound.now.script.conf.info.pool) × (bound.now.script.conf.info.pool ≤ 1024) }
-    ensures reached { IfOk result (λ peers. Reached (rule fabric) (opening bound.now) (schedules peers.items) (actors peers.items)) }
-    ensures rest { IfOk result (λ peers. at_rest (actors peers.items) ≡ true) }
-    ensures cleared { IfOk result (λ peers. all_done (actors peers.items) ≡ true → AreCleared (actors peers.items)) }
-{
-    let runners = ready_bound(alloc, bound, machines, Buffers::AsWanted)?;
-    run_ready(rt, alloc, bound, runners, gate)
-}

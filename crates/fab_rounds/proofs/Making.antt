@@ -9,7 +9,7 @@ use Rattle.fab_model.proofs.Views.{prefix_self, prefix_prefix}
 use Rattle.fab_face.specs.Acts.{steps_of}
 use Rattle.fab_peer.specs.Turns.{IsStill, actor_of}
 use Rattle.fab_rounds.specs.Rounds.{Each, TurnedAs, TurnedFor, Between, Rounded, GoesOn, MadeFor, AtOnePort, size}
-use Rattle.fab_rounds.specs.Staying.{RanFor}
+use Rattle.fab_rounds.specs.Staying.{RanFor, Risen}
 use Rattle.fab_rounds.proofs.Lists.{sums_rise, none_at, all_at, not_false, not_true}
 use Rattle.fab_rounds.proofs.Turning.{turned_more, still_later}
 
@@ -55,13 +55,9 @@ module _ {X Home : Type 0} (f : X → Between Home) where
 
   made_more : (n : ℕ) (old mid new : List X) → MadeFor n (map f old) (map f mid)
       → (0 < n → list_any (λ p. (f p).failed) mid ≡ false) → (0 < n → list_all (λ p. not (f p).moved) mid ≡ false) → (0 < n → list_all (λ p. is_finished (actor_of (f p).peer)) mid ≡ false)
-      → length new ≡ length mid → Each (λ a b. (f b).failed ≡ false → ((f a).failed ≡ false) × TurnedAs (f a).peer (f b).peer (f b).moved) mid new
-      → Each (λ a b. (f b).failed ≡ false → (f b).moved ≡ false → IsStill (f a).peer (f b).peer) mid new
-      → Each (λ a b. (f b).failed ≡ true → ((f b).moved ≡ false) × ((f b).peer.schedule ≡ (f a).peer.schedule)) mid new
-      → MadeFor (n + 1) (map f old) (map f new)
-  made_more n old mid new before well moving going long turned still stays =
+      → length new ≡ length mid → Each (λ a b. Rounded (f a) (f b)) mid new → MadeFor (n + 1) (map f old) (map f new)
+  made_more n old mid new before well moving going long each =
       let one : n + 1 ≡ suc n = omega arith in
-      let each : Each (λ a b. Rounded (f a) (f b)) mid new = λ k d below. record { turned = turned k d below; still = still k d below; stays = stays k d below } in
       rw one (map f mid, before, λ some. goes_on mid (well some) (moving some) (going some), length_told f new ∙ long ∙ sym (length_told f mid), each_told f Rounded mid new long each)
 
 -- ---- rounds after rounds
@@ -90,19 +86,15 @@ module _ {X Home : Type 0} (f : X → Between Home) where
   none_ran peers = record { made = refl; grew = λ well some. omega arith }
 
   pub one_ran : (n : ℕ) (old mid new : List X) → n ≡ 0 → RanFor n (map f old) (map f mid) → length new ≡ length mid
-      → Each (λ a b. (f b).failed ≡ false → ((f a).failed ≡ false) × TurnedAs (f a).peer (f b).peer (f b).moved) mid new
-      → Each (λ a b. (f b).failed ≡ false → (f b).moved ≡ false → IsStill (f a).peer (f b).peer) mid new
-      → Each (λ a b. (f b).failed ≡ true → ((f b).moved ≡ false) × ((f b).peer.schedule ≡ (f a).peer.schedule)) mid new
-      → Each (λ a b. (f b).failed ≡ false → size (f a).peer ≤ size (f b).peer) mid new → Each (λ a b. (f b).moved ≡ true → size (f a).peer < size (f b).peer) mid new
-      → RanFor 1 (map f old) (map f new)
-  one_ran n old mid new none before long turned still stays grown risen =
+      → Each (λ a b. Rounded (f a) (f b)) mid new → Each (λ a b. Risen (f a) (f b)) mid new → RanFor 1 (map f old) (map f new)
+  one_ran n old mid new none before long each rises =
       let same : map f old ≡ map f mid = subst (λ k. MadeFor k (map f old) (map f mid)) none before.made in
       record {
-        made = made_more f 0 old mid new same (λ some. absurd (omega (arith, some))) (λ some. absurd (omega (arith, some))) (λ some. absurd (omega (arith, some))) long turned still stays;
+        made = made_more f 0 old mid new same (λ some. absurd (omega (arith, some))) (λ some. absurd (omega (arith, some))) (λ some. absurd (omega (arith, some))) long each;
         grew = λ well some.
             let whole = sym (any_told f (λ p. p.failed) new) ∙ well in
             let rise = sums_rise (λ p. size (f p).peer) (λ p. not (f p).moved) mid new long
-            (λ k d below. grown k d below (none_at (λ p. (f p).failed) new k d (omega (arith, below, long)) whole)) (λ k d below e. risen k d below (not_false _ e)) (sym (all_told f (λ p. not p.moved) new) ∙ some) in
+            (λ k d below. (rises k d below).grown (none_at (λ p. (f p).failed) new k d (omega (arith, below, long)) whole)) (λ k d below e. (rises k d below).risen (not_false _ e)) (sym (all_told f (λ p. not p.moved) new) ∙ some) in
             omega (arith, rise, ap (sum_by (λ p. size p.peer)) same, sum_told f (λ p. size p.peer) mid, sum_told f (λ p. size p.peer) new);
       }
 

@@ -9,8 +9,8 @@ ghost use Rattle.fab_peer.specs.Turns.{told, actor_of, actor_in, IsStill, Living
 ghost use Rattle.fab_merging.specs.Pasts.{past_of};
 ghost use Rattle.fab_merging.specs.Law.{schedules, actors, AreTogether};
 ghost use Rattle.fab_rounds.specs.Opened.{Begins, AreGathered};
-ghost use Rattle.fab_rounds.specs.Rounds.{Each, TurnedAs, TurnedFor, MadeFor, AtOnePort, between, size};
-ghost use Rattle.fab_rounds.specs.Staying.{RanFor};
+ghost use Rattle.fab_rounds.specs.Rounds.{Each, Rounded, TurnedFor, MadeFor, AtOnePort, between, size};
+ghost use Rattle.fab_rounds.specs.Staying.{RanFor, Risen};
 
 use crate::runner::Runner;
 use crate::staying::stay;
@@ -48,11 +48,8 @@ fn turn<P: Port, C: Machinery, G: Gate>(
     number: u32,
 )
     requires place { place < 2 ^ 32 }
-    ensures turned { peer.new.failed ≡ false → (peer.old.failed ≡ false) × TurnedAs (told (seen P.Port) peer.old.peer) (told (seen P.Port) peer.new.peer) peer.new.moved }
-    ensures still { peer.new.failed ≡ false → peer.new.moved ≡ false → IsStill (told (seen P.Port) peer.old.peer) (told (seen P.Port) peer.new.peer) }
-    ensures stays { peer.new.failed ≡ true → (peer.new.moved ≡ false) × ((told (seen P.Port) peer.new.peer).schedule ≡ (told (seen P.Port) peer.old.peer).schedule) }
-    ensures grown { peer.new.failed ≡ false → size (told (seen P.Port) peer.old.peer) ≤ size (told (seen P.Port) peer.new.peer) }
-    ensures risen { peer.new.moved ≡ true → size (told (seen P.Port) peer.old.peer) < size (told (seen P.Port) peer.new.peer) }
+    ensures rounded { Rounded (between (told (seen P.Port) peer.old.peer) peer.old.moved peer.old.failed) (between (told (seen P.Port) peer.new.peer) peer.new.moved peer.new.failed) }
+    ensures risen { Risen (between (told (seen P.Port) peer.old.peer) peer.old.moved peer.old.failed) (between (told (seen P.Port) peer.new.peer) peer.new.moved peer.new.failed) }
 {
     let own = place as u32;
     gate.enter(own, number);
@@ -68,11 +65,8 @@ fn round<P: Port + Send, C: Machinery + Drop + Send, G: Gate, R: Threads + Wait 
     number: u32,
 )
     requires few { length peers.old < 2 ^ 32 }
-    ensures turned { Each (λ a b. b.failed ≡ false → (a.failed ≡ false) × TurnedAs (told (seen P.Port) a.peer) (told (seen P.Port) b.peer) b.moved) peers.old peers.new }
-    ensures still { Each (λ a b. b.failed ≡ false → b.moved ≡ false → IsStill (told (seen P.Port) a.peer) (told (seen P.Port) b.peer)) peers.old peers.new }
-    ensures stays { Each (λ a b. b.failed ≡ true → (b.moved ≡ false) × ((told (seen P.Port) b.peer).schedule ≡ (told (seen P.Port) a.peer).schedule)) peers.old peers.new }
-    ensures grown { Each (λ a b. b.failed ≡ false → size (told (seen P.Port) a.peer) ≤ size (told (seen P.Port) b.peer)) peers.old peers.new }
-    ensures risen { Each (λ a b. b.moved ≡ true → size (told (seen P.Port) a.peer) < size (told (seen P.Port) b.peer)) peers.old peers.new }
+    ensures rounded { Each (λ a b. Rounded (between (told (seen P.Port) a.peer) a.moved a.failed) (between (told (seen P.Port) b.peer) b.moved b.failed)) peers.old peers.new }
+    ensures risen { Each (λ a b. Risen (between (told (seen P.Port) a.peer) a.moved a.failed) (between (told (seen P.Port) b.peer) b.moved b.failed)) peers.old peers.new }
 {
     let threads = peers.len();
     if threads == 0 {
@@ -84,11 +78,8 @@ fn round<P: Port + Send, C: Machinery + Drop + Send, G: Gate, R: Threads + Wait 
         threads,
         &|place: usize, peer: &mut Runner<P, C>|
             requires place { place < 2 ^ 32 }
-            ensures turned { peer.new.failed ≡ false → (peer.old.failed ≡ false) × TurnedAs (told (seen P.Port) peer.old.peer) (told (seen P.Port) peer.new.peer) peer.new.moved }
-            ensures still { peer.new.failed ≡ false → peer.new.moved ≡ false → IsStill (told (seen P.Port) peer.old.peer) (told (seen P.Port) peer.new.peer) }
-            ensures stays { peer.new.failed ≡ true → (peer.new.moved ≡ false) × ((told (seen P.Port) peer.new.peer).schedule ≡ (told (seen P.Port) peer.old.peer).schedule) }
-            ensures grown { peer.new.failed ≡ false → size (told (seen P.Port) peer.old.peer) ≤ size (told (seen P.Port) peer.new.peer) }
-            ensures risen { peer.new.moved ≡ true → size (told (seen P.Port) peer.old.peer) < size (told (seen P.Port) peer.new.peer) }
+            ensures rounded { Rounded (between (told (seen P.Port) peer.old.peer) peer.old.moved peer.old.failed) (between (told (seen P.Port) peer.new.peer) peer.new.moved peer.new.failed) }
+            ensures risen { Risen (between (told (seen P.Port) peer.old.peer) peer.old.moved peer.old.failed) (between (told (seen P.Port) peer.new.peer) peer.new.moved peer.new.failed) }
         { turn(peer, gate, place, number) },
     );
 }

@@ -30,7 +30,7 @@ use fab_outside::loading::{load_file, load_script};
 use fab_outside::{Clock, Depot, Failed, Sink, write_all};
 use fab_peer::calls::Machinery;
 use fab_peer_machines::machines;
-use fab_phases::scripts::{ready_bound, run_bound, run_ready};
+use fab_phases::scripts::{ready_bound, run_ready};
 use fab_rounds::starting::Buffers;
 use fab_window_run::{Asked, window_of, window_text};
 use fab_workload_laws::laws::law_workloads_done;
@@ -63,7 +63,8 @@ fn run_over<C: Machinery + Drop + Send, G: Gate, R: Threads + Wait + Sync>(
     requires pool { (0 < bound.now.script.conf.info.pool) × (bound.now.script.conf.info.pool ≤ 1024) }
     ensures { IfOk result (λ ran. Reports bound.now (string_bytes ran.text) ran.done) }
 {
-    let peers = run_bound(rt, alloc, bound, machines, gate)?;
+    let runners = ready_bound(alloc, bound, machines, Buffers::AsWanted)?;
+    let peers = run_ready(rt, alloc, bound, runners, gate)?;
     let text = report(alloc, bound.script.version, &peers)?;
     Ok(Ran {
         text,

@@ -18,14 +18,20 @@ coll_text-requires-clause-folds g c =
     let folds = folds_at_rest s.peers s.rounds c.args.bound.now c.requires.plan c.law_rounds_done.ensures.folds c.requires.within peers e.reached e.rest in
     subst (λ (ps : List Member). FoldsIn s.peers s.rounds (actors ps)) (sym c.deref.ensures.value) folds
 
-pub run_bound-requires-clause-log : goal.run_bound-requires-clause-log
-run_bound-requires-clause-log g c κs live = log_enough c.args.script.now.peers c.args.script.now.rounds c.args.bound.now c.requires.plan
+pub ready_bound-requires-clause-log : goal.ready_bound-requires-clause-log
+ready_bound-requires-clause-log g c = log_enough c.args.script.now.peers c.args.script.now.rounds c.args.bound.now c.requires.plan
 
-pub run_bound-requires-clause-peers : goal.run_bound-requires-clause-peers
-run_bound-requires-clause-peers g c κs live = peers_granted c.args.script.now.peers c.args.script.now.rounds c.args.bound.now c.requires.plan c.requires.within
+pub ready_bound-requires-clause-peers : goal.ready_bound-requires-clause-peers
+ready_bound-requires-clause-peers g c = peers_granted c.args.script.now.peers c.args.script.now.rounds c.args.bound.now c.requires.plan c.requires.within
 
-pub run_bound-requires-clause-lane : goal.run_bound-requires-clause-lane
-run_bound-requires-clause-lane g c κs live = lane_granted c.args.script.now.peers c.args.script.now.rounds c.args.bound.now c.requires.plan
+pub ready_bound-requires-clause-lane : goal.ready_bound-requires-clause-lane
+ready_bound-requires-clause-lane g c = lane_granted c.args.script.now.peers c.args.script.now.rounds c.args.bound.now c.requires.plan
 
-pub run_bound-requires-clause-pool : goal.run_bound-requires-clause-pool
-run_bound-requires-clause-pool g c κs live = pool_granted c.args.script.now.peers c.args.script.now.rounds c.args.bound.now c.requires.plan
+pub ready_bound-requires-clause-pool : goal.ready_bound-requires-clause-pool
+ready_bound-requires-clause-pool g c = pool_granted c.args.script.now.peers c.args.script.now.rounds c.args.bound.now c.requires.plan
+
+pub run_ready-requires-clause-log : goal.run_ready-requires-clause-log
+run_ready-requires-clause-log g c κs live = log_enough c.args.script.now.peers c.args.script.now.rounds c.args.bound.now c.requires.plan
+
+pub run_ready-requires-clause-peers : goal.run_ready-requires-clause-peers
+run_ready-requires-clause-peers g c κs live = (peers_granted c.args.script.now.peers c.args.script.now.rounds c.args.bound.now c.requires.plan c.requires.within).1

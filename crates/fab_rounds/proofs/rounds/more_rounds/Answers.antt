@@ -10,4 +10,4 @@ returns-clause-ran g c =
     let none : c.stay-stayed.result ≡ 0 = omega (arith, c.if-stayed-gt0.false) in
     let e = c.round.ensures in
     let long : length c.round.new.peers ≡ length c.stay-stayed.new.peers = search rules in
-    one_ran (λ p. between (told (seen g.P.Port) p.peer) p.moved p.failed) c.stay-stayed.result c.args.peers.now c.stay-stayed.new.peers c.round.new.peers none c.stay-stayed.ensures.ran long e.turned e.still e.stays e.grown e.risen
+    one_ran (λ p. between (told (seen g.P.Port) p.peer) p.moved p.failed) c.stay-stayed.result c.args.peers.now c.stay-stayed.new.peers c.round.new.peers none c.stay-stayed.ensures.ran long e.rounded e.risen
