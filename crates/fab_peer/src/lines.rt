@@ -1,8 +1,7 @@
 //! The lines of a peer, and the buffers of sends among them.
-ghost use Rattle.std.specs.Prelude.{◌≡◌, ◌++◌, ◌∷◌, [], List, IfOk, IfSome, IfNone};
-ghost use Rattle.fab_base.specs.declared.script.Line.{Line};
+ghost use Rattle.std.specs.Prelude.{◌≡◌, [], IfOk, IfSome, IfNone};
 ghost use Rattle.fab_model.specs.Calls.{word_bytes};
-ghost use Rattle.fab_peer.specs.Filled.{IsAt, IsFilled, sent};
+ghost use Rattle.fab_peer.specs.Filled.{IsAt, sent};
 
 use fab_base::{Buf, BytesWord, FILE_BYTES, Line, LineOp, NoMemory};
 use std::alloc::Global;
@@ -17,7 +16,7 @@ pub(crate) struct Filled {
 }
 
 /// A new buffer with the bytes of a line's word.
-pub(crate) fn word(alloc: Global, word: &BytesWord) -> Result<Buf, NoMemory>
+fn word(alloc: Global, word: &BytesWord) -> Result<Buf, NoMemory>
     ensures { IfOk result (λ b. b ≡ word_bytes word.now) }
 {
     match word {
@@ -110,16 +109,11 @@ impl Lines {
         Ok(())
     }
 
+    /// The lines, in order.
     pub(crate) fn as_slice(&self) -> &[Line]
         ensures { result.now ≡ self.now }
     {
         self.all.as_slice()
-    }
-
-    pub(crate) fn into_vec(self) -> Vec<Line>
-        ensures { result.items ≡ self }
-    {
-        self.all
     }
 
     /// Takes the buffer of this line out, if it is there.

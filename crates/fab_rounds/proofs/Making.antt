@@ -8,7 +8,7 @@ use Rattle.fab_model.specs.Views.{IsPrefixOf}
 use Rattle.fab_model.proofs.Views.{prefix_self, prefix_prefix}
 use Rattle.fab_face.specs.Acts.{steps_of}
 use Rattle.fab_peer.specs.Turns.{IsStill, actor_of}
-use Rattle.fab_rounds.specs.Rounds.{Each, TurnedAs, TurnedFor, Between, Rounded, GoesOn, MadeFor, AtOnePort, size}
+use Rattle.fab_rounds.specs.Rounds.{Each, TurnedFor, Between, Rounded, GoesOn, MadeFor, AtOnePort, size}
 use Rattle.fab_rounds.specs.Staying.{RanFor, Risen}
 use Rattle.fab_rounds.proofs.Lists.{sums_rise, none_at, all_at, not_false, not_true}
 use Rattle.fab_rounds.proofs.Turning.{turned_more, still_later}
