@@ -1,6 +1,7 @@
 //! Endpoints are opened here alone: what is done with them is generic.
 use crate::measuring::{Measure, exchanges, times_between};
-use crate::speaker::COPIED;
+use crate::speaker::{COPIED, Speaker};
+use fab_bench::alone::{Costs, alone};
 use fab_bench::runs::Times;
 use fabric::{Calls, Cap, Domain, EndpointOver, Hints, open};
 use std::alloc::Global;
@@ -8,6 +9,9 @@ use std::io;
 use std::sync::Wait;
 use std::thread::Threads;
 use std::time::Clock;
+
+/// How many receives stand posted where all calls are made in one thread.
+const AHEAD: u64 = 16;
 
 /// Tagged messages between two peers, over lanes and pools of 64 places.
 fn wishes() -> Hints {
@@ -67,4 +71,34 @@ pub fn all_times<R: Clock + Threads + Wait + Sync>(
         }
     }
     Ok(all)
+}
+
+/// What the calls of two endpoints cost in one thread, in so many batches.
+fn costs_between<R: Clock, E: Calls + Drop>(
+    rt: &R,
+    alloc: Global,
+    zero: EndpointOver<E>,
+    one: EndpointOver<E>,
+    len: usize,
+    runs: u64,
+) -> io::Result<Option<Costs>> {
+    let left = Speaker::new(alloc, zero, 1, AHEAD, len, false);
+    let right = Speaker::new(alloc, one, 0, AHEAD, len, false);
+    match (left, right) {
+        (Ok(mut left), Ok(mut right)) => Ok(Some(alone(
+            rt, alloc, &mut left, &mut right, len, runs,
+        )?)),
+        _ => Ok(None),
+    }
+}
+
+/// What the calls of two new endpoints cost in one thread, in so many batches.
+pub fn costs<R: Clock>(rt: &R, alloc: Global, len: usize, runs: u64) -> io::Result<Option<Costs>> {
+    let Ok(Domain { mut endpoints, .. }) = open(alloc, &wishes()) else {
+        return Ok(None);
+    };
+    match (endpoints.pop(), endpoints.pop()) {
+        (Some(one), Some(zero)) => costs_between(rt, alloc, zero, one, len, runs),
+        _ => Ok(None),
+    }
 }

@@ -87,6 +87,12 @@ fn follow<P: Party, R: Wait>(rt: &R, party: &mut P, window: u64, reply: &[u8], i
     put(rt, party, reply);
 }
 
+/// How many nanoseconds ago this was.
+pub(crate) fn since<R: Clock>(rt: &R, start: &Instant) -> io::Result<u64> {
+    let nanos = start.elapsed(rt)?.as_nanos();
+    Ok(u64::try_from(nanos).unwrap_or(u64::MAX))
+}
+
 /// The nanoseconds of one run.
 fn timed<P: Party, R: Wait + Clock>(
     rt: &R,
@@ -99,8 +105,7 @@ fn timed<P: Party, R: Wait + Clock>(
     for _ in 0..exchange.rounds {
         lead(rt, party, exchange.window, out, into);
     }
-    let nanos = start.elapsed(rt)?.as_nanos();
-    Ok(u64::try_from(nanos).unwrap_or(u64::MAX))
+    since(rt, &start)
 }
 
 /// The times of so many runs of one exchange, after one that is not counted.

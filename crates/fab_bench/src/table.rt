@@ -1,4 +1,5 @@
 //! The table that is printed.
+use crate::alone::{BATCH, Costs};
 use crate::runs::Times;
 use std::io;
 
@@ -60,4 +61,25 @@ pub fn print_table<R: Print>(rt: &R, all: Vec<Times>) -> io::Result<()> {
         print_line(rt, times)?;
     }
     Ok(())
+}
+
+/// Prints a line for one kind of call: its best and its median batch, for each call.
+fn print_cost<R: Print>(rt: &R, name: &str, len: usize, mut nanos: Vec<u64>) -> io::Result<()> {
+    nanos.sort()?;
+    let best = tenths(at(nanos.as_slice(), 0), BATCH);
+    let median = tenths(at(nanos.as_slice(), nanos.len() / 2), BATCH);
+    println!(rt;
+        "{name} {len:>5} B  best {}.{} ns  median {}.{} ns",
+        best / 10,
+        best % 10,
+        median / 10,
+        median % 10
+    )
+}
+
+/// Prints a line for each kind of call.
+pub fn print_costs<R: Print>(rt: &R, costs: Costs) -> io::Result<()> {
+    print_cost(rt, "put   ", costs.len, costs.put)?;
+    print_cost(rt, "taken ", costs.len, costs.taken)?;
+    print_cost(rt, "none  ", costs.len, costs.idle)
 }

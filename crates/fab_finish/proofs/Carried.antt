@@ -77,7 +77,7 @@ module _ (ps : List Member) (k : ℕ) (a : Member) (e : Whole Plain) (is_a : sli
   held_is = ap (λ (x : Whole Plain). x.held) rest
 
   actor_is : member_actor (record a { endpoint = e }) ≡ member_actor a
-  actor_is = ap (λ (h : Held). let x : Actor = record { state = h.state; lines = a.lines.items; results = a.results.items; kept = a.kept } in x) held_is
+  actor_is = ap (λ (h : Held). let x : Actor = record { state = h.state; lines = a.lines; results = a.results.items; kept = a.kept } in x) held_is
 
   pub kept_actors : actors (slice_set ps k (record a { endpoint = e })) ≡ actors ps
   kept_actors =
@@ -92,7 +92,7 @@ module _ (ps : List Member) (k : ℕ) (a : Member) (e : Whole Plain) (is_a : sli
       let posted : (λ d. outs d ++ (out_of a.endpoint.port d).frames) ≡ (λ d. outs d ++ (out_of e.port d).frames) = fun_ext (λ d. ap (λ (o : Posted). outs d ++ o.frames) (sym (keeps.out d))) in
       record {
         log = ap (λ (x : Whole Plain). x.log) rest ∙ own.log;
-        counted = subst (λ (h : Held). let x : Living = record { held = h; lines = a.lines.items; results = a.results.items; kept = a.kept } in IsCounted x) (sym held_is) own.counted;
+        counted = subst (λ (h : Held). let x : Living = record { held = h; lines = a.lines; results = a.results.items; kept = a.kept } in IsCounted x) (sym held_is) own.counted;
         lanes = keeps.lanes ∙ own.lanes;
         agrees = subst (λ (h : Held). Agrees (length ps) h (λ s. ins s ++ (in_of e.port s).taken) (λ d. outs d ++ (out_of e.port d).frames)) (sym held_is)
             (subst (λ (t : ℕ → List Frame). Agrees (length ps) a.endpoint.held t (λ d. outs d ++ (out_of e.port d).frames)) taken

@@ -71,7 +71,7 @@ pub record AreReady (conf : Conf) (lists : List (List Line)) (pasts : List Past)
 -- ---- between the ports
 
 abbrev pub living_with : Held → Unseated → Living
-living_with h u = record { held = h; lines = u.lines.items; results = u.results.items; kept = u.kept }
+living_with h u = record { held = h; lines = u.lines; results = u.results.items; kept = u.kept }
 
 abbrev pub past_with : Held → Unseated → RingPort → Past
 past_with h u port = record {

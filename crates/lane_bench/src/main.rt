@@ -2,7 +2,8 @@
 //!
 //! `lane_bench measure` prints a table: for messages of 1, 64 and 4,096 bytes a ping-pong, as the time of one
 //! way, and a stream one way in windows of 16 with an acknowledgement, as the time of one message. Each is the
-//! best and the median of 200 short runs. `lane_bench` alone makes two runs of each and prints no time.
+//! best and the median of 200 short runs. `lane_bench alone` has both ends in one thread, and prints what it costs to put a message, to
+//! take one, and to look for one in vain. `lane_bench` without a word makes two runs of each exchange and prints no time.
 #![tactic(auto)]
 
 mod end;
@@ -11,8 +12,9 @@ ghost use Rattle.std.specs.Prelude.{IfSome};
 ghost use Rattle.fab_ring.specs.Made.{IsNew, AreNew};
 
 use crate::end::End;
+use fab_bench::alone::alone;
 use fab_bench::runs::{Bytes, Exchange, Times, first, second};
-use fab_bench::table::print_table;
+use fab_bench::table::{print_costs, print_table};
 use fab_ring::{RingPort, Rings};
 use std::alloc::Global;
 use std::sync::Wait;
@@ -72,14 +74,28 @@ const EXCHANGES: [Exchange; 6] = [
 /// How many runs of each exchange a measurement has.
 const RUNS: u64 = 200;
 
-/// Whether the first word asks for the table.
-fn is_measured(rt: &HostRuntime) -> io::Result<bool> {
+/// How many batches of calls are timed in one thread.
+const ALONE: u64 = 10_000;
+
+/// What is asked for on the command line.
+enum Asked {
+    Nothing,
+    Table,
+    Alone,
+}
+
+/// What the first word asks for.
+fn read_words(rt: &HostRuntime) -> io::Result<Asked> {
     let mut words = env::args(rt)?;
     let _name = words.next();
     let Some(word) = words.next() else {
-        return Ok(false);
+        return Ok(Asked::Nothing);
     };
-    Ok(word.as_str() == "measure")
+    Ok(match word.as_str() {
+        "measure" => Asked::Table,
+        "alone" => Asked::Alone,
+        _ => Asked::Nothing,
+    })
 }
 
 /// The last of some new ports.
@@ -91,26 +107,28 @@ fn last(ports: &mut Vec<RingPort>, peers: u32) -> Option<RingPort>
     ports.pop()
 }
 
+/// Both ends of a lane each way.
+fn ends(alloc: Global) -> Option<(End, End)> {
+    let Ok(rings) = Rings::new(alloc, 2, 64, 64) else {
+        return None;
+    };
+    let Ok(mut ports) = rings.ports(alloc) else {
+        return None;
+    };
+    let right = last(&mut ports, 2)?;
+    let left = last(&mut ports, 2)?;
+    Some((End::new(left, 1), End::new(right, 0)))
+}
+
 /// The times of all exchanges between two threads.
 fn measured<R: Clock + Threads + Wait + Sync>(
     rt: &R,
     alloc: Global,
     runs: u64,
 ) -> io::Result<Vec<Times>> {
-    let Ok(rings) = Rings::new(alloc, 2, 64, 64) else {
+    let Some((left, right)) = ends(alloc) else {
         return Ok(Vec::new(alloc));
     };
-    let Ok(mut ports) = rings.ports(alloc) else {
-        return Ok(Vec::new(alloc));
-    };
-    let Some(right) = last(&mut ports, 2) else {
-        return Ok(Vec::new(alloc));
-    };
-    let Some(left) = last(&mut ports, 2) else {
-        return Ok(Vec::new(alloc));
-    };
-    let right = End::new(right, 0);
-    let left = End::new(left, 1);
     let mine = Bytes::new(alloc, MOST)?;
     let other = Bytes::new(alloc, MOST)?;
     let (all, _) = thread::join(
@@ -121,11 +139,27 @@ fn measured<R: Clock + Threads + Wait + Sync>(
     all
 }
 
-fn main(rt: HostRuntime) -> io::Result<()> {
-    if is_measured(&rt)? {
-        let all = measured(&rt, rt.alloc(), RUNS)?;
-        return print_table(&rt, all);
+/// Prints what each call costs in one thread, for messages of so many bytes.
+fn print_alone(rt: &HostRuntime) -> io::Result<()> {
+    for len in [1, 64, MOST] {
+        if let Some((mut left, mut right)) = ends(rt.alloc()) {
+            let costs = alone(rt, rt.alloc(), &mut left, &mut right, len, ALONE)?;
+            print_costs(rt, costs)?;
+        }
     }
-    let all = measured(&rt, rt.alloc(), 2)?;
-    println!(rt; "{} exchanges", all.len())
+    Ok(())
+}
+
+fn main(rt: HostRuntime) -> io::Result<()> {
+    match read_words(&rt)? {
+        Asked::Table => {
+            let all = measured(&rt, rt.alloc(), RUNS)?;
+            print_table(&rt, all)
+        }
+        Asked::Alone => print_alone(&rt),
+        Asked::Nothing => {
+            let all = measured(&rt, rt.alloc(), 2)?;
+            println!(rt; "{} exchanges", all.len())
+        }
+    }
 }
