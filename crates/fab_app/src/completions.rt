@@ -70,14 +70,17 @@ fn take_error<E: Calls>(endpoint: &mut E) -> Result<Polled, NoMemory>
     }
 }
 
-/// Takes the first completion, a success or an error, and tells it, or else the progress. Most often it is a success or none is
-/// there, so that is asked first: each answer is large.
+/// Takes the first completion, a success or an error, and tells it, or else the progress. Each answer is large, so it is asked
+/// first whether there is one, and then for a success, which most are.
 fn take_first<E: Calls>(
     endpoint: &mut E,
     moved: Result<Moved, NoMemory>,
 ) -> Result<Polled, NoMemory>
     ensures { TakesFirst moved (E.seen endpoint.old) (E.seen endpoint.new) result }
 {
+    if endpoint.cq_is_empty() {
+        return ended(moved);
+    }
     match endpoint.cq_pop() {
         Ok(entry) => Ok(Polled::Entry(entry)),
         Err(Fault::NoEntry) => ended(moved),
@@ -109,8 +112,8 @@ impl<E: Calls + Drop> Endpoint<E> {
     }
 
     /// Takes the first completions, at most so many, and appends them (fi_cq_read with a count). It makes no progress, which
-    /// fi_cq_read does: call `progress` before it. It ends before the first error or where none is left: `poll` tells which. Want of memory leaves all as it was, and
-    /// none is wanted where the vector has room.
+    /// fi_cq_read does: call `progress` before it. It ends before the first error or where none is left: `poll` tells which.
+    /// Want of memory leaves all as it was, and none is wanted where the vector has room.
     pub fn cq_take(&mut self, most: u32, into: &mut Vec<Entry>) -> Result<(), NoMemory>
         ensures took { IfOk result (λ _. (entries : List EntryValue) × (into.new.items ≡ into.old.items ++ entries) × TakesMost most entries (E.seen self.old) (E.seen self.new)) }
         ensures err { OnErr result ((into.new.items ≡ into.old.items) × (E.seen self.new ≡ E.seen self.old)) }

@@ -131,6 +131,10 @@ impl<M: Matcher> Machine for Core<M> {
         self.leave(ctx)
     }
 
+    fn is_cq_empty(&self) -> bool {
+        self.cq.is_empty()
+    }
+
     fn pop(&mut self) -> Result<Entry, Fault> {
         let before = Snapshot::of(&self.cq);
         match self.cq.read() {

@@ -1,5 +1,5 @@
 //! The completion queue.
-ghost use Rattle.std.specs.Prelude.{◌≡◌, ℕ, ◌+◌, ◌-◌, ◌≤◌, length, IfOk, OnOk, OnErr, IfSome, IfNone, IsTrue, Some, None};
+ghost use Rattle.std.specs.Prelude.{◌≡◌, is_none, ℕ, ◌+◌, ◌-◌, ◌≤◌, length, IfOk, OnOk, OnErr, IfSome, IfNone, IsTrue, Some, None};
 ghost use Rattle.fab_model.specs.State.{Completions, writing, fits};
 ghost use Rattle.fab_model.specs.Peers.{unread};
 ghost use Rattle.fab_cq.specs.Queues.{nothing_written, has_room, IsNext, taking_out, success_of, error_of, buffer_in, given_back};
@@ -158,6 +158,13 @@ impl Queue {
         ensures none { IfNone result (unread self.now ≡ None) }
     {
         self.unread.front()
+    }
+
+    /// Whether no entry is unread.
+    pub fn is_empty(&self) -> bool
+        ensures { result ≡ is_none (unread self.now) }
+    {
+        self.first().is_none()
     }
 
     /// Takes the oldest unread entry out (fi_cq_read), and `None` exactly where there is none; then nothing changes.

@@ -262,6 +262,10 @@ impl Progress for RingEndpoint {
         self.inner.progress(budget)
     }
 
+    fn cq_is_empty(&self) -> bool {
+        self.inner.cq_is_empty()
+    }
+
     fn cq_pop(&mut self) -> Result<Entry, Fault> {
         self.inner.cq_pop()
     }

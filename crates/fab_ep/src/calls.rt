@@ -37,6 +37,10 @@ impl<P: Port, C: Machine> Progress for Endpoint<P, C> {
         self.move_frames(budget)
     }
 
+    fn cq_is_empty(&self) -> bool {
+        self.core.is_cq_empty()
+    }
+
     fn cq_pop(&mut self) -> Result<Entry, Fault> {
         self.core.pop()
     }

@@ -1,5 +1,5 @@
 //! The calls of an endpoint, by subject.
-ghost use Rattle.std.specs.Prelude.{◌≡◌, ◌≢◌, ℕ, ◌+◌, ◌<◌, ◌≤◌, ◌^◌, ◌++◌, ◌∷◌, [], Bool, true, false, length, List, Option, Some, None, Ok, Err, OnOk, OnErr, IfOk, IfErr, IfSome, IfNone, IsTrue, map, count_by, nat_le, position};
+ghost use Rattle.std.specs.Prelude.{◌≡◌, is_none, ◌≢◌, ℕ, ◌+◌, ◌<◌, ◌≤◌, ◌^◌, ◌++◌, ◌∷◌, [], Bool, true, false, length, List, Option, Some, None, Ok, Err, OnOk, OnErr, IfOk, IfErr, IfSome, IfNone, IsTrue, map, count_by, nat_le, position};
 ghost use Rattle.fab_base.specs.declared.items.Kind.TheVariants.{Msg, TagMsg, WriteReq, ReadReq};
 ghost use Rattle.fab_base.specs.declared.items.Form.TheVariants.{Base, Fetch, Compare};
 ghost use Rattle.fab_base.specs.declared.entries.PeekHow.TheVariants.{Peek, Claim, Discard};
@@ -8,6 +8,7 @@ ghost use Rattle.fab_base.specs.declared.peers.Level.TheVariants.{Inject};
 ghost use Rattle.fab_base.specs.declared.peers.LineResult.TheVariants.{Done, Refused as Answer, Index, Bytes};
 ghost use Rattle.fab_base.specs.declared.faults.Fault.TheVariants.{NoMemory as LacksMemory};
 ghost use Rattle.fab_av.specs.Addresses.{inserting};
+ghost use Rattle.fab_model.specs.Peers.{unread};
 ghost use Rattle.fab_model.specs.State.{tally_of, awaits, deferred_count, add_capped};
 ghost use Rattle.fab_model.specs.Calls.{do_call, TakeClaimed, DropClaimed, Cancel, CancelFirst, Look, Remove, Reg, Close, Put, message, request, atomic, is_peer, region_of};
 ghost use Rattle.fab_face.specs.Held.{Seen, IsOpen, with_machine};
@@ -255,6 +256,10 @@ pub trait Progress: Sees {
     /// was moved before want of memory stays moved.
     fn progress(&mut self, budget: u32) -> Result<Moved, NoMemory>
         ensures { Progressed Self.fixed budget (Self.seen self.old) (Self.seen self.new) result };
+
+    /// Whether no completion is unread: the next `cq_pop` answers `NoEntry`. It makes no progress.
+    fn cq_is_empty(&self) -> bool
+        ensures { result ≡ is_none (unread (Self.seen self.now).held.state.cq) };
 
     /// Takes the first completion (fi_cq_read). `NoEntry` where there is none, which is FI_EAGAIN there, and
     /// `Avail` where it is an error.

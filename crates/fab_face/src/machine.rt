@@ -1,5 +1,5 @@
 //! What an endpoint keeps besides its port and its log: the machine's state, and what is unfinished.
-ghost use Rattle.std.specs.Prelude.{◌≡◌, ◌<◌, ◌≤◌, ◌-◌, ℕ, Bool, true, false, List, length, min, Option, Some, None, Ok, nat_le, slice_index, OnOk, OnErr, IfOk, IfErr, IfSome, IfNone, IsSome, count_by};
+ghost use Rattle.std.specs.Prelude.{◌≡◌, is_none, ◌<◌, ◌≤◌, ◌-◌, ℕ, Bool, true, false, List, length, min, Option, Some, None, Ok, nat_le, slice_index, OnOk, OnErr, IfOk, IfErr, IfSome, IfNone, IsSome, count_by};
 ghost use Rattle.fab_base.specs.declared.limits.TheConstants.{FRAME_BYTES};
 ghost use Rattle.fab_base.specs.declared.items.Item.{Item};
 ghost use Rattle.fab_base.specs.declared.peers.LineResult.TheVariants.{Done, Refused as Answer};
@@ -186,6 +186,10 @@ pub trait Machine {
         ensures stays { OnErr result (held self.new ≡ held self.old) };
 
     // ---- completions and counters
+
+    /// Whether no completion is unread: the next `pop` answers `NoEntry`.
+    fn is_cq_empty(&self) -> bool
+        ensures { result ≡ is_none (unread (held self.now).state.cq) };
 
     /// Takes the first completion where it is a success.
     fn pop(&mut self) -> Result<Entry, Fault>

@@ -130,6 +130,10 @@ impl Machine for BinMachine {
         self.core.cancel(ctx)
     }
 
+    fn is_cq_empty(&self) -> bool {
+        self.core.is_cq_empty()
+    }
+
     fn pop(&mut self) -> Result<Entry, Fault> {
         self.core.pop()
     }
