@@ -1,8 +1,8 @@
 -- What stays of a port's facts at each of its steps.
-use Rattle.std.proofs.Common.{◌≡◌, ℕ, zero, suc, ◌+◌, ◌-◌, ◌*◌, ◌%◌, ◌^◌, max, ◌<◌, ◌≤◌, ◌≢◌, Bool, true, false, true≢false, List, [], ◌∷◌, ◌++◌, length, get_or, set, replicate, sym, refl, ap, ◌∙◌, subst, le_refl, arith, length-set, length-append, append_assoc, append-nil, get_or-set_same, get_or-set_other, mul-le-mul_right}
+use Rattle.std.proofs.Common.{◌≡◌, ℕ, zero, suc, ◌+◌, ◌-◌, ◌*◌, ◌^◌, max, ◌<◌, ◌≤◌, ◌≢◌, Bool, true, false, true≢false, List, [], ◌∷◌, ◌++◌, length, get_or, set, replicate, sym, refl, ap, ◌∙◌, subst, le_refl, arith, length-set, length-append, append_assoc, append-nil, get_or-set_same, get_or-set_other, mul-le-mul_right}
 use mathlib.Core.Logic.{dite}
 use mathlib.Core.List.{map-append}
-use native.Mathlib.Decide.{ℕ_discrete}
+use native.Mathlib.Decide.{ℕ_discrete, dec_lt}
 use lib.ListN.{length-replicate}
 use Rattle.std.specs.Prelude.{Option, Some, None}
 use Rattle.std.proofs.lemmas.Option.{none-some}
@@ -33,6 +33,22 @@ module _ {X : Type 0} where
   span_more : (h : ℕ → List X) (a c : ℕ) → span h a (suc c) ≡ span h a c ++ h (a + c)
   span_more h a zero = append-nil (h a) ∙ ap h (let e : a ≡ a + 0 = omega arith in e)
   span_more h a (suc c) = (λ i. h a ++ span_more h (suc a) c i) ∙ sym (append_assoc (h a) (span h (suc a) c) (h (suc a + c))) ∙ (λ i. (h a ++ span h (suc a) c) ++ h (let e : suc a + c ≡ a + suc c = omega arith in e i))
+
+  span_none : (h : ℕ → List X) (a c : ℕ) → ((x : ℕ) → a ≤ x → x < a + c → h x ≡ []) → span h a c ≡ []
+  span_none h a zero e = refl
+  span_none h a (suc c) e = λ i. e a (le_refl a) (omega arith) i ++ span_none h (suc a) c (λ x g l. e x (omega arith) (omega arith)) i
+
+  -- all but one are empty
+  span_only : (h : ℕ → List X) (a c s : ℕ) → a ≤ s → s < a + c → ((x : ℕ) → a ≤ x → x < a + c → x ≢ s → h x ≡ []) → span h a c ≡ h s
+  span_only h a zero s low high e = absurd (omega arith)
+  span_only h a (suc c) s low high e = dite (ℕ_discrete a s)
+      (λ here. (λ i. h (here i) ++ span_none h (suc a) c (λ x g l. e x (omega arith) (omega arith) (λ z. omega arith)) i) ∙ append-nil (h s))
+      (λ ne. (λ i. e a (le_refl a) (omega arith) ne i ++ span_only h (suc a) c s (omega arith) (omega arith) (λ x g l n. e x (omega arith) (omega arith) n) i))
+
+  ring_only : (h : ℕ → List X) (n f s : ℕ) → f ≤ n → s < n → ((x : ℕ) → x < n → x ≢ s → h x ≡ []) → ring h n f ≡ h s
+  ring_only h n f s round near e = dite (dec_lt s f)
+      (λ low. λ i. span_none h f (n - f) (λ x g l. e x (omega arith) (λ z. omega arith)) i ++ span_only h 0 f s (omega arith) (omega arith) (λ x g l ne. e x (omega arith) ne) i)
+      (λ high. (λ i. span_only h f (n - f) s (omega arith) (omega arith) (λ x g l ne. e x (omega arith) ne) i ++ span_none h 0 f (λ x g l. e x (omega arith) (λ z. omega arith)) i) ∙ append-nil (h s))
 
   -- what comes behind the first
   pub behind : (ℕ → List X) → ℕ → ℕ → List X
@@ -285,6 +301,11 @@ module _ (me peers room pool clock turn : ℕ) (puts gots : List ℕ) (opened le
     hand_is = is;
   }
 
+  -- where no other peer's frame is open, the places of s come first at each turn
+  pub fits_begin : (s : ℕ) → s < peers → ((x : ℕ) → x ≢ s → get_or opened x false ≡ false) → Fits me peers room pool clock s puts gots opened lent p hand
+  fits_begin s near only = let round = fit.round in let empty : (x : ℕ) → x < peers → x ≢ s → held p x ≡ [] = λ x low ne i. held_of (nothing (in_at p x).opened (sym (fit.each_got x low).1 ∙ only x ne) i) (in_at p x).lent (oldest_of p x) base in
+      rerolled s hand (omega arith) (fit.hand_is ∙ ring_only (held p) peers turn s round near empty ∙ sym (ring_only (held p) peers s s (omega arith) near empty))
+
   pub fits_pass : turn < peers → get_or opened turn false ≡ false → Fits me peers room pool clock (turn + 1) puts gots opened lent p hand
   fits_pass near closed = let f = (fit.each_got turn near).1 in let o : List (ℕ × ℕ) = behind (held p) peers turn in let shut : (in_at p turn).opened ≡ None = nothing (in_at p turn).opened (sym f ∙ closed) in rerolled (turn + 1) hand (omega arith)
       (at_closed turn near refl shut ∙ sym (append-nil o) ∙ (λ i. o ++ held_of (sym shut i) (in_at p turn).lent (oldest_of p turn) base) ∙ ring_turn (held p) peers turn near)
@@ -306,10 +327,6 @@ module _ (me peers room pool clock turn : ℕ) (puts gots : List ℕ) (opened le
 
 pub flag_at : (l : List Bool) (i : ℕ) (o : Bool) → i < length l → o ≡ get_or l i o → get_or l i false ≡ o
 flag_at l i o near is = get_any l i false o near ∙ sym is
-
-span_none : {X : Type 0} (h : ℕ → List X) (a c : ℕ) → ((x : ℕ) → h x ≡ []) → span h a c ≡ []
-span_none h a zero e = refl
-span_none h a (suc c) e = (λ i. e a i ++ span_none h (suc a) c e i)
 
 pub fits_new : (me peers room pool : ℕ) (puts gots : List ℕ) (opened lent : List Bool) → me < peers → puts ≡ replicate peers 0 → gots ≡ replicate peers 0 → opened ≡ replicate peers false → lent ≡ replicate peers false
     → Fits me peers room pool 0 0 puts gots opened lent (new_part peers room pool me) []
@@ -342,7 +359,7 @@ fits_new me peers room pool puts gots opened lent below is_p is_g is_o is_l = le
         (λ x e. absurd (none-some x (ap (λ (z : In). z.opened) (sym (got s)) ∙ e))),
         (λ t. absurd (true≢false (sym t ∙ ap (λ (z : In). z.lent) (got s)))),
       );
-      hand_is = sym ((λ i. span_none (held p) 0 (peers - 0) (λ s. ap (λ (z : In). held_of z.opened z.lent (oldest_of p s) (p.peers * p.peers * p.room)) (got s)) i ++ []));
+      hand_is = sym ((λ i. span_none (held p) 0 (peers - 0) (λ s _ _. ap (λ (z : In). held_of z.opened z.lent (oldest_of p s) (p.peers * p.peers * p.room)) (got s)) i ++ []));
     }
 
 -- where a pool's slot lies

@@ -14,3 +14,4 @@ pub mod Wholes
 pub mod Rounds
 pub mod Seeing
 pub mod Trying
+pub mod Counting

@@ -8,7 +8,8 @@
 --     Told                  the commands and buffers that a port keeps say its open frames
 --     Ends                  the heads that a port keeps are those of the last frames posted and taken
 --     Comes                 an open frame may come behind those taken
-use Rattle.std.specs.Prelude.{◌≡◌, ℕ, zero, suc, ◌+◌, ◌-◌, ◌*◌, ◌%◌, ◌^◌, ◌<◌, ◌≤◌, Bool, true, false, List, [], ◌∷◌, ◌++◌, length, map, slice_index, slice_index_or, slice_get, Option, Some, None}
+--     ups                   how many flags are up
+use Rattle.std.specs.Prelude.{◌≡◌, ℕ, zero, suc, ◌+◌, ◌-◌, ◌*◌, ◌%◌, ◌^◌, ◌<◌, ◌≤◌, Bool, true, false, List, [], ◌∷◌, ◌++◌, length, map, slice_index, slice_index_or, slice_get, count_by, Option, Some, None}
 use Rattle.std.specs.Option.{is_some}
 use Rattle.fab_base.specs.declared.limits.TheConstants.{FRAME_BYTES}
 use Rattle.fab_base.specs.declared.frames.FrameHead.{FrameHead}
@@ -119,3 +120,6 @@ pub record Ends (peers : ℕ) (posted taken : List (Option FrameHead)) (p : Part
 
 abbrev pub Comes : Part → Type 0
 Comes p = (s : ℕ) (x : Sent) → (in_at p s).opened ≡ Some x → MayCome (last_head None (frames_of (in_at p s).taken)) x.frame
+
+abbrev pub ups : List Bool → ℕ
+ups flags = count_by (λ up. up) flags

@@ -1,5 +1,5 @@
 //! What the calls of a port do to what its seat knows.
-ghost use Rattle.std.specs.Prelude.{◌≡◌, ◌≢◌, ℕ, ◌+◌, ◌-◌, ◌*◌, ◌%◌, ◌<◌, ◌≤◌, ◌^◌, ◌⊎◌, true, false, List, [], ◌∷◌, ◌++◌, length, Option, None, Some, IsSome, IfSome, IsErrOf, OnOk, Err};
+ghost use Rattle.std.specs.Prelude.{◌≡◌, ◌≢◌, ℕ, ◌+◌, ◌-◌, ◌*◌, ◌%◌, ◌<◌, ◌≤◌, ◌^◌, ◌⊎◌, true, false, List, [], ◌∷◌, ◌++◌, length, slice_index_or, Option, None, Some, IsSome, IfSome, IsErrOf, OnOk, Err};
 ghost use Rattle.fab_wire.specs.declared.moves.Move.TheVariants.{Post, Take};
 ghost use Rattle.fab_wire.specs.Frames.{last_head, lent_frame, Continues, MayCome};
 ghost use Rattle.fab_link.specs.Meaning.{Rests, Gives};
@@ -102,7 +102,30 @@ impl RingPort {
         Ok(())
     }
 
-    /// Turns the places in hand until those of `src` come first.
+    /// Whether no other peer's next frame is open.
+    fn is_only(&self, src: u64) -> bool
+        requires { src < peers_of self.now }
+        ensures { result ≡ true → (s : ℕ) → s ≢ src → slice_index_or self.now.opened.items s false ≡ false }
+    {
+        if self.opened[src as usize] {
+            return self.open_count == 1;
+        }
+        self.open_count == 0
+    }
+
+    /// Has the places of `src` come first, where no other peer has any: they do already.
+    fn begin_at(&mut self, src: u64)
+        requires below { src < peers_of self.old }
+        requires only { (s : ℕ) → s ≢ src → slice_index_or self.old.opened.items s false ≡ false }
+        ensures port { SamePort self.old self.new }
+        ensures part { part_of self.new ≡ part_of self.old }
+        ensures turn { self.new.turn ≡ src }
+        ensures kept { (self.new.gots ≡ self.old.gots) × (self.new.opened ≡ self.old.opened) × (self.new.lent ≡ self.old.lent) × (self.new.commands ≡ self.old.commands) × (self.new.buffers ≡ self.old.buffers) }
+    {
+        self.turn = src;
+    }
+
+    /// Has the places of `src` come first in hand: at once where there are no others, else by turning those behind.
     fn seek(&mut self, src: u64)
         requires { src < peers_of self.old }
         ensures port { SamePort self.old self.new }
@@ -110,6 +133,9 @@ impl RingPort {
         ensures turn { self.new.turn ≡ src }
         ensures kept { (self.new.gots ≡ self.old.gots) × (self.new.opened ≡ self.old.opened) × (self.new.lent ≡ self.old.lent) × (self.new.commands ≡ self.old.commands) × (self.new.buffers ≡ self.old.buffers) }
     {
+        if self.is_only(src) {
+            return self.begin_at(src);
+        }
         if src < self.turn {
             let peers = self.fabric.peers();
             while self.turn < peers {
@@ -207,9 +233,11 @@ impl RingPort {
             Look::Empty => {}
             Look::Inline => {
                 self.opened[src as usize] = true;
+                self.open_count += 1;
             }
             Look::Pooled => {
                 self.opened[src as usize] = true;
+                self.open_count += 1;
                 self.lent[src as usize] = true;
                 self.turn += 1;
             }
@@ -293,6 +321,7 @@ impl RingPort {
         let end = &mut self.taken_ends[src as usize];
         overwrite(end, &self.commands[src as usize].head);
         self.opened[src as usize] = false;
+        self.open_count -= 1;
         self.clock = self.clock.max(number);
     }
 }

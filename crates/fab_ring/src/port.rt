@@ -3,7 +3,7 @@ ghost use Rattle.std.specs.Prelude.{◌≡◌, [], length};
 ghost use Rattle.std.specs.Arc.{arc_value};
 ghost use Rattle.fab_table.specs.Views.{part_at, everyone};
 ghost use Rattle.fab_table.specs.Seats.{IsOf};
-ghost use Rattle.fab_ring.specs.Hands.{shapes, Fits, Rounds, Sees, Told, Ends, Comes};
+ghost use Rattle.fab_ring.specs.Hands.{shapes, Fits, Rounds, Sees, Told, Ends, Comes, ups};
 
 use fab_base::{Buf, FrameHead};
 use fab_table::{Command, Fabric, PeerSeat};
@@ -32,6 +32,8 @@ pub struct RingPort {
     /// By source: whether its next frame is open, and whether the frame's slot is in hand.
     pub(crate) opened: Vec<bool>,
     pub(crate) lent: Vec<bool>,
+    /// How many next frames are open.
+    pub(crate) open_count: u64,
     /// By source: the open frame's command, and its buffer where it has a slot, else a spare one.
     pub(crate) commands: Vec<Command>,
     pub(crate) buffers: Vec<Buf>,
@@ -44,6 +46,7 @@ pub struct RingPort {
     ghost sees: { Sees (arc_value fabric).peers gots_seen.items (part_at seat.seat.me.0 0) },
     ghost told: { Told (arc_value fabric).peers commands.items buffers.items (part_at seat.seat.me.0 0) },
     ghost ends: { Ends (arc_value fabric).peers posted_ends.items taken_ends.items (part_at seat.seat.me.0 0) },
+    ghost counted: { open_count ≡ ups opened.items },
     ghost comes: { ∥ Comes (part_at seat.seat.me.0 0) ∥₁ },
 }
 

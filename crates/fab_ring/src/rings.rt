@@ -15,6 +15,10 @@ use std::sync::Arc;
 /// The bytes behind each list of a port that nobody uses. Ports are made by one thread, so their lists lie side by side, and each is
 /// written by a thread of its own: on a cache line that two of them share, each write of the one makes the other wait.
 const APART: usize = 128;
+/// As many commands, and heads of frames, have those bytes.
+const COMMANDS_APART: usize = 1;
+
+const HEADS_APART: usize = 2;
 
 /// So many zeros.
 fn zeros(alloc: Global, count: usize) -> Result<Vec<u64>, NoMemory>
@@ -42,7 +46,7 @@ fn flags(alloc: Global, count: usize) -> Result<Vec<bool>, NoMemory>
 fn commands(alloc: Global, count: usize) -> Result<Vec<Command>, NoMemory>
     ensures { IfOk result (λ v. length v.items ≡ count) }
 {
-    let mut all = Vec::with_capacity(alloc, count.saturating_add(1))?;
+    let mut all = Vec::with_capacity(alloc, count.saturating_add(COMMANDS_APART))?;
     for _ in 0..count {
         all.push(blank())?;
     }
@@ -65,7 +69,7 @@ pub(crate) fn buffers(alloc: Global, count: usize) -> Result<Vec<Buf>, NoMemory>
 fn no_heads(alloc: Global, count: usize) -> Result<Vec<Option<FrameHead>>, NoMemory>
     ensures { IfOk result (λ v. v.items ≡ replicate count None) }
 {
-    let mut all = Vec::with_capacity(alloc, count.saturating_add(2))?;
+    let mut all = Vec::with_capacity(alloc, count.saturating_add(HEADS_APART))?;
     for _ in 0..count {
         all.push(None)?;
     }
@@ -109,6 +113,7 @@ impl RingPort {
             got_cells,
             opened,
             lent,
+            open_count: 0,
             commands,
             buffers,
             posted_ends,

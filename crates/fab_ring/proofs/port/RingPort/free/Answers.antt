@@ -77,6 +77,7 @@ invariant_of-self-2 c = let q = c.seek.new.self in let P = c.args.self.now in le
       sees = subst (Sees f.peers q.gots_seen.items) (sym all.1) (sees_in _ _ p q.sees s u' p.moves);
       told = subst (Told f.peers q.commands.items q.buffers.items) (sym all.1) (told_in _ _ _ p s u' p.moves inside (λ y e. e) q.told);
       ends = subst (λ (z : Part). Ends f.peers q.posted_ends.items q.taken_ends.items z) (sym all.1) (ends_in _ _ _ p s u' p.moves near inside refl q.ends);
+      counted = q.counted;
       comes = subst (λ (z : Part). ∥ Comes z ∥₁) (sym all.1) ∣ comes_in p s u' p.moves inside (λ y e. comes_now p q.comes s y e) (comes_now p q.comes) ∣₁;
     }
 

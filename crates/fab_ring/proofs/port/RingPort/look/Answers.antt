@@ -19,6 +19,7 @@ use Rattle.fab_ring.proofs.Told.{told_set, comes_in}
 use Rattle.fab_ring.proofs.Lasts.{ends_in}
 use Rattle.fab_ring.proofs.Facts.{comes_now}
 use Rattle.fab_ring.proofs.Seeing.{sees_in}
+use Rattle.fab_ring.proofs.Counting.{ups_more}
 use Rattle.fab_ring.proofs.port.RingPort.look.Goals as goal
 
 pub overflow_add-next : goal.overflow_add-next
@@ -46,6 +47,7 @@ invariant_of-self-in-Empty c = let q = c.seek.new.self in let P = c.args.self.no
       sees = subst (Sees f.peers q.gots_seen.items) (sym all.1) (sees_in _ _ p q.sees s u' p.moves);
       told = subst (Told f.peers (set q.commands.items s new_c) (set q.buffers.items s new_b)) (sym all.1) (told_set _ _ _ p s u' new_c new_b p.moves near inside (ap length got.1 ∙ sized) (λ x e. absurd (none-some x (sym closed ∙ e))) q.told);
       ends = subst (λ (z : Part). Ends f.peers q.posted_ends.items q.taken_ends.items z) (sym all.1) (ends_in _ _ _ p s u' p.moves near inside refl q.ends);
+      counted = q.counted;
       comes = subst (λ (z : Part). ∥ Comes z ∥₁) (sym all.1) ∣ comes_in p s u' p.moves inside (λ x e. absurd (none-some x (sym closed ∙ e))) (comes_now p q.comes) ∣₁;
     }
 
@@ -53,6 +55,8 @@ pub invariant_of-self-in-Inline : goal.invariant_of-self-in-Inline
 invariant_of-self-in-Inline c = let q = c.seek.new.self in let P = c.args.self.now in let f = arc_value q.fabric in let s : ℕ = c.args.src in let m : Sat = q.seat.seat.me in let p : Part = part_at m.0 0 in let u : In = in_at p s in
     let near : s < f.peers = subst (λ t. s < t.peers) (sym c.seek.ensures.port.0) c.requires in let inside : s < length p.ins = subst (λ (z : ℕ). s < z) (sym q.fits.all_ins) near in let was : s < length P.opened.items = subst (λ (z : ℕ). s < z) (sym P.fits.all_open) c.requires in
     let closed : u.opened ≡ None = nothing u.opened (sym (q.fits.each_got s near).1 ∙ ap (λ t. get_or t.items s false) c.seek.ensures.kept.1 ∙ flag_at P.opened.items s c.index.result.now was c.index.ensures ∙ c.if-index.false) in
+    let down : get_or q.opened.items s false ≡ false = ap (λ t. get_or t.items s false) c.seek.ensures.kept.1 ∙ flag_at P.opened.items s c.index.result.now was c.index.ensures ∙ c.if-index.false in
+    let more = ups_more q.open_count q.opened.items s q.counted (subst (λ (z : ℕ). s < z) (sym q.fits.all_open) near) down in
     let spare : s < length q.buffers.items = subst (λ (z : ℕ). s < z) (sym q.told.all_buffers) near in let sized : length c.index_mut-2.result.now ≡ 4096 = ap length (c.index_mut-2.ensures.value ∙ get_any q.buffers.items s c.index_mut-2.result.now [] spare) ∙ q.told.sizes s near in
     let new_c = c.open_next-found.new.command in let new_b = c.open_next-found.new.buffer in let got = c.open_next-found.ensures.inline c.in-Inline.is in let x : Sent = got.1 in let u' : In = saw_frame u got.0 x in let all = in_all m _ s u' p.moves ((oldest_of p s, Cell got.2) ∷ m.1) q.at.1 got.9 in
     record {
@@ -62,6 +66,7 @@ invariant_of-self-in-Inline c = let q = c.seek.new.self in let P = c.args.self.n
       sees = subst (Sees f.peers q.gots_seen.items) (sym all.1) (sees_in _ _ p q.sees s u' p.moves);
       told = subst (Told f.peers (set q.commands.items s new_c) (set q.buffers.items s new_b)) (sym all.1) (told_set _ _ _ p s u' new_c new_b p.moves near inside (ap length got.8 ∙ sized) (λ y e. subst (λ (z : Sent). Tells z new_c new_b) (same_Some x y e) got.7) q.told);
       ends = subst (λ (z : Part). Ends f.peers q.posted_ends.items q.taken_ends.items z) (sym all.1) (ends_in _ _ _ p s u' p.moves near inside refl q.ends);
+      counted = more;
       comes = subst (λ (z : Part). ∥ Comes z ∥₁) (sym all.1) ∣ comes_in p s u' p.moves inside (λ y e. subst (λ (z : Sent). MayCome (last_head None (frames_of u.taken)) z.frame) (same_Some x y e) got.6) (comes_now p q.comes) ∣₁;
     }
 
@@ -69,6 +74,8 @@ pub invariant_of-self-in-Pooled : goal.invariant_of-self-in-Pooled
 invariant_of-self-in-Pooled c = let q = c.seek.new.self in let P = c.args.self.now in let f = arc_value q.fabric in let s : ℕ = c.args.src in let m : Sat = q.seat.seat.me in let p : Part = part_at m.0 0 in let u : In = in_at p s in
     let near : s < f.peers = subst (λ t. s < t.peers) (sym c.seek.ensures.port.0) c.requires in let inside : s < length p.ins = subst (λ (z : ℕ). s < z) (sym q.fits.all_ins) near in let was : s < length P.opened.items = subst (λ (z : ℕ). s < z) (sym P.fits.all_open) c.requires in
     let closed : u.opened ≡ None = nothing u.opened (sym (q.fits.each_got s near).1 ∙ ap (λ t. get_or t.items s false) c.seek.ensures.kept.1 ∙ flag_at P.opened.items s c.index.result.now was c.index.ensures ∙ c.if-index.false) in
+    let down : get_or q.opened.items s false ≡ false = ap (λ t. get_or t.items s false) c.seek.ensures.kept.1 ∙ flag_at P.opened.items s c.index.result.now was c.index.ensures ∙ c.if-index.false in
+    let more = ups_more q.open_count q.opened.items s q.counted (subst (λ (z : ℕ). s < z) (sym q.fits.all_open) near) down in
     let spare : s < length q.buffers.items = subst (λ (z : ℕ). s < z) (sym q.told.all_buffers) near in let sized : length c.index_mut-2.result.now ≡ 4096 = ap length (c.index_mut-2.ensures.value ∙ get_any q.buffers.items s c.index_mut-2.result.now [] spare) ∙ q.told.sizes s near in
     let new_c = c.open_next-found.new.command in let new_b = c.open_next-found.new.buffer in let got = c.open_next-found.ensures.pooled c.in-Pooled.is in let x : Sent = got.1 in let k : ℕ = got.3 in let u' : In = saw_frame u got.0 x in let y : ℕ × Slot = (oldest_of p s, Cell got.2) in let z : ℕ × Slot = (slot_home m.0 0 k, Pool c.index_mut-2.result.now) in
     let all = in_all m _ s u' p.moves ((m.1 ++ y ∷ []) ++ z ∷ []) q.at.1 got.11 in let low : k < f.peers * f.pool = subst (λ t. k < t.peers * t.pool) c.deref-3.ensures got.7 in
@@ -80,5 +87,6 @@ invariant_of-self-in-Pooled c = let q = c.seek.new.self in let P = c.args.self.n
       sees = subst (Sees f.peers q.gots_seen.items) (sym all.1) (sees_in _ _ p q.sees s u' p.moves);
       told = subst (Told f.peers (set q.commands.items s new_c) (set q.buffers.items s new_b)) (sym all.1) (told_set _ _ _ p s u' new_c new_b p.moves near inside got.10 (λ w e. subst (λ (v : Sent). Tells v new_c new_b) (same_Some x w e) got.9) q.told);
       ends = subst (λ (z : Part). Ends f.peers q.posted_ends.items q.taken_ends.items z) (sym all.1) (ends_in _ _ _ p s u' p.moves near inside refl q.ends);
+      counted = more;
       comes = subst (λ (z : Part). ∥ Comes z ∥₁) (sym all.1) ∣ comes_in p s u' p.moves inside (λ w e. subst (λ (v : Sent). MayCome (last_head None (frames_of u.taken)) v.frame) (same_Some x w e) got.8) (comes_now p q.comes) ∣₁;
     }

@@ -3,7 +3,7 @@ use Rattle.std.specs.Arc.{arc_value}
 use Rattle.fab_table.specs.declared.kinds.Slot.{Slot}
 use Rattle.fab_table.specs.declared.kinds.Part.{Part}
 use Rattle.fab_table.specs.Views.{part_at}
-use Rattle.fab_ring.specs.Hands.{shapes, Fits, Sees, Told, Ends, Comes}
+use Rattle.fab_ring.specs.Hands.{shapes, Fits, Sees, Told, Ends, Comes, ups}
 use Rattle.std.specs.Prelude.{replicate, None}
 use Rattle.fab_ring.proofs.Hold.{fits_new}
 use Rattle.fab_ring.proofs.Told.{told_new}
@@ -11,6 +11,7 @@ use Rattle.fab_ring.proofs.Making.{comes_new}
 use Rattle.fab_ring.proofs.Lasts.{ends_new}
 use Rattle.fab_ring.proofs.Rounds.{rounds_new}
 use Rattle.fab_ring.proofs.Seeing.{sees_new}
+use Rattle.fab_ring.proofs.Counting.{ups_new}
 use Rattle.fab_ring.proofs.port.RingPort.open.Goals as goal
 
 pub invariant_of-result : goal.invariant_of-result
@@ -24,5 +25,6 @@ invariant_of-result c = let f = arc_value c.args.fabric in let v = c.requires.pa
   told = subst (Told f.peers c.in_ok-commands.commands.items c.in_ok-buffers.buffers.items) (λ i. part_at (sym v i) 0)
       (told_new f.peers f.room f.pool c.args.me _ _ (c.in_ok-commands.ensures {u = tt} ∙ all) (c.in_ok-buffers.ensures.count ∙ all) (λ s near. c.in_ok-buffers.ensures.sizes s (subst (λ (z : ℕ). s < z) (sym all) near)));
   ends = subst (λ (z : Part). Ends f.peers c.in_ok-posted_ends.posted_ends.items c.in_ok-taken_ends.taken_ends.items z) (λ i. part_at (sym v i) 0) (ends_new f.peers f.room f.pool c.args.me _ _ (c.in_ok-posted_ends.ensures {u = tt} ∙ ap (λ (z : ℕ). replicate z None) all) (c.in_ok-taken_ends.ensures {u = tt} ∙ ap (λ (z : ℕ). replicate z None) all));
+  counted = sym (ap ups (c.in_ok-opened.ensures {u = tt}) ∙ ups_new c.peers-peers.result);
   comes = subst (λ (z : Part). ∥ Comes z ∥₁) (λ i. part_at (sym v i) 0) ∣ comes_new f.peers f.room f.pool c.args.me ∣₁;
 }

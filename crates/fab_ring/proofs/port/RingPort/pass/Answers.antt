@@ -9,7 +9,7 @@ use Rattle.fab_ring.proofs.port.RingPort.pass.Goals as goal
 
 pub invariant_of-self : goal.invariant_of-self
 invariant_of-self c = let q = c.args.self.now in let f = arc_value q.fabric in let t : ℕ = q.turn in let low : t < f.peers = c.requires in let near : t < length q.opened.items = subst (λ (z : ℕ). t < z) (sym q.fits.all_open) low in let near' : t < length q.lent.items = subst (λ (z : ℕ). t < z) (sym q.fits.all_lent) low in
-    record { at = q.at; fits = fits_pass _ _ _ _ _ _ _ _ _ _ _ _ q.fits low (flag_at q.opened.items t c.index.result.now near c.index.ensures ∙ c.if-not-index.true); rounds = q.rounds; sees = q.sees; told = q.told; ends = q.ends; comes = q.comes }
+    record { at = q.at; fits = fits_pass _ _ _ _ _ _ _ _ _ _ _ _ q.fits low (flag_at q.opened.items t c.index.result.now near c.index.ensures ∙ c.if-not-index.true); rounds = q.rounds; sees = q.sees; told = q.told; ends = q.ends; counted = q.counted; comes = q.comes }
 
 pub invariant_of-self-then-not-index-2 : goal.invariant_of-self-then-not-index-2
 invariant_of-self-then-not-index-2 c = let q = c.args.self.now in let f = arc_value q.fabric in let t : ℕ = q.turn in let low : t < f.peers = c.requires in let near : t < length q.opened.items = subst (λ (z : ℕ). t < z) (sym q.fits.all_open) low in let near' : t < length q.lent.items = subst (λ (z : ℕ). t < z) (sym q.fits.all_lent) low in
@@ -21,6 +21,7 @@ invariant_of-self-then-not-index-2 c = let q = c.args.self.now in let f = arc_va
       sees = subst (λ (z : Sat). Sees f.peers q.gots_seen.items (part_at z.0 0)) (sym after) q.sees;
       told = subst (λ (z : Sat). Told f.peers q.commands.items q.buffers.items (part_at z.0 0)) (sym after) q.told;
       ends = subst (λ (z : Sat). Ends f.peers q.posted_ends.items q.taken_ends.items (part_at z.0 0)) (sym after) q.ends;
+      counted = q.counted;
       comes = subst (λ (z : Sat). ∥ Comes (part_at z.0 0) ∥₁) (sym after) q.comes;
     }
 
@@ -34,5 +35,6 @@ invariant_of-self-2 c = let q = c.args.self.now in let f = arc_value q.fabric in
       sees = subst (λ (z : Sat). Sees f.peers q.gots_seen.items (part_at z.0 0)) (sym after) q.sees;
       told = subst (λ (z : Sat). Told f.peers q.commands.items q.buffers.items (part_at z.0 0)) (sym after) q.told;
       ends = subst (λ (z : Sat). Ends f.peers q.posted_ends.items q.taken_ends.items (part_at z.0 0)) (sym after) q.ends;
+      counted = q.counted;
       comes = subst (λ (z : Sat). ∥ Comes (part_at z.0 0) ∥₁) (sym after) q.comes;
     }

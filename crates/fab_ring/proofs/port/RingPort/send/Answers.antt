@@ -37,6 +37,7 @@ invariant_of-self c = let q = c.args.self.now in let f = arc_value q.fabric in l
       sees = subst (Sees f.peers (set q.gots_seen.items d r)) (sym all.1) (sees_out _ _ p q.sees d r o₁ p.moves low q.fits.all_outs refl saw.0);
       told = subst (Told f.peers q.commands.items q.buffers.items) (sym all.1) (told_out _ _ _ p d o₁ p.moves q.told);
       ends = subst (λ (z : Part). Ends f.peers q.posted_ends.items q.taken_ends.items z) (sym all.1) (ends_out _ _ _ p d o₁ p.moves low inside refl q.ends);
+      counted = q.counted;
       comes = subst (λ (z : Part). ∥ Comes z ∥₁) (sym all.1) (comes_out p d o₁ p.moves q.comes);
     }
 
@@ -61,6 +62,7 @@ invariant_of-self-then-self-ge-MOST c = let q = c.args.self.now in let f = arc_v
       sees = subst (Sees f.peers (set q.gots_seen.items d r)) (sym all.1) (sees_out _ _ p q.sees d r o₁ p.moves low q.fits.all_outs refl saw.0);
       told = subst (Told f.peers q.commands.items q.buffers.items) (sym all.1) (told_out _ _ _ p d o₁ p.moves q.told);
       ends = subst (λ (z : Part). Ends f.peers q.posted_ends.items q.taken_ends.items z) (sym all.1) (ends_out _ _ _ p d o₁ p.moves low inside refl q.ends);
+      counted = q.counted;
       comes = subst (λ (z : Part). ∥ Comes z ∥₁) (sym all.1) (comes_out p d o₁ p.moves q.comes);
     }
 
@@ -114,6 +116,7 @@ invariant_of-self-then-not-send_next c = let q = c.args.self.now in let f = arc_
       sees = subst (Sees f.peers (set q.gots_seen.items d r)) (sym all.1) (sees_out _ _ p q.sees d r o₂ p.moves low q.fits.all_outs refl saw.0);
       told = subst (Told f.peers q.commands.items q.buffers.items) (sym all.1) (told_out _ _ _ p d o₂ p.moves q.told);
       ends = subst (λ (z : Part). Ends f.peers q.posted_ends.items q.taken_ends.items z) (sym all.1) (ends_out _ _ _ p d o₂ p.moves low inside refl q.ends);
+      counted = q.counted;
       comes = subst (λ (z : Part). ∥ Comes z ∥₁) (sym all.1) (comes_out p d o₂ p.moves q.comes);
     }
 
@@ -163,6 +166,7 @@ invariant_of-self-2 c = let q = c.args.self.now in let f = arc_value q.fabric in
       sees = subst (Sees f.peers (set q.gots_seen.items d r)) (sym all.1) (sees_out _ _ p q.sees d r (posted_one o₂ x) ms low q.fits.all_outs refl (let le : r ≤ length o.posted = saw.0 in let long = length-append o.posted (x ∷ []) in omega arith));
       told = subst (Told f.peers q.commands.items q.buffers.items) (sym all.1) (told_out _ _ _ p d (posted_one o₂ x) ms q.told);
       ends = subst (λ (z : Part). Ends f.peers (set q.posted_ends.items d (Some c.args.head)) q.taken_ends.items z) (sym all.1) (ends_post _ _ _ p d (posted_one o₂ x) x ms low inside refl q.ends);
+      counted = q.counted;
       comes = subst (λ (z : Part). ∥ Comes z ∥₁) (sym all.1) (comes_out p d (posted_one o₂ x) ms q.comes);
     }
 
