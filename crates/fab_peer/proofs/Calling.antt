@@ -1,5 +1,5 @@
 -- A line whose call was answered, and what it makes of a peer.
-use Rattle.std.proofs.Common.{◌≡◌, ◌≢◌, ◌<◌, ◌≤◌, ◌+◌, ◌-◌, ◌⊎◌, inl, inr, ℕ, zero, suc, Bool, true, false, ◌||◌, List, [], ◌∷◌, ◌++◌, length, map, get_or, Option, Some, None, Result, Ok, Err, OnOk, IfErr, refl, sym, ap, ◌∙◌, subst, subst₂, arith, append-nil, append_assoc}
+use Rattle.std.proofs.Common.{IfOk, ◌≡◌, ◌≢◌, ◌<◌, ◌≤◌, ◌+◌, ◌-◌, ◌⊎◌, inl, inr, ℕ, zero, suc, Bool, true, false, ◌||◌, List, [], ◌∷◌, ◌++◌, length, map, get_or, Option, Some, None, Result, Ok, Err, OnOk, IfErr, refl, sym, ap, ◌∙◌, subst, subst₂, arith, append-nil, append_assoc}
 use Rattle.std.specs.Prelude.{◌==◌, slice_get, replicate, find, count_by, take, drop, min, unwrap_or}
 use Rattle.std.proofs.lemmas.Bool.{eqb-true, eq-eqb}
 use Rattle.fab_base.specs.declared.operations.Written.{Written}
@@ -14,6 +14,7 @@ use Rattle.fab_base.specs.declared.entries.Kept.{Kept}
 use Rattle.fab_base.specs.declared.faults.Fault.{Fault}
 use Rattle.fab_base.specs.declared.faults.Fault.TheVariants.{Again, NoMemory as LacksMemory, NoData, Invalid, NoKey, Range, MsgSize, NotSupported, NoEntry, Avail}
 use Rattle.fab_base.specs.declared.faults.Busy.TheVariants.{TxFull, PostedFull, CqFull, LogFull}
+use Rattle.fab_base.specs.declared.faults.NoMemory.{NoMemory}
 use Rattle.fab_base.specs.declared.faults.Refused.{Refused as RefusedWith}
 use Rattle.fab_base.specs.declared.items.Kind.TheVariants.{Msg, TagMsg}
 use Rattle.fab_base.specs.declared.peers.Level.{Level}
@@ -32,6 +33,7 @@ use Rattle.fab_model.specs.Peers.{Actor, do_next, do_line, call_line, after_call
 use Rattle.fab_face.specs.Held.{Held, Seen, IsOpen}
 use Rattle.fab_face.specs.Acts.{Act, Did, Took, Posted, Drew, Had, Went, steps_of, steps_by, events, has_read, is_move}
 use Rattle.fab_face.specs.Answers.{AllAre, Judged, IsShort, IsSharing, Sends, SendsNot, Receives, ReceivesNot, Pops, after_read, receive_call}
+use Rattle.fab_peer.specs.declared.peer.Outcome.{Outcome}
 use Rattle.fab_peer.specs.Looks.{look_line}
 use Rattle.fab_peer.specs.Turns.{Told, living_of, actor_in, actor_of, hands_back, waited_back, multis_done, IsCounted, SameParts, Lives, Lived, WentOn, Answered, why_of, drained, with_seen, is_only, LentIf, Lent, HasRead, is_some_act, is_some_event, next_op, step_of, ReadOn, is_read}
 use Rattle.fab_face.proofs.Joining.{posts_move, draws_move, ported_did, ported_had, ported_same, ported_then}
@@ -332,28 +334,30 @@ module _ {Home : Type 0} (a : Told Home) (e : Seen Home) (call : Call) (next : I
       not_short acts is log (inr left) = let l : length e.log ≡ 0 = ap length (still_log acts is log) in omega (arith, left.1, l, opened.log)
 
   -- the same, as a function of a peer sees them
-  pub sends_line : (fixed : Bool) (dest : ℕ) (buf : List ℕ) (r : Result (Unit {0}) RefusedWith) (why : Result (Unit {0}) Fault) (d b : Told Home) (done pushed moved : Bool) → IsOpen a.seen
+  pub sends_line : (fixed : Bool) (dest : ℕ) (buf : List ℕ) (r : Result (Unit {0}) RefusedWith) (why : Result (Unit {0}) Fault) (b : Told Home) (out : Result Outcome NoMemory) → IsOpen a.seen
       → OnOk r (Sends fixed call dest a.seen e) → IfErr r (λ x. (x.buf ≡ buf) × SendsNot fixed call a.seen e x.why)
-      → why ≡ why_of r → d ≡ drained (with_seen a e) → Answered why d b done → pushed ≡ b.seen.pushed → moved ≡ (done || pushed) → WentOn a b done moved
-  sends_line fixed dest buf r why d b done pushed moved sound ok err is_why is_d answered is_pushed is_moved =
-      let told : Answered (why_of r) (drained (with_seen a e)) b done = subst₂ (λ x y. Answered x y b done) is_why is_d answered in
-      let same : b.seen.pushed ≡ e.pushed = ap (λ (x : Seen Home). x.pushed) (answered_seen (why_of r) (drained (with_seen a e)) b done told) in
-      subst (λ m. WentOn a b done m) (sym (is_moved ∙ ap (λ x. done || x) (is_pushed ∙ same))) (sends_on fixed dest buf r b done sound ok err told)
+      → why ≡ why_of r → IfOk out (λ o. Answered why (drained (with_seen a e)) b o.done) → IfOk out (λ o. o.moved ≡ (o.done || b.seen.pushed)) → IfOk out (λ o. WentOn a b o.done o.moved)
+  sends_line fixed dest buf r why b (Ok o) sound ok err is_why answered moved =
+      let told : Answered (why_of r) (drained (with_seen a e)) b o.done = subst (λ x. Answered x (drained (with_seen a e)) b o.done) is_why answered in
+      let same : b.seen.pushed ≡ e.pushed = ap (λ (x : Seen Home). x.pushed) (answered_seen (why_of r) (drained (with_seen a e)) b o.done told) in
+      subst (λ m. WentOn a b o.done m) (sym (moved ∙ ap (λ x. o.done || x) same)) (sends_on fixed dest buf r b o.done sound ok err told)
+  sends_line fixed dest buf r why b (Err x) sound ok err is_why answered moved = tt
 
-  pub injects_line : (fixed : Bool) (dest : ℕ) (why : Result (Unit {0}) Fault) (d b : Told Home) (done pushed moved : Bool) → IsOpen a.seen
+  pub injects_line : (fixed : Bool) (dest : ℕ) (why : Result (Unit {0}) Fault) (b : Told Home) (out : Result Outcome NoMemory) → IsOpen a.seen
       → OnOk why (Sends fixed call dest a.seen e) → IfErr why (λ x. SendsNot fixed call a.seen e x)
-      → d ≡ drained (with_seen a e) → Answered why d b done → pushed ≡ b.seen.pushed → moved ≡ (done || pushed) → WentOn a b done moved
-  injects_line fixed dest (Ok u) d b done pushed moved sound ok err is_d answered is_pushed is_moved =
-      sends_line fixed dest [] (Ok u) (Ok u) d b done pushed moved sound ok tt refl is_d answered is_pushed is_moved
-  injects_line fixed dest (Err fault) d b done pushed moved sound ok err is_d answered is_pushed is_moved =
-      sends_line fixed dest [] (Err (record { why = fault; buf = [] })) (Err fault) d b done pushed moved sound tt (refl, err) refl is_d answered is_pushed is_moved
+      → IfOk out (λ o. Answered why (drained (with_seen a e)) b o.done) → IfOk out (λ o. o.moved ≡ (o.done || b.seen.pushed)) → IfOk out (λ o. WentOn a b o.done o.moved)
+  injects_line fixed dest (Ok u) b out sound ok err answered moved =
+      sends_line fixed dest [] (Ok u) (Ok u) b out sound ok tt refl answered moved
+  injects_line fixed dest (Err fault) b out sound ok err answered moved =
+      sends_line fixed dest [] (Err (record { why = fault; buf = [] })) (Err fault) b out sound tt (refl, err) refl answered moved
 
-  pub receives_line : (r : Result (Unit {0}) Fault) (why : Result (Unit {0}) Fault) (d b : Told Home) (done drew moved : Bool) → IsOpen a.seen → IsOpen e
+  pub receives_line : (r : Result (Unit {0}) Fault) (why : Result (Unit {0}) Fault) (b : Told Home) (out : Result Outcome NoMemory) → IsOpen a.seen → IsOpen e
       → OnOk r (Receives call a.seen e) → IfErr r (λ f. ReceivesNot call a.seen e f)
-      → why ≡ r → d ≡ drained (with_seen a e) → Answered why d b done → drew ≡ is_some_event e.log → moved ≡ (done || drew) → WentOn a b done moved
-  receives_line r why d b done drew moved sound opened ok err is_why is_d answered is_drew is_moved =
-      let told : Answered r (drained (with_seen a e)) b done = subst₂ (λ x y. Answered x y b done) is_why is_d answered in
-      subst (λ m. WentOn a b done m) (sym (is_moved ∙ ap (λ x. done || x) is_drew)) (receives_on r b done sound opened ok err told)
+      → why ≡ r → IfOk out (λ o. Answered why (drained (with_seen a e)) b o.done) → IfOk out (λ o. o.moved ≡ (o.done || is_some_event e.log)) → IfOk out (λ o. WentOn a b o.done o.moved)
+  receives_line r why b (Ok o) sound opened ok err is_why answered moved =
+      let told : Answered r (drained (with_seen a e)) b o.done = subst (λ x. Answered x (drained (with_seen a e)) b o.done) is_why answered in
+      subst (λ m. WentOn a b o.done m) (sym moved) (receives_on r b o.done sound opened ok err told)
+  receives_line r why b (Err x) sound opened ok err is_why answered moved = tt
 
 pub why_err : (Q : Fault → Type 0) (buf : List ℕ) (r : Result (Unit {0}) RefusedWith) → IfErr r (λ x. (x.buf ≡ buf) × Q x.why) → IfErr (why_of r) Q
 why_err Q buf (Ok u) err = tt

@@ -1,9 +1,9 @@
 //! The lines of a peer, and the buffers of sends among them.
 ghost use Rattle.std.specs.Prelude.{◌≡◌, [], IfOk, IfSome, IfNone};
-ghost use Rattle.fab_model.specs.Calls.{word_bytes};
 ghost use Rattle.fab_peer.specs.Filled.{IsAt, sent};
 
-use fab_base::{Buf, BytesWord, FILE_BYTES, Line, LineOp, NoMemory};
+use crate::spare::Spare;
+use fab_base::{Buf, FILE_BYTES, Line, LineOp, NoMemory};
 use std::alloc::Global;
 use std::collections::VecDeque;
 use std::marker::Model;
@@ -15,24 +15,16 @@ pub(crate) struct Filled {
     pub(crate) buf: Buf,
 }
 
-/// A new buffer with the bytes of a line's word.
-fn word(alloc: Global, word: &BytesWord) -> Result<Buf, NoMemory>
-    ensures { IfOk result (λ b. b ≡ word_bytes word.now) }
-{
-    match word {
-        BytesWord::Text(bytes) | BytesWord::Hex(bytes) => Buf::copy(alloc, bytes.as_slice()),
-        BytesWord::Zero(len) => Buf::zeros(alloc, *len),
-        BytesWord::File { .. } => Ok(Buf::empty(alloc)),
-    }
-}
-
 /// A new buffer with the bytes of a send; none where the line is another.
 fn sent(alloc: Global, op: &LineOp) -> Result<Option<Buf>, NoMemory>
     ensures some { IfOk result (λ o. IfSome o (λ b. b ≡ sent op.now)) }
     ensures none { IfOk result (λ o. IfNone o (sent op.now ≡ [])) }
 {
     match op {
-        LineOp::Send { bytes, .. } | LineOp::TSend { bytes, .. } => Ok(Some(word(alloc, bytes)?)),
+        LineOp::Send { bytes, .. } | LineOp::TSend { bytes, .. } => {
+            let mut none = Spare::new(alloc);
+            Ok(Some(none.word(bytes)?))
+        }
         _ => Ok(None),
     }
 }

@@ -49,12 +49,7 @@ impl<E: LineCalls> Peer<E> {
         self.endpoint.known();
         let answer = look_by(&mut self.endpoint, how, source, tag, ignore, ctx);
         self.endpoint.known();
-        let drew = self.drain()?;
-        let done = self.answered(answer)?;
-        Ok(Outcome {
-            done,
-            moved: either(done, drew),
-        })
+        self.received(answer)
     }
 
     /// The line `take`.
@@ -68,12 +63,7 @@ impl<E: LineCalls> Peer<E> {
         let answer = self.endpoint.take(buf, ctx);
         self.endpoint.known();
         let why = why_of(answer);
-        let drew = self.drain()?;
-        let done = self.answered(why)?;
-        Ok(Outcome {
-            done,
-            moved: either(done, drew),
-        })
+        self.received(why)
     }
 
     /// The line `drop`.
@@ -85,12 +75,7 @@ impl<E: LineCalls> Peer<E> {
         self.endpoint.known();
         let answer = self.endpoint.drop_claimed(ctx);
         self.endpoint.known();
-        let drew = self.drain()?;
-        let done = self.answered(answer)?;
-        Ok(Outcome {
-            done,
-            moved: either(done, drew),
-        })
+        self.received(answer)
     }
 
     /// Does the next line, which is one on unexpected or claimed messages, if there is one.

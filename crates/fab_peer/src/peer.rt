@@ -118,10 +118,10 @@ impl<E: LineCalls> Peer<E> {
         }
     }
 
-    /// The same, with the buffers of the lines' calls, those of sends filled, as long as they have no more bytes together than a
-    /// file may have, and with room for the results and the completions. That room is written once, since a page of memory comes
-    /// with the first write to it: so doing the lines takes little memory besides. Want of memory lets the endpoint and the lines
-    /// go.
+    /// The same, with the buffers of the lines' calls, and with room for the results and the completions. Buffers are made, those
+    /// of sends with their bytes, until the sends' have more bytes together than a file may have, and the others' as many. That
+    /// room is written once, since a page of memory comes with the first write to it: so doing the lines takes little memory
+    /// besides. Want of memory lets the endpoint and the lines go.
     pub fn with_buffers(alloc: Global, endpoint: E, lines: Vec<Line>) -> Result<Peer<E>, NoMemory>
     where
         E: Drop,
@@ -177,6 +177,33 @@ impl<E: LineCalls> Peer<E> {
                 Ok(true)
             }
         }
+    }
+
+    /// A call that sends was answered: its events are in the schedule, and its line is done, unless the answer is to come again.
+    pub(crate) fn transmitted(&mut self, answer: Result<(), Fault>) -> Result<Outcome, NoMemory>
+        ensures answered { IfOk result (λ o. Answered answer (drained (told E.seen self.old)) (told E.seen self.new) o.done) }
+        ensures moved { IfOk result (λ o. o.moved ≡ (o.done || (E.seen self.new.endpoint).pushed)) }
+    {
+        self.drain()?;
+        let done = self.answered(answer)?;
+        let pushed = self.endpoint.pushed();
+        Ok(Outcome {
+            done,
+            moved: either(done, pushed),
+        })
+    }
+
+    /// The same of a call on receives, which may have drawn.
+    pub(crate) fn received(&mut self, answer: Result<(), Fault>) -> Result<Outcome, NoMemory>
+        ensures answered { IfOk result (λ o. Answered answer (drained (told E.seen self.old)) (told E.seen self.new) o.done) }
+        ensures moved { IfOk result (λ o. o.moved ≡ (o.done || is_some_event (E.seen self.old.endpoint).log)) }
+    {
+        let drew = self.drain()?;
+        let done = self.answered(answer)?;
+        Ok(Outcome {
+            done,
+            moved: either(done, drew),
+        })
     }
 
     /// The next line is done by the peer alone, with this result.
@@ -241,13 +268,7 @@ impl<E: LineCalls> Peer<E> {
         self.endpoint.known();
         let answer = self.endpoint.send(dest, buf, imm, ctx, flags);
         let why = why_of(answer);
-        self.drain()?;
-        let done = self.answered(why)?;
-        let pushed = self.endpoint.pushed();
-        Ok(Outcome {
-            done,
-            moved: either(done, pushed),
-        })
+        self.transmitted(why)
     }
 
     /// The line `tsend`.
@@ -267,13 +288,7 @@ impl<E: LineCalls> Peer<E> {
         self.endpoint.known();
         let answer = self.endpoint.tsend(dest, tag, buf, imm, ctx, flags);
         let why = why_of(answer);
-        self.drain()?;
-        let done = self.answered(why)?;
-        let pushed = self.endpoint.pushed();
-        Ok(Outcome {
-            done,
-            moved: either(done, pushed),
-        })
+        self.transmitted(why)
     }
 
     /// The line `inject`.
@@ -284,13 +299,7 @@ impl<E: LineCalls> Peer<E> {
     {
         self.endpoint.known();
         let why = self.endpoint.inject(dest, buf.as_slice(), imm);
-        self.drain()?;
-        let done = self.answered(why)?;
-        let pushed = self.endpoint.pushed();
-        Ok(Outcome {
-            done,
-            moved: either(done, pushed),
-        })
+        self.transmitted(why)
     }
 
     /// The line `tinject`.
@@ -307,13 +316,7 @@ impl<E: LineCalls> Peer<E> {
     {
         self.endpoint.known();
         let why = self.endpoint.tinject(dest, tag, buf.as_slice(), imm);
-        self.drain()?;
-        let done = self.answered(why)?;
-        let pushed = self.endpoint.pushed();
-        Ok(Outcome {
-            done,
-            moved: either(done, pushed),
-        })
+        self.transmitted(why)
     }
 
     /// The line `trecv`.
@@ -334,12 +337,7 @@ impl<E: LineCalls> Peer<E> {
         let answer = self.endpoint.trecv(source, tag, ignore, buf, ctx);
         self.endpoint.known();
         let why = why_of(answer);
-        let drew = self.drain()?;
-        let done = self.answered(why)?;
-        Ok(Outcome {
-            done,
-            moved: either(done, drew),
-        })
+        self.received(why)
     }
 
     /// The line `recv`.
@@ -353,12 +351,7 @@ impl<E: LineCalls> Peer<E> {
         let answer = self.endpoint.recv(source, buf, ctx);
         self.endpoint.known();
         let why = why_of(answer);
-        let drew = self.drain()?;
-        let done = self.answered(why)?;
-        Ok(Outcome {
-            done,
-            moved: either(done, drew),
-        })
+        self.received(why)
     }
 
     /// The line `mrecv`, with a buffer of zeros. Where it names no least free space, this is 64 bytes, or the length of the
@@ -380,12 +373,7 @@ impl<E: LineCalls> Peer<E> {
         let answer = self.endpoint.recv_multi(source, buf, least, ctx);
         self.endpoint.known();
         let why = why_of(answer);
-        let drew = self.drain()?;
-        let done = self.answered(why)?;
-        Ok(Outcome {
-            done,
-            moved: either(done, drew),
-        })
+        self.received(why)
     }
 
     /// The line `cancel`.
@@ -397,12 +385,7 @@ impl<E: LineCalls> Peer<E> {
         self.endpoint.known();
         let answer = self.endpoint.cancel(ctx);
         self.endpoint.known();
-        let drew = self.drain()?;
-        let done = self.answered(answer)?;
-        Ok(Outcome {
-            done,
-            moved: either(done, drew),
-        })
+        self.received(answer)
     }
 
     /// Does the next line, which is a send, if there is one.

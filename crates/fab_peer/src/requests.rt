@@ -41,13 +41,7 @@ impl<E: LineCalls> Peer<E> {
         self.endpoint.known();
         let answer = self.endpoint.read(dest, key, at, buf, ctx);
         let why = why_of(answer);
-        self.drain()?;
-        let done = self.answered(why)?;
-        let pushed = self.endpoint.pushed();
-        Ok(Outcome {
-            done,
-            moved: either(done, pushed),
-        })
+        self.transmitted(why)
     }
 
     /// The line `write`.
@@ -68,13 +62,7 @@ impl<E: LineCalls> Peer<E> {
         self.endpoint.known();
         let answer = self.endpoint.write(dest, key, at, buf, imm, ctx, flags);
         let why = why_of(answer);
-        self.drain()?;
-        let done = self.answered(why)?;
-        let pushed = self.endpoint.pushed();
-        Ok(Outcome {
-            done,
-            moved: either(done, pushed),
-        })
+        self.transmitted(why)
     }
 
     /// The line `winject`.
@@ -94,13 +82,7 @@ impl<E: LineCalls> Peer<E> {
         let why = self
             .endpoint
             .inject_write(dest, key, at, buf.as_slice(), imm);
-        self.drain()?;
-        let done = self.answered(why)?;
-        let pushed = self.endpoint.pushed();
-        Ok(Outcome {
-            done,
-            moved: either(done, pushed),
-        })
+        self.transmitted(why)
     }
 
     /// The line `atomic`.
@@ -123,13 +105,7 @@ impl<E: LineCalls> Peer<E> {
         let why = self
             .endpoint
             .atomic(dest, key, at, op, num, operand.as_slice(), ctx, flags);
-        self.drain()?;
-        let done = self.answered(why)?;
-        let pushed = self.endpoint.pushed();
-        Ok(Outcome {
-            done,
-            moved: either(done, pushed),
-        })
+        self.transmitted(why)
     }
 
     /// The line `fetch`, with a buffer for the old elements.
@@ -153,13 +129,7 @@ impl<E: LineCalls> Peer<E> {
             .endpoint
             .fetch_atomic(dest, key, at, op, num, operand.as_slice(), buf, ctx);
         let why = why_of(answer);
-        self.drain()?;
-        let done = self.answered(why)?;
-        let pushed = self.endpoint.pushed();
-        Ok(Outcome {
-            done,
-            moved: either(done, pushed),
-        })
+        self.transmitted(why)
     }
 
     /// The line `compare`, with a buffer for the old elements.
@@ -193,13 +163,7 @@ impl<E: LineCalls> Peer<E> {
             ctx,
         );
         let why = why_of(answer);
-        self.drain()?;
-        let done = self.answered(why)?;
-        let pushed = self.endpoint.pushed();
-        Ok(Outcome {
-            done,
-            moved: either(done, pushed),
-        })
+        self.transmitted(why)
     }
 
     /// Does the next line, which is a read or a write, if there is one.

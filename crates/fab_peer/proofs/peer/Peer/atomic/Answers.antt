@@ -14,5 +14,5 @@ returns g c =
     let operand = c.as_slice.result.now in
     injects_line a (seen c.atomic-why.new.self) (atomic c.args.ctx c.args.dest c.args.key c.args.at (atom c.args.op c.args.num Base) (length operand) operand [] c.args.flags.completion c.args.flags.fence None)
     (calls_atomic a c.args.ctx c.args.dest c.args.key c.args.at c.args.op c.args.num c.args.operand.now c.args.flags.completion c.args.flags.fence operand c.requires.next c.as_slice.ensures) c.requires.log
-    g.E.Sees.fixed c.args.dest c.atomic-why.result _ _ _ _ _ c.known.ensures
-    c.atomic-why.ensures.ok c.atomic-why.ensures.err c.in_ok-drain.ensures.drained c.in_ok-done.ensures c.pushed-pushed.ensures c.either.ensures
+    g.E.Sees.fixed c.args.dest c.atomic-why.result _ c.transmitted.result c.known.ensures
+    c.atomic-why.ensures.ok c.atomic-why.ensures.err c.transmitted.ensures.answered c.transmitted.ensures.moved

@@ -15,5 +15,5 @@ returns g c =
     let compares = c.as_slice-2.result.now in
     sends_line a (seen c.compare_atomic-answer.new.self) (atomic c.args.ctx c.args.dest c.args.key c.args.at (atom c.args.op c.args.num Compare) (length c.args.buf) operand compares true false (Some c.args.buf))
     (calls_compare a c.args.ctx c.args.dest c.args.key c.args.at c.args.op c.args.num c.args.operand.now c.args.compares.now operand compares c.args.buf c.requires.next c.as_slice.ensures c.as_slice-2.ensures c.requires.buf) c.requires.log
-    g.E.Sees.fixed c.args.dest c.args.buf c.compare_atomic-answer.result c.why_of-why.result _ _ _ _ _ c.known.ensures
-    c.compare_atomic-answer.ensures.ok c.compare_atomic-answer.ensures.err c.why_of-why.ensures c.in_ok-drain.ensures.drained c.in_ok-done.ensures c.pushed-pushed.ensures c.either.ensures
+    g.E.Sees.fixed c.args.dest c.args.buf c.compare_atomic-answer.result c.why_of-why.result _ c.transmitted.result c.known.ensures
+    c.compare_atomic-answer.ensures.ok c.compare_atomic-answer.ensures.err c.why_of-why.ensures c.transmitted.ensures.answered c.transmitted.ensures.moved

@@ -9,5 +9,5 @@ returns g c =
     let seen = g.E.Sees.seen in
     let a = told seen c.args.self.now in
     receives_line a (seen c.drop_claimed-answer.new.self) (DropClaimed c.args.ctx) (calls_drop a c.args.ctx c.requires.next) c.requires.log
-    c.drop_claimed-answer.result c.drop_claimed-answer.result _ _ _ _ _ c.known.ensures c.known-2.ensures
-    c.drop_claimed-answer.ensures.ok c.drop_claimed-answer.ensures.err refl c.in_ok-drew.ensures.drained c.in_ok-done.ensures c.in_ok-drew.ensures.any c.either.ensures
+    c.drop_claimed-answer.result c.drop_claimed-answer.result _ c.received.result c.known.ensures c.known-2.ensures
+    c.drop_claimed-answer.ensures.ok c.drop_claimed-answer.ensures.err refl c.received.ensures.answered c.received.ensures.moved

@@ -15,5 +15,5 @@ returns g c =
     let operand = c.as_slice.result.now in
     sends_line a (seen c.fetch_atomic-answer.new.self) (atomic c.args.ctx c.args.dest c.args.key c.args.at (atom c.args.op c.args.num Fetch) (length c.args.buf) operand [] true false (Some c.args.buf))
     (calls_fetch a c.args.ctx c.args.dest c.args.key c.args.at c.args.op c.args.num c.args.operand.now next.0 operand c.args.buf next.1 c.as_slice.ensures next.2) c.requires.log
-    g.E.Sees.fixed c.args.dest c.args.buf c.fetch_atomic-answer.result c.why_of-why.result _ _ _ _ _ c.known.ensures
-    c.fetch_atomic-answer.ensures.ok c.fetch_atomic-answer.ensures.err c.why_of-why.ensures c.in_ok-drain.ensures.drained c.in_ok-done.ensures c.pushed-pushed.ensures c.either.ensures
+    g.E.Sees.fixed c.args.dest c.args.buf c.fetch_atomic-answer.result c.why_of-why.result _ c.transmitted.result c.known.ensures
+    c.fetch_atomic-answer.ensures.ok c.fetch_atomic-answer.ensures.err c.why_of-why.ensures c.transmitted.ensures.answered c.transmitted.ensures.moved

@@ -13,5 +13,5 @@ returns g c =
     let next = c.requires.next in
     injects_line a (seen c.inject-why.new.self) (message Msg None c.args.dest 0 c.as_slice.result.now c.args.imm Inject false false)
     (calls_inject a c.args.dest next.0 c.args.imm c.as_slice.result.now next.1 (c.as_slice.ensures ∙ next.2)) c.requires.log
-    g.E.Sees.fixed c.args.dest c.inject-why.result _ _ _ _ _ c.known.ensures
-    c.inject-why.ensures.ok c.inject-why.ensures.err c.in_ok-drain.ensures.drained c.in_ok-done.ensures c.pushed-pushed.ensures c.either.ensures
+    g.E.Sees.fixed c.args.dest c.inject-why.result _ c.transmitted.result c.known.ensures
+    c.inject-why.ensures.ok c.inject-why.ensures.err c.transmitted.ensures.answered c.transmitted.ensures.moved

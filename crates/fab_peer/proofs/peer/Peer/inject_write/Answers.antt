@@ -13,5 +13,5 @@ returns g c =
     let next = c.requires.next in
     injects_line a (seen c.inject_write-why.new.self) (request WriteReq None c.args.dest c.args.key c.args.at 0 c.as_slice.result.now c.args.imm false false None)
     (calls_winject a c.args.dest c.args.key c.args.at next.0 c.args.imm c.as_slice.result.now next.1 (c.as_slice.ensures ∙ next.2)) c.requires.log
-    g.E.Sees.fixed c.args.dest c.inject_write-why.result _ _ _ _ _ c.known.ensures
-    c.inject_write-why.ensures.ok c.inject_write-why.ensures.err c.in_ok-drain.ensures.drained c.in_ok-done.ensures c.pushed-pushed.ensures c.either.ensures
+    g.E.Sees.fixed c.args.dest c.inject_write-why.result _ c.transmitted.result c.known.ensures
+    c.inject_write-why.ensures.ok c.inject_write-why.ensures.err c.transmitted.ensures.answered c.transmitted.ensures.moved

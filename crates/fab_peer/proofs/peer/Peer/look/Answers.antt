@@ -10,5 +10,5 @@ returns g c =
     let a = told seen c.args.self.now in
     receives_line a (seen c.look_by-answer.new.endpoint) (Look c.args.how c.args.source c.args.tag c.args.ignore c.args.ctx)
     (calls_look a c.args.how c.args.ctx c.args.source c.args.tag c.args.ignore c.requires.next) c.requires.log
-    c.look_by-answer.result c.look_by-answer.result _ _ _ _ _ c.known.ensures c.known-2.ensures
-    c.look_by-answer.ensures.ok c.look_by-answer.ensures.err refl c.in_ok-drew.ensures.drained c.in_ok-done.ensures c.in_ok-drew.ensures.any c.either.ensures
+    c.look_by-answer.result c.look_by-answer.result _ c.received.result c.known.ensures c.known-2.ensures
+    c.look_by-answer.ensures.ok c.look_by-answer.ensures.err refl c.received.ensures.answered c.received.ensures.moved

@@ -13,5 +13,5 @@ returns g c =
     let buf = c.in_ok-buf.buf in
     sends_line a (seen c.read-answer.new.self) (request ReadReq (Some c.args.ctx) c.args.dest c.args.key c.args.at (length buf) [] None true false (Some buf))
     (calls_read a c.args.ctx c.args.dest c.args.key c.args.at c.args.len buf c.requires.next c.in_ok-buf.ensures) c.requires.log
-    g.E.Sees.fixed c.args.dest buf c.read-answer.result c.why_of-why.result _ _ _ _ _ c.known.ensures
-    c.read-answer.ensures.ok c.read-answer.ensures.err c.why_of-why.ensures c.in_ok-drain.ensures.drained c.in_ok-done.ensures c.pushed-pushed.ensures c.either.ensures
+    g.E.Sees.fixed c.args.dest buf c.read-answer.result c.why_of-why.result _ c.transmitted.result c.known.ensures
+    c.read-answer.ensures.ok c.read-answer.ensures.err c.why_of-why.ensures c.transmitted.ensures.answered c.transmitted.ensures.moved

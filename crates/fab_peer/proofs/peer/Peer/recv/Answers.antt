@@ -12,6 +12,6 @@ returns g c =
     let call = receive_call false c.args.source 0 0 c.in_ok-buf.buf None c.args.ctx in
     receives_line a e call
     (calls_recv a c.args.ctx c.args.source c.args.len c.in_ok-buf.buf c.requires.next c.in_ok-buf.ensures) c.requires.log
-    (why_of c.recv-answer.result) c.why_of-why.result _ _ _ _ _ c.known.ensures c.known-2.ensures
+    (why_of c.recv-answer.result) c.why_of-why.result _ c.received.result c.known.ensures c.known-2.ensures
     (why_ok (Receives call a.seen e) c.recv-answer.result c.recv-answer.ensures.ok) (why_err (ReceivesNot call a.seen e) c.in_ok-buf.buf c.recv-answer.result c.recv-answer.ensures.err)
-    c.why_of-why.ensures c.in_ok-drew.ensures.drained c.in_ok-done.ensures c.in_ok-drew.ensures.any c.either.ensures
+    c.why_of-why.ensures c.received.ensures.answered c.received.ensures.moved

@@ -12,5 +12,5 @@ returns g c =
     let next = c.requires.next in
     sends_line a (seen c.send-answer.new.self) (message Msg (Some c.args.ctx) c.args.dest 0 c.args.buf c.args.imm c.args.flags.level c.args.flags.completion c.args.flags.fence)
     (calls_send a c.args.ctx c.args.dest next.0 c.args.imm c.args.flags.level c.args.flags.completion c.args.flags.fence c.args.buf next.1 next.2) c.requires.log
-    g.E.Sees.fixed c.args.dest c.args.buf c.send-answer.result c.why_of-why.result _ _ _ _ _ c.known.ensures
-    c.send-answer.ensures.ok c.send-answer.ensures.err c.why_of-why.ensures c.in_ok-drain.ensures.drained c.in_ok-done.ensures c.pushed-pushed.ensures c.either.ensures
+    g.E.Sees.fixed c.args.dest c.args.buf c.send-answer.result c.why_of-why.result _ c.transmitted.result c.known.ensures
+    c.send-answer.ensures.ok c.send-answer.ensures.err c.why_of-why.ensures c.transmitted.ensures.answered c.transmitted.ensures.moved

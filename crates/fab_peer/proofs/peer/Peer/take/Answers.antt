@@ -12,6 +12,6 @@ returns g c =
     let call = TakeClaimed c.in_ok-buf.buf c.args.ctx in
     receives_line a e call
     (calls_take a c.args.ctx c.args.len c.in_ok-buf.buf c.requires.next c.in_ok-buf.ensures) c.requires.log
-    (why_of c.take-answer.result) c.why_of-why.result _ _ _ _ _ c.known.ensures c.known-2.ensures
+    (why_of c.take-answer.result) c.why_of-why.result _ c.received.result c.known.ensures c.known-2.ensures
     (why_ok (Receives call a.seen e) c.take-answer.result c.take-answer.ensures.ok) (why_err (ReceivesNot call a.seen e) c.in_ok-buf.buf c.take-answer.result c.take-answer.ensures.err)
-    c.why_of-why.ensures c.in_ok-drew.ensures.drained c.in_ok-done.ensures c.in_ok-drew.ensures.any c.either.ensures
+    c.why_of-why.ensures c.received.ensures.answered c.received.ensures.moved

@@ -13,5 +13,5 @@ returns g c =
     let next = c.requires.next in
     injects_line a (seen c.tinject-why.new.self) (message TagMsg None c.args.dest c.args.tag c.as_slice.result.now c.args.imm Inject false false)
     (calls_tinject a c.args.dest c.args.tag next.0 c.args.imm c.as_slice.result.now next.1 (c.as_slice.ensures ∙ next.2)) c.requires.log
-    g.E.Sees.fixed c.args.dest c.tinject-why.result _ _ _ _ _ c.known.ensures
-    c.tinject-why.ensures.ok c.tinject-why.ensures.err c.in_ok-drain.ensures.drained c.in_ok-done.ensures c.pushed-pushed.ensures c.either.ensures
+    g.E.Sees.fixed c.args.dest c.tinject-why.result _ c.transmitted.result c.known.ensures
+    c.tinject-why.ensures.ok c.tinject-why.ensures.err c.transmitted.ensures.answered c.transmitted.ensures.moved

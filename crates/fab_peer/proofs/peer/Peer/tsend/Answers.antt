@@ -12,5 +12,5 @@ returns g c =
     let next = c.requires.next in
     sends_line a (seen c.tsend-answer.new.self) (message TagMsg (Some c.args.ctx) c.args.dest c.args.tag c.args.buf c.args.imm c.args.flags.level c.args.flags.completion c.args.flags.fence)
     (calls_tsend a c.args.ctx c.args.dest c.args.tag next.0 c.args.imm c.args.flags.level c.args.flags.completion c.args.flags.fence c.args.buf next.1 next.2) c.requires.log
-    g.E.Sees.fixed c.args.dest c.args.buf c.tsend-answer.result c.why_of-why.result _ _ _ _ _ c.known.ensures
-    c.tsend-answer.ensures.ok c.tsend-answer.ensures.err c.why_of-why.ensures c.in_ok-drain.ensures.drained c.in_ok-done.ensures c.pushed-pushed.ensures c.either.ensures
+    g.E.Sees.fixed c.args.dest c.args.buf c.tsend-answer.result c.why_of-why.result _ c.transmitted.result c.known.ensures
+    c.tsend-answer.ensures.ok c.tsend-answer.ensures.err c.why_of-why.ensures c.transmitted.ensures.answered c.transmitted.ensures.moved

@@ -13,5 +13,5 @@ returns g c =
     let next = c.requires.next in
     sends_line a (seen c.write-answer.new.self) (request WriteReq (Some c.args.ctx) c.args.dest c.args.key c.args.at 0 c.args.buf c.args.imm c.args.flags.completion c.args.flags.fence (Some c.args.buf))
     (calls_write a c.args.ctx c.args.dest c.args.key c.args.at next.0 c.args.imm c.args.flags.completion c.args.flags.fence c.args.buf next.1 next.2) c.requires.log
-    g.E.Sees.fixed c.args.dest c.args.buf c.write-answer.result c.why_of-why.result _ _ _ _ _ c.known.ensures
-    c.write-answer.ensures.ok c.write-answer.ensures.err c.why_of-why.ensures c.in_ok-drain.ensures.drained c.in_ok-done.ensures c.pushed-pushed.ensures c.either.ensures
+    g.E.Sees.fixed c.args.dest c.args.buf c.write-answer.result c.why_of-why.result _ c.transmitted.result c.known.ensures
+    c.write-answer.ensures.ok c.write-answer.ensures.err c.why_of-why.ensures c.transmitted.ensures.answered c.transmitted.ensures.moved
