@@ -1,2 +1,2 @@
 mod Telling
-mod Rounds
+pub mod Rounds

@@ -10,6 +10,7 @@ use Rattle.fab_model.specs.Views.{rule}
 use Rattle.fab_model.proofs.Replays.{reached_lawful, reached_sound}
 use Rattle.fab_answer.specs.Laws.{last_states}
 use Rattle.fab_finish.specs.Joined.{Member, actors, member_actor, schedules}
+use Rattle.fab_phases.specs.Phases.{IsSized}
 use Rattle.fab_workloads.specs.Script.{conf_of}
 use Rattle.fab_coll.specs.declared.round.Round.{Round}
 use Rattle.fab_coll.specs.Plan.{plan_of}
@@ -22,23 +23,23 @@ results_at [] r x below is = absurd (omega (arith, below))
 results_at (p ∷ ps) zero x below is = ap (λ (q : Member). (member_actor q).results) (sym is)
 results_at (p ∷ ps) (suc r) x below is = results_at ps r x (omega (arith, below)) is
 
+-- peers run with the settings of collectives, which are those of workloads
+pub sized_by : (conf : Conf) (n : ℕ) → conf ≡ conf_of n → (0 < n) × (n ≤ 64) → IsSized conf
+sized_by conf n is few = subst IsSized (sym is) (record {
+  peers = few;
+  lane = (omega arith, omega arith);
+  pool = (omega arith, omega arith);
+  log = omega arith;
+})
+
 module _ (peers : ℕ) (rounds : List Round) (b : Bound) (is : b ≡ plan_of peers rounds) where
   -- its settings are those of its number of peers
   pub settings : b.script.conf ≡ conf_of peers
   unfolding plan_of
   settings = ap (λ (x : Bound). x.script.conf) is
 
-  pub log_enough : 4 ≤ b.script.conf.info.log
-  log_enough = subst (λ (c : Conf). 4 ≤ c.info.log) (sym settings) (omega arith)
-
-  pub lane_granted : (0 < b.script.conf.info.lane) × (b.script.conf.info.lane ≤ 1024)
-  lane_granted = subst (λ (c : Conf). (0 < c.info.lane) × (c.info.lane ≤ 1024)) (sym settings) (omega arith, omega arith)
-
-  pub pool_granted : (0 < b.script.conf.info.pool) × (b.script.conf.info.pool ≤ 1024)
-  pool_granted = subst (λ (c : Conf). (0 < c.info.pool) × (c.info.pool ≤ 1024)) (sym settings) (omega arith, omega arith)
-
-  pub peers_granted : AreWithin peers rounds → (0 < b.script.conf.peers) × (b.script.conf.peers ≤ 64)
-  peers_granted within = subst (λ (c : Conf). (0 < c.peers) × (c.peers ≤ 64)) (sym settings) (omega (arith, within.0), omega (arith, within.1))
+  pub sized : AreWithin peers rounds → IsSized b.script.conf
+  sized within = sized_by b.script.conf peers settings (omega (arith, within.0), omega (arith, within.1))
 
   -- at rest each rank makes of what it received what the rounds come to
   pub folds_at_rest : EachFolds → AreWithin peers rounds → (ps : List Member) → Reached (rule fabric) (opening b) (schedules ps) (actors ps) → at_rest (actors ps) ≡ true → FoldsIn peers rounds (actors ps)

@@ -3,13 +3,14 @@
 --     seen_ring e              an endpoint over a port of the table as its face is seen
 --     past_at p                what a peer over such a port did
 --     IsNew n port             a port of so many peers, at which nothing was posted or taken
+--     IsSized conf             sizes that a table and peers are made for
 --     at_start conf lines      a peer that is to do these lines
 --     AreReady conf lists xs ps  these pasts at these ports: peers of one table, each at the start of its list of lines
 --     living_with, past_with   a peer that was parted from its port, with what its machine holds
 --     Seated living steps p    the peer p, over a plain port, goes on from there
 --     Follows x q p            it goes on from this past, over this plain port
 --     Tells x port             the past is of a peer at this port of the table
-use Rattle.std.specs.Prelude.{◌≡◌, ℕ, List, [], length, map, Some, None, slice_get, slice_index_or}
+use Rattle.std.specs.Prelude.{◌≡◌, ◌<◌, ◌≤◌, ℕ, List, [], length, map, Some, None, slice_get, slice_index_or}
 use Rattle.fab_base.specs.declared.peers.Step.{Step}
 use Rattle.fab_base.specs.declared.script.Conf.{Conf}
 use Rattle.fab_base.specs.declared.script.Line.{Line}
@@ -55,6 +56,12 @@ past_at p = past_of (told seen_ring p)
 
 abbrev pub IsNew : ℕ → RingPort → Type 0
 IsNew n p = (peers_of p ≡ n) × (moves_of p ≡ []) × ((d : ℕ) → AreFresh (out_of p d) (in_of p d))
+
+pub record IsSized (conf : Conf) : Type 0 where
+  pub peers : (0 < conf.peers) × (conf.peers ≤ 64)
+  pub lane : (0 < conf.info.lane) × (conf.info.lane ≤ 1024)
+  pub pool : (0 < conf.info.pool) × (conf.info.pool ≤ 1024)
+  pub log : 4 ≤ conf.info.log
 
 abbrev pub at_start : Conf → List Line → Living
 at_start conf lines = record { held = start conf; lines = lines; results = []; kept = [] }

@@ -1,5 +1,5 @@
 //! Peers that are made ready, and both phases, one after the other.
-ghost use Rattle.std.specs.Prelude.{◌≡◌, ◌≤◌, ◌<◌, List, length, map, true, IfOk};
+ghost use Rattle.std.specs.Prelude.{◌≡◌, List, length, map, true, IfOk};
 ghost use Rattle.std.specs.List.{All};
 ghost use Rattle.fab_base.specs.declared.script.Line.{Line};
 ghost use Rattle.fab_model.specs.Orders.{Reached};
@@ -7,7 +7,7 @@ ghost use Rattle.fab_model.specs.Peers.{fabric};
 ghost use Rattle.fab_model.specs.Replay.{all_done, at_rest};
 ghost use Rattle.fab_model.specs.Views.{rule};
 ghost use Rattle.fab_finish.specs.Joined.{AreCleared, actors, opened, schedules, start};
-ghost use Rattle.fab_phases.specs.Phases.{AreReady, past_at};
+ghost use Rattle.fab_phases.specs.Phases.{AreReady, IsSized, past_at};
 
 use crate::crossing::cross;
 use crate::opening::open;
@@ -40,11 +40,8 @@ pub fn ready<C: Machinery + Drop>(
     buffers: Buffers,
 ) -> Result<Vec<Runner<RingPort, C>>, NoMemory>
     requires count { length machines.items ≡ conf.now.peers }
-    requires log { 4 ≤ conf.now.info.log }
+    requires sized { IsSized conf.now }
     requires start { All (λ m. C.held m ≡ start conf.now) machines.items }
-    requires peers { (0 < conf.now.peers) × (conf.now.peers ≤ 64) }
-    requires lane { (0 < conf.now.info.lane) × (conf.now.info.lane ≤ 1024) }
-    requires pool { (0 < conf.now.info.pool) × (conf.now.info.pool ≤ 1024) }
     ensures ready { IfOk result (λ rs. AreReady conf.now (map (λ l. l.items) lists.items) (map (λ r. past_at r.peer) rs.items) (map (λ r. r.peer.endpoint.port) rs.items)) }
 {
     let rings = Rings::new(alloc, conf.peers, conf.info.lane, conf.info.pool)?;
@@ -68,8 +65,7 @@ pub fn run_phases<C: Machinery + Drop + Send, G: Gate, R: Threads + Wait + Sync>
     mut runners: Vec<Runner<RingPort, C>>,
     gate: &G,
 ) -> Result<Vec<Peer<Endpoint<PlainPort, C>>>, NoMemory>
-    requires log { 4 ≤ conf.now.info.log }
-    requires peers { conf.now.peers ≤ 64 }
+    requires sized { IsSized conf.now }
     requires ready { (lists : List (List Line)) × AreReady conf.now lists (map (λ r. past_at r.peer) runners.items) (map (λ r. r.peer.endpoint.port) runners.items) }
     ensures reached { IfOk result (λ peers. (lists : List (List Line)) → AreReady conf.now lists (map (λ r. past_at r.peer) runners.items) (map (λ r. r.peer.endpoint.port) runners.items) → Reached (rule fabric) (opened conf.now lists) (schedules peers.items) (actors peers.items)) }
     ensures rest { IfOk result (λ peers. at_rest (actors peers.items) ≡ true) }

@@ -1,5 +1,5 @@
 //! The run of a bound script.
-ghost use Rattle.std.specs.Prelude.{◌≡◌, ◌≤◌, ◌<◌, length, map, true, IfOk};
+ghost use Rattle.std.specs.Prelude.{◌≡◌, length, map, true, IfOk};
 ghost use Rattle.std.specs.List.{All};
 ghost use Rattle.fab_model.specs.Calls.{upto};
 ghost use Rattle.fab_model.specs.Orders.{Reached};
@@ -7,7 +7,7 @@ ghost use Rattle.fab_model.specs.Peers.{fabric};
 ghost use Rattle.fab_model.specs.Replay.{all_done, at_rest, lines_of, opening};
 ghost use Rattle.fab_model.specs.Views.{rule};
 ghost use Rattle.fab_finish.specs.Joined.{AreCleared, actors, schedules, start};
-ghost use Rattle.fab_phases.specs.Phases.{AreReady, past_at};
+ghost use Rattle.fab_phases.specs.Phases.{AreReady, IsSized, past_at};
 
 use crate::phases::{ready, run_phases};
 use fab_base::{Bound, Gate, Line, NoMemory};
@@ -43,11 +43,8 @@ pub fn ready_bound<C: Machinery + Drop>(
     buffers: Buffers,
 ) -> Result<Vec<Runner<RingPort, C>>, NoMemory>
     requires count { length machines.items ≡ bound.now.script.conf.peers }
-    requires log { 4 ≤ bound.now.script.conf.info.log }
+    requires sized { IsSized bound.now.script.conf }
     requires start { All (λ m. C.held m ≡ start bound.now.script.conf) machines.items }
-    requires peers { (0 < bound.now.script.conf.peers) × (bound.now.script.conf.peers ≤ 64) }
-    requires lane { (0 < bound.now.script.conf.info.lane) × (bound.now.script.conf.info.lane ≤ 1024) }
-    requires pool { (0 < bound.now.script.conf.info.pool) × (bound.now.script.conf.info.pool ≤ 1024) }
     ensures ready { IfOk result (λ rs. AreReady bound.now.script.conf (map (lines_of bound.now) (upto bound.now.script.conf.peers)) (map (λ r. past_at r.peer) rs.items) (map (λ r. r.peer.endpoint.port) rs.items)) }
 {
     let lists = lines_of_all(alloc, bound)?;
@@ -64,8 +61,7 @@ pub fn run_ready<C: Machinery + Drop + Send, G: Gate, R: Threads + Wait + Sync>(
     runners: Vec<Runner<RingPort, C>>,
     gate: &G,
 ) -> Result<Vec<Peer<Endpoint<PlainPort, C>>>, NoMemory>
-    requires log { 4 ≤ bound.now.script.conf.info.log }
-    requires peers { bound.now.script.conf.peers ≤ 64 }
+    requires sized { IsSized bound.now.script.conf }
     requires ready { AreReady bound.now.script.conf (map (lines_of bound.now) (upto bound.now.script.conf.peers)) (map (λ r. past_at r.peer) runners.items) (map (λ r. r.peer.endpoint.port) runners.items) }
     ensures reached { IfOk result (λ peers. Reached (rule fabric) (opening bound.now) (schedules peers.items) (actors peers.items)) }
     ensures rest { IfOk result (λ peers. at_rest (actors peers.items) ≡ true) }

@@ -3,6 +3,8 @@ use Rattle.std.proofs.Common.{◌≡◌, ◌<◌, ◌≤◌, ℕ, List, Bool, tr
 use Rattle.fab_base.specs.declared.script.Bound.{Bound}
 use Rattle.fab_base.specs.declared.script.Conf.{Conf}
 use Rattle.fab_model.specs.Replay.{Lawful, replayed, at_rest, all_done}
+use Rattle.fab_phases.specs.Phases.{IsSized}
+use Rattle.fab_coll_run.proofs.Rounds.{sized_by}
 use Rattle.fab_workloads.specs.declared.workload.Workload.{Workload}
 use Rattle.fab_workloads.specs.declared.workload.Workload.TheVariants.{Pingpong, Bandwidth, Generated}
 use Rattle.fab_workloads.specs.Commands.{IsWithin}
@@ -18,22 +20,13 @@ settings w file b is = ap (λ (x : Bound). x.script.conf) is
 pub cq_enough : (w : Workload) (file : List ℕ) (b : Bound) → b ≡ bound_of w file → 2 ≤ b.script.conf.info.cq
 cq_enough w file b is = subst (λ (c : Conf). 2 ≤ c.info.cq) (sym (settings w file b is)) (omega arith)
 
-pub log_enough : (w : Workload) (file : List ℕ) (b : Bound) → b ≡ bound_of w file → 4 ≤ b.script.conf.info.log
-log_enough w file b is = subst (λ (c : Conf). 4 ≤ c.info.log) (sym (settings w file b is)) (omega arith)
-
-pub lane_granted : (w : Workload) (file : List ℕ) (b : Bound) → b ≡ bound_of w file → (0 < b.script.conf.info.lane) × (b.script.conf.info.lane ≤ 1024)
-lane_granted w file b is = subst (λ (c : Conf). (0 < c.info.lane) × (c.info.lane ≤ 1024)) (sym (settings w file b is)) (omega arith, omega arith)
-
-pub pool_granted : (w : Workload) (file : List ℕ) (b : Bound) → b ≡ bound_of w file → (0 < b.script.conf.info.pool) × (b.script.conf.info.pool ≤ 1024)
-pool_granted w file b is = subst (λ (c : Conf). (0 < c.info.pool) × (c.info.pool ≤ 1024)) (sym (settings w file b is)) (omega arith, omega arith)
-
 few_peers : (w : Workload) → IsWithin w → (0 < peers_of w) × (peers_of w ≤ 64)
 few_peers (Pingpong size count) within = (omega arith, omega arith)
 few_peers (Bandwidth size count window) within = (omega arith, omega arith)
 few_peers (Generated number peers messages) within = (omega (arith, within.1), omega (arith, within.2))
 
-pub peers_granted : (w : Workload) (file : List ℕ) (b : Bound) → IsWithin w → b ≡ bound_of w file → (0 < b.script.conf.peers) × (b.script.conf.peers ≤ 64)
-peers_granted w file b within is = subst (λ (c : Conf). (0 < c.peers) × (c.peers ≤ 64)) (sym (settings w file b is)) (few_peers w within)
+pub sized : (w : Workload) (file : List ℕ) (b : Bound) → IsWithin w → b ≡ bound_of w file → IsSized b.script.conf
+sized w file b within is = sized_by b.script.conf (peers_of w) (settings w file b is) (few_peers w within)
 
 -- wherever a run of it comes to rest, all lines are done
 pub always_done : NoneIsStuck → (w : Workload) (file : List ℕ) (b : Bound) (done : Bool) → IsWithin w → b ≡ bound_of w file → ComesToRest b done → done ≡ true

@@ -3,6 +3,7 @@ ghost use Rattle.std.specs.Prelude.{◌≡◌, ◌≢◌, ◌<◌, ◌≤◌, �
 ghost use Rattle.std.specs.Io.KnownBytes.{append_known};
 ghost use Rattle.std.specs.List.{All};
 ghost use Rattle.fab_finish.specs.Joined.{start};
+ghost use Rattle.fab_phases.specs.Phases.{IsSized};
 ghost use Rattle.fab_base.specs.declared.caps.Api.TheVariants.{Two};
 ghost use Rattle.fab_base.specs.declared.status.Status.TheVariants.{Done, Stuck, Usage, ScriptRefused, TooLong, ReadFault, WriteFault};
 ghost use Rattle.fab_base.specs.declared.status.Why.{Why};
@@ -56,11 +57,8 @@ fn run_over<C: Machinery + Drop + Send, G: Gate, R: Threads + Wait + Sync>(
     gate: &G,
 ) -> Result<Ran, NoMemory>
     requires count { length machines.items ≡ bound.now.script.conf.peers }
-    requires log { 4 ≤ bound.now.script.conf.info.log }
+    requires sized { IsSized bound.now.script.conf }
     requires start { All (λ m. C.held m ≡ start bound.now.script.conf) machines.items }
-    requires peers { (0 < bound.now.script.conf.peers) × (bound.now.script.conf.peers ≤ 64) }
-    requires lane { (0 < bound.now.script.conf.info.lane) × (bound.now.script.conf.info.lane ≤ 1024) }
-    requires pool { (0 < bound.now.script.conf.info.pool) × (bound.now.script.conf.info.pool ≤ 1024) }
     ensures { IfOk result (λ ran. Reports bound.now (string_bytes ran.text) ran.done) }
 {
     let runners = ready_bound(alloc, bound, machines, Buffers::AsWanted)?;
@@ -80,10 +78,7 @@ fn run_script<G: Gate, R: Threads + Wait + Sync>(
     gate: &G,
 ) -> Result<Ran, NoMemory>
     requires cq { 2 ≤ bound.now.script.conf.info.cq }
-    requires log { 4 ≤ bound.now.script.conf.info.log }
-    requires peers { (0 < bound.now.script.conf.peers) × (bound.now.script.conf.peers ≤ 64) }
-    requires lane { (0 < bound.now.script.conf.info.lane) × (bound.now.script.conf.info.lane ≤ 1024) }
-    requires pool { (0 < bound.now.script.conf.info.pool) × (bound.now.script.conf.info.pool ≤ 1024) }
+    requires sized { IsSized bound.now.script.conf }
     ensures { IfOk result (λ ran. Reports bound.now (string_bytes ran.text) ran.done) }
 {
     let machines = machines(alloc, &bound.script.conf)?;
@@ -110,11 +105,8 @@ fn time_over<M: Machinery + Drop + Send, C: Clock, G: Gate, R: Threads + Wait + 
     gate: &G,
 ) -> Result<Timed, NoMemory>
     requires count { length machines.items ≡ bound.now.script.conf.peers }
-    requires log { 4 ≤ bound.now.script.conf.info.log }
+    requires sized { IsSized bound.now.script.conf }
     requires start { All (λ m. M.held m ≡ start bound.now.script.conf) machines.items }
-    requires peers { (0 < bound.now.script.conf.peers) × (bound.now.script.conf.peers ≤ 64) }
-    requires lane { (0 < bound.now.script.conf.info.lane) × (bound.now.script.conf.info.lane ≤ 1024) }
-    requires pool { (0 < bound.now.script.conf.info.pool) × (bound.now.script.conf.info.pool ≤ 1024) }
     requires new { C.given clock.old ≡ 0 }
     ensures rests { IfOk result (λ timed. ComesToRest bound.now timed.done) }
     ensures moments { IfOk result (λ timed. (C.given clock.new ≡ 2) × (C.first clock.new ≡ timed.before) × (C.last clock.new ≡ timed.after)) }
@@ -140,10 +132,7 @@ fn time_script<C: Clock, G: Gate, R: Threads + Wait + Sync>(
     gate: &G,
 ) -> Result<Timed, NoMemory>
     requires cq { 2 ≤ bound.now.script.conf.info.cq }
-    requires log { 4 ≤ bound.now.script.conf.info.log }
-    requires peers { (0 < bound.now.script.conf.peers) × (bound.now.script.conf.peers ≤ 64) }
-    requires lane { (0 < bound.now.script.conf.info.lane) × (bound.now.script.conf.info.lane ≤ 1024) }
-    requires pool { (0 < bound.now.script.conf.info.pool) × (bound.now.script.conf.info.pool ≤ 1024) }
+    requires sized { IsSized bound.now.script.conf }
     requires new { C.given clock.old ≡ 0 }
     ensures rests { IfOk result (λ timed. ComesToRest bound.now timed.done) }
     ensures moments { IfOk result (λ timed. (C.given clock.new ≡ 2) × (C.first clock.new ≡ timed.before) × (C.last clock.new ≡ timed.after)) }

@@ -1,7 +1,7 @@
 use Rattle.std.proofs.Common.{List, ap, length, subst, sym, ◌∙◌}
 use Rattle.fab_finish.specs.Joined.{Member, actors}
 use Rattle.fab_coll_laws.specs.Laws.{FoldsIn}
-use Rattle.fab_coll_run.proofs.Rounds.{as_many, folds_at_rest, lane_granted, log_enough, peers_granted, pool_granted}
+use Rattle.fab_coll_run.proofs.Rounds.{as_many, folds_at_rest, sized}
 use Rattle.fab_coll_run.proofs.running.run_over.Goals as goal
 
 pub coll_text-requires-clause-count : goal.coll_text-requires-clause-count
@@ -18,20 +18,8 @@ coll_text-requires-clause-folds g c =
     let folds = folds_at_rest s.peers s.rounds c.args.bound.now c.requires.plan c.law_rounds_done.ensures.folds c.requires.within peers e.reached e.rest in
     subst (λ (ps : List Member). FoldsIn s.peers s.rounds (actors ps)) (sym c.deref.ensures.value) folds
 
-pub ready_bound-requires-clause-log : goal.ready_bound-requires-clause-log
-ready_bound-requires-clause-log g c = log_enough c.args.script.now.peers c.args.script.now.rounds c.args.bound.now c.requires.plan
+pub ready_bound-requires-clause-sized : goal.ready_bound-requires-clause-sized
+ready_bound-requires-clause-sized g c = sized c.args.script.now.peers c.args.script.now.rounds c.args.bound.now c.requires.plan c.requires.within
 
-pub ready_bound-requires-clause-peers : goal.ready_bound-requires-clause-peers
-ready_bound-requires-clause-peers g c = peers_granted c.args.script.now.peers c.args.script.now.rounds c.args.bound.now c.requires.plan c.requires.within
-
-pub ready_bound-requires-clause-lane : goal.ready_bound-requires-clause-lane
-ready_bound-requires-clause-lane g c = lane_granted c.args.script.now.peers c.args.script.now.rounds c.args.bound.now c.requires.plan
-
-pub ready_bound-requires-clause-pool : goal.ready_bound-requires-clause-pool
-ready_bound-requires-clause-pool g c = pool_granted c.args.script.now.peers c.args.script.now.rounds c.args.bound.now c.requires.plan
-
-pub run_ready-requires-clause-log : goal.run_ready-requires-clause-log
-run_ready-requires-clause-log g c κs live = log_enough c.args.script.now.peers c.args.script.now.rounds c.args.bound.now c.requires.plan
-
-pub run_ready-requires-clause-peers : goal.run_ready-requires-clause-peers
-run_ready-requires-clause-peers g c κs live = (peers_granted c.args.script.now.peers c.args.script.now.rounds c.args.bound.now c.requires.plan c.requires.within).1
+pub run_ready-requires-clause-sized : goal.run_ready-requires-clause-sized
+run_ready-requires-clause-sized g c κs live = sized c.args.script.now.peers c.args.script.now.rounds c.args.bound.now c.requires.plan c.requires.within
