@@ -92,13 +92,24 @@ fn costs_between<R: Clock, E: Calls + Drop>(
     }
 }
 
-/// What the calls of two new endpoints cost in one thread, in so many batches.
-pub fn costs<R: Clock>(rt: &R, alloc: Global, len: usize, runs: u64) -> io::Result<Option<Costs>> {
-    let Ok(Domain { mut endpoints, .. }) = open(alloc, &wishes()) else {
-        return Ok(None);
-    };
+/// What the calls of the last two of these endpoints cost in one thread, in so many batches.
+fn costs_of_last<R: Clock, E: Calls + Drop>(
+    rt: &R,
+    alloc: Global,
+    mut endpoints: Vec<EndpointOver<E>>,
+    len: usize,
+    runs: u64,
+) -> io::Result<Option<Costs>> {
     match (endpoints.pop(), endpoints.pop()) {
         (Some(one), Some(zero)) => costs_between(rt, alloc, zero, one, len, runs),
         _ => Ok(None),
+    }
+}
+
+/// What the calls of two new endpoints cost in one thread, in so many batches.
+pub fn costs<R: Clock>(rt: &R, alloc: Global, len: usize, runs: u64) -> io::Result<Option<Costs>> {
+    match open(alloc, &wishes()) {
+        Ok(Domain { endpoints, .. }) => costs_of_last(rt, alloc, endpoints, len, runs),
+        Err(_) => Ok(None),
     }
 }
