@@ -9,5 +9,4 @@
 mod numbers;
 mod ranges;
 
-pub use numbers::element_size;
 pub use ranges::apply;

@@ -7,20 +7,6 @@ ghost use Rattle.fab_atomics.specs.Operands.{number_at};
 use byteorder::{ByteOrder, LittleEndian};
 use fab_base::{AtomicOp, Num};
 
-/// How many bytes an element of this type has.
-pub fn element_size(num: Num) -> usize
-    ensures size { result ≡ element_size num }
-    ensures low { 1 ≤ result }
-    ensures high { result ≤ 8 }
-{
-    match num {
-        Num::I8 | Num::U8 => 1,
-        Num::I16 | Num::U16 => 2,
-        Num::I32 | Num::U32 => 4,
-        Num::I64 | Num::U64 => 8,
-    }
-}
-
 /// The greatest number that an element holds: a one in each of its bits.
 fn ones(num: Num) -> u64
     ensures { result + 1 ≡ span num }

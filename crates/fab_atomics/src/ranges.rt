@@ -5,7 +5,7 @@ ghost use Rattle.fab_base.specs.Elements.{element_size};
 ghost use Rattle.fab_model.specs.Target.{span, element, elements, bytes_of};
 ghost use Rattle.fab_atomics.specs.Operands.{operand_len, compare_len, atom, number_at, element_at};
 
-use crate::numbers::{element, element_size, number_at, put_number};
+use crate::numbers::{element, number_at, put_number};
 use fab_base::{AtomicOp, Num};
 
 /// Changes the element that stands at this place, by the operand's `b` and the compare's `c`.
@@ -47,7 +47,7 @@ pub fn apply(
     ensures old { results.new ≡ target.old }
 {
     results.copy_from_slice(target);
-    let size = element_size(num);
+    let size = num.element_size();
     for i in 0..target.len() / size {
         let at = i * size;
         let b = number_at(operand, at, num);

@@ -1,4 +1,7 @@
 //! Items: what one peer sends to another as a whole (fi_msg(3), fi_tagged(3), fi_rma(3), fi_atomic(3)).
+ghost use Rattle.std.specs.Prelude.{◌≡◌, ◌≤◌};
+ghost use Rattle.fab_base.specs.Elements.{element_size, is_of_form};
+
 use crate::buffers::Buf;
 
 /// What an item is: a message, a request to the target's memory, or the reply to either.
@@ -60,6 +63,34 @@ pub enum AtomicOp {
     Mswap,
 }
 
+impl AtomicOp {
+    /// Whether the operation may be asked for in this form (fi_atomic(3)).
+    pub fn is_of_form(self, form: Form) -> bool
+        ensures { result ≡ is_of_form self form }
+    {
+        match self {
+            AtomicOp::AtomicRead => match form {
+                Form::Fetch => true,
+                Form::Base | Form::Compare => false,
+            },
+            AtomicOp::Cswap
+            | AtomicOp::CswapNe
+            | AtomicOp::CswapLe
+            | AtomicOp::CswapLt
+            | AtomicOp::CswapGe
+            | AtomicOp::CswapGt
+            | AtomicOp::Mswap => match form {
+                Form::Compare => true,
+                Form::Base | Form::Fetch => false,
+            },
+            _ => match form {
+                Form::Compare => false,
+                Form::Base | Form::Fetch => true,
+            },
+        }
+    }
+}
+
 /// The type of an element: an integer of 8 to 64 bits, signed or not.
 #[derive(Clone, Copy, Drop, Eq, PartialEq)]
 pub enum Num {
@@ -71,6 +102,22 @@ pub enum Num {
     U16,
     U32,
     U64,
+}
+
+impl Num {
+    /// How many bytes an element of this type has.
+    pub fn element_size(self) -> usize
+        ensures size { result ≡ element_size self }
+        ensures low { 1 ≤ result }
+        ensures high { result ≤ 8 }
+    {
+        match self {
+            Num::I8 | Num::U8 => 1,
+            Num::I16 | Num::U16 => 2,
+            Num::I32 | Num::U32 => 4,
+            Num::I64 | Num::U64 => 8,
+        }
+    }
 }
 
 /// The form of an atomic: without a result, with the old elements as its result, or comparing first.

@@ -22,7 +22,7 @@ mod script;
 mod status;
 
 pub use buffers::{Buf, List, Text};
-pub use caps::{Api, Cap, Caps, Hints, Info};
+pub use caps::{Api, CAPS, Cap, Caps, Hints, Info};
 pub use entries::{Class, Entry, ErrEntry, ErrKind, Kept, PeekHow, Taken};
 pub use faults::{Busy, Fault, NoMemory, Refused};
 pub use frames::{Frame, FrameHead, FrameRef};

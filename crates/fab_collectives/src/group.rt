@@ -4,7 +4,6 @@ ghost use Rattle.fab_fold.specs.declared.coll.Coll.TheVariants.{Barrier, Broadca
 
 use crate::collective::{Collective, Work};
 use fab_app::endpoint::{Calls, Endpoint};
-use fab_atomics::element_size;
 use fab_base::{AtomicOp, Buf, Fault, Num, Refused};
 use fab_fold::{Coll, MOST_SHARE, is_reducing};
 use std::alloc::Global;
@@ -61,7 +60,7 @@ impl Group {
         let is_right = match coll {
             Coll::Barrier | Coll::Allgather => true,
             Coll::Broadcast { root } => root < self.peers,
-            Coll::Allreduce { op, num } => is_reducing(op) && len % element_size(num) == 0,
+            Coll::Allreduce { op, num } => is_reducing(op) && len % num.element_size() == 0,
         };
         if is_right { None } else { Some(Fault::Invalid) }
     }

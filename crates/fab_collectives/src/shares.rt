@@ -3,7 +3,6 @@ ghost use Rattle.std.specs.Prelude.{◌≡◌, IsTrue, IfOk, take};
 ghost use Rattle.fab_fold.specs.Shares.{AreAlike, AreReceived, needs, outcome_of};
 ghost use Rattle.fab_collectives.specs.Places.{place_of, sources_of};
 
-use fab_atomics::element_size;
 use fab_base::{Buf, Fault};
 use fab_fold::{Coll, is_reducing, outcome};
 use std::alloc::Global;
@@ -70,7 +69,7 @@ pub(crate) fn belong(coll: Coll, rank: u32, own: &[u8], received: &[Buf]) -> boo
         Coll::Allreduce { op, num } => {
             rank as usize <= received.len()
                 && is_reducing(op)
-                && own.len() % element_size(num) == 0
+                && own.len() % num.element_size() == 0
                 && are_alike(own.len(), received)
         }
     }

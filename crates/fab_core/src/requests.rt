@@ -11,7 +11,6 @@ ghost use Rattle.fab_core.specs.Asking.{accepted_as};
 ghost use Rattle.fab_core.specs.Doing.{lasting_transmit};
 
 use crate::parts::Core;
-use fab_atomics::element_size;
 use fab_base::{
     Ack, Atom, AtomicOp, Buf, Caps, Fault, Form, INJECT_BYTES, ItemHead, Kind, Level, Num, Outcome,
 };
@@ -88,32 +87,6 @@ fn is_too_long(most: u32, request: &Request, bytes: &[u8], compared: &[u8]) -> b
     bytes.len().saturating_add(compared.len()) > most || request.count > most
 }
 
-/// Whether the operation may be asked for in this form.
-fn is_of_form(op: AtomicOp, form: Form) -> bool
-    ensures { result ≡ is_of_form op form }
-{
-    match op {
-        AtomicOp::AtomicRead => match form {
-            Form::Fetch => true,
-            Form::Base | Form::Compare => false,
-        },
-        AtomicOp::Cswap
-        | AtomicOp::CswapNe
-        | AtomicOp::CswapLe
-        | AtomicOp::CswapLt
-        | AtomicOp::CswapGe
-        | AtomicOp::CswapGt
-        | AtomicOp::Mswap => match form {
-            Form::Compare => true,
-            Form::Base | Form::Fetch => false,
-        },
-        _ => match form {
-            Form::Compare => false,
-            Form::Base | Form::Fetch => true,
-        },
-    }
-}
-
 /// Whether a request is of whole elements, and has the bytes that its operation needs.
 fn is_well_formed(request: &Request, bytes: &[u8], compared: &[u8]) -> bool
     ensures { result ≡ is_well_formed (order_asked request.now bytes.now compared.now None) (atom_asked request.now.asked) }
@@ -121,7 +94,7 @@ fn is_well_formed(request: &Request, bytes: &[u8], compared: &[u8]) -> bool
     let Asked::Atomic(atom) = request.asked else {
         return true;
     };
-    let size = element_size(atom.num);
+    let size = atom.num.element_size();
     let operand = match atom.op {
         AtomicOp::AtomicRead => 0,
         _ => request.count,
@@ -132,7 +105,7 @@ fn is_well_formed(request: &Request, bytes: &[u8], compared: &[u8]) -> bool
     };
     request.at % size as u64 == 0
         && request.count % size == 0
-        && is_of_form(atom.op, atom.form)
+        && atom.op.is_of_form(atom.form)
         && bytes.len() == operand
         && compared.len() == compare
 }

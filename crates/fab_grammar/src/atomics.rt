@@ -143,18 +143,6 @@ fn is_signed(num: Num) -> bool
     matches!(num, Num::I8 | Num::I16 | Num::I32 | Num::I64)
 }
 
-/// How many bytes an element has.
-pub fn element_size(num: Num) -> u32
-    ensures { result ≡ element_size num }
-{
-    match num {
-        Num::I8 | Num::U8 => 1,
-        Num::I16 | Num::U16 => 2,
-        Num::I32 | Num::U32 => 4,
-        Num::I64 | Num::U64 => 8,
-    }
-}
-
 /// The element that a word says, in two's complement where it is negative.
 #[tactic(auto, unfolding(crate::specs::Atomics::value_of))]
 fn value_of(num: Num, word: &[u8]) -> Option<u64>
@@ -197,7 +185,7 @@ fn negated(num: Num, value: u64) -> u64
 }
 
 /// Adds so many bytes of a number, the lowest first.
-fn push_bytes(bytes: &mut Vec<u8>, count: u32, value: u64) -> Result<(), NoMemory>
+fn push_bytes(bytes: &mut Vec<u8>, count: usize, value: u64) -> Result<(), NoMemory>
     ensures { IfOk result (λ _. bytes.new.items ≡ bytes.old.items ++ le_bytes count value) }
 {
     let mut rest = value;
@@ -213,7 +201,7 @@ fn push_bytes(bytes: &mut Vec<u8>, count: u32, value: u64) -> Result<(), NoMemor
 fn push_element(bytes: &mut Vec<u8>, num: Num, value: u64) -> Result<(), NoMemory>
     ensures { IfOk result (λ _. bytes.new.items ≡ bytes.old.items ++ element num value) }
 {
-    push_bytes(bytes, element_size(num), value)
+    push_bytes(bytes, num.element_size(), value)
 }
 
 /// The elements whose numbers the commas join.

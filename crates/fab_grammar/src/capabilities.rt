@@ -3,28 +3,8 @@ ghost use Rattle.std.specs.Prelude.{◌≡◌};
 ghost use Rattle.fab_model.specs.Negotiation.{no_hints};
 ghost use Rattle.fab_grammar.specs.Capabilities.{cap_name, cap_named, caps_of};
 
-use fab_base::{Cap, Caps};
+use fab_base::{CAPS, Cap, Caps};
 use fab_words::{Misread, Read, first_part, is};
-
-/// All capabilities.
-pub const CAPS: [Cap; 16] = [
-    Cap::Msg,
-    Cap::Tagged,
-    Cap::Rma,
-    Cap::Atomic,
-    Cap::DirectedRecv,
-    Cap::Send,
-    Cap::Recv,
-    Cap::Read,
-    Cap::Write,
-    Cap::RemoteRead,
-    Cap::RemoteWrite,
-    Cap::MultiRecv,
-    Cap::Source,
-    Cap::RmaEvent,
-    Cap::Fence,
-    Cap::LocalComm,
-];
 
 /// The capability as it is written (fi_getinfo(3)).
 pub fn cap_name(cap: Cap) -> &'static str
@@ -63,7 +43,7 @@ fn named(word: &[u8]) -> Option<Cap>
 pub fn read_caps(word: &[u8]) -> Read<Caps>
     ensures { result ≡ caps_of word.now }
 {
-    let mut caps = none();
+    let mut caps = no_caps();
     let mut list = word;
     loop {
         let (name, rest) = first_part(list, b',');
@@ -76,25 +56,8 @@ pub fn read_caps(word: &[u8]) -> Read<Caps>
 }
 
 /// No capability.
-pub(crate) fn none() -> Caps
+pub fn no_caps() -> Caps
     ensures { result ≡ no_hints.caps }
 {
-    Caps {
-        msg: false,
-        tagged: false,
-        rma: false,
-        atomic: false,
-        directed_recv: false,
-        send: false,
-        recv: false,
-        read: false,
-        write: false,
-        remote_read: false,
-        remote_write: false,
-        multi_recv: false,
-        source: false,
-        rma_event: false,
-        fence: false,
-        local_comm: false,
-    }
+    Caps::none()
 }

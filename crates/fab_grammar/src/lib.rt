@@ -18,10 +18,8 @@ mod settings;
 mod verbs;
 mod versions;
 
-pub use atomics::{
-    atom_name, atom_named, element_size, greatest, num_name, num_named, read_elements,
-};
-pub use capabilities::{CAPS, cap_name, read_caps};
+pub use atomics::{atom_name, atom_named, greatest, num_name, num_named, read_elements};
+pub use capabilities::{cap_name, no_caps, read_caps};
 pub use items::Item;
 pub use lines::{class_name, read_op};
 pub use options::{Allowed, Optional, Options};

@@ -2,7 +2,7 @@
 ghost use Rattle.std.specs.Prelude.{◌≡◌, IfOk, Ok};
 ghost use Rattle.fab_grammar.specs.Settings.{between, size_of, caps_setting, selective_setting, payload_setting, setting_of, peer_of, no_settings, is_made, wishing, asked_caps, asking, hints_of, wish_of};
 
-use crate::capabilities::{none, read_caps};
+use crate::capabilities::{no_caps, read_caps};
 use crate::verbs::Verb;
 use fab_base::{Api, Caps, Hints, Limits, NoMemory, Payload, Size};
 use fab_words::{Misread, Read, Words, both, read_number, read_text};
@@ -103,7 +103,7 @@ fn asked_caps(caps: Option<Caps>) -> Caps
 {
     match caps {
         Some(caps) => caps,
-        None => none(),
+        None => no_caps(),
     }
 }
 

@@ -18,10 +18,6 @@ use Rattle.fab_base.specs.declared.limits.Size.TheVariants.{Peers, Lane, Pool, T
 use Rattle.fab_model.specs.Negotiation.{all_caps, has_any, grants, grants_of, caps_of, is_not_offered, wish, size_of, wish_is_refused, is_refused, granted_info}
 use Rattle.fab_info.specs.Negotiation.{wish_in, number, Includes, IsWithin, IsOutside, CannotBeHad}
 
--- a set is what it says of each capability
-pub caps_of_has : (caps : Caps) (member : Cap → Bool) → ((cap : Cap) → has caps cap ≡ member cap) → caps ≡ caps_of member
-caps_of_has caps member h = rw (← h Msg, ← h Tagged, ← h Rma, ← h Atomic, ← h DirectedRecv, ← h Send, ← h Recv, ← h Read, ← h Write, ← h RemoteRead, ← h RemoteWrite, ← h MultiRecv, ← h Source, ← h RmaEvent, ← h Fence, ← h LocalComm)
-
 -- ---- capabilities
 
 -- a test that holds of a capability holds of one of all

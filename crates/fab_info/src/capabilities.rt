@@ -4,26 +4,7 @@ ghost use Rattle.std.specs.List.{list_any};
 ghost use Rattle.fab_base.specs.Offer.{is_offered};
 ghost use Rattle.fab_model.specs.Negotiation.{all_caps, has_any, modifier, grants, grants_of, caps_of, is_not_offered};
 
-use fab_base::{Api, Cap, Caps};
-
-const ALL: [Cap; 16] = [
-    Cap::Msg,
-    Cap::Tagged,
-    Cap::Rma,
-    Cap::Atomic,
-    Cap::DirectedRecv,
-    Cap::Send,
-    Cap::Recv,
-    Cap::Read,
-    Cap::Write,
-    Cap::RemoteRead,
-    Cap::RemoteWrite,
-    Cap::MultiRecv,
-    Cap::Source,
-    Cap::RmaEvent,
-    Cap::Fence,
-    Cap::LocalComm,
-];
+use fab_base::{Api, CAPS, Cap, Caps};
 
 /// What is modified, and by which modifiers: of messages, and of remote memory access and atomics.
 const MESSAGES: [Cap; 2] = [Cap::Msg, Cap::Tagged];
@@ -52,7 +33,7 @@ fn modifies(asked: &Caps, modified: &[Cap], modifiers: &[Cap], cap: Cap) -> bool
 pub(crate) fn is_refused(api: Api, asked: &Caps) -> bool
     ensures { result ≡ list_any (is_not_offered api asked.now) all_caps }
 {
-    ALL.iter()
+    CAPS.iter()
         .any(|cap| asked.has(*cap) && !cap.is_offered(api))
 }
 
@@ -104,7 +85,7 @@ fn share(api: Api, asked: &Caps) -> Caps
 pub(crate) fn granted(api: Api, asked: &Caps) -> Caps
     ensures { result ≡ caps_of (grants api asked.now) }
 {
-    if has_any(asked, &ALL) {
+    if has_any(asked, &CAPS) {
         share(api, asked)
     } else {
         offer(api)

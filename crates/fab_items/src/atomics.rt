@@ -5,7 +5,6 @@ ghost use Rattle.fab_base.specs.declared.items.AtomicOp.TheVariants.{Mswap};
 ghost use Rattle.fab_model.specs.Target.{is_signed, span, rank, below, element, elements, number_of, bytes_of};
 
 use crate::lists::split;
-use crate::orders::element_size;
 use fab_base::{Atom, AtomicOp, Buf, NoMemory, Num};
 use std::alloc::Global;
 
@@ -134,7 +133,7 @@ fn push_element(
 ) -> Result<(), NoMemory>
     ensures { OnOk result (out.new.items ≡ out.old.items ++ new_bytes atom ts.now bs.now cs.now) }
 {
-    let size = element_size(atom.num);
+    let size = atom.num.element_size();
     let t = number_of(split(ts, size).0)?;
     let b = number_of(split(bs, size).0)?;
     let c = number_of(split(cs, size).0)?;
@@ -151,7 +150,7 @@ pub fn elements(
 ) -> Result<Buf, NoMemory>
     ensures { IfOk result (λ b. b ≡ elements (length old.now) atom old.now operand.now compares.now) }
 {
-    let size = element_size(atom.num);
+    let size = atom.num.element_size();
     let mut out = Vec::new(alloc);
     let (mut ts, mut bs, mut cs) = (old, operand, compares);
     for _element in 0..old.len() {

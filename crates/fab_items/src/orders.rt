@@ -33,46 +33,6 @@ pub struct Order {
     pub buf: Option<Buf>,
 }
 
-/// How many bytes an element has.
-pub fn element_size(num: Num) -> usize
-    ensures size { result ≡ element_size num }
-    ensures low { 1 ≤ result }
-    ensures high { result ≤ 8 }
-{
-    match num {
-        Num::I8 | Num::U8 => 1,
-        Num::I16 | Num::U16 => 2,
-        Num::I32 | Num::U32 => 4,
-        Num::I64 | Num::U64 => 8,
-    }
-}
-
-/// Whether the operation may be asked for in this form.
-pub fn is_of_form(op: AtomicOp, form: Form) -> bool
-    ensures { result ≡ is_of_form op form }
-{
-    match op {
-        AtomicOp::AtomicRead => match form {
-            Form::Fetch => true,
-            Form::Base | Form::Compare => false,
-        },
-        AtomicOp::Cswap
-        | AtomicOp::CswapNe
-        | AtomicOp::CswapLe
-        | AtomicOp::CswapLt
-        | AtomicOp::CswapGe
-        | AtomicOp::CswapGt
-        | AtomicOp::Mswap => match form {
-            Form::Compare => true,
-            Form::Base | Form::Fetch => false,
-        },
-        _ => match form {
-            Form::Compare => false,
-            Form::Base | Form::Fetch => true,
-        },
-    }
-}
-
 /// Whether the capabilities that an atomic needs besides FI_ATOMIC are granted.
 pub fn atom_is_granted(caps: &Caps, atom: Option<Atom>) -> bool
     ensures { result ≡ atom_is_granted caps.now atom }
@@ -138,7 +98,7 @@ impl Order {
         let Some(atom) = self.atom else {
             return true;
         };
-        let size = element_size(atom.num) as u64;
+        let size = atom.num.element_size() as u64;
         let operand = match atom.op {
             AtomicOp::AtomicRead => 0,
             _ => self.count,
@@ -149,7 +109,7 @@ impl Order {
         };
         self.at % size == 0
             && self.count % size == 0
-            && is_of_form(atom.op, atom.form)
+            && atom.op.is_of_form(atom.form)
             && self.bytes.as_slice().len() as u64 == operand
             && self.compared.as_slice().len() as u64 == compared
     }

@@ -25,3 +25,4 @@ pub mod Letting
 pub mod Refusals
 pub mod refused
 pub mod rows
+pub mod Members

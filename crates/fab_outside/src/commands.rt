@@ -1,10 +1,9 @@
 //! What the words of a command ask for.
 ghost use Rattle.std.specs.Prelude.{◌≡◌, option_map};
-ghost use Rattle.fab_model.specs.Negotiation.{no_hints};
 ghost use Rattle.fab_outside.specs.Commands.{script_file, replay_files, info_caps, caps_in};
 
 use fab_base::{Caps, Text};
-use fab_grammar::read_caps;
+use fab_grammar::{no_caps, read_caps};
 
 /// The file whose script is to be run, where the words are `script FILE`.
 pub fn script_file(words: &[Text]) -> Option<&Text>
@@ -34,12 +33,6 @@ pub fn info_caps(words: &[Text]) -> Option<Caps>
         return None;
     }
     caps_in(words[1].as_str())
-}
-
-fn no_caps() -> Caps
-    ensures { result ≡ no_hints.caps }
-{
-    Caps::none()
 }
 
 /// `-` asks for none; else the commas join those that are asked for.

@@ -9,8 +9,8 @@ ghost use Rattle.fab_model.specs.Words.{line_of, text_of};
 ghost use Rattle.fab_outside.specs.Info.{bytes_line, cap_names, caps_line, info_lines, info_text, offer, sizes_line};
 ghost use Rattle.fab_report.specs.Texts.{after_blanks};
 
-use fab_base::{Api, Caps, Info, NoMemory};
-use fab_grammar::{CAPS, asking, cap_name};
+use fab_base::{Api, CAPS, Caps, Info, NoMemory};
+use fab_grammar::{asking, cap_name};
 use fab_info::getinfo;
 use std::alloc::Global;
 

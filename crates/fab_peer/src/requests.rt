@@ -6,7 +6,6 @@ ghost use Rattle.fab_model.specs.Calls.{fetched, word_bytes};
 
 use crate::calls::LineCalls;
 use crate::peer::{Outcome, Peer, either, why_of};
-use fab_atomics::element_size;
 use fab_base::{AtomicOp, Buf, Flags, Level, LineOp, NoMemory, Num};
 
 /// How many bytes a fetch asks for: as many as its operand has, or those of so many elements where it has none.
@@ -15,7 +14,7 @@ fn fetched(num: Num, values: &Buf, count: u32) -> u64
 {
     let len = values.as_slice().len();
     if len == 0 {
-        return count as u64 * element_size(num) as u64;
+        return count as u64 * num.element_size() as u64;
     }
     len as u64
 }

@@ -1,5 +1,5 @@
 //! Peers that are made ready, and both phases, one after the other.
-ghost use Rattle.std.specs.Prelude.{◌≡◌, List, length, map, true, IfOk};
+ghost use Rattle.std.specs.Prelude.{◌≡◌, ◌≤◌, List, length, map, true, IfOk};
 ghost use Rattle.std.specs.List.{All};
 ghost use Rattle.fab_base.specs.declared.script.Line.{Line};
 ghost use Rattle.fab_model.specs.Orders.{Reached};
@@ -65,7 +65,8 @@ pub fn run_phases<C: Machinery + Drop + Send, G: Gate, R: Threads + Wait + Sync>
     mut runners: Vec<Runner<RingPort, C>>,
     gate: &G,
 ) -> Result<Vec<Peer<Endpoint<PlainPort, C>>>, NoMemory>
-    requires sized { IsSized conf.now }
+    requires log { 4 ≤ conf.now.info.log }
+    requires peers { conf.now.peers ≤ 64 }
     requires ready { (lists : List (List Line)) × AreReady conf.now lists (map (λ r. past_at r.peer) runners.items) (map (λ r. r.peer.endpoint.port) runners.items) }
     ensures reached { IfOk result (λ peers. (lists : List (List Line)) → AreReady conf.now lists (map (λ r. past_at r.peer) runners.items) (map (λ r. r.peer.endpoint.port) runners.items) → Reached (rule fabric) (opened conf.now lists) (schedules peers.items) (actors peers.items)) }
     ensures rest { IfOk result (λ peers. at_rest (actors peers.items) ≡ true) }

@@ -1,5 +1,5 @@
 //! The run of a bound script.
-ghost use Rattle.std.specs.Prelude.{◌≡◌, length, map, true, IfOk};
+ghost use Rattle.std.specs.Prelude.{◌≡◌, ◌≤◌, length, map, true, IfOk};
 ghost use Rattle.std.specs.List.{All};
 ghost use Rattle.fab_model.specs.Calls.{upto};
 ghost use Rattle.fab_model.specs.Orders.{Reached};
@@ -61,7 +61,8 @@ pub fn run_ready<C: Machinery + Drop + Send, G: Gate, R: Threads + Wait + Sync>(
     runners: Vec<Runner<RingPort, C>>,
     gate: &G,
 ) -> Result<Vec<Peer<Endpoint<PlainPort, C>>>, NoMemory>
-    requires sized { IsSized bound.now.script.conf }
+    requires log { 4 ≤ bound.now.script.conf.info.log }
+    requires peers { bound.now.script.conf.peers ≤ 64 }
     requires ready { AreReady bound.now.script.conf (map (lines_of bound.now) (upto bound.now.script.conf.peers)) (map (λ r. past_at r.peer) runners.items) (map (λ r. r.peer.endpoint.port) runners.items) }
     ensures reached { IfOk result (λ peers. Reached (rule fabric) (opening bound.now) (schedules peers.items) (actors peers.items)) }
     ensures rest { IfOk result (λ peers. at_rest (actors peers.items) ≡ true) }

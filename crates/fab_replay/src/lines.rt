@@ -12,7 +12,7 @@ use fab_base::{
     Text,
 };
 use fab_items::lists::split;
-use fab_items::orders::{Order, element_size};
+use fab_items::orders::Order;
 use fab_reference::calls::Call;
 use fab_reference::receiving::Posting;
 use std::alloc::Global;
@@ -436,7 +436,7 @@ fn fetched(num: Num, values: &Buf, count: u32) -> u64
 {
     let len = values.as_slice().len();
     if len == 0 {
-        return u64::from(count) * element_size(num) as u64;
+        return u64::from(count) * num.element_size() as u64;
     }
     len as u64
 }

@@ -15,9 +15,10 @@ use std::sync::Arc;
 /// The bytes behind each list of a port that nobody uses. Ports are made by one thread, so their lists lie side by side, and each is
 /// written by a thread of its own: on a cache line that two of them share, each write of the one makes the other wait.
 const APART: usize = 128;
-/// As many commands, and heads of frames, have those bytes.
+/// So many commands have those bytes.
 const COMMANDS_APART: usize = 1;
 
+/// So many heads of frames have those bytes.
 const HEADS_APART: usize = 2;
 
 /// So many zeros.

@@ -9,7 +9,7 @@
 ghost use Rattle.std.specs.Prelude.{◌≡◌};
 ghost use Rattle.fab_atomics.specs.Operands.{operand_len, compare_len};
 
-use fab_atomics::{apply, element_size};
+use fab_atomics::apply;
 use fab_base::{AtomicOp, Num};
 use std::process::Abort;
 use std::test::Fail;
@@ -264,7 +264,7 @@ fn compare_len(op: AtomicOp, len: usize) -> usize
 
 /// One element: the new one, and the old one that is handed back.
 fn one(op: AtomicOp, num: Num, t: u64, b: u64, c: u64) -> (u64, u64) {
-    let size = element_size(num);
+    let size = num.element_size();
     let mut target = t.to_le_bytes();
     let mut old = [0; 8];
     let operand = b.to_le_bytes();
@@ -383,7 +383,7 @@ fn is_applied(
     old: &mut [u8],
 ) -> bool {
     let len = target.len();
-    if len % element_size(num) != 0
+    if len % num.element_size() != 0
         || operand.len() != operand_len(op, len)
         || compare.len() != compare_len(op, len)
         || old.len() != len

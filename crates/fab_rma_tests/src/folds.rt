@@ -1,7 +1,6 @@
 //! What a rank of three makes of a round of collectives. Expected bytes were computed by hand.
 ghost use Rattle.std.specs.Prelude.{◌≡◌, [], ◌∷◌, IfOk};
 
-use fab_atomics::element_size;
 use fab_base::{AtomicOp, Buf, NoMemory, Num};
 use fab_fold::{Coll, is_reducing, outcome};
 use std::alloc::Global;
@@ -32,7 +31,7 @@ fn made(
     }
     match coll {
         Coll::Barrier | Coll::Allgather => outcome(alloc, coll, rank, own, &received).ok(),
-        Coll::Allreduce { op, num } if is_reducing(op) && own.len() % element_size(num) == 0 => {
+        Coll::Allreduce { op, num } if is_reducing(op) && own.len() % num.element_size() == 0 => {
             outcome(alloc, coll, rank, own, &received).ok()
         }
         Coll::Allreduce { .. } | Coll::Broadcast { .. } => None,

@@ -8,8 +8,8 @@ ghost use Rattle.fab_grammar.specs.declared.settings.Setting.{Setting};
 ghost use Rattle.fab_grammar.specs.Verbs.{name_of};
 ghost use Rattle.fab_spell.specs.Headings.{caps_word, size_verb, setting_row};
 
-use fab_base::{Caps, NoMemory, Payload, Size};
-use fab_grammar::{CAPS, Verb, cap_name};
+use fab_base::{CAPS, Caps, NoMemory, Payload, Size};
+use fab_grammar::{Verb, cap_name};
 
 /// How many peers there are.
 pub fn add_peers(out: &mut String, peers: u32) -> Result<(), NoMemory>

@@ -4,7 +4,7 @@ ghost use Rattle.fab_model.specs.Target.{number_of, span};
 ghost use Rattle.fab_spell.specs.Elements.{value_word, values_word};
 
 use fab_base::{NoMemory, Num};
-use fab_grammar::{element_size, greatest};
+use fab_grammar::greatest;
 
 /// The number that these bytes say, the lowest first.
 fn number_of(bytes: &[u8]) -> u64
@@ -39,7 +39,7 @@ fn add_value(out: &mut String, num: Num, value: u64) -> Result<(), NoMemory>
 pub fn add_values(out: &mut String, num: Num, values: &[u8]) -> Result<(), NoMemory>
     ensures { OnOk result (string_bytes out.new ≡ string_bytes out.old ++ values_word num values.now) }
 {
-    let size = element_size(num) as usize;
+    let size = num.element_size();
     let mut separator = "";
     let mut rest = values;
     while rest.len() >= size {

@@ -13,8 +13,7 @@ ghost use Rattle.fab_spell.specs.Print.{IsSame, asked, header_row, hints_for, it
 
 use crate::lines::add_line;
 use crate::settings::{add_caps_line, add_payload, add_peers, add_selective, add_size};
-use fab_base::{Cap, Caps, Conf, Hints, Line, NoMemory, Payload, Script, Size, Text};
-use fab_grammar::CAPS;
+use fab_base::{CAPS, Cap, Caps, Conf, Hints, Line, NoMemory, Payload, Script, Size, Text};
 use std::alloc::Global;
 
 /// The text of a script. Of a script that a text gave it gives a text that gives the same script, up to the numbers

@@ -21,5 +21,8 @@ coll_text-requires-clause-folds g c =
 pub ready_bound-requires-clause-sized : goal.ready_bound-requires-clause-sized
 ready_bound-requires-clause-sized g c = sized c.args.script.now.peers c.args.script.now.rounds c.args.bound.now c.requires.plan c.requires.within
 
-pub run_ready-requires-clause-sized : goal.run_ready-requires-clause-sized
-run_ready-requires-clause-sized g c κs live = sized c.args.script.now.peers c.args.script.now.rounds c.args.bound.now c.requires.plan c.requires.within
+pub run_ready-requires-clause-log : goal.run_ready-requires-clause-log
+run_ready-requires-clause-log g c κs live = (sized c.args.script.now.peers c.args.script.now.rounds c.args.bound.now c.requires.plan c.requires.within).log
+
+pub run_ready-requires-clause-peers : goal.run_ready-requires-clause-peers
+run_ready-requires-clause-peers g c κs live = (sized c.args.script.now.peers c.args.script.now.rounds c.args.bound.now c.requires.plan c.requires.within).peers.1

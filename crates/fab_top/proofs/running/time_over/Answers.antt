@@ -26,3 +26,9 @@ returns-clause-moments g c =
     let first : given c.now-before.new.self ≡ 1 = (let up = rises _ _ (omega (arith, none)) before.given in omega (arith, up, none)) in
     let second : given c.now-after.new.self ≡ 2 = (let up = rises _ _ (omega (arith, first)) after.given in omega (arith, up, first)) in
     (second, after.later (omega (arith, first)) ∙ before.first none, after.last)
+
+pub run_ready-requires-clause-log : goal.run_ready-requires-clause-log
+run_ready-requires-clause-log g c κs live = c.requires.sized.log
+
+pub run_ready-requires-clause-peers : goal.run_ready-requires-clause-peers
+run_ready-requires-clause-peers g c κs live = c.requires.sized.peers.1

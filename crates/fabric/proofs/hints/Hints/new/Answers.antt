@@ -1,5 +1,5 @@
 use Rattle.std.proofs.Common.{false}
-use Rattle.fab_info.proofs.Granting.{caps_of_has}
+use Rattle.fab_model.proofs.Members.{caps_of_has}
 use Rattle.fabric.proofs.hints.Hints.new.Goals as goal
 
 pub returns : goal.returns
