@@ -1,1 +1,1 @@
-pub mod Wrong
+pub mod Errors

@@ -2,8 +2,8 @@
 ghost use Rattle.std.specs.Prelude.{◌≡◌};
 
 use crate::errors::{Error, Failed};
-use crate::tags::{ANY_SOURCE, ANY_TAG, tag_of};
 use fabric::{Buf, Entry, ErrEntry, Polled};
+use mini_mpi_parts::{ANY_SOURCE, ANY_TAG, tag_of};
 
 /// An operation that was begun (MPI_Request), to be waited for in the world that began it.
 #[derive(Drop)]
@@ -27,12 +27,8 @@ pub struct Completed {
     pub status: Status,
 }
 
-/// An operation that ended, and is not yet waited for.
-#[derive(Drop)]
-pub(crate) struct Ended {
-    pub(crate) id: u64,
-    pub(crate) end: Result<Completed, Failed>,
-}
+/// How an operation ended that is not yet waited for.
+pub(crate) type Ended = mini_mpi_parts::Ended<Result<Completed, Failed>>;
 
 /// The status of a send.
 const EMPTY: Status = Status {

@@ -1,7 +1,9 @@
 //! Why a call of MPI fails, by MPI's names.
 ghost use Rattle.std.specs.Prelude.{◌≡◌, Some};
+ghost use Rattle.mini_mpi.specs.Errors.{error_of};
 
 use fabric::{Buf, ErrKind, Fault, NoMemory, Refused};
+use mini_mpi_parts::Wrong;
 use std::alloc::{AllocError, AllocFailed};
 
 /// Why a call failed.
@@ -102,6 +104,16 @@ impl From<Failed> for Error {
 impl From<Error> for Failed {
     fn from(why: Error) -> Failed {
         Failed { why, buf: None }
+    }
+}
+
+/// What is wrong, by MPI's name.
+pub(crate) fn error_of(wrong: Wrong) -> Error
+    ensures { result ≡ error_of wrong }
+{
+    match wrong {
+        Wrong::Rank => Error::Rank,
+        Wrong::Tag => Error::Tag,
     }
 }
 

@@ -16,11 +16,10 @@
 mod collectives;
 mod ended;
 mod errors;
-mod tags;
 mod world;
 
 pub use ended::{Completed, Request, Status};
 pub use errors::{Error, Failed};
 pub use fabric::{AtomicOp, Buf, Calls, EndpointOver, Hints, NoMemory, Num, open};
-pub use tags::{ANY_SOURCE, ANY_TAG, TAG_UB};
+pub use mini_mpi_parts::{ANY_SOURCE, ANY_TAG, TAG_UB};
 pub use world::World;

@@ -1,11 +1,12 @@
 //! A rank, and its messages to and from single ranks.
-ghost use Rattle.std.specs.Prelude.{◌≡◌, ◌<◌, ◌^◌, Some, Err, Contains, IfSome, IfNone};
-ghost use Rattle.mini_mpi.specs.Wrong.{wrong_with};
+ghost use Rattle.std.specs.Prelude.{◌≡◌, ◌<◌, ◌^◌, Some, Err, IfSome};
+ghost use Rattle.mini_mpi.specs.Errors.{error_of};
+ghost use Rattle.mini_mpi_parts.specs.Tags.{wrong_with};
 
 use crate::ended::{Completed, Ended, Request, Status, ended_by};
-use crate::errors::{Error, Failed, later};
-use crate::tags::{tag_of, wanted, wrong_with};
+use crate::errors::{Error, Failed, error_of, later};
 use fabric::{Buf, COLLECTIVE, Calls, Collective, EndpointOver, Flags, Group, Level};
+use mini_mpi_parts::{tag_of, take_ended, wanted, wrong_with};
 use std::alloc::Global;
 use std::sync::Wait;
 
@@ -98,16 +99,6 @@ impl<E: Calls + Drop> World<E> {
         Ok(())
     }
 
-    /// How the request ended, if it did. No other request's end is given for it.
-    fn take_ended(&mut self, id: u64) -> Option<Ended>
-        ensures own { IfSome result (λ ended. ended.id ≡ id) }
-        ensures was { IfSome result (λ ended. Contains self.old.ended.items ended) }
-        ensures none { IfNone result (self.new ≡ self.old) }
-    {
-        let at = self.ended.iter().position(|ended| ended.id == id)?;
-        Some(self.ended.remove(at))
-    }
-
     /// One try at a send. The buffer is back where it is to be tried again.
     fn try_send(
         &mut self,
@@ -150,10 +141,10 @@ impl<E: Calls + Drop> World<E> {
         buf: Buf,
         level: Level,
     ) -> Result<Request, Failed>
-        ensures { IfSome (wrong_with self.old.group.peers (Some dest) (Some tag)) (λ why. result ≡ Err (record { why = why; buf = Some buf })) }
+        ensures { IfSome (wrong_with self.old.group.peers (Some dest) (Some tag)) (λ wrong. result ≡ Err (record { why = error_of wrong; buf = Some buf })) }
     {
-        if let Some(why) = wrong_with(self.size(), Some(dest), Some(tag)) {
-            return Err(Failed::with(why, buf));
+        if let Some(wrong) = wrong_with(self.size(), Some(dest), Some(tag)) {
+            return Err(Failed::with(error_of(wrong), buf));
         }
         let id = self.fresh();
         let mut buf = buf;
@@ -177,7 +168,7 @@ impl<E: Calls + Drop> World<E> {
         tag: u32,
         buf: Buf,
     ) -> Result<Request, Failed>
-        ensures { IfSome (wrong_with self.old.group.peers (Some dest) (Some tag)) (λ why. result ≡ Err (record { why = why; buf = Some buf })) }
+        ensures { IfSome (wrong_with self.old.group.peers (Some dest) (Some tag)) (λ wrong. result ≡ Err (record { why = error_of wrong; buf = Some buf })) }
     {
         self.begin_send(rt, dest, tag, buf, Level::Transmit)
     }
@@ -201,10 +192,10 @@ impl<E: Calls + Drop> World<E> {
         tag: Option<u32>,
         buf: Buf,
     ) -> Result<Request, Failed>
-        ensures { IfSome (wrong_with self.old.group.peers source tag) (λ why. result ≡ Err (record { why = why; buf = Some buf })) }
+        ensures { IfSome (wrong_with self.old.group.peers source tag) (λ wrong. result ≡ Err (record { why = error_of wrong; buf = Some buf })) }
     {
-        if let Some(why) = wrong_with(self.size(), source, tag) {
-            return Err(Failed::with(why, buf));
+        if let Some(wrong) = wrong_with(self.size(), source, tag) {
+            return Err(Failed::with(error_of(wrong), buf));
         }
         let id = self.fresh();
         let mut buf = buf;
@@ -223,7 +214,7 @@ impl<E: Calls + Drop> World<E> {
     pub fn wait<R: Wait>(&mut self, rt: &R, request: Request) -> Result<Completed, Failed> {
         let Request { id } = request;
         for _ in rt.forever() {
-            if let Some(ended) = self.take_ended(id) {
+            if let Some(ended) = take_ended(&mut self.ended, id) {
                 return ended.end;
             }
             self.progress(PATIENCE)?;
@@ -252,8 +243,8 @@ impl<E: Calls + Drop> World<E> {
         source: Option<u32>,
         tag: Option<u32>,
     ) -> Result<Option<Status>, Error> {
-        if let Some(why) = wrong_with(self.size(), source, tag) {
-            return Err(why);
+        if let Some(wrong) = wrong_with(self.size(), source, tag) {
+            return Err(error_of(wrong));
         }
         self.progress(0)?;
         let (bits, ignore) = wanted(tag);
