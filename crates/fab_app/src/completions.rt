@@ -100,7 +100,9 @@ fn is_settled(polled: &Result<Polled, NoMemory>) -> bool
 
 impl<E: Calls + Drop> Endpoint<E> {
     /// Makes progress with at most `budget` frames, and takes the first completion, if there is one (fi_cq_read and
-    /// fi_cq_readerr). Where there is none it tells whether to call again at once.
+    /// fi_cq_readerr). Where there is none it tells whether to call again at once. With a budget of 0 no frame moves, buffers for
+    /// many get the messages that are due, and `More` is told where there is no completion. At `NoMemory` no completion is taken,
+    /// and what moved stays moved.
     pub fn poll(&mut self, budget: u32) -> Result<Polled, NoMemory>
         ensures { Polls E.fixed budget (cleared (E.seen self.old)) (E.seen self.new) result }
     {
@@ -113,7 +115,8 @@ impl<E: Calls + Drop> Endpoint<E> {
 
     /// Takes the first completions, at most so many, and appends them (fi_cq_read with a count). It makes no progress, which
     /// fi_cq_read does: call `progress` before it. It ends before the first error or where none is left: `poll` tells which.
-    /// Want of memory leaves all as it was, and none is wanted where the vector has room.
+    /// Want of memory leaves all as it was, and none is wanted where the vector has room for `most` more. That room is made first,
+    /// however few there are: there are never more than `Info.cq`.
     pub fn cq_take(&mut self, most: u32, into: &mut Vec<Entry>) -> Result<(), NoMemory>
         ensures took { IfOk result (λ _. (entries : List EntryValue) × (into.new.items ≡ into.old.items ++ entries) × TakesMost most entries (E.seen self.old) (E.seen self.new)) }
         ensures err { OnErr result ((into.new.items ≡ into.old.items) × (E.seen self.new ≡ E.seen self.old)) }
@@ -143,8 +146,8 @@ impl<E: Calls + Drop> Endpoint<E> {
     }
 
     /// Waits for a completion, an error among them, at most so many turns (fi_cq_sread(3)). A turn polls until there is
-    /// one, `spins` times and once more, with a pause of the processor between; behind each turn other threads run, and
-    /// behind the last one more poll is made. With no turns it is a poll.
+    /// one, `spins` times and once more, each of at most 64 frames, with a pause of the processor between; behind each turn other
+    /// threads run, and behind the last one more poll is made. With no turns it is a poll.
     ///
     /// Few spins leave the processor to other threads, where there are more of them than processors. Many bring a
     /// completion sooner, where each has its own: to yield takes longer than a poll.

@@ -21,7 +21,7 @@ impl<E: Calls + Drop> Endpoint<E> {
         self.inner.reg(key, access, buf)
     }
 
-    /// Closes a region and hands its bytes back (fi_close of fi_mr(3)).
+    /// Closes a region and hands its bytes back (fi_close of fi_mr(3)). `NoKey` where there is none.
     pub fn close_region(&mut self, key: u64) -> Result<Buf, Fault>
         ensures ok { IfOk result (λ buf. Locally (Close key) (Bytes buf) (E.seen self.old) (E.seen self.new)) }
         ensures err { IfErr result (λ why. Locally (Close key) (Answer why) (E.seen self.old) (E.seen self.new)) }
@@ -29,14 +29,15 @@ impl<E: Calls + Drop> Endpoint<E> {
         self.inner.close_region(key)
     }
 
-    /// Lends the bytes of a region.
+    /// Lends the bytes of a region. `None` where there is none.
     pub fn region_bytes(&self, key: u64) -> Option<&[u8]>
         ensures { option_map (λ b. b.now) result ≡ option_map (λ r. r.bytes) (region_of (E.seen self.now).held.state key) }
     {
         self.inner.region_bytes(key)
     }
 
-    /// Writes into a region of one's own.
+    /// Writes into a region of one's own, from the byte `at` on. `NoKey` where there is none, `Range` where the bytes would end
+    /// behind its end; nothing is written then.
     pub fn put(&mut self, key: u64, at: u64, src: &[u8]) -> Result<(), Fault>
         ensures ok { OnOk result (Locally (Put key at src.now) Done (E.seen self.old) (E.seen self.new)) }
         ensures err { IfErr result (λ why. Locally (Put key at src.now) (Answer why) (E.seen self.old) (E.seen self.new)) }

@@ -1,4 +1,9 @@
 //! Messages that go out (fi_msg(3), fi_tagged(3)).
+//!
+//! A call is refused by the first of these that applies: `NotSupported` where a capability was not granted, `MsgSize` where there
+//! are more than `Info.message` bytes, or more than `Info.inject` of an inject call, `Invalid` where no address stands at index
+//! `dest`, `Again(TxFull)` where `Info.tx` operations are under way. A refused call changes nothing of what it was asked for, and
+//! may have posted what waited before it.
 ghost use Rattle.std.specs.Prelude.{◌≡◌, Some, None, true, false, OnOk, IfErr};
 ghost use Rattle.fab_base.specs.declared.items.Kind.TheVariants.{Msg, TagMsg};
 ghost use Rattle.fab_base.specs.declared.peers.Level.TheVariants.{Inject};
@@ -18,7 +23,9 @@ pub const COMPLETES: Flags = Flags {
 
 impl<E: Calls + Drop> Endpoint<E> {
     /// Sends an untagged message (fi_send, and fi_senddata where `imm` is given) to the peer that stands at index `dest`
-    /// of the address vector. The buffer moves in, and comes back in the completion (`Entry::Sent`) or in the refusal.
+    /// of the address vector. The buffer moves in, and comes back in the completion (`Entry::Sent`) or in the refusal. Of an
+    /// endpoint with selective completion, and without `flags.completion`, it is dropped when the operation ends, and does not
+    /// come back.
     pub fn send(
         &mut self,
         dest: u32,

@@ -36,7 +36,8 @@ fn next_of(moved: Result<Moved, NoMemory>) -> Result<Next, NoMemory>
 }
 
 impl<E: Calls + Drop> Endpoint<E> {
-    /// Moves at most `budget` frames, and tells whether it is worth another call. `poll` reads besides.
+    /// Moves at most `budget` frames, and tells whether it is worth another call. `poll` reads besides. With a budget of 0 no frame
+    /// moves, buffers for many get the messages that are due, and `More` is told. At `NoMemory` what moved stays moved.
     pub fn progress(&mut self, budget: u32) -> Result<Next, NoMemory>
         ensures { Moves E.fixed budget (cleared (E.seen self.old)) (E.seen self.new) result }
     {
@@ -74,8 +75,9 @@ impl<E: Calls + Drop> Endpoint<E> {
         self.deferred() == 0 && self.awaiting() == 0
     }
 
-    /// Makes progress until no operation is under way, at most so many times, lets other threads run between, and tells
-    /// whether none is. Where the completion queue is full it has to be read before more can end.
+    /// Makes progress, of at most 64 frames a time, until no operation is under way, at most so many times, lets other threads run
+    /// between, and tells whether none is. Where the completion queue is full it has to be read before more can end. At `NoMemory`
+    /// what moved stays moved.
     pub fn flush(&mut self, times: u32) -> Result<bool, NoMemory>
         ensures moved { Progresses (E.seen self.old) (E.seen self.new) }
         ensures done { IfOk result (λ done. done ≡ is_flushed (E.seen self.new).held.state) }

@@ -39,9 +39,10 @@ impl<E: Calls + Drop> Endpoint<E> {
         self.inner.cntr_reached(class, n)
     }
 
-    /// Makes progress until so many operations of the class succeeded, at most so many times, lets other threads run
-    /// between, and tells whether they did (fi_cntr_wait). An operation that fails does not end it, as fi_cntr(3) has it: look at
-    /// `cntr_readerr`. Where the completion queue is full it has to be read before more can end.
+    /// Makes progress, of at most 64 frames a time, until so many operations of the class succeeded, at most so many times, lets
+    /// other threads run between, and tells whether they did. Other than fi_cntr_wait it is not ended by an operation that fails:
+    /// look at `cntr_readerr`. Where the completion queue is full it has to be read before more can end. At `NoMemory` what moved
+    /// stays moved.
     pub fn cntr_wait(&mut self, class: Class, n: u64, times: u32) -> Result<bool, NoMemory>
         ensures moved { Progresses (E.seen self.old) (E.seen self.new) }
         ensures done { IfOk result (λ done. done ≡ nat_le n (tally_of (E.seen self.new).held.state.counters class).ok) }
@@ -63,7 +64,7 @@ impl<E: Calls + Drop> Endpoint<E> {
         self.inner.cntr_add(class, n);
     }
 
-    /// Inserts names into the address vector (fi_av_insert), each at the next index, and not at the lowest unused one. A name whose
+    /// Inserts names, fewer than 2^32, into the address vector (fi_av_insert), each at the next index, and not at the lowest unused one. A name whose
     /// peer stands there gives the index that it has. One that names no peer gives none, as does each new one once 4,096
     /// indices were given. Want of memory leaves the vector as it was.
     pub fn insert(&mut self, names: &[Text]) -> Result<InsertReport, NoMemory>
@@ -74,7 +75,7 @@ impl<E: Calls + Drop> Endpoint<E> {
         self.inner.insert(names)
     }
 
-    /// Removes an address (fi_av_remove). What was accepted before is not touched.
+    /// Removes an address (fi_av_remove). What was accepted before is not touched. `NoEntry` where no address stands there.
     pub fn remove(&mut self, index: u32) -> Result<(), Fault>
         ensures ok { OnOk result (Locally (Remove index) Done (E.seen self.old) (E.seen self.new)) }
         ensures err { IfErr result (λ why. Locally (Remove index) (Answer why) (E.seen self.old) (E.seen self.new)) }

@@ -5,6 +5,13 @@
 //!
 //! A buffer moves in with the call, and comes back in the completion, in the error or in the refusal. It stays with the
 //! endpoint until then, and is dropped with it.
+//!
+//! A call is refused by the first of these that applies: `NotSupported` where a capability was not granted; `MsgSize` where the
+//! buffer has more than `Info.message` bytes; `Invalid` where no address stands at index `source`, if it counts, where `least` is 0
+//! or above the buffer's length, or where a message is claimed under the context already; `NoEntry` where nothing is claimed under
+//! the context, or nothing is there to be cancelled; `Again(CqFull)` where an entry has no room that the call would write, or that
+//! has to come before it: of a message for a buffer for many; `Again(PostedFull)` where `Info.rx` receives are posted. A refused
+//! call changes nothing of what it was asked for, and may have given buffers for many the messages that were due.
 ghost use Rattle.std.specs.Prelude.{◌≡◌, Some, None, true, false, OnOk, IfErr, IfSome, IfNone};
 ghost use Rattle.fab_base.specs.declared.entries.PeekHow.TheVariants.{Peek, Claim, Discard};
 ghost use Rattle.fab_model.specs.Calls.{TakeClaimed, DropClaimed, Cancel, CancelFirst, Look};

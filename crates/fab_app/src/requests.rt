@@ -1,4 +1,10 @@
-//! Reads, writes and atomics on regions of a peer (fi_rma(3), fi_atomic(3)).
+//! Reads, writes and atomics on regions of a peer (fi_rma(3), fi_atomic(3)). `at` counts bytes from the region's start.
+//!
+//! A call is refused by the first of these that applies: `NotSupported` where a capability was not granted, `MsgSize` where there
+//! are more than `Info.message` bytes, or more than `Info.inject` that are copied, operand and compare together, or that an atomic
+//! brings back, `Invalid` where no address stands at index `dest`, or where an atomic is not of whole elements or has a form that
+//! its operation has not, `Again(TxFull)` where `Info.tx` operations are under way. A refused call changes nothing of what it was
+//! asked for, and may have posted what waited before it. What the peer refuses comes as an error: `NoKey`, `Access`, `Range`.
 ghost use Rattle.std.specs.Prelude.{◌≡◌, [], length, Some, None, true, false, OnOk, IfErr};
 ghost use Rattle.fab_base.specs.declared.items.Kind.TheVariants.{ReadReq, WriteReq};
 ghost use Rattle.fab_base.specs.declared.items.Form.TheVariants.{Base, Fetch, Compare};
@@ -23,7 +29,9 @@ impl<E: Calls + Drop> Endpoint<E> {
     }
 
     /// Writes the buffer into a region of the peer (fi_write, and fi_writedata where `imm` is given). The buffer comes back
-    /// in `Entry::Wrote`, in the error, or in the refusal. It ends once the peer has answered, whatever level the flags name.
+    /// in `Entry::Wrote`, in the error, or in the refusal; of an endpoint with selective completion, and without
+    /// `flags.completion`, it is dropped where the write succeeds. It ends once the peer has answered, whatever level the flags
+    /// name.
     pub fn write(
         &mut self,
         dest: u32,
@@ -87,7 +95,8 @@ impl<E: Calls + Drop> Endpoint<E> {
     }
 
     /// Changes elements of a region of the peer and gets the old ones (fi_fetch_atomic), which come in `Entry::Fetched`.
-    /// The region gives both rights. The operand of `AtomicOp::AtomicRead` has no bytes, and it needs `remote_read` alone.
+    /// The region gives both rights. `result_` has as many bytes as the operand. That of `AtomicOp::AtomicRead` has none: there
+    /// `result_` says how many are read, and the region gives `remote_read`.
     pub fn fetch_atomic(
         &mut self,
         dest: u32,
@@ -110,7 +119,7 @@ impl<E: Calls + Drop> Endpoint<E> {
     }
 
     /// Changes elements of a region of the peer that compare as asked, and gets the old ones (fi_compare_atomic).
-    /// The region gives both rights. Operand and compare have at most 4,096 bytes together.
+    /// The region gives both rights. Operand, compare and `result_` have as many bytes each, so at most 2,048.
     pub fn compare_atomic(
         &mut self,
         dest: u32,

@@ -86,8 +86,8 @@ impl<E: Calls + Drop> Endpoint<E> {
         self.send_once(message, buf)
     }
 
-    /// `send`, again after progress where it is refused for now, at most `times` times, and other threads run between. The
-    /// buffer comes back at the end.
+    /// `send`, again after progress where it is refused for now, at most `times` times, and other threads run between. Where the
+    /// completion queue is full it has to be read first. A refusal hands the buffer back. That progress lacked memory is not told.
     pub fn send_within(
         &mut self,
         times: u32,
@@ -111,8 +111,7 @@ impl<E: Calls + Drop> Endpoint<E> {
         self.send_on(times, message, buf)
     }
 
-    /// `tsend`, again after progress where it is refused for now, at most `times` times, and other threads run between. The
-    /// buffer comes back at the end.
+    /// `tsend`, again after progress where it is refused for now, as `send_within`.
     pub fn tsend_within(
         &mut self,
         times: u32,
@@ -157,7 +156,7 @@ impl<E: Calls + Drop> Endpoint<E> {
 
     /// `recv`, again after progress where it is refused for now, at most `times` times, and other threads run between: a
     /// message that comes for a posted receive makes room for one more. Where the completion queue is full it has to be
-    /// read first. The buffer comes back at the end.
+    /// read first. A refusal hands the buffer back. That progress lacked memory is not told.
     pub fn recv_within(
         &mut self,
         times: u32,

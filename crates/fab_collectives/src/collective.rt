@@ -185,6 +185,13 @@ fn brought(polled: Polled) -> Option<Share>
 }
 
 impl Collective {
+    /// The context of its receives and the tag of its messages.
+    pub fn context(&self) -> u64
+        ensures { result ≡ self.now.work.tag }
+    {
+        self.work.tag
+    }
+
     /// Begins it. Nothing is posted or sent before it is driven.
     pub(crate) fn begin(alloc: Global, work: Work, own: Buf) -> Result<Collective, Refused>
         ensures begun { IfOk result (λ begun. (begun.work ≡ work) × (begun.own ≡ own)) }
@@ -214,7 +221,10 @@ impl Collective {
     /// what `outcome` of `fab_fold` makes of the own share and of those that came, in order of ranks. It makes no progress, and what it
     /// gives it gives each time that it is asked.
     ///
-    /// `MsgSize` where the shares don't have one length. After an error it is not to be driven on.
+    /// `MsgSize` where a share is longer than the own one, where one of an allgather or an allreduce is shorter, or where one of the
+    /// receives was cancelled; a shorter share of a broadcast's root is given as it is. `NotSupported` where FI_TAGGED with
+    /// FI_SEND and FI_RECV was not granted, `Invalid` where a rank does not stand at the index of its number, `NoMemory`. After
+    /// an error it is not to be driven on; its receives stay posted under `context`.
     pub fn drive<E: Calls + Drop>(
         &mut self,
         endpoint: &mut Endpoint<E>,

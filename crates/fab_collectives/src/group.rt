@@ -9,8 +9,9 @@ use fab_fold::{Coll, MOST_SHARE, is_reducing};
 use std::alloc::Global;
 
 /// The least tag and the least context of collectives, 2^63. An application that does collectives sends no message with a
-/// tag from here on, ignores this bit of a tag in no receive, and makes no call under a context from here on. So no
-/// receive of its own takes a message of a collective.
+/// tag from here on, ignores this bit of a tag in no receive, claim or discard, makes no call under a context from here on, and
+/// does not call `cancel_first` while a collective is under way. So nothing of its own takes a message of a collective, and it
+/// cancels none of a collective's receives.
 pub const COLLECTIVE: u64 = 0x8000_0000_0000_0000;
 
 /// A rank of a domain, and how many collectives it began. All ranks begin the same collectives in the same order

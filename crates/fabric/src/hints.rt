@@ -79,7 +79,7 @@ impl Hints {
         hints
     }
 
-    /// For so many peers.
+    /// For so many peers: 1 to 32, in the second version to 64; 32 without a wish.
     pub fn peers(self, peers: u32) -> Hints
         ensures { result ≡ record self { wishes = record (self.wishes) { peers = Some peers } } }
     {
@@ -88,7 +88,7 @@ impl Hints {
         hints
     }
 
-    /// With so many frames in each lane.
+    /// With so many frames in each lane: 1 to 1,024; 64 without a wish.
     pub fn lane(self, frames: u32) -> Hints
         ensures { result ≡ record self { wishes = record (self.wishes) { lane = Some frames } } }
     {
@@ -97,16 +97,16 @@ impl Hints {
         hints
     }
 
-    /// With so many buffers in the pool of each peer.
-    pub fn pool(self, buffers: u32) -> Hints
-        ensures { result ≡ record self { wishes = record (self.wishes) { pool = Some buffers } } }
+    /// With so many slots of 4,096 bytes in the pool of each peer: 1 to 1,024; 32 without a wish.
+    pub fn pool(self, slots: u32) -> Hints
+        ensures { result ≡ record self { wishes = record (self.wishes) { pool = Some slots } } }
     {
         let mut hints = self;
-        hints.wishes.pool = Some(buffers);
+        hints.wishes.pool = Some(slots);
         hints
     }
 
-    /// With so many transmit operations under way.
+    /// With so many transmit operations under way: 1 to 1,024; 64 without a wish.
     pub fn tx(self, operations: u32) -> Hints
         ensures { result ≡ record self { wishes = record (self.wishes) { tx = Some operations } } }
     {
@@ -115,7 +115,7 @@ impl Hints {
         hints
     }
 
-    /// With so many posted receives.
+    /// With so many posted receives: 1 to 4,096; 256 without a wish.
     pub fn rx(self, receives: u32) -> Hints
         ensures { result ≡ record self { wishes = record (self.wishes) { rx = Some receives } } }
     {
@@ -124,7 +124,7 @@ impl Hints {
         hints
     }
 
-    /// With so many entries in the completion queue.
+    /// With so many entries in the completion queue: 2 to 65,536; 1,024 without a wish.
     pub fn cq(self, entries: u32) -> Hints
         ensures { result ≡ record self { wishes = record (self.wishes) { cq = Some entries } } }
     {

@@ -11,7 +11,8 @@
 //! ```
 //!
 //! No call waits for another thread, and nothing moves unless a call is made: `poll` moves frames and gives the next
-//! completion. A buffer moves in with a call and comes back with its completion, its error or its refusal.
+//! completion. A buffer moves in with a call and comes back with its completion, its error or its refusal; only that of an operation
+//! that succeeds without a completion, as was asked for, is dropped.
 #![tactic(auto)]
 
 mod hints;
@@ -22,10 +23,10 @@ pub use fab_app::endpoint::{Calls, Endpoint as EndpointOver};
 pub use fab_app::messages::COMPLETES;
 pub use fab_app::moving::Next;
 pub use fab_app::trying::again;
-pub use fab_av::InsertReport;
+pub use fab_av::{Av, InsertReport};
 pub use fab_base::{
     Access, Api, AtomicOp, Buf, Busy, Cap, Caps, Class, Entry, ErrEntry, ErrKind, Fault, Flags,
-    Info, Level, NoMemory, Num, PeekHow, Refused, Text,
+    Info, Level, Limits, List, NoMemory, Num, PeekHow, Refused, Size, Text,
 };
 pub use fab_collectives::{COLLECTIVE, Collective, Group, MOST_SHARE, is_reducing};
 pub use fab_face::probing::Probed;

@@ -39,7 +39,8 @@ impl Domain {
 /// fi_av_insert, fi_cq_open, fi_ep_bind, fi_enable). Each has all peers in its address vector, each at the index of its
 /// number.
 ///
-/// `NoData` exactly where something asked for can't be had; else it may answer `NoMemory`.
+/// `NoData` exactly where something asked for can't be had; else it may answer `NoMemory`. (`Invalid`, which the clause leaves open,
+/// does not come: what is granted is within its limits.)
 pub fn open(alloc: Global, hints: &Hints) -> Result<Domain, Fault>
     ensures granted { IfOk result (λ domain. granted_to hints.now ≡ Some domain.info) }
     ensures opened { IfOk result (λ domain. AreOpened domain.info hints.now.selective domain.endpoints.items) }
@@ -52,7 +53,7 @@ pub fn open(alloc: Global, hints: &Hints) -> Result<Domain, Fault>
 }
 
 /// Closes an endpoint (fi_close of fi_endpoint(3)). Its addresses and its regions come back. Buffers of unfinished
-/// operations and unread completions are dropped.
+/// operations and unread completions are dropped, and what is not transmitted is lost: `flush` before.
 pub fn close(endpoint: Endpoint) -> Closed
     ensures port { result.port ≡ port_of endpoint }
     ensures av { result.av.indices ≡ endpoint.held.state.av }

@@ -184,7 +184,7 @@ impl<E: Calls + Drop> World<E> {
     /// `ANY_TAG`. Receives take messages in the order in which they were begun, and messages of one source in the order in
     /// which they were sent.
     ///
-    /// A call that is refused for now makes progress and tries again. `Rank` and `Tag` hand the buffer back.
+    /// A call that is refused for now makes progress and tries again. `Rank`, `Tag` and `Count` hand the buffer back.
     pub fn irecv<R: Wait>(
         &mut self,
         rt: &R,
