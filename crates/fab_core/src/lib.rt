@@ -2,7 +2,7 @@
 //!
 //! [`Core`] is the [`Machine`](fab_face::machine::Machine) under an endpoint. A call is judged here and done
 //! by the half that it belongs to. No half calls another: what a half hands out is written, counted and
-//! booked here (`handing`, `ending`).
+//! booked by `fab_ends`.
 //!
 //! | file | what it does |
 //! |---|---|
@@ -10,16 +10,14 @@
 //! | `sending` | messages are judged and accepted |
 //! | `receives` | receives are posted and cancelled |
 //! | `taking` | frames come in |
-//! | `ending` | operations end |
 //! | `requests` | reads, writes and atomics are judged and accepted |
-//! | `serving` | requests of other peers are performed |
-//! | `handing` | replies are booked |
 //! | `looks` | unexpected messages are looked at and set aside, claimed ones taken and dropped |
+//! | `probing` | the first unexpected message, told at once |
 //! | `draws` | multi-receives take unexpected messages |
 //! | `multis` | multi-receives are judged and posted, and bytes of them lent |
-//! | `members`, `places` | those whose end was not read, and where their buffers are |
 //! | `keeping` | counters and addresses |
 //! | `machine`, `looking`, `receiving` | all of it as the endpoint's machine |
+//! | `callers` | to which call a completion belongs, for contracts |
 //! | `targets` | the regions, as their owner calls them |
 #![tactic(auto)]
 
