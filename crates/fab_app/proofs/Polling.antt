@@ -7,7 +7,7 @@ use Rattle.fab_face.specs.declared.events.Stop.{Stop}
 use Rattle.fab_face.specs.declared.events.Stop.TheVariants.{Idle as StoppedIdle, Budget, CqFull, LogFull}
 use Rattle.fab_face.specs.Held.{Seen, IsOpen}
 use Rattle.fab_face.specs.Acts.{is_take, is_post, events}
-use Rattle.fab_face.specs.Answers.{IsHeldBack, IsShort, Progressed}
+use Rattle.fab_face.specs.Answers.{IsHeldBack, IsShort, MayLack, Progressed}
 use Rattle.fab_face.proofs.Holding.{never_held, none_unread}
 use Rattle.fab_app.specs.declared.completions.Polled.{Polled}
 use Rattle.fab_app.specs.declared.completions.Polled.TheVariants.{Entry, Error, Idle, More}
@@ -36,11 +36,11 @@ module _ {Home : Type 0} where
   by_stop : (fixed : Bool) (budget : ℕ) (old mid new : Seen Home) (moved : Moved) → IsOpen old → IsOpen mid → old.log ≡ [] → (p : Progressed fixed budget old mid (Ok moved)) → HasNone mid new
       → (stop : Stop) → moved.stop ≡ stop → PollsAs budget old mid new p.acts (Ok moved) (Ok (told_of stop))
   by_stop fixed budget old mid new moved opened sound none p has StoppedIdle stop = (has, (rw stop at p.counted.3))
-  by_stop fixed budget old mid new moved opened sound none p has Budget stop = (has, λ some. moved_some fixed budget old mid moved some p stop)
+  by_stop fixed budget old mid new moved opened sound none p has Budget stop = (has, ap (λ s. Ok (told_of s)) (sym stop), λ some. moved_some fixed budget old mid moved some p stop)
   by_stop fixed budget old mid new moved opened sound none p has CqFull stop =
       let back : IsHeldBack old mid = (rw stop at p.counted.3) in
       absurd (never_held old mid back (none_unread mid sound has.1) sound.cq)
-  by_stop fixed budget old mid new moved opened sound none p has LogFull stop = (has, λ some. short_some fixed budget old mid moved opened none p (rw stop at p.counted.3))
+  by_stop fixed budget old mid new moved opened sound none p has LogFull stop = (has, ap (λ s. Ok (told_of s)) (sym stop), λ some. short_some fixed budget old mid moved opened none p (rw stop at p.counted.3))
 
   pub polls_none : (fixed : Bool) (budget : ℕ) (old mid new : Seen Home) (moved : Result Moved NoMemory) (answer : Result Polled NoMemory) → IsOpen old → IsOpen mid → old.log ≡ []
       → Progressed fixed budget old mid moved → HasNone mid new → EndsPoll moved answer → Polls fixed budget old new answer
@@ -63,8 +63,16 @@ module _ {Home : Type 0} where
 
   pub moves_from : (fixed : Bool) (budget : ℕ) (old new : Seen Home) (moved : Result Moved NoMemory) (answer : Result Next NoMemory) → IsOpen old → old.log ≡ [] → Progressed fixed budget old new moved → NextOf moved answer → Moves fixed budget old new answer
   moves_from fixed budget old new (Ok moved) answer opened none p next =
-      record { moved = Ok moved; progressed = p; told = rw next (by_next fixed budget old new moved opened none p moved.stop refl) }
-  moves_from fixed budget old new (Err lacks) answer opened none p next = record { moved = Err lacks; progressed = p; told = rw next tt }
+      record { moved = Ok moved; progressed = p; says = next; told = rw next (by_next fixed budget old new moved opened none p moved.stop refl) }
+  moves_from fixed budget old new (Err lacks) answer opened none p next = record { moved = Err lacks; progressed = p; says = next; told = rw next tt }
+
+  -- want of memory is told where the endpoint's own progress had it
+  lacked : (fixed : Bool) (budget : ℕ) (old new : Seen Home) (moved : Result Moved NoMemory) (why : NoMemory) → Progressed fixed budget old new moved → NextOf moved (Err why) → MayLack fixed new
+  lacked fixed budget old new (Ok moved) why p says = absurd (cc)
+  lacked fixed budget old new (Err lacks) why p says = p.lacks lacks refl
+
+  pub moves_lack : (fixed : Bool) (budget : ℕ) (old new : Seen Home) (answer : Result Next NoMemory) (why : NoMemory) → Moves fixed budget old new answer → answer ≡ Err why → MayLack fixed new
+  moves_lack fixed budget old new answer why m e = lacked fixed budget old new m.moved why m.progressed (subst (λ a. NextOf m.moved a) e m.says)
 
   -- a poll that found none is progress
   pub polls_on : (fixed : Bool) (budget : ℕ) (a b c : Seen Home) (answer : Result Polled NoMemory) → Progresses a b → Polls fixed budget (cleared b) c answer → has_come answer ≡ false → Progresses a c

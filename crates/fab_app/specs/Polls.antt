@@ -22,11 +22,22 @@ use Rattle.fab_app.specs.Progresses.{Progresses}
 abbrev pub HasNone : {Home : Type 0} → Seen Home → Seen Home → Type 0
 HasNone mid new = (new ≡ mid) × (unread mid.held.state.cq ≡ None)
 
+-- what is told where there is no completion
+abbrev pub told_of : Stop → Polled
+told_of Budget = More
+told_of LogFull = More
+told_of StoppedIdle = Idle
+told_of CqFull = Idle
+
+abbrev pub EndsPoll : Result Moved NoMemory → Result Polled NoMemory → Type 0
+EndsPoll (Ok moved) answer = answer ≡ Ok (told_of moved.stop)
+EndsPoll (Err lacks) answer = answer ≡ Err lacks
+
 abbrev pub PollsAs : {Home : Type 0} → ℕ → Seen Home → Seen Home → Seen Home → List Act → Result Moved NoMemory → Result Polled NoMemory → Type 0
 PollsAs budget old mid new acts moved (Ok (Entry entry)) = Pops (Success entry) mid new
 PollsAs budget old mid new acts moved (Ok (Error entry)) = Pops (Failure entry) mid new
 PollsAs budget old mid new acts moved (Ok Idle) = HasNone mid new × IsIdle old mid
-PollsAs budget old mid new acts moved (Ok More) = HasNone mid new × (0 < budget → acts ≢ [])
+PollsAs budget old mid new acts moved (Ok More) = HasNone mid new × EndsPoll moved (Ok More) × (0 < budget → acts ≢ [])
 PollsAs budget old mid new acts moved (Err lacks) = HasNone mid new × (moved ≡ Err lacks)
 
 pub record Polls {Home : Type 0} (fixed : Bool) (budget : ℕ) (old new : Seen Home) (answer : Result Polled NoMemory) : Type 0 where
@@ -50,16 +61,6 @@ has_come (Ok (Error entry)) = true
 has_come (Ok Idle) = false
 has_come (Ok More) = false
 has_come (Err lacks) = true
-
-abbrev pub told_of : Stop → Polled
-told_of Budget = More
-told_of LogFull = More
-told_of StoppedIdle = Idle
-told_of CqFull = Idle
-
-abbrev pub EndsPoll : Result Moved NoMemory → Result Polled NoMemory → Type 0
-EndsPoll (Ok moved) answer = answer ≡ Ok (told_of moved.stop)
-EndsPoll (Err lacks) answer = answer ≡ Err lacks
 
 -- the first completion, which is told, or else the progress
 abbrev pub TakesFirst : {Home : Type 0} → Result Moved NoMemory → Seen Home → Seen Home → Result Polled NoMemory → Type 0

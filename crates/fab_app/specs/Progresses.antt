@@ -29,18 +29,6 @@ awaiting_of s = count_by (awaits s.tx) s.tx.live
 abbrev pub is_flushed : State → Bool
 is_flushed s = (deferred_count s.tx == 0) && (awaiting_of s == 0)
 
-abbrev pub MovesAs : {Home : Type 0} → ℕ → Seen Home → Seen Home → List Act → Result Next NoMemory → Type 0
-MovesAs budget old new acts (Ok Idle) = IsIdle old new
-MovesAs budget old new acts (Ok CqFull) = IsHeldBack old new
-MovesAs budget old new acts (Ok More) = 0 < budget → acts ≢ []
-MovesAs budget old new acts (Err lacks) = Unit {0}
-
--- at most `budget` frames, and whether it is worth a call again: nothing is left to move, or something waits for room in the completion queue, or something moved and more may
-pub record Moves {Home : Type 0} (fixed : Bool) (budget : ℕ) (old new : Seen Home) (answer : Result Next NoMemory) : Type 0 where
-  pub moved : Result Moved NoMemory
-  pub progressed : Progressed fixed budget old new moved
-  pub told : MovesAs budget old new progressed.acts answer
-
 abbrev pub next_of : Stop → Next
 next_of Budget = More
 next_of LogFull = More
@@ -50,3 +38,17 @@ next_of StoppedCqFull = CqFull
 abbrev pub NextOf : Result Moved NoMemory → Result Next NoMemory → Type 0
 NextOf (Ok moved) answer = answer ≡ Ok (next_of moved.stop)
 NextOf (Err lacks) answer = answer ≡ Err lacks
+
+abbrev pub MovesAs : {Home : Type 0} → ℕ → Seen Home → Seen Home → List Act → Result Next NoMemory → Type 0
+MovesAs budget old new acts (Ok Idle) = IsIdle old new
+MovesAs budget old new acts (Ok CqFull) = IsHeldBack old new
+MovesAs budget old new acts (Ok More) = 0 < budget → acts ≢ []
+MovesAs budget old new acts (Err lacks) = Unit {0}
+
+-- at most `budget` frames, and whether it is worth a call again, which the endpoint's own progress says: nothing is left to move, or something waits for room in the completion
+-- queue, or something moved and more may
+pub record Moves {Home : Type 0} (fixed : Bool) (budget : ℕ) (old new : Seen Home) (answer : Result Next NoMemory) : Type 0 where
+  pub moved : Result Moved NoMemory
+  pub progressed : Progressed fixed budget old new moved
+  pub says : NextOf moved answer
+  pub told : MovesAs budget old new progressed.acts answer

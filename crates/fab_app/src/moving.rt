@@ -1,5 +1,6 @@
 //! Progress, and how much is under way (FI_PROGRESS_MANUAL of fi_domain(3)): nothing moves unless a call is made.
-ghost use Rattle.std.specs.Prelude.{◌≡◌, ◌&&◌, ◌==◌, IfOk, IsTrue, true};
+ghost use Rattle.std.specs.Prelude.{◌≡◌, ◌&&◌, ◌==◌, IfOk, IsTrue, OnErr, true};
+ghost use Rattle.fab_face.specs.Answers.{MayLack};
 ghost use Rattle.fab_model.specs.State.{deferred_count, in_use};
 ghost use Rattle.fab_app.specs.Cleared.{cleared};
 ghost use Rattle.fab_app.specs.Progresses.{Moves, NextOf, Progresses, awaiting_of, is_flushed};
@@ -80,6 +81,7 @@ impl<E: Calls + Drop> Endpoint<E> {
     /// what moved stays moved.
     pub fn flush(&mut self, times: u32) -> Result<bool, NoMemory>
         ensures moved { Progresses (E.seen self.old) (E.seen self.new) }
+        ensures lacks { OnErr result (MayLack E.fixed (E.seen self.new)) }
         ensures done { IfOk result (λ done. done ≡ is_flushed (E.seen self.new).held.state) }
         ensures ended { IfOk result (λ done. IsTrue done → in_use (E.seen self.new).held.state.tx ≡ 0) }
     {

@@ -7,7 +7,7 @@ ghost use Rattle.fab_base.specs.declared.peers.LineResult.TheVariants.{Done, Ref
 ghost use Rattle.fab_model.specs.State.{tally_of};
 ghost use Rattle.fab_model.specs.Calls.{Remove, is_peer};
 ghost use Rattle.fab_face.specs.Held.{with_machine};
-ghost use Rattle.fab_face.specs.Answers.{Inserts, Locally, adding};
+ghost use Rattle.fab_face.specs.Answers.{Inserts, Locally, MayLack, adding};
 ghost use Rattle.fab_app.specs.Progresses.{Progresses};
 
 use crate::endpoint::{Calls, Endpoint};
@@ -45,6 +45,7 @@ impl<E: Calls + Drop> Endpoint<E> {
     /// stays moved.
     pub fn cntr_wait(&mut self, class: Class, n: u64, times: u32) -> Result<bool, NoMemory>
         ensures moved { Progresses (E.seen self.old) (E.seen self.new) }
+        ensures lacks { OnErr result (MayLack E.fixed (E.seen self.new)) }
         ensures done { IfOk result (λ done. done ≡ nat_le n (tally_of (E.seen self.new).held.state.counters class).ok) }
     {
         'times: for _time in 0..times {

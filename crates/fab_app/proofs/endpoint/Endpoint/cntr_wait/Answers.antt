@@ -1,4 +1,5 @@
 use Rattle.fab_app.proofs.Chains.{moved_on, none}
+use Rattle.fab_app.proofs.Polling.{moves_lack}
 use Rattle.fab_app.proofs.endpoint.Endpoint.cntr_wait.Goals as goal
 
 pub returns-in_err-progress-clause-moved : goal.returns-in_err-progress-clause-moved
@@ -9,3 +10,6 @@ times-preserved g c = moved_on _ _ _ _ _ _ c.times.invariant c.progress.ensures
 
 pub times-init : goal.times-init
 times-init g c = none _
+
+pub returns-in_err-progress-clause-lacks : goal.returns-in_err-progress-clause-lacks
+returns-in_err-progress-clause-lacks g c = moves_lack _ _ _ _ _ _ c.progress.ensures c.in_err-progress.is
