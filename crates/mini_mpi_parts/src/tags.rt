@@ -7,7 +7,7 @@
 //!
 //! A source is named by the receive itself (FI_DIRECTED_RECV), so a tag carries none. `ANY_TAG` ignores the lower 32 bits
 //! alone, and so takes no message of a collective.
-ghost use Rattle.std.specs.Prelude.{◌≡◌, ◌<◌, ◌^◌, IfSome};
+ghost use Rattle.std.specs.Prelude.{◌≡◌, ◌<◌, ◌-◌, ◌^◌, IfNone, IfSome};
 ghost use Rattle.mini_mpi_parts.specs.Tags.{wrong_tag, wrong_with};
 
 /// Messages of any rank (MPI_ANY_SOURCE).
@@ -36,6 +36,7 @@ pub fn wanted(tag: Option<u32>) -> (u64, u64)
     ensures tag { result.0 < 2 ^ 32 }
     ensures ignore { result.1 < 2 ^ 32 }
     ensures named { IfSome tag (λ t. (result.0 ≡ t) × (result.1 ≡ 0)) }
+    ensures any { IfNone tag ((result.0 ≡ 0) × (result.1 ≡ 2 ^ 32 - 1)) }
 {
     match tag {
         Some(tag) => (u64::from(tag), 0),
