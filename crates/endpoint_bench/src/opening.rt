@@ -66,9 +66,7 @@ pub fn all_times<R: Clock + Threads + Wait + Sync>(
             runs,
             is_touched,
         };
-        for own in times(rt, alloc, &measure)? {
-            all.push(own)?;
-        }
+        all.append(&mut times(rt, alloc, &measure)?)?;
     }
     Ok(all)
 }

@@ -1,5 +1,5 @@
 //! The text of all ranks.
-ghost use Rattle.std.specs.Prelude.{◌≡◌, ◌++◌, flat_map, length, map, IfOk, OnOk, string_bytes};
+ghost use Rattle.std.specs.Prelude.{◌≡◌, ◌++◌, flat_map, length, IfOk, OnOk, string_bytes};
 ghost use Rattle.fab_model.specs.Calls.{upto};
 ghost use Rattle.fab_model.specs.Words.{text_of};
 ghost use Rattle.fab_finish.specs.Joined.{actors};

@@ -255,12 +255,15 @@ pub fn cut<E: Progress>(endpoint: &mut E) -> Option<(u32, u32)> {
     cut_of(endpoint.cq_readerr().ok()?)
 }
 
-/// Lets two endpoints go on by turns, as often as the longest message takes.
-pub fn carries<E: Progress>(one: &mut E, other: &mut E) {
+/// Whether two endpoints go on by turns, as often as the longest message takes.
+pub fn carries<E: Progress>(one: &mut E, other: &mut E) -> bool {
+    let mut all = true;
     for _ in 0..ROUNDS {
-        let _ = one.progress(64);
-        let _ = other.progress(64);
+        let first = one.progress(64).is_ok();
+        let second = other.progress(64).is_ok();
+        all = all && first && second;
     }
+    all
 }
 
 /// Whether progress takes and posts so many frames, and ends so.

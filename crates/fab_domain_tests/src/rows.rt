@@ -147,10 +147,10 @@ fn waits_for_log<E: Calls>(zero: &mut E) -> bool {
 
 /// A counter stays at its end where a message is sent.
 fn counts_no_further<E: Calls>(alloc: Global, zero: &mut E) -> bool {
-    adds(zero, 18_446_744_073_709_551_615);
+    adds(zero, u64::MAX);
     let went = send(alloc, zero, 1, 1) == Ok(());
     let done = sent(zero) == Some(1);
-    went && done && count_sent(zero) == 18_446_744_073_709_551_615
+    went && done && count_sent(zero) == u64::MAX
 }
 
 /// A receive from one peer leaves the message of another where it is.
@@ -255,10 +255,10 @@ fn crosses<E: Calls>(alloc: Global, zero: &mut E, one: &mut E) -> bool {
     let first = puts(alloc, zero, 1, 1, false) && puts(alloc, one, 0, 1, false);
     let second = puts(alloc, zero, 1, 2, true) && puts(alloc, one, 0, 2, true);
     let held = under_way(zero) == (1, 1) && under_way(one) == (1, 1);
-    carries(zero, one);
+    let carried = carries(zero, one);
     let zero_done = wrote(zero) == Some(1) && wrote(zero) == Some(2);
     let one_done = wrote(one) == Some(1) && wrote(one) == Some(2);
-    registered && first && second && held && zero_done && one_done
+    registered && first && second && held && carried && zero_done && one_done
 }
 
 /// The longest message of the second version is cut where the receive is short, and the next one is sent behind it.
@@ -266,10 +266,10 @@ fn cuts_greatest<E: Calls>(alloc: Global, zero: &mut E, one: &mut E) -> bool {
     let posted = treceives(alloc, zero, 3, 4, 1);
     let greatest = tsend(alloc, one, 268_435_456, 2) == Ok(());
     let next = tsend(alloc, one, 4, 3) == Ok(());
-    carries(one, zero);
+    let carried = carries(one, zero);
     let was_cut = cut(zero) == Some((4, 268_435_452));
     let done = sent(one) == Some(2) && sent(one) == Some(3);
-    posted && greatest && next && was_cut && done
+    posted && greatest && next && carried && was_cut && done
 }
 
 /// A write, a read and a fetch count at the peer whose region they reach, and those that are refused do not.

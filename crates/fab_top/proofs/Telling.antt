@@ -19,7 +19,8 @@ use Rattle.fab_schedule.proofs.Written.{report_told}
 use Rattle.fab_finish.specs.Joined.{member_actor, member_steps}
 use Rattle.fab_finish.specs.Joined.{AreCleared}
 use Rattle.fab_finish.specs.Joined.{Member}
-use Rattle.fab_top.specs.Runs.{nothing_posted, Reports, ComesToRest}
+use Rattle.fab_answer.specs.Laws.{nothing_posted}
+use Rattle.fab_top.specs.Runs.{Reports, ComesToRest}
 
 none_posted : (all : List Actor) → AreCleared all → nothing_posted all ≡ true
 none_posted [] cleared = refl

@@ -1,24 +1,14 @@
 -- What `replay` finds in the files that it loads, and what it writes.
---     verdict_line verdict                what a checker says of a report, in a line
 --     IsChecked files file trace line     the line says what is to be said of that trace, as a report of that script
 --     LeadsOn files file trace name       that is a file of the script, or the trace behind a script that was read
 --     IsUnchecked ..                      why there is no line
-use Rattle.std.specs.Prelude.{◌≡◌, ℕ, ◌⊎◌, true, false, List, [], ◌∷◌, ◌++◌, codes, decimal, Option, Some}
+use Rattle.std.specs.Prelude.{◌≡◌, ℕ, ◌⊎◌, List, Option, Some}
 use Rattle.fab_base.specs.Counts.{Rose}
 use Rattle.fab_base.specs.declared.script.Bound.{Bound}
 use Rattle.fab_base.specs.declared.status.Status.{Status}
 use Rattle.fab_base.specs.declared.status.Status.TheVariants.{ScriptRefused, TooLong, ReadFault, NoMemory}
-use Rattle.fab_replay.specs.declared.verdicts.Verdict.{Verdict}
-use Rattle.fab_replay.specs.declared.verdicts.Verdict.TheVariants.{Lawful, Left, Differs, NoSchedule}
-use Rattle.fab_replay.specs.Verdict.{verdict}
+use Rattle.fab_replay.specs.Verdict.{verdict, verdict_line}
 use Rattle.fab_outside.specs.Loading.{Files, IsOver, IsRead, IsWhole, IsWrong, LeadsTo}
-
-abbrev pub verdict_line : Verdict → List ℕ
-verdict_line (Lawful true) = codes "lawful, at rest" ++ 10 ∷ []
-verdict_line (Lawful false) = codes "lawful, not at rest" ++ 10 ∷ []
-verdict_line (Left peer step) = codes "not lawful peer " ++ decimal peer ++ codes " step " ++ decimal step ++ 10 ∷ []
-verdict_line (Differs at) = codes "differs at " ++ decimal at ++ 10 ∷ []
-verdict_line NoSchedule = codes "no schedule" ++ 10 ∷ []
 
 -- the file spells a script, its payload files are read, and this is the line on the whole file `trace`
 pub record IsChecked (files : Files) (file trace line : List ℕ) : Type 0 where

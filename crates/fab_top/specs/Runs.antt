@@ -18,6 +18,7 @@ use Rattle.std.specs.Prelude.{◌≡◌, ℕ, ◌<◌, ◌⊎◌, Bool, true, Li
 use Rattle.std.specs.Io.KnownBytes.{append_known}
 use Rattle.std.specs.List.{list_all}
 use Rattle.fab_answer.specs.Answer.{answer as answer_of}
+use Rattle.fab_answer.specs.Laws.{nothing_posted}
 use Rattle.fab_answer.specs.Settled.{is_settled}
 use Rattle.fab_base.specs.Counts.{Rose}
 use Rattle.fab_base.specs.declared.caps.Api.TheVariants.{Two}
@@ -29,8 +30,7 @@ use Rattle.fab_base.specs.declared.status.Status.TheVariants.{Done, Stuck, Scrip
 use Rattle.fab_base.specs.declared.status.Why.{Why}
 use Rattle.fab_grammar.specs.Settings.{asking}
 use Rattle.fab_model.specs.Negotiation.{grant}
-use Rattle.fab_model.specs.Peers.{Actor}
-use Rattle.fab_model.specs.Replay.{Lawful, replayed, at_rest, all_done, is_empty}
+use Rattle.fab_model.specs.Replay.{Lawful, replayed, at_rest, all_done}
 use Rattle.fab_model.specs.Report.{report, traces}
 use Rattle.fab_replay.specs.declared.verdicts.Verdict.TheVariants as answer
 use Rattle.fab_replay.specs.Verdict.{verdict}
@@ -45,10 +45,6 @@ use Rattle.fab_window_run.specs.Commands.{asked_text, window_of}
 use Rattle.fab_workloads.specs.declared.workload.Workload.{Workload}
 use Rattle.fab_workloads.specs.Bench.{bench_line}
 use Rattle.fab_workloads.specs.Commands.{payload_file, workload_of}
-
--- no receive of any peer is posted
-abbrev pub nothing_posted : List Actor → Bool
-nothing_posted all = list_all (λ (a : Actor). is_empty a.state.rx.posted) all
 
 -- The text is the report of the schedule that its own trace lines tell, and this schedule is lawful. At its end the peers are at rest; whether all lines are done then, and if so, nothing is posted. So `replay` answers `lawful, at rest` of it.
 pub record Reports (bound : Bound) (text : List ℕ) (done : Bool) : Type 0 where

@@ -4,38 +4,23 @@ ghost use Rattle.std.specs.Io.KnownBytes.{append_known};
 ghost use Rattle.fab_base.specs.Counts.{Rose};
 ghost use Rattle.fab_base.specs.declared.status.Status.TheVariants.{Done, ScriptRefused, TooLong, ReadFault, WriteFault};
 ghost use Rattle.fab_base.specs.declared.status.Why.{Why};
-ghost use Rattle.fab_replay.specs.Verdict.{verdict};
-ghost use Rattle.fab_top.specs.Checking.{verdict_line, IsChecked, IsUnchecked, LeadsOn};
+ghost use Rattle.fab_replay.specs.Verdict.{verdict, verdict_line};
+ghost use Rattle.fab_top.specs.Checking.{IsChecked, IsUnchecked, LeadsOn};
 ghost use Rattle.fab_outside.specs.Loading.{IsOver, IsWrong, LoadsOnly};
 ghost use Rattle.fab_top.specs.Runs.{EndsCheck, IsSilent, WritesLine};
 
 use fab_base::{Bound, NoMemory, Status, Text};
 use fab_outside::loading::{load_file, load_script};
 use fab_outside::{Depot, Failed, Sink, write_all};
-use fab_replay::{Verdict, check};
+use fab_replay::check;
 use std::alloc::Global;
-
-/// A verdict in a line.
-fn verdict_line(alloc: Global, verdict: Verdict) -> Result<String, NoMemory>
-    ensures { IfOk result (λ text. string_bytes text ≡ verdict_line verdict) }
-{
-    let mut out = String::new(alloc);
-    match verdict {
-        Verdict::Lawful { rest: true } => out.push_str("lawful, at rest\n")?,
-        Verdict::Lawful { rest: false } => out.push_str("lawful, not at rest\n")?,
-        Verdict::Left { peer, step } => writeln!(out, "not lawful peer {peer} step {step}")?,
-        Verdict::Differs { at } => writeln!(out, "differs at {at}")?,
-        Verdict::NoSchedule => out.push_str("no schedule\n")?,
-    }
-    Ok(out)
-}
 
 /// The line on this text, as a report of the script.
 fn line_on(alloc: Global, bound: &Bound, text: &[u8]) -> Result<String, NoMemory>
     ensures { IfOk result (λ line. string_bytes line ≡ verdict_line (verdict bound.now text.now)) }
 {
     let verdict = check(alloc, bound, text)?;
-    verdict_line(alloc, verdict)
+    verdict.line(alloc)
 }
 
 /// The line on the file `trace`, as a report of the script in `file`, or how the command ends.

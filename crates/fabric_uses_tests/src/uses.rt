@@ -113,7 +113,10 @@ fn cancels<E: Calls + Drop>(alloc: Global, zero: &mut EndpointOver<E>) -> bool {
 /// Whether a region hands its bytes back.
 fn publishes<E: Calls + Drop>(alloc: Global, zero: &mut EndpointOver<E>) -> bool {
     match Buf::copy(alloc, b"mine") {
-        Ok(buf) => publish(zero, 9, buf).is_ok() && withdraw(zero, 9).is_some(),
+        Ok(buf) => {
+            publish(zero, 9, buf).is_ok()
+                && withdraw(zero, 9).is_some_and(|buf| buf.as_slice() == b"mine")
+        }
         Err(_) => false,
     }
 }

@@ -1,7 +1,7 @@
 //! Regions, reads and writes.
 use crate::calls::{carries, filled};
 use crate::completions::Completion;
-use fabric::{Access, Buf, COMPLETES, Calls, Class, EndpointOver, Fault};
+use fabric::{Access, Buf, COMPLETES, Calls, EndpointOver, Fault};
 use std::alloc::Global;
 
 /// What a peer may read and write.

@@ -1,6 +1,6 @@
 //! The whole grid, computed by one thread.
 use crate::grid::{Block, Halo};
-use crate::ranks::{BETWEEN_SUMS, Quarter, SIDE, STEPS};
+use crate::ranks::{BETWEEN_SUMS, GRID_SIDE, Quarter, STEPS};
 use std::alloc::{AllocError, Global};
 
 /// The cells around the whole grid are those of its other side.
@@ -19,7 +19,7 @@ fn around(alloc: Global, block: &Block) -> Result<Halo, AllocError> {
 
 /// Makes all steps of the whole grid.
 pub fn alone(alloc: Global) -> Result<Quarter, AllocError> {
-    let mut block = Block::first(alloc, 0, 0, 2 * SIDE)?;
+    let mut block = Block::first(alloc, 0, 0, GRID_SIDE)?;
     let mut sums = Vec::new(alloc);
     for step in 0..STEPS {
         let halo = around(alloc, &block)?;

@@ -1,6 +1,6 @@
 //! The exchange of edges between the ranks of a grid of two by two, and the sum of what each has.
 use crate::grid::{Block, Halo};
-use mini_mpi::{AtomicOp, Buf, Calls, Completed, Error, NoMemory, Num, Request, World};
+use mini_mpi::{AtomicOp, Buf, Calls, Completed, Error, Num, Request, World};
 use std::alloc::{AllocError, Global};
 use std::sync::Wait;
 

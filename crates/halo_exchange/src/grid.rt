@@ -1,4 +1,5 @@
 //! Rectangles of cells, and one step of them.
+use crate::ranks::GRID_SIDE;
 use std::alloc::{AllocError, Global};
 
 /// A square of cells whose first cell stands at (x, y) of the grid: row by row from the north, each row from the west.
@@ -159,7 +160,7 @@ impl Block {
 
 /// The sum of the cells of a row, each times the number of its place.
 fn row_checksum(row: &[u64], x: u64, y: u64) -> u64 {
-    let first = y.wrapping_mul(64).wrapping_add(x);
+    let first = y.wrapping_mul(GRID_SIDE).wrapping_add(x);
     let mut sum = 0u64;
     for (right, cell) in row.iter().enumerate() {
         let place = first.wrapping_add(right as u64).wrapping_mul(2);

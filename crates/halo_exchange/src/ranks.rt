@@ -8,6 +8,9 @@ use std::sync::Wait;
 /// How many cells a side of a quarter has.
 pub const SIDE: u64 = 32;
 
+/// How many a side of the whole grid has.
+pub const GRID_SIDE: u64 = 2 * SIDE;
+
 /// How many steps are made.
 pub const STEPS: u32 = 100;
 

@@ -1,7 +1,6 @@
 //! A rank, and its messages to and from single ranks.
-ghost use Rattle.std.specs.Prelude.{◌≡◌, ◌<◌, ◌^◌, Some, Err, IfSome};
-ghost use Rattle.mini_mpi.specs.Errors.{error_of};
-ghost use Rattle.mini_mpi_parts.specs.Tags.{wrong_with};
+ghost use Rattle.std.specs.Prelude.{◌≡◌, ◌<◌, ◌^◌, Some};
+ghost use Rattle.mini_mpi.specs.Errors.{RefusesWrong};
 
 use crate::ended::{Completed, Ended, Request, Status, ended_by};
 use crate::errors::{Error, Failed, error_of, later};
@@ -40,7 +39,10 @@ fn at(level: Level) -> Flags {
 impl<E: Calls + Drop> World<E> {
     /// The rank of an endpoint (MPI_Init): its own number among the peers of its domain. The endpoint is opened for directed
     /// receives, as whoever asks for no capability has it; else a named source counts for nothing.
-    pub fn new(alloc: Global, endpoint: EndpointOver<E>) -> World<E> {
+    pub fn new(alloc: Global, endpoint: EndpointOver<E>) -> World<E>
+        ensures rank { result.group.rank ≡ (E.seen endpoint).lanes.number }
+        ensures size { result.group.peers ≡ (E.seen endpoint).lanes.peers }
+    {
         let group = Group::of(alloc, &endpoint);
         World {
             alloc,
@@ -141,7 +143,7 @@ impl<E: Calls + Drop> World<E> {
         buf: Buf,
         level: Level,
     ) -> Result<Request, Failed>
-        ensures { IfSome (wrong_with self.old.group.peers (Some dest) (Some tag)) (λ wrong. result ≡ Err (record { why = error_of wrong; buf = Some buf })) }
+        ensures { RefusesWrong self.old.group.peers (Some dest) (Some tag) buf result }
     {
         if let Some(wrong) = wrong_with(self.size(), Some(dest), Some(tag)) {
             return Err(Failed::with(error_of(wrong), buf));
@@ -168,7 +170,7 @@ impl<E: Calls + Drop> World<E> {
         tag: u32,
         buf: Buf,
     ) -> Result<Request, Failed>
-        ensures { IfSome (wrong_with self.old.group.peers (Some dest) (Some tag)) (λ wrong. result ≡ Err (record { why = error_of wrong; buf = Some buf })) }
+        ensures { RefusesWrong self.old.group.peers (Some dest) (Some tag) buf result }
     {
         self.begin_send(rt, dest, tag, buf, Level::Transmit)
     }
@@ -192,7 +194,7 @@ impl<E: Calls + Drop> World<E> {
         tag: Option<u32>,
         buf: Buf,
     ) -> Result<Request, Failed>
-        ensures { IfSome (wrong_with self.old.group.peers source tag) (λ wrong. result ≡ Err (record { why = error_of wrong; buf = Some buf })) }
+        ensures { RefusesWrong self.old.group.peers source tag buf result }
     {
         if let Some(wrong) = wrong_with(self.size(), source, tag) {
             return Err(Failed::with(error_of(wrong), buf));

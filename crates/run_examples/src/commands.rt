@@ -1,7 +1,7 @@
 //! Rows of commands over memory: each changes what the next is carried out over, or is one, and is told with what came of it.
 use crate::carrying::{End, carry_turns};
 use crate::full::full_script;
-use crate::setting::{Setting, spelled, spelled_text};
+use crate::setting::{Setting, spelled_text};
 use fab_base::{NoMemory, Text};
 use fab_outside::{MemoryDepot, MemorySink};
 use std::alloc::Global;
