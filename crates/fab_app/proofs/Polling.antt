@@ -1,6 +1,6 @@
 -- What a progress tells, and a poll where there is no completion.
 use Rattle.std.proofs.Common.{◌≡◌, ◌≢◌, ◌<◌, ℕ, Bool, false, [], ◌++◌, length, append-nil, Option, Some, None, Result, Ok, Err, refl, sym, ap, ◌∙◌, subst, arith, inl, inr}
-use Rattle.std.specs.Prelude.{count_by}
+use Rattle.std.specs.Prelude.{OnErr, count_by}
 use Rattle.fab_base.specs.declared.faults.NoMemory.{NoMemory}
 use Rattle.fab_face.specs.declared.events.Moved.{Moved}
 use Rattle.fab_face.specs.declared.events.Stop.{Stop}
@@ -16,6 +16,10 @@ use Rattle.fab_app.specs.Cleared.{cleared}
 use Rattle.fab_app.specs.Progresses.{Moves, MovesAs, NextOf, Progresses, next_of}
 use Rattle.fab_app.proofs.Chains.{progressed_on, then_more}
 use Rattle.fab_app.specs.Polls.{Polls, PollsAs, Waits, HasNone, told_of, has_come, EndsPoll, TakesFirst}
+
+whatever : {T E : Type 0} (r : Result T E) (P : Type 0) → P → OnErr r P
+whatever (Ok x) P h = tt
+whatever (Err x) P h = h
 
 module _ {Home : Type 0} where
   pub moved_some : (fixed : Bool) (budget : ℕ) (old mid : Seen Home) (moved : Moved) → 0 < budget → (p : Progressed fixed budget old mid (Ok moved)) → moved.stop ≡ Budget → p.acts ≢ []
@@ -71,8 +75,8 @@ module _ {Home : Type 0} where
   lacked fixed budget old new (Ok moved) why p says = absurd (cc)
   lacked fixed budget old new (Err lacks) why p says = p.lacks lacks refl
 
-  pub moves_lack : (fixed : Bool) (budget : ℕ) (old new : Seen Home) (answer : Result Next NoMemory) (why : NoMemory) → Moves fixed budget old new answer → answer ≡ Err why → MayLack fixed new
-  moves_lack fixed budget old new answer why m e = lacked fixed budget old new m.moved why m.progressed (subst (λ a. NextOf m.moved a) e m.says)
+  pub moves_lack : {T E : Type 0} (r : Result T E) (fixed : Bool) (budget : ℕ) (old new : Seen Home) (why : NoMemory) → Moves fixed budget old new (Err why) → OnErr r (MayLack fixed new)
+  moves_lack r fixed budget old new why m = whatever r (MayLack fixed new) (lacked fixed budget old new m.moved why m.progressed m.says)
 
   -- a poll that found none is progress
   pub polls_on : (fixed : Bool) (budget : ℕ) (a b c : Seen Home) (answer : Result Polled NoMemory) → Progresses a b → Polls fixed budget (cleared b) c answer → has_come answer ≡ false → Progresses a c

@@ -12,4 +12,4 @@ pub times-init : goal.times-init
 times-init g c = none _
 
 pub returns-in_err-progress-clause-lacks : goal.returns-in_err-progress-clause-lacks
-returns-in_err-progress-clause-lacks g c = moves_lack _ _ _ _ _ _ c.progress.ensures c.in_err-progress.is
+returns-in_err-progress-clause-lacks g c = moves_lack c.from_residual.result _ _ _ _ _ c.in_err-progress.ensures
