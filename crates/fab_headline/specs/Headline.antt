@@ -1,0 +1,59 @@
+-- The headline of a script: what the laws say together at the end of the replay of a lawful schedule.
+--     HoldsOf bound turns states p a      what it says of peer p, who is a, where these turns lead to these states
+--     HoldsOfAll bound turns states       it holds of each peer
+--     Headline bound schedule             some order of turns with the schedule's steps leads to the end of the replay, and there it holds; as it does in every such order
+use Rattle.std.specs.Prelude.{◌≡◌, ℕ, true, List, Some, slice_get}
+use Rattle.fab_base.specs.declared.peers.Step.{Step}
+use Rattle.fab_base.specs.declared.script.Bound.{Bound}
+use Rattle.fab_model.specs.Orders.{AreSteps, Turn}
+use Rattle.fab_model.specs.Peers.{Actor}
+use Rattle.fab_model.specs.Replay.{replayed}
+use Rattle.fab_model.specs.Replay as scripts
+use Rattle.fab_laws.specs.Programs.{is_drained}
+use Rattle.fab_laws.specs.Scripts.{ScriptLeadTo, peer_of, peers}
+use Rattle.fab_laws.specs.ScriptLaws.{script_asked, script_operations, script_past, script_whole}
+use Rattle.fab_laws.specs.StreamLaws.{IsFirst, IsPosted}
+use Rattle.fab_laws.specs.MatchingLaws.{GetsRightly, PassesNoneOver, ServesInOrder, TakesInOrder}
+use Rattle.fab_laws.specs.MessageLaws.{EntryReads, EntryTells, ReceiveTells}
+use Rattle.fab_laws.specs.CompletionLaws.{AllCompleteOnce, NumberCompletes}
+
+pub record HoldsOf (bound : Bound) (turns : List (Turn Step)) (states : List Actor) (p : ℕ) (a : Actor) : Type 0 where
+  -- what it has taken whole of each sender is the first of what that sender let out to it, in order and each once
+  pub first : IsFirst (script_whole bound turns p) (peers states) p
+  -- without replies, that is the first of what the sender's accepted calls posted to it, in the order posted
+  pub posted : IsPosted (script_whole bound turns p) (script_operations bound turns) (peers states) p
+  -- a message that a receive got had arrived and was unclaimed; the receive matches it and was open
+  pub got : GetsRightly (script_past bound turns p)
+  -- it was the first such: each that arrived earlier and that the receive matches had gone to a receive, or been claimed or discarded
+  pub taken : TakesInOrder (script_past bound turns p)
+  -- and no receive that was posted earlier and matches it was there: it had closed with an earlier message, or was cancelled before this one arrived
+  pub served : ServesInOrder (script_past bound turns p)
+  -- no posted receive matches an arrival that is still unexpected, but for a multi-receive that is about to draw it
+  pub passed : PassesNoneOver a.state.rx
+  -- each entry that tells a message gives the source, tag, remote data, length and bytes of one that is whole, or its truncation; its receive got that message, or it was claimed or discarded
+  pub entries : EntryTells (script_past bound turns p) (script_asked bound turns p) (peers states) p (peer_of a)
+  -- that of a receive that is no multi-receive has the bytes in the buffer that its call passed, from the first byte on
+  pub receives : ReceiveTells (script_past bound turns p) (script_asked bound turns p) (peers states) p (peer_of a)
+  -- each accepted operation has at most one final completion; exactly one once all is drained, unless it is suppressed, and then none; and none before its level is reached
+  pub once : AllCompleteOnce (script_operations bound turns p) (peers states) p (peer_of a)
+  -- no number has two final completions, and what has one is the number of an accepted operation
+  pub numbers : (call : ℕ) → NumberCompletes (script_operations bound turns p) (peer_of a) call
+
+abbrev pub HoldsOfAll : Bound → List (Turn Step) → List Actor → Type 0
+HoldsOfAll bound turns states = (p : ℕ) (a : Actor) → slice_get states p ≡ Some a → HoldsOf bound turns states p a
+
+pub record Headline (bound : Bound) (schedule : List (List Step)) : Type 0 where
+  -- whose turn it was, and the step that was taken then
+  pub turns : List (Turn Step)
+  -- each peer's steps among these turns are those of its schedule
+  pub steps : AreSteps schedule turns
+  -- in this order they lead from the opening of the script to the end of the replay, and each step stands when it is taken
+  pub leads : ScriptLeadTo bound turns (replayed bound schedule).states
+  -- there it holds of each peer
+  pub holds : HoldsOfAll bound turns (replayed bound schedule).states
+  -- and so it does whatever the interleaving: every order of turns with these steps leads to these states, and there it holds of each peer, told by that order
+  pub every : (order : List (Turn Step)) (last : List Actor) → AreSteps schedule order → ScriptLeadTo bound order last → (last ≡ (replayed bound schedule).states) × HoldsOfAll bound order last
+  -- how an entry of `receives` reads: the whole message where the buffer has room for it, else what is placed and how much is cut off
+  pub reads : EntryReads
+  -- where the script is drained, all is drained as `once` asks
+  pub drained : scripts.is_drained (replayed bound schedule).states ≡ true → is_drained (peers (replayed bound schedule).states) ≡ true
