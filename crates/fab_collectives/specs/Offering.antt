@@ -2,7 +2,8 @@
 --     is_of tag polled                       it is that of a receive of the collective with this tag
 --     brought polled                         the share that it brings, cut to its length, and the rank that it came from
 --     received_after work received polled    the shares that came, with the one that it brings
-use Rattle.std.specs.Prelude.{ℕ, Bool, false, ◌==◌, if◌then◌else◌, List, take, slice_set, Option, Some, None}
+--     missing_after, failed_after            how many have not come, and whether one failed
+use Rattle.std.specs.Prelude.{ℕ, ◌-◌, Bool, false, ◌&&◌, ◌||◌, ◌==◌, if◌then◌else◌, List, take, slice_set, Option, Some, None, is_none, is_some}
 use Rattle.fab_base.specs.declared.entries.Entry.{Entry as EntryValue}
 use Rattle.fab_base.specs.declared.entries.Entry.TheVariants.{Received}
 use Rattle.fab_app.specs.declared.completions.Polled.{Polled}
@@ -39,3 +40,9 @@ with_share work received None = received
 
 abbrev pub received_after : Work → List (List ℕ) → Polled → List (List ℕ)
 received_after work received polled = if is_of work.tag polled then with_share work received (brought polled) else received
+
+abbrev pub missing_after : Work → ℕ → Polled → ℕ
+missing_after work missing polled = if is_of work.tag polled && is_some (brought polled) then missing - 1 else missing
+
+abbrev pub failed_after : Work → Bool → Polled → Bool
+failed_after work failed polled = failed || (is_of work.tag polled && is_none (brought polled))

@@ -1,7 +1,9 @@
 //! A collective that was begun.
-ghost use Rattle.std.specs.Prelude.{◌≡◌, false, true, Some, None, IfOk, IfErr, IfSome};
+ghost use Rattle.std.specs.Prelude.{◌≡◌, ◌-◌, false, true, Some, None, IfOk, IfErr, IfSome, IsSome};
+ghost use Rattle.fab_base.specs.declared.faults.Fault.TheVariants.{NoMemory as LacksMemory};
+ghost use Rattle.fab_collectives.specs.Beginning.{IsFresh};
 ghost use Rattle.fab_fold.specs.Shares.{outcome_of};
-ghost use Rattle.fab_collectives.specs.Offering.{brought, is_of, is_under, received_after, share_in, with_share};
+ghost use Rattle.fab_collectives.specs.Offering.{brought, failed_after, is_of, is_under, missing_after, received_after, share_in, with_share};
 
 use crate::shares::{cut, made, needs, place, sources};
 use fab_app::completions::{Polled, ctx_of};
@@ -43,7 +45,7 @@ pub struct Collective {
     sent: u32,
     /// How many shares have not come.
     missing: u32,
-    /// Whether a share was longer than the own one.
+    /// Whether a receive of a share ended with an error: it was longer than the own one, or was cancelled.
     failed: bool,
 }
 
@@ -194,8 +196,8 @@ impl Collective {
 
     /// Begins it. Nothing is posted or sent before it is driven.
     pub(crate) fn begin(alloc: Global, work: Work, own: Buf) -> Result<Collective, Refused>
-        ensures begun { IfOk result (λ begun. (begun.work ≡ work) × (begun.own ≡ own)) }
-        ensures back { IfErr result (λ refused. refused.buf ≡ own) }
+        ensures begun { IfOk result (λ begun. (begun.work ≡ work) × (begun.own ≡ own) × IsFresh begun) }
+        ensures back { IfErr result (λ refused. (refused.buf ≡ own) × (refused.why ≡ LacksMemory)) }
     {
         let count = sources(work.coll, work.rank, work.peers);
         let len = own.as_slice().len();
@@ -230,9 +232,11 @@ impl Collective {
         endpoint: &mut Endpoint<E>,
     ) -> Result<Option<Buf>, Fault>
         ensures made { IfOk result (λ done. IfSome done (λ bytes. bytes ≡ outcome_of self.old.work.coll self.old.work.rank self.old.own self.old.received.items)) }
+        ensures waits { IfOk result (λ done. IsSome done → (self.old.missing ≡ 0) × (self.old.failed ≡ false)) }
         ensures work { self.new.work ≡ self.old.work }
         ensures own { self.new.own ≡ self.old.own }
         ensures received { self.new.received.items ≡ self.old.received.items }
+        ensures counts { (self.new.missing ≡ self.old.missing) × (self.new.failed ≡ self.old.failed) }
     {
         ask_all(endpoint, self.work, &mut self.asking)?;
         send_all(endpoint, self.work, self.own.as_slice(), &mut self.sent)?;
@@ -265,6 +269,8 @@ impl Collective {
         ensures back { is_of self.old.work.tag polled ≡ false → result ≡ Some polled }
         ensures taken { is_of self.old.work.tag polled ≡ true → result ≡ None }
         ensures received { self.new.received.items ≡ received_after self.old.work self.old.received.items polled }
+        ensures missing { self.new.missing ≡ missing_after self.old.work self.old.missing polled }
+        ensures failed { self.new.failed ≡ failed_after self.old.work self.old.failed polled }
         ensures work { self.new.work ≡ self.old.work }
         ensures own { self.new.own ≡ self.old.own }
     {
@@ -281,6 +287,8 @@ impl Collective {
     /// Keeps a share that came.
     fn keep(&mut self, share: Share)
         ensures received { self.new.received.items ≡ with_share self.old.work self.old.received.items (Some share) }
+        ensures missing { self.new.missing ≡ self.old.missing - 1 }
+        ensures failed { self.new.failed ≡ self.old.failed }
         ensures work { self.new.work ≡ self.old.work }
         ensures own { self.new.own ≡ self.old.own }
     {

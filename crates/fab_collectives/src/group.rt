@@ -1,6 +1,8 @@
 //! The ranks that do collectives together, and what each of them begins.
-ghost use Rattle.std.specs.Prelude.{◌≡◌, ◌≤◌, ◌^◌, IfOk, IfErr, OnErr};
+ghost use Rattle.std.specs.Prelude.{◌≡◌, ◌≤◌, ◌^◌, ◌⊎◌, [], length, None, Some, IfOk, IfErr, OnErr, OnOk};
+ghost use Rattle.fab_base.specs.declared.faults.Fault.TheVariants.{NoMemory as LacksMemory};
 ghost use Rattle.fab_fold.specs.declared.coll.Coll.TheVariants.{Barrier, Broadcast, Allgather, Allreduce};
+ghost use Rattle.fab_collectives.specs.Beginning.{IsFresh, next_of, refusal_of, work_of};
 
 use crate::collective::{Collective, Work};
 use fab_app::endpoint::{Calls, Endpoint};
@@ -30,6 +32,7 @@ impl Group {
     pub fn of<E: Calls + Drop>(alloc: Global, endpoint: &Endpoint<E>) -> Group
         ensures rank { result.rank ≡ (E.seen endpoint.now).lanes.number }
         ensures peers { result.peers ≡ (E.seen endpoint.now).lanes.peers }
+        ensures new { result.rounds ≡ 0 }
     {
         Group {
             alloc,
@@ -54,7 +57,9 @@ impl Group {
     }
 
     /// Why a collective is not begun with a share of so many bytes, if it isn't.
-    fn refusal(&self, coll: Coll, len: usize) -> Option<Fault> {
+    fn refusal(&self, coll: Coll, len: usize) -> Option<Fault>
+        ensures { result ≡ refusal_of self.now.peers coll len }
+    {
         if len > MOST_SHARE {
             return Some(Fault::MsgSize);
         }
@@ -68,8 +73,9 @@ impl Group {
 
     /// Begins a collective with this share. Where it is refused, nothing changes.
     fn begin(&mut self, coll: Coll, share: Buf) -> Result<Collective, Refused>
-        ensures begun { IfOk result (λ begun. (begun.own ≡ share) × (begun.work.coll ≡ coll) × (begun.work.rank ≡ self.old.rank)) }
-        ensures tag { IfOk result (λ begun. 2 ^ 63 ≤ begun.work.tag) }
+        ensures begun { IfOk result (λ begun. (begun.own ≡ share) × (begun.work ≡ work_of self.old coll) × IsFresh begun) }
+        ensures next { OnOk result ((self.new ≡ next_of self.old) × (refusal_of self.old.peers coll (length share) ≡ None)) }
+        ensures why { IfErr result (λ refused. (refused.why ≡ LacksMemory) ⊎ (refusal_of self.old.peers coll (length share) ≡ Some refused.why)) }
         ensures back { IfErr result (λ refused. refused.buf ≡ share) }
         ensures same { OnErr result (self.new ≡ self.old) }
     {
@@ -89,7 +95,9 @@ impl Group {
 
     /// No rank is done before all have begun (fi_barrier). What it comes to has no bytes.
     pub fn barrier(&mut self) -> Result<Collective, Refused>
-        ensures begun { IfOk result (λ begun. (begun.work.coll ≡ Barrier) × (begun.work.rank ≡ self.old.rank)) }
+        ensures begun { IfOk result (λ begun. (begun.own ≡ []) × (begun.work ≡ work_of self.old Barrier) × IsFresh begun) }
+        ensures next { OnOk result (self.new ≡ next_of self.old) }
+        ensures why { IfErr result (λ refused. refused.why ≡ LacksMemory) }
         ensures tag { IfOk result (λ begun. 2 ^ 63 ≤ begun.work.tag) }
         ensures same { OnErr result (self.new ≡ self.old) }
     {
@@ -101,7 +109,9 @@ impl Group {
     ///
     /// `MsgSize` where it has more than [`MOST_SHARE`] bytes, `Invalid` where there is no such root.
     pub fn broadcast(&mut self, root: u32, share: Buf) -> Result<Collective, Refused>
-        ensures begun { IfOk result (λ begun. (begun.own ≡ share) × (begun.work.coll ≡ Broadcast root) × (begun.work.rank ≡ self.old.rank)) }
+        ensures begun { IfOk result (λ begun. (begun.own ≡ share) × (begun.work ≡ work_of self.old (Broadcast root)) × IsFresh begun) }
+        ensures next { OnOk result ((self.new ≡ next_of self.old) × (refusal_of self.old.peers (Broadcast root) (length share) ≡ None)) }
+        ensures why { IfErr result (λ refused. (refused.why ≡ LacksMemory) ⊎ (refusal_of self.old.peers (Broadcast root) (length share) ≡ Some refused.why)) }
         ensures tag { IfOk result (λ begun. 2 ^ 63 ≤ begun.work.tag) }
         ensures back { IfErr result (λ refused. refused.buf ≡ share) }
         ensures same { OnErr result (self.new ≡ self.old) }
@@ -113,7 +123,9 @@ impl Group {
     ///
     /// `MsgSize` where it has more than [`MOST_SHARE`] bytes.
     pub fn allgather(&mut self, share: Buf) -> Result<Collective, Refused>
-        ensures begun { IfOk result (λ begun. (begun.own ≡ share) × (begun.work.coll ≡ Allgather) × (begun.work.rank ≡ self.old.rank)) }
+        ensures begun { IfOk result (λ begun. (begun.own ≡ share) × (begun.work ≡ work_of self.old Allgather) × IsFresh begun) }
+        ensures next { OnOk result ((self.new ≡ next_of self.old) × (refusal_of self.old.peers Allgather (length share) ≡ None)) }
+        ensures why { IfErr result (λ refused. (refused.why ≡ LacksMemory) ⊎ (refusal_of self.old.peers Allgather (length share) ≡ Some refused.why)) }
         ensures tag { IfOk result (λ begun. 2 ^ 63 ≤ begun.work.tag) }
         ensures back { IfErr result (λ refused. refused.buf ≡ share) }
         ensures same { OnErr result (self.new ≡ self.old) }
@@ -127,7 +139,9 @@ impl Group {
     /// `MsgSize` where it has more than [`MOST_SHARE`] bytes, `Invalid` where the operation does not reduce (`is_reducing`) or the
     /// share is no whole number of elements.
     pub fn allreduce(&mut self, op: AtomicOp, num: Num, share: Buf) -> Result<Collective, Refused>
-        ensures begun { IfOk result (λ begun. (begun.own ≡ share) × (begun.work.coll ≡ Allreduce op num) × (begun.work.rank ≡ self.old.rank)) }
+        ensures begun { IfOk result (λ begun. (begun.own ≡ share) × (begun.work ≡ work_of self.old (Allreduce op num)) × IsFresh begun) }
+        ensures next { OnOk result ((self.new ≡ next_of self.old) × (refusal_of self.old.peers (Allreduce op num) (length share) ≡ None)) }
+        ensures why { IfErr result (λ refused. (refused.why ≡ LacksMemory) ⊎ (refusal_of self.old.peers (Allreduce op num) (length share) ≡ Some refused.why)) }
         ensures tag { IfOk result (λ begun. 2 ^ 63 ≤ begun.work.tag) }
         ensures back { IfErr result (λ refused. refused.buf ≡ share) }
         ensures same { OnErr result (self.new ≡ self.old) }
