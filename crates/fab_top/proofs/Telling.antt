@@ -20,6 +20,7 @@ use Rattle.fab_finish.specs.Joined.{member_actor, member_steps}
 use Rattle.fab_finish.specs.Joined.{AreCleared}
 use Rattle.fab_finish.specs.Joined.{Member}
 use Rattle.fab_answer.specs.Laws.{nothing_posted}
+use Rattle.fab_headline.specs.Headline.{Headline}
 use Rattle.fab_top.specs.Runs.{Reports, ComesToRest}
 
 none_posted : (all : List Actor) → AreCleared all → nothing_posted all ≡ true
@@ -40,9 +41,9 @@ found_lawful bound schedule text lawful many few is rest =
 
 pub reports : (bound : Bound) (peers : List Member) (text : List ℕ) (done : Bool) → Reached (rule fabric) (opening bound) (map member_steps peers) (map member_actor peers)
     → at_rest (map member_actor peers) ≡ true → (all_done (map member_actor peers) ≡ true → AreCleared (map member_actor peers)) → length peers ≤ 10 ^ 64 → text ≡ report_of bound.script.version (map member_actor peers) (map member_steps peers)
-    → done ≡ all_done (map member_actor peers) → Reports bound text done
+    → done ≡ all_done (map member_actor peers) → ((schedule : List (List Step)) → Lawful bound schedule → Headline bound schedule) → Reports bound text done
 unfolding report
-reports bound peers text done reached rest cleared few is ends =
+reports bound peers text done reached rest cleared few is ends head =
     let schedule = map member_steps peers in
     let states = map member_actor peers in
     let lawful = reached_lawful bound schedule states reached in
@@ -50,13 +51,15 @@ reports bound peers text done reached rest cleared few is ends =
     let many : length schedule ≡ bound.script.conf.peers = length-map peers member_steps ∙ sym (length-map peers member_actor) ∙ count in
     let whole : text ≡ report bound schedule = is ∙ ap (λ xs. report_of bound.script.version xs schedule) (sym lawful.1) in
     let told : traces text ≡ schedule = ap traces whole ∙ lawful_report_tells bound schedule lawful.0 many (omega (arith, few, count, length-map peers member_actor)) in
+    let found = subst (λ x. Lawful bound x) (sym told) lawful.0 in
     record {
-      lawful = subst (λ x. Lawful bound x) (sym told) lawful.0;
+      lawful = found;
       text_is = whole ∙ ap (report bound) (sym told);
       rest = ap (λ x. at_rest (replayed bound x).states) told ∙ ap at_rest lawful.1 ∙ rest;
       done_is = ap (λ x. all_done (replayed bound x).states) told ∙ ap all_done lawful.1 ∙ sym ends;
       cleared = λ all. ap (λ x. nothing_posted (replayed bound x).states) told ∙ ap nothing_posted lawful.1 ∙ none_posted states (cleared (sym ends ∙ all));
       found = found_lawful bound schedule text lawful.0 many (omega (arith, few, count, length-map peers member_actor)) whole (ap at_rest lawful.1 ∙ rest);
+      headline = head (traces text) found;
     }
 
 -- what peers did that came to rest is a lawful schedule

@@ -19,6 +19,7 @@ use Rattle.std.specs.Io.KnownBytes.{append_known}
 use Rattle.std.specs.List.{list_all}
 use Rattle.fab_answer.specs.Answer.{answer as answer_of}
 use Rattle.fab_answer.specs.Laws.{nothing_posted}
+use Rattle.fab_headline.specs.Headline.{Headline}
 use Rattle.fab_answer.specs.Settled.{is_settled}
 use Rattle.fab_base.specs.Counts.{Rose}
 use Rattle.fab_base.specs.declared.caps.Api.TheVariants.{Two}
@@ -47,6 +48,7 @@ use Rattle.fab_workloads.specs.Bench.{bench_line}
 use Rattle.fab_workloads.specs.Commands.{payload_file, workload_of}
 
 -- The text is the report of the schedule that its own trace lines tell, and this schedule is lawful. At its end the peers are at rest; whether all lines are done then, and if so, nothing is posted. So `replay` answers `lawful, at rest` of it.
+-- And of this schedule the headline holds.
 pub record Reports (bound : Bound) (text : List ℕ) (done : Bool) : Type 0 where
   pub lawful : Lawful bound (traces text)
   pub text_is : text ≡ report bound (traces text)
@@ -54,6 +56,7 @@ pub record Reports (bound : Bound) (text : List ℕ) (done : Bool) : Type 0 wher
   pub done_is : all_done (replayed bound (traces text)).states ≡ done
   pub cleared : done ≡ true → nothing_posted (replayed bound (traces text)).states ≡ true
   pub found : verdict bound text ≡ answer.Lawful true
+  pub headline : Headline bound (traces text)
 
 -- some lawful schedule leads the peers to rest, and this says whether all lines are done then
 abbrev pub ComesToRest : Bound → Bool → Type 0

@@ -25,6 +25,7 @@ use crate::whole::{all_done, report};
 use fab_answer::laws::law_one_answer;
 use fab_base::{Bound, Buf, Caps, Gate, NoMemory, Status, Text};
 use fab_coll_run::coll_file;
+use fab_headline::law_headline;
 use fab_outside::commands::{info_caps, replay_files, script_file};
 use fab_outside::info::info_text;
 use fab_outside::loading::{load_file, load_script};
@@ -61,6 +62,7 @@ fn run_over<C: Machinery + Drop + Send, G: Gate, R: Threads + Wait + Sync>(
     requires start { All (λ m. C.held m ≡ start bound.now.script.conf) machines.items }
     ensures { IfOk result (λ ran. Reports bound.now (string_bytes ran.text) ran.done) }
 {
+    law_headline();
     let runners = ready_bound(alloc, bound, machines, Buffers::AsWanted)?;
     let peers = run_ready(rt, alloc, bound, runners, gate)?;
     let text = report(alloc, bound.script.version, &peers)?;

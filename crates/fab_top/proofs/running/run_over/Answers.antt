@@ -13,7 +13,7 @@ returns g c =
     let few : length peers ≤ 10 ^ 64 = search rules in
     let text = subst (λ (xs : List Member). string_bytes c.in_ok-text.text ≡ report_of b.script.version (map member_actor xs) (map member_steps xs)) c.deref.ensures.value c.in_ok-text.ensures in
     let done = c.all_done.ensures ∙ ap (λ (xs : List Member). all_done (map member_actor xs)) c.deref-2.ensures.value in
-    reports b peers _ _ e.reached e.rest e.cleared few text done
+    reports b peers _ _ e.reached e.rest e.cleared few text done (c.law_headline.ensures.headline b)
 
 pub run_ready-requires-clause-log : goal.run_ready-requires-clause-log
 run_ready-requires-clause-log g c κs live = c.requires.sized.log
