@@ -1,4 +1,4 @@
-//! The real files, an output and a clock behind the traits of `fab_top`.
+//! The real files, an output and a clock behind the traits of `fab_outside`.
 use fab_base::Text;
 use fab_host::{FileDepot, OutSink, WallClock};
 use fab_outside::{Clock, Depot, Failed, LoadRefused, Sink, write_all};
