@@ -30,7 +30,7 @@ pub record HoldsOf (bound : Bound) (turns : List (Turn Step)) (states : List Act
   pub served : ServesInOrder (script_past bound turns p)
   -- no posted receive matches an arrival that is still unexpected, but for a multi-receive that is about to draw it
   pub passed : PassesNoneOver a.state.rx
-  -- each entry that tells a message gives the source, tag, remote data, length and bytes of one that is whole, or its truncation; its receive got that message, or it was claimed or discarded
+  -- each entry that tells a message gives the source, tag, remote data, length and bytes of one that is whole, or its truncation; its receive got that message; only where it was not posted (but made by a take) was the message claimed or discarded
   pub entries : EntryTells (script_past bound turns p) (script_asked bound turns p) (peers states) p (peer_of a)
   -- that of a receive that is no multi-receive has the bytes in the buffer that its call passed, from the first byte on
   pub receives : ReceiveTells (script_past bound turns p) (script_asked bound turns p) (peers states) p (peer_of a)

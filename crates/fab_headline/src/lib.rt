@@ -25,9 +25,10 @@ use fab_model::laws::law_l5;
 /// the replay; and whichever does, there it holds of each peer: what it has taken of each sender is a
 /// prefix of what that sender posted to it; a message that a receive got was the first unclaimed
 /// arrival that the matching rules allow; an entry that tells a message gives the bytes, source, tag
-/// and length, or the truncation, of one that its receive got, or that had been claimed or discarded;
-/// each accepted operation has at most one final completion, none before its level is reached, and
-/// exactly one when the peers have drained, unless suppressed.
+/// and length, or the truncation, of one that its receive got, and only that of a `take`, which is not
+/// posted, of one that had been claimed or discarded; each accepted operation has at most one final
+/// completion, none before its level is reached, and exactly one when the peers have drained, unless
+/// suppressed.
 pub fn law_headline()
     ensures headline { (bound : Bound) (schedule : List (List Step)) → Lawful bound schedule → Headline bound schedule }
 {

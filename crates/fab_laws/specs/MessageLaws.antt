@@ -16,10 +16,10 @@ use Rattle.fab_model.specs.Receiving.{receive_of, taking}
 use Rattle.fab_model.specs.Calls.{Call, Post, TakeClaimed}
 use Rattle.fab_model.specs.Orders.{Turn}
 use Rattle.fab_model.specs.Views.{seen}
-use Rattle.fab_laws.specs.Members.{In}
+use Rattle.fab_laws.specs.Members.{In, Never}
 use Rattle.fab_laws.specs.Programs.{Counts, Deed, Draw, Head, Makes, Peer, Tail, program}
 use Rattle.fab_laws.specs.Moments.{AtEveryMoment, Note, remembered}
-use Rattle.fab_laws.specs.Matched.{Event, Got, Lost, Mark, past_of, tells_message}
+use Rattle.fab_laws.specs.Matched.{Event, Got, Lost, Mark, Wish, made, past_of, tells_message}
 
 abbrev pub asks_for : Call → State → List Receive
 asks_for (Post p) s = receive_of s p ∷ []
@@ -68,9 +68,13 @@ pub record IsMessage (m : List Receive) (ready : ℕ → List Item) (tails : Lis
   pub call : w.call ≡ Some r.call
   pub entry : w.entry ≡ entry_of r place source item.head item.bytes
 
--- the receive of this call got the message, or the message was claimed (and taken by this call) or discarded
+-- no receive that was posted, by recv, trecv or recv_multi, is of this call
+abbrev pub IsNoPost : List Event → ℕ → Type 0
+IsNoPost past call = (w : Wish) → In w (made past) → w.call ≡ call → Never
+
+-- the receive of this call got the message; or the message was claimed or discarded, and the call is no receive that was posted (it is a take)
 abbrev pub Went : List Event → ℕ → Mark → Type 0
-Went past call x = ((last : Bool) × In (Got call x last) past) ⊎ In (Lost x) past
+Went past call x = ((last : Bool) × In (Got call x last) past) ⊎ (In (Lost x) past × IsNoPost past call)
 
 abbrev pub IsWhole : List Event → List Receive → (ℕ → List Item) → List ℕ → Written → Type 0
 IsWhole past m ready tails w = (x : IsMessage m ready tails w) × Went past x.r.call (record { source = x.source; place = x.k; head = x.item.head })

@@ -25,7 +25,7 @@ use Rattle.fab_model.specs.Receiving.{draws, give, without_first}
 use Rattle.fab_model.specs.Peers.{reading}
 use Rattle.fab_model.specs.Sending.{do_answer, do_sent}
 use Rattle.fab_model.specs.Arrivals.{completed, do_draw, do_head, do_request, do_tail, heading_message, heading_other, is_wanted, keeping, made_whole, newcomer, seated, seating, shut, stays, tail_to, taker, used_up, way_of}
-use Rattle.fab_model.specs.Calls.{Call, Look, Post, do_call}
+use Rattle.fab_model.specs.Calls.{Call, Look, Post, TakeClaimed, do_call}
 use Rattle.fab_model.specs.Orders.{Turn}
 use Rattle.fab_model.specs.Views.{More, View, rule, seen}
 use Rattle.fab_model.proofs.Parts.{get_or-set, prefix_get}
@@ -34,8 +34,8 @@ use Rattle.fab_laws.specs.Members.{In, Never}
 use Rattle.fab_laws.specs.Programs.{Counts, Deed, Draw, Head, Makes, Opening, Peer, Tail, program, starting, with_counters}
 use Rattle.fab_laws.specs.Moments.{LeadTo, Note, noted, remembered}
 use Rattle.fab_laws.specs.Completed.{held}
-use Rattle.fab_laws.specs.Matched.{Event, Got, Lost, Mark, arrives, happens, mark_of, noticed, noting, past_of, posting_of}
-use Rattle.fab_laws.specs.MessageLaws.{EntryReads, Went, EntriesTell, ReceivesTell, asked_by, asked_of, asking, keeping_asked}
+use Rattle.fab_laws.specs.Matched.{Event, Lost, Mark, arrives, happens, mark_of, noticed, noting, past_of, posting_of}
+use Rattle.fab_laws.specs.MessageLaws.{EntryReads, IsOf, Went, EntriesTell, ReceivesTell, asked_by, asked_of, asking, keeping_asked}
 use Rattle.fab_laws.proofs.Lists.{Each, always, each_append, each_in, each_removed, each_so, found_in, in_back, in_front, never, raise_here, raise_keeps}
 use Rattle.fab_laws.proofs.Memory.{remembered_keeps}
 use Rattle.fab_laws.proofs.Programs.{Own, program_patient}
@@ -48,7 +48,7 @@ use Rattle.fab_laws.proofs.Counts.{in_many, one}
 use Rattle.fab_laws.proofs.matching.Moves.{Keeps}
 use Rattle.fab_laws.proofs.matching.Steps.{step_keeps}
 use Rattle.fab_laws.proofs.matching.Orders.{fresh_keeps}
-use Rattle.fab_laws.proofs.streams.Events.{claim_event, draw_event, head_event, post_event}
+use Rattle.fab_laws.proofs.streams.Events.{Since, claim_event, draw_event, happens_since, head_event, head_since, post_event, take_event, went_more}
 use Rattle.fab_model.proofs.Views.{more_self}
 use Rattle.fab_laws.proofs.replies.Stray.{AllOwed, all_owed, peer_of, turn_owed}
 use Rattle.fab_laws.proofs.streams.Told.{Sees, Aside, Comes, IsInto, Outlook, Stands, Tells, Told, Truly, answer_still, book_still, call_told, filled_told, given_told, less_waiting, release_still, request_still, sent_still, still_same, still_told, told_calls, waits_truly}
@@ -333,35 +333,35 @@ module _ {M N : Type 0} (f : Note M) (g : Note N) (p : ℕ) where
 abbrev told_by : View Item → List Event → Outlook
 told_by v past = record { view = v; went = Went past; lost = λ x. In (Lost x) past }
 
-pub record Wider (v w : Outlook) : Type 0 where
+-- more is seen and told, of the calls so far
+pub record Wider (calls : ℕ) (v w : Outlook) : Type 0 where
   pub view : More v.view w.view
-  pub went : (call : ℕ) (x : Mark) → v.went call x → w.went call x
+  pub went : (call : ℕ) (x : Mark) → call < calls → v.went call x → w.went call x
   pub lost : (x : Mark) → v.lost x → w.lost x
 
-went_more : (es past : List Event) (call : ℕ) (x : Mark) → Went past call x → Went (es ++ past) call x
-went_more es past call x (inl (last, i)) = inl (last, in_back (Got call x last) es past i)
-went_more es past call x (inr i) = inr (in_back (Lost x) es past i)
+later_past : (v : View Item) (es past : List Event) (calls : ℕ) → Since calls es → Wider calls (told_by v past) (told_by v (es ++ past))
+later_past v es past calls since = record { view = more_self v; went = went_more calls es past since; lost = λ x i. in_back (Lost x) es past i }
 
-later_past : (v : View Item) (es past : List Event) → Wider (told_by v past) (told_by v (es ++ past))
-later_past v es past = record { view = more_self v; went = went_more es past; lost = λ x i. in_back (Lost x) es past i }
+more_seen : (v w : View Item) (past : List Event) (calls : ℕ) → More v w → Wider calls (told_by v past) (told_by w past)
+more_seen v w past calls more = record { view = more; went = λ call x less i. i; lost = λ x i. i }
 
-more_seen : (v w : View Item) (past : List Event) → More v w → Wider (told_by v past) (told_by w past)
-more_seen v w past more = record { view = more; went = λ call x i. i; lost = λ x i. i }
-
-more_told : (v w : Outlook) (m : List Receive) (calls : ℕ) (s : State) → Wider v w → Told v m calls s → Told w m calls s
+more_told : (v w : Outlook) (m : List Receive) (calls : ℕ) (s : State) → Wider calls v w → Told v m calls s → Told w m calls s
 more_told v w m calls s more told = record {
   before = told.before;
   one = told.one;
   posted = told.posted;
-  coming = λ source r place e. (let x = told.coming source r place e in (x.0, (x.1.0, seen_more source _ x.1.0 x.1.1, more.went r.call _ x.1.2)));
+  coming = λ source r place e. (let x = told.coming source r place e in (x.0, (x.1.0, seen_more source _ x.1.0 x.1.1, more.went r.call _ (numbered r x.0.0) x.1.2)));
   waiting = each_so (Truly v s.rx.tails) (Truly w s.rx.tails) s.rx.unexpected truly told.waiting;
   aside = each_so (Aside v s.rx.tails) (Aside w s.rx.tails) (map (λ (c : ℕ × Arrival). c.1) s.rx.claimed) (λ a x. (truly a x.0, more.lost (mark_of a) x.1)) told.aside;
   entries = each_so (Tells v m s.rx.tails) (Tells w m s.rx.tails) s.cq.written (λ x tells t.
       let z = tells t in
       let y = z.0 in
-      (record { r = y.r; of = y.of; place = y.place; single = y.single; source = y.source; k = y.k; item = y.item; at = seen_more y.source y.k y.item y.at; whole = y.whole; call = y.call; entry = y.entry }, more.went y.r.call _ z.1)) told.entries;
+      (record { r = y.r; of = y.of; place = y.place; single = y.single; source = y.source; k = y.k; item = y.item; at = seen_more y.source y.k y.item y.at; whole = y.whole; call = y.call; entry = y.entry }, more.went y.r.call _ (numbered y.r y.of) z.1)) told.entries;
 }
   where
+    numbered : (r : Receive) → IsOf m r → r.call < calls
+    numbered r is = omega (arith, told.before is.first is.asked, is.call)
+
     seen_more : (q k : ℕ) (x : Item) → slice_get (v.view.ready q) k ≡ Some x → slice_get (w.view.ready q) k ≡ Some x
     seen_more q k x e = let r = more.view.ready q in subst (λ xs. slice_get xs k ≡ Some x) r.1 (prefix_get (v.view.ready q) r.0 k x e)
 
@@ -371,23 +371,20 @@ more_told v w m calls s more told = record {
       λ none. (let t = is.1 none in (t.0, (t.1.0, (seen_more a.source a.place t.1.0 t.1.1.0, t.1.1.1)))),
     )
 
-any_call : (past : List Event) (call : ℕ) (x : Mark) → In (Lost x) past → Went past call x
-any_call past call x i = inr i
-
 line_told : (n : ℕ) (v : View Item) (past : List Event) (m : List Receive) (call : Option Call) (s t : State) → Keeps n past s → Told (told_by v past) m s.calls s → LineIs call s t → Told (told_by v (happens s t (posting_of call) ++ past)) (asking call s t ++ m) t.calls t
 line_told n v past m call s t keeps told (inl (none, is)) =
     subst₂ (λ (x : Option Call) (u : State). Told (told_by v (happens s u (posting_of x) ++ past)) (asking x s u ++ m) u.calls u) (sym none) (sym is)
-    (more_told (told_by v past) (told_by v (happens s s None ++ past)) m s.calls s (later_past v (happens s s None) past) told)
+    (more_told (told_by v past) (told_by v (happens s s None ++ past)) m s.calls s (later_past v (happens s s None) past s.calls (happens_since s s None)) told)
 line_told n v past m call s t keeps told (inr (c, same, is)) =
     subst₂ (λ (x : Option Call) (u : State). Told (told_by v (happens s u (posting_of x) ++ past)) (asking x s u ++ m) u.calls u) (sym same) (sym is)
     (let u : State = (do_call s c).1 in
     let late = happens s u (posting_of (Some c)) ++ past in
-    call_told (told_by v late) m s (more_told (told_by v past) (told_by v late) m s.calls s (later_past v (happens s u (posting_of (Some c))) past) told) (any_call late) c (sees c))
+    call_told (told_by v late) m s (more_told (told_by v past) (told_by v late) m s.calls s (later_past v (happens s u (posting_of (Some c))) past s.calls (happens_since s u (posting_of (Some c)))) told) c (sees c))
   where
-    sees : (c : Call) → Sees (told_by v (happens s (do_call s c).1 (posting_of (Some c)) ++ past)) m s (more_told (told_by v past) (told_by v (happens s (do_call s c).1 (posting_of (Some c)) ++ past)) m s.calls s (later_past v (happens s (do_call s c).1 (posting_of (Some c))) past) told)
-        (any_call (happens s (do_call s c).1 (posting_of (Some c)) ++ past)) c
+    sees : (c : Call) → Sees (told_by v (happens s (do_call s c).1 (posting_of (Some c)) ++ past)) m s (more_told (told_by v past) (told_by v (happens s (do_call s c).1 (posting_of (Some c)) ++ past)) m s.calls s (later_past v (happens s (do_call s c).1 (posting_of (Some c))) past s.calls (happens_since s (do_call s c).1 (posting_of (Some c)))) told) c
     sees (Post p) = post_event n past s keeps p
     sees (Look how source tag ignore ctx) = claim_event n past s keeps how source tag ignore ctx
+    sees (TakeClaimed buf ctx) = take_event n past s (do_call s (TakeClaimed buf ctx)).1 keeps
     sees c = always
 
 module _ (s : State) where
@@ -402,8 +399,12 @@ module _ (n : ℕ) (v : View Item) (past : List Event) (m : List Receive) (a b :
   to : (es : List Event) (t : State) → b.state ≡ t → t.calls ≡ a.state.calls → Told (told_by v (es ++ past)) m a.state.calls t → Told (told_by v (es ++ past)) m b.state.calls b.state
   to es t is same o = subst (λ (s : State). Told (told_by v (es ++ past)) m s.calls s) (sym is) (told_calls (told_by v (es ++ past)) m a.state.calls t.calls t (omega (arith, same)) o)
 
-  wide : (es : List Event) → Told (told_by v (es ++ past)) m a.state.calls a.state
-  wide es = more_told (told_by v past) (told_by v (es ++ past)) m a.state.calls a.state (later_past v es past) told
+  wide : (es : List Event) → Since a.state.calls es → Told (told_by v (es ++ past)) m a.state.calls a.state
+  wide es since = more_told (told_by v past) (told_by v (es ++ past)) m a.state.calls a.state (later_past v es past a.state.calls since) told
+
+  -- no call is made
+  silent : Since a.state.calls (happens a.state b.state None)
+  silent = happens_since a.state b.state None
 
   -- what is under way and waits here is kept
   kept : (source : ℕ) → slice_index a.state.rx.heads source ≡ slice_index a.state.rx.tails source + 1 → (x : Arrival) → In x (held a.state.rx) → x.bytes ≡ None → x.source ≡ source → is_keep (coming_from a.state.rx source) ≡ true
@@ -424,10 +425,10 @@ module _ (n : ℕ) (v : View Item) (past : List Event) (m : List Receive) (a b :
   step_by (Makes call) is = line_told n v past m call a.state b.state keeps told is
   step_by (Counts counters) is =
       let es = happens a.state b.state None in
-      to es (with_counters counters a.state) is refl (still_told (told_by v (es ++ past)) m a.state.calls a.state (with_counters counters a.state) (still_same a.state (with_counters counters a.state) refl refl) (wide es))
+      to es (with_counters counters a.state) is refl (still_told (told_by v (es ++ past)) m a.state.calls a.state (with_counters counters a.state) (still_same a.state (with_counters counters a.state) refl refl) (wide es silent))
   step_by (Head source) (item, has, level, none, is) =
       let es = noticed v a (Head source) b in
-      to es (do_head a.state source item.head) is (head_adds a.state source item.head).0 (head_told (told_by v (es ++ past)) m a.state.calls a.state (wide es) source item has level (head_went source item has is))
+      to es (do_head a.state source item.head) is (head_adds a.state source item.head).0 (head_told (told_by v (es ++ past)) m a.state.calls a.state (wide es (head_since a.state.calls v a b source)) source item has level (head_went source item has is))
     where
       head_went : (source : ℕ) (item : Item) → slice_get (v.ready source) (slice_index a.state.rx.heads source) ≡ Some item → b.state ≡ do_head a.state source item.head → (r : Receive) → is_message item.head.kind ≡ true → taker source item.head a.state.rx ≡ Some r
           → Went (noticed v a (Head source) b ++ past) r.call (record { source = source; place = slice_index a.state.rx.heads source; head = item.head })
@@ -443,16 +444,16 @@ module _ (n : ℕ) (v : View Item) (past : List Event) (m : List Receive) (a b :
       let es = happens a.state b.state None in
       let lt = room source (slice_index a.state.rx.tails source) item has in
       to es (do_tail a.state source item.head item.bytes) is ((tail_adds a.state source item.head item.bytes).0)
-      (tail_told (told_by v (es ++ past)) m a.state.calls a.state (wide es) source item has (omega (arith, lt, owed.tails_count)) (omega (arith, lt, owed.coming_count)) (kept source odd))
+      (tail_told (told_by v (es ++ past)) m a.state.calls a.state (wide es silent) source item has (omega (arith, lt, owed.tails_count)) (omega (arith, lt, owed.coming_count)) (kept source odd))
   step_by (Deed.Sent t) (less, is) =
       let es = happens a.state b.state None in
-      to es (do_sent a.state t) is ((sent_adds a.state t).0) (still_told (told_by v (es ++ past)) m a.state.calls a.state (do_sent a.state t) (sent_still a.state t) (wide es))
+      to es (do_sent a.state t) is ((sent_adds a.state t).0) (still_told (told_by v (es ++ past)) m a.state.calls a.state (do_sent a.state t) (sent_still a.state t) (wide es silent))
   step_by Draw (due, is) =
       let es = happens a.state b.state None in
-      to es (do_draw a.state) is ((draw_adds a.state).0) (draw_told (told_by v (es ++ past)) m a.state.calls a.state (wide es) (λ r x e f. subst (λ (t : State). Went (happens a.state t None ++ past) r.call (mark_of x)) (sym is) (draw_event n past a.state keeps r x e f)))
+      to es (do_draw a.state) is ((draw_adds a.state).0) (draw_told (told_by v (es ++ past)) m a.state.calls a.state (wide es silent) (λ r x e f. subst (λ (t : State). Went (happens a.state t None ++ past) r.call (mark_of x)) (sym is) (draw_event n past a.state keeps r x e f)))
   step_by Deed.Read is =
       let es = happens a.state b.state None in
-      to es (reading a.state) is refl (still_told (told_by v (es ++ past)) m a.state.calls a.state (reading a.state) (still_same a.state (reading a.state) refl refl) (wide es))
+      to es (reading a.state) is refl (still_told (told_by v (es ++ past)) m a.state.calls a.state (reading a.state) (still_same a.state (reading a.state) refl refl) (wide es silent))
 
 -- ---- wherever turns lead
 
@@ -484,7 +485,7 @@ module _ (from : Opening) (turns : List (Turn Deed)) (states : List Peer) (leads
       record {
         keeps = step_keeps (length from.peers) k.0 v b c room all.keeps x stood;
         told = more_told (told_by v (noticed v b x c ++ k.0)) (told_by (seen program (set ss p c) p) (noticed v b x c ++ k.0)) (asked_by b x c ++ k.1) c.state.calls c.state
-            (more_seen v (seen program (set ss p c) p) (noticed v b x c ++ k.0) (views.sees_more program (length from.peers) (Own (length from.peers)) (program_patient (length from.peers)) ss p p b c x good.sound at stood))
+            (more_seen v (seen program (set ss p c) p) (noticed v b x c ++ k.0) c.state.calls (views.sees_more program (length from.peers) (Own (length from.peers)) (program_patient (length from.peers)) ss p p b c x good.sound at stood))
             (step_by (length from.peers) v k.0 k.1 b c all.keeps all.told (good.owed p b at) room x (step_is v b c x stood));
       })
       (λ ss k q b c x good at differ ruled all.
@@ -492,7 +493,7 @@ module _ (from : Opening) (turns : List (Turn Deed)) (states : List Peer) (leads
       record {
         keeps = all.keeps;
         told = more_told (told_by (seen program ss p) k.0) (told_by (seen program (set ss q c) p) k.0) k.1 b.state.calls b.state
-            (more_seen (seen program ss p) (seen program (set ss q c) p) k.0 (views.sees_more program (length from.peers) (Own (length from.peers)) (program_patient (length from.peers)) ss q p is.0 c x good.sound is.1 is.2)) all.told;
+            (more_seen (seen program ss p) (seen program (set ss q c) p) k.0 b.state.calls (views.sees_more program (length from.peers) (Own (length from.peers)) (program_patient (length from.peers)) ss q p is.0 c x good.sound is.1 is.2)) all.told;
       })
       turns from.peers states ([], []) (all_owed from [] from.peers refl)
       (λ x at. at_opening from (λ (s : State). AllTold (length from.peers) (seen program from.peers p) [] [] s) (λ conf av names. record {
