@@ -5,7 +5,7 @@
 --     IsNew n port             a port of so many peers, at which nothing was posted or taken
 --     IsSized conf             sizes that a table and peers are made for
 --     at_start conf lines      a peer that is to do these lines
---     AreReady conf lists xs ps  these pasts at these ports: peers of one table, each at the start of its list of lines
+--     AreReady conf lists xs ps  these pasts at these ports: peers of one table with the sizes granted, each at the start of its list of lines
 --     living_with, past_with   a peer that was parted from its port, with what its machine holds
 --     Seated living steps p    the peer p, over a plain port, goes on from there
 --     Follows x q p            it goes on from this past, over this plain port
@@ -27,7 +27,7 @@ use Rattle.fab_finish.specs.Joined.{Member, told_of, member_steps, start}
 use Rattle.fab_table.specs.declared.fabric.Fabric.{Fabric}
 use Rattle.fab_ring.specs.declared.port.RingPort.{RingPort}
 use Rattle.fab_ring.specs.Gather.{AreAll}
-use Rattle.fab_ring.specs.Ports.{number_of, peers_of, table_of, moves_of, out_of, in_of}
+use Rattle.fab_ring.specs.Ports.{number_of, peers_of, room_of, pool_of, table_of, moves_of, out_of, in_of}
 
 abbrev pub Paired : {X Y : Type 0} → (X → Y → Type 0) → List X → List Y → Type 0
 Paired {X} {Y} R xs ys = (k : ℕ) (x : X) (y : Y) → slice_get xs k ≡ Some x → slice_get ys k ≡ Some y → R x y
@@ -74,6 +74,8 @@ pub record AreReady (conf : Conf) (lists : List (List Line)) (pasts : List Past)
   pub count : length ports ≡ conf.peers
   pub begun_are : pasts ≡ map (λ p. begun (first_of conf lists p)) (upto conf.peers)
   pub table : (f : Fabric) × AreAll f ports
+  -- as many cells a lane, and slots a pool, as were granted
+  pub sizes : (k : ℕ) (p : RingPort) → slice_get ports k ≡ Some p → (room_of p ≡ conf.info.lane) × (pool_of p ≡ conf.info.pool)
 
 -- ---- between the ports
 

@@ -1,4 +1,5 @@
-use Rattle.std.proofs.Common.{List, length, ap, refl, subst, sym, ◌∙◌}
+use Rattle.std.proofs.Common.{◌≡◌, List, length, Some, ap, refl, subst, sym, ◌∙◌}
+use Rattle.std.specs.Prelude.{slice_get}
 use Rattle.fab_ring.specs.declared.port.RingPort.{RingPort}
 use Rattle.fab_ring.specs.Made.{rings_table}
 use Rattle.fab_ring.specs.Gather.{AreAll}
@@ -15,10 +16,14 @@ returns g c =
     let f = rings_table c.in_ok-rings.rings in
     let ports = c.in_ok-ports.ports.items in
     let made = c.in_ok-ports.ensures in
+    let granted = c.in_ok-rings.ensures in
     record {
       ready = ok_both _ _ _ (λ rs begun_are same. record {
-        count = ap length same ∙ made.count ∙ c.in_ok-rings.ensures.0;
+        count = ap length same ∙ made.count ∙ granted.0;
         begun_are = begun_are;
         table = (f, subst (λ (zs : List RingPort). AreAll f zs) (sym same) (made_all _ _ _ f ports refl made));
+        sizes = λ k p has. (
+            let own = made.sizes k p (subst (λ (zs : List RingPort). slice_get zs k ≡ Some p) same has) in
+            (own.1 ∙ granted.1, own.2 ∙ granted.2));
       }) c.open.result c.open.ensures.pasts c.open.ensures.ports;
     }
