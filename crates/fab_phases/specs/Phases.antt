@@ -5,7 +5,8 @@
 --     IsNew n port             a port of so many peers, at which nothing was posted or taken
 --     IsSized conf             sizes that a table and peers are made for
 --     at_start conf lines      a peer that is to do these lines
---     AreReady conf lists xs ps  these pasts at these ports: peers of one table with the sizes granted, each at the start of its list of lines
+--     AreReady conf lists xs ps  these pasts at these ports: peers of one table, each at the start of its list of lines
+--     AreSized conf ports      these ports have the sizes granted
 --     living_with, past_with   a peer that was parted from its port, with what its machine holds
 --     Seated living steps p    the peer p, over a plain port, goes on from there
 --     Follows x q p            it goes on from this past, over this plain port
@@ -74,8 +75,10 @@ pub record AreReady (conf : Conf) (lists : List (List Line)) (pasts : List Past)
   pub count : length ports ≡ conf.peers
   pub begun_are : pasts ≡ map (λ p. begun (first_of conf lists p)) (upto conf.peers)
   pub table : (f : Fabric) × AreAll f ports
-  -- as many cells a lane, and slots a pool, as were granted
-  pub sizes : (k : ℕ) (p : RingPort) → slice_get ports k ≡ Some p → (room_of p ≡ conf.info.lane) × (pool_of p ≡ conf.info.pool)
+
+-- ports with as many cells a lane, and slots a pool, as were granted
+abbrev pub AreSized : Conf → List RingPort → Type 0
+AreSized conf ports = (k : ℕ) (p : RingPort) → slice_get ports k ≡ Some p → (room_of p ≡ conf.info.lane) × (pool_of p ≡ conf.info.pool)
 
 -- ---- between the ports
 

@@ -7,7 +7,7 @@ ghost use Rattle.fab_model.specs.Peers.{fabric};
 ghost use Rattle.fab_model.specs.Replay.{all_done, at_rest};
 ghost use Rattle.fab_model.specs.Views.{rule};
 ghost use Rattle.fab_finish.specs.Joined.{AreCleared, actors, opened, schedules, start};
-ghost use Rattle.fab_phases.specs.Phases.{AreReady, IsSized, past_at};
+ghost use Rattle.fab_phases.specs.Phases.{AreReady, AreSized, IsSized, past_at};
 
 use crate::crossing::cross;
 use crate::opening::open;
@@ -43,6 +43,7 @@ pub fn ready<C: Machinery + Drop>(
     requires sized { IsSized conf.now }
     requires start { All (λ m. C.held m ≡ start conf.now) machines.items }
     ensures ready { IfOk result (λ rs. AreReady conf.now (map (λ l. l.items) lists.items) (map (λ r. past_at r.peer) rs.items) (map (λ r. r.peer.endpoint.port) rs.items)) }
+    ensures sizes { IfOk result (λ rs. AreSized conf.now (map (λ r. r.peer.endpoint.port) rs.items)) }
 {
     let rings = Rings::new(alloc, conf.peers, conf.info.lane, conf.info.pool)?;
     let ports = rings.ports(alloc)?;

@@ -7,7 +7,7 @@ ghost use Rattle.fab_model.specs.Peers.{fabric};
 ghost use Rattle.fab_model.specs.Replay.{all_done, at_rest, lines_of, opening};
 ghost use Rattle.fab_model.specs.Views.{rule};
 ghost use Rattle.fab_finish.specs.Joined.{AreCleared, actors, schedules, start};
-ghost use Rattle.fab_phases.specs.Phases.{AreReady, IsSized, past_at};
+ghost use Rattle.fab_phases.specs.Phases.{AreReady, AreSized, IsSized, past_at};
 
 use crate::phases::{ready, run_phases};
 use fab_base::{Bound, Gate, Line, NoMemory};
@@ -46,6 +46,7 @@ pub fn ready_bound<C: Machinery + Drop>(
     requires sized { IsSized bound.now.script.conf }
     requires start { All (λ m. C.held m ≡ start bound.now.script.conf) machines.items }
     ensures ready { IfOk result (λ rs. AreReady bound.now.script.conf (map (lines_of bound.now) (upto bound.now.script.conf.peers)) (map (λ r. past_at r.peer) rs.items) (map (λ r. r.peer.endpoint.port) rs.items)) }
+    ensures sizes { IfOk result (λ rs. AreSized bound.now.script.conf (map (λ r. r.peer.endpoint.port) rs.items)) }
 {
     let lists = lines_of_all(alloc, bound)?;
     ready(alloc, &bound.script.conf, lists, machines, buffers)

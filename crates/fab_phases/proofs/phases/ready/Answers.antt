@@ -22,8 +22,8 @@ returns g c =
         count = ap length same ∙ made.count ∙ granted.0;
         begun_are = begun_are;
         table = (f, subst (λ (zs : List RingPort). AreAll f zs) (sym same) (made_all _ _ _ f ports refl made));
-        sizes = λ k p has. (
-            let own = made.sizes k p (subst (λ (zs : List RingPort). slice_get zs k ≡ Some p) same has) in
-            (own.1 ∙ granted.1, own.2 ∙ granted.2));
       }) c.open.result c.open.ensures.pasts c.open.ensures.ports;
+      sizes = ok_both _ _ _ (λ rs begun_are same. λ k p has.
+          let own = made.sizes k p (subst (λ (zs : List RingPort). slice_get zs k ≡ Some p) same has) in
+          (own.1 ∙ granted.1, own.2 ∙ granted.2)) c.open.result c.open.ensures.pasts c.open.ensures.ports;
     }

@@ -9,4 +9,5 @@ returns g c =
     record {
       ready = subst (λ (lists : List (List Line)). IfOk c.ready.result (λ rs. AreReady c.args.bound.now.script.conf lists (map (λ r. past_at r.peer) rs.items) (map (λ r. r.peer.endpoint.port) rs.items)))
           c.in_ok-lists.ensures c.ready.ensures.ready;
+      sizes = c.ready.ensures.sizes;
     }
