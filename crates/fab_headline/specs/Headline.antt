@@ -34,7 +34,7 @@ pub record HoldsOf (bound : Bound) (turns : List (Turn Step)) (states : List Act
   pub entries : EntryTells (script_past bound turns p) (script_asked bound turns p) (peers states) p (peer_of a)
   -- that of a receive that is no multi-receive has the bytes in the buffer that its call passed, from the first byte on
   pub receives : ReceiveTells (script_past bound turns p) (script_asked bound turns p) (peers states) p (peer_of a)
-  -- each accepted operation has at most one final completion; exactly one once all is drained, unless it is suppressed, and then none; and none before its level is reached
+  -- each accepted operation has at most one final completion: exactly one once it has ended, as it has once all is drained, unless it is suppressed, and then none; none before it has ended, and none before its level is reached
   pub once : AllCompleteOnce (script_operations bound turns p) (peers states) p (peer_of a)
   -- no number has two final completions, and what has one is the number of an accepted operation
   pub numbers : (call : ℕ) → NumberCompletes (script_operations bound turns p) (peer_of a) call

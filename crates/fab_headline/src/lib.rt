@@ -27,8 +27,8 @@ use fab_model::laws::law_l5;
 /// arrival that the matching rules allow; an entry that tells a message gives the bytes, source, tag
 /// and length, or the truncation, of one that its receive got, and only that of a `take`, which is not
 /// posted, of one that had been claimed or discarded; each accepted operation has at most one final
-/// completion, none before its level is reached, and exactly one when the peers have drained, unless
-/// suppressed.
+/// completion, none before its level is reached, and exactly one once it has ended, as each has when the
+/// peers have drained, unless suppressed.
 pub fn law_headline()
     ensures headline { (bound : Bound) (schedule : List (List Step)) → Lawful bound schedule → Headline bound schedule }
 {
