@@ -51,7 +51,7 @@ fn completed_by(entry: Entry) -> Option<Ended> {
         } => {
             let status = Status {
                 source: Some(source),
-                tag: tag.map(tag_of),
+                tag: tag.map(|bits| tag_of(bits)),
                 len,
             };
             (ctx, status, buf)
