@@ -115,7 +115,7 @@ fn publishes<E: Calls + Drop>(alloc: Global, zero: &mut EndpointOver<E>) -> bool
     match Buf::copy(alloc, b"mine") {
         Ok(buf) => {
             publish(zero, 9, buf).is_ok()
-                && withdraw(zero, 9).is_some_and(|buf| buf.as_slice() == b"mine")
+                && withdraw(zero, 9).is_some_and(|buf| buf.as_slice() == b"mine".as_slice())
         }
         Err(_) => false,
     }
