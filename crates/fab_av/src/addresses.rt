@@ -13,7 +13,6 @@ use fab_base::{Fault, List, MOST_INDICES, NoMemory, Text};
 use std::alloc::Global;
 use std::marker::Model;
 
-/// How many indices a vector gives in all.
 /// An address vector. Contracts see how many peers there are, and of each index that was given the peer that
 /// stands there.
 ///

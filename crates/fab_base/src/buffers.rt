@@ -72,7 +72,7 @@ impl Buf {
         self.bytes.as_slice()
     }
 
-    /// Writes over the bytes from the place `at` on. The length stays.
+    /// Writes over the bytes from the place `at` on, which end within the length. The length stays.
     pub fn write_at(&mut self, at: usize, bytes: &[u8])
         requires { at + length bytes.now ≤ length self.old }
         ensures { self.new ≡ take at self.old ++ bytes.now ++ drop (at + length bytes.now) self.old }

@@ -12,15 +12,17 @@ pub enum PeekHow {
     Discard,
 }
 
-/// A success. `ctx` is the context of the call, `imm` the remote data, `source` the sender's number,
-/// `len` the bytes received, and `buf` the operation's buffer, which comes back.
+/// A success. `ctx` is the context of the call, `imm` the remote data, `source` the sender's number (and no index), and `buf` the
+/// operation's buffer, which comes back.
 #[derive(Drop)]
 pub enum Entry {
+    /// A message is complete at its level (FI_SEND).
     Sent {
         ctx: u64,
         tagged: bool,
         buf: Buf,
     },
+    /// A message was received (FI_RECV): the first `len` bytes of `buf`. The rest is what it was.
     Received {
         ctx: u64,
         source: u32,
@@ -29,6 +31,7 @@ pub enum Entry {
         len: u32,
         buf: Buf,
     },
+    /// A message lies in a buffer for many: `len` bytes from `at` on (FI_MULTI_RECV).
     Part {
         ctx: u64,
         source: u32,
@@ -36,11 +39,13 @@ pub enum Entry {
         at: u32,
         len: u32,
     },
+    /// A buffer for many comes back, of which the first `used` bytes were given to messages.
     Released {
         ctx: u64,
         used: u32,
         buf: Buf,
     },
+    /// A look found a message of `len` bytes in all, maybe not whole yet, or one that was claimed is dropped.
     Peeked {
         ctx: u64,
         how: PeekHow,
@@ -49,21 +54,26 @@ pub enum Entry {
         imm: Option<u64>,
         len: u32,
     },
+    /// A read is done (FI_READ).
     Read {
         ctx: u64,
         buf: Buf,
     },
+    /// The peer performed a write (FI_WRITE).
     Wrote {
         ctx: u64,
         buf: Buf,
     },
+    /// The peer performed an atomic (FI_ATOMIC).
     Updated {
         ctx: u64,
     },
+    /// The peer performed an atomic: the elements before it.
     Fetched {
         ctx: u64,
         result: Buf,
     },
+    /// A peer wrote with data (FI_REMOTE_CQ_DATA).
     RemoteData {
         source: u32,
         imm: u64,
@@ -71,18 +81,25 @@ pub enum Entry {
 }
 
 /// Why an operation failed.
-#[derive(Clone, Copy, Drop, Eq, PartialEq)]
+#[derive(Clone, Copy, Debug, Drop, Eq, PartialEq)]
 pub enum ErrKind {
+    /// The message was longer than its buffer (FI_ETRUNC).
     Truncated,
+    /// A look found none (FI_ENOMSG).
     NoMsg,
+    /// The receive was cancelled (FI_ECANCELED).
     Canceled,
+    /// The peer has no region under the key (FI_ENOKEY).
     NoKey,
+    /// The region does not give the right (FI_EACCES).
     Access,
+    /// The place is beyond the region's end.
     Range,
 }
 
 /// An error. All but `ctx`, `kind` and `buf` are filled for `Truncated` alone: `len` the bytes placed,
-/// `olen` the bytes cut off, `at` the place in a multi-receive.
+/// `olen` the bytes cut off, `at` the place in a multi-receive. `buf` is `None` where the operation took none, or where a message
+/// was cut off in a buffer for many.
 #[derive(Drop)]
 pub struct ErrEntry {
     pub ctx: Option<u64>,
@@ -113,11 +130,17 @@ pub struct Kept {
 /// What a counter counts.
 #[derive(Clone, Copy, Debug, Drop, Eq, PartialEq)]
 pub enum Class {
+    /// Messages sent (FI_SEND).
     Send,
+    /// Messages received (FI_RECV).
     Recv,
+    /// Reads, and atomics that bring elements back (FI_READ).
     Read,
+    /// Writes, and other atomics (FI_WRITE).
     Write,
+    /// What peers read of own regions (FI_REMOTE_READ). It counts where FI_RMA_EVENT is granted.
     RemoteRead,
+    /// What peers wrote to own regions (FI_REMOTE_WRITE). It counts where FI_RMA_EVENT is granted.
     RemoteWrite,
 }
 

@@ -28,7 +28,8 @@ pub enum Busy {
     TxFull(u32),
     /// As many receives are posted as `rx` says.
     PostedFull(u32),
-    /// The completion queue has no room for the entries of this call.
+    /// The completion queue has no room for the entries of this call, or for those of messages that have to be put into a buffer
+    /// for many before it.
     CqFull(u32),
     /// The log has fewer than two free places.
     LogFull(u32),
@@ -63,6 +64,14 @@ impl From<NoMemory> for Fault {
     ghost from_gives = { λ _ fault. fault ≡ LacksMemory };
 
     fn from(_error: NoMemory) -> Fault {
+        Fault::NoMemory
+    }
+}
+
+impl<T: Drop> From<AllocFailed<T>> for Fault {
+    ghost from_gives = { λ _ fault. fault ≡ LacksMemory };
+
+    fn from(_error: AllocFailed<T>) -> Fault {
         Fault::NoMemory
     }
 }

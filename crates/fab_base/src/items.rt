@@ -39,7 +39,8 @@ pub enum Outcome {
     BadRange,
 }
 
-/// The operation of an atomic, fi_atomic(3).
+/// The operation of an atomic, fi_atomic(3). Sums and products wrap; the logical ones give 1 or 0. The comparing ones have the compare
+/// c on the left of the target's element t: `CswapLe` writes where c <= t, and so on; `Mswap` gives (b and c) or (t and not c).
 #[derive(Clone, Copy, Drop, Eq, PartialEq)]
 pub enum AtomicOp {
     Min,

@@ -4,7 +4,7 @@ use crate::entries::Kept;
 use crate::faults::Fault;
 
 /// When a message operation completes (fi_cq(3)): at `Inject` and `Transmit` when it is transmitted,
-/// at `Delivery` when it is whole at the target, at `Match` when a receive took it besides.
+/// at `Delivery` when it is whole at the target, at `Match` when a receive took it besides, or the target threw it away.
 #[derive(Clone, Copy, Drop, Eq, PartialEq)]
 pub enum Level {
     Inject,

@@ -245,10 +245,10 @@ impl Multis for RingEndpoint {
         &mut self,
         source: Option<u32>,
         buf: Buf,
-        min: u32,
+        least: u32,
         ctx: u64,
     ) -> Result<(), Refused> {
-        self.inner.recv_multi(source, buf, min, ctx)
+        self.inner.recv_multi(source, buf, least, ctx)
     }
 
     fn multi_bytes(&self, ctx: u64, at: u32, len: u32) -> Option<&[u8]> {

@@ -38,14 +38,10 @@ impl<P: Port, C: MultiReceiving> Multis for Endpoint<P, C> {
         &mut self,
         source: Option<u32>,
         buf: Buf,
-        min: u32,
+        least: u32,
         ctx: u64,
     ) -> Result<(), Refused> {
-        let ask = MultiAsk {
-            source,
-            least: min,
-            ctx,
-        };
+        let ask = MultiAsk { source, least, ctx };
         self.post_many(&ask, buf)
     }
 

@@ -230,16 +230,16 @@ pub trait Multis: Sees {
     fn sharing(&self)
         ensures { IsSharing (Self.seen self.now).held };
 
-    /// Posts a buffer for many untagged messages, until fewer than `min` bytes are free (FI_MULTI_RECV).
+    /// Posts a buffer for many untagged messages, until fewer than `least` bytes are free (FI_MULTI_RECV).
     fn recv_multi(
         &mut self,
         source: Option<u32>,
         buf: Buf,
-        min: u32,
+        least: u32,
         ctx: u64,
     ) -> Result<(), Refused>
-        ensures ok { OnOk result (Receives (receive_call false source 0 0 buf (Some min) ctx) (Self.seen self.old) (Self.seen self.new)) }
-        ensures err { IfErr result (λ r. (r.buf ≡ buf) × ReceivesNot (receive_call false source 0 0 buf (Some min) ctx) (Self.seen self.old) (Self.seen self.new) r.why) };
+        ensures ok { OnOk result (Receives (receive_call false source 0 0 buf (Some least) ctx) (Self.seen self.old) (Self.seen self.new)) }
+        ensures err { IfErr result (λ r. (r.buf ≡ buf) × ReceivesNot (receive_call false source 0 0 buf (Some least) ctx) (Self.seen self.old) (Self.seen self.new) r.why) };
 
     /// Lends bytes of the oldest multi-receive of this context whose buffer has not come back. They are the bytes of
     /// messages that are whole; a message that is still arriving has not changed them. `None` exactly where there is no such

@@ -6,7 +6,7 @@ use crate::calls::Sees;
 use crate::machine::Machine;
 use fab_base::Fault;
 
-/// A message that came and that no receive took. It may not be whole yet.
+/// A message that came and that no receive took. It may not be whole yet. `source` is the peer's number (and no index), `len` the bytes of the whole message.
 #[derive(Clone, Copy, Drop, Eq, PartialEq)]
 pub struct Probed {
     pub source: u32,

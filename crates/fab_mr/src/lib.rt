@@ -1,4 +1,4 @@
-//! The memory regions of an endpoint: bytes under keys, which other peers reach by their offset (fi_mr(3), where a domain has them).
+//! The memory regions of an endpoint: bytes under keys, which other peers reach by their offset (fi_mr(3)).
 //!
 //! [`Regions`] is a finite map from a key to the rights that a region gives and to its bytes. It
 //! finds a key by its hash. Contracts see the list of the regions in the order in which they were

@@ -17,7 +17,7 @@ struct Held {
     buf: Buf,
 }
 
-/// The regions of a domain, each under its key, a number of 64 bits that the caller picks
+/// The regions of an endpoint, each under its key, a number of 64 bits that the caller picks
 /// (FI_MR_PROV_KEY is not set). Contracts see a list of regions.
 ///
 /// A look-up costs the same however many regions there are. To close one costs a step for each that

@@ -2,11 +2,9 @@
 --     IsOpened              a port over these ends, which were not used
 --     AreJoined             for each two ports, the lane at whose end the one posts is that at whose end the other takes
 --     AreMade               new ports of all peers, in order
---     IsNew, AreNew         ports all of whose lanes end with a whole item
 use Rattle.std.specs.Prelude.{◌≡◌, ℕ, ◌<◌, ◌≤◌, List, [], length, Some, slice_get, Vec}
 use Rattle.std.specs.declared.alloc.Global.{Global}
-use Rattle.fab_wire.specs.Cut.{IsBetweenItems}
-use Rattle.fab_link.specs.Meaning.{AreFresh, end_of}
+use Rattle.fab_link.specs.Meaning.{AreFresh}
 use Rattle.fab_queue.specs.Ends.{Out, In}
 use Rattle.fab_queue.specs.Ports.{Queued, out_of, in_of, number_of, peers_of, room_of, moves_of, lanes_of}
 use Rattle.fab_queue.specs.Laid.{members, out_in, in_in}
@@ -41,10 +39,3 @@ pub record AreMade (peers room : ℕ) (ports : List Queued) : Type 0 where
   pub sizes : (k : ℕ) (p : Queued) → slice_get ports k ≡ Some p → (peers_of p ≡ peers) × ((d : ℕ) → d < peers → room_of p d ≡ room)
   pub joined : AreJoined ports
   pub fresh : (k : ℕ) (p : Queued) → slice_get ports k ≡ Some p → (moves_of p ≡ []) × ((d : ℕ) → AreFresh (out_of p d) (in_of p d))
-
--- a port of so many peers, all of whose lanes end with a whole item
-abbrev pub IsNew : ℕ → Queued → Type 0
-IsNew peers p = (peers_of p ≡ peers) × ((d : ℕ) → IsBetweenItems (end_of (out_of p d)))
-
-abbrev pub AreNew : ℕ → List Queued → Type 0
-AreNew peers ports = (k : ℕ) (p : Queued) → slice_get ports k ≡ Some p → IsNew peers p

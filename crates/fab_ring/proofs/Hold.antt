@@ -18,12 +18,12 @@ use Rattle.fab_table.specs.declared.kinds.Out.{Out}
 use Rattle.fab_table.specs.declared.kinds.In.{In}
 use Rattle.fab_table.specs.declared.kinds.Part.{Part}
 use Rattle.fab_table.specs.Views.{new_part, new_out, new_in, out_at, in_at, with_out, with_in, posted_one, saw_empty, saw_frame, taken_one, freed_one, has_slot, lane_of}
-use Rattle.fab_table.specs.Rule.{IsBuf, cell_of, greatest}
+use Rattle.fab_table.specs.Rule.{cell_of, greatest}
 use Rattle.fab_table.specs.Plays.{oldest_of}
 use Rattle.fab_table.proofs.Rows.{each_set}
 use Rattle.fab_table.proofs.Orders.{greatest_more}
 use Rattle.fab_table.proofs.Seating.{same_all, same_within}
-use Rattle.fab_ring.specs.Hands.{size_of, shape, shapes, span, ring, slot_of, lent_of, held_of, held, slot_named, numbered, HasSlot, Fits}
+use Rattle.fab_ring.specs.Hands.{shape, shapes, span, ring, slot_of, lent_of, held_of, held, slot_named, numbered, HasSlot, Fits}
 
 module _ {X : Type 0} where
   span_same : (h k : ℕ → List X) (a c : ℕ) → ((x : ℕ) → a ≤ x → x < a + c → h x ≡ k x) → span h a c ≡ span k a c
@@ -83,10 +83,6 @@ nothing (Some x) e = absurd (true≢false e)
 pub something : {A : Type 0} (o : Option A) → is_some o ≡ true → (x : A) × (o ≡ Some x)
 something None e = absurd (true≢false (sym e))
 something (Some x) e = (x, refl)
-
-pub is_buf : (y : Slot) → size_of y ≡ 4097 → IsBuf y
-is_buf (Cell x) e = absurd (let n : ℕ = 0 in let e' : n ≡ 4097 = e in omega arith)
-is_buf (Pool b) e = omega arith
 
 -- what lies in hand has this shape
 pub cell_first : (hand : List (ℕ × Slot)) (a : ℕ) (more : List (ℕ × ℕ)) → shapes hand ≡ (a, 0) ∷ more → (c : Command) × (hand ≡ (a, Cell c) ∷ rest hand) × (shapes (rest hand) ≡ more)

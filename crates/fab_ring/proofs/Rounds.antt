@@ -1,16 +1,12 @@
 -- What stays of the cells of the next frames.
-use Rattle.std.proofs.Common.{◌≡◌, ℕ, suc, ◌+◌, ◌*◌, ◌%◌, ◌<◌, ◌≤◌, List, length, get_or, set, replicate, sym, ap, ◌∙◌, subst, arith, mul-le-mul_right, length-set, get_or-set_same, get_or-set_other}
+use Rattle.std.proofs.Common.{◌≡◌, ℕ, ◌+◌, ◌*◌, ◌%◌, ◌<◌, ◌≤◌, List, length, get_or, set, replicate, sym, ap, ◌∙◌, subst, arith, mul-le-mul_right, length-set, get_or-set_same, get_or-set_other}
 use lib.ListN.{length-replicate}
 use mathlib.Core.Logic.{dite}
 use native.Mathlib.Decide.{ℕ_discrete}
-use Rattle.std.proofs.Math.Nat.{suc-mod, mod_self, mod-eq_of_lt, zero-mod}
+use Rattle.std.proofs.Math.Nat.{zero-mod}
 use Rattle.fab_table.proofs.Seating.{same_all}
 use Rattle.fab_ring.specs.Hands.{Rounds}
 use Rattle.fab_ring.proofs.Hold.{get_any}
-
-pub after_last : (room cell k : ℕ) → cell ≡ k % room → cell + 1 ≡ room → 0 ≡ (k + 1) % room
-after_last room cell k is end = let e : suc k ≡ k + 1 = omega arith in let f : suc cell ≡ cell + 1 = omega arith in
-    sym (mod_self room) ∙ ap (λ (z : ℕ). z % room) (sym end ∙ sym f ∙ ap suc is) ∙ sym (suc-mod k room) ∙ ap (λ (z : ℕ). z % room) e
 
 -- where a lane's cell lies
 pub cell_small : (n room s me cell : ℕ) → n ≤ 64 → room ≤ 1024 → s < n → me < n → cell < room → (s * n + me) * room + cell < 18446744073709551616

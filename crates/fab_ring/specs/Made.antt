@@ -1,8 +1,7 @@
 -- Ports as they are made.
 use Rattle.std.specs.Prelude.{◌≡◌, ℕ, List, [], length, Some, slice_get}
 use Rattle.std.specs.Arc.{arc_value}
-use Rattle.fab_wire.specs.Cut.{IsBetweenItems}
-use Rattle.fab_link.specs.Meaning.{AreFresh, end_of}
+use Rattle.fab_link.specs.Meaning.{AreFresh}
 use Rattle.fab_table.specs.declared.fabric.Fabric.{Fabric}
 use Rattle.fab_table.specs.Views.{new_part}
 use Rattle.fab_ring.specs.declared.port.RingPort.{RingPort}
@@ -32,10 +31,3 @@ pub record AreMade (peers room pool : ℕ) (table : Fabric) (ports : List RingPo
   pub sizes : (k : ℕ) (p : RingPort) → slice_get ports k ≡ Some p → (peers_of p ≡ peers) × (room_of p ≡ room) × (pool_of p ≡ pool)
   pub tables : (k : ℕ) (p : RingPort) → slice_get ports k ≡ Some p → table_of p ≡ table
   pub fresh : (k : ℕ) (p : RingPort) → slice_get ports k ≡ Some p → (moves_of p ≡ []) × ((d : ℕ) → AreFresh (out_of p d) (in_of p d))
-
--- a port of so many peers, all of whose lanes end with a whole item
-abbrev pub IsNew : ℕ → RingPort → Type 0
-IsNew peers p = (peers_of p ≡ peers) × ((d : ℕ) → IsBetweenItems (end_of (out_of p d)))
-
-abbrev pub AreNew : ℕ → List RingPort → Type 0
-AreNew peers ports = (k : ℕ) (p : RingPort) → slice_get ports k ≡ Some p → IsNew peers p

@@ -128,25 +128,6 @@ module _ (room base put got : ℕ) (homes : Homes) (l : Lane) (ok : LaneOk room 
     writing_is = λ e. let w = ok.writing_is e in omega arith;
   }
 
-  -- a look gives it back with the frame's command in it
-  pub closes : (x : Sent) (s : Slot) → Says x s → l.opened ≡ Some x → cell_of base room l.got < length homes → LaneOk room base put got (set homes (cell_of base room l.got) (some s)) (with_opened l None false)
-  closes x s says held inside = let behind = ok.behind in let within = ok.within in let here = ok.open_is x held in let some_frame = at_lt l.posted l.got x here in record {
-    put_is = ok.put_is;
-    got_is = ok.got_is;
-    behind = ok.behind;
-    within = ok.within;
-    filled = λ k y le at. let lt = at_lt l.posted k y at in dite (ℕ_discrete k l.got)
-        (λ e. let same : x ≡ y = some-injective x y (sym here ∙ (ap (get_elem? l.posted) (sym e) ∙ at)) in
-        inr (s, subst (λ (z : Sent). Says z s) same says, ap (λ (j : ℕ). get_elem? (set homes (cell_of base room l.got) (some s)) (cell_of base room j)) e ∙ set_here homes (cell_of base room l.got) (some s) inside))
-        (λ ne. ⊎_elim (λ o. absurd (ne o.0)) (λ h. inr (h.0, h.1, set_else homes (cell_of base room l.got) (cell_of base room k) (some s) (apart room base k l.got (omega arith) (omega arith) ne) ∙ h.2)) (ok.filled k y le at));
-    free = λ k le lt. ⊎_elim (λ o. inl o)
-        (λ h. inr (h.0, h.1, set_else homes (cell_of base room l.got) (cell_of base room k) (some s) (apart room base k l.got (omega arith) (omega arith) (λ e. omega arith)) ∙ h.2)) (ok.free k le lt);
-    cut = ok.cut;
-    short = ok.short;
-    open_is = λ y e. absurd (none-some y e);
-    writing_is = ok.writing_is;
-  }
-
   -- the sender's cell goes back after a look, with anything in it
   pub returns : (y : Slot) → IsCell y → l.writing ≡ true → cell_of base room n < length homes → LaneOk room base put got (set homes (cell_of base room n) (some y)) (with_writing l false)
   returns y is_cell hand inside = let behind = ok.behind in let within = ok.within in let space = ok.writing_is hand in record {

@@ -196,10 +196,6 @@ module _ (n room pool i : ℕ) where
     kept = new_kept;
   }
 
-get_or-snoc : {A : Type 0} (l : List A) (y d : A) → get_or (l ++ y ∷ []) (length l) d ≡ y
-get_or-snoc [] y d = refl
-get_or-snoc (x ∷ xs) y d = get_or-snoc xs y d
-
 pub starts : (k : Layout) (ws : List ℕ) (xs : List Slot) → 0 < k.room → length ws ≡ k.peers * k.peers * 32 + k.peers * k.pool * 16 → ((i : ℕ) → get_or ws i 0 ≡ 0) → length xs ≡ k.peers * k.peers * k.room + k.peers * k.pool → (d : Slot) → ((q : ℕ) → q < k.peers * k.peers * k.room → IsCell (get_or xs q d)) → ((q : ℕ) → k.peers * k.peers * k.room ≤ q → q < k.peers * k.peers * k.room + k.peers * k.pool → IsBuf (get_or xs q d))
     → Ruled k (opening ws xs (everyone k.peers k.room k.pool))
 starts k ws xs pos wide zeros long d₀ cells bufs = let n : ℕ = k.peers in let room : ℕ = k.room in let pool : ℕ = k.pool in record {

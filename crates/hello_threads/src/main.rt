@@ -3,7 +3,7 @@
 //! What a thread does is written over any endpoint: the clauses of a given one would be carried through each function.
 #![tactic(auto)]
 
-use fabric::{Buf, Calls, EndpointOver, Entry, Fault, Hints, NoMemory, Polled, again, open};
+use fabric::{Buf, Calls, EndpointOver, Entry, Fault, Hints, Polled, again, open};
 use std::alloc::Global;
 use std::sync::Wait;
 use std::thread::{Threads, join};
@@ -20,7 +20,7 @@ fn post<E: Calls + Drop>(
 ) -> Result<(), Fault> {
     if let Some(buf) = free.pop() {
         if let Err(refused) = endpoint.recv(Some(other), buf, 0) {
-            free.push(again(refused)?).map_err(|_| NoMemory)?;
+            free.push(again(refused)?)?;
         }
     }
     Ok(())
@@ -46,7 +46,7 @@ fn run<R: Wait, E: Calls + Drop>(
     let mut free = Vec::new(alloc);
     for _ in 0..AHEAD {
         let buf = Buf::zeros(alloc, 8)?;
-        free.push(buf).map_err(|_| NoMemory)?;
+        free.push(buf)?;
     }
     let (mut sent, mut came) = (0, 0);
     for _ in rt.forever() {
@@ -63,7 +63,7 @@ fn run<R: Wait, E: Calls + Drop>(
         }
         if let Some(buf) = receive(&mut endpoint)? {
             came = came.saturating_add(1);
-            free.push(buf).map_err(|_| NoMemory)?;
+            free.push(buf)?;
         }
     }
     Ok(came)
