@@ -1,1 +1,4 @@
+pub mod Elements
 pub mod Refused
+pub mod Regions
+pub mod Requests
