@@ -2,7 +2,7 @@
 --     work_of group coll                the collective of this kind that is next: its rank, how many ranks there are, and its tag
 --     next_of group                     the group once it began one more
 --     refusal_of peers coll len         why one is not begun with a share of so many bytes
---     IsFresh collective                all its shares are missing, and none failed
+--     IsFresh collective                no call was made for it, all its shares are missing, and none failed
 use Rattle.std.specs.Prelude.{◌≡◌, ℕ, ◌+◌, ◌%◌, ◌^◌, Bool, true, false, ◌&&◌, ◌==◌, nat_lt, cond, Option, Some, None}
 use Rattle.fab_base.specs.Elements.{element_size}
 use Rattle.fab_base.specs.declared.faults.Fault.{Fault}
@@ -34,4 +34,4 @@ abbrev pub refusal_of : ℕ → Coll → ℕ → Option Fault
 refusal_of peers coll len = cond (nat_lt MOST_SHARE len) (Some MsgSize) (cond (is_right peers coll len) None (Some Invalid))
 
 abbrev pub IsFresh : Collective → Type 0
-IsFresh c = (c.missing ≡ sources_of c.work.coll c.work.rank c.work.peers) × (c.failed ≡ false)
+IsFresh c = (c.asked ≡ 0) × (c.sent ≡ 0) × (c.missing ≡ sources_of c.work.coll c.work.rank c.work.peers) × (c.failed ≡ false)

@@ -1,3 +1,4 @@
 pub mod Places
 pub mod Offering
 pub mod Beginning
+pub mod Driving

@@ -1,14 +1,14 @@
 //! A collective that was begun.
-ghost use Rattle.std.specs.Prelude.{◌≡◌, ◌-◌, false, true, Some, None, IfOk, IfErr, IfSome, IsSome};
+ghost use Rattle.std.specs.Prelude.{◌≡◌, ◌≤◌, ◌-◌, false, true, Some, None, is_ok, IfOk, IfErr, IfSome, IsSome};
 ghost use Rattle.fab_base.specs.declared.faults.Fault.TheVariants.{NoMemory as LacksMemory};
 ghost use Rattle.fab_collectives.specs.Beginning.{IsFresh};
 ghost use Rattle.fab_fold.specs.Shares.{outcome_of};
+ghost use Rattle.fab_collectives.specs.Driving.{Asks, AsksAll, AsksNot, Drives, Tells, TellsAll, TellsNot, Tries};
 ghost use Rattle.fab_collectives.specs.Offering.{brought, failed_after, is_of, is_under, missing_after, received_after, share_in, with_share};
 
 use crate::shares::{cut, made, needs, place, sources};
 use fab_app::completions::{Polled, ctx_of};
 use fab_app::endpoint::{Calls, Endpoint};
-use fab_app::trying::again;
 use fab_base::{Buf, Entry, Fault, NoMemory, Refused};
 use fab_fold::Coll;
 use std::alloc::Global;
@@ -22,13 +22,6 @@ pub struct Work {
     pub tag: u64,
 }
 
-/// The receives of shares: buffers that are not posted, and the rank from which all receives are still to be posted.
-#[derive(Drop)]
-struct Asking {
-    free: Vec<Buf>,
-    next: u32,
-}
-
 /// A collective that was begun. Whoever reads the completion queue of its endpoint offers it what was read, and drives it
 /// until it is done.
 ///
@@ -40,8 +33,9 @@ pub struct Collective {
     own: Buf,
     /// The shares that came, in order of ranks.
     received: Vec<Buf>,
-    asking: Asking,
-    /// The rank from which all ranks have still to be sent the own share.
+    /// The rank from which on receives of shares have still to be posted.
+    asked: u32,
+    /// The rank from which on ranks have still to be sent the own share.
     sent: u32,
     /// How many shares have not come.
     missing: u32,
@@ -49,45 +43,51 @@ pub struct Collective {
     failed: bool,
 }
 
-/// So many buffers of so many bytes.
-fn buffers(alloc: Global, count: u32, len: usize) -> Result<Vec<Buf>, NoMemory> {
+/// So many empty buffers.
+fn empty(alloc: Global, count: u32) -> Result<Vec<Buf>, NoMemory> {
     let mut all = Vec::new(alloc);
     for _ in 0..count {
-        let buf = Buf::zeros(alloc, len as u64)?;
+        let buf = Buf::zeros(alloc, 0)?;
         all.push(buf)?;
     }
     Ok(all)
 }
 
-/// Posts a receive of the share of rank s, and tells whether it is posted, or refused for now.
+/// Posts a receive of the share of rank s, of so many bytes at most, and tells whether it is posted, or refused for now.
 fn ask<E: Calls + Drop>(
     endpoint: &mut Endpoint<E>,
+    alloc: Global,
     tag: u64,
+    len: usize,
     s: u32,
-    free: &mut Vec<Buf>,
-) -> Result<bool, Fault> {
-    let Some(buf) = free.pop() else {
-        return Ok(true);
-    };
-    let Err(refused) = endpoint.trecv(Some(s), tag, 0, buf, tag) else {
-        return Ok(true);
-    };
-    let buf = again(refused)?;
-    free.push(buf).map_err(|_| NoMemory)?;
-    Ok(false)
+) -> Result<bool, Fault>
+    ensures { Tries (Asks tag len s) (AsksNot tag len s) (E.seen endpoint.old) (E.seen endpoint.new) result }
+{
+    let buf = Buf::zeros(alloc, len as u64)?;
+    match endpoint.trecv(Some(s), tag, 0, buf, tag) {
+        Ok(()) => Ok(true),
+        Err(refused) => match refused.why {
+            Fault::Again(_) => Ok(false),
+            why => Err(why),
+        },
+    }
 }
 
-/// Posts the receives of all shares that are needed, up to one that is refused for now.
+/// Posts the receives of all shares that are needed, up to one that is refused.
 fn ask_all<E: Calls + Drop>(
     endpoint: &mut Endpoint<E>,
+    alloc: Global,
     work: Work,
-    asking: &mut Asking,
-) -> Result<(), Fault> {
-    for s in asking.next..work.peers {
-        if needs(work.coll, work.rank, s) && !ask(endpoint, work.tag, s, &mut asking.free)? {
+    len: usize,
+    asked: &mut u32,
+) -> Result<(), Fault>
+    ensures { AsksAll work len asked.old asked.new (E.seen endpoint.old) (E.seen endpoint.new) (is_ok result) }
+{
+    for s in *asked..work.peers {
+        if needs(work.coll, work.rank, s) && !ask(endpoint, alloc, work.tag, len, s)? {
             return Ok(());
         }
-        asking.next = s + 1;
+        *asked = s + 1;
     }
     Ok(())
 }
@@ -96,9 +96,11 @@ fn ask_all<E: Calls + Drop>(
 fn send<E: Calls + Drop>(
     endpoint: &mut Endpoint<E>,
     tag: u64,
-    t: u32,
     own: &[u8],
-) -> Result<bool, Fault> {
+    t: u32,
+) -> Result<bool, Fault>
+    ensures { Tries (Tells E.fixed tag own.now t) (TellsNot E.fixed tag own.now t) (E.seen endpoint.old) (E.seen endpoint.new) result }
+{
     match endpoint.tinject(t, tag, own, None) {
         Ok(()) => Ok(true),
         Err(Fault::Again(_)) => Ok(false),
@@ -106,15 +108,17 @@ fn send<E: Calls + Drop>(
     }
 }
 
-/// Sends the share to all ranks that need it, up to one for which it is refused for now.
+/// Sends the share to all ranks that need it, up to one for which it is refused.
 fn send_all<E: Calls + Drop>(
     endpoint: &mut Endpoint<E>,
     work: Work,
     own: &[u8],
     sent: &mut u32,
-) -> Result<(), Fault> {
+) -> Result<(), Fault>
+    ensures { TellsAll E.fixed work own.now sent.old sent.new (E.seen endpoint.old) (E.seen endpoint.new) (is_ok result) }
+{
     for t in *sent..work.peers {
-        if needs(work.coll, t, work.rank) && !send(endpoint, work.tag, t, own)? {
+        if needs(work.coll, t, work.rank) && !send(endpoint, work.tag, own, t)? {
             return Ok(());
         }
         *sent = t + 1;
@@ -199,51 +203,53 @@ impl Collective {
         ensures begun { IfOk result (λ begun. (begun.work ≡ work) × (begun.own ≡ own) × IsFresh begun) }
         ensures back { IfErr result (λ refused. (refused.buf ≡ own) × (refused.why ≡ LacksMemory)) }
     {
-        let count = sources(work.coll, work.rank, work.peers);
-        let len = own.as_slice().len();
-        match (buffers(alloc, count, len), buffers(alloc, count, 0)) {
-            (Ok(free), Ok(received)) => Ok(Collective {
+        let missing = sources(work.coll, work.rank, work.peers);
+        match empty(alloc, missing) {
+            Ok(received) => Ok(Collective {
                 alloc,
                 work,
                 own,
                 received,
-                asking: Asking { free, next: 0 },
+                asked: 0,
                 sent: 0,
-                missing: count,
+                missing,
                 failed: false,
             }),
-            _ => Err(Refused {
+            Err(_) => Err(Refused {
                 why: Fault::NoMemory,
                 buf: own,
             }),
         }
     }
 
-    /// Posts the receives and sends the messages that are due, and gives what the collective comes to once it is done:
-    /// what `outcome` of `fab_fold` makes of the own share and of those that came, in order of ranks. It makes no progress, and what it
-    /// gives it gives each time that it is asked.
+    /// Posts the receives and sends the messages that are due, up to those that are refused for now, which the next drive makes.
+    /// Once it is done it gives what it comes to, each time that it is asked: what `outcome` of `fab_fold` makes of the own share and
+    /// of those that came, in order of ranks. It makes no progress.
     ///
     /// `MsgSize` where a share is longer than the own one, where one of an allgather or an allreduce is shorter, or where one of the
     /// receives was cancelled; a shorter share of a broadcast's root is given as it is. `NotSupported` where FI_TAGGED with
-    /// FI_SEND and FI_RECV was not granted, `Invalid` where a rank does not stand at the index of its number, `NoMemory`. After
-    /// an error it is not to be driven on; its receives stay posted under `context`.
+    /// FI_SEND and FI_RECV was not granted, `Invalid` where a rank does not stand at the index of its number. After
+    /// `NoMemory` it may be driven on; after another error not, and its receives stay posted under `context`.
     pub fn drive<E: Calls + Drop>(
         &mut self,
         endpoint: &mut Endpoint<E>,
     ) -> Result<Option<Buf>, Fault>
         ensures made { IfOk result (λ done. IfSome done (λ bytes. bytes ≡ outcome_of self.old.work.coll self.old.work.rank self.old.own self.old.received.items)) }
         ensures waits { IfOk result (λ done. IsSome done → (self.old.missing ≡ 0) × (self.old.failed ≡ false)) }
+        ensures all { IfOk result (λ done. IsSome done → (self.old.work.peers ≤ self.new.asked) × (self.old.work.peers ≤ self.new.sent)) }
+        ensures drives { Drives E.fixed self.old self.new (E.seen endpoint.old) (E.seen endpoint.new) (is_ok result) }
         ensures work { self.new.work ≡ self.old.work }
         ensures own { self.new.own ≡ self.old.own }
         ensures received { self.new.received.items ≡ self.old.received.items }
         ensures counts { (self.new.missing ≡ self.old.missing) × (self.new.failed ≡ self.old.failed) }
     {
-        ask_all(endpoint, self.work, &mut self.asking)?;
-        send_all(endpoint, self.work, self.own.as_slice(), &mut self.sent)?;
+        let own = self.own.as_slice();
+        ask_all(endpoint, self.alloc, self.work, own.len(), &mut self.asked)?;
+        send_all(endpoint, self.work, own, &mut self.sent)?;
         if self.failed {
             return Err(Fault::MsgSize);
         }
-        if self.missing > 0 || self.asking.next < self.work.peers || self.sent < self.work.peers {
+        if self.missing > 0 || self.asked < self.work.peers || self.sent < self.work.peers {
             return Ok(None);
         }
         self.outcome()
