@@ -5,7 +5,7 @@ use crate::messages::{CQ_DATA, INJ_COMPLETE, MULTI_RECV, RDM, UNEXPECTED_MSG};
 use crate::opening::dom_test;
 use crate::queues::{CNTR_TEST, CQ_TEST};
 use crate::regions::{MR_TEST, MULTI_MR, RDM_RMA_EVENT, RMA_BW};
-use crate::resources::RESMGMT;
+use crate::resources::{FLOOD, RESMGMT};
 use crate::tagged::{RDM_TAGGED_PEEK, RECV_CANCEL};
 use fabric::{Api, Calls, EndpointOver, Hints};
 use fabtests_calls::{Row, Verdict, walks};
@@ -31,7 +31,7 @@ pub enum Wish {
 }
 
 /// The lines that are printed, but for that of fi_getinfo_test and fi_dom_test.
-pub const LINES: [(&str, Test); 21] = [
+pub const LINES: [(&str, Test); 22] = [
     ("fi_av_test", Test::Steps(Wish::Two, AV_TEST)),
     ("fi_cq_test", Test::Steps(Wish::Two, CQ_TEST)),
     ("fi_cntr_test", Test::Steps(Wish::Two, CNTR_TEST)),
@@ -48,6 +48,7 @@ pub const LINES: [(&str, Test); 21] = [
     ("fi_inj_complete", Test::Steps(Wish::Two, INJ_COMPLETE)),
     ("fi_av_xfer", Test::Steps(Wish::Two, AV_XFER)),
     ("fi_resmgmt_test", Test::Steps(Wish::Few, RESMGMT)),
+    ("fi_flood", Test::Steps(Wish::Few, FLOOD)),
     ("fi_rma_bw", Test::Steps(Wish::Two, RMA_BW)),
     ("fi_multi_mr", Test::Steps(Wish::Second, MULTI_MR)),
     ("fi_rdm_rma_event", Test::Steps(Wish::Second, RDM_RMA_EVENT)),

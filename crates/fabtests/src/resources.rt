@@ -1,12 +1,15 @@
-//! Lists that are full: fi_resmgmt_test. A lane holds one frame, and two operations may be under way, two receives posted and
+//! Lists that are full: fi_resmgmt_test, fi_flood. A lane holds one frame, and two operations may be under way, two receives posted and
 //! two completions unread.
-use fabric::{Busy, ErrKind, Fault, PeekHow};
-use fabtests_calls::Completion::{Failed, Nothing, Received};
-use fabtests_calls::Deed::{Injects, Look, Posts, PostsWithin, Refuses};
+use fabric::{Busy, Class, ErrKind, Fault, PeekHow};
+use fabtests_calls::Completion::{Failed, Nothing, Received, Sent};
+use fabtests_calls::Count::Reaches;
+use fabtests_calls::Deed::{
+    Count, HasUnderWay, Injects, Look, Posts, PostsWithin, Refuses, SendsArrived, SendsWithin,
+};
 use fabtests_calls::Look::Looks;
-use fabtests_calls::Refusal::{Inject, OfLook, Post, PostWithin};
+use fabtests_calls::Refusal::{Inject, OfLook, Post, PostWithin, SendWithin};
 use fabtests_calls::Row;
-use fabtests_calls::Step::{AtZero, Carry, One, Zero};
+use fabtests_calls::Step::{AtOne, AtZero, Carry, One, Zero};
 
 /// A call for which a list has no room is refused for now, and nothing of what was accepted is lost. Progress makes room for a
 /// receive that is tried again, if a message comes.
@@ -40,4 +43,27 @@ pub const RESMGMT: &[Row] = &[
     (One(Injects(b"e", None)), "a fifth message is accepted"),
     (Zero(PostsWithin(1, 7)), "it makes room for a receive that is tried again"),
     (AtZero(Received(5, None, None, 1, b"e")), "the fifth message came"),
+];
+
+/// A sender whose peer does nothing is refused for now once its list is full, and goes on where the peer does.
+#[rattlefmt::skip]
+pub const FLOOD: &[Row] = &[
+    (One(SendsArrived(b"a", 1)), "a message is accepted that is to be answered"),
+    (One(SendsArrived(b"b", 2)), "a second one"),
+    (One(HasUnderWay(2)), "both are under way"),
+    (One(Refuses(SendWithin(2, Fault::Again(Busy::TxFull(2))))), "while its peer does nothing one that is tried again is refused, with its buffer"),
+    (Zero(Posts(1, 3)), "a receive is posted"),
+    (Zero(Count(Reaches(Class::Recv, 100, false))), "the peer goes on"),
+    (One(SendsWithin(1, b"c", 4)), "its answer makes room for a message that is tried again"),
+    (AtZero(Received(3, None, None, 1, b"a")), "the first message came"),
+    (AtOne(Sent(1, b"a")), "its sender is told"),
+    (Carry, "both go on"),
+    (AtOne(Sent(4, b"c")), "the third one is transmitted"),
+    (AtOne(Sent(2, b"b")), "the second one is answered"),
+    (One(HasUnderWay(0)), "none is under way"),
+    (Zero(Posts(1, 5)), "a receive is posted"),
+    (AtZero(Received(5, None, None, 1, b"b")), "the second message came"),
+    (Zero(Posts(1, 6)), "another receive is posted"),
+    (AtZero(Received(6, None, None, 1, b"c")), "the third one came"),
+    (AtZero(Nothing), "each came once"),
 ];

@@ -2,7 +2,9 @@
 use fabric::{ErrKind, PeekHow};
 use fabtests_calls::Completion::{Failed, Found, Nothing, Received};
 use fabtests_calls::Deed::{Look, PostsTagged, SendsTagged};
-use fabtests_calls::Look::{Cancels, CancelsNone, DropsClaimed, Looks, Probes, TakesClaimed};
+use fabtests_calls::Look::{
+    Cancels, CancelsFirst, CancelsNone, DropsClaimed, HasNoFirst, Looks, Probes, TakesClaimed,
+};
 use fabtests_calls::Row;
 use fabtests_calls::Step::{AtZero, Carry, One, Zero};
 
@@ -57,4 +59,11 @@ pub const RECV_CANCEL: &[Row] = &[
     (AtZero(Nothing), "the cancelled one takes none"),
     (Zero(PostsTagged(1, 4, 5)), "a new one is posted"),
     (AtZero(Received(5, Some(1), None, 4, b"one.")), "and takes it"),
+    (Zero(PostsTagged(3, 4, 6)), "two more are posted"),
+    (Zero(PostsTagged(4, 2, 7)), "the second of them"),
+    (Zero(Look(CancelsFirst)), "the first is cancelled, whatever its context"),
+    (AtZero(Failed(6, ErrKind::Canceled, Some(4))), "it is the first"),
+    (Zero(Look(CancelsFirst)), "the next one, too"),
+    (AtZero(Failed(7, ErrKind::Canceled, Some(2))), "it is the second"),
+    (Zero(Look(HasNoFirst)), "then none is posted"),
 ];

@@ -15,6 +15,13 @@ pub(crate) const COPIED: Flags = Flags {
     fence: false,
 };
 
+/// For a message that is complete once it is whole at its peer.
+pub(crate) const ARRIVED: Flags = Flags {
+    completion: true,
+    level: Level::Delivery,
+    fence: false,
+};
+
 /// Whether a check holds.
 pub fn check(holds: bool, what: &'static str) -> Verdict {
     if holds { Ok(()) } else { Err(what) }
@@ -106,6 +113,22 @@ pub(crate) fn sends<E: Calls + Drop>(
 ) -> bool {
     match Buf::copy(alloc, bytes) {
         Ok(buf) => endpoint.send(dest, buf, imm, ctx, flags).is_ok(),
+        Err(_) => false,
+    }
+}
+
+/// Whether a message of these bytes for peer 0 is accepted, once it is tried so often.
+pub(crate) fn sends_within<E: Calls + Drop>(
+    alloc: Global,
+    endpoint: &mut EndpointOver<E>,
+    times: u32,
+    bytes: &[u8],
+    ctx: u64,
+) -> bool {
+    match Buf::copy(alloc, bytes) {
+        Ok(buf) => endpoint
+            .send_within(times, 0, buf, None, ctx, COMPLETES)
+            .is_ok(),
         Err(_) => false,
     }
 }

@@ -1,6 +1,7 @@
 //! What one endpoint does.
 use crate::calls::{
-    COPIED, injects, posts, posts_many, posts_tagged, posts_within, sends, sends_tagged,
+    ARRIVED, COPIED, injects, posts, posts_many, posts_tagged, posts_within, sends, sends_tagged,
+    sends_within,
 };
 use crate::counters::Count;
 use crate::lengths::{sends_all, takes_all};
@@ -28,12 +29,18 @@ pub enum Deed {
     SendsData(&'static [u8], u64, u64),
     /// A message that is complete once it is copied, with this context.
     SendsCopied(&'static [u8], u64),
+    /// A message that is complete once it is whole at its peer, with this context.
+    SendsArrived(&'static [u8], u64),
+    /// A message that is tried so often, with this context.
+    SendsWithin(u32, &'static [u8], u64),
     /// A message under this tag, with data if there is some, and this context.
     SendsTagged(u64, &'static [u8], Option<u64>, u64),
     /// An injected message, with data if there is some.
     Injects(&'static [u8], Option<u64>),
     /// A message in the buffer for many of this context lies at this place, with these bytes, which are so many.
     HasPart(u64, u32, &'static [u8], u32),
+    /// So many operations have not ended.
+    HasUnderWay(u64),
     /// Messages of several lengths, tagged or not, and receives that take them in order.
     SendsAll(bool),
     TakesAll(bool),
@@ -63,11 +70,16 @@ impl Deed {
                 sends(alloc, endpoint, 0, bytes, Some(imm), ctx, COMPLETES)
             }
             Deed::SendsCopied(bytes, ctx) => sends(alloc, endpoint, 0, bytes, None, ctx, COPIED),
+            Deed::SendsArrived(bytes, ctx) => sends(alloc, endpoint, 0, bytes, None, ctx, ARRIVED),
+            Deed::SendsWithin(times, bytes, ctx) => {
+                sends_within(alloc, endpoint, times, bytes, ctx)
+            }
             Deed::SendsTagged(tag, bytes, imm, ctx) => {
                 sends_tagged(alloc, endpoint, tag, bytes, imm, ctx)
             }
             Deed::Injects(bytes, imm) => injects(endpoint, bytes, imm),
             Deed::HasPart(ctx, at, bytes, len) => endpoint.multi_bytes(ctx, at, len) == Some(bytes),
+            Deed::HasUnderWay(count) => endpoint.under_way() == count,
             Deed::SendsAll(is_tagged) => sends_all(alloc, endpoint, is_tagged),
             Deed::TakesAll(is_tagged) => takes_all(alloc, endpoint, is_tagged),
             Deed::Count(count) => count.goes(alloc, endpoint),

@@ -16,6 +16,9 @@ pub enum Look {
     /// A receive is cancelled, or none has this context.
     Cancels(u64),
     CancelsNone(u64),
+    /// The first receive is cancelled, whatever its context, or there is none.
+    CancelsFirst,
+    HasNoFirst,
 }
 
 impl Look {
@@ -32,6 +35,8 @@ impl Look {
             Look::DropsClaimed(ctx) => endpoint.drop_claimed(ctx).is_ok(),
             Look::Cancels(ctx) => cancels(endpoint, ctx) == Ok(()),
             Look::CancelsNone(ctx) => cancels(endpoint, ctx) == Err(Fault::NoEntry),
+            Look::CancelsFirst => cancels_first(endpoint) == Ok(()),
+            Look::HasNoFirst => cancels_first(endpoint) == Err(Fault::NoEntry),
         }
     }
 }
@@ -66,4 +71,9 @@ fn takes_claimed<E: Calls + Drop>(alloc: Global, endpoint: &mut EndpointOver<E>,
 /// Why a receive of this context is not cancelled.
 fn cancels<E: Calls + Drop>(endpoint: &mut EndpointOver<E>, ctx: u64) -> Result<(), Fault> {
     endpoint.cancel(ctx)
+}
+
+/// Why no receive is cancelled.
+fn cancels_first<E: Calls + Drop>(endpoint: &mut EndpointOver<E>) -> Result<(), Fault> {
+    endpoint.cancel_first()
 }
