@@ -36,6 +36,16 @@ fn receive<E: Calls + Drop>(endpoint: &mut EndpointOver<E>) -> Result<Option<Buf
     }
 }
 
+/// The buffers of the receives that are posted ahead.
+fn buffers(alloc: Global) -> Result<Vec<Buf>, Fault> {
+    let mut free = Vec::new(alloc);
+    for _ in 0..AHEAD {
+        let buf = Buf::zeros(alloc, 8)?;
+        free.push(buf)?;
+    }
+    Ok(free)
+}
+
 /// Sends and receives all messages, and gives how many came.
 fn run<R: Wait, E: Calls + Drop>(
     rt: &R,
@@ -43,11 +53,7 @@ fn run<R: Wait, E: Calls + Drop>(
     mut endpoint: EndpointOver<E>,
     other: u32,
 ) -> Result<u32, Fault> {
-    let mut free = Vec::new(alloc);
-    for _ in 0..AHEAD {
-        let buf = Buf::zeros(alloc, 8)?;
-        free.push(buf)?;
-    }
+    let mut free = buffers(alloc)?;
     let (mut sent, mut came) = (0, 0);
     for _ in rt.forever() {
         if came == MESSAGES && sent == MESSAGES && endpoint.is_flushed() {

@@ -231,25 +231,45 @@ where
     Ok(())
 }
 
-fn main(rt: HostRuntime) -> io::Result<()> {
+/// Runs the examples, and asks `replay` of their reports.
+fn run_examples(rt: &HostRuntime) -> io::Result<()> {
     for (script, report) in EXAMPLES {
-        run_one(&rt, rt.stderr(), script, &["script", script])?;
-        run_one(&rt, rt.stderr(), report, &["replay", script, report])?;
+        run_one(rt, rt.stderr(), script, &["script", script])?;
+        run_one(rt, rt.stderr(), report, &["replay", script, report])?;
     }
+    Ok(())
+}
+
+/// Runs the files of rounds.
+fn run_rounds(rt: &HostRuntime) -> io::Result<()> {
     for file in ROUNDS {
-        run_one(&rt, rt.stderr(), file, &["coll", file])?;
+        run_one(rt, rt.stderr(), file, &["coll", file])?;
     }
+    Ok(())
+}
+
+/// Runs the commands that need no file.
+fn run_commands(rt: &HostRuntime) -> io::Result<()> {
     for (name, words) in COMMANDS {
-        run_one(&rt, rt.stderr(), name, words)?;
+        run_one(rt, rt.stderr(), name, words)?;
     }
-    for row in MESSAGES {
-        try_row(&rt, rt.stderr(), row)?;
+    Ok(())
+}
+
+/// Runs the scripts of these rows, and compares their reports.
+fn try_all(rt: &HostRuntime, rows: &[&str]) -> io::Result<()> {
+    for row in rows {
+        try_row(rt, rt.stderr(), row)?;
     }
-    for row in MULTIS {
-        try_row(&rt, rt.stderr(), row)?;
-    }
-    for row in REQUESTS {
-        try_row(&rt, rt.stderr(), row)?;
-    }
+    Ok(())
+}
+
+fn main(rt: HostRuntime) -> io::Result<()> {
+    run_examples(&rt)?;
+    run_rounds(&rt)?;
+    run_commands(&rt)?;
+    try_all(&rt, &MESSAGES)?;
+    try_all(&rt, &MULTIS)?;
+    try_all(&rt, &REQUESTS)?;
     try_rows(&rt, &mut Setting::new(rt.alloc()))
 }
