@@ -1,1 +1,4 @@
 pub mod Refused
+pub mod Granting
+pub mod Framing
+pub mod Completions

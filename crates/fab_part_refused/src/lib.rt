@@ -2,7 +2,8 @@
 //! clauses that `fab_match`, `fab_av`, `fab_link` and `fab_tx` give them.
 //!
 //! A body of a call that does something else is tried here (`must-fail/`), where a check takes seconds, and not in the
-//! crates of these calls; what no edit of these can do is refused by theorem (`proofs/Refused.antt`).
+//! crates of these calls; what no edit of these can do is refused by theorem (`proofs/`), and so is what bodies of
+//! `fab_info`, `fab_wire`, `fab_kept`, `fab_cq` and `fab_record` may not do.
 #![tactic(auto)]
 
 mod addresses;
