@@ -2,7 +2,7 @@
 //! them.
 //!
 //! A body of a call that does something else is tried here (`must-fail/`), where a check takes seconds, and not in the
-//! crates that make ports; what no edit of these can do is refused by theorem (`proofs/Refused.antt`).
+//! crates that make ports; what no edit of these can do is refused by theorem (`proofs/`).
 #![tactic(auto)]
 
 mod any;
