@@ -1,2 +1,4 @@
 pub mod Commands
 pub mod Rounds
+pub mod Shares
+pub mod Meetings
