@@ -2,3 +2,4 @@ pub mod Commands
 pub mod Rounds
 pub mod Shares
 pub mod Meetings
+pub mod Windows
