@@ -1,5 +1,6 @@
 //! What is measured, and how the runs are timed.
 use crate::adding::{WORDS, add_by_seats, add_by_threads};
+use crate::moments::{RUNS, tenths_since};
 use fab_window::{Window, WindowSeat};
 use std::alloc::{AllocError, Global};
 use std::io;
@@ -38,9 +39,7 @@ pub(crate) struct Times {
     pub(crate) std_median: u64,
 }
 
-/// How many runs a measurement has, and how many additions of each thread a run.
-const RUNS: u32 = 40;
-
+/// How many additions of each thread a run has.
 const ADDS: u32 = 200_000;
 
 /// So many seats at a window of zeros; none where memory is lacking.
@@ -64,10 +63,9 @@ fn atomics(alloc: Global) -> Result<Vec<AtomicU64>, AllocError> {
     Ok(words)
 }
 
-/// Tenths of a nanosecond for each addition since this moment.
-fn tenths<R: Clock>(rt: &R, start: Instant) -> io::Result<u64> {
-    let nanos = u64::try_from(start.elapsed(rt)?.as_nanos()).unwrap_or(u64::MAX);
-    Ok(nanos.saturating_mul(10) / u64::from(ADDS))
+/// Tenths of a nanosecond for each addition of a run that began at this moment.
+fn tenths<R: Clock>(rt: &R, start: &Instant) -> io::Result<u64> {
+    tenths_since(rt, start, u64::from(ADDS))
 }
 
 /// The number at this place of a list, or 0.
@@ -83,7 +81,7 @@ fn best_and_median(mut times: Vec<u64>) -> io::Result<(u64, u64)> {
 }
 
 /// The times of so many threads at this layout. A run of one is followed by a run of the other.
-pub(crate) fn measure<R: Threads + Clock + Sync>(
+pub(crate) fn timed<R: Threads + Clock + Sync>(
     rt: &R,
     alloc: Global,
     layout: &Layout,
@@ -97,7 +95,7 @@ pub(crate) fn measure<R: Threads + Clock + Sync>(
     for _run in 0..RUNS {
         let start = Instant::now(rt)?;
         add_by_seats(rt, seats.as_mut_slice(), layout.stride, ADDS);
-        by_seats.push(tenths(rt, start)?)?;
+        by_seats.push(tenths(rt, &start)?)?;
         let start = Instant::now(rt)?;
         add_by_threads(
             rt,
@@ -106,7 +104,7 @@ pub(crate) fn measure<R: Threads + Clock + Sync>(
             layout.stride,
             ADDS,
         );
-        by_std.push(tenths(rt, start)?)?;
+        by_std.push(tenths(rt, &start)?)?;
     }
     let (window_best, window_median) = best_and_median(by_seats)?;
     let (std_best, std_median) = best_and_median(by_std)?;
@@ -118,7 +116,25 @@ pub(crate) fn measure<R: Threads + Clock + Sync>(
     })
 }
 
-/// What the words come to once four threads made 1,000 additions each: those of a window, and those of std.
+/// How many additions these seats made.
+fn made(seats: &[WindowSeat]) -> u64 {
+    let mut all = 0u64;
+    for seat in seats {
+        all = all.wrapping_add(u64::from(seat.made()));
+    }
+    all
+}
+
+/// What these words come to.
+fn sum(words: &[AtomicU64]) -> u64 {
+    let mut all = 0u64;
+    for word in words {
+        all = all.wrapping_add(word.load(Ordering::SeqCst));
+    }
+    all
+}
+
+/// How many additions the seats of a window made, and what std's words came to, once four threads made 1,000 additions each.
 pub(crate) fn check<R: Threads + Sync>(
     rt: &R,
     alloc: Global,
@@ -135,13 +151,5 @@ pub(crate) fn check<R: Threads + Sync>(
         layout.stride,
         1_000,
     );
-    let mut window = 0u64;
-    let mut beside = 0u64;
-    for seat in seats.as_mut_slice() {
-        window = window.wrapping_add(u64::from(seat.made()));
-    }
-    for word in words.as_slice() {
-        beside = beside.wrapping_add(word.load(Ordering::SeqCst));
-    }
-    Ok((window, beside))
+    Ok((made(seats.as_slice()), sum(words.as_slice())))
 }

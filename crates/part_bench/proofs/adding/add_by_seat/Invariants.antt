@@ -1,6 +1,6 @@
 use Rattle.std.proofs.Common.{◌≡◌}
 use Rattle.fab_window.specs.Seats.{board_of}
-use Rattle.window_bench.proofs.adding.add_by_seat.Given as goal
+use Rattle.part_bench.proofs.adding.add_by_seat.Given as goal
 
 abbrev pub invariant-adding : goal.invariant-adding
 invariant-adding l = board_of l.seat ≡ board_of l.fn.seat
