@@ -1,4 +1,4 @@
-/* Times additions to words of shared memory, as crates/window_bench does, in plain C11.
+/* Times additions to words of shared memory, as `part_bench window` does, in plain C11.
  *
  *     cc -O2 -pthread tools/window_bench.c -o /tmp/window_bench && /tmp/window_bench
  *
