@@ -16,7 +16,6 @@ use fab_host::{FileDepot, OpenGate, OutSink, WallClock, carry_out};
 use fab_outside::{Depot, MemorySink, Sink};
 use setting::Setting;
 use std::alloc::Global;
-use std::io::Write;
 use std::rt::Files;
 use std::sync::Wait;
 use std::thread::Threads;
@@ -145,14 +144,13 @@ where
 }
 
 /// Carries out one command, behind this name.
-fn run_one<R, E: Write + Drop>(rt: &R, errors: E, name: &str, words: &[&str]) -> io::Result<()>
+fn run_one<R, E: Sink>(rt: &R, errors: &mut E, name: &str, words: &[&str]) -> io::Result<()>
 where
     R: Files + rt::Clock + Print + AllocGlobal + Threads + Wait + Sync,
 {
     println!(rt; "== {}", name)?;
     let mut sink = OutSink::new(io::writer(rt));
-    let mut errors = OutSink::new(errors);
-    let ending = carry(rt, words, &mut sink, &mut errors);
+    let ending = carry(rt, words, &mut sink, errors);
     println!(rt; "== {}", ending)
 }
 
@@ -185,7 +183,7 @@ where
 }
 
 /// Runs a script, and asks `replay` of the report that is kept.
-fn try_files<R, E: Write + Drop>(rt: &R, errors: E, script: &str, report: &str) -> io::Result<()>
+fn try_files<R, E: Sink>(rt: &R, errors: &mut E, script: &str, report: &str) -> io::Result<()>
 where
     R: Files + rt::Clock + Print + AllocGlobal + Threads + Wait + Sync,
 {
@@ -193,8 +191,7 @@ where
     let same = if is_same { "as kept" } else { "not as kept" };
     println!(rt; "{}: {}, {}", script, ending, same)?;
     let mut sink = OutSink::new(io::writer(rt));
-    let mut errors = OutSink::new(errors);
-    let _ending = carry(rt, &["replay", script, report], &mut sink, &mut errors);
+    let _ending = carry(rt, &["replay", script, report], &mut sink, errors);
     Ok(())
 }
 
@@ -204,7 +201,7 @@ fn file_of(alloc: Global, row: &str, ending: &str) -> Option<String> {
 }
 
 /// The same of the files of a row.
-fn try_row<R, E: Write + Drop>(rt: &R, errors: E, row: &str) -> io::Result<()>
+fn try_row<R, E: Sink>(rt: &R, errors: &mut E, row: &str) -> io::Result<()>
 where
     R: Files + rt::Clock + Print + AllocGlobal + Threads + Wait + Sync,
 {
@@ -232,44 +229,57 @@ where
 }
 
 /// Runs the examples, and asks `replay` of their reports.
-fn run_examples(rt: &HostRuntime) -> io::Result<()> {
+fn run_examples<R, E: Sink>(rt: &R, errors: &mut E) -> io::Result<()>
+where
+    R: Files + rt::Clock + Print + AllocGlobal + Threads + Wait + Sync,
+{
     for (script, report) in EXAMPLES {
-        run_one(rt, rt.stderr(), script, &["script", script])?;
-        run_one(rt, rt.stderr(), report, &["replay", script, report])?;
+        run_one(rt, errors, script, &["script", script])?;
+        run_one(rt, errors, report, &["replay", script, report])?;
     }
     Ok(())
 }
 
 /// Runs the files of rounds.
-fn run_rounds(rt: &HostRuntime) -> io::Result<()> {
+fn run_rounds<R, E: Sink>(rt: &R, errors: &mut E) -> io::Result<()>
+where
+    R: Files + rt::Clock + Print + AllocGlobal + Threads + Wait + Sync,
+{
     for file in ROUNDS {
-        run_one(rt, rt.stderr(), file, &["coll", file])?;
+        run_one(rt, errors, file, &["coll", file])?;
     }
     Ok(())
 }
 
 /// Runs the commands that need no file.
-fn run_commands(rt: &HostRuntime) -> io::Result<()> {
+fn run_commands<R, E: Sink>(rt: &R, errors: &mut E) -> io::Result<()>
+where
+    R: Files + rt::Clock + Print + AllocGlobal + Threads + Wait + Sync,
+{
     for (name, words) in COMMANDS {
-        run_one(rt, rt.stderr(), name, words)?;
+        run_one(rt, errors, name, words)?;
     }
     Ok(())
 }
 
 /// Runs the scripts of these rows, and compares their reports.
-fn try_all(rt: &HostRuntime, rows: &[&str]) -> io::Result<()> {
+fn try_all<R, E: Sink>(rt: &R, errors: &mut E, rows: &[&str]) -> io::Result<()>
+where
+    R: Files + rt::Clock + Print + AllocGlobal + Threads + Wait + Sync,
+{
     for row in rows {
-        try_row(rt, rt.stderr(), row)?;
+        try_row(rt, errors, row)?;
     }
     Ok(())
 }
 
 fn main(rt: HostRuntime) -> io::Result<()> {
-    run_examples(&rt)?;
-    run_rounds(&rt)?;
-    run_commands(&rt)?;
-    try_all(&rt, &MESSAGES)?;
-    try_all(&rt, &MULTIS)?;
-    try_all(&rt, &REQUESTS)?;
+    let mut errors = OutSink::new(rt.stderr());
+    run_examples(&rt, &mut errors)?;
+    run_rounds(&rt, &mut errors)?;
+    run_commands(&rt, &mut errors)?;
+    try_all(&rt, &mut errors, &MESSAGES)?;
+    try_all(&rt, &mut errors, &MULTIS)?;
+    try_all(&rt, &mut errors, &REQUESTS)?;
     try_rows(&rt, &mut Setting::new(rt.alloc()))
 }
