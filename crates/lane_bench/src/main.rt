@@ -9,7 +9,7 @@
 mod end;
 
 ghost use Rattle.std.specs.Prelude.{IfSome};
-ghost use Rattle.fab_ring.specs.Made.{IsNew, AreNew};
+ghost use Rattle.lane_bench.specs.Ports.{IsNew, AreNew};
 
 use crate::end::End;
 use fab_bench::alone::alone;

@@ -1,4 +1,4 @@
-use Rattle.fab_ring.specs.Made.{IsNew}
+use Rattle.lane_bench.specs.Ports.{IsNew}
 use Rattle.fab_ring.proofs.Samples.{rest_is, last_is}
 use Rattle.lane_bench.proofs.last.Goals as goal
 
