@@ -1,5 +1,5 @@
 //! A collective that was begun.
-ghost use Rattle.std.specs.Prelude.{◌≡◌, ◌≤◌, ◌-◌, false, true, Some, None, is_ok, IfOk, IfErr, IfSome, IsSome};
+ghost use Rattle.std.specs.Prelude.{◌≡◌, ◌<◌, ◌≤◌, ◌-◌, ◌⊎◌, false, true, Some, None, is_ok, IfOk, IfErr, IfSome, IsErr, IsNone, IsSome};
 ghost use Rattle.fab_base.specs.declared.faults.Fault.TheVariants.{NoMemory as LacksMemory};
 ghost use Rattle.fab_collectives.specs.Beginning.{IsFresh};
 ghost use Rattle.fab_fold.specs.Shares.{outcome_of};
@@ -237,6 +237,8 @@ impl Collective {
         ensures made { IfOk result (λ done. IfSome done (λ bytes. bytes ≡ outcome_of self.old.work.coll self.old.work.rank self.old.own self.old.received.items)) }
         ensures waits { IfOk result (λ done. IsSome done → (self.old.missing ≡ 0) × (self.old.failed ≡ false)) }
         ensures all { IfOk result (λ done. IsSome done → (self.old.work.peers ≤ self.new.asked) × (self.old.work.peers ≤ self.new.sent)) }
+        ensures none { IfOk result (λ done. IsNone done → (0 < self.old.missing) ⊎ (self.new.asked < self.old.work.peers) ⊎ (self.new.sent < self.old.work.peers)) }
+        ensures fails { self.old.failed ≡ true → IsErr result }
         ensures drives { Drives E.fixed self.old self.new (E.seen endpoint.old) (E.seen endpoint.new) (is_ok result) }
         ensures work { self.new.work ≡ self.old.work }
         ensures own { self.new.own ≡ self.old.own }
@@ -257,7 +259,8 @@ impl Collective {
 
     /// What it comes to.
     fn outcome(&self) -> Result<Option<Buf>, Fault>
-        ensures { IfOk result (λ done. IfSome done (λ bytes. bytes ≡ outcome_of self.now.work.coll self.now.work.rank self.now.own self.now.received.items)) }
+        ensures made { IfOk result (λ done. IfSome done (λ bytes. bytes ≡ outcome_of self.now.work.coll self.now.work.rank self.now.own self.now.received.items)) }
+        ensures some { IfOk result IsSome }
     {
         let bytes = made(
             self.alloc,
@@ -277,6 +280,7 @@ impl Collective {
         ensures received { self.new.received.items ≡ received_after self.old.work self.old.received.items polled }
         ensures missing { self.new.missing ≡ missing_after self.old.work self.old.missing polled }
         ensures failed { self.new.failed ≡ failed_after self.old.work self.old.failed polled }
+        ensures calls { (self.new.asked ≡ self.old.asked) × (self.new.sent ≡ self.old.sent) }
         ensures work { self.new.work ≡ self.old.work }
         ensures own { self.new.own ≡ self.old.own }
     {
@@ -295,6 +299,7 @@ impl Collective {
         ensures received { self.new.received.items ≡ with_share self.old.work self.old.received.items (Some share) }
         ensures missing { self.new.missing ≡ self.old.missing - 1 }
         ensures failed { self.new.failed ≡ self.old.failed }
+        ensures calls { (self.new.asked ≡ self.old.asked) × (self.new.sent ≡ self.old.sent) }
         ensures work { self.new.work ≡ self.old.work }
         ensures own { self.new.own ≡ self.old.own }
     {
