@@ -50,11 +50,11 @@ pub fn recv_multi<E: Multis>(
     endpoint: &mut E,
     source: Option<u32>,
     buf: Buf,
-    min: u32,
+    least: u32,
     ctx: u64,
 ) -> Result<(), Refused>
-    ensures ok { OnOk result (Receives (receive_call false source 0 0 buf (Some min) ctx) (E.seen endpoint.old) (E.seen endpoint.new)) }
-    ensures err { IfErr result (λ r. (r.buf ≡ buf) × ReceivesNot (receive_call false source 0 0 buf (Some min) ctx) (E.seen endpoint.old) (E.seen endpoint.new) r.why) }
+    ensures ok { OnOk result (Receives (receive_call false source 0 0 buf (Some least) ctx) (E.seen endpoint.old) (E.seen endpoint.new)) }
+    ensures err { IfErr result (λ r. (r.buf ≡ buf) × ReceivesNot (receive_call false source 0 0 buf (Some least) ctx) (E.seen endpoint.old) (E.seen endpoint.new) r.why) }
 {
-    endpoint.recv_multi(source, buf, min, ctx)
+    endpoint.recv_multi(source, buf, least, ctx)
 }
