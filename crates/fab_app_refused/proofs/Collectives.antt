@@ -6,13 +6,17 @@
 --     application_tag      a collective goes under a tag of applications
 --     asked_again          a receive is posted once more where all were
 --     told_again           the own share is sent once more where all had it
-use Rattle.std.proofs.Common.{inl, inr, subst, ◌≡◌, ◌≢◌, ℕ, ◌-◌, ◌%◌, ◌^◌, ◌<◌, ◌≤◌, Bool, true, false, cond, List, [], ◌∷◌, ◌++◌, append_assoc, length, length-take, drop, take, take-append-drop, get_or, get_or-set_other, get_or-set_same, slice_index_or, slice_set, Option, Some, None, refl, sym, ap, ◌∙◌, arith}
+--     always_invalid       a drive that has made all its calls answers `Invalid`
+--     told_to_wait         a drive answers FI_EAGAIN, and the call that is refused for now is not left to the next one
+use Rattle.std.proofs.Common.{inl, inr, subst, ◌≡◌, ◌≢◌, ℕ, ◌-◌, ◌%◌, ◌^◌, ◌<◌, ◌≤◌, Bool, true, false, cond, List, [], ◌∷◌, ◌++◌, append_assoc, length, length-take, drop, take, take-append-drop, get_or, get_or-set_other, get_or-set_same, slice_index_or, slice_set, Option, Some, None, Result, Ok, Err, refl, sym, ap, ◌∙◌, arith}
 use Rattle.std.specs.List.{concat, range_with_len}
 use Rattle.std.specs.Prelude.{filter}
 use Rattle.std.proofs.Math.Nat.{le_refl, max-eq_left}
 use Rattle.std.proofs.lemmas.List.{append_cancel_right}
 use Rattle.std.proofs.lemmas.List.Folds.{concat-append}
+use Rattle.fab_base.specs.declared.faults.Busy.{Busy}
 use Rattle.fab_base.specs.declared.faults.Fault.{Fault}
+use Rattle.fab_base.specs.declared.faults.Fault.TheVariants.{Again, Invalid}
 use Rattle.fab_face.specs.Held.{Seen}
 use Rattle.fab_base.specs.declared.entries.Entry.TheVariants.{Received}
 use Rattle.fab_fold.specs.declared.coll.Coll.TheVariants.{Allgather}
@@ -23,7 +27,7 @@ use Rattle.fab_collectives.specs.declared.collective.Collective.{Collective}
 use Rattle.fab_collectives.specs.declared.collective.Share.{Share}
 use Rattle.fab_collectives.specs.declared.group.Group.{Group}
 use Rattle.fab_collectives.specs.declared.collective.Work.{Work}
-use Rattle.fab_collectives.specs.Driving.{Goes, InTurn, AsksAll, TellsAll}
+use Rattle.fab_collectives.specs.Driving.{Goes, Ends, InTurn, AsksAll, TellsAll, Drives}
 use Rattle.fab_collectives.specs.Offering.{brought, is_of, received_after, with_share}
 use Rattle.fab_collectives.specs.Places.{place_of}
 
@@ -103,21 +107,44 @@ application_tag group begun tag told = omega (arith, tag, told)
 
 -- ---- what is done to the endpoint, the clause `drives` of `drive`
 
-module _ {S : Type 0} (one : ℕ → S → S → Type 0) (not : ℕ → S → S → Fault → Type 0) (test : ℕ → Bool) (last b : ℕ) (old new : S) (well : Bool) where
-  none_left : Goes one not test last b last old new well → new ≡ old
-  none_left goes =
-      let forth = goes.forth in
-      let within : b ≤ last = subst (λ (n : ℕ). b ≤ n) (max-eq_left (le_refl last)) goes.within in
-      let none : b - last ≡ 0 = omega (arith, within) in
-      let still : goes.mid ≡ old = subst (λ (n : ℕ). InTurn one (filter test (range_with_len last n)) old goes.mid) none goes.made in
-      elim goes.stops [
-        | inl same ↦ same ∙ still
-        | inr refused ↦ absurd (let less = refused.0 in omega (arith, less, forth))
-      ]
+module _ {S : Type 0} (one : ℕ → S → S → Type 0) (not : ℕ → S → S → Fault → Type 0) (test : ℕ → Bool) (a last b : ℕ) (over : last ≤ a) (old new : S) (answer : Result (Unit {0}) Fault) (goes : Goes one not test a b last old new answer) where
+  behind : b ≤ a
+  behind = subst (λ (n : ℕ). b ≤ n) (max-eq_left over) goes.within
 
-module _ {Home : Type 0} (work : Work) (b : ℕ) (old new : Seen Home) (well : Bool) where
-  pub asked_again : (len : ℕ) → AsksAll work len work.peers b old new well → new ≢ old → ⊥
-  asked_again len asks other = other (none_left _ _ _ work.peers b old new well asks)
+  -- where all had their call no other is made
+  none_left : (new ≡ old) × (answer ≡ Ok tt)
+  none_left =
+      let none : b - a ≡ 0 = omega (arith, behind) in
+      let still : goes.mid ≡ old = subst (λ (n : ℕ). InTurn one (filter test (range_with_len a n)) old goes.mid) none goes.made in
+      by answer goes.ends still
+    where
+      by : (r : Result (Unit {0}) Fault) → Ends not b last goes.mid new r → goes.mid ≡ old → (new ≡ old) × (r ≡ Ok tt)
+      by (Ok tt) (inl same) still = (same.1 ∙ still, refl)
+      by (Ok tt) (inr more) still = absurd (let below = more.0 in let forth = goes.forth in omega (arith, below, forth, over))
+      by (Err why) more still = absurd (let below = more.0 in let forth = goes.forth in omega (arith, below, forth, over))
 
-  pub told_again : (fixed : Bool) (own : List ℕ) → TellsAll fixed work own work.peers b old new well → new ≢ old → ⊥
-  told_again fixed own tells other = other (none_left _ _ _ work.peers b old new well tells)
+module _ {Home : Type 0} (work : Work) (b : ℕ) (old new : Seen Home) (answer : Result (Unit {0}) Fault) where
+  pub asked_again : (len : ℕ) → AsksAll work len work.peers b old new answer → new ≢ old → ⊥
+  asked_again len asks other = other (none_left _ _ _ work.peers work.peers b (le_refl work.peers) old new answer asks).0
+
+  pub told_again : (fixed : Bool) (own : List ℕ) → TellsAll fixed work own work.peers b old new answer → new ≢ old → ⊥
+  told_again fixed own tells other = other (none_left _ _ _ work.peers work.peers b (le_refl work.peers) old new answer tells).0
+
+module _ {Home : Type 0} (fixed : Bool) (c d : Collective) (old new : Seen Home) where
+  pub always_invalid : c.work.peers ≤ c.asked → c.work.peers ≤ c.sent → Drives fixed c d old new (Err Invalid) → ⊥
+  unfolding Drives
+  always_invalid posted had (inl asks) = let wrong = (none_left _ _ _ c.asked c.work.peers d.asked posted old new _ asks.0).1 in absurd (cc (wrong))
+  always_invalid posted had (inr (inl drove)) = let wrong = (none_left _ _ _ c.sent c.work.peers d.sent had drove.0 new _ drove.2).1 in absurd (cc (wrong))
+  always_invalid posted had (inr (inr ended)) = elim ended.1 [
+      | inl memory ↦ absurd (cc (memory))
+      | inr size ↦ absurd (let wrong = size.0 in cc (wrong))
+    ]
+
+  pub told_to_wait : (busy : Busy) → Drives fixed c d old new (Err (Again busy)) → ⊥
+  unfolding Drives
+  told_to_wait busy (inl asks) = absurd (let final = asks.0.ends.1.0 in cc (final))
+  told_to_wait busy (inr (inl drove)) = absurd (let final = drove.2.ends.1.0 in cc (final))
+  told_to_wait busy (inr (inr ended)) = elim ended.1 [
+      | inl memory ↦ absurd (cc (memory))
+      | inr size ↦ absurd (let wrong = size.0 in cc (wrong))
+    ]

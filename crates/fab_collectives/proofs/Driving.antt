@@ -1,17 +1,18 @@
 -- Calls in turn, as a loop makes them: none yet, one more, and the end.
 --     Upto one test a b last old new      the ranks from a to below b that pass had their call
 use Rattle.std.proofs.Common.{Result, Ok, Err, ◌≡◌, ℕ, ◌+◌, ◌-◌, ◌<◌, ◌≤◌, max, Bool, true, false, List, [], ◌∷◌, ◌++◌, length, inl, inr, ◌⊎◌, refl, sym, ap, ◌∙◌, subst, arith, cond}
-use Rattle.std.proofs.lemmas.Bool.{false≢true}
 use Rattle.std.proofs.lemmas.List.{append-nil, map-id}
 use Rattle.std.proofs.lemmas.List.FromFn.{filter_of_map_range_with_len_more}
 use Rattle.std.proofs.Math.Nat.{le-max_left, le-max_right}
 use Rattle.std.specs.List.{range_with_len}
-use Rattle.std.specs.Prelude.{filter, is_ok}
-use Rattle.std.specs.Result.{IsErr}
+use Rattle.std.specs.Prelude.{filter, IfErr, IsErrAnd, Option, None}
+use Rattle.std.proofs.lemmas.Result.{err_from_is_err_and}
 use Rattle.fab_base.specs.declared.faults.Fault.{Fault}
+use Rattle.fab_base.specs.declared.faults.Fault.TheVariants.{MsgSize, NoMemory as LacksMemory}
 use Rattle.fab_face.specs.Held.{Seen}
+use Rattle.fab_fold.specs.Shares.{AreReceived}
 use Rattle.fab_collectives.specs.declared.collective.Collective.{Collective}
-use Rattle.fab_collectives.specs.Driving.{between, InTurn, Passing, Stops, Tries, Goes, AsksAll, TellsAll, Drives}
+use Rattle.fab_collectives.specs.Driving.{between, InTurn, Passing, InVain, Tries, Ends, Goes, AsksAll, TellsAll, Drove, NoOutcome, Drives}
 
 more : (test : ℕ → Bool) (a b : ℕ) → a ≤ b → between test a (b + 1) ≡ between test a b ++ cond (test b) (b ∷ []) []
 more test a b forth = let n : ℕ = b - a in
@@ -21,13 +22,9 @@ more test a b forth = let n : ℕ = b - a in
     ∙ filter_of_map_range_with_len_more test (λ k. k) a n b (omega (arith, forth))
     ∙ ap (λ (xs : List ℕ). filter test xs ++ cond (test b) (b ∷ []) []) (map-id (range_with_len a n))
 
-pub not_ok : {T E : Type 0} (r : Result T E) → IsErr r → is_ok r ≡ false
-not_ok (Ok x) bad = absurd (false≢true bad)
-not_ok (Err e) bad = refl
-
--- an error that is handed on
-pub as_bad : {S : Type 0} (one : ℕ → S → S → Type 0) (not : ℕ → S → S → Fault → Type 0) (test : ℕ → Bool) (a b last : ℕ) (old new : S) (well : Bool) → well ≡ false → Goes one not test a b last old new false → Goes one not test a b last old new well
-as_bad one not test a b last old new well bad goes = subst (λ (w : Bool). Goes one not test a b last old new w) (sym bad) goes
+-- what an error is that is handed on
+pub handed_on : {T : Type 0} (r : Result T Fault) (why : Fault) → IsErrAnd r (λ e. e ≡ why) → r ≡ Err why
+handed_on r why is = let p = err_from_is_err_and r is in p.1 ∙ ap Err p.2
 
 -- what a call says of its answer
 pub answered : {S : Type 0} (one : S → S → Type 0) (not : S → S → Fault → Type 0) (old new : S) (answer : Result Bool Fault) (told expected : Bool)
@@ -74,44 +71,62 @@ module _ {S : Type 0} (one : ℕ → S → S → Type 0) where
       })
 
     module _ (not : ℕ → S → S → Fault → Type 0) (b c : ℕ) (same : c ≡ b) (old mid : S) (upto : Upto test a b last old mid) where
-      goes : (new : S) (well : Bool) → (new ≡ mid) ⊎ ((b < last) × (why : Fault) × not b mid new why) → (well ≡ true → (last ≤ b) ⊎ Passing (not b) mid new) → Goes one not test a c last old new well
-      goes new well stops ends = subst (λ (k : ℕ). Goes one not test a k last old new well) (sym same) (record {
+      goes : (new : S) (answer : Result (Unit {0}) Fault) → Ends not b last mid new answer → Goes one not test a c last old new answer
+      goes new answer ends = subst (λ (k : ℕ). Goes one not test a k last old new answer) (sym same) (record {
         mid = mid;
         forth = upto.forth;
         within = upto.within;
         made = upto.made;
-        stops = stops;
         ends = ends;
       })
 
-      pub all_had : last ≤ b → Goes one not test a c last old mid true
-      all_had over = goes mid true (inl refl) (λ _. inl over)
+      pub all_had : last ≤ b → Goes one not test a c last old mid (Ok tt)
+      all_had over = goes mid (Ok tt) (inl (over, refl))
 
-      pub for_now : (new : S) → b < last → Passing (not b) mid new → Goes one not test a c last old new true
-      for_now new below now = goes new true (inr (below, now.0, now.2)) (λ _. inr now)
+      pub for_now : (new : S) → b < last → Passing (not b) mid new → Goes one not test a c last old new (Ok tt)
+      for_now new below now = goes new (Ok tt) (inr (below, now))
 
-      pub not_had : (new : S) (well : Bool) → well ≡ false → b < last → Stops (not b) mid new → Goes one not test a c last old new well
-      not_had new well bad below (inl still) = goes new well (inl still) (λ e. absurd (false≢true (sym bad ∙ e)))
-      not_had new well bad below (inr refused) = goes new well (inr (below, refused.0, refused.1)) (λ e. absurd (false≢true (sym bad ∙ e)))
+      pub in_vain : (new : S) (answer : Result (Unit {0}) Fault) (why : Fault) → answer ≡ Err why → b < last → InVain (not b) mid new why → Goes one not test a c last old new answer
+      in_vain new answer why is below vain = goes new answer (subst (λ (r : Result (Unit {0}) Fault). Ends not b last mid new r) (sym is) (below, vain))
 
-      pub none_had : (well : Bool) → well ≡ false → Goes one not test a c last old mid well
-      none_had well bad = goes mid well (inl refl) (λ e. absurd (false≢true (sym bad ∙ e)))
+-- once no share is missing
+pub of_shares : (c : Collective) → c.missing ≡ 0 → (answer : Result (Option (List ℕ)) Fault)
+    → IfErr answer (λ why. (why ≡ LacksMemory) ⊎ ((why ≡ MsgSize) × (AreReceived c.work.coll c.work.rank c.own c.received.items → ⊥)))
+    → IfErr answer (λ why. (why ≡ LacksMemory) ⊎ ((why ≡ MsgSize) × NoOutcome c))
+of_shares c none (Ok given) cause = cause
+of_shares c none (Err why) (inl memory) = inl memory
+of_shares c none (Err why) (inr size) = inr (size.0, inr (none, size.1))
 
--- what goes well goes, whatever becomes of the rest
-pub whatever : {S : Type 0} (one : ℕ → S → S → Type 0) (not : ℕ → S → S → Fault → Type 0) (test : ℕ → Bool) (a b last : ℕ) (old new : S) (well : Bool) → Goes one not test a b last old new true → Goes one not test a b last old new well
-whatever one not test a b last old new well goes = record {
-  mid = goes.mid;
-  forth = goes.forth;
-  within = goes.within;
-  made = goes.made;
-  stops = goes.stops;
-  ends = λ _. goes.ends refl;
-}
+module _ {Home : Type 0} (fixed : Bool) (c d : Collective) (own : List ℕ) (same : own ≡ c.own) (old : Seen Home) where
+  abbrev Asked : Seen Home → Result (Unit {0}) Fault → Type 0
+  Asked new answer = AsksAll c.work (length own) c.asked d.asked old new answer
 
-module _ {Home : Type 0} (fixed : Bool) (c d : Collective) (own : List ℕ) (same : own ≡ c.own) (old mid : Seen Home) (well : Bool) (asks : AsksAll c.work (length own) c.asked d.asked old mid well) where
-  pub driven : (new : Seen Home) → TellsAll fixed c.work own c.sent d.sent mid new well → Drives fixed c d old new well
-  driven new tells = record {
-    mid = mid;
-    asks = subst (λ (o : List ℕ). AsksAll c.work (length o) c.asked d.asked old mid well) same asks;
-    tells = subst (λ (o : List ℕ). TellsAll fixed c.work o c.sent d.sent mid new well) same tells;
-  }
+  asked : (new : Seen Home) (answer : Result (Unit {0}) Fault) → Asked new answer → AsksAll c.work (length c.own) c.asked d.asked old new answer
+  asked new answer asks = subst (λ (o : List ℕ). AsksAll c.work (length o) c.asked d.asked old new answer) same asks
+
+  drove : (mid new : Seen Home) (answer : Result (Unit {0}) Fault) → Asked mid (Ok tt) → TellsAll fixed c.work own c.sent d.sent mid new answer → Drove fixed c d old new answer
+  drove mid new answer asks tells = (mid, asked mid (Ok tt) asks, subst (λ (o : List ℕ). TellsAll fixed c.work o c.sent d.sent mid new answer) same tells)
+
+  module _ (answer : Result (Option (List ℕ)) Fault) where
+    pub asked_in_vain : (new : Seen Home) (why : Fault) → answer ≡ Err why → d.sent ≡ c.sent → Asked new (Err why) → Drives fixed c d old new answer
+    unfolding Drives
+    asked_in_vain new why is sent asks = subst (λ (r : Result (Option (List ℕ)) Fault). Drives fixed c d old new r) (sym is) (inl (asked new (Err why) asks, sent))
+
+    module _ (mid new : Seen Home) (asks : Asked mid (Ok tt)) where
+      pub told_in_vain : (why : Fault) → answer ≡ Err why → TellsAll fixed c.work own c.sent d.sent mid new (Err why) → Drives fixed c d old new answer
+      unfolding Drives
+      told_in_vain why is tells = subst (λ (r : Result (Option (List ℕ)) Fault). Drives fixed c d old new r) (sym is) (inr (inl (drove mid new (Err why) asks tells)))
+
+      pub driven : TellsAll fixed c.work own c.sent d.sent mid new (Ok tt) → IfErr answer (λ why. (why ≡ LacksMemory) ⊎ ((why ≡ MsgSize) × NoOutcome c)) → Drives fixed c d old new answer
+      unfolding Drives
+      driven tells cause = by answer cause
+        where
+          by : (r : Result (Option (List ℕ)) Fault) → IfErr r (λ why. (why ≡ LacksMemory) ⊎ ((why ≡ MsgSize) × NoOutcome c)) → Drives fixed c d old new r
+          by (Ok given) cause = drove mid new (Ok tt) asks tells
+          by (Err why) cause = inr (inr (drove mid new (Ok tt) asks tells, cause))
+
+      pub driven_failed : c.failed ≡ true → answer ≡ Err MsgSize → TellsAll fixed c.work own c.sent d.sent mid new (Ok tt) → Drives fixed c d old new answer
+      driven_failed failed is tells = driven tells (subst (λ (r : Result (Option (List ℕ)) Fault). IfErr r (λ why. (why ≡ LacksMemory) ⊎ ((why ≡ MsgSize) × NoOutcome c))) (sym is) (inr (refl, inl failed)))
+
+      pub driven_on : answer ≡ Ok None → TellsAll fixed c.work own c.sent d.sent mid new (Ok tt) → Drives fixed c d old new answer
+      driven_on is tells = driven tells (subst (λ (r : Result (Option (List ℕ)) Fault). IfErr r (λ why. (why ≡ LacksMemory) ⊎ ((why ≡ MsgSize) × NoOutcome c))) (sym is) tt)

@@ -1,19 +1,21 @@
--- What a drive does to the endpoint: receives and messages of its own, each rank's once, and nothing else.
+-- What a drive does to the endpoint: receives and messages of its own, each rank's once, and nothing else; and which error it tells.
 --     between test a b                 the ranks from a to below b that pass, in order
 --     InTurn one ranks old new         for each of these ranks, in order, one call
 --     Passing not old new              a call that is refused for now
---     Stops not old new                nothing, or a call that is refused
---     Tries one not old new answer     one call by its answer: made, refused for now, or not to be had
---     Goes one not test a b last       the ranks from a to below b that pass had their call, and then one was refused for b, or none;
---          old new well                where all went well the last rank had its call, or one is refused for now
+--     InVain not old new why           a call that is refused for good, or the memory for one that is not made
+--     Tries one not old new answer     one call by its answer: made, refused for now, or in vain
+--     Goes one not test a b last       the ranks from a to below b that pass had their call; then b is the last, or its call was
+--          old new answer              refused for now, or it was in vain
 --     Asks, AsksNot                    a receive of a rank's share, as long as the own one: posted, refused
 --     Tells, TellsNot                  the own share to a rank: accepted, refused
 --     AsksAll, TellsAll                of all ranks that need it
---     Drives fixed c d old new well    a drive, which finds the collective c and leaves d
-use Rattle.std.specs.Prelude.{◌≡◌, ℕ, ◌-◌, ◌<◌, ◌≤◌, ◌⊎◌, max, Bool, true, false, List, [], ◌∷◌, length, replicate, filter, Some, None, Result, Ok, Err}
+--     Drove fixed c d old new          receives and sends both, each half to its end or to a call that is refused for now
+--     NoOutcome c                      nothing comes of the shares: one failed, or all are there and don't belong together
+--     Drives fixed c d old new answer  a drive, which finds the collective c and leaves d
+use Rattle.std.specs.Prelude.{◌≡◌, ℕ, ◌-◌, ◌<◌, ◌≤◌, ◌⊎◌, max, Bool, true, false, List, [], ◌∷◌, length, replicate, filter, Option, Some, None, Result, Ok, Err}
 use Rattle.std.specs.List.{range_with_len}
 use Rattle.fab_base.specs.declared.faults.Fault.{Fault}
-use Rattle.fab_base.specs.declared.faults.Fault.TheVariants.{Again}
+use Rattle.fab_base.specs.declared.faults.Fault.TheVariants.{Again, MsgSize, NoMemory as LacksMemory}
 use Rattle.fab_base.specs.declared.items.Kind.TheVariants.{TagMsg}
 use Rattle.fab_base.specs.declared.peers.Level.TheVariants.{Inject}
 use Rattle.fab_model.specs.Calls.{Call, message}
@@ -21,7 +23,7 @@ use Rattle.fab_face.specs.Held.{Seen}
 use Rattle.fab_face.specs.Answers.{Sends, SendsNot, receive_call}
 use Rattle.fab_app.specs.Cleared.{cleared}
 use Rattle.fab_app.specs.Late.{ReceivesLate, ReceivesLateNot}
-use Rattle.fab_fold.specs.Shares.{needs}
+use Rattle.fab_fold.specs.Shares.{AreReceived, needs}
 use Rattle.fab_collectives.specs.declared.collective.Collective.{Collective}
 use Rattle.fab_collectives.specs.declared.collective.Work.{Work}
 
@@ -40,27 +42,33 @@ is_again _ = false
 abbrev pub Passing : {S : Type 0} → (S → S → Fault → Type 0) → S → S → Type 0
 Passing not old new = (why : Fault) × (is_again why ≡ true) × not old new why
 
-abbrev pub Stops : {S : Type 0} → (S → S → Fault → Type 0) → S → S → Type 0
-Stops not old new = (new ≡ old) ⊎ ((why : Fault) × not old new why)
+abbrev pub InVain : {S : Type 0} → (S → S → Fault → Type 0) → S → S → Fault → Type 0
+InVain not old new why = (is_again why ≡ false) × (not old new why ⊎ ((why ≡ LacksMemory) × (new ≡ old)))
 
 abbrev pub Tries : {S : Type 0} → (S → S → Type 0) → (S → S → Fault → Type 0) → S → S → Result Bool Fault → Type 0
 Tries one not old new (Ok true) = one old new
 Tries one not old new (Ok false) = Passing not old new
-Tries one not old new (Err why) = Stops not old new
+Tries one not old new (Err why) = InVain not old new why
 
-pub record Goes {S : Type 0} (one : ℕ → S → S → Type 0) (not : ℕ → S → S → Fault → Type 0) (test : ℕ → Bool) (a b last : ℕ) (old new : S) (well : Bool) : Type 0 where
+abbrev pub Ends : {S : Type 0} → (ℕ → S → S → Fault → Type 0) → ℕ → ℕ → S → S → Result (Unit {0}) Fault → Type 0
+Ends not b last old new (Ok done) = ((last ≤ b) × (new ≡ old)) ⊎ ((b < last) × Passing (not b) old new)
+Ends not b last old new (Err why) = (b < last) × InVain (not b) old new why
+
+pub record Goes {S : Type 0} (one : ℕ → S → S → Type 0) (not : ℕ → S → S → Fault → Type 0) (test : ℕ → Bool) (a b last : ℕ) (old new : S) (answer : Result (Unit {0}) Fault) : Type 0 where
   pub mid : S
   pub forth : a ≤ b
   pub within : b ≤ max a last
   pub made : InTurn one (between test a b) old mid
-  pub stops : (new ≡ mid) ⊎ ((b < last) × (why : Fault) × not b mid new why)
-  pub ends : well ≡ true → (last ≤ b) ⊎ Passing (not b) mid new
+  pub ends : Ends not b last mid new answer
 
 abbrev pub asking : ℕ → ℕ → ℕ → Call
 asking tag len rank = receive_call true (Some rank) tag 0 (replicate len 0) None tag
 
 abbrev pub telling : ℕ → List ℕ → ℕ → Call
 telling tag own rank = message TagMsg None rank tag own None Inject false false
+
+abbrev pub NoOutcome : Collective → Type 0
+NoOutcome c = (c.failed ≡ true) ⊎ ((c.missing ≡ 0) × (AreReceived c.work.coll c.work.rank c.own c.received.items → ⊥))
 
 module _ {Home : Type 0} where
   abbrev pub Asks : ℕ → ℕ → ℕ → Seen Home → Seen Home → Type 0
@@ -76,14 +84,20 @@ module _ {Home : Type 0} where
   TellsNot fixed tag own rank old new why = SendsNot fixed (telling tag own rank) (cleared old) new why
 
   -- the receives, of the ranks whose share is needed here
-  abbrev pub AsksAll : Work → ℕ → ℕ → ℕ → Seen Home → Seen Home → Bool → Type 0
-  AsksAll work len a b old new well = Goes (Asks work.tag len) (AsksNot work.tag len) (λ s. needs work.coll work.rank s) a b work.peers old new well
+  abbrev pub AsksAll : Work → ℕ → ℕ → ℕ → Seen Home → Seen Home → Result (Unit {0}) Fault → Type 0
+  AsksAll work len a b old new answer = Goes (Asks work.tag len) (AsksNot work.tag len) (λ s. needs work.coll work.rank s) a b work.peers old new answer
 
   -- the own share, to the ranks that need it
-  abbrev pub TellsAll : Bool → Work → List ℕ → ℕ → ℕ → Seen Home → Seen Home → Bool → Type 0
-  TellsAll fixed work own a b old new well = Goes (Tells fixed work.tag own) (TellsNot fixed work.tag own) (λ t. needs work.coll t work.rank) a b work.peers old new well
+  abbrev pub TellsAll : Bool → Work → List ℕ → ℕ → ℕ → Seen Home → Seen Home → Result (Unit {0}) Fault → Type 0
+  TellsAll fixed work own a b old new answer = Goes (Tells fixed work.tag own) (TellsNot fixed work.tag own) (λ t. needs work.coll t work.rank) a b work.peers old new answer
 
-pub record Drives {Home : Type 0} (fixed : Bool) (c d : Collective) (old new : Seen Home) (well : Bool) : Type 0 where
-  pub mid : Seen Home
-  pub asks : AsksAll c.work (length c.own) c.asked d.asked old mid well
-  pub tells : TellsAll fixed c.work c.own c.sent d.sent mid new well
+  abbrev pub Drove : Bool → Collective → Collective → Seen Home → Seen Home → Result (Unit {0}) Fault → Type 0
+  Drove fixed c d old new answer = (mid : Seen Home) × AsksAll c.work (length c.own) c.asked d.asked old mid (Ok tt) × TellsAll fixed c.work c.own c.sent d.sent mid new answer
+
+  -- an error is of a receive, and nothing was sent; or of a send; or both halves went, and memory lacks for what it comes to, or that is nothing
+  unfoldable pub Drives : Bool → Collective → Collective → Seen Home → Seen Home → Result (Option (List ℕ)) Fault → Type 0
+  Drives fixed c d old new (Ok given) = Drove fixed c d old new (Ok tt)
+  Drives fixed c d old new (Err why) =
+      (AsksAll c.work (length c.own) c.asked d.asked old new (Err why) × (d.sent ≡ c.sent))
+      ⊎ Drove fixed c d old new (Err why)
+      ⊎ (Drove fixed c d old new (Ok tt) × ((why ≡ LacksMemory) ⊎ ((why ≡ MsgSize) × NoOutcome c)))

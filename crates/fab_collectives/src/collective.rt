@@ -1,8 +1,8 @@
 //! A collective that was begun.
-ghost use Rattle.std.specs.Prelude.{◌≡◌, ◌<◌, ◌≤◌, ◌-◌, ◌⊎◌, false, true, Some, None, is_ok, IfOk, IfErr, IfSome, IsErr, IsNone, IsSome};
-ghost use Rattle.fab_base.specs.declared.faults.Fault.TheVariants.{NoMemory as LacksMemory};
+ghost use Rattle.std.specs.Prelude.{◌≡◌, ◌<◌, ◌≤◌, ◌-◌, ◌⊎◌, false, true, Some, None, IfOk, IfErr, IfSome, IsErr, IsNone, IsSome};
+ghost use Rattle.fab_base.specs.declared.faults.Fault.TheVariants.{MsgSize, NoMemory as LacksMemory};
 ghost use Rattle.fab_collectives.specs.Beginning.{IsFresh};
-ghost use Rattle.fab_fold.specs.Shares.{outcome_of};
+ghost use Rattle.fab_fold.specs.Shares.{AreReceived, outcome_of};
 ghost use Rattle.fab_collectives.specs.Driving.{Asks, AsksAll, AsksNot, Drives, Tells, TellsAll, TellsNot, Tries};
 ghost use Rattle.fab_collectives.specs.Offering.{brought, failed_after, is_of, is_under, missing_after, received_after, share_in, with_share};
 
@@ -81,7 +81,7 @@ fn ask_all<E: Calls + Drop>(
     len: usize,
     asked: &mut u32,
 ) -> Result<(), Fault>
-    ensures { AsksAll work len asked.old asked.new (E.seen endpoint.old) (E.seen endpoint.new) (is_ok result) }
+    ensures { AsksAll work len asked.old asked.new (E.seen endpoint.old) (E.seen endpoint.new) result }
 {
     for s in *asked..work.peers {
         if needs(work.coll, work.rank, s) && !ask(endpoint, alloc, work.tag, len, s)? {
@@ -115,7 +115,7 @@ fn send_all<E: Calls + Drop>(
     own: &[u8],
     sent: &mut u32,
 ) -> Result<(), Fault>
-    ensures { TellsAll E.fixed work own.now sent.old sent.new (E.seen endpoint.old) (E.seen endpoint.new) (is_ok result) }
+    ensures { TellsAll E.fixed work own.now sent.old sent.new (E.seen endpoint.old) (E.seen endpoint.new) result }
 {
     for t in *sent..work.peers {
         if needs(work.coll, t, work.rank) && !send(endpoint, work.tag, own, t)? {
@@ -239,7 +239,7 @@ impl Collective {
         ensures all { IfOk result (λ done. IsSome done → (self.old.work.peers ≤ self.new.asked) × (self.old.work.peers ≤ self.new.sent)) }
         ensures none { IfOk result (λ done. IsNone done → (0 < self.old.missing) ⊎ (self.new.asked < self.old.work.peers) ⊎ (self.new.sent < self.old.work.peers)) }
         ensures fails { self.old.failed ≡ true → IsErr result }
-        ensures drives { Drives E.fixed self.old self.new (E.seen endpoint.old) (E.seen endpoint.new) (is_ok result) }
+        ensures drives { Drives E.fixed self.old self.new (E.seen endpoint.old) (E.seen endpoint.new) result }
         ensures work { self.new.work ≡ self.old.work }
         ensures own { self.new.own ≡ self.old.own }
         ensures received { self.new.received.items ≡ self.old.received.items }
@@ -261,6 +261,7 @@ impl Collective {
     fn outcome(&self) -> Result<Option<Buf>, Fault>
         ensures made { IfOk result (λ done. IfSome done (λ bytes. bytes ≡ outcome_of self.now.work.coll self.now.work.rank self.now.own self.now.received.items)) }
         ensures some { IfOk result IsSome }
+        ensures why { IfErr result (λ why. (why ≡ LacksMemory) ⊎ ((why ≡ MsgSize) × (AreReceived self.now.work.coll self.now.work.rank self.now.own self.now.received.items → ⊥))) }
     {
         let bytes = made(
             self.alloc,

@@ -1,5 +1,6 @@
 //! Who needs whose share, and what is made of the shares.
-ghost use Rattle.std.specs.Prelude.{◌≡◌, IsTrue, IfOk, take};
+ghost use Rattle.std.specs.Prelude.{◌≡◌, ◌⊎◌, false, IsTrue, IfErr, IfOk, take};
+ghost use Rattle.fab_base.specs.declared.faults.Fault.TheVariants.{MsgSize, NoMemory as LacksMemory};
 ghost use Rattle.fab_fold.specs.Shares.{AreAlike, AreReceived, needs, outcome_of};
 ghost use Rattle.fab_collectives.specs.Places.{place_of, sources_of};
 
@@ -53,14 +54,16 @@ pub(crate) fn cut(buf: Buf, len: u32) -> Buf
 
 /// Whether the shares have so many bytes each.
 fn are_alike(len: usize, shares: &[Buf]) -> bool
-    ensures { IsTrue result → AreAlike len shares.now }
+    ensures yes { IsTrue result → AreAlike len shares.now }
+    ensures no { result ≡ false → AreAlike len shares.now → ⊥ }
 {
     shares.iter().all(|share| share.as_slice().len() == len)
 }
 
 /// Whether the lengths of these shares belong together.
 pub(crate) fn belong(coll: Coll, rank: u32, own: &[u8], received: &[Buf]) -> bool
-    ensures { IsTrue result → AreReceived coll rank own.now received.now }
+    ensures yes { IsTrue result → AreReceived coll rank own.now received.now }
+    ensures no { result ≡ false → AreReceived coll rank own.now received.now → ⊥ }
 {
     match coll {
         Coll::Barrier => rank as usize <= received.len(),
@@ -83,7 +86,8 @@ pub(crate) fn made(
     own: &[u8],
     received: &[Buf],
 ) -> Result<Buf, Fault>
-    ensures { IfOk result (λ bytes. bytes ≡ outcome_of coll rank own.now received.now) }
+    ensures made { IfOk result (λ bytes. bytes ≡ outcome_of coll rank own.now received.now) }
+    ensures why { IfErr result (λ why. (why ≡ LacksMemory) ⊎ ((why ≡ MsgSize) × (AreReceived coll rank own.now received.now → ⊥))) }
 {
     if !belong(coll, rank, own, received) {
         return Err(Fault::MsgSize);

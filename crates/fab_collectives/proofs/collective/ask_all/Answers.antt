@@ -1,7 +1,7 @@
 use Rattle.std.proofs.Common.{true, false, refl, sym, ap, ◌∙◌, arith}
 use Rattle.fab_fold.specs.Shares.{needs}
 use Rattle.fab_collectives.specs.Driving.{Asks, AsksNot}
-use Rattle.fab_collectives.proofs.Driving.{all_had, answered, begins, for_now, not_had, not_ok, passes, skips}
+use Rattle.fab_collectives.proofs.Driving.{all_had, answered, begins, for_now, handed_on, in_vain, passes, skips}
 use Rattle.fab_collectives.proofs.collective.ask_all.Goals as goal
 use Rattle.fab_collectives.proofs.collective.ask_all.Goals.{else-needs-via-then-needs+in_ok-ask+else-not-branch, else-needs-via-else-needs}
 
@@ -12,7 +12,8 @@ loop-s-init g c = record {
 }
 
 pub returns-in_err-ask : goal.returns-in_err-ask
-returns-in_err-ask g c = not_had _ (λ s. needs c.args.work.coll c.args.work.rank s) c.args.asked.now c.args.work.peers _ c.loop-s.s c.loop-s.asked c.loop-s.invariant.at _ _ c.loop-s.invariant.upto _ _ (not_ok c.from_residual.result c.from_residual.ensures.0) c.loop-s-test.true c.in_err-ask.ensures
+returns-in_err-ask g c = in_vain _ (λ s. needs c.args.work.coll c.args.work.rank s) c.args.asked.now c.args.work.peers _ c.loop-s.s c.loop-s.asked c.loop-s.invariant.at _ _ c.loop-s.invariant.upto _ _ c.in_err-ask.field-0.0
+    (handed_on c.from_residual.result c.in_err-ask.field-0.0 c.from_residual.ensures.1) c.loop-s-test.true c.in_err-ask.ensures
 
 pub returns-then-not-branch : goal.returns-then-not-branch
 returns-then-not-branch g c = for_now _ (λ s. needs c.args.work.coll c.args.work.rank s) c.args.asked.now c.args.work.peers _ c.loop-s.s c.loop-s.asked c.loop-s.invariant.at _ _ c.loop-s.invariant.upto _ c.loop-s-test.true

@@ -1,7 +1,7 @@
 use Rattle.std.proofs.Common.{true, false, refl, sym, ap, ◌∙◌, arith}
 use Rattle.fab_fold.specs.Shares.{needs}
 use Rattle.fab_collectives.specs.Driving.{Tells, TellsNot}
-use Rattle.fab_collectives.proofs.Driving.{all_had, answered, begins, for_now, not_had, not_ok, passes, skips}
+use Rattle.fab_collectives.proofs.Driving.{all_had, answered, begins, for_now, handed_on, in_vain, passes, skips}
 use Rattle.fab_collectives.proofs.collective.send_all.Goals as goal
 use Rattle.fab_collectives.proofs.collective.send_all.Goals.{else-needs-via-then-needs+in_ok-send+else-not-branch, else-needs-via-else-needs}
 
@@ -12,7 +12,8 @@ loop-t-init g c = record {
 }
 
 pub returns-in_err-send : goal.returns-in_err-send
-returns-in_err-send g c = not_had _ (λ t. needs c.args.work.coll t c.args.work.rank) c.args.sent.now c.args.work.peers _ c.loop-t.t c.loop-t.sent c.loop-t.invariant.at _ _ c.loop-t.invariant.upto _ _ (not_ok c.from_residual.result c.from_residual.ensures.0) c.loop-t-test.true c.in_err-send.ensures
+returns-in_err-send g c = in_vain _ (λ t. needs c.args.work.coll t c.args.work.rank) c.args.sent.now c.args.work.peers _ c.loop-t.t c.loop-t.sent c.loop-t.invariant.at _ _ c.loop-t.invariant.upto _ _ c.in_err-send.field-0.0
+    (handed_on c.from_residual.result c.in_err-send.field-0.0 c.from_residual.ensures.1) c.loop-t-test.true c.in_err-send.ensures
 
 pub returns-then-not-branch : goal.returns-then-not-branch
 returns-then-not-branch g c = for_now _ (λ t. needs c.args.work.coll t c.args.work.rank) c.args.sent.now c.args.work.peers _ c.loop-t.t c.loop-t.sent c.loop-t.invariant.at _ _ c.loop-t.invariant.upto _ c.loop-t-test.true
