@@ -74,7 +74,7 @@ pub fn is_well_formed(request: &Request, bytes: &[u8], compared: &[u8]) -> bool
 }
 
 /// The head of the item that a request makes, as the operation of this number.
-#[tactic(auto, using(crate::proofs::Requests::asks_no_ack))]
+#[tactic(auto, using(crate::proofs::Heads::asks_no_ack))]
 pub fn request_head(request: &Request, op: u64, bytes: &[u8], compared: &[u8]) -> ItemHead
     requires count { request.now.count < 2 ^ 32 }
     requires total { length bytes.now + length compared.now < 2 ^ 32 }
