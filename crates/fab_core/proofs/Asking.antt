@@ -13,12 +13,10 @@ use Rattle.fab_base.specs.declared.items.Kind.{Kind}
 use Rattle.fab_base.specs.declared.items.Kind.TheVariants.{Msg, TagMsg, WriteReq, ReadReq, AtomicReq, Reply}
 use Rattle.fab_base.specs.declared.peers.LineResult.TheVariants.{Done, Refused}
 use Rattle.fab_wire.specs.Frames.{IsSound, operand_bytes, compare_bytes}
-use Rattle.fab_base.specs.declared.items.Ack.TheVariants.{Nothing}
-use Rattle.fab_base.specs.declared.peers.Level.{Level}
 use Rattle.fab_base.specs.Replies.{is_reply}
 use Rattle.fab_model.specs.Matching.{is_message}
 use Rattle.fab_model.specs.State.{State, in_use, lookup}
-use Rattle.fab_model.specs.Sending.{Order, ack_of, first_fault, head_of, is_granted, is_too_long, is_well_formed, most_bytes, transmit, transmit_to}
+use Rattle.fab_model.specs.Sending.{Order, first_fault, head_of, is_granted, is_too_long, is_well_formed, most_bytes, transmit, transmit_to}
 use Rattle.fab_model.specs.Calls.{Transmit, do_call}
 use Rattle.fab_face.specs.Acts.{DoesCall}
 use Rattle.fab_face.specs.Answers.{is_final}
@@ -153,12 +151,6 @@ pub asks_no_message : (a : Asked) → is_message (kind_asked a) ≡ false
 asks_no_message Read = refl
 asks_no_message Write = refl
 asks_no_message (Atomic atom) = refl
-
--- it asks for no reply besides
-pub asks_no_ack : (a : Asked) (level : Level) → ack_of (kind_asked a) level ≡ Nothing
-asks_no_ack Read level = refl
-asks_no_ack Write level = refl
-asks_no_ack (Atomic atom) level = refl
 
 operand_is : (op : AtomicOp) (n : ℕ) → elim op [ AtomicRead ↦ 0 | _ ↦ n ] ≡ operand_bytes op n
 operand_is Min n = refl

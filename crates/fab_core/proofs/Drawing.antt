@@ -33,7 +33,7 @@ use Rattle.fab_core.specs.Parts.{IsTogether, Parts, held_of, state_of}
 use Rattle.fab_ends.specs.Ends.{booked}
 use Rattle.fab_core.specs.Doing.{let_back, received, with_arriving}
 use Rattle.fab_core.specs.Draws.{call_drawn, drew, drew_as}
-use Rattle.fab_core.specs.Looks.{is_due_now}
+use Rattle.fab_orders.specs.Looks.{is_due_now}
 use Rattle.fab_core.proofs.Departing.{Leaves, count_found, into_way, left_by, left_room, left_together, partly_found}
 use Rattle.fab_core.proofs.Doing.{completed_is, is_released, passes}
 use Rattle.fab_core.proofs.Fits.{fits_writing, fits_two}

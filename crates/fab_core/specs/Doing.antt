@@ -24,7 +24,7 @@ use Rattle.fab_base.specs.declared.operations.Coming.{Coming}
 use Rattle.fab_base.specs.declared.operations.Coming.TheVariants.{Into, Keep, Throw, Request, Answer}
 use Rattle.fab_base.specs.declared.operations.Operation.{Operation}
 use Rattle.fab_base.specs.declared.operations.Receive.{Receive}
-use Rattle.fab_model.specs.Matching.{is_message, takes}
+use Rattle.fab_model.specs.Matching.{takes}
 use Rattle.fab_model.specs.State.{State, Transmitting, coming_from, counting, writing, Region}
 use Rattle.fab_model.specs.Complete.{at_delivery, at_match, error}
 use Rattle.fab_base.specs.Replies.{at_either}
@@ -37,7 +37,7 @@ use Rattle.fab_rx.specs.declared.results.Completed.{Completed}
 use Rattle.fab_cq.specs.Queues.{has_room}
 use Rattle.fab_tx.specs.Transit.{Transit, accepting_by, answered_by, booking, finds_answered, finishing as finishing_sent}
 use Rattle.fab_model.specs.Target.{perform}
-use Rattle.fab_rma.specs.Serving.{is_request, outcome_at}
+use Rattle.fab_rma.specs.Serving.{outcome_at}
 use Rattle.fab_ends.specs.Ends.{answer_writes, booked, counters_after, cq_after, unread_of, written_if}
 use Rattle.fab_ends.specs.Members.{let_any_go, let_go}
 use Rattle.fab_core.specs.Parts.{Parts, state_of}
@@ -61,10 +61,6 @@ abbrev pub answered : ℕ → Item → Parts → Parts
 answered source item p = ending_by item.head.outcome item.bytes (finds_answered source item.head p.tx.tx) (with_transit (answered_by source item.head p.tx) p)
 
 -- ---- what comes in
-
--- the item asks for a reply: a request does, and a message may
-abbrev pub asks : ItemHead → Bool
-asks head = is_message head.kind && at_either head.ack || is_request head.kind
 
 -- the item writes a completion when it is whole
 abbrev pub writes_at_tail : Option Coming → ℕ → ItemHead → Transmitting → List Region → Bool

@@ -1,5 +1,4 @@
 -- Multi-receives (FI_MULTI_RECV of fi_msg(3)).
---     sharing_of ask buf        the call, as the machine has it
 --     passing_multi p           why it is refused now
 --     shared_by id ask buf p    it is posted, under this id
 --     IsShared ask buf p q      it is posted
@@ -9,7 +8,7 @@ use Rattle.fab_base.specs.declared.faults.Busy.TheVariants.{CqFull, PostedFull}
 use Rattle.fab_base.specs.declared.faults.Fault.{Fault}
 use Rattle.fab_base.specs.declared.faults.Fault.TheVariants.{Again}
 use Rattle.fab_base.specs.declared.operations.Receive.{Receive}
-use Rattle.fab_model.specs.Receiving.{Posting, draw_due, want_of}
+use Rattle.fab_model.specs.Receiving.{draw_due, want_of}
 use Rattle.fab_rx.specs.Arriving.{multi_by, opening}
 use Rattle.fab_model.specs.Peers.{multi_buf}
 use Rattle.fab_face.specs.Answers.{multi_of}
@@ -18,9 +17,6 @@ use Rattle.fab_face.specs.declared.multis.MultiAsk.{MultiAsk}
 use Rattle.fab_core.specs.Parts.{Parts, state_of}
 use Rattle.fab_core.specs.Doing.{called, with_arriving}
 use Rattle.fab_ends.specs.Members.{enlisted}
-
-abbrev pub sharing_of : MultiAsk → List ℕ → Posting
-sharing_of a buf = record { tagged = false; source = a.source; tag = 0; ignore = 0; buf = buf; least = Some a.least; ctx = a.ctx }
 
 -- it waits for draws that are due, and for a place
 abbrev pub passing_multi : Parts → Option Fault

@@ -1,9 +1,6 @@
--- What holds of requests at their target before they are whole (fi_rma(3), fi_atomic(3)), and of regions.
+-- What holds of requests at their target before they are whole (fi_rma(3), fi_atomic(3)).
 --     IsServing begun target     what holds between calls
---     lacks caps access          a right that a region would give was not granted
-use Rattle.std.specs.Prelude.{◌≡◌, ℕ, ◌≤◌, Bool, true, not, ◌&&◌, ◌||◌, List, length, Option, None, IfSome, slice_index, slice_index_or}
-use Rattle.fab_base.specs.declared.caps.Caps.{Caps}
-use Rattle.fab_base.specs.declared.items.Access.{Access}
+use Rattle.std.specs.Prelude.{◌≡◌, ℕ, ◌≤◌, true, List, length, Option, None, IfSome, slice_index, slice_index_or}
 use Rattle.fab_base.specs.declared.items.Item.{Item}
 use Rattle.fab_wire.specs.Frames.{IsSound}
 use Rattle.fab_rma.specs.Serving.{Serving, is_request, room_for}
@@ -15,6 +12,3 @@ IsAwaited target source item = is_request item.head.kind ≡ true → IsSound it
 pub record IsServing (begun : List (Option Item)) (target : Serving) : Type 0 where
   pub sources : length target.rooms ≡ length begun
   pub awaited : (s : ℕ) → IfSome (slice_index_or begun s None) (IsAwaited target s)
-
-abbrev pub lacks : Caps → Access → Bool
-lacks caps access = access.remote_read && not caps.remote_read || access.remote_write && not caps.remote_write

@@ -1,99 +1,25 @@
 //! Looks are judged and made, and what is claimed is received or dropped (FI_PEEK, FI_CLAIM and FI_DISCARD
 //! of fi_tagged(3)).
-ghost use Rattle.std.specs.Prelude.{◌≡◌, ◌<◌, ◌&&◌, Some, None, length, slice_index, find, is_some, IfErr, IfSome, IsTrue, OnErr, OnOk, true, false};
-ghost use Rattle.std.specs.Option.{option_map};
-ghost use Rattle.fab_base.specs.declared.entries.PeekHow.TheVariants.{Discard};
+ghost use Rattle.std.specs.Prelude.{◌≡◌, ◌&&◌, is_some, IfErr, IsTrue, OnErr, OnOk, true, false};
 ghost use Rattle.fab_base.specs.declared.faults.Fault.TheVariants.{Again};
 ghost use Rattle.fab_base.specs.declared.faults.Busy.TheVariants.{CqFull};
-ghost use Rattle.fab_model.specs.Matching.{takes};
 ghost use Rattle.fab_model.specs.Receiving.{claim_of, is_claim};
 ghost use Rattle.fab_cq.specs.Queues.{has_room};
-ghost use Rattle.fab_rx.specs.Claims.{claim_under, seen};
+ghost use Rattle.fab_rx.specs.Claims.{claim_under};
 ghost use Rattle.fab_core.specs.Parts.{state_of};
-ghost use Rattle.fab_core.specs.Orders.{is_held};
-ghost use Rattle.fab_core.specs.Looks.{dropped_by, is_due_now, is_held_take, lacks_take, lasting_claimed, lasting_look, look_want, looked, looked_by, parted, parted_by, taken_by, told};
+ghost use Rattle.fab_core.specs.Passing.{is_held};
+ghost use Rattle.fab_orders.specs.Orders.{look_want};
+ghost use Rattle.fab_core.specs.Looks.{dropped_by, is_held_take, lacks_take, lasting_claimed, lasting_look, looked_by, taken_by};
 
 use crate::parts::Core;
-use fab_base::{Buf, Busy, Entry, ErrEntry, ErrKind, Fault, PeekHow, Refused, Taken, Want};
+use fab_base::{Buf, Fault, PeekHow, Refused, Want};
 use fab_ends::calls::{CallRecord, ThisCall, call};
-use fab_ends::handing::{at_match, book, hand_over};
+use fab_ends::handing::{at_match, hand_over};
 use fab_face::looking::Look;
 use fab_match::Matcher;
-use fab_rx::{Inbox, Posted, Seen};
-use fab_tx::Outbox;
-use std::alloc::Global;
+use fab_orders::looks::{is_claim, meet, part, part_by, told};
+use fab_rx::Posted;
 use std::snapshot::Snapshot;
-
-/// The completion of a look, by the message that it met.
-fn told(how: PeekHow, ctx: u64, met: &Option<Seen>) -> Taken
-    ensures { result ≡ told how ctx met.now }
-{
-    match met {
-        Some(met) => Taken::Success(Entry::Peeked {
-            ctx,
-            how,
-            source: met.source,
-            tag: met.head.tag,
-            imm: met.head.imm,
-            len: met.head.total,
-        }),
-        None => Taken::Failure(ErrEntry {
-            ctx: Some(ctx),
-            kind: ErrKind::NoMsg,
-            source: None,
-            tag: None,
-            imm: None,
-            at: None,
-            len: 0,
-            olen: 0,
-            buf: None,
-        }),
-    }
-}
-
-fn is_claim(how: PeekHow) -> bool
-    ensures { result ≡ is_claim how }
-{
-    match how {
-        PeekHow::Claim => true,
-        PeekHow::Peek | PeekHow::Discard => false,
-    }
-}
-
-/// What a look does to the messages, and which one it met.
-fn meet<M: Matcher>(rx: &mut Inbox<M>, how: PeekHow, want: &Want, ctx: u64) -> Option<Seen>
-    ensures new { rx.new ≡ looked how want.now ctx rx.old }
-    ensures met { result ≡ option_map seen (find (takes want.now) rx.old.rx.unexpected) }
-{
-    match how {
-        PeekHow::Peek => rx.peek(want),
-        PeekHow::Claim => rx.claim(want, ctx),
-        PeekHow::Discard => rx.discard(want),
-    }
-}
-
-/// Books the reply to a message that leaves, where it is whole and one is due at its match, in room that
-/// was made for it.
-fn part(alloc: Global, tx: &mut Outbox, met: &Option<Seen>)
-    requires room { IfSome met.now (λ m. is_due_now m ≡ true → (m.source < length tx.old.tx.sent) × (0 < slice_index tx.old.rooms m.source)) }
-    ensures { tx.new ≡ parted met.now tx.old }
-{
-    if let Some(met) = met {
-        let due = met.whole && at_match(met.head.ack);
-        book(alloc, tx, due, met.source, &met.head);
-    }
-}
-
-/// The same after a look: a message leaves where it is discarded.
-fn part_by(alloc: Global, tx: &mut Outbox, how: PeekHow, met: &Option<Seen>)
-    requires room { how ≡ Discard → IfSome met.now (λ m. is_due_now m ≡ true → (m.source < length tx.old.tx.sent) × (0 < slice_index tx.old.rooms m.source)) }
-    ensures { tx.new ≡ parted_by how met.now tx.old }
-{
-    match how {
-        PeekHow::Peek | PeekHow::Claim => {}
-        PeekHow::Discard => part(alloc, tx, met),
-    }
-}
 
 impl<M: Matcher> Core<M> {
     /// Whether a message stands claimed under the context.
@@ -146,17 +72,6 @@ impl<M: Matcher> Core<M> {
         None
     }
 
-    fn look_want(&self, look: &Look) -> Want
-        ensures { result ≡ look_want (state_of self.now) look.now }
-    {
-        Want {
-            tagged: true,
-            tag: look.tag,
-            ignore: look.ignore,
-            source: self.used_source(look.source),
-        }
-    }
-
     /// Looks for an unexpected message, where its completion has room.
     pub(crate) fn seek(&mut self, look: &Look) -> Result<(), Fault>
         ensures ok { OnOk result ((is_held 1 self.old ≡ false) × (self.new ≡ looked_by look.now.how (look_want (state_of self.old) look.now) look.now.ctx self.old)) }
@@ -166,7 +81,7 @@ impl<M: Matcher> Core<M> {
         if self.is_held(1) {
             return Err(self.held());
         }
-        let want = self.look_want(look);
+        let want = self.want(true, look.source, look.tag, look.ignore);
         self.see(look.how, &want, look.ctx);
         Ok(())
     }

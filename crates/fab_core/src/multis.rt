@@ -1,24 +1,19 @@
 //! Multi-receives (FI_MULTI_RECV of fi_msg(3)) are judged and posted, and their buffers lent.
-ghost use Rattle.std.specs.Prelude.{◌≡◌, ◌+◌, ◌==◌, ◌<◌, ◌≤◌, ◌^◌, ◌||◌, length, take, drop, nat_lt, Some, None, IfErr, IfNone, IfSome, OnErr, OnOk};
+ghost use Rattle.std.specs.Prelude.{◌≡◌, ◌<◌, ◌^◌, length, Some, None, IfErr, IfNone, IfSome, OnErr, OnOk};
 ghost use Rattle.fab_face.specs.Answers.{multi_of};
 ghost use Rattle.fab_core.specs.Parts.{held_of, state_of};
 ghost use Rattle.fab_core.specs.Doing.{lasting_post};
-ghost use Rattle.fab_core.specs.Multis.{HasBuffer, IsShared, passing_multi, sharing_of};
+ghost use Rattle.fab_orders.specs.Orders.{sharing_of};
+ghost use Rattle.fab_core.specs.Multis.{HasBuffer, IsShared, passing_multi};
 
 use crate::parts::Core;
-use fab_base::{Buf, Busy, Fault, Refused, Want};
+use fab_base::{Buf, Busy, Fault, Refused};
 use fab_ends::calls::{CallRecord, ThisCall, call};
 use fab_ends::places::Place;
 use fab_face::multis::MultiAsk;
 use fab_match::Matcher;
+use fab_orders::receives::least_is_wrong;
 use std::snapshot::Snapshot;
-
-/// Whether fewer bytes than these must be free, which are none or more than the buffer has.
-fn least_is_wrong(least: u32, buf: &Buf) -> bool
-    ensures { result ≡ ((least == 0) || nat_lt (length buf.now) least) }
-{
-    least == 0 || buf.as_slice().len() < least as usize
-}
 
 impl<M: Matcher> Core<M> {
     /// Why a multi-receive is refused for a reason that does not pass.
@@ -73,12 +68,7 @@ impl<M: Matcher> Core<M> {
         self.rx.known();
         self.rx.opened();
         self.cq.known();
-        let want = Want {
-            tagged: false,
-            tag: 0,
-            ignore: 0,
-            source: self.used_source(ask.source),
-        };
+        let want = self.want(false, ask.source, 0, 0);
         let about = Snapshot::of(&self.calls);
         let id = self
             .rx
@@ -103,17 +93,4 @@ impl<M: Matcher> Core<M> {
             Place::Ended(before) => self.cq.buffer_at(before),
         }
     }
-}
-
-/// So many bytes from the place on, `None` exactly where there are fewer.
-pub(crate) fn part_of(bytes: &[u8], at: u32, len: u32) -> Option<&[u8]>
-    ensures some { IfSome result (λ part. (at + len ≤ length bytes.now) × (part.now ≡ take len (drop at bytes.now))) }
-    ensures none { IfNone result (length bytes.now < at + len) }
-{
-    let start = at as usize;
-    let end = start + len as usize;
-    if end > bytes.len() {
-        return None;
-    }
-    Some(&bytes[start..end])
 }

@@ -70,13 +70,6 @@ struct Halves<M: Matcher> {
     multis: Multis,
 }
 
-/// How many multi-receives may be posted, closing, or ended and unread, and one more.
-fn most_multis(most: u32, peers: u32, entries: u32) -> usize
-    ensures { result ≡ most_multis most peers entries }
-{
-    most as usize + peers as usize + entries as usize + 1
-}
-
 /// Takes the memory for so many peers.
 fn make_halves<M: Matcher>(alloc: Global, info: &Info, peers: u32) -> Result<Halves<M>, NoMemory>
     requires size { 2 ≤ info.now.cq }
@@ -91,7 +84,9 @@ fn make_halves<M: Matcher>(alloc: Global, info: &Info, peers: u32) -> Result<Hal
     let target = Target::new(alloc, peers)?;
     let cq = Queue::new(alloc, info.cq)?;
     let calls = Record::new(alloc, &())?;
-    let multis = Multis::new(alloc, most_multis(info.rx, peers, info.cq))?;
+    // so many may be posted, closing, or ended and unread, and one more
+    let most_multis = info.rx as usize + peers as usize + info.cq as usize + 1;
+    let multis = Multis::new(alloc, most_multis)?;
     let rx = Inbox::new(alloc, peers, info.rx)?;
     Ok(Halves {
         rx,

@@ -3,7 +3,7 @@ ghost use Rattle.std.specs.Prelude.{◌≡◌};
 ghost use Rattle.std.specs.Option.{option_map};
 
 use crate::parts::Core;
-use fab_base::{Fault, Want};
+use fab_base::Fault;
 use fab_face::probing::{Probed, Probing};
 use fab_match::Matcher;
 
@@ -15,12 +15,7 @@ impl<M: Matcher> Probing for Core<M> {
         if !self.knows(source) {
             return Err(Fault::Invalid);
         }
-        let want = Want {
-            tagged: true,
-            tag,
-            ignore,
-            source: self.used_source(source),
-        };
+        let want = self.want(true, source, tag, ignore);
         let Some(met) = self.rx.peek(&want) else {
             return Ok(None);
         };

@@ -1,57 +1,25 @@
 //! Receives are judged, posted and cancelled (fi_msg(3), fi_tagged(3), fi_cancel of fi_endpoint(3)).
-ghost use Rattle.std.specs.Prelude.{◌≡◌, ◌<◌, Some, None, length, IsTrue, OnErr, OnOk, IfErr, true, false, is_some};
-ghost use Rattle.std.specs.Option.{option_map};
-ghost use Rattle.fab_base.specs.declared.entries.ErrKind.TheVariants.{Canceled};
+ghost use Rattle.std.specs.Prelude.{◌≡◌, Some, None, IsTrue, OnErr, OnOk, IfErr, true, false, is_some};
 ghost use Rattle.fab_base.specs.declared.faults.Fault.TheVariants.{Again};
 ghost use Rattle.fab_base.specs.declared.faults.Busy.TheVariants.{CqFull};
-ghost use Rattle.fab_model.specs.Complete.{error};
-ghost use Rattle.fab_model.specs.Receiving.{cancellable, may_receive, source_is_known, used_source, without_posted};
+ghost use Rattle.fab_model.specs.Receiving.{cancellable, may_receive, source_is_known, used_source, want_of};
 ghost use Rattle.fab_cq.specs.Queues.{has_room};
-ghost use Rattle.fab_rx.specs.Arriving.{with_receiving};
 ghost use Rattle.fab_rx.specs.Leaving.{is_meant};
-ghost use Rattle.fab_rx.specs.Results.{cancelled};
 ghost use Rattle.fab_core.specs.Parts.{state_of};
 ghost use Rattle.fab_core.specs.Doing.{left_by, lasting_post, posted_by};
-ghost use Rattle.fab_core.specs.Orders.{is_held, posting_of, wanted, passing_post};
+ghost use Rattle.fab_orders.specs.Orders.{posting_of, wanted};
+ghost use Rattle.fab_core.specs.Passing.{is_held, passing_post};
 
 use crate::callers::OfReceive;
 use crate::parts::Core;
-use fab_base::{Buf, Busy, Class, ErrEntry, ErrKind, Fault, Refused, Taken, Want};
+use fab_base::{Buf, Busy, Class, Fault, Refused, Want};
 use fab_ends::calls::{CallRecord, ThisCall, call};
 use fab_ends::handing::{at_match, hand_over};
 use fab_face::machine::Ask;
 use fab_match::Matcher;
-use fab_rx::{Cancelled, Inbox, Posted};
+use fab_orders::receives::{canceled, withdraw};
+use fab_rx::{Inbox, Posted};
 use std::snapshot::Snapshot;
-
-/// The completion of a receive that was cancelled, with its buffer.
-fn canceled(left: Cancelled) -> Taken
-    ensures { result ≡ error (Some left.ctx) Canceled (Some left.buf) }
-{
-    let Cancelled { ctx, buf, .. } = left;
-    Taken::Failure(ErrEntry {
-        ctx: Some(ctx),
-        kind: ErrKind::Canceled,
-        source: None,
-        tag: None,
-        imm: None,
-        at: None,
-        len: 0,
-        olen: 0,
-        buf: Some(buf),
-    })
-}
-
-/// The first posted receive of this context to which nothing is under way leaves, of any where none is named.
-fn withdraw<M: Matcher>(rx: &mut Inbox<M>, ctx: Option<u64>) -> Option<Cancelled>
-    ensures found { result ≡ option_map (cancelled rx.old) (cancellable (is_meant ctx) rx.old.rx) }
-    ensures rest { rx.new ≡ with_receiving (without_posted (is_meant ctx) rx.old.rx) rx.old }
-{
-    match ctx {
-        Some(ctx) => rx.cancel(ctx),
-        None => rx.cancel_first(),
-    }
-}
 
 impl<M: Matcher> Core<M> {
     /// Whether receives of this kind may be posted.
@@ -86,14 +54,15 @@ impl<M: Matcher> Core<M> {
         }
     }
 
-    fn want(&self, ask: &Ask) -> Want
-        ensures { result ≡ wanted (state_of self.now) ask.now }
+    /// What a receive or a look matches, of the source that is meant.
+    pub(crate) fn want(&self, tagged: bool, source: Option<u32>, tag: u64, ignore: u64) -> Want
+        ensures { result ≡ want_of (state_of self.now) tagged source tag ignore }
     {
         Want {
-            tagged: ask.tagged,
-            tag: ask.tag,
-            ignore: ask.ignore,
-            source: self.used_source(ask.source),
+            tagged,
+            tag,
+            ignore,
+            source: self.used_source(source),
         }
     }
 
@@ -148,7 +117,7 @@ impl<M: Matcher> Core<M> {
         ensures err { IfErr result (λ r. (r.buf ≡ buf) × (passing_post (wanted (state_of self.old) ask.now) self.old ≡ Some r.why)) }
         ensures stays { OnErr result (self.new ≡ self.old) }
     {
-        let want = self.want(ask);
+        let want = self.want(ask.tagged, ask.source, ask.tag, ask.ignore);
         if let Some(why) = self.ask_again(&want) {
             return Err(Refused { why, buf });
         }

@@ -1,11 +1,11 @@
 //! A core is a machine that has buffers for many messages.
 ghost use Rattle.fab_core.specs.Parts.{held_of};
 
-use crate::multis::part_of;
 use crate::parts::Core;
 use fab_base::{Buf, Fault, Refused};
 use fab_face::multis::{MultiAsk, MultiReceiving};
 use fab_match::Matcher;
+use fab_orders::receives::part_of;
 
 impl<M: Matcher> MultiReceiving for Core<M> {
     fn sharing(&self) {

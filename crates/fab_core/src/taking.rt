@@ -12,52 +12,25 @@ ghost use Rattle.fab_cq.specs.Queues.{has_room};
 ghost use Rattle.fab_rx.specs.Arriving.{arriving, bare, begun_of};
 ghost use Rattle.fab_rx.specs.Results.{last_of};
 ghost use Rattle.fab_tx.specs.Transit.{answered_by, finds_answered};
-ghost use Rattle.fab_base.specs.Replies.{is_reply};
 ghost use Rattle.fab_core.specs.Parts.{held_of, state_of};
 ghost use Rattle.fab_ends.specs.Ends.{answer_writes, counters_after, cq_after};
-ghost use Rattle.fab_core.specs.Doing.{arrived, asks, fed, heading, lacks_at_tail, tail, writes_at_tail};
+ghost use Rattle.fab_orders.specs.Orders.{asks};
+ghost use Rattle.fab_core.specs.Doing.{arrived, fed, heading, lacks_at_tail, tail, writes_at_tail};
 ghost use Rattle.fab_core.specs.Requests.{IsAwaited};
 
 use crate::callers::IntoReceive;
 use crate::parts::Core;
-use fab_base::{FrameHead, Item, ItemHead, Kind, NoMemory};
+use fab_base::{FrameHead, Item, ItemHead, NoMemory};
 use fab_cq::{Counters, Queue};
 use fab_ends::ending::{answer, answer_writes};
 use fab_ends::handing::{at_delivery, at_either, book, hand_last, hand_over};
 use fab_ends::serving::{is_request, serve, writes_data};
 use fab_match::Matcher;
+use fab_orders::items::{asks, is_reply};
 use fab_rx::{Finished, Inbox};
 use fab_tx::Outbox;
 use std::alloc::Global;
 use std::snapshot::Snapshot;
-
-fn is_reply(kind: Kind) -> bool
-    ensures { result ≡ is_reply kind }
-{
-    match kind {
-        Kind::Reply => true,
-        _ => false,
-    }
-}
-
-/// Whether the frame is the last one of its item. Its bytes are within the item.
-pub(crate) fn is_last(head: &FrameHead) -> bool
-    requires { head.now.from + head.now.len ≤ head.now.item.total }
-    ensures { result ≡ is_last head.now }
-{
-    head.from + head.len == head.item.total
-}
-
-/// Whether the item asks for a reply: a request does, and a message may.
-fn asks(head: &ItemHead) -> bool
-    ensures { result ≡ asks head.now }
-{
-    match head.kind {
-        Kind::Msg | Kind::TagMsg => at_either(head.ack),
-        Kind::WriteReq | Kind::ReadReq | Kind::AtomicReq => true,
-        Kind::Reply => false,
-    }
-}
 
 impl<M: Matcher> Core<M> {
     /// Whether the item of this source writes a completion when it is whole, where its next frame has this
