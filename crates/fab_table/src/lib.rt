@@ -27,6 +27,7 @@ mod laws;
 mod making;
 mod rule;
 mod steps;
+mod words;
 
 pub use fabric::{Fabric, PeerSeat};
 pub use kinds::{Command, In, Layout, Out, Part, Sent, Slot, View};
