@@ -19,7 +19,7 @@ use Rattle.fab_table.specs.declared.kinds.In.{In}
 use Rattle.fab_table.specs.declared.kinds.Part.{Part}
 use Rattle.fab_table.specs.declared.kinds.View.{View}
 use Rattle.fab_wire.specs.Owing.{IsOwed}
-use Rattle.fab_table.specs.Views.{frames_of, pool_word, new_out, new_in, new_part, parts_from, everyone, nobody, only_first, but_first, both, part_at, in_at, lane_of, put_word, got_word}
+use Rattle.fab_table.specs.Views.{frames_of, pool_word, new_out, new_in, new_part, parts_from, everyone, nobody, only_first, but_first, both, part_at, in_at, lane_of, put_word, got_word, word_count}
 use Rattle.fab_table.specs.Plays.{Sat, learned}
 use Rattle.fab_table.specs.Rule.{free, IsCell, IsBuf, Lane, OutOk, InOk, number, Kept, PartOk, Ruled}
 use Rattle.fab_table.proofs.Rows.{at_end, pick, pair_below}
@@ -196,7 +196,7 @@ module _ (n room pool i : ℕ) where
     kept = new_kept;
   }
 
-pub starts : (k : Layout) (ws : List ℕ) (xs : List Slot) → 0 < k.room → length ws ≡ k.peers * k.peers * 32 + k.peers * k.pool * 16 → ((i : ℕ) → get_or ws i 0 ≡ 0) → length xs ≡ k.peers * k.peers * k.room + k.peers * k.pool → (d : Slot) → ((q : ℕ) → q < k.peers * k.peers * k.room → IsCell (get_or xs q d)) → ((q : ℕ) → k.peers * k.peers * k.room ≤ q → q < k.peers * k.peers * k.room + k.peers * k.pool → IsBuf (get_or xs q d))
+pub starts : (k : Layout) (ws : List ℕ) (xs : List Slot) → 0 < k.room → length ws ≡ word_count k.peers k.pool → ((i : ℕ) → get_or ws i 0 ≡ 0) → length xs ≡ k.peers * k.peers * k.room + k.peers * k.pool → (d : Slot) → ((q : ℕ) → q < k.peers * k.peers * k.room → IsCell (get_or xs q d)) → ((q : ℕ) → k.peers * k.peers * k.room ≤ q → q < k.peers * k.peers * k.room + k.peers * k.pool → IsBuf (get_or xs q d))
     → Ruled k (opening ws xs (everyone k.peers k.room k.pool))
 starts k ws xs pos wide zeros long d₀ cells bufs = let n : ℕ = k.peers in let room : ℕ = k.room in let pool : ℕ = k.pool in record {
   lane = λ _. empty_lane;

@@ -5,6 +5,7 @@ ghost use Rattle.std.specs.Prelude.{◌≡◌, ◌≢◌, ℕ, ◌+◌, ◌*◌,
 ghost use Rattle.fab_base.specs.declared.limits.TheConstants.{FRAME_BYTES};
 ghost use Rattle.atomic_table.specs.Table.{rest};
 ghost use Rattle.fab_wire.specs.Frames.{last_head, MayCome};
+ghost use Rattle.fab_table.specs.declared.kinds.TheConstants.{INLINE_BYTES};
 ghost use Rattle.fab_table.specs.declared.kinds.Command.{Command};
 ghost use Rattle.fab_table.specs.declared.kinds.Sent.{Sent};
 ghost use Rattle.fab_table.specs.declared.kinds.Slot.{Slot};
@@ -79,7 +80,7 @@ impl Fabric {
         requires writing { ((out_of seat.old at dest).writing ≡ true) × ((out_of seat.old at dest).claim ≡ None) }
         requires count { (put ≡ length (out_of seat.old at dest).posted) × (put < 2 ^ 62) }
         requires cell { (c : Command) × (carried seat.old ≡ (next_cell (view_of_seat seat.old) at dest, Cell c) ∷ rest (carried seat.old))
-            × (c.slot ≡ None) × (c.head.len ≤ 64)
+            × (c.slot ≡ None) × (c.head.len ≤ INLINE_BYTES)
             × (c.number ≡ greatest 0 (part_of seat.old at).moves + 1)
             × MayCome (last_head None (frames_of (out_of seat.old at dest).posted)) (said_inline c).frame
             × Repays (out_of seat.old at dest) (in_of seat.old at dest) c.head }
@@ -182,6 +183,7 @@ impl Fabric {
         // No peer began more replies to another than it took items of it that owe one (`law_lane_rule`).
         ensures repaid { (a d op : ℕ) → a < length (view_of_seat seat.new).parts → Owes (out_of seat.new a d) (in_of seat.new a d) op 0 }
     {
+        // Any word serves: what this look tells does not hang on which it is of.
         self.table.shared.load::<Learns>(&mut seat.seat, 0);
     }
 }
