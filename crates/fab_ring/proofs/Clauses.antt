@@ -15,6 +15,7 @@ use Rattle.fab_link.specs.declared.port.PostRefused.{PostRefused}
 use Rattle.fab_link.specs.declared.port.PostRefused.TheVariants.{LaneFull, PoolFull, NoMemory}
 use Rattle.fab_link.specs.Meaning.{Outgoing, Incoming, Noticed, GrewBy, Gives, Fronted, advanced}
 use Rattle.fab_link.specs.Plain.{lent_frames}
+use Rattle.fab_table.specs.declared.kinds.TheConstants.{INLINE_BYTES}
 use Rattle.fab_table.specs.declared.kinds.Sent.{Sent}
 use Rattle.fab_table.specs.declared.kinds.Out.{Out}
 use Rattle.fab_table.specs.declared.kinds.In.{In}
@@ -41,7 +42,7 @@ module _ (p p' : Part) (d room pool : ℕ) (head : FrameHead) (bytes : List ℕ)
   DidFill = (r : ℕ) × ((length (out_at p d).posted ≡ r + room) ⊎ (most ≤ greatest 0 p.moves)) × (p' ≡ with_out p d (saw_full (out_at p d) r) p.moves)
 
   abbrev pub DidTry : Type 0
-  DidTry = (r : ℕ) × (ts : List ℕ) × (f : ℕ) × (length (out_at p d).posted < r + room) × (greatest 0 p.moves < most) × (64 < length bytes) × IsTried (out_at p d) pool ts f
+  DidTry = (r : ℕ) × (ts : List ℕ) × (f : ℕ) × (length (out_at p d).posted < r + room) × (greatest 0 p.moves < most) × (INLINE_BYTES < length bytes) × IsTried (out_at p d) pool ts f
       × (p' ≡ with_out p d (tried_out (saw_room (out_at p d) r) ts f false None) p.moves)
 
 -- what its clauses say
@@ -58,9 +59,9 @@ pub record Posting (p p' : Part) (d room pool : ℕ) (head : FrameHead) (bytes :
   pub into : ◌≡◌ {A = ℕ → Incoming} (λ s. incoming (in_at p' s)) (λ s. incoming (in_at p s))
   pub full : IsErrOf result LaneFull → (length (frames_of (out_at p d).posted) ≡ (out_at p' d).got_seen + room) ⊎ (most ≤ greatest 0 p.moves)
   pub room_is : result ≢ Err LaneFull → (length (frames_of (out_at p d).posted) < (out_at p' d).got_seen + room) × (greatest 0 p.moves < most)
-  pub each_slot : IsErrOf result PoolFull → (64 < length bytes) × ((out_at p' d).tried ≡ one_more (out_at p d).tried)
+  pub each_slot : IsErrOf result PoolFull → (INLINE_BYTES < length bytes) × ((out_at p' d).tried ≡ one_more (out_at p d).tried)
   pub some_slot : result ≢ Err PoolFull → (j : ℕ) × (j < pool) × (slice_index (out_at p' d).tried j ≡ slice_index (out_at p d).tried j)
-  pub no_slot : length bytes ≤ 64 → ((out_at p' d).tried ≡ (out_at p d).tried) × OnOk result (slots_of (out_at p' d).posted ≡ slots_of (out_at p d).posted ++ None ∷ [])
+  pub no_slot : length bytes ≤ INLINE_BYTES → ((out_at p' d).tried ≡ (out_at p d).tried) × OnOk result (slots_of (out_at p' d).posted ≡ slots_of (out_at p d).posted ++ None ∷ [])
   pub one_look : IsErrOf result LaneFull → (out_at p' d).full_seen ≡ (out_at p d).full_seen + 1
   pub no_look : result ≢ Err LaneFull → (out_at p' d).full_seen ≡ (out_at p d).full_seen
   pub one_round : IsErrOf result PoolFull → least (out_at p' d).tried ≡ least (out_at p d).tried + 1
@@ -109,9 +110,9 @@ sent_some o pool size slot ts f pos (inl t) = (0, pos, ap (λ (z : List ℕ). sl
 sent_some o pool size slot ts f pos (inr t) = (t.0, t.1, t.2.0)
 
 -- a short frame has no slot, and none was tried
-sent_short : (o : Out) (pool size : ℕ) (slot : Option ℕ) (ts : List ℕ) (f : ℕ) → IsSent o pool size slot ts f → size ≤ 64 → (slot ≡ None) × (ts ≡ o.tried)
+sent_short : (o : Out) (pool size : ℕ) (slot : Option ℕ) (ts : List ℕ) (f : ℕ) → IsSent o pool size slot ts f → size ≤ INLINE_BYTES → (slot ≡ None) × (ts ≡ o.tried)
 sent_short o pool size slot ts f (inl t) short = (t.0, t.1)
-sent_short o pool size slot ts f (inr t) short = absurd (let long : 64 < size = t.3 in omega (arith, long, short))
+sent_short o pool size slot ts f (inr t) short = absurd (let long : 64 < size = t.3 in let small : size ≤ 64 = short in omega (arith, long, small))
 
 sent_once : (o : Out) (pool size : ℕ) (slot : Option ℕ) (ts : List ℕ) (f : ℕ) → IsSent o pool size slot ts f → (k : ℕ) → slice_index ts k ≤ slice_index o.tried k + 1
 sent_once o pool size slot ts f (inl t) k = subst (λ (z : List ℕ). slice_index z k ≤ slice_index o.tried k + 1) (sym t.1) (one_up (slice_index o.tried k))
@@ -200,7 +201,7 @@ module _ (p p' : Part) (d room pool : ℕ) (head : FrameHead) (bytes : List ℕ)
         room_is = λ _. (subst (λ (z : ℕ × ℕ). z.0 < z.1 + room) (λ i. (frames_length o.posted i, sym (ap (λ (z : Out). z.got_seen) here) i)) s.3, s.4);
         each_slot = λ _. (s.5, ap (λ (z : Out). z.tried) here ∙ all ∙ raised_all o.tried);
         some_slot = λ ne. absurd (ne refl);
-        no_slot = λ short. absurd (let long : 64 < length bytes = s.5 in omega (arith, long, short));
+        no_slot = λ short. absurd (let long : 64 < length bytes = s.5 in let small : length bytes ≤ 64 = short in omega (arith, long, small));
         one_look = λ e. absurd (cc);
         no_look = λ _. ap (λ (z : Out). z.full_seen) here;
         one_round = λ _. ap (λ (z : Out). least z.tried) here ∙ up;

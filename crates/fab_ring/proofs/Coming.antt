@@ -4,6 +4,7 @@ use mathlib.Core.Logic.{dite}
 use mathlib.Core.List.{IsPrefix}
 use native.Mathlib.Decide.{ℕ_discrete}
 use Rattle.std.specs.Prelude.{Option, Some, None, slice_get, slice_index_or}
+use Rattle.std.proofs.Math.ListN.{get_or-append}
 use Rattle.std.proofs.lemmas.Option.{none-some, same_Some}
 use Rattle.fab_base.specs.declared.frames.FrameHead.{FrameHead}
 use Rattle.fab_base.specs.declared.frames.Frame.{Frame}
@@ -18,15 +19,11 @@ use Rattle.fab_table.specs.Views.{frames_of, new_out, in_at}
 use Rattle.fab_table.specs.Seats.{part_of, in_of, out_of}
 use Rattle.fab_ring.specs.declared.rooms.Inside.{Inside}
 use Rattle.fab_ring.specs.Gather.{Grew, AreSpare, Awaits, Leads, AwaitsEach, Emptied, Brought}
+use Rattle.fab_ring.proofs.Releasing.{get_last}
 use Rattle.fab_ring.proofs.Joined.{last_head-append, IsLane-append, frames_append}
 
-front_at : {A : Type 0} (xs : List A) (y d : A) (k : ℕ) → k < length xs → get_or (xs ++ y ∷ []) k d ≡ get_or xs k d
-front_at [] y d k h = absurd (let no : k < 0 = h in omega arith)
-front_at (x ∷ xs) y d zero h = refl
-front_at (x ∷ xs) y d (suc k) h = front_at xs y d k (omega arith)
-
 pub spare_front : (xs ys : List (List ℕ)) (y : List ℕ) → ys ≡ xs ++ y ∷ [] → AreSpare ys → AreSpare xs
-spare_front xs ys y is all k low = ap length (sym (front_at xs y [] k low) ∙ ap (λ (l : List (List ℕ)). get_or l k []) (sym is)) ∙ all k (let e = ap length is in let l = length-append xs (y ∷ []) in omega arith)
+spare_front xs ys y is all k low = ap length (sym (get_or-append xs (y ∷ []) [] k low) ∙ ap (λ (l : List (List ℕ)). get_or l k []) (sym is)) ∙ all k (let e = ap length is in let l = length-append xs (y ∷ []) in omega arith)
 
 -- the same lists of what was posted have the same lengths
 pub posted_same : (s t : PeerSeat) (e r : ℕ) → (part_of t e).outs ≡ (part_of s e).outs → length (out_of t e r).posted ≡ length (out_of s e r).posted
@@ -63,23 +60,7 @@ lane_else p e d lane ne = get_or-set_other p.lanes e d lane (fresh_lane None Non
 
 -- prefixes that lose their last member
 pub prefix_less : {X : Type 0} (xs ys zs : List X) (x : X) → ys ≡ xs ++ x ∷ [] → IsPrefix ys zs → (slice_get zs (length xs) ≡ Some x) × IsPrefix xs zs × (length ys ≡ length xs + 1)
-prefix_less {X = X} xs ys zs x is p = (subst (λ (l : List X). slice_get l (length xs) ≡ Some x) (ap (λ (l : List X). l ++ p.0) (sym is) ∙ p.1) (here xs p.0 x), (x ∷ p.0, sym (append_assoc xs (x ∷ []) p.0) ∙ ap (λ (l : List X). l ++ p.0) (sym is) ∙ p.1), ap length is ∙ length-append xs (x ∷ []))
-  where
-    here : {X : Type 0} (xs zs : List X) (x : X) → slice_get ((xs ++ x ∷ []) ++ zs) (length xs) ≡ Some x
-    here [] zs x = refl
-    here (y ∷ xs) zs x = here xs zs x
-
-pub get_set : {X : Type 0} (xs : List X) (i j : ℕ) (x : X) → j ≢ i → slice_get (set xs i x) j ≡ slice_get xs j
-get_set [] i j x ne = refl
-get_set (y ∷ ys) zero zero x ne = absurd (ne refl)
-get_set (y ∷ ys) zero (suc j) x ne = refl
-get_set (y ∷ ys) (suc i) zero x ne = refl
-get_set (y ∷ ys) (suc i) (suc j) x ne = get_set ys i j x (λ e. ne (ap suc e))
-
-pub get_set_here : {X : Type 0} (xs : List X) (i : ℕ) (x y : X) → slice_get (set xs i x) i ≡ Some y → x ≡ y
-get_set_here [] i x y e = absurd (none-some y e)
-get_set_here (z ∷ zs) zero x y e = same_Some x y e
-get_set_here (z ∷ zs) (suc i) x y e = get_set_here zs i x y e
+prefix_less {X = X} xs ys zs x is p = (get_last xs p.0 zs x (ap (λ (l : List X). l ++ p.0) (sym is) ∙ p.1), (x ∷ p.0, sym (append_assoc xs (x ∷ []) p.0) ∙ ap (λ (l : List X). l ++ p.0) (sym is) ∙ p.1), ap length is ∙ length-append xs (x ∷ []))
 
 -- room for what is inside a lane stays so, as long as the lane does
 pub awaits_later : (s t : PeerSeat) (r e : ℕ) (i : Inside) → Awaits s r e i → (in_of t r e).taken ≡ (in_of s r e).taken → (part_of t e).outs ≡ (part_of s e).outs → Awaits t r e i

@@ -4,6 +4,7 @@ use mathlib.Core.Logic.{dite}
 use mathlib.Core.List.{map-append}
 use native.Mathlib.Decide.{ℕ_discrete, dec_lt}
 use lib.ListN.{length-replicate}
+use Rattle.std.proofs.lemmas.List.{get_or-replicate}
 use Rattle.std.specs.Prelude.{Option, Some, None}
 use Rattle.std.proofs.lemmas.Option.{none-some}
 use Rattle.std.specs.Option.{is_some}
@@ -22,7 +23,7 @@ use Rattle.fab_table.specs.Rule.{cell_of, greatest}
 use Rattle.fab_table.specs.Plays.{oldest_of}
 use Rattle.fab_table.proofs.Rows.{each_set}
 use Rattle.fab_table.proofs.Orders.{greatest_more}
-use Rattle.fab_table.proofs.Seating.{same_all, same_within}
+use Rattle.fab_table.proofs.Seating.{same_all}
 use Rattle.fab_ring.specs.Hands.{shape, shapes, span, ring, slot_of, lent_of, held_of, held, slot_named, numbered, HasSlot, Fits}
 
 module _ {X : Type 0} where
@@ -34,7 +35,7 @@ module _ {X : Type 0} where
   span_more h a zero = append-nil (h a) ∙ ap h (let e : a ≡ a + 0 = omega arith in e)
   span_more h a (suc c) = (λ i. h a ++ span_more h (suc a) c i) ∙ sym (append_assoc (h a) (span h (suc a) c) (h (suc a + c))) ∙ (λ i. (h a ++ span h (suc a) c) ++ h (let e : suc a + c ≡ a + suc c = omega arith in e i))
 
-  span_none : (h : ℕ → List X) (a c : ℕ) → ((x : ℕ) → a ≤ x → x < a + c → h x ≡ []) → span h a c ≡ []
+  pub span_none : (h : ℕ → List X) (a c : ℕ) → ((x : ℕ) → a ≤ x → x < a + c → h x ≡ []) → span h a c ≡ []
   span_none h a zero e = refl
   span_none h a (suc c) e = λ i. e a (le_refl a) (omega arith) i ++ span_none h (suc a) c (λ x g l. e x (omega arith) (omega arith)) i
 
@@ -327,7 +328,7 @@ flag_at l i o near is = get_any l i false o near ∙ sym is
 pub fits_new : (me peers room pool : ℕ) (puts gots : List ℕ) (opened lent : List Bool) → me < peers → puts ≡ replicate peers 0 → gots ≡ replicate peers 0 → opened ≡ replicate peers false → lent ≡ replicate peers false
     → Fits me peers room pool 0 0 puts gots opened lent (new_part peers room pool me) []
 fits_new me peers room pool puts gots opened lent below is_p is_g is_o is_l = let p : Part = new_part peers room pool me in
-    let out : (d : ℕ) → d < peers → out_at p d ≡ new_out pool = λ d near. same_within peers d (new_out pool) (new_out 0) near in let got : (s : ℕ) → in_at p s ≡ new_in = λ s. same_all peers s new_in in record {
+    let out : (d : ℕ) → d < peers → out_at p d ≡ new_out pool = λ d near. get_or-replicate peers d (new_out pool) (new_out 0) near in let got : (s : ℕ) → in_at p s ≡ new_in = λ s. same_all peers s new_in in record {
       me_is = refl;
       peers_is = refl;
       room_is = refl;

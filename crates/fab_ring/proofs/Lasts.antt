@@ -1,6 +1,7 @@
 -- What stays of the heads that a port keeps of the last frames posted and taken.
 use Rattle.std.proofs.Common.{◌≡◌, ℕ, ◌<◌, List, [], ◌∷◌, ◌++◌, length, set, replicate, sym, refl, ap, ◌∙◌, subst, length-set, get_or-set_same, get_or-set_other}
 use lib.ListN.{length-replicate}
+use Rattle.std.proofs.lemmas.List.{get_or-replicate}
 use mathlib.Core.List.{map-append}
 use mathlib.Core.Logic.{dite}
 use native.Mathlib.Decide.{ℕ_discrete}
@@ -14,7 +15,7 @@ use Rattle.fab_table.specs.declared.kinds.Out.{Out}
 use Rattle.fab_table.specs.declared.kinds.In.{In}
 use Rattle.fab_table.specs.declared.kinds.Part.{Part}
 use Rattle.fab_table.specs.Views.{frame_of, frames_of, new_part, new_out, new_in, out_at, in_at, with_out, with_in}
-use Rattle.fab_table.proofs.Seating.{same_all, same_within}
+use Rattle.fab_table.proofs.Seating.{same_all}
 use Rattle.fab_ring.specs.Hands.{Ends}
 
 -- the head of the last frame of a list that ends with this one
@@ -66,6 +67,6 @@ pub ends_new : (n room pool me : ℕ) (hs ts : List (Option FrameHead)) → hs �
 ends_new n room pool me hs ts a b = record {
   all_posted = ap length a ∙ length-replicate n None;
   all_taken = ap length b ∙ length-replicate n None;
-  each_posted = λ d low. ap (λ (z : List (Option FrameHead)). slice_index_or z d None) a ∙ same_all n d None ∙ ap (λ (z : Out). last_head None (frames_of z.posted)) (sym (same_within n d (new_out pool) (new_out 0) low));
+  each_posted = λ d low. ap (λ (z : List (Option FrameHead)). slice_index_or z d None) a ∙ same_all n d None ∙ ap (λ (z : Out). last_head None (frames_of z.posted)) (sym (get_or-replicate n d (new_out pool) (new_out 0) low));
   each_taken = λ s low. ap (λ (z : List (Option FrameHead)). slice_index_or z s None) b ∙ same_all n s None ∙ ap (λ (z : In). last_head None (frames_of z.taken)) (sym (same_all n s new_in));
 }

@@ -18,15 +18,12 @@ use Rattle.fab_table.specs.declared.kinds.Part.{Part}
 use Rattle.fab_table.specs.declared.kinds.View.{View}
 use Rattle.fab_table.specs.Views.{new_in, new_part, part_at, in_at, with_in, taken_one, both}
 use Rattle.fab_table.specs.Seats.{IsOf, carried, view_of_seat}
+use Rattle.fab_table.proofs.Orders.{posts_append}
+use Rattle.fab_ring.proofs.Hold.{span_none}
 use Rattle.fab_ring.specs.declared.port.RingPort.{RingPort}
 use Rattle.fab_ring.specs.Hands.{shapes, span, held, held_of, Fits}
 use Rattle.fab_ring.specs.Ports.{part_of}
 use Rattle.fab_ring.specs.Gather.{AreAll, Released, IsPartOf, IsWhole}
-
-posts_take : (d s k : ℕ) (ms : List Move) → posts_to d (ms ++ Take s k ∷ []) ≡ posts_to d ms
-posts_take d s k [] = refl
-posts_take d s k (Post e j ∷ ms) = ap (λ (z : List ℕ). if e == d then j ∷ z else z) (posts_take d s k ms)
-posts_take d s k (Take e j ∷ ms) = posts_take d s k ms
 
 -- the frames that lay open of the first n peers were stepped over
 pub record Releasing (n : ℕ) (p q : Part) : Type 0 where
@@ -74,7 +71,7 @@ releasing_some n p q q' x r near open_now same = let u : In = taken_one (in_at q
           (λ ne. let there = get_or-set_other q.ins n s u new_in ne in let d = r.done s (omega arith) in (ap (λ (z : In). z.opened) there ∙ d.0, ap (λ (z : In). z.taken) there ∙ d.1));
       left = λ s far. get_or-set_other q.ins n s u new_in (λ is. omega arith) ∙ r.left s (omega arith);
       moves = (r.moves.0 ++ Take n x.number ∷ [], sym (append_assoc p.moves r.moves.0 (Take n x.number ∷ [])) ∙ ap (λ (z : List Move). z ++ Take n x.number ∷ []) r.moves.1);
-      posts = λ d. posts_take d n x.number q.moves ∙ r.posts d;
+      posts = λ d. posts_append d q.moves (Take n x.number ∷ []) ∙ append-nil (posts_to d q.moves) ∙ r.posts d;
     })
 
 past_end : (l : List In) (i : ℕ) → length l ≤ i → get_or l i new_in ≡ new_in
@@ -104,13 +101,9 @@ no_shape : (hand : List (ℕ × Slot)) → shapes hand ≡ [] → hand ≡ []
 no_shape [] e = refl
 no_shape (z ∷ zs) e = absurd (let n : suc (length (shapes zs)) ≡ 0 = ap length e in omega arith)
 
-span_closed : {X : Type 0} (h : ℕ → List X) (a c : ℕ) → ((x : ℕ) → h x ≡ []) → span h a c ≡ []
-span_closed h a zero e = refl
-span_closed h a (suc c) e = λ i. e a i ++ span_closed h (suc a) c e i
-
 pub hand_empty : (me peers room pool clock turn : ℕ) (puts gots : List ℕ) (os ls : List Bool) (p : Part) (hand : List (ℕ × Slot)) → Fits me peers room pool clock turn puts gots os ls p (shapes hand) → ((s : ℕ) → (in_at p s).opened ≡ None) → hand ≡ []
 hand_empty me peers room pool clock turn puts gots os ls p hand fit closed = let none : (s : ℕ) → held p s ≡ [] = λ s. ap (λ (o : Option Sent). held_of o (in_at p s).lent (Rattle.fab_table.specs.Plays.oldest_of p s) (p.peers * p.peers * p.room)) (closed s) in
-    no_shape hand (fit.hand_is ∙ (λ i. span_closed (held p) turn (peers - turn) none i ++ span_closed (held p) 0 turn none i))
+    no_shape hand (fit.hand_is ∙ (λ i. span_none (held p) turn (peers - turn) (λ x _ _. none x) i ++ span_none (held p) 0 turn (λ x _ _. none x) i))
 
 -- the seat speaks for the ports from the n-th on
 pub record Joining (ports : List RingPort) (n : ℕ) (v : View) : Type 0 where
@@ -154,7 +147,7 @@ part_stands f k p q is me r = let t = p.fits in record {
   closed = r.closed;
 }
 
-get_some : {X : Type 0} (xs : List X) (k : ℕ) → k < length xs → (x : X) × (slice_get xs k ≡ Some x)
+pub get_some : {X : Type 0} (xs : List X) (k : ℕ) → k < length xs → (x : X) × (slice_get xs k ≡ Some x)
 get_some [] k h = absurd (let no : k < 0 = h in omega arith)
 get_some (x ∷ xs) zero h = (x, refl)
 get_some (x ∷ xs) (suc k) h = get_some xs k (omega arith)

@@ -1,13 +1,14 @@
 -- What stays of the counts of frames that were seen given back.
 use Rattle.std.proofs.Common.{◌≡◌, ℕ, ◌<◌, ◌≤◌, List, length, get_or, set, replicate, sym, ap, ◌∙◌, subst, le_refl, length-set, get_or-set_same, get_or-set_other}
 use lib.ListN.{length-replicate}
+use Rattle.std.proofs.lemmas.List.{get_or-replicate}
 use Rattle.fab_wire.specs.declared.moves.Move.{Move}
 use Rattle.fab_table.specs.declared.kinds.Out.{Out}
 use Rattle.fab_table.specs.declared.kinds.In.{In}
 use Rattle.fab_table.specs.declared.kinds.Part.{Part}
 use Rattle.fab_table.specs.Views.{new_part, new_out, out_at, with_out, with_in}
 use Rattle.fab_table.proofs.Rows.{each_set}
-use Rattle.fab_table.proofs.Seating.{same_all, same_within}
+use Rattle.fab_table.proofs.Seating.{same_all}
 use Rattle.fab_ring.specs.Hands.{Sees}
 use Rattle.fab_ring.proofs.Hold.{get_any}
 
@@ -31,6 +32,6 @@ module _ (peers : ℕ) (seen : List ℕ) (p : Part) (k : Sees peers seen p) wher
 pub sees_new : (n room pool me : ℕ) (seen : List ℕ) → seen ≡ replicate n 0 → Sees n seen (new_part n room pool me)
 sees_new n room pool me seen is = record {
   all_seen = ap length is ∙ length-replicate n 0;
-  each_seen = λ d low. let here = sym (same_within n d (new_out pool) (new_out 0) low) in
+  each_seen = λ d low. let here = sym (get_or-replicate n d (new_out pool) (new_out 0) low) in
       (ap (λ (z : List ℕ). get_or z d 0) is ∙ same_all n d 0 ∙ ap (λ (z : Out). z.got_seen) here, subst (λ (z : Out). z.got_seen ≤ length z.posted) here (le_refl 0));
 }

@@ -5,6 +5,7 @@ use mathlib.Core.List.{IsPrefix, map-append}
 use native.Mathlib.Decide.{dec_lt}
 use lib.ListN.{length-map}
 use Rattle.std.specs.Prelude.{Option, Some, None, slice_get, slice_index_or, option_to_list, if◌then◌else◌, ◌==◌}
+use Rattle.std.proofs.lemmas.List.{nil_from_length}
 use Rattle.std.proofs.lemmas.List.Elements.{All-from_get_or}
 use Rattle.std.proofs.lemmas.Option.{none-some, same_Some, slice_get_within}
 use Rattle.fab_base.specs.declared.frames.FrameHead.{FrameHead}
@@ -32,13 +33,10 @@ use Rattle.fab_ring.specs.declared.port.RingPort.{RingPort}
 use Rattle.fab_ring.specs.declared.rooms.Inside.{Inside}
 use Rattle.fab_ring.specs.Ports.{frame_in, incoming, part_of, moves_of}
 use Rattle.fab_ring.specs.Gather.{AreAll, AreOwed, GoesOn, Gathered, Released, IsPartOf, IsJoined, IsRoom, AreAllRooms, Succeeds, AreSuccessors, IsWhole, Awaits, Leads, AwaitsAll, Emptied, Brought, ReceivedAll}
+use Rattle.fab_table.proofs.Orders.{takes_append}
 use Rattle.fab_ring.proofs.Facts.{comes_now}
+use Rattle.fab_ring.proofs.Releasing.{get_some}
 use Rattle.fab_ring.proofs.Joined.{last_head-append, frames_append}
-
-get_some : {X : Type 0} (xs : List X) (k : ℕ) → k < length xs → (x : X) × (slice_get xs k ≡ Some x)
-get_some [] k h = absurd (let no : k < 0 = h in omega arith)
-get_some (x ∷ xs) zero h = (x, refl)
-get_some (x ∷ xs) (suc k) h = get_some xs k (omega arith)
 
 -- between each two parts of the seat what was taken comes first in what was posted
 abbrev pub Fed : Fabric → PeerSeat → Type 0
@@ -51,12 +49,8 @@ fed f t u j l a b low_a low_b = subst (λ (z : ℕ × ℕ). IsPrefix (seats.in_o
 prefix_short : {X : Type 0} (xs ys : List X) → IsPrefix xs ys → length xs ≤ length ys
 prefix_short xs ys p = let e = ap length p.1 in let l = length-append xs p.0 in omega arith
 
-nothing_more : {X : Type 0} (zs : List X) → length zs ≡ 0 → zs ≡ []
-nothing_more [] e = refl
-nothing_more (z ∷ zs) e = absurd (omega arith)
-
 prefix_same : {X : Type 0} (xs ys : List X) → IsPrefix xs ys → length xs ≡ length ys → xs ≡ ys
-prefix_same {X = X} xs ys p same = let e = ap length p.1 in let l = length-append xs p.0 in let none : p.0 ≡ [] = nothing_more p.0 (omega arith) in sym (append-nil xs) ∙ ap (λ (z : List X). xs ++ z) (sym none) ∙ p.1
+prefix_same {X = X} xs ys p same = let e = ap length p.1 in let l = length-append xs p.0 in let none : p.0 ≡ [] = nil_from_length p.0 (omega arith) in sym (append-nil xs) ∙ ap (λ (z : List X). xs ++ z) (sym none) ∙ p.1
 
 -- the frame that lies open, alone in a list
 open_frames : (o : Option Sent) → option_to_list (frame_in o) ≡ frames_of (option_to_list o)
@@ -157,15 +151,6 @@ stamped_front g [] ys s = tt
 stamped_front g (Post d k ∷ xs) ys s = (s.0, stamped_front k xs ys s.1)
 stamped_front g (Take e k ∷ xs) ys s = stamped_front (max g k) xs ys s
 
-takes_front : (s : ℕ) (xs ys : List Move) → takes_of s (xs ++ ys) ≡ takes_of s xs ++ takes_of s ys
-takes_front s [] ys = refl
-takes_front s (Post d k ∷ xs) ys = takes_front s xs ys
-takes_front s (Take e k ∷ xs) ys = takes_by (e == s) k (takes_of s xs) (takes_of s (xs ++ ys)) (takes_of s ys) (takes_front s xs ys)
-  where
-    takes_by : (b : Bool) (k : ℕ) (xs bs cs : List ℕ) → bs ≡ xs ++ cs → (if b then k ∷ bs else bs) ≡ (if b then k ∷ xs else xs) ++ cs
-    takes_by true k xs bs cs e = ap (λ (z : List ℕ). k ∷ z) e
-    takes_by false k xs bs cs e = e
-
 prefix_map : {A B : Type 0} (g : A → B) (xs ys : List A) → IsPrefix xs ys → IsPrefix (map g xs) (map g ys)
 prefix_map g xs ys p = (map g p.0, sym (map-append g xs p.0) ∙ ap (map g) p.1)
 
@@ -192,7 +177,7 @@ advanced_taken u (Some x) = sym (map-append frame_of u.taken (x ∷ []))
 
 module _ (f : Fabric) (ports : List RingPort) (t : PeerSeat) (all : AreAll f ports) (whole : IsWhole f ports t) (feeds : Fed f t) (kept : (k : ℕ) → k < f.peers → Kept (seats.part_of t k)) where
   takes_before : (d s : ℕ) (p : RingPort) → slice_get ports d ≡ Some p → IsPrefix (takes_of s (moves_of p)) (takes_of s (seats.part_of t d).moves)
-  takes_before d s p here = let m = (whole.parts d p here).moves in (takes_of s m.0, sym (takes_front s (moves_of p) m.0) ∙ ap (takes_of s) m.1)
+  takes_before d s p here = let m = (whole.parts d p here).moves in (takes_of s m.0, sym (takes_append s (moves_of p) m.0) ∙ ap (takes_of s) m.1)
 
   feed_both : (s d : ℕ) (a b : RingPort) → slice_get ports s ≡ Some a → slice_get ports d ≡ Some b → IsPrefix (takes_of s (moves_of b)) (posts_to d (moves_of a))
   feed_both s d a b at_s at_d = let ls = slice_get_within ports s a at_s in let ld = slice_get_within ports d b at_d in let n = all.count in let low_s : s < f.peers = omega arith in let low_d : d < f.peers = omega arith in let ks = kept s low_s in let kd = kept d low_d in
@@ -204,7 +189,7 @@ module _ (f : Fabric) (ports : List RingPort) (t : PeerSeat) (all : AreAll f por
 
   no_takes : (s d : ℕ) (b : RingPort) → slice_get ports d ≡ Some b → length ports ≤ s → takes_of s (moves_of b) ≡ []
   no_takes s d b at_d far = let ld = slice_get_within ports d b at_d in let n = all.count in let low_d : d < f.peers = omega arith in let jd = whole.joined.each d low_d in let e = jd.all_ins in let p = takes_before d s b at_d in
-      let none = (kept d low_d).no_takes s (omega arith) in let short = ap length (p.1 ∙ none) in let long = length-append (takes_of s (moves_of b)) p.0 in nothing_more (takes_of s (moves_of b)) (omega arith)
+      let none = (kept d low_d).no_takes s (omega arith) in let short = ap length (p.1 ∙ none) in let long = length-append (takes_of s (moves_of b)) p.0 in nil_from_length (takes_of s (moves_of b)) (omega arith)
 
   -- what the rule says of the seat, it says of the ports
   pub all_owed : AreOwed ports

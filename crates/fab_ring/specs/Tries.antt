@@ -9,6 +9,7 @@
 use Rattle.std.specs.Prelude.{◌≡◌, ℕ, zero, suc, ◌+◌, ◌<◌, ◌≤◌, ◌⊎◌, Bool, List, [], ◌∷◌, length, slice_index, Option, None}
 use Rattle.fab_base.specs.declared.frames.FrameHead.{FrameHead}
 use Rattle.fab_wire.specs.Frames.{frame}
+use Rattle.fab_table.specs.declared.kinds.TheConstants.{INLINE_BYTES}
 use Rattle.fab_table.specs.declared.kinds.Sent.{Sent}
 use Rattle.fab_table.specs.declared.kinds.Out.{Out}
 use Rattle.fab_table.specs.Views.{least}
@@ -49,4 +50,4 @@ sent_as head bytes n slot = record { frame = frame head bytes; number = n; slot 
 
 -- a frame of so many bytes got this slot, with these counts of the tries before; or it was short, got none, and none was tried
 abbrev pub IsSent : Out → ℕ → ℕ → Option ℕ → List ℕ → ℕ → Type 0
-IsSent o pool size slot ts f = ((slot ≡ None) × (ts ≡ o.tried) × (f ≡ o.full_at)) ⊎ ((j : ℕ) × (j < pool) × IsMissed o j ts f × (64 < size))
+IsSent o pool size slot ts f = ((slot ≡ None) × (ts ≡ o.tried) × (f ≡ o.full_at)) ⊎ ((j : ℕ) × (j < pool) × IsMissed o j ts f × (INLINE_BYTES < size))

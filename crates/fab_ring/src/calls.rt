@@ -6,6 +6,7 @@ ghost use Rattle.fab_link.specs.Meaning.{Rests, Gives};
 ghost use Rattle.fab_link.specs.Plain.{lent_frames};
 ghost use Rattle.std.specs.Borrow.{sem};
 ghost use Rattle.fab_ring.specs.Looks.{Looked};
+ghost use Rattle.fab_table.specs.declared.kinds.TheConstants.{INLINE_BYTES};
 ghost use Rattle.fab_table.specs.declared.kinds.Sent.{Sent};
 ghost use Rattle.fab_table.specs.Views.{frames_of, out_at, in_at, with_out, with_in, saw_full, saw_room, posted_one, saw_empty, saw_frame, freed_one, taken_one};
 ghost use Rattle.fab_table.specs.Rule.{Repays};
@@ -61,7 +62,7 @@ impl RingPort {
         ensures lane_full { IsErrOf result PostRefused.LaneFull → (r : ℕ) × ((length (out_at (part_of self.old) dest).posted ≡ r + room_of self.old) ⊎ (most ≤ clock_of self.old))
             × (part_of self.new ≡ with_out (part_of self.old) dest (saw_full (out_at (part_of self.old) dest) r) (part_of self.old).moves) }
         ensures pool_full { IsErrOf result PostRefused.PoolFull → (r : ℕ) × (ts : List ℕ) × (f : ℕ) × (length (out_at (part_of self.old) dest).posted < r + room_of self.old) × (clock_of self.old < most)
-            × (64 < length bytes.now) × IsTried (out_at (part_of self.old) dest) (pool_of self.old) ts f
+            × (INLINE_BYTES < length bytes.now) × IsTried (out_at (part_of self.old) dest) (pool_of self.old) ts f
             × (part_of self.new ≡ with_out (part_of self.old) dest (tried_out (saw_room (out_at (part_of self.old) dest) r) ts f false None) (part_of self.old).moves) }
         ensures memory { result ≢ Err PostRefused.NoMemory }
         ensures unlooked { length (out_at (part_of self.old) dest).posted < (out_at (part_of self.old) dest).got_seen + room_of self.old → clock_of self.old < most
@@ -138,12 +139,21 @@ impl RingPort {
         }
         if src < self.turn {
             let peers = self.fabric.peers();
-            while self.turn < peers {
-                self.pass();
-            }
+            self.pass_to(peers);
             self.wrap();
         }
-        while self.turn < src {
+        self.pass_to(src);
+    }
+
+    /// Turns the places in hand behind one another until those of this peer come first, or all are behind.
+    fn pass_to(&mut self, peer: u64)
+        requires { (self.old.turn ≤ peer) × (peer ≤ peers_of self.old) }
+        ensures port { SamePort self.old self.new }
+        ensures part { part_of self.new ≡ part_of self.old }
+        ensures turn { self.new.turn ≡ peer }
+        ensures kept { (self.new.gots ≡ self.old.gots) × (self.new.opened ≡ self.old.opened) × (self.new.lent ≡ self.old.lent) × (self.new.commands ≡ self.old.commands) × (self.new.buffers ≡ self.old.buffers) }
+    {
+        while self.turn < peer {
             self.pass();
         }
     }

@@ -1,6 +1,7 @@
 //! The port's calls, in the words of all ports.
 ghost use Rattle.std.specs.Prelude.{◌≡◌, ◌≢◌, ℕ, ◌+◌, ◌<◌, ◌≤◌, ◌⊎◌, ◌++◌, ◌∷◌, [], length, true, None, Some, IsSome, IsErrOf, OnOk, OnErr, Ok, Err, slice_index};
 ghost use Rattle.fab_table.specs.declared.fabric.Fabric.{Fabric};
+ghost use Rattle.fab_table.specs.declared.kinds.TheConstants.{INLINE_BYTES};
 ghost use Rattle.fab_base.specs.Counts.{Rose};
 ghost use Rattle.fab_wire.specs.declared.moves.Move.TheVariants.{Post, Take};
 ghost use Rattle.fab_wire.specs.Frames.{frame, Continues};
@@ -77,12 +78,12 @@ impl Port for RingPort {
             → (length (out_of self.old dest).frames < got_seen self.new dest + room_of self.old) × (clock_of self.old < most) }
         ensures unlooked { length (out_of self.old dest).frames < got_seen self.old dest + room_of self.old → clock_of self.old < most
             → got_seen self.new dest ≡ got_seen self.old dest }
-        ensures each_slot { IsErrOf result PostRefused.PoolFull → (64 < length bytes.now) × (tries self.new dest ≡ one_more (tries self.old dest)) }
+        ensures each_slot { IsErrOf result PostRefused.PoolFull → (INLINE_BYTES < length bytes.now) × (tries self.new dest ≡ one_more (tries self.old dest)) }
         ensures some_slot { result ≢ Err PostRefused.PoolFull
             → (j : ℕ) × (j < pool_of self.old) × (slice_index (tries self.new dest) j ≡ slice_index (tries self.old dest) j) }
 
-        // A frame of at most 64 bytes asks for no slot: none is tried, and it gets none.
-        ensures no_slot { length bytes.now ≤ 64 → (tries self.new dest ≡ tries self.old dest)
+        // A frame of at most `INLINE_BYTES` asks for no slot: none is tried, and it gets none.
+        ensures no_slot { length bytes.now ≤ INLINE_BYTES → (tries self.new dest ≡ tries self.old dest)
             × OnOk result (slots self.new dest ≡ slots self.old dest ++ None ∷ []) }
 
         // A refusal raises its count by just one: one look, or one try on each slot.

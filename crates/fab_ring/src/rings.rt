@@ -15,17 +15,25 @@ use std::sync::Arc;
 /// The bytes behind each list of a port that nobody uses. Ports are made by one thread, so their lists lie side by side, and each is
 /// written by a thread of its own: on a cache line that two of them share, each write of the one makes the other wait.
 const APART: usize = 128;
-/// So many commands have those bytes.
+
+/// So many numbers have those bytes, of eight each.
+const NUMBERS_APART: usize = APART / 8;
+
+/// So many buffers have those bytes: a list holds of each where its bytes lie, and how many there are.
+const BUFFERS_APART: usize = APART / 16;
+
+/// So many commands have at least those bytes: one has a frame's head, and bytes of a frame behind it.
 const COMMANDS_APART: usize = 1;
 
-/// So many heads of frames have those bytes.
+/// So many heads of frames have at least those bytes. The heads last posted and last taken are written with each frame, so their
+/// lists too end apart from those of the next port.
 const HEADS_APART: usize = 2;
 
 /// So many zeros.
 fn zeros(alloc: Global, count: usize) -> Result<Vec<u64>, NoMemory>
     ensures { IfOk result (λ v. v.items ≡ replicate count 0) }
 {
-    let mut all = Vec::with_capacity(alloc, count.saturating_add(APART / 8))?;
+    let mut all = Vec::with_capacity(alloc, count.saturating_add(NUMBERS_APART))?;
     for _ in 0..count {
         all.push(0)?;
     }
@@ -59,7 +67,7 @@ pub(crate) fn buffers(alloc: Global, count: usize) -> Result<Vec<Buf>, NoMemory>
     ensures count { IfOk result (λ v. length v.items ≡ count) }
     ensures sizes { IfOk result (λ v. (s : ℕ) → s < count → length (slice_index_or v.items s []) ≡ FRAME_BYTES) }
 {
-    let mut all = Vec::with_capacity(alloc, count.saturating_add(APART / 16))?;
+    let mut all = Vec::with_capacity(alloc, count.saturating_add(BUFFERS_APART))?;
     for _ in 0..count {
         all.push(Buf::zeros(alloc, u64::from(FRAME_BYTES))?)?;
     }

@@ -4,6 +4,7 @@ ghost use Rattle.fab_base.specs.declared.limits.TheConstants.{FRAME_BYTES};
 ghost use Rattle.atomic_table.specs.Table.{rest};
 ghost use Rattle.fab_wire.specs.declared.moves.Move.TheVariants.{Post};
 ghost use Rattle.fab_wire.specs.Frames.{last_head, Continues};
+ghost use Rattle.fab_table.specs.declared.kinds.TheConstants.{INLINE_BYTES};
 ghost use Rattle.fab_table.specs.declared.kinds.Command.{Command};
 ghost use Rattle.fab_table.specs.declared.kinds.Slot.TheVariants.{Cell, Pool};
 ghost use Rattle.fab_table.specs.Views.{frames_of, with_part, with_out, posted_one};
@@ -14,7 +15,7 @@ ghost use Rattle.fab_ring.specs.Tries.{IsTried, IsTriedFrom, IsMissed, IsSent, t
 ghost use Rattle.fab_ring.specs.Alone.{IsAlone};
 
 use fab_base::FrameHead;
-use fab_table::{Fabric, PeerSeat};
+use fab_table::{Fabric, INLINE_BYTES, PeerSeat};
 
 /// A frame's number is at most this.
 pub(crate) const MOST: u64 = 1 << 62;
@@ -138,7 +139,7 @@ pub(crate) fn send_inline(
     requires place { next.now.place ≡ next_cell (view_of_seat seat.old) 0 next.now.dest }
     requires hand { (c : Command) × (carried seat.old ≡ (next.now.place, Cell c) ∷ rest (carried seat.old)) }
     requires continues { Continues (last_head None (frames_of (out_of seat.old 0 next.now.dest).posted)) head }
-    requires filled { (length bytes.now ≡ head.len) × (head.len ≤ 64) }
+    requires filled { (length bytes.now ≡ head.len) × (head.len ≤ INLINE_BYTES) }
     requires repays { Repays (out_of seat.old 0 next.now.dest) (in_of seat.old 0 next.now.dest) head }
     ensures seat { IsSame seat.old seat.new }
     ensures view { sat seat.new ≡ (post_view (view_of_seat seat.old) 0 next.now.dest (sent_as head bytes.now next.now.number None), rest (carried seat.old)) }
@@ -185,7 +186,7 @@ pub(crate) fn send_pooled(
     true
 }
 
-/// Posts a frame, with a slot where it has more than 64 bytes. False where no slot was free.
+/// Posts a frame, with a slot where it has more than [`INLINE_BYTES`]. False where no slot was free.
 pub(crate) fn send_next(
     fabric: &Fabric,
     seat: &mut PeerSeat,
@@ -205,12 +206,12 @@ pub(crate) fn send_next(
     requires filled { length bytes.now ≡ head.len }
     requires repays { Repays (out_of seat.old 0 next.now.dest) (in_of seat.old 0 next.now.dest) head }
     ensures seat { IsSame seat.old seat.new }
-    ensures full { result ≡ false → (ts : List ℕ) × (f : ℕ) × (64 < length bytes.now) × IsTried (out_of seat.old 0 next.now.dest) fabric.now.pool ts f
+    ensures full { result ≡ false → (ts : List ℕ) × (f : ℕ) × (INLINE_BYTES < length bytes.now) × IsTried (out_of seat.old 0 next.now.dest) fabric.now.pool ts f
         × (sat seat.new ≡ (new_out_view (view_of_seat seat.old) 0 next.now.dest (tried_out (out_of seat.old 0 next.now.dest) ts f false None), rest (carried seat.old))) }
     ensures sent { result ≡ true → (slot : Option ℕ) × (ts : List ℕ) × (f : ℕ) × IsSent (out_of seat.old 0 next.now.dest) fabric.now.pool (length bytes.now) slot ts f
         × (sat seat.new ≡ (with_part (view_of_seat seat.old) 0 (with_out (part_of seat.old 0) next.now.dest (posted_one (tried_out (out_of seat.old 0 next.now.dest) ts f true None) (sent_as head bytes.now next.now.number slot)) ((part_of seat.old 0).moves ++ Post next.now.dest next.now.number ∷ [])), rest (carried seat.old))) }
 {
-    if bytes.len() <= 64 {
+    if bytes.len() <= INLINE_BYTES {
         send_inline(fabric, seat, next, head, bytes);
         return true;
     }

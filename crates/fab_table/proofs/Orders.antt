@@ -35,15 +35,15 @@ cond_more : (b : Bool) (k : ℕ) (a t : List ℕ) → cond b (k ∷ (a ++ t)) (a
 cond_more true k a t = refl
 cond_more false k a t = refl
 
-posts_more : (d : ℕ) (ms : List Move) (m : Move) → posts_to d (ms ++ m ∷ []) ≡ posts_to d ms ++ posts_to d (m ∷ [])
-posts_more d [] m = refl
-posts_more d (Post e k ∷ xs) m = (λ i. cond (eqb e d) (k ∷ posts_more d xs m i) (posts_more d xs m i)) ∙ cond_more (eqb e d) k (posts_to d xs) (posts_to d (m ∷ []))
-posts_more d (Take e k ∷ xs) m = posts_more d xs m
+pub posts_append : (d : ℕ) (ms ns : List Move) → posts_to d (ms ++ ns) ≡ posts_to d ms ++ posts_to d ns
+posts_append d [] ns = refl
+posts_append d (Post e k ∷ ms) ns = (λ i. cond (eqb e d) (k ∷ posts_append d ms ns i) (posts_append d ms ns i)) ∙ cond_more (eqb e d) k (posts_to d ms) (posts_to d ns)
+posts_append d (Take e k ∷ ms) ns = posts_append d ms ns
 
-takes_more : (d : ℕ) (ms : List Move) (m : Move) → takes_of d (ms ++ m ∷ []) ≡ takes_of d ms ++ takes_of d (m ∷ [])
-takes_more d [] m = refl
-takes_more d (Post e k ∷ xs) m = takes_more d xs m
-takes_more d (Take e k ∷ xs) m = (λ i. cond (eqb e d) (k ∷ takes_more d xs m i) (takes_more d xs m i)) ∙ cond_more (eqb e d) k (takes_of d xs) (takes_of d (m ∷ []))
+pub takes_append : (s : ℕ) (ms ns : List Move) → takes_of s (ms ++ ns) ≡ takes_of s ms ++ takes_of s ns
+takes_append s [] ns = refl
+takes_append s (Post e k ∷ ms) ns = takes_append s ms ns
+takes_append s (Take e k ∷ ms) ns = (λ i. cond (eqb e s) (k ∷ takes_append s ms ns i) (takes_append s ms ns i)) ∙ cond_more (eqb e s) k (takes_of s ms) (takes_of s ns)
 
 -- what holds of the new member, and of each other, holds of each after, and where there is none
 set_each : {A : Type 0} (F : ℕ → A → Type 0) (l : List A) (i : ℕ) (a d : A) → F i a → ((k : ℕ) → F k (get_or l k d)) → (k : ℕ) → F k (get_or (set l i a) k d)
@@ -83,11 +83,11 @@ module _ (p : Part) (k : Kept p) (d : ℕ) where
   kept_post x near next owed = let m : Move = Post d x.number in record {
     stamped = stamped_post 0 p.moves d x.number k.stamped next;
     posts = λ e l. each_set (λ q (z : Out). posts_to q (p.moves ++ m ∷ []) ≡ map number z.posted) p.outs d (posted_one (out_at p d) x) (new_out 0)
-        (posts_more d p.moves m ∙ (λ i. k.posts d near i ++ cond (eq-eqb d d refl i) (x.number ∷ []) []) ∙ sym (map-append number (out_at p d).posted (x ∷ [])))
-        (λ q ne inside. posts_more q p.moves m ∙ (λ i. posts_to q p.moves ++ cond (ne_eqb d q (λ e. ne (sym e)) i) (x.number ∷ []) []) ∙ append-nil (posts_to q p.moves) ∙ k.posts q inside) e
+        (posts_append d p.moves (m ∷ []) ∙ (λ i. k.posts d near i ++ cond (eq-eqb d d refl i) (x.number ∷ []) []) ∙ sym (map-append number (out_at p d).posted (x ∷ [])))
+        (λ q ne inside. posts_append q p.moves (m ∷ []) ∙ (λ i. posts_to q p.moves ++ cond (ne_eqb d q (λ e. ne (sym e)) i) (x.number ∷ []) []) ∙ append-nil (posts_to q p.moves) ∙ k.posts q inside) e
         (subst (λ (z : ℕ). e < z) (length-set p.outs d (posted_one (out_at p d) x)) l);
-    takes = λ e l. takes_more e p.moves m ∙ append-nil (takes_of e p.moves) ∙ k.takes e l;
-    no_takes = λ s far. takes_more s p.moves m ∙ append-nil (takes_of s p.moves) ∙ k.no_takes s far;
+    takes = λ e l. takes_append e p.moves (m ∷ []) ∙ append-nil (takes_of e p.moves) ∙ k.takes e l;
+    no_takes = λ s far. takes_append s p.moves (m ∷ []) ∙ append-nil (takes_of s p.moves) ∙ k.no_takes s far;
     repaid = λ e op. set_each (λ q z. Owes z (in_at p q) op 0) p.outs d (posted_one (out_at p d) x) (new_out 0)
         (subst (λ z. IsOwed (λ op. 0) z (frames_of (in_at p d).taken) op 0) (sym (frames_more (out_at p d).posted x)) (repays (λ op. 0) op (frames_of (out_at p d).posted) (frames_of (in_at p d).taken) x.frame (k.repaid d op) owed)) (λ q. k.repaid q op) e;
   }
@@ -95,13 +95,13 @@ module _ (p : Part) (k : Kept p) (d : ℕ) where
   pub kept_take : (x : Sent) → d < length p.ins → Kept (with_in p d (taken_one (in_at p d) x) (p.moves ++ Take d x.number ∷ []))
   kept_take x near = let m : Move = Take d x.number in record {
     stamped = stamped_take 0 p.moves d x.number k.stamped;
-    posts = λ e l. posts_more e p.moves m ∙ append-nil (posts_to e p.moves) ∙ k.posts e l;
+    posts = λ e l. posts_append e p.moves (m ∷ []) ∙ append-nil (posts_to e p.moves) ∙ k.posts e l;
     takes = λ e l. each_set (λ q (z : In). takes_of q (p.moves ++ m ∷ []) ≡ map number z.taken) p.ins d (taken_one (in_at p d) x) new_in
-        (takes_more d p.moves m ∙ (λ i. k.takes d near i ++ cond (eq-eqb d d refl i) (x.number ∷ []) []) ∙ sym (map-append number (in_at p d).taken (x ∷ [])))
-        (λ q ne inside. takes_more q p.moves m ∙ (λ i. takes_of q p.moves ++ cond (ne_eqb d q (λ e. ne (sym e)) i) (x.number ∷ []) []) ∙ append-nil (takes_of q p.moves) ∙ k.takes q inside) e
+        (takes_append d p.moves (m ∷ []) ∙ (λ i. k.takes d near i ++ cond (eq-eqb d d refl i) (x.number ∷ []) []) ∙ sym (map-append number (in_at p d).taken (x ∷ [])))
+        (λ q ne inside. takes_append q p.moves (m ∷ []) ∙ (λ i. takes_of q p.moves ++ cond (ne_eqb d q (λ e. ne (sym e)) i) (x.number ∷ []) []) ∙ append-nil (takes_of q p.moves) ∙ k.takes q inside) e
         (subst (λ (z : ℕ). e < z) (length-set p.ins d (taken_one (in_at p d) x)) l);
     no_takes = λ s far. let far' : length p.ins ≤ s = subst (λ (z : ℕ). z ≤ s) (length-set p.ins d (taken_one (in_at p d) x)) far in
-        takes_more s p.moves m ∙ (λ i. takes_of s p.moves ++ cond (ne_eqb d s (λ e. omega arith) i) (x.number ∷ []) []) ∙ append-nil (takes_of s p.moves) ∙ k.no_takes s far';
+        takes_append s p.moves (m ∷ []) ∙ (λ i. takes_of s p.moves ++ cond (ne_eqb d s (λ e. omega arith) i) (x.number ∷ []) []) ∙ append-nil (takes_of s p.moves) ∙ k.no_takes s far';
     repaid = λ e op. set_each (λ q z. Owes (out_at p q) z op 0) p.ins d (taken_one (in_at p d) x) new_in
         (subst (λ z. IsOwed (λ op. 0) (frames_of (out_at p d).posted) z op 0) (sym (frames_more (in_at p d).taken x)) (owed_still (λ op. 0) op 0 (frames_of (out_at p d).posted) (frames_of (in_at p d).taken) (x.frame ∷ []) (k.repaid d op))) (λ q. k.repaid q op) e;
   }

@@ -10,7 +10,8 @@ use Rattle.std.proofs.lemmas.Option.{none-some}
 use Rattle.atomic_table.specs.Table.{State, keeps, Allows, Splits, Joins, opening}
 use Rattle.atomic_table.proofs.Lists.{at_set, set_else, set_again}
 use mathlib.Core.List.{IsPrefix}
-use Rattle.std.proofs.lemmas.List.{take-append-drop}
+use Rattle.std.proofs.Math.ListN.{get_or-append}
+use Rattle.std.proofs.lemmas.List.{take-append-drop, get_or-replicate}
 use Rattle.fab_table.specs.declared.kinds.Sent.{Sent}
 use Rattle.fab_table.specs.declared.kinds.Layout.{Layout}
 use Rattle.fab_table.specs.declared.kinds.Slot.{Slot}
@@ -19,7 +20,7 @@ use Rattle.fab_table.specs.declared.kinds.In.{In}
 use Rattle.fab_table.specs.declared.kinds.Part.{Part}
 use Rattle.fab_table.specs.declared.kinds.View.{View}
 use Rattle.fab_wire.specs.Owing.{IsOwed}
-use Rattle.fab_table.specs.Views.{frames_of, pool_word, new_out, new_in, new_part, parts_from, everyone, nobody, only_first, but_first, both, part_at, in_at, lane_of, put_word, got_word}
+use Rattle.fab_table.specs.Views.{frames_of, pool_word, new_out, new_in, new_part, parts_from, everyone, nobody, only_first, but_first, both, part_at, in_at, lane_of, put_word, got_word, word_count}
 use Rattle.fab_table.specs.Plays.{Sat, learned}
 use Rattle.fab_table.specs.Rule.{free, IsCell, IsBuf, Lane, OutOk, InOk, number, Kept, PartOk, Ruled}
 use Rattle.fab_table.proofs.Rows.{at_end, pick, pair_below}
@@ -94,11 +95,6 @@ module _ {A : Type 0} where
   the_first (x ∷ xs) zero d h = (refl, omega arith, refl)
   the_first (x ∷ xs) (suc i) d h = absurd (omega arith)
 
-  in_front : (l m : List A) (i : ℕ) (d : A) → i < length l → get_or l i d ≡ get_or (l ++ m) i d
-  in_front [] m i d h = absurd (omega arith)
-  in_front (x ∷ xs) m zero d h = refl
-  in_front (x ∷ xs) m (suc i) d h = in_front xs m i d (omega arith)
-
   behind_it : (l m : List A) (i : ℕ) (d : A) → length l ≤ i → i < length (l ++ m) → (c : ℕ) × (i ≡ length l + c) × (c < length m) × (get_or m c d ≡ get_or (l ++ m) i d)
   behind_it [] m i d h near = (i, omega arith, near, refl)
   behind_it (x ∷ xs) m zero d h near = absurd (omega arith)
@@ -108,11 +104,6 @@ module _ {A : Type 0} where
   same_all zero i a = refl
   same_all (suc n) zero a = refl
   same_all (suc n) (suc i) a = same_all n i a
-
-  pub same_within : (n i : ℕ) (a b : A) → i < n → get_or (replicate n a) i b ≡ a
-  same_within zero i a b h = absurd (let no : i < 0 = h in omega arith)
-  same_within (suc n) zero a b h = refl
-  same_within (suc n) (suc i) a b h = same_within n i a b (omega arith)
 
 there_or : {A : Type 0} (l : List A) (i : ℕ) (d : A) → i < length l → get_elem? (map some l) i ≡ some (some (get_or l i d))
 there_or [] i d h = absurd (omega arith)
@@ -148,7 +139,7 @@ joins_parts k id v other w s r at two at' = let long : ℕ = length v.parts in l
     (λ t. ⊎_elim
     (λ o. subst (λ (z : ℕ × View). (i : ℕ) → i < length z.1.parts → Fine z.0 i (part_at z.1 i)) (λ a. (sym o.0 a, o.1 a))
     (λ i near. dite (dec_lt i long)
-    (λ low. subst (Fine id i) (in_front v.parts w.parts i d low) (stays id i (part_at v i) (λ h. two (sym h)) (r.each_part id v at i low)))
+    (λ low. subst (Fine id i) (sym (get_or-append v.parts w.parts d i low)) (stays id i (part_at v i) (λ h. two (sym h)) (r.each_part id v at i low)))
     (λ high. let f = behind_it v.parts w.parts i d (let g : length v.parts ≤ i = omega arith in g) near in let ok = r.each_part other w theirs f.0 f.2 in
     subst (λ (z : ℕ × Part). Fine id z.0 z.1) (λ a. (sym f.1 a, f.3 a))
     (reseated n k.room k.pool r.lane r.spot spot other f.0 id (long + f.0) (part_at w f.0) ok (go other f.0 (part_at w f.0) ok ∙ pick_yes (ℕ_discrete other other) (id, long + f.0) (other, f.0) refl)))))
@@ -176,7 +167,7 @@ module _ (n room pool i : ℕ) where
   new_kept : Kept p
   new_kept = record {
     stamped = tt;
-    posts = λ d near. ap (λ (z : Out). map number z.posted) (sym (same_within n d (new_out pool) (new_out 0) (subst (λ (z : ℕ). d < z) (length-replicate n (new_out pool)) near)));
+    posts = λ d near. ap (λ (z : Out). map number z.posted) (sym (get_or-replicate n d (new_out pool) (new_out 0) (subst (λ (z : ℕ). d < z) (length-replicate n (new_out pool)) near)));
     takes = λ d near. ap (λ (z : In). map number z.taken) (sym (same_all n d new_in));
     no_takes = λ s far. refl;
     repaid = λ d op. subst (λ (z : List Sent). IsOwed (λ op. 0) (frames_of z) (frames_of (in_at p d).taken) op 0) (sym (none_posted n d)) (omega arith);
@@ -191,12 +182,12 @@ module _ (n room pool i : ℕ) where
     seated = refl;
     all_outs = length-replicate n (new_out pool);
     all_ins = length-replicate n new_in;
-    outs = λ d near. subst (OutOk empty_lane) (sym (same_within n d (new_out pool) (new_out 0) near)) (refl, le_refl 0, refl, refl);
+    outs = λ d near. subst (OutOk empty_lane) (sym (get_or-replicate n d (new_out pool) (new_out 0) near)) (refl, le_refl 0, refl, refl);
     ins = λ d near. subst (InOk empty_lane) (sym (same_all n d new_in)) (refl, le_refl 0, refl, refl);
     kept = new_kept;
   }
 
-pub starts : (k : Layout) (ws : List ℕ) (xs : List Slot) → 0 < k.room → length ws ≡ k.peers * k.peers * 32 + k.peers * k.pool * 16 → ((i : ℕ) → get_or ws i 0 ≡ 0) → length xs ≡ k.peers * k.peers * k.room + k.peers * k.pool → (d : Slot) → ((q : ℕ) → q < k.peers * k.peers * k.room → IsCell (get_or xs q d)) → ((q : ℕ) → k.peers * k.peers * k.room ≤ q → q < k.peers * k.peers * k.room + k.peers * k.pool → IsBuf (get_or xs q d))
+pub starts : (k : Layout) (ws : List ℕ) (xs : List Slot) → 0 < k.room → length ws ≡ word_count k.peers k.pool → ((i : ℕ) → get_or ws i 0 ≡ 0) → length xs ≡ k.peers * k.peers * k.room + k.peers * k.pool → (d : Slot) → ((q : ℕ) → q < k.peers * k.peers * k.room → IsCell (get_or xs q d)) → ((q : ℕ) → k.peers * k.peers * k.room ≤ q → q < k.peers * k.peers * k.room + k.peers * k.pool → IsBuf (get_or xs q d))
     → Ruled k (opening ws xs (everyone k.peers k.room k.pool))
 starts k ws xs pos wide zeros long d₀ cells bufs = let n : ℕ = k.peers in let room : ℕ = k.room in let pool : ℕ = k.pool in record {
   lane = λ _. empty_lane;

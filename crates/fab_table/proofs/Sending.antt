@@ -14,6 +14,7 @@ use Rattle.atomic_table.proofs.Lists.{set_else, set_here, exchanged}
 use Rattle.fab_wire.specs.declared.moves.Move.{Move}
 use Rattle.fab_wire.specs.declared.moves.Move.TheVariants.{Post}
 use Rattle.fab_wire.specs.Frames.{last_head, MayCome}
+use Rattle.fab_table.specs.declared.kinds.TheConstants.{INLINE_BYTES}
 use Rattle.fab_table.specs.declared.kinds.Command.{Command}
 use Rattle.fab_table.specs.declared.kinds.Sent.{Sent}
 use Rattle.fab_table.specs.declared.kinds.Layout.{Layout}
@@ -47,11 +48,11 @@ command_in : Command → List (ℕ × Slot) → Command
 command_in d [] = d
 command_in d (z ∷ zs) = command_or d z.1
 
-buffer_or : List ℕ → Slot → List ℕ
+pub buffer_or : List ℕ → Slot → List ℕ
 buffer_or d (Cell c) = d
 buffer_or d (Pool b) = b
 
-buffer_in : List ℕ → List (ℕ × Slot) → List ℕ
+pub buffer_in : List ℕ → List (ℕ × Slot) → List ℕ
 buffer_in d [] = d
 buffer_in d (z ∷ zs) = buffer_or d z.1
 
@@ -119,7 +120,7 @@ reserves_one k slots id me w i d near low is idle seen s r wide at small =
 
 -- a frame is published
 pub posts_one : (k : Layout) (slots id : ℕ) (me : Sat) (w i d new : ℕ) (c₀ : Command) → i < length me.0.parts → d < (part_at me.0 i).peers → w ≡ put_word (out_lane me.0 i d) → (out_at (part_at me.0 i) d).writing ≡ true
-    → new ≡ length (out_at (part_at me.0 i) d).posted + 1 → c₀.number ≡ greatest 0 (part_at me.0 i).moves + 1 → (out_at (part_at me.0 i) d).claim ≡ None → c₀.slot ≡ None → MayCome (last_head None (frames_of (out_at (part_at me.0 i) d).posted)) (said_inline c₀).frame → Repays (out_at (part_at me.0 i) d) (in_at (part_at me.0 i) d) c₀.head → c₀.head.len ≤ 64 → me.1 ≡ (next_cell me.0 i d, Cell c₀) ∷ rest me.1
+    → new ≡ length (out_at (part_at me.0 i) d).posted + 1 → c₀.number ≡ greatest 0 (part_at me.0 i).moves + 1 → (out_at (part_at me.0 i) d).claim ≡ None → c₀.slot ≡ None → MayCome (last_head None (frames_of (out_at (part_at me.0 i) d).posted)) (said_inline c₀).frame → Repays (out_at (part_at me.0 i) d) (in_at (part_at me.0 i) d) c₀.head → c₀.head.len ≤ INLINE_BYTES → me.1 ≡ (next_cell me.0 i d, Cell c₀) ∷ rest me.1
     → Allows (Ruled k) slots id me w (λ _. new) (λ _. posts (step slots w new 0 none) me)
 unfolding command_in command_or
 posts_one k slots id me w i d new c₀ near low is hand up next idle inline comes owed sized carried s r wide at small = let x : Sent = said_inline c₀ in

@@ -16,6 +16,7 @@ use Rattle.fab_wire.specs.Frames.{frame, IsLane}
 use Rattle.fab_base.specs.declared.frames.FrameHead.{FrameHead}
 use Rattle.fab_wire.specs.Owing.{begins_reply, IsOwed}
 use Rattle.fab_wire.specs.Merged.{IsStamped, posts_to, takes_of}
+use Rattle.fab_table.specs.declared.kinds.TheConstants.{INLINE_BYTES}
 use Rattle.fab_table.specs.declared.kinds.Command.{Command}
 use Rattle.fab_table.specs.declared.kinds.Sent.{Sent}
 use Rattle.fab_table.specs.declared.kinds.Layout.{Layout}
@@ -25,7 +26,7 @@ use Rattle.fab_table.specs.declared.kinds.Out.{Out}
 use Rattle.fab_table.specs.declared.kinds.In.{In}
 use Rattle.fab_table.specs.declared.kinds.Part.{Part}
 use Rattle.fab_table.specs.declared.kinds.View.{View}
-use Rattle.fab_table.specs.Views.{frames_of, part_at, out_at, in_at, lane_of, put_word, got_word, pool_word, pool_home}
+use Rattle.fab_table.specs.Views.{frames_of, part_at, out_at, in_at, lane_of, put_word, got_word, pool_word, pool_home, word_count}
 
 abbrev pub Homes : Type 0
 Homes = List (maybe.Option Slot)
@@ -72,7 +73,7 @@ FilledAt x home = (y : Slot) × Fills x y × (home ≡ some (some y))
 
 -- a frame without a slot is short
 abbrev pub IsShort : Sent → Type 0
-IsShort x = x.slot ≡ None → x.frame.head.len ≤ 64
+IsShort x = x.slot ≡ None → x.frame.head.len ≤ INLINE_BYTES
 
 pub record Lane : Type 0 where
   pub posted : List Sent
@@ -181,7 +182,7 @@ pub record Ruled (k : Layout) (s : State Slot View) : Type 0 where
   pub spot : ℕ → ℕ × ℕ
   pub some_room : 0 < k.room
   pub place : ℕ → Place
-  pub all_words : length s.words ≡ k.peers * k.peers * 32 + k.peers * k.pool * 16
+  pub all_words : length s.words ≡ word_count k.peers k.pool
   pub all_slots : length s.homes ≡ k.peers * k.peers * k.room + k.peers * k.pool
   pub each_lane : (l : ℕ) → l < k.peers * k.peers → LaneOk k.room (l * k.room) (slice_index s.words (put_word l)) (slice_index s.words (got_word l)) s.homes (lane l)
   pub each_part : (j : ℕ) (v : View) → get_elem? s.views j ≡ some v → (i : ℕ) → i < length v.parts → PartOk k.peers k.room k.pool lane spot j i (part_at v i)

@@ -5,6 +5,7 @@
 --     saw_full, saw_room ..      a lane after a step
 --     lane_of n s d              the number of the lane from s to d, among n peers
 --     put_word, got_word, still_word, pool_word, pool_home    where its words, and those of the pools, lie
+--     word_count n pool          how many words there are
 use Rattle.std.specs.Prelude.{ℕ, zero, suc, ◌+◌, ◌*◌, min, Bool, true, false, List, [], ◌∷◌, ◌++◌, length, map, take, drop, replicate, slice_index, slice_index_or, slice_set, Option, Some, None, if◌then◌else◌, nat_lt}
 use Rattle.fab_base.specs.declared.frames.Frame.{Frame}
 use Rattle.fab_wire.specs.declared.moves.Move.{Move}
@@ -150,6 +151,10 @@ still_word l = l * 32 + 8
 -- the word and the place of the q-th slot of all pools
 abbrev pub pool_word : ℕ → ℕ → ℕ
 pool_word n q = n * n * 32 + q * 16
+
+-- how many words there are: those of the lanes, and one for each slot
+abbrev pub word_count : ℕ → ℕ → ℕ
+word_count n pool = n * n * 32 + n * pool * 16
 
 abbrev pub pool_home : ℕ → ℕ → ℕ → ℕ
 pool_home n room q = n * n * room + q

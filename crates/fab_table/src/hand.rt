@@ -1,6 +1,7 @@
 //! Plain access to the place that a seat has in hand and took last. No step on a word is made here.
 ghost use Rattle.std.specs.Prelude.{◌≡◌, ℕ, ◌≤◌, ◌∷◌, List, length, take, Some};
 ghost use Rattle.atomic_table.specs.Table.{rest};
+ghost use Rattle.fab_table.specs.declared.kinds.TheConstants.{INLINE_BYTES};
 ghost use Rattle.fab_table.specs.declared.kinds.Command.{Command};
 ghost use Rattle.fab_table.specs.declared.kinds.Sent.{Sent};
 ghost use Rattle.fab_table.specs.declared.kinds.Slot.{Slot};
@@ -14,7 +15,7 @@ use fab_base::{Buf, FrameHead};
 
 /// Writes a command over, with the bytes of a frame that needs no slot.
 fn overwrite(command: &mut Command, number: u64, head: FrameHead, bytes: &[u8])
-    requires { length bytes.now ≤ 64 }
+    requires { length bytes.now ≤ INLINE_BYTES }
     ensures { command.new ≡ written command.old number head bytes.now }
 {
     command.number = number;
@@ -35,7 +36,7 @@ impl Fabric {
     )
         requires seat { IsOf self.now seat.old }
         requires hand { (c : Command) × (carried seat.old ≡ (place, Cell c) ∷ rest (carried seat.old)) }
-        requires short { length bytes.now ≤ 64 }
+        requires short { length bytes.now ≤ INLINE_BYTES }
         ensures seat { IsSame seat.old seat.new }
         ensures view { (c : Command) → carried seat.old ≡ (place, Cell c) ∷ rest (carried seat.old)
             → sat seat.new ≡ (view_of_seat seat.old, (place, Cell (written c number head bytes.now)) ∷ rest (carried seat.old)) }

@@ -3,14 +3,17 @@ use fab_base::{Buf, Frame, FrameHead};
 use fab_wire::Move;
 use std::collections::LinkedList;
 
+/// How many bytes a frame has at most that needs no slot of a pool: its cell has them itself.
+pub const INLINE_BYTES: usize = 64;
+
 /// What a cell of a lane holds: a frame's head, its number, and the pool slot that has its bytes. A
-/// frame of at most 64 bytes needs no slot: the first bytes of `inline` are its own.
+/// frame of at most [`INLINE_BYTES`] bytes needs no slot: the first bytes of `inline` are its own.
 #[derive(Drop)]
 pub struct Command {
     pub number: u64,
     pub slot: Option<u64>,
     pub head: FrameHead,
-    pub inline: [u8; 64],
+    pub inline: [u8; INLINE_BYTES],
 }
 
 /// What a place of the table holds: a lane's cell has a command, a pool slot a buffer of [`FRAME_BYTES`](fab_base::FRAME_BYTES) bytes.

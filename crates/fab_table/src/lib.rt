@@ -27,9 +27,10 @@ mod laws;
 mod making;
 mod rule;
 mod steps;
+mod words;
 
 pub use fabric::{Fabric, PeerSeat};
-pub use kinds::{Command, In, Layout, Out, Part, Sent, Slot, View};
+pub use kinds::{Command, INLINE_BYTES, In, Layout, Out, Part, Sent, Slot, View};
 pub use laws::law_lane_rule;
 pub use making::blank;
 pub use rule::LaneRule;

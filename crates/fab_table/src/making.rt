@@ -6,7 +6,8 @@ ghost use Rattle.fab_table.specs.Seats.{IsOf, carried, view_of_seat};
 ghost use Rattle.fab_table.specs.declared.kinds.Slot.TheVariants.{Pool};
 
 use crate::fabric::{Fabric, PeerSeat};
-use crate::kinds::{Command, Layout, Slot};
+use crate::kinds::{Command, INLINE_BYTES, Layout, Slot};
+use crate::words::count_words;
 use atomic_table::Table;
 use fab_base::{Ack, Buf, FRAME_BYTES, FrameHead, ItemHead, Kind, NoMemory, Outcome};
 use std::alloc::Global;
@@ -38,8 +39,20 @@ pub fn blank() -> Command
             from: 0,
             len: 0,
         },
-        inline: [0; 64],
+        inline: [0; INLINE_BYTES],
     }
+}
+
+/// So many cells that have no frame, with memory for so many places in all.
+fn blank_cells(alloc: Global, count: usize, places: usize) -> Result<Vec<Slot>, NoMemory>
+    ensures count { IfOk result (λ v. length v.items ≡ count) }
+    ensures cells { IfOk result (λ v. (q : ℕ) → q < count → IsCell (slice_index_or v.items q (Pool []))) }
+{
+    let mut all = Vec::with_capacity(alloc, places)?;
+    for _ in 0..count {
+        all.push(Slot::Cell(blank()))?;
+    }
+    Ok(all)
 }
 
 /// The cells, and behind them the slots of all pools.
@@ -49,10 +62,7 @@ fn places(alloc: Global, cells: usize, slots: usize) -> Result<Vec<Slot>, NoMemo
     ensures cells { IfOk result (λ v. (q : ℕ) → q < cells → IsCell (slice_index_or v.items q (Pool []))) }
     ensures slots { IfOk result (λ v. (q : ℕ) → cells ≤ q → q < cells + slots → IsBuf (slice_index_or v.items q (Pool []))) }
 {
-    let mut all = Vec::with_capacity(alloc, cells + slots)?;
-    for _ in 0..cells {
-        all.push(Slot::Cell(blank()))?;
-    }
+    let mut all = blank_cells(alloc, cells, cells + slots)?;
     for _ in 0..slots {
         all.push(Slot::Pool(Buf::zeros(alloc, u64::from(FRAME_BYTES))?))?;
     }
@@ -76,7 +86,8 @@ impl Fabric {
     {
         let lanes = (peers * peers) as usize;
         let slots = (peers * pool) as usize;
-        let words = Vec::from_elem(alloc, 0u64, lanes * 32 + slots * 16)?;
+        let count = count_words(peers, pool);
+        let words = Vec::from_elem(alloc, 0u64, count)?;
         let all = places(alloc, lanes * room as usize, slots)?;
         let about = Layout { peers, room, pool };
         match Table::new(alloc, words.as_slice(), all, &about) {

@@ -5,6 +5,7 @@ ghost use Rattle.std.specs.Prelude.{◌≡◌, ◌≢◌, ℕ, ◌+◌, ◌*◌,
 ghost use Rattle.fab_base.specs.declared.limits.TheConstants.{FRAME_BYTES};
 ghost use Rattle.atomic_table.specs.Table.{rest};
 ghost use Rattle.fab_wire.specs.Frames.{last_head, MayCome};
+ghost use Rattle.fab_table.specs.declared.kinds.TheConstants.{INLINE_BYTES};
 ghost use Rattle.fab_table.specs.declared.kinds.Command.{Command};
 ghost use Rattle.fab_table.specs.declared.kinds.Sent.{Sent};
 ghost use Rattle.fab_table.specs.declared.kinds.Slot.{Slot};
@@ -28,10 +29,8 @@ impl Fabric {
         ensures seat { IsSame seat.old seat.new }
         ensures view { SawGot (sat seat.old) result (sat seat.new) at dest }
     {
-        let lane = (me * self.peers + dest) as usize;
-        self.table
-            .shared
-            .load::<SeeGot>(&mut seat.seat, lane * 32 + 16)
+        let word = self.got_word(me, dest);
+        self.table.shared.load::<SeeGot>(&mut seat.seat, word)
     }
 
     /// A look at a word of the lane to `dest` that nobody writes, so that it costs no time: where what was seen
@@ -43,10 +42,8 @@ impl Fabric {
         ensures seat { IsSame seat.old seat.new }
         ensures view { ReservesAt (sat seat.old) (sat seat.new) at dest }
     {
-        let lane = (me * self.peers + dest) as usize;
-        self.table
-            .shared
-            .load::<Reserves>(&mut seat.seat, lane * 32 + 8);
+        let word = self.still_word(me, dest);
+        self.table.shared.load::<Reserves>(&mut seat.seat, word);
     }
 
     /// A look by which that cell goes back unused.
@@ -57,10 +54,8 @@ impl Fabric {
         ensures seat { IsSame seat.old seat.new }
         ensures view { sat seat.new ≡ (new_out_view (view_of_seat seat.old) at dest (left_one (out_of seat.old at dest)), rest (carried seat.old)) }
     {
-        let lane = (me * self.peers + dest) as usize;
-        self.table
-            .shared
-            .load::<Leaves>(&mut seat.seat, lane * 32 + 16);
+        let word = self.got_word(me, dest);
+        self.table.shared.load::<Leaves>(&mut seat.seat, word);
     }
 
     /// One try on the slot `j` of the pool of `dest`: true where it was free and is now in hand.
@@ -71,9 +66,7 @@ impl Fabric {
         ensures seat { IsSame seat.old seat.new }
         ensures view { (r : ℕ) × ((result ≡ true → r ≡ 0) × (result ≡ false → r ≢ 0)) × ClaimsAt (sat seat.old) r (sat seat.new) at dest j (dest * self.now.pool + j) }
     {
-        let lanes = self.peers * self.peers;
-        let slot = dest * self.pool + j;
-        let word = (lanes * 32 + slot * 16) as usize;
+        let word = self.pool_word(dest * self.pool + j);
         let found = self
             .table
             .shared
@@ -87,7 +80,7 @@ impl Fabric {
         requires writing { ((out_of seat.old at dest).writing ≡ true) × ((out_of seat.old at dest).claim ≡ None) }
         requires count { (put ≡ length (out_of seat.old at dest).posted) × (put < 2 ^ 62) }
         requires cell { (c : Command) × (carried seat.old ≡ (next_cell (view_of_seat seat.old) at dest, Cell c) ∷ rest (carried seat.old))
-            × (c.slot ≡ None) × (c.head.len ≤ 64)
+            × (c.slot ≡ None) × (c.head.len ≤ INLINE_BYTES)
             × (c.number ≡ greatest 0 (part_of seat.old at).moves + 1)
             × MayCome (last_head None (frames_of (out_of seat.old at dest).posted)) (said_inline c).frame
             × Repays (out_of seat.old at dest) (in_of seat.old at dest) c.head }
@@ -95,10 +88,10 @@ impl Fabric {
         ensures view { (c : Command) → carried seat.old ≡ (next_cell (view_of_seat seat.old) at dest, Cell c) ∷ rest (carried seat.old)
             → sat seat.new ≡ (post_view (view_of_seat seat.old) at dest (said_inline c), rest (carried seat.old)) }
     {
-        let lane = (me * self.peers + dest) as usize;
+        let word = self.put_word(me, dest);
         self.table
             .shared
-            .store::<Posts>(&mut seat.seat, lane * 32, put + 1);
+            .store::<Posts>(&mut seat.seat, word, put + 1);
     }
 
     /// Publishes the frame whose command is in the cell in hand, and whose bytes are in the slot in hand.
@@ -115,10 +108,10 @@ impl Fabric {
         ensures view { (a : ℕ) (c : Command) (b : List ℕ) → carried seat.old ≡ (a, Pool b) ∷ (next_cell (view_of_seat seat.old) at dest, Cell c) ∷ rest (rest (carried seat.old))
             → sat seat.new ≡ (post_view (view_of_seat seat.old) at dest (said_pooled c b), rest (rest (carried seat.old))) }
     {
-        let lane = (me * self.peers + dest) as usize;
+        let word = self.put_word(me, dest);
         self.table
             .shared
-            .store::<PostsPooled>(&mut seat.seat, lane * 32, put + 1);
+            .store::<PostsPooled>(&mut seat.seat, word, put + 1);
     }
 
     /// A look at how many frames `src` posted. Where one is not taken, its cell, and behind that its slot, come
@@ -129,8 +122,8 @@ impl Fabric {
         ensures seat { IsSame seat.old seat.new }
         ensures view { SawPut (sat seat.old) result (sat seat.new) at src }
     {
-        let lane = (src * self.peers + me) as usize;
-        self.table.shared.load::<SeePut>(&mut seat.seat, lane * 32)
+        let word = self.put_word(src, me);
+        self.table.shared.load::<SeePut>(&mut seat.seat, word)
     }
 
     /// Frees the slot in hand, which is that of the open frame of `src`.
@@ -141,8 +134,7 @@ impl Fabric {
         ensures seat { IsSame seat.old seat.new }
         ensures view { FreesAt (sat seat.old) (sat seat.new) at src }
     {
-        let lanes = self.peers * self.peers;
-        let word = (lanes * 32 + slot * 16) as usize;
+        let word = self.pool_word(slot);
         self.table.shared.store::<Frees>(&mut seat.seat, word, 0);
     }
 
@@ -156,10 +148,10 @@ impl Fabric {
         ensures seat { IsSame seat.old seat.new }
         ensures view { (x : Sent) → (in_of seat.old at src).opened ≡ Some x → sat seat.new ≡ (take_view (view_of_seat seat.old) at src x, rest (carried seat.old)) }
     {
-        let lane = (src * self.peers + me) as usize;
+        let word = self.got_word(src, me);
         self.table
             .shared
-            .store::<Takes>(&mut seat.seat, lane * 32 + 16, got + 1);
+            .store::<Takes>(&mut seat.seat, word, got + 1);
     }
 
     /// Splits the first part of a seat's view off, to a new seat.
@@ -191,6 +183,7 @@ impl Fabric {
         // No peer began more replies to another than it took items of it that owe one (`law_lane_rule`).
         ensures repaid { (a d op : ℕ) → a < length (view_of_seat seat.new).parts → Owes (out_of seat.new a d) (in_of seat.new a d) op 0 }
     {
+        // Any word serves: what this look tells does not hang on which it is of.
         self.table.shared.load::<Learns>(&mut seat.seat, 0);
     }
 }

@@ -7,7 +7,8 @@ use Rattle.fab_link.specs.Plain.{Plain}
 use Rattle.fab_table.specs.Seats.{part_of}
 use Rattle.fab_ring.specs.declared.rooms.Inside.{Inside}
 use Rattle.fab_ring.specs.Gather.{Brought}
-use Rattle.fab_ring.proofs.Coming.{prefix_less, awaits_each_later, brought_from, brought_later, get_set, get_set_here}
+use Rattle.fab_ring.proofs.Coming.{prefix_less, awaits_each_later, brought_from, brought_later}
+use Rattle.fab_ring.proofs.Told.{get_set_same, get_set_other}
 use Rattle.fab_ring.proofs.emptying.receive_all.Goals as goal
 
 pub loop-own-init : goal.loop-own-init
@@ -56,12 +57,12 @@ loop-own-preserved c =
       count = length-set c.loop-own.ports c.len-reader.result q ∙ i.count;
       outs = λ k. got.outs k ∙ i.outs k;
       later = λ k before. got.rest k (λ same. let num = numbers.0 in omega arith) ∙ i.later k (let l = less.2 in omega arith);
-      kept = λ k before. ap (λ (z : List Plain). slice_get z k) ports_are ∙ get_set c.loop-own.ports r k q (λ same. omega arith) ∙ i.kept k (let l = less.2 in omega arith);
+      kept = λ k before. ap (λ (z : List Plain). slice_get z k) ports_are ∙ get_set_other c.loop-own.ports r k q (λ same. omega arith) ∙ i.kept k (let l = less.2 in omega arith);
       done = λ k a b v far is_a is_b is_v. dite (ℕ_discrete k r)
-          (λ same. let as_p : p ≡ a = same_Some p a (sym there ∙ ap (slice_get c.args.ports.now) (sym same) ∙ is_a) in let as_q : q ≡ b = get_set_here c.loop-own.ports r q b (ap (λ (z : List Plain). slice_get z r) (sym ports_are) ∙ ap (slice_get ports) (sym same) ∙ is_b) in
+          (λ same. let as_p : p ≡ a = same_Some p a (sym there ∙ ap (slice_get c.args.ports.now) (sym same) ∙ is_a) in let as_q : q ≡ b = get_set_same c.loop-own.ports r q b (ap (λ (z : List Plain). slice_get z r) (sym ports_are) ∙ ap (slice_get ports) (sym same) ∙ is_b) in
           let as_w : w ≡ v = same_Some w v (sym less.0 ∙ ap (slice_get c.args.rooms.items) (sym same) ∙ is_v) in
           subst (λ (z : Plain × Plain × Vec Inside Global). Brought s u z.0 z.1 z.2.items) (λ j. (as_p j, as_q j, as_w j)) (brought_from s t u p q w.items got.port same_part))
-          (λ ne. let was = sym (get_set c.loop-own.ports r k q ne) ∙ ap (λ (z : List Plain). slice_get z k) (sym ports_are) ∙ is_b in let num = (c.requires.awaits.numbers k a is_a).0 in
+          (λ ne. let was = sym (get_set_other c.loop-own.ports r k q ne) ∙ ap (λ (z : List Plain). slice_get z k) (sym ports_are) ∙ is_b in let num = (c.requires.awaits.numbers k a is_a).0 in
           brought_later s t u a b v.items (i.done k a b v (let l = less.2 in omega arith) is_a was is_v) (got.rest a.number (λ same. ne (sym num ∙ same ∙ numbers.0))) got.outs);
     }
 

@@ -5,7 +5,4 @@ use Rattle.fab_table.specs.Rule.{IsCell, IsBuf}
 use Rattle.fab_table.proofs.making.places.Given as goal
 
 abbrev pub invariant-loop : goal.invariant-loop
-invariant-loop l = (length l.all.items ≡ l.counter) × ((q : ℕ) → q < length l.all.items → IsCell (slice_index_or l.all.items q (Pool [])))
-
-abbrev pub invariant-loop-2 : goal.invariant-loop-2
-invariant-loop-2 l = (length l.all.items ≡ l.cells + l.counter) × ((q : ℕ) → q < l.cells → IsCell (slice_index_or l.all.items q (Pool []))) × ((q : ℕ) → l.cells ≤ q → q < length l.all.items → IsBuf (slice_index_or l.all.items q (Pool [])))
+invariant-loop l = (length l.all.items ≡ l.cells + l.counter) × ((q : ℕ) → q < l.cells → IsCell (slice_index_or l.all.items q (Pool []))) × ((q : ℕ) → l.cells ≤ q → q < length l.all.items → IsBuf (slice_index_or l.all.items q (Pool [])))
