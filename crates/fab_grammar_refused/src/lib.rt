@@ -1,7 +1,6 @@
 //! Calls of `fab_grammar`, handed on as they are, with the clauses that they have there.
 //!
-//! A body of a call that does something else is tried here (`must-fail/`), where a check takes seconds, and not in
-//! `fab_grammar`.
+//! What contradicts these clauses is said by theorem (`proofs/Refused.antt`).
 #![tactic(auto)]
 
 mod calls;

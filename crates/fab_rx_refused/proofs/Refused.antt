@@ -3,7 +3,7 @@
 --     released_early        it brings the buffer back while an item is under way to the multi-receive
 --     later_cancelled       a cancel hands out another receive than the first that it may take
 --     released_besides      a cancel leaves its receive among those that are closing, so that its buffer comes back once more
-use Rattle.std.proofs.Common.{◌≡◌, ◌≢◌, ℕ, ◌+◌, ◌==◌, Bool, true, false, List, [], ◌∷◌, ◌++◌, length, length-append, Option, Some, None, refl, sym, ap, ◌∙◌, arith}
+use Rattle.std.proofs.Common.{◌≡◌, ◌≢◌, ℕ, ◌==◌, Bool, true, false, List, [], ◌∷◌, ◌++◌, length, length-append, Option, Some, None, refl, sym, ap, ◌∙◌, arith}
 use Rattle.std.specs.Option.{option_map}
 use Rattle.fab_base.specs.declared.entries.Taken.{Taken}
 use Rattle.fab_base.specs.declared.entries.Taken.TheVariants.{Success, Failure}

@@ -1,7 +1,6 @@
 //! Calls of the receive half, `fab_rx`, handed on as they are, with the clauses that they have there.
 //!
-//! A body of a call that does something else is tried here (`must-fail/`), where a check takes seconds, and not in
-//! `fab_rx`; what no edit of these can do is refused by theorem (`proofs/Refused.antt`).
+//! What contradicts these clauses is said by theorem (`proofs/`).
 #![tactic(auto)]
 
 mod calls;
