@@ -1,7 +1,7 @@
 //! Calls of an application's endpoint, handed on as they are, with the clauses that `fab_app` gives them.
 //!
-//! A body of a call that does something else is tried here (`must-fail/`), where a check takes seconds, and not in
-//! `fab_app`; what no edit of these can do is refused by theorem (`proofs/Refused.antt`).
+//! What a body of a call does that these clauses refuse is a theorem (`proofs/Refused.antt`), and so is what collectives
+//! may not do (`proofs/Collectives.antt`).
 #![tactic(auto)]
 
 mod calls;

@@ -1,8 +1,7 @@
 //! Calls of `fab_ends`, handed on as they are, with the clauses that they have there.
 //!
-//! A body of a call that does something else is tried here (`must-fail/`), where a check takes seconds, and not in
-//! `fab_ends`; what no edit of these can do is refused by theorem (`proofs/Refused.antt`). What `fab_mr`, `fab_atomics` and
-//! `fab_rma` refuse is all theorems (`proofs/Regions.antt`, `proofs/Elements.antt`, `proofs/Requests.antt`).
+//! What a body of a call does that these clauses refuse is a theorem (`proofs/Refused.antt`). So is what `fab_mr`,
+//! `fab_atomics` and `fab_rma` refuse (`proofs/Regions.antt`, `proofs/Elements.antt`, `proofs/Requests.antt`).
 #![tactic(auto)]
 
 mod calls;

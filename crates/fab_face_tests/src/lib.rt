@@ -1,7 +1,6 @@
 //! Calls of any endpoint, handed on as they are, with the clauses that `fab_face` gives them.
 //!
-//! A body of a call that does something else is tried here (`must-fail/`), where a check takes seconds, and not in the
-//! crates that make endpoints; what no edit of these can do is refused by theorem (`proofs/Refused.antt`).
+//! What a body of a call does that these clauses refuse is a theorem (`proofs/Refused.antt`).
 #![tactic(auto)]
 
 mod calls;

@@ -1,9 +1,8 @@
 //! Calls of matching stores, of an address vector, of a port and of the transmit half, handed on as they are, with the
 //! clauses that `fab_match`, `fab_av`, `fab_link` and `fab_tx` give them.
 //!
-//! A body of a call that does something else is tried here (`must-fail/`), where a check takes seconds, and not in the
-//! crates of these calls; what no edit of these can do is refused by theorem (`proofs/`), and so is what bodies of
-//! `fab_info`, `fab_wire`, `fab_kept`, `fab_cq` and `fab_record` may not do.
+//! What a body of a call does that these clauses refuse is a theorem (`proofs/`), and so is what bodies of `fab_info`,
+//! `fab_wire`, `fab_kept`, `fab_cq` and `fab_record` may not do.
 #![tactic(auto)]
 
 mod addresses;
