@@ -19,7 +19,6 @@ use Rattle.fab_table.specs.declared.kinds.View.{View}
 use Rattle.fab_table.specs.Views.{least, least_from, new_part, new_out, part_at, out_at, with_part, with_out, with_in, posted_one, left_one, refused_one, claimed_one, tried_more, pool_home, lane_of}
 use Rattle.fab_table.specs.Rule.{IsBuf, Says, Fills, cell_of}
 use Rattle.fab_table.specs.Plays.{Sat, next_cell, new_out_view, post_view, refuse_view, claim_view, slot_home}
-use Rattle.fab_table.proofs.Sending.{buffer_or, buffer_in}
 use Rattle.fab_ring.specs.Tries.{raised, IsTried, IsSent, tried_out}
 
 pub take_all : (n : ℕ) (bytes more : List ℕ) → length bytes ≡ n → take n (bytes ++ more) ≡ bytes
@@ -140,6 +139,14 @@ the_filled x (Pool b) e = (b, refl, e.0, e.1)
 pub the_said : (x : Sent) (y : Slot) → Says x y → (c : Command) × (y ≡ Cell c)
 the_said x (Cell c) e = (c, refl)
 the_said x (Pool b) e = absurd e
+
+buffer_or : List ℕ → Slot → List ℕ
+buffer_or d (Cell c) = d
+buffer_or d (Pool b) = b
+
+buffer_in : List ℕ → List (ℕ × Slot) → List ℕ
+buffer_in d [] = d
+buffer_in d (z ∷ zs) = buffer_or d z.1
 
 pub same_buffer : (hand l m : List (ℕ × Slot)) (a b : ℕ) (x y : List ℕ) → hand ≡ (a, Pool x) ∷ l → hand ≡ (b, Pool y) ∷ m → x ≡ y
 unfolding buffer_in buffer_or
