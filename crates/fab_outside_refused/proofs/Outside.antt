@@ -1,5 +1,6 @@
 -- What loading a script, and `info`, do that the clauses of `fab_outside` refuse.
---     payload_file_before_the_grammar              a file is loaded that the script does not name, as the grammar was not read
+--     file_that_is_not_named                       a file is loaded that no line of the script names
+--     payload_file_before_the_grammar              so is one where the script is none, as the grammar was not read
 --     payload_files_in_the_other_order             the first payload file has the bytes of another
 --     fault_of_a_payload_file_told_of_the_script   a payload file can't be read, and the script's is told
 --     usage_for_info_of_the_whole_offer            `-` is no set of capabilities
@@ -15,6 +16,7 @@ use Rattle.fab_base.specs.declared.caps.Cap.TheVariants as cap
 use Rattle.fab_base.specs.declared.caps.Caps.{Caps}
 use Rattle.fab_base.specs.declared.script.Bound.{Bound}
 use Rattle.fab_base.specs.declared.script.Payload.{Payload}
+use Rattle.fab_base.specs.declared.script.Script.{Script}
 use Rattle.fab_base.specs.declared.status.Status.{Status}
 use Rattle.fab_base.specs.declared.status.Status.TheVariants.{ReadFault}
 use Rattle.fab_grammar.specs.Capabilities.{cap_name, cap_named}
@@ -23,27 +25,36 @@ use Rattle.fab_model.specs.Negotiation.{all_caps, no_hints}
 use Rattle.fab_model.specs.Words.{Word}
 use Rattle.fab_outside.specs.Commands.{caps_in, info_caps}
 use Rattle.fab_outside.specs.Info.{cap_names, caps_line, info_text, offer}
-use Rattle.fab_outside.specs.Loading.{AreWhole, Files, IsRead, IsUnread, LeadsTo, LoadsOnly}
+use Rattle.fab_outside.specs.Loading.{AreWhole, Files, IsRead, IsUnread, LeadsTo, LoadsOnly, Reaches}
 
 -- ---- loading: the clauses `loads`, `ok` and `err` of `load_script`
 
 -- the files outside are told
 module _ (told : List ℕ → Option (List ℕ)) (file : List ℕ) where
-  -- a file that spells no script leads to no other one
-  leads_nowhere : (bytes name : List ℕ) → told file ≡ Some bytes → script_of bytes ≡ None → LeadsTo (Some told) file name → name ≡ file
-  leads_nowhere bytes name holds wrong (inl same) = same
-  leads_nowhere bytes name holds wrong (inr (script, (own, (is, small), spells), reaches)) =
-      let same : own ≡ bytes = (let both : Some own ≡ Some bytes = sym is ∙ holds in cc) in
-      absurd (cc (sym spells ∙ ap script_of same ∙ wrong))
+  -- no `payload` line of the script that these bytes spell reaches the file of this name
+  abbrev IsUnnamed : List ℕ → List ℕ → Type 0
+  IsUnnamed bytes name = (script : Script) → script_of bytes ≡ Some script → Reaches (Some told) script.payloads name → ⊥
 
-  pub payload_file_before_the_grammar : (bytes early : List ℕ) (before later : List (List ℕ)) (after : Option (List (List ℕ)))
-      → told file ≡ Some bytes → script_of bytes ≡ None → early ≢ file
-      → LoadsOnly (LeadsTo (Some told) file) (Some before) after → after ≡ Some (before ++ early ∷ later) → ⊥
-  payload_file_before_the_grammar bytes early before later after holds wrong other (more, each, is) loads =
-      let both : Some (before ++ more) ≡ Some (before ++ early ∷ later) = sym is ∙ loads in
-      let same : more ≡ early ∷ later = append_cancel_left before more (early ∷ later) cc in
-      let leads : LeadsTo (Some told) file early = subst (All (LeadsTo (Some told) file)) same each 0 early (omega arith) in
-      other (leads_nowhere bytes early holds wrong leads)
+  leads_nowhere : (bytes name : List ℕ) → told file ≡ Some bytes → IsUnnamed bytes name → LeadsTo (Some told) file name → name ≡ file
+  leads_nowhere bytes name holds unnamed (inl same) = same
+  leads_nowhere bytes name holds unnamed (inr (script, (own, (is, small), spells), reaches)) =
+      let same : bytes ≡ own = (let both : Some own ≡ Some bytes = sym is ∙ holds in cc) in
+      absurd (unnamed script (ap script_of same ∙ spells) reaches)
+
+  module _ (bytes early : List ℕ) (before later : List (List ℕ)) (after : Option (List (List ℕ))) (holds : told file ≡ Some bytes) (other : early ≢ file)
+      (loads : LoadsOnly (LeadsTo (Some told) file) (Some before) after) (told_loads : after ≡ Some (before ++ early ∷ later)) where
+    pub file_that_is_not_named : IsUnnamed bytes early → ⊥
+    file_that_is_not_named unnamed = by loads
+      where
+        by : LoadsOnly (LeadsTo (Some told) file) (Some before) after → ⊥
+        by (more, each, is) =
+            let both : Some (before ++ more) ≡ Some (before ++ early ∷ later) = sym is ∙ told_loads in
+            let same : more ≡ early ∷ later = append_cancel_left before more (early ∷ later) cc in
+            let leads : LeadsTo (Some told) file early = subst (All (LeadsTo (Some told) file)) same each 0 early (omega arith) in
+            other (leads_nowhere bytes early holds unnamed leads)
+
+    pub payload_file_before_the_grammar : script_of bytes ≡ None → ⊥
+    payload_file_before_the_grammar wrong = file_that_is_not_named (λ script is reaches. absurd (cc (sym is ∙ wrong)))
 
   pub payload_files_in_the_other_order : (bound : Bound) (first : Payload) (others : List Payload) (a b : List ℕ) (rest : List (List ℕ))
       → bound.script.payloads ≡ first ∷ others → told first.name ≡ Some a → b ≢ a
