@@ -1,4 +1,4 @@
--- What the clauses of `fab_replay` refuse, and what of `info` no edit can do.
+-- What the clauses of `fab_replay` refuse, and `info` that tells what the first version has.
 --     one_answer                         the checker's answer means what no other answer means of the text
 --     differs_one_byte_later             the offset of a difference is told one too high
 --     each_readable_trace_is_lawful      whatever tells a schedule is told to be lawful

@@ -1,20 +1,35 @@
--- What the scripts and lines of `pingpong`, `bandwidth` and `gen` are not, by the clauses of `fab_workloads`.
+-- What the words, scripts and lines of `pingpong`, `bandwidth` and `gen` are not, by the clauses of `fab_workloads`.
+--     window_of_255      the greatest window is no window
 --     no_zeros           a message is as long as the file where the file is shorter
 --     waits_for_its_own  a round of `pingpong` waits for the send and not for what comes back
 --     next_tag           a message of `gen` has the tag of the next one
 --     fewer_bytes        a line counts the bytes less one for each message
 --     longer_block       256 bytes of a message of `gen` come to more than they do
-use Rattle.std.proofs.Common.{◌≡◌, ℕ, ◌+◌, ◌-◌, ◌*◌, ◌<◌, ◌≤◌, List, [], ◌∷◌, ◌++◌, length, length-append, min, take, get_or, ap, refl, arith, codes}
+use Rattle.std.proofs.Common.{◌≡◌, ℕ, ◌+◌, ◌-◌, ◌*◌, ◌<◌, ◌≤◌, List, [], ◌∷◌, ◌++◌, length, length-append, min, take, get_or, true, Option, Some, None, ap, sym, ◌∙◌, refl, arith, codes}
 use Rattle.std.specs.Prelude.{replicate}
 use Rattle.std.specs.Fmt.{digits}
 use Rattle.std.proofs.lemmas.List.{length-replicate, length-take}
+use Rattle.fab_base.specs.declared.limits.TheConstants.{MESSAGE_BYTES_ONE}
 use Rattle.fab_base.specs.declared.script.LineOp.{LineOp}
 use Rattle.fab_base.specs.declared.script.BytesWord.{BytesWord}
+use Rattle.fab_words.specs.Words.{numeral_of}
+use Rattle.fab_workloads.specs.declared.workload.Workload.{Workload}
 use Rattle.fab_workloads.specs.declared.workload.Workload.TheVariants.{Bandwidth, Generated}
 use Rattle.fab_workloads.specs.Bench.{bench_line}
+use Rattle.fab_workloads.specs.Commands.{are_few, number_within, workload_of}
 use Rattle.fab_workloads.specs.Generator.{drawn, tag_of}
 use Rattle.fab_workloads.specs.Lines.{ping, send, wait}
 use Rattle.fab_workloads.specs.Script.{payload_of}
+
+-- ---- words: the clause of `workload_of`
+
+pub window_of_255 : (file size count : List ℕ) (s c : ℕ) (result : Option Workload) → number_within 0 MESSAGE_BYTES_ONE size ≡ Some s
+    → number_within 1 10_000 count ≡ Some c → are_few s c ≡ true
+    → result ≡ workload_of (codes "bandwidth" ∷ file ∷ size ∷ count ∷ codes "256" ∷ []) → result ≡ None → ⊥
+unfolding workload_of numeral_of
+window_of_255 file size count s c result sized counted few is told =
+    let taken : workload_of (codes "bandwidth" ∷ file ∷ size ∷ count ∷ codes "256" ∷ []) ≡ Some (Bandwidth s c 256) = rw (workload_of, sized, counted, few, numeral_of) refl in
+    absurd (cc (sym told ∙ is ∙ taken))
 
 -- ---- scripts: the clause `value` of `bound`
 
