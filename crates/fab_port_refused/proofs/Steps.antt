@@ -1,9 +1,12 @@
 -- What bodies of the steps of the table do that the clauses of `fab_table` refuse.
---     got_is_not_raised         a frame is finished by a step that leaves the count of those taken as it was
---     got_raised_alone          the count of frames taken is raised, and the receiver has taken none
---     cell_does_not_go_back     the count is raised by the step that frees a slot, which gives back no cell
---     another_slot_is_freed     a slot is freed by a step on the word of another
-use Rattle.std.proofs.Common.{◌≡◌, ℕ, ◌+◌, ◌^◌, ◌<◌, List, [], ◌∷◌, ◌++◌, length, length-append, length-set, get_or-set_same, set, slice_index, Some, true, sym, ap, ◌∙◌, subst, arith}
+--     got_is_not_raised                           a frame is finished by a step that leaves the count of those taken as it was
+--     got_raised_alone                            the count of frames taken is raised, and the receiver has taken none
+--     cell_does_not_go_back                       the count is raised by the step that frees a slot, which gives back no cell
+--     another_slot_is_freed                       a slot is freed by a step on the word of another
+--     a_slot_is_freed_before_its_frame_is_lent    a slot that was freed is in hand no more, so its buffer can't be taken
+use Rattle.std.proofs.Common.{◌≡◌, ℕ, ◌+◌, ◌^◌, ◌<◌, List, [], ◌∷◌, ◌++◌, length, length-append, length-set, get_or-set_same, set, slice_index, Some, true, false, not, ◌==◌, refl, sym, ap, ◌∙◌, subst, arith}
+use Rattle.std.specs.List.{list_all}
+use Rattle.std.proofs.lemmas.Bool.{eq-eqb}
 use mathlib.Core.Option.{some, none}
 use lib.ListN.{get_elem?}
 use lib.Seq.{set-get_or, length-take-le}
@@ -15,6 +18,7 @@ use Rattle.fab_table.specs.declared.kinds.Layout.{Layout}
 use Rattle.fab_table.specs.declared.kinds.Part.{Part}
 use Rattle.fab_table.specs.declared.kinds.Sent.{Sent}
 use Rattle.fab_table.specs.declared.kinds.Slot.{Slot}
+use Rattle.fab_table.specs.declared.kinds.Slot.TheVariants.{Pool}
 use Rattle.fab_table.specs.declared.kinds.View.{View}
 use Rattle.fab_table.specs.Moments.{IsPartAt, got}
 use Rattle.fab_table.specs.Plays.{FreesAt, Sat, frees_pool, in_lane, take_view, takes_frame}
@@ -99,3 +103,12 @@ module _ (slots n i s : ℕ) (m : Sat) (h : ℕ × Slot) (peers : (a : ℕ) → 
       let same : q ≡ r = omega (arith, is, pool) in
       absurd (others a e y near (subst (λ (z : ℕ). e < z) (peers a near) low) opened (slot ∙ ap Some same) lent) in
       something_went _ (told m silent)
+
+-- ---- what `swap` requires to be in hand, behind what `free_slot` says: nothing else in hand is of the slot's place
+
+pub a_slot_is_freed_before_its_frame_is_lent : (before after : Sat) (i s place : ℕ) (b : List ℕ) → list_all (λ h. not (h.0 == place)) (rest before.1) ≡ true
+    → FreesAt before after i s → after.1 ≡ (place, Pool b) ∷ rest after.1 → ⊥
+a_slot_is_freed_before_its_frame_is_lent before after i s place b others frees hand =
+    let left : list_all (λ (h : ℕ × Slot). not (h.0 == place)) after.1 ≡ true = ap (λ (m : Sat). list_all (λ (h : ℕ × Slot). not (h.0 == place)) m.1) frees ∙ others in
+    let first : list_all (λ (h : ℕ × Slot). not (h.0 == place)) ((place, Pool b) ∷ rest after.1) ≡ false = rw (eq-eqb place place refl) refl in
+    absurd (cc (sym first ∙ ap (list_all (λ (h : ℕ × Slot). not (h.0 == place))) (sym hand) ∙ left))
