@@ -3,11 +3,11 @@ use Rattle.std.proofs.Common.{◌≡◌, ℕ, zero, suc, ◌+◌, ◌-◌, ◌*�
 use mathlib.Core.Logic.{dite}
 use mathlib.Core.List.{IsPrefix}
 use native.Mathlib.Decide.{ℕ_discrete}
-use Rattle.std.specs.Prelude.{Option, Some, None, slice_get, option_to_list, if◌then◌else◌, ◌==◌}
+use Rattle.std.specs.Prelude.{Option, Some, None, slice_get, option_to_list}
 use Rattle.std.proofs.lemmas.Option.{same_Some, slice_get_within}
 use Rattle.std.specs.Arc.{arc_value}
 use Rattle.fab_wire.specs.declared.moves.Move.{Move}
-use Rattle.fab_wire.specs.declared.moves.Move.TheVariants.{Post, Take}
+use Rattle.fab_wire.specs.declared.moves.Move.TheVariants.{Take}
 use Rattle.fab_wire.specs.Merged.{posts_to}
 use Rattle.fab_table.specs.declared.fabric.Fabric.{Fabric}
 use Rattle.fab_table.specs.declared.fabric.PeerSeat.{PeerSeat}
@@ -21,7 +21,7 @@ use Rattle.fab_table.specs.Seats.{IsOf, carried, view_of_seat}
 use Rattle.fab_table.proofs.Orders.{posts_append}
 use Rattle.fab_ring.proofs.Hold.{span_none}
 use Rattle.fab_ring.specs.declared.port.RingPort.{RingPort}
-use Rattle.fab_ring.specs.Hands.{shapes, span, held, held_of, Fits}
+use Rattle.fab_ring.specs.Hands.{shapes, held, held_of, Fits}
 use Rattle.fab_ring.specs.Ports.{part_of}
 use Rattle.fab_ring.specs.Gather.{AreAll, Released, IsPartOf, IsWhole}
 

@@ -1,10 +1,10 @@
 -- What was taken and what was posted, where one seat speaks for all peers.
-use Rattle.std.proofs.Common.{◌≡◌, ℕ, zero, suc, ◌+◌, ◌<◌, ◌≤◌, max, Bool, true, false, List, [], ◌∷◌, ◌++◌, map, length, take, drop, get_or, Vec, Global, sym, refl, ap, ◌∙◌, subst, arith, length-append, append_assoc, append-nil}
+use Rattle.std.proofs.Common.{◌≡◌, ℕ, zero, suc, ◌+◌, ◌<◌, ◌≤◌, max, true, List, [], ◌∷◌, ◌++◌, map, length, take, drop, get_or, Vec, Global, sym, refl, ap, ◌∙◌, subst, arith, length-append, append_assoc, append-nil}
 use mathlib.Core.Logic.{dite}
 use mathlib.Core.List.{IsPrefix, map-append}
 use native.Mathlib.Decide.{dec_lt}
 use lib.ListN.{length-map}
-use Rattle.std.specs.Prelude.{Option, Some, None, slice_get, slice_index_or, option_to_list, if◌then◌else◌, ◌==◌}
+use Rattle.std.specs.Prelude.{Option, Some, None, slice_get, slice_index_or, option_to_list}
 use Rattle.std.proofs.lemmas.List.{nil_from_length}
 use Rattle.std.proofs.lemmas.List.Elements.{All-from_get_or}
 use Rattle.std.proofs.lemmas.Option.{none-some, same_Some, slice_get_within}
