@@ -48,11 +48,11 @@ command_in : Command → List (ℕ × Slot) → Command
 command_in d [] = d
 command_in d (z ∷ zs) = command_or d z.1
 
-buffer_or : List ℕ → Slot → List ℕ
+pub buffer_or : List ℕ → Slot → List ℕ
 buffer_or d (Cell c) = d
 buffer_or d (Pool b) = b
 
-buffer_in : List ℕ → List (ℕ × Slot) → List ℕ
+pub buffer_in : List ℕ → List (ℕ × Slot) → List ℕ
 buffer_in d [] = d
 buffer_in d (z ∷ zs) = buffer_or d z.1
 
