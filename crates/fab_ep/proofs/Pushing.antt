@@ -1,5 +1,5 @@
 -- A push: all frames for a peer that may go are posted.
-use Rattle.std.proofs.Common.{◌⊎◌, inl, inr, ◌≡◌, ◌≤◌, ◌+◌, ◌-◌, min, ℕ, Bool, true, false, ◌&&◌, ◌||◌, List, [], ◌∷◌, ◌++◌, length, length-append, Some, None, Result, Ok, Err, refl, sym, ap, ◌∙◌, subst, arith}
+use Rattle.std.proofs.Common.{◌⊎◌, inl, inr, ◌≡◌, ◌≤◌, ◌+◌, ◌-◌, min, ℕ, Bool, true, false, ◌||◌, List, [], ◌∷◌, ◌++◌, length, length-append, Some, None, Result, Ok, Err, refl, sym, ap, ◌∙◌, subst, arith}
 use Rattle.std.specs.Prelude.{nat_le}
 use Rattle.std.specs.List.{list_any}
 use Rattle.std.proofs.lemmas.Bool.{and_from}
@@ -81,11 +81,6 @@ module _ {Home : Type 0} where
   places_of a b d (Ok HeldBack) tries places why = calm_places a b (let c = tries.0 in c.calm) places
   places_of a b d (Ok Short) tries places why = calm_places a b tries.0 places
   places_of a b d (Err why') tries places why = calm_places a b tries places
-
-  pub why_not : (a : Seen Home) (d : ℕ) (last tight : Bool) → (last && tight) ≡ false → (last ≡ false → (f : Frame) → next_frame a.held d ≡ Some f → is_last f.head ≡ false) → (tight ≡ false → length a.log + 3 ≤ a.log_size)
-      → (((f : Frame) → next_frame a.held d ≡ Some f → is_last f.head ≡ false) ⊎ (length a.log + 3 ≤ a.log_size))
-  why_not a d false tight is more room = inl (more refl)
-  why_not a d true tight is more room = inr (room is)
 
   -- ---- frame after frame
 

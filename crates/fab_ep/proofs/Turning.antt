@@ -70,6 +70,10 @@ or_either : (a b : Bool) → (a || b) ≡ true → (a ≡ true) ⊎ (b ≡ true)
 or_either true b is = inl refl
 or_either false b is = inr is
 
+-- the log was not short before, so it is short behind where it was short in this step
+was_short : (w n : Turn) (t : Tried) (b : Bool) → w.short ≡ false → n.short ≡ (w.short || is_short t) → n.short ≡ b → is_short t ≡ b
+was_short w n t b long short is = sym (short ∙ ap (λ s. s || is_short t) long) ∙ is
+
 module _ {Home : Type 0} where
   pub went_calm : (a e e1 : Seen Home) (acts : List Act) → Went None a e acts → Calm e e1 → Went None a e1 acts
   went_calm a e e1 acts went calm = subst (λ xs. Went None a e1 xs) (append-nil acts) (went_then None a e e1 acts [] went (went_none None e e1 calm.held calm.log calm.size calm.ported))
@@ -202,10 +206,9 @@ module _ {Home : Type 0} where
   }
 
   -- at its end
-  pub turned_to : (left : ℕ) (a e : Seen Home) (taken posted : ℕ) (held short : Bool) (ko ki : ℕ) → Turning a e taken posted held ko ki → taken + posted ≤ left
-      → (short ≡ true → IsShort e) → (short ≡ false → taken + posted ≡ 0 → (ko ≡ e.lanes.peers) × (ki ≡ e.lanes.peers))
-      → WentRound left a e (record { taken = taken; posted = posted; held = held; short = short })
-  turned_to left a e taken posted held short ko ki was most is_short all = record {
+  pub turned_to : (left : ℕ) (a e : Seen Home) (t : Turn) (ko ki : ℕ) → Turning a e t.taken t.posted t.held ko ki → t.taken + t.posted ≤ left
+      → (t.short ≡ true → IsShort e) → (t.short ≡ false → t.taken + t.posted ≡ 0 → (ko ≡ e.lanes.peers) × (ki ≡ e.lanes.peers)) → WentRound left a e t
+  turned_to left a e t ko ki was most is_short all = record {
     acts = was.acts;
     moves = was.moves;
     went = was.went;
@@ -214,40 +217,52 @@ module _ {Home : Type 0} where
     most = most;
     short = is_short;
     quiet = λ un none. (let ends = all un none in
-        let t : taken ≡ 0 = omega (arith, none) in
-        let p : posted ≡ 0 = omega (arith, none) in
-        subst (λ n. Turning a e n 0 held e.lanes.peers e.lanes.peers) t
-        (subst (λ n. Turning a e taken n held e.lanes.peers e.lanes.peers) p
-        (subst (λ n. Turning a e taken posted held n e.lanes.peers) ends.0
-        (subst (λ n. Turning a e taken posted held ko n) ends.1 was))));
+        let taken : t.taken ≡ 0 = omega (arith, none) in
+        let posted : t.posted ≡ 0 = omega (arith, none) in
+        subst (λ n. Turning a e n 0 t.held e.lanes.peers e.lanes.peers) taken
+        (subst (λ n. Turning a e t.taken n t.held e.lanes.peers e.lanes.peers) posted
+        (subst (λ n. Turning a e t.taken t.posted t.held n e.lanes.peers) ends.0
+        (subst (λ n. Turning a e t.taken t.posted t.held ko n) ends.1 was))));
   }
 
-  pub turned_short : (left : ℕ) (a e e1 : Seen Home) (taken posted t p ko ki : ℕ) (held held' : Bool) (m : ℕ) → Turning a e taken posted held ko ki → Calm e e1 → IsShort e → t ≡ taken → p ≡ posted
-      → taken + posted ≤ left → WentRound left a e1 (record { taken = t; posted = p; held = held'; short = true })
-  turned_short left a e e1 taken posted t p ko ki held held' m was calm short t_is p_is most = record {
+  -- ---- what a step counts: `w` is the turn before it, `n` the turn behind it
+
+  pub counted_out : (a e e1 : Seen Home) (w n : Turn) (k : ℕ) (t : Tried) → Turning a e w.taken w.posted w.held k k → TriesOut e e1 k (Ok t) → w.short ≡ false → n.short ≡ (w.short || is_short t) → n.short ≡ false
+      → n.posted ≡ w.posted + moved_one t → n.taken ≡ w.taken → n.held ≡ (w.held || is_held t) → Turning a e1 n.taken n.posted n.held (k + 1) k
+  counted_out a e e1 w n k t was tries long short is posted taken held = rw (posted, taken, held) (on_out a e e1 w.taken w.posted k w.held t was tries (was_short w n t false long short is))
+
+  pub counted_in : (a e e1 : Seen Home) (w n : Turn) (k : ℕ) (t : Tried) → Turning a e w.taken w.posted w.held (k + 1) k → TriesIn e e1 k (Ok t) → w.short ≡ false → n.short ≡ (w.short || is_short t) → n.short ≡ false
+      → n.taken ≡ w.taken + moved_one t → n.posted ≡ w.posted → n.held ≡ (w.held || is_held t) → Turning a e1 n.taken n.posted n.held (k + 1) (k + 1)
+  counted_in a e e1 w n k t was tries long short is taken posted held = rw (taken, posted, held) (on_in a e e1 w.taken w.posted k w.held t was tries (was_short w n t false long short is))
+
+  turned_short : (left : ℕ) (a e e1 : Seen Home) (w n : Turn) (ko ki : ℕ) → Turning a e w.taken w.posted w.held ko ki → Calm e e1 → IsShort e → n.short ≡ true → n.taken ≡ w.taken → n.posted ≡ w.posted
+      → w.taken + w.posted ≤ left → WentRound left a e1 n
+  turned_short left a e e1 w n ko ki was calm short is taken posted most = record {
     acts = was.acts;
     moves = was.moves;
     went = went_calm a e e1 was.acts was.went calm;
-    takes = was.takes ∙ sym t_is;
-    posts = was.posts ∙ sym p_is;
-    most = omega (arith, most, t_is, p_is);
-    short = λ is. rw (calm.log, calm.size) short;
-    quiet = λ un none. absurd (cc);
+    takes = was.takes ∙ sym taken;
+    posts = was.posts ∙ sym posted;
+    most = omega (arith, most, taken, posted);
+    short = λ yes. rw (calm.log, calm.size) short;
+    quiet = λ un none. absurd (let no : true ≡ false = sym is ∙ un in cc);
   }
 
-  pub out_short : (left : ℕ) (a e e1 : Seen Home) (taken posted k ko ki : ℕ) (held held' : Bool) (t : Tried) → Turning a e taken posted held ko ki → TriesOut e e1 k (Ok t) → is_short t ≡ true
-      → taken + posted ≤ left → WentRound left a e1 (record { taken = taken; posted = posted + moved_one t; held = held'; short = true })
-  out_short left a e e1 taken posted k ko ki held held' Short was tries is most = turned_short left a e e1 taken posted taken (posted + 0) ko ki held held' 0 was tries.0 tries.1 refl (omega arith) most
-  out_short left a e e1 taken posted k ko ki held held' Moved was tries is most = absurd (cc)
-  out_short left a e e1 taken posted k ko ki held held' Nothing was tries is most = absurd (cc)
-  out_short left a e e1 taken posted k ko ki held held' HeldBack was tries is most = absurd (cc)
+  pub out_short : (left : ℕ) (a e e1 : Seen Home) (w n : Turn) (k ko ki : ℕ) (t : Tried) → Turning a e w.taken w.posted w.held ko ki → TriesOut e e1 k (Ok t) → w.short ≡ false → n.short ≡ (w.short || is_short t) → n.short ≡ true
+      → n.posted ≡ w.posted + moved_one t → n.taken ≡ w.taken → w.taken + w.posted ≤ left → WentRound left a e1 n
+  out_short left a e e1 w n k ko ki Short was tries long short is posted taken most =
+      turned_short left a e e1 w n ko ki was tries.0 tries.1 is taken (let p : n.posted ≡ w.posted + 0 = posted in omega (arith, p)) most
+  out_short left a e e1 w n k ko ki Moved was tries long short is posted taken most = absurd (let no : false ≡ true = was_short w n Moved true long short is in cc)
+  out_short left a e e1 w n k ko ki Nothing was tries long short is posted taken most = absurd (let no : false ≡ true = was_short w n Nothing true long short is in cc)
+  out_short left a e e1 w n k ko ki HeldBack was tries long short is posted taken most = absurd (let no : false ≡ true = was_short w n HeldBack true long short is in cc)
 
-  pub in_short : (left : ℕ) (a e e1 : Seen Home) (taken posted k ko ki : ℕ) (held held' : Bool) (t : Tried) → Turning a e taken posted held ko ki → TriesIn e e1 k (Ok t) → is_short t ≡ true
-      → taken + posted ≤ left → WentRound left a e1 (record { taken = taken + moved_one t; posted = posted; held = held'; short = true })
-  in_short left a e e1 taken posted k ko ki held held' Short was tries is most = turned_short left a e e1 taken posted (taken + 0) posted ko ki held held' 0 was tries.0 tries.1 (omega arith) refl most
-  in_short left a e e1 taken posted k ko ki held held' Moved was tries is most = absurd (cc)
-  in_short left a e e1 taken posted k ko ki held held' Nothing was tries is most = absurd (cc)
-  in_short left a e e1 taken posted k ko ki held held' HeldBack was tries is most = absurd (cc)
+  pub in_short : (left : ℕ) (a e e1 : Seen Home) (w n : Turn) (k ko ki : ℕ) (t : Tried) → Turning a e w.taken w.posted w.held ko ki → TriesIn e e1 k (Ok t) → w.short ≡ false → n.short ≡ (w.short || is_short t) → n.short ≡ true
+      → n.taken ≡ w.taken + moved_one t → n.posted ≡ w.posted → w.taken + w.posted ≤ left → WentRound left a e1 n
+  in_short left a e e1 w n k ko ki Short was tries long short is taken posted most =
+      turned_short left a e e1 w n ko ki was tries.0 tries.1 is (let t : n.taken ≡ w.taken + 0 = taken in omega (arith, t)) posted most
+  in_short left a e e1 w n k ko ki Moved was tries long short is taken posted most = absurd (let no : false ≡ true = was_short w n Moved true long short is in cc)
+  in_short left a e e1 w n k ko ki Nothing was tries long short is taken posted most = absurd (let no : false ≡ true = was_short w n Nothing true long short is in cc)
+  in_short left a e e1 w n k ko ki HeldBack was tries long short is taken posted most = absurd (let no : false ≡ true = was_short w n HeldBack true long short is in cc)
 
   -- an exit by want of memory
   pub turning_err : (fixed : Bool) (left : ℕ) (a e e1 : Seen Home) (taken posted ko ki : ℕ) (held : Bool) → Turning a e taken posted held ko ki → Calm e e1 → taken + posted < left

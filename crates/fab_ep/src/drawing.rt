@@ -15,18 +15,6 @@ use fab_face::events::Event;
 use fab_face::machine::Machine;
 use fab_link::Port;
 
-/// Whether nothing moves before this refusal of a receive call.
-fn is_early(why: &Fault) -> bool
-    ensures { result ≡ is_early why.now }
-{
-    match why {
-        Fault::NotSupported => true,
-        Fault::MsgSize => true,
-        Fault::Invalid => true,
-        _ => false,
-    }
-}
-
 impl<P: Port, C: Machine> Endpoint<P, C> {
     /// Makes the draw that is due, where the log has two free places and the completion queue has room;
     /// whether it did.
@@ -48,19 +36,12 @@ impl<P: Port, C: Machine> Endpoint<P, C> {
         true
     }
 
-    /// Makes draws until none is due, or there is no room for one.
-    fn draw_on(&mut self)
-        ensures { Draws (seen P.Port self.old) (seen P.Port self.new) }
-    {
-        while self.draw_one() {}
-    }
-
     /// Makes the draws that are due, as far as there is room for them. Most often none is, and that is seen at once.
     pub(crate) fn draw_all(&mut self)
         ensures { Draws (seen P.Port self.old) (seen P.Port self.new) }
     {
         if self.core.is_draw_due() {
-            self.draw_on();
+            while self.draw_one() {}
         }
     }
 
@@ -69,8 +50,9 @@ impl<P: Port, C: Machine> Endpoint<P, C> {
         ensures early { is_early why.now ≡ true → self.new ≡ self.old }
         ensures draws { is_early why.now ≡ false → Draws (seen P.Port self.old) (seen P.Port self.new) }
     {
-        if !is_early(why) {
-            self.draw_all();
+        match why {
+            Fault::NotSupported | Fault::MsgSize | Fault::Invalid => {}
+            _ => self.draw_all(),
         }
     }
 

@@ -1,5 +1,5 @@
 //! An endpoint over any port: frames posted and taken, and progress.
-ghost use Rattle.std.specs.Prelude.{◌≡◌, ◌≢◌, None, ◌<◌, ◌≤◌, ◌+◌, ◌∷◌, ◌++◌, [], ℕ, Bool, true, false, ◌||◌, ◌&&◌, length, IfOk, IfErr, IfSome, IfNone, Ok, OnErr, Some};
+ghost use Rattle.std.specs.Prelude.{◌≡◌, ◌≢◌, None, ◌<◌, ◌≤◌, ◌+◌, ◌∷◌, ◌++◌, [], ℕ, Bool, true, false, ◌||◌, length, IfOk, IfErr, IfSome, IfNone, Ok, OnErr, Some};
 ghost use Rattle.std.specs.VecDeque.{deque_len, deque_capacity};
 ghost use Rattle.fab_base.specs.declared.frames.Frame.{Frame};
 ghost use Rattle.fab_wire.specs.Joined.{is_last};
@@ -10,7 +10,7 @@ ghost use Rattle.fab_face.specs.Answers.{IsShort, HasPlaces, Progressed};
 ghost use Rattle.fab_face.specs.Ports.{seen, IsFresh};
 ghost use Rattle.fab_face.specs.declared.events.Stop.TheVariants.{Budget};
 ghost use Rattle.fab_ep.specs.Draws.{Draws};
-ghost use Rattle.fab_ep.specs.Tries.{HeldStays, Pushes, PushesOut, PushesOn, PushesTo, IsTied, PostsOut, TriesOut, TriesIn, Rounds, Turns, has_moved, moved_one, is_held, is_short, left_for};
+ghost use Rattle.fab_ep.specs.Tries.{HeldStays, Pushes, PushesOut, PushesOn, PushesTo, IsTied, PostsOut, TriesOut, TriesIn, Rounds, Turns, moved_one, is_held, is_short, left_for};
 
 use crate::frames::post_next;
 use fab_base::{FRAME_BYTES, NoMemory};
@@ -38,6 +38,42 @@ pub struct Turn {
     pub(crate) posted: u32,
     pub(crate) held: bool,
     pub(crate) short: bool,
+}
+
+impl Turn {
+    ghost use Rattle.std.specs.Prelude.{◌^◌};
+
+    /// Counts what came of a frame that was to be posted.
+    fn count_out(&mut self, tried: Tried)
+        requires { self.old.posted + 1 < 2 ^ 32 }
+        ensures posted { self.new.posted ≡ self.old.posted + moved_one tried }
+        ensures taken { self.new.taken ≡ self.old.taken }
+        ensures held { self.new.held ≡ (self.old.held || is_held tried) }
+        ensures short { self.new.short ≡ (self.old.short || is_short tried) }
+    {
+        match tried {
+            Tried::Moved => self.posted += 1,
+            Tried::Nothing => {}
+            Tried::Held => self.held = true,
+            Tried::Short => self.short = true,
+        }
+    }
+
+    /// Counts what came of a frame that was to be taken.
+    fn count_in(&mut self, tried: Tried)
+        requires { self.old.taken + 1 < 2 ^ 32 }
+        ensures taken { self.new.taken ≡ self.old.taken + moved_one tried }
+        ensures posted { self.new.posted ≡ self.old.posted }
+        ensures held { self.new.held ≡ (self.old.held || is_held tried) }
+        ensures short { self.new.short ≡ (self.old.short || is_short tried) }
+    {
+        match tried {
+            Tried::Moved => self.taken += 1,
+            Tried::Nothing => {}
+            Tried::Held => self.held = true,
+            Tried::Short => self.short = true,
+        }
+    }
 }
 
 /// An endpoint over a port, with the machine that keeps its state.
@@ -80,54 +116,6 @@ fn log_if(log: &mut VecDeque<Event>, logs: bool, event: Event)
     if logs {
         log.push_back_reserved(event);
     }
-}
-
-fn moved_one(tried: &Tried) -> u32
-    ensures { result ≡ moved_one tried.now }
-{
-    match tried {
-        Tried::Moved => 1,
-        _ => 0,
-    }
-}
-
-pub(crate) fn has_moved(tried: &Tried) -> bool
-    ensures { result ≡ has_moved tried.now }
-{
-    match tried {
-        Tried::Moved => true,
-        _ => false,
-    }
-}
-
-fn is_held(tried: &Tried) -> bool
-    ensures { result ≡ is_held tried.now }
-{
-    match tried {
-        Tried::Held => true,
-        _ => false,
-    }
-}
-
-fn was_short(tried: &Tried) -> bool
-    ensures { result ≡ is_short tried.now }
-{
-    match tried {
-        Tried::Short => true,
-        _ => false,
-    }
-}
-
-pub(crate) fn either(a: bool, b: bool) -> bool
-    ensures { result ≡ (a || b) }
-{
-    a || b
-}
-
-fn both(a: bool, b: bool) -> bool
-    ensures { result ≡ (a && b) }
-{
-    a && b
 }
 
 impl<P: Port, C: Machine> Endpoint<P, C> {
@@ -245,7 +233,7 @@ impl<P: Port, C: Machine> Endpoint<P, C> {
     {
         let tight = self.is_tight();
         let last = self.next_is_last(dest);
-        if both(last, tight) {
+        if last && tight {
             return Ok(Tried::Held);
         }
         self.post_one(dest)
@@ -265,8 +253,8 @@ impl<P: Port, C: Machine> Endpoint<P, C> {
     {
         self.core.known();
         let tried = self.push_one(dest)?;
-        let moved = has_moved(&tried);
-        self.pushed = either(self.pushed, moved);
+        let moved = tried == Tried::Moved;
+        self.pushed |= moved;
         Ok(moved)
     }
 
@@ -340,55 +328,28 @@ impl<P: Port, C: Machine> Endpoint<P, C> {
         ensures pushed { self.new.pushed ≡ self.old.pushed }
     {
         let peers = self.port.peers();
-        let mut taken = 0;
-        let mut posted = 0;
-        let mut held = false;
+        let mut turn = Turn {
+            taken: 0,
+            posted: 0,
+            held: false,
+            short: false,
+        };
         for peer in 0..peers {
-            if left <= taken + posted {
-                return Ok(Turn {
-                    taken,
-                    posted,
-                    held,
-                    short: false,
-                });
+            if left <= turn.taken + turn.posted {
+                return Ok(turn);
             }
             let out = self.post_one(peer)?;
-            posted += moved_one(&out);
-            held = either(held, is_held(&out));
-            if was_short(&out) {
-                return Ok(Turn {
-                    taken,
-                    posted,
-                    held,
-                    short: true,
-                });
-            }
-            if left <= taken + posted {
-                return Ok(Turn {
-                    taken,
-                    posted,
-                    held,
-                    short: false,
-                });
+            turn.count_out(out);
+            if turn.short || left <= turn.taken + turn.posted {
+                return Ok(turn);
             }
             let came = self.take_one(peer)?;
-            taken += moved_one(&came);
-            held = either(held, is_held(&came));
-            if was_short(&came) {
-                return Ok(Turn {
-                    taken,
-                    posted,
-                    held,
-                    short: true,
-                });
+            turn.count_in(came);
+            if turn.short {
+                return Ok(turn);
             }
         }
-        Ok(Turn {
-            taken,
-            posted,
-            held,
-            short: false,
-        })
+        Ok(turn)
     }
 
     /// One turn: the draws that are due, as far as there is room for them, and then a round of frames.
@@ -407,13 +368,9 @@ impl<P: Port, C: Machine> Endpoint<P, C> {
             });
         }
         let due = self.core.is_draw_due();
-        let round = self.round(left)?;
-        Ok(Turn {
-            taken: round.taken,
-            posted: round.posted,
-            held: either(round.held, due),
-            short: round.short,
-        })
+        let mut turn = self.round(left)?;
+        turn.held |= due;
+        Ok(turn)
     }
 
     /// The budget is spent. The draws that are due are made, as far as there is room for them.

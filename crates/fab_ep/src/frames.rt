@@ -1,5 +1,5 @@
 //! One frame posted over any port: what a transmit call and progress do again and again.
-ghost use Rattle.std.specs.Prelude.{◌≡◌, ◌≢◌, ◌<◌, ◌≤◌, ◌∷◌, [], Ok, true, false, Some, OnErr, min};
+ghost use Rattle.std.specs.Prelude.{◌≡◌, ◌≢◌, ◌<◌, ◌≤◌, ◌∷◌, [], Ok, true, false, Some, OnErr};
 ghost use Rattle.fab_link.specs.Meaning.{Others, Repays, end_of};
 ghost use Rattle.fab_wire.specs.Cut.{IsItem};
 ghost use Rattle.fab_wire.specs.Frames.{IsSound};
@@ -12,12 +12,6 @@ ghost use Rattle.fab_face.specs.Answers.{SawFull};
 use fab_base::{FRAME_BYTES, FrameHead, NoMemory};
 use fab_face::machine::Next;
 use fab_link::{Port, PostRefused};
-
-fn least(a: u32, b: u32) -> u32
-    ensures { result ≡ min a b }
-{
-    if a < b { a } else { b }
-}
 
 /// Posts the next frame of an item of which so many bytes are posted. False where the port refused it.
 #[tactic(auto, using(fab_face::proofs::Joining::moved_same))]
@@ -41,7 +35,7 @@ pub fn post_next<P: Port>(
     ensures others { Others dest (P.outs port.old) (P.outs port.new) }
     ensures memory { OnErr result (P.FIXED ≢ true) }
 {
-    let len = least(FRAME_BYTES, item.head.total - place);
+    let len = FRAME_BYTES.min(item.head.total - place);
     let bytes = item.bytes;
     let start = place as usize;
     let end = start + len as usize;

@@ -1,7 +1,6 @@
 //! Unexpected messages looked at, and set aside (FI_PEEK, FI_CLAIM and FI_DISCARD of fi_tagged(3)). None of
 //! these calls takes memory.
 ghost use Rattle.std.specs.Prelude.{◌≡◌, IfErr, OnOk};
-ghost use Rattle.fab_model.specs.Calls.{TakeClaimed, DropClaimed};
 ghost use Rattle.fab_face.specs.Answers.{Receives, ReceivesNot};
 ghost use Rattle.fab_face.specs.Looking.{looking};
 ghost use Rattle.fab_face.specs.Ports.{seen};
@@ -24,40 +23,6 @@ impl<P: Port, C: Looking> Endpoint<P, C> {
         self.draw_before()?;
         self.core.known();
         self.core.look(look)?;
-        self.log_received();
-        Ok(())
-    }
-
-    /// Receives the message claimed under the context.
-    fn take_aside(&mut self, buf: Buf, ctx: u64) -> Result<(), Refused>
-        ensures ok { OnOk result (Receives (TakeClaimed buf ctx) (seen P.Port self.old) (seen P.Port self.new)) }
-        ensures err { IfErr result (λ r. (r.buf ≡ buf) × ReceivesNot (TakeClaimed buf ctx) (seen P.Port self.old) (seen P.Port self.new) r.why) }
-    {
-        if let Some(why) = self.core.take_fault(&buf, ctx) {
-            self.draw_unless_early(&why);
-            return Err(Refused { why, buf });
-        }
-        if let Err(why) = self.draw_before() {
-            return Err(Refused { why, buf });
-        }
-        self.core.known();
-        self.core.take_claimed(buf, ctx)?;
-        self.log_received();
-        Ok(())
-    }
-
-    /// Throws the message away that is claimed under the context.
-    fn drop_aside(&mut self, ctx: u64) -> Result<(), Fault>
-        ensures ok { OnOk result (Receives (DropClaimed ctx) (seen P.Port self.old) (seen P.Port self.new)) }
-        ensures err { IfErr result (λ why. ReceivesNot (DropClaimed ctx) (seen P.Port self.old) (seen P.Port self.new) why) }
-    {
-        if let Some(why) = self.core.drop_fault(ctx) {
-            self.draw_unless_early(&why);
-            return Err(why);
-        }
-        self.draw_before()?;
-        self.core.known();
-        self.core.drop_claimed(ctx)?;
         self.log_received();
         Ok(())
     }
@@ -104,10 +69,28 @@ impl<P: Port, C: Looking> Looks for Endpoint<P, C> {
     }
 
     fn take(&mut self, buf: Buf, ctx: u64) -> Result<(), Refused> {
-        self.take_aside(buf, ctx)
+        if let Some(why) = self.core.take_fault(&buf, ctx) {
+            self.draw_unless_early(&why);
+            return Err(Refused { why, buf });
+        }
+        if let Err(why) = self.draw_before() {
+            return Err(Refused { why, buf });
+        }
+        self.core.known();
+        self.core.take_claimed(buf, ctx)?;
+        self.log_received();
+        Ok(())
     }
 
     fn drop_claimed(&mut self, ctx: u64) -> Result<(), Fault> {
-        self.drop_aside(ctx)
+        if let Some(why) = self.core.drop_fault(ctx) {
+            self.draw_unless_early(&why);
+            return Err(why);
+        }
+        self.draw_before()?;
+        self.core.known();
+        self.core.drop_claimed(ctx)?;
+        self.log_received();
+        Ok(())
     }
 }

@@ -1,33 +1,9 @@
 //! Buffers for many untagged messages (FI_MULTI_RECV of fi_msg(3)). None of these calls takes memory.
-ghost use Rattle.std.specs.Prelude.{◌≡◌, IfErr, OnOk};
-ghost use Rattle.fab_face.specs.Answers.{Receives, ReceivesNot};
-ghost use Rattle.fab_face.specs.Multis.{multi_asking};
-ghost use Rattle.fab_face.specs.Ports.{seen};
-
 use crate::endpoint::Endpoint;
 use fab_base::{Buf, Refused};
 use fab_face::calls::Multis;
 use fab_face::multis::{MultiAsk, MultiReceiving};
 use fab_link::Port;
-
-impl<P: Port, C: MultiReceiving> Endpoint<P, C> {
-    /// Posts a buffer for many messages. What it matches already is drawn at once, as far as there is room.
-    fn post_many(&mut self, ask: &MultiAsk, buf: Buf) -> Result<(), Refused>
-        ensures ok { OnOk result (Receives (multi_asking ask.now buf) (seen P.Port self.old) (seen P.Port self.new)) }
-        ensures err { IfErr result (λ r. (r.buf ≡ buf) × ReceivesNot (multi_asking ask.now buf) (seen P.Port self.old) (seen P.Port self.new) r.why) }
-    {
-        if let Some(why) = self.core.multi_fault(ask, &buf) {
-            return Err(Refused { why, buf });
-        }
-        if let Err(why) = self.draw_before() {
-            return Err(Refused { why, buf });
-        }
-        self.core.known();
-        self.core.post_multi(ask, buf)?;
-        self.log_received();
-        Ok(())
-    }
-}
 
 impl<P: Port, C: MultiReceiving> Multis for Endpoint<P, C> {
     fn sharing(&self) {
@@ -42,7 +18,16 @@ impl<P: Port, C: MultiReceiving> Multis for Endpoint<P, C> {
         ctx: u64,
     ) -> Result<(), Refused> {
         let ask = MultiAsk { source, least, ctx };
-        self.post_many(&ask, buf)
+        if let Some(why) = self.core.multi_fault(&ask, &buf) {
+            return Err(Refused { why, buf });
+        }
+        if let Err(why) = self.draw_before() {
+            return Err(Refused { why, buf });
+        }
+        self.core.known();
+        self.core.post_multi(&ask, buf)?;
+        self.log_received();
+        Ok(())
     }
 
     fn multi_bytes(&self, ctx: u64, at: u32, len: u32) -> Option<&[u8]> {

@@ -14,7 +14,7 @@ ghost use Rattle.fab_face.specs.Held.{next_frame, next_item};
 ghost use Rattle.fab_ep.specs.Tries.{left_for};
 ghost use Rattle.fab_ep.specs.Sends.{Admits, LetsOutOne, LetsOut, IsOnly, IsFree, logging};
 
-use crate::endpoint::{Endpoint, either, has_moved, is_short};
+use crate::endpoint::{Endpoint, Tried, is_short};
 use fab_base::{Buf, Busy, Fault, Flags, Level, Refused};
 use fab_face::calls::Messages;
 use fab_face::events::Event;
@@ -76,8 +76,8 @@ impl<P: Port, C: Machine> Endpoint<P, C> {
         let Ok(tried) = self.post_here(dest) else {
             return false;
         };
-        let moved = has_moved(&tried);
-        self.pushed = either(self.pushed, moved);
+        let moved = tried == Tried::Moved;
+        self.pushed |= moved;
         moved
     }
 

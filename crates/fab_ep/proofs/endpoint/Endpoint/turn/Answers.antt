@@ -11,13 +11,13 @@ returns-then-is_short-clause-turns g c =
     let short : IsShort b = rw (← c.self.view_is) (c.is_short.ensures.short c.if-is_short.true) in
     turn_short c.args.left (seen g.P.Port c.args.self.now) b c.draw_all.ensures short
 
-pub returns-in_err-round-clause-turns : goal.returns-in_err-round-clause-turns
-returns-in_err-round-clause-turns g c =
-    turn_err g.P.Port.FIXED c.args.left (seen g.P.Port c.args.self.now) (seen g.P.Port c.draw_all.new.self) (seen g.P.Port c.round.new.self) c.from_residual.result c.in_err-round.field-0.0 (search rules) c.draw_all.ensures c.in_err-round.ensures.rounds
+pub returns-in_err-turn-clause-turns : goal.returns-in_err-turn-clause-turns
+returns-in_err-turn-clause-turns g c =
+    turn_err g.P.Port.FIXED c.args.left (seen g.P.Port c.args.self.now) (seen g.P.Port c.draw_all.new.self) (seen g.P.Port c.round.new.self) c.from_residual.result c.in_err-turn.field-0.0 (search rules) c.draw_all.ensures c.in_err-turn.ensures.rounds
 
 pub returns-clause-turns : goal.returns-clause-turns
 returns-clause-turns g c =
     let b = seen g.P.Port c.draw_all.new.self in
     let places : HasPlaces b = rw (← c.self.view_is) (c.is_short.ensures.room c.if-is_short.false) in
     let due : c.is_draw_due-due.result ≡ draw_due b.held.state.rx = rw (← c.self.view_is) c.is_draw_due-due.ensures in
-    rw c.either.ensures (turned_round c.args.left (seen g.P.Port c.args.self.now) b (seen g.P.Port c.round.new.self) c.is_draw_due-due.result c.in_ok-round.round c.draw_all.ensures places due c.in_ok-round.ensures.rounds)
+    turned_round c.args.left (seen g.P.Port c.args.self.now) b (seen g.P.Port c.round.new.self) c.is_draw_due-due.result c.in_ok-turn.turn c.draw_all.ensures places due c.in_ok-turn.ensures.rounds

@@ -1,11 +1,10 @@
-use Rattle.std.proofs.Common.{rules, ◌≡◌, refl, false}
+use Rattle.std.proofs.Common.{rules, ◌≡◌, refl, false, Some}
 use Rattle.fab_model.specs.Calls.{do_call}
-use Rattle.fab_face.specs.Answers.{is_final}
-use Rattle.fab_face.specs.Multis.{multi_asking}
+use Rattle.fab_face.specs.Answers.{is_final, receive_call}
 use Rattle.fab_face.specs.Ports.{seen}
 use Rattle.fab_ep.proofs.Answering.{crowded_out, if_err, posts_ours, received, refused_by, refused_early, still_granted, tied_received}
 use Rattle.fab_ep.proofs.Lasting.{posts_early, posts_last}
-use Rattle.fab_ep.proofs.endpoint.Endpoint.post_many.Goals as goal
+use Rattle.fab_ep.proofs.multis.EndpointMultis.recv_multi.Goals as goal
 
 pub returns-in-Some-clause-err : goal.returns-in-Some-clause-err
 returns-in-Some-clause-err g c =
@@ -13,20 +12,20 @@ returns-in-Some-clause-err g c =
 
 pub returns-in-Err-clause-err : goal.returns-in-Err-clause-err
 returns-in-Err-clause-err g c =
-    let call = multi_asking c.args.ask.now c.args.buf in
+    let call = receive_call false c.args.source 0 0 c.args.buf (Some c.args.least) c.args.ctx in
     let granted : is_final (do_call c.args.self.now.held.state call).0 ≡ false = rw (← c.self.view_is) c.in_default.ensures.none in
     (refl, crowded_out call (seen g.P.Port c.args.self.now) _ _ (posts_last _) c.draw_before.ensures.draws granted c.in-Err.ensures.err.0 c.in-Err.ensures.err.1)
 
 pub post_multi-requires : goal.post_multi-requires
 post_multi-requires g c =
-    let call = multi_asking c.args.ask.now c.args.buf in
+    let call = receive_call false c.args.source 0 0 c.args.buf (Some c.args.least) c.args.ctx in
     let granted : is_final (do_call c.args.self.now.held.state call).0 ≡ false = rw (← c.self.view_is) c.in_default.ensures.none in
     let then = still_granted call (seen g.P.Port c.args.self.now) (seen g.P.Port c.draw_before.new.self) (posts_last _) c.draw_before.ensures.draws granted in
     record { granted = rw (← c.self-2.view_is) at then }
 
 pub returns-in_err-post_multi-clause-err : goal.returns-in_err-post_multi-clause-err
 returns-in_err-post_multi-clause-err g c =
-    let call = multi_asking c.args.ask.now c.args.buf in
+    let call = receive_call false c.args.source 0 0 c.args.buf (Some c.args.least) c.args.ctx in
     let granted : is_final (do_call c.args.self.now.held.state call).0 ≡ false = rw (← c.self.view_is) c.in_default.ensures.none in
     let then = still_granted call (seen g.P.Port c.args.self.now) (seen g.P.Port c.draw_before.new.self) (posts_last _) c.draw_before.ensures.draws granted in
     if_err _ c.from_residual.result c.in_err-post_multi.field-0.0 (search rules) (

@@ -6,7 +6,7 @@ use Rattle.fab_face.specs.Ports.{seen}
 use Rattle.fab_ep.proofs.Answering.{crowded_out, if_err, received, refused_by, refused_last, still_granted, tied_received}
 use Rattle.fab_ep.proofs.Lasting.{drops_last, drops_persist}
 use Rattle.fab_ep.proofs.Looks.{drops_ours}
-use Rattle.fab_ep.proofs.endpoint.Endpoint.drop_aside.Goals as goal
+use Rattle.fab_ep.proofs.looking.EndpointLooks.drop_claimed.Goals as goal
 
 pub returns-in-Some-clause-err : goal.returns-in-Some-clause-err
 returns-in-Some-clause-err g c =

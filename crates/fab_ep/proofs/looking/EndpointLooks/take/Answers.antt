@@ -6,7 +6,7 @@ use Rattle.fab_face.specs.Ports.{seen}
 use Rattle.fab_ep.proofs.Answering.{crowded_out, if_err, received, refused_by, refused_last, still_granted, tied_received}
 use Rattle.fab_ep.proofs.Lasting.{takes_last, takes_persist}
 use Rattle.fab_ep.proofs.Looks.{takes_ours}
-use Rattle.fab_ep.proofs.endpoint.Endpoint.take_aside.Goals as goal
+use Rattle.fab_ep.proofs.looking.EndpointLooks.take.Goals as goal
 
 pub returns-in-Some-clause-err : goal.returns-in-Some-clause-err
 returns-in-Some-clause-err g c =

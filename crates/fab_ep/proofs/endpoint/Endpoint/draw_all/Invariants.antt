@@ -1,7 +1,7 @@
 use Rattle.std.proofs.Common.{length}
 use Rattle.fab_face.specs.Ports.{seen}
 use Rattle.fab_ep.specs.Draws.{Drawing}
-use Rattle.fab_ep.proofs.endpoint.Endpoint.draw_on.Given as goal
+use Rattle.fab_ep.proofs.endpoint.Endpoint.draw_all.Given as goal
 
 abbrev pub invariant-loop : goal.invariant-loop
 invariant-loop g l = record { drawing : Drawing (seen g.P.Port l.fn.self) (seen g.P.Port l.self) }
