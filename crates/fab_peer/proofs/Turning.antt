@@ -23,6 +23,10 @@ pub or_true : (b : Bool) → (b || true) ≡ true
 or_true true = refl
 or_true false = refl
 
+or_or : (a b c : Bool) → ((a || b) || c) ≡ (a || (b || c))
+or_or true b c = refl
+or_or false b c = refl
+
 module _ {Home : Type 0} where
   -- a line that was not done ends the lines
   pub lines_end : (a b c : Told Home) (acts : List Act) (moved done more all : Bool) → (IsCounted (living_of a) → IsCounted (living_of b)) → Lived a b acts → moved ≡ is_some_act acts → b.lines ≡ a.lines
@@ -88,18 +92,18 @@ module _ {Home : Type 0} where
         }
 
     -- lines, progress and reads are a lap
-    pub lap_gone : IsRead a.seen → IsRead d.seen → moved ≡ (done || (went || again)) → Gone a d moved
+    pub lap_gone : IsRead a.seen → IsRead d.seen → moved ≡ ((done || went) || again) → Gone a d moved
     unfolding lap_acts
     lap_gone read_a read_d is = record {
       acts = lap_acts;
       lived = lived_then a b d l.acts (m.acts ++ s.acts) l.lived (lived_then b c d m.acts s.acts m.lived s.lived);
-      moved_is = is ∙ ap (λ x. x || (went || again)) l.moved_is ∙ ap (λ x. is_some_act l.acts || (x || again)) m.moved_is ∙ ap (λ x. is_some_act l.acts || (is_some_act m.acts || x)) s.any_is
+      moved_is = is ∙ or_or done went again ∙ ap (λ x. x || (went || again)) l.moved_is ∙ ap (λ x. is_some_act l.acts || (x || again)) m.moved_is ∙ ap (λ x. is_some_act l.acts || (is_some_act m.acts || x)) s.any_is
           ∙ ap (λ x. is_some_act l.acts || x) (sym (some_append m.acts s.acts)) ∙ sym (some_append l.acts (m.acts ++ s.acts));
       log = s.log ∙ m.log;
       lines = s.lines ∙ m.lines ∙ l.lines;
       read = read_d;
       counted = λ c. s.counted (m.counted (l.counted c));
-      still = λ none. lap_still read_a read_d (sym is ∙ none);
+      still = λ none. lap_still read_a read_d (sym (is ∙ or_or done went again) ∙ none);
     }
 
   -- what a part of a turn did and saw, behind what was done before

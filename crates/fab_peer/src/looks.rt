@@ -6,7 +6,7 @@ ghost use Rattle.fab_face.specs.Answers.{Receives, ReceivesNot};
 ghost use Rattle.fab_peer.specs.Looks.{look_line};
 
 use crate::calls::LineCalls;
-use crate::peer::{Outcome, Peer, either, why_of};
+use crate::peer::{Outcome, Peer, why_of};
 use fab_base::{Buf, Fault, LineOp, NoMemory, PeekHow};
 use fab_face::calls::Looks;
 

@@ -1,5 +1,5 @@
 //! A peer over any endpoint: it does its lines, in turns.
-ghost use Rattle.std.specs.Prelude.{◌≡◌, ◌≢◌, ◌<◌, ◌||◌, ◌^◌, length, ℕ, Some, None, Ok, Err, IfOk, OnOk, OnErr, IfSome, IfNone, is_some, nat_lt, ◌+◌, [], true, false, Bool};
+ghost use Rattle.std.specs.Prelude.{◌≡◌, ◌≢◌, ◌<◌, ◌||◌, ◌^◌, length, ℕ, Some, None, Ok, Err, IfOk, OnOk, OnErr, IfSome, IfNone, is_some, ◌+◌, [], true, false, Bool};
 ghost use Rattle.fab_base.specs.declared.script.LineOp.TheVariants.{Wait, Recv, TRecv, MRecv, Send, TSend, Inject, TInject, Cancel};
 ghost use Rattle.fab_base.specs.declared.script.BytesWord.{BytesWord};
 ghost use Rattle.fab_base.specs.declared.faults.Fault.TheVariants.{NoMemory as LacksMemory};
@@ -70,18 +70,6 @@ pub(crate) fn why_of(answer: Result<(), Refused>) -> Result<(), Fault>
     }
 }
 
-pub(crate) fn either(a: bool, b: bool) -> bool
-    ensures { result ≡ (a || b) }
-{
-    a || b
-}
-
-fn is_above_zero(a: u32) -> bool
-    ensures { result ≡ nat_lt 0 a }
-{
-    a > 0
-}
-
 /// How many laps in a row moved nothing. From some on, other threads run before the next.
 fn in_vain(before: u32, moved: bool) -> u32
     requires { before + 1 < 2 ^ 32 }
@@ -118,10 +106,11 @@ impl<E: LineCalls> Peer<E> {
         }
     }
 
-    /// The same, with the buffers of the lines' calls, and with room for the results and the completions. Buffers are made, those
-    /// of sends with their bytes, until the sends' have more bytes together than a file may have, and the others' as many. That
-    /// room is written once, since a page of memory comes with the first write to it: so doing the lines takes little memory
-    /// besides. Want of memory lets the endpoint and the lines go.
+    /// The same, with the buffers of the lines' calls, and with room for the results and the completions. The buffers of sends
+    /// are made with their bytes, until they have more bytes together than a file may have: at most one message more. The
+    /// others are made while they have no more bytes together than a file may have. That room is written once, since a page of
+    /// memory comes with the first write to it: so doing the lines takes little memory besides. Want of memory lets the endpoint
+    /// and the lines go.
     pub fn with_buffers(alloc: Global, endpoint: E, lines: Vec<Line>) -> Result<Peer<E>, NoMemory>
     where
         E: Drop,
@@ -189,7 +178,7 @@ impl<E: LineCalls> Peer<E> {
         let pushed = self.endpoint.pushed();
         Ok(Outcome {
             done,
-            moved: either(done, pushed),
+            moved: done | pushed,
         })
     }
 
@@ -202,7 +191,7 @@ impl<E: LineCalls> Peer<E> {
         let done = self.answered(answer)?;
         Ok(Outcome {
             done,
-            moved: either(done, drew),
+            moved: done | drew,
         })
     }
 
@@ -546,7 +535,7 @@ impl<E: LineCalls> Peer<E> {
         let mut moved = false;
         for round in 0..16_u32 {
             let outcome = self.do_line()?;
-            moved = either(moved, outcome.moved);
+            moved |= outcome.moved;
             if !outcome.done {
                 return Ok(moved);
             }
@@ -563,9 +552,9 @@ impl<E: LineCalls> Peer<E> {
         let moved = self.endpoint.progress(64)?;
         self.endpoint.known();
         let logged = self.drain()?;
-        let took = is_above_zero(moved.taken);
-        let posted = is_above_zero(moved.posted);
-        Ok(either(either(took, posted), logged))
+        let took = moved.taken > 0;
+        let posted = moved.posted > 0;
+        Ok(took | posted | logged)
     }
 
     /// Does lines, where something moved before that they may have waited for. Whether anything moved.
@@ -590,7 +579,7 @@ impl<E: LineCalls> Peer<E> {
         let done = self.more_lines(wanted)?;
         let went = self.go_on()?;
         let again = self.read_all()?;
-        Ok(either(done, either(went, again)))
+        Ok(done | went | again)
     }
 
     /// Makes a lap, and then more of them until so many in a row moved nothing, or 1,024 more are made. Whether anything
@@ -610,7 +599,7 @@ impl<E: LineCalls> Peer<E> {
                 return Ok(moved);
             }
             last = self.lap(last)?;
-            moved = either(moved, last);
+            moved |= last;
             vain = in_vain(vain, last);
         }
         Ok(moved)
@@ -629,7 +618,7 @@ impl<E: LineCalls> Peer<E> {
         let read = self.read_all()?;
         let went = self.laps(looks)?;
         self.endpoint.known();
-        Ok(either(read, went))
+        Ok(read | went)
     }
 
     /// A turn of the peer: it reads all completions, does up to 16 lines and reads after each, makes progress with up to

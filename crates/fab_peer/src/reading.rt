@@ -72,19 +72,13 @@ fn place_hands_back(place: &Option<Kept>, ctx: u64) -> bool
     }
 }
 
-fn count_places(places: &[Option<Kept>], ctx: u64) -> usize
-    ensures { result ≡ count_by (passes (hands_back ctx)) places.now }
-{
-    places
-        .iter()
-        .filter(|place| place_hands_back(place, ctx))
-        .count()
-}
-
 fn count_kept(kept: &KeptList, ctx: u64) -> usize
     ensures { result ≡ count_by (hands_back ctx) kept.now }
 {
-    count_places(kept.places(), ctx)
+    kept.places()
+        .iter()
+        .filter(|place| place_hands_back(place, ctx))
+        .count()
 }
 
 fn count_waited(results: &[LineResult], ctx: u64) -> usize

@@ -5,7 +5,7 @@ ghost use Rattle.fab_base.specs.declared.script.LineOp.TheVariants.{Read, Write,
 ghost use Rattle.fab_model.specs.Calls.{fetched, word_bytes};
 
 use crate::calls::LineCalls;
-use crate::peer::{Outcome, Peer, either, why_of};
+use crate::peer::{Outcome, Peer, why_of};
 use fab_base::{AtomicOp, Buf, Flags, Level, LineOp, NoMemory, Num};
 
 /// How many bytes a fetch asks for: as many as its operand has, or those of so many elements where it has none.

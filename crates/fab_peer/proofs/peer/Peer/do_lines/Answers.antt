@@ -9,8 +9,8 @@ returns-then-not-outcome g c =
     let seen = g.E.Sees.seen in
     let inv = c.loop-round.invariant in
     let o = c.in_ok-outcome.outcome in
-    lines_end (told seen c.args.self.now) (told seen c.loop-round.self) (told seen c.do_line.new.self) inv.lived.0 c.loop-round.moved o.done o.moved c.either-moved.result
-    (λ before. inv.counted) inv.lived.1 inv.lived.2 inv.lines c.in_ok-outcome.ensures (not_true o.done c.if-not-outcome.true) c.either-moved.ensures
+    lines_end (told seen c.args.self.now) (told seen c.loop-round.self) (told seen c.do_line.new.self) inv.lived.0 c.loop-round.moved o.done o.moved (c.loop-round.moved || o.moved)
+    (λ before. inv.counted) inv.lived.1 inv.lived.2 inv.lines c.in_ok-outcome.ensures (not_true o.done c.if-not-outcome.true) refl
 
 pub loop-round-preserved : goal.loop-round-preserved
 loop-round-preserved g c =
@@ -21,12 +21,12 @@ loop-round-preserved g c =
     let was : o.done ≡ true = not_false o.done c.if-not-outcome.false in
     let read = c.in_ok-read_all.ensures.on in
     record {
-      lived = lines_go_on (told seen c.args.self.now) (told seen c.loop-round.self) (told seen c.do_line.new.self) (told seen c.read_all.new.self) inv.lived.0 c.loop-round.moved o.done o.moved c.either-moved.result
-          c.in_ok-read_all.field-0 inv.lived.1 inv.lived.2 went was c.either-moved.ensures read;
+      lived = lines_go_on (told seen c.args.self.now) (told seen c.loop-round.self) (told seen c.do_line.new.self) (told seen c.read_all.new.self) inv.lived.0 c.loop-round.moved o.done o.moved (c.loop-round.moved || o.moved)
+          c.in_ok-read_all.field-0 inv.lived.1 inv.lived.2 went was refl read;
       log = read.log ∙ went.log;
       counted = read.counted (went.counted inv.counted);
       lines = read.lines ∙ went.lines ∙ inv.lines;
-      moved = λ below. c.either-moved.ensures ∙ ap (λ x. c.loop-round.moved || x) (went.is_done was) ∙ or_true c.loop-round.moved;
+      moved = λ below. ap (λ x. c.loop-round.moved || x) (went.is_done was) ∙ or_true c.loop-round.moved;
     }
 
 pub read_all-requires : goal.read_all-requires

@@ -1,4 +1,4 @@
-use Rattle.std.proofs.Common.{◌||◌, ap, ◌∙◌}
+use Rattle.std.proofs.Common.{◌||◌, refl}
 use Rattle.fab_peer.specs.Turns.{told}
 use Rattle.fab_peer.proofs.Turning.{lap_gone}
 use Rattle.fab_peer.proofs.peer.Peer.lap.Goals as goal
@@ -6,8 +6,8 @@ use Rattle.fab_peer.proofs.peer.Peer.lap.Goals as goal
 pub returns : goal.returns
 returns g c =
     let seen = g.E.Sees.seen in
-    lap_gone (told seen c.args.self.now) (told seen c.more_lines.new.self) (told seen c.go_on.new.self) (told seen c.read_all.new.self) c.in_ok-done.done c.in_ok-went.went c.in_ok-again.again c.either-2.result
-    c.in_ok-done.ensures c.in_ok-went.ensures c.in_ok-again.ensures.on c.requires.read c.in_ok-again.ensures.read (c.either-2.ensures ∙ ap (λ x. c.in_ok-done.done || x) c.either.ensures)
+    lap_gone (told seen c.args.self.now) (told seen c.more_lines.new.self) (told seen c.go_on.new.self) (told seen c.read_all.new.self) c.in_ok-done.done c.in_ok-went.went c.in_ok-again.again ((c.in_ok-done.done || c.in_ok-went.went) || c.in_ok-again.again)
+    c.in_ok-done.ensures c.in_ok-went.ensures c.in_ok-again.ensures.on c.requires.read c.in_ok-again.ensures.read refl
 
 pub read_all-requires : goal.read_all-requires
 read_all-requires g c = record { counted = c.in_ok-went.ensures.counted (c.in_ok-done.ensures.counted c.requires.counted) }

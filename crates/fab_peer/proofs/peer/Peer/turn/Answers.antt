@@ -1,4 +1,4 @@
-use Rattle.std.proofs.Common.{◌≡◌, false}
+use Rattle.std.proofs.Common.{◌≡◌, ◌||◌, false, refl}
 use Rattle.fab_peer.specs.Turns.{told}
 use Rattle.fab_peer.proofs.Turning.{gone_behind, turned}
 use Rattle.fab_peer.proofs.peer.Peer.turn.Goals as goal
@@ -7,16 +7,16 @@ pub returns-clause-turned : goal.returns-clause-turned
 returns-clause-turned g c =
     let seen = g.E.Sees.seen in
     let read = c.in_ok-read.ensures.on in
-    turned (told seen c.args.self.now) (told seen c.laps.new.self) c.either.result c.known.ensures c.known-2.ensures
-    (gone_behind (told seen c.args.self.now) (told seen c.read_all.new.self) (told seen c.laps.new.self) read.acts c.in_ok-read.read c.in_ok-went.went c.either.result read.lived read.any_is read.lines read.counted c.in_ok-went.ensures c.either.ensures)
+    turned (told seen c.args.self.now) (told seen c.laps.new.self) (c.in_ok-read.read || c.in_ok-went.went) c.known.ensures c.known-2.ensures
+    (gone_behind (told seen c.args.self.now) (told seen c.read_all.new.self) (told seen c.laps.new.self) read.acts c.in_ok-read.read c.in_ok-went.went (c.in_ok-read.read || c.in_ok-went.went) read.lived read.any_is read.lines read.counted c.in_ok-went.ensures refl)
 
 pub returns-clause-still : goal.returns-clause-still
 returns-clause-still g c e =
     let seen = g.E.Sees.seen in
     let read = c.in_ok-read.ensures.on in
-    let none : c.either.result ≡ false = cc in
+    let none : (c.in_ok-read.read || c.in_ok-went.went) ≡ false = cc in
     let gone =
-    gone_behind (told seen c.args.self.now) (told seen c.read_all.new.self) (told seen c.laps.new.self) read.acts c.in_ok-read.read c.in_ok-went.went c.either.result read.lived read.any_is read.lines read.counted c.in_ok-went.ensures c.either.ensures in
+    gone_behind (told seen c.args.self.now) (told seen c.read_all.new.self) (told seen c.laps.new.self) read.acts c.in_ok-read.read c.in_ok-went.went (c.in_ok-read.read || c.in_ok-went.went) read.lived read.any_is read.lines read.counted c.in_ok-went.ensures refl in
     gone.still none
 
 pub read_all-requires : goal.read_all-requires
