@@ -2,17 +2,15 @@
 use Rattle.std.proofs.Common.{◌≡◌, ◌<◌, ◌≤◌, ℕ, zero, suc, true, List, [], ◌∷◌, ◌++◌, length, map, Option, Some, None, refl, sym, ap, ◌∙◌, arith}
 use Rattle.std.specs.Prelude.{slice_get}
 use mathlib.Core.List.{IsPrefix}
-use Rattle.std.proofs.lemmas.List.{get_or_past}
 use Rattle.std.proofs.lemmas.Option.{slice_get_within}
 use Rattle.fab_base.specs.declared.frames.Frame.{Frame}
 use Rattle.fab_wire.specs.Merged.{merges}
 use Rattle.fab_link.specs.Plain.{Plain, lane_at}
 use Rattle.fab_table.specs.declared.fabric.Fabric.{Fabric}
-use Rattle.fab_table.specs.declared.kinds.In.{In}
-use Rattle.fab_table.specs.Views.{frames_of, new_in}
 use Rattle.fab_ring.specs.declared.port.RingPort.{RingPort}
-use Rattle.fab_ring.specs.Ports.{part_of, peers_of, moves_of, in_of}
+use Rattle.fab_ring.specs.Ports.{peers_of, moves_of, in_of}
 use Rattle.fab_ring.specs.Gather.{AreAll, Gathered}
+use Rattle.fab_ring.proofs.Nobody.{nobody_taken}
 use Rattle.fab_face.specs.Held.{AreItems}
 use Rattle.fab_merging.specs.Pasts.{Past}
 use Rattle.fab_merging.specs.Law.{told_moves, outs_at, ins_at}
@@ -20,12 +18,6 @@ use Rattle.fab_merging.proofs.Lists.{outs_is, ins_is}
 use Rattle.fab_rounds.specs.Opened.{AreGathered}
 use Rattle.fab_finish.proofs.Joining.{member, none_past}
 use Rattle.fab_phases.specs.Phases.{Paired, Tells}
-
--- of a peer that is not there a port took nothing
-pub nobody_taken : (p : RingPort) (s : ℕ) → peers_of p ≤ s → (in_of p s).taken ≡ []
-nobody_taken p s past =
-    let count = p.fits.all_ins in
-    ap (λ (u : In). frames_of u.taken) (get_or_past (part_of p).ins s new_in (omega (arith, past, count)))
 
 pub ins_none : (pasts : List Past) (p s : ℕ) → slice_get pasts p ≡ None → ins_at pasts p s ≡ []
 ins_none [] p s e = refl

@@ -15,3 +15,4 @@ pub mod Rounds
 pub mod Seeing
 pub mod Trying
 pub mod Counting
+pub mod Nobody
