@@ -1,0 +1,5 @@
+use Rattle.fab_library_laws.proofs.Library.{library_obeys}
+use Rattle.fab_library_laws.proofs.law_library.Goals as goal
+
+pub returns : goal.returns
+returns c = library_obeys c.law_doings.ensures.obeyed

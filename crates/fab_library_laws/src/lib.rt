@@ -1,0 +1,23 @@
+//! The law of the library: what threads do with the endpoints of a domain obeys the laws of matching, completion, fences,
+//! replies, streams and messages.
+//!
+//! `law_doings` of `fab_doings` says so of any endpoints, where the moves of all ports merge, and the frames taken of each peer are
+//! the first of those that it posted. Here these premises are what the contracts of the library say: `endpoints` of
+//! `fab_domain` opens the endpoints, each call says what it did, and `gather` of `fab_ring` joins the ports once the threads
+//! are done. Read `specs/Library.antt`.
+#![tactic(auto)]
+
+ghost use Rattle.fab_library_laws.specs.Library.{LibraryObeys};
+
+use fab_doings::law_doings;
+
+/// Endpoints that a program opens, uses in threads and closes, whose ports are gathered, obey the laws.
+///
+/// All doings of the threads together were done in some order of turns of the program's machine, from the endpoints as
+/// `endpoints` opens them to the endpoints as the threads leave them. Each law of `fab_laws` holds at the end of these turns,
+/// and what an endpoint accepted, and which receives it was asked for, is what its thread's own record says.
+pub fn law_library()
+    ensures obeyed { LibraryObeys }
+{
+    law_doings();
+}
