@@ -4,12 +4,17 @@
 //! `law_doings` of `fab_doings` says so of any endpoints, where the moves of all ports merge, and the frames taken of each peer are
 //! the first of those that it posted. Here these premises are what the contracts of the library say: `endpoints` of
 //! `fab_domain` opens the endpoints, each call says what it did, and `gather` of `fab_ring` joins the ports once the threads
-//! are done. Read `specs/Library.antt`.
+//! are done. Read `specs/Library.antt`. Each thread is to keep a record of what its calls did: that it may is said by the contracts
+//! of these, as `exchange` shows (`specs/Recording.antt`).
 #![tactic(auto)]
 
 ghost use Rattle.fab_library_laws.specs.Library.{LibraryObeys};
 
+mod thread;
+
 use fab_doings::law_doings;
+
+pub use thread::exchange;
 
 /// Endpoints that a program opens, uses in threads and closes, whose ports are gathered, obey the laws.
 ///
