@@ -32,7 +32,7 @@ use Rattle.fab_finish.proofs.Resting.{mapped}
 use Rattle.fab_doings.specs.Doings.{Living, posted_to, taken_of, ways_of}
 use Rattle.fab_doings.specs.Law.{AreTold, Kept, Past, ProgramObeys, begun, told_moves}
 use Rattle.fab_doings.proofs.Opening.{lanes_of, start_fresh}
-use Rattle.fab_library_laws.specs.Library.{AreUsed, IsLibraryRun, LibraryObeys, Thread, opening_of, past_of, ports_of, untouched}
+use Rattle.fab_library_laws.specs.Library.{AreUsed, IsLibraryRun, LibraryObeys, Thread, opening_of, past_of, ports_of}
 
 -- of a list that is mapped
 length_same : {X Y Z W : Type 0} (f : X → Y) (g : Z → W) (xs : List X) (zs : List Z) → length zs ≡ length xs → length (map g zs) ≡ length (map f xs)
@@ -68,7 +68,7 @@ module _ (info : Info) (selective : Bool) (all : List (Whole RingPort)) (threads
   starts_at p a at =
       let m = mapped peer_of all p a at in
       let n : length (map peer_of all) ≡ info.peers = length-map all peer_of ∙ all_count in
-      let below : p < info.peers = (let lt = slice_get_within all p m.0 m.1 in omega (arith, lt, all_count)) in
+      let below : p < length (map peer_of all) = (let lt = slice_get_within all p m.0 m.1 in omega (arith, lt, length-map all peer_of)) in
       subst (λ (b : Peer). Starts (length (map peer_of all)) b.state) m.2
       (subst (λ (h : Held). Starts (length (map peer_of all)) h.state) (sym (opened_at p m.0 m.1)) (starts conf (length (map peer_of all)) p n below))
 
@@ -82,18 +82,20 @@ module _ (info : Info) (selective : Bool) (all : List (Whole RingPort)) (threads
       let m = mapped opening_of all p o at in
       subst (λ (x : Living). IsFresh x.held) m.2 (subst IsFresh (sym (opened_at p m.0 m.1)) (start_fresh conf (map Some (upto info.peers))))
 
-  unfolding ring_seen
   since : (p : ℕ) (e : Whole RingPort) (t : Thread) → slice_get all p ≡ Some e → slice_get threads p ≡ Some t → Kept (begun (opening_of e)) (past_of t)
+  unfolding ring_seen
   since p e t he ht =
       let kept = used.kept p e t he ht in
-      let new = new_port p e he in
-      (kept.0, record {
-        lives = kept.1.lives;
-        doings = kept.1.doings;
-        moves = subst (λ (ms : List Move). MovedBy (Some ms) (past_of t).moves (ways_of kept.0)) new.0 kept.1.moves;
-        outs = λ d. kept.1.outs d ∙ ap (λ fs. fs ++ posted_to d kept.0) (new.1 d).frames;
-        ins = λ s. kept.1.ins s ∙ ap (λ fs. fs ++ taken_of s kept.0) (new.1 s).taken;
-      })
+      let new = new_port p e he in (
+        kept.0,
+        record {
+          lives = kept.1.lives;
+          doings = kept.1.doings;
+          moves = subst (λ (ms : List Move). MovedBy (Some ms) (past_of t).moves (ways_of kept.0)) new.0 kept.1.moves;
+          outs = λ d. kept.1.outs d ∙ ap (λ fs. fs ++ posted_to d kept.0) (new.1 d).frames;
+          ins = λ s. kept.1.ins s ∙ ap (λ fs. fs ++ taken_of s kept.0) (new.1 s).taken;
+        },
+      )
 
   kept_all : (p : ℕ) (o : Living) (x : Past) → slice_get (map opening_of all) p ≡ Some o → slice_get (map past_of threads) p ≡ Some x → Kept (begun o) x
   kept_all p o x ho hx =
@@ -101,8 +103,8 @@ module _ (info : Info) (selective : Bool) (all : List (Whole RingPort)) (threads
       let n = mapped past_of threads p x hx in
       subst (λ (l : Living). Kept (begun l) x) m.2 (subst (λ (y : Past). Kept (begun (opening_of m.0)) y) n.2 (since p m.0 n.0 m.1 n.1))
 
-  unfolding ring_seen
   items_all : (p : ℕ) (x : Past) → slice_get (map past_of threads) p ≡ Some x → AreItems x.living.held
+  unfolding ring_seen
   items_all p x hx =
       let n = mapped past_of threads p x hx in
       subst (λ (y : Past). AreItems y.living.held) n.2 (used.known p n.0 n.1).items
@@ -118,12 +120,12 @@ module _ (info : Info) (selective : Bool) (all : List (Whole RingPort)) (threads
   ports_count : length (ports_of threads) ≡ length threads
   ports_count = length-map threads port_in
 
-  unfolding ring_seen
   merged_all : merges (map told_moves (map past_of threads)) ≡ true
+  unfolding ring_seen
   merged_all = ap merges (map-map told_moves past_of threads ∙ sym (map-map moves_of port_in threads)) ∙ used.merged
 
-  unfolding ring_seen
   each_lane : (s d : ℕ) (x y : Past) → slice_get (map past_of threads) s ≡ Some x → slice_get (map past_of threads) d ≡ Some y → IsPrefix (y.ins s) (x.outs d)
+  unfolding ring_seen
   each_lane s d x y hs hd =
       let a = mapped past_of threads s x hs in
       let b = mapped past_of threads d y hd in
@@ -132,8 +134,8 @@ module _ (info : Info) (selective : Bool) (all : List (Whole RingPort)) (threads
       let whole = used.gathered.inside s d (port_in a.0) (port_in b.0) q.0 (port_at s a.0 a.1) (port_at d b.0 b.1) q.1 in
       subst (λ (z : Past). IsPrefix (y.ins s) (z.outs d)) a.2 (subst (λ (z : Past). IsPrefix (z.ins s) ((past_of a.0).outs d)) b.2 ((lane_at q.0 s).in_list, sym whole))
 
-  unfolding ring_seen
   nobody_in : (d s : ℕ) (y : Past) → slice_get (map past_of threads) d ≡ Some y → length (map past_of threads) ≤ s → y.ins s ≡ []
+  unfolding ring_seen
   nobody_in d s y hd past =
       let b = mapped past_of threads d y hd in
       let at = port_at d b.0 b.1 in
@@ -151,6 +153,7 @@ module _ (info : Info) (selective : Bool) (all : List (Whole RingPort)) (threads
   }
 
   library_run : ProgramObeys → IsLibraryRun all threads
+  unfolding from
   library_run obeys = record {
     from = from;
     starts = refl;

@@ -6,6 +6,6 @@ use Rattle.fab_face.specs.Held.{Seen}
 use Rattle.fab_doings.specs.Doings.{Doing}
 use Rattle.fab_doings.specs.Law.{Kept, Past, past_in}
 
-abbrev pub IsRecorded : {Home : Type 0} → Seen Home → Seen Home → Type 0
-IsRecorded old new = (x : Past) (doings : List Doing) (states : List State) → Kept x (past_in old doings states)
-    → (more : List Doing) × (later : List State) × Kept x (past_in new more later)
+pub record IsRecorded {Home : Type 0} (old new : Seen Home) : Type 0 where
+  pub goes_on : (x : Past) (doings : List Doing) (states : List State) → Kept x (past_in old doings states)
+      → (more : List Doing) × (later : List State) × Kept x (past_in new more later)

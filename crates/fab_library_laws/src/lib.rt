@@ -13,7 +13,6 @@ ghost use Rattle.fab_library_laws.specs.Library.{LibraryObeys};
 mod thread;
 
 use fab_doings::law_doings;
-
 pub use thread::exchange;
 
 /// Endpoints that a program opens, uses in threads and closes, whose ports are gathered, obey the laws.
