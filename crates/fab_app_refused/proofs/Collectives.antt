@@ -136,15 +136,15 @@ module _ {Home : Type 0} (fixed : Bool) (c d : Collective) (old new : Seen Home)
   always_invalid posted had (inl asks) = let wrong = (none_left _ _ _ c.asked c.work.peers d.asked posted old new _ asks.0).1 in absurd (cc (wrong))
   always_invalid posted had (inr (inl drove)) = let wrong = (none_left _ _ _ c.sent c.work.peers d.sent had drove.0 new _ drove.2).1 in absurd (cc (wrong))
   always_invalid posted had (inr (inr ended)) = elim ended.1 [
-      | inl memory ↦ absurd (cc (memory))
-      | inr size ↦ absurd (let wrong = size.0 in cc (wrong))
-    ]
+    | inl memory ↦ absurd (cc (memory))
+    | inr size ↦ absurd (let wrong = size.0 in cc (wrong))
+  ]
 
   pub told_to_wait : (busy : Busy) → Drives fixed c d old new (Err (Again busy)) → ⊥
   unfolding Drives
   told_to_wait busy (inl asks) = absurd (let final = asks.0.ends.1.0 in cc (final))
   told_to_wait busy (inr (inl drove)) = absurd (let final = drove.2.ends.1.0 in cc (final))
   told_to_wait busy (inr (inr ended)) = elim ended.1 [
-      | inl memory ↦ absurd (cc (memory))
-      | inr size ↦ absurd (let wrong = size.0 in cc (wrong))
-    ]
+    | inl memory ↦ absurd (cc (memory))
+    | inr size ↦ absurd (let wrong = size.0 in cc (wrong))
+  ]
