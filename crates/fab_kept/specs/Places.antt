@@ -4,9 +4,9 @@
 --     ends_empty xs                the last place is empty
 --     places_from test n xs        the places of what passes, where the first of all is n
 --     places_of ctx xs             the places of the context
---     queue_of index ctx           the places that the index has for the context
---     IsIndexed xs index           these are the same, of each context
+--     IsIndexed xs index           the index gives these, of each context
 --     Agrees m n, Puts m n ctx ps, Pops m n ctx place      what becomes of an index
+--     queue_of map ctx             the places that a map has for the context
 use Rattle.std.specs.Prelude.{◌≡◌, ℕ, ◌+◌, ◌-◌, Bool, true, false, cond, nat_eq, List, [], ◌∷◌, length, slice_get, filter_map, Option, Some, None}
 use Rattle.std.specs.Option.{option_eq, unwrap_or}
 use Rattle.std.specs.HashMap.{HashMap, get}
@@ -37,28 +37,29 @@ places_from test n (x ∷ xs) = cond (passes test x) (n ∷ places_from test (n 
 abbrev pub places_of : Option ℕ → List (Option Kept) → List ℕ
 places_of ctx xs = places_from (is_of_ctx ctx) 0 xs
 
--- ---- the index
+-- ---- the index, which gives the places of each context
 
--- the places of each context, in a map
+abbrev pub IsIndexed : List (Option Kept) → (Option ℕ → List ℕ) → Type 0
+IsIndexed xs index = (ctx : Option ℕ) → index ctx ≡ places_of ctx xs
+
+-- each context has the places that it had
+abbrev pub Agrees : (Option ℕ → List ℕ) → (Option ℕ → List ℕ) → Type 0
+Agrees m n = (c : Option ℕ) → n c ≡ m c
+
+-- the context has these places, and all others have what they had
+abbrev pub Puts : (Option ℕ → List ℕ) → (Option ℕ → List ℕ) → Option ℕ → List ℕ → Type 0
+Puts m n ctx ps = (c : Option ℕ) → n c ≡ cond (same_ctx c ctx) ps (m c)
+
+-- the context had no place, or this one is the first and leaves
+abbrev pub Pops : (Option ℕ → List ℕ) → (Option ℕ → List ℕ) → Option ℕ → Option ℕ → Type 0
+Pops m n ctx None = (m ctx ≡ []) × Agrees m n
+Pops m n ctx (Some place) = (rest : List ℕ) × (m ctx ≡ place ∷ rest) × Puts m n ctx rest
+
+-- ---- a map of queues
+
 abbrev pub Queues : Type 0 → Type 0
 Queues S = HashMap (Option ℕ) (List ℕ) S
 
-module _ {S : Type 0} where
-  abbrev pub queue_of : Queues S → Option ℕ → List ℕ
-  queue_of index ctx = unwrap_or (get (option_eq nat_eq) index ctx) []
-
-  abbrev pub IsIndexed : List (Option Kept) → Queues S → Type 0
-  IsIndexed xs index = (ctx : Option ℕ) → queue_of index ctx ≡ places_of ctx xs
-
-  -- each context has the places that it had
-  abbrev pub Agrees : Queues S → Queues S → Type 0
-  Agrees m n = (c : Option ℕ) → queue_of n c ≡ queue_of m c
-
-  -- the context has these places, and all others have what they had
-  abbrev pub Puts : Queues S → Queues S → Option ℕ → List ℕ → Type 0
-  Puts m n ctx ps = (c : Option ℕ) → queue_of n c ≡ cond (same_ctx c ctx) ps (queue_of m c)
-
-  -- the context had no place, or this one is the first and leaves
-  abbrev pub Pops : Queues S → Queues S → Option ℕ → Option ℕ → Type 0
-  Pops m n ctx None = (queue_of m ctx ≡ []) × Agrees m n
-  Pops m n ctx (Some place) = (rest : List ℕ) × (queue_of m ctx ≡ place ∷ rest) × Puts m n ctx rest
+-- the places that a map has for a context
+abbrev pub queue_of : {S : Type 0} → Queues S → Option ℕ → List ℕ
+queue_of map ctx = unwrap_or (get (option_eq nat_eq) map ctx) []

@@ -2,12 +2,12 @@
 ghost use Rattle.std.specs.Prelude.{◌≡◌, ◌<◌, ◌++◌, ◌∷◌, [], ℕ, Option, length, find, vec_len, vec_capacity, IfOk, OnOk, OnErr, IfNone};
 ghost use Rattle.fab_model.specs.Matching.{remove_first};
 ghost use Rattle.fab_model.specs.Peers.{ctx_of, is_of_ctx};
-ghost use Rattle.fab_kept.specs.Places.{Agrees, Puts, ends_empty, places_of, queue_of, somes};
+ghost use Rattle.fab_kept.specs.Places.{Agrees, Puts, ends_empty, places_of, somes};
+ghost use Rattle.fab_kept.specs.Indices.{places_in};
 
-use crate::index::{Index, pop, put};
+use crate::index::Index;
 use fab_base::{Entry, Kept, NoMemory, Taken};
 use std::alloc::Global;
-use std::collections::HashMap;
 use std::marker::Model;
 
 /// The context under which a completion comes, if any.
@@ -46,12 +46,13 @@ impl Model for KeptList {
     ghost use Rattle.std.specs.Prelude.{List};
     ghost use Rattle.fab_base.specs.declared.entries.Kept.{Kept as OneKept};
     ghost use Rattle.fab_kept.specs.Places.{IsIndexed, somes};
+    ghost use Rattle.fab_kept.specs.Indices.{places_in};
 
     ghost Value = { List OneKept };
 
     ghost view = { λ k. somes k.places.items };
 
-    ghost invariant = { λ k. IsIndexed k.places.items k.index };
+    ghost invariant = { λ k. IsIndexed k.places.items (places_in k.index) };
 }
 
 /// Makes room for one place more, and files its number under its context.
@@ -63,11 +64,11 @@ fn file(
 ) -> Result<(), NoMemory>
     ensures places { places.new.items ≡ places.old.items }
     ensures room { OnOk result (vec_len places.new < vec_capacity places.new) }
-    ensures ok { OnOk result (Puts index.old index.new ctx (queue_of index.old ctx ++ vec_len places.old ∷ [])) }
-    ensures err { OnErr result (Agrees index.old index.new) }
+    ensures ok { OnOk result (Puts (places_in index.old) (places_in index.new) ctx (places_in index.old ctx ++ vec_len places.old ∷ [])) }
+    ensures err { OnErr result (Agrees (places_in index.old) (places_in index.new)) }
 {
     places.reserve(1)?;
-    put(index, alloc, ctx, places.len())
+    index.put(alloc, ctx, places.len())
 }
 
 /// Whether the last place is empty.
@@ -97,22 +98,23 @@ impl KeptList {
     {
         KeptList {
             places: Vec::new(alloc),
-            index: HashMap::new(alloc),
+            index: Index::new(alloc),
             alloc,
         }
     }
 
-    /// None, with room for so many completions and contexts. The room is written once, since a page of memory comes with the
-    /// first write to it.
+    /// None, with room for so many completions, whose contexts below so many are found without a hash. The room is written once,
+    /// since a page of memory comes with the first write to it.
     pub fn with_room(alloc: Global, most: usize) -> Result<KeptList, NoMemory>
         ensures { IfOk result (λ k. k ≡ []) }
     {
         let mut places = Vec::new(alloc);
         places.resize_with(most, || -> Option<Kept> { None })?;
         places.clear();
+        let index = Index::with_room(alloc, most)?;
         Ok(KeptList {
             places,
-            index: HashMap::with_capacity(alloc, most)?,
+            index,
             alloc,
         })
     }
@@ -142,7 +144,7 @@ impl KeptList {
         ensures rest { self.new ≡ remove_first (is_of_ctx ctx) self.old }
         ensures none { IfNone result (self.new ≡ self.old) }
     {
-        let Some(place) = pop(&mut self.index, ctx) else {
+        let Some(place) = self.index.pop(ctx) else {
             return None;
         };
         let kept = self.places[place].take();

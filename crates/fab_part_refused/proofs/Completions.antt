@@ -23,7 +23,7 @@ use Rattle.fab_base.specs.declared.operations.Written.{Written}
 use Rattle.fab_model.specs.Matching.{remove_first}
 use Rattle.fab_model.specs.Peers.{is_of_ctx, same_ctx, unread}
 use Rattle.fab_model.specs.State.{Completions, class_place, counting, nothing_counted, one_more, tally_of, writing}
-use Rattle.fab_kept.specs.Places.{Pops, Puts, Queues, queue_of, somes}
+use Rattle.fab_kept.specs.Places.{Pops, Puts, somes}
 use Rattle.fab_kept.proofs.Places.{somes_push}
 use Rattle.fab_cq.specs.Queues.{IsKept, IsNext, entries_of, has_room}
 
@@ -40,21 +40,21 @@ same : (ctx : Option ℕ) → same_ctx ctx ctx ≡ true
 same None = refl
 same (Some a) = eq-eqb a a refl
 
-module _ {S : Type 0} (old new : Queues S) (ctx : Option ℕ) where
-  at_ctx : (places : List ℕ) → Puts old new ctx places → queue_of new ctx ≡ places
+module _ (old new : Option ℕ → List ℕ) (ctx : Option ℕ) where
+  at_ctx : (places : List ℕ) → Puts old new ctx places → new ctx ≡ places
   at_ctx places puts = puts ctx ∙ rw (same ctx) refl
 
-  pub last_moves_up : (first second last : ℕ) (others rest : List ℕ) → Pops old new ctx (Some first) → queue_of old ctx ≡ first ∷ second ∷ others → queue_of new ctx ≡ last ∷ rest → last ≢ second → ⊥
+  pub last_moves_up : (first second last : ℕ) (others rest : List ℕ) → Pops old new ctx (Some first) → old ctx ≡ first ∷ second ∷ others → new ctx ≡ last ∷ rest → last ≢ second → ⊥
   last_moves_up first second last others rest pops was wrong other =
       let behind : first ∷ pops.0 ≡ first ∷ second ∷ others = sym pops.1 ∙ was in
       let stays : pops.0 ≡ second ∷ others = cc in
       let moved : last ∷ rest ≡ second ∷ others = sym wrong ∙ at_ctx pops.0 pops.2 ∙ stays in
       other cc
 
-  pub newest_moves_up : (place first second : ℕ) (others rest : List ℕ) → Puts old new ctx (queue_of old ctx ++ place ∷ []) → queue_of old ctx ≡ first ∷ second ∷ others
-      → queue_of new ctx ≡ first ∷ place ∷ rest → place ≢ second → ⊥
+  pub newest_moves_up : (place first second : ℕ) (others rest : List ℕ) → Puts old new ctx (old ctx ++ place ∷ []) → old ctx ≡ first ∷ second ∷ others
+      → new ctx ≡ first ∷ place ∷ rest → place ≢ second → ⊥
   newest_moves_up place first second others rest puts was wrong other =
-      let is : queue_of new ctx ≡ first ∷ second ∷ (others ++ place ∷ []) = at_ctx (queue_of old ctx ++ place ∷ []) puts ∙ ap (λ (ps : List ℕ). ps ++ place ∷ []) was in
+      let is : new ctx ≡ first ∷ second ∷ (others ++ place ∷ []) = at_ctx (old ctx ++ place ∷ []) puts ∙ ap (λ (ps : List ℕ). ps ++ place ∷ []) was in
       let moved : first ∷ place ∷ rest ≡ first ∷ second ∷ (others ++ place ∷ []) = sym wrong ∙ is in
       other cc
 

@@ -81,12 +81,24 @@ fn is_left(places: &[Option<Kept>]) -> bool {
     }
 }
 
-fn is_kept(alloc: Global) -> bool {
-    let mut list = KeptList::new(alloc);
+fn is_kept(mut list: KeptList) -> bool {
     are_done(&mut list) && is_left(list.places())
 }
 
 #[test]
 fn each_context_has_its_first(rt: HostRuntime) {
-    assert!(rt; is_kept(rt.alloc()));
+    assert!(rt; is_kept(KeptList::new(rt.alloc())));
+}
+
+/// Whether the rows go so where contexts 0 and 1 are low.
+fn are_low_kept(alloc: Global) -> bool {
+    match KeptList::with_room(alloc, 2) {
+        Ok(list) => is_kept(list),
+        Err(_) => false,
+    }
+}
+
+#[test]
+fn each_low_context_has_its_first(rt: HostRuntime) {
+    assert!(rt; are_low_kept(rt.alloc()));
 }

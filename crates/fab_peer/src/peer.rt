@@ -28,6 +28,10 @@ const LAPS: u32 = 1_024;
 /// After so many laps in a row that moved nothing, a peer lets other threads run before it looks again.
 const SPINS: u32 = 8;
 
+/// For how many steps of the schedule there is room ahead, a line: it takes effect, its message is sent or arrives, and its
+/// completion is read.
+const STEPS: usize = 4;
+
 /// A peer with its endpoint, its lines, the results of those done, the completions kept, and its schedule.
 ///
 /// The endpoint is open to whoever owns the peer: over a plain port its frames are carried by hand.
@@ -106,11 +110,11 @@ impl<E: LineCalls> Peer<E> {
         }
     }
 
-    /// The same, with the buffers of the lines' calls, and with room for the results and the completions. The buffers of sends
-    /// are made with their bytes, until they have more bytes together than a file may have: at most one message more. The
-    /// others are made while they have no more bytes together than a file may have. That room is written once, since a page of
-    /// memory comes with the first write to it: so doing the lines takes little memory besides. Want of memory lets the endpoint
-    /// and the lines go.
+    /// The same, with the buffers of the lines' calls, and with room for the results, the completions and the schedule. The
+    /// buffers of sends are made with their bytes, until they have more bytes together than a file may have: at most one message
+    /// more. The others are made while they have no more bytes together than a file may have. That room is written once, since a
+    /// page of memory comes with the first write to it: so doing the lines takes little memory besides. Want of memory lets the
+    /// endpoint and the lines go.
     pub fn with_buffers(alloc: Global, endpoint: E, lines: Vec<Line>) -> Result<Peer<E>, NoMemory>
     where
         E: Drop,
@@ -125,12 +129,15 @@ impl<E: LineCalls> Peer<E> {
         let mut results = Vec::new(alloc);
         results.resize_with(most, || -> LineResult { LineResult::Done })?;
         results.clear();
+        let mut schedule = Vec::new(alloc);
+        schedule.resize(most.saturating_mul(STEPS), Step::Do)?;
+        schedule.clear();
         Ok(Peer {
             endpoint,
             lines,
             results,
             kept: KeptList::with_room(alloc, most)?,
-            schedule: Vec::new(alloc),
+            schedule,
             spare,
             alloc,
         })
