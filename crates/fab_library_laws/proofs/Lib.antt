@@ -1,2 +1,4 @@
 pub mod Library
 pub mod Recording
+pub mod Applying
+pub mod Leaving

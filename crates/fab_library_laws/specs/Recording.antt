@@ -1,5 +1,5 @@
 -- What a thread's function ensures of the record of its endpoint's calls.
---     IsRecorded old new    whatever was recorded before, there is a record of the calls since, too
+--     IsRecorded old new    whatever was recorded before, there is a record of the calls since, too; and the port is that of the same peer of the same table
 --     Exchanges ..          the example: a receive was posted, a message sent, and progress made
 --     ExchangesNot ..       one of the two was refused, or progress lacked memory
 use Rattle.std.specs.Prelude.{◌≡◌, ◌⊎◌, ℕ, Bool, List, Result, Err}
@@ -17,6 +17,8 @@ use Rattle.fab_doings.specs.Law.{Kept, Past, past_in}
 pub record IsRecorded {Home : Type 0} (old new : Seen Home) : Type 0 where
   pub goes_on : (x : Past) (doings : List Doing) (states : List State) → Kept x (past_in old doings states)
       → (more : List Doing) × (later : List State) × Kept x (past_in new more later)
+  pub home : new.lanes.home ≡ old.lanes.home
+  pub number : new.lanes.number ≡ old.lanes.number
 
 module _ {Home : Type 0} (fixed : Bool) (receive send : Call) (other budget : ℕ) (old new : Seen Home) where
   pub record Exchanges (answer : Result Moved NoMemory) : Type 0 where

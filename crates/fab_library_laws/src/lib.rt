@@ -5,13 +5,19 @@
 //! the first of those that it posted. Here these premises are what the contracts of the library say: `endpoints` of
 //! `fab_domain` opens the endpoints, each call says what it did, and `gather` of `fab_ring` joins the ports once the threads
 //! are done. Read `specs/Library.antt`. Each thread is to keep a record of what its calls did: that it may is said by the contracts
-//! of these, as `exchange` shows (`specs/Recording.antt`).
+//! of these, as `exchange` shows of an endpoint (`specs/Recording.antt`) and `talk` of an application's (`specs/Talking.antt`).
 #![tactic(auto)]
 
 ghost use Rattle.fab_library_laws.specs.Library.{LibraryObeys};
 
+mod application;
+mod closing;
+mod example;
 mod thread;
 
+pub use application::talk;
+pub use closing::close_all;
+pub use example::program;
 use fab_doings::law_doings;
 pub use thread::exchange;
 

@@ -1,0 +1,112 @@
+-- A thread's record goes on with each call of an application's endpoint, by the call's contract: that a call begins with an empty log changes nothing that a record has.
+use Rattle.std.proofs.Common.{◌≡◌, ℕ, Bool, List, [], ◌∷◌, ◌++◌, Option, None, Some, Result, Ok, Err, refl, ap}
+use Rattle.fab_base.specs.declared.entries.Entry.{Entry as EntryValue}
+use Rattle.fab_base.specs.declared.entries.Taken.TheVariants.{Success, Failure}
+use Rattle.fab_base.specs.declared.faults.Fault.{Fault}
+use Rattle.fab_base.specs.declared.faults.NoMemory.{NoMemory}
+use Rattle.fab_model.specs.Calls.{Call}
+use Rattle.fab_face.specs.declared.events.Moved.{Moved}
+use Rattle.fab_face.specs.Held.{Seen}
+use Rattle.fab_face.specs.Acts.{Act, Did, Took, Posted, Drew as DrewOne, Had, GoesBy, Ported, events, is_draw}
+use Rattle.fab_face.specs.Answers.{AllAre, Sends, SendsNot}
+use Rattle.fab_face.proofs.Joining.{ported_still}
+use Rattle.fab_app.specs.declared.completions.Polled.{Polled}
+use Rattle.fab_app.specs.declared.completions.Polled.TheVariants.{Entry, Error, Idle, More}
+use Rattle.fab_app.specs.declared.moving.Next.{Next}
+use Rattle.fab_app.specs.Cleared.{cleared}
+use Rattle.fab_app.specs.Late.{Drew, ReceivesLate, ReceivesLateNot}
+use Rattle.fab_app.specs.Polls.{Polls, PollsAs, Waits}
+use Rattle.fab_app.specs.Progresses.{Moves, Progresses}
+use Rattle.fab_app.specs.Takes.{TakesAll}
+use Rattle.fab_app.specs.Trying.{ReceivesWithin, ReceivesWithinNot, SendsLate, SendsLateNot}
+use Rattle.fab_doings.proofs.Keeping.{log_adds, pop_adds}
+use Rattle.fab_library_laws.specs.Recording.{IsRecorded}
+use Rattle.fab_library_laws.proofs.Recording.{recorded_then, still_recorded, went_recorded}
+
+module _ {Home : Type 0} where
+  -- the log was emptied first
+  cleared_first : (old new : Seen Home) → IsRecorded (cleared old) new → IsRecorded old new
+  cleared_first old new recorded = record { goes_on = λ x doings states before. recorded.goes_on x doings states before; home = recorded.home; number = recorded.number }
+
+  -- whatever became of the log
+  goes_recorded : (old new : Seen Home) (call : Option Call) (acts : List Act) → GoesBy call old.held acts new.held → new.log_size ≡ old.log_size → Ported old.lanes new.lanes acts → IsRecorded old new
+  goes_recorded old new call acts goes size ported =
+      let told : Seen Home = record new { log = old.log ++ events acts } in
+      let recorded = went_recorded old told call acts (record { goes = goes; log = refl; size = size; ported = ported }) in
+      record { goes_on = λ x doings states before. recorded.goes_on x doings states before; home = ported.home; number = ported.number }
+
+  same_recorded : (old new : Seen Home) → new ≡ old → IsRecorded old new
+  same_recorded old new same = still_recorded old new [] (ap (λ (e : Seen Home). e.lanes) same) (log_adds old new (ap (λ (e : Seen Home). e.held) same) (ap (λ (e : Seen Home). e.lanes) same))
+
+  -- ---- transmit calls
+
+  pub sends_recorded : (fixed : Bool) (call : Call) (dest : ℕ) (old new : Seen Home) → Sends fixed call dest (cleared old) new → IsRecorded old new
+  sends_recorded fixed call dest old new sends = cleared_first old new (went_recorded (cleared old) new (Some call) _ sends.went)
+
+  pub sends_not_recorded : (fixed : Bool) (call : Call) (old new : Seen Home) (fault : Fault) → SendsNot fixed call (cleared old) new fault → IsRecorded old new
+  sends_not_recorded fixed call old new fault refused = cleared_first old new (went_recorded (cleared old) new (Some call) _ refused.went)
+
+  -- ---- progress
+
+  pub progresses_recorded : (old new : Seen Home) → Progresses old new → IsRecorded old new
+  progresses_recorded old new p = goes_recorded old new None p.acts p.goes p.size p.ported
+
+  pub moves_recorded : (fixed : Bool) (budget : ℕ) (old new : Seen Home) (answer : Result Next NoMemory) → Moves fixed budget (cleared old) new answer → IsRecorded old new
+  moves_recorded fixed budget old new answer moves = cleared_first old new (went_recorded (cleared old) new None _ moves.progressed.went)
+
+  -- ---- receive calls
+
+  draws_recorded : (acts : List Act) (old new : Seen Home) → AllAre is_draw acts → GoesBy None old.held acts new.held → new.log_size ≡ old.log_size → new.lanes ≡ old.lanes → IsRecorded old new
+  draws_recorded [] old new are goes size lanes = goes_recorded old new None [] goes size (ported_still old.lanes new.lanes [] lanes (λ s. refl) (λ d. refl) refl)
+  draws_recorded (DrewOne ∷ acts) old new are (mid, one, rest) size lanes =
+      let drawn : Seen Home = record old { held = mid } in
+      recorded_then old drawn new (goes_recorded old drawn None (DrewOne ∷ []) (mid, one, refl) refl (ported_still old.lanes old.lanes (DrewOne ∷ []) refl (λ s. refl) (λ d. refl) refl))
+      (draws_recorded acts drawn new are rest size lanes)
+  draws_recorded (Did ∷ acts) old new are goes size lanes = absurd (cc)
+  draws_recorded (Took source f ∷ acts) old new are goes size lanes = absurd (cc)
+  draws_recorded (Posted dest f ∷ acts) old new are goes size lanes = absurd (cc)
+  draws_recorded (Had ∷ acts) old new are goes size lanes = absurd (cc)
+
+  drew_recorded : (old new : Seen Home) → Drew old new → IsRecorded old new
+  drew_recorded old new drew = draws_recorded drew.acts old new drew.draws drew.goes drew.size drew.lanes
+
+  pub late_recorded : (call : Call) (old new : Seen Home) → ReceivesLate call old new → IsRecorded old new
+  late_recorded call old new late = recorded_then old late.mid new (drew_recorded old late.mid late.drew) (cleared_first late.mid new (went_recorded (cleared late.mid) new (Some call) _ late.receives.went))
+
+  pub late_not_recorded : (call : Call) (old new : Seen Home) (fault : Fault) → ReceivesLateNot call old new fault → IsRecorded old new
+  late_not_recorded call old new fault late = recorded_then old late.mid new (drew_recorded old late.mid late.drew) (cleared_first late.mid new (went_recorded (cleared late.mid) new (Some call) _ late.refused.went))
+
+  -- ---- calls that are made again while they are refused for now
+
+  pub sends_late_recorded : (fixed : Bool) (call : Call) (dest : ℕ) (old new : Seen Home) → SendsLate fixed call dest old new → IsRecorded old new
+  sends_late_recorded fixed call dest old new late = recorded_then old late.mid new (progresses_recorded old late.mid late.before) (sends_recorded fixed call dest late.mid new late.sends)
+
+  pub sends_late_not_recorded : (fixed : Bool) (call : Call) (old new : Seen Home) (fault : Fault) → SendsLateNot fixed call old new fault → IsRecorded old new
+  sends_late_not_recorded fixed call old new fault late = recorded_then old late.mid new (progresses_recorded old late.mid late.before) (sends_not_recorded fixed call late.mid new fault late.refused)
+
+  pub receives_within_recorded : (call : Call) (old new : Seen Home) → ReceivesWithin call old new → IsRecorded old new
+  receives_within_recorded call old new within = recorded_then old within.mid new (progresses_recorded old within.mid within.before) (late_recorded call within.mid new within.receives)
+
+  pub receives_within_not_recorded : (call : Call) (old new : Seen Home) (fault : Fault) → ReceivesWithinNot call old new fault → IsRecorded old new
+  receives_within_not_recorded call old new fault within = recorded_then old within.mid new (progresses_recorded old within.mid within.before) (late_not_recorded call within.mid new fault within.refused)
+
+  -- ---- completions
+
+  told_recorded : (budget : ℕ) (old mid new : Seen Home) (acts : List Act) (moved : Result Moved NoMemory) (answer : Result Polled NoMemory) → PollsAs budget old mid new acts moved answer → IsRecorded mid new
+  told_recorded budget old mid new acts moved (Ok (Entry entry)) pops = still_recorded mid new _ (ap (λ (e : Seen Home). e.lanes) pops.read) (pop_adds mid new (Success entry) pops)
+  told_recorded budget old mid new acts moved (Ok (Error entry)) pops = still_recorded mid new _ (ap (λ (e : Seen Home). e.lanes) pops.read) (pop_adds mid new (Failure entry) pops)
+  told_recorded budget old mid new acts moved (Ok Idle) none = same_recorded mid new none.0.0
+  told_recorded budget old mid new acts moved (Ok More) none = same_recorded mid new none.0.0
+  told_recorded budget old mid new acts moved (Err lacks) none = same_recorded mid new none.0.0
+
+  pub polls_recorded : (fixed : Bool) (budget : ℕ) (old new : Seen Home) (answer : Result Polled NoMemory) → Polls fixed budget (cleared old) new answer → IsRecorded old new
+  polls_recorded fixed budget old new answer polls =
+      recorded_then old polls.mid new (cleared_first old polls.mid (went_recorded (cleared old) polls.mid None _ polls.progressed.went))
+      (told_recorded budget (cleared old) polls.mid new polls.progressed.acts polls.moved answer polls.told)
+
+  pub waits_recorded : (fixed : Bool) (budget : ℕ) (old new : Seen Home) (answer : Result Polled NoMemory) → Waits fixed budget old new answer → IsRecorded old new
+  waits_recorded fixed budget old new answer waits = recorded_then old waits.mid new (progresses_recorded old waits.mid waits.before) (polls_recorded fixed budget waits.mid new answer waits.polls)
+
+  pub takes_recorded : (entries : List EntryValue) (old new : Seen Home) → TakesAll entries old new → IsRecorded old new
+  takes_recorded [] old new same = same_recorded old new same
+  takes_recorded (entry ∷ entries) old new (mid, pops, rest) = recorded_then old mid new (still_recorded old mid _ (ap (λ (e : Seen Home). e.lanes) pops.read) (pop_adds old mid (Success entry) pops)) (takes_recorded entries mid new rest)

@@ -1,0 +1,12 @@
+use Rattle.std.proofs.Common.{◌≡◌, map}
+use Rattle.std.specs.List.{All}
+use Rattle.fab_face.specs.Held.{IsOpen}
+use Rattle.fab_domain.specs.Domain.{port_of}
+use Rattle.fab_domain.specs.Seen.{ring_seen}
+use Rattle.fab_library_laws.proofs.closing.ports_of.Given as goal
+
+abbrev pub invariant-endpoints : goal.invariant-endpoints
+invariant-endpoints l = record {
+  ports : l.ports.items ≡ map port_of l.yielded;
+  known : All (λ e. IsOpen (ring_seen e)) l.yielded;
+}

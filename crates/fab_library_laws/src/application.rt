@@ -1,0 +1,38 @@
+//! An application's part of a program, at an example: of the calls of `fab_app`, too, a record may be kept.
+ghost use Rattle.std.specs.Prelude.{Some, None, Ok, IfOk, IfErr, true, false};
+ghost use Rattle.fab_base.specs.declared.items.Kind.TheVariants.{TagMsg};
+ghost use Rattle.fab_base.specs.declared.peers.Level.TheVariants.{Transmit};
+ghost use Rattle.fab_model.specs.Calls.{message};
+ghost use Rattle.fab_face.specs.Answers.{receive_call};
+ghost use Rattle.fab_library_laws.specs.Recording.{IsRecorded};
+ghost use Rattle.fab_library_laws.specs.Talking.{Talks, TalksNot};
+
+use fab_app::completions::Polled;
+use fab_app::endpoint::{Calls, Endpoint};
+use fab_app::messages::COMPLETES;
+use fab_base::{Buf, Fault};
+
+/// Asks for a message of the other peer with this tag, sends it one, and waits for a completion, at most so many times.
+pub fn talk<E: Calls + Drop>(
+    endpoint: &mut Endpoint<E>,
+    other: u32,
+    tag: u64,
+    room: Buf,
+    bytes: Buf,
+    times: u32,
+) -> Result<Polled, Fault>
+    ensures ok { IfOk result (λ polled. Talks E.fixed (receive_call true (Some other) tag 0 room None tag) (message TagMsg (Some tag) other tag bytes None Transmit true false) other (E.seen endpoint.old) (E.seen endpoint.new) (Ok polled)) }
+    ensures err { IfErr result (λ why. TalksNot E.fixed (receive_call true (Some other) tag 0 room None tag) (message TagMsg (Some tag) other tag bytes None Transmit true false) other (E.seen endpoint.old) (E.seen endpoint.new) why) }
+    ensures recorded { IsRecorded (E.seen endpoint.old) (E.seen endpoint.new) }
+{
+    if let Err(refused) = endpoint.trecv(Some(other), tag, 0, room, tag) {
+        return Err(refused.why);
+    }
+    if let Err(refused) = endpoint.tsend(other, tag, bytes, None, tag, COMPLETES) {
+        return Err(refused.why);
+    }
+    match endpoint.wait(times) {
+        Ok(polled) => Ok(polled),
+        Err(_) => Err(Fault::NoMemory),
+    }
+}

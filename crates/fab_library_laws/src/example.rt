@@ -1,0 +1,41 @@
+//! A whole program, at an example: its clause is the law, of all that its endpoints did.
+ghost use Rattle.std.specs.Prelude.{◌≡◌, ℕ, List, Some, false, length, slice_get, OnOk};
+ghost use Rattle.fab_face.specs.Ports.{Whole};
+ghost use Rattle.fab_ring.specs.declared.port.RingPort.{RingPort as Port};
+ghost use Rattle.fab_domain.specs.Domain.{AreOpened};
+ghost use Rattle.fab_domain.specs.Seen.{ring_seen};
+ghost use Rattle.fab_library_laws.specs.Closing.{IsLawful};
+ghost use Rattle.fab_library_laws.specs.Recording.{IsRecorded};
+
+use crate::closing::close_all;
+use crate::thread::exchange;
+use fab_base::{Buf, Fault, Info, NoMemory};
+use fab_domain::{RingEndpoint, endpoints};
+use fab_link::PlainPort;
+use std::alloc::Global;
+
+/// So many bytes have the messages.
+const MESSAGE: u64 = 8;
+
+/// Lets each peer in turn exchange a message with peer 0, as `exchange` does, whatever is refused.
+fn each_exchanges(alloc: Global, endpoints: &mut Vec<RingEndpoint>) -> Result<(), NoMemory>
+    ensures count { length endpoints.new.items ≡ length endpoints.old.items }
+    ensures recorded { (p : ℕ) (e f : Whole Port) → slice_get endpoints.old.items p ≡ Some e → slice_get endpoints.new.items p ≡ Some f → IsRecorded (ring_seen e) (ring_seen f) }
+{
+    for me in 0..endpoints.len() {
+        let room = Buf::zeros(alloc, MESSAGE)?;
+        let bytes = Buf::zeros(alloc, MESSAGE)?;
+        let _ = exchange(&mut endpoints[me], 0, me as u64, room, bytes);
+    }
+    Ok(())
+}
+
+/// Opens the endpoints of a domain, lets each peer in turn exchange a message with peer 0, and closes them.
+pub fn program(alloc: Global, info: &Info) -> Result<Vec<PlainPort>, Fault>
+    ensures lawful { OnOk result ((all : List (Whole Port)) × (left : List (Whole Port)) × AreOpened info.now false all × IsLawful all left) }
+{
+    let mut all = endpoints(alloc, info, false)?;
+    each_exchanges(alloc, &mut all)?;
+    let ports = close_all(alloc, all)?;
+    Ok(ports)
+}
