@@ -1,9 +1,10 @@
 //! A whole program, at an example: its clause is the law, of all that its endpoints did.
-ghost use Rattle.std.specs.Prelude.{◌≡◌, ℕ, List, Some, false, length, slice_get, OnOk};
-ghost use Rattle.fab_face.specs.Ports.{Whole};
+ghost use Rattle.std.specs.Prelude.{◌≡◌, ℕ, List, Some, false, length, slice_get, IfErr, OnOk};
+ghost use Rattle.fab_face.specs.Ports.{Whole, is_granted};
 ghost use Rattle.fab_ring.specs.declared.port.RingPort.{RingPort as Port};
 ghost use Rattle.fab_domain.specs.Domain.{AreOpened};
 ghost use Rattle.fab_domain.specs.Seen.{ring_seen};
+ghost use Rattle.fab_open.specs.Opening.{why_not};
 ghost use Rattle.fab_library_laws.specs.Closing.{IsLawful};
 ghost use Rattle.fab_library_laws.specs.Recording.{IsRecorded};
 
@@ -31,8 +32,11 @@ fn each_exchanges(alloc: Global, endpoints: &mut Vec<RingEndpoint>) -> Result<()
 }
 
 /// Opens the endpoints of a domain, lets each peer in turn exchange a message with peer 0, and closes them.
+///
+/// `Invalid` exactly where a number of `info` is outside its limits; else it may answer `NoMemory`.
 pub fn program(alloc: Global, info: &Info) -> Result<Vec<PlainPort>, Fault>
     ensures lawful { OnOk result ((all : List (Whole Port)) × (left : List (Whole Port)) × AreOpened info.now false all × IsLawful all left) }
+    ensures why { IfErr result (λ why. why ≡ why_not (is_granted info.now info.now.peers)) }
 {
     let mut all = endpoints(alloc, info, false)?;
     each_exchanges(alloc, &mut all)?;
