@@ -1,5 +1,5 @@
 -- A thread's record goes on with each call of an application's endpoint, by the call's contract: that a call begins with an empty log changes nothing that a record has.
-use Rattle.std.proofs.Common.{◌≡◌, ℕ, Bool, List, [], ◌∷◌, ◌++◌, Option, None, Some, Result, Ok, Err, refl, ap}
+use Rattle.std.proofs.Common.{◌≡◌, ℕ, Bool, List, [], ◌∷◌, ◌++◌, length, Option, None, Some, Result, Ok, Err, inl, inr, refl, ap}
 use Rattle.fab_base.specs.declared.entries.Entry.{Entry as EntryValue}
 use Rattle.fab_base.specs.declared.entries.Taken.TheVariants.{Success, Failure}
 use Rattle.fab_base.specs.declared.faults.Fault.{Fault}
@@ -19,6 +19,9 @@ use Rattle.fab_app.specs.Polls.{Polls, PollsAs, Waits}
 use Rattle.fab_app.specs.Progresses.{Moves, Progresses}
 use Rattle.fab_app.specs.Takes.{TakesAll}
 use Rattle.fab_app.specs.Trying.{ReceivesWithin, ReceivesWithinNot, SendsLate, SendsLateNot}
+use Rattle.fab_collectives.specs.declared.collective.Collective.{Collective}
+use Rattle.fab_collectives.specs.declared.collective.Work.{Work}
+use Rattle.fab_collectives.specs.Driving.{Asks, AsksAll, AsksNot, Drives, Drove, Ends, Goes, InTurn, Tells, TellsAll, TellsNot, asking, between, telling}
 use Rattle.fab_doings.proofs.Keeping.{log_adds, pop_adds}
 use Rattle.fab_library_laws.specs.Recording.{IsRecorded}
 use Rattle.fab_library_laws.proofs.Recording.{recorded_then, still_recorded, went_recorded}
@@ -35,7 +38,7 @@ module _ {Home : Type 0} where
       let recorded = went_recorded old told call acts (record { goes = goes; log = refl; size = size; ported = ported }) in
       record { goes_on = λ x doings states before. recorded.goes_on x doings states before; home = ported.home; number = ported.number }
 
-  same_recorded : (old new : Seen Home) → new ≡ old → IsRecorded old new
+  pub same_recorded : (old new : Seen Home) → new ≡ old → IsRecorded old new
   same_recorded old new same = still_recorded old new [] (ap (λ (e : Seen Home). e.lanes) same) (log_adds old new (ap (λ (e : Seen Home). e.held) same) (ap (λ (e : Seen Home). e.lanes) same))
 
   -- ---- transmit calls
@@ -110,3 +113,34 @@ module _ {Home : Type 0} where
   pub takes_recorded : (entries : List EntryValue) (old new : Seen Home) → TakesAll entries old new → IsRecorded old new
   takes_recorded [] old new same = same_recorded old new same
   takes_recorded (entry ∷ entries) old new (mid, pops, rest) = recorded_then old mid new (still_recorded old mid _ (ap (λ (e : Seen Home). e.lanes) pops.read) (pop_adds old mid (Success entry) pops)) (takes_recorded entries mid new rest)
+
+  -- ---- a drive of a collective
+
+  in_turn_recorded : (one : ℕ → Seen Home → Seen Home → Type 0) → ((rank : ℕ) (old new : Seen Home) → one rank old new → IsRecorded old new) → (ranks : List ℕ) (old new : Seen Home) → InTurn one ranks old new → IsRecorded old new
+  in_turn_recorded one each [] old new same = same_recorded old new same
+  in_turn_recorded one each (rank ∷ ranks) old new (mid, made, rest) = recorded_then old mid new (each rank old mid made) (in_turn_recorded one each ranks mid new rest)
+
+  ends_recorded : (not : ℕ → Seen Home → Seen Home → Fault → Type 0) → ((rank : ℕ) (old new : Seen Home) (why : Fault) → not rank old new why → IsRecorded old new) → (b last : ℕ) (old new : Seen Home) (answer : Result (Unit {0}) Fault) → Ends not b last old new answer → IsRecorded old new
+  ends_recorded not each b last old new (Ok done) (inl (all, same)) = same_recorded old new same
+  ends_recorded not each b last old new (Ok done) (inr (lt, why, again, refused)) = each b old new why refused
+  ends_recorded not each b last old new (Err why) (lt, good, inl refused) = each b old new why refused
+  ends_recorded not each b last old new (Err why) (lt, good, inr (lacks, same)) = same_recorded old new same
+
+  half_recorded : (one : ℕ → Seen Home → Seen Home → Type 0) (not : ℕ → Seen Home → Seen Home → Fault → Type 0) → ((rank : ℕ) (old new : Seen Home) → one rank old new → IsRecorded old new) → ((rank : ℕ) (old new : Seen Home) (why : Fault) → not rank old new why → IsRecorded old new) → (test : ℕ → Bool) (a b last : ℕ) (old new : Seen Home) (answer : Result (Unit {0}) Fault) → Goes one not test a b last old new answer → IsRecorded old new
+  half_recorded one not each each_not test a b last old new answer goes = recorded_then old goes.mid new (in_turn_recorded one each (between test a b) old goes.mid goes.made) (ends_recorded not each_not b last goes.mid new answer goes.ends)
+
+  asks_recorded : (work : Work) (len a b : ℕ) (old new : Seen Home) (answer : Result (Unit {0}) Fault) → AsksAll work len a b old new answer → IsRecorded old new
+  asks_recorded work len a b old new answer = half_recorded (Asks work.tag len) (AsksNot work.tag len) (λ rank x y. late_recorded (asking work.tag len rank) x y) (λ rank x y why. late_not_recorded (asking work.tag len rank) x y why) _ a b work.peers old new answer
+
+  tells_recorded : (fixed : Bool) (work : Work) (own : List ℕ) (a b : ℕ) (old new : Seen Home) (answer : Result (Unit {0}) Fault) → TellsAll fixed work own a b old new answer → IsRecorded old new
+  tells_recorded fixed work own a b old new answer = half_recorded (Tells fixed work.tag own) (TellsNot fixed work.tag own) (λ rank x y. sends_recorded fixed (telling work.tag own rank) rank x y) (λ rank x y why. sends_not_recorded fixed (telling work.tag own rank) x y why) _ a b work.peers old new answer
+
+  drove_recorded : (fixed : Bool) (c d : Collective) (old new : Seen Home) (answer : Result (Unit {0}) Fault) → Drove fixed c d old new answer → IsRecorded old new
+  drove_recorded fixed c d old new answer (mid, asks, tells) = recorded_then old mid new (asks_recorded c.work (length c.own) c.asked d.asked old mid (Ok tt) asks) (tells_recorded fixed c.work c.own c.sent d.sent mid new answer tells)
+
+  pub drives_recorded : (fixed : Bool) (c d : Collective) (old new : Seen Home) (answer : Result (Option (List ℕ)) Fault) → Drives fixed c d old new answer → IsRecorded old new
+  unfolding Drives
+  drives_recorded fixed c d old new (Ok given) drove = drove_recorded fixed c d old new (Ok tt) drove
+  drives_recorded fixed c d old new (Err why) (inl (asks, none)) = asks_recorded c.work (length c.own) c.asked d.asked old new (Err why) asks
+  drives_recorded fixed c d old new (Err why) (inr (inl drove)) = drove_recorded fixed c d old new (Err why) drove
+  drives_recorded fixed c d old new (Err why) (inr (inr (drove, nothing))) = drove_recorded fixed c d old new (Ok tt) drove

@@ -1,9 +1,5 @@
 //! An application's part of a program, at an example: of the calls of `fab_app`, too, a record may be kept.
-ghost use Rattle.std.specs.Prelude.{Some, None, Ok, IfOk, IfErr, true, false};
-ghost use Rattle.fab_base.specs.declared.items.Kind.TheVariants.{TagMsg};
-ghost use Rattle.fab_base.specs.declared.peers.Level.TheVariants.{Transmit};
-ghost use Rattle.fab_model.specs.Calls.{message};
-ghost use Rattle.fab_face.specs.Answers.{receive_call};
+ghost use Rattle.std.specs.Prelude.{Ok, IfOk, IfErr};
 ghost use Rattle.fab_library_laws.specs.Recording.{IsRecorded};
 ghost use Rattle.fab_library_laws.specs.Talking.{Talks, TalksNot};
 
@@ -21,8 +17,8 @@ pub fn talk<E: Calls + Drop>(
     bytes: Buf,
     times: u32,
 ) -> Result<Polled, Fault>
-    ensures ok { IfOk result (λ polled. Talks E.fixed (receive_call true (Some other) tag 0 room None tag) (message TagMsg (Some tag) other tag bytes None Transmit true false) other (E.seen endpoint.old) (E.seen endpoint.new) (Ok polled)) }
-    ensures err { IfErr result (λ why. TalksNot E.fixed (receive_call true (Some other) tag 0 room None tag) (message TagMsg (Some tag) other tag bytes None Transmit true false) other (E.seen endpoint.old) (E.seen endpoint.new) why) }
+    ensures ok { IfOk result (λ polled. Talks E.fixed other tag room bytes (E.seen endpoint.old) (E.seen endpoint.new) (Ok polled)) }
+    ensures err { IfErr result (λ why. TalksNot E.fixed other tag room bytes (E.seen endpoint.old) (E.seen endpoint.new) why) }
     ensures recorded { IsRecorded (E.seen endpoint.old) (E.seen endpoint.new) }
 {
     if let Err(refused) = endpoint.trecv(Some(other), tag, 0, room, tag) {

@@ -19,7 +19,7 @@ use fab_ring::{RingPort, gather};
 use std::alloc::Global;
 
 /// Closes endpoints, and gives their ports, in order. Want of memory lets all go.
-fn ports_of(alloc: Global, endpoints: Vec<RingEndpoint>) -> Result<Vec<RingPort>, NoMemory>
+fn close_each(alloc: Global, endpoints: Vec<RingEndpoint>) -> Result<Vec<RingPort>, NoMemory>
     ensures ports { IfOk result (λ ports. ports.items ≡ map port_of endpoints.items) }
     ensures known { OnOk result (All (λ e. IsOpen (ring_seen e)) endpoints.items) }
 {
@@ -42,7 +42,7 @@ pub fn close_all(alloc: Global, endpoints: Vec<RingEndpoint>) -> Result<Vec<Plai
     ensures gathered { IfOk result (λ plain. Gathered (map port_of endpoints.items) plain.items) }
 {
     law_library();
-    let ports = ports_of(alloc, endpoints)?;
+    let ports = close_each(alloc, endpoints)?;
     match gather(alloc, ports) {
         Ok(plain) => Ok(plain),
         Err(_) => Err(NoMemory),

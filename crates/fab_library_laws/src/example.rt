@@ -1,12 +1,11 @@
 //! A whole program, at an example: its clause is the law, of all that its endpoints did.
-ghost use Rattle.std.specs.Prelude.{◌≡◌, ℕ, List, Some, false, length, slice_get, IfErr, OnOk};
+ghost use Rattle.std.specs.Prelude.{◌≡◌, List, false, length, map, IfErr, IfOk};
 ghost use Rattle.fab_face.specs.Ports.{Whole, is_granted};
 ghost use Rattle.fab_ring.specs.declared.port.RingPort.{RingPort as Port};
-ghost use Rattle.fab_domain.specs.Domain.{AreOpened};
-ghost use Rattle.fab_domain.specs.Seen.{ring_seen};
+ghost use Rattle.fab_ring.specs.Gather.{Gathered};
+ghost use Rattle.fab_domain.specs.Domain.{AreOpened, port_of};
 ghost use Rattle.fab_open.specs.Opening.{why_not};
-ghost use Rattle.fab_library_laws.specs.Closing.{IsLawful};
-ghost use Rattle.fab_library_laws.specs.Recording.{IsRecorded};
+ghost use Rattle.fab_library_laws.specs.Closing.{AreRecorded, IsLawful};
 
 use crate::closing::close_all;
 use crate::thread::exchange;
@@ -21,7 +20,7 @@ const MESSAGE: u64 = 8;
 /// Lets each peer in turn exchange a message with peer 0, as `exchange` does, whatever is refused.
 fn each_exchanges(alloc: Global, endpoints: &mut Vec<RingEndpoint>) -> Result<(), NoMemory>
     ensures count { length endpoints.new.items ≡ length endpoints.old.items }
-    ensures recorded { (p : ℕ) (e f : Whole Port) → slice_get endpoints.old.items p ≡ Some e → slice_get endpoints.new.items p ≡ Some f → IsRecorded (ring_seen e) (ring_seen f) }
+    ensures recorded { AreRecorded endpoints.old.items endpoints.new.items }
 {
     for me in 0..endpoints.len() {
         let room = Buf::zeros(alloc, MESSAGE)?;
@@ -35,7 +34,7 @@ fn each_exchanges(alloc: Global, endpoints: &mut Vec<RingEndpoint>) -> Result<()
 ///
 /// `Invalid` exactly where a number of `info` is outside its limits; else it may answer `NoMemory`.
 pub fn program(alloc: Global, info: &Info) -> Result<Vec<PlainPort>, Fault>
-    ensures lawful { OnOk result ((all : List (Whole Port)) × (left : List (Whole Port)) × AreOpened info.now false all × IsLawful all left) }
+    ensures lawful { IfOk result (λ plain. (all : List (Whole Port)) × (left : List (Whole Port)) × AreOpened info.now false all × IsLawful all left × Gathered (map port_of left) plain.items) }
     ensures why { IfErr result (λ why. why ≡ why_not (is_granted info.now info.now.peers)) }
 {
     let mut all = endpoints(alloc, info, false)?;

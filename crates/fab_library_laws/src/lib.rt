@@ -6,6 +6,7 @@
 //! `fab_domain` opens the endpoints, each call says what it did, and `gather` of `fab_ring` joins the ports once the threads
 //! are done. Read `specs/Library.antt`. Each thread is to keep a record of what its calls did: that it may is said by the contracts
 //! of these, as `exchange` shows of an endpoint (`specs/Recording.antt`) and `talk` of an application's (`specs/Talking.antt`).
+//! `close_all` has the law in its contract (`specs/Closing.antt`), and `program` is a whole program that ends by it.
 #![tactic(auto)]
 
 ghost use Rattle.fab_library_laws.specs.Library.{LibraryObeys};

@@ -1,9 +1,5 @@
 //! A thread's part of a program, at an example: whatever it calls, the contracts of its calls say that a record of it may be kept.
-ghost use Rattle.std.specs.Prelude.{Some, None, Ok, IfOk, IfErr, true, false};
-ghost use Rattle.fab_base.specs.declared.items.Kind.TheVariants.{TagMsg};
-ghost use Rattle.fab_base.specs.declared.peers.Level.TheVariants.{Transmit};
-ghost use Rattle.fab_model.specs.Calls.{message};
-ghost use Rattle.fab_face.specs.Answers.{receive_call};
+ghost use Rattle.std.specs.Prelude.{Ok, IfOk, IfErr};
 ghost use Rattle.fab_library_laws.specs.Recording.{Exchanges, ExchangesNot, IsRecorded};
 ghost use Rattle.fab_library_laws.specs.declared.thread.TheConstants.{BUDGET};
 
@@ -22,8 +18,8 @@ pub fn exchange<E: Messages + Receives + Progress>(
     room: Buf,
     bytes: Buf,
 ) -> Result<Moved, Fault>
-    ensures ok { IfOk result (λ moved. Exchanges E.fixed (receive_call true (Some other) tag 0 room None tag) (message TagMsg (Some tag) other tag bytes None Transmit true false) other BUDGET (E.seen endpoint.old) (E.seen endpoint.new) (Ok moved)) }
-    ensures err { IfErr result (λ why. ExchangesNot E.fixed (receive_call true (Some other) tag 0 room None tag) (message TagMsg (Some tag) other tag bytes None Transmit true false) other BUDGET (E.seen endpoint.old) (E.seen endpoint.new) why) }
+    ensures ok { IfOk result (λ moved. Exchanges E.fixed other tag room bytes BUDGET (E.seen endpoint.old) (E.seen endpoint.new) (Ok moved)) }
+    ensures err { IfErr result (λ why. ExchangesNot E.fixed other tag room bytes BUDGET (E.seen endpoint.old) (E.seen endpoint.new) why) }
     ensures recorded { IsRecorded (E.seen endpoint.old) (E.seen endpoint.new) }
 {
     if let Err(refused) = endpoint.trecv(Some(other), tag, 0, room, tag) {

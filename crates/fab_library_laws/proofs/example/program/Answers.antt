@@ -13,4 +13,5 @@ returns-clause-lawful c = (
     count = c.each_exchanges.ensures.count;
     recorded = c.each_exchanges.ensures.recorded;
   }),
+  c.in_ok-ports.ensures.gathered,
 )

@@ -4,7 +4,7 @@ use Rattle.std.proofs.lemmas.List.Elements.{All-append, All-cons}
 use Rattle.fab_face.specs.Held.{IsOpen}
 use Rattle.fab_domain.specs.Domain.{port_of}
 use Rattle.fab_domain.specs.Seen.{ring_seen}
-use Rattle.fab_library_laws.proofs.closing.ports_of.Goals as goal
+use Rattle.fab_library_laws.proofs.closing.close_each.Goals as goal
 
 pub endpoints-preserved : goal.endpoints-preserved
 endpoints-preserved c =

@@ -3,7 +3,7 @@ use Rattle.std.specs.List.{All}
 use Rattle.fab_face.specs.Held.{IsOpen}
 use Rattle.fab_domain.specs.Domain.{port_of}
 use Rattle.fab_domain.specs.Seen.{ring_seen}
-use Rattle.fab_library_laws.proofs.closing.ports_of.Given as goal
+use Rattle.fab_library_laws.proofs.closing.close_each.Given as goal
 
 abbrev pub invariant-endpoints : goal.invariant-endpoints
 invariant-endpoints l = record {
