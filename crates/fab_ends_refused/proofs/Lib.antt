@@ -1,4 +1,0 @@
-pub mod Elements
-pub mod Refused
-pub mod Regions
-pub mod Requests

@@ -1,4 +1,0 @@
-pub mod Refused
-pub mod Granting
-pub mod Framing
-pub mod Completions

@@ -1,2 +1,0 @@
-pub mod Receives
-pub mod Refused
