@@ -23,9 +23,16 @@ use std::marker::Model;
 
 /// An endpoint over lanes in memory that all peers of its domain share. Its calls are those of the traits of
 /// `fab_face`, with what each promises there.
-#[derive(Drop)]
 pub struct RingEndpoint {
     pub(crate) inner: Endpoint<RingPort>,
+}
+
+// Not derived, for the same reason as that of the machine (`fab_open`).
+impl Drop for RingEndpoint {
+    fn drop(self) {
+        let RingEndpoint { inner } = self;
+        drop(inner);
+    }
 }
 
 impl Model for RingEndpoint {
@@ -46,7 +53,8 @@ impl RingEndpoint {
         ensures peers { result.av.peers ≡ peers_of (port_of self) }
         ensures regions { result.regions ≡ self.held.state.regions }
     {
-        close(self.inner)
+        let RingEndpoint { inner } = self;
+        close(inner)
     }
 }
 

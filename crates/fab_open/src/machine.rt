@@ -23,9 +23,16 @@ use fab_mr::Regions;
 use std::alloc::Global;
 
 /// The machine of an endpoint, with matching in hashed bins.
-#[derive(Drop)]
 pub struct BinMachine {
     pub(crate) core: Core<BinMatcher>,
+}
+
+// Not derived, so that a crate which lets endpoints go proves one call for their machines, and not the end of all that these are made of.
+impl Drop for BinMachine {
+    fn drop(self) {
+        let BinMachine { core } = self;
+        drop(core);
+    }
 }
 
 impl BinMachine {
@@ -47,7 +54,8 @@ impl BinMachine {
         ensures peers { result.0.peers ≡ length self.core.tx.tx.sent }
         ensures regions { result.1 ≡ self.core.target.regions }
     {
-        self.core.into_parts()
+        let BinMachine { core } = self;
+        core.into_parts()
     }
 }
 
