@@ -122,9 +122,9 @@ module _ {Home : Type 0} where
 
   ends_recorded : (not : ℕ → Seen Home → Seen Home → Fault → Type 0) → ((rank : ℕ) (old new : Seen Home) (why : Fault) → not rank old new why → IsRecorded old new) → (b last : ℕ) (old new : Seen Home) (answer : Result (Unit {0}) Fault) → Ends not b last old new answer → IsRecorded old new
   ends_recorded not each b last old new (Ok done) (inl (all, same)) = same_recorded old new same
-  ends_recorded not each b last old new (Ok done) (inr (lt, why, again, refused)) = each b old new why refused
-  ends_recorded not each b last old new (Err why) (lt, good, inl refused) = each b old new why refused
-  ends_recorded not each b last old new (Err why) (lt, good, inr (lacks, same)) = same_recorded old new same
+  ends_recorded not each b last old new (Ok done) (inr (lt, passing)) = each b old new passing.0 passing.2
+  ends_recorded not each b last old new (Err why) (lt, (good, inl refused)) = each b old new why refused
+  ends_recorded not each b last old new (Err why) (lt, (good, inr (lacks, same))) = same_recorded old new same
 
   half_recorded : (one : ℕ → Seen Home → Seen Home → Type 0) (not : ℕ → Seen Home → Seen Home → Fault → Type 0) → ((rank : ℕ) (old new : Seen Home) → one rank old new → IsRecorded old new) → ((rank : ℕ) (old new : Seen Home) (why : Fault) → not rank old new why → IsRecorded old new) → (test : ℕ → Bool) (a b last : ℕ) (old new : Seen Home) (answer : Result (Unit {0}) Fault) → Goes one not test a b last old new answer → IsRecorded old new
   half_recorded one not each each_not test a b last old new answer goes = recorded_then old goes.mid new (in_turn_recorded one each (between test a b) old goes.mid goes.made) (ends_recorded not each_not b last goes.mid new answer goes.ends)
