@@ -1,7 +1,6 @@
 -- What an application's thread does, at an example.
 --     Talks ..        a receive was posted, a message sent, and a completion awaited
 --     TalksNot ..     one of the two was refused, or memory lacked while it was awaited
---     poll_frames     how many frames each poll of a `wait` moves at most
 use Rattle.std.specs.Prelude.{◌≡◌, ◌⊎◌, ℕ, Bool, List, Result, Err}
 use Rattle.fab_base.specs.declared.faults.Fault.{Fault}
 use Rattle.fab_base.specs.declared.faults.Fault.TheVariants.{NoMemory as LacksMemory}
@@ -9,13 +8,11 @@ use Rattle.fab_base.specs.declared.faults.NoMemory.{NoMemory}
 use Rattle.fab_face.specs.Answers.{Sends, SendsNot}
 use Rattle.fab_face.specs.Held.{Seen}
 use Rattle.fab_app.specs.declared.completions.Polled.{Polled}
+use Rattle.fab_app.specs.declared.moving.TheConstants.{BUDGET}
 use Rattle.fab_app.specs.Cleared.{cleared}
 use Rattle.fab_app.specs.Late.{ReceivesLate, ReceivesLateNot}
 use Rattle.fab_app.specs.Polls.{Waits}
 use Rattle.fab_library_laws.specs.Recording.{asks, says}
-
-abbrev pub poll_frames : ℕ
-poll_frames = 64
 
 module _ {Home : Type 0} (fixed : Bool) (other tag : ℕ) (room bytes : List ℕ) (old new : Seen Home) where
   pub record Talks (answer : Result Polled NoMemory) : Type 0 where
@@ -23,7 +20,7 @@ module _ {Home : Type 0} (fixed : Bool) (other tag : ℕ) (room bytes : List ℕ
     pub sent : Seen Home
     pub receives : ReceivesLate (asks other tag room) old asked
     pub sends : Sends fixed (says other tag bytes) other (cleared asked) sent
-    pub waits : Waits fixed poll_frames sent new answer
+    pub waits : Waits fixed BUDGET sent new answer
 
   abbrev pub TalksNot : Fault → Type 0
   TalksNot why =
