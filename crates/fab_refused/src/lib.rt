@@ -1,19 +1,11 @@
-//! What the clauses of other crates refuse.
+//! What the clauses of traits refuse, of any type that has the trait.
 //!
-//! Calls are handed on as they are, with the clauses that their crates give them, and theorems (`proofs/`) say for all values what
-//! contradicts these: so no crate is proved once more for a wrong body. `README.md` has the list.
+//! A call of a trait has no body of its own that an edit could change. So such calls are handed on here as they are, with the clauses that
+//! the theorems use, and the theorems (`proofs/`) say for all values what contradicts these clauses. Where the trait loses the clause, the
+//! call handed on is not proved. `README.md` has the list.
 #![tactic(auto)]
 
-pub mod addresses;
-pub mod application;
 pub mod endpoints;
-pub mod ends;
-pub mod frames;
-pub mod grammar;
-pub mod inbox;
-pub mod matching;
+pub mod machines;
 pub mod ports;
-pub mod rounds;
-pub mod scripts;
-pub mod sends;
-pub mod workloads;
+pub mod stores;
