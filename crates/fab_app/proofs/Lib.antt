@@ -4,6 +4,7 @@ pub mod Chains
 pub mod Late
 pub mod Taking
 pub mod Polling
+pub mod Counting
 pub mod Retries
 pub mod Drawing
 pub mod Ended

@@ -4,3 +4,4 @@ pub mod Late
 pub mod Polls
 pub mod Takes
 pub mod Trying
+pub mod Within

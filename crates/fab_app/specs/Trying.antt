@@ -2,7 +2,7 @@
 --     SendsLate, SendsLateNot              progress of earlier tries, and then the call: Ok, refused
 --     ReceivesWithin, ReceivesWithinNot    the same of a receive call, each try with its draws
 --     again_of why buf                     what is done with a refusal
-use Rattle.std.specs.Prelude.{◌≡◌, ℕ, Bool, List, Some, None, Result, Ok, Err}
+use Rattle.std.specs.Prelude.{◌≡◌, ℕ, Bool, false, List, Some, None, Result, Ok, Err, IfErr}
 use Rattle.fab_base.specs.declared.faults.Busy.{Busy}
 use Rattle.fab_base.specs.declared.faults.Fault.{Fault}
 use Rattle.fab_base.specs.declared.faults.Fault.TheVariants.{Again}
@@ -14,7 +14,7 @@ use Rattle.fab_face.specs.Answers.{Sends, SendsNot}
 use Rattle.fab_app.specs.declared.receiving.Tried.{Tried}
 use Rattle.fab_app.specs.declared.receiving.Tried.TheVariants.{Answered, Late}
 use Rattle.fab_app.specs.declared.trying.Message.{Message}
-use Rattle.fab_app.specs.Cleared.{cleared}
+use Rattle.fab_app.specs.Cleared.{cleared, is_again}
 use Rattle.fab_app.specs.Late.{ReceivesLate, ReceivesLateNot}
 use Rattle.fab_app.specs.Progresses.{Progresses}
 
@@ -53,5 +53,5 @@ sent_by m buf = elim m.tag [
 
 -- one try, by its answer
 abbrev pub TriesBusy : Result (Unit {0}) RefusedWith → Tried → Type 0
-TriesBusy answer (Answered same) = same ≡ answer
+TriesBusy answer (Answered same) = (same ≡ answer) × IfErr same (λ r. is_again r.why ≡ false)
 TriesBusy answer (Late back) = (busy : Busy) × (answer ≡ Err (record { why = Again busy; buf = back }))

@@ -1,5 +1,5 @@
 //! The completion queue (fi_cq(3)).
-ghost use Rattle.std.specs.Prelude.{◌≡◌, ◌++◌, List, Some, OnErr, Ok, IfOk};
+ghost use Rattle.std.specs.Prelude.{◌≡◌, ◌+◌, ◌*◌, ◌++◌, List, Some, OnErr, Ok, IfOk};
 ghost use Rattle.fab_base.specs.declared.entries.Entry.{Entry as EntryValue};
 ghost use Rattle.fab_base.specs.declared.entries.ErrEntry.{ErrEntry as ErrEntryValue};
 ghost use Rattle.fab_base.specs.declared.entries.Taken.TheVariants.{Failure};
@@ -10,6 +10,7 @@ ghost use Rattle.fab_app.specs.Cleared.{cleared};
 ghost use Rattle.fab_app.specs.Polls.{has_come, EndsPoll, Polls, TakesFirst, Waits};
 ghost use Rattle.fab_app.specs.declared.completions.Polled.TheVariants.{Error};
 ghost use Rattle.fab_app.specs.Takes.{TakesMost};
+ghost use Rattle.fab_app.specs.Within.{PollsWithin};
 
 use crate::endpoint::{Calls, Endpoint};
 use crate::moving::BUDGET;
@@ -133,7 +134,8 @@ impl<E: Calls + Drop> Endpoint<E> {
 
     /// Polls until there is a completion, at most so many times and once more, with a pause of the processor between.
     fn spin(&mut self, spins: u32) -> Result<Polled, NoMemory>
-        ensures { Waits E.fixed BUDGET (E.seen self.old) (E.seen self.new) result }
+        ensures waits { Waits E.fixed BUDGET (E.seen self.old) (E.seen self.new) result }
+        ensures tries { PollsWithin E.fixed BUDGET spins (E.seen self.old) (E.seen self.new) result }
     {
         'spins: for _spin in 0..spins {
             let polled = self.poll(BUDGET);
@@ -155,6 +157,7 @@ impl<E: Calls + Drop> Endpoint<E> {
     /// `Idle` and `More` say that none came in so many turns. At `NoMemory` no completion is taken, and what moved stays moved.
     pub fn wait_turns(&mut self, turns: u32, spins: u32) -> Result<Polled, NoMemory>
         ensures waits { Waits E.fixed BUDGET (E.seen self.old) (E.seen self.new) result }
+        ensures tries { PollsWithin E.fixed BUDGET (turns * (spins + 1)) (E.seen self.old) (E.seen self.new) result }
     {
         'turns: for _turn in 0..turns {
             let polled = self.spin(spins);
@@ -170,6 +173,7 @@ impl<E: Calls + Drop> Endpoint<E> {
     /// threads run between.
     pub fn wait(&mut self, times: u32) -> Result<Polled, NoMemory>
         ensures waits { Waits E.fixed BUDGET (E.seen self.old) (E.seen self.new) result }
+        ensures tries { PollsWithin E.fixed BUDGET times (E.seen self.old) (E.seen self.new) result }
     {
         self.wait_turns(times, 0)
     }

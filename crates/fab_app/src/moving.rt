@@ -4,6 +4,7 @@ ghost use Rattle.fab_face.specs.Answers.{MayLack};
 ghost use Rattle.fab_model.specs.State.{deferred_count, in_use};
 ghost use Rattle.fab_app.specs.Cleared.{cleared};
 ghost use Rattle.fab_app.specs.Progresses.{Moves, NextOf, Progresses, awaiting_of, is_flushed};
+ghost use Rattle.fab_app.specs.Within.{MovesWithin};
 
 use crate::endpoint::{Calls, Endpoint};
 use fab_base::NoMemory;
@@ -84,6 +85,7 @@ impl<E: Calls + Drop> Endpoint<E> {
         ensures lacks { OnErr result (MayLack E.fixed (E.seen self.new)) }
         ensures done { IfOk result (λ done. done ≡ is_flushed (E.seen self.new).held.state) }
         ensures ended { IfOk result (λ done. IsTrue done → in_use (E.seen self.new).held.state.tx ≡ 0) }
+        ensures tries { IfOk result (λ done. MovesWithin E.fixed BUDGET times (E.seen self.old) (E.seen self.new) done) }
     {
         'times: for _time in 0..times {
             if self.is_flushed() {

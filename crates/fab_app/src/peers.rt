@@ -9,6 +9,7 @@ ghost use Rattle.fab_model.specs.Calls.{Remove, is_peer};
 ghost use Rattle.fab_face.specs.Held.{with_machine};
 ghost use Rattle.fab_face.specs.Answers.{Inserts, Locally, MayLack, adding};
 ghost use Rattle.fab_app.specs.Progresses.{Progresses};
+ghost use Rattle.fab_app.specs.Within.{MovesWithin};
 
 use crate::endpoint::{Calls, Endpoint};
 use crate::moving::BUDGET;
@@ -47,6 +48,7 @@ impl<E: Calls + Drop> Endpoint<E> {
         ensures moved { Progresses (E.seen self.old) (E.seen self.new) }
         ensures lacks { OnErr result (MayLack E.fixed (E.seen self.new)) }
         ensures done { IfOk result (λ done. done ≡ nat_le n (tally_of (E.seen self.new).held.state.counters class).ok) }
+        ensures tries { IfOk result (λ done. MovesWithin E.fixed BUDGET times (E.seen self.old) (E.seen self.new) done) }
     {
         'times: for _time in 0..times {
             if self.cntr_reached(class, n) {

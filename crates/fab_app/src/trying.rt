@@ -6,6 +6,7 @@ ghost use Rattle.fab_face.specs.Answers.{Sends, SendsNot, receive_call};
 ghost use Rattle.fab_app.specs.Cleared.{cleared, is_log_full};
 ghost use Rattle.fab_app.specs.Late.{asked};
 ghost use Rattle.fab_app.specs.Trying.{again_of, sent_by, ReceivesWithin, ReceivesWithinNot, SendsLate, SendsLateNot, TriesBusy};
+ghost use Rattle.fab_app.specs.Within.{AsksWithin, AsksWithinNot, SendsWithin, SendsWithinNot};
 
 use crate::endpoint::{Calls, Endpoint};
 use crate::moving::BUDGET;
@@ -73,6 +74,8 @@ impl<E: Calls + Drop> Endpoint<E> {
         ensures ok { OnOk result (SendsLate E.fixed (sent_by message buf) message.dest (E.seen self.old) (E.seen self.new)) }
         ensures err { IfErr result (λ r. (r.buf ≡ buf) × SendsLateNot E.fixed (sent_by message buf) (E.seen self.old) (E.seen self.new) r.why) }
         ensures never { IfErr result (λ r. is_log_full r.why ≡ false) }
+        ensures tries { OnOk result (SendsWithin E.fixed BUDGET times (sent_by message buf) message.dest (E.seen self.old) (E.seen self.new)) }
+        ensures gives_up { IfErr result (λ r. SendsWithinNot E.fixed BUDGET times (sent_by message buf) (E.seen self.old) (E.seen self.new) r.why) }
     {
         let mut buf = buf;
         'times: for _time in 0..times {
@@ -100,6 +103,8 @@ impl<E: Calls + Drop> Endpoint<E> {
         ensures ok { OnOk result (SendsLate E.fixed (message Msg (Some ctx) dest 0 buf imm flags.level flags.completion flags.fence) dest (E.seen self.old) (E.seen self.new)) }
         ensures err { IfErr result (λ r. (r.buf ≡ buf) × SendsLateNot E.fixed (message Msg (Some ctx) dest 0 buf imm flags.level flags.completion flags.fence) (E.seen self.old) (E.seen self.new) r.why) }
         ensures never { IfErr result (λ r. is_log_full r.why ≡ false) }
+        ensures tries { OnOk result (SendsWithin E.fixed BUDGET times (message Msg (Some ctx) dest 0 buf imm flags.level flags.completion flags.fence) dest (E.seen self.old) (E.seen self.new)) }
+        ensures gives_up { IfErr result (λ r. SendsWithinNot E.fixed BUDGET times (message Msg (Some ctx) dest 0 buf imm flags.level flags.completion flags.fence) (E.seen self.old) (E.seen self.new) r.why) }
     {
         let message = Message {
             dest,
@@ -125,6 +130,8 @@ impl<E: Calls + Drop> Endpoint<E> {
         ensures ok { OnOk result (SendsLate E.fixed (message TagMsg (Some ctx) dest tag buf imm flags.level flags.completion flags.fence) dest (E.seen self.old) (E.seen self.new)) }
         ensures err { IfErr result (λ r. (r.buf ≡ buf) × SendsLateNot E.fixed (message TagMsg (Some ctx) dest tag buf imm flags.level flags.completion flags.fence) (E.seen self.old) (E.seen self.new) r.why) }
         ensures never { IfErr result (λ r. is_log_full r.why ≡ false) }
+        ensures tries { OnOk result (SendsWithin E.fixed BUDGET times (message TagMsg (Some ctx) dest tag buf imm flags.level flags.completion flags.fence) dest (E.seen self.old) (E.seen self.new)) }
+        ensures gives_up { IfErr result (λ r. SendsWithinNot E.fixed BUDGET times (message TagMsg (Some ctx) dest tag buf imm flags.level flags.completion flags.fence) (E.seen self.old) (E.seen self.new) r.why) }
     {
         let message = Message {
             dest,
@@ -141,6 +148,8 @@ impl<E: Calls + Drop> Endpoint<E> {
         ensures ok { OnOk result (ReceivesWithin (asked ask ctx buf) (E.seen self.old) (E.seen self.new)) }
         ensures err { IfErr result (λ r. (r.buf ≡ buf) × ReceivesWithinNot (asked ask ctx buf) (E.seen self.old) (E.seen self.new) r.why) }
         ensures never { IfErr result (λ r. is_log_full r.why ≡ false) }
+        ensures tries { OnOk result (AsksWithin E.fixed BUDGET times (asked ask ctx buf) (E.seen self.old) (E.seen self.new)) }
+        ensures gives_up { IfErr result (λ r. AsksWithinNot E.fixed BUDGET times (asked ask ctx buf) (E.seen self.old) (E.seen self.new) r.why) }
     {
         let mut buf = buf;
         'times: for _time in 0..times {
@@ -167,6 +176,8 @@ impl<E: Calls + Drop> Endpoint<E> {
         ensures ok { OnOk result (ReceivesWithin (receive_call false source 0 0 buf None ctx) (E.seen self.old) (E.seen self.new)) }
         ensures err { IfErr result (λ r. (r.buf ≡ buf) × ReceivesWithinNot (receive_call false source 0 0 buf None ctx) (E.seen self.old) (E.seen self.new) r.why) }
         ensures never { IfErr result (λ r. is_log_full r.why ≡ false) }
+        ensures tries { OnOk result (AsksWithin E.fixed BUDGET times (receive_call false source 0 0 buf None ctx) (E.seen self.old) (E.seen self.new)) }
+        ensures gives_up { IfErr result (λ r. AsksWithinNot E.fixed BUDGET times (receive_call false source 0 0 buf None ctx) (E.seen self.old) (E.seen self.new) r.why) }
     {
         self.ask_within(times, Ask::Plain(source), ctx, buf)
     }
@@ -184,6 +195,8 @@ impl<E: Calls + Drop> Endpoint<E> {
         ensures ok { OnOk result (ReceivesWithin (receive_call true source tag ignore buf None ctx) (E.seen self.old) (E.seen self.new)) }
         ensures err { IfErr result (λ r. (r.buf ≡ buf) × ReceivesWithinNot (receive_call true source tag ignore buf None ctx) (E.seen self.old) (E.seen self.new) r.why) }
         ensures never { IfErr result (λ r. is_log_full r.why ≡ false) }
+        ensures tries { OnOk result (AsksWithin E.fixed BUDGET times (receive_call true source tag ignore buf None ctx) (E.seen self.old) (E.seen self.new)) }
+        ensures gives_up { IfErr result (λ r. AsksWithinNot E.fixed BUDGET times (receive_call true source tag ignore buf None ctx) (E.seen self.old) (E.seen self.new) r.why) }
     {
         self.ask_within(times, Ask::Tagged(source, tag, ignore), ctx, buf)
     }
