@@ -44,7 +44,7 @@ why_name FileRange = codes "FileRange"
 abbrev pub line_of_end : Status → List ℕ
 line_of_end Done = []
 line_of_end Stuck = []
-line_of_end Usage = codes "usage: fabric_pingpong script FILE | pingpong FILE SIZE COUNT | bandwidth FILE SIZE COUNT WINDOW | gen NUMBER PEERS MESSAGES | info CAPS | replay FILE TRACE | window NUMBER PEERS WORDS ADDS | coll FILE" ++ 10 ∷ []
+line_of_end Usage = codes "usage: fabric_pingpong script FILE | pingpong FILE SIZE COUNT | bandwidth FILE SIZE COUNT WINDOW | gen NUMBER PEERS MESSAGES | info CAPS | window NUMBER PEERS WORDS ADDS | coll FILE | replay FILE TRACE" ++ 10 ∷ []
 line_of_end (ScriptRefused line why) = codes "script refused at line " ++ decimal line ++ codes ": " ++ why_name why ++ 10 ∷ []
 line_of_end (TooLong name) = codes "too long: " ++ name ++ 10 ∷ []
 line_of_end (ReadFault name) = codes "read fault: " ++ name ++ 10 ∷ []

@@ -45,7 +45,7 @@ fn tell<E: Sink>(errors: &mut E, status: &Status) -> Result<(), Failed>
         Status::Usage => tell_named(
             errors,
             "usage: ",
-            "fabric_pingpong script FILE | pingpong FILE SIZE COUNT | bandwidth FILE SIZE COUNT WINDOW | gen NUMBER PEERS MESSAGES | info CAPS | replay FILE TRACE | window NUMBER PEERS WORDS ADDS | coll FILE",
+            "fabric_pingpong script FILE | pingpong FILE SIZE COUNT | bandwidth FILE SIZE COUNT WINDOW | gen NUMBER PEERS MESSAGES | info CAPS | window NUMBER PEERS WORDS ADDS | coll FILE | replay FILE TRACE",
         ),
         Status::ScriptRefused { line, why } => tell_refused(errors, *line, *why),
         Status::TooLong { name } => tell_named(errors, "too long: ", name.as_str()),

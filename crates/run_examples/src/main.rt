@@ -62,7 +62,7 @@ const COMMANDS: [(&str, &[&str]); 6] = [
 ];
 
 /// Rows of messages, looks and fences: scripts in the folder `rows`, and beside each the report that is kept of it.
-const MESSAGES: [&str; 14] = [
+const MESSAGES: [&str; 15] = [
     "messages/unexpected",
     "messages/cut",
     "messages/no_bytes",
@@ -77,6 +77,7 @@ const MESSAGES: [&str; 14] = [
     "looks/aside",
     "fences/held",
     "fences/passed",
+    "fences/ring",
 ];
 
 /// Rows of buffers for many messages.
