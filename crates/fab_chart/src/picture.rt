@@ -17,7 +17,7 @@ const TOP: u64 = 60;
 const ROW: u64 = 22;
 
 /// How many characters of a line are shown.
-const SHOWN: usize = 44;
+const SHOWN: usize = 40;
 
 /// What stands before all else: words stand on white, and how the head of an arrow looks.
 const HEAD: &str =
