@@ -53,9 +53,9 @@ peers_plain : (opening : List Living) → map plain (map peer_in opening) ≡ ma
 peers_plain [] = refl
 peers_plain (o ∷ opening) = ap (λ ps. peer o.held.state ∷ ps) (peers_plain opening)
 
-doings_at : (pasts : List Past) (p : ℕ) (x : Past) → slice_get pasts p ≡ Some x → slice_index_or (programs pasts) p [] ≡ deeds_of x.doings
+doings_at : (pasts : List Past) (p : ℕ) (x : Past) → slice_get pasts p ≡ Some x → slice_index_or (programs pasts) p [] ≡ deeds_of x.steps
 doings_at [] p x e = absurd (cc)
-doings_at (y ∷ pasts) zero x e = let same : y ≡ x = cc in ap (λ (z : Past). deeds_of z.doings) same
+doings_at (y ∷ pasts) zero x e = let same : y ≡ x = cc in ap (λ (z : Past). deeds_of z.steps) same
 doings_at (y ∷ pasts) (suc p) x e = doings_at pasts p x e
 
 -- lists that follow the same one to the same one
@@ -88,7 +88,7 @@ program_obeys from opening pasts starts told = record { turns = turns; deeds = r
     own p o x at there =
         let accepted = accepted_own turns (map peer_in opening) (peers pasts) p (peer_in o) (peer_in x.living) run.1 (before p o at) (now p x there) in
         let asked = asked_own turns (map peer_in opening) (peers pasts) p (peer_in o) (peer_in x.living) run.1 (before p o at) (now p x there) in
-        let mine : steps_of p turns ≡ deeds_of x.doings = sym (run.2 p) ∙ doings_at pasts p x there in
+        let mine : steps_of p turns ≡ deeds_of x.steps = sym (run.2 p) ∙ doings_at pasts p x there in
         let one : asked.0 ≡ accepted.0 = same_more o.past asked.0 accepted.0 (sym asked.1 ∙ accepted.1) in
         record {
           grew = accepted.0;
