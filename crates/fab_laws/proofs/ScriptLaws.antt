@@ -1,5 +1,5 @@
 -- The laws of scripts, from those of programs.
-use Rattle.std.proofs.Common.{◌≡◌, ℕ, List, [], subst}
+use Rattle.std.proofs.Common.{◌≡◌, ℕ, List, [], subst, subst₂}
 use Rattle.std.specs.Prelude.{filter}
 use Rattle.fab_base.specs.declared.items.Item.{Item}
 use Rattle.fab_base.specs.declared.operations.Receive.{Receive}
@@ -17,10 +17,10 @@ use Rattle.fab_laws.specs.Completed.{Operations, keeping_books, operations_of}
 use Rattle.fab_laws.specs.CompletionLaws.{AllCompleteOnce, NumberCompletes}
 use Rattle.fab_laws.specs.FenceLaws.{FenceHolds, GoesInOrder, HoldsNothing, IsOfACall, ComesAfterAll, ItemIsOfACall}
 use Rattle.fab_laws.specs.ReplyLaws.{FindsItsOperation, WaitsAtMatch}
-use Rattle.fab_laws.specs.StreamLaws.{IsFirst, IsPosted, asks, posted_for, taking, whole_from}
+use Rattle.fab_laws.specs.StreamLaws.{HasArrived, IsFirst, IsPosted, TakesAll, arrived_from, arriving, asks, posted_for, taking, whole_from}
 use Rattle.fab_laws.specs.MessageLaws.{EntryTells, ReceiveTells, asked_of, keeping_asked}
 use Rattle.fab_laws.specs.ScriptLaws as script
-use Rattle.fab_laws.specs.ScriptLaws.{script_asked, script_operations, script_past, script_whole}
+use Rattle.fab_laws.specs.ScriptLaws.{script_arrived, script_asked, script_operations, script_past, script_whole}
 use Rattle.fab_laws.proofs.Scripts.{of_scripts, of_turns, same_memory, script_opening}
 use Rattle.fab_laws.proofs.matching.Orders.{got_rightly, none_passed_over, past_tells_state, served_in_order, taken_in_order}
 use Rattle.fab_laws.proofs.completion.Once.{nothing_is_held_back, numbers_complete, one_final_completion}
@@ -29,6 +29,7 @@ use Rattle.fab_laws.proofs.replies.Stray.{answered_once, no_stray}
 use Rattle.fab_laws.proofs.replies.Waiting.{all_wait_at_match}
 use Rattle.fab_laws.proofs.streams.Taken.{taken_is_first}
 use Rattle.fab_laws.proofs.streams.Posted.{taken_is_posted}
+use Rattle.fab_laws.proofs.streams.Arrived.{all_is_taken, arrived_is_first, arrived_is_posted, whole_has_arrived}
 use Rattle.fab_laws.proofs.streams.Entries.{entries_tell, receives_tell}
 
 -- the history words of the program that makes the calls of a script's lines are those of the script
@@ -41,6 +42,16 @@ module _ (bound : Bound) (turns : List (Turn Step)) (states : List Actor) (leads
 
   whole : (p source : ℕ) → whole_from (peers (opening bound)) (deeds_of (opening bound) turns) p source ≡ script_whole bound turns p source
   whole p source = same_memory (taking source) p turns (opening bound) states [] leads
+
+  -- of all sources at once
+  all_whole : (p : ℕ) → whole_from (peers (opening bound)) (deeds_of (opening bound) turns) p ≡ script_whole bound turns p
+  all_whole p = λ i source. whole p source i
+
+  all_arrived : (p : ℕ) → arrived_from (peers (opening bound)) (deeds_of (opening bound) turns) p ≡ script_arrived bound turns p
+  all_arrived p = λ i source. same_memory (arriving source) p turns (opening bound) states [] leads i
+
+  all_operations : (λ source. operations_of (peers (opening bound)) (deeds_of (opening bound) turns) source) ≡ script_operations bound turns
+  all_operations = λ i source. operations source i
 
   asked : (p : ℕ) → asked_of (peers (opening bound)) (deeds_of (opening bound) turns) p ≡ script_asked bound turns p
   asked p = same_memory keeping_asked p turns (opening bound) states [] leads
@@ -123,6 +134,26 @@ script_taken_is_posted bound turns states leads p a here source c at =
     subst (λ (m : Operations). IsPrefixOf (filter asks (script_whole bound turns p source)) (posted_for p m.accepted)) (operations bound turns states leads source)
     (subst (λ (items : List Item). IsPrefixOf (filter asks items) (posted_for p (operations_of (peers (opening bound)) (deeds_of (opening bound) turns) source).accepted)) (whole bound turns states leads p source)
     (of_scripts (λ from turns states p a. IsPosted (whole_from from turns p) (operations_of from turns) states p) taken_is_posted bound turns states leads p a here source c at))
+
+pub script_arrived_is_first : script.ArrivedIsFirst
+script_arrived_is_first bound turns states leads p a here =
+    subst (λ (arrived : ℕ → List Item). IsFirst arrived (peers states) p) (all_arrived bound turns states leads p)
+    (of_scripts (λ from turns states p a. IsFirst (arrived_from from turns p) states p) arrived_is_first bound turns states leads p a here)
+
+pub script_arrived_is_posted : script.ArrivedIsPosted
+script_arrived_is_posted bound turns states leads p a here =
+    subst₂ (λ (arrived : ℕ → List Item) (m : ℕ → Operations). IsPosted arrived m (peers states) p) (all_arrived bound turns states leads p) (all_operations bound turns states leads)
+    (of_scripts (λ from turns states p a. IsPosted (arrived_from from turns p) (operations_of from turns) states p) arrived_is_posted bound turns states leads p a here)
+
+pub script_whole_has_arrived : script.WholeHasArrived
+script_whole_has_arrived bound turns states leads p a here =
+    subst₂ HasArrived (all_whole bound turns states leads p) (all_arrived bound turns states leads p)
+    (of_scripts (λ from turns states p a. HasArrived (whole_from from turns p) (arrived_from from turns p)) whole_has_arrived bound turns states leads p a here)
+
+pub script_all_is_taken : script.AllIsTaken
+script_all_is_taken bound turns states leads p a here =
+    subst₂ (λ (whole arrived : ℕ → List Item). TakesAll whole arrived (peers states) p) (all_whole bound turns states leads p) (all_arrived bound turns states leads p)
+    (of_scripts (λ from turns states p a. TakesAll (whole_from from turns p) (arrived_from from turns p) states p) all_is_taken bound turns states leads p a here)
 
 pub script_entries_tell : script.EntriesTell
 script_entries_tell bound turns states leads p a here =

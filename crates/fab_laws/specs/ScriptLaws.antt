@@ -1,5 +1,5 @@
 -- The laws as they speak of scripts: at every moment to which turns of a bound script's peers lead, and with what these peers remember in their own turns.
---     script_past, script_operations, script_whole, script_asked      the history words, told by the turns of a script
+--     script_past, script_operations, script_whole, script_arrived, script_asked      the history words, told by the turns of a script
 use Rattle.std.specs.Prelude.{ℕ, List, []}
 use Rattle.fab_base.specs.declared.items.Item.{Item}
 use Rattle.fab_base.specs.declared.operations.Receive.{Receive}
@@ -15,7 +15,7 @@ use Rattle.fab_laws.specs.Completed.{Operations, keeping_books}
 use Rattle.fab_laws.specs.CompletionLaws.{AllCompleteOnce, NumberCompletes}
 use Rattle.fab_laws.specs.FenceLaws.{FenceHolds, GoesInOrder, HoldsNothing, ItemIsOfACall}
 use Rattle.fab_laws.specs.ReplyLaws.{AnswersOnce, FindsItsOperation, WaitsAtMatch}
-use Rattle.fab_laws.specs.StreamLaws.{IsFirst, IsPosted, taking}
+use Rattle.fab_laws.specs.StreamLaws.{HasArrived, IsFirst, IsPosted, TakesAll, arriving, taking}
 use Rattle.fab_laws.specs.MessageLaws.{EntryTells, ReceiveTells, keeping_asked}
 
 abbrev pub script_past : Bound → List (Turn Step) → ℕ → List Event
@@ -26,6 +26,9 @@ script_operations bound turns p = script_memory keeping_books p turns (opening b
 
 abbrev pub script_whole : Bound → List (Turn Step) → ℕ → ℕ → List Item
 script_whole bound turns p source = script_memory (taking source) p turns (opening bound) []
+
+abbrev pub script_arrived : Bound → List (Turn Step) → ℕ → ℕ → List Item
+script_arrived bound turns p source = script_memory (arriving source) p turns (opening bound) []
 
 abbrev pub script_asked : Bound → List (Turn Step) → ℕ → List Receive
 script_asked bound turns p = script_memory keeping_asked p turns (opening bound) []
@@ -87,6 +90,18 @@ TakenIsFirst = AtEveryScriptMoment (λ bound turns states p a. IsFirst (script_w
 
 abbrev pub TakenIsPosted : Type 0
 TakenIsPosted = AtEveryScriptMoment (λ bound turns states p a. IsPosted (script_whole bound turns p) (script_operations bound turns) (peers states) p)
+
+abbrev pub ArrivedIsFirst : Type 0
+ArrivedIsFirst = AtEveryScriptMoment (λ bound turns states p a. IsFirst (script_arrived bound turns p) (peers states) p)
+
+abbrev pub ArrivedIsPosted : Type 0
+ArrivedIsPosted = AtEveryScriptMoment (λ bound turns states p a. IsPosted (script_arrived bound turns p) (script_operations bound turns) (peers states) p)
+
+abbrev pub WholeHasArrived : Type 0
+WholeHasArrived = AtEveryScriptMoment (λ bound turns states p a. HasArrived (script_whole bound turns p) (script_arrived bound turns p))
+
+abbrev pub AllIsTaken : Type 0
+AllIsTaken = AtEveryScriptMoment (λ bound turns states p a. TakesAll (script_whole bound turns p) (script_arrived bound turns p) (peers states) p)
 
 abbrev pub EntriesTell : Type 0
 EntriesTell = AtEveryScriptMoment (λ bound turns states p a. EntryTells (script_past bound turns p) (script_asked bound turns p) (peers states) p (peer_of a))

@@ -7,8 +7,11 @@
 //! schedule, lawful or not, are among these.
 
 ghost use Rattle.fab_laws.specs.ScriptLaws.{
+  AllIsTaken,
   AllWaitAtMatch,
   AnsweredOnce,
+  ArrivedIsFirst,
+  ArrivedIsPosted,
   EntriesTell,
   FencesHold,
   GoneInOrder,
@@ -25,6 +28,7 @@ ghost use Rattle.fab_laws.specs.ScriptLaws.{
   TakenInOrder,
   TakenIsFirst,
   TakenIsPosted,
+  WholeHasArrived,
 };
 
 /// A posted receive never passes over an arrival.
@@ -67,6 +71,10 @@ pub fn script_no_stray()
 pub fn script_streams()
     ensures sent { TakenIsFirst }
     ensures posted { TakenIsPosted }
+    ensures arrived { ArrivedIsFirst }
+    ensures asked { ArrivedIsPosted }
+    ensures behind { WholeHasArrived }
+    ensures rest { AllIsTaken }
 {}
 
 /// A completed receive has its message.

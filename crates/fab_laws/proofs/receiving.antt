@@ -1,0 +1,2 @@
+-- What a receive got it completes with, where claimed messages go, and what becomes of each message that arrived.
+pub mod Acts
