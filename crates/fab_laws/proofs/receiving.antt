@@ -1,2 +1,4 @@
 -- What a receive got it completes with, where claimed messages go, and what becomes of each message that arrived.
 pub mod Acts
+pub mod Claiming
+pub mod News

@@ -140,8 +140,17 @@ pub record Ends (v : View Item) (s : State) (source : ℕ) (item : Item) : Type 
 abbrev pub cancelled_entry : Receive → Written
 cancelled_entry r = record { call = Some r.call; entry = error (Some r.ctx) Canceled (Some r.buf) }
 
+abbrev pub is_head : Deed → Bool
+is_head (Head source) = true
+is_head (Makes call) = false
+is_head (Counts counters) = false
+is_head (Tail source) = false
+is_head (Deed.Sent t) = false
+is_head Draw = false
+is_head Deed.Read = false
+
 pub data Act (v : View Item) (s : State) (x : Deed) (t : State) : Type 0 where
-  Rests : Idle s t → Act v s x t
+  Rests : is_head x ≡ false → Idle s t → Act v s x t
   -- calls
   Posts : (p : Posting) → x ≡ Makes (Some (Post p)) → t.calls ≡ s.calls + 1 → t.rx ≡ joining_posted (receive_of s p) s.rx → t.cq.written ≡ s.cq.written → Act v s x t
   Gets : (p : Posting) (a : Arrival) → x ≡ Makes (Some (Post p)) → t.calls ≡ s.calls + 1 → p.least ≡ None → find (takes (receive_of s p).want) s.rx.unexpected ≡ Some a
@@ -296,25 +305,26 @@ thrown_to a s = go a.bytes
     go None = (refl, refl, refl)
     go (Some bytes) = let b = book_cq (at_match a.head.ack) a.source a.head s in (b.1, ap (λ (q : Completions). q.written) b.0, (book_quiet (at_match a.head.ack) a.source a.head s).calls)
 
+-- u is s, but for the multi-receive that is let go
+abbrev LetsOut : State → State → Option Receive → Type 0
+LetsOut s u o = (u.rx ≡ let_out o s.rx) × (u.cq.written ≡ s.cq.written ++ freed o)
+
 released_to : (r : Receive) (s : State) → ((release r s).rx ≡ let_out (leaving r s.rx) s.rx) × ((release r s).cq.written ≡ s.cq.written ++ freed (leaving r s.rx))
 unfolding release_multi
 released_to r s = by_least r.least
   where
-    abbrev After : State → Option Receive → Type 0
-    After u o = (u.rx ≡ let_out o s.rx) × (u.cq.written ≡ s.cq.written ++ freed o)
-
-    stays : After s None
+    stays : LetsOut s s None
     stays = (refl, sym (append-nil s.cq.written))
 
-    by_way : (m : Receive) (b : Bool) → (let u : State = elim b [ true ↦ s | false ↦ let_go m s ] in After u (elim b [ true ↦ None | false ↦ Some m ]))
+    by_way : (m : Receive) (b : Bool) → (let u : State = elim b [ true ↦ s | false ↦ let_go m s ] in LetsOut s u (elim b [ true ↦ None | false ↦ Some m ]))
     by_way m true = stays
     by_way m false = (refl, refl)
 
-    by_find : (o : Option Receive) → (let u : State = elim o [ None ↦ s | Some m ↦ elim (under_way s.rx r.call) [ true ↦ s | false ↦ let_go m s ] ] in After u (elim o [ None ↦ None | Some m ↦ elim (under_way s.rx r.call) [ true ↦ None | false ↦ Some m ] ]))
+    by_find : (o : Option Receive) → (let u : State = elim o [ None ↦ s | Some m ↦ elim (under_way s.rx r.call) [ true ↦ s | false ↦ let_go m s ] ] in LetsOut s u (elim o [ None ↦ None | Some m ↦ elim (under_way s.rx r.call) [ true ↦ None | false ↦ Some m ] ]))
     by_find None = stays
     by_find (Some m) = by_way m (under_way s.rx r.call)
 
-    by_least : (o : Option ℕ) → (let u : State = elim o [ None ↦ s | Some _ ↦ release_multi r.call s ] in After u (elim o [
+    by_least : (o : Option ℕ) → (let u : State = elim o [ None ↦ s | Some _ ↦ release_multi r.call s ] in LetsOut s u (elim o [
       | None ↦ None
       | Some _ ↦ elim (find (is_made_by r.call) s.rx.closing) [ None ↦ None | Some m ↦ elim (under_way s.rx r.call) [ true ↦ None | false ↦ Some m ] ]
     ]))
@@ -324,20 +334,20 @@ released_to r s = by_least r.least
 -- ---- calls
 
 module _ (v : View Item) (s : State) where
-  judged : (x : Deed) (fault : Option Fault) (after : State) → Act v s x after → Act v s x (answer fault s after).1
-  judged x None after does = does
-  judged x (Some f) after does = Rests (idle_same s s refl refl)
+  judged : (call : Option Call) (fault : Option Fault) (after : State) → Act v s (Makes call) after → Act v s (Makes call) (answer fault s after).1
+  judged call None after does = does
+  judged call (Some f) after does = Rests refl (idle_same s s refl refl)
 
-  aside : (x : Deed) (t : State) → t.rx ≡ s.rx → t.cq ≡ s.cq → Act v s x t
-  aside x t rx cq = Rests (idle_same s t rx (ap (λ (q : Completions). q.written) cq))
+  aside : (call : Option Call) (t : State) → t.rx ≡ s.rx → t.cq ≡ s.cq → Act v s (Makes call) t
+  aside call t rx cq = Rests refl (idle_same s t rx (ap (λ (q : Completions). q.written) cq))
 
-  transmits : (x : Deed) (order : Order) → Act v s x (transmit s order)
+  transmits : (call : Option Call) (order : Order) → Act v s (Makes call) (transmit s order)
   unfolding transmit transmit_to
-  transmits x order = go (lookup s.av order.dest)
+  transmits call order = go (lookup s.av order.dest)
     where
-      go : (o : Option ℕ) → Act v s x (let u : State = elim o [ None ↦ s | Some t ↦ transmit_to t s order ] in u)
-      go None = aside x s refl refl
-      go (Some t) = aside x (transmit_to t s order) refl refl
+      go : (o : Option ℕ) → Act v s (Makes call) (let u : State = elim o [ None ↦ s | Some t ↦ transmit_to t s order ] in u)
+      go None = aside call s refl refl
+      go (Some t) = aside call (transmit_to t s order) refl refl
 
   gets : (p : Posting) (a : Arrival) → p.least ≡ None → find (takes (receive_of s p).want) s.rx.unexpected ≡ Some a → Act v s (Makes (Some (Post p))) (give (receive_of s p) 0 a (called (with_rx (without_first (receive_of s p).want s.rx) s)))
   gets p a none e =
@@ -365,7 +375,7 @@ module _ (v : View Item) (s : State) where
     want = want_of s true source tag ignore
 
     looks_at : (how : PeekHow) (a : Arrival) → find (takes want) s.rx.unexpected ≡ Some a → (let u : State = write (Some s.calls) (Success (peeked how ctx a)) (called s) in Act v s (Makes (Some (Look how source tag ignore ctx))) (look_at how want ctx a u))
-    looks_at Peek a e = Rests (idle_one s (write (Some s.calls) (Success (peeked Peek ctx a)) (called s)) (record { call = Some s.calls; entry = Success (peeked Peek ctx a) }) refl refl (refl, refl))
+    looks_at Peek a e = Rests refl (idle_one s (write (Some s.calls) (Success (peeked Peek ctx a)) (called s)) (record { call = Some s.calls; entry = Success (peeked Peek ctx a) }) refl refl (refl, refl))
     looks_at Claim a e = Claims source tag ignore ctx a (record { call = Some s.calls; entry = Success (peeked Claim ctx a) }) refl refl e refl refl (refl, refl)
     looks_at Discard a e =
         let u : State = write (Some s.calls) (Success (peeked Discard ctx a)) (called s) in
@@ -380,7 +390,7 @@ module _ (v : View Item) (s : State) where
           | None ↦ write (Some s.calls) (error (Some ctx) NoMsg None) (called s)
           | Some a ↦ look_at how want ctx a (write (Some s.calls) (Success (peeked how ctx a)) (called s))
         ] in u)
-        go None e = Rests (idle_one s (write (Some s.calls) (error (Some ctx) NoMsg None) (called s)) (record { call = Some s.calls; entry = error (Some ctx) NoMsg None }) refl refl (refl, refl))
+        go None e = Rests refl (idle_one s (write (Some s.calls) (error (Some ctx) NoMsg None) (called s)) (record { call = Some s.calls; entry = error (Some ctx) NoMsg None }) refl refl (refl, refl))
         go (Some a) e = looks_at how a e
 
   takes_it : (buf : List ℕ) (ctx : ℕ) → Act v s (Makes (Some (TakeClaimed buf ctx))) (take_claimed s buf ctx)
@@ -388,7 +398,7 @@ module _ (v : View Item) (s : State) where
   takes_it buf ctx = go (claim_of ctx s) refl
     where
       go : (o : Option Arrival) → claim_of ctx s ≡ o → Act v s (Makes (Some (TakeClaimed buf ctx))) (let u : State = elim o [ None ↦ s | Some a ↦ give (taking s buf ctx) 0 a (called (with_rx (without_claim ctx s.rx) s)) ] in u)
-      go None e = aside (Makes (Some (TakeClaimed buf ctx))) s refl refl
+      go None e = aside (Some (TakeClaimed buf ctx)) s refl refl
       go (Some a) e =
           let u : State = called (with_rx (without_claim ctx s.rx) s) in
           let g = given_to (taking s buf ctx) 0 a u in
@@ -402,7 +412,7 @@ module _ (v : View Item) (s : State) where
         | None ↦ s
         | Some a ↦ drop_arrival a (write (Some s.calls) (Success (peeked Discard ctx a)) (called (with_rx (without_claim ctx s.rx) s)))
       ] in u)
-      go None e = aside (Makes (Some (DropClaimed ctx))) s refl refl
+      go None e = aside (Some (DropClaimed ctx)) s refl refl
       go (Some a) e =
           let u : State = write (Some s.calls) (Success (peeked Discard ctx a)) (called (with_rx (without_claim ctx s.rx) s)) in
           let d = thrown_to a u in
@@ -416,12 +426,12 @@ module _ (v : View Item) (s : State) where
         | None ↦ s
         | Some r ↦ write (Some r.call) (error (Some r.ctx) Canceled (Some r.buf)) (count Recv false (called (with_rx (without_posted test s.rx) s)))
       ] in u)
-      go None e = aside (Makes (Some c)) s refl refl
+      go None e = aside (Some c) s refl refl
       go (Some r) e = Cancels c test r refl is refl e refl refl
 
   call_act : (c : Call) → Act v s (Makes (Some c)) (do_call s c).1
   unfolding do_call insert remove reg close put
-  call_act (Transmit order) = judged _ _ _ (transmits (Makes (Some (Transmit order))) order)
+  call_act (Transmit order) = judged _ _ _ (transmits (Some (Transmit order)) order)
   call_act (Post p) = judged _ _ _ (posts p)
   call_act (Look how source tag ignore ctx) = judged _ _ _ (looks source tag ignore ctx how)
   call_act (TakeClaimed buf ctx) = judged _ _ _ (takes_it buf ctx)
@@ -471,7 +481,7 @@ module _ (v : View Item) (s : State) where
     | None ↦ s
     | Some a ↦ release r (give r r.used a (with_rx (without_first r.want (seating a.head.total r s.rx.unexpected s.rx)) s))
   ] in u)
-  drawn r e None f = aside Draw s refl refl
+  drawn r e None f = Rests refl (idle_same s s refl refl)
   drawn r e (Some a) f =
       let before : State = with_rx (without_first r.want (seating a.head.total r s.rx.unexpected s.rx)) s in
       let g = given_to r r.used a before in
@@ -490,7 +500,7 @@ module _ (v : View Item) (s : State) where
           | Some a ↦ release r (give r r.used a (with_rx (without_first r.want (seating a.head.total r s.rx.unexpected s.rx)) s))
         ]
       ] in u)
-      go None e = aside Draw s refl refl
+      go None e = Rests refl (idle_same s s refl refl)
       go (Some r) e = drawn r e (find (takes r.want) s.rx.unexpected) refl
 
   -- ---- items that are whole
@@ -540,14 +550,14 @@ module _ (v : View Item) (s : State) where
 -- ---- each deed
 
 by_step : (v : View Item) (a b : Peer) (x : Deed) → StepIs v a x b → Act v a.state x b.state
-by_step v a b (Makes call) (inl (none, is)) = subst (Act v a.state (Makes call)) (sym is) (aside v a.state (Makes call) a.state refl refl)
+by_step v a b (Makes call) (inl (none, is)) = subst (Act v a.state (Makes call)) (sym is) (aside v a.state call a.state refl refl)
 by_step v a b (Makes call) (inr (c, asks, is)) = subst (Act v a.state (Makes call)) (sym is) (subst (λ (o : Option Call). Act v a.state (Makes o) (do_call a.state c).1) (sym asks) (call_act v a.state c))
-by_step v a b (Counts counters) is = subst (Act v a.state (Counts counters)) (sym is) (aside v a.state (Counts counters) (with_counters counters a.state) refl refl)
+by_step v a b (Counts counters) is = subst (Act v a.state (Counts counters)) (sym is) (Rests refl (idle_same a.state (with_counters counters a.state) refl refl))
 by_step v a b (Head source) (item, has, level, none, is) = subst (Act v a.state (Head source)) (sym is) (heads v a.state source item (record { at = has; level = level; none_due = none }))
 by_step v a b (Tail source) (item, has, odd, sent, is) = subst (Act v a.state (Tail source)) (sym is) (tails v a.state source item (record { at = has; odd = odd }))
-by_step v a b (Deed.Sent t) (less, is) = subst (Act v a.state (Deed.Sent t)) (sym is) (Rests (sent_idle a.state t))
+by_step v a b (Deed.Sent t) (less, is) = subst (Act v a.state (Deed.Sent t)) (sym is) (Rests refl (sent_idle a.state t))
 by_step v a b Draw (due, is) = subst (Act v a.state Draw) (sym is) (draws_one v a.state)
-by_step v a b Deed.Read is = subst (Act v a.state Deed.Read) (sym is) (Rests (idle_same a.state (reading a.state) refl refl))
+by_step v a b Deed.Read is = subst (Act v a.state Deed.Read) (sym is) (Rests refl (idle_same a.state (reading a.state) refl refl))
 
 pub act : (v : View Item) (a b : Peer) (x : Deed) → program.step v a x ≡ Some b → Act v a.state x b.state
 act v a b x e = by_step v a b x (step_is v a b x e)
