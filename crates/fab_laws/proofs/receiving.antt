@@ -2,3 +2,6 @@
 pub mod Acts
 pub mod Claiming
 pub mod News
+pub mod Settling
+pub mod Flowing
+pub mod Holding

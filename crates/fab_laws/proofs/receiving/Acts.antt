@@ -37,7 +37,7 @@ use Rattle.fab_base.specs.Replies.{at_either}
 use Rattle.fab_model.specs.Peers.{reading}
 use Rattle.fab_model.specs.Views.{View}
 use Rattle.fab_laws.specs.Programs.{Counts, Deed, Draw, Head, Makes, Peer, Tail, program, with_counters}
-use Rattle.fab_laws.specs.Matched.{tells_message}
+use Rattle.fab_laws.specs.Matched.{Mark, mark_of, tells_message}
 use Rattle.fab_laws.proofs.Lists.{Each, always, each_append}
 use Rattle.fab_laws.proofs.Stepping.{LineIs, StepIs, step_is}
 use Rattle.fab_laws.proofs.matching.Quiet.{book_quiet}
@@ -180,6 +180,26 @@ pub data Act (v : View Item) (s : State) (x : Deed) (t : State) : Type 0 where
   Joins : (source : ℕ) (item : Item) → x ≡ Tail source → Ends v s source item → coming_from s.rx source ≡ Some Keep → t.rx ≡ keeping source item.bytes (whole source s.rx) → t.cq.written ≡ s.cq.written → Act v s x t
   Closes : (source : ℕ) (item : Item) (more : List Written) → x ≡ Tail source → Ends v s source item → is_into (coming_from s.rx source) ≡ false → coming_from s.rx source ≢ Some Keep → t.rx ≡ whole source s.rx
       → t.cq.written ≡ s.cq.written ++ more → Each Plain more → Act v s x t
+
+-- ---- what a step gives
+
+-- the receive that is given a message, and the message
+abbrev pub subject : (v : View Item) (s : State) (x : Deed) (t : State) → Act v s x t → Option (Receive × Mark)
+subject v s x t (Rests no_head idle) = None
+subject v s x t (Posts p is calls rx written) = None
+subject v s x t (Gets p y is calls single found rx written) = Some (receive_of s p, mark_of y)
+subject v s x t (Claims source tag ignore ctx y w is calls found rx written plain) = None
+subject v s x t (Discards source tag ignore ctx y w is calls found rx written plain) = None
+subject v s x t (Takes buf ctx y is calls found rx written) = Some (taking s buf ctx, mark_of y)
+subject v s x t (Drops ctx y w is calls found rx written plain) = None
+subject v s x t (Cancels c test r is which calls found rx written) = None
+subject v s x t (Seats source item r is arrives_so message found rx written) = Some (r, record { source = source; place = slice_index s.rx.heads source; head = item.head })
+subject v s x t (Waits source item is arrives_so message found rx written) = None
+subject v s x t (Passes source item c is arrives_so other no_into rx written) = None
+subject v s x t (Draws r y is found first mid is_mid rx written) = Some (r, mark_of y)
+subject v s x t (Fills source item r place is ends from mid is_mid rx written) = None
+subject v s x t (Joins source item is ends from rx written) = None
+subject v s x t (Closes source item more is ends no_into no_keep rx written plain) = None
 
 -- ---- what only writes plain entries
 

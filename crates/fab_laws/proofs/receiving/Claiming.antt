@@ -1,11 +1,13 @@
 -- What the histories say of messages that went: each step adds to them what keeps the law of claims, and that a message goes once.
 --     News past s t es hs      what a step adds to the two histories, and what it makes of the messages set aside
 --     Claiming past h aside    what holds of the histories and of the messages set aside
-use Rattle.std.proofs.Common.{◌≡◌, ℕ, Bool, true, false, List, [], ◌∷◌, ◌++◌, map, Option, Some, None, ◌⊎◌, inl, inr, refl, sym, ◌∙◌, ap, subst}
+use Rattle.std.proofs.Common.{◌≡◌, ℕ, Bool, true, false, List, [], ◌∷◌, ◌++◌, map, Option, Some, None, ◌⊎◌, inl, inr, refl, sym, ◌∙◌, ap, ap₂, subst}
+use Rattle.fab_base.specs.declared.operations.Receive.{Receive}
+use Rattle.fab_model.proofs.Parts.{some_same}
 use Rattle.fab_laws.specs.Members.{Ahead, In, Never}
 use Rattle.fab_laws.specs.Matched.{Came, Cancelled, Event, Got, Lost, Made, Mark, came, gone}
 use Rattle.fab_laws.specs.Claimed.{Claimed, Discarded, Dropped, Handling, Slipped, Took, freed, lost, put_away}
-use Rattle.fab_laws.specs.ClaimLaws.{Frees, FreesClaimed, NoneSlips}
+use Rattle.fab_laws.specs.ClaimLaws.{Frees, FreesClaimed, NoneSlips, WentTo}
 use Rattle.fab_laws.specs.ReceiveLaws.{LeavesOnce, LetsGo}
 use Rattle.fab_laws.proofs.Lists.{Always, Each, Loses, ahead_end, always, in_end, in_front, in_middle, never}
 
@@ -51,13 +53,17 @@ pub record Claiming (past : List Event) (h : List Handling) (aside : List (ℕ �
   pub lost : lost past ≡ put_away h
   pub once : OnceEach past
 
--- what a step adds
-pub data News (past : List Event) (before after : List (ℕ × Mark)) (es : List Event) (hs : List Handling) : Type 0 where
-  Still : Each Dull es → hs ≡ [] → after ≡ before → News past before after es hs
-  Gone : (call : ℕ) (x : Mark) (last : Bool) (rest : List Event) → (In x (gone past) → Never) → es ≡ Got call x last ∷ rest → Each Dull rest → hs ≡ [] → after ≡ before → News past before after es hs
-  Put : (ctx : ℕ) (x : Mark) (rest : List Event) → (In x (gone past) → Never) → es ≡ Lost x ∷ rest → Each Dull rest → hs ≡ Claimed ctx x ∷ [] → after ≡ before ++ (ctx, x) ∷ [] → News past before after es hs
-  Thrown : (call : ℕ) (x : Mark) (rest : List Event) → (In x (gone past) → Never) → es ≡ Lost x ∷ rest → Each Dull rest → hs ≡ Discarded call x ∷ [] → after ≡ before → News past before after es hs
-  Freed : (call ctx : ℕ) (x : Mark) (e : Handling) → Each Dull es → hs ≡ e ∷ [] → Frees call ctx x e → In (ctx, x) before → Loses (ctx, x) before after true → News past before after es hs
+-- the call took the message into this receive, or dropped it
+abbrev pub Takes : Option (Receive × Mark) → ℕ → ℕ → Mark → Handling → Type 0
+Takes o call ctx x e = ((r : Receive) × (o ≡ Some (r, x)) × (r.call ≡ call) × (r.ctx ≡ ctx) × (e ≡ Took call ctx x)) ⊎ ((o ≡ None) × (e ≡ Dropped call ctx x))
+
+-- what a step adds, where it gives this receive this message, if any
+pub data News (past : List Event) (o : Option (Receive × Mark)) (before after : List (ℕ × Mark)) (es : List Event) (hs : List Handling) : Type 0 where
+  Still : o ≡ None → Each Dull es → hs ≡ [] → after ≡ before → News past o before after es hs
+  Gone : (r : Receive) (x : Mark) (last : Bool) (rest : List Event) → o ≡ Some (r, x) → (In x (gone past) → Never) → es ≡ Got r.call x last ∷ rest → Each Dull rest → hs ≡ [] → after ≡ before → News past o before after es hs
+  Put : (ctx : ℕ) (x : Mark) (rest : List Event) → o ≡ None → (In x (gone past) → Never) → es ≡ Lost x ∷ rest → Each Dull rest → hs ≡ Claimed ctx x ∷ [] → after ≡ before ++ (ctx, x) ∷ [] → News past o before after es hs
+  Thrown : (call : ℕ) (x : Mark) (rest : List Event) → o ≡ None → (In x (gone past) → Never) → es ≡ Lost x ∷ rest → Each Dull rest → hs ≡ Discarded call x ∷ [] → after ≡ before → News past o before after es hs
+  Freed : (call ctx : ℕ) (x : Mark) (e : Handling) → Takes o call ctx x e → Each Dull es → hs ≡ e ∷ [] → In (ctx, x) before → Loses (ctx, x) before after true → News past o before after es hs
 
 -- ---- dull events
 
@@ -244,18 +250,72 @@ module _ (past : List Event) (h : List Handling) (aside : List (ℕ × Mark)) (k
         once = dull_once past es dull kept.once;
       }
 
-    freeing : (e : Handling) → Frees call ctx x e → (es : List Event) → Each Dull es → Claiming (es ++ past) (e ∷ h) after
-    freeing e (inl is) es dull = subst (λ f. Claiming (es ++ past) (f ∷ h) after) (sym is)
+    freeing : (e : Handling) (o : Option (Receive × Mark)) → Takes o call ctx x e → (es : List Event) → Each Dull es → Claiming (es ++ past) (e ∷ h) after
+    freeing e o (inl (r, given, number, context, is)) es dull = subst (λ f. Claiming (es ++ past) (f ∷ h) after) (sym is)
         (goes (Took call ctx x) refl refl (call, inl (inl refl)) (kept.claimed ctx x there, kept.free) (λ c y f. absurd (cc (f))) es dull)
-    freeing e (inr is) es dull = subst (λ f. Claiming (es ++ past) (f ∷ h) after) (sym is)
+    freeing e o (inr (none, is)) es dull = subst (λ f. Claiming (es ++ past) (f ∷ h) after) (sym is)
         (goes (Dropped call ctx x) refl refl (call, inr (inl refl)) (kept.claimed ctx x there, kept.free) (λ c y f. absurd (cc (f))) es dull)
 
-  pub news_claims : (after : List (ℕ × Mark)) (es : List Event) (hs : List Handling) → News past aside after es hs → Claiming (es ++ past) (hs ++ h) after
-  news_claims after es hs (Still dull none same) = rw (none, same) (still es dull)
-  news_claims after es hs (Gone call x last rest fresh is dull none same) = rw (is, none, same) (got call x last rest fresh dull)
-  news_claims after es hs (Put ctx x rest fresh is dull one more) = rw (is, one, more) (put ctx x rest fresh dull)
-  news_claims after es hs (Thrown call x rest fresh is dull one same) = rw (is, one, same) (thrown call x rest fresh dull)
-  news_claims after es hs (Freed call ctx x e dull one is there loses) = rw (one) (freeing call ctx x after there loses e is es dull)
+  pub news_claims : (o : Option (Receive × Mark)) (after : List (ℕ × Mark)) (es : List Event) (hs : List Handling) → News past o aside after es hs → Claiming (es ++ past) (hs ++ h) after
+  news_claims o after es hs (Still whose dull none same) = rw (none, same) (still es dull)
+  news_claims o after es hs (Gone r x last rest whose fresh is dull none same) = rw (is, none, same) (got r.call x last rest fresh dull)
+  news_claims o after es hs (Put ctx x rest whose fresh is dull one more) = rw (is, one, more) (put ctx x rest fresh dull)
+  news_claims o after es hs (Thrown call x rest whose fresh is dull one same) = rw (is, one, same) (thrown call x rest fresh dull)
+  news_claims o after es hs (Freed call ctx x e whose dull one there loses) = rw (one) (freeing call ctx x after there loses e o whose es dull)
+
+-- ---- which messages a step gives to receives
+
+module _ (past : List Event) (h : List Handling) (o : Option (Receive × Mark)) (before after : List (ℕ × Mark)) (es : List Event) (hs : List Handling) where
+  same_got : (c d : ℕ) (x y : Mark) (l k : Bool) → Got c x l ≡ Got d y k → (c ≡ d) × (x ≡ y)
+  same_got c d x y l k e = (cc (e), cc (e))
+
+  -- whoever got a message got it before, or now
+  pub got_now : News past o before after es hs → (call : ℕ) (x : Mark) (last : Bool) → In (Got call x last) (es ++ past) → In (Got call x last) past ⊎ ((r : Receive) × (o ≡ Some (r, x)) × (r.call ≡ call))
+  got_now (Still whose dull none same) call x last i = inl (dull_got past es dull call x last i)
+  got_now (Gone r y l rest whose fresh is dull none same) call x last i = elim (let j : In (Got call x last) (Got r.call y l ∷ rest ++ past) = subst (λ (zs : List Event). In (Got call x last) (zs ++ past)) is i in j) [
+    | inl e ↦ (let f = same_got call r.call x y last l e in inr (r, whose ∙ ap (λ z. Some (r, z)) (sym f.1), sym f.0))
+    | inr j ↦ inl (dull_got past rest dull call x last j)
+  ]
+  got_now (Put ctx y rest whose fresh is dull one more) call x last i = elim (let j : In (Got call x last) (Lost y ∷ rest ++ past) = subst (λ (zs : List Event). In (Got call x last) (zs ++ past)) is i in j) [
+    | inl e ↦ absurd (cc (e))
+    | inr j ↦ inl (dull_got past rest dull call x last j)
+  ]
+  got_now (Thrown number y rest whose fresh is dull one same) call x last i = elim (let j : In (Got call x last) (Lost y ∷ rest ++ past) = subst (λ (zs : List Event). In (Got call x last) (zs ++ past)) is i in j) [
+    | inl e ↦ absurd (cc (e))
+    | inr j ↦ inl (dull_got past rest dull call x last j)
+  ]
+  got_now (Freed number ctx y e whose dull one there loses) call x last i = inl (dull_got past es dull call x last i)
+
+  same_took : (c d k l : ℕ) (x y : Mark) → Took c k x ≡ Took d l y → (c ≡ d) × (x ≡ y)
+  same_took c d k l x y e = (cc (e), cc (e))
+
+  -- so of a call that took one of those set aside
+  pub took_now : News past o before after es hs → (call ctx : ℕ) (x : Mark) → In (Took call ctx x) (hs ++ h) → In (Took call ctx x) h ⊎ ((r : Receive) × (o ≡ Some (r, x)) × (r.call ≡ call))
+  took_now (Still whose dull none same) call ctx x i = inl (subst (λ (zs : List Handling). In (Took call ctx x) (zs ++ h)) none i)
+  took_now (Gone r y l rest whose fresh is dull none same) call ctx x i = inl (subst (λ (zs : List Handling). In (Took call ctx x) (zs ++ h)) none i)
+  took_now (Put c y rest whose fresh is dull one more) call ctx x i = elim (let j : In (Took call ctx x) (Claimed c y ∷ h) = subst (λ (zs : List Handling). In (Took call ctx x) (zs ++ h)) one i in j) [ inl e ↦ absurd (cc (e)) | inr j ↦ inl j ]
+  took_now (Thrown number y rest whose fresh is dull one same) call ctx x i = elim (let j : In (Took call ctx x) (Discarded number y ∷ h) = subst (λ (zs : List Handling). In (Took call ctx x) (zs ++ h)) one i in j) [ inl e ↦ absurd (cc (e)) | inr j ↦ inl j ]
+  took_now (Freed number c y e (inl (r, given, same, context, is)) dull one there loses) call ctx x i = elim (let j : In (Took call ctx x) (Took number c y ∷ h) = subst (λ (zs : List Handling). In (Took call ctx x) (zs ++ h)) (one ∙ ap (λ z. z ∷ []) is) i in j) [
+    | inl e ↦ (let f = same_took call number ctx c x y e in inr (r, given ∙ ap (λ z. Some (r, z)) (sym f.1), same ∙ sym f.0))
+    | inr j ↦ inl j
+  ]
+  took_now (Freed number c y e (inr (none, is)) dull one there loses) call ctx x i = elim (let j : In (Took call ctx x) (Dropped number c y ∷ h) = subst (λ (zs : List Handling). In (Took call ctx x) (zs ++ h)) (one ∙ ap (λ z. z ∷ []) is) i in j) [ inl e ↦ absurd (cc (e)) | inr j ↦ inl j ]
+
+  -- and the histories tell it
+  pub went_now : News past o before after es hs → (r : Receive) (x : Mark) → o ≡ Some (r, x) → WentTo (es ++ past) (hs ++ h) r x
+  went_now (Still whose dull none same) r x e = absurd (let f : None ≡ Some (r, x) = sym whose ∙ e in cc (f))
+  went_now (Gone q y l rest whose fresh is dull none same) r x e =
+      let f : (r, x) ≡ (q, y) = some_same (r, x) (q, y) (sym e ∙ whose) in
+      let g : r ≡ q = ap (λ (z : Receive × Mark). z.0) f in let k : x ≡ y = ap (λ (z : Receive × Mark). z.1) f in
+      inl (l, subst (λ (zs : List Event). In (Got r.call x l) (zs ++ past)) (sym is) (inl (ap₂ (λ (c : ℕ) (m : Mark). Got c m l) (ap (λ (z : Receive). z.call) g) k)))
+  went_now (Put c y rest whose fresh is dull one more) r x e = absurd (let f : None ≡ Some (r, x) = sym whose ∙ e in cc (f))
+  went_now (Thrown number y rest whose fresh is dull one same) r x e = absurd (let f : None ≡ Some (r, x) = sym whose ∙ e in cc (f))
+  went_now (Freed number c y f (inl (q, given, same, context, is)) dull one there loses) r x e =
+      let k : (r, x) ≡ (q, y) = some_same (r, x) (q, y) (sym e ∙ given) in
+      let g : r ≡ q = ap (λ (z : Receive × Mark). z.0) k in let l : x ≡ y = ap (λ (z : Receive × Mark). z.1) k in
+      inr (subst (λ (zs : List Handling). In (Took r.call r.ctx x) (zs ++ h)) (sym one)
+      (inl (ap (λ (z : Receive). Took z.call z.ctx x) g ∙ ap₂ (λ (i j : ℕ). Took i j x) same context ∙ ap (Took number c) l ∙ sym is)))
+  went_now (Freed number c y f (inr (none, is)) dull one there loses) r x e = absurd (let g : None ≡ Some (r, x) = sym none ∙ e in cc (g))
 
 -- ---- what the recursion says at each place
 

@@ -25,8 +25,9 @@ use Rattle.fab_laws.specs.Claimed.{Claimed, Discarded, Dropped, Handling, Took, 
 use Rattle.fab_laws.proofs.Lists.{Each, Loses, ahead_in, ahead_map, ahead_middle, always, each_append, found_in, in_map, last_get, length_more, map_append, map_same, never, split_at}
 use Rattle.fab_laws.proofs.matching.Moves.{Keeps, loses_mapped, parts, source_within, split_in}
 use Rattle.fab_laws.proofs.matching.Watch.{entry_tells, left_got, left_lost, parted_same}
-use Rattle.fab_laws.proofs.receiving.Acts.{Act, Arrives, Cancels, Claims, Closes, Discards, Draws, Drops, Ends, Fills, Gets, Idle, Joins, Passes, Plain, Posts, Rests, Seats, Takes, Waits, entries_for, entry_for, freed, given, is_head, leaving, let_out, seat, thrown, wait, whole}
+use Rattle.fab_laws.proofs.receiving.Acts.{Act, Arrives, Cancels, Claims, Closes, Discards, Draws, Drops, Ends, Fills, Gets, Idle, Joins, Passes, Plain, Posts, Rests, Seats, Takes, Waits, entries_for, entry_for, freed, given, is_head, leaving, let_out, seat, subject, thrown, wait, whole}
 use Rattle.fab_laws.proofs.receiving.Claiming.{Claiming, Dull, Freed, Gone, News, Put, Still, Thrown, claimed_gone}
+use Rattle.fab_laws.proofs.receiving.Claiming.{Takes as TakesIt}
 
 -- ---- lists of arrivals and claims
 
@@ -48,7 +49,7 @@ claim_step c d before after e ih =
     let k = eq-eqb c.0 d.0 (sym (ap (λ (z : ℕ × Mark). z.0) e)) in
     let f = eq-eqb c.1.source d.1.source (sym (ap (λ (m : Mark). m.source) m)) in
     let g = eq-eqb c.1.place d.1.place (sym (ap (λ (m : Mark). m.place) m)) in
-    rw (k, f, g) ih
+    ap₂ (λ (x y : Bool). elim (x && y) [ true ↦ parted_claim before after | false ↦ Some c ]) k (ap₂ (λ (x y : Bool). x && y) f g) ∙ ih
 
 claims_stand : (before after : List (ℕ × Arrival)) (more : List (ℕ × Mark)) → map aside_of after ≡ map aside_of before ++ more → parted_claim before after ≡ None
 claims_stand [] after more e = refl
@@ -56,7 +57,8 @@ claims_stand (c ∷ before) [] more e = absurd (cc)
 claims_stand (c ∷ before) (d ∷ after) more e = let f : aside_of d ≡ aside_of c = cc in let g : map aside_of after ≡ map aside_of before ++ more = cc in claim_step c d before after f (claims_stand before after more g)
 
 claim_self : (c : ℕ × Arrival) (xs ys : List (ℕ × Arrival)) → parted_claim (c ∷ xs) (c ∷ ys) ≡ parted_claim xs ys
-claim_self c xs ys = let k = eq-eqb c.0 c.0 refl in let f = eq-eqb c.1.source c.1.source refl in let g = eq-eqb c.1.place c.1.place refl in rw (k, f, g) refl
+claim_self c xs ys = let k = eq-eqb c.0 c.0 refl in let f = eq-eqb c.1.source c.1.source refl in let g = eq-eqb c.1.place c.1.place refl in
+    ap₂ (λ (x y : Bool). elim (x && y) [ true ↦ parted_claim xs ys | false ↦ Some c ]) k (ap₂ (λ (x y : Bool). x && y) f g)
 
 claim_differs : (c d : ℕ × Arrival) (b : Bool) → ((c.0 == d.0) && same_item c.1 d.1) ≡ b → (c.1.source ≡ d.1.source → c.1.place ≡ d.1.place → Never) → b ≡ false
 claim_differs c d true e apart = let p = and_parts _ _ (and_parts (c.0 == d.0) (same_item c.1 d.1) e).1 in never (apart (eqb-true c.1.source d.1.source p.0) (eqb-true c.1.place d.1.place p.1))
@@ -152,8 +154,8 @@ noticed_is v a b Deed.Read e = refl
 
 module _ (n : ℕ) (past : List Event) (h : List Handling) (v : View Item) (a b : Peer) (keeps : Keeps n past a.state) (kept : Claiming past h (map aside_of a.state.rx.claimed))
     (same_mark : (x y : Mark) → In x (came past) → In y (came past) → x.source ≡ y.source → x.place ≡ y.place → x ≡ y) (room : (source k : ℕ) (item : Item) → slice_get (v.ready source) k ≡ Some item → source < n) where
-  abbrev Tells : List Event → List Handling → Type 0
-  Tells es hs = News past (map aside_of a.state.rx.claimed) (map aside_of b.state.rx.claimed) es hs
+  abbrev Tells : Option (Receive × Mark) → List Event → List Handling → Type 0
+  Tells o es hs = News past o (map aside_of a.state.rx.claimed) (map aside_of b.state.rx.claimed) es hs
 
   -- the watcher of those set aside sees these
   handled_so : (call : Option Call) (xs ys zs : List Handling) → frees call a.state b.state ≡ xs → claims a.state b.state ≡ ys → discards call a.state b.state ≡ zs → handles call a.state b.state ≡ (xs ++ ys) ++ zs
@@ -186,10 +188,10 @@ module _ (n : ℕ) (past : List Event) (h : List Handling) (v : View Item) (a b 
   still_happens : (p : Option Posting) → parted a.state.rx.unexpected b.state.rx.unexpected ≡ None → Each Dull (happens a.state b.state p)
   still_happens p none = subst (λ (xs : List Event). Each Dull ((xs ++ cancels a.state b.state) ++ makes p a.state b.state)) (sym (left_nothing none)) (dull_more p a.state b.state)
 
-  quiet : (x : Deed) → is_head x ≡ false → parted a.state.rx.unexpected b.state.rx.unexpected ≡ None → map aside_of b.state.rx.claimed ≡ map aside_of a.state.rx.claimed → Tells (noticed v a x b) (handles (call_in x) a.state b.state)
-  quiet x no_head none same = Still (subst (Each Dull) (sym (noticed_is v a b x no_head)) (still_happens (posting_in x) none)) (nothing_handled (call_in x) none same) same
+  quiet : (x : Deed) → is_head x ≡ false → parted a.state.rx.unexpected b.state.rx.unexpected ≡ None → map aside_of b.state.rx.claimed ≡ map aside_of a.state.rx.claimed → Tells None (noticed v a x b) (handles (call_in x) a.state b.state)
+  quiet x no_head none same = Still refl (subst (Each Dull) (sym (noticed_is v a b x no_head)) (still_happens (posting_in x) none)) (nothing_handled (call_in x) none same) same
 
-  same_lists : (x : Deed) → is_head x ≡ false → b.state.rx.unexpected ≡ a.state.rx.unexpected → b.state.rx.claimed ≡ a.state.rx.claimed → Tells (noticed v a x b) (handles (call_in x) a.state b.state)
+  same_lists : (x : Deed) → is_head x ≡ false → b.state.rx.unexpected ≡ a.state.rx.unexpected → b.state.rx.claimed ≡ a.state.rx.claimed → Tells None (noticed v a x b) (handles (call_in x) a.state b.state)
   same_lists x no_head unexpected claimed = quiet x no_head (ap (parted a.state.rx.unexpected) unexpected ∙ parted_same a.state.rx.unexpected) (ap (map aside_of) claimed)
 
   -- ---- a message leaves those that wait
@@ -217,35 +219,35 @@ module _ (n : ℕ) (past : List Event) (h : List Handling) (v : View Item) (a b 
       | Some z ↦ elim (claims_more a.state b.state) [ true ↦ [] | false ↦ elim (taken_now a.state b.state z) [ Some receive ↦ [] | None ↦ discarding call a.state.calls (mark_of z) ∷ [] ] ]
     ]) parts_at ∙ ap₂ (λ (c : Bool) (p : Option ℕ). elim c [ true ↦ [] | false ↦ elim p [ Some receive ↦ [] | None ↦ discarding call a.state.calls (mark_of y) ∷ [] ] ]) e f
 
-    got : (call : ℕ) → b.state.rx.claimed ≡ a.state.rx.claimed → elim y.bytes [ Some _ ↦ filled_by (new_entry a.state b.state) | None ↦ goes_into (coming_from b.state.rx y.source) ] ≡ Some call → Tells (noticed v a x b) (handles (call_in x) a.state b.state)
-    got call claimed seen =
+    got : (r : Receive) → b.state.rx.claimed ≡ a.state.rx.claimed → elim y.bytes [ Some _ ↦ filled_by (new_entry a.state b.state) | None ↦ goes_into (coming_from b.state.rx y.source) ] ≡ Some r.call → Tells (Some (r, mark_of y)) (noticed v a x b) (handles (call_in x) a.state b.state)
+    got r claimed seen =
         let same : map aside_of b.state.rx.claimed ≡ map aside_of a.state.rx.claimed = ap (map aside_of) claimed in
         let few = no_more (as_many same) in
-        Gone call (mark_of y) (not (is_posted call b.state)) (cancels a.state b.state ++ makes (posting_in x) a.state b.state) fresh
-            (noticed_so (Got call (mark_of y) (not (is_posted call b.state))) (left_got a.state b.state y call (not (is_posted call b.state)) parts_at claimed seen refl))
+        Gone r (mark_of y) (not (is_posted r.call b.state)) (cancels a.state b.state ++ makes (posting_in x) a.state b.state) refl fresh
+            (noticed_so (Got r.call (mark_of y) (not (is_posted r.call b.state))) (left_got a.state b.state y r.call (not (is_posted r.call b.state)) parts_at claimed seen refl))
             (dull_more (posting_in x) a.state b.state)
             (handled_so (call_in x) [] [] [] (frees_none (call_in x) [] (same ∙ sym (append-nil (map aside_of a.state.rx.claimed)))) (claims_none (as_many same))
-            (discards_so (call_in x) false (Some call) few (ap (λ c. elim c [ true ↦ None | false ↦ elim y.bytes [ Some _ ↦ filled_by (new_entry a.state b.state) | None ↦ goes_into (coming_from b.state.rx y.source) ] ]) few ∙ seen)))
+            (discards_so (call_in x) false (Some r.call) few (ap (λ c. elim c [ true ↦ None | false ↦ elim y.bytes [ Some _ ↦ filled_by (new_entry a.state b.state) | None ↦ goes_into (coming_from b.state.rx y.source) ] ]) few ∙ seen)))
             same
 
-    put : (ctx : ℕ) → b.state.rx.claimed ≡ a.state.rx.claimed ++ (ctx, y) ∷ [] → Tells (noticed v a x b) (handles (call_in x) a.state b.state)
+    put : (ctx : ℕ) → b.state.rx.claimed ≡ a.state.rx.claimed ++ (ctx, y) ∷ [] → Tells None (noticed v a x b) (handles (call_in x) a.state b.state)
     put ctx claimed =
         let more : map aside_of b.state.rx.claimed ≡ map aside_of a.state.rx.claimed ++ (ctx, mark_of y) ∷ [] = ap (map aside_of) claimed ∙ map_append aside_of a.state.rx.claimed ((ctx, y) ∷ []) in
         let many : claims_more a.state b.state ≡ true = lt-ltb (length a.state.rx.claimed) (length b.state.rx.claimed) (omega (arith, ap length claimed, length_more a.state.rx.claimed (ctx, y))) in
         let none : taken_now a.state b.state y ≡ None = ap (λ c. elim c [ true ↦ None | false ↦ elim y.bytes [ Some _ ↦ filled_by (new_entry a.state b.state) | None ↦ goes_into (coming_from b.state.rx y.source) ] ]) many in
-        Put ctx (mark_of y) (cancels a.state b.state ++ makes (posting_in x) a.state b.state) fresh (noticed_so (Lost (mark_of y)) (left_lost a.state b.state y parts_at none)) (dull_more (posting_in x) a.state b.state)
+        Put ctx (mark_of y) (cancels a.state b.state ++ makes (posting_in x) a.state b.state) refl fresh (noticed_so (Lost (mark_of y)) (left_lost a.state b.state y parts_at none)) (dull_more (posting_in x) a.state b.state)
             (handled_so (call_in x) [] (Claimed ctx (mark_of y) ∷ []) [] (frees_none (call_in x) ((ctx, mark_of y) ∷ []) more)
             (ap (λ (o : Option (ℕ × Arrival)). elim o [ None ↦ [] | Some c ↦ Claimed c.0 (mark_of c.1) ∷ [] ]) (ap (λ (cs : List (ℕ × Arrival)). slice_get cs (length a.state.rx.claimed)) claimed ∙ last_get a.state.rx.claimed (ctx, y)))
             (discards_so (call_in x) true None many none))
             more
 
     throw : (call : ℕ) → discarding (call_in x) a.state.calls (mark_of y) ≡ Discarded call (mark_of y) → b.state.rx.claimed ≡ a.state.rx.claimed
-        → elim y.bytes [ Some _ ↦ filled_by (new_entry a.state b.state) | None ↦ goes_into (coming_from b.state.rx y.source) ] ≡ None → Tells (noticed v a x b) (handles (call_in x) a.state b.state)
+        → (let o : Option ℕ = elim y.bytes [ Some _ ↦ filled_by (new_entry a.state b.state) | None ↦ goes_into (coming_from b.state.rx y.source) ] in o) ≡ None → Tells None (noticed v a x b) (handles (call_in x) a.state b.state)
     throw call asks claimed seen =
         let same : map aside_of b.state.rx.claimed ≡ map aside_of a.state.rx.claimed = ap (map aside_of) claimed in
         let few = no_more (as_many same) in
         let none : taken_now a.state b.state y ≡ None = ap (λ c. elim c [ true ↦ None | false ↦ elim y.bytes [ Some _ ↦ filled_by (new_entry a.state b.state) | None ↦ goes_into (coming_from b.state.rx y.source) ] ]) few ∙ seen in
-        Thrown call (mark_of y) (cancels a.state b.state ++ makes (posting_in x) a.state b.state) fresh (noticed_so (Lost (mark_of y)) (left_lost a.state b.state y parts_at none)) (dull_more (posting_in x) a.state b.state)
+        Thrown call (mark_of y) (cancels a.state b.state ++ makes (posting_in x) a.state b.state) refl fresh (noticed_so (Lost (mark_of y)) (left_lost a.state b.state y parts_at none)) (dull_more (posting_in x) a.state b.state)
             (handled_so (call_in x) [] [] (Discarded call (mark_of y) ∷ []) (frees_none (call_in x) [] (same ∙ sym (append-nil (map aside_of a.state.rx.claimed)))) (claims_none (as_many same))
             (discards_so (call_in x) false None few none ∙ ap (λ (e : Handling). e ∷ []) asks))
             same
@@ -263,10 +265,10 @@ module _ (n : ℕ) (past : List Event) (h : List Handling) (v : View Item) (a b 
         go None e f = absurd (cc (f))
         go (Some c) e f = (c, e, (let g : c.1 ≡ y = cc (f) in g))
 
-    free_up : (call : ℕ) (e : Handling) → freeing (call_in x) a.state.calls (mark_of y) ≡ e → (e ≡ Took call ctx (mark_of y)) ⊎ (e ≡ Dropped call ctx (mark_of y)) → Tells (noticed v a x b) (handles (call_in x) a.state b.state)
-    free_up call e asks is = go the_claim.0 the_claim.1 the_claim.2
+    free_up : (o : Option (Receive × Mark)) (call : ℕ) (e : Handling) → freeing (call_in x) a.state.calls (mark_of y) ≡ e → TakesIt o call ctx (mark_of y) e → Tells o (noticed v a x b) (handles (call_in x) a.state b.state)
+    free_up o call e asks is = go the_claim.0 the_claim.1 the_claim.2
       where
-        go : (c : ℕ × Arrival) → find (λ (c : ℕ × Arrival). c.0 == ctx) a.state.rx.claimed ≡ Some c → c.1 ≡ y → Tells (noticed v a x b) (handles (call_in x) a.state b.state)
+        go : (c : ℕ × Arrival) → find (λ (c : ℕ × Arrival). c.0 == ctx) a.state.rx.claimed ≡ Some c → c.1 ≡ y → Tells o (noticed v a x b) (handles (call_in x) a.state b.state)
         go c at same =
             let split = split_at named a.state.rx.claimed c at in
             let context : c.0 ≡ ctx = eqb-true c.0 ctx split.pass in
@@ -280,10 +282,9 @@ module _ (n : ℕ) (past : List Event) (h : List Handling) (v : View Item) (a b 
             (same_mark (mark_of c.1) (mark_of d.1) (came_of c there) (came_of d behind) source place)) in
             let loses = loses_mapped aside_of named a.state.rx.claimed c split in
             let fewer : length b.state.rx.claimed ≤ length a.state.rx.claimed = omega (arith, ap length claimed, ap length split.removed, ap length split.whole, length-append split.front split.back, length-append split.front (c ∷ split.back)) in
-            Freed call ctx (mark_of y) e (subst (Each Dull) (sym (noticed_is v a b x no_head)) (still_happens (posting_in x) (ap (parted a.state.rx.unexpected) unexpected ∙ parted_same a.state.rx.unexpected)))
+            Freed call ctx (mark_of y) e is (subst (Each Dull) (sym (noticed_is v a b x no_head)) (still_happens (posting_in x) (ap (parted a.state.rx.unexpected) unexpected ∙ parted_same a.state.rx.unexpected)))
             (handled_so (call_in x) (e ∷ []) [] [] (ap (λ (o : Option (ℕ × Arrival)). elim o [ None ↦ [] | Some c ↦ freeing (call_in x) a.state.calls (mark_of c.1) ∷ [] ]) parts_so ∙ ap (λ m. freeing (call_in x) a.state.calls m ∷ []) mark ∙ ap (λ (f : Handling). f ∷ []) asks)
             (claims_none fewer) (discards_none (call_in x) (ap (parted a.state.rx.unexpected) unexpected ∙ parted_same a.state.rx.unexpected)))
-            is
             (subst (λ z. In z (map aside_of a.state.rx.claimed)) name (in_map aside_of c a.state.rx.claimed there))
             (subst (λ z. Loses z (map aside_of a.state.rx.claimed) (map aside_of b.state.rx.claimed) true) name (subst (λ (cs : List (ℕ × Arrival)). Loses (aside_of c) (map aside_of a.state.rx.claimed) (map aside_of cs) true) (sym claimed) loses))
           where
@@ -305,11 +306,11 @@ module _ (n : ℕ) (past : List Event) (h : List Handling) (v : View Item) (a b 
     new_mark : In (record { source = source; place = slice_index a.state.rx.heads source; head = item.head }) (gone past) → Never
     new_mark i = absurd (omega (arith, keeps.holds.fresh_marks _ (keeps.holds.gone_came _ i)))
 
-    taken : (call : ℕ) → goes_into (coming_from b.state.rx source) ≡ Some call → parted a.state.rx.unexpected b.state.rx.unexpected ≡ None → map aside_of b.state.rx.claimed ≡ map aside_of a.state.rx.claimed → Tells (noticed v a (Head source) b) (handles None a.state b.state)
-    taken call e none same = Gone call (record { source = source; place = slice_index a.state.rx.heads source; head = item.head }) (not (is_posted call b.state)) (Came (record { source = source; place = slice_index a.state.rx.heads source; head = item.head }) ∷ []) new_mark (went (Some call) e) (always, always) (nothing_handled None none same) same
+    taken : (r : Receive) → goes_into (coming_from b.state.rx source) ≡ Some r.call → parted a.state.rx.unexpected b.state.rx.unexpected ≡ None → map aside_of b.state.rx.claimed ≡ map aside_of a.state.rx.claimed → Tells (Some (r, record { source = source; place = slice_index a.state.rx.heads source; head = item.head })) (noticed v a (Head source) b) (handles None a.state b.state)
+    taken r e none same = Gone r (record { source = source; place = slice_index a.state.rx.heads source; head = item.head }) (not (is_posted r.call b.state)) (Came (record { source = source; place = slice_index a.state.rx.heads source; head = item.head }) ∷ []) refl new_mark (went (Some r.call) e) (always, always) (nothing_handled None none same) same
 
-    waits : goes_into (coming_from b.state.rx source) ≡ None → parted a.state.rx.unexpected b.state.rx.unexpected ≡ None → map aside_of b.state.rx.claimed ≡ map aside_of a.state.rx.claimed → Tells (noticed v a (Head source) b) (handles None a.state b.state)
-    waits e none same = Still (subst (Each Dull) (sym (went None e)) (always, always)) (nothing_handled None none same) same
+    waits : goes_into (coming_from b.state.rx source) ≡ None → parted a.state.rx.unexpected b.state.rx.unexpected ≡ None → map aside_of b.state.rx.claimed ≡ map aside_of a.state.rx.claimed → Tells None (noticed v a (Head source) b) (handles None a.state b.state)
+    waits e none same = Still refl (subst (Each Dull) (sym (went None e)) (always, always)) (nothing_handled None none same) same
 
   passes : (source : ℕ) (item : Item) → Arrives v a.state source item → is_message item.head.kind ≡ false → noticed v a (Head source) b ≡ []
   passes source item arrives_so other = ap (λ (o : Option Item). elim o [
@@ -335,21 +336,21 @@ module _ (n : ℕ) (past : List Event) (h : List Handling) (v : View Item) (a b 
           ap filled_by new ∙ ap (λ c. elim c [ true ↦ Some r.call | false ↦ None ]) (entry_tells r place y.source y.head bytes)
 
   thrown_seen : (y : Arrival) (before : Receiving) (w : Written) → y.source < length before.coming → b.state.rx.coming ≡ (thrown y before).coming → b.state.cq.written ≡ a.state.cq.written ++ w ∷ [] → Plain w
-      → elim y.bytes [ Some _ ↦ filled_by (new_entry a.state b.state) | None ↦ goes_into (coming_from b.state.rx y.source) ] ≡ None
+      → (let o : Option ℕ = elim y.bytes [ Some _ ↦ filled_by (new_entry a.state b.state) | None ↦ goes_into (coming_from b.state.rx y.source) ] in o) ≡ None
   thrown_seen y before w within coming written plain = go y.bytes coming
     where
-      go : (o : Option (List ℕ)) → b.state.rx.coming ≡ (let x : Receiving = elim o [ None ↦ goes y.source Throw before | Some bytes ↦ before ] in x).coming → elim o [ Some _ ↦ filled_by (new_entry a.state b.state) | None ↦ goes_into (coming_from b.state.rx y.source) ] ≡ None
+      go : (o : Option (List ℕ)) → b.state.rx.coming ≡ (let x : Receiving = elim o [ None ↦ goes y.source Throw before | Some bytes ↦ before ] in x).coming → (let p : Option ℕ = elim o [ Some _ ↦ filled_by (new_entry a.state b.state) | None ↦ goes_into (coming_from b.state.rx y.source) ] in p) ≡ None
       go None e = ap (λ (cs : List (Option Coming)). goes_into (get_or cs y.source None)) e ∙ ap goes_into (get_or-set_same before.coming y.source (Some Throw) None within)
       go (Some bytes) e = ap filled_by (ap (λ (ws : List Written). slice_get ws (length a.state.cq.written)) written ∙ last_get a.state.cq.written w) ∙ ap (λ c. elim c [ true ↦ w.call | false ↦ None ]) plain.0
 
-  pub news : (x : Deed) → Act v a.state x b.state → Tells (noticed v a x b) (handles (call_in x) a.state b.state)
+  pub news : (x : Deed) (did : Act v a.state x b.state) → Tells (subject v a.state x b.state did) (noticed v a x b) (handles (call_in x) a.state b.state)
   unfolding keeping
   news x (Rests no_head idle) = same_lists x no_head (ap (λ (rx : Receiving). rx.unexpected) idle.rx) (ap (λ (rx : Receiving). rx.claimed) idle.rx)
   news x (Posts p is calls rx written) = same_lists x (ap is_head is) (ap (λ (rx : Receiving). rx.unexpected) rx) (ap (λ (rx : Receiving). rx.claimed) rx)
   news x (Gets p y is calls single found rx written) =
       let before : Receiving = without_first (receive_of a.state p).want a.state.rx in
       let l = leaves_given (receive_of a.state p) 0 y before in
-      got x (ap is_head is) (takes (receive_of a.state p).want) y found (ap (λ (rx : Receiving). rx.unexpected) rx ∙ l.unexpected) a.state.calls (ap (λ (rx : Receiving). rx.claimed) rx ∙ l.claimed)
+      got x (ap is_head is) (takes (receive_of a.state p).want) y found (ap (λ (rx : Receiving). rx.unexpected) rx ∙ l.unexpected) (receive_of a.state p) (ap (λ (rx : Receiving). rx.claimed) rx ∙ l.claimed)
       (given_seen (receive_of a.state p) 0 y before (given (receive_of a.state p) 0 y before) [] (source_within n past a.state keeps y (found_in (takes (receive_of a.state p).want) a.state.rx.unexpected y found).0) refl (ap (λ (rx : Receiving). rx.coming) rx) (written ∙ sym (append-nil _)))
   news x (Claims source tag ignore ctx y w is calls found rx written plain) =
       put x (ap is_head is) (takes (want_of a.state true source tag ignore)) y found (ap (λ (rx : Receiving). rx.unexpected) rx) ctx (ap (λ (rx : Receiving). rx.claimed) rx)
@@ -360,29 +361,29 @@ module _ (n : ℕ) (past : List Event) (h : List Handling) (v : View Item) (a b 
       (thrown_seen y before w (source_within n past a.state keeps y (found_in (takes (want_of a.state true source tag ignore)) a.state.rx.unexpected y found).0) (ap (λ (rx : Receiving). rx.coming) rx) written plain)
   news x (Takes buf ctx y is calls found rx written) =
       let l = leaves_given (taking a.state buf ctx) 0 y (without_claim ctx a.state.rx) in
-      free_up x (ap is_head is) ctx y found (ap (λ (rx : Receiving). rx.claimed) rx ∙ l.claimed) (ap (λ (rx : Receiving). rx.unexpected) rx ∙ l.unexpected) a.state.calls (Took a.state.calls ctx (mark_of y)) (ap (λ (z : Deed). freeing (call_in z) a.state.calls (mark_of y)) is) (inl refl)
+      free_up x (ap is_head is) ctx y found (ap (λ (rx : Receiving). rx.claimed) rx ∙ l.claimed) (ap (λ (rx : Receiving). rx.unexpected) rx ∙ l.unexpected) (Some (taking a.state buf ctx, mark_of y)) a.state.calls (Took a.state.calls ctx (mark_of y)) (ap (λ (z : Deed). freeing (call_in z) a.state.calls (mark_of y)) is) (inl (taking a.state buf ctx, refl, refl, refl, refl))
   news x (Drops ctx y w is calls found rx written plain) =
       let l = leaves_thrown y (without_claim ctx a.state.rx) in
-      free_up x (ap is_head is) ctx y found (ap (λ (rx : Receiving). rx.claimed) rx ∙ l.claimed) (ap (λ (rx : Receiving). rx.unexpected) rx ∙ l.unexpected) a.state.calls (Dropped a.state.calls ctx (mark_of y)) (ap (λ (z : Deed). freeing (call_in z) a.state.calls (mark_of y)) is) (inr refl)
+      free_up x (ap is_head is) ctx y found (ap (λ (rx : Receiving). rx.claimed) rx ∙ l.claimed) (ap (λ (rx : Receiving). rx.unexpected) rx ∙ l.unexpected) None a.state.calls (Dropped a.state.calls ctx (mark_of y)) (ap (λ (z : Deed). freeing (call_in z) a.state.calls (mark_of y)) is) (inr (refl, refl))
   news x (Cancels c test r is which calls found rx written) = same_lists x (ap is_head is) (ap (λ (rx : Receiving). rx.unexpected) rx) (ap (λ (rx : Receiving). rx.claimed) rx)
   news x (Seats source item r is arrives_so message found rx written) =
-      subst (λ (z : Deed). Tells (noticed v a z b) (handles (call_in z) a.state b.state)) (sym is)
-      (taken source item arrives_so message r.call
+      subst (λ (z : Deed). Tells (Some (r, record { source = source; place = slice_index a.state.rx.heads source; head = item.head })) (noticed v a z b) (handles (call_in z) a.state b.state)) (sym is)
+      (taken source item arrives_so message r
       (ap (λ (rx : Receiving). goes_into (coming_from rx source)) rx ∙ ap goes_into (get_or-set_same a.state.rx.coming source (Some (Into r r.used)) None (in_coming source (slice_index a.state.rx.heads source) item arrives_so.at)))
       (ap (λ (rx : Receiving). parted a.state.rx.unexpected rx.unexpected) rx ∙ parted_same a.state.rx.unexpected) (ap (λ (rx : Receiving). map aside_of rx.claimed) rx))
   news x (Waits source item is arrives_so message found rx written) =
-      subst (λ (z : Deed). Tells (noticed v a z b) (handles (call_in z) a.state b.state)) (sym is)
+      subst (λ (z : Deed). Tells None (noticed v a z b) (handles (call_in z) a.state b.state)) (sym is)
       (waits source item arrives_so message
       (ap (λ (rx : Receiving). goes_into (coming_from rx source)) rx ∙ ap goes_into (get_or-set_same a.state.rx.coming source (Some Keep) None (in_coming source (slice_index a.state.rx.heads source) item arrives_so.at)))
       (stands a.state.rx.unexpected b.state.rx.unexpected _ (ap (λ (rx : Receiving). map mark_of rx.unexpected) rx ∙ map_append mark_of a.state.rx.unexpected _)) (ap (λ (rx : Receiving). map aside_of rx.claimed) rx))
   news x (Passes source item c is arrives_so other no_into rx written) =
-      subst (λ (z : Deed). Tells (noticed v a z b) (handles (call_in z) a.state b.state)) (sym is)
-      (Still (subst (Each Dull) (sym (passes source item arrives_so other)) always) (nothing_handled None (ap (λ (rx : Receiving). parted a.state.rx.unexpected rx.unexpected) rx ∙ parted_same a.state.rx.unexpected) (ap (λ (rx : Receiving). map aside_of rx.claimed) rx)) (ap (λ (rx : Receiving). map aside_of rx.claimed) rx))
+      subst (λ (z : Deed). Tells None (noticed v a z b) (handles (call_in z) a.state b.state)) (sym is)
+      (Still refl (subst (Each Dull) (sym (passes source item arrives_so other)) always) (nothing_handled None (ap (λ (rx : Receiving). parted a.state.rx.unexpected rx.unexpected) rx ∙ parted_same a.state.rx.unexpected) (ap (λ (rx : Receiving). map aside_of rx.claimed) rx)) (ap (λ (rx : Receiving). map aside_of rx.claimed) rx))
   news x (Draws r y is found first mid is_mid rx written) =
       let before : Receiving = without_first r.want (seating y.head.total r a.state.rx.unexpected a.state.rx) in
       let l = leaves_given r r.used y before in
       let o = leaves_out (leaving r mid) mid in
-      got x (ap is_head is) (takes r.want) y first (ap (λ (rx : Receiving). rx.unexpected) rx ∙ o.unexpected ∙ ap (λ (rx : Receiving). rx.unexpected) is_mid ∙ l.unexpected) r.call (ap (λ (rx : Receiving). rx.claimed) rx ∙ o.claimed ∙ ap (λ (rx : Receiving). rx.claimed) is_mid ∙ l.claimed)
+      got x (ap is_head is) (takes r.want) y first (ap (λ (rx : Receiving). rx.unexpected) rx ∙ o.unexpected ∙ ap (λ (rx : Receiving). rx.unexpected) is_mid ∙ l.unexpected) r (ap (λ (rx : Receiving). rx.claimed) rx ∙ o.claimed ∙ ap (λ (rx : Receiving). rx.claimed) is_mid ∙ l.claimed)
       (given_seen r r.used y before mid (freed (leaving r mid)) (source_within n past a.state keeps y (found_in (takes r.want) a.state.rx.unexpected y first).0) is_mid (ap (λ (rx : Receiving). rx.coming) rx ∙ coming_out (leaving r mid) mid) written)
   news x (Fills source item r place is ends from mid is_mid rx written) =
       let o = leaves_out (leaving r mid) mid in
