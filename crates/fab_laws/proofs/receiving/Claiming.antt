@@ -127,7 +127,7 @@ lost_gone x (Lost m ∷ past) (inl e) = inl e
 lost_gone x (Lost m ∷ past) (inr i) = inr (lost_gone x past i)
 lost_gone x (Cancelled call ∷ past) i = lost_gone x past i
 
-freed_claimed : (x : Mark) (h : List Handling) → FreeEach h → In x (freed h) → (ctx : ℕ) × In (Claimed ctx x) h
+pub freed_claimed : (x : Mark) (h : List Handling) → FreeEach h → In x (freed h) → (ctx : ℕ) × In (Claimed ctx x) h
 freed_claimed x [] free i = never i
 freed_claimed x (Claimed c y ∷ h) free i = let r = freed_claimed x h free i in (r.0, inr r.1)
 freed_claimed x (Took call c y ∷ h) free (inl e) = (c, inr (subst (λ z. In (Claimed c z) h) (sym e) free.0.0))

@@ -176,7 +176,7 @@ message_seen v w m tails e more y = record { r = y.r; of = y.of; place = y.place
 settled_seen : (v w : View Item) (m : List Receive) (s : State) (call : ℕ) (x : Mark) → More v w → Settled v m s call x → Settled w m s call x
 unfolding message_seen
 settled_seen v w m s call x more (inl comes) = inl comes
-settled_seen v w m s call x more (inr (e, i, (y, rest))) = inr (e, i, (message_seen v w m s.rx.tails e more y, rest))
+settled_seen v w m s call x more (inr (e, i, (y, number, source, place, head))) = inr (e, i, (message_seen v w m s.rx.tails e more y, number, source, place, head))
 
 settling_seen : (v w : View Item) (past : List Event) (h : List Handling) (m : List Receive) (s : State) → More v w → Settling v past h m s → Settling w past h m s
 unfolding message_seen
@@ -358,7 +358,7 @@ one_tells from turns states leads p a here f x last w asked none got there final
         let some = in_many (is_final f.call) a.state.cq.written w there final in
         let many = counted (is_final f.call) a.state.cq.written in
         let o = (numbers_complete from turns states leads p a here f.call).1 (omega (arith, some, many)) in
-        let none_yet = (one_final_completion from turns states leads p a here o.0 o.1).2.0 (subst (λ c. has_ended c a.state ≡ false) (sym o.2) (not_ended f.call a.state (under_way_is a.state.rx x.source f.call comes.0))) in
+        let none_yet = (one_final_completion from turns states leads p a here o.0 o.1).2 (subst (λ c. has_ended c a.state ≡ false) (sym o.2) (not_ended f.call a.state (under_way_is a.state.rx x.source f.call comes.0))) in
         absurd (omega (arith, some, many, none_yet, ap (λ c. count_by (is_final c) a.state.cq.written) o.2))
     go (inr (z, is, (y, number, source, place, head))) =
         let kept = kept_at from turns states leads p a here in
