@@ -19,8 +19,11 @@ use Rattle.fab_laws.specs.FenceLaws.{FenceHolds, GoesInOrder, HoldsNothing, IsOf
 use Rattle.fab_laws.specs.ReplyLaws.{FindsItsOperation, WaitsAtMatch}
 use Rattle.fab_laws.specs.StreamLaws.{HasArrived, IsFirst, IsPosted, TakesAll, arrived_from, arriving, asks, posted_for, taking, whole_from}
 use Rattle.fab_laws.specs.MessageLaws.{EntryTells, ReceiveTells, asked_of, keeping_asked}
+use Rattle.fab_laws.specs.Claimed.{Handling, handled_of, handling}
+use Rattle.fab_laws.specs.ClaimLaws.{EntryIsOwn, FreesClaimed, IsPutAway, NoneSlips, StaysAside}
+use Rattle.fab_laws.specs.ReceiveLaws.{AllHaveFates, GotTold, LeavesOnce, OneTellsIt, TookTold}
 use Rattle.fab_laws.specs.ScriptLaws as script
-use Rattle.fab_laws.specs.ScriptLaws.{script_arrived, script_asked, script_operations, script_past, script_whole}
+use Rattle.fab_laws.specs.ScriptLaws.{script_arrived, script_asked, script_handled, script_operations, script_past, script_whole}
 use Rattle.fab_laws.proofs.Scripts.{of_scripts, of_turns, same_memory, script_opening}
 use Rattle.fab_laws.proofs.matching.Orders.{got_rightly, none_passed_over, past_tells_state, served_in_order, taken_in_order}
 use Rattle.fab_laws.proofs.completion.Once.{nothing_is_held_back, numbers_complete, one_final_completion}
@@ -31,6 +34,7 @@ use Rattle.fab_laws.proofs.streams.Taken.{taken_is_first}
 use Rattle.fab_laws.proofs.streams.Posted.{taken_is_posted}
 use Rattle.fab_laws.proofs.streams.Arrived.{all_is_taken, arrived_is_first, arrived_is_posted, whole_has_arrived}
 use Rattle.fab_laws.proofs.streams.Entries.{entries_tell, receives_tell}
+use Rattle.fab_laws.proofs.receiving.Holding.{freed_rightly, goes_once, got_is_told, lost_is_put_away, none_is_lost, one_tells, stays_claimed, takes_tell, took_is_told}
 
 -- the history words of the program that makes the calls of a script's lines are those of the script
 module _ (bound : Bound) (turns : List (Turn Step)) (states : List Actor) (leads : ScriptLeadTo bound turns states) where
@@ -55,6 +59,9 @@ module _ (bound : Bound) (turns : List (Turn Step)) (states : List Actor) (leads
 
   asked : (p : ℕ) → asked_of (peers (opening bound)) (deeds_of (opening bound) turns) p ≡ script_asked bound turns p
   asked p = same_memory keeping_asked p turns (opening bound) states [] leads
+
+  handled : (p : ℕ) → handled_of (peers (opening bound)) (deeds_of (opening bound) turns) p ≡ script_handled bound turns p
+  handled p = same_memory handling p turns (opening bound) states [] leads
 
 -- ---- matching
 
@@ -166,3 +173,50 @@ script_receives_tell bound turns states leads p a here =
     subst (λ (m : List Receive). ReceiveTells (script_past bound turns p) m (peers states) p (peer_of a)) (asked bound turns states leads p)
     (subst (λ (events : List Event). ReceiveTells events (asked_of (peers (opening bound)) (deeds_of (opening bound) turns) p) (peers states) p (peer_of a)) (past bound turns states leads p)
     (of_scripts (λ from turns states p a. ReceiveTells (past_of from turns p) (asked_of from turns p) states p a) receives_tell bound turns states leads p a here))
+
+-- ---- claims and receives
+
+pub script_freed_rightly : script.FreedRightly
+script_freed_rightly bound turns states leads p a here =
+    subst (λ (h : List Handling). FreesClaimed h × NoneSlips h) (handled bound turns states leads p)
+    (of_scripts (λ from turns states p a. FreesClaimed (handled_of from turns p) × NoneSlips (handled_of from turns p)) freed_rightly bound turns states leads p a here)
+
+pub script_stays_claimed : script.StaysClaimed
+script_stays_claimed bound turns states leads p a here =
+    subst (λ (h : List Handling). StaysAside h a.state.rx) (handled bound turns states leads p)
+    (of_scripts (λ from turns states p a. StaysAside (handled_of from turns p) a.state.rx) stays_claimed bound turns states leads p a here)
+
+pub script_lost_is_put_away : script.LostIsPutAway
+script_lost_is_put_away bound turns states leads p a here =
+    subst₂ IsPutAway (past bound turns states leads p) (handled bound turns states leads p)
+    (of_scripts (λ from turns states p a. IsPutAway (past_of from turns p) (handled_of from turns p)) lost_is_put_away bound turns states leads p a here)
+
+pub script_takes_tell : script.TakesTell
+script_takes_tell bound turns states leads p a here =
+    subst (λ (m : List Receive). EntryIsOwn (script_past bound turns p) (script_handled bound turns p) m (peers states) p (peer_of a)) (asked bound turns states leads p)
+    (subst₂ (λ (events : List Event) (h : List Handling). EntryIsOwn events h (asked_of (peers (opening bound)) (deeds_of (opening bound) turns) p) (peers states) p (peer_of a)) (past bound turns states leads p) (handled bound turns states leads p)
+    (of_scripts (λ from turns states p a. EntryIsOwn (past_of from turns p) (handled_of from turns p) (asked_of from turns p) states p a) takes_tell bound turns states leads p a here))
+
+pub script_got_is_told : script.GotIsTold
+script_got_is_told bound turns states leads p a here =
+    subst₂ (λ (events : List Event) (m : List Receive). GotTold events m (peers states) p (peer_of a)) (past bound turns states leads p) (asked bound turns states leads p)
+    (of_scripts (λ from turns states p a. GotTold (past_of from turns p) (asked_of from turns p) states p a) got_is_told bound turns states leads p a here)
+
+pub script_took_is_told : script.TookIsTold
+script_took_is_told bound turns states leads p a here =
+    subst₂ (λ (h : List Handling) (m : List Receive). TookTold h m (peers states) p (peer_of a)) (handled bound turns states leads p) (asked bound turns states leads p)
+    (of_scripts (λ from turns states p a. TookTold (handled_of from turns p) (asked_of from turns p) states p a) took_is_told bound turns states leads p a here)
+
+pub script_one_tells : script.OneTells
+script_one_tells bound turns states leads p a here =
+    subst₂ (λ (events : List Event) (m : List Receive). OneTellsIt events m (peers states) p (peer_of a)) (past bound turns states leads p) (asked bound turns states leads p)
+    (of_scripts (λ from turns states p a. OneTellsIt (past_of from turns p) (asked_of from turns p) states p a) one_tells bound turns states leads p a here)
+
+pub script_goes_once : script.GoesOnce
+script_goes_once bound turns states leads p a here =
+    subst LeavesOnce (past bound turns states leads p) (of_scripts (λ from turns states p a. LeavesOnce (past_of from turns p)) goes_once bound turns states leads p a here)
+
+pub script_none_is_lost : script.NoneIsLost
+script_none_is_lost bound turns states leads p a here =
+    subst₂ (λ (events : List Event) (h : List Handling). AllHaveFates events h a.state.rx) (past bound turns states leads p) (handled bound turns states leads p)
+    (of_scripts (λ from turns states p a. AllHaveFates (past_of from turns p) (handled_of from turns p) a.state.rx) none_is_lost bound turns states leads p a here)

@@ -1,5 +1,5 @@
 -- The laws as they speak of scripts: at every moment to which turns of a bound script's peers lead, and with what these peers remember in their own turns.
---     script_past, script_operations, script_whole, script_arrived, script_asked      the history words, told by the turns of a script
+--     script_past, script_operations, script_whole, script_arrived, script_asked, script_handled      the history words, told by the turns of a script
 use Rattle.std.specs.Prelude.{ℕ, List, []}
 use Rattle.fab_base.specs.declared.items.Item.{Item}
 use Rattle.fab_base.specs.declared.operations.Receive.{Receive}
@@ -17,6 +17,9 @@ use Rattle.fab_laws.specs.FenceLaws.{FenceHolds, GoesInOrder, HoldsNothing, Item
 use Rattle.fab_laws.specs.ReplyLaws.{AnswersOnce, FindsItsOperation, WaitsAtMatch}
 use Rattle.fab_laws.specs.StreamLaws.{HasArrived, IsFirst, IsPosted, TakesAll, arriving, taking}
 use Rattle.fab_laws.specs.MessageLaws.{EntryTells, ReceiveTells, keeping_asked}
+use Rattle.fab_laws.specs.Claimed.{Handling, handling}
+use Rattle.fab_laws.specs.ClaimLaws.{EntryIsOwn, FreesClaimed, IsPutAway, NoneSlips, StaysAside}
+use Rattle.fab_laws.specs.ReceiveLaws.{AllHaveFates, GotTold, LeavesOnce, OneTellsIt, TookTold}
 
 abbrev pub script_past : Bound → List (Turn Step) → ℕ → List Event
 script_past bound turns p = script_memory noting p turns (opening bound) []
@@ -32,6 +35,9 @@ script_arrived bound turns p source = script_memory (arriving source) p turns (o
 
 abbrev pub script_asked : Bound → List (Turn Step) → ℕ → List Receive
 script_asked bound turns p = script_memory keeping_asked p turns (opening bound) []
+
+abbrev pub script_handled : Bound → List (Turn Step) → ℕ → List Handling
+script_handled bound turns p = script_memory handling p turns (opening bound) []
 
 -- ---- matching
 
@@ -108,3 +114,32 @@ EntriesTell = AtEveryScriptMoment (λ bound turns states p a. EntryTells (script
 
 abbrev pub ReceivesTell : Type 0
 ReceivesTell = AtEveryScriptMoment (λ bound turns states p a. ReceiveTells (script_past bound turns p) (script_asked bound turns p) (peers states) p (peer_of a))
+
+-- ---- claims and receives
+
+abbrev pub FreedRightly : Type 0
+FreedRightly = AtEveryScriptMoment (λ bound turns states p a. FreesClaimed (script_handled bound turns p) × NoneSlips (script_handled bound turns p))
+
+abbrev pub StaysClaimed : Type 0
+StaysClaimed = AtEveryScriptMoment (λ bound turns states p a. StaysAside (script_handled bound turns p) a.state.rx)
+
+abbrev pub LostIsPutAway : Type 0
+LostIsPutAway = AtEveryScriptMoment (λ bound turns states p a. IsPutAway (script_past bound turns p) (script_handled bound turns p))
+
+abbrev pub TakesTell : Type 0
+TakesTell = AtEveryScriptMoment (λ bound turns states p a. EntryIsOwn (script_past bound turns p) (script_handled bound turns p) (script_asked bound turns p) (peers states) p (peer_of a))
+
+abbrev pub GotIsTold : Type 0
+GotIsTold = AtEveryScriptMoment (λ bound turns states p a. GotTold (script_past bound turns p) (script_asked bound turns p) (peers states) p (peer_of a))
+
+abbrev pub TookIsTold : Type 0
+TookIsTold = AtEveryScriptMoment (λ bound turns states p a. TookTold (script_handled bound turns p) (script_asked bound turns p) (peers states) p (peer_of a))
+
+abbrev pub OneTells : Type 0
+OneTells = AtEveryScriptMoment (λ bound turns states p a. OneTellsIt (script_past bound turns p) (script_asked bound turns p) (peers states) p (peer_of a))
+
+abbrev pub GoesOnce : Type 0
+GoesOnce = AtEveryScriptMoment (λ bound turns states p a. LeavesOnce (script_past bound turns p))
+
+abbrev pub NoneIsLost : Type 0
+NoneIsLost = AtEveryScriptMoment (λ bound turns states p a. AllHaveFates (script_past bound turns p) (script_handled bound turns p) a.state.rx)

@@ -14,20 +14,29 @@ ghost use Rattle.fab_laws.specs.ScriptLaws.{
   ArrivedIsPosted,
   EntriesTell,
   FencesHold,
+  FreedRightly,
+  GoesOnce,
   GoneInOrder,
+  GotIsTold,
   GotRightly,
   ItemsAreOfCalls,
+  LostIsPutAway,
+  NoneIsLost,
   NonePassedOver,
   NoStray,
   NothingIsHeldBack,
   NumbersComplete,
   OneFinalCompletion,
+  OneTells,
   PastTellsState,
   ReceivesTell,
   ServedInOrder,
+  StaysClaimed,
   TakenInOrder,
   TakenIsFirst,
   TakenIsPosted,
+  TakesTell,
+  TookIsTold,
   WholeHasArrived,
 };
 
@@ -81,6 +90,23 @@ pub fn script_streams()
 pub fn script_messages()
     ensures entries { EntriesTell }
     ensures receives { ReceivesTell }
+{}
+
+/// A claimed message goes only to a call under the context of its claim.
+pub fn script_claims()
+    ensures freed { FreedRightly }
+    ensures stays { StaysClaimed }
+    ensures lost { LostIsPutAway }
+    ensures takes { TakesTell }
+{}
+
+/// What a receive got it completes with, and no message is lost.
+pub fn script_receives()
+    ensures got { GotIsTold }
+    ensures took { TookIsTold }
+    ensures only { OneTells }
+    ensures once { GoesOnce }
+    ensures all { NoneIsLost }
 {}
 
 /// What the history words of matching say of the states.
