@@ -16,7 +16,7 @@ ghost use Rattle.fab_headline.specs.Headline.{Headline};
 use fab_laws::laws::{law_messages, law_scripts};
 use fab_laws::script_laws::{
     script_claims, script_history, script_l1, script_l2, script_l3, script_l4, script_messages,
-    script_receives, script_streams,
+    script_multi, script_receives, script_streams,
 };
 use fab_model::laws::law_l5;
 
@@ -42,6 +42,7 @@ pub fn law_headline()
     script_l1();
     script_messages();
     script_receives();
+    script_multi();
     script_claims();
     script_l4();
     law_messages();

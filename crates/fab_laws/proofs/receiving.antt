@@ -4,4 +4,5 @@ pub mod Claiming
 pub mod News
 pub mod Settling
 pub mod Flowing
+pub mod Placing
 pub mod Holding

@@ -1,16 +1,20 @@
--- Wrong traces that the laws of streams, claims and receives refuse, for any messages, calls and contexts.
-use Rattle.std.specs.Prelude.{◌≡◌, ℕ, Bool, true, List, [], ◌∷◌, Some, None, slice_get}
+-- Wrong traces that the laws of streams, claims, receives and buffers for many messages refuse, for any messages, calls and contexts.
+use Rattle.std.specs.Prelude.{◌≡◌, ◌≤◌, ℕ, Bool, true, List, [], ◌∷◌, length, Some, None, slice_get}
 use Rattle.fab_base.specs.declared.entries.ErrKind.TheVariants.{Canceled}
 use Rattle.fab_base.specs.declared.items.Item.{Item}
 use Rattle.fab_base.specs.declared.operations.Receive.{Receive}
+use Rattle.fab_base.specs.declared.operations.Written.{Written}
 use Rattle.fab_model.specs.Complete.{error}
 use Rattle.fab_model.specs.State.{Receiving, accepted_for, coming_from}
 use Rattle.fab_laws.specs.Members.{In, Never}
-use Rattle.fab_laws.specs.Programs.{Peer, at_rest}
+use Rattle.fab_model.specs.Views.{seen}
+use Rattle.fab_laws.specs.Programs.{Peer, at_rest, program}
 use Rattle.fab_laws.specs.Matched.{Came, Event, Got, Mark, goes_into}
 use Rattle.fab_laws.specs.StreamLaws.{HasArrived, IsFirst, TakesAll}
 use Rattle.fab_laws.specs.Claimed.{Claimed, Dropped, Handling, Slipped, Took}
 use Rattle.fab_laws.specs.ClaimLaws.{FreesClaimed, NoneSlips, StaysAside, WentTo}
+use Rattle.fab_laws.specs.MessageLaws.{IsMessage}
+use Rattle.fab_laws.specs.MultiLaws.{PlacesTell}
 use Rattle.fab_laws.specs.ReceiveLaws.{AllHaveFates, GotTold, LeavesOnce}
 
 -- ---- streams
@@ -75,3 +79,19 @@ GotTwice = (first second : ℕ) (x : Mark) (k l : Bool) → LeavesOnce (Got seco
 -- a message arrived and is nowhere
 abbrev pub LostInside : Type 0
 LostInside = (x : Mark) (rx : Receiving) → rx.unexpected ≡ [] → rx.claimed ≡ [] → AllHaveFates (Came x ∷ []) [] rx → Never
+
+-- ---- buffers for many messages
+
+-- every entry of this call that tells a message has this place
+abbrev pub AllAt : List Receive → List Peer → ℕ → Peer → ℕ → (ℕ → Type 0) → Type 0
+AllAt asked states p a call There = (w : Written) → In w a.state.cq.written → (y : IsMessage asked (seen program states p).ready a.state.rx.tails w) → y.r.call ≡ call → There y.place
+
+-- two messages, the first with bytes, stand at the first place
+abbrev pub Overlaps : Type 0
+Overlaps = (f : Receive) (least : ℕ) (x y : Mark) (k l : Bool) (asked : List Receive) (states : List Peer) (p : ℕ) (a : Peer) → In f asked → f.least ≡ Some least → 1 ≤ x.head.total → 1 ≤ length f.buf
+    → goes_into (coming_from a.state.rx y.source) ≡ None → AllAt asked states p a f.call (λ place. place ≡ 0) → PlacesTell (Got f.call y l ∷ Got f.call x k ∷ []) asked states p a → Never
+
+-- the first message stands behind a gap
+abbrev pub LeavesGap : Type 0
+LeavesGap = (f : Receive) (least : ℕ) (x : Mark) (k : Bool) (asked : List Receive) (states : List Peer) (p : ℕ) (a : Peer) → In f asked → f.least ≡ Some least
+    → goes_into (coming_from a.state.rx x.source) ≡ None → AllAt asked states p a f.call (λ place. 1 ≤ place) → PlacesTell (Got f.call x k ∷ []) asked states p a → Never

@@ -19,6 +19,7 @@ use Rattle.fab_laws.specs.StreamLaws.{HasArrived, IsFirst, IsPosted, TakesAll, a
 use Rattle.fab_laws.specs.MessageLaws.{EntryTells, ReceiveTells, keeping_asked}
 use Rattle.fab_laws.specs.Claimed.{Handling, handling}
 use Rattle.fab_laws.specs.ClaimLaws.{EntryIsOwn, FreesClaimed, IsPutAway, NoneSlips, StaysAside}
+use Rattle.fab_laws.specs.MultiLaws.{PlacesTell}
 use Rattle.fab_laws.specs.ReceiveLaws.{AllHaveFates, GotTold, LeavesOnce, OneTellsIt, TookTold}
 
 abbrev pub script_past : Bound → List (Turn Step) → ℕ → List Event
@@ -143,3 +144,6 @@ GoesOnce = AtEveryScriptMoment (λ bound turns states p a. LeavesOnce (script_pa
 
 abbrev pub NoneIsLost : Type 0
 NoneIsLost = AtEveryScriptMoment (λ bound turns states p a. AllHaveFates (script_past bound turns p) (script_handled bound turns p) a.state.rx)
+
+abbrev pub PlacesFollow : Type 0
+PlacesFollow = AtEveryScriptMoment (λ bound turns states p a. PlacesTell (script_past bound turns p) (script_asked bound turns p) (peers states) p (peer_of a))

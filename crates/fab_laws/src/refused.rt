@@ -5,11 +5,13 @@ ghost use Rattle.fab_laws.specs.Refused.{
   CancelledInstead,
   FreedTwice,
   GotTwice,
+  LeavesGap,
   LeftOver,
   LostInside,
   NeverTold,
   OtherContext,
   OtherMessage,
+  Overlaps,
   Repeated,
   SlipsAway,
   Swapped,
@@ -52,4 +54,12 @@ pub fn refused_receives()
     ensures untold { NeverTold }
     ensures twice { GotTwice }
     ensures lost { LostInside }
+{}
+
+/// What the law of buffers for many messages refuses.
+///
+/// Two messages at one place (`overlaps`); a first message that does not stand at the first byte (`gap`).
+pub fn refused_multi()
+    ensures overlaps { Overlaps }
+    ensures gap { LeavesGap }
 {}

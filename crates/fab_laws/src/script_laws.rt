@@ -29,6 +29,7 @@ ghost use Rattle.fab_laws.specs.ScriptLaws.{
   OneFinalCompletion,
   OneTells,
   PastTellsState,
+  PlacesFollow,
   ReceivesTell,
   ServedInOrder,
   StaysClaimed,
@@ -107,6 +108,11 @@ pub fn script_receives()
     ensures only { OneTells }
     ensures once { GoesOnce }
     ensures all { NoneIsLost }
+{}
+
+/// The messages of a buffer for many messages follow one another.
+pub fn script_multi()
+    ensures places { PlacesFollow }
 {}
 
 /// What the history words of matching say of the states.

@@ -55,7 +55,7 @@ pub record Claiming (past : List Event) (h : List Handling) (aside : List (ℕ �
 
 -- the call took the message into this receive, or dropped it
 abbrev pub Takes : Option (Receive × Mark) → ℕ → ℕ → Mark → Handling → Type 0
-Takes o call ctx x e = ((r : Receive) × (o ≡ Some (r, x)) × (r.call ≡ call) × (r.ctx ≡ ctx) × (e ≡ Took call ctx x)) ⊎ ((o ≡ None) × (e ≡ Dropped call ctx x))
+Takes o call ctx x e = ((r : Receive) × (o ≡ Some (r, x)) × (r.call ≡ call) × (r.ctx ≡ ctx) × (r.least ≡ None) × (e ≡ Took call ctx x)) ⊎ ((o ≡ None) × (e ≡ Dropped call ctx x))
 
 -- what a step adds, where it gives this receive this message, if any
 pub data News (past : List Event) (o : Option (Receive × Mark)) (before after : List (ℕ × Mark)) (es : List Event) (hs : List Handling) : Type 0 where
@@ -251,7 +251,7 @@ module _ (past : List Event) (h : List Handling) (aside : List (ℕ × Mark)) (k
       }
 
     freeing : (e : Handling) (o : Option (Receive × Mark)) → Takes o call ctx x e → (es : List Event) → Each Dull es → Claiming (es ++ past) (e ∷ h) after
-    freeing e o (inl (r, given, number, context, is)) es dull = subst (λ f. Claiming (es ++ past) (f ∷ h) after) (sym is)
+    freeing e o (inl (r, given, number, context, least, is)) es dull = subst (λ f. Claiming (es ++ past) (f ∷ h) after) (sym is)
         (goes (Took call ctx x) refl refl (call, inl (inl refl)) (kept.claimed ctx x there, kept.free) (λ c y f. absurd (cc (f))) es dull)
     freeing e o (inr (none, is)) es dull = subst (λ f. Claiming (es ++ past) (f ∷ h) after) (sym is)
         (goes (Dropped call ctx x) refl refl (call, inr (inl refl)) (kept.claimed ctx x there, kept.free) (λ c y f. absurd (cc (f))) es dull)
@@ -295,7 +295,7 @@ module _ (past : List Event) (h : List Handling) (o : Option (Receive × Mark)) 
   took_now (Gone r y l rest whose fresh is dull none same) call ctx x i = inl (subst (λ (zs : List Handling). In (Took call ctx x) (zs ++ h)) none i)
   took_now (Put c y rest whose fresh is dull one more) call ctx x i = elim (let j : In (Took call ctx x) (Claimed c y ∷ h) = subst (λ (zs : List Handling). In (Took call ctx x) (zs ++ h)) one i in j) [ inl e ↦ absurd (cc (e)) | inr j ↦ inl j ]
   took_now (Thrown number y rest whose fresh is dull one same) call ctx x i = elim (let j : In (Took call ctx x) (Discarded number y ∷ h) = subst (λ (zs : List Handling). In (Took call ctx x) (zs ++ h)) one i in j) [ inl e ↦ absurd (cc (e)) | inr j ↦ inl j ]
-  took_now (Freed number c y e (inl (r, given, same, context, is)) dull one there loses) call ctx x i = elim (let j : In (Took call ctx x) (Took number c y ∷ h) = subst (λ (zs : List Handling). In (Took call ctx x) (zs ++ h)) (one ∙ ap (λ z. z ∷ []) is) i in j) [
+  took_now (Freed number c y e (inl (r, given, same, context, least, is)) dull one there loses) call ctx x i = elim (let j : In (Took call ctx x) (Took number c y ∷ h) = subst (λ (zs : List Handling). In (Took call ctx x) (zs ++ h)) (one ∙ ap (λ z. z ∷ []) is) i in j) [
     | inl e ↦ (let f = same_took call number ctx c x y e in inr (r, given ∙ ap (λ z. Some (r, z)) (sym f.1), same ∙ sym f.0))
     | inr j ↦ inl j
   ]
@@ -310,7 +310,7 @@ module _ (past : List Event) (h : List Handling) (o : Option (Receive × Mark)) 
       inl (l, subst (λ (zs : List Event). In (Got r.call x l) (zs ++ past)) (sym is) (inl (ap₂ (λ (c : ℕ) (m : Mark). Got c m l) (ap (λ (z : Receive). z.call) g) k)))
   went_now (Put c y rest whose fresh is dull one more) r x e = absurd (let f : None ≡ Some (r, x) = sym whose ∙ e in cc (f))
   went_now (Thrown number y rest whose fresh is dull one same) r x e = absurd (let f : None ≡ Some (r, x) = sym whose ∙ e in cc (f))
-  went_now (Freed number c y f (inl (q, given, same, context, is)) dull one there loses) r x e =
+  went_now (Freed number c y f (inl (q, given, same, context, least, is)) dull one there loses) r x e =
       let k : (r, x) ≡ (q, y) = some_same (r, x) (q, y) (sym e ∙ given) in
       let g : r ≡ q = ap (λ (z : Receive × Mark). z.0) k in let l : x ≡ y = ap (λ (z : Receive × Mark). z.1) k in
       inr (subst (λ (zs : List Handling). In (Took r.call r.ctx x) (zs ++ h)) (sym one)

@@ -33,7 +33,7 @@ use Rattle.fab_laws.proofs.streams.Told.{Aside, IsInto, Stands, Told, Truly}
 use Rattle.fab_laws.proofs.streams.Entries.{told_by}
 use Rattle.fab_laws.proofs.receiving.Acts.{Act, Arrives, Cancels, Claims, Closes, Discards, Draws, Drops, Ends, Fills, Gets, Idle, Joins, Passes, Plain, Posts, Rests, Seats, Takes, Waits, entries_for, entry_for, freed, given, is_into, leaving, let_out, subject, thrown, whole}
 use Rattle.fab_laws.proofs.receiving.News.{coming_out, leaves_given, leaves_out, leaves_thrown}
-use Rattle.fab_laws.proofs.receiving.Settling.{Flows, Settled, Settling, mark_at, of_more}
+use Rattle.fab_laws.proofs.receiving.Settling.{Flows, SettledAt, Settling, mark_at, of_more}
 
 abbrev Other : Written → Type 0
 Other w = tells_message w.entry ≡ false
@@ -79,10 +79,10 @@ module _ (n : ℕ) (v : View Item) (past : List Event) (h : List Handling) (m rs
   }
 
   -- a message comes to a receive from now on
-  begins : (o : Option (Receive × Mark)) (more : List Written) (source : ℕ) (r : Receive) (place : ℕ) (item : Item) → o ≡ Some (r, mark_at source (slice_index b.state.rx.tails source) item) → slice_get (v.ready source) (slice_index b.state.rx.tails source) ≡ Some item
+  begins : (o : Option (Receive × Mark)) (more : List Written) (source : ℕ) (r : Receive) (place : ℕ) (item : Item) → o ≡ Some (r, mark_at source (slice_index b.state.rx.tails source) item) → r.used ≡ place → slice_get (v.ready source) (slice_index b.state.rx.tails source) ≡ Some item
       → coming_from b.state.rx source ≡ Some (Into r place) → is_into (coming_from a.state.rx source) ≡ false → ((q : ℕ) → (source ≡ q) ⊎ Same q) → slice_index b.state.rx.tails source ≡ slice_index a.state.rx.tails source
       → b.state.cq.written ≡ a.state.cq.written ++ more → Each Other more → Does o
-  begins o more source r place item is at comes before each tails written other = record {
+  begins o more source r place item is used at comes before each tails written other = record {
     written = λ w i. subst (In w) (sym written) (in_front w a.state.cq.written more i);
     tails = λ q. elim (each q) [ inl e ↦ subst (λ k. slice_index a.state.rx.tails k ≤ slice_index b.state.rx.tails k) e (omega (arith, tails)) | inr same ↦ omega (arith, same.1) ];
     stays = λ q f k e. elim (each q) [
@@ -98,17 +98,14 @@ module _ (n : ℕ) (v : View Item) (past : List Event) (h : List Handling) (m rs
       | inr same ↦ inl (sym same.0 ∙ e, same.1)
     ];
     entries = λ w i. elim (in_either w a.state.cq.written more (subst (In w) written i)) [ inl j ↦ inl j | inr j ↦ inr (inl (each_in Other more w other j)) ];
-    given = λ f x e. (
-      let z : (r, mark_at source (slice_index b.state.rx.tails source) item) ≡ (f, x) = some_same _ _ (sym is ∙ e) in
-      let g : r.call ≡ f.call = ap (λ (p : Receive × Mark). p.0.call) z in
-      let k : mark_at source (slice_index b.state.rx.tails source) item ≡ x = ap (λ (p : Receive × Mark). p.1) z in
-      subst (λ y. Settled v (rs ++ m) b.state f.call y) k (subst (λ c. Settled v (rs ++ m) b.state c (mark_at source (slice_index b.state.rx.tails source) item)) g (inl (ap goes_into comes, refl))));
+    given = λ f x e. subst (λ (z : Receive × Mark). SettledAt v (rs ++ m) b.state z.0.call z.1 z.0.used) (some_same (r, mark_at source (slice_index b.state.rx.tails source) item) (f, x) (sym is ∙ e))
+        (inl (r, comes ∙ ap (λ (k : ℕ). Some (Into r k)) (sym used), refl, refl));
   }
 
   -- an entry tells a message that is given to a receive
-  tells : (o : Option (Receive × Mark)) (more : List Written) (w : Written) (y : IsMessage (rs ++ m) v.ready b.state.rx.tails w) → o ≡ Some (y.r, mark_at y.source y.k y.item) → ((q : ℕ) → Same q)
+  tells : (o : Option (Receive × Mark)) (more : List Written) (w : Written) (y : IsMessage (rs ++ m) v.ready b.state.rx.tails w) → o ≡ Some (y.r, mark_at y.source y.k y.item) → y.r.used ≡ y.place → ((q : ℕ) → Same q)
       → b.state.cq.written ≡ (a.state.cq.written ++ w ∷ []) ++ more → Each Other more → Does o
-  tells o more w y is each written other = record {
+  tells o more w y is used each written other = record {
     written = λ z i. subst (In z) (sym written) (in_front z (a.state.cq.written ++ w ∷ []) more (in_front z a.state.cq.written (w ∷ []) i));
     tails = λ q. omega (arith, (each q).1);
     stays = λ q r place e. inl ((each q).0 ∙ e, (each q).1);
@@ -123,16 +120,8 @@ module _ (n : ℕ) (v : View Item) (past : List Event) (h : List Handling) (m rs
       ]
       | inr j ↦ inr (inl (each_in Other more z other j))
     ];
-    given = λ f x e. (
-      let z : (y.r, mark_at y.source y.k y.item) ≡ (f, x) = some_same _ _ (sym is ∙ e) in
-      let k : mark_at y.source y.k y.item ≡ x = ap (λ (p : Receive × Mark). p.1) z in
-      inr (w, subst (In w) (sym written) (in_front w (a.state.cq.written ++ w ∷ []) more (in_middle w a.state.cq.written [])), (
-        y,
-        ap (λ (p : Receive × Mark). p.0.call) z,
-        ap (λ (c : Mark). c.source) k,
-        ap (λ (c : Mark). c.place) k,
-        ap (λ (c : Mark). c.head) k,
-      )));
+    given = λ f x e. subst (λ (z : Receive × Mark). SettledAt v (rs ++ m) b.state z.0.call z.1 z.0.used) (some_same (y.r, mark_at y.source y.k y.item) (f, x) (sym is ∙ e))
+        (inr (w, subst (In w) (sym written) (in_front w (a.state.cq.written ++ w ∷ []) more (in_middle w a.state.cq.written [])), (y, refl, refl, refl, refl, sym used)));
   }
 
   -- ---- what is not whole
@@ -165,7 +154,7 @@ module _ (n : ℕ) (v : View Item) (past : List Event) (h : List Handling) (m rs
 
   -- ---- a message is given to a receive
 
-  module _ (r : Receive) (place : ℕ) (y : Arrival) (before mid : Receiving) (more : List Written) (is_into_so : IsInto (rs ++ m) r place) (truly : Truly (told_by v past) a.state.rx.tails y) (there : In y (held a.state.rx)) (within : y.source < length a.state.rx.coming)
+  module _ (r : Receive) (place : ℕ) (y : Arrival) (before mid : Receiving) (more : List Written) (is_into_so : IsInto (rs ++ m) r place) (used : r.used ≡ place) (truly : Truly (told_by v past) a.state.rx.tails y) (there : In y (held a.state.rx)) (within : y.source < length a.state.rx.coming)
       (coming : b.state.rx.coming ≡ mid.coming) (tails_same : b.state.rx.tails ≡ a.state.rx.tails) (is_mid : mid ≡ given r place y before) (old : before.coming ≡ a.state.rx.coming) (written : b.state.cq.written ≡ (a.state.cq.written ++ entries_for r place y) ++ more) (other : Each Other more) where
     count_same : (q : ℕ) → slice_index b.state.rx.tails q ≡ slice_index a.state.rx.tails q
     count_same q = ap (λ (xs : List ℕ). slice_index xs q) tails_same
@@ -181,6 +170,7 @@ module _ (n : ℕ) (v : View Item) (past : List Event) (h : List Handling) (m rs
             let level : y.place ≡ slice_index b.state.rx.tails y.source = t.0 ∙ sym (count_same y.source) in
             begins (Some (r, mark_of y)) more y.source r place t.1.0
             (ap (λ (z : Mark). Some (r, z)) (ap₂ (λ (k : ℕ) (d : ItemHead). record { source = y.source; place = k; head = d }) level (sym t.1.1.1)))
+            used
             (ap (slice_get (v.ready y.source)) (sym level) ∙ t.1.1.0)
             (ap (λ (xs : List (Option Coming)). get_or xs y.source None) now ∙ get_or-set_same a.state.rx.coming y.source (Some (Into r place)) None within)
             (keep_no_into (coming_from a.state.rx y.source) (kept_there y there e))
@@ -204,6 +194,7 @@ module _ (n : ℕ) (v : View Item) (past : List Event) (h : List Handling) (m rs
             } in
             tells (Some (r, mark_of y)) more (entry_for r place y.source y.head bytes) z
             (ap (λ (d : ItemHead). let k : Mark = record { source = y.source; place = y.place; head = d } in Some (r, k)) (sym t.1.1))
+            used
             (λ q. (ap (λ (xs : List (Option Coming)). get_or xs q None) (c ∙ old), count_same q)) w other
 
   -- ---- the acts
@@ -367,7 +358,7 @@ module _ (n : ℕ) (v : View Item) (past : List Event) (h : List Handling) (m rs
       let before : Receiving = without_first r.want a.state.rx in
       let there = (found_in (takes r.want) a.state.rx.unexpected y found).0 in
       let l = leaves_given r 0 y before in
-      gives r 0 y before (given r 0 y before) [] (asked_into r (mine ∙ ap (λ (d : Deed). asked_by a d b) is ∙ is_new (Post p) r calls refl)) (waits_truly y there) (waits_there y there) (source_in y (waits_truly y there))
+      gives r 0 y before (given r 0 y before) [] (asked_into r (mine ∙ ap (λ (d : Deed). asked_by a d b) is ∙ is_new (Post p) r calls refl)) refl (waits_truly y there) (waits_there y there) (source_in y (waits_truly y there))
       (ap (λ (z : Receiving). z.coming) rx) (ap (λ (z : Receiving). z.tails) rx ∙ l.tails) refl refl (written ∙ sym (append-nil _)) always
   flows x (Claims source tag ignore ctx y w is calls found rx written plain) mine = calm (w ∷ []) written (plain.0, always) (λ q. inl (same_rx _ rx refl refl q))
   flows x (Discards source tag ignore ctx y w is calls found rx written plain) mine =
@@ -377,13 +368,14 @@ module _ (n : ℕ) (v : View Item) (past : List Event) (h : List Handling) (m rs
       let before : Receiving = without_claim ctx a.state.rx in
       let there = in_claims ctx y found in
       let l = leaves_given r 0 y before in
-      gives r 0 y before (given r 0 y before) [] (asked_into r (mine ∙ ap (λ (d : Deed). asked_by a d b) is ∙ is_new (TakeClaimed buf ctx) r calls refl)) (aside_truly y there) (aside_there y there) (source_in y (aside_truly y there))
+      gives r 0 y before (given r 0 y before) [] (asked_into r (mine ∙ ap (λ (d : Deed). asked_by a d b) is ∙ is_new (TakeClaimed buf ctx) r calls refl)) refl (aside_truly y there) (aside_there y there) (source_in y (aside_truly y there))
       (ap (λ (z : Receiving). z.coming) rx) (ap (λ (z : Receiving). z.tails) rx ∙ l.tails) refl refl (written ∙ sym (append-nil _)) always
   flows x (Drops ctx y w is calls found rx written plain) mine = throws y (without_claim ctx a.state.rx) w (aside_there y (in_claims ctx y found)) rx refl refl written plain
   flows x (Cancels c test r is which calls found rx written) mine = calm _ written (refl, always) (λ q. inl (same_rx _ rx refl refl q))
   flows x (Seats source item r is arrives message found rx written) mine =
       begins _ [] source r r.used item
       (ap (λ (k : ℕ). Some (r, mark_at source k item)) (arrives.level ∙ sym (ap (λ (z : Receiving). slice_index z.tails source) rx)))
+      refl
       (ap (slice_get (v.ready source)) (ap (λ (z : Receiving). slice_index z.tails source) rx ∙ sym arrives.level) ∙ arrives.at)
       (ap (λ (z : Receiving). coming_from z source) rx ∙ get_or-set_same a.state.rx.coming source (Some (Into r r.used)) None (in_coming source (slice_index a.state.rx.heads source) item arrives.at))
       (ap is_into (level_none source arrives.level))
@@ -397,7 +389,7 @@ module _ (n : ℕ) (v : View Item) (past : List Event) (h : List Handling) (m rs
       let there = (found_in (takes r.want) a.state.rx.unexpected y first).0 in
       let l = leaves_given r r.used y before in
       let o = leaves_out (leaving r mid) mid in
-      gives r r.used y before mid (freed (leaving r mid)) (old_into r (each_in (Stands m) a.state.rx.posted r told.posted (found_in (draws a.state.rx.unexpected) a.state.rx.posted r found).0)) (waits_truly y there) (waits_there y there) (source_in y (waits_truly y there))
+      gives r r.used y before mid (freed (leaving r mid)) (old_into r (each_in (Stands m) a.state.rx.posted r told.posted (found_in (draws a.state.rx.unexpected) a.state.rx.posted r found).0)) refl (waits_truly y there) (waits_there y there) (source_in y (waits_truly y there))
       (ap (λ (z : Receiving). z.coming) rx ∙ coming_out (leaving r mid) mid) (ap (λ (z : Receiving). z.tails) rx ∙ o.tails ∙ ap (λ (z : Receiving). z.tails) is_mid ∙ l.tails) is_mid refl written (other_freed (leaving r mid))
   flows x (Fills source item r place is ends from mid is_mid rx written) mine =
       fills source item r place mid ends from (ap (λ (z : Receiving). z.coming) is_mid) (ap (λ (z : Receiving). z.tails) is_mid) (ap (λ (z : Receiving). z.coming) rx ∙ coming_out (leaving r mid) mid) (ap (λ (z : Receiving). z.tails) rx ∙ (leaves_out (leaving r mid) mid).tails)

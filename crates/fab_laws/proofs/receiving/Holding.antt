@@ -1,8 +1,8 @@
 -- Wherever turns lead, what was claimed is taken or dropped once, what a receive got is told or on its way, and no message is lost.
-use Rattle.std.proofs.Common.{◌≡◌, ◌≢◌, ◌≤◌, ◌<◌, ℕ, zero, suc, Bool, true, false, not, ◌||◌, List, [], ◌∷◌, ◌++◌, length, map, set, get_or, slice_get, Option, Some, None, ◌⊎◌, inl, inr, refl, sym, ◌∙◌, ap, ap₂, subst, arith}
+use Rattle.std.proofs.Common.{◌≡◌, ◌≢◌, ◌≤◌, ◌<◌, ◌+◌, ℕ, zero, suc, Bool, true, false, not, ◌||◌, List, [], ◌∷◌, ◌++◌, length, map, set, get_or, slice_get, Option, Some, None, ◌⊎◌, inl, inr, refl, sym, ◌∙◌, ap, ap₂, subst, arith}
 use Rattle.std.specs.Prelude.{count_by, is_none, nat_lt, slice_index, ◌==◌}
 use Rattle.std.specs.List.{list_any}
-use Rattle.std.proofs.lemmas.Bool.{and_from, eq-eqb}
+use Rattle.std.proofs.lemmas.Bool.{and_from, eq-eqb, lt-ltb}
 use Rattle.fab_base.specs.declared.items.Item.{Item}
 use Rattle.fab_base.specs.declared.items.ItemHead.{ItemHead}
 use Rattle.fab_base.specs.declared.operations.Arrival.{Arrival}
@@ -15,7 +15,8 @@ use Rattle.fab_model.specs.Matching.{is_message}
 use Rattle.fab_model.specs.State.{State, Receiving, coming_from, under_way}
 use Rattle.fab_model.specs.State as model
 use Rattle.fab_model.specs.Complete.{entry_of, is_made_by}
-use Rattle.fab_model.specs.Receiving.{Posting, receive_of}
+use Rattle.fab_model.specs.Receiving.{Posting, receive_of, taking}
+use Rattle.fab_model.specs.Calls.{Call, Post, TakeClaimed}
 use Rattle.fab_model.specs.Orders.{Turn}
 use Rattle.fab_model.specs.Peers.{part_of, same_ctx}
 use Rattle.fab_model.specs.Views.{More, View, rule, seen}
@@ -25,29 +26,32 @@ use Rattle.fab_laws.specs.Members.{In, Never}
 use Rattle.fab_laws.specs.Programs.{Counts, Deed, Draw, Head, Makes, Opening, Peer, Tail, peer, program, starting}
 use Rattle.fab_laws.specs.Moments.{LeadTo, remembered}
 use Rattle.fab_laws.specs.Completed.{Accepted, has_ended, is_final, number, operations_of, receive_stands, send_stands}
-use Rattle.fab_laws.specs.Matched.{Came, Cancelled, Event, Got, Lost, Made, Mark, arrives, came, cancel_of, cancels, fate, goes_into, gone, happens, is_posted, left, makes, mark_of, new_entry, noticed, noting, parted, past_of, taken_now, wish_of}
-use Rattle.fab_laws.specs.MessageLaws.{IsMessage, asked_by, asked_of, keeping_asked}
+use Rattle.fab_laws.specs.Matched.{Came, Cancelled, Event, Got, Lost, Made, Mark, Wish, arrives, came, cancel_of, cancels, fate, goes_into, gone, happens, is_posted, left, made, makes, mark_of, new_entry, noticed, noting, parted, past_of, taken_now, wish_of}
+use Rattle.fab_laws.specs.MessageLaws.{IsMessage, asked_by, asked_of, asks_for, keeping_asked}
+use Rattle.fab_laws.specs.MultiLaws.{PlacesFollow}
 use Rattle.fab_laws.specs.Claimed.{Claimed, Discarded, Dropped, Handling, Slipped, Took, aside_of, call_in, freed, handled_of, handles, handling, lost, put_away}
 use Rattle.fab_laws.specs.ClaimLaws.{FreedRightly, LostIsPutAway, StaysClaimed, TakesTell}
 use Rattle.fab_laws.specs.ReceiveLaws.{Aside, Fate, GoesOnce, GotIsTold, IsComing, IsToldOf, NoneIsLost, OneTells, Received, TookIsTold, Waits, WasDiscarded, WasDropped, WasTaken}
 use Rattle.fab_laws.proofs.Counts.{counted, in_many, many, same_one}
-use Rattle.fab_laws.proofs.Lists.{always, any_in, never}
+use Rattle.fab_laws.proofs.Lists.{always, any_in, each_in, never}
 use Rattle.fab_laws.proofs.Levels.{all_the_same}
 use Rattle.fab_laws.proofs.Memory.{remembered_keeps}
 use Rattle.fab_laws.proofs.Programs.{Own, program_patient}
 use Rattle.fab_laws.proofs.Stepping.{at_opening, step_is}
 use Rattle.fab_laws.proofs.completion.Once.{numbers_complete, one_final_completion}
 use Rattle.fab_laws.proofs.completion.Places.{entry_part}
+use Rattle.fab_laws.proofs.matching.Past.{Right}
 use Rattle.fab_laws.proofs.matching.Moves.{Keeps}
 use Rattle.fab_laws.proofs.matching.Orders.{fresh_keeps}
 use Rattle.fab_laws.proofs.matching.Steps.{step_keeps}
 use Rattle.fab_laws.proofs.replies.Owed.{OwedAt}
 use Rattle.fab_laws.proofs.replies.Stray.{AllOwed, all_owed, peer_of, turn_owed}
-use Rattle.fab_laws.proofs.streams.Told.{Told}
+use Rattle.fab_laws.proofs.streams.Told.{Stands, Told}
 use Rattle.fab_laws.proofs.streams.Entries.{both, fresh_told, more_seen, more_told, remembered_both, same_entry, step_by, told_by}
 use Rattle.fab_laws.proofs.receiving.Acts.{Act, act, subject}
 use Rattle.fab_laws.proofs.receiving.Claiming.{Claiming, FreeEach, News, claimed_gone, freed_claimed, frees_claimed, leaves_once, news_claims, none_slips}
 use Rattle.fab_laws.proofs.receiving.Flowing.{flows}
+use Rattle.fab_laws.proofs.receiving.Placing.{Placing, grows, next_places, rows}
 use Rattle.fab_laws.proofs.receiving.News.{news}
 use Rattle.fab_laws.proofs.receiving.Settling.{ComesTo, HasItem, OwnTold, Settled, Settling, mark_at, settles}
 
@@ -188,6 +192,44 @@ settling_seen v w past h m s more settling = record {
   entries = λ e i tells. (let z = settling.entries e i tells in (message_seen v w m s.rx.tails e more z.0, z.1));
 }
 
+-- ---- calls
+
+-- who got a message was made
+right_calls : (past : List Event) → Right past → (c : ℕ) (y : Mark) (last : Bool) → In (Got c y last) past → (w : Wish) × In w (made past) × (w.call ≡ c)
+right_calls [] right c y last i = never i
+right_calls (Came m ∷ past) right c y last (inl e) = absurd (cc (e))
+right_calls (Came m ∷ past) right c y last (inr i) = right_calls past right c y last i
+right_calls (Made w ∷ past) right c y last (inl e) = absurd (cc (e))
+right_calls (Made w ∷ past) right c y last (inr i) = let r = right_calls past right c y last i in (r.0, inr r.1, r.2)
+right_calls (Got d z k ∷ past) right c y last (inl e) = (let f : c ≡ d = cc (e) in let w = right.2.4 in (w.0, w.1, w.2 ∙ sym f))
+right_calls (Got d z k ∷ past) right c y last (inr i) = right_calls past right.3 c y last i
+right_calls (Lost m ∷ past) right c y last (inl e) = absurd (cc (e))
+right_calls (Lost m ∷ past) right c y last (inr i) = right_calls past right c y last i
+right_calls (Cancelled d ∷ past) right c y last (inl e) = absurd (cc (e))
+right_calls (Cancelled d ∷ past) right c y last (inr i) = right_calls past right c y last i
+
+-- a receive that a step asks for has the next number
+asked_number : (a b : Peer) (x : Deed) (f : Receive) → In f (asked_by a x b) → f.call ≡ a.state.calls
+asked_number a b (Counts counters) f i = never i
+asked_number a b (Head source) f i = never i
+asked_number a b (Tail source) f i = never i
+asked_number a b (Deed.Sent t) f i = never i
+asked_number a b Draw f i = never i
+asked_number a b Deed.Read f i = never i
+asked_number a b (Makes None) f i = never i
+asked_number a b (Makes (Some c)) f i = go (nat_lt a.state.calls b.state.calls) i
+  where
+    of_call : (c : Call) → In f (asks_for c a.state) → f.call ≡ a.state.calls
+    of_call (Post p) (inl e) = ap (λ (z : Receive). z.call) e
+    of_call (Post p) (inr n) = never n
+    of_call (TakeClaimed buf ctx) (inl e) = ap (λ (z : Receive). z.call) e
+    of_call (TakeClaimed buf ctx) (inr n) = never n
+    of_call c n = never n
+
+    go : (t : Bool) → In f (let xs : List Receive = elim t [ true ↦ asks_for c a.state | false ↦ [] ] in xs) → f.call ≡ a.state.calls
+    go true i = of_call c i
+    go false i = never i
+
 -- ---- a step
 
 -- what is kept of a peer with its three memories
@@ -196,6 +238,7 @@ pub record AllKept (n : ℕ) (v : View Item) (past : List Event) (m : List Recei
   pub told : Told (told_by v past) m s.calls s
   pub claiming : Claiming past h (map aside_of s.rx.claimed)
   pub settling : Settling v past h m s
+  pub placing : Placing v past m s
 
 module _ (n : ℕ) (v : View Item) (past : List Event) (m : List Receive) (h : List Handling) (a b : Peer) (x : Deed) (kept : AllKept n v past m h a.state) (owed : OwedAt n v a.state)
     (room : (source k : ℕ) (item : Item) → slice_get (v.ready source) k ≡ Some item → source < n) (stood : program.step v a x ≡ Some b) where
@@ -224,6 +267,19 @@ module _ (n : ℕ) (v : View Item) (past : List Event) (m : List Receive) (h : L
       let c = freed_claimed y h kept.claiming.free (took_freed call ctx y h i) in
       gone_came y (claimed_gone past h (map aside_of a.state.rx.claimed) kept.claiming c.0 y c.1)
 
+  after : Told (told_by v (noticed v a x b ++ past)) (asked_by a x b ++ m) b.state.calls b.state
+  after = step_by n v past m a b kept.keeps kept.told owed room x (step_is v a b x stood)
+
+  -- a receive that a call makes is asked for, with the call's number
+  made_call : (c : Call) (f : Receive) → b.state.calls ≡ a.state.calls + 1 → asks_for c a.state ≡ f ∷ [] → In f (asked_by a (Makes (Some c)) b)
+  made_call c f calls asks = subst (In f) (sym (ap (λ (t : Bool). let xs : List Receive = elim t [ true ↦ asks_for c a.state | false ↦ [] ] in xs) (lt-ltb a.state.calls b.state.calls (omega (arith, calls))) ∙ asks)) (inl refl)
+
+  asked_call : (f : Receive) → In f (asked_by a x b) → f.call ≡ a.state.calls
+  asked_call f i = asked_number a b x f i
+
+  got_before : (c : ℕ) (y : Mark) (last : Bool) → In (Got c y last) past → c < a.state.calls
+  got_before c y last i = let r = right_calls past kept.keeps.holds.right c y last i in omega (arith, r.2, kept.keeps.holds.fresh_calls r.0 r.1)
+
   pub next : AllKept n v (noticed v a x b ++ past) (asked_by a x b ++ m) (handles (call_in x) a.state b.state ++ h) b.state
   unfolding did
   next = record {
@@ -233,14 +289,29 @@ module _ (n : ℕ) (v : View Item) (past : List Event) (m : List Receive) (h : L
     settling = settles v past h m (asked_by a x b) a.state b.state _ (noticed v a x b) (handles (call_in x) a.state b.state) (map aside_of a.state.rx.claimed) (map aside_of b.state.rx.claimed)
         (λ q r place e. (kept.told.coming q r place e).0) kept.settling (flows n v past h m (asked_by a x b) a b kept.keeps kept.told owed room kept.settling x did refl) told_news
         (λ y i. came_now v a b x y i) (λ call y last i. gone_came y (got_gone call y last past i)) took_came;
+    placing = next_places v past h m (asked_by a x b) a.state b.state _ (noticed v a x b) (λ q r place e. (kept.told.coming q r place e).0) after.one
+        (λ r i. (each_in (Stands m) a.state.rx.posted r kept.told.posted i).0) asked_call got_before (λ f i. kept.told.before f i)
+        (λ c y last i. kept.settling.came y (gone_came y (got_gone c y last past i))) kept.placing
+        (flows n v past h m (asked_by a x b) a b kept.keeps kept.told owed room kept.settling x did refl) (grows past _ (map aside_of a.state.rx.claimed) (map aside_of b.state.rx.claimed) (noticed v a x b) (handles (call_in x) a.state b.state) told_news)
+        (rows n past v a.state b.state x (asked_by a x b) kept.keeps
+        (λ p is calls. subst (λ (d : Deed). In (receive_of a.state p) (asked_by a d b)) (sym is) (made_call (Post p) (receive_of a.state p) calls refl))
+        (λ buf ctx is calls. subst (λ (d : Deed). In (taking a.state buf ctx) (asked_by a d b)) (sym is) (made_call (TakeClaimed buf ctx) (taking a.state buf ctx) calls refl)) did);
   }
 
 more_kept : (n : ℕ) (v w : View Item) (past : List Event) (m : List Receive) (h : List Handling) (s : State) → More v w → AllKept n v past m h s → AllKept n w past m h s
+unfolding message_seen
 more_kept n v w past m h s more kept = record {
   keeps = kept.keeps;
   told = more_told (told_by v past) (told_by w past) m s.calls s (more_seen v w past s.calls more) kept.told;
   claiming = kept.claiming;
   settling = settling_seen v w past h m s more kept.settling;
+  placing = record {
+    sized = kept.placing.sized;
+    places = λ f least x place i e j. elim (kept.placing.places f least x place i e j) [
+      | inl comes ↦ inl comes
+      | inr told ↦ inr (told.0, told.1, (let z = told.2 in (message_seen v w m s.rx.tails told.0 more z.0, z.1, z.2, z.3, z.4, z.5)))
+    ];
+  };
 }
 
 -- ---- wherever turns lead
@@ -273,6 +344,7 @@ module _ (from : Opening) (turns : List (Turn Deed)) (states : List Peer) (leads
         told = fresh_told (record conf { peers = length from.peers }) av (seen program from.peers p);
         claiming = none_claimed;
         settling = fresh_settling (record conf { peers = length from.peers }) av (seen program from.peers p);
+        placing = record { sized = λ f least q i. never i; places = λ f least x place i. never i };
       }) p x at) leads a here
 
   pub kept_at : AllKept (length from.peers) (seen program states p) (past_of from.peers turns p) (asked_of from.peers turns p) (handled_of from.peers turns p) a.state
@@ -300,6 +372,9 @@ got_is_told from turns states leads p a here call x last i = (kept_at from turns
 
 pub took_is_told : TookIsTold
 took_is_told from turns states leads p a here call ctx x i = (kept_at from turns states leads p a here).settling.took call ctx x i
+
+pub places_follow : PlacesFollow
+places_follow from turns states leads p a here f least x place i e j = (kept_at from turns states leads p a here).placing.places f least x place i e j
 
 pub goes_once : GoesOnce
 goes_once from turns states leads p a here = leaves_once (past_of from.peers turns p) (kept_at from turns states leads p a here).claiming.once

@@ -361,7 +361,7 @@ module _ (n : ℕ) (past : List Event) (h : List Handling) (v : View Item) (a b 
       (thrown_seen y before w (source_within n past a.state keeps y (found_in (takes (want_of a.state true source tag ignore)) a.state.rx.unexpected y found).0) (ap (λ (rx : Receiving). rx.coming) rx) written plain)
   news x (Takes buf ctx y is calls found rx written) =
       let l = leaves_given (taking a.state buf ctx) 0 y (without_claim ctx a.state.rx) in
-      free_up x (ap is_head is) ctx y found (ap (λ (rx : Receiving). rx.claimed) rx ∙ l.claimed) (ap (λ (rx : Receiving). rx.unexpected) rx ∙ l.unexpected) (Some (taking a.state buf ctx, mark_of y)) a.state.calls (Took a.state.calls ctx (mark_of y)) (ap (λ (z : Deed). freeing (call_in z) a.state.calls (mark_of y)) is) (inl (taking a.state buf ctx, refl, refl, refl, refl))
+      free_up x (ap is_head is) ctx y found (ap (λ (rx : Receiving). rx.claimed) rx ∙ l.claimed) (ap (λ (rx : Receiving). rx.unexpected) rx ∙ l.unexpected) (Some (taking a.state buf ctx, mark_of y)) a.state.calls (Took a.state.calls ctx (mark_of y)) (ap (λ (z : Deed). freeing (call_in z) a.state.calls (mark_of y)) is) (inl (taking a.state buf ctx, refl, refl, refl, refl, refl))
   news x (Drops ctx y w is calls found rx written plain) =
       let l = leaves_thrown y (without_claim ctx a.state.rx) in
       free_up x (ap is_head is) ctx y found (ap (λ (rx : Receiving). rx.claimed) rx ∙ l.claimed) (ap (λ (rx : Receiving). rx.unexpected) rx ∙ l.unexpected) None a.state.calls (Dropped a.state.calls ctx (mark_of y)) (ap (λ (z : Deed). freeing (call_in z) a.state.calls (mark_of y)) is) (inr (refl, refl))

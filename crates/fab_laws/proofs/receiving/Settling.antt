@@ -27,6 +27,7 @@ use Rattle.fab_laws.specs.MessageLaws.{IsMessage, IsOf, asked_by, asking}
 use Rattle.fab_laws.specs.Claimed.{Handling, Took, aside_of, call_in, handles}
 use Rattle.fab_laws.specs.ClaimLaws.{IsOwn, WentTo}
 use Rattle.fab_laws.specs.ReceiveLaws.{IsComing, IsToldOf}
+use Rattle.fab_laws.specs.MultiLaws.{IsComingAt, IsToldAt}
 use Rattle.fab_laws.proofs.Counts.{in_many, one}
 use Rattle.fab_laws.proofs.Lists.{Each, always, each_in, found_in, in_back, in_end, in_front, in_middle, never, raise_here, raise_keeps}
 use Rattle.fab_laws.proofs.matching.Moves.{Keeps}
@@ -45,6 +46,14 @@ HasItem v x = (item : Item) × (slice_get (v.ready x.source) x.place ≡ Some it
 
 abbrev pub Settled : View Item → List Receive → State → ℕ → Mark → Type 0
 Settled v m s call x = IsComing s.rx call x ⊎ IsToldOf m v.ready (peer s) call x
+
+-- with the place in the receive
+abbrev pub SettledAt : View Item → List Receive → State → ℕ → Mark → ℕ → Type 0
+SettledAt v m s call x place = IsComingAt s.rx call x place ⊎ IsToldAt m v.ready (peer s) call x place
+
+settled_at : (v : View Item) (m : List Receive) (s : State) (call : ℕ) (x : Mark) (place : ℕ) → SettledAt v m s call x place → Settled v m s call x
+settled_at v m s call x place (inl (r, comes, number, here)) = inl (ap goes_into comes ∙ ap Some number, here)
+settled_at v m s call x place (inr (w, i, (y, number, source, k, head, at))) = inr (w, i, (y, number, source, k, head))
 
 abbrev pub mark_at : ℕ → ℕ → Item → Mark
 mark_at source place item = record { source = source; place = place; head = item.head }
@@ -68,7 +77,7 @@ pub record Settling (v : View Item) (past : List Event) (h : List Handling) (m :
 pub of_more : (rs m : List Receive) (r : Receive) → IsOf m r → IsOf (rs ++ m) r
 of_more rs m r is = record { first = is.first; asked = in_back is.first rs m is.asked; call = is.call; ctx = is.ctx; least = is.least; buf = is.buf }
 
-abbrev message_more : (rs m : List Receive) (ready : ℕ → List Item) (tails tails' : List ℕ) (w : Written) → ((q : ℕ) → slice_index tails q ≤ slice_index tails' q) → IsMessage m ready tails w → IsMessage (rs ++ m) ready tails' w
+abbrev pub message_more : (rs m : List Receive) (ready : ℕ → List Item) (tails tails' : List ℕ) (w : Written) → ((q : ℕ) → slice_index tails q ≤ slice_index tails' q) → IsMessage m ready tails w → IsMessage (rs ++ m) ready tails' w
 message_more rs m ready tails tails' w more y = record {
   r = y.r;
   of = of_more rs m y.r y.of;
@@ -115,7 +124,7 @@ pub record Flows (v : View Item) (past : List Event) (h : List Handling) (m : Li
   -- an entry is old, or tells no message, or that of a receive that is given it now or was before
   pub entries : (w : Written) → In w t.cq.written → In w s.cq.written ⊎ ((tells_message w.entry ≡ false)
       ⊎ ((y : IsMessage m v.ready t.rx.tails w) × ((o ≡ Some (y.r, mark_at y.source y.k y.item)) ⊎ WentTo past h y.r (mark_at y.source y.k y.item))))
-  pub given : (r : Receive) (x : Mark) → o ≡ Some (r, x) → Settled v m t r.call x
+  pub given : (r : Receive) (x : Mark) → o ≡ Some (r, x) → SettledAt v m t r.call x r.used
 
 module _ (v : View Item) (past : List Event) (h : List Handling) (m rs : List Receive) (s t : State) (o : Option (Receive × Mark)) (es : List Event) (hs : List Handling) (before after : List (ℕ × Mark))
     (into : (q : ℕ) (r : Receive) (place : ℕ) → coming_from s.rx q ≡ Some (Into r place) → IsInto m r place)
@@ -171,11 +180,11 @@ module _ (v : View Item) (past : List Event) (h : List Handling) (m rs : List Re
     came = λ x i. elim (came_either x es past i) [ inl j ↦ came_now x j | inr j ↦ settling.came x j ];
     got = λ call x last i. elim (got_now past h o before after es hs news call x last i) [
       | inl j ↦ old call x (got_came call x last j) (settling.got call x last j)
-      | inr new ↦ subst (λ c. Settled v (rs ++ m) t c x) new.2 (flows.given new.0 x new.1)
+      | inr new ↦ subst (λ c. Settled v (rs ++ m) t c x) new.2 (settled_at v (rs ++ m) t new.0.call x new.0.used (flows.given new.0 x new.1))
     ];
     took = λ call ctx x i. elim (took_now past h o before after es hs news call ctx x i) [
       | inl j ↦ old call x (took_came call ctx x j) (settling.took call ctx x j)
-      | inr new ↦ subst (λ c. Settled v (rs ++ m) t c x) new.2 (flows.given new.0 x new.1)
+      | inr new ↦ subst (λ c. Settled v (rs ++ m) t c x) new.2 (settled_at v (rs ++ m) t new.0.call x new.0.used (flows.given new.0 x new.1))
     ];
     coming = λ q r place e. elim (flows.starts q r place e) [
       | inl same ↦ (

@@ -3,7 +3,7 @@ use Rattle.std.proofs.Common.{◌≡◌, ℕ, true, List, [], ◌∷◌, ◌++�
 use Rattle.std.specs.Prelude.{codes}
 use Rattle.fab_base.specs.declared.items.Item.{Item}
 use Rattle.fab_base.specs.declared.peers.Step.{Step}
-use Rattle.fab_base.specs.declared.peers.Step.TheVariants.{Do, Head, Tail}
+use Rattle.fab_base.specs.declared.peers.Step.TheVariants.{Do, Draw, Head, Tail}
 use Rattle.fab_base.specs.declared.script.Bound.{Bound}
 use Rattle.fab_base.specs.declared.script.BytesWord.TheVariants.{Text}
 use Rattle.fab_base.specs.declared.script.LineOp.{LineOp}
@@ -16,7 +16,8 @@ use Rattle.fab_laws.specs.ReceiveLaws.{IsComing}
 use Rattle.fab_laws.specs.StreamLaws.{arrived_from, whole_from}
 use Rattle.fab_laws.specs.Programs.{Peer}
 use Rattle.fab_laws.proofs.rows.Following.{Met, met, programs, ran, started}
-use Rattle.fab_laws.proofs.rows.Matching.{mixed, mixed_steps}
+use Rattle.fab_laws.specs.MultiLaws.{placed, used_in}
+use Rattle.fab_laws.proofs.rows.Matching.{drawn, due_steps, mixed, mixed_steps}
 
 told : Handling → List ℕ
 told (Claimed ctx m) = 0 ∷ ctx ∷ m.source ∷ m.place ∷ []
@@ -57,3 +58,19 @@ half = script_of ((line 4 (LineOp.TInject 0 5 (Text (codes "ab")) None) ∷ []) 
 half_row : (item : Item) × (arrived_from (started half) (ran half (by 0 (Do ∷ Head 0 ∷ []))) 0 0 ≡ item ∷ []) × (whole_from (started half) (ran half (by 0 (Do ∷ Head 0 ∷ []))) 0 0 ≡ [])
 unfolding half programs
 half_row = (_, refl, refl)
+
+-- a buffer of 10 bytes for many messages draws two that wait, of 3 and 2 bytes
+abbrev drawn_past : List Event
+drawn_past = past_of (started drawn) (ran drawn (by 0 (due_steps ++ Draw ∷ Draw ∷ []))) 0
+
+-- the number of each among its sender's items, and its place in the buffer
+place_in : Mark × ℕ → List ℕ
+place_in q = q.0.place ∷ q.1 ∷ []
+
+drawn_places : map place_in (placed 10 2 drawn_past) ≡ (1 ∷ 3 ∷ []) ∷ (0 ∷ 0 ∷ []) ∷ []
+unfolding place_in drawn due_steps programs
+drawn_places = refl
+
+drawn_used : used_in 10 2 drawn_past ≡ 5
+unfolding drawn due_steps programs
+drawn_used = refl

@@ -1,5 +1,7 @@
--- Wrong traces, on which the laws of streams, claims and receives are false.
-use Rattle.std.proofs.Common.{◌≡◌, ℕ, zero, suc, Bool, true, false, List, [], ◌∷◌, ◌++◌, length, map, Option, Some, None, ◌⊎◌, inl, inr, refl, sym, ◌∙◌, ap, subst}
+-- Wrong traces, on which the laws of streams, claims, receives and buffers for many messages are false.
+use Rattle.std.proofs.Common.{◌≡◌, ℕ, zero, suc, Bool, true, false, List, [], ◌∷◌, ◌++◌, length, map, min, Option, Some, None, ◌⊎◌, inl, inr, refl, sym, ◌∙◌, ap, subst, arith, ◌+◌, ◌-◌}
+use Rattle.std.specs.Prelude.{◌==◌}
+use Rattle.std.proofs.lemmas.Bool.{eq-eqb}
 use Rattle.fab_base.specs.declared.entries.ErrKind.TheVariants.{Canceled}
 use Rattle.fab_base.specs.declared.entries.Taken.{Taken}
 use Rattle.fab_base.specs.declared.items.Item.{Item}
@@ -7,12 +9,13 @@ use Rattle.fab_base.specs.declared.operations.Written.{Written}
 use Rattle.fab_model.specs.Complete.{entry_of, error}
 use Rattle.fab_model.specs.State.{Receiving}
 use Rattle.fab_laws.specs.Members.{In, Never}
-use Rattle.fab_laws.specs.Matched.{Came, Event, Got, Mark, mark_of, tells_message}
+use Rattle.fab_laws.specs.Matched.{Came, Event, Got, Mark, goes_into, mark_of, tells_message}
 use Rattle.fab_laws.specs.Claimed.{Claimed, Dropped, Handling, Took, aside_of}
 use Rattle.fab_laws.specs.ClaimLaws.{WentTo}
 use Rattle.fab_laws.specs.MessageLaws.{IsMessage}
 use Rattle.fab_laws.specs.ReceiveLaws.{Aside, Fate, Received, Waits, WasDiscarded, WasDropped, WasTaken}
-use Rattle.fab_laws.specs.Refused.{CancelledInstead, FreedTwice, GotTwice, LeftOver, LostInside, NeverTold, OtherContext, OtherMessage, Repeated, SlipsAway, Swapped, Unarrived, Unclaimed, Vanishes}
+use Rattle.fab_laws.specs.Refused.{CancelledInstead, FreedTwice, GotTwice, LeftOver, LostInside, LeavesGap, NeverTold, OtherContext, OtherMessage, Overlaps, Repeated, SlipsAway, Swapped, Unarrived, Unclaimed, Vanishes}
+use Rattle.fab_laws.specs.MultiLaws.{placed, used_in}
 use Rattle.fab_laws.proofs.matching.Watch.{entry_tells}
 
 -- the first of a list
@@ -106,3 +109,25 @@ lost_inside x rx waiting aside law = go (law x (inl refl))
     go (WasTaken call ctx i) = i
     go (WasDropped call ctx i) = i
     go (WasDiscarded call i) = i
+
+-- ---- buffers for many messages
+
+-- of the newest message that this call got
+here : (n call : ℕ) (x : Mark) (last : Bool) (past : List Event) → In (x, used_in n call past) (placed n call (Got call x last ∷ past))
+here n call x last past = subst (λ (b : Bool). In {X = Mark × ℕ} (x, used_in n call past) (let xs : List (Mark × ℕ) = elim b [ true ↦ (x, used_in n call past) ∷ placed n call past | false ↦ placed n call past ] in xs)) (sym (eq-eqb call call refl)) (inl refl)
+
+-- where the first one ends
+first_ends : (n call : ℕ) (x : Mark) (last : Bool) → used_in n call (Got call x last ∷ []) ≡ 0 + min x.head.total (n - 0)
+first_ends n call x last = ap (λ (b : Bool). elim b [ true ↦ 0 + min x.head.total (n - 0) | false ↦ 0 ]) (eq-eqb call call refl)
+
+pub overlaps : Overlaps
+overlaps f least x y k l asked states p a i e some room none all law = elim (law f least y (used_in (length f.buf) f.call (Got f.call x k ∷ [])) i e (here (length f.buf) f.call y l (Got f.call x k ∷ []))) [
+  | inl comes ↦ absurd (let g : None ≡ Some comes.0.call = sym none ∙ ap goes_into comes.1 in cc (g))
+  | inr told ↦ (let z = told.2 in absurd (omega (arith, all told.0 told.1 z.0 z.1, z.5, first_ends (length f.buf) f.call x k, some, room)))
+]
+
+pub leaves_gap : LeavesGap
+leaves_gap f least x k asked states p a i e none all law = elim (law f least x 0 i e (here (length f.buf) f.call x k [])) [
+  | inl comes ↦ absurd (let g : None ≡ Some comes.0.call = sym none ∙ ap goes_into comes.1 in cc (g))
+  | inr told ↦ (let z = told.2 in absurd (omega (arith, all told.0 told.1 z.0 z.1, z.5)))
+]
