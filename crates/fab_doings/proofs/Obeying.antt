@@ -19,7 +19,9 @@ use Rattle.fab_laws.proofs.replies.Stray.{answered_once, no_stray}
 use Rattle.fab_laws.proofs.replies.Waiting.{all_wait_at_match}
 use Rattle.fab_laws.proofs.streams.Taken.{taken_is_first}
 use Rattle.fab_laws.proofs.streams.Posted.{taken_is_posted}
+use Rattle.fab_laws.proofs.streams.Arrived.{all_is_taken, arrived_is_first, arrived_is_posted, whole_has_arrived}
 use Rattle.fab_laws.proofs.streams.Entries.{entries_tell, receives_tell}
+use Rattle.fab_laws.proofs.receiving.Holding.{freed_rightly, goes_once, got_is_told, lost_is_put_away, none_is_lost, one_tells, places_follow, stays_claimed, takes_tell, took_is_told}
 use Rattle.fab_doings.specs.Doings.{Living, deeds_of, peer_in}
 use Rattle.fab_doings.specs.Law.{IsOwn, Obeys, Past, ProgramObeys, peers, plains, programs}
 use Rattle.fab_doings.proofs.Reaching.{program_reaches}
@@ -47,6 +49,21 @@ all_obey from turns states leads p a here =
       of_posted = taken_is_posted from turns states leads p a here;
       entries = entries_tell from turns states leads p a here;
       receives = receives_tell from turns states leads p a here;
+      arrived = arrived_is_first from turns states leads p a here;
+      arrived_posted = arrived_is_posted from turns states leads p a here;
+      behind = whole_has_arrived from turns states leads p a here;
+      takes_all = all_is_taken from turns states leads p a here;
+      freed = (freed_rightly from turns states leads p a here).0;
+      slips = (freed_rightly from turns states leads p a here).1;
+      aside = stays_claimed from turns states leads p a here;
+      lost = lost_is_put_away from turns states leads p a here;
+      own = takes_tell from turns states leads p a here;
+      told = got_is_told from turns states leads p a here;
+      took = took_is_told from turns states leads p a here;
+      only = one_tells from turns states leads p a here;
+      leaves = goes_once from turns states leads p a here;
+      places = places_follow from turns states leads p a here;
+      fates = none_is_lost from turns states leads p a here;
     }
 
 peers_plain : (opening : List Living) → map plain (map peer_in opening) ≡ map (λ (o : Living). peer o.held.state) opening

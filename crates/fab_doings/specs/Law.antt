@@ -24,8 +24,12 @@ use Rattle.fab_laws.specs.Completed.{accepts, operations_of}
 use Rattle.fab_laws.specs.CompletionLaws.{AllCompleteOnce, NumberCompletes}
 use Rattle.fab_laws.specs.FenceLaws.{FenceHolds, GoesInOrder, HoldsNothing, ItemIsOfACall}
 use Rattle.fab_laws.specs.ReplyLaws.{AnswersOnce, FindsItsOperation, WaitsAtMatch}
-use Rattle.fab_laws.specs.StreamLaws.{IsFirst, IsPosted, whole_from}
+use Rattle.fab_laws.specs.StreamLaws.{HasArrived, IsFirst, IsPosted, TakesAll, arrived_from, whole_from}
 use Rattle.fab_laws.specs.MessageLaws.{EntryTells, ReceiveTells, asked_by, asked_of}
+use Rattle.fab_laws.specs.Claimed.{handled_of}
+use Rattle.fab_laws.specs.ClaimLaws.{EntryIsOwn, FreesClaimed, IsPutAway, NoneSlips, StaysAside}
+use Rattle.fab_laws.specs.MultiLaws.{PlacesTell}
+use Rattle.fab_laws.specs.ReceiveLaws.{AllHaveFates, GotTold, LeavesOnce, OneTellsIt, TookTold}
 use Rattle.fab_doings.specs.Doings.{Doing, DoesBy, Living, acts_of, deeds_of, peer_in}
 
 -- its steps are the ghost record of a thread
@@ -98,6 +102,22 @@ pub record Obeys (from : List Peer) (turns : List (Turn Deed)) (states : List Pe
   pub of_posted : IsPosted (whole_from from turns p) (operations_of from turns) states p
   pub entries : EntryTells (past_of from turns p) (asked_of from turns p) states p a
   pub receives : ReceiveTells (past_of from turns p) (asked_of from turns p) states p a
+  pub arrived : IsFirst (arrived_from from turns p) states p
+  pub arrived_posted : IsPosted (arrived_from from turns p) (operations_of from turns) states p
+  pub behind : HasArrived (whole_from from turns p) (arrived_from from turns p)
+  pub takes_all : TakesAll (whole_from from turns p) (arrived_from from turns p) states p
+  -- claims and receives
+  pub freed : FreesClaimed (handled_of from turns p)
+  pub slips : NoneSlips (handled_of from turns p)
+  pub aside : StaysAside (handled_of from turns p) a.state.rx
+  pub lost : IsPutAway (past_of from turns p) (handled_of from turns p)
+  pub own : EntryIsOwn (past_of from turns p) (handled_of from turns p) (asked_of from turns p) states p a
+  pub told : GotTold (past_of from turns p) (asked_of from turns p) states p a
+  pub took : TookTold (handled_of from turns p) (asked_of from turns p) states p a
+  pub only : OneTellsIt (past_of from turns p) (asked_of from turns p) states p a
+  pub leaves : LeavesOnce (past_of from turns p)
+  pub places : PlacesTell (past_of from turns p) (asked_of from turns p) states p a
+  pub fates : AllHaveFates (past_of from turns p) (handled_of from turns p) a.state.rx
 
 -- the thread's own record, of its doings and the states after them, says what its endpoint accepted and which receives it was asked for
 pub record IsOwn (from : List Peer) (turns : List (Turn Deed)) (p : ℕ) (o : Living) (x : Past) : Type 0 where

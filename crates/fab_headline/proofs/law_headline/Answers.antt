@@ -17,12 +17,27 @@ returns c = record { headline = headline }
     of_all bound turns states leads p a here = record {
       first = c.script_streams.ensures.sent bound turns states leads p a here;
       posted = c.script_streams.ensures.posted bound turns states leads p a here;
+      arrived = c.script_streams.ensures.arrived bound turns states leads p a here;
+      arrived_posted = c.script_streams.ensures.asked bound turns states leads p a here;
+      behind = c.script_streams.ensures.behind bound turns states leads p a here;
+      takes_all = c.script_streams.ensures.rest bound turns states leads p a here;
       got = c.script_history.ensures.got bound turns states leads p a here;
       taken = c.script_l3.ensures.taken bound turns states leads p a here;
       served = c.script_l2.ensures.served bound turns states leads p a here;
       passed = c.script_l1.ensures.passed bound turns states leads p a here;
       entries = c.script_messages.ensures.entries bound turns states leads p a here;
       receives = c.script_messages.ensures.receives bound turns states leads p a here;
+      told = c.script_receives.ensures.got bound turns states leads p a here;
+      took = c.script_receives.ensures.took bound turns states leads p a here;
+      only = c.script_receives.ensures.only bound turns states leads p a here;
+      places = c.script_multi.ensures.places bound turns states leads p a here;
+      freed = (c.script_claims.ensures.freed bound turns states leads p a here).0;
+      slips = (c.script_claims.ensures.freed bound turns states leads p a here).1;
+      aside = c.script_claims.ensures.stays bound turns states leads p a here;
+      own = c.script_claims.ensures.takes bound turns states leads p a here;
+      fates = c.script_receives.ensures.all bound turns states leads p a here;
+      leaves = c.script_receives.ensures.once bound turns states leads p a here;
+      lost = c.script_claims.ensures.lost bound turns states leads p a here;
       once = c.script_l4.ensures.once bound turns states leads p a here;
       numbers = c.script_l4.ensures.numbers bound turns states leads p a here;
     }
