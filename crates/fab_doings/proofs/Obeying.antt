@@ -21,7 +21,7 @@ use Rattle.fab_laws.proofs.streams.Taken.{taken_is_first}
 use Rattle.fab_laws.proofs.streams.Posted.{taken_is_posted}
 use Rattle.fab_laws.proofs.streams.Arrived.{all_is_taken, arrived_is_first, arrived_is_posted, whole_has_arrived}
 use Rattle.fab_laws.proofs.streams.Entries.{entries_tell, receives_tell}
-use Rattle.fab_laws.proofs.receiving.Holding.{freed_rightly, goes_once, got_is_told, lost_is_put_away, none_is_lost, one_tells, places_follow, stays_claimed, takes_tell, took_is_told}
+use Rattle.fab_laws.proofs.receiving.Holding.{closes_in_time, freed_rightly, goes_once, got_is_told, lost_is_put_away, none_is_lost, one_tells, places_follow, stays_claimed, takes_tell, took_is_told}
 use Rattle.fab_doings.specs.Doings.{Living, deeds_of, peer_in}
 use Rattle.fab_doings.specs.Law.{IsOwn, Obeys, Past, ProgramObeys, peers, plains, programs}
 use Rattle.fab_doings.proofs.Reaching.{program_reaches}
@@ -63,6 +63,7 @@ all_obey from turns states leads p a here =
       only = one_tells from turns states leads p a here;
       leaves = goes_once from turns states leads p a here;
       places = places_follow from turns states leads p a here;
+      closes = closes_in_time from turns states leads p a here;
       fates = none_is_lost from turns states leads p a here;
     }
 

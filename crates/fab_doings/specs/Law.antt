@@ -28,7 +28,7 @@ use Rattle.fab_laws.specs.StreamLaws.{HasArrived, IsFirst, IsPosted, TakesAll, a
 use Rattle.fab_laws.specs.MessageLaws.{EntryTells, ReceiveTells, asked_by, asked_of}
 use Rattle.fab_laws.specs.Claimed.{handled_of}
 use Rattle.fab_laws.specs.ClaimLaws.{EntryIsOwn, FreesClaimed, IsPutAway, NoneSlips, StaysAside}
-use Rattle.fab_laws.specs.MultiLaws.{PlacesTell}
+use Rattle.fab_laws.specs.MultiLaws.{ClosesWhenFull, PlacesTell}
 use Rattle.fab_laws.specs.ReceiveLaws.{AllHaveFates, GotTold, LeavesOnce, OneTellsIt, TookTold}
 use Rattle.fab_doings.specs.Doings.{Doing, DoesBy, Living, acts_of, deeds_of, peer_in}
 
@@ -117,6 +117,7 @@ pub record Obeys (from : List Peer) (turns : List (Turn Deed)) (states : List Pe
   pub only : OneTellsIt (past_of from turns p) (asked_of from turns p) states p a
   pub leaves : LeavesOnce (past_of from turns p)
   pub places : PlacesTell (past_of from turns p) (asked_of from turns p) states p a
+  pub closes : ClosesWhenFull (past_of from turns p) (asked_of from turns p)
   pub fates : AllHaveFates (past_of from turns p) (handled_of from turns p) a.state.rx
 
 -- the thread's own record, of its doings and the states after them, says what its endpoint accepted and which receives it was asked for

@@ -16,7 +16,7 @@ use Rattle.fab_laws.specs.StreamLaws.{HasArrived, IsFirst, IsPosted, TakesAll}
 use Rattle.fab_laws.specs.MatchingLaws.{GetsRightly, PassesNoneOver, ServesInOrder, TakesInOrder}
 use Rattle.fab_laws.specs.MessageLaws.{EntryReads, EntryTells, ReceiveTells}
 use Rattle.fab_laws.specs.ClaimLaws.{EntryIsOwn, FreesClaimed, IsPutAway, NoneSlips, StaysAside}
-use Rattle.fab_laws.specs.MultiLaws.{PlacesTell}
+use Rattle.fab_laws.specs.MultiLaws.{ClosesWhenFull, PlacesTell}
 use Rattle.fab_laws.specs.ReceiveLaws.{AllHaveFates, GotTold, LeavesOnce, OneTellsIt, TookTold}
 use Rattle.fab_laws.specs.CompletionLaws.{AllCompleteOnce, NumberCompletes}
 
@@ -46,8 +46,9 @@ pub record HoldsOf (bound : Bound) (turns : List (Turn Step)) (states : List Act
   pub told : GotTold (script_past bound turns p) (script_asked bound turns p) (peers states) p (peer_of a)
   pub took : TookTold (script_handled bound turns p) (script_asked bound turns p) (peers states) p (peer_of a)
   pub only : OneTellsIt (script_past bound turns p) (script_asked bound turns p) (peers states) p (peer_of a)
-  -- the messages of a buffer for many messages follow one another from its first byte on, in the order in which its receive got them
+  -- the messages of a buffer for many messages follow one another from its first byte on, in the order in which its receive got them; the receive takes no more exactly once fewer than its least free bytes are left
   pub places : PlacesTell (script_past bound turns p) (script_asked bound turns p) (peers states) p (peer_of a)
+  pub closes : ClosesWhenFull (script_past bound turns p) (script_asked bound turns p)
   -- a claimed message is taken or dropped once at the most, by a call under the context of its claim, and by nothing else; it is still set aside, or was taken or dropped
   pub freed : FreesClaimed (script_handled bound turns p)
   pub slips : NoneSlips (script_handled bound turns p)

@@ -2,7 +2,8 @@
 --     used_in n call past     how many of the n bytes of the buffer are given away to the messages that the receive of this call got
 --     placed n call past      these messages, each with its place in the buffer, the newest first
 --     PlacesFollow            each is told by an entry that has this place, or comes to it
-use Rattle.std.specs.Prelude.{◌≡◌, ℕ, ◌+◌, ◌-◌, min, true, false, ◌==◌, List, [], ◌∷◌, length, Option, Some, slice_index, ◌⊎◌}
+--     ClosesInTime            the receive takes no more once fewer than its least free bytes are left
+use Rattle.std.specs.Prelude.{◌≡◌, ℕ, ◌+◌, ◌-◌, min, Bool, true, false, nat_lt, ◌==◌, List, [], ◌∷◌, ◌++◌, length, Option, Some, slice_index, ◌⊎◌}
 use Rattle.fab_base.specs.declared.items.Item.{Item}
 use Rattle.fab_base.specs.declared.operations.Coming.TheVariants.{Into}
 use Rattle.fab_base.specs.declared.operations.Receive.{Receive}
@@ -47,3 +48,11 @@ PlacesTell past asked states p a = (f : Receive) (least : ℕ) (x : Mark) (place
 
 abbrev pub PlacesFollow : Type 0
 PlacesFollow = AtEveryMoment (λ from turns states p a. PlacesTell (past_of from turns p) (asked_of from turns p) states p a)
+
+-- where the receive got a message, it takes no more after it exactly where then fewer than its least free bytes are left
+abbrev pub ClosesWhenFull : List Event → List Receive → Type 0
+ClosesWhenFull past asked = (f : Receive) (least : ℕ) (later before : List Event) (x : Mark) (last : Bool) → In f asked → f.least ≡ Some least → past ≡ later ++ Got f.call x last ∷ before
+    → last ≡ nat_lt (length f.buf - used_in (length f.buf) f.call (Got f.call x last ∷ before)) least
+
+abbrev pub ClosesInTime : Type 0
+ClosesInTime = AtEveryMoment (λ from turns states p a. ClosesWhenFull (past_of from turns p) (asked_of from turns p))

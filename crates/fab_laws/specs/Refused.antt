@@ -1,5 +1,5 @@
 -- Wrong traces that the laws of streams, claims, receives and buffers for many messages refuse, for any messages, calls and contexts.
-use Rattle.std.specs.Prelude.{◌≡◌, ◌≤◌, ℕ, Bool, true, List, [], ◌∷◌, length, Some, None, slice_get}
+use Rattle.std.specs.Prelude.{◌≡◌, ◌≤◌, ◌<◌, ◌+◌, ℕ, Bool, true, false, List, [], ◌∷◌, length, Some, None, slice_get}
 use Rattle.fab_base.specs.declared.entries.ErrKind.TheVariants.{Canceled}
 use Rattle.fab_base.specs.declared.items.Item.{Item}
 use Rattle.fab_base.specs.declared.operations.Receive.{Receive}
@@ -14,7 +14,7 @@ use Rattle.fab_laws.specs.StreamLaws.{HasArrived, IsFirst, TakesAll}
 use Rattle.fab_laws.specs.Claimed.{Claimed, Dropped, Handling, Slipped, Took}
 use Rattle.fab_laws.specs.ClaimLaws.{FreesClaimed, NoneSlips, StaysAside, WentTo}
 use Rattle.fab_laws.specs.MessageLaws.{IsMessage}
-use Rattle.fab_laws.specs.MultiLaws.{PlacesTell}
+use Rattle.fab_laws.specs.MultiLaws.{ClosesWhenFull, PlacesTell}
 use Rattle.fab_laws.specs.ReceiveLaws.{AllHaveFates, GotTold, LeavesOnce}
 
 -- ---- streams
@@ -95,3 +95,11 @@ Overlaps = (f : Receive) (least : ℕ) (x y : Mark) (k l : Bool) (asked : List R
 abbrev pub LeavesGap : Type 0
 LeavesGap = (f : Receive) (least : ℕ) (x : Mark) (k : Bool) (asked : List Receive) (states : List Peer) (p : ℕ) (a : Peer) → In f asked → f.least ≡ Some least
     → goes_into (coming_from a.state.rx x.source) ≡ None → AllAt asked states p a f.call (λ place. 1 ≤ place) → PlacesTell (Got f.call x k ∷ []) asked states p a → Never
+
+-- a receive stays open though its first message leaves fewer than its least free bytes
+abbrev pub StaysOpen : Type 0
+StaysOpen = (f : Receive) (least : ℕ) (x : Mark) (asked : List Receive) → In f asked → f.least ≡ Some least → length f.buf < x.head.total + least → 1 ≤ least → ClosesWhenFull (Got f.call x false ∷ []) asked → Never
+
+-- a receive takes no more though its first message leaves as many
+abbrev pub ClosesEarly : Type 0
+ClosesEarly = (f : Receive) (least : ℕ) (x : Mark) (asked : List Receive) → In f asked → f.least ≡ Some least → x.head.total + least ≤ length f.buf → ClosesWhenFull (Got f.call x true ∷ []) asked → Never

@@ -19,7 +19,7 @@ use Rattle.fab_laws.specs.StreamLaws.{HasArrived, IsFirst, IsPosted, TakesAll, a
 use Rattle.fab_laws.specs.MessageLaws.{EntryTells, ReceiveTells, keeping_asked}
 use Rattle.fab_laws.specs.Claimed.{Handling, handling}
 use Rattle.fab_laws.specs.ClaimLaws.{EntryIsOwn, FreesClaimed, IsPutAway, NoneSlips, StaysAside}
-use Rattle.fab_laws.specs.MultiLaws.{PlacesTell}
+use Rattle.fab_laws.specs.MultiLaws.{ClosesWhenFull, PlacesTell}
 use Rattle.fab_laws.specs.ReceiveLaws.{AllHaveFates, GotTold, LeavesOnce, OneTellsIt, TookTold}
 
 abbrev pub script_past : Bound → List (Turn Step) → ℕ → List Event
@@ -147,3 +147,6 @@ NoneIsLost = AtEveryScriptMoment (λ bound turns states p a. AllHaveFates (scrip
 
 abbrev pub PlacesFollow : Type 0
 PlacesFollow = AtEveryScriptMoment (λ bound turns states p a. PlacesTell (script_past bound turns p) (script_asked bound turns p) (peers states) p (peer_of a))
+
+abbrev pub ClosesInTime : Type 0
+ClosesInTime = AtEveryScriptMoment (λ bound turns states p a. ClosesWhenFull (script_past bound turns p) (script_asked bound turns p))

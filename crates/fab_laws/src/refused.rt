@@ -3,6 +3,7 @@
 
 ghost use Rattle.fab_laws.specs.Refused.{
   CancelledInstead,
+  ClosesEarly,
   FreedTwice,
   GotTwice,
   LeavesGap,
@@ -14,6 +15,7 @@ ghost use Rattle.fab_laws.specs.Refused.{
   Overlaps,
   Repeated,
   SlipsAway,
+  StaysOpen,
   Swapped,
   Unarrived,
   Unclaimed,
@@ -58,8 +60,12 @@ pub fn refused_receives()
 
 /// What the law of buffers for many messages refuses.
 ///
-/// Two messages at one place (`overlaps`); a first message that does not stand at the first byte (`gap`).
+/// Two messages at one place (`overlaps`); a first message that does not stand at the first byte (`gap`);
+/// a receive that stays open with fewer than its least free bytes (`open`), or takes no more though it has
+/// as many (`early`).
 pub fn refused_multi()
     ensures overlaps { Overlaps }
     ensures gap { LeavesGap }
+    ensures open { StaysOpen }
+    ensures early { ClosesEarly }
 {}

@@ -12,6 +12,7 @@ ghost use Rattle.fab_laws.specs.ScriptLaws.{
   AnsweredOnce,
   ArrivedIsFirst,
   ArrivedIsPosted,
+  ClosesInTime,
   EntriesTell,
   FencesHold,
   FreedRightly,
@@ -113,6 +114,7 @@ pub fn script_receives()
 /// The messages of a buffer for many messages follow one another.
 pub fn script_multi()
     ensures places { PlacesFollow }
+    ensures closes { ClosesInTime }
 {}
 
 /// What the history words of matching say of the states.

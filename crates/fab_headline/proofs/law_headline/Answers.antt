@@ -31,6 +31,7 @@ returns c = record { headline = headline }
       took = c.script_receives.ensures.took bound turns states leads p a here;
       only = c.script_receives.ensures.only bound turns states leads p a here;
       places = c.script_multi.ensures.places bound turns states leads p a here;
+      closes = c.script_multi.ensures.closes bound turns states leads p a here;
       freed = (c.script_claims.ensures.freed bound turns states leads p a here).0;
       slips = (c.script_claims.ensures.freed bound turns states leads p a here).1;
       aside = c.script_claims.ensures.stays bound turns states leads p a here;

@@ -28,7 +28,7 @@ use Rattle.fab_laws.specs.Moments.{LeadTo, remembered}
 use Rattle.fab_laws.specs.Completed.{Accepted, has_ended, is_final, number, operations_of, receive_stands, send_stands}
 use Rattle.fab_laws.specs.Matched.{Came, Cancelled, Event, Got, Lost, Made, Mark, Wish, arrives, came, cancel_of, cancels, fate, goes_into, gone, happens, is_posted, left, made, makes, mark_of, new_entry, noticed, noting, parted, past_of, taken_now, wish_of}
 use Rattle.fab_laws.specs.MessageLaws.{IsMessage, asked_by, asked_of, asks_for, keeping_asked}
-use Rattle.fab_laws.specs.MultiLaws.{PlacesFollow}
+use Rattle.fab_laws.specs.MultiLaws.{ClosesInTime, PlacesFollow}
 use Rattle.fab_laws.specs.Claimed.{Claimed, Discarded, Dropped, Handling, Slipped, Took, aside_of, call_in, freed, handled_of, handles, handling, lost, put_away}
 use Rattle.fab_laws.specs.ClaimLaws.{FreedRightly, LostIsPutAway, StaysClaimed, TakesTell}
 use Rattle.fab_laws.specs.ReceiveLaws.{Aside, Fate, GoesOnce, GotIsTold, IsComing, IsToldOf, NoneIsLost, OneTells, Received, TookIsTold, Waits, WasDiscarded, WasDropped, WasTaken}
@@ -51,7 +51,7 @@ use Rattle.fab_laws.proofs.streams.Entries.{both, fresh_told, more_seen, more_to
 use Rattle.fab_laws.proofs.receiving.Acts.{Act, act, subject}
 use Rattle.fab_laws.proofs.receiving.Claiming.{Claiming, FreeEach, News, claimed_gone, freed_claimed, frees_claimed, leaves_once, news_claims, none_slips}
 use Rattle.fab_laws.proofs.receiving.Flowing.{flows}
-use Rattle.fab_laws.proofs.receiving.Placing.{Placing, grows, next_places, rows}
+use Rattle.fab_laws.proofs.receiving.Placing.{Placing, closes_when_full, grows, next_places, rows}
 use Rattle.fab_laws.proofs.receiving.News.{news}
 use Rattle.fab_laws.proofs.receiving.Settling.{ComesTo, HasItem, OwnTold, Settled, Settling, mark_at, settles}
 
@@ -230,6 +230,76 @@ asked_number a b (Makes (Some c)) f i = go (nat_lt a.state.calls b.state.calls) 
     go true i = of_call c i
     go false i = never i
 
+-- ---- whether a receive that got a message takes no more
+
+got_flag : (v : View Item) (a b : Peer) (d : Deed) (c : ℕ) (x : Mark) (last : Bool) → In (Got c x last) (noticed v a d b) → last ≡ not (is_posted c b.state)
+got_flag v a b d c x last i = by d i
+  where
+    same : (e : ℕ) (y : Mark) → Got c x last ≡ Got e y (not (is_posted e b.state)) → last ≡ not (is_posted c b.state)
+    same e y f = (let g : last ≡ not (is_posted e b.state) = cc (f) in let k : c ≡ e = cc (f) in g ∙ ap (λ n. not (is_posted n b.state)) (sym k))
+
+    in_two : (es fs : List Event) → In (Got c x last) (es ++ fs) → In (Got c x last) es ⊎ In (Got c x last) fs
+    in_two [] fs i = inr i
+    in_two (z ∷ es) fs (inl e) = inl (inl e)
+    in_two (z ∷ es) fs (inr i) = elim (in_two es fs i) [ inl j ↦ inl (inr j) | inr j ↦ inr j ]
+
+    fated : (m : Mark) (o : Option ℕ) → In (Got c x last) (fate b.state m o ∷ []) → last ≡ not (is_posted c b.state)
+    fated m (Some call) (inl e) = same call m e
+    fated m (Some call) (inr n) = never n
+    fated m None (inl e) = absurd (cc (e))
+    fated m None (inr n) = never n
+
+    of_left : (o : Option Arrival) → In (Got c x last) (elim o [ None ↦ [] | Some y ↦ fate b.state (mark_of y) (taken_now a.state b.state y) ∷ [] ]) → last ≡ not (is_posted c b.state)
+    of_left None n = never n
+    of_left (Some y) i = fated (mark_of y) (taken_now a.state b.state y) i
+
+    of_cancels : (o : Option ℕ) → In (Got c x last) (elim o [ None ↦ [] | Some call ↦ Cancelled call ∷ [] ]) → last ≡ not (is_posted c b.state)
+    of_cancels None n = never n
+    of_cancels (Some call) (inl e) = absurd (cc (e))
+    of_cancels (Some call) (inr n) = never n
+
+    of_made : (p : Posting) (t : Bool) → In (Got c x last) (elim t [ true ↦ Made (wish_of (receive_of a.state p)) ∷ [] | false ↦ [] ]) → last ≡ not (is_posted c b.state)
+    of_made p true (inl e) = absurd (cc (e))
+    of_made p true (inr n) = never n
+    of_made p false n = never n
+
+    of_makes : (p : Option Posting) → In (Got c x last) (makes p a.state b.state) → last ≡ not (is_posted c b.state)
+    of_makes None n = never n
+    of_makes (Some p) i = of_made p (nat_lt a.state.calls b.state.calls) i
+
+    of_happens : (p : Option Posting) → In (Got c x last) (happens a.state b.state p) → last ≡ not (is_posted c b.state)
+    of_happens p i = elim (in_two (left a.state b.state ++ cancels a.state b.state) (makes p a.state b.state) i) [
+      | inl j ↦ elim (in_two (left a.state b.state) (cancels a.state b.state) j) [ inl k ↦ of_left (parted a.state.rx.unexpected b.state.rx.unexpected) k | inr k ↦ of_cancels (cancel_of (new_entry a.state b.state)) k ]
+      | inr j ↦ of_makes p j
+    ]
+
+    of_arrival : (m : Mark) (o : Option ℕ) → In (Got c x last) (elim o [ Some call ↦ Got call m (not (is_posted call b.state)) ∷ Came m ∷ [] | None ↦ Came m ∷ [] ]) → last ≡ not (is_posted c b.state)
+    of_arrival m (Some call) (inl e) = same call m e
+    of_arrival m (Some call) (inr (inl e)) = absurd (cc (e))
+    of_arrival m (Some call) (inr (inr n)) = never n
+    of_arrival m None (inl e) = absurd (cc (e))
+    of_arrival m None (inr n) = never n
+
+    of_message : (m : Mark) (t : Bool) → In (Got c x last) (elim t [ true ↦ arrives b.state m | false ↦ [] ]) → last ≡ not (is_posted c b.state)
+    of_message m true i = of_arrival m (goes_into (coming_from b.state.rx m.source)) i
+    of_message m false n = never n
+
+    of_head : (source : ℕ) (o : Option Item) → In (Got c x last) (elim o [
+      | None ↦ []
+      | Some item ↦ elim (is_message item.head.kind) [ true ↦ arrives b.state (record { source = source; place = slice_index a.state.rx.heads source; head = item.head }) | false ↦ [] ]
+    ]) → last ≡ not (is_posted c b.state)
+    of_head source None n = never n
+    of_head source (Some item) i = of_message (record { source = source; place = slice_index a.state.rx.heads source; head = item.head }) (is_message item.head.kind) i
+
+    by : (d : Deed) → In (Got c x last) (noticed v a d b) → last ≡ not (is_posted c b.state)
+    by (Makes call) i = of_happens _ i
+    by (Counts counters) i = of_happens None i
+    by (Head source) i = of_head source (slice_get (v.ready source) (slice_index a.state.rx.heads source)) i
+    by (Tail source) i = of_happens None i
+    by (Deed.Sent t) i = of_happens None i
+    by Draw i = of_happens None i
+    by Deed.Read i = of_happens None i
+
 -- ---- a step
 
 -- what is kept of a peer with its three memories
@@ -291,7 +361,7 @@ module _ (n : ℕ) (v : View Item) (past : List Event) (m : List Receive) (h : L
         (λ y i. came_now v a b x y i) (λ call y last i. gone_came y (got_gone call y last past i)) took_came;
     placing = next_places v past h m (asked_by a x b) a.state b.state _ (noticed v a x b) (λ q r place e. (kept.told.coming q r place e).0) after.one
         (λ r i. (each_in (Stands m) a.state.rx.posted r kept.told.posted i).0) asked_call got_before (λ f i. kept.told.before f i)
-        (λ c y last i. kept.settling.came y (gone_came y (got_gone c y last past i))) kept.placing
+        (λ c y last i. kept.settling.came y (gone_came y (got_gone c y last past i))) (got_flag v a b x) kept.placing
         (flows n v past h m (asked_by a x b) a b kept.keeps kept.told owed room kept.settling x did refl) (grows past _ (map aside_of a.state.rx.claimed) (map aside_of b.state.rx.claimed) (noticed v a x b) (handles (call_in x) a.state b.state) told_news)
         (rows n past v a.state b.state x (asked_by a x b) kept.keeps
         (λ p is calls. subst (λ (d : Deed). In (receive_of a.state p) (asked_by a d b)) (sym is) (made_call (Post p) (receive_of a.state p) calls refl))
@@ -306,6 +376,7 @@ more_kept n v w past m h s more kept = record {
   claiming = kept.claiming;
   settling = settling_seen v w past h m s more kept.settling;
   placing = record {
+    closes = kept.placing.closes;
     sized = kept.placing.sized;
     places = λ f least x place i e j. elim (kept.placing.places f least x place i e j) [
       | inl comes ↦ inl comes
@@ -344,7 +415,7 @@ module _ (from : Opening) (turns : List (Turn Deed)) (states : List Peer) (leads
         told = fresh_told (record conf { peers = length from.peers }) av (seen program from.peers p);
         claiming = none_claimed;
         settling = fresh_settling (record conf { peers = length from.peers }) av (seen program from.peers p);
-        placing = record { sized = λ f least q i. never i; places = λ f least x place i. never i };
+        placing = record { sized = λ f least q i. never i; places = λ f least x place i. never i; closes = λ f least i. never i };
       }) p x at) leads a here
 
   pub kept_at : AllKept (length from.peers) (seen program states p) (past_of from.peers turns p) (asked_of from.peers turns p) (handled_of from.peers turns p) a.state
@@ -375,6 +446,10 @@ took_is_told from turns states leads p a here call ctx x i = (kept_at from turns
 
 pub places_follow : PlacesFollow
 places_follow from turns states leads p a here f least x place i e j = (kept_at from turns states leads p a here).placing.places f least x place i e j
+
+pub closes_in_time : ClosesInTime
+closes_in_time from turns states leads p a here f least later before x last i e is =
+    closes_when_full (length f.buf) least f.call (past_of from.peers turns p) ((kept_at from turns states leads p a here).placing.closes f least i e) later before x last is
 
 pub goes_once : GoesOnce
 goes_once from turns states leads p a here = leaves_once (past_of from.peers turns p) (kept_at from turns states leads p a here).claiming.once

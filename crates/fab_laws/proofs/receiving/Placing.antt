@@ -1,6 +1,6 @@
 -- Where the messages of a buffer for many messages stand: each step keeps that they follow one another.
-use Rattle.std.proofs.Common.{◌≡◌, ◌≢◌, ◌<◌, ◌≤◌, ◌+◌, ◌-◌, ℕ, min, Bool, true, false, List, [], ◌∷◌, ◌++◌, length, map, take, drop, slice_get, Option, Some, None, ◌⊎◌, inl, inr, refl, sym, ◌∙◌, ap, ap₂, subst, arith, length-append, length-take, length-drop}
-use Rattle.std.specs.Prelude.{find, slice_index, ◌==◌}
+use Rattle.std.proofs.Common.{◌≡◌, ◌≢◌, ◌<◌, ◌≤◌, ◌+◌, ◌-◌, ℕ, min, Bool, true, false, not, List, [], ◌∷◌, ◌++◌, length, map, take, drop, slice_get, Option, Some, None, ◌⊎◌, inl, inr, refl, sym, ◌∙◌, ap, ap₂, subst, arith, length-append, length-take, length-drop}
+use Rattle.std.specs.Prelude.{find, nat_lt, slice_index, ◌==◌}
 use Rattle.std.proofs.lemmas.Bool.{eq-eqb, eqb-true, ne_eqb}
 use Rattle.fab_base.specs.declared.items.Item.{Item}
 use Rattle.fab_base.specs.declared.operations.Arrival.{Arrival}
@@ -18,11 +18,11 @@ use Rattle.fab_model.specs.Views.{View}
 use Rattle.fab_model.proofs.Parts.{some_same}
 use Rattle.fab_laws.specs.Members.{Ahead, In, Never}
 use Rattle.fab_laws.specs.Programs.{Deed, Makes}
-use Rattle.fab_laws.specs.Matched.{Came, Cancelled, Event, Got, Lost, Made, Mark, Wish, made, mark_of, wish_of}
+use Rattle.fab_laws.specs.Matched.{Came, Cancelled, Event, Got, Lost, Made, Mark, Wish, is_posted, made, mark_of, wish_of}
 use Rattle.fab_laws.specs.MessageLaws.{IsMessage, IsOf}
 use Rattle.fab_laws.specs.MultiLaws.{IsComingAt, IsToldAt, placed, used_in}
 use Rattle.fab_laws.specs.Claimed.{Handling}
-use Rattle.fab_laws.proofs.Lists.{Each, Split, ahead_in, ahead_map, ahead_middle, changed_same, found_in, in_back, in_end, in_front, in_less, in_map, in_middle, in_removed, mapped, map_append, never, split_at}
+use Rattle.fab_laws.proofs.Lists.{Always, Each, Split, always, any_in, none_any, ahead_in, ahead_map, ahead_middle, changed_same, found_in, in_back, in_end, in_front, in_less, in_map, in_middle, in_removed, mapped, map_append, never, split_at}
 use Rattle.fab_laws.proofs.matching.Moves.{Keeps}
 use Rattle.fab_laws.proofs.streams.Told.{Told, IsInto}
 use Rattle.fab_laws.proofs.streams.Entries.{told_by}
@@ -114,10 +114,51 @@ out_seats : (o : Option Receive) (rx : Receiving) → (let_out o rx).posted ≡ 
 out_seats None rx = refl
 out_seats (Some m) rx = refl
 
+-- at each message that the receive of this call got, it takes no more exactly where fewer than so many bytes are left
+abbrev pub ClosesEach : ℕ → ℕ → ℕ → List Event → Type 0
+ClosesEach n least call [] = Always
+ClosesEach n least call (Came m ∷ past) = ClosesEach n least call past
+ClosesEach n least call (Made w ∷ past) = ClosesEach n least call past
+ClosesEach n least call (Got c x last ∷ past) = (c ≡ call → last ≡ nat_lt (n - used_in n call (Got c x last ∷ past)) least) × ClosesEach n least call past
+ClosesEach n least call (Lost m ∷ past) = ClosesEach n least call past
+ClosesEach n least call (Cancelled c ∷ past) = ClosesEach n least call past
+
+module _ (n least call : ℕ) (past : List Event) (closes : ClosesEach n least call past) where
+  dull_closes : (es : List Event) → Each Dull es → ClosesEach n least call (es ++ past)
+  dull_closes [] dull = closes
+  dull_closes (Came m ∷ es) dull = dull_closes es dull.1
+  dull_closes (Made w ∷ es) dull = dull_closes es dull.1
+  dull_closes (Got c m last ∷ es) dull = never dull.0
+  dull_closes (Lost m ∷ es) dull = never dull.0
+  dull_closes (Cancelled c ∷ es) dull = dull_closes es dull.1
+
+none_closes : (n least call : ℕ) (past : List Event) → ((c : ℕ) (x : Mark) (last : Bool) → In (Got c x last) past → c < call) → ClosesEach n least call past
+none_closes n least call [] below = always
+none_closes n least call (Came m ∷ past) below = none_closes n least call past (λ c x last i. below c x last (inr i))
+none_closes n least call (Made w ∷ past) below = none_closes n least call past (λ c x last i. below c x last (inr i))
+none_closes n least call (Got c m last ∷ past) below = (λ e. absurd (let lt = below c m last (inl refl) in omega (arith, lt, e)), none_closes n least call past (λ d x k i. below d x k (inr i)))
+none_closes n least call (Lost m ∷ past) below = none_closes n least call past (λ c x last i. below c x last (inr i))
+none_closes n least call (Cancelled c ∷ past) below = none_closes n least call past (λ d x last i. below d x last (inr i))
+
+pub closes_when_full : (n least call : ℕ) (past : List Event) → ClosesEach n least call past → (later before : List Event) (x : Mark) (last : Bool) → past ≡ later ++ Got call x last ∷ before → last ≡ nat_lt (n - used_in n call (Got call x last ∷ before)) least
+closes_when_full n least call past closes later before x last is = back later (subst (ClosesEach n least call) is closes)
+  where
+    rest : (z : Event) (zs : List Event) → ClosesEach n least call (z ∷ zs) → ClosesEach n least call zs
+    rest (Came m) zs c = c
+    rest (Made w) zs c = c
+    rest (Got d m l) zs c = c.1
+    rest (Lost m) zs c = c
+    rest (Cancelled d) zs c = c
+
+    back : (later : List Event) → ClosesEach n least call (later ++ Got call x last ∷ before) → last ≡ nat_lt (n - used_in n call (Got call x last ∷ before)) least
+    back [] c = c.0 refl
+    back (z ∷ zs) c = back zs (rest z (zs ++ Got call x last ∷ before) c)
+
 pub record Placing (v : View Item) (past : List Event) (m : List Receive) (s : State) : Type 0 where
   -- what is posted, for many messages, has given away what its messages take
   pub sized : (f : Receive) (least : ℕ) (q : Seat) → In f m → f.least ≡ Some least → In q (map seat_of s.rx.posted) → q.call ≡ f.call → (q.long ≡ length f.buf) × (q.used ≡ used_in (length f.buf) f.call past)
   pub places : (f : Receive) (least : ℕ) (x : Mark) (place : ℕ) → In f m → f.least ≡ Some least → In (x, place) (placed (length f.buf) f.call past) → SettledAt v m s f.call x place
+  pub closes : (f : Receive) (least : ℕ) → In f m → f.least ≡ Some least → ClosesEach (length f.buf) least f.call past
 
 -- ---- a receive that takes a message
 
@@ -155,6 +196,13 @@ module _ (xs : List Receive) (apart : (q r : Receive) → Ahead q r xs → q.cal
       go true j = elim (in_less q (used_up total r) split.front split.back (subst (In q) (split.changed (used_up total)) j)) [ inl k ↦ inl (in_parts q k) | inr e ↦ inr e ]
       go false j = inl (in_parts q (subst (In q) split.removed j))
 
+  seated_stays : (total : ℕ) → stays total r ≡ true → In (used_up total r) (seated test total r xs)
+  seated_stays total e = subst (λ (b : Bool). In (used_up total r) (let zs : List Receive = elim b [ true ↦ change_first test (used_up total) xs | false ↦ remove_first test xs ] in zs)) (sym e)
+      (subst (In (used_up total r)) (sym (split.changed (used_up total))) (in_middle (used_up total r) split.front split.back))
+
+  seated_goes : (total : ℕ) → stays total r ≡ false → (q : Receive) → In q (seated test total r xs) → q.call ≡ r.call → Never
+  seated_goes total e q i = (in_parts q (subst (In q) split.removed (subst (λ (b : Bool). In q (let zs : List Receive = elim b [ true ↦ change_first test (used_up total) xs | false ↦ remove_first test xs ] in zs)) e i))).1
+
 -- ---- each step
 
 -- what a step does to the receives posted, and which of them is given a message; rs are the receives that its call makes
@@ -162,7 +210,8 @@ pub data Rows (rs : List Receive) (s t : State) (o : Option (Receive × Mark)) :
   Stay : ((q : Seat) → In q (map seat_of t.rx.posted) → In q (map seat_of s.rx.posted)) → ((r : Receive) (x : Mark) → o ≡ Some (r, x) → (r.least ≡ None) × In r rs) → Rows rs s t o
   Join : (f : Receive) → In f rs → f.used ≡ 0 → map seat_of t.rx.posted ≡ map seat_of s.rx.posted ++ seat_of f ∷ [] → o ≡ None → Rows rs s t o
   Give : (r : Receive) (x : Mark) → o ≡ Some (r, x) → In r s.rx.posted
-      → ((q : Seat) → In q (map seat_of t.rx.posted) → (In q (map seat_of s.rx.posted) × (q.call ≡ r.call → Never)) ⊎ (q ≡ seat_of (used_up x.head.total r))) → Rows rs s t o
+      → ((q : Seat) → In q (map seat_of t.rx.posted) → (In q (map seat_of s.rx.posted) × (q.call ≡ r.call → Never)) ⊎ (q ≡ seat_of (used_up x.head.total r)))
+      → (is_posted r.call t ≡ stays x.head.total r) → Rows rs s t o
 
 -- the receives posted have different calls
 posted_apart : (n : ℕ) (past : List Event) (s : State) → Keeps n past s → (q r : Receive) → Ahead q r s.rx.posted → q.call ≡ r.call → Never
@@ -190,7 +239,16 @@ module _ (n : ℕ) (past : List Event) (v : View Item) (s t : State) (x : Deed) 
     elim (seated_seats s.rx.posted apart test r found y.head.total m.0 m.1) [
       | inl old ↦ inl (subst (λ (z : Seat). In z (map seat_of s.rx.posted)) (sym m.2) (in_map seat_of m.0 s.rx.posted old.0), λ same. old.1 (ap (λ (z : Seat). z.call) (sym m.2) ∙ same))
       | inr new ↦ inr (m.2 ∙ ap seat_of new)
-    ])
+    ]) (seen (stays y.head.total r) refl)
+    where
+      seen : (b : Bool) → stays y.head.total r ≡ b → is_posted r.call t ≡ stays y.head.total r
+      seen true k =
+          let i = in_map seat_of (used_up y.head.total r) (seated test y.head.total r s.rx.posted) (seated_stays s.rx.posted apart test r found y.head.total k) in
+          let z = mapped seat_of (seat_of (used_up y.head.total r)) t.rx.posted (subst (In (seat_of (used_up y.head.total r))) (sym e) i) in
+          any_in (is_made_by r.call) z.0 t.rx.posted z.1 (eq-eqb z.0.call r.call (ap (λ (c : Seat). c.call) (sym z.2))) ∙ sym k
+      seen false k = none_any (is_made_by r.call) t.rx.posted (λ z i c.
+          let w = mapped seat_of (seat_of z) (seated test y.head.total r s.rx.posted) (subst (In (seat_of z)) e (in_map seat_of z t.rx.posted i)) in
+          seated_goes s.rx.posted apart test r found y.head.total k w.0 w.1 (ap (λ (d : Seat). d.call) (sym w.2) ∙ eqb-true z.call r.call c)) ∙ sym k
 
   pub rows : (did : Act v s x t) → Rows rs s t (subject v s x t did)
   unfolding keeping
@@ -218,8 +276,8 @@ module _ (n : ℕ) (past : List Event) (v : View Item) (s t : State) (x : Deed) 
 
 -- nothing for many messages is given, or this receive is given this message
 pub data Grows (past : List Event) (o : Option (Receive × Mark)) (es : List Event) : Type 0 where
-  Level : ((n call : ℕ) → used_in n call (es ++ past) ≡ used_in n call past) → ((n call : ℕ) → placed n call (es ++ past) ≡ placed n call past) → ((r : Receive) (x : Mark) → o ≡ Some (r, x) → r.least ≡ None) → Grows past o es
-  Up : (r : Receive) (x : Mark) → o ≡ Some (r, x)
+  Level : ((n least call : ℕ) → ClosesEach n least call past → ClosesEach n least call (es ++ past)) → ((n call : ℕ) → used_in n call (es ++ past) ≡ used_in n call past) → ((n call : ℕ) → placed n call (es ++ past) ≡ placed n call past) → ((r : Receive) (x : Mark) → o ≡ Some (r, x) → r.least ≡ None) → Grows past o es
+  Up : (r : Receive) (x : Mark) (last : Bool) (rest : List Event) → es ≡ Got r.call x last ∷ rest → Each Dull rest → o ≡ Some (r, x)
       → ((n call : ℕ) → used_in n call (es ++ past) ≡ elim (r.call == call) [ true ↦ used_in n call past + min x.head.total (n - used_in n call past) | false ↦ used_in n call past ])
       → ((n call : ℕ) → placed n call (es ++ past) ≡ (let xs : List (Mark × ℕ) = elim (r.call == call) [ true ↦ (x, used_in n call past) ∷ placed n call past | false ↦ placed n call past ] in xs)) → Grows past o es
 
@@ -227,17 +285,17 @@ no_one : (o : Option (Receive × Mark)) → o ≡ None → (r : Receive) (x : Ma
 no_one o none r x e = absurd (let f : None ≡ Some (r, x) = sym none ∙ e in cc (f))
 
 pub grows : (past : List Event) (o : Option (Receive × Mark)) (before after : List (ℕ × Mark)) (es : List Event) (hs : List Handling) → News past o before after es hs → Grows past o es
-grows past o before after es hs (Still whose dull none same) = Level (λ n call. dull_used n call past es dull) (λ n call. dull_placed n call past es dull) (no_one o whose)
-grows past o before after es hs (Gone r x last rest whose fresh is dull none same) = Up r x whose
+grows past o before after es hs (Still whose dull none same) = Level (λ n least call c. dull_closes n least call past c es dull) (λ n call. dull_used n call past es dull) (λ n call. dull_placed n call past es dull) (no_one o whose)
+grows past o before after es hs (Gone r x last rest whose fresh is dull none same) = Up r x last rest is dull whose
     (λ n call. ap (λ (zs : List Event). used_in n call (zs ++ past)) is ∙ ap (λ (u : ℕ). elim (r.call == call) [ true ↦ u + min x.head.total (n - u) | false ↦ u ]) (dull_used n call past rest dull))
     (λ n call. ap (λ (zs : List Event). placed n call (zs ++ past)) is ∙ ap₂ (λ (u : ℕ) (ps : List (Mark × ℕ)). let xs : List (Mark × ℕ) = elim (r.call == call) [ true ↦ (x, u) ∷ ps | false ↦ ps ] in xs) (dull_used n call past rest dull) (dull_placed n call past rest dull))
 grows past o before after es hs (Put ctx x rest whose fresh is dull one more) =
-    Level (λ n call. ap (λ (zs : List Event). used_in n call (zs ++ past)) is ∙ dull_used n call past rest dull) (λ n call. ap (λ (zs : List Event). placed n call (zs ++ past)) is ∙ dull_placed n call past rest dull) (no_one o whose)
+    Level (λ n least c k. subst (λ (zs : List Event). ClosesEach n least c (zs ++ past)) (sym is) (dull_closes n least c past k rest dull)) (λ n call. ap (λ (zs : List Event). used_in n call (zs ++ past)) is ∙ dull_used n call past rest dull) (λ n call. ap (λ (zs : List Event). placed n call (zs ++ past)) is ∙ dull_placed n call past rest dull) (no_one o whose)
 grows past o before after es hs (Thrown call x rest whose fresh is dull one same) =
-    Level (λ n c. ap (λ (zs : List Event). used_in n c (zs ++ past)) is ∙ dull_used n c past rest dull) (λ n c. ap (λ (zs : List Event). placed n c (zs ++ past)) is ∙ dull_placed n c past rest dull) (no_one o whose)
+    Level (λ n least c k. subst (λ (zs : List Event). ClosesEach n least c (zs ++ past)) (sym is) (dull_closes n least c past k rest dull)) (λ n c. ap (λ (zs : List Event). used_in n c (zs ++ past)) is ∙ dull_used n c past rest dull) (λ n c. ap (λ (zs : List Event). placed n c (zs ++ past)) is ∙ dull_placed n c past rest dull) (no_one o whose)
 grows past o before after es hs (Freed call ctx x e (inl (r, whose, number, context, least, is)) dull one there loses) =
-    Level (λ n c. dull_used n c past es dull) (λ n c. dull_placed n c past es dull) (λ q y f. (let g : (r, x) ≡ (q, y) = some_same (r, x) (q, y) (sym whose ∙ f) in ap (λ (p : Receive × Mark). p.0.least) (sym g) ∙ least))
-grows past o before after es hs (Freed call ctx x e (inr (none, is)) dull one there loses) = Level (λ n c. dull_used n c past es dull) (λ n c. dull_placed n c past es dull) (no_one o none)
+    Level (λ n least c k. dull_closes n least c past k es dull) (λ n c. dull_used n c past es dull) (λ n c. dull_placed n c past es dull) (λ q y f. (let g : (r, x) ≡ (q, y) = some_same (r, x) (q, y) (sym whose ∙ f) in ap (λ (p : Receive × Mark). p.0.least) (sym g) ∙ least))
+grows past o before after es hs (Freed call ctx x e (inr (none, is)) dull one there loses) = Level (λ n least c k. dull_closes n least c past k es dull) (λ n c. dull_used n c past es dull) (λ n c. dull_placed n c past es dull) (no_one o none)
 
 -- who has a place got the message
 placed_got : (n call : ℕ) (x : Mark) (place : ℕ) (past : List Event) → In (x, place) (placed n call past) → (c : ℕ) × (last : Bool) × In (Got c x last) past
@@ -257,6 +315,7 @@ module _ (v : View Item) (past : List Event) (h : List Handling) (m rs : List Re
     (into : (q : ℕ) (r : Receive) (place : ℕ) → coming_from s.rx q ≡ Some (Into r place) → IsInto m r place) (one : (f g : Receive) → In f (rs ++ m) → In g (rs ++ m) → f.call ≡ g.call → f ≡ g)
     (stands : (r : Receive) → In r s.rx.posted → IsOf m r) (new : (f : Receive) → In f rs → f.call ≡ s.calls) (calls : (c : ℕ) (x : Mark) (last : Bool) → In (Got c x last) past → c < s.calls) (old_calls : (f : Receive) → In f m → f.call < s.calls)
     (got_came : (c : ℕ) (x : Mark) (last : Bool) → In (Got c x last) past → HasItem v x)
+    (flag : (c : ℕ) (x : Mark) (last : Bool) → In (Got c x last) es → last ≡ not (is_posted c t))
     (placing : Placing v past m s) (flows : Flows v past h (rs ++ m) s t o) (up : Grows past o es) (does : Rows rs s t o) where
   either : (f : Receive) → In f (rs ++ m) → In f rs ⊎ In f m
   either f i = go rs i
@@ -284,8 +343,8 @@ module _ (v : View Item) (past : List Event) (h : List Handling) (m rs : List Re
   level_for f least i e none = go up
     where
       go : Grows past o es → used_in (length f.buf) f.call (es ++ past) ≡ used_in (length f.buf) f.call past
-      go (Level used places single) = used (length f.buf) f.call
-      go (Up r x whose used places) =
+      go (Level closing used places single) = used (length f.buf) f.call
+      go (Up r x last rest es_is dull whose used places) =
           let other : (r.call == f.call) ≡ false = ne_eqb r.call f.call (λ same. never (none r x whose same)) in
           used (length f.buf) f.call ∙ ap (λ (b : Bool). elim b [ true ↦ used_in (length f.buf) f.call past + min x.head.total (length f.buf - used_in (length f.buf) f.call past) | false ↦ used_in (length f.buf) f.call past ]) other
 
@@ -306,7 +365,7 @@ module _ (v : View Item) (past : List Event) (h : List Handling) (m rs : List Re
                   ap (λ (z : Seat). z.used) k ∙ zero_used ∙ sym (level ∙ none_before (length f.buf) f.call past (λ c x last l. omega (arith, calls c x last l, new g made, ap (λ (z : Receive). z.call) same))),
                 ))
           ]
-      go (Give r x whose there each) = elim (each q j) [
+      go (Give r x whose there each seen) = elim (each q j) [
         | inl (k, other) ↦ (
             let was = before_seat f least q i e k call in
             (was.0, was.1 ∙ sym (level_for f least i e (λ g y is same. other (call ∙ sym same ∙ ap (λ (p : Receive × Mark). p.0.call) (some_same (g, y) (r, x) (sym is ∙ whose)))))))
@@ -322,11 +381,11 @@ module _ (v : View Item) (past : List Event) (h : List Handling) (m rs : List Re
           grown r x whose there number = by up
             where
               by : Grows past o es → used_in (length f.buf) f.call (es ++ past) ≡ used_in (length f.buf) f.call past + min x.head.total (length f.buf - used_in (length f.buf) f.call past)
-              by (Level used places single) =
+              by (Level closing used places single) =
                   let is = stands r there in
                   let same : is.first ≡ f = one is.first f (in_back is.first rs m is.asked) i (sym is.call ∙ number) in
                   absurd (let g : None ≡ Some least = sym (single r x whose) ∙ is.least ∙ ap (λ (z : Receive). z.least) same ∙ e in cc (g))
-              by (Up g y is used places) =
+              by (Up g y last rest es_is dull is used places) =
                   let p : (g, y) ≡ (r, x) = some_same (g, y) (r, x) (sym is ∙ whose) in
                   let mine : (g.call == f.call) ≡ true = eq-eqb g.call f.call (ap (λ (z : Receive × Mark). z.0.call) p ∙ number) in
                   used (length f.buf) f.call
@@ -384,19 +443,63 @@ module _ (v : View Item) (past : List Event) (h : List Handling) (m rs : List Re
           used : Rows rs s t o → r.used ≡ used_in (length f.buf) f.call past
           used (Stay back single) = let k = single r y whose in never (not_single f least r i e (in_front r rs m k.1) number k.0)
           used (Join g made zero_used joined none) = absurd (let k : None ≡ Some (r, y) = sym none ∙ whose in cc (k))
-          used (Give g z is there each) =
+          used (Give g z is there each seen) =
               let p : (g, z) ≡ (r, y) = some_same (g, z) (r, y) (sym is ∙ whose) in
               let same : g ≡ r = ap (λ (q : Receive × Mark). q.0) p in
               (before_seat f least (seat_of r) i e (in_map seat_of r s.rx.posted (subst (λ (q : Receive). In q s.rx.posted) same there)) number).1
 
       go : Grows past o es → SettledAt v (rs ++ m) t f.call x place
-      go (Level used places single) = before (subst (In {X = Mark × ℕ} (x, place)) (places (length f.buf) f.call) j)
-      go (Up r y whose used places) = by (r.call == f.call) refl (subst (In {X = Mark × ℕ} (x, place)) (places (length f.buf) f.call) j)
+      go (Level closing used places single) = before (subst (In {X = Mark × ℕ} (x, place)) (places (length f.buf) f.call) j)
+      go (Up r y last rest es_is dull whose used places) = by (r.call == f.call) refl (subst (In {X = Mark × ℕ} (x, place)) (places (length f.buf) f.call) j)
         where
           by : (b : Bool) → (r.call == f.call) ≡ b → In (x, place) (let xs : List (Mark × ℕ) = elim b [ true ↦ (y, used_in (length f.buf) f.call past) ∷ placed (length f.buf) f.call past | false ↦ placed (length f.buf) f.call past ] in xs) → SettledAt v (rs ++ m) t f.call x place
           by true mine (inl k) = subst (λ (q : Mark × ℕ). SettledAt v (rs ++ m) t f.call q.0 q.1) (sym k) (given_now r y whose (eqb-true r.call f.call mine))
           by true mine (inr k) = before k
           by false other k = before k
 
+  closes_now : (f : Receive) (least : ℕ) → In f (rs ++ m) → f.least ≡ Some least → ClosesEach (length f.buf) least f.call (es ++ past)
+  closes_now f least i e = go up
+    where
+      before : ClosesEach (length f.buf) least f.call past
+      before = elim (either f i) [
+        | inl made ↦ none_closes (length f.buf) least f.call past (λ c x last l. omega (arith, calls c x last l, new f made))
+        | inr k ↦ placing.closes f least k e
+      ]
+
+      not_not : (b : Bool) → not (not b) ≡ b
+      not_not true = refl
+      not_not false = refl
+
+      full : (r : Receive) (x : Mark) (last : Bool) → o ≡ Some (r, x) → last ≡ not (is_posted r.call t) → r.call ≡ f.call → Rows rs s t o
+          → last ≡ nat_lt (length f.buf - (used_in (length f.buf) f.call past + min x.head.total (length f.buf - used_in (length f.buf) f.call past))) least
+      full r x last whose so number (Stay back single) = let k = single r x whose in never (not_single f least r i e (in_front r rs m k.1) number k.0)
+      full r x last whose so number (Join g made zero_used joined none) = absurd (let k : None ≡ Some (r, x) = sym none ∙ whose in cc (k))
+      full r x last whose so number (Give g z is there each seen) =
+          let p : (g, z) ≡ (r, x) = some_same (g, z) (r, x) (sym is ∙ whose) in
+          let same : g ≡ r = ap (λ (q : Receive × Mark). q.0) p in
+          let here : In r s.rx.posted = subst (λ (q : Receive). In q s.rx.posted) same there in
+          let posted : is_posted r.call t ≡ stays x.head.total r = subst (λ (q : Receive × Mark). is_posted q.0.call t ≡ stays q.1.head.total q.0) p seen in
+          let of = stands r here in
+          let first : of.first ≡ f = one of.first f (in_back of.first rs m of.asked) i (sym of.call ∙ number) in
+          let size : r.least ≡ Some least = of.least ∙ ap (λ (q : Receive). q.least) first ∙ e in
+          let was = before_seat f least (seat_of r) i e (in_map seat_of r s.rx.posted here) number in
+          so ∙ ap not posted
+          ∙ ap not (ap (λ (w : Option ℕ). elim w [ None ↦ false | Some k ↦ not (nat_lt (length r.buf - (r.used + min x.head.total (length r.buf - r.used))) k) ]) size)
+          ∙ not_not _
+          ∙ ap₂ (λ (n u : ℕ). nat_lt (n - (u + min x.head.total (n - u))) least) was.0 was.1
+
+      go : Grows past o es → ClosesEach (length f.buf) least f.call (es ++ past)
+      go (Level closing used places single) = closing (length f.buf) least f.call before
+      go (Up r x last rest es_is dull whose used places) = subst (λ (zs : List Event). ClosesEach (length f.buf) least f.call (zs ++ past)) (sym es_is) (now, dull_closes (length f.buf) least f.call past before rest dull)
+        where
+          now : r.call ≡ f.call → last ≡ nat_lt (length f.buf - used_in (length f.buf) f.call (Got r.call x last ∷ rest ++ past)) least
+          now number =
+              let mine : (r.call == f.call) ≡ true = eq-eqb r.call f.call number in
+              let grown : used_in (length f.buf) f.call (Got r.call x last ∷ rest ++ past) ≡ used_in (length f.buf) f.call past + min x.head.total (length f.buf - used_in (length f.buf) f.call past) =
+              ap (λ (zs : List Event). used_in (length f.buf) f.call (zs ++ past)) (sym es_is) ∙ used (length f.buf) f.call
+              ∙ ap (λ (b : Bool). elim b [ true ↦ used_in (length f.buf) f.call past + min x.head.total (length f.buf - used_in (length f.buf) f.call past) | false ↦ used_in (length f.buf) f.call past ]) mine in
+              full r x last whose (flag r.call x last (subst (In (Got r.call x last)) (sym es_is) (inl refl))) number does
+              ∙ ap (λ (u : ℕ). nat_lt (length f.buf - u) least) (sym grown)
+
   pub next_places : Placing v (es ++ past) (rs ++ m) t
-  next_places = record { sized = sized_now; places = places_now }
+  next_places = record { sized = sized_now; places = places_now; closes = closes_now }

@@ -1,6 +1,7 @@
 -- Wrong traces, on which the laws of streams, claims, receives and buffers for many messages are false.
 use Rattle.std.proofs.Common.{◌≡◌, ℕ, zero, suc, Bool, true, false, List, [], ◌∷◌, ◌++◌, length, map, min, Option, Some, None, ◌⊎◌, inl, inr, refl, sym, ◌∙◌, ap, subst, arith, ◌+◌, ◌-◌}
-use Rattle.std.specs.Prelude.{◌==◌}
+use Rattle.std.specs.Prelude.{nat_lt, ◌==◌}
+use Rattle.std.proofs.lemmas.Bool.{le-ltb, lt-ltb}
 use Rattle.std.proofs.lemmas.Bool.{eq-eqb}
 use Rattle.fab_base.specs.declared.entries.ErrKind.TheVariants.{Canceled}
 use Rattle.fab_base.specs.declared.entries.Taken.{Taken}
@@ -14,7 +15,7 @@ use Rattle.fab_laws.specs.Claimed.{Claimed, Dropped, Handling, Took, aside_of}
 use Rattle.fab_laws.specs.ClaimLaws.{WentTo}
 use Rattle.fab_laws.specs.MessageLaws.{IsMessage}
 use Rattle.fab_laws.specs.ReceiveLaws.{Aside, Fate, Received, Waits, WasDiscarded, WasDropped, WasTaken}
-use Rattle.fab_laws.specs.Refused.{CancelledInstead, FreedTwice, GotTwice, LeftOver, LostInside, LeavesGap, NeverTold, OtherContext, OtherMessage, Overlaps, Repeated, SlipsAway, Swapped, Unarrived, Unclaimed, Vanishes}
+use Rattle.fab_laws.specs.Refused.{CancelledInstead, ClosesEarly, FreedTwice, GotTwice, LeftOver, LostInside, LeavesGap, NeverTold, OtherContext, OtherMessage, Overlaps, Repeated, SlipsAway, StaysOpen, Swapped, Unarrived, Unclaimed, Vanishes}
 use Rattle.fab_laws.specs.MultiLaws.{placed, used_in}
 use Rattle.fab_laws.proofs.matching.Watch.{entry_tells}
 
@@ -131,3 +132,17 @@ leaves_gap f least x k asked states p a i e none all law = elim (law f least x 0
   | inl comes ↦ absurd (let g : None ≡ Some comes.0.call = sym none ∙ ap goes_into comes.1 in cc (g))
   | inr told ↦ (let z = told.2 in absurd (omega (arith, all told.0 told.1 z.0 z.1, z.5)))
 ]
+
+pub stays_open : StaysOpen
+stays_open f least x asked i e short some law =
+    let n : ℕ = length f.buf in
+    let full : nat_lt (n - used_in n f.call (Got f.call x false ∷ [])) least ≡ true = lt-ltb (n - used_in n f.call (Got f.call x false ∷ [])) least (omega (arith, first_ends n f.call x false, short, some)) in
+    let open_yet : false ≡ nat_lt (n - used_in n f.call (Got f.call x false ∷ [])) least = law f least [] [] x false i e refl in
+    absurd (cc (full, open_yet))
+
+pub closes_early : ClosesEarly
+closes_early f least x asked i e room law =
+    let n : ℕ = length f.buf in
+    let free : nat_lt (n - used_in n f.call (Got f.call x true ∷ [])) least ≡ false = le-ltb (n - used_in n f.call (Got f.call x true ∷ [])) least (omega (arith, first_ends n f.call x true, room)) in
+    let closed : true ≡ nat_lt (n - used_in n f.call (Got f.call x true ∷ [])) least = law f least [] [] x true i e refl in
+    absurd (cc (free, closed))
