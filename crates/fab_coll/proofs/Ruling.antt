@@ -1,6 +1,6 @@
 -- What a round is refused for.
 use Rattle.std.proofs.Common.{Bool, List, None, Option, Some, [], ap, false, length, refl, true, ℕ, ◌++◌, ◌||◌, ◌∙◌, ◌∷◌, ◌≡◌}
-use Rattle.std.specs.Prelude.{Err, Ok, Result, is_none, nat_le, not, unwrap_or}
+use Rattle.std.specs.Prelude.{Err, Ok, Result, is_none, nat_le, unwrap_or}
 use Rattle.fab_base.specs.declared.script.BytesWord.{BytesWord}
 use Rattle.fab_base.specs.declared.status.Why.TheVariants as why
 use Rattle.fab_base.specs.declared.status.Why.{Why}
@@ -8,7 +8,7 @@ use Rattle.fab_words.specs.Words.{first_of}
 use Rattle.fab_words.specs.declared.misread.Misread.TheVariants.{Limit, Number, Words}
 use Rattle.fab_words.specs.declared.misread.Misread.{Misread}
 use Rattle.fab_grammar.specs.Rules.{why_from}
-use Rattle.fab_coll.specs.Grammar.{Before, Said, a_round, are_alike, are_much, round_rules, said_of, said_rules, with_round}
+use Rattle.fab_coll.specs.Grammar.{Before, Said, a_round, are_much, round_rules, said_of, said_rules, with_round}
 use Rattle.fab_coll.specs.declared.lines.Verb.{Verb}
 use Rattle.fab_fold.specs.declared.coll.Coll.{Coll}
 
@@ -32,31 +32,24 @@ module _ (before : Before) (verb : Verb) (args : List (List ℕ)) where
     pub fault_said : (fault : Misread) → said_of n verb args ≡ Err fault → first_of (round_rules before verb args) ≡ Some (why_from fault)
     fault_said fault is = ruled (Err fault) is ∙ of_fault fault
 
-    abbrev tests : Bool → Bool → Bool → Option Why
-    tests alike rootless limit = first_of ((not alike, why.Words) ∷ (rootless, why.Peer) ∷ (limit, why.Limit) ∷ [])
+    abbrev tests : Bool → Bool → Option Why
+    tests rootless limit = first_of ((rootless, why.Peer) ∷ (limit, why.Limit) ∷ [])
 
     module _ (coll : Option Coll) (shares : List BytesWord) (is : said_of n verb args ≡ Ok (coll, shares)) where
-      by_tests : (alike rootless limit : Bool) → are_alike shares ≡ alike → is_none coll ≡ rootless → (nat_le 100 (length before.rounds) || are_much n before.rounds shares) ≡ limit
-          → first_of (round_rules before verb args) ≡ tests alike rootless limit
-      by_tests alike rootless limit a r l =
+      by_tests : (rootless limit : Bool) → is_none coll ≡ rootless → (nat_le 100 (length before.rounds) || are_much n before.rounds shares) ≡ limit → first_of (round_rules before verb args) ≡ tests rootless limit
+      by_tests rootless limit r l =
           ruled (Ok (coll, shares)) is
-          ∙ ap (λ b. tests b (is_none coll) (nat_le 100 (length before.rounds) || are_much n before.rounds shares)) a
-          ∙ ap (λ b. tests alike b (nat_le 100 (length before.rounds) || are_much n before.rounds shares)) r
-          ∙ ap (λ b. tests alike rootless b) l
+          ∙ ap (λ b. tests b (nat_le 100 (length before.rounds) || are_much n before.rounds shares)) r
+          ∙ ap (λ b. tests rootless b) l
 
-      pub unlike : are_alike shares ≡ false → first_of (round_rules before verb args) ≡ Some why.Words
-      unlike a = by_tests false (is_none coll) (nat_le 100 (length before.rounds) || are_much n before.rounds shares) a refl refl
+      pub no_root : coll ≡ None → first_of (round_rules before verb args) ≡ Some why.Peer
+      no_root none = by_tests true (nat_le 100 (length before.rounds) || are_much n before.rounds shares) (ap is_none none) refl
 
-      pub no_root : are_alike shares ≡ true → coll ≡ None → first_of (round_rules before verb args) ≡ Some why.Peer
-      no_root a none = by_tests true true (nat_le 100 (length before.rounds) || are_much n before.rounds shares) a (ap is_none none) refl
+      pub too_much : (c : Coll) → coll ≡ Some c → (nat_le 100 (length before.rounds) || are_much n before.rounds shares) ≡ true → first_of (round_rules before verb args) ≡ Some why.Limit
+      too_much c some l = by_tests false true (ap is_none some) l
 
-      pub too_much : (c : Coll) → are_alike shares ≡ true → coll ≡ Some c → (nat_le 100 (length before.rounds) || are_much n before.rounds shares) ≡ true
-          → first_of (round_rules before verb args) ≡ Some why.Limit
-      too_much c a some l = by_tests true false true a (ap is_none some) l
-
-      pub no_rule : (c : Coll) → are_alike shares ≡ true → coll ≡ Some c → (nat_le 100 (length before.rounds) || are_much n before.rounds shares) ≡ false
-          → first_of (round_rules before verb args) ≡ None
-      no_rule c a some l = by_tests true false false a (ap is_none some) l
+      pub no_rule : (c : Coll) → coll ≡ Some c → (nat_le 100 (length before.rounds) || are_much n before.rounds shares) ≡ false → first_of (round_rules before verb args) ≡ None
+      no_rule c some l = by_tests false false (ap is_none some) l
 
       pub round_taken : (number : ℕ) (c : Coll) → coll ≡ Some c
           → with_round before number (said_of (unwrap_or before.peers 0) verb args) ≡ record before { rounds = before.rounds ++ a_round number c shares ∷ [] }

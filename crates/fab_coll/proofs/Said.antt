@@ -1,11 +1,12 @@
 -- What is said of a round: shares of the shape that its kind asks for, each with as many bytes as its word says.
 use Rattle.std.proofs.Common.{All, Bool, List, drop, None, Option, Some, [], ap, arith, false, length, length-append, refl, subst, suc, sym, true, zero, ℕ, ◌%◌, ◌++◌, ◌+◌, ◌/◌, ◌<◌, ◌∙◌, ◌∷◌, ◌≡◌, ◌≤◌}
 use Rattle.std.proofs.Math.Nat.{add-mod_right, zero-mod}
-use Rattle.std.proofs.lemmas.Bool.{eqb-true}
+use Rattle.std.proofs.lemmas.Bool.{and_parts, eqb-true}
 use Rattle.std.proofs.lemmas.List.Elements.{All-cons, All-head, All-nil, All-tail}
 use Rattle.std.proofs.lemmas.List.{length-replicate}
-use Rattle.std.specs.List.{slice_split}
-use Rattle.std.specs.Prelude.{Err, Ok, Result, if◌then◌else◌, ok_or, ◌==◌}
+use Rattle.std.specs.List.{cons_option, slice_split}
+use Rattle.std.specs.Prelude.{Err, Ok, Result, if◌then◌else◌, ok_or, ◌&&◌, ◌==◌}
+use Rattle.std.specs.Result.{result_ok}
 use Rattle.fab_base.specs.Elements.{element_size}
 use Rattle.fab_base.specs.declared.items.AtomicOp.{AtomicOp}
 use Rattle.fab_base.specs.declared.items.Num.{Num}
@@ -30,7 +31,7 @@ use Rattle.fab_coll.specs.declared.lines.Verb.{Verb}
 use Rattle.fab_coll.specs.declared.lines.Verb.TheVariants as verb
 use Rattle.fab_coll.specs.declared.shares.Written.{Written}
 use Rattle.fab_coll.specs.declared.shares.Written.TheVariants.{Bytes, Elements}
-use Rattle.fab_coll.specs.Grammar.{Said, a_broadcast, allreduce_of, barrier_of, broadcast_of, doing, of_hex, one_more, read_all, read_as, read_each, read_op, read_share, reduce_of, said_of}
+use Rattle.fab_coll.specs.Grammar.{Said, a_broadcast, allreduce_of, are_alike, barrier_of, broadcast_of, doing, of_hex, one_more, read_all, read_as, read_each, read_op, read_share, readable, reduce_of, said_of}
 use Rattle.fab_coll.specs.Reading.{IsSized}
 
 -- ---- answers taken apart
@@ -51,21 +52,25 @@ abbrev pub Whole : Num → BytesWord → Type 0
 Whole num w = length (word_bytes w) % element_size num ≡ 0
 
 all_read : (P : BytesWord → Type 0) (written : Written) (each : (w : List ℕ) (b : BytesWord) → read_as written w ≡ Ok b → P b) (words : List (List ℕ)) (ws : List BytesWord)
-    → read_all written words ≡ Ok ws → (length ws ≡ length words) × All P ws
-all_read P written each [] ws e = let same : [] ≡ ws = cc in (ap length (sym same), subst (All P) same (All-nil P))
+    → read_all written words ≡ Ok ws → (length ws ≡ length words) × (readable written words ≡ ws) × All P ws
+all_read P written each [] ws e = let same : [] ≡ ws = cc in (ap length (sym same), same, subst (All P) same (All-nil P))
 all_read P written each (word ∷ words) ws e =
     let m = ok_map one_more (read_as written word & read_all written words) ws e in
     let b = ok_both (read_as written word) (read_all written words) m.0 m.1 in
     let rest = all_read P written each words m.0.1 b.1 in
     let same : m.0.0 ∷ m.0.1 ≡ ws = m.2 in
-    (ap length (sym same) ∙ ap suc rest.0, subst (All P) same (All-cons P m.0.0 m.0.1 (each word m.0.0 b.0) rest.1))
+    let kept : readable written (word ∷ words) ≡ m.0.0 ∷ m.0.1 = ap (λ (r : Result BytesWord Misread). cons_option (result_ok r) (readable written words)) b.0 ∙ ap (λ (xs : List BytesWord). m.0.0 ∷ xs) rest.1 in
+    (ap length (sym same) ∙ ap suc rest.0, kept ∙ same, subst (All P) same (All-cons P m.0.0 m.0.1 (each word m.0.0 b.0) rest.2))
 
 each_read : (P : BytesWord → Type 0) (n : ℕ) (written : Written) (each : (w : List ℕ) (b : BytesWord) → read_as written w ≡ Ok b → P b) (words : List (List ℕ)) (ws : List BytesWord)
-    → read_each n written words ≡ Ok ws → (length ws ≡ n) × All P ws
-each_read P n written each words ws e = go (length words == n) refl e
+    → read_each n written words ≡ Ok ws → (length ws ≡ n) × (are_alike ws ≡ true) × All P ws
+each_read P n written each words ws e = go (length words == n && are_alike (readable written words)) refl e
   where
-    go : (b : Bool) → (length words == n) ≡ b → (if b then read_all written words else Err Words) ≡ Ok ws → (length ws ≡ n) × All P ws
-    go true t f = let all = all_read P written each words ws f in (all.0 ∙ eqb-true (length words) n t, all.1)
+    go : (b : Bool) → (length words == n && are_alike (readable written words)) ≡ b → (if b then read_all written words else Err Words) ≡ Ok ws → (length ws ≡ n) × (are_alike ws ≡ true) × All P ws
+    go true t f =
+        let all = all_read P written each words ws f in
+        let tests = and_parts (length words == n) (are_alike (readable written words)) t in
+        (all.0 ∙ eqb-true (length words) n tests.0, ap are_alike (sym all.1) ∙ tests.1, all.2)
     go false t f = absurd (cc (f))
 
 hex_sized : (r : Result (List ℕ) FromHexError) (b : BytesWord) → of_hex r ≡ Ok b → IsSized b
@@ -123,8 +128,8 @@ values_whole num word b e =
 abbrev pub Shape : ℕ → Coll → List BytesWord → Type 0
 Shape n Barrier ws = ws ≡ []
 Shape n (Broadcast root) ws = (root < n) × (length ws ≡ 1)
-Shape n Allgather ws = length ws ≡ n
-Shape n (Allreduce op num) ws = (length ws ≡ n) × (is_reducing op ≡ true) × All (Whole num) ws
+Shape n Allgather ws = (length ws ≡ n) × (are_alike ws ≡ true)
+Shape n (Allreduce op num) ws = (length ws ≡ n) × (is_reducing op ≡ true) × (are_alike ws ≡ true) × All (Whole num) ws
 
 -- shares of a round of so many ranks, where its root is a rank
 abbrev pub Right : ℕ → Said → Type 0
@@ -156,8 +161,8 @@ reduce_right n words (Err fault) s reduces e = absurd (cc)
 reduce_right n words (Ok kind) s reduces e =
     let m = ok_map (doing (Allreduce kind.0 kind.1)) (read_each n (Elements kind.1) words) s e in
     let each = each_read (λ w. IsSized w × Whole kind.1 w) n (Elements kind.1) (values_whole kind.1) words m.0 m.1 in
-    let parts = all_first kind.1 m.0 each.1 in
-    subst (Right n) m.2 (shaped n (Allreduce kind.0 kind.1) m.0 (each.0, reduces kind refl, parts.1), parts.0, λ some. omega (arith, each.0))
+    let parts = all_first kind.1 m.0 each.2 in
+    subst (Right n) m.2 (shaped n (Allreduce kind.0 kind.1) m.0 (each.0, reduces kind refl, each.1, parts.1), parts.0, λ some. omega (arith, each.0))
 
 reduces_right : (n : ℕ) (args : List (List ℕ)) (s : Said) → allreduce_of n args ≡ Ok s → Right n s
 reduces_right n [] s e = absurd (cc)
@@ -191,5 +196,5 @@ said_right n verb.Broadcast args s e = broadcast_right n args s e
 said_right n verb.Allgather args s e =
     let m = ok_map (doing Allgather) (read_each n Bytes args) s e in
     let each = each_read IsSized n Bytes share_sized args m.0 m.1 in
-    subst (Right n) m.2 (shaped n Allgather m.0 each.0, each.1, λ some. omega (arith, each.0))
+    subst (Right n) m.2 (shaped n Allgather m.0 (each.0, each.1), each.2, λ some. omega (arith, each.0))
 said_right n verb.Allreduce args s e = reduces_right n args s e

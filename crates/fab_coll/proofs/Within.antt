@@ -84,12 +84,12 @@ root_short (w ∷ ws) one sized short = omega (arith, All-head IsSized w ws size
 above : (a b : ℕ) → nat_le a b ≡ false → b < a
 above a b e = grind (arith, nat_tests, e)
 
-shares_so : (n : ℕ) (coll : Coll) (ws : List BytesWord) → Shape n coll ws → All IsSized ws → are_alike ws ≡ true → list_all (λ share. nat_le (bytes_size share) 4096) ws ≡ true
+shares_so : (n : ℕ) (coll : Coll) (ws : List BytesWord) → Shape n coll ws → All IsSized ws → list_all (λ share. nat_le (bytes_size share) 4096) ws ≡ true
     → AreShares n coll (map word_bytes ws)
-shares_so n Barrier ws shape sized alike short = ap (map word_bytes) shape
-shares_so n (Broadcast r) ws shape sized alike short = (shape.0, length-map ws word_bytes ∙ shape.1, root_short ws shape.1 sized short)
-shares_so n Allgather ws shape sized alike short = (length-map ws word_bytes ∙ shape, alike_is ws sized alike short)
-shares_so n (Allreduce op num) ws shape sized alike short = (length-map ws word_bytes ∙ shape.0, shape.1, alike_whole num ws sized shape.2 alike short)
+shares_so n Barrier ws shape sized short = ap (map word_bytes) shape
+shares_so n (Broadcast r) ws shape sized short = (shape.0, length-map ws word_bytes ∙ shape.1, root_short ws shape.1 sized short)
+shares_so n Allgather ws shape sized short = (length-map ws word_bytes ∙ shape.0, alike_is ws sized shape.1 short)
+shares_so n (Allreduce op num) ws shape sized short = (length-map ws word_bytes ∙ shape.0, shape.1, alike_whole num ws sized shape.3 shape.2 short)
 
 -- ---- line by line
 
@@ -129,13 +129,13 @@ peers_step before args good e = go (peers_of args) parts.3
     go (Err fault) f = good
 
 one_round : (o : Option ℕ) (rounds : List Round) (number : ℕ) (verb : Verb) (args : List (List ℕ)) (coll : Coll) (ws : List BytesWord) → GoodFor o rounds → is_none o ≡ false
-    → said_of (unwrap_or o 0) verb args ≡ Ok (Some coll, ws) → not (are_alike ws) ≡ false → nat_le 100 (length rounds) ≡ false
+    → said_of (unwrap_or o 0) verb args ≡ Ok (Some coll, ws) → nat_le 100 (length rounds) ≡ false
     → are_much (unwrap_or o 0) rounds ws ≡ false → GoodFor o (rounds ++ a_round number coll ws ∷ [])
-one_round None rounds number verb args coll ws good some is alike few much = absurd (cc)
-one_round (Some n) rounds number verb args coll ws good some is alike few much =
+one_round None rounds number verb args coll ws good some is few much = absurd (cc)
+one_round (Some n) rounds number verb args coll ws good some is few much =
     let right = said_right n verb args (Some coll, ws) is in
     let short = not_false (are_short ws) (or_none _ _ much).0 in
-    let sound : IsRound n (a_round number coll ws) = shares_so n coll ws (right.0 coll refl) right.1 (not_false (are_alike ws) alike) short in (
+    let sound : IsRound n (a_round number coll ws) = shares_so n coll ws (right.0 coll refl) right.1 short in (
       good.0,
       good.1,
       omega (arith, above 100 (length rounds) few, length-append rounds (a_round number coll ws ∷ [])),
@@ -151,9 +151,9 @@ round_step before number verb args good e = go (said_of (unwrap_or before.peers 
     go (Err fault) is f = good
     go (Ok (None, ws)) is f = good
     go (Ok (Some coll, ws)) is f =
-        let t = five_none (is_none before.peers) (not (are_alike ws)) false false (nat_le 100 (length before.rounds) || are_much (unwrap_or before.peers 0) before.rounds ws) why.Order why.Words why.Number why.Peer why.Limit f in
+        let t = five_none (is_none before.peers) false false false (nat_le 100 (length before.rounds) || are_much (unwrap_or before.peers 0) before.rounds ws) why.Order why.Words why.Number why.Peer why.Limit f in
         let limits = or_none (nat_le 100 (length before.rounds)) (are_much (unwrap_or before.peers 0) before.rounds ws) t.4 in
-        one_round before.peers before.rounds number verb args coll ws good t.0 is t.1 limits.0 limits.1
+        one_round before.peers before.rounds number verb args coll ws good t.0 is limits.0 limits.1
 
 verb_step : (before : Before) (number : ℕ) (o : Option Verb) (args : List (List ℕ)) → Good before → first_of (verb_rules before o args) ≡ None → Good (with_verb before number o args)
 verb_step before number None args good e = good

@@ -8,7 +8,7 @@ ghost use Rattle.fab_coll.specs.Grammar.{a_round, are_much, are_short, bytes_bef
 
 use crate::lines::{Verb, is_header, read_peers, read_round, why_from};
 use crate::round::Round;
-use crate::shares::{all_bytes, are_alike, are_short, size_of};
+use crate::shares::{all_bytes, are_short, size_of};
 use fab_base::{BytesWord, List, NoMemory, SCRIPT_BYTES_ONE, Why};
 use fab_fold::Coll;
 use fab_words::{Words, all_text};
@@ -140,9 +140,6 @@ impl Reader {
             Ok(said) => said,
             Err(fault) => return Ok(Some(why_from(fault))),
         };
-        if !are_alike(shares.as_slice()) {
-            return Ok(Some(Why::Words));
-        }
         let Some(coll) = coll else {
             return Ok(Some(Why::Peer));
         };

@@ -1,11 +1,10 @@
 //! The shares of a round, as a file names them.
-ghost use Rattle.std.specs.Prelude.{◌≡◌, ◌≤◌, ◌++◌, [], ◌∷◌, length, map, sum_by, true, IfOk};
+ghost use Rattle.std.specs.Prelude.{◌≡◌, ◌≤◌, ◌++◌, [], ◌∷◌, length, map, sum_by, true, Err, IfOk};
 ghost use Rattle.hex.specs.Hex.{decode_of};
 ghost use Rattle.fab_model.specs.Calls.{word_bytes};
 ghost use Rattle.fab_words.specs.Bytes.{bytes_size};
-ghost use Rattle.fab_words.specs.Misreads.{map_ok, ◌&◌};
 ghost use Rattle.fab_coll.specs.Grammar.{are_alike, are_short, first_size, of_hex, read_as, read_each, read_share};
-ghost use Rattle.fab_coll.specs.Reading.{one_behind};
+ghost use Rattle.fab_coll.specs.Reading.{with_fault, with_share};
 
 use fab_base::{Buf, BytesWord, List, NoMemory, Num};
 use fab_fold::MOST_SHARE;
@@ -60,23 +59,36 @@ fn read_as(alloc: Global, written: Written, word: &[u8]) -> Result<Read<BytesWor
     }
 }
 
-/// These shares and one more.
-fn with_one(
-    shares: Read<List<BytesWord>>,
-    share: Read<BytesWord>,
-) -> Result<Read<List<BytesWord>>, NoMemory>
-    ensures { IfOk result (λ read. read ≡ map_ok one_behind (shares & share)) }
+/// The fault that goes first.
+fn first_fault(wrong: Option<Misread>, fault: Misread) -> Option<Misread>
+    ensures { result ≡ with_fault wrong (Err fault) }
 {
-    match both(shares, share) {
-        Ok((mut shares, share)) => {
+    let before = match wrong {
+        Some(first) => Err(first),
+        None => Ok(()),
+    };
+    both(before, Err::<(), Misread>(fault)).err()
+}
+
+/// Adds a share to these, where a word says one, and tells what is wrong so far.
+fn add_share(
+    shares: &mut List<BytesWord>,
+    wrong: Option<Misread>,
+    said: Read<BytesWord>,
+) -> Result<Option<Misread>, NoMemory>
+    ensures shares { IfOk result (λ _. shares.new ≡ with_share shares.old said) }
+    ensures wrong { IfOk result (λ now. now ≡ with_fault wrong said) }
+{
+    match said {
+        Ok(share) => {
             shares.push(share)?;
-            Ok(Ok(shares))
+            Ok(wrong)
         }
-        Err(fault) => Ok(Err(fault)),
+        Err(fault) => Ok(first_fault(wrong, fault)),
     }
 }
 
-/// One share for each rank.
+/// One share for each rank. Those that can be read are of one length, whatever is wrong with others.
 pub(crate) fn read_each(
     alloc: Global,
     peers: u32,
@@ -85,18 +97,21 @@ pub(crate) fn read_each(
 ) -> Result<Read<List<BytesWord>>, NoMemory>
     ensures { IfOk result (λ read. read ≡ read_each peers written words.old) }
 {
-    let mut shares = Ok(List::empty(alloc));
+    let mut shares = List::empty(alloc);
+    let mut wrong = None;
     for _ in 0..peers {
         let Some(word) = words.next() else {
             return Ok(Err(Misread::Words));
         };
-        let share = read_as(alloc, written, word)?;
-        shares = with_one(shares, share)?;
+        let said = read_as(alloc, written, word)?;
+        wrong = add_share(&mut shares, wrong, said)?;
     }
-    if words.is_empty() {
-        Ok(shares)
-    } else {
-        Ok(Err(Misread::Words))
+    if !words.is_empty() || !are_alike(shares.as_slice()) {
+        return Ok(Err(Misread::Words));
+    }
+    match wrong {
+        None => Ok(Ok(shares)),
+        Some(fault) => Ok(Err(fault)),
     }
 }
 
@@ -110,7 +125,7 @@ fn first_size(shares: &[BytesWord]) -> u64
 }
 
 /// Whether all are as long as the first.
-pub(crate) fn are_alike(shares: &[BytesWord]) -> bool
+fn are_alike(shares: &[BytesWord]) -> bool
     ensures { result ≡ are_alike shares.now }
 {
     let size = first_size(shares);

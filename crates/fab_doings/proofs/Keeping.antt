@@ -1,5 +1,6 @@
 -- What a thread adds to its record at each call, from the call's contract.
 use Rattle.std.proofs.Common.{◌≡◌, ℕ, List, [], ◌∷◌, ◌++◌, map, fold, Option, Some, None, refl, sym, ap, ◌∙◌, subst, append_assoc, append-nil}
+use Rattle.std.specs.List.{flat_map}
 use Rattle.fab_base.specs.declared.entries.Taken.{Taken}
 use Rattle.fab_base.specs.declared.entries.Class.{Class}
 use Rattle.fab_base.specs.declared.peers.LineResult.{LineResult}
@@ -12,10 +13,10 @@ use Rattle.fab_face.specs.Acts as acts
 use Rattle.fab_face.specs.Acts.{headed, is_first, only, Act, Goes, GoesBy, MovedBy, Went}
 use Rattle.fab_wire.specs.Joined.{is_last}
 use Rattle.fab_face.specs.Answers.{Inserts, Locally, Pops, adding}
-use Rattle.fab_doings.specs.Doings.{Did, Doing, DoesBy, Had, Living, Own, Calls, Posted, Took, Writes, after_own, doing_of, doings_by, posted_by, posted_to, taken_by, taken_of, ways_of}
+use Rattle.fab_doings.specs.Doings.{Did, Does, Doing, DoesBy, Had, Living, Own, Calls, Posted, Took, Writes, act_of, acts_of, after_own, doing_of, doings_by}
 use Rattle.fab_doings.specs.Law.{Adds, Kept, Past, past_in}
-use Rattle.fab_doings.proofs.Lists.{lives_append, posted-append, taken-append, ways-append}
 use Rattle.fab_merging.proofs.Composing.{moved_same, moved_then}
+use Rattle.fab_merging.proofs.Lists.{posted_then, taken_then, trail_then, ways_then}
 
 abbrev living : Held → List State → Living
 living h past = record { held = h; past = past }
@@ -51,45 +52,19 @@ all_do call (x ∷ xs) h t past (mid, one, rest) =
     let done : DoesBy (living mid (past ++ mine)) (doings_by call xs) (living t (past ++ (mine ++ more.0))) = subst (λ us. DoesBy (living mid (past ++ mine)) (doings_by call xs) (living t us)) (append_assoc past mine more.0) more.1 in
     (mine ++ more.0, one_does call h mid x (doings_by call xs) past (living t (past ++ (mine ++ more.0))) one done)
 
--- the doings move what the acts do
-same_ways : (call : Option Call) (xs : List Act) → ways_of (doings_by call xs) ≡ acts.ways_of xs
-same_ways call [] = refl
-same_ways None (acts.Did ∷ xs) = same_ways None xs
-same_ways (Some c) (acts.Did ∷ xs) = same_ways (Some c) xs
-same_ways None (acts.Took s f ∷ xs) = ap (λ ws. acts.From s ∷ ws) (same_ways None xs)
-same_ways (Some c) (acts.Took s f ∷ xs) = ap (λ ws. acts.From s ∷ ws) (same_ways (Some c) xs)
-same_ways None (acts.Posted d f ∷ xs) = ap (λ ws. acts.To d ∷ ws) (same_ways None xs)
-same_ways (Some c) (acts.Posted d f ∷ xs) = ap (λ ws. acts.To d ∷ ws) (same_ways (Some c) xs)
-same_ways None (acts.Drew ∷ xs) = same_ways None xs
-same_ways (Some c) (acts.Drew ∷ xs) = same_ways (Some c) xs
-same_ways None (acts.Had ∷ xs) = same_ways None xs
-same_ways (Some c) (acts.Had ∷ xs) = same_ways (Some c) xs
-
-same_posts : (call : Option Call) (d : ℕ) (xs : List Act) → posted_to d (doings_by call xs) ≡ acts.posted_to d xs
-same_posts call d [] = refl
-same_posts None d (acts.Did ∷ xs) = same_posts None d xs
-same_posts (Some c) d (acts.Did ∷ xs) = same_posts (Some c) d xs
-same_posts None d (acts.Took s f ∷ xs) = same_posts None d xs
-same_posts (Some c) d (acts.Took s f ∷ xs) = same_posts (Some c) d xs
-same_posts None d (acts.Posted e f ∷ xs) = ap (λ fs. posted_by d (Posted e f) ++ fs) (same_posts None d xs)
-same_posts (Some c) d (acts.Posted e f ∷ xs) = ap (λ fs. posted_by d (Posted e f) ++ fs) (same_posts (Some c) d xs)
-same_posts None d (acts.Drew ∷ xs) = same_posts None d xs
-same_posts (Some c) d (acts.Drew ∷ xs) = same_posts (Some c) d xs
-same_posts None d (acts.Had ∷ xs) = same_posts None d xs
-same_posts (Some c) d (acts.Had ∷ xs) = same_posts (Some c) d xs
-
-same_takes : (call : Option Call) (s : ℕ) (xs : List Act) → taken_of s (doings_by call xs) ≡ acts.taken_of s xs
-same_takes call s [] = refl
-same_takes None s (acts.Did ∷ xs) = same_takes None s xs
-same_takes (Some c) s (acts.Did ∷ xs) = same_takes (Some c) s xs
-same_takes None s (acts.Took e f ∷ xs) = ap (λ fs. taken_by s (Took e f) ++ fs) (same_takes None s xs)
-same_takes (Some c) s (acts.Took e f ∷ xs) = ap (λ fs. taken_by s (Took e f) ++ fs) (same_takes (Some c) s xs)
-same_takes None s (acts.Posted d f ∷ xs) = same_takes None s xs
-same_takes (Some c) s (acts.Posted d f ∷ xs) = same_takes (Some c) s xs
-same_takes None s (acts.Drew ∷ xs) = same_takes None s xs
-same_takes (Some c) s (acts.Drew ∷ xs) = same_takes (Some c) s xs
-same_takes None s (acts.Had ∷ xs) = same_takes None s xs
-same_takes (Some c) s (acts.Had ∷ xs) = same_takes (Some c) s xs
+-- the doings move what the acts do: whatever is told of acts, and nothing of a call
+same_by : {X : Type 0} (f : Act → List X) → f acts.Did ≡ [] → (call : Option Call) (xs : List Act) → flat_map f (acts_of (doings_by call xs)) ≡ flat_map f xs
+same_by f none call [] = refl
+same_by f none None (acts.Did ∷ xs) = same_by f none None xs ∙ ap (λ ys. ys ++ flat_map f xs) (sym none)
+same_by f none (Some c) (acts.Did ∷ xs) = ap (λ ys. f acts.Did ++ ys) (same_by f none (Some c) xs)
+same_by f none None (acts.Took e g ∷ xs) = ap (λ ys. f (acts.Took e g) ++ ys) (same_by f none None xs)
+same_by f none (Some c) (acts.Took e g ∷ xs) = ap (λ ys. f (acts.Took e g) ++ ys) (same_by f none (Some c) xs)
+same_by f none None (acts.Posted e g ∷ xs) = ap (λ ys. f (acts.Posted e g) ++ ys) (same_by f none None xs)
+same_by f none (Some c) (acts.Posted e g ∷ xs) = ap (λ ys. f (acts.Posted e g) ++ ys) (same_by f none (Some c) xs)
+same_by f none None (acts.Drew ∷ xs) = ap (λ ys. f acts.Drew ++ ys) (same_by f none None xs)
+same_by f none (Some c) (acts.Drew ∷ xs) = ap (λ ys. f acts.Drew ++ ys) (same_by f none (Some c) xs)
+same_by f none None (acts.Had ∷ xs) = ap (λ ys. f acts.Had ++ ys) (same_by f none None xs)
+same_by f none (Some c) (acts.Had ∷ xs) = ap (λ ys. f acts.Had ++ ys) (same_by f none (Some c) xs)
 
 -- ---- names, inserted one by one
 
@@ -110,20 +85,10 @@ all_insert (name ∷ names) done h past =
       ),
     )
 
-no_ways : (names : List (List ℕ)) → ways_of (inserts names) ≡ []
+none_by : {X : Type 0} (f : Act → List X) → f acts.Did ≡ [] → (names : List (List ℕ)) → flat_map f (acts_of (inserts names)) ≡ []
 unfolding inserts
-no_ways [] = refl
-no_ways (name ∷ names) = no_ways names
-
-no_posts : (names : List (List ℕ)) (d : ℕ) → posted_to d (inserts names) ≡ []
-unfolding inserts
-no_posts [] d = refl
-no_posts (name ∷ names) d = no_posts names d
-
-no_takes : (names : List (List ℕ)) (s : ℕ) → taken_of s (inserts names) ≡ []
-unfolding inserts
-no_takes [] s = refl
-no_takes (name ∷ names) s = no_takes names s
+none_by f none [] = refl
+none_by f none (name ∷ names) = ap (λ ys. ys ++ flat_map f (acts_of (inserts names))) none ∙ none_by f none names
 
 -- ---- one call
 
@@ -136,14 +101,14 @@ module _ {Home : Type 0} (old new : Seen Home) where
         record {
           lives = all.1;
           doings = refl;
-          moves = subst (λ ws. MovedBy old.lanes.moves new.lanes.moves ws) (sym (same_ways call xs)) went.ported.moves;
-          outs = λ d. went.ported.posted d ∙ ap (λ fs. (old.lanes.outs d).frames ++ fs) (sym (same_posts call d xs));
-          ins = λ s. went.ported.taken s ∙ ap (λ fs. (old.lanes.ins s).taken ++ fs) (sym (same_takes call s xs));
+          moves = subst (λ ws. MovedBy old.lanes.moves new.lanes.moves ws) (sym (same_by acts.ways_by refl call xs)) went.ported.moves;
+          outs = λ d. went.ported.posted d ∙ ap (λ fs. (old.lanes.outs d).frames ++ fs) (sym (same_by (acts.posted_by d) refl call xs));
+          ins = λ s. went.ported.taken s ∙ ap (λ fs. (old.lanes.ins s).taken ++ fs) (sym (same_by (acts.taken_by s) refl call xs));
         },
       )
 
   -- what leaves the lanes
-  stays : (xs : List Doing) → new.lanes ≡ old.lanes → ((past : List State) → (states : List State) × DoesBy (living old.held past) xs (living new.held (past ++ states))) → ways_of xs ≡ [] → ((d : ℕ) → posted_to d xs ≡ []) → ((s : ℕ) → taken_of s xs ≡ []) → Adds old new xs
+  stays : (xs : List Doing) → new.lanes ≡ old.lanes → ((past : List State) → (states : List State) × DoesBy (living old.held past) xs (living new.held (past ++ states))) → acts.ways_of (acts_of xs) ≡ [] → ((d : ℕ) → acts.posted_to d (acts_of xs) ≡ []) → ((s : ℕ) → acts.taken_of s (acts_of xs) ≡ []) → Adds old new xs
   stays xs lanes lives none posts takes kept past =
       let all = lives past in (
         all.0,
@@ -181,7 +146,7 @@ module _ {Home : Type 0} (old new : Seen Home) where
   inserts_add names report ins =
       let is : with_machine (inserting old.held.state names).1 old.held ≡ new.held =
       ap (λ (r : List LineResult × State). with_machine r.1 old.held) ins.answers ∙ ap (λ (e : Seen Home). e.held) (sym ins.changed) in
-      stays (inserts names) (ap (λ (e : Seen Home). e.lanes) ins.changed) (λ past. (let all = all_insert names [] old.held past in (all.0, subst (λ h. DoesBy (living old.held past) (inserts names) (living h (past ++ all.0))) is all.1))) (no_ways names) (no_posts names) (no_takes names)
+      stays (inserts names) (ap (λ (e : Seen Home). e.lanes) ins.changed) (λ past. (let all = all_insert names [] old.held past in (all.0, subst (λ h. DoesBy (living old.held past) (inserts names) (living h (past ++ all.0))) is all.1))) (none_by acts.ways_by refl names) (λ d. none_by (acts.posted_by d) refl names) (λ s. none_by (acts.taken_by s) refl names)
 
   -- nothing changed but the log
   pub log_adds : new.held ≡ old.held → new.lanes ≡ old.lanes → Adds old new []
@@ -193,11 +158,11 @@ pub kept_then : (x y z : Past) → Kept x y → Kept y z → Kept x z
 kept_then x y z (xs, f) (ys, g) = (
   xs ++ ys,
   record {
-    lives = lives_append x.living y.living z.living xs ys f.lives g.lives;
-    doings = g.doings ∙ ap (λ l. l ++ ys) f.doings ∙ append_assoc x.doings xs ys;
-    moves = subst (λ ws. MovedBy x.moves z.moves ws) (sym (ways-append xs ys)) (moved_then x.moves y.moves z.moves (ways_of xs) (ways_of ys) f.moves g.moves);
-    outs = λ d. g.outs d ∙ ap (λ l. l ++ posted_to d ys) (f.outs d) ∙ append_assoc (x.outs d) (posted_to d xs) (posted_to d ys) ∙ ap (λ l. x.outs d ++ l) (sym (posted-append d xs ys));
-    ins = λ s. g.ins s ∙ ap (λ l. l ++ taken_of s ys) (f.ins s) ∙ append_assoc (x.ins s) (taken_of s xs) (taken_of s ys) ∙ ap (λ l. x.ins s ++ l) (sym (taken-append s xs ys));
+    lives = trail_then Does x.living y.living z.living xs ys f.lives g.lives;
+    doings = g.doings ∙ ap (λ l. l ++ ys) f.doings ∙ append_assoc x.steps xs ys;
+    moves = subst (λ ws. MovedBy x.moves z.moves ws) (sym (ways_then act_of xs ys)) (moved_then x.moves y.moves z.moves (acts.ways_of (acts_of xs)) (acts.ways_of (acts_of ys)) f.moves g.moves);
+    outs = λ d. g.outs d ∙ ap (λ l. l ++ acts.posted_to d (acts_of ys)) (f.outs d) ∙ append_assoc (x.outs d) (acts.posted_to d (acts_of xs)) (acts.posted_to d (acts_of ys)) ∙ ap (λ l. x.outs d ++ l) (sym (posted_then act_of d xs ys));
+    ins = λ s. g.ins s ∙ ap (λ l. l ++ acts.taken_of s (acts_of ys)) (f.ins s) ∙ append_assoc (x.ins s) (acts.taken_of s (acts_of xs)) (acts.taken_of s (acts_of ys)) ∙ ap (λ l. x.ins s ++ l) (sym (taken_then act_of s xs ys));
   },
 )
 

@@ -19,7 +19,9 @@ use Rattle.fab_laws.proofs.replies.Stray.{answered_once, no_stray}
 use Rattle.fab_laws.proofs.replies.Waiting.{all_wait_at_match}
 use Rattle.fab_laws.proofs.streams.Taken.{taken_is_first}
 use Rattle.fab_laws.proofs.streams.Posted.{taken_is_posted}
+use Rattle.fab_laws.proofs.streams.Arrived.{all_is_taken, arrived_is_first, arrived_is_posted, whole_has_arrived}
 use Rattle.fab_laws.proofs.streams.Entries.{entries_tell, receives_tell}
+use Rattle.fab_laws.proofs.receiving.Holding.{closes_in_time, freed_rightly, goes_once, got_is_told, lost_is_put_away, none_is_lost, one_tells, places_follow, stays_claimed, takes_tell, took_is_told}
 use Rattle.fab_doings.specs.Doings.{Living, deeds_of, peer_in}
 use Rattle.fab_doings.specs.Law.{IsOwn, Obeys, Past, ProgramObeys, peers, plains, programs}
 use Rattle.fab_doings.proofs.Reaching.{program_reaches}
@@ -47,15 +49,31 @@ all_obey from turns states leads p a here =
       of_posted = taken_is_posted from turns states leads p a here;
       entries = entries_tell from turns states leads p a here;
       receives = receives_tell from turns states leads p a here;
+      arrived = arrived_is_first from turns states leads p a here;
+      arrived_posted = arrived_is_posted from turns states leads p a here;
+      behind = whole_has_arrived from turns states leads p a here;
+      takes_all = all_is_taken from turns states leads p a here;
+      freed = (freed_rightly from turns states leads p a here).0;
+      slips = (freed_rightly from turns states leads p a here).1;
+      aside = stays_claimed from turns states leads p a here;
+      lost = lost_is_put_away from turns states leads p a here;
+      own = takes_tell from turns states leads p a here;
+      told = got_is_told from turns states leads p a here;
+      took = took_is_told from turns states leads p a here;
+      only = one_tells from turns states leads p a here;
+      leaves = goes_once from turns states leads p a here;
+      places = places_follow from turns states leads p a here;
+      closes = closes_in_time from turns states leads p a here;
+      fates = none_is_lost from turns states leads p a here;
     }
 
 peers_plain : (opening : List Living) → map plain (map peer_in opening) ≡ map (λ (o : Living). peer o.held.state) opening
 peers_plain [] = refl
 peers_plain (o ∷ opening) = ap (λ ps. peer o.held.state ∷ ps) (peers_plain opening)
 
-doings_at : (pasts : List Past) (p : ℕ) (x : Past) → slice_get pasts p ≡ Some x → slice_index_or (programs pasts) p [] ≡ deeds_of x.doings
+doings_at : (pasts : List Past) (p : ℕ) (x : Past) → slice_get pasts p ≡ Some x → slice_index_or (programs pasts) p [] ≡ deeds_of x.steps
 doings_at [] p x e = absurd (cc)
-doings_at (y ∷ pasts) zero x e = let same : y ≡ x = cc in ap (λ (z : Past). deeds_of z.doings) same
+doings_at (y ∷ pasts) zero x e = let same : y ≡ x = cc in ap (λ (z : Past). deeds_of z.steps) same
 doings_at (y ∷ pasts) (suc p) x e = doings_at pasts p x e
 
 -- lists that follow the same one to the same one
@@ -88,7 +106,7 @@ program_obeys from opening pasts starts told = record { turns = turns; deeds = r
     own p o x at there =
         let accepted = accepted_own turns (map peer_in opening) (peers pasts) p (peer_in o) (peer_in x.living) run.1 (before p o at) (now p x there) in
         let asked = asked_own turns (map peer_in opening) (peers pasts) p (peer_in o) (peer_in x.living) run.1 (before p o at) (now p x there) in
-        let mine : steps_of p turns ≡ deeds_of x.doings = sym (run.2 p) ∙ doings_at pasts p x there in
+        let mine : steps_of p turns ≡ deeds_of x.steps = sym (run.2 p) ∙ doings_at pasts p x there in
         let one : asked.0 ≡ accepted.0 = same_more o.past asked.0 accepted.0 (sym asked.1 ∙ accepted.1) in
         record {
           grew = accepted.0;

@@ -1,48 +1,11 @@
 -- The premises of the law, where they come from.
-use Rattle.std.proofs.Common.{◌≡◌, ◌≤◌, inl, inr, ℕ, zero, suc, true, List, [], ◌∷◌, length, map, replicate, slice_get, Option, Some, None, refl, arith}
-use Rattle.std.specs.Prelude.{All, slice_index_or}
-use Rattle.std.proofs.lemmas.Bool.{cases_lt}
-use mathlib.Core.List.{IsPrefix}
-use Rattle.fab_base.specs.declared.items.Item.{Item}
+use Rattle.std.proofs.Common.{List, [], Option, None, replicate}
 use Rattle.fab_base.specs.declared.script.Conf.{Conf}
-use Rattle.fab_wire.specs.Merged.{IsStamped, posts_to, takes_of, merges}
-use Rattle.fab_wire.proofs.Merging.{stamped_merge}
 use Rattle.fab_laws.specs.Programs.{starting}
-use Rattle.fab_doings.specs.Law.{Past}
 use Rattle.fab_merging.specs.Law.{IsFresh}
-use Rattle.fab_doings.specs.Law.{told_moves, outs_at, ins_at}
-use Rattle.fab_merging.proofs.Lists.{member}
-use Rattle.fab_doings.proofs.Lists.{outs_is, ins_is}
-use Rattle.fab_laws.proofs.Levels.{all_the_same}
+use Rattle.fab_merging.proofs.Opening.{start_fresh}
+use Rattle.std.specs.Prelude.{ℕ}
 
 -- what an endpoint holds when it is opened, whatever its address vector
-pub start_fresh : (conf : Conf) (av : List (Option ℕ)) → IsFresh (record { state = starting conf av; places = replicate conf.peers 0; begun = replicate conf.peers None; multis = [] })
-start_fresh conf av = record {
-  places = λ d. all_the_same {X = ℕ} conf.peers d 0;
-  begun = λ s. all_the_same {X = Option Item} conf.peers s None;
-  sent = λ d. all_the_same {X = ℕ} conf.peers d 0;
-  tails = λ s. all_the_same {X = ℕ} conf.peers s 0;
-}
-
--- by the numbers of the frames
-pub told_merge : (pasts : List Past) → All IsStamped (map told_moves pasts)
-    → ((s d : ℕ) → IsPrefix (takes_of s (slice_index_or (map told_moves pasts) d [])) (posts_to d (slice_index_or (map told_moves pasts) s []))) → merges (map told_moves pasts) ≡ true
-told_merge pasts stamped numbers = stamped_merge (map told_moves pasts) stamped numbers
-
-ins_past : (pasts : List Past) (p s : ℕ) → length pasts ≤ p → ins_at pasts p s ≡ []
-ins_past [] p s l = refl
-ins_past (y ∷ pasts) zero s l = absurd (omega arith)
-ins_past (y ∷ pasts) (suc p) s l = ins_past pasts p s (omega arith)
-
--- from what is known of each two ports
-pub lanes_of : (pasts : List Past) → ((s d : ℕ) (x y : Past) → slice_get pasts s ≡ Some x → slice_get pasts d ≡ Some y → IsPrefix (y.ins s) (x.outs d))
-    → ((d s : ℕ) (y : Past) → slice_get pasts d ≡ Some y → length pasts ≤ s → y.ins s ≡ []) → (s d : ℕ) → IsPrefix (ins_at pasts d s) (outs_at pasts s d)
-lanes_of pasts each none s d = elim (cases_lt d (length pasts)) [
-  | inr past ↦ rw (ins_past pasts d s past) (outs_at pasts s d, refl)
-  | inl below ↦ (
-      let y = member pasts d below in
-      elim (cases_lt s (length pasts)) [
-        | inr past ↦ rw (ins_is pasts d s y.0 y.1, none d s y.0 y.1 past) (outs_at pasts s d, refl)
-        | inl here ↦ (let x = member pasts s here in rw (ins_is pasts d s y.0 y.1, outs_is pasts s d x.0 x.1) (each s d x.0 y.0 x.1 y.1))
-      ])
-]
+pub starting_fresh : (conf : Conf) (av : List (Option ℕ)) → IsFresh (record { state = starting conf av; places = replicate conf.peers 0; begun = replicate conf.peers None; multis = [] })
+starting_fresh conf av = let f = start_fresh conf in record { places = f.places; begun = f.begun; sent = f.sent; tails = f.tails }

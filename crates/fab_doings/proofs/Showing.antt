@@ -1,11 +1,11 @@
--- What frames join to, and that a peer's acts are steps of the machine wherever their frames are shown.
-use Rattle.std.proofs.Common.{◌≡◌, ◌<◌, ◌≤◌, ◌+◌, ℕ, Bool, true, false, not, ◌==◌, List, [], ◌∷◌, ◌++◌, length, drop, Option, Some, None, refl, sym, ap, ◌∙◌, subst, arith, append-nil, append_assoc}
+-- What a thread does with its endpoint is deeds of the program's machine, wherever the frames that it takes are shown.
+use Rattle.std.proofs.Common.{◌≡◌, ◌<◌, ◌≤◌, ◌+◌, ℕ, Bool, true, false, not, ◌==◌, List, [], ◌∷◌, ◌++◌, length, drop, Some, refl, sym, ap, ◌∙◌, subst, arith, append-nil, append_assoc}
 use Rattle.std.specs.Prelude.{slice_get, slice_index}
-use Rattle.std.proofs.lemmas.Bool.{eq-eqb, eqb-true, lt-ltb}
+use Rattle.std.proofs.lemmas.Bool.{eq-eqb, lt-ltb}
 use Rattle.fab_base.specs.declared.frames.Frame.{Frame}
 use Rattle.fab_base.specs.declared.items.Item.{Item}
 use Rattle.fab_base.specs.declared.items.ItemHead.{ItemHead}
-use Rattle.fab_wire.specs.Joined.{is_last, grown, AreFirst, IsBegun}
+use Rattle.fab_wire.specs.Joined.{is_last, grown, AreFirst}
 use Rattle.fab_model.specs.State.{State, fits, accepted_for}
 use Rattle.fab_model.specs.Receiving.{draw_due}
 use Rattle.fab_model.specs.Sending.{do_sent}
@@ -16,96 +16,35 @@ use Rattle.fab_model.specs.Peers.{reading, unread}
 use Rattle.fab_base.specs.declared.operations.Written.{Written}
 use Rattle.fab_laws.proofs.Programs.{where_gives}
 use Rattle.fab_laws.proofs.Recorded.{lift}
-use Rattle.fab_doings.proofs.Programs.{own_passes}
 use Rattle.fab_face.specs.Held.{Held, begun_of, next_frame}
 use Rattle.fab_face.specs.Acts.{Comes, Ends, Departs, headed, is_first, only}
-use Rattle.fab_peer.specs.Turns.{Shows, Joins, joined_from}
-use Rattle.fab_peer.proofs.Showing.{joins_then, joins_same, headed_tails, get_drop, shows_after, whole_item, begun_after, and_true, is_waiting}
-use Rattle.fab_peer.proofs.Showing as showing
+use Rattle.fab_peer.specs.Turns.{Shows, joined_from}
+use Rattle.fab_peer.proofs.Showing.{headed_tails, get_drop, whole_item, and_true, is_waiting}
 use Rattle.fab_face.specs.Acts as face
-use Rattle.fab_doings.proofs.Programs.{idle}
-use Rattle.fab_doings.specs.Doings.{Grew, Own, Calls, Writes, after_own, deed_of, Did, Does, DoesBy, Doing, Drew, Had, Living, Posted, Took, deeds_by, deeds_of, peer_in, taken_by, taken_of}
+use Rattle.fab_doings.specs.Doings.{Grew, Own, Calls, Writes, act_of, after_own, deed_of, Did, Does, Doing, Drew, Had, Living, Posted, Took, deeds_by, peer_in}
 use Rattle.fab_laws.specs.Recorded.{Recorded, recorded}
 use Rattle.fab_laws.specs.Programs.{deed, head_deed, tail_deed, sent_deed, draw_deed, read_deed, peer, Deed, Draw, Head, Peer, Tail, program}
 
--- ---- joining
-
-pub joins_one : (act : Doing) (p q : Living) → Does p act q → Joins p.held q.held (λ s. taken_by s act)
-joins_one (Did own) p q (did, same) = joins_same p.held q.held same.1 (ap (λ (x : State). x.rx.tails) did.0 ∙ (own_passes own p.held.state).tails)
-joins_one Had p q (had, same) = joins_same p.held q.held same.1 (ap (λ (x : State). x.rx.tails) had.2)
-joins_one Drew p q (goes, grew) = showing.joins_one face.Drew (idle p.held) (idle q.held) (goes, refl)
-joins_one (Posted dest f) p q (goes, grew) = showing.joins_one (face.Posted dest f) (idle p.held) (idle q.held) (goes, refl)
-joins_one (Took source f) p q (goes, grew) = showing.joins_one (face.Took source f) (idle p.held) (idle q.held) (goes, refl)
-
-pub joins_by : (acts : List Doing) (p q : Living) → DoesBy p acts q → Joins p.held q.held (λ s. taken_of s acts)
-joins_by [] p q is = joins_same p.held q.held (ap (λ (x : Living). x.held.begun) (sym is)) (ap (λ (x : Living). x.held.state.rx.tails) (sym is))
-joins_by (act ∷ acts) p q (mid, one, rest) = joins_then p.held mid.held q.held (λ s. taken_by s act) (λ s. taken_of s acts) (joins_one act p mid one) (joins_by acts mid q rest)
-
 -- ---- what is shown
 
--- the frames that are shown of the source itself
-at_source : (v : View Item) (h : Held) (source : ℕ) (f : Frame) (acts : List Doing) → Shows v h (λ s. taken_by s (Took source f) ++ taken_of s acts)
-    → AreFirst (joined_from (begun_of h source) (f ∷ taken_of source acts)) (drop (slice_index h.state.rx.tails source) (v.ready source))
-    × (slice_index h.state.rx.tails source + length (joined_from (begun_of h source) (f ∷ taken_of source acts)).whole ≤ v.sent source)
-at_source v h source f acts shows =
-    let same : (source == source) ≡ true = eq-eqb source source refl in
-    let is : only (source == source) f ++ taken_of source acts ≡ f ∷ taken_of source acts = rw same refl in (
-      subst (λ fs. AreFirst (joined_from (begun_of h source) fs) (drop (slice_index h.state.rx.tails source) (v.ready source))) is (shows.items source),
-      subst (λ fs. slice_index h.state.rx.tails source + length (joined_from (begun_of h source) fs).whole ≤ v.sent source) is (shows.sent source),
-    )
+-- what is shown of a source when one frame of it is taken: the item that the frame is of, and that it is transmitted where this is its last frame
+module _ (v : View Item) (h : Held) (source : ℕ) (f : Frame) (shows : Shows v h (λ s. face.taken_of s (face.Took source f ∷ []))) where
+  taken_one : face.taken_of source (face.Took source f ∷ []) ≡ f ∷ []
+  taken_one = let same : (source == source) ≡ true = eq-eqb source source refl in rw same refl
 
--- an item that is begun is the next one that its sender accepted
-begun_item : (v : View Item) (acts : List Doing) (p q : Living) (source : ℕ) (g : Item) → DoesBy p acts q → Shows v p.held (λ s. taken_of s acts) → begun_of p.held source ≡ Some g
-    → (item : Item) × (slice_get (v.ready source) (slice_index p.held.state.rx.tails source) ≡ Some item) × (item.head ≡ g.head)
-begun_item v [] p q source g lives shows begun =
-    let first = shows.items source in
-    let next = subst (λ (u : Option Item). IsBegun u first.0) begun first.2 in
-    (next.0, get_drop (v.ready source) (slice_index p.held.state.rx.tails source) next.0 next.1 (first.1 ∙ next.2), sym next.3)
-begun_item v (act ∷ acts) p q source g (mid, one, rest) shows begun = by_act (λ x shown has. begun_item v acts mid q source x rest shown has) act one shows
-  where
-    -- an act that takes nothing of the source
-    through : ((x : Item) → Shows v mid.held (λ s. taken_of s acts) → begun_of mid.held source ≡ Some x → (item : Item) × (slice_get (v.ready source) (slice_index mid.held.state.rx.tails source) ≡ Some item) × (item.head ≡ x.head)) → (x : Doing) → Does p x mid → Shows v p.held (λ s. taken_by s x ++ taken_of s acts) → taken_by source x ≡ []
-        → (item : Item) × (slice_get (v.ready source) (slice_index p.held.state.rx.tails source) ≡ Some item) × (item.head ≡ g.head)
-    through more x lives shown none =
-        let j = joins_one x p mid lives in
-        let b : begun_of mid.held source ≡ Some g = j.begun source ∙ ap (λ fs. (joined_from (begun_of p.held source) fs).unfinished) none ∙ begun in
-        let t : slice_index mid.held.state.rx.tails source ≡ slice_index p.held.state.rx.tails source =
-        (let at_mid = j.tails source in let w = ap (λ fs. length (joined_from (begun_of p.held source) fs).whole) none in omega (arith, at_mid, w)) in
-        let found = more g (shows_after v p.held mid.held (λ s. taken_by s x) (λ s. taken_of s acts) j shown) b in
-        (found.0, ap (λ n. slice_get (v.ready source) n) (sym t) ∙ found.1, found.2)
+  first : AreFirst (joined_from (begun_of h source) (f ∷ [])) (drop (slice_index h.state.rx.tails source) (v.ready source))
+  first = subst (λ fs. AreFirst (joined_from (begun_of h source) fs) (drop (slice_index h.state.rx.tails source) (v.ready source))) taken_one (shows.items source)
 
-    -- a frame of the source
-    of_source : ((x : Item) → Shows v mid.held (λ s. taken_of s acts) → begun_of mid.held source ≡ Some x → (item : Item) × (slice_get (v.ready source) (slice_index mid.held.state.rx.tails source) ≡ Some item) × (item.head ≡ x.head)) → (f : Frame) → Does p (Took source f) mid → Shows v p.held (λ s. taken_by s (Took source f) ++ taken_of s acts)
-        → (item : Item) × (slice_get (v.ready source) (slice_index p.held.state.rx.tails source) ≡ Some item) × (item.head ≡ g.head)
-    of_source more f ((in_begun, in_tails, comes, ends), same) shown = by_last (is_last f.head) refl
-      where
-        head_is : (b : Bool) → Comes b p.held source f.head.item → f.head.item ≡ g.head
-        head_is true (none, even, calm) = (let no_way : None ≡ Some g = sym none ∙ begun in absurd (cc))
-        head_is false (item, has, head) = (let is : Some item ≡ Some g = sym has ∙ begun in let it : item ≡ g = cc in sym head ∙ ap (λ (x : Item). x.head) it)
+  pub whole_of : is_last f.head ≡ true → (slice_get (v.ready source) (slice_index h.state.rx.tails source) ≡ Some (grown (begun_of h source) f)) × (slice_index h.state.rx.tails source < v.sent source)
+  whole_of last = whole_item v h source f [] last first (subst (λ fs. slice_index h.state.rx.tails source + length (joined_from (begun_of h source) fs).whole ≤ v.sent source) taken_one (shows.sent source))
 
-        by_last : (b : Bool) → is_last f.head ≡ b → (item : Item) × (slice_get (v.ready source) (slice_index p.held.state.rx.tails source) ≡ Some item) × (item.head ≡ g.head)
-        by_last true last =
-            let here = at_source v p.held source f acts shown in
-            (grown (begun_of p.held source) f, (whole_item v p.held source f (taken_of source acts) last here.0 here.1).0, head_is (is_first f) comes)
-        by_last false last =
-            let after = begun_after p.held mid.held source f in_begun last ends in
-            let t : mid.held.state.rx.tails ≡ p.held.state.rx.tails = ap (λ (x : State). x.rx.tails) after.1 ∙ headed_tails (is_first f) p.held.state source f.head.item in
-            let j = joins_one (Took source f) p mid ((in_begun, in_tails, comes, ends), same) in
-            let found = more (grown (begun_of p.held source) f) (shows_after v p.held mid.held (λ s. taken_by s (Took source f)) (λ s. taken_of s acts) j shown) after.0 in
-            (found.0, ap (λ xs. slice_get (v.ready source) (slice_index xs source)) (sym t) ∙ found.1, found.2 ∙ head_is (is_first f) comes)
-
-    by_act : ((x : Item) → Shows v mid.held (λ s. taken_of s acts) → begun_of mid.held source ≡ Some x → (item : Item) × (slice_get (v.ready source) (slice_index mid.held.state.rx.tails source) ≡ Some item) × (item.head ≡ x.head)) → (x : Doing) → Does p x mid → Shows v p.held (λ s. taken_by s x ++ taken_of s acts) → (item : Item) × (slice_get (v.ready source) (slice_index p.held.state.rx.tails source) ≡ Some item) × (item.head ≡ g.head)
-    by_act more (Did own) lives shown = through more (Did own) lives shown refl
-    by_act more Had lives shown = through more Had lives shown refl
-    by_act more Drew lives shown = through more Drew lives shown refl
-    by_act more (Posted dest f) lives shown = through more (Posted dest f) lives shown refl
-    by_act more (Took s f) lives shown = by_peer (s == source) refl
-      where
-        by_peer : (b : Bool) → (s == source) ≡ b → (item : Item) × (slice_get (v.ready source) (slice_index p.held.state.rx.tails source) ≡ Some item) × (item.head ≡ g.head)
-        by_peer true e =
-            let same : s ≡ source = eqb-true s source e in
-            of_source more f (subst (λ k. Does p (Took k f) mid) same lives) (subst (λ k. Shows v p.held (λ s. taken_by s (Took k f) ++ taken_of s acts)) same shown)
-        by_peer false e = through more (Took s f) lives shown (rw e refl)
+  pub item_of : (b : Bool) → is_last f.head ≡ b → (item : Item) × (slice_get (v.ready source) (slice_index h.state.rx.tails source) ≡ Some item) × (item.head ≡ f.head.item)
+  item_of true last = (grown (begun_of h source) f, (whole_of last).0, refl)
+  item_of false more =
+      let one : joined_from (begun_of h source) (f ∷ []) ≡ record { whole = []; unfinished = Some (grown (begun_of h source) f) } = rw more refl in
+      let begun = subst (λ g. AreFirst g (drop (slice_index h.state.rx.tails source) (v.ready source))) one first in
+      let next = begun.2 in
+      (next.0, get_drop (v.ready source) (slice_index h.state.rx.tails source) next.0 next.1 (begun.1 ∙ next.2), sym next.3)
 
 -- ---- steps
 
@@ -161,69 +100,45 @@ posted_walk v p q dest f true next (room, is) grew =
     (peer_in q, lift v (peer_in p) (peer_in q) (Deed.Sent dest) (sent_walk v (peer p.held.state) dest (is_waiting p.held dest f next) room ∙ state_is (do_sent p.held.state dest) q.held.state (ap (λ (x : Held). x.state) is)) grew, refl)
 posted_walk v p q dest f false next is grew = still (peer_in p) (peer_in q) (ap (λ (x : Held). x.state) is) grew
 
-took_walk : (v : View Item) (p mid q : Living) (source : ℕ) (f : Frame) (acts : List Doing) → Does p (Took source f) mid → DoesBy mid acts q → Shows v p.held (λ s. taken_by s (Took source f) ++ taken_of s acts)
-    → Walk recorded v (peer_in p) (only (is_first f) (Head source) ++ only (is_last f.head) (Tail source)) (peer_in mid)
-took_walk v p mid q source f acts ((in_begun, in_tails, comes, ends), same) rest shown =
-    walk_append v (peer_in p) half (peer_in mid) (only (is_first f) (Head source)) (only (is_last f.head) (Tail source)) (by_first (is_first f) refl comes) (by_last (is_last f.head) refl ends same)
+took_walk : (v : View Item) (p q : Living) (source : ℕ) (f : Frame) → Does p (Took source f) q → Shows v p.held (λ s. face.taken_of s (face.Took source f ∷ []))
+    → Walk recorded v (peer_in p) (only (is_first f) (Head source) ++ only (is_last f.head) (Tail source)) (peer_in q)
+took_walk v p q source f ((in_begun, in_tails, comes, ends), grew) shows =
+    walk_append v (peer_in p) half (peer_in q) (only (is_first f) (Head source)) (only (is_last f.head) (Tail source)) (by_first (is_first f) refl comes) (by_last (is_last f.head) refl ends)
   where
     half : Recorded
     half = record { state = headed (is_first f) p.held.state source f.head.item; past = p.past ++ only (is_first f) (headed (is_first f) p.held.state source f.head.item) }
 
-    s1 : State
-    s1 = headed (is_first f) p.held.state source f.head.item
-
-    here : AreFirst (joined_from (begun_of p.held source) (f ∷ taken_of source acts)) (drop (slice_index p.held.state.rx.tails source) (v.ready source))
-        × (slice_index p.held.state.rx.tails source + length (joined_from (begun_of p.held source) (f ∷ taken_of source acts)).whole ≤ v.sent source)
-    here = at_source v p.held source f acts shown
-
-    -- the item of the frame
-    item_is : (b : Bool) → is_last f.head ≡ b → (item : Item) × (slice_get (v.ready source) (slice_index p.held.state.rx.tails source) ≡ Some item) × (item.head ≡ f.head.item)
-    item_is true last = (grown (begun_of p.held source) f, (whole_item v p.held source f (taken_of source acts) last here.0 here.1).0, refl)
-    item_is false last =
-        let after = begun_after p.held mid.held source f in_begun last ends in
-        let t : mid.held.state.rx.tails ≡ p.held.state.rx.tails = ap (λ (x : State). x.rx.tails) after.1 ∙ headed_tails (is_first f) p.held.state source f.head.item in
-        let j = joins_one (Took source f) p mid ((in_begun, in_tails, comes, ends), same) in
-        let found = begun_item v acts mid q source (grown (begun_of p.held source) f) rest (shows_after v p.held mid.held (λ s. taken_by s (Took source f)) (λ s. taken_of s acts) j shown) after.0 in
-        (found.0, ap (λ xs. slice_get (v.ready source) (slice_index xs source)) (sym t) ∙ found.1, found.2)
-
     by_first : (b : Bool) → is_first f ≡ b → Comes b p.held source f.head.item → Walk recorded v (peer_in p) (only b (Head source)) (record { state = headed (is_first f) p.held.state source f.head.item; past = p.past ++ only (is_first f) (headed (is_first f) p.held.state source f.head.item) })
     by_first true is (none, even, calm) =
-        let item = item_is (is_last f.head) refl in
+        let item = item_of v p.held source f shows (is_last f.head) refl in
         let next : Recorded = record { state = do_head p.held.state source f.head.item; past = p.past ++ do_head p.held.state source f.head.item ∷ [] } in
         (next, lift v (peer_in p) next (Head source) (head_walk v (peer p.held.state) source f.head.item item.0 item.1 item.2 even calm) refl, rw is refl)
     by_first false is from = rw is (still (peer_in p) (record { state = p.held.state; past = p.past ++ [] }) refl refl)
 
-    by_last : (b : Bool) → is_last f.head ≡ b → Ends b p.held (headed (is_first f) p.held.state source f.head.item) source (grown (begun_of p.held source) f) mid.held
-        → Grew p mid (only (is_first f) (headed (is_first f) p.held.state source f.head.item) ++ only (is_last f.head) mid.held.state)
-        → Walk recorded v (record { state = headed (is_first f) p.held.state source f.head.item; past = p.past ++ only (is_first f) (headed (is_first f) p.held.state source f.head.item) }) (only b (Tail source)) (peer_in mid)
-    by_last true last (one, room, is) grew =
+    by_last : (b : Bool) → is_last f.head ≡ b → Ends b p.held (headed (is_first f) p.held.state source f.head.item) source (grown (begun_of p.held source) f) q.held
+        → Walk recorded v (record { state = headed (is_first f) p.held.state source f.head.item; past = p.past ++ only (is_first f) (headed (is_first f) p.held.state source f.head.item) }) (only b (Tail source)) (peer_in q)
+    by_last true last (one, room, is) =
         let item = grown (begun_of p.held source) f in
         let h : State = headed (is_first f) p.held.state source f.head.item in
-        let whole = whole_item v p.held source f (taken_of source acts) last here.0 here.1 in
+        let whole = whole_of v p.held source f shows last in
         let t : slice_index (headed (is_first f) p.held.state source f.head.item).rx.tails source ≡ slice_index p.held.state.rx.tails source = ap (λ xs. slice_index xs source) (headed_tails (is_first f) p.held.state source f.head.item) in
-        let more : mid.past ≡ (p.past ++ only (is_first f) h) ++ mid.held.state ∷ [] = grew ∙ ap (λ (b : Bool). p.past ++ (only (is_first f) h ++ only b mid.held.state)) last ∙ sym (append_assoc p.past (only (is_first f) h) (mid.held.state ∷ [])) in (
-          peer_in mid,
-          lift v (record { state = h; past = p.past ++ only (is_first f) h }) (peer_in mid) (Tail source)
+        let more : q.past ≡ (p.past ++ only (is_first f) h) ++ q.held.state ∷ [] = grew ∙ ap (λ (b : Bool). p.past ++ (only (is_first f) h ++ only b q.held.state)) last ∙ sym (append_assoc p.past (only (is_first f) h) (q.held.state ∷ [])) in (
+          peer_in q,
+          lift v (record { state = h; past = p.past ++ only (is_first f) h }) (peer_in q) (Tail source)
               (tail_walk v (peer h) source item (ap (λ n. slice_get (v.ready source) n) t ∙ whole.0) (omega (arith, t, whole.1)) one room
-              ∙ state_is (do_tail h source item.head item.bytes) mid.held.state (ap (λ (x : Held). x.state) is)) more,
+              ∙ state_is (do_tail h source item.head item.bytes) q.held.state (ap (λ (x : Held). x.state) is)) more,
           refl,
         )
-    by_last false last is grew =
+    by_last false last is =
         let h : State = headed (is_first f) p.held.state source f.head.item in
-        still (record { state = h; past = p.past ++ only (is_first f) h }) (peer_in mid) (ap (λ (x : Held). x.state) is)
-        (grew ∙ ap (λ (b : Bool). p.past ++ (only (is_first f) h ++ only b mid.held.state)) last ∙ sym (append_assoc p.past (only (is_first f) h) []))
+        still (record { state = h; past = p.past ++ only (is_first f) h }) (peer_in q) (ap (λ (x : Held). x.state) is)
+        (grew ∙ ap (λ (b : Bool). p.past ++ (only (is_first f) h ++ only b q.held.state)) last ∙ sym (append_assoc p.past (only (is_first f) h) []))
 
-one_walk : (v : View Item) (act : Doing) (acts : List Doing) (p mid q : Living) → Does p act mid → DoesBy mid acts q → Shows v p.held (λ s. taken_by s act ++ taken_of s acts) → Walk recorded v (peer_in p) (deeds_by act) (peer_in mid)
-one_walk v (Did own) acts p mid q ((did, grew), parts) rest shown = (peer_in mid, lift v (peer_in p) (peer_in mid) (deed_of own) (did_walk v own (peer p.held.state) (peer mid.held.state) did) grew, refl)
-one_walk v Had acts p mid q ((w, first, is, grew), parts) rest shown = (peer_in mid, lift v (peer_in p) (peer_in mid) Deed.Read (had_walk v (peer p.held.state) (peer mid.held.state) w first is) grew, refl)
-one_walk v Drew acts p mid q ((due, room, is), grew) rest shown =
-    (peer_in mid, lift v (peer_in p) (peer_in mid) Draw (draw_walk v (peer p.held.state) due room ∙ state_is (do_draw p.held.state) mid.held.state (ap (λ (x : Held). x.state) is)) grew, refl)
-one_walk v (Posted dest f) acts p mid q ((in_places, in_sent, next, departs), grew) rest shown = posted_walk v p mid dest f (is_last f.head) next departs grew
-one_walk v (Took source f) acts p mid q lives rest shown = took_walk v p mid q source f acts lives rest shown
-
--- wherever the frames taken are shown, the acts are steps of the machine
-pub walk_shown : (v : View Item) (acts : List Doing) (p q : Living) → DoesBy p acts q → Shows v p.held (λ s. taken_of s acts) → Walk recorded v (peer_in p) (deeds_of acts) (peer_in q)
-walk_shown v [] p q is shows = ap peer_in is
-walk_shown v (act ∷ acts) p q (mid, one, rest) shows =
-    walk_append v (peer_in p) (peer_in mid) (peer_in q) (deeds_by act) (deeds_of acts) (one_walk v act acts p mid q one rest shows)
-    (walk_shown v acts mid q rest (shows_after v p.held mid.held (λ s. taken_by s act) (λ s. taken_of s acts) (joins_one act p mid one) shows))
+-- wherever the frame that it takes is shown, a doing is deeds of the machine
+pub walk_one : (v : View Item) (p q : Living) (x : Doing) → Does p x q → Shows v p.held (λ s. face.taken_of s (act_of x ∷ [])) → Walk recorded v (peer_in p) (deeds_by x) (peer_in q)
+walk_one v p q (Did own) ((did, grew), parts) shows = (peer_in q, lift v (peer_in p) (peer_in q) (deed_of own) (did_walk v own (peer p.held.state) (peer q.held.state) did) grew, refl)
+walk_one v p q Had ((w, first, is, grew), parts) shows = (peer_in q, lift v (peer_in p) (peer_in q) Deed.Read (had_walk v (peer p.held.state) (peer q.held.state) w first is) grew, refl)
+walk_one v p q Drew ((due, room, is), grew) shows =
+    (peer_in q, lift v (peer_in p) (peer_in q) Draw (draw_walk v (peer p.held.state) due room ∙ state_is (do_draw p.held.state) q.held.state (ap (λ (x : Held). x.state) is)) grew, refl)
+walk_one v p q (Posted dest f) ((in_places, in_sent, next, departs), grew) shows = posted_walk v p q dest f (is_last f.head) next departs grew
+walk_one v p q (Took source f) does shows = took_walk v p q source f does shows

@@ -1,10 +1,11 @@
 -- What the threads of a program did with their endpoints, as each can keep it: acts with their calls.
 --     Own                 what a peer does alone to its state: a call with its answer, or counters written
 --     Doing               an act with its call
+--     act_of x            the act that it is, without its call
 --     Does h x t          the doing stands in h, and makes t of it
 --     deeds_of doings     the turns of a program that they are
 --     doings_by call acts    the doings of a call's acts
-use Rattle.std.specs.Prelude.{◌≡◌, ℕ, ◌==◌, List, [], ◌∷◌, ◌++◌, Option, Some, None}
+use Rattle.std.specs.Prelude.{◌≡◌, ℕ, List, [], ◌∷◌, ◌++◌, map, Option, Some, None}
 use Rattle.std.specs.List.{flat_map}
 use Rattle.fab_base.specs.declared.frames.Frame.{Frame}
 use Rattle.fab_base.specs.declared.operations.Tally.{Tally}
@@ -15,7 +16,9 @@ use Rattle.fab_model.specs.Calls.{Call, do_call}
 use Rattle.fab_model.specs.Peers.{reading, unread}
 use Rattle.fab_face.specs.Held.{Held}
 use Rattle.fab_face.specs.Acts as acts
-use Rattle.fab_face.specs.Acts.{Act, Goes, Way, From, To, headed, is_first, only}
+use Rattle.fab_face.specs.Acts.{Act, Goes, headed, is_first, only}
+use Rattle.fab_peer.specs.Turns.{SameParts}
+use Rattle.fab_merging.specs.Pasts.{Trail}
 use Rattle.fab_laws.specs.Programs.{Counts, Deed, Draw, Head, Makes, Tail, with_counters}
 use Rattle.fab_laws.specs.Recorded.{Recorded}
 
@@ -49,10 +52,6 @@ pub record Living : Type 0 where
 abbrev pub peer_in : Living → Recorded
 peer_in p = record { state = p.held.state; past = p.past }
 
--- nothing that is unfinished changed
-abbrev pub SameParts : Held → Held → Type 0
-SameParts h k = (k.places ≡ h.places) × (k.begun ≡ h.begun)
-
 -- the states after its deeds are more by these
 abbrev pub Grew : Living → Living → List State → Type 0
 Grew p q more = q.past ≡ p.past ++ more
@@ -65,8 +64,7 @@ Does p (Posted dest f) q = Goes None p.held (acts.Posted dest f) q.held × Grew 
 Does p Drew q = Goes None p.held acts.Drew q.held × Grew p q (q.held.state ∷ [])
 
 abbrev pub DoesBy : Living → List Doing → Living → Type 0
-DoesBy p [] q = p ≡ q
-DoesBy p (x ∷ xs) q = (mid : Living) × Does p x mid × DoesBy mid xs q
+DoesBy = Trail Does
 
 -- ---- what doings say
 
@@ -80,35 +78,15 @@ deeds_by Had = Deed.Read ∷ []
 abbrev pub deeds_of : List Doing → List Deed
 deeds_of xs = flat_map deeds_by xs
 
-abbrev pub taken_by : ℕ → Doing → List Frame
-taken_by s (Did own) = []
-taken_by s (Took source f) = only (source == s) f
-taken_by s (Posted dest f) = []
-taken_by s Drew = []
-taken_by s Had = []
+abbrev pub act_of : Doing → Act
+act_of (Did own) = acts.Did
+act_of (Took source f) = acts.Took source f
+act_of (Posted dest f) = acts.Posted dest f
+act_of Drew = acts.Drew
+act_of Had = acts.Had
 
-abbrev pub posted_by : ℕ → Doing → List Frame
-posted_by d (Did own) = []
-posted_by d (Took source f) = []
-posted_by d (Posted dest f) = only (dest == d) f
-posted_by d Drew = []
-posted_by d Had = []
-
-abbrev pub taken_of : ℕ → List Doing → List Frame
-taken_of s xs = flat_map (taken_by s) xs
-
-abbrev pub posted_to : ℕ → List Doing → List Frame
-posted_to d xs = flat_map (posted_by d) xs
-
-abbrev pub ways_by : Doing → List Way
-ways_by (Did own) = []
-ways_by (Took source f) = From source ∷ []
-ways_by (Posted dest f) = To dest ∷ []
-ways_by Drew = []
-ways_by Had = []
-
-abbrev pub ways_of : List Doing → List Way
-ways_of xs = flat_map ways_by xs
+abbrev pub acts_of : List Doing → List Act
+acts_of xs = map act_of xs
 
 -- ---- the acts of a call
 

@@ -6,16 +6,13 @@
 --     ProgramReaches         the law: then some order of turns of the program leads from the opening to the endpoints
 --     Obeys                  of a peer of a program: what the laws of `fab_laws` say of it
 --     ProgramObeys           where the endpoints started as a program's peers do, the laws hold of what the threads did, and each thread's own record says what its endpoint accepted
-use Rattle.std.specs.Prelude.{◌≡◌, ℕ, zero, suc, true, List, [], ◌∷◌, ◌++◌, length, map, Option, Some, slice_get, unwrap_or}
-use mathlib.Core.List.{IsPrefix}
-use Rattle.fab_base.specs.declared.frames.Frame.{Frame}
-use Rattle.fab_wire.specs.declared.moves.Move.{Move}
-use Rattle.fab_wire.specs.Merged.{merges}
+use Rattle.std.specs.Prelude.{◌≡◌, ℕ, List, [], ◌++◌, map, Some, slice_get}
 use Rattle.fab_model.specs.Orders.{AreSteps, Reached, Turn}
 use Rattle.fab_model.specs.Views.{rule}
-use Rattle.fab_face.specs.Acts.{MovedBy}
-use Rattle.fab_face.specs.Held.{AreItems, Seen}
-use Rattle.fab_merging.specs.Law.{IsFresh}
+use Rattle.fab_face.specs.Acts.{MovedBy, posted_to, taken_of, ways_of}
+use Rattle.fab_face.specs.Held.{Seen}
+use Rattle.fab_merging.specs.Law.{AreToldOf}
+use Rattle.fab_merging.specs.Pasts.{PastOf}
 use Rattle.fab_laws.specs.Programs.{Deed}
 use Rattle.fab_laws.specs.Recorded.{Recorded, plain, recall, recorded}
 use Rattle.fab_model.specs.State.{State}
@@ -27,27 +24,24 @@ use Rattle.fab_laws.specs.Completed.{accepts, operations_of}
 use Rattle.fab_laws.specs.CompletionLaws.{AllCompleteOnce, NumberCompletes}
 use Rattle.fab_laws.specs.FenceLaws.{FenceHolds, GoesInOrder, HoldsNothing, ItemIsOfACall}
 use Rattle.fab_laws.specs.ReplyLaws.{AnswersOnce, FindsItsOperation, WaitsAtMatch}
-use Rattle.fab_laws.specs.StreamLaws.{IsFirst, IsPosted, whole_from}
+use Rattle.fab_laws.specs.StreamLaws.{HasArrived, IsFirst, IsPosted, TakesAll, arrived_from, whole_from}
 use Rattle.fab_laws.specs.MessageLaws.{EntryTells, ReceiveTells, asked_by, asked_of}
-use Rattle.fab_doings.specs.Doings.{Doing, DoesBy, Living, deeds_of, peer_in, posted_to, taken_of, ways_of}
+use Rattle.fab_laws.specs.Claimed.{handled_of}
+use Rattle.fab_laws.specs.ClaimLaws.{EntryIsOwn, FreesClaimed, IsPutAway, NoneSlips, StaysAside}
+use Rattle.fab_laws.specs.MultiLaws.{ClosesWhenFull, PlacesTell}
+use Rattle.fab_laws.specs.ReceiveLaws.{AllHaveFates, GotTold, LeavesOnce, OneTellsIt, TookTold}
+use Rattle.fab_doings.specs.Doings.{Doing, DoesBy, Living, acts_of, deeds_of, peer_in}
 
-pub record Past : Type 0 where
-  pub living : Living
-  -- the ghost record of a thread
-  pub doings : List Doing
-  pub moves : Option (List Move)
-  pub outs : ℕ → List Frame
-  pub ins : ℕ → List Frame
-
-abbrev pub begun : Living → Past
-begun o = record { living = o; doings = []; moves = Some []; outs = λ d. []; ins = λ s. [] }
+-- its steps are the ghost record of a thread
+abbrev pub Past : Type 0
+Past = PastOf Living Doing
 
 pub record KeptBy (x y : Past) (more : List Doing) : Type 0 where
   pub lives : DoesBy x.living more y.living
-  pub doings : y.doings ≡ x.doings ++ more
-  pub moves : MovedBy x.moves y.moves (ways_of more)
-  pub outs : (d : ℕ) → y.outs d ≡ x.outs d ++ posted_to d more
-  pub ins : (s : ℕ) → y.ins s ≡ x.ins s ++ taken_of s more
+  pub doings : y.steps ≡ x.steps ++ more
+  pub moves : MovedBy x.moves y.moves (ways_of (acts_of more))
+  pub outs : (d : ℕ) → y.outs d ≡ x.outs d ++ posted_to d (acts_of more)
+  pub ins : (s : ℕ) → y.ins s ≡ x.ins s ++ taken_of s (acts_of more)
 
 abbrev pub Kept : Past → Past → Type 0
 Kept x y = (more : List Doing) × KeptBy x y more
@@ -56,7 +50,7 @@ Kept x y = (more : List Doing) × KeptBy x y more
 abbrev pub past_in : {Home : Type 0} → Seen Home → List Doing → List State → Past
 past_in e doings past = record {
   living = record { held = e.held; past = past };
-  doings = doings;
+  steps = doings;
   moves = e.lanes.moves;
   outs = λ d. (e.lanes.outs d).frames;
   ins = λ s. (e.lanes.ins s).taken;
@@ -72,30 +66,10 @@ abbrev pub peers : List Past → List Recorded
 peers pasts = map (λ (x : Past). peer_in x.living) pasts
 
 abbrev pub programs : List Past → List (List Deed)
-programs pasts = map (λ (x : Past). deeds_of x.doings) pasts
+programs pasts = map (λ (x : Past). deeds_of x.steps) pasts
 
-abbrev pub told_moves : Past → List Move
-told_moves x = unwrap_or x.moves []
-
-abbrev pub outs_at : List Past → ℕ → ℕ → List Frame
-outs_at [] p d = []
-outs_at (x ∷ pasts) zero d = x.outs d
-outs_at (x ∷ pasts) (suc p) d = outs_at pasts p d
-
-abbrev pub ins_at : List Past → ℕ → ℕ → List Frame
-ins_at [] p s = []
-ins_at (x ∷ pasts) zero s = x.ins s
-ins_at (x ∷ pasts) (suc p) s = ins_at pasts p s
-
-pub record AreTold (opening : List Living) (pasts : List Past) : Type 0 where
-  pub count : length pasts ≡ length opening
-  pub fresh : (p : ℕ) (o : Living) → slice_get opening p ≡ Some o → IsFresh o.held
-  -- of each endpoint alone
-  pub kept : (p : ℕ) (o : Living) (x : Past) → slice_get opening p ≡ Some o → slice_get pasts p ≡ Some x → Kept (begun o) x
-  pub items : (p : ℕ) (x : Past) → slice_get pasts p ≡ Some x → AreItems x.living.held
-  -- of all: the moves merge, and the frames taken are the first of those posted
-  pub merge : merges (map told_moves pasts) ≡ true
-  pub lanes : (s d : ℕ) → IsPrefix (ins_at pasts d s) (outs_at pasts s d)
+abbrev pub AreTold : List Living → List Past → Type 0
+AreTold opening pasts = AreToldOf (λ (o : Living). o.held) Kept opening pasts
 
 abbrev pub ProgramReaches : Type 0
 ProgramReaches = (opening : List Living) (pasts : List Past) → AreTold opening pasts → Reached (rule recorded) (map peer_in opening) (programs pasts) (peers pasts)
@@ -128,13 +102,30 @@ pub record Obeys (from : List Peer) (turns : List (Turn Deed)) (states : List Pe
   pub of_posted : IsPosted (whole_from from turns p) (operations_of from turns) states p
   pub entries : EntryTells (past_of from turns p) (asked_of from turns p) states p a
   pub receives : ReceiveTells (past_of from turns p) (asked_of from turns p) states p a
+  pub arrived : IsFirst (arrived_from from turns p) states p
+  pub arrived_posted : IsPosted (arrived_from from turns p) (operations_of from turns) states p
+  pub behind : HasArrived (whole_from from turns p) (arrived_from from turns p)
+  pub takes_all : TakesAll (whole_from from turns p) (arrived_from from turns p) states p
+  -- claims and receives
+  pub freed : FreesClaimed (handled_of from turns p)
+  pub slips : NoneSlips (handled_of from turns p)
+  pub aside : StaysAside (handled_of from turns p) a.state.rx
+  pub lost : IsPutAway (past_of from turns p) (handled_of from turns p)
+  pub own : EntryIsOwn (past_of from turns p) (handled_of from turns p) (asked_of from turns p) states p a
+  pub told : GotTold (past_of from turns p) (asked_of from turns p) states p a
+  pub took : TookTold (handled_of from turns p) (asked_of from turns p) states p a
+  pub only : OneTellsIt (past_of from turns p) (asked_of from turns p) states p a
+  pub leaves : LeavesOnce (past_of from turns p)
+  pub places : PlacesTell (past_of from turns p) (asked_of from turns p) states p a
+  pub closes : ClosesWhenFull (past_of from turns p) (asked_of from turns p)
+  pub fates : AllHaveFates (past_of from turns p) (handled_of from turns p) a.state.rx
 
 -- the thread's own record, of its doings and the states after them, says what its endpoint accepted and which receives it was asked for
 pub record IsOwn (from : List Peer) (turns : List (Turn Deed)) (p : ℕ) (o : Living) (x : Past) : Type 0 where
   pub grew : List State
   pub past : x.living.past ≡ o.past ++ grew
-  pub accepted : (operations_of from turns p).accepted ≡ recall (λ a deed b m. accepts a deed b ++ m) o.held.state (deeds_of x.doings) grew []
-  pub asked : asked_of from turns p ≡ recall (λ a deed b m. asked_by a deed b ++ m) o.held.state (deeds_of x.doings) grew []
+  pub accepted : (operations_of from turns p).accepted ≡ recall (λ a deed b m. accepts a deed b ++ m) o.held.state (deeds_of x.steps) grew []
+  pub asked : asked_of from turns p ≡ recall (λ a deed b m. asked_by a deed b ++ m) o.held.state (deeds_of x.steps) grew []
 
 abbrev pub plains : List Past → List Peer
 plains pasts = map plain (peers pasts)

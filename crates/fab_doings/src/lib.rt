@@ -2,9 +2,9 @@
 //!
 //! Read `specs/` in this order: `Doings` (what a thread keeps of its endpoint's calls: the acts, with the calls
 //! themselves), then `Law` (an endpoint since the opening, what is known once the threads are joined, and what follows).
-//! `proofs/Keeping` says what a thread adds to its record at each call, from the call's contract; `proofs/Opening` where
-//! the premises come from; `proofs/Reaching` has the order, in which the moves of all ports merge, and `proofs/Obeying`
-//! the laws of `fab_laws` over it.
+//! `proofs/Keeping` says what a thread adds to its record at each call, from the call's contract; `proofs/Reaching` has the
+//! order, in which the moves of all ports merge (the law of threads of `fab_merging`, of a program's endpoints), and
+//! `proofs/Obeying` the laws of `fab_laws` over it.
 #![tactic(auto)]
 
 ghost use Rattle.fab_doings.specs.Law.{ProgramObeys, ProgramReaches};

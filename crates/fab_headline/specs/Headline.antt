@@ -11,10 +11,13 @@ use Rattle.fab_model.specs.Replay.{replayed}
 use Rattle.fab_model.specs.Replay as scripts
 use Rattle.fab_laws.specs.Programs.{is_drained}
 use Rattle.fab_laws.specs.Scripts.{ScriptLeadTo, peer_of, peers}
-use Rattle.fab_laws.specs.ScriptLaws.{script_asked, script_operations, script_past, script_whole}
-use Rattle.fab_laws.specs.StreamLaws.{IsFirst, IsPosted}
+use Rattle.fab_laws.specs.ScriptLaws.{script_arrived, script_asked, script_handled, script_operations, script_past, script_whole}
+use Rattle.fab_laws.specs.StreamLaws.{HasArrived, IsFirst, IsPosted, TakesAll}
 use Rattle.fab_laws.specs.MatchingLaws.{GetsRightly, PassesNoneOver, ServesInOrder, TakesInOrder}
 use Rattle.fab_laws.specs.MessageLaws.{EntryReads, EntryTells, ReceiveTells}
+use Rattle.fab_laws.specs.ClaimLaws.{EntryIsOwn, FreesClaimed, IsPutAway, NoneSlips, StaysAside}
+use Rattle.fab_laws.specs.MultiLaws.{ClosesWhenFull, PlacesTell}
+use Rattle.fab_laws.specs.ReceiveLaws.{AllHaveFates, GotTold, LeavesOnce, OneTellsIt, TookTold}
 use Rattle.fab_laws.specs.CompletionLaws.{AllCompleteOnce, NumberCompletes}
 
 pub record HoldsOf (bound : Bound) (turns : List (Turn Step)) (states : List Actor) (p : ℕ) (a : Actor) : Type 0 where
@@ -22,6 +25,11 @@ pub record HoldsOf (bound : Bound) (turns : List (Turn Step)) (states : List Act
   pub first : IsFirst (script_whole bound turns p) (peers states) p
   -- without replies, that is the first of what the sender's accepted calls posted to it, in the order posted
   pub posted : IsPosted (script_whole bound turns p) (script_operations bound turns) (peers states) p
+  -- the same of what has arrived, whole or not; what is whole is the first of that, all but one item at most, and at rest both are all that the sender let out
+  pub arrived : IsFirst (script_arrived bound turns p) (peers states) p
+  pub arrived_posted : IsPosted (script_arrived bound turns p) (script_operations bound turns) (peers states) p
+  pub behind : HasArrived (script_whole bound turns p) (script_arrived bound turns p)
+  pub takes_all : TakesAll (script_whole bound turns p) (script_arrived bound turns p) (peers states) p
   -- a message that a receive got had arrived and was unclaimed; the receive matches it and was open
   pub got : GetsRightly (script_past bound turns p)
   -- it was the first such: each that arrived earlier and that the receive matches had gone to a receive, or been claimed or discarded
@@ -34,6 +42,23 @@ pub record HoldsOf (bound : Bound) (turns : List (Turn Step)) (states : List Act
   pub entries : EntryTells (script_past bound turns p) (script_asked bound turns p) (peers states) p (peer_of a)
   -- that of a receive that is no multi-receive has the bytes in the buffer that its call passed, from the first byte on
   pub receives : ReceiveTells (script_past bound turns p) (script_asked bound turns p) (peers states) p (peer_of a)
+  -- what a receive got, or a take took, is told by an entry of its number, or is still on its way; the final completion of a receive that is no multi-receive and got a message is that of the message
+  pub told : GotTold (script_past bound turns p) (script_asked bound turns p) (peers states) p (peer_of a)
+  pub took : TookTold (script_handled bound turns p) (script_asked bound turns p) (peers states) p (peer_of a)
+  pub only : OneTellsIt (script_past bound turns p) (script_asked bound turns p) (peers states) p (peer_of a)
+  -- the messages of a buffer for many messages follow one another from its first byte on, in the order in which its receive got them; the receive takes no more exactly once fewer than its least free bytes are left
+  pub places : PlacesTell (script_past bound turns p) (script_asked bound turns p) (peers states) p (peer_of a)
+  pub closes : ClosesWhenFull (script_past bound turns p) (script_asked bound turns p)
+  -- a claimed message is taken or dropped once at the most, by a call under the context of its claim, and by nothing else; it is still set aside, or was taken or dropped
+  pub freed : FreesClaimed (script_handled bound turns p)
+  pub slips : NoneSlips (script_handled bound turns p)
+  pub aside : StaysAside (script_handled bound turns p) a.state.rx
+  -- an entry that tells a message is of a posted receive that got it, or of the take that took it
+  pub own : EntryIsOwn (script_past bound turns p) (script_handled bound turns p) (script_asked bound turns p) (peers states) p (peer_of a)
+  -- no message is lost: each that arrived is unexpected, went to a receive, is set aside, or was taken, dropped or discarded by a call; it goes once
+  pub fates : AllHaveFates (script_past bound turns p) (script_handled bound turns p) a.state.rx
+  pub leaves : LeavesOnce (script_past bound turns p)
+  pub lost : IsPutAway (script_past bound turns p) (script_handled bound turns p)
   -- each accepted operation has at most one final completion: exactly one once it has ended, as it has once all is drained, unless it is suppressed, and then none; none before it has ended, and none before its level is reached
   pub once : AllCompleteOnce (script_operations bound turns p) (peers states) p (peer_of a)
   -- no number has two final completions, and what has one is the number of an accepted operation

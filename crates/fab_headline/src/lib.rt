@@ -15,7 +15,8 @@ ghost use Rattle.fab_headline.specs.Headline.{Headline};
 
 use fab_laws::laws::{law_messages, law_scripts};
 use fab_laws::script_laws::{
-    script_history, script_l1, script_l2, script_l3, script_l4, script_messages, script_streams,
+    script_claims, script_history, script_l1, script_l2, script_l3, script_l4, script_messages,
+    script_multi, script_receives, script_streams,
 };
 use fab_model::laws::law_l5;
 
@@ -26,7 +27,8 @@ use fab_model::laws::law_l5;
 /// prefix of what that sender posted to it; a message that a receive got was the first unclaimed
 /// arrival that the matching rules allow; an entry that tells a message gives the bytes, source, tag
 /// and length, or the truncation, of one that its receive got, and only that of a `take`, which is not
-/// posted, of one that had been claimed or discarded; each accepted operation has at most one final
+/// posted, of one that had been claimed under its context; what a receive got it completes with, or it is
+/// still on its way; a claimed message goes only to the call that takes or drops it, and no message is lost; each accepted operation has at most one final
 /// completion, none before its level is reached, and exactly one once it has ended, as each has when the
 /// peers have drained, unless suppressed.
 pub fn law_headline()
@@ -39,6 +41,9 @@ pub fn law_headline()
     script_l2();
     script_l1();
     script_messages();
+    script_receives();
+    script_multi();
+    script_claims();
     script_l4();
     law_messages();
     law_scripts();

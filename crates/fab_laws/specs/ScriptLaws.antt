@@ -1,5 +1,5 @@
 -- The laws as they speak of scripts: at every moment to which turns of a bound script's peers lead, and with what these peers remember in their own turns.
---     script_past, script_operations, script_whole, script_asked      the history words, told by the turns of a script
+--     script_past, script_operations, script_whole, script_arrived, script_asked, script_handled      the history words, told by the turns of a script
 use Rattle.std.specs.Prelude.{ℕ, List, []}
 use Rattle.fab_base.specs.declared.items.Item.{Item}
 use Rattle.fab_base.specs.declared.operations.Receive.{Receive}
@@ -15,8 +15,12 @@ use Rattle.fab_laws.specs.Completed.{Operations, keeping_books}
 use Rattle.fab_laws.specs.CompletionLaws.{AllCompleteOnce, NumberCompletes}
 use Rattle.fab_laws.specs.FenceLaws.{FenceHolds, GoesInOrder, HoldsNothing, ItemIsOfACall}
 use Rattle.fab_laws.specs.ReplyLaws.{AnswersOnce, FindsItsOperation, WaitsAtMatch}
-use Rattle.fab_laws.specs.StreamLaws.{IsFirst, IsPosted, taking}
+use Rattle.fab_laws.specs.StreamLaws.{HasArrived, IsFirst, IsPosted, TakesAll, arriving, taking}
 use Rattle.fab_laws.specs.MessageLaws.{EntryTells, ReceiveTells, keeping_asked}
+use Rattle.fab_laws.specs.Claimed.{Handling, handling}
+use Rattle.fab_laws.specs.ClaimLaws.{EntryIsOwn, FreesClaimed, IsPutAway, NoneSlips, StaysAside}
+use Rattle.fab_laws.specs.MultiLaws.{ClosesWhenFull, PlacesTell}
+use Rattle.fab_laws.specs.ReceiveLaws.{AllHaveFates, GotTold, LeavesOnce, OneTellsIt, TookTold}
 
 abbrev pub script_past : Bound → List (Turn Step) → ℕ → List Event
 script_past bound turns p = script_memory noting p turns (opening bound) []
@@ -27,8 +31,14 @@ script_operations bound turns p = script_memory keeping_books p turns (opening b
 abbrev pub script_whole : Bound → List (Turn Step) → ℕ → ℕ → List Item
 script_whole bound turns p source = script_memory (taking source) p turns (opening bound) []
 
+abbrev pub script_arrived : Bound → List (Turn Step) → ℕ → ℕ → List Item
+script_arrived bound turns p source = script_memory (arriving source) p turns (opening bound) []
+
 abbrev pub script_asked : Bound → List (Turn Step) → ℕ → List Receive
 script_asked bound turns p = script_memory keeping_asked p turns (opening bound) []
+
+abbrev pub script_handled : Bound → List (Turn Step) → ℕ → List Handling
+script_handled bound turns p = script_memory handling p turns (opening bound) []
 
 -- ---- matching
 
@@ -88,8 +98,55 @@ TakenIsFirst = AtEveryScriptMoment (λ bound turns states p a. IsFirst (script_w
 abbrev pub TakenIsPosted : Type 0
 TakenIsPosted = AtEveryScriptMoment (λ bound turns states p a. IsPosted (script_whole bound turns p) (script_operations bound turns) (peers states) p)
 
+abbrev pub ArrivedIsFirst : Type 0
+ArrivedIsFirst = AtEveryScriptMoment (λ bound turns states p a. IsFirst (script_arrived bound turns p) (peers states) p)
+
+abbrev pub ArrivedIsPosted : Type 0
+ArrivedIsPosted = AtEveryScriptMoment (λ bound turns states p a. IsPosted (script_arrived bound turns p) (script_operations bound turns) (peers states) p)
+
+abbrev pub WholeHasArrived : Type 0
+WholeHasArrived = AtEveryScriptMoment (λ bound turns states p a. HasArrived (script_whole bound turns p) (script_arrived bound turns p))
+
+abbrev pub AllIsTaken : Type 0
+AllIsTaken = AtEveryScriptMoment (λ bound turns states p a. TakesAll (script_whole bound turns p) (script_arrived bound turns p) (peers states) p)
+
 abbrev pub EntriesTell : Type 0
 EntriesTell = AtEveryScriptMoment (λ bound turns states p a. EntryTells (script_past bound turns p) (script_asked bound turns p) (peers states) p (peer_of a))
 
 abbrev pub ReceivesTell : Type 0
 ReceivesTell = AtEveryScriptMoment (λ bound turns states p a. ReceiveTells (script_past bound turns p) (script_asked bound turns p) (peers states) p (peer_of a))
+
+-- ---- claims and receives
+
+abbrev pub FreedRightly : Type 0
+FreedRightly = AtEveryScriptMoment (λ bound turns states p a. FreesClaimed (script_handled bound turns p) × NoneSlips (script_handled bound turns p))
+
+abbrev pub StaysClaimed : Type 0
+StaysClaimed = AtEveryScriptMoment (λ bound turns states p a. StaysAside (script_handled bound turns p) a.state.rx)
+
+abbrev pub LostIsPutAway : Type 0
+LostIsPutAway = AtEveryScriptMoment (λ bound turns states p a. IsPutAway (script_past bound turns p) (script_handled bound turns p))
+
+abbrev pub TakesTell : Type 0
+TakesTell = AtEveryScriptMoment (λ bound turns states p a. EntryIsOwn (script_past bound turns p) (script_handled bound turns p) (script_asked bound turns p) (peers states) p (peer_of a))
+
+abbrev pub GotIsTold : Type 0
+GotIsTold = AtEveryScriptMoment (λ bound turns states p a. GotTold (script_past bound turns p) (script_asked bound turns p) (peers states) p (peer_of a))
+
+abbrev pub TookIsTold : Type 0
+TookIsTold = AtEveryScriptMoment (λ bound turns states p a. TookTold (script_handled bound turns p) (script_asked bound turns p) (peers states) p (peer_of a))
+
+abbrev pub OneTells : Type 0
+OneTells = AtEveryScriptMoment (λ bound turns states p a. OneTellsIt (script_past bound turns p) (script_asked bound turns p) (peers states) p (peer_of a))
+
+abbrev pub GoesOnce : Type 0
+GoesOnce = AtEveryScriptMoment (λ bound turns states p a. LeavesOnce (script_past bound turns p))
+
+abbrev pub NoneIsLost : Type 0
+NoneIsLost = AtEveryScriptMoment (λ bound turns states p a. AllHaveFates (script_past bound turns p) (script_handled bound turns p) a.state.rx)
+
+abbrev pub PlacesFollow : Type 0
+PlacesFollow = AtEveryScriptMoment (λ bound turns states p a. PlacesTell (script_past bound turns p) (script_asked bound turns p) (peers states) p (peer_of a))
+
+abbrev pub ClosesInTime : Type 0
+ClosesInTime = AtEveryScriptMoment (λ bound turns states p a. ClosesWhenFull (script_past bound turns p) (script_asked bound turns p))

@@ -7,24 +7,39 @@
 //! schedule, lawful or not, are among these.
 
 ghost use Rattle.fab_laws.specs.ScriptLaws.{
+  AllIsTaken,
   AllWaitAtMatch,
   AnsweredOnce,
+  ArrivedIsFirst,
+  ArrivedIsPosted,
+  ClosesInTime,
   EntriesTell,
   FencesHold,
+  FreedRightly,
+  GoesOnce,
   GoneInOrder,
+  GotIsTold,
   GotRightly,
   ItemsAreOfCalls,
+  LostIsPutAway,
+  NoneIsLost,
   NonePassedOver,
   NoStray,
   NothingIsHeldBack,
   NumbersComplete,
   OneFinalCompletion,
+  OneTells,
   PastTellsState,
+  PlacesFollow,
   ReceivesTell,
   ServedInOrder,
+  StaysClaimed,
   TakenInOrder,
   TakenIsFirst,
   TakenIsPosted,
+  TakesTell,
+  TookIsTold,
+  WholeHasArrived,
 };
 
 /// A posted receive never passes over an arrival.
@@ -67,12 +82,39 @@ pub fn script_no_stray()
 pub fn script_streams()
     ensures sent { TakenIsFirst }
     ensures posted { TakenIsPosted }
+    ensures arrived { ArrivedIsFirst }
+    ensures asked { ArrivedIsPosted }
+    ensures behind { WholeHasArrived }
+    ensures rest { AllIsTaken }
 {}
 
 /// A completed receive has its message.
 pub fn script_messages()
     ensures entries { EntriesTell }
     ensures receives { ReceivesTell }
+{}
+
+/// A claimed message goes only to a call under the context of its claim.
+pub fn script_claims()
+    ensures freed { FreedRightly }
+    ensures stays { StaysClaimed }
+    ensures lost { LostIsPutAway }
+    ensures takes { TakesTell }
+{}
+
+/// What a receive got it completes with, and no message is lost.
+pub fn script_receives()
+    ensures got { GotIsTold }
+    ensures took { TookIsTold }
+    ensures only { OneTells }
+    ensures once { GoesOnce }
+    ensures all { NoneIsLost }
+{}
+
+/// The messages of a buffer for many messages follow one another.
+pub fn script_multi()
+    ensures places { PlacesFollow }
+    ensures closes { ClosesInTime }
 {}
 
 /// What the history words of matching say of the states.

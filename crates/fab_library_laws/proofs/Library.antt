@@ -18,7 +18,7 @@ use Rattle.fab_model.specs.Replay.{fresh}
 use Rattle.fab_laws.specs.Programs.{Opening, Peer, Starts, peer}
 use Rattle.fab_laws.proofs.Scripts.{starts}
 use Rattle.fab_table.specs.declared.fabric.Fabric.{Fabric}
-use Rattle.fab_face.specs.Acts.{MovedBy}
+use Rattle.fab_face.specs.Acts.{MovedBy, posted_to, taken_of, ways_of}
 use Rattle.fab_face.specs.Held.{AreItems, Held}
 use Rattle.fab_face.specs.Ports.{Whole}
 use Rattle.fab_ring.specs.declared.port.RingPort.{RingPort}
@@ -26,12 +26,14 @@ use Rattle.fab_ring.specs.Ports.{in_of, moves_of, out_of, peers_of}
 use Rattle.fab_ring.proofs.Nobody.{nobody_taken}
 use Rattle.fab_domain.specs.Domain.{IsOpened, port_of}
 use Rattle.fab_domain.specs.Seen.{ring_seen}
-use Rattle.fab_merging.specs.Law.{IsFresh}
+use Rattle.fab_merging.specs.Law.{IsFresh, told_moves}
+use Rattle.fab_merging.specs.Pasts.{begun}
 use Rattle.fab_merging.proofs.Lists.{member}
+use Rattle.fab_merging.proofs.Opening.{lanes_of}
 use Rattle.fab_finish.proofs.Resting.{mapped}
-use Rattle.fab_doings.specs.Doings.{Living, posted_to, taken_of, ways_of}
-use Rattle.fab_doings.specs.Law.{AreTold, Kept, Past, ProgramObeys, begun, told_moves}
-use Rattle.fab_doings.proofs.Opening.{lanes_of, start_fresh}
+use Rattle.fab_doings.specs.Doings.{Living, acts_of}
+use Rattle.fab_doings.specs.Law.{AreTold, Kept, Past, ProgramObeys}
+use Rattle.fab_doings.proofs.Opening.{starting_fresh}
 use Rattle.fab_library_laws.specs.Library.{AreUsed, IsLibraryRun, LibraryObeys, Thread, opening_of, past_of, ports_of}
 
 -- of a list that is mapped
@@ -80,7 +82,7 @@ module _ (info : Info) (selective : Bool) (all : List (Whole RingPort)) (threads
   opening_fresh : (p : ℕ) (o : Living) → slice_get (map opening_of all) p ≡ Some o → IsFresh o.held
   opening_fresh p o at =
       let m = mapped opening_of all p o at in
-      subst (λ (x : Living). IsFresh x.held) m.2 (subst IsFresh (sym (opened_at p m.0 m.1)) (start_fresh conf (map Some (upto info.peers))))
+      subst (λ (x : Living). IsFresh x.held) m.2 (subst IsFresh (sym (opened_at p m.0 m.1)) (starting_fresh conf (map Some (upto info.peers))))
 
   since : (p : ℕ) (e : Whole RingPort) (t : Thread) → slice_get all p ≡ Some e → slice_get threads p ≡ Some t → Kept (begun (opening_of e)) (past_of t)
   unfolding ring_seen
@@ -91,9 +93,9 @@ module _ (info : Info) (selective : Bool) (all : List (Whole RingPort)) (threads
         record {
           lives = kept.1.lives;
           doings = kept.1.doings;
-          moves = subst (λ (ms : List Move). MovedBy (Some ms) (past_of t).moves (ways_of kept.0)) new.0 kept.1.moves;
-          outs = λ d. kept.1.outs d ∙ ap (λ fs. fs ++ posted_to d kept.0) (new.1 d).frames;
-          ins = λ s. kept.1.ins s ∙ ap (λ fs. fs ++ taken_of s kept.0) (new.1 s).taken;
+          moves = subst (λ (ms : List Move). MovedBy (Some ms) (past_of t).moves (ways_of (acts_of kept.0))) new.0 kept.1.moves;
+          outs = λ d. kept.1.outs d ∙ ap (λ fs. fs ++ posted_to d (acts_of kept.0)) (new.1 d).frames;
+          ins = λ s. kept.1.ins s ∙ ap (λ fs. fs ++ taken_of s (acts_of kept.0)) (new.1 s).taken;
         },
       )
 
@@ -146,7 +148,7 @@ module _ (info : Info) (selective : Bool) (all : List (Whole RingPort)) (threads
   told = record {
     count = length_same opening_of past_of all threads used.count;
     fresh = opening_fresh;
-    kept = kept_all;
+    acted = kept_all;
     items = items_all;
     merge = merged_all;
     lanes = lanes_of (map past_of threads) each_lane nobody_in;

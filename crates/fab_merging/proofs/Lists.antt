@@ -1,9 +1,10 @@
 -- Lists of acts, and lists of pasts.
-use Rattle.std.proofs.Common.{◌≡◌, ◌≤◌, ◌<◌, ℕ, zero, suc, List, [], ◌∷◌, ◌++◌, length, map, slice_get, get_or, Some, refl, sym, ap, ◌∙◌, arith, append_assoc}
+use Rattle.std.proofs.Common.{◌≡◌, ◌≤◌, ◌<◌, ℕ, zero, suc, List, [], ◌∷◌, ◌++◌, length, map, replicate, slice_get, get_or, Some, refl, sym, ap, subst, ◌∙◌, arith, append_assoc}
 use Rattle.std.proofs.lemmas.Grind.{flat_map-append}
+use Rattle.std.proofs.lemmas.List.{map-append}
 use mathlib.Core.List.{IsPrefix}
 use Rattle.fab_face.specs.Acts.{Act, Did, Took, Posted, Drew, Had, taken_by, posted_by, ways_by, steps_by, taken_of, posted_to, ways_of, steps_of}
-use Rattle.fab_merging.specs.Pasts.{Past}
+use Rattle.fab_merging.specs.Pasts.{PastOf, Trail}
 use Rattle.fab_merging.specs.Law.{outs_at, ins_at}
 
 -- ---- acts
@@ -19,6 +20,21 @@ steps-append xs ys = flat_map-append steps_by xs ys
 
 pub ways-append : (xs ys : List Act) → ways_of (xs ++ ys) ≡ ways_of xs ++ ways_of ys
 ways-append xs ys = flat_map-append ways_by xs ys
+
+-- of what is done, each with its act
+module _ {D : Type 0} (act_of : D → Act) where
+  pub taken_then : (s : ℕ) (xs ys : List D) → taken_of s (map act_of (xs ++ ys)) ≡ taken_of s (map act_of xs) ++ taken_of s (map act_of ys)
+  taken_then s xs ys = ap (taken_of s) (map-append act_of xs ys) ∙ taken-append s (map act_of xs) (map act_of ys)
+
+  pub posted_then : (d : ℕ) (xs ys : List D) → posted_to d (map act_of (xs ++ ys)) ≡ posted_to d (map act_of xs) ++ posted_to d (map act_of ys)
+  posted_then d xs ys = ap (posted_to d) (map-append act_of xs ys) ∙ posted-append d (map act_of xs) (map act_of ys)
+
+  pub ways_then : (xs ys : List D) → ways_of (map act_of (xs ++ ys)) ≡ ways_of (map act_of xs) ++ ways_of (map act_of ys)
+  ways_then xs ys = ap ways_of (map-append act_of xs ys) ∙ ways-append (map act_of xs) (map act_of ys)
+
+pub trail_then : {L D : Type 0} (Does : L → D → L → Type 0) (p q r : L) (xs ys : List D) → Trail Does p xs q → Trail Does q ys r → Trail Does p (xs ++ ys) r
+trail_then Does p q r [] ys a b = subst (λ x. Trail Does x ys r) (sym a) b
+trail_then Does p q r (x ∷ xs) ys (mid, one, rest) b = (mid, one, trail_then Does mid q r xs ys rest b)
 
 -- an act that is no move takes nothing and posts nothing
 pub plain_takes : (x : Act) (s : ℕ) → ways_by x ≡ [] → taken_by s x ≡ []
@@ -36,6 +52,11 @@ plain_posts Drew d e = refl
 plain_posts Had d e = refl
 
 -- ---- lists
+
+pub all_the_same : {X : Type 0} (n k : ℕ) (x : X) → get_or (replicate n x) k x ≡ x
+all_the_same zero k x = refl
+all_the_same (suc n) zero x = refl
+all_the_same (suc n) (suc k) x = all_the_same n k x
 
 pub member : {X : Type 0} (xs : List X) (k : ℕ) → k < length xs → (x : X) × (slice_get xs k ≡ Some x)
 member [] k l = absurd (omega arith)
@@ -68,17 +89,18 @@ front_of {X} (x ∷ xs) (y ∷ ys) more rest e l =
 
 -- ---- pasts
 
-pub outs_is : (pasts : List Past) (p d : ℕ) (x : Past) → slice_get pasts p ≡ Some x → outs_at pasts p d ≡ x.outs d
-outs_is [] p d x e = absurd (cc)
-outs_is (y ∷ pasts) zero d x e = let h : y ≡ x = cc in ap (λ (z : Past). z.outs d) h
-outs_is (y ∷ pasts) (suc p) d x e = outs_is pasts p d x e
+module _ {L K : Type 0} where
+  pub outs_is : (pasts : List (PastOf L K)) (p d : ℕ) (x : PastOf L K) → slice_get pasts p ≡ Some x → outs_at pasts p d ≡ x.outs d
+  outs_is [] p d x e = absurd (cc)
+  outs_is (y ∷ pasts) zero d x e = let h : y ≡ x = cc in ap (λ (z : PastOf L K). z.outs d) h
+  outs_is (y ∷ pasts) (suc p) d x e = outs_is pasts p d x e
 
-pub outs_past : (pasts : List Past) (p d : ℕ) → length pasts ≤ p → outs_at pasts p d ≡ []
-outs_past [] p d l = refl
-outs_past (y ∷ pasts) zero d l = absurd (omega arith)
-outs_past (y ∷ pasts) (suc p) d l = outs_past pasts p d (omega arith)
+  pub outs_past : (pasts : List (PastOf L K)) (p d : ℕ) → length pasts ≤ p → outs_at pasts p d ≡ []
+  outs_past [] p d l = refl
+  outs_past (y ∷ pasts) zero d l = absurd (omega arith)
+  outs_past (y ∷ pasts) (suc p) d l = outs_past pasts p d (omega arith)
 
-pub ins_is : (pasts : List Past) (p s : ℕ) (x : Past) → slice_get pasts p ≡ Some x → ins_at pasts p s ≡ x.ins s
-ins_is [] p s x e = absurd (cc)
-ins_is (y ∷ pasts) zero s x e = let h : y ≡ x = cc in ap (λ (z : Past). z.ins s) h
-ins_is (y ∷ pasts) (suc p) s x e = ins_is pasts p s x e
+  pub ins_is : (pasts : List (PastOf L K)) (p s : ℕ) (x : PastOf L K) → slice_get pasts p ≡ Some x → ins_at pasts p s ≡ x.ins s
+  ins_is [] p s x e = absurd (cc)
+  ins_is (y ∷ pasts) zero s x e = let h : y ≡ x = cc in ap (λ (z : PastOf L K). z.ins s) h
+  ins_is (y ∷ pasts) (suc p) s x e = ins_is pasts p s x e

@@ -2,7 +2,8 @@
 --     outs_at pasts p d      the frames that peer p of the list posted to d
 --     ins_at pasts p s       the frames that peer p of the list took of s
 --     IsFresh h              at the opening: nothing is sent or whole, and no item is under way
---     AreTold opening pasts  what is known of each peer alone, and of each pair once the threads are joined
+--     AreToldOf held Acted opening pasts  what is known of each peer alone, and of each pair once the threads are joined
+--     AreTold                the same of the peers of a script
 --     ThreadsReach           the law: then some order of turns leads from the opening to the peers
 --     AreTogether pasts      each peer holds what its frames say, and what was taken of each is the first of what it posted
 --     ThreadsJoin            it holds once the threads are joined; so the finishing phase can go on
@@ -18,24 +19,18 @@ use Rattle.fab_model.specs.Views.{rule}
 use Rattle.fab_face.specs.Held.{Held, begun_of, AreItems}
 use Rattle.fab_peer.specs.Turns.{Living, actor_in}
 use Rattle.fab_peer.specs.Agreed.{Agrees}
-use Rattle.fab_merging.specs.Pasts.{Past, begun, Acted}
-
-abbrev pub actors : List Past → List Actor
-actors pasts = map (λ (x : Past). actor_in x.living) pasts
-
-abbrev pub schedules : List Past → List (List Step)
-schedules pasts = map (λ (x : Past). x.steps) pasts
+use Rattle.fab_merging.specs.Pasts.{Past, PastOf, begun, Acted}
 
 -- the moves of its port, where this tells them
-abbrev pub told_moves : Past → List Move
+abbrev pub told_moves : {L S : Type 0} → PastOf L S → List Move
 told_moves x = unwrap_or x.moves []
 
-abbrev pub outs_at : List Past → ℕ → ℕ → List Frame
+abbrev pub outs_at : {L S : Type 0} → List (PastOf L S) → ℕ → ℕ → List Frame
 outs_at [] p d = []
 outs_at (x ∷ pasts) zero d = x.outs d
 outs_at (x ∷ pasts) (suc p) d = outs_at pasts p d
 
-abbrev pub ins_at : List Past → ℕ → ℕ → List Frame
+abbrev pub ins_at : {L S : Type 0} → List (PastOf L S) → ℕ → ℕ → List Frame
 ins_at [] p s = []
 ins_at (x ∷ pasts) zero s = x.ins s
 ins_at (x ∷ pasts) (suc p) s = ins_at pasts p s
@@ -46,15 +41,27 @@ pub record IsFresh (h : Held) : Type 0 where
   pub sent : (d : ℕ) → slice_index h.state.tx.sent d ≡ 0
   pub tails : (s : ℕ) → slice_index h.state.rx.tails s ≡ 0
 
-pub record AreTold (opening : List Living) (pasts : List Past) : Type 0 where
+-- of peers that hold this, and whose acts lead on so
+pub record AreToldOf {L S : Type 0} (held : L → Held) (LedOn : PastOf L S → PastOf L S → Type 0) (opening : List L) (pasts : List (PastOf L S)) : Type 0 where
   pub count : length pasts ≡ length opening
-  pub fresh : (p : ℕ) (o : Living) → slice_get opening p ≡ Some o → IsFresh o.held
+  pub fresh : (p : ℕ) (o : L) → slice_get opening p ≡ Some o → IsFresh (held o)
   -- of each peer alone
-  pub acted : (p : ℕ) (o : Living) (x : Past) → slice_get opening p ≡ Some o → slice_get pasts p ≡ Some x → Acted (begun o) x
-  pub items : (p : ℕ) (x : Past) → slice_get pasts p ≡ Some x → AreItems x.living.held
+  pub acted : (p : ℕ) (o : L) (x : PastOf L S) → slice_get opening p ≡ Some o → slice_get pasts p ≡ Some x → LedOn (begun o) x
+  pub items : (p : ℕ) (x : PastOf L S) → slice_get pasts p ≡ Some x → AreItems (held x.living)
   -- of all: the moves merge, and the frames taken are the first of those posted
   pub merge : merges (map told_moves pasts) ≡ true
   pub lanes : (s d : ℕ) → IsPrefix (ins_at pasts d s) (outs_at pasts s d)
+
+-- ---- of a script's peers
+
+abbrev pub actors : List Past → List Actor
+actors pasts = map (λ (x : Past). actor_in x.living) pasts
+
+abbrev pub schedules : List Past → List (List Step)
+schedules pasts = map (λ (x : Past). x.steps) pasts
+
+abbrev pub AreTold : List Living → List Past → Type 0
+AreTold opening pasts = AreToldOf (λ (o : Living). o.held) Acted opening pasts
 
 abbrev pub ThreadsReach : Type 0
 ThreadsReach = (opening : List Living) (pasts : List Past) → AreTold opening pasts → Reached (rule fabric) (map actor_in opening) (schedules pasts) (actors pasts)

@@ -1,25 +1,36 @@
 -- What a peer in a thread did, as it knows it alone.
---     Past                a peer since the opening: as it is now, its schedule, the moves that its port tells, and the frames posted to each peer and taken of each
+--     Trail Does p xs q   these doings, one after another, lead from the one to the other
+--     PastOf L S          a peer since the opening: as it is now (L), the steps that it tells (S), the moves that its port tells, and the frames posted to each peer and taken of each
 --     begun o             a peer at the opening, which did nothing
+--     Past                that of a script's peer, whose steps are those of its schedule
 --     past_of a           what contracts see of a peer, as its past
 --     ActedBy x y acts    the acts lead from the one to the other, and they are all that its schedule and its port's lists grew by
 --     Acted x y           some acts do
-use Rattle.std.specs.Prelude.{◌≡◌, ℕ, List, [], ◌++◌, Option, Some}
+use Rattle.std.specs.Prelude.{◌≡◌, ℕ, List, [], ◌∷◌, ◌++◌, Option, Some}
 use Rattle.fab_base.specs.declared.frames.Frame.{Frame}
 use Rattle.fab_base.specs.declared.peers.Step.{Step}
 use Rattle.fab_wire.specs.declared.moves.Move.{Move}
 use Rattle.fab_face.specs.Acts.{Act, steps_of, taken_of, posted_to, ways_of, MovedBy}
 use Rattle.fab_peer.specs.Turns.{Living, LivesBy, Told, living_of}
 
-pub record Past : Type 0 where
-  pub living : Living
-  pub steps : List Step
+abbrev pub Trail : {L D : Type 0} → (L → D → L → Type 0) → L → List D → L → Type 0
+Trail Does p [] q = p ≡ q
+Trail {L} Does p (x ∷ xs) q = (mid : L) × Does p x mid × Trail Does mid xs q
+
+pub record PastOf (L S : Type 0) : Type 0 where
+  pub living : L
+  pub steps : List S
   pub moves : Option (List Move)
   pub outs : ℕ → List Frame
   pub ins : ℕ → List Frame
 
-abbrev pub begun : Living → Past
+abbrev pub begun : {L S : Type 0} → L → PastOf L S
 begun o = record { living = o; steps = []; moves = Some []; outs = λ d. []; ins = λ s. [] }
+
+-- ---- of a script's peer
+
+abbrev pub Past : Type 0
+Past = PastOf Living Step
 
 abbrev pub past_of : {Home : Type 0} → Told Home → Past
 past_of a = record {

@@ -1,8 +1,9 @@
 //! Peers are threads: what each did alone is an order of all their steps.
 //!
 //! Read `specs/` in this order: `Pasts` (a peer since the opening, and the acts that led there), then `Law` (what is
-//! known once the threads are joined, and what follows). `proofs/Reaching` has the law: the order is that in which the
-//! moves of all ports merge. `proofs/rows` has two peers as each knows itself, with the order that follows.
+//! known once the threads are joined, and what follows). `proofs/Threads` has the law, of peers of any kind: the order is
+//! that in which the moves of all ports merge; `proofs/Reaching` has it of the peers of a script. `proofs/rows` has two
+//! peers as each knows itself, with the order that follows.
 #![tactic(auto)]
 
 ghost use Rattle.fab_merging.specs.Law.{ThreadsJoin, ThreadsReach};

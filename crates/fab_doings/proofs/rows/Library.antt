@@ -26,10 +26,12 @@ use Rattle.fab_model.specs.State.{State}
 use Rattle.fab_model.proofs.Scripts.{script_of}
 use Rattle.fab_face.specs.Held.{AreItems}
 use Rattle.fab_laws.proofs.Scripts.{script_opening}
-use Rattle.fab_merging.specs.Law.{IsFresh}
+use Rattle.fab_face.specs.Acts.{posted_to, taken_of}
+use Rattle.fab_merging.specs.Law.{IsFresh, ins_at, outs_at}
+use Rattle.fab_merging.specs.Pasts.{begun}
 use Rattle.fab_merging.proofs.Opening.{start_fresh}
-use Rattle.fab_doings.specs.Doings.{Calls, Did, Doing, DoesBy, Had, Living, Posted, Took, posted_to, taken_of}
-use Rattle.fab_doings.specs.Law.{AreTold, IsRun, Kept, KeptBy, Past, begun, ins_at, outs_at}
+use Rattle.fab_doings.specs.Doings.{Calls, Did, Doing, DoesBy, Had, Living, Posted, Took, acts_of}
+use Rattle.fab_doings.specs.Law.{AreTold, IsRun, Kept, KeptBy, Past}
 use Rattle.fab_doings.proofs.Obeying.{program_obeys}
 
 -- two peers without lines
@@ -85,7 +87,7 @@ receiver = (
 )
 
 abbrev x0 : Past
-x0 = record { living = resting s4 (s1 ∷ s2 ∷ s3 ∷ s4 ∷ []); doings = receives; moves = Some (In 1 1 ∷ []); outs = λ d. posted_to d receives; ins = λ s. taken_of s receives }
+x0 = record { living = resting s4 (s1 ∷ s2 ∷ s3 ∷ s4 ∷ []); steps = receives; moves = Some (In 1 1 ∷ []); outs = λ d. posted_to d (acts_of receives); ins = λ s. taken_of s (acts_of receives) }
 
 kept0 : KeptBy (begun (resting start [])) x0 receives
 kept0 = record { lives = receiver; doings = refl; moves = (In 1 1 ∷ [], refl, refl); outs = λ d. refl; ins = λ s. refl }
@@ -117,7 +119,7 @@ sender = (
 )
 
 abbrev x1 : Past
-x1 = record { living = resting t3 (t1 ∷ t2 ∷ t3 ∷ []); doings = sends; moves = Some (Out 0 1 ∷ []); outs = λ d. posted_to d sends; ins = λ s. taken_of s sends }
+x1 = record { living = resting t3 (t1 ∷ t2 ∷ t3 ∷ []); steps = sends; moves = Some (Out 0 1 ∷ []); outs = λ d. posted_to d (acts_of sends); ins = λ s. taken_of s (acts_of sends) }
 
 kept1 : KeptBy (begun (resting start [])) x1 sends
 kept1 = record { lives = sender; doings = refl; moves = (Out 0 1 ∷ [], refl, refl); outs = λ d. refl; ins = λ s. refl }
@@ -180,7 +182,7 @@ lane (suc zero) s = (_, refl)
 lane (suc (suc d)) s = (_, refl)
 
 told : AreTold opening pasts
-told = record { count = refl; fresh = fresh_at; kept = kept_at; items = items_at; merge = refl; lanes = λ s d. lane d s }
+told = record { count = refl; fresh = fresh_at; acted = kept_at; items = items_at; merge = refl; lanes = λ s d. lane d s }
 
 -- so all laws hold of the two
 pub obeyed : IsRun (script_opening bound) opening pasts

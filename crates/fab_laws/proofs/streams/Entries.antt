@@ -305,7 +305,7 @@ module _ (v : Outlook) (m : List Receive) (calls : ℕ) (s : State) (told : Told
 
 -- ---- two memories at once
 
-abbrev both : {M N : Type 0} → Note M → Note N → Note (M × N)
+abbrev pub both : {M N : Type 0} → Note M → Note N → Note (M × N)
 both f g v a x b m = (f v a x b m.0, g v a x b m.1)
 
 module _ {M N : Type 0} (f : Note M) (g : Note N) (p : ℕ) where
@@ -318,7 +318,7 @@ module _ {M N : Type 0} (f : Note M) (g : Note N) (p : ℕ) where
       go true (Some a) = refl
       go false o = refl
 
-  remembered_both : (turns : List (Turn Deed)) (states : List Peer) (m : M) (k : N) → remembered (both f g) p turns states (m, k) ≡ (remembered f p turns states m, remembered g p turns states k)
+  pub remembered_both : (turns : List (Turn Deed)) (states : List Peer) (m : M) (k : N) → remembered (both f g) p turns states (m, k) ≡ (remembered f p turns states m, remembered g p turns states k)
   remembered_both [] states m k = refl
   remembered_both (t ∷ turns) states m k = go (rule program states t.peer t.step) (λ b m' k'. remembered_both turns (set states t.peer b) m' k')
     where
@@ -330,7 +330,7 @@ module _ {M N : Type 0} (f : Note M) (g : Note N) (p : ℕ) where
 
 -- ---- a deed
 
-abbrev told_by : View Item → List Event → Outlook
+abbrev pub told_by : View Item → List Event → Outlook
 told_by v past = record { view = v; went = Went past; lost = λ x. In (Lost x) past }
 
 -- more is seen and told, of the calls so far
@@ -342,10 +342,10 @@ pub record Wider (calls : ℕ) (v w : Outlook) : Type 0 where
 later_past : (v : View Item) (es past : List Event) (calls : ℕ) → Since calls es → Wider calls (told_by v past) (told_by v (es ++ past))
 later_past v es past calls since = record { view = more_self v; went = went_more calls es past since; lost = λ x i. in_back (Lost x) es past i }
 
-more_seen : (v w : View Item) (past : List Event) (calls : ℕ) → More v w → Wider calls (told_by v past) (told_by w past)
+pub more_seen : (v w : View Item) (past : List Event) (calls : ℕ) → More v w → Wider calls (told_by v past) (told_by w past)
 more_seen v w past calls more = record { view = more; went = λ call x less i. i; lost = λ x i. i }
 
-more_told : (v w : Outlook) (m : List Receive) (calls : ℕ) (s : State) → Wider calls v w → Told v m calls s → Told w m calls s
+pub more_told : (v w : Outlook) (m : List Receive) (calls : ℕ) (s : State) → Wider calls v w → Told v m calls s → Told w m calls s
 more_told v w m calls s more told = record {
   before = told.before;
   one = told.one;
@@ -421,7 +421,7 @@ module _ (n : ℕ) (v : View Item) (past : List Event) (m : List Receive) (a b :
           by true e = e
           by false e = absurd (omega (arith, in_many (unwhole_of source) (held a.state.rx) x i passes, count, ap one e))
 
-  step_by : (x : Deed) → StepIs v a x b → Told (told_by v (noticed v a x b ++ past)) (asked_by a x b ++ m) b.state.calls b.state
+  pub step_by : (x : Deed) → StepIs v a x b → Told (told_by v (noticed v a x b ++ past)) (asked_by a x b ++ m) b.state.calls b.state
   step_by (Makes call) is = line_told n v past m call a.state b.state keeps told is
   step_by (Counts counters) is =
       let es = happens a.state b.state None in
@@ -457,7 +457,7 @@ module _ (n : ℕ) (v : View Item) (past : List Event) (m : List Receive) (a b :
 
 -- ---- wherever turns lead
 
-fresh_told : (conf : Conf) (av : List (Option ℕ)) (v : View Item) → Told (told_by v []) [] 0 (starting conf av)
+pub fresh_told : (conf : Conf) (av : List (Option ℕ)) (v : View Item) → Told (told_by v []) [] 0 (starting conf av)
 fresh_told conf av v = record {
   before = λ f i. never i;
   one = λ f g i. never i;
@@ -510,7 +510,7 @@ pub entries_tell : EntriesTell
 entries_tell from turns states leads p a here w i =
     each_in (Tells (told_by (seen program states p) (past_of from.peers turns p)) (asked_of from.peers turns p) a.state.rx.tails) a.state.cq.written w (told_at from turns states leads p a here).entries i
 
-same_entry : (r f : Receive) (source : ℕ) (head : ItemHead) (bytes : List ℕ) → r.least ≡ f.least → r.buf ≡ f.buf → r.ctx ≡ f.ctx → entry_of r 0 source head bytes ≡ entry_of f 0 source head bytes
+pub same_entry : (r f : Receive) (source : ℕ) (head : ItemHead) (bytes : List ℕ) → r.least ≡ f.least → r.buf ≡ f.buf → r.ctx ≡ f.ctx → entry_of r 0 source head bytes ≡ entry_of f 0 source head bytes
 unfolding entry_of received truncated
 same_entry r f source head bytes least buf ctx = rw (least, buf, ctx) refl
 

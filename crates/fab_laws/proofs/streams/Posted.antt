@@ -17,7 +17,7 @@ use Rattle.fab_model.specs.Arrivals.{do_draw, do_head, do_tail}
 use Rattle.fab_model.specs.Calls.{Call, Transmit, do_call}
 use Rattle.fab_model.specs.Orders.{Turn}
 use Rattle.fab_model.specs.Replay.{fresh}
-use Rattle.fab_model.specs.Views.{View, seen}
+use Rattle.fab_model.specs.Views.{IsPrefixOf, View, seen}
 use Rattle.fab_model.proofs.Parts.{get_or-set}
 use Rattle.fab_laws.specs.Members.{Never}
 use Rattle.fab_laws.specs.Programs.{Deed, Makes, Counts, Head, Tail, Draw, Opening, Peer, program}
@@ -210,11 +210,13 @@ posted_at from turns states leads p a here = remembered_keeps keeping_books p (A
 
 -- ---- the law
 
-pub taken_is_posted : TakenIsPosted
-taken_is_posted from turns states leads p a here source c at =
-    let first = taken_is_first from turns states leads p a here source c at in
-    let whole = whole_from from.peers turns p source in
-    let out : asked whole ++ asked first.0 ≡ asked (accepted_for c.state.tx p) = sym (filter-append asks whole first.0) ∙ ap asked first.1 in (
-      asked first.0 ++ asked (items (held_for c.state.tx p)),
-      sym (append_assoc (asked whole) (asked first.0) (asked (items (held_for c.state.tx p)))) ∙ ap (λ xs. xs ++ asked (items (held_for c.state.tx p))) out ∙ (posted_at from turns states leads source c at).all p,
+-- the first of what goes out to t is, without replies, the first of what was accepted for it
+pub first_posted : (n t : ℕ) (past : List Accepted) (tx : Transmitting) (xs : List Item) → IsPrefixOf xs (accepted_for tx t) → Posted n past tx → IsPrefixOf (asked xs) (posted_for t past)
+first_posted n t past tx xs first posted =
+    let out : asked xs ++ asked first.0 ≡ asked (accepted_for tx t) = sym (filter-append asks xs first.0) ∙ ap asked first.1 in (
+      asked first.0 ++ asked (items (held_for tx t)),
+      sym (append_assoc (asked xs) (asked first.0) (asked (items (held_for tx t)))) ∙ ap (λ ys. ys ++ asked (items (held_for tx t))) out ∙ posted.all t,
     )
+
+pub taken_is_posted : TakenIsPosted
+taken_is_posted from turns states leads p a here source c at = first_posted (length from.peers) p (operations_of from.peers turns source).accepted c.state.tx (whole_from from.peers turns p source) (taken_is_first from turns states leads p a here source c at) (posted_at from turns states leads source c at)

@@ -75,7 +75,7 @@ bounded n states all p b own source = go (slice_get states source) refl (own.who
     go None e le = rw e (rw e at le)
     go (Some c) e le = let less = (all.sound.own source c e).sent p in rw e (let le' = (rw e at le) in omega (arith, le', less))
 
-more_taken : (source k : ℕ) (m : List Item) (v w : View Item) → More v w → k ≤ length (v.ready source) → m ≡ take k (v.ready source) → m ≡ take k (w.ready source)
+pub more_taken : (source k : ℕ) (m : List Item) (v w : View Item) → More v w → k ≤ length (v.ready source) → m ≡ take k (v.ready source) → m ≡ take k (w.ready source)
 more_taken source k m v w more le taken =
     let r = more.ready source in
     taken ∙ sym (take-append-le k (v.ready source) r.0 le) ∙ ap (take k) r.1

@@ -1,9 +1,9 @@
 use Rattle.std.proofs.Common.{List, Some, ap, arith, length, sym, ◌||◌, ◌∙◌}
 use Rattle.std.specs.Prelude.{nat_le}
 use Rattle.fab_base.specs.declared.script.BytesWord.{BytesWord}
-use Rattle.fab_coll.specs.Grammar.{are_alike, are_much}
+use Rattle.fab_coll.specs.Grammar.{are_much}
 use Rattle.fab_coll.specs.Reading.{before_of}
-use Rattle.fab_coll.proofs.Ruling.{fault_said, no_ranks, no_root, no_rule, too_much, unlike}
+use Rattle.fab_coll.proofs.Ruling.{fault_said, no_ranks, no_root, no_rule, too_much}
 use Rattle.fab_coll.proofs.Said.{said_right}
 use Rattle.fab_coll.proofs.reader.Reader.take_round.Goals as goal
 
@@ -15,33 +15,25 @@ returns-in-Err-clause-broken c =
     ap Some c.why_from.ensures
     ∙ sym (fault_said (before_of c.args.self.now) c.args.verb c.args.args.now c.in-Some.peers c.in-Some.is c.in-Err.fault (sym c.in_ok-said.ensures ∙ c.in-Err.is))
 
-pub returns-then-not-are_alike-clause-broken : goal.returns-then-not-are_alike-clause-broken
-returns-then-not-are_alike-clause-broken c =
-    let said = sym c.in_ok-said.ensures ∙ c.in-Ok.is in
-    sym (unlike (before_of c.args.self.now) c.args.verb c.args.args.now c.in-Some.peers c.in-Some.is c.in-Ok.said.0 c.in-Ok.said.1 said
-    (ap are_alike (sym c.as_slice.ensures) ∙ sym c.if-not-are_alike.ensures))
-
 pub returns-in_default-coll-clause-broken : goal.returns-in_default-coll-clause-broken
 returns-in_default-coll-clause-broken c =
     let said = sym c.in_ok-said.ensures ∙ c.in-Ok.is in
-    sym (no_root (before_of c.args.self.now) c.args.verb c.args.args.now c.in-Some.peers c.in-Some.is c.in-Ok.said.0 c.in-Ok.said.1 said
-    (ap are_alike (sym c.as_slice.ensures) ∙ sym c.if-not-are_alike.ensures) c.in_default-coll.is)
+    sym (no_root (before_of c.args.self.now) c.args.verb c.args.args.now c.in-Some.peers c.in-Some.is c.in-Ok.said.0 c.in-Ok.said.1 said c.in_default-coll.is)
 
 pub is_much-requires-clause-few : goal.is_much-requires-clause-few
 is_much-requires-clause-few c =
     let n = c.in-Some.peers in
     let right = said_right n c.args.verb c.args.args.now c.in-Ok.said (sym c.in_ok-said.ensures ∙ c.in-Ok.is) in
     let ranks = c.args.self.now.few_ranks n c.in-Some.is in
-    omega (arith, ap (λ (shares : List BytesWord). length shares) c.as_slice-2.ensures, right.2 ranks.0, ranks.1)
+    omega (arith, ap (λ (shares : List BytesWord). length shares) c.as_slice.ensures, right.2 ranks.0, ranks.1)
 
 pub returns-then-is_much-clause-broken : goal.returns-then-is_much-clause-broken
 returns-then-is_much-clause-broken c =
     let said = sym c.in_ok-said.ensures ∙ c.in-Ok.is in
     let n = c.in-Some.peers in
     let rounds = c.args.self.now.rounds.items in
-    sym (too_much (before_of c.args.self.now) c.args.verb c.args.args.now n c.in-Some.is c.in-Ok.said.0 c.in-Ok.said.1 said c.in-Some-coll.coll
-    (ap are_alike (sym c.as_slice.ensures) ∙ sym c.if-not-are_alike.ensures) c.in-Some-coll.is
-    (ap (λ (shares : List BytesWord). nat_le 100 (length rounds) || are_much n rounds shares) (sym c.as_slice-2.ensures) ∙ sym c.if-is_much.ensures))
+    sym (too_much (before_of c.args.self.now) c.args.verb c.args.args.now n c.in-Some.is c.in-Ok.said.0 c.in-Ok.said.1 said c.in-Some-coll.coll c.in-Some-coll.is
+    (ap (λ (shares : List BytesWord). nat_le 100 (length rounds) || are_much n rounds shares) (sym c.as_slice.ensures) ∙ sym c.if-is_much.ensures))
 
 pub add-requires-clause-few : goal.add-requires-clause-few
 add-requires-clause-few c =
@@ -58,6 +50,5 @@ returns-clause-broken c =
     let said = sym c.in_ok-said.ensures ∙ c.in-Ok.is in
     let n = c.in-Some.peers in
     let rounds = c.args.self.now.rounds.items in
-    sym (no_rule (before_of c.args.self.now) c.args.verb c.args.args.now n c.in-Some.is c.in-Ok.said.0 c.in-Ok.said.1 said c.in-Some-coll.coll
-    (ap are_alike (sym c.as_slice.ensures) ∙ sym c.if-not-are_alike.ensures) c.in-Some-coll.is
-    (ap (λ (shares : List BytesWord). nat_le 100 (length rounds) || are_much n rounds shares) (sym c.as_slice-2.ensures) ∙ sym c.if-is_much.ensures))
+    sym (no_rule (before_of c.args.self.now) c.args.verb c.args.args.now n c.in-Some.is c.in-Ok.said.0 c.in-Ok.said.1 said c.in-Some-coll.coll c.in-Some-coll.is
+    (ap (λ (shares : List BytesWord). nat_le 100 (length rounds) || are_much n rounds shares) (sym c.as_slice.ensures) ∙ sym c.if-is_much.ensures))
