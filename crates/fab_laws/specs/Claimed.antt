@@ -2,7 +2,7 @@
 --     handles call s t            what is seen to happen to such messages in a step from s to t that makes this call, if any
 --     handled_of from turns p     all that so happened at peer p in these turns
 --     freed, put_away, lost       the messages taken or dropped; those claimed or discarded, told by such a history; the same told by a past
-use Rattle.std.specs.Prelude.{ℕ, Bool, true, false, ◌&&◌, ◌==◌, List, [], ◌∷◌, ◌++◌, length, Option, Some, None, slice_get}
+use Rattle.std.specs.Prelude.{ℕ, true, false, ◌&&◌, ◌==◌, List, [], ◌∷◌, ◌++◌, length, Option, Some, None, slice_get}
 use Rattle.fab_base.specs.declared.entries.PeekHow.TheVariants.{Discard}
 use Rattle.fab_base.specs.declared.operations.Arrival.{Arrival}
 use Rattle.fab_model.specs.State.{State}

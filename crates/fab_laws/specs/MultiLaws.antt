@@ -3,7 +3,7 @@
 --     placed n call past      these messages, each with its place in the buffer, the newest first
 --     PlacesFollow            each is told by an entry that has this place, or comes to it
 --     ClosesInTime            the receive takes no more once fewer than its least free bytes are left
-use Rattle.std.specs.Prelude.{◌≡◌, ℕ, ◌+◌, ◌-◌, min, Bool, true, false, nat_lt, ◌==◌, List, [], ◌∷◌, ◌++◌, length, Option, Some, slice_index, ◌⊎◌}
+use Rattle.std.specs.Prelude.{◌≡◌, ℕ, ◌+◌, ◌-◌, min, Bool, true, false, nat_lt, ◌==◌, List, [], ◌∷◌, ◌++◌, length, Some, slice_index, ◌⊎◌}
 use Rattle.fab_base.specs.declared.items.Item.{Item}
 use Rattle.fab_base.specs.declared.operations.Coming.TheVariants.{Into}
 use Rattle.fab_base.specs.declared.operations.Receive.{Receive}

@@ -9,9 +9,9 @@ use Rattle.fab_model.specs.State.{Receiving, accepted_for, coming_from}
 use Rattle.fab_laws.specs.Members.{In, Never}
 use Rattle.fab_model.specs.Views.{seen}
 use Rattle.fab_laws.specs.Programs.{Peer, at_rest, program}
-use Rattle.fab_laws.specs.Matched.{Came, Event, Got, Mark, goes_into}
+use Rattle.fab_laws.specs.Matched.{Came, Got, Mark, goes_into}
 use Rattle.fab_laws.specs.StreamLaws.{HasArrived, IsFirst, TakesAll}
-use Rattle.fab_laws.specs.Claimed.{Claimed, Dropped, Handling, Slipped, Took}
+use Rattle.fab_laws.specs.Claimed.{Claimed, Dropped, Slipped, Took}
 use Rattle.fab_laws.specs.ClaimLaws.{FreesClaimed, NoneSlips, StaysAside, WentTo}
 use Rattle.fab_laws.specs.MessageLaws.{IsMessage}
 use Rattle.fab_laws.specs.MultiLaws.{ClosesWhenFull, PlacesTell}

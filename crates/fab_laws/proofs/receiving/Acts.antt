@@ -1,7 +1,7 @@
 -- What each deed makes of a peer on its receiving side: what is posted, what comes where, what waits, what is set aside, and which entries are written.
 --     Act v s x t     the deed x, in this view, leads from s to t so
 --     act             each deed that stands does one of these
-use Rattle.std.proofs.Common.{◌≡◌, ◌≢◌, ◌+◌, ℕ, Bool, true, false, not, List, [], ◌∷◌, ◌++◌, map, set, slice_get, Option, Some, None, ◌⊎◌, inl, inr, refl, sym, ◌∙◌, ap, subst, arith, rules, append_assoc, append-nil}
+use Rattle.std.proofs.Common.{◌≡◌, ◌≢◌, ◌+◌, ℕ, Bool, true, false, List, [], ◌∷◌, ◌++◌, set, slice_get, Option, Some, None, ◌⊎◌, inl, inr, refl, sym, ◌∙◌, ap, subst, rules, append_assoc, append-nil}
 use Rattle.std.specs.Prelude.{find, slice_index, unwrap_or, ◌==◌}
 use Rattle.fab_base.specs.declared.items.Item.{Item}
 use Rattle.fab_base.specs.declared.items.ItemHead.{ItemHead}
@@ -28,8 +28,8 @@ use Rattle.fab_base.specs.declared.operations.Written.{Written}
 use Rattle.fab_model.specs.Matching.{is_message, is_tagged, remove_first, takes}
 use Rattle.fab_model.specs.State.{Completions, Receiving, State, called, coming_from, count, lookup, raise, under_way, with_rx, with_tx, write}
 use Rattle.fab_model.specs.Complete.{at_delivery, at_match, book, entry_of, error, fill, filling, is_made_by, let_go, release, release_multi, reply}
-use Rattle.fab_model.specs.Sending.{Order, answering, class_of, do_answer, do_sent, end_with, ending, going_on, is_answered, is_answered_by, success_of, transmit, transmit_fault, transmit_to, transmitting}
-use Rattle.fab_model.specs.Receiving.{Posting, cancel, cancel_fault, cancellable, claim_of, claimed_fault, claiming, draw_due, draws, drop_arrival, drop_claimed, give, goes, joining_posted, look, look_at, look_fault, look_refusals, peeked, post, post_fault, receive_of, take_claimed, taken_by, taking, want_of, without_claim, without_first, without_posted}
+use Rattle.fab_model.specs.Sending.{Order, answering, class_of, do_answer, do_sent, end_with, ending, going_on, is_answered, is_answered_by, success_of, transmit, transmit_to, transmitting}
+use Rattle.fab_model.specs.Receiving.{Posting, cancel, cancellable, claim_of, claiming, draw_due, draws, drop_arrival, drop_claimed, give, goes, joining_posted, look, look_at, peeked, post, receive_of, take_claimed, taken_by, taking, want_of, without_claim, without_first, without_posted}
 use Rattle.fab_model.specs.Target.{perform}
 use Rattle.fab_model.specs.Arrivals.{do_draw, do_head, do_request, do_tail, heading_message, heading_other, is_wanted, keeping, made_whole, newcomer, remote_data, remote_event, seated, seating, shut, tail_to, taker, way_of, with_regions}
 use Rattle.fab_model.specs.Calls.{Call, Transmit, Post, Look, TakeClaimed, DropClaimed, Cancel, CancelFirst, Insert, Remove, Reg, Close, Put, Show, Count, answer, close, do_call, insert, put, reg, remove}
@@ -39,7 +39,7 @@ use Rattle.fab_model.specs.Views.{View}
 use Rattle.fab_laws.specs.Programs.{Counts, Deed, Draw, Head, Makes, Peer, Tail, program, with_counters}
 use Rattle.fab_laws.specs.Matched.{Mark, mark_of, tells_message}
 use Rattle.fab_laws.proofs.Lists.{Each, always, each_append}
-use Rattle.fab_laws.proofs.Stepping.{LineIs, StepIs, step_is}
+use Rattle.fab_laws.proofs.Stepping.{StepIs, step_is}
 use Rattle.fab_laws.proofs.matching.Quiet.{book_quiet}
 use Rattle.fab_laws.proofs.matching.Watch.{book_cq}
 use Rattle.fab_laws.proofs.matching.Watch as Watch
@@ -221,12 +221,15 @@ success_plain : (o : Operation) (bytes : List ℕ) → Plain (record { call = So
 unfolding success_of
 success_plain o bytes = go o.head.kind (is_answered o.head)
   where
-    go : (k : Kind) (b : Bool) → Plain (record { call = Some o.call; entry = Success (elim k [
-      | ReadReq ↦ Entry.Read (unwrap_or o.ctx 0) bytes
-      | WriteReq ↦ Wrote (unwrap_or o.ctx 0) (unwrap_or o.buf [])
-      | AtomicReq ↦ elim b [ true ↦ Fetched (unwrap_or o.ctx 0) bytes | false ↦ Updated (unwrap_or o.ctx 0) ]
-      | _ ↦ Sent (unwrap_or o.ctx 0) (is_tagged o.head.kind) (unwrap_or o.buf [])
-    ]) })
+    go : (k : Kind) (b : Bool) → Plain (record {
+      call = Some o.call;
+      entry = Success (elim k [
+        | ReadReq ↦ Entry.Read (unwrap_or o.ctx 0) bytes
+        | WriteReq ↦ Wrote (unwrap_or o.ctx 0) (unwrap_or o.buf [])
+        | AtomicReq ↦ elim b [ true ↦ Fetched (unwrap_or o.ctx 0) bytes | false ↦ Updated (unwrap_or o.ctx 0) ]
+        | _ ↦ Sent (unwrap_or o.ctx 0) (is_tagged o.head.kind) (unwrap_or o.buf [])
+      ]);
+    })
     go Msg b = (refl, refl)
     go TagMsg b = (refl, refl)
     go WriteReq b = (refl, refl)

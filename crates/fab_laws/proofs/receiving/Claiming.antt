@@ -1,15 +1,15 @@
 -- What the histories say of messages that went: each step adds to them what keeps the law of claims, and that a message goes once.
 --     News past s t es hs      what a step adds to the two histories, and what it makes of the messages set aside
 --     Claiming past h aside    what holds of the histories and of the messages set aside
-use Rattle.std.proofs.Common.{◌≡◌, ℕ, Bool, true, false, List, [], ◌∷◌, ◌++◌, map, Option, Some, None, ◌⊎◌, inl, inr, refl, sym, ◌∙◌, ap, ap₂, subst}
+use Rattle.std.proofs.Common.{◌≡◌, ℕ, Bool, true, List, [], ◌∷◌, ◌++◌, Option, Some, None, ◌⊎◌, inl, inr, refl, sym, ◌∙◌, ap, ap₂, subst}
 use Rattle.fab_base.specs.declared.operations.Receive.{Receive}
 use Rattle.fab_model.proofs.Parts.{some_same}
 use Rattle.fab_laws.specs.Members.{Ahead, In, Never}
-use Rattle.fab_laws.specs.Matched.{Came, Cancelled, Event, Got, Lost, Made, Mark, came, gone}
+use Rattle.fab_laws.specs.Matched.{Came, Cancelled, Event, Got, Lost, Made, Mark, gone}
 use Rattle.fab_laws.specs.Claimed.{Claimed, Discarded, Dropped, Handling, Slipped, Took, freed, lost, put_away}
 use Rattle.fab_laws.specs.ClaimLaws.{Frees, FreesClaimed, NoneSlips, WentTo}
 use Rattle.fab_laws.specs.ReceiveLaws.{LeavesOnce, LetsGo}
-use Rattle.fab_laws.proofs.Lists.{Always, Each, Loses, ahead_end, always, in_end, in_front, in_middle, never}
+use Rattle.fab_laws.proofs.Lists.{Always, Each, Loses, ahead_end, in_end, in_front, in_middle, never}
 
 -- ---- words
 
@@ -228,18 +228,18 @@ module _ (past : List Event) (h : List Handling) (aside : List (ℕ × Mark)) (k
       goes : Claiming (es ++ past) (e ∷ h) after
       goes = record {
         claimed = λ c y i. (
-          let k = kept.claimed c y (loses.within (c, y) i) in
-          (inr k.0, λ j. elim (let z : In y (x ∷ freed h) = subst (In y) frees j in z) [ inl same ↦ differs c y i same | inr l ↦ k.1 l ]));
+            let k = kept.claimed c y (loses.within (c, y) i) in
+            (inr k.0, λ j. elim (let z : In y (x ∷ freed h) = subst (In y) frees j in z) [ inl same ↦ differs c y i same | inr l ↦ k.1 l ]));
         stays = λ c y i. elim i [
           | inl f ↦ never (no_claim c y f)
           | inr j ↦ elim (kept.stays c y j) [
             | inl k ↦ elim (loses.stays (c, y) k) [
               | inl l ↦ inl l
               | inr (f, t) ↦ inr (
-                  now.0,
-                  (let g : ctx ≡ c = ap (λ (z : ℕ × Mark). z.0) (sym f) in let l : x ≡ y = ap (λ (z : ℕ × Mark). z.1) (sym f) in
-                  subst (λ n. In (Took now.0 n y) (e ∷ h) ⊎ In (Dropped now.0 n y) (e ∷ h)) g (subst (λ z. In (Took now.0 ctx z) (e ∷ h) ⊎ In (Dropped now.0 ctx z) (e ∷ h)) l now.1)),
-                )
+                now.0,
+                (let g : ctx ≡ c = ap (λ (z : ℕ × Mark). z.0) (sym f) in let l : x ≡ y = ap (λ (z : ℕ × Mark). z.1) (sym f) in
+                    subst (λ n. In (Took now.0 n y) (e ∷ h) ⊎ In (Dropped now.0 n y) (e ∷ h)) g (subst (λ z. In (Took now.0 ctx z) (e ∷ h) ⊎ In (Dropped now.0 ctx z) (e ∷ h)) l now.1)),
+              )
             ]
             | inr k ↦ elim k.1 [ inl t ↦ inr (k.0, inl (inr t)) | inr d ↦ inr (k.0, inr (inr d)) ]
           ]

@@ -1,6 +1,6 @@
 -- What each act does to what comes, and to the entries.
-use Rattle.std.proofs.Common.{◌≡◌, ◌≢◌, ◌<◌, ◌≤◌, ◌+◌, ℕ, Bool, true, false, ◌&&◌, List, [], ◌∷◌, ◌++◌, length, map, set, get_or, get_or-set_same, slice_get, Option, Some, None, ◌⊎◌, inl, inr, refl, sym, ◌∙◌, ap, ap₂, subst, arith, append-nil}
-use Rattle.std.specs.Prelude.{find, is_none, nat_lt, slice_index, ◌==◌}
+use Rattle.std.proofs.Common.{◌≡◌, ◌<◌, ◌≤◌, ◌+◌, ℕ, Bool, true, false, List, [], ◌∷◌, ◌++◌, length, map, set, get_or, get_or-set_same, slice_get, Option, Some, None, ◌⊎◌, inl, inr, refl, sym, ◌∙◌, ap, ap₂, subst, arith, append-nil}
+use Rattle.std.specs.Prelude.{find, is_none, slice_index, ◌==◌}
 use Rattle.std.proofs.lemmas.Bool.{and_from, lt-ltb}
 use Rattle.std.proofs.lemmas.Bool.Decides.{nat_tests}
 use Rattle.fab_base.specs.declared.items.Item.{Item}
@@ -10,29 +10,29 @@ use Rattle.fab_base.specs.declared.operations.Coming.{Coming}
 use Rattle.fab_base.specs.declared.operations.Coming.TheVariants.{Into, Keep, Throw, Request, Answer}
 use Rattle.fab_base.specs.declared.operations.Receive.{Receive}
 use Rattle.fab_base.specs.declared.operations.Written.{Written}
-use Rattle.fab_model.specs.Matching.{is_message, takes}
-use Rattle.fab_model.specs.State.{Receiving, State, coming_from, raise}
+use Rattle.fab_model.specs.Matching.{takes}
+use Rattle.fab_model.specs.State.{Receiving, coming_from, raise}
 use Rattle.fab_model.specs.Complete.{entry_of, filling}
-use Rattle.fab_model.specs.Receiving.{Posting, claim_of, draws, goes, receive_of, taking, want_of, without_claim, without_first}
-use Rattle.fab_model.specs.Arrivals.{is_wanted, keeping, seating}
+use Rattle.fab_model.specs.Receiving.{claim_of, draws, goes, receive_of, taking, want_of, without_claim, without_first}
+use Rattle.fab_model.specs.Arrivals.{keeping, seating}
 use Rattle.fab_model.specs.Calls.{Call, Post, TakeClaimed}
 use Rattle.fab_model.specs.Views.{View}
 use Rattle.fab_model.proofs.Parts.{get_or-set, some_same}
-use Rattle.fab_laws.specs.Members.{In, Never}
-use Rattle.fab_laws.specs.Programs.{Deed, Head, Makes, Peer}
+use Rattle.fab_laws.specs.Members.{In}
+use Rattle.fab_laws.specs.Programs.{Deed, Makes, Peer}
 use Rattle.fab_laws.specs.Completed.{held}
-use Rattle.fab_laws.specs.Matched.{Event, Mark, goes_into, mark_of, tells_message}
-use Rattle.fab_laws.specs.MessageLaws.{IsMessage, IsOf, asked_by, asks_for}
+use Rattle.fab_laws.specs.Matched.{Event, Mark, mark_of, tells_message}
+use Rattle.fab_laws.specs.MessageLaws.{IsMessage, asked_by, asks_for}
 use Rattle.fab_laws.specs.Claimed.{Handling}
 use Rattle.fab_laws.specs.ClaimLaws.{WentTo}
 use Rattle.fab_laws.proofs.Counts.{in_many, one}
-use Rattle.fab_laws.proofs.Lists.{Each, always, each_append, each_in, each_so, found_in, in_back, in_front, in_map, in_middle, never, raise_here, raise_keeps}
-use Rattle.fab_laws.proofs.matching.Moves.{Keeps, source_within}
+use Rattle.fab_laws.proofs.Lists.{Each, always, each_in, each_so, found_in, in_back, in_front, in_map, in_middle, never, raise_here, raise_keeps}
+use Rattle.fab_laws.proofs.matching.Moves.{Keeps}
 use Rattle.fab_laws.proofs.replies.Owed.{Lane, OwedAt, is_keep, unwhole_of}
 use Rattle.fab_laws.proofs.streams.Told.{Aside, IsInto, Stands, Told, Truly}
 use Rattle.fab_laws.proofs.streams.Entries.{told_by}
-use Rattle.fab_laws.proofs.receiving.Acts.{Act, Arrives, Cancels, Claims, Closes, Discards, Draws, Drops, Ends, Fills, Gets, Idle, Joins, Passes, Plain, Posts, Rests, Seats, Takes, Waits, entries_for, entry_for, freed, given, is_into, leaving, let_out, subject, thrown, whole}
-use Rattle.fab_laws.proofs.receiving.News.{coming_out, leaves_given, leaves_out, leaves_thrown}
+use Rattle.fab_laws.proofs.receiving.Acts.{Act, Arrives, Cancels, Claims, Closes, Discards, Draws, Drops, Ends, Fills, Gets, Joins, Passes, Plain, Posts, Rests, Seats, Takes, Waits, entries_for, entry_for, freed, given, is_into, leaving, subject, thrown}
+use Rattle.fab_laws.proofs.receiving.News.{coming_out, leaves_given, leaves_out}
 use Rattle.fab_laws.proofs.receiving.Settling.{Flows, SettledAt, Settling, mark_at, of_more}
 
 abbrev Other : Written → Type 0
@@ -218,11 +218,11 @@ module _ (n : ℕ) (v : View Item) (past : List Event) (h : List Handling) (m rs
   -- an item arrives that goes to no receive
   arrives_aside : (source : ℕ) (item : Item) (c : Coming) → Arrives v a.state source item → is_into (Some c) ≡ false → b.state.rx.coming ≡ set a.state.rx.coming source (Some c) → b.state.rx.tails ≡ a.state.rx.tails → b.state.cq.written ≡ a.state.cq.written → Does None
   arrives_aside source item c arrives no_into coming tails written = calm [] (written ∙ sym (append-nil a.state.cq.written)) always (λ q.
-    let count : slice_index b.state.rx.tails q ≡ slice_index a.state.rx.tails q = ap (λ (xs : List ℕ). slice_index xs q) tails in
-    elim (set_there source (Some c) q coming) [
-      | inl same ↦ inl (same, count)
-      | inr here ↦ inr (subst (λ k. is_into (coming_from a.state.rx k) ≡ false) here.0 (ap is_into (level_none source arrives.level)), ap is_into here.1 ∙ no_into, omega (arith, count))
-    ])
+      let count : slice_index b.state.rx.tails q ≡ slice_index a.state.rx.tails q = ap (λ (xs : List ℕ). slice_index xs q) tails in
+      elim (set_there source (Some c) q coming) [
+        | inl same ↦ inl (same, count)
+        | inr here ↦ inr (subst (λ k. is_into (coming_from a.state.rx k) ≡ false) here.0 (ap is_into (level_none source arrives.level)), ap is_into here.1 ∙ no_into, omega (arith, count))
+      ])
 
   -- an item is whole that went to no receive
   whole_aside : (source : ℕ) (item : Item) (more : List Written) → Ends v a.state source item → is_into (coming_from a.state.rx source) ≡ false → b.state.rx.coming ≡ set a.state.rx.coming source None → b.state.rx.tails ≡ raise a.state.rx.tails source → b.state.cq.written ≡ a.state.cq.written ++ more → Each Other more → Does None
@@ -246,9 +246,13 @@ module _ (n : ℕ) (v : View Item) (past : List Event) (h : List Handling) (m rs
           let z : Some (Into r place) ≡ Some (Into f k) = sym from ∙ subst (λ i. coming_from a.state.rx i ≡ Some (Into f k)) (sym here.0) e in
           let g : r ≡ f = cc (z) in
           let d : place ≡ k = cc (z) in
-          subst (λ i. (y : Item) × (slice_get (v.ready i) (slice_index a.state.rx.tails i) ≡ Some y) × (slice_index a.state.rx.tails i < slice_index b.state.rx.tails i) × In (entry_for f k i y.head y.bytes) b.state.cq.written) here.0
-          (item, ends.at, up, subst (In (entry_for f k source item.head item.bytes)) (sym written) (in_front (entry_for f k source item.head item.bytes) (a.state.cq.written ++ w ∷ []) more
-          (subst (λ (j : Written). In j (a.state.cq.written ++ w ∷ [])) (ap₂ (λ (c : Receive) (i : ℕ). entry_for c i source item.head item.bytes) g d) (in_middle w a.state.cq.written [])))))
+          subst (λ i. (y : Item) × (slice_get (v.ready i) (slice_index a.state.rx.tails i) ≡ Some y) × (slice_index a.state.rx.tails i < slice_index b.state.rx.tails i) × In (entry_for f k i y.head y.bytes) b.state.cq.written) here.0 (
+            item,
+            ends.at,
+            up,
+            subst (In (entry_for f k source item.head item.bytes)) (sym written) (in_front (entry_for f k source item.head item.bytes) (a.state.cq.written ++ w ∷ []) more
+                (subst (λ (j : Written). In j (a.state.cq.written ++ w ∷ [])) (ap₂ (λ (c : Receive) (i : ℕ). entry_for c i source item.head item.bytes) g d) (in_middle w a.state.cq.written []))),
+          ))
     ];
     starts = λ q f k e. elim (each q) [ inl same ↦ inl (sym same.0 ∙ e, same.1) | inr here ↦ absurd (let g : None ≡ Some (Into f k) = sym here.1 ∙ e in cc (g)) ];
     entries = λ z i. elim (in_either z (a.state.cq.written ++ w ∷ []) more (subst (In z) written i)) [

@@ -1,10 +1,9 @@
 -- Wherever turns lead, what was claimed is taken or dropped once, what a receive got is told or on its way, and no message is lost.
-use Rattle.std.proofs.Common.{◌≡◌, ◌≢◌, ◌≤◌, ◌<◌, ◌+◌, ℕ, zero, suc, Bool, true, false, not, ◌||◌, List, [], ◌∷◌, ◌++◌, length, map, set, get_or, slice_get, Option, Some, None, ◌⊎◌, inl, inr, refl, sym, ◌∙◌, ap, ap₂, subst, arith}
-use Rattle.std.specs.Prelude.{count_by, is_none, nat_lt, slice_index, ◌==◌}
+use Rattle.std.proofs.Common.{◌≡◌, ◌≤◌, ◌<◌, ◌+◌, ℕ, zero, suc, Bool, true, false, not, ◌||◌, List, [], ◌∷◌, ◌++◌, length, map, set, get_or, slice_get, Option, Some, None, ◌⊎◌, inl, inr, refl, sym, ◌∙◌, ap, subst, arith}
+use Rattle.std.specs.Prelude.{count_by, is_none, nat_lt, slice_index}
 use Rattle.std.specs.List.{list_any}
 use Rattle.std.proofs.lemmas.Bool.{and_from, eq-eqb, lt-ltb}
 use Rattle.fab_base.specs.declared.items.Item.{Item}
-use Rattle.fab_base.specs.declared.items.ItemHead.{ItemHead}
 use Rattle.fab_base.specs.declared.operations.Arrival.{Arrival}
 use Rattle.fab_base.specs.declared.operations.Coming.{Coming}
 use Rattle.fab_base.specs.declared.operations.Coming.TheVariants.{Into, Keep, Throw, Request, Answer}
@@ -19,19 +18,19 @@ use Rattle.fab_model.specs.Receiving.{Posting, receive_of, taking}
 use Rattle.fab_model.specs.Calls.{Call, Post, TakeClaimed}
 use Rattle.fab_model.specs.Orders.{Turn}
 use Rattle.fab_model.specs.Peers.{part_of, same_ctx}
-use Rattle.fab_model.specs.Views.{More, View, rule, seen}
+use Rattle.fab_model.specs.Views.{More, View, seen}
 use Rattle.fab_model.proofs.Parts.{more_item}
 use Rattle.fab_model.proofs.Views as views
 use Rattle.fab_laws.specs.Members.{In, Never}
-use Rattle.fab_laws.specs.Programs.{Counts, Deed, Draw, Head, Makes, Opening, Peer, Tail, peer, program, starting}
+use Rattle.fab_laws.specs.Programs.{Counts, Deed, Draw, Head, Makes, Opening, Peer, Tail, program, starting}
 use Rattle.fab_laws.specs.Moments.{LeadTo, remembered}
-use Rattle.fab_laws.specs.Completed.{Accepted, has_ended, is_final, number, operations_of, receive_stands, send_stands}
+use Rattle.fab_laws.specs.Completed.{has_ended, is_final, number, send_stands}
 use Rattle.fab_laws.specs.Matched.{Came, Cancelled, Event, Got, Lost, Made, Mark, Wish, arrives, came, cancel_of, cancels, fate, goes_into, gone, happens, is_posted, left, made, makes, mark_of, new_entry, noticed, noting, parted, past_of, taken_now, wish_of}
 use Rattle.fab_laws.specs.MessageLaws.{IsMessage, asked_by, asked_of, asks_for, keeping_asked}
 use Rattle.fab_laws.specs.MultiLaws.{ClosesInTime, PlacesFollow}
 use Rattle.fab_laws.specs.Claimed.{Claimed, Discarded, Dropped, Handling, Slipped, Took, aside_of, call_in, freed, handled_of, handles, handling, lost, put_away}
 use Rattle.fab_laws.specs.ClaimLaws.{FreedRightly, LostIsPutAway, StaysClaimed, TakesTell}
-use Rattle.fab_laws.specs.ReceiveLaws.{Aside, Fate, GoesOnce, GotIsTold, IsComing, IsToldOf, NoneIsLost, OneTells, Received, TookIsTold, Waits, WasDiscarded, WasDropped, WasTaken}
+use Rattle.fab_laws.specs.ReceiveLaws.{Aside, GoesOnce, GotIsTold, IsComing, IsToldOf, NoneIsLost, OneTells, Received, TookIsTold, Waits, WasDiscarded, WasDropped, WasTaken}
 use Rattle.fab_laws.proofs.Counts.{counted, in_many, many, same_one}
 use Rattle.fab_laws.proofs.Lists.{always, any_in, each_in, never}
 use Rattle.fab_laws.proofs.Levels.{all_the_same}
@@ -49,11 +48,11 @@ use Rattle.fab_laws.proofs.replies.Stray.{AllOwed, all_owed, peer_of, turn_owed}
 use Rattle.fab_laws.proofs.streams.Told.{Stands, Told}
 use Rattle.fab_laws.proofs.streams.Entries.{both, fresh_told, more_seen, more_told, remembered_both, same_entry, step_by, told_by}
 use Rattle.fab_laws.proofs.receiving.Acts.{Act, act, subject}
-use Rattle.fab_laws.proofs.receiving.Claiming.{Claiming, FreeEach, News, claimed_gone, freed_claimed, frees_claimed, leaves_once, news_claims, none_slips}
+use Rattle.fab_laws.proofs.receiving.Claiming.{Claiming, News, claimed_gone, freed_claimed, frees_claimed, leaves_once, news_claims, none_slips}
 use Rattle.fab_laws.proofs.receiving.Flowing.{flows}
 use Rattle.fab_laws.proofs.receiving.Placing.{Placing, closes_when_full, grows, next_places, rows}
 use Rattle.fab_laws.proofs.receiving.News.{news}
-use Rattle.fab_laws.proofs.receiving.Settling.{ComesTo, HasItem, OwnTold, Settled, Settling, mark_at, settles}
+use Rattle.fab_laws.proofs.receiving.Settling.{HasItem, Settled, Settling, mark_at, settles}
 
 -- ---- the messages that arrive in a step are items
 
@@ -520,8 +519,7 @@ one_tells from turns states leads p a here f x last w asked none got there final
         let call : same_ctx z.call (Some f.call) ≡ true = ap (λ c. same_ctx c (Some f.call)) y.call ∙ eq-eqb y.r.call f.call number in
         let other : is_final f.call z ≡ true = and_from _ _ call whole in
         let few : many (is_final f.call) a.state.cq.written ≤ 1 = omega (arith, (numbers_complete from turns states leads p a here f.call).0, counted (is_final f.call) a.state.cq.written) in
-        let one : w ≡ z = same_one (is_final f.call) a.state.cq.written w z few there is final other in
-        (
+        let one : w ≡ z = same_one (is_final f.call) a.state.cq.written w z few there is final other in (
           y.item,
           subst (λ k. slice_get ((seen program states p).ready k) x.place ≡ Some y.item) source (subst (λ k. slice_get ((seen program states p).ready y.source) k ≡ Some y.item) place y.at),
           ap (λ (e : Written). e.entry) one ∙ y.entry ∙ ap (λ k. entry_of y.r k y.source y.item.head y.item.bytes) (y.single (least ∙ none)) ∙ same_entry y.r f y.source y.item.head y.item.bytes least buf ctx ∙ ap (λ k. entry_of f 0 k y.item.head y.item.bytes) source,

@@ -1,31 +1,30 @@
 -- What a step adds to the two histories, by what it does on the receiving side.
-use Rattle.std.proofs.Common.{◌≡◌, ◌<◌, ◌≤◌, ◌+◌, ℕ, zero, suc, Bool, true, false, not, ◌&&◌, List, [], ◌∷◌, ◌++◌, length, map, set, get_or, get_or-set_same, slice_get, Option, Some, None, ◌⊎◌, inl, inr, refl, sym, ◌∙◌, ap, ap₂, subst, arith, append-nil, length-append}
+use Rattle.std.proofs.Common.{◌≡◌, ◌<◌, ◌≤◌, ℕ, zero, suc, Bool, true, false, not, ◌&&◌, List, [], ◌∷◌, ◌++◌, length, map, get_or, get_or-set_same, slice_get, Option, Some, None, inl, inr, refl, sym, ◌∙◌, ap, ap₂, subst, arith, append-nil, length-append}
 use Rattle.std.specs.Prelude.{find, nat_lt, slice_index, ◌==◌}
 use Rattle.std.proofs.lemmas.Bool.{and_parts, eq-eqb, eqb-true, le-ltb, lt-ltb}
 use Rattle.std.proofs.lemmas.List.{length-map}
 use Rattle.fab_base.specs.declared.items.Item.{Item}
-use Rattle.fab_base.specs.declared.items.ItemHead.{ItemHead}
 use Rattle.fab_base.specs.declared.operations.Arrival.{Arrival}
 use Rattle.fab_base.specs.declared.operations.Coming.{Coming}
-use Rattle.fab_base.specs.declared.operations.Coming.TheVariants.{Into, Keep, Throw, Request, Answer}
+use Rattle.fab_base.specs.declared.operations.Coming.TheVariants.{Into, Keep, Throw}
 use Rattle.fab_base.specs.declared.operations.Receive.{Receive}
 use Rattle.fab_base.specs.declared.operations.Written.{Written}
 use Rattle.fab_model.specs.Matching.{is_message, remove_first, takes}
 use Rattle.fab_model.specs.State.{Receiving, State, coming_from}
-use Rattle.fab_model.specs.Receiving.{Posting, claim_of, claiming, draws, goes, receive_of, taking, want_of, without_claim, without_first}
+use Rattle.fab_model.specs.Receiving.{Posting, claim_of, goes, receive_of, taking, want_of, without_claim, without_first}
 use Rattle.fab_model.specs.Complete.{filling}
 use Rattle.fab_model.specs.Arrivals.{completed, keeping, seating}
-use Rattle.fab_model.specs.Calls.{Call, Cancel, CancelFirst, DropClaimed, Look, Post, TakeClaimed}
+use Rattle.fab_model.specs.Calls.{Call}
 use Rattle.fab_model.specs.Views.{View}
 use Rattle.fab_model.proofs.Parts.{prefix_get}
 use Rattle.fab_laws.specs.Members.{Ahead, In, Never}
 use Rattle.fab_laws.specs.Programs.{Counts, Deed, Draw, Head, Makes, Peer, Tail}
-use Rattle.fab_laws.specs.Matched.{Came, Cancelled, Event, Got, Lost, Made, Mark, Wish, arrives, came, cancel_of, cancels, claims_more, fate, filled_by, goes_into, gone, happens, is_posted, left, makes, mark_of, new_entry, noticed, parted, posting_of, same_item, taken_now, wish_of}
+use Rattle.fab_laws.specs.Matched.{Came, Cancelled, Event, Got, Lost, Made, Mark, arrives, came, cancel_of, cancels, claims_more, fate, filled_by, goes_into, gone, happens, is_posted, left, makes, mark_of, new_entry, noticed, parted, posting_of, same_item, taken_now, wish_of}
 use Rattle.fab_laws.specs.Claimed.{Claimed, Discarded, Dropped, Handling, Took, aside_of, call_in, claims, discards, discarding, freeing, frees, handles, parted_claim}
 use Rattle.fab_laws.proofs.Lists.{Each, Loses, ahead_in, ahead_map, ahead_middle, always, each_append, found_in, in_map, last_get, length_more, map_append, map_same, never, split_at}
 use Rattle.fab_laws.proofs.matching.Moves.{Keeps, loses_mapped, parts, source_within, split_in}
 use Rattle.fab_laws.proofs.matching.Watch.{entry_tells, left_got, left_lost, parted_same}
-use Rattle.fab_laws.proofs.receiving.Acts.{Act, Arrives, Cancels, Claims, Closes, Discards, Draws, Drops, Ends, Fills, Gets, Idle, Joins, Passes, Plain, Posts, Rests, Seats, Takes, Waits, entries_for, entry_for, freed, given, is_head, leaving, let_out, seat, subject, thrown, wait, whole}
+use Rattle.fab_laws.proofs.receiving.Acts.{Act, Arrives, Cancels, Claims, Closes, Discards, Draws, Drops, Fills, Gets, Joins, Passes, Plain, Posts, Rests, Seats, Takes, Waits, entries_for, entry_for, freed, given, is_head, leaving, let_out, subject, thrown}
 use Rattle.fab_laws.proofs.receiving.Claiming.{Claiming, Dull, Freed, Gone, News, Put, Still, Thrown, claimed_gone}
 use Rattle.fab_laws.proofs.receiving.Claiming.{Takes as TakesIt}
 
@@ -224,11 +223,11 @@ module _ (n : ℕ) (past : List Event) (h : List Handling) (v : View Item) (a b 
         let same : map aside_of b.state.rx.claimed ≡ map aside_of a.state.rx.claimed = ap (map aside_of) claimed in
         let few = no_more (as_many same) in
         Gone r (mark_of y) (not (is_posted r.call b.state)) (cancels a.state b.state ++ makes (posting_in x) a.state b.state) refl fresh
-            (noticed_so (Got r.call (mark_of y) (not (is_posted r.call b.state))) (left_got a.state b.state y r.call (not (is_posted r.call b.state)) parts_at claimed seen refl))
-            (dull_more (posting_in x) a.state b.state)
-            (handled_so (call_in x) [] [] [] (frees_none (call_in x) [] (same ∙ sym (append-nil (map aside_of a.state.rx.claimed)))) (claims_none (as_many same))
-            (discards_so (call_in x) false (Some r.call) few (ap (λ c. elim c [ true ↦ None | false ↦ elim y.bytes [ Some _ ↦ filled_by (new_entry a.state b.state) | None ↦ goes_into (coming_from b.state.rx y.source) ] ]) few ∙ seen)))
-            same
+        (noticed_so (Got r.call (mark_of y) (not (is_posted r.call b.state))) (left_got a.state b.state y r.call (not (is_posted r.call b.state)) parts_at claimed seen refl))
+        (dull_more (posting_in x) a.state b.state)
+        (handled_so (call_in x) [] [] [] (frees_none (call_in x) [] (same ∙ sym (append-nil (map aside_of a.state.rx.claimed)))) (claims_none (as_many same))
+        (discards_so (call_in x) false (Some r.call) few (ap (λ c. elim c [ true ↦ None | false ↦ elim y.bytes [ Some _ ↦ filled_by (new_entry a.state b.state) | None ↦ goes_into (coming_from b.state.rx y.source) ] ]) few ∙ seen)))
+        same
 
     put : (ctx : ℕ) → b.state.rx.claimed ≡ a.state.rx.claimed ++ (ctx, y) ∷ [] → Tells None (noticed v a x b) (handles (call_in x) a.state b.state)
     put ctx claimed =
@@ -236,10 +235,10 @@ module _ (n : ℕ) (past : List Event) (h : List Handling) (v : View Item) (a b 
         let many : claims_more a.state b.state ≡ true = lt-ltb (length a.state.rx.claimed) (length b.state.rx.claimed) (omega (arith, ap length claimed, length_more a.state.rx.claimed (ctx, y))) in
         let none : taken_now a.state b.state y ≡ None = ap (λ c. elim c [ true ↦ None | false ↦ elim y.bytes [ Some _ ↦ filled_by (new_entry a.state b.state) | None ↦ goes_into (coming_from b.state.rx y.source) ] ]) many in
         Put ctx (mark_of y) (cancels a.state b.state ++ makes (posting_in x) a.state b.state) refl fresh (noticed_so (Lost (mark_of y)) (left_lost a.state b.state y parts_at none)) (dull_more (posting_in x) a.state b.state)
-            (handled_so (call_in x) [] (Claimed ctx (mark_of y) ∷ []) [] (frees_none (call_in x) ((ctx, mark_of y) ∷ []) more)
-            (ap (λ (o : Option (ℕ × Arrival)). elim o [ None ↦ [] | Some c ↦ Claimed c.0 (mark_of c.1) ∷ [] ]) (ap (λ (cs : List (ℕ × Arrival)). slice_get cs (length a.state.rx.claimed)) claimed ∙ last_get a.state.rx.claimed (ctx, y)))
-            (discards_so (call_in x) true None many none))
-            more
+        (handled_so (call_in x) [] (Claimed ctx (mark_of y) ∷ []) [] (frees_none (call_in x) ((ctx, mark_of y) ∷ []) more)
+        (ap (λ (o : Option (ℕ × Arrival)). elim o [ None ↦ [] | Some c ↦ Claimed c.0 (mark_of c.1) ∷ [] ]) (ap (λ (cs : List (ℕ × Arrival)). slice_get cs (length a.state.rx.claimed)) claimed ∙ last_get a.state.rx.claimed (ctx, y)))
+        (discards_so (call_in x) true None many none))
+        more
 
     throw : (call : ℕ) → discarding (call_in x) a.state.calls (mark_of y) ≡ Discarded call (mark_of y) → b.state.rx.claimed ≡ a.state.rx.claimed
         → (let o : Option ℕ = elim y.bytes [ Some _ ↦ filled_by (new_entry a.state b.state) | None ↦ goes_into (coming_from b.state.rx y.source) ] in o) ≡ None → Tells None (noticed v a x b) (handles (call_in x) a.state b.state)
@@ -248,9 +247,9 @@ module _ (n : ℕ) (past : List Event) (h : List Handling) (v : View Item) (a b 
         let few = no_more (as_many same) in
         let none : taken_now a.state b.state y ≡ None = ap (λ c. elim c [ true ↦ None | false ↦ elim y.bytes [ Some _ ↦ filled_by (new_entry a.state b.state) | None ↦ goes_into (coming_from b.state.rx y.source) ] ]) few ∙ seen in
         Thrown call (mark_of y) (cancels a.state b.state ++ makes (posting_in x) a.state b.state) refl fresh (noticed_so (Lost (mark_of y)) (left_lost a.state b.state y parts_at none)) (dull_more (posting_in x) a.state b.state)
-            (handled_so (call_in x) [] [] (Discarded call (mark_of y) ∷ []) (frees_none (call_in x) [] (same ∙ sym (append-nil (map aside_of a.state.rx.claimed)))) (claims_none (as_many same))
-            (discards_so (call_in x) false None few none ∙ ap (λ (e : Handling). e ∷ []) asks))
-            same
+        (handled_so (call_in x) [] [] (Discarded call (mark_of y) ∷ []) (frees_none (call_in x) [] (same ∙ sym (append-nil (map aside_of a.state.rx.claimed)))) (claims_none (as_many same))
+        (discards_so (call_in x) false None few none ∙ ap (λ (e : Handling). e ∷ []) asks))
+        same
 
   -- ---- a message leaves those set aside
 

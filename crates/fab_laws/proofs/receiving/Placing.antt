@@ -1,5 +1,5 @@
 -- Where the messages of a buffer for many messages stand: each step keeps that they follow one another.
-use Rattle.std.proofs.Common.{◌≡◌, ◌≢◌, ◌<◌, ◌≤◌, ◌+◌, ◌-◌, ℕ, min, Bool, true, false, not, List, [], ◌∷◌, ◌++◌, length, map, take, drop, slice_get, Option, Some, None, ◌⊎◌, inl, inr, refl, sym, ◌∙◌, ap, ap₂, subst, arith, length-append, length-take, length-drop}
+use Rattle.std.proofs.Common.{◌≡◌, ◌<◌, ◌+◌, ◌-◌, ℕ, min, Bool, true, false, not, List, [], ◌∷◌, ◌++◌, length, map, take, drop, slice_get, Option, Some, None, ◌⊎◌, inl, inr, refl, sym, ◌∙◌, ap, ap₂, subst, arith, length-append, length-take, length-drop}
 use Rattle.std.specs.Prelude.{find, nat_lt, slice_index, ◌==◌}
 use Rattle.std.proofs.lemmas.Bool.{eq-eqb, eqb-true, ne_eqb}
 use Rattle.fab_base.specs.declared.items.Item.{Item}
@@ -7,28 +7,26 @@ use Rattle.fab_base.specs.declared.operations.Arrival.{Arrival}
 use Rattle.fab_base.specs.declared.operations.Coming.{Coming}
 use Rattle.fab_base.specs.declared.operations.Coming.TheVariants.{Into}
 use Rattle.fab_base.specs.declared.operations.Receive.{Receive}
-use Rattle.fab_base.specs.declared.operations.Written.{Written}
 use Rattle.fab_model.specs.Matching.{change_first, remove_first}
 use Rattle.fab_model.specs.State.{Receiving, State, coming_from}
 use Rattle.fab_model.specs.Complete.{fill_multi, filled, filling, is_made_by, paste}
-use Rattle.fab_model.specs.Receiving.{Posting, draws, goes, joining_posted, may_leave, receive_of, taking, without_claim, without_first, without_posted}
+use Rattle.fab_model.specs.Receiving.{Posting, draws, goes, may_leave, receive_of, taking, without_claim, without_first}
 use Rattle.fab_model.specs.Arrivals.{is_wanted, keeping, seated, seating, stays, used_up}
 use Rattle.fab_model.specs.Calls.{Post, TakeClaimed}
 use Rattle.fab_model.specs.Views.{View}
 use Rattle.fab_model.proofs.Parts.{some_same}
 use Rattle.fab_laws.specs.Members.{Ahead, In, Never}
 use Rattle.fab_laws.specs.Programs.{Deed, Makes}
-use Rattle.fab_laws.specs.Matched.{Came, Cancelled, Event, Got, Lost, Made, Mark, Wish, is_posted, made, mark_of, wish_of}
-use Rattle.fab_laws.specs.MessageLaws.{IsMessage, IsOf}
-use Rattle.fab_laws.specs.MultiLaws.{IsComingAt, IsToldAt, placed, used_in}
+use Rattle.fab_laws.specs.Matched.{Came, Cancelled, Event, Got, Lost, Made, Mark, is_posted, made, mark_of, wish_of}
+use Rattle.fab_laws.specs.MessageLaws.{IsOf}
+use Rattle.fab_laws.specs.MultiLaws.{placed, used_in}
 use Rattle.fab_laws.specs.Claimed.{Handling}
 use Rattle.fab_laws.proofs.Lists.{Always, Each, Split, always, any_in, none_any, ahead_in, ahead_map, ahead_middle, changed_same, found_in, in_back, in_end, in_front, in_less, in_map, in_middle, in_removed, mapped, map_append, never, split_at}
 use Rattle.fab_laws.proofs.matching.Moves.{Keeps}
-use Rattle.fab_laws.proofs.streams.Told.{Told, IsInto}
-use Rattle.fab_laws.proofs.streams.Entries.{told_by}
-use Rattle.fab_laws.proofs.receiving.Acts.{Act, Cancels, Claims, Closes, Discards, Draws, Drops, Fills, Gets, Joins, Passes, Posts, Rests, Seats, Takes, Waits, entry_for, given, leaving, let_out, subject, thrown, whole}
+use Rattle.fab_laws.proofs.streams.Told.{IsInto}
+use Rattle.fab_laws.proofs.receiving.Acts.{Act, Cancels, Claims, Closes, Discards, Draws, Drops, Fills, Gets, Joins, Passes, Posts, Rests, Seats, Takes, Waits, entry_for, given, leaving, let_out, subject, thrown}
 use Rattle.fab_laws.proofs.receiving.Claiming.{Dull, Freed, Gone, News, Put, Still, Thrown}
-use Rattle.fab_laws.proofs.receiving.Settling.{Flows, HasItem, SettledAt, Settling, message_more, of_more}
+use Rattle.fab_laws.proofs.receiving.Settling.{Flows, HasItem, SettledAt, message_more, of_more}
 
 -- ---- the events that give nothing to a receive
 
@@ -235,11 +233,11 @@ module _ (n : ℕ) (past : List Event) (v : View Item) (s t : State) (x : Deed) 
 
   gives : (test : Receive → Bool) (r : Receive) (y : Mark) → find test s.rx.posted ≡ Some r → map seat_of t.rx.posted ≡ map seat_of (seated test y.head.total r s.rx.posted) → Rows rs s t (Some (r, y))
   gives test r y found e = Give r y refl (found_in test s.rx.posted r found).0 (λ q i.
-    let m = mapped seat_of q (seated test y.head.total r s.rx.posted) (subst (In q) e i) in
-    elim (seated_seats s.rx.posted apart test r found y.head.total m.0 m.1) [
-      | inl old ↦ inl (subst (λ (z : Seat). In z (map seat_of s.rx.posted)) (sym m.2) (in_map seat_of m.0 s.rx.posted old.0), λ same. old.1 (ap (λ (z : Seat). z.call) (sym m.2) ∙ same))
-      | inr new ↦ inr (m.2 ∙ ap seat_of new)
-    ]) (seen (stays y.head.total r) refl)
+      let m = mapped seat_of q (seated test y.head.total r s.rx.posted) (subst (In q) e i) in
+      elim (seated_seats s.rx.posted apart test r found y.head.total m.0 m.1) [
+        | inl old ↦ inl (subst (λ (z : Seat). In z (map seat_of s.rx.posted)) (sym m.2) (in_map seat_of m.0 s.rx.posted old.0), λ same. old.1 (ap (λ (z : Seat). z.call) (sym m.2) ∙ same))
+        | inr new ↦ inr (m.2 ∙ ap seat_of new)
+      ]) (seen (stays y.head.total r) refl)
     where
       seen : (b : Bool) → stays y.head.total r ≡ b → is_posted r.call t ≡ stays y.head.total r
       seen true k =
@@ -260,8 +258,8 @@ module _ (n : ℕ) (past : List Event) (v : View Item) (s t : State) (x : Deed) 
   rows (Takes buf ctx y is calls found rx written) = single (taking s buf ctx) (mark_of y) refl (took buf ctx is calls) (ap (λ (z : Receiving). map seat_of z.posted) rx ∙ given_seats (taking s buf ctx) 0 y (without_claim ctx s.rx))
   rows (Drops ctx y w is calls found rx written plain) = stay None refl (ap (λ (z : Receiving). map seat_of z.posted) rx ∙ thrown_seats y _)
   rows (Cancels c test r is which calls found rx written) = Stay (λ q i.
-    let m = mapped seat_of q (remove_first (may_leave s.rx test) s.rx.posted) (subst (In q) (ap (λ (z : Receiving). map seat_of z.posted) rx) i) in
-    subst (λ (z : Seat). In z (map seat_of s.rx.posted)) (sym m.2) (in_map seat_of m.0 s.rx.posted (in_removed (may_leave s.rx test) s.rx.posted m.0 m.1))) (λ r y f. absurd (cc (f)))
+      let m = mapped seat_of q (remove_first (may_leave s.rx test) s.rx.posted) (subst (In q) (ap (λ (z : Receiving). map seat_of z.posted) rx) i) in
+      subst (λ (z : Seat). In z (map seat_of s.rx.posted)) (sym m.2) (in_map seat_of m.0 s.rx.posted (in_removed (may_leave s.rx test) s.rx.posted m.0 m.1))) (λ r y f. absurd (cc (f)))
   rows (Seats source item r is arrives message found rx written) = gives (is_wanted source item.head) r (record { source = source; place = slice_index s.rx.heads source; head = item.head }) found (ap (λ (z : Receiving). map seat_of z.posted) rx)
   rows (Waits source item is arrives message found rx written) = stay None refl (ap (λ (z : Receiving). map seat_of z.posted) rx)
   rows (Passes source item c is arrives other no_into rx written) = stay None refl (ap (λ (z : Receiving). map seat_of z.posted) rx)

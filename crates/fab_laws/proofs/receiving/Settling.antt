@@ -1,43 +1,26 @@
 -- What a receive got is on its way to it, or told by an entry of its number: each step keeps this.
 --     Settling v past h m s     what holds of the histories, the receives asked for, and the state
-use Rattle.std.proofs.Common.{◌≡◌, ◌≢◌, ◌<◌, ◌≤◌, ◌+◌, ℕ, Bool, true, false, ◌&&◌, List, [], ◌∷◌, ◌++◌, length, map, set, get_or, get_or-set_same, slice_get, Option, Some, None, ◌⊎◌, inl, inr, refl, sym, ◌∙◌, ap, ap₂, subst, subst₂, arith, append-nil, append_assoc}
-use Rattle.std.specs.Prelude.{find, is_none, nat_lt, slice_index, ◌==◌}
-use Rattle.std.proofs.lemmas.Bool.{and_from, cases_eq, lt-ltb}
-use Rattle.std.proofs.lemmas.Bool.Decides.{nat_tests}
+use Rattle.std.proofs.Common.{◌≡◌, ◌<◌, ◌≤◌, ℕ, Bool, true, false, List, [], ◌∷◌, ◌++◌, slice_get, Option, Some, None, ◌⊎◌, inl, inr, refl, sym, ◌∙◌, ap, subst, arith}
+use Rattle.std.specs.Prelude.{slice_index}
 use Rattle.fab_base.specs.declared.items.Item.{Item}
-use Rattle.fab_base.specs.declared.items.ItemHead.{ItemHead}
-use Rattle.fab_base.specs.declared.operations.Arrival.{Arrival}
 use Rattle.fab_base.specs.declared.operations.Coming.{Coming}
 use Rattle.fab_base.specs.declared.operations.Coming.TheVariants.{Into, Keep, Throw, Request, Answer}
 use Rattle.fab_base.specs.declared.operations.Receive.{Receive}
 use Rattle.fab_base.specs.declared.operations.Written.{Written}
-use Rattle.fab_model.specs.Matching.{is_message, takes}
-use Rattle.fab_model.specs.State.{Receiving, State, coming_from, raise}
-use Rattle.fab_model.specs.Complete.{entry_of, filling}
-use Rattle.fab_model.specs.Receiving.{claim_of, draws, goes, receive_of, taking, want_of, without_claim, without_first}
-use Rattle.fab_model.specs.Arrivals.{keeping, seating}
-use Rattle.fab_model.specs.Calls.{Call, Post, TakeClaimed}
+use Rattle.fab_model.specs.State.{State, coming_from}
 use Rattle.fab_model.specs.Views.{View}
-use Rattle.fab_model.proofs.Parts.{get_or-set}
-use Rattle.fab_laws.specs.Members.{In, Never}
-use Rattle.fab_laws.specs.Programs.{Deed, Head, Makes, Peer, peer}
-use Rattle.fab_laws.specs.Completed.{held}
-use Rattle.fab_laws.specs.Matched.{Came, Cancelled, Event, Got, Lost, Made, Mark, arrives, came, goes_into, is_posted, mark_of, noticed, tells_message}
-use Rattle.fab_laws.specs.MessageLaws.{IsMessage, IsOf, asked_by, asking}
-use Rattle.fab_laws.specs.Claimed.{Handling, Took, aside_of, call_in, handles}
+use Rattle.fab_laws.specs.Members.{In}
+use Rattle.fab_laws.specs.Programs.{peer}
+use Rattle.fab_laws.specs.Matched.{Came, Cancelled, Event, Got, Lost, Made, Mark, came, goes_into, tells_message}
+use Rattle.fab_laws.specs.MessageLaws.{IsMessage, IsOf}
+use Rattle.fab_laws.specs.Claimed.{Handling, Took}
 use Rattle.fab_laws.specs.ClaimLaws.{IsOwn, WentTo}
 use Rattle.fab_laws.specs.ReceiveLaws.{IsComing, IsToldOf}
 use Rattle.fab_laws.specs.MultiLaws.{IsComingAt, IsToldAt}
-use Rattle.fab_laws.proofs.Counts.{in_many, one}
-use Rattle.fab_laws.proofs.Lists.{Each, always, each_in, found_in, in_back, in_end, in_front, in_middle, never, raise_here, raise_keeps}
-use Rattle.fab_laws.proofs.matching.Moves.{Keeps}
-use Rattle.fab_laws.proofs.matching.Watch.{entry_tells}
-use Rattle.fab_laws.proofs.replies.Owed.{Lane, OwedAt, get_within, is_keep, unwhole_of}
-use Rattle.fab_laws.proofs.streams.Told.{IsInto, Told, Truly}
-use Rattle.fab_laws.proofs.streams.Entries.{told_by}
-use Rattle.fab_laws.proofs.receiving.Acts.{Act, Arrives, Cancels, Claims, Closes, Discards, Draws, Drops, Ends, Fills, Gets, Idle, Joins, Passes, Plain, Posts, Rests, Seats, Takes, Waits, entries_for, entry_for, freed, given, is_into, leaving, let_out, seat, subject, thrown, wait, whole}
-use Rattle.fab_laws.proofs.receiving.Claiming.{Claiming, News, claimed_gone, got_now, took_now, went_now}
-use Rattle.fab_laws.proofs.receiving.News.{coming_out, leaves_given, leaves_out, leaves_thrown}
+use Rattle.fab_laws.proofs.Lists.{in_back}
+use Rattle.fab_laws.proofs.streams.Told.{IsInto}
+use Rattle.fab_laws.proofs.receiving.Acts.{entry_for}
+use Rattle.fab_laws.proofs.receiving.Claiming.{News, got_now, took_now, went_now}
 
 -- ---- words
 

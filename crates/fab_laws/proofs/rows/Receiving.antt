@@ -1,5 +1,5 @@
 -- The laws of streams, claims and receives: histories by computing, and moments that meet their premises.
-use Rattle.std.proofs.Common.{◌≡◌, ℕ, true, List, [], ◌∷◌, ◌++◌, map, Some, None, inl, inr, refl}
+use Rattle.std.proofs.Common.{◌≡◌, ℕ, List, [], ◌∷◌, ◌++◌, map, None, inl, inr, refl}
 use Rattle.std.specs.Prelude.{codes}
 use Rattle.fab_base.specs.declared.items.Item.{Item}
 use Rattle.fab_base.specs.declared.peers.Step.{Step}
@@ -10,11 +10,10 @@ use Rattle.fab_base.specs.declared.script.LineOp.{LineOp}
 use Rattle.fab_model.specs.Orders.{by}
 use Rattle.fab_model.proofs.Scripts.{line, script_of}
 use Rattle.fab_laws.specs.Members.{In}
-use Rattle.fab_laws.specs.Matched.{Event, Got, Mark, goes_into, past_of}
+use Rattle.fab_laws.specs.Matched.{Event, Mark, past_of}
 use Rattle.fab_laws.specs.Claimed.{Claimed, Discarded, Dropped, Handling, Slipped, Took, handled_of}
 use Rattle.fab_laws.specs.ReceiveLaws.{IsComing}
 use Rattle.fab_laws.specs.StreamLaws.{arrived_from, whole_from}
-use Rattle.fab_laws.specs.Programs.{Peer}
 use Rattle.fab_laws.proofs.rows.Following.{Met, met, programs, ran, started}
 use Rattle.fab_laws.specs.MultiLaws.{placed, used_in}
 use Rattle.fab_laws.proofs.rows.Matching.{drawn, due_steps, mixed, mixed_steps}

@@ -1,19 +1,14 @@
 -- Wrong traces, on which the laws of streams, claims, receives and buffers for many messages are false.
-use Rattle.std.proofs.Common.{◌≡◌, ℕ, zero, suc, Bool, true, false, List, [], ◌∷◌, ◌++◌, length, map, min, Option, Some, None, ◌⊎◌, inl, inr, refl, sym, ◌∙◌, ap, subst, arith, ◌+◌, ◌-◌}
-use Rattle.std.specs.Prelude.{nat_lt, ◌==◌}
+use Rattle.std.proofs.Common.{◌≡◌, ℕ, zero, suc, Bool, true, false, List, [], ◌∷◌, ◌++◌, length, map, min, Some, None, inl, inr, refl, sym, ◌∙◌, ap, subst, arith, ◌+◌, ◌-◌}
+use Rattle.std.specs.Prelude.{nat_lt}
 use Rattle.std.proofs.lemmas.Bool.{le-ltb, lt-ltb}
 use Rattle.std.proofs.lemmas.Bool.{eq-eqb}
 use Rattle.fab_base.specs.declared.entries.ErrKind.TheVariants.{Canceled}
-use Rattle.fab_base.specs.declared.entries.Taken.{Taken}
-use Rattle.fab_base.specs.declared.items.Item.{Item}
 use Rattle.fab_base.specs.declared.operations.Written.{Written}
-use Rattle.fab_model.specs.Complete.{entry_of, error}
-use Rattle.fab_model.specs.State.{Receiving}
+use Rattle.fab_model.specs.Complete.{error}
 use Rattle.fab_laws.specs.Members.{In, Never}
 use Rattle.fab_laws.specs.Matched.{Came, Event, Got, Mark, goes_into, mark_of, tells_message}
-use Rattle.fab_laws.specs.Claimed.{Claimed, Dropped, Handling, Took, aside_of}
-use Rattle.fab_laws.specs.ClaimLaws.{WentTo}
-use Rattle.fab_laws.specs.MessageLaws.{IsMessage}
+use Rattle.fab_laws.specs.Claimed.{Claimed, Dropped, Took, aside_of}
 use Rattle.fab_laws.specs.ReceiveLaws.{Aside, Fate, Received, Waits, WasDiscarded, WasDropped, WasTaken}
 use Rattle.fab_laws.specs.Refused.{CancelledInstead, ClosesEarly, FreedTwice, GotTwice, LeftOver, LostInside, LeavesGap, NeverTold, OtherContext, OtherMessage, Overlaps, Repeated, SlipsAway, StaysOpen, Swapped, Unarrived, Unclaimed, Vanishes}
 use Rattle.fab_laws.specs.MultiLaws.{placed, used_in}

@@ -1,5 +1,5 @@
 -- What arrived of a source is the first of what it lets out; what is whole is the first of what arrived, and at rest both are all of it.
-use Rattle.std.proofs.Common.{◌≡◌, ◌≢◌, ◌≤◌, ◌<◌, ◌+◌, ℕ, Bool, true, false, List, [], ◌∷◌, ◌++◌, length, take, drop, set, get_or-set_same, slice_get, Option, Some, None, inl, inr, refl, sym, ◌∙◌, ap, subst, arith, length-append}
+use Rattle.std.proofs.Common.{◌≡◌, ◌≢◌, ◌≤◌, ◌<◌, ◌+◌, ℕ, Bool, true, false, List, [], ◌∷◌, ◌++◌, length, take, drop, set, slice_get, Option, Some, None, inl, inr, refl, sym, ◌∙◌, ap, subst, arith, length-append}
 use Rattle.std.specs.Prelude.{slice_index, ◌==◌}
 use Rattle.std.proofs.lemmas.Bool.{eqb-true}
 use Rattle.std.proofs.lemmas.Bool.Decides.{nat_tests}
@@ -8,7 +8,7 @@ use Rattle.std.proofs.lemmas.Option.{slice_get_within}
 use Rattle.fab_base.specs.declared.items.Item.{Item}
 use Rattle.fab_model.specs.State.{State, accepted_for, raise}
 use Rattle.fab_model.specs.Orders.{Turn}
-use Rattle.fab_model.specs.Views.{More, View, rule, seen}
+use Rattle.fab_model.specs.Views.{More, View, seen}
 use Rattle.fab_model.proofs.Parts.{get_or-set}
 use Rattle.fab_model.proofs.Views as views
 use Rattle.fab_laws.specs.Programs.{Deed, Makes, Counts, Head, Tail, Draw, Opening, Peer, program}
@@ -69,7 +69,7 @@ module _ (n source : ℕ) (v : View Item) (a b : Peer) (m : List Item) (count : 
           ap (λ (xs : List ℕ). slice_index xs source) now ∙ subst (λ k. slice_index (raise a.state.rx.heads k) source ≡ head_of a source + 1) (sym same)
           (raise_here a.state.rx.heads source (subst (λ k. k < length a.state.rx.heads) same within)) in (
             ap (λ (o : Option Item). elim o [ None ↦ m | Some item ↦ m ++ item ∷ [] ]) has
-            ∙ ap (λ (xs : List Item). xs ++ item ∷ []) come.0 ∙ sym (take_one (v.ready source) (head_of a source) item has') ∙ ap (λ k. take k (v.ready source)) (sym up),
+                ∙ ap (λ (xs : List Item). xs ++ item ∷ []) come.0 ∙ sym (take_one (v.ready source) (head_of a source) item has') ∙ ap (λ k. take k (v.ready source)) (sym up),
             omega (arith, up, slice_get_within (v.ready source) (head_of a source) item has'),
           )
       go false e =

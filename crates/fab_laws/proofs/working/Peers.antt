@@ -1,7 +1,7 @@
 -- Each step of any peer lowers the work of all.
 use Rattle.std.proofs.Common.{◌≡◌, ◌≢◌, ◌≤◌, ◌<◌, ◌+◌, ◌*◌, ℕ, zero, suc, Bool, true, false, List, [], ◌∷◌, ◌++◌, length, length-append, length-set, map, set, get_or, slice_get, replicate, drop, Option, Some, None, ◌⊎◌, inl, inr, refl, sym, ◌∙◌, ap, subst, arith}
 use std.Path.{fun_ext}
-use Rattle.std.specs.Prelude.{◌-◌, ◌&&◌, not, slice_index}
+use Rattle.std.specs.Prelude.{◌&&◌, not, slice_index}
 use Rattle.std.specs.List.{list_all}
 use Rattle.std.specs.Option.{option_map, option_map_or}
 use Rattle.std.proofs.lemmas.Bool.{and_parts, cases_eq}

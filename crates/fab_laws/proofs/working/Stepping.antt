@@ -2,7 +2,7 @@
 --     Falls v a b     the peer's work is less, and no item arrived
 --     Head            one more item of the source has arrived
 use Rattle.std.proofs.Common.{◌≡◌, ◌≤◌, ◌<◌, ◌+◌, ℕ, zero, suc, Bool, true, false, List, [], ◌∷◌, ◌++◌, length, length-append, get_or, slice_get, Option, Some, None, refl, sym, ap, subst, arith}
-use Rattle.std.specs.Prelude.{find, ◌-◌, is_some, is_none, slice_index, cond}
+use Rattle.std.specs.Prelude.{find, is_some, is_none, slice_index, cond}
 use Rattle.std.proofs.lemmas.Bool.{and_parts}
 use Rattle.std.proofs.lemmas.Option.{slice_get_within}
 use Rattle.fab_base.specs.declared.items.Item.{Item}
