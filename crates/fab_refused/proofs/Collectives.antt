@@ -10,7 +10,7 @@
 --     told_to_wait         a drive answers FI_EAGAIN, and the call that is refused for now is not left to the next one
 use Rattle.std.proofs.Common.{inl, inr, subst, ◌≡◌, ◌≢◌, ℕ, ◌-◌, ◌%◌, ◌^◌, ◌<◌, ◌≤◌, Bool, true, false, cond, List, [], ◌∷◌, ◌++◌, append_assoc, length, length-take, drop, take, take-append-drop, get_or, get_or-set_other, get_or-set_same, slice_index_or, slice_set, Option, Some, None, Result, Ok, Err, refl, sym, ap, ◌∙◌, arith}
 use Rattle.std.specs.List.{concat, range_with_len}
-use Rattle.std.specs.Prelude.{filter}
+use Rattle.std.specs.Prelude.{count_by, filter}
 use Rattle.std.proofs.Math.Nat.{le_refl, max-eq_left}
 use Rattle.std.proofs.lemmas.List.{append_cancel_right}
 use Rattle.std.proofs.lemmas.List.Folds.{concat-append}
@@ -33,6 +33,10 @@ use Rattle.fab_collectives.specs.Places.{place_of}
 
 -- ---- a completion that is offered, the clauses `received` and `back` of `offer`
 
+-- how many shares have not come
+abbrev pub missing_of : Collective → ℕ
+missing_of c = count_by (λ awaited. awaited) c.awaited.items
+
 -- where the share of this rank stands
 abbrev pub place_in : Collective → ℕ → ℕ
 place_in c source = place_of c.work.coll c.work.rank source
@@ -48,16 +52,16 @@ module _ (old new : Collective) (polled : Polled) where
   -- so many shares came before it as are not missing, and the rank's place has other bytes
   pub order_of_arrival : (share : Share) → is_of old.work.tag polled ≡ true → brought polled ≡ Some share
       → place_in old share.source < length old.received.items
-      → slice_index_or old.received.items (place_in old share.source) [] ≢ share.bytes → length old.received.items - old.missing ≢ place_in old share.source
+      → slice_index_or old.received.items (place_in old share.source) [] ≢ share.bytes → length old.received.items - missing_of old ≢ place_in old share.source
       → new.received.items ≡ received_after old.work old.received.items polled
-      → new.received.items ≡ slice_set old.received.items (length old.received.items - old.missing) share.bytes → ⊥
+      → new.received.items ≡ slice_set old.received.items (length old.received.items - missing_of old) share.bytes → ⊥
   order_of_arrival share own brings near other elsewhere received told =
       let shares : List (List ℕ) = old.received.items in
       let at : ℕ = place_in old share.source in
       let here : slice_index_or new.received.items at [] ≡ share.bytes =
       ap (λ xs. get_or xs at []) (kept share own brings received) ∙ get_or-set_same shares at share.bytes [] near in
       let still : slice_index_or new.received.items at [] ≡ slice_index_or shares at [] =
-      ap (λ xs. get_or xs at []) told ∙ get_or-set_other shares (length shares - old.missing) at share.bytes [] (λ e. elsewhere (sym e)) in
+      ap (λ xs. get_or xs at []) told ∙ get_or-set_other shares (length shares - missing_of old) at share.bytes [] (λ e. elsewhere (sym e)) in
       other (sym still ∙ here)
 
   pub swallowed : (result : Option Polled) → (is_of old.work.tag polled ≡ false → result ≡ Some polled)
