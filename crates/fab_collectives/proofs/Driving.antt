@@ -12,7 +12,7 @@ use Rattle.fab_base.specs.declared.faults.Fault.TheVariants.{MsgSize, NoMemory a
 use Rattle.fab_face.specs.Held.{Seen}
 use Rattle.fab_fold.specs.Shares.{AreReceived}
 use Rattle.fab_collectives.specs.declared.collective.Collective.{Collective}
-use Rattle.fab_collectives.specs.Driving.{between, InTurn, Passing, InVain, Tries, Ends, Goes, AsksAll, TellsAll, Drove, NoOutcome, Drives}
+use Rattle.fab_collectives.specs.Driving.{between, InTurn, Passing, InVain, Tries, Ends, Goes, AsksAll, TellsAll, Drove, HasAll, NoOutcome, Drives}
 
 more : (test : ℕ → Bool) (a b : ℕ) → a ≤ b → between test a (b + 1) ≡ between test a b ++ cond (test b) (b ∷ []) []
 more test a b forth = let n : ℕ = b - a in
@@ -90,12 +90,12 @@ module _ {S : Type 0} (one : ℕ → S → S → Type 0) where
       in_vain new answer why is below vain = goes new answer (subst (λ (r : Result (Unit {0}) Fault). Ends not b last mid new r) (sym is) (below, vain))
 
 -- once no share is missing
-pub of_shares : (c : Collective) → c.missing ≡ 0 → (answer : Result (Option (List ℕ)) Fault)
+pub of_shares : (c : Collective) → HasAll c → (answer : Result (Option (List ℕ)) Fault)
     → IfErr answer (λ why. (why ≡ LacksMemory) ⊎ ((why ≡ MsgSize) × (AreReceived c.work.coll c.work.rank c.own c.received.items → ⊥)))
     → IfErr answer (λ why. (why ≡ LacksMemory) ⊎ ((why ≡ MsgSize) × NoOutcome c))
-of_shares c none (Ok given) cause = cause
-of_shares c none (Err why) (inl memory) = inl memory
-of_shares c none (Err why) (inr size) = inr (size.0, inr (none, size.1))
+of_shares c all (Ok given) cause = cause
+of_shares c all (Err why) (inl memory) = inl memory
+of_shares c all (Err why) (inr size) = inr (size.0, inr (all, size.1))
 
 module _ {Home : Type 0} (fixed : Bool) (c d : Collective) (own : List ℕ) (same : own ≡ c.own) (old : Seen Home) where
   abbrev Asked : Seen Home → Result (Unit {0}) Fault → Type 0

@@ -2,8 +2,9 @@
 --     work_of group coll                the collective of this kind that is next: its rank, how many ranks there are, and its tag
 --     next_of group                     the group once it began one more
 --     refusal_of peers coll len         why one is not begun with a share of so many bytes
---     IsFresh collective                no call was made for it, all its shares are missing, and none failed
-use Rattle.std.specs.Prelude.{◌≡◌, ℕ, ◌+◌, ◌%◌, ◌^◌, Bool, true, false, ◌&&◌, ◌==◌, nat_lt, cond, Option, Some, None}
+--     IsFresh collective                no call was made for it, the share of each rank that it needs is awaited, with an empty place for each of
+--                                       these, and none failed
+use Rattle.std.specs.Prelude.{◌≡◌, ℕ, ◌+◌, ◌%◌, ◌^◌, Bool, true, false, ◌&&◌, ◌==◌, nat_lt, cond, [], replicate, Option, Some, None}
 use Rattle.fab_base.specs.Elements.{element_size}
 use Rattle.fab_base.specs.declared.faults.Fault.{Fault}
 use Rattle.fab_base.specs.declared.faults.Fault.TheVariants.{Invalid, MsgSize}
@@ -11,7 +12,7 @@ use Rattle.fab_fold.specs.declared.coll.TheConstants.{MOST_SHARE}
 use Rattle.fab_fold.specs.Shares.{is_reducing}
 use Rattle.fab_fold.specs.declared.coll.Coll.{Coll}
 use Rattle.fab_fold.specs.declared.coll.Coll.TheVariants.{Barrier, Broadcast, Allgather, Allreduce}
-use Rattle.fab_collectives.specs.Places.{sources_of}
+use Rattle.fab_collectives.specs.Places.{needed_by, sources_of}
 use Rattle.fab_collectives.specs.declared.collective.Collective.{Collective}
 use Rattle.fab_collectives.specs.declared.collective.Work.{Work}
 use Rattle.fab_collectives.specs.declared.group.Group.{Group}
@@ -34,4 +35,4 @@ abbrev pub refusal_of : ℕ → Coll → ℕ → Option Fault
 refusal_of peers coll len = cond (nat_lt MOST_SHARE len) (Some MsgSize) (cond (is_right peers coll len) None (Some Invalid))
 
 abbrev pub IsFresh : Collective → Type 0
-IsFresh c = (c.asked ≡ 0) × (c.sent ≡ 0) × (c.missing ≡ sources_of c.work.coll c.work.rank c.work.peers) × (c.failed ≡ false)
+IsFresh c = (c.asked ≡ 0) × (c.sent ≡ 0) × (c.awaited.items ≡ needed_by c.work) × (c.received.items ≡ replicate (sources_of c.work.coll c.work.rank c.work.peers) []) × (c.failed ≡ false)

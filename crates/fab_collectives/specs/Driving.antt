@@ -10,9 +10,10 @@
 --     Tells, TellsNot                  the own share to a rank: accepted, refused
 --     AsksAll, TellsAll                of all ranks that need it
 --     Drove fixed c d old new          receives and sends both, each half to its end or to a call that is refused for now
+--     HasAll c                         no share is awaited
 --     NoOutcome c                      nothing comes of the shares: one failed, or all are there and don't belong together
 --     Drives fixed c d old new answer  a drive, which finds the collective c and leaves d
-use Rattle.std.specs.Prelude.{◌≡◌, ℕ, ◌-◌, ◌<◌, ◌≤◌, ◌⊎◌, max, Bool, true, false, List, [], ◌∷◌, length, replicate, filter, Option, Some, None, Result, Ok, Err}
+use Rattle.std.specs.Prelude.{◌≡◌, ℕ, ◌-◌, ◌<◌, ◌≤◌, ◌⊎◌, max, Bool, true, false, List, [], ◌∷◌, All, length, replicate, filter, Option, Some, None, Result, Ok, Err}
 use Rattle.std.specs.List.{range_with_len}
 use Rattle.fab_base.specs.declared.faults.Fault.{Fault}
 use Rattle.fab_base.specs.declared.faults.Fault.TheVariants.{Again, MsgSize, NoMemory as LacksMemory}
@@ -67,8 +68,11 @@ asking tag len rank = receive_call true (Some rank) tag 0 (replicate len 0) None
 abbrev pub telling : ℕ → List ℕ → ℕ → Call
 telling tag own rank = message TagMsg None rank tag own None Inject false false
 
+abbrev pub HasAll : Collective → Type 0
+HasAll c = All (λ awaited. awaited ≡ false) c.awaited.items
+
 abbrev pub NoOutcome : Collective → Type 0
-NoOutcome c = (c.failed ≡ true) ⊎ ((c.missing ≡ 0) × (AreReceived c.work.coll c.work.rank c.own c.received.items → ⊥))
+NoOutcome c = (c.failed ≡ true) ⊎ (HasAll c × (AreReceived c.work.coll c.work.rank c.own c.received.items → ⊥))
 
 module _ {Home : Type 0} where
   abbrev pub Asks : ℕ → ℕ → ℕ → Seen Home → Seen Home → Type 0

@@ -1,10 +1,11 @@
 //! A collective that was begun.
-ghost use Rattle.std.specs.Prelude.{◌≡◌, ◌<◌, ◌≤◌, ◌-◌, ◌⊎◌, false, true, Some, None, IfOk, IfErr, IfSome, IsErr, IsNone, IsSome};
+ghost use Rattle.std.specs.Prelude.{◌≡◌, ◌<◌, ◌≤◌, ◌⊎◌, ◌||◌, not, false, true, [], replicate, Some, None, Err, IfOk, IfErr, IfSome, IsErr, IsNone, IsSome, IsTrue, OnOk, slice_set};
 ghost use Rattle.fab_base.specs.declared.faults.Fault.TheVariants.{MsgSize, NoMemory as LacksMemory};
 ghost use Rattle.fab_collectives.specs.Beginning.{IsFresh};
+ghost use Rattle.fab_collectives.specs.Places.{is_needed, needed_by, sources_of};
 ghost use Rattle.fab_fold.specs.Shares.{AreReceived, outcome_of};
-ghost use Rattle.fab_collectives.specs.Driving.{Asks, AsksAll, AsksNot, Drives, Tells, TellsAll, TellsNot, Tries};
-ghost use Rattle.fab_collectives.specs.Offering.{brought, failed_after, is_of, is_under, missing_after, received_after, share_in, with_share};
+ghost use Rattle.fab_collectives.specs.Driving.{Asks, AsksAll, AsksNot, Drives, HasAll, NoOutcome, Tells, TellsAll, TellsNot, Tries};
+ghost use Rattle.fab_collectives.specs.Offering.{awaited_after, brought, failed_after, is_of, is_under, received_after, share_in, with_share};
 
 use crate::shares::{cut, made, needs, place, sources};
 use fab_app::completions::{Polled, ctx_of};
@@ -31,26 +32,46 @@ pub struct Collective {
     alloc: Global,
     work: Work,
     own: Buf,
-    /// The shares that came, in order of ranks.
+    /// The shares of the ranks that are needed, in order of ranks. One that has not come is empty.
     received: Vec<Buf>,
+    /// Of each rank, whether its share is needed and has not come.
+    awaited: Vec<bool>,
     /// The rank from which on receives of shares have still to be posted.
     asked: u32,
     /// The rank from which on ranks have still to be sent the own share.
     sent: u32,
-    /// How many shares have not come.
-    missing: u32,
-    /// Whether a receive of a share ended with an error: it was longer than the own one, or was cancelled.
+    /// Whether a receive of a share ended with an error, since the share was longer than the own one or it was cancelled, or
+    /// brought one that is not needed.
     failed: bool,
 }
 
 /// So many empty buffers.
-fn empty(alloc: Global, count: u32) -> Result<Vec<Buf>, NoMemory> {
+fn empty(alloc: Global, count: u32) -> Result<Vec<Buf>, NoMemory>
+    ensures { IfOk result (λ all. all.items ≡ replicate count []) }
+{
     let mut all = Vec::new(alloc);
-    for _ in 0..count {
-        let buf = Buf::zeros(alloc, 0)?;
-        all.push(buf)?;
+    for _place in 0..count {
+        all.push(Buf::empty(alloc))?;
     }
     Ok(all)
+}
+
+/// Of each rank, whether its share is needed.
+fn needed_by(alloc: Global, work: Work) -> Result<Vec<bool>, NoMemory>
+    ensures { IfOk result (λ all. all.items ≡ needed_by work) }
+{
+    let mut all = Vec::new(alloc);
+    for s in 0..work.peers {
+        all.push(needs(work.coll, work.rank, s))?;
+    }
+    Ok(all)
+}
+
+/// Whether there is this rank, and its share is needed.
+fn is_needed(work: Work, s: u32) -> bool
+    ensures { result ≡ is_needed work s }
+{
+    s < work.peers && needs(work.coll, work.rank, s)
 }
 
 /// Posts a receive of the share of rank s, of so many bytes at most, and tells whether it is posted, or refused for now.
@@ -198,21 +219,30 @@ impl Collective {
         self.work.tag
     }
 
+    /// The room for the shares that it needs, and whose these are.
+    fn awaiting(alloc: Global, work: Work) -> Result<(Vec<Buf>, Vec<bool>), NoMemory>
+        ensures received { IfOk result (λ both. both.0.items ≡ replicate (sources_of work.coll work.rank work.peers) []) }
+        ensures awaited { IfOk result (λ both. both.1.items ≡ needed_by work) }
+    {
+        let received = empty(alloc, sources(work.coll, work.rank, work.peers))?;
+        let awaited = needed_by(alloc, work)?;
+        Ok((received, awaited))
+    }
+
     /// Begins it. Nothing is posted or sent before it is driven.
     pub(crate) fn begin(alloc: Global, work: Work, own: Buf) -> Result<Collective, Refused>
         ensures begun { IfOk result (λ begun. (begun.work ≡ work) × (begun.own ≡ own) × IsFresh begun) }
         ensures back { IfErr result (λ refused. (refused.buf ≡ own) × (refused.why ≡ LacksMemory)) }
     {
-        let missing = sources(work.coll, work.rank, work.peers);
-        match empty(alloc, missing) {
-            Ok(received) => Ok(Collective {
+        match Collective::awaiting(alloc, work) {
+            Ok((received, awaited)) => Ok(Collective {
                 alloc,
                 work,
                 own,
                 received,
+                awaited,
                 asked: 0,
                 sent: 0,
-                missing,
                 failed: false,
             }),
             Err(_) => Err(Refused {
@@ -222,12 +252,20 @@ impl Collective {
         }
     }
 
+    /// Whether the share of each rank that it needs has come.
+    fn has_all(&self) -> bool
+        ensures yes { IsTrue result → HasAll self.now }
+        ensures no { result ≡ false → HasAll self.now → ⊥ }
+    {
+        self.awaited.iter().all(|awaited| !*awaited)
+    }
+
     /// Posts the receives and sends the messages that are due, up to those that are refused for now, which the next drive makes.
     /// Once it is done it gives what it comes to, each time that it is asked: what `outcome` of `fab_fold` makes of the own share and
     /// of those that came, in order of ranks. It makes no progress.
     ///
     /// `MsgSize` where a share is longer than the own one, where one of an allgather or an allreduce is shorter, or where one of the
-    /// receives was cancelled; a shorter share of a broadcast's root is given as it is. `NotSupported` where FI_TAGGED with
+    /// receives was cancelled or brought a share that is not needed; a shorter share of a broadcast's root is given as it is. `NotSupported` where FI_TAGGED with
     /// FI_SEND and FI_RECV was not granted, `Invalid` where a rank does not stand at the index of its number. After
     /// `NoMemory` it may be driven on; after another error not, and its receives stay posted under `context`.
     pub fn drive<E: Calls + Drop>(
@@ -235,15 +273,17 @@ impl Collective {
         endpoint: &mut Endpoint<E>,
     ) -> Result<Option<Buf>, Fault>
         ensures made { IfOk result (λ done. IfSome done (λ bytes. bytes ≡ outcome_of self.old.work.coll self.old.work.rank self.old.own self.old.received.items)) }
-        ensures waits { IfOk result (λ done. IsSome done → (self.old.missing ≡ 0) × (self.old.failed ≡ false)) }
+        ensures waits { IfOk result (λ done. IsSome done → HasAll self.old × (self.old.failed ≡ false)) }
+        ensures alike { IfOk result (λ done. IsSome done → AreReceived self.old.work.coll self.old.work.rank self.old.own self.old.received.items) }
         ensures all { IfOk result (λ done. IsSome done → (self.old.work.peers ≤ self.new.asked) × (self.old.work.peers ≤ self.new.sent)) }
-        ensures none { IfOk result (λ done. IsNone done → (0 < self.old.missing) ⊎ (self.new.asked < self.old.work.peers) ⊎ (self.new.sent < self.old.work.peers)) }
+        ensures none { IfOk result (λ done. IsNone done → (HasAll self.old → ⊥) ⊎ (self.new.asked < self.old.work.peers) ⊎ (self.new.sent < self.old.work.peers)) }
         ensures fails { self.old.failed ≡ true → IsErr result }
+        ensures size { self.old.work.peers ≤ self.new.asked → self.old.work.peers ≤ self.new.sent → NoOutcome self.old → result ≡ Err MsgSize }
         ensures drives { Drives E.fixed self.old self.new (E.seen endpoint.old) (E.seen endpoint.new) result }
         ensures work { self.new.work ≡ self.old.work }
         ensures own { self.new.own ≡ self.old.own }
         ensures received { self.new.received.items ≡ self.old.received.items }
-        ensures counts { (self.new.missing ≡ self.old.missing) × (self.new.failed ≡ self.old.failed) }
+        ensures counts { (self.new.awaited.items ≡ self.old.awaited.items) × (self.new.failed ≡ self.old.failed) }
     {
         let own = self.own.as_slice();
         ask_all(endpoint, self.alloc, self.work, own.len(), &mut self.asked)?;
@@ -251,7 +291,7 @@ impl Collective {
         if self.failed {
             return Err(Fault::MsgSize);
         }
-        if self.missing > 0 || self.asked < self.work.peers || self.sent < self.work.peers {
+        if !self.has_all() || self.asked < self.work.peers || self.sent < self.work.peers {
             return Ok(None);
         }
         self.outcome()
@@ -261,6 +301,8 @@ impl Collective {
     fn outcome(&self) -> Result<Option<Buf>, Fault>
         ensures made { IfOk result (λ done. IfSome done (λ bytes. bytes ≡ outcome_of self.now.work.coll self.now.work.rank self.now.own self.now.received.items)) }
         ensures some { IfOk result IsSome }
+        ensures alike { OnOk result (AreReceived self.now.work.coll self.now.work.rank self.now.own self.now.received.items) }
+        ensures size { (AreReceived self.now.work.coll self.now.work.rank self.now.own self.now.received.items → ⊥) → result ≡ Err MsgSize }
         ensures why { IfErr result (λ why. (why ≡ LacksMemory) ⊎ ((why ≡ MsgSize) × (AreReceived self.now.work.coll self.now.work.rank self.now.own self.now.received.items → ⊥))) }
     {
         let bytes = made(
@@ -273,13 +315,13 @@ impl Collective {
         Ok(Some(bytes))
     }
 
-    /// Takes a completion that is its own: the share of the rank that it came from is kept, at the place of this rank. Any
-    /// other completion is handed back.
+    /// Takes a completion that is its own: the share of the rank that it came from is kept, at the place of this rank, and is awaited no
+    /// more. A second one of a rank counts no other's as come. Any other completion is handed back.
     pub fn offer(&mut self, polled: Polled) -> Option<Polled>
         ensures back { is_of self.old.work.tag polled ≡ false → result ≡ Some polled }
         ensures taken { is_of self.old.work.tag polled ≡ true → result ≡ None }
         ensures received { self.new.received.items ≡ received_after self.old.work self.old.received.items polled }
-        ensures missing { self.new.missing ≡ missing_after self.old.work self.old.missing polled }
+        ensures awaited { self.new.awaited.items ≡ awaited_after self.old.work self.old.awaited.items polled }
         ensures failed { self.new.failed ≡ failed_after self.old.work self.old.failed polled }
         ensures calls { (self.new.asked ≡ self.old.asked) × (self.new.sent ≡ self.old.sent) }
         ensures work { self.new.work ≡ self.old.work }
@@ -298,8 +340,8 @@ impl Collective {
     /// Keeps a share that came.
     fn keep(&mut self, share: Share)
         ensures received { self.new.received.items ≡ with_share self.old.work self.old.received.items (Some share) }
-        ensures missing { self.new.missing ≡ self.old.missing - 1 }
-        ensures failed { self.new.failed ≡ self.old.failed }
+        ensures awaited { self.new.awaited.items ≡ slice_set self.old.awaited.items share.source false }
+        ensures failed { self.new.failed ≡ self.old.failed || not (is_needed self.old.work share.source) }
         ensures calls { (self.new.asked ≡ self.old.asked) × (self.new.sent ≡ self.old.sent) }
         ensures work { self.new.work ≡ self.old.work }
         ensures own { self.new.own ≡ self.old.own }
@@ -309,6 +351,10 @@ impl Collective {
         if at < self.received.len() {
             self.received[at] = bytes;
         }
-        self.missing = self.missing.saturating_sub(1);
+        let from = source as usize;
+        if from < self.awaited.len() {
+            self.awaited[from] = false;
+        }
+        self.failed = self.failed || !is_needed(self.work, source);
     }
 }

@@ -13,8 +13,10 @@
 
 mod collective;
 mod group;
+mod laws;
 mod shares;
 
 pub use collective::Collective;
 pub use fab_fold::{Coll, MOST_SHARE, is_reducing};
 pub use group::{COLLECTIVE, Group};
+pub use laws::law_offered;

@@ -1,5 +1,5 @@
 //! Who needs whose share, and what is made of the shares.
-ghost use Rattle.std.specs.Prelude.{◌≡◌, ◌⊎◌, false, IsTrue, IfErr, IfOk, take};
+ghost use Rattle.std.specs.Prelude.{◌≡◌, ◌⊎◌, false, IsTrue, Err, IfErr, IfOk, OnOk, take};
 ghost use Rattle.fab_base.specs.declared.faults.Fault.TheVariants.{MsgSize, NoMemory as LacksMemory};
 ghost use Rattle.fab_fold.specs.Shares.{AreAlike, AreReceived, needs, outcome_of};
 ghost use Rattle.fab_collectives.specs.Places.{place_of, sources_of};
@@ -87,6 +87,8 @@ pub(crate) fn made(
     received: &[Buf],
 ) -> Result<Buf, Fault>
     ensures made { IfOk result (λ bytes. bytes ≡ outcome_of coll rank own.now received.now) }
+    ensures alike { OnOk result (AreReceived coll rank own.now received.now) }
+    ensures size { (AreReceived coll rank own.now received.now → ⊥) → result ≡ Err MsgSize }
     ensures why { IfErr result (λ why. (why ≡ LacksMemory) ⊎ ((why ≡ MsgSize) × (AreReceived coll rank own.now received.now → ⊥))) }
 {
     if !belong(coll, rank, own, received) {

@@ -8,6 +8,11 @@ pub use Rattle.fab_app.specs.Polls
 pub use Rattle.fab_app.specs.Takes
 pub use Rattle.fab_app.specs.Trying
 pub use Rattle.fab_fold.specs.Shares
+pub use Rattle.fab_collectives.specs.Places
+pub use Rattle.fab_collectives.specs.Beginning
+pub use Rattle.fab_collectives.specs.Driving
+pub use Rattle.fab_collectives.specs.Offering
+pub use Rattle.fab_collectives.specs.Offered
 pub use Rattle.fab_face.specs.Held
 pub use Rattle.fab_face.specs.Acts
 pub use Rattle.fab_face.specs.Answers

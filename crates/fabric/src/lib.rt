@@ -28,7 +28,7 @@ pub use fab_base::{
     Access, Api, AtomicOp, Buf, Busy, Cap, Caps, Class, Entry, ErrEntry, ErrKind, Fault, Flags,
     Info, Level, Limits, List, NoMemory, Num, PeekHow, Refused, Size, Text,
 };
-pub use fab_collectives::{COLLECTIVE, Collective, Group, MOST_SHARE, is_reducing};
+pub use fab_collectives::{COLLECTIVE, Collective, Group, MOST_SHARE, is_reducing, law_offered};
 pub use fab_face::probing::Probed;
 pub use hints::Hints;
 pub use opening::{Closed, Domain, Endpoint, close, open};

@@ -7,8 +7,8 @@
 //!
 //! A source is named by the receive itself (FI_DIRECTED_RECV), so a tag carries none. `ANY_TAG` ignores the lower 32 bits
 //! alone, and so takes no message of a collective.
-ghost use Rattle.std.specs.Prelude.{◌≡◌, ◌<◌, ◌-◌, ◌^◌, IfNone, IfSome};
-ghost use Rattle.mini_mpi_parts.specs.Tags.{wrong_tag, wrong_with};
+ghost use Rattle.std.specs.Prelude.{◌≡◌, ◌<◌, ◌-◌, ◌%◌, ◌^◌, IfNone, IfSome};
+ghost use Rattle.mini_mpi_parts.specs.Tags.{wanted, wrong_tag, wrong_with};
 
 /// Messages of any rank (MPI_ANY_SOURCE).
 pub const ANY_SOURCE: Option<u32> = None;
@@ -33,6 +33,7 @@ pub enum Wrong {
 
 /// The tag that a receive compares, and the bits that it ignores.
 pub fn wanted(tag: Option<u32>) -> (u64, u64)
+    ensures wanted { result ≡ wanted tag }
     ensures tag { result.0 < 2 ^ 32 }
     ensures ignore { result.1 < 2 ^ 32 }
     ensures named { IfSome tag (λ t. (result.0 ≡ t) × (result.1 ≡ 0)) }
@@ -46,7 +47,8 @@ pub fn wanted(tag: Option<u32>) -> (u64, u64)
 
 /// The tag that a message brought.
 pub fn tag_of(bits: u64) -> u32
-    ensures { bits < 2 ^ 32 → result ≡ bits }
+    ensures lower { result ≡ bits % 2 ^ 32 }
+    ensures named { bits < 2 ^ 32 → result ≡ bits }
 {
     (bits & TAG_BITS) as u32
 }
