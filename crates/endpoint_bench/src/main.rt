@@ -6,7 +6,8 @@
 //! each message is written before it is sent and read when it came. `endpoint_bench soak` sends 1,000,000 messages of 64 bytes one way, and
 //! `endpoint_bench soak NUMBER` so many, in whole windows of 16; they are for whoever looks at the memory that this takes.
 //! `endpoint_bench alone` has both endpoints in one thread, and prints what it costs to put a message, to take one, and to look for
-//! one in vain, for 1, 64 and 4,096 bytes. `endpoint_bench` without a word makes one run of each exchange and prints no time.
+//! one in vain, for 1, 64 and 4,096 bytes. Behind `bench`, `bench touched` and `alone` three numbers may stand, `32 0 31`: how many peers are open, and which
+//! two of them speak, the lower one first; the others are silent. `endpoint_bench` without a word makes one run of each exchange and prints no time.
 #![tactic(auto)]
 
 mod measuring;
@@ -14,7 +15,7 @@ mod opening;
 mod speaker;
 
 use crate::measuring::{Measure, soak};
-use crate::opening::{all_times, costs, times};
+use crate::opening::{Peers, TWO, all_times, costs, times};
 use crate::speaker::COPIED;
 use fab_bench::table::{print_costs, print_table};
 use std::{env, io};
@@ -25,12 +26,15 @@ const RUNS: u64 = 100;
 /// How many batches of calls are timed in one thread.
 const ALONE: u64 = 10_000;
 
+/// How many messages a soak has where nothing is said.
+const SOAKED: u64 = 1_000_000;
+
 /// What is asked for on the command line.
 enum Asked {
     Nothing,
-    Bench { is_touched: bool },
+    Bench { is_touched: bool, peers: Peers },
     Soak(u64),
-    Alone,
+    Alone { peers: Peers },
 }
 
 /// What the first words ask for.
@@ -41,27 +45,63 @@ fn read_words(rt: &HostRuntime) -> io::Result<Asked> {
         return Ok(Asked::Nothing);
     };
     match word.as_str() {
-        "bench" => Ok(Asked::Bench {
-            is_touched: words.next().is_some(),
-        }),
+        "bench" => Ok(bench_of(words.next(), words.next(), words.next(), words.next())),
         "soak" => Ok(Asked::Soak(number(words.next()))),
-        "alone" => Ok(Asked::Alone),
+        "alone" => Ok(Asked::Alone {
+            peers: peers_of(words.next(), words.next(), words.next()),
+        }),
         _ => Ok(Asked::Nothing),
     }
 }
 
-/// How many messages a soak has.
+/// The table that four words ask for: the first may be `touched`, and numbers of peers follow.
+fn bench_of(
+    first: Option<String>,
+    second: Option<String>,
+    third: Option<String>,
+    fourth: Option<String>,
+) -> Asked {
+    match first {
+        Some(word) if word.as_str() == "touched" => Asked::Bench {
+            is_touched: true,
+            peers: peers_of(second, third, fourth),
+        },
+        word => Asked::Bench {
+            is_touched: false,
+            peers: peers_of(word, second, third),
+        },
+    }
+}
+
+/// How many peers are open, and the two that speak: those of two peers where nothing is said.
+fn peers_of(all: Option<String>, left: Option<String>, right: Option<String>) -> Peers {
+    Peers {
+        all: peer(all, TWO.all),
+        left: peer(left, TWO.left),
+        right: peer(right, TWO.right),
+    }
+}
+
+/// The number of peers or of a peer that a word is, and another where no word stands.
+fn peer(word: Option<String>, usual: u32) -> u32 {
+    match word {
+        Some(word) => word.as_str().parse::<u32>().unwrap_or(0),
+        None => usual,
+    }
+}
+
+/// How many messages a word asks for.
 fn number(word: Option<String>) -> u64 {
     match word {
         Some(word) => word.as_str().parse::<u64>().unwrap_or(0),
-        None => 1_000_000,
+        None => SOAKED,
     }
 }
 
 /// What each call costs in one thread, for messages of so many bytes.
-fn print_alone(rt: &HostRuntime) -> io::Result<()> {
+fn print_alone(rt: &HostRuntime, peers: &Peers) -> io::Result<()> {
     for len in [1, 64, COPIED] {
-        if let Some(costs) = costs(rt, rt.alloc(), len, ALONE)? {
+        if let Some(costs) = costs(rt, rt.alloc(), len, ALONE, peers)? {
             print_costs(rt, costs)?;
         }
     }
@@ -70,8 +110,8 @@ fn print_alone(rt: &HostRuntime) -> io::Result<()> {
 
 fn main(rt: HostRuntime) -> io::Result<()> {
     match read_words(&rt)? {
-        Asked::Bench { is_touched } => {
-            let all = all_times(&rt, rt.alloc(), RUNS, is_touched)?;
+        Asked::Bench { is_touched, peers } => {
+            let all = all_times(&rt, rt.alloc(), RUNS, is_touched, peers)?;
             print_table(&rt, all)
         }
         Asked::Soak(messages) => {
@@ -79,13 +119,14 @@ fn main(rt: HostRuntime) -> io::Result<()> {
                 exchange: soak(messages),
                 runs: 0,
                 is_touched: false,
+                peers: TWO,
             };
             let _times = times(&rt, rt.alloc(), &measure)?;
             println!(rt; "{messages} messages")
         }
-        Asked::Alone => print_alone(&rt),
+        Asked::Alone { peers } => print_alone(&rt, &peers),
         Asked::Nothing => {
-            let all = all_times(&rt, rt.alloc(), 0, false)?;
+            let all = all_times(&rt, rt.alloc(), 0, false, TWO)?;
             println!(rt; "{} exchanges", all.len())
         }
     }

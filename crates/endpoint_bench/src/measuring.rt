@@ -1,4 +1,5 @@
 //! What is measured between two endpoints.
+use crate::opening::Peers;
 use crate::speaker::Speaker;
 use fab_bench::runs::{Bytes, Exchange, Times, first, second};
 use fabric::{Calls, EndpointOver};
@@ -49,13 +50,14 @@ pub fn soak(messages: u64) -> Exchange {
     stream(64, messages / 16)
 }
 
-/// An exchange, how often it is run, and whether each message is written before it is sent and read when it came, as programs
-/// do.
+/// An exchange, how often it is run, whether each message is written before it is sent and read when it came, as programs
+/// do, and between which peers.
 #[derive(Clone, Copy, Drop)]
 pub struct Measure {
     pub exchange: Exchange,
     pub runs: u64,
     pub is_touched: bool,
+    pub peers: Peers,
 }
 
 /// The most bytes of a message in an exchange.
@@ -83,7 +85,7 @@ fn times_of<R: Clock + Threads + Wait + Sync, E: Calls + Drop + Send>(
     all
 }
 
-/// The times of an exchange between the endpoints of peers 0 and 1.
+/// The times of an exchange between the endpoints of the two peers that speak.
 pub fn times_between<R: Clock + Threads + Wait + Sync, E: Calls + Drop + Send>(
     rt: &R,
     alloc: Global,
@@ -93,8 +95,22 @@ pub fn times_between<R: Clock + Threads + Wait + Sync, E: Calls + Drop + Send>(
 ) -> io::Result<Vec<Times>> {
     let window = measure.exchange.window;
     let room = most_bytes(&measure.exchange);
-    let left = Speaker::new(alloc, zero, 1, window, room, measure.is_touched);
-    let right = Speaker::new(alloc, one, 0, window, room, measure.is_touched);
+    let left = Speaker::new(
+        alloc,
+        zero,
+        measure.peers.right,
+        window,
+        room,
+        measure.is_touched,
+    );
+    let right = Speaker::new(
+        alloc,
+        one,
+        measure.peers.left,
+        window,
+        room,
+        measure.is_touched,
+    );
     match (left, right) {
         (Ok(left), Ok(right)) => times_of(rt, alloc, left, right, measure),
         _ => Ok(Vec::new(alloc)),

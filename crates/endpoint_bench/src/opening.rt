@@ -13,37 +13,85 @@ use std::time::Clock;
 /// How many receives stand posted where all calls are made in one thread.
 const AHEAD: u64 = 16;
 
-/// Tagged messages between two peers, over lanes and pools of 64 places.
-fn wishes() -> Hints {
+/// How many peers are open, and which two of them speak. The others stay open and silent.
+#[derive(Clone, Copy, Drop)]
+pub struct Peers {
+    pub all: u32,
+    pub left: u32,
+    pub right: u32,
+}
+
+/// Two peers, both of which speak.
+pub const TWO: Peers = Peers {
+    all: 2,
+    left: 0,
+    right: 1,
+};
+
+/// Two endpoints that speak, and the others, which are only open.
+#[derive(Drop)]
+struct Opened<E: Calls + Drop> {
+    left: EndpointOver<E>,
+    right: EndpointOver<E>,
+    others: Vec<EndpointOver<E>>,
+}
+
+impl<E: Calls + Drop> Opened<E> {
+    /// Takes the two that speak out of all; none where they are not two of these.
+    fn of(mut all: Vec<EndpointOver<E>>, peers: &Peers) -> Option<Opened<E>> {
+        let (low, high) = (peers.left as usize, peers.right as usize);
+        if low >= high || high >= all.len() {
+            return None;
+        }
+        let right = all.swap_remove(high);
+        let left = all.swap_remove(low);
+        Some(Opened {
+            left,
+            right,
+            others: all,
+        })
+    }
+}
+
+/// Tagged messages between so many peers, over lanes and pools of 64 places.
+fn wishes(peers: u32) -> Hints {
     Hints::new()
         .cap(Cap::Tagged)
-        .peers(2)
+        .peers(peers)
         .lane(64)
         .pool(64)
         .tx(64)
 }
 
-/// The times of an exchange between the last two of these endpoints.
-fn times_of_last<R: Clock + Threads + Wait + Sync, E: Calls + Drop + Send>(
+/// The times of an exchange between the two of these endpoints that speak.
+fn times_among<R: Clock + Threads + Wait + Sync, E: Calls + Drop + Send>(
     rt: &R,
     alloc: Global,
-    mut endpoints: Vec<EndpointOver<E>>,
+    endpoints: Vec<EndpointOver<E>>,
     measure: &Measure,
 ) -> io::Result<Vec<Times>> {
-    match (endpoints.pop(), endpoints.pop()) {
-        (Some(one), Some(zero)) => times_between(rt, alloc, zero, one, measure),
-        _ => Ok(Vec::new(alloc)),
-    }
+    let Some(opened) = Opened::of(endpoints, &measure.peers) else {
+        return Ok(Vec::new(alloc));
+    };
+    let Opened {
+        left,
+        right,
+        others,
+    } = opened;
+    let all = times_between(rt, alloc, left, right, measure);
+    // A peer that is closed has no lanes to look at: those that are silent stay open until the others have spoken.
+    drop(others);
+    all
 }
 
-/// The times of an exchange between two new endpoints.
+/// The times of an exchange between two of so many new endpoints.
 pub fn times<R: Clock + Threads + Wait + Sync>(
     rt: &R,
     alloc: Global,
     measure: &Measure,
 ) -> io::Result<Vec<Times>> {
-    match open(alloc, &wishes()) {
-        Ok(Domain { endpoints, .. }) => times_of_last(rt, alloc, endpoints, measure),
+    match open(alloc, &wishes(measure.peers.all)) {
+        Ok(Domain { endpoints, .. }) => times_among(rt, alloc, endpoints, measure),
         Err(_) => Ok(Vec::new(alloc)),
     }
 }
@@ -55,6 +103,7 @@ pub fn all_times<R: Clock + Threads + Wait + Sync>(
     alloc: Global,
     runs: u64,
     is_touched: bool,
+    peers: Peers,
 ) -> io::Result<Vec<Times>> {
     let mut all = Vec::new(alloc);
     for exchange in exchanges() {
@@ -65,6 +114,7 @@ pub fn all_times<R: Clock + Threads + Wait + Sync>(
             exchange,
             runs,
             is_touched,
+            peers,
         };
         all.append(&mut times(rt, alloc, &measure)?)?;
     }
@@ -79,9 +129,10 @@ fn costs_between<R: Clock, E: Calls + Drop>(
     one: EndpointOver<E>,
     len: usize,
     runs: u64,
+    peers: &Peers,
 ) -> io::Result<Option<Costs>> {
-    let left = Speaker::new(alloc, zero, 1, AHEAD, len, false);
-    let right = Speaker::new(alloc, one, 0, AHEAD, len, false);
+    let left = Speaker::new(alloc, zero, peers.right, AHEAD, len, false);
+    let right = Speaker::new(alloc, one, peers.left, AHEAD, len, false);
     match (left, right) {
         (Ok(mut left), Ok(mut right)) => Ok(Some(alone(
             rt, alloc, &mut left, &mut right, len, runs,
@@ -90,24 +141,38 @@ fn costs_between<R: Clock, E: Calls + Drop>(
     }
 }
 
-/// What the calls of the last two of these endpoints cost in one thread, in so many batches.
-fn costs_of_last<R: Clock, E: Calls + Drop>(
+/// What the calls of the two of these endpoints that speak cost in one thread, in so many batches.
+fn costs_among<R: Clock, E: Calls + Drop>(
     rt: &R,
     alloc: Global,
-    mut endpoints: Vec<EndpointOver<E>>,
+    endpoints: Vec<EndpointOver<E>>,
     len: usize,
     runs: u64,
+    peers: &Peers,
 ) -> io::Result<Option<Costs>> {
-    match (endpoints.pop(), endpoints.pop()) {
-        (Some(one), Some(zero)) => costs_between(rt, alloc, zero, one, len, runs),
-        _ => Ok(None),
-    }
+    let Some(opened) = Opened::of(endpoints, peers) else {
+        return Ok(None);
+    };
+    let Opened {
+        left,
+        right,
+        others,
+    } = opened;
+    let costs = costs_between(rt, alloc, left, right, len, runs, peers);
+    drop(others);
+    costs
 }
 
-/// What the calls of two new endpoints cost in one thread, in so many batches.
-pub fn costs<R: Clock>(rt: &R, alloc: Global, len: usize, runs: u64) -> io::Result<Option<Costs>> {
-    match open(alloc, &wishes()) {
-        Ok(Domain { endpoints, .. }) => costs_of_last(rt, alloc, endpoints, len, runs),
+/// What the calls of two of so many new endpoints cost in one thread, in so many batches.
+pub fn costs<R: Clock>(
+    rt: &R,
+    alloc: Global,
+    len: usize,
+    runs: u64,
+    peers: &Peers,
+) -> io::Result<Option<Costs>> {
+    match open(alloc, &wishes(peers.all)) {
+        Ok(Domain { endpoints, .. }) => costs_among(rt, alloc, endpoints, len, runs, peers),
         Err(_) => Ok(None),
     }
 }

@@ -17,10 +17,10 @@ use Rattle.fab_app.specs.Cleared.{cleared, is_again}
 use Rattle.fab_app.specs.Polls.{Polls, has_come}
 use Rattle.fab_app.specs.Within.{Times, Misses, PollsWithin, MovesOnce, SendMisses, SendsWithin, SendsWithinNot, AskMisses, AsksWithin, AsksWithinNot}
 
-module _ {Home : Type 0} where
-  pub one_more : (Step : Seen Home → Seen Home → Type 0) (n : ℕ) (a b c : Seen Home) → Times Step n a b → Step b c → Times Step (n + 1) a c
-  one_more Step n a b c steps step = let e : suc n ≡ n + 1 = omega arith in subst (λ (k : ℕ). Times Step k a c) e (b, steps, step)
+pub one_more : {State : Type 0} (Step : State → State → Type 0) (n : ℕ) (a b c : State) → Times Step n a b → Step b c → Times Step (n + 1) a c
+one_more Step n a b c steps step = let e : suc n ≡ n + 1 = omega arith in subst (λ (k : ℕ). Times Step k a c) e (b, steps, step)
 
+module _ {Home : Type 0} where
   pub no_steps : (Step : Seen Home → Seen Home → Type 0) (n : ℕ) (a : Seen Home) → n ≡ 0 → Times Step n a a
   no_steps Step n a none = subst (λ (k : ℕ). Times Step k a a) (sym none) refl
 

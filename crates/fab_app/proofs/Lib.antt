@@ -5,6 +5,8 @@ pub mod Late
 pub mod Taking
 pub mod Polling
 pub mod Counting
+pub mod Timing
 pub mod Retries
 pub mod Drawing
 pub mod Ended
+pub mod TimedTries

@@ -75,8 +75,11 @@ module _ {Home : Type 0} where
   lacked fixed budget old new (Ok moved) why p says = absurd (cc)
   lacked fixed budget old new (Err lacks) why p says = p.lacks lacks refl
 
+  pub moves_lacked : (fixed : Bool) (budget : ℕ) (old new : Seen Home) (why : NoMemory) → Moves fixed budget old new (Err why) → MayLack fixed new
+  moves_lacked fixed budget old new why m = lacked fixed budget old new m.moved why m.progressed m.says
+
   pub moves_lack : {T E : Type 0} (r : Result T E) (fixed : Bool) (budget : ℕ) (old new : Seen Home) (why : NoMemory) → Moves fixed budget old new (Err why) → OnErr r (MayLack fixed new)
-  moves_lack r fixed budget old new why m = whatever r (MayLack fixed new) (lacked fixed budget old new m.moved why m.progressed m.says)
+  moves_lack r fixed budget old new why m = whatever r (MayLack fixed new) (moves_lacked fixed budget old new why m)
 
   -- a poll that found none is progress
   pub polls_on : (fixed : Bool) (budget : ℕ) (a b c : Seen Home) (answer : Result Polled NoMemory) → Progresses a b → Polls fixed budget (cleared b) c answer → has_come answer ≡ false → Progresses a c
@@ -92,3 +95,10 @@ module _ {Home : Type 0} where
 
   pub waits_on : (fixed : Bool) (budget : ℕ) (a b c : Seen Home) (answer : Result Polled NoMemory) → Progresses a b → Waits fixed budget b c answer → has_come answer ≡ false → Progresses a c
   waits_on fixed budget a b c answer p w none = polls_on fixed budget a w.mid c answer (then_more a b w.mid p w.before) w.polls none
+
+  -- a wait that lacked memory took no completion
+  pub waits_lack : (fixed : Bool) (budget : ℕ) (a b : Seen Home) (lacks : NoMemory) → Waits fixed budget a b (Err lacks) → Progresses a b × MayLack fixed b
+  waits_lack fixed budget a b lacks w =
+      let q = w.polls in
+      let on = progressed_on fixed a w.mid (cleared w.mid) q.mid budget q.moved w.before refl q.progressed in
+      (subst (λ (x : Seen Home). Progresses a x) (sym q.told.0.0) on, subst (λ (x : Seen Home). MayLack fixed x) (sym q.told.0.0) (q.progressed.lacks lacks q.told.1))

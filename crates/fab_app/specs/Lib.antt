@@ -5,3 +5,6 @@ pub mod Polls
 pub mod Takes
 pub mod Trying
 pub mod Within
+pub mod Clocks
+pub mod Until
+pub mod TryingUntil

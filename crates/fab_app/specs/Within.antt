@@ -19,9 +19,9 @@ use Rattle.fab_app.specs.Late.{ReceivesLate, ReceivesLateNot}
 use Rattle.fab_app.specs.Polls.{Polls, has_come}
 use Rattle.fab_app.specs.Progresses.{Moves}
 
-abbrev pub Times : {Home : Type 0} → (Seen Home → Seen Home → Type 0) → ℕ → Seen Home → Seen Home → Type 0
+abbrev pub Times : {State : Type 0} → (State → State → Type 0) → ℕ → State → State → Type 0
 Times Step zero old new = new ≡ old
-Times {Home} Step (suc n) old new = (mid : Seen Home) × Times Step n old mid × Step mid new
+Times {State} Step (suc n) old new = (mid : State) × Times Step n old mid × Step mid new
 
 -- ---- polls
 

@@ -90,7 +90,7 @@ fn take_first<E: Calls>(
 }
 
 /// Whether there is no need to poll again.
-fn is_settled(polled: &Result<Polled, NoMemory>) -> bool
+pub(crate) fn is_settled(polled: &Result<Polled, NoMemory>) -> bool
     ensures { result ≡ has_come polled.now }
 {
     match polled {
@@ -133,7 +133,7 @@ impl<E: Calls + Drop> Endpoint<E> {
     }
 
     /// Polls until there is a completion, at most so many times and once more, with a pause of the processor between.
-    fn spin(&mut self, spins: u32) -> Result<Polled, NoMemory>
+    pub(crate) fn spin(&mut self, spins: u32) -> Result<Polled, NoMemory>
         ensures waits { Waits E.fixed BUDGET (E.seen self.old) (E.seen self.new) result }
         ensures tries { PollsWithin E.fixed BUDGET spins (E.seen self.old) (E.seen self.new) result }
     {

@@ -3,6 +3,7 @@
 //! It is generic over the traits of `fab_face`, and proved over these alone. `fabric` names it over lanes in memory.
 #![tactic(auto)]
 
+pub mod clock;
 pub mod completions;
 pub mod endpoint;
 pub mod memory;
@@ -14,3 +15,5 @@ pub mod receives;
 pub mod receiving;
 pub mod requests;
 pub mod trying;
+pub mod trying_until;
+pub mod until;

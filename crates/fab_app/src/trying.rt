@@ -35,7 +35,7 @@ pub struct Message {
 }
 
 /// The answer of one try.
-fn one_try(answer: Result<(), Refused>) -> Tried
+pub(crate) fn one_try(answer: Result<(), Refused>) -> Tried
     ensures { TriesBusy answer result }
 {
     match answer {
@@ -51,7 +51,7 @@ fn one_try(answer: Result<(), Refused>) -> Tried
 
 impl<E: Calls + Drop> Endpoint<E> {
     /// Makes the call once.
-    fn send_once(&mut self, message: Message, buf: Buf) -> Result<(), Refused>
+    pub(crate) fn send_once(&mut self, message: Message, buf: Buf) -> Result<(), Refused>
         ensures ok { OnOk result (Sends E.fixed (sent_by message buf) message.dest (cleared (E.seen self.old)) (E.seen self.new)) }
         ensures err { IfErr result (λ r. (r.buf ≡ buf) × SendsNot E.fixed (sent_by message buf) (cleared (E.seen self.old)) (E.seen self.new) r.why) }
         ensures never { IfErr result (λ r. is_log_full r.why ≡ false) }

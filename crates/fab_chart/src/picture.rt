@@ -19,6 +19,20 @@ const ROW: u64 = 22;
 /// How many characters of a line are shown.
 const SHOWN: usize = 40;
 
+/// The colours of marks: of lines that were done, of what messages do, and of completions.
+const LINE: &str = "#24292f";
+
+const MESSAGE: &str = "#1f6feb";
+
+const COMPLETION: &str = "#1a7f37";
+
+/// What the picture says of its marks at its foot: where each of them stands, its colour and its words.
+const LEGEND: [(u64, &str, &str); 3] = [
+    (60, LINE, "line done"),
+    (165, MESSAGE, "message"),
+    (255, COMPLETION, "completion"),
+];
+
 /// What stands before all else: words stand on white, and how the head of an arrow looks.
 const HEAD: &str =
     "<style>text { paint-order: stroke; stroke: #ffffff; stroke-width: 3px }</style>\n\
@@ -72,8 +86,8 @@ fn add_line(out: &mut String, line: &str) -> Result<(), NoMemory> {
 fn add_words(out: &mut String, step: Step, line: &str) -> Result<(), NoMemory> {
     match step {
         Step::Do => add_line(out, line)?,
-        Step::Head(source) => write!(out, "arrives from {source}")?,
-        Step::Tail(source) => write!(out, "whole from {source}")?,
+        Step::Head(source) => write!(out, "begins to come from {source}")?,
+        Step::Tail(source) => write!(out, "has come whole from {source}")?,
         Step::Sent(dest) => write!(out, "transmitted to {dest}")?,
         Step::Draw => out.push_str("drawn into a buffer")?,
         Step::Read => out.push_str("completion read")?,
@@ -85,29 +99,38 @@ fn add_words(out: &mut String, step: Step, line: &str) -> Result<(), NoMemory> {
 /// The colour of a step's mark: black for a line, green for a completion, blue for what messages do.
 fn colour_of(step: Step) -> &'static str {
     match step {
-        Step::Do | Step::Final => "#24292f",
-        Step::Read => "#1a7f37",
-        Step::Head(_) | Step::Tail(_) | Step::Sent(_) | Step::Draw => "#1f6feb",
+        Step::Do | Step::Final => LINE,
+        Step::Read => COMPLETION,
+        Step::Head(_) | Step::Tail(_) | Step::Sent(_) | Step::Draw => MESSAGE,
     }
 }
 
-/// One event: its mark, and its words behind it.
-fn add_event(out: &mut String, event: Event, row: usize, line: &str) -> Result<(), NoMemory> {
-    let x = x_of(event.peer);
-    let y = y_of(row);
-    writeln!(
-        out,
-        "<circle cx='{x}' cy='{y}' r='4' fill='{}'/>",
-        colour_of(event.step)
-    )?;
+/// A mark, and the head of the words behind it.
+fn add_mark(out: &mut String, x: u64, y: u64, colour: &str) -> Result<(), NoMemory> {
+    writeln!(out, "<circle cx='{x}' cy='{y}' r='4' fill='{colour}'/>")?;
     write!(
         out,
         "<text x='{}' y='{}'>",
         x.saturating_add(10),
         y.saturating_add(4)
     )?;
+    Ok(())
+}
+
+/// One event: its mark, and its words behind it.
+fn add_event(out: &mut String, event: Event, row: usize, line: &str) -> Result<(), NoMemory> {
+    add_mark(out, x_of(event.peer), y_of(row), colour_of(event.step))?;
     add_words(out, event.step, line)?;
     out.push_str("</text>\n")?;
+    Ok(())
+}
+
+/// What the marks say, beside one another.
+fn add_legend(out: &mut String, y: u64) -> Result<(), NoMemory> {
+    for (x, colour, words) in LEGEND {
+        add_mark(out, x, y, colour)?;
+        writeln!(out, "{words}</text>")?;
+    }
     Ok(())
 }
 
@@ -153,7 +176,7 @@ fn add_arrow(
     }
     writeln!(
         out,
-        "{across} {down}' fill='none' stroke='#1f6feb' marker-end='url(#tip)'/>"
+        "{across} {down}' fill='none' stroke='{MESSAGE}' marker-end='url(#tip)'/>"
     )?;
     Ok(())
 }
@@ -170,9 +193,8 @@ fn add_arrows(out: &mut String, events: &[Event]) -> Result<(), NoMemory> {
     Ok(())
 }
 
-/// The line of each of so many peers, with its name above.
-fn add_peers(out: &mut String, peers: u32, height: u64) -> Result<(), NoMemory> {
-    let bottom = height.saturating_sub(ROW);
+/// The line of each of so many peers, down to there, with its name above.
+fn add_peers(out: &mut String, peers: u32, bottom: u64) -> Result<(), NoMemory> {
     for peer in 0..peers {
         let x = x_of(peer);
         writeln!(out, "<path d='M {x} 36 L {x} {bottom}' stroke='#afb8c1'/>")?;
@@ -195,7 +217,8 @@ pub fn chart(
     let events = events_of(alloc, order, schedule)?;
     let lines = lines_of(alloc, report)?;
     let peers = u32::try_from(schedule.len()).unwrap_or(u32::MAX);
-    let (width, height) = (x_of(peers), y_of(events.len()));
+    let (width, foot) = (x_of(peers), y_of(events.len()));
+    let (bottom, height) = (foot.saturating_sub(ROW), foot.saturating_add(ROW));
     let mut out = String::new(alloc);
     writeln!(
         out,
@@ -203,9 +226,10 @@ pub fn chart(
     )?;
     out.push_str("<rect width='100%' height='100%' fill='#ffffff'/>\n")?;
     out.push_str(HEAD)?;
-    add_peers(&mut out, peers, height)?;
+    add_peers(&mut out, peers, bottom)?;
     add_arrows(&mut out, &events)?;
     add_events(&mut out, &events, &lines)?;
+    add_legend(&mut out, foot)?;
     out.push_str("</svg>\n")?;
     Ok(out)
 }

@@ -1,5 +1,5 @@
 -- Calls in turn, as a loop makes them: none yet, one more, and the end.
---     Upto one test a b last old new      the ranks from a to below b that pass had their call
+--     Upto one test a b last old new      the rounds from a to below b that pass had their call
 use Rattle.std.proofs.Common.{Result, Ok, Err, ◌≡◌, ℕ, ◌+◌, ◌-◌, ◌<◌, ◌≤◌, max, Bool, true, false, List, [], ◌∷◌, ◌++◌, length, inl, inr, ◌⊎◌, refl, sym, ap, ◌∙◌, subst, arith, cond}
 use Rattle.std.proofs.lemmas.List.{append-nil, map-id}
 use Rattle.std.proofs.lemmas.List.FromFn.{filter_of_map_range_with_len_more}
@@ -10,9 +10,9 @@ use Rattle.std.proofs.lemmas.Result.{err_from_is_err_and}
 use Rattle.fab_base.specs.declared.faults.Fault.{Fault}
 use Rattle.fab_base.specs.declared.faults.Fault.TheVariants.{MsgSize, NoMemory as LacksMemory}
 use Rattle.fab_face.specs.Held.{Seen}
-use Rattle.fab_fold.specs.Shares.{AreReceived}
+use Rattle.fab_collectives.specs.Lengths.{AreWhole}
 use Rattle.fab_collectives.specs.declared.collective.Collective.{Collective}
-use Rattle.fab_collectives.specs.Driving.{between, InTurn, Passing, InVain, Tries, Ends, Goes, AsksAll, TellsAll, Drove, HasAll, NoOutcome, Drives}
+use Rattle.fab_collectives.specs.Driving.{between, InTurn, Passing, InVain, Tries, Ends, Goes, AsksAll, TellsAll, Drove, HasAll, IsDue, NoOutcome, Drives}
 
 more : (test : ℕ → Bool) (a b : ℕ) → a ≤ b → between test a (b + 1) ≡ between test a b ++ cond (test b) (b ∷ []) []
 more test a b forth = let n : ℕ = b - a in
@@ -91,21 +91,28 @@ module _ {S : Type 0} (one : ℕ → S → S → Type 0) where
 
 -- once no share is missing
 pub of_shares : (c : Collective) → HasAll c → (answer : Result (Option (List ℕ)) Fault)
-    → IfErr answer (λ why. (why ≡ LacksMemory) ⊎ ((why ≡ MsgSize) × (AreReceived c.work.coll c.work.rank c.own c.received.items → ⊥)))
+    → IfErr answer (λ why. (why ≡ LacksMemory) ⊎ ((why ≡ MsgSize) × (AreWhole c.work c.own c.received.items → ⊥)))
     → IfErr answer (λ why. (why ≡ LacksMemory) ⊎ ((why ≡ MsgSize) × NoOutcome c))
 of_shares c all (Ok given) cause = cause
 of_shares c all (Err why) (inl memory) = inl memory
 of_shares c all (Err why) (inr size) = inr (size.0, inr (all, size.1))
 
-module _ {Home : Type 0} (fixed : Bool) (c d : Collective) (own : List ℕ) (same : own ≡ c.own) (old : Seen Home) where
+module _ {Home : Type 0} (fixed : Bool) (c d : Collective) (own : List ℕ) (same : own ≡ c.own) (received : List (List ℕ)) (kept : received ≡ c.received.items) (due : ℕ) (last : IsDue c due) (old : Seen Home) where
   abbrev Asked : Seen Home → Result (Unit {0}) Fault → Type 0
   Asked new answer = AsksAll c.work (length own) c.asked d.asked old new answer
+
+  abbrev Told : Seen Home → Seen Home → Result (Unit {0}) Fault → Type 0
+  Told mid new answer = TellsAll fixed c.work own received due c.sent d.sent mid new answer
 
   asked : (new : Seen Home) (answer : Result (Unit {0}) Fault) → Asked new answer → AsksAll c.work (length c.own) c.asked d.asked old new answer
   asked new answer asks = subst (λ (o : List ℕ). AsksAll c.work (length o) c.asked d.asked old new answer) same asks
 
-  drove : (mid new : Seen Home) (answer : Result (Unit {0}) Fault) → Asked mid (Ok tt) → TellsAll fixed c.work own c.sent d.sent mid new answer → Drove fixed c d old new answer
-  drove mid new answer asks tells = (mid, asked mid (Ok tt) asks, subst (λ (o : List ℕ). TellsAll fixed c.work o c.sent d.sent mid new answer) same tells)
+  told : (mid new : Seen Home) (answer : Result (Unit {0}) Fault) → Told mid new answer → TellsAll fixed c.work c.own c.received.items due c.sent d.sent mid new answer
+  told mid new answer tells = subst (λ (o : List ℕ). TellsAll fixed c.work o c.received.items due c.sent d.sent mid new answer) same
+      (subst (λ (r : List (List ℕ)). TellsAll fixed c.work own r due c.sent d.sent mid new answer) kept tells)
+
+  drove : (mid new : Seen Home) (answer : Result (Unit {0}) Fault) → Asked mid (Ok tt) → Told mid new answer → Drove fixed c d old new answer
+  drove mid new answer asks tells = (mid, asked mid (Ok tt) asks, (due, last, told mid new answer tells))
 
   module _ (answer : Result (Option (List ℕ)) Fault) where
     pub asked_in_vain : (new : Seen Home) (why : Fault) → answer ≡ Err why → d.sent ≡ c.sent → Asked new (Err why) → Drives fixed c d old new answer
@@ -113,11 +120,11 @@ module _ {Home : Type 0} (fixed : Bool) (c d : Collective) (own : List ℕ) (sam
     asked_in_vain new why is sent asks = subst (λ (r : Result (Option (List ℕ)) Fault). Drives fixed c d old new r) (sym is) (inl (asked new (Err why) asks, sent))
 
     module _ (mid new : Seen Home) (asks : Asked mid (Ok tt)) where
-      pub told_in_vain : (why : Fault) → answer ≡ Err why → TellsAll fixed c.work own c.sent d.sent mid new (Err why) → Drives fixed c d old new answer
+      pub told_in_vain : (why : Fault) → answer ≡ Err why → Told mid new (Err why) → Drives fixed c d old new answer
       unfolding Drives
       told_in_vain why is tells = subst (λ (r : Result (Option (List ℕ)) Fault). Drives fixed c d old new r) (sym is) (inr (inl (drove mid new (Err why) asks tells)))
 
-      pub driven : TellsAll fixed c.work own c.sent d.sent mid new (Ok tt) → IfErr answer (λ why. (why ≡ LacksMemory) ⊎ ((why ≡ MsgSize) × NoOutcome c)) → Drives fixed c d old new answer
+      pub driven : Told mid new (Ok tt) → IfErr answer (λ why. (why ≡ LacksMemory) ⊎ ((why ≡ MsgSize) × NoOutcome c)) → Drives fixed c d old new answer
       unfolding Drives
       driven tells cause = by answer cause
         where
@@ -125,8 +132,8 @@ module _ {Home : Type 0} (fixed : Bool) (c d : Collective) (own : List ℕ) (sam
           by (Ok given) cause = drove mid new (Ok tt) asks tells
           by (Err why) cause = inr (inr (drove mid new (Ok tt) asks tells, cause))
 
-      pub driven_failed : c.failed ≡ true → answer ≡ Err MsgSize → TellsAll fixed c.work own c.sent d.sent mid new (Ok tt) → Drives fixed c d old new answer
+      pub driven_failed : c.failed ≡ true → answer ≡ Err MsgSize → Told mid new (Ok tt) → Drives fixed c d old new answer
       driven_failed failed is tells = driven tells (subst (λ (r : Result (Option (List ℕ)) Fault). IfErr r (λ why. (why ≡ LacksMemory) ⊎ ((why ≡ MsgSize) × NoOutcome c))) (sym is) (inr (refl, inl failed)))
 
-      pub driven_on : answer ≡ Ok None → TellsAll fixed c.work own c.sent d.sent mid new (Ok tt) → Drives fixed c d old new answer
+      pub driven_on : answer ≡ Ok None → Told mid new (Ok tt) → Drives fixed c d old new answer
       driven_on is tells = driven tells (subst (λ (r : Result (Option (List ℕ)) Fault). IfErr r (λ why. (why ≡ LacksMemory) ⊎ ((why ≡ MsgSize) × NoOutcome c))) (sym is) tt)

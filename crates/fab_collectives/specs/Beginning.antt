@@ -2,9 +2,11 @@
 --     work_of group coll                the collective of this kind that is next: its rank, how many ranks there are, and its tag
 --     next_of group                     the group once it began one more
 --     refusal_of peers coll len         why one is not begun with a share of so many bytes
---     IsFresh collective                no call was made for it, the share of each rank that it needs is awaited, with an empty place for each of
---                                       these, and none failed
-use Rattle.std.specs.Prelude.{◌≡◌, ℕ, ◌+◌, ◌%◌, ◌^◌, Bool, true, false, ◌&&◌, ◌==◌, nat_lt, cond, [], replicate, Option, Some, None}
+--     hearings work len                 of each round, whether the rank hears in it
+--     IsFresh collective                no call was made for it, the message of each round in which it hears is awaited, with an empty place for each
+--                                       round, and none failed
+use Rattle.std.specs.Prelude.{◌≡◌, ℕ, ◌+◌, ◌%◌, ◌^◌, Bool, true, false, ◌&&◌, ◌==◌, nat_lt, cond, List, [], length, map, replicate, Option, Some, None}
+use Rattle.std.specs.List.{range_with_len}
 use Rattle.fab_base.specs.Elements.{element_size}
 use Rattle.fab_base.specs.declared.faults.Fault.{Fault}
 use Rattle.fab_base.specs.declared.faults.Fault.TheVariants.{Invalid, MsgSize}
@@ -12,7 +14,7 @@ use Rattle.fab_fold.specs.declared.coll.TheConstants.{MOST_SHARE}
 use Rattle.fab_fold.specs.Shares.{is_reducing}
 use Rattle.fab_fold.specs.declared.coll.Coll.{Coll}
 use Rattle.fab_fold.specs.declared.coll.Coll.TheVariants.{Barrier, Broadcast, Allgather, Allreduce}
-use Rattle.fab_collectives.specs.Places.{needed_by, sources_of}
+use Rattle.fab_collectives.specs.Routes.{hears_in, rounds_in}
 use Rattle.fab_collectives.specs.declared.collective.Collective.{Collective}
 use Rattle.fab_collectives.specs.declared.collective.Work.{Work}
 use Rattle.fab_collectives.specs.declared.group.Group.{Group}
@@ -34,5 +36,8 @@ is_right peers (Allreduce op num) len = is_reducing op && (len % element_size nu
 abbrev pub refusal_of : ℕ → Coll → ℕ → Option Fault
 refusal_of peers coll len = cond (nat_lt MOST_SHARE len) (Some MsgSize) (cond (is_right peers coll len) None (Some Invalid))
 
+abbrev pub hearings : Work → ℕ → List Bool
+hearings work len = map (λ k. hears_in work len k) (range_with_len 0 (rounds_in work len))
+
 abbrev pub IsFresh : Collective → Type 0
-IsFresh c = (c.asked ≡ 0) × (c.sent ≡ 0) × (c.awaited.items ≡ needed_by c.work) × (c.received.items ≡ replicate (sources_of c.work.coll c.work.rank c.work.peers) []) × (c.failed ≡ false)
+IsFresh c = (c.asked ≡ 0) × (c.sent ≡ 0) × (c.awaited.items ≡ hearings c.work (length c.own)) × (c.received.items ≡ replicate (rounds_in c.work (length c.own)) []) × (c.failed ≡ false)

@@ -1,19 +1,21 @@
--- What a drive does to the endpoint: receives and messages of its own, each rank's once, and nothing else; and which error it tells.
---     between test a b                 the ranks from a to below b that pass, in order
---     InTurn one ranks old new         for each of these ranks, in order, one call
+-- What a drive does to the endpoint: receives and messages of its own, each round's once, and nothing else; and which error it tells.
+--     between test a b                 the rounds from a to below b that pass, in order
+--     InTurn one rounds old new        for each of these rounds, in order, one call
 --     Passing not old new              a call that is refused for now
 --     InVain not old new why           a call that is refused for good, or the memory for one that is not made
 --     Tries one not old new answer     one call by its answer: made, refused for now, or in vain
---     Goes one not test a b last       the ranks from a to below b that pass had their call; then b is the last, or its call was
+--     Goes one not test a b last       the rounds from a to below b that pass had their call; then b is the last, or its call was
 --          old new answer              refused for now, or it was in vain
---     Asks, AsksNot                    a receive of a rank's share, as long as the own one: posted, refused
---     Tells, TellsNot                  the own share to a rank: accepted, refused
---     AsksAll, TellsAll                of all ranks that need it
+--     Asks, AsksNot                    a receive of a round, of the rank that is heard in it, as long as the shares that it brings: posted, refused
+--     Tells, TellsNot                  the message of a round, to the rank that is told in it: accepted, refused
+--     AsksAll, TellsAll                of all rounds, and of all before one
+--     IsReady c k                      no message is awaited of the rounds that the message of round k waits for
+--     IsDue c n                        the messages of the rounds from the next one to below n are ready, and that of round n is not, if there is such a round
 --     Drove fixed c d old new          receives and sends both, each half to its end or to a call that is refused for now
---     HasAll c                         no share is awaited
---     NoOutcome c                      nothing comes of the shares: one failed, or all are there and don't belong together
+--     HasAll c                         no message is awaited
+--     NoOutcome c                      nothing comes of the messages: one failed, or all are there and don't belong together
 --     Drives fixed c d old new answer  a drive, which finds the collective c and leaves d
-use Rattle.std.specs.Prelude.{◌≡◌, ℕ, ◌-◌, ◌<◌, ◌≤◌, ◌⊎◌, max, Bool, true, false, List, [], ◌∷◌, All, length, replicate, filter, Option, Some, None, Result, Ok, Err}
+use Rattle.std.specs.Prelude.{◌≡◌, ℕ, ◌-◌, ◌*◌, ◌<◌, ◌≤◌, ◌⊎◌, max, Bool, true, false, List, [], ◌∷◌, All, length, replicate, filter, take, Option, Some, None, Result, Ok, Err}
 use Rattle.std.specs.List.{range_with_len}
 use Rattle.fab_base.specs.declared.faults.Fault.{Fault}
 use Rattle.fab_base.specs.declared.faults.Fault.TheVariants.{Again, MsgSize, NoMemory as LacksMemory}
@@ -24,7 +26,9 @@ use Rattle.fab_face.specs.Held.{Seen}
 use Rattle.fab_face.specs.Answers.{Sends, SendsNot, receive_call}
 use Rattle.fab_app.specs.Cleared.{cleared}
 use Rattle.fab_app.specs.Late.{ReceivesLate, ReceivesLateNot}
-use Rattle.fab_fold.specs.Shares.{AreReceived, needs}
+use Rattle.fab_topology.specs.Rounds.{waits_for}
+use Rattle.fab_collectives.specs.Lengths.{AreWhole}
+use Rattle.fab_collectives.specs.Routes.{hears_in, load_in, message_of, rounds_in, source_in, target_in, tells_in, topology_of}
 use Rattle.fab_collectives.specs.declared.collective.Collective.{Collective}
 use Rattle.fab_collectives.specs.declared.collective.Work.{Work}
 
@@ -33,7 +37,7 @@ between test a b = filter test (range_with_len a (b - a))
 
 abbrev pub InTurn : {S : Type 0} → (ℕ → S → S → Type 0) → List ℕ → S → S → Type 0
 InTurn one [] old new = new ≡ old
-InTurn {S} one (rank ∷ ranks) old new = (mid : S) × one rank old mid × InTurn one ranks mid new
+InTurn {S} one (k ∷ rounds) old new = (mid : S) × one k old mid × InTurn one rounds mid new
 
 -- it may be made again later (FI_EAGAIN)
 abbrev pub is_again : Fault → Bool
@@ -72,31 +76,42 @@ abbrev pub HasAll : Collective → Type 0
 HasAll c = All (λ awaited. awaited ≡ false) c.awaited.items
 
 abbrev pub NoOutcome : Collective → Type 0
-NoOutcome c = (c.failed ≡ true) ⊎ (HasAll c × (AreReceived c.work.coll c.work.rank c.own c.received.items → ⊥))
+NoOutcome c = (c.failed ≡ true) ⊎ (HasAll c × (AreWhole c.work c.own c.received.items → ⊥))
+
+-- straight each message is ready at once; by doubling that of a round waits for those of all before it
+abbrev pub IsReady : Collective → ℕ → Type 0
+IsReady c k = All (λ awaited. awaited ≡ false) (take (waits_for (topology_of c.work (length c.own)) k) c.awaited.items)
+
+abbrev pub IsDue : Collective → ℕ → Type 0
+IsDue c n = (n ≤ rounds_in c.work (length c.own)) × ((k : ℕ) → c.sent ≤ k → k < n → IsReady c k) × (n < rounds_in c.work (length c.own) → IsReady c n → ⊥)
 
 module _ {Home : Type 0} where
-  abbrev pub Asks : ℕ → ℕ → ℕ → Seen Home → Seen Home → Type 0
-  Asks tag len rank old new = ReceivesLate (asking tag len rank) old new
+  abbrev pub Asks : Work → ℕ → ℕ → Seen Home → Seen Home → Type 0
+  Asks work len k old new = ReceivesLate (asking work.tag (load_in work len k * len) (source_in work len k)) old new
 
-  abbrev pub AsksNot : ℕ → ℕ → ℕ → Seen Home → Seen Home → Fault → Type 0
-  AsksNot tag len rank old new why = ReceivesLateNot (asking tag len rank) old new why
+  abbrev pub AsksNot : Work → ℕ → ℕ → Seen Home → Seen Home → Fault → Type 0
+  AsksNot work len k old new why = ReceivesLateNot (asking work.tag (load_in work len k * len) (source_in work len k)) old new why
 
-  abbrev pub Tells : Bool → ℕ → List ℕ → ℕ → Seen Home → Seen Home → Type 0
-  Tells fixed tag own rank old new = Sends fixed (telling tag own rank) rank (cleared old) new
+  abbrev pub Tells : Bool → Work → List ℕ → List (List ℕ) → ℕ → Seen Home → Seen Home → Type 0
+  Tells fixed work own received k old new =
+      let target = target_in work (length own) k in Sends fixed (telling work.tag (message_of work own received k) target) target (cleared old) new
 
-  abbrev pub TellsNot : Bool → ℕ → List ℕ → ℕ → Seen Home → Seen Home → Fault → Type 0
-  TellsNot fixed tag own rank old new why = SendsNot fixed (telling tag own rank) (cleared old) new why
+  abbrev pub TellsNot : Bool → Work → List ℕ → List (List ℕ) → ℕ → Seen Home → Seen Home → Fault → Type 0
+  TellsNot fixed work own received k old new why =
+      SendsNot fixed (telling work.tag (message_of work own received k) (target_in work (length own) k)) (cleared old) new why
 
-  -- the receives, of the ranks whose share is needed here
+  -- the receives, of the rounds in which the rank hears
   abbrev pub AsksAll : Work → ℕ → ℕ → ℕ → Seen Home → Seen Home → Result (Unit {0}) Fault → Type 0
-  AsksAll work len a b old new answer = Goes (Asks work.tag len) (AsksNot work.tag len) (λ s. needs work.coll work.rank s) a b work.peers old new answer
+  AsksAll work len a b old new answer = Goes (Asks work len) (AsksNot work len) (λ k. hears_in work len k) a b (rounds_in work len) old new answer
 
-  -- the own share, to the ranks that need it
-  abbrev pub TellsAll : Bool → Work → List ℕ → ℕ → ℕ → Seen Home → Seen Home → Result (Unit {0}) Fault → Type 0
-  TellsAll fixed work own a b old new answer = Goes (Tells fixed work.tag own) (TellsNot fixed work.tag own) (λ t. needs work.coll t work.rank) a b work.peers old new answer
+  -- the messages, of the rounds before the last one in which the rank tells
+  abbrev pub TellsAll : Bool → Work → List ℕ → List (List ℕ) → ℕ → ℕ → ℕ → Seen Home → Seen Home → Result (Unit {0}) Fault → Type 0
+  TellsAll fixed work own received last a b old new answer =
+      Goes (Tells fixed work own received) (TellsNot fixed work own received) (λ k. tells_in work (length own) k) a b last old new answer
 
   abbrev pub Drove : Bool → Collective → Collective → Seen Home → Seen Home → Result (Unit {0}) Fault → Type 0
-  Drove fixed c d old new answer = (mid : Seen Home) × AsksAll c.work (length c.own) c.asked d.asked old mid (Ok tt) × TellsAll fixed c.work c.own c.sent d.sent mid new answer
+  Drove fixed c d old new answer = (mid : Seen Home) × AsksAll c.work (length c.own) c.asked d.asked old mid (Ok tt)
+      × ((due : ℕ) × IsDue c due × TellsAll fixed c.work c.own c.received.items due c.sent d.sent mid new answer)
 
   -- an error is of a receive, and nothing was sent; or of a send; or both halves went, and memory lacks for what it comes to, or that is nothing
   unfoldable pub Drives : Bool → Collective → Collective → Seen Home → Seen Home → Result (Option (List ℕ)) Fault → Type 0

@@ -1,11 +1,20 @@
 //! What the clauses of a collective's calls say together.
+ghost use Rattle.fab_collectives.specs.Folded.{EachIsFolded};
 ghost use Rattle.fab_collectives.specs.Offered.{EachIsOffered};
 
-/// No rank is done before the message of each rank that it waits for was offered to it.
+/// No rank is done before the message of each round in which it hears was offered to it, from the rank that it hears in it.
 ///
-/// `drive` gives something only once no share is awaited (`waits`), those that are awaited at first are the shares of the ranks that
-/// are needed (`IsFresh`), and only an `offer` changes which are (`awaited`). So where completions were offered such that a collective
-/// is done, each rank whose share it needs, which of a barrier is each other rank, sent one of these.
+/// `drive` gives something only once no message is awaited (`waits`), those that are awaited at first are of the rounds in which the rank
+/// hears (`IsFresh`), and only an `offer` changes which are (`awaited`). Straight those are the ranks whose shares are needed, and of a
+/// barrier each other rank.
 pub fn law_offered()
     ensures offered { EachIsOffered }
+{}
+
+/// What an allgather or an allreduce comes to is the same at all ranks: the fold of all shares in order of ranks.
+///
+/// This holds where all shares have one length, and what each rank heard in a round is the message that the contract of its source's
+/// `drive` names (`message_of`). What a rank makes of it is the `made` of `drive`.
+pub fn law_folded()
+    ensures folded { EachIsFolded }
 {}

@@ -7,16 +7,20 @@
 //! Collective      drive, as long as it gives nothing; and offer what is read of the completion queue
 //! ```
 //!
-//! Each rank sends its share to every rank that needs it, and folds what it received itself. Tags and
-//! contexts from [`COLLECTIVE`] on are those of collectives.
+//! From [`DOUBLING_FROM`] ranks on messages go by doubling, in log rounds (`fab_topology`); otherwise each rank sends its share to every
+//! rank that needs it. Each folds what it received itself. Tags and contexts from [`COLLECTIVE`] on are those of collectives.
 #![tactic(auto)]
 
+mod calls;
 mod collective;
 mod group;
 mod laws;
+mod offers;
+mod routes;
 mod shares;
 
 pub use collective::Collective;
 pub use fab_fold::{Coll, MOST_SHARE, is_reducing};
 pub use group::{COLLECTIVE, Group};
-pub use laws::law_offered;
+pub use laws::{law_folded, law_offered};
+pub use routes::DOUBLING_FROM;

@@ -2,6 +2,8 @@ pub mod Programs
 pub mod Showing
 pub mod Reaching
 pub mod Keeping
+pub mod Reading
 pub mod Opening
 pub mod Obeying
+pub mod alike
 mod rows

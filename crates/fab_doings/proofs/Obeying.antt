@@ -1,8 +1,9 @@
 -- The laws of any program hold of what threads did with their endpoints.
-use Rattle.std.proofs.Common.{◌≡◌, ℕ, zero, suc, List, [], ◌∷◌, ◌++◌, drop, map, slice_get, Some, refl, sym, ◌∙◌, ap, subst}
+use Rattle.std.proofs.Common.{◌≡◌, ℕ, zero, suc, List, [], ◌∷◌, ◌++◌, drop, map, take, slice_get, Some, refl, sym, ◌∙◌, ap, subst, arith}
 use Rattle.std.specs.Prelude.{slice_index_or}
 use Rattle.std.specs.Option.{option_map}
 use Rattle.std.proofs.lemmas.Option.{slice_get-map}
+use Rattle.fab_base.specs.declared.operations.Written.{Written}
 use Rattle.fab_model.specs.Orders.{AreSteps, Leads, Turn, steps_of}
 use Rattle.fab_model.specs.State.{State}
 use Rattle.fab_model.specs.Views.{rule}
@@ -11,6 +12,7 @@ use Rattle.fab_laws.specs.Moments.{AtEveryMoment}
 use Rattle.fab_laws.specs.Completed.{accepts, operations_of}
 use Rattle.fab_laws.specs.MessageLaws.{asked_by, asked_of}
 use Rattle.fab_laws.specs.Recorded.{Recorded, plain, recall, recorded}
+use Rattle.fab_laws.proofs.Stepping.{at_opening}
 use Rattle.fab_laws.proofs.Recorded.{accepted_own, asked_own, of_recorded, recorded_leads}
 use Rattle.fab_laws.proofs.matching.Orders.{got_rightly, none_passed_over, past_tells_state, served_in_order, taken_in_order}
 use Rattle.fab_laws.proofs.completion.Once.{nothing_is_held_back, numbers_complete, one_final_completion}
@@ -21,10 +23,14 @@ use Rattle.fab_laws.proofs.streams.Taken.{taken_is_first}
 use Rattle.fab_laws.proofs.streams.Posted.{taken_is_posted}
 use Rattle.fab_laws.proofs.streams.Arrived.{all_is_taken, arrived_is_first, arrived_is_posted, whole_has_arrived}
 use Rattle.fab_laws.proofs.streams.Entries.{entries_tell, receives_tell}
-use Rattle.fab_laws.proofs.receiving.Holding.{closes_in_time, freed_rightly, goes_once, got_is_told, lost_is_put_away, none_is_lost, one_tells, places_follow, stays_claimed, takes_tell, took_is_told}
-use Rattle.fab_doings.specs.Doings.{Living, deeds_of, peer_in}
-use Rattle.fab_doings.specs.Law.{IsOwn, Obeys, Past, ProgramObeys, peers, plains, programs}
+use Rattle.fab_laws.proofs.streams.Sized.{items_are_sized}
+use Rattle.fab_laws.proofs.receiving.Holding.{closes_in_time, freed_rightly, goes_once, got_is_told, lost_is_put_away, none_is_lost, one_tells, parts_stand, places_follow, releases_in_time, releases_tell, stays_claimed, takes_tell, tells_once, took_is_told}
+use Rattle.fab_merging.specs.Pasts.{begun}
+use Rattle.fab_doings.specs.Doings.{Living, deeds_of, entries_of, peer_in}
+use Rattle.fab_doings.specs.Law.{IsOwn, Kept, Obeys, Past, ProgramObeys, peers, plains, programs}
+use Rattle.fab_doings.proofs.alike.Laws.{served_in_turn, told_in_turn}
 use Rattle.fab_doings.proofs.Reaching.{program_reaches}
+use Rattle.fab_doings.proofs.Reading.{HasRead, all_read}
 
 all_obey : AtEveryMoment Obeys
 all_obey from turns states leads p a here =
@@ -49,6 +55,7 @@ all_obey from turns states leads p a here =
       of_posted = taken_is_posted from turns states leads p a here;
       entries = entries_tell from turns states leads p a here;
       receives = receives_tell from turns states leads p a here;
+      sized = items_are_sized from turns states leads p a here;
       arrived = arrived_is_first from turns states leads p a here;
       arrived_posted = arrived_is_posted from turns states leads p a here;
       behind = whole_has_arrived from turns states leads p a here;
@@ -64,7 +71,13 @@ all_obey from turns states leads p a here =
       leaves = goes_once from turns states leads p a here;
       places = places_follow from turns states leads p a here;
       closes = closes_in_time from turns states leads p a here;
+      parts = parts_stand from turns states leads p a here;
+      released = releases_tell from turns states leads p a here;
+      back = releases_in_time from turns states leads p a here;
+      each = tells_once from turns states leads p a here;
       fates = none_is_lost from turns states leads p a here;
+      in_turn = served_in_turn from turns states leads p a here;
+      told_in_turn = told_in_turn from turns states leads p a here;
     }
 
 peers_plain : (opening : List Living) → map plain (map peer_in opening) ≡ map (λ (o : Living). peer o.held.state) opening
@@ -102,6 +115,12 @@ program_obeys from opening pasts starts told = record { turns = turns; deeds = r
     before : (p : ℕ) (o : Living) → slice_get opening p ≡ Some o → slice_get (map peer_in opening) p ≡ Some (peer_in o)
     before p o at = slice_get-map peer_in opening p ∙ ap (option_map peer_in) at
 
+    read_all : (p : ℕ) (o : Living) (x : Past) → slice_get opening p ≡ Some o → Kept (begun o) x → entries_of x.steps ≡ map (λ (w : Written). w.entry) (take x.living.held.state.cq.taken_out x.living.held.state.cq.written)
+    read_all p o x at (more, kept) =
+        let start : slice_get from.peers p ≡ Some (peer o.held.state) = ap (λ ps. slice_get ps p) (sym starts) ∙ slice_get-map (λ (l : Living). peer l.held.state) opening p ∙ ap (option_map (λ (l : Living). peer l.held.state)) at in
+        let none : HasRead o.held.state [] = at_opening from (λ (s : State). HasRead s []) (λ conf av names. record { are = refl; within = omega arith }) p (peer o.held.state) start in
+        ap entries_of kept.doings ∙ (all_read o x.living more [] kept.lives none).are
+
     own : (p : ℕ) (o : Living) (x : Past) → slice_get opening p ≡ Some o → slice_get pasts p ≡ Some x → IsOwn from.peers turns p o x
     own p o x at there =
         let accepted = accepted_own turns (map peer_in opening) (peers pasts) p (peer_in o) (peer_in x.living) run.1 (before p o at) (now p x there) in
@@ -114,4 +133,5 @@ program_obeys from opening pasts starts told = record { turns = turns; deeds = r
           accepted = ap (λ ps. (operations_of ps turns p).accepted) (sym same) ∙ accepted.2 ∙ ap (λ ds. recall (λ a deed b m. accepts a deed b ++ m) o.held.state ds accepted.0 []) mine;
           asked = ap (λ ps. asked_of ps turns p) (sym same) ∙ asked.2 ∙ ap (λ us. recall (λ a deed b m. asked_by a deed b ++ m) o.held.state (steps_of p turns) us []) one
               ∙ ap (λ ds. recall (λ a deed b m. asked_by a deed b ++ m) o.held.state ds accepted.0 []) mine;
+          read = read_all p o x at (told.acted p o x at there);
         }

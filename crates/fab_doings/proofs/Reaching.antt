@@ -26,8 +26,8 @@ abbrev deeds_told : Past → List Deed
 deeds_told x = deeds_of x.steps
 
 holds : (p q : Living) (x : Doing) → Does p x q → Holds (held p) (act_of x) (held q)
-holds p q (Did own) ((did, grew), same) = (passes_at p.held.state _ q.held.state did (own_passes own p.held.state), same)
-holds p q Had ((w, first, is, grew), same) = (passes_at p.held.state _ q.held.state is (read_passes p.held.state), same)
+holds p q (Did own) ((did, grew), same) = (own_passes own p.held.state q.held.state did, same)
+holds p q (Had entry) ((w, first, entry_is, is, grew), same) = (passes_at p.held.state _ q.held.state is (read_passes p.held.state), same)
 holds p q Drew (goes, grew) = goes
 holds p q (Took source f) (goes, grew) = goes
 holds p q (Posted dest f) (goes, grew) = goes

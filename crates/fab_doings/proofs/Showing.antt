@@ -14,6 +14,7 @@ use Rattle.fab_model.specs.Views.{View, Walk}
 use Rattle.fab_model.proofs.Parts.{some_gives}
 use Rattle.fab_model.specs.Peers.{reading, unread}
 use Rattle.fab_base.specs.declared.operations.Written.{Written}
+use Rattle.fab_base.specs.declared.peers.LineResult.{LineResult}
 use Rattle.fab_laws.proofs.Programs.{where_gives}
 use Rattle.fab_laws.proofs.Recorded.{lift}
 use Rattle.fab_face.specs.Held.{Held, begun_of, next_frame}
@@ -21,7 +22,7 @@ use Rattle.fab_face.specs.Acts.{Comes, Ends, Departs, headed, is_first, only}
 use Rattle.fab_peer.specs.Turns.{Shows, joined_from}
 use Rattle.fab_peer.proofs.Showing.{headed_tails, get_drop, whole_item, and_true, is_waiting}
 use Rattle.fab_face.specs.Acts as face
-use Rattle.fab_doings.specs.Doings.{Grew, Own, Calls, Writes, act_of, after_own, deed_of, Did, Does, Doing, Drew, Had, Living, Posted, Took, deeds_by, peer_in}
+use Rattle.fab_doings.specs.Doings.{Grew, Own, Owns, Calls, Writes, act_of, deed_of, Did, Does, Doing, Drew, Had, Living, Posted, Took, deeds_by, peer_in}
 use Rattle.fab_laws.specs.Recorded.{Recorded, recorded}
 use Rattle.fab_laws.specs.Programs.{deed, head_deed, tail_deed, sent_deed, draw_deed, read_deed, peer, Deed, Draw, Head, Peer, Tail, program}
 
@@ -29,14 +30,14 @@ use Rattle.fab_laws.specs.Programs.{deed, head_deed, tail_deed, sent_deed, draw_
 
 -- what is shown of a source when one frame of it is taken: the item that the frame is of, and that it is transmitted where this is its last frame
 module _ (v : View Item) (h : Held) (source : ℕ) (f : Frame) (shows : Shows v h (λ s. face.taken_of s (face.Took source f ∷ []))) where
-  taken_one : face.taken_of source (face.Took source f ∷ []) ≡ f ∷ []
-  taken_one = let same : (source == source) ≡ true = eq-eqb source source refl in rw same refl
+  taken_is : face.taken_of source (face.Took source f ∷ []) ≡ f ∷ []
+  taken_is = let same : (source == source) ≡ true = eq-eqb source source refl in rw same refl
 
   first : AreFirst (joined_from (begun_of h source) (f ∷ [])) (drop (slice_index h.state.rx.tails source) (v.ready source))
-  first = subst (λ fs. AreFirst (joined_from (begun_of h source) fs) (drop (slice_index h.state.rx.tails source) (v.ready source))) taken_one (shows.items source)
+  first = subst (λ fs. AreFirst (joined_from (begun_of h source) fs) (drop (slice_index h.state.rx.tails source) (v.ready source))) taken_is (shows.items source)
 
   pub whole_of : is_last f.head ≡ true → (slice_get (v.ready source) (slice_index h.state.rx.tails source) ≡ Some (grown (begun_of h source) f)) × (slice_index h.state.rx.tails source < v.sent source)
-  whole_of last = whole_item v h source f [] last first (subst (λ fs. slice_index h.state.rx.tails source + length (joined_from (begun_of h source) fs).whole ≤ v.sent source) taken_one (shows.sent source))
+  whole_of last = whole_item v h source f [] last first (subst (λ fs. slice_index h.state.rx.tails source + length (joined_from (begun_of h source) fs).whole ≤ v.sent source) taken_is (shows.sent source))
 
   pub item_of : (b : Bool) → is_last f.head ≡ b → (item : Item) × (slice_get (v.ready source) (slice_index h.state.rx.tails source) ≡ Some item) × (item.head ≡ f.head.item)
   item_of true last = (grown (begun_of h source) f, (whole_of last).0, refl)
@@ -85,9 +86,9 @@ draw_walk : (v : View Item) (a : Peer) → draw_due a.state.rx ≡ true → fits
 unfolding program deed draw_deed
 draw_walk v a due room = where_gives _ _ _ (and_true _ _ due room) refl
 
-did_walk : (v : View Item) (own : Own) (a b : Peer) → b.state ≡ after_own own a.state → program.step v a (deed_of own) ≡ Some b
+did_walk : (v : View Item) (own : Own) (a b : Peer) → Owns own a.state b.state → program.step v a (deed_of own) ≡ Some b
 unfolding program deed
-did_walk v (Calls call) a b e = ap (λ s. Some (peer s)) (sym e)
+did_walk v (Calls call answer) a b e = ap (λ (r : LineResult × State). Some (peer r.1)) e
 did_walk v (Writes counters) a b e = ap (λ s. Some (peer s)) (sym e)
 
 had_walk : (v : View Item) (a b : Peer) (w : Written) → unread a.state.cq ≡ Some w → b.state ≡ reading a.state → program.step v a Deed.Read ≡ Some b
@@ -137,7 +138,7 @@ took_walk v p q source f ((in_begun, in_tails, comes, ends), grew) shows =
 -- wherever the frame that it takes is shown, a doing is deeds of the machine
 pub walk_one : (v : View Item) (p q : Living) (x : Doing) → Does p x q → Shows v p.held (λ s. face.taken_of s (act_of x ∷ [])) → Walk recorded v (peer_in p) (deeds_by x) (peer_in q)
 walk_one v p q (Did own) ((did, grew), parts) shows = (peer_in q, lift v (peer_in p) (peer_in q) (deed_of own) (did_walk v own (peer p.held.state) (peer q.held.state) did) grew, refl)
-walk_one v p q Had ((w, first, is, grew), parts) shows = (peer_in q, lift v (peer_in p) (peer_in q) Deed.Read (had_walk v (peer p.held.state) (peer q.held.state) w first is) grew, refl)
+walk_one v p q (Had entry) ((w, first, same, is, grew), parts) shows = (peer_in q, lift v (peer_in p) (peer_in q) Deed.Read (had_walk v (peer p.held.state) (peer q.held.state) w first is) grew, refl)
 walk_one v p q Drew ((due, room, is), grew) shows =
     (peer_in q, lift v (peer_in p) (peer_in q) Draw (draw_walk v (peer p.held.state) due room ∙ state_is (do_draw p.held.state) q.held.state (ap (λ (x : Held). x.state) is)) grew, refl)
 walk_one v p q (Posted dest f) ((in_places, in_sent, next, departs), grew) shows = posted_walk v p q dest f (is_last f.head) next departs grew

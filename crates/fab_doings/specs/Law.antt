@@ -5,8 +5,9 @@
 --     AreTold opening pasts  what is known of each endpoint alone, and of each pair of ports once the threads are joined
 --     ProgramReaches         the law: then some order of turns of the program leads from the opening to the endpoints
 --     Obeys                  of a peer of a program: what the laws of `fab_laws` say of it
---     ProgramObeys           where the endpoints started as a program's peers do, the laws hold of what the threads did, and each thread's own record says what its endpoint accepted
-use Rattle.std.specs.Prelude.{◌≡◌, ℕ, List, [], ◌++◌, map, Some, slice_get}
+--     ProgramObeys           where the endpoints started as a program's peers do, the laws hold of what the threads did, and each thread's own record says what its endpoint accepted, and what it read
+use Rattle.std.specs.Prelude.{◌≡◌, ℕ, List, [], ◌++◌, map, take, Some, slice_get}
+use Rattle.fab_base.specs.declared.operations.Written.{Written}
 use Rattle.fab_model.specs.Orders.{AreSteps, Reached, Turn}
 use Rattle.fab_model.specs.Views.{rule}
 use Rattle.fab_face.specs.Acts.{MovedBy, posted_to, taken_of, ways_of}
@@ -25,12 +26,13 @@ use Rattle.fab_laws.specs.CompletionLaws.{AllCompleteOnce, NumberCompletes}
 use Rattle.fab_laws.specs.FenceLaws.{FenceHolds, GoesInOrder, HoldsNothing, ItemIsOfACall}
 use Rattle.fab_laws.specs.ReplyLaws.{AnswersOnce, FindsItsOperation, WaitsAtMatch}
 use Rattle.fab_laws.specs.StreamLaws.{HasArrived, IsFirst, IsPosted, TakesAll, arrived_from, whole_from}
-use Rattle.fab_laws.specs.MessageLaws.{EntryTells, ReceiveTells, asked_by, asked_of}
+use Rattle.fab_laws.specs.MessageLaws.{EntryTells, LetsOutSized, ReceiveTells, asked_by, asked_of}
 use Rattle.fab_laws.specs.Claimed.{handled_of}
 use Rattle.fab_laws.specs.ClaimLaws.{EntryIsOwn, FreesClaimed, IsPutAway, NoneSlips, StaysAside}
-use Rattle.fab_laws.specs.MultiLaws.{ClosesWhenFull, PlacesTell}
+use Rattle.fab_laws.specs.MultiLaws.{ClosesWhenFull, HandsBackParts, PlacesTell, ReleaseTells, ReleasedInTime, TellsEach}
 use Rattle.fab_laws.specs.ReceiveLaws.{AllHaveFates, GotTold, LeavesOnce, OneTellsIt, TookTold}
-use Rattle.fab_doings.specs.Doings.{Doing, DoesBy, Living, acts_of, deeds_of, peer_in}
+use Rattle.fab_doings.specs.Alike.{ServesInTurn, TellsInTurn}
+use Rattle.fab_doings.specs.Doings.{Doing, DoesBy, Living, acts_of, deeds_of, entries_of, peer_in}
 
 -- its steps are the ghost record of a thread
 abbrev pub Past : Type 0
@@ -102,6 +104,7 @@ pub record Obeys (from : List Peer) (turns : List (Turn Deed)) (states : List Pe
   pub of_posted : IsPosted (whole_from from turns p) (operations_of from turns) states p
   pub entries : EntryTells (past_of from turns p) (asked_of from turns p) states p a
   pub receives : ReceiveTells (past_of from turns p) (asked_of from turns p) states p a
+  pub sized : LetsOutSized a
   pub arrived : IsFirst (arrived_from from turns p) states p
   pub arrived_posted : IsPosted (arrived_from from turns p) (operations_of from turns) states p
   pub behind : HasArrived (whole_from from turns p) (arrived_from from turns p)
@@ -118,14 +121,23 @@ pub record Obeys (from : List Peer) (turns : List (Turn Deed)) (states : List Pe
   pub leaves : LeavesOnce (past_of from turns p)
   pub places : PlacesTell (past_of from turns p) (asked_of from turns p) states p a
   pub closes : ClosesWhenFull (past_of from turns p) (asked_of from turns p)
+  pub parts : HandsBackParts (past_of from turns p) (asked_of from turns p) states p a
+  pub released : ReleaseTells (past_of from turns p) (asked_of from turns p) a
+  pub back : ReleasedInTime (past_of from turns p) (asked_of from turns p) a
+  pub each : TellsEach (past_of from turns p) (asked_of from turns p) a
   pub fates : AllHaveFates (past_of from turns p) (handled_of from turns p) a.state.rx
+  -- receives that are alike
+  pub in_turn : ServesInTurn (arrived_from from turns p) (past_of from turns p) (asked_of from turns p)
+  pub told_in_turn : TellsInTurn (arrived_from from turns p) (past_of from turns p) (asked_of from turns p) states p a
 
--- the thread's own record, of its doings and the states after them, says what its endpoint accepted and which receives it was asked for
+-- the thread's own record, of its doings and the states after them, says what its endpoint accepted and which receives it was asked for; and the entries that it read are the first of those that
+-- its endpoint wrote
 pub record IsOwn (from : List Peer) (turns : List (Turn Deed)) (p : ℕ) (o : Living) (x : Past) : Type 0 where
   pub grew : List State
   pub past : x.living.past ≡ o.past ++ grew
   pub accepted : (operations_of from turns p).accepted ≡ recall (λ a deed b m. accepts a deed b ++ m) o.held.state (deeds_of x.steps) grew []
   pub asked : asked_of from turns p ≡ recall (λ a deed b m. asked_by a deed b ++ m) o.held.state (deeds_of x.steps) grew []
+  pub read : entries_of x.steps ≡ map (λ (w : Written). w.entry) (take x.living.held.state.cq.taken_out x.living.held.state.cq.written)
 
 abbrev pub plains : List Past → List Peer
 plains pasts = map plain (peers pasts)

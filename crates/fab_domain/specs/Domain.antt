@@ -7,7 +7,7 @@ use Rattle.fab_base.specs.declared.caps.Info.{Info}
 use Rattle.fab_link.specs.Meaning.{AreFresh}
 use Rattle.fab_model.specs.Calls.{upto}
 use Rattle.fab_table.specs.declared.fabric.Fabric.{Fabric}
-use Rattle.fab_face.specs.Ports.{Whole, opened}
+use Rattle.fab_ep.specs.Value.{Whole, opened}
 use Rattle.fab_ring.specs.declared.port.RingPort.{RingPort}
 use Rattle.fab_ring.specs.Ports.{peers_of, out_of, in_of}
 use Rattle.fab_ring.specs.Made.{AreMade}

@@ -2,7 +2,7 @@
 --     ring_seen e      what is held, the log, and the lanes as its port means them
 use Rattle.std.specs.Prelude.{None, Some}
 use Rattle.fab_face.specs.Held.{Seen}
-use Rattle.fab_face.specs.Ports.{Whole}
+use Rattle.fab_ep.specs.Value.{Whole}
 use Rattle.fab_ring.specs.Ports.{in_of, moves_of, number_of, out_of, peers_of, table_of}
 use Rattle.fab_ring.specs.declared.port.RingPort.{RingPort}
 use Rattle.fab_table.specs.declared.fabric.Fabric.{Fabric}

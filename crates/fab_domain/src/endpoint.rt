@@ -36,7 +36,7 @@ impl Drop for RingEndpoint {
 }
 
 impl Model for RingEndpoint {
-    ghost use Rattle.fab_face.specs.Ports.{Whole};
+    ghost use Rattle.fab_ep.specs.Value.{Whole};
     ghost use Rattle.fab_ring.specs.declared.port.RingPort.{RingPort};
 
     ghost Value = { Whole RingPort };

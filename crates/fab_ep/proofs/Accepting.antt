@@ -25,7 +25,7 @@ use Rattle.fab_ep.proofs.Pushing.{any_append}
 use Rattle.fab_ep.proofs.Falling.{get_append}
 use Rattle.fab_ep.proofs.Letting.{none_next}
 use Rattle.fab_ep.proofs.Taking.{placed_next}
-use Rattle.fab_ep.proofs.Turning.{rose_on}
+use Rattle.fab_ep.proofs.Counts.{rose_on}
 
 -- ---- what the machine makes of the call
 

@@ -5,7 +5,8 @@ use Rattle.fab_base.specs.declared.operations.Written.{Written}
 use Rattle.fab_model.specs.Peers.{unread}
 use Rattle.fab_link.specs.declared.port.Port.{Ghosts}
 use Rattle.fab_face.specs.Acts.{has_read}
-use Rattle.fab_face.specs.Ports.{GoesOn, Whole, lanes_in, seen}
+use Rattle.fab_face.specs.Ports.{GoesOn, lanes_in}
+use Rattle.fab_ep.specs.Value.{Whole, seen}
 use Rattle.fab_base.specs.declared.entries.Class.{Class}
 use Rattle.fab_base.specs.declared.faults.Fault.{Fault}
 use Rattle.fab_base.specs.declared.faults.NoMemory.{NoMemory}
@@ -60,7 +61,7 @@ module _ {Home : Type 0} where
   tied_popped P e h (Err why) popped stays t = subst (λ (x : Held). IsTied (record e { held = x })) (sym stays) t
 
 -- another port goes on where this one ended
-pub tied_reseated : {P Q : Type 0} (M : Ghosts P) (N : Ghosts Q) (e : Whole P) (port : Q) → IsTied (seen M e) → GoesOn M N e.port port → IsRepaid (lanes_in N port) e.held → IsTied (seen N (record { port = port; held = e.held; log = e.log; log_size = e.log_size; pushed = e.pushed }))
+pub tied_reseated : {P Q : Type 0} (M : Ghosts P) (N : Ghosts Q) (e : Whole P) (port : Q) → IsTied (seen M e) → GoesOn M N e.port port → IsRepaid (lanes_in N port) e.held → IsTied (seen N (record { port = port; held = e.held; log = e.log; log_size = e.log_size; pushed = e.pushed; next = e.next }))
 tied_reseated M N e port t goes repaid = record {
   log = t.log;
   within = t.within;

@@ -22,7 +22,8 @@ use Rattle.fab_ep.specs.Sends.{IsOnly, LetsOutOne, LetsOut}
 use Rattle.fab_ep.proofs.Posting.{other_peer}
 use Rattle.fab_ep.proofs.Pushing.{or_true, or_false, any_append}
 use Rattle.fab_ep.proofs.Sent.{transmitting_parts, sent_alone, sent_sent}
-use Rattle.fab_ep.proofs.Turning.{went_calm, full_on}
+use Rattle.fab_ep.proofs.Fairness.{full_on}
+use Rattle.fab_ep.proofs.Turning.{went_calm}
 use Rattle.fab_ep.proofs.Falling.{left_falls}
 use Rattle.fab_face.specs.Machine.{IsSteady}
 

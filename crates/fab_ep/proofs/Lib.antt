@@ -15,3 +15,6 @@ mod Reading
 mod Answering
 mod Kept
 mod Registered
+mod Counts
+mod Circle
+mod Fairness

@@ -20,7 +20,8 @@ use Rattle.fab_ep.specs.declared.endpoint.Tried.{Tried}
 use Rattle.fab_ep.specs.declared.endpoint.Tried.TheVariants.{Moved, Nothing, Held as HeldBack, Short}
 use Rattle.fab_ep.specs.Tries.{Calm, PostsOut, TriesOut, PushesOut, PushesOn, PushedTo, PushesTo}
 use Rattle.fab_ep.proofs.Posting.{last_is}
-use Rattle.fab_ep.proofs.Turning.{went_calm, full_on}
+use Rattle.fab_ep.proofs.Fairness.{full_on}
+use Rattle.fab_ep.proofs.Turning.{went_calm}
 
 pub last_by : (item : Item) (place : ℕ) → place ≤ item.head.total → nat_le (item.head.total - place) 4096 ≡ true → is_last (piece item place).head ≡ true
 last_by item place within short = last_is item place (at place item.head.total within short)

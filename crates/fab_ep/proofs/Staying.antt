@@ -24,7 +24,7 @@ use Rattle.fab_ep.specs.declared.endpoint.Tried.TheVariants.{Moved, Nothing, Hel
 use Rattle.fab_ep.specs.Tries.{Calm, TriesOut, PushedTo, Pushed, Pushes, HeldStays}
 use Rattle.fab_ep.proofs.Posting.{other_peer}
 use Rattle.fab_ep.proofs.Sent.{on_as, sent_on, sent_is_none, sent_is_some, sent_next, keeps_sent}
-use Rattle.fab_ep.proofs.Turning.{full_on}
+use Rattle.fab_ep.proofs.Fairness.{full_on}
 use Rattle.fab_ep.proofs.Pushing.{or_false, or_assoc, any_append}
 
 -- ---- the operation that ends with an item for another peer

@@ -1,10 +1,8 @@
 -- Steps of progress, one after another.
-use Rattle.std.proofs.Common.{◌≡◌, ◌≢◌, ◌<◌, ◌≤◌, ◌+◌, ◌⊎◌, inl, inr, ℕ, Bool, true, false, ◌||◌, List, [], ◌∷◌, ◌++◌, append-nil, append_assoc, Some, None, Result, Ok, Err, refl, sym, ap, ◌∙◌, subst, arith, cond}
+use Rattle.std.proofs.Common.{◌≡◌, ◌≢◌, ◌<◌, ◌≤◌, ◌+◌, ◌-◌, ◌⊎◌, inl, inr, ℕ, Bool, true, false, ◌||◌, List, [], ◌∷◌, ◌++◌, append-nil, append_assoc, Some, None, Result, Ok, Err, refl, sym, ap, ◌∙◌, subst, arith}
 use Rattle.std.specs.Prelude.{count_by, ◌↔◌}
 use Rattle.std.proofs.lemmas.Bool.{cases_eq, and_from}
-use Rattle.std.proofs.lemmas.List.Sums.{sum_by-append, sum_by_push}
 use Rattle.std.proofs.lemmas.List.Folds.{list_all-append}
-use Rattle.fab_base.specs.Counts.{Rose}
 use Rattle.fab_base.specs.declared.frames.Frame.{Frame}
 use Rattle.fab_base.specs.declared.faults.NoMemory.{NoMemory}
 use Rattle.fab_link.specs.Meaning.{Outgoing, Incoming}
@@ -12,48 +10,28 @@ use Rattle.fab_model.specs.Receiving.{draw_due}
 use Rattle.fab_face.specs.declared.events.Moved.{Moved as Answer}
 use Rattle.fab_face.specs.declared.events.Stop.{Stop}
 use Rattle.fab_face.specs.declared.events.Stop.TheVariants.{Idle, Budget, CqFull as StoppedCqFull}
-use Rattle.fab_face.specs.Held.{Held, Seen, next_frame}
-use Rattle.fab_face.specs.Acts.{Act, Did, Took, Posted, Drew, Had, Went, is_move, is_take, is_post, is_draw}
-use Rattle.fab_face.specs.Answers.{AllAre, Begins, Drawn, HasPlaces, IsShort, MayLack, SawEmpty, SawFull, DrawLacks, LentLacks, NextLacks, FrameLacks, SentLacks, StopsAs, Progressed}
+use Rattle.fab_face.specs.Held.{Held, Lanes, Seen, next_frame}
+use Rattle.fab_face.specs.Acts.{Act, Took, Posted, Went, is_move, is_take, is_post}
+use Rattle.fab_face.specs.Answers.{AllAre, Begins, Drawn, HasPlaces, IsShort, MayLack, DrawLacks, LentLacks, NextLacks, FrameLacks, SentLacks, StopsAs}
 use Rattle.fab_face.proofs.Joining.{draws_move, went_none, went_then}
 use Rattle.fab_face.proofs.Joining.{ported_same}
+use Rattle.fab_ep.specs.declared.lanes.Lane.{Lane}
+use Rattle.fab_ep.specs.declared.lanes.Lane.TheVariants.{To, From}
 use Rattle.fab_ep.specs.declared.endpoint.Tried.{Tried}
 use Rattle.fab_ep.specs.declared.endpoint.Tried.TheVariants.{Moved, Nothing, Held as HeldBack, Short}
 use Rattle.fab_ep.specs.declared.endpoint.Turn.{Turn}
-use Rattle.fab_ep.specs.Tries.{Calm, CalmOut, CalmIn, TriesOut, TriesIn, OutAt, InAt, Turning, WentRound, CutShort, Rounds, Quiet, TurnedOn, Turns, moved_one, is_held, is_short}
+use Rattle.fab_ep.specs.Circle.{Follows, InCircle, IsOf, ahead, round}
+use Rattle.fab_ep.specs.Fairness.{HasNone, Lap, MayWant, ProgressedFairly, Serves, moved}
+use Rattle.fab_ep.specs.Tries.{Calm, CalmOut, CalmIn, Tries, PassesOn, OutAt, InAt, LaneAt, Looked, Turning, WentRound, CutShort, Rounds, Quiet, TurnedOn, Turns, taken_on, posted_on, is_held, is_short}
 use Rattle.fab_ep.specs.Draws.{Drawing, Draws}
+use Rattle.fab_ep.proofs.Counts.{count_append, draws_none}
+use Rattle.fab_ep.proofs.Circle.{ahead_below, ahead_here, ahead_one}
+use Rattle.fab_ep.proofs.Fairness.{Laps, empty_on, full_on, had_before, had_now, lap_drawn, lap_none, lap_of, lap_on, lap_still, laps_none, laps_on, moved_append, moved_nothing, moved_posted, moved_took, next_same, others_posted, others_took, serves_later, serves_of, serves_still}
 
 -- ---- lists of acts
 
 all_append : (test : Act → Bool) (xs ys : List Act) → AllAre test xs → AllAre test ys → AllAre test (xs ++ ys)
 all_append test xs ys p q = list_all-append test xs ys ∙ and_from _ _ p q
-
-count_append : (test : Act → Bool) (xs ys : List Act) → count_by test (xs ++ ys) ≡ count_by test xs + count_by test ys
-count_append test xs ys = sum_by-append (λ a. cond (test a) 1 0) xs ys
-
-count_yes : (test : Act → Bool) (xs : List Act) (act : Act) → test act ≡ true → count_by test (xs ++ act ∷ []) ≡ count_by test xs + 1
-count_yes test xs act is = sum_by_push (λ a. cond (test a) 1 0) xs act ∙ ap (λ b. count_by test xs + cond b 1 0) is
-
-count_no : (test : Act → Bool) (xs : List Act) (act : Act) → test act ≡ false → count_by test (xs ++ act ∷ []) ≡ count_by test xs + 0
-count_no test xs act is = sum_by_push (λ a. cond (test a) 1 0) xs act ∙ ap (λ b. count_by test xs + cond b 1 0) is
-
--- draws are no frames
-draws_none : (acts : List Act) → AllAre is_draw acts → (count_by is_take acts ≡ 0) × (count_by is_post acts ≡ 0)
-draws_none [] are = (refl, refl)
-draws_none (Did ∷ acts) are = absurd (cc)
-draws_none (Took source f ∷ acts) are = absurd (cc)
-draws_none (Posted dest f ∷ acts) are = absurd (cc)
-draws_none (Drew ∷ acts) are = draws_none acts are
-draws_none (Had ∷ acts) are = absurd (cc)
-
--- ---- counts
-
-pub rose_on : (a b c : ℕ) → a ≤ b → Rose b c → Rose a c
-rose_on a b c le (inl less) = inl (omega (arith, less, le))
-rose_on a b c le (inr last) = (let same = last.0 in elim (cases_eq a c) [
-  | inl at ↦ inr (at, last.1)
-  | inr under ↦ inl (omega (arith, under, same, le))
-])
 
 or_left : (a b : Bool) → a ≡ true → (a || b) ≡ true
 or_left a b is = rw is refl
@@ -78,208 +56,227 @@ module _ {Home : Type 0} where
   pub went_calm : (a e e1 : Seen Home) (acts : List Act) → Went None a e acts → Calm e e1 → Went None a e1 acts
   went_calm a e e1 acts went calm = subst (λ xs. Went None a e1 xs) (append-nil acts) (went_then None a e e1 acts [] went (went_none None e e1 calm.held calm.log calm.size calm.ported))
 
-  pub full_on : (a e e1 : Seen Home) (acts : List Act) (d : ℕ) → Went None a e acts → SawFull e.lanes e1.lanes d → SawFull a.lanes e1.lanes d
-  full_on a e e1 acts d went saw = record {
-    rose = elim saw.rose [ inl r ↦ inl (rose_on _ _ _ (went.ported.lane_full d) r) | inr r ↦ inr (rose_on _ _ _ (went.ported.pool_full d) r) ];
-    at_end = saw.at_end;
-  }
-
-  empty_on : (a e e1 : Seen Home) (acts : List Act) (s : ℕ) → Went None a e acts → SawEmpty e.lanes e1.lanes s → SawEmpty a.lanes e1.lanes s
-  empty_on a e e1 acts s went saw = record { rose = rose_on _ _ _ (went.ported.empty_seen s) saw.rose; at_end = saw.at_end; all = saw.all }
-
   next_stays : (e e1 : Seen Home) (d : ℕ) → e1.held ≡ e.held → NextLacks e d → NextLacks e1 d
   next_stays e e1 d held lacks = subst (λ (h : Held). (f : Frame) × (next_frame h d ≡ Some f) × SentLacks h d f) (sym held) lacks
 
-  lent_stays : (e e1 : Seen Home) (s : ℕ) → e1.held ≡ e.held → e1.lanes.ins s ≡ e.lanes.ins s → LentLacks e s → LentLacks e1 s
-  lent_stays e e1 s held ins (f, lent, lacks) = (f, ap (λ (i : Incoming). i.lent) ins ∙ lent, subst (λ (h : Held). FrameLacks h s f) (sym held) lacks)
+  lent_stays : (e e1 : Seen Home) (s : ℕ) → Calm e e1 → LentLacks e s → LentLacks e1 s
+  lent_stays e e1 s calm (f, lent, lacks) = (f, calm.ported.lent s f refl lent, subst (λ (h : Held). FrameLacks h s f) (sym calm.held) lacks)
 
-  out_stays : (held more : Bool) (a e e1 : Seen Home) (d : ℕ) → e1.held ≡ e.held → e1.lanes.outs d ≡ e.lanes.outs d → OutAt held a e d → OutAt (held || more) a e1 d
-  out_stays held more a e e1 d same outs at some = elim (at (λ none. some (ap (λ (h : Held). next_frame h d) same ∙ none))) [
+  out_stays : (held more : Bool) (a e e1 : Seen Home) (d : ℕ) → Calm e e1 → e1.lanes.outs d ≡ e.lanes.outs d → OutAt held a e d → OutAt (held || more) a e1 d
+  out_stays held more a e e1 d calm outs at some = elim (at (λ none. some (ap (λ (h : Held). next_frame h d) calm.held ∙ none))) [
     | inl full ↦ inl (record { rose = rw outs full.rose; at_end = rw outs full.at_end })
-    | inr lacks ↦ inr (or_left held more lacks.0, next_stays e e1 d same lacks.1)
+    | inr lacks ↦ inr (or_left held more lacks.0, next_stays e e1 d calm.held lacks.1)
   ]
 
-  in_stays : (held more : Bool) (a e e1 : Seen Home) (s : ℕ) → e1.held ≡ e.held → e1.lanes.ins s ≡ e.lanes.ins s → e1.lanes.in_list ≡ e.lanes.in_list → InAt held a e s → InAt (held || more) a e1 s
-  in_stays held more a e e1 s same ins lists (inl empty) = inl (record { rose = rw ins empty.rose; at_end = rw ins empty.at_end; all = rw (ins, lists) empty.all })
-  in_stays held more a e e1 s same ins lists (inr lacks) = inr (or_left held more lacks.0, lent_stays e e1 s same ins lacks.1)
+  in_stays : (held more : Bool) (a e e1 : Seen Home) (s : ℕ) → Calm e e1 → e1.lanes.ins s ≡ e.lanes.ins s → InAt held a e s → InAt (held || more) a e1 s
+  in_stays held more a e e1 s calm ins (inl empty) = inl (record { rose = rw ins empty.rose; at_end = rw ins empty.at_end; all = rw (ins, calm.ported.in_list) empty.all })
+  in_stays held more a e e1 s calm ins (inr lacks) = inr (or_left held more lacks.0, lent_stays e e1 s calm lacks.1)
 
-  -- ---- one step
+  -- ---- the turn of a lane
 
-  module _ (a e e1 : Seen Home) (taken posted k : ℕ) (held more : Bool) where
-    calm_out : Turning a e taken posted held k k → CalmOut e e1 k → OutAt (held || more) a e1 k → (more ≡ true → NextLacks e1 k) → Turning a e1 taken posted (held || more) (k + 1) k
-    calm_out was calm here lacks = record {
-      acts = was.acts;
-      moves = was.moves;
-      went = went_calm a e e1 was.acts was.went calm.calm;
-      takes = was.takes;
-      posts = was.posts;
-      outs = λ none d below. elim (cases_eq d k) [
-        | inl same ↦ rw same here
-        | inr other ↦ out_stays held more a e e1 d calm.calm.held (calm.outs d other) (was.outs none d (omega (arith, below, other)))
-      ];
-      ins = λ none s below. in_stays held more a e e1 s calm.calm.held (ap (λ (i : ℕ → Incoming). i s) calm.ins) calm.calm.ported.in_list (was.ins none s below);
-      some = λ none is. elim (or_either held more is) [
-        | inl before ↦ elim (was.some none before) [
-          | inl (s, below, lent) ↦ inl (s, below, lent_stays e e1 s calm.calm.held (ap (λ (i : ℕ → Incoming). i s) calm.ins) lent)
-          | inr (d, next) ↦ inr (d, next_stays e e1 d calm.calm.held next)
-        ]
-        | inr now ↦ inr (k, lacks now)
-      ];
-      same = λ none. calm.calm.held ∙ was.same none;
-    }
+  -- nothing moved, and the port was asked for this lane alone
+  abbrev pub CalmAt : Seen Home → Seen Home → Lane → Type 0
+  CalmAt e e1 (To d) = CalmOut e e1 d
+  CalmAt e e1 (From s) = CalmIn e e1 s
 
-    calm_in : Turning a e taken posted held (k + 1) k → CalmIn e e1 k → InAt (held || more) a e1 k → (more ≡ true → LentLacks e1 k) → Turning a e1 taken posted (held || more) (k + 1) (k + 1)
-    calm_in was calm here lacks = record {
-      acts = was.acts;
-      moves = was.moves;
-      went = went_calm a e e1 was.acts was.went calm.calm;
-      takes = was.takes;
-      posts = was.posts;
-      outs = λ none d below. out_stays held more a e e1 d calm.calm.held (ap (λ (o : ℕ → Outgoing). o d) calm.outs) (was.outs none d below);
-      ins = λ none s below. elim (cases_eq s k) [
-        | inl same ↦ rw same here
-        | inr other ↦ in_stays held more a e e1 s calm.calm.held (calm.ins s other) calm.calm.ported.in_list (was.ins none s (omega (arith, below, other)))
-      ];
-      some = λ none is. elim (or_either held more is) [
-        | inl before ↦ elim (was.some none before) [
-          | inl (s, below, lent) ↦ inl (s, omega (arith, below), lent_stays e e1 s calm.calm.held (calm.ins s (λ same. omega (arith, same, below))) lent)
-          | inr (d, next) ↦ inr (d, next_stays e e1 d calm.calm.held next)
-        ]
-        | inr now ↦ inl (k, omega arith, lacks now)
-      ];
-      same = λ none. calm.calm.held ∙ was.same none;
-    }
+  abbrev pub LacksAt : Seen Home → Lane → Type 0
+  LacksAt e (To d) = NextLacks e d
+  LacksAt e (From s) = LentLacks e s
 
-  -- a frame moved
-  moved_on : (a e e1 : Seen Home) (taken posted t p : ℕ) (held more : Bool) (ko ki lo li : ℕ) (act : Act) → is_move act ≡ true → Turning a e taken posted held ko ki → Went None e e1 (act ∷ [])
-      → ((xs : List Act) → count_by is_take xs ≡ taken → count_by is_take (xs ++ act ∷ []) ≡ t) → ((xs : List Act) → count_by is_post xs ≡ posted → count_by is_post (xs ++ act ∷ []) ≡ p) → 0 < t + p
-      → Turning a e1 t p (held || more) lo li
-  moved_on a e e1 taken posted t p held more ko ki lo li act is was went takes posts some = record {
-    acts = was.acts ++ act ∷ [];
-    moves = all_append is_move was.acts (act ∷ []) was.moves (is_one act is);
-    went = went_then None a e e1 was.acts (act ∷ []) was.went went;
-    takes = takes was.acts was.takes;
-    posts = posts was.acts was.posts;
-    outs = λ none. absurd (omega (arith, none, some));
-    ins = λ none. absurd (omega (arith, none, some));
-    some = λ none. absurd (omega (arith, none, some));
-    same = λ none. absurd (omega (arith, none, some));
+  calm_of : (e e1 : Seen Home) (here : Lane) → CalmAt e e1 here → Calm e e1
+  calm_of e e1 (To d) calm = calm.calm
+  calm_of e e1 (From s) calm = calm.calm
+
+  lane_stays : (held more : Bool) (a e e1 : Seen Home) (here l : Lane) → CalmAt e e1 here → l ≢ here → LaneAt held a e l → LaneAt (held || more) a e1 l
+  lane_stays held more a e e1 (To d) (To k) calm other at = out_stays held more a e e1 k calm.calm (calm.outs k (λ same. other (ap To same))) at
+  lane_stays held more a e e1 (To d) (From s) calm other at = in_stays held more a e e1 s calm.calm (ap (λ (i : ℕ → Incoming). i s) calm.ins) at
+  lane_stays held more a e e1 (From s) (To k) calm other at = out_stays held more a e e1 k calm.calm (ap (λ (o : ℕ → Outgoing). o k) calm.outs) at
+  lane_stays held more a e e1 (From s) (From k) calm other at = in_stays held more a e e1 k calm.calm (calm.ins k (λ same. other (ap From same))) at
+
+  lacks_some : (e : Seen Home) (here : Lane) → LacksAt e here → ((s : ℕ) × LentLacks e s) ⊎ ((d : ℕ) × NextLacks e d)
+  lacks_some e (To d) lacks = inr (d, lacks)
+  lacks_some e (From s) lacks = inl (s, lacks)
+
+  looked_on : (held more : Bool) (a e e1 : Seen Home) (from here : Lane) (n : ℕ) → IsOf a.lanes.peers from → IsOf a.lanes.peers here → ahead a.lanes.peers from here ≡ n → Looked held a e from n → CalmAt e e1 here
+      → LaneAt (held || more) a e1 here → (more ≡ true → LacksAt e1 here) → Looked (held || more) a e1 from (n + 1)
+  looked_on held more a e e1 from here n is_from is_here at was calm here_at lacks = record {
+    lanes = λ l is near. elim (cases_eq (ahead a.lanes.peers from l) n) [
+      | inl same ↦ subst (λ x. LaneAt (held || more) a e1 x) (sym (ahead_one a.lanes.peers from l here is_from is is_here (same ∙ sym at))) here_at
+      | inr other ↦ lane_stays held more a e e1 here l calm (λ same. other (ap (λ x. ahead a.lanes.peers from x) same ∙ at)) (was.lanes l is (omega (arith, near, other)))
+    ];
+    some = λ is. elim (or_either held more is) [
+      | inl before ↦ elim (was.some before) [
+        | inl (s, lent) ↦ inl (s, lent_stays e e1 s (calm_of e e1 here calm) lent)
+        | inr (d, next) ↦ inr (d, next_stays e e1 d (calm_of e e1 here calm).held next)
+      ]
+      | inr now ↦ lacks_some e1 here (lacks now)
+    ];
+    same = (calm_of e e1 here calm).held ∙ was.same;
   }
-    where
-      is_one : (act : Act) → is_move act ≡ true → AllAre is_move (act ∷ [])
-      is_one act is = rw is refl
 
-  pub on_out : (a e e1 : Seen Home) (taken posted k : ℕ) (held : Bool) (t : Tried) → Turning a e taken posted held k k → TriesOut e e1 k (Ok t) → is_short t ≡ false
-      → Turning a e1 taken (posted + moved_one t) (held || is_held t) (k + 1) k
-  on_out a e e1 taken posted k held Moved was (f, went) un = moved_on a e e1 taken posted taken (posted + 1) held false k k (k + 1) k (Posted k f) refl was went
-      (λ xs is. (let c = count_no is_take xs (Posted k f) refl in omega (arith, c, is)))
-      (λ xs is. (let c = count_yes is_post xs (Posted k f) refl in omega (arith, c, is))) (omega arith)
-  on_out a e e1 taken posted k held Nothing was (calm, full) un =
-      subst (λ n. Turning a e1 taken n (held || false) (k + 1) k) (omega arith) (calm_out a e e1 taken posted k held false was calm (λ some. inl (full_on a e e1 was.acts k was.went (full some))) (λ is. absurd (cc)))
-  on_out a e e1 taken posted k held HeldBack was (calm, lacks) un =
-      subst (λ n. Turning a e1 taken n (held || true) (k + 1) k) (omega arith) (calm_out a e e1 taken posted k held true was calm (λ some. inr (or_right held true refl, lacks)) (λ is. lacks))
-  on_out a e e1 taken posted k held Short was tries un = absurd (cc)
+  lap_from : (fixed : Bool) (a e : Seen Home) (from here : Lane) (n : ℕ) (acts : List Act) → Lap fixed false a.lanes.peers a e from here n acts → 0 < a.lanes.peers → IsOf a.lanes.peers from
+  lap_from fixed a e from here n acts lap = lap.first
 
-  pub on_in : (a e e1 : Seen Home) (taken posted k : ℕ) (held : Bool) (t : Tried) → Turning a e taken posted held (k + 1) k → TriesIn e e1 k (Ok t) → is_short t ≡ false
-      → Turning a e1 (taken + moved_one t) posted (held || is_held t) (k + 1) (k + 1)
-  on_in a e e1 taken posted k held Moved was (f, went) un = moved_on a e e1 taken posted (taken + 1) posted held false (k + 1) k (k + 1) (k + 1) (Took k f) refl was went
-      (λ xs is. (let c = count_yes is_take xs (Took k f) refl in omega (arith, c, is)))
-      (λ xs is. (let c = count_no is_post xs (Took k f) refl in omega (arith, c, is))) (omega arith)
-  on_in a e e1 taken posted k held Nothing was (calm, empty) un =
-      subst (λ n. Turning a e1 n posted (held || false) (k + 1) (k + 1)) (omega arith) (calm_in a e e1 taken posted k held false was calm (inl (empty_on a e e1 was.acts k was.went empty)) (λ is. absurd (cc)))
-  on_in a e e1 taken posted k held HeldBack was (calm, lacks) un =
-      subst (λ n. Turning a e1 n posted (held || true) (k + 1) (k + 1)) (omega arith) (calm_in a e e1 taken posted k held true was calm (inr (or_right held true refl, lacks)) (λ is. lacks))
-  on_in a e e1 taken posted k held Short was tries un = absurd (cc)
+  lap_next : (fixed : Bool) (a e : Seen Home) (from here : Lane) (n : ℕ) (acts : List Act) → Lap fixed false a.lanes.peers a e from here n acts → 0 < a.lanes.peers → IsOf a.lanes.peers here
+  lap_next fixed a e from here n acts lap = lap.is
+
+  module _ (fixed : Bool) (a e e1 : Seen Home) (taken posted n : ℕ) (held : Bool) (from here next : Lane) (below : n < round a.lanes.peers)
+      (was : Turning fixed a e taken posted held from here n) (follows : Follows a.lanes.peers here next) where
+    -- a frame moved
+    moved_on : (t p : ℕ) (act : Act) → is_move act ≡ true → Went None e e1 (act ∷ []) → count_by is_take (act ∷ []) ≡ t → count_by is_post (act ∷ []) ≡ p → t + p ≡ 1
+        → moved here (act ∷ []) ≡ 1 → ((l : Lane) → l ≢ here → moved l (act ∷ []) ≡ 0) → Turning fixed a e1 (taken + t) (posted + p) (held || false) from next (n + 1)
+    moved_on t p act is went takes posts one own others = record {
+      acts = was.acts ++ act ∷ [];
+      moves = all_append is_move was.acts (act ∷ []) was.moves (is_one act is);
+      went = went_then None a e e1 was.acts (act ∷ []) was.went went;
+      takes = (let c = count_append is_take was.acts (act ∷ []) in let w = was.takes in omega (arith, c, w, takes));
+      posts = (let c = count_append is_post was.acts (act ∷ []) in let w = was.posts in omega (arith, c, w, posts));
+      lap = lap_on fixed false a.lanes.peers a e e1 from here next n was.acts (act ∷ []) below was.lap follows went (omega (arith, takes, posts, one)) (omega (arith, own)) others
+          (inl (let m = moved_append here was.acts (act ∷ []) in omega (arith, m, own)));
+      looked = λ none. absurd (omega (arith, none, one));
+    }
+      where
+        is_one : (act : Act) → is_move act ≡ true → AllAre is_move (act ∷ [])
+        is_one act is = rw is refl
+
+    -- none could
+    none_on : (more : Bool) → CalmAt e e1 here → LaneAt (held || more) a e1 here → HasNone e e1 here → (more ≡ true → LacksAt e1 here) → Turning fixed a e1 (taken + 0) (posted + 0) (held || more) from next (n + 1)
+    none_on more calm at none lacks =
+        let still = calm_of e e1 here calm in
+        let stood : Went None e e1 [] = went_none None e e1 still.held still.log still.size still.ported in
+        record {
+          acts = was.acts ++ [];
+          moves = all_append is_move was.acts [] was.moves refl;
+          went = went_then None a e e1 was.acts [] was.went stood;
+          takes = (let c = count_append is_take was.acts [] in let w = was.takes in let z : count_by is_take [] ≡ 0 = refl in omega (arith, c, w, z));
+          posts = (let c = count_append is_post was.acts [] in let w = was.posts in let z : count_by is_post [] ≡ 0 = refl in omega (arith, c, w, z));
+          lap = lap_on fixed false a.lanes.peers a e e1 from here next n was.acts [] below was.lap follows stood (omega arith) (let z = moved_nothing here in omega (arith, z)) (λ l other. moved_nothing l)
+              (inr (inl (had_before a e e1 was.acts here was.went (had_now e e1 [] here stood none))));
+          looked = λ zero_. (
+              let lap = was.lap in
+              let some : 0 < a.lanes.peers = omega (arith, below) in
+              let is_from = lap_from fixed a e from here n was.acts lap some in
+              let is_here = lap_next fixed a e from here n was.acts lap some in
+              looked_on held more a e e1 from here n is_from is_here (ahead_here a.lanes.peers from here n is_from is_here below lap.at) (was.looked (omega (arith, zero_))) calm at lacks);
+        }
+
+  on_lane : (fixed : Bool) (a e e1 : Seen Home) (taken posted n : ℕ) (held : Bool) (from here next : Lane) (t : Tried) → n < round a.lanes.peers
+      → Turning fixed a e taken posted held from here n → PassesOn a.lanes.peers here next (Ok t) → Tries e e1 here (Ok t) → is_short t ≡ false
+      → Turning fixed a e1 (taken + taken_on here t) (posted + posted_on here t) (held || is_held t) from next (n + 1)
+  on_lane fixed a e e1 taken posted n held from (To d) next Moved below was follows (f, went) un =
+      moved_on fixed a e e1 taken posted n held from (To d) next below was follows 0 1 (Posted d f) refl went refl refl refl (moved_posted d f) (others_posted d f)
+  on_lane fixed a e e1 taken posted n held from (To d) next Nothing below was follows (calm, full) un =
+      none_on fixed a e e1 taken posted n held from (To d) next below was follows false calm (λ some. inl (full_on a e e1 was.acts d was.went (full some))) (λ some. inl (full some)) (λ is. absurd (cc))
+  on_lane fixed a e e1 taken posted n held from (To d) next HeldBack below was follows (calm, lacks) un =
+      none_on fixed a e e1 taken posted n held from (To d) next below was follows true calm (λ some. inr (or_right held true refl, lacks)) (λ some. inr lacks) (λ is. lacks)
+  on_lane fixed a e e1 taken posted n held from (From s) next Moved below was follows (f, went) un =
+      moved_on fixed a e e1 taken posted n held from (From s) next below was follows 1 0 (Took s f) refl went refl refl refl (moved_took s f) (others_took s f)
+  on_lane fixed a e e1 taken posted n held from (From s) next Nothing below was follows (calm, empty) un =
+      none_on fixed a e e1 taken posted n held from (From s) next below was follows false calm (inl (empty_on a e e1 was.acts s was.went empty)) (inl empty) (λ is. absurd (cc))
+  on_lane fixed a e e1 taken posted n held from (From s) next HeldBack below was follows (calm, lacks) un =
+      none_on fixed a e e1 taken posted n held from (From s) next below was follows true calm (inr (or_right held true refl, lacks)) (inr lacks) (λ is. lacks)
+  on_lane fixed a e e1 taken posted n held from here next Short below was follows tries un = absurd (cc)
 
   -- at the start of a turn
-  pub turning_none : (a : Seen Home) → Turning a a 0 0 false 0 0
-  turning_none a = record {
+  pub turning_none : (fixed : Bool) (a : Seen Home) (from : Lane) → InCircle a.lanes.peers from → Turning fixed a a 0 0 false from from 0
+  turning_none fixed a from is = record {
     acts = [];
     moves = refl;
     went = went_none None a a refl refl refl (ported_same a.lanes a.lanes refl);
     takes = refl;
     posts = refl;
-    outs = λ none d below. absurd (omega (arith, below));
-    ins = λ none s below. absurd (omega (arith, below));
-    some = λ none is. absurd (cc);
-    same = λ none. refl;
+    lap = lap_none fixed false a.lanes.peers a from is;
+    looked = λ none. record { lanes = λ l own below. absurd (omega (arith, below)); some = λ is. absurd (cc); same = refl };
   }
 
   -- at its end
-  pub turned_to : (left : ℕ) (a e : Seen Home) (t : Turn) (ko ki : ℕ) → Turning a e t.taken t.posted t.held ko ki → t.taken + t.posted ≤ left
-      → (t.short ≡ true → IsShort e) → (t.short ≡ false → t.taken + t.posted ≡ 0 → (ko ≡ e.lanes.peers) × (ki ≡ e.lanes.peers)) → WentRound left a e t
-  turned_to left a e t ko ki was most is_short all = record {
+  pub turned_to : (fixed : Bool) (left n : ℕ) (a e : Seen Home) (from next : Lane) (t : Turn) → Turning fixed a e t.taken t.posted t.held from next n → t.taken + t.posted ≤ left
+      → t.short ≡ false → (n ≡ round a.lanes.peers) ⊎ ((t.taken + t.posted ≡ left) × (0 < left)) → WentRound fixed left a e from next t
+  turned_to fixed left n a e from next t was most long all = record {
     acts = was.acts;
     moves = was.moves;
     went = was.went;
     takes = was.takes;
     posts = was.posts;
     most = most;
-    short = is_short;
-    quiet = λ un none. (let ends = all un none in
-        let taken : t.taken ≡ 0 = omega (arith, none) in
-        let posted : t.posted ≡ 0 = omega (arith, none) in
-        subst (λ n. Turning a e n 0 t.held e.lanes.peers e.lanes.peers) taken
-        (subst (λ n. Turning a e t.taken n t.held e.lanes.peers e.lanes.peers) posted
-        (subst (λ n. Turning a e t.taken t.posted t.held n e.lanes.peers) ends.0
-        (subst (λ n. Turning a e t.taken t.posted t.held ko n) ends.1 was))));
+    short = λ is. absurd (let no : true ≡ false = sym is ∙ long in cc);
+    lanes = n;
+    lap = was.lap;
+    whole = λ un. elim all [ inl whole ↦ inl whole | inr spent ↦ inr spent.0 ];
+    quiet = λ un none. elim all [
+      | inl whole ↦ subst (λ k. Looked t.held a e from k) whole (was.looked none)
+      | inr spent ↦ absurd (let is = spent.0 in let some = spent.1 in omega (arith, is, some, none))
+    ];
   }
 
-  -- ---- what a step counts: `w` is the turn before it, `n` the turn behind it
+  -- ---- what a turn counts: `w` is the turn before it, `n` the turn behind it
 
-  pub counted_out : (a e e1 : Seen Home) (w n : Turn) (k : ℕ) (t : Tried) → Turning a e w.taken w.posted w.held k k → TriesOut e e1 k (Ok t) → w.short ≡ false → n.short ≡ (w.short || is_short t) → n.short ≡ false
-      → n.posted ≡ w.posted + moved_one t → n.taken ≡ w.taken → n.held ≡ (w.held || is_held t) → Turning a e1 n.taken n.posted n.held (k + 1) k
-  counted_out a e e1 w n k t was tries long short is posted taken held = rw (posted, taken, held) (on_out a e e1 w.taken w.posted k w.held t was tries (was_short w n t false long short is))
+  -- the lane that is next is one of the port's
+  pub lane_next : (fixed : Bool) (a e : Seen Home) (taken posted n : ℕ) (held : Bool) (from here : Lane) → Turning fixed a e taken posted held from here n → n < round a.lanes.peers → IsOf e.lanes.peers here
+  lane_next fixed a e taken posted n held from here was below =
+      let went = was.went in subst (λ k. IsOf k here) (sym went.ported.peers) (lap_next fixed a e from here n was.acts was.lap (omega (arith, below)))
 
-  pub counted_in : (a e e1 : Seen Home) (w n : Turn) (k : ℕ) (t : Tried) → Turning a e w.taken w.posted w.held (k + 1) k → TriesIn e e1 k (Ok t) → w.short ≡ false → n.short ≡ (w.short || is_short t) → n.short ≡ false
-      → n.taken ≡ w.taken + moved_one t → n.posted ≡ w.posted → n.held ≡ (w.held || is_held t) → Turning a e1 n.taken n.posted n.held (k + 1) (k + 1)
-  counted_in a e e1 w n k t was tries long short is taken posted held = rw (taken, posted, held) (on_in a e e1 w.taken w.posted k w.held t was tries (was_short w n t false long short is))
+  passes_in : (fixed : Bool) (a e : Seen Home) (taken posted n : ℕ) (held : Bool) (from here next : Lane) (r : Result Tried NoMemory) → Turning fixed a e taken posted held from here n → PassesOn e.lanes.peers here next r → PassesOn a.lanes.peers here next r
+  passes_in fixed a e taken posted n held from here next r was passes = (let went = was.went in subst (λ k. PassesOn k here next r) went.ported.peers passes)
 
-  turned_short : (left : ℕ) (a e e1 : Seen Home) (w n : Turn) (ko ki : ℕ) → Turning a e w.taken w.posted w.held ko ki → Calm e e1 → IsShort e → n.short ≡ true → n.taken ≡ w.taken → n.posted ≡ w.posted
-      → w.taken + w.posted ≤ left → WentRound left a e1 n
-  turned_short left a e e1 w n ko ki was calm short is taken posted most = record {
+  pub counted : (fixed : Bool) (a e e1 : Seen Home) (w m : Turn) (n : ℕ) (from here next : Lane) (t : Tried) → n < round a.lanes.peers
+      → Turning fixed a e w.taken w.posted w.held from here n → PassesOn e.lanes.peers here next (Ok t) → Tries e e1 here (Ok t) → w.short ≡ false → m.short ≡ (w.short || is_short t) → m.short ≡ false
+      → m.posted ≡ w.posted + posted_on here t → m.taken ≡ w.taken + taken_on here t → m.held ≡ (w.held || is_held t) → Turning fixed a e1 m.taken m.posted m.held from next (n + 1)
+  counted fixed a e e1 w m n from here next t below was follows tries long short is posted taken held =
+      rw (posted, taken, held) (on_lane fixed a e e1 w.taken w.posted n w.held from here next t below was (passes_in fixed a e w.taken w.posted n w.held from here next (Ok t) was follows) tries (was_short w m t false long short is))
+
+  turned_short : (fixed : Bool) (left : ℕ) (a e e1 : Seen Home) (w m : Turn) (n : ℕ) (from here next : Lane) → Turning fixed a e w.taken w.posted w.held from here n → next ≡ here → Calm e e1 → IsShort e → m.short ≡ true
+      → m.taken ≡ w.taken + 0 → m.posted ≡ w.posted + 0 → w.taken + w.posted ≤ left → WentRound fixed left a e1 from next m
+  turned_short fixed left a e e1 w m n from here next was same calm short is taken posted most = record {
     acts = was.acts;
     moves = was.moves;
     went = went_calm a e e1 was.acts was.went calm;
-    takes = was.takes ∙ sym taken;
-    posts = was.posts ∙ sym posted;
+    takes = (let t = was.takes in omega (arith, t, taken));
+    posts = (let p = was.posts in omega (arith, p, posted));
     most = omega (arith, most, taken, posted);
     short = λ yes. rw (calm.log, calm.size) short;
+    lanes = n;
+    lap = rw same (lap_still fixed a.lanes.peers a e e1 from here n was.acts was.lap (went_none None e e1 calm.held calm.log calm.size calm.ported));
+    whole = λ un. absurd (let no : true ≡ false = sym is ∙ un in cc);
     quiet = λ un none. absurd (let no : true ≡ false = sym is ∙ un in cc);
   }
 
-  pub out_short : (left : ℕ) (a e e1 : Seen Home) (w n : Turn) (k ko ki : ℕ) (t : Tried) → Turning a e w.taken w.posted w.held ko ki → TriesOut e e1 k (Ok t) → w.short ≡ false → n.short ≡ (w.short || is_short t) → n.short ≡ true
-      → n.posted ≡ w.posted + moved_one t → n.taken ≡ w.taken → w.taken + w.posted ≤ left → WentRound left a e1 n
-  out_short left a e e1 w n k ko ki Short was tries long short is posted taken most =
-      turned_short left a e e1 w n ko ki was tries.0 tries.1 is taken (let p : n.posted ≡ w.posted + 0 = posted in omega (arith, p)) most
-  out_short left a e e1 w n k ko ki Moved was tries long short is posted taken most = absurd (let no : false ≡ true = was_short w n Moved true long short is in cc)
-  out_short left a e e1 w n k ko ki Nothing was tries long short is posted taken most = absurd (let no : false ≡ true = was_short w n Nothing true long short is in cc)
-  out_short left a e e1 w n k ko ki HeldBack was tries long short is posted taken most = absurd (let no : false ≡ true = was_short w n HeldBack true long short is in cc)
-
-  pub in_short : (left : ℕ) (a e e1 : Seen Home) (w n : Turn) (k ko ki : ℕ) (t : Tried) → Turning a e w.taken w.posted w.held ko ki → TriesIn e e1 k (Ok t) → w.short ≡ false → n.short ≡ (w.short || is_short t) → n.short ≡ true
-      → n.taken ≡ w.taken + moved_one t → n.posted ≡ w.posted → w.taken + w.posted ≤ left → WentRound left a e1 n
-  in_short left a e e1 w n k ko ki Short was tries long short is taken posted most =
-      turned_short left a e e1 w n ko ki was tries.0 tries.1 is (let t : n.taken ≡ w.taken + 0 = taken in omega (arith, t)) posted most
-  in_short left a e e1 w n k ko ki Moved was tries long short is taken posted most = absurd (let no : false ≡ true = was_short w n Moved true long short is in cc)
-  in_short left a e e1 w n k ko ki Nothing was tries long short is taken posted most = absurd (let no : false ≡ true = was_short w n Nothing true long short is in cc)
-  in_short left a e e1 w n k ko ki HeldBack was tries long short is taken posted most = absurd (let no : false ≡ true = was_short w n HeldBack true long short is in cc)
+  pub counted_short : (fixed : Bool) (left : ℕ) (a e e1 : Seen Home) (w m : Turn) (n : ℕ) (from here next : Lane) (t : Tried) → Turning fixed a e w.taken w.posted w.held from here n → PassesOn e.lanes.peers here next (Ok t) → Tries e e1 here (Ok t)
+      → w.short ≡ false → m.short ≡ (w.short || is_short t) → m.short ≡ true → m.posted ≡ w.posted + posted_on here t → m.taken ≡ w.taken + taken_on here t → w.taken + w.posted ≤ left → WentRound fixed left a e1 from next m
+  counted_short fixed left a e e1 w m n from (To d) next Short was same tries long short is posted taken most =
+      turned_short fixed left a e e1 w m n from (To d) next was same tries.0 tries.1 is taken posted most
+  counted_short fixed left a e e1 w m n from (From s) next Short was same tries long short is posted taken most =
+      turned_short fixed left a e e1 w m n from (From s) next was same tries.0 tries.1 is taken posted most
+  counted_short fixed left a e e1 w m n from here next Moved was same tries long short is posted taken most = absurd (let no : false ≡ true = was_short w m Moved true long short is in cc)
+  counted_short fixed left a e e1 w m n from here next Nothing was same tries long short is posted taken most = absurd (let no : false ≡ true = was_short w m Nothing true long short is in cc)
+  counted_short fixed left a e e1 w m n from here next HeldBack was same tries long short is posted taken most = absurd (let no : false ≡ true = was_short w m HeldBack true long short is in cc)
 
   -- an exit by want of memory
-  pub turning_err : (fixed : Bool) (left : ℕ) (a e e1 : Seen Home) (taken posted ko ki : ℕ) (held : Bool) → Turning a e taken posted held ko ki → Calm e e1 → taken + posted < left
-      → MayLack fixed e1 → CutShort fixed left a e1
-  turning_err fixed left a e e1 taken posted ko ki held was calm most lacks = record {
-    acts = was.acts;
-    moves = was.moves;
-    went = went_calm a e e1 was.acts was.went calm;
-    few = (let t = was.takes in let p = was.posts in omega (arith, t, p, most));
-    lacks = lacks;
-  }
+  pub turning_err : (fixed : Bool) (left : ℕ) (a e e1 : Seen Home) (taken posted n : ℕ) (held : Bool) (from here next : Lane) (why : NoMemory) → n < round a.lanes.peers
+      → Turning fixed a e taken posted held from here n → PassesOn e.lanes.peers here next (Err why) → Tries e e1 here (Err why) → taken + posted < left → MayLack fixed e1 × MayWant fixed e1 here → CutShort fixed left a e1 from next
+  turning_err fixed left a e e1 taken posted n held from here next why below was follows tries most (lacks, wants) =
+      let still = failed_calm e e1 here why tries in
+      let stood : Went None e e1 [] = went_none None e e1 still.held still.log still.size still.ported in
+      record {
+        acts = was.acts ++ [];
+        moves = all_append is_move was.acts [] was.moves refl;
+        went = went_then None a e e1 was.acts [] was.went stood;
+        few = (let t = was.takes in let p = was.posts in let c = count_append is_take was.acts [] in let d = count_append is_post was.acts [] in
+            let y : count_by is_take [] ≡ 0 = refl in let z : count_by is_post [] ≡ 0 = refl in omega (arith, t, p, c, d, y, z, most));
+        lacks = lacks;
+        lanes = n + 1;
+        lap = lap_on fixed true a.lanes.peers a e e1 from here next n was.acts [] below was.lap (passes_in fixed a e taken posted n held from here next (Err why) was follows) stood (omega arith) (let z = moved_nothing here in omega (arith, z)) (λ l other. moved_nothing l) (inr (inr (refl, wants)));
+      }
+    where
+      failed_calm : (e e1 : Seen Home) (here : Lane) (why : NoMemory) → Tries e e1 here (Err why) → Calm e e1
+      failed_calm e e1 (To d) why tries = tries
+      failed_calm e e1 (From s) why tries = tries.0
 
-  pub peers_same : (a e : Seen Home) {taken posted : ℕ} {held : Bool} {ko ki : ℕ} → Turning a e taken posted held ko ki → e.lanes.peers ≡ a.lanes.peers
+  pub peers_same : (a e : Seen Home) {fixed : Bool} {taken posted n : ℕ} {held : Bool} {from next : Lane} → Turning fixed a e taken posted held from next n → e.lanes.peers ≡ a.lanes.peers
   peers_same a e was = was.went.ported.peers
 
-  pub err_of : (fixed : Bool) (left : ℕ) (a e : Seen Home) (r : Result Turn NoMemory) (why : NoMemory) → r ≡ Err why → CutShort fixed left a e → Rounds fixed left a e r
-  err_of fixed left a e r why is some = rw is some
+  pub err_of : (fixed : Bool) (left : ℕ) (a e : Seen Home) (from next : Lane) (r : Result Turn NoMemory) (why : NoMemory) → r ≡ Err why → CutShort fixed left a e from next → Rounds fixed left a e from next r
+  err_of fixed left a e from next r why is some = rw is some
 
   -- ---- the draws that are made first
 
@@ -324,10 +321,14 @@ module _ {Home : Type 0} where
 
   -- ---- a turn: draws, and a round of frames
 
+  drawn_peers : (a b : Seen Home) → Drawing a b → b.lanes.peers ≡ a.lanes.peers
+  drawn_peers a b d = ap (λ (l : Lanes Home). l.peers) d.lanes
+
   -- the log is short behind the draws
-  pub turn_short : (left : ℕ) (a b : Seen Home) → Draws a b → IsShort b → TurnedOn left a b (record { taken = 0; posted = 0; held = false; short = true })
-  turn_short left a b drawn short =
+  pub turn_short : (fixed : Bool) (left : ℕ) (a b : Seen Home) (from next : Lane) → next ≡ from → InCircle b.lanes.peers next → Draws a b → IsShort b → TurnedOn fixed left a b from next (record { taken = 0; posted = 0; held = false; short = true })
+  turn_short fixed left a b from next same circle drawn short =
       let d = drawn.0 in
+      let here : InCircle a.lanes.peers from = subst (λ k. InCircle k from) (drawn_peers a b d) (subst (λ l. InCircle b.lanes.peers l) same circle) in
       let none = draws_none d.acts d.draws in
       record {
         acts = d.acts;
@@ -338,43 +339,59 @@ module _ {Home : Type 0} where
         begins = draws_alone a b d drawn.1;
         most = omega arith;
         short = λ is. short;
+        lanes = 0;
+        lap = rw same (subst (λ (xs : List Act). Lap fixed false a.lanes.peers a b from from 0 xs) (append-nil d.acts) (lap_drawn fixed false a.lanes.peers a b b from from 0 d.acts [] d.draws d.went (lap_none fixed false a.lanes.peers b from here)));
+        whole = λ un. absurd (cc);
         quiet = λ un zero_. absurd (cc);
       }
 
-  quiet_of : (a b e : Seen Home) (held due : Bool) → Draws a b → HasPlaces b → due ≡ draw_due b.held.state.rx → Turning b e 0 0 held e.lanes.peers e.lanes.peers → Quiet a e (held || due)
-  quiet_of a b e held due drawn places is round =
+  quiet_of : (a b e : Seen Home) (from : Lane) (held due : Bool) → Draws a b → HasPlaces b → e.lanes.peers ≡ b.lanes.peers → due ≡ draw_due b.held.state.rx → Looked held b e from (round b.lanes.peers) → Quiet a e (held || due)
+  quiet_of a b e from held due drawn places peers is looked =
       let d = drawn.0 in
-      let same = round.same refl in
+      let same = looked.same in
       let lacks : draw_due b.held.state.rx ≡ true → DrawLacks e.held = λ yes. rw same (elim (drawn.1 yes) [ inl none ↦ (yes, none) | inr short ↦ absurd (omega (arith, short, places)) ]) in
       record {
         draws = λ yes. (let now : draw_due b.held.state.rx ≡ true = rw same at yes in (or_right held due (is ∙ now), lacks now));
-        outs = λ k below some. elim (round.outs refl k below some) [ inl full ↦ inl (full_on a b e d.acts k d.went full) | inr held_ ↦ inr (or_left held due held_.0, held_.1) ];
-        ins = λ k below. elim (round.ins refl k below) [ inl empty ↦ inl (empty_on a b e d.acts k d.went empty) | inr held_ ↦ inr (or_left held due held_.0, held_.1) ];
+        outs = λ k below some. (let own : k < b.lanes.peers = omega (arith, below, peers) in
+            elim (looked.lanes (To k) own (ahead_below b.lanes.peers from (To k) own) some) [ inl full ↦ inl (full_on a b e d.acts k d.went full) | inr held_ ↦ inr (or_left held due held_.0, held_.1) ]);
+        ins = λ k below. (let own : k < b.lanes.peers = omega (arith, below, peers) in
+            elim (looked.lanes (From k) own (ahead_below b.lanes.peers from (From k) own)) [ inl empty ↦ inl (empty_on a b e d.acts k d.went empty) | inr held_ ↦ inr (or_left held due held_.0, held_.1) ]);
         some = λ yes. elim (or_either held due yes) [
-          | inl before ↦ elim (round.some refl before) [ inl (s, below, lent) ↦ inr (inl (s, lent)) | inr next ↦ inr (inr next) ]
+          | inl before ↦ elim (looked.some before) [ inl lent ↦ inr (inl lent) | inr next ↦ inr (inr next) ]
           | inr now ↦ inl (lacks (sym is ∙ now))
         ];
       }
 
-  pub turned_round : (left : ℕ) (a b e : Seen Home) (due : Bool) (t : Turn) → Draws a b → HasPlaces b → due ≡ draw_due b.held.state.rx → WentRound left b e t
-      → TurnedOn left a e (record { taken = t.taken; posted = t.posted; held = t.held || due; short = t.short })
-  turned_round left a b e due t drawn places is round =
+  -- the lap behind the draws
+  lap_behind : (fixed failed : Bool) (a b e : Seen Home) (from next : Lane) (n : ℕ) (xs : List Act) → (d : Drawing a b) → Lap fixed failed b.lanes.peers b e from next n xs → Lap fixed failed a.lanes.peers a e from next n (d.acts ++ xs)
+  lap_behind fixed failed a b e from next n xs d lap =
+      lap_drawn fixed failed a.lanes.peers a b e from next n d.acts xs d.draws d.went (lap_of fixed failed b.lanes.peers a.lanes.peers b e from next n xs (drawn_peers a b d) lap)
+
+  pub turned_round : (fixed : Bool) (left : ℕ) (a b e : Seen Home) (from mid next : Lane) (due : Bool) (t : Turn) → mid ≡ from → Draws a b → HasPlaces b → due ≡ draw_due b.held.state.rx → WentRound fixed left b e mid next t
+      → TurnedOn fixed left a e from next (record { taken = t.taken; posted = t.posted; held = t.held || due; short = t.short })
+  turned_round fixed left a b e from mid next due t same drawn places is given =
+      let round_ = subst (λ l. WentRound fixed left b e l next t) same given in
       let d = drawn.0 in
       let none = draws_none d.acts d.draws in
+      let went = round_.went in
       record {
-        acts = d.acts ++ round.acts;
-        moves = all_append is_move d.acts round.acts (draws_move d.acts d.draws) round.moves;
-        went = went_then None a b e d.acts round.acts d.went round.went;
-        takes = (let c = count_append is_take d.acts round.acts in let z = none.0 in let r = round.takes in omega (arith, c, z, r));
-        posts = (let c = count_append is_post d.acts round.acts in let z = none.1 in let r = round.posts in omega (arith, c, z, r));
-        begins = draws_then a b e round.acts d drawn.1 round.went;
-        most = round.most;
-        short = round.short;
-        quiet = λ un zero_. quiet_of a b e t.held due drawn places is (round.quiet un zero_);
+        acts = d.acts ++ round_.acts;
+        moves = all_append is_move d.acts round_.acts (draws_move d.acts d.draws) round_.moves;
+        went = went_then None a b e d.acts round_.acts d.went went;
+        takes = (let c = count_append is_take d.acts round_.acts in let z = none.0 in let r = round_.takes in omega (arith, c, z, r));
+        posts = (let c = count_append is_post d.acts round_.acts in let z = none.1 in let r = round_.posts in omega (arith, c, z, r));
+        begins = draws_then a b e round_.acts d drawn.1 went;
+        most = round_.most;
+        short = round_.short;
+        lanes = round_.lanes;
+        lap = lap_behind fixed false a b e from next round_.lanes round_.acts d round_.lap;
+        whole = λ un. elim (round_.whole un) [ inl all ↦ inl (all ∙ ap round (drawn_peers a b d)) | inr spent ↦ inr spent ];
+        quiet = λ un zero_. quiet_of a b e from t.held due drawn places went.ported.peers is (round_.quiet un zero_);
       }
 
-  pub turn_err : (fixed : Bool) (left : ℕ) (a b e : Seen Home) (r : Result Turn NoMemory) (why : NoMemory) → r ≡ Err why → Draws a b → CutShort fixed left b e → Turns fixed left a e r
-  turn_err fixed left a b e r why is drawn cut =
+  pub turn_err : (fixed : Bool) (left : ℕ) (a b e : Seen Home) (from mid next : Lane) (r : Result Turn NoMemory) (why : NoMemory) → r ≡ Err why → mid ≡ from → Draws a b → CutShort fixed left b e mid next → Turns fixed left a e from next r
+  turn_err fixed left a b e from mid next r why is same drawn given =
+      let cut = subst (λ l. CutShort fixed left b e l next) same given in
       let d = drawn.0 in
       let none = draws_none d.acts d.draws in
       rw is (
@@ -384,13 +401,19 @@ module _ {Home : Type 0} where
           went = went_then None a b e d.acts cut.acts d.went cut.went;
           few = (let t = count_append is_take d.acts cut.acts in let p = count_append is_post d.acts cut.acts in let zt = none.0 in let zp = none.1 in let few = cut.few in omega (arith, t, p, zt, zp, few));
           lacks = cut.lacks;
+          lanes = cut.lanes;
+          lap = lap_behind fixed true a b e from next cut.lanes cut.acts d cut.lap;
         },
         draws_then a b e cut.acts d drawn.1 cut.went,
       )
 
+  -- a turn from the lane that was next at the start
+  pub turns_from : (fixed : Bool) (left : ℕ) (b e : Seen Home) (from mid next : Lane) (r : Result Turn NoMemory) → mid ≡ from → Turns fixed left b e mid next r → Turns fixed left b e from next r
+  turns_from fixed left b e from mid next r same turns = subst (λ l. Turns fixed left b e l next r) same turns
+
   -- ---- turns, one after another
 
-  -- so many frames moved
+  -- so many frames moved, and each lane had the same number of turns
   pub record Going (turned : Bool) (a e : Seen Home) (taken posted : ℕ) : Type 0 where
     pub acts : List Act
     pub moves : AllAre is_move acts
@@ -398,71 +421,136 @@ module _ {Home : Type 0} where
     pub begun : Begun turned a e acts
     pub takes : count_by is_take acts ≡ taken
     pub posts : count_by is_post acts ≡ posted
+    pub each : ℕ
+    pub laps : Laps a.lanes.peers a e each acts
 
   pub going_none : (a : Seen Home) → Going false a a 0 0
-  going_none a = record { acts = []; moves = refl; went = went_none None a a refl refl refl (ported_same a.lanes a.lanes refl); begun = (refl, refl); takes = refl; posts = refl }
+  going_none a = record { acts = []; moves = refl; went = went_none None a a refl refl refl (ported_same a.lanes a.lanes refl); begun = (refl, refl); takes = refl; posts = refl; each = 0; laps = laps_none a.lanes.peers a }
 
-  -- the budget is spent, and draws are made
-  pub going_spent : (turned : Bool) (a b e : Seen Home) (taken posted : ℕ) → Going turned a b taken posted → Draws b e → Going true a e taken posted
-  going_spent turned a b e taken posted was drawn =
-      let d = drawn.0 in
-      let none = draws_none d.acts d.draws in
-      record {
-        acts = was.acts ++ d.acts;
-        moves = all_append is_move was.acts d.acts was.moves (draws_move d.acts d.draws);
-        went = went_then None a b e was.acts d.acts was.went d.went;
-        begun = begun_then turned a b e was.acts d.acts was.begun (draws_alone b e d drawn.1) d.went;
-        takes = (let c = count_append is_take was.acts d.acts in let w = was.takes in let z = none.0 in omega (arith, c, w, z));
-        posts = (let c = count_append is_post was.acts d.acts in let w = was.posts in let z = none.1 in omega (arith, c, w, z));
-      }
+  -- the lap of a turn, as the call sees it
+  lap_in : (fixed failed turned : Bool) (a b e : Seen Home) (taken posted n : ℕ) (from next : Lane) (xs : List Act) → Going turned a b taken posted → Lap fixed failed b.lanes.peers b e from next n xs → Lap fixed failed a.lanes.peers b e from next n xs
+  lap_in fixed failed turned a b e taken posted n from next xs was lap = lap_of fixed failed b.lanes.peers a.lanes.peers b e from next n xs (let went = was.went in went.ported.peers) lap
 
-  pub going_on : (turned : Bool) (a b e : Seen Home) (taken posted left : ℕ) (t : Turn) → Going turned a b taken posted → TurnedOn left b e t → Going true a e (taken + t.taken) (posted + t.posted)
-  going_on turned a b e taken posted left t was turn = record {
+  whole_in : (turned : Bool) (a b : Seen Home) (taken posted n : ℕ) → Going turned a b taken posted → n ≡ round b.lanes.peers → n ≡ round a.lanes.peers
+  whole_in turned a b taken posted n was all = all ∙ ap round (let went = was.went in went.ported.peers)
+
+  pub going_on : (fixed turned : Bool) (a b e : Seen Home) (taken posted left : ℕ) (from next : Lane) (t : Turn) → Going turned a b taken posted → (turn : TurnedOn fixed left b e from next t) → turn.lanes ≡ round b.lanes.peers → Going true a e (taken + t.taken) (posted + t.posted)
+  going_on fixed turned a b e taken posted left from next t was turn all = record {
     acts = was.acts ++ turn.acts;
     moves = all_append is_move was.acts turn.acts was.moves turn.moves;
     went = went_then None a b e was.acts turn.acts was.went turn.went;
     begun = begun_then turned a b e was.acts turn.acts was.begun turn.begins turn.went;
     takes = (let c = count_append is_take was.acts turn.acts in let w = was.takes in let t' = turn.takes in omega (arith, c, w, t'));
     posts = (let c = count_append is_post was.acts turn.acts in let w = was.posts in let t' = turn.posts in omega (arith, c, w, t'));
+    each = was.each + 1;
+    laps = laps_on fixed a.lanes.peers a b e was.each turn.lanes from next was.acts turn.acts was.laps was.went turn.went (lap_in fixed false turned a b e taken posted turn.lanes from next turn.acts was turn.lap) (whole_in turned a b taken posted turn.lanes was all);
   }
 
-  pub progress_err : (fixed turned : Bool) (a b e : Seen Home) (budget taken posted left : ℕ) (why : NoMemory) → Going turned a b taken posted → taken + posted + left ≤ budget → Turns fixed left b e (Err why) → e.pushed ≡ a.pushed
-      → Progressed fixed budget a e (Err why)
-  progress_err fixed turned a b e budget taken posted left why was most (cut, begins) pushed = record {
-    acts = was.acts ++ cut.acts;
-    moves = all_append is_move was.acts cut.acts was.moves cut.moves;
-    went = went_then None a b e was.acts cut.acts was.went cut.went;
-    most = (let c = count_append is_take was.acts cut.acts in let d = count_append is_post was.acts cut.acts in let w = was.takes in let p = was.posts in let few = cut.few in omega (arith, c, d, w, p, few, most));
-    pushed = pushed;
-    begins = begun_then turned a b e was.acts cut.acts was.begun begins cut.went;
-    counted = (let c = count_append is_take was.acts cut.acts in let d = count_append is_post was.acts cut.acts in let w = was.takes in let p = was.posts in let few = cut.few in omega (arith, c, d, w, p, few, most));
-    lacks = λ why is. cut.lacks;
+  -- where it goes on, the turn gave each lane one, and the same lane is next
+  pub turned_whole : (fixed turned : Bool) (a b e : Seen Home) (taken posted budget : ℕ) (from next : Lane) (t : Turn) → Going turned a b taken posted → (turn : TurnedOn fixed (budget - taken - posted) b e from next t) → taken + posted ≤ budget
+      → t.short ≡ false → taken + t.taken + (posted + t.posted) ≢ budget → (turn.lanes ≡ round b.lanes.peers) × (next ≡ from)
+  turned_whole fixed turned a b e taken posted budget from next t was turn most un more = elim (turn.whole un) [
+    | inl all ↦ (all, next_same fixed a.lanes.peers b e turn.lanes from next turn.acts (lap_in fixed false turned a b e taken posted turn.lanes from next turn.acts was turn.lap) (whole_in turned a b taken posted turn.lanes was all))
+    | inr spent ↦ absurd (more (omega (arith, spent, most)))
+  ]
+
+  -- ---- the end of a call
+
+  -- in the last turn memory lacked
+  pub progress_err : (fixed turned : Bool) (a b e : Seen Home) (budget taken posted left : ℕ) (from next : Lane) (why : NoMemory) → Going turned a b taken posted → taken + posted + left ≤ budget → Turns fixed left b e from next (Err why) → e.pushed ≡ a.pushed
+      → ProgressedFairly fixed budget a e from next (Err why)
+  progress_err fixed turned a b e budget taken posted left from next why was most (cut, begins) pushed = (
+    record {
+      acts = was.acts ++ cut.acts;
+      moves = all_append is_move was.acts cut.acts was.moves cut.moves;
+      went = went_then None a b e was.acts cut.acts was.went cut.went;
+      most = (let c = count_append is_take was.acts cut.acts in let d = count_append is_post was.acts cut.acts in let w = was.takes in let p = was.posts in let few = cut.few in omega (arith, c, d, w, p, few, most));
+      pushed = pushed;
+      begins = begun_then turned a b e was.acts cut.acts was.begun begins cut.went;
+      counted = (let c = count_append is_take was.acts cut.acts in let d = count_append is_post was.acts cut.acts in let w = was.takes in let p = was.posts in let few = cut.few in omega (arith, c, d, w, p, few, most));
+      lacks = λ why is. cut.lacks;
+    },
+    serves_of fixed true a b e was.each cut.lanes from next was.acts cut.acts was.laps was.went cut.went (lap_in fixed true turned a b e taken posted cut.lanes from next cut.acts was cut.lap),
+  )
+
+  -- the call ended so, and so each lane was served
+  pub record Ended (fixed : Bool) (a e : Seen Home) (taken posted : ℕ) (from next : Lane) : Type 0 where
+    pub acts : List Act
+    pub moves : AllAre is_move acts
+    pub went : Went None a e acts
+    pub begins : Begins a e acts
+    pub takes : count_by is_take acts ≡ taken
+    pub posts : count_by is_post acts ≡ posted
+    pub serves : Serves fixed false a e from next acts
+
+  pub ended_in : (fixed turned : Bool) (a b e : Seen Home) (taken posted left : ℕ) (from next : Lane) (t : Turn) → Going turned a b taken posted → TurnedOn fixed left b e from next t → Ended fixed a e (taken + t.taken) (posted + t.posted) from next
+  ended_in fixed turned a b e taken posted left from next t was turn = record {
+    acts = was.acts ++ turn.acts;
+    moves = all_append is_move was.acts turn.acts was.moves turn.moves;
+    went = went_then None a b e was.acts turn.acts was.went turn.went;
+    begins = begun_then turned a b e was.acts turn.acts was.begun turn.begins turn.went;
+    takes = (let c = count_append is_take was.acts turn.acts in let w = was.takes in let t' = turn.takes in omega (arith, c, w, t'));
+    posts = (let c = count_append is_post was.acts turn.acts in let w = was.posts in let t' = turn.posts in omega (arith, c, w, t'));
+    serves = serves_of fixed false a b e was.each turn.lanes from next was.acts turn.acts was.laps was.went turn.went (lap_in fixed false turned a b e taken posted turn.lanes from next turn.acts was turn.lap);
   }
 
-  pub progress_ok : (fixed : Bool) (a e : Seen Home) (budget taken posted : ℕ) (stop : Stop) → Going true a e taken posted → taken + posted ≤ budget → e.pushed ≡ a.pushed → ((stop ≡ Budget) ↔ (taken + posted ≡ budget)) → StopsAs a e stop
-      → Progressed fixed budget a e (Ok (record { taken = taken; posted = posted; stop = stop }))
-  progress_ok fixed a e budget taken posted stop was most pushed exact stops = record {
-    acts = was.acts;
-    moves = was.moves;
-    went = was.went;
-    most = (let t = was.takes in let p = was.posts in omega (arith, t, p, most));
-    pushed = pushed;
-    begins = was.begun;
-    counted = (sym was.takes, sym was.posts, exact, stops);
-    lacks = λ why is. absurd (cc);
-  }
-
-  -- draws behind the last frame
-  pub progress_spent : (fixed turned : Bool) (a b e : Seen Home) (budget taken posted : ℕ) (m : Answer) → m ≡ record { taken = taken; posted = posted; stop = Budget } → Going turned a b taken posted → taken + posted ≡ budget → Draws b e → b.pushed ≡ a.pushed
-      → Progressed fixed budget a e (Ok m)
-  progress_spent fixed turned a b e budget taken posted m is was all drawn pushed =
+  -- the budget is spent, and draws are made
+  pub ended_drawn : (fixed : Bool) (a b e : Seen Home) (taken posted : ℕ) (from next : Lane) → Ended fixed a b taken posted from next → Draws b e → Ended fixed a e taken posted from next
+  ended_drawn fixed a b e taken posted from next was drawn =
       let d = drawn.0 in
-      rw is (progress_ok fixed a e budget taken posted Budget (going_spent turned a b e taken posted was drawn) (omega (arith, all)) (d.pushed ∙ pushed) ((λ stop. all), (λ spent. refl)) drawn.1)
+      let none = draws_none d.acts d.draws in
+      record {
+        acts = was.acts ++ d.acts;
+        moves = all_append is_move was.acts d.acts was.moves (draws_move d.acts d.draws);
+        went = went_then None a b e was.acts d.acts was.went d.went;
+        begins = begins_then a b e was.acts d.acts was.begins d.went;
+        takes = (let c = count_append is_take was.acts d.acts in let w = was.takes in let z = none.0 in omega (arith, c, w, z));
+        posts = (let c = count_append is_post was.acts d.acts in let w = was.posts in let z = none.1 in omega (arith, c, w, z));
+        serves = serves_later fixed a b e from next was.acts d.acts was.serves d.draws d.went;
+      }
+
+  -- the same where no turn follows
+  pub ended_at : (fixed turned : Bool) (a b e : Seen Home) (taken posted : ℕ) (from : Lane) → Going turned a b taken posted → Draws b e → Ended fixed a e taken posted from from
+  ended_at fixed turned a b e taken posted from was drawn =
+      let d = drawn.0 in
+      let none = draws_none d.acts d.draws in
+      record {
+        acts = was.acts ++ d.acts;
+        moves = all_append is_move was.acts d.acts was.moves (draws_move d.acts d.draws);
+        went = went_then None a b e was.acts d.acts was.went d.went;
+        begins = begun_then turned a b e was.acts d.acts was.begun (draws_alone b e d drawn.1) d.went;
+        takes = (let c = count_append is_take was.acts d.acts in let w = was.takes in let z = none.0 in omega (arith, c, w, z));
+        posts = (let c = count_append is_post was.acts d.acts in let w = was.posts in let z = none.1 in omega (arith, c, w, z));
+        serves = serves_later fixed a b e from from was.acts d.acts (serves_still fixed a b was.each from was.acts was.laps) d.draws d.went;
+      }
+
+  pub progress_ok : (fixed : Bool) (a e : Seen Home) (budget taken posted : ℕ) (stop : Stop) (from next : Lane) → Ended fixed a e taken posted from next → taken + posted ≤ budget → e.pushed ≡ a.pushed → ((stop ≡ Budget) ↔ (taken + posted ≡ budget)) → StopsAs a e stop
+      → ProgressedFairly fixed budget a e from next (Ok (record { taken = taken; posted = posted; stop = stop }))
+  progress_ok fixed a e budget taken posted stop from next was most pushed exact stops = (
+    record {
+      acts = was.acts;
+      moves = was.moves;
+      went = was.went;
+      most = (let t = was.takes in let p = was.posts in omega (arith, t, p, most));
+      pushed = pushed;
+      begins = was.begins;
+      counted = (sym was.takes, sym was.posts, exact, stops);
+      lacks = λ why is. absurd (cc);
+    },
+    was.serves,
+  )
+
+  -- the budget is spent
+  pub progress_spent : (fixed : Bool) (a b e : Seen Home) (budget taken posted : ℕ) (from next : Lane) (m : Answer) → m ≡ record { taken = taken; posted = posted; stop = Budget } → Ended fixed a e taken posted from next → taken + posted ≡ budget → Draws b e → b.pushed ≡ a.pushed
+      → ProgressedFairly fixed budget a e from next (Ok m)
+  progress_spent fixed a b e budget taken posted from next m is was all drawn pushed =
+      let d = drawn.0 in
+      rw is (progress_ok fixed a e budget taken posted Budget from next was (omega (arith, all)) (d.pushed ∙ pushed) ((λ stop. all), (λ spent. refl)) drawn.1)
 
   -- nothing moved in the last turn
-  pub stops_at : (turned : Bool) (a b e : Seen Home) (taken posted left : ℕ) (t : Turn) (stop : Stop) → Going turned a b taken posted → TurnedOn left b e t → t.short ≡ false → t.taken + t.posted ≡ 0
+  pub stops_at : (fixed turned : Bool) (a b e : Seen Home) (taken posted left : ℕ) (from next : Lane) (t : Turn) (stop : Stop) → Going turned a b taken posted → TurnedOn fixed left b e from next t → t.short ≡ false → t.taken + t.posted ≡ 0
       → ((t.held ≡ true) × (stop ≡ StoppedCqFull)) ⊎ ((t.held ≡ false) × (stop ≡ Idle)) → StopsAs a e stop
-  stops_at turned a b e taken posted left t stop was turn un none (inl (held, is)) =
+  stops_at fixed turned a b e taken posted left from next t stop was turn un none (inl (held, is)) =
       let last = turn.quiet un none in
       rw is (record {
         some = last.some held;
@@ -470,7 +558,7 @@ module _ {Home : Type 0} where
         empty = λ s below. elim (last.ins s below) [ inl saw ↦ inl (empty_on a b e was.acts s was.went saw) | inr lacks ↦ inr lacks.1 ];
         full = λ d below some. elim (last.outs d below some) [ inl saw ↦ inl (full_on a b e was.acts d was.went saw) | inr lacks ↦ inr lacks.1 ];
       })
-  stops_at turned a b e taken posted left t stop was turn un none (inr (held, is)) =
+  stops_at fixed turned a b e taken posted left from next t stop was turn un none (inr (held, is)) =
       let last = turn.quiet un none in
       rw is (record {
         draws = not_true (draw_due e.held.state.rx) (λ due. (let yes = (last.draws due).0 in cc));
@@ -478,16 +566,20 @@ module _ {Home : Type 0} where
         full = λ d below some. elim (last.outs d below some) [ inl saw ↦ full_on a b e was.acts d was.went saw | inr lacks ↦ (let yes = lacks.0 in absurd (cc)) ];
       })
 
-pub one_at_most : (t : Tried) → moved_one t ≤ 1
-one_at_most Moved = omega arith
-one_at_most Nothing = omega arith
-one_at_most HeldBack = omega arith
-one_at_most Short = omega arith
+pub one_at_most : (l : Lane) (t : Tried) → taken_on l t + posted_on l t ≤ 1
+one_at_most (To d) Moved = omega arith
+one_at_most (To d) Nothing = omega arith
+one_at_most (To d) HeldBack = omega arith
+one_at_most (To d) Short = omega arith
+one_at_most (From s) Moved = omega arith
+one_at_most (From s) Nothing = omega arith
+one_at_most (From s) HeldBack = omega arith
+one_at_most (From s) Short = omega arith
 
 pub room_left : (t p b : ℕ) {n : ℕ} → (t + p < b) ⊎ (t + p ≡ 0) → n < b → t + p < b
 room_left t p b (inl less) below = less
 room_left t p b (inr none) below = omega (arith, none, below)
 
-pub progress_err_of : {Home : Type 0} (fixed turned : Bool) (a b e : Seen Home) (budget taken posted left : ℕ) (r : Result Answer NoMemory) (why : NoMemory) → r ≡ Err why → Going turned a b taken posted → taken + posted + left ≤ budget
-    → Turns fixed left b e (Err why) → e.pushed ≡ a.pushed → Progressed fixed budget a e r
-progress_err_of fixed turned a b e budget taken posted left r why is was most turns pushed = rw is (progress_err fixed turned a b e budget taken posted left why was most turns pushed)
+pub progress_err_of : {Home : Type 0} (fixed turned : Bool) (a b e : Seen Home) (budget taken posted left : ℕ) (from next : Lane) (r : Result Answer NoMemory) (why : NoMemory) → r ≡ Err why → Going turned a b taken posted → taken + posted + left ≤ budget
+    → Turns fixed left b e from next (Err why) → e.pushed ≡ a.pushed → ProgressedFairly fixed budget a e from next r
+progress_err_of fixed turned a b e budget taken posted left from next r why is was most turns pushed = rw is (progress_err fixed turned a b e budget taken posted left from next why was most turns pushed)

@@ -2,3 +2,6 @@ pub mod Tries
 pub mod Sends
 pub mod Reads
 pub mod Draws
+pub mod Circle
+pub mod Value
+pub mod Fairness

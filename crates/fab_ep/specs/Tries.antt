@@ -15,6 +15,10 @@ use Rattle.fab_face.specs.Answers.{AllAre, IsShort, SawEmpty, SawFull, LentLacks
 use Rattle.fab_ep.specs.declared.endpoint.Tried.{Tried}
 use Rattle.fab_ep.specs.declared.endpoint.Tried.TheVariants.{Moved, Nothing, Held as HeldBack, Short}
 use Rattle.fab_ep.specs.declared.endpoint.Turn.{Turn}
+use Rattle.fab_ep.specs.declared.lanes.Lane.{Lane}
+use Rattle.fab_ep.specs.declared.lanes.Lane.TheVariants.{To, From}
+use Rattle.fab_ep.specs.Circle.{Follows, IsOf, ahead, round}
+use Rattle.fab_ep.specs.Fairness.{Lap}
 
 -- the item that the machine lends
 abbrev pub next_of : Next → Item
@@ -87,6 +91,25 @@ abbrev pub is_short : Tried → Bool
 is_short Short = true
 is_short _ = false
 
+-- what came of the turn of a lane
+abbrev pub Tries : {Home : Type 0} → Seen Home → Seen Home → Lane → Result Tried NoMemory → Type 0
+Tries old new (To d) r = TriesOut old new d r
+Tries old new (From s) r = TriesIn old new s r
+
+-- the lane behind it is next; or the same again, where the log is short
+abbrev pub PassesOn : ℕ → Lane → Lane → Result Tried NoMemory → Type 0
+PassesOn peers from next (Ok Short) = next ≡ from
+PassesOn peers from next r = Follows peers from next
+
+-- a frame counts where it moved
+abbrev pub taken_on : Lane → Tried → ℕ
+taken_on (To d) t = 0
+taken_on (From s) t = moved_one t
+
+abbrev pub posted_on : Lane → Tried → ℕ
+posted_on (To d) t = moved_one t
+posted_on (From s) t = 0
+
 -- ---- a turn
 
 -- the lane to this peer has nothing to post, or was seen full, or waits for room
@@ -97,20 +120,28 @@ OutAt held a e d = next_frame e.held d ≢ None → SawFull a.lanes e.lanes d �
 abbrev pub InAt : {Home : Type 0} → Bool → Seen Home → Seen Home → ℕ → Type 0
 InAt held a e s = SawEmpty a.lanes e.lanes s ⊎ ((held ≡ true) × LentLacks e s)
 
--- so many frames moved; and where none did, the lanes below these were looked at
-pub record Turning {Home : Type 0} (a e : Seen Home) (taken posted : ℕ) (held : Bool) (out in_ : ℕ) : Type 0 where
+abbrev pub LaneAt : {Home : Type 0} → Bool → Seen Home → Seen Home → Lane → Type 0
+LaneAt held a e (To d) = OutAt held a e d
+LaneAt held a e (From s) = InAt held a e s
+
+-- no frame moved, and the first `n` lanes from `from` on were looked at
+pub record Looked {Home : Type 0} (held : Bool) (a e : Seen Home) (from : Lane) (n : ℕ) : Type 0 where
+  pub lanes : (l : Lane) → IsOf a.lanes.peers l → ahead a.lanes.peers from l < n → LaneAt held a e l
+  pub some : held ≡ true → ((s : ℕ) × LentLacks e s) ⊎ ((d : ℕ) × NextLacks e d)
+  pub same : e.held ≡ a.held
+
+-- so many frames moved, and so many lanes had their turn
+pub record Turning {Home : Type 0} (fixed : Bool) (a e : Seen Home) (taken posted : ℕ) (held : Bool) (from next : Lane) (n : ℕ) : Type 0 where
   pub acts : List Act
   pub moves : AllAre is_move acts
   pub went : Went None a e acts
   pub takes : count_by is_take acts ≡ taken
   pub posts : count_by is_post acts ≡ posted
-  pub outs : taken + posted ≡ 0 → (d : ℕ) → d < out → OutAt held a e d
-  pub ins : taken + posted ≡ 0 → (s : ℕ) → s < in_ → InAt held a e s
-  pub some : taken + posted ≡ 0 → held ≡ true → ((s : ℕ) × (s < in_) × LentLacks e s) ⊎ ((d : ℕ) × NextLacks e d)
-  pub same : taken + posted ≡ 0 → e.held ≡ a.held
+  pub lap : Lap fixed false a.lanes.peers a e from next n acts
+  pub looked : taken + posted ≡ 0 → Looked held a e from n
 
--- a round of frames
-pub record WentRound {Home : Type 0} (left : ℕ) (a e : Seen Home) (t : Turn) : Type 0 where
+-- a round of frames: all lanes had their turn, unless the log is short or the budget is spent
+pub record WentRound {Home : Type 0} (fixed : Bool) (left : ℕ) (a e : Seen Home) (from next : Lane) (t : Turn) : Type 0 where
   pub acts : List Act
   pub moves : AllAre is_move acts
   pub went : Went None a e acts
@@ -118,19 +149,24 @@ pub record WentRound {Home : Type 0} (left : ℕ) (a e : Seen Home) (t : Turn) :
   pub posts : count_by is_post acts ≡ t.posted
   pub most : t.taken + t.posted ≤ left
   pub short : t.short ≡ true → IsShort e
-  pub quiet : t.short ≡ false → t.taken + t.posted ≡ 0 → Turning a e 0 0 t.held e.lanes.peers e.lanes.peers
+  pub lanes : ℕ
+  pub lap : Lap fixed false a.lanes.peers a e from next lanes acts
+  pub whole : t.short ≡ false → (lanes ≡ round a.lanes.peers) ⊎ (t.taken + t.posted ≡ left)
+  pub quiet : t.short ≡ false → t.taken + t.posted ≡ 0 → Looked t.held a e from (round a.lanes.peers)
 
 -- fewer frames, and then memory was lacking
-pub record CutShort {Home : Type 0} (fixed : Bool) (left : ℕ) (a e : Seen Home) : Type 0 where
+pub record CutShort {Home : Type 0} (fixed : Bool) (left : ℕ) (a e : Seen Home) (from next : Lane) : Type 0 where
   pub acts : List Act
   pub moves : AllAre is_move acts
   pub went : Went None a e acts
   pub few : count_by is_take acts + count_by is_post acts < left
   pub lacks : MayLack fixed e
+  pub lanes : ℕ
+  pub lap : Lap fixed true a.lanes.peers a e from next lanes acts
 
-abbrev pub Rounds : {Home : Type 0} → Bool → ℕ → Seen Home → Seen Home → Result Turn NoMemory → Type 0
-Rounds fixed left a e (Ok t) = WentRound left a e t
-Rounds fixed left a e (Err _) = CutShort fixed left a e
+abbrev pub Rounds : {Home : Type 0} → Bool → ℕ → Seen Home → Seen Home → Lane → Lane → Result Turn NoMemory → Type 0
+Rounds fixed left a e from next (Ok t) = WentRound fixed left a e from next t
+Rounds fixed left a e from next (Err _) = CutShort fixed left a e from next
 
 -- no frame moved, and all lanes were looked at: what was seen, and what waits for room
 pub record Quiet {Home : Type 0} (a e : Seen Home) (held : Bool) : Type 0 where
@@ -140,7 +176,7 @@ pub record Quiet {Home : Type 0} (a e : Seen Home) (held : Bool) : Type 0 where
   pub some : held ≡ true → DrawLacks e.held ⊎ (((s : ℕ) × LentLacks e s) ⊎ ((d : ℕ) × NextLacks e d))
 
 -- a turn
-pub record TurnedOn {Home : Type 0} (left : ℕ) (a e : Seen Home) (t : Turn) : Type 0 where
+pub record TurnedOn {Home : Type 0} (fixed : Bool) (left : ℕ) (a e : Seen Home) (from next : Lane) (t : Turn) : Type 0 where
   pub acts : List Act
   pub moves : AllAre is_move acts
   pub went : Went None a e acts
@@ -149,11 +185,14 @@ pub record TurnedOn {Home : Type 0} (left : ℕ) (a e : Seen Home) (t : Turn) : 
   pub begins : Begins a e acts
   pub most : t.taken + t.posted ≤ left
   pub short : t.short ≡ true → IsShort e
+  pub lanes : ℕ
+  pub lap : Lap fixed false a.lanes.peers a e from next lanes acts
+  pub whole : t.short ≡ false → (lanes ≡ round a.lanes.peers) ⊎ (t.taken + t.posted ≡ left)
   pub quiet : t.short ≡ false → t.taken + t.posted ≡ 0 → Quiet a e t.held
 
-abbrev pub Turns : {Home : Type 0} → Bool → ℕ → Seen Home → Seen Home → Result Turn NoMemory → Type 0
-Turns fixed left a e (Ok t) = TurnedOn left a e t
-Turns fixed left a e (Err _) = (cut : CutShort fixed left a e) × Begins a e cut.acts
+abbrev pub Turns : {Home : Type 0} → Bool → ℕ → Seen Home → Seen Home → Lane → Lane → Result Turn NoMemory → Type 0
+Turns fixed left a e from next (Ok t) = TurnedOn fixed left a e from next t
+Turns fixed left a e from next (Err _) = (cut : CutShort fixed left a e from next) × Begins a e cut.acts
 
 -- ---- a push
 

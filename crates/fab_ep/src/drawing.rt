@@ -5,7 +5,7 @@ ghost use Rattle.fab_base.specs.declared.faults.Busy.TheVariants.{LogFull};
 ghost use Rattle.fab_model.specs.Receiving.{draw_due};
 ghost use Rattle.fab_face.specs.declared.events.Event.TheVariants.{Call as Called};
 ghost use Rattle.fab_face.specs.Answers.{HasPlaces, IsShort, is_early};
-ghost use Rattle.fab_face.specs.Ports.{seen};
+ghost use Rattle.fab_ep.specs.Value.{seen};
 ghost use Rattle.fab_ep.specs.Draws.{Crowded, Draws, DrawsOne};
 ghost use Rattle.fab_ep.specs.Sends.{logging};
 
@@ -21,6 +21,7 @@ impl<P: Port, C: Machine> Endpoint<P, C> {
     fn draw_one(&mut self) -> bool
         ensures draws { DrawsOne (seen P.Port self.old) (seen P.Port self.new) result }
         ensures less { result ≡ true → length self.new.held.state.rx.unexpected < length self.old.held.state.rx.unexpected }
+        ensures next { self.new.next ≡ self.old.next }
     {
         if !self.core.is_draw_due() {
             return false;
@@ -38,7 +39,8 @@ impl<P: Port, C: Machine> Endpoint<P, C> {
 
     /// Makes the draws that are due, as far as there is room for them. Most often none is, and that is seen at once.
     pub(crate) fn draw_all(&mut self)
-        ensures { Draws (seen P.Port self.old) (seen P.Port self.new) }
+        ensures draws { Draws (seen P.Port self.old) (seen P.Port self.new) }
+        ensures next { self.new.next ≡ self.old.next }
     {
         if self.core.is_draw_due() {
             while self.draw_one() {}

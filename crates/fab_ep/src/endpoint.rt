@@ -6,13 +6,16 @@ ghost use Rattle.fab_wire.specs.Joined.{is_last};
 ghost use Rattle.fab_link.specs.Meaning.{Others};
 ghost use Rattle.fab_face.specs.Held.{IsOpen, next_frame};
 ghost use Rattle.fab_face.specs.Acts.{only};
-ghost use Rattle.fab_face.specs.Answers.{IsShort, HasPlaces, Progressed};
-ghost use Rattle.fab_face.specs.Ports.{seen, IsFresh};
+ghost use Rattle.fab_face.specs.Answers.{IsShort, HasPlaces, MayLack};
+ghost use Rattle.fab_ep.specs.Value.{anew, seen};
 ghost use Rattle.fab_face.specs.declared.events.Stop.TheVariants.{Budget};
 ghost use Rattle.fab_ep.specs.Draws.{Draws};
-ghost use Rattle.fab_ep.specs.Tries.{HeldStays, Pushes, PushesOut, PushesOn, PushesTo, IsTied, PostsOut, TriesOut, TriesIn, Rounds, Turns, moved_one, is_held, is_short, left_for};
+ghost use Rattle.fab_ep.specs.Tries.{HeldStays, Pushes, PushesOut, PushesOn, PushesTo, IsTied, PassesOn, PostsOut, TriesOut, TriesIn, Tries, Rounds, Turns, posted_on, taken_on, is_held, is_short, left_for};
+ghost use Rattle.fab_ep.specs.Circle.{IsOf};
+ghost use Rattle.fab_ep.specs.Fairness.{MayWant, ProgressedFairly};
 
 use crate::frames::post_next;
+use crate::lanes::Lane;
 use fab_base::{FRAME_BYTES, NoMemory};
 use fab_face::events::{Event, Moved, Stop};
 use fab_face::machine::Machine;
@@ -43,35 +46,21 @@ pub struct Turn {
 impl Turn {
     ghost use Rattle.std.specs.Prelude.{◌^◌};
 
-    /// Counts what came of a frame that was to be posted.
-    fn count_out(&mut self, tried: Tried)
-        requires { self.old.posted + 1 < 2 ^ 32 }
-        ensures posted { self.new.posted ≡ self.old.posted + moved_one tried }
-        ensures taken { self.new.taken ≡ self.old.taken }
+    /// Counts what came of the turn of a lane.
+    fn count(&mut self, lane: Lane, tried: Tried)
+        requires taken { self.old.taken + 1 < 2 ^ 32 }
+        requires posted { self.old.posted + 1 < 2 ^ 32 }
+        ensures posted { self.new.posted ≡ self.old.posted + posted_on lane tried }
+        ensures taken { self.new.taken ≡ self.old.taken + taken_on lane tried }
         ensures held { self.new.held ≡ (self.old.held || is_held tried) }
         ensures short { self.new.short ≡ (self.old.short || is_short tried) }
     {
-        match tried {
-            Tried::Moved => self.posted += 1,
-            Tried::Nothing => {}
-            Tried::Held => self.held = true,
-            Tried::Short => self.short = true,
-        }
-    }
-
-    /// Counts what came of a frame that was to be taken.
-    fn count_in(&mut self, tried: Tried)
-        requires { self.old.taken + 1 < 2 ^ 32 }
-        ensures taken { self.new.taken ≡ self.old.taken + moved_one tried }
-        ensures posted { self.new.posted ≡ self.old.posted }
-        ensures held { self.new.held ≡ (self.old.held || is_held tried) }
-        ensures short { self.new.short ≡ (self.old.short || is_short tried) }
-    {
-        match tried {
-            Tried::Moved => self.taken += 1,
-            Tried::Nothing => {}
-            Tried::Held => self.held = true,
-            Tried::Short => self.short = true,
+        match (lane, tried) {
+            (Lane::To(_), Tried::Moved) => self.posted += 1,
+            (Lane::From(_), Tried::Moved) => self.taken += 1,
+            (_, Tried::Nothing) => {}
+            (_, Tried::Held) => self.held = true,
+            (_, Tried::Short) => self.short = true,
         }
     }
 }
@@ -84,19 +73,21 @@ pub struct Endpoint<P: Port, C: Machine> {
     pub(crate) log: VecDeque<Event>,
     pub(crate) log_size: u32,
     pub(crate) pushed: bool,
+    pub(crate) next: Lane,
 }
 
 impl<P: Port, C: Machine> Model for Endpoint<P, C> {
     ghost use Rattle.std.specs.Prelude.{◌≤◌};
     ghost use Rattle.std.specs.VecDeque.{deque_capacity};
-    ghost use Rattle.fab_face.specs.Ports.{Whole, seen};
+    ghost use Rattle.fab_ep.specs.Value.{Whole, seen};
+    ghost use Rattle.fab_ep.specs.Circle.{InCircle};
     ghost use Rattle.fab_ep.specs.Tries.{IsTied};
 
     ghost Value = { Whole P };
 
-    ghost view = { λ e. record { port = e.port; held = C.held e.core; log = e.log.items; log_size = e.log_size; pushed = e.pushed } };
+    ghost view = { λ e. record { port = e.port; held = C.held e.core; log = e.log.items; log_size = e.log_size; pushed = e.pushed; next = e.next } };
 
-    ghost invariant = { λ e. (e.log_size ≤ deque_capacity e.log) × IsTied (seen P.Port (record { port = e.port; held = C.held e.core; log = e.log.items; log_size = e.log_size; pushed = e.pushed })) };
+    ghost invariant = { λ e. (e.log_size ≤ deque_capacity e.log) × IsTied (seen P.Port (record { port = e.port; held = C.held e.core; log = e.log.items; log_size = e.log_size; pushed = e.pushed; next = e.next })) × InCircle (P.peer_count e.port) e.next };
 }
 
 /// Whether the log has fewer than two free places.
@@ -119,12 +110,12 @@ fn log_if(log: &mut VecDeque<Event>, logs: bool, event: Event)
 }
 
 impl<P: Port, C: Machine> Endpoint<P, C> {
-    /// An endpoint over this port that goes on from what the machine holds, with an empty log. Want of
-    /// memory hands both back.
+    /// An endpoint over this port that goes on from what the machine holds, with an empty log; the lane to
+    /// peer 0 has the first turn. Want of memory hands both back.
     pub fn over(alloc: Global, port: P, core: C, log_size: u32) -> Result<Endpoint<P, C>, (P, C)>
         requires log { 4 ≤ log_size }
-        requires tied { IsTied (seen P.Port (record { port = port; held = C.held core; log = []; log_size = log_size; pushed = false })) }
-        ensures ok { IfOk result (λ e. e ≡ record { port = port; held = C.held core; log = []; log_size = log_size; pushed = false }) }
+        requires tied { IsTied (seen P.Port (anew port (C.held core) log_size)) }
+        ensures ok { IfOk result (λ e. e ≡ anew port (C.held core) log_size) }
         ensures err { IfErr result (λ r. (r.0 ≡ port) × (r.1 ≡ core)) }
     {
         let mut log = VecDeque::new(alloc);
@@ -137,6 +128,7 @@ impl<P: Port, C: Machine> Endpoint<P, C> {
             log,
             log_size,
             pushed: false,
+            next: Lane::To(0),
         })
     }
 
@@ -150,6 +142,7 @@ impl<P: Port, C: Machine> Endpoint<P, C> {
         ensures ins { P.ins self.new.port ≡ P.ins self.old.port }
         ensures memory { OnErr result (P.FIXED ≢ true) }
         ensures pushed { self.new.pushed ≡ self.old.pushed }
+        ensures next { self.new.next ≡ self.old.next }
     {
         let Endpoint {
             port,
@@ -190,6 +183,7 @@ impl<P: Port, C: Machine> Endpoint<P, C> {
         ensures ins { P.ins self.new.port ≡ P.ins self.old.port }
         ensures memory { OnErr result (P.FIXED ≢ true) }
         ensures pushed { self.new.pushed ≡ self.old.pushed }
+        ensures next { self.new.next ≡ self.old.next }
     {
         if is_short(&self.log, self.log_size) {
             return Ok(Tried::Short);
@@ -293,6 +287,7 @@ impl<P: Port, C: Machine> Endpoint<P, C> {
         requires below { source < P.peer_count self.old.port }
         ensures tries { TriesIn (seen P.Port self.old) (seen P.Port self.new) source result }
         ensures pushed { self.new.pushed ≡ self.old.pushed }
+        ensures next { self.new.next ≡ self.old.next }
     {
         let Endpoint {
             port,
@@ -320,31 +315,57 @@ impl<P: Port, C: Machine> Endpoint<P, C> {
         Ok(Tried::Moved)
     }
 
-    /// A round of frames: for each peer in order, posts a frame and takes one, where that may be and
-    /// while fewer than `left` have moved.
+    /// The turn of a lane: posts a frame, or takes one, where that may be.
+    fn try_lane(&mut self, lane: Lane) -> Result<Tried, NoMemory>
+        requires { IsOf (P.peer_count self.old.port) lane }
+        ensures tries { Tries (seen P.Port self.old) (seen P.Port self.new) lane result }
+        ensures memory { OnErr result (MayLack P.FIXED (seen P.Port self.new) × MayWant P.FIXED (seen P.Port self.new) lane) }
+        ensures pushed { self.new.pushed ≡ self.old.pushed }
+        ensures next { self.new.next ≡ self.old.next }
+    {
+        match lane {
+            Lane::To(dest) => self.post_one(dest),
+            Lane::From(source) => self.take_one(source),
+        }
+    }
+
+    /// The turn of the lane that is next. The one behind it is next then, unless the log was short.
+    fn try_next(&mut self) -> Result<Tried, NoMemory>
+        requires { IsOf (P.peer_count self.old.port) self.old.next }
+        ensures tries { Tries (seen P.Port self.old) (seen P.Port self.new) self.old.next result }
+        ensures memory { OnErr result (MayLack P.FIXED (seen P.Port self.new) × MayWant P.FIXED (seen P.Port self.new) self.old.next) }
+        ensures pushed { self.new.pushed ≡ self.old.pushed }
+        ensures next { PassesOn (P.peer_count self.old.port) self.old.next self.new.next result }
+    {
+        let lane = self.next;
+        let tried = self.try_lane(lane);
+        if !matches!(tried, Ok(Tried::Short)) {
+            self.next = lane.following(self.port.peers());
+        }
+        tried
+    }
+
+    /// A round of frames: each lane has its turn, from the one that is next on, while fewer than `left` have
+    /// moved and the log has room.
     fn round(&mut self, left: u32) -> Result<Turn, NoMemory>
         requires some { 0 < left }
-        ensures rounds { Rounds P.FIXED left (seen P.Port self.old) (seen P.Port self.new) result }
+        ensures rounds { Rounds P.FIXED left (seen P.Port self.old) (seen P.Port self.new) self.old.next self.new.next result }
         ensures pushed { self.new.pushed ≡ self.old.pushed }
     {
-        let peers = self.port.peers();
+        let lanes = 2 * self.port.peers() as u64;
         let mut turn = Turn {
             taken: 0,
             posted: 0,
             held: false,
             short: false,
         };
-        for peer in 0..peers {
+        for _step in 0..lanes {
             if left <= turn.taken + turn.posted {
                 return Ok(turn);
             }
-            let out = self.post_one(peer)?;
-            turn.count_out(out);
-            if turn.short || left <= turn.taken + turn.posted {
-                return Ok(turn);
-            }
-            let came = self.take_one(peer)?;
-            turn.count_in(came);
+            let lane = self.next;
+            let tried = self.try_next()?;
+            turn.count(lane, tried);
             if turn.short {
                 return Ok(turn);
             }
@@ -355,7 +376,7 @@ impl<P: Port, C: Machine> Endpoint<P, C> {
     /// One turn: the draws that are due, as far as there is room for them, and then a round of frames.
     fn turn(&mut self, left: u32) -> Result<Turn, NoMemory>
         requires some { 0 < left }
-        ensures turns { Turns P.FIXED left (seen P.Port self.old) (seen P.Port self.new) result }
+        ensures turns { Turns P.FIXED left (seen P.Port self.old) (seen P.Port self.new) self.old.next self.new.next result }
         ensures pushed { self.new.pushed ≡ self.old.pushed }
     {
         self.draw_all();
@@ -376,6 +397,7 @@ impl<P: Port, C: Machine> Endpoint<P, C> {
     /// The budget is spent. The draws that are due are made, as far as there is room for them.
     fn spend(&mut self, taken: u32, posted: u32) -> Moved
         ensures draws { Draws (seen P.Port self.old) (seen P.Port self.new) }
+        ensures next { self.new.next ≡ self.old.next }
         ensures moved { result ≡ record { taken = taken; posted = posted; stop = Budget } }
     {
         self.draw_all();
@@ -389,7 +411,7 @@ impl<P: Port, C: Machine> Endpoint<P, C> {
     /// Draws, posts and takes frames in turns, until a turn moves no frame, `budget` frames have moved, or
     /// the log is short. Where the budget ends it, draws are made once more.
     pub(crate) fn move_frames(&mut self, budget: u32) -> Result<Moved, NoMemory>
-        ensures { Progressed P.FIXED budget (seen P.Port self.old) (seen P.Port self.new) result }
+        ensures { ProgressedFairly P.FIXED budget (seen P.Port self.old) (seen P.Port self.new) self.old.next self.new.next result }
     {
         let mut taken = 0;
         let mut posted = 0;

@@ -11,6 +11,8 @@ mod drawing;
 pub mod endpoint;
 mod frames;
 mod keeping;
+pub mod lanes;
+mod laws;
 mod looking;
 mod multis;
 mod plain;
@@ -20,3 +22,5 @@ mod regions;
 mod requests;
 pub mod seats;
 mod sending;
+
+pub use laws::law_turns;

@@ -3,7 +3,7 @@
 ghost use Rattle.std.specs.Prelude.{◌≡◌, IfErr, OnOk};
 ghost use Rattle.fab_face.specs.Answers.{Receives, ReceivesNot};
 ghost use Rattle.fab_face.specs.Looking.{looking};
-ghost use Rattle.fab_face.specs.Ports.{seen};
+ghost use Rattle.fab_ep.specs.Value.{seen};
 
 use crate::endpoint::Endpoint;
 use fab_base::{Buf, Fault, PeekHow, Refused};

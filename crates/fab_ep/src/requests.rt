@@ -7,7 +7,7 @@ ghost use Rattle.fab_model.specs.Calls.{do_call};
 ghost use Rattle.fab_face.specs.Acts.{Went, Did};
 ghost use Rattle.fab_face.specs.Answers.{Sends, SendsNot, is_final};
 ghost use Rattle.fab_face.specs.Held.{Seen};
-ghost use Rattle.fab_face.specs.Ports.{seen};
+ghost use Rattle.fab_ep.specs.Value.{seen};
 ghost use Rattle.fab_face.specs.Requesting.{kind_asked, requesting};
 ghost use Rattle.fab_ep.specs.Sends.{Admits};
 

@@ -4,6 +4,7 @@ ghost use Rattle.fab_face.specs.Held.{IsRepaid};
 ghost use Rattle.fab_face.specs.Ports.{GoesOn, lanes_in};
 
 use crate::endpoint::Endpoint;
+use crate::lanes::Lane;
 use fab_face::events::Event;
 use fab_face::machine::Machine;
 use fab_link::Port;
@@ -18,19 +19,21 @@ pub struct Unseated<P: Port, C: Machine> {
     log: VecDeque<Event>,
     log_size: u32,
     pushed: bool,
+    next: Lane,
 }
 
 impl<P: Port, C: Machine> Model for Unseated<P, C> {
     ghost use Rattle.std.specs.Prelude.{◌≤◌};
     ghost use Rattle.std.specs.VecDeque.{deque_capacity};
-    ghost use Rattle.fab_face.specs.Ports.{Whole, seen};
+    ghost use Rattle.fab_ep.specs.Value.{Whole, seen};
+    ghost use Rattle.fab_ep.specs.Circle.{InCircle};
     ghost use Rattle.fab_ep.specs.Tries.{IsTied};
 
     ghost Value = { Whole P };
 
-    ghost view = { λ e. record { port = e.port.value; held = C.held e.core; log = e.log.items; log_size = e.log_size; pushed = e.pushed } };
+    ghost view = { λ e. record { port = e.port.value; held = C.held e.core; log = e.log.items; log_size = e.log_size; pushed = e.pushed; next = e.next } };
 
-    ghost invariant = { λ e. (e.log_size ≤ deque_capacity e.log) × IsTied (seen P.Port (record { port = e.port.value; held = C.held e.core; log = e.log.items; log_size = e.log_size; pushed = e.pushed })) };
+    ghost invariant = { λ e. (e.log_size ≤ deque_capacity e.log) × IsTied (seen P.Port (record { port = e.port.value; held = C.held e.core; log = e.log.items; log_size = e.log_size; pushed = e.pushed; next = e.next })) × InCircle (P.peer_count e.port.value) e.next };
 }
 
 /// What an endpoint that was closed gives back. Its buffers of unfinished operations go with the machine.
@@ -51,6 +54,7 @@ impl<P: Port, C: Machine> Endpoint<P, C> {
             log,
             log_size,
             pushed,
+            next,
         } = self;
         let unseated = Unseated {
             port: Snapshot::of(&port),
@@ -58,6 +62,7 @@ impl<P: Port, C: Machine> Endpoint<P, C> {
             log,
             log_size,
             pushed,
+            next,
         };
         (unseated, port)
     }
@@ -73,6 +78,7 @@ impl<P: Port, C: Machine> Endpoint<P, C> {
             log: _log,
             log_size: _log_size,
             pushed: _pushed,
+            next: _next,
         } = self;
         Closed { port, core }
     }
@@ -84,7 +90,7 @@ impl<P: Port, C: Machine> Unseated<P, C> {
     pub fn reseat<Q: Port>(self, port: Q) -> Endpoint<Q, C>
         requires goes_on { GoesOn P.Port Q.Port self.port port }
         requires repaid { IsRepaid (lanes_in Q.Port port) self.held }
-        ensures { result ≡ record { port = port; held = self.held; log = self.log; log_size = self.log_size; pushed = self.pushed } }
+        ensures { result ≡ record { port = port; held = self.held; log = self.log; log_size = self.log_size; pushed = self.pushed; next = self.next } }
     {
         let Unseated {
             port: _port,
@@ -92,6 +98,7 @@ impl<P: Port, C: Machine> Unseated<P, C> {
             log,
             log_size,
             pushed,
+            next,
         } = self;
         Endpoint {
             port,
@@ -99,6 +106,7 @@ impl<P: Port, C: Machine> Unseated<P, C> {
             log,
             log_size,
             pushed,
+            next,
         }
     }
 }

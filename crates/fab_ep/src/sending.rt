@@ -2,7 +2,7 @@
 ghost use Rattle.std.specs.Prelude.{◌≡◌, ◌≢◌, ◌<◌, ◌≤◌, ◌+◌, ◌∷◌, [], length, Bool, true, false, Some, None, IfErr, OnOk, OnErr, Ok};
 ghost use Rattle.std.specs.List.{list_any};
 ghost use Rattle.fab_face.specs.Machine.{sending};
-ghost use Rattle.fab_face.specs.Ports.{seen};
+ghost use Rattle.fab_ep.specs.Value.{seen};
 ghost use Rattle.std.specs.Prelude.{IfSome, IfNone, ℕ, nat_le};
 ghost use Rattle.fab_model.specs.State.{in_use, lookup};
 ghost use Rattle.fab_model.specs.Calls.{Transmit, do_call};

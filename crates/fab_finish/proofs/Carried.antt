@@ -14,7 +14,7 @@ use Rattle.fab_link.proofs.Looks.{same_lane, other_lane}
 use Rattle.fab_model.specs.Peers.{Actor}
 use Rattle.fab_model.proofs.Turns.{slice_get-set_other, slice_get-set_same}
 use Rattle.fab_face.specs.Held.{Held}
-use Rattle.fab_face.specs.Ports.{Whole}
+use Rattle.fab_ep.specs.Value.{Whole}
 use Rattle.fab_peer.specs.Agreed.{Agrees}
 use Rattle.fab_peer.specs.Turns.{Living, IsCounted}
 use Rattle.fab_finish.specs.Joined.{Member, member_actor, member_steps, actors, schedules, lane, IsOwn, IsJoined}

@@ -13,7 +13,7 @@ use Rattle.fab_base.specs.declared.peers.Step.{Step}
 use Rattle.fab_wire.specs.Joined.{is_last, grown}
 use Rattle.fab_link.specs.Plain.{Lane, Plain, PlainHome, lane_at, left, in_of, out_of, with_lane}
 use Rattle.fab_link.proofs.Looks.{same_lane, other_lane}
-use Rattle.fab_face.specs.Ports.{Whole}
+use Rattle.fab_ep.specs.Value.{Whole}
 use Rattle.fab_model.specs.State.{State}
 use Rattle.fab_model.specs.Peers.{Actor}
 use Rattle.fab_model.proofs.Parts.{get_or-set}

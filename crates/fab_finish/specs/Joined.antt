@@ -21,7 +21,7 @@ use Rattle.fab_model.specs.Receiving.{draw_due}
 use Rattle.fab_model.specs.Replay.{fresh, newly}
 use Rattle.fab_model.specs.Views.{rule}
 use Rattle.fab_face.specs.Held.{Held, Seen, next_frame}
-use Rattle.fab_face.specs.Ports.{Whole}
+use Rattle.fab_ep.specs.Value.{Whole}
 use Rattle.fab_peer.specs.declared.peer.Peer.{Peer}
 use Rattle.fab_peer.specs.Turns.{Told, told, living_of, actor_of, IsCounted, IsRead}
 use Rattle.fab_peer.specs.Agreed.{Agrees}

@@ -14,9 +14,9 @@ use Rattle.fab_laws.specs.Scripts.{ScriptLeadTo, peer_of, peers}
 use Rattle.fab_laws.specs.ScriptLaws.{script_arrived, script_asked, script_handled, script_operations, script_past, script_whole}
 use Rattle.fab_laws.specs.StreamLaws.{HasArrived, IsFirst, IsPosted, TakesAll}
 use Rattle.fab_laws.specs.MatchingLaws.{GetsRightly, PassesNoneOver, ServesInOrder, TakesInOrder}
-use Rattle.fab_laws.specs.MessageLaws.{EntryReads, EntryTells, ReceiveTells}
+use Rattle.fab_laws.specs.MessageLaws.{EntryReads, EntryTells, LetsOutSized, ReceiveTells}
 use Rattle.fab_laws.specs.ClaimLaws.{EntryIsOwn, FreesClaimed, IsPutAway, NoneSlips, StaysAside}
-use Rattle.fab_laws.specs.MultiLaws.{ClosesWhenFull, PlacesTell}
+use Rattle.fab_laws.specs.MultiLaws.{ClosesWhenFull, HandsBackParts, PlacesTell, ReleaseTells, ReleasedInTime, TellsEach}
 use Rattle.fab_laws.specs.ReceiveLaws.{AllHaveFates, GotTold, LeavesOnce, OneTellsIt, TookTold}
 use Rattle.fab_laws.specs.CompletionLaws.{AllCompleteOnce, NumberCompletes}
 
@@ -42,6 +42,8 @@ pub record HoldsOf (bound : Bound) (turns : List (Turn Step)) (states : List Act
   pub entries : EntryTells (script_past bound turns p) (script_asked bound turns p) (peers states) p (peer_of a)
   -- that of a receive that is no multi-receive has the bytes in the buffer that its call passed, from the first byte on
   pub receives : ReceiveTells (script_past bound turns p) (script_asked bound turns p) (peers states) p (peer_of a)
+  -- each item that it lets out has as many bytes as its head says
+  pub sized : LetsOutSized (peer_of a)
   -- what a receive got, or a take took, is told by an entry of its number, or is still on its way; the final completion of a receive that is no multi-receive and got a message is that of the message
   pub told : GotTold (script_past bound turns p) (script_asked bound turns p) (peers states) p (peer_of a)
   pub took : TookTold (script_handled bound turns p) (script_asked bound turns p) (peers states) p (peer_of a)
@@ -49,6 +51,11 @@ pub record HoldsOf (bound : Bound) (turns : List (Turn Step)) (states : List Act
   -- the messages of a buffer for many messages follow one another from its first byte on, in the order in which its receive got them; the receive takes no more exactly once fewer than its least free bytes are left
   pub places : PlacesTell (script_past bound turns p) (script_asked bound turns p) (peers states) p (peer_of a)
   pub closes : ClosesWhenFull (script_past bound turns p) (script_asked bound turns p)
+  -- such a buffer comes back with the bytes of each of these messages at its place; the entry that releases it says how many bytes are given away; it is released once its receive takes no more and no message comes into it; each message has one entry, once it is whole
+  pub parts : HandsBackParts (script_past bound turns p) (script_asked bound turns p) (peers states) p (peer_of a)
+  pub released : ReleaseTells (script_past bound turns p) (script_asked bound turns p) (peer_of a)
+  pub back : ReleasedInTime (script_past bound turns p) (script_asked bound turns p) (peer_of a)
+  pub each : TellsEach (script_past bound turns p) (script_asked bound turns p) (peer_of a)
   -- a claimed message is taken or dropped once at the most, by a call under the context of its claim, and by nothing else; it is still set aside, or was taken or dropped
   pub freed : FreesClaimed (script_handled bound turns p)
   pub slips : NoneSlips (script_handled bound turns p)

@@ -28,7 +28,9 @@ use fab_model::laws::law_l5;
 /// arrival that the matching rules allow; an entry that tells a message gives the bytes, source, tag
 /// and length, or the truncation, of one that its receive got, and only that of a `take`, which is not
 /// posted, of one that had been claimed under its context; what a receive got it completes with, or it is
-/// still on its way; a claimed message goes only to the call that takes or drops it, and no message is lost; each accepted operation has at most one final
+/// still on its way; a buffer for many messages comes back with the bytes of each at its place, released once
+/// its receive takes no more and all that came into it is whole; a claimed message goes only to the call
+/// that takes or drops it, and no message is lost; each accepted operation has at most one final
 /// completion, none before its level is reached, and exactly one once it has ended, as each has when the
 /// peers have drained, unless suppressed.
 pub fn law_headline()

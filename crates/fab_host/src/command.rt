@@ -1,5 +1,5 @@
 //! One run of the program, from the words of its command line to its exit status.
-ghost use Rattle.std.specs.Prelude.{◌≡◌, ◌≢◌, ◌<◌, ◌↔◌, ◌⊎◌, ℕ, List, true, false, None, Some, IfOk, map, drop, string_bytes};
+ghost use Rattle.std.specs.Prelude.{◌≡◌, ◌≢◌, ◌<◌, ◌↔◌, ℕ, List, Bool, true, false, None, Some, IfOk, map, drop, string_bytes};
 ghost use Rattle.std.specs.Process.{exit_status};
 ghost use Rattle.std.specs.Vec.Iter.{into_iter_items};
 ghost use Rattle.fab_base.specs.Counts.{Rose};
@@ -7,7 +7,7 @@ ghost use Rattle.fab_base.specs.declared.status.Status.TheVariants.{Done, Stuck,
 ghost use Rattle.fab_base.specs.declared.status.Why.{Why};
 ghost use Rattle.fab_top.specs.Commands.{IsNoCommand};
 ghost use Rattle.fab_outside.specs.Loading.{IsOver, LoadsOnly};
-ghost use Rattle.fab_top.specs.Runs.{AskFor, IsRefused, Writes, WritesPart, Tells, TellsPart, Benches, BenchesPart, Checks, ChecksPart, Sums, SumsPart, Collects, CollectsPart, IsUnhindered, IsAnswered, IsSilent, MayStick, NeverSticks, AsksNone, IsNoWorkload};
+ghost use Rattle.fab_top.specs.Runs.{AskFor, IsBegun, IsRefused, IsReport, IsText, IsWritten, IsUnhindered, IsAnswered, IsSilent, MayStick, NeverSticks, AsksNone, IsNoWorkload};
 ghost use Rattle.fab_host.specs.Ending.{status_number, status_without, IsTold};
 
 use crate::ending::end;
@@ -49,20 +49,10 @@ where
     ensures too_long { (name : List ℕ) → result.status ≡ TooLong name → AskFor (D.files depot.old) words.now name × IsOver (D.files depot.old) name }
     ensures read_fault { (name : List ℕ) → result.status ≡ ReadFault name → AskFor (D.files depot.old) words.now name
         × Rose (D.faults depot.old) (D.faults depot.new) × (D.failed_name depot.new ≡ Some name) }
-    ensures done { result.status ≡ Done → Writes (D.files depot.old) words.now true (S.bytes sink.old) (S.bytes sink.new)
-        ⊎ Tells words.now (S.bytes sink.old) (S.bytes sink.new)
-        ⊎ Benches (D.files depot.old) words.now (C.given clock.new) (C.first clock.new) (C.last clock.new) (S.bytes sink.old) (S.bytes sink.new)
-        ⊎ Checks (D.files depot.old) words.now (S.bytes sink.old) (S.bytes sink.new)
-        ⊎ Sums words.now (S.bytes sink.old) (S.bytes sink.new)
-        ⊎ Collects (D.files depot.old) words.now (S.bytes sink.old) (S.bytes sink.new) }
-    ensures stuck { result.status ≡ Stuck → Writes (D.files depot.old) words.now false (S.bytes sink.old) (S.bytes sink.new) }
-    ensures write_fault { result.status ≡ WriteFault → Rose (S.faults sink.old) (S.faults sink.new)
-        × (WritesPart (D.files depot.old) words.now (S.bytes sink.old) (S.bytes sink.new)
-        ⊎ TellsPart words.now (S.bytes sink.old) (S.bytes sink.new)
-        ⊎ BenchesPart (D.files depot.old) words.now (C.given clock.new) (C.first clock.new) (C.last clock.new) (S.bytes sink.old) (S.bytes sink.new)
-        ⊎ ChecksPart (D.files depot.old) words.now (S.bytes sink.old) (S.bytes sink.new)
-        ⊎ SumsPart words.now (S.bytes sink.old) (S.bytes sink.new)
-        ⊎ CollectsPart (D.files depot.old) words.now (S.bytes sink.old) (S.bytes sink.new)) }
+    ensures done { result.status ≡ Done → IsWritten (IsText (D.files depot.old) words.now (C.given clock.new) (C.first clock.new) (C.last clock.new) true) (S.bytes sink.old) (S.bytes sink.new) }
+    ensures stuck { result.status ≡ Stuck → IsWritten (IsReport (D.files depot.old) words.now false) (S.bytes sink.old) (S.bytes sink.new) }
+    ensures write_fault { result.status ≡ WriteFault → Rose (S.faults sink.old) (S.faults sink.new) }
+    ensures begun { result.status ≡ WriteFault → (done : Bool) × IsBegun (IsText (D.files depot.old) words.now (C.given clock.new) (C.first clock.new) (C.last clock.new) done) (S.bytes sink.old) (S.bytes sink.new) }
     ensures silent { IsSilent result.status → S.bytes sink.new ≡ S.bytes sink.old }
     ensures files { D.files depot.new ≡ D.files depot.old }
     ensures complete { IsUnhindered (D.files depot.old) words.now (D.faults depot.old) (D.faults depot.new) (S.faults sink.old) (S.faults sink.new)

@@ -18,10 +18,10 @@ use Rattle.fab_laws.specs.CompletionLaws.{AllCompleteOnce, NumberCompletes}
 use Rattle.fab_laws.specs.FenceLaws.{FenceHolds, GoesInOrder, HoldsNothing, IsOfACall, ComesAfterAll, ItemIsOfACall}
 use Rattle.fab_laws.specs.ReplyLaws.{FindsItsOperation, WaitsAtMatch}
 use Rattle.fab_laws.specs.StreamLaws.{HasArrived, IsFirst, IsPosted, TakesAll, arrived_from, arriving, asks, posted_for, taking, whole_from}
-use Rattle.fab_laws.specs.MessageLaws.{EntryTells, ReceiveTells, asked_of, keeping_asked}
+use Rattle.fab_laws.specs.MessageLaws.{EntryTells, LetsOutSized, ReceiveTells, asked_of, keeping_asked}
 use Rattle.fab_laws.specs.Claimed.{Handling, handled_of, handling}
 use Rattle.fab_laws.specs.ClaimLaws.{EntryIsOwn, FreesClaimed, IsPutAway, NoneSlips, StaysAside}
-use Rattle.fab_laws.specs.MultiLaws.{ClosesWhenFull, PlacesTell}
+use Rattle.fab_laws.specs.MultiLaws.{ClosesWhenFull, HandsBackParts, PlacesTell, ReleaseTells, ReleasedInTime, TellsEach}
 use Rattle.fab_laws.specs.ReceiveLaws.{AllHaveFates, GotTold, LeavesOnce, OneTellsIt, TookTold}
 use Rattle.fab_laws.specs.ScriptLaws as script
 use Rattle.fab_laws.specs.ScriptLaws.{script_arrived, script_asked, script_handled, script_operations, script_past, script_whole}
@@ -35,7 +35,8 @@ use Rattle.fab_laws.proofs.streams.Taken.{taken_is_first}
 use Rattle.fab_laws.proofs.streams.Posted.{taken_is_posted}
 use Rattle.fab_laws.proofs.streams.Arrived.{all_is_taken, arrived_is_first, arrived_is_posted, whole_has_arrived}
 use Rattle.fab_laws.proofs.streams.Entries.{entries_tell, receives_tell}
-use Rattle.fab_laws.proofs.receiving.Holding.{closes_in_time, freed_rightly, goes_once, got_is_told, lost_is_put_away, none_is_lost, one_tells, places_follow, stays_claimed, takes_tell, took_is_told}
+use Rattle.fab_laws.proofs.streams.Sized.{items_are_sized}
+use Rattle.fab_laws.proofs.receiving.Holding.{closes_in_time, freed_rightly, goes_once, got_is_told, lost_is_put_away, none_is_lost, one_tells, parts_stand, places_follow, releases_in_time, releases_tell, stays_claimed, takes_tell, tells_once, took_is_told}
 
 -- the history words of the program that makes the calls of a script's lines are those of the script
 module _ (bound : Bound) (turns : List (Turn Step)) (states : List Actor) (leads : ScriptLeadTo bound turns states) where
@@ -231,3 +232,26 @@ pub script_closes_in_time : script.ClosesInTime
 script_closes_in_time bound turns states leads p a here =
     subst₂ ClosesWhenFull (past bound turns states leads p) (asked bound turns states leads p)
     (of_scripts (λ from turns states p a. ClosesWhenFull (past_of from turns p) (asked_of from turns p)) closes_in_time bound turns states leads p a here)
+
+pub script_parts_stand : script.PartsStand
+script_parts_stand bound turns states leads p a here =
+    subst₂ (λ (events : List Event) (m : List Receive). HandsBackParts events m (peers states) p (peer_of a)) (past bound turns states leads p) (asked bound turns states leads p)
+    (of_scripts (λ from turns states p a. HandsBackParts (past_of from turns p) (asked_of from turns p) states p a) parts_stand bound turns states leads p a here)
+
+pub script_releases_tell : script.ReleasesTell
+script_releases_tell bound turns states leads p a here =
+    subst₂ (λ (events : List Event) (m : List Receive). ReleaseTells events m (peer_of a)) (past bound turns states leads p) (asked bound turns states leads p)
+    (of_scripts (λ from turns states p a. ReleaseTells (past_of from turns p) (asked_of from turns p) a) releases_tell bound turns states leads p a here)
+
+pub script_releases_in_time : script.ReleasesInTime
+script_releases_in_time bound turns states leads p a here =
+    subst₂ (λ (events : List Event) (m : List Receive). ReleasedInTime events m (peer_of a)) (past bound turns states leads p) (asked bound turns states leads p)
+    (of_scripts (λ from turns states p a. ReleasedInTime (past_of from turns p) (asked_of from turns p) a) releases_in_time bound turns states leads p a here)
+
+pub script_tells_once : script.TellsOnce
+script_tells_once bound turns states leads p a here =
+    subst₂ (λ (events : List Event) (m : List Receive). TellsEach events m (peer_of a)) (past bound turns states leads p) (asked bound turns states leads p)
+    (of_scripts (λ from turns states p a. TellsEach (past_of from turns p) (asked_of from turns p) a) tells_once bound turns states leads p a here)
+
+pub script_items_are_sized : script.ItemsAreSized
+script_items_are_sized bound turns states leads p a here = of_scripts (λ from turns states p a. LetsOutSized a) items_are_sized bound turns states leads p a here

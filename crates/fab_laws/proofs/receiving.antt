@@ -4,5 +4,10 @@ pub mod Claiming
 pub mod News
 pub mod Settling
 pub mod Flowing
+pub mod Pasting
 pub mod Placing
+pub mod Opens
+pub mod Filling
+pub mod Releasing
+pub mod Telling
 pub mod Holding

@@ -2,11 +2,12 @@
 --     asked_of from turns p      the receives that the calls of peer p made: of recv, trecv and recv_multi, and of take
 --     EntriesTell                each entry that tells a message is that of an item that is whole, with its bytes or their truncation
 --     ReceivesTell               so the entry of a receive that is no multi-receive has its message in its own buffer, from the buffer's first byte on
+--     ItemsAreSized              each item has as many bytes as its head says
 use Rattle.std.specs.Prelude.{◌≡◌, ◌≤◌, ◌-◌, length, ◌<◌, ◌⊎◌, ℕ, Bool, true, false, nat_lt, List, [], ◌∷◌, ◌++◌, Option, Some, None, slice_get, slice_index}
 use Rattle.fab_base.specs.declared.items.Item.{Item}
 use Rattle.fab_base.specs.declared.operations.Receive.{Receive}
 use Rattle.fab_base.specs.declared.operations.Written.{Written}
-use Rattle.fab_model.specs.State.{State}
+use Rattle.fab_model.specs.State.{State, accepted_for}
 use Rattle.fab_base.specs.declared.items.ItemHead.{ItemHead}
 use Rattle.fab_base.specs.declared.entries.Entry.TheVariants.{Received}
 use Rattle.fab_base.specs.declared.entries.ErrKind.TheVariants.{Truncated}
@@ -108,3 +109,15 @@ EntryReads = (f : Receive) (source : ℕ) (head : ItemHead) (bytes : List ℕ) �
       olen = head.total - length f.buf;
       buf = Some (paste f.buf 0 bytes);
     }))
+
+-- ---- lengths
+
+abbrev pub IsSized : Item → Type 0
+IsSized item = length item.bytes ≡ item.head.total
+
+-- each item that the peer lets out, a message, a request or a reply
+abbrev pub LetsOutSized : Peer → Type 0
+LetsOutSized a = (t : ℕ) (item : Item) → In item (accepted_for a.state.tx t) → IsSized item
+
+abbrev pub ItemsAreSized : Type 0
+ItemsAreSized = AtEveryMoment (λ from turns states p a. LetsOutSized a)

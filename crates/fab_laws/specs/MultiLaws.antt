@@ -3,17 +3,27 @@
 --     placed n call past      these messages, each with its place in the buffer, the newest first
 --     PlacesFollow            each is told by an entry that has this place, or comes to it
 --     ClosesInTime            the receive takes no more once fewer than its least free bytes are left
-use Rattle.std.specs.Prelude.{◌≡◌, ℕ, ◌+◌, ◌-◌, min, Bool, true, false, nat_lt, ◌==◌, List, [], ◌∷◌, ◌++◌, length, Some, slice_index, ◌⊎◌}
+--     PartsStand              a buffer that an entry hands back has the bytes of each of these messages at its place
+--     ReleasesTell            the entry that releases it says how many of its bytes are given away, and its receive takes no more
+--     ReleasesInTime          once the receive takes no more, the buffer is released, or a message still comes into it
+--     TellsOnce               each of these messages that is whole has one entry
+use Rattle.std.specs.Prelude.{◌≡◌, ℕ, ◌+◌, ◌-◌, min, Bool, true, false, nat_lt, ◌==◌, List, [], ◌∷◌, ◌++◌, length, Option, Some, None, slice_get, slice_index, count_by, ◌&&◌, ◌≤◌, ◌<◌, ◌⊎◌}
 use Rattle.fab_base.specs.declared.items.Item.{Item}
+use Rattle.fab_base.specs.declared.entries.Entry.TheVariants.{Released}
+use Rattle.fab_base.specs.declared.entries.ErrKind.TheVariants.{Canceled}
+use Rattle.fab_base.specs.declared.entries.Taken.{Taken}
+use Rattle.fab_base.specs.declared.entries.Taken.TheVariants.{Failure, Success}
 use Rattle.fab_base.specs.declared.operations.Coming.TheVariants.{Into}
 use Rattle.fab_base.specs.declared.operations.Receive.{Receive}
 use Rattle.fab_base.specs.declared.operations.Written.{Written}
-use Rattle.fab_model.specs.State.{Receiving, coming_from}
+use Rattle.fab_model.specs.Complete.{entry_of}
+use Rattle.fab_model.specs.Peers.{same_ctx}
+use Rattle.fab_model.specs.State.{Receiving, coming_from, under_way}
 use Rattle.fab_model.specs.Views.{seen}
 use Rattle.fab_laws.specs.Members.{In}
 use Rattle.fab_laws.specs.Moments.{AtEveryMoment}
 use Rattle.fab_laws.specs.Programs.{Peer, program}
-use Rattle.fab_laws.specs.Matched.{Came, Cancelled, Event, Got, Lost, Made, Mark, past_of}
+use Rattle.fab_laws.specs.Matched.{Came, Cancelled, Event, Got, Lost, Made, Mark, past_of, tells_message}
 use Rattle.fab_laws.specs.MessageLaws.{IsMessage, asked_of}
 
 -- each message is given as many bytes as it has, as far as there are
@@ -56,3 +66,71 @@ ClosesWhenFull past asked = (f : Receive) (least : ℕ) (later before : List Eve
 
 abbrev pub ClosesInTime : Type 0
 ClosesInTime = AtEveryMoment (λ from turns states p a. ClosesWhenFull (past_of from turns p) (asked_of from turns p))
+
+-- ---- the buffer that comes back
+
+-- the bytes stand in the buffer from the place on, as far as the buffer goes
+abbrev pub StandsAt : List ℕ → ℕ → List ℕ → Type 0
+StandsAt buf place bytes = (k byte : ℕ) → slice_get bytes k ≡ Some byte → place + k < length buf → slice_get buf (place + k) ≡ Some byte
+
+-- the message is whole, and its bytes stand in the buffer at this place
+abbrev pub HasPart : (ℕ → List Item) → List ℕ → List ℕ → Mark → ℕ → Type 0
+HasPart ready tails buf x place = (item : Item) × (slice_get (ready x.source) x.place ≡ Some item) × (x.place < slice_index tails x.source) × StandsAt buf place item.bytes
+
+-- the buffer that the entry hands back: of a receive for many messages that takes no more, or of a receive that is cancelled
+abbrev pub handed_back : Taken → Option (List ℕ)
+handed_back (Success entry) = elim entry [ Released ctx used buf ↦ Some buf | _ ↦ None ]
+handed_back (Failure e) = elim e.kind [ Canceled ↦ e.buf | _ ↦ None ]
+
+-- it has each message that the receive got at its place, and behind them what it had before
+abbrev pub BufferHolds : List Event → (ℕ → List Item) → List ℕ → Receive → List ℕ → Type 0
+BufferHolds past ready tails f buf =
+    (length buf ≡ length f.buf)
+    × ((x : Mark) (place : ℕ) → In (x, place) (placed (length f.buf) f.call past) → HasPart ready tails buf x place)
+    × ((k : ℕ) → used_in (length f.buf) f.call past ≤ k → slice_get buf k ≡ slice_get f.buf k)
+
+abbrev pub HandsBackParts : List Event → List Receive → List Peer → ℕ → Peer → Type 0
+HandsBackParts past asked states p a = (f : Receive) (least : ℕ) (w : Written) (buf : List ℕ) → In f asked → f.least ≡ Some least → In w a.state.cq.written → w.call ≡ Some f.call → handed_back w.entry ≡ Some buf
+    → BufferHolds past (seen program states p).ready a.state.rx.tails f buf
+
+abbrev pub PartsStand : Type 0
+PartsStand = AtEveryMoment (λ from turns states p a. HandsBackParts (past_of from turns p) (asked_of from turns p) states p a)
+
+abbrev pub release_of : ℕ → ℕ → ℕ → List ℕ → Written
+release_of call ctx used buf = record { call = Some call; entry = Success (Released ctx used buf) }
+
+-- it is under the receive's context, tells how many bytes are given away, and the receive got its last message
+abbrev pub ReleaseTells : List Event → List Receive → Peer → Type 0
+ReleaseTells past asked a = (f : Receive) (least ctx used : ℕ) (buf : List ℕ) → In f asked → f.least ≡ Some least → In (release_of f.call ctx used buf) a.state.cq.written
+    → (ctx ≡ f.ctx) × (used ≡ used_in (length f.buf) f.call past) × ((x : Mark) × In (Got f.call x true) past)
+
+abbrev pub ReleasesTell : Type 0
+ReleasesTell = AtEveryMoment (λ from turns states p a. ReleaseTells (past_of from turns p) (asked_of from turns p) a)
+
+-- the receive's buffer is released, or a message that it got is not whole
+abbrev pub IsReleasedOrWaits : Peer → ℕ → Type 0
+IsReleasedOrWaits a call = ((ctx : ℕ) × (used : ℕ) × (buf : List ℕ) × In (release_of call ctx used buf) a.state.cq.written) ⊎ (under_way a.state.rx call ≡ true)
+
+abbrev pub ReleasedInTime : List Event → List Receive → Peer → Type 0
+ReleasedInTime past asked a = (f : Receive) (least : ℕ) (x : Mark) → In f asked → f.least ≡ Some least → In (Got f.call x true) past → IsReleasedOrWaits a f.call
+
+abbrev pub ReleasesInTime : Type 0
+ReleasesInTime = AtEveryMoment (λ from turns states p a. ReleasedInTime (past_of from turns p) (asked_of from turns p) a)
+
+-- ---- one entry for each message
+
+-- the entry of a message at its place; that of a receive for many messages has no bytes
+abbrev pub entry_at : Receive → Mark × ℕ → Written
+entry_at f q = record { call = Some f.call; entry = entry_of f q.1 q.0.source q.0.head [] }
+
+-- the entry tells a message of the receive of this call
+abbrev pub tells_of : ℕ → Written → Bool
+tells_of call w = same_ctx w.call (Some call) && tells_message w.entry
+
+-- whatever entries one counts, there are as many of them as messages that the receive got, but for those that still come
+abbrev pub TellsEach : List Event → List Receive → Peer → Type 0
+TellsEach past asked a = (f : Receive) (least : ℕ) → In f asked → f.least ≡ Some least → (late : List (Mark × ℕ)) × ((q : Mark × ℕ) → In q late → IsComingAt a.state.rx f.call q.0 q.1)
+    × ((test : Written → Bool) → count_by (λ w. tells_of f.call w && test w) a.state.cq.written + count_by (λ q. test (entry_at f q)) late ≡ count_by (λ q. test (entry_at f q)) (placed (length f.buf) f.call past))
+
+abbrev pub TellsOnce : Type 0
+TellsOnce = AtEveryMoment (λ from turns states p a. TellsEach (past_of from turns p) (asked_of from turns p) a)

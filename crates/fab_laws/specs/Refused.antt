@@ -1,11 +1,11 @@
 -- Wrong traces that the laws of streams, claims, receives and buffers for many messages refuse, for any messages, calls and contexts.
-use Rattle.std.specs.Prelude.{◌≡◌, ◌≤◌, ◌<◌, ◌+◌, ℕ, Bool, true, false, List, [], ◌∷◌, length, Some, None, slice_get}
+use Rattle.std.specs.Prelude.{◌≡◌, ◌≤◌, ◌<◌, ◌+◌, ℕ, Bool, true, false, List, [], ◌∷◌, length, Some, None, slice_get, slice_index}
 use Rattle.fab_base.specs.declared.entries.ErrKind.TheVariants.{Canceled}
 use Rattle.fab_base.specs.declared.items.Item.{Item}
 use Rattle.fab_base.specs.declared.operations.Receive.{Receive}
 use Rattle.fab_base.specs.declared.operations.Written.{Written}
 use Rattle.fab_model.specs.Complete.{error}
-use Rattle.fab_model.specs.State.{Receiving, accepted_for, coming_from}
+use Rattle.fab_model.specs.State.{Receiving, accepted_for, coming_from, under_way}
 use Rattle.fab_laws.specs.Members.{In, Never}
 use Rattle.fab_model.specs.Views.{seen}
 use Rattle.fab_laws.specs.Programs.{Peer, at_rest, program}
@@ -14,7 +14,7 @@ use Rattle.fab_laws.specs.StreamLaws.{HasArrived, IsFirst, TakesAll}
 use Rattle.fab_laws.specs.Claimed.{Claimed, Dropped, Slipped, Took}
 use Rattle.fab_laws.specs.ClaimLaws.{FreesClaimed, NoneSlips, StaysAside, WentTo}
 use Rattle.fab_laws.specs.MessageLaws.{IsMessage}
-use Rattle.fab_laws.specs.MultiLaws.{ClosesWhenFull, PlacesTell}
+use Rattle.fab_laws.specs.MultiLaws.{ClosesWhenFull, HandsBackParts, PlacesTell, ReleaseTells, ReleasedInTime, TellsEach, entry_at, handed_back, release_of}
 use Rattle.fab_laws.specs.ReceiveLaws.{AllHaveFates, GotTold, LeavesOnce}
 
 -- ---- streams
@@ -103,3 +103,26 @@ StaysOpen = (f : Receive) (least : ℕ) (x : Mark) (asked : List Receive) → In
 -- a receive takes no more though its first message leaves as many
 abbrev pub ClosesEarly : Type 0
 ClosesEarly = (f : Receive) (least : ℕ) (x : Mark) (asked : List Receive) → In f asked → f.least ≡ Some least → x.head.total + least ≤ length f.buf → ClosesWhenFull (Got f.call x true ∷ []) asked → Never
+
+-- a buffer comes back with the bytes of the second message at the place of the first
+abbrev pub SwappedParts : Type 0
+SwappedParts = (f : Receive) (least : ℕ) (x y : Mark) (k l : Bool) (asked : List Receive) (states : List Peer) (p : ℕ) (a : Peer) (w : Written) (buf : List ℕ) (first second : Item) (byte other : ℕ) → In f asked → f.least ≡ Some least
+    → In w a.state.cq.written → w.call ≡ Some f.call → handed_back w.entry ≡ Some buf → slice_get ((seen program states p).ready x.source) x.place ≡ Some first → slice_get ((seen program states p).ready y.source) y.place ≡ Some second
+    → slice_get first.bytes 0 ≡ Some byte → slice_get second.bytes 0 ≡ Some other → (byte ≡ other → Never) → slice_get buf 0 ≡ slice_get second.bytes 0 → HandsBackParts (Got f.call y l ∷ Got f.call x k ∷ []) asked states p a → Never
+
+-- a buffer comes back while its message is not whole
+abbrev pub ReleasedEarly : Type 0
+ReleasedEarly = (f : Receive) (least : ℕ) (x : Mark) (asked : List Receive) (states : List Peer) (p : ℕ) (a : Peer) (ctx used : ℕ) (buf : List ℕ) → In f asked → f.least ≡ Some least → In (release_of f.call ctx used buf) a.state.cq.written
+    → slice_index a.state.rx.tails x.source ≤ x.place → HandsBackParts (Got f.call x true ∷ []) asked states p a → Never
+
+-- a receive has its last message, all that came is whole, and its buffer does not come back
+abbrev pub KeptBack : Type 0
+KeptBack = (f : Receive) (least : ℕ) (x : Mark) (asked : List Receive) (a : Peer) → In f asked → f.least ≡ Some least → a.state.cq.written ≡ [] → under_way a.state.rx f.call ≡ false → ReleasedInTime (Got f.call x true ∷ []) asked a → Never
+
+-- the entry that releases a buffer says that nothing is given away, and a message stands in it
+abbrev pub WrongUsed : Type 0
+WrongUsed = (f : Receive) (least : ℕ) (x : Mark) (asked : List Receive) (a : Peer) (ctx : ℕ) (buf : List ℕ) → In f asked → f.least ≡ Some least → 1 ≤ x.head.total → 1 ≤ length f.buf → In (release_of f.call ctx 0 buf) a.state.cq.written → ReleaseTells (Got f.call x true ∷ []) asked a → Never
+
+-- one message has two entries
+abbrev pub ToldTwice : Type 0
+ToldTwice = (f : Receive) (least : ℕ) (x : Mark) (k : Bool) (asked : List Receive) (a : Peer) → In f asked → f.least ≡ Some least → a.state.cq.written ≡ entry_at f (x, 0) ∷ entry_at f (x, 0) ∷ [] → TellsEach (Got f.call x k ∷ []) asked a → Never

@@ -16,10 +16,10 @@ use Rattle.fab_laws.specs.CompletionLaws.{AllCompleteOnce, NumberCompletes}
 use Rattle.fab_laws.specs.FenceLaws.{FenceHolds, GoesInOrder, HoldsNothing, ItemIsOfACall}
 use Rattle.fab_laws.specs.ReplyLaws.{AnswersOnce, FindsItsOperation, WaitsAtMatch}
 use Rattle.fab_laws.specs.StreamLaws.{HasArrived, IsFirst, IsPosted, TakesAll, arriving, taking}
-use Rattle.fab_laws.specs.MessageLaws.{EntryTells, ReceiveTells, keeping_asked}
+use Rattle.fab_laws.specs.MessageLaws.{EntryTells, LetsOutSized, ReceiveTells, keeping_asked}
 use Rattle.fab_laws.specs.Claimed.{Handling, handling}
 use Rattle.fab_laws.specs.ClaimLaws.{EntryIsOwn, FreesClaimed, IsPutAway, NoneSlips, StaysAside}
-use Rattle.fab_laws.specs.MultiLaws.{ClosesWhenFull, PlacesTell}
+use Rattle.fab_laws.specs.MultiLaws.{ClosesWhenFull, HandsBackParts, PlacesTell, ReleaseTells, ReleasedInTime, TellsEach}
 use Rattle.fab_laws.specs.ReceiveLaws.{AllHaveFates, GotTold, LeavesOnce, OneTellsIt, TookTold}
 
 abbrev pub script_past : Bound → List (Turn Step) → ℕ → List Event
@@ -116,6 +116,9 @@ EntriesTell = AtEveryScriptMoment (λ bound turns states p a. EntryTells (script
 abbrev pub ReceivesTell : Type 0
 ReceivesTell = AtEveryScriptMoment (λ bound turns states p a. ReceiveTells (script_past bound turns p) (script_asked bound turns p) (peers states) p (peer_of a))
 
+abbrev pub ItemsAreSized : Type 0
+ItemsAreSized = AtEveryScriptMoment (λ bound turns states p a. LetsOutSized (peer_of a))
+
 -- ---- claims and receives
 
 abbrev pub FreedRightly : Type 0
@@ -150,3 +153,15 @@ PlacesFollow = AtEveryScriptMoment (λ bound turns states p a. PlacesTell (scrip
 
 abbrev pub ClosesInTime : Type 0
 ClosesInTime = AtEveryScriptMoment (λ bound turns states p a. ClosesWhenFull (script_past bound turns p) (script_asked bound turns p))
+
+abbrev pub PartsStand : Type 0
+PartsStand = AtEveryScriptMoment (λ bound turns states p a. HandsBackParts (script_past bound turns p) (script_asked bound turns p) (peers states) p (peer_of a))
+
+abbrev pub ReleasesTell : Type 0
+ReleasesTell = AtEveryScriptMoment (λ bound turns states p a. ReleaseTells (script_past bound turns p) (script_asked bound turns p) (peer_of a))
+
+abbrev pub ReleasesInTime : Type 0
+ReleasesInTime = AtEveryScriptMoment (λ bound turns states p a. ReleasedInTime (script_past bound turns p) (script_asked bound turns p) (peer_of a))
+
+abbrev pub TellsOnce : Type 0
+TellsOnce = AtEveryScriptMoment (λ bound turns states p a. TellsEach (script_past bound turns p) (script_asked bound turns p) (peer_of a))

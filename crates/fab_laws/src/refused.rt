@@ -6,6 +6,7 @@ ghost use Rattle.fab_laws.specs.Refused.{
   ClosesEarly,
   FreedTwice,
   GotTwice,
+  KeptBack,
   LeavesGap,
   LeftOver,
   LostInside,
@@ -13,13 +14,17 @@ ghost use Rattle.fab_laws.specs.Refused.{
   OtherContext,
   OtherMessage,
   Overlaps,
+  ReleasedEarly,
   Repeated,
   SlipsAway,
   StaysOpen,
   Swapped,
+  SwappedParts,
+  ToldTwice,
   Unarrived,
   Unclaimed,
   Vanishes,
+  WrongUsed,
 };
 
 /// What the law of streams refuses.
@@ -62,10 +67,17 @@ pub fn refused_receives()
 ///
 /// Two messages at one place (`overlaps`); a first message that does not stand at the first byte (`gap`);
 /// a receive that stays open with fewer than its least free bytes (`open`), or takes no more though it has
-/// as many (`early`).
+/// as many (`early`). A buffer that comes back with a part at the place of another (`swapped`), or before its
+/// message is whole (`unwhole`), or that does not come back though all is whole (`kept`); one that is said to
+/// have nothing given away though a message stands in it (`used`); one message with two entries (`twice`).
 pub fn refused_multi()
     ensures overlaps { Overlaps }
     ensures gap { LeavesGap }
     ensures open { StaysOpen }
     ensures early { ClosesEarly }
+    ensures swapped { SwappedParts }
+    ensures unwhole { ReleasedEarly }
+    ensures kept { KeptBack }
+    ensures used { WrongUsed }
+    ensures twice { ToldTwice }
 {}

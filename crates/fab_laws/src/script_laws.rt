@@ -21,6 +21,7 @@ ghost use Rattle.fab_laws.specs.ScriptLaws.{
   GotIsTold,
   GotRightly,
   ItemsAreOfCalls,
+  ItemsAreSized,
   LostIsPutAway,
   NoneIsLost,
   NonePassedOver,
@@ -29,15 +30,19 @@ ghost use Rattle.fab_laws.specs.ScriptLaws.{
   NumbersComplete,
   OneFinalCompletion,
   OneTells,
+  PartsStand,
   PastTellsState,
   PlacesFollow,
   ReceivesTell,
+  ReleasesInTime,
+  ReleasesTell,
   ServedInOrder,
   StaysClaimed,
   TakenInOrder,
   TakenIsFirst,
   TakenIsPosted,
   TakesTell,
+  TellsOnce,
   TookIsTold,
   WholeHasArrived,
 };
@@ -92,6 +97,7 @@ pub fn script_streams()
 pub fn script_messages()
     ensures entries { EntriesTell }
     ensures receives { ReceivesTell }
+    ensures sized { ItemsAreSized }
 {}
 
 /// A claimed message goes only to a call under the context of its claim.
@@ -111,10 +117,14 @@ pub fn script_receives()
     ensures all { NoneIsLost }
 {}
 
-/// The messages of a buffer for many messages follow one another.
+/// The messages of a buffer for many messages follow one another, and stand in it as it comes back.
 pub fn script_multi()
     ensures places { PlacesFollow }
     ensures closes { ClosesInTime }
+    ensures parts { PartsStand }
+    ensures released { ReleasesTell }
+    ensures back { ReleasesInTime }
+    ensures each { TellsOnce }
 {}
 
 /// What the history words of matching say of the states.

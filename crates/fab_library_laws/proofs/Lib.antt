@@ -1,4 +1,2 @@
 pub mod Library
-pub mod Recording
-pub mod Applying
 pub mod Leaving

@@ -20,7 +20,7 @@ use Rattle.fab_laws.proofs.Scripts.{starts}
 use Rattle.fab_table.specs.declared.fabric.Fabric.{Fabric}
 use Rattle.fab_face.specs.Acts.{MovedBy, posted_to, taken_of, ways_of}
 use Rattle.fab_face.specs.Held.{AreItems, Held}
-use Rattle.fab_face.specs.Ports.{Whole}
+use Rattle.fab_ep.specs.Value.{Whole}
 use Rattle.fab_ring.specs.declared.port.RingPort.{RingPort}
 use Rattle.fab_ring.specs.Ports.{in_of, moves_of, out_of, peers_of}
 use Rattle.fab_ring.proofs.Nobody.{nobody_taken}

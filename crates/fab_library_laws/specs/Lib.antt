@@ -1,4 +1,3 @@
 pub mod Library
-pub mod Recording
-pub mod Talking
 pub mod Closing
+pub mod Exchanging

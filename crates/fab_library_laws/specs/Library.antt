@@ -13,7 +13,7 @@ use Rattle.fab_model.specs.State.{State}
 use Rattle.fab_laws.specs.Programs.{Opening, peer}
 use Rattle.fab_table.specs.declared.fabric.Fabric.{Fabric}
 use Rattle.fab_face.specs.Held.{IsOpen}
-use Rattle.fab_face.specs.Ports.{Whole}
+use Rattle.fab_ep.specs.Value.{Whole}
 use Rattle.fab_ring.specs.declared.port.RingPort.{RingPort}
 use Rattle.fab_ring.specs.Gather.{AreAll, Gathered}
 use Rattle.fab_ring.specs.Ports.{moves_of}

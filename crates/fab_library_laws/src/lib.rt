@@ -4,23 +4,18 @@
 //! `law_doings` of `fab_doings` says so of any endpoints, where the moves of all ports merge, and the frames taken of each peer are
 //! the first of those that it posted. Here these premises are what the contracts of the library say: `endpoints` of
 //! `fab_domain` opens the endpoints, each call says what it did, and `gather` of `fab_ring` joins the ports once the threads
-//! are done. Read `specs/Library.antt`. Each thread is to keep a record of what its calls did: that it may is said by the contracts
-//! of these, as `exchange` shows of an endpoint (`specs/Recording.antt`) and `talk` of an application's (`specs/Talking.antt`).
-//! `close_all` has the law in its contract (`specs/Closing.antt`), and `program` is a whole program that ends by it.
+//! are done. Read `specs/Library.antt`. Each thread's function says how the record goes on that its caller keeps (`fab_records`);
+//! `close_all` has the law of just these records in its contract (`specs/Closing.antt`), and `program` is a whole program that ends by it.
 #![tactic(auto)]
 
 ghost use Rattle.fab_library_laws.specs.Library.{LibraryObeys};
 
-mod application;
 mod closing;
 mod example;
-mod thread;
 
-pub use application::talk;
-pub use closing::close_all;
+pub use closing::{Unclosed, close_all};
 pub use example::program;
 use fab_doings::law_doings;
-pub use thread::exchange;
 
 /// Endpoints that a program opens, uses in threads and closes, whose ports are gathered, obey the laws.
 ///

@@ -10,7 +10,8 @@ use Rattle.fab_base.specs.declared.limits.Size.TheVariants.{Peers, Lane, Pool, T
 use Rattle.fab_av.specs.Addresses.{Addresses}
 use Rattle.fab_link.specs.declared.port.Port.{Ghosts}
 use Rattle.fab_face.specs.Held.{Held}
-use Rattle.fab_face.specs.Ports.{IsFresh, is_granted, lanes_in, opened, seen, within}
+use Rattle.fab_face.specs.Ports.{IsFresh, is_granted, lanes_in, within}
+use Rattle.fab_ep.specs.Value.{opened, seen}
 use Rattle.fab_face.proofs.Repaid.{nothing_due, nothing_pledged, nothing_repaid}
 use Rattle.fab_ep.specs.Tries.{IsTied}
 

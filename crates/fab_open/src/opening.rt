@@ -1,7 +1,8 @@
 //! An endpoint is opened over a port.
 ghost use Rattle.std.specs.Prelude.{◌≡◌, true, IfOk, IfErr};
 ghost use Rattle.fab_base.specs.Offer.{limits_of};
-ghost use Rattle.fab_face.specs.Ports.{IsFresh, is_granted, opened, within};
+ghost use Rattle.fab_face.specs.Ports.{IsFresh, is_granted, within};
+ghost use Rattle.fab_ep.specs.Value.{opened};
 ghost use Rattle.fab_open.specs.Opening.{why_not};
 
 use crate::machine::BinMachine;

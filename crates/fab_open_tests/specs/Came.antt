@@ -17,7 +17,7 @@ use Rattle.fab_wire.specs.Frames.{last_head}
 use Rattle.fab_link.specs.Meaning.{AreFresh}
 use Rattle.fab_link.specs.Plain.{Plain, fresh_lane, in_of, lane_at, out_of}
 use Rattle.fab_face.specs.Held.{Seen}
-use Rattle.fab_face.specs.Ports.{Whole}
+use Rattle.fab_ep.specs.Value.{Whole}
 
 abbrev pub listed : Option (List Frame) → List Frame
 listed None = []

@@ -1,6 +1,6 @@
 -- Peers go from the ports of one table to the plain ports that these are gathered into.
-use Rattle.std.proofs.Common.{◌≡◌, ◌≤◌, ◌<◌, ◌^◌, ℕ, true, List, [], length, map, Some, refl, sym, ap, subst, ◌∙◌, arith}
-use Rattle.std.specs.Prelude.{slice_get, false}
+use Rattle.std.proofs.Common.{◌≡◌, ◌≤◌, ◌<◌, ◌^◌, ℕ, true, List, length, map, Some, refl, sym, ap, subst, ◌∙◌, arith}
+use Rattle.std.specs.Prelude.{slice_get}
 use Rattle.std.specs.Option.{option_map}
 use Rattle.std.proofs.lemmas.List.{length-map}
 use Rattle.std.proofs.lemmas.Simd.{map-map}
@@ -8,7 +8,7 @@ use Rattle.std.proofs.lemmas.Option.{slice_get-map, slice_get_within}
 use Rattle.fab_wire.specs.Merged.{merges}
 use Rattle.fab_link.specs.Plain.{Plain}
 use Rattle.fab_face.specs.Held.{Held, IsOpen, AreItems}
-use Rattle.fab_face.specs.Ports.{Whole}
+use Rattle.fab_ep.specs.Value.{Whole, anew}
 use Rattle.fab_ep.specs.Tries.{IsTied}
 use Rattle.fab_peer.specs.declared.peer.Peer.{Peer}
 use Rattle.fab_peer.specs.declared.peer.seats.Unseated.{Unseated}
@@ -82,14 +82,14 @@ module _ {X W : Type 0} (peer : X → Peer (Whole RingPort)) (held : W → Held)
   past_there : (k : ℕ) (r : X) → slice_get rs k ≡ Some r → slice_get pasts k ≡ Some (past_at (peer r))
   past_there k r has = slice_get-map (λ r. past_at (peer r)) rs k ∙ ap (option_map (λ r. past_at (peer r))) has
 
-  pub tied_here : (log_size : ℕ) → 4 ≤ log_size → Paired (λ q w. IsTied (seen_plain (record { port = q; held = held w; log = []; log_size = log_size; pushed = false }))) plains ws
+  pub tied_here : (log_size : ℕ) → 4 ≤ log_size → Paired (λ q w. IsTied (seen_plain (anew q (held w) log_size))) plains ws
   tied_here log_size most k q w hq hw =
       let (r, hr, is) = parted_at k w hw in
       let opened = open_at k r hr in
       let port : slice_get ports k ≡ Some ((peer r).endpoint.port) = slice_get-map (λ r. (peer r).endpoint.port) rs k ∙ ap (option_map (λ r. (peer r).endpoint.port)) hr in
       let peers = peers_all f ports plains pasts all many told_all gathered k (peer r).endpoint.port port in
       let same : held w ≡ (peer r).endpoint.held = ap (λ (z : Past). z.living.held) is in
-      subst (λ (h : Held). IsTied (seen_plain (record { port = q; held = h; log = []; log_size = log_size; pushed = false }))) (sym same)
+      subst (λ (h : Held). IsTied (seen_plain (anew q h log_size))) (sym same)
       (ties f ports plains pasts all many told_all gathered together k log_size (past_at (peer r)) q (past_there k r hr) hq most (opened.places ∙ peers) opened.out opened.items opened.pledged)
 
   -- ---- seated

@@ -1,7 +1,7 @@
 -- Peers over the plain ports that their own were gathered into: they are joined behind the frames of before.
 use Rattle.std.proofs.Common.{◌≡◌, ◌<◌, ◌≤◌, ◌^◌, ℕ, zero, suc, List, [], ◌∷◌, ◌++◌, length, take, append-nil, Option, Some, None, refl, sym, ap, subst, ◌∙◌, arith}
 use std.Path.{fun_ext}
-use Rattle.std.specs.Prelude.{slice_get, slice_index, false}
+use Rattle.std.specs.Prelude.{slice_get, slice_index}
 use Rattle.std.proofs.lemmas.List.{get_or_past}
 use Rattle.std.proofs.lemmas.Option.{slice_get_within}
 use Rattle.fab_base.specs.declared.frames.Frame.{Frame}
@@ -14,6 +14,7 @@ use Rattle.fab_link.specs.Plain.{Lane, Plain, lane_at, fresh_lane}
 use Rattle.fab_model.specs.Peers.{Actor}
 use Rattle.fab_face.specs.Held.{IsPledged, Held, IsGathered, IsPlaced, IsOut, AreItems, next_item, begun_of}
 use Rattle.fab_ep.specs.Tries.{IsTied}
+use Rattle.fab_ep.specs.Value.{anew}
 use Rattle.fab_peer.specs.Turns.{IsCounted, Living, actor_in}
 use Rattle.fab_peer.specs.Agreed.{Agrees}
 use Rattle.fab_table.specs.declared.fabric.Fabric.{Fabric}
@@ -53,7 +54,7 @@ module _ (f : Fabric) (ports : List RingPort) (plains : List Plain) (pasts : Lis
 
   -- an endpoint may go on with what the peer holds
   pub ties : (k log_size : ℕ) (x : Past) (q : Plain) → slice_get pasts k ≡ Some x → slice_get plains k ≡ Some q → 4 ≤ log_size → length x.living.held.places ≡ length ports → IsOut x.living.held
-      → AreItems x.living.held → IsPledged x.living.held → IsTied (seen_plain (record { port = q; held = x.living.held; log = []; log_size = log_size; pushed = false }))
+      → AreItems x.living.held → IsPledged x.living.held → IsTied (seen_plain (anew q x.living.held log_size))
   ties k log_size x q has here most places out items pledged =
       let p = port_at f ports plains pasts all many told gathered k x has in
       let goes = gathered.goes_on k p.0 q p.1 here in

@@ -8,7 +8,7 @@ use Rattle.std.proofs.lemmas.Simd.{map-map}
 use Rattle.fab_base.specs.declared.script.Conf.{Conf}
 use Rattle.fab_base.specs.declared.script.Line.{Line}
 use Rattle.fab_model.specs.Calls.{upto}
-use Rattle.fab_face.specs.Ports.{Whole}
+use Rattle.fab_ep.specs.Value.{Whole}
 use Rattle.fab_peer.specs.Turns.{Living, Told, actor_in}
 use Rattle.fab_table.specs.declared.fabric.Fabric.{Fabric}
 use Rattle.fab_ring.specs.declared.port.RingPort.{RingPort}

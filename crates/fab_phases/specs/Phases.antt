@@ -19,7 +19,7 @@ use Rattle.fab_model.specs.Calls.{upto}
 use Rattle.fab_link.specs.Meaning.{AreFresh}
 use Rattle.fab_link.specs.Plain.{Plain}
 use Rattle.fab_face.specs.Held.{Held, Seen}
-use Rattle.fab_face.specs.Ports.{Whole}
+use Rattle.fab_ep.specs.Value.{Whole}
 use Rattle.fab_peer.specs.declared.peer.Peer.{Peer}
 use Rattle.fab_peer.specs.declared.peer.seats.Unseated.{Unseated}
 use Rattle.fab_peer.specs.Turns.{Living, living_of, told}

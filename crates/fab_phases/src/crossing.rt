@@ -2,10 +2,11 @@
 //!
 //! An endpoint is closed, and another is opened over the plain port with what the machine holds: one that only gave its
 //! port up could not be let go where memory lacks before it has another.
-ghost use Rattle.std.specs.Prelude.{◌≡◌, ◌<◌, ◌≤◌, ◌^◌, ℕ, [], length, map, false, IfOk, OnOk};
+ghost use Rattle.std.specs.Prelude.{◌≡◌, ◌<◌, ◌≤◌, ◌^◌, ℕ, length, map, false, IfOk, OnOk};
 ghost use Rattle.std.specs.List.{list_any};
 ghost use Rattle.fab_face.specs.Held.{IsOpen};
 ghost use Rattle.fab_ep.specs.Tries.{IsTied};
+ghost use Rattle.fab_ep.specs.Value.{anew};
 ghost use Rattle.fab_peer.specs.Turns.{IsCounted};
 ghost use Rattle.fab_merging.specs.Law.{AreTogether, actors as actors_in, schedules as schedules_in};
 ghost use Rattle.fab_rounds.specs.Opened.{AreGathered};
@@ -79,7 +80,7 @@ fn seat<C: Machinery + Drop>(
     log_size: u32,
 ) -> Result<Peer<Endpoint<PlainPort, C>>, NoMemory>
     requires log { 4 ≤ log_size }
-    requires tied { IsTied (seen_plain (record { port = port; held = C.held parted.machine; log = []; log_size = log_size; pushed = false })) }
+    requires tied { IsTied (seen_plain (anew port (C.held parted.machine) log_size)) }
     ensures seated { IfOk result (Seated (living_with (C.held parted.machine) parted.peer) parted.peer.schedule.items) }
     ensures port { IfOk result (λ p. p.endpoint.port ≡ port) }
 {
@@ -99,7 +100,7 @@ fn seat_all<C: Machinery + Drop>(
 ) -> Result<Vec<Peer<Endpoint<PlainPort, C>>>, NoMemory>
     requires log { 4 ≤ log_size }
     requires count { length parted.items ≡ length ports.items }
-    requires tied { Paired (λ q w. IsTied (seen_plain (record { port = q; held = C.held w.machine; log = []; log_size = log_size; pushed = false }))) ports.items parted.items }
+    requires tied { Paired (λ q w. IsTied (seen_plain (anew q (C.held w.machine) log_size))) ports.items parted.items }
     ensures ports { IfOk result (λ ps. map (λ p. p.endpoint.port) ps.items ≡ ports.items) }
     ensures each { IfOk result (λ ps. Paired (λ w p. Seated (living_with (C.held w.machine) w.peer) w.peer.schedule.items p) parted.items ps.items) }
 {

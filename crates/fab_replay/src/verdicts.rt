@@ -1,11 +1,12 @@
 //! The answer of the checker.
-ghost use Rattle.std.specs.Prelude.{◌≡◌, ◌<◌, length, map, IfOk, IfSome, MatchOption, bytes_eq, string_bytes, true, false};
+ghost use Rattle.std.specs.Prelude.{◌≡◌, ◌<◌, length, map, IfNone, IfOk, IfSome, MatchOption, None, bytes_eq, string_bytes, true, false};
 ghost use Rattle.fab_model.specs.Orders.{replay};
 ghost use Rattle.fab_model.specs.Peers.{fabric};
 ghost use Rattle.fab_model.specs.Report.{report_of};
 ghost use Rattle.fab_model.specs.Views.{rule};
 ghost use Rattle.fab_replay.specs.Meaning.{IsOrderOf, Means};
 ghost use Rattle.fab_replay.specs.Seen.{actors_of, steps_of, left_of, moment_of};
+ghost use Rattle.fab_schedule.specs.Reading.{schedule_told};
 ghost use Rattle.fab_replay.specs.Verdict.{first_left, common, compared, judged, verdict, verdict_line};
 
 use crate::opening::open;
@@ -129,9 +130,10 @@ pub fn check(alloc: Global, bound: &Bound, text: &[u8]) -> Result<Verdict, NoMem
     judge(alloc, bound, &mut peers, text)
 }
 
-/// The peers whose turns the replay of a report is made of, in their order; none where the text tells no schedule.
+/// The peers whose turns the replay of a report is made of, in their order; none exactly where the text tells no schedule.
 pub fn order_of(alloc: Global, bound: &Bound, text: &[u8]) -> Result<Option<Vec<u32>>, NoMemory>
     ensures order { IfOk result (λ order. IfSome order (λ turns. IsOrderOf bound.now text.now turns.items)) }
+    ensures none { IfOk result (λ order. IfNone order (schedule_told bound.now.script.conf.peers text.now ≡ None)) }
 {
     let Some(schedule) = read_schedule(alloc, text, bound.script.conf.peers)? else {
         return Ok(None);

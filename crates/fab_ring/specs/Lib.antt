@@ -3,5 +3,6 @@ pub mod Alone
 pub mod Hands
 pub mod Ports
 pub mod Looks
+pub mod Steps
 pub mod Made
 pub mod Gather

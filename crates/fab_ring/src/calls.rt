@@ -11,7 +11,7 @@ ghost use Rattle.fab_table.specs.declared.kinds.Sent.{Sent};
 ghost use Rattle.fab_table.specs.Views.{frames_of, out_at, in_at, with_out, with_in, saw_full, saw_room, posted_one, saw_empty, saw_frame, freed_one, taken_one};
 ghost use Rattle.fab_table.specs.Rule.{Repays};
 ghost use Rattle.fab_table.specs.Plays.{most};
-ghost use Rattle.fab_ring.specs.Tries.{IsTried, IsSent, tried_out, sent_as};
+ghost use Rattle.fab_ring.specs.Steps.{KeepsOpen, PortLaneFull, PortLooked, PortPoolFull, PortSent, PortTook, lane_out};
 ghost use Rattle.fab_ring.specs.Ports.{part_of, peers_of, room_of, pool_of, clock_of, in_of, SamePort};
 
 use crate::port::RingPort;
@@ -56,17 +56,11 @@ impl RingPort {
         requires filled { length bytes.now ≡ head.len }
         requires repays { Repays (out_at (part_of self.old) dest) (in_at (part_of self.old) dest) head }
         ensures port { SamePort self.old self.new }
-        ensures sent { OnOk result ((r : ℕ) × (slot : Option ℕ) × (ts : List ℕ) × (f : ℕ) × (length (out_at (part_of self.old) dest).posted < r + room_of self.old) × (clock_of self.old < most)
-            × IsSent (out_at (part_of self.old) dest) (pool_of self.old) (length bytes.now) slot ts f
-            × (part_of self.new ≡ with_out (part_of self.old) dest (posted_one (tried_out (saw_room (out_at (part_of self.old) dest) r) ts f true None) (sent_as head bytes.now (clock_of self.old + 1) slot)) ((part_of self.old).moves ++ Post dest (clock_of self.old + 1) ∷ []))) }
-        ensures lane_full { IsErrOf result PostRefused.LaneFull → (r : ℕ) × ((length (out_at (part_of self.old) dest).posted ≡ r + room_of self.old) ⊎ (most ≤ clock_of self.old))
-            × (part_of self.new ≡ with_out (part_of self.old) dest (saw_full (out_at (part_of self.old) dest) r) (part_of self.old).moves) }
-        ensures pool_full { IsErrOf result PostRefused.PoolFull → (r : ℕ) × (ts : List ℕ) × (f : ℕ) × (length (out_at (part_of self.old) dest).posted < r + room_of self.old) × (clock_of self.old < most)
-            × (INLINE_BYTES < length bytes.now) × IsTried (out_at (part_of self.old) dest) (pool_of self.old) ts f
-            × (part_of self.new ≡ with_out (part_of self.old) dest (tried_out (saw_room (out_at (part_of self.old) dest) r) ts f false None) (part_of self.old).moves) }
+        ensures sent { OnOk result (PortSent self.old self.new dest head bytes.now) }
+        ensures lane_full { IsErrOf result PostRefused.LaneFull → PortLaneFull self.old self.new dest }
+        ensures pool_full { IsErrOf result PostRefused.PoolFull → PortPoolFull self.old self.new dest bytes.now }
         ensures memory { result ≢ Err PostRefused.NoMemory }
-        ensures unlooked { length (out_at (part_of self.old) dest).posted < (out_at (part_of self.old) dest).got_seen + room_of self.old → clock_of self.old < most
-            → (out_at (part_of self.new) dest).got_seen ≡ (out_at (part_of self.old) dest).got_seen }
+        ensures unlooked { length (lane_out self.old dest).posted < (lane_out self.old dest).got_seen + room_of self.old → clock_of self.old < most → (lane_out self.new dest).got_seen ≡ (lane_out self.old dest).got_seen }
     {
         let (me, to) = (self.me as u64, dest as u64);
         let put = self.puts[dest as usize];
@@ -121,7 +115,7 @@ impl RingPort {
         ensures port { SamePort self.old self.new }
         ensures part { part_of self.new ≡ part_of self.old }
         ensures turn { self.new.turn ≡ src }
-        ensures kept { (self.new.gots ≡ self.old.gots) × (self.new.opened ≡ self.old.opened) × (self.new.lent ≡ self.old.lent) × (self.new.commands ≡ self.old.commands) × (self.new.buffers ≡ self.old.buffers) }
+        ensures kept { KeepsOpen self.old self.new }
     {
         self.turn = src;
     }
@@ -132,7 +126,7 @@ impl RingPort {
         ensures port { SamePort self.old self.new }
         ensures part { part_of self.new ≡ part_of self.old }
         ensures turn { self.new.turn ≡ src }
-        ensures kept { (self.new.gots ≡ self.old.gots) × (self.new.opened ≡ self.old.opened) × (self.new.lent ≡ self.old.lent) × (self.new.commands ≡ self.old.commands) × (self.new.buffers ≡ self.old.buffers) }
+        ensures kept { KeepsOpen self.old self.new }
     {
         if self.is_only(src) {
             return self.begin_at(src);
@@ -151,7 +145,7 @@ impl RingPort {
         ensures port { SamePort self.old self.new }
         ensures part { part_of self.new ≡ part_of self.old }
         ensures turn { self.new.turn ≡ peer }
-        ensures kept { (self.new.gots ≡ self.old.gots) × (self.new.opened ≡ self.old.opened) × (self.new.lent ≡ self.old.lent) × (self.new.commands ≡ self.old.commands) × (self.new.buffers ≡ self.old.buffers) }
+        ensures kept { KeepsOpen self.old self.new }
     {
         while self.turn < peer {
             self.pass();
@@ -164,7 +158,7 @@ impl RingPort {
         ensures port { SamePort self.old self.new }
         ensures part { part_of self.new ≡ part_of self.old }
         ensures turn { self.new.turn ≡ 0 }
-        ensures kept { (self.new.gots ≡ self.old.gots) × (self.new.opened ≡ self.old.opened) × (self.new.lent ≡ self.old.lent) × (self.new.commands ≡ self.old.commands) × (self.new.buffers ≡ self.old.buffers) }
+        ensures kept { KeepsOpen self.old self.new }
     {
         self.turn = 0;
     }
@@ -175,7 +169,7 @@ impl RingPort {
         ensures port { SamePort self.old self.new }
         ensures part { part_of self.new ≡ part_of self.old }
         ensures turn { self.new.turn ≡ self.old.turn + 1 }
-        ensures kept { (self.new.gots ≡ self.old.gots) × (self.new.opened ≡ self.old.opened) × (self.new.lent ≡ self.old.lent) × (self.new.commands ≡ self.old.commands) × (self.new.buffers ≡ self.old.buffers) }
+        ensures kept { KeepsOpen self.old self.new }
     {
         if !self.opened[self.turn as usize] {
             self.turn += 1;
@@ -212,10 +206,7 @@ impl RingPort {
         requires { src < peers_of self.old }
         ensures port { SamePort self.old self.new }
         ensures again { IsSome (in_at (part_of self.old) src).opened → self.new.seat ≡ self.old.seat }
-        ensures looked { (in_at (part_of self.old) src).opened ≡ None
-            → (part_of self.new ≡ with_in (part_of self.old) src (saw_empty (in_at (part_of self.old) src) (length (in_at (part_of self.old) src).taken)) (part_of self.old).moves)
-            ⊎ ((r : ℕ) × (x : Sent) × MayCome (last_head None (frames_of (in_at (part_of self.old) src).taken)) x.frame
-            × (part_of self.new ≡ with_in (part_of self.old) src (saw_frame (in_at (part_of self.old) src) r x) (part_of self.old).moves)) }
+        ensures looked { (in_at (part_of self.old) src).opened ≡ None → PortLooked self.old self.new src }
     {
         if self.opened[src as usize] {
             return;
@@ -316,8 +307,7 @@ impl RingPort {
     pub(crate) fn take(&mut self, src: u32)
         requires { (src < peers_of self.old) × IsSome (in_at (part_of self.old) src).opened }
         ensures port { SamePort self.old self.new }
-        ensures taken { (x : Sent) → (in_at (part_of self.old) src).opened ≡ Some x
-            → part_of self.new ≡ with_in (part_of self.old) src (taken_one (in_at (part_of self.old) src) x) ((part_of self.old).moves ++ Take src x.number ∷ []) }
+        ensures taken { (x : Sent) → (in_at (part_of self.old) src).opened ≡ Some x → PortTook self.old self.new src x }
     {
         self.free(src);
         self.seek(src as u64);

@@ -10,7 +10,7 @@ ghost use Rattle.fab_table.specs.declared.kinds.Slot.TheVariants.{Cell, Pool};
 ghost use Rattle.fab_table.specs.Views.{frames_of, saw_empty, saw_frame, freed_one};
 ghost use Rattle.fab_table.specs.Plays.{oldest_cell, slot_home, new_in_view};
 ghost use Rattle.fab_table.specs.Seats.{IsOf, IsSame, carried, view_of_seat, sat, part_of, in_of};
-ghost use Rattle.fab_ring.specs.Hands.{Tells};
+ghost use Rattle.fab_ring.specs.Steps.{Frees, LooksEmpty, LooksInline, LooksPooled};
 ghost use Rattle.fab_ring.specs.Alone.{IsAlone};
 ghost use Rattle.fab_ring.specs.declared.receiving.Look.TheVariants.{Empty, Inline, Pooled};
 
@@ -50,14 +50,9 @@ pub(crate) fn open_next(
     requires place { next.now.place ≡ oldest_cell (view_of_seat seat.old) 0 next.now.src }
     requires spare { length buffer.old ≡ FRAME_BYTES }
     ensures seat { IsSame seat.old seat.new }
-    ensures empty { result ≡ Empty → (command.new ≡ command.old) × (buffer.new ≡ buffer.old)
-        × (sat seat.new ≡ (new_in_view (view_of_seat seat.old) 0 next.now.src (saw_empty (in_of seat.old 0 next.now.src) (length (in_of seat.old 0 next.now.src).taken)), carried seat.old)) }
-    ensures inline { result ≡ Inline → (r : ℕ) × (x : Sent) × (c : Command) × (length (in_of seat.old 0 next.now.src).taken < r) × (r < 2 ^ 64) × (x.slot ≡ None)
-        × MayCome (last_head None (frames_of (in_of seat.old 0 next.now.src).taken)) x.frame × Tells x command.new buffer.new × (buffer.new ≡ buffer.old)
-        × (sat seat.new ≡ (new_in_view (view_of_seat seat.old) 0 next.now.src (saw_frame (in_of seat.old 0 next.now.src) r x), (oldest_cell (view_of_seat seat.old) 0 next.now.src, Cell c) ∷ carried seat.old)) }
-    ensures pooled { result ≡ Pooled → (r : ℕ) × (x : Sent) × (c : Command) × (q : ℕ) × (length (in_of seat.old 0 next.now.src).taken < r) × (r < 2 ^ 64) × (x.slot ≡ Some q) × (q < fabric.now.peers * fabric.now.pool)
-        × MayCome (last_head None (frames_of (in_of seat.old 0 next.now.src).taken)) x.frame × Tells x command.new buffer.new × (length buffer.new ≡ FRAME_BYTES)
-        × (sat seat.new ≡ (new_in_view (view_of_seat seat.old) 0 next.now.src (saw_frame (in_of seat.old 0 next.now.src) r x), (carried seat.old ++ (oldest_cell (view_of_seat seat.old) 0 next.now.src, Cell c) ∷ []) ++ (slot_home (view_of_seat seat.old) 0 q, Pool buffer.old) ∷ [])) }
+    ensures empty { result ≡ Empty → (command.new ≡ command.old) × (buffer.new ≡ buffer.old) × LooksEmpty next.now seat.old seat.new }
+    ensures inline { result ≡ Inline → LooksInline next.now seat.old seat.new command.new buffer.old buffer.new }
+    ensures pooled { result ≡ Pooled → LooksPooled fabric.now next.now seat.old seat.new command.new buffer.old buffer.new }
 {
     let put = fabric.look_put(seat, 0, next.me, next.src);
     if put == next.got {
@@ -82,8 +77,7 @@ pub(crate) fn free_pooled(fabric: &Fabric, seat: &mut PeerSeat, me: u64, src: u6
     requires opened { (x : Sent) × ((in_of seat.old 0 src).opened ≡ Some x) × (x.slot ≡ Some slot) × ((in_of seat.old 0 src).lent ≡ true) }
     requires hand { (a : ℕ) × (c : Command) × (b : List ℕ) × (length b ≡ FRAME_BYTES) × (carried seat.old ≡ (a, Cell c) ∷ (slot_home (view_of_seat seat.old) 0 slot, Pool b) ∷ rest (rest (carried seat.old))) }
     ensures seat { IsSame seat.old seat.new }
-    ensures view { (a : ℕ) (c : Command) (z : ℕ × Slot) → carried seat.old ≡ (a, Cell c) ∷ z ∷ rest (rest (carried seat.old))
-        → sat seat.new ≡ (new_in_view (view_of_seat seat.old) 0 src (freed_one (in_of seat.old 0 src)), rest (rest (carried seat.old)) ++ (a, Cell c) ∷ []) }
+    ensures view { (a : ℕ) (c : Command) (z : ℕ × Slot) → carried seat.old ≡ (a, Cell c) ∷ z ∷ rest (rest (carried seat.old)) → Frees seat.old seat.new src a c }
 {
     seat.turn();
     fabric.free_slot(seat, 0, src, slot);

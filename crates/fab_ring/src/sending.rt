@@ -11,7 +11,8 @@ ghost use Rattle.fab_table.specs.Views.{frames_of, with_part, with_out, posted_o
 ghost use Rattle.fab_table.specs.Rule.{Repays, greatest};
 ghost use Rattle.fab_table.specs.Plays.{SawGot, most, next_cell, slot_home, new_out_view, post_view};
 ghost use Rattle.fab_table.specs.Seats.{IsOf, IsSame, IsAt, carried, view_of_seat, sat, part_of, out_of, in_of, named};
-ghost use Rattle.fab_ring.specs.Tries.{IsTried, IsTriedFrom, IsMissed, IsSent, tried_out, sent_as};
+ghost use Rattle.fab_ring.specs.Tries.{sent_as};
+ghost use Rattle.fab_ring.specs.Steps.{FoundNone, FoundNoneAt, FoundSlot, FoundSlotAt, IsCell, SentAny, SentNone, SentNoneOf, SentSlot};
 ghost use Rattle.fab_ring.specs.Alone.{IsAlone};
 
 use fab_base::FrameHead;
@@ -76,15 +77,11 @@ fn claim_between(
     requires below { next.now.dest < fabric.now.peers }
     requires idle { (out_of seat.old 0 next.now.dest).claim ≡ None }
     requires sized { length (out_of seat.old 0 next.now.dest).tried ≡ fabric.now.pool }
-    requires hand { (c : Command) × (carried seat.old ≡ (next.now.place, Cell c) ∷ rest (carried seat.old)) }
+    requires hand { (c : Command) × IsCell next.now c seat.old }
     requires range { (from ≤ to) × (to ≤ fabric.now.pool) }
     ensures seat { IsSame seat.old seat.new }
-    ensures none { result ≡ None → (c : Command) × (ts : List ℕ) × (f : ℕ) × IsTriedFrom (out_of seat.old 0 next.now.dest) from to ts f
-        × (sat seat.new ≡ (new_out_view (view_of_seat seat.old) 0 next.now.dest (tried_out (out_of seat.old 0 next.now.dest) ts f (out_of seat.old 0 next.now.dest).writing None), (next.now.place, Cell c) ∷ rest (carried seat.old)))
-        × ((k : Command) (q : ℕ) → carried seat.old ≡ (next.now.place, Cell k) ∷ rest (carried seat.old) → named c q ≡ named k q) }
-    ensures some { (c : Command) (q : ℕ) → carried seat.old ≡ (next.now.place, Cell c) ∷ rest (carried seat.old) → result ≡ Some q
-        → (b : List ℕ) × (j : ℕ) × (ts : List ℕ) × (f : ℕ) × (length b ≡ FRAME_BYTES) × (from ≤ j) × (j < to) × (q < fabric.now.peers * fabric.now.pool) × IsTriedFrom (out_of seat.old 0 next.now.dest) from j ts f
-        × (sat seat.new ≡ (new_out_view (view_of_seat seat.old) 0 next.now.dest (tried_out (out_of seat.old 0 next.now.dest) ts f (out_of seat.old 0 next.now.dest).writing (Some q)), (slot_home (view_of_seat seat.old) 0 q, Pool b) ∷ (next.now.place, Cell (named c q)) ∷ rest (carried seat.old))) }
+    ensures none { result ≡ None → FoundNone next.now seat.old seat.new from to }
+    ensures some { (c : Command) (q : ℕ) → IsCell next.now c seat.old → result ≡ Some q → FoundSlot fabric.now next.now seat.old seat.new c q from to }
 {
     let pool = fabric.pool();
     let mut j = from;
@@ -106,13 +103,10 @@ fn claim_any(fabric: &Fabric, seat: &mut PeerSeat, next: &Next) -> Option<u64>
     requires below { next.now.dest < fabric.now.peers }
     requires idle { (out_of seat.old 0 next.now.dest).claim ≡ None }
     requires sized { length (out_of seat.old 0 next.now.dest).tried ≡ fabric.now.pool }
-    requires hand { (c : Command) × (carried seat.old ≡ (next.now.place, Cell c) ∷ rest (carried seat.old)) }
+    requires hand { (c : Command) × IsCell next.now c seat.old }
     ensures seat { IsSame seat.old seat.new }
-    ensures none { result ≡ None → (c : Command) × (ts : List ℕ) × (f : ℕ) × IsTried (out_of seat.old 0 next.now.dest) fabric.now.pool ts f
-        × (sat seat.new ≡ (new_out_view (view_of_seat seat.old) 0 next.now.dest (tried_out (out_of seat.old 0 next.now.dest) ts f (out_of seat.old 0 next.now.dest).writing None), (next.now.place, Cell c) ∷ rest (carried seat.old))) }
-    ensures some { (c : Command) (q : ℕ) → carried seat.old ≡ (next.now.place, Cell c) ∷ rest (carried seat.old) → result ≡ Some q
-        → (b : List ℕ) × (j : ℕ) × (ts : List ℕ) × (f : ℕ) × (length b ≡ FRAME_BYTES) × (j < fabric.now.pool) × (q < fabric.now.peers * fabric.now.pool) × IsMissed (out_of seat.old 0 next.now.dest) j ts f
-        × (sat seat.new ≡ (new_out_view (view_of_seat seat.old) 0 next.now.dest (tried_out (out_of seat.old 0 next.now.dest) ts f (out_of seat.old 0 next.now.dest).writing (Some q)), (slot_home (view_of_seat seat.old) 0 q, Pool b) ∷ (next.now.place, Cell (named c q)) ∷ rest (carried seat.old))) }
+    ensures none { result ≡ None → FoundNoneAt fabric.now next.now seat.old seat.new }
+    ensures some { (c : Command) (q : ℕ) → IsCell next.now c seat.old → result ≡ Some q → FoundSlotAt fabric.now next.now seat.old seat.new c q }
 {
     let pool = fabric.pool();
     let first = next.cell.min(pool);
@@ -137,7 +131,7 @@ pub(crate) fn send_inline(
     requires count { (next.now.put ≡ length (out_of seat.old 0 next.now.dest).posted) × (next.now.put < 2 ^ 62) }
     requires number { next.now.number ≡ greatest 0 (part_of seat.old 0).moves + 1 }
     requires place { next.now.place ≡ next_cell (view_of_seat seat.old) 0 next.now.dest }
-    requires hand { (c : Command) × (carried seat.old ≡ (next.now.place, Cell c) ∷ rest (carried seat.old)) }
+    requires hand { (c : Command) × IsCell next.now c seat.old }
     requires continues { Continues (last_head None (frames_of (out_of seat.old 0 next.now.dest).posted)) head }
     requires filled { (length bytes.now ≡ head.len) × (head.len ≤ INLINE_BYTES) }
     requires repays { Repays (out_of seat.old 0 next.now.dest) (in_of seat.old 0 next.now.dest) head }
@@ -164,15 +158,13 @@ pub(crate) fn send_pooled(
     requires count { (next.now.put ≡ length (out_of seat.old 0 next.now.dest).posted) × (next.now.put < 2 ^ 62) }
     requires number { next.now.number ≡ greatest 0 (part_of seat.old 0).moves + 1 }
     requires place { next.now.place ≡ next_cell (view_of_seat seat.old) 0 next.now.dest }
-    requires hand { (c : Command) × (carried seat.old ≡ (next.now.place, Cell c) ∷ rest (carried seat.old)) }
+    requires hand { (c : Command) × IsCell next.now c seat.old }
     requires continues { Continues (last_head None (frames_of (out_of seat.old 0 next.now.dest).posted)) head }
     requires filled { length bytes.now ≡ head.len }
     requires repays { Repays (out_of seat.old 0 next.now.dest) (in_of seat.old 0 next.now.dest) head }
     ensures seat { IsSame seat.old seat.new }
-    ensures full { result ≡ false → (ts : List ℕ) × (f : ℕ) × IsTried (out_of seat.old 0 next.now.dest) fabric.now.pool ts f
-        × (sat seat.new ≡ (new_out_view (view_of_seat seat.old) 0 next.now.dest (tried_out (out_of seat.old 0 next.now.dest) ts f false None), rest (carried seat.old))) }
-    ensures sent { result ≡ true → (q : ℕ) × (j : ℕ) × (ts : List ℕ) × (f : ℕ) × (j < fabric.now.pool) × IsMissed (out_of seat.old 0 next.now.dest) j ts f
-        × (sat seat.new ≡ (with_part (view_of_seat seat.old) 0 (with_out (part_of seat.old 0) next.now.dest (posted_one (tried_out (out_of seat.old 0 next.now.dest) ts f true None) (sent_as head bytes.now next.now.number (Some q))) ((part_of seat.old 0).moves ++ Post next.now.dest next.now.number ∷ [])), rest (carried seat.old))) }
+    ensures full { result ≡ false → SentNone fabric.now next.now seat.old seat.new }
+    ensures sent { result ≡ true → SentSlot fabric.now next.now seat.old seat.new head bytes.now }
 {
     fabric.write(seat, next.place, next.number, head, &[]);
     let Some(slot) = claim_any(fabric, seat, next) else {
@@ -201,15 +193,13 @@ pub(crate) fn send_next(
     requires count { (next.now.put ≡ length (out_of seat.old 0 next.now.dest).posted) × (next.now.put < 2 ^ 62) }
     requires number { next.now.number ≡ greatest 0 (part_of seat.old 0).moves + 1 }
     requires place { next.now.place ≡ next_cell (view_of_seat seat.old) 0 next.now.dest }
-    requires hand { (c : Command) × (carried seat.old ≡ (next.now.place, Cell c) ∷ rest (carried seat.old)) }
+    requires hand { (c : Command) × IsCell next.now c seat.old }
     requires continues { Continues (last_head None (frames_of (out_of seat.old 0 next.now.dest).posted)) head }
     requires filled { length bytes.now ≡ head.len }
     requires repays { Repays (out_of seat.old 0 next.now.dest) (in_of seat.old 0 next.now.dest) head }
     ensures seat { IsSame seat.old seat.new }
-    ensures full { result ≡ false → (ts : List ℕ) × (f : ℕ) × (INLINE_BYTES < length bytes.now) × IsTried (out_of seat.old 0 next.now.dest) fabric.now.pool ts f
-        × (sat seat.new ≡ (new_out_view (view_of_seat seat.old) 0 next.now.dest (tried_out (out_of seat.old 0 next.now.dest) ts f false None), rest (carried seat.old))) }
-    ensures sent { result ≡ true → (slot : Option ℕ) × (ts : List ℕ) × (f : ℕ) × IsSent (out_of seat.old 0 next.now.dest) fabric.now.pool (length bytes.now) slot ts f
-        × (sat seat.new ≡ (with_part (view_of_seat seat.old) 0 (with_out (part_of seat.old 0) next.now.dest (posted_one (tried_out (out_of seat.old 0 next.now.dest) ts f true None) (sent_as head bytes.now next.now.number slot)) ((part_of seat.old 0).moves ++ Post next.now.dest next.now.number ∷ [])), rest (carried seat.old))) }
+    ensures full { result ≡ false → SentNoneOf fabric.now next.now seat.old seat.new bytes.now }
+    ensures sent { result ≡ true → SentAny fabric.now next.now seat.old seat.new head bytes.now }
 {
     if bytes.len() <= INLINE_BYTES {
         send_inline(fabric, seat, next, head, bytes);

@@ -1,7 +1,7 @@
 //! Rounds of all peers.
 ghost use Rattle.std.specs.Prelude.{◌≡◌, ◌≢◌, ℕ, ◌<◌, ◌≤◌, ◌^◌, ◌+◌, true, false, not, length, map, sum_by, List, IfOk, OnOk, OnErr, ◌↔◌};
 ghost use Rattle.std.specs.List.{list_all, list_any};
-ghost use Rattle.fab_face.specs.Ports.{seen};
+ghost use Rattle.fab_ep.specs.Value.{seen};
 ghost use Rattle.fab_model.specs.Peers.{fabric, is_finished};
 ghost use Rattle.fab_model.specs.Orders.{Reached};
 ghost use Rattle.fab_model.specs.Views.{IsPrefixOf, rule};

@@ -1,6 +1,6 @@
 //! A peer with what its last turn told.
 ghost use Rattle.std.specs.Prelude.{◌≡◌, ◌<◌, ◌≤◌, ◌+◌, ◌^◌, ℕ, [], ◌∷◌, ◌++◌, true, false, length, Some, IfOk, OnErr};
-ghost use Rattle.fab_face.specs.Ports.{seen};
+ghost use Rattle.fab_ep.specs.Value.{seen};
 ghost use Rattle.fab_model.specs.Peers.{is_finished};
 ghost use Rattle.fab_peer.specs.Turns.{told, living_of, actor_of, IsCounted, IsStill};
 ghost use Rattle.fab_meeting.specs.Accounts.{answer_at};

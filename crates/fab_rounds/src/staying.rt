@@ -1,7 +1,7 @@
 //! Peers whose threads stay: each takes its turns in one thread, and all meet after each turn.
 ghost use Rattle.std.specs.Prelude.{◌≡◌, ◌+◌, ◌<◌, ◌≤◌, ◌^◌, ℕ, [], length, map};
 ghost use Rattle.std.specs.List.{All};
-ghost use Rattle.fab_face.specs.Ports.{seen};
+ghost use Rattle.fab_ep.specs.Value.{seen};
 ghost use Rattle.fab_peer.specs.Turns.{told};
 ghost use Rattle.fab_meeting.specs.Seats.{members_of, AreNew};
 ghost use Rattle.fab_rounds.specs.Rounds.{Each, between};

@@ -3,13 +3,11 @@
 --     AskFor files words name the words lead to this file
 --     NamesScript words file  the words name this file as a script
 --     IsRefused ..            the words name a file that is refused as a script, or as one of rounds
---     Writes, WritesPart      the report is written, or a part of it
---     Tells, TellsPart        what is granted is written, or a part of it
 --     IsLoaded files name bytes  the file of this name, whole, or no bytes where there is no name
---     Benches, BenchesPart    the line of a workload is written, or a part of it
---     Checks, ChecksPart      what is to be said of a report is written, or a part of it
---     Sums, SumsPart          what the words of a window hold is written, or a part of it
---     Collects, CollectsPart  what each rank makes of rounds is written, or a part of it
+--     IsReport, IsOffer, IsBench, IsVerdict, IsTotals, IsCollected   the text is what the words of one command ask for
+--     IsText ..               the text is what the words ask for, whichever command they are
+--     IsWritten Is before after   some text that `Is` holds of is written
+--     IsBegun Is before after     the first bytes of one are written, and not its last
 --     ComesToRest bound done  some lawful schedule leads the peers to rest
 --     NeverSticks ..          the script is settled, and its answer does all lines
 --     AsksNone words          they ask for no file
@@ -86,118 +84,69 @@ IsRefused files words line why =
     ((file : List ℕ) × NamesScript words file × IsWrong files file line why)
     ⊎ ((file : List ℕ) × (coll_file words ≡ Some file) × BreaksRules files file line why)
 
--- the words name a file that spells a script, and a report of this script with its payload files is written
-pub record Writes (files : Files) (words : List (List ℕ)) (done : Bool) (before after : Option (List ℕ)) : Type 0 where
+-- the words name a file that spells a script, and this is a report of this script with its payload files; whether all lines are done at its end
+pub record IsReport (files : Files) (words : List (List ℕ)) (done : Bool) (text : List ℕ) : Type 0 where
   pub file : List ℕ
   pub command : script_file words ≡ Some file
   pub bound : Bound
   pub read : IsRead files file bound
-  pub text : List ℕ
   pub reports : Reports bound text done
-  pub written : after ≡ append_known before text
 
--- the same, of which only the first bytes are written
-pub record WritesPart (files : Files) (words : List (List ℕ)) (before after : Option (List ℕ)) : Type 0 where
-  pub file : List ℕ
-  pub command : script_file words ≡ Some file
-  pub bound : Bound
-  pub read : IsRead files file bound
-  pub text : List ℕ
-  pub done : Bool
-  pub reports : Reports bound text done
-  pub some : ℕ
-  pub fewer : some < length text
-  pub written : after ≡ append_known before (take some text)
-
--- the words ask what is granted to whoever asks for these capabilities, and the answer is written
-pub record Tells (words : List (List ℕ)) (before after : Option (List ℕ)) : Type 0 where
+-- the words ask what is granted to whoever asks for these capabilities, and this is the answer
+pub record IsOffer (words : List (List ℕ)) (text : List ℕ) : Type 0 where
   pub caps : Caps
   pub command : info_caps words ≡ Some caps
   pub granted : grant Two (Some (asking caps)) ≡ Some (offer caps)
-  pub written : after ≡ append_known before (info_text caps)
-
--- the same, of which only the first bytes are written
-pub record TellsPart (words : List (List ℕ)) (before after : Option (List ℕ)) : Type 0 where
-  pub caps : Caps
-  pub command : info_caps words ≡ Some caps
-  pub granted : grant Two (Some (asking caps)) ≡ Some (offer caps)
-  pub some : ℕ
-  pub fewer : some < length (info_text caps)
-  pub written : after ≡ append_known before (take some (info_text caps))
+  pub text_is : text ≡ info_text caps
 
 -- the file of this name, whole and within the limit, or no bytes where there is no name
 abbrev pub IsLoaded : Files → Option (List ℕ) → List ℕ → Type 0
 IsLoaded files None bytes = bytes ≡ []
 IsLoaded files (Some name) bytes = IsWhole files name bytes
 
--- the words name a workload, its file was loaded, and its line is written, with the first and the last moment of a clock that has given exactly two
-pub record Benches (files : Files) (words : List (List ℕ)) (given first last : ℕ) (before after : Option (List ℕ)) : Type 0 where
+-- the words name a workload, its file was loaded, and this is its line, with the first and the last moment of a clock that has given exactly two
+pub record IsBench (files : Files) (words : List (List ℕ)) (given first last : ℕ) (text : List ℕ) : Type 0 where
   pub workload : Workload
   pub command : workload_of words ≡ Some workload
   pub file : List ℕ
   pub loaded : IsLoaded files (payload_file words) file
   pub moments : given ≡ 2
-  pub written : after ≡ append_known before (bench_line workload first last)
+  pub text_is : text ≡ bench_line workload first last
 
--- the same, of which only the first bytes are written
-pub record BenchesPart (files : Files) (words : List (List ℕ)) (given first last : ℕ) (before after : Option (List ℕ)) : Type 0 where
-  pub workload : Workload
-  pub command : workload_of words ≡ Some workload
-  pub file : List ℕ
-  pub loaded : IsLoaded files (payload_file words) file
-  pub moments : given ≡ 2
-  pub some : ℕ
-  pub fewer : some < length (bench_line workload first last)
-  pub written : after ≡ append_known before (take some (bench_line workload first last))
-
--- the words name a script and a trace, and the line on the trace, as a report of that script with its payload files, is written
-pub record Checks (files : Files) (words : List (List ℕ)) (before after : Option (List ℕ)) : Type 0 where
+-- the words name a script and a trace, and this is the line on the trace, as a report of that script with its payload files
+pub record IsVerdict (files : Files) (words : List (List ℕ)) (text : List ℕ) : Type 0 where
   pub file : List ℕ
   pub trace : List ℕ
   pub command : replay_files words ≡ Some (file, trace)
-  pub line : List ℕ
-  pub checked : IsChecked files file trace line
-  pub written : after ≡ append_known before line
+  pub checked : IsChecked files file trace text
 
--- the same, of which only the first bytes are written
-pub record ChecksPart (files : Files) (words : List (List ℕ)) (before after : Option (List ℕ)) : Type 0 where
-  pub file : List ℕ
-  pub trace : List ℕ
-  pub command : replay_files words ≡ Some (file, trace)
-  pub line : List ℕ
-  pub checked : IsChecked files file trace line
-  pub some : ℕ
-  pub fewer : some < length line
-  pub written : after ≡ append_known before (take some line)
-
--- the words ask peers to add to a window, and what its words hold at last is written: a function of what was asked
-pub record Sums (words : List (List ℕ)) (before after : Option (List ℕ)) : Type 0 where
+-- the words ask peers to add to a window, and this is what its words hold at last: a function of what was asked
+pub record IsTotals (words : List (List ℕ)) (text : List ℕ) : Type 0 where
   pub asked : Asked
   pub command : window_of words ≡ Some asked
-  pub written : after ≡ append_known before (asked_text asked)
+  pub text_is : text ≡ asked_text asked
 
--- the same, of which only the first bytes are written
-pub record SumsPart (words : List (List ℕ)) (before after : Option (List ℕ)) : Type 0 where
-  pub asked : Asked
-  pub command : window_of words ≡ Some asked
-  pub some : ℕ
-  pub fewer : some < length (asked_text asked)
-  pub written : after ≡ append_known before (take some (asked_text asked))
-
--- the words name a file of rounds, and what each rank makes of them is written: a function of the file
-pub record Collects (files : Files) (words : List (List ℕ)) (before after : Option (List ℕ)) : Type 0 where
+-- the words name a file of rounds, and this is what each rank makes of them: a function of the file
+pub record IsCollected (files : Files) (words : List (List ℕ)) (text : List ℕ) : Type 0 where
   pub file : List ℕ
   pub command : coll_file words ≡ Some file
-  pub text : List ℕ
   pub due : IsDue files file text
+
+-- the text that the words ask for, whichever command they are; of a script's report, whether all its lines are done
+abbrev pub IsText : Files → List (List ℕ) → ℕ → ℕ → ℕ → Bool → List ℕ → Type 0
+IsText files words given first last done text =
+    IsReport files words done text ⊎ IsOffer words text ⊎ IsBench files words given first last text ⊎ IsVerdict files words text ⊎ IsTotals words text ⊎ IsCollected files words text
+
+-- such a text is written
+pub record IsWritten (Is : List ℕ → Type 0) (before after : Option (List ℕ)) : Type 0 where
+  pub text : List ℕ
+  pub is : Is text
   pub written : after ≡ append_known before text
 
--- the same, of which only the first bytes are written
-pub record CollectsPart (files : Files) (words : List (List ℕ)) (before after : Option (List ℕ)) : Type 0 where
-  pub file : List ℕ
-  pub command : coll_file words ≡ Some file
+-- of such a text the first bytes are written, and not its last
+pub record IsBegun (Is : List ℕ → Type 0) (before after : Option (List ℕ)) : Type 0 where
   pub text : List ℕ
-  pub due : IsDue files file text
+  pub is : Is text
   pub some : ℕ
   pub fewer : some < length text
   pub written : after ≡ append_known before (take some text)

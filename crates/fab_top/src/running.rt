@@ -1,5 +1,5 @@
 //! The top call: a command from its words to its report.
-ghost use Rattle.std.specs.Prelude.{◌≡◌, ◌≢◌, ◌<◌, ◌≤◌, ◌↔◌, ◌⊎◌, ℕ, List, true, false, None, Some, IfOk, IfErr, OnOk, string_bytes, length, take};
+ghost use Rattle.std.specs.Prelude.{◌≡◌, ◌≢◌, ◌<◌, ◌≤◌, ◌↔◌, ℕ, List, Bool, true, false, None, Some, IfOk, IfErr, OnOk, string_bytes, length, take};
 ghost use Rattle.std.specs.Io.KnownBytes.{append_known};
 ghost use Rattle.std.specs.List.{All};
 ghost use Rattle.fab_finish.specs.Joined.{start};
@@ -13,7 +13,7 @@ ghost use Rattle.fab_model.specs.Negotiation.{grant};
 ghost use Rattle.fab_top.specs.Commands.{IsNoCommand};
 ghost use Rattle.fab_outside.specs.Info.{info_text, offer};
 ghost use Rattle.fab_outside.specs.Loading.{IsOver, IsUnloaded, LoadsOnly};
-ghost use Rattle.fab_top.specs.Runs.{Reports, ComesToRest, AskFor, IsRefused, Writes, WritesPart, Tells, TellsPart, EndsText, IsLoaded, Benches, BenchesPart, EndsBench, Checks, ChecksPart, Sums, SumsPart, Collects, CollectsPart, IsUnhindered, IsAnswered, IsSilent, MayStick, NeverSticks, WritesReport, AsksNone, IsNoWorkload};
+ghost use Rattle.fab_top.specs.Runs.{Reports, ComesToRest, AskFor, IsBegun, IsBench, IsRefused, IsReport, IsText, IsWritten, EndsText, IsLoaded, EndsBench, IsUnhindered, IsAnswered, IsSilent, MayStick, NeverSticks, WritesReport, AsksNone, IsNoWorkload};
 ghost use Rattle.fab_window_run.specs.Commands.{asked_text, IsWithin as IsWindow, window_of};
 ghost use Rattle.fab_workloads.specs.Bench.{bench_line};
 ghost use Rattle.fab_workloads.specs.Commands.{IsWithin, payload_file, workload_of};
@@ -286,9 +286,9 @@ where
     ensures too_long { (name : List ℕ) → result ≡ TooLong name → (payload_file words.now ≡ Some name) × IsOver (D.files depot.old) name }
     ensures read_fault { (name : List ℕ) → result ≡ ReadFault name → (payload_file words.now ≡ Some name)
         × Rose (D.faults depot.old) (D.faults depot.new) × (D.failed_name depot.new ≡ Some name) }
-    ensures done { result ≡ Done → Benches (D.files depot.old) words.now (C.given clock.new) (C.first clock.new) (C.last clock.new) (S.bytes sink.old) (S.bytes sink.new) }
+    ensures done { result ≡ Done → IsWritten (IsBench (D.files depot.old) words.now (C.given clock.new) (C.first clock.new) (C.last clock.new)) (S.bytes sink.old) (S.bytes sink.new) }
     ensures write_fault { result ≡ WriteFault → Rose (S.faults sink.old) (S.faults sink.new)
-        × BenchesPart (D.files depot.old) words.now (C.given clock.new) (C.first clock.new) (C.last clock.new) (S.bytes sink.old) (S.bytes sink.new) }
+        × IsBegun (IsBench (D.files depot.old) words.now (C.given clock.new) (C.first clock.new) (C.last clock.new)) (S.bytes sink.old) (S.bytes sink.new) }
     ensures silent { IsSilent result → S.bytes sink.new ≡ S.bytes sink.old }
     ensures ends { EndsBench result }
     ensures files { D.files depot.new ≡ D.files depot.old }
@@ -368,20 +368,10 @@ where
     ensures too_long { (name : List ℕ) → result ≡ TooLong name → AskFor (D.files depot.old) words.now name × IsOver (D.files depot.old) name }
     ensures read_fault { (name : List ℕ) → result ≡ ReadFault name → AskFor (D.files depot.old) words.now name
         × Rose (D.faults depot.old) (D.faults depot.new) × (D.failed_name depot.new ≡ Some name) }
-    ensures done { result ≡ Done → Writes (D.files depot.old) words.now true (S.bytes sink.old) (S.bytes sink.new)
-        ⊎ Tells words.now (S.bytes sink.old) (S.bytes sink.new)
-        ⊎ Benches (D.files depot.old) words.now (C.given clock.new) (C.first clock.new) (C.last clock.new) (S.bytes sink.old) (S.bytes sink.new)
-        ⊎ Checks (D.files depot.old) words.now (S.bytes sink.old) (S.bytes sink.new)
-        ⊎ Sums words.now (S.bytes sink.old) (S.bytes sink.new)
-        ⊎ Collects (D.files depot.old) words.now (S.bytes sink.old) (S.bytes sink.new) }
-    ensures stuck { result ≡ Stuck → Writes (D.files depot.old) words.now false (S.bytes sink.old) (S.bytes sink.new) }
-    ensures write_fault { result ≡ WriteFault → Rose (S.faults sink.old) (S.faults sink.new)
-        × (WritesPart (D.files depot.old) words.now (S.bytes sink.old) (S.bytes sink.new)
-        ⊎ TellsPart words.now (S.bytes sink.old) (S.bytes sink.new)
-        ⊎ BenchesPart (D.files depot.old) words.now (C.given clock.new) (C.first clock.new) (C.last clock.new) (S.bytes sink.old) (S.bytes sink.new)
-        ⊎ ChecksPart (D.files depot.old) words.now (S.bytes sink.old) (S.bytes sink.new)
-        ⊎ SumsPart words.now (S.bytes sink.old) (S.bytes sink.new)
-        ⊎ CollectsPart (D.files depot.old) words.now (S.bytes sink.old) (S.bytes sink.new)) }
+    ensures done { result ≡ Done → IsWritten (IsText (D.files depot.old) words.now (C.given clock.new) (C.first clock.new) (C.last clock.new) true) (S.bytes sink.old) (S.bytes sink.new) }
+    ensures stuck { result ≡ Stuck → IsWritten (IsReport (D.files depot.old) words.now false) (S.bytes sink.old) (S.bytes sink.new) }
+    ensures write_fault { result ≡ WriteFault → Rose (S.faults sink.old) (S.faults sink.new) }
+    ensures begun { result ≡ WriteFault → (done : Bool) × IsBegun (IsText (D.files depot.old) words.now (C.given clock.new) (C.first clock.new) (C.last clock.new) done) (S.bytes sink.old) (S.bytes sink.new) }
     ensures silent { IsSilent result → S.bytes sink.new ≡ S.bytes sink.old }
     ensures files { D.files depot.new ≡ D.files depot.old }
     ensures complete { IsUnhindered (D.files depot.old) words.now (D.faults depot.old) (D.faults depot.new) (S.faults sink.old) (S.faults sink.new)

@@ -8,9 +8,9 @@ pub use Rattle.fab_base.specs.declared.entries.ErrKind.TheVariants.{Truncated, N
 pub use Rattle.fab_base.specs.declared.entries.Taken.{Taken}
 pub use Rattle.fab_base.specs.declared.entries.Taken.TheVariants.{Success, Failure}
 pub use Rattle.fab_base.specs.declared.entries.PeekHow.TheVariants.{Peek, Claim, Discard}
-pub use Rattle.fab_base.specs.declared.peers.Level.TheVariants.{Inject, Transmit, Delivery}
+pub use Rattle.fab_base.specs.declared.peers.Level.TheVariants.{Inject, Transmit, Delivery, Match}
 pub use Rattle.fab_base.specs.declared.peers.LineResult.TheVariants.{Done, Bytes}
-pub use Rattle.fab_base.specs.declared.entries.Entry.TheVariants.{Received}
+pub use Rattle.fab_base.specs.declared.entries.Entry.TheVariants.{Received, Sent}
 pub use Rattle.fab_base.specs.declared.faults.Fault.{Fault}
 pub use Rattle.fab_base.specs.declared.faults.Fault.TheVariants.{Again, NoMemory, NoData, Invalid, NoKey, Range, MsgSize, NotSupported, NoEntry, Avail}
 pub use Rattle.fab_base.specs.declared.faults.Busy.{Busy}
@@ -27,3 +27,9 @@ pub use Rattle.fab_base.specs.declared.operations.Arrival.{Arrival}
 pub use Rattle.fab_base.specs.declared.operations.Coming.TheVariants.{Into}
 pub use Rattle.fab_face.specs.declared.probing.Probed.{Probed}
 pub use Rattle.fab_table.specs.declared.fabric.Fabric.{Fabric}
+pub use Rattle.fab_app.specs.declared.clock.Moment.{Moment}
+pub use Rattle.fab_app.specs.declared.until.WaitFault.{WaitFault}
+pub use Rattle.fab_app.specs.declared.until.WaitFault.TheVariants.{ClockFailed, NoMemory as WaitLacks}
+pub use Rattle.fab_app.specs.declared.trying_until.NotAccepted.{NotAccepted}
+pub use Rattle.fab_app.specs.declared.trying_until.TryFault.{TryFault}
+pub use Rattle.fab_app.specs.declared.trying_until.TryFault.TheVariants.{Refused as TryRefused, ClockFailed as TryClockFailed}

@@ -8,6 +8,8 @@
 //! Endpoint   send, receive, read, write, poll        fi_msg, fi_tagged, fi_rma, fi_atomic, fi_cq, fi_cntr, fi_mr, fi_av
 //!        |  Group::of
 //! Group      barrier, broadcast, allgather, allreduce        fi_collective
+//!        |  close_all, once the threads are joined
+//! what all of them did, in one order, and each law of it       fi_close
 //! ```
 //!
 //! No call waits for another thread, and nothing moves unless a call is made: `poll` moves frames and gives the next
@@ -18,17 +20,23 @@
 mod hints;
 mod opening;
 
+pub use fab_app::clock::{Clock, ClockFailed, Moment, NoClock, SystemClock};
 pub use fab_app::completions::{Polled, ctx_of};
 pub use fab_app::endpoint::{Calls, Endpoint as EndpointOver};
 pub use fab_app::messages::COMPLETES;
 pub use fab_app::moving::Next;
 pub use fab_app::trying::again;
+pub use fab_app::trying_until::{NotAccepted, TryFault};
+pub use fab_app::until::WaitFault;
 pub use fab_av::{Av, InsertReport};
 pub use fab_base::{
     Access, Api, AtomicOp, Buf, Busy, Cap, Caps, Class, Entry, ErrEntry, ErrKind, Fault, Flags,
     Info, Level, Limits, List, NoMemory, Num, PeekHow, Refused, Size, Text,
 };
-pub use fab_collectives::{COLLECTIVE, Collective, Group, MOST_SHARE, is_reducing, law_offered};
+pub use fab_collectives::{
+    COLLECTIVE, Collective, DOUBLING_FROM, Group, MOST_SHARE, is_reducing, law_folded, law_offered,
+};
 pub use fab_face::probing::Probed;
+pub use fab_library_laws::{Unclosed, close_all};
 pub use hints::Hints;
 pub use opening::{Closed, Domain, Endpoint, close, open};

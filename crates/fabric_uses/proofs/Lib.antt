@@ -5,3 +5,4 @@ pub mod Cancelling
 pub mod Refusing
 pub mod Registering
 pub mod Answering
+pub mod Lateness

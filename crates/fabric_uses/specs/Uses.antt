@@ -5,7 +5,9 @@
 --     IsQuiet e                      no operation is under way
 --     HasRead entry new              the completion that was read last is this
 --     SendsMessage, SendsCopy, SendsToPeer      a message with these bytes is accepted
+--     SendsInTime                    the same after progress, which earlier tries made
 --     is_again why                   a refusal that passes
+--     IsForNow why                   the last of the tries by the clock was refused so
 --     waiting tag e                  the first message under the tag that no receive took
 --     Fills buf got o, IsCut cut buf o          what of the message the buffer took
 --     posted_buf ctx e               the buffer of the first receive of the context that may be cancelled
@@ -24,7 +26,8 @@ use Rattle.fabric.specs.Matching.{takes}
 use Rattle.fabric.specs.Peers.{unread}
 use Rattle.fabric.specs.Receiving.{Posting, cancellable, receive_of, taken_by, want_of}
 use Rattle.fabric.specs.State.{Completions, Region, State, in_use, lookup}
-use Rattle.fabric.specs.Words.{Again, Arrival, Busy, Entry, ErrEntry, Fault, Inject, Msg, Receive, Received, Success, Taken, Transmit, TxFull}
+use Rattle.fabric.specs.Trying.{SendsLate}
+use Rattle.fabric.specs.Words.{Again, Arrival, Busy, Entry, ErrEntry, Fault, Inject, Msg, Receive, Received, Success, Taken, Transmit, TryFault, TryRefused, TxFull}
 use Rattle.fabric_uses.specs.declared.receiving.Cut.{Cut}
 
 -- ---- completions
@@ -73,6 +76,10 @@ SendsCopy fixed dest bytes old new = Sends fixed (message Msg None dest 0 bytes 
 abbrev pub SendsToPeer : {Home : Type 0} → Bool → ℕ → List ℕ → ℕ → Seen Home → Seen Home → Type 0
 SendsToPeer fixed peer bytes ctx old new = (dest : ℕ) × (lookup old.held.state.av dest ≡ Some peer) × SendsMessage fixed dest bytes ctx old new
 
+-- for the peer at the index dest, after progress of earlier tries
+abbrev pub SendsInTime : {Home : Type 0} → Bool → ℕ → List ℕ → ℕ → Seen Home → Seen Home → Type 0
+SendsInTime fixed dest bytes ctx old new = SendsLate fixed (message Msg (Some ctx) dest 0 bytes None Transmit true false) dest old new
+
 -- ---- refusals
 
 abbrev pub is_again : Fault → Bool
@@ -82,6 +89,10 @@ is_again _ = false
 abbrev pub is_tx : Busy → Bool
 is_tx (TxFull n) = true
 is_tx _ = false
+
+-- the last try by the clock was refused, for now
+abbrev pub IsForNow : TryFault → Type 0
+IsForNow why = (busy : Busy) × (why ≡ TryRefused (Again busy))
 
 -- a send has such faults
 abbrev pub may_refuse_send : Fault → Bool

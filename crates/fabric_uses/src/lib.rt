@@ -31,3 +31,4 @@ pub mod ending;
 pub mod receiving;
 pub mod regions;
 pub mod sending;
+pub mod waiting;

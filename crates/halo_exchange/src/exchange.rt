@@ -40,8 +40,7 @@ fn cells_of(alloc: Global, bytes: &[u8]) -> Result<Vec<u64>, AllocError> {
 }
 
 /// Begins the receive of an edge.
-fn expect<R: Wait, E: Calls + Drop>(
-    rt: &R,
+fn expect<E: Calls + Drop>(
     alloc: Global,
     world: &mut World<E>,
     from: u32,
@@ -49,14 +48,13 @@ fn expect<R: Wait, E: Calls + Drop>(
     requests: &mut Vec<Request>,
 ) -> Result<(), Error> {
     let buf = Buf::zeros(alloc, EDGE_BYTES)?;
-    let request = world.irecv(rt, Some(from), Some(tag), buf)?;
+    let request = world.irecv(Some(from), Some(tag), buf)?;
     requests.push(request)?;
     Ok(())
 }
 
 /// Begins the send of an edge.
-fn give<R: Wait, E: Calls + Drop>(
-    rt: &R,
+fn give<E: Calls + Drop>(
     alloc: Global,
     world: &mut World<E>,
     to: u32,
@@ -65,29 +63,27 @@ fn give<R: Wait, E: Calls + Drop>(
     requests: &mut Vec<Request>,
 ) -> Result<(), Error> {
     let buf = bytes_of(alloc, edge)?;
-    let request = world.isend(rt, to, tag, buf)?;
+    let request = world.isend(to, tag, buf)?;
     requests.push(request)?;
     Ok(())
 }
 
 /// Begins the receives of the four edges around a block: to the north of it comes the southern edge of the rank there.
-fn expect_all<R: Wait, E: Calls + Drop>(
-    rt: &R,
+fn expect_all<E: Calls + Drop>(
     alloc: Global,
     world: &mut World<E>,
     requests: &mut Vec<Request>,
 ) -> Result<(), Error> {
     let beside = world.rank() ^ 1;
     let across = world.rank() ^ 2;
-    expect(rt, alloc, world, across, SOUTH, requests)?;
-    expect(rt, alloc, world, across, NORTH, requests)?;
-    expect(rt, alloc, world, beside, EAST, requests)?;
-    expect(rt, alloc, world, beside, WEST, requests)
+    expect(alloc, world, across, SOUTH, requests)?;
+    expect(alloc, world, across, NORTH, requests)?;
+    expect(alloc, world, beside, EAST, requests)?;
+    expect(alloc, world, beside, WEST, requests)
 }
 
 /// Begins the sends of the four edges of a block.
-fn give_all<R: Wait, E: Calls + Drop>(
-    rt: &R,
+fn give_all<E: Calls + Drop>(
     alloc: Global,
     world: &mut World<E>,
     block: &Block,
@@ -97,10 +93,10 @@ fn give_all<R: Wait, E: Calls + Drop>(
     let across = world.rank() ^ 2;
     let west = block.west(alloc)?;
     let east = block.east(alloc)?;
-    give(rt, alloc, world, across, NORTH, block.north(), requests)?;
-    give(rt, alloc, world, across, SOUTH, block.south(), requests)?;
-    give(rt, alloc, world, beside, WEST, &west, requests)?;
-    give(rt, alloc, world, beside, EAST, &east, requests)
+    give(alloc, world, across, NORTH, block.north(), requests)?;
+    give(alloc, world, across, SOUTH, block.south(), requests)?;
+    give(alloc, world, beside, WEST, &west, requests)?;
+    give(alloc, world, beside, EAST, &east, requests)
 }
 
 /// The cells around a block, by the four receives, which were begun first.
@@ -128,8 +124,8 @@ pub fn exchange<R: Wait, E: Calls + Drop>(
     block: &Block,
 ) -> Result<Halo, Error> {
     let mut requests = Vec::new(alloc);
-    expect_all(rt, alloc, world, &mut requests)?;
-    give_all(rt, alloc, world, block, &mut requests)?;
+    expect_all(alloc, world, &mut requests)?;
+    give_all(alloc, world, block, &mut requests)?;
     let completed = world.waitall(rt, requests)?;
     halo_of(alloc, &completed)
 }

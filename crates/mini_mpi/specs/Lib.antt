@@ -1,1 +1,5 @@
 pub mod Errors
+pub mod Going
+pub mod Posting
+pub mod Requests
+pub mod Waiting

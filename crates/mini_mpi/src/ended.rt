@@ -1,8 +1,9 @@
 //! Requests, and how they end.
-ghost use Rattle.std.specs.Prelude.{◌≡◌};
+ghost use Rattle.std.specs.Prelude.{◌≡◌, Ok};
+ghost use Rattle.mini_mpi.specs.Requests.{completed_of, empty, ended_of, failed_of, tag_in, told};
 
-use crate::errors::{Error, Failed};
-use fabric::{Buf, Entry, ErrEntry, Polled};
+use crate::errors::{Failed, kind_error};
+use fabric::{Buf, Entry, ErrEntry, Polled, Probed};
 use mini_mpi_parts::{ANY_SOURCE, ANY_TAG, tag_of};
 
 /// An operation that was begun (MPI_Request), to be waited for in the world that began it.
@@ -37,10 +38,32 @@ const EMPTY: Status = Status {
     len: 0,
 };
 
+/// The tag that a message brought, if it has one.
+fn tag_in(bits: Option<u64>) -> Option<u32>
+    ensures { result ≡ tag_in bits }
+{
+    match bits {
+        Some(bits) => Some(tag_of(bits)),
+        None => None,
+    }
+}
+
+/// The operation of this number is complete.
+fn completes(id: u64, buf: Buf, status: Status) -> Ended
+    ensures { result ≡ record { id = id; end = Ok (record { buf = buf; status = status }) } }
+{
+    Ended {
+        id,
+        end: Ok(Completed { buf, status }),
+    }
+}
+
 /// Which operation ended by this completion.
-fn completed_by(entry: Entry) -> Option<Ended> {
-    let (id, status, buf) = match entry {
-        Entry::Sent { ctx, buf, .. } => (ctx, EMPTY, buf),
+fn completed_by(entry: Entry) -> Option<Ended>
+    ensures { result ≡ completed_of entry }
+{
+    match entry {
+        Entry::Sent { ctx, buf, .. } => Some(completes(ctx, buf, EMPTY)),
         Entry::Received {
             ctx,
             source,
@@ -51,37 +74,53 @@ fn completed_by(entry: Entry) -> Option<Ended> {
         } => {
             let status = Status {
                 source: Some(source),
-                tag: tag.map(|bits| tag_of(bits)),
+                tag: tag_in(tag),
                 len,
             };
-            (ctx, status, buf)
+            Some(completes(ctx, buf, status))
         }
-        _ => return None,
-    };
-    Some(Ended {
-        id,
-        end: Ok(Completed { buf, status }),
-    })
+        _ => None,
+    }
 }
 
 /// Which operation ended by this error.
-fn failed_by(error: ErrEntry) -> Option<Ended> {
+fn failed_by(error: ErrEntry) -> Option<Ended>
+    ensures { result ≡ failed_of error }
+{
     let ErrEntry { ctx, kind, buf, .. } = error;
-    let id = ctx?;
-    Some(Ended {
-        id,
-        end: Err(Failed {
-            why: Error::from(kind),
-            buf,
+    match ctx {
+        Some(id) => Some(Ended {
+            id,
+            end: Err(Failed {
+                why: kind_error(kind),
+                buf,
+            }),
         }),
-    })
+        None => None,
+    }
 }
 
 /// Which operation ended by what was read, if one did.
-pub(crate) fn ended_by(polled: Polled) -> Option<Ended> {
+pub(crate) fn ended_by(polled: Polled) -> Option<Ended>
+    ensures { result ≡ ended_of polled }
+{
     match polled {
         Polled::Entry(entry) => completed_by(entry),
         Polled::Error(error) => failed_by(error),
         Polled::Idle | Polled::More => None,
+    }
+}
+
+/// What is told of a message that came and that no receive took.
+pub(crate) fn told(met: Option<Probed>) -> Option<Status>
+    ensures { result ≡ told met }
+{
+    match met {
+        Some(met) => Some(Status {
+            source: Some(met.source),
+            tag: Some(tag_of(met.tag)),
+            len: met.len,
+        }),
+        None => None,
     }
 }

@@ -1,8 +1,9 @@
 //! Why a call of MPI fails, by MPI's names.
-ghost use Rattle.std.specs.Prelude.{◌≡◌, Some};
-ghost use Rattle.mini_mpi.specs.Errors.{error_of};
+ghost use Rattle.std.specs.Prelude.{◌≡◌, None, Some};
+ghost use Rattle.mini_mpi.specs.Errors.{error_of, fault_error, kind_error};
+ghost use Rattle.mini_mpi.specs.declared.errors.Error.TheVariants.{NoMem};
 
-use fabric::{Buf, ErrKind, Fault, NoMemory, Refused};
+use fabric::{Buf, ErrKind, Fault, NoMemory};
 use mini_mpi_parts::Wrong;
 use std::alloc::{AllocError, AllocFailed};
 
@@ -46,43 +47,54 @@ impl Failed {
     }
 }
 
-impl From<Fault> for Error {
-    fn from(fault: Fault) -> Error {
-        match fault {
-            Fault::NoMemory => Error::NoMem,
-            Fault::MsgSize => Error::Count,
-            Fault::NoEntry => Error::Rank,
-            Fault::Again(_)
-            | Fault::NoData
-            | Fault::Invalid
-            | Fault::NoKey
-            | Fault::Range
-            | Fault::NotSupported
-            | Fault::Avail => Error::Other,
-        }
+/// Why the endpoint refuses a call, by MPI's name.
+pub(crate) fn fault_error(fault: Fault) -> Error
+    ensures { result ≡ fault_error fault }
+{
+    match fault {
+        Fault::NoMemory => Error::NoMem,
+        Fault::MsgSize => Error::Count,
+        Fault::NoEntry => Error::Rank,
+        Fault::Again(_)
+        | Fault::NoData
+        | Fault::Invalid
+        | Fault::NoKey
+        | Fault::Range
+        | Fault::NotSupported
+        | Fault::Avail => Error::Other,
     }
 }
 
-impl From<ErrKind> for Error {
-    fn from(kind: ErrKind) -> Error {
-        match kind {
-            ErrKind::Truncated => Error::Truncate,
-            ErrKind::NoMsg
-            | ErrKind::Canceled
-            | ErrKind::NoKey
-            | ErrKind::Access
-            | ErrKind::Range => Error::Other,
-        }
+impl From<Fault> for Error {
+    ghost from_gives = { λ fault error. error ≡ fault_error fault };
+
+    fn from(fault: Fault) -> Error {
+        fault_error(fault)
+    }
+}
+
+/// Why an operation failed, by MPI's name.
+pub(crate) fn kind_error(kind: ErrKind) -> Error
+    ensures { result ≡ kind_error kind }
+{
+    match kind {
+        ErrKind::Truncated => Error::Truncate,
+        ErrKind::NoMsg | ErrKind::Canceled | ErrKind::NoKey | ErrKind::Access | ErrKind::Range =>
+            Error::Other,
     }
 }
 
 impl From<NoMemory> for Error {
+    ghost from_gives = { λ _ error. error ≡ NoMem };
+
     fn from(_lacks: NoMemory) -> Error {
         Error::NoMem
     }
 }
 
 impl From<AllocError> for Error {
+    ghost from_gives = { λ _ error. error ≡ NoMem };
+
     fn from(_lacks: AllocError) -> Error {
         Error::NoMem
     }
@@ -102,6 +114,8 @@ impl From<Failed> for Error {
 }
 
 impl From<Error> for Failed {
+    ghost from_gives = { λ why failed. failed ≡ record { why = why; buf = None } };
+
     fn from(why: Error) -> Failed {
         Failed { why, buf: None }
     }
@@ -114,13 +128,5 @@ pub(crate) fn error_of(wrong: Wrong) -> Error
     match wrong {
         Wrong::Rank => Error::Rank,
         Wrong::Tag => Error::Tag,
-    }
-}
-
-/// The buffer of a refusal that passes, to be tried again. Any other refusal is a failure, which has the buffer.
-pub(crate) fn later(refused: Refused) -> Result<Buf, Failed> {
-    match refused.why {
-        Fault::Again(_) => Ok(refused.buf),
-        why => Err(Failed::with(Error::from(why), refused.buf)),
     }
 }

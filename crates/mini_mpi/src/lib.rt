@@ -9,13 +9,17 @@
 //! Completed       the buffer, and a status           MPI_Status
 //! ```
 //!
-//! A buffer moves in with a call, and comes back with its request's end. Calls that wait take a handle of the runtime. What a
+//! A buffer moves in with a call, and comes back with its request's end. Calls that wait take a handle of the runtime; the others return
+//! at once, whatever other ranks do. What a
 //! program needs of `fabric` besides, to open the endpoints of its ranks and to make buffers, is handed on.
 #![tactic(auto)]
 
+mod begun;
 mod collectives;
 mod ended;
 mod errors;
+mod moving;
+mod posting;
 mod world;
 
 pub use ended::{Completed, Request, Status};

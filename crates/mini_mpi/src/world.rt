@@ -1,19 +1,27 @@
 //! A rank, and its messages to and from single ranks.
-ghost use Rattle.std.specs.Prelude.{◌≡◌, ◌<◌, ◌^◌, Some};
+ghost use Rattle.std.specs.Prelude.{◌≡◌, true, [], None, Some, IfErr, IfOk, IfSome, OnErr, OnOk};
+ghost use Rattle.fabric.specs.Probes.{probed};
+ghost use Rattle.fabric.specs.Progresses.{is_flushed};
+ghost use Rattle.fabric.specs.Words.{Match, Transmit};
+ghost use Rattle.mini_mpi_parts.specs.Tags.{wanted};
 ghost use Rattle.mini_mpi.specs.Errors.{RefusesWrong};
+ghost use Rattle.mini_mpi.specs.Going.{Goes, PostsAll, rank_of};
+ghost use Rattle.mini_mpi.specs.Posting.{BeginsReceive, BeginsSend};
+ghost use Rattle.mini_mpi.specs.Requests.{EndsAs, at_of, told};
+ghost use Rattle.mini_mpi.specs.Waiting.{Awaits, EndAll, Joins, SendsAndWaits, fresh_of, ids_of};
 
-use crate::ended::{Completed, Ended, Request, Status, ended_by};
-use crate::errors::{Error, Failed, error_of, later};
-use fabric::{Buf, COLLECTIVE, Calls, Collective, EndpointOver, Flags, Group, Level};
-use mini_mpi_parts::{tag_of, take_ended, wanted, wrong_with};
+use crate::begun::{Begun, Receiving, Sending};
+use crate::ended::{Completed, Request, Status, told};
+use crate::errors::{Error, Failed, error_of};
+use crate::moving::{next, progress};
+use crate::posting::{begin_receive, begin_send, post_receives};
+use fabric::{Buf, Calls, Collective, EndpointOver, Group, Level};
+use mini_mpi_parts::{take_ended, wanted, wrong_with};
 use std::alloc::Global;
 use std::sync::Wait;
 
 /// How often other ranks may run before other things are done, while no completion comes.
 const PATIENCE: u32 = 16;
-
-/// How often the completion queue is read besides, before other ranks run.
-const SPINS: u32 = 8;
 
 /// A rank with its endpoint, which it moves whenever a call is made.
 #[derive(Drop)]
@@ -21,19 +29,7 @@ pub struct World<E: Calls + Drop> {
     pub(crate) alloc: Global,
     pub(crate) endpoint: EndpointOver<E>,
     pub(crate) group: Group,
-    /// The number of the next request.
-    next: u64,
-    /// What ended and is not yet waited for.
-    ended: Vec<Ended>,
-}
-
-/// The flags of a send that is complete at this level.
-fn at(level: Level) -> Flags {
-    Flags {
-        completion: true,
-        level,
-        fence: false,
-    }
+    pub(crate) begun: Begun,
 }
 
 impl<E: Calls + Drop> World<E> {
@@ -48,8 +44,7 @@ impl<E: Calls + Drop> World<E> {
             alloc,
             endpoint,
             group,
-            next: 0,
-            ended: Vec::new(alloc),
+            begun: Begun::new(alloc),
         }
     }
 
@@ -67,117 +62,68 @@ impl<E: Calls + Drop> World<E> {
         self.group.peers()
     }
 
-    /// The number of a new request, which is no context of a collective.
-    fn fresh(&mut self) -> u64
-        ensures { result < 2 ^ 63 }
-    {
-        self.next = self.next.wrapping_add(1) % COLLECTIVE;
-        self.next
-    }
-
-    /// Reads the next completion, in at most so many turns with other ranks and one try more, and keeps it for the wait of its
-    /// request.
-    pub(crate) fn progress(&mut self, turns: u32) -> Result<(), Error> {
-        self.ended.reserve(1)?;
-        let polled = self.endpoint.wait_turns(turns, SPINS)?;
-        if let Some(ended) = ended_by(polled) {
-            self.ended.push_reserved(ended);
-        }
-        Ok(())
-    }
-
-    /// The same while a collective is under way, which takes its own completions.
+    /// Makes progress while a collective is under way, which takes its own completions.
     pub(crate) fn progress_for(&mut self, collective: &mut Collective) -> Result<(), Error>
         ensures work { collective.new.work ≡ collective.old.work }
         ensures own { collective.new.own ≡ collective.old.own }
+        ensures ranks { self.new.group ≡ self.old.group }
     {
-        self.ended.reserve(1)?;
-        let polled = self.endpoint.wait_turns(PATIENCE, SPINS)?;
+        let polled = next(&mut self.endpoint, &mut self.begun, PATIENCE)?;
         if let Some(other) = collective.offer(polled) {
-            if let Some(ended) = ended_by(other) {
-                self.ended.push_reserved(ended);
-            }
+            self.begun.keep(other);
         }
         Ok(())
     }
 
-    /// One try at a send. The buffer is back where it is to be tried again.
-    fn try_send(
-        &mut self,
-        dest: u32,
-        tag: u32,
-        buf: Buf,
-        id: u64,
-        level: Level,
-    ) -> Result<Option<Buf>, Failed> {
-        match self
-            .endpoint
-            .tsend(dest, u64::from(tag), buf, None, id, at(level))
-        {
-            Ok(()) => Ok(None),
-            Err(refused) => later(refused).map(Some),
-        }
-    }
-
-    /// One try at a receive. The buffer is back where it is to be tried again.
-    fn try_recv(
-        &mut self,
-        source: Option<u32>,
-        tag: Option<u32>,
-        buf: Buf,
-        id: u64,
-    ) -> Result<Option<Buf>, Failed> {
-        let (bits, ignore) = wanted(tag);
-        match self.endpoint.trecv(source, bits, ignore, buf, id) {
-            Ok(()) => Ok(None),
-            Err(refused) => later(refused).map(Some),
-        }
-    }
-
     /// Begins a send that is complete at this level.
-    fn begin_send<R: Wait>(
-        &mut self,
-        rt: &R,
-        dest: u32,
-        tag: u32,
-        buf: Buf,
-        level: Level,
-    ) -> Result<Request, Failed>
-        ensures { RefusesWrong self.old.group.peers (Some dest) (Some tag) buf result }
+    fn send_at(&mut self, dest: u32, tag: u32, buf: Buf, level: Level) -> Result<Request, Failed>
+        ensures wrong { RefusesWrong self.old.group.peers (Some dest) (Some tag) buf result }
+        ensures ok { IfOk result (λ request. BeginsSend E.fixed (record { dest = dest; tag = tag; buf = buf; id = request.id; level = level }) self.old.begun.sends.items self.new.begun.sends.items (E.seen self.old.endpoint) (E.seen self.new.endpoint)) }
+        ensures back { IfErr result (λ failed. failed.buf ≡ Some buf) }
+        ensures err { OnErr result (self.new.begun.sends.items ≡ self.old.begun.sends.items) }
+        ensures others { (self.new.begun.receives ≡ self.old.begun.receives) × (self.new.begun.ended ≡ self.old.begun.ended) }
+        ensures fresh { IfOk result (λ request. request.id ≡ fresh_of self.old.begun) }
+        ensures ranks { self.new.group ≡ self.old.group }
     {
         if let Some(wrong) = wrong_with(self.size(), Some(dest), Some(tag)) {
             return Err(Failed::with(error_of(wrong), buf));
         }
-        let id = self.fresh();
-        let mut buf = buf;
-        for _ in rt.forever() {
-            match self.try_send(dest, tag, buf, id, level)? {
-                None => return Ok(Request { id }),
-                Some(back) => buf = back,
-            }
-            self.progress(PATIENCE)?;
-        }
-        unreachable!()
+        let id = self.begun.fresh();
+        let send = Sending {
+            dest,
+            tag,
+            buf,
+            id,
+            level,
+        };
+        begin_send(&mut self.endpoint, &mut self.begun, send)?;
+        Ok(Request { id })
     }
 
     /// Begins a send (MPI_Isend). It is complete once the message is on its way, whether or not a receive takes it.
     ///
-    /// A call that is refused for now makes progress and tries again. `Rank`, `Tag` and `Count` hand the buffer back.
-    pub fn isend<R: Wait>(
-        &mut self,
-        rt: &R,
-        dest: u32,
-        tag: u32,
-        buf: Buf,
-    ) -> Result<Request, Failed>
-        ensures { RefusesWrong self.old.group.peers (Some dest) (Some tag) buf result }
+    /// It returns at once, whatever other ranks do. A send that the endpoint refuses for now waits behind all that were begun before
+    /// it, and goes out while calls that wait make progress. `Rank` and `Tag` hand the buffer back, and so do `NoMem` and `Count`, which
+    /// the wait tells of a send that waited.
+    pub fn isend(&mut self, dest: u32, tag: u32, buf: Buf) -> Result<Request, Failed>
+        ensures wrong { RefusesWrong self.old.group.peers (Some dest) (Some tag) buf result }
+        ensures ok { IfOk result (λ request. BeginsSend E.fixed (record { dest = dest; tag = tag; buf = buf; id = request.id; level = Transmit }) self.old.begun.sends.items self.new.begun.sends.items (E.seen self.old.endpoint) (E.seen self.new.endpoint)) }
+        ensures back { IfErr result (λ failed. failed.buf ≡ Some buf) }
+        ensures err { OnErr result (self.new.begun.sends.items ≡ self.old.begun.sends.items) }
+        ensures others { (self.new.begun.receives ≡ self.old.begun.receives) × (self.new.begun.ended ≡ self.old.begun.ended) }
+        ensures fresh { IfOk result (λ request. request.id ≡ fresh_of self.old.begun) }
+        ensures ranks { self.new.group ≡ self.old.group }
     {
-        self.begin_send(rt, dest, tag, buf, Level::Transmit)
+        self.send_at(dest, tag, buf, Level::Transmit)
     }
 
     /// Sends, and waits until a receive took the message (MPI_Ssend). The buffer is given back.
-    pub fn ssend<R: Wait>(&mut self, rt: &R, dest: u32, tag: u32, buf: Buf) -> Result<Buf, Failed> {
-        let request = self.begin_send(rt, dest, tag, buf, Level::Match)?;
+    pub fn ssend<R: Wait>(&mut self, rt: &R, dest: u32, tag: u32, buf: Buf) -> Result<Buf, Failed>
+        ensures wrong { RefusesWrong self.old.group.peers (Some dest) (Some tag) buf result }
+        ensures ok { IfOk result (λ back. SendsAndWaits E.fixed (record { dest = dest; tag = tag; buf = buf; id = fresh_of self.old.begun; level = Match }) (rank_of (E.seen self.old.endpoint) self.old.begun) (rank_of (E.seen self.new.endpoint) self.new.begun) back) }
+        ensures ranks { self.new.group ≡ self.old.group }
+    {
+        let request = self.send_at(dest, tag, buf, Level::Match)?;
         let completed = self.wait(rt, request)?;
         Ok(completed.buf)
     }
@@ -186,75 +132,132 @@ impl<E: Calls + Drop> World<E> {
     /// `ANY_TAG`. Receives take messages in the order in which they were begun, and messages of one source in the order in
     /// which they were sent.
     ///
-    /// A call that is refused for now makes progress and tries again. `Rank`, `Tag` and `Count` hand the buffer back.
-    pub fn irecv<R: Wait>(
+    /// It returns at once, whatever other ranks do. A receive that the endpoint refuses for now waits behind all that were begun before
+    /// it, and is posted while calls that wait make progress. `Rank` and `Tag` hand the buffer back, and so do `NoMem` and `Count`, which
+    /// the wait tells of a receive that waited.
+    pub fn irecv(
         &mut self,
-        rt: &R,
         source: Option<u32>,
         tag: Option<u32>,
         buf: Buf,
     ) -> Result<Request, Failed>
-        ensures { RefusesWrong self.old.group.peers source tag buf result }
+        ensures wrong { RefusesWrong self.old.group.peers source tag buf result }
+        ensures ok { IfOk result (λ request. BeginsReceive (record { source = source; tag = tag; buf = buf; id = request.id }) self.old.begun.receives.items self.new.begun.receives.items (E.seen self.old.endpoint) (E.seen self.new.endpoint)) }
+        ensures back { IfErr result (λ failed. failed.buf ≡ Some buf) }
+        ensures err { OnErr result (self.new.begun.receives.items ≡ self.old.begun.receives.items) }
+        ensures others { (self.new.begun.sends ≡ self.old.begun.sends) × (self.new.begun.ended ≡ self.old.begun.ended) }
+        ensures fresh { IfOk result (λ request. request.id ≡ fresh_of self.old.begun) }
+        ensures ranks { self.new.group ≡ self.old.group }
     {
         if let Some(wrong) = wrong_with(self.size(), source, tag) {
             return Err(Failed::with(error_of(wrong), buf));
         }
-        let id = self.fresh();
-        let mut buf = buf;
-        for _ in rt.forever() {
-            match self.try_recv(source, tag, buf, id)? {
-                None => return Ok(Request { id }),
-                Some(back) => buf = back,
-            }
-            self.progress(PATIENCE)?;
-        }
-        unreachable!()
+        let id = self.begun.fresh();
+        let receive = Receiving {
+            source,
+            tag,
+            buf,
+            id,
+        };
+        begin_receive(&mut self.endpoint, &mut self.begun, receive)?;
+        Ok(Request { id })
     }
 
     /// Waits for the end of a request of this world (MPI_Wait). Its buffer comes back with its status, or with what failed:
     /// `Truncate` where the message was longer than the buffer, which has its first bytes then.
-    pub fn wait<R: Wait>(&mut self, rt: &R, request: Request) -> Result<Completed, Failed> {
+    pub fn wait<R: Wait>(&mut self, rt: &R, request: Request) -> Result<Completed, Failed>
+        ensures ended { IfSome (at_of request.id self.old.begun.ended.items) (λ at. EndsAs self.old.begun.ended.items at result self.new.begun.ended.items × (E.seen self.new.endpoint ≡ E.seen self.old.endpoint)) }
+        ensures awaited { Awaits E.fixed request.id (rank_of (E.seen self.old.endpoint) self.old.begun) (rank_of (E.seen self.new.endpoint) self.new.begun) result }
+        ensures ranks { self.new.group ≡ self.old.group }
+    {
         let Request { id } = request;
+        if let Some(ended) = take_ended(&mut self.begun.ended, id) {
+            return ended.end;
+        }
+        self.await_end(rt, id)
+    }
+
+    /// Makes progress until the request has ended.
+    fn await_end<R: Wait>(&mut self, rt: &R, id: u64) -> Result<Completed, Failed>
+        ensures awaited { Awaits E.fixed id (rank_of (E.seen self.old.endpoint) self.old.begun) (rank_of (E.seen self.new.endpoint) self.new.begun) result }
+        ensures ranks { self.new.group ≡ self.old.group }
+    {
         for _ in rt.forever() {
-            if let Some(ended) = take_ended(&mut self.ended, id) {
-                return ended.end;
+            progress(&mut self.endpoint, &mut self.begun, PATIENCE)?;
+            match take_ended(&mut self.begun.ended, id) {
+                Some(ended) => return ended.end,
+                None => {}
             }
-            self.progress(PATIENCE)?;
         }
         unreachable!()
     }
 
-    /// Waits for the ends of these requests, and gives them in the order of the requests (MPI_Waitall). Where one failed, it
-    /// is the one that is told, and those behind it are given up, with their buffers.
+    /// Waits for the ends of all these requests, and gives them in the order of the requests (MPI_Waitall). Where some failed the first
+    /// of these is the one that is told, once all have ended, and the others are let go.
     pub fn waitall<R: Wait>(
         &mut self,
         rt: &R,
         requests: Vec<Request>,
-    ) -> Result<Vec<Completed>, Failed> {
-        let mut all = Vec::new(self.alloc);
-        for request in requests {
-            let completed = self.wait(rt, request)?;
-            all.push(completed).map_err(|_| Error::NoMem)?;
+    ) -> Result<Vec<Completed>, Failed>
+        ensures all { EndAll E.fixed (ids_of requests.items) (rank_of (E.seen self.old.endpoint) self.old.begun) (rank_of (E.seen self.new.endpoint) self.new.begun) result }
+        ensures ranks { self.new.group ≡ self.old.group }
+    {
+        let mut all = Ok(Vec::new(self.alloc));
+        'requests: for request in requests {
+            let end = self.wait(rt, request);
+            all = joined(all, end);
         }
-        Ok(all)
+        all
+    }
+
+    /// Makes progress until all sends that wait are posted, and all that was sent is on its way.
+    pub(crate) fn settle<R: Wait>(&mut self, rt: &R) -> Result<(), Error>
+        ensures sends { OnOk result (self.new.begun.sends.items ≡ []) }
+        ensures flushed { OnOk result (is_flushed (E.seen self.new.endpoint).held.state ≡ true) }
+        ensures goes { Goes E.fixed (rank_of (E.seen self.old.endpoint) self.old.begun) (rank_of (E.seen self.new.endpoint) self.new.begun) }
+        ensures ranks { self.new.group ≡ self.old.group }
+    {
+        for _ in rt.forever() {
+            if self.begun.sends.is_empty() && self.endpoint.is_flushed() {
+                return Ok(());
+            }
+            progress(&mut self.endpoint, &mut self.begun, 1)?;
+        }
+        unreachable!()
     }
 
     /// The first message that came and that a receive with these would take now, if there is one (MPI_Iprobe). It stays.
-    pub fn iprobe(
-        &mut self,
-        source: Option<u32>,
-        tag: Option<u32>,
-    ) -> Result<Option<Status>, Error> {
+    pub fn iprobe(&mut self, source: Option<u32>, tag: Option<u32>) -> Result<Option<Status>, Error>
+        ensures ok { IfOk result (λ met. met ≡ told (probed (E.seen self.new.endpoint).held.state source (wanted tag).0 (wanted tag).1)) }
+        ensures tried { OnOk result (PostsAll E.fixed (rank_of (E.seen self.old.endpoint) self.old.begun) (rank_of (E.seen self.new.endpoint) self.new.begun)) }
+        ensures ranks { self.new.group ≡ self.old.group }
+    {
         if let Some(wrong) = wrong_with(self.size(), source, tag) {
             return Err(error_of(wrong));
         }
-        self.progress(0)?;
+        progress(&mut self.endpoint, &mut self.begun, 0)?;
+        post_receives(&mut self.endpoint, &mut self.begun)?;
         let (bits, ignore) = wanted(tag);
         let met = self.endpoint.probe(source, bits, ignore)?;
-        Ok(met.map(|met| Status {
-            source: Some(met.source),
-            tag: Some(tag_of(met.tag)),
-            len: met.len,
-        }))
+        Ok(told(met))
+    }
+}
+
+/// All that are complete and one more, or the first failure. What comes behind that is let go.
+fn joined(
+    all: Result<Vec<Completed>, Failed>,
+    end: Result<Completed, Failed>,
+) -> Result<Vec<Completed>, Failed>
+    ensures { Joins all end result }
+{
+    match all {
+        Ok(mut completed) => match end {
+            Ok(one) => match completed.push(one) {
+                Ok(()) => Ok(completed),
+                Err(_) => Err(Failed::from(Error::NoMem)),
+            },
+            Err(failed) => Err(failed),
+        },
+        Err(failed) => Err(failed),
     }
 }

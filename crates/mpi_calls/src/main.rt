@@ -1,6 +1,7 @@
 //! Three ranks try the calls of `mini_mpi` that `halo_exchange` does not, each in a thread of its own.
 #![tactic(auto)]
 
+mod many;
 mod messages;
 mod parts;
 mod together;
@@ -11,7 +12,7 @@ use std::sync::Wait;
 use std::thread::{self, Threads};
 
 /// What is tried, in order.
-const NAMES: [&str; 10] = [
+const NAMES: [&str; 16] = [
     "any source and any tag",
     "unexpected messages, in order",
     "a message to oneself",
@@ -22,6 +23,12 @@ const NAMES: [&str; 10] = [
     "an allreduce in pieces",
     "an allgather",
     "arguments out of range",
+    "1,000 receives before 1,000 sends",
+    "1,000 sends before 1,000 receives",
+    "a receive behind 300 that come later",
+    "a probe behind receives that wait",
+    "a failure among several requests",
+    "each rank late at a barrier",
 ];
 
 /// Tries all, as the rank of this endpoint.
@@ -34,6 +41,7 @@ fn run<R: Wait, E: Calls + Drop>(
     let mut passed = Vec::new(alloc);
     messages::try_all(rt, alloc, &mut world, &mut passed)?;
     together::try_all(rt, alloc, &mut world, &mut passed)?;
+    many::try_all(rt, alloc, &mut world, &mut passed)?;
     world.finalize(rt)?;
     Ok(passed)
 }

@@ -13,7 +13,7 @@ pub fn send<R: Wait, E: Calls + Drop>(
     bytes: &[u8],
 ) -> Result<(), Error> {
     let buf = Buf::copy(alloc, bytes)?;
-    let request = world.isend(rt, dest, tag, buf)?;
+    let request = world.isend(dest, tag, buf)?;
     world.wait(rt, request)?;
     Ok(())
 }
@@ -33,7 +33,7 @@ pub fn receive<R: Wait, E: Calls + Drop>(
             buf: None,
         });
     };
-    let request = world.irecv(rt, source, tag, buf)?;
+    let request = world.irecv(source, tag, buf)?;
     world.wait(rt, request)
 }
 

@@ -65,15 +65,11 @@ fn is_refused(answer: &Result<Request, Failed>, wanted: Error) -> bool {
 }
 
 /// There is no rank 3, and no tag above the greatest one.
-fn wrong_messages<R: Wait, E: Calls + Drop>(
-    rt: &R,
-    alloc: Global,
-    world: &mut World<E>,
-) -> Result<bool, Error> {
+fn wrong_messages<E: Calls + Drop>(alloc: Global, world: &mut World<E>) -> Result<bool, Error> {
     let first = Buf::copy(alloc, b"back")?;
-    let rank = world.isend(rt, 3, 0, first);
+    let rank = world.isend(3, 0, first);
     let second = Buf::copy(alloc, b"back")?;
-    let tag = world.irecv(rt, None, Some(TAG_UB + 1), second);
+    let tag = world.irecv(None, Some(TAG_UB + 1), second);
     Ok(is_refused(&rank, Error::Rank) && is_refused(&tag, Error::Tag))
 }
 
@@ -83,7 +79,7 @@ fn wrong_arguments<R: Wait, E: Calls + Drop>(
     alloc: Global,
     world: &mut World<E>,
 ) -> Result<bool, Error> {
-    let messages = wrong_messages(rt, alloc, world)?;
+    let messages = wrong_messages(alloc, world)?;
     let mut bytes = [0u8; 8];
     let root = world.bcast(rt, 3, &mut bytes) == Err(Error::Root);
     let op = world.allreduce(rt, AtomicOp::Cswap, Num::U64, &mut bytes) == Err(Error::Op);

@@ -1,6 +1,6 @@
 //! Times parts of the library by themselves; the first word says which.
 //!
-//! `part_bench match` prints a line for 1, 64, 1,024 and 4,096 receives posted with tags of their own, and as many
+//! `part_bench match` prints a line for each power of two up to 4,096: so many receives posted with tags of their own, and as many
 //! unexpected messages: the time in which one is matched, taken out and put in again, as the best of many short runs.
 //!
 //! `part_bench transmit` prints a line for 1, 64 and 1,024 operations under way, the others being reads that await their

@@ -7,7 +7,7 @@ use std::io;
 use std::time::Clock;
 
 /// How many receives are posted, or messages are unexpected.
-const COUNTS: [u32; 4] = [1, 64, 1024, 4096];
+const COUNTS: [u32; 13] = [1, 2, 4, 8, 16, 32, 64, 128, 256, 512, 1024, 2048, 4096];
 
 /// Prints the times for so many, in bins and in lists, in nanoseconds.
 fn print_line<R: Print + Clock>(rt: &R, alloc: Global, count: u32) -> io::Result<()> {

@@ -2,7 +2,7 @@
 use Rattle.std.proofs.Common.{◌≡◌, ℕ, zero, suc, true, false, List, [], ◌∷◌, slice_get, Some, None, refl, subst, arith, eqb, ne_eqb}
 use Rattle.std.specs.Prelude.{codes}
 use mathlib.Core.List.{IsPrefix}
-use Rattle.fab_base.specs.declared.entries.Entry.TheVariants.{Received}
+use Rattle.fab_base.specs.declared.entries.Entry.TheVariants.{Received, Sent}
 use Rattle.fab_base.specs.declared.entries.Taken.TheVariants.{Success}
 use Rattle.fab_base.specs.declared.frames.Frame.{Frame}
 use Rattle.fab_base.specs.declared.items.Item.{Item}
@@ -12,6 +12,7 @@ use Rattle.fab_base.specs.declared.items.Ack.TheVariants.{Nothing}
 use Rattle.fab_base.specs.declared.items.Outcome.TheVariants.{Done}
 use Rattle.fab_base.specs.declared.operations.Written.{Written}
 use Rattle.fab_base.specs.declared.peers.Level.{Level}
+use Rattle.fab_base.specs.declared.peers.LineResult.TheVariants.{Done as Accepted}
 use Rattle.fab_base.specs.declared.script.Bound.{Bound}
 use Rattle.fab_wire.specs.declared.moves.Move.TheVariants.{Post as Out, Take as In}
 use Rattle.fab_wire.specs.Frames.{frame, IsSound}
@@ -72,7 +73,7 @@ abbrev s4 : State
 s4 = reading s3
 
 abbrev receives : List Doing
-receives = Did (Calls receive) ∷ Took 1 one ∷ Had ∷ []
+receives = Did (Calls receive Accepted) ∷ Took 1 one ∷ Had (Success (Received 1 1 (Some 5) None 1 (120 ∷ 9 ∷ 9 ∷ []))) ∷ []
 
 receiver : DoesBy (resting start []) receives (resting s4 (s1 ∷ s2 ∷ s3 ∷ s4 ∷ []))
 unfolding machine
@@ -82,7 +83,7 @@ receiver = (
   (
     resting s3 (s1 ∷ s2 ∷ s3 ∷ []),
     ((omega arith, omega arith, (refl, refl, refl), (refl, refl, refl)), refl),
-    (resting s4 (s1 ∷ s2 ∷ s3 ∷ s4 ∷ []), ((_, refl, refl, refl), (refl, refl)), refl),
+    (resting s4 (s1 ∷ s2 ∷ s3 ∷ s4 ∷ []), ((_, refl, refl, refl, refl), (refl, refl)), refl),
   ),
 )
 
@@ -104,7 +105,7 @@ abbrev t3 : State
 t3 = reading t2
 
 abbrev sends : List Doing
-sends = Did (Calls send) ∷ Posted 0 one ∷ Had ∷ []
+sends = Did (Calls send Accepted) ∷ Posted 0 one ∷ Had (Success (Sent 3 true (codes "x"))) ∷ []
 
 sender : DoesBy (resting start []) sends (resting t3 (t1 ∷ t2 ∷ t3 ∷ []))
 unfolding machine
@@ -114,7 +115,7 @@ sender = (
   (
     resting t2 (t1 ∷ t2 ∷ []),
     ((omega arith, omega arith, refl, (refl, refl)), refl),
-    (resting t3 (t1 ∷ t2 ∷ t3 ∷ []), ((_, refl, refl, refl), (refl, refl)), refl),
+    (resting t3 (t1 ∷ t2 ∷ t3 ∷ []), ((_, refl, refl, refl, refl), (refl, refl)), refl),
   ),
 )
 

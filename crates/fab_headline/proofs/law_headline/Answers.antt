@@ -27,11 +27,16 @@ returns c = record { headline = headline }
       passed = c.script_l1.ensures.passed bound turns states leads p a here;
       entries = c.script_messages.ensures.entries bound turns states leads p a here;
       receives = c.script_messages.ensures.receives bound turns states leads p a here;
+      sized = c.script_messages.ensures.sized bound turns states leads p a here;
       told = c.script_receives.ensures.got bound turns states leads p a here;
       took = c.script_receives.ensures.took bound turns states leads p a here;
       only = c.script_receives.ensures.only bound turns states leads p a here;
       places = c.script_multi.ensures.places bound turns states leads p a here;
       closes = c.script_multi.ensures.closes bound turns states leads p a here;
+      parts = c.script_multi.ensures.parts bound turns states leads p a here;
+      released = c.script_multi.ensures.released bound turns states leads p a here;
+      back = c.script_multi.ensures.back bound turns states leads p a here;
+      each = c.script_multi.ensures.each bound turns states leads p a here;
       freed = (c.script_claims.ensures.freed bound turns states leads p a here).0;
       slips = (c.script_claims.ensures.freed bound turns states leads p a here).1;
       aside = c.script_claims.ensures.stays bound turns states leads p a here;

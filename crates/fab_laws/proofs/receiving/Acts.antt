@@ -16,8 +16,7 @@ use Rattle.fab_base.specs.declared.entries.Entry.TheVariants.{Fetched, Released,
 use Rattle.fab_base.specs.declared.entries.ErrKind.TheVariants.{NoMsg, Canceled}
 use Rattle.fab_base.specs.declared.entries.PeekHow.{PeekHow}
 use Rattle.fab_base.specs.declared.entries.PeekHow.TheVariants.{Peek, Claim, Discard}
-use Rattle.fab_base.specs.declared.entries.Taken.{Taken}
-use Rattle.fab_base.specs.declared.entries.Taken.TheVariants.{Failure, Success}
+use Rattle.fab_base.specs.declared.entries.Taken.TheVariants.{Success}
 use Rattle.fab_base.specs.declared.faults.Fault.{Fault}
 use Rattle.fab_base.specs.declared.operations.Arrival.{Arrival}
 use Rattle.fab_base.specs.declared.operations.Coming.{Coming}
@@ -38,6 +37,7 @@ use Rattle.fab_model.specs.Peers.{reading}
 use Rattle.fab_model.specs.Views.{View}
 use Rattle.fab_laws.specs.Programs.{Counts, Deed, Draw, Head, Makes, Peer, Tail, program, with_counters}
 use Rattle.fab_laws.specs.Matched.{Mark, mark_of, tells_message}
+use Rattle.fab_laws.specs.MultiLaws.{handed_back}
 use Rattle.fab_laws.proofs.Lists.{Each, always, each_append}
 use Rattle.fab_laws.proofs.Stepping.{StepIs, step_is}
 use Rattle.fab_laws.proofs.matching.Quiet.{book_quiet}
@@ -46,13 +46,9 @@ use Rattle.fab_laws.proofs.matching.Watch as Watch
 
 -- ---- words
 
-abbrev pub is_release : Taken → Bool
-is_release (Success entry) = elim entry [ Released ctx used buf ↦ true | _ ↦ false ]
-is_release (Failure e) = false
-
--- the entry tells no message and hands no buffer for many messages back
+-- the entry tells no message and hands no buffer back
 abbrev pub Plain : Written → Type 0
-Plain w = (tells_message w.entry ≡ false) × (is_release w.entry ≡ false)
+Plain w = (tells_message w.entry ≡ false) × (handed_back w.entry ≡ None)
 
 abbrev pub given : Receive → ℕ → Arrival → Receiving → Receiving
 given r place a rx = elim a.bytes [ None ↦ goes a.source (Into r place) rx | Some bytes ↦ filling r place bytes rx ]

@@ -47,7 +47,7 @@ other_freed : (o : Option Receive) → Each Other (freed o)
 other_freed None = always
 other_freed (Some m) = (refl, always)
 
-keep_no_into : (c : Option Coming) → is_keep c ≡ true → is_into c ≡ false
+pub keep_no_into : (c : Option Coming) → is_keep c ≡ true → is_into c ≡ false
 keep_no_into None e = absurd (cc (e))
 keep_no_into (Some Keep) e = refl
 keep_no_into (Some (Into r place)) e = absurd (cc (e))
@@ -127,11 +127,11 @@ module _ (n : ℕ) (v : View Item) (past : List Event) (h : List Handling) (m rs
   -- ---- what is not whole
 
   -- where as many are whole as arrived, nothing comes
-  level_none : (source : ℕ) → slice_index a.state.rx.heads source ≡ slice_index a.state.rx.tails source → coming_from a.state.rx source ≡ None
+  pub level_none : (source : ℕ) → slice_index a.state.rx.heads source ≡ slice_index a.state.rx.tails source → coming_from a.state.rx source ≡ None
   level_none source level = elim (owed.lanes source) [ inl idle ↦ idle.1 | inr busy ↦ absurd (let up = busy.0 in omega (arith, up, level)) ]
 
   -- what waits here and is not whole is kept
-  kept_there : (y : Arrival) → In y (held a.state.rx) → y.bytes ≡ None → is_keep (coming_from a.state.rx y.source) ≡ true
+  pub kept_there : (y : Arrival) → In y (held a.state.rx) → y.bytes ≡ None → is_keep (coming_from a.state.rx y.source) ≡ true
   kept_there y i none = go (owed.lanes y.source)
     where
       passes : unwhole_of y.source y ≡ true

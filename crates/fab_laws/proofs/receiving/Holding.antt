@@ -1,9 +1,10 @@
 -- Wherever turns lead, what was claimed is taken or dropped once, what a receive got is told or on its way, and no message is lost.
-use Rattle.std.proofs.Common.{◌≡◌, ◌≤◌, ◌<◌, ◌+◌, ℕ, zero, suc, Bool, true, false, not, ◌||◌, List, [], ◌∷◌, ◌++◌, length, map, set, get_or, slice_get, Option, Some, None, ◌⊎◌, inl, inr, refl, sym, ◌∙◌, ap, subst, arith}
+use Rattle.std.proofs.Common.{◌≡◌, ◌≤◌, ◌<◌, ◌+◌, ℕ, Bool, true, false, not, ◌||◌, List, [], ◌∷◌, ◌++◌, length, map, set, slice_get, Option, Some, None, ◌⊎◌, inl, inr, refl, sym, ◌∙◌, ap, subst, arith}
 use Rattle.std.specs.Prelude.{count_by, is_none, nat_lt, slice_index}
 use Rattle.std.specs.List.{list_any}
 use Rattle.std.proofs.lemmas.Bool.{and_from, eq-eqb, lt-ltb}
 use Rattle.fab_base.specs.declared.items.Item.{Item}
+use Rattle.fab_base.specs.declared.items.ItemHead.{ItemHead}
 use Rattle.fab_base.specs.declared.operations.Arrival.{Arrival}
 use Rattle.fab_base.specs.declared.operations.Coming.{Coming}
 use Rattle.fab_base.specs.declared.operations.Coming.TheVariants.{Into, Keep, Throw, Request, Answer}
@@ -12,27 +13,26 @@ use Rattle.fab_base.specs.declared.operations.Written.{Written}
 use Rattle.fab_base.specs.declared.script.Conf.{Conf}
 use Rattle.fab_model.specs.Matching.{is_message}
 use Rattle.fab_model.specs.State.{State, Receiving, coming_from, under_way}
-use Rattle.fab_model.specs.State as model
 use Rattle.fab_model.specs.Complete.{entry_of, is_made_by}
 use Rattle.fab_model.specs.Receiving.{Posting, receive_of, taking}
 use Rattle.fab_model.specs.Calls.{Call, Post, TakeClaimed}
 use Rattle.fab_model.specs.Orders.{Turn}
 use Rattle.fab_model.specs.Peers.{part_of, same_ctx}
 use Rattle.fab_model.specs.Views.{More, View, seen}
-use Rattle.fab_model.proofs.Parts.{more_item}
+use Rattle.fab_model.proofs.Parts.{more_item, some_same}
 use Rattle.fab_model.proofs.Views as views
 use Rattle.fab_laws.specs.Members.{In, Never}
 use Rattle.fab_laws.specs.Programs.{Counts, Deed, Draw, Head, Makes, Opening, Peer, Tail, program, starting}
 use Rattle.fab_laws.specs.Moments.{LeadTo, remembered}
 use Rattle.fab_laws.specs.Completed.{has_ended, is_final, number, send_stands}
 use Rattle.fab_laws.specs.Matched.{Came, Cancelled, Event, Got, Lost, Made, Mark, Wish, arrives, came, cancel_of, cancels, fate, goes_into, gone, happens, is_posted, left, made, makes, mark_of, new_entry, noticed, noting, parted, past_of, taken_now, wish_of}
-use Rattle.fab_laws.specs.MessageLaws.{IsMessage, asked_by, asked_of, asks_for, keeping_asked}
-use Rattle.fab_laws.specs.MultiLaws.{ClosesInTime, PlacesFollow}
+use Rattle.fab_laws.specs.MessageLaws.{IsMessage, IsOf, IsSized, asked_by, asked_of, asks_for, keeping_asked}
+use Rattle.fab_laws.specs.MultiLaws.{ClosesInTime, PartsStand, PlacesFollow, ReleasesInTime, ReleasesTell, TellsOnce, release_of}
 use Rattle.fab_laws.specs.Claimed.{Claimed, Discarded, Dropped, Handling, Slipped, Took, aside_of, call_in, freed, handled_of, handles, handling, lost, put_away}
 use Rattle.fab_laws.specs.ClaimLaws.{FreedRightly, LostIsPutAway, StaysClaimed, TakesTell}
 use Rattle.fab_laws.specs.ReceiveLaws.{Aside, GoesOnce, GotIsTold, IsComing, IsToldOf, NoneIsLost, OneTells, Received, TookIsTold, Waits, WasDiscarded, WasDropped, WasTaken}
 use Rattle.fab_laws.proofs.Counts.{counted, in_many, many, same_one}
-use Rattle.fab_laws.proofs.Lists.{always, any_in, each_in, never}
+use Rattle.fab_laws.proofs.Lists.{always, each_in, never}
 use Rattle.fab_laws.proofs.Levels.{all_the_same}
 use Rattle.fab_laws.proofs.Memory.{remembered_keeps}
 use Rattle.fab_laws.proofs.Programs.{Own, program_patient}
@@ -44,15 +44,19 @@ use Rattle.fab_laws.proofs.matching.Moves.{Keeps}
 use Rattle.fab_laws.proofs.matching.Orders.{fresh_keeps}
 use Rattle.fab_laws.proofs.matching.Steps.{step_keeps}
 use Rattle.fab_laws.proofs.replies.Owed.{OwedAt}
-use Rattle.fab_laws.proofs.replies.Stray.{AllOwed, all_owed, peer_of, turn_owed}
-use Rattle.fab_laws.proofs.streams.Told.{Stands, Told}
+use Rattle.fab_laws.proofs.replies.Stray.{peer_of}
+use Rattle.fab_laws.proofs.streams.Sized.{AllSized, all_sized, sees_sized, turn_sized}
+use Rattle.fab_laws.proofs.streams.Told.{IsInto, Stands, Told, Truly}
 use Rattle.fab_laws.proofs.streams.Entries.{both, fresh_told, more_seen, more_told, remembered_both, same_entry, step_by, told_by}
 use Rattle.fab_laws.proofs.receiving.Acts.{Act, act, subject}
-use Rattle.fab_laws.proofs.receiving.Claiming.{Claiming, News, claimed_gone, freed_claimed, frees_claimed, leaves_once, news_claims, none_slips}
+use Rattle.fab_laws.proofs.receiving.Claiming.{Claiming, News, got_now, claimed_gone, freed_claimed, frees_claimed, leaves_once, news_claims, none_slips}
 use Rattle.fab_laws.proofs.receiving.Flowing.{flows}
-use Rattle.fab_laws.proofs.receiving.Placing.{Placing, closes_when_full, grows, next_places, rows}
+use Rattle.fab_laws.proofs.receiving.Opens.{AreSized, IsMulti, under_way_by}
+use Rattle.fab_laws.proofs.receiving.Placing.{Grows, Placing, Rows, closes_when_full, grows, next_places, placed_got, posted_apart, rows}
+use Rattle.fab_laws.proofs.receiving.Releasing.{Opens, fresh_opens, next_opens, opens_seen}
+use Rattle.fab_laws.proofs.receiving.Telling.{Late, late_seen, next_late, starting_late, tells_each}
 use Rattle.fab_laws.proofs.receiving.News.{news}
-use Rattle.fab_laws.proofs.receiving.Settling.{HasItem, Settled, Settling, mark_at, settles}
+use Rattle.fab_laws.proofs.receiving.Settling.{Flows, HasItem, Settled, Settling, mark_at, settles}
 
 -- ---- the messages that arrive in a step are items
 
@@ -308,9 +312,11 @@ pub record AllKept (n : ℕ) (v : View Item) (past : List Event) (m : List Recei
   pub claiming : Claiming past h (map aside_of s.rx.claimed)
   pub settling : Settling v past h m s
   pub placing : Placing v past m s
+  pub opens : Opens v past m s
+  pub late : (f : Receive) → IsMulti m f → Late v past s f
 
 module _ (n : ℕ) (v : View Item) (past : List Event) (m : List Receive) (h : List Handling) (a b : Peer) (x : Deed) (kept : AllKept n v past m h a.state) (owed : OwedAt n v a.state)
-    (room : (source k : ℕ) (item : Item) → slice_get (v.ready source) k ≡ Some item → source < n) (stood : program.step v a x ≡ Some b) where
+    (room : (source k : ℕ) (item : Item) → slice_get (v.ready source) k ≡ Some item → source < n) (sees : (source k : ℕ) (item : Item) → slice_get (v.ready source) k ≡ Some item → IsSized item) (stood : program.step v a x ≡ Some b) where
   did : Act v a.state x b.state
   did = act v a b x stood
 
@@ -349,22 +355,77 @@ module _ (n : ℕ) (v : View Item) (past : List Event) (m : List Receive) (h : L
   got_before : (c : ℕ) (y : Mark) (last : Bool) → In (Got c y last) past → c < a.state.calls
   got_before c y last i = let r = right_calls past kept.keeps.holds.right c y last i in omega (arith, r.2, kept.keeps.holds.fresh_calls r.0 r.1)
 
-  pub next : AllKept n v (noticed v a x b ++ past) (asked_by a x b ++ m) (handles (call_in x) a.state b.state ++ h) b.state
+  -- what the step adds, and the receives that its call asks for
+  abbrev adds : List Event
+  adds = noticed v a x b
+
+  abbrev asks : List Receive
+  asks = asked_by a x b
+
+  next_keeps : Keeps n (adds ++ past) b.state
+  next_keeps = step_keeps n past v a b room kept.keeps x stood
+
+  made_posted : (p : Posting) → x ≡ Makes (Some (Post p)) → b.state.calls ≡ a.state.calls + 1 → In (receive_of a.state p) asks
+  made_posted p is calls = subst (λ (d : Deed). In (receive_of a.state p) (asked_by a d b)) (sym is) (made_call (Post p) (receive_of a.state p) calls refl)
+
+  made_taken : (buf : List ℕ) (ctx : ℕ) → x ≡ Makes (Some (TakeClaimed buf ctx)) → b.state.calls ≡ a.state.calls + 1 → In (taking a.state buf ctx) asks
+  made_taken buf ctx is calls = subst (λ (d : Deed). In (taking a.state buf ctx) (asked_by a d b)) (sym is) (made_call (TakeClaimed buf ctx) (taking a.state buf ctx) calls refl)
+
+  flowing : Flows v past h (asks ++ m) a.state b.state (subject v a.state x b.state did)
+  flowing = flows n v past h m asks a b kept.keeps kept.told owed room kept.settling x did refl
+
+  growing : Grows past (subject v a.state x b.state did) adds
   unfolding did
+  growing = grows past _ (map aside_of a.state.rx.claimed) (map aside_of b.state.rx.claimed) adds (handles (call_in x) a.state b.state) told_news
+
+  rowing : Rows asks a.state b.state (subject v a.state x b.state did)
+  rowing = rows n past v a.state b.state x asks kept.keeps made_posted made_taken did
+
+  got_came : (c : ℕ) (y : Mark) (last : Bool) → In (Got c y last) past → HasItem v y
+  got_came c y last i = kept.settling.came y (gone_came y (got_gone c y last past i))
+
+  stands_here : (r : Receive) → In r a.state.rx.posted → IsOf m r
+  stands_here r i = (each_in (Stands m) a.state.rx.posted r kept.told.posted i).0
+
+  into_here : (q : ℕ) (r : Receive) (place : ℕ) → coming_from a.state.rx q ≡ Some (Into r place) → IsInto m r place
+  into_here q r place e = (kept.told.coming q r place e).0
+
+  next_settling : Settling v (adds ++ past) (handles (call_in x) a.state b.state ++ h) (asks ++ m) b.state
+  unfolding did flowing
+  next_settling = settles v past h m asks a.state b.state _ adds (handles (call_in x) a.state b.state) (map aside_of a.state.rx.claimed) (map aside_of b.state.rx.claimed)
+      into_here kept.settling flowing told_news (λ y i. came_now v a b x y i) (λ call y last i. gone_came y (got_gone call y last past i)) took_came
+
+  -- the item of each message that a receive got has as many bytes as its head says
+  sized : (f : Receive) → AreSized v (adds ++ past) f
+  sized f y p item i at =
+      let g = placed_got (length f.buf) f.call y p (adds ++ past) i in
+      let c = next_settling.came y (next_keeps.holds.gone_came y (got_gone g.0 y g.1 (adds ++ past) g.2)) in
+      let same : c.0 ≡ item = some_same c.0 item (sym c.1 ∙ at) in
+      sees y.source y.place item at ∙ ap (λ (z : Item). z.head.total) (sym same) ∙ ap (λ (d : ItemHead). d.total) c.2
+
+  next_buffers : Opens v (adds ++ past) (asks ++ m) b.state
+  unfolding did flowing growing rowing
+  next_buffers = next_opens v past adds h m asks a.state b.state after.one asked_call (λ f i. kept.told.before f i) got_before stands_here got_came (got_flag v a b x) into_here
+      (posted_apart n past a.state kept.keeps) (posted_apart n (adds ++ past) b.state next_keeps) kept.placing (λ f multi. sized f)
+      (λ source k item at. (let lt = room source k item at in (omega (arith, lt, owed.tails_count), omega (arith, lt, kept.keeps.coming_count))))
+      (λ y i. each_in (Truly (told_by v past) a.state.rx.tails) a.state.rx.unexpected y kept.told.waiting i) kept.opens x did made_posted growing rowing flowing
+      (λ call y last i. got_now past h _ (map aside_of a.state.rx.claimed) (map aside_of b.state.rx.claimed) adds (handles (call_in x) a.state b.state) told_news call y last i)
+
+  next_told : (f : Receive) → IsMulti (asks ++ m) f → Late v (adds ++ past) b.state f
+  unfolding did flowing growing
+  next_told f multi = next_late n v past adds h m asks a b kept.keeps kept.told owed room kept.settling kept.placing kept.opens after.one asked_call got_before f multi
+      (starting_late n v past adds h m asks a b kept.keeps kept.told owed room kept.settling kept.placing kept.opens after.one asked_call got_before f multi (λ old. kept.late f old)) x did made_posted made_taken growing flowing
+
+  pub next : AllKept n v (adds ++ past) (asks ++ m) (handles (call_in x) a.state b.state ++ h) b.state
+  unfolding did flowing growing rowing
   next = record {
-    keeps = step_keeps n past v a b room kept.keeps x stood;
-    told = step_by n v past m a b kept.keeps kept.told owed room x (step_is v a b x stood);
-    claiming = news_claims past h (map aside_of a.state.rx.claimed) kept.claiming _ (map aside_of b.state.rx.claimed) (noticed v a x b) (handles (call_in x) a.state b.state) told_news;
-    settling = settles v past h m (asked_by a x b) a.state b.state _ (noticed v a x b) (handles (call_in x) a.state b.state) (map aside_of a.state.rx.claimed) (map aside_of b.state.rx.claimed)
-        (λ q r place e. (kept.told.coming q r place e).0) kept.settling (flows n v past h m (asked_by a x b) a b kept.keeps kept.told owed room kept.settling x did refl) told_news
-        (λ y i. came_now v a b x y i) (λ call y last i. gone_came y (got_gone call y last past i)) took_came;
-    placing = next_places v past h m (asked_by a x b) a.state b.state _ (noticed v a x b) (λ q r place e. (kept.told.coming q r place e).0) after.one
-        (λ r i. (each_in (Stands m) a.state.rx.posted r kept.told.posted i).0) asked_call got_before (λ f i. kept.told.before f i)
-        (λ c y last i. kept.settling.came y (gone_came y (got_gone c y last past i))) (got_flag v a b x) kept.placing
-        (flows n v past h m (asked_by a x b) a b kept.keeps kept.told owed room kept.settling x did refl) (grows past _ (map aside_of a.state.rx.claimed) (map aside_of b.state.rx.claimed) (noticed v a x b) (handles (call_in x) a.state b.state) told_news)
-        (rows n past v a.state b.state x (asked_by a x b) kept.keeps
-        (λ p is calls. subst (λ (d : Deed). In (receive_of a.state p) (asked_by a d b)) (sym is) (made_call (Post p) (receive_of a.state p) calls refl))
-        (λ buf ctx is calls. subst (λ (d : Deed). In (taking a.state buf ctx) (asked_by a d b)) (sym is) (made_call (TakeClaimed buf ctx) (taking a.state buf ctx) calls refl)) did);
+    keeps = next_keeps;
+    told = after;
+    claiming = news_claims past h (map aside_of a.state.rx.claimed) kept.claiming _ (map aside_of b.state.rx.claimed) adds (handles (call_in x) a.state b.state) told_news;
+    settling = next_settling;
+    placing = next_places v past h m asks a.state b.state _ adds into_here after.one stands_here asked_call got_before (λ f i. kept.told.before f i) got_came (got_flag v a b x) kept.placing flowing growing rowing;
+    opens = next_buffers;
+    late = next_told;
   }
 
 more_kept : (n : ℕ) (v w : View Item) (past : List Event) (m : List Receive) (h : List Handling) (s : State) → More v w → AllKept n v past m h s → AllKept n w past m h s
@@ -382,6 +443,8 @@ more_kept n v w past m h s more kept = record {
       | inr told ↦ inr (told.0, told.1, (let z = told.2 in (message_seen v w m s.rx.tails told.0 more z.0, z.1, z.2, z.3, z.4, z.5)))
     ];
   };
+  opens = opens_seen v w more past m s kept.opens;
+  late = λ f multi. late_seen v w past s f more (kept.late f multi);
 }
 
 -- ---- wherever turns lead
@@ -400,21 +463,23 @@ none_claimed = record { claimed = λ ctx x i. never i; stays = λ ctx x i. never
 
 module _ (from : Opening) (turns : List (Turn Deed)) (states : List Peer) (leads : LeadTo from turns states) (p : ℕ) (a : Peer) (here : slice_get states p ≡ Some a) where
   together : (let k : (List Event × List Receive) × List Handling = remembered (both (both noting keeping_asked) handling) p turns from.peers (([], []), []) in AllKept (length from.peers) (seen program states p) k.0.0 k.0.1 k.1 a.state)
-  together = remembered_keeps (both (both noting keeping_asked) handling) p (AllOwed (length from.peers)) (λ k ss x. AllKept (length from.peers) (seen program ss p) k.0.0 k.0.1 k.1 x.state) (turn_owed (length from.peers))
+  together = remembered_keeps (both (both noting keeping_asked) handling) p (AllSized (length from.peers)) (λ k ss x. AllKept (length from.peers) (seen program ss p) k.0.0 k.0.1 k.1 x.state) (turn_sized (length from.peers))
       (λ ss k b c x good at ruled stood kept.
       let v = seen program ss p in
-      more_kept (length from.peers) v (seen program (set ss p c) p) _ _ _ c.state (views.sees_more program (length from.peers) (Own (length from.peers)) (program_patient (length from.peers)) ss p p b c x good.sound at stood)
-      (next (length from.peers) v k.0.0 k.0.1 k.1 b c x kept (good.owed p b at) (peer_of (length from.peers) ss good p b at) stood))
+      more_kept (length from.peers) v (seen program (set ss p c) p) _ _ _ c.state (views.sees_more program (length from.peers) (Own (length from.peers)) (program_patient (length from.peers)) ss p p b c x good.owed.sound at stood)
+      (next (length from.peers) v k.0.0 k.0.1 k.1 b c x kept (good.owed.owed p b at) (peer_of (length from.peers) ss good.owed p b at) (sees_sized (length from.peers) ss good p) stood))
       (λ ss k q b c x good at differ ruled kept.
       let is = views.rule_is program ss q x c ruled in
-      more_kept (length from.peers) (seen program ss p) (seen program (set ss q c) p) k.0.0 k.0.1 k.1 b.state (views.sees_more program (length from.peers) (Own (length from.peers)) (program_patient (length from.peers)) ss q p is.0 c x good.sound is.1 is.2) kept)
-      turns from.peers states (([], []), []) (all_owed from [] from.peers refl)
+      more_kept (length from.peers) (seen program ss p) (seen program (set ss q c) p) k.0.0 k.0.1 k.1 b.state (views.sees_more program (length from.peers) (Own (length from.peers)) (program_patient (length from.peers)) ss q p is.0 c x good.owed.sound is.1 is.2) kept)
+      turns from.peers states (([], []), []) (all_sized from)
       (λ x at. at_opening from (λ (s : State). AllKept (length from.peers) (seen program from.peers p) [] [] [] s) (λ conf av names. record {
         keeps = fresh_keeps (record conf { peers = length from.peers }) av;
         told = fresh_told (record conf { peers = length from.peers }) av (seen program from.peers p);
         claiming = none_claimed;
         settling = fresh_settling (record conf { peers = length from.peers }) av (seen program from.peers p);
         placing = record { sized = λ f least q i. never i; places = λ f least x place i. never i; closes = λ f least i. never i };
+        opens = fresh_opens (record conf { peers = length from.peers }) av (seen program from.peers p);
+        late = λ f multi. never multi.0;
       }) p x at) leads a here
 
   pub kept_at : AllKept (length from.peers) (seen program states p) (past_of from.peers turns p) (asked_of from.peers turns p) (handled_of from.peers turns p) a.state
@@ -450,6 +515,23 @@ pub closes_in_time : ClosesInTime
 closes_in_time from turns states leads p a here f least later before x last i e is =
     closes_when_full (length f.buf) least f.call (past_of from.peers turns p) ((kept_at from turns states leads p a here).placing.closes f least i e) later before x last is
 
+pub parts_stand : PartsStand
+parts_stand from turns states leads p a here f least w buf asked multi i call hands = ((kept_at from turns states leads p a here).opens.now.back w f.call buf i call hands).holds f (asked, (least, multi)) refl
+
+pub releases_tell : ReleasesTell
+releases_tell from turns states leads p a here f least ctx used buf asked multi i = ((kept_at from turns states leads p a here).opens.now.back (release_of f.call ctx used buf) f.call buf i refl refl).release f (asked, (least, multi)) refl ctx used refl
+
+pub releases_in_time : ReleasesInTime
+releases_in_time from turns states leads p a here f least x asked multi i =
+    let open_now = (kept_at from turns states leads p a here).opens.now in
+    elim (open_now.ends f x (asked, (least, multi)) i) [
+      | inl released ↦ inl released
+      | inr shut ↦ elim (open_now.busy f.call shut) [ inl busy ↦ inr (under_way_by a.state.rx f.call busy) | inr n ↦ never n ]
+    ]
+
+pub tells_once : TellsOnce
+tells_once from turns states leads p a here = tells_each (seen program states p) (past_of from.peers turns p) (asked_of from.peers turns p) a (kept_at from turns states leads p a here).late
+
 pub goes_once : GoesOnce
 goes_once from turns states leads p a here = leaves_once (past_of from.peers turns p) (kept_at from turns states leads p a here).claiming.once
 
@@ -476,20 +558,13 @@ none_is_lost from turns states leads p a here x i =
 under_way_is : (rx : Receiving) (source call : ℕ) → goes_into (coming_from rx source) ≡ Some call → under_way rx call ≡ true
 under_way_is rx source call e = go (coming_from rx source) refl e
   where
-    at : (cs : List (Option Coming)) (q : ℕ) (c : Coming) → get_or cs q None ≡ Some c → In (Some c) cs
-    at [] q c f = absurd (cc (f))
-    at (d ∷ cs) zero c f = inl (sym f)
-    at (d ∷ cs) (suc q) c f = inr (at cs q c f)
-
     go : (c : Option Coming) → coming_from rx source ≡ c → goes_into c ≡ Some call → under_way rx call ≡ true
     go None f g = absurd (cc (g))
     go (Some Keep) f g = absurd (cc (g))
     go (Some Throw) f g = absurd (cc (g))
     go (Some Request) f g = absurd (cc (g))
     go (Some Answer) f g = absurd (cc (g))
-    go (Some (Into r place)) f g =
-        let number : r.call ≡ call = (let z : Some r.call ≡ Some call = g in cc (z)) in
-        any_in (model.is_into call) (Some (Into r place)) rx.coming (at rx.coming source (Into r place) f) (eq-eqb r.call call number)
+    go (Some (Into r place)) f g = under_way_by rx call (source, r, place, f, some_same r.call call g)
 
 not_ended : (call : ℕ) (s : State) → under_way s.rx call ≡ true → has_ended call s ≡ false
 not_ended call s e = ap not (ap (λ b. send_stands call s.tx || b) (ap (λ b. (list_any (is_made_by call) s.rx.posted || list_any (is_made_by call) s.rx.closing) || b) e ∙ or_true _) ∙ or_true _)

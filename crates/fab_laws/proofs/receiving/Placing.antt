@@ -1,5 +1,5 @@
 -- Where the messages of a buffer for many messages stand: each step keeps that they follow one another.
-use Rattle.std.proofs.Common.{◌≡◌, ◌<◌, ◌+◌, ◌-◌, ℕ, min, Bool, true, false, not, List, [], ◌∷◌, ◌++◌, length, map, take, drop, slice_get, Option, Some, None, ◌⊎◌, inl, inr, refl, sym, ◌∙◌, ap, ap₂, subst, arith, length-append, length-take, length-drop}
+use Rattle.std.proofs.Common.{◌≡◌, ◌<◌, ◌+◌, ◌-◌, ℕ, min, Bool, true, false, not, List, [], ◌∷◌, ◌++◌, length, map, slice_get, Option, Some, None, ◌⊎◌, inl, inr, refl, sym, ◌∙◌, ap, ap₂, subst, arith}
 use Rattle.std.specs.Prelude.{find, nat_lt, slice_index, ◌==◌}
 use Rattle.std.proofs.lemmas.Bool.{eq-eqb, eqb-true, ne_eqb}
 use Rattle.fab_base.specs.declared.items.Item.{Item}
@@ -9,7 +9,7 @@ use Rattle.fab_base.specs.declared.operations.Coming.TheVariants.{Into}
 use Rattle.fab_base.specs.declared.operations.Receive.{Receive}
 use Rattle.fab_model.specs.Matching.{change_first, remove_first}
 use Rattle.fab_model.specs.State.{Receiving, State, coming_from}
-use Rattle.fab_model.specs.Complete.{fill_multi, filled, filling, is_made_by, paste}
+use Rattle.fab_model.specs.Complete.{fill_multi, filled, filling, is_made_by}
 use Rattle.fab_model.specs.Receiving.{Posting, draws, goes, may_leave, receive_of, taking, without_claim, without_first}
 use Rattle.fab_model.specs.Arrivals.{is_wanted, keeping, seated, seating, stays, used_up}
 use Rattle.fab_model.specs.Calls.{Post, TakeClaimed}
@@ -25,6 +25,7 @@ use Rattle.fab_laws.proofs.Lists.{Always, Each, Split, always, any_in, none_any,
 use Rattle.fab_laws.proofs.matching.Moves.{Keeps}
 use Rattle.fab_laws.proofs.streams.Told.{IsInto}
 use Rattle.fab_laws.proofs.receiving.Acts.{Act, Cancels, Claims, Closes, Discards, Draws, Drops, Fills, Gets, Joins, Passes, Posts, Rests, Seats, Takes, Waits, entry_for, given, leaving, let_out, subject, thrown}
+use Rattle.fab_laws.proofs.receiving.Pasting.{paste_long}
 use Rattle.fab_laws.proofs.receiving.Claiming.{Dull, Freed, Gone, News, Put, Still, Thrown}
 use Rattle.fab_laws.proofs.receiving.Settling.{Flows, HasItem, SettledAt, message_more, of_more}
 
@@ -48,7 +49,7 @@ module _ (n call : ℕ) (past : List Event) where
   dull_placed (Cancelled c ∷ es) dull = dull_placed es dull.1
 
 -- a receive that is made now got nothing before
-none_before : (n call : ℕ) (past : List Event) → ((c : ℕ) (x : Mark) (last : Bool) → In (Got c x last) past → c < call) → used_in n call past ≡ 0
+pub none_before : (n call : ℕ) (past : List Event) → ((c : ℕ) (x : Mark) (last : Bool) → In (Got c x last) past → c < call) → used_in n call past ≡ 0
 none_before n call [] below = refl
 none_before n call (Came m ∷ past) below = none_before n call past (λ c x last i. below c x last (inr i))
 none_before n call (Made w ∷ past) below = none_before n call past (λ c x last i. below c x last (inr i))
@@ -58,7 +59,7 @@ none_before n call (Got c m last ∷ past) below =
 none_before n call (Lost m ∷ past) below = none_before n call past (λ c x last i. below c x last (inr i))
 none_before n call (Cancelled c ∷ past) below = none_before n call past (λ d x last i. below d x last (inr i))
 
-none_placed : (n call : ℕ) (past : List Event) → ((c : ℕ) (x : Mark) (last : Bool) → In (Got c x last) past → c < call) → placed n call past ≡ []
+pub none_placed : (n call : ℕ) (past : List Event) → ((c : ℕ) (x : Mark) (last : Bool) → In (Got c x last) past → c < call) → placed n call past ≡ []
 none_placed n call [] below = refl
 none_placed n call (Came m ∷ past) below = none_placed n call past (λ c x last i. below c x last (inr i))
 none_placed n call (Made w ∷ past) below = none_placed n call past (λ c x last i. below c x last (inr i))
@@ -78,23 +79,17 @@ pub record Seat : Type 0 where
 abbrev pub seat_of : Receive → Seat
 seat_of r = record { call = r.call; used = r.used; long = length r.buf }
 
-paste_long : (buf : List ℕ) (place : ℕ) (bytes : List ℕ) → length (paste buf place bytes) ≡ length buf
-unfolding paste
-paste_long buf place bytes =
-    let k : ℕ = min (length bytes) (length buf - place) in
-    length-append (take place buf ++ take k bytes) (drop (place + k) buf) ∙ ap (λ i. i + length (drop (place + k) buf)) (length-append (take place buf) (take k bytes)) ∙ omega (arith, length-take place buf, length-take k bytes, length-drop (place + k) buf)
-
 filled_seat : (place : ℕ) (bytes : List ℕ) (r : Receive) → seat_of (filled place bytes r) ≡ seat_of r
 filled_seat place bytes r = ap (λ k. let q : Seat = record { call = r.call; used = r.used; long = k } in q) (paste_long r.buf place bytes)
 
-fill_seats : (r : Receive) (place : ℕ) (bytes : List ℕ) (xs : List Receive) → map seat_of (fill_multi r place bytes xs) ≡ map seat_of xs
+pub fill_seats : (r : Receive) (place : ℕ) (bytes : List ℕ) (xs : List Receive) → map seat_of (fill_multi r place bytes xs) ≡ map seat_of xs
 fill_seats r place bytes xs = go r.least
   where
     go : (o : Option ℕ) → map seat_of (let ys : List Receive = elim o [ None ↦ xs | Some _ ↦ change_first (is_made_by r.call) (filled place bytes) xs ] in ys) ≡ map seat_of xs
     go None = refl
     go (Some n) = changed_same seat_of (is_made_by r.call) (filled place bytes) xs (filled_seat place bytes)
 
-given_seats : (r : Receive) (place : ℕ) (y : Arrival) (rx : Receiving) → map seat_of (given r place y rx).posted ≡ map seat_of rx.posted
+pub given_seats : (r : Receive) (place : ℕ) (y : Arrival) (rx : Receiving) → map seat_of (given r place y rx).posted ≡ map seat_of rx.posted
 given_seats r place y rx = go y.bytes
   where
     go : (o : Option (List ℕ)) → map seat_of (let x : Receiving = elim o [ None ↦ goes y.source (Into r place) rx | Some bytes ↦ filling r place bytes rx ] in x).posted ≡ map seat_of rx.posted
@@ -162,7 +157,7 @@ pub record Placing (v : View Item) (past : List Event) (m : List Receive) (s : S
 
 -- the first that passes is replaced, and no other has its call
 module _ (xs : List Receive) (apart : (q r : Receive) → Ahead q r xs → q.call ≡ r.call → Never) (test : Receive → Bool) (r : Receive) (found : find test xs ≡ Some r) where
-  split : Split test xs r
+  pub split : Split test xs r
   split = split_at test xs r found
 
   one_front : (q : Receive) → In q split.front → q.call ≡ r.call → Never
@@ -181,24 +176,24 @@ module _ (xs : List Receive) (apart : (q r : Receive) → Ahead q r xs → q.cal
   sides q (y ∷ ys) zs (inl e) = inl (inl e)
   sides q (y ∷ ys) zs (inr i) = elim (sides q ys zs i) [ inl j ↦ inl (inr j) | inr j ↦ inr j ]
 
-  in_parts : (q : Receive) → In q (split.front ++ split.back) → In q xs × (q.call ≡ r.call → Never)
+  pub in_parts : (q : Receive) → In q (split.front ++ split.back) → In q xs × (q.call ≡ r.call → Never)
   in_parts q i = elim (sides q split.front split.back i) [
     | inl j ↦ (subst (λ zs. In q zs) (sym split.whole) (in_front q split.front (r ∷ split.back) j), one_front q j)
     | inr j ↦ (subst (λ zs. In q zs) (sym split.whole) (in_back q split.front (r ∷ split.back) (inr j)), one_back q j)
   ]
 
-  seated_seats : (total : ℕ) (q : Receive) → In q (seated test total r xs) → (In q xs × (q.call ≡ r.call → Never)) ⊎ (q ≡ used_up total r)
+  pub seated_seats : (total : ℕ) (q : Receive) → In q (seated test total r xs) → (In q xs × (q.call ≡ r.call → Never)) ⊎ (q ≡ used_up total r)
   seated_seats total q i = go (stays total r) i
     where
       go : (b : Bool) → In q (let zs : List Receive = elim b [ true ↦ change_first test (used_up total) xs | false ↦ remove_first test xs ] in zs) → (In q xs × (q.call ≡ r.call → Never)) ⊎ (q ≡ used_up total r)
       go true j = elim (in_less q (used_up total r) split.front split.back (subst (In q) (split.changed (used_up total)) j)) [ inl k ↦ inl (in_parts q k) | inr e ↦ inr e ]
       go false j = inl (in_parts q (subst (In q) split.removed j))
 
-  seated_stays : (total : ℕ) → stays total r ≡ true → In (used_up total r) (seated test total r xs)
+  pub seated_stays : (total : ℕ) → stays total r ≡ true → In (used_up total r) (seated test total r xs)
   seated_stays total e = subst (λ (b : Bool). In (used_up total r) (let zs : List Receive = elim b [ true ↦ change_first test (used_up total) xs | false ↦ remove_first test xs ] in zs)) (sym e)
       (subst (In (used_up total r)) (sym (split.changed (used_up total))) (in_middle (used_up total r) split.front split.back))
 
-  seated_goes : (total : ℕ) → stays total r ≡ false → (q : Receive) → In q (seated test total r xs) → q.call ≡ r.call → Never
+  pub seated_goes : (total : ℕ) → stays total r ≡ false → (q : Receive) → In q (seated test total r xs) → q.call ≡ r.call → Never
   seated_goes total e q i = (in_parts q (subst (In q) split.removed (subst (λ (b : Bool). In q (let zs : List Receive = elim b [ true ↦ change_first test (used_up total) xs | false ↦ remove_first test xs ] in zs)) e i))).1
 
 -- ---- each step
@@ -212,7 +207,7 @@ pub data Rows (rs : List Receive) (s t : State) (o : Option (Receive × Mark)) :
       → (is_posted r.call t ≡ stays x.head.total r) → Rows rs s t o
 
 -- the receives posted have different calls
-posted_apart : (n : ℕ) (past : List Event) (s : State) → Keeps n past s → (q r : Receive) → Ahead q r s.rx.posted → q.call ≡ r.call → Never
+pub posted_apart : (n : ℕ) (past : List Event) (s : State) → Keeps n past s → (q r : Receive) → Ahead q r s.rx.posted → q.call ≡ r.call → Never
 posted_apart n past s keeps q r ahead e =
     let a = ahead_map wish_of q r s.rx.posted ahead in
     let both = ahead_in (wish_of q) (wish_of r) (map wish_of s.rx.posted) a in
@@ -296,7 +291,7 @@ grows past o before after es hs (Freed call ctx x e (inl (r, whose, number, cont
 grows past o before after es hs (Freed call ctx x e (inr (none, is)) dull one there loses) = Level (λ n least c k. dull_closes n least c past k es dull) (λ n c. dull_used n c past es dull) (λ n c. dull_placed n c past es dull) (no_one o none)
 
 -- who has a place got the message
-placed_got : (n call : ℕ) (x : Mark) (place : ℕ) (past : List Event) → In (x, place) (placed n call past) → (c : ℕ) × (last : Bool) × In (Got c x last) past
+pub placed_got : (n call : ℕ) (x : Mark) (place : ℕ) (past : List Event) → In (x, place) (placed n call past) → (c : ℕ) × (last : Bool) × In (Got c x last) past
 placed_got n call x place [] i = never i
 placed_got n call x place (Came m ∷ past) i = let g = placed_got n call x place past i in (g.0, g.1, inr g.2)
 placed_got n call x place (Made w ∷ past) i = let g = placed_got n call x place past i in (g.0, g.1, inr g.2)

@@ -1,22 +1,24 @@
 -- The laws of streams, claims and receives: histories by computing, and moments that meet their premises.
-use Rattle.std.proofs.Common.{◌≡◌, ℕ, List, [], ◌∷◌, ◌++◌, map, None, inl, inr, refl}
+use Rattle.std.proofs.Common.{◌≡◌, ℕ, true, List, [], ◌∷◌, ◌++◌, map, Some, None, inl, inr, refl}
 use Rattle.std.specs.Prelude.{codes}
 use Rattle.fab_base.specs.declared.items.Item.{Item}
+use Rattle.fab_base.specs.declared.operations.Written.{Written}
 use Rattle.fab_base.specs.declared.peers.Step.{Step}
 use Rattle.fab_base.specs.declared.peers.Step.TheVariants.{Do, Draw, Head, Tail}
 use Rattle.fab_base.specs.declared.script.Bound.{Bound}
 use Rattle.fab_base.specs.declared.script.BytesWord.TheVariants.{Text}
 use Rattle.fab_base.specs.declared.script.LineOp.{LineOp}
 use Rattle.fab_model.specs.Orders.{by}
+use Rattle.fab_model.specs.State.{under_way}
 use Rattle.fab_model.proofs.Scripts.{line, script_of}
 use Rattle.fab_laws.specs.Members.{In}
-use Rattle.fab_laws.specs.Matched.{Event, Mark, past_of}
+use Rattle.fab_laws.specs.Matched.{Event, Got, Mark, past_of}
 use Rattle.fab_laws.specs.Claimed.{Claimed, Discarded, Dropped, Handling, Slipped, Took, handled_of}
 use Rattle.fab_laws.specs.ReceiveLaws.{IsComing}
 use Rattle.fab_laws.specs.StreamLaws.{arrived_from, whole_from}
 use Rattle.fab_laws.proofs.rows.Following.{Met, met, programs, ran, started}
-use Rattle.fab_laws.specs.MultiLaws.{placed, used_in}
-use Rattle.fab_laws.proofs.rows.Matching.{drawn, due_steps, mixed, mixed_steps}
+use Rattle.fab_laws.specs.MultiLaws.{handed_back, placed, release_of, used_in}
+use Rattle.fab_laws.proofs.rows.Matching.{drawn, due_steps, full, full_steps, mixed, mixed_steps}
 
 told : Handling → List ℕ
 told (Claimed ctx m) = 0 ∷ ctx ∷ m.source ∷ m.place ∷ []
@@ -73,3 +75,34 @@ drawn_places = refl
 drawn_used : used_in 10 2 drawn_past ≡ 5
 unfolding drawn due_steps programs
 drawn_used = refl
+
+-- a buffer of 4 bytes takes no more after 3, and a message still comes into it; once it is whole the buffer comes back
+full_waits : Met full (by 0 (Do ∷ Do ∷ Do ∷ Head 0 ∷ [])) 0 (λ states a. ((x : Mark) × In (Got 0 x true) (past_of (started full) (ran full (by 0 (Do ∷ Do ∷ Do ∷ Head 0 ∷ []))) 0)) × (under_way a.state.rx 0 ≡ true))
+unfolding full programs
+full_waits = met full (by 0 (Do ∷ Do ∷ Do ∷ Head 0 ∷ [])) 0 (λ states a. ((x : Mark) × In (Got 0 x true) (past_of (started full) (ran full (by 0 (Do ∷ Do ∷ Do ∷ Head 0 ∷ []))) 0)) × (under_way a.state.rx 0 ≡ true)) _ _ refl refl ((_, inl refl), refl)
+
+full_back : Met full (by 0 full_steps) 0 (λ states a. In (release_of 0 1 3 (codes "abc" ++ 0 ∷ [])) a.state.cq.written)
+unfolding full full_steps programs
+full_back = met full (by 0 full_steps) 0 (λ states a. In (release_of 0 1 3 (codes "abc" ++ 0 ∷ [])) a.state.cq.written) _ _ refl refl (inr (inl refl))
+
+-- two parts stand one behind the other in the buffer that comes back
+unfoldable pub two_parts : Bound
+two_parts = script_of ((line 4 (LineOp.MRecv 1 None 8 (Some 4)) ∷ line 5 (LineOp.Inject 0 (Text (codes "abc")) None) ∷ line 6 (LineOp.Inject 0 (Text (codes "de")) None) ∷ []) ∷ [])
+
+unfoldable pub two_parts_steps : List Step
+two_parts_steps = Do ∷ Do ∷ Do ∷ Head 0 ∷ Step.Sent 0 ∷ Tail 0 ∷ Head 0 ∷ Step.Sent 0 ∷ Tail 0 ∷ []
+
+two_parts_back : Met two_parts (by 0 two_parts_steps) 0 (λ states a. In (release_of 0 1 5 (codes "abcde" ++ 0 ∷ 0 ∷ 0 ∷ [])) a.state.cq.written)
+unfolding two_parts two_parts_steps programs
+two_parts_back = met two_parts (by 0 two_parts_steps) 0 (λ states a. In (release_of 0 1 5 (codes "abcde" ++ 0 ∷ 0 ∷ 0 ∷ [])) a.state.cq.written) _ _ refl refl (inr (inr (inl refl)))
+
+-- the receive is cancelled after a part came: its entry hands the buffer back with the part in it
+unfoldable pub cut_off : Bound
+cut_off = script_of ((line 4 (LineOp.MRecv 1 None 8 (Some 4)) ∷ line 5 (LineOp.Inject 0 (Text (codes "abc")) None) ∷ line 6 (LineOp.Cancel 1) ∷ []) ∷ [])
+
+unfoldable pub cut_off_steps : List Step
+cut_off_steps = Do ∷ Do ∷ Head 0 ∷ Step.Sent 0 ∷ Tail 0 ∷ Do ∷ []
+
+cut_off_back : Met cut_off (by 0 cut_off_steps) 0 (λ states a. (w : Written) × In w a.state.cq.written × (w.call ≡ Some 0) × (handed_back w.entry ≡ Some (codes "abc" ++ 0 ∷ 0 ∷ 0 ∷ 0 ∷ 0 ∷ [])))
+unfolding cut_off cut_off_steps programs
+cut_off_back = met cut_off (by 0 cut_off_steps) 0 (λ states a. (w : Written) × In w a.state.cq.written × (w.call ≡ Some 0) × (handed_back w.entry ≡ Some (codes "abc" ++ 0 ∷ 0 ∷ 0 ∷ 0 ∷ 0 ∷ []))) _ _ refl refl (_, inr (inl refl), refl, refl)

@@ -1,17 +1,21 @@
 -- Wrong traces, on which the laws of streams, claims, receives and buffers for many messages are false.
-use Rattle.std.proofs.Common.{◌≡◌, ℕ, zero, suc, Bool, true, false, List, [], ◌∷◌, ◌++◌, length, map, min, Some, None, inl, inr, refl, sym, ◌∙◌, ap, subst, arith, ◌+◌, ◌-◌}
-use Rattle.std.specs.Prelude.{nat_lt}
+use Rattle.std.proofs.Common.{◌≡◌, ℕ, zero, suc, Bool, true, false, List, [], ◌∷◌, ◌++◌, length, map, min, Some, None, inl, inr, refl, sym, ◌∙◌, ap, ap₂, subst, arith, ◌&&◌, slice_get, ◌+◌, ◌-◌}
+use Rattle.std.specs.Prelude.{count_by, nat_lt}
 use Rattle.std.proofs.lemmas.Bool.{le-ltb, lt-ltb}
 use Rattle.std.proofs.lemmas.Bool.{eq-eqb}
+use Rattle.std.proofs.lemmas.Option.{slice_get_within}
+use Rattle.fab_base.specs.declared.items.Item.{Item}
 use Rattle.fab_base.specs.declared.entries.ErrKind.TheVariants.{Canceled}
 use Rattle.fab_base.specs.declared.operations.Written.{Written}
 use Rattle.fab_model.specs.Complete.{error}
+use Rattle.fab_model.proofs.Parts.{some_same}
 use Rattle.fab_laws.specs.Members.{In, Never}
 use Rattle.fab_laws.specs.Matched.{Came, Event, Got, Mark, goes_into, mark_of, tells_message}
 use Rattle.fab_laws.specs.Claimed.{Claimed, Dropped, Took, aside_of}
 use Rattle.fab_laws.specs.ReceiveLaws.{Aside, Fate, Received, Waits, WasDiscarded, WasDropped, WasTaken}
-use Rattle.fab_laws.specs.Refused.{CancelledInstead, ClosesEarly, FreedTwice, GotTwice, LeftOver, LostInside, LeavesGap, NeverTold, OtherContext, OtherMessage, Overlaps, Repeated, SlipsAway, StaysOpen, Swapped, Unarrived, Unclaimed, Vanishes}
-use Rattle.fab_laws.specs.MultiLaws.{placed, used_in}
+use Rattle.fab_laws.specs.Refused.{CancelledInstead, ClosesEarly, FreedTwice, GotTwice, KeptBack, LeftOver, LostInside, LeavesGap, NeverTold, OtherContext, OtherMessage, Overlaps, ReleasedEarly, Repeated, SlipsAway, StaysOpen, Swapped, SwappedParts, ToldTwice, Unarrived, Unclaimed, Vanishes, WrongUsed}
+use Rattle.fab_laws.specs.MultiLaws.{entry_at, placed, release_of, tells_of, used_in}
+use Rattle.fab_laws.proofs.Counts.{counted, many, one}
 use Rattle.fab_laws.proofs.matching.Watch.{entry_tells}
 
 -- the first of a list
@@ -112,6 +116,10 @@ lost_inside x rx waiting aside law = go (law x (inl refl))
 here : (n call : ℕ) (x : Mark) (last : Bool) (past : List Event) → In (x, used_in n call past) (placed n call (Got call x last ∷ past))
 here n call x last past = subst (λ (b : Bool). In {X = Mark × ℕ} (x, used_in n call past) (let xs : List (Mark × ℕ) = elim b [ true ↦ (x, used_in n call past) ∷ placed n call past | false ↦ placed n call past ] in xs)) (sym (eq-eqb call call refl)) (inl refl)
 
+-- of the first, where it got another too
+behind : (n call : ℕ) (x : Mark) (k : Bool) (y : Mark) (l : Bool) → In (x, 0) (placed n call (Got call y l ∷ Got call x k ∷ []))
+behind n call x k y l = subst (λ (b : Bool). In {X = Mark × ℕ} (x, 0) (let xs : List (Mark × ℕ) = elim b [ true ↦ (y, used_in n call (Got call x k ∷ [])) ∷ placed n call (Got call x k ∷ []) | false ↦ placed n call (Got call x k ∷ []) ] in xs)) (sym (eq-eqb call call refl)) (inr (here n call x k []))
+
 -- where the first one ends
 first_ends : (n call : ℕ) (x : Mark) (last : Bool) → used_in n call (Got call x last ∷ []) ≡ 0 + min x.head.total (n - 0)
 first_ends n call x last = ap (λ (b : Bool). elim b [ true ↦ 0 + min x.head.total (n - 0) | false ↦ 0 ]) (eq-eqb call call refl)
@@ -141,3 +149,43 @@ closes_early f least x asked i e room law =
     let free : nat_lt (n - used_in n f.call (Got f.call x true ∷ [])) least ≡ false = le-ltb (n - used_in n f.call (Got f.call x true ∷ [])) least (omega (arith, first_ends n f.call x true, room)) in
     let closed : true ≡ nat_lt (n - used_in n f.call (Got f.call x true ∷ [])) least = law f least [] [] x true i e refl in
     absurd (cc (free, closed))
+
+pub swapped_parts : SwappedParts
+swapped_parts f least x y k l asked states p a w buf first second byte other i e there call hands at_x at_y one two differ stands law =
+    let n : ℕ = length f.buf in
+    let has = (law f least w buf i e there call hands).1 x 0 (behind n f.call x k y l) in
+    let same : has.0 ≡ first = some_same has.0 first (sym has.1 ∙ at_x) in
+    let here : slice_get buf 0 ≡ Some other = stands ∙ two in
+    let now : slice_get buf 0 ≡ Some byte = has.3 0 byte (ap (λ (z : Item). slice_get z.bytes 0) same ∙ one) (slice_get_within buf 0 other here) in
+    differ (some_same byte other (sym now ∙ here))
+
+pub released_early : ReleasedEarly
+released_early f least x asked states p a ctx used buf i e there late law =
+    let has = (law f least (release_of f.call ctx used buf) buf i e there refl refl).1 x 0 (here (length f.buf) f.call x true []) in
+    absurd (omega (arith, has.2, late))
+
+pub kept_back : KeptBack
+kept_back f least x asked a i e none idle law = elim (law f least x i e (inl refl)) [
+  | inl released ↦ (let j : In (release_of f.call released.0 released.1 released.2) [] = subst (In (release_of f.call released.0 released.1 released.2)) none released.3 in j)
+  | inr busy ↦ absurd (cc (busy, idle))
+]
+
+pub wrong_used : WrongUsed
+wrong_used f least x asked a ctx buf i e some room there law = absurd (omega (arith, (law f least ctx 0 buf i e there).1, first_ends (length f.buf) f.call x true, some, room))
+
+pub told_twice : ToldTwice
+told_twice f least x k asked a i e written law =
+    let l = law f least i e in
+    let all : (test : Written → Bool) → count_by (λ (w : Written). tells_of f.call w && test w) a.state.cq.written + count_by (λ (q : Mark × ℕ). test (entry_at f q)) l.0 ≡ count_by (λ (q : Mark × ℕ). test (entry_at f q)) (placed (length f.buf) f.call (Got f.call x k ∷ [])) = l.2 in
+    let any : Written → Bool = λ w. true in
+    let tells : tells_of f.call (entry_at f (x, 0)) ≡ true = ap₂ (λ (b c : Bool). b && c) (eq-eqb f.call f.call refl) (entry_tells f 0 x.source x.head []) in
+    let one_only : placed (length f.buf) f.call (Got f.call x k ∷ []) ≡ (x, 0) ∷ [] = ap (λ (b : Bool). let xs : List (Mark × ℕ) = elim b [ true ↦ (x, 0) ∷ [] | false ↦ [] ] in xs) (eq-eqb f.call f.call refl) in
+    absurd (omega (
+      arith,
+      all any,
+      counted (λ (w : Written). tells_of f.call w && any w) a.state.cq.written,
+      ap (many (λ (w : Written). tells_of f.call w && any w)) written,
+      ap (λ (b : Bool). one (b && true)) tells,
+      counted (λ (q : Mark × ℕ). any (entry_at f q)) (placed (length f.buf) f.call (Got f.call x k ∷ [])),
+      ap (many (λ (q : Mark × ℕ). any (entry_at f q))) one_only,
+    ))

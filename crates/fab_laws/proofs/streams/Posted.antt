@@ -56,8 +56,8 @@ module _ (n : ℕ) (past : List Accepted) where
   abbrev Keeps : Transmitting → Type 0
   Keeps tx = Posted n past tx
 
-  replies : (t : ℕ) (r : Item) (tx : Transmitting) → is_reply r.head.kind ≡ true → Keeps tx → Keeps (joining t r tx)
-  replies t r tx reply o = record {
+  replies : (t : ℕ) (r : Item) (tx : Transmitting) → is_reply r.head.kind ≡ true → length r.bytes ≡ r.head.total → Keeps tx → Keeps (joining t r tx)
+  replies t r tx reply sized o = record {
     accepted_count = length-set tx.accepted t _ ∙ o.accepted_count;
     held_count = o.held_count;
     all = λ q. ap (λ xs. xs ++ asked (items (held_for tx q))) (same q) ∙ o.all q;

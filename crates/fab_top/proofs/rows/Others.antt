@@ -7,7 +7,7 @@ use Rattle.fab_model.proofs.Scripts.{Shows}
 use Rattle.fab_model.proofs.refused.Reports.{item_not_sent, item_not_sent_refused, line_not_done, line_not_done_refused, line_too_few, line_too_few_refused, line_too_many, line_too_many_refused, read_too_few, read_too_few_refused, script, wrong_byte, wrong_byte_refused}
 use Rattle.fab_outside.specs.Commands.{script_file}
 use Rattle.fab_outside.specs.Loading.{IsRead}
-use Rattle.fab_top.specs.Runs.{Reports, Writes}
+use Rattle.fab_top.specs.Runs.{IsReport, IsWritten, Reports}
 use Rattle.fab_top.proofs.Sticking.{same_bound}
 
 pub shows : (bound : Bound) (text : List ℕ) (done : Bool) → Reports bound text done → Shows bound text
@@ -15,16 +15,16 @@ shows bound text done reports = record { report_is = sym reports.text_is; lawful
 
 -- the words name a file that is told, and it spells this script
 pub writes_shows : (f : List ℕ → Option (List ℕ)) (words : List (List ℕ)) (file : List ℕ) (bound : Bound) (text : List ℕ) (done : Bool) → script_file words ≡ Some file → IsRead (Some f) file bound
-    → Writes (Some f) words done (Some []) (Some text) → Shows bound text
+    → IsWritten (IsReport (Some f) words done) (Some []) (Some text) → Shows bound text
 writes_shows f words file bound text done command read writes =
-    let same : writes.file ≡ file = (let e : Some writes.file ≡ Some file = sym writes.command ∙ command in cc) in
-    let is : writes.bound ≡ bound = same_bound f file writes.bound bound (subst (λ (x : List ℕ). IsRead (Some f) x writes.bound) same writes.read) read in
+    let same : writes.is.file ≡ file = (let e : Some writes.is.file ≡ Some file = sym writes.is.command ∙ command in cc) in
+    let is : writes.is.bound ≡ bound = same_bound f file writes.is.bound bound (subst (λ (x : List ℕ). IsRead (Some f) x writes.is.bound) same writes.is.read) read in
     let told : writes.text ≡ text = (let e : Some text ≡ Some writes.text = writes.written in cc) in
-    subst (λ (x : List ℕ). Shows bound x) told (subst (λ (b : Bound). Shows b writes.text) is (shows writes.bound writes.text done writes.reports))
+    subst (λ (x : List ℕ). Shows bound x) told (subst (λ (b : Bound). Shows b writes.text) is (shows writes.is.bound writes.text done writes.is.reports))
 
 abbrev pub NoRunWrites : List ℕ → Type 0
 NoRunWrites text =
-    (f : List ℕ → Option (List ℕ)) (words : List (List ℕ)) (file : List ℕ) (done : Bool) → script_file words ≡ Some file → IsRead (Some f) file script → Writes (Some f) words done (Some []) (Some text) → ⊥
+    (f : List ℕ → Option (List ℕ)) (words : List (List ℕ)) (file : List ℕ) (done : Bool) → script_file words ≡ Some file → IsRead (Some f) file script → IsWritten (IsReport (Some f) words done) (Some []) (Some text) → ⊥
 
 pub not_shown : (text : List ℕ) → (Shows script text → ⊥) → NoRunWrites text
 not_shown text refused f words file done command read writes = refused (writes_shows f words file script text done command read writes)

@@ -1,4 +1,4 @@
-use Rattle.std.proofs.Common.{◌∙◌, ap, arith}
+use Rattle.std.proofs.Common.{◌∙◌, Ok, ap, arith}
 use Rattle.fab_finish.specs.Freight.{one_if}
 use Rattle.fab_finish.proofs.carrying.carry_lane.Goals as goal
 
@@ -18,3 +18,6 @@ frames-preserved g c =
 
 pub returns-clause-others : goal.returns-clause-others
 returns-clause-others g c s r other = c.in_ok-carry_one.ensures.others s r other ∙ c.frames.invariant.others s r other
+
+pub frames-smaller : goal.frames-smaller
+frames-smaller g c = let one = c.in_ok-carry_one.ensures.one (ap Ok c.if-branch.true) in omega (arith, one)

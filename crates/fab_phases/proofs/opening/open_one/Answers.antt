@@ -1,9 +1,9 @@
-use Rattle.std.proofs.Common.{ap, ◌∙◌, ◌≡◌, ℕ, [], None, false, refl, sym, subst}
+use Rattle.std.proofs.Common.{ap, ◌∙◌, ◌≡◌, ℕ, [], None, refl, sym, subst}
 use Rattle.fab_face.specs.Held.{Held, IsPledged, due}
 use Rattle.fab_face.proofs.Repaid.{nothing_due, nothing_pledged}
 use Rattle.fab_finish.specs.Joined.{start}
 use Rattle.fab_finish.proofs.Starting.{same_at}
-use Rattle.fab_face.specs.Ports.{Whole}
+use Rattle.fab_ep.specs.Value.{Whole, anew}
 use Rattle.fab_ring.specs.declared.port.RingPort.{RingPort}
 use Rattle.fab_merging.specs.Pasts.{past_of, begun}
 use Rattle.fab_phases.specs.Phases.{past_at, at_start}
@@ -13,7 +13,7 @@ use Rattle.fab_phases.proofs.opening.open_one.Goals as goal
 
 pub returns-clause-past : goal.returns-clause-past
 returns-clause-past g c =
-    let e : Whole RingPort = record { port = c.args.port; held = g.C.Machine.held c.args.machine; log = []; log_size = c.args.conf.now.info.log; pushed = false } in
+    let e : Whole RingPort = anew c.args.port (g.C.Machine.held c.args.machine) c.args.conf.now.info.log in
     ok_then _ (λ r. past_at r.peer ≡ begun (at_start c.args.conf.now c.args.lines.items)) (λ r told. ap past_of told ∙ past_new c.args.conf.now c.args.lines.items e c.requires.start c.requires.port) c.start.result c.start.ensures.told
 
 pub start-requires-clause-multis : goal.start-requires-clause-multis

@@ -19,4 +19,4 @@ returns c =
     let begins : moment_of bound c.deref_mut.result.now ≡ start bound c.in-Some.schedule = ap (moment_of bound) c.deref_mut.ensures.value ∙ c.in_ok-peers.ensures.start ∙ ap (start bound) c.as_slice.ensures in
     let ends = c.in_ok-order.ensures.ended ∙ ap (replay (rule fabric)) begins in
     let leads = subst₂ (λ (m : Moment Actor Step) (x : Moment Actor Step). Run (turn (rule fabric)) m c.in_ok-order.order.items x) begins ends c.in_ok-order.ensures.order in
-    record { order = record { schedule = c.in-Some.schedule; told = sym c.in_ok-schedule.ensures.told ∙ c.in-Some.is; leads = leads } }
+    record { order = record { schedule = c.in-Some.schedule; told = sym c.in_ok-schedule.ensures.told ∙ c.in-Some.is; leads = leads }; none = tt }

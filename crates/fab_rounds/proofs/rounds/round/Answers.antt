@@ -1,6 +1,6 @@
 use Rattle.std.proofs.Common.{rules, ◌≡◌, arith, subst}
 use denote.Param.Send.{sendable}
-use Rattle.fab_face.specs.Ports.{seen}
+use Rattle.fab_ep.specs.Value.{seen}
 use Rattle.fab_peer.specs.Turns.{told}
 use Rattle.fab_rounds.specs.Rounds.{Rounded, between}
 use Rattle.fab_rounds.specs.Staying.{Risen}

@@ -1,5 +1,5 @@
 use Rattle.std.proofs.Common.{arith, ◌+◌, sym, ◌∙◌}
-use Rattle.fab_face.specs.Ports.{seen}
+use Rattle.fab_ep.specs.Value.{seen}
 use Rattle.fab_peer.specs.Turns.{told}
 use Rattle.fab_rounds.specs.Rounds.{between}
 use Rattle.fab_rounds.proofs.Making.{made_on, grew_told, schedules_grow, ports_stay, turns_made, still_made}

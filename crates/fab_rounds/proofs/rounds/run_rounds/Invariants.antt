@@ -1,7 +1,7 @@
 use Rattle.std.proofs.Common.{◌-◌, ◌≡◌, ◌≤◌, ◌+◌, ◌<◌, false, length, map, sum_by}
 use Rattle.std.specs.Prelude.{not}
 use Rattle.std.specs.List.{list_all, list_any}
-use Rattle.fab_face.specs.Ports.{seen}
+use Rattle.fab_ep.specs.Value.{seen}
 use Rattle.fab_model.specs.Peers.{is_finished}
 use Rattle.fab_peer.specs.Turns.{told, actor_of}
 use Rattle.fab_rounds.specs.Rounds.{MadeFor, between, size}

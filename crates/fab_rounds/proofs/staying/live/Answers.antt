@@ -1,5 +1,5 @@
 use Rattle.std.proofs.Common.{arith, ◌≡◌, ◌+◌, ℕ, true, [], ◌∷◌, length, sym, refl, ap, ◌∙◌, subst, length-append}
-use Rattle.fab_face.specs.Ports.{seen}
+use Rattle.fab_ep.specs.Value.{seen}
 use Rattle.fab_peer.specs.Turns.{told}
 use Rattle.fab_meeting.specs.declared.kinds.Account.{Account}
 use Rattle.fab_meeting.specs.Accounts.{answer_at}

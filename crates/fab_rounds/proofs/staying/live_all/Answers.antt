@@ -1,5 +1,5 @@
 use Rattle.std.proofs.Common.{rules, arith, ◌≤◌, length, get_or, sym, ap, subst, ◌∙◌}
-use Rattle.fab_face.specs.Ports.{seen}
+use Rattle.fab_ep.specs.Value.{seen}
 use Rattle.fab_peer.specs.Turns.{told}
 use denote.Param.Send.{sendable}
 use Rattle.fab_rounds.specs.Rounds.{between}

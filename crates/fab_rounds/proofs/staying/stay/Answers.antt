@@ -1,4 +1,4 @@
-use Rattle.fab_face.specs.Ports.{seen}
+use Rattle.fab_ep.specs.Value.{seen}
 use Rattle.fab_peer.specs.Turns.{told}
 use Rattle.fab_rounds.specs.Rounds.{between}
 use Rattle.fab_rounds.proofs.Making.{none_ran}

@@ -1,4 +1,4 @@
-use Rattle.std.proofs.Common.{ℕ, ◌≤◌, ⊎_elim, inl, inr, List, length, drop, sym, ap, ◌∙◌, subst, arith}
+use Rattle.std.proofs.Common.{ℕ, ◌≡◌, ◌<◌, ◌≤◌, ◌*◌, take, ⊎_elim, inl, inr, List, length, drop, sym, ap, ◌∙◌, subst, arith}
 use mathlib.Core.List.{IsPrefix}
 use Rattle.std.specs.Prelude.{slice_index}
 use Rattle.std.proofs.lemmas.List.{take-append-drop, length-take-le}
@@ -11,7 +11,7 @@ use Rattle.fab_table.specs.declared.kinds.Part.{Part}
 use Rattle.fab_table.specs.declared.kinds.View.{View}
 use Rattle.fab_table.specs.Views.{part_at, out_at, in_at, lane_of, pool_word, pool_home}
 use Rattle.fab_table.specs.Rule.{Lane, Place, free, claimed, sent, PlaceOk, Ruled}
-use Rattle.fab_table.specs.Moments.{SlotStands}
+use Rattle.fab_table.specs.Moments.{Owns, SlotStands}
 use Rattle.fab_table.proofs.Rows.{pair_below}
 use Rattle.fab_table.proofs.laws.law_lane_rule.Goals as goal
 
@@ -30,10 +30,39 @@ slot_stands : (k : Layout) (t : State Slot View) (r : Ruled k t) (q : ℕ) (plac
 slot_stands k t r q free ok = ok
 slot_stands k t r q (claimed s d) ok = ok
 slot_stands k t r q (sent s d j) ok = let lane : ℕ = lane_of k.peers s d in let got_is = (r.each_lane lane (pair_below k.peers k.peers s d ok.1 ok.2)).got_is in let stands = ok.3.1 in
-    (ok.0, ok.1, ok.2, (stands.0, stands.1, stands.2, ⊎_elim (λ o. inl (o.0 ∙ sym got_is, o.1)) (λ o. inr o.0) stands.3))
+    (ok.0, ok.1, ok.2, (stands.0, stands.1, stands.2, subst (λ (z : ℕ). z ≤ j) (sym got_is) ok.3.0, ⊎_elim (λ o. inl (o.0 ∙ sym got_is, o.1)) (λ o. inr o.0) stands.3))
 
 pub returns-clause-slots : goal.returns-clause-slots
 returns-clause-slots c k t r q near = slot_stands k t r q (r.place q) (r.pools.each_place q near)
+
+pub returns-clause-cut : goal.returns-clause-cut
+returns-clause-cut c k t r l near = (r.each_lane l near).cut
+
+-- whatever owns a slot is its place
+owner : (k : Layout) (t : State Slot View) (r : Ruled k t) (q : ℕ) (p : Place) → Owns k t r.lane q p → (q < k.peers * k.pool) × (r.place q ≡ p)
+owner k t r q free own = absurd own
+owner k t r q (claimed s d) (near_s, near_d, is) = r.pools.each_claim s d q near_s near_d is
+owner k t r q (sent s d j) (near_s, near_d, (x, slot, late, at, lent)) =
+    let got_is = (r.each_lane (lane_of k.peers s d) (pair_below k.peers k.peers s d near_s near_d)).got_is in
+    r.pools.each_sent s d j x q near_s near_d (subst (λ (z : ℕ). z ≤ j) got_is late, at, λ is. lent (is ∙ sym got_is)) slot
+
+pub returns-clause-owned : goal.returns-clause-owned
+returns-clause-owned c k t r q p own = owner k t r q p own
+
+pub returns-clause-one_owner : goal.returns-clause-one_owner
+returns-clause-one_owner c k t r q a b one other = sym (owner k t r q a one).1 ∙ (owner k t r q b other).1
+
+pub returns-clause-told : goal.returns-clause-told
+returns-clause-told c k t r j i v at e below = let n : ℕ = k.peers in let ok = r.each_part j v at.0 i at.1 in let me : ℕ = (part_at v i).me in
+    let out = ok.outs e below in let into = ok.ins e below in let back = r.each_lane (lane_of n e me) (pair_below n n e me below ok.below) in
+    (out.0, subst (λ (z : ℕ). (in_at (part_at v i) e).taken ≡ take z (r.lane (lane_of n e me)).posted) (sym back.got_is) into.0)
+
+pub returns-clause-numbered : goal.returns-clause-numbered
+returns-clause-numbered c k t r j i v at = let ok = r.each_part j v at.0 i at.1 in let kept = ok.kept in record {
+  stamped = kept.stamped;
+  posts = λ d below. kept.posts d (omega (arith, below, ok.all_outs));
+  takes = λ s below. kept.takes s (omega (arith, below, ok.all_ins));
+}
 
 pub returns-clause-known : goal.returns-clause-known
 returns-clause-known c k t r j i v at e below = let n : ℕ = k.peers in let ok = r.each_part j v at.0 i at.1 in let me : ℕ = (part_at v i).me in

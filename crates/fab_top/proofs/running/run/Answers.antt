@@ -1,4 +1,4 @@
-use Rattle.std.proofs.Common.{string_bytes, sym}
+use Rattle.std.proofs.Common.{string_bytes, inl, inr, true, sym}
 use Rattle.fab_top.proofs.Answering.{bench_answered, check_answered, coll_answered, unread_answered}
 use Rattle.fab_top.proofs.Asking.{names_check, names_payload, names_rounds, names_script}
 use Rattle.fab_top.proofs.Sticking.{may_stick, never}
@@ -67,3 +67,20 @@ pub returns-in-Ok-run_script-clause-loads : goal.returns-in-Ok-run_script-clause
 returns-in-Ok-run_script-clause-loads g c =
     names_script (g.D.Depot.files c.args.depot.now) c.args.words.now c.in-Some-script_file.name.now (g.D.Depot.loaded c.args.depot.now) (g.D.Depot.loaded c.load_script.new.depot)
     (sym c.in-Some-script_file.ensures) c.load_script.ensures.loads
+
+-- ---- what was written in part
+
+pub returns-in-Some-replay_files-clause-begun : goal.returns-in-Some-replay_files-clause-begun
+returns-in-Some-replay_files-clause-begun g c is =
+    let part = (c.carry_out_check.ensures.write_fault is).1 in
+    (true, record { text = part.0; is = inr (inr (inr (inl (record { file = c.in-Some-replay_files.file.now; trace = c.in-Some-replay_files.trace.now; command = sym c.in-Some-replay_files.ensures; checked = part.2 })))); some = part.1; fewer = part.3; written = part.4 })
+
+pub returns-in-Some-coll_file-clause-begun : goal.returns-in-Some-coll_file-clause-begun
+returns-in-Some-coll_file-clause-begun g c is =
+    let part = (c.carry_out_rounds.ensures.write_fault is).1 in
+    (true, record { text = part.0; is = inr (inr (inr (inr (inr (record { file = c.in-Some-coll_file.file.now; command = sym c.in-Some-coll_file.ensures; due = part.2 }))))); some = part.1; fewer = part.3; written = part.4 })
+
+pub returns-in-Ok-run_script-clause-begun : goal.returns-in-Ok-run_script-clause-begun
+returns-in-Ok-run_script-clause-begun g c is =
+    let part = (c.write_text.ensures.write_fault is).1 in
+    (c.in-Ok-run_script.ran.done, record { text = string_bytes c.in-Ok-run_script.ran.text; is = inl (record { file = c.in-Some-script_file.name.now; command = sym c.in-Some-script_file.ensures; bound = c.in-Ok.bound; read = c.in-Ok.ensures.ok; reports = c.in-Ok-run_script.ensures }); some = part.0; fewer = part.1; written = part.2 })

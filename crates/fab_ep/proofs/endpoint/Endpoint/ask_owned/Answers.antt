@@ -3,7 +3,7 @@ use Rattle.fab_model.specs.Calls.{do_call}
 use Rattle.fab_face.specs.Answers.{is_final}
 use Rattle.fab_face.specs.Requesting.{requesting}
 use Rattle.fab_face.specs.declared.events.Event.TheVariants.{Call as Called}
-use Rattle.fab_face.specs.Ports.{seen}
+use Rattle.fab_ep.specs.Value.{seen}
 use Rattle.fab_ep.proofs.Accepting.{only_after, sends_out, sends_later}
 use Rattle.fab_ep.proofs.endpoint.Endpoint.ask_owned.Goals as goal
 

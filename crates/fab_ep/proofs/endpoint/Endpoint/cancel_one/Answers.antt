@@ -4,7 +4,7 @@ use Rattle.fab_base.specs.declared.peers.LineResult.TheVariants.{Refused}
 use Rattle.fab_model.specs.Calls.{do_call}
 use Rattle.fab_face.specs.Answers.{is_final}
 use Rattle.fab_face.specs.Machine.{cancelling}
-use Rattle.fab_face.specs.Ports.{seen}
+use Rattle.fab_ep.specs.Value.{seen}
 use Rattle.fab_ep.proofs.Answering.{tied_received, cancels_ours, crowded_there, if_err, received, refused_after, refused_by}
 use Rattle.fab_ep.proofs.endpoint.Endpoint.cancel_one.Goals as goal
 
@@ -34,5 +34,6 @@ pub invariant_of-self-2 : goal.invariant_of-self-2
 invariant_of-self-2 g c =
     let i = c.self.inside in (
       c.self.invariant.0,
-      tied_received (seen g.P.Port (record { port = i.port; held = g.C.Machine.held i.core; log = i.log.items; log_size = i.log_size; pushed = i.pushed })) _ _ c.self.invariant.1 c.in_ok-cancel.ensures.ok c.in_ok-cancel.ensures.next refl refl refl c.known.ensures,
+      tied_received (seen g.P.Port (record { port = i.port; held = g.C.Machine.held i.core; log = i.log.items; log_size = i.log_size; pushed = i.pushed; next = i.next })) _ _ c.self.invariant.1 c.in_ok-cancel.ensures.ok c.in_ok-cancel.ensures.next refl refl refl c.known.ensures,
+      c.self.invariant.2,
     )

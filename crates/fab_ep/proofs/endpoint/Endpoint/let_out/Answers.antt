@@ -1,5 +1,5 @@
 use Rattle.std.proofs.Common.{rules, refl, ◌∙◌}
-use Rattle.fab_face.specs.Ports.{seen}
+use Rattle.fab_ep.specs.Value.{seen}
 use Rattle.fab_ep.proofs.Letting.{letting_none, letting_on, letting_end}
 use Rattle.fab_ep.proofs.endpoint.Endpoint.let_out.Goals as goal
 

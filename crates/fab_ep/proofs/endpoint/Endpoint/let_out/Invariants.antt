@@ -1,5 +1,5 @@
 use Rattle.std.proofs.Common.{◌≡◌}
-use Rattle.fab_face.specs.Ports.{seen}
+use Rattle.fab_ep.specs.Value.{seen}
 use Rattle.fab_ep.specs.Tries.{left_for}
 use Rattle.fab_ep.proofs.Letting.{Letting}
 use Rattle.fab_ep.proofs.endpoint.Endpoint.let_out.Given as goal

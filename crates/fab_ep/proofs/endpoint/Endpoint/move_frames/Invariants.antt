@@ -1,5 +1,5 @@
 use Rattle.std.proofs.Common.{Bool, ◌≡◌, ◌≤◌, ◌<◌, ◌+◌, ◌⊎◌}
-use Rattle.fab_face.specs.Ports.{seen}
+use Rattle.fab_ep.specs.Value.{seen}
 use Rattle.fab_ep.proofs.Turning.{Going}
 use Rattle.fab_ep.proofs.endpoint.Endpoint.move_frames.Given as goal
 
@@ -10,5 +10,6 @@ invariant-loop-turn g l = record {
   turns : l._turn ≤ l.taken + l.posted;
   left : (l.taken + l.posted < l.budget) ⊎ (l.taken + l.posted ≡ 0);
   pushed : l.self.pushed ≡ l.fn.self.pushed;
+  next : l.self.next ≡ l.fn.self.next;
   budget : l.budget ≡ l.fn.budget;
 }

@@ -2,7 +2,7 @@ use Rattle.std.proofs.Common.{rules, ◌≡◌, refl, false}
 use Rattle.fab_model.specs.Calls.{do_call}
 use Rattle.fab_face.specs.Answers.{is_final}
 use Rattle.fab_face.specs.Machine.{asking}
-use Rattle.fab_face.specs.Ports.{seen}
+use Rattle.fab_ep.specs.Value.{seen}
 use Rattle.fab_ep.proofs.Answering.{crowded_out, if_err, posts_ours, received, refused_by, refused_early, still_granted, tied_received}
 use Rattle.fab_ep.proofs.Lasting.{posts_early, posts_last}
 use Rattle.fab_ep.proofs.endpoint.Endpoint.post.Goals as goal
@@ -38,7 +38,8 @@ pub invariant_of-self-2 : goal.invariant_of-self-2
 invariant_of-self-2 g c =
     let i = c.self-2.inside in (
       c.self-2.invariant.0,
-      tied_received (seen g.P.Port (record { port = i.port; held = g.C.Machine.held i.core; log = i.log.items; log_size = i.log_size; pushed = i.pushed })) _ _ c.self-2.invariant.1 c.in_ok-post.ensures.ok c.in_ok-post.ensures.next refl refl refl c.known.ensures,
+      tied_received (seen g.P.Port (record { port = i.port; held = g.C.Machine.held i.core; log = i.log.items; log_size = i.log_size; pushed = i.pushed; next = i.next })) _ _ c.self-2.invariant.1 c.in_ok-post.ensures.ok c.in_ok-post.ensures.next refl refl refl c.known.ensures,
+      c.self-2.invariant.2,
     )
 
 pub returns-clause-ok : goal.returns-clause-ok

@@ -1,5 +1,5 @@
 use Rattle.std.proofs.Common.{rules, refl, arith, ◌∙◌, sym}
-use Rattle.fab_face.specs.Ports.{seen}
+use Rattle.fab_ep.specs.Value.{seen}
 use Rattle.fab_ep.proofs.Staying.{pushing_none, pushing_on, pushing_err, pushing_all, pushing_peers}
 use Rattle.fab_ep.proofs.endpoint.Endpoint.push.Goals as goal
 

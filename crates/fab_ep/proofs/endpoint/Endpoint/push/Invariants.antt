@@ -1,6 +1,6 @@
 use Rattle.std.proofs.Common.{◌≡◌}
 use Rattle.fab_face.specs.Answers.{HasPlaces}
-use Rattle.fab_face.specs.Ports.{seen}
+use Rattle.fab_ep.specs.Value.{seen}
 use Rattle.fab_ep.proofs.Staying.{PushingOn}
 use Rattle.fab_ep.proofs.endpoint.Endpoint.push.Given as goal
 

@@ -2,7 +2,7 @@ use Rattle.std.proofs.Common.{◌≡◌, ◌≤◌, ◌+◌, ◌⊎◌, inl, inr
 use Rattle.fab_base.specs.declared.frames.Frame.{Frame}
 use Rattle.fab_wire.specs.Joined.{is_last}
 use Rattle.fab_face.specs.Held.{next_frame}
-use Rattle.fab_face.specs.Ports.{seen}
+use Rattle.fab_ep.specs.Value.{seen}
 use Rattle.fab_ep.proofs.Staying.{stays_of}
 use Rattle.fab_ep.proofs.Pushing.{pushes_of, places_of}
 use Rattle.fab_ep.proofs.endpoint.Endpoint.push_one.Goals as goal

@@ -1,5 +1,5 @@
 use Rattle.std.proofs.Common.{rules, refl, ◌∙◌}
-use Rattle.fab_face.specs.Ports.{seen}
+use Rattle.fab_ep.specs.Value.{seen}
 use Rattle.fab_ep.proofs.Staying.{stays_then, stays_none}
 use Rattle.fab_ep.proofs.Pushing.{posting_none, posting_on, pushed_end, pushed_err}
 use Rattle.fab_ep.proofs.endpoint.Endpoint.push_to.Goals as goal

@@ -1,6 +1,6 @@
 use Rattle.std.proofs.Common.{◌≡◌, false}
 use Rattle.fab_face.specs.Answers.{HasPlaces}
-use Rattle.fab_face.specs.Ports.{seen}
+use Rattle.fab_ep.specs.Value.{seen}
 use Rattle.fab_link.specs.Meaning.{Others}
 use Rattle.fab_ep.specs.Tries.{HeldStays, PushedTo, left_for}
 use Rattle.fab_ep.proofs.endpoint.Endpoint.push_to.Given as goal

@@ -1,5 +1,5 @@
 use Rattle.std.proofs.Common.{rules}
-use Rattle.fab_face.specs.Ports.{seen}
+use Rattle.fab_ep.specs.Value.{seen}
 use Rattle.fab_ep.proofs.Accepting.{only_after, sends_out, sends_later}
 use Rattle.fab_ep.proofs.endpoint.Endpoint.send_message.Goals as goal
 

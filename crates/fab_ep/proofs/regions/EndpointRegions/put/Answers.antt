@@ -1,10 +1,11 @@
-use Rattle.fab_face.specs.Ports.{seen}
+use Rattle.fab_ep.specs.Value.{seen}
 use Rattle.fab_ep.proofs.Registered.{put_leaves, tied_on}
 use Rattle.fab_ep.proofs.regions.EndpointRegions.put.Goals as goal
 
 pub invariant_of-self : goal.invariant_of-self
 invariant_of-self g c = (
   c.self.invariant.0,
-  tied_on _ _ (seen g.P.Port (record { port = c.self.inside.port; held = g.C.Machine.held c.self.inside.core; log = c.self.inside.log.items; log_size = c.self.inside.log_size; pushed = c.self.inside.pushed })) _
+  tied_on _ _ (seen g.P.Port (record { port = c.self.inside.port; held = g.C.Machine.held c.self.inside.core; log = c.self.inside.log.items; log_size = c.self.inside.log_size; pushed = c.self.inside.pushed; next = c.self.inside.next })) _
       c.put.result (put_leaves _ _ _) c.put.ensures.ok c.put.ensures.stays c.self.invariant.1,
+  c.self.invariant.2,
 )

@@ -1,0 +1,13 @@
+use Rattle.std.proofs.Common.{◌≡◌, false}
+use Rattle.fab_app.specs.Trying.{sent_by}
+use Rattle.fab_app.specs.Progresses.{Progresses}
+use Rattle.fab_app.specs.Until.{timed, Until}
+use Rattle.fab_app.specs.Within.{SendMisses}
+use Rattle.fab_app.proofs.endpoint.Endpoint.send_on_until.Given as goal
+
+abbrev pub invariant-turns : goal.invariant-turns
+invariant-turns g l = record {
+  before : Progresses (g.E.Sees.seen l.fn.self) (g.E.Sees.seen l.self);
+  buf : l.buf ≡ l.fn.buf;
+  turns : Until (SendMisses g.E.Sees.fixed 64 (sent_by l.fn.message l.fn.buf)) l.moment.nanos false (timed (g.C.Clock.told l.fn.clock) (g.E.Sees.seen l.fn.self)) (timed (g.C.Clock.told l.clock) (g.E.Sees.seen l.self));
+}

@@ -1,0 +1,4 @@
+-- Receives that are alike.
+pub mod Turn
+pub mod Watching
+pub mod Laws

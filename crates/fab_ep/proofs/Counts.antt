@@ -1,0 +1,27 @@
+-- How many acts of a kind there are, and counts that never fall.
+use Rattle.std.proofs.Common.{◌≡◌, ◌≤◌, ◌+◌, inl, inr, ℕ, Bool, true, false, List, [], ◌∷◌, ◌++◌, refl, ap, ◌∙◌, arith, cond}
+use Rattle.std.specs.Prelude.{count_by}
+use Rattle.std.proofs.lemmas.Bool.{cases_eq}
+use Rattle.std.proofs.lemmas.List.Sums.{sum_by-append, sum_by_push}
+use Rattle.fab_base.specs.Counts.{Rose}
+use Rattle.fab_face.specs.Acts.{Act, Did, Took, Posted, Drew, Had, is_draw, is_post, is_take}
+use Rattle.fab_face.specs.Answers.{AllAre}
+
+pub count_append : (test : Act → Bool) (xs ys : List Act) → count_by test (xs ++ ys) ≡ count_by test xs + count_by test ys
+count_append test xs ys = sum_by-append (λ a. cond (test a) 1 0) xs ys
+
+-- draws are no frames
+pub draws_none : (acts : List Act) → AllAre is_draw acts → (count_by is_take acts ≡ 0) × (count_by is_post acts ≡ 0)
+draws_none [] are = (refl, refl)
+draws_none (Did ∷ acts) are = absurd (cc)
+draws_none (Took source f ∷ acts) are = absurd (cc)
+draws_none (Posted dest f ∷ acts) are = absurd (cc)
+draws_none (Drew ∷ acts) are = draws_none acts are
+draws_none (Had ∷ acts) are = absurd (cc)
+
+pub rose_on : (a b c : ℕ) → a ≤ b → Rose b c → Rose a c
+rose_on a b c le (inl less) = inl (omega (arith, less, le))
+rose_on a b c le (inr last) = (let same = last.0 in elim (cases_eq a c) [
+  | inl at ↦ inr (at, last.1)
+  | inr under ↦ inl (omega (arith, under, same, le))
+])

@@ -1,0 +1,7 @@
+pub mod Steps
+pub mod Tiles
+pub mod Pairs
+pub mod Finding
+pub mod Reaching
+pub mod Calls
+mod Rows

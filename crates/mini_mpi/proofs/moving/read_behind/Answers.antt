@@ -1,0 +1,8 @@
+use Rattle.mini_mpi.proofs.Going.{comes_after, fails_after}
+use Rattle.mini_mpi.proofs.moving.read_behind.Goals as goal
+
+pub returns-clause-ok : goal.returns-clause-ok
+returns-clause-ok g c = comes_after g.E.Sees.fixed c.read.result _ _ _ c.post_receives.ensures.goes c.read.ensures.ok
+
+pub returns-clause-err : goal.returns-clause-err
+returns-clause-err g c = fails_after g.E.Sees.fixed c.read.result _ _ _ c.post_receives.ensures.goes c.read.ensures.err

@@ -1,0 +1,107 @@
+//! The collectives of `mini_mpi` among 7 ranks, which tell each other straight, and among 8, 11 and 32, which do by doubling, each rank in a
+//! thread of its own.
+#![tactic(auto)]
+
+use mini_mpi::{AtomicOp, Calls, EndpointOver, Error, Hints, Num, World, open};
+use std::alloc::Global;
+use std::sync::Wait;
+use std::thread::{self, Threads};
+
+/// How many ranks there are in each run.
+const RANKS: [u32; 4] = [7, 8, 11, 32];
+
+/// The numbers from one on, as little-endian elements of 32 bits.
+fn numbers(alloc: Global, count: u32) -> Result<Vec<u8>, Error> {
+    let mut bytes = Vec::new(alloc);
+    for k in 0..count {
+        bytes.extend_from_slice(&k.wrapping_add(1).to_le_bytes())?;
+    }
+    Ok(bytes)
+}
+
+/// All ranks get the bytes of each in turn.
+fn broadcasts<R: Wait, E: Calls + Drop>(rt: &R, world: &mut World<E>) -> Result<bool, Error> {
+    let mut are_right = true;
+    for root in 0..world.size() {
+        let mut bytes = if world.rank() == root {
+            root.to_le_bytes()
+        } else {
+            [255; 4]
+        };
+        world.bcast(rt, root, &mut bytes)?;
+        are_right = are_right && bytes == root.to_le_bytes();
+    }
+    Ok(are_right)
+}
+
+/// All ranks get the 4 bytes of each, in order of ranks.
+fn gathers<R: Wait, E: Calls + Drop>(
+    rt: &R,
+    alloc: Global,
+    world: &mut World<E>,
+) -> Result<bool, Error> {
+    let wanted = numbers(alloc, world.size())?;
+    let own = world.rank().wrapping_add(1).to_le_bytes();
+    let mut all = numbers(alloc, world.size())?;
+    all.as_mut_slice().fill(0);
+    world.allgather(rt, &own, all.as_mut_slice())?;
+    Ok(all.as_slice() == wanted.as_slice())
+}
+
+/// All ranks get the sum of the numbers of all.
+fn reduces<R: Wait, E: Calls + Drop>(rt: &R, world: &mut World<E>) -> Result<bool, Error> {
+    let peers = world.size();
+    let mut bytes = world.rank().wrapping_add(1).to_le_bytes();
+    world.allreduce(rt, AtomicOp::Sum, Num::U32, &mut bytes)?;
+    Ok(bytes == (peers.wrapping_mul(peers.wrapping_add(1)) / 2).to_le_bytes())
+}
+
+/// Does all, as the rank of this endpoint.
+fn run<R: Wait, E: Calls + Drop>(
+    rt: &R,
+    alloc: Global,
+    endpoint: EndpointOver<E>,
+) -> Result<bool, Error> {
+    let mut world = World::new(alloc, endpoint);
+    world.barrier(rt)?;
+    let broadcast = broadcasts(rt, &mut world)?;
+    world.barrier(rt)?;
+    let gathered = gathers(rt, alloc, &mut world)?;
+    let reduced = reduces(rt, &mut world)?;
+    world.finalize(rt)?;
+    Ok(broadcast && gathered && reduced)
+}
+
+/// Lets each rank run in a thread of its own.
+fn all_ranks<R: Threads + Wait + Sync, E: Calls + Drop + Send>(
+    rt: &R,
+    alloc: Global,
+    endpoints: Vec<EndpointOver<E>>,
+) -> Result<Vec<Result<bool, Error>>, Error> {
+    let all = thread::map_vec(rt, endpoints, &|endpoint| run(rt, alloc, endpoint))?;
+    Ok(all)
+}
+
+/// Whether all of so many ranks got what they are to get.
+fn are_right(ran: &Result<Vec<Result<bool, Error>>, Error>, peers: u32) -> bool {
+    match ran {
+        Ok(all) => all.len() == peers as usize && all.iter().all(|one| matches!(one, Ok(true))),
+        Err(_) => false,
+    }
+}
+
+fn main(rt: HostRuntime) -> std::io::Result<()> {
+    for peers in RANKS {
+        let ran = match open(rt.alloc(), &Hints::new().peers(peers)) {
+            Ok(domain) => all_ranks(&rt, rt.alloc(), domain.endpoints),
+            Err(fault) => Err(Error::from(fault)),
+        };
+        let word = if are_right(&ran, peers) {
+            "pass"
+        } else {
+            "FAIL"
+        };
+        println!(rt; "{peers} ranks: {word}")?;
+    }
+    Ok(())
+}
