@@ -8,7 +8,6 @@ use Rattle.fab_fold.specs.declared.coll.Coll.TheVariants.{Barrier, Broadcast, Al
 use Rattle.fab_topology.specs.declared.kinds.Topology.TheVariants.{Mesh, Dissemination}
 use Rattle.fab_fold.specs.Shares.{among, fold, outcome_of}
 use Rattle.fab_topology.specs.declared.kinds.Topology.{Topology}
-use Rattle.fab_topology.specs.Laws.{Tiles}
 use Rattle.fab_topology.specs.Rounds.{behind, distance, is_doubling, root_of, rounds_of, source_by, source_of, waits_for, width}
 use Rattle.fab_topology.proofs.Pairs.{each_is_told}
 use Rattle.fab_topology.proofs.Tiles.{each_tiles}

@@ -1,5 +1,5 @@
 -- A message that is awaited, and of which no completion that was offered is, is awaited still.
-use Rattle.std.proofs.Common.{◌≡◌, ℕ, zero, suc, ◌<◌, Bool, true, false, ◌==◌, if◌then◌else◌, List, [], ◌∷◌, get_or, Option, None, Some, inl, inr, ◌⊎◌, refl, sym, ap, ◌∙◌, subst, arith, All}
+use Rattle.std.proofs.Common.{◌≡◌, ℕ, zero, suc, ◌<◌, Bool, true, false, ◌==◌, if◌then◌else◌, List, [], ◌∷◌, get_or, Option, None, Some, inl, inr, ◌⊎◌, refl, sym, ap, ◌∙◌, arith, All}
 use Rattle.std.specs.Prelude.{Any, slice_set}
 use Rattle.std.proofs.lemmas.Bool.{eqb-true, eqb-false}
 use Rattle.std.proofs.lemmas.List.{get_or-set_other}
@@ -11,7 +11,7 @@ use Rattle.fab_collectives.specs.declared.collective.Work.{Work}
 use Rattle.fab_collectives.specs.Beginning.{hearings}
 use Rattle.fab_collectives.specs.Offered.{Brings, EachIsOffered, awaited_behind}
 use Rattle.fab_collectives.specs.Offering.{awaited_after, brought, is_of, round_of, without_round}
-use Rattle.fab_collectives.specs.Routes.{heard_by, hears_in, rounds_in, source_in, topology_of}
+use Rattle.fab_collectives.specs.Routes.{hears_in, rounds_in, source_in, topology_of}
 
 -- where nothing is awaited, no message is
 none : (awaited : List Bool) (k : ℕ) → All (λ a. a ≡ false) awaited → get_or awaited k false ≡ false

@@ -2,7 +2,7 @@
 --     at_rank work r                  the same collective at rank r
 --     AreSaid work len shares heard   of each rank's share and what it heard, by round: what it heard in a round is the message of the rank that it hears in it
 --     EachIsFolded                    then what each rank makes of it is the fold of all shares in order of ranks
-use Rattle.std.specs.Prelude.{◌≡◌, ℕ, ◌<◌, ◌≤◌, ◌^◌, List, [], ◌∷◌, length, map, slice_index_or}
+use Rattle.std.specs.Prelude.{◌≡◌, ℕ, ◌<◌, ◌≤◌, ◌^◌, List, [], length, map, slice_index_or}
 use Rattle.std.specs.List.{range_with_len}
 use Rattle.fab_fold.specs.Shares.{fold, outcome_of}
 use Rattle.fab_fold.specs.declared.coll.Coll.{Coll}

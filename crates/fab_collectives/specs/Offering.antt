@@ -5,7 +5,7 @@
 --     received_after work len received polled    the messages that came, by round, with the one that it brings
 --     awaited_after work len awaited polled      of which rounds the message is awaited still
 --     failed_after work len failed polled        whether a receive failed, or brought a message that is not waited for
-use Rattle.std.specs.Prelude.{ℕ, Bool, true, false, ◌&&◌, ◌||◌, ◌==◌, if◌then◌else◌, List, [], take, slice_set, Option, Some, None, is_none}
+use Rattle.std.specs.Prelude.{ℕ, Bool, false, ◌&&◌, ◌||◌, ◌==◌, if◌then◌else◌, List, [], take, slice_set, Option, Some, None, is_none}
 use Rattle.fab_base.specs.declared.entries.Entry.{Entry as EntryValue}
 use Rattle.fab_base.specs.declared.entries.Entry.TheVariants.{Received}
 use Rattle.fab_app.specs.declared.completions.Polled.{Polled}

@@ -9,7 +9,7 @@
 --     joined_of work own received     the own share and those that were heard, of the ranks from this one on, around; of a broadcast the root's
 --     message_of work own received k  what the rank tells in round k: as many shares from its own on as a message of this round brings; of a broadcast the root's
 --     others_of work own received     the shares of the others, in order of ranks; of a broadcast the root's
-use Rattle.std.specs.Prelude.{ℕ, zero, suc, ◌+◌, ◌-◌, ◌*◌, ◌/◌, ◌==◌, ◌&&◌, not, Bool, true, false, List, [], ◌∷◌, ◌++◌, length, map, take, drop, slice_index_or, nat_lt, if◌then◌else◌, Option}
+use Rattle.std.specs.Prelude.{ℕ, zero, suc, ◌+◌, ◌-◌, ◌*◌, ◌/◌, ◌==◌, ◌&&◌, not, Bool, List, [], ◌∷◌, ◌++◌, length, map, take, drop, slice_index_or, nat_lt, if◌then◌else◌, Option}
 use Rattle.std.specs.List.{concat, range_with_len}
 use Rattle.fab_base.specs.declared.limits.TheConstants.{INJECT_BYTES}
 use Rattle.fab_fold.specs.declared.coll.Coll.{Coll}

@@ -5,3 +5,4 @@ pub mod Finding
 pub mod Reaching
 pub mod Calls
 mod Rows
+pub mod Sending

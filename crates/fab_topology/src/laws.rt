@@ -1,4 +1,5 @@
 //! What the rounds of each topology come to.
+ghost use Rattle.fab_topology.specs.Begun.{AllBegun};
 ghost use Rattle.fab_topology.specs.Laws.{AllHear, EachIsFound, EachIsFrom, EachIsHeard, EachIsOnce, EachIsTold, EachTiles, FewMessages};
 
 /// For any number of ranks:
@@ -20,4 +21,12 @@ pub fn law_rounds()
     ensures tiles { EachTiles }
     ensures all_hear { AllHear }
     ensures few { FewMessages }
+{}
+
+/// No rank is done before all have begun, or before the root has where one has something for all.
+///
+/// This is so in each run in which a message that came was sent by a rank that had begun, once those came that it waits for: whoever
+/// then has begun and got the message of each round in which it hears, is done after all have begun.
+pub fn law_begun()
+    ensures begun { AllBegun }
 {}

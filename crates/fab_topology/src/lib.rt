@@ -7,7 +7,7 @@
 //! by doubling     Dissemination                     Tree
 //! ```
 //!
-//! That each message has one receiver who waits for it, and that all hear of all, is [`law_rounds`].
+//! That each message has one receiver who waits for it, and that all hear of all, is [`law_rounds`]; that none is done before all have begun, [`law_begun`].
 #![tactic(auto)]
 
 mod around;
@@ -18,4 +18,4 @@ mod laws;
 pub use around::{ahead, behind};
 pub use hearing::{distance, hears, round_from, rounds, source, target, tells, waits_for, width};
 pub use kinds::{Topology, is_doubling};
-pub use laws::law_rounds;
+pub use laws::{law_begun, law_rounds};
