@@ -1,6 +1,6 @@
 -- What completed receives say, at every moment that some order of turns leads to from the opening.
 --     asked_of from turns p      the receives that the calls of peer p made: of recv, trecv and recv_multi, and of take
---     EntriesTell                each entry that tells a message is that of an item that is whole, with its bytes or their truncation
+--     EntriesTell                each entry that tells a message is that of an item that is whole: its source and length, or how much was cut off
 --     ReceivesTell               so the entry of a receive that is no multi-receive has its message in its own buffer, from the buffer's first byte on
 --     ItemsAreSized              each item has as many bytes as its head says
 use Rattle.std.specs.Prelude.{◌≡◌, ◌≤◌, ◌-◌, length, ◌<◌, ◌⊎◌, ℕ, Bool, true, false, nat_lt, List, [], ◌∷◌, ◌++◌, Option, Some, None, slice_get, slice_index}

@@ -7,7 +7,7 @@
 --     ReleasesTell            the entry that releases it says how many of its bytes are given away, and its receive takes no more
 --     ReleasesInTime          once the receive takes no more, the buffer is released, or a message still comes into it
 --     TellsOnce               each of these messages that is whole has one entry
-use Rattle.std.specs.Prelude.{◌≡◌, ℕ, ◌+◌, ◌-◌, min, Bool, true, false, nat_lt, ◌==◌, List, [], ◌∷◌, ◌++◌, length, Option, Some, None, slice_get, slice_index, count_by, ◌&&◌, ◌≤◌, ◌<◌, ◌⊎◌}
+use Rattle.std.specs.Prelude.{◌≡◌, ℕ, ◌+◌, ◌-◌, min, Bool, true, false, not, nat_lt, ◌==◌, List, [], ◌∷◌, ◌++◌, length, Option, Some, None, slice_get, slice_index, count_by, ◌&&◌, ◌≤◌, ◌<◌, ◌⊎◌}
 use Rattle.fab_base.specs.declared.items.Item.{Item}
 use Rattle.fab_base.specs.declared.entries.Entry.TheVariants.{Released}
 use Rattle.fab_base.specs.declared.entries.ErrKind.TheVariants.{Canceled}
@@ -23,7 +23,7 @@ use Rattle.fab_model.specs.Views.{seen}
 use Rattle.fab_laws.specs.Members.{In}
 use Rattle.fab_laws.specs.Moments.{AtEveryMoment}
 use Rattle.fab_laws.specs.Programs.{Peer, program}
-use Rattle.fab_laws.specs.Matched.{Came, Cancelled, Event, Got, Lost, Made, Mark, past_of, tells_message}
+use Rattle.fab_laws.specs.Matched.{Came, Cancelled, Event, Got, Lost, Made, Mark, goes_into, past_of, tells_message}
 use Rattle.fab_laws.specs.MessageLaws.{IsMessage, asked_of}
 
 -- each message is given as many bytes as it has, as far as there are
@@ -127,10 +127,14 @@ entry_at f q = record { call = Some f.call; entry = entry_of f q.1 q.0.source q.
 abbrev pub tells_of : ℕ → Written → Bool
 tells_of call w = same_ctx w.call (Some call) && tells_message w.entry
 
--- whatever entries one counts, there are as many of them as messages that the receive got, but for those that still come
+-- the message comes to the receive of this call, and is not whole
+abbrev pub is_coming : Receiving → ℕ → Mark → Bool
+is_coming rx call x = same_ctx (goes_into (coming_from rx x.source)) (Some call) && (x.place == slice_index rx.tails x.source)
+
+-- whatever entries one counts, the receive has as many of them as it got messages that are whole and whose entries these are
 abbrev pub TellsEach : List Event → List Receive → Peer → Type 0
-TellsEach past asked a = (f : Receive) (least : ℕ) → In f asked → f.least ≡ Some least → (late : List (Mark × ℕ)) × ((q : Mark × ℕ) → In q late → IsComingAt a.state.rx f.call q.0 q.1)
-    × ((test : Written → Bool) → count_by (λ w. tells_of f.call w && test w) a.state.cq.written + count_by (λ q. test (entry_at f q)) late ≡ count_by (λ q. test (entry_at f q)) (placed (length f.buf) f.call past))
+TellsEach past asked a = (f : Receive) (least : ℕ) → In f asked → f.least ≡ Some least → (test : Written → Bool)
+    → count_by (λ w. tells_of f.call w && test w) a.state.cq.written ≡ count_by (λ q. not (is_coming a.state.rx f.call q.0) && test (entry_at f q)) (placed (length f.buf) f.call past)
 
 abbrev pub TellsOnce : Type 0
 TellsOnce = AtEveryMoment (λ from turns states p a. TellsEach (past_of from turns p) (asked_of from turns p) a)

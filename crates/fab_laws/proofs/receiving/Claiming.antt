@@ -103,6 +103,21 @@ module _ (past : List Event) where
   dull_got (Cancelled c ∷ es) dull call x last (inl e) = absurd (cc (e))
   dull_got (Cancelled c ∷ es) dull call x last (inr i) = dull_got es dull.1 call x last i
 
+-- ---- who got a message
+
+pub got_gone : (call : ℕ) (x : Mark) (last : Bool) (past : List Event) → In (Got call x last) past → In x (gone past)
+got_gone call x last [] i = never i
+got_gone call x last (Came m ∷ past) (inl e) = absurd (cc (e))
+got_gone call x last (Came m ∷ past) (inr i) = got_gone call x last past i
+got_gone call x last (Made w ∷ past) (inl e) = absurd (cc (e))
+got_gone call x last (Made w ∷ past) (inr i) = got_gone call x last past i
+got_gone call x last (Got c m l ∷ past) (inl e) = inl (let f : x ≡ m = cc (e) in f)
+got_gone call x last (Got c m l ∷ past) (inr i) = inr (got_gone call x last past i)
+got_gone call x last (Lost m ∷ past) (inl e) = absurd (cc (e))
+got_gone call x last (Lost m ∷ past) (inr i) = inr (got_gone call x last past i)
+got_gone call x last (Cancelled c ∷ past) (inl e) = absurd (cc (e))
+got_gone call x last (Cancelled c ∷ past) (inr i) = got_gone call x last past i
+
 -- ---- what was claimed has gone
 
 put_in : (ctx : ℕ) (x : Mark) (h : List Handling) → In (Claimed ctx x) h → In x (put_away h)

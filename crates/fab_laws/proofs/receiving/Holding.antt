@@ -21,18 +21,18 @@ use Rattle.fab_model.specs.Peers.{part_of, same_ctx}
 use Rattle.fab_model.specs.Views.{More, View, seen}
 use Rattle.fab_model.proofs.Parts.{more_item, some_same}
 use Rattle.fab_model.proofs.Views as views
-use Rattle.fab_laws.specs.Members.{In, Never}
+use Rattle.fab_laws.specs.Members.{Ahead, In, Never}
 use Rattle.fab_laws.specs.Programs.{Counts, Deed, Draw, Head, Makes, Opening, Peer, Tail, program, starting}
 use Rattle.fab_laws.specs.Moments.{LeadTo, remembered}
 use Rattle.fab_laws.specs.Completed.{has_ended, is_final, number, send_stands}
 use Rattle.fab_laws.specs.Matched.{Came, Cancelled, Event, Got, Lost, Made, Mark, Wish, arrives, came, cancel_of, cancels, fate, goes_into, gone, happens, is_posted, left, made, makes, mark_of, new_entry, noticed, noting, parted, past_of, taken_now, wish_of}
 use Rattle.fab_laws.specs.MessageLaws.{IsMessage, IsOf, IsSized, asked_by, asked_of, asks_for, keeping_asked}
-use Rattle.fab_laws.specs.MultiLaws.{ClosesInTime, PartsStand, PlacesFollow, ReleasesInTime, ReleasesTell, TellsOnce, release_of}
+use Rattle.fab_laws.specs.MultiLaws.{ClosesInTime, PartsStand, PlacesFollow, ReleasesInTime, ReleasesTell, TellsOnce, placed, release_of}
 use Rattle.fab_laws.specs.Claimed.{Claimed, Discarded, Dropped, Handling, Slipped, Took, aside_of, call_in, freed, handled_of, handles, handling, lost, put_away}
 use Rattle.fab_laws.specs.ClaimLaws.{FreedRightly, LostIsPutAway, StaysClaimed, TakesTell}
 use Rattle.fab_laws.specs.ReceiveLaws.{Aside, GoesOnce, GotIsTold, IsComing, IsToldOf, NoneIsLost, OneTells, Received, TookIsTold, Waits, WasDiscarded, WasDropped, WasTaken}
 use Rattle.fab_laws.proofs.Counts.{counted, in_many, many, same_one}
-use Rattle.fab_laws.proofs.Lists.{always, each_in, never}
+use Rattle.fab_laws.proofs.Lists.{ahead_in, always, each_in, never}
 use Rattle.fab_laws.proofs.Levels.{all_the_same}
 use Rattle.fab_laws.proofs.Memory.{remembered_keeps}
 use Rattle.fab_laws.proofs.Programs.{Own, program_patient}
@@ -49,12 +49,12 @@ use Rattle.fab_laws.proofs.streams.Sized.{AllSized, all_sized, sees_sized, turn_
 use Rattle.fab_laws.proofs.streams.Told.{IsInto, Stands, Told, Truly}
 use Rattle.fab_laws.proofs.streams.Entries.{both, fresh_told, more_seen, more_told, remembered_both, same_entry, step_by, told_by}
 use Rattle.fab_laws.proofs.receiving.Acts.{Act, act, subject}
-use Rattle.fab_laws.proofs.receiving.Claiming.{Claiming, News, got_now, claimed_gone, freed_claimed, frees_claimed, leaves_once, news_claims, none_slips}
+use Rattle.fab_laws.proofs.receiving.Claiming.{Claiming, News, got_gone, got_now, claimed_gone, freed_claimed, frees_claimed, leaves_once, news_claims, none_slips}
 use Rattle.fab_laws.proofs.receiving.Flowing.{flows}
 use Rattle.fab_laws.proofs.receiving.Opens.{AreSized, IsMulti, under_way_by}
 use Rattle.fab_laws.proofs.receiving.Placing.{Grows, Placing, Rows, closes_when_full, grows, next_places, placed_got, posted_apart, rows}
 use Rattle.fab_laws.proofs.receiving.Releasing.{Opens, fresh_opens, next_opens, opens_seen}
-use Rattle.fab_laws.proofs.receiving.Telling.{Late, late_seen, next_late, starting_late, tells_each}
+use Rattle.fab_laws.proofs.receiving.Telling.{AllTold, next_late, placed_once, starting_late, tells_each}
 use Rattle.fab_laws.proofs.receiving.News.{news}
 use Rattle.fab_laws.proofs.receiving.Settling.{Flows, HasItem, Settled, Settling, mark_at, settles}
 
@@ -128,19 +128,6 @@ came_now v a b (Head source) x i = go (slice_get (v.ready source) (slice_index a
     go (Some item) e i = subst (HasItem v) (sym (message item (is_message item.head.kind) i)) (item, e, refl)
 
 -- ---- who got a message
-
-pub got_gone : (call : ℕ) (x : Mark) (last : Bool) (past : List Event) → In (Got call x last) past → In x (gone past)
-got_gone call x last [] i = never i
-got_gone call x last (Came m ∷ past) (inl e) = absurd (cc (e))
-got_gone call x last (Came m ∷ past) (inr i) = got_gone call x last past i
-got_gone call x last (Made w ∷ past) (inl e) = absurd (cc (e))
-got_gone call x last (Made w ∷ past) (inr i) = got_gone call x last past i
-got_gone call x last (Got c m l ∷ past) (inl e) = inl (let f : x ≡ m = cc (e) in f)
-got_gone call x last (Got c m l ∷ past) (inr i) = inr (got_gone call x last past i)
-got_gone call x last (Lost m ∷ past) (inl e) = absurd (cc (e))
-got_gone call x last (Lost m ∷ past) (inr i) = inr (got_gone call x last past i)
-got_gone call x last (Cancelled c ∷ past) (inl e) = absurd (cc (e))
-got_gone call x last (Cancelled c ∷ past) (inr i) = got_gone call x last past i
 
 gone_how : (x : Mark) (past : List Event) → In x (gone past) → ((call : ℕ) × (last : Bool) × In (Got call x last) past) ⊎ In x (lost past)
 gone_how x [] i = never i
@@ -313,7 +300,7 @@ pub record AllKept (n : ℕ) (v : View Item) (past : List Event) (m : List Recei
   pub settling : Settling v past h m s
   pub placing : Placing v past m s
   pub opens : Opens v past m s
-  pub late : (f : Receive) → IsMulti m f → Late v past s f
+  pub late : (f : Receive) → IsMulti m f → AllTold past s f
 
 module _ (n : ℕ) (v : View Item) (past : List Event) (m : List Receive) (h : List Handling) (a b : Peer) (x : Deed) (kept : AllKept n v past m h a.state) (owed : OwedAt n v a.state)
     (room : (source k : ℕ) (item : Item) → slice_get (v.ready source) k ≡ Some item → source < n) (sees : (source k : ℕ) (item : Item) → slice_get (v.ready source) k ≡ Some item → IsSized item) (stood : program.step v a x ≡ Some b) where
@@ -411,10 +398,19 @@ module _ (n : ℕ) (v : View Item) (past : List Event) (m : List Receive) (h : L
       (λ y i. each_in (Truly (told_by v past) a.state.rx.tails) a.state.rx.unexpected y kept.told.waiting i) kept.opens x did made_posted growing rowing flowing
       (λ call y last i. got_now past h _ (map aside_of a.state.rx.claimed) (map aside_of b.state.rx.claimed) adds (handles (call_in x) a.state b.state) told_news call y last i)
 
-  next_told : (f : Receive) → IsMulti (asks ++ m) f → Late v (adds ++ past) b.state f
+  -- a message stands once in a buffer
+  once_placed : (f : Receive) (q z : Mark × ℕ) → Ahead q z (placed (length f.buf) f.call past) → q.0.source ≡ z.0.source → q.0.place ≡ z.0.place → Never
+  once_placed f q z ahead source place =
+      let both = ahead_in q z (placed (length f.buf) f.call past) ahead in
+      placed_once (length f.buf) f.call past kept.claiming.once q z ahead (same_mark q.0 z.0 (came_placed q both.0) (came_placed z both.1) source place)
+    where
+      came_placed : (q : Mark × ℕ) → In q (placed (length f.buf) f.call past) → In q.0 (came past)
+      came_placed q i = let g = placed_got (length f.buf) f.call q.0 q.1 past i in gone_came q.0 (got_gone g.0 q.0 g.1 past g.2)
+
+  next_told : (f : Receive) → IsMulti (asks ++ m) f → AllTold (adds ++ past) b.state f
   unfolding did flowing growing
-  next_told f multi = next_late n v past adds h m asks a b kept.keeps kept.told owed room kept.settling kept.placing kept.opens after.one asked_call got_before f multi
-      (starting_late n v past adds h m asks a b kept.keeps kept.told owed room kept.settling kept.placing kept.opens after.one asked_call got_before f multi (λ old. kept.late f old)) x did made_posted made_taken growing flowing
+  next_told f multi = next_late n v past adds h m asks a b kept.keeps kept.told owed room kept.settling kept.placing kept.opens after.one asked_call got_before got_came f multi (once_placed f)
+      (starting_late n v past adds h m asks a b kept.keeps kept.told owed room kept.settling kept.placing kept.opens after.one asked_call got_before got_came f multi (once_placed f) (λ old. kept.late f old)) x did made_posted made_taken growing flowing
 
   pub next : AllKept n v (adds ++ past) (asks ++ m) (handles (call_in x) a.state b.state ++ h) b.state
   unfolding did flowing growing rowing
@@ -444,7 +440,7 @@ more_kept n v w past m h s more kept = record {
     ];
   };
   opens = opens_seen v w more past m s kept.opens;
-  late = λ f multi. late_seen v w past s f more (kept.late f multi);
+  late = kept.late;
 }
 
 -- ---- wherever turns lead
@@ -530,7 +526,7 @@ releases_in_time from turns states leads p a here f least x asked multi i =
     ]
 
 pub tells_once : TellsOnce
-tells_once from turns states leads p a here = tells_each (seen program states p) (past_of from.peers turns p) (asked_of from.peers turns p) a (kept_at from turns states leads p a here).late
+tells_once from turns states leads p a here = tells_each (past_of from.peers turns p) (asked_of from.peers turns p) a (kept_at from turns states leads p a here).late
 
 pub goes_once : GoesOnce
 goes_once from turns states leads p a here = leaves_once (past_of from.peers turns p) (kept_at from turns states leads p a here).claiming.once

@@ -1,6 +1,6 @@
 -- Wrong traces, on which the laws of streams, claims, receives and buffers for many messages are false.
-use Rattle.std.proofs.Common.{◌≡◌, ℕ, zero, suc, Bool, true, false, List, [], ◌∷◌, ◌++◌, length, map, min, Some, None, inl, inr, refl, sym, ◌∙◌, ap, ap₂, subst, arith, ◌&&◌, slice_get, ◌+◌, ◌-◌}
-use Rattle.std.specs.Prelude.{count_by, nat_lt}
+use Rattle.std.proofs.Common.{◌≡◌, ◌≤◌, ℕ, zero, suc, Bool, true, false, not, List, [], ◌∷◌, ◌++◌, length, map, min, Some, None, inl, inr, refl, sym, ◌∙◌, ap, ap₂, subst, arith, ◌&&◌, slice_get, ◌+◌, ◌-◌}
+use Rattle.std.specs.Prelude.{nat_lt}
 use Rattle.std.proofs.lemmas.Bool.{le-ltb, lt-ltb}
 use Rattle.std.proofs.lemmas.Bool.{eq-eqb}
 use Rattle.std.proofs.lemmas.Option.{slice_get_within}
@@ -14,7 +14,7 @@ use Rattle.fab_laws.specs.Matched.{Came, Event, Got, Mark, goes_into, mark_of, t
 use Rattle.fab_laws.specs.Claimed.{Claimed, Dropped, Took, aside_of}
 use Rattle.fab_laws.specs.ReceiveLaws.{Aside, Fate, Received, Waits, WasDiscarded, WasDropped, WasTaken}
 use Rattle.fab_laws.specs.Refused.{CancelledInstead, ClosesEarly, FreedTwice, GotTwice, KeptBack, LeftOver, LostInside, LeavesGap, NeverTold, OtherContext, OtherMessage, Overlaps, ReleasedEarly, Repeated, SlipsAway, StaysOpen, Swapped, SwappedParts, ToldTwice, Unarrived, Unclaimed, Vanishes, WrongUsed}
-use Rattle.fab_laws.specs.MultiLaws.{entry_at, placed, release_of, tells_of, used_in}
+use Rattle.fab_laws.specs.MultiLaws.{entry_at, is_coming, placed, release_of, tells_of, used_in}
 use Rattle.fab_laws.proofs.Counts.{counted, many, one}
 use Rattle.fab_laws.proofs.matching.Watch.{entry_tells}
 
@@ -175,17 +175,20 @@ wrong_used f least x asked a ctx buf i e some room there law = absurd (omega (ar
 
 pub told_twice : ToldTwice
 told_twice f least x k asked a i e written law =
-    let l = law f least i e in
-    let all : (test : Written → Bool) → count_by (λ (w : Written). tells_of f.call w && test w) a.state.cq.written + count_by (λ (q : Mark × ℕ). test (entry_at f q)) l.0 ≡ count_by (λ (q : Mark × ℕ). test (entry_at f q)) (placed (length f.buf) f.call (Got f.call x k ∷ [])) = l.2 in
     let any : Written → Bool = λ w. true in
     let tells : tells_of f.call (entry_at f (x, 0)) ≡ true = ap₂ (λ (b c : Bool). b && c) (eq-eqb f.call f.call refl) (entry_tells f 0 x.source x.head []) in
     let one_only : placed (length f.buf) f.call (Got f.call x k ∷ []) ≡ (x, 0) ∷ [] = ap (λ (b : Bool). let xs : List (Mark × ℕ) = elim b [ true ↦ (x, 0) ∷ [] | false ↦ [] ] in xs) (eq-eqb f.call f.call refl) in
     absurd (omega (
       arith,
-      all any,
+      law f least i e any,
       counted (λ (w : Written). tells_of f.call w && any w) a.state.cq.written,
       ap (many (λ (w : Written). tells_of f.call w && any w)) written,
       ap (λ (b : Bool). one (b && true)) tells,
-      counted (λ (q : Mark × ℕ). any (entry_at f q)) (placed (length f.buf) f.call (Got f.call x k ∷ [])),
-      ap (many (λ (q : Mark × ℕ). any (entry_at f q))) one_only,
+      counted (λ (q : Mark × ℕ). not (is_coming a.state.rx f.call q.0) && any (entry_at f q)) (placed (length f.buf) f.call (Got f.call x k ∷ [])),
+      ap (many (λ (q : Mark × ℕ). not (is_coming a.state.rx f.call q.0) && any (entry_at f q))) one_only,
+      one_most (not (is_coming a.state.rx f.call x) && true),
     ))
+  where
+    one_most : (b : Bool) → one b ≤ 1
+    one_most true = omega arith
+    one_most false = omega arith
