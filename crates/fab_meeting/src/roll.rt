@@ -25,10 +25,11 @@ impl RollCall {
         }
     }
 
-    /// Counts the caller, and waits until all members have come or one gave up. Each member calls it once, in its thread.
+    /// Counts the caller, waits until all members have come or one gave up, and tells whether all have come. Each member calls it
+    /// once, in its thread.
     ///
-    /// All are answered the same: whether all have come. The first that gives up does so for all, once it has let other
-    /// threads run 200,000 times.
+    /// The first that gives up does so for all, once it has let other threads run 200,000 times: whoever comes later is told that not
+    /// all have come. (No clause says so.)
     pub fn all_here<R: Wait>(&self, rt: &R) -> bool {
         self.here.fetch_add(1, Ordering::SeqCst);
         let members = self.members as u64;

@@ -37,6 +37,9 @@ pub enum RoundStop {
 #[derive(Clone, Copy, Debug, Drop, Eq, PartialEq)]
 pub struct Rounds {
     pub made: u32,
+    /// So many of them, the first ones, were made by threads that stayed. None where some peer got no thread in time, or memory for the
+    /// meeting place was lacking.
+    pub stayed: u32,
     pub stop: RoundStop,
 }
 
@@ -84,8 +87,8 @@ fn round<P: Port + Send, C: Machinery + Drop + Send, G: Gate, R: Threads + Wait 
     );
 }
 
-/// One round more or many, after so many, and how many. At first all peers try threads that stay for all rounds; where
-/// these made none, and ever after, a round starts and joins a thread for each peer.
+/// One round more or many, after so many, and how many, of which those of threads that stayed are noted. At first all peers try threads
+/// that stay for all rounds; where these made none, and ever after, a round starts and joins a thread for each peer.
 fn more_rounds<P: Port + Send, C: Machinery + Drop + Send, G: Gate, R: Threads + Wait + Sync>(
     rt: &R,
     alloc: Global,
@@ -93,15 +96,18 @@ fn more_rounds<P: Port + Send, C: Machinery + Drop + Send, G: Gate, R: Threads +
     gate: &G,
     made: u32,
     limit: u32,
+    noted: &mut u32,
 ) -> u32
     requires few { length peers.old < 2 ^ 32 }
     requires before { made < limit }
     ensures count { length peers.new ≡ length peers.old }
     ensures within { (0 < result) × (made + result ≤ limit) }
+    ensures noted { noted.new ≤ noted.old + result }
     ensures ran { RanFor result (map (λ p. between (told (seen P.Port) p.peer) p.moved p.failed) peers.old) (map (λ p. between (told (seen P.Port) p.peer) p.moved p.failed) peers.new) }
 {
     let stayed = stay(rt, alloc, peers, gate, made, limit);
     if stayed > 0 {
+        *noted = stayed;
         return stayed;
     }
     round(rt, peers, gate, made + 1);
@@ -163,25 +169,29 @@ pub fn run_rounds<P: Port + Send, C: Machinery + Drop + Send, G: Gate, R: Thread
     ensures finished { IfOk result (λ r. (r.stop ≡ RoundStop.Finished) ↔ ((r.stop ≢ RoundStop.Still) × (list_all (λ p. is_finished (actor_of (told (seen P.Port) p.peer))) peers.new ≡ true))) }
     ensures spent { IfOk result (λ r. (r.stop ≡ RoundStop.Spent) ↔ ((r.stop ≢ RoundStop.Still) × (r.stop ≢ RoundStop.Finished) × (r.made ≡ limit))) }
     ensures made { IfOk result (λ r. (r.made ≤ limit) × (0 < limit → 0 < r.made)) }
+    ensures stayed { IfOk result (λ r. r.stayed ≤ r.made) }
     ensures ok { IfOk result (λ r. 0 < r.made → list_any (λ p. p.failed) peers.new ≡ false) }
     ensures err { OnErr result (list_any (λ p. p.failed) peers.new ≡ true) }
     ensures grew { IfOk result (λ r. r.stop ≡ RoundStop.Spent → sum_by (λ p. size (told (seen P.Port) p.peer)) peers.old + limit ≤ sum_by (λ p. size (told (seen P.Port) p.peer)) peers.new) }
 {
     let mut made = 0;
+    let mut stayed = 0;
     'rounds: while made < limit {
-        made += more_rounds(rt, alloc, peers, gate, made, limit);
+        made += more_rounds(rt, alloc, peers, gate, made, limit, &mut stayed);
         if any_failed(peers) {
             return Err(NoMemory);
         }
         if none_moved(peers) {
             return Ok(Rounds {
                 made,
+                stayed,
                 stop: RoundStop::Still,
             });
         }
         if all_finished(peers) {
             return Ok(Rounds {
                 made,
+                stayed,
                 stop: RoundStop::Finished,
             });
         }
@@ -191,5 +201,5 @@ pub fn run_rounds<P: Port + Send, C: Machinery + Drop + Send, G: Gate, R: Thread
     } else {
         RoundStop::Spent
     };
-    Ok(Rounds { made, stop })
+    Ok(Rounds { made, stayed, stop })
 }

@@ -16,7 +16,7 @@ use fab_peer::calls::{LineCalls, Machinery};
 use fab_peer::peer::Peer;
 use fab_peer_machines::machines;
 use fab_report::{add_first, add_last, add_peer};
-use fab_rounds::rounds::{RoundStop, run_rounds};
+use fab_rounds::rounds::{RoundStop, Rounds, run_rounds};
 use fab_rounds::runner::Runner;
 use std::alloc::Global;
 use std::sync::Wait;
@@ -111,16 +111,21 @@ fn report<P: Port, C: Machinery>(
     Ok(text)
 }
 
-/// Why no more rounds of these peers were made.
-fn stop_of<P: Port + Send, C: Machinery + Drop + Send, G: Gate, R: Threads + Wait + Sync>(
+/// Whether these rounds ended so, and threads that stay made some of them: memory for the meeting place is there, and threads are.
+fn ended_in_threads(rounds: Rounds, stop: RoundStop) -> bool {
+    rounds.stop == stop && rounds.stayed > 0
+}
+
+/// What rounds of these peers are made.
+fn rounds_of<P: Port + Send, C: Machinery + Drop + Send, G: Gate, R: Threads + Wait + Sync>(
     rt: &R,
     alloc: Global,
     runners: &mut [Runner<P, C>],
     gate: &G,
-) -> Result<RoundStop, NoMemory>
+) -> Result<Rounds, NoMemory>
     requires { length runners.old < 2 ^ 32 }
 {
-    Ok(run_rounds(rt, alloc, runners, gate, LIMIT)?.stop)
+    run_rounds(rt, alloc, runners, gate, LIMIT)
 }
 
 /// Whether rounds of a script's peers over these machines and ports end as they should, and are reported so.
@@ -140,9 +145,9 @@ fn run<P: Port + Drop + Send, C: Machinery + Drop + Send, G: Gate, R: Threads + 
     requires begin { All (λ p. Begins bound.now.script.conf.peers (P.peer_count p) (P.outs p) (P.ins p)) ports.items }
 {
     let mut runners = open(alloc, bound, machines, ports)?;
-    let stop = stop_of(rt, alloc, runners.as_mut_slice(), gate)?;
+    let rounds = rounds_of(rt, alloc, runners.as_mut_slice(), gate)?;
     let report = report(alloc, runners.as_slice())?;
-    Ok(stop == row.stop && report.as_str() == row.report)
+    Ok(ended_in_threads(rounds, row.stop) && report.as_str() == row.report)
 }
 
 /// The same over queues.

@@ -39,8 +39,8 @@ impl Domain {
 /// fi_av_insert, fi_cq_open, fi_ep_bind, fi_enable). Each has all peers in its address vector, each at the index of its
 /// number.
 ///
-/// `NoData` exactly where something asked for can't be had; else it may answer `NoMemory`. (`Invalid`, which the clause leaves open,
-/// does not come: what is granted is within its limits.)
+/// `NoData` exactly where something asked for can't be had; else it may answer `NoMemory`, and nothing else.
+#[tactic(auto, using(crate::proofs::Granting::opens))]
 pub fn open(alloc: Global, hints: &Hints) -> Result<Domain, Fault>
     ensures granted { IfOk result (λ domain. granted_to hints.now ≡ Some domain.info) }
     ensures opened { IfOk result (λ domain. AreOpened domain.info hints.now.selective domain.endpoints.items) }

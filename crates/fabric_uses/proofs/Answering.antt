@@ -8,8 +8,8 @@ use Rattle.fabric.specs.Held.{Seen}
 use Rattle.fabric.specs.Polls.{Polls, PollsAs}
 use Rattle.fabric.specs.Receiving.{draw_due}
 use Rattle.fabric.specs.State.{lookup}
-use Rattle.fabric.specs.Words.{Entry, Polled, PolledEntry, PolledIdle, Success}
-use Rattle.fabric_uses.specs.Uses.{HasRead, first_unread}
+use Rattle.fabric.specs.Words.{Entry, Polled, PolledEntry, PolledIdle}
+use Rattle.fabric_uses.specs.Uses.{first_unread}
 
 -- ---- the index of a peer
 
@@ -27,9 +27,9 @@ module _ {Home : Type 0} (fixed : Bool) (budget : ℕ) (old new : Seen Home) (po
   abbrev told : Polled → Type 0
   told x = PollsAs budget old p.mid new p.progressed.acts p.moved (Ok x)
 
-  pub read_entry : (o : Option Entry) → IfSome o (λ e. polled ≡ PolledEntry e) → IfSome o (λ e. HasRead (Success e) new)
+  pub read_entry : (o : Option Entry) → IfSome o (λ e. polled ≡ PolledEntry e) → IfSome o (λ e. Polls fixed budget old new (Ok (PolledEntry e)))
   read_entry None is = tt
-  read_entry (Some e) is = (p.mid, subst (λ (x : Polled). told x) is p.told)
+  read_entry (Some e) is = subst (λ (x : Polled). Polls fixed budget old new (Ok x)) is p
 
   pub idle_read : polled ≡ PolledIdle → first_unread new.held.state.cq ≡ None
   idle_read is = let idle : told PolledIdle = subst (λ (x : Polled). told x) is p.told in subst (λ (e : Seen Home). first_unread e.held.state.cq ≡ None) (sym idle.0.0) (rw idle.0.1 refl)

@@ -3,7 +3,7 @@
 --     IsAllRead e, IsNext entry e    every completion was read; the next one is this
 --     IsCalm e                       no buffer for many messages is posted, and every completion was read
 --     IsQuiet e                      no operation is under way
---     HasRead entry new              the completion that was read last is this
+--     ReadsNext fixed budget entry old new      what could be moved was, of so many frames at most, and the first completion that stood there then is this, and is read
 --     SendsMessage, SendsCopy, SendsToPeer      a message with these bytes is accepted
 --     SendsInTime                    the same after progress, which earlier tries made
 --     is_again why                   a refusal that passes
@@ -13,21 +13,22 @@
 --     posted_buf ctx e               the buffer of the first receive of the context that may be cancelled
 --     posted e, posted_after p e     the receives posted; the same once this one is posted too
 --     bytes_under key e              the bytes of the region under this key
---     Echoes fixed new               the message read last went back to its sender, with its bytes
-use Rattle.std.specs.Prelude.{◌≡◌, ℕ, ◌+◌, ◌==◌, Bool, true, false, List, [], ◌∷◌, ◌++◌, length, Option, Some, None, is_some, find}
+--     Echoes fixed budget old new    the message that was read next went back to its sender, with its bytes
+use Rattle.std.specs.Prelude.{◌≡◌, ℕ, ◌+◌, ◌==◌, Bool, true, false, List, [], ◌∷◌, ◌++◌, length, Option, Some, None, Ok, is_some, find}
 use Rattle.std.specs.List.{list_any}
 use Rattle.std.specs.Option.{option_map}
-use Rattle.fabric.specs.Answers.{Pops, Sends}
+use Rattle.fabric.specs.Answers.{Sends}
 use Rattle.fabric.specs.Calls.{message, region_of}
 use Rattle.fabric.specs.Cleared.{cleared}
 use Rattle.fabric.specs.Complete.{paste}
 use Rattle.fabric.specs.Held.{Seen}
 use Rattle.fabric.specs.Matching.{takes}
 use Rattle.fabric.specs.Peers.{unread}
+use Rattle.fabric.specs.Polls.{Polls}
 use Rattle.fabric.specs.Receiving.{Posting, cancellable, receive_of, taken_by, want_of}
 use Rattle.fabric.specs.State.{Completions, Region, State, in_use, lookup}
 use Rattle.fabric.specs.Trying.{SendsLate}
-use Rattle.fabric.specs.Words.{Again, Arrival, Busy, Entry, ErrEntry, Fault, Inject, Msg, Receive, Received, Success, Taken, Transmit, TryFault, TryRefused, TxFull}
+use Rattle.fabric.specs.Words.{Again, Arrival, Busy, Entry, ErrEntry, Fault, Inject, Msg, PolledEntry, Receive, Received, Success, Taken, Transmit, TryFault, TryRefused, TxFull}
 use Rattle.fabric_uses.specs.declared.receiving.Cut.{Cut}
 
 -- ---- completions
@@ -40,8 +41,8 @@ of_some (Some x) f = Some (f x)
 abbrev pub first_unread : Completions → Option Taken
 first_unread cq = of_some (unread cq) (λ w. w.entry)
 
-abbrev pub HasRead : {Home : Type 0} → Taken → Seen Home → Type 0
-HasRead {Home = Home} entry new = (mid : Seen Home) × Pops entry mid new
+abbrev pub ReadsNext : {Home : Type 0} → Bool → ℕ → Entry → Seen Home → Seen Home → Type 0
+ReadsNext fixed budget entry old new = Polls fixed budget (cleared old) new (Ok (PolledEntry entry))
 
 -- a buffer for many messages is posted
 abbrev pub has_multi : List Receive → Bool
@@ -175,5 +176,5 @@ pub record AnswersTo {Home : Type 0} (fixed : Bool) (entry : Entry) (old new : S
   pub came : entry ≡ Received ctx source tag imm len buf
   pub back : SendsToPeer fixed source buf ctx old new
 
-abbrev pub Echoes : {Home : Type 0} → Bool → Seen Home → Type 0
-Echoes {Home = Home} fixed new = (mid : Seen Home) × (entry : Entry) × HasRead (Success entry) mid × AnswersTo fixed entry mid new
+abbrev pub Echoes : {Home : Type 0} → Bool → ℕ → Seen Home → Seen Home → Type 0
+Echoes {Home = Home} fixed budget old new = (mid : Seen Home) × (entry : Entry) × ReadsNext fixed budget entry old mid × AnswersTo fixed entry mid new

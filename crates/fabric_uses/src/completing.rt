@@ -2,7 +2,7 @@
 ghost use Rattle.std.specs.Prelude.{◌≡◌, false, IfSome, IsTrue};
 ghost use Rattle.fabric.specs.Receiving.{draw_due};
 ghost use Rattle.fabric.specs.Words.{Failure, Received, Success};
-ghost use Rattle.fabric_uses.specs.Uses.{AnswersTo, Echoes, HasNoMulti, HasRead, IsAllRead, IsNext, SendsToPeer};
+ghost use Rattle.fabric_uses.specs.Uses.{AnswersTo, Echoes, HasNoMulti, IsAllRead, IsNext, ReadsNext, SendsToPeer};
 
 use crate::sending::sends;
 use fabric::{Buf, Calls, EndpointOver, Entry, ErrEntry, Polled};
@@ -27,7 +27,7 @@ fn entry_of(polled: Polled) -> Option<Entry>
 
 /// Moves what can be moved, and reads the next completion, if it is a success.
 pub fn next_entry<E: Calls + Drop>(endpoint: &mut EndpointOver<E>) -> Option<Entry>
-    ensures { IfSome result (λ entry. HasRead (Success entry) (E.seen endpoint.new)) }
+    ensures { IfSome result (λ entry. ReadsNext E.fixed 8 entry (E.seen endpoint.old) (E.seen endpoint.new)) }
 {
     match endpoint.poll(8) {
         Ok(polled) => entry_of(polled),
@@ -137,7 +137,7 @@ fn answer_to<E: Calls + Drop>(endpoint: &mut EndpointOver<E>, entry: Entry) -> b
 /// Answers the next message that came with its own bytes, which go back to the peer that sent them: a ping comes back as it
 /// was sent.
 pub fn echo<E: Calls + Drop>(endpoint: &mut EndpointOver<E>) -> bool
-    ensures { IsTrue result → Echoes E.fixed (E.seen endpoint.new) }
+    ensures { IsTrue result → Echoes E.fixed 8 (E.seen endpoint.old) (E.seen endpoint.new) }
 {
     match next_entry(endpoint) {
         Some(entry) => answer_to(endpoint, entry),

@@ -1,4 +1,5 @@
 //! Commands over memory: the one call that carries them out.
+use crate::counting::{Counted, RANKS};
 use fab_base::{Gate, Text};
 use fab_gates::{InOrder, Meeting};
 use fab_host::{Ended, OpenGate, carry_out};
@@ -17,6 +18,8 @@ pub(crate) enum Turns {
     Meet(u32),
     /// In so many rounds the turns go in this order of their peers.
     Order(&'static [u32], u32),
+    /// The same, and the turns are counted by rank and round.
+    Count(&'static [u32], u32),
 }
 
 /// How a command ended: its exit status, how often the clock was asked, and how many turns saw another begin, or whether one
@@ -26,6 +29,8 @@ pub(crate) struct End {
     pub(crate) code: u8,
     pub(crate) asked: u64,
     pub(crate) seen: u32,
+    /// The turns of each rank, where they are counted: a digit for each round, the last one first.
+    pub(crate) turns: Option<[u64; RANKS]>,
 }
 
 /// The number of an exit status.
@@ -72,19 +77,41 @@ pub(crate) fn carry_turns<R: Threads + Wait + Sync>(
                 code,
                 asked,
                 seen: 0,
+                turns: None,
             }
         }
         Turns::Meet(round) => {
             let gate = Meeting::new(round);
             let (code, asked) = carry(rt, alloc, words, depot, sink, errors, moments, &gate);
             let seen = gate.seen.load(Ordering::SeqCst);
-            End { code, asked, seen }
+            End {
+                code,
+                asked,
+                seen,
+                turns: None,
+            }
         }
         Turns::Order(order, rounds) => {
             let gate = InOrder::new(order, rounds);
             let (code, asked) = carry(rt, alloc, words, depot, sink, errors, moments, &gate);
             let seen = u32::from(gate.late.load(Ordering::SeqCst));
-            End { code, asked, seen }
+            End {
+                code,
+                asked,
+                seen,
+                turns: None,
+            }
+        }
+        Turns::Count(order, rounds) => {
+            let gate = Counted::new(order, rounds);
+            let (code, asked) = carry(rt, alloc, words, depot, sink, errors, moments, &gate);
+            let turns = [gate.turns(0), gate.turns(1), gate.turns(2), gate.turns(3)];
+            End {
+                code,
+                asked,
+                seen: u32::from(gate.is_late()),
+                turns: Some(turns),
+            }
         }
     }
 }

@@ -1,5 +1,6 @@
 //! Rows of commands over memory: each changes what the next is carried out over, or is one, and is told with what came of it.
 use crate::carrying::{End, carry_turns};
+use crate::counting::RANKS;
 use crate::full::full_script;
 use crate::setting::{Setting, spelled_text};
 use fab_base::{NoMemory, Text};
@@ -28,6 +29,17 @@ fn add_bytes(out: &mut String, bytes: &[u8]) -> Result<(), NoMemory> {
     Ok(())
 }
 
+/// The turns that each rank had, a digit for each round, of which the last one comes first: round 0, which only windows have, is the
+/// last digit.
+fn add_turns(out: &mut String, turns: [u64; RANKS]) -> Result<(), NoMemory> {
+    out.push_str("-- turns by rank and round:")?;
+    for rank in turns {
+        write!(out, " {rank:x}")?;
+    }
+    out.push('\n')?;
+    Ok(())
+}
+
 /// How a command ended, what it loaded and wrote, and what it told on standard error.
 fn add_end(
     out: &mut String,
@@ -36,12 +48,20 @@ fn add_end(
     sink: &MemorySink,
     errors: &MemorySink,
 ) -> Result<(), NoMemory> {
-    let End { code, asked, seen } = end;
+    let End {
+        code,
+        asked,
+        seen,
+        turns,
+    } = end;
     write!(
         out,
         "-- exit {code}, loads {} failed {}, writes {} failed {}, clock {asked}, turns {seen}\n",
         depot.calls, depot.faults, sink.calls, sink.faults
     )?;
+    if let Some(turns) = turns {
+        add_turns(out, turns)?;
+    }
     add_bytes(out, errors.bytes.as_slice())
 }
 

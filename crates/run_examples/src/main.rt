@@ -7,6 +7,7 @@
 
 mod carrying;
 mod commands;
+mod counting;
 mod full;
 mod setting;
 

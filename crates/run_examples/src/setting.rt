@@ -53,12 +53,19 @@ fn order_of(name: &str) -> &'static [u32] {
     }
 }
 
-/// `open`, `meet ROUND`, or an order of peers and how many rounds they keep it.
-fn turns_of(text: &str) -> Turns {
+/// An order of peers, and how many rounds they keep it.
+fn counted(text: &str) -> Turns {
     let (word, number) = text.split_once(' ').unwrap_or((text, "0"));
-    let number = number.parse::<u32>().unwrap_or(0);
+    Turns::Count(order_of(word), number.parse::<u32>().unwrap_or(0))
+}
+
+/// `open`, `meet ROUND`, or an order of peers and how many rounds they keep it, behind `count` where turns are counted.
+fn turns_of(text: &str) -> Turns {
+    let (word, rest) = text.split_once(' ').unwrap_or((text, "0"));
+    let number = rest.parse::<u32>().unwrap_or(0);
     match word {
         "open" => Turns::Open,
+        "count" => counted(rest),
         "meet" => Turns::Meet(number),
         _ => Turns::Order(order_of(word), number),
     }

@@ -15,6 +15,7 @@ rounds-preserved g c =
     record {
       count = c.more_rounds-made.ensures.count ∙ c.rounds.invariant.count;
       within = c.more_rounds-made.ensures.within.1;
+      staying = (let before = c.rounds.invariant.staying in let noted = c.more_rounds-made.ensures.noted in omega (arith, before, noted));
       rounds = (let i = c.rounds.invariant in made_on (λ p. between (told (seen g.P.Port) p.peer) p.moved p.failed) c.rounds.made c.more_rounds-made.result c.args.peers.now c.rounds.peers c.more_rounds-made.new.peers i.rounds i.failing i.moving i.going c.more_rounds-made.ensures.ran.made);
       grew = omega (arith, grew, c.rounds.invariant.grew);
       moving = λ l. some;

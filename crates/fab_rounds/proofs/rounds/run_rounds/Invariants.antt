@@ -11,6 +11,7 @@ abbrev pub invariant-rounds : goal.invariant-rounds
 invariant-rounds g l = record {
   count : length l.peers ≡ length l.fn.peers;
   within : l.made ≤ l.limit;
+  staying : l.stayed ≤ l.made;
   rounds : MadeFor l.made (map (λ p. between (told (seen g.P.Port) p.peer) p.moved p.failed) l.fn.peers) (map (λ p. between (told (seen g.P.Port) p.peer) p.moved p.failed) l.peers);
   grew : sum_by (λ p. size (told (seen g.P.Port) p.peer)) l.fn.peers + l.made ≤ sum_by (λ p. size (told (seen g.P.Port) p.peer)) l.peers;
   moving : 0 < l.made → list_all (λ p. not p.moved) l.peers ≡ false;
