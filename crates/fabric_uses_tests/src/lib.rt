@@ -4,4 +4,6 @@
 #![tactic(auto)]
 
 #[cfg(test)]
+mod moments;
+#[cfg(test)]
 mod uses;
