@@ -3,7 +3,7 @@
 //! ```text
 //! number   the server                                    a client
 //! 1        answers                                       gets the answer
-//! 2        holds the request back                        waits for so many turns, cancels the receive, and goes on
+//! 2        holds the request back                        waits for 20 ms, cancels the receive, and goes on
 //! 3        answers, and says that it holds one back      gets the answer
 //! 4        answers 2, late, and then 4                   gets the answer to 4, finds the one to 2 and throws it away
 //! ```
@@ -11,34 +11,42 @@
 
 mod client;
 mod server;
+mod stopped;
 mod words;
 
 use client::Seen;
-use fabric::{Calls, EndpointOver, Fault, Hints, open};
+use fabric::{Calls, EndpointOver, Fault, Hints, SystemClock, open};
 use server::Served;
 use std::alloc::Global;
+use std::rt;
 use std::sync::Wait;
 use std::thread::{Threads, map_vec};
+use stopped::Stopped;
 use words::SERVER;
 
 /// What a peer came to.
 #[derive(Drop)]
 enum Ran {
     Server(Result<Served, Fault>),
-    Client(Result<Seen, Fault>),
+    Client(Result<Seen, Stopped>),
 }
 
 /// Serves or asks, by the number of the peer.
-fn run<R: Wait, E: Calls + Drop>(rt: &R, alloc: Global, mut endpoint: EndpointOver<E>) -> Ran {
+fn run<R: Wait + rt::Clock, E: Calls + Drop>(
+    rt: &R,
+    alloc: Global,
+    mut endpoint: EndpointOver<E>,
+) -> Ran {
     if endpoint.me() == SERVER {
         Ran::Server(server::run(rt, alloc, &mut endpoint))
     } else {
-        Ran::Client(client::run(rt, alloc, &mut endpoint))
+        let mut clock = SystemClock::new(rt);
+        Ran::Client(client::run(rt, &mut clock, alloc, &mut endpoint))
     }
 }
 
 /// Lets each peer run in a thread of its own.
-fn all<R: Threads + Wait + Sync, E: Calls + Drop + Send>(
+fn all<R: Threads + Wait + rt::Clock + Sync, E: Calls + Drop + Send>(
     rt: &R,
     alloc: Global,
     endpoints: Vec<EndpointOver<E>>,
@@ -61,7 +69,8 @@ fn tell(rt: &HostRuntime, ran: &Ran) -> std::io::Result<()> {
                 seen.answered, seen.given_up, seen.late, seen.held
             )
         }
-        Ran::Server(Err(why)) | Ran::Client(Err(why)) => println!(rt; "refused: {why:?}"),
+        Ran::Server(Err(why)) => println!(rt; "refused: {why:?}"),
+        Ran::Client(Err(why)) => println!(rt; "stopped: {why:?}"),
     }
 }
 

@@ -20,10 +20,13 @@ pub(crate) const LAST: u64 = 4;
 /// The request that takes the server long: it is answered when the last one comes.
 pub(crate) const SLOW: u64 = 2;
 
-/// How many turns a client waits for the answer to the slow one.
-pub(crate) const PATIENCE: u32 = 1_000;
+/// How many milliseconds a client waits for the answer to the slow one.
+pub(crate) const PATIENCE_MILLIS: u64 = 20;
 
-/// How many it waits for what has to come. It is as good as for ever.
+/// How many polls are made, and one more, before the clock is read.
+pub(crate) const SPINS: u32 = 8;
+
+/// How many turns a peer waits for what has to come. It is as good as for ever.
 pub(crate) const LONG: u32 = u32::MAX;
 
 /// How many frames move at most before a send is tried again.
