@@ -16,7 +16,7 @@ use Rattle.fab_model.specs.Replay.{replayed, start}
 use Rattle.fab_model.specs.Report.{report_of}
 use Rattle.fab_replay.specs.declared.verdicts.Verdict.{Verdict}
 use Rattle.fab_replay.specs.declared.verdicts.Verdict.TheVariants.{Left}
-use Rattle.fab_schedule.specs.Reading.{schedule_told}
+use Rattle.fab_report.specs.Reading.{schedule_told}
 use Rattle.fab_replay.specs.declared.turns.Peer.{Peer}
 use Rattle.fab_replay.specs.Seen.{actors_of, steps_of, left_of, moment_of}
 use Rattle.fab_replay.specs.Verdict.{common, first_left, number_left, compared, judged, verdict}

@@ -12,7 +12,7 @@ use Rattle.fab_model.specs.Report.{report}
 use Rattle.fab_replay.specs.declared.verdicts.Verdict.{Verdict}
 use Rattle.fab_replay.specs.declared.verdicts.Verdict.TheVariants as answer
 use Rattle.fab_replay.specs.Meaning.{Means}
-use Rattle.fab_schedule.specs.Reading.{schedule_told}
+use Rattle.fab_report.specs.Reading.{schedule_told}
 use Rattle.fab_replay.specs.Verdict.{first_left, number_left, common, compared, judged, verdict}
 
 -- ---- no peer has a step left exactly where no step is left

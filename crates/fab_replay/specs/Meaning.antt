@@ -15,7 +15,7 @@ use Rattle.fab_model.specs.Report.{report}
 use Rattle.fab_model.specs.Views.{rule}
 use Rattle.fab_replay.specs.declared.verdicts.Verdict.{Verdict}
 use Rattle.fab_replay.specs.declared.verdicts.Verdict.TheVariants as answer
-use Rattle.fab_schedule.specs.Reading.{schedule_told}
+use Rattle.fab_report.specs.Reading.{schedule_told}
 use Rattle.fab_replay.specs.Verdict.{common}
 
 -- `rest` says whether the peers are at rest at its end

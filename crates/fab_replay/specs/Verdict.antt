@@ -12,7 +12,7 @@ use Rattle.fab_model.specs.Replay.{replayed, at_rest}
 use Rattle.fab_model.specs.Report.{report_of}
 use Rattle.fab_replay.specs.declared.verdicts.Verdict.{Verdict}
 use Rattle.fab_replay.specs.declared.verdicts.Verdict.TheVariants.{Lawful, Left, Differs, NoSchedule}
-use Rattle.fab_schedule.specs.Reading.{schedule_told}
+use Rattle.fab_report.specs.Reading.{schedule_told}
 
 abbrev pub first_left : ℕ → List (List Step) → Option ℕ
 first_left p [] = None

@@ -6,7 +6,7 @@ ghost use Rattle.fab_model.specs.Report.{report_of};
 ghost use Rattle.fab_model.specs.Views.{rule};
 ghost use Rattle.fab_replay.specs.Meaning.{IsOrderOf, Means};
 ghost use Rattle.fab_replay.specs.Seen.{actors_of, steps_of, left_of, moment_of};
-ghost use Rattle.fab_schedule.specs.Reading.{schedule_told};
+ghost use Rattle.fab_report.specs.Reading.{schedule_told};
 ghost use Rattle.fab_replay.specs.Verdict.{first_left, common, compared, judged, verdict, verdict_line};
 
 use crate::opening::open;
@@ -15,7 +15,7 @@ use crate::turns::{Peer, run};
 use crate::writing::report;
 use fab_base::{Bound, NoMemory};
 use fab_items::lists::{narrowed, one_more};
-use fab_schedule::read_schedule;
+use fab_report::read_schedule;
 use std::alloc::Global;
 
 /// What a checker says of a text, as the report of a run of a script.

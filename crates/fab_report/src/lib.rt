@@ -4,6 +4,9 @@
 //! that.
 #![tactic(auto)]
 
+mod cut;
+mod reading;
 mod report;
 
+pub use reading::read_schedule;
 pub use report::{add_bytes, add_first, add_last, add_peer};

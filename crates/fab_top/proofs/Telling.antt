@@ -11,11 +11,11 @@ use Rattle.fab_model.specs.Views.{rule}
 use Rattle.fab_model.proofs.Replays.{reached_lawful, reached_sound}
 use Rattle.fab_model.proofs.Names.{lawful_report_tells}
 use Rattle.fab_replay.specs.declared.verdicts.Verdict.TheVariants as answer
-use Rattle.fab_schedule.specs.Reading.{schedule_told}
+use Rattle.fab_report.specs.Reading.{schedule_told}
 use Rattle.fab_replay.specs.Verdict.{verdict}
 use Rattle.fab_base.specs.declared.peers.Step.{Step}
 use Rattle.fab_replay.proofs.Meaning.{means_verdict}
-use Rattle.fab_schedule.proofs.Written.{report_told}
+use Rattle.fab_report.proofs.Written.{report_told}
 use Rattle.fab_finish.specs.Joined.{member_actor, member_steps}
 use Rattle.fab_finish.specs.Joined.{AreCleared}
 use Rattle.fab_finish.specs.Joined.{Member}

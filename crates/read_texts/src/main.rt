@@ -8,7 +8,7 @@ mod rounds;
 mod scripts;
 
 use fab_base::NoMemory;
-use fab_rows::add_spelled;
+use fab_test_helpers::add_spelled;
 use reports::{add_judged, changed};
 use rounds::{add_plan, add_rounds};
 use scripts::{add_files, add_read, add_said};

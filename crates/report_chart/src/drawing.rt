@@ -6,7 +6,7 @@ use crate::not_drawn::NotDrawn;
 use fab_base::{Bound, NoMemory};
 use fab_chart::chart;
 use fab_replay::{Verdict, check, order_of};
-use fab_schedule::read_schedule;
+use fab_report::read_schedule;
 use std::alloc::Global;
 
 /// The chart of the run that a text tells. A text that tells no schedule, or is no text, has an empty one.

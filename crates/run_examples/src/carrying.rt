@@ -1,9 +1,9 @@
 //! Commands over memory: the one call that carries them out.
 use crate::counting::{Counted, RANKS};
 use fab_base::{Gate, Text};
-use fab_gates::{InOrder, Meeting};
 use fab_host::{Ended, OpenGate, carry_out};
 use fab_outside::{MemoryClock, MemoryDepot, MemorySink};
+use fab_test_helpers::{InOrder, Meeting};
 use std::alloc::Global;
 use std::process::ExitCode;
 use std::sync::Wait;

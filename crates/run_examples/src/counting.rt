@@ -1,6 +1,6 @@
 //! A gate that orders turns, and counts them by rank and round.
 use fab_base::Gate;
-use fab_gates::InOrder;
+use fab_test_helpers::InOrder;
 use std::sync::atomic::{AtomicBool, AtomicU64, Ordering};
 
 /// Of so many ranks the turns are counted.

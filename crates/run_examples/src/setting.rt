@@ -2,7 +2,7 @@
 use crate::carrying::Turns;
 use fab_base::{Buf, NoMemory, Text};
 use fab_outside::{MemoryDepot, MemorySink};
-use fab_rows::add_spelled;
+use fab_test_helpers::add_spelled;
 use std::alloc::Global;
 
 /// Files, which load and which write fail, how many bytes the output takes at a call, what the clock tells, and what lets the

@@ -3,7 +3,7 @@ use Rattle.fab_model.specs.Replay.{start}
 use Rattle.fab_replay.specs.Seen.{moment_of, steps_of}
 use Rattle.fab_replay.proofs.Judging.{whole}
 use Rattle.fab_replay.proofs.Meaning.{means_ok}
-use Rattle.fab_schedule.proofs.Telling.{told_lists}
+use Rattle.fab_report.proofs.Telling.{told_lists}
 use Rattle.fab_replay.proofs.verdicts.check.Goals as goal
 
 pub open-requires : goal.open-requires

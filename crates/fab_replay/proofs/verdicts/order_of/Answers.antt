@@ -6,7 +6,7 @@ use Rattle.fab_model.specs.Peers.{Actor, fabric}
 use Rattle.fab_model.specs.Replay.{start, replayed}
 use Rattle.fab_model.specs.Views.{rule}
 use Rattle.fab_replay.specs.Seen.{moment_of}
-use Rattle.fab_schedule.proofs.Telling.{told_lists}
+use Rattle.fab_report.proofs.Telling.{told_lists}
 use Rattle.fab_replay.proofs.verdicts.order_of.Goals as goal
 
 pub open-requires : goal.open-requires
