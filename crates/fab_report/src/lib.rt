@@ -1,4 +1,4 @@
-//! The text of a report, part by part: its first line, the part of each peer, and its last line.
+//! The text of a report, part by part: its first line, the part of each peer, and its last line. And the schedule that a text tells.
 //!
 //! It knows what a peer's lines did, what it read and which steps it took, and nothing of how it came to
 //! that.
