@@ -38,7 +38,7 @@ pub enum RoundStop {
 pub struct Rounds {
     pub made: u32,
     /// So many of them, the first ones, were made by threads that stayed. None where some peer got no thread in time, or memory for the
-    /// meeting place was lacking.
+    /// meeting place was lacking. (No clause says so.)
     pub stayed: u32,
     pub stop: RoundStop,
 }

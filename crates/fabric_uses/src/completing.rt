@@ -7,6 +7,9 @@ ghost use Rattle.fabric_uses.specs.Uses.{AnswersTo, Echoes, HasNoMulti, IsAllRea
 use crate::sending::sends;
 use fabric::{Buf, Calls, EndpointOver, Entry, ErrEntry, Polled};
 
+/// How many frames move at most before the next completion is read.
+const BUDGET: u32 = 8;
+
 fn error_of(polled: Polled) -> Option<ErrEntry>
     ensures { IfSome result (λ error. polled ≡ Polled.Error error) }
 {
@@ -27,9 +30,9 @@ fn entry_of(polled: Polled) -> Option<Entry>
 
 /// Moves what can be moved, and reads the next completion, if it is a success.
 pub fn next_entry<E: Calls + Drop>(endpoint: &mut EndpointOver<E>) -> Option<Entry>
-    ensures { IfSome result (λ entry. ReadsNext E.fixed 8 entry (E.seen endpoint.old) (E.seen endpoint.new)) }
+    ensures { IfSome result (λ entry. ReadsNext E.fixed BUDGET entry (E.seen endpoint.old) (E.seen endpoint.new)) }
 {
-    match endpoint.poll(8) {
+    match endpoint.poll(BUDGET) {
         Ok(polled) => entry_of(polled),
         Err(_) => None,
     }
@@ -137,7 +140,7 @@ fn answer_to<E: Calls + Drop>(endpoint: &mut EndpointOver<E>, entry: Entry) -> b
 /// Answers the next message that came with its own bytes, which go back to the peer that sent them: a ping comes back as it
 /// was sent.
 pub fn echo<E: Calls + Drop>(endpoint: &mut EndpointOver<E>) -> bool
-    ensures { IsTrue result → Echoes E.fixed 8 (E.seen endpoint.old) (E.seen endpoint.new) }
+    ensures { IsTrue result → Echoes E.fixed BUDGET (E.seen endpoint.old) (E.seen endpoint.new) }
 {
     match next_entry(endpoint) {
         Some(entry) => answer_to(endpoint, entry),
