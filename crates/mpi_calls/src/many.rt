@@ -13,6 +13,20 @@ const MORE: u32 = 300;
 /// So many tags they have, in turn.
 const TAGS: u32 = 7;
 
+/// Tags of single messages: a question and its answer, one that is longer than its buffer and those behind it, and that of who is late.
+const ASKS: u32 = 30;
+
+const TELLS: u32 = 31;
+
+const LONG: u32 = 40;
+
+const BEHIND: u32 = 41;
+
+const LATE: u32 = 50;
+
+/// So often who is late lets others run before it comes.
+const PAUSES: u32 = 200;
+
 /// Begins the receives of so many messages of a rank.
 fn expect_many<E: Calls + Drop>(
     alloc: Global,
@@ -56,6 +70,21 @@ fn are_in_order(received: &[Completed], source: u32, count: u32) -> bool {
     good
 }
 
+/// The rank behind this one, in a circle.
+fn after(rank: u32, size: u32) -> u32 {
+    let next = rank.wrapping_add(1);
+    if next < size { next } else { 0 }
+}
+
+/// The rank before this one, in a circle.
+fn before(rank: u32, size: u32) -> u32 {
+    if rank > 0 {
+        rank - 1
+    } else {
+        size.saturating_sub(1)
+    }
+}
+
 /// All receives of a rank are begun before its sends, or all its sends before its receives. None of these calls waits.
 fn many<R: Wait, E: Calls + Drop>(
     rt: &R,
@@ -63,8 +92,8 @@ fn many<R: Wait, E: Calls + Drop>(
     world: &mut World<E>,
     receives_first: bool,
 ) -> Result<bool, Error> {
-    let next = (world.rank() % 3 + 1) % 3;
-    let last = (world.rank() % 3 + 2) % 3;
+    let next = after(world.rank(), world.size());
+    let last = before(world.rank(), world.size());
     let mut receives = Vec::new(alloc);
     let mut sends = Vec::new(alloc);
     if receives_first {
@@ -90,15 +119,15 @@ fn behind_others<R: Wait, E: Calls + Drop>(
         0 => {
             let mut receives = Vec::new(alloc);
             expect_many(alloc, world, 1, MORE, &mut receives)?;
-            let asked = comes(rt, alloc, world, (Some(1), Some(30)), 1, 30, b"asks")?;
-            send(rt, alloc, world, 1, 31, b"told")?;
+            let asked = comes(rt, alloc, world, (Some(1), Some(ASKS)), 1, ASKS, b"asks")?;
+            send(rt, alloc, world, 1, TELLS, b"told")?;
             let received = world.waitall(rt, receives)?;
             Ok(asked && are_in_order(&received, 1, MORE))
         }
         1 => {
             let mut sends = Vec::new(alloc);
-            send(rt, alloc, world, 0, 30, b"asks")?;
-            let told = comes(rt, alloc, world, (Some(0), Some(31)), 0, 31, b"told")?;
+            send(rt, alloc, world, 0, ASKS, b"asks")?;
+            let told = comes(rt, alloc, world, (Some(0), Some(TELLS)), 0, TELLS, b"told")?;
             give_many(alloc, world, 0, MORE, &mut sends)?;
             world.waitall(rt, sends)?;
             Ok(told)
@@ -139,19 +168,19 @@ fn ends_all<R: Wait, E: Calls + Drop>(
     world: &mut World<E>,
 ) -> Result<bool, Error> {
     if world.rank() == 1 {
-        send(rt, alloc, world, 0, 40, b"longer than four")?;
-        send(rt, alloc, world, 0, 41, b"mine")?;
-        send(rt, alloc, world, 0, 41, b"next")?;
+        send(rt, alloc, world, 0, LONG, b"longer than four")?;
+        send(rt, alloc, world, 0, BEHIND, b"mine")?;
+        send(rt, alloc, world, 0, BEHIND, b"next")?;
     }
     if world.rank() != 0 {
         return Ok(true);
     }
     let mut requests = Vec::new(alloc);
     let short = Buf::zeros(alloc, 4)?;
-    let first = world.irecv(Some(1), Some(40), short)?;
+    let first = world.irecv(Some(1), Some(LONG), short)?;
     requests.push(first)?;
     let room = Buf::zeros(alloc, 4)?;
-    let other = world.irecv(Some(1), Some(41), room)?;
+    let other = world.irecv(Some(1), Some(BEHIND), room)?;
     requests.push(other)?;
     let failed = matches!(
         world.waitall(rt, requests),
@@ -160,7 +189,15 @@ fn ends_all<R: Wait, E: Calls + Drop>(
             ..
         },)
     );
-    let next = comes(rt, alloc, world, (Some(1), Some(41)), 1, 41, b"next")?;
+    let next = comes(
+        rt,
+        alloc,
+        world,
+        (Some(1), Some(BEHIND)),
+        1,
+        BEHIND,
+        b"next",
+    )?;
     Ok(failed && next)
 }
 
@@ -173,12 +210,12 @@ fn is_late<R: Wait, E: Calls + Drop>(
 ) -> Result<bool, Error> {
     let rank = world.rank();
     if rank == late {
-        for _turn in 0..200 {
+        for _turn in 0..PAUSES {
             std::thread::yield_now();
         }
         for other in 0..world.size() {
             if other != late {
-                send(rt, alloc, world, other, 50, b"late")?;
+                send(rt, alloc, world, other, LATE, b"late")?;
             }
         }
     }
@@ -186,8 +223,16 @@ fn is_late<R: Wait, E: Calls + Drop>(
     if rank == late {
         return Ok(true);
     }
-    let came = world.iprobe(Some(late), Some(50))?.is_some();
-    let right = comes(rt, alloc, world, (Some(late), Some(50)), late, 50, b"late")?;
+    let came = world.iprobe(Some(late), Some(LATE))?.is_some();
+    let right = comes(
+        rt,
+        alloc,
+        world,
+        (Some(late), Some(LATE)),
+        late,
+        LATE,
+        b"late",
+    )?;
     Ok(came && right)
 }
 

@@ -5,10 +5,21 @@
 use mini_mpi::{AtomicOp, Calls, EndpointOver, Error, Hints, Num, World, open};
 use std::alloc::Global;
 use std::sync::Wait;
+use std::sync::atomic::{AtomicU32, Ordering};
 use std::thread::{self, Threads};
 
 /// How many ranks there are in each run.
 const RANKS: [u32; 4] = [7, 8, 11, 32];
+
+/// So often who comes late at a barrier lets others run before.
+const PAUSES: u32 = 200;
+
+/// How many ranks have come to a barrier at which the first rank is late, and to one at which the last is.
+#[derive(Drop)]
+struct Come {
+    late_first: AtomicU32,
+    late_last: AtomicU32,
+}
 
 /// The numbers from one on, as little-endian elements of 32 bits.
 fn numbers(alloc: Global, count: u32) -> Result<Vec<u8>, Error> {
@@ -56,20 +67,40 @@ fn reduces<R: Wait, E: Calls + Drop>(rt: &R, world: &mut World<E>) -> Result<boo
     Ok(bytes == (peers.wrapping_mul(peers.wrapping_add(1)) / 2).to_le_bytes())
 }
 
+/// Whether all ranks have come when this one goes on behind a barrier, at which one is late.
+fn meets<R: Wait, E: Calls + Drop>(
+    rt: &R,
+    world: &mut World<E>,
+    late: u32,
+    come: &AtomicU32,
+) -> Result<bool, Error> {
+    if world.rank() == late {
+        for _turn in 0..PAUSES {
+            thread::yield_now();
+        }
+    }
+    come.fetch_add(1, Ordering::SeqCst);
+    world.barrier(rt)?;
+    Ok(come.load(Ordering::SeqCst) == world.size())
+}
+
 /// Does all, as the rank of this endpoint.
 fn run<R: Wait, E: Calls + Drop>(
     rt: &R,
     alloc: Global,
     endpoint: EndpointOver<E>,
+    come: &Come,
 ) -> Result<bool, Error> {
     let mut world = World::new(alloc, endpoint);
-    world.barrier(rt)?;
+    let last = world.size().saturating_sub(1);
+    let met = meets(rt, &mut world, 0, &come.late_first)?;
+    let met_again = meets(rt, &mut world, last, &come.late_last)?;
     let broadcast = broadcasts(rt, &mut world)?;
     world.barrier(rt)?;
     let gathered = gathers(rt, alloc, &mut world)?;
     let reduced = reduces(rt, &mut world)?;
     world.finalize(rt)?;
-    Ok(broadcast && gathered && reduced)
+    Ok(met && met_again && broadcast && gathered && reduced)
 }
 
 /// Lets each rank run in a thread of its own.
@@ -78,7 +109,11 @@ fn all_ranks<R: Threads + Wait + Sync, E: Calls + Drop + Send>(
     alloc: Global,
     endpoints: Vec<EndpointOver<E>>,
 ) -> Result<Vec<Result<bool, Error>>, Error> {
-    let all = thread::map_vec(rt, endpoints, &|endpoint| run(rt, alloc, endpoint))?;
+    let come = Come {
+        late_first: AtomicU32::new(0),
+        late_last: AtomicU32::new(0),
+    };
+    let all = thread::map_vec(rt, endpoints, &|endpoint| run(rt, alloc, endpoint, &come))?;
     Ok(all)
 }
 

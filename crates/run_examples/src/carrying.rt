@@ -59,6 +59,27 @@ fn carry<R: Threads + Wait + Sync, G: Gate>(
     (number_of(code), clock.given)
 }
 
+/// The same under a gate that counts turns, and what it counted.
+fn carry_counted<R: Threads + Wait + Sync>(
+    rt: &R,
+    alloc: Global,
+    words: &[Text],
+    depot: &mut MemoryDepot,
+    sink: &mut MemorySink,
+    errors: &mut MemorySink,
+    moments: Vec<u64>,
+    gate: &Counted,
+) -> End {
+    let (code, asked) = carry(rt, alloc, words, depot, sink, errors, moments, gate);
+    let turns = [gate.turns(0), gate.turns(1), gate.turns(2), gate.turns(3)];
+    End {
+        code,
+        asked,
+        seen: u32::from(gate.is_late()),
+        turns: Some(turns),
+    }
+}
+
 /// The same, with its turns let in so.
 pub(crate) fn carry_turns<R: Threads + Wait + Sync>(
     rt: &R,
@@ -70,48 +91,30 @@ pub(crate) fn carry_turns<R: Threads + Wait + Sync>(
     moments: Vec<u64>,
     turns: Turns,
 ) -> End {
-    match turns {
+    let ((code, asked), seen) = match turns {
         Turns::Open => {
-            let (code, asked) = carry(rt, alloc, words, depot, sink, errors, moments, &OpenGate);
-            End {
-                code,
-                asked,
-                seen: 0,
-                turns: None,
-            }
+            let carried = carry(rt, alloc, words, depot, sink, errors, moments, &OpenGate);
+            (carried, 0)
         }
         Turns::Meet(round) => {
             let gate = Meeting::new(round);
-            let (code, asked) = carry(rt, alloc, words, depot, sink, errors, moments, &gate);
-            let seen = gate.seen.load(Ordering::SeqCst);
-            End {
-                code,
-                asked,
-                seen,
-                turns: None,
-            }
+            let carried = carry(rt, alloc, words, depot, sink, errors, moments, &gate);
+            (carried, gate.seen.load(Ordering::SeqCst))
         }
         Turns::Order(order, rounds) => {
             let gate = InOrder::new(order, rounds);
-            let (code, asked) = carry(rt, alloc, words, depot, sink, errors, moments, &gate);
-            let seen = u32::from(gate.late.load(Ordering::SeqCst));
-            End {
-                code,
-                asked,
-                seen,
-                turns: None,
-            }
+            let carried = carry(rt, alloc, words, depot, sink, errors, moments, &gate);
+            (carried, u32::from(gate.late.load(Ordering::SeqCst)))
         }
         Turns::Count(order, rounds) => {
             let gate = Counted::new(order, rounds);
-            let (code, asked) = carry(rt, alloc, words, depot, sink, errors, moments, &gate);
-            let turns = [gate.turns(0), gate.turns(1), gate.turns(2), gate.turns(3)];
-            End {
-                code,
-                asked,
-                seen: u32::from(gate.is_late()),
-                turns: Some(turns),
-            }
+            return carry_counted(rt, alloc, words, depot, sink, errors, moments, &gate);
         }
+    };
+    End {
+        code,
+        asked,
+        seen,
+        turns: None,
     }
 }
