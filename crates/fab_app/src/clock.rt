@@ -40,9 +40,11 @@ pub trait Clock {
         ensures ok { IfOk result (λ moment. told self.new ≡ read_on (told self.old) moment.nanos) }
         ensures err { OnErr result (told self.new ≡ told self.old) };
 
-    /// The moment so long from now.
+    /// The moment so long from now, by one reading.
     fn after(&mut self, duration: Duration) -> Result<Moment, ClockFailed>
-        ensures { IfOk result (λ moment. moment.nanos ≡ later (told self.new).last (as_nanos duration)) }
+        ensures moment { IfOk result (λ moment. moment.nanos ≡ later (told self.new).last (as_nanos duration)) }
+        ensures read { IfOk result (λ moment. (reading : ℕ) × (told self.new ≡ read_on (told self.old) reading)) }
+        ensures err { OnErr result (told self.new ≡ told self.old) }
     {
         Ok(self.now()?.after(duration))
     }
