@@ -2,6 +2,7 @@ pub mod Driving
 pub mod Folded
 pub mod Joining
 pub mod Offered
+pub mod Relayed
 pub mod Ring
 pub mod Saying
 pub mod Whole

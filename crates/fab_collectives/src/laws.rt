@@ -1,5 +1,5 @@
 //! What the clauses of a collective's calls say together.
-ghost use Rattle.fab_collectives.specs.Folded.{EachIsFolded};
+ghost use Rattle.fab_collectives.specs.Folded.{EachIsFolded, EachIsTheRoots};
 ghost use Rattle.fab_collectives.specs.Offered.{EachIsOffered};
 
 /// No rank is done before the message of each round in which it hears was offered to it, from the rank that it hears in it.
@@ -11,10 +11,13 @@ pub fn law_offered()
     ensures offered { EachIsOffered }
 {}
 
-/// What an allgather or an allreduce comes to is the same at all ranks: the fold of all shares in order of ranks.
+/// What an allgather, an allreduce or a broadcast comes to is the same at all ranks, where what each rank heard in a round is the message
+/// that the contract of its source's `drive` names (`message_of`). What a rank makes of it is the `made` of `drive`.
 ///
-/// This holds where all shares have one length, and what each rank heard in a round is the message that the contract of its source's
-/// `drive` names (`message_of`). What a rank makes of it is the `made` of `drive`.
+/// - `folded`: of an allgather and an allreduce it is the fold of all shares in order of ranks, where all shares have one length;
+/// - `relayed`: of a broadcast it is the root's share, also where it came over other ranks. Each of them told of what it had by then: all
+///   that it heard in the rounds that this one waits for, and of the others that or nothing yet.
 pub fn law_folded()
     ensures folded { EachIsFolded }
+    ensures relayed { EachIsTheRoots }
 {}

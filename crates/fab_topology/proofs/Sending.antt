@@ -1,5 +1,5 @@
 -- Whoever is heard of, straight or by others, has begun.
-use Rattle.std.proofs.Common.{◌≡◌, ℕ, zero, suc, ◌<◌, ◌≤◌, ◌⊎◌, inl, inr, Bool, true, false, if◌then◌else◌, subst, arith}
+use Rattle.std.proofs.Common.{◌≡◌, ℕ, zero, suc, ◌<◌, ◌≤◌, inl, inr, Bool, true, false, if◌then◌else◌, subst, arith}
 use Rattle.fab_topology.specs.Begun.{AllBegun}
 use Rattle.fab_topology.specs.Laws.{HeardBy}
 use Rattle.fab_topology.specs.Rounds.{hears, is_doubling, rounds_of, source_of}

@@ -9,8 +9,7 @@ ghost use Rattle.fab_topology.specs.Laws.{AllHear, EachIsFound, EachIsFrom, Each
 ///   no round in which the rank hears another, or none (`from`);
 /// - `tiles`: the rounds follow one another without a gap: each tells of as many ranks as there are between it and the next, no more
 ///   than are heard of already, and the last one ends behind all;
-/// - `all_hear`: after the last round each rank has heard, straight or by others, of each other, or of the root. So who waits for
-///   all messages of its rounds goes on only after all have begun;
+/// - `all_hear`: after the last round each rank has heard, straight or by others, of each other, or of the root;
 /// - `few`: by doubling a rank sends at most n messages where there are at most 2^n ranks.
 pub fn law_rounds()
     ensures heard { EachIsHeard }

@@ -14,6 +14,7 @@ pub use Rattle.fab_app.specs.TryingUntil
 pub use Rattle.fab_fold.specs.Shares
 pub use Rattle.fab_topology.specs.Rounds
 pub use Rattle.fab_topology.specs.Laws
+pub use Rattle.fab_topology.specs.Begun
 pub use Rattle.fab_collectives.specs.Routes
 pub use Rattle.fab_collectives.specs.Lengths
 pub use Rattle.fab_collectives.specs.Beginning

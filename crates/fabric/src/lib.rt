@@ -38,5 +38,6 @@ pub use fab_collectives::{
 };
 pub use fab_face::probing::Probed;
 pub use fab_library_laws::{Unclosed, close_all};
+pub use fab_topology::{law_begun, law_rounds};
 pub use hints::Hints;
 pub use opening::{Closed, Domain, Endpoint, close, open};
