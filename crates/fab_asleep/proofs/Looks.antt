@@ -1,4 +1,5 @@
 -- Looks of a wait that may sleep: a poll or progress, and a reading of the clock.
+use Rattle.std.specs.Prelude.{IfOk, IfSome, IfNone, Option, Some, None}
 use Rattle.std.proofs.Common.{◌≡◌, ◌<◌, ◌≤◌, ◌+◌, ℕ, zero, suc, Bool, true, false, Result, Ok, Err, refl, sym, subst, arith}
 use Rattle.fab_base.specs.declared.faults.NoMemory.{NoMemory}
 use Rattle.fab_face.specs.Held.{Seen}
@@ -18,6 +19,15 @@ use Rattle.fab_app.proofs.Counting.{missed_by, moved_once, within_last}
 use Rattle.fab_app.proofs.Polling.{moves_lacked, polls_on, waits_after}
 use Rattle.fab_app.proofs.Timing.{came_until, late_until, moved_by, moves_late, no_turns, spins_by}
 use Rattle.fab_asleep.specs.Resting.{EndsBy}
+
+-- what holds of an option that is there, and of one that is not
+pub at_some : {P : Type 0} (left : Option ℕ) (n : ℕ) → left ≡ Some n → IfSome left (λ _. P) → P
+at_some (Some m) n is holds = holds
+at_some None n is holds = absurd (cc)
+
+pub at_none : {P : Type 0} (left : Option ℕ) → left ≡ None → IfNone left P → P
+at_none (Some m) is holds = absurd (cc)
+at_none None is holds = holds
 
 -- such steps in a row, and more of them
 then_times : {State : Type 0} (Step : State → State → Type 0) (m n : ℕ) (a b c : State) → Times Step m a b → Times Step n b c → Times Step (m + n) a c
@@ -101,3 +111,8 @@ module _ {Home : Type 0} where
   pub ends_lacks : (fixed : Bool) (budget moment : ℕ) (a b : Timed Home) (told : Result Bool WaitFault) → EndsBy fixed budget moment a b told → told ≡ Err LacksMemory → MayLack fixed b.seen
   ends_lacks fixed budget moment a b (Ok done) by wrong = absurd (cc)
   ends_lacks fixed budget moment a b (Err why) by is = by.1 (cc (is))
+
+  pub ends_until : (fixed : Bool) (budget moment : ℕ) (t u v : Told) (a b c : Seen Home) (told : Result Bool WaitFault) → Until (MovesOnce fixed budget) moment false (timed t a) (timed u b)
+      → EndsBy fixed budget moment (timed u b) (timed v c) told → IfOk told (λ done. MovesUntil fixed budget moment (timed t a) (timed v c) done)
+  ends_until fixed budget moment t u v a b c (Ok done) turns by = moves_late fixed budget moment t u v a b c true done turns by refl
+  ends_until fixed budget moment t u v a b c (Err why) turns by = tt

@@ -9,10 +9,11 @@ use std::time::Duration;
 /// How many milliseconds a client waits for an answer that nobody sends.
 const PATIENCE_MILLIS: u64 = 20;
 
-/// What a client saw: how many requests got their answers, and how many did not come in time.
+/// What a client saw: how many requests got their answers, how many nanoseconds all of them took, and how many did not come in time.
 #[derive(Clone, Copy, Drop)]
 pub(crate) struct Seen {
     pub answered: u32,
+    pub nanos: u64,
     pub timed_out: u32,
 }
 
@@ -53,13 +54,17 @@ pub(crate) fn run<R: Wait, C: Clock + Drop, E: Calls + Drop>(
 ) -> Result<Seen, Stopped> {
     let mut seen = Seen {
         answered: 0,
+        nanos: 0,
         timed_out: 0,
     };
     let mut buf = Buf::zeros(alloc, BYTES)?;
+    let begun = waiter.clock.now()?;
     for number in 0..u64::from(REQUESTS) {
         buf = ask(rt, endpoint, waiter, number, buf)?;
         seen.answered = seen.answered.saturating_add(1);
     }
+    let ended = waiter.clock.now()?;
+    seen.nanos = ended.nanos.saturating_sub(begun.nanos);
     if times_out(rt, endpoint, waiter)? {
         seen.timed_out = 1;
     }

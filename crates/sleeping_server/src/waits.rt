@@ -43,7 +43,7 @@ pub(crate) struct Came {
 }
 
 /// The message that the completion tells of.
-fn came(polled: Polled) -> Result<Came, Stopped> {
+fn message_of(polled: Polled) -> Result<Came, Stopped> {
     match polled {
         Polled::Entry(Entry::Received { source, buf, .. }) => Ok(Came { source, buf }),
         Polled::Idle | Polled::More => Err(Stopped::Silent),
@@ -75,7 +75,7 @@ pub(crate) fn next<R: Wait, C: Clock + Drop, E: Calls + Drop>(
     endpoint: &mut EndpointOver<E>,
     waiter: &mut Waiter<C>,
 ) -> Result<Came, Stopped> {
-    came(wait(rt, endpoint, waiter, Duration::from_secs(LONG_SECONDS))?)
+    message_of(wait(rt, endpoint, waiter, Duration::from_secs(LONG_SECONDS))?)
 }
 
 /// Posts a receive.
