@@ -3,7 +3,8 @@
 //! `endpoint_bench bench` prints a table: for tagged messages of 1, 64, 4,096 and 65,536 bytes and of 1 MiB a ping-pong, as
 //! the time of one way, and a stream one way in windows of 16 with an acknowledgement, as the time of one message. Each
 //! is the best and the median of 100 short runs. `endpoint_bench bench touched` prints those of 65,536 bytes and of 1 MiB where
-//! each message is written before it is sent and read when it came. `endpoint_bench soak` sends 1,000,000 messages of 64 bytes one way, and
+//! each message is written before it is sent and read when it came. `endpoint_bench sleeping` prints that of `bench` in a domain that was
+//! opened with sleeping, while nobody sleeps. `endpoint_bench soak` sends 1,000,000 messages of 64 bytes one way, and
 //! `endpoint_bench soak NUMBER` so many, in whole windows of 16; they are for whoever looks at the memory that this takes.
 //! `endpoint_bench alone` has both endpoints in one thread, and prints what it costs to put a message, to take one, and to look for
 //! one in vain, for 1, 64 and 4,096 bytes. Behind `bench`, `bench touched` and `alone` three numbers may stand, `32 0 31`: how many peers are open, and which
@@ -46,6 +47,13 @@ fn read_words(rt: &HostRuntime) -> io::Result<Asked> {
     };
     match word.as_str() {
         "bench" => Ok(bench_of(words.next(), words.next(), words.next(), words.next())),
+        "sleeping" => Ok(Asked::Bench {
+            is_touched: false,
+            peers: Peers {
+                sleeping: true,
+                ..TWO
+            },
+        }),
         "soak" => Ok(Asked::Soak(number(words.next()))),
         "alone" => Ok(Asked::Alone {
             peers: peers_of(words.next(), words.next(), words.next()),
@@ -79,6 +87,7 @@ fn peers_of(all: Option<String>, left: Option<String>, right: Option<String>) ->
         all: peer(all, TWO.all),
         left: peer(left, TWO.left),
         right: peer(right, TWO.right),
+        sleeping: false,
     }
 }
 

@@ -13,12 +13,13 @@ use std::time::Clock;
 /// How many receives stand posted where all calls are made in one thread.
 const AHEAD: u64 = 16;
 
-/// How many peers are open, and which two of them speak. The others stay open and silent.
+/// How many peers are open, which two of them speak, and whether threads could sleep, which none does. The others stay open and silent.
 #[derive(Clone, Copy, Drop)]
 pub struct Peers {
     pub all: u32,
     pub left: u32,
     pub right: u32,
+    pub sleeping: bool,
 }
 
 /// Two peers, both of which speak.
@@ -26,6 +27,7 @@ pub const TWO: Peers = Peers {
     all: 2,
     left: 0,
     right: 1,
+    sleeping: false,
 };
 
 /// Two endpoints that speak, and the others, which are only open.
@@ -54,10 +56,11 @@ impl<E: Calls + Drop> Opened<E> {
 }
 
 /// Tagged messages between so many peers, over lanes and pools of 64 places.
-fn wishes(peers: u32) -> Hints {
+fn wishes(peers: &Peers) -> Hints {
     Hints::new()
         .cap(Cap::Tagged)
-        .peers(peers)
+        .sleeping(peers.sleeping)
+        .peers(peers.all)
         .lane(64)
         .pool(64)
         .tx(64)
@@ -90,7 +93,7 @@ pub fn times<R: Clock + Threads + Wait + Sync>(
     alloc: Global,
     measure: &Measure,
 ) -> io::Result<Vec<Times>> {
-    match open(alloc, &wishes(measure.peers.all)) {
+    match open(alloc, &wishes(&measure.peers)) {
         Ok(Domain { endpoints, .. }) => times_among(rt, alloc, endpoints, measure),
         Err(_) => Ok(Vec::new(alloc)),
     }
@@ -171,7 +174,7 @@ pub fn costs<R: Clock>(
     runs: u64,
     peers: &Peers,
 ) -> io::Result<Option<Costs>> {
-    match open(alloc, &wishes(peers.all)) {
+    match open(alloc, &wishes(peers)) {
         Ok(Domain { endpoints, .. }) => costs_among(rt, alloc, endpoints, len, runs, peers),
         Err(_) => Ok(None),
     }

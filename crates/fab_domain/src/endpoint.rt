@@ -12,6 +12,7 @@ use fab_av::InsertReport;
 use fab_base::{
     Access, AtomicOp, Buf, Class, Entry, ErrEntry, Fault, Flags, NoMemory, Num, Refused, Text,
 };
+use fab_bell::{Bell, Sleeper, Sleeps};
 use fab_face::calls::{
     Addresses, Counters, Logs, Looks, Messages, Multis, Progress, Receives, Regions, Requests, Sees,
 };
@@ -25,12 +26,15 @@ use std::marker::Model;
 /// `fab_face`, with what each promises there.
 pub struct RingEndpoint {
     pub(crate) inner: Endpoint<RingPort>,
+    /// With it the peers that sleep are woken, where the domain was opened so. Contracts do not see it.
+    pub(crate) bell: Option<Bell>,
 }
 
 // Not derived, for the same reason as that of the machine (`fab_open`).
 impl Drop for RingEndpoint {
     fn drop(self) {
-        let RingEndpoint { inner } = self;
+        let RingEndpoint { inner, bell } = self;
+        drop(bell);
         drop(inner);
     }
 }
@@ -53,8 +57,47 @@ impl RingEndpoint {
         ensures peers { result.av.peers ≡ peers_of (port_of self) }
         ensures regions { result.regions ≡ self.held.state.regions }
     {
-        let RingEndpoint { inner } = self;
+        let RingEndpoint { inner, bell } = self;
+        drop(bell);
         close(inner)
+    }
+
+    /// Wakes the peers that sleep, where the last transmit call posted a frame.
+    fn ring_if_pushed(&self) {
+        if let Some(bell) = &self.bell {
+            if self.inner.pushed() {
+                bell.ring();
+            }
+        }
+    }
+
+    /// Wakes the peers that sleep, unless progress posted no frame.
+    fn ring_if_moved(&self, moved: &Result<Moved, NoMemory>) {
+        if let Some(bell) = &self.bell {
+            let posted = match moved {
+                Ok(moved) => moved.posted != 0,
+                Err(_lacks) => true,
+            };
+            if posted {
+                bell.ring();
+            }
+        }
+    }
+
+    /// Wakes the peers that sleep.
+    fn ring(&self) {
+        if let Some(bell) = &self.bell {
+            bell.ring();
+        }
+    }
+}
+
+impl Sleeps for RingEndpoint {
+    fn sleeper(&self) -> Sleeper {
+        match &self.bell {
+            Some(bell) => bell.sleeper(),
+            None => Sleeper::sleepless(),
+        }
     }
 }
 
@@ -81,7 +124,9 @@ impl Messages for RingEndpoint {
         ctx: u64,
         flags: Flags,
     ) -> Result<(), Refused> {
-        self.inner.send(dest, buf, imm, ctx, flags)
+        let sent = self.inner.send(dest, buf, imm, ctx, flags);
+        self.ring_if_pushed();
+        sent
     }
 
     fn tsend(
@@ -93,11 +138,15 @@ impl Messages for RingEndpoint {
         ctx: u64,
         flags: Flags,
     ) -> Result<(), Refused> {
-        self.inner.tsend(dest, tag, buf, imm, ctx, flags)
+        let sent = self.inner.tsend(dest, tag, buf, imm, ctx, flags);
+        self.ring_if_pushed();
+        sent
     }
 
     fn inject(&mut self, dest: u32, bytes: &[u8], imm: Option<u64>) -> Result<(), Fault> {
-        self.inner.inject(dest, bytes, imm)
+        let sent = self.inner.inject(dest, bytes, imm);
+        self.ring_if_pushed();
+        sent
     }
 
     fn tinject(
@@ -107,14 +156,18 @@ impl Messages for RingEndpoint {
         bytes: &[u8],
         imm: Option<u64>,
     ) -> Result<(), Fault> {
-        self.inner.tinject(dest, tag, bytes, imm)
+        let sent = self.inner.tinject(dest, tag, bytes, imm);
+        self.ring_if_pushed();
+        sent
     }
 }
 
 #[tactic(auto, unfolding(crate::specs::Seen::ring_seen))]
 impl Requests for RingEndpoint {
     fn read(&mut self, dest: u32, key: u64, at: u64, buf: Buf, ctx: u64) -> Result<(), Refused> {
-        self.inner.read(dest, key, at, buf, ctx)
+        let sent = self.inner.read(dest, key, at, buf, ctx);
+        self.ring_if_pushed();
+        sent
     }
 
     fn write(
@@ -127,7 +180,9 @@ impl Requests for RingEndpoint {
         ctx: u64,
         flags: Flags,
     ) -> Result<(), Refused> {
-        self.inner.write(dest, key, at, buf, imm, ctx, flags)
+        let sent = self.inner.write(dest, key, at, buf, imm, ctx, flags);
+        self.ring_if_pushed();
+        sent
     }
 
     fn inject_write(
@@ -138,7 +193,9 @@ impl Requests for RingEndpoint {
         bytes: &[u8],
         imm: Option<u64>,
     ) -> Result<(), Fault> {
-        self.inner.inject_write(dest, key, at, bytes, imm)
+        let sent = self.inner.inject_write(dest, key, at, bytes, imm);
+        self.ring_if_pushed();
+        sent
     }
 
     fn atomic(
@@ -152,8 +209,11 @@ impl Requests for RingEndpoint {
         ctx: u64,
         flags: Flags,
     ) -> Result<(), Fault> {
-        self.inner
-            .atomic(dest, key, at, op, num, operand, ctx, flags)
+        let sent = self
+            .inner
+            .atomic(dest, key, at, op, num, operand, ctx, flags);
+        self.ring_if_pushed();
+        sent
     }
 
     fn fetch_atomic(
@@ -167,8 +227,11 @@ impl Requests for RingEndpoint {
         result_: Buf,
         ctx: u64,
     ) -> Result<(), Refused> {
-        self.inner
-            .fetch_atomic(dest, key, at, op, num, operand, result_, ctx)
+        let sent = self
+            .inner
+            .fetch_atomic(dest, key, at, op, num, operand, result_, ctx);
+        self.ring_if_pushed();
+        sent
     }
 
     fn compare_atomic(
@@ -183,8 +246,11 @@ impl Requests for RingEndpoint {
         result_: Buf,
         ctx: u64,
     ) -> Result<(), Refused> {
-        self.inner
-            .compare_atomic(dest, key, at, op, num, operand, compare, result_, ctx)
+        let sent = self
+            .inner
+            .compare_atomic(dest, key, at, op, num, operand, compare, result_, ctx);
+        self.ring_if_pushed();
+        sent
     }
 }
 
@@ -267,7 +333,9 @@ impl Multis for RingEndpoint {
 #[tactic(auto, unfolding(crate::specs::Seen::ring_seen))]
 impl Progress for RingEndpoint {
     fn progress(&mut self, budget: u32) -> Result<Moved, NoMemory> {
-        self.inner.progress(budget)
+        let moved = self.inner.progress(budget);
+        self.ring_if_moved(&moved);
+        moved
     }
 
     fn cq_is_empty(&self) -> bool {
@@ -283,7 +351,9 @@ impl Progress for RingEndpoint {
     }
 
     fn cq_read(&mut self, budget: u32) -> Result<Entry, Fault> {
-        self.inner.cq_read(budget)
+        let taken = self.inner.cq_read(budget);
+        self.ring();
+        taken
     }
 }
 

@@ -12,4 +12,4 @@ mod endpoint;
 mod opening;
 
 pub use endpoint::RingEndpoint;
-pub use opening::endpoints;
+pub use opening::{endpoints, endpoints_that_sleep};

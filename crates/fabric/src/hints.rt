@@ -11,6 +11,7 @@ use fab_info::getinfo;
 
 /// What is asked for: a version of the interface, wishes, and whether a message, a write or an atomic that succeeds writes a
 /// completion only where its flags ask for one (FI_SELECTIVE_COMPLETION of fi_endpoint(3)). Receives, reads and looks always do.
+/// And whether threads that wait may sleep, so that whoever posts a frame wakes them.
 ///
 /// Whoever asks for no capability is granted all that is on offer, directed receives among them. Whoever asks for one is
 /// granted no directed receive unless it asks for `Cap::DirectedRecv`, and then the source of each receive is ignored.
@@ -19,12 +20,13 @@ pub struct Hints {
     pub api: Api,
     pub wishes: Wishes,
     pub selective: bool,
+    pub sleeping: bool,
 }
 
 impl Hints {
     /// No wish, in the first version, with all completions.
     pub fn new() -> Hints
-        ensures { result ≡ record { api = One; wishes = no_hints; selective = false } }
+        ensures { result ≡ record { api = One; wishes = no_hints; selective = false; sleeping = false } }
     {
         Hints {
             api: Api::One,
@@ -41,6 +43,7 @@ impl Hints {
                 message: None,
             },
             selective: false,
+            sleeping: false,
         }
     }
 
@@ -59,6 +62,14 @@ impl Hints {
             selective: true,
             ..self
         }
+    }
+
+    /// With threads that may sleep where they wait (`wait_asleep`), or without, which costs nothing. With it, whoever posts a frame reads
+    /// one word more, and wakes those that sleep.
+    pub fn sleeping(self, sleeping: bool) -> Hints
+        ensures { result ≡ record self { sleeping = sleeping } }
+    {
+        Hints { sleeping, ..self }
     }
 
     /// With these capabilities.

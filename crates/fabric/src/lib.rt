@@ -28,11 +28,13 @@ pub use fab_app::moving::Next;
 pub use fab_app::trying::again;
 pub use fab_app::trying_until::{NotAccepted, TryFault};
 pub use fab_app::until::WaitFault;
+pub use fab_asleep::{cntr_wait_asleep, wait_asleep, with_sleeper};
 pub use fab_av::{Av, InsertReport};
 pub use fab_base::{
     Access, Api, AtomicOp, Buf, Busy, Cap, Caps, Class, Entry, ErrEntry, ErrKind, Fault, Flags,
     Info, Level, Limits, List, NoMemory, Num, PeekHow, Refused, Size, Text,
 };
+pub use fab_bell::{Sleeper, Sleeps};
 pub use fab_collectives::{
     COLLECTIVE, Collective, DOUBLING_FROM, Group, MOST_SHARE, is_reducing, law_folded, law_offered,
 };

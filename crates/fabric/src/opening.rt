@@ -7,7 +7,7 @@ ghost use Rattle.fabric.specs.Asking.{granted_to, WhyNot};
 use crate::hints::Hints;
 use fab_app::endpoint::{Endpoint as Held, hold_all};
 use fab_base::{Fault, Info};
-use fab_domain::{RingEndpoint, endpoints};
+use fab_domain::{RingEndpoint, endpoints_that_sleep};
 use fab_open::Closed as ClosedOver;
 use fab_ring::RingPort;
 use std::alloc::Global;
@@ -47,7 +47,7 @@ pub fn open(alloc: Global, hints: &Hints) -> Result<Domain, Fault>
     ensures why { IfErr result (WhyNot hints.now) }
 {
     let info = hints.granted()?;
-    let all = endpoints(alloc, &info, hints.selective)?;
+    let all = endpoints_that_sleep(alloc, &info, hints.selective, hints.sleeping)?;
     let endpoints = hold_all(alloc, all)?;
     Ok(Domain { info, endpoints })
 }

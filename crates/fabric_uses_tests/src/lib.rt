@@ -6,4 +6,6 @@
 #[cfg(test)]
 mod moments;
 #[cfg(test)]
+mod sleeping;
+#[cfg(test)]
 mod uses;
