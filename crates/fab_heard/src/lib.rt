@@ -1,0 +1,2 @@
+//! What a thread heard.
+#![tactic(auto)]
