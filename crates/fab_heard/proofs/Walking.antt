@@ -235,3 +235,120 @@ post_told s0 d s u q same is = record {
     none_sent : (t : Bool) (m : List Accepted) → posted_for d ((let xs : List Accepted = elim t [ true ↦ Receives s.calls ∷ [] | false ↦ [] ] in xs) ++ m) ≡ posted_for d m
     none_sent true m = refl
     none_sent false m = refl
+
+call_told : (s0 : State) (d : ℕ) (s u : State) (c : Call) → Fixed s0 s → is_simple c ≡ true → do_call s c ≡ (Done, u) → Told s0 d s u c
+call_told s0 d s u (Transmit o) same simple e = transmit_told s0 d s u o same (transmitted s u o e)
+call_told s0 d s u (Post q) same simple e = post_told s0 d s u q same (posted s u q e)
+call_told s0 d s u (Look how source tag ignore ctx) same simple e = absurd (cc (simple))
+call_told s0 d s u (TakeClaimed buf ctx) same simple e = absurd (cc (simple))
+call_told s0 d s u (DropClaimed ctx) same simple e = absurd (cc (simple))
+call_told s0 d s u (Cancel ctx) same simple e = absurd (cc (simple))
+call_told s0 d s u CancelFirst same simple e = absurd (cc (simple))
+call_told s0 d s u (Insert name) same simple e = absurd (cc (simple))
+call_told s0 d s u (Remove index) same simple e = absurd (cc (simple))
+call_told s0 d s u (Reg key access bytes) same simple e = absurd (cc (simple))
+call_told s0 d s u (Close key) same simple e = absurd (cc (simple))
+call_told s0 d s u (Put key at bytes) same simple e = absurd (cc (simple))
+call_told s0 d s u (Show key) same simple e = absurd (cc (simple))
+call_told s0 d s u (Count class) same simple e = absurd (cc (simple))
+
+-- ---- all of a record
+
+asking_quiet : (a b : Peer) (x : Deed) (m : List Receive) → is_silent x ≡ true → asking a x b m ≡ m
+asking_quiet a b (Makes call) m e = absurd (cc (e))
+asking_quiet a b (Counts counters) m e = absurd (cc (e))
+asking_quiet a b (Head s) m e = refl
+asking_quiet a b (Tail s) m e = refl
+asking_quiet a b (Deed.Sent t) m e = refl
+asking_quiet a b Draw m e = refl
+asking_quiet a b Deed.Read m e = refl
+
+accepting_quiet : (a b : Peer) (x : Deed) (m : List Accepted) → is_silent x ≡ true → accepting a x b m ≡ m
+accepting_quiet a b (Makes call) m e = absurd (cc (e))
+accepting_quiet a b (Counts counters) m e = absurd (cc (e))
+accepting_quiet a b (Head s) m e = refl
+accepting_quiet a b (Tail s) m e = refl
+accepting_quiet a b (Deed.Sent t) m e = refl
+accepting_quiet a b Draw m e = refl
+accepting_quiet a b Deed.Read m e = refl
+
+pub record Walked (s0 : State) (d : ℕ) (p q : Living) (xs : List Doing) : Type 0 where
+  pub grew : List State
+  pub past : q.past ≡ p.past ++ grew
+  pub fixed : Fixed s0 q.held.state
+  pub receives : List Receive
+  pub asked : (m : List Receive) → reverse (recall asking p.held.state (deeds_of xs) grew m) ≡ reverse m ++ receives
+  pub shows : map shown receives ≡ map (shown_post s0) (postings (own_of xs))
+  pub items : List Item
+  pub accepted : (m : List Accepted) → posted_for d (recall accepting p.held.state (deeds_of xs) grew m) ≡ posted_for d m ++ items
+  pub are : map plain_item items ≡ map plain_order (orders_to s0 d (own_of xs))
+
+silent_fixed : (p q : Living) (x : Doing) → Does p x q → is_own x ≡ false → Fixed p.held.state q.held.state
+silent_fixed p q (Did own) does e = absurd (cc (e))
+silent_fixed p q (Had entry) does e = subst (Fixed p.held.state) (sym does.0.3) (record { caps = refl; av = refl })
+silent_fixed p q (Took source f) does e =
+    let h : State = headed (is_first f) p.held.state source f.head.item in
+    then p.held.state h q.held.state (headed_fixed (is_first f) p.held.state source f.head.item) (ends_fixed (is_last f.head) p.held h source (grown (begun_of p.held source) f) q.held does.0.3)
+silent_fixed p q (Posted dest f) does e = departs_fixed (is_last f.head) p.held dest (f.head.from + f.head.len) q.held does.0.3
+silent_fixed p q Drew does e = subst (Fixed p.held.state) (ap (λ (x : Held). x.state) (sym does.0.2)) (draw_fixed p.held.state)
+
+-- what such a doing is of the thread's own
+silent_part : (x : Doing) → is_own x ≡ false → (own : List Doing) → (postings (own_by x ++ own) ≡ postings own) × ((s0 : State) (d : ℕ) → orders_to s0 d (own_by x ++ own) ≡ orders_to s0 d own)
+silent_part (Did o) e own = absurd (cc (e))
+silent_part (Had entry) e own = (refl, λ s0 d. refl)
+silent_part (Took source f) e own = (refl, λ s0 d. refl)
+silent_part (Posted dest f) e own = (refl, λ s0 d. refl)
+silent_part Drew e own = (refl, λ s0 d. refl)
+
+module _ (s0 : State) (d : ℕ) (p mid q : Living) (xs : List Doing) where
+  step_silent : (x : Doing) → Does p x mid → is_own x ≡ false → Walked s0 d mid q xs → Walked s0 d p q (x ∷ xs)
+  step_silent x does e w =
+      let part = silent_part x e (own_of xs) in
+      record {
+        grew = more_of p x mid ++ w.grew;
+        past = w.past ∙ ap (λ us. us ++ w.grew) (added p mid x does) ∙ append_assoc p.past (more_of p x mid) w.grew;
+        fixed = w.fixed;
+        receives = w.receives;
+        asked = λ m. ap reverse (silently asking asking_quiet p mid x (deeds_of xs) w.grew m does e) ∙ w.asked m;
+        shows = w.shows ∙ ap (map (shown_post s0)) (sym part.0);
+        items = w.items;
+        accepted = λ m. ap (posted_for d) (silently accepting accepting_quiet p mid x (deeds_of xs) w.grew m does e) ∙ w.accepted m;
+        are = w.are ∙ ap (map plain_order) (sym (part.1 s0 d));
+      }
+
+  step_call : (c : Call) → Does p (Did (Calls c Done)) mid → Told s0 d p.held.state mid.held.state c → Walked s0 d mid q xs → Walked s0 d p q (Did (Calls c Done) ∷ xs)
+  step_call c does t w = record {
+    grew = mid.held.state ∷ w.grew;
+    past = w.past ∙ ap (λ us. us ++ w.grew) (added p mid (Did (Calls c Done)) does) ∙ append_assoc p.past (mid.held.state ∷ []) w.grew;
+    fixed = w.fixed;
+    receives = t.new ++ w.receives;
+    asked = λ m. w.asked (asked_by (peer p.held.state) (Makes (Some c)) (peer mid.held.state) ++ m) ∙ ap (λ (new : List Receive). reverse (new ++ m) ++ w.receives) t.asks ∙ ap (λ ys. ys ++ w.receives) (reverse-append t.new m) ∙ ap (λ ys. (reverse m ++ ys) ++ w.receives) t.few ∙ append_assoc (reverse m) t.new w.receives;
+    shows = map-append shown t.new w.receives ∙ ap₂ (λ (cs : List Shown) (bs : List Shown). cs ++ bs) t.shows w.shows ∙ sym (map-append (shown_post s0) (posting_by c) (postings (own_of xs)));
+    items = t.items ++ w.items;
+    accepted = λ m. w.accepted (accepts (peer p.held.state) (Makes (Some c)) (peer mid.held.state) ++ m) ∙ ap (λ ys. ys ++ w.items) (t.sends m) ∙ append_assoc (posted_for d m) t.items w.items;
+    are = map-append plain_item t.items w.items ∙ ap₂ (λ (cs : List (ItemHead × List ℕ)) (bs : List (ItemHead × List ℕ)). cs ++ bs) t.are w.are ∙ sym (map-append plain_order (order_by s0 d c) (orders_to s0 d (own_of xs)));
+  }
+
+pub walk : (s0 : State) (d : ℕ) (p q : Living) (xs : List Doing) → DoesBy p xs q → ((z : Doing) → In z (own_of xs) → IsSimple z) → Fixed s0 p.held.state → Walked s0 d p q xs
+walk s0 d p q [] does simple same = record {
+  grew = [];
+  past = ap (λ (z : Living). z.past) (sym does) ∙ sym (append-nil p.past);
+  fixed = subst (λ (z : Living). Fixed s0 z.held.state) does same;
+  receives = [];
+  asked = λ m. sym (append-nil (reverse m));
+  shows = refl;
+  items = [];
+  accepted = λ m. sym (append-nil (posted_for d m));
+  are = refl;
+}
+walk s0 d p q (Did (Calls c answer) ∷ xs) (mid, one, rest) simple same =
+    let k = simple (Did (Calls c answer)) (inl refl) in
+    let did : do_call p.held.state c ≡ (Done, mid.held.state) = one.0.0 ∙ ap (λ a. (a, mid.held.state)) k.1 in
+    let t = call_told s0 d p.held.state mid.held.state c same k.0 did in
+    subst (λ a. Walked s0 d p q (Did (Calls c a) ∷ xs)) (sym k.1)
+    (step_call s0 d p mid q xs c (subst (λ a. Does p (Did (Calls c a)) mid) k.1 one) t (walk s0 d mid q xs rest (λ z i. simple z (inr i)) (then s0 p.held.state mid.held.state same t.fixed)))
+walk s0 d p q (Did (Writes counters) ∷ xs) (mid, one, rest) simple same = never (simple (Did (Writes counters)) (inl refl))
+walk s0 d p q (Had entry ∷ xs) (mid, one, rest) simple same = step_silent s0 d p mid q xs (Had entry) one refl (walk s0 d mid q xs rest (λ z i. simple z (inr i)) (then s0 p.held.state mid.held.state same (silent_fixed p mid (Had entry) one refl)))
+walk s0 d p q (Took source f ∷ xs) (mid, one, rest) simple same = step_silent s0 d p mid q xs (Took source f) one refl (walk s0 d mid q xs rest simple (then s0 p.held.state mid.held.state same (silent_fixed p mid (Took source f) one refl)))
+walk s0 d p q (Posted dest f ∷ xs) (mid, one, rest) simple same = step_silent s0 d p mid q xs (Posted dest f) one refl (walk s0 d mid q xs rest simple (then s0 p.held.state mid.held.state same (silent_fixed p mid (Posted dest f) one refl)))
+walk s0 d p q (Drew ∷ xs) (mid, one, rest) simple same = step_silent s0 d p mid q xs Drew one refl (walk s0 d mid q xs rest simple (then s0 p.held.state mid.held.state same (silent_fixed p mid Drew one refl)))

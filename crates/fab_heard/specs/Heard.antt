@@ -40,7 +40,7 @@ IsSimple (Did (Writes counters)) = Never
 IsSimple (Took source f) = Never
 IsSimple (Posted dest f) = Never
 IsSimple Drew = Never
-IsSimple (Had entry) = (Had entry) ≡ (Had entry)
+IsSimple (Had entry) = entry ≡ entry
 
 abbrev pub posting_by : Call → List Posting
 posting_by (Post posting) = posting ∷ []
