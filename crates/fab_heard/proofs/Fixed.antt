@@ -1,13 +1,9 @@
 -- Who an endpoint's peers are, and what it may do, stays but for calls that say so.
 use Rattle.std.proofs.Common.{◌≡◌, ◌+◌, ℕ, Bool, true, false, List, Option, None, Some, [], refl, rules, ◌∙◌}
 use Rattle.std.specs.Prelude.{find}
-use Rattle.fab_base.specs.declared.items.Item.{Item}
 use Rattle.fab_base.specs.declared.items.ItemHead.{ItemHead}
-use Rattle.fab_base.specs.declared.items.Kind.{Kind}
-use Rattle.fab_base.specs.declared.items.Kind.TheVariants.{Msg, TagMsg, WriteReq, ReadReq, AtomicReq, Reply}
 use Rattle.fab_base.specs.declared.items.Outcome.{Outcome}
 use Rattle.fab_base.specs.declared.items.Outcome.TheVariants.{Done, BadKey, BadAccess, BadRange}
-use Rattle.fab_base.specs.declared.entries.Entry.TheVariants.{RemoteData}
 use Rattle.fab_base.specs.declared.entries.Taken.TheVariants.{Success}
 use Rattle.fab_base.specs.declared.operations.Arrival.{Arrival}
 use Rattle.fab_base.specs.declared.operations.Coming.{Coming}
@@ -16,7 +12,7 @@ use Rattle.fab_base.specs.declared.operations.Operation.{Operation}
 use Rattle.fab_base.specs.declared.operations.Receive.{Receive}
 use Rattle.fab_model.specs.Arrivals.{do_draw, do_head, do_request, do_tail, keeping, made_whole, remote_data, remote_event, seating, tail_to, with_regions}
 use Rattle.fab_model.specs.Complete.{at_delivery, at_match, book, fill, is_made_by, let_go, release, release_multi, reply}
-use Rattle.fab_model.specs.Matching.{is_message, takes}
+use Rattle.fab_model.specs.Matching.{takes}
 use Rattle.fab_model.specs.Receiving.{Posting, draws, give, goes, joining_posted, post, receive_of, taken_by, without_first}
 use Rattle.fab_model.specs.Sending.{Order, answering, class_of, do_answer, do_sent, end_with, ending, going_on, is_answered_by, success_of, transmit, transmit_to, transmitting}
 use Rattle.fab_model.specs.State.{State, called, coming_from, count, lookup, under_way, with_rx, with_tx, write}

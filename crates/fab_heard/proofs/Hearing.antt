@@ -1,11 +1,10 @@
 -- The law of what threads heard of one another.
-use Rattle.std.proofs.Common.{◌≡◌, ◌+◌, ◌-◌, ◌≤◌, ℕ, zero, suc, Bool, true, false, not, ◌&&◌, List, [], ◌∷◌, ◌++◌, length, map, take, drop, reverse, slice_get, Option, None, Some, inl, inr, refl, sym, ap, ap₂, ◌∙◌, subst, arith, append-nil, append_assoc}
-use Rattle.std.specs.Prelude.{cond, filter, is_none, nat_le, slice_index_or}
+use Rattle.std.proofs.Common.{◌≡◌, ◌-◌, ℕ, zero, suc, Bool, true, false, not, ◌&&◌, List, [], ◌∷◌, ◌++◌, length, map, take, drop, reverse, slice_get, Option, None, Some, inl, inr, refl, sym, ap, ap₂, ◌∙◌, subst, append_assoc}
+use Rattle.std.specs.Prelude.{cond, filter, slice_index_or}
 use Rattle.std.specs.List.{list_all}
 use Rattle.std.specs.Option.{option_map}
-use Rattle.std.proofs.lemmas.Bool.{and_parts}
 use Rattle.std.proofs.lemmas.Grind.{reverse_onto}
-use Rattle.std.proofs.lemmas.List.{map-append, reverse-append, take-append-drop}
+use Rattle.std.proofs.lemmas.List.{map-append, take-append-drop}
 use Rattle.std.proofs.lemmas.List.Elements.{filter-append}
 use Rattle.std.proofs.lemmas.Option.{slice_get-map}
 use Rattle.fab_base.specs.Replies.{is_reply}
@@ -32,21 +31,21 @@ use Rattle.fab_model.specs.State.{State}
 use Rattle.fab_model.specs.Views.{IsPrefixOf}
 use Rattle.fab_laws.specs.Matched.{tells_message}
 use Rattle.fab_laws.specs.Members.{In}
-use Rattle.fab_laws.specs.Programs.{Deed, Draw, Head, Makes, Opening, Peer, Tail, peer}
-use Rattle.fab_laws.specs.Recorded.{Recorded, plain, recall}
+use Rattle.fab_laws.specs.Programs.{Deed, Head, Opening, Tail, peer}
+use Rattle.fab_laws.specs.Recorded.{plain, recall}
 use Rattle.fab_laws.specs.StreamLaws.{asks, posted_for, whole_from}
 use Rattle.fab_laws.specs.Completed.{operations_of}
 use Rattle.fab_laws.specs.MessageLaws.{asked_of}
 use Rattle.fab_laws.proofs.Lists.{in_back, in_front, in_map, mapped, never}
 use Rattle.fab_in_turn.specs.InTurn.{IsChosen, is_plain, leaves_all, told}
 use Rattle.fab_in_turn.proofs.Turning.{all_told_in_turn}
-use Rattle.fab_in_turn.proofs.Words.{by_cases, is_of_message, is_one, not_both}
+use Rattle.fab_in_turn.proofs.Words.{is_of_message, is_one, not_both}
 use Rattle.fab_wire.specs.Joined.{is_last}
 use Rattle.fab_face.specs.Acts.{is_first, only}
 use Rattle.fab_merging.specs.Pasts.{begun}
-use Rattle.fab_doings.specs.Doings.{Calls, Did, Doing, Drew, Had, Living, Posted, Took, Writes, deeds_by, deeds_of, entries_of, own_of, peer_in}
+use Rattle.fab_doings.specs.Doings.{Calls, Did, Doing, Drew, Had, Living, Posted, Took, Writes, deeds_of, entries_of, own_of, peer_in}
 use Rattle.fab_doings.specs.Law.{IsRun, Kept, Past, plains, programs}
-use Rattle.fab_heard.specs.Heard.{Chooses, HeardInTurn, IsSimple, answers, as_receive, counts, is_simple, orders_to, postings, want_at, wanted}
+use Rattle.fab_heard.specs.Heard.{HeardInTurn, IsSimple, answers, as_receive, counts, is_simple, orders_to, postings, wanted}
 use Rattle.fab_heard.proofs.Fixed.{still}
 use Rattle.fab_heard.proofs.Walking.{Shown, Walked, accepting, asking, plain_item, plain_order, shown, shown_post, walk}
 
@@ -245,8 +244,8 @@ heard_in_turn from opening pasts run p q o r x y at_o at_x at_r at_y kept_x kept
     let asked : reverse (asked_of from.peers run.turns q) ≡ wy.receives = its_receives from opening pasts run q r y at_r at_y kept_y simple_y q in
     let sent : posted_for q (operations_of from.peers run.turns p).accepted ≡ wx.items = its_items from opening pasts run p o x at_o at_x kept_x simple_x q in
     let of_post : (f : Receive) → In f (asked_of from.peers run.turns q) → (z : Posting) × In z (postings (own_of y.steps)) × (shown f ≡ shown_post s0 z) = λ f i. (
-        let j : In f wy.receives = subst (In f) asked (in_reverse (asked_of from.peers run.turns q) f i) in
-        mapped (shown_post s0) (shown f) (postings (own_of y.steps)) (subst (In (shown f)) wy.shows (in_map shown f wy.receives j))) in
+    let j : In f wy.receives = subst (In f) asked (in_reverse (asked_of from.peers run.turns q) f i) in
+    mapped (shown_post s0) (shown f) (postings (own_of y.steps)) (subst (In (shown f)) wy.shows (in_map shown f wy.receives j))) in
     let single : (f : Receive) → In f (asked_of from.peers run.turns q) → f.least ≡ None = λ f i. (let z = of_post f i in ap (λ (k : Shown). k.least) z.2 ∙ chooses.single z.0 z.1) in
     let chosen : IsChosen p want (λ (f : Receive). mine f.ctx) (counts mine) (asked_of from.peers run.turns q) = record {
       directed = chooses.directed;
@@ -273,8 +272,7 @@ heard_in_turn from opening pasts run p q o r x y at_o at_x at_r at_y kept_x kept
     let n = y.living.held.state.cq.taken_out in
     let read : entries_of (own_of y.steps) ≡ map (λ (w : Written). w.entry) (take n ws) = own_entries y.steps ∙ (run.own q r y at_r at_y).read in
     let split : filter (counts mine) (map (λ (w : Written). w.entry) ws) ≡ filter (counts mine) (map (λ (w : Written). w.entry) (take n ws)) ++ filter (counts mine) (map (λ (w : Written). w.entry) (drop n ws)) =
-    ap (λ zs. filter (counts mine) (map (λ (w : Written). w.entry) zs)) (sym (take-append-drop n ws)) ∙ ap (filter (counts mine)) (map-append (λ (w : Written). w.entry) (take n ws) (drop n ws)) ∙ filter-append (counts mine) (map (λ (w : Written). w.entry) (take n ws)) (map (λ (w : Written). w.entry) (drop n ws)) in
-    (
+    ap (λ zs. filter (counts mine) (map (λ (w : Written). w.entry) zs)) (sym (take-append-drop n ws)) ∙ ap (filter (counts mine)) (map-append (λ (w : Written). w.entry) (take n ws) (drop n ws)) ∙ filter-append (counts mine) (map (λ (w : Written). w.entry) (take n ws)) (map (λ (w : Written). w.entry) (drop n ws)) in (
       filter (counts mine) (map (λ (w : Written). w.entry) (drop n ws)) ++ more.0,
       ap (λ es. filter (counts mine) es ++ (filter (counts mine) (map (λ (w : Written). w.entry) (drop n ws)) ++ more.0)) read
           ∙ sym (append_assoc (filter (counts mine) (map (λ (w : Written). w.entry) (take n ws))) (filter (counts mine) (map (λ (w : Written). w.entry) (drop n ws))) more.0)

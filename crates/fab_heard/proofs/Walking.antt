@@ -1,8 +1,7 @@
 -- What the own part of a thread's record says of the receives that its endpoint was asked for, and of what it sent.
-use Rattle.std.proofs.Common.{◌≡◌, ◌+◌, ℕ, zero, suc, Bool, true, false, List, [], ◌∷◌, ◌++◌, map, reverse, Option, None, Some, inl, inr, refl, sym, ap, ap₂, ◌∙◌, subst, rules, arith, append-nil, append_assoc}
+use Rattle.std.proofs.Common.{◌≡◌, ◌+◌, ℕ, Bool, true, false, List, [], ◌∷◌, ◌++◌, map, reverse, Option, None, Some, inl, inr, refl, sym, ap, ap₂, ◌∙◌, subst, arith, append-nil, append_assoc}
 use Rattle.std.specs.Prelude.{nat_lt, ◌==◌}
 use Rattle.std.proofs.lemmas.Bool.{lt-ltb}
-use Rattle.std.proofs.lemmas.Grind.{reverse_onto}
 use Rattle.std.proofs.lemmas.List.{map-append, reverse-append}
 use Rattle.fab_base.specs.declared.caps.Caps.{Caps}
 use Rattle.fab_base.specs.declared.faults.Fault.{Fault}
@@ -10,13 +9,10 @@ use Rattle.fab_base.specs.declared.items.Item.{Item}
 use Rattle.fab_base.specs.declared.items.ItemHead.{ItemHead}
 use Rattle.fab_base.specs.declared.items.Want.{Want}
 use Rattle.fab_base.specs.declared.operations.Receive.{Receive}
-use Rattle.fab_base.specs.declared.frames.Frame.{Frame}
 use Rattle.fab_base.specs.declared.peers.LineResult.{LineResult}
 use Rattle.fab_base.specs.declared.peers.LineResult.TheVariants.{Done, Refused}
 use Rattle.fab_wire.specs.Joined.{grown, is_last}
-use Rattle.fab_model.specs.Arrivals.{do_head}
 use Rattle.fab_model.specs.Calls.{Call, Transmit, Post, Look, TakeClaimed, DropClaimed, Cancel, CancelFirst, Insert, Remove, Reg, Close, Put, Show, Count, answer, do_call}
-use Rattle.fab_model.specs.Peers.{reading}
 use Rattle.fab_model.specs.Receiving.{Posting, post, post_fault, receive_of}
 use Rattle.fab_model.specs.Sending.{Order, head_of, item_of, operation_of, transmit, transmit_fault, transmit_to}
 use Rattle.fab_model.specs.State.{State, lookup}
@@ -28,8 +24,8 @@ use Rattle.fab_laws.specs.MessageLaws.{asked_by}
 use Rattle.fab_laws.specs.Programs.{Counts, Deed, Draw, Head, Makes, Peer, Tail, peer}
 use Rattle.fab_laws.specs.Recorded.{recall}
 use Rattle.fab_laws.specs.StreamLaws.{posted_for}
-use Rattle.fab_laws.proofs.Lists.{in_back, in_front, never}
-use Rattle.fab_doings.specs.Doings.{Calls, Did, Does, DoesBy, Doing, Drew, Had, Living, Own, Posted, Took, Writes, deeds_by, deeds_of, own_by, own_of}
+use Rattle.fab_laws.proofs.Lists.{never}
+use Rattle.fab_doings.specs.Doings.{Calls, Did, Does, DoesBy, Doing, Drew, Had, Living, Posted, Took, Writes, deeds_by, deeds_of, own_by, own_of}
 use Rattle.fab_heard.specs.Heard.{IsSimple, is_simple, order_by, orders_to, posting_by, postings, want_at}
 use Rattle.fab_heard.proofs.Fixed.{Fixed, draw_fixed, head_fixed, post_calls, post_fixed, sent_fixed, still, tail_fixed, then, transmit_fixed}
 

@@ -24,7 +24,7 @@ use Rattle.fab_model.specs.Views.{IsPrefixOf}
 use Rattle.fab_laws.specs.Members.{In, Never}
 use Rattle.fab_laws.specs.Programs.{Opening}
 use Rattle.fab_merging.specs.Pasts.{begun}
-use Rattle.fab_doings.specs.Doings.{Calls, Did, Doing, Drew, Had, Living, Own, Posted, Took, Writes, entries_of, own_of}
+use Rattle.fab_doings.specs.Doings.{Calls, Did, Doing, Drew, Had, Living, Posted, Took, Writes, entries_of, own_of}
 use Rattle.fab_doings.specs.Law.{IsRun, Kept, Past}
 
 -- ---- one doing

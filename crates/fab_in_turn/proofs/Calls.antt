@@ -1,32 +1,29 @@
 -- A receive that is asked for keeps the turns: it is posted, or takes a message that waits.
-use Rattle.std.proofs.Common.{◌≡◌, ◌≤◌, ◌<◌, ◌+◌, ℕ, zero, suc, Bool, true, false, not, ◌&&◌, List, [], ◌∷◌, ◌++◌, length, map, drop, get_or, set, slice_get, reverse, Option, Some, None, ◌⊎◌, inl, inr, refl, sym, ◌∙◌, ap, ap₂, subst, arith, append-nil, length-append}
+use Rattle.std.proofs.Common.{◌≡◌, ◌≤◌, ◌<◌, ◌+◌, ℕ, zero, suc, Bool, true, false, not, ◌&&◌, List, [], ◌∷◌, ◌++◌, length, map, drop, slice_get, reverse, Option, Some, None, ◌⊎◌, inl, inr, refl, sym, ◌∙◌, ap, ap₂, subst, arith, append-nil}
 use Rattle.std.specs.Prelude.{filter, find, is_none, slice_index, ◌==◌}
 use Rattle.std.proofs.lemmas.Bool.{cases_eq, eq-eqb}
 use Rattle.std.proofs.lemmas.List.{length-map, length-set, map-append}
-use Rattle.std.proofs.lemmas.List.Elements.{filter-append}
-use Rattle.std.proofs.lemmas.Option.{slice_get_past, slice_get_within, slice_get-map}
-use Rattle.std.specs.Option.{option_map}
+use Rattle.std.proofs.lemmas.Option.{slice_get_past, slice_get_within}
 use Rattle.fab_base.specs.declared.entries.Taken.{Taken}
 use Rattle.fab_base.specs.declared.items.Item.{Item}
 use Rattle.fab_base.specs.declared.items.ItemHead.{ItemHead}
 use Rattle.fab_base.specs.declared.items.Want.{Want}
 use Rattle.fab_base.specs.declared.operations.Arrival.{Arrival}
-use Rattle.fab_base.specs.declared.operations.Coming.{Coming}
-use Rattle.fab_base.specs.declared.operations.Coming.TheVariants.{Into, Keep}
+use Rattle.fab_base.specs.declared.operations.Coming.TheVariants.{Into}
 use Rattle.fab_base.specs.declared.operations.Receive.{Receive}
 use Rattle.fab_base.specs.declared.operations.Written.{Written}
 use Rattle.fab_model.specs.Complete.{entry_of, filling}
-use Rattle.fab_model.specs.Matching.{matches, remove_first, takes}
+use Rattle.fab_model.specs.Matching.{takes}
 use Rattle.fab_model.specs.Receiving.{goes, joining_posted, without_first}
 use Rattle.fab_model.specs.State.{Receiving, coming_from}
 use Rattle.fab_model.proofs.Parts.{get_or-set, some_same}
-use Rattle.fab_laws.specs.Members.{In, Never}
-use Rattle.fab_laws.proofs.Lists.{found_in, in_end, last_get, length_more, never}
+use Rattle.fab_laws.specs.Members.{In}
+use Rattle.fab_laws.proofs.Lists.{found_in, in_end, last_get, length_more}
 use Rattle.fab_laws.proofs.Counts.{many, many_removed, one, removed_less}
 use Rattle.fab_laws.proofs.receiving.Acts.{entries_for, entry_for, given}
 use Rattle.fab_in_turn.specs.InTurn.{IsChosen, told}
 use Rattle.fab_in_turn.proofs.Lists.{dropped_all, dropped_end, first_left, none_left, none_stays, one_kept, other_leaves, own_leaves, told_got, told_receive}
-use Rattle.fab_in_turn.proofs.Words.{Due, Level, Odd, Ours, Phase, Rest, Same, Turns, Waiting, by_cases, entries_in, is_keep, is_late, is_one, looks, newest, not_both, of_source, ones, phase_same, set_here, set_there, stands, waiting, whole_ones}
+use Rattle.fab_in_turn.proofs.Words.{Due, Level, Odd, Ours, Phase, Rest, Turns, Waiting, by_cases, entries_in, is_keep, is_late, is_one, looks, newest, not_both, of_source, ones, phase_same, set_here, set_there, stands, waiting, whole_ones}
 
 -- ---- lists
 
@@ -104,13 +101,15 @@ module _ (p : ℕ) (want : Want) (mine : Receive → Bool) (counts : Taken → B
         due x z =
             let all : List Waiting = whole_ones p want W ++ (x.head, None) ∷ [] in
             let many_all : length (whole_ones p want W ++ (x.head, None) ∷ []) ≡ length (whole_ones p want W) + 1 = length_more (whole_ones p want W) (x.head, None) in
-            let le : length os < length rs = (let l = none_left (length rs) (whole_ones p want W ++ (x.head, None) ∷ []) (sym z.waits ∙ none_waits) in let k = many_whole in omega (arith, l, k, many_all)) in
-            (le, record {
-              posted = posts (suc (length os)) (omega (arith, le)) z.posted;
-              waits = none_waits ∙ sym (dropped_all (length (rs ++ r ∷ [])) (whole_ones p want W ++ (x.head, None) ∷ []) (let k = many_whole in let l = long in omega (arith, le, k, l, many_all)));
-              into = λ q e. z.into q (sym (front_get rs (r ∷ []) (length os) le) ∙ e);
-              keep = λ e. z.keep (sym (front_get rs (r ∷ []) (length os) le) ∙ e);
-            })
+            let le : length os < length rs = (let l = none_left (length rs) (whole_ones p want W ++ (x.head, None) ∷ []) (sym z.waits ∙ none_waits) in let k = many_whole in omega (arith, l, k, many_all)) in (
+              le,
+              record {
+                posted = posts (suc (length os)) (omega (arith, le)) z.posted;
+                waits = none_waits ∙ sym (dropped_all (length (rs ++ r ∷ [])) (whole_ones p want W ++ (x.head, None) ∷ []) (let k = many_whole in let l = long in omega (arith, le, k, l, many_all)));
+                into = λ q e. z.into q (sym (front_get rs (r ∷ []) (length os) le) ∙ e);
+                keep = λ e. z.keep (sym (front_get rs (r ∷ []) (length os) le) ∙ e);
+              },
+            )
 
         go : Phase p want mine A W rs rx → Phase p want mine A W (rs ++ r ∷ []) (joining_posted r rx) × (length os ≤ length rs)
         go (Level e late z) = let k = rest z in (Level e late k.1, k.0)
@@ -287,8 +286,10 @@ module _ (p : ℕ) (want : Want) (mine : Receive → Bool) (counts : Taken → B
         subst (λ (y : Receiving). Phase p want mine A W rs y) (sym (given_whole r a mid bytes single e)) (phase_same p want mine A W rs rx mid (record { coming = refl; posted = refl; waits = same_waiting; late = fewer }) turns.phase),
         ap (λ zs. filter counts (entries_in (ws ++ zs))) (entries_whole r a bytes e) ∙ one_more_entry counts ws (entry_for r 0 a.source a.head bytes) false (chosen.own r a.source a.head bytes (inl refl) ∙ m) ∙ append-nil (filter counts (entries_in ws)) ∙ turns.tells,
       )
-      got_other None e = (subst (λ (y : Receiving). Phase p want mine A W rs y) (sym (given_late r a mid e)) (elim (cases_eq a.source p) [ | inl same ↦ here same turns.phase | inr differ ↦ there differ ]),
-          ap (λ zs. filter counts (entries_in (ws ++ zs))) (entries_late r a e) ∙ ap (λ zs. filter counts (entries_in zs)) (append-nil ws) ∙ turns.tells)
+      got_other None e = (
+        subst (λ (y : Receiving). Phase p want mine A W rs y) (sym (given_late r a mid e)) (elim (cases_eq a.source p) [ inl same ↦ here same turns.phase | inr differ ↦ there differ ]),
+        ap (λ zs. filter counts (entries_in (ws ++ zs))) (entries_late r a e) ∙ ap (λ zs. filter counts (entries_in zs)) (append-nil ws) ∙ turns.tells,
+      )
         where
           there : (a.source ≡ p → ⊥) → Phase p want mine A W rs (goes a.source (Into r 0) mid)
           there differ = phase_same p want mine A W rs rx (goes a.source (Into r 0) mid) (record { coming = set_there rx.coming p (Some (Into r 0)) a.source (λ z. absurd (differ z)); posted = refl; waits = same_waiting; late = fewer }) turns.phase

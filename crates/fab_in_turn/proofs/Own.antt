@@ -1,12 +1,10 @@
 -- An item of the source that arrives, or becomes whole, keeps the turns.
-use Rattle.std.proofs.Common.{◌≡◌, ◌≢◌, ◌≤◌, ◌<◌, ◌+◌, ◌-◌, ℕ, zero, suc, Bool, true, false, not, ◌&&◌, List, [], ◌∷◌, ◌++◌, length, map, drop, get_or, set, slice_get, reverse, Option, Some, None, ◌⊎◌, inl, inr, refl, sym, ◌∙◌, ap, ap₂, subst, arith, append-nil, append_assoc}
-use Rattle.std.specs.Prelude.{cond, filter, find, is_none, nat_lt, slice_index, ◌==◌}
-use Rattle.std.proofs.lemmas.Bool.{cases_eq, eq-eqb, eqb-true, ne_eqb}
-use Rattle.std.proofs.lemmas.List.{get_or-set_other, length-map, length-set, map-append}
+use Rattle.std.proofs.Common.{◌≡◌, ◌≢◌, ◌≤◌, ◌<◌, ◌+◌, ◌-◌, ℕ, zero, suc, Bool, true, false, not, ◌&&◌, List, [], ◌∷◌, ◌++◌, length, map, drop, get_or, set, slice_get, reverse, Option, Some, None, inl, inr, refl, sym, ◌∙◌, ap, subst, arith, append-nil}
+use Rattle.std.specs.Prelude.{cond, filter, nat_lt, slice_index, ◌==◌}
+use Rattle.std.proofs.lemmas.List.{length-map, length-set, map-append}
 use Rattle.std.proofs.lemmas.Option.{slice_get_within}
 use Rattle.fab_base.specs.declared.entries.Taken.{Taken}
 use Rattle.fab_base.specs.declared.items.Item.{Item}
-use Rattle.fab_base.specs.declared.items.ItemHead.{ItemHead}
 use Rattle.fab_base.specs.declared.items.Want.{Want}
 use Rattle.fab_base.specs.declared.operations.Arrival.{Arrival}
 use Rattle.fab_base.specs.declared.operations.Coming.{Coming}
@@ -18,16 +16,15 @@ use Rattle.fab_model.specs.Complete.{entry_of}
 use Rattle.fab_model.specs.Matching.{change_first, is_message, matches, remove_first, takes}
 use Rattle.fab_model.specs.State.{Receiving, coming_from, raise}
 use Rattle.fab_model.proofs.Parts.{get_or-set, some_same}
-use Rattle.fab_laws.specs.Members.{In, Never}
-use Rattle.fab_laws.specs.Matched.{tells_message}
-use Rattle.fab_laws.proofs.Lists.{Each, found_in, get_in, in_removed, length_more, never, raise_here}
+use Rattle.fab_laws.specs.Members.{In}
+use Rattle.fab_laws.proofs.Lists.{Each, found_in, in_removed, length_more, raise_here}
 use Rattle.fab_laws.proofs.Counts.{many, many_append, one}
 use Rattle.fab_laws.proofs.receiving.Acts.{Plain, entry_for, is_into, pass, seat, wait, whole}
 use Rattle.fab_in_turn.specs.InTurn.{IsChosen, told}
 use Rattle.fab_in_turn.proofs.Lists.{dropped_all, dropped_end, first_left, none_left, none_stays, one_kept, other_leaves, own_leaves, told_came, told_item}
-use Rattle.fab_in_turn.proofs.Words.{Due, Level, Odd, Ours, Phase, Rest, Same, Turns, Waiting, by_cases, entries_in, is_keep, is_late, is_of_message, is_one, looks, not_both, of_source, ones, phase_same, set_here, set_there, stands, waiting, whole_ones}
-use Rattle.fab_in_turn.proofs.Calls.{front_get, one_more_entry}
-use Rattle.fab_in_turn.proofs.Arrivals.{joined, joined_drop, joined_last, joined_whole, late_elsewhere, late_joined, plain_entries, waiting_elsewhere, waiting_joined}
+use Rattle.fab_in_turn.proofs.Words.{Due, Level, Odd, Ours, Phase, Rest, Turns, by_cases, entries_in, is_keep, is_late, is_of_message, is_one, looks, not_both, ones, set_here, stands, waiting, whole_ones}
+use Rattle.fab_in_turn.proofs.Calls.{one_more_entry}
+use Rattle.fab_in_turn.proofs.Arrivals.{joined, joined_drop, joined_last, joined_whole, late_joined, plain_entries, waiting_joined}
 
 -- ---- lists
 

@@ -1,12 +1,11 @@
 -- Every step keeps the turns, so they are kept wherever turns lead.
-use Rattle.std.proofs.Common.{◌≡◌, ◌≢◌, ◌<◌, ◌+◌, ℕ, zero, suc, Bool, true, false, ◌&&◌, List, [], ◌∷◌, ◌++◌, length, map, replicate, set, slice_get, reverse, Option, Some, None, ◌⊎◌, inl, inr, refl, sym, ◌∙◌, ap, subst, arith, append-nil}
-use Rattle.std.specs.Prelude.{filter, find, is_some, nat_lt, slice_index, ◌==◌}
+use Rattle.std.proofs.Common.{◌≡◌, ◌≢◌, ◌<◌, ◌+◌, ℕ, Bool, true, false, ◌&&◌, List, [], ◌∷◌, ◌++◌, length, set, slice_get, Option, Some, None, ◌⊎◌, inl, inr, refl, sym, ◌∙◌, ap, subst, arith, append-nil}
+use Rattle.std.specs.Prelude.{find, is_some, nat_lt, slice_index, ◌==◌}
 use Rattle.std.specs.List.{list_all, list_any}
 use Rattle.std.proofs.lemmas.Bool.{and_parts, cases_eq, eq-eqb, lt-ltb, ne_eqb}
 use Rattle.std.proofs.lemmas.Bool.Decides.{nat_tests}
 use Rattle.std.proofs.lemmas.List.{length-replicate, length-set}
 use Rattle.std.proofs.lemmas.Option.{slice_get_within}
-use Rattle.fab_base.specs.declared.entries.PeekHow.TheVariants.{Claim, Discard}
 use Rattle.fab_base.specs.declared.entries.Taken.{Taken}
 use Rattle.fab_base.specs.declared.faults.Fault.{Fault}
 use Rattle.fab_base.specs.declared.items.Item.{Item}
@@ -17,7 +16,7 @@ use Rattle.fab_base.specs.declared.operations.Coming.TheVariants.{Into, Keep}
 use Rattle.fab_base.specs.declared.operations.Receive.{Receive}
 use Rattle.fab_base.specs.declared.operations.Written.{Written}
 use Rattle.fab_base.specs.declared.script.Conf.{Conf}
-use Rattle.fab_model.specs.Arrivals.{do_tail, keeping, made_whole, taker}
+use Rattle.fab_model.specs.Arrivals.{keeping, made_whole, taker}
 use Rattle.fab_model.specs.Calls.{Call, Transmit, Post, Look, TakeClaimed, DropClaimed, Cancel, CancelFirst, Insert, Remove, Reg, Close, Put, Show, Count, answer, do_call}
 use Rattle.fab_model.specs.Complete.{filling}
 use Rattle.fab_model.specs.Matching.{is_message, takes}
@@ -28,7 +27,6 @@ use Rattle.fab_model.specs.Views.{View, rule, seen}
 use Rattle.fab_model.proofs.Orders.{steps_of_other, steps_of_own}
 use Rattle.fab_model.proofs.Parts.{prefix_get, some_same}
 use Rattle.fab_model.proofs.Passes.{tail_passes}
-use Rattle.fab_laws.specs.Members.{In, Never}
 use Rattle.fab_laws.specs.MessageLaws.{asked_by, asked_of, asks_for, keeping_asked}
 use Rattle.fab_laws.specs.Moments.{Note, noted, remembered}
 use Rattle.fab_laws.specs.Programs.{Counts, Deed, Draw, Head, Makes, Opening, Peer, Tail, program, starting}
@@ -41,8 +39,8 @@ use Rattle.fab_laws.proofs.matching.Watch as Watch
 use Rattle.fab_laws.proofs.receiving.Acts.{Act, Arrives, Cancels, Claims, Closes, Discards, Draws, Drops, Ends, Fills, Gets, Idle, Joins, Passes, Posts, Rests, Seats, Takes, Waits, Plain, act, entries_for, entry_for, freed, given, given_to, is_head, is_into, leaving, let_out, pass, seat, wait, whole}
 use Rattle.fab_laws.proofs.streams.Arrived.{whole_has_arrived}
 use Rattle.fab_laws.proofs.streams.Entries.{both, remembered_both}
-use Rattle.fab_in_turn.specs.InTurn.{AllToldInTurn, IsChosen, is_plain, leaves_all, told}
-use Rattle.fab_in_turn.proofs.Words.{Level, Turns, entries_in, not_both}
+use Rattle.fab_in_turn.specs.InTurn.{AllToldInTurn, IsChosen, is_plain, leaves_all}
+use Rattle.fab_in_turn.proofs.Words.{Level, Turns, not_both}
 use Rattle.fab_in_turn.proofs.Calls.{gets_keep, posts_keep}
 use Rattle.fab_in_turn.proofs.Arrivals.{plain_entries}
 use Rattle.fab_in_turn.proofs.Own.{closes_own, fills_own, joins_own, passes_own, seats_own, waits_own}
@@ -463,10 +461,10 @@ module _ (from : Opening) (p : ℕ) (source : ℕ) (within : source < length fro
   unfolding Holds keeping_plain
   kept turns states leads = remembered_keeps remembers p (λ ss. Always) (λ m ss a. Holds m a.state) (λ ss q x b good ruled. always)
       (λ ss m a b x good at ruled stood holds plain chosen agree. (
-          let v = seen program ss p in
-          let parts = and_parts (is_plain x) m.0.0.0 plain in
-          let before = holds parts.1 (older_chosen source want mine counts (asked_by a x b) m.1 chosen) (agreed source want mine counts v a b m.0.0.1 m.0.1 x agree) in
-          turns_next source want mine counts v a b m.0.0.1 m.0.1 m.1 before x stood parts.0 chosen agree))
+      let v = seen program ss p in
+      let parts = and_parts (is_plain x) m.0.0.0 plain in
+      let before = holds parts.1 (older_chosen source want mine counts (asked_by a x b) m.1 chosen) (agreed source want mine counts v a b m.0.0.1 m.0.1 x agree) in
+      turns_next source want mine counts v a b m.0.0.1 m.0.1 m.1 before x stood parts.0 chosen agree))
       (λ ss m q a b x good at differ ruled holds. holds)
       turns from.peers states (((true, []), []), []) always
       (λ a at. at_opening from (λ (s : State). Holds (((true, []), []), []) s) (λ conf av names. begun (record conf { peers = length from.peers }) av refl) p a at) leads

@@ -1,10 +1,10 @@
 -- What is so of a peer whose receives of one want get the messages of it in turn.
 --     Turns A W asked rx ws     the items of the source that arrived, and those of them that are whole; the receives asked for, the newest first; what the peer has on its receiving side; the entries written
-use Rattle.std.proofs.Common.{◌≡◌, ◌≤◌, ◌<◌, ◌+◌, ℕ, zero, suc, Bool, true, false, not, ◌&&◌, ◌||◌, List, [], ◌∷◌, ◌++◌, length, map, drop, get_or, set, slice_get, reverse, Option, Some, None, inl, inr, refl, sym, ◌∙◌, ap, subst, arith, append-nil}
+use Rattle.std.proofs.Common.{◌≡◌, ◌≤◌, ◌<◌, ℕ, suc, Bool, true, false, not, ◌&&◌, ◌||◌, List, [], ◌∷◌, ◌++◌, length, map, drop, get_or, set, slice_get, reverse, Option, Some, None, refl, sym, ◌∙◌, subst, arith}
 use Rattle.std.specs.Prelude.{filter, is_none, slice_index, ◌==◌}
 use Rattle.std.specs.Bool.{beq}
 use Rattle.std.proofs.lemmas.Bool.{eqb-true}
-use Rattle.std.proofs.lemmas.List.{get_or-set_other, get_or-set_same, length-map, length-set, map-append}
+use Rattle.std.proofs.lemmas.List.{get_or-set_other, get_or-set_same}
 use Rattle.std.proofs.lemmas.Grind.{reverse_onto}
 use Rattle.fab_base.specs.declared.entries.Taken.{Taken}
 use Rattle.fab_base.specs.declared.items.Item.{Item}
@@ -17,12 +17,10 @@ use Rattle.fab_base.specs.declared.operations.Receive.{Receive}
 use Rattle.fab_base.specs.declared.operations.Written.{Written}
 use Rattle.fab_model.specs.Matching.{is_message, is_tagged, matches, source_fits, tag_fits, takes}
 use Rattle.fab_model.specs.State.{Receiving, coming_from}
-use Rattle.fab_model.specs.Complete.{entry_of}
 use Rattle.fab_laws.specs.Members.{In, Never}
-use Rattle.fab_laws.specs.Matched.{tells_message}
 use Rattle.fab_laws.proofs.Lists.{never}
 use Rattle.fab_laws.proofs.Counts.{many, one}
-use Rattle.fab_in_turn.specs.InTurn.{IsChosen, told}
+use Rattle.fab_in_turn.specs.InTurn.{told}
 
 abbrev pub entries_in : List Written → List Taken
 entries_in ws = map (λ (w : Written). w.entry) ws

@@ -2,7 +2,7 @@
 --     is_plain deed        the deed neither cancels a receive, nor looks at messages, nor takes or drops one
 --     IsChosen ..          of the receives that a peer was asked for these want just this, and no other matches what they do
 --     told source rs xs    the entries of these receives, each with the message at its own place
-use Rattle.std.specs.Prelude.{◌≡◌, ℕ, Bool, true, false, ◌&&◌, List, [], ◌∷◌, map, filter, reverse, Some, None, slice_get}
+use Rattle.std.specs.Prelude.{◌≡◌, ℕ, Bool, true, false, List, [], ◌∷◌, map, filter, reverse, Some, None, slice_get}
 use Rattle.std.specs.List.{list_all}
 use Rattle.fab_base.specs.declared.entries.Taken.{Taken}
 use Rattle.fab_base.specs.declared.items.Item.{Item}
@@ -13,7 +13,7 @@ use Rattle.fab_base.specs.declared.operations.Written.{Written}
 use Rattle.fab_model.specs.Calls.{Call, Cancel, CancelFirst, DropClaimed, Look, TakeClaimed}
 use Rattle.fab_model.specs.Complete.{entry_of}
 use Rattle.fab_model.specs.Matching.{matches}
-use Rattle.fab_model.specs.Orders.{Turn, steps_of}
+use Rattle.fab_model.specs.Orders.{steps_of}
 use Rattle.fab_laws.specs.Matched.{tells_message}
 use Rattle.fab_laws.specs.Members.{In}
 use Rattle.fab_laws.specs.MessageLaws.{asked_of}
