@@ -141,7 +141,7 @@ told_first p (r ∷ rs) (x ∷ xs) ys = let t = told_first p rs xs ys in (t.0, a
 
 -- ---- lists
 
-in_filter : {X : Type 0} (test : X → Bool) (xs : List X) (x : X) → In x (filter test xs) → In x xs
+pub in_filter : {X : Type 0} (test : X → Bool) (xs : List X) (x : X) → In x (filter test xs) → In x xs
 in_filter test [] x i = i
 in_filter {X} test (y ∷ xs) x i = go (test y) i (in_filter test xs x)
   where

@@ -4,7 +4,9 @@
 --     answers p posts os     the entries of these receives, each with what was sent at its own place
 --     Chooses ..             the receives under contexts that pass a test want just this, and no other matches what they do
 --     HeardInTurn            the law
-use Rattle.std.specs.Prelude.{◌≡◌, ℕ, Bool, true, false, ◌==◌, List, [], ◌∷◌, ◌++◌, filter, Some, None, slice_get}
+--     heard, said            the bytes of the messages that a part received, and of those that it sent, in order
+--     HeardIsSaid            the law in bytes
+use Rattle.std.specs.Prelude.{◌≡◌, ◌≤◌, ℕ, Bool, true, false, ◌==◌, List, [], ◌∷◌, ◌++◌, filter, length, map, take, Some, None, slice_get}
 use Rattle.std.specs.List.{flat_map}
 use Rattle.fab_base.specs.declared.entries.Taken.{Taken}
 use Rattle.fab_base.specs.declared.entries.Taken.TheVariants.{Success, Failure}
@@ -100,6 +102,33 @@ wanted want p o = matches want p (head_of 0 o)
 
 abbrev pub HeardInTurn : Type 0
 HeardInTurn = (from : Opening) (opening : List Living) (pasts : List Past) → IsRun from opening pasts → (p q : ℕ) (o r : Living) (x y : Past) → slice_get opening p ≡ Some o → slice_get pasts p ≡ Some x → slice_get opening q ≡ Some r → slice_get pasts q ≡ Some y
-    → Kept (begun o) x → Kept (begun r) y → ((z : _) → In z (own_of x.steps) → IsSimple z) → ((z : _) → In z (own_of y.steps) → IsSimple z)
+    → Kept (begun o) x → Kept (begun r) y → ((z : Doing) → In z (own_of x.steps) → IsSimple z) → ((z : Doing) → In z (own_of y.steps) → IsSimple z)
     → (want : Want) (mine : ℕ → Bool) → Chooses r.held.state p want mine (own_of y.steps)
     → IsPrefixOf (filter (counts mine) (entries_of (own_of y.steps))) (answers p (filter (λ (s : Posting). mine s.ctx) (postings (own_of y.steps))) (filter (wanted want p) (orders_to o.held.state q (own_of x.steps))))
+
+-- ---- in bytes
+
+-- the message that an entry hands over, where it came under such a context
+abbrev pub message_in : (ℕ → Bool) → Taken → List (List ℕ)
+message_in mine (Success entry) = elim entry [ Received ctx source tag imm len buf ↦ elim (mine ctx) [ true ↦ take len buf ∷ [] | false ↦ [] ] | _ ↦ [] ]
+message_in mine (Failure e) = []
+
+abbrev pub heard : (ℕ → Bool) → List Doing → List (List ℕ)
+heard mine own = flat_map (message_in mine) (entries_of own)
+
+abbrev pub bytes_of : Order → List ℕ
+bytes_of o = o.bytes ++ o.compared
+
+-- what a part says to peer d, of an endpoint that opens in s, as far as the want of a receive of p's messages matches it
+abbrev pub said : State → ℕ → Want → ℕ → List Doing → List (List ℕ)
+said s p want d own = map bytes_of (filter (wanted want p) (orders_to s d own))
+
+-- each such message has room in each such receive
+abbrev pub AllFit : (ℕ → Bool) → List (List ℕ) → List Doing → Type 0
+AllFit mine messages own = (q : Posting) (message : List ℕ) → In q (postings own) → mine q.ctx ≡ true → In message messages → length message ≤ length q.buf
+
+abbrev pub HeardIsSaid : Type 0
+HeardIsSaid = (from : Opening) (opening : List Living) (pasts : List Past) → IsRun from opening pasts → (p q : ℕ) (o r : Living) (x y : Past) → slice_get opening p ≡ Some o → slice_get pasts p ≡ Some x → slice_get opening q ≡ Some r → slice_get pasts q ≡ Some y
+    → Kept (begun o) x → Kept (begun r) y → ((z : Doing) → In z (own_of x.steps) → IsSimple z) → ((z : Doing) → In z (own_of y.steps) → IsSimple z)
+    → (want : Want) (mine : ℕ → Bool) → Chooses r.held.state p want mine (own_of y.steps) → AllFit mine (said o.held.state p want q (own_of x.steps)) (own_of y.steps)
+    → IsPrefixOf (heard mine (own_of y.steps)) (said o.held.state p want q (own_of x.steps))

@@ -5,7 +5,7 @@
 //! `law_in_turn` of `fab_in_turn`.
 #![tactic(auto)]
 
-ghost use Rattle.fab_heard.specs.Heard.{HeardInTurn};
+ghost use Rattle.fab_heard.specs.Heard.{HeardInTurn, HeardIsSaid};
 
 /// Of two threads that send and receive, and read entries: the messages that the one received under its contexts, of the other, by one want, are in
 /// the order of its receives the first that the other sent and the want matches, in the order sent.
@@ -14,4 +14,10 @@ ghost use Rattle.fab_heard.specs.Heard.{HeardInTurn};
 /// cut off, the second the second, and so on; and they were read in this order.
 pub fn law_heard()
     ensures heard { HeardInTurn }
+{}
+
+/// The same in bytes, where each message that the one sent has room in each receive of the other: those that the other received are, in order,
+/// the first of those that the one sent.
+pub fn law_said()
+    ensures said { HeardIsSaid }
 {}
