@@ -1,0 +1,4 @@
+pub mod Fixed
+pub mod Walking
+pub mod Hearing
+pub mod Saying
