@@ -24,7 +24,7 @@ use Rattle.fab_ep.specs.Value.{Whole}
 use Rattle.fab_ring.specs.declared.port.RingPort.{RingPort}
 use Rattle.fab_ring.specs.Ports.{in_of, moves_of, out_of, peers_of}
 use Rattle.fab_ring.proofs.Nobody.{nobody_taken}
-use Rattle.fab_domain.specs.Domain.{IsOpened, port_of}
+use Rattle.fab_domain.specs.Domain.{AreOpened, IsOpened, port_of}
 use Rattle.fab_domain.specs.Seen.{ring_seen}
 use Rattle.fab_merging.specs.Law.{IsFresh, told_moves}
 use Rattle.fab_merging.specs.Pasts.{begun}
@@ -34,11 +34,34 @@ use Rattle.fab_finish.proofs.Resting.{mapped}
 use Rattle.fab_doings.specs.Doings.{Living, acts_of}
 use Rattle.fab_doings.specs.Law.{AreTold, Kept, Past, ProgramObeys}
 use Rattle.fab_doings.proofs.Opening.{starting_fresh}
-use Rattle.fab_library_laws.specs.Library.{AreUsed, IsLibraryRun, LibraryObeys, Thread, opening_of, past_of, ports_of}
+use Rattle.fab_library_laws.specs.Library.{AreUsed, IsLibraryRun, LibraryObeys, Thread, opening_of, past_of, ports_of, untouched}
 
 -- of a list that is mapped
 length_same : {X Y Z W : Type 0} (f : X → Y) (g : Z → W) (xs : List X) (zs : List Z) → length zs ≡ length xs → length (map g zs) ≡ length (map f xs)
 length_same f g xs zs same = length-map zs g ∙ same ∙ sym (length-map xs f)
+
+-- ---- a thread's record, from the opening on
+
+module _ (info : Info) (selective : Bool) (all : List (Whole RingPort)) (threads : List Thread) (opened : AreOpened info selective all)
+    (keeps : (p : ℕ) (e : Whole RingPort) (t : Thread) → slice_get all p ≡ Some e → slice_get threads p ≡ Some t → Kept (past_of (untouched e)) (past_of t)) where
+  -- the port that an endpoint was opened over moved nothing
+  new_port : (p : ℕ) (e : Whole RingPort) → slice_get all p ≡ Some e → (moves_of e.port ≡ []) × ((d : ℕ) → AreFresh (out_of e.port d) (in_of e.port d))
+  new_port p e has = opened.lanes.1.fresh p e.port (slice_get-map port_of all p ∙ ap (option_map port_of) has)
+
+  pub since : (p : ℕ) (e : Whole RingPort) (t : Thread) → slice_get all p ≡ Some e → slice_get threads p ≡ Some t → Kept (begun (opening_of e)) (past_of t)
+  unfolding ring_seen
+  since p e t he ht =
+      let kept = keeps p e t he ht in
+      let new = new_port p e he in (
+        kept.0,
+        record {
+          lives = kept.1.lives;
+          doings = kept.1.doings;
+          moves = subst (λ (ms : List Move). MovedBy (Some ms) (past_of t).moves (ways_of (acts_of kept.0))) new.0 kept.1.moves;
+          outs = λ d. kept.1.outs d ∙ ap (λ fs. fs ++ posted_to d (acts_of kept.0)) (new.1 d).frames;
+          ins = λ s. kept.1.ins s ∙ ap (λ fs. fs ++ taken_of s (acts_of kept.0)) (new.1 s).taken;
+        },
+      )
 
 module _ (info : Info) (selective : Bool) (all : List (Whole RingPort)) (threads : List Thread) (used : AreUsed info selective all threads) where
   abbrev conf : Conf
@@ -56,10 +79,6 @@ module _ (info : Info) (selective : Bool) (all : List (Whole RingPort)) (threads
 
   all_count : length all ≡ info.peers
   all_count = sym (length-map all port_of) ∙ used.opened.lanes.1.count
-
-  -- the port that an endpoint was opened over moved nothing
-  new_port : (p : ℕ) (e : Whole RingPort) → slice_get all p ≡ Some e → (moves_of e.port ≡ []) × ((d : ℕ) → AreFresh (out_of e.port d) (in_of e.port d))
-  new_port p e has = used.opened.lanes.1.fresh p e.port (slice_get-map port_of all p ∙ ap (option_map port_of) has)
 
   -- ---- the start
 
@@ -84,26 +103,11 @@ module _ (info : Info) (selective : Bool) (all : List (Whole RingPort)) (threads
       let m = mapped opening_of all p o at in
       subst (λ (x : Living). IsFresh x.held) m.2 (subst IsFresh (sym (opened_at p m.0 m.1)) (starting_fresh conf (map Some (upto info.peers))))
 
-  since : (p : ℕ) (e : Whole RingPort) (t : Thread) → slice_get all p ≡ Some e → slice_get threads p ≡ Some t → Kept (begun (opening_of e)) (past_of t)
-  unfolding ring_seen
-  since p e t he ht =
-      let kept = used.kept p e t he ht in
-      let new = new_port p e he in (
-        kept.0,
-        record {
-          lives = kept.1.lives;
-          doings = kept.1.doings;
-          moves = subst (λ (ms : List Move). MovedBy (Some ms) (past_of t).moves (ways_of (acts_of kept.0))) new.0 kept.1.moves;
-          outs = λ d. kept.1.outs d ∙ ap (λ fs. fs ++ posted_to d (acts_of kept.0)) (new.1 d).frames;
-          ins = λ s. kept.1.ins s ∙ ap (λ fs. fs ++ taken_of s (acts_of kept.0)) (new.1 s).taken;
-        },
-      )
-
   kept_all : (p : ℕ) (o : Living) (x : Past) → slice_get (map opening_of all) p ≡ Some o → slice_get (map past_of threads) p ≡ Some x → Kept (begun o) x
   kept_all p o x ho hx =
       let m = mapped opening_of all p o ho in
       let n = mapped past_of threads p x hx in
-      subst (λ (l : Living). Kept (begun l) x) m.2 (subst (λ (y : Past). Kept (begun (opening_of m.0)) y) n.2 (since p m.0 n.0 m.1 n.1))
+      subst (λ (l : Living). Kept (begun l) x) m.2 (subst (λ (y : Past). Kept (begun (opening_of m.0)) y) n.2 (since info selective all threads used.opened used.kept p m.0 n.0 m.1 n.1))
 
   items_all : (p : ℕ) (x : Past) → slice_get (map past_of threads) p ≡ Some x → AreItems x.living.held
   unfolding ring_seen

@@ -1,3 +1,4 @@
 pub mod Library
 pub mod Closing
 pub mod Exchanging
+pub mod Hearing

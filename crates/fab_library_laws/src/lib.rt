@@ -8,6 +8,7 @@
 //! `close_all` has the law of just these records in its contract (`specs/Closing.antt`), and `program` is a whole program that ends by it.
 #![tactic(auto)]
 
+ghost use Rattle.fab_library_laws.specs.Hearing.{LibraryHears};
 ghost use Rattle.fab_library_laws.specs.Library.{LibraryObeys};
 
 mod closing;
@@ -16,6 +17,7 @@ mod example;
 pub use closing::{Unclosed, close_all};
 pub use example::program;
 use fab_doings::law_doings;
+use fab_heard::law_said;
 
 /// Endpoints that a program opens, uses in threads and closes, whose ports are gathered, obey the laws.
 ///
@@ -26,4 +28,14 @@ pub fn law_library()
     ensures obeyed { LibraryObeys }
 {
     law_doings();
+}
+
+/// What a thread received of another is, in order, the first of what that one sent to it, by their own records.
+///
+/// It is said of just the records of which `close_all` says that they are a run: threads that send and receive, of which the one's receives under
+/// some contexts want the same of the other, and have room for what it sent.
+pub fn law_library_heard()
+    ensures heard { LibraryHears }
+{
+    law_said();
 }
