@@ -209,7 +209,8 @@ impl Requests for RingEndpoint {
         ctx: u64,
         flags: Flags,
     ) -> Result<(), Fault> {
-        let sent = self.inner
+        let sent = self
+            .inner
             .atomic(dest, key, at, op, num, operand, ctx, flags);
         self.ring_if_pushed();
         sent
@@ -226,7 +227,8 @@ impl Requests for RingEndpoint {
         result_: Buf,
         ctx: u64,
     ) -> Result<(), Refused> {
-        let sent = self.inner
+        let sent = self
+            .inner
             .fetch_atomic(dest, key, at, op, num, operand, result_, ctx);
         self.ring_if_pushed();
         sent
@@ -244,7 +246,8 @@ impl Requests for RingEndpoint {
         result_: Buf,
         ctx: u64,
     ) -> Result<(), Refused> {
-        let sent = self.inner
+        let sent = self
+            .inner
             .compare_atomic(dest, key, at, op, num, operand, compare, result_, ctx);
         self.ring_if_pushed();
         sent

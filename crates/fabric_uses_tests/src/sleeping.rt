@@ -128,21 +128,22 @@ fn all<R: Wait + rt::Clock, E: Calls + Sleeps + Drop>(
     Some([posted, woken, found, silent, counted])
 }
 
-fn holds(rt: &HostRuntime, sleeping: bool) -> Option<[bool; 5]> {
-    match open(rt.alloc(), &Hints::new().peers(2).sleeping(sleeping)) {
-        Ok(domain) => all(rt, rt.alloc(), domain.endpoints),
+/// The same of a domain that was opened with sleeping, or without.
+fn holds<R: Wait + rt::Clock>(rt: &R, alloc: Global, sleeping: bool) -> Option<[bool; 5]> {
+    match open(alloc, &Hints::new().peers(2).sleeping(sleeping)) {
+        Ok(domain) => all(rt, alloc, domain.endpoints),
         Err(_) => None,
     }
 }
 
 #[test]
 fn a_message_between_the_word_and_the_sleep(rt: HostRuntime) -> Result<(), Fail> {
-    assert_eq!(rt; holds(&rt, true), Some([true; 5]));
+    assert_eq!(rt; holds(&rt, rt.alloc(), true), Some([true; 5]));
     Ok(())
 }
 
 #[test]
 fn without_sleeping_waits_yield(rt: HostRuntime) -> Result<(), Fail> {
-    assert_eq!(rt; holds(&rt, false), Some([true; 5]));
+    assert_eq!(rt; holds(&rt, rt.alloc(), false), Some([true; 5]));
     Ok(())
 }
