@@ -64,3 +64,5 @@ pub use Rattle.fab_records.specs.Recording
 pub use Rattle.fab_records.specs.Driven
 pub use Rattle.fab_library_laws.specs.Library
 pub use Rattle.fab_library_laws.specs.Closing
+pub use Rattle.fab_heard.specs.Heard
+pub use Rattle.fab_library_laws.specs.Hearing

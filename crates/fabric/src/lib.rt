@@ -39,7 +39,7 @@ pub use fab_collectives::{
     COLLECTIVE, Collective, DOUBLING_FROM, Group, MOST_SHARE, is_reducing, law_folded, law_offered,
 };
 pub use fab_face::probing::Probed;
-pub use fab_library_laws::{Unclosed, close_all};
+pub use fab_library_laws::{Unclosed, close_all, law_library_heard};
 pub use fab_topology::{law_begun, law_rounds};
 pub use hints::Hints;
 pub use opening::{Closed, Domain, Endpoint, close, open};
