@@ -16,5 +16,5 @@ returns-clause-gives g c =
     let new = standing_of c.complete.new.self.group (g.E.Sees.seen c.complete.new.self.endpoint) c.complete.new.self.begun in
     let one = collected g.E.Sees.fixed Allgather (c.args.own.now) c.args.self.now.group c.allgather.new.self c.complete.new.self.group begun old.rank new.rank c.in_ok-bytes.bytes
     (is.0 ∙ c.in_ok-share.ensures, is.1, is.2) next.0 c.complete.ensures.ranks c.in_ok-bytes.ensures.done in
-    let same : c.as_slice.result.now ≡ c.in_ok-bytes.bytes = cc (c.as_slice.ensures, c.bytes.view_is) in
+    let same : c.as_slice.result.now ≡ c.in_ok-bytes.bytes = c.as_slice.ensures in
     copied g.E.Sees.fixed Allgather c.args.own.now c.fill.new.into c.in_ok-bytes.bytes c.as_slice.result.now old new _ c.fill.result same one c.fill.ensures.ok

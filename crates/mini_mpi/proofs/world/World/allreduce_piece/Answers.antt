@@ -16,5 +16,5 @@ returns-clause-piece g c =
     let new = standing_of c.complete.new.self.group (g.E.Sees.seen c.complete.new.self.endpoint) c.complete.new.self.begun in
     let one = collected g.E.Sees.fixed (Allreduce c.args.op c.args.num) (piece_at c.args.bytes.now c.args.at) c.args.self.now.group c.allreduce.new.self c.complete.new.self.group begun old.rank new.rank c.in_ok-given.given
     (is.0 ∙ c.in_ok-share.ensures, is.1, is.2) next.0 c.complete.ensures.ranks c.in_ok-given.ensures.done in
-    let same : c.as_slice.result.now ≡ c.in_ok-given.given = cc (c.as_slice.ensures, c.given.view_is) in
+    let same : c.as_slice.result.now ≡ c.in_ok-given.given = c.as_slice.ensures in
     placed g.E.Sees.fixed (Allreduce c.args.op c.args.num) c.args.at c.args.bytes.now c.fill_at.new.into c.in_ok-given.given c.as_slice.result.now old new c.fill_at.result same one c.fill_at.ensures.long c.fill_at.ensures.filled
