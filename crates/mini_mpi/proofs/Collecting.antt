@@ -1,7 +1,7 @@
 -- A collective, turn by turn.
 --     IsHeard work len k read received awaited     the message of round k is awaited, or one of these completions brought it
 --     Partly fixed begun old now                   the rank takes part in this collective, and so it is of each round in which it hears
-use Rattle.std.proofs.Common.{◌≡◌, ℕ, zero, suc, ◌+◌, ◌<◌, Bool, true, false, ◌&&◌, ◌==◌, if◌then◌else◌, List, [], ◌∷◌, ◌++◌, length, replicate, get_or, Option, None, Some, Ok, inl, inr, ◌⊎◌, refl, sym, ap, ◌∙◌, subst, arith, All}
+use Rattle.std.proofs.Common.{◌≡◌, ℕ, zero, suc, ◌<◌, Bool, true, false, ◌&&◌, ◌==◌, if◌then◌else◌, List, [], ◌∷◌, ◌++◌, length, get_or, Option, None, Some, Ok, inl, inr, ◌⊎◌, refl, sym, ap, ◌∙◌, subst, arith, All}
 use Rattle.std.specs.Prelude.{Any, IfOk, IfSome, IsSome, OnOk, Result, slice_index_or, slice_set}
 use Rattle.std.proofs.lemmas.Bool.{eqb-true, eqb-false}
 use Rattle.std.proofs.lemmas.List.{get_or-set_other, length-replicate, length-set}
@@ -22,7 +22,7 @@ use Rattle.fab_collectives.specs.declared.offers.Message.{Message}
 use Rattle.fab_fold.specs.declared.coll.Coll.{Coll}
 use Rattle.mini_mpi.specs.Collecting.{Brings, Collects, Completes, DrivesAs, HearsOf, Member, TakesPart, kept_beside}
 use Rattle.mini_mpi.specs.Going.{Rank}
-use Rattle.mini_mpi.specs.Requests.{End, kept_of}
+use Rattle.mini_mpi.specs.Requests.{kept_of}
 
 -- ---- lists
 

@@ -1,10 +1,10 @@
 -- Ends of requests, one after another.
-use Rattle.std.proofs.Common.{◌≡◌, ℕ, Bool, List, [], ◌∷◌, ◌++◌, append_assoc, Result, Ok, Err, map, inl, inr, refl, sym, ap, ◌∙◌, subst}
+use Rattle.std.proofs.Common.{◌≡◌, ℕ, Bool, List, [], ◌∷◌, ◌++◌, append_assoc, Result, Ok, Err, inl, inr, refl, sym, ap, ◌∙◌, subst}
 use Rattle.std.specs.Prelude.{Vec}
 use Rattle.std.proofs.lemmas.List.{map-append}
 use Rattle.std.specs.declared.alloc.Global.{Global}
 use Rattle.mini_mpi.specs.Going.{Rank}
-use Rattle.mini_mpi.specs.Requests.{AllEnd, End, IsFirst, completions, lacks}
+use Rattle.mini_mpi.specs.Requests.{AllEnd, End, IsFirst, completions}
 use Rattle.mini_mpi.specs.Waiting.{Awaits, AwaitsAll, AwaitsEnd, EndAll, Joins, ids_of}
 use Rattle.mini_mpi.specs.declared.begun.Begun.{Begun}
 use Rattle.mini_mpi.specs.declared.ended.Completed.{Completed}

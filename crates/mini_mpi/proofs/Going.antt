@@ -4,10 +4,10 @@ use Rattle.std.specs.Prelude.{IfErr, IfNone, IfOk, IsErrAnd, OnErr, Option, Some
 use Rattle.std.proofs.lemmas.List.{append-nil}
 use Rattle.fabric.specs.Held.{Seen}
 use Rattle.fabric.specs.Polls.{Waits}
-use Rattle.fabric.specs.Words.{Lacks, Polled}
+use Rattle.fabric.specs.Words.{Polled}
 use Rattle.mini_mpi.specs.Requests.{End, kept_of, lacks}
 use Rattle.mini_mpi.specs.Posting.{TriesReceive}
-use Rattle.mini_mpi.specs.Going.{Comes, Goes, InSteps, LacksMemory, PostsAll, PostsEach, PostsReceive, PostsSend, Rank, Reads, Step, TriesAll, ends_of, left_of, never_of}
+use Rattle.mini_mpi.specs.Going.{Comes, Goes, InSteps, LacksMemory, PostsAll, PostsEach, Rank, Step, TriesAll, left_of, never_of}
 use Rattle.mini_mpi.specs.declared.begun.Begun.{Begun}
 use Rattle.mini_mpi.specs.declared.begun.Receiving.{Receiving}
 use Rattle.mini_mpi.specs.declared.errors.Error.{Error}

@@ -1,6 +1,6 @@
 -- Collectives of pieces, one after another.
 --     Pieced fixed coll n own bytes old new     the first n pieces of these bytes were collected, and what they gave stands in their place
-use Rattle.std.proofs.Common.{◌≡◌, ℕ, zero, suc, ◌+◌, ◌-◌, ◌*◌, ◌<◌, ◌≤◌, min, Bool, List, [], ◌∷◌, ◌++◌, length, map, take, drop, Result, Ok, Err, refl, sym, ap, ◌∙◌, subst, arith}
+use Rattle.std.proofs.Common.{◌≡◌, ℕ, ◌+◌, ◌-◌, ◌*◌, ◌<◌, ◌≤◌, min, Bool, List, [], ◌∷◌, ◌++◌, length, map, take, drop, Result, Ok, Err, refl, sym, ap, ◌∙◌, subst, arith}
 use Rattle.std.specs.Prelude.{OnOk}
 use Rattle.std.specs.Int.{div_ceil}
 use Rattle.std.specs.List.{concat, range_with_len}
@@ -12,7 +12,7 @@ use Rattle.std.proofs.lemmas.List.Folds.{concat-append}
 use Rattle.std.proofs.lemmas.List.FromFn.{map-range_with_len_more}
 use Rattle.fab_fold.specs.declared.coll.Coll.{Coll}
 use Rattle.fab_fold.specs.declared.coll.TheConstants.{MOST_SHARE}
-use Rattle.mini_mpi.specs.Collecting.{Collects, CollectsAll, CollectsAt, CollectsBytes, Standing, filled_at, piece_at, pieces_of}
+use Rattle.mini_mpi.specs.Collecting.{Collects, CollectsAll, CollectsAt, CollectsBytes, Standing, filled_at, piece_at}
 
 -- another piece begins within the bytes
 pub within : (len n : ℕ) → n < div_ceil len MOST_SHARE → n * MOST_SHARE ≤ len

@@ -11,7 +11,7 @@
 --     Comes fixed polled old new          steps, and a completion is read whose end is not kept yet
 --     IsFull begun                        the ends that are kept and the receives that wait fill the list of ends
 --     LacksMemory fixed old new begun     memory lacks: the list of ends is full, or, behind steps, completions were asked for and the endpoint lacked it
-use Rattle.std.specs.Prelude.{◌≡◌, ◌⊎◌, ℕ, ◌+◌, ◌≤◌, vec_len, vec_capacity, zero, suc, Bool, List, [], ◌∷◌, ◌++◌, None, Some, IsSome, Result, Ok, Err}
+use Rattle.std.specs.Prelude.{◌≡◌, ◌⊎◌, ℕ, ◌+◌, ◌≤◌, vec_len, vec_capacity, zero, suc, Bool, List, [], ◌∷◌, ◌++◌, None, IsSome, Result, Ok, Err}
 use Rattle.std.specs.VecDeque.{deque_len}
 use Rattle.fabric.specs.Held.{Seen}
 use Rattle.fabric.specs.Polls.{Waits}
