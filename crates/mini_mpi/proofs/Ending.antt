@@ -1,16 +1,25 @@
 -- Ends of requests, one after another.
-use Rattle.std.proofs.Common.{◌≡◌, ℕ, Bool, List, [], ◌∷◌, ◌++◌, append_assoc, Result, Ok, Err, map, inl, inr, refl, sym, ap, ◌∙◌, subst}
+use Rattle.std.proofs.Common.{◌≡◌, ℕ, Bool, List, [], ◌∷◌, ◌++◌, append_assoc, Result, Ok, Err, inl, inr, refl, sym, ap, ◌∙◌, subst}
 use Rattle.std.specs.Prelude.{Vec}
 use Rattle.std.proofs.lemmas.List.{map-append}
 use Rattle.std.specs.declared.alloc.Global.{Global}
 use Rattle.mini_mpi.specs.Going.{Rank}
-use Rattle.mini_mpi.specs.Requests.{AllEnd, End, IsFirst, completions, lacks}
-use Rattle.mini_mpi.specs.Waiting.{Awaits, AwaitsAll, EndAll, Joins, ids_of}
+use Rattle.mini_mpi.specs.Requests.{AllEnd, End, IsFirst, completions}
+use Rattle.mini_mpi.specs.Waiting.{Awaits, AwaitsAll, AwaitsEnd, EndAll, Joins, ids_of}
+use Rattle.mini_mpi.specs.declared.begun.Begun.{Begun}
 use Rattle.mini_mpi.specs.declared.ended.Completed.{Completed}
 use Rattle.mini_mpi.specs.declared.ended.Request.{Request}
 use Rattle.mini_mpi.specs.declared.errors.Failed.{Failed}
 
 module _ {Home : Type 0} where
+  -- how memory lacks is left out
+  pub awaited : (fixed : Bool) (id : ℕ) (a b : Rank Home) (begun : Begun) (end : End) → AwaitsEnd fixed id a b begun end → Awaits fixed id a b end
+  awaited fixed id a b begun end w = record {
+    mid = w.mid;
+    goes = w.goes;
+    gives = elim w.gives [ inl gives ↦ inl gives | inr lacking ↦ inr (lacking.0, lacking.1) ];
+  }
+
   pub awaits_on : (fixed : Bool) (ids : List ℕ) (id : ℕ) (a b c : Rank Home) (ends : List End) (end : End) → AwaitsAll fixed ids a b ends → Awaits fixed id b c end
       → AwaitsAll fixed (ids ++ id ∷ []) a c (ends ++ end ∷ [])
   awaits_on fixed [] id a b c ends end (none, same) awaits =

@@ -1,13 +1,14 @@
 -- Steps in a row, and what a rank does in several.
 use Rattle.std.proofs.Common.{◌≡◌, ℕ, zero, suc, Bool, List, [], ◌∷◌, ◌++◌, None, Result, Ok, Err, inl, inr, refl, sym, ap, ◌∙◌, subst, append_assoc}
-use Rattle.std.specs.Prelude.{IfErr, IfNone, IfOk, IsErrAnd, Option, Some}
+use Rattle.std.specs.Prelude.{IfErr, IfNone, IfOk, IsErrAnd, OnErr, Option, Some}
 use Rattle.std.proofs.lemmas.List.{append-nil}
 use Rattle.fabric.specs.Held.{Seen}
 use Rattle.fabric.specs.Polls.{Waits}
-use Rattle.fabric.specs.Words.{Lacks, Polled}
+use Rattle.fabric.specs.Words.{Polled}
 use Rattle.mini_mpi.specs.Requests.{End, kept_of, lacks}
 use Rattle.mini_mpi.specs.Posting.{TriesReceive}
-use Rattle.mini_mpi.specs.Going.{Comes, Goes, InSteps, PostsAll, PostsEach, PostsReceive, PostsSend, Rank, Reads, Step, TriesAll, ends_of, left_of, never_of}
+use Rattle.mini_mpi.specs.Going.{Comes, Goes, InSteps, LacksMemory, PostsAll, PostsEach, Rank, Step, TriesAll, left_of, never_of}
+use Rattle.mini_mpi.specs.declared.begun.Begun.{Begun}
 use Rattle.mini_mpi.specs.declared.begun.Receiving.{Receiving}
 use Rattle.mini_mpi.specs.declared.errors.Error.{Error}
 use Rattle.mini_mpi.specs.declared.errors.Failed.{Failed}
@@ -20,6 +21,10 @@ use Rattle.mini_mpi_parts.specs.declared.ended.Ended.{Ended}
 pub lacks_memory : {T : Type 0} (r : Result T Error) (P : Type 0) → IsErrAnd r (λ why. why ≡ NoMem) → P → IfErr r (λ why. (why ≡ NoMem) × P)
 lacks_memory (Ok value) P is p = tt
 lacks_memory (Err why) P is p = (is, p)
+
+pub on_err : {T E : Type 0} (r : Result T E) (P : Type 0) → P → OnErr r P
+on_err (Ok value) P is = tt
+on_err (Err why) P is = is
 
 -- of one that a wait tells
 pub told_lacks : {T : Type 0} (r : Result T Failed) (why : Error) → IsErrAnd r (λ e. e ≡ record { why = why; buf = None }) → why ≡ NoMem → r ≡ Err lacks
@@ -85,6 +90,20 @@ module _ {Home : Type 0} where
   pub fails_after : {T : Type 0} (fixed : Bool) (r : Result T Error) (a b c : Rank Home) → Goes fixed a b → IfErr r (λ why. (why ≡ NoMem) × Goes fixed b c) → IfErr r (λ why. (why ≡ NoMem) × Goes fixed a c)
   fails_after fixed (Ok value) a b c goes fails = tt
   fails_after fixed (Err why) a b c goes (is, then) = (is, goes_then fixed a b c goes then)
+
+  pub lacks_after : (fixed : Bool) (a b c : Rank Home) (begun : Begun) → Goes fixed a b → LacksMemory fixed b c begun → LacksMemory fixed a c begun
+  lacks_after fixed a b c begun goes (inl full) = inl full
+  lacks_after fixed a b c begun goes (inr lacked) = inr (record {
+    mid = lacked.mid;
+    goes = goes_then fixed a b lacked.mid goes lacked.goes;
+    budget = lacked.budget;
+    lacking = lacked.lacking;
+    waits = lacked.waits;
+  })
+
+  pub lacks_behind : {T : Type 0} (fixed : Bool) (r : Result T Error) (a b c : Rank Home) (begun : Begun) → Goes fixed a b → OnErr r (LacksMemory fixed b c begun) → OnErr r (LacksMemory fixed a c begun)
+  lacks_behind fixed (Ok value) a b c begun goes is = tt
+  lacks_behind fixed (Err why) a b c begun goes is = lacks_after fixed a b c begun goes is
 
   -- ---- receives that wait
 

@@ -1,12 +1,9 @@
 -- Receives that wait, each tried in its turn.
 --     Turns k old new      the first k that waited were tried, and those of them that were refused for now stand behind the others
-use Rattle.std.proofs.Common.{◌≡◌, ℕ, zero, suc, ◌+◌, ◌<◌, List, [], ◌∷◌, ◌++◌, length, inl, inr, refl, sym, ap, ◌∙◌, subst, append_assoc, length-append, arith}
+use Rattle.std.proofs.Common.{◌≡◌, ℕ, ◌+◌, ◌<◌, List, [], ◌∷◌, ◌++◌, length, inl, inr, refl, sym, ap, ◌∙◌, subst, append_assoc, length-append, arith}
 use Rattle.std.proofs.lemmas.List.{append-nil}
-use Rattle.fabric.specs.Held.{Seen}
-use Rattle.mini_mpi.specs.Posting.{TriesReceive}
-use Rattle.mini_mpi.specs.Going.{PostsEach, Rank, TakesTurn, TriesAll, TriesNext, left_of, never_of}
+use Rattle.mini_mpi.specs.Going.{PostsEach, Rank, TakesTurn, TriesAll, left_of, never_of}
 use Rattle.mini_mpi.specs.declared.begun.Receiving.{Receiving}
-use Rattle.mini_mpi.specs.declared.posting.Tried.{Tried}
 use Rattle.mini_mpi_parts.specs.declared.ended.Ended.{Ended}
 use Rattle.mini_mpi.specs.Requests.{End}
 use Rattle.mini_mpi.proofs.Going.{tries_on}

@@ -9,7 +9,10 @@
 --     HasNoMessage seen                   no message of MPI is there that no receive took
 --     PostsAll fixed old new              steps, until none waits or no message is there, or else each that waits was tried last
 --     Comes fixed polled old new          steps, and a completion is read whose end is not kept yet
-use Rattle.std.specs.Prelude.{◌≡◌, ◌⊎◌, ℕ, zero, suc, Bool, List, [], ◌∷◌, ◌++◌, None, Some, IsSome, Result, Ok, Err}
+--     IsFull begun                        the ends that are kept and the receives that wait fill the list of ends
+--     LacksMemory fixed old new begun     memory lacks: the list of ends is full, or, behind steps, completions were asked for and the endpoint lacked it
+use Rattle.std.specs.Prelude.{◌≡◌, ◌⊎◌, ℕ, ◌+◌, ◌≤◌, vec_len, vec_capacity, zero, suc, Bool, List, [], ◌∷◌, ◌++◌, None, IsSome, Result, Ok, Err}
+use Rattle.std.specs.VecDeque.{deque_len}
 use Rattle.fabric.specs.Held.{Seen}
 use Rattle.fabric.specs.Polls.{Waits}
 use Rattle.fabric.specs.Probes.{probe_fault, probed}
@@ -134,3 +137,19 @@ module _ {Home : Type 0} where
     pub budget : ℕ
     pub waits : Waits fixed budget mid.seen new.seen (Ok polled)
     pub same : new ≡ record mid { seen = new.seen }
+
+-- ---- memory
+
+abbrev pub IsFull : Begun → Type 0
+IsFull begun = vec_capacity begun.ended ≤ vec_len begun.ended + deque_len begun.receives
+
+module _ {Home : Type 0} where
+  pub record Lacked (fixed : Bool) (old new : Rank Home) : Type 0 where
+    pub mid : Rank Home
+    pub goes : Goes fixed old mid
+    pub budget : ℕ
+    pub lacking : Lacks
+    pub waits : Waits fixed budget mid.seen new.seen (Err lacking)
+
+  abbrev pub LacksMemory : Bool → Rank Home → Rank Home → Begun → Type 0
+  LacksMemory fixed old new begun = IsFull begun ⊎ Lacked fixed old new

@@ -1,3 +1,4 @@
+pub mod Collecting
 pub mod Errors
 pub mod Going
 pub mod Posting

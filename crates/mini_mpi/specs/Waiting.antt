@@ -1,14 +1,15 @@
 -- Waits for requests.
 --     fresh_of begun, ids_of requests     the number of the next request; those of these
 --     Gives id mid new end                an end of this request is kept, and it is given and taken out
---     Awaits fixed id old new end         the rank goes on until it is; or memory lacks
+--     AwaitsEnd fixed id old new begun end     the rank goes on until it is; or memory lacks, and this is so
+--     Awaits fixed id old new end         the same, where it is not told how memory lacks
 --     AwaitsAll fixed ids old new ends    the same of one request after another
 --     EndAll fixed ids old new answer     all of them ended, and their buffers come in their order, or the first failure
 --     SendsAndWaits                       the send is begun, and its end is awaited
 --     Joins all end answer                what is given of all ends, once there is one more
 use Rattle.std.specs.Prelude.{◌≡◌, ◌⊎◌, ℕ, ◌+◌, ◌%◌, ◌^◌, Bool, List, [], ◌∷◌, ◌++◌, map, Some, Result, Ok, Err, Vec}
 use Rattle.std.specs.declared.alloc.Global.{Global}
-use Rattle.mini_mpi.specs.Going.{Goes, Rank}
+use Rattle.mini_mpi.specs.Going.{Goes, LacksMemory, Rank}
 use Rattle.mini_mpi.specs.Posting.{BeginsSend}
 use Rattle.mini_mpi.specs.Requests.{AllEnd, End, EndsAs, at_of, lacks}
 use Rattle.mini_mpi.specs.declared.begun.Begun.{Begun}
@@ -35,6 +36,11 @@ module _ {Home : Type 0} where
     pub found : at_of id mid.ended ≡ Some at
     pub ends : EndsAs mid.ended at end new.ended
     pub same : new ≡ record mid { ended = new.ended }
+
+  pub record AwaitsEnd (fixed : Bool) (id : ℕ) (old new : Rank Home) (begun : Begun) (end : End) : Type 0 where
+    pub mid : Rank Home
+    pub goes : Goes fixed old mid
+    pub gives : Gives id mid new end ⊎ ((end ≡ Err lacks) × (new ≡ mid) × LacksMemory fixed old new begun)
 
   pub record Awaits (fixed : Bool) (id : ℕ) (old new : Rank Home) (end : End) : Type 0 where
     pub mid : Rank Home

@@ -1,6 +1,6 @@
 //! Progress of a rank: what waits is posted, and the next completion is read.
-ghost use Rattle.std.specs.Prelude.{◌≡◌, ◌<◌, [], IfErr, IfNone, IfOk, IfSome, OnOk, vec_len, vec_capacity};
-ghost use Rattle.mini_mpi.specs.Going.{Comes, Goes, rank_of};
+ghost use Rattle.std.specs.Prelude.{◌≡◌, ◌<◌, [], IfErr, IfNone, IfOk, IfSome, OnErr, OnOk, vec_len, vec_capacity};
+ghost use Rattle.mini_mpi.specs.Going.{Comes, Goes, LacksMemory, rank_of};
 ghost use Rattle.mini_mpi.specs.Requests.{kept_of};
 
 use crate::begun::Begun;
@@ -32,6 +32,7 @@ fn read<E: Calls + Drop>(
     ensures room { OnOk result (vec_len begun.new.ended < vec_capacity begun.new.ended) }
     ensures ok { IfOk result (λ polled. Comes E.fixed polled (rank_of (E.seen endpoint.old) begun.old) (rank_of (E.seen endpoint.new) begun.new)) }
     ensures err { IfErr result (λ why. (why ≡ Error.NoMem) × Goes E.fixed (rank_of (E.seen endpoint.old) begun.old) (rank_of (E.seen endpoint.new) begun.new)) }
+    ensures lacks { OnErr result (LacksMemory E.fixed (rank_of (E.seen endpoint.old) begun.old) (rank_of (E.seen endpoint.new) begun.new) begun.new) }
 {
     begun.ended.reserve(1)?;
     let polled = endpoint.wait_turns(turns, SPINS)?;
@@ -47,6 +48,7 @@ fn read_now<E: Calls + Drop>(
     ensures some { IfOk result (λ come. IfSome come (λ polled. Comes E.fixed polled (rank_of (E.seen endpoint.old) begun.old) (rank_of (E.seen endpoint.new) begun.new))) }
     ensures none { IfOk result (λ come. IfNone come (Goes E.fixed (rank_of (E.seen endpoint.old) begun.old) (rank_of (E.seen endpoint.new) begun.new))) }
     ensures err { IfErr result (λ why. (why ≡ Error.NoMem) × Goes E.fixed (rank_of (E.seen endpoint.old) begun.old) (rank_of (E.seen endpoint.new) begun.new)) }
+    ensures lacks { OnErr result (LacksMemory E.fixed (rank_of (E.seen endpoint.old) begun.old) (rank_of (E.seen endpoint.new) begun.new) begun.new) }
 {
     let polled = read(endpoint, begun, 0)?;
     Ok(come(polled))
@@ -61,6 +63,7 @@ fn read_behind<E: Calls + Drop>(
     ensures room { OnOk result (vec_len begun.new.ended < vec_capacity begun.new.ended) }
     ensures ok { IfOk result (λ polled. Comes E.fixed polled (rank_of (E.seen endpoint.old) begun.old) (rank_of (E.seen endpoint.new) begun.new)) }
     ensures err { IfErr result (λ why. (why ≡ Error.NoMem) × Goes E.fixed (rank_of (E.seen endpoint.old) begun.old) (rank_of (E.seen endpoint.new) begun.new)) }
+    ensures lacks { OnErr result (LacksMemory E.fixed (rank_of (E.seen endpoint.old) begun.old) (rank_of (E.seen endpoint.new) begun.new) begun.new) }
 {
     post_receives(endpoint, begun)?;
     read(endpoint, begun, turns)
@@ -78,6 +81,7 @@ pub(crate) fn next<E: Calls + Drop>(
     ensures room { OnOk result (vec_len begun.new.ended < vec_capacity begun.new.ended) }
     ensures ok { IfOk result (λ polled. Comes E.fixed polled (rank_of (E.seen endpoint.old) begun.old) (rank_of (E.seen endpoint.new) begun.new)) }
     ensures err { IfErr result (λ why. (why ≡ Error.NoMem) × Goes E.fixed (rank_of (E.seen endpoint.old) begun.old) (rank_of (E.seen endpoint.new) begun.new)) }
+    ensures lacks { OnErr result (LacksMemory E.fixed (rank_of (E.seen endpoint.old) begun.old) (rank_of (E.seen endpoint.new) begun.new) begun.new) }
 {
     post_sends(endpoint, begun)?;
     match read_now(endpoint, begun) {
@@ -95,6 +99,7 @@ pub(crate) fn progress<E: Calls + Drop>(
 ) -> Result<(), Error>
     ensures goes { Goes E.fixed (rank_of (E.seen endpoint.old) begun.old) (rank_of (E.seen endpoint.new) begun.new) }
     ensures err { IfErr result (λ why. why ≡ Error.NoMem) }
+    ensures lacks { OnErr result (LacksMemory E.fixed (rank_of (E.seen endpoint.old) begun.old) (rank_of (E.seen endpoint.new) begun.new) begun.new) }
 {
     let polled = next(endpoint, begun, turns)?;
     begun.keep(polled);

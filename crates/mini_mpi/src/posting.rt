@@ -5,7 +5,7 @@
 //! have taken had it been posted before.
 ghost use Rattle.std.specs.Prelude.{◌≡◌, ◌<◌, ◌≤◌, ◌⊎◌, ◌+◌, ◌++◌, ◌∷◌, [], true, false, Some, IfErr, OnErr, OnOk, vec_len, vec_capacity};
 ghost use Rattle.std.specs.VecDeque.{deque_len, deque_capacity};
-ghost use Rattle.mini_mpi.specs.Going.{Goes, HasNoMessage, PostsAll, PostsEach, TakesTurn, left_of, never_of, rank_of};
+ghost use Rattle.mini_mpi.specs.Going.{Goes, HasNoMessage, IsFull, PostsAll, PostsEach, TakesTurn, left_of, never_of, rank_of};
 ghost use Rattle.mini_mpi.specs.Posting.{BeginsReceive, BeginsSend, TriesReceive, TriesSend};
 
 use crate::begun::{Begun, Receiving, Sending};
@@ -195,6 +195,7 @@ fn post_send<E: Calls + Drop>(
 ) -> Result<bool, Error>
     ensures goes { Goes E.fixed (rank_of (E.seen endpoint.old) begun.old) (rank_of (E.seen endpoint.new) begun.new) }
     ensures err { IfErr result (λ why. why ≡ Error.NoMem) }
+    ensures full { OnErr result (IsFull begun.new) }
 {
     begun.ended.reserve(1)?;
     let Some(send) = begun.sends.pop_front() else {
@@ -212,6 +213,7 @@ pub(crate) fn post_sends<E: Calls + Drop>(
 ) -> Result<(), Error>
     ensures goes { Goes E.fixed (rank_of (E.seen endpoint.old) begun.old) (rank_of (E.seen endpoint.new) begun.new) }
     ensures err { IfErr result (λ why. why ≡ Error.NoMem) }
+    ensures full { OnErr result (IsFull begun.new) }
 {
     'sends: for _send in 0..begun.sends.len() {
         if !post_send(endpoint, begun)? {
@@ -252,6 +254,7 @@ fn post_receive<E: Calls + Drop>(
 ) -> Result<bool, Error>
     ensures goes { Goes E.fixed (rank_of (E.seen endpoint.old) begun.old) (rank_of (E.seen endpoint.new) begun.new) }
     ensures err { IfErr result (λ why. why ≡ Error.NoMem) }
+    ensures full { OnErr result (IsFull begun.new) }
 {
     begun.ended.reserve(1)?;
     let Some(receive) = begun.receives.pop_front() else {
@@ -269,6 +272,7 @@ fn post_first_receives<E: Calls + Drop>(
 ) -> Result<(), Error>
     ensures goes { Goes E.fixed (rank_of (E.seen endpoint.old) begun.old) (rank_of (E.seen endpoint.new) begun.new) }
     ensures err { IfErr result (λ why. why ≡ Error.NoMem) }
+    ensures full { OnErr result (IsFull begun.new) }
 {
     'receives: for _receive in 0..begun.receives.len() {
         if !post_receive(endpoint, begun)? {
@@ -352,6 +356,7 @@ pub(crate) fn post_receives<E: Calls + Drop>(
     ensures goes { Goes E.fixed (rank_of (E.seen endpoint.old) begun.old) (rank_of (E.seen endpoint.new) begun.new) }
     ensures all { OnOk result (PostsAll E.fixed (rank_of (E.seen endpoint.old) begun.old) (rank_of (E.seen endpoint.new) begun.new)) }
     ensures err { IfErr result (λ why. why ≡ Error.NoMem) }
+    ensures full { OnErr result (IsFull begun.new) }
 {
     post_first_receives(endpoint, begun)?;
     if !may_take(endpoint, begun) {

@@ -2,13 +2,14 @@
 ghost use Rattle.std.specs.Prelude.{◌≡◌, true, [], None, Some, IfErr, IfOk, IfSome, OnErr, OnOk};
 ghost use Rattle.fabric.specs.Probes.{probed};
 ghost use Rattle.fabric.specs.Progresses.{is_flushed};
-ghost use Rattle.fabric.specs.Words.{Match, Transmit};
+ghost use Rattle.fabric.specs.Words.{Match, Polled, Transmit};
 ghost use Rattle.mini_mpi_parts.specs.Tags.{wanted};
+ghost use Rattle.mini_mpi.specs.Collecting.{HearsOf, member_of};
 ghost use Rattle.mini_mpi.specs.Errors.{RefusesWrong};
 ghost use Rattle.mini_mpi.specs.Going.{Goes, PostsAll, rank_of};
 ghost use Rattle.mini_mpi.specs.Posting.{BeginsReceive, BeginsSend};
 ghost use Rattle.mini_mpi.specs.Requests.{EndsAs, at_of, told};
-ghost use Rattle.mini_mpi.specs.Waiting.{Awaits, EndAll, Joins, SendsAndWaits, fresh_of, ids_of};
+ghost use Rattle.mini_mpi.specs.Waiting.{AwaitsEnd, EndAll, Joins, SendsAndWaits, fresh_of, ids_of};
 
 use crate::begun::{Begun, Receiving, Sending};
 use crate::ended::{Completed, Request, Status, told};
@@ -64,13 +65,13 @@ impl<E: Calls + Drop> World<E> {
 
     /// Makes progress while a collective is under way, which takes its own completions.
     pub(crate) fn progress_for(&mut self, collective: &mut Collective) -> Result<(), Error>
-        ensures work { collective.new.work ≡ collective.old.work }
-        ensures own { collective.new.own ≡ collective.old.own }
+        ensures heard { OnOk result ((polled : Polled) × HearsOf E.fixed polled (member_of (E.seen self.old.endpoint) self.old.begun collective.old) (member_of (E.seen self.new.endpoint) self.new.begun collective.new)) }
         ensures ranks { self.new.group ≡ self.old.group }
     {
         let polled = next(&mut self.endpoint, &mut self.begun, PATIENCE)?;
-        if let Some(other) = collective.offer(polled) {
-            self.begun.keep(other);
+        match collective.offer(polled) {
+            Some(other) => self.begun.keep(other),
+            None => {}
         }
         Ok(())
     }
@@ -167,7 +168,7 @@ impl<E: Calls + Drop> World<E> {
     /// `Truncate` where the message was longer than the buffer, which has its first bytes then.
     pub fn wait<R: Wait>(&mut self, rt: &R, request: Request) -> Result<Completed, Failed>
         ensures ended { IfSome (at_of request.id self.old.begun.ended.items) (λ at. EndsAs self.old.begun.ended.items at result self.new.begun.ended.items × (E.seen self.new.endpoint ≡ E.seen self.old.endpoint)) }
-        ensures awaited { Awaits E.fixed request.id (rank_of (E.seen self.old.endpoint) self.old.begun) (rank_of (E.seen self.new.endpoint) self.new.begun) result }
+        ensures awaited { AwaitsEnd E.fixed request.id (rank_of (E.seen self.old.endpoint) self.old.begun) (rank_of (E.seen self.new.endpoint) self.new.begun) self.new.begun result }
         ensures ranks { self.new.group ≡ self.old.group }
     {
         let Request { id } = request;
@@ -179,7 +180,7 @@ impl<E: Calls + Drop> World<E> {
 
     /// Makes progress until the request has ended.
     fn await_end<R: Wait>(&mut self, rt: &R, id: u64) -> Result<Completed, Failed>
-        ensures awaited { Awaits E.fixed id (rank_of (E.seen self.old.endpoint) self.old.begun) (rank_of (E.seen self.new.endpoint) self.new.begun) result }
+        ensures awaited { AwaitsEnd E.fixed id (rank_of (E.seen self.old.endpoint) self.old.begun) (rank_of (E.seen self.new.endpoint) self.new.begun) self.new.begun result }
         ensures ranks { self.new.group ≡ self.old.group }
     {
         for _ in rt.forever() {

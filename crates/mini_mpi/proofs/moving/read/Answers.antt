@@ -1,7 +1,7 @@
-use Rattle.std.proofs.Common.{Err, refl, sym, ◌∙◌, inl}
+use Rattle.std.proofs.Common.{Err, refl, sym, ◌∙◌, inl, inr}
 use Rattle.std.proofs.lemmas.List.{append-nil}
 use Rattle.mini_mpi.specs.Going.{rank_of}
-use Rattle.mini_mpi.proofs.Going.{goes_once, keeps_ended, lacks_memory}
+use Rattle.mini_mpi.proofs.Going.{goes_once, keeps_ended, lacks_memory, on_err, stays}
 use Rattle.mini_mpi.proofs.moving.read.Goals as goal
 
 pub returns-in_err-polled-clause-err : goal.returns-in_err-polled-clause-err
@@ -22,3 +22,12 @@ returns-clause-ok g c = record {
   waits = c.in_ok-polled.ensures.waits;
   same = refl;
 }
+
+pub returns-in_err-polled-clause-lacks : goal.returns-in_err-polled-clause-lacks
+returns-in_err-polled-clause-lacks g c = on_err c.from_residual-in_err-polled.result _ (inr (record {
+  mid = rank_of (g.E.Sees.seen c.args.endpoint.now) c.args.begun.now;
+  goes = stays g.E.Sees.fixed _ _ refl;
+  budget = _;
+  lacking = c.in_err-polled.field-0.0;
+  waits = c.in_err-polled.ensures.waits;
+}))

@@ -3,6 +3,7 @@ use Rattle.fabric.specs.Words.{Match}
 use Rattle.mini_mpi.specs.Going.{rank_of}
 use Rattle.mini_mpi.specs.Posting.{BeginsSend}
 use Rattle.mini_mpi.specs.Waiting.{Awaits}
+use Rattle.mini_mpi.proofs.Ending.{awaited}
 use Rattle.mini_mpi.proofs.world.World.ssend.Goals as goal
 
 pub returns-clause-ok : goal.returns-clause-ok
@@ -17,6 +18,6 @@ returns-clause-ok g c =
       end = c.in_ok-completed.completed;
       begins = subst (λ (id : ℕ). BeginsSend g.E.Sees.fixed (record { dest = a.dest; tag = a.tag; buf = a.buf; id = id; level = Match }) old.sends mid.sends old.seen mid.seen) fresh c.in_ok-request.ensures.ok;
       others = (ap (λ deque. deque.items) c.in_ok-request.ensures.others.0, ap (λ vec. vec.items) c.in_ok-request.ensures.others.1);
-      awaits = subst (λ (id : ℕ). Awaits g.E.Sees.fixed id mid new (Ok c.in_ok-completed.completed)) fresh c.in_ok-completed.ensures.awaited;
+      awaits = subst (λ (id : ℕ). Awaits g.E.Sees.fixed id mid new (Ok c.in_ok-completed.completed)) fresh (awaited g.E.Sees.fixed _ mid new c.wait.new.self.begun (Ok c.in_ok-completed.completed) c.in_ok-completed.ensures.awaited);
       gives = refl;
     }
