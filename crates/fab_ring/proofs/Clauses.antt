@@ -15,7 +15,7 @@ use Rattle.fab_link.specs.declared.port.PostRefused.{PostRefused}
 use Rattle.fab_link.specs.declared.port.PostRefused.TheVariants.{LaneFull, PoolFull, NoMemory}
 use Rattle.fab_link.specs.Meaning.{Outgoing, Incoming, Noticed, GrewBy, Gives, Fronted, advanced}
 use Rattle.fab_link.specs.Plain.{lent_frames}
-use Rattle.fab_table.specs.declared.kinds.TheConstants.{INLINE_BYTES}
+use Rattle.fab_base.specs.declared.limits.TheConstants.{INLINE_BYTES}
 use Rattle.fab_table.specs.declared.kinds.Sent.{Sent}
 use Rattle.fab_table.specs.declared.kinds.Out.{Out}
 use Rattle.fab_table.specs.declared.kinds.In.{In}

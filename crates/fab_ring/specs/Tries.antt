@@ -9,7 +9,7 @@
 use Rattle.std.specs.Prelude.{◌≡◌, ℕ, zero, suc, ◌+◌, ◌<◌, ◌≤◌, ◌⊎◌, Bool, List, [], ◌∷◌, length, slice_index, Option, None}
 use Rattle.fab_base.specs.declared.frames.FrameHead.{FrameHead}
 use Rattle.fab_wire.specs.Frames.{frame}
-use Rattle.fab_table.specs.declared.kinds.TheConstants.{INLINE_BYTES}
+use Rattle.fab_base.specs.declared.limits.TheConstants.{INLINE_BYTES}
 use Rattle.fab_table.specs.declared.kinds.Sent.{Sent}
 use Rattle.fab_table.specs.declared.kinds.Out.{Out}
 use Rattle.fab_table.specs.Views.{least}

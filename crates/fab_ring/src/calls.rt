@@ -6,7 +6,7 @@ ghost use Rattle.fab_link.specs.Meaning.{Rests, Gives};
 ghost use Rattle.fab_link.specs.Plain.{lent_frames};
 ghost use Rattle.std.specs.Borrow.{sem};
 ghost use Rattle.fab_ring.specs.Looks.{Looked};
-ghost use Rattle.fab_table.specs.declared.kinds.TheConstants.{INLINE_BYTES};
+ghost use Rattle.fab_base.specs.declared.limits.TheConstants.{INLINE_BYTES};
 ghost use Rattle.fab_table.specs.declared.kinds.Sent.{Sent};
 ghost use Rattle.fab_table.specs.Views.{frames_of, out_at, in_at, with_out, with_in, saw_full, saw_room, posted_one, saw_empty, saw_frame, freed_one, taken_one};
 ghost use Rattle.fab_table.specs.Rule.{Repays};

@@ -4,7 +4,7 @@ ghost use Rattle.fab_base.specs.declared.limits.TheConstants.{FRAME_BYTES};
 ghost use Rattle.atomic_table.specs.Table.{rest};
 ghost use Rattle.fab_wire.specs.declared.moves.Move.TheVariants.{Post};
 ghost use Rattle.fab_wire.specs.Frames.{last_head, Continues};
-ghost use Rattle.fab_table.specs.declared.kinds.TheConstants.{INLINE_BYTES};
+ghost use Rattle.fab_base.specs.declared.limits.TheConstants.{INLINE_BYTES};
 ghost use Rattle.fab_table.specs.declared.kinds.Command.{Command};
 ghost use Rattle.fab_table.specs.declared.kinds.Slot.TheVariants.{Cell, Pool};
 ghost use Rattle.fab_table.specs.Views.{frames_of, with_part, with_out, posted_one};
@@ -15,8 +15,8 @@ ghost use Rattle.fab_ring.specs.Tries.{sent_as};
 ghost use Rattle.fab_ring.specs.Steps.{FoundNone, FoundNoneAt, FoundSlot, FoundSlotAt, IsCell, SentAny, SentNone, SentNoneOf, SentSlot};
 ghost use Rattle.fab_ring.specs.Alone.{IsAlone};
 
-use fab_base::FrameHead;
-use fab_table::{Fabric, INLINE_BYTES, PeerSeat};
+use fab_base::{FrameHead, INLINE_BYTES};
+use fab_table::{Fabric, PeerSeat};
 
 /// A frame's number is at most this.
 pub(crate) const MOST: u64 = 1 << 62;

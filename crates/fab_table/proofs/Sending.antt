@@ -14,7 +14,7 @@ use Rattle.atomic_table.proofs.Lists.{set_else, set_here, exchanged}
 use Rattle.fab_wire.specs.declared.moves.Move.{Move}
 use Rattle.fab_wire.specs.declared.moves.Move.TheVariants.{Post}
 use Rattle.fab_wire.specs.Frames.{last_head, MayCome}
-use Rattle.fab_table.specs.declared.kinds.TheConstants.{INLINE_BYTES}
+use Rattle.fab_base.specs.declared.limits.TheConstants.{INLINE_BYTES}
 use Rattle.fab_table.specs.declared.kinds.Command.{Command}
 use Rattle.fab_table.specs.declared.kinds.Sent.{Sent}
 use Rattle.fab_table.specs.declared.kinds.Layout.{Layout}

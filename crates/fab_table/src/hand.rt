@@ -1,7 +1,7 @@
 //! Plain access to the place that a seat has in hand and took last. No step on a word is made here.
 ghost use Rattle.std.specs.Prelude.{◌≡◌, ℕ, ◌≤◌, ◌∷◌, List, length, take, Some};
 ghost use Rattle.atomic_table.specs.Table.{rest};
-ghost use Rattle.fab_table.specs.declared.kinds.TheConstants.{INLINE_BYTES};
+ghost use Rattle.fab_base.specs.declared.limits.TheConstants.{INLINE_BYTES};
 ghost use Rattle.fab_table.specs.declared.kinds.Command.{Command};
 ghost use Rattle.fab_table.specs.declared.kinds.Sent.{Sent};
 ghost use Rattle.fab_table.specs.declared.kinds.Slot.{Slot};

@@ -30,7 +30,7 @@ mod steps;
 mod words;
 
 pub use fabric::{Fabric, PeerSeat};
-pub use kinds::{Command, INLINE_BYTES, In, Layout, Out, Part, Sent, Slot, View};
+pub use kinds::{Command, In, Layout, Out, Part, Sent, Slot, View};
 pub use laws::law_lane_rule;
 pub use making::blank;
 pub use rule::LaneRule;

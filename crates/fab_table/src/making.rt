@@ -6,10 +6,10 @@ ghost use Rattle.fab_table.specs.Seats.{IsOf, carried, view_of_seat};
 ghost use Rattle.fab_table.specs.declared.kinds.Slot.TheVariants.{Pool};
 
 use crate::fabric::{Fabric, PeerSeat};
-use crate::kinds::{Command, INLINE_BYTES, Layout, Slot};
+use crate::kinds::{Command, Layout, Slot};
 use crate::words::count_words;
 use atomic_table::Table;
-use fab_base::{Ack, Buf, FRAME_BYTES, FrameHead, ItemHead, Kind, NoMemory, Outcome};
+use fab_base::{Ack, Buf, FRAME_BYTES, FrameHead, INLINE_BYTES, ItemHead, Kind, NoMemory, Outcome};
 use std::alloc::Global;
 
 /// A command of no frame.
