@@ -10,7 +10,8 @@ use Rattle.std.proofs.Math.Bool.{or-true}
 use Rattle.std.proofs.lemmas.List.Quantifiers.{all_pairs_remove, position-Some}
 use Rattle.fab_base.specs.declared.items.Want.{Want}
 use Rattle.fab_base.specs.declared.items.Sign.{Sign}
-use Rattle.fab_model.specs.Matching.{is_tagged, is_message, remove_first, source_fits, tag_fits}
+use Rattle.fab_model.specs.Matching.{remove_first, source_fits, tag_fits}
+use Rattle.fab_base.specs.Kinds.{is_tagged, is_message}
 use Rattle.fab_match.specs.Signs.{fits, message_kind}
 use Rattle.fab_match.specs.Matcher.{first_id, has_id, ids, without, HasDistinctIds}
 use Rattle.fab_model.proofs.Firsts.{remove_first_at, remove_first-none, list_any-none}

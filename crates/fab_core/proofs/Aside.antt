@@ -7,7 +7,7 @@ use Rattle.fab_base.specs.declared.entries.PeekHow.TheVariants.{Peek, Claim, Dis
 use Rattle.fab_base.specs.declared.items.Want.{Want}
 use Rattle.fab_base.specs.declared.operations.Arrival.{Arrival}
 use Rattle.fab_base.specs.declared.operations.Receive.{Receive}
-use Rattle.fab_model.specs.Complete.{at_match}
+use Rattle.fab_base.specs.Kinds.{at_match}
 use Rattle.fab_model.specs.Matching.{takes}
 use Rattle.fab_model.specs.State.{coming_from}
 use Rattle.fab_rx.specs.Arriving.{Arriving, IsArriving, begun_of}

@@ -14,7 +14,7 @@ use Rattle.fab_base.specs.declared.items.Kind.TheVariants.{Msg, TagMsg, WriteReq
 use Rattle.fab_base.specs.declared.peers.LineResult.TheVariants.{Done, Refused}
 use Rattle.fab_wire.specs.Frames.{IsSound, operand_bytes, compare_bytes}
 use Rattle.fab_base.specs.Replies.{is_reply}
-use Rattle.fab_model.specs.Matching.{is_message}
+use Rattle.fab_base.specs.Kinds.{is_message}
 use Rattle.fab_model.specs.State.{State, in_use, lookup}
 use Rattle.fab_model.specs.Sending.{Order, first_fault, head_of, is_granted, is_too_long, is_well_formed, most_bytes, transmit, transmit_to}
 use Rattle.fab_model.specs.Calls.{Transmit, do_call}

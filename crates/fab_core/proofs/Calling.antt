@@ -10,7 +10,7 @@ use Rattle.fab_base.specs.declared.peers.LineResult.TheVariants.{Done, Refused}
 use Rattle.fab_base.specs.declared.items.Want.{Want}
 use Rattle.fab_base.specs.declared.operations.Arrival.{Arrival}
 use Rattle.fab_base.specs.declared.operations.Receive.{Receive}
-use Rattle.fab_model.specs.Complete.{at_match}
+use Rattle.fab_base.specs.Kinds.{at_match}
 use Rattle.fab_model.specs.Matching.{takes}
 use Rattle.fab_model.specs.State.{State, fits, in_use, lookup}
 use Rattle.fab_model.specs.Receiving.{Posting, cancel, cancel_fault, cancellable, draw_due, lacks_room, least_is_wrong, may_receive, post, post_fault, receive_of, source_is_known, taken_by}

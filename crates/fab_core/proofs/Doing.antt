@@ -13,12 +13,13 @@ use Rattle.fab_base.specs.declared.operations.Coming.TheVariants.{Into, Keep, Th
 use Rattle.fab_base.specs.declared.operations.Operation.{Operation}
 use Rattle.fab_base.specs.declared.operations.Receive.{Receive}
 use Rattle.fab_base.specs.declared.peers.Level.{Level}
-use Rattle.fab_model.specs.Matching.{is_message, remove_first, takes}
+use Rattle.fab_model.specs.Matching.{remove_first, takes}
+use Rattle.fab_base.specs.Kinds.{at_delivery, at_match, is_message, refusal_of}
 use Rattle.fab_model.specs.State.{State, Transmitting, awaits, coming_from, under_way}
-use Rattle.fab_model.specs.Complete.{at_delivery, at_match, book, fill, filling, fill_multi, is_made_by, let_go, release, release_multi, reply}
+use Rattle.fab_model.specs.Complete.{book, fill, filling, fill_multi, is_made_by, let_go, release, release_multi, reply}
 use Rattle.fab_base.specs.Replies.{at_either}
 use Rattle.fab_model.specs.Receiving.{cancel, cancellable, give, post, without_first}
-use Rattle.fab_model.specs.Sending.{answering, do_answer, do_sent, end_with, ending, expects, going_on, is_answered_by, refusal_of, success_of, transmit_to, transmitting}
+use Rattle.fab_model.specs.Sending.{answering, do_answer, do_sent, end_with, ending, expects, going_on, is_answered_by, success_of, transmit_to, transmitting}
 use Rattle.fab_model.specs.Arrivals.{do_head, do_tail, keeping, made_whole, tail_to}
 use Rattle.fab_rx.specs.Arriving.{begun_of, shared, with_receiving, without_closed}
 use Rattle.fab_rx.specs.Leaving.{is_meant}

@@ -11,7 +11,8 @@ use Rattle.fab_base.specs.declared.operations.Receive.{Receive}
 use Rattle.std.proofs.lemmas.List.Folds.{list_any_at}
 use Rattle.fab_model.proofs.Firsts.{list_any-not_found}
 use Rattle.fab_model.specs.Arrivals.{do_draw}
-use Rattle.fab_model.specs.Complete.{at_match, filling, is_made_by, release, release_multi}
+use Rattle.fab_model.specs.Complete.{filling, is_made_by, release, release_multi}
+use Rattle.fab_base.specs.Kinds.{at_match}
 use Rattle.fab_model.specs.Matching.{remove_first, takes}
 use Rattle.fab_model.specs.Receiving.{draw_due, draws, give, goes}
 use Rattle.fab_model.specs.State.{State, coming_from, fits, is_into, under_way}

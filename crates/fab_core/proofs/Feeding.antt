@@ -14,7 +14,8 @@ use Rattle.fab_base.specs.declared.operations.Coming.TheVariants.{Into, Keep, Th
 use Rattle.fab_base.specs.declared.operations.Receive.{Receive}
 use Rattle.fab_wire.specs.Joined.{grown, is_last}
 use Rattle.fab_model.specs.Complete.{fill_multi, filled, filling, is_made_by}
-use Rattle.fab_model.specs.Matching.{change_first, is_message}
+use Rattle.fab_model.specs.Matching.{change_first}
+use Rattle.fab_base.specs.Kinds.{is_message}
 use Rattle.fab_model.specs.State.{State, Receiving, Transmitting, coming_from, fits, raise, Region, under_way}
 use Rattle.fab_model.specs.Receiving.{draw_due}
 use Rattle.fab_model.specs.Arrivals.{do_tail, heading_message, heading_other, made_whole, taker, way_of}

@@ -11,7 +11,8 @@ use Rattle.fab_base.specs.declared.operations.Coming.{Coming}
 use Rattle.fab_base.specs.declared.operations.Coming.TheVariants.{Into, Keep, Throw, Request, Answer}
 use Rattle.fab_base.specs.declared.operations.Operation.{Operation}
 use Rattle.fab_model.specs.State.{Completions, State, coming_from, fits, writing}
-use Rattle.fab_model.specs.Sending.{do_sent, ending, refusal_of}
+use Rattle.fab_model.specs.Sending.{do_sent, ending}
+use Rattle.fab_base.specs.Kinds.{refusal_of}
 use Rattle.fab_cq.specs.Queues.{has_room}
 use Rattle.fab_base.specs.declared.operations.Receive.{Receive}
 use Rattle.fab_model.specs.Arrivals.{made_whole}

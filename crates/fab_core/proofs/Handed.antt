@@ -7,7 +7,8 @@ use Rattle.fab_base.specs.declared.entries.Entry.TheVariants.{Released as GivenB
 use Rattle.fab_base.specs.declared.entries.Taken.TheVariants.{Success}
 use Rattle.fab_base.specs.declared.items.Want.{Want}
 use Rattle.fab_base.specs.declared.operations.Tally.{Tally}
-use Rattle.fab_model.specs.Complete.{at_delivery, at_match, entry_of, filling, has_space, is_made_by}
+use Rattle.fab_model.specs.Complete.{entry_of, filling, has_space, is_made_by}
+use Rattle.fab_base.specs.Kinds.{at_delivery, at_match}
 use Rattle.fab_base.specs.Replies.{at_either}
 use Rattle.fab_model.specs.Matching.{takes}
 use Rattle.fab_base.specs.declared.items.Item.{Item}

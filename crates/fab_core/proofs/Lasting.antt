@@ -20,7 +20,8 @@ use Rattle.fab_base.specs.declared.operations.Operation.{Operation}
 use Rattle.fab_base.specs.declared.operations.Receive.{Receive}
 use Rattle.fab_base.specs.declared.operations.Written.{Written}
 use Rattle.fab_model.specs.State.{Completions, Receiving, Transmitting, coming_from, writing}
-use Rattle.fab_model.specs.Complete.{at_match, error}
+use Rattle.fab_model.specs.Complete.{error}
+use Rattle.fab_base.specs.Kinds.{at_match}
 use Rattle.fab_model.specs.Receiving.{cancellable, without_posted}
 use Rattle.fab_model.specs.Peers.{unread}
 use Rattle.fab_model.specs.Sending.{accepting, ending}

@@ -15,9 +15,9 @@ use Rattle.fab_base.specs.declared.operations.Arrival.{Arrival}
 use Rattle.fab_base.specs.declared.operations.Coming.{Coming}
 use Rattle.fab_base.specs.declared.operations.Coming.TheVariants.{Into, Keep, Throw, Request, Answer}
 use Rattle.fab_base.specs.declared.operations.Receive.{Receive}
-use Rattle.fab_model.specs.Complete.{at_delivery, at_match}
+use Rattle.fab_base.specs.Kinds.{at_delivery, at_match, is_message}
 use Rattle.fab_base.specs.Replies.{at_either}
-use Rattle.fab_model.specs.Matching.{is_message, remove_first, takes}
+use Rattle.fab_model.specs.Matching.{remove_first, takes}
 use Rattle.fab_model.specs.State.{Receiving, coming_from}
 use Rattle.fab_model.specs.Arrivals.{completed, heading_message, heading_other, keeping, made_whole, newcomer, taker, way_of}
 use Rattle.fab_rx.proofs.Plain.{shared_besides}

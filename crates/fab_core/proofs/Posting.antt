@@ -18,7 +18,8 @@ use Rattle.fab_base.specs.declared.operations.Coming.TheVariants.{Into, Throw}
 use Rattle.fab_base.specs.declared.operations.Receive.{Receive}
 use Rattle.fab_model.specs.Matching.{remove_first, takes}
 use Rattle.fab_model.specs.State.{Completions, Receiving, coming_from, under_way, writing}
-use Rattle.fab_model.specs.Complete.{at_match, error}
+use Rattle.fab_model.specs.Complete.{error}
+use Rattle.fab_base.specs.Kinds.{at_match}
 use Rattle.fab_model.specs.Receiving.{cancellable, claiming, goes, joining_posted, may_leave, without_claim, without_first}
 use Rattle.fab_model.proofs.Firsts.{IfSome-find}
 use Rattle.fab_rx.specs.Arriving.{IsArriving, IsNamed, call_in, given, id_in, opening}

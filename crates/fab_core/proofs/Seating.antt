@@ -8,7 +8,8 @@ use Rattle.fab_base.specs.declared.operations.Coming.TheVariants.{Into}
 use Rattle.fab_base.specs.declared.operations.Receive.{Receive}
 use Rattle.fab_model.specs.Matching.{change_first, remove_first}
 use Rattle.fab_model.specs.State.{Receiving, coming_from, writing}
-use Rattle.fab_model.specs.Complete.{at_match, entry_of, filled, filling, fill_multi, is_made_by}
+use Rattle.fab_model.specs.Complete.{entry_of, filled, filling, fill_multi, is_made_by}
+use Rattle.fab_base.specs.Kinds.{at_match}
 use Rattle.fab_model.specs.Receiving.{draw_due, draws, goes}
 use Rattle.fab_model.specs.Arrivals.{seated, shut, stays, used_up}
 use Rattle.fab_rx.specs.Arriving.{IsArriving, id_in, shared, with_receiving, without_closed}

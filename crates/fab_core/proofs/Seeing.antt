@@ -6,7 +6,7 @@ use Rattle.fab_base.specs.declared.entries.PeekHow.TheVariants.{Peek, Claim, Dis
 use Rattle.fab_base.specs.declared.items.Want.{Want}
 use Rattle.fab_base.specs.declared.operations.Arrival.{Arrival}
 use Rattle.fab_base.specs.declared.operations.Receive.{Receive}
-use Rattle.fab_model.specs.Complete.{at_match}
+use Rattle.fab_base.specs.Kinds.{at_match}
 use Rattle.fab_model.specs.Matching.{takes}
 use Rattle.fab_model.specs.Receiving.{drop_arrival, drop_claimed, give, look, take_claimed, without_claim, without_first}
 use Rattle.fab_model.specs.State.{writing}

@@ -17,9 +17,9 @@ use Rattle.fab_base.specs.declared.operations.Coming.TheVariants.{Into, Keep, Th
 use Rattle.fab_base.specs.declared.operations.Held.{Held}
 use Rattle.fab_base.specs.declared.operations.Operation.{Operation}
 use Rattle.fab_base.specs.declared.operations.Receive.{Receive}
-use Rattle.fab_model.specs.Matching.{is_message, takes}
+use Rattle.fab_model.specs.Matching.{takes}
+use Rattle.fab_base.specs.Kinds.{at_match, is_message}
 use Rattle.fab_model.specs.State.{Completions, Transmitting, coming_from, lookup}
-use Rattle.fab_model.specs.Complete.{at_match}
 use Rattle.fab_model.specs.Sending.{accepting, answering, ending, going_on, letting_out, transmitting}
 use Rattle.fab_model.specs.Arrivals.{heading_message, heading_other, taker, way_of}
 use Rattle.fab_rx.specs.Arriving.{Arriving, IsArriving, IsPartly, PartlyIn, arriving, bare, begun_of, finishing, growing, headed, lengthened, nothing_arrived, posting}

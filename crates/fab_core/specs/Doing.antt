@@ -26,7 +26,8 @@ use Rattle.fab_base.specs.declared.operations.Operation.{Operation}
 use Rattle.fab_base.specs.declared.operations.Receive.{Receive}
 use Rattle.fab_model.specs.Matching.{takes}
 use Rattle.fab_model.specs.State.{State, Transmitting, coming_from, counting, writing, Region}
-use Rattle.fab_model.specs.Complete.{at_delivery, at_match, error}
+use Rattle.fab_model.specs.Complete.{error}
+use Rattle.fab_base.specs.Kinds.{at_delivery, at_match}
 use Rattle.fab_base.specs.Replies.{at_either}
 use Rattle.fab_model.specs.Receiving.{Posting, cancellable, without_posted, post_refusals}
 use Rattle.fab_model.specs.Sending.{Order, ending, first_fault, head_of, is_silent, transmit_refusals}

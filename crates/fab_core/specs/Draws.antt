@@ -4,7 +4,7 @@ use Rattle.std.specs.Prelude.{ℕ, Option}
 use Rattle.std.specs.Option.{option_map}
 use Rattle.fab_base.specs.declared.entries.Entry.TheVariants.{Released as GivenBack}
 use Rattle.fab_base.specs.declared.entries.Taken.TheVariants.{Success}
-use Rattle.fab_model.specs.Complete.{at_match}
+use Rattle.fab_base.specs.Kinds.{at_match}
 use Rattle.fab_model.specs.State.{Receiving, writing}
 use Rattle.fab_rx.specs.Drawing.{drawer, drawing, drawn}
 use Rattle.fab_rx.specs.declared.results.Drawn.{Drawn}

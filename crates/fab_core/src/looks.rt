@@ -14,7 +14,7 @@ ghost use Rattle.fab_core.specs.Looks.{dropped_by, is_held_take, lacks_take, las
 use crate::parts::Core;
 use fab_base::{Buf, Fault, PeekHow, Refused, Want};
 use fab_ends::calls::{CallRecord, ThisCall, call};
-use fab_ends::handing::{at_match, hand_over};
+use fab_ends::handing::hand_over;
 use fab_face::looking::Look;
 use fab_match::Matcher;
 use fab_orders::looks::{is_claim, meet, part, part_by, told};
@@ -156,7 +156,7 @@ impl<M: Matcher> Core<M> {
                 alloc,
                 ..
             } = self;
-            let due = at_match(completed.head.ack);
+            let due = completed.head.ack.at_match();
             hand_over::<Snapshot<CallRecord>, ThisCall>(
                 *alloc, cq, counters, tx, &about, due, completed,
             );

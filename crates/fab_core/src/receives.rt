@@ -14,7 +14,7 @@ use crate::callers::OfReceive;
 use crate::parts::Core;
 use fab_base::{Buf, Busy, Class, Fault, Refused, Want};
 use fab_ends::calls::{CallRecord, ThisCall, call};
-use fab_ends::handing::{at_match, hand_over};
+use fab_ends::handing::hand_over;
 use fab_face::machine::Ask;
 use fab_match::Matcher;
 use fab_orders::receives::{canceled, withdraw};
@@ -145,7 +145,7 @@ impl<M: Matcher> Core<M> {
                 alloc,
                 ..
             } = self;
-            let due = at_match(completed.head.ack);
+            let due = completed.head.ack.at_match();
             hand_over::<Snapshot<CallRecord>, ThisCall>(
                 *alloc, cq, counters, tx, &about, due, completed,
             );

@@ -23,7 +23,7 @@ use crate::parts::Core;
 use fab_base::{FrameHead, Item, ItemHead, NoMemory};
 use fab_cq::{Counters, Queue};
 use fab_ends::ending::{answer, answer_writes};
-use fab_ends::handing::{at_delivery, at_either, book, hand_last, hand_over};
+use fab_ends::handing::{book, hand_last, hand_over};
 use fab_ends::serving::{is_request, serve, writes_data};
 use fab_match::Matcher;
 use fab_orders::items::{asks, is_reply};
@@ -258,19 +258,19 @@ impl<M: Matcher> Core<M> {
         } = self;
         match finished {
             Finished::Received(completed) => {
-                let due = at_either(completed.head.ack);
+                let due = completed.head.ack.at_either();
                 hand_over::<(Snapshot<Inbox<M>>, u32), IntoReceive>(
                     *alloc, cq, counters, tx, &about, due, completed,
                 );
             }
             Finished::Last(completed, released) => {
-                let due = at_either(completed.head.ack);
+                let due = completed.head.ack.at_either();
                 hand_last::<(Snapshot<Inbox<M>>, u32), IntoReceive>(
                     *alloc, cq, counters, tx, multis, &about, due, completed, released,
                 );
             }
-            Finished::Kept(head) => book(*alloc, tx, at_delivery(head.ack), source, &head),
-            Finished::Thrown(head) => book(*alloc, tx, at_either(head.ack), source, &head),
+            Finished::Kept(head) => book(*alloc, tx, head.ack.at_delivery(), source, &head),
+            Finished::Thrown(head) => book(*alloc, tx, head.ack.at_either(), source, &head),
             Finished::Request(item) => serve(
                 tx,
                 cq,

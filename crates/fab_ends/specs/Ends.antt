@@ -15,7 +15,8 @@ use Rattle.fab_base.specs.declared.operations.Tally.{Tally}
 use Rattle.fab_base.specs.declared.peers.Level.{Level}
 use Rattle.fab_model.specs.State.{Completions, Transmitting, counting, writing}
 use Rattle.fab_model.specs.Complete.{error, reply_head}
-use Rattle.fab_model.specs.Sending.{class_of, refusal_of, success_of}
+use Rattle.fab_model.specs.Sending.{class_of, success_of}
+use Rattle.fab_base.specs.Kinds.{refusal_of}
 use Rattle.fab_tx.specs.Transit.{Transit, booking, ended, finds_answered}
 use Rattle.fab_tx.specs.declared.results.Ended.{Ended}
 

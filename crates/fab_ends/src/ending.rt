@@ -3,7 +3,8 @@ ghost use Rattle.std.specs.Prelude.{◌≡◌, IsTrue, is_none, is_some, IfNone,
 ghost use Rattle.fab_base.specs.declared.entries.Taken.TheVariants.{Failure};
 ghost use Rattle.fab_model.specs.Complete.{error};
 ghost use Rattle.fab_model.specs.State.{counting};
-ghost use Rattle.fab_model.specs.Sending.{class_of, is_answered, refusal_of, success_of};
+ghost use Rattle.fab_model.specs.Sending.{class_of, success_of};
+ghost use Rattle.fab_base.specs.Kinds.{is_answered, refusal_of};
 ghost use Rattle.fab_cq.specs.Queues.{has_room};
 ghost use Rattle.fab_tx.specs.Transit.{answered_by, finds_answered};
 ghost use Rattle.fab_ends.specs.Ends.{answer_writes, as_operation, counters_after, cq_after, entry_at_end, writes_end, written_if};
@@ -16,35 +17,6 @@ use fab_tx::{Ended, Outbox};
 use std::alloc::Global;
 use std::snapshot::Snapshot;
 
-/// The error that an outcome makes, and none where it is done.
-fn refusal_of(outcome: Outcome) -> Option<ErrKind>
-    ensures { result ≡ refusal_of outcome }
-{
-    match outcome {
-        Outcome::Done => None,
-        Outcome::BadKey => Some(ErrKind::NoKey),
-        Outcome::BadAccess => Some(ErrKind::Access),
-        Outcome::BadRange => Some(ErrKind::Range),
-    }
-}
-
-/// Whether the reply has bytes: a read, or a fetching or comparing atomic.
-pub(crate) fn is_answered(head: &ItemHead) -> bool
-    ensures { result ≡ is_answered head.now }
-{
-    match head.kind {
-        Kind::ReadReq => true,
-        Kind::AtomicReq => match head.atom {
-            None => false,
-            Some(atom) => match atom.form {
-                Form::Base => false,
-                Form::Fetch | Form::Compare => true,
-            },
-        },
-        _ => false,
-    }
-}
-
 /// What an operation counts as (fi_cntr(3)).
 fn class_of(head: &ItemHead) -> Class
     ensures { result ≡ class_of head.now }
@@ -52,7 +24,7 @@ fn class_of(head: &ItemHead) -> Class
     match head.kind {
         Kind::Msg | Kind::TagMsg => Class::Send,
         _ => {
-            if is_answered(head) {
+            if head.is_answered() {
                 Class::Read
             } else {
                 Class::Write
@@ -83,7 +55,7 @@ fn success_of(alloc: Global, ended: Ended, bytes: Buf) -> Entry
         Kind::ReadReq => Entry::Read { ctx, buf: bytes },
         Kind::WriteReq => Entry::Wrote { ctx, buf },
         Kind::AtomicReq => {
-            if is_answered(&head) {
+            if head.is_answered() {
                 Entry::Fetched { ctx, result: bytes }
             } else {
                 Entry::Updated { ctx }
@@ -123,7 +95,7 @@ fn error_of(kind: ErrKind, ended: Ended) -> ErrEntry
 fn entry_at_end(alloc: Global, outcome: Outcome, bytes: Buf, ended: Ended) -> Option<Taken>
     ensures { result ≡ entry_at_end outcome bytes ended }
 {
-    match refusal_of(outcome) {
+    match outcome.refusal() {
         Some(kind) => Some(Taken::Failure(error_of(kind, ended))),
         None => {
             if ended.silent {
@@ -139,7 +111,7 @@ fn entry_at_end(alloc: Global, outcome: Outcome, bytes: Buf, ended: Ended) -> Op
 pub fn writes_at_end(outcome: Outcome, silent: bool) -> bool
     ensures { result ≡ writes_end outcome silent }
 {
-    !silent || refusal_of(outcome).is_some()
+    !silent || outcome.refusal().is_some()
 }
 
 /// An operation ends with this outcome and these bytes of its reply. `C` names its call.
@@ -156,7 +128,7 @@ pub fn end<X, C: Caller<X>>(
     ensures cq { cq.new ≡ written_if (C.call about.now) (entry_at_end outcome bytes ended) cq.old }
     ensures counters { counters.new ≡ counting (class_of ended.head) (is_none (refusal_of outcome)) counters.old }
 {
-    counters.count(class_of(&ended.head), refusal_of(outcome).is_none());
+    counters.count(class_of(&ended.head), outcome.refusal().is_none());
     if let Some(entry) = entry_at_end(alloc, outcome, bytes, ended) {
         cq.write::<X, C>(about, entry);
     }

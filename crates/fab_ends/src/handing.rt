@@ -3,7 +3,8 @@ ghost use Rattle.std.specs.Prelude.{◌≡◌, ◌<◌, true, length, slice_inde
 ghost use Rattle.fab_base.specs.declared.entries.Class.TheVariants.{Recv};
 ghost use Rattle.fab_base.specs.declared.entries.Entry.TheVariants.{Released as GivenBack};
 ghost use Rattle.fab_base.specs.declared.entries.Taken.TheVariants.{Success};
-ghost use Rattle.fab_model.specs.Complete.{at_delivery, at_match, reply_head};
+ghost use Rattle.fab_model.specs.Complete.{reply_head};
+ghost use Rattle.fab_base.specs.Kinds.{at_delivery, at_match};
 ghost use Rattle.fab_base.specs.Replies.{at_either};
 ghost use Rattle.fab_model.specs.State.{counting, writing};
 ghost use Rattle.fab_cq.specs.Queues.{has_room};
@@ -17,36 +18,6 @@ use fab_record::caller::Caller;
 use fab_rx::{Completed, Released};
 use fab_tx::Outbox;
 use std::alloc::Global;
-
-/// Whether a reply is due once the message is delivered.
-pub fn at_delivery(ack: Ack) -> bool
-    ensures { result ≡ at_delivery ack }
-{
-    match ack {
-        Ack::Delivery => true,
-        Ack::Nothing | Ack::Match => false,
-    }
-}
-
-/// Whether a reply is due once a receive has taken the message.
-pub fn at_match(ack: Ack) -> bool
-    ensures { result ≡ at_match ack }
-{
-    match ack {
-        Ack::Match => true,
-        Ack::Nothing | Ack::Delivery => false,
-    }
-}
-
-/// Whether a reply is due at either.
-pub fn at_either(ack: Ack) -> bool
-    ensures { result ≡ at_either ack }
-{
-    match ack {
-        Ack::Delivery | Ack::Match => true,
-        Ack::Nothing => false,
-    }
-}
 
 /// The reply to an item: it was delivered, or taken.
 fn reply_to(alloc: Global, head: &ItemHead) -> Item

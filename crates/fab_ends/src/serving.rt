@@ -11,7 +11,6 @@ ghost use Rattle.fab_ends.specs.Ends.{written_if};
 ghost use Rattle.fab_ends.specs.Served.{counted, data_of, reply_of, served, writes_data};
 
 use crate::calls::OfNoCall;
-use crate::ending::is_answered;
 use fab_base::{Ack, Class, Entry, Item, ItemHead, Kind, Outcome, Taken};
 use fab_cq::{Counters, Queue};
 use fab_rma::{Reply, Target};
@@ -54,7 +53,7 @@ fn data_of(outcome: Outcome, source: u32, head: &ItemHead) -> Option<Taken>
 fn remote_class(head: &ItemHead) -> Class
     ensures { result ≡ remote_class head.now }
 {
-    if is_answered(head) {
+    if head.is_answered() {
         Class::RemoteRead
     } else {
         Class::RemoteWrite

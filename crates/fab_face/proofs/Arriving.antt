@@ -18,9 +18,9 @@ use Rattle.fab_base.specs.declared.operations.Arrival.{Arrival}
 use Rattle.fab_base.specs.declared.operations.Coming.{Coming}
 use Rattle.fab_base.specs.declared.operations.Coming.TheVariants.{Into, Keep, Throw, Request, Answer}
 use Rattle.fab_base.specs.declared.operations.Operation.{Operation}
-use Rattle.fab_model.specs.Matching.{is_message}
+use Rattle.fab_base.specs.Kinds.{at_delivery, at_match, is_message}
 use Rattle.fab_model.specs.State.{State, Receiving, Transmitting, held_for, coming_from, with_rx, with_tx}
-use Rattle.fab_model.specs.Complete.{at_delivery, at_match, book, fill, release, release_multi, reply}
+use Rattle.fab_model.specs.Complete.{book, fill, release, release_multi, reply}
 use Rattle.fab_base.specs.Replies.{at_either, owes, owes_by}
 use Rattle.fab_model.specs.Sending.{answering, do_answer, end_with, going_on, is_answered_by}
 use Rattle.fab_model.specs.Target.{perform}

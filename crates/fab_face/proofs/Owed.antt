@@ -16,7 +16,8 @@ use Rattle.fab_base.specs.declared.operations.Coming.{Coming}
 use Rattle.fab_base.specs.declared.operations.Coming.TheVariants.{Into, Keep, Throw}
 use Rattle.fab_model.specs.Matching.{remove_first, takes}
 use Rattle.fab_model.specs.State.{State, Transmitting, accepted_for, coming_from, with_rx}
-use Rattle.fab_model.specs.Complete.{at_delivery, at_match, book, fill, release, release_multi, reply}
+use Rattle.fab_model.specs.Complete.{book, fill, release, release_multi, reply}
+use Rattle.fab_base.specs.Kinds.{at_delivery, at_match}
 use Rattle.fab_base.specs.Replies.{at_either, owes}
 use Rattle.fab_model.specs.Receiving.{drop_arrival, give, goes}
 use Rattle.fab_face.specs.Owed.{dues, is_answer, unbegun, to_post, is_debt, to_book, is_pledge, is_due, due_for, asked_by, kept_for, begun_in, Pledged, IsComing, PartlyIn, IsPartly}

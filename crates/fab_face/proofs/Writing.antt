@@ -21,9 +21,10 @@ use Rattle.fab_base.specs.declared.faults.Fault.{Fault}
 use Rattle.fab_base.specs.declared.items.Want.{Want}
 use Rattle.fab_model.specs.Calls.{Call, Transmit, Post, Look, TakeClaimed, DropClaimed, Cancel, CancelFirst, Insert, Remove, Reg, Close, Put, Show, Count, do_call, answer, insert, remove, reg, close, put}
 use Rattle.fab_model.specs.State.{State, Completions, called, coming_from, lookup, with_rx, with_tx, write, count, under_way}
-use Rattle.fab_model.specs.Complete.{fill, release, release_multi, let_go, is_made_by, reply, book, at_delivery, at_match}
+use Rattle.fab_model.specs.Complete.{fill, release, release_multi, let_go, is_made_by, reply, book}
+use Rattle.fab_base.specs.Kinds.{at_delivery, at_match, refusal_of}
 use Rattle.fab_base.specs.Replies.{at_either}
-use Rattle.fab_model.specs.Sending.{Order, do_sent, do_answer, end_with, ending, transmitting, going_on, answering, is_answered_by, refusal_of, class_of, transmit, transmit_to}
+use Rattle.fab_model.specs.Sending.{Order, do_sent, do_answer, end_with, ending, transmitting, going_on, answering, is_answered_by, class_of, transmit, transmit_to}
 use Rattle.fab_model.specs.Receiving.{Posting, draws, give, without_first, receive_of, taken_by, post, drop_arrival, look, look_at, take_claimed, taking, claim_of, without_claim, drop_claimed, cancel, cancellable, without_posted, want_of}
 use Rattle.fab_model.specs.Matching.{takes}
 use Rattle.fab_base.specs.declared.operations.Written.{Written}

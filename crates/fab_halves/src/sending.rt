@@ -10,8 +10,6 @@ ghost use Rattle.fab_halves.specs.Letting.{going_out, holding, SomeFirst};
 use crate::halves::Transmitting;
 use fab_base::{Ack, Held, ItemHead, List, NoMemory, Operation, Outcome};
 use fab_items::lists::{number_at, one_more, raise};
-use fab_items::matching::is_message;
-use fab_items::orders::is_answered;
 use std::alloc::Global;
 use std::mem::replace;
 
@@ -23,7 +21,7 @@ fn ends_at_sent(operation: &Operation) -> bool
         Ack::Nothing => true,
         Ack::Delivery | Ack::Match => false,
     };
-    is_message(operation.head.kind) && asks_for_none
+    operation.head.kind.is_message() && asks_for_none
 }
 
 /// Whether the operation ends when the item of this place for this peer is transmitted.
@@ -40,7 +38,7 @@ fn expects(operation: &Operation, outcome: Outcome, len: u32) -> bool
 {
     match outcome {
         Outcome::Done => {
-            let expected = if is_answered(&operation.head) {
+            let expected = if operation.head.is_answered() {
                 operation.head.count
             } else {
                 0
@@ -48,7 +46,7 @@ fn expects(operation: &Operation, outcome: Outcome, len: u32) -> bool
             len == expected
         }
         Outcome::BadKey | Outcome::BadAccess | Outcome::BadRange => {
-            !is_message(operation.head.kind) && len == 0
+            !operation.head.kind.is_message() && len == 0
         }
     }
 }

@@ -11,7 +11,8 @@ use Rattle.fab_base.specs.declared.operations.Coming.TheVariants.{Into, Keep, Th
 use Rattle.fab_base.specs.declared.operations.Operation.{Operation}
 use Rattle.fab_base.specs.declared.operations.Receive.{Receive}
 use Rattle.fab_model.specs.Arrivals.{do_draw, do_head, do_request, do_tail, keeping, made_whole, remote_data, remote_event, seating, tail_to, with_regions}
-use Rattle.fab_model.specs.Complete.{at_delivery, at_match, book, fill, is_made_by, let_go, release, release_multi, reply}
+use Rattle.fab_model.specs.Complete.{book, fill, is_made_by, let_go, release, release_multi, reply}
+use Rattle.fab_base.specs.Kinds.{at_delivery, at_match}
 use Rattle.fab_model.specs.Matching.{takes}
 use Rattle.fab_model.specs.Receiving.{Posting, draws, give, goes, joining_posted, post, receive_of, taken_by, without_first}
 use Rattle.fab_model.specs.Sending.{Order, answering, class_of, do_answer, do_sent, end_with, ending, going_on, is_answered_by, success_of, transmit, transmit_to, transmitting}

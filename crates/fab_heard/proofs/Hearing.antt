@@ -23,7 +23,8 @@ use Rattle.fab_base.specs.declared.operations.Receive.{Receive}
 use Rattle.fab_base.specs.declared.operations.Written.{Written}
 use Rattle.fab_model.specs.Calls.{Call, Transmit, Post, Look, TakeClaimed, DropClaimed, Cancel, CancelFirst, Insert, Remove, Reg, Close, Put, Show, Count}
 use Rattle.fab_model.specs.Complete.{entry_of, has_space, paste, received, tag_of, truncated}
-use Rattle.fab_model.specs.Matching.{is_message, matches}
+use Rattle.fab_model.specs.Matching.{matches}
+use Rattle.fab_base.specs.Kinds.{is_message}
 use Rattle.fab_model.specs.Orders.{steps_of}
 use Rattle.fab_model.specs.Receiving.{Posting}
 use Rattle.fab_model.specs.Sending.{Order, head_of}

@@ -13,7 +13,8 @@ use Rattle.fab_base.specs.declared.operations.Receive.{Receive}
 use Rattle.fab_base.specs.declared.operations.Written.{Written}
 use Rattle.fab_model.specs.Arrivals.{completed, is_wanted, keeping, newcomer, seated, stays, taker, used_up}
 use Rattle.fab_model.specs.Complete.{entry_of}
-use Rattle.fab_model.specs.Matching.{change_first, is_message, matches, remove_first, takes}
+use Rattle.fab_model.specs.Matching.{change_first, matches, remove_first, takes}
+use Rattle.fab_base.specs.Kinds.{is_message}
 use Rattle.fab_model.specs.State.{Receiving, coming_from, raise}
 use Rattle.fab_model.proofs.Parts.{get_or-set, some_same}
 use Rattle.fab_laws.specs.Members.{In}

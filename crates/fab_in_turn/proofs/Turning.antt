@@ -19,7 +19,8 @@ use Rattle.fab_base.specs.declared.script.Conf.{Conf}
 use Rattle.fab_model.specs.Arrivals.{keeping, made_whole, taker}
 use Rattle.fab_model.specs.Calls.{Call, Transmit, Post, Look, TakeClaimed, DropClaimed, Cancel, CancelFirst, Insert, Remove, Reg, Close, Put, Show, Count, answer, do_call}
 use Rattle.fab_model.specs.Complete.{filling}
-use Rattle.fab_model.specs.Matching.{is_message, takes}
+use Rattle.fab_model.specs.Matching.{takes}
+use Rattle.fab_base.specs.Kinds.{is_message}
 use Rattle.fab_model.specs.Orders.{Leads, Turn, steps_of}
 use Rattle.fab_model.specs.Receiving.{Posting, draws, give, joining_posted, post, post_fault, receive_of, taken_by, without_first}
 use Rattle.fab_model.specs.State.{Receiving, State, called, coming_from, raise, with_rx}

@@ -15,7 +15,8 @@ use Rattle.fab_base.specs.declared.operations.Coming.{Coming}
 use Rattle.fab_base.specs.declared.operations.Coming.TheVariants.{Into, Keep, Throw, Request, Answer}
 use Rattle.fab_base.specs.declared.operations.Receive.{Receive}
 use Rattle.fab_base.specs.declared.operations.Written.{Written}
-use Rattle.fab_model.specs.Matching.{is_message, is_tagged, matches, source_fits, tag_fits, takes}
+use Rattle.fab_model.specs.Matching.{matches, source_fits, tag_fits, takes}
+use Rattle.fab_base.specs.Kinds.{is_message, is_tagged}
 use Rattle.fab_model.specs.State.{Receiving, coming_from}
 use Rattle.fab_laws.specs.Members.{In, Never}
 use Rattle.fab_laws.proofs.Lists.{never}

@@ -1,11 +1,10 @@
 //! The completions of receives and operations (fi_cq(3)).
 ghost use Rattle.std.specs.Prelude.{◌≡◌, ◌+◌, ◌-◌, [], length, IfOk, OnOk, None, Some, unwrap_or};
 ghost use Rattle.fab_model.specs.Complete.{paste, tag_of, error, has_space, received, truncated, entry_of};
-ghost use Rattle.fab_model.specs.Sending.{refusal_of, success_of};
+ghost use Rattle.fab_model.specs.Sending.{success_of};
+ghost use Rattle.fab_base.specs.Kinds.{refusal_of};
 
 use crate::lists::narrowed;
-use crate::matching::is_tagged;
-use crate::orders::is_answered;
 use fab_base::{
     Buf, Entry, ErrEntry, ErrKind, ItemHead, Kind, NoMemory, Operation, Outcome, Receive, Taken,
 };
@@ -26,7 +25,7 @@ pub fn paste(buf: &mut Buf, place: u32, bytes: &[u8])
 fn tag_of(head: &ItemHead) -> Option<u64>
     ensures { result ≡ tag_of head.now }
 {
-    if is_tagged(head.kind) {
+    if head.kind.is_tagged() {
         Some(head.tag)
     } else {
         None
@@ -173,27 +172,15 @@ pub fn success_of(alloc: Global, operation: Operation, bytes: Buf) -> Entry
         Kind::ReadReq => Entry::Read { ctx, buf: bytes },
         Kind::WriteReq => Entry::Wrote { ctx, buf },
         Kind::AtomicReq => {
-            if is_answered(&head) {
+            if head.is_answered() {
                 Entry::Fetched { ctx, result: bytes }
             } else {
                 Entry::Updated { ctx }
             }
         }
         Kind::Msg | Kind::TagMsg | Kind::Reply => {
-            let tagged = is_tagged(head.kind);
+            let tagged = head.kind.is_tagged();
             Entry::Sent { ctx, tagged, buf }
         }
-    }
-}
-
-/// The error that tells this outcome.
-pub fn refusal_of(outcome: Outcome) -> Option<ErrKind>
-    ensures { result ≡ refusal_of outcome }
-{
-    match outcome {
-        Outcome::Done => None,
-        Outcome::BadKey => Some(ErrKind::NoKey),
-        Outcome::BadAccess => Some(ErrKind::Access),
-        Outcome::BadRange => Some(ErrKind::Range),
     }
 }

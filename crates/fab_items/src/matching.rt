@@ -2,27 +2,10 @@
 ghost use Rattle.std.specs.Prelude.{◌≡◌, find, position, IfNone};
 ghost use Rattle.std.specs.Option.{option_map};
 ghost use Rattle.std.specs.List.{list_any};
-ghost use Rattle.fab_model.specs.Matching.{is_tagged, is_message, matches, takes, remove_first};
+ghost use Rattle.fab_model.specs.Matching.{matches, takes, remove_first};
+ghost use Rattle.fab_base.specs.Kinds.{is_tagged, is_message};
 
 use fab_base::{Arrival, ItemHead, Kind, Want};
-
-pub fn is_tagged(kind: Kind) -> bool
-    ensures { result ≡ is_tagged kind }
-{
-    match kind {
-        Kind::TagMsg => true,
-        _ => false,
-    }
-}
-
-pub fn is_message(kind: Kind) -> bool
-    ensures { result ≡ is_message kind }
-{
-    match kind {
-        Kind::Msg | Kind::TagMsg => true,
-        Kind::WriteReq | Kind::ReadReq | Kind::AtomicReq | Kind::Reply => false,
-    }
-}
 
 /// Whether a receive that wants this may take a message of `source` with this head: both tagged or both
 /// untagged, from the source where one is named, and of the same tag in every bit where `ignore` is 0.

@@ -1,11 +1,11 @@
 //! Transmit calls, and the items that they make (fi_msg(3), fi_tagged(3), fi_rma(3), fi_atomic(3)).
 ghost use Rattle.std.specs.Prelude.{◌≡◌, ◌+◌, ◌++◌, ◌≤◌, length, IfOk};
 ghost use Rattle.fab_base.specs.Elements.{element_size, is_of_form};
-ghost use Rattle.fab_model.specs.Sending.{atom_is_granted, is_granted, most_bytes, is_too_long, is_well_formed, ack_of, head_of, is_silent, is_answered, class_of};
+ghost use Rattle.fab_model.specs.Sending.{atom_is_granted, is_granted, most_bytes, is_too_long, is_well_formed, ack_of, head_of, is_silent, class_of};
+ghost use Rattle.fab_base.specs.Kinds.{is_answered};
 ghost use Rattle.fab_model.specs.Complete.{reply_head};
 ghost use Rattle.fab_items.specs.Seen.{order_of};
 
-use crate::matching::is_message;
 use fab_base::{
     Ack, Atom, AtomicOp, Buf, Caps, Class, Form, INJECT_BYTES, ItemHead, Kind, Level, NoMemory,
     Num, Outcome,
@@ -144,7 +144,7 @@ impl Order {
 pub fn ack_of(kind: Kind, level: Level) -> Ack
     ensures { result ≡ ack_of kind level }
 {
-    if !is_message(kind) {
+    if !kind.is_message() {
         return Ack::Nothing;
     }
     match level {
@@ -154,30 +154,13 @@ pub fn ack_of(kind: Kind, level: Level) -> Ack
     }
 }
 
-/// Whether the reply has bytes: that of a read, or of a fetching or comparing atomic.
-pub fn is_answered(head: &ItemHead) -> bool
-    ensures { result ≡ is_answered head.now }
-{
-    match head.kind {
-        Kind::ReadReq => true,
-        Kind::AtomicReq => match head.atom {
-            None => false,
-            Some(atom) => match atom.form {
-                Form::Base => false,
-                Form::Fetch | Form::Compare => true,
-            },
-        },
-        Kind::Msg | Kind::TagMsg | Kind::WriteReq | Kind::Reply => false,
-    }
-}
-
 /// The class of counters in which the operation counts.
 pub fn class_of(head: &ItemHead) -> Class
     ensures { result ≡ class_of head.now }
 {
-    if is_message(head.kind) {
+    if head.kind.is_message() {
         Class::Send
-    } else if is_answered(head) {
+    } else if head.is_answered() {
         Class::Read
     } else {
         Class::Write

@@ -1,7 +1,7 @@
 //! One receive, and one message that it takes (fi_msg(3), fi_tagged(3)).
 ghost use Rattle.std.specs.Prelude.{◌≡◌, ℕ, IfOk};
 ghost use Rattle.fab_base.specs.declared.operations.Receive.{Receive};
-ghost use Rattle.fab_model.specs.Complete.{at_delivery, at_match};
+ghost use Rattle.fab_base.specs.Kinds.{at_delivery, at_match};
 ghost use Rattle.fab_base.specs.Replies.{at_either};
 ghost use Rattle.fab_model.specs.Arrivals.{stays, used_up};
 ghost use Rattle.fab_model.specs.Receiving.{draws, peeked};
@@ -46,41 +46,11 @@ pub fn copied(receive: &Receive) -> Result<Receive, NoMemory>
     })
 }
 
-/// Whether a reply is due once the message is delivered.
-pub fn at_delivery(ack: Ack) -> bool
-    ensures { result ≡ at_delivery ack }
-{
-    match ack {
-        Ack::Delivery => true,
-        Ack::Match | Ack::Nothing => false,
-    }
-}
-
-/// Whether a reply is due once the message is delivered or a receive has taken it.
-pub fn at_either(ack: Ack) -> bool
-    ensures { result ≡ at_either ack }
-{
-    match ack {
-        Ack::Nothing => false,
-        Ack::Delivery | Ack::Match => true,
-    }
-}
-
 /// Whether the multi-receive takes one of these arrivals.
 pub fn draws(unexpected: &[Arrival], receive: &Receive) -> bool
     ensures { result ≡ draws unexpected.now receive.now }
 {
     receive.least.is_some() && takes_any(unexpected, &receive.want)
-}
-
-/// Whether a reply is due once a receive has taken the message.
-pub fn at_match(ack: Ack) -> bool
-    ensures { result ≡ at_match ack }
-{
-    match ack {
-        Ack::Match => true,
-        Ack::Delivery | Ack::Nothing => false,
-    }
 }
 
 /// What a look tells of the message that it found.

@@ -5,7 +5,8 @@ ghost use Rattle.fab_base.specs.declared.items.Outcome.{Outcome};
 ghost use Rattle.fab_items.specs.Seen.{performed_of};
 ghost use Rattle.fab_items.specs.NewElements.{is_done};
 ghost use Rattle.fab_model.specs.Matching.{change_first, remove_first};
-ghost use Rattle.fab_model.specs.Target.{is_read_only, is_base, may_access, reach_of, outcome_of, is_keyed, range_of, changed_range, put_range, handed_back, perform};
+ghost use Rattle.fab_model.specs.Target.{may_access, reach_of, outcome_of, is_keyed, range_of, changed_range, put_range, handed_back, perform};
+ghost use Rattle.fab_base.specs.Kinds.{is_read_only, is_base};
 
 use crate::atomics::elements;
 use crate::lists::split;
@@ -37,30 +38,6 @@ pub struct Performed {
     pub bytes: Buf,
 }
 
-fn is_read_only(atom: Option<Atom>) -> bool
-    ensures { result ≡ is_read_only atom }
-{
-    match atom {
-        None => false,
-        Some(atom) => match atom.op {
-            AtomicOp::AtomicRead => true,
-            _ => false,
-        },
-    }
-}
-
-fn is_base(atom: Option<Atom>) -> bool
-    ensures { result ≡ is_base atom }
-{
-    match atom {
-        None => true,
-        Some(atom) => match atom.form {
-            Form::Base => true,
-            Form::Fetch | Form::Compare => false,
-        },
-    }
-}
-
 /// Whether the region gives the rights that the request needs.
 fn may_access(access: Access, head: &ItemHead) -> bool
     ensures { result ≡ may_access access head.now }
@@ -69,8 +46,7 @@ fn may_access(access: Access, head: &ItemHead) -> bool
         Kind::WriteReq => access.remote_write,
         Kind::ReadReq => access.remote_read,
         Kind::Msg | Kind::TagMsg | Kind::AtomicReq | Kind::Reply => {
-            (is_base(head.atom) || access.remote_read)
-                && (is_read_only(head.atom) || access.remote_write)
+            (head.is_base() || access.remote_read) && (head.is_read_only() || access.remote_write)
         }
     }
 }
@@ -129,7 +105,7 @@ fn handed_back(alloc: Global, head: &ItemHead, old: &[u8]) -> Result<Buf, NoMemo
 {
     let is_told = match head.kind {
         Kind::ReadReq => true,
-        Kind::AtomicReq => !is_base(head.atom),
+        Kind::AtomicReq => !head.is_base(),
         Kind::Msg | Kind::TagMsg | Kind::WriteReq | Kind::Reply => false,
     };
     if is_told {

@@ -25,7 +25,7 @@ use Rattle.fab_base.specs.declared.peers.Step.{Step}
 use Rattle.fab_base.specs.declared.script.Bound.{Bound}
 use Rattle.fab_base.specs.declared.script.Conf.{Conf}
 use Rattle.fab_model.specs.State.{State, Receiving, Transmitting, accepted_for, held_for, awaits, in_use, lookup, coming_from, with_rx, with_tx}
-use Rattle.fab_model.specs.Complete.{at_delivery}
+use Rattle.fab_base.specs.Kinds.{at_delivery}
 use Rattle.fab_base.specs.Replies.{at_either}
 use Rattle.fab_model.specs.Sending.{Order, is_busy, let_out, operation_of, letting_out, going_on, accepting, transmit_fault, transmit, transmit_to, is_of_item, ending, transmitting, end_with, do_sent, is_answered_by, answering, do_answer}
 use Rattle.fab_model.specs.Receiving.{want_of}

@@ -13,7 +13,8 @@ use Rattle.fab_base.specs.declared.operations.Arrival.{Arrival}
 use Rattle.fab_base.specs.declared.operations.Operation.{Operation}
 use Rattle.fab_model.specs.Matching.{takes}
 use Rattle.fab_model.specs.State.{State, with_rx, called}
-use Rattle.fab_model.specs.Complete.{fill, release, release_multi, reply, book, at_match}
+use Rattle.fab_model.specs.Complete.{fill, release, release_multi, reply, book}
+use Rattle.fab_base.specs.Kinds.{at_match}
 use Rattle.fab_model.specs.Sending.{end_with}
 use Rattle.fab_model.specs.Receiving.{Posting, give, drop_arrival, post, receive_of, taken_by, without_first, look, look_at, take_claimed, drop_claimed, claim_of, without_claim, taking, cancel, cancellable, draws}
 use Rattle.fab_model.specs.Target.{perform}

@@ -11,7 +11,8 @@ use Rattle.fab_base.specs.declared.entries.PeekHow.TheVariants.{Peek, Claim, Dis
 use Rattle.fab_base.specs.declared.entries.Taken.{Taken}
 use Rattle.fab_base.specs.declared.entries.Taken.TheVariants.{Success}
 use Rattle.fab_base.specs.declared.items.Want.{Want}
-use Rattle.fab_model.specs.Complete.{at_match, error}
+use Rattle.fab_model.specs.Complete.{error}
+use Rattle.fab_base.specs.Kinds.{at_match}
 use Rattle.fab_rx.specs.Arriving.{Arriving}
 use Rattle.fab_rx.specs.Claims.{claiming_first, discarding}
 use Rattle.fab_rx.specs.declared.results.Seen.{Seen}

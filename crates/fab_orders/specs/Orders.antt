@@ -13,7 +13,7 @@ use Rattle.fab_base.specs.declared.items.Access.{Access}
 use Rattle.fab_base.specs.declared.items.ItemHead.{ItemHead}
 use Rattle.fab_base.specs.declared.items.Want.{Want}
 use Rattle.fab_base.specs.Replies.{at_either}
-use Rattle.fab_model.specs.Matching.{is_message}
+use Rattle.fab_base.specs.Kinds.{is_message}
 use Rattle.fab_model.specs.State.{State}
 use Rattle.fab_model.specs.Receiving.{Posting, want_of}
 use Rattle.fab_model.specs.Sending.{Order, most_bytes}

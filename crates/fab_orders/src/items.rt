@@ -5,7 +5,6 @@ ghost use Rattle.fab_wire.specs.Joined.{is_last};
 ghost use Rattle.fab_orders.specs.Orders.{asks};
 
 use fab_base::{FrameHead, ItemHead, Kind};
-use fab_ends::handing::at_either;
 
 pub fn is_reply(kind: Kind) -> bool
     ensures { result ≡ is_reply kind }
@@ -29,7 +28,7 @@ pub fn asks(head: &ItemHead) -> bool
     ensures { result ≡ asks head.now }
 {
     match head.kind {
-        Kind::Msg | Kind::TagMsg => at_either(head.ack),
+        Kind::Msg | Kind::TagMsg => head.ack.at_either(),
         Kind::WriteReq | Kind::ReadReq | Kind::AtomicReq => true,
         Kind::Reply => false,
     }

@@ -8,7 +8,7 @@ ghost use Rattle.fab_rx.specs.Claims.{seen};
 ghost use Rattle.fab_orders.specs.Looks.{is_due_now, looked, parted, parted_by, told};
 
 use fab_base::{Entry, ErrEntry, ErrKind, PeekHow, Taken, Want};
-use fab_ends::handing::{at_match, book};
+use fab_ends::handing::book;
 use fab_match::Matcher;
 use fab_rx::{Inbox, Seen};
 use fab_tx::Outbox;
@@ -69,7 +69,7 @@ pub fn part(alloc: Global, tx: &mut Outbox, met: &Option<Seen>)
     ensures { tx.new ≡ parted met.now tx.old }
 {
     if let Some(met) = met {
-        let due = met.whole && at_match(met.head.ack);
+        let due = met.whole && met.head.ack.at_match();
         book(alloc, tx, due, met.source, &met.head);
     }
 }

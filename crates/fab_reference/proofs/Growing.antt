@@ -17,7 +17,8 @@ use Rattle.fab_model.specs.State.{State, Completions, fits, writing, with_tx}
 use Rattle.fab_model.specs.Complete.{fill, book, reply}
 use Rattle.fab_model.specs.Matching.{takes}
 use Rattle.fab_model.specs.Receiving.{Posting, give, drop_arrival, taken_by, receive_of, post, look_at, look, claim_of, take_claimed, drop_claimed, cancellable, cancel}
-use Rattle.fab_model.specs.Sending.{refusal_of, end_with, ending, do_sent, transmitting, going_on}
+use Rattle.fab_model.specs.Sending.{end_with, ending, do_sent, transmitting, going_on}
+use Rattle.fab_base.specs.Kinds.{refusal_of}
 use Rattle.fab_reference.specs.Room.{has_room, entries_given, entries_ended, entries_sent}
 
 -- so many entries lead from one queue to the other

@@ -21,7 +21,8 @@ use Rattle.fab_model.specs.State.{State, Receiving, Completions, under_way, comi
 use Rattle.fab_model.specs.Complete.{is_made_by}
 use Rattle.fab_model.specs.Arrivals.{stays}
 use Rattle.fab_model.specs.Receiving.{draws, draw_due}
-use Rattle.fab_model.specs.Sending.{first_fault, refusal_of, ending, is_answered_by}
+use Rattle.fab_model.specs.Sending.{first_fault, ending, is_answered_by}
+use Rattle.fab_base.specs.Kinds.{refusal_of}
 use Rattle.fab_model.specs.Target.{is_keyed, outcome_of}
 use Rattle.fab_model.specs.Matching.{takes}
 use Rattle.fab_halves.specs.Places.{is_under_way_besides}

@@ -15,7 +15,6 @@ use crate::state::State;
 use fab_base::{Arrival, Buf, Busy, Coming, Fault, LineResult, NoMemory, Receive, Want};
 use fab_items::entries::plain_error;
 use fab_items::matching::first_taken;
-use fab_items::receives::at_match;
 
 /// A call of recv, trecv or recv_multi. `source` is an index of the address vector, `len` the length of
 /// the buffer, which is filled with zeros.
@@ -113,7 +112,7 @@ impl State {
             }
             Some(bytes) => {
                 self.fill(receive, place, source, &head, bytes.as_slice())?;
-                self.book(at_match(head.ack), source, &head)
+                self.book(head.ack.at_match(), source, &head)
             }
         }
     }
@@ -133,7 +132,7 @@ impl State {
             self.rx.send_to(source, Coming::Throw);
             return Ok(());
         }
-        self.book(at_match(head.ack), source, &head)
+        self.book(head.ack.at_match(), source, &head)
     }
 
     /// The receive that a call posts.

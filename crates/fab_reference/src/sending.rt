@@ -10,7 +10,7 @@ use fab_base::{
     Buf, Busy, Fault, Held, Item, ItemHead, LineResult, MOST_OPERATIONS, NoMemory, Operation,
     Outcome, Taken,
 };
-use fab_items::entries::{plain_error, refusal_of, success_of};
+use fab_items::entries::{plain_error, success_of};
 use fab_items::orders::{Order, class_of, is_granted, joined};
 
 impl State {
@@ -97,7 +97,7 @@ impl State {
     {
         let call = Some(operation.call);
         let class = class_of(&operation.head);
-        if let Some(kind) = refusal_of(outcome) {
+        if let Some(kind) = outcome.refusal() {
             self.count(class, false);
             let Operation { ctx, buf, .. } = operation;
             return self.write(call, plain_error(ctx, kind, buf));

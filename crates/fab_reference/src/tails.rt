@@ -6,9 +6,6 @@ ghost use Rattle.fab_reference.specs.Seen.{state_of};
 
 use crate::state::State;
 use fab_base::{Buf, Class, Coming, Entry, ItemHead, Kind, NoMemory, Outcome, Receive, Taken};
-use fab_items::matching::is_message;
-use fab_items::orders::is_answered;
-use fab_items::receives::{at_delivery, at_either};
 use fab_items::target::perform;
 
 impl State {
@@ -29,7 +26,7 @@ impl State {
         ensures { state_of self.new ≡ remote_event outcome head.now (state_of self.old) }
     {
         if outcome == Outcome::Done && self.caps.rma_event {
-            let class = if is_answered(head) {
+            let class = if head.is_answered() {
                 Class::RemoteRead
             } else {
                 Class::RemoteWrite
@@ -64,7 +61,7 @@ impl State {
         let call = receive.call;
         let is_multi = receive.least.is_some();
         self.fill(receive, place, source, head, bytes)?;
-        self.book(at_either(head.ack), source, head)?;
+        self.book(head.ack.at_either(), source, head)?;
         self.release(is_multi, call)?;
         Ok(())
     }
@@ -87,9 +84,9 @@ impl State {
             }
             Some(Coming::Keep) => {
                 self.rx.keep(source, &bytes)?;
-                self.book(at_delivery(head.ack), source, head)
+                self.book(head.ack.at_delivery(), source, head)
             }
-            Some(Coming::Throw) => self.book(at_either(head.ack), source, head),
+            Some(Coming::Throw) => self.book(head.ack.at_either(), source, head),
             Some(Coming::Request) => self.do_request(source, head, bytes.as_slice()),
             Some(Coming::Answer) => self.do_answer(source, head, bytes),
         }
@@ -109,7 +106,7 @@ impl State {
     pub fn do_head(&mut self, source: u32, head: &ItemHead) -> Result<(), NoMemory>
         ensures { OnOk result (state_of self.new ≡ do_head (state_of self.old) source head.now) }
     {
-        if is_message(head.kind) {
+        if head.kind.is_message() {
             self.rx.head_message(source, head)
         } else {
             self.rx.head_other(source, head.kind)

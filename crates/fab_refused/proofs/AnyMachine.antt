@@ -12,7 +12,7 @@ use Rattle.fab_base.specs.declared.frames.Frame.{Frame}
 use Rattle.fab_base.specs.declared.items.ItemHead.{ItemHead}
 use Rattle.fab_wire.specs.Joined.{is_last}
 use Rattle.fab_model.specs.State.{State, in_use, lookup}
-use Rattle.fab_model.specs.Matching.{is_message}
+use Rattle.fab_base.specs.Kinds.{is_message}
 use Rattle.fab_model.specs.Sending.{Order, first_fault, is_granted, is_too_long, is_well_formed, transmit, transmit_fault}
 use Rattle.fab_model.specs.Receiving.{claim_of, is_claim, lacks_room, look, look_fault, may_receive, source_is_known, want_of}
 use Rattle.fab_model.specs.Arrivals.{do_head}

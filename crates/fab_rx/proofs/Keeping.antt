@@ -11,7 +11,8 @@ use Rattle.fab_base.specs.declared.operations.Receive.{Receive}
 use Rattle.fab_base.specs.declared.operations.Arrival.{Arrival}
 use Rattle.fab_base.specs.declared.operations.Coming.{Coming}
 use Rattle.fab_base.specs.declared.operations.Coming.TheVariants.{Into as IntoReceive, Keep as KeepIt}
-use Rattle.fab_model.specs.Matching.{is_message, matches, takes, remove_first}
+use Rattle.fab_model.specs.Matching.{matches, takes, remove_first}
+use Rattle.fab_base.specs.Kinds.{is_message}
 use Rattle.fab_model.specs.State.{coming_from, raise}
 use Rattle.fab_model.specs.Arrivals.{is_wanted, taker, newcomer, way_of, heading_message, heading_other, seated as seated_after, shut, stays}
 use Rattle.fab_match.specs.Signs.{sign_of, fits}

@@ -9,7 +9,8 @@ use Rattle.fab_base.specs.declared.operations.Receive.{Receive}
 use Rattle.fab_base.specs.declared.operations.Arrival.{Arrival}
 use Rattle.fab_base.specs.declared.operations.Coming.{Coming}
 use Rattle.fab_base.specs.declared.operations.Coming.TheVariants.{Into, Keep, Throw, Request, Answer}
-use Rattle.fab_model.specs.Matching.{is_message, takes, change_first, remove_first}
+use Rattle.fab_model.specs.Matching.{takes, change_first, remove_first}
+use Rattle.fab_base.specs.Kinds.{is_message}
 use Rattle.fab_model.specs.State.{Receiving, coming_from, under_way}
 use Rattle.fab_model.specs.Complete.{filled, filling, is_made_by}
 use Rattle.fab_model.specs.Arrivals.{heading_message, heading_other, is_wanted, keeping, made_whole, taker, way_of}

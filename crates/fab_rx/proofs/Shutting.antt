@@ -22,7 +22,8 @@ use Rattle.fab_rx.specs.Sharing.{IsUsable, is_closed, is_spent, left_by, multi_a
 use Rattle.std.proofs.lemmas.Bool.{eq-eqb}
 use Rattle.std.proofs.lemmas.List.{append-nil}
 use Rattle.fab_base.specs.declared.operations.Receive.{Receive}
-use Rattle.fab_model.specs.Matching.{change_first, is_message, matches, remove_first}
+use Rattle.fab_model.specs.Matching.{change_first, matches, remove_first}
+use Rattle.fab_base.specs.Kinds.{is_message}
 use Rattle.fab_model.specs.State.{Receiving, coming_from, is_into, under_way}
 use Rattle.fab_model.specs.Complete.{filled, filling, is_made_by}
 use Rattle.fab_model.specs.Arrivals.{heading_message, heading_other, is_wanted, made_whole, shut, stays, taker, used_up, way_of}

@@ -10,7 +10,8 @@ use Rattle.fab_base.specs.declared.items.Want.{Want}
 use Rattle.fab_base.specs.declared.items.Sign.{Sign}
 use Rattle.fab_base.specs.declared.operations.Receive.{Receive}
 use Rattle.fab_base.specs.declared.operations.Coming.TheVariants.{Into as IntoReceive}
-use Rattle.fab_model.specs.Matching.{is_message, matches, change_first, remove_first}
+use Rattle.fab_model.specs.Matching.{matches, change_first, remove_first}
+use Rattle.fab_base.specs.Kinds.{is_message}
 use Rattle.fab_model.specs.State.{coming_from, raise}
 use Rattle.fab_model.specs.Arrivals.{heading_message, is_wanted, seated as seated_after, shut, stays, used_up}
 use Rattle.fab_match.specs.Signs.{fits}

@@ -39,6 +39,7 @@ pub use Rattle.fab_model.specs.Matching
 pub use Rattle.fab_model.specs.Peers
 pub use Rattle.fab_model.specs.Negotiation
 pub use Rattle.fab_base.specs.Granted
+pub use Rattle.fab_base.specs.Kinds
 pub use Rattle.fab_base.specs.Offer
 pub use Rattle.fab_model.specs.Orders
 pub use Rattle.fab_model.specs.Views

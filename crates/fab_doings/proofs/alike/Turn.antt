@@ -2,7 +2,7 @@
 use Rattle.std.proofs.Common.{◌≡◌, ◌<◌, ◌≤◌, ◌+◌, ℕ, zero, suc, Bool, true, false, List, [], ◌∷◌, ◌++◌, length, length-append, map, Some, None, slice_get, ◌⊎◌, inl, inr, refl, sym, ◌∙◌, ap, subst, arith, append_assoc}
 use Rattle.fab_base.specs.declared.items.Item.{Item}
 use Rattle.fab_base.specs.declared.operations.Receive.{Receive}
-use Rattle.fab_model.specs.Matching.{is_message}
+use Rattle.fab_base.specs.Kinds.{is_message}
 use Rattle.fab_laws.specs.Members.{Ahead, In, Never}
 use Rattle.fab_laws.specs.Matched.{Came, Cancelled, CancelledBefore, Event, Got, Lost, Made, Mark, Wish, came, cancelled, closed, gone, made, wish_of, wishes}
 use Rattle.fab_laws.specs.Claimed.{lost}

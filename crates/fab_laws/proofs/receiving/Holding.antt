@@ -11,7 +11,7 @@ use Rattle.fab_base.specs.declared.operations.Coming.TheVariants.{Into, Keep, Th
 use Rattle.fab_base.specs.declared.operations.Receive.{Receive}
 use Rattle.fab_base.specs.declared.operations.Written.{Written}
 use Rattle.fab_base.specs.declared.script.Conf.{Conf}
-use Rattle.fab_model.specs.Matching.{is_message}
+use Rattle.fab_base.specs.Kinds.{is_message}
 use Rattle.fab_model.specs.State.{State, Receiving, coming_from, under_way}
 use Rattle.fab_model.specs.Complete.{entry_of, is_made_by}
 use Rattle.fab_model.specs.Receiving.{Posting, receive_of, taking}

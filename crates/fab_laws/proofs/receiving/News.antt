@@ -9,7 +9,8 @@ use Rattle.fab_base.specs.declared.operations.Coming.{Coming}
 use Rattle.fab_base.specs.declared.operations.Coming.TheVariants.{Into, Keep, Throw}
 use Rattle.fab_base.specs.declared.operations.Receive.{Receive}
 use Rattle.fab_base.specs.declared.operations.Written.{Written}
-use Rattle.fab_model.specs.Matching.{is_message, remove_first, takes}
+use Rattle.fab_model.specs.Matching.{remove_first, takes}
+use Rattle.fab_base.specs.Kinds.{is_message}
 use Rattle.fab_model.specs.State.{Receiving, State, coming_from}
 use Rattle.fab_model.specs.Receiving.{Posting, claim_of, goes, receive_of, taking, want_of, without_claim, without_first}
 use Rattle.fab_model.specs.Complete.{filling}

@@ -17,9 +17,10 @@ use Rattle.fab_base.specs.declared.operations.Coming.TheVariants.{Into, Keep, Th
 use Rattle.fab_base.specs.declared.operations.Receive.{Receive}
 use Rattle.fab_base.specs.declared.operations.Written.{Written}
 use Rattle.fab_base.specs.declared.script.Conf.{Conf}
-use Rattle.fab_model.specs.Matching.{change_first, is_message, remove_first, takes}
+use Rattle.fab_model.specs.Matching.{change_first, remove_first, takes}
+use Rattle.fab_base.specs.Kinds.{at_delivery, is_message}
 use Rattle.fab_model.specs.State.{State, coming_from, raise, with_rx}
-use Rattle.fab_model.specs.Complete.{paste, tag_of, at_delivery, book, entry_of, fill, received, release, truncated}
+use Rattle.fab_model.specs.Complete.{paste, tag_of, book, entry_of, fill, received, release, truncated}
 use Rattle.fab_base.specs.Replies.{at_either}
 use Rattle.fab_model.specs.Receiving.{draws, give, without_first}
 use Rattle.fab_model.specs.Peers.{reading}

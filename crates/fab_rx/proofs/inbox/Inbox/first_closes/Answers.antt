@@ -1,6 +1,6 @@
 use Rattle.std.proofs.Common.{◌≡◌, ◌∙◌, ◌<◌, true, false, List, None, Option, Some, length, sym, ap, subst, rules}
 use Rattle.std.specs.Prelude.{is_some}
-use Rattle.fab_model.specs.Matching.{is_message}
+use Rattle.fab_base.specs.Kinds.{is_message}
 use Rattle.fab_match.specs.Matcher.{first_id}
 use Rattle.fab_match.specs.Signs.{fits}
 use Rattle.fab_rx.specs.declared.stored.Begun.{Begun}
