@@ -1,5 +1,5 @@
 //! Operations end: they count, and their completion is written unless it is silent and a success.
-ghost use Rattle.std.specs.Prelude.{◌≡◌, IsTrue, is_none, is_some, IfNone, true, false, None, Some, Bool, unwrap_or, []};
+ghost use Rattle.std.specs.Prelude.{◌≡◌, IsTrue, is_none, is_some, true, false, None, Some, unwrap_or, []};
 ghost use Rattle.fab_base.specs.declared.entries.Taken.TheVariants.{Failure};
 ghost use Rattle.fab_model.specs.Complete.{error};
 ghost use Rattle.fab_model.specs.State.{counting};
@@ -10,7 +10,7 @@ ghost use Rattle.fab_tx.specs.Transit.{answered_by, finds_answered};
 ghost use Rattle.fab_ends.specs.Ends.{answer_writes, as_operation, counters_after, cq_after, entry_at_end, writes_end, written_if};
 
 use crate::calls::EndsWhenAnswered;
-use fab_base::{Buf, Class, Entry, ErrEntry, ErrKind, Form, Item, ItemHead, Kind, Outcome, Taken};
+use fab_base::{Buf, Class, Entry, ErrEntry, ErrKind, Item, ItemHead, Kind, Outcome, Taken};
 use fab_cq::{Counters, Queue};
 use fab_record::caller::Caller;
 use fab_tx::{Ended, Outbox};

@@ -3,9 +3,6 @@ ghost use Rattle.std.specs.Prelude.{◌≡◌, ◌<◌, true, length, slice_inde
 ghost use Rattle.fab_base.specs.declared.entries.Class.TheVariants.{Recv};
 ghost use Rattle.fab_base.specs.declared.entries.Entry.TheVariants.{Released as GivenBack};
 ghost use Rattle.fab_base.specs.declared.entries.Taken.TheVariants.{Success};
-ghost use Rattle.fab_model.specs.Complete.{reply_head};
-ghost use Rattle.fab_base.specs.Kinds.{at_delivery, at_match};
-ghost use Rattle.fab_base.specs.Replies.{at_either};
 ghost use Rattle.fab_model.specs.State.{counting, writing};
 ghost use Rattle.fab_cq.specs.Queues.{has_room};
 ghost use Rattle.fab_ends.specs.Ends.{booked, reply_to, unread_of};

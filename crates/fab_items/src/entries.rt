@@ -1,12 +1,11 @@
 //! The completions of receives and operations (fi_cq(3)).
-ghost use Rattle.std.specs.Prelude.{◌≡◌, ◌+◌, ◌-◌, [], length, IfOk, OnOk, None, Some, unwrap_or};
+ghost use Rattle.std.specs.Prelude.{◌≡◌, ◌+◌, ◌-◌, [], length, IfOk, None, Some, unwrap_or};
 ghost use Rattle.fab_model.specs.Complete.{paste, tag_of, error, has_space, received, truncated, entry_of};
 ghost use Rattle.fab_model.specs.Sending.{success_of};
-ghost use Rattle.fab_base.specs.Kinds.{refusal_of};
 
 use crate::lists::narrowed;
 use fab_base::{
-    Buf, Entry, ErrEntry, ErrKind, ItemHead, Kind, NoMemory, Operation, Outcome, Receive, Taken,
+    Buf, Entry, ErrEntry, ErrKind, ItemHead, Kind, NoMemory, Operation, Receive, Taken,
 };
 use std::alloc::Global;
 

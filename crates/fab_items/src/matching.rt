@@ -3,7 +3,6 @@ ghost use Rattle.std.specs.Prelude.{◌≡◌, find, position, IfNone};
 ghost use Rattle.std.specs.Option.{option_map};
 ghost use Rattle.std.specs.List.{list_any};
 ghost use Rattle.fab_model.specs.Matching.{matches, takes, remove_first};
-ghost use Rattle.fab_base.specs.Kinds.{is_tagged, is_message};
 
 use fab_base::{Arrival, ItemHead, Kind, Want};
 

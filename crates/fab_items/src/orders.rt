@@ -1,14 +1,14 @@
 //! Transmit calls, and the items that they make (fi_msg(3), fi_tagged(3), fi_rma(3), fi_atomic(3)).
 ghost use Rattle.std.specs.Prelude.{◌≡◌, ◌+◌, ◌++◌, ◌≤◌, length, IfOk};
 ghost use Rattle.fab_base.specs.Elements.{element_size, is_of_form};
-ghost use Rattle.fab_model.specs.Sending.{atom_is_granted, is_granted, most_bytes, is_too_long, is_well_formed, ack_of, head_of, is_silent, class_of};
+ghost use Rattle.fab_model.specs.Sending.{atom_is_granted, is_granted, most_bytes, is_too_long, is_well_formed, ack_of, head_of, class_of};
 ghost use Rattle.fab_base.specs.Kinds.{is_answered};
 ghost use Rattle.fab_model.specs.Complete.{reply_head};
 ghost use Rattle.fab_items.specs.Seen.{order_of};
 
 use fab_base::{
     Ack, Atom, AtomicOp, Buf, Caps, Class, Form, INJECT_BYTES, ItemHead, Kind, Level, NoMemory,
-    Num, Outcome,
+    Outcome,
 };
 
 /// A transmit call. `injected` says that it is one of the inject calls. `bytes` are those of the message,

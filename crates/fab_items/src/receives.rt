@@ -1,14 +1,12 @@
 //! One receive, and one message that it takes (fi_msg(3), fi_tagged(3)).
 ghost use Rattle.std.specs.Prelude.{◌≡◌, ℕ, IfOk};
 ghost use Rattle.fab_base.specs.declared.operations.Receive.{Receive};
-ghost use Rattle.fab_base.specs.Kinds.{at_delivery, at_match};
-ghost use Rattle.fab_base.specs.Replies.{at_either};
 ghost use Rattle.fab_model.specs.Arrivals.{stays, used_up};
 ghost use Rattle.fab_model.specs.Receiving.{draws, peeked};
 
 use crate::lists::narrowed;
 use crate::matching::takes_any;
-use fab_base::{Ack, Arrival, Entry, NoMemory, PeekHow, Receive};
+use fab_base::{Arrival, Entry, NoMemory, PeekHow, Receive};
 
 /// How many bytes of the receive are given away once it took a message of this length.
 pub fn used_up(total: u32, receive: &Receive) -> Result<u32, NoMemory>

@@ -1,16 +1,16 @@
 //! What a request does to the regions of its target (fi_rma(3), fi_atomic(3), fi_mr(3)).
-ghost use Rattle.std.specs.Prelude.{◌≡◌, [], take, drop, find, position, IfNone, OnOk, IfOk, Some};
+ghost use Rattle.std.specs.Prelude.{◌≡◌, [], find, position, IfNone, OnOk, IfOk, Some};
 ghost use Rattle.std.specs.Option.{option_map};
 ghost use Rattle.fab_base.specs.declared.items.Outcome.{Outcome};
 ghost use Rattle.fab_items.specs.Seen.{performed_of};
 ghost use Rattle.fab_items.specs.NewElements.{is_done};
 ghost use Rattle.fab_model.specs.Matching.{change_first, remove_first};
-ghost use Rattle.fab_model.specs.Target.{may_access, reach_of, outcome_of, is_keyed, range_of, changed_range, put_range, handed_back, perform};
+ghost use Rattle.fab_model.specs.Target.{may_access, reach_of, outcome_of, is_keyed, changed_range, put_range, handed_back, perform};
 ghost use Rattle.fab_base.specs.Kinds.{is_read_only, is_base};
 
 use crate::atomics::elements;
 use crate::lists::split;
-use fab_base::{Access, Atom, AtomicOp, Buf, Form, ItemHead, Kind, NoMemory, Outcome};
+use fab_base::{Access, Buf, Form, ItemHead, Kind, NoMemory, Outcome};
 use std::alloc::Global;
 use std::marker::Model;
 use std::mem;

@@ -13,7 +13,6 @@ ghost use Rattle.fab_halves.specs.Places.{taken_first};
 
 use crate::state::State;
 use fab_base::{Arrival, Buf, Busy, Coming, Fault, LineResult, NoMemory, Receive, Want};
-use fab_items::entries::plain_error;
 use fab_items::matching::first_taken;
 
 /// A call of recv, trecv or recv_multi. `source` is an index of the address vector, `len` the length of

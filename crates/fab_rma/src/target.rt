@@ -2,18 +2,15 @@
 ghost use Rattle.std.specs.Prelude.{◌≡◌, ◌≢◌, ◌+◌, ◌<◌, ◌≤◌, ◌∷◌, ◌++◌, [], length, take, drop, true, None, Some, Ok, IfOk, IfErr, IfSome, MatchOption, OnOk, OnErr, slice_index, slice_set, if◌then◌else◌};
 ghost use Rattle.std.specs.Option.{option_map, ok_or};
 ghost use Rattle.fab_wire.specs.Frames.{IsSound};
-ghost use Rattle.fab_model.specs.State.{Region};
 ghost use Rattle.fab_model.specs.Matching.{change_first, remove_first};
-ghost use Rattle.fab_model.specs.Target.{is_keyed, may_access, outcome_of, perform, put_range, reach_of};
+ghost use Rattle.fab_model.specs.Target.{is_keyed, may_access, perform, put_range, reach_of};
 ghost use Rattle.fab_base.specs.Kinds.{is_base, is_read_only};
 ghost use Rattle.fab_mr.specs.Regions.{region, region_at, reaches_past};
 ghost use Rattle.fab_rma.specs.Serving.{compared, is_request, nothing_served, outcome_at, room_for};
 
 use crate::elements::Elements;
 use crate::room::Room;
-use fab_base::{
-    Access, Atom, AtomicOp, Buf, Fault, Form, ItemHead, Kind, NoMemory, Outcome, Refused,
-};
+use fab_base::{Access, Atom, Buf, Fault, Form, ItemHead, Kind, NoMemory, Outcome, Refused};
 use fab_mr::Regions;
 use std::alloc::Global;
 use std::marker::Model;
