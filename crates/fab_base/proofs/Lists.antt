@@ -7,7 +7,7 @@ use Rattle.std.proofs.lemmas.List.Elements.{All-contains, Contains-append_left, 
 use Rattle.std.proofs.lemmas.List.Sums.{sum_by-append, sum_by-cons}
 use Rattle.std.proofs.lemmas.Option.{get_or_from_slice_get, none-some, same_Some, slice_get_within}
 use Rattle.std.specs.List.{All, list_all, list_any}
-use Rattle.std.specs.Prelude.{count_by, find}
+use Rattle.std.specs.Prelude.{IfSome, count_by, find, is_some, option_to_list}
 use mathlib.Core.List.{IsPrefix}
 
 pub set_same : {X : Type 0} (xs : List X) (i : ℕ) (d : X) → set xs i (get_or xs i d) ≡ xs
@@ -147,3 +147,19 @@ drop_get (x ∷ xs) (suc k) y ys e = drop_get xs k y ys e
 pub append_same : {X : Type 0} (xs ys zs : List X) → xs ++ ys ≡ xs ++ zs → ys ≡ zs
 append_same [] ys zs e = e
 append_same (x ∷ xs) ys zs e = append_same xs ys zs (cc)
+
+any_by : {X : Type 0} (test : X → Bool) (x : X) (xs : List X) (b : Bool) → test x ≡ b → list_any test xs ≡ is_some (find test xs) → (b || list_any test xs) ≡ is_some (cond b (Some x) (find test xs))
+any_by test x xs true e ih = refl
+any_by test x xs false e ih = ih
+
+pub list_any-find : {X : Type 0} (test : X → Bool) (xs : List X) → list_any test xs ≡ is_some (find test xs)
+list_any-find test [] = refl
+list_any-find test (x ∷ xs) = any_by test x xs (test x) refl (list_any-find test xs)
+
+-- what holds of each member holds of each that is left without the last, and of the last
+pub rest_is : {X : Type 0} (F : X → Type 0) (old new : List X) (o : Option X) → old ≡ new ++ option_to_list o → ((k : ℕ) (x : X) → slice_get old k ≡ Some x → F x) → (k : ℕ) (x : X) → slice_get new k ≡ Some x → F x
+rest_is {X = X} F old new o is all k x e = all k x (ap (λ (z : List X). slice_get z k) is ∙ prefix_get new (option_to_list o) k x e)
+
+pub last_is : {X : Type 0} (F : X → Type 0) (old new : List X) (o : Option X) → old ≡ new ++ option_to_list o → ((k : ℕ) (x : X) → slice_get old k ≡ Some x → F x) → IfSome o F
+last_is F old new None is all = tt
+last_is {X = X} F old new (Some x) is all = all (length new) x (ap (λ (z : List X). slice_get z (length new)) is ∙ get_last new x)
