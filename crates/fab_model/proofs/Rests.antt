@@ -11,6 +11,7 @@ use Rattle.fab_base.specs.declared.entries.PeekHow.TheVariants.{Peek, Claim, Dis
 use Rattle.fab_base.specs.declared.operations.Receive.{Receive}
 use Rattle.fab_base.specs.declared.operations.Arrival.{Arrival}
 use Rattle.fab_base.specs.declared.operations.Operation.{Operation}
+use Rattle.fab_base.proofs.Numbers.{le_same as calls_le}
 use Rattle.fab_model.specs.Matching.{takes}
 use Rattle.fab_model.specs.State.{State, with_rx, called}
 use Rattle.fab_model.specs.Complete.{fill, release, release_multi, reply, book}
@@ -51,9 +52,6 @@ book_rests false source head s = same refl refl (omega arith)
 pub fill_rests : (r : Receive) (place source : ℕ) (head : ItemHead) (bytes : List ℕ) (s : State) → Rests s (fill r place source head bytes s)
 unfolding fill
 fill_rests r place source head bytes s = same refl refl (omega arith)
-
-calls_le : (a b : ℕ) → b ≡ a → a ≤ b
-calls_le a b e = omega (arith, e)
 
 pub release_rests : (r : Receive) (s : State) → Rests s (release r s)
 unfolding release_multi
