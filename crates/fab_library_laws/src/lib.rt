@@ -32,8 +32,9 @@ pub fn law_library()
 
 /// What a thread received of another is, in order, the first of what that one sent to it, by their own records.
 ///
-/// It is said of just the records of which `close_all` says that they are a run: threads that send and receive, of which the one's receives under
-/// some contexts want the same of the other, and have room for what it sent.
+/// It holds of just the records of which `close_all` says that they are a run, where both threads only send, receive and read entries. It is
+/// about the one's receives under some contexts: these all want the same messages of the other, no other receive of the one matches any of
+/// them, and each of these has room for each of them.
 pub fn law_library_heard()
     ensures heard { LibraryHears }
 {
