@@ -4,6 +4,7 @@ use Rattle.std.specs.Prelude.{find, filter, nat_lt, not, count_by}
 use Rattle.std.specs.Option.{option_and_then}
 use Rattle.std.proofs.lemmas.Bool.{eqb-true, eqb-false, eq-eqb, and_right, and_parts, ltb-true, lt-ltb}
 use Rattle.slab.specs.Slab.{Slab, get, slab_len}
+use Rattle.fab_base.proofs.Lists.{length-filter-le}
 use Rattle.fab_model.specs.Matching.{remove_first}
 use Rattle.fab_bins.specs.declared.shelf.Card.{Card}
 use Rattle.fab_bins.specs.declared.shelf.Shelf.{Shelf}
@@ -14,7 +15,7 @@ use Rattle.fab_bins.specs.Bins.{bin}
 use Rattle.fab_bins.specs.Shelf.{passes, held, listed, read, places, cards, is_within, IsFiled, Keeps, IsKept, StaysIn}
 use Rattle.fab_bins.proofs.Leading.{In, Round-in}
 use Rattle.fab_bins.proofs.Walking.{read-leads}
-use Rattle.fab_bins.proofs.Lists.{Each-append, Each-filter, Each-both, Each-in, IsDistinct-push, IsDistinct-others, Lacks-others, length-filter-le, In-filter, first_out}
+use Rattle.fab_bins.proofs.Lists.{Each-append, Each-filter, Each-both, Each-in, IsDistinct-push, IsDistinct-others, Lacks-others, In-filter, first_out}
 use Rattle.fab_bins.proofs.Filing.{length-listed, listed-append, listed-same, held-same, find-filed, find-listed, listed-remove_first, Lacks-vacant, IsFiled-removed, IsFiled-added}
 
 length-read : (heads : ℕ) (next : ℕ → ℕ) (n node : ℕ) → length (read heads next n node) ≡ n

@@ -1,7 +1,6 @@
 -- Lists whose members each have something, and the first of some.
-use Rattle.std.proofs.Common.{◌≡◌, ◌≢◌, ◌≤◌, ◌+◌, ◌==◌, ℕ, Bool, true, false, not, cond, ◌&&◌, List, [], ◌∷◌, ◌++◌, Some, None, is_some, length, refl, sym, ap, ◌∙◌, subst, inl, inr, arith}
+use Rattle.std.proofs.Common.{◌≡◌, ◌≢◌, ◌+◌, ◌==◌, ℕ, Bool, true, false, not, cond, ◌&&◌, List, [], ◌∷◌, ◌++◌, Some, length, refl, sym, ap, ◌∙◌, subst, inl, inr, arith}
 use Rattle.std.specs.Prelude.{find, filter}
-use Rattle.std.specs.List.{list_any}
 use Rattle.std.proofs.lemmas.Bool.{eqb-false, eq-eqb, ne_eqb}
 use Rattle.fab_model.specs.Matching.{remove_first}
 use Rattle.fab_bins.specs.Each.{Each, Lacks, IsDistinct, others}
@@ -108,15 +107,6 @@ module _ {X : Type 0} (p q : X → Bool) where
   find-filter [] = refl
   find-filter (x ∷ xs) = find_step x xs (p x) (q x) refl refl (find-filter xs)
 
-module _ {X : Type 0} (p : X → Bool) where
-  le_step : (x : X) (xs : List X) (t : Bool) → p x ≡ t → length (filter p xs) ≤ length xs → length (filter p (x ∷ xs)) ≤ length (x ∷ xs)
-  le_step x xs true t more = rw t (omega arith)
-  le_step x xs false t more = rw t (omega arith)
-
-  pub length-filter-le : (xs : List X) → length (filter p xs) ≤ length xs
-  length-filter-le [] = omega arith
-  length-filter-le (x ∷ xs) = le_step x xs (p x) refl (length-filter-le xs)
-
 module _ (p : ℕ → Bool) (x : ℕ) where
   in_step : (y : ℕ) (xs : List ℕ) (t : Bool) → p y ≡ t → p x ≡ true → In x (y ∷ xs) → (In x xs → In x (filter p xs)) → In x (filter p (y ∷ xs))
   in_step y xs true t e (inl same) more = rw t (inl same)
@@ -145,28 +135,3 @@ module _ {X : Type 0} (p q : X → Bool) where
   pub find-same : (xs : List X) → Each (λ x. p x ≡ q x) xs → find p xs ≡ find q xs
   find-same [] e = refl
   find-same (x ∷ xs) e = same_step x xs e.0 (find-same xs e.1)
-
-module _ {X : Type 0} (test : X → Bool) where
-  any_step : (x : X) (xs : List X) (t : Bool) → test x ≡ t → list_any test xs ≡ is_some (find test xs) → list_any test (x ∷ xs) ≡ is_some (find test (x ∷ xs))
-  any_step x xs true t more = rw t refl
-  any_step x xs false t more = rw t more
-
-  pub list_any-find : (xs : List X) → list_any test xs ≡ is_some (find test xs)
-  list_any-find [] = refl
-  list_any-find (x ∷ xs) = any_step x xs (test x) refl (list_any-find xs)
-
-  none_step : (x : X) (xs : List X) (t : Bool) → test x ≡ t → cond t (Some x) (find test xs) ≡ None → (find test xs ≡ None → remove_first test xs ≡ xs) → remove_first test (x ∷ xs) ≡ x ∷ xs
-  none_step x xs true t e more = absurd (cc)
-  none_step x xs false t e more = rw (t, remove_first) (ap (λ ys. x ∷ ys) (more e))
-
-  gone_step : (x : X) (xs : List X) (t : Bool) → test x ≡ t → length (remove_first test xs) ≤ length xs → length (remove_first test (x ∷ xs)) ≤ length (x ∷ xs)
-  gone_step x xs true t more = rw (t, remove_first) (omega arith)
-  gone_step x xs false t more = rw (t, remove_first) (omega arith)
-
-  pub length-remove_first-le : (xs : List X) → length (remove_first test xs) ≤ length xs
-  length-remove_first-le [] = omega arith
-  length-remove_first-le (x ∷ xs) = gone_step x xs (test x) refl (length-remove_first-le xs)
-
-  pub remove_first-none : (xs : List X) → find test xs ≡ None → remove_first test xs ≡ xs
-  remove_first-none [] e = refl
-  remove_first-none (x ∷ xs) e = none_step x xs (test x) refl e (λ f. remove_first-none xs f)

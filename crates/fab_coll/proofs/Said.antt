@@ -1,5 +1,5 @@
 -- What is said of a round: shares of the shape that its kind asks for, each with as many bytes as its word says.
-use Rattle.std.proofs.Common.{All, Bool, List, drop, None, Option, Some, [], ap, arith, false, length, length-append, refl, subst, suc, sym, true, zero, ℕ, ◌%◌, ◌++◌, ◌+◌, ◌/◌, ◌<◌, ◌∙◌, ◌∷◌, ◌≡◌, ◌≤◌}
+use Rattle.std.proofs.Common.{All, Bool, List, drop, None, Option, Some, [], ap, arith, false, length, length-append, refl, subst, suc, sym, true, zero, ℕ, ◌%◌, ◌++◌, ◌+◌, ◌<◌, ◌∙◌, ◌∷◌, ◌≡◌, ◌≤◌}
 use Rattle.std.proofs.Math.Nat.{add-mod_right, zero-mod}
 use Rattle.std.proofs.lemmas.Bool.{and_parts, eqb-true}
 use Rattle.std.proofs.lemmas.List.Elements.{All-cons, All-head, All-nil, All-tail}
@@ -17,7 +17,7 @@ use Rattle.fab_words.specs.Misreads.{map_ok, ◌&◌}
 use Rattle.fab_words.specs.Words.{only_if, read_number, ◌>>=◌}
 use Rattle.fab_words.specs.declared.misread.Misread.TheVariants.{Number, Words}
 use Rattle.fab_words.specs.declared.misread.Misread.{Misread}
-use Rattle.fab_grammar.specs.Atomics.{add_elements, atom_named, element, le_bytes, num_named, read_elements, value_of}
+use Rattle.fab_grammar.specs.Atomics.{add_elements, atom_named, element, num_named, read_elements, value_of}
 use Rattle.fab_grammar.specs.Capabilities.{is_comma}
 use Rattle.fab_fold.specs.Shares.{is_reducing}
 use Rattle.fab_fold.specs.declared.coll.Coll.TheVariants.{Allgather, Allreduce, Barrier, Broadcast}
@@ -27,6 +27,8 @@ use Rattle.std.specs.Prelude.{codes, nat_lt}
 use Rattle.fab_words.specs.Words.{begins_with}
 use Rattle.hex.specs.Hex.{decode_of}
 use Rattle.hex.specs.declared.error.FromHexError.{FromHexError}
+use Rattle.fab_spell.proofs.Elements.{length-element as element_long}
+use Rattle.fab_spell.proofs.Said.{said_by as ok_map, both_said as ok_both}
 use Rattle.fab_coll.specs.declared.lines.Verb.{Verb}
 use Rattle.fab_coll.specs.declared.lines.Verb.TheVariants as verb
 use Rattle.fab_coll.specs.declared.shares.Written.{Written}
@@ -35,16 +37,6 @@ use Rattle.fab_coll.specs.Grammar.{Said, a_broadcast, allreduce_of, are_alike, b
 use Rattle.fab_coll.specs.Reading.{IsSized}
 
 -- ---- answers taken apart
-
-ok_map : {A B : Type 0} (f : A → B) (r : Result A Misread) (x : B) → map_ok f r ≡ Ok x → (y : A) × (r ≡ Ok y) × (f y ≡ x)
-ok_map f (Ok y) x e = (y, refl, cc)
-ok_map f (Err fault) x e = absurd (cc)
-
-ok_both : {A B : Type 0} (a : Result A Misread) (b : Result B Misread) (p : A × B) → (a & b) ≡ Ok p → (a ≡ Ok p.0) × (b ≡ Ok p.1)
-ok_both (Ok x) (Ok y) p e = let same : (x, y) ≡ p = cc in (ap (λ q. Ok q.0) same, ap (λ q. Ok q.1) same)
-ok_both (Ok x) (Err g) p e = absurd (cc)
-ok_both (Err f) (Ok y) p e = absurd (cc)
-ok_both (Err f) (Err g) p e = absurd (cc)
 
 -- ---- what is said of shares
 
@@ -97,14 +89,6 @@ share_sized word b e = text (begins_with (codes "text:") word) e
         → IsSized b
     text true f = let same : Text (drop 5 word) ≡ b = cc in subst IsSized same refl
     text false f = hex_form (begins_with (codes "hex:") word) f
-
-le_long : (k n : ℕ) → length (le_bytes k n) ≡ k
-le_long zero n = refl
-le_long (suc k) n = omega (arith, le_long k (n / 256))
-
-element_long : (num : Num) (n : ℕ) → length (element num n) ≡ element_size num
-unfolding element
-element_long num n = le_long (element_size num) n
 
 elements_whole : (num : Num) (words : List (List ℕ)) (bytes out : List ℕ) → length bytes % element_size num ≡ 0 → add_elements num bytes words ≡ Ok out → length out % element_size num ≡ 0
 elements_whole num [] bytes out whole e = let same : bytes ≡ out = cc in ap (λ (xs : List ℕ). length xs % element_size num) (sym same) ∙ whole

@@ -1,8 +1,7 @@
 -- The rounds that a file spells are within its rules.
-use Rattle.std.proofs.Common.{All, Bool, List, None, Option, Some, [], ap, arith, false, length, length-append, map, not, refl, subst, sym, true, ℕ, ◌%◌, ◌++◌, ◌+◌, ◌<◌, ◌||◌, ◌∙◌, ◌∷◌, ◌≡◌, ◌≤◌}
+use Rattle.std.proofs.Common.{All, Bool, List, None, Option, Some, [], ap, arith, false, length, length-append, map, not, refl, subst, sym, true, ℕ, ◌%◌, ◌++◌, ◌+◌, ◌||◌, ◌∙◌, ◌∷◌, ◌≡◌, ◌≤◌}
 use Rattle.std.proofs.Math.Nat.{zero-mod}
-use Rattle.std.proofs.lemmas.Bool.Decides.{nat_tests}
-use Rattle.std.proofs.lemmas.Bool.{and_parts, eqb-true}
+use Rattle.std.proofs.lemmas.Bool.{and_parts, eqb-true, or_parts as or_none}
 use Rattle.std.proofs.lemmas.List.Elements.{All-append, All-cons, All-head, All-nil, All-tail}
 use Rattle.std.proofs.lemmas.List.{length-map}
 use Rattle.std.specs.List.{list_all}
@@ -28,6 +27,8 @@ use Rattle.fab_coll.specs.declared.lines.Verb.TheVariants as verb
 use Rattle.fab_coll.specs.Grammar.{Before, Refusal, Said, a_round, are_alike, are_much, are_short, is_header, nothing, out_of_range, peers_of, peers_rules, read_lines, round_rules, rounds_said, said_of, said_rules, then_rounds, verb_of, verb_rules, verdict, why_of, with_line, with_peers, with_round, with_verb, with_words, word_rules}
 use Rattle.fab_script.specs.declared.refused.ParseRefused.{ParseRefused}
 use Rattle.std.specs.Prelude.{IfOk}
+use Rattle.fab_base.proofs.Bools.{not_false}
+use Rattle.fab_base.proofs.Numbers.{le_is, le_not as above}
 use Rattle.fab_coll.specs.declared.round.CollScript.{CollScript}
 use Rattle.fab_coll.specs.Reading.{IsSized, IsVerdict}
 use Rattle.fab_coll.proofs.Said.{Shape, Whole, said_right}
@@ -38,14 +39,6 @@ first_none : {A : Type 0} (b : Bool) (a : A) (xs : List (Bool × A)) → first_o
 first_none true a xs e = absurd (cc)
 first_none false a xs e = (refl, e)
 
-or_none : (a b : Bool) → (a || b) ≡ false → (a ≡ false) × (b ≡ false)
-or_none true b e = absurd (cc)
-or_none false b e = (refl, e)
-
-not_false : (b : Bool) → not b ≡ false → b ≡ true
-not_false true e = refl
-not_false false e = absurd (cc)
-
 -- ---- shares that are alike and short
 
 module _ (share : BytesWord) where
@@ -55,9 +48,6 @@ module _ (share : BytesWord) where
       let parts = and_parts _ _ e in
       All-cons (λ bytes. length bytes ≡ bytes_size share) (word_bytes w) (map word_bytes ws)
       (All-head IsSized w ws sized ∙ eqb-true (bytes_size w) (bytes_size share) parts.0) (alike_bytes ws (All-tail IsSized w ws sized) parts.1)
-
-le_is : (a b : ℕ) → nat_le a b ≡ true → a ≤ b
-le_is a b e = grind (arith, nat_tests, e)
 
 alike_is : (ws : List BytesWord) → All IsSized ws → are_alike ws ≡ true → list_all (λ share. nat_le (bytes_size share) 4096) ws ≡ true → (len : ℕ) × (len ≤ 4096) × AreAlike len (map word_bytes ws)
 alike_is [] sized alike short = (0, omega arith, All-nil (λ bytes. length bytes ≡ 0))
@@ -80,9 +70,6 @@ alike_whole num (w ∷ ws) sized whole alike short = (
 root_short : (ws : List BytesWord) → length ws ≡ 1 → All IsSized ws → list_all (λ share. nat_le (bytes_size share) 4096) ws ≡ true → length (slice_index_or (map word_bytes ws) 0 []) ≤ 4096
 root_short [] one sized short = omega arith
 root_short (w ∷ ws) one sized short = omega (arith, All-head IsSized w ws sized, le_is (bytes_size w) 4096 (and_parts _ _ short).0)
-
-above : (a b : ℕ) → nat_le a b ≡ false → b < a
-above a b e = grind (arith, nat_tests, e)
 
 shares_so : (n : ℕ) (coll : Coll) (ws : List BytesWord) → Shape n coll ws → All IsSized ws → list_all (λ share. nat_le (bytes_size share) 4096) ws ≡ true
     → AreShares n coll (map word_bytes ws)

@@ -1,26 +1,21 @@
 -- The script of all rounds is settled, and its answer does all its lines.
-use Rattle.std.proofs.Common.{Bool, List, Option, Some, [], ap, ap₂, append_assoc, arith, cond, false, get_or, inl, inr, length, length-append, map, refl, subst, suc, sym, true, zero, ℕ, ◌*◌, ◌++◌, ◌+◌, ◌<◌, ◌||◌, ◌∙◌, ◌∷◌, ◌≡◌, ◌≢◌, ◌≤◌, ◌⊎◌}
-use Rattle.std.proofs.lemmas.Bool.{and_from, and_parts, eqb-true}
+use Rattle.std.proofs.Common.{Bool, List, Option, Some, [], ap, ap₂, append_assoc, arith, cond, false, inl, inr, length, length-append, map, refl, subst, suc, sym, true, zero, ℕ, ◌*◌, ◌++◌, ◌+◌, ◌<◌, ◌||◌, ◌∙◌, ◌∷◌, ◌≡◌, ◌≢◌, ◌≤◌, ◌⊎◌}
+use Rattle.std.proofs.lemmas.Bool.{and_from, eqb-true}
 use Rattle.std.proofs.lemmas.List.Elements.{All-head, All-tail, filter_map-append}
 use Rattle.std.proofs.lemmas.List.Folds.{list_all-append, list_any-append}
 use Rattle.std.specs.List.{list_all, list_any}
 use Rattle.std.specs.Option.{option_and_then}
 use Rattle.std.specs.Prelude.{All, filter_map, find, slice_index_or, ◌==◌}
 use Rattle.fab_base.specs.declared.operations.Receive.{Receive}
-use Rattle.fab_base.specs.declared.script.Bound.{Bound}
-use Rattle.fab_base.specs.declared.script.BytesWord.TheVariants.{File, Hex, Text, Zero}
-use Rattle.fab_base.specs.declared.script.Line.{Line}
-use Rattle.fab_base.specs.declared.script.LineOp.TheVariants.{TRecv, TSend, Wait}
+use Rattle.fab_base.specs.declared.script.BytesWord.TheVariants.{Hex}
 use Rattle.fab_base.specs.declared.script.LineOp.{LineOp}
 use Rattle.fab_model.specs.Matching.{remove_first}
-use Rattle.fab_model.specs.Replay.{bind_line, bind_op}
 use Rattle.fab_answer.specs.Partners.{Message, fits, partners}
 use Rattle.fab_answer.specs.Settled.{are_distinct, own_ctx}
 use Rattle.fab_answer.proofs.Lists.{Both, Each, In, always, each_append, each_so, in_back, in_front, never, same_number}
 use Rattle.fab_answer.proofs.peer.Refusals.{waits_op}
-use Rattle.fab_workloads.specs.Script.{all_numbered, numbered}
 use Rattle.fab_workload_laws.proofs.Done.{messages_of_more}
-use Rattle.fab_workload_laws.proofs.Ops.{is_simple, messages_of, ops, receive_from_op}
+use Rattle.fab_workload_laws.proofs.Ops.{is_simple, messages_of, receive_from_op}
 use Rattle.fab_workload_laws.proofs.Rooms.{Quiet, distinct_apart, quiet_append}
 use Rattle.fab_workload_laws.proofs.Settings.{conf, fits_it, posted, sent}
 use Rattle.fab_coll.specs.declared.round.Round.{Round}
@@ -31,32 +26,6 @@ use Rattle.fab_coll_laws.proofs.Ranks.{both_given, given, place}
 use Rattle.fab_coll_laws.proofs.Traffic.{Short, ctxs_apart, ctxs_high, ctxs_low, round_ctx, round_few, round_messages, round_quiet, round_receives, round_simple, round_wait}
 
 -- ---- lines with their bytes in them
-
-simple_bound : (b : Bound) (op : LineOp) → is_simple op ≡ true → bind_op b op ≡ op
-simple_bound b (TSend ctx dest tag (Hex bytes) imm level completion fence) e = refl
-simple_bound b (TSend ctx dest tag (Zero len) imm level completion fence) e = refl
-simple_bound b (TSend ctx dest tag (Text bytes) imm level completion fence) e = refl
-simple_bound b (TSend ctx dest tag (File id at len) imm level completion fence) e = absurd (cc (e))
-simple_bound b (TRecv ctx source tag ignore len) e = refl
-simple_bound b (Wait ctx) e = refl
-simple_bound b op e = absurd (cc (e))
-
-pub bound_ops : (b : Bound) (lines : List Line) → list_all is_simple (ops lines) ≡ true → ops (map (bind_line b) lines) ≡ ops lines
-bound_ops b [] e = refl
-bound_ops b (line ∷ lines) e =
-    let parts = and_parts _ _ e in
-    let head = simple_bound b line.op parts.0 in
-    let tail = bound_ops b lines parts.1 in
-    ap (λ (op : LineOp). op ∷ ops (map (bind_line b) lines)) head ∙ ap (λ (rest : List LineOp). line.op ∷ rest) tail
-
-numbered_ops : (first : ℕ) (xs : List LineOp) → ops (numbered first xs) ≡ xs
-numbered_ops first [] = refl
-numbered_ops first (op ∷ xs) = ap (λ (rest : List LineOp). op ∷ rest) (numbered_ops (first + 1) xs)
-
-pub numbered_at : (first : ℕ) (lists : List (List LineOp)) (p : ℕ) → ops (get_or (all_numbered first lists) p []) ≡ get_or lists p []
-numbered_at first [] p = refl
-numbered_at first (xs ∷ lists) zero = numbered_ops first xs
-numbered_at first (xs ∷ lists) (suc p) = numbered_at (first + length xs) lists p
 
 -- ---- pairs
 

@@ -1,7 +1,7 @@
 -- Requests: why they are refused, and that they are the machine's.
 use Rattle.std.proofs.Common.{◌≡◌, ℕ, ◌+◌, ◌%◌, ◌<◌, ◌≤◌, Bool, true, false, not, ◌&&◌, ◌||◌, ◌==◌, List, [], ◌∷◌, length, Option, Some, None, refl, sym, ap, ◌∙◌, subst, arith}
 use Rattle.std.specs.Prelude.{is_none, min, nat_le, IfSome, IfNone, IfErr, Result, Err}
-use Rattle.std.proofs.lemmas.Bool.{eqb-true, leb-false, ltb-false}
+use Rattle.std.proofs.lemmas.Bool.{eqb-true, leb-false, ltb-false, or_parts as both_false}
 use Rattle.fab_base.specs.Elements.{element_size, is_of_form}
 use Rattle.fab_base.specs.declared.faults.Fault.{Fault}
 use Rattle.fab_base.specs.declared.faults.Fault.TheVariants.{NotSupported, MsgSize, Invalid, NoEntry}
@@ -84,11 +84,6 @@ or_false true b c e = absurd (cc)
 or_false false true c e = absurd (cc)
 or_false false false false e = absurd (cc)
 or_false false false true e = (refl, refl, refl)
-
-both_false : (a b : Bool) → (a || b) ≡ false → (a ≡ false) × (b ≡ false)
-both_false true b e = absurd (cc)
-both_false false true e = absurd (cc)
-both_false false false e = (refl, refl)
 
 most_in_word : (most : ℕ) (kind : Kind) (injected : Bool) → most < 4_294_967_296 → most_bytes most kind injected < 4_294_967_296
 most_in_word most AtomicReq true word = omega (arith, word)

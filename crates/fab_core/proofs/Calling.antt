@@ -10,6 +10,7 @@ use Rattle.fab_base.specs.declared.peers.LineResult.TheVariants.{Done, Refused}
 use Rattle.fab_base.specs.declared.items.Want.{Want}
 use Rattle.fab_base.specs.declared.operations.Arrival.{Arrival}
 use Rattle.fab_base.specs.declared.operations.Receive.{Receive}
+use Rattle.fab_base.proofs.Bools.{or_false_left as either_false}
 use Rattle.fab_base.specs.Kinds.{at_match}
 use Rattle.fab_model.specs.Matching.{takes}
 use Rattle.fab_model.specs.State.{State, fits, in_use, lookup}
@@ -120,10 +121,6 @@ module _ (p : Parts) (m : Message) (bytes : List ℕ) (granted : is_final (do_ca
   or_false true b c e = absurd (cc)
   or_false false true c e = absurd (cc)
   or_false false false c e = (refl, refl)
-
-  either_false : (a b : Bool) → (a || b) ≡ false → a ≡ false
-  either_false true b e = absurd (cc)
-  either_false false b e = refl
 
   -- its peer stands in the address vector
   pub stands : (r : Result ℕ Fault) (why : Fault) → IfErr r (λ fault. (fault ≡ NoEntry) × (lookup p.av.indices m.dest ≡ None)) → r ≡ Err why → ⊥

@@ -97,16 +97,6 @@ both r a b e f = rw e f
 pub not_both : (a b : Bool) → a ≡ false → false ≡ (a && b)
 not_both a b e = rw e refl
 
-pub or_left : (a b : Bool) → a ≡ true → (a || b) ≡ true
-or_left a b e = rw e refl
-
-pub or_right : (a b : Bool) → b ≡ true → (a || b) ≡ true
-or_right true b e = refl
-or_right false b e = e
-
-pub neither : (a b : Bool) → a ≡ false → b ≡ false → (a || b) ≡ false
-neither a b e f = rw (e, f) refl
-
 -- the first of them that holds is told
 module _ (a b : Bool) where
   pub first_of_two : a ≡ true → Some NotSupported ≡ first_fault ((a, NotSupported) ∷ (b, Invalid) ∷ [])

@@ -3,7 +3,7 @@ use Rattle.std.proofs.Common.{◌≡◌, ◌≢◌, inl, inr, ℕ, ◌+◌, ◌<
 use Rattle.std.specs.Prelude.{find, slice_set, IfSome}
 use Rattle.std.specs.Option.{option_map}
 use Rattle.std.proofs.lemmas.Bool.{cases_eq, cases_lt, eq-eqb, ne_eqb}
-use Rattle.std.proofs.lemmas.List.{get_or_past, set_past}
+use Rattle.std.proofs.lemmas.List.{set_past}
 use Rattle.fab_model.proofs.Firsts.{IfSome-find}
 use Rattle.fab_base.specs.declared.items.Ack.{Ack}
 use Rattle.fab_base.specs.declared.items.Ack.TheVariants.{Nothing, Delivery, Match}
@@ -17,6 +17,7 @@ use Rattle.fab_base.specs.declared.operations.Coming.TheVariants.{Into, Keep, Th
 use Rattle.fab_base.specs.declared.operations.Receive.{Receive}
 use Rattle.fab_base.specs.Kinds.{at_delivery, at_match, is_message}
 use Rattle.fab_base.specs.Replies.{at_either}
+use Rattle.fab_base.proofs.Lists.{some_within as in_row}
 use Rattle.fab_model.specs.Matching.{remove_first, takes}
 use Rattle.fab_model.specs.State.{Receiving, coming_from}
 use Rattle.fab_model.specs.Arrivals.{completed, heading_message, heading_other, keeping, made_whole, newcomer, taker, way_of}
@@ -59,9 +60,6 @@ module _ {X : Type 0} (f : X → Bool) where
   count_alike : (g : X → X) → ((x : X) → f (g x) ≡ f x) → (xs : List X) → count_of f (map g xs) ≡ count_of f xs
   count_alike g same [] = refl
   count_alike g same (x ∷ xs) = (let a = count_more (g x) (map g xs) in let b = count_alike g same xs in let d = count_more x xs in let e = ap bit (same x) in omega (arith, a, b, d, e))
-
-pub in_row : {X : Type 0} (xs : List (Option X)) (i : ℕ) (x : X) → get_or xs i None ≡ Some x → i < length xs
-in_row xs i x is = elim (cases_lt i (length xs)) [ inl within ↦ within | inr past ↦ (let none : get_or xs i None ≡ None = get_or_past xs i None past in cc) ]
 
 -- ---- an item arrives
 

@@ -25,7 +25,7 @@ use Rattle.fab_core.specs.Doing.{requested}
 
 -- ---- what is begun
 
-begun_none : (peers s : ℕ) → get_or (replicate {A = Option Item} peers None) s None ≡ None
+pub begun_none : (peers s : ℕ) → get_or (replicate {A = Option Item} peers None) s None ≡ None
 begun_none peers s = elim (cases_lt s peers) [
   | inl within ↦ get_or-replicate peers s None None within
   | inr past ↦ get_or_past (replicate peers None) s None (let l = length-replicate {A = Option Item} peers None in omega (arith, l, past))

@@ -1,6 +1,7 @@
 -- Lists: what joins them and leaves them, and the first member of which something is told.
 use Rattle.std.proofs.Common.{◌≡◌, ◌⊎◌, inl, inr, ℕ, zero, suc, ◌+◌, ◌<◌, ◌≤◌, Bool, true, false, List, [], ◌∷◌, ◌++◌, length, map, take, drop, get_or, set, Option, Some, None, refl, sym, ap, subst, ◌∙◌, arith}
 use Rattle.std.specs.Prelude.{slice_get, slice_index_or, Contains}
+pub use Rattle.fab_base.proofs.Lists.{get_last, get_push}
 use Rattle.fab_model.specs.Matching.{remove_first}
 use Rattle.fab_model.specs.Peers.{first_some}
 
@@ -8,16 +9,6 @@ pub get_kept : {X : Type 0} (xs : List X) (y x : X) (i : ℕ) → slice_get xs i
 get_kept [] y x i e = absurd (cc)
 get_kept (z ∷ zs) y x zero e = e
 get_kept (z ∷ zs) y x (suc i) e = get_kept zs y x i e
-
-pub get_last : {X : Type 0} (xs : List X) (y : X) → slice_get (xs ++ y ∷ []) (length xs) ≡ Some y
-get_last [] y = refl
-get_last (z ∷ zs) y = get_last zs y
-
-pub get_push : {X : Type 0} (xs : List X) (y x : X) (i : ℕ) → slice_get (xs ++ y ∷ []) i ≡ Some x → (slice_get xs i ≡ Some x) ⊎ ((i ≡ length xs) × (x ≡ y))
-get_push [] y x zero e = inr (refl, let same : y ≡ x = cc in sym same)
-get_push [] y x (suc i) e = absurd (cc)
-get_push (z ∷ zs) y x zero e = inl e
-get_push (z ∷ zs) y x (suc i) e = elim (get_push zs y x i e) [ inl h ↦ inl h | inr h ↦ inr (let n = h.0 in omega (arith, n), h.1) ]
 
 module _ {X Y : Type 0} (f : X → Option Y) where
   pub first_push : (xs : List X) (y : X) → f y ≡ None → first_some f (xs ++ y ∷ []) ≡ first_some f xs

@@ -6,6 +6,7 @@ use Rattle.std.proofs.lemmas.Bool.Decides.{nat_tests}
 use Rattle.fab_base.specs.Counts.{Rose}
 use Rattle.fab_base.specs.declared.frames.Frame.{Frame}
 use Rattle.fab_base.specs.declared.items.Item.{Item}
+use Rattle.fab_base.proofs.Numbers.{same_number as same_peer}
 use Rattle.fab_wire.specs.Joined.{is_last}
 use Rattle.fab_wire.proofs.Lanes.{last_head-push}
 use Rattle.fab_link.specs.Meaning.{Outgoing, Incoming, Noticed, Others, end_of, taken_end}
@@ -18,9 +19,6 @@ use Rattle.fab_face.proofs.Repaid.{posted_pledged, repaid_posted}
 use Rattle.fab_model.specs.State.{fits}
 use Rattle.fab_model.specs.Sending.{do_sent}
 use Rattle.fab_ep.specs.Tries.{IsTied}
-
-pub same_peer : (k : ℕ) → (k == k) ≡ true
-same_peer k = eq-eqb k k refl
 
 pub other_peer : (k d : ℕ) → d ≢ k → (k == d) ≡ false
 other_peer k d other = grind (arith, nat_tests)

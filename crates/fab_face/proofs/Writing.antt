@@ -29,7 +29,8 @@ use Rattle.fab_model.specs.Receiving.{Posting, draws, give, without_first, recei
 use Rattle.fab_model.specs.Matching.{takes}
 use Rattle.fab_base.specs.declared.operations.Written.{Written}
 use Rattle.fab_model.specs.Target.{perform}
-use Rattle.fab_model.specs.Arrivals.{do_head, do_draw, seating, keeping, remote_class, remote_data, remote_event, with_regions, do_request, tail_to, made_whole, do_tail}
+use Rattle.fab_model.specs.Arrivals.{do_head, do_draw, seating, keeping, remote_data, remote_event, with_regions, do_request, tail_to, made_whole, do_tail}
+use Rattle.fab_model.proofs.Unchanged.{event_cq}
 use Rattle.fab_face.specs.Acts.{headed}
 
 -- ---- at most n entries are written, and none is read
@@ -127,14 +128,6 @@ adds_data Good source head s = by_kind head.kind
     by_kind WriteReq = adds_option 1 s head.imm _ _ (adds_none 1 s _ refl) (λ imm. adds_write _ _ s)
     by_kind _ = adds_none 1 s _ refl
 adds_data _ source head s = adds_none 1 s _ refl
-
-event_cq : (outcome : Outcome) (head : ItemHead) (s : State) → (remote_event outcome head s).cq ≡ s.cq
-event_cq Good head s = by_cap s.caps.rma_event
-  where
-    by_cap : (b : Bool) → (let t : State = elim b [ true ↦ count (remote_class head) true s | false ↦ s ] in t.cq ≡ s.cq)
-    by_cap true = refl
-    by_cap false = refl
-event_cq _ head s = refl
 
 adds_request : (s : State) (source : ℕ) (head : ItemHead) (bytes : List ℕ) → Adds 1 s (do_request s source head bytes)
 unfolding do_request reply

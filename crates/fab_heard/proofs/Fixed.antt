@@ -1,5 +1,5 @@
 -- Who an endpoint's peers are, and what it may do, stays but for calls that say so.
-use Rattle.std.proofs.Common.{◌≡◌, ◌+◌, ℕ, Bool, true, false, List, Option, None, Some, [], refl, rules, ◌∙◌}
+use Rattle.std.proofs.Common.{◌≡◌, ℕ, Bool, true, false, List, Option, None, Some, [], refl, rules, ◌∙◌}
 use Rattle.std.specs.Prelude.{find}
 use Rattle.fab_base.specs.declared.items.ItemHead.{ItemHead}
 use Rattle.fab_base.specs.declared.items.Outcome.{Outcome}
@@ -164,14 +164,3 @@ post_fixed s q = go (taken_by (receive_of s q) s)
     ] in u)
     go None = record { caps = refl; av = refl }
     go (Some a) = let u : State = called (with_rx (without_first (receive_of s q).want s.rx) s) in then s u (give (receive_of s q) 0 a u) (record { caps = refl; av = refl }) (given (receive_of s q) 0 a u)
-
-pub post_calls : (s : State) (q : Posting) → (post s q).calls ≡ s.calls + 1
-unfolding post
-post_calls s q = go (taken_by (receive_of s q) s)
-  where
-    go : (o : Option Arrival) → (let u : State = elim o [
-      | None ↦ called (with_rx (joining_posted (receive_of s q) s.rx) s)
-      | Some a ↦ give (receive_of s q) 0 a (called (with_rx (without_first (receive_of s q).want s.rx) s))
-    ] in u.calls) ≡ s.calls + 1
-    go None = refl
-    go (Some a) = (Watch.gives (receive_of s q) 0 a (called (with_rx (without_first (receive_of s q).want s.rx) s))).quiet.calls

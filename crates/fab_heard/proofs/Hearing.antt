@@ -1,6 +1,6 @@
 -- The law of what threads heard of one another.
-use Rattle.std.proofs.Common.{◌≡◌, ◌-◌, ℕ, zero, suc, Bool, true, false, not, ◌&&◌, List, [], ◌∷◌, ◌++◌, length, map, take, drop, reverse, slice_get, Option, None, Some, inl, inr, refl, sym, ap, ap₂, ◌∙◌, subst, append_assoc}
-use Rattle.std.specs.Prelude.{cond, filter, slice_index_or}
+use Rattle.std.proofs.Common.{◌≡◌, ◌-◌, ℕ, Bool, true, false, not, ◌&&◌, List, [], ◌∷◌, ◌++◌, length, map, take, drop, reverse, slice_get, Option, None, Some, inl, inr, refl, sym, ap, ap₂, ◌∙◌, subst, append_assoc}
+use Rattle.std.specs.Prelude.{cond, filter}
 use Rattle.std.specs.List.{list_all}
 use Rattle.std.specs.Option.{option_map}
 use Rattle.std.proofs.lemmas.Grind.{reverse_onto}
@@ -21,6 +21,7 @@ use Rattle.fab_base.specs.declared.items.Kind.TheVariants.{Msg, TagMsg, WriteReq
 use Rattle.fab_base.specs.declared.items.Want.{Want}
 use Rattle.fab_base.specs.declared.operations.Receive.{Receive}
 use Rattle.fab_base.specs.declared.operations.Written.{Written}
+use Rattle.fab_base.proofs.Lists.{append_same as same_more}
 use Rattle.fab_model.specs.Calls.{Call, Transmit, Post, Look, TakeClaimed, DropClaimed, Cancel, CancelFirst, Insert, Remove, Reg, Close, Put, Show, Count}
 use Rattle.fab_model.specs.Complete.{entry_of, has_space, paste, received, tag_of, truncated}
 use Rattle.fab_model.specs.Matching.{matches}
@@ -45,7 +46,8 @@ use Rattle.fab_wire.specs.Joined.{is_last}
 use Rattle.fab_face.specs.Acts.{is_first, only}
 use Rattle.fab_merging.specs.Pasts.{begun}
 use Rattle.fab_doings.specs.Doings.{Calls, Did, Doing, Drew, Had, Living, Posted, Took, Writes, deeds_of, entries_of, own_of, peer_in}
-use Rattle.fab_doings.specs.Law.{IsRun, Kept, Past, plains, programs}
+use Rattle.fab_doings.specs.Law.{IsRun, Kept, Past, plains}
+use Rattle.fab_doings.proofs.Obeying.{doings_at}
 use Rattle.fab_heard.specs.Heard.{HeardInTurn, IsSimple, answers, as_receive, counts, is_simple, orders_to, postings, wanted}
 use Rattle.fab_heard.proofs.Fixed.{still}
 use Rattle.fab_heard.proofs.Walking.{Shown, Walked, accepting, asking, plain_item, plain_order, shown, shown_post, walk}
@@ -166,15 +168,6 @@ twice {X} test wider (x ∷ xs) so = go (test x) (wider x) refl refl (twice test
     go true false t w ih = not_both (wider x) (so x t) w
     go false true t w ih = rw (w, t) ih
     go false false t w ih = rw (w, t) ih
-
-same_more : {X : Type 0} (front xs ys : List X) → front ++ xs ≡ front ++ ys → xs ≡ ys
-same_more [] xs ys e = e
-same_more (s ∷ front) xs ys e = same_more front xs ys (ap (λ us. drop 1 us) e)
-
-doings_at : (pasts : List Past) (p : ℕ) (x : Past) → slice_get pasts p ≡ Some x → slice_index_or (programs pasts) p [] ≡ deeds_of x.steps
-doings_at [] p x e = absurd (cc)
-doings_at (y ∷ pasts) zero x e = let same : y ≡ x = cc in ap (λ (z : Past). deeds_of z.steps) same
-doings_at (y ∷ pasts) (suc p) x e = doings_at pasts p x e
 
 -- ---- what a simple part is
 

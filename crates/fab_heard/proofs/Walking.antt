@@ -4,18 +4,17 @@ use Rattle.std.specs.Prelude.{nat_lt, ◌==◌}
 use Rattle.std.proofs.lemmas.Bool.{lt-ltb}
 use Rattle.std.proofs.lemmas.List.{map-append, reverse-append}
 use Rattle.fab_base.specs.declared.caps.Caps.{Caps}
-use Rattle.fab_base.specs.declared.faults.Fault.{Fault}
 use Rattle.fab_base.specs.declared.items.Item.{Item}
 use Rattle.fab_base.specs.declared.items.ItemHead.{ItemHead}
 use Rattle.fab_base.specs.declared.items.Want.{Want}
 use Rattle.fab_base.specs.declared.operations.Receive.{Receive}
-use Rattle.fab_base.specs.declared.peers.LineResult.{LineResult}
-use Rattle.fab_base.specs.declared.peers.LineResult.TheVariants.{Done, Refused}
+use Rattle.fab_base.specs.declared.peers.LineResult.TheVariants.{Done}
 use Rattle.fab_wire.specs.Joined.{grown, is_last}
 use Rattle.fab_model.specs.Calls.{Call, Transmit, Post, Look, TakeClaimed, DropClaimed, Cancel, CancelFirst, Insert, Remove, Reg, Close, Put, Show, Count, answer, do_call}
 use Rattle.fab_model.specs.Receiving.{Posting, post, post_fault, receive_of}
-use Rattle.fab_model.specs.Sending.{Order, head_of, item_of, operation_of, transmit, transmit_fault, transmit_to}
+use Rattle.fab_model.specs.Sending.{Order, head_of, item_of, operation_of, transmit, transmit_to}
 use Rattle.fab_model.specs.State.{State, lookup}
+use Rattle.fab_model.proofs.Answering.{done_by as call_done, is_transmitted as transmitted}
 use Rattle.fab_face.specs.Held.{Held, begun_of}
 use Rattle.fab_face.specs.Acts.{Departs, Ends, headed, is_first, only}
 use Rattle.fab_laws.specs.Completed.{Accepted, Receives, Sends, accepts}
@@ -25,9 +24,10 @@ use Rattle.fab_laws.specs.Programs.{Counts, Deed, Draw, Head, Makes, Peer, Tail,
 use Rattle.fab_laws.specs.Recorded.{recall}
 use Rattle.fab_laws.specs.StreamLaws.{posted_for}
 use Rattle.fab_laws.proofs.Lists.{never}
+use Rattle.fab_laws.proofs.fences.Numbers.{post_calls}
 use Rattle.fab_doings.specs.Doings.{Calls, Did, Does, DoesBy, Doing, Drew, Had, Living, Posted, Took, Writes, deeds_by, deeds_of, own_by, own_of}
 use Rattle.fab_heard.specs.Heard.{IsSimple, is_simple, order_by, orders_to, posting_by, postings, want_at}
-use Rattle.fab_heard.proofs.Fixed.{Fixed, draw_fixed, head_fixed, post_calls, post_fixed, sent_fixed, still, tail_fixed, then, transmit_fixed}
+use Rattle.fab_heard.proofs.Fixed.{Fixed, draw_fixed, head_fixed, post_fixed, sent_fixed, still, tail_fixed, then, transmit_fixed}
 
 abbrev pub asking : Peer → Deed → Peer → List Receive → List Receive
 asking a x b m = asked_by a x b ++ m
@@ -137,14 +137,6 @@ ends_fixed false h s source item t ends = subst (Fixed s) (ap (λ (x : Held). x.
 departs_fixed : (last : Bool) (h : Held) (dest place : ℕ) (t : Held) → Departs last h dest place t → Fixed h.state t.state
 departs_fixed true h dest place t departs = subst (Fixed h.state) (ap (λ (x : Held). x.state) (sym departs.1)) (sent_fixed h.state dest)
 departs_fixed false h dest place t departs = subst (Fixed h.state) (ap (λ (x : Held). x.state) (sym departs)) (still h.state)
-
-call_done : (fault : Option Fault) (s t u : State) → answer fault s t ≡ (Done, u) → u ≡ t
-call_done None s t u e = ap (λ (r : LineResult × State). r.1) (sym e)
-call_done (Some f) s t u e = absurd (let k : Refused f ≡ Done = ap (λ (r : LineResult × State). r.0) e in cc (k))
-
-transmitted : (s u : State) (o : Order) → do_call s (Transmit o) ≡ (Done, u) → u ≡ transmit s o
-unfolding do_call
-transmitted s u o e = call_done (transmit_fault s o) s (transmit s o) u e
 
 posted : (s u : State) (q : Posting) → do_call s (Post q) ≡ (Done, u) → u ≡ post s q
 unfolding do_call

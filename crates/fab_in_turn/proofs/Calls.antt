@@ -2,7 +2,7 @@
 use Rattle.std.proofs.Common.{◌≡◌, ◌≤◌, ◌<◌, ◌+◌, ℕ, zero, suc, Bool, true, false, not, ◌&&◌, List, [], ◌∷◌, ◌++◌, length, map, drop, slice_get, reverse, Option, Some, None, ◌⊎◌, inl, inr, refl, sym, ◌∙◌, ap, ap₂, subst, arith, append-nil}
 use Rattle.std.specs.Prelude.{filter, find, is_none, slice_index, ◌==◌}
 use Rattle.std.proofs.lemmas.Bool.{cases_eq, eq-eqb}
-use Rattle.std.proofs.lemmas.List.{length-map, length-set, map-append}
+use Rattle.std.proofs.lemmas.List.{length-map, length-set, map-append, drop_all as dropped_all}
 use Rattle.std.proofs.lemmas.Option.{slice_get_past, slice_get_within}
 use Rattle.fab_base.specs.declared.entries.Taken.{Taken}
 use Rattle.fab_base.specs.declared.items.Item.{Item}
@@ -21,16 +21,13 @@ use Rattle.fab_laws.specs.Members.{In}
 use Rattle.fab_laws.proofs.Lists.{found_in, in_end, last_get, length_more}
 use Rattle.fab_laws.proofs.Counts.{many, many_removed, one, removed_less}
 use Rattle.fab_laws.proofs.receiving.Acts.{entries_for, entry_for, given}
+use Rattle.fab_laws.proofs.completion.Steps.{one_most as few}
+use Rattle.fab_laws.proofs.receiving.Pasting.{get_front as front_get}
 use Rattle.fab_in_turn.specs.InTurn.{IsChosen, told}
-use Rattle.fab_in_turn.proofs.Lists.{dropped_all, dropped_end, first_left, none_left, none_stays, one_kept, other_leaves, own_leaves, told_got, told_receive}
+use Rattle.fab_in_turn.proofs.Lists.{dropped_end, first_left, none_left, none_stays, one_kept, other_leaves, own_leaves, told_got, told_receive}
 use Rattle.fab_in_turn.proofs.Words.{Due, Level, Odd, Ours, Phase, Rest, Turns, Waiting, by_cases, entries_in, is_keep, is_late, is_one, looks, newest, not_both, of_source, ones, phase_same, set_here, set_there, stands, waiting, whole_ones}
 
 -- ---- lists
-
-pub front_get : {X : Type 0} (xs ys : List X) (k : ℕ) → k < length xs → slice_get (xs ++ ys) k ≡ slice_get xs k
-front_get [] ys k lt = absurd (omega (arith, lt))
-front_get (x ∷ xs) ys zero lt = refl
-front_get (x ∷ xs) ys (suc k) lt = front_get xs ys k (omega (arith, lt))
 
 pub one_more_entry : (counts : Taken → Bool) (ws : List Written) (w : Written) (b : Bool) → counts w.entry ≡ b → filter counts (entries_in (ws ++ w ∷ [])) ≡ filter counts (entries_in ws) ++ elim b [ true ↦ w.entry ∷ [] | false ↦ [] ]
 one_more_entry counts ws w b e = ap (filter counts) (map-append (λ (w : Written). w.entry) ws (w ∷ [])) ∙ one_kept counts (entries_in ws) w.entry b e
@@ -269,10 +266,6 @@ module _ (p : ℕ) (want : Want) (mine : Receive → Bool) (counts : Taken → B
 
       fewer : many (is_late p want) mid.unexpected ≤ many (is_late p want) rx.unexpected
       fewer = removed_less (is_late p want) (takes r.want) rx.unexpected
-
-      few : (b : Bool) → one b ≤ 1
-      few true = omega arith
-      few false = omega arith
 
       its_late : a.source ≡ p → a.bytes ≡ None → many (is_late p want) rx.unexpected ≡ 1 + many (is_late p want) mid.unexpected
       its_late same bytes =

@@ -15,6 +15,7 @@ use Rattle.fab_model.specs.Arrivals.{is_wanted, keeping, newcomer, taker}
 use Rattle.fab_model.specs.Matching.{matches, takes}
 use Rattle.fab_model.specs.State.{Receiving, coming_from}
 use Rattle.fab_model.proofs.Parts.{get_or-set}
+use Rattle.fab_model.proofs.Unchanged.{single_seated as seated_single}
 use Rattle.fab_laws.specs.Members.{In, Never}
 use Rattle.fab_laws.proofs.Lists.{Each, found_in, in_removed, never}
 use Rattle.fab_laws.proofs.Counts.{many_append, one}
@@ -23,7 +24,6 @@ use Rattle.fab_in_turn.specs.InTurn.{IsChosen}
 use Rattle.fab_in_turn.proofs.Lists.{one_kept, other_leaves}
 use Rattle.fab_in_turn.proofs.Words.{Same, Turns, by_cases, entries_in, is_late, looks, of_source, phase_same, set_there}
 use Rattle.fab_in_turn.proofs.Calls.{one_more_entry}
-use Rattle.fab_in_turn.proofs.Own.{seated_single}
 use Rattle.fab_in_turn.proofs.Arrivals.{late_elsewhere, plain_entries, waiting_elsewhere}
 
 module _ (p : ℕ) (want : Want) (mine : Receive → Bool) (counts : Taken → Bool) (A W : List Item) (asked : List Receive) (rx : Receiving) (ws : List Written) (turns : Turns p want mine counts A W asked rx ws) (chosen : IsChosen p want mine counts asked) (s : ℕ) (item : Item) (away : s ≡ p → Never) where

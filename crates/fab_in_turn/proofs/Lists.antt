@@ -60,12 +60,6 @@ dropped_end zero xs x le = refl
 dropped_end (suc n) [] x le = absurd (omega (arith, le))
 dropped_end (suc n) (y ∷ xs) x le = dropped_end n xs x (omega (arith, le))
 
-pub dropped_all : {X : Type 0} (n : ℕ) (xs : List X) → length xs ≤ n → drop n xs ≡ []
-dropped_all zero [] le = refl
-dropped_all zero (x ∷ xs) le = absurd (omega (arith, le))
-dropped_all (suc n) [] le = refl
-dropped_all (suc n) (x ∷ xs) le = dropped_all n xs (omega (arith, le))
-
 pub none_left : {X : Type 0} (n : ℕ) (xs : List X) → drop n xs ≡ [] → length xs ≤ n
 none_left zero [] e = omega arith
 none_left zero (x ∷ xs) e = absurd (cc (e))

@@ -1,7 +1,7 @@
 -- An item of the source that arrives, or becomes whole, keeps the turns.
 use Rattle.std.proofs.Common.{◌≡◌, ◌≢◌, ◌≤◌, ◌<◌, ◌+◌, ◌-◌, ℕ, zero, suc, Bool, true, false, not, ◌&&◌, List, [], ◌∷◌, ◌++◌, length, map, drop, get_or, set, slice_get, reverse, Option, Some, None, inl, inr, refl, sym, ◌∙◌, ap, subst, arith, append-nil}
-use Rattle.std.specs.Prelude.{cond, filter, nat_lt, slice_index, ◌==◌}
-use Rattle.std.proofs.lemmas.List.{length-map, length-set, map-append}
+use Rattle.std.specs.Prelude.{cond, filter, slice_index, ◌==◌}
+use Rattle.std.proofs.lemmas.List.{length-map, length-set, map-append, drop_all as dropped_all}
 use Rattle.std.proofs.lemmas.Option.{slice_get_within}
 use Rattle.fab_base.specs.declared.entries.Taken.{Taken}
 use Rattle.fab_base.specs.declared.items.Item.{Item}
@@ -11,28 +11,25 @@ use Rattle.fab_base.specs.declared.operations.Coming.{Coming}
 use Rattle.fab_base.specs.declared.operations.Coming.TheVariants.{Into, Keep, Throw, Request, Answer}
 use Rattle.fab_base.specs.declared.operations.Receive.{Receive}
 use Rattle.fab_base.specs.declared.operations.Written.{Written}
-use Rattle.fab_model.specs.Arrivals.{completed, is_wanted, keeping, newcomer, seated, stays, taker, used_up}
+use Rattle.fab_base.proofs.Lists.{none_past as get_past}
+use Rattle.fab_model.specs.Arrivals.{completed, is_wanted, keeping, newcomer, seated, taker}
 use Rattle.fab_model.specs.Complete.{entry_of}
-use Rattle.fab_model.specs.Matching.{change_first, matches, remove_first, takes}
+use Rattle.fab_model.specs.Matching.{matches, remove_first, takes}
 use Rattle.fab_base.specs.Kinds.{is_message}
 use Rattle.fab_model.specs.State.{Receiving, coming_from, raise}
 use Rattle.fab_model.proofs.Parts.{get_or-set, some_same}
+use Rattle.fab_model.proofs.Unchanged.{single_seated as seated_single}
 use Rattle.fab_laws.specs.Members.{In}
 use Rattle.fab_laws.proofs.Lists.{Each, found_in, in_removed, length_more, raise_here}
 use Rattle.fab_laws.proofs.Counts.{many, many_append, one}
 use Rattle.fab_laws.proofs.receiving.Acts.{Plain, entry_for, is_into, pass, seat, wait, whole}
 use Rattle.fab_in_turn.specs.InTurn.{IsChosen, told}
-use Rattle.fab_in_turn.proofs.Lists.{dropped_all, dropped_end, first_left, none_left, none_stays, one_kept, other_leaves, own_leaves, told_came, told_item}
+use Rattle.fab_in_turn.proofs.Lists.{dropped_end, first_left, none_left, none_stays, one_kept, other_leaves, own_leaves, told_came, told_item}
 use Rattle.fab_in_turn.proofs.Words.{Due, Level, Odd, Ours, Phase, Rest, Turns, by_cases, entries_in, is_keep, is_late, is_of_message, is_one, looks, not_both, ones, set_here, stands, waiting, whole_ones}
 use Rattle.fab_in_turn.proofs.Calls.{one_more_entry}
 use Rattle.fab_in_turn.proofs.Arrivals.{joined, joined_drop, joined_last, joined_whole, late_joined, plain_entries, waiting_joined}
 
 -- ---- lists
-
-get_past : {X : Type 0} (xs : List X) (k : ℕ) → slice_get xs k ≡ None → length xs ≤ k
-get_past [] k e = omega arith
-get_past (x ∷ xs) zero e = absurd (cc (e))
-get_past (x ∷ xs) (suc k) e = let le = get_past xs k e in omega (arith, le)
 
 kept_step : {X : Type 0} (test : X → Bool) (y x : X) (xs : List X) (k : ℕ) (b : Bool) → test y ≡ b → slice_get (cond b (y ∷ filter test xs) (filter test xs)) k ≡ Some x → ((j : ℕ) → slice_get (filter test xs) j ≡ Some x → test x ≡ true) → test x ≡ true
 kept_step test y x xs zero true t e ih = let same : y ≡ x = cc (e) in ap test (sym same) ∙ t
@@ -42,13 +39,6 @@ kept_step test y x xs k false t e ih = ih k e
 pub kept_passes : {X : Type 0} (test : X → Bool) (xs : List X) (k : ℕ) (x : X) → slice_get (filter test xs) k ≡ Some x → test x ≡ true
 kept_passes test [] k x e = absurd (cc (e))
 kept_passes test (y ∷ xs) k x e = kept_step test y x xs k (test y) refl e (λ j f. kept_passes test xs j x f)
-
--- a receive of one message leaves
-pub seated_single : (test : Receive → Bool) (n : ℕ) (r : Receive) (posted : List Receive) → r.least ≡ None → seated test n r posted ≡ remove_first test posted
-seated_single test n r posted single = ap (λ (b : Bool). let qs : List Receive = elim b [ true ↦ change_first test (used_up n) posted | false ↦ remove_first test posted ] in qs) stays_not
-  where
-    stays_not : stays n r ≡ false
-    stays_not = ap (λ (o : Option ℕ). elim o [ None ↦ false | Some least ↦ let after = used_up n r in not (nat_lt (length after.buf - after.used) least) ]) single
 
 module _ (p : ℕ) (want : Want) (mine : Receive → Bool) (counts : Taken → Bool) (A W : List Item) (asked : List Receive) (rx : Receiving) (ws : List Written) (turns : Turns p want mine counts A W asked rx ws) (chosen : IsChosen p want mine counts asked) (item : Item) where
   abbrev rs : List Receive

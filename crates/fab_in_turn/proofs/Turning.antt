@@ -28,6 +28,7 @@ use Rattle.fab_model.specs.Views.{View, rule, seen}
 use Rattle.fab_model.proofs.Orders.{steps_of_other, steps_of_own}
 use Rattle.fab_model.proofs.Parts.{prefix_get, some_same}
 use Rattle.fab_model.proofs.Passes.{tail_passes}
+use Rattle.fab_model.proofs.Unchanged.{single_filling}
 use Rattle.fab_laws.specs.MessageLaws.{asked_by, asked_of, asks_for, keeping_asked}
 use Rattle.fab_laws.specs.Moments.{Note, noted, remembered}
 use Rattle.fab_laws.specs.Programs.{Counts, Deed, Draw, Head, Makes, Opening, Peer, Tail, program, starting}
@@ -84,9 +85,6 @@ call_way s q = go (post_fault s q)
 
 single_leaving : (r : Receive) (rx : Receiving) → r.least ≡ None → leaving r rx ≡ None
 single_leaving r rx single = rw (single) refl
-
-single_filling : (r : Receive) (place : ℕ) (bytes : List ℕ) (rx : Receiving) → r.least ≡ None → filling r place bytes rx ≡ rx
-single_filling r place bytes rx single = rw (single) refl
 
 module _ (p : ℕ) (want : Want) (mine : Receive → Bool) (counts : Taken → Bool) (v : View Item) (a b : Peer) (A W : List Item) where
   abbrev Next : Deed → List Receive → Type 0

@@ -3,6 +3,7 @@ use Rattle.std.proofs.Common.{◌≡◌, ℕ, zero, suc, ◌+◌, ◌-◌, ◌/�
 use Rattle.fab_base.specs.declared.items.Atom.{Atom}
 use Rattle.fab_base.specs.Elements.{element_size}
 use Rattle.fab_model.specs.Target.{elements, bytes_of}
+use Rattle.fab_model.proofs.Elements.{elements-none as elements_none}
 use Rattle.fab_items.specs.NewElements.{new_bytes}
 
 pub push_step : (out target : List ℕ) (size i left : ℕ) → i < size → out ++ bytes_of (size - i) left ≡ target → (out ++ left % 256 ∷ []) ++ bytes_of (size - (i + 1)) (left / 256) ≡ target
@@ -16,11 +17,6 @@ elements_one : (left : ℕ) (atom : Atom) (old operand compares : List ℕ) → 
 unfolding elements
 elements_one left atom [] operand compares some = absurd (omega arith)
 elements_one left atom (t ∷ ts) operand compares some = refl
-
-pub elements_none : (left : ℕ) (atom : Atom) (operand compares : List ℕ) → elements left atom [] operand compares ≡ []
-unfolding elements
-elements_none zero atom operand compares = refl
-elements_none (suc left) atom operand compares = refl
 
 pub elements_step : (target out : List ℕ) (n i : ℕ) (atom : Atom) (old operand compares : List ℕ) → i < n → 0 < length old
     → target ≡ out ++ elements (n - i) atom old operand compares

@@ -9,6 +9,7 @@ use Rattle.std.proofs.lemmas.Option.{get_or_from_slice_get, slice_get-map, slice
 use Rattle.std.proofs.lemmas.Simd.{map-map}
 use Rattle.std.proofs.lemmas.Bool.{cases_eq, leb-true}
 use Rattle.fab_base.specs.declared.caps.Info.{Info}
+use Rattle.fab_base.proofs.Bools.{and_true_left as first_of}
 use Rattle.fab_wire.specs.Merged.{merges}
 use Rattle.fab_link.specs.Plain.{Plain}
 use Rattle.fab_model.proofs.Turns.{slice_get-set_other, slice_get-set_same}
@@ -211,10 +212,6 @@ second_of : (a b c d e f g h i j : Bool) → (a && b && c && d && e && f && g &&
 second_of false b c d e f g h i j all = absurd (cc)
 second_of true false c d e f g h i j all = absurd (cc)
 second_of true true c d e f g h i j all = refl
-
-first_of : (a b : Bool) → (a && b) ≡ true → a ≡ true
-first_of false b both = both
-first_of true b both = refl
 
 -- what is granted has a peer
 pub some_granted : (i : Info) → is_granted i i.peers ≡ true → 0 < i.peers

@@ -51,11 +51,6 @@ all_arrived first last fresh now p q posted taken t j part sent begun tails same
 
 -- ---- what a sender shows at any of its moments
 
-drop_get : {X : Type 0} (xs : List X) (k : ℕ) (x : X) → slice_get xs k ≡ Some x → drop k xs ≡ x ∷ drop (suc k) xs
-drop_get [] k x e = absurd (cc)
-drop_get (y ∷ xs) zero x e = let same : y ≡ x = cc in ap (λ z. z ∷ xs) same
-drop_get (y ∷ xs) (suc k) x e = drop_get xs k x e
-
 begun_part : (n : ℕ) (next : Option Item) (rest : List Item) → ((item : Item) → next ≡ Some item → (later : List Item) × (rest ≡ item ∷ later)) → IsBegun (part_at n next) rest
 begun_part zero next rest there = tt
 begun_part (suc k) None rest there = tt

@@ -19,6 +19,7 @@ use Rattle.fab_model.proofs.Views.{prefix_self, prefix_prefix}
 use Rattle.fab_model.proofs.Grows.{step_is}
 use Rattle.fab_model.proofs.Parts.{prefix_get}
 use Rattle.fab_model.proofs.Passes.{Passes, head_passes, tail_passes, sent_passes, draw_passes}
+pub use Rattle.fab_model.proofs.Unchanged.{sent_raised}
 use Rattle.fab_face.specs.Held.{Held, next_frame, next_item, piece, IsOut, IsOutAt, AreItems}
 use Rattle.fab_face.specs.Acts.{Act, Did, Took, Posted, Drew, Had, Ends, Departs, headed, is_first, only, posted_by, posted_to}
 use Rattle.fab_peer.specs.Turns.{Living, actor_in, Lives, LivesBy, Transmits, joined_from, part_at, posted_part}
@@ -130,10 +131,6 @@ transmits_none h k keeps out = (
 pub sent_ready : (s : State) (t d : ℕ) → IsPrefixOf (accepted_for s.tx d) (accepted_for (do_sent s t).tx d)
 unfolding transmitting
 sent_ready s t d = (sent_passes s t).ready d
-
-pub sent_raised : (s : State) (t : ℕ) → (do_sent s t).tx.sent ≡ raise s.tx.sent t
-unfolding transmitting
-sent_raised s t = (sent_passes s t).sent
 
 module _ (h t : Held) (dest : ℕ) (item : Item) (in_places : dest < length h.places) (in_sent : dest < length h.state.tx.sent) (next : next_item h.state dest ≡ Some item) (whole : IsItem item) (out : IsOut h) where
   pub piece_last : is_last (piece item (slice_index h.places dest)).head ≡ true → t ≡ record h { state = do_sent h.state dest; places = slice_set h.places dest 0 }

@@ -1,19 +1,16 @@
 -- The lines of a bound script's peers: its opening.
 use Rattle.std.proofs.Common.{◌≡◌, ◌<◌, ℕ, zero, suc, List, [], ◌∷◌, ◌++◌, length, map, get_or, inl, inr, refl, sym, ap, ◌∙◌, arith}
 use Rattle.std.proofs.lemmas.Bool.{cases_lt}
-use Rattle.std.proofs.lemmas.List.{map-append, length-append, length-map}
+use Rattle.std.proofs.lemmas.List.{map-append, length-map}
 use Rattle.fab_base.specs.declared.script.Bound.{Bound}
 use Rattle.fab_base.specs.declared.script.Conf.{Conf}
 use Rattle.fab_base.specs.declared.script.Line.{Line}
 use Rattle.fab_model.specs.Calls.{upto}
 use Rattle.fab_model.specs.Replay.{opening, lines_of, newly}
+use Rattle.fab_model.proofs.Elements.{length-upto}
 use Rattle.fab_finish.specs.Joined.{opened}
 
 -- ---- the opening
-
-length-upto : (n : ℕ) → length (upto n) ≡ n
-length-upto zero = refl
-length-upto (suc n) = omega (arith, length-append (upto n) (n ∷ []), length-upto n)
 
 front_of : {X : Type 0} (xs : List X) (y d : X) (k : ℕ) → k < length xs → get_or (xs ++ y ∷ []) k d ≡ get_or xs k d
 front_of [] y d k below = absurd (omega (arith, below))

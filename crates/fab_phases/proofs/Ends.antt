@@ -1,5 +1,5 @@
 -- Where all frames that a peer took and posted agree with what it holds, an endpoint may go on with it over a port that stands behind these frames.
-use Rattle.std.proofs.Common.{◌≡◌, ◌<◌, ◌≤◌, ◌+◌, ◌⊎◌, inl, inr, ℕ, zero, suc, Bool, true, false, List, [], ◌∷◌, ◌++◌, length, length-append, length-take-le, take, Option, Some, None, refl, sym, ap, ◌∙◌, subst, arith}
+use Rattle.std.proofs.Common.{◌≡◌, ◌<◌, ◌≤◌, ◌+◌, ◌⊎◌, inl, inr, ℕ, zero, suc, Bool, true, false, List, [], ◌∷◌, length, length-append, length-take-le, take, Option, Some, None, refl, sym, ap, ◌∙◌, subst, arith}
 use Rattle.std.specs.Prelude.{slice_index, fold}
 use Rattle.std.proofs.lemmas.Bool.{eqb-true}
 use Rattle.fab_base.specs.declared.frames.Frame.{Frame}
@@ -43,11 +43,6 @@ gathered_from (f ∷ xs) end g gathered lane = gathered_from xs (Some f.head) (w
 
 pub gathered_all : (xs : List Frame) → IsLane None xs → IsGathered (last_head None xs) (joined xs).unfinished
 gathered_all xs lane = gathered_from xs None nothing tt lane
-
--- the first frames of a lane are one
-pub lane_front : (before : Option FrameHead) (xs ys : List Frame) → IsLane before (xs ++ ys) → IsLane before xs
-lane_front before [] ys lane = tt
-lane_front before (x ∷ xs) ys lane = (lane.0, lane_front (Some x.head) xs ys lane.1)
 
 -- ---- what is posted of the next item
 

@@ -12,6 +12,7 @@ use Rattle.fab_link.specs.Meaning.{end_of, taken_end}
 use Rattle.fab_link.specs.Plain as plain
 use Rattle.fab_link.specs.Plain.{Lane, Plain, lane_at, fresh_lane}
 use Rattle.fab_model.specs.Peers.{Actor}
+use Rattle.fab_wire.proofs.Lanes.{lane_front}
 use Rattle.fab_face.specs.Held.{IsPledged, Held, IsGathered, IsPlaced, IsOut, AreItems, next_item, begun_of}
 use Rattle.fab_ep.specs.Tries.{IsTied}
 use Rattle.fab_ep.specs.Value.{anew}
@@ -27,7 +28,7 @@ use Rattle.fab_merging.proofs.Lists.{outs_is, ins_is, outs_past}
 use Rattle.fab_finish.specs.Joined.{Member, seen_plain, actors, schedules, lane, IsOwn, IsJoined}
 use Rattle.fab_finish.proofs.Joining.{member, none_past, lane_is, lane_none}
 use Rattle.fab_phases.specs.Phases.{Paired, Seated, Follows, Tells}
-use Rattle.fab_phases.proofs.Ends.{lane_front, posted_ends, taken_ends}
+use Rattle.fab_phases.proofs.Ends.{posted_ends, taken_ends}
 use Rattle.fab_phases.proofs.Gathering.{port_at, plain_at, peers_all, lane_whole, nobody_in}
 
 -- ---- a port at which nothing was posted or taken yet

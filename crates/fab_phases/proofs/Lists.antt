@@ -1,9 +1,10 @@
 -- Members of lists by their places.
-use Rattle.std.proofs.Common.{◌≡◌, ◌<◌, ◌+◌, ℕ, zero, suc, Bool, true, false, List, [], ◌∷◌, ◌++◌, length, map, drop, take, Some, refl, sym, ap, subst, ◌∙◌, arith}
-use Rattle.std.specs.Prelude.{slice_get, slice_index_or, Result, Ok, Err, IfOk, OnOk, ◌||◌}
+use Rattle.std.proofs.Common.{◌≡◌, ◌<◌, ◌+◌, ℕ, zero, suc, Bool, false, List, [], ◌∷◌, ◌++◌, length, map, drop, take, Some, sym, ap, subst, ◌∙◌, arith}
+use Rattle.std.specs.Prelude.{slice_get, slice_index_or, Result, Ok, Err, IfOk, OnOk}
 use Rattle.std.specs.List.{All, list_any}
 use Rattle.std.proofs.lemmas.List.{get_or-drop, map-append, take_more, take_all}
 use Rattle.std.proofs.lemmas.Option.{slice_get_within, get_or_from_slice_get}
+use Rattle.fab_base.proofs.Bools.{or_false_left as neither_left, or_false_right as neither_right}
 use Rattle.fab_finish.proofs.Joining.{got}
 use Rattle.fab_finish.proofs.Resting.{mapped}
 
@@ -52,14 +53,6 @@ ok_both P Q S then (Err e) p q = _
 pub ok_always : {X E : Type 0} (P : Type 0) → P → (r : Result X E) → OnOk r P
 ok_always P p (Ok x) = p
 ok_always P p (Err e) = _
-
-neither_left : (a b : Bool) → (a || b) ≡ false → a ≡ false
-neither_left false b e = refl
-neither_left true b e = absurd (cc)
-
-neither_right : (a b : Bool) → (a || b) ≡ false → b ≡ false
-neither_right false b e = e
-neither_right true b e = absurd (cc)
 
 -- where no member passes a test, the one at a place does not
 pub none_at : {X : Type 0} (test : X → Bool) (xs : List X) (k : ℕ) (x : X) → list_any test xs ≡ false → slice_get xs k ≡ Some x → test x ≡ false

@@ -14,11 +14,12 @@ use Rattle.fab_base.specs.declared.operations.Operation.{Operation}
 use Rattle.fab_base.specs.declared.entries.Taken.{Taken}
 use Rattle.fab_base.specs.declared.items.Want.{Want}
 use Rattle.fab_model.specs.State.{State, Completions, fits, writing, with_tx}
-use Rattle.fab_model.specs.Complete.{fill, book, reply}
+use Rattle.fab_model.specs.Complete.{fill}
 use Rattle.fab_model.specs.Matching.{takes}
 use Rattle.fab_model.specs.Receiving.{Posting, give, drop_arrival, taken_by, receive_of, post, look_at, look, claim_of, take_claimed, drop_claimed, cancellable, cancel}
 use Rattle.fab_model.specs.Sending.{end_with, ending, do_sent, transmitting, going_on}
 use Rattle.fab_base.specs.Kinds.{refusal_of}
+use Rattle.fab_model.proofs.Unchanged.{book_cq}
 use Rattle.fab_reference.specs.Room.{has_room, entries_given, entries_ended, entries_sent}
 
 -- so many entries lead from one queue to the other
@@ -30,20 +31,15 @@ pub record Grows (n : ℕ) (cq after : Completions) : Type 0 where
 pub fits_grown : (n : ℕ) (cq after : Completions) → Grows n cq after → fits after ≡ has_room n cq
 fits_grown n cq after g = rw (g.written, g.taken_out, g.size) refl
 
-none_written : (cq : Completions) → Grows 0 cq cq
+pub none_written : (cq : Completions) → Grows 0 cq cq
 none_written cq = record { written = omega arith; taken_out = refl; size = refl }
 
-one_written : (call : Option ℕ) (entry : Taken) (cq : Completions) → Grows 1 cq (writing call entry cq)
+pub one_written : (call : Option ℕ) (entry : Taken) (cq : Completions) → Grows 1 cq (writing call entry cq)
 one_written call entry cq = record { written = length-append cq.written _; taken_out = refl; size = refl }
 
 -- ---- the parts
 
-book_cq : (due : Bool) (source : ℕ) (head : ItemHead) (s : State) → (book due source head s).cq ≡ s.cq
-unfolding book reply
-book_cq true source head s = refl
-book_cq false source head s = refl
-
-fill_grows : (r : Receive) (place source : ℕ) (head : ItemHead) (bytes : List ℕ) (s : State) → Grows 1 s.cq (fill r place source head bytes s).cq
+pub fill_grows : (r : Receive) (place source : ℕ) (head : ItemHead) (bytes : List ℕ) (s : State) → Grows 1 s.cq (fill r place source head bytes s).cq
 unfolding fill
 fill_grows r place source head bytes s = one_written _ _ s.cq
 

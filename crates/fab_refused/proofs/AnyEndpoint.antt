@@ -5,7 +5,7 @@
 --     refusal_keeps_the_bytes    `send`, err: a refusal hands an empty buffer back
 --     send_always_full           the same: all entries are told to be in use, where one is free
 --     releases_late              `recv_multi`, ok: the buffer is held until one byte is free, whatever was asked for
-use Rattle.std.proofs.Common.{◌≡◌, ◌≢◌, ◌<◌, ℕ, ◌+◌, ◌^◌, get_or, Bool, true, false, not, ◌&&◌, ◌||◌, inl, inr, List, [], ◌∷◌, ◌++◌, Option, Some, None, Result, Ok, Err, refl, sym, ap, ◌∙◌, subst, arith}
+use Rattle.std.proofs.Common.{◌≡◌, ◌≢◌, ◌<◌, ℕ, ◌+◌, ◌^◌, get_or, Bool, true, false, not, ◌&&◌, ◌||◌, inl, inr, List, [], ◌∷◌, ◌++◌, Option, Some, Result, Ok, Err, refl, sym, ap, ◌∙◌, subst, arith}
 use Rattle.std.specs.Prelude.{is_some, is_none, nat_le, IfErr}
 use Rattle.std.specs.List.{list_any}
 use Rattle.std.proofs.lemmas.Bool.Decides.{nat_tests}
@@ -15,12 +15,12 @@ use Rattle.fab_base.specs.declared.faults.Fault.TheVariants.{Again, Invalid, Msg
 use Rattle.fab_base.specs.declared.faults.Fault.{Fault}
 use Rattle.fab_base.specs.declared.faults.Refused.{Refused as RefusedWith}
 use Rattle.fab_base.specs.declared.operations.Receive.{Receive}
-use Rattle.fab_base.specs.declared.peers.LineResult.{LineResult}
 use Rattle.fab_base.specs.declared.peers.LineResult.TheVariants.{Done, Refused}
 use Rattle.fab_model.specs.State.{Receiving, State, in_use, lookup}
 use Rattle.fab_model.specs.Sending.{Order, first_fault, is_granted, is_too_long, is_well_formed, transmit, transmit_fault}
 use Rattle.fab_model.specs.Receiving.{Posting, draw_due, draws, post, post_fault, receive_of}
 use Rattle.fab_model.specs.Calls.{Call, Post, Transmit, answer, do_call}
+use Rattle.fab_model.proofs.Answering.{done_by as after_answer}
 use Rattle.fab_face.specs.declared.events.Moved.{Moved}
 use Rattle.fab_face.specs.declared.events.Stop.TheVariants.{Budget, Idle}
 use Rattle.fab_face.specs.Held.{Held, Seen}
@@ -94,10 +94,6 @@ module _ (call : Call) where
 
   only_call : {Home : Type 0} (old new : Seen Home) → Receives call old new → draw_due old.held.state.rx ≡ false → StaysDrawn old.held.state → do_call old.held.state call ≡ (Done, new.held.state)
   only_call old new r none stays = goes_alone r.before r.after old.held new.held r.draws r.then_draws none stays r.went.goes
-
-after_answer : (fault : Option Fault) (s after t : State) → answer fault s after ≡ (Done, t) → t ≡ after
-after_answer None s after t is = sym (ap (λ (p : LineResult × State). p.1) is)
-after_answer (Some fault) s after t is = absurd (cc (ap (λ (p : LineResult × State). p.0) is))
 
 -- ---- multi-receives
 

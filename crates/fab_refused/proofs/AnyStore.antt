@@ -10,11 +10,9 @@ use Rattle.std.proofs.lemmas.Bool.{eq-eqb}
 use Rattle.fab_base.specs.declared.items.Sign.{Sign}
 use Rattle.fab_base.specs.declared.items.Want.{Want}
 use Rattle.fab_model.specs.Matching.{remove_first}
+use Rattle.fab_model.proofs.Removing.{remove_here as from_front}
 use Rattle.fab_match.specs.Signs.{fits}
 use Rattle.fab_match.specs.Matcher.{first_id, has_id, ids, without}
-
-from_front : {X : Type 0} (test : X → Bool) (x : X) (xs : List X) → test x ≡ true → remove_first test (x ∷ xs) ≡ xs
-from_front test x xs passes = rw (passes, remove_first) refl
 
 module _ {X : Type 0} (first : ℕ × X) (others : List (ℕ × X)) where
   is_first : (test : X → Bool) → test first.1 ≡ true → first_id test (first ∷ others) ≡ Some first.0

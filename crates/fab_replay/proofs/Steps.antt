@@ -5,7 +5,7 @@ use Rattle.fab_base.specs.declared.items.Item.{Item}
 use Rattle.fab_base.specs.declared.items.ItemHead.{ItemHead}
 use Rattle.fab_base.specs.declared.operations.Receive.{Receive}
 use Rattle.fab_model.specs.Views.{View}
-use Rattle.std.proofs.lemmas.Bool.{lt-ltb, ne_eqb, eq-eqb}
+use Rattle.std.proofs.lemmas.Bool.{lt-ltb, ne_eqb, eq-eqb, and_right as and_false}
 use Rattle.std.proofs.lemmas.Bool.Decides.{nat_tests}
 use Rattle.fab_base.specs.declared.entries.Class.{Class}
 use Rattle.fab_base.specs.declared.peers.LineResult.{LineResult}
@@ -112,10 +112,6 @@ head_not_by v a source (Some item) e waits = rw (e, head_step, waits, only_if) r
 
 head_not : (v : View Item) (a : Actor) (source : ℕ) → arrives a source ≡ false → head_step v a source ≡ None
 head_not v a source waits = head_not_by v a source (slice_get (v.ready source) (slice_index a.state.rx.heads source)) refl waits
-
-and_false : (b c : Bool) → c ≡ false → (b && c) ≡ false
-and_false true c e = e
-and_false false c e = refl
 
 pub head_differs : (v : View Item) (a : Actor) (source n m : ℕ) → n ≡ slice_index a.state.rx.heads source → m ≡ slice_index a.state.rx.tails source → n ≢ m → head_step v a source ≡ None
 head_differs v a source n m heads tails differ =

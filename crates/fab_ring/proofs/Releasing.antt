@@ -6,6 +6,7 @@ use native.Mathlib.Decide.{ℕ_discrete}
 use Rattle.std.specs.Prelude.{Option, Some, None, slice_get, option_to_list}
 use Rattle.std.proofs.lemmas.Option.{same_Some, slice_get_within}
 use Rattle.std.specs.Arc.{arc_value}
+use Rattle.fab_base.proofs.Lists.{get_some}
 use Rattle.fab_wire.specs.declared.moves.Move.{Move}
 use Rattle.fab_wire.specs.declared.moves.Move.TheVariants.{Take}
 use Rattle.fab_wire.specs.Merged.{posts_to}
@@ -146,11 +147,6 @@ part_stands f k p q is me r = let t = p.fits in record {
   all_ins = r.all_ins ∙ t.all_ins ∙ ap (λ z. z.peers) is;
   closed = r.closed;
 }
-
-pub get_some : {X : Type 0} (xs : List X) (k : ℕ) → k < length xs → (x : X) × (slice_get xs k ≡ Some x)
-get_some [] k h = absurd (let no : k < 0 = h in omega arith)
-get_some (x ∷ xs) zero h = (x, refl)
-get_some (x ∷ xs) (suc k) h = get_some xs k (omega arith)
 
 less_none : (k : ℕ) → k - 0 ≡ k
 less_none k = omega arith

@@ -10,12 +10,14 @@ use Rattle.std.proofs.lemmas.List.Elements.{All-from_get_or}
 use Rattle.std.proofs.lemmas.Option.{none-some, same_Some, slice_get_within}
 use Rattle.fab_base.specs.declared.frames.FrameHead.{FrameHead}
 use Rattle.fab_base.specs.declared.frames.Frame.{Frame}
+use Rattle.fab_base.proofs.Lists.{get_some, prefix_then}
 use Rattle.fab_wire.specs.declared.moves.Move.{Move}
 use Rattle.fab_wire.specs.declared.moves.Move.TheVariants.{Post, Take}
 use Rattle.fab_wire.specs.Frames.{last_head, MayCome, IsLane}
 use Rattle.fab_wire.specs.Merged.{IsStampedAbove, IsStamped, posts_to, takes_of, merges}
 use Rattle.fab_wire.specs.Owing.{IsOwed}
 use Rattle.fab_wire.proofs.Merging.{stamped_merge}
+use Rattle.fab_wire.proofs.Lanes.{last_head-append}
 use Rattle.fab_link.specs.Meaning.{AreFresh, Incoming}
 use Rattle.fab_link.specs.Plain as plain
 use Rattle.fab_link.specs.Plain.{Plain, Lane, lane_at, fresh_lane}
@@ -35,8 +37,7 @@ use Rattle.fab_ring.specs.Ports.{frame_in, incoming, part_of, moves_of}
 use Rattle.fab_ring.specs.Gather.{AreAll, AreOwed, GoesOn, Gathered, Released, IsPartOf, IsJoined, IsRoom, AreAllRooms, Succeeds, AreSuccessors, IsWhole, Awaits, Leads, AwaitsAll, Emptied, Brought, ReceivedAll}
 use Rattle.fab_table.proofs.Orders.{takes_append}
 use Rattle.fab_ring.proofs.Facts.{comes_now}
-use Rattle.fab_ring.proofs.Releasing.{get_some}
-use Rattle.fab_ring.proofs.Joined.{last_head-append, frames_append}
+use Rattle.fab_ring.proofs.Joined.{frames_append}
 
 -- between each two parts of the seat what was taken comes first in what was posted
 abbrev pub Fed : Fabric → PeerSeat → Type 0
@@ -153,9 +154,6 @@ stamped_front g (Take e k ∷ xs) ys s = stamped_front (max g k) xs ys s
 
 prefix_map : {A B : Type 0} (g : A → B) (xs ys : List A) → IsPrefix xs ys → IsPrefix (map g xs) (map g ys)
 prefix_map g xs ys p = (map g p.0, sym (map-append g xs p.0) ∙ ap (map g) p.1)
-
-prefix_then : {A : Type 0} (xs ys zs : List A) → IsPrefix xs ys → IsPrefix ys zs → IsPrefix xs zs
-prefix_then {A = A} xs ys zs p q = (p.0 ++ q.0, sym (append_assoc xs p.0 q.0) ∙ ap (λ (z : List A). z ++ q.0) p.1 ∙ q.1)
 
 map_at : (ports : List RingPort) (k : ℕ) (p : RingPort) → slice_get ports k ≡ Some p → get_or (map moves_of ports) k [] ≡ moves_of p
 map_at [] k p e = absurd (none-some p e)

@@ -121,11 +121,6 @@ module _ (homes : ℕ → Option ℕ) (calls : ℕ → ℕ) (seats : Cells Waiti
   pub fed_as : (coming : List (Option Begun)) (comes : List (Option Coming)) → length comes ≡ length coming → ((s : ℕ) → GoesHome homes calls seats (get_or coming s None) (get_or comes s None)) → list_any (is_into r.call) comes ≡ list_any (is_fed_by id) coming
   fed_as coming comes long ways = any_alike (is_into r.call) (is_fed_by id) comes coming long (λ s. fed_alike homes calls seats id r part (get_or coming s None) (get_or comes s None) (ways s))
 
--- what is there where something is
-pub there_is : {X : Type 0} (o : Option X) → is_some o ≡ true → (x : X) × (o ≡ Some x)
-there_is None e = absurd (cc)
-there_is (Some x) e = (x, refl)
-
 -- ---- an item that comes with its first frame
 
 module _ (ps : List (ℕ × Want)) (us : List (ℕ × Sign)) (room : ℕ) (seats : Cells Waiting) (parcels : Cells Parcel) (coming : List (Option Begun)) (v : Arriving) (kept : IsKept ps us room seats parcels coming v)

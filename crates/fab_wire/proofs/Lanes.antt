@@ -28,3 +28,22 @@ message_by kind item (inr h) n = rw h n
 -- the head of a message is sound
 pub IsSound-message : (item : ItemHead) → (item.kind ≡ Msg) ⊎ (item.kind ≡ TagMsg) → item.atom ≡ None → IsSound item
 IsSound-message item h n = message_by item.kind item h (rw n refl)
+
+-- ---- a lane and what goes on behind it
+
+pub last_head-append : (before : Option FrameHead) (xs ys : List Frame) → last_head before (xs ++ ys) ≡ last_head (last_head before xs) ys
+last_head-append before [] ys = refl
+last_head-append before (x ∷ xs) ys = last_head-append (Some x.head) xs ys
+
+pub IsLane-append : (before : Option FrameHead) (xs ys : List Frame) → IsLane before xs → IsLane (last_head before xs) ys → IsLane before (xs ++ ys)
+IsLane-append before [] ys a b = b
+IsLane-append before (x ∷ xs) ys a b = (a.0, IsLane-append (Some x.head) xs ys a.1 b)
+
+pub lane_front : (before : Option FrameHead) (xs ys : List Frame) → IsLane before (xs ++ ys) → IsLane before xs
+lane_front before [] ys lane = tt
+lane_front before (x ∷ xs) ys lane = (lane.0, lane_front (Some x.head) xs ys lane.1)
+
+-- the frames behind others are a lane that goes on behind these
+pub lane_rest : (before : Option FrameHead) (xs ys : List Frame) → IsLane before (xs ++ ys) → IsLane (last_head before xs) ys
+lane_rest before [] ys lane = lane
+lane_rest before (x ∷ xs) ys lane = lane_rest (Some x.head) xs ys lane.1

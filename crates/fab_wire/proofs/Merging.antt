@@ -101,17 +101,17 @@ none_by m p (Some (Post d k ∷ moves)) ordered stuck e = absurd (let x = stuck_
 none_by m p (Some (Take s k ∷ moves)) ordered stuck e = absurd (no_take m ordered stuck (suc k) p s k moves (omega arith) e)
 
 -- the lanes after one of them changed
-inside_same : (inside : ℕ → ℕ → ℕ) (s d n : ℕ) → with_inside inside s d n s d ≡ n
+pub inside_same : (inside : ℕ → ℕ → ℕ) (s d n : ℕ) → with_inside inside s d n s d ≡ n
 inside_same inside s d n = let a : eqb s s ≡ true = eq-eqb s s refl in let b : eqb d d ≡ true = eq-eqb d d refl in rw (a, b) refl
 
-inside_from : (inside : ℕ → ℕ → ℕ) (s d n s' d' : ℕ) → s' ≢ s → with_inside inside s d n s' d' ≡ inside s' d'
+pub inside_from : (inside : ℕ → ℕ → ℕ) (s d n s' d' : ℕ) → s' ≢ s → with_inside inside s d n s' d' ≡ inside s' d'
 inside_from inside s d n s' d' ne = let a : eqb s' s ≡ false = ne_eqb s' s ne in rw a refl
 
-inside_to_by : (b : Bool) (x y : ℕ) → cond (b && false) x y ≡ y
+pub inside_to_by : (b : Bool) (x y : ℕ) → cond (b && false) x y ≡ y
 inside_to_by true x y = refl
 inside_to_by false x y = refl
 
-inside_to : (inside : ℕ → ℕ → ℕ) (s d n s' d' : ℕ) → d' ≢ d → with_inside inside s d n s' d' ≡ inside s' d'
+pub inside_to : (inside : ℕ → ℕ → ℕ) (s d n s' d' : ℕ) → d' ≢ d → with_inside inside s d n s' d' ≡ inside s' d'
 inside_to inside s d n s' d' ne = let a : eqb d' d ≡ false = ne_eqb d' d ne in rw a (inside_to_by (eqb s' s) n (inside s' d'))
 
 posts_own : (d k : ℕ) (moves : List Move) → posts_to d (Post d k ∷ moves) ≡ k ∷ posts_to d moves
@@ -238,7 +238,7 @@ next_by m next p (Some (Post d k ∷ rest)) ordered here e =
 next_by m next p (Some (Take s k ∷ rest)) ordered here e = next_take m next p s k (m.inside s p) rest ordered here refl e
 
 -- the lowest turn is some peer's; where there is none, no peer has one
-either_turn : (a b : Option Merging) (next : Merging) → option_or a b ≡ Some next → (a ≡ Some next) ⊎ (b ≡ Some next)
+pub either_turn : (a b : Option Merging) (next : Merging) → option_or a b ≡ Some next → (a ≡ Some next) ⊎ (b ≡ Some next)
 either_turn None b next e = inr e
 either_turn (Some x) b next e = inl e
 
@@ -246,7 +246,7 @@ no_turn : (a b : Option Merging) → option_or a b ≡ None → (a ≡ None) × 
 no_turn None b e = (refl, e)
 no_turn (Some x) b e = absurd (cc (e))
 
-lowest_is : (m next : Merging) (n : ℕ) → lowest_turn m n ≡ Some next → (p : ℕ) × (turn m p ≡ Some next)
+pub lowest_is : (m next : Merging) (n : ℕ) → lowest_turn m n ≡ Some next → (p : ℕ) × (turn m p ≡ Some next)
 lowest_is m next zero e = absurd (cc (e))
 lowest_is m next (suc n) e = elim (either_turn (lowest_turn m n) (turn m n) next e) [ inl a ↦ lowest_is m next n a | inr b ↦ (n, b) ]
 
@@ -293,3 +293,9 @@ stamped_merge moves stamped fed =
       lanes = λ s d. ([], refl, fed s d);
     } in
     all_empty (merged_for (sum_by length moves) m).left (all_used (sum_by length moves) m ordered (omega arith))
+
+-- a take behind moves asks for no stamp
+pub stamped_take : (g : ℕ) (ms : List Move) (d k : ℕ) → IsStampedAbove g ms → IsStampedAbove g (ms ++ Take d k ∷ [])
+stamped_take g [] d k s = tt
+stamped_take g (Post e j ∷ xs) d k s = (s.0, stamped_take j xs d k s.1)
+stamped_take g (Take e j ∷ xs) d k s = stamped_take (max g j) xs d k s

@@ -1,14 +1,11 @@
 -- How many replies begin and how many items that owe one end, as a lane grows.
 use Rattle.std.proofs.Common.{◌≡◌, ◌≢◌, ◌≤◌, ◌⊎◌, inl, inr, ◌+◌, ℕ, Bool, true, false, ◌&&◌, List, [], ◌∷◌, ◌++◌, cond, refl, arith}
-use Rattle.std.specs.Prelude.{count_by, ◌==◌}
-use Rattle.std.proofs.lemmas.List.Sums.{sum_by-append}
+use Rattle.std.specs.Prelude.{◌==◌}
 use Rattle.std.proofs.lemmas.Bool.{cases_eq}
 use Rattle.std.proofs.lemmas.Bool.Decides.{nat_tests}
 use Rattle.fab_base.specs.declared.frames.Frame.{Frame}
+pub use Rattle.fab_base.proofs.Lists.{count_by-append}
 use Rattle.fab_wire.specs.Owing.{begins_reply, ends_owing, replies, owing, IsOwed}
-
-pub count_by-append : {X : Type 0} (p : X → Bool) (xs ys : List X) → count_by p (xs ++ ys) ≡ count_by p xs + count_by p ys
-count_by-append p xs ys = sum_by-append (λ x. cond (p x) 1 0) xs ys
 
 pub replies-append : (op : ℕ) (xs ys : List Frame) → replies op (xs ++ ys) ≡ replies op xs + replies op ys
 replies-append op xs ys = count_by-append (λ f. begins_reply f.head && (f.head.item.op == op)) xs ys

@@ -31,6 +31,7 @@ use Rattle.fab_face.specs.Acts.{posted_to, taken_of}
 use Rattle.fab_merging.specs.Law.{IsFresh, ins_at, outs_at}
 use Rattle.fab_merging.specs.Pasts.{begun}
 use Rattle.fab_merging.proofs.Opening.{start_fresh}
+use Rattle.fab_merging.proofs.rows.Hello.{no_items}
 use Rattle.fab_doings.specs.Doings.{Calls, Did, Doing, DoesBy, Had, Living, Posted, Took, acts_of}
 use Rattle.fab_doings.specs.Law.{AreTold, IsRun, Kept, KeptBy, Past}
 use Rattle.fab_doings.proofs.Obeying.{program_obeys}
@@ -126,9 +127,6 @@ kept1 : KeptBy (begun (resting start [])) x1 sends
 kept1 = record { lives = sender; doings = refl; moves = (Out 0 1 ∷ [], refl, refl); outs = λ d. refl; ins = λ s. refl }
 
 -- ---- both
-
-no_items : (items : List Item) (i : ℕ) (item : Item) → items ≡ [] → slice_get items i ≡ Some item → ⊥
-no_items items i item none e = let is : slice_get {X = Item} [] i ≡ Some item = subst (λ xs. slice_get xs i ≡ Some item) none e in cc (is)
 
 items0 : AreItems (x0.living).held
 unfolding machine

@@ -39,10 +39,11 @@ use Rattle.fab_model.specs.Target.{perform}
 use Rattle.fab_model.specs.Arrivals.{completed, do_draw, do_head, do_request, do_tail, heading_message, heading_other, is_wanted, keeping, made_whole, remote_class, remote_data, remote_event, seated, seating, stays, tail_to, taker, used_up, way_of, with_regions}
 use Rattle.fab_model.specs.Calls.{Call, Transmit, Post, Look, TakeClaimed, DropClaimed, Cancel, CancelFirst, Insert, Remove, Reg, Close, Put, Show, Count, answer, close, do_call, insert, put, reg, remove}
 use Rattle.fab_model.proofs.Fences.{out_and_back}
+use Rattle.fab_model.proofs.Removing.{length-remove_first-le as removed_shorter}
 use Rattle.fab_laws.specs.Work.{coming_work, halves, heft, item_work, kind_work, on_way, own_work, waiting}
 use Rattle.fab_laws.proofs.Counts.{any_many, not_found}
 use Rattle.fab_laws.proofs.Lists.{found_in}
-use Rattle.fab_laws.proofs.working.Sums.{changed_length, halves_head, halves_tail, heft_put, on_way_join, removed_length, removed_shorter, waiting_join, waiting_sent}
+use Rattle.fab_laws.proofs.working.Sums.{changed_length, halves_head, halves_tail, heft_put, on_way_join, removed_length, waiting_join, waiting_sent}
 
 -- the work of a peer's state, and what its items on their way bring at n receivers at which so many have arrived
 abbrev pub cost : ℕ → (ℕ → ℕ) → State → ℕ

@@ -1,8 +1,10 @@
 use Rattle.std.proofs.Common.{is_some, ◌≡◌, ◌==◌, ◌<◌, ◌∙◌, ap, sym, subst, false, arith}
 use Rattle.fab_base.specs.declared.items.Want.{Want}
 use Rattle.std.specs.List.{list_any}
+use Rattle.fab_base.proofs.Lists.{list_any-find}
 use Rattle.fab_match.specs.Matcher.{Store, has_id, without, HasDistinctIds}
 use Rattle.fab_model.proofs.Firsts.{remove_first-none as unchanged}
+use Rattle.fab_model.proofs.Removing.{length-remove_first-le}
 use Rattle.fab_match.proofs.Pairs.{has_id-without}
 use Rattle.fab_bins.specs.declared.shelf.Card.{Card}
 use Rattle.fab_bins.specs.Each.{Each}
@@ -10,7 +12,7 @@ use Rattle.fab_bins.specs.Shelf.{cards}
 use Rattle.fab_bins.specs.Numbers.{Rising}
 use Rattle.fab_bins.specs.Filed.{IsFiledByWant}
 use Rattle.fab_bins.specs.BinMatcher.{pairs}
-use Rattle.fab_bins.proofs.Lists.{list_any-find, Each-remove_first, length-remove_first-le}
+use Rattle.fab_bins.proofs.Lists.{Each-remove_first}
 use Rattle.fab_bins.proofs.Matching.{loose-removed, has_id-pairs, without-pairs, HasDistinctIds-without, Rising-remove_first}
 use Rattle.fab_bins.proofs.bin_matcher.BinMatcherMatcher.remove_posted.Goals as goal
 use Rattle.fab_bins.proofs.bin_matcher.BinMatcherMatcher.remove_posted.Goals.{After-is_some}

@@ -1,5 +1,6 @@
 use Rattle.std.proofs.Common.{is_some, ◌≡◌, ◌==◌, ◌<◌, ◌∙◌, ap, sym, subst, false}
 use Rattle.std.specs.List.{list_any}
+use Rattle.fab_base.proofs.Lists.{list_any-find}
 use Rattle.fab_match.specs.Matcher.{Store, has_id, without, HasDistinctIds}
 use Rattle.fab_model.proofs.Firsts.{remove_first-none as unchanged}
 use Rattle.fab_match.proofs.Pairs.{has_id-without}
@@ -7,7 +8,7 @@ use Rattle.fab_bins.specs.Each.{Each}
 use Rattle.fab_bins.specs.Shelf.{cards}
 use Rattle.fab_bins.specs.Filed.{IsFiledBySign}
 use Rattle.fab_bins.specs.BinMatcher.{pairs}
-use Rattle.fab_bins.proofs.Lists.{list_any-find, Each-remove_first}
+use Rattle.fab_bins.proofs.Lists.{Each-remove_first}
 use Rattle.fab_bins.proofs.Matching.{has_id-pairs, without-pairs, HasDistinctIds-without}
 use Rattle.fab_bins.proofs.bin_matcher.BinMatcherMatcher.remove_unexpected.Goals as goal
 

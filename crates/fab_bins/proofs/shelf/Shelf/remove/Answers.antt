@@ -2,9 +2,9 @@ use Rattle.std.proofs.Common.{◌≡◌, ◌∙◌, ◌==◌, ◌+◌, ap, sym, 
 use Rattle.std.specs.Option.{OnSome, option_and_then}
 use Rattle.std.proofs.lemmas.Bool.{eqb-true}
 use Rattle.slab.specs.Slab.{slab_len, get}
+use Rattle.fab_model.proofs.Firsts.{not_found as remove_first-none}
 use Rattle.fab_bins.specs.Shelf.{listed, held, places}
 use Rattle.fab_bins.proofs.Filing.{find-listed, listed-remove_first}
-use Rattle.fab_bins.proofs.Lists.{remove_first-none}
 use Rattle.fab_bins.proofs.Keeping.{Removes, card_there, linked_all, linked_id, linked_near, linked_wide, IsKept-removed, cards-removed}
 use Rattle.fab_bins.proofs.shelf.Shelf.remove.Given as given
 use Rattle.fab_bins.proofs.shelf.Shelf.remove.Goals as goal

@@ -11,9 +11,11 @@ use Rattle.fab_table.specs.declared.kinds.Part.{Part}
 use Rattle.fab_table.specs.Views.{frames_of, part_at, in_at, with_in, saw_frame, saw_empty}
 use Rattle.fab_table.specs.Plays.{Sat, slot_home, oldest_of}
 use Rattle.fab_ring.specs.Hands.{shapes, Fits, Sees, Tells, Told, Ends, Comes}
-use Rattle.fab_ring.proofs.Hold.{get_any, flag_at, nothing, shapes_two, fits_empty, fits_open, fits_open_slot, got_len}
+use Rattle.fab_ring.proofs.Hold.{flag_at, shapes_two, fits_empty, fits_open, fits_open_slot, got_len}
 use Rattle.fab_ring.proofs.Rounds.{got_cell, cell_small}
 use Rattle.std.proofs.Math.Nat.{mod-lt}
+use Rattle.std.proofs.lemmas.List.{get_or_default as get_any}
+use Rattle.fab_base.proofs.Options.{not_some as nothing}
 use Rattle.fab_ring.proofs.Ends.{in_all}
 use Rattle.fab_ring.proofs.Told.{told_set, comes_in}
 use Rattle.fab_ring.proofs.Lasts.{ends_in}

@@ -17,10 +17,11 @@ use Rattle.fab_table.specs.Plays.{Sat, oldest_of}
 use Rattle.fab_ring.specs.Hands.{shapes, held, Fits, Sees, Told, Ends, Comes, ups}
 use Rattle.fab_ring.proofs.Hold.{behind, cell_first, fits_first, fits_take, got_len}
 use Rattle.fab_ring.proofs.Ends.{in_over, in_all}
-use Rattle.fab_ring.proofs.Told.{told_in, comes_in, opened_is}
+use Rattle.fab_ring.proofs.Told.{told_in, comes_in}
 use Rattle.fab_ring.proofs.Lasts.{ends_take}
 use Rattle.fab_ring.proofs.Rounds.{got_cell, rounds_got}
 use Rattle.std.proofs.Math.Nat.{mod-lt}
+use Rattle.fab_base.proofs.Options.{there_is as opened_is}
 use Rattle.fab_ring.proofs.Facts.{comes_now}
 use Rattle.fab_ring.proofs.Seeing.{sees_in}
 use Rattle.fab_ring.proofs.Counting.{ups_less}

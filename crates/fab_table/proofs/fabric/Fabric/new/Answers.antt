@@ -1,6 +1,7 @@
 use Rattle.std.proofs.Common.{◌≡◌, ℕ, ap, ◌∙◌, get_or, replicate, List, []}
+use Rattle.fab_base.proofs.Lists.{all_the_same as same_all}
 use Rattle.fab_table.specs.declared.kinds.Slot.TheVariants.{Pool}
-use Rattle.fab_table.proofs.Seating.{starts, same_all}
+use Rattle.fab_table.proofs.Seating.{starts}
 use Rattle.fab_table.proofs.fabric.Fabric.new.Goals as goal
 
 pub new-requires : goal.new-requires
