@@ -7,7 +7,7 @@ use Rattle.fab_table.specs.declared.kinds.Slot.TheVariants.{Pool}
 use Rattle.fab_table.specs.declared.kinds.In.{In}
 use Rattle.fab_table.specs.declared.kinds.View.{View}
 use Rattle.fab_table.specs.Views.{part_at, in_at, saw_frame}
-use Rattle.fab_table.specs.Plays.{Sat, SawPut, new_in_view, oldest_cell, slot_home}
+use Rattle.fab_table.specs.Plays.{Sat, new_in_view, oldest_cell, slot_home}
 use Rattle.fab_table.specs.Seats.{view_of_seat, sat}
 use Rattle.fab_ring.proofs.Hold.{home_small}
 use Rattle.fab_ring.proofs.Ends.{the_filled, the_said, same_buffer, opened_all, found_first, found_pooled}
@@ -58,6 +58,3 @@ returns-clause-pooled c = let v : View = view_of_seat c.args.seat.now in let s :
       sized,
       all.1 ∙ (λ i. (v₁, (m.1 ++ (old, cell.1 i) ∷ []) ++ (slot_home v 0 slot, Pool c.args.buffer.now) ∷ [])),
     )
-
-pub returns-clause-saw : goal.returns-clause-saw
-returns-clause-saw c = λ _. subst (λ (r : ℕ). SawPut (sat c.args.seat.now) r (sat c.look_put-put.new.seat) 0 c.args.next.now.src) c.if-put-next.true c.look_put-put.ensures.view
