@@ -184,7 +184,12 @@ impl Port for PlainPort {
 
     ghost in_list = { λ h s. Some (h.in_lists s) };
 
+    // All that came of the peer was taken.
+    ghost SawNone = { λ p q s. (in_of p s).taken ≡ (lane_at p s).in_list };
+
     ghost taken_first = { λ p s. take_prefix (lane_at p s).taken (lane_at p s).in_list };
+
+    ghost none_behind = { λ p q s all. all };
 
     fn me(&self) -> u32 {
         self.me

@@ -5,9 +5,10 @@
 --     full_at_moved                `post`, noticed: the place of the last full lane moves, and no count does
 --     none_where_a_frame_stands    `front`, after: a look tells that no frame comes, and one is lent
 --     an_empty_lane_not_counted    the same: a look tells that no frame comes, and nothing is counted
+--     none_unseen                  the same, saw: a look tells that no frame comes, counts it, and saw no such thing
 --     skips_a_frame                the same: a look steps over the frame that it tells of
 use Rattle.std.proofs.Common.{◌≡◌, ◌≢◌, ℕ, ◌+◌, ◌^◌, ◌<◌, Bool, false, inl, inr, [], ◌∷◌, ◌++◌, length, length-append, Option, Some, None, Result, Err, sym, ap, ◌∙◌, arith}
-use Rattle.std.specs.Prelude.{IsErrOf, is_some}
+use Rattle.std.specs.Prelude.{IsErrOf, IfNone, is_some}
 use Rattle.fab_base.specs.Counts.{Rose}
 use Rattle.fab_base.specs.declared.frames.Frame.{Frame}
 use Rattle.fab_base.specs.declared.frames.FrameRef.{FrameRef}
@@ -46,6 +47,16 @@ module _ (old new : Outgoing) where
       | inr at_pool ↦ no_rise old.pool_full_seen new.pool_full_seen pool pools at_pool
     ]
   ]
+
+-- ---- what a look saw
+
+pub saw_none : {Saw : Type 0} (answer : Option FrameRef) (told : Bool) → told ≡ is_some answer → IfNone answer Saw → told ≡ false → Saw
+saw_none None told is saw none = saw
+saw_none (Some f) told is saw none = absurd (cc (sym none ∙ is))
+
+-- Saw is what the port's own `SawNone` comes to for this call
+pub none_unseen : (Saw : Type 0) (told : Bool) → (told ≡ false → Saw) → told ≡ false → (Saw → ⊥) → ⊥
+none_unseen Saw told saw none unseen = unseen (saw none)
 
 -- ---- a look: the lane's count of empty looks is not at its last value
 

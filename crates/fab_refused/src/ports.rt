@@ -1,5 +1,5 @@
 //! Calls of any port.
-ghost use Rattle.std.specs.Prelude.{◌≡◌, ◌<◌, ◌++◌, ◌∷◌, [], Option, is_some, length, IsErrOf, OnOk};
+ghost use Rattle.std.specs.Prelude.{◌≡◌, ◌<◌, ◌++◌, ◌∷◌, [], false, Option, is_some, length, IsErrOf, OnOk};
 ghost use Rattle.fab_base.specs.Counts.{Rose};
 ghost use Rattle.fab_base.specs.declared.frames.FrameRef.{FrameRef};
 ghost use Rattle.fab_wire.specs.Frames.{frame, Continues};
@@ -35,6 +35,7 @@ pub fn post<P: Port>(
 pub fn comes<P: Port>(port: &mut P, src: u32) -> bool
     requires { src < P.peer_count port.old }
     ensures after { (answer : Option FrameRef) × (result ≡ is_some answer) × Fronted (P.ins port.old src) (P.ins port.new src) answer }
+    ensures saw { result ≡ false → P.SawNone port.old port.new src }
 {
     port.front(src).is_some()
 }

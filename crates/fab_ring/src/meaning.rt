@@ -8,6 +8,7 @@ ghost use Rattle.fab_wire.specs.Frames.{frame, Continues};
 ghost use Rattle.fab_link.specs.Meaning.{Others, end_of, Noticed, Repays, GrewBy, advanced};
 ghost use Rattle.fab_table.specs.Views.{out_at, in_at};
 ghost use Rattle.fab_table.specs.Plays.{most};
+ghost use Rattle.fab_ring.specs.Looks.{SawAllTaken};
 ghost use Rattle.fab_ring.specs.Ports.{part_of, number_of, peers_of, room_of, pool_of, out_of, in_of, moves_of, table_of, got_seen, tries, slots, clock_of, one_more};
 
 use crate::port::RingPort;
@@ -35,7 +36,11 @@ impl Port for RingPort {
 
     ghost in_list = { λ h s. None };
 
+    ghost SawNone = { SawAllTaken };
+
     ghost taken_first = { λ p s. tt };
+
+    ghost none_behind = { λ p q s saw. tt };
 
     fn me(&self) -> u32 {
         self.me

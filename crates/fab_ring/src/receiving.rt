@@ -8,7 +8,7 @@ ghost use Rattle.fab_table.specs.declared.kinds.Sent.{Sent};
 ghost use Rattle.fab_table.specs.declared.kinds.Slot.{Slot};
 ghost use Rattle.fab_table.specs.declared.kinds.Slot.TheVariants.{Cell, Pool};
 ghost use Rattle.fab_table.specs.Views.{frames_of, saw_empty, saw_frame, freed_one};
-ghost use Rattle.fab_table.specs.Plays.{oldest_cell, slot_home, new_in_view};
+ghost use Rattle.fab_table.specs.Plays.{SawPut, oldest_cell, slot_home, new_in_view};
 ghost use Rattle.fab_table.specs.Seats.{IsOf, IsSame, carried, view_of_seat, sat, part_of, in_of};
 ghost use Rattle.fab_ring.specs.Steps.{Frees, LooksEmpty, LooksInline, LooksPooled};
 ghost use Rattle.fab_ring.specs.Alone.{IsAlone};
@@ -51,6 +51,7 @@ pub(crate) fn open_next(
     requires spare { length buffer.old ≡ FRAME_BYTES }
     ensures seat { IsSame seat.old seat.new }
     ensures empty { result ≡ Empty → (command.new ≡ command.old) × (buffer.new ≡ buffer.old) × LooksEmpty next.now seat.old seat.new }
+    ensures saw { result ≡ Empty → SawPut (sat seat.old) next.now.got (sat seat.new) 0 next.now.src }
     ensures inline { result ≡ Inline → LooksInline next.now seat.old seat.new command.new buffer.old buffer.new }
     ensures pooled { result ≡ Pooled → LooksPooled fabric.now next.now seat.old seat.new command.new buffer.old buffer.new }
 {

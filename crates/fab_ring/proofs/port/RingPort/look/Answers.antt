@@ -92,3 +92,13 @@ invariant_of-self-in-Pooled c = let q = c.seek.new.self in let P = c.args.self.n
       counted = more;
       comes = subst (λ (z : Part). ∥ Comes z ∥₁) (sym all.1) ∣ comes_in p s u' p.moves inside (λ w e. subst (λ (v : Sent). MayCome (last_head None (frames_of u.taken)) v.frame) (same_Some x w e) got.8) (comes_now p q.comes) ∣₁;
     }
+
+pub returns-in-Empty-clause-saw : goal.returns-in-Empty-clause-saw
+returns-in-Empty-clause-saw c = λ _ _. let q = c.seek.new.self in let s : ℕ = c.args.src in let near : s < (arc_value q.fabric).peers = subst (λ t. s < t.peers) (sym c.seek.ensures.port.0) c.requires in record {
+  seat = q.seat.seat.me;
+  alone = q.at.1;
+  knew = c.seek.ensures.part;
+  shown = c.index-got.result.now;
+  step = c.open_next-found.ensures.saw c.in-Empty.is;
+  all = got_len _ _ _ _ _ _ _ _ _ _ _ _ q.fits s c.index-got.result.now near c.index-got.ensures ∙ ap (λ (z : Part). length (in_at z s).taken) c.seek.ensures.part;
+}
