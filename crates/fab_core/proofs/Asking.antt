@@ -12,7 +12,7 @@ use Rattle.fab_base.specs.declared.items.Form.TheVariants.{Base, Fetch, Compare}
 use Rattle.fab_base.specs.declared.items.Kind.{Kind}
 use Rattle.fab_base.specs.declared.items.Kind.TheVariants.{Msg, TagMsg, WriteReq, ReadReq, AtomicReq, Reply}
 use Rattle.fab_base.specs.declared.peers.LineResult.TheVariants.{Done, Refused}
-use Rattle.fab_wire.specs.Frames.{IsSound, operand_bytes, compare_bytes}
+use Rattle.fab_link.specs.Frames.{IsSound, operand_bytes, compare_bytes}
 use Rattle.fab_base.specs.Replies.{is_reply}
 use Rattle.fab_base.specs.Kinds.{is_message}
 use Rattle.fab_model.specs.State.{State, in_use, lookup}

@@ -26,7 +26,7 @@ use Rattle.fab_face.specs.declared.machine.Ask.{Ask}
 use Rattle.fab_face.specs.declared.machine.Message.{Message}
 use Rattle.fab_core.specs.Parts.{Parts, held_of, state_of}
 use Rattle.fab_core.specs.Doing.{accepted_by, lasting_post, lasting_transmit, left_by, posted_by}
-use Rattle.fab_orders.specs.Orders.{most_of, order_of, posting_of, wanted}
+use Rattle.fab_settling.specs.Orders.{most_of, order_of, posting_of, wanted}
 use Rattle.fab_core.specs.Passing.{is_held, passing, passing_post}
 use Rattle.fab_core.proofs.Doing.{accepted_is, left_is, posted_is}
 use Rattle.fab_core.proofs.Made.{none_made}

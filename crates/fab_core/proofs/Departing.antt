@@ -23,8 +23,8 @@ use Rattle.fab_rx.specs.Stored.{turned}
 use Rattle.fab_tx.specs.Transit.{Transit}
 use Rattle.fab_face.specs.Owed.{is_due}
 use Rattle.fab_core.specs.Parts.{IsFitting, IsTogether, Parts, bit, count_of, due_for, is_owed, is_owed_aside, owed}
-use Rattle.fab_ends.specs.Ends.{booked}
-use Rattle.fab_orders.specs.Looks.{is_due_now}
+use Rattle.fab_settling.specs.Ends.{booked}
+use Rattle.fab_settling.specs.Looks.{is_due_now}
 use Rattle.fab_core.proofs.Owing.{count_last, count_without, either_is}
 use Rattle.fab_core.proofs.Together.{booked_rooms, sent_booked, together_with}
 

@@ -32,9 +32,9 @@ use Rattle.fab_tx.proofs.Answering.{answered_none, answered_some}
 use Rattle.fab_face.specs.declared.machine.Ask.{Ask}
 use Rattle.fab_face.specs.declared.machine.Message.{Message}
 use Rattle.fab_core.specs.Parts.{IsFitting, Parts, state_of}
-use Rattle.fab_ends.specs.Ends.{booked, entry_at_end}
+use Rattle.fab_settling.specs.Ends.{booked, entry_at_end}
 use Rattle.fab_core.specs.Doing.{accepted_by, answered, called, ending_by, heading, left_by, let_back, posted_by, received, receive_now, sent, tail, with_arriving, with_transit}
-use Rattle.fab_orders.specs.Orders.{order_of, posting_of, wanted}
+use Rattle.fab_settling.specs.Orders.{order_of, posting_of, wanted}
 use Rattle.fab_core.proofs.Serves.{requested_is}
 
 -- ---- tests

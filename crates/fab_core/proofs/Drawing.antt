@@ -34,10 +34,10 @@ use Rattle.fab_tx.specs.Transit.{IsTransit}
 use Rattle.fab_face.specs.Acts.{Drew, Goes}
 use Rattle.fab_face.specs.Machine.{StayNext}
 use Rattle.fab_core.specs.Parts.{IsTogether, Parts, held_of, state_of}
-use Rattle.fab_ends.specs.Ends.{booked}
+use Rattle.fab_settling.specs.Ends.{booked}
 use Rattle.fab_core.specs.Doing.{let_back, received, with_arriving}
 use Rattle.fab_core.specs.Draws.{call_drawn, drew, drew_as}
-use Rattle.fab_orders.specs.Looks.{is_due_now}
+use Rattle.fab_settling.specs.Looks.{is_due_now}
 use Rattle.fab_core.proofs.Departing.{Leaves, count_found, into_way, left_by, left_room, left_together, partly_found}
 use Rattle.fab_core.proofs.Doing.{completed_is, is_released, passes}
 use Rattle.fab_core.proofs.Fits.{fits_writing, fits_two}

@@ -12,7 +12,7 @@ use Rattle.fab_base.specs.declared.items.Kind.TheVariants.{Msg, TagMsg, WriteReq
 use Rattle.fab_base.specs.declared.operations.Coming.{Coming}
 use Rattle.fab_base.specs.declared.operations.Coming.TheVariants.{Into, Keep, Throw, Request, Answer}
 use Rattle.fab_base.specs.declared.operations.Receive.{Receive}
-use Rattle.fab_wire.specs.Joined.{grown, is_last}
+use Rattle.fab_link.specs.Joined.{grown, is_last}
 use Rattle.fab_model.specs.Complete.{fill_multi, filled, filling, is_made_by}
 use Rattle.fab_model.specs.Matching.{change_first}
 use Rattle.fab_base.specs.Kinds.{is_message}
@@ -28,14 +28,14 @@ use Rattle.fab_face.specs.Answers.{FrameLacks}
 use Rattle.fab_face.specs.Machine.{IsNext, StayNext}
 use Rattle.fab_rma.specs.Serving.{is_request, outcome_at}
 use Rattle.fab_core.specs.Parts.{IsFitting, IsTogether, Parts, held_of, state_of}
-use Rattle.fab_ends.specs.Ends.{answer_writes}
+use Rattle.fab_settling.specs.Ends.{answer_writes}
 use Rattle.fab_core.specs.Doing.{arrived, fed, lacks_at_tail, tail, writes_at_tail}
 use Rattle.fab_core.proofs.Doing.{heading_is, tail_is}
 use Rattle.fab_base.specs.Replies.{is_reply}
 use Rattle.fab_rx.proofs.Growing.{item_there}
 use Rattle.fab_core.proofs.Fits.{fits_tail}
 use Rattle.fab_core.proofs.Together.{fitting_arrived}
-use Rattle.fab_ends.specs.Served.{writes_data}
+use Rattle.fab_settling.specs.Served.{writes_data}
 
 -- ---- a first frame, or another one
 

@@ -23,9 +23,9 @@ use Rattle.fab_tx.specs.declared.results.Ended.{Ended}
 use Rattle.fab_rma.specs.Serving.{outcome_at}
 use Rattle.fab_core.specs.Parts.{Parts, state_of}
 use Rattle.fab_core.proofs.Doing.{sent_is}
-use Rattle.fab_ends.specs.Ends.{answer_writes, cq_after, entry_at_end, writes_end, written_if}
+use Rattle.fab_settling.specs.Ends.{answer_writes, cq_after, entry_at_end, writes_end, written_if}
 use Rattle.fab_core.specs.Doing.{answered, lacks_at_tail, sent, tail, whole, with_arriving, writes_at_tail}
-use Rattle.fab_ends.specs.Served.{data_of}
+use Rattle.fab_settling.specs.Served.{data_of}
 use Rattle.fab_core.proofs.Serves.{writes_told}
 
 -- an end writes a completion unless it is silent and a success

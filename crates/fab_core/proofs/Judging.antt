@@ -23,7 +23,7 @@ use Rattle.fab_face.specs.Machine.{StayNext}
 use Rattle.fab_face.specs.declared.looking.Look.{Look}
 use Rattle.fab_core.specs.Parts.{Parts, held_of, state_of}
 use Rattle.fab_core.specs.Passing.{is_held}
-use Rattle.fab_orders.specs.Orders.{look_want}
+use Rattle.fab_settling.specs.Orders.{look_want}
 use Rattle.fab_core.specs.Looks.{dropped_by, is_held_take, lasting_claimed, lasting_look, looked_by, taken_by}
 use Rattle.fab_core.proofs.Made.{none_made}
 use Rattle.fab_core.proofs.Fits.{fits_writing}

@@ -20,14 +20,14 @@ use Rattle.fab_face.specs.Answers.{IsSharing}
 use Rattle.fab_rx.specs.Arriving.{call_in, id_in}
 use Rattle.fab_rx.specs.Opened.{is_multi, opened}
 use Rattle.fab_rx.proofs.Tying.{tied_push as zip_push}
-use Rattle.fab_ends.specs.declared.places.Place.{Place}
-use Rattle.fab_ends.specs.declared.places.Place.TheVariants.{Open, Ended}
-use Rattle.fab_ends.specs.declared.places.Member.{Member}
-use Rattle.fab_ends.specs.Members.{Members, ended_at, enlisted, is_first, is_next, let_one_go, moved_up, one_read, read_by}
+use Rattle.fab_settling.specs.declared.places.Place.{Place}
+use Rattle.fab_settling.specs.declared.places.Place.TheVariants.{Open, Ended}
+use Rattle.fab_settling.specs.declared.places.Member.{Member}
+use Rattle.fab_settling.specs.Members.{Members, ended_at, enlisted, is_first, is_next, let_one_go, moved_up, one_read, read_by}
 use Rattle.fab_core.specs.Parts.{Parts, held_of, state_of}
-use Rattle.fab_ends.specs.Ends.{unread_of}
+use Rattle.fab_settling.specs.Ends.{unread_of}
 use Rattle.fab_core.specs.Lent.{AreApart, GoesInto, IsAt, IsComingIn, IsLent, IsLentBy, IsOther, IsPlaced, IsUnread, back_of, is_ending, size_by, size_of}
-use Rattle.fab_ends.proofs.Listing.{contains_cases, contains_fewer, contains_here, contains_kept, first_all, first_kept, first_none, first_push, first_pushed, get_kept, get_last, get_push}
+use Rattle.fab_settling.proofs.Listing.{contains_cases, contains_fewer, contains_here, contains_kept, first_all, first_kept, first_none, first_push, first_pushed, get_kept, get_last, get_push}
 use Rattle.fab_core.proofs.Placing.{single_fewer, single_push, zip_each, zip_read, zip_turned}
 
 -- ---- entries and their calls

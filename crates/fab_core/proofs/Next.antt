@@ -23,7 +23,7 @@ use Rattle.fab_tx.proofs.Answering.{answered_none, answered_some}
 use Rattle.fab_core.specs.Parts.{Parts, state_of}
 use Rattle.fab_rx.specs.Arriving.{finishing}
 use Rattle.fab_rx.specs.Results.{last_of}
-use Rattle.fab_ends.specs.Ends.{booked}
+use Rattle.fab_settling.specs.Ends.{booked}
 use Rattle.fab_core.specs.Doing.{let_back, posted_by, tail, whole, with_arriving}
 
 -- what is accepted for each peer goes on from what was, and as much of it is transmitted

@@ -26,7 +26,7 @@ use Rattle.fab_rx.specs.Arriving.{Arriving, IsArriving, IsPartly, PartlyIn, arri
 use Rattle.fab_rma.specs.Serving.{is_request}
 use Rattle.fab_face.specs.Owed.{is_due}
 use Rattle.fab_core.specs.Parts.{bit, count_of, due_for, is_owed, is_owed_aside, owed}
-use Rattle.fab_orders.specs.Orders.{asks}
+use Rattle.fab_settling.specs.Orders.{asks}
 
 -- ---- counting
 

@@ -4,7 +4,7 @@ use Rattle.std.specs.Prelude.{find, Contains}
 use Rattle.std.specs.List.{AllZip}
 use Rattle.fab_model.specs.Matching.{remove_first}
 use Rattle.fab_core.specs.Lent.{AreOthers, AreSingle}
-use Rattle.fab_ends.proofs.Listing.{contains_cases, contains_here, contains_later}
+use Rattle.fab_settling.proofs.Listing.{contains_cases, contains_here, contains_later}
 
 module _ {A B : Type 0} (R : A → B → Type 0) where
   pub zip_each : (S : A → B → Type 0) → ((x : A) (y : B) → R x y → S x y) → (xs : List A) (ys : List B) → AllZip R xs ys → AllZip S xs ys

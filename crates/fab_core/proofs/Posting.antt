@@ -32,10 +32,10 @@ use Rattle.fab_rx.proofs.Numbering.{below_found, others_below}
 use Rattle.fab_tx.specs.Transit.{Transit}
 use Rattle.fab_face.specs.declared.multis.MultiAsk.{MultiAsk}
 use Rattle.fab_core.specs.Parts.{Parts}
-use Rattle.fab_ends.specs.Ends.{unread_of}
+use Rattle.fab_settling.specs.Ends.{unread_of}
 use Rattle.fab_core.specs.Doing.{called, given_whole, left_by, posted_by, receive_now, with_arriving}
-use Rattle.fab_ends.specs.Members.{Members, let_any_go}
-use Rattle.fab_orders.specs.Looks.{is_due_now, parted, parted_by, told}
+use Rattle.fab_settling.specs.Members.{Members, let_any_go}
+use Rattle.fab_settling.specs.Looks.{is_due_now, parted, parted_by, told}
 use Rattle.fab_core.specs.Looks.{claim_by, claim_receive, dropped_by, looked_by, met_by, taken_by}
 use Rattle.fab_core.specs.Multis.{shared_by, shared_now}
 use Rattle.fab_core.specs.Lent.{GoesInto, IsComingIn, IsLent, IsLentBy}

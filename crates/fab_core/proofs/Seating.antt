@@ -20,9 +20,9 @@ use Rattle.fab_rx.proofs.Numbering.{closed_coming}
 use Rattle.fab_rx.proofs.Onces.{change_last, others_none, remove_last}
 use Rattle.fab_rx.proofs.Taking.{seated_off, shut_off, shut_on}
 use Rattle.fab_core.specs.Parts.{Parts}
-use Rattle.fab_ends.specs.Ends.{unread_of}
+use Rattle.fab_settling.specs.Ends.{unread_of}
 use Rattle.fab_core.specs.Doing.{let_back, received, with_arriving}
-use Rattle.fab_ends.specs.Members.{let_go}
+use Rattle.fab_settling.specs.Members.{let_go}
 use Rattle.fab_core.specs.Draws.{drew}
 use Rattle.fab_core.specs.Lent.{GoesInto, IsLent, IsLentBy}
 use Rattle.fab_core.proofs.Drawing.{IsDrawn, handed_by, who_draws}

@@ -18,7 +18,7 @@ use Rattle.fab_rx.specs.declared.results.Seen.{Seen}
 use Rattle.fab_tx.specs.Transit.{Transit}
 use Rattle.fab_core.specs.Parts.{Parts, held_of, state_of}
 use Rattle.fab_core.specs.Doing.{called, with_arriving}
-use Rattle.fab_orders.specs.Looks.{parted, told}
+use Rattle.fab_settling.specs.Looks.{parted, told}
 use Rattle.fab_core.specs.Looks.{claim_by, claim_receive, dropped_by, looked_by, met_by, taken_by}
 use Rattle.fab_core.proofs.Doing.{book_is, received_is}
 use Rattle.fab_core.proofs.Next.{GoesOn, booked_next, booked_places}

@@ -33,10 +33,10 @@ use Rattle.fab_rma.specs.Serving.{outcome_at}
 use Rattle.fab_tx.specs.Transit.{Transit, answered, ended, transmitted}
 use Rattle.fab_tx.specs.declared.results.Ended.{Ended}
 use Rattle.fab_core.specs.Parts.{Parts}
-use Rattle.fab_ends.specs.Ends.{as_operation, booked, cq_after, entry_at_end, reply_to, unread_of, well_entry, written_if}
+use Rattle.fab_settling.specs.Ends.{as_operation, booked, cq_after, entry_at_end, reply_to, unread_of, well_entry, written_if}
 use Rattle.fab_core.specs.Doing.{heading, let_back, received, sent, tail, with_arriving}
-use Rattle.fab_ends.specs.Members.{Members, let_go}
-use Rattle.fab_ends.specs.Served.{data_of, reply_of}
+use Rattle.fab_settling.specs.Members.{Members, let_go}
+use Rattle.fab_settling.specs.Served.{data_of, reply_of}
 use Rattle.fab_core.specs.Lent.{AreApart, GoesInto, IsComingIn, IsLent, IsLentBy, IsOther}
 use Rattle.fab_core.proofs.Apart.{accepting_apart, answered_apart, other_found, transmitted_apart}
 use Rattle.fab_core.proofs.Lending.{lent_called, lent_moved}

@@ -31,8 +31,8 @@ use Rattle.fab_av.specs.Addresses.{Addresses}
 use Rattle.fab_rma.specs.Serving.{is_request}
 use Rattle.fab_face.specs.Owed.{is_due}
 use Rattle.fab_core.specs.Parts.{IsFitting, IsTogether, Parts, bit, is_owed, owed}
-use Rattle.fab_ends.specs.Ends.{booked, cq_after, entry_at_end, written_if}
-use Rattle.fab_orders.specs.Orders.{asks}
+use Rattle.fab_settling.specs.Ends.{booked, cq_after, entry_at_end, written_if}
+use Rattle.fab_settling.specs.Orders.{asks}
 use Rattle.fab_core.specs.Doing.{growing_by, heading, with_transit}
 use Rattle.fab_core.proofs.Owing.{owed_besides, owed_given, owed_going, owed_grown, owed_here, owed_joined, owed_there, owed_whole, whole_coming}
 use Rattle.fab_core.proofs.Serves.{begun_none as none_begun}

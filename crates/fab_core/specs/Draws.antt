@@ -10,9 +10,9 @@ use Rattle.fab_rx.specs.Drawing.{drawer, drawing, drawn}
 use Rattle.fab_rx.specs.declared.results.Drawn.{Drawn}
 use Rattle.fab_rx.specs.declared.results.Drawn.TheVariants.{GoesOn, Part, Last}
 use Rattle.fab_core.specs.Parts.{Parts}
-use Rattle.fab_ends.specs.Ends.{unread_of}
+use Rattle.fab_settling.specs.Ends.{unread_of}
 use Rattle.fab_core.specs.Doing.{received, with_arriving}
-use Rattle.fab_ends.specs.Members.{let_go}
+use Rattle.fab_settling.specs.Members.{let_go}
 
 -- the call of the receive that draws
 abbrev pub call_drawn : Receiving → Option ℕ

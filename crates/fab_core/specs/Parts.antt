@@ -18,7 +18,7 @@ use Rattle.fab_rx.specs.Arriving.{Arriving, begun_of}
 use Rattle.fab_tx.specs.Transit.{Transit}
 use Rattle.fab_face.specs.Held.{Held}
 use Rattle.fab_face.specs.Owed.{is_due}
-use Rattle.fab_ends.specs.Members.{Members}
+use Rattle.fab_settling.specs.Members.{Members}
 use Rattle.fab_rma.specs.Serving.{Serving, is_request}
 
 pub record Parts : Type 0 where

@@ -7,9 +7,9 @@ ghost use Rattle.fab_core.specs.Draws.{drew};
 
 use crate::callers::OfDrawer;
 use crate::parts::Core;
-use fab_ends::handing::{hand_last, hand_over};
 use fab_match::Matcher;
 use fab_rx::{Drawn, Inbox};
+use fab_settling::handing::{hand_last, hand_over};
 use std::snapshot::Snapshot;
 
 impl<M: Matcher> Core<M> {

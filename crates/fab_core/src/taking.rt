@@ -3,8 +3,8 @@ ghost use Rattle.std.specs.Prelude.{◌≡◌, ◌≢◌, ◌==◌, ◌<◌, ◌
 ghost use Rattle.fab_model.specs.State.{coming_from, fits};
 ghost use Rattle.fab_model.specs.Arrivals.{do_tail};
 ghost use Rattle.fab_model.specs.Receiving.{draw_due};
-ghost use Rattle.fab_wire.specs.Frames.{IsSound, frame};
-ghost use Rattle.fab_wire.specs.Joined.{is_last};
+ghost use Rattle.fab_link.specs.Frames.{IsSound, frame};
+ghost use Rattle.fab_link.specs.Joined.{is_last};
 ghost use Rattle.fab_face.specs.Acts.{Goes, Took};
 ghost use Rattle.fab_face.specs.Answers.{FrameLacks};
 ghost use Rattle.fab_face.specs.Machine.{IsNext, StayNext};
@@ -12,20 +12,20 @@ ghost use Rattle.fab_cq.specs.Queues.{has_room};
 ghost use Rattle.fab_rx.specs.Arriving.{arriving, bare, begun_of};
 ghost use Rattle.fab_rx.specs.Results.{last_of};
 ghost use Rattle.fab_core.specs.Parts.{held_of, state_of};
-ghost use Rattle.fab_ends.specs.Ends.{answer_writes};
-ghost use Rattle.fab_orders.specs.Orders.{asks};
+ghost use Rattle.fab_settling.specs.Ends.{answer_writes};
+ghost use Rattle.fab_settling.specs.Orders.{asks};
 ghost use Rattle.fab_core.specs.Doing.{arrived, fed, heading, lacks_at_tail, tail, writes_at_tail};
 ghost use Rattle.fab_core.specs.Requests.{IsAwaited};
 
 use crate::callers::IntoReceive;
 use crate::parts::Core;
 use fab_base::{FrameHead, ItemHead, NoMemory};
-use fab_ends::ending::{answer, answer_writes};
-use fab_ends::handing::{book, hand_last, hand_over};
-use fab_ends::serving::{is_request, serve, writes_data};
 use fab_match::Matcher;
-use fab_orders::items::{asks, is_reply};
 use fab_rx::{Finished, Inbox};
+use fab_settling::ending::{answer, answer_writes};
+use fab_settling::handing::{book, hand_last, hand_over};
+use fab_settling::items::{asks, is_reply};
+use fab_settling::serving::{is_request, serve, writes_data};
 use std::snapshot::Snapshot;
 
 impl<M: Matcher> Core<M> {

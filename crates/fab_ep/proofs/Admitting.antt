@@ -8,7 +8,7 @@ use Rattle.fab_base.specs.declared.faults.Busy.TheVariants.{TxFull, LogFull}
 use Rattle.fab_base.specs.declared.faults.NoMemory.{NoMemory}
 use Rattle.fab_base.specs.declared.peers.LineResult.TheVariants.{Refused}
 use Rattle.fab_base.proofs.Numbers.{le_is as is_full_by}
-use Rattle.fab_wire.specs.Joined.{is_last}
+use Rattle.fab_link.specs.Joined.{is_last}
 use Rattle.fab_model.specs.State.{State, in_use}
 use Rattle.fab_model.specs.Sending.{Order, first_fault, transmit_fault, transmit}
 use Rattle.fab_model.specs.Calls.{Call, Transmit, answer, do_call}

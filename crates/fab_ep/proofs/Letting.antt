@@ -8,7 +8,7 @@ use Rattle.std.proofs.lemmas.List.Folds.{list_all-append}
 use Rattle.std.proofs.lemmas.Option.{slice_get_past}
 use Rattle.fab_base.specs.declared.frames.Frame.{Frame}
 use Rattle.fab_base.proofs.Bools.{or_true, or_false}
-use Rattle.fab_wire.specs.Joined.{is_last}
+use Rattle.fab_link.specs.Joined.{is_last}
 use Rattle.fab_model.specs.State.{State, Transmitting, accepted_for, held_for}
 use Rattle.fab_model.specs.Sending.{do_sent}
 use Rattle.fab_model.proofs.Unchanged.{sent_raised as sent_sent}

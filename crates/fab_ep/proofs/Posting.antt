@@ -7,8 +7,8 @@ use Rattle.fab_base.specs.Counts.{Rose}
 use Rattle.fab_base.specs.declared.frames.Frame.{Frame}
 use Rattle.fab_base.specs.declared.items.Item.{Item}
 use Rattle.fab_base.proofs.Numbers.{same_number as same_peer}
-use Rattle.fab_wire.specs.Joined.{is_last}
-use Rattle.fab_wire.proofs.Lanes.{last_head-push}
+use Rattle.fab_link.specs.Joined.{is_last}
+use Rattle.fab_link.proofs.Lanes.{last_head-push}
 use Rattle.fab_link.specs.Meaning.{Outgoing, Incoming, Noticed, Others, end_of, taken_end}
 use Rattle.fab_face.specs.Held.{IsOut, IsOpen, Held, Lanes, Seen, IsPlaced, piece, next_item, next_frame}
 use Rattle.fab_face.specs.Acts.{Goes, Posted, Took, Ported, only}

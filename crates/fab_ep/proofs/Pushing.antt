@@ -9,7 +9,7 @@ use Rattle.fab_base.specs.declared.faults.NoMemory.{NoMemory}
 use Rattle.fab_base.specs.declared.frames.Frame.{Frame}
 use Rattle.fab_base.specs.declared.items.Item.{Item}
 use Rattle.fab_base.proofs.Bools.{or_true, or_false, or_assoc}
-use Rattle.fab_wire.specs.Joined.{is_last}
+use Rattle.fab_link.specs.Joined.{is_last}
 use Rattle.fab_face.specs.declared.events.Event.{Event}
 use Rattle.fab_face.specs.declared.events.Event.TheVariants.{Sent as Transmitted}
 use Rattle.fab_face.specs.Held.{Seen, piece, next_frame}

@@ -14,7 +14,7 @@ use Rattle.fab_base.proofs.Bools.{or_false, or_assoc}
 use Rattle.fab_model.specs.Matching.{remove_first}
 use Rattle.fab_model.specs.State.{State, Completions, Transmitting, accepted_for, held_for, fits, with_tx}
 use Rattle.fab_model.specs.Sending.{ending, is_busy, let_out, operations_from, letting_out, going_on, is_of_item, transmitting, end_with, do_sent}
-use Rattle.fab_wire.specs.Joined.{is_last}
+use Rattle.fab_link.specs.Joined.{is_last}
 use Rattle.fab_face.specs.Held.{Held, Seen, next_frame}
 use Rattle.fab_face.specs.Acts.{Act, Went, Departs, is_post}
 use Rattle.fab_face.specs.Answers.{AllAre, HasPlaces, IsTried}

@@ -8,8 +8,8 @@ use Rattle.fab_base.specs.declared.frames.FrameRef.{FrameRef}
 use Rattle.fab_base.specs.declared.frames.FrameHead.{FrameHead}
 use Rattle.fab_base.specs.declared.items.Item.{Item}
 use Rattle.fab_base.specs.declared.items.ItemHead.{ItemHead}
-use Rattle.fab_wire.specs.Frames.{lent_frame, MayCome}
-use Rattle.fab_wire.specs.Joined.{is_last, grown}
+use Rattle.fab_link.specs.Frames.{lent_frame, MayCome}
+use Rattle.fab_link.specs.Joined.{is_last, grown}
 use Rattle.fab_link.specs.Meaning.{Outgoing, Incoming, Others, Fronted, advanced, end_of, taken_end}
 use Rattle.fab_model.specs.State.{State}
 use Rattle.fab_face.proofs.Repaid.{repaid_still, repaid_took, took_owes}

@@ -2,7 +2,7 @@
 use Rattle.std.proofs.Common.{◌≡◌, ◌≤◌, ◌-◌, inl, inr, true, length, None, arith}
 use Rattle.std.proofs.lemmas.Bool.{le-leb}
 use Rattle.fab_base.proofs.Lists.{none_past}
-use Rattle.fab_wire.specs.Joined.{grown}
+use Rattle.fab_link.specs.Joined.{grown}
 use Rattle.fab_model.specs.State.{State, fits}
 use Rattle.fab_model.specs.Receiving.{draw_due}
 use Rattle.fab_model.specs.Peers.{unread}

@@ -7,8 +7,8 @@ use Rattle.std.proofs.lemmas.List.{map-set}
 use Rattle.std.proofs.lemmas.Option.{slice_get_within}
 use Rattle.fab_base.specs.declared.frames.Frame.{Frame}
 use Rattle.fab_base.specs.declared.frames.FrameHead.{FrameHead}
-use Rattle.fab_wire.specs.Frames.{MayCome, last_head}
-use Rattle.fab_wire.proofs.Lanes.{IsLane-at, last_head-append as last_behind, lane_rest as lane_behind}
+use Rattle.fab_link.specs.Frames.{MayCome, last_head}
+use Rattle.fab_link.proofs.Lanes.{IsLane-at, last_head-append as last_behind, lane_rest as lane_behind}
 use Rattle.fab_link.specs.Plain.{Lane, Plain, Posted, lane_at, with_lane, left, in_of, out_of}
 use Rattle.fab_link.proofs.Looks.{same_lane, other_lane}
 use Rattle.fab_model.specs.Peers.{Actor}

@@ -13,7 +13,7 @@ use Rattle.fab_base.specs.declared.peers.Step.{Step}
 use Rattle.fab_base.proofs.Bools.{or_false}
 use Rattle.fab_base.proofs.Lists.{both_empty as front_none}
 use Rattle.fab_base.proofs.Numbers.{other_number as not_same, numbers_differ as not_equal}
-use Rattle.fab_wire.specs.Joined.{is_last, grown}
+use Rattle.fab_link.specs.Joined.{is_last, grown}
 use Rattle.fab_link.specs.Plain.{Lane, Plain, PlainHome, lane_at, left, in_of, out_of, with_lane}
 use Rattle.fab_link.proofs.Looks.{same_lane, other_lane}
 use Rattle.fab_ep.specs.Value.{Whole}

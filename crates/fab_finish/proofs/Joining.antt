@@ -10,8 +10,8 @@ use Rattle.fab_base.specs.declared.frames.Frame.{Frame}
 use Rattle.fab_base.specs.declared.frames.FrameHead.{FrameHead}
 use Rattle.fab_base.specs.declared.items.Item.{Item}
 pub use Rattle.fab_base.proofs.Lists.{get_some as member, none_past}
-use Rattle.fab_wire.specs.Frames.{last_head}
-use Rattle.fab_wire.specs.Joined.{AreFirst}
+use Rattle.fab_link.specs.Frames.{last_head}
+use Rattle.fab_link.specs.Joined.{AreFirst}
 use Rattle.fab_link.specs.Plain.{Lane, PlainHome, fresh_lane, lane_at, in_of, out_of}
 use Rattle.fab_model.specs.State.{accepted_for}
 use Rattle.fab_model.specs.Orders.{Leads, Reached, by}
@@ -20,7 +20,7 @@ use Rattle.fab_model.specs.Views.{View, More, rule, seen}
 use Rattle.fab_model.proofs.Turns.{slice_get-set_other, slice_get-set_same}
 use Rattle.fab_model.proofs.Views.{prefix_self}
 use Rattle.fab_model.proofs.Walks.{walk_leads, reached_more}
-use Rattle.fab_wire.proofs.Lanes.{last_head-append as last_behind}
+use Rattle.fab_link.proofs.Lanes.{last_head-append as last_behind}
 use Rattle.fab_face.specs.Held.{begun_of}
 use Rattle.fab_face.specs.Acts.{Act, steps_of, taken_of, posted_to}
 use Rattle.fab_peer.specs.Turns.{IsCounted, living_of, Turned, Shows, joined_from, is_some_act}

@@ -10,7 +10,7 @@ use Rattle.std.proofs.lemmas.Simd.{map-map}
 use Rattle.std.proofs.lemmas.Bool.{cases_eq, leb-true}
 use Rattle.fab_base.specs.declared.caps.Info.{Info}
 use Rattle.fab_base.proofs.Bools.{and_true_left as first_of}
-use Rattle.fab_wire.specs.Merged.{merges}
+use Rattle.fab_link.specs.Merged.{merges}
 use Rattle.fab_link.specs.Plain.{Plain}
 use Rattle.fab_model.proofs.Turns.{slice_get-set_other, slice_get-set_same}
 use Rattle.fab_table.specs.declared.fabric.Fabric.{Fabric}
@@ -31,7 +31,7 @@ use Rattle.fab_library_laws.specs.Closing.{AreLeft, IsKept, endpoints_of}
 use Rattle.fab_library_laws.specs.Exchanging.{AreExchanged, its_own}
 use Rattle.fab_library_laws.specs.declared.example.TheConstants.{MESSAGE}
 use Rattle.fab_library_laws.specs.Library.{AreUsed, IsLibraryRun, LibraryObeys, Thread, ports_of}
-use Rattle.fab_records.specs.Recording.{AreRecordedSome, IsRecorded, exchanged}
+use Rattle.fab_doings.specs.Recording.{AreRecordedSome, IsRecorded, exchanged}
 
 -- so a thread has a record of what its code ensures this of
 pub thread_of : (e f : Whole RingPort) (own : List Doing) → IsRecorded (ring_seen e) (ring_seen f) own → (t : Thread) × (t.endpoint ≡ f) × IsKept e t × (own_of t.doings ≡ own)

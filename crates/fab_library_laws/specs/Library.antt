@@ -7,7 +7,7 @@
 --     LibraryObeys           the law
 use Rattle.std.specs.Prelude.{◌≡◌, ℕ, Bool, true, List, [], length, map, Some, slice_get}
 use Rattle.fab_base.specs.declared.caps.Info.{Info}
-use Rattle.fab_wire.specs.Merged.{merges}
+use Rattle.fab_link.specs.Merged.{merges}
 use Rattle.fab_link.specs.Plain.{Plain}
 use Rattle.fab_model.specs.State.{State}
 use Rattle.fab_laws.specs.Programs.{Opening, peer}

@@ -2,9 +2,9 @@
 use Rattle.std.proofs.Common.{◌≡◌, [], ◌∷◌, ◌++◌, sym, ap, ◌∙◌, subst, Ok, Err}
 use Rattle.std.specs.Prelude.{Result, OnOk, OnErr}
 use Rattle.fab_base.specs.declared.frames.Frame.{Frame}
-use Rattle.fab_wire.specs.Cut.{IsBetweenItems}
-use Rattle.fab_wire.specs.Frames.{IsLast, last_head}
-use Rattle.fab_wire.proofs.Lanes.{last_head-push}
+use Rattle.fab_link.specs.Cut.{IsBetweenItems}
+use Rattle.fab_link.specs.Frames.{IsLast, last_head}
+use Rattle.fab_link.proofs.Lanes.{last_head-push}
 use Rattle.fab_link.specs.declared.port.PostRefused.{PostRefused}
 use Rattle.fab_link.specs.Meaning.{Outgoing, end_of}
 

@@ -3,9 +3,9 @@ ghost use Rattle.std.specs.Prelude.{◌≡◌, ◌≢◌, ℕ, ◌<◌, ◌++◌
 ghost use Rattle.std.specs.Borrow.{sem};
 ghost use mathlib.Core.List.{IsPrefix};
 ghost use Rattle.fab_base.specs.declared.frames.Frame.{Frame};
-ghost use Rattle.fab_wire.specs.Frames.{frame, lent_frame, Continues};
-ghost use Rattle.fab_wire.specs.declared.moves.Move.{Move};
-ghost use Rattle.fab_wire.specs.declared.moves.Move.TheVariants.{Post, Take};
+ghost use Rattle.fab_link.specs.Frames.{frame, lent_frame, Continues};
+ghost use Rattle.fab_link.specs.declared.moves.Move.{Move};
+ghost use Rattle.fab_link.specs.declared.moves.Move.TheVariants.{Post, Take};
 ghost use Rattle.fab_link.specs.Meaning.{Outgoing, Incoming, Rests, Others, end_of, Noticed, Repays, Gives, Fronted, advanced, GrewBy};
 ghost use Rattle.fab_base.specs.Counts.{Rose};
 

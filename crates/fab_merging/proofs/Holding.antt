@@ -7,8 +7,8 @@ use Rattle.std.specs.Prelude.{slice_get, slice_index}
 use Rattle.std.proofs.lemmas.Bool.{eqb-true}
 use Rattle.fab_base.specs.declared.frames.Frame.{Frame}
 use Rattle.fab_base.specs.declared.frames.FrameHead.{FrameHead}
-use Rattle.fab_wire.specs.Frames.{IsLane}
-use Rattle.fab_wire.specs.Joined.{is_last}
+use Rattle.fab_link.specs.Frames.{IsLane}
+use Rattle.fab_link.specs.Joined.{is_last}
 use Rattle.fab_model.specs.State.{accepted_for}
 use Rattle.fab_model.specs.Arrivals.{do_draw}
 use Rattle.fab_model.specs.Views.{IsPrefixOf}

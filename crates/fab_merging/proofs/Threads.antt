@@ -14,16 +14,16 @@ use mathlib.Core.List.{IsPrefix}
 use Rattle.fab_base.specs.declared.frames.Frame.{Frame}
 use Rattle.fab_base.specs.declared.items.Item.{Item}
 use Rattle.fab_base.proofs.Lists.{all_the_same, get_some as member}
-use Rattle.fab_wire.specs.declared.moves.Move.{Move}
-use Rattle.fab_wire.specs.declared.moves.Move.TheVariants.{Post, Take}
-use Rattle.fab_wire.specs.Merged.{Merging, with_inside}
+use Rattle.fab_link.specs.declared.moves.Move.{Move}
+use Rattle.fab_link.specs.declared.moves.Move.TheVariants.{Post, Take}
+use Rattle.fab_link.specs.Merged.{Merging, with_inside}
 use Rattle.fab_model.specs.State.{accepted_for}
 use Rattle.fab_model.specs.Orders.{Leads, Reached, by}
 use Rattle.fab_model.specs.Views.{Machine, View, More, Walk, rule, seen}
 use Rattle.fab_model.proofs.Orders.{reached_more, reached_opening}
 use Rattle.fab_model.proofs.Turns.{slice_get-set_other, slice_get-set_same}
 use Rattle.fab_model.proofs.Views.{GrowsBySteps, WaitsForMore, prefix_self, walk_leads}
-use Rattle.fab_wire.proofs.Merging.{inside_same, inside_from, inside_to}
+use Rattle.fab_link.proofs.Merging.{inside_same, inside_from, inside_to}
 use Rattle.fab_face.specs.Held.{Held}
 use Rattle.fab_face.specs.Acts.{Act, Did, Took, Posted, Drew, Had, MovedBy, Way, way, ways_by, ways_of, taken_of, posted_to}
 use Rattle.fab_peer.specs.Turns.{Shows}

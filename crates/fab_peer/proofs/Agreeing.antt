@@ -8,12 +8,12 @@ use Rattle.std.proofs.Math.Seq.{drop-append_seam}
 use Rattle.fab_base.specs.declared.frames.Frame.{Frame}
 use Rattle.fab_base.specs.declared.frames.FrameHead.{FrameHead}
 use Rattle.fab_base.specs.declared.items.Item.{Item}
-use Rattle.fab_wire.specs.Frames.{IsLane, MayCome, Follows, last_head}
-use Rattle.fab_wire.specs.Joined.{is_last, grown, with_frame, joined, nothing, Gathered, IsBegun, AreFirst}
+use Rattle.fab_link.specs.Frames.{IsLane, MayCome, Follows, last_head}
+use Rattle.fab_link.specs.Joined.{is_last, grown, with_frame, joined, nothing, Gathered, IsBegun, AreFirst}
 use Rattle.fab_link.specs.Meaning.{end_of}
 use Rattle.fab_model.specs.State.{accepted_for}
 use Rattle.fab_model.proofs.Parts.{prefix_get}
-use Rattle.fab_wire.proofs.Lanes.{IsLane-append as lane_append, lane_front}
+use Rattle.fab_link.proofs.Lanes.{IsLane-append as lane_append, lane_front}
 use Rattle.fab_face.specs.Held.{Held, next_item}
 use Rattle.fab_face.specs.Acts.{Act, taken_of, posted_to}
 use Rattle.fab_peer.specs.Turns.{Told, Turned, joined_from, part_at, posted_part}

@@ -19,7 +19,7 @@ use Rattle.fab_base.specs.declared.peers.LineResult.TheVariants.{Done, Waited}
 use Rattle.fab_base.specs.declared.script.Line.{Line}
 use Rattle.fab_base.proofs.Bools.{and_false}
 use Rattle.fab_base.proofs.Lists.{count_by-append as count_append}
-use Rattle.fab_wire.specs.Joined.{is_last, grown}
+use Rattle.fab_link.specs.Joined.{is_last, grown}
 use Rattle.fab_model.specs.Matching.{remove_first}
 use Rattle.fab_model.specs.State.{State}
 use Rattle.fab_model.specs.Calls.{Call, Transmit, Post, Look, TakeClaimed, DropClaimed, Cancel, CancelFirst, Insert, Remove, Reg, Close, Put, Show, Count}

@@ -6,8 +6,8 @@ use Rattle.std.proofs.lemmas.Bool.{eqb-true, eqb-false}
 use Rattle.fab_base.specs.declared.frames.Frame.{Frame}
 use Rattle.fab_base.specs.declared.frames.FrameHead.{FrameHead}
 use Rattle.fab_base.specs.declared.items.Item.{Item}
-use Rattle.fab_wire.specs.Frames.{IsLane, MayCome}
-use Rattle.fab_wire.specs.Joined.{is_last}
+use Rattle.fab_link.specs.Frames.{IsLane, MayCome}
+use Rattle.fab_link.specs.Joined.{is_last}
 use Rattle.fab_model.specs.State.{accepted_for}
 use Rattle.fab_model.specs.Views.{IsPrefixOf}
 use Rattle.fab_model.proofs.Parts.{prefix_get}

@@ -7,7 +7,7 @@ use Rattle.fab_base.specs.declared.items.Item.{Item}
 use Rattle.fab_model.specs.State.{accepted_for}
 use Rattle.fab_face.specs.Held.{Held, begun_of, next_frame, next_item, piece}
 use Rattle.fab_peer.specs.Turns.{Joins, Transmits, joined_from, part_at, posted_part}
-use Rattle.fab_wire.specs.Joined.{IsBegun}
+use Rattle.fab_link.specs.Joined.{IsBegun}
 use Rattle.std.proofs.lemmas.List.{take-append-drop}
 
 -- nothing waits: all that was accepted is transmitted

@@ -8,8 +8,8 @@ use Rattle.fab_base.specs.declared.frames.Frame.{Frame}
 use Rattle.fab_base.specs.declared.items.Item.{Item}
 use Rattle.fab_base.specs.declared.items.ItemHead.{ItemHead}
 use Rattle.fab_base.specs.declared.peers.Step.TheVariants.{Do, Read as ReadStep}
-use Rattle.fab_wire.specs.Cut.{IsItem}
-use Rattle.fab_wire.specs.Joined.{is_last, grown, bytes_of, Gathered}
+use Rattle.fab_link.specs.Cut.{IsItem}
+use Rattle.fab_link.specs.Joined.{is_last, grown, bytes_of, Gathered}
 use Rattle.fab_model.specs.State.{State, accepted_for, raise}
 use Rattle.fab_model.specs.Sending.{do_sent, transmitting}
 use Rattle.fab_model.specs.Arrivals.{do_draw, do_tail}

@@ -13,7 +13,7 @@ use Rattle.fab_base.specs.declared.items.ItemHead.{ItemHead}
 use Rattle.fab_base.specs.declared.peers.Step.{Step}
 use Rattle.fab_base.specs.declared.peers.Step.TheVariants.{Do, Head, Tail, Draw, Read as ReadStep, Sent as SentStep}
 pub use Rattle.fab_base.proofs.Lists.{drop_get as get_drop}
-use Rattle.fab_wire.specs.Joined.{is_last, grown, with_frame, Gathered, AreFirst, IsBegun}
+use Rattle.fab_link.specs.Joined.{is_last, grown, with_frame, Gathered, AreFirst, IsBegun}
 use Rattle.fab_model.specs.State.{State, fits, accepted_for, raise}
 use Rattle.fab_model.specs.Receiving.{draw_due}
 use Rattle.fab_model.specs.Sending.{do_sent}

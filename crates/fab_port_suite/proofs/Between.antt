@@ -4,8 +4,8 @@ use mathlib.Core.Logic.{dite}
 use native.Mathlib.Decide.{ℕ_discrete}
 use Rattle.std.specs.Prelude.{Result, OnOk, OnErr}
 use Rattle.fab_base.specs.declared.frames.Frame.{Frame}
-use Rattle.fab_wire.specs.Cut.{IsBetweenItems}
-use Rattle.fab_wire.specs.Frames.{IsLast, last_head}
+use Rattle.fab_link.specs.Cut.{IsBetweenItems}
+use Rattle.fab_link.specs.Frames.{IsLast, last_head}
 use Rattle.fab_link.specs.declared.port.PostRefused.{PostRefused}
 use Rattle.fab_link.specs.declared.port.Port.{Ghosts}
 use Rattle.fab_link.specs.Meaning.{Outgoing, end_of}

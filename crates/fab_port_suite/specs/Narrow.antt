@@ -8,7 +8,7 @@ use Rattle.fab_base.specs.declared.frames.FrameHead.{FrameHead}
 use Rattle.fab_base.specs.declared.items.Kind.TheVariants.{Msg}
 use Rattle.fab_base.specs.declared.items.Ack.TheVariants.{Nothing}
 use Rattle.fab_base.specs.declared.items.Outcome.TheVariants.{Done}
-use Rattle.fab_wire.specs.Frames.{frame}
+use Rattle.fab_link.specs.Frames.{frame}
 use Rattle.fab_link.specs.Meaning.{Outgoing, Incoming}
 use Rattle.fab_port_suite.specs.declared.narrow.NarrowPort.{NarrowPort}
 use Rattle.fab_port_suite.specs.declared.narrow.Greeting.{Greeting}

@@ -1,6 +1,6 @@
 //! Plain ports: frames that are carried, brought, taken out and answered.
 ghost use Rattle.std.specs.Prelude.{◌≡◌, ◌<◌, None, length, replicate, IfSome};
-ghost use Rattle.fab_wire.specs.Frames.{IsSound, MayCome};
+ghost use Rattle.fab_link.specs.Frames.{IsSound, MayCome};
 ghost use Rattle.fab_link.specs.Carry.{AreAll};
 ghost use Rattle.fab_link.specs.Plain.{fresh_lane};
 
@@ -9,8 +9,7 @@ use fab_base::{Ack, Buf, Frame, FrameHead, ItemHead, Kind, Outcome};
 use fab_link::carry::carry;
 use fab_link::{PlainPort, Port};
 use fab_port_suite::{
-    Message, OF_ONE, OF_TWO, answer, gives_all, gives_each, gives_none, is_peer, item, pattern,
-    posts_all, whole,
+    Message, OF_ONE, OF_TWO, answer, gives_all, gives_each, gives_none, is_peer, item, pattern, posts_all, whole,
 };
 use std::alloc::Global;
 use std::test::Fail;

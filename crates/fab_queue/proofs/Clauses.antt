@@ -9,9 +9,9 @@ use Rattle.std.proofs.lemmas.Option.{none-some, same_Some}
 use Rattle.fab_base.specs.declared.frames.Frame.{Frame}
 use Rattle.fab_base.specs.declared.frames.FrameRef.{FrameRef}
 use Rattle.fab_base.specs.Counts.{Rose}
-use Rattle.fab_wire.specs.declared.moves.Move.{Move}
-use Rattle.fab_wire.specs.declared.moves.Move.TheVariants.{Take}
-use Rattle.fab_wire.specs.Frames.{lent_frame, MayCome}
+use Rattle.fab_link.specs.declared.moves.Move.{Move}
+use Rattle.fab_link.specs.declared.moves.Move.TheVariants.{Take}
+use Rattle.fab_link.specs.Frames.{lent_frame, MayCome}
 use Rattle.fab_link.specs.Meaning.{Incoming, Fronted, Gives, GrewBy, taken_end, advanced}
 use Rattle.fab_link.specs.Plain.{lent_frames}
 use Rattle.fab_queue.specs.declared.lane.Sent.{Sent}

@@ -11,9 +11,9 @@ use Rattle.std.proofs.lemmas.Option.{none-some, same_Some, slice_get_within}
 use Rattle.fab_base.specs.declared.frames.FrameHead.{FrameHead}
 use Rattle.fab_base.specs.declared.frames.Frame.{Frame}
 use Rattle.fab_base.proofs.Lists.{get_some as there_is}
-use Rattle.fab_wire.specs.declared.moves.Move.{Move}
-use Rattle.fab_wire.specs.Merged.{IsStamped, posts_to, takes_of, merges}
-use Rattle.fab_wire.proofs.Merging.{stamped_merge}
+use Rattle.fab_link.specs.declared.moves.Move.{Move}
+use Rattle.fab_link.specs.Merged.{IsStamped, posts_to, takes_of, merges}
+use Rattle.fab_link.proofs.Merging.{stamped_merge}
 use Rattle.fab_link.specs.Meaning.{AreFresh}
 use Rattle.fab_link.specs.Plain as plain
 use Rattle.fab_link.specs.Plain.{Plain, lane_at, fresh_lane}

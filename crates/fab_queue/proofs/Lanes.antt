@@ -6,8 +6,8 @@ use lib.ListN.{get_elem?}
 use Rattle.std.specs.Prelude.{None}
 use Rattle.crossbeam_queue.specs.Fifo.{Pushes, Pops, Forks, Merges, Learns}
 use Rattle.crossbeam_queue.proofs.Lists.{at_set, at_snoc}
-use Rattle.fab_wire.specs.Frames.{last_head, IsLane}
-use Rattle.fab_wire.proofs.Lanes.{IsLane-push, lane_rest}
+use Rattle.fab_link.specs.Frames.{last_head, IsLane}
+use Rattle.fab_link.proofs.Lanes.{IsLane-push, lane_rest}
 use Rattle.fab_queue.specs.declared.lane.Sent.{Sent}
 use Rattle.fab_queue.specs.declared.lane.Log.{Log}
 use Rattle.fab_queue.specs.Lanes.{frame_of, frames_of, log, Continues, Fits, Ordered, put_one, GotOne, EndsWith, Holds}

@@ -9,7 +9,7 @@ use Rattle.std.proofs.lemmas.Option.{same_Some, slice_get_within}
 use Rattle.std.proofs.Math.Seq.{get_or-append_seam}
 use Rattle.fab_base.specs.declared.frames.Frame.{Frame}
 use Rattle.fab_base.proofs.Lists.{get_set_same, get_set_other, get_seam as at_seam}
-use Rattle.fab_wire.specs.Frames.{IsLane}
+use Rattle.fab_link.specs.Frames.{IsLane}
 use Rattle.fab_link.specs.Plain as plain
 use Rattle.fab_link.specs.Plain.{Plain, lane_at, with_lane, fresh_lane}
 use Rattle.fab_queue.specs.Ends.{Out, In, new_out, new_in}

@@ -3,15 +3,15 @@ use Rattle.std.proofs.Common.{◌≡◌, ℕ, ◌+◌, ◌^◌, ◌<◌, max, eq
 use mathlib.Core.List.{map-append}
 use mathlib.Core.Logic.{dite}
 use native.Mathlib.Decide.{ℕ_discrete}
-use Rattle.fab_wire.specs.declared.moves.Move.{Move}
-use Rattle.fab_wire.specs.declared.moves.Move.TheVariants.{Post, Take}
-use Rattle.fab_wire.specs.Merged.{IsStampedAbove, posts_to, takes_of}
+use Rattle.fab_link.specs.declared.moves.Move.{Move}
+use Rattle.fab_link.specs.declared.moves.Move.TheVariants.{Post, Take}
+use Rattle.fab_link.specs.Merged.{IsStampedAbove, posts_to, takes_of}
 use Rattle.fab_queue.specs.declared.lane.Sent.{Sent}
 use Rattle.std.specs.Prelude.{Some, IsSome}
 use Rattle.fab_base.proofs.Lists.{cond_more}
 use Rattle.fab_base.proofs.Numbers.{max_next as next_is}
 use Rattle.fab_base.proofs.Options.{there_is as is_there}
-use Rattle.fab_wire.proofs.Merging.{stamped_take}
+use Rattle.fab_link.proofs.Merging.{stamped_take}
 use Rattle.fab_queue.specs.Ends.{Out, In, new_out, new_in, taken_one}
 use Rattle.fab_queue.specs.Ports.{Queued, no_lane, out_at, in_at, with_out, with_in, number, stamp, greatest, clock_of, IsTold}
 

@@ -1,8 +1,8 @@
 //! The port's calls, in the words of all ports.
 ghost use Rattle.std.specs.Prelude.{◌≡◌, ◌≢◌, ◌<◌, ◌≤◌, ◌⊎◌, ◌++◌, ◌∷◌, [], length, false, true, None, Some, IsErrOf, OnOk, OnErr, Err};
 ghost use Rattle.fab_base.specs.Counts.{Rose};
-ghost use Rattle.fab_wire.specs.Frames.{frame, Continues};
-ghost use Rattle.fab_wire.specs.declared.moves.Move.TheVariants.{Post};
+ghost use Rattle.fab_link.specs.Frames.{frame, Continues};
+ghost use Rattle.fab_link.specs.declared.moves.Move.TheVariants.{Post};
 ghost use Rattle.fab_link.specs.Meaning.{Others, end_of, Noticed, Repays, GrewBy};
 ghost use Rattle.fab_queue.specs.Ports.{Lanes, number_of, peers_of, room_of, out_of, in_of, moves_of, lanes_of, PopFoundNone, clock_of, most};
 

@@ -10,7 +10,7 @@ use Rattle.fab_base.specs.declared.faults.Busy.TheVariants.{CqFull, TxFull}
 use Rattle.fab_base.specs.declared.faults.Fault.TheVariants.{Again, Invalid, MsgSize, NotSupported}
 use Rattle.fab_base.specs.declared.frames.Frame.{Frame}
 use Rattle.fab_base.specs.declared.items.ItemHead.{ItemHead}
-use Rattle.fab_wire.specs.Joined.{is_last}
+use Rattle.fab_link.specs.Joined.{is_last}
 use Rattle.fab_model.specs.State.{State, in_use, lookup}
 use Rattle.fab_base.specs.Kinds.{is_message}
 use Rattle.fab_model.specs.Sending.{Order, first_fault, is_granted, is_too_long, is_well_formed, transmit, transmit_fault}

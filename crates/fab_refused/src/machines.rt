@@ -2,7 +2,7 @@
 ghost use Rattle.std.specs.Prelude.{◌≡◌, ◌<◌, ◌-◌, false, true, Ok, None, length, min, IfNone, IfSome};
 ghost use Rattle.fab_base.specs.declared.limits.TheConstants.{FRAME_BYTES};
 ghost use Rattle.fab_model.specs.Calls.{do_call};
-ghost use Rattle.fab_wire.specs.Frames.{frame, IsSound};
+ghost use Rattle.fab_link.specs.Frames.{frame, IsSound};
 ghost use Rattle.fab_face.specs.Acts.{Goes, Took};
 ghost use Rattle.fab_face.specs.Answers.{Lends, is_final};
 ghost use Rattle.fab_face.specs.Held.{begun_of};

@@ -2,7 +2,7 @@
 ghost use Rattle.std.specs.Prelude.{◌≡◌, ◌<◌, ◌++◌, ◌∷◌, [], false, Option, is_some, length, IsErrOf, OnOk};
 ghost use Rattle.fab_base.specs.Counts.{Rose};
 ghost use Rattle.fab_base.specs.declared.frames.FrameRef.{FrameRef};
-ghost use Rattle.fab_wire.specs.Frames.{frame, Continues};
+ghost use Rattle.fab_link.specs.Frames.{frame, Continues};
 ghost use Rattle.fab_link.specs.Meaning.{Fronted, Noticed, Repays, end_of};
 
 use fab_base::FrameHead;

@@ -8,9 +8,9 @@ use Rattle.fab_base.specs.Counts.{Rose}
 use Rattle.fab_base.specs.declared.frames.FrameHead.{FrameHead}
 use Rattle.fab_base.specs.declared.frames.Frame.{Frame}
 use Rattle.fab_base.specs.declared.frames.FrameRef.{FrameRef}
-use Rattle.fab_wire.specs.declared.moves.Move.{Move}
-use Rattle.fab_wire.specs.declared.moves.Move.TheVariants.{Post}
-use Rattle.fab_wire.specs.Frames.{frame, lent_frame, last_head, MayCome}
+use Rattle.fab_link.specs.declared.moves.Move.{Move}
+use Rattle.fab_link.specs.declared.moves.Move.TheVariants.{Post}
+use Rattle.fab_link.specs.Frames.{frame, lent_frame, last_head, MayCome}
 use Rattle.fab_link.specs.declared.port.PostRefused.{PostRefused}
 use Rattle.fab_link.specs.declared.port.PostRefused.TheVariants.{LaneFull, PoolFull, NoMemory}
 use Rattle.fab_link.specs.Meaning.{Outgoing, Incoming, Noticed, GrewBy, Gives, Fronted, advanced}

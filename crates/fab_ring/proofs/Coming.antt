@@ -7,8 +7,8 @@ use Rattle.std.specs.Prelude.{Option, Some, None, slice_get, slice_index_or}
 use Rattle.std.proofs.Math.ListN.{get_or-append}
 use Rattle.fab_base.specs.declared.frames.FrameHead.{FrameHead}
 use Rattle.fab_base.specs.declared.frames.Frame.{Frame}
-use Rattle.fab_wire.specs.Frames.{last_head, MayCome, IsLane}
-use Rattle.fab_wire.proofs.Lanes.{IsLane-push, last_head-append, IsLane-append}
+use Rattle.fab_link.specs.Frames.{last_head, MayCome, IsLane}
+use Rattle.fab_link.proofs.Lanes.{IsLane-push, last_head-append, IsLane-append}
 use Rattle.fab_link.specs.Plain.{Plain, Lane, lane_at, with_lane}
 use Rattle.fab_link.proofs.Looks.{other_lane as lane_else, same_lane as lane_here}
 use Rattle.fab_table.specs.declared.fabric.PeerSeat.{PeerSeat}

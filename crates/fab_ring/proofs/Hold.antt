@@ -11,8 +11,8 @@ use Rattle.std.specs.Option.{is_some}
 use Rattle.atomic_table.specs.Table.{rest, turned}
 use Rattle.std.proofs.lemmas.Bool.{false_from_ne_true as not_true}
 use Rattle.fab_base.proofs.Options.{not_some as nothing, some_there as something}
-use Rattle.fab_wire.specs.declared.moves.Move.{Move}
-use Rattle.fab_wire.specs.declared.moves.Move.TheVariants.{Post, Take}
+use Rattle.fab_link.specs.declared.moves.Move.{Move}
+use Rattle.fab_link.specs.declared.moves.Move.TheVariants.{Post, Take}
 use Rattle.fab_table.specs.declared.kinds.Command.{Command}
 use Rattle.fab_table.specs.declared.kinds.Sent.{Sent}
 use Rattle.fab_table.specs.declared.kinds.Slot.{Slot}

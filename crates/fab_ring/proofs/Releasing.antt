@@ -7,9 +7,9 @@ use Rattle.std.specs.Prelude.{Option, Some, None, slice_get, option_to_list}
 use Rattle.std.proofs.lemmas.Option.{same_Some, slice_get_within}
 use Rattle.std.specs.Arc.{arc_value}
 use Rattle.fab_base.proofs.Lists.{get_some}
-use Rattle.fab_wire.specs.declared.moves.Move.{Move}
-use Rattle.fab_wire.specs.declared.moves.Move.TheVariants.{Take}
-use Rattle.fab_wire.specs.Merged.{posts_to}
+use Rattle.fab_link.specs.declared.moves.Move.{Move}
+use Rattle.fab_link.specs.declared.moves.Move.TheVariants.{Take}
+use Rattle.fab_link.specs.Merged.{posts_to}
 use Rattle.fab_table.specs.declared.fabric.Fabric.{Fabric}
 use Rattle.fab_table.specs.declared.fabric.PeerSeat.{PeerSeat}
 use Rattle.fab_table.specs.declared.kinds.Sent.{Sent}

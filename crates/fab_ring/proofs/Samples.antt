@@ -5,8 +5,8 @@ use native.Mathlib.Decide.{ℕ_discrete}
 use Rattle.std.specs.Prelude.{Result, OnOk, OnErr}
 use Rattle.fab_base.specs.declared.frames.Frame.{Frame}
 pub use Rattle.fab_base.proofs.Lists.{rest_is, last_is}
-use Rattle.fab_wire.specs.Frames.{IsLast}
-use Rattle.fab_wire.specs.Cut.{IsBetweenItems}
+use Rattle.fab_link.specs.Frames.{IsLast}
+use Rattle.fab_link.specs.Cut.{IsBetweenItems}
 use Rattle.fab_link.specs.declared.port.PostRefused.{PostRefused}
 use Rattle.fab_link.specs.Meaning.{Outgoing, end_of}
 use Rattle.fab_link.proofs.Between.{between_by}

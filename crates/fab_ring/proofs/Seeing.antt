@@ -2,7 +2,7 @@
 use Rattle.std.proofs.Common.{◌≡◌, ℕ, ◌<◌, ◌≤◌, List, length, get_or, set, replicate, sym, ap, ◌∙◌, subst, le_refl, length-set, get_or-set_same, get_or-set_other}
 use lib.ListN.{length-replicate}
 use Rattle.std.proofs.lemmas.List.{get_or-replicate, get_or_default as get_any}
-use Rattle.fab_wire.specs.declared.moves.Move.{Move}
+use Rattle.fab_link.specs.declared.moves.Move.{Move}
 use Rattle.fab_table.specs.declared.kinds.Out.{Out}
 use Rattle.fab_table.specs.declared.kinds.In.{In}
 use Rattle.fab_table.specs.declared.kinds.Part.{Part}

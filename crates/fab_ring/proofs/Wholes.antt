@@ -11,13 +11,13 @@ use Rattle.std.proofs.lemmas.Option.{none-some, same_Some, slice_get_within}
 use Rattle.fab_base.specs.declared.frames.FrameHead.{FrameHead}
 use Rattle.fab_base.specs.declared.frames.Frame.{Frame}
 use Rattle.fab_base.proofs.Lists.{get_some, prefix_then}
-use Rattle.fab_wire.specs.declared.moves.Move.{Move}
-use Rattle.fab_wire.specs.declared.moves.Move.TheVariants.{Post, Take}
-use Rattle.fab_wire.specs.Frames.{last_head, MayCome, IsLane}
-use Rattle.fab_wire.specs.Merged.{IsStampedAbove, IsStamped, posts_to, takes_of, merges}
-use Rattle.fab_wire.specs.Owing.{IsOwed}
-use Rattle.fab_wire.proofs.Merging.{stamped_merge}
-use Rattle.fab_wire.proofs.Lanes.{last_head-append}
+use Rattle.fab_link.specs.declared.moves.Move.{Move}
+use Rattle.fab_link.specs.declared.moves.Move.TheVariants.{Post, Take}
+use Rattle.fab_link.specs.Frames.{last_head, MayCome, IsLane}
+use Rattle.fab_link.specs.Merged.{IsStampedAbove, IsStamped, posts_to, takes_of, merges}
+use Rattle.fab_link.specs.Owing.{IsOwed}
+use Rattle.fab_link.proofs.Merging.{stamped_merge}
+use Rattle.fab_link.proofs.Lanes.{last_head-append}
 use Rattle.fab_link.specs.Meaning.{AreFresh, Incoming}
 use Rattle.fab_link.specs.Plain as plain
 use Rattle.fab_link.specs.Plain.{Plain, Lane, lane_at, fresh_lane}

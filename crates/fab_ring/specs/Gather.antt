@@ -15,8 +15,8 @@ use Rattle.fab_base.specs.declared.limits.TheConstants.{FRAME_BYTES}
 use mathlib.Core.List.{IsPrefix}
 use Rattle.fab_base.specs.declared.frames.FrameHead.{FrameHead}
 use Rattle.fab_base.specs.declared.frames.Frame.{Frame}
-use Rattle.fab_wire.specs.Frames.{last_head, IsLane}
-use Rattle.fab_wire.specs.Merged.{posts_to}
+use Rattle.fab_link.specs.Frames.{last_head, IsLane}
+use Rattle.fab_link.specs.Merged.{posts_to}
 use Rattle.fab_link.specs.Meaning.{AreFresh, Owes, advanced, end_of, taken_end}
 use Rattle.fab_link.specs.Plain as plain
 use Rattle.fab_link.specs.Plain.{Plain, lane_at, fresh_lane}

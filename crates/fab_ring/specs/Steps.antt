@@ -13,8 +13,8 @@ use Rattle.std.specs.Prelude.{◌≡◌, ℕ, ◌+◌, ◌*◌, ◌^◌, ◌<◌
 use Rattle.atomic_table.specs.Table.{rest}
 use Rattle.fab_base.specs.declared.frames.FrameHead.{FrameHead}
 use Rattle.fab_base.specs.declared.limits.TheConstants.{FRAME_BYTES}
-use Rattle.fab_wire.specs.Frames.{last_head, MayCome}
-use Rattle.fab_wire.specs.declared.moves.Move.TheVariants.{Post, Take}
+use Rattle.fab_link.specs.Frames.{last_head, MayCome}
+use Rattle.fab_link.specs.declared.moves.Move.TheVariants.{Post, Take}
 use Rattle.fab_table.specs.declared.fabric.Fabric.{Fabric}
 use Rattle.fab_table.specs.declared.fabric.PeerSeat.{PeerSeat}
 use Rattle.fab_base.specs.declared.limits.TheConstants.{INLINE_BYTES}

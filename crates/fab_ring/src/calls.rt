@@ -1,7 +1,7 @@
 //! What the calls of a port do to what its seat knows.
 ghost use Rattle.std.specs.Prelude.{◌≡◌, ◌≢◌, ℕ, ◌+◌, ◌-◌, ◌*◌, ◌%◌, ◌<◌, ◌≤◌, ◌^◌, ◌⊎◌, true, false, List, [], ◌∷◌, ◌++◌, length, slice_index_or, Option, None, Some, IsSome, IfSome, IsErrOf, OnOk, Err};
-ghost use Rattle.fab_wire.specs.declared.moves.Move.TheVariants.{Post, Take};
-ghost use Rattle.fab_wire.specs.Frames.{last_head, lent_frame, Continues, MayCome};
+ghost use Rattle.fab_link.specs.declared.moves.Move.TheVariants.{Post, Take};
+ghost use Rattle.fab_link.specs.Frames.{last_head, lent_frame, Continues, MayCome};
 ghost use Rattle.fab_link.specs.Meaning.{Rests, Gives};
 ghost use Rattle.fab_link.specs.Plain.{lent_frames};
 ghost use Rattle.std.specs.Borrow.{sem};

@@ -2,7 +2,7 @@
 ghost use Rattle.std.specs.Prelude.{◌≡◌, ℕ, ◌+◌, ◌<◌, ◌≤◌, ◌^◌, ◌++◌, ◌∷◌, List, [], length, take, Option, None};
 ghost use Rattle.fab_base.specs.declared.limits.TheConstants.{FRAME_BYTES};
 ghost use Rattle.fab_base.specs.declared.frames.FrameHead.{FrameHead};
-ghost use Rattle.fab_wire.specs.Frames.{last_head, IsLane, MayCome};
+ghost use Rattle.fab_link.specs.Frames.{last_head, IsLane, MayCome};
 ghost use Rattle.fab_link.specs.Plain.{lane_at};
 ghost use Rattle.fab_table.specs.declared.kinds.Sent.{Sent};
 ghost use Rattle.fab_table.specs.declared.kinds.Slot.{Slot};

@@ -1,7 +1,7 @@
 //! The seats of all ports joined into one.
 ghost use Rattle.std.specs.Prelude.{◌≡◌, ℕ, ◌<◌, ◌++◌, ◌∷◌, [], length, None, Some, slice_get};
 ghost use Rattle.std.specs.Arc.{arc_value};
-ghost use Rattle.fab_wire.specs.declared.moves.Move.TheVariants.{Take};
+ghost use Rattle.fab_link.specs.declared.moves.Move.TheVariants.{Take};
 ghost use Rattle.fab_table.specs.declared.fabric.Fabric.{Fabric};
 ghost use Rattle.fab_table.specs.declared.kinds.Sent.{Sent};
 ghost use Rattle.fab_table.specs.Views.{in_at, part_at, with_in, taken_one};

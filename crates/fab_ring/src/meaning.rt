@@ -3,8 +3,8 @@ ghost use Rattle.std.specs.Prelude.{◌≡◌, ◌≢◌, ℕ, ◌+◌, ◌<◌,
 ghost use Rattle.fab_table.specs.declared.fabric.Fabric.{Fabric};
 ghost use Rattle.fab_base.specs.declared.limits.TheConstants.{INLINE_BYTES};
 ghost use Rattle.fab_base.specs.Counts.{Rose};
-ghost use Rattle.fab_wire.specs.declared.moves.Move.TheVariants.{Post, Take};
-ghost use Rattle.fab_wire.specs.Frames.{frame, Continues};
+ghost use Rattle.fab_link.specs.declared.moves.Move.TheVariants.{Post, Take};
+ghost use Rattle.fab_link.specs.Frames.{frame, Continues};
 ghost use Rattle.fab_link.specs.Meaning.{Others, end_of, Noticed, Repays, GrewBy, advanced};
 ghost use Rattle.fab_table.specs.Views.{out_at, in_at};
 ghost use Rattle.fab_table.specs.Plays.{most};

@@ -2,8 +2,8 @@
 ghost use Rattle.std.specs.Prelude.{◌≡◌, ◌≢◌, ℕ, ◌+◌, ◌*◌, ◌<◌, ◌≤◌, ◌^◌, true, false, List, [], ◌∷◌, ◌++◌, length, Option, None, Some};
 ghost use Rattle.fab_base.specs.declared.limits.TheConstants.{FRAME_BYTES};
 ghost use Rattle.atomic_table.specs.Table.{rest};
-ghost use Rattle.fab_wire.specs.declared.moves.Move.TheVariants.{Post};
-ghost use Rattle.fab_wire.specs.Frames.{last_head, Continues};
+ghost use Rattle.fab_link.specs.declared.moves.Move.TheVariants.{Post};
+ghost use Rattle.fab_link.specs.Frames.{last_head, Continues};
 ghost use Rattle.fab_base.specs.declared.limits.TheConstants.{INLINE_BYTES};
 ghost use Rattle.fab_table.specs.declared.kinds.Command.{Command};
 ghost use Rattle.fab_table.specs.declared.kinds.Slot.TheVariants.{Cell, Pool};

@@ -1,7 +1,7 @@
 //! Requests of other peers, judged and performed.
 ghost use Rattle.std.specs.Prelude.{◌≡◌, ◌≢◌, ◌+◌, ◌<◌, ◌≤◌, ◌∷◌, ◌++◌, [], length, take, drop, true, None, Some, Ok, IfOk, IfErr, IfSome, MatchOption, OnOk, OnErr, slice_index, slice_set, if◌then◌else◌};
 ghost use Rattle.std.specs.Option.{option_map, ok_or};
-ghost use Rattle.fab_wire.specs.Frames.{IsSound};
+ghost use Rattle.fab_link.specs.Frames.{IsSound};
 ghost use Rattle.fab_model.specs.Matching.{change_first, remove_first};
 ghost use Rattle.fab_model.specs.Target.{is_keyed, may_access, perform, put_range, reach_of};
 ghost use Rattle.fab_base.specs.Kinds.{is_base, is_read_only};

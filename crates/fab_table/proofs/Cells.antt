@@ -10,8 +10,8 @@ use Rattle.std.specs.Prelude.{Option, Some, None}
 use Rattle.std.proofs.lemmas.Option.{none-some, same_Some}
 use Rattle.atomic_table.proofs.Lists.{at_longer, at_last, one_turn, set_here, set_else}
 use Rattle.fab_base.proofs.Places.{at_lt, at_end}
-use Rattle.fab_wire.specs.Frames.{last_head, MayCome, IsLane}
-use Rattle.fab_wire.proofs.Lanes.{IsLane-push}
+use Rattle.fab_link.specs.Frames.{last_head, MayCome, IsLane}
+use Rattle.fab_link.proofs.Lanes.{IsLane-push}
 use Rattle.fab_table.specs.declared.kinds.Sent.{Sent}
 use Rattle.fab_table.specs.Views.{frame_of, frames_of}
 use Rattle.fab_table.specs.declared.kinds.Slot.{Slot}

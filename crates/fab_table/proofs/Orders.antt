@@ -3,18 +3,18 @@ use Rattle.std.proofs.Common.{◌≡◌, ℕ, zero, suc, ◌+◌, ◌<◌, ◌�
 use mathlib.Core.List.{map-append}
 use Rattle.fab_base.proofs.Lists.{cond_more}
 use Rattle.fab_base.proofs.Numbers.{max_next as next_is}
-use Rattle.fab_wire.specs.declared.moves.Move.{Move}
-use Rattle.fab_wire.specs.declared.moves.Move.TheVariants.{Post, Take}
-use Rattle.fab_wire.specs.Merged.{IsStampedAbove, posts_to, takes_of}
+use Rattle.fab_link.specs.declared.moves.Move.{Move}
+use Rattle.fab_link.specs.declared.moves.Move.TheVariants.{Post, Take}
+use Rattle.fab_link.specs.Merged.{IsStampedAbove, posts_to, takes_of}
 use Rattle.fab_table.specs.declared.kinds.Sent.{Sent}
 use Rattle.fab_table.specs.declared.kinds.Out.{Out}
 use Rattle.fab_table.specs.declared.kinds.In.{In}
 use Rattle.fab_table.specs.declared.kinds.Part.{Part}
 use Rattle.fab_table.specs.Views.{frame_of, frames_of, new_out, new_in, out_at, in_at, with_out, with_in, posted_one, taken_one}
 use Rattle.fab_table.specs.Rule.{Owes, Repays, number, number_of, greatest, Kept}
-use Rattle.fab_wire.specs.Owing.{IsOwed}
-use Rattle.fab_wire.proofs.Owed.{repays, owed_still}
-use Rattle.fab_wire.proofs.Merging.{stamped_take}
+use Rattle.fab_link.specs.Owing.{IsOwed}
+use Rattle.fab_link.proofs.Owed.{repays, owed_still}
+use Rattle.fab_link.proofs.Merging.{stamped_take}
 use Rattle.fab_table.proofs.Rows.{each_set}
 
 pub greatest_more : (g : ℕ) (ms : List Move) (m : Move) → greatest g (ms ++ m ∷ []) ≡ max (greatest g ms) (number_of m)

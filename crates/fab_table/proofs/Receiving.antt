@@ -11,9 +11,9 @@ use Rattle.atomic_table.specs.Table.{step, keeps, takes, gives, chain, stepped, 
 use Rattle.atomic_table.proofs.Lists.{set_else, set_here}
 use Rattle.fab_base.specs.declared.frames.FrameHead.{FrameHead}
 use Rattle.fab_base.proofs.Places.{at_some}
-use Rattle.fab_wire.specs.declared.moves.Move.{Move}
-use Rattle.fab_wire.specs.declared.moves.Move.TheVariants.{Take}
-use Rattle.fab_wire.specs.Frames.{last_head, MayCome, IsLane}
+use Rattle.fab_link.specs.declared.moves.Move.{Move}
+use Rattle.fab_link.specs.declared.moves.Move.TheVariants.{Take}
+use Rattle.fab_link.specs.Frames.{last_head, MayCome, IsLane}
 use Rattle.fab_table.specs.declared.kinds.Command.{Command}
 use Rattle.fab_table.specs.declared.kinds.Sent.{Sent}
 use Rattle.fab_table.specs.declared.kinds.Layout.{Layout}

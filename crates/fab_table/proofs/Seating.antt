@@ -21,7 +21,7 @@ use Rattle.fab_table.specs.declared.kinds.Out.{Out}
 use Rattle.fab_table.specs.declared.kinds.In.{In}
 use Rattle.fab_table.specs.declared.kinds.Part.{Part}
 use Rattle.fab_table.specs.declared.kinds.View.{View}
-use Rattle.fab_wire.specs.Owing.{IsOwed}
+use Rattle.fab_link.specs.Owing.{IsOwed}
 use Rattle.fab_table.specs.Views.{frames_of, pool_word, new_out, new_in, new_part, parts_from, everyone, nobody, only_first, but_first, both, part_at, in_at, lane_of, put_word, got_word, word_count}
 use Rattle.fab_table.specs.Plays.{Sat, learned}
 use Rattle.fab_table.specs.Rule.{free, IsCell, IsBuf, Lane, OutOk, InOk, number, Kept, PartOk, Ruled}

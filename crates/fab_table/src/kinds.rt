@@ -1,6 +1,6 @@
 //! What lies in the table, and what a seat knows of it.
 use fab_base::{Buf, Frame, FrameHead, INLINE_BYTES};
-use fab_wire::Move;
+use fab_link::Move;
 use std::collections::LinkedList;
 
 /// What a cell of a lane holds: a frame's head, its number, and the pool slot that has its bytes. A

@@ -61,9 +61,9 @@ pub use Rattle.fab_laws.specs.ReceiveLaws
 pub use Rattle.fab_laws.specs.MultiLaws
 pub use Rattle.fab_doings.specs.Doings
 pub use Rattle.fab_doings.specs.Law
-pub use Rattle.fab_records.specs.Recording
-pub use Rattle.fab_records.specs.Driven
+pub use Rattle.fab_doings.specs.Recording
+pub use Rattle.fab_doings.specs.Driven
 pub use Rattle.fab_library_laws.specs.Library
 pub use Rattle.fab_library_laws.specs.Closing
-pub use Rattle.fab_heard.specs.Heard
+pub use Rattle.fab_doings.specs.Heard
 pub use Rattle.fab_library_laws.specs.Hearing

@@ -14,9 +14,9 @@ use Rattle.fab_base.specs.declared.operations.Written.{Written}
 use Rattle.fab_base.specs.declared.peers.Level.{Level}
 use Rattle.fab_base.specs.declared.peers.LineResult.TheVariants.{Done as Accepted}
 use Rattle.fab_base.specs.declared.script.Bound.{Bound}
-use Rattle.fab_wire.specs.declared.moves.Move.TheVariants.{Post as Out, Take as In}
-use Rattle.fab_wire.specs.Frames.{frame, IsSound}
-use Rattle.fab_wire.specs.Cut.{IsItem}
+use Rattle.fab_link.specs.declared.moves.Move.TheVariants.{Post as Out, Take as In}
+use Rattle.fab_link.specs.Frames.{frame, IsSound}
+use Rattle.fab_link.specs.Cut.{IsItem}
 use Rattle.fab_model.specs.Machine.{machine}
 use Rattle.fab_model.specs.Arrivals.{do_head, do_tail}
 use Rattle.fab_model.specs.Calls.{Call, Post, do_call, message}
