@@ -13,8 +13,8 @@ use crate::writing::{add_first, add_rows};
 use fab_base::{Gate, NoMemory};
 use fab_window::{Window, WindowSeat, gather};
 use std::alloc::Global;
-use std::thread::Threads;
 use std::thread;
+use std::thread::Threads;
 
 /// The turn of one peer, by its number: it tells the gate that it begins, makes its additions, and tells that it ends. The
 /// rounds of a script are numbered from 1; this turn has the round 0.

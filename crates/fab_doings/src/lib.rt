@@ -11,11 +11,11 @@ mod application;
 mod heard;
 mod thread;
 
+ghost use Rattle.fab_doings.specs.Law.{ProgramObeys, ProgramReaches};
+
 pub use application::talk;
 pub use heard::{law_heard, law_said};
 pub use thread::{ask_both, exchange};
-
-ghost use Rattle.fab_doings.specs.Law.{ProgramObeys, ProgramReaches};
 
 /// What the threads of a program did is a run of the program's machine.
 ///

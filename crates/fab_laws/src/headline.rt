@@ -13,7 +13,8 @@ ghost use Rattle.fab_laws.specs.Headline.{Headline};
 
 use crate::laws::{law_messages, law_scripts};
 use crate::script_laws::{
-    script_claims, script_history, script_l1, script_l2, script_l3, script_l4, script_messages, script_multi, script_receives, script_streams,
+    script_claims, script_history, script_l1, script_l2, script_l3, script_l4, script_messages,
+    script_multi, script_receives, script_streams,
 };
 use fab_model::laws::law_l5;
 

@@ -9,7 +9,8 @@ use fab_base::{Ack, Buf, Frame, FrameHead, ItemHead, Kind, Outcome};
 use fab_link::carry::carry;
 use fab_link::{PlainPort, Port};
 use fab_port_suite::{
-    Message, OF_ONE, OF_TWO, answer, gives_all, gives_each, gives_none, is_peer, item, pattern, posts_all, whole,
+    Message, OF_ONE, OF_TWO, answer, gives_all, gives_each, gives_none, is_peer, item, pattern,
+    posts_all, whole,
 };
 use std::alloc::Global;
 use std::test::Fail;

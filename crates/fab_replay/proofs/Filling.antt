@@ -25,10 +25,10 @@ use Rattle.fab_model.specs.Arrivals.{stays, shut, seating, do_draw, made_whole, 
 use Rattle.fab_model.specs.Sending.{is_answered_by, answering, going_on, do_answer}
 use Rattle.fab_model.specs.Target.{is_keyed, outcome_of, perform}
 use Rattle.fab_model.proofs.Unchanged.{event_cq, book_cq, book_rx}
-use Rattle.fab_reference.specs.Room.{has_room, entries_given, entries_taken, entries_drawn, is_let_go, entries_into, entries_to, entries_tail, entries_told, entries_of_end}
-use Rattle.fab_halves.specs.Places.{is_under_way_besides}
-use Rattle.fab_reference.proofs.Growing.{Grows, fits_grown, give_grows, end_grows, none_written, one_written, fill_grows}
-use Rattle.fab_reference.proofs.Answering.{draw_none, draw_untaken, drawn_none, drawn_untaken, drawn_some}
+use Rattle.fab_checker_machine.specs.Room.{has_room, entries_given, entries_taken, entries_drawn, is_let_go, entries_into, entries_to, entries_tail, entries_told, entries_of_end}
+use Rattle.fab_checker_halves.specs.Places.{is_under_way_besides}
+use Rattle.fab_checker_machine.proofs.Growing.{Grows, fits_grown, give_grows, end_grows, none_written, one_written, fill_grows}
+use Rattle.fab_checker_machine.proofs.Answering.{draw_none, draw_untaken, drawn_none, drawn_untaken, drawn_some}
 
 -- ---- lists
 

@@ -19,8 +19,8 @@ use Rattle.fab_model.specs.Replay.{bind_line, bind_op}
 use Rattle.fab_model.specs.State.{State, accepted_for, fits, tally_of}
 use Rattle.fab_model.specs.Sending.{do_sent}
 use Rattle.fab_model.specs.Peers.{Actor, only_if, with_state, next_line, do_next, do_line, wait_line, call_line, head_step, tail_step, sent_step, draw_step, final_step}
-use Rattle.fab_reference.specs.Room.{has_room, entries_sent, entries_tail, entries_drawn}
-use Rattle.fab_reference.proofs.Growing.{fits_sent, fits_cancel}
+use Rattle.fab_checker_machine.specs.Room.{has_room, entries_sent, entries_tail, entries_drawn}
+use Rattle.fab_checker_machine.proofs.Growing.{fits_sent, fits_cancel}
 use Rattle.fab_replay.specs.Seen.{Took}
 use Rattle.fab_replay.proofs.Again.{line_calls}
 use Rattle.fab_replay.proofs.Filling.{fits_drawn, fits_tail}
