@@ -1,4 +1,4 @@
--- Cards at places, and what becomes of a shelf's lists when a card comes or goes.
+-- Cards at places, and what becomes of a bucket's lists when a card comes or goes.
 use Rattle.std.proofs.Common.{◌≡◌, ◌≢◌, ◌<◌, ◌==◌, ℕ, suc, Bool, true, false, cond, ◌&&◌, List, [], ◌∷◌, ◌++◌, Option, Some, None, is_some, length, refl, sym, ap, ◌∙◌, subst, ◌⊎◌, inl, inr, append_assoc}
 use Rattle.std.specs.Prelude.{find, filter, option_to_list}
 use Rattle.std.specs.List.{list_any}
@@ -8,11 +8,11 @@ use Rattle.std.proofs.lemmas.List.Elements.{filter-append}
 use Rattle.std.proofs.lemmas.Bool.{eqb-false, eq-eqb, ne_eqb, cases_eq}
 use Rattle.slab.specs.Slab.{Slab, get}
 use Rattle.fab_model.specs.Matching.{remove_first}
-use Rattle.fab_match.specs.declared.shelf.Card.{Card}
+use Rattle.fab_match.specs.declared.bucket.Card.{Card}
 use Rattle.fab_match.specs.declared.chains.Chains.{Chains}
 use Rattle.fab_match.specs.Each.{Each, Lacks, others}
 use Rattle.fab_match.specs.Chains.{IsChain}
-use Rattle.fab_match.specs.Shelf.{passes, held, listed, IsFiled}
+use Rattle.fab_match.specs.Bucket.{passes, held, listed, IsFiled}
 use Rattle.fab_match.proofs.Lists.{Each-filter, Each-map, find-filter, find-same, filter-same}
 
 module _ {X : Type 0} (cards : Slab (Card X)) where

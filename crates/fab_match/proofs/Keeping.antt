@@ -1,4 +1,4 @@
--- What holds of a shelf, and stays so.
+-- What holds of a bucket, and stays so.
 use Rattle.std.proofs.Common.{◌≡◌, ◌≢◌, ◌<◌, ◌≤◌, ◌+◌, ◌==◌, ◌&&◌, ◌||◌, ℕ, zero, suc, Bool, true, false, List, [], ◌∷◌, ◌++◌, Option, Some, None, is_some, length, refl, sym, ap, ◌∙◌, subst, arith, length-append}
 use Rattle.std.specs.Prelude.{find, filter, nat_lt, not, count_by}
 use Rattle.std.specs.Option.{option_and_then}
@@ -6,13 +6,13 @@ use Rattle.std.proofs.lemmas.Bool.{eqb-true, eqb-false, eq-eqb, and_right, and_p
 use Rattle.slab.specs.Slab.{Slab, get, slab_len}
 use Rattle.fab_base.proofs.Lists.{length-filter-le}
 use Rattle.fab_model.specs.Matching.{remove_first}
-use Rattle.fab_match.specs.declared.shelf.Card.{Card}
-use Rattle.fab_match.specs.declared.shelf.Shelf.{Shelf}
+use Rattle.fab_match.specs.declared.bucket.Card.{Card}
+use Rattle.fab_match.specs.declared.bucket.Bucket.{Bucket}
 use Rattle.fab_match.specs.declared.chains.Chains.{Chains}
 use Rattle.fab_match.specs.Each.{Each, Lacks, others}
 use Rattle.fab_match.specs.Chains.{IsChain, IsLinked, next_of, prev_of}
 use Rattle.fab_match.specs.Bins.{bin}
-use Rattle.fab_match.specs.Shelf.{passes, held, listed, read, places, cards, is_within, IsFiled, Keeps, IsKept, StaysIn}
+use Rattle.fab_match.specs.Bucket.{passes, held, listed, read, places, cards, is_within, IsFiled, Keeps, IsKept, StaysIn}
 use Rattle.fab_match.proofs.Leading.{In, Round-in}
 use Rattle.fab_match.proofs.Walking.{read-leads}
 use Rattle.fab_match.proofs.Lists.{Each-append, Each-filter, Each-both, Each-in, IsDistinct-push, IsDistinct-others, Lacks-others, In-filter, first_out}
@@ -34,44 +34,44 @@ linked c h ys place chain i =
     Round-in c.heads (length c.links.items) (next_of c.links.items) (prev_of c.links.items) h ys h place within within chain.2 i
 
 module _ {X : Type 0} where
-  pub length-places : (shelf : Shelf X) → length (places shelf) ≡ slab_len shelf.cards
-  length-places shelf = length-read shelf.all.heads (next_of shelf.all.links.items) (slab_len shelf.cards) (next_of shelf.all.links.items 0)
+  pub length-places : (bucket : Bucket X) → length (places bucket) ≡ slab_len bucket.cards
+  length-places bucket = length-read bucket.all.heads (next_of bucket.all.links.items) (slab_len bucket.cards) (next_of bucket.all.links.items 0)
 
-  -- the places by which a shelf keeps its cards are those that are read off
-  pub kept_by : (shelf : Shelf X) (ys : List ℕ) → Keeps shelf ys → slab_len shelf.cards ≡ length ys → IsKept shelf
-  kept_by shelf ys k e = subst (Keeps shelf) (sym (read-chain shelf.all (slab_len shelf.cards) ys k.all e)) k
+  -- the places by which a bucket keeps its cards are those that are read off
+  pub kept_by : (bucket : Bucket X) (ys : List ℕ) → Keeps bucket ys → slab_len bucket.cards ≡ length ys → IsKept bucket
+  kept_by bucket ys k e = subst (Keeps bucket) (sym (read-chain bucket.all (slab_len bucket.cards) ys k.all e)) k
 
-  pub length-cards : (shelf : Shelf X) → IsKept shelf → length (cards shelf) ≡ slab_len shelf.cards
-  length-cards shelf k = length-listed shelf.cards (is_within shelf.near.heads shelf.wide.heads) (places shelf) k.cards ∙ length-places shelf
+  pub length-cards : (bucket : Bucket X) → IsKept bucket → length (cards bucket) ≡ slab_len bucket.cards
+  length-cards bucket k = length-listed bucket.cards (is_within bucket.near.heads bucket.wide.heads) (places bucket) k.cards ∙ length-places bucket
 
   -- a look along the chain of a key
-  module _ (shelf : Shelf X) (c : Chains) (key : Card X → ℕ) (filed : IsFiled c shelf.cards key (places shelf)) (h : ℕ) (below : h < c.heads) where
-    pub the_chain : (ys : List ℕ) × IsChain c h ys × (length ys ≤ slab_len shelf.cards)
+  module _ (bucket : Bucket X) (c : Chains) (key : Card X → ℕ) (filed : IsFiled c bucket.cards key (places bucket)) (h : ℕ) (below : h < c.heads) where
+    pub the_chain : (ys : List ℕ) × IsChain c h ys × (length ys ≤ slab_len bucket.cards)
     the_chain = (
-      filter (held shelf.cards (λ card. key card == h)) (places shelf),
+      filter (held bucket.cards (λ card. key card == h)) (places bucket),
       filed h below,
-      omega (arith, length-filter-le (held shelf.cards (λ card. key card == h)) (places shelf), length-places shelf),
+      omega (arith, length-filter-le (held bucket.cards (λ card. key card == h)) (places bucket), length-places bucket),
     )
 
-    module _ (T : Card X → Bool) (o : Option ℕ) (found : (ys : List ℕ) → IsChain c h ys → o ≡ find (held shelf.cards T) ys) where
-      pub place_found : (S : Card X → Bool) → ((card : Card X) → ((key card == h) && T card) ≡ S card) → o ≡ find (held shelf.cards S) (places shelf)
+    module _ (T : Card X → Bool) (o : Option ℕ) (found : (ys : List ℕ) → IsChain c h ys → o ≡ find (held bucket.cards T) ys) where
+      pub place_found : (S : Card X → Bool) → ((card : Card X) → ((key card == h) && T card) ≡ S card) → o ≡ find (held bucket.cards S) (places bucket)
       place_found S e =
-          found (filter (held shelf.cards (λ card. key card == h)) (places shelf)) (filed h below)
-          ∙ find-filed shelf.cards (λ card. key card == h) T S e (places shelf)
+          found (filter (held bucket.cards (λ card. key card == h)) (places bucket)) (filed h below)
+          ∙ find-filed bucket.cards (λ card. key card == h) T S e (places bucket)
 
-      pub card_found : option_and_then (get shelf.cards) o ≡ find (λ card. (key card == h) && T card) (cards shelf)
+      pub card_found : option_and_then (get bucket.cards) o ≡ find (λ card. (key card == h) && T card) (cards bucket)
       card_found =
-          ap (option_and_then (get shelf.cards)) (place_found (λ card. (key card == h) && T card) (λ card. refl))
-          ∙ find-listed shelf.cards (λ card. (key card == h) && T card) (places shelf)
+          ap (option_and_then (get bucket.cards)) (place_found (λ card. (key card == h) && T card) (λ card. refl))
+          ∙ find-listed bucket.cards (λ card. (key card == h) && T card) (places bucket)
 
   -- a look along the chain of all
-  module _ (shelf : Shelf X) (k : IsKept shelf) where
-    pub all_chain : (ys : List ℕ) × IsChain shelf.all 0 ys × (length ys ≤ slab_len shelf.cards)
-    all_chain = (places shelf, k.all, omega (arith, length-places shelf))
+  module _ (bucket : Bucket X) (k : IsKept bucket) where
+    pub all_chain : (ys : List ℕ) × IsChain bucket.all 0 ys × (length ys ≤ slab_len bucket.cards)
+    all_chain = (places bucket, k.all, omega (arith, length-places bucket))
 
-    pub card_of_all : (T : Card X → Bool) (o : Option ℕ) → ((ys : List ℕ) → IsChain shelf.all 0 ys → o ≡ find (held shelf.cards T) ys) → option_and_then (get shelf.cards) o ≡ find T (cards shelf)
+    pub card_of_all : (T : Card X → Bool) (o : Option ℕ) → ((ys : List ℕ) → IsChain bucket.all 0 ys → o ≡ find (held bucket.cards T) ys) → option_and_then (get bucket.cards) o ≡ find T (cards bucket)
     card_of_all T o found =
-        ap (option_and_then (get shelf.cards)) (found (places shelf) k.all) ∙ find-listed shelf.cards T (places shelf)
+        ap (option_and_then (get bucket.cards)) (found (places bucket) k.all) ∙ find-listed bucket.cards T (places bucket)
 
   id_same : (heads id : ℕ) (card : Card X) (t : Bool) → (card.id == id) ≡ t → ((bin heads 0 card.id 0 == bin heads 0 id 0) && (card.id == id)) ≡ (card.id == id)
   id_same heads id card true t =
@@ -81,11 +81,11 @@ module _ {X : Type 0} where
   id_same heads id card false t = and_right (bin heads 0 card.id 0 == bin heads 0 id 0) (card.id == id) t ∙ sym t
 
   -- the place of an id
-  pub place_of_id : (shelf : Shelf X) → IsKept shelf → (head id : ℕ) → head ≡ bin shelf.ids.heads 0 id 0 → head < shelf.ids.heads → (o : Option ℕ)
-      → ((ys : List ℕ) → IsChain shelf.ids head ys → o ≡ find (held shelf.cards (λ card. card.id == id)) ys) → o ≡ find (held shelf.cards (λ card. card.id == id)) (places shelf)
-  place_of_id shelf k head id is below o found =
-      place_found shelf shelf.ids (λ card. bin shelf.ids.heads 0 card.id 0) k.ids head below (λ card. card.id == id) o found (λ card. card.id == id)
-      (λ card. ap (λ h. (bin shelf.ids.heads 0 card.id 0 == h) && (card.id == id)) is ∙ id_same shelf.ids.heads id card (card.id == id) refl)
+  pub place_of_id : (bucket : Bucket X) → IsKept bucket → (head id : ℕ) → head ≡ bin bucket.ids.heads 0 id 0 → head < bucket.ids.heads → (o : Option ℕ)
+      → ((ys : List ℕ) → IsChain bucket.ids head ys → o ≡ find (held bucket.cards (λ card. card.id == id)) ys) → o ≡ find (held bucket.cards (λ card. card.id == id)) (places bucket)
+  place_of_id bucket k head id is below o found =
+      place_found bucket bucket.ids (λ card. bin bucket.ids.heads 0 card.id 0) k.ids head below (λ card. card.id == id) o found (λ card. card.id == id)
+      (λ card. ap (λ h. (bin bucket.ids.heads 0 card.id 0 == h) && (card.id == id)) is ∙ id_same bucket.ids.heads id card (card.id == id) refl)
 
 -- a card's bin of the second kind, where there are any
 wide_ok : (heads wide : ℕ) → (0 < heads → wide < heads) → (t : Bool) → (heads == 0) ≡ t → (heads == 0 || nat_lt wide heads) ≡ true
@@ -98,8 +98,8 @@ wide_in : (heads wide : ℕ) → 0 < heads → (t : Bool) → (heads == 0) ≡ t
 wide_in heads wide some true t e = absurd (let none : heads ≡ 0 = eqb-true heads 0 t in omega (arith, none, some))
 wide_in heads wide some false t e = ltb-true wide heads (ap (λ b. b || nat_lt wide heads) (sym t) ∙ e)
 
--- what a shelf is once a card came to a place
-pub record Adds {X : Type 0} (old new : Shelf X) (place : ℕ) (card : Card X) : Type 0 where
+-- what a bucket is once a card came to a place
+pub record Adds {X : Type 0} (old new : Bucket X) (place : ℕ) (card : Card X) : Type 0 where
   pub vacant : get old.cards place ≡ None
   pub at : get new.cards place ≡ Some card
   pub same : (p : ℕ) → p ≢ place → get new.cards p ≡ get old.cards p
@@ -119,7 +119,7 @@ pub record Adds {X : Type 0} (old new : Shelf X) (place : ℕ) (card : Card X) :
   pub wide_joins : (ys : List ℕ) → IsChain old.wide card.wide ys → Lacks place ys → IsChain new.wide card.wide (ys ++ place ∷ [])
   pub wide_stay : (h : ℕ) (ys : List ℕ) → h ≢ card.wide → IsChain old.wide h ys → Lacks place ys → IsChain new.wide h ys
 
-module _ {X : Type 0} (old : Shelf X) (k : IsKept old) (place : ℕ) (vacant : get old.cards place ≡ None) where
+module _ {X : Type 0} (old : Bucket X) (k : IsKept old) (place : ℕ) (vacant : get old.cards place ≡ None) where
   lacks : Lacks place (places old)
   lacks = Lacks-vacant old.cards (is_within old.near.heads old.wide.heads) place (places old) vacant k.cards
 
@@ -128,7 +128,7 @@ module _ {X : Type 0} (old : Shelf X) (k : IsKept old) (place : ℕ) (vacant : g
   can_join c key filed h below =
       (filter (held old.cards (λ card. key card == h)) (places old), filed h below, Each-filter (λ y. y ≢ place) (held old.cards (λ card. key card == h)) (places old) lacks)
 
-  module _ (new : Shelf X) (card : Card X) (a : Adds old new place card) where
+  module _ (new : Bucket X) (card : Card X) (a : Adds old new place card) where
     abbrev ys : List ℕ
     ys = places old ++ place ∷ []
 
@@ -174,8 +174,8 @@ module _ {X : Type 0} (old : Shelf X) (k : IsKept old) (place : ℕ) (vacant : g
         ∙ (listed-append new.cards (places old) (place ∷ [])
         ∙ rw (listed-same old.cards new.cards place a.same (places old) lacks, a.at) refl)
 
--- what a shelf is once the card of a place went
-pub record Removes {X : Type 0} (old new : Shelf X) (place : ℕ) : Type 0 where
+-- what a bucket is once the card of a place went
+pub record Removes {X : Type 0} (old new : Bucket X) (place : ℕ) : Type 0 where
   pub same : (p : ℕ) → p ≢ place → get new.cards p ≡ get old.cards p
   pub count : slab_len new.cards + 1 ≡ slab_len old.cards
   pub all_leaves : (h : ℕ) (ys : List ℕ) → IsChain old.all h ys → IsChain new.all h (others place ys)
@@ -191,7 +191,7 @@ module _ {X : Type 0} (T : Card X → Bool) where
   passes_some None e = absurd (cc)
   passes_some (Some card) e = (card, refl, e)
 
-module _ {X : Type 0} (old : Shelf X) (k : IsKept old) (T : Card X → Bool) (place : ℕ) (found : find (held old.cards T) (places old) ≡ Some place) where
+module _ {X : Type 0} (old : Bucket X) (k : IsKept old) (T : Card X → Bool) (place : ℕ) (found : find (held old.cards T) (places old) ≡ Some place) where
   out : (In place (places old)) × (remove_first (held old.cards T) (places old) ≡ others place (places old)) × (length (others place (places old)) + 1 ≡ length (places old)) × (held old.cards T place ≡ true)
   out = first_out (held old.cards T) place (places old) k.distinct found
 
@@ -225,7 +225,7 @@ module _ {X : Type 0} (old : Shelf X) (k : IsKept old) (T : Card X → Bool) (pl
   linked_id id is below =
       linked_by old.ids (λ card. bin old.ids.heads 0 card.id 0) k.ids (subst (λ i. bin old.ids.heads 0 i 0 < old.ids.heads) (sym (is card_there.0 card_there.2)) below)
 
-  module _ (new : Shelf X) (r : Removes old new place) where
+  module _ (new : Bucket X) (r : Removes old new place) where
     abbrev rest : List ℕ
     rest = others place (places old)
 
@@ -266,9 +266,9 @@ module _ {X : Type 0} (old : Shelf X) (k : IsKept old) (T : Card X → Bool) (pl
         ∙ (listed-same old.cards new.cards place r.same rest (Lacks-others place (places old))
         ∙ (ap (listed old.cards) (sym out.1) ∙ listed-remove_first old.cards T (places old)))
 
--- a shelf whose chains only got more links, and whose slab more room
-module _ {X : Type 0} (old : Shelf X) (k : IsKept old) (all ids near wide : Chains) (a : StaysIn old.all all) (i : StaysIn old.ids ids) (n : StaysIn old.near near) (w : StaysIn old.wide wide) (capacity : ℕ) where
-  abbrev grown : Shelf X
+-- a bucket whose chains only got more links, and whose slab more room
+module _ {X : Type 0} (old : Bucket X) (k : IsKept old) (all ids near wide : Chains) (a : StaysIn old.all all) (i : StaysIn old.ids ids) (n : StaysIn old.near near) (w : StaysIn old.wide wide) (capacity : ℕ) where
+  abbrev grown : Bucket X
   grown = record { cards = record old.cards { capacity = capacity }; all = all; ids = ids; near = near; wide = wide }
 
   filed_stays : (c c' : Chains) (key : Card X → ℕ) → StaysIn c c' → IsFiled c old.cards key (places old) → IsFiled c' old.cards key (places old)
@@ -299,11 +299,11 @@ module _ {X : Type 0} (old : Shelf X) (k : IsKept old) (all ids near wide : Chai
   pub cards_as : (s : Slab (Card X)) → s ≡ record old.cards { capacity = capacity } → cards (record { cards = s; all = all; ids = ids; near = near; wide = wide }) ≡ cards old
   cards_as s e = subst (λ (t : Slab (Card X)). cards (record { cards = t; all = all; ids = ids; near = near; wide = wide }) ≡ cards old) (sym e) cards-grown
 
--- a shelf with no card
-module _ {X : Type 0} (shelf : Shelf X) (none : shelf.cards.slots ≡ []) (some : 0 < shelf.ids.heads) (all : IsChain shelf.all 0 []) (ids : (h : ℕ) → h < shelf.ids.heads → IsChain shelf.ids h [])
-    (near : (h : ℕ) → h < shelf.near.heads → IsChain shelf.near h []) (wide : (h : ℕ) → h < shelf.wide.heads → IsChain shelf.wide h []) where
-  no_cards : slab_len shelf.cards ≡ 0
+-- a bucket with no card
+module _ {X : Type 0} (bucket : Bucket X) (none : bucket.cards.slots ≡ []) (some : 0 < bucket.ids.heads) (all : IsChain bucket.all 0 []) (ids : (h : ℕ) → h < bucket.ids.heads → IsChain bucket.ids h [])
+    (near : (h : ℕ) → h < bucket.near.heads → IsChain bucket.near h []) (wide : (h : ℕ) → h < bucket.wide.heads → IsChain bucket.wide h []) where
+  no_cards : slab_len bucket.cards ≡ 0
   no_cards = ap (λ s. count_by is_some s) none
 
-  pub IsKept-empty : IsKept shelf
-  IsKept-empty = kept_by shelf [] (record { some = some; all = all; distinct = tt; cards = tt; ids = ids; near = near; wide = wide }) no_cards
+  pub IsKept-empty : IsKept bucket
+  IsKept-empty = kept_by bucket [] (record { some = some; all = all; distinct = tt; cards = tt; ids = ids; near = near; wide = wide }) no_cards

@@ -15,7 +15,7 @@ use Rattle.fab_base.specs.Kinds.{is_tagged, is_message}
 use Rattle.fab_match.specs.Signs.{fits, message_kind}
 use Rattle.fab_match.specs.Matcher.{first_id, has_id, ids, without, HasDistinctIds}
 use Rattle.fab_model.proofs.Firsts.{remove_first_at, remove_first-none, list_any-none}
-use Rattle.fab_match.specs.declared.shelf.Card.{Card}
+use Rattle.fab_match.specs.declared.bucket.Card.{Card}
 use Rattle.fab_match.specs.declared.bins.Filing.{Filing}
 use Rattle.fab_match.specs.declared.bins.Filing.TheVariants.{Exact, Open, Masked}
 use Rattle.fab_match.specs.Each.{Each}

@@ -2,7 +2,7 @@
 use Rattle.std.proofs.Common.{◌≡◌, ◌<◌, ◌≤◌, ◌+◌, ◌-◌, ℕ, Bool, true, false, List, [], ◌∷◌, Some, None, length, refl, sym, ap, ◌∙◌, subst, arith}
 use Rattle.std.specs.Prelude.{find}
 use Rattle.fab_match.specs.Chains.{Leads}
-use Rattle.fab_match.specs.Shelf.{read}
+use Rattle.fab_match.specs.Bucket.{read}
 
 module _ (heads len : ℕ) (next prev : ℕ → ℕ) where
   -- what is read off a chain is what it has

@@ -2,10 +2,10 @@
 --     pairs cards      each id with its item
 use Rattle.std.specs.Prelude.{◌≡◌, ◌<◌, ◌≤◌, ◌-◌, ◌^◌, ℕ, List, map, length}
 use Rattle.fab_match.specs.Matcher.{HasDistinctIds}
-use Rattle.fab_match.specs.declared.shelf.Card.{Card}
+use Rattle.fab_match.specs.declared.bucket.Card.{Card}
 use Rattle.fab_match.specs.declared.bin_matcher.BinMatcher.TheInside.{Inside}
 use Rattle.fab_match.specs.Each.{Each}
-use Rattle.fab_match.specs.Shelf.{cards, IsKept, IsReady}
+use Rattle.fab_match.specs.Bucket.{cards, IsKept, IsReady}
 use Rattle.fab_match.specs.Numbers.{Rising}
 use Rattle.fab_match.specs.Filed.{IsFiledByWant, IsFiledBySign, loose_count}
 

@@ -3,7 +3,7 @@
 use Rattle.std.specs.Prelude.{◌≡◌, ◌+◌, ℕ, List, [], ◌∷◌, Option, Some, None, if◌then◌else◌}
 use Rattle.fab_base.specs.declared.items.Want.{Want}
 use Rattle.fab_base.specs.declared.items.Sign.{Sign}
-use Rattle.fab_match.specs.declared.shelf.Card.{Card}
+use Rattle.fab_match.specs.declared.bucket.Card.{Card}
 use Rattle.fab_match.specs.Bins.{exact_bin, open_bin, bin_of, is_loose}
 
 -- each receive stands in the bin of what it wants

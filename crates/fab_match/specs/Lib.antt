@@ -4,7 +4,7 @@ pub mod ListMatcher
 pub mod Each
 pub mod Chains
 pub mod Bins
-pub mod Shelf
+pub mod Bucket
 pub mod Numbers
 pub mod Filed
 pub mod BinMatcher

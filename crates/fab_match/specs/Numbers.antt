@@ -2,7 +2,7 @@
 --     earlier one other      the card with the lower number, where there are two
 --     Rising limit cards     the numbers rise from card to card, and are below the limit
 use Rattle.std.specs.Prelude.{◌<◌, ℕ, nat_lt, List, [], ◌∷◌, Option, Some, None, if◌then◌else◌}
-use Rattle.fab_match.specs.declared.shelf.Card.{Card}
+use Rattle.fab_match.specs.declared.bucket.Card.{Card}
 use Rattle.fab_match.specs.Each.{Each}
 
 module _ {X : Type 0} where

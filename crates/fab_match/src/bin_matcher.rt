@@ -5,12 +5,12 @@ ghost use Rattle.fab_base.specs.declared.items.Want.{Want};
 ghost use Rattle.fab_base.specs.declared.items.Sign.{Sign};
 ghost use Rattle.fab_match.specs.Signs.{fits};
 ghost use Rattle.fab_match.specs.Each.{Each};
-ghost use Rattle.fab_match.specs.Shelf.{cards, IsKept};
+ghost use Rattle.fab_match.specs.Bucket.{cards, IsKept};
 ghost use Rattle.fab_match.specs.Numbers.{earlier, Rising};
 ghost use Rattle.fab_match.specs.Filed.{IsFiledByWant, IsFiledBySign, loose_in, loose_count};
 
 use crate::bins::{Filing, bin_of, exact_bin, filing_of, is_loose, masked_bin, open_bin};
-use crate::shelf::{Card, Shelf, Test};
+use crate::bucket::{Card, Bucket, Test};
 use crate::{IdTest, Matcher, fits};
 use fab_base::{NoMemory, Sign, Want};
 use std::alloc::Global;
@@ -25,8 +25,8 @@ const LEAST_HEADS: u32 = 4096;
 /// out, and a message looks through all receives in their order.
 #[derive(Drop)]
 pub struct BinMatcher {
-    posted: Shelf<Want>,
-    unexpected: Shelf<Sign>,
+    posted: Bucket<Want>,
+    unexpected: Bucket<Sign>,
     room: u32,
     number: u64,
     /// How many posted receives mask their tag or take from any source.
@@ -38,7 +38,7 @@ impl Model for BinMatcher {
 
     ghost Value = { Store };
 
-    ghost use Rattle.fab_match.specs.Shelf.{cards};
+    ghost use Rattle.fab_match.specs.Bucket.{cards};
     ghost use Rattle.fab_match.specs.BinMatcher.{pairs, IsBinned};
 
     ghost view = { λ m. record { posted = pairs (cards m.posted); unexpected = pairs (cards m.unexpected); room = m.room } };
@@ -106,7 +106,7 @@ fn earlier(one: Option<Card<Want>>, other: Option<Card<Want>>) -> Option<Card<Wa
 /// The first receive that may take the message. Of each bin that it may stand in the first is found,
 /// and the lowest number decides: however exact a tag, an earlier receive goes first. Where no receive
 /// is loose, there is but one such bin.
-fn first_numbered(posted: &Shelf<Want>, loose: u32, sign: &Sign) -> Option<Card<Want>>
+fn first_numbered(posted: &Bucket<Want>, loose: u32, sign: &Sign) -> Option<Card<Want>>
     requires kept { IsKept posted.now }
     requires heads { 0 < posted.now.near.heads }
     requires bins { Each (IsFiledByWant posted.now.near.heads) (cards posted.now) }
@@ -127,7 +127,7 @@ fn first_numbered(posted: &Shelf<Want>, loose: u32, sign: &Sign) -> Option<Card<
 }
 
 /// The first of the messages that the receive may take.
-fn first_arrived(unexpected: &Shelf<Sign>, want: &Want) -> Option<Card<Sign>>
+fn first_arrived(unexpected: &Bucket<Sign>, want: &Want) -> Option<Card<Sign>>
     requires kept { IsKept unexpected.now }
     requires heads { 0 < unexpected.now.near.heads }
     requires wide { unexpected.now.wide.heads ≡ unexpected.now.near.heads }
@@ -150,8 +150,8 @@ impl Matcher for BinMatcher {
 
     fn new(alloc: Global, rx: u32) -> Result<BinMatcher, NoMemory> {
         let heads = rx.max(LEAST_HEADS);
-        let posted = Shelf::new(alloc, heads, 0, rx as usize)?;
-        let unexpected = Shelf::new(alloc, heads, heads, 0)?;
+        let posted = Bucket::new(alloc, heads, 0, rx as usize)?;
+        let unexpected = Bucket::new(alloc, heads, heads, 0)?;
         Ok(BinMatcher {
             posted,
             unexpected,

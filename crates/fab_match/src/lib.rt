@@ -12,7 +12,7 @@ mod bins;
 mod chains;
 pub mod list_matcher;
 pub mod matcher;
-mod shelf;
+mod bucket;
 pub mod signs;
 pub mod taking;
 

@@ -20,7 +20,7 @@ use Rattle.fab_table.specs.declared.kinds.Sent.{Sent}
 use Rattle.fab_table.specs.declared.kinds.Out.{Out}
 use Rattle.fab_table.specs.declared.kinds.In.{In}
 use Rattle.fab_table.specs.declared.kinds.Part.{Part}
-use Rattle.fab_table.specs.declared.fabric.PeerSeat.{PeerSeat}
+use Rattle.fab_table.specs.declared.lane_table.PeerSeat.{PeerSeat}
 use Rattle.fab_table.specs.Views.{frame_of, frames_of, least, new_out, new_in, part_at, out_at, in_at, with_out, with_in, saw_full, saw_room, posted_one, saw_empty, saw_frame, taken_one}
 use Rattle.fab_table.specs.Rule.{greatest}
 use Rattle.fab_table.specs.Plays.{most}

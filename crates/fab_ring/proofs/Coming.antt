@@ -11,7 +11,7 @@ use Rattle.fab_link.specs.Frames.{last_head, MayCome, IsLane}
 use Rattle.fab_link.proofs.Lanes.{IsLane-push, last_head-append, IsLane-append}
 use Rattle.fab_link.specs.Plain.{Plain, Lane, lane_at, with_lane}
 use Rattle.fab_link.proofs.Looks.{other_lane as lane_else, same_lane as lane_here}
-use Rattle.fab_table.specs.declared.fabric.PeerSeat.{PeerSeat}
+use Rattle.fab_table.specs.declared.lane_table.PeerSeat.{PeerSeat}
 use Rattle.fab_table.specs.declared.kinds.Sent.{Sent}
 use Rattle.fab_table.specs.declared.kinds.Out.{Out}
 use Rattle.fab_table.specs.declared.kinds.Part.{Part}

@@ -5,8 +5,8 @@ use mathlib.Core.List.{map-append}
 use native.Mathlib.Decide.{ℕ_discrete}
 use Rattle.std.specs.Prelude.{None}
 use Rattle.fab_link.specs.declared.moves.Move.{Move}
-use Rattle.fab_table.specs.declared.fabric.Fabric.{Fabric}
-use Rattle.fab_table.specs.declared.fabric.PeerSeat.{PeerSeat}
+use Rattle.fab_table.specs.declared.lane_table.LaneTable.{LaneTable}
+use Rattle.fab_table.specs.declared.lane_table.PeerSeat.{PeerSeat}
 use Rattle.fab_table.specs.declared.kinds.Sent.{Sent}
 use Rattle.fab_table.specs.declared.kinds.In.{In}
 use Rattle.fab_table.specs.declared.kinds.Part.{Part}
@@ -68,7 +68,7 @@ sided_then u v w r e a b = record {
 }
 
 -- the seat goes on speaking for all peers
-pub sided_joined : (f : Fabric) (s t : PeerSeat) (r e : ℕ) → IsJoined f s → t.seat.table_id ≡ s.seat.table_id → carried t ≡ [] → Sided (view_of_seat s) (view_of_seat t) r e → (in_of t r e).opened ≡ None → IsJoined f t
+pub sided_joined : (f : LaneTable) (s t : PeerSeat) (r e : ℕ) → IsJoined f s → t.seat.table_id ≡ s.seat.table_id → carried t ≡ [] → Sided (view_of_seat s) (view_of_seat t) r e → (in_of t r e).opened ≡ None → IsJoined f t
 sided_joined f s t r e j same empty d closed = record {
   of = same ∙ j.of;
   count = d.count ∙ j.count;

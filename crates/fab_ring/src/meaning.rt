@@ -1,6 +1,6 @@
 //! The port's calls, in the words of all ports.
 ghost use Rattle.std.specs.Prelude.{◌≡◌, ◌≢◌, ℕ, ◌+◌, ◌<◌, ◌≤◌, ◌⊎◌, ◌++◌, ◌∷◌, [], length, true, None, Some, IsSome, IsErrOf, OnOk, OnErr, Ok, Err, slice_index};
-ghost use Rattle.fab_table.specs.declared.fabric.Fabric.{Fabric};
+ghost use Rattle.fab_table.specs.declared.lane_table.LaneTable.{LaneTable};
 ghost use Rattle.fab_base.specs.declared.limits.TheConstants.{INLINE_BYTES};
 ghost use Rattle.fab_base.specs.Counts.{Rose};
 ghost use Rattle.fab_link.specs.declared.moves.Move.TheVariants.{Post, Take};
@@ -30,7 +30,7 @@ impl Port for RingPort {
 
     ghost moves = { λ p. Some (moves_of p) };
 
-    ghost Home = { Fabric };
+    ghost Home = { LaneTable };
 
     ghost home = { table_of };
 

@@ -15,7 +15,7 @@ ghost use Rattle.fab_ring.specs.Alone.{IsAlone};
 ghost use Rattle.fab_ring.specs.declared.receiving.Look.TheVariants.{Empty, Inline, Pooled};
 
 use fab_base::Buf;
-use fab_table::{Command, Fabric, PeerSeat};
+use fab_table::{Command, LaneTable, PeerSeat};
 
 /// The next frame of a peer: how many were taken before, and its cell's place.
 #[derive(Clone, Copy, Drop)]
@@ -37,7 +37,7 @@ pub(crate) enum Look {
 /// Looks for the next frame of a peer. Where there is one its command is copied, and the buffer of its
 /// slot, if it has one, is taken for another.
 pub(crate) fn open_next(
-    fabric: &Fabric,
+    fabric: &LaneTable,
     seat: &mut PeerSeat,
     next: &Oldest,
     command: &mut Command,
@@ -72,7 +72,7 @@ pub(crate) fn open_next(
 }
 
 /// Frees the slot of the open frame of a peer. The frame's cell goes behind the other places in hand.
-pub(crate) fn free_pooled(fabric: &Fabric, seat: &mut PeerSeat, me: u64, src: u64, slot: u64)
+pub(crate) fn free_pooled(fabric: &LaneTable, seat: &mut PeerSeat, me: u64, src: u64, slot: u64)
     requires alone { IsAlone fabric.now seat.old me }
     requires below { (src < fabric.now.peers) × (slot < fabric.now.peers * fabric.now.pool) }
     requires opened { (x : Sent) × ((in_of seat.old 0 src).opened ≡ Some x) × (x.slot ≡ Some slot) × ((in_of seat.old 0 src).lent ≡ true) }

@@ -12,7 +12,7 @@ use Rattle.fab_ep.specs.Value.{Whole, anew}
 use Rattle.fab_ep.specs.Tries.{IsTied}
 use Rattle.fab_peer.specs.declared.peer.Peer.{Peer}
 use Rattle.fab_peer.specs.declared.peer.seats.Unseated.{Unseated}
-use Rattle.fab_table.specs.declared.fabric.Fabric.{Fabric}
+use Rattle.fab_table.specs.declared.lane_table.LaneTable.{LaneTable}
 use Rattle.fab_ring.specs.declared.port.RingPort.{RingPort}
 use Rattle.fab_ring.specs.Ports.{moves_of}
 use Rattle.fab_ring.specs.Gather.{AreAll, Gathered}
@@ -31,7 +31,7 @@ use Rattle.fab_rounds.proofs.Following.{ties, joined, actors_follow, schedules_f
 
 -- ---- all peers
 
-module _ {X W : Type 0} (peer : X → Peer (Whole RingPort)) (held : W → Held) (unseated : W → Unseated) (f : Fabric) (rs : List X) (ws : List W) (plains : List Plain) (few : length rs < 2 ^ 32)
+module _ {X W : Type 0} (peer : X → Peer (Whole RingPort)) (held : W → Held) (unseated : W → Unseated) (f : LaneTable) (rs : List X) (ws : List W) (plains : List Plain) (few : length rs < 2 ^ 32)
     (all : AreAll f (map (λ r. (peer r).endpoint.port) rs)) (count : length ws ≡ length rs)
     (each : Paired (λ r w. (past_with (held w) (unseated w) (peer r).endpoint.port ≡ past_at (peer r)) × IsOpen (seen_ring (peer r).endpoint) × IsCounted (living_with (held w) (unseated w))) rs ws) (gathered : Gathered (map (λ r. (peer r).endpoint.port) rs) plains)
     (merge : merges (map moves_of (map (λ r. (peer r).endpoint.port) rs)) ≡ true) (law_holds : AreGathered (map (λ r. past_at (peer r)) rs) → AreTogether (map (λ r. past_at (peer r)) rs)) where

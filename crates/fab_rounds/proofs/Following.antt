@@ -18,7 +18,7 @@ use Rattle.fab_ep.specs.Tries.{IsTied}
 use Rattle.fab_ep.specs.Value.{anew}
 use Rattle.fab_peer.specs.Turns.{IsCounted, Living, actor_in}
 use Rattle.fab_peer.specs.Agreed.{Agrees}
-use Rattle.fab_table.specs.declared.fabric.Fabric.{Fabric}
+use Rattle.fab_table.specs.declared.lane_table.LaneTable.{LaneTable}
 use Rattle.fab_ring.specs.declared.port.RingPort.{RingPort}
 use Rattle.fab_ring.specs.Gather.{AreAll, GoesOn, Gathered}
 use Rattle.fab_merging.specs.Pasts.{Past}
@@ -42,7 +42,7 @@ module _ (p : RingPort) (q : Plain) (goes : GoesOn p q) where
 
 -- ---- one peer
 
-module _ (f : Fabric) (ports : List RingPort) (plains : List Plain) (pasts : List Past) (all : AreAll f ports) (many : length pasts ≡ length ports) (told : Paired Tells pasts ports) (gathered : Gathered ports plains)
+module _ (f : LaneTable) (ports : List RingPort) (plains : List Plain) (pasts : List Past) (all : AreAll f ports) (many : length pasts ≡ length ports) (told : Paired Tells pasts ports) (gathered : Gathered ports plains)
     (together : AreTogether pasts) where
   -- what was taken of a peer that is there makes a lane
   taken_lane : (k s : ℕ) (x : Past) → slice_get pasts k ≡ Some x → s < length pasts → IsLane None (x.ins s)

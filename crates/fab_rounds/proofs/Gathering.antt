@@ -6,7 +6,7 @@ use Rattle.std.proofs.lemmas.Option.{slice_get_within}
 use Rattle.fab_base.specs.declared.frames.Frame.{Frame}
 use Rattle.fab_link.specs.Merged.{merges}
 use Rattle.fab_link.specs.Plain.{Plain, lane_at}
-use Rattle.fab_table.specs.declared.fabric.Fabric.{Fabric}
+use Rattle.fab_table.specs.declared.lane_table.LaneTable.{LaneTable}
 use Rattle.fab_ring.specs.declared.port.RingPort.{RingPort}
 use Rattle.fab_ring.specs.Ports.{peers_of, moves_of, in_of}
 use Rattle.fab_ring.specs.Gather.{AreAll, Gathered}
@@ -24,7 +24,7 @@ ins_none [] p s e = refl
 ins_none (x ∷ pasts) zero s e = absurd (cc)
 ins_none (x ∷ pasts) (suc p) s e = ins_none pasts p s e
 
-module _ (f : Fabric) (ports : List RingPort) (plain : List Plain) (pasts : List Past) (all : AreAll f ports) (many : length pasts ≡ length ports) (told : Paired Tells pasts ports) (gathered : Gathered ports plain) where
+module _ (f : LaneTable) (ports : List RingPort) (plain : List Plain) (pasts : List Past) (all : AreAll f ports) (many : length pasts ≡ length ports) (told : Paired Tells pasts ports) (gathered : Gathered ports plain) where
   -- the port of a peer that is there
   pub port_at : (k : ℕ) (x : Past) → slice_get pasts k ≡ Some x → (p : RingPort) × (slice_get ports k ≡ Some p) × Tells x p
   port_at k x has =
@@ -36,7 +36,7 @@ module _ (f : Fabric) (ports : List RingPort) (plain : List Plain) (pasts : List
   plain_at k p has = let count = gathered.count in member plain k (omega (arith, slice_get_within ports k p has, count))
 
   pub peers_all : (k : ℕ) (p : RingPort) → slice_get ports k ≡ Some p → peers_of p ≡ length ports
-  peers_all k p has = ap (λ (t : Fabric). t.peers) (all.tables k p has) ∙ sym all.count
+  peers_all k p has = ap (λ (t : LaneTable). t.peers) (all.tables k p has) ∙ sym all.count
 
   -- what was taken of a peer, and what is on its way from it, is what it posted
   pub lane_whole : (s r : ℕ) (x y : Past) (q : Plain) → slice_get pasts s ≡ Some x → slice_get pasts r ≡ Some y → slice_get plain r ≡ Some q → x.outs r ≡ y.ins s ++ (lane_at q s).in_list

@@ -7,7 +7,7 @@ use Rattle.std.specs.Option.{option_map}
 use Rattle.fab_ep.specs.Value.{Whole}
 use Rattle.fab_peer.specs.declared.peer.Peer.{Peer}
 use Rattle.fab_peer.specs.Turns.{told}
-use Rattle.fab_table.specs.declared.fabric.Fabric.{Fabric}
+use Rattle.fab_table.specs.declared.lane_table.LaneTable.{LaneTable}
 use Rattle.fab_ring.specs.declared.port.RingPort.{RingPort}
 use Rattle.fab_ring.specs.Ports.{number_of, table_of}
 use Rattle.fab_ring.specs.Gather.{AreAll}
@@ -17,7 +17,7 @@ use Rattle.fab_finish.proofs.Joining.{member}
 use Rattle.fab_finish.proofs.Resting.{mapped}
 use Rattle.fab_rounds.specs.Phases.{seen_ring}
 
-pub made_all : (peers room pool : ℕ) (f : Fabric) (ports : List RingPort) → peers ≡ f.peers → AreMade peers room pool f ports → AreAll f ports
+pub made_all : (peers room pool : ℕ) (f : LaneTable) (ports : List RingPort) → peers ≡ f.peers → AreMade peers room pool f ports → AreAll f ports
 made_all peers room pool f ports is made = record { count = made.count ∙ is; numbers = made.numbers; tables = made.tables }
 
 module _ {X : Type 0} (peer : X → Peer (Whole RingPort)) (old new : List X) (many : length new ≡ length old) (stays : Each (λ a b. AtOnePort (told seen_ring (peer a)) (told seen_ring (peer b))) old new) where
@@ -30,7 +30,7 @@ module _ {X : Type 0} (peer : X → Peer (Whole RingPort)) (old new : List X) (m
       let here = get_or_from_slice_get new k x x has in
       (y.0, y.1, subst (λ z. AtOnePort (told seen_ring (peer z)) (told seen_ring (peer x))) there (subst (λ z. AtOnePort (told seen_ring (peer (slice_index_or old k x))) (told seen_ring (peer z))) here (stays k x below)))
 
-  pub all_stay : (f : Fabric) → AreAll f (map (λ x. (peer x).endpoint.port) old) → AreAll f (map (λ x. (peer x).endpoint.port) new)
+  pub all_stay : (f : LaneTable) → AreAll f (map (λ x. (peer x).endpoint.port) old) → AreAll f (map (λ x. (peer x).endpoint.port) new)
   all_stay f all = record {
     count = length-map new (λ x. (peer x).endpoint.port) ∙ many ∙ sym (length-map old (λ x. (peer x).endpoint.port)) ∙ all.count;
     numbers = λ k p has. (

@@ -10,7 +10,7 @@ use Rattle.fab_base.specs.declared.script.Line.{Line}
 use Rattle.fab_model.specs.Calls.{upto}
 use Rattle.fab_ep.specs.Value.{Whole}
 use Rattle.fab_peer.specs.Turns.{Living, Told, actor_in}
-use Rattle.fab_table.specs.declared.fabric.Fabric.{Fabric}
+use Rattle.fab_table.specs.declared.lane_table.LaneTable.{LaneTable}
 use Rattle.fab_ring.specs.declared.port.RingPort.{RingPort}
 use Rattle.fab_ring.specs.Ports.{out_of, in_of}
 use Rattle.fab_ring.specs.Made.{AreMade}
@@ -29,12 +29,12 @@ use Rattle.fab_rounds.proofs.PhaseLists.{from_one, map_more}
 all_by : {X : Type 0} (P : X → Type 0) (xs : List X) → ((k : ℕ) (x : X) → slice_get xs k ≡ Some x → P x) → All P xs
 all_by P xs each k d below = each k (slice_index_or xs k d) (got xs k d below)
 
-pub made_new : (n peers room pool : ℕ) (f : Fabric) (ports : List RingPort) → peers ≡ n → AreMade peers room pool f ports → All (IsNew n) ports
+pub made_new : (n peers room pool : ℕ) (f : LaneTable) (ports : List RingPort) → peers ≡ n → AreMade peers room pool f ports → All (IsNew n) ports
 made_new n peers room pool f ports is made = all_by (IsNew n) ports (λ k p has. ((made.sizes k p has).0 ∙ is, (made.fresh k p has).0, (made.fresh k p has).1))
 
 -- ---- a peer
 
-pub past_new : (conf : Conf) (lines : List Line) (e : Whole RingPort) → e.held ≡ start conf → IsNew conf.peers e.port → past_of (let t : Told Fabric = record { seen = seen_ring e; lines = lines; results = []; kept = []; schedule = [] } in t) ≡ begun (at_start conf lines)
+pub past_new : (conf : Conf) (lines : List Line) (e : Whole RingPort) → e.held ≡ start conf → IsNew conf.peers e.port → past_of (let t : Told LaneTable = record { seen = seen_ring e; lines = lines; results = []; kept = []; schedule = [] } in t) ≡ begun (at_start conf lines)
 past_new conf lines e held new =
     let outs : (λ d. (out_of e.port d).frames) ≡ (λ d. []) = fun_ext (λ d. (new.2 d).frames) in
     let ins : (λ s. (in_of e.port s).taken) ≡ (λ s. []) = fun_ext (λ s. (new.2 s).taken) in

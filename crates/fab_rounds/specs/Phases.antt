@@ -25,7 +25,7 @@ use Rattle.fab_peer.specs.declared.peer.seats.Unseated.{Unseated}
 use Rattle.fab_peer.specs.Turns.{Living, living_of, told}
 use Rattle.fab_merging.specs.Pasts.{Past, begun, past_of}
 use Rattle.fab_finish.specs.Joined.{Member, told_of, member_steps, start}
-use Rattle.fab_table.specs.declared.fabric.Fabric.{Fabric}
+use Rattle.fab_table.specs.declared.lane_table.LaneTable.{LaneTable}
 use Rattle.fab_ring.specs.declared.port.RingPort.{RingPort}
 use Rattle.fab_ring.specs.Gather.{AreAll}
 use Rattle.fab_ring.specs.Ports.{number_of, peers_of, room_of, pool_of, table_of, moves_of, out_of, in_of}
@@ -35,7 +35,7 @@ Paired {X} {Y} R xs ys = (k : ℕ) (x : X) (y : Y) → slice_get xs k ≡ Some x
 
 -- ---- over the table
 
-abbrev pub seen_ring : Whole RingPort → Seen Fabric
+abbrev pub seen_ring : Whole RingPort → Seen LaneTable
 seen_ring e = record {
   held = e.held;
   log = e.log;
@@ -74,7 +74,7 @@ first_of conf lists p = at_start conf (slice_index_or lists p [])
 pub record AreReady (conf : Conf) (lists : List (List Line)) (pasts : List Past) (ports : List RingPort) : Type 0 where
   pub count : length ports ≡ conf.peers
   pub begun_are : pasts ≡ map (λ p. begun (first_of conf lists p)) (upto conf.peers)
-  pub table : (f : Fabric) × AreAll f ports
+  pub table : (f : LaneTable) × AreAll f ports
 
 -- ports with as many cells a lane, and slots a pool, as were granted
 abbrev pub AreSized : Conf → List RingPort → Type 0

@@ -11,7 +11,7 @@ ghost use Rattle.fab_peer.specs.Turns.{IsCounted};
 ghost use Rattle.fab_merging.specs.Law.{AreTogether, actors as actors_in, schedules as schedules_in};
 ghost use Rattle.fab_rounds.specs.Opened.{AreGathered};
 ghost use Rattle.fab_finish.specs.Joined.{IsJoined, actors, schedules, seen_plain};
-ghost use Rattle.fab_table.specs.declared.fabric.Fabric.{Fabric};
+ghost use Rattle.fab_table.specs.declared.lane_table.LaneTable.{LaneTable};
 ghost use Rattle.fab_ring.specs.Gather.{AreAll};
 ghost use Rattle.fab_rounds.specs.Phases.{Paired, seen_ring, past_at, past_with, living_with, Seated};
 
@@ -123,7 +123,7 @@ pub(crate) fn cross<C: Machinery + Drop>(
     requires log { 4 ≤ log_size }
     requires few { length runners.items < 2 ^ 32 }
     requires well { list_any (λ r. r.failed) runners.items ≡ false }
-    requires all { (f : Fabric) × AreAll f (map (λ r. r.peer.endpoint.port) runners.items) }
+    requires all { (f : LaneTable) × AreAll f (map (λ r. r.peer.endpoint.port) runners.items) }
     requires together { AreGathered (map (λ r. past_at r.peer) runners.items) → AreTogether (map (λ r. past_at r.peer) runners.items) }
     ensures gathered { OnOk result (AreGathered (map (λ r. past_at r.peer) runners.items)) }
     ensures joined { IfOk result (λ ps. IsJoined ps.items) }

@@ -9,7 +9,7 @@ ghost use Rattle.fab_table.specs.declared.kinds.Slot.TheVariants.{Cell, Pool};
 ghost use Rattle.fab_table.specs.Rule.{Says, IsShort};
 ghost use Rattle.fab_table.specs.Seats.{IsOf, IsSame, carried, view_of_seat, sat, named, written};
 
-use crate::fabric::{Fabric, PeerSeat};
+use crate::lane_table::{LaneTable, PeerSeat};
 use crate::kinds::{Command, Slot};
 use fab_base::{Buf, FrameHead};
 
@@ -24,7 +24,7 @@ fn overwrite(command: &mut Command, number: u64, head: FrameHead, bytes: &[u8])
     command.inline[..bytes.len()].copy_from_slice(bytes);
 }
 
-impl Fabric {
+impl LaneTable {
     /// Writes a command into the cell in hand, with the bytes of a frame that needs no slot.
     pub fn write(
         &self,

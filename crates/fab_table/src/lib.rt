@@ -20,7 +20,7 @@
 //! place in hand (`hand`).
 #![tactic(auto)]
 
-mod fabric;
+mod lane_table;
 mod hand;
 mod kinds;
 mod laws;
@@ -29,7 +29,7 @@ mod rule;
 mod steps;
 mod words;
 
-pub use fabric::{Fabric, PeerSeat};
+pub use lane_table::{LaneTable, PeerSeat};
 pub use kinds::{Command, In, Layout, Out, Part, Sent, Slot, View};
 pub use laws::law_lane_rule;
 pub use making::blank;

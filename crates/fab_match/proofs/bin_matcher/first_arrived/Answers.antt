@@ -1,5 +1,5 @@
 use Rattle.std.proofs.Common.{◌∙◌, sym}
-use Rattle.fab_match.specs.Shelf.{cards}
+use Rattle.fab_match.specs.Bucket.{cards}
 use Rattle.fab_match.proofs.Matching.{exact_first, open_first}
 use Rattle.fab_match.proofs.bin_matcher.first_arrived.Goals as goal
 

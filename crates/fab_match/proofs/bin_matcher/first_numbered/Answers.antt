@@ -2,7 +2,7 @@ use Rattle.std.proofs.Common.{◌≡◌, ◌==◌, ◌&&◌, ◌∙◌, ap, sym,
 use Rattle.std.specs.Prelude.{find}
 use Rattle.fab_match.specs.Signs.{fits}
 use Rattle.fab_match.specs.Bins.{exact_bin, open_bin, masked_bin}
-use Rattle.fab_match.specs.Shelf.{cards}
+use Rattle.fab_match.specs.Bucket.{cards}
 use Rattle.fab_match.specs.Numbers.{earlier, Rising}
 use Rattle.fab_match.specs.Filed.{loose_count}
 use Rattle.fab_match.proofs.Matching.{first_of_three, first_of_one}

@@ -2,9 +2,9 @@ use Rattle.std.proofs.Common.{◌≡◌, ◌<◌, ◌≤◌, ◌+◌, ◌∷◌,
 use Rattle.std.proofs.lemmas.List.{map-append, length-map}
 use Rattle.fab_match.specs.Matcher.{Store, has_id, HasDistinctIds}
 use Rattle.fab_match.proofs.Pairs.{HasDistinctIds-push}
-use Rattle.fab_match.specs.declared.shelf.Card.{Card}
+use Rattle.fab_match.specs.declared.bucket.Card.{Card}
 use Rattle.fab_match.specs.Each.{Each}
-use Rattle.fab_match.specs.Shelf.{cards}
+use Rattle.fab_match.specs.Bucket.{cards}
 use Rattle.fab_match.specs.Numbers.{Rising}
 use Rattle.fab_match.specs.Filed.{IsFiledByWant, loose_count}
 use Rattle.fab_match.specs.BinMatcher.{pairs}

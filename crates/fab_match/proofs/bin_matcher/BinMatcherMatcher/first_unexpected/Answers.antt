@@ -3,8 +3,8 @@ use Rattle.std.specs.Option.{option_map}
 use Rattle.fab_base.specs.declared.items.Sign.{Sign}
 use Rattle.fab_match.specs.Signs.{fits}
 use Rattle.fab_match.specs.Matcher.{Store, first_id}
-use Rattle.fab_match.specs.declared.shelf.Card.{Card}
-use Rattle.fab_match.specs.Shelf.{cards}
+use Rattle.fab_match.specs.declared.bucket.Card.{Card}
+use Rattle.fab_match.specs.Bucket.{cards}
 use Rattle.fab_match.proofs.Matching.{first_id-pairs}
 use Rattle.fab_match.proofs.bin_matcher.BinMatcherMatcher.first_unexpected.Goals as goal
 

@@ -3,8 +3,8 @@ use Rattle.std.specs.Prelude.{find}
 use Rattle.std.specs.Option.{option_map}
 use Rattle.fab_base.specs.declared.items.Want.{Want}
 use Rattle.fab_match.specs.Matcher.{Store, ids}
-use Rattle.fab_match.specs.declared.shelf.Card.{Card}
-use Rattle.fab_match.specs.Shelf.{cards}
+use Rattle.fab_match.specs.declared.bucket.Card.{Card}
+use Rattle.fab_match.specs.Bucket.{cards}
 use Rattle.fab_match.proofs.Matching.{find-ids-pairs}
 use Rattle.fab_match.proofs.bin_matcher.BinMatcherMatcher.first_where.Goals as goal
 

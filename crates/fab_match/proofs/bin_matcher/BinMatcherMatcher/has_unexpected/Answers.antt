@@ -1,6 +1,6 @@
 use Rattle.std.proofs.Common.{◌∙◌, ap}
 use Rattle.fab_match.specs.Matcher.{Store, has_id}
-use Rattle.fab_match.specs.Shelf.{cards}
+use Rattle.fab_match.specs.Bucket.{cards}
 use Rattle.fab_match.proofs.Matching.{has_id-pairs}
 use Rattle.fab_match.proofs.bin_matcher.BinMatcherMatcher.has_unexpected.Goals as goal
 

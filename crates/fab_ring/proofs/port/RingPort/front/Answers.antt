@@ -1,6 +1,6 @@
 use Rattle.std.proofs.Common.{ℕ, ◌<◌, sym, refl, ap, subst}
 use Rattle.fab_table.specs.declared.kinds.Part.{Part}
-use Rattle.fab_table.specs.declared.fabric.PeerSeat.{PeerSeat}
+use Rattle.fab_table.specs.declared.lane_table.PeerSeat.{PeerSeat}
 use Rattle.fab_table.specs.Views.{part_at}
 use Rattle.fab_ring.proofs.Facts.{comes_now}
 use Rattle.fab_ring.proofs.Clauses.{fronting, looking}
