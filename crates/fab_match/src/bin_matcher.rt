@@ -10,7 +10,7 @@ ghost use Rattle.fab_match.specs.Numbers.{earlier, Rising};
 ghost use Rattle.fab_match.specs.Filed.{IsFiledByWant, IsFiledBySign, loose_in, loose_count};
 
 use crate::bins::{Filing, bin_of, exact_bin, filing_of, is_loose, masked_bin, open_bin};
-use crate::bucket::{Card, Bucket, Test};
+use crate::bucket::{Bucket, Card, Test};
 use crate::{IdTest, Matcher, fits};
 use fab_base::{NoMemory, Sign, Want};
 use std::alloc::Global;

@@ -9,10 +9,10 @@
 
 mod bin_matcher;
 mod bins;
+mod bucket;
 mod chains;
 pub mod list_matcher;
 pub mod matcher;
-mod bucket;
 pub mod signs;
 pub mod taking;
 

@@ -9,8 +9,8 @@ ghost use Rattle.fab_table.specs.declared.kinds.Slot.TheVariants.{Cell, Pool};
 ghost use Rattle.fab_table.specs.Rule.{Says, IsShort};
 ghost use Rattle.fab_table.specs.Seats.{IsOf, IsSame, carried, view_of_seat, sat, named, written};
 
-use crate::lane_table::{LaneTable, PeerSeat};
 use crate::kinds::{Command, Slot};
+use crate::lane_table::{LaneTable, PeerSeat};
 use fab_base::{Buf, FrameHead};
 
 /// Writes a command over, with the bytes of a frame that needs no slot.

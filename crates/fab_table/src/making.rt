@@ -5,8 +5,8 @@ ghost use Rattle.fab_table.specs.Rule.{IsCell, IsBuf};
 ghost use Rattle.fab_table.specs.Seats.{IsOf, carried, view_of_seat};
 ghost use Rattle.fab_table.specs.declared.kinds.Slot.TheVariants.{Pool};
 
-use crate::lane_table::{LaneTable, PeerSeat};
 use crate::kinds::{Command, Layout, Slot};
+use crate::lane_table::{LaneTable, PeerSeat};
 use crate::words::count_words;
 use atomic_table::Table;
 use fab_base::{Ack, Buf, FRAME_BYTES, FrameHead, INLINE_BYTES, ItemHead, Kind, NoMemory, Outcome};
