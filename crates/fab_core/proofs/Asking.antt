@@ -28,7 +28,7 @@ use Rattle.fab_core.proofs.Made.{none_made}
 use Rattle.fab_core.specs.Parts.{Parts, held_of, state_of}
 use Rattle.fab_core.specs.Asking.{accepted_as}
 use Rattle.fab_core.specs.Doing.{lasting_transmit}
-use Rattle.fab_core.proofs.Calling.{not_lasting, transmit_done, transmit_final, transmit_passing, transmit_refused}
+use Rattle.fab_core.proofs.Calling.{not_lasting, three, transmit_done, transmit_final, transmit_passing, transmit_refused}
 
 -- ---- refusals
 
@@ -72,12 +72,6 @@ asks p t o q there granted room is =
     to_peer = rw (transmit, there) refl
 
 -- ---- the tests that a call passed that is not refused for good
-
-three : (a b c : Bool) → first_fault ((a, NotSupported) ∷ (b, MsgSize) ∷ (c, Invalid) ∷ []) ≡ None → (b ≡ false) × (c ≡ false)
-three true b c e = absurd (cc)
-three false true c e = absurd (cc)
-three false false true e = absurd (cc)
-three false false false e = (refl, refl)
 
 or_false : (a b c : Bool) → (a || b || not c) ≡ false → (a ≡ false) × (b ≡ false) × (c ≡ true)
 or_false true b c e = absurd (cc)

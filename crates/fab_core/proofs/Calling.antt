@@ -103,16 +103,17 @@ sends p t m bytes q there granted room is =
     to_peer : transmit (state_of p) (order_of m bytes) ≡ transmit_to t (state_of p) (order_of m bytes)
     to_peer = rw (transmit, there) refl
 
+-- a call with no fault has neither of the last two of its three reasons
+pub three : (a b c : Bool) → first_fault ((a, NotSupported) ∷ (b, MsgSize) ∷ (c, Invalid) ∷ []) ≡ None → (b ≡ false) × (c ≡ false)
+three true b c e = absurd (cc)
+three false true c e = absurd (cc)
+three false false true e = absurd (cc)
+three false false false e = (refl, refl)
+
 -- the tests that a message passed that is not refused for good
 module _ (p : Parts) (m : Message) (bytes : List ℕ) (granted : is_final (do_call (state_of p) (sending m bytes)).0 ≡ false) where
   none_lasting : lasting_transmit (state_of p) (order_of m bytes) ≡ None
   none_lasting = not_lasting (state_of p) (order_of m bytes) granted
-
-  three : (a b c : Bool) → first_fault ((a, NotSupported) ∷ (b, MsgSize) ∷ (c, Invalid) ∷ []) ≡ None → (b ≡ false) × (c ≡ false)
-  three true b c e = absurd (cc)
-  three false true c e = absurd (cc)
-  three false false true e = absurd (cc)
-  three false false false e = (refl, refl)
 
   passed : (is_too_long p.most_message (order_of m bytes) ≡ false) × ((is_none (lookup p.av.indices m.dest) || nat_le 4_611_686_018_427_387_904 p.tx.tx.ops || false) ≡ false)
   passed = three (not (is_granted p.caps (order_of m bytes).kind None)) (is_too_long p.most_message (order_of m bytes)) (is_none (lookup p.av.indices m.dest) || nat_le 4_611_686_018_427_387_904 p.tx.tx.ops || false) none_lasting

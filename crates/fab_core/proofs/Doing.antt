@@ -37,8 +37,6 @@ use Rattle.fab_core.specs.Doing.{accepted_by, answered, called, ending_by, headi
 use Rattle.fab_settling.specs.Orders.{order_of, posting_of, wanted}
 use Rattle.fab_core.proofs.Serves.{requested_is}
 
--- ---- tests
-
 -- ---- replies
 
 pub book_is : (due : Bool) (source : ℕ) (head : ItemHead) (p : Parts) → book due source head (state_of p) ≡ state_of (with_transit (booked due source head p.tx) p)

@@ -27,8 +27,6 @@ use Rattle.fab_ep.proofs.Admitting.{went_as, posts_keep}
 use Rattle.fab_ep.proofs.Pushing.{any_append}
 use Rattle.fab_ep.proofs.Letting.{none_next}
 
--- ---- what the machine makes of the call
-
 -- ---- what a fence does
 
 -- an operation waits behind those that are held, or where its own fence holds it

@@ -18,8 +18,6 @@ use Rattle.fab_face.specs.Answers.{AllAre, HasPlaces}
 use Rattle.fab_face.proofs.Joining.{went_none, went_then, ported_same}
 use Rattle.fab_ep.specs.Draws.{Drawing, DrawsOne}
 
--- ---- one draw takes a message out of the unexpected ones
-
 -- ---- draws change nothing that the refusals for good look at
 
 pub record SameGrounds (s t : State) : Type 0 where

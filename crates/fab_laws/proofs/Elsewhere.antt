@@ -21,7 +21,7 @@ use Rattle.fab_laws.proofs.Lists.{Each, found_in, in_removed, never}
 use Rattle.fab_laws.proofs.Counts.{many_append, one}
 use Rattle.fab_laws.proofs.receiving.Acts.{Plain, entry_for, is_into, pass, seat, wait, whole}
 use Rattle.fab_laws.specs.InTurn.{IsChosen}
-use Rattle.fab_laws.proofs.TurnLists.{one_kept, other_leaves}
+use Rattle.fab_laws.proofs.TurnLists.{one_kept, other_leaves, into_same}
 use Rattle.fab_laws.proofs.Words.{Same, Turns, by_cases, entries_in, is_late, looks, of_source, phase_same, set_there}
 use Rattle.fab_laws.proofs.Calls.{one_more_entry}
 use Rattle.fab_laws.proofs.Arrivals.{late_elsewhere, plain_entries, waiting_elsewhere}
@@ -29,9 +29,6 @@ use Rattle.fab_laws.proofs.Arrivals.{late_elsewhere, plain_entries, waiting_else
 module _ (p : ℕ) (want : Want) (mine : Receive → Bool) (counts : Taken → Bool) (A W : List Item) (asked : List Receive) (rx : Receiving) (ws : List Written) (turns : Turns p want mine counts A W asked rx ws) (chosen : IsChosen p want mine counts asked) (s : ℕ) (item : Item) (away : s ≡ p → Never) where
   index_there : (xs : List ℕ) (x : ℕ) → slice_index (set xs s x) p ≡ slice_index xs p
   index_there xs x = get_or-set_other xs s p x 0 (λ e. never (away (sym e)))
-
-  into_same : (q r : Receive) (k l : ℕ) → (let c : Option Coming = Some (Into q k) in c) ≡ Some (Into r l) → (q ≡ r) × (k ≡ l)
-  into_same q r k l e = let a : q ≡ r = cc (e) in let b : k ≡ l = cc (e) in (a, b)
 
   not_mine : (r : Receive) → In r asked → (mine r ≡ true → s ≡ p) → mine r ≡ false
   not_mine r i so = by_cases (mine r) (λ m. never (away (so m))) (λ e. e)

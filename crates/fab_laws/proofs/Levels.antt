@@ -12,10 +12,6 @@ use Rattle.fab_model.specs.Replay.{fresh, lines_of, newly, opening}
 use Rattle.fab_model.proofs.Patient.{mapped, opening_sound}
 use Rattle.fab_model.proofs.Holding.{Fenced, opening_fenced}
 
--- ---- what is whole, sent and accepted
-
--- ---- what is shown
-
 -- ---- the start
 
 -- a script of peers without lines

@@ -24,7 +24,7 @@ use Rattle.fab_laws.proofs.Lists.{Each, found_in, in_removed, length_more, raise
 use Rattle.fab_laws.proofs.Counts.{many, many_append, one}
 use Rattle.fab_laws.proofs.receiving.Acts.{Plain, entry_for, is_into, pass, seat, wait, whole}
 use Rattle.fab_laws.specs.InTurn.{IsChosen, told}
-use Rattle.fab_laws.proofs.TurnLists.{dropped_end, first_left, none_left, none_stays, one_kept, other_leaves, own_leaves, told_came, told_item}
+use Rattle.fab_laws.proofs.TurnLists.{dropped_end, first_left, none_left, none_stays, one_kept, other_leaves, own_leaves, told_came, told_item, into_same}
 use Rattle.fab_laws.proofs.Words.{Due, Level, Odd, Ours, Phase, Rest, Turns, by_cases, entries_in, is_keep, is_late, is_of_message, is_one, looks, not_both, ones, set_here, stands, waiting, whole_ones}
 use Rattle.fab_laws.proofs.Calls.{one_more_entry}
 use Rattle.fab_laws.proofs.Arrivals.{joined, joined_drop, joined_last, joined_whole, late_joined, plain_entries, waiting_joined}
@@ -49,9 +49,6 @@ module _ (p : ℕ) (want : Want) (mine : Receive → Bool) (counts : Taken → B
 
   many_whole : length (whole_ones p want W) ≡ length os
   many_whole = length-map os stands
-
-  into_same : (r s : Receive) (k l : ℕ) → (let c : Option Coming = Some (Into r k) in c) ≡ Some (Into s l) → (r ≡ s) × (k ≡ l)
-  into_same r s k l e = let a : r ≡ s = cc (e) in let b : k ≡ l = cc (e) in (a, b)
 
   -- ---- it arrives
 

@@ -1,8 +1,10 @@
 -- Lists that lose a member, or get one more; the entries of receives and messages.
-use Rattle.std.proofs.Common.{◌≡◌, ◌≤◌, ℕ, zero, suc, Bool, true, false, List, [], ◌∷◌, ◌++◌, length, drop, slice_get, Some, None, inl, inr, refl, sym, ◌∙◌, ap, arith}
+use Rattle.std.proofs.Common.{◌≡◌, ◌≤◌, ℕ, zero, suc, Bool, true, false, List, [], ◌∷◌, ◌++◌, length, drop, slice_get, Option, Some, None, inl, inr, refl, sym, ◌∙◌, ap, arith}
 use Rattle.std.specs.Prelude.{cond, filter, find}
 use Rattle.fab_base.specs.declared.items.Item.{Item}
 use Rattle.fab_base.specs.declared.operations.Receive.{Receive}
+use Rattle.fab_base.specs.declared.operations.Coming.{Coming}
+use Rattle.fab_base.specs.declared.operations.Coming.TheVariants.{Into}
 use Rattle.fab_model.specs.Complete.{entry_of}
 use Rattle.fab_model.specs.Matching.{remove_first}
 use Rattle.fab_laws.specs.Members.{In}
@@ -101,3 +103,8 @@ told_came p (q ∷ rs) r x [] e = let same : q ≡ r = cc (e) in rw (same) (none
     none [] = refl
     none (z ∷ qs) = refl
 told_came p (q ∷ rs) r x (y ∷ xs) e = ap (λ es. entry_of q 0 p y.head y.bytes ∷ es) (told_came p rs r x xs e)
+
+-- ---- what comes into a receive comes into one, at one place
+
+pub into_same : (q r : Receive) (k l : ℕ) → (let c : Option Coming = Some (Into q k) in c) ≡ Some (Into r l) → (q ≡ r) × (k ≡ l)
+into_same q r k l e = let a : q ≡ r = cc (e) in let b : k ≡ l = cc (e) in (a, b)

@@ -186,5 +186,3 @@ pub final_is : (v : View Item) (a : Actor) (can room calm : Bool) → can ≡ is
     → final_step v a ≡ only_if (can && room && calm) (with_state a (do_call a.state CancelFirst).1)
 final_is v a can room calm e f g =
     final_by v a (cancellable (λ r. true) a.state.rx) room calm refl f g ∙ ap (λ b. only_if (b && room && calm) (with_state a (do_call a.state CancelFirst).1)) (sym e)
-
--- ---- what is led to

@@ -53,5 +53,3 @@ fenced_answered source reply tx waits = by (finds_answered source reply tx) refl
     by : (o : Option Operation) → finds_answered source reply tx ≡ o → AreFenced (answered source reply tx)
     by None e = subst AreFenced (sym (answered_none tx source reply e)) waits
     by (Some o) e = subst AreFenced (sym (answered_some tx source reply o e)) (fenced_ended source _ (answer_its tx source reply) tx (answering source reply tx) refl refl waits)
-
--- ---- those that do not pass a test

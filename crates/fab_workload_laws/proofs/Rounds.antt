@@ -25,8 +25,6 @@ use Rattle.fab_workloads.specs.Rounds.{share_of}
 use Rattle.fab_workload_laws.proofs.Ranks.{both_given, given, place}
 use Rattle.fab_workload_laws.proofs.Traffic.{Short, ctxs_apart, ctxs_high, ctxs_low, round_ctx, round_few, round_messages, round_quiet, round_receives, round_simple, round_wait}
 
--- ---- lines with their bytes in them
-
 -- ---- pairs
 
 -- receives and messages that fit one by one are paired so

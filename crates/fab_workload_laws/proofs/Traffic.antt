@@ -1,6 +1,5 @@
 -- What the lines of a round are: contexts, messages, receives, and room to post.
 use Rattle.std.proofs.Common.{Bool, List, [], ap, ap₂, append-nil, append_assoc, arith, false, inl, inr, length, length-append, map, refl, subst, suc, sym, true, ℕ, ◌&&◌, ◌*◌, ◌++◌, ◌+◌, ◌<◌, ◌||◌, ◌∙◌, ◌∷◌, ◌≡◌, ◌≢◌, ◌≤◌, ◌⊎◌}
-use Rattle.std.proofs.lemmas.Bool.Decides.{nat_tests}
 use Rattle.std.proofs.lemmas.Bool.{and_from, eqb-true}
 use Rattle.std.proofs.lemmas.List.Elements.{filter_map-append}
 use Rattle.std.proofs.lemmas.List.Folds.{list_all-append, list_any-append}
@@ -15,6 +14,7 @@ use Rattle.fab_answer.specs.Partners.{Message}
 use Rattle.fab_answer.specs.Settled.{are_distinct, is_accepted, own_ctx}
 use Rattle.fab_answer.proofs.Lists.{Each, In, always, differ_is, each_append, never, same_number}
 use Rattle.fab_answer.proofs.peer.Refusals.{waits_op}
+use Rattle.fab_workload_laws.proofs.Batches.{nat_within}
 use Rattle.fab_workload_laws.proofs.Done.{messages_of_more}
 use Rattle.fab_workload_laws.proofs.Ops.{is_simple, messages_of, receive_from_op, room_of}
 use Rattle.fab_workload_laws.proofs.Rooms.{Quiet, after, after_append, distinct_apart, quiet_append, room_append}
@@ -172,9 +172,6 @@ module _ (peers : ℕ) (most : peers ≤ 32) where
   last_removed c [] each = ap (λ b. let left : List ℕ = elim b [ true ↦ [] | false ↦ c ∷ [] ] in left) (same_number c)
   last_removed c (x ∷ xs) each =
       ap (λ b. elim b [ true ↦ xs ++ c ∷ [] | false ↦ x ∷ remove_first (λ y. y == c) (xs ++ c ∷ []) ]) (differ_is x c each.0) ∙ ap (λ ys. x ∷ ys) (last_removed c xs each.1)
-
-  nat_within : (n : ℕ) → n ≤ 256 → nat_le n 256 ≡ true
-  nat_within n le = grind (arith, nat_tests, le)
 
   module _ (i : ℕ) (round : Round) (short : Short round) where
     -- the contexts of these receives, the last one first, before those held

@@ -36,8 +36,6 @@ use Rattle.fab_workloads.specs.declared.shares.Written.TheVariants.{Bytes, Eleme
 use Rattle.fab_workloads.specs.Grammar.{Said, a_broadcast, allreduce_of, are_alike, barrier_of, broadcast_of, doing, of_hex, one_more, read_all, read_as, read_each, read_op, read_share, readable, reduce_of, said_of}
 use Rattle.fab_workloads.specs.Reading.{IsSized}
 
--- ---- answers taken apart
-
 -- ---- what is said of shares
 
 abbrev pub Whole : Num → BytesWord → Type 0

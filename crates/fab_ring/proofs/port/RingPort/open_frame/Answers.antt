@@ -10,7 +10,7 @@ use Rattle.fab_table.specs.Views.{part_at, in_at}
 use Rattle.fab_ring.proofs.Facts.{comes_now}
 use Rattle.std.proofs.Common.{length-take-le}
 use Rattle.std.proofs.lemmas.List.{get_or_default as get_any}
-use Rattle.fab_base.proofs.Options.{not_some as nothing, some_there as something, not_some as no_slot}
+use Rattle.fab_base.proofs.Options.{some_there as something, not_some as no_slot}
 use Rattle.fab_link.specs.Frames.{frame}
 use Rattle.fab_ring.specs.Ports.{frame_in}
 use Rattle.fab_ring.proofs.port.RingPort.open_frame.Goals as goal
