@@ -6,15 +6,15 @@ use Rattle.fab_model.proofs.Firsts.{not_found}
 use Rattle.fab_peer.proofs.Calling.{wait_none, wait_done, told_is}
 use Rattle.fab_peer.proofs.peer.Peer.wait.Goals as goal
 
-pub returns-in_default : goal.returns-in_default
-returns-in_default g c =
+pub returns-in_default-clause-on : goal.returns-in_default-clause-on
+returns-in_default-clause-on g c =
     let seen = g.E.Sees.seen in
     let none : find (is_of_ctx c.args.ctx) c.args.self.now.kept ≡ None = search rules in
     let stays = c.take.ensures.rest ∙ not_found (is_of_ctx c.args.ctx) c.args.self.now.kept none in
     wait_none (told seen c.args.self.now) _ c.args.ctx c.requires.next none c.requires.log (told_is _ _ refl refl refl stays refl)
 
-pub returns : goal.returns
-returns g c =
+pub returns-clause-on : goal.returns-clause-on
+returns-clause-on g c =
     let seen = g.E.Sees.seen in
     let found : find (is_of_ctx c.args.ctx) c.args.self.now.kept ≡ Some c.in-Some.kept = search rules in
     wait_done (told seen c.args.self.now) _ c.args.ctx c.in-Some.kept c.requires.next found c.requires.log
