@@ -1,5 +1,5 @@
 -- How laps follow one another, whatever the schedule.
-use Rattle.std.proofs.Common.{◌≡◌, ℕ, zero, suc, Bool, List, refl}
+use Rattle.std.proofs.Common.{◌≡◌, ◌+◌, ℕ, zero, suc, Bool, List, arith}
 use Rattle.fab_base.specs.declared.peers.Step.{Step}
 use Rattle.fab_peer.specs.Turns.{Told, ReadOn}
 use Rattle.fab_peer.specs.Laps.{Reads, Lap, Laps, InLaps}
@@ -24,6 +24,10 @@ module _ {Home : Type 0} where
   laps_by : (fixed : Bool) (n : ℕ) (a b : Told Home) (s t : List Step) → Laps fixed n a b → Laps fixed n (record a { schedule = s }) (record b { schedule = t })
   laps_by fixed zero a b s t l = lap_by fixed a b s t l
   laps_by fixed (suc n) a b s t (mid, before, l) = (record mid { schedule = s }, laps_by fixed n a mid s s before, lap_by fixed mid b s t l)
+
+  -- and one lap more
+  pub laps_more : (fixed : Bool) (n : ℕ) (a b c : Told Home) → Laps fixed n a b → Lap fixed b c → Laps fixed (n + 1) a c
+  laps_more fixed n a b c before l = let one : n + 1 ≡ suc n = omega arith in rw one (b, before, l)
 
   -- a turn that was made over another schedule
   pub in_laps_by : (fixed : Bool) (looks : ℕ) (a b : Told Home) (s t : List Step) → InLaps fixed looks a b → InLaps fixed looks (record a { schedule = s }) (record b { schedule = t })

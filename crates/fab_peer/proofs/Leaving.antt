@@ -13,6 +13,7 @@ use Rattle.fab_base.specs.declared.peers.LineResult.TheVariants.{Done, Refused, 
 use Rattle.fab_base.specs.declared.peers.Step.{Step}
 use Rattle.fab_base.specs.declared.peers.Step.TheVariants.{Read}
 use Rattle.fab_base.specs.declared.script.BytesWord.{BytesWord}
+use Rattle.fab_base.specs.declared.script.Line.{Line}
 use Rattle.fab_base.specs.declared.script.LineOp.TheVariants as line
 use Rattle.fab_model.specs.Matching.{remove_first}
 use Rattle.fab_model.specs.State.{State}
@@ -24,12 +25,16 @@ use Rattle.fab_face.specs.Answers.{AllAre, Sends, SendsNot, Receives, ReceivesNo
 use Rattle.fab_face.specs.declared.events.Moved.{Moved}
 use Rattle.fab_face.proofs.Joining.{posts_move, draws_move, ported_did, ported_had, ported_same, ported_then}
 use Rattle.fab_peer.specs.declared.peer.Outcome.{Outcome}
-use Rattle.fab_peer.specs.Turns.{Told, Living, living_of, actor_of, LivesBy, Lived, ReadOn, SameParts, Turned, next_op, with_seen}
+use Rattle.fab_peer.specs.Turns.{Told, Living, living_of, actor_of, LivesBy, Lived, HasRead, ReadOn, SameParts, Turned, next_op, with_seen}
 use Rattle.fab_peer.specs.Left.{Missed, Nothing, Answer, Completion, regained, Left, LeftBy, Unwritten}
 use Rattle.fab_peer.proofs.Paths.{living, lives_append, moves_live}
-use Rattle.fab_peer.proofs.Calling.{IsCalled, did_lives, lived_done, read_lives, wait_done}
+use Rattle.fab_peer.proofs.Calling.{IsCalled, did_lives, lived_done, read_lives, reads_none, reads_on, wait_done}
 use Rattle.fab_peer.proofs.Alone.{IsFinal, calls_reg, reg_final}
 use Rattle.fab_peer.proofs.Turning.{turned_by}
+
+pub on_err : {X Y : Type 0} (r : Result X Y) (Q : Type 0) → Q → OnErr r Q
+on_err (Ok x) Q is = tt
+on_err (Err y) Q is = is
 
 module _ {Home : Type 0} where
   -- ---- nothing was done
@@ -46,6 +51,16 @@ module _ {Home : Type 0} where
   pub left_same : (a : Told Home) → Left a a
   left_same a = left_still a a (refl, refl)
 
+  pub left_lines : (a : Told Home) (lines : List Line) → lines ≡ a.lines → Left a (record a { lines = lines })
+  left_lines a lines same = left_still a (record a { lines = lines }) (λ i. record { held = a.seen.held; lines = same i; results = a.results; kept = a.kept }, refl)
+
+  pub left_seen : (a : Told Home) (e : Seen Home) → e ≡ a.seen → Left a (with_seen a e)
+  left_seen a e same = left_still a (with_seen a e) (ap (λ (x : Seen Home). living_of (with_seen a x)) same, ap (λ (x : Seen Home). x.lanes) same)
+
+  -- the same, as a function that meets want of memory sees it
+  pub same_left : {X Y : Type 0} (r : Result X Y) (a : Told Home) → OnErr r (Left a a)
+  same_left r a = on_err r (Left a a) (left_same a)
+
   -- ---- behind what was done before
 
   pub left_behind : (a b c : Told Home) (acts : List Act) → Lived a b acts → b.lines ≡ a.lines → Left b c → Left a c
@@ -56,6 +71,12 @@ module _ {Home : Type 0} where
     ported = ported_then a.seen.lanes b.seen.lanes c.seen.lanes acts l.acts lived.ported l.ported;
     lines = l.lines ∙ lines;
   }
+
+  -- an entry was read and kept
+  pub read_left : (a c b : Told Home) → HasRead a c → Unwritten c b → Left a b
+  read_left a c b read same =
+      let on = reads_on a a c false (reads_none a) read in
+      left_behind a c b on.acts on.lived on.lines (left_still c b same)
 
   -- ---- the endpoint's moves
 
@@ -172,6 +193,15 @@ module _ {Home : Type 0} where
       }
 
   -- ---- a turn
+
+  -- the same over another schedule
+  pub left_over : (a b : Told Home) (s t : List Step) → Left a b → Left (record a { schedule = s }) (record b { schedule = t })
+  left_over a b s t l = record { acts = l.acts; missed = l.missed; lives = by_missed l.missed l.lives; ported = l.ported; lines = l.lines }
+    where
+      by_missed : (m : Missed) → LivesBy (living_of a) l.acts (living_of (regained m b)) → LivesBy (living_of (record a { schedule = s })) l.acts (living_of (regained m (record b { schedule = t })))
+      by_missed Nothing lives = lives
+      by_missed (Answer r) lives = lives
+      by_missed (Completion k) lives = lives
 
   pub left_by : (a b : Told Home) → IsOpen a.seen → IsOpen b.seen → b.schedule ≡ a.schedule → Left a b → LeftBy a b
   left_by a b opened closed stays l = record { acts = l.acts; missed = l.missed; turned = by_missed l.missed l.lives }

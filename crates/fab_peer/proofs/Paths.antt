@@ -76,9 +76,9 @@ count_first test x xs = sum_by-cons (λ y. cond (test y) 1 0) x xs
 pub no_line : (acts : List Act) → AllAre is_move acts → count_by is_line acts ≡ 0
 no_line [] are = refl
 no_line (Did ∷ acts) are = absurd (cc)
-no_line (Took source f ∷ acts) are = count_first is_line (Took source f) acts ∙ no_line acts are
-no_line (Posted dest f ∷ acts) are = count_first is_line (Posted dest f) acts ∙ no_line acts are
-no_line (Drew ∷ acts) are = count_first is_line Drew acts ∙ no_line acts are
+no_line (Took source f ∷ acts) are = let first = count_first is_line (Took source f) acts in let rest = no_line acts are in omega (arith, first, rest)
+no_line (Posted dest f ∷ acts) are = let first = count_first is_line (Posted dest f) acts in let rest = no_line acts are in omega (arith, first, rest)
+no_line (Drew ∷ acts) are = let first = count_first is_line Drew acts in let rest = no_line acts are in omega (arith, first, rest)
 no_line (Had ∷ acts) are = absurd (cc)
 
 pub one_line : (before after : List Act) → AllAre is_move before → AllAre is_move after → count_by is_line (before ++ Did ∷ after) ≡ 1
@@ -92,7 +92,7 @@ none_read (Did ∷ acts) are = absurd (cc)
 none_read (Took source f ∷ acts) are = absurd (cc)
 none_read (Posted dest f ∷ acts) are = absurd (cc)
 none_read (Drew ∷ acts) are = absurd (cc)
-none_read (Had ∷ acts) are = count_first is_line Had acts ∙ none_read acts are
+none_read (Had ∷ acts) are = let first = count_first is_line Had acts in let rest = none_read acts are in omega (arith, first, rest)
 
 pub none_acts : (acts : List Act) → is_some_act acts ≡ false → acts ≡ []
 none_acts [] none = refl

@@ -2,6 +2,7 @@ use Rattle.std.proofs.Common.{◌≡◌, ◌||◌, [], true, refl, ap, arith, �
 use Rattle.fab_peer.specs.Turns.{told}
 use Rattle.fab_peer.proofs.Calling.{lived_same}
 use Rattle.fab_peer.proofs.Turning.{lines_end, lines_go_on, lines_all, or_true, not_true, not_false}
+use Rattle.fab_peer.proofs.Leaving.{on_err, left_behind}
 use Rattle.fab_peer.proofs.peer.Peer.do_lines.Goals as goal
 
 pub returns-then-not-outcome-clause-on : goal.returns-then-not-outcome-clause-on
@@ -46,3 +47,19 @@ returns-clause-on g c =
     let seen = g.E.Sees.seen in
     let inv = c.loop-round.invariant in
     lines_all (told seen c.args.self.now) (told seen c.loop-round.self) inv.lived.0 c.loop-round.moved inv.lived.1 inv.lived.2 (inv.moved (omega arith)) inv.log inv.lines (λ before. inv.counted) (omega (arith, inv.lived.3))
+
+pub returns-in_err-outcome-clause-left : goal.returns-in_err-outcome-clause-left
+returns-in_err-outcome-clause-left g c =
+    let seen = g.E.Sees.seen in
+    let a = told seen c.args.self.now in
+    let inv = c.loop-round.invariant in
+    on_err _ _ (left_behind a (told seen c.loop-round.self) (told seen c.do_line.new.self) inv.lived.0 inv.lived.1 inv.lines c.in_err-outcome.ensures.left)
+
+pub returns-in_err-read_all-clause-left : goal.returns-in_err-read_all-clause-left
+returns-in_err-read_all-clause-left g c =
+    let seen = g.E.Sees.seen in
+    let a = told seen c.args.self.now in
+    let inv = c.loop-round.invariant in
+    let went = c.in_ok-outcome.ensures.on in
+    on_err _ _ (left_behind a (told seen c.loop-round.self) (told seen c.read_all.new.self) inv.lived.0 inv.lived.1 inv.lines
+    (left_behind (told seen c.loop-round.self) (told seen c.do_line.new.self) (told seen c.read_all.new.self) went.acts went.lived went.lines c.in_err-read_all.ensures.left))

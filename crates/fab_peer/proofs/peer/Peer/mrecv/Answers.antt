@@ -2,7 +2,7 @@ use Rattle.std.proofs.Common.{Some, false, rules}
 use Rattle.fab_face.specs.Answers.{receive_call, ReceivesNot, Receives}
 use Rattle.fab_peer.specs.Turns.{told, why_of}
 use Rattle.fab_peer.proofs.Calling.{receives_line, calls_mrecv, why_ok, why_err}
-use Rattle.fab_peer.proofs.Leaving.{receives_left}
+use Rattle.fab_peer.proofs.Leaving.{receives_left, same_left}
 use Rattle.fab_peer.proofs.peer.Peer.mrecv.Goals as goal
 
 pub returns-clause-on : goal.returns-clause-on
@@ -28,3 +28,6 @@ returns-clause-left g c =
     (why_of c.recv_multi-answer.result) _ c.received.result
     (why_ok (Receives call a.seen e) c.recv_multi-answer.result c.recv_multi-answer.ensures.ok) (why_err (ReceivesNot call a.seen e) c.in_ok-buf.buf c.recv_multi-answer.result c.recv_multi-answer.ensures.err)
     c.received.ensures.left
+
+pub returns-in_err-buf-clause-left : goal.returns-in_err-buf-clause-left
+returns-in_err-buf-clause-left g c = same_left _ _

@@ -4,7 +4,7 @@ use Rattle.fab_model.specs.Calls.{request}
 use Rattle.fab_peer.specs.Turns.{told}
 use Rattle.fab_peer.proofs.Calling.{sends_line}
 use Rattle.fab_peer.proofs.Requesting.{calls_read}
-use Rattle.fab_peer.proofs.Leaving.{sends_left}
+use Rattle.fab_peer.proofs.Leaving.{sends_left, same_left}
 use Rattle.fab_peer.proofs.peer.Peer.read.Goals as goal
 
 pub returns-clause-on : goal.returns-clause-on
@@ -26,3 +26,6 @@ returns-clause-left g c =
     (calls_read a c.args.ctx c.args.dest c.args.key c.args.at c.args.len buf c.requires.next c.in_ok-buf.ensures) c.requires.log
     g.E.Sees.fixed c.args.dest buf c.read-answer.result _ c.transmitted.result
     c.read-answer.ensures.ok c.read-answer.ensures.err c.transmitted.ensures.left
+
+pub returns-in_err-buf-clause-left : goal.returns-in_err-buf-clause-left
+returns-in_err-buf-clause-left g c = same_left _ _

@@ -4,7 +4,7 @@ use Rattle.fab_base.specs.declared.peers.LineResult.TheVariants.{Bytes, Refused}
 use Rattle.fab_model.specs.Calls.{Show}
 use Rattle.fab_peer.specs.Turns.{told}
 use Rattle.fab_peer.proofs.Alone.{calls_show, show_final, shows_none, shows_some, still_line, noted_line}
-use Rattle.fab_peer.proofs.Leaving.{none_left}
+use Rattle.fab_peer.proofs.Leaving.{none_left, same_left}
 use Rattle.fab_peer.proofs.peer.Peer.show.Goals as goal
 
 pub returns-in_default-clause-on : goal.returns-in_default-clause-on
@@ -33,3 +33,6 @@ returns-clause-left g c =
     let seen = g.E.Sees.seen in
     let a = told seen c.args.self.now in
     none_left c.noted-2.result a (told seen c.noted-2.new.self) c.noted-2.ensures.left
+
+pub returns-in_err-bytes-clause-left : goal.returns-in_err-bytes-clause-left
+returns-in_err-bytes-clause-left g c = same_left _ _

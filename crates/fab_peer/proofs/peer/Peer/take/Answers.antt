@@ -2,7 +2,7 @@ use Rattle.fab_face.specs.Answers.{ReceivesNot, Receives}
 use Rattle.fab_model.specs.Calls.{TakeClaimed}
 use Rattle.fab_peer.specs.Turns.{told, why_of}
 use Rattle.fab_peer.proofs.Calling.{receives_line, calls_take, why_ok, why_err}
-use Rattle.fab_peer.proofs.Leaving.{receives_left}
+use Rattle.fab_peer.proofs.Leaving.{receives_left, same_left}
 use Rattle.fab_peer.proofs.peer.Peer.take.Goals as goal
 
 pub returns-clause-on : goal.returns-clause-on
@@ -28,3 +28,6 @@ returns-clause-left g c =
     (why_of c.take-answer.result) _ c.received.result
     (why_ok (Receives call a.seen e) c.take-answer.result c.take-answer.ensures.ok) (why_err (ReceivesNot call a.seen e) c.in_ok-buf.buf c.take-answer.result c.take-answer.ensures.err)
     c.received.ensures.left
+
+pub returns-in_err-buf-clause-left : goal.returns-in_err-buf-clause-left
+returns-in_err-buf-clause-left g c = same_left _ _

@@ -2,6 +2,7 @@ use Rattle.std.proofs.Common.{◌≡◌, ◌||◌, false, refl}
 use Rattle.fab_peer.specs.Turns.{told}
 use Rattle.fab_peer.proofs.Turning.{gone_behind, turned}
 use Rattle.fab_peer.proofs.Lapping.{reads_of}
+use Rattle.fab_peer.proofs.Leaving.{on_err, left_behind}
 use Rattle.fab_peer.proofs.peer.Peer.turn.Goals as goal
 
 pub returns-clause-turned : goal.returns-clause-turned
@@ -41,3 +42,10 @@ returns-clause-laps g c =
       one = laps.2;
       laps = laps.3;
     }
+
+pub returns-in_err-went-clause-left : goal.returns-in_err-went-clause-left
+returns-in_err-went-clause-left g c =
+    let seen = g.E.Sees.seen in
+    let a = told seen c.args.self.now in
+    let read = c.in_ok-read.ensures.on in
+    on_err _ _ (left_behind a (told seen c.read_all.new.self) (told seen c.laps.new.self) read.acts read.lived read.lines c.in_err-went.ensures.left)
