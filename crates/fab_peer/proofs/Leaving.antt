@@ -1,5 +1,5 @@
 -- What want of memory leaves of the parts of a turn.
-use Rattle.std.proofs.Common.{◌≡◌, ◌≢◌, Bool, true, false, List, [], ◌∷◌, ◌++◌, ℕ, zero, suc, Option, Some, None, Result, Ok, Err, OnOk, OnErr, IfErr, refl, sym, ap, ◌∙◌, subst}
+use Rattle.std.proofs.Common.{◌≡◌, ◌≢◌, Bool, false, List, [], ◌∷◌, ◌++◌, ℕ, Option, Some, None, Result, Ok, Err, OnOk, OnErr, IfErr, refl, sym, ap, ◌∙◌, subst}
 use Rattle.std.specs.Prelude.{find}
 use Rattle.fab_base.specs.declared.entries.Kept.{Kept}
 use Rattle.fab_base.specs.declared.entries.Taken.{Taken}
@@ -11,13 +11,12 @@ use Rattle.fab_base.specs.declared.items.Access.{Access}
 use Rattle.fab_base.specs.declared.peers.LineResult.{LineResult}
 use Rattle.fab_base.specs.declared.peers.LineResult.TheVariants.{Done, Refused, Waited}
 use Rattle.fab_base.specs.declared.peers.Step.{Step}
-use Rattle.fab_base.specs.declared.peers.Step.TheVariants.{Read}
 use Rattle.fab_base.specs.declared.script.BytesWord.{BytesWord}
 use Rattle.fab_base.specs.declared.script.Line.{Line}
 use Rattle.fab_base.specs.declared.script.LineOp.TheVariants as line
 use Rattle.fab_model.specs.Matching.{remove_first}
 use Rattle.fab_model.specs.State.{State}
-use Rattle.fab_model.specs.Calls.{Call, Reg, do_call, word_bytes}
+use Rattle.fab_model.specs.Calls.{Call, Reg, word_bytes}
 use Rattle.fab_model.specs.Peers.{bytes_kept, is_again, is_of_ctx}
 use Rattle.fab_face.specs.Held.{Seen, IsOpen}
 use Rattle.fab_face.specs.Acts.{Act, Did, Had, Ported, Went, is_move, steps_of}
@@ -25,7 +24,7 @@ use Rattle.fab_face.specs.Answers.{AllAre, Sends, SendsNot, Receives, ReceivesNo
 use Rattle.fab_face.specs.declared.events.Moved.{Moved}
 use Rattle.fab_face.proofs.Joining.{posts_move, draws_move, ported_did, ported_had, ported_same, ported_then}
 use Rattle.fab_peer.specs.declared.peer.Outcome.{Outcome}
-use Rattle.fab_peer.specs.Turns.{Told, Living, living_of, actor_of, LivesBy, Lived, HasRead, ReadOn, SameParts, Turned, next_op, with_seen}
+use Rattle.fab_peer.specs.Turns.{Told, Living, living_of, actor_of, LivesBy, Lived, HasRead, SameParts, Turned, next_op, with_seen}
 use Rattle.fab_peer.specs.Left.{Missed, Nothing, Answer, Completion, regained, Left, LeftBy, Unwritten}
 use Rattle.fab_peer.proofs.Paths.{living, lives_append, moves_live}
 use Rattle.fab_peer.proofs.Calling.{IsCalled, did_lives, lived_done, read_lives, reads_none, reads_on, wait_done}
