@@ -12,7 +12,7 @@ mod Drawing
 mod Handed
 mod Sent
 mod Beginning
-mod Serves
+pub mod Serves
 mod Registered
 mod Departing
 mod Seeing
@@ -26,7 +26,7 @@ mod Lending
 mod Opening
 mod Stepping
 mod Standing
-mod Posting
+pub mod Posting
 mod Seating
 mod Lasting
 mod Lends

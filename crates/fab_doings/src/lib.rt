@@ -7,7 +7,15 @@
 //! `proofs/Obeying` the laws of `fab_laws` over it.
 #![tactic(auto)]
 
+mod application;
+mod heard;
+mod thread;
+
 ghost use Rattle.fab_doings.specs.Law.{ProgramObeys, ProgramReaches};
+
+pub use application::talk;
+pub use heard::{law_heard, law_said};
+pub use thread::{ask_both, exchange};
 
 /// What the threads of a program did is a run of the program's machine.
 ///

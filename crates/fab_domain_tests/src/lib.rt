@@ -6,6 +6,8 @@
 #[cfg(test)]
 mod calls;
 #[cfg(test)]
+mod crossing;
+#[cfg(test)]
 mod opening;
 #[cfg(test)]
 mod rows;

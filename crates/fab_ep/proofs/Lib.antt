@@ -10,10 +10,10 @@ mod Falling
 mod Admitting
 mod Letting
 mod Looks
-mod Accepting
+pub mod Accepting
 mod Reading
 mod Answering
-mod Kept
+pub mod Kept
 mod Registered
 mod Counts
 mod Circle

@@ -16,8 +16,7 @@ mod example;
 
 pub use closing::{Unclosed, close_all};
 pub use example::program;
-use fab_doings::law_doings;
-use fab_heard::law_said;
+use fab_doings::{law_doings, law_said};
 
 /// Endpoints that a program opens, uses in threads and closes, whose ports are gathered, obey the laws.
 ///

@@ -10,9 +10,17 @@
 #![tactic(auto)]
 
 pub mod carry;
+mod cutter;
+mod joiner;
 mod lane;
+mod laws;
+mod moves;
 pub mod plain;
 pub mod port;
 
+pub use cutter::Cutter;
+pub use joiner::{Joined, Joiner};
+pub use laws::{law_cut_is_lane, law_cut_joins, law_heads_tell, law_prefix_joins, law_stamped};
+pub use moves::Move;
 pub use plain::PlainPort;
 pub use port::{Port, PostRefused};

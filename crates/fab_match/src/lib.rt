@@ -7,11 +7,16 @@
 //! any store.
 #![tactic(auto)]
 
+mod bin_matcher;
+mod bins;
+mod bucket;
+mod chains;
 pub mod list_matcher;
 pub mod matcher;
 pub mod signs;
 pub mod taking;
 
+pub use bin_matcher::BinMatcher;
 pub use list_matcher::ListMatcher;
 pub use matcher::{IdTest, Matcher};
 pub use signs::{fits, sign_of};

@@ -11,4 +11,6 @@ mod drawn;
 #[cfg(test)]
 mod lists;
 #[cfg(test)]
+mod operations;
+#[cfg(test)]
 mod stores;

@@ -1,3 +1,3 @@
 -- Peers in threads, as each knows itself, with the order of turns that follows.
-mod Hello
+pub mod Hello
 mod Halves

@@ -4,8 +4,12 @@
 //! turn told), `src/rounds.rt`, and for the threads that stay `specs/Staying` and `src/staying.rt`.
 #![tactic(auto)]
 
+mod crossing;
+mod opening;
+pub mod phases;
 pub mod rounds;
 pub mod runner;
+pub mod scripts;
 mod seating;
 pub mod starting;
 mod staying;

@@ -4,4 +4,5 @@
 //! Read `src/laws.rt` first: functions that do nothing, and whose contracts are the law.
 #![tactic(auto)]
 
+pub mod coll_laws;
 pub mod laws;

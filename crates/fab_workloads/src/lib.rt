@@ -8,13 +8,22 @@
 #![tactic(auto)]
 
 mod bench;
+mod coll_lines;
+mod files;
 mod generator;
 mod lines;
+mod plans;
+mod reader;
+mod round;
 mod script;
+mod shares;
 mod workload;
 
 pub use bench::bench_line;
+pub use files::read_rounds;
 pub use generator::next_drawn;
 pub use lines::{receive, send, wait};
+pub use plans::{lines_in, plan, share_of};
+pub use round::{CollScript, Round};
 pub use script::{all_numbered, bound, conf_of};
 pub use workload::{Workload, number_within, payload_file, workload_of};
