@@ -12,7 +12,7 @@ mod Drawing
 mod Handed
 mod Sent
 mod Beginning
-pub mod Serves
+mod Serves
 mod Registered
 mod Departing
 mod Seeing
@@ -26,7 +26,7 @@ mod Lending
 mod Opening
 mod Stepping
 mod Standing
-pub mod Posting
+mod Posting
 mod Seating
 mod Lasting
 mod Lends

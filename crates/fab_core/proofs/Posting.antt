@@ -78,7 +78,7 @@ module _ (p : Parts) (ok : IsLentBy p) (r : Receive) (single : r.least ≡ None)
     pub given_lent : (o : Option (List ℕ)) → IsLentBy (given_whole o a r (called (with_arriving (record { rx = given o a.source r rest; begun = begun; most = most; next = next; multis = p.rx.multis }) p)))
     given_lent None =
         lent_moved p.rx.rx p.rx.multis p.tx.tx p.cq (p.calls + 1) p.multis later (goes a.source (Into r 0) rest) (λ c is. same c)
-        (coming_set (goes a.source (Into r 0) rest) p.rx.multis (p.calls + 1) rest.coming a.source (Some (Into r 0)) (λ s. coming_moved rest (goes a.source (Into r 0) rest) p.rx.multis (p.calls + 1) (coming_from rest s) (λ c is. refl) (rest_coming p ok rest same coming s)) (goes_in (goes a.source (Into r 0) rest)))
+        (coming_set (goes a.source (Into r 0) rest) p.rx.multis (p.calls + 1) rest.coming a.source (Some (Into r 0)) (λ s. coming_moved rest (goes a.source (Into r 0) rest) p.rx.multis (p.calls + 1) (coming_from rest s) (λ c is. refl) (moved s)) (goes_in (goes a.source (Into r 0) rest)))
     given_lent (Some bytes) =
         booked_lent (at_match a.head.ack) a.source a.head rest p.rx.multis p.tx _ (p.calls + 1) p.multis
         (lent_received p.rx.rx p.rx.multis p.tx.tx p.cq (p.calls + 1) p.multis later rest (λ c is. same c) moved r 0 a.source a.head bytes (goes_in p.rx.rx))

@@ -2,7 +2,7 @@
 //!
 //! `law_heard` says it of any program whose threads' records are a run of the machine (`IsRun` of `fab_doings`): read `specs/Heard.antt`.
 //! `proofs/Fixed` has what calls and arrivals leave as it was, `Walking` what a record tells of receives and of what was sent, and `Hearing` the law, by
-//! `law_in_turn` of `fab_in_turn`.
+//! `law_in_turn` of `fab_laws`.
 ghost use Rattle.fab_doings.specs.Heard.{HeardInTurn, HeardIsSaid};
 
 /// Of two threads that send and receive, and read entries: the messages that the one received under its contexts, of the other, by one want, are in

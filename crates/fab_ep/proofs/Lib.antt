@@ -13,7 +13,7 @@ mod Looks
 pub mod Accepting
 mod Reading
 mod Answering
-pub mod Kept
+mod Kept
 mod Registered
 mod Counts
 mod Circle

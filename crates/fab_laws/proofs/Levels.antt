@@ -1,6 +1,4 @@
--- What a peer's counts of items keep, and what its lists hold when it starts.
---     passes_within, whole_within, sent_within      nothing is whole before it is sent, or sent before it is accepted
---     passes_shown, raised_on      what is shown to others only grows
+-- What the lists of a peer without lines hold when it starts.
 use Rattle.std.proofs.Common.{◌<◌, ℕ, [], get_or, subst, arith}
 use Rattle.std.proofs.lemmas.Option.{slice_get-get_or}
 use Rattle.fab_base.specs.declared.script.Bound.{Bound}

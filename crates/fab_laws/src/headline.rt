@@ -3,7 +3,7 @@
 //! `run` of `fab_top` ensures that what was written is the report of a lawful schedule, the one that
 //! its trace lines tell. What that says of messages and completions stands in laws of `fab_model` and
 //! `fab_laws`. Here they are joined: from a lawful schedule to all that the headline says. Read
-//! `specs/Headline.antt`, which has one field for each thing that it says. `proofs/rows` has a script
+//! `specs/Headline.antt`, which has one field for each thing that it says. `proofs/headline_rows` has a script
 //! that meets the premises.
 ghost use Rattle.std.specs.Prelude.{List};
 ghost use Rattle.fab_base.specs.declared.peers.Step.{Step};

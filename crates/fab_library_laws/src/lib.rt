@@ -4,7 +4,7 @@
 //! `law_doings` of `fab_doings` says so of any endpoints, where the moves of all ports merge, and the frames taken of each peer are
 //! the first of those that it posted. Here these premises are what the contracts of the library say: `endpoints` of
 //! `fab_domain` opens the endpoints, each call says what it did, and `gather` of `fab_ring` joins the ports once the threads
-//! are done. Read `specs/Library.antt`. Each thread's function says how the record goes on that its caller keeps (`fab_records`);
+//! are done. Read `specs/Library.antt`. Each thread's function says how the record goes on that its caller keeps (`fab_doings`);
 //! `close_all` has the law of just these records in its contract (`specs/Closing.antt`), and `program` is a whole program that ends by it.
 #![tactic(auto)]
 

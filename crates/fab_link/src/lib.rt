@@ -1,4 +1,10 @@
-//! The port between peers: frames in order, for each ordered pair of peers.
+//! Items in a lane, and the port between peers: frames in order, for each ordered pair of peers.
+//!
+//! An item is cut into frames of 4,096 bytes, the last one shorter, and an item of no bytes has one frame of no bytes. A
+//! [`Cutter`] gives the heads of an item's frames, a [`Joiner`] says which part of its item a frame is; neither keeps a byte or
+//! takes memory. In specs/, `Frames` says which frame may come next in a lane, `Cut` and `Joined` how items become frames and
+//! frames items, `Merged` how the posts and takes of all peers are put into one order. The laws over them are the contracts of
+//! the functions of `laws`.
 //!
 //! A [`Port`] posts frames to every peer and lends those that came from each. Whatever carries
 //! them, what a port takes of a peer is what that peer posted to it, in order. Contracts see, for

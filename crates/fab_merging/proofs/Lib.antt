@@ -6,4 +6,4 @@ pub mod Threads
 pub mod Reaching
 pub mod Composing
 pub mod Opening
-pub mod rows
+mod rows

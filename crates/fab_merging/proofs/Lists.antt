@@ -3,6 +3,7 @@ use Rattle.std.proofs.Common.{◌≡◌, ◌≤◌, ℕ, zero, suc, List, [], �
 use Rattle.std.proofs.lemmas.Grind.{flat_map-append}
 use Rattle.std.proofs.lemmas.List.{map-append}
 use mathlib.Core.List.{IsPrefix}
+use Rattle.fab_base.specs.declared.items.Item.{Item}
 pub use Rattle.fab_base.proofs.Lists.{get_some as member}
 use Rattle.fab_face.specs.Acts.{Act, Did, Took, Posted, Drew, Had, taken_by, posted_by, ways_by, steps_by, taken_of, posted_to, ways_of, steps_of}
 use Rattle.fab_merging.specs.Pasts.{PastOf, Trail}
@@ -92,3 +93,8 @@ module _ {L K : Type 0} where
   ins_is [] p s x e = absurd (cc)
   ins_is (y ∷ pasts) zero s x e = let h : y ≡ x = cc in ap (λ (z : PastOf L K). z.ins s) h
   ins_is (y ∷ pasts) (suc p) s x e = ins_is pasts p s x e
+
+-- ---- items
+
+pub no_items : (items : List Item) (i : ℕ) (item : Item) → items ≡ [] → slice_get items i ≡ Some item → ⊥
+no_items items i item none e = let is : slice_get {X = Item} [] i ≡ Some item = subst (λ xs. slice_get xs i ≡ Some item) none e in cc (is)

@@ -1,3 +1,3 @@
 -- Peers in threads, as each knows itself, with the order of turns that follows.
-pub mod Hello
+mod Hello
 mod Halves

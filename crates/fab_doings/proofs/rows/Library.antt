@@ -30,8 +30,8 @@ use Rattle.fab_laws.proofs.Scripts.{script_opening}
 use Rattle.fab_face.specs.Acts.{posted_to, taken_of}
 use Rattle.fab_merging.specs.Law.{IsFresh, ins_at, outs_at}
 use Rattle.fab_merging.specs.Pasts.{begun}
+use Rattle.fab_merging.proofs.Lists.{no_items}
 use Rattle.fab_merging.proofs.Opening.{start_fresh}
-use Rattle.fab_merging.proofs.rows.Hello.{no_items}
 use Rattle.fab_doings.specs.Doings.{Calls, Did, Doing, DoesBy, Had, Living, Posted, Took, acts_of}
 use Rattle.fab_doings.specs.Law.{AreTold, IsRun, Kept, KeptBy, Past}
 use Rattle.fab_doings.proofs.Obeying.{program_obeys}
