@@ -22,7 +22,8 @@ use Rattle.fab_rx.specs.Claims.{claiming_first, discarding, dropping, seen, taki
 use Rattle.fab_rx.specs.Stored.{turned}
 use Rattle.fab_tx.specs.Transit.{Transit}
 use Rattle.fab_face.specs.Owed.{is_due}
-use Rattle.fab_core.specs.Parts.{IsFitting, IsTogether, Parts, bit, count_of, due_for, is_owed, is_owed_aside, owed}
+use Rattle.fab_model.specs.Target.{bit}
+use Rattle.fab_core.specs.Parts.{IsFitting, IsTogether, Parts, count_of, due_for, is_owed, is_owed_aside, owed}
 use Rattle.fab_settling.specs.Ends.{booked}
 use Rattle.fab_settling.specs.Looks.{is_due_now}
 use Rattle.fab_core.proofs.Owing.{count_last, count_without, either_is}

@@ -25,7 +25,8 @@ use Rattle.fab_rx.proofs.Plain.{shared_besides}
 use Rattle.fab_rx.specs.Arriving.{Arriving, IsArriving, IsPartly, PartlyIn, arriving, bare, begun_of, bytes_come, finishing, growing, headed, kept, lengthened, posting}
 use Rattle.fab_rma.specs.Serving.{is_request}
 use Rattle.fab_face.specs.Owed.{is_due}
-use Rattle.fab_core.specs.Parts.{bit, count_of, due_for, is_owed, is_owed_aside, owed}
+use Rattle.fab_model.specs.Target.{bit}
+use Rattle.fab_core.specs.Parts.{count_of, due_for, is_owed, is_owed_aside, owed}
 use Rattle.fab_settling.specs.Orders.{asks}
 
 -- ---- counting

@@ -30,7 +30,8 @@ use Rattle.fab_tx.proofs.Answering.{answered_none, answered_some}
 use Rattle.fab_av.specs.Addresses.{Addresses}
 use Rattle.fab_rma.specs.Serving.{is_request}
 use Rattle.fab_face.specs.Owed.{is_due}
-use Rattle.fab_core.specs.Parts.{IsFitting, IsTogether, Parts, bit, is_owed, owed}
+use Rattle.fab_model.specs.Target.{bit}
+use Rattle.fab_core.specs.Parts.{IsFitting, IsTogether, Parts, is_owed, owed}
 use Rattle.fab_settling.specs.Ends.{booked, cq_after, entry_at_end, written_if}
 use Rattle.fab_settling.specs.Orders.{asks}
 use Rattle.fab_core.specs.Doing.{growing_by, heading, with_transit}

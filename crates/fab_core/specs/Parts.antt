@@ -13,6 +13,7 @@ use Rattle.fab_base.specs.declared.operations.Coming.TheVariants.{Into, Keep, Th
 use Rattle.fab_base.specs.declared.operations.Tally.{Tally}
 use Rattle.fab_av.specs.Addresses.{Addresses}
 use Rattle.fab_base.specs.Kinds.{at_match, is_message}
+use Rattle.fab_model.specs.Target.{bit}
 use Rattle.fab_model.specs.State.{Completions, State, coming_from, lookup}
 use Rattle.fab_rx.specs.Arriving.{Arriving, begun_of}
 use Rattle.fab_tx.specs.Transit.{Transit}
@@ -58,10 +59,6 @@ abbrev pub held_of : Parts → Held
 held_of p = record { state = state_of p; places = p.tx.places; begun = p.rx.begun; multis = p.multis.list }
 
 -- ---- replies that are to be booked
-
-abbrev pub bit : Bool → ℕ
-bit true = 1
-bit false = 0
 
 -- 1 where a reply is booked when the item that is coming is whole
 abbrev pub due_for : Option Coming → Option Item → ℕ

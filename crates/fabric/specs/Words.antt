@@ -33,3 +33,10 @@ pub use Rattle.fab_app.specs.declared.until.WaitFault.TheVariants.{ClockFailed, 
 pub use Rattle.fab_app.specs.declared.trying_until.NotAccepted.{NotAccepted}
 pub use Rattle.fab_app.specs.declared.trying_until.TryFault.{TryFault}
 pub use Rattle.fab_app.specs.declared.trying_until.TryFault.TheVariants.{Refused as TryRefused, ClockFailed as TryClockFailed}
+pub use Rattle.fab_collectives.specs.declared.collective.Collective.{Collective}
+pub use Rattle.fab_collectives.specs.declared.collective.Work.{Work}
+pub use Rattle.fab_collectives.specs.declared.group.Group.{Group}
+pub use Rattle.fab_collectives.specs.declared.offers.Message.{Message}
+pub use Rattle.fab_fold.specs.declared.coll.Coll.{Coll}
+pub use Rattle.fab_fold.specs.declared.coll.Coll.TheVariants.{Barrier, Broadcast, Allgather, Allreduce}
+pub use Rattle.fab_fold.specs.declared.coll.TheConstants.{MOST_SHARE}

@@ -1,7 +1,7 @@
 -- A collective, turn by turn.
 --     IsHeard work len k read received awaited     the message of round k is awaited, or one of these completions brought it
 --     Partly fixed begun old now                   the rank takes part in this collective, and so it is of each round in which it hears
-use Rattle.std.proofs.Common.{◌≡◌, ℕ, zero, suc, ◌<◌, Bool, true, false, ◌&&◌, ◌==◌, if◌then◌else◌, List, [], ◌∷◌, ◌++◌, length, get_or, Option, None, Some, Ok, inl, inr, ◌⊎◌, refl, sym, ap, ◌∙◌, subst, arith, All}
+use Rattle.std.proofs.Common.{◌≡◌, ◌≢◌, ℕ, zero, suc, ◌<◌, Bool, true, false, ◌&&◌, ◌==◌, if◌then◌else◌, List, [], ◌∷◌, ◌++◌, length, get_or, Option, None, Some, Ok, inl, inr, ◌⊎◌, refl, sym, ap, ◌∙◌, subst, arith, All}
 use Rattle.std.specs.Prelude.{Any, IfOk, IfSome, IsSome, OnOk, Result, slice_index_or, slice_set}
 use Rattle.std.proofs.lemmas.Bool.{eqb-true, eqb-false}
 use Rattle.std.proofs.lemmas.List.{get_or-set_other, length-replicate, length-set}
@@ -16,13 +16,7 @@ use Rattle.fabric.specs.Offering.{awaited_after, brought, bytes_of, is_of, recei
 use Rattle.fabric.specs.Rounds.{round_from}
 use Rattle.fabric.specs.Routes.{hears_in, others_of, rounds_in, source_in, topology_of}
 use Rattle.fabric.specs.Shares.{outcome_of}
-use Rattle.fabric.specs.Words.{Polled}
-use Rattle.fab_collectives.specs.declared.collective.Collective.{Collective}
-use Rattle.fab_collectives.specs.declared.collective.Work.{Work}
-use Rattle.fab_collectives.specs.declared.group.Group.{Group}
-use Rattle.fab_collectives.specs.declared.offers.Message.{Message}
-use Rattle.fab_fold.specs.declared.coll.Coll.{Coll}
-use Rattle.fab_collectives.proofs.Offered.{none as none_is}
+use Rattle.fabric.specs.Words.{Coll, Collective, Group, Message, Polled, Work}
 use Rattle.mini_mpi.specs.Collecting.{Brings, Collects, Completes, DrivesAs, HearsOf, Member, TakesPart, kept_beside}
 use Rattle.mini_mpi.specs.Going.{Rank}
 use Rattle.mini_mpi.specs.Requests.{kept_of}
@@ -34,6 +28,11 @@ any_more P [] ys (at, one, below, is, it) = absurd (omega (arith, below))
 any_more P (x ∷ xs) ys (zero, one, below, is, it) = (zero, one, omega arith, is, it)
 any_more P (x ∷ xs) ys (suc at, one, below, is, it) = let more = any_more P xs ys (at, one, omega (arith, below), is, it) in
     let within = more.2 in (suc more.0, more.1, omega (arith, within), more.3, more.4)
+
+none_waits : (awaited : List Bool) (k : ℕ) → All (λ a. a ≡ false) awaited → get_or awaited k false ≢ true
+none_waits [] k all waits = cc waits
+none_waits (a ∷ awaited) zero all waits = let none = all zero false (omega arith) in cc (none, waits)
+none_waits (a ∷ awaited) (suc k) all waits = none_waits awaited k (λ j d below. all (suc j) d (omega (arith, below))) waits
 
 -- ---- one round
 
@@ -92,7 +91,7 @@ module _ (work : Work) (len k : ℕ) where
 
   pub heard_all : (read : List Polled) (received : List (List ℕ)) (awaited : List Bool) → All (λ a. a ≡ false) awaited → IsHeard read received awaited
       → Any (Brings work len k (slice_index_or received k [])) read
-  heard_all read received awaited all (inl waits) = absurd (let none = none_is awaited k all in cc (none, waits))
+  heard_all read received awaited all (inl waits) = absurd (none_waits awaited k all waits)
   heard_all read received awaited all (inr any) = any
 
 -- ---- turns
