@@ -14,7 +14,7 @@ pub mod PhaseLists
 pub mod Ends
 pub mod Gathering
 pub mod Following
-pub mod Starting
+pub mod PhaseStarting
 pub mod PhaseTurning
 pub mod Changing
 pub mod Running

@@ -17,7 +17,7 @@ use Rattle.fab_finish.specs.declared.finish.Ending.{Ending}
 use Rattle.fab_finish.specs.declared.finish.Ending.TheVariants.{Drained, Stuck}
 use Rattle.fab_finish.specs.Joined.{Member, actors, schedules, opened, Clears}
 use Rattle.fab_rounds.specs.Phases.{first_of}
-use Rattle.fab_rounds.proofs.Starting.{opening_is}
+use Rattle.fab_rounds.proofs.PhaseStarting.{opening_is}
 
 -- what led to where the threads are joined leads to the peers that go on from there
 pub reached_here : (conf : Conf) (lists : List (List Line)) (pasts : List Past) (ps : List Member) → Reached (rule fabric) (map actor_in (map (first_of conf lists) (upto conf.peers))) (law.schedules pasts) (law.actors pasts)

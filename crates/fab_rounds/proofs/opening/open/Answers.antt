@@ -6,7 +6,7 @@ use Rattle.fab_finish.specs.Joined.{start}
 use Rattle.fab_finish.proofs.Starting.{list_at, drop_more}
 use Rattle.fab_rounds.specs.Phases.{IsNew, past_at, at_start, first_of}
 use Rattle.fab_rounds.proofs.PhaseLists.{first_left, all_at, taken_more, map_more}
-use Rattle.fab_rounds.proofs.Starting.{pasts_more}
+use Rattle.fab_rounds.proofs.PhaseStarting.{pasts_more}
 use Rattle.fab_rounds.proofs.opening.open.Goals as goal
 
 pub open_one-requires-clause-start : goal.open_one-requires-clause-start

@@ -8,7 +8,7 @@ use Rattle.fab_ring.specs.declared.port.RingPort.{RingPort}
 use Rattle.fab_merging.specs.Pasts.{past_of, begun}
 use Rattle.fab_rounds.specs.Phases.{past_at, at_start}
 use Rattle.fab_rounds.proofs.PhaseLists.{ok_then}
-use Rattle.fab_rounds.proofs.Starting.{past_new}
+use Rattle.fab_rounds.proofs.PhaseStarting.{past_new}
 use Rattle.fab_rounds.proofs.opening.open_one.Goals as goal
 
 pub returns-clause-past : goal.returns-clause-past

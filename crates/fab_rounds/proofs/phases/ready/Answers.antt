@@ -4,7 +4,7 @@ use Rattle.fab_ring.specs.declared.port.RingPort.{RingPort}
 use Rattle.fab_ring.specs.Made.{rings_table}
 use Rattle.fab_ring.specs.Gather.{AreAll}
 use Rattle.fab_rounds.proofs.PhaseLists.{ok_both}
-use Rattle.fab_rounds.proofs.Starting.{made_new}
+use Rattle.fab_rounds.proofs.PhaseStarting.{made_new}
 use Rattle.fab_rounds.proofs.PhaseTurning.{made_all}
 use Rattle.fab_rounds.proofs.phases.ready.Goals as goal
 

@@ -15,7 +15,7 @@ use Rattle.fab_rounds.specs.Opened.{Begins, AreGathered}
 use Rattle.fab_rounds.proofs.Lists.{none_at}
 use Rattle.fab_finish.specs.Joined.{Member, actors, schedules, opened, AreCleared}
 use Rattle.fab_rounds.specs.Phases.{past_at, first_of}
-use Rattle.fab_rounds.proofs.Starting.{begins}
+use Rattle.fab_rounds.proofs.PhaseStarting.{begins}
 use Rattle.fab_rounds.proofs.PhaseTurning.{all_stay}
 use Rattle.fab_rounds.proofs.Running.{reached_here, drained_clears}
 use Rattle.fab_rounds.proofs.phases.run_phases.Goals as goal
