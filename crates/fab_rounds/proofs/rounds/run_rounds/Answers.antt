@@ -1,4 +1,4 @@
-use Rattle.std.proofs.Common.{arith, ◌+◌, sym, ◌∙◌}
+use Rattle.std.proofs.Common.{arith, ℕ, ◌<◌, ◌+◌, sym, ◌∙◌}
 use Rattle.fab_ep.specs.Value.{seen}
 use Rattle.fab_peer.specs.Turns.{told}
 use Rattle.fab_rounds.specs.Rounds.{between}
@@ -28,8 +28,8 @@ returns-then-any_failed-clause-lacked g c = (c.rounds.made + c.more_rounds-made.
 
 pub returns-then-any_failed-clause-left : goal.returns-then-any_failed-clause-left
 returns-then-any_failed-clause-left g c =
-    let n = c.rounds.made + c.more_rounds-made.result in
-    let some = (let w = c.more_rounds-made.ensures.within in omega (arith, w.0)) in
+    let n : ℕ = c.rounds.made + c.more_rounds-made.result in
+    let some : 0 < c.rounds.made + c.more_rounds-made.result = (let w = c.more_rounds-made.ensures.within in omega (arith, w.0)) in
     let made = (let i = c.rounds.invariant in made_on (λ p. between (told (seen g.P.Port) p.peer) p.moved p.failed) c.rounds.made c.more_rounds-made.result c.args.peers.now c.rounds.peers c.more_rounds-made.new.peers i.rounds i.failing i.moving i.going c.more_rounds-made.ensures.ran.made) in (
       n,
       some,
